@@ -1,0 +1,5 @@
+pub mod Odd
+pub mod ParityLaws
+pub mod UnmetLaws
+pub mod Within
+pub mod Drafting

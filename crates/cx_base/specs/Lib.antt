@@ -1,0 +1,7 @@
+pub mod Literals
+pub mod Codes
+pub mod Problem
+pub mod Parity
+pub mod Borrowed
+pub mod Heads
+pub mod Drafts

@@ -1,0 +1,16 @@
+//! Variables, literals, small lists, and formulas of clauses and parities with their meaning.
+#![tactic(auto)]
+
+mod builder;
+mod constraint;
+mod formula;
+mod lists;
+mod literal;
+mod refs;
+
+pub use builder::FormulaBuilder;
+pub use constraint::{Constraint, ConstraintRef};
+pub use formula::Formula;
+pub use lists::{IdList, IntList, LitList, ParityList, RefList, Values};
+pub use literal::{Lit, MAX_VARIABLE, Var};
+pub use refs::{ClauseRef, Row};
