@@ -17,7 +17,7 @@ use Rattle.cx_semantics.specs.declared.steps.LogStep.TheVariants as log
 use Rattle.cx_semantics.specs.Chain.{ChainEnd, right, not_unit, hints_end, same_literals, is_inside, has_literal}
 use Rattle.cx_semantics.specs.Integers.{literals, sizes}
 use Rattle.cx_semantics.specs.Tables.{Table, Tables, get, named, numbered_from, first_tables, no_tables}
-use Rattle.cx_semantics.specs.Judging.{IsRight, Runs, Calculus}
+use Rattle.cx_semantics.specs.Judging.{IsRight, Runs, Calculus, AcceptedAt}
 use Rattle.cx_semantics.specs.ProofRules.{is_not_unit, is_hints_end, IsSum, proof_calculus, after_step, adds_empty_clause, is_empty, Accepted}
 use Rattle.cx_semantics.specs.LogRules.{is_original, log_calculus, after_log_step, derives_empty_clause, LogRight}
 use Rattle.cx_semantics.proofs.ChainLaws.{and_parts, and_both, chained_is_met, are_one}
@@ -266,15 +266,19 @@ no_empty_log v tables (log.DeleteParity n lits) e m = true≢false (sym e)
 no_empty_log v tables (log.Final n lits) e m = true≢false (sym e)
 no_empty_log v tables (log.FinalParity n lits) e m = true≢false (sym e)
 
-pub accepted_is_unmet : (formula : Problem) (text : List ℕ) (k : ℕ) → Accepted formula text k → Unmet formula
-accepted_is_unmet formula text k a v meets =
-    let j = a.judged in
+pub accepted_steps_are_unmet : (formula : Problem) (steps : List ProofStep) (k : ℕ) → AcceptedAt (proof_calculus formula) steps k → Unmet formula
+accepted_steps_are_unmet formula steps k j v meets =
     let m = runs_keep (proof_calculus formula) v (right_proof_step formula v) (first_tables formula) j.before j.tables j.runs (first_tables_met formula v meets) in
     no_empty_proof v j.tables j.step j.ends (right_proof_step formula v j.tables j.step m j.right)
 
-pub right_log_is_unmet : (formula : Problem) (text : List ℕ) (k : ℕ) → LogRight formula text k → Unmet formula
-right_log_is_unmet formula text k a v meets =
-    let j = a.judged in
+pub accepted_is_unmet : (formula : Problem) (text : List ℕ) (k : ℕ) → Accepted formula text k → Unmet formula
+accepted_is_unmet formula text k a = accepted_steps_are_unmet formula a.steps k a.judged
+
+pub right_steps_are_unmet : (formula : Problem) (steps : List LogStep) (k : ℕ) → AcceptedAt (log_calculus formula) steps k → Unmet formula
+right_steps_are_unmet formula steps k j v meets =
     let start : TablesMet v no_tables = record { clauses = met_empty (clause_met v); parities = met_empty (parity_met v) } in
     let m = runs_keep (log_calculus formula) v (right_log_step formula v meets) no_tables j.before j.tables j.runs start in
     no_empty_log v j.tables j.step j.ends (right_log_step formula v meets j.tables j.step m j.right)
+
+pub right_log_is_unmet : (formula : Problem) (text : List ℕ) (k : ℕ) → LogRight formula text k → Unmet formula
+right_log_is_unmet formula text k a = right_steps_are_unmet formula a.steps k a.judged

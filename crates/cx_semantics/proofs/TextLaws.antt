@@ -8,7 +8,8 @@ use Rattle.cx_semantics.specs.ExactlyOne.{ExactlyOne}
 use Rattle.cx_semantics.specs.Tokens.{Token, formula_tokens}
 use Rattle.cx_semantics.specs.Words.{placed_formula_words}
 use Rattle.cx_semantics.specs.Grammar.{Ending, finished, bad_token, too_big, unterminated, Reading}
-use Rattle.cx_semantics.specs.FormulaText.{constraints, header, HasBody, ReadsAs, offence_of, greatest_variable}
+use Rattle.cx_semantics.specs.FormulaText.{constraints, header, HasBody, ReadsAs, offence_of}
+use Rattle.cx_base.specs.Problem.{greatest_variable}
 use Rattle.cx_semantics.specs.ProofText.{proof_steps, ProofReads}
 use Rattle.cx_semantics.specs.LogText.{log_steps, LogReads, log_events, EventsRead}
 use Rattle.cx_semantics.specs.declared.steps.ProofStep.{ProofStep}

@@ -1,8 +1,9 @@
 -- The grammar of formulas.
-use Rattle.std.specs.Prelude.{◌≡◌, ℕ, List, [], ◌∷◌, map, max, fold, flat_map, length, nat_lt, Option, Some, None, Result, Ok, Err, if◌then◌else◌, ◌⊎◌, codes}
+use Rattle.std.specs.Prelude.{◌≡◌, ℕ, List, [], ◌∷◌, length, nat_lt, Option, Some, None, Result, Ok, Err, if◌then◌else◌, ◌⊎◌, codes}
 use Rattle.std.specs.Str.{bytes_eq}
 use Rattle.cx_semantics.specs.Integers.{integers_of}
-use Rattle.cx_base.specs.Problem.{Problem, literals_of}
+use Rattle.cx_base.specs.Problem.{Problem, greatest_variable}
+use Rattle.cx_base.specs.declared.literal.TheConstants.{MAX_VARIABLE}
 use Rattle.cx_base.specs.declared.constraint.Constraint.{Constraint}
 use Rattle.cx_base.specs.declared.constraint.Constraint.TheVariants.{Clause, Parity}
 use Rattle.cx_semantics.specs.declared.offence.Offence.{Offence}
@@ -17,11 +18,7 @@ constraint_fields (Clause lits) = integers (integers_of lits) ∷ []
 constraint_fields (Parity lits) = mark 120 ∷ integers (integers_of lits) ∷ []
 
 abbrev pub constraints : Grammar Constraint
-constraints = record { fields = constraint_fields; limit = 16777215 }
-
--- the greatest of a number and the variables written
-abbrev pub greatest_variable : ℕ → List Constraint → ℕ
-greatest_variable v items = fold max v (map (λ l. l.variable) (flat_map literals_of items))
+constraints = record { fields = constraint_fields; limit = MAX_VARIABLE }
 
 -- The header is `p`, `cnf` and two runs of digits: the first number and the tokens behind, or the first offence.
 abbrev pub behind_count : ℕ → ℕ → List Token → Result (ℕ × List Token) Offence
@@ -30,7 +27,7 @@ behind_count len v (t ∷ body) = elim (natural t.text) [ Some c ↦ Ok (v, body
 
 abbrev pub behind_cnf : ℕ → List Token → Result (ℕ × List Token) Offence
 behind_cnf len [] = Err (BadHeader len)
-behind_cnf len (t ∷ ts) = elim (natural t.text) [ Some v ↦ if nat_lt 16777215 v then Err (VarLimit t.place) else behind_count len v ts | None ↦ Err (BadHeader t.place) ]
+behind_cnf len (t ∷ ts) = elim (natural t.text) [ Some v ↦ if nat_lt MAX_VARIABLE v then Err (VarLimit t.place) else behind_count len v ts | None ↦ Err (BadHeader t.place) ]
 
 abbrev pub behind_p : ℕ → List Token → Result (ℕ × List Token) Offence
 behind_p len [] = Err (BadHeader len)
