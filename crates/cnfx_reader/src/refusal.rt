@@ -1,0 +1,37 @@
+//! Why a text is no formula.
+ghost use Rattle.std.specs.Prelude.{◌≡◌};
+ghost use Rattle.cnfx_reader.specs.declared.refusal.ReadRefusal.TheVariants.{Memory};
+
+use std::alloc::AllocError;
+use thiserror::Error;
+
+/// Why a text was not read, with the byte place of the offence.
+#[derive(Clone, Copy, Debug, PartialEq, Eq, Drop, Error)]
+pub enum ReadRefusal {
+    /// The first token is not `p`.
+    #[error("no header at byte {0}")]
+    NoHeader(u64),
+    /// `cnf` or one of the two numbers is missing or malformed.
+    #[error("bad header at byte {0}")]
+    BadHeader(u64),
+    /// A token that does not fit.
+    #[error("bad token at byte {0}")]
+    BadToken(u64),
+    /// The text ends inside a constraint; the place is the text's length.
+    #[error("unterminated at byte {0}")]
+    Unterminated(u64),
+    /// A variable above the limit.
+    #[error("variable limit at byte {0}")]
+    VarLimit(u64),
+    /// Want of memory, which says nothing of the text.
+    #[error("out of memory")]
+    Memory,
+}
+
+impl From<AllocError> for ReadRefusal {
+    ghost from_gives = { λ _ e. e ≡ Memory };
+
+    fn from(_: AllocError) -> Self {
+        ReadRefusal::Memory
+    }
+}
