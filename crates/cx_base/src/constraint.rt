@@ -7,7 +7,7 @@ use crate::lists::LitList;
 use crate::literal::Lit;
 
 /// A clause or a parity, by its literals in order and with repeats.
-#[derive(Drop)]
+#[derive(Debug, Drop)]
 pub enum Constraint {
     /// Met where some literal is true.
     Clause(LitList),

@@ -6,7 +6,7 @@ use crate::refs::ClauseRef;
 use std::marker::Model;
 
 /// A list of literals.
-#[derive(Drop)]
+#[derive(Debug, Drop)]
 pub struct LitList {
     lits: Vec<Lit>,
 }
@@ -44,7 +44,7 @@ impl LitList {
 }
 
 /// A list of ids.
-#[derive(Drop)]
+#[derive(Debug, Drop)]
 pub struct IdList {
     ids: Vec<u64>,
 }
@@ -81,7 +81,7 @@ impl IdList {
 }
 
 /// A list of references to clauses.
-#[derive(Drop)]
+#[derive(Debug, Drop)]
 pub struct RefList {
     references: Vec<ClauseRef>,
 }
@@ -118,7 +118,7 @@ impl RefList {
 }
 
 /// A list of integers, as a text has them.
-#[derive(Drop)]
+#[derive(Debug, Drop)]
 pub struct IntList {
     integers: Vec<i64>,
 }
@@ -155,7 +155,7 @@ impl IntList {
 }
 
 /// A list of parities, each by its literals.
-#[derive(Drop)]
+#[derive(Debug, Drop)]
 pub struct ParityList {
     parities: Vec<LitList>,
 }
@@ -193,7 +193,7 @@ impl ParityList {
 }
 
 /// A value for each variable, from variable 1 on.
-#[derive(Drop)]
+#[derive(Debug, Drop)]
 pub struct Values {
     values: Vec<bool>,
 }

@@ -1,0 +1,13 @@
+use Rattle.std.proofs.Common.{◌∙◌, ap}
+use Rattle.cx_semantics.specs.Tables.{Table, Tables, put_parity}
+use Rattle.cx_semantics.proofs.TableEntries.{from_entries-insert}
+use Rattle.proof_rules.proofs.live.Live.add_parity.Goals as goal
+
+with_clauses : Table → Tables → Tables
+with_clauses t u = record { clauses = t; parities = u.parities }
+
+pub returns-clause-ok : goal.returns-clause-ok
+unfolding with_clauses
+returns-clause-ok c =
+    let e = from_entries-insert c.self.inside.parities.entries c.insert.new.self.entries c.args.id c.args.lits c.in_ok-insert.ensures.updates.0 in
+    (λ i. record { clauses = Rattle.cx_semantics.specs.Tables.table_of c.self.inside.clauses.entries; parities = e i }) ∙ ap (λ t. put_parity t c.args.id c.args.lits) c.self.view_is

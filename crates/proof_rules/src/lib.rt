@@ -1,0 +1,10 @@
+//! The rules of proof steps, each judged exactly, over the tables of live clauses and parities.
+#![tactic(auto)]
+
+mod judge;
+mod live;
+mod refusal;
+
+pub use judge::{judge_chain, judge_clause_of_parity, judge_parity_of_clauses, judge_sum};
+pub use live::Live;
+pub use refusal::JudgeRefusal;
