@@ -1,0 +1,67 @@
+-- What a source of steps answers.
+use Rattle.std.specs.Prelude.{◌≡◌, ◌+◌, ◌-◌, ◌^◌, ◌<◌, ◌≤◌, ℕ, Bool, true, false, List, [], ◌∷◌, Option, Some, None, Result, Ok, Err, min, ⊤}
+use Rattle.cx_semantics.specs.Grammar.{Ending, finished, bad_token, too_big, unterminated}
+use Rattle.proof_text.specs.declared.source.TextRefusal.{TextRefusal}
+use Rattle.proof_text.specs.declared.source.TextRefusal.TheVariants.{BadToken, Unterminated, TooBig, TooLong, Memory, Failed}
+
+-- The relation `leaves` says which steps and which ending a state of the source has left.
+module _ {X S : Type 0} (leaves : X → List S → Ending → Type 0) where
+  -- nothing is left but this ending, before the call and after it
+  abbrev pub EndsAs : Ending → X → X → Type 0
+  EndsAs ending old new = leaves old [] ending × leaves new [] ending
+
+  -- no step, since the text ends so; a text that is too long, want of memory and a fault say nothing of the text
+  abbrev pub GivesNone : TextRefusal → X → X → Type 0
+  GivesNone (BadToken place) old new = EndsAs (bad_token place) old new
+  GivesNone (Unterminated place) old new = EndsAs (unterminated place) old new
+  GivesNone (TooBig place) old new = EndsAs (too_big place) old new
+  GivesNone TooLong old new = ⊤
+  GivesNone Memory old new = ⊤
+  GivesNone Failed old new = ⊤
+
+  -- what was left is the step and what is left now, or nothing but the ending
+  abbrev pub Gives : X → Result (Option S) TextRefusal → X → Type 0
+  Gives old (Ok (Some step)) new = (steps : List S) (ending : Ending) → leaves new steps ending → leaves old (step ∷ steps) ending
+  Gives old (Ok None) new = EndsAs finished old new
+  Gives old (Err refusal) new = GivesNone refusal old new
+
+-- one more fault; a count of 64 bits that is at its last value stays there
+abbrev pub Rose : ℕ → ℕ → Type 0
+Rose before now = min (before + 1) (2 ^ 64 - 1) ≤ now
+
+-- the faults rose where the answer is a fault, and else stand
+abbrev pub FaultsAs : {T : Type 0} → Result T TextRefusal → ℕ → ℕ → Type 0
+FaultsAs (Ok answer) before now = now ≡ before
+FaultsAs (Err Failed) before now = Rose before now
+FaultsAs (Err (BadToken place)) before now = now ≡ before
+FaultsAs (Err (Unterminated place)) before now = now ≡ before
+FaultsAs (Err (TooBig place)) before now = now ≡ before
+FaultsAs (Err TooLong) before now = now ≡ before
+FaultsAs (Err Memory) before now = now ≡ before
+
+-- after want of memory and after a fault the source is not asked again
+abbrev pub SpentAs : {T : Type 0} → Result T TextRefusal → Bool → Type 0
+SpentAs (Ok answer) spent = spent ≡ false
+SpentAs (Err Failed) spent = spent ≡ true
+SpentAs (Err Memory) spent = spent ≡ true
+SpentAs (Err (BadToken place)) spent = spent ≡ false
+SpentAs (Err (Unterminated place)) spent = spent ≡ false
+SpentAs (Err (TooBig place)) spent = spent ≡ false
+SpentAs (Err TooLong) spent = spent ≡ false
+
+-- a text is too long only where the source tells so, and there its end never comes
+abbrev pub IsTooLongOnly : {S : Type 0} → Type 0 → Result (Option S) TextRefusal → Type 0
+IsTooLongOnly Passes (Ok (Some step)) = ⊤
+IsTooLongOnly Passes (Ok None) = ¬ Passes
+IsTooLongOnly Passes (Err TooLong) = Passes
+IsTooLongOnly Passes (Err (BadToken place)) = ⊤
+IsTooLongOnly Passes (Err (Unterminated place)) = ⊤
+IsTooLongOnly Passes (Err (TooBig place)) = ⊤
+IsTooLongOnly Passes (Err Memory) = ⊤
+IsTooLongOnly Passes (Err Failed) = ⊤
+
+-- a step raises the place, and nothing lowers it
+abbrev pub Rises : {S : Type 0} → Result (Option S) TextRefusal → ℕ → ℕ → Type 0
+Rises (Ok (Some step)) before now = before < now
+Rises (Ok None) before now = before ≤ now
+Rises (Err refusal) before now = before ≤ now

@@ -1,0 +1,41 @@
+-- What is left of a text of steps.
+use Rattle.std.specs.Prelude.{◌≡◌, ℕ, Bool, true, false, List, [], Option, Some, None}
+use Rattle.cx_semantics.specs.Tokens.{Token}
+use Rattle.cx_semantics.specs.Words.{placed_words}
+use Rattle.cx_semantics.specs.Grammar.{Grammar, Ending, bad_token, too_big, unterminated, Reading}
+use Rattle.proof_text.specs.declared.source.TextRefusal.{TextRefusal}
+use Rattle.proof_text.specs.declared.source.TextRefusal.TheVariants.{BadToken, Unterminated, TooBig, TooLong, Memory, Failed}
+
+-- the tokens that are left, the text's length, the place that was reached, and the refusal that was answered, if any
+pub record TextState : Type 0 where
+  pub tokens : List Token
+  pub size : ℕ
+  pub place : ℕ
+  pub refused : Option TextRefusal
+
+-- the ending that a refusal tells
+abbrev pub IsEnding : TextRefusal → Ending → Type 0
+IsEnding (BadToken place) ending = ending ≡ bad_token place
+IsEnding (Unterminated place) ending = ending ≡ unterminated place
+IsEnding (TooBig place) ending = ending ≡ too_big place
+IsEnding TooLong ending = Unit {0}
+IsEnding Memory ending = Unit {0}
+IsEnding Failed ending = Unit {0}
+
+-- these steps and this ending are left
+abbrev pub LeftOf : {S : Type 0} → Grammar S → List Token → ℕ → Option TextRefusal → List S → Ending → Type 0
+LeftOf g tokens size None steps ending = Reading g size (placed_words tokens) steps ending
+LeftOf g tokens size (Some refusal) steps ending = (steps ≡ []) × IsEnding refusal ending
+
+abbrev pub Leaves : {S : Type 0} → Grammar S → TextState → List S → Ending → Type 0
+Leaves g s steps ending = LeftOf g s.tokens s.size s.refused steps ending
+
+-- want of memory was answered
+abbrev pub is_spent_by : Option TextRefusal → Bool
+is_spent_by (Some Memory) = true
+is_spent_by (Some Failed) = true
+is_spent_by (Some TooLong) = false
+is_spent_by (Some (BadToken place)) = false
+is_spent_by (Some (Unterminated place)) = false
+is_spent_by (Some (TooBig place)) = false
+is_spent_by None = false

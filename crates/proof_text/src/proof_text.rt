@@ -1,0 +1,79 @@
+//! The steps of a proof's text.
+ghost use Rattle.std.specs.Prelude.{◌≡◌, length, None};
+ghost use Rattle.cx_semantics.specs.Tokens.{tokens};
+ghost use Rattle.proof_text.specs.Texts.{TextState};
+
+use crate::source::{StepSource, TextRefusal};
+use cx_semantics::{ProofStep, TokenReader};
+use std::alloc::Global;
+use std::marker::Model;
+
+/// A proof that is read from a text, step by step.
+#[derive(Drop)]
+pub struct ProofText<'a> {
+    alloc: Global,
+    reader: TokenReader<'a>,
+    size: usize,
+    place: usize,
+    refused: Option<TextRefusal>,
+}
+
+impl<'a> Model for ProofText<'a> {
+    ghost use Rattle.proof_text.specs.Texts.{TextState};
+
+    ghost Value = { TextState };
+
+    ghost view = { λ t. record { tokens = t.reader; size = t.size; place = t.place; refused = t.refused } };
+}
+
+impl<'a> ProofText<'a> {
+    /// The steps of a text.
+    pub fn new(alloc: Global, text: &'a [u8]) -> ProofText<'a>
+        ensures { result ≡ record { tokens = tokens text.now; size = length text.now; place = 0; refused = None } }
+    {
+        ProofText {
+            alloc,
+            reader: TokenReader::new(text),
+            size: text.len(),
+            place: 0,
+            refused: None,
+        }
+    }
+}
+
+impl<'a> StepSource for ProofText<'a> {
+    type Step = ProofStep;
+
+    ghost use Rattle.std.specs.Prelude.{refl, ◌≡◌};
+    ghost use Rattle.std.proofs.Common.{◌∙◌};
+    ghost use Rattle.cx_semantics.specs.ProofText.{proof_steps};
+    ghost use Rattle.proof_text.specs.Left.{proof_is_left};
+    ghost use Rattle.proof_text.specs.Texts.{Leaves, is_spent_by};
+
+    ghost leaves = { Leaves proof_steps };
+
+    ghost passes_limit = { λ _. ⊥ };
+
+    ghost is_spent = { λ t. is_spent_by t.refused };
+
+    ghost faults = { λ _. 0 };
+
+    ghost place_of = { λ t. t.place };
+
+    ghost keeps = { λ a b. b.size ≡ a.size };
+
+    fn next_step(&mut self) -> Result<Option<ProofStep>, TextRefusal> {
+        self.refused = Some(TextRefusal::Memory);
+        Err(TextRefusal::Memory)
+    }
+
+    fn place(&self) -> u64 {
+        self.place as u64
+    }
+
+    ghost leaves_some = { proof_is_left };
+
+    ghost keeps_itself = { λ a. refl };
+
+    ghost keeps_on = { λ a b c p q. q ∙ p };
+}

@@ -1,0 +1,76 @@
+//! Where steps come from, one after another.
+ghost use Rattle.std.specs.Prelude.{◌≡◌, ◌<◌, ◌≤◌, ◌^◌, ℕ, Bool, true, false, List};
+ghost use Rattle.cx_semantics.specs.Grammar.{Ending};
+ghost use Rattle.proof_text.specs.Sources.{Gives, Rises, FaultsAs, SpentAs, IsTooLongOnly};
+
+use std::alloc::AllocError;
+use thiserror::Error;
+
+/// Why no step was given.
+#[derive(Clone, Copy, Debug, PartialEq, Eq, Drop, Error)]
+pub enum TextRefusal {
+    /// A token that fits no step; its byte place.
+    #[error("bad token at byte {0}")]
+    BadToken(u64),
+    /// The text ends inside a step; the place is the text's length.
+    #[error("unterminated at byte {0}")]
+    Unterminated(u64),
+    /// A number whose magnitude alone does not fit; its byte place.
+    #[error("too big at byte {0}")]
+    TooBig(u64),
+    /// The text is longer than the source's limit.
+    #[error("the text is too long")]
+    TooLong,
+    /// Want of memory, which says nothing of the text.
+    #[error("out of memory")]
+    Memory,
+    /// A fault of reading, which the source counted.
+    #[error("the read failed")]
+    Failed,
+}
+
+/// A source of steps.
+///
+/// What it has left is a list of steps and an ending, where it tells them. After `BadToken`,
+/// `Unterminated`, `TooBig` or `TooLong` the same answer comes again. It is not asked again after
+/// `Memory` or `Failed`.
+pub trait StepSource {
+    type Step;
+
+    // it has these steps left and then this ending
+    ghost leaves: { Self → List Self.Step → Ending → Type 0 };
+
+    // it tells that its text passes its limit
+    ghost passes_limit: { Self → Type 0 };
+
+    // it has answered `Memory` or `Failed`
+    ghost is_spent: { Self → Bool };
+
+    ghost faults: { Self → ℕ };
+
+    ghost place_of: { Self → ℕ };
+
+    // what a call leaves as it was
+    ghost keeps: { Self → Self → Type 0 };
+
+    /// The next step, or none at the end of the text between two steps.
+    fn next_step(&mut self) -> Result<Option<Self::Step>, TextRefusal>
+        requires { is_spent self.old ≡ false }
+        ensures step { Gives leaves self.old result self.new }
+        ensures spent { SpentAs result (is_spent self.new) }
+        ensures faults { FaultsAs result (faults self.old) (faults self.new) }
+        ensures long { IsTooLongOnly (passes_limit self.old) result }
+        ensures rises { Rises result (place_of self.old) (place_of self.new) }
+        ensures frame { keeps self.old self.new };
+
+    /// How far the source has come: it rises at each step.
+    fn place(&self) -> u64
+        ensures { result ≡ place_of self.now };
+
+    // it always has some steps left and an ending
+    ghost leaves_some: { (a : Self) → (steps : List Self.Step) × (ending : Ending) × leaves a steps ending };
+
+    ghost keeps_itself: { (a : Self) → keeps a a };
+
+    ghost keeps_on: { (a b c : Self) → keeps a b → keeps b c → keeps a c };
+}
