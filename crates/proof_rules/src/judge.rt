@@ -1,5 +1,5 @@
 //! The four judges: one for each kind of step that adds something.
-ghost use Rattle.std.specs.Prelude.{◌≡◌, ◌++◌, length};
+ghost use Rattle.std.specs.Prelude.{◌++◌, ◌∷◌, []};
 ghost use Rattle.cx_semantics.specs.Integers.{sizes};
 ghost use Rattle.cx_semantics.specs.Tables.{named};
 ghost use Rattle.cx_semantics.specs.ProofRules.{hinting, chaining, summing, clause_of_parity, parity_of_clauses};
@@ -46,14 +46,13 @@ pub fn judge_clause_of_parity(
     alloc: Global,
     live: &Live,
     target: &LitList,
-    hints: &IntList,
+    hint: i64,
 ) -> Result<(), JudgeRefusal>
-    requires { length hints.now ≡ 1 }
-    ensures { JudgesBy (hinting live.now.parities hints.now ++ clause_of_parity target.now (named live.now.parities (sizes hints.now))) result }
+    ensures { JudgesBy (hinting live.now.parities (hint ∷ []) ++ clause_of_parity target.now (named live.now.parities (sizes (hint ∷ [])))) result }
 {
     let _alloc = alloc;
     let _target = target.as_slice();
-    let _hints = hints.as_slice();
+    let _hint = hint;
     Err(JudgeRefusal::Memory)
 }
 
