@@ -11,6 +11,6 @@ sheet_room s = s.room - length s.bytes.items
 pub record PutsOn {E : Type 0} (fails : Bool) (most : ℕ) (piece : Bytes) (old : Sheet) (faults : ℕ) (outcome : Result ℕ E) (new : Sheet) (after : ℕ) : Type 0 where
   pub fails_where : is_err outcome ≡ (fails || (sheet_room old == 0))
   pub moves : MatchResult outcome
-    (λ n. (n ≡ min most (min (sheet_room old) (length piece))) × (new.bytes.items ≡ old.bytes.items ++ take n piece) × (after ≡ faults))
-    (λ _. (new.bytes.items ≡ old.bytes.items) × (after ≡ count_after faults))
+      (λ n. (n ≡ min most (min (sheet_room old) (length piece))) × (new.bytes.items ≡ old.bytes.items ++ take n piece) × (after ≡ faults))
+      (λ _. (new.bytes.items ≡ old.bytes.items) × (after ≡ count_after faults))
   pub room : new.room ≡ old.room
