@@ -1,6 +1,5 @@
 -- What lies in the buffer of a text that is read.
-use Rattle.std.proofs.Common.{◌≡◌, ◌≤◌, ◌+◌, ℕ, ◌++◌, length, take, drop, refl, ap, sym, ◌∙◌, arith}
-use Rattle.std.proofs.lemmas.Grind.{common_steps}
+use Rattle.std.proofs.Common.{◌≡◌, ◌+◌, ℕ, ◌++◌, length, take, drop, ap, ◌∙◌}
 use Rattle.std.proofs.Math.Seq.{take-add, take-append_seam}
 use Rattle.cx_desk.specs.declared.desk.Slot.{Slot}
 use Rattle.cx_desk.specs.Outside.{Bytes, Outside}

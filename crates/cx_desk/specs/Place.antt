@@ -1,5 +1,5 @@
 -- What a slot of a desk in memory reads.
-use Rattle.std.specs.Prelude.{◌≡◌, ◌<◌, ◌≤◌, ℕ, List, [], map, min, take, drop, length, Option, Some, None, option_map, string_bytes, slice_get, MatchOption}
+use Rattle.std.specs.Prelude.{◌≡◌, ℕ, List, [], map, min, take, drop, length, Option, Some, None, option_map, string_bytes, slice_get, MatchOption}
 use Rattle.std.specs.Option.{option_map_or}
 use Rattle.cx_desk.specs.declared.memory.NamedFile.{NamedFile}
 use Rattle.cx_desk.specs.declared.memory.place.Place.{Place}

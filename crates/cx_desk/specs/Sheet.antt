@@ -1,5 +1,5 @@
 -- What a put does to one port of a desk in memory.
-use Rattle.std.specs.Prelude.{◌≡◌, ◌-◌, ◌++◌, ◌==◌, ◌||◌, ℕ, Bool, min, length, take, Result, is_err, vec_len, MatchResult}
+use Rattle.std.specs.Prelude.{◌≡◌, ◌-◌, ◌++◌, ◌==◌, ◌||◌, ℕ, Bool, min, length, take, Result, is_err, MatchResult}
 use Rattle.cx_desk.specs.declared.memory.sheet.Sheet.{Sheet}
 use Rattle.cx_desk.specs.Outside.{Bytes, count_after}
 
