@@ -50,22 +50,14 @@ impl Place {
         }
     }
 
+    /// What is left to be read: nothing where there is no file.
     fn rest<'a>(&self, files: &'a [NamedFile]) -> &'a [u8]
         ensures { result.now ≡ rest_of files.entry.now self.now }
     {
-        match self.file {
-            None => &[],
-            Some(i) => match files.get(i) {
-                None => &[],
-                Some(file) => {
-                    if self.at < file.bytes.len() {
-                        &file.bytes[self.at..]
-                    } else {
-                        &[]
-                    }
-                }
-            },
-        }
+        let Some(file) = self.file.and_then(|index| files.get(index)) else {
+            return &[];
+        };
+        file.bytes.get(self.at..).unwrap_or(&[])
     }
 
     /// Moves the next bytes, at most `most` of them.
