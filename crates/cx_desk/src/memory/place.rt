@@ -67,6 +67,7 @@ impl Place {
         let rest = self.rest(files);
         let count = rest.len().min(into.len()).min(most);
         into[..count].copy_from_slice(&rest[..count]);
+        // Where no byte is left, the place may be anywhere behind the end, so it stays.
         if count > 0 {
             self.at += count;
         }

@@ -28,7 +28,8 @@ impl Sheet {
 
     /// Appends a front of the piece: what there is room for, and at most `most` bytes.
     pub(super) fn append(&mut self, most: usize, piece: &[u8]) -> usize
-        ensures count { result ≡ min most (min (self.old.room - vec_len self.old.bytes) (length piece.now)) }
+        ensures count { result
+            ≡ min most (min (self.old.room - vec_len self.old.bytes) (length piece.now)) }
         ensures bytes { self.new.bytes.items ≡ self.old.bytes.items ++ take result piece.now }
         ensures room { self.new.room ≡ self.old.room }
     {
