@@ -1,1 +1,3 @@
 pub mod Judges
+pub mod Kinds
+pub mod Sums

@@ -5,6 +5,9 @@ ghost use Rattle.cx_semantics.specs.Tables.{named};
 ghost use Rattle.cx_semantics.specs.ProofRules.{hinting, chaining, summing, clause_of_parity, parity_of_clauses};
 ghost use Rattle.proof_rules.specs.Judges.{JudgesBy};
 
+use crate::hints::judge_hints;
+use crate::live::Kind;
+use crate::sum;
 use crate::{JudgeRefusal, Live};
 use cx_base::{IntList, LitList};
 use std::alloc::Global;
@@ -35,10 +38,8 @@ pub fn judge_sum(
 ) -> Result<(), JudgeRefusal>
     ensures { JudgesBy (hinting live.now.parities hints.now ++ summing target.now (named live.now.parities (sizes hints.now))) result }
 {
-    let _alloc = alloc;
-    let _target = target.as_slice();
-    let _hints = hints.as_slice();
-    Err(JudgeRefusal::Memory)
+    judge_hints(live, Kind::Parities, hints.as_slice())?;
+    sum::judge_target(alloc, live, target.as_slice(), hints.as_slice())
 }
 
 /// Judges a clause as implied by one live parity.

@@ -1,9 +1,12 @@
 //! The rules of proof steps, each judged exactly, over the tables of live clauses and parities.
 #![tactic(auto)]
 
+mod hints;
 mod judge;
 mod live;
+mod parity_sum;
 mod refusal;
+mod sum;
 
 pub use judge::{judge_chain, judge_clause_of_parity, judge_parity_of_clauses, judge_sum};
 pub use live::Live;

@@ -1,0 +1,78 @@
+//! Sums of parities.
+ghost use Rattle.std.specs.Prelude.{◌≡◌, OnOk, IsTrue, ◌↔◌};
+ghost use Rattle.cx_base.specs.Parity.{normal_form};
+ghost use Rattle.proof_rules.specs.Sums.{zero_sum, plus, flipped, turned};
+
+use cx_base::Lit;
+use std::alloc::{AllocError, Global};
+use std::collections::BTreeSet;
+use std::marker::Model;
+
+/// A sum of parities: the variables that are left, and what the sum of their values is to be.
+///
+/// It takes the place of these variables alone, whatever the number of variables of a formula.
+#[derive(Drop)]
+pub(crate) struct ParitySum {
+    variables: BTreeSet<u32>,
+    right_side: bool,
+}
+
+impl Model for ParitySum {
+    ghost use Rattle.std.specs.FinSet as set;
+    ghost use Rattle.cx_base.specs.Parity.{NormalForm};
+    ghost use Rattle.proof_rules.specs.Sums.{form_code};
+
+    ghost Value = { NormalForm };
+
+    ghost coded = { form_code };
+
+    ghost view = { λ p. record { variables = set.from_list p.variables.keys; right_side = p.right_side } };
+}
+
+impl ParitySum {
+    /// The sum of no parities.
+    pub(crate) fn new(alloc: Global) -> ParitySum
+        ensures { result ≡ zero_sum }
+    {
+        ParitySum {
+            variables: BTreeSet::new(alloc),
+            right_side: false,
+        }
+    }
+
+    /// Adds one variable.
+    fn flip(&mut self, variable: u32) -> Result<(), AllocError>
+        ensures { OnOk result (self.new ≡ flipped self.old variable) }
+    {
+        if !self.variables.remove(&variable) {
+            self.variables.insert(variable)?;
+        }
+        Ok(())
+    }
+
+    /// Adds a bit to the right side.
+    fn turn(&mut self, bit: bool)
+        ensures { self.new ≡ turned self.old bit }
+    {
+        self.right_side = bit != self.right_side;
+    }
+
+    /// Adds a parity.
+    pub(crate) fn add(&mut self, lits: &[Lit]) -> Result<(), AllocError>
+        ensures { OnOk result (self.new ≡ plus self.old (normal_form lits.now)) }
+    {
+        self.turn(true);
+        for lit in lits {
+            self.flip(lit.var().number())?;
+            self.turn(lit.is_negative());
+        }
+        Ok(())
+    }
+
+    /// Whether nothing is left: no variable, and the right side 0.
+    pub(crate) fn is_zero(&self) -> bool
+        ensures { IsTrue result ↔ (self.now ≡ zero_sum) }
+    {
+        self.variables.is_empty() && !self.right_side
+    }
+}
