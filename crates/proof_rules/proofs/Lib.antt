@@ -1,1 +1,3 @@
 pub mod SumLaws
+pub mod LiteralLaws
+pub mod ChainSteps

@@ -1,3 +1,5 @@
 pub mod Judges
 pub mod Kinds
 pub mod Sums
+pub mod LiteralSets
+pub mod Ends

@@ -5,6 +5,7 @@ ghost use Rattle.cx_semantics.specs.Tables.{named};
 ghost use Rattle.cx_semantics.specs.ProofRules.{hinting, chaining, summing, clause_of_parity, parity_of_clauses};
 ghost use Rattle.proof_rules.specs.Judges.{JudgesBy};
 
+use crate::chain;
 use crate::hints::judge_hints;
 use crate::live::Kind;
 use crate::sum;
@@ -23,10 +24,8 @@ pub fn judge_chain(
 ) -> Result<(), JudgeRefusal>
     ensures { JudgesBy (hinting live.now.clauses hints.now ++ chaining target.now (named live.now.clauses (sizes hints.now))) result }
 {
-    let _alloc = alloc;
-    let _target = target.as_slice();
-    let _hints = hints.as_slice();
-    Err(JudgeRefusal::Memory)
+    judge_hints(live, Kind::Clauses, hints.as_slice())?;
+    chain::judge_target(alloc, live, target.as_slice(), hints.as_slice())
 }
 
 /// Judges a parity as the sum of live parities, each counted as often as it is named.

@@ -1,8 +1,10 @@
 //! The rules of proof steps, each judged exactly, over the tables of live clauses and parities.
 #![tactic(auto)]
 
+mod chain;
 mod hints;
 mod judge;
+mod literal_set;
 mod live;
 mod parity_sum;
 mod refusal;

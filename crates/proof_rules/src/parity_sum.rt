@@ -3,7 +3,7 @@ ghost use Rattle.std.specs.Prelude.{◌≡◌, OnOk, IsTrue, ◌↔◌};
 ghost use Rattle.cx_base.specs.Parity.{normal_form};
 ghost use Rattle.proof_rules.specs.Sums.{zero_sum, plus, flipped, turned};
 
-use cx_base::Lit;
+use cx_base::{Lit, Var};
 use std::alloc::{AllocError, Global};
 use std::collections::BTreeSet;
 use std::marker::Model;
@@ -13,7 +13,7 @@ use std::marker::Model;
 /// It takes the place of these variables alone, whatever the number of variables of a formula.
 #[derive(Drop)]
 pub(crate) struct ParitySum {
-    variables: BTreeSet<u32>,
+    variables: BTreeSet<Var>,
     right_side: bool,
 }
 
@@ -41,7 +41,7 @@ impl ParitySum {
     }
 
     /// Adds one variable.
-    fn flip(&mut self, variable: u32) -> Result<(), AllocError>
+    fn flip(&mut self, variable: Var) -> Result<(), AllocError>
         ensures { OnOk result (self.new ≡ flipped self.old variable) }
     {
         if !self.variables.remove(&variable) {
@@ -63,7 +63,7 @@ impl ParitySum {
     {
         self.turn(true);
         for lit in lits {
-            self.flip(lit.var().number())?;
+            self.flip(lit.var())?;
             self.turn(lit.is_negative());
         }
         Ok(())
