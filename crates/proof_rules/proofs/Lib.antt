@@ -1,3 +1,5 @@
 pub mod SumLaws
 pub mod LiteralLaws
 pub mod ChainSteps
+pub mod ParityValues
+pub mod ClauseValues

@@ -1,6 +1,7 @@
 -- Sums of normal forms: one literal and one parity at a time.
-use Rattle.std.proofs.Common.{◌≡◌, refl, sym, ap, ◌∙◌, ℕ, ℤ, nat_abs, Bool, true, false, cond, not, ◌||◌, nat_eq, eqb-true, is_eq, List, [], ◌∷◌, length, map, count_by, Some, None, true≢false}
-use Rattle.std.specs.List.{list_any, cons_option}
+use Rattle.std.proofs.Common.{◌≡◌, refl, sym, ap, ◌∙◌, ℕ, ℤ, nat_abs, Bool, true, false, cond, not, ◌||◌, nat_eq, eqb-true, is_eq, List, [], ◌∷◌, length, map, count_by, Some, None, Less, true≢false}
+use Rattle.std.specs.List.{list_any, cons_option, AllByRecursion}
+use Rattle.std.specs.List.Sorted.{IsStrictlySortedBy}
 use Rattle.std.specs.Ordering.{nat_cmp, eq_by_cmp}
 use Rattle.std.specs.Cmp.{nat_cmp_total, unsigned_tied, nat_eq_equiv}
 use Rattle.std.specs.FinSet as set
@@ -10,6 +11,7 @@ use Rattle.cx_base.proofs.Odd.{is_odd, is_odd-suc, is_odd-count}
 use Rattle.cx_base.proofs.ParityLaws.{contains-normal_form, contains-symmetric_difference}
 use Rattle.cx_semantics.specs.Tables.{Table, get}
 use Rattle.cx_semantics.specs.ProofRules.{IsSum}
+use Rattle.proof_rules.specs.Assignments.{AreDistinct}
 use Rattle.proof_rules.specs.Kinds.{hinted}
 use Rattle.proof_rules.specs.Sums.{zero_sum, plus, flipped, turned, plus_all}
 
@@ -194,3 +196,14 @@ module _ (target : List Literal) (parities : List (List Literal)) where
 
   pub sum_is_zero : IsSum target parities → plus_all (plus zero_sum (normal_form target)) parities ≡ zero_sum
   sum_is_zero h = ap (λ p. plus p (sum_of (map normal_form parities))) (zero_plus (normal_form target)) ∙ zero_from_same (normal_form target) (sum_of (map normal_form parities)) h
+
+-- ---- an ordered list names each number once
+
+after_all : (x : ℕ) (xs : List ℕ) → AllByRecursion (λ y. nat_cmp x y ≡ Less) xs → list_any (λ y. nat_eq y x) xs ≡ false
+after_all x [] h = refl
+after_all x (y ∷ ys) h = ap (λ b. b || list_any (λ z. nat_eq z x) ys) (nat_eq_equiv.symm y x ∙ sym (unsigned_tied x y) ∙ ap is_eq h.0) ∙ after_all x ys h.1
+
+pub distinct-sorted : (xs : List ℕ) → IsStrictlySortedBy nat_cmp xs → AreDistinct xs
+unfolding IsStrictlySortedBy
+distinct-sorted [] h = tt
+distinct-sorted (x ∷ xs) h = (after_all x xs h.0, distinct-sorted xs h.1)

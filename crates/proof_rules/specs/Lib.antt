@@ -3,3 +3,4 @@ pub mod Kinds
 pub mod Sums
 pub mod LiteralSets
 pub mod Ends
+pub mod Assignments

@@ -6,8 +6,9 @@ ghost use Rattle.cx_semantics.specs.ProofRules.{hinting, chaining, summing, clau
 ghost use Rattle.proof_rules.specs.Judges.{JudgesBy};
 
 use crate::chain;
-use crate::hints::judge_hints;
+use crate::hints::{id_of, judge_hints};
 use crate::live::Kind;
+use crate::parity_clause;
 use crate::sum;
 use crate::{JudgeRefusal, Live};
 use cx_base::{IntList, LitList};
@@ -51,10 +52,10 @@ pub fn judge_clause_of_parity(
     requires { length hints.now ≡ 1 }
     ensures { JudgesBy (hinting live.now.parities hints.now ++ clause_of_parity target.now (named live.now.parities (sizes hints.now))) result }
 {
-    let _alloc = alloc;
-    let _target = target.as_slice();
-    let _hints = hints.as_slice();
-    Err(JudgeRefusal::Memory)
+    let hints = hints.as_slice();
+    judge_hints(live, Kind::Parities, hints)?;
+    let parity = live.parity(id_of(hints[0])).unwrap();
+    parity_clause::judge_target(alloc, parity, target.as_slice())
 }
 
 /// Judges a parity of at most 12 variables as implied by live clauses over these variables.

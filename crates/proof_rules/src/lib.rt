@@ -6,6 +6,7 @@ mod hints;
 mod judge;
 mod literal_set;
 mod live;
+mod parity_clause;
 mod parity_sum;
 mod refusal;
 mod sum;

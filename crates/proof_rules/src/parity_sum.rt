@@ -1,6 +1,7 @@
 //! Sums of parities.
-ghost use Rattle.std.specs.Prelude.{◌≡◌, OnOk, IsTrue, ◌↔◌};
+ghost use Rattle.std.specs.Prelude.{◌≡◌, OnOk, IfOk, IsTrue, ◌↔◌};
 ghost use Rattle.cx_base.specs.Parity.{normal_form};
+ghost use Rattle.proof_rules.specs.Assignments.{Lists};
 ghost use Rattle.proof_rules.specs.Sums.{zero_sum, plus, flipped, turned};
 
 use cx_base::{Lit, Var};
@@ -67,6 +68,25 @@ impl ParitySum {
             self.turn(lit.is_negative());
         }
         Ok(())
+    }
+
+    /// What the sum of the variables is to be.
+    pub(crate) fn right_side(&self) -> bool
+        ensures { result ≡ self.now.right_side }
+    {
+        self.right_side
+    }
+
+    /// The variables that are left, in order.
+    pub(crate) fn variables(&self, alloc: Global) -> Result<Vec<Var>, AllocError>
+        ensures { IfOk result (λ list. Lists self.now.variables list.items) }
+    {
+        let mut list = Vec::new(alloc);
+        for variable in &self.variables {
+            let _number = variable.number();
+            list.push(*variable)?;
+        }
+        Ok(list)
     }
 
     /// Whether nothing is left: no variable, and the right side 0.
