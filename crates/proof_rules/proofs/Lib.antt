@@ -3,3 +3,5 @@ pub mod LiteralLaws
 pub mod ChainSteps
 pub mod ParityValues
 pub mod ClauseValues
+pub mod ExclusionLaws
+pub mod ClausesParity

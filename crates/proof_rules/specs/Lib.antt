@@ -4,3 +4,4 @@ pub mod Sums
 pub mod LiteralSets
 pub mod Ends
 pub mod Assignments
+pub mod Exclusions

@@ -6,6 +6,7 @@ ghost use Rattle.cx_semantics.specs.ProofRules.{hinting, chaining, summing, clau
 ghost use Rattle.proof_rules.specs.Judges.{JudgesBy};
 
 use crate::chain;
+use crate::clauses_parity;
 use crate::hints::{id_of, judge_hints};
 use crate::live::Kind;
 use crate::parity_clause;
@@ -69,8 +70,6 @@ pub fn judge_parity_of_clauses(
 ) -> Result<(), JudgeRefusal>
     ensures { JudgesBy (hinting live.now.clauses hints.now ++ parity_of_clauses target.now (named live.now.clauses (sizes hints.now))) result }
 {
-    let _alloc = alloc;
-    let _target = target.as_slice();
-    let _hints = hints.as_slice();
-    Err(JudgeRefusal::Memory)
+    judge_hints(live, Kind::Clauses, hints.as_slice())?;
+    clauses_parity::judge_target(alloc, live, target.as_slice(), hints.as_slice())
 }

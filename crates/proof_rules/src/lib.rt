@@ -2,6 +2,7 @@
 #![tactic(auto)]
 
 mod chain;
+mod clauses_parity;
 mod hints;
 mod judge;
 mod literal_set;

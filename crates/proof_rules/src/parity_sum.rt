@@ -1,5 +1,6 @@
 //! Sums of parities.
 ghost use Rattle.std.specs.Prelude.{◌≡◌, OnOk, IfOk, IsTrue, ◌↔◌};
+ghost use Rattle.std.specs.FinSet as set;
 ghost use Rattle.cx_base.specs.Parity.{normal_form};
 ghost use Rattle.proof_rules.specs.Assignments.{Lists};
 ghost use Rattle.proof_rules.specs.Sums.{zero_sum, plus, flipped, turned};
@@ -75,6 +76,20 @@ impl ParitySum {
         ensures { result ≡ self.now.right_side }
     {
         self.right_side
+    }
+
+    /// How many variables are left.
+    pub(crate) fn width(&self) -> usize
+        ensures { result ≡ set.len self.now.variables }
+    {
+        self.variables.len()
+    }
+
+    /// Whether the variable is left.
+    pub(crate) fn has(&self, variable: Var) -> bool
+        ensures { result ≡ set.contains self.now.variables variable }
+    {
+        self.variables.contains(&variable)
     }
 
     /// The variables that are left, in order.
