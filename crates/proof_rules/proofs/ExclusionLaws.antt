@@ -228,7 +228,7 @@ true_sign false false h = absurd (true≢false (sym h))
 pub falsified-unmet : (v : List Bool) (clause : List Literal) (xs : List ℕ) → IsInside xs clause → falsified clause xs (map (value_of v) xs) ≡ true → clause_met v clause ≡ false
 falsified-unmet v clause xs inside h = unmet_by v clause (λ l k. not_true (literal_true v l) (λ t.
     let e : has_literal clause (record { variable = l.variable; negative = l.negative }) ≡ false =
-        ap (λ n. has_literal clause (record { variable = l.variable; negative = n })) (true_sign l.negative (value_of v l.variable) t) ∙ falsified_each clause xs (value_of v) h l.variable (inside l k) in
+    ap (λ n. has_literal clause (record { variable = l.variable; negative = n })) (true_sign l.negative (value_of v l.variable) t) ∙ falsified_each clause xs (value_of v) h l.variable (inside l k) in
     true≢false (sym k ∙ e)))
 
 pub not_falsified-met : (v : List Bool) (clause : List Literal) (xs : List ℕ) → falsified clause xs (map (value_of v) xs) ≡ false → clause_met v clause ≡ true

@@ -95,8 +95,8 @@ with_literals-plus p (l ∷ lits) =
     ∙ (λ i. record {
       variables = variables-cons p.variables l lits i;
       right_side = (ap (λ b. differ b (is_odd (count_by (λ m. m.negative) lits))) (differ_swap l.negative p.right_side)
-        ∙ differ_assoc p.right_side l.negative (is_odd (count_by (λ m. m.negative) lits))
-        ∙ ap (differ p.right_side) (sym (is_odd-count (λ m. m.negative) l lits))) i;
+          ∙ differ_assoc p.right_side l.negative (is_odd (count_by (λ m. m.negative) lits))
+          ∙ ap (differ p.right_side) (sym (is_odd-count (λ m. m.negative) l lits))) i;
     })
 
 right_side-normal_form : (lits : List Literal) → (normal_form lits).right_side ≡ not (is_odd (count_by (λ l. l.negative) lits))
@@ -153,14 +153,17 @@ differ_none false b h = sym h
 pub same_from_zero : (p q : NormalForm) → plus p q ≡ zero_sum → p ≡ q
 same_from_zero p q h =
     let s : p.variables ≡ q.variables = same_members _ _ (λ x. differ_none _ _
-        (sym (contains-symmetric_difference p.variables q.variables x) ∙ ap (λ r. set.contains r.variables x) h ∙ set.contains-empty nat_cmp x)) in
+    (sym (contains-symmetric_difference p.variables q.variables x) ∙ ap (λ r. set.contains r.variables x) h ∙ set.contains-empty nat_cmp x)) in
     λ i. record { variables = s i; right_side = differ_none p.right_side q.right_side (ap (λ r. r.right_side) h) i }
 
 pub zero_from_same : (p q : NormalForm) → p ≡ q → plus p q ≡ zero_sum
 zero_from_same p q h =
     ap (plus p) (sym h)
-    ∙ (λ i. record { variables = same_members (symmetric_difference p.variables p.variables) set.empty
-      (λ x. contains-symmetric_difference p.variables p.variables x ∙ differ_itself (set.contains p.variables x) ∙ sym (set.contains-empty nat_cmp x)) i; right_side = differ_itself p.right_side i })
+    ∙ (λ i. record {
+      variables = same_members (symmetric_difference p.variables p.variables) set.empty
+          (λ x. contains-symmetric_difference p.variables p.variables x ∙ differ_itself (set.contains p.variables x) ∙ sym (set.contains-empty nat_cmp x)) i;
+      right_side = differ_itself p.right_side i;
+    })
 
 -- ---- the keys of an ordered set
 
@@ -190,7 +193,6 @@ no_keys (k ∷ keys) h = absurd (true≢false (
 -- ---- the target and the parities
 
 module _ (target : List Literal) (parities : List (List Literal)) where
-
   pub is_sum : plus_all (plus zero_sum (normal_form target)) parities ≡ zero_sum → IsSum target parities
   is_sum h = same_from_zero (normal_form target) (sum_of (map normal_form parities)) (ap (λ p. plus p (sum_of (map normal_form parities))) (sym (zero_plus (normal_form target))) ∙ h)
 

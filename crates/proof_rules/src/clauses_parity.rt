@@ -42,13 +42,7 @@ fn any_outside(sum: &ParitySum, live: &Live, hints: &[i64]) -> bool
 /// Marks the assignments of the variables under which the clause is not met.
 ///
 /// `place` is that of the assignment where all of them are false, and `step` how far the first of them moves it.
-fn exclude(
-    table: &mut [bool],
-    variables: &[Var],
-    clause: &LiteralSet,
-    place: usize,
-    step: usize,
-)
+fn exclude(table: &mut [bool], variables: &[Var], clause: &LiteralSet, place: usize, step: usize)
     requires place { place < step }
     requires fits { Fits variables.now step (length table.old) }
     ensures { table.new ≡ excluded clause.now variables.now place step table.old }
@@ -87,13 +81,7 @@ fn exclusions(
 }
 
 /// Whether each assignment is excluded under which the sum of the variables is wrong.
-fn all_excluded(
-    table: &[bool],
-    variables: &[Var],
-    place: usize,
-    step: usize,
-    wrong: bool,
-) -> bool
+fn all_excluded(table: &[bool], variables: &[Var], place: usize, step: usize, wrong: bool) -> bool
     requires place { place < step }
     requires fits { Fits variables.now step (length table.now) }
     ensures { result ≡ all_excluded variables.now place step wrong table.now }

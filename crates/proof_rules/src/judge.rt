@@ -5,13 +5,9 @@ ghost use Rattle.cx_semantics.specs.Tables.{named};
 ghost use Rattle.cx_semantics.specs.ProofRules.{hinting, chaining, summing, clause_of_parity, parity_of_clauses};
 ghost use Rattle.proof_rules.specs.Judges.{JudgesBy};
 
-use crate::chain;
-use crate::clauses_parity;
 use crate::hints::{id_of, judge_hints};
 use crate::live::Kind;
-use crate::parity_clause;
-use crate::sum;
-use crate::{JudgeRefusal, Live};
+use crate::{JudgeRefusal, Live, chain, clauses_parity, parity_clause, sum};
 use cx_base::{IntList, LitList};
 use std::alloc::Global;
 

@@ -15,3 +15,6 @@ mod sum;
 pub use judge::{judge_chain, judge_clause_of_parity, judge_parity_of_clauses, judge_sum};
 pub use live::Live;
 pub use refusal::JudgeRefusal;
+
+#[cfg(test)]
+mod tests;

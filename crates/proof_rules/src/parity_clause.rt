@@ -55,7 +55,11 @@ fn is_implied(alloc: Global, parity: &[Lit], clause: &[Lit]) -> Result<bool, All
 }
 
 /// Judges the target as implied by the parity.
-pub(crate) fn judge_target(alloc: Global, parity: &[Lit], target: &[Lit]) -> Result<(), JudgeRefusal>
+pub(crate) fn judge_target(
+    alloc: Global,
+    parity: &[Lit],
+    target: &[Lit],
+) -> Result<(), JudgeRefusal>
     ensures { JudgesBy (clause_of_parity target.now (parity.now ∷ [])) result }
 {
     if is_implied(alloc, parity, target)? {
