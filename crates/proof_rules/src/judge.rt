@@ -5,8 +5,10 @@ ghost use Rattle.cx_semantics.specs.Tables.{named};
 ghost use Rattle.cx_semantics.specs.ProofRules.{hinting, chaining, summing, clause_of_parity, parity_of_clauses};
 ghost use Rattle.proof_rules.specs.Judges.{JudgesBy};
 
-use crate::{JudgeRefusal, Live};
-use cx_base::{IntList, LitList};
+use crate::hints::{id_of, judge_hints};
+use crate::live::Kind;
+use crate::{JudgeRefusal, Live, chain, clauses_parity, parity_clause, sum};
+use cx_base::LitList;
 use std::alloc::Global;
 
 /// Judges a clause by a chain of hints: live clauses, each of which has one literal left or none.
@@ -16,14 +18,12 @@ pub fn judge_chain(
     alloc: Global,
     live: &Live,
     target: &LitList,
-    hints: &IntList,
+    hints: &[i64],
 ) -> Result<(), JudgeRefusal>
     ensures { JudgesBy (hinting live.now.clauses hints.now ++ chaining target.now (named live.now.clauses (sizes hints.now))) result }
 {
-    let _alloc = alloc;
-    let _target = target.as_slice();
-    let _hints = hints.as_slice();
-    Err(JudgeRefusal::Memory)
+    judge_hints(live, Kind::Clauses, hints)?;
+    chain::judge_target(alloc, live, target.as_slice(), hints)
 }
 
 /// Judges a parity as the sum of live parities, each counted as often as it is named.
@@ -31,14 +31,12 @@ pub fn judge_sum(
     alloc: Global,
     live: &Live,
     target: &LitList,
-    hints: &IntList,
+    hints: &[i64],
 ) -> Result<(), JudgeRefusal>
     ensures { JudgesBy (hinting live.now.parities hints.now ++ summing target.now (named live.now.parities (sizes hints.now))) result }
 {
-    let _alloc = alloc;
-    let _target = target.as_slice();
-    let _hints = hints.as_slice();
-    Err(JudgeRefusal::Memory)
+    judge_hints(live, Kind::Parities, hints)?;
+    sum::judge_target(alloc, live, target.as_slice(), hints)
 }
 
 /// Judges a clause as implied by one live parity.
@@ -50,10 +48,9 @@ pub fn judge_clause_of_parity(
 ) -> Result<(), JudgeRefusal>
     ensures { JudgesBy (hinting live.now.parities (hint ∷ []) ++ clause_of_parity target.now (named live.now.parities (sizes (hint ∷ [])))) result }
 {
-    let _alloc = alloc;
-    let _target = target.as_slice();
-    let _hint = hint;
-    Err(JudgeRefusal::Memory)
+    judge_hints(live, Kind::Parities, &[hint])?;
+    let parity = live.parity(id_of(hint)).unwrap();
+    parity_clause::judge_target(alloc, parity, target.as_slice())
 }
 
 /// Judges a parity of at most 12 variables as implied by live clauses over these variables.
@@ -63,12 +60,10 @@ pub fn judge_parity_of_clauses(
     alloc: Global,
     live: &Live,
     target: &LitList,
-    hints: &IntList,
+    hints: &[i64],
 ) -> Result<(), JudgeRefusal>
     ensures { JudgesBy (hinting live.now.clauses hints.now ++ parity_of_clauses target.now (named live.now.clauses (sizes hints.now))) result }
 {
-    let _alloc = alloc;
-    let _target = target.as_slice();
-    let _hints = hints.as_slice();
-    Err(JudgeRefusal::Memory)
+    judge_hints(live, Kind::Clauses, hints)?;
+    clauses_parity::judge_target(alloc, live, target.as_slice(), hints)
 }

@@ -83,7 +83,7 @@ fn take_clause(
         Err(why) => return Err(why),
     }
     let target = literals_of(alloc, vars, lits)?;
-    match judge_chain(alloc, live, &target, hints) {
+    match judge_chain(alloc, live, &target, hints.as_slice()) {
         Ok(()) => {}
         Err(why) => return Err(why),
     }
@@ -108,7 +108,7 @@ fn take_parity(
         Err(why) => return Err(why),
     }
     let target = literals_of(alloc, vars, lits)?;
-    match judge_sum(alloc, live, &target, hints) {
+    match judge_sum(alloc, live, &target, hints.as_slice()) {
         Ok(()) => {}
         Err(why) => return Err(why),
     }
@@ -158,7 +158,7 @@ fn take_parity_of_clauses(
         Err(why) => return Err(why),
     }
     let target = literals_of(alloc, vars, lits)?;
-    match judge_parity_of_clauses(alloc, live, &target, hints) {
+    match judge_parity_of_clauses(alloc, live, &target, hints.as_slice()) {
         Ok(()) => {}
         Err(why) => return Err(why),
     }
