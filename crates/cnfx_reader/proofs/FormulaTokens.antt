@@ -1,10 +1,12 @@
 -- The tokens of a formula's text, one byte or one run at a time.
-use Rattle.std.proofs.Common.{◌≡◌, ◌≢◌, refl, sym, ap, ◌∙◌, subst, ℕ, suc, ◌+◌, ◌-◌, ◌<◌, ◌≤◌, Bool, true, false, cond, not, List, [], ◌∷◌, ◌++◌, length, take, drop, get_or, filter, flat_map, filter_map, arith, true≢false, add-zero, ◌==◌, inl, inr}
+use Rattle.std.proofs.Common.{◌≡◌, ◌≢◌, refl, sym, ap, ◌∙◌, subst, ℕ, suc, ◌+◌, ◌-◌, ◌<◌, ◌≤◌, Bool, true, false, cond, not, List, [], ◌∷◌, ◌++◌, length, take, drop, get_or, filter, flat_map, filter_map, arith, true≢false, add-zero, length-drop, drop-drop, ◌==◌, inl, inr}
 use Rattle.std.specs.List.{slice_split, onto_first, enumerate_from, before_first, position_or_len, AllByRecursion}
 use Rattle.std.proofs.lemmas.List.{drop_more, drop_all}
 use Rattle.cx_semantics.specs.Tokens.{Token, is_blank, begins_with, is_comment, is_end_line, lines_from, token_of, tokens_of_line, tokens_of_lines, formula_tokens, NoBlank, EndsRun, SkipsLine}
 use Rattle.cx_semantics.proofs.TokenLaws.{lines-byte, blank_tokens, not_feed, token_at, StartsBlank, run_line}
 use Rattle.cx_semantics.proofs.Slices.{part_length, split_at}
+use Rattle.cnfx_reader.proofs.NumberLaws.{part_behind}
+use Rattle.cnfx_reader.proofs.WordLaws.{run_begins}
 use Rattle.cnfx_reader.specs.TokensLeft.{kept_tokens, kept_with_first, formula_tokens_from, formula_tokens_within, formula_tokens_left}
 
 -- ---- the tokens of the whole text
@@ -189,3 +191,22 @@ next_run text at len some l no_blank ends = go (take len (drop at text)) refl
 pub within-none : (text : List ℕ) (at : ℕ) → length text ≤ at → (in_line : Bool) → formula_tokens_left in_line at (drop at text) ≡ []
 within-none text at h true = ap (formula_tokens_left true at) (drop_all at text h)
 within-none text at h false = ap (formula_tokens_left false at) (drop_all at text h)
+
+-- ---- the run at a place, as `&text[at..]` has it
+
+pub next_part : (text : List ℕ) (at len : ℕ) → at < length text → is_blank (get_or text at 0) ≡ false → len ≤ length (take (length text - at) (drop at text)) → NoBlank (take len (take (length text - at) (drop at text)))
+    → EndsRun (drop len (take (length text - at) (drop at text)))
+    → formula_tokens_within at (drop at text) ≡ record { place = at; text = take len (drop at text) } ∷ formula_tokens_within (at + len) (drop (at + len) text)
+next_part text at len l begins high run ends =
+    let behind = part_behind text at in
+    let ends_there : EndsRun (drop len (drop at text)) = subst (λ xs. EndsRun (drop len xs)) behind ends in
+    let size : len ≤ length (drop at text) = subst (λ xs. len ≤ length xs) behind high in
+    next_run text at len
+    (elim (Rattle.std.proofs.lemmas.Bool.cases_lt 0 len) [
+      | inl h ↦ h
+      | inr h ↦ let none : len ≡ 0 = omega arith in
+          absurd (run_begins (drop at text) (omega (arith, length-drop at text)) (ap is_blank (ap (λ xs. get_or xs 0 0) (drop_more text at 0 l)) ∙ begins) (subst (λ n. EndsRun (drop n (drop at text))) none ends_there))
+    ])
+    (omega (arith, length-drop at text))
+    (subst (λ xs. NoBlank (take len xs)) behind run)
+    (subst EndsRun (drop-drop len at text) ends_there)
