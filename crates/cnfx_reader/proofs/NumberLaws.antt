@@ -1,11 +1,12 @@
 -- Runs of digits as numbers, and tokens as integers.
-use Rattle.std.proofs.Common.{◌≡◌, ◌≢◌, refl, sym, ap, ◌∙◌, subst, ℕ, zero, suc, ◌+◌, ◌-◌, ◌*◌, ◌<◌, ◌≤◌, ℤ, pos, neg_ℤ, Bool, true, false, cond, ◌&&◌, List, [], ◌∷◌, ◌++◌, length, take, drop, get_or, Option, Some, None, option_map, arith, true≢false, take-append-drop, length-take, length-drop, eqb-true, ◌==◌, ⊎_elim, inl, inr, MatchOption}
+use Rattle.std.proofs.Common.{◌≡◌, ◌≢◌, refl, sym, ap, ◌∙◌, subst, ℕ, zero, suc, ◌+◌, ◌-◌, ◌*◌, ◌^◌, ◌<◌, ◌≤◌, ℤ, pos, neg_ℤ, Bool, true, false, cond, ◌&&◌, List, [], ◌∷◌, ◌++◌, length, take, drop, get_or, Option, Some, None, option_map, arith, true≢false, take-append-drop, length-take, length-drop, eqb-true, ◌==◌, ⊎_elim, inl, inr, MatchOption}
 use Rattle.std.specs.List.{list_all, AllByRecursion}
 use Rattle.std.specs.Char.{digit_value}
-use Rattle.std.specs.Str.Parse.{digits_value}
+use Rattle.std.specs.Str.Parse.{AllDigits, digits_value}
 use Rattle.std.proofs.lemmas.List.{drop_all, take_all}
 use Rattle.std.proofs.lemmas.List.Folds.{list_all-append, list_all_more}
-use Rattle.std.proofs.lemmas.Int.Digits.{digits_value_more}
+use Rattle.std.proofs.lemmas.Int.Digits.{digits_value_more, digits_value-lt}
+use Rattle.std.proofs.Math.Nat.{pow-le-pow_right}
 use Rattle.std.proofs.lemmas.Str.{digit_value_digit}
 use Rattle.std.proofs.lemmas.Str.Parse.{digits_value-take-le}
 use Rattle.cx_base.specs.declared.literal.TheConstants.{MAX_VARIABLE}
@@ -19,6 +20,10 @@ use mir.Val.{bool_byte}
 
 -- ---- one digit more
 
+and_parts : (a b : Bool) → (a && b) ≡ true → (a ≡ true) × (b ≡ true)
+and_parts true b h = (refl, h)
+and_parts false b h = absurd (true≢false (sym h))
+
 digit_worth : (b : ℕ) → is_digit b ≡ true → digit_value b ≡ b - 48
 digit_worth b h = let k = digit_bounds b h in let e : digit_value b + 48 ≡ b = digit_value_digit b k in omega arith
 
@@ -28,6 +33,21 @@ one_more text len value l d h v = (
   list_all_more is_digit text len 0 l ∙ (λ i. h i && d i),
   (λ i. v i * 10 + sym (digit_worth (get_or text len 0) d) i) ∙ sym (digits_value_more 10 text len l),
 )
+
+-- ---- a few digits
+
+all_digits_of : (ds : List ℕ) → list_all is_digit ds ≡ true → AllDigits 10 ds
+all_digits_of [] h = tt
+all_digits_of (b ∷ bs) h = let k = and_parts (is_digit b) _ h in let l = digit_bounds b k.0 in let e : digit_value b ≡ b - 48 = digit_worth b k.0 in (omega arith, all_digits_of bs k.1)
+
+pub short_value : (text : List ℕ) (len value : ℕ) → len < 9 → len ≤ length text → list_all is_digit (take len text) ≡ true → value ≡ digits_value 10 (take len text) → value < 100000000
+short_value text len value few l h v =
+    let size : length (take len text) ≡ len = omega (arith, length-take len text) in
+    let small : digits_value 10 (take len text) < 10 ^ length (take len text) = digits_value-lt 10 (take len text) (all_digits_of (take len text) h) in
+    let least : 0 < 10 = omega arith in
+    let most : length (take len text) ≤ 8 = omega arith in
+    let power : 10 ^ length (take len text) ≤ 10 ^ 8 = pow-le-pow_right {n = 10} least {i = length (take len text)} {j = 8} most in
+    omega arith
 
 -- ---- the number of a token
 
@@ -84,10 +104,6 @@ digit_no_blank b h =
     let k = digit_bounds b h in
     let low : 48 ≤ b = k.0 in
     (λ i. Rattle.std.proofs.Common.◌||◌ (Rattle.std.proofs.Common.◌||◌ (Rattle.std.proofs.Common.◌||◌ (not_equal b 32 (λ e. omega arith) i) (not_equal b 9 (λ e. omega arith) i)) (not_equal b 13 (λ e. omega arith) i)) (not_equal b 10 (λ e. omega arith) i))
-
-and_parts : (a b : Bool) → (a && b) ≡ true → (a ≡ true) × (b ≡ true)
-and_parts true b h = (refl, h)
-and_parts false b h = absurd (true≢false (sym h))
 
 pub digits_no_blank : (ds : List ℕ) → list_all is_digit ds ≡ true → NoBlank ds
 digits_no_blank [] h = tt

@@ -12,9 +12,12 @@ strange_token (b ∷ []) l n e = (letter b, n, ap (λ i. number_or (letter b) i 
 strange_token (b ∷ c ∷ bs) l n e =
     (other, tt, ap (λ x. cond x (joined_words (integer (c ∷ bs))) (word_of (b ∷ c ∷ bs) ∷ [])) (not_equal b 120 n) ∙ ap (λ i. number_or other i ∷ []) e)
 
+zero_not_mark : ◌≡◌ {A = ℕ} 0 120 → ⊥
+zero_not_mark e = omega arith
+
 -- an `x` joined to an integer
 pub joined_token : (t : List ℕ) (len : ℕ) (z : ℤ) → get_or t 0 0 ≡ 120 → 0 < len → len ≤ length (drop 1 t) → integer (take len (drop 1 t)) ≡ Some z → formula_words_of (take (suc len) t) ≡ letter 120 ∷ number z ∷ []
-joined_token [] len z x some l e = let k : 0 ≡ 120 = x in absurd (omega arith)
+joined_token [] len z x some l e = absurd (zero_not_mark x)
 joined_token (b ∷ []) len z x some l e = absurd (omega arith)
 joined_token (b ∷ c ∷ bs) zero z x some l e = absurd (omega arith)
 joined_token (b ∷ c ∷ bs) (suc len) z x some l e = ap (λ y. formula_words_of (y ∷ c ∷ take len bs)) x ∙ ap joined_words e

@@ -6,7 +6,7 @@ ghost use Rattle.cx_semantics.specs.Words.{integer, natural};
 ghost use Rattle.cnfx_reader.specs.Runs.{begins_with_minus};
 ghost use Rattle.cnfx_reader.specs.Meanings.{IsInteger, IsNatural, signed};
 
-use crate::natural::{Natural, leading_digits, read_natural};
+use crate::natural::{Natural, read_natural, short_digits};
 use cx_base::{Lit, MAX_VARIABLE, Var};
 use cx_semantics::is_blank_byte;
 
@@ -66,7 +66,7 @@ pub(crate) fn leading_integer(text: &[u8]) -> Option<LeadingInteger>
 {
     let negative = has_minus(text);
     let first = usize::from(negative);
-    let digits = leading_digits(&text[first..]);
+    let digits = short_digits(&text[first..]);
     let len = first + digits.len;
     if digits.value <= MAX_VARIABLE && 0 < digits.len && ends_run(text, len) {
         Some(LeadingInteger {

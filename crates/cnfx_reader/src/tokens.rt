@@ -14,7 +14,8 @@ use std::marker::Model;
 #[derive(Drop)]
 pub(crate) struct FormulaTokens<'a> {
     text: &'a [u8],
-    place: Place,
+    at: usize,
+    in_line: bool,
 }
 
 impl<'a> Model for FormulaTokens<'a> {
@@ -24,9 +25,9 @@ impl<'a> Model for FormulaTokens<'a> {
 
     ghost Value = { List Token };
 
-    ghost view = { λ r. formula_tokens_left r.place.in_line r.place.at (drop r.place.at r.text.now) };
+    ghost view = { λ r. formula_tokens_left r.in_line r.at (drop r.at r.text.now) };
 
-    ghost invariant = { λ r. r.place.at ≤ length r.text.now };
+    ghost invariant = { λ r. r.at ≤ length r.text.now };
 }
 
 /// A token of the body, and the place of its first byte.
@@ -43,10 +44,8 @@ impl<'a> FormulaTokens<'a> {
     {
         FormulaTokens {
             text,
-            place: Place {
-                at: 0,
-                in_line: false,
-            },
+            at: 0,
+            in_line: false,
         }
     }
 
@@ -55,12 +54,16 @@ impl<'a> FormulaTokens<'a> {
         ensures { MatchOption result (self.old ≡ []) (λ t. self.old ≡ record { place = t.place; text = t.text.now } ∷ self.new) }
     {
         let text = self.text;
-        let at = next_begin(text, self.place)?;
+        let at = next_begin(
+            text,
+            Place {
+                at: self.at,
+                in_line: self.in_line,
+            },
+        )?;
         let len = run_len(&text[at..]);
-        self.place = Place {
-            at: at + len,
-            in_line: true,
-        };
+        self.at = at + len;
+        self.in_line = true;
         Some(TokenAt {
             place: at,
             text: &text[at..at + len],
@@ -73,12 +76,16 @@ impl<'a> FormulaTokens<'a> {
         ensures { MatchOption result (self.old ≡ []) (λ t. (text : List ℕ) × (self.old ≡ record { place = t.place; text = text } ∷ self.new) × Says t.token (formula_words_of text)) }
     {
         let text = self.text;
-        let at = next_begin(text, self.place)?;
+        let at = next_begin(
+            text,
+            Place {
+                at: self.at,
+                in_line: self.in_line,
+            },
+        )?;
         let leading = leading_token(&text[at..]);
-        self.place = Place {
-            at: at + leading.len,
-            in_line: true,
-        };
+        self.at = at + leading.len;
+        self.in_line = true;
         Some(BodyTokenAt {
             place: at as u64,
             token: leading.token,

@@ -9,7 +9,7 @@ pub returns-then-ends_run : goal.returns-then-ends_run
 returns-then-ends_run c =
     let text = c.args.text.now in
     let first = c.from-first.result in
-    let digits = c.leading_digits-digits in
+    let digits = c.short_digits-digits in
     let len = digits.result.len in
     let behind = part_behind text first in
     let high : len ≤ length (drop first text) = subst (λ xs. len ≤ length xs) behind digits.ensures.high in
