@@ -49,7 +49,6 @@ fn read_token(token: &[u8]) -> BodyToken
 }
 
 /// The token at the front, whatever it says.
-#[inline(never)]
 fn any_token(text: &[u8]) -> LeadingToken
     requires some { 0 < length text.now }
     requires begins { is_blank (slice_index text.now 0) ≡ false }
@@ -66,7 +65,31 @@ fn any_token(text: &[u8]) -> LeadingToken
     }
 }
 
-/// The token at the front. Integers up to the limit, alone or behind an `x`, take one pass over their bytes.
+/// The token at the front, most likely an `x` joined to an integer.
+///
+/// It stands apart from the path of plain integers, to keep that one short.
+#[inline(never)]
+fn marked_token(text: &[u8]) -> LeadingToken
+    requires some { 0 < length text.now }
+    requires begins { is_blank (slice_index text.now 0) ≡ false }
+    ensures some { 0 < result.len }
+    ensures high { result.len ≤ length text.now }
+    ensures run { NoBlank (take result.len text.now) }
+    ensures ends { EndsRun (drop result.len text.now) }
+    ensures says { Says result.token (formula_words_of (take result.len text.now)) }
+{
+    if text[0] == b'x' {
+        if let Some(leading) = leading_integer(&text[1..]) {
+            return LeadingToken {
+                token: BodyToken::MarkedInteger(leading.integer),
+                len: 1 + leading.len,
+            };
+        }
+    }
+    any_token(text)
+}
+
+/// The token at the front. An integer up to the limit takes one pass over its bytes.
 #[inline(always)]
 pub(crate) fn leading_token(text: &[u8]) -> LeadingToken
     requires some { 0 < length text.now }
@@ -77,19 +100,11 @@ pub(crate) fn leading_token(text: &[u8]) -> LeadingToken
     ensures ends { EndsRun (drop result.len text.now) }
     ensures says { Says result.token (formula_words_of (take result.len text.now)) }
 {
-    if let Some(leading) = leading_integer(text) {
-        return LeadingToken {
+    match leading_integer(text) {
+        Some(leading) => LeadingToken {
             token: BodyToken::Integer(leading.integer),
             len: leading.len,
-        };
+        },
+        None => marked_token(text),
     }
-    if text[0] == b'x' {
-        if let Some(leading) = leading_integer(&text[1..]) {
-            return LeadingToken {
-                token: BodyToken::MarkedInteger(leading.integer),
-                len: 1 + leading.len,
-            };
-        }
-    }
-    any_token(text)
 }

@@ -8,6 +8,7 @@ use crate::tokens::FormulaTokens;
 use cx_semantics::Offence;
 
 /// Reads the header, and gives its number of variables. `len` is the text's length.
+#[inline(never)]
 pub(crate) fn read_header(tokens: &mut FormulaTokens, len: u64) -> Result<u32, Offence>
     ensures within { IfOk result (λ v. v ≤ MAX_VARIABLE) }
     ensures read { MatchResult result (λ v. header len tokens.old ≡ Ok (v, tokens.new)) (λ o. header len tokens.old ≡ Err o) }

@@ -40,6 +40,7 @@ pub(crate) fn run_len(text: &[u8]) -> usize
 }
 
 /// The place behind the line that goes on here.
+#[inline(never)]
 fn line_end(text: &[u8], at: usize) -> usize
     requires { at ≤ length text.now }
     ensures low { at ≤ result }

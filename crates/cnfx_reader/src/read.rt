@@ -9,6 +9,7 @@ use cx_base::{Formula, FormulaBuilder};
 use std::alloc::Global;
 
 /// Reads a formula. The first offence in the order of the text is answered.
+#[inline(never)]
 pub fn read_formula(alloc: Global, text: &[u8]) -> Result<Formula, ReadRefusal>
     ensures { ReadsTo text.now result }
 {
