@@ -234,12 +234,12 @@ module _ (len : ℕ) where
       let p = placed place (number z) in
       let zs : integers_of (d.unfinished ++ literal z ∷ []) ≡ integers_of d.unfinished ++ z ∷ [] = map-append integer_of d.unfinished (literal z ∷ []) ∙ ap (λ y. integers_of d.unfinished ++ y ∷ []) same in
       let r = go (opened state) (with_literal d (literal z)) (front ++ p ∷ [])
-          (record {
-            spoken = pushed front p ∙ ap (λ x. x ++ number z ∷ []) a.spoken ∙ said_more state (integers_of d.unfinished) z ∙ ap (said (opened state)) (sym zs);
-            nonzero = subst AreNonzero (sym zs) (nonzero_more (integers_of d.unfinished) z a.nonzero some);
-            shape = subst (HasShape (opened state)) (sym zs) (shape_more state (integers_of d.unfinished) z);
-            within = within_push front p a.within small;
-          }) in
+      (record {
+        spoken = pushed front p ∙ ap (λ x. x ++ number z ∷ []) a.spoken ∙ said_more state (integers_of d.unfinished) z ∙ ap (said (opened state)) (sym zs);
+        nonzero = subst AreNonzero (sym zs) (nonzero_more (integers_of d.unfinished) z a.nonzero some);
+        shape = subst (HasShape (opened state)) (sym zs) (shape_more state (integers_of d.unfinished) z);
+        within = within_push front p a.within small;
+      }) in
       (r.0, r.1, subst (λ x. Reading constraints len x r.0 (outcome len (opened state) (with_literal d (literal z)) ps).ending) (append_assoc front (p ∷ []) ps) r.2)
 
   fits_literal : (state : Pending) (z : ℤ) → z ≢ pos 0 → flat_map (after_word (number z)) (rest_rows state) ≡ in_literals
@@ -253,22 +253,22 @@ module _ (len : ℕ) where
 
   by_size : (state : Pending) (d : Draft) (front : List Placed) (place : ℕ) (z : ℤ) (ps : List Placed) → Goes ps → At state d.unfinished front → integer_of (literal z) ≡ z → z ≢ pos 0 → (b : Bool) → nat_lt MAX_VARIABLE (nat_abs z) ≡ b
       → Found state d front (placed place (number z) ∷ ps)
-          (elim (cond b (stops (too_big place)) (goes_on (opened state) (with_literal d (literal z)))) [ goes_on o e ↦ outcome len o e ps | stops ending ↦ record { constraints = d.constraints; ending = ending } ])
+      (elim (cond b (stops (too_big place)) (goes_on (opened state) (with_literal d (literal z)))) [ goes_on o e ↦ outcome len o e ps | stops ending ↦ record { constraints = d.constraints; ending = ending } ])
   by_size state d front place z ps go a same some true e = big_number state d front place z ps a (fits_literal state z some) (ltb-true MAX_VARIABLE (nat_abs z) e)
   by_size state d front place z ps go a same some false e = literal_word state d front place z ps go a same some (ltb-false MAX_VARIABLE (nat_abs z) e)
 
   mark_word : (d : Draft) (front : List Placed) (place c : ℕ) (ps : List Placed) → Goes ps → At Nothing d.unfinished front → (b : Bool) → (c == 120) ≡ b
       → Found Nothing d front (placed place (letter c) ∷ ps)
-          (elim (cond b (goes_on Parity d) (stops (bad_token place))) [ goes_on o e ↦ outcome len o e ps | stops ending ↦ record { constraints = d.constraints; ending = ending } ])
+      (elim (cond b (goes_on Parity d) (stops (bad_token place))) [ goes_on o e ↦ outcome len o e ps | stops ending ↦ record { constraints = d.constraints; ending = ending } ])
   mark_word d front place c ps go a true e =
       let p = placed place (letter c) in
       let r = go Parity d (front ++ p ∷ [])
-          (record {
-            spoken = pushed front p ∙ ap (λ x. x ++ letter c ∷ []) (a.spoken ∙ ap (map number) a.shape) ∙ ap (λ n. letter n ∷ []) (eqb-true c 120 e) ∙ ap (λ zs. letter 120 ∷ map number zs) (sym a.shape);
-            nonzero = a.nonzero;
-            shape = tt;
-            within = within_push front p a.within tt;
-          }) in
+      (record {
+        spoken = pushed front p ∙ ap (λ x. x ++ letter c ∷ []) (a.spoken ∙ ap (map number) a.shape) ∙ ap (λ n. letter n ∷ []) (eqb-true c 120 e) ∙ ap (λ zs. letter 120 ∷ map number zs) (sym a.shape);
+        nonzero = a.nonzero;
+        shape = tt;
+        within = within_push front p a.within tt;
+      }) in
       (r.0, r.1, subst (λ x. Reading constraints len x r.0 (outcome len Parity d ps).ending) (append_assoc front (p ∷ []) ps) r.2)
   mark_word d front place c ps go a false e =
       bad_word Nothing d front (placed place (letter c)) ps a

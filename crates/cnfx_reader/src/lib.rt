@@ -10,6 +10,8 @@ mod pending;
 mod places;
 mod read;
 mod refusal;
+#[cfg(test)]
+mod tests;
 mod tokens;
 
 pub use read::read_formula;

@@ -14,6 +14,6 @@ returns-then-ends_run c =
     let behind = part_behind text first in
     let high : len ≤ length (drop first text) = subst (λ xs. len ≤ length xs) behind digits.ensures.high in
     let front = signed_front c.has_minus-negative.result text first len digits.result.value c.from-first.ensures c.has_minus-negative.ensures c.if-digits-gt0.true high
-        (ap (λ xs. list_all is_digit (take len xs)) (sym behind) ∙ digits.ensures.digits)
-        (digits.ensures.value ∙ ap (λ xs. digits_value 10 (take len xs)) behind) in
+    (ap (λ xs. list_all is_digit (take len xs)) (sym behind) ∙ digits.ensures.digits)
+    (digits.ensures.value ∙ ap (λ xs. digits_value 10 (take len xs)) behind) in
     (omega arith, omega (arith, length-drop first text), front.0, c.ends_run.ensures c.if-ends_run.true, (_, c.within.ensures, front.1))
