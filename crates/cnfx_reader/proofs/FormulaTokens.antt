@@ -210,3 +210,11 @@ next_part text at len l begins high run ends =
     (omega (arith, length-drop at text))
     (subst (λ xs. NoBlank (take len xs)) behind run)
     (subst EndsRun (drop-drop len at text) ends_there)
+
+-- a blank behind a place within a line is passed over
+pub behind_blank : (text : List ℕ) (end : ℕ) → end < length text → is_blank (get_or text end 0) ≡ true → formula_tokens_within end (drop end text) ≡ formula_tokens_left (not (get_or text end 0 == 10)) (end + 1) (drop (end + 1) text)
+behind_blank text end l h = ap (formula_tokens_within end) (drop_more text end 0 l) ∙ go (get_or text end 0 == 10) refl
+  where
+    go : (x : Bool) → (get_or text end 0 == 10) ≡ x → formula_tokens_within end (get_or text end 0 ∷ drop (end + 1) text) ≡ formula_tokens_left (not x) (end + 1) (drop (end + 1) text)
+    go true e = within-feed end (get_or text end 0) (drop (end + 1) text) e
+    go false e = within-blank end (get_or text end 0) (drop (end + 1) text) h e

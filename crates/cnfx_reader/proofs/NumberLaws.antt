@@ -167,3 +167,7 @@ signed_front true text first len value e m more l h v =
     let n : first + len ≡ suc len = omega arith in
     let p = minus_front text len value (sym m) more (subst (λ i. len ≤ length (drop i text)) e l) (subst (λ i. list_all is_digit (take len (drop i text)) ≡ true) e h) (subst (λ i. value ≡ digits_value 10 (take len (drop i text))) e v) in
     subst (λ i. NoBlank (take i text) × (integer (take i text) ≡ Some (neg_ℤ (pos value)))) (sym n) p
+
+pub bool_byte_small : (b : Bool) → bool_byte b ≤ 1
+bool_byte_small true = omega arith
+bool_byte_small false = omega arith

@@ -1,6 +1,7 @@
 -- Tokens of the body as words.
 use Rattle.std.proofs.Common.{◌≡◌, refl, sym, ap, ◌∙◌, subst, ℕ, zero, suc, ◌+◌, ◌<◌, ◌≤◌, ℤ, Bool, true, false, cond, List, [], ◌∷◌, length, take, drop, get_or, Option, Some, None, arith, true≢false, ◌==◌}
-use Rattle.cx_semantics.specs.Tokens.{is_blank, EndsRun}
+use Rattle.std.proofs.lemmas.List.{drop_more}
+use Rattle.cx_semantics.specs.Tokens.{is_blank, NoBlank, EndsRun}
 use Rattle.cx_semantics.specs.Words.{Word, letter, other, number, number_or, letter_or_other, integer, word_of, joined_words, formula_words_of}
 use Rattle.cx_semantics.proofs.Printing.{not_equal}
 use Rattle.cnfx_reader.specs.Meanings.{IsStrange}
@@ -26,3 +27,12 @@ joined_token (b ∷ c ∷ bs) (suc len) z x some l e = ap (λ y. formula_words_o
 pub run_begins : (text : List ℕ) → 0 < length text → is_blank (get_or text 0 0) ≡ false → EndsRun text → ⊥
 run_begins [] l b e = omega arith
 run_begins (c ∷ text) l b e = true≢false (sym e ∙ b)
+
+-- a run ends where a blank stands
+pub ends_at_blank : (text : List ℕ) (k : ℕ) → k < length text → is_blank (get_or text k 0) ≡ true → EndsRun (drop k text)
+ends_at_blank text k l b = subst EndsRun (sym (drop_more text k 0 l)) b
+
+-- a byte that is no blank before a run
+pub run_more : (text : List ℕ) (len : ℕ) → 0 < length text → is_blank (get_or text 0 0) ≡ false → NoBlank (take len (drop 1 text)) → NoBlank (take (1 + len) text)
+run_more [] len l b h = absurd (omega arith)
+run_more (c ∷ text) len l b h = let e : 1 + len ≡ suc len = omega arith in subst (λ n. NoBlank (take n (c ∷ text))) (sym e) (b, h)

@@ -1,5 +1,5 @@
 //! Tokens of the body.
-ghost use Rattle.std.specs.Prelude.{◌≡◌, ◌≤◌, ◌<◌, false, length, take, drop, slice_index};
+ghost use Rattle.std.specs.Prelude.{◌≡◌, ◌≤◌, ◌<◌, true, false, IsTrue, length, take, drop, slice_index};
 ghost use Rattle.cx_semantics.specs.Tokens.{is_blank, NoBlank, EndsRun};
 ghost use Rattle.cx_semantics.specs.Words.{formula_words_of};
 ghost use Rattle.cnfx_reader.specs.Meanings.{Says};
@@ -20,11 +20,12 @@ pub(crate) enum BodyToken {
     Other,
 }
 
-/// A token at the front of some bytes, and how many of them it takes.
+/// A token at the front of some bytes, how many of them it takes, and whether a blank is known to follow.
 #[derive(Clone, Copy, Drop)]
 pub(crate) struct LeadingToken {
     pub token: BodyToken,
     pub len: usize,
+    pub blank_follows: bool,
 }
 
 /// What a whole token says.
@@ -56,12 +57,14 @@ fn any_token(text: &[u8]) -> LeadingToken
     ensures high { result.len ≤ length text.now }
     ensures run { NoBlank (take result.len text.now) }
     ensures ends { EndsRun (drop result.len text.now) }
+    ensures follows { IsTrue result.blank_follows → (result.len < length text.now) × (is_blank (slice_index text.now result.len) ≡ true) }
     ensures says { Says result.token (formula_words_of (take result.len text.now)) }
 {
     let len = run_len(text);
     LeadingToken {
         token: read_token(&text[..len]),
         len,
+        blank_follows: false,
     }
 }
 
@@ -76,6 +79,7 @@ fn marked_token(text: &[u8]) -> LeadingToken
     ensures high { result.len ≤ length text.now }
     ensures run { NoBlank (take result.len text.now) }
     ensures ends { EndsRun (drop result.len text.now) }
+    ensures follows { IsTrue result.blank_follows → (result.len < length text.now) × (is_blank (slice_index text.now result.len) ≡ true) }
     ensures says { Says result.token (formula_words_of (take result.len text.now)) }
 {
     if text[0] == b'x' {
@@ -83,6 +87,7 @@ fn marked_token(text: &[u8]) -> LeadingToken
             return LeadingToken {
                 token: BodyToken::MarkedInteger(leading.integer),
                 len: 1 + leading.len,
+                blank_follows: false,
             };
         }
     }
@@ -98,12 +103,14 @@ pub(crate) fn leading_token(text: &[u8]) -> LeadingToken
     ensures high { result.len ≤ length text.now }
     ensures run { NoBlank (take result.len text.now) }
     ensures ends { EndsRun (drop result.len text.now) }
+    ensures follows { IsTrue result.blank_follows → (result.len < length text.now) × (is_blank (slice_index text.now result.len) ≡ true) }
     ensures says { Says result.token (formula_words_of (take result.len text.now)) }
 {
     match leading_integer(text) {
         Some(leading) => LeadingToken {
             token: BodyToken::Integer(leading.integer),
             len: leading.len,
+            blank_follows: true,
         },
         None => marked_token(text),
     }

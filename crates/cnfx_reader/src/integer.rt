@@ -1,12 +1,12 @@
 //! Tokens as integers.
-ghost use Rattle.std.specs.Prelude.{◌≡◌, ◌≤◌, ◌<◌, length, take, drop, Some, None, IfSome, MatchOption, pos, ℕ, ℤ, Option, IsTrue};
+ghost use Rattle.std.specs.Prelude.{◌≡◌, ◌≤◌, ◌<◌, length, take, drop, Some, None, true, slice_index, IfSome, MatchOption, pos, ℕ, ℤ, Option};
 ghost use Rattle.cx_base.specs.declared.literal.TheConstants.{MAX_VARIABLE};
-ghost use Rattle.cx_semantics.specs.Tokens.{NoBlank, EndsRun};
+ghost use Rattle.cx_semantics.specs.Tokens.{is_blank, NoBlank};
 ghost use Rattle.cx_semantics.specs.Words.{integer, natural};
 ghost use Rattle.cnfx_reader.specs.Runs.{begins_with_minus};
 ghost use Rattle.cnfx_reader.specs.Meanings.{IsInteger, IsNatural, signed};
 
-use crate::natural::{Natural, read_natural, short_digits};
+use crate::natural::{Natural, SHORT, read_natural, short_digits};
 use cx_base::{Lit, MAX_VARIABLE, Var};
 use cx_semantics::is_blank_byte;
 
@@ -49,26 +49,20 @@ fn has_minus(text: &[u8]) -> bool
     !text.is_empty() && text[0] == b'-'
 }
 
-/// Whether a blank follows, or the end.
-#[inline(always)]
-fn ends_run(text: &[u8], at: usize) -> bool
-    requires { at ≤ length text.now }
-    ensures { IsTrue result → EndsRun (drop at text.now) }
-{
-    at == text.len() || is_blank_byte(text[at])
-}
-
-/// The integer up to the limit at the front, where it is a whole token.
+/// The integer up to the limit at the front, where a blank stands behind it and the text goes on far enough.
 #[inline(always)]
 pub(crate) fn leading_integer(text: &[u8]) -> Option<LeadingInteger>
-    ensures { IfSome result (λ r. (0 < r.len) × (r.len ≤ length text.now) × NoBlank (take r.len text.now) × EndsRun (drop r.len text.now)
+    ensures { IfSome result (λ r. (0 < r.len) × (r.len < length text.now) × NoBlank (take r.len text.now) × (is_blank (slice_index text.now r.len) ≡ true)
         × ((z : ℤ) × IsInteger r.integer z × (integer (take r.len text.now) ≡ Some z))) }
 {
+    if text.len() <= SHORT + 1 {
+        return None;
+    }
     let negative = has_minus(text);
     let first = usize::from(negative);
     let digits = short_digits(&text[first..]);
     let len = first + digits.len;
-    if digits.value <= MAX_VARIABLE && 0 < digits.len && ends_run(text, len) {
+    if digits.value <= MAX_VARIABLE && 0 < digits.len && is_blank_byte(text[len]) {
         Some(LeadingInteger {
             integer: within(digits.value, negative),
             len,

@@ -10,7 +10,7 @@ ghost use Rattle.cnfx_reader.specs.Runs.{EndsDigits};
 use cx_base::MAX_VARIABLE;
 
 /// How many digits are converted without a test of their number: each such number fits 32 bits.
-const SHORT: usize = 9;
+pub(crate) const SHORT: usize = 9;
 
 /// What a token says as a number without a sign.
 #[derive(Clone, Copy, Debug, Drop)]
@@ -59,14 +59,14 @@ fn leading_digits(text: &[u8]) -> Digits
 /// The digits at the front, as many as [`SHORT`] at most. It takes one test of a place a byte.
 #[inline(always)]
 pub(crate) fn short_digits(text: &[u8]) -> Digits
-    ensures high { result.len ≤ length text.now }
+    requires { SHORT ≤ length text.now }
+    ensures few { result.len ≤ SHORT }
     ensures digits { list_all is_digit (take result.len text.now) ≡ true }
     ensures value { result.value ≡ digits_value 10 (take result.len text.now) }
 {
-    let most = text.len().min(SHORT);
     let mut value = 0;
     let mut len = 0;
-    while len < most && is_digit_byte(text[len]) {
+    while len < SHORT && is_digit_byte(text[len]) {
         value = value * 10 + u32::from(text[len] - b'0');
         len += 1;
     }

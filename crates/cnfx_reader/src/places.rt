@@ -1,8 +1,8 @@
 //! Where the tokens of a formula begin and end.
-ghost use Rattle.std.specs.Prelude.{◌≡◌, ◌≤◌, ◌<◌, ◌+◌, false, length, drop, take, slice_index, IfSome, IfNone, []};
+ghost use Rattle.std.specs.Prelude.{◌≡◌, ◌≤◌, ◌<◌, ◌+◌, true, false, IsTrue, length, drop, take, slice_index, IfSome, IfNone, []};
 ghost use Rattle.cx_semantics.specs.Tokens.{is_blank, NoBlank, EndsRun, SkipsLine};
 ghost use Rattle.cnfx_reader.specs.TokensLeft.{formula_tokens_left, formula_tokens_within};
-ghost use Rattle.cnfx_reader.specs.Passed.{IsPassed};
+ghost use Rattle.cnfx_reader.specs.Passed.{IsPassed, left_at};
 
 use cx_semantics::is_blank_byte;
 
@@ -97,4 +97,25 @@ pub(crate) fn next_begin(text: &[u8], from: Place) -> Option<usize>
         }
     }
     None
+}
+
+/// The place behind a token that ends here, or behind the blank that follows it, where one is known to.
+#[inline(always)]
+pub(crate) fn behind_token(text: &[u8], end: usize, blank_follows: bool) -> Place
+    requires high { end ≤ length text.now }
+    requires follows { IsTrue blank_follows → (end < length text.now) × (is_blank (slice_index text.now end) ≡ true) }
+    ensures high { result.at ≤ length text.now }
+    ensures left { formula_tokens_within end (drop end text.now) ≡ left_at text.now result }
+{
+    if blank_follows {
+        Place {
+            at: end + 1,
+            in_line: text[end] != b'\n',
+        }
+    } else {
+        Place {
+            at: end,
+            in_line: true,
+        }
+    }
 }

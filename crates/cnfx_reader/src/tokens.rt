@@ -6,7 +6,7 @@ ghost use Rattle.cx_semantics.specs.Tokens.{Token};
 ghost use Rattle.cx_semantics.specs.Words.{formula_words_of};
 
 use crate::body_token::{BodyToken, leading_token};
-use crate::places::{Place, next_begin, run_len};
+use crate::places::{Place, behind_token, next_begin, run_len};
 use cx_semantics::TokenAt;
 use std::marker::Model;
 
@@ -84,8 +84,9 @@ impl<'a> FormulaTokens<'a> {
             },
         )?;
         let leading = leading_token(&text[at..]);
-        self.at = at + leading.len;
-        self.in_line = true;
+        let next = behind_token(text, at + leading.len, leading.blank_follows);
+        self.at = next.at;
+        self.in_line = next.in_line;
         Some(BodyTokenAt {
             place: at as u64,
             token: leading.token,

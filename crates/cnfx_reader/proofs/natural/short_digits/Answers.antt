@@ -11,10 +11,10 @@ loop-len-preserved c =
 
 pub overflow_mul-value : goal.overflow_mul-value
 overflow_mul-value c =
-    let small : c.loop-len.value < 100000000 = short_value c.args.text.now c.loop-len.len c.loop-len.value (omega arith) c.loop-len.invariant.0 c.loop-len.invariant.1 c.loop-len.invariant.2 in
+    let small : c.loop-len.value < 100000000 = short_value c.args.text.now c.loop-len.len c.loop-len.value (omega arith) (omega arith) c.loop-len.invariant.1 c.loop-len.invariant.2 in
     omega arith
 
 pub overflow_add-value : goal.overflow_add-value
 overflow_add-value c =
-    let small : c.loop-len.value < 100000000 = short_value c.args.text.now c.loop-len.len c.loop-len.value (omega arith) c.loop-len.invariant.0 c.loop-len.invariant.1 c.loop-len.invariant.2 in
+    let small : c.loop-len.value < 100000000 = short_value c.args.text.now c.loop-len.len c.loop-len.value (omega arith) (omega arith) c.loop-len.invariant.1 c.loop-len.invariant.2 in
     omega arith
