@@ -11,7 +11,7 @@ use Rattle.cx_base.specs.declared.constraint.Constraint.TheVariants as constrain
 use Rattle.cx_semantics.specs.Integers.{integer_of, integers_of, literal}
 use Rattle.cx_semantics.specs.Words.{Word, number, letter, conflict, other, Placed, words, IsWithin}
 use Rattle.cx_semantics.specs.Grammar.{Field, IsProper, spelled, IsStep, Begins, IsUnfinished, Stops, AreWithin, Spells, FirstBad, FirstBig, Ending, bad_token, too_big, unterminated, Reading}
-use Rattle.cx_semantics.specs.FormulaText.{constraints, constraint_fields}
+use Rattle.cx_semantics.specs.FormulaText.{constraints}
 use Rattle.cx_semantics.proofs.Shapes.{Kind, kind, a_mark, some_integers, Parsed, whole, partial, bad, parse, push}
 use Rattle.cx_semantics.proofs.Forms.{step_parses}
 use Rattle.cx_semantics.proofs.Remaining.{remaining, remaining-push, after_word, rows_of, begins_where, begins_nowhere}

@@ -1,8 +1,8 @@
 -- The tokens of a formula's text, one byte or one run at a time.
-use Rattle.std.proofs.Common.{◌≡◌, ◌≢◌, refl, sym, ap, ◌∙◌, subst, ℕ, suc, ◌+◌, ◌-◌, ◌<◌, ◌≤◌, Bool, true, false, cond, not, List, [], ◌∷◌, ◌++◌, length, take, drop, get_or, filter, flat_map, filter_map, arith, true≢false, add-zero, length-drop, drop-drop, ◌==◌, inl, inr}
-use Rattle.std.specs.List.{slice_split, onto_first, enumerate_from, before_first, position_or_len, AllByRecursion}
+use Rattle.std.proofs.Common.{◌≡◌, ◌≢◌, refl, sym, ap, ◌∙◌, subst, ℕ, suc, ◌+◌, ◌-◌, ◌<◌, ◌≤◌, Bool, true, false, cond, not, List, [], ◌∷◌, ◌++◌, length, take, drop, get_or, filter, flat_map, arith, add-zero, length-drop, drop-drop, ◌==◌, inl, inr}
+use Rattle.std.specs.List.{onto_first, enumerate_from, before_first, position_or_len, AllByRecursion}
 use Rattle.std.proofs.lemmas.List.{drop_more, drop_all}
-use Rattle.cx_semantics.specs.Tokens.{Token, is_blank, begins_with, is_comment, is_end_line, lines_from, token_of, tokens_of_line, tokens_of_lines, formula_tokens, NoBlank, EndsRun, SkipsLine}
+use Rattle.cx_semantics.specs.Tokens.{Token, is_blank, begins_with, is_comment, is_end_line, lines_from, tokens_of_line, tokens_of_lines, formula_tokens, NoBlank, EndsRun, SkipsLine}
 use Rattle.cx_semantics.proofs.TokenLaws.{lines-byte, blank_tokens, not_feed, token_at, StartsBlank, run_line}
 use Rattle.cx_semantics.proofs.Slices.{part_length, split_at}
 use Rattle.cnfx_reader.proofs.NumberLaws.{part_behind}

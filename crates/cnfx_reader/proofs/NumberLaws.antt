@@ -1,9 +1,9 @@
 -- Runs of digits as numbers, and tokens as integers.
 use Rattle.std.proofs.Common.{◌≡◌, ◌≢◌, refl, sym, ap, ◌∙◌, subst, ℕ, zero, suc, ◌+◌, ◌-◌, ◌*◌, ◌^◌, ◌<◌, ◌≤◌, ℤ, pos, neg_ℤ, Bool, true, false, cond, ◌&&◌, List, [], ◌∷◌, ◌++◌, length, take, drop, get_or, Option, Some, None, option_map, arith, true≢false, take-append-drop, length-take, length-drop, eqb-true, ◌==◌, ⊎_elim, inl, inr, MatchOption}
-use Rattle.std.specs.List.{list_all, AllByRecursion}
+use Rattle.std.specs.List.{list_all}
 use Rattle.std.specs.Char.{digit_value}
 use Rattle.std.specs.Str.Parse.{AllDigits, digits_value}
-use Rattle.std.proofs.lemmas.List.{drop_all, take_all}
+use Rattle.std.proofs.lemmas.List.{take_all}
 use Rattle.std.proofs.lemmas.List.Folds.{list_all-append, list_all_more}
 use Rattle.std.proofs.lemmas.Int.Digits.{digits_value_more, digits_value-lt}
 use Rattle.std.proofs.Math.Nat.{pow-le-pow_right}
@@ -13,8 +13,7 @@ use Rattle.cx_base.specs.declared.literal.TheConstants.{MAX_VARIABLE}
 use Rattle.cx_semantics.specs.Tokens.{is_blank, NoBlank}
 use Rattle.cx_semantics.specs.Words.{natural, integer, is_digit}
 use Rattle.cx_semantics.proofs.Printing.{digit_bounds, not_equal}
-use Rattle.cnfx_reader.specs.Meanings.{IsNatural, IsInteger, signed}
-use Rattle.cnfx_reader.specs.declared.integer.Integer.{Integer}
+use Rattle.cnfx_reader.specs.Meanings.{signed}
 use Rattle.cnfx_reader.specs.Runs.{EndsDigits, begins_with_minus}
 use mir.Val.{bool_byte}
 

@@ -1,12 +1,11 @@
 -- The answer of a whole text, from its header and what its body says word by word.
-use Rattle.std.proofs.Common.{◌≡◌, refl, sym, ap, ◌∙◌, subst, ℕ, List, [], length, Ok, Err, Option, Some, Result, inl, inr}
-use Rattle.cx_base.specs.Drafts.{Draft}
-use Rattle.cx_base.specs.Problem.{Problem, greatest_variable}
+use Rattle.std.proofs.Common.{◌≡◌, refl, ap, ◌∙◌, subst, ℕ, List, [], length, Ok, Err, Some, inl, inr}
+use Rattle.cx_base.specs.Problem.{greatest_variable}
 use Rattle.cx_base.specs.declared.constraint.Constraint.{Constraint}
 use Rattle.cx_semantics.specs.Tokens.{Token, formula_tokens}
 use Rattle.cx_semantics.specs.Words.{placed_formula_words}
 use Rattle.cx_semantics.specs.Grammar.{Ending, finished}
-use Rattle.cx_semantics.specs.FormulaText.{constraints, header, HasBody, Reads, FirstOffence, offence_of}
+use Rattle.cx_semantics.specs.FormulaText.{header, HasBody, Reads, FirstOffence, offence_of}
 use Rattle.cx_semantics.specs.declared.offence.Offence.{Offence}
 use Rattle.cx_semantics.specs.declared.offence.Offence.TheVariants as offence
 use Rattle.cnfx_reader.specs.declared.pending.Pending.TheVariants as pending

@@ -1,6 +1,5 @@
 -- What the reader says of a number or a token, against the words of the grammar.
 use Rattle.std.specs.Prelude.{◌≡◌, ◌≢◌, ℕ, ◌<◌, ◌≤◌, ℤ, pos, neg_ℤ, nat_abs, Bool, cond, List, [], ◌∷◌, map, Option, Some, None, ⊤}
-use Rattle.cx_base.specs.Literals.{Literal}
 use Rattle.cx_base.specs.declared.literal.TheConstants.{MAX_VARIABLE}
 use Rattle.cx_semantics.specs.Integers.{integer_of}
 use Rattle.cx_semantics.specs.Words.{Word, number, letter, conflict, other, Placed}

@@ -8,7 +8,7 @@ use crate::integer::{Integer, leading_integer, read_integer};
 use crate::places::run_len;
 
 /// What a token of the body says.
-#[derive(Clone, Copy, Debug, Drop)]
+#[derive(Clone, Copy, Drop)]
 pub(crate) enum BodyToken {
     /// An integer.
     Integer(Integer),

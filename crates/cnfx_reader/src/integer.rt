@@ -11,7 +11,7 @@ use cx_base::{Lit, MAX_VARIABLE, Var};
 use cx_semantics::is_blank_byte;
 
 /// What an integer says in a constraint.
-#[derive(Clone, Copy, Debug, Drop)]
+#[derive(Clone, Copy, Drop)]
 pub(crate) enum Integer {
     /// Any spelling of zero, which ends a constraint.
     Zero,
@@ -49,7 +49,9 @@ fn has_minus(text: &[u8]) -> bool
     !text.is_empty() && text[0] == b'-'
 }
 
-/// The integer up to the limit at the front, where a blank stands behind it and the text goes on far enough.
+/// The integer up to the limit at the front, where a blank follows it.
+///
+/// `None` says nothing: near the end of the text, or at a long spelling, [`read_integer`] decides.
 #[inline(always)]
 pub(crate) fn leading_integer(text: &[u8]) -> Option<LeadingInteger>
     ensures { IfSome result (λ r. (0 < r.len) × (r.len < length text.now) × NoBlank (take r.len text.now) × (is_blank (slice_index text.now r.len) ≡ true)

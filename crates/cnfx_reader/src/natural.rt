@@ -9,11 +9,11 @@ ghost use Rattle.cnfx_reader.specs.Runs.{EndsDigits};
 
 use cx_base::MAX_VARIABLE;
 
-/// How many digits are converted without a test of their number: each such number fits 32 bits.
+/// How many digits are converted without a test of their number: the greatest such number fits 32 bits.
 pub(crate) const SHORT: usize = 9;
 
 /// What a token says as a number without a sign.
-#[derive(Clone, Copy, Debug, Drop)]
+#[derive(Clone, Copy, Drop)]
 pub(crate) enum Natural {
     /// A number up to the limit of variables.
     Within(u32),
@@ -56,7 +56,9 @@ fn leading_digits(text: &[u8]) -> Digits
     Digits { value, len }
 }
 
-/// The digits at the front, as many as [`SHORT`] at most. It takes one test of a place a byte.
+/// The digits at the front, of [`SHORT`] bytes at most.
+///
+/// With no test of the number or of the text's end the loop is unrolled.
 #[inline(always)]
 pub(crate) fn short_digits(text: &[u8]) -> Digits
     requires { SHORT ≤ length text.now }

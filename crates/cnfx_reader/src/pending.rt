@@ -1,7 +1,7 @@
 //! What constraint of the body is pending.
 
 /// Whether a constraint is pending behind what was read, and of which kind.
-#[derive(Clone, Copy, PartialEq, Eq, Debug, Drop)]
+#[derive(Clone, Copy, Drop)]
 pub(crate) enum Pending {
     /// The next token begins a constraint.
     Nothing,

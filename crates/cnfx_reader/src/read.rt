@@ -8,7 +8,11 @@ use crate::tokens::FormulaTokens;
 use cx_base::{Formula, FormulaBuilder};
 use std::alloc::Global;
 
-/// Reads a formula. The first offence in the order of the text is answered.
+/// Reads a formula of clauses and parities: DIMACS CNF with x-lines.
+///
+/// The text is read once, in order, and nothing of it is kept but the literals. At the first token that does not fit,
+/// the refusal says what is wrong and at which byte. Without memory it is `Memory`, which says nothing of the text.
+// Apart from its caller, the loop over the tokens has the registers for itself.
 #[inline(never)]
 pub fn read_formula(alloc: Global, text: &[u8]) -> Result<Formula, ReadRefusal>
     ensures { ReadsTo text.now result }

@@ -51,7 +51,7 @@ impl<'a> FormulaTokens<'a> {
 
     /// The next token by its bytes, or none at the end.
     pub(crate) fn next_token(&mut self) -> Option<TokenAt<'a>>
-        ensures { MatchOption result (self.old ≡ []) (λ t. self.old ≡ record { place = t.place; text = t.text.now } ∷ self.new) }
+        ensures { MatchOption result ((self.old ≡ []) × (self.new ≡ [])) (λ t. self.old ≡ record { place = t.place; text = t.text.now } ∷ self.new) }
     {
         let text = self.text;
         let at = next_begin(
@@ -73,7 +73,7 @@ impl<'a> FormulaTokens<'a> {
     /// The next token by what it says in the body, or none at the end.
     #[inline(always)]
     pub(crate) fn next_in_body(&mut self) -> Option<BodyTokenAt>
-        ensures { MatchOption result (self.old ≡ []) (λ t. (text : List ℕ) × (self.old ≡ record { place = t.place; text = text } ∷ self.new) × Says t.token (formula_words_of text)) }
+        ensures { MatchOption result ((self.old ≡ []) × (self.new ≡ [])) (λ t. (text : List ℕ) × (self.old ≡ record { place = t.place; text = text } ∷ self.new) × Says t.token (formula_words_of text)) }
     {
         let text = self.text;
         let at = next_begin(

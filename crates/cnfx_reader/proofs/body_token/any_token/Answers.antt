@@ -1,4 +1,4 @@
-use Rattle.std.proofs.Common.{◌≡◌, subst, arith, drop, ◌<◌, inl, inr}
+use Rattle.std.proofs.Common.{◌≡◌, subst, arith, drop, inl, inr}
 use Rattle.std.proofs.lemmas.Bool.{cases_lt}
 use Rattle.cx_semantics.specs.Tokens.{EndsRun}
 use Rattle.cnfx_reader.proofs.WordLaws.{run_begins}

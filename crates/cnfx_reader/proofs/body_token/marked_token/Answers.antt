@@ -1,6 +1,6 @@
-use Rattle.std.proofs.Common.{◌≡◌, ◌∙◌, sym, ap, subst, arith, ℕ, suc, ◌+◌, ◌<◌, ◌≤◌, drop, take, length, drop-drop, Some}
+use Rattle.std.proofs.Common.{◌≡◌, ◌∙◌, sym, ap, subst, arith, suc, ◌+◌, ◌≤◌, drop, take, length, drop-drop}
 use Rattle.cx_semantics.specs.Tokens.{NoBlank, EndsRun}
-use Rattle.cx_semantics.specs.Words.{integer, formula_words_of, letter, number}
+use Rattle.cx_semantics.specs.Words.{integer, formula_words_of}
 use Rattle.cnfx_reader.proofs.NumberLaws.{part_behind}
 use Rattle.cnfx_reader.proofs.WordLaws.{joined_token, ends_at_blank, run_more}
 use Rattle.cnfx_reader.proofs.body_token.marked_token.Goals as goal

@@ -1,4 +1,4 @@
-use Rattle.std.proofs.Common.{◌≡◌, ◌∙◌, sym, ap, subst, ℕ, ◌+◌, ◌<◌, ◌≤◌, Bool, true, length, drop, take, arith, length-drop}
+use Rattle.std.proofs.Common.{◌∙◌, sym, ap, ◌≤◌, length, drop, take, arith, length-drop}
 use Rattle.std.specs.List.{list_all}
 use Rattle.std.specs.Str.Parse.{digits_value}
 use Rattle.cx_semantics.specs.Words.{is_digit}

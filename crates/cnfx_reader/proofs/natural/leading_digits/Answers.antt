@@ -1,4 +1,4 @@
-use Rattle.std.proofs.Common.{◌≡◌, sym, ap, ◌∙◌, arith, ◌+◌, ◌*◌}
+use Rattle.std.proofs.Common.{sym, ap, ◌∙◌, arith, ◌+◌, ◌*◌}
 use Rattle.cnfx_reader.proofs.NumberLaws.{one_more}
 use Rattle.cnfx_reader.proofs.natural.leading_digits.Goals as goal
 

@@ -1,4 +1,4 @@
-use Rattle.std.proofs.Common.{◌≡◌, sym, ap, ◌∙◌, arith, ◌+◌, ◌*◌, ◌<◌, ◌≤◌, length}
+use Rattle.std.proofs.Common.{sym, ap, ◌∙◌, arith, ◌+◌, ◌*◌, ◌<◌, length}
 use Rattle.cnfx_reader.proofs.NumberLaws.{one_more, short_value}
 use Rattle.cnfx_reader.proofs.natural.short_digits.Goals as goal
 

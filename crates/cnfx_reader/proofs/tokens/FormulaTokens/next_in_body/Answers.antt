@@ -1,5 +1,4 @@
-use Rattle.std.proofs.Common.{◌≡◌, ◌∷◌, ◌∙◌, sym, ap, subst, ◌+◌, ◌-◌, drop, take, length}
-use Rattle.cx_semantics.specs.Tokens.{Token}
+use Rattle.std.proofs.Common.{◌∷◌, ◌∙◌, sym, ap, subst, drop, take}
 use Rattle.cx_semantics.specs.Words.{formula_words_of}
 use Rattle.cnfx_reader.specs.Meanings.{Says}
 use Rattle.cnfx_reader.proofs.NumberLaws.{part_behind}

@@ -1,5 +1,4 @@
 use Rattle.std.proofs.Common.{◌≡◌, ◌∙◌, sym, ap, arith, ◌+◌, ◌-◌, ◌∷◌, drop, take}
-use Rattle.cx_semantics.specs.Tokens.{Token}
 use Rattle.cnfx_reader.specs.TokensLeft.{formula_tokens_within}
 use Rattle.cnfx_reader.proofs.FormulaTokens.{next_part}
 use Rattle.cnfx_reader.proofs.tokens.FormulaTokens.next_token.Goals as goal
