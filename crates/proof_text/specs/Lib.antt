@@ -1,3 +1,7 @@
+pub mod Seen
+pub mod Ahead
+pub mod Heads
+pub mod Taking
 pub mod Sources
 pub mod Texts
 pub mod Left

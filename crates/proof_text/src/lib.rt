@@ -1,8 +1,11 @@
 //! Steps of proofs from their text, and their printed form.
 #![tactic(auto)]
 
+mod ahead;
+mod fields;
 mod proof_text;
 mod source;
+mod token_word;
 
 pub use cx_semantics::{Cause, ProofStep};
 pub use proof_text::ProofText;
