@@ -3,8 +3,9 @@ use Rattle.std.proofs.Common.{◌≡◌, ◌≢◌, refl, sym, ap, ◌∙◌, su
 use Rattle.std.proofs.lemmas.Int.{to_z-of_z}
 use mir.Val.{SFits}
 use Rattle.cx_semantics.specs.Tokens.{Token}
-use Rattle.cx_semantics.specs.Words.{Word, number, letter, conflict, other, Placed, placed_words, word_of, IsWithin}
-use Rattle.cx_semantics.specs.Grammar.{Field, id, integer, end, spelled, IsProper}
+use Rattle.cx_semantics.specs.Words.{Word, number, letter, conflict, other, Placed, words, placed_words, word_of, IsWithin}
+use Rattle.cx_semantics.specs.Grammar.{Field, id, integer, end, spelled, IsProper, AreWithin}
+use Rattle.cx_semantics.specs.ProofText.{proof_steps}
 use Rattle.proof_text.specs.declared.ahead.SeenWord.{SeenWord}
 use Rattle.proof_text.specs.declared.token_word.TokenWord.{TokenWord}
 use Rattle.proof_text.specs.declared.token_word.TokenWord.TheVariants.{Zero, Positive, Negative, BigPositive, BigNegative, Letter, Other}
@@ -101,3 +102,11 @@ zero_fills (number (negsuc n)) h = absurd (no_zero _ _ (nat_le (suc n) limit) (�
 zero_fills (letter c) h = cc
 zero_fills (conflict k) h = cc
 zero_fills other h = cc
+
+within_one : (z : ℤ) (front : List Placed) → number z ∷ [] ≡ words front → AreWithin proof_steps front → nat_abs z ≤ limit
+within_one z [] e h = cc
+within_one z (p ∷ front) e h = let k : p.word ≡ number z = cc in subst (IsWithin limit) k h.0
+
+-- an integer of a text is written and read back
+pub kept_integer : (z : ℤ) (a b : List Placed) → Takes (integer z ∷ []) a b → Takes (integer (to_z w64 (of_z w64 z)) ∷ []) a b
+kept_integer z a b t = subst (λ y. Takes (integer y ∷ []) a b) (sym (read_back z z refl (within_one z t.front t.spells t.within))) t

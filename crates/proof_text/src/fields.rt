@@ -65,3 +65,97 @@ pub fn take_end(tokens: &mut TokensAhead, size: usize) -> Result<(), TextRefusal
         },
     }
 }
+
+/// A member of a list of integers, or none at the zero that ends it.
+fn take_listed_integer(
+    tokens: &mut TokensAhead,
+    size: usize,
+) -> Result<Option<i64>, TextRefusal>
+    ensures taken { TakesMember integer some_integers size (placed_words tokens.old) result (placed_words tokens.new) }
+    ensures falls { IfOk result (λ _. length tokens.new < length tokens.old) }
+{
+    match tokens.word() {
+        None => Err(TextRefusal::Unterminated(size as u64)),
+        Some(seen) => match seen.word {
+            TokenWord::Zero => {
+                tokens.pass();
+                Ok(None)
+            }
+            TokenWord::Positive(number) => {
+                tokens.pass();
+                Ok(Some(number))
+            }
+            TokenWord::Negative(number) => {
+                tokens.pass();
+                Ok(Some(number))
+            }
+            TokenWord::BigPositive => Err(TextRefusal::TooBig(seen.place)),
+            TokenWord::BigNegative => Err(TextRefusal::TooBig(seen.place)),
+            _ => Err(TextRefusal::BadToken(seen.place)),
+        },
+    }
+}
+
+/// A member of a list of ids, or none at the zero that ends it.
+fn take_listed_id(tokens: &mut TokensAhead, size: usize) -> Result<Option<u64>, TextRefusal>
+    ensures taken { TakesMember id some_ids size (placed_words tokens.old) result (placed_words tokens.new) }
+    ensures falls { IfOk result (λ _. length tokens.new < length tokens.old) }
+{
+    match tokens.word() {
+        None => Err(TextRefusal::Unterminated(size as u64)),
+        Some(seen) => match seen.word {
+            TokenWord::Zero => {
+                tokens.pass();
+                Ok(None)
+            }
+            TokenWord::Positive(number) => {
+                tokens.pass();
+                Ok(Some(number as u64))
+            }
+            TokenWord::BigPositive => Err(TextRefusal::TooBig(seen.place)),
+            _ => Err(TextRefusal::BadToken(seen.place)),
+        },
+    }
+}
+
+/// Integers that are not zero, up to a zero.
+pub fn take_integers(
+    alloc: Global,
+    tokens: &mut TokensAhead,
+    size: usize,
+) -> Result<IntList, TextRefusal>
+    ensures { TakesAll (λ zs. integers zs ∷ []) (some_integers ∷ []) size (placed_words tokens.old) result (placed_words tokens.new) }
+{
+    let mut members = Vec::new(alloc);
+    loop {
+        match take_listed_integer(tokens, size) {
+            Ok(Some(integer)) => match members.push(integer) {
+                Ok(()) => {}
+                Err(_) => return Err(TextRefusal::Memory),
+            },
+            Ok(None) => return Ok(IntList::from_vec(members)),
+            Err(refusal) => return Err(refusal),
+        }
+    }
+}
+
+/// Ids up to a zero.
+pub fn take_ids(
+    alloc: Global,
+    tokens: &mut TokensAhead,
+    size: usize,
+) -> Result<IdList, TextRefusal>
+    ensures { TakesAll (λ ns. ids ns ∷ []) (some_ids ∷ []) size (placed_words tokens.old) result (placed_words tokens.new) }
+{
+    let mut members = Vec::new(alloc);
+    loop {
+        match take_listed_id(tokens, size) {
+            Ok(Some(name)) => match members.push(name) {
+                Ok(()) => {}
+                Err(_) => return Err(TextRefusal::Memory),
+            },
+            Ok(None) => return Ok(IdList::from_vec(members)),
+            Err(refusal) => return Err(refusal),
+        }
+    }
+}
