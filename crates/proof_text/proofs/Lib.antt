@@ -1,3 +1,4 @@
 mod Digits
 pub mod Taken
 pub mod TakingLaws
+pub mod StepLaws

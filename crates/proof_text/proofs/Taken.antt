@@ -1,10 +1,11 @@
 -- One word that was taken.
-use Rattle.std.proofs.Common.{◌≡◌, ◌≢◌, refl, sym, ap, ◌∙◌, subst, ℕ, zero, suc, ◌≤◌, ◌<◌, ℤ, pos, negsuc, nat_abs, Bool, true, false, cond, nat_le, leb-true, List, [], ◌∷◌, ◌++◌, drop, append-nil, Option, Some, None, to_z, of_z, w64, arith, rules}
+use Rattle.std.proofs.Common.{◌≡◌, ◌≢◌, refl, sym, ap, ◌∙◌, subst, ℕ, zero, suc, ◌≤◌, ◌<◌, ℤ, pos, negsuc, nat_abs, Bool, true, false, cond, nat_le, leb-true, List, [], ◌∷◌, ◌++◌, drop, flat_map, append-nil, Option, Some, None, to_z, of_z, w64, arith, rules}
+use Rattle.std.specs.List.{AllByRecursion}
 use Rattle.std.proofs.lemmas.Int.{to_z-of_z}
 use mir.Val.{SFits}
 use Rattle.cx_semantics.specs.Tokens.{Token}
 use Rattle.cx_semantics.specs.Words.{Word, number, letter, conflict, other, Placed, words, placed_words, word_of, IsWithin}
-use Rattle.cx_semantics.specs.Grammar.{Field, id, integer, end, spelled, IsProper, AreWithin}
+use Rattle.cx_semantics.specs.Grammar.{Field, id, integer, end, integers, spelled, spelled_list, IsProper, AreWithin}
 use Rattle.cx_semantics.specs.ProofText.{proof_steps}
 use Rattle.proof_text.specs.declared.ahead.SeenWord.{SeenWord}
 use Rattle.proof_text.specs.declared.token_word.TokenWord.{TokenWord}
@@ -110,3 +111,20 @@ within_one z (p ∷ front) e h = let k : p.word ≡ number z = cc in subst (IsWi
 -- an integer of a text is written and read back
 pub kept_integer : (z : ℤ) (a b : List Placed) → Takes (integer z ∷ []) a b → Takes (integer (to_z w64 (of_z w64 z)) ∷ []) a b
 kept_integer z a b t = subst (λ y. Takes (integer y ∷ []) a b) (sym (read_back z z refl (within_one z t.front t.spells t.within))) t
+
+within_words : (placed : List Placed) (ws : List Word) → ws ≡ words placed → AreWithin proof_steps placed → AllByRecursion (IsWithin limit) ws
+within_words [] [] e h = tt
+within_words [] (w ∷ ws) e h = cc
+within_words (p ∷ placed) [] e h = cc
+within_words (p ∷ placed) (w ∷ ws) e h = let k : p.word ≡ w = cc in let m : ws ≡ words placed = cc in (subst (IsWithin limit) k h.0, within_words placed ws m h.1)
+
+all_behind : (us ws : List Word) → AllByRecursion (IsWithin limit) (us ++ ws) → AllByRecursion (IsWithin limit) ws
+all_behind [] ws h = h
+all_behind (u ∷ us) ws h = all_behind us ws h.1
+
+-- so is the hint of a clause that a parity implies
+pub kept_hint : (n : ℕ) (lits : List ℤ) (z : ℤ) (a b : List Placed) → Takes (id n ∷ integers lits ∷ integer z ∷ end ∷ []) a b → Takes (id n ∷ integers lits ∷ integer (to_z w64 (of_z w64 z)) ∷ end ∷ []) a b
+kept_hint n lits z a b t =
+    let all = within_words t.front (flat_map spelled (id n ∷ integers lits ∷ integer z ∷ end ∷ [])) t.spells t.within in
+    let small = (all_behind (spelled_list lits) (number z ∷ number (pos 0) ∷ []) all.1).0 in
+    subst (λ y. Takes (id n ∷ integers lits ∷ integer y ∷ end ∷ []) a b) (sym (read_back z z refl small)) t

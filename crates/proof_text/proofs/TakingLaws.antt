@@ -4,7 +4,7 @@ use Rattle.std.specs.List.{AllByRecursion}
 use Rattle.std.proofs.lemmas.List.{map-append}
 use Rattle.std.proofs.lemmas.Grind.{flat_map-append}
 use Rattle.cx_semantics.specs.Words.{Word, number, letter, conflict, other, Placed, words, IsWithin}
-use Rattle.cx_semantics.specs.Grammar.{Field, mark, id, integer, end, ids, integers, spelled, spelled_list, IsProper, AreWithin}
+use Rattle.cx_semantics.specs.Grammar.{Field, mark, conflict_line, id, integer, end, ids, integers, spelled, spelled_list, IsProper, AreWithin}
 use Rattle.cx_semantics.specs.ProofText.{proof_steps}
 use Rattle.cx_semantics.proofs.Shapes.{Kind, a_mark, an_id, an_integer, an_end, some_ids, some_integers, kind, Move, closes, stays, refuses, move}
 use Rattle.cx_semantics.proofs.Remaining.{behind, after_word, remaining}
@@ -133,7 +133,7 @@ abbrev pub Refuses : Word → List Kind → Type 0
 Refuses w [] = Unit {0}
 Refuses w (k ∷ ks) = move k w ≡ refuses
 
-none_after : (w : Word) (rows : List (List Kind)) → AllByRecursion (Refuses w) rows → flat_map (after_word w) rows ≡ []
+pub none_after : (w : Word) (rows : List (List Kind)) → AllByRecursion (Refuses w) rows → flat_map (after_word w) rows ≡ []
 none_after w [] h = refl
 none_after w ([] ∷ rows) h = none_after w rows h.1
 none_after w ((k ∷ ks) ∷ rows) h = ap (λ m. behind k ks m ++ flat_map (after_word w) rows) h.0 ∙ none_after w rows h.1
@@ -194,3 +194,30 @@ ids_refused ns size r a b t h ks = refused_then (map id ns) ((some_ids ∷ ks) �
 
 pub integers_refused : (zs : List ℤ) (size : ℕ) (r : TextRefusal) (a b : List Placed) → Takes (map integer zs) a b → HeadFails some_integers size r b → (ks : List Kind) → RefusedIn ((some_integers ∷ ks) ∷ []) size r a
 integers_refused zs size r a b t h ks = refused_then (map integer zs) ((some_integers ∷ ks) ∷ []) ((some_integers ∷ ks) ∷ []) size r a b t (integers_stay zs ks t.proper) (one_refused some_integers ks size r b h)
+
+-- ---- fields in a row
+
+passed : (f : Field) (ks : List Kind) (ws : List Word) → IsProper f → remaining ((kind f ∷ ks) ∷ []) (spelled f ++ ws) ≡ remaining (ks ∷ []) ws
+passed (mark c) ks ws h = ap (λ b. remaining (behind (a_mark c) ks (Rattle.std.proofs.Common.cond b (closes (mark c)) refuses) ++ []) ws) (Rattle.std.proofs.Common.eq-eqb c c refl)
+passed (conflict_line k) ks ws h = refl
+passed (id zero) ks ws h = let k : 0 < 0 = h in absurd (omega arith)
+passed (id (suc n)) ks ws h = refl
+passed (integer (pos zero)) ks ws h = absurd (h refl)
+passed (integer (pos (suc n))) ks ws h = refl
+passed (integer (negsuc n)) ks ws h = refl
+passed end ks ws h = refl
+passed (ids []) ks ws h = refl
+passed (ids (zero ∷ ns)) ks ws h = let k : 0 < 0 = h.0 in absurd (omega arith)
+passed (ids (suc n ∷ ns)) ks ws h = passed (ids ns) ks ws h.1
+passed (integers []) ks ws h = refl
+passed (integers (pos zero ∷ zs)) ks ws h = absurd (h.0 refl)
+passed (integers (pos (suc n) ∷ zs)) ks ws h = passed (integers zs) ks ws h.1
+passed (integers (negsuc n ∷ zs)) ks ws h = passed (integers zs) ks ws h.1
+
+all_passed : (fs : List Field) (ks : List Kind) → AllByRecursion IsProper fs → remaining ((map kind fs ++ ks) ∷ []) (flat_map spelled fs) ≡ ks ∷ []
+all_passed [] ks h = refl
+all_passed (f ∷ fs) ks h = passed f (map kind fs ++ ks) (flat_map spelled fs) h.0 ∙ all_passed fs ks h.1
+
+-- behind fields that were taken, what is refused there is refused
+pub refused_after : (fs : List Field) (ks : List Kind) (size : ℕ) (r : TextRefusal) (a b : List Placed) → Takes fs a b → RefusedIn (ks ∷ []) size r b → RefusedIn ((map kind fs ++ ks) ∷ []) size r a
+refused_after fs ks size r a b t h = refused_then fs ((map kind fs ++ ks) ∷ []) (ks ∷ []) size r a b t (all_passed fs ks t.proper) h

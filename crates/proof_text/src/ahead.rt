@@ -1,5 +1,5 @@
 //! A text's tokens with the next one at hand.
-ghost use Rattle.std.specs.Prelude.{◌≡◌, false, drop};
+ghost use Rattle.std.specs.Prelude.{◌≡◌, ◌↔◌, IsTrue, false, [], drop};
 ghost use Rattle.cx_semantics.specs.Tokens.{tokens};
 ghost use Rattle.cx_semantics.specs.Words.{is_digit, placed_words};
 ghost use Rattle.proof_text.specs.Heads.{seen_head, is_head_letter, head_place};
@@ -43,6 +43,13 @@ impl<'a> TokensAhead<'a> {
         let mut reader = TokenReader::new(text);
         let token = reader.next_token();
         TokensAhead { token, reader }
+    }
+
+    /// Whether no token is left.
+    pub fn is_empty(&self) -> bool
+        ensures { IsTrue result ↔ self.now ≡ [] }
+    {
+        self.token.is_none()
     }
 
     /// The next word, or none at the end.

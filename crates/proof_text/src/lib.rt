@@ -5,6 +5,7 @@ mod ahead;
 mod fields;
 mod proof_text;
 mod source;
+mod steps;
 mod token_word;
 
 pub use cx_semantics::{Cause, ProofStep};
