@@ -2,3 +2,4 @@ mod Digits
 pub mod Taken
 pub mod TakingLaws
 pub mod StepLaws
+pub mod ReadingLaws

@@ -12,7 +12,7 @@ use Rattle.cx_semantics.proofs.Grammars.{proof_forms}
 use Rattle.proof_text.specs.declared.source.TextRefusal.{TextRefusal}
 use Rattle.proof_text.specs.declared.source.TextRefusal.TheVariants.{BadToken, Unterminated, TooBig, TooLong, Memory, Failed}
 use Rattle.proof_text.specs.Heads.{is_letter, is_head_letter}
-use Rattle.proof_text.specs.Taking.{Takes, IsFit, HeadFails, HasKind, IsOpen, BadIn, BigIn, RefusedIn, step_rows}
+use Rattle.proof_text.specs.Taking.{Takes, IsFit, HeadFails, IsOpen, BadIn, BigIn, RefusedIn, step_rows}
 use Rattle.proof_text.proofs.TakingLaws.{takes_append, refused_then, Refuses, none_after, head_refused}
 
 -- ---- letters
@@ -58,8 +58,12 @@ same_behind : (row : List Kind) (more : List (List Kind)) (p : Placed) (front : 
     → remaining (row ∷ []) (words (p ∷ front)) ≡ remaining (row ∷ more) (words (p ∷ front))
 same_behind row more p front h = ap (λ rows. remaining (after_word p.word row ++ rows) (words front)) (sym (none_after p.word more h))
 
-bad_beside : (row : List Kind) (more : List (List Kind)) (a : List Placed) (place : ℕ) → AllByRecursion HasKind more → AllRefuse more a → (front : List Placed) (h : BadIn (row ∷ []) a place) → h.front ≡ front → BadIn (row ∷ more) a place
-bad_beside row more a place m others [] h e =
+wider : (row : List Kind) (more : List (List Kind)) → IsOpen (row ∷ []) → IsOpen (row ∷ more)
+wider [] more h = h
+wider (k ∷ ks) more h = tt
+
+bad_beside : (row : List Kind) (more : List (List Kind)) (a : List Placed) (place : ℕ) → AllRefuse more a → (front : List Placed) (h : BadIn (row ∷ []) a place) → h.front ≡ front → BadIn (row ∷ more) a place
+bad_beside row more a place others [] h e =
     let s : a ≡ h.bad ∷ h.rest = h.split ∙ ap (λ x. x ++ h.bad ∷ h.rest) e in
     let u : IsOpen (row ∷ []) = subst (λ x. IsOpen (remaining (row ∷ []) (words x))) e h.unfinished in
     let f : after_word h.bad.word row ++ [] ≡ [] = ap (λ x. flat_map (after_word h.bad.word) (remaining (row ∷ []) (words x))) (sym e) ∙ h.fits_not in
@@ -69,11 +73,11 @@ bad_beside row more a place m others [] h e =
       rest = h.rest;
       split = s;
       at = h.at;
-      unfinished = (u.0, m);
+      unfinished = wider row more u;
       within = tt;
       fits_not = ap (λ rows. after_word h.bad.word row ++ rows) (none_after h.bad.word more (others h.bad h.rest s)) ∙ f;
     }
-bad_beside row more a place m others (p ∷ front) h e =
+bad_beside row more a place others (p ∷ front) h e =
     let r = same_behind row more p front (others p (front ++ h.bad ∷ h.rest) (h.split ∙ ap (λ x. x ++ h.bad ∷ h.rest) e)) in
     let k : remaining (row ∷ []) (words h.front) ≡ remaining (row ∷ more) (words h.front) = ap (λ x. remaining (row ∷ []) (words x)) e ∙ r ∙ ap (λ x. remaining (row ∷ more) (words x)) (sym e) in
     record {
@@ -115,17 +119,17 @@ big_beside row more a place others (p ∷ front) h e =
       above = h.above;
     }
 
-open_beside : (row : List Kind) (more : List (List Kind)) (a : List Placed) → AllByRecursion HasKind more → AllRefuse more a → IsOpen (remaining (row ∷ []) (words a)) → IsOpen (remaining (row ∷ more) (words a))
-open_beside row more [] m others h = (h.0, m)
-open_beside row more (p ∷ a) m others h = subst IsOpen (same_behind row more p a (others p a refl)) h
+open_beside : (row : List Kind) (more : List (List Kind)) (a : List Placed) → AllRefuse more a → IsOpen (remaining (row ∷ []) (words a)) → IsOpen (remaining (row ∷ more) (words a))
+open_beside row more [] others h = wider row more h
+open_beside row more (p ∷ a) others h = subst IsOpen (same_behind row more p a (others p a refl)) h
 
-pub refused_beside : (row : List Kind) (more : List (List Kind)) (size : ℕ) (r : TextRefusal) (a : List Placed) → AllByRecursion HasKind more → AllRefuse more a → RefusedIn (row ∷ []) size r a → RefusedIn (row ∷ more) size r a
-refused_beside row more size (BadToken place) a m others h = bad_beside row more a place m others h.front h refl
-refused_beside row more size (TooBig place) a m others h = big_beside row more a place others h.front h refl
-refused_beside row more size (Unterminated place) a m others h = (h.0, open_beside row more a m others h.1, h.2)
-refused_beside row more size TooLong a m others h = absurd h
-refused_beside row more size Memory a m others h = tt
-refused_beside row more size Failed a m others h = absurd h
+pub refused_beside : (row : List Kind) (more : List (List Kind)) (size : ℕ) (r : TextRefusal) (a : List Placed) → AllRefuse more a → RefusedIn (row ∷ []) size r a → RefusedIn (row ∷ more) size r a
+refused_beside row more size (BadToken place) a others h = bad_beside row more a place others h.front h refl
+refused_beside row more size (TooBig place) a others h = big_beside row more a place others h.front h refl
+refused_beside row more size (Unterminated place) a others h = (h.0, open_beside row more a others h.1, h.2)
+refused_beside row more size TooLong a others h = absurd h
+refused_beside row more size Memory a others h = tt
+refused_beside row more size Failed a others h = absurd h
 
 -- ---- the six steps
 
@@ -165,13 +169,13 @@ after_i_x = refl
 -- neither x nor i, and no id
 pub no_start : (size : ℕ) (r : TextRefusal) (a : List Placed) → is_head_letter 120 a ≡ false → is_head_letter 105 a ≡ false → HeadFails an_id size r a → RefusedIn step_rows size r a
 unfolding proof_forms
-no_start size r a x i h = head_refused an_id lists _ size r a (tt, (tt, (tt, (tt, (tt, tt)))))
+no_start size r a x i h = head_refused an_id lists _ size r a
     (λ p rest e no_id. let no_x = head_refuses 120 a x p rest e in let no_i = head_refuses 105 a i p rest e in (no_id, (no_x, (no_x, (no_i, (no_i, tt)))))) h
 
 pub clause_lists_refused : (n size : ℕ) (r : TextRefusal) (a b : List Placed) → Takes (id n ∷ []) a b → is_head_letter 100 b ≡ false → RefusedIn (lists ∷ []) size r b → RefusedIn step_rows size r a
 clause_lists_refused n size r a b t no_d h =
     refused_then (id n ∷ []) step_rows _ size r a b t (after_id n t.proper.0)
-    (refused_beside lists ((a_mark 100 ∷ some_ids ∷ []) ∷ []) size r b (tt, tt) (λ p rest e. (head_refuses 100 b no_d p rest e, tt)) h)
+    (refused_beside lists ((a_mark 100 ∷ some_ids ∷ []) ∷ []) size r b (λ p rest e. (head_refuses 100 b no_d p rest e, tt)) h)
 
 pub clause_names_refused : (n size : ℕ) (r : TextRefusal) (a b c : List Placed) → Takes (id n ∷ []) a b → Takes (mark 100 ∷ []) b c → RefusedIn ((some_ids ∷ []) ∷ []) size r c → RefusedIn step_rows size r a
 clause_names_refused n size r a b c t d h =
@@ -180,7 +184,7 @@ clause_names_refused n size r a b c t d h =
 pub parity_refused : (size : ℕ) (r : TextRefusal) (a b : List Placed) → Takes (mark 120 ∷ []) a b → is_head_letter 100 b ≡ false → RefusedIn (hinted ∷ []) size r b → RefusedIn step_rows size r a
 parity_refused size r a b t no_d h =
     refused_then (mark 120 ∷ []) step_rows _ size r a b t after_x
-    (refused_beside hinted ((a_mark 100 ∷ some_ids ∷ []) ∷ []) size r b (tt, tt) (λ p rest e. (head_refuses 100 b no_d p rest e, tt)) h)
+    (refused_beside hinted ((a_mark 100 ∷ some_ids ∷ []) ∷ []) size r b (λ p rest e. (head_refuses 100 b no_d p rest e, tt)) h)
 
 pub parity_names_refused : (size : ℕ) (r : TextRefusal) (a b c : List Placed) → Takes (mark 120 ∷ []) a b → Takes (mark 100 ∷ []) b c → RefusedIn ((some_ids ∷ []) ∷ []) size r c → RefusedIn step_rows size r a
 parity_names_refused size r a b c t d h = refused_then (mark 120 ∷ mark 100 ∷ []) step_rows _ size r a c (takes_append (mark 120 ∷ []) (mark 100 ∷ []) a b c t d) after_x_d h
@@ -188,7 +192,7 @@ parity_names_refused size r a b c t d h = refused_then (mark 120 ∷ mark 100 �
 pub implied_clause_refused : (size : ℕ) (r : TextRefusal) (a b : List Placed) → Takes (mark 105 ∷ []) a b → is_head_letter 120 b ≡ false → RefusedIn (implied ∷ []) size r b → RefusedIn step_rows size r a
 implied_clause_refused size r a b t no_x h =
     refused_then (mark 105 ∷ []) step_rows _ size r a b t after_i
-    (refused_beside implied ((a_mark 120 ∷ hinted) ∷ []) size r b (tt, tt) (λ p rest e. (head_refuses 120 b no_x p rest e, tt)) h)
+    (refused_beside implied ((a_mark 120 ∷ hinted) ∷ []) size r b (λ p rest e. (head_refuses 120 b no_x p rest e, tt)) h)
 
 pub implied_parity_refused : (size : ℕ) (r : TextRefusal) (a b c : List Placed) → Takes (mark 105 ∷ []) a b → Takes (mark 120 ∷ []) b c → RefusedIn (hinted ∷ []) size r c → RefusedIn step_rows size r a
 implied_parity_refused size r a b c t d h = refused_then (mark 105 ∷ mark 120 ∷ []) step_rows _ size r a c (takes_append (mark 105 ∷ []) (mark 120 ∷ []) a b c t d) after_i_x h

@@ -10,7 +10,7 @@ use Rattle.cx_semantics.proofs.Shapes.{Kind, a_mark, an_id, an_integer, an_end, 
 use Rattle.cx_semantics.proofs.Remaining.{behind, after_word, remaining}
 use Rattle.proof_text.specs.declared.source.TextRefusal.{TextRefusal}
 use Rattle.proof_text.specs.declared.source.TextRefusal.TheVariants.{BadToken, Unterminated, TooBig, TooLong, Memory, Failed}
-use Rattle.proof_text.specs.Taking.{Takes, IsFit, HeadFails, HasKind, IsOpen, BadIn, BigIn, RefusedIn}
+use Rattle.proof_text.specs.Taking.{Takes, IsFit, HeadFails, IsOpen, BadIn, BigIn, RefusedIn}
 
 all_append : {X : Type 0} (P : X → Type 0) (xs ys : List X) → AllByRecursion P xs → AllByRecursion P ys → AllByRecursion P (xs ++ ys)
 all_append P [] ys h k = k
@@ -138,7 +138,7 @@ none_after w [] h = refl
 none_after w ([] ∷ rows) h = none_after w rows h.1
 none_after w ((k ∷ ks) ∷ rows) h = ap (λ m. behind k ks m ++ flat_map (after_word w) rows) h.0 ∙ none_after w rows h.1
 
-some_behind : (k : Kind) (ks : List Kind) (m : Move) (more : List (List Kind)) → IsFit m → (row : List Kind) × (rows : List (List Kind)) × (behind k ks m ++ more ≡ row ∷ rows)
+pub some_behind : (k : Kind) (ks : List Kind) (m : Move) (more : List (List Kind)) → IsFit m → (row : List Kind) × (rows : List (List Kind)) × (behind k ks m ++ more ≡ row ∷ rows)
 some_behind k ks (closes f) more h = (ks, more, refl)
 some_behind k ks (stays z) more h = (k ∷ ks, more, refl)
 some_behind k ks refuses more h = absurd h
@@ -147,18 +147,18 @@ some_behind k ks refuses more h = absurd h
 abbrev pub Others : Kind → List (List Kind) → List Placed → Type 0
 Others k more a = (p : Placed) (rest : List Placed) → a ≡ p ∷ rest → move k p.word ≡ refuses → AllByRecursion (Refuses p.word) more
 
-pub head_refused : (k : Kind) (ks : List Kind) (more : List (List Kind)) (size : ℕ) (r : TextRefusal) (a : List Placed) → AllByRecursion HasKind more → Others k more a → HeadFails k size r a → RefusedIn ((k ∷ ks) ∷ more) size r a
-head_refused k ks more size (BadToken place) a m others (p, rest, split, at, bad) = record {
+pub head_refused : (k : Kind) (ks : List Kind) (more : List (List Kind)) (size : ℕ) (r : TextRefusal) (a : List Placed) → Others k more a → HeadFails k size r a → RefusedIn ((k ∷ ks) ∷ more) size r a
+head_refused k ks more size (BadToken place) a others (p, rest, split, at, bad) = record {
   front = [];
   bad = p;
   rest = rest;
   split = split;
   at = at;
-  unfinished = (tt, m);
+  unfinished = tt;
   within = tt;
   fits_not = none_after p.word ((k ∷ ks) ∷ more) (bad, others p rest split bad);
 }
-head_refused k ks more size (TooBig place) a m others (p, rest, split, at, fits, above) = record {
+head_refused k ks more size (TooBig place) a others (p, rest, split, at, fits, above) = record {
   front = [];
   big = p;
   rest = rest;
@@ -168,13 +168,13 @@ head_refused k ks more size (TooBig place) a m others (p, rest, split, at, fits,
   fits = some_behind k ks (move k p.word) (flat_map (after_word p.word) more) fits;
   above = above;
 }
-head_refused k ks more size (Unterminated place) a m others h = (h.1, subst (λ x. IsOpen (remaining ((k ∷ ks) ∷ more) (words x))) (sym h.0) (tt, m), subst (AreWithin proof_steps) (sym h.0) tt)
-head_refused k ks more size TooLong a m others h = absurd h
-head_refused k ks more size Memory a m others h = absurd h
-head_refused k ks more size Failed a m others h = absurd h
+head_refused k ks more size (Unterminated place) a others h = (h.1, subst (λ x. IsOpen (remaining ((k ∷ ks) ∷ more) (words x))) (sym h.0) tt, subst (AreWithin proof_steps) (sym h.0) tt)
+head_refused k ks more size TooLong a others h = absurd h
+head_refused k ks more size Memory a others h = absurd h
+head_refused k ks more size Failed a others h = absurd h
 
 pub one_refused : (k : Kind) (ks : List Kind) (size : ℕ) (r : TextRefusal) (a : List Placed) → HeadFails k size r a → RefusedIn ((k ∷ ks) ∷ []) size r a
-one_refused k ks size r a h = head_refused k ks [] size r a tt (λ p rest e b. tt) h
+one_refused k ks size r a h = head_refused k ks [] size r a (λ p rest e b. tt) h
 
 -- ---- lists
 

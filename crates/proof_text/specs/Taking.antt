@@ -34,14 +34,11 @@ HeadFails k size TooLong placed = ⊥
 HeadFails k size Memory placed = ⊥
 HeadFails k size Failed placed = ⊥
 
--- something may follow, and in each case something must
-abbrev pub HasKind : List Kind → Type 0
-HasKind [] = ⊥
-HasKind (k ∷ ks) = ⊤
-
+-- some kind of field may follow
 abbrev pub IsOpen : List (List Kind) → Type 0
 IsOpen [] = ⊥
-IsOpen (row ∷ rows) = AllByRecursion HasKind (row ∷ rows)
+IsOpen ([] ∷ rows) = ⊥
+IsOpen ((k ∷ ks) ∷ rows) = ⊤
 
 -- Before the words the lists of kinds `rows` may follow.
 module _ (rows : List (List Kind)) where
