@@ -3,3 +3,4 @@ pub mod Taken
 pub mod TakingLaws
 pub mod StepLaws
 pub mod ReadingLaws
+pub mod Places
