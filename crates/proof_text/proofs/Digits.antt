@@ -24,7 +24,7 @@ pub one_more_digit : (digits : List ℕ) (i result value : ℕ) → i < length d
 one_more_digit digits i result value inside low high more h =
     let c = get_or digits i 0 in
     let is : digits_value 10 (take (i + 1) digits) ≡ digits_value 10 (take i digits) * 10 + (c - 48) =
-        digits_value_more 10 digits i inside ∙ ap (λ d. digits_value 10 (take i digits) * 10 + d) (value_between c low high) in (
+    digits_value_more 10 digits i inside ∙ ap (λ d. digits_value 10 (take i digits) * 10 + d) (value_between c low high) in (
       list_all_more is_digit digits i 0 inside ∙ and_both _ _ h.0 (digit_between c low high),
       subst (Stands result) (sym is) (more _ h.1),
     )

@@ -4,3 +4,4 @@ pub mod TakingLaws
 pub mod StepLaws
 pub mod ReadingLaws
 pub mod Places
+pub mod Puts

@@ -3,6 +3,7 @@ pub mod Ahead
 pub mod Heads
 pub mod Taking
 pub mod Reading
+pub mod Spaced
 pub mod Sources
 pub mod Texts
 pub mod Left

@@ -67,10 +67,7 @@ pub fn take_end(tokens: &mut TokensAhead, size: usize) -> Result<(), TextRefusal
 }
 
 /// A member of a list of integers, or none at the zero that ends it.
-fn take_listed_integer(
-    tokens: &mut TokensAhead,
-    size: usize,
-) -> Result<Option<i64>, TextRefusal>
+fn take_listed_integer(tokens: &mut TokensAhead, size: usize) -> Result<Option<i64>, TextRefusal>
     ensures taken { TakesMember integer some_integers size (placed_words tokens.old) result (placed_words tokens.new) }
     ensures falls { IfOk result (λ _. length tokens.new < length tokens.old) }
 {
@@ -140,11 +137,7 @@ pub fn take_integers(
 }
 
 /// Ids up to a zero.
-pub fn take_ids(
-    alloc: Global,
-    tokens: &mut TokensAhead,
-    size: usize,
-) -> Result<IdList, TextRefusal>
+pub fn take_ids(alloc: Global, tokens: &mut TokensAhead, size: usize) -> Result<IdList, TextRefusal>
     ensures { TakesAll (λ ns. ids ns ∷ []) (some_ids ∷ []) size (placed_words tokens.old) result (placed_words tokens.new) }
 {
     let mut members = Vec::new(alloc);

@@ -3,11 +3,13 @@
 
 mod ahead;
 mod fields;
+mod print;
 mod proof_text;
 mod source;
 mod steps;
 mod token_word;
 
 pub use cx_semantics::{Cause, ProofStep};
+pub use print::put_proof_step;
 pub use proof_text::ProofText;
 pub use source::{StepSource, TextRefusal};

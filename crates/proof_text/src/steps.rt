@@ -37,11 +37,7 @@ struct Lists {
     hints: IntList,
 }
 
-fn take_lists(
-    alloc: Global,
-    tokens: &mut TokensAhead,
-    size: usize,
-) -> Result<Lists, TextRefusal>
+fn take_lists(alloc: Global, tokens: &mut TokensAhead, size: usize) -> Result<Lists, TextRefusal>
     ensures { TakesAll (λ l. integers l.literals ∷ integers l.hints ∷ []) (some_integers ∷ some_integers ∷ []) size (placed_words tokens.old) result (placed_words tokens.new) }
 {
     let literals = take_integers(alloc, tokens, size)?;
@@ -49,11 +45,7 @@ fn take_lists(
     Ok(Lists { literals, hints })
 }
 
-fn take_hinted(
-    alloc: Global,
-    tokens: &mut TokensAhead,
-    size: usize,
-) -> Result<Hinted, TextRefusal>
+fn take_hinted(alloc: Global, tokens: &mut TokensAhead, size: usize) -> Result<Hinted, TextRefusal>
     ensures { TakesAll (λ h. id h.id ∷ integers h.literals ∷ integers h.hints ∷ []) (an_id ∷ some_integers ∷ some_integers ∷ []) size (placed_words tokens.old) result (placed_words tokens.new) }
 {
     let id = take_id(tokens, size)?;
@@ -133,26 +125,14 @@ fn take_implied_step(
     if tokens.is_letter(b'x') {
         tokens.pass();
         let parity = take_hinted(alloc, tokens, size)?;
-        Ok(ProofStep::ParityOfClauses(
-            parity.id,
-            parity.literals,
-            parity.hints,
-        ))
+        Ok(ProofStep::ParityOfClauses(parity.id, parity.literals, parity.hints))
     } else {
         let clause = take_implied(alloc, tokens, size)?;
-        Ok(ProofStep::ClauseOfParity(
-            clause.id,
-            clause.literals,
-            clause.hint,
-        ))
+        Ok(ProofStep::ClauseOfParity(clause.id, clause.literals, clause.hint))
     }
 }
 
-fn take_step(
-    alloc: Global,
-    tokens: &mut TokensAhead,
-    size: usize,
-) -> Result<ProofStep, TextRefusal>
+fn take_step(alloc: Global, tokens: &mut TokensAhead, size: usize) -> Result<ProofStep, TextRefusal>
     ensures { TakesStep size (placed_words tokens.old) result (placed_words tokens.new) }
 {
     if tokens.is_letter(b'x') {
