@@ -5,3 +5,4 @@ pub mod StepLaws
 pub mod ReadingLaws
 pub mod Places
 pub mod Puts
+pub mod Given

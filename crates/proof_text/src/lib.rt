@@ -13,3 +13,6 @@ pub use cx_semantics::{Cause, ProofStep};
 pub use print::put_proof_step;
 pub use proof_text::ProofText;
 pub use source::{StepSource, TextRefusal};
+
+#[cfg(test)]
+mod tests;
