@@ -1,8 +1,8 @@
 -- A step that a text gives has a text.
-use Rattle.std.proofs.Common.{◌≡◌, sym, subst, List, [], ◌∷◌, map, Option, Some, None, Ok, cond}
+use Rattle.std.proofs.Common.{sym, subst, List, [], ◌∷◌, Option, Some, None, Ok}
 use Rattle.std.specs.List.{AllByRecursion}
 use Rattle.cx_semantics.specs.declared.steps.ProofStep.{ProofStep}
-use Rattle.cx_semantics.specs.Words.{Word, Placed, words, IsWithin}
+use Rattle.cx_semantics.specs.Words.{Placed, words, IsWithin}
 use Rattle.cx_semantics.specs.Grammar.{AreWithin, Spells, Ending}
 use Rattle.cx_semantics.specs.ProofText.{proof_steps}
 use Rattle.cx_semantics.specs.Printed.{HasProofText}

@@ -1,12 +1,12 @@
 -- The places of a text's tokens rise and stay below its length.
-use Rattle.std.proofs.Common.{◌≡◌, refl, sym, ap, ◌∙◌, subst, ℕ, ◌+◌, ◌<◌, ◌≤◌, Bool, true, false, cond, not, List, [], ◌∷◌, ◌++◌, map, length, filter, flat_map, filter_map, ◌==◌, Option, None, arith}
+use Rattle.std.proofs.Common.{◌≡◌, refl, sym, ap, ◌∙◌, subst, ℕ, ◌+◌, ◌<◌, ◌≤◌, Bool, true, false, cond, not, List, [], ◌∷◌, ◌++◌, length, filter, flat_map, filter_map, ◌==◌, Option, None, arith}
 use Rattle.std.specs.List.{slice_split, onto_first, enumerate_from}
 use Rattle.std.proofs.lemmas.List.{map-append}
 use Rattle.cx_semantics.specs.declared.steps.ProofStep.{ProofStep}
 use Rattle.cx_semantics.specs.declared.steps.ProofStep.TheVariants as proof
 use Rattle.cx_semantics.specs.Tokens.{Token, is_blank, is_comment, lines_from, token_of, tokens_of_line, tokens}
 use Rattle.cx_semantics.specs.Words.{Placed, words, placed_words}
-use Rattle.cx_semantics.specs.Grammar.{IsStep, spelling, Spells}
+use Rattle.cx_semantics.specs.Grammar.{spelling, Spells}
 use Rattle.cx_semantics.specs.ProofText.{proof_steps}
 use Rattle.proof_text.specs.Heads.{head_place}
 use Rattle.proof_text.specs.Texts.{RisesTo, IsInOrder}

@@ -8,7 +8,7 @@ use Rattle.cx_desk.specs.Calls.{gained, PutFaulted, PutsAll}
 use Rattle.cx_desk.proofs.Moves.{gained-twice, gained-none, fails-within}
 use Rattle.cx_semantics.specs.Words.{Word, number, letter}
 use Rattle.cx_semantics.specs.Grammar.{spelled_list}
-use Rattle.cx_semantics.specs.Printed.{printed_word, printed_line, printed_integer}
+use Rattle.cx_semantics.specs.Printed.{printed_word, printed_line}
 use Rattle.proof_text.specs.Spaced.{spaced, spaced_integer, spaced_id}
 
 -- a front that is not all was written before a fault

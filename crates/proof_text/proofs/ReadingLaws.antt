@@ -1,5 +1,5 @@
 -- What was taken is a step of the grammar, and what was refused is its first offence.
-use Rattle.std.proofs.Common.{◌≡◌, ◌≢◌, refl, sym, ap, ◌∙◌, subst, ℕ, suc, pos, Bool, true, cond, eqb, eq-eqb, List, [], ◌∷◌, ◌++◌, flat_map}
+use Rattle.std.proofs.Common.{◌≡◌, ◌≢◌, refl, sym, ap, ◌∙◌, subst, ℕ, pos, Bool, true, cond, eqb, eq-eqb, List, [], ◌∷◌, ◌++◌, flat_map}
 use Rattle.cx_semantics.specs.declared.steps.ProofStep.{ProofStep}
 use Rattle.cx_semantics.specs.Words.{Word, number, letter, conflict, Placed, words}
 use Rattle.cx_semantics.specs.Grammar.{mark, IsStep, Begins, IsUnfinished, Stops, Spells}

@@ -1,18 +1,18 @@
 -- The steps of a proof from their parts.
-use Rattle.std.proofs.Common.{◌≡◌, ◌≢◌, refl, sym, ap, ◌∙◌, subst, ℕ, zero, suc, ◌<◌, pos, Bool, true, false, cond, eqb, eqb-true, eq-eqb, ◌==◌, true≢false, List, [], ◌∷◌, ◌++◌, flat_map, drop, arith}
+use Rattle.std.proofs.Common.{◌≡◌, refl, sym, ap, ◌∙◌, subst, ℕ, ◌<◌, pos, Bool, true, false, cond, eqb, eqb-true, eq-eqb, ◌==◌, true≢false, List, [], ◌∷◌, ◌++◌, flat_map, drop}
 use Rattle.std.specs.List.{AllByRecursion}
 use Rattle.cx_semantics.specs.Tokens.{Token}
 use Rattle.cx_semantics.specs.Words.{Word, number, letter, conflict, other, Placed, words, placed_words, word_of, IsWithin}
-use Rattle.cx_semantics.specs.Grammar.{Field, mark, id, integer, end, ids, integers, spelled, AreWithin}
+use Rattle.cx_semantics.specs.Grammar.{mark, id}
 use Rattle.cx_semantics.specs.ProofText.{proof_steps}
-use Rattle.cx_semantics.proofs.Shapes.{Kind, a_mark, an_id, an_integer, an_end, some_ids, some_integers, Move, closes, stays, refuses, move}
+use Rattle.cx_semantics.proofs.Shapes.{Kind, a_mark, an_id, an_integer, an_end, some_ids, some_integers, closes, refuses, move}
 use Rattle.cx_semantics.proofs.Remaining.{after_word, remaining}
 use Rattle.cx_semantics.proofs.EventSteps.{positive}
 use Rattle.cx_semantics.proofs.Grammars.{proof_forms}
 use Rattle.proof_text.specs.declared.source.TextRefusal.{TextRefusal}
 use Rattle.proof_text.specs.declared.source.TextRefusal.TheVariants.{BadToken, Unterminated, TooBig, TooLong, Memory, Failed}
 use Rattle.proof_text.specs.Heads.{is_letter, is_head_letter}
-use Rattle.proof_text.specs.Taking.{Takes, IsFit, HeadFails, IsOpen, BadIn, BigIn, RefusedIn, step_rows}
+use Rattle.proof_text.specs.Taking.{Takes, HeadFails, IsOpen, BadIn, BigIn, RefusedIn, step_rows}
 use Rattle.proof_text.proofs.TakingLaws.{takes_append, refused_then, Refuses, none_after, head_refused}
 
 -- ---- letters

@@ -1,5 +1,5 @@
 -- One word that was taken.
-use Rattle.std.proofs.Common.{◌≡◌, ◌≢◌, refl, sym, ap, ◌∙◌, subst, ℕ, zero, suc, ◌≤◌, ◌<◌, ℤ, pos, negsuc, nat_abs, Bool, true, false, cond, nat_le, leb-true, List, [], ◌∷◌, ◌++◌, drop, flat_map, append-nil, Option, Some, None, to_z, of_z, w64, arith, rules}
+use Rattle.std.proofs.Common.{◌≡◌, ◌≢◌, refl, sym, ap, ◌∙◌, subst, ℕ, zero, suc, ◌≤◌, ◌<◌, ℤ, pos, negsuc, nat_abs, Bool, true, false, cond, nat_le, leb-true, List, [], ◌∷◌, ◌++◌, drop, flat_map, append-nil, Option, Some, to_z, of_z, w64, arith}
 use Rattle.std.specs.List.{AllByRecursion}
 use Rattle.std.proofs.lemmas.Int.{to_z-of_z}
 use mir.Val.{SFits}
@@ -9,8 +9,8 @@ use Rattle.cx_semantics.specs.Grammar.{Field, id, integer, end, integers, spelle
 use Rattle.cx_semantics.specs.ProofText.{proof_steps}
 use Rattle.proof_text.specs.declared.ahead.SeenWord.{SeenWord}
 use Rattle.proof_text.specs.declared.token_word.TokenWord.{TokenWord}
-use Rattle.proof_text.specs.declared.token_word.TokenWord.TheVariants.{Zero, Positive, Negative, BigPositive, BigNegative, Letter, Other}
-use Rattle.proof_text.specs.Seen.{limit, seen, seen_number}
+use Rattle.proof_text.specs.declared.token_word.TokenWord.TheVariants.{Zero, Positive, Negative, BigPositive, BigNegative}
+use Rattle.proof_text.specs.Seen.{limit, seen}
 use Rattle.proof_text.specs.Heads.{seen_head}
 use Rattle.proof_text.specs.Taking.{Takes}
 

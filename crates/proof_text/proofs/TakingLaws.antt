@@ -3,14 +3,14 @@ use Rattle.std.proofs.Common.{◌≡◌, ◌≢◌, refl, sym, ap, ◌∙◌, su
 use Rattle.std.specs.List.{AllByRecursion}
 use Rattle.std.proofs.lemmas.List.{map-append}
 use Rattle.std.proofs.lemmas.Grind.{flat_map-append}
-use Rattle.cx_semantics.specs.Words.{Word, number, letter, conflict, other, Placed, words, IsWithin}
+use Rattle.cx_semantics.specs.Words.{Word, number, Placed, words}
 use Rattle.cx_semantics.specs.Grammar.{Field, mark, conflict_line, id, integer, end, ids, integers, spelled, spelled_list, IsProper, AreWithin}
 use Rattle.cx_semantics.specs.ProofText.{proof_steps}
-use Rattle.cx_semantics.proofs.Shapes.{Kind, a_mark, an_id, an_integer, an_end, some_ids, some_integers, kind, Move, closes, stays, refuses, move}
+use Rattle.cx_semantics.proofs.Shapes.{Kind, a_mark, some_ids, some_integers, kind, Move, closes, stays, refuses, move}
 use Rattle.cx_semantics.proofs.Remaining.{behind, after_word, remaining}
 use Rattle.proof_text.specs.declared.source.TextRefusal.{TextRefusal}
 use Rattle.proof_text.specs.declared.source.TextRefusal.TheVariants.{BadToken, Unterminated, TooBig, TooLong, Memory, Failed}
-use Rattle.proof_text.specs.Taking.{Takes, IsFit, HeadFails, IsOpen, BadIn, BigIn, RefusedIn}
+use Rattle.proof_text.specs.Taking.{Takes, IsFit, HeadFails, IsOpen, RefusedIn}
 
 all_append : {X : Type 0} (P : X → Type 0) (xs ys : List X) → AllByRecursion P xs → AllByRecursion P ys → AllByRecursion P (xs ++ ys)
 all_append P [] ys h k = k

@@ -60,9 +60,21 @@ fn endings(rt: HostRuntime) -> Result<(), Fail> {
         (b"5 a 0", b"", Some(TextRefusal::BadToken(2))),
         (b"5 2 0 1\n", b"", Some(TextRefusal::Unterminated(8))),
         (b"6 0 0\nx", b"6 0 0\n", Some(TextRefusal::Unterminated(7))),
-        (b"9223372036854775808 0 1 0", b"", Some(TextRefusal::TooBig(0))),
-        (b"5 -9223372036854775808 0", b"", Some(TextRefusal::TooBig(2))),
-        (b"-9223372036854775808 0", b"", Some(TextRefusal::BadToken(0))),
+        (
+            b"9223372036854775808 0 1 0",
+            b"",
+            Some(TextRefusal::TooBig(0)),
+        ),
+        (
+            b"5 -9223372036854775808 0",
+            b"",
+            Some(TextRefusal::TooBig(2)),
+        ),
+        (
+            b"-9223372036854775808 0",
+            b"",
+            Some(TextRefusal::BadToken(0)),
+        ),
         (b"5 d -9 0", b"", Some(TextRefusal::BadToken(4))),
         (b"i 5 1 0 2 3", b"", Some(TextRefusal::BadToken(10))),
         (b"i 5 1 0 0", b"", Some(TextRefusal::BadToken(8))),
@@ -75,4 +87,20 @@ fn endings(rt: HostRuntime) -> Result<(), Fail> {
         assert_eq!(rt; end, ending);
     }
     Ok(())
+}
+
+#[test]
+fn a_refusal_comes_again(rt: HostRuntime) {
+    let mut source = ProofText::new(rt.alloc(), b"5 a 0");
+    match source.next_step() {
+        Err(TextRefusal::BadToken(place)) => {
+            assert_eq!(rt; place, 2);
+            match source.next_step() {
+                Err(again) => assert_eq!(rt; again, TextRefusal::BadToken(2)),
+                Ok(_) => panic!(rt; "a step"),
+            }
+        }
+        Err(_) => panic!(rt; "another refusal"),
+        Ok(_) => panic!(rt; "a step"),
+    }
 }

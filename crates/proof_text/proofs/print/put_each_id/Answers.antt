@@ -1,5 +1,5 @@
 use Rattle.std.proofs.lemmas.Result.{err_from_is_err_and}
-use Rattle.std.proofs.Common.{ap, subst, get_or, append-nil, ◌∷◌}
+use Rattle.std.proofs.Common.{ap, subst, append-nil, ◌∷◌}
 use Rattle.cx_desk.specs.Outside.{Bytes}
 use Rattle.cx_desk.proofs.Moves.{pieces-fail}
 use Rattle.proof_text.specs.Spaced.{spaced_id}

@@ -1,5 +1,5 @@
 use Rattle.std.proofs.lemmas.Result.{err_from_is_err_and}
-use Rattle.std.proofs.Common.{ℤ, pos, ap, subst, get_or, append-nil, ◌∷◌, ◌∙◌, w64, rules}
+use Rattle.std.proofs.Common.{ℤ, pos, ap, subst, get_or, append-nil, ◌∙◌, w64, rules}
 use Rattle.std.proofs.lemmas.Int.{to_z-of_z}
 use mir.Val.{SFits}
 use Rattle.cx_desk.specs.Outside.{Bytes}

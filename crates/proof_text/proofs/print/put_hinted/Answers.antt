@@ -3,7 +3,7 @@ use Rattle.std.proofs.Common.{subst, decimal, ◌∷◌, ◌++◌, []}
 use Rattle.cx_semantics.specs.Grammar.{spelled_list}
 use Rattle.cx_desk.specs.Outside.{Bytes}
 use Rattle.cx_desk.specs.Calls.{PutsAll}
-use Rattle.proof_text.specs.Spaced.{spaced, spaced_integer}
+use Rattle.proof_text.specs.Spaced.{spaced}
 use Rattle.proof_text.proofs.Puts.{Fails, fails_first, fails_then, puts_then, hinted_line}
 use Rattle.proof_text.proofs.print.put_hinted.Goals as goal
 

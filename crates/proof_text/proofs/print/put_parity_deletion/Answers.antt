@@ -1,5 +1,5 @@
 use Rattle.std.proofs.lemmas.Result.{err_from_is_err_and}
-use Rattle.std.proofs.Common.{subst, map, pos, decimal, ◌∷◌, ◌++◌, []}
+use Rattle.std.proofs.Common.{subst, map, pos, ◌∷◌, ◌++◌, []}
 use Rattle.cx_semantics.specs.Grammar.{spelled_list}
 use Rattle.cx_desk.specs.Outside.{Bytes}
 use Rattle.cx_desk.specs.Calls.{PutsAll}
