@@ -1,3 +1,9 @@
+pub mod Seen
+pub mod Ahead
+pub mod Heads
+pub mod Taking
+pub mod Reading
+pub mod Spaced
 pub mod Sources
 pub mod Texts
 pub mod Left

@@ -1,7 +1,7 @@
 -- What is left of a text of steps.
-use Rattle.std.specs.Prelude.{◌≡◌, ℕ, Bool, true, false, List, [], Option, Some, None}
+use Rattle.std.specs.Prelude.{◌≡◌, ◌≤◌, ◌+◌, ℕ, Bool, ⊤, true, false, List, [], ◌∷◌, Option, Some, None}
 use Rattle.cx_semantics.specs.Tokens.{Token}
-use Rattle.cx_semantics.specs.Words.{placed_words}
+use Rattle.cx_semantics.specs.Words.{Placed, placed_words}
 use Rattle.cx_semantics.specs.Grammar.{Grammar, Ending, bad_token, too_big, unterminated, Reading}
 use Rattle.proof_text.specs.declared.source.TextRefusal.{TextRefusal}
 use Rattle.proof_text.specs.declared.source.TextRefusal.TheVariants.{BadToken, Unterminated, TooBig, TooLong, Memory, Failed}
@@ -39,3 +39,18 @@ is_spent_by (Some (BadToken place)) = false
 is_spent_by (Some (Unterminated place)) = false
 is_spent_by (Some (TooBig place)) = false
 is_spent_by None = false
+
+-- the places rise from this one on and stay below the text's length
+abbrev pub RisesTo : ℕ → ℕ → List Placed → Type 0
+RisesTo size place [] = place ≤ size
+RisesTo size place (p ∷ placed) = (place ≤ p.place) × RisesTo size (p.place + 1) placed
+
+-- as long as nothing was refused, what is left stands behind the place; no text is too long
+abbrev pub IsInOrder : List Token → ℕ → ℕ → Option TextRefusal → Type 0
+IsInOrder tokens size place None = RisesTo size place (placed_words tokens)
+IsInOrder tokens size place (Some (BadToken at)) = ⊤
+IsInOrder tokens size place (Some (Unterminated at)) = ⊤
+IsInOrder tokens size place (Some (TooBig at)) = ⊤
+IsInOrder tokens size place (Some TooLong) = ⊥
+IsInOrder tokens size place (Some Memory) = ⊤
+IsInOrder tokens size place (Some Failed) = ⊤

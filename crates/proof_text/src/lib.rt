@@ -1,9 +1,18 @@
 //! Steps of proofs from their text, and their printed form.
 #![tactic(auto)]
 
+mod ahead;
+mod fields;
+mod print;
 mod proof_text;
 mod source;
+mod steps;
+mod token_word;
 
 pub use cx_semantics::{Cause, ProofStep};
+pub use print::put_proof_step;
 pub use proof_text::ProofText;
 pub use source::{StepSource, TextRefusal};
+
+#[cfg(test)]
+mod tests;

@@ -3,8 +3,10 @@ ghost use Rattle.std.specs.Prelude.{◌≡◌, ◌≤◌, length, None};
 ghost use Rattle.cx_semantics.specs.Tokens.{tokens};
 ghost use Rattle.proof_text.specs.Texts.{TextState};
 
+use crate::ahead::TokensAhead;
 use crate::source::{StepSource, TextRefusal};
-use cx_semantics::{ProofStep, TokenReader};
+use crate::steps::read_step;
+use cx_semantics::ProofStep;
 use std::alloc::Global;
 use std::marker::Model;
 
@@ -12,7 +14,7 @@ use std::marker::Model;
 #[derive(Drop)]
 pub struct ProofText<'a> {
     alloc: Global,
-    reader: TokenReader<'a>,
+    tokens: TokensAhead<'a>,
     size: usize,
     place: usize,
     refused: Option<TextRefusal>,
@@ -20,13 +22,13 @@ pub struct ProofText<'a> {
 
 impl<'a> Model for ProofText<'a> {
     ghost use Rattle.std.specs.Prelude.{◌≤◌};
-    ghost use Rattle.proof_text.specs.Texts.{TextState};
+    ghost use Rattle.proof_text.specs.Texts.{TextState, IsInOrder};
 
     ghost Value = { TextState };
 
-    ghost view = { λ t. record { tokens = t.reader; size = t.size; place = t.place; refused = t.refused } };
+    ghost view = { λ t. record { tokens = t.tokens; size = t.size; place = t.place; refused = t.refused } };
 
-    ghost invariant = { λ t. (t.place ≤ t.size) × (t.size ≤ 4294967295) };
+    ghost invariant = { λ t. IsInOrder t.tokens t.size t.place t.refused × ((t.place ≤ t.size) × (t.size ≤ 4294967295)) };
 }
 
 impl<'a> ProofText<'a> {
@@ -37,7 +39,7 @@ impl<'a> ProofText<'a> {
     {
         ProofText {
             alloc,
-            reader: TokenReader::new(text),
+            tokens: TokensAhead::new(text),
             size: text.len(),
             place: 0,
             refused: None,
@@ -67,8 +69,20 @@ impl<'a> StepSource for ProofText<'a> {
     ghost keeps = { λ a b. b.size ≡ a.size };
 
     fn next_step(&mut self) -> Result<Option<ProofStep>, TextRefusal> {
-        self.refused = Some(TextRefusal::Memory);
-        Err(TextRefusal::Memory)
+        if let Some(refusal) = self.refused {
+            return Err(refusal);
+        }
+        match read_step(self.alloc, &mut self.tokens, self.size) {
+            Ok(Some(step)) => {
+                self.place = self.tokens.place(self.size);
+                Ok(Some(step))
+            }
+            Ok(None) => Ok(None),
+            Err(refusal) => {
+                self.refused = Some(refusal);
+                Err(refusal)
+            }
+        }
     }
 
     fn place(&self) -> u64 {

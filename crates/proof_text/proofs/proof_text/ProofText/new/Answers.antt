@@ -1,8 +1,8 @@
-use Rattle.std.proofs.Common.{ap, length, None}
-use Rattle.cx_semantics.specs.Tokens.{tokens}
-use Rattle.proof_text.specs.Texts.{TextState}
+use Rattle.std.proofs.Common.{sym, subst, length, arith}
+use Rattle.proof_text.specs.Texts.{RisesTo}
+use Rattle.cx_semantics.specs.Words.{placed_words}
+use Rattle.proof_text.proofs.Places.{tokens_rise}
 use Rattle.proof_text.proofs.proof_text.ProofText.new.Goals as goal
 
-pub returns : goal.returns
-unfolding tokens
-returns c = ap {B = TextState} (λ ts. record { tokens = ts; size = length c.args.text.now; place = 0; refused = None }) c.new.ensures
+pub invariant_of-result : goal.invariant_of-result
+invariant_of-result c = (subst (λ ts. RisesTo (length c.args.text.now) 0 (placed_words ts)) (sym c.new.ensures) (tokens_rise c.args.text.now), (omega arith, c.requires))

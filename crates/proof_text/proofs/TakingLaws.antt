@@ -1,0 +1,223 @@
+-- Parts of a step one after another.
+use Rattle.std.proofs.Common.{◌≡◌, ◌≢◌, refl, sym, ap, ◌∙◌, subst, ℕ, zero, suc, ◌<◌, ℤ, pos, negsuc, Bool, true, false, List, [], ◌∷◌, ◌++◌, map, flat_map, append_assoc, append-nil, arith}
+use Rattle.std.specs.List.{AllByRecursion}
+use Rattle.std.proofs.lemmas.List.{map-append}
+use Rattle.std.proofs.lemmas.Grind.{flat_map-append}
+use Rattle.cx_semantics.specs.Words.{Word, number, Placed, words}
+use Rattle.cx_semantics.specs.Grammar.{Field, mark, conflict_line, id, integer, end, ids, integers, spelled, spelled_list, IsProper, AreWithin}
+use Rattle.cx_semantics.specs.ProofText.{proof_steps}
+use Rattle.cx_semantics.proofs.Shapes.{Kind, a_mark, some_ids, some_integers, kind, Move, closes, stays, refuses, move}
+use Rattle.cx_semantics.proofs.Remaining.{behind, after_word, remaining}
+use Rattle.proof_text.specs.declared.source.TextRefusal.{TextRefusal}
+use Rattle.proof_text.specs.declared.source.TextRefusal.TheVariants.{BadToken, Unterminated, TooBig, TooLong, Memory, Failed}
+use Rattle.proof_text.specs.Taking.{Takes, IsFit, HeadFails, IsOpen, RefusedIn}
+
+all_append : {X : Type 0} (P : X → Type 0) (xs ys : List X) → AllByRecursion P xs → AllByRecursion P ys → AllByRecursion P (xs ++ ys)
+all_append P [] ys h k = k
+all_append P (x ∷ xs) ys h k = (h.0, all_append P xs ys h.1 k)
+
+words-append : (a b : List Placed) → words (a ++ b) ≡ words a ++ words b
+words-append a b = map-append _ a b
+
+-- ---- what was taken in a row
+
+pub takes_append : (fs gs : List Field) (a b c : List Placed) → Takes fs a b → Takes gs b c → Takes (fs ++ gs) a c
+takes_append fs gs a b c x y = record {
+  front = x.front ++ y.front;
+  split = x.split ∙ ap (λ r. x.front ++ r) y.split ∙ sym (append_assoc x.front y.front c);
+  proper = all_append IsProper fs gs x.proper y.proper;
+  spells = flat_map-append spelled fs gs ∙ (λ i. x.spells i ++ y.spells i) ∙ sym (words-append x.front y.front);
+  within = all_append _ x.front y.front x.within y.within;
+}
+
+spelled_integers : (zs : List ℤ) → flat_map spelled (map integer zs) ≡ map number zs
+spelled_integers [] = refl
+spelled_integers (z ∷ zs) = ap (λ ws. number z ∷ ws) (spelled_integers zs)
+
+spelled_ids : (ns : List ℕ) → flat_map spelled (map id ns) ≡ map number (map pos ns)
+spelled_ids [] = refl
+spelled_ids (n ∷ ns) = ap (λ ws. number (pos n) ∷ ws) (spelled_ids ns)
+
+proper_integers : (zs : List ℤ) → AllByRecursion IsProper (map integer zs) → AllByRecursion (λ z. z ≢ pos 0) zs
+proper_integers [] h = tt
+proper_integers (z ∷ zs) h = (h.0, proper_integers zs h.1)
+
+proper_ids : (ns : List ℕ) → AllByRecursion IsProper (map id ns) → AllByRecursion (λ n. 0 < n) ns
+proper_ids [] h = tt
+proper_ids (n ∷ ns) h = (h.0, proper_ids ns h.1)
+
+-- a list is its members and the zero
+pub closed_integers : (zs : List ℤ) (a b c : List Placed) → Takes (map integer zs) a b → Takes (end ∷ []) b c → Takes (integers zs ∷ []) a c
+closed_integers zs a b c x y =
+    let t = takes_append (map integer zs) (end ∷ []) a b c x y in
+    record {
+      front = t.front;
+      split = t.split;
+      proper = (proper_integers zs x.proper, tt);
+      spells = append-nil (spelled_list zs) ∙ ap (λ ws. ws ++ number (pos 0) ∷ []) (sym (spelled_integers zs)) ∙ sym (flat_map-append spelled (map integer zs) (end ∷ [])) ∙ t.spells;
+      within = t.within;
+    }
+
+pub closed_ids : (ns : List ℕ) (a b c : List Placed) → Takes (map id ns) a b → Takes (end ∷ []) b c → Takes (ids ns ∷ []) a c
+closed_ids ns a b c x y =
+    let t = takes_append (map id ns) (end ∷ []) a b c x y in
+    record {
+      front = t.front;
+      split = t.split;
+      proper = (proper_ids ns x.proper, tt);
+      spells = append-nil (spelled_list (map pos ns)) ∙ ap (λ ws. ws ++ number (pos 0) ∷ []) (sym (spelled_ids ns)) ∙ sym (flat_map-append spelled (map id ns) (end ∷ [])) ∙ t.spells;
+      within = t.within;
+    }
+
+pub one_integer : (zs : List ℤ) (z : ℤ) (a b c : List Placed) → Takes (map integer zs) a b → Takes (integer z ∷ []) b c → Takes (map integer (zs ++ z ∷ [])) a c
+one_integer zs z a b c x y = subst (λ fs. Takes fs a c) (sym (map-append integer zs (z ∷ []))) (takes_append (map integer zs) (integer z ∷ []) a b c x y)
+
+pub one_id : (ns : List ℕ) (n : ℕ) (a b c : List Placed) → Takes (map id ns) a b → Takes (id n ∷ []) b c → Takes (map id (ns ++ n ∷ [])) a c
+one_id ns n a b c x y = subst (λ fs. Takes fs a c) (sym (map-append id ns (n ∷ []))) (takes_append (map id ns) (id n ∷ []) a b c x y)
+
+pub nothing_taken : (a : List Placed) → Takes [] a a
+nothing_taken a = record { front = []; split = refl; proper = tt; spells = refl; within = tt }
+
+-- ---- what may follow
+
+remaining-more : (rows : List (List Kind)) (us ws : List Word) → remaining rows (us ++ ws) ≡ remaining (remaining rows us) ws
+remaining-more rows [] ws = refl
+remaining-more rows (u ∷ us) ws = remaining-more (flat_map (after_word u) rows) us ws
+
+remaining-words : (rows : List (List Kind)) (a b : List Placed) (next : List (List Kind)) → remaining rows (words a) ≡ next → remaining rows (words (a ++ b)) ≡ remaining next (words b)
+remaining-words rows a b next e = ap (remaining rows) (words-append a b) ∙ remaining-more rows (words a) (words b) ∙ ap (λ r. remaining r (words b)) e
+
+-- behind words that fit, what is refused there is refused
+pub refused_behind : (rows next : List (List Kind)) (size : ℕ) (r : TextRefusal) (front a b : List Placed) → a ≡ front ++ b → AreWithin proof_steps front → remaining rows (words front) ≡ next
+    → RefusedIn next size r b → RefusedIn rows size r a
+refused_behind rows next size (BadToken place) front a b e w k h =
+    let m = remaining-words rows front h.front next k in
+    record {
+      front = front ++ h.front;
+      bad = h.bad;
+      rest = h.rest;
+      split = e ∙ ap (λ x. front ++ x) h.split ∙ sym (append_assoc front h.front (h.bad ∷ h.rest));
+      at = h.at;
+      unfinished = subst IsOpen (sym m) h.unfinished;
+      within = all_append _ front h.front w h.within;
+      fits_not = ap (flat_map (after_word h.bad.word)) m ∙ h.fits_not;
+    }
+refused_behind rows next size (TooBig place) front a b e w k h =
+    let m = remaining-words rows front h.front next k in
+    record {
+      front = front ++ h.front;
+      big = h.big;
+      rest = h.rest;
+      split = e ∙ ap (λ x. front ++ x) h.split ∙ sym (append_assoc front h.front (h.big ∷ h.rest));
+      at = h.at;
+      within = all_append _ front h.front w h.within;
+      fits = (h.fits.0, h.fits.1, ap (flat_map (after_word h.big.word)) m ∙ h.fits.2);
+      above = h.above;
+    }
+refused_behind rows next size (Unterminated place) front a b e w k h = (
+  h.0,
+  subst IsOpen (sym (ap (λ x. remaining rows (words x)) e ∙ remaining-words rows front b next k)) h.1,
+  subst (AreWithin proof_steps) (sym e) (all_append _ front b w h.2),
+)
+refused_behind rows next size TooLong front a b e w k h = absurd h
+refused_behind rows next size Memory front a b e w k h = tt
+refused_behind rows next size Failed front a b e w k h = absurd h
+
+pub refused_then : (fs : List Field) (rows next : List (List Kind)) (size : ℕ) (r : TextRefusal) (a b : List Placed) → Takes fs a b → remaining rows (flat_map spelled fs) ≡ next
+    → RefusedIn next size r b → RefusedIn rows size r a
+refused_then fs rows next size r a b t k h = refused_behind rows next size r t.front a b t.split t.within (ap (remaining rows) (sym t.spells) ∙ k) h
+
+-- ---- the first word
+
+abbrev pub Refuses : Word → List Kind → Type 0
+Refuses w [] = Unit {0}
+Refuses w (k ∷ ks) = move k w ≡ refuses
+
+pub none_after : (w : Word) (rows : List (List Kind)) → AllByRecursion (Refuses w) rows → flat_map (after_word w) rows ≡ []
+none_after w [] h = refl
+none_after w ([] ∷ rows) h = none_after w rows h.1
+none_after w ((k ∷ ks) ∷ rows) h = ap (λ m. behind k ks m ++ flat_map (after_word w) rows) h.0 ∙ none_after w rows h.1
+
+pub some_behind : (k : Kind) (ks : List Kind) (m : Move) (more : List (List Kind)) → IsFit m → (row : List Kind) × (rows : List (List Kind)) × (behind k ks m ++ more ≡ row ∷ rows)
+some_behind k ks (closes f) more h = (ks, more, refl)
+some_behind k ks (stays z) more h = (k ∷ ks, more, refl)
+some_behind k ks refuses more h = absurd h
+
+-- other lists of kinds refuse the first word where the kind does
+abbrev pub Others : Kind → List (List Kind) → List Placed → Type 0
+Others k more a = (p : Placed) (rest : List Placed) → a ≡ p ∷ rest → move k p.word ≡ refuses → AllByRecursion (Refuses p.word) more
+
+pub head_refused : (k : Kind) (ks : List Kind) (more : List (List Kind)) (size : ℕ) (r : TextRefusal) (a : List Placed) → Others k more a → HeadFails k size r a → RefusedIn ((k ∷ ks) ∷ more) size r a
+head_refused k ks more size (BadToken place) a others (p, rest, split, at, bad) = record {
+  front = [];
+  bad = p;
+  rest = rest;
+  split = split;
+  at = at;
+  unfinished = tt;
+  within = tt;
+  fits_not = none_after p.word ((k ∷ ks) ∷ more) (bad, others p rest split bad);
+}
+head_refused k ks more size (TooBig place) a others (p, rest, split, at, fits, above) = record {
+  front = [];
+  big = p;
+  rest = rest;
+  split = split;
+  at = at;
+  within = tt;
+  fits = some_behind k ks (move k p.word) (flat_map (after_word p.word) more) fits;
+  above = above;
+}
+head_refused k ks more size (Unterminated place) a others h = (h.1, subst (λ x. IsOpen (remaining ((k ∷ ks) ∷ more) (words x))) (sym h.0) tt, subst (AreWithin proof_steps) (sym h.0) tt)
+head_refused k ks more size TooLong a others h = absurd h
+head_refused k ks more size Memory a others h = absurd h
+head_refused k ks more size Failed a others h = absurd h
+
+pub one_refused : (k : Kind) (ks : List Kind) (size : ℕ) (r : TextRefusal) (a : List Placed) → HeadFails k size r a → RefusedIn ((k ∷ ks) ∷ []) size r a
+one_refused k ks size r a h = head_refused k ks [] size r a (λ p rest e b. tt) h
+
+-- ---- lists
+
+ids_stay : (ns : List ℕ) (ks : List Kind) → AllByRecursion IsProper (map id ns) → remaining ((some_ids ∷ ks) ∷ []) (flat_map spelled (map id ns)) ≡ (some_ids ∷ ks) ∷ []
+ids_stay [] ks h = refl
+ids_stay (zero ∷ ns) ks h = let k : 0 < 0 = h.0 in absurd (omega arith)
+ids_stay (suc n ∷ ns) ks h = ids_stay ns ks h.1
+
+integers_stay : (zs : List ℤ) (ks : List Kind) → AllByRecursion IsProper (map integer zs) → remaining ((some_integers ∷ ks) ∷ []) (flat_map spelled (map integer zs)) ≡ (some_integers ∷ ks) ∷ []
+integers_stay [] ks h = refl
+integers_stay (pos zero ∷ zs) ks h = absurd (h.0 refl)
+integers_stay (pos (suc n) ∷ zs) ks h = integers_stay zs ks h.1
+integers_stay (negsuc n ∷ zs) ks h = integers_stay zs ks h.1
+
+pub ids_refused : (ns : List ℕ) (size : ℕ) (r : TextRefusal) (a b : List Placed) → Takes (map id ns) a b → HeadFails some_ids size r b → (ks : List Kind) → RefusedIn ((some_ids ∷ ks) ∷ []) size r a
+ids_refused ns size r a b t h ks = refused_then (map id ns) ((some_ids ∷ ks) ∷ []) ((some_ids ∷ ks) ∷ []) size r a b t (ids_stay ns ks t.proper) (one_refused some_ids ks size r b h)
+
+pub integers_refused : (zs : List ℤ) (size : ℕ) (r : TextRefusal) (a b : List Placed) → Takes (map integer zs) a b → HeadFails some_integers size r b → (ks : List Kind) → RefusedIn ((some_integers ∷ ks) ∷ []) size r a
+integers_refused zs size r a b t h ks = refused_then (map integer zs) ((some_integers ∷ ks) ∷ []) ((some_integers ∷ ks) ∷ []) size r a b t (integers_stay zs ks t.proper) (one_refused some_integers ks size r b h)
+
+-- ---- fields in a row
+
+passed : (f : Field) (ks : List Kind) (ws : List Word) → IsProper f → remaining ((kind f ∷ ks) ∷ []) (spelled f ++ ws) ≡ remaining (ks ∷ []) ws
+passed (mark c) ks ws h = ap (λ b. remaining (behind (a_mark c) ks (Rattle.std.proofs.Common.cond b (closes (mark c)) refuses) ++ []) ws) (Rattle.std.proofs.Common.eq-eqb c c refl)
+passed (conflict_line k) ks ws h = refl
+passed (id zero) ks ws h = let k : 0 < 0 = h in absurd (omega arith)
+passed (id (suc n)) ks ws h = refl
+passed (integer (pos zero)) ks ws h = absurd (h refl)
+passed (integer (pos (suc n))) ks ws h = refl
+passed (integer (negsuc n)) ks ws h = refl
+passed end ks ws h = refl
+passed (ids []) ks ws h = refl
+passed (ids (zero ∷ ns)) ks ws h = let k : 0 < 0 = h.0 in absurd (omega arith)
+passed (ids (suc n ∷ ns)) ks ws h = passed (ids ns) ks ws h.1
+passed (integers []) ks ws h = refl
+passed (integers (pos zero ∷ zs)) ks ws h = absurd (h.0 refl)
+passed (integers (pos (suc n) ∷ zs)) ks ws h = passed (integers zs) ks ws h.1
+passed (integers (negsuc n ∷ zs)) ks ws h = passed (integers zs) ks ws h.1
+
+all_passed : (fs : List Field) (ks : List Kind) → AllByRecursion IsProper fs → remaining ((map kind fs ++ ks) ∷ []) (flat_map spelled fs) ≡ ks ∷ []
+all_passed [] ks h = refl
+all_passed (f ∷ fs) ks h = passed f (map kind fs ++ ks) (flat_map spelled fs) h.0 ∙ all_passed fs ks h.1
+
+-- behind fields that were taken, what is refused there is refused
+pub refused_after : (fs : List Field) (ks : List Kind) (size : ℕ) (r : TextRefusal) (a b : List Placed) → Takes fs a b → RefusedIn (ks ∷ []) size r b → RefusedIn ((map kind fs ++ ks) ∷ []) size r a
+refused_after fs ks size r a b t h = refused_then fs ((map kind fs ++ ks) ∷ []) (ks ∷ []) size r a b t (all_passed fs ks t.proper) h

@@ -1,0 +1,27 @@
+use Rattle.std.proofs.Common.{[], ◌∷◌, sym, ◌∙◌}
+use Rattle.std.proofs.lemmas.Result.{err_from_is_err_and}
+use Rattle.cx_semantics.specs.Grammar.{mark, id, ids, integers}
+use Rattle.proof_text.proofs.TakingLaws.{takes_append}
+use Rattle.proof_text.proofs.StepLaws.{letter_taken, no_start, clause_lists_refused, clause_names_refused}
+use Rattle.proof_text.proofs.steps.take_clause_step.Goals as goal
+
+pub returns-in_err-id : goal.returns-in_err-id
+returns-in_err-id c =
+    let p = err_from_is_err_and c.from_residual.result c.from_residual.ensures.1 in
+    rw (p.1, p.2) (no_start _ _ _ c.requires.no_parity c.requires.not_implied c.in_err-id.ensures)
+
+pub returns-in_err-names : goal.returns-in_err-names
+returns-in_err-names c =
+    let p = err_from_is_err_and c.from_residual-in_err-names.result c.from_residual-in_err-names.ensures.1 in
+    rw (p.1, p.2) (clause_names_refused _ _ _ _ _ _ c.in_ok-id.ensures (letter_taken 100 _ c.pass.new.self (sym c.is_letter.ensures ∙ c.if-is_letter.true) c.pass.ensures) (c.in_err-names.ensures []))
+
+pub returns-in_err-lists : goal.returns-in_err-lists
+returns-in_err-lists c =
+    let p = err_from_is_err_and c.from_residual-in_err-lists.result c.from_residual-in_err-lists.ensures.1 in
+    rw (p.1, p.2) (clause_lists_refused _ _ _ _ _ c.in_ok-id.ensures (sym c.is_letter.ensures ∙ c.if-is_letter.false) (c.in_err-lists.ensures []))
+
+pub returns-in_ok-names : goal.returns-in_ok-names
+returns-in_ok-names c = takes_append (id c.in_ok-id.id ∷ mark 100 ∷ []) (ids c.in_ok-names.names ∷ []) _ _ _ (takes_append (id c.in_ok-id.id ∷ []) (mark 100 ∷ []) _ _ _ c.in_ok-id.ensures (letter_taken 100 _ c.pass.new.self (sym c.is_letter.ensures ∙ c.if-is_letter.true) c.pass.ensures)) c.in_ok-names.ensures
+
+pub returns-in_ok-lists : goal.returns-in_ok-lists
+returns-in_ok-lists c = takes_append (id c.in_ok-id.id ∷ []) (integers c.in_ok-lists.lists.literals ∷ integers c.in_ok-lists.lists.hints ∷ []) _ _ _ c.in_ok-id.ensures c.in_ok-lists.ensures

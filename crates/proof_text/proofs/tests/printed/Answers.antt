@@ -1,0 +1,5 @@
+use Rattle.proof_text.proofs.Given.{given_has_text}
+use Rattle.proof_text.proofs.tests.printed.Goals as goal
+
+pub put_proof_step-requires : goal.put_proof_step-requires
+put_proof_step-requires c = given_has_text c.loop.source c.next_step.new.self c.in-Ok-Some.step (rw c.in-Ok-Some.field-0-is at c.in-Ok-Some.ensures.step)

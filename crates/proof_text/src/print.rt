@@ -1,0 +1,169 @@
+//! The printed form of proof steps.
+ghost use Rattle.std.specs.Prelude.{◌≡◌, [], ◌∷◌, ◌++◌, flat_map, decimal};
+ghost use Rattle.cx_desk.specs.Calls.{PutsAll};
+ghost use Rattle.cx_semantics.specs.Grammar.{spelling, spelled, spelled_list, mark, id, ids, integer, integers, end};
+ghost use Rattle.cx_semantics.specs.ProofText.{proof_steps};
+ghost use Rattle.cx_semantics.specs.Printed.{printed_integer, printed_line, HasProofText};
+ghost use Rattle.proof_text.specs.Spaced.{spaced, spaced_integer, spaced_id};
+
+use cx_desk::{Desk, Failed, Port, put_all, put_pieces};
+use cx_semantics::ProofStep;
+use itoa::Buffer;
+
+/// An id between two texts.
+fn put_id<D: Desk>(
+    desk: &mut D,
+    port: Port,
+    before: &[u8],
+    name: u64,
+    after: &[u8],
+) -> Result<(), Failed>
+    ensures { PutsAll port (before.now ++ (decimal name ++ after.now)) (D.outside desk.old) result (D.outside desk.new) }
+{
+    let mut buffer = Buffer::new();
+    let text = buffer.format(name);
+    put_pieces(desk, port, &[before, text.as_bytes(), after])
+}
+
+/// An integer behind a space, and a text.
+fn put_integer<D: Desk>(desk: &mut D, port: Port, integer: i64, after: &[u8]) -> Result<(), Failed>
+    ensures { PutsAll port (spaced_integer integer ++ after.now) (D.outside desk.old) result (D.outside desk.new) }
+{
+    let mut buffer = Buffer::new();
+    let text = buffer.format(integer);
+    put_pieces(desk, port, &[b" ", text.as_bytes(), after])
+}
+
+/// Integers, each behind a space.
+fn put_each_integer<D: Desk>(desk: &mut D, port: Port, members: &[i64]) -> Result<(), Failed>
+    ensures { PutsAll port (flat_map spaced_integer members.now) (D.outside desk.old) result (D.outside desk.new) }
+{
+    for member in members {
+        put_integer(desk, port, *member, b"")?;
+    }
+    Ok(())
+}
+
+/// Ids, each behind a space.
+fn put_each_id<D: Desk>(desk: &mut D, port: Port, members: &[u64]) -> Result<(), Failed>
+    ensures { PutsAll port (flat_map spaced_id members.now) (D.outside desk.old) result (D.outside desk.new) }
+{
+    for member in members {
+        put_id(desk, port, b" ", *member, b"")?;
+    }
+    Ok(())
+}
+
+/// Integers with the zero that ends them, and a text.
+fn put_integers<D: Desk>(
+    desk: &mut D,
+    port: Port,
+    members: &[i64],
+    after: &[u8],
+) -> Result<(), Failed>
+    ensures { PutsAll port (spaced (spelled (integers members.now)) ++ after.now) (D.outside desk.old) result (D.outside desk.new) }
+{
+    put_each_integer(desk, port, members)?;
+    put_pieces(desk, port, &[b" 0", after])
+}
+
+/// Ids with the zero that ends them, and a line feed.
+fn put_ids<D: Desk>(desk: &mut D, port: Port, members: &[u64]) -> Result<(), Failed>
+    ensures { PutsAll port (spaced (spelled (ids members.now)) ++ 10 ∷ []) (D.outside desk.old) result (D.outside desk.new) }
+{
+    put_each_id(desk, port, members)?;
+    put_all(desk, port, b" 0\n")
+}
+
+/// An id, literals and hints behind a text, as the end of a line.
+fn put_hinted<D: Desk>(
+    desk: &mut D,
+    port: Port,
+    before: &[u8],
+    name: u64,
+    literals: &[i64],
+    hints: &[i64],
+) -> Result<(), Failed>
+    ensures { PutsAll port (before.now ++ printed_line (flat_map spelled (id name ∷ integers literals.now ∷ integers hints.now ∷ []))) (D.outside desk.old) result (D.outside desk.new) }
+{
+    put_id(desk, port, before, name, b"")?;
+    put_integers(desk, port, literals, b"")?;
+    put_integers(desk, port, hints, b"\n")
+}
+
+/// A clause that a parity implies.
+fn put_implied<D: Desk>(
+    desk: &mut D,
+    port: Port,
+    name: u64,
+    literals: &[i64],
+    hint: i64,
+) -> Result<(), Failed>
+    ensures { PutsAll port (printed_line (flat_map spelled (mark 105 ∷ id name ∷ integers literals.now ∷ integer hint ∷ end ∷ []))) (D.outside desk.old) result (D.outside desk.new) }
+{
+    put_id(desk, port, b"i ", name, b"")?;
+    put_integers(desk, port, literals, b"")?;
+    put_integer(desk, port, hint, b" 0\n")
+}
+
+/// A deletion of clauses.
+fn put_clause_deletion<D: Desk>(
+    desk: &mut D,
+    port: Port,
+    name: u64,
+    names: &[u64],
+) -> Result<(), Failed>
+    ensures { PutsAll port (printed_line (flat_map spelled (id name ∷ mark 100 ∷ ids names.now ∷ []))) (D.outside desk.old) result (D.outside desk.new) }
+{
+    put_id(desk, port, b"", name, b" d")?;
+    put_ids(desk, port, names)
+}
+
+/// A deletion of parities.
+fn put_parity_deletion<D: Desk>(desk: &mut D, port: Port, names: &[u64]) -> Result<(), Failed>
+    ensures { PutsAll port (printed_line (flat_map spelled (mark 120 ∷ mark 100 ∷ ids names.now ∷ []))) (D.outside desk.old) result (D.outside desk.new) }
+{
+    put_all(desk, port, b"x d")?;
+    put_ids(desk, port, names)
+}
+
+/// Writes the line of a step: its words parted by one space, and a line feed.
+///
+/// It fails only where the desk counted a fault of the port; then the port gained a front of the line.
+pub fn put_proof_step<D: Desk>(desk: &mut D, port: Port, step: &ProofStep) -> Result<(), Failed>
+    requires { HasProofText step.now }
+    ensures { PutsAll port (printed_line (spelling proof_steps step.now)) (D.outside desk.old) result (D.outside desk.new) }
+{
+    match step {
+        ProofStep::Clause(id, literals, hints) => {
+            put_hinted(desk, port, b"", *id, literals.as_slice(), hints.as_slice())
+        }
+        ProofStep::DeleteClauses(id, names) => {
+            put_clause_deletion(desk, port, *id, names.as_slice())
+        }
+        ProofStep::Parity(id, literals, hints) => {
+            put_hinted(
+                desk,
+                port,
+                b"x ",
+                *id,
+                literals.as_slice(),
+                hints.as_slice(),
+            )
+        }
+        ProofStep::DeleteParities(names) => put_parity_deletion(desk, port, names.as_slice()),
+        ProofStep::ClauseOfParity(id, literals, hint) => {
+            put_implied(desk, port, *id, literals.as_slice(), *hint)
+        }
+        ProofStep::ParityOfClauses(id, literals, hints) => {
+            put_hinted(
+                desk,
+                port,
+                b"i x ",
+                *id,
+                literals.as_slice(),
+                hints.as_slice(),
+            )
+        }
+    }
+}

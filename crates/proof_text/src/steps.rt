@@ -1,0 +1,162 @@
+//! The steps of a proof, taken from a text's tokens.
+ghost use Rattle.std.specs.Prelude.{◌≡◌, true, false, [], ◌∷◌};
+ghost use Rattle.cx_semantics.specs.Words.{placed_words};
+ghost use Rattle.cx_semantics.specs.Grammar.{id, integer, end, integers};
+ghost use Rattle.cx_semantics.proofs.Shapes.{an_id, an_integer, an_end, some_integers};
+ghost use Rattle.proof_text.specs.Heads.{is_head_letter};
+ghost use Rattle.proof_text.specs.Taking.{TakesAll, TakesStep};
+ghost use Rattle.proof_text.specs.Reading.{ReadsStep};
+
+use crate::ahead::TokensAhead;
+use crate::fields::{take_end, take_id, take_ids, take_integer, take_integers};
+use crate::source::TextRefusal;
+use cx_base::IntList;
+use cx_semantics::ProofStep;
+use std::alloc::Global;
+
+/// A constraint's id and literals, and the hints that show it.
+#[derive(Drop)]
+struct Hinted {
+    id: u64,
+    literals: IntList,
+    hints: IntList,
+}
+
+/// A constraint's id and literals, and the one hint that implies it.
+#[derive(Drop)]
+struct Implied {
+    id: u64,
+    literals: IntList,
+    hint: i64,
+}
+
+/// The literals and the hints of a step.
+#[derive(Drop)]
+struct Lists {
+    literals: IntList,
+    hints: IntList,
+}
+
+fn take_lists(alloc: Global, tokens: &mut TokensAhead, size: usize) -> Result<Lists, TextRefusal>
+    ensures { TakesAll (λ l. integers l.literals ∷ integers l.hints ∷ []) (some_integers ∷ some_integers ∷ []) size (placed_words tokens.old) result (placed_words tokens.new) }
+{
+    let literals = take_integers(alloc, tokens, size)?;
+    let hints = take_integers(alloc, tokens, size)?;
+    Ok(Lists { literals, hints })
+}
+
+fn take_hinted(alloc: Global, tokens: &mut TokensAhead, size: usize) -> Result<Hinted, TextRefusal>
+    ensures { TakesAll (λ h. id h.id ∷ integers h.literals ∷ integers h.hints ∷ []) (an_id ∷ some_integers ∷ some_integers ∷ []) size (placed_words tokens.old) result (placed_words tokens.new) }
+{
+    let id = take_id(tokens, size)?;
+    let lists = take_lists(alloc, tokens, size)?;
+    Ok(Hinted {
+        id,
+        literals: lists.literals,
+        hints: lists.hints,
+    })
+}
+
+fn take_implied(
+    alloc: Global,
+    tokens: &mut TokensAhead,
+    size: usize,
+) -> Result<Implied, TextRefusal>
+    ensures { TakesAll (λ h. id h.id ∷ integers h.literals ∷ integer h.hint ∷ end ∷ []) (an_id ∷ some_integers ∷ an_integer ∷ an_end ∷ []) size (placed_words tokens.old) result (placed_words tokens.new) }
+{
+    let id = take_id(tokens, size)?;
+    let literals = take_integers(alloc, tokens, size)?;
+    let hint = take_integer(tokens, size)?;
+    take_end(tokens, size)?;
+    Ok(Implied { id, literals, hint })
+}
+
+/// A clause by a chain, or a deletion of clauses.
+fn take_clause_step(
+    alloc: Global,
+    tokens: &mut TokensAhead,
+    size: usize,
+) -> Result<ProofStep, TextRefusal>
+    requires no_parity { is_head_letter 120 (placed_words tokens.old) ≡ false }
+    requires not_implied { is_head_letter 105 (placed_words tokens.old) ≡ false }
+    ensures { TakesStep size (placed_words tokens.old) result (placed_words tokens.new) }
+{
+    let id = take_id(tokens, size)?;
+    if tokens.is_letter(b'd') {
+        tokens.pass();
+        let names = take_ids(alloc, tokens, size)?;
+        Ok(ProofStep::DeleteClauses(id, names))
+    } else {
+        let lists = take_lists(alloc, tokens, size)?;
+        Ok(ProofStep::Clause(id, lists.literals, lists.hints))
+    }
+}
+
+/// A parity by a sum, or a deletion of parities.
+fn take_parity_step(
+    alloc: Global,
+    tokens: &mut TokensAhead,
+    size: usize,
+) -> Result<ProofStep, TextRefusal>
+    requires { is_head_letter 120 (placed_words tokens.old) ≡ true }
+    ensures { TakesStep size (placed_words tokens.old) result (placed_words tokens.new) }
+{
+    tokens.pass();
+    if tokens.is_letter(b'd') {
+        tokens.pass();
+        let names = take_ids(alloc, tokens, size)?;
+        Ok(ProofStep::DeleteParities(names))
+    } else {
+        let parity = take_hinted(alloc, tokens, size)?;
+        Ok(ProofStep::Parity(parity.id, parity.literals, parity.hints))
+    }
+}
+
+/// A clause from a parity, or a parity from clauses.
+fn take_implied_step(
+    alloc: Global,
+    tokens: &mut TokensAhead,
+    size: usize,
+) -> Result<ProofStep, TextRefusal>
+    requires { is_head_letter 105 (placed_words tokens.old) ≡ true }
+    ensures { TakesStep size (placed_words tokens.old) result (placed_words tokens.new) }
+{
+    tokens.pass();
+    if tokens.is_letter(b'x') {
+        tokens.pass();
+        let parity = take_hinted(alloc, tokens, size)?;
+        Ok(ProofStep::ParityOfClauses(parity.id, parity.literals, parity.hints))
+    } else {
+        let clause = take_implied(alloc, tokens, size)?;
+        Ok(ProofStep::ClauseOfParity(clause.id, clause.literals, clause.hint))
+    }
+}
+
+fn take_step(alloc: Global, tokens: &mut TokensAhead, size: usize) -> Result<ProofStep, TextRefusal>
+    ensures { TakesStep size (placed_words tokens.old) result (placed_words tokens.new) }
+{
+    if tokens.is_letter(b'x') {
+        take_parity_step(alloc, tokens, size)
+    } else if tokens.is_letter(b'i') {
+        take_implied_step(alloc, tokens, size)
+    } else {
+        take_clause_step(alloc, tokens, size)
+    }
+}
+
+/// The next step of a text of this size, or none at its end.
+pub fn read_step(
+    alloc: Global,
+    tokens: &mut TokensAhead,
+    size: usize,
+) -> Result<Option<ProofStep>, TextRefusal>
+    ensures { ReadsStep size (placed_words tokens.old) result (placed_words tokens.new) }
+{
+    if tokens.is_empty() {
+        return Ok(None);
+    }
+    match take_step(alloc, tokens, size) {
+        Ok(step) => Ok(Some(step)),
+        Err(refusal) => Err(refusal),
+    }
+}
