@@ -3,3 +3,4 @@ pub mod ParityLaws
 pub mod UnmetLaws
 pub mod Within
 pub mod Drafting
+pub mod Differences
