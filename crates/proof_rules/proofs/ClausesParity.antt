@@ -99,9 +99,9 @@ fits_power (x ∷ xs) step n h =
     let once : (2 * step) * 1 ≤ (2 * step) * 2 ^ length xs = mul-le-mul_left (2 * step) some in
     (omega arith, fits_power xs (2 * step) n (omega arith))
 
-pub small_power : (n : ℕ) → n ≤ 12 → (1 * 2 ^ n) % 18446744073709551616 ≡ 2 ^ n
+pub small_power : (n : ℕ) → n ≤ 60 → (1 * 2 ^ n) % 18446744073709551616 ≡ 2 ^ n
 small_power n h =
-    let k : 2 ^ n ≤ 2 ^ 12 = pow_mono h in
+    let k : 2 ^ n ≤ 2 ^ 60 = pow_mono h in
     ap (λ m. m % 18446744073709551616) (one_times (2 ^ n)) ∙ mod-eq_of_lt (omega arith)
   where
     one_times : (m : ℕ) → 1 * m ≡ m

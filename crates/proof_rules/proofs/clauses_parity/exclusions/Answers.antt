@@ -13,7 +13,7 @@ use Rattle.proof_rules.proofs.clauses_parity.exclusions.Goals as goal
 pub loop-hint-init : goal.loop-hint-init
 loop-hint-init c =
     let xs = c.args.variables.now in
-    let few : length xs ≤ 12 = c.requires in
+    let few : length xs ≤ 60 = omega arith in
     let items = c.in_ok-table.ensures.items_if_clones_equal (λ y h. h) ∙ ap (λ n. replicate n false) (small_power (length xs) few) in
     let long : length c.in_ok-table.table.items ≡ 2 ^ length xs = ap length items ∙ length-replicate (2 ^ length xs) false in
     record {
