@@ -4,3 +4,4 @@ pub mod UnmetLaws
 pub mod Within
 pub mod Drafting
 pub mod Parts
+pub mod Differences

@@ -1,15 +1,16 @@
 -- A clause under values, and what it implies of a parity.
-use Rattle.std.proofs.Common.{◌≡◌, ◌≢◌, refl, sym, ap, ◌∙◌, subst, ℕ, suc, ◌+◌, ◌<◌, ◌≤◌, Bool, true, false, cond, not, ◌&&◌, ◌||◌, nat_eq, eqb-true, eq-eqb, List, [], ◌∷◌, map, Option, Some, None, option_map, arith, ◌⊎◌, inl, inr, true≢false}
-use Rattle.std.specs.List.{list_any, AllByRecursion}
+use Rattle.std.proofs.Common.{◌≡◌, ◌≢◌, refl, sym, ap, ◌∙◌, subst, ℕ, ◌+◌, ◌≤◌, Bool, true, false, cond, not, ◌&&◌, ◌||◌, nat_eq, eqb-true, eq-eqb, List, [], ◌∷◌, map, Option, Some, None, option_map, arith, ◌⊎◌, inl, inr, true≢false}
+use Rattle.std.specs.List.{list_any}
 use mathlib.Core.Bool.{beq}
 use Rattle.cx_base.specs.Literals.{Literal, differ, negate, same_literal, literal_true, value_of}
 use Rattle.cx_base.specs.Problem.{clause_met, parity_met}
 use Rattle.cx_base.specs.Parity.{normal_form}
+use Rattle.cx_base.proofs.Differences.{not_differ-same, same-not_differ}
 use Rattle.cx_semantics.specs.Chain.{has_literal}
 use Rattle.cx_semantics.proofs.ChainLaws.{are_one, same_literal-itself, literal_true-negate}
 use Rattle.cx_semantics.proofs.Closure.{or_right}
 use Rattle.proof_rules.specs.LiteralSets.{HaveSame, ArePositive}
-use Rattle.proof_rules.specs.Assignments.{AreDistinct, Lists, odd_sum, positive_of, negative_of, has_opposites, forced_sum, Decided}
+use Rattle.proof_rules.specs.Assignments.{Lists, odd_sum, positive_of, negative_of, has_opposites, forced_sum, Decided}
 use Rattle.proof_rules.proofs.ParityValues.{values_by, value_of-values_by, values-values_by, AreWithin, top, within_top, parity_met-list, flip_at, odd_sum-flipped}
 
 -- ---- literals of a clause
@@ -20,7 +21,7 @@ has_first l lits = ap (λ b. b || has_literal lits l) (same_literal-itself l)
 pub has_later : (l m : Literal) (lits : List Literal) → has_literal lits l ≡ true → has_literal (m ∷ lits) l ≡ true
 has_later l m lits h = or_right (same_literal l m) _ h
 
-or_cases : (a b : Bool) → (a || b) ≡ true → (a ≡ true) ⊎ (b ≡ true)
+pub or_cases : (a b : Bool) → (a || b) ≡ true → (a ≡ true) ⊎ (b ≡ true)
 or_cases true b h = inl refl
 or_cases false b h = inr h
 
@@ -175,16 +176,6 @@ left_true : (a : Bool) → (a && true) ≡ true → a ≡ true
 left_true true h = refl
 left_true false h = h
 
-met-or_not : (a b : Bool) → a ≡ b → not (differ a b) ≡ true
-met-or_not true b h = ap (λ c. not (not c)) (sym h)
-met-or_not false b h = ap not (sym h)
-
-same_sides : (a b : Bool) → not (differ a b) ≡ true → a ≡ b
-same_sides true true h = refl
-same_sides true false h = absurd (true≢false (sym h))
-same_sides false true h = absurd (true≢false (sym h))
-same_sides false false h = refl
-
 module _ (set clause parity : List Literal) (xs : List ℕ) (same : HaveSame set clause) (positive : ArePositive clause) (lists : Lists (normal_form parity).variables xs) where
   bound : ℕ
   bound = top_variable clause + top xs
@@ -192,16 +183,13 @@ module _ (set clause parity : List Literal) (xs : List ℕ) (same : HaveSame set
   abbrev Question : Bool → Type 0
   Question = Decided (λ v. parity_met v parity && true) (λ v. clause_met v clause)
 
-  pub implied_by_opposites : has_opposites set clause ≡ true → Question true
-  implied_by_opposites h v met = always_met set clause same h v
-
   -- the sum that the clause forces is wrong
-  pub implied_by_sum : (b : Bool) → forced_sum set xs ≡ Some b → b ≢ (normal_form parity).right_side → Question true
+  implied_by_sum : (b : Bool) → forced_sum set xs ≡ Some b → b ≢ (normal_form parity).right_side → Question true
   implied_by_sum b e n v met = go (clause_met v clause) refl
     where
       go : (m : Bool) → clause_met v clause ≡ m → clause_met v clause ≡ true
       go true k = k
-      go false k = absurd (n (sym (subst (SumIs (odd_sum (map (value_of v) xs))) e (forced set clause same v k xs)) ∙ same_sides _ _ (sym (parity_met-list parity xs v lists) ∙ left_true _ met)))
+      go false k = absurd (n (sym (subst (SumIs (odd_sum (map (value_of v) xs))) e (forced set clause same v k xs)) ∙ same-not_differ _ _ (sym (parity_met-list parity xs v lists) ∙ left_true _ met)))
 
   -- values by a function that falsifies the clause and gives the parity its sum
   counterexample : (f : ℕ → Bool) → ((l : Literal) → has_literal clause l ≡ true → f l.variable ≡ l.negative) → odd_sum (map f xs) ≡ (normal_form parity).right_side → Question false
@@ -211,13 +199,13 @@ module _ (set clause parity : List Literal) (xs : List ℕ) (same : HaveSame set
       let low : AreVariables bound clause = variables_within bound clause positive (omega arith) in
       let high : AreWithin bound xs = within_top bound xs (omega arith) in (
         v,
-        both_true _ (parity_met-list parity xs v lists ∙ met-or_not _ _ (ap odd_sum (values-values_by bound f xs lists.positive high) ∙ sum)),
+        both_true _ (parity_met-list parity xs v lists ∙ not_differ-same _ _ (ap odd_sum (values-values_by bound f xs lists.positive high) ∙ sum)),
         unmet_by_function bound f clause low falsifies,
       )
 
   module _ (none : has_opposites set clause ≡ false) where
     -- the sum that the clause forces is the right one
-    pub refused_by_sum : (b : Bool) → forced_sum set xs ≡ Some b → b ≡ (normal_form parity).right_side → Question false
+    refused_by_sum : (b : Bool) → forced_sum set xs ≡ Some b → b ≡ (normal_form parity).right_side → Question false
     unfolding bound
     refused_by_sum b e right =
         let f : ℕ → Bool = false_by set in

@@ -1,6 +1,6 @@
 -- Clauses imply a parity where they exclude each assignment of the wrong sum.
-use Rattle.std.proofs.Common.{◌≡◌, refl, sym, ap, ◌∙◌, subst, ℕ, suc, ◌+◌, ◌*◌, ◌^◌, ◌%◌, ◌<◌, ◌≤◌, ℤ, nat_abs, Bool, true, false, not, ◌&&◌, ◌||◌, List, [], ◌∷◌, map, length, get_or, replicate, Some, None, nat_lt, lt-ltb, le-ltb, arith, ◌⊎◌, inl, inr, true≢false}
-use Rattle.std.specs.List.{list_any, list_all, cons_option}
+use Rattle.std.proofs.Common.{◌≡◌, refl, sym, ap, ◌∙◌, ℕ, suc, ◌*◌, ◌^◌, ◌%◌, ◌<◌, ◌≤◌, ℤ, nat_abs, Bool, true, false, not, ◌||◌, List, [], ◌∷◌, map, length, get_or, Some, None, nat_lt, lt-ltb, le-ltb, arith, inl, inr, true≢false}
+use Rattle.std.specs.List.{list_any, cons_option}
 use Rattle.std.specs.FinSet as set
 use Rattle.std.specs.Ordering.{nat_cmp}
 use Rattle.std.proofs.Math.Nat.{pow-succ', mod-eq_of_lt, mul-le-mul_left}
@@ -18,15 +18,11 @@ use Rattle.proof_rules.specs.Assignments.{Lists, odd_sum}
 use Rattle.proof_rules.specs.LiteralSets.{HaveSame}
 use Rattle.proof_rules.specs.Exclusions.{Fits, excluded, is_hit, all_excluded, Excludes, is_outside}
 use Rattle.proof_rules.specs.Kinds.{hinted}
-use Rattle.proof_rules.proofs.SumLaws.{differ_swap}
 use Rattle.proof_rules.proofs.ParityValues.{values_by, values-values_by, top, within_top, parity_met-list}
-use Rattle.proof_rules.proofs.ExclusionLaws.{get_or-excluded, is_hit-same, place_of, place_of-below, ForEach, for_each-map, falsified, is_hit-place, falsified-unmet, not_falsified-met, inside_by_set, marked_by_all, escape, Escapes, assigned, map-assigned}
+use Rattle.proof_rules.proofs.ClauseValues.{or_cases}
+use Rattle.proof_rules.proofs.ExclusionLaws.{get_or-excluded, is_hit-same, place_of, place_of-below, ForEach, for_each-map, falsified, is_hit-place, falsified-unmet, not_falsified-met, inside_by_set, marked_by_all, escape, assigned, map-assigned}
 
 -- ---- clauses and assignments
-
-or_cases : (a b : Bool) → (a || b) ≡ true → (a ≡ true) ⊎ (b ≡ true)
-or_cases true b h = inl refl
-or_cases false b h = inr h
 
 or_none : (a b : Bool) → (a || b) ≡ false → (a ≡ false) × (b ≡ false)
 or_none true b h = absurd (true≢false h)
@@ -103,9 +99,9 @@ fits_power (x ∷ xs) step n h =
     let once : (2 * step) * 1 ≤ (2 * step) * 2 ^ length xs = mul-le-mul_left (2 * step) some in
     (omega arith, fits_power xs (2 * step) n (omega arith))
 
-pub small_power : (n : ℕ) → n ≤ 12 → (1 * 2 ^ n) % 18446744073709551616 ≡ 2 ^ n
+pub small_power : (n : ℕ) → n ≤ 60 → (1 * 2 ^ n) % 18446744073709551616 ≡ 2 ^ n
 small_power n h =
-    let k : 2 ^ n ≤ 2 ^ 12 = pow_mono h in
+    let k : 2 ^ n ≤ 2 ^ 60 = pow_mono h in
     ap (λ m. m % 18446744073709551616) (one_times (2 ^ n)) ∙ mod-eq_of_lt (omega arith)
   where
     one_times : (m : ℕ) → 1 * m ≡ m

@@ -1,27 +1,20 @@
 -- The table of excluded assignments, and what it says of a parity.
-use Rattle.std.proofs.Common.{◌≡◌, ◌≢◌, refl, sym, ap, ◌∙◌, subst, ℕ, zero, suc, ◌+◌, ◌*◌, ◌%◌, ◌^◌, ◌<◌, ◌≤◌, Bool, true, false, cond, not, ◌&&◌, ◌||◌, nat_eq, eqb-true, eq-eqb, List, [], ◌∷◌, map, length, get_or, replicate, slice_set, arith, ◌⊎◌, inl, inr, true≢false}
-use Rattle.std.specs.List.{list_any, list_all}
+use Rattle.std.proofs.Common.{◌≡◌, refl, sym, ap, ◌∙◌, ℕ, ◌+◌, ◌*◌, ◌%◌, ◌<◌, Bool, true, false, cond, not, ◌&&◌, ◌||◌, nat_eq, eqb-true, eq-eqb, List, [], ◌∷◌, map, length, get_or, slice_set, arith, ◌⊎◌, inl, inr, true≢false}
+use Rattle.std.specs.List.{list_any}
 use Rattle.std.specs.FinSet as set
 use Rattle.std.specs.Ordering.{nat_cmp}
-use Rattle.std.specs.Cmp.{both_ways}
 use Rattle.std.proofs.Math.Nat.{add-mul-mod_self_left, mod-eq_of_lt}
 use Rattle.std.proofs.Math.ListN.{length-set}
 use Rattle.std.proofs.lemmas.List.{get_or-set_other}
 use Rattle.std.proofs.lemmas.Grind.{get_or-set_at}
-use Rattle.cx_base.specs.Literals.{Literal, differ, negate, same_literal, literal_true, value_of}
-use Rattle.cx_base.specs.Problem.{clause_met, parity_met}
-use Rattle.cx_base.specs.Parity.{normal_form}
+use Rattle.cx_base.specs.Literals.{Literal, differ, same_literal, literal_true, value_of}
+use Rattle.cx_base.specs.Problem.{clause_met}
 use Rattle.cx_semantics.specs.Chain.{has_literal}
-use Rattle.cx_semantics.specs.Implied.{Implies, HasCounterexample}
-use Rattle.cx_semantics.specs.ProofRules.{all_met}
-use Rattle.cx_semantics.proofs.ChainLaws.{and_parts, and_both, are_one}
-use Rattle.cx_semantics.proofs.Closure.{or_right}
+use Rattle.cx_semantics.proofs.ChainLaws.{and_parts, are_one}
 use Rattle.proof_rules.specs.LiteralSets.{HaveSame}
-use Rattle.proof_rules.specs.Assignments.{AreDistinct, Lists, odd_sum, positive_of, negative_of}
-use Rattle.proof_rules.specs.Exclusions.{Fits, excluded, is_hit, all_excluded, Excludes, is_outside}
-use Rattle.proof_rules.proofs.SumLaws.{differ_swap}
-use Rattle.proof_rules.proofs.ParityValues.{values_by, values-values_by, top, within_top, parity_met-list}
-use Rattle.proof_rules.proofs.ClauseValues.{has_first, has_later, met_by, unmet_by}
+use Rattle.proof_rules.specs.Assignments.{AreDistinct, odd_sum, positive_of, negative_of}
+use Rattle.proof_rules.specs.Exclusions.{Fits, excluded, is_hit, all_excluded, is_outside}
+use Rattle.proof_rules.proofs.ClauseValues.{or_cases, met_by, unmet_by}
 
 -- ---- what a clause marks
 
@@ -126,10 +119,6 @@ place_of-below [] (b ∷ bits) place step n e f h = absurd e
 place_of-below (x ∷ xs) [] place step n e f h = absurd e
 place_of-below (x ∷ xs) (true ∷ bits) place step n e f h = place_of-below xs bits (place + step) (2 * step) n e f.1 (omega arith)
 place_of-below (x ∷ xs) (false ∷ bits) place step n e f h = place_of-below xs bits place (2 * step) n e f.1 (omega arith)
-
-or_cases : (a b : Bool) → (a || b) ≡ true → (a ≡ true) ⊎ (b ≡ true)
-or_cases true b h = inl refl
-or_cases false b h = inr h
 
 hit-steps : (clause : List Literal) (xs : List ℕ) (place step j : ℕ) → is_hit clause xs place step j ≡ true → Steps place step j
 hit-steps clause [] place step j h = let e : j ≡ place = eqb-true j place h in (0, omega arith)
@@ -245,9 +234,6 @@ inside_by_set variables xs same (m ∷ clause) h l k = go (set.contains variable
     go false e f s rest = absurd (true≢false f)
 
 -- ---- all assignments
-
-wrong_low : (w s : Bool) → differ w (differ false s) ≡ differ w s
-wrong_low w s = refl
 
 wrong_high : (w s : Bool) → differ w (differ true s) ≡ differ (not w) s
 wrong_high true true = refl

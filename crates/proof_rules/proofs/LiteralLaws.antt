@@ -1,5 +1,5 @@
 -- Literals by their order, and lists of literals as sets.
-use Rattle.std.proofs.Common.{◌≡◌, refl, sym, ap, ◌∙◌, subst, ℕ, Bool, true, false, cond, not, ◌||◌, nat_eq, eqb-true, eq-eqb, nat_cmp, is_eq, List, [], ◌∷◌, length, get_or, drop, ◌<◌, ◌+◌}
+use Rattle.std.proofs.Common.{◌≡◌, refl, sym, ap, ◌∙◌, subst, ℕ, Bool, true, false, cond, ◌||◌, nat_eq, eqb-true, eq-eqb, nat_cmp, is_eq, List, [], ◌∷◌, length, get_or, drop, ◌<◌, ◌+◌}
 use Rattle.std.proofs.lemmas.List.{drop_more}
 use Rattle.std.specs.List.{list_any}
 use Rattle.std.specs.Cmp.{unsigned_tied, both_ways}

@@ -1,5 +1,5 @@
 -- A parity by the values of its variables, each named once.
-use Rattle.std.proofs.Common.{◌≡◌, refl, sym, ap, ◌∙◌, subst, ℕ, zero, suc, ◌+◌, ◌-◌, ◌<◌, ◌≤◌, Bool, true, false, not, ◌&&◌, ◌||◌, nat_eq, eqb-true, eq-eqb, List, [], ◌∷◌, map, get_or, arith, true≢false}
+use Rattle.std.proofs.Common.{◌≡◌, refl, sym, ap, ◌∙◌, subst, ℕ, zero, suc, ◌+◌, ◌-◌, ◌<◌, ◌≤◌, Bool, true, false, not, ◌&&◌, ◌||◌, nat_eq, eqb-true, List, [], ◌∷◌, map, get_or, arith, true≢false}
 use Rattle.std.specs.List.{list_any, AllByRecursion}
 use Rattle.std.specs.Ordering.{nat_cmp}
 use Rattle.std.specs.Cmp.{both_ways}
@@ -8,10 +8,10 @@ use Rattle.cx_base.specs.Literals.{Literal, differ, value_of}
 use Rattle.cx_base.specs.Problem.{parity_met}
 use Rattle.cx_base.specs.Parity.{normal_form}
 use Rattle.cx_base.proofs.ParityLaws.{sum_below, sum_below-differ, sum_below-one, differ_and, sum_of_members, no_members, Sums-from_met, met-from_Sums}
+use Rattle.cx_base.proofs.Differences.{differ_assoc, differ_turned, not_differ-same, same-not_differ}
 use Rattle.cx_semantics.proofs.RecoveredLaws.{or_apart}
 use Rattle.cx_semantics.proofs.Soundness.{roof, below_roof}
 use Rattle.proof_rules.specs.Assignments.{AreDistinct, Lists, odd_sum}
-use Rattle.proof_rules.proofs.SumLaws.{differ_assoc, differ_swap}
 
 -- ---- values by a function
 
@@ -69,24 +69,14 @@ sum_of_members-list n v (x ∷ xs) d h =
     ∙ sum_below-differ n (λ y. nat_eq x y && value_of v y) (λ y. set.contains (set.from_list xs) y && value_of v y)
     ∙ (λ i. differ (sum_below-one n x v h.0 i) (sum_of_members-list n v xs d.1 h.1 i))
 
-apart-from_same : (a b : Bool) → a ≡ b → not (differ a b) ≡ true
-apart-from_same true b h = ap (λ c. not (not c)) (sym h)
-apart-from_same false b h = ap not (sym h)
-
-same-from_apart : (a b : Bool) → not (differ a b) ≡ true → a ≡ b
-same-from_apart true true h = refl
-same-from_apart true false h = absurd (true≢false (sym h))
-same-from_apart false true h = absurd (true≢false (sym h))
-same-from_apart false false h = refl
-
 -- a parity is met where the sum of its variables is its right side
 pub parity_met-list : (lits : List Literal) (xs : List ℕ) (v : List Bool) → Lists (normal_form lits).variables xs → parity_met v lits ≡ not (differ (odd_sum (map (value_of v) xs)) (normal_form lits).right_side)
 parity_met-list lits xs v l =
     let n : ℕ = roof lits + suc (top xs) in
     let sum = ap (sum_of_members n v) (sym l.same) ∙ sum_of_members-list n v xs l.once (below_top n xs (omega arith)) in
     both_ways _ _
-    (λ h. apart-from_same _ _ (sym sum ∙ Sums-from_met n v lits (below_roof n lits (omega arith)) h))
-    (λ h. met-from_Sums n v lits (below_roof n lits (omega arith)) (sum ∙ same-from_apart _ _ h))
+    (λ h. not_differ-same _ _ (sym sum ∙ Sums-from_met n v lits (below_roof n lits (omega arith)) h))
+    (λ h. met-from_Sums n v lits (below_roof n lits (omega arith)) (sum ∙ same-not_differ _ _ h))
 
 -- ---- one variable flipped
 
@@ -102,7 +92,7 @@ unflipped x f (y ∷ ys) h = go (nat_eq y x) refl h (unflipped x f ys)
     go false e k rest = λ i. differ (e i) (f y) ∷ rest k i
 
 differ_inside : (a b c : Bool) → differ a (differ b c) ≡ differ b (differ a c)
-differ_inside a b c = sym (differ_assoc a b c) ∙ ap (λ d. differ d c) (differ_swap a b) ∙ differ_assoc b a c
+differ_inside a b c = sym (differ_assoc a b c) ∙ ap (λ d. differ d c) (differ_turned a b) ∙ differ_assoc b a c
 
 pub odd_sum-flipped : (x : ℕ) (f : ℕ → Bool) (xs : List ℕ) → AreDistinct xs → list_any (λ y. nat_eq y x) xs ≡ true → odd_sum (map (flip_at x f) xs) ≡ not (odd_sum (map f xs))
 odd_sum-flipped x f [] d h = absurd (true≢false (sym h))

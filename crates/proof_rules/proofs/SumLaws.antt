@@ -6,55 +6,15 @@ use Rattle.std.specs.Ordering.{nat_cmp, eq_by_cmp}
 use Rattle.std.specs.Cmp.{nat_cmp_total, unsigned_tied, nat_eq_equiv}
 use Rattle.std.specs.FinSet as set
 use Rattle.cx_base.specs.Literals.{Literal, differ}
-use Rattle.cx_base.specs.Parity.{NormalForm, normal_form, symmetric_difference, sum_of, occurs_odd}
+use Rattle.cx_base.specs.Parity.{NormalForm, normal_form, symmetric_difference, sum_of}
 use Rattle.cx_base.proofs.Odd.{is_odd, is_odd-suc, is_odd-count}
 use Rattle.cx_base.proofs.ParityLaws.{contains-normal_form, contains-symmetric_difference}
+use Rattle.cx_base.proofs.Differences.{differ_assoc, differ_turned, differ_false, differ_itself, same-differ, same_members, contains-one, difference_assoc, difference_nothing, nothing_difference, difference_itself, same-no_difference}
 use Rattle.cx_semantics.specs.Tables.{Table, get}
 use Rattle.cx_semantics.specs.ProofRules.{IsSum}
 use Rattle.proof_rules.specs.Assignments.{AreDistinct}
 use Rattle.proof_rules.specs.Kinds.{hinted}
 use Rattle.proof_rules.specs.Sums.{zero_sum, plus, flipped, turned, plus_all}
-
-abbrev Set : Type 0
-Set = set.FinSet nat_cmp
-
-pub differ_assoc : (a b c : Bool) → differ (differ a b) c ≡ differ a (differ b c)
-differ_assoc true true true = refl
-differ_assoc true true false = refl
-differ_assoc true false c = refl
-differ_assoc false b c = refl
-
-pub differ_false : (b : Bool) → differ b false ≡ b
-differ_false true = refl
-differ_false false = refl
-
-pub differ_swap : (a b : Bool) → differ a b ≡ differ b a
-differ_swap true true = refl
-differ_swap true false = refl
-differ_swap false true = refl
-differ_swap false false = refl
-
-pub same_members : (s t : Set) → ((q : ℕ) → set.contains s q ≡ set.contains t q) → s ≡ t
-same_members s t h = set.same_set nat_cmp_total set.nat_cmp-IsAntisymmetric s t h
-
-pub contains-one : (x q : ℕ) → set.contains (set.insert (set.empty {R = nat_cmp}) x) q ≡ nat_eq x q
-contains-one x q = set.contains-insert nat_cmp_total (set.empty {R = nat_cmp}) x q ∙ (λ i. (unsigned_tied q x ∙ nat_eq_equiv.symm q x) i || set.contains-empty nat_cmp q i) ∙ or_nothing (nat_eq x q)
-  where
-    or_nothing : (b : Bool) → (b || false) ≡ b
-    or_nothing true = refl
-    or_nothing false = refl
-
-pub difference_assoc : (s t u : Set) → symmetric_difference (symmetric_difference s t) u ≡ symmetric_difference s (symmetric_difference t u)
-difference_assoc s t u = same_members _ _ (λ q.
-    contains-symmetric_difference (symmetric_difference s t) u q ∙ ap (λ b. differ b (set.contains u q)) (contains-symmetric_difference s t q)
-    ∙ differ_assoc (set.contains s q) (set.contains t q) (set.contains u q)
-    ∙ ap (differ (set.contains s q)) (sym (contains-symmetric_difference t u q)) ∙ sym (contains-symmetric_difference s (symmetric_difference t u) q))
-
-pub difference_nothing : (s : Set) → symmetric_difference s set.empty ≡ s
-difference_nothing s = same_members _ _ (λ q. contains-symmetric_difference s set.empty q ∙ ap (differ (set.contains s q)) (set.contains-empty nat_cmp q) ∙ differ_false (set.contains s q))
-
-pub nothing_difference : (s : Set) → symmetric_difference set.empty s ≡ s
-nothing_difference s = same_members _ _ (λ q. contains-symmetric_difference set.empty s q ∙ ap (λ b. differ b (set.contains s q)) (set.contains-empty nat_cmp q))
 
 pub plus_assoc : (p q r : NormalForm) → plus (plus p q) r ≡ plus p (plus q r)
 plus_assoc p q r = λ i. record { variables = difference_assoc p.variables q.variables r.variables i; right_side = differ_assoc p.right_side q.right_side r.right_side i }
@@ -78,7 +38,7 @@ with_literals p (l ∷ lits) = with_literals (with_literal p l) lits
 abbrev places : List Literal → NormalForm
 places lits = record { variables = (normal_form lits).variables; right_side = is_odd (count_by (λ l. l.negative) lits) }
 
-variables-cons : (s : Set) (l : Literal) (lits : List Literal) →
+variables-cons : (s : set.FinSet nat_cmp) (l : Literal) (lits : List Literal) →
     symmetric_difference (symmetric_difference s (set.insert set.empty l.variable)) (normal_form lits).variables ≡ symmetric_difference s (normal_form (l ∷ lits)).variables
 variables-cons s l lits = difference_assoc s _ _ ∙ ap (symmetric_difference s) (same_members _ _ (λ q.
     contains-symmetric_difference (set.insert set.empty l.variable) (normal_form lits).variables q
@@ -94,7 +54,7 @@ with_literals-plus p (l ∷ lits) =
     with_literals-plus (with_literal p l) lits
     ∙ (λ i. record {
       variables = variables-cons p.variables l lits i;
-      right_side = (ap (λ b. differ b (is_odd (count_by (λ m. m.negative) lits))) (differ_swap l.negative p.right_side)
+      right_side = (ap (λ b. differ b (is_odd (count_by (λ m. m.negative) lits))) (differ_turned l.negative p.right_side)
           ∙ differ_assoc p.right_side l.negative (is_odd (count_by (λ m. m.negative) lits))
           ∙ ap (differ p.right_side) (sym (is_odd-count (λ m. m.negative) l lits))) i;
     })
@@ -141,29 +101,11 @@ plus_all-no_hint p table z zs h = ap (λ o. plus_all p (cons_option o (hinted ta
 
 -- ---- nothing is left
 
-differ_itself : (b : Bool) → differ b b ≡ false
-differ_itself true = refl
-differ_itself false = refl
-
-differ_none : (a b : Bool) → differ a b ≡ false → a ≡ b
-differ_none true true h = refl
-differ_none true false h = absurd (true≢false h)
-differ_none false b h = sym h
-
 pub same_from_zero : (p q : NormalForm) → plus p q ≡ zero_sum → p ≡ q
-same_from_zero p q h =
-    let s : p.variables ≡ q.variables = same_members _ _ (λ x. differ_none _ _
-    (sym (contains-symmetric_difference p.variables q.variables x) ∙ ap (λ r. set.contains r.variables x) h ∙ set.contains-empty nat_cmp x)) in
-    λ i. record { variables = s i; right_side = differ_none p.right_side q.right_side (ap (λ r. r.right_side) h) i }
+same_from_zero p q h = λ i. record { variables = same-no_difference p.variables q.variables (ap (λ r. r.variables) h) i; right_side = same-differ p.right_side q.right_side (ap (λ r. r.right_side) h) i }
 
 pub zero_from_same : (p q : NormalForm) → p ≡ q → plus p q ≡ zero_sum
-zero_from_same p q h =
-    ap (plus p) (sym h)
-    ∙ (λ i. record {
-      variables = same_members (symmetric_difference p.variables p.variables) set.empty
-          (λ x. contains-symmetric_difference p.variables p.variables x ∙ differ_itself (set.contains p.variables x) ∙ sym (set.contains-empty nat_cmp x)) i;
-      right_side = differ_itself p.right_side i;
-    })
+zero_from_same p q h = ap (plus p) (sym h) ∙ (λ i. record { variables = difference_itself p.variables i; right_side = differ_itself p.right_side i })
 
 -- ---- the keys of an ordered set
 
@@ -193,11 +135,11 @@ no_keys (k ∷ keys) h = absurd (true≢false (
 -- ---- the target and the parities
 
 module _ (target : List Literal) (parities : List (List Literal)) where
-  pub is_sum : plus_all (plus zero_sum (normal_form target)) parities ≡ zero_sum → IsSum target parities
-  is_sum h = same_from_zero (normal_form target) (sum_of (map normal_form parities)) (ap (λ p. plus p (sum_of (map normal_form parities))) (sym (zero_plus (normal_form target))) ∙ h)
+  pub is_sum : plus_all (normal_form target) parities ≡ zero_sum → IsSum target parities
+  is_sum h = same_from_zero (normal_form target) (sum_of (map normal_form parities)) h
 
-  pub sum_is_zero : IsSum target parities → plus_all (plus zero_sum (normal_form target)) parities ≡ zero_sum
-  sum_is_zero h = ap (λ p. plus p (sum_of (map normal_form parities))) (zero_plus (normal_form target)) ∙ zero_from_same (normal_form target) (sum_of (map normal_form parities)) h
+  pub sum_is_zero : IsSum target parities → plus_all (normal_form target) parities ≡ zero_sum
+  sum_is_zero h = zero_from_same (normal_form target) (sum_of (map normal_form parities)) h
 
 -- ---- an ordered list names each number once
 

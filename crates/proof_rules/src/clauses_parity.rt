@@ -104,8 +104,7 @@ pub(crate) fn judge_target(
 ) -> Result<(), JudgeRefusal>
     ensures { JudgesBy (parity_of_clauses target.now (hinted live.now.clauses hints.now)) result }
 {
-    let mut sum = ParitySum::new(alloc);
-    sum.add(target)?;
+    let sum = ParitySum::of(alloc, target)?;
     if sum.width() > WIDEST {
         return Err(JudgeRefusal::Wrong(Cause::TooWide));
     }

@@ -13,6 +13,8 @@ use std::alloc::Global;
 
 /// Judges a clause by a chain of hints: live clauses, each of which has one literal left or none.
 ///
+/// The target's negations are assumed, and then what each hint has left, in order; hints behind the one with nothing
+/// left are not taken. The causes, in order: `RatHint`, `HintNotLive`, `HintNotUnit`, `HintsEnd`.
 /// It costs the literals of the target and of the hints that are taken, times a logarithm.
 pub fn judge_chain(
     alloc: Global,
@@ -27,6 +29,9 @@ pub fn judge_chain(
 }
 
 /// Judges a parity as the sum of live parities, each counted as often as it is named.
+///
+/// The causes, in order: `RatHint`, `HintNotLive`, `SumDiffers`.
+/// It costs the literals of the target and of the hints, times a logarithm.
 pub fn judge_sum(
     alloc: Global,
     live: &Live,
@@ -39,7 +44,10 @@ pub fn judge_sum(
     sum::judge_target(alloc, live, target.as_slice(), hints)
 }
 
-/// Judges a clause as implied by one live parity.
+/// Judges a clause as implied by the one live parity that the hint names.
+///
+/// The causes, in order: `RatHint`, `HintNotLive`, `NotImplied`.
+/// It costs the literals of both, times a logarithm.
 pub fn judge_clause_of_parity(
     alloc: Global,
     live: &Live,
@@ -55,7 +63,8 @@ pub fn judge_clause_of_parity(
 
 /// Judges a parity of at most 12 variables as implied by live clauses over these variables.
 ///
-/// It costs at most 4,096 and what each clause excludes.
+/// The causes, in order: `RatHint`, `HintNotLive`, `TooWide`, `ClauseOutside`, `NotImplied`.
+/// It costs the literals of the hints, at most 4,096 assignments, and the assignments that each clause excludes.
 pub fn judge_parity_of_clauses(
     alloc: Global,
     live: &Live,

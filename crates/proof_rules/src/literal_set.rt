@@ -40,7 +40,8 @@ impl LiteralSet {
     {
         let mut set = LiteralSet::new(alloc);
         for lit in lits {
-            let _variable = lit.var().number();
+            // Its contract says that no variable is 0.
+            let _number = lit.var().number();
             set.insert(*lit)?;
         }
         Ok(set)

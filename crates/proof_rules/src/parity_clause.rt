@@ -45,8 +45,7 @@ fn is_implied(alloc: Global, parity: &[Lit], clause: &[Lit]) -> Result<bool, All
     if has_opposite(&set, clause) {
         return Ok(true);
     }
-    let mut sum = ParitySum::new(alloc);
-    sum.add(parity)?;
+    let sum = ParitySum::of(alloc, parity)?;
     let variables = sum.variables(alloc)?;
     match sum_outside(&set, &variables) {
         Some(outside) => Ok(outside != sum.right_side()),

@@ -33,13 +33,22 @@ impl Model for ParitySum {
 
 impl ParitySum {
     /// The sum of no parities.
-    pub(crate) fn new(alloc: Global) -> ParitySum
+    fn new(alloc: Global) -> ParitySum
         ensures { result ≡ zero_sum }
     {
         ParitySum {
             variables: BTreeSet::new(alloc),
             right_side: false,
         }
+    }
+
+    /// The sum of one parity: its normal form.
+    pub(crate) fn of(alloc: Global, lits: &[Lit]) -> Result<ParitySum, AllocError>
+        ensures { IfOk result (λ sum. sum ≡ normal_form lits.now) }
+    {
+        let mut sum = ParitySum::new(alloc);
+        sum.add(lits)?;
+        Ok(sum)
     }
 
     /// Adds one variable.
@@ -59,7 +68,7 @@ impl ParitySum {
         self.right_side = bit != self.right_side;
     }
 
-    /// Adds a parity.
+    /// Adds a parity. Without memory the sum is spoilt.
     pub(crate) fn add(&mut self, lits: &[Lit]) -> Result<(), AllocError>
         ensures { OnOk result (self.new ≡ plus self.old (normal_form lits.now)) }
     {
@@ -98,6 +107,7 @@ impl ParitySum {
     {
         let mut list = Vec::new(alloc);
         for variable in &self.variables {
+            // Its contract says that no variable is 0.
             let _number = variable.number();
             list.push(*variable)?;
         }

@@ -34,8 +34,7 @@ pub(crate) fn judge_target(
 ) -> Result<(), JudgeRefusal>
     ensures { JudgesBy (summing target.now (hinted live.now.parities hints.now)) result }
 {
-    let mut sum = ParitySum::new(alloc);
-    sum.add(target)?;
+    let mut sum = ParitySum::of(alloc, target)?;
     add_hinted(&mut sum, live, hints)?;
     if sum.is_zero() {
         Ok(())

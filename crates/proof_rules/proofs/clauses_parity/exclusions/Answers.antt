@@ -1,4 +1,4 @@
-use Rattle.std.proofs.Common.{◌≡◌, sym, ap, ◌∙◌, subst, ◌+◌, ◌*◌, ◌^◌, ◌<◌, ◌≤◌, ◌||◌, ℕ, Bool, false, List, drop, length, get_or, replicate, nat_abs, pos, w64, rules, arith}
+use Rattle.std.proofs.Common.{◌≡◌, sym, ap, ◌∙◌, subst, ◌+◌, ◌^◌, ◌<◌, ◌≤◌, ◌||◌, Bool, false, List, drop, length, get_or, replicate, nat_abs, pos, w64, rules, arith}
 use Rattle.std.proofs.lemmas.List.{drop_more, get_or-replicate, length-replicate, with_items_is}
 use Rattle.std.proofs.lemmas.Int.{to_z-of_z}
 use mir.Val.{SFits}
@@ -13,7 +13,7 @@ use Rattle.proof_rules.proofs.clauses_parity.exclusions.Goals as goal
 pub loop-hint-init : goal.loop-hint-init
 loop-hint-init c =
     let xs = c.args.variables.now in
-    let few : length xs ≤ 12 = c.requires in
+    let few : length xs ≤ 60 = omega arith in
     let items = c.in_ok-table.ensures.items_if_clones_equal (λ y h. h) ∙ ap (λ n. replicate n false) (small_power (length xs) few) in
     let long : length c.in_ok-table.table.items ≡ 2 ^ length xs = ap length items ∙ length-replicate (2 ^ length xs) false in
     record {

@@ -6,15 +6,13 @@ use Rattle.cx_semantics.proofs.RecoveredLaws.{len-distinct}
 use Rattle.proof_rules.specs.Assignments.{Lists}
 use Rattle.proof_rules.specs.Exclusions.{is_outside, all_excluded, Excludes}
 use Rattle.proof_rules.specs.Kinds.{hinted}
-use Rattle.proof_rules.specs.Sums.{plus}
-use Rattle.proof_rules.proofs.SumLaws.{zero_plus}
 use Rattle.proof_rules.proofs.ClausesParity.{too_wide_fails, outside_fails, refused_fails, implied_holds}
 use Rattle.proof_rules.proofs.clauses_parity.judge_target.Goals as goal
 
 pub returns-then-width-gt-WIDEST : goal.returns-then-width-gt-WIDEST
 returns-then-width-gt-WIDEST c =
     let target = c.args.target.now in
-    let form : ◌≡◌ {A = NormalForm} c.add.new.self (normal_form target) = c.in_ok-add.ensures ∙ ap (λ p. plus p (normal_form target)) c.new-sum.ensures ∙ zero_plus (normal_form target) in
+    let form = c.in_ok-sum.ensures in
     let wide : 12 < set.len (normal_form target).variables = omega (arith, c.width.ensures ∙ ap (λ p. set.len p.variables) form) in
     too_wide_fails target (hinted c.args.live.now.clauses c.args.hints.now) wide
 
@@ -22,7 +20,7 @@ pub returns-then-any_outside : goal.returns-then-any_outside
 returns-then-any_outside c =
     let target = c.args.target.now in
     let clauses = hinted c.args.live.now.clauses c.args.hints.now in
-    let form : ◌≡◌ {A = NormalForm} c.add.new.self (normal_form target) = c.in_ok-add.ensures ∙ ap (λ p. plus p (normal_form target)) c.new-sum.ensures ∙ zero_plus (normal_form target) in
+    let form = c.in_ok-sum.ensures in
     let narrow : set.len (normal_form target).variables ≤ 12 = omega (arith, c.width.ensures ∙ ap (λ p. set.len p.variables) form) in
     outside_fails target clauses narrow (ap (λ p. list_any (is_outside p.variables) clauses) (sym form) ∙ sym c.any_outside.ensures ∙ c.if-any_outside.true)
 
@@ -30,7 +28,7 @@ pub exclusions-requires : goal.exclusions-requires
 exclusions-requires c =
     let xs = c.in_ok-variables.variables.items in
     let lists = c.in_ok-variables.ensures in
-    let long : set.len c.add.new.self.variables ≡ length xs = sym (ap set.len lists.same) ∙ len-distinct xs lists.once in
+    let long : set.len c.in_ok-sum.sum.variables ≡ length xs = sym (ap set.len lists.same) ∙ len-distinct xs lists.once in
     omega (arith, ap length c.deref.ensures.value, long, c.width.ensures)
 
 pub returns-then-all_excluded : goal.returns-then-all_excluded
@@ -39,7 +37,7 @@ returns-then-all_excluded c =
     let clauses = hinted c.args.live.now.clauses c.args.hints.now in
     let xs = c.in_ok-variables.variables.items in
     let table = c.in_ok-table.table.items in
-    let form : ◌≡◌ {A = NormalForm} c.add.new.self (normal_form target) = c.in_ok-add.ensures ∙ ap (λ p. plus p (normal_form target)) c.new-sum.ensures ∙ zero_plus (normal_form target) in
+    let form = c.in_ok-sum.ensures in
     let narrow : set.len (normal_form target).variables ≤ 12 = omega (arith, c.width.ensures ∙ ap (λ p. set.len p.variables) form) in
     let P : NormalForm → Type 0 = λ p. Lists p.variables xs in
     implied_holds target clauses xs table (subst P form c.in_ok-variables.ensures) (subst (λ ys. Excludes ys clauses table) c.deref.ensures.value c.in_ok-table.ensures) narrow
@@ -52,7 +50,7 @@ returns c =
     let clauses = hinted c.args.live.now.clauses c.args.hints.now in
     let xs = c.in_ok-variables.variables.items in
     let table = c.in_ok-table.table.items in
-    let form : ◌≡◌ {A = NormalForm} c.add.new.self (normal_form target) = c.in_ok-add.ensures ∙ ap (λ p. plus p (normal_form target)) c.new-sum.ensures ∙ zero_plus (normal_form target) in
+    let form = c.in_ok-sum.ensures in
     let narrow : set.len (normal_form target).variables ≤ 12 = omega (arith, c.width.ensures ∙ ap (λ p. set.len p.variables) form) in
     let P : NormalForm → Type 0 = λ p. Lists p.variables xs in
     refused_fails target clauses xs table (subst P form c.in_ok-variables.ensures) (subst (λ ys. Excludes ys clauses table) c.deref.ensures.value c.in_ok-table.ensures) narrow

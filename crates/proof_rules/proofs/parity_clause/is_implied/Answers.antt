@@ -1,34 +1,28 @@
-use Rattle.std.proofs.Common.{◌≡◌, ◌∙◌, ap, sym, subst, ℕ, List}
-use Rattle.cx_base.specs.Parity.{NormalForm, normal_form}
+use Rattle.std.proofs.Common.{◌∙◌, ap, sym, subst}
+use Rattle.cx_base.specs.Parity.{NormalForm}
 use Rattle.proof_rules.specs.Assignments.{Lists, forced_sum}
-use Rattle.proof_rules.specs.Sums.{plus}
-use Rattle.proof_rules.proofs.SumLaws.{zero_plus}
-use Rattle.proof_rules.proofs.ClauseValues.{implied_by_opposites, decided_by_sum, refused_by_free}
+use Rattle.proof_rules.proofs.ClauseValues.{always_met, decided_by_sum, refused_by_free}
 use Rattle.proof_rules.proofs.parity_clause.is_implied.Goals as goal
 
 pub returns-then-has_opposite : goal.returns-then-has_opposite
-returns-then-has_opposite c = λ v h.
-    Rattle.proof_rules.proofs.ClauseValues.always_met c.in_ok-set.set c.args.clause.now c.in_ok-set.ensures.same (sym c.has_opposite.ensures ∙ c.if-has_opposite.true) v
+returns-then-has_opposite c = λ v h. always_met c.in_ok-set.set c.args.clause.now c.in_ok-set.ensures.same (sym c.has_opposite.ensures ∙ c.if-has_opposite.true) v
 
 pub returns-in-Some : goal.returns-in-Some
 returns-in-Some c =
-    let parity = c.args.parity.now in
     let xs = c.in_ok-variables.variables.items in
-    let form : ◌≡◌ {A = NormalForm} c.add.new.self (normal_form parity) = c.in_ok-add.ensures ∙ ap (λ p. plus p (normal_form parity)) c.new-sum.ensures ∙ zero_plus (normal_form parity) in
+    let form = c.in_ok-sum.ensures in
     let P : NormalForm → Type 0 = λ p. Lists p.variables xs in
     let lists = subst P form c.in_ok-variables.ensures in
     let none = sym c.has_opposite.ensures ∙ c.if-has_opposite.false in
     let forced = ap (forced_sum c.in_ok-set.set) (sym c.deref.ensures.value) ∙ sym c.sum_outside.ensures ∙ c.in-Some.is in
-    decided_by_sum c.in_ok-set.set c.args.clause.now parity xs c.in_ok-set.ensures.same c.in_ok-set.ensures.positive lists none c.in-Some.outside c.right_side.result forced
+    decided_by_sum c.in_ok-set.set c.args.clause.now c.args.parity.now xs c.in_ok-set.ensures.same c.in_ok-set.ensures.positive lists none c.in-Some.outside c.right_side.result forced
     (ap (λ p. p.right_side) (sym form) ∙ sym c.right_side.ensures)
 
 pub returns : goal.returns
 returns c =
-    let parity = c.args.parity.now in
     let xs = c.in_ok-variables.variables.items in
-    let form : ◌≡◌ {A = NormalForm} c.add.new.self (normal_form parity) = c.in_ok-add.ensures ∙ ap (λ p. plus p (normal_form parity)) c.new-sum.ensures ∙ zero_plus (normal_form parity) in
     let P : NormalForm → Type 0 = λ p. Lists p.variables xs in
-    let lists = subst P form c.in_ok-variables.ensures in
+    let lists = subst P c.in_ok-sum.ensures c.in_ok-variables.ensures in
     let none = sym c.has_opposite.ensures ∙ c.if-has_opposite.false in
     let free = ap (forced_sum c.in_ok-set.set) (sym c.deref.ensures.value) ∙ sym c.sum_outside.ensures ∙ c.in-None.is in
-    refused_by_free c.in_ok-set.set c.args.clause.now parity xs c.in_ok-set.ensures.same c.in_ok-set.ensures.positive lists none free
+    refused_by_free c.in_ok-set.set c.args.clause.now c.args.parity.now xs c.in_ok-set.ensures.same c.in_ok-set.ensures.positive lists none free

@@ -1,4 +1,4 @@
-use Rattle.std.proofs.Common.{◌≡◌, ◌∙◌, ap, ◌||◌}
+use Rattle.std.proofs.Common.{◌∙◌, ap, ◌||◌}
 use Rattle.cx_base.specs.Literals.{same_literal}
 use Rattle.cx_semantics.specs.Chain.{has_literal}
 use Rattle.proof_rules.proofs.LiteralLaws.{has-inserted}

@@ -1,4 +1,4 @@
-use Rattle.std.proofs.Common.{◌≡◌, ◌≤◌, ◌∙◌, ap, sym, subst, ◌||◌, drop, ◌+◌, arith}
+use Rattle.std.proofs.Common.{◌≤◌, ◌∙◌, ap, sym, subst, ◌||◌, drop, ◌+◌, arith}
 use Rattle.std.proofs.Math.ListN.{drop_of_length-le}
 use Rattle.cx_semantics.specs.Chain.{has_literal}
 use Rattle.proof_rules.specs.LiteralSets.{ArePositive}

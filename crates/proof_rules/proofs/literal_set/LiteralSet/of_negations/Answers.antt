@@ -1,4 +1,4 @@
-use Rattle.std.proofs.Common.{◌≡◌, ◌∙◌, ap, sym, ◌||◌, drop, ◌+◌, ◌∷◌}
+use Rattle.std.proofs.Common.{◌∙◌, ap, sym, ◌||◌, drop, ◌+◌, ◌∷◌}
 use Rattle.std.proofs.Math.ListN.{drop_of_length-le}
 use Rattle.cx_base.specs.Literals.{negate}
 use Rattle.cx_semantics.specs.Chain.{has_literal, negations}

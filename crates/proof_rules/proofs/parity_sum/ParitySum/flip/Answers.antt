@@ -1,4 +1,4 @@
-use Rattle.std.proofs.Common.{◌∙◌, ap, sym, subst, true, false, nat_cmp, ◌≡◌, ℕ, List, cond, is_eq}
+use Rattle.std.proofs.Common.{◌∙◌, ap, sym, true, false, nat_cmp, cond, is_eq}
 use Rattle.proof_rules.specs.Sums.{flipped}
 use Rattle.proof_rules.proofs.SumLaws.{from_list-flipped, has_key}
 use Rattle.proof_rules.proofs.parity_sum.ParitySum.flip.Goals as goal

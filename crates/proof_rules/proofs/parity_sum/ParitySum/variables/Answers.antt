@@ -1,4 +1,4 @@
-use Rattle.std.proofs.Common.{◌≡◌, ◌++◌, ◌∙◌, ap, sym, subst, ℕ, append-nil, nat_cmp, List}
+use Rattle.std.proofs.Common.{◌++◌, ◌∙◌, ap, sym, subst, ℕ, append-nil, nat_cmp, List}
 use Rattle.std.specs.FinSet as set
 use Rattle.std.specs.Map.Iter.{deref}
 use Rattle.std.specs.List.Sorted.{IsStrictlySortedBy}
