@@ -1,1 +1,4 @@
 pub mod PickLaws
+pub mod HeapLaws
+pub mod ShuffleLaws
+pub mod StandLaws

@@ -1,109 +1,121 @@
 //! Variables by their scores.
-ghost use Rattle.std.specs.Prelude.{◌≡◌, ◌<◌, ◌≤◌, ◌+◌, ◌-◌, ◌/◌, ◌^◌, ℕ, List, length, replicate, map, slice_set, IfOk};
-ghost use Rattle.std.specs.List.{All};
+ghost use Rattle.std.specs.Prelude.{◌≡◌, ◌<◌, ◌≤◌, ◌+◌, ◌-◌, ℕ, List, length, replicate, true, IfOk};
 ghost use Rattle.cx_base.specs.declared.literal.TheConstants.{MAX_VARIABLE};
-ghost use Rattle.search_policy.specs.Scores.{Picks, bumped, raised, score_of};
+ghost use Rattle.cx_trail.specs.Sequence.{TrailState, TakesBack};
+ghost use Rattle.search_policy.specs.Scores.{Picks, bumped};
+ghost use Rattle.search_policy.specs.Standing.{OrderState, AllStand};
+ghost use Rattle.search_policy.specs.Heaps.{item_at};
 
+use crate::heap::{Heap, put_back, rebuild, settle, sift_up};
+use crate::scan::scan;
+use crate::scores::raise;
 use cx_base::Var;
 use cx_trail::Trail;
 use std::alloc::{AllocError, Global};
 use std::marker::Model;
 
-/// A score for each variable.
+/// A score for each variable, and a heap of variables by score.
+///
+/// It takes its memory when it is made.
 #[derive(Drop)]
 pub struct Order {
     scores: Vec<u32>,
+    heap: Heap,
+    count: usize,
 }
 
 impl Model for Order {
-    ghost use Rattle.std.specs.Prelude.{List, ℕ, length, ◌≤◌, ◌<◌};
+    ghost use Rattle.std.specs.Prelude.{List, ℕ, length, map, nat_lt, ◌≤◌, ◌<◌};
     ghost use Rattle.std.specs.List.{All};
     ghost use Rattle.cx_base.specs.declared.literal.TheConstants.{MAX_VARIABLE};
+    ghost use Rattle.search_policy.specs.Standing.{OrderState};
 
-    ghost Value = { List ℕ };
+    ghost Value = { OrderState };
 
-    ghost view = { λ o. o.scores.items };
+    ghost use Rattle.search_policy.specs.Heaps.{IsOrder};
 
-    ghost invariant = { λ o. (length o.scores.items ≤ MAX_VARIABLE) × All (λ s. s < 1000000000) o.scores.items };
-}
+    ghost view = { λ o. record { scores = o.scores.items; standing = map (λ p. nat_lt p o.count) o.heap.places.items } };
 
-// The better of the best so far and one more variable.
-fn better(scores: &[u32], trail: &Trail, best: Option<Var>, next: u32) -> Option<Var>
-    requires count { length scores.now ≡ trail.now.variables }
-    requires next { next < length scores.now }
-    requires few { length scores.now ≤ MAX_VARIABLE }
-    requires best { Picks next scores.now trail.now.entries best }
-    ensures { Picks (next + 1) scores.now trail.now.entries result }
-{
-    let variable = Var::new(next + 1);
-    match trail.value(variable) {
-        Some(_) => best,
-        None => match best {
-            None => Some(variable),
-            Some(other) => {
-                if scores[next as usize] > scores[other.number() as usize - 1] {
-                    Some(variable)
-                } else {
-                    Some(other)
-                }
-            }
-        },
-    }
-}
-
-// Halves each score, rounded down.
-fn halve(scores: &mut [u32])
-    ensures halved { scores.new ≡ map (λ s. s / 2) scores.old }
-{
-    for score in scores.iter_mut() {
-        *score /= 2;
-    }
-}
-
-// Adds 1 to the score at a place, and halves all where it reaches the limit.
-fn raise(scores: &mut [u32], at: usize)
-    requires at { at < length scores.old }
-    requires small { All (λ s. s < 1000000000) scores.old }
-    ensures raised { scores.new ≡ raised scores.old at }
-    ensures small { All (λ s. s < 1000000000) scores.new }
-{
-    let score = scores[at] + 1;
-    scores[at] = score;
-    if score == 1_000_000_000 {
-        halve(scores);
-    }
+    ghost invariant = { λ o. (length o.scores.items ≤ MAX_VARIABLE) × All (λ s. s < 1000000000) o.scores.items
+        × IsOrder o.scores.items o.heap.cells.items o.heap.places.items o.count };
 }
 
 impl Order {
-    /// All scores 0.
+    /// All scores 0, and all variables in the heap.
     pub fn make(alloc: Global, vars: u32) -> Result<Order, AllocError>
         requires { vars ≤ MAX_VARIABLE }
-        ensures { IfOk result (λ o. o ≡ replicate vars 0) }
+        ensures { IfOk result (λ o. o ≡ record { scores = replicate vars 0; standing = replicate vars true }) }
     {
+        let scores = vec![in alloc; 0; vars as usize]?;
+        let mut cells = Vec::with_capacity(alloc, vars as usize)?;
+        let mut places = Vec::with_capacity(alloc, vars as usize)?;
+        for index in 0..vars {
+            cells.push(index)?;
+            places.push(index)?;
+        }
         Ok(Order {
-            scores: vec![in alloc; 0; vars as usize]?,
+            scores,
+            heap: Heap { cells, places },
+            count: vars as usize,
         })
     }
 
-    /// The unassigned variable of the greatest score, of several the least.
+    /// The unassigned variable of the greatest score, of several the least, by a look at each variable.
     pub fn pick(&self, trail: &Trail) -> Option<Var>
-        requires { length self.now ≡ trail.now.variables }
-        ensures { Picks (length self.now) self.now trail.now.entries result }
+        requires { length self.now.scores ≡ trail.now.variables }
+        ensures { Picks (length self.now.scores) self.now.scores trail.now.entries result }
     {
-        let scores = self.scores.as_slice();
-        let mut best = None;
-        for next in 0..trail.vars() {
-            best = better(scores, trail, best, next);
-        }
-        best
+        scan(self.scores.as_slice(), trail)
     }
 
-    /// Adds 1 to a score.
+    /// The same variable, from the heap. Assigned variables that come before it leave the heap.
+    pub fn pick_from_heap(&mut self, trail: &Trail) -> Option<Var>
+        requires { AllStand self.old trail.now }
+        ensures picks { Picks (length self.old.scores) self.old.scores trail.now.entries result }
+        ensures scores { self.new.scores ≡ self.old.scores }
+        ensures stand { AllStand self.new trail.now }
+    {
+        let count = settle(self.scores.as_slice(), &mut self.heap, self.count, trail);
+        self.count = count;
+        if count == 0 {
+            None
+        } else {
+            Some(Var::new(self.heap.cells[0] + 1))
+        }
+    }
+
+    /// Puts the variables of higher levels back into the heap. It is called before the trail goes back.
+    ///
+    /// Its time is in what the trail will take back.
+    pub fn back_to(&mut self, trail: &Trail, level: u32)
+        requires { AllStand self.old trail.now }
+        ensures scores { self.new.scores ≡ self.old.scores }
+        ensures stand { AllStand self.new trail.now }
+        ensures back { (t : TrailState) → TakesBack level trail.now t → AllStand self.new t }
+    {
+        self.count = put_back(
+            self.scores.as_slice(),
+            &mut self.heap,
+            self.count,
+            trail,
+            level,
+        );
+    }
+
+    /// Adds 1 to a score, and halves all scores where it reaches the limit.
     pub fn bump(&mut self, variable: Var)
         requires low { 1 ≤ variable }
-        requires high { variable ≤ length self.old }
-        ensures { self.new ≡ bumped self.old variable }
+        requires high { variable ≤ length self.old.scores }
+        ensures { self.new ≡ record self.old { scores = bumped self.old.scores variable } }
     {
-        raise(&mut self.scores, variable.number() as usize - 1);
+        let index = variable.number() as usize - 1;
+        if raise(&mut self.scores, index) {
+            rebuild(self.scores.as_slice(), &mut self.heap, self.count);
+            return;
+        }
+        let place = self.heap.places[index] as usize;
+        if place < self.count {
+            sift_up(self.scores.as_slice(), &mut self.heap, self.count, place);
+        }
     }
 }

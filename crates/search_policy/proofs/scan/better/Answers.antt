@@ -1,7 +1,7 @@
 use Rattle.std.proofs.Common.{ap, ◌∙◌}
 use Rattle.cx_base.specs.Literals.{Literal}
 use Rattle.search_policy.proofs.PickLaws.{picks_past}
-use Rattle.search_policy.proofs.order.better.Goals as goal
+use Rattle.search_policy.proofs.scan.better.Goals as goal
 
 pub returns-in-Some : goal.returns-in-Some
 returns-in-Some c =
