@@ -1,0 +1,12 @@
+//! Learning a clause from a conflict.
+#![tactic(auto)]
+
+mod antecedents;
+mod fault;
+mod learning;
+mod resolving;
+mod touching;
+
+pub use antecedents::Antecedents;
+pub use fault::CoreFault;
+pub use learning::{Learned, analyse};

@@ -1,0 +1,88 @@
+//! Resolving a conflict with the clauses that implied its literals.
+ghost use Rattle.std.specs.Prelude.{◌≡◌, ℕ, ◌<◌, length, IsTrue, IsFalse, IfOk, IfErr, nat_lt, ◌⊎◌};
+ghost use Rattle.std.specs.Ordering.{nat_cmp};
+ghost use Rattle.std.specs.BTreeSet.{contains};
+ghost use Rattle.cx_base.specs.Literals.{Literal, negate};
+ghost use Rattle.cx_semantics.specs.Chain.{has_literal};
+ghost use Rattle.cx_trail.specs.Sequence.{IsFalseIn, IsTrail};
+ghost use Rattle.conflict_learn.specs.declared.fault.CoreFault.TheVariants.{Write};
+ghost use Rattle.conflict_learn.specs.Learning.{AreHeld, IsLearned, IsOfLevel, level_at};
+
+use crate::antecedents::Antecedents;
+use crate::fault::CoreFault;
+use crate::touching::touch;
+use cx_base::{Lit, LitList};
+use cx_trail::Trail;
+use std::alloc::Global;
+use std::collections::BTreeSet;
+
+/// What a conflict was resolved to.
+#[derive(Drop)]
+pub(crate) struct Resolvent {
+    pub lits: LitList,
+    pub resolved: LitList,
+}
+
+// Whether the place that was taken out last is kept: the first one where no other of the current level is left, a later one where its level is above 0.
+fn is_kept(trail: &Trail, touched: &BTreeSet<usize>, place: usize, is_first: bool) -> bool
+    requires within { (q : ℕ) → IsTrue (contains nat_cmp touched.now q) → q < length trail.now.entries }
+    requires place { place < length trail.now.entries }
+    ensures first { IsTrue is_first → IsTrue result → (q : ℕ) → IsTrue (contains nat_cmp touched.now q) → level_at trail.now q < trail.now.level }
+    ensures more { IsTrue is_first → IsFalse result → (q : ℕ) × IsTrue (contains nat_cmp touched.now q) × (level_at trail.now q ≡ trail.now.level) }
+    ensures later { IsFalse is_first → result ≡ nat_lt 0 (level_at trail.now place) }
+{
+    if is_first {
+        match touched.last() {
+            Some(next) => trail.entry(*next).level < trail.level(),
+            None => true,
+        }
+    } else {
+        trail.entry(place).level > 0
+    }
+}
+
+// Resolves the conflict until one literal of the current level is left.
+pub(crate) fn resolve<S: Antecedents>(
+    alloc: Global,
+    trail: &Trail,
+    conflict: &LitList,
+    source: &mut S,
+) -> Result<Resolvent, CoreFault>
+    requires ready { S.ready source.old }
+    requires stands { S.trail source.old ≡ trail.now }
+    requires above { 0 < trail.now.level }
+    requires all_false { (m : Literal) → IsTrue (has_literal conflict.now m) → IsFalseIn trail.now.entries m }
+    requires one_now { (m : Literal) × IsTrue (has_literal conflict.now m) × IsOfLevel trail.now m trail.now.level }
+    ensures trail { S.trail source.new ≡ S.trail source.old }
+    ensures keeps { AreHeld (S.holds source.old) (S.holds source.new) }
+    ensures learned { IfOk result (λ r. IsLearned trail.now conflict.now (S.holds source.new) r.resolved r.lits) }
+    ensures sound { IsTrail trail.now }
+    ensures write { IfErr result (λ e. e ≡ Write → S.faults source.old < S.faults source.new) }
+    ensures goes_on { IfOk result (λ r. S.ready source.new) }
+    ensures gave_up { IfErr result (λ e. S.ready source.new ⊎ S.stopped source.new) }
+{
+    let mut touched = BTreeSet::new(alloc);
+    touch(trail, conflict.as_slice(), &None, trail.len(), &mut touched)?;
+    let mut lits = Vec::new(alloc);
+    let mut resolved = Vec::new(alloc);
+    while let Some(place) = touched.pop_last() {
+        let literal = trail.entry(place).literal;
+        if is_kept(trail, &touched, place, lits.is_empty()) {
+            lits.push(literal.negate())?;
+        } else {
+            let clause = source.clause_of(trail.entry(place).reason, literal)?;
+            touch(
+                trail,
+                clause.as_slice(),
+                &Some(literal),
+                place,
+                &mut touched,
+            )?;
+            resolved.push(literal)?;
+        }
+    }
+    Ok(Resolvent {
+        lits: LitList::from_vec(lits),
+        resolved: LitList::from_vec(resolved),
+    })
+}

@@ -1,0 +1,4 @@
+pub mod CellLaws
+pub mod LevelLaws
+pub mod TruthLaws
+pub mod KeptLaws

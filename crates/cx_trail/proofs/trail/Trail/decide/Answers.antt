@@ -1,0 +1,8 @@
+use Rattle.std.proofs.Common.{arith}
+use Rattle.cx_trail.proofs.LevelLaws.{level_count}
+use Rattle.cx_trail.proofs.trail.Trail.decide.Goals as goal
+
+pub overflow_add-self : goal.overflow_add-self
+overflow_add-self c =
+    let k = c.push.invariant in
+    omega (arith, level_count _ _ _ k.levels, k.short, k.few)

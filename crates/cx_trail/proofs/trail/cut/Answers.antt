@@ -1,0 +1,29 @@
+use Rattle.std.proofs.Common.{◌≡◌, ◌≢◌, ◌<◌, ◌+◌, ◌-◌, ◌∙◌, List, length, get_or, set, ap, arith, subst, sym, ⊎_elim}
+use Rattle.std.proofs.lemmas.Bool.{cases_eq}
+use Rattle.std.proofs.lemmas.List.{get_or_default}
+use Rattle.cx_base.specs.Literals.{negate, code_of}
+use Rattle.cx_trail.specs.declared.entry.Entry.{Entry}
+use Rattle.cx_trail.specs.declared.entry.Truth.{Truth}
+use Rattle.cx_trail.specs.declared.entry.Truth.TheVariants.{Open}
+use Rattle.cx_trail.specs.Sequence.{entry_at, no_entry}
+use Rattle.cx_trail.specs.Cells.{AreTruths}
+use Rattle.cx_trail.proofs.TruthLaws.{cut_truths}
+use Rattle.cx_trail.proofs.trail.cut.Goals as goal
+
+pub loop-left-preserved : goal.loop-left-preserved
+loop-left-preserved c =
+    let i = c.loop-left.invariant in
+    let n = c.loop-left.left - 1 in
+    let cells = c.args.cells.now in
+    let old = c.loop-left.truths.items in
+    let back : n + 1 ≡ c.loop-left.left = omega (arith, c.loop-left-test.true) in
+    let inside : n < length cells = omega (arith, i.few, c.requires.count) in
+    let seen : get_or cells n c.index-cells-left-in-loop-left.result ≡ entry_at cells n = get_or_default cells n _ no_entry inside in
+    let high : c.args.level < (entry_at cells n).level = subst (λ (x : Entry). c.args.level < x.level) (get_or_default cells n _ no_entry inside) c.if-cells-left.true in
+    let before : AreTruths (length cells) (n + 1) cells old = subst (λ x. AreTruths (length cells) x cells old) (sym back) i.truths in
+    let written = c.set_truths.ensures ∙ ap (λ (x : Entry). set (set old (code_of x.literal) Open) (code_of (negate x.literal)) Open) seen in
+    record {
+      few = omega (arith, i.few);
+      above = λ k from h. ⊎_elim (λ (e : k ≡ n). subst (λ x. c.args.level < (entry_at cells x).level) (sym e) high) (λ (ne : k ≢ n). i.above k (omega arith) h) (cases_eq k n);
+      truths = subst (λ (ts : List Truth). AreTruths (length cells) n cells ts) (sym written) (cut_truths n cells old c.requires.apart before inside);
+    }

@@ -1,0 +1,8 @@
+//! The sequence of assigned literals with levels and reasons.
+#![tactic(auto)]
+
+mod entry;
+mod trail;
+
+pub use entry::{Entry, Reason, Truth};
+pub use trail::Trail;

@@ -1,0 +1,282 @@
+//! The trail.
+ghost use Rattle.std.specs.Prelude.{◌≡◌, ◌+◌, ◌-◌, ◌<◌, ◌≤◌, ◌≢◌, ◌++◌, ◌∷◌, [], ◌↔◌, length, take, get_or, slice_set, slice_index, IfOk, MatchOption, IsTrue, MatchBool, not, ℕ};
+ghost use Rattle.cx_base.specs.Literals.{Literal, negate, code_of};
+ghost use Rattle.cx_base.specs.declared.literal.TheConstants.{MAX_VARIABLE};
+ghost use Rattle.cx_trail.specs.Sequence.{TrailState, IsTrail, IsOpenIn, IsAssignedIn, IsTrueIn, IsFalseIn, Means, HasEntry, entry_at, pushed, TakesBack, IsFull, HasOpen};
+ghost use Rattle.cx_trail.specs.Cells.{ArePaired, AreApart, AreTruths, var_at};
+
+use crate::entry::{Entry, Reason, Truth};
+use cx_base::{Lit, Var};
+use std::alloc::{AllocError, Global};
+use std::marker::Model;
+
+/// Assigned literals in order, with levels and reasons.
+///
+/// It takes its memory when it is made. Each call takes constant time but `back_to`, whose time is in what it takes back.
+#[derive(Drop)]
+pub struct Trail {
+    vars: u32,
+    depth: u32,
+    count: usize,
+    cells: Vec<Entry>,
+    places: Vec<u32>,
+    truths: Vec<Truth>,
+}
+
+impl Model for Trail {
+    ghost use Rattle.std.specs.Prelude.{take};
+    ghost use Rattle.cx_trail.specs.Sequence.{TrailState};
+
+    ghost Value = { TrailState };
+
+    ghost use Rattle.cx_trail.specs.Cells.{IsKept};
+
+    ghost view = { λ t. record { variables = t.vars; level = t.depth; entries = take t.count t.cells.items } };
+
+    ghost invariant = { λ t. IsKept t.vars t.depth t.count t.cells.items t.places.items t.truths.items };
+}
+
+// Moves the entry's variable to place `count`.
+fn put(cells: &mut Vec<Entry>, places: &mut Vec<u32>, count: usize, entry: Entry)
+    requires paired { ArePaired (length cells.old.items) cells.old.items places.old.items }
+    requires low { 1 ≤ entry.literal.variable }
+    requires high { entry.literal.variable ≤ length cells.old.items }
+    requires open { count ≤ get_or places.old.items entry.literal.variable 0 }
+    ensures paired { ArePaired (length cells.old.items) cells.new.items places.new.items }
+    ensures kept { take count cells.new.items ≡ take count cells.old.items }
+    ensures put { entry_at cells.new.items count ≡ entry }
+    ensures room { count < length cells.old.items }
+{
+    let variable = entry.literal.var().number() as usize;
+    let from = places[variable] as usize;
+    let other = cells[count];
+    let moved = other.literal.var().number() as usize;
+    cells[from] = other;
+    places[moved] = from as u32;
+    cells[count] = entry;
+    places[variable] = count as u32;
+}
+
+// Gives a literal and its negation their values.
+fn set_truths(truths: &mut Vec<Truth>, literal: Lit, of_literal: Truth, of_negation: Truth)
+    requires own { code_of literal < length truths.old.items }
+    requires other { code_of (negate literal) < length truths.old.items }
+    ensures { truths.new.items ≡ slice_set (slice_set truths.old.items (code_of literal) of_literal) (code_of (negate literal)) of_negation }
+{
+    truths[literal.code()] = of_literal;
+    truths[literal.negate().code()] = of_negation;
+}
+
+// How many of the first `count` cells have levels up to `level`. The literals of the others become unassigned.
+fn cut(cells: &[Entry], truths: &mut Vec<Truth>, count: usize, level: u32) -> usize
+    requires count { count ≤ length cells.now }
+    requires apart { AreApart cells.now }
+    requires truths { AreTruths (length cells.now) count cells.now truths.old.items }
+    ensures few { result ≤ count }
+    ensures last { 0 < result → (entry_at cells.now (result - 1)).level ≤ level }
+    ensures above { (i : ℕ) → result ≤ i → i < count → level < (entry_at cells.now i).level }
+    ensures truths { AreTruths (length cells.now) result cells.now truths.new.items }
+{
+    let mut left = count;
+    while left > 0 && cells[left - 1].level > level {
+        left -= 1;
+        set_truths(truths, cells[left].literal, Truth::Open, Truth::Open);
+    }
+    left
+}
+
+impl Trail {
+    /// The empty trail over this number of variables.
+    pub fn make(alloc: Global, vars: u32) -> Result<Trail, AllocError>
+        requires { vars ≤ MAX_VARIABLE }
+        ensures { IfOk result (λ t. t ≡ record { variables = vars; level = 0; entries = [] }) }
+    {
+        let mut cells = Vec::with_capacity(alloc, vars as usize)?;
+        let mut places = Vec::with_capacity(alloc, vars as usize + 1)?;
+        let mut truths = Vec::new(alloc);
+        truths.resize(2 * vars as usize + 2, Truth::Open)?;
+        places.push(0)?;
+        for i in 0..vars {
+            let literal = Lit::new(Var::new(i + 1), false);
+            cells.push(Entry {
+                literal,
+                level: 0,
+                reason: Reason::Decision,
+            })?;
+            places.push(i)?;
+        }
+        Ok(Trail {
+            vars,
+            depth: 0,
+            count: 0,
+            cells,
+            places,
+            truths,
+        })
+    }
+
+    /// The number of variables.
+    pub fn vars(&self) -> u32
+        ensures count { result ≡ self.now.variables }
+        ensures sound { IsTrail self.now }
+    {
+        self.vars
+    }
+
+    /// The current level.
+    pub fn level(&self) -> u32
+        ensures level { result ≡ self.now.level }
+        ensures sound { IsTrail self.now }
+    {
+        self.depth
+    }
+
+    /// How many literals are assigned.
+    pub fn len(&self) -> usize
+        ensures len { result ≡ length self.now.entries }
+        ensures sound { IsTrail self.now }
+    {
+        self.count
+    }
+
+    /// Whether no literal is assigned.
+    pub fn is_empty(&self) -> bool
+        ensures { IsTrue result ↔ (length self.now.entries ≡ 0) }
+    {
+        self.count == 0
+    }
+
+    /// Whether each variable is assigned.
+    pub fn is_full(&self) -> bool
+        ensures count { IsTrue result ↔ length self.now.entries ≡ self.now.variables }
+        ensures full { MatchBool result (IsFull self.now) (HasOpen self.now) }
+        ensures sound { IsTrail self.now }
+    {
+        self.count == self.vars as usize
+    }
+
+    /// The entry at this place.
+    pub fn entry(&self, place: usize) -> Entry
+        requires { place < length self.now.entries }
+        ensures is { result ≡ entry_at self.now.entries place }
+        ensures sound { IsTrail self.now }
+    {
+        self.cells[place]
+    }
+
+    /// The literals in order, with levels and reasons.
+    pub fn seq(&self) -> &[Entry]
+        ensures { result.now ≡ self.now.entries }
+    {
+        &self.cells[..self.count]
+    }
+
+    /// The value of the literal.
+    pub fn truth(&self, literal: Lit) -> Truth
+        requires { literal.variable ≤ self.now.variables }
+        ensures means { Means self.now.entries literal result }
+        ensures sound { IsTrail self.now }
+    {
+        self.truths[literal.code()]
+    }
+
+    /// The value of the variable.
+    pub fn value(&self, variable: Var) -> Option<bool>
+        requires { variable ≤ self.now.variables }
+        ensures value { MatchOption result (IsOpenIn self.now.entries variable)
+            (λ b. IsTrueIn self.now.entries (record { variable = variable; negative = not b })) }
+        ensures sound { IsTrail self.now }
+    {
+        match self.truth(Lit::new(variable, false)) {
+            Truth::True => Some(true),
+            Truth::False => Some(false),
+            Truth::Open => None,
+        }
+    }
+
+    /// The place of a false literal's negation.
+    pub fn place_of(&self, literal: Lit) -> usize
+        requires { IsFalseIn self.now.entries literal }
+        ensures within { result < length self.now.entries }
+        ensures negated { (entry_at self.now.entries result).literal ≡ negate literal }
+        ensures sound { IsTrail self.now }
+    {
+        self.places[literal.var().number() as usize] as usize
+    }
+
+    /// The level of an assigned variable.
+    pub fn level_of(&self, variable: Var) -> u32
+        requires { IsAssignedIn self.now.entries variable }
+        ensures { (e : Entry) → HasEntry self.now.entries variable e → result ≡ e.level }
+    {
+        let place = self.places[variable.number() as usize] as usize;
+        self.cells[place].level
+    }
+
+    /// The reason of an assigned variable.
+    pub fn reason_of(&self, variable: Var) -> Reason
+        requires { IsAssignedIn self.now.entries variable }
+        ensures { (e : Entry) → HasEntry self.now.entries variable e → result ≡ e.reason }
+    {
+        let place = self.places[variable.number() as usize] as usize;
+        self.cells[place].reason
+    }
+
+    // Puts a literal at the end.
+    fn push(&mut self, literal: Lit, level: u32, reason: Reason)
+        requires high { literal.variable ≤ self.old.variables }
+        requires open { IsOpenIn self.old.entries literal.variable }
+        requires rises { self.old.level ≤ level }
+        requires step { level ≤ self.old.level + 1 }
+        requires opens { self.old.level < level → reason ≡ Reason.Decision }
+        requires stays { 0 < level → level ≡ self.old.level → reason ≢ Reason.Decision }
+        ensures pushed { self.new ≡ pushed self.old level literal reason }
+        ensures sound { IsTrail self.new }
+    {
+        let _variable = literal.var().number();
+        put(
+            &mut self.cells,
+            &mut self.places,
+            self.count,
+            Entry {
+                literal,
+                level,
+                reason,
+            },
+        );
+        set_truths(&mut self.truths, literal, Truth::True, Truth::False);
+        self.count += 1;
+        self.depth = level;
+    }
+
+    /// Opens a level with this literal.
+    pub fn decide(&mut self, literal: Lit)
+        requires high { literal.variable ≤ self.old.variables }
+        requires open { IsOpenIn self.old.entries literal.variable }
+        ensures pushed { self.new ≡ pushed self.old (self.old.level + 1) literal Reason.Decision }
+        ensures sound { IsTrail self.new }
+    {
+        self.push(literal, self.depth + 1, Reason::Decision);
+    }
+
+    /// Puts a literal at the current level. Above level 0 the reason is no decision.
+    pub fn imply(&mut self, literal: Lit, reason: Reason)
+        requires high { literal.variable ≤ self.old.variables }
+        requires open { IsOpenIn self.old.entries literal.variable }
+        requires reason { 0 < self.old.level → reason ≢ Reason.Decision }
+        ensures pushed { self.new ≡ pushed self.old self.old.level literal reason }
+        ensures sound { IsTrail self.new }
+    {
+        self.push(literal, self.depth, reason);
+    }
+
+    /// Takes back exactly the literals of higher levels.
+    pub fn back_to(&mut self, level: u32)
+        requires { level ≤ self.old.level }
+        ensures back { TakesBack level self.old self.new }
+        ensures sound { IsTrail self.new }
+    {
+        self.count = cut(&self.cells, &mut self.truths, self.count, level);
+        self.depth = level;
+    }
+}

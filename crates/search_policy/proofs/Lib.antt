@@ -1,0 +1,4 @@
+pub mod PickLaws
+pub mod HeapLaws
+pub mod ShuffleLaws
+pub mod StandLaws

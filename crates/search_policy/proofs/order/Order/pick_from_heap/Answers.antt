@@ -1,0 +1,48 @@
+use Rattle.std.proofs.Common.{◌≡◌, ◌<◌, ◌≤◌, ◌+◌, ℕ, List, length, sym, ap, ◌∙◌, subst, arith}
+use Rattle.std.proofs.lemmas.List.{get_or_read}
+use Rattle.search_policy.specs.Scores.{Picks, IsBest}
+use Rattle.search_policy.specs.Heaps.{AreShuffled, HasOpenOnes, IsHeap}
+use Rattle.search_policy.specs.Standing.{OrderState, AllStand}
+use Rattle.search_policy.proofs.StandLaws.{open_ones, stand_of, picks_none, picks_top}
+use Rattle.search_policy.proofs.order.Order.pick_from_heap.Goals.{then-count-eq0, else-count-eq0}
+use Rattle.search_policy.proofs.order.Order.pick_from_heap.Goals as goal
+
+pub settle-count-requires-clause-stand : goal.settle-count-requires-clause-stand
+settle-count-requires-clause-stand c =
+    let k = c.self.invariant.2 in
+    let a = subst (λ (o : OrderState). AllStand o c.args.trail.now) (sym c.self.view_is) c.requires in
+    subst (λ (xs : List ℕ). HasOpenOnes (length xs) c.args.trail.now.entries c.self.inside.heap.places.items c.self.inside.count) (sym c.as_slice.ensures.value)
+    (open_ones _ _ _ _ k.shuffled.place_count a)
+
+pub returns-clause-picks : goal.returns-clause-picks
+returns-clause-picks c =
+    let k = c.self.invariant.2 in
+    let e = c.settle-count.ensures in
+    let same = c.as_slice.ensures.value in
+    let scores = c.self.inside.scores.items in
+    let cells = c.settle-count.new.heap.cells.items in
+    let places = c.settle-count.new.heap.places.items in
+    let entries = c.args.trail.now.entries in
+    let count = c.settle-count.result in
+    let shuffled = subst (λ (xs : List ℕ). AreShuffled (length xs) cells places) same e.shuffled in
+    let heap = subst (λ (xs : List ℕ). IsHeap xs cells count) same e.heap in
+    let stand = subst (λ (xs : List ℕ). HasOpenOnes (length xs) entries places count) same e.stand in
+    subst (λ (o : OrderState). Picks (length o.scores) o.scores entries c.if-count-eq0.result) c.self.view_is (elim c.if-count-eq0.branch [
+      | then-count-eq0 w ↦ subst (λ r. Picks (length scores) scores entries r) (sym w.result-is) (picks_none (length scores) entries places count w.if-count-eq0.true stand)
+      | else-count-eq0 w ↦
+          let some : 0 < count = omega (arith, w.if-count-eq0.false) in
+          let few : count ≤ length scores = omega (arith, e.few, k.few) in
+          let top = get_or_read cells 0 _ (omega (arith, shuffled.cell_count)) w.index.ensures 0 in
+          let best = picks_top scores cells places count entries shuffled heap stand some few (e.top some) in
+          subst (λ r. Picks (length scores) scores entries r) (sym w.result-is)
+          (subst (λ v. IsBest (length scores) scores entries v) (sym (w.new.ensures ∙ ap (λ x. x + 1) top)) best)
+    ])
+
+pub returns-clause-stand : goal.returns-clause-stand
+returns-clause-stand c =
+    let a = subst (λ (o : OrderState). AllStand o c.args.trail.now) (sym c.self.view_is) c.requires in
+    let e = c.settle-count.ensures in
+    let same = c.as_slice.ensures.value in
+    stand_of _ _ _ _ a.variables
+    (subst (λ (xs : List ℕ). length c.settle-count.new.heap.places.items ≡ length xs) same e.shuffled.place_count)
+    (subst (λ (xs : List ℕ). HasOpenOnes (length xs) c.args.trail.now.entries c.settle-count.new.heap.places.items c.settle-count.result) same e.stand)

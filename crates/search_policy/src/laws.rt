@@ -1,0 +1,17 @@
+//! What keeps each unassigned variable in the heap.
+ghost use Rattle.std.specs.Prelude.{◌≡◌, ◌+◌, ◌++◌, ◌≤◌, ℕ, [], ◌∷◌, List, replicate, true};
+ghost use Rattle.cx_base.specs.Literals.{Literal};
+ghost use Rattle.cx_trail.specs.Sequence.{TrailState, pushed};
+ghost use Rattle.cx_trail.specs.declared.entry.Reason.{Reason};
+ghost use Rattle.search_policy.specs.Standing.{OrderState, AllStand};
+
+/// All variables stand in a new order.
+pub fn new_order_stands()
+    ensures { (t : TrailState) → AllStand (record { scores = replicate t.variables 0; standing = replicate t.variables true }) t }
+{}
+
+/// A literal more on the trail.
+pub fn longer_trail_stands()
+    ensures { (o : OrderState) (t : TrailState) (level : ℕ) (l : Literal) (reason : Reason)
+        → AllStand o t → AllStand o (pushed t level l reason) }
+{}

@@ -1,0 +1,58 @@
+//! Propagation up to the end of the trail or a conflict.
+ghost use Rattle.std.specs.Prelude.{◌≡◌, ◌≢◌, ◌<◌, ◌≤◌, ◌+◌, ◌*◌, ℕ, [], List, length, vec_capacity};
+ghost use Rattle.watch_lists.specs.Watching.{AreGuarded, IsBehind, Propagates};
+ghost use Rattle.watch_lists.specs.Turns.{IsRest};
+ghost use Rattle.watch_lists.specs.Events.{Happens};
+
+use crate::lists::NodeLists;
+use crate::nodes::Nodes;
+use crate::turn::walk_list;
+use clause_arena::Arena;
+use cx_base::ClauseRef;
+use cx_trail::Trail;
+
+/// What propagation came to.
+#[derive(Clone, Copy, PartialEq, Eq, Debug, Drop)]
+pub enum Event {
+    /// Each attached clause has a true literal, or two different unassigned ones.
+    Quiet,
+    /// Each literal of this attached clause is false.
+    Conflict(ClauseRef),
+}
+
+// Looks at each literal of the trail that was not looked at.
+pub(crate) fn propagate(
+    looked: &mut Vec<usize>,
+    nodes: &mut Nodes,
+    lists: &mut NodeLists,
+    arena: &Arena,
+    trail: &mut Trail,
+) -> Event
+    requires rest { IsRest trail.old.variables nodes.old.held.items nodes.old.attached.items lists.old.lists arena.now }
+    requires top { length looked.old.items ≡ trail.old.level + 1 }
+    requires behind { IsBehind looked.old.items trail.old }
+    requires guarded { AreGuarded looked.old.items nodes.old.held.items nodes.old.attached.items trail.old.entries }
+    ensures attached { nodes.new.attached.items ≡ nodes.old.attached.items }
+    ensures top { length looked.new.items ≡ length looked.old.items }
+    ensures rest { IsRest trail.old.variables nodes.new.held.items nodes.old.attached.items lists.new.lists arena.now }
+    ensures behind { IsBehind looked.new.items trail.new }
+    ensures guarded { AreGuarded looked.new.items nodes.new.held.items nodes.old.attached.items trail.new.entries }
+    ensures propagates { Propagates nodes.old.attached.items arena.now trail.old trail.new }
+    ensures nodes { lists.new.nodes ≡ lists.old.nodes }
+    ensures room { vec_capacity looked.new ≡ vec_capacity looked.old }
+    ensures happens { Happens nodes.old.attached.items arena.now trail.new result }
+{
+    let top = trail.level() as usize;
+    'ahead: while looked[top] < trail.len() {
+        let head = looked[top];
+        let entry = trail.entry(head);
+        match walk_list(nodes, lists, arena, trail, entry.literal.negate()) {
+            Some(reference) => return Event::Conflict(reference),
+            None => {
+                let _count = trail.len();
+                looked[top] = head + 1;
+            }
+        }
+    }
+    Event::Quiet
+}
