@@ -86,7 +86,7 @@ fn cut(cells: &[Entry], truths: &mut Vec<Truth>, count: usize, level: u32) -> us
 }
 
 impl Trail {
-    /// The empty trail over this number of variables.
+    /// The empty trail over this number of variables. It fails only for want of memory.
     pub fn make(alloc: Global, vars: u32) -> Result<Trail, AllocError>
         requires { vars ≤ MAX_VARIABLE }
         ensures { IfOk result (λ t. t ≡ record { variables = vars; level = 0; entries = [] }) }

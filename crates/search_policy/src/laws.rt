@@ -1,8 +1,10 @@
 //! What keeps each unassigned variable in the heap.
-ghost use Rattle.std.specs.Prelude.{◌≡◌, ◌+◌, ◌++◌, ◌≤◌, ℕ, [], ◌∷◌, List, replicate, true};
+ghost use Rattle.std.specs.Prelude.{◌≡◌, ◌+◌, ◌++◌, ◌≤◌, ℕ, [], ◌∷◌, List, replicate, true, Option};
 ghost use Rattle.cx_base.specs.Literals.{Literal};
 ghost use Rattle.cx_trail.specs.Sequence.{TrailState, pushed};
 ghost use Rattle.cx_trail.specs.declared.entry.Reason.{Reason};
+ghost use Rattle.cx_trail.specs.declared.entry.Entry.{Entry};
+ghost use Rattle.search_policy.specs.Scores.{Picks};
 ghost use Rattle.search_policy.specs.Standing.{OrderState, AllStand};
 
 /// All variables stand in a new order.
@@ -14,4 +16,10 @@ pub fn new_order_stands()
 pub fn longer_trail_stands()
     ensures { (o : OrderState) (t : TrailState) (level : ℕ) (l : Literal) (reason : Reason)
         → AllStand o t → AllStand o (pushed t level l reason) }
+{}
+
+/// There is one best variable: the scan and the heap pick the same.
+pub fn picks_are_one()
+    ensures { (n : ℕ) (scores : List ℕ) (entries : List Entry) (a b : Option ℕ)
+        → Picks n scores entries a → Picks n scores entries b → a ≡ b }
 {}

@@ -57,7 +57,7 @@ fn raise(looked: &mut Vec<usize>, level: usize)
 }
 
 impl Watches {
-    /// Watches with no clause.
+    /// Watches with no clause, over so many variables.
     pub fn make(alloc: Global, vars: u32) -> Result<Watches, AllocError>
         requires { vars ≤ MAX_VARIABLE }
         ensures { IfOk result (λ w. w ≡ record { variables = vars; looked = 0 ∷ []; held = []; attached = [] }) }
@@ -76,7 +76,9 @@ impl Watches {
         })
     }
 
-    /// Implies what clauses force, up to the end of the trail or a conflict.
+    /// Implies what the attached clauses force, up to the end of the trail or a conflict. It takes no memory.
+    ///
+    /// Each literal that it puts on the trail has the clause that forced it as its reason. A call after a conflict finds a conflict again.
     pub fn next_event(&mut self, arena: &Arena, trail: &mut Trail) -> Event
         requires { Fits self.old arena.now trail.old }
         ensures fits { Fits self.new arena.now trail.new }
@@ -95,7 +97,9 @@ impl Watches {
         )
     }
 
-    /// Watches a clause at its first two literals.
+    /// Watches a clause at its first two literals. One that is attached already is left as it is.
+    ///
+    /// The two have different variables. The first is not false, and the second is false at the current level or not at all. Without memory nothing changes.
     pub fn attach(
         &mut self,
         arena: &Arena,
@@ -124,14 +128,14 @@ impl Watches {
         Ok(())
     }
 
-    /// Detaches each clause that is no longer in the arena.
+    /// Detaches each clause that is no longer in the arena. It takes no memory.
     pub fn detach_all_removed(&mut self, arena: &Arena)
         ensures { IsDetached arena.now self.old self.new }
     {
         relist(&mut self.nodes, &mut self.lists, arena);
     }
 
-    /// Forgets what was looked at on higher levels.
+    /// Forgets what was looked at on higher levels, as the trail takes them back. It touches no clause.
     pub fn back_to(&mut self, level: u32)
         ensures { self.new ≡ record self.old { looked = take (level + 1) self.old.looked } }
     {
