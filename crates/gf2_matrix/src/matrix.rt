@@ -48,7 +48,8 @@ impl Matrix {
     pub fn make(alloc: Global, vars: u32, parities: &ParityList) -> Result<Matrix, AllocError>
         requires few { vars ≤ MAX_VARIABLE }
         requires within { AllByRecursion (AreWithin vars) parities.now }
-        ensures { IfOk result (IsMadeOf vars parities.now) }
+        ensures made { IfOk result (IsMadeOf vars parities.now) }
+        ensures of_given { IfOk result IsOfGiven }
     {
         let lists = parities.as_slice();
         if lists.len() > u32::MAX as usize {
