@@ -6,12 +6,12 @@ use Rattle.std.proofs.lemmas.List.{length-map, get_or-set_same, get_or-set_other
 use Rattle.std.proofs.Math.ListN.{get_or-map, length-set, get_or-eq_default}
 use Rattle.std.proofs.lemmas.List.FromFn.{get_or-map-range_with_len, length-map-range_with_len}
 use Rattle.std.proofs.lemmas.Bool.{cases_eq, cases_lt, ne_eqb}
-use Rattle.cx_base.specs.Literals.{Literal, differ, literal_true, value_of}
+use Rattle.cx_base.specs.Literals.{Literal, differ, value_of}
 use Rattle.cx_base.specs.Problem.{AreWithin, parity_met}
 use Rattle.cx_base.specs.Parity.{NormalForm, normal_form}
 use Rattle.cx_base.proofs.ParityLaws.{Sums}
 use Rattle.cx_semantics.specs.Chain.{has_literal}
-use Rattle.cx_semantics.specs.Forced.{Solves, Consistent, Forced}
+use Rattle.cx_semantics.specs.Forced.{Solves, Forced}
 use Rattle.gf2_rows.specs.Bits.{parity}
 use Rattle.gf2_matrix.specs.Equations.{Equation, has_term, total, MeetsEquation, form_of, sum_of_numbers, parity_number}
 use Rattle.gf2_matrix.proofs.Products.{products_turned, products_same}
@@ -19,10 +19,10 @@ use Rattle.gf2_matrix.proofs.Forms.{contains-form, contains-form_zero, contains-
 use Rattle.gf2_matrix.proofs.Literals.{contains_parity}
 use Rattle.gauss_jordan.specs.Rows.{IsLinear, IsFinished, Agrees}
 use Rattle.gauss_jordan.specs.declared.state.Held.{Held}
-use Rattle.gauss_jordan.specs.State.{State, known, held_at, is_unassigned, IsSilent, IsImplied, IsBroken, AreRising, AgreesWith}
+use Rattle.gauss_jordan.specs.State.{State, known, held_at, is_unassigned, IsImplied, IsBroken, AreRising, AgreesWith}
 use Rattle.gauss_jordan.specs.System.{just_value, part, has_at, equation_at, has_term_at, total_at, right_at, IsSystemOf, filled, IsWhole, IsUnit, SilentFromQuiet, ImpliedFromUnit, BrokenFromWhole}
 use Rattle.gauss_jordan.proofs.Quiet.{open_from_quiet}
-use Rattle.gauss_jordan.proofs.Known.{known_true, agrees_known, has_known, known_value, resized, length-resized, resized-at, met-resized, all_met-resized, form_met, form_missed, meets_form}
+use Rattle.gauss_jordan.proofs.Known.{known_true, agrees_known, has_known, resized, length-resized, resized-at, all_met-resized, form_met, form_missed}
 
 -- ---- the part
 pub part-at : (s : State) (x : ℕ) → get_or (part s) x None ≡ just_value (get_or s.values x None)
@@ -293,8 +293,8 @@ sum_zero vars given [] within are = refl
 sum_zero vars given (k ∷ numbers) within are =
     let lt : k - 1 < length given = let h = are.0 in omega arith in
     (λ i. differ
-      ((contains_parity (parity_number given k) 0 ∙ no_zero vars (parity_number given k) (every-at (AreWithin vars) given (k - 1) [] within lt)) i)
-      (sum_zero vars given numbers within are.1 i))
+    ((contains_parity (parity_number given k) 0 ∙ no_zero vars (parity_number given k) (every-at (AreWithin vars) given (k - 1) [] within lt)) i)
+    (sum_zero vars given numbers within are.1 i))
 
 -- the values sum over the equation as over the form
 dense_sums : (vars : ℕ) (v : List Bool) (f : NormalForm) → set.contains f.variables 0 ≡ false → Sums (suc vars) v f → Sums (suc vars) v (form_of (dense vars f))

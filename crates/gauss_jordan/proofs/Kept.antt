@@ -11,7 +11,7 @@ use Rattle.cx_base.specs.Problem.{AreWithin}
 use Rattle.gauss_jordan.specs.State.{fresh}
 use Rattle.gauss_jordan.specs.declared.state.Held.{Held}
 use Rattle.gauss_jordan.specs.declared.state.Mood.TheVariants.{Busy, Calm, Broken}
-use Rattle.gauss_jordan.specs.State.{State, Named, keep, keep_named, is_unassigned, held_at, known, IsSilent, IsBroken, IsNamedNow, assigned, pushed, back, names}
+use Rattle.gauss_jordan.specs.State.{State, Named, keep, keep_named, is_unassigned, IsSilent, IsBroken, IsNamedNow, assigned, pushed, back, names}
 use Rattle.gauss_jordan.specs.System.{has_at, IsUnit}
 use Rattle.gauss_jordan.proofs.Known.{known_value}
 use Rattle.gauss_jordan.proofs.Events.{implied_by_sum}

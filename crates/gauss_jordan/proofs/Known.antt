@@ -1,18 +1,17 @@
 -- The literals that values make true, and values that agree with them.
-use Rattle.std.proofs.Common.{◌≡◌, ◌≢◌, ℕ, ◌+◌, ◌-◌, ◌<◌, ◌≤◌, zero, suc, Bool, true, false, not, ◌&&◌, ◌||◌, eqb, nat_eq, max, List, [], ◌∷◌, map, length, get_or, Option, Some, None, count_by, refl, sym, ap, ◌∙◌, subst, arith, inl, inr, true≢false}
-use Rattle.std.specs.List.{list_all, list_any, AllByRecursion, range_with_len}
+use Rattle.std.proofs.Common.{◌≡◌, ℕ, ◌+◌, ◌-◌, ◌<◌, ◌≤◌, zero, suc, Bool, true, false, not, ◌&&◌, ◌||◌, max, List, [], ◌∷◌, map, length, get_or, Option, Some, None, refl, sym, ap, ◌∙◌, subst, arith, inl, inr, true≢false}
+use Rattle.std.specs.List.{list_all, AllByRecursion, range_with_len}
 use Rattle.std.specs.FinSet as set
 use Rattle.std.proofs.Math.ListN.{get_or-eq_default}
 use Rattle.std.proofs.lemmas.List.FromFn.{get_or-map-range_with_len, length-map-range_with_len}
-use Rattle.std.proofs.lemmas.List.Sums.{sum_by-cons}
-use Rattle.std.proofs.lemmas.Bool.{cases_eq, cases_lt, eq-eqb, ne_eqb, eqb-true}
+use Rattle.std.proofs.lemmas.Bool.{cases_lt, eq-eqb, eqb-true}
 use Rattle.cx_base.specs.Literals.{Literal, differ, value_of, literal_true, same_literal}
 use Rattle.cx_base.specs.Problem.{AreWithin, parity_met}
-use Rattle.cx_base.specs.Parity.{NormalForm, normal_form}
+use Rattle.cx_base.specs.Parity.{normal_form}
 use Rattle.cx_base.proofs.Odd.{parity_met-cons}
 use Rattle.cx_base.proofs.ParityLaws.{sum_of_members, Sums, AreBelow, Sums-from_met, met-from_Sums}
 use Rattle.cx_semantics.specs.Chain.{has_literal}
-use Rattle.gf2_matrix.specs.Equations.{Equation, has_term, total, MeetsEquation, form_of}
+use Rattle.gf2_matrix.specs.Equations.{Equation, has_term, MeetsEquation, form_of}
 use Rattle.gf2_matrix.proofs.Forms.{contains-form, contains-form_zero, sum_below-same, meets_from_Sums, Sums_from_meets}
 use Rattle.gauss_jordan.specs.declared.state.Held.{Held}
 use Rattle.gauss_jordan.specs.State.{is_unassigned, known_from}

@@ -5,7 +5,7 @@ use Rattle.std.proofs.lemmas.Bool.{cases_eq, cases_lt, ne_eqb, eqb-false}
 use Rattle.std.proofs.lemmas.List.{length-map, get_or-map}
 use Rattle.std.specs.Slice.Scan.{HoldsNowhere}
 use mathlib.Core.Bool.{beq}
-use Rattle.cx_base.specs.Literals.{Literal, differ}
+use Rattle.cx_base.specs.Literals.{differ}
 use Rattle.cx_base.specs.Problem.{AreWithin, parity_met}
 use Rattle.gf2_rows.specs.Bits.{bit_of, is_outside}
 use Rattle.gf2_matrix.specs.Equations.{Equation, has_term, total, MeetsEquation, form_of}
@@ -14,7 +14,7 @@ use Rattle.gf2_matrix.proofs.Reduce.{found_open, none_open}
 use Rattle.gauss_jordan.specs.declared.found.RowKind.TheVariants.{Met, Unmet, Unit, Open}
 use Rattle.gauss_jordan.specs.Rows.{IsFinished, IsUnfinished, part_at}
 use Rattle.gauss_jordan.specs.State.{State, is_unassigned, IsSilent, IsImplied, IsBroken}
-use Rattle.gauss_jordan.specs.System.{just_value, part, equation_at, has_term_at, total_at, right_at, IsSystemOf, filled, IsWhole, IsUnit}
+use Rattle.gauss_jordan.specs.System.{part, equation_at, has_term_at, total_at, right_at, IsSystemOf, filled, IsWhole, IsUnit}
 use Rattle.gauss_jordan.specs.Found.{IsClosed, IsClosedBut, SumsTo, IsKind, IsMasked}
 use Rattle.gauss_jordan.proofs.Events.{silent_from_quiet, implied_from_unit, broken_from_whole, finished_from_whole, part-at, none_from, length-filled}
 

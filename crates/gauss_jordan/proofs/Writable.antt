@@ -1,10 +1,10 @@
 -- A named row can be written as a parity.
-use Rattle.std.proofs.Common.{◌≡◌, ℕ, ◌+◌, ◌-◌, ◌<◌, ◌≤◌, Bool, true, false, not, ◌&&◌, ◌||◌, List, [], ◌∷◌, map, length, get_or, Option, Some, None, inl, inr, ◌⊎◌, refl, sym, ap, ◌∙◌, subst, arith, true≢false}
+use Rattle.std.proofs.Common.{◌≡◌, ℕ, ◌+◌, ◌≤◌, Bool, true, false, ◌||◌, List, [], ◌∷◌, length, get_or, Option, Some, None, inl, inr, ◌⊎◌, refl, sym, ap, ◌∙◌, subst, arith, true≢false}
 use Rattle.std.specs.List.{list_any}
 use Rattle.std.specs.Ordering.{nat_cmp, eq_by_cmp, is_eq}
 use Rattle.std.specs.FinSet as set
 use Rattle.std.proofs.Math.ListN.{get_or-eq_default}
-use Rattle.std.proofs.lemmas.Bool.{cases_eq, cases_lt, eq-eqb, ne_eqb}
+use Rattle.std.proofs.lemmas.Bool.{cases_eq, cases_lt}
 use Rattle.std.specs.Cmp.{nat_cmp_total, tied_itself}
 use Rattle.cx_base.specs.Literals.{Literal, differ, value_of}
 use Rattle.cx_base.specs.Problem.{parity_met}
@@ -13,8 +13,8 @@ use Rattle.cx_base.proofs.Odd.{parity_met-cons}
 use Rattle.gf2_matrix.specs.Written.{IsWritable}
 use Rattle.gf2_matrix.proofs.Forms.{same_form}
 use Rattle.gf2_matrix.proofs.Literals.{contains_parity, right_parity}
-use Rattle.gauss_jordan.specs.State.{State, Named, known, AgreesWith, IsBroken}
-use Rattle.gauss_jordan.specs.System.{has_at, filled}
+use Rattle.gauss_jordan.specs.State.{State, Named, IsBroken}
+use Rattle.gauss_jordan.specs.System.{filled}
 use Rattle.gauss_jordan.specs.Right.{IsRight, column_at}
 use Rattle.gauss_jordan.proofs.Events.{known_agrees, filled_agrees}
 

@@ -1,5 +1,5 @@
 -- What each level below the current one has reached.
-use Rattle.std.specs.Prelude.{◌≡◌, ℕ, ◌<◌, ◌≤◌, Bool, List, map, slice_index_or, Option, Some, None}
+use Rattle.std.specs.Prelude.{◌≡◌, ℕ, ◌<◌, ◌≤◌, Bool, map, slice_index_or, Some, None}
 use Rattle.gauss_jordan.specs.declared.state.Held.{Held}
 use Rattle.gauss_jordan.specs.State.{State, IsSilent, assigned, back, held_at, keep, pushed}
 

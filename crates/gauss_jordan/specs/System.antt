@@ -2,7 +2,7 @@
 use Rattle.std.specs.Prelude.{◌≡◌, ℕ, ◌+◌, ◌<◌, Bool, true, false, not, List, [], map, length, slice_index_or, Option, Some, None, unwrap_or, IsTrue}
 use Rattle.std.specs.List.{list_all, AllByRecursion}
 use Rattle.std.specs.FinSet as set
-use Rattle.cx_base.specs.Literals.{Literal, differ}
+use Rattle.cx_base.specs.Literals.{differ}
 use Rattle.cx_base.specs.Problem.{AreWithin, parity_met}
 use Rattle.cx_base.specs.Parity.{NormalForm}
 use Rattle.gf2_matrix.specs.Equations.{Equation, has_term, total, MeetsEquation, form_of}

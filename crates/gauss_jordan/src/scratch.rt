@@ -184,10 +184,7 @@ fn answer(
                 in_conflict: true,
             };
             copy_row(&mut slots[last], matrix, row, naming);
-            (
-                ParityEvent::Conflict(Row::new(last as u32)),
-                Mood::Broken,
-            )
+            (ParityEvent::Conflict(Row::new(last as u32)), Mood::Broken)
         }
         Found::Literal(row, column, _) => {
             let naming = Naming {

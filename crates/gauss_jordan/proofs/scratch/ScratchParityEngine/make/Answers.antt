@@ -1,7 +1,6 @@
-use Rattle.std.proofs.Common.{◌≡◌, ◌∙◌, ◌+◌, ◌<◌, ℕ, List, ap, sym, subst, length, arith}
+use Rattle.std.proofs.Common.{◌∙◌, ◌+◌, ap, length, arith}
 use Rattle.gf2_matrix.specs.Content.{words_for}
-use Rattle.gauss_jordan.specs.declared.slot.Slot.{Slot}
-use Rattle.gauss_jordan.proofs.ScratchEvents.{AreEmpty, made_empty, state_fresh, scratch_fresh}
+use Rattle.gauss_jordan.proofs.ScratchEvents.{made_empty, state_fresh, scratch_fresh}
 use Rattle.gauss_jordan.proofs.scratch.ScratchParityEngine.make.Goals as goal
 
 pub invariant_of-result : goal.invariant_of-result
@@ -22,8 +21,7 @@ returns c =
     let m = c.in_ok-matrix.matrix in
     let made = c.in_ok-matrix.ensures.made in
     let cols = c.columns-columns.ensures.count in
-    let given = c.given.ensures.count in
-    (
+    let given = c.given.ensures.count in (
       length m.columns + 1,
       state_fresh m c.args.vars (length m.columns) c.args.parities.now c.in_ok-held.held.items c.in_ok-slots.slots.items made.vars_are made.given_are c.in_ok-held.ensures
           (made_empty c.columns-columns.result c.given.result (length m.columns) (length m.given) c.in_ok-slots.slots.items cols given c.in_ok-slots.ensures.count c.in_ok-slots.ensures.empty),
