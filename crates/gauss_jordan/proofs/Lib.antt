@@ -6,3 +6,4 @@ pub mod RowKinds
 pub mod ScratchSteps
 pub mod ScratchEvents
 pub mod Writable
+pub mod Watching

@@ -6,3 +6,4 @@ pub mod Right
 pub mod Found
 pub mod Slots
 pub mod Stored
+pub mod Watching
