@@ -11,7 +11,7 @@ use Rattle.cx_base.specs.Problem.{AreWithin, parity_met}
 use Rattle.cx_base.specs.Parity.{NormalForm, normal_form, sum_of}
 use Rattle.cx_base.proofs.ParityLaws.{contains-symmetric_difference, sum_below, sum_of_members, Sums, AllSum, AreBelow, Sums-from_met, Sums-sum_of}
 use Rattle.gf2_rows.specs.Bits.{parity}
-use Rattle.gf2_matrix.specs.Equations.{Equation, has_term, total, MeetsEquation, numbers_from, form_of, parity_number, sum_of_numbers}
+use Rattle.gf2_matrix.specs.Equations.{Equation, has_term, total, MeetsEquation, numbers_from, form_of, parity_number, numbered, sum_of_numbers}
 
 -- ---- the variables of an equation
 numbers-below : (k y : ℕ) (bs : List Bool) → y < k → list_any (λ z. nat_eq z y) (numbers_from k bs) ≡ false
@@ -70,12 +70,14 @@ through f g (x ∷ xs) = ap (differ (f (g x))) (through f g xs)
 pub contains-sum_of_numbers : (given : List (List Literal)) (numbers : List ℕ) (y : ℕ)
     → set.contains (sum_of_numbers given numbers).variables y ≡ parity (map (λ k. set.contains (normal_form (parity_number given k)).variables y) numbers)
 contains-sum_of_numbers given numbers y =
-    contains-sum_of (map (λ k. normal_form (parity_number given k)) numbers) y ∙ through (λ f. set.contains f.variables y) (λ k. normal_form (parity_number given k)) numbers
+    contains-sum_of (map normal_form (numbered given numbers)) y ∙ through (λ f. set.contains f.variables y) normal_form (numbered given numbers)
+    ∙ through (λ ls. set.contains (normal_form ls).variables y) (parity_number given) numbers
 
 pub right-sum_of_numbers : (given : List (List Literal)) (numbers : List ℕ)
     → (sum_of_numbers given numbers).right_side ≡ parity (map (λ k. (normal_form (parity_number given k)).right_side) numbers)
 right-sum_of_numbers given numbers =
-    right-sum_of (map (λ k. normal_form (parity_number given k)) numbers) ∙ through (λ f. f.right_side) (λ k. normal_form (parity_number given k)) numbers
+    right-sum_of (map normal_form (numbered given numbers)) ∙ through (λ f. f.right_side) normal_form (numbered given numbers)
+    ∙ through (λ ls. (normal_form ls).right_side) (parity_number given) numbers
 
 -- ---- values that meet them
 differ-move : (a b c : Bool) → differ a (differ b c) ≡ differ b (differ a c)
@@ -159,7 +161,7 @@ AreNumbers count [] = Unit {0}
 AreNumbers count (k ∷ ks) = ((1 ≤ k) × (k ≤ count)) × AreNumbers count ks
 
 numbers_sum : (vars m : ℕ) (v : List Bool) (given : List (List Literal)) (numbers : List ℕ) → vars ≤ m → AllByRecursion (AreWithin vars) given
-    → list_all (parity_met v) given ≡ true → AreNumbers (length given) numbers → AllSum (suc m) v (map (λ k. normal_form (parity_number given k)) numbers)
+    → list_all (parity_met v) given ≡ true → AreNumbers (length given) numbers → AllSum (suc m) v (map normal_form (numbered given numbers))
 numbers_sum vars m v given [] le within met are = tt
 numbers_sum vars m v given (k ∷ numbers) le within met are =
     let lt : k - 1 < length given = let h = are.0 in omega arith in (
@@ -172,4 +174,4 @@ numbers_sum vars m v given (k ∷ numbers) le within met are =
 pub sum_met : (vars m : ℕ) (v : List Bool) (given : List (List Literal)) (numbers : List ℕ) → vars ≤ m → AllByRecursion (AreWithin vars) given
     → list_all (parity_met v) given ≡ true → AreNumbers (length given) numbers → Sums (suc m) v (sum_of_numbers given numbers)
 sum_met vars m v given numbers le within met are =
-    Sums-sum_of (suc m) v (map (λ k. normal_form (parity_number given k)) numbers) (numbers_sum vars m v given numbers le within met are)
+    Sums-sum_of (suc m) v (map normal_form (numbered given numbers)) (numbers_sum vars m v given numbers le within met are)

@@ -33,13 +33,16 @@ numbers_from k (b ∷ bs) = cond b (k ∷ numbers_from (k + 1) bs) (numbers_from
 abbrev pub form_of : Equation → NormalForm
 form_of e = record { variables = set.from_list (numbers_from 1 e.terms); right_side = e.right }
 
--- the list with number k, from 1
+-- the parity with number k, from 1, and the parities with these numbers, in order and with repeats
 abbrev pub parity_number : List (List Literal) → ℕ → List Literal
 parity_number parities k = slice_index_or parities (k - 1) []
 
--- the sum of the parities with these numbers, from 1; a number twice counts twice
+abbrev pub numbered : List (List Literal) → List ℕ → List (List Literal)
+numbered parities numbers = map (parity_number parities) numbers
+
+-- the sum of the parities with these numbers; a number twice counts twice
 abbrev pub sum_of_numbers : List (List Literal) → List ℕ → NormalForm
-sum_of_numbers parities numbers = sum_of (map (λ k. normal_form (parity_number parities k)) numbers)
+sum_of_numbers parities numbers = sum_of (map normal_form (numbered parities numbers))
 
 -- normal forms as stored values
 abbrev pub form_code : Coded NormalForm
