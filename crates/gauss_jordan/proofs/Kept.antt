@@ -1,0 +1,375 @@
+-- Assignments, levels and backjumps keep what an engine keeps.
+use Rattle.std.proofs.Common.{zero, suc, ◌≡◌, ◌≢◌, ℕ, ◌-◌, ◌<◌, ◌≤◌, Bool, true, false, cond, not, ◌&&◌, nat_le, List, map, length, get_or, set, Option, Some, None, inl, inr, true≢false, refl, sym, ap, ◌∙◌, subst, arith}
+use Rattle.std.proofs.Math.ListN.{get_or-map, length-set, get_or-eq_default}
+use Rattle.std.proofs.lemmas.List.{length-map, get_or-set_same, get_or-set_other, ext_get_or}
+use Rattle.std.proofs.lemmas.Bool.{cases_eq, cases_lt, le-leb, lt-leb, leb-true}
+use Rattle.std.specs.Prelude.{replicate, ◌+◌}
+use Rattle.std.proofs.lemmas.Simd.{length-replicate}
+use Rattle.std.specs.List.{AllByRecursion}
+use Rattle.cx_base.specs.Literals.{Literal}
+use Rattle.cx_base.specs.Problem.{AreWithin}
+use Rattle.gauss_jordan.specs.State.{fresh}
+use Rattle.gauss_jordan.specs.declared.state.Held.{Held}
+use Rattle.gauss_jordan.specs.declared.state.Mood.TheVariants.{Busy, Calm, Broken}
+use Rattle.gauss_jordan.specs.State.{State, Named, keep, keep_named, is_unassigned, IsSilent, IsBroken, IsNamedNow, assigned, pushed, back, names}
+use Rattle.gauss_jordan.specs.System.{has_at, IsUnit}
+use Rattle.gauss_jordan.proofs.Known.{known_value}
+use Rattle.gauss_jordan.proofs.Events.{implied_by_sum}
+use Rattle.gauss_jordan.specs.Levels.{at_level, LowerLevelsStay}
+use Rattle.gauss_jordan.specs.Right.{IsSummed}
+use Rattle.gauss_jordan.specs.Right.{column_at, IsPending, IsReason, IsRight}
+
+-- ---- values by level
+keep-twice : (l p : ℕ) (o : Option Held) → p ≤ l → keep p (keep l o) ≡ keep p o
+keep-twice l p None le = refl
+keep-twice l p (Some h) le =
+    elim (cases_lt l h.level) [
+      | inl above ↦ ap (λ b. keep p (cond b (Some h) None)) (lt-leb h.level l above) ∙ sym (ap (λ b. cond b (Some h) None) (lt-leb h.level p (omega arith)))
+      | inr below ↦ ap (λ b. keep p (cond b (Some h) None)) (le-leb h.level l below)
+    ]
+
+keep-low : (l : ℕ) (o : Option Held) → ((h : Held) → o ≡ Some h → h.level ≤ l) → keep l o ≡ o
+keep-low l None low = refl
+keep-low l (Some h) low = ap (λ b. cond b (Some h) None) (le-leb h.level l (low h refl))
+
+kept-values : (l : ℕ) (s : State) → ((x : ℕ) (h : Held) → get_or s.values x None ≡ Some h → h.level ≤ l) → map (keep l) s.values ≡ s.values
+kept-values l s low =
+    ext_get_or None (map (keep l) s.values) s.values (length-map s.values (keep l))
+    (λ x lt. get_or-map (keep l) s.values x None ∙ keep-low l (get_or s.values x None) (low x))
+
+kept-twice : (l p : ℕ) (values : List (Option Held)) → p ≤ l → map (keep p) (map (keep l) values) ≡ map (keep p) values
+kept-twice l p values le =
+    ext_get_or None (map (keep p) (map (keep l) values)) (map (keep p) values)
+    (length-map (map (keep l) values) (keep p) ∙ length-map values (keep l) ∙ sym (length-map values (keep p)))
+    (λ x lt.
+    get_or-map (keep p) (map (keep l) values) x None ∙ ap (keep p) (get_or-map (keep l) values x None)
+    ∙ keep-twice l p (get_or values x None) le ∙ sym (get_or-map (keep p) values x None))
+
+-- a value of a higher level is not seen from below
+kept-set : (p x : ℕ) (h : Held) (values : List (Option Held)) → p < h.level → get_or values x None ≡ None → map (keep p) (set values x (Some h)) ≡ map (keep p) values
+kept-set p x h values lt free =
+    ext_get_or None (map (keep p) (set values x (Some h))) (map (keep p) values)
+    (length-map (set values x (Some h)) (keep p) ∙ length-set values x (Some h) ∙ sym (length-map values (keep p)))
+    (λ y in'.
+    get_or-map (keep p) (set values x (Some h)) y None
+    ∙ elim (cases_eq y x) [
+      | inl e ↦
+          let inside : x < length values =
+          omega (arith, length-map (set values x (Some h)) (keep p), length-set values x (Some h)) in
+          ap (λ z. keep p (get_or (set values x (Some h)) z None)) e ∙ ap (keep p) (get_or-set_same values x (Some h) None inside)
+          ∙ ap (λ b. cond b (Some h) None) (lt-leb h.level p lt)
+          ∙ sym (ap (keep p) free) ∙ ap (λ z. keep p (get_or values z None)) (sym e)
+      | inr ne ↦ ap (keep p) (get_or-set_other values x y (Some h) None ne)
+    ]
+    ∙ sym (get_or-map (keep p) values y None))
+
+-- silence rests on the values alone
+silent_same : (s t : State) → s.vars ≡ t.vars → s.parities ≡ t.parities → s.values ≡ t.values → IsSilent s → IsSilent t
+silent_same s t ev ep es silent =
+    let made : (v : ℕ) → s.vars ≡ v → IsSilent (record s { vars = v }) = λ v e. subst (λ w. IsSilent (record s { vars = w })) e silent in
+    let made2 : IsSilent (record s { vars = t.vars; parities = t.parities }) = subst (λ q. IsSilent (record s { vars = t.vars; parities = q })) ep (made t.vars ev) in
+    let made3 : IsSilent (record s { vars = t.vars; parities = t.parities; values = t.values }) = subst (λ q. IsSilent (record s { vars = t.vars; parities = t.parities; values = q })) es made2 in
+    record { consistent = made3.consistent; forced = made3.forced }
+
+some_is : (h g : Held) → (let o : Option Held = Some h in o) ≡ Some g → h ≡ g
+some_is h g e = cc
+
+-- where nothing follows no row is pending
+no_pending : (columns : List ℕ) (s : State) → IsRight columns s → IsSilent s → (k : ℕ) (n : Named) → k < length columns → get_or s.named k None ≡ Some n
+    → IsReason s n (column_at columns k) → IsPending s n (column_at columns k) → ⊥
+no_pending columns s right silent k n lt is r pending =
+    let x : ℕ = column_at columns k in
+    let free : is_unassigned (get_or s.values x None) ≡ true = ap is_unassigned pending.1 in
+    let inside : x < s.vars = r.within_vars in
+    let unit : IsUnit s (has_at n.form) x = record { within = inside; has_it = r.has; unassigned = free; others = pending.2 } in
+    let implied = implied_by_sum s n.form n.sources x right.within right.wide r.summed.0 r.summed.1 unit in
+    let l : Literal = implied.0 in
+    let at = implied.1 in
+    let held = known_value 1 s.values l (silent.forced l (omega arith) (omega arith) implied.2) in
+    let place : l.variable - 1 ≡ x = omega arith in
+    true≢false (sym free ∙ ap (λ i. is_unassigned (get_or s.values i None)) (sym place) ∙ held.1)
+
+-- ---- a new level
+pub right_pushed : (columns : List ℕ) (s : State) → IsRight columns s → s.mood ≡ Calm → IsRight columns (pushed s)
+right_pushed columns s right calm =
+    let silent = right.calm calm in
+    record {
+      within = right.within;
+      wide = right.wide;
+      rows = right.rows;
+      levels = λ x h is. let low = right.levels x h is in omega arith;
+      settled = λ p lt.
+          elim (cases_lt p s.level) [
+            | inl below ↦ let old = right.settled p below in record { consistent = old.consistent; forced = old.forced }
+            | inr ge ↦ silent_same s (at_level p (pushed s)) refl refl (sym (kept-values p s (λ x h is. let low = right.levels x h is in omega arith))) silent
+          ];
+      reasons = λ k n lt is.
+          let r = right.reasons k n lt is in
+          record {
+            in_conflict = r.in_conflict;
+            level = let low = r.level in omega arith;
+            within_vars = r.within_vars;
+            has = r.has;
+            summed = r.summed;
+            stands = elim r.stands [
+              | inl held ↦ inl held
+              | inr pending ↦ absurd (no_pending columns s right silent k n lt is r pending)
+            ];
+          };
+      clash = right.clash;
+      broken = λ is. absurd (let e : Calm ≡ Broken = sym calm ∙ is in cc);
+      calm = λ is. record { consistent = silent.consistent; forced = silent.forced };
+    }
+
+-- ---- an assignment
+pub right_assigned : (columns : List ℕ) (s : State) (v : ℕ) (b : Bool) → IsRight columns s → 1 ≤ v → v ≤ s.vars → get_or s.values (v - 1) None ≡ None → s.mood ≢ Broken
+    → IsRight columns (assigned s v b)
+right_assigned columns s v b right low high free whole =
+    let x : ℕ = v - 1 in
+    let h : Held = record { value = b; level = s.level } in
+    let inside : x < length s.values = let w = right.wide in omega arith in
+    let at : get_or (set s.values x (Some h)) x None ≡ Some h = get_or-set_same s.values x (Some h) None inside in
+    let values : (y : ℕ) → y ≢ x → get_or (set s.values x (Some h)) y None ≡ get_or s.values y None = λ y ne. get_or-set_other s.values x y (Some h) None ne in
+    record {
+      within = right.within;
+      wide = length-set s.values x (Some h) ∙ right.wide;
+      rows = right.rows;
+      levels = λ y g is.
+          elim (cases_eq y x) [
+            | inl e ↦
+                let same : Some h ≡ Some g = sym at ∙ ap (λ z. get_or (set s.values x (Some h)) z None) (sym e) ∙ is in
+                let hg : h ≡ g = some_is h g same in
+                subst (λ (q : Held). q.level ≤ s.level) hg (omega arith)
+            | inr ne ↦ right.levels y g (sym (values y ne) ∙ is)
+          ];
+      settled = λ p lt.
+          silent_same (at_level p s) (at_level p (assigned s v b)) refl refl (sym (kept-set p x h s.values lt free)) (right.settled p lt);
+      reasons = λ k n lt is.
+          let r = right.reasons k n lt is in
+          let y : ℕ = column_at columns k in
+          record {
+            in_conflict = r.in_conflict;
+            level = r.level;
+            within_vars = r.within_vars;
+            has = r.has;
+            summed = r.summed;
+            stands = elim r.stands [
+              | inl held ↦
+                  let ne : y ≡ x → ⊥ = λ e. let clash : None ≡ Some held.0 = sym free ∙ ap (λ z. get_or s.values z None) (sym e) ∙ held.1 in cc in
+                  inl (held.0, values y ne ∙ held.1, held.2)
+              | inr pending ↦
+                  elim (cases_eq y x) [
+                    | inl e ↦ inl (h, ap (λ z. get_or (set s.values x (Some h)) z None) e ∙ at, let l = pending.0 in omega arith)
+                    | inr ne ↦
+                        inr (
+                          pending.0,
+                          values y ne ∙ pending.1,
+                          λ z nz has_z.
+                              elim (cases_eq z x) [
+                                | inl e ↦ ap is_unassigned (ap (λ w. get_or (set s.values x (Some h)) w None) e ∙ at)
+                                | inr nx ↦ ap is_unassigned (values z nx) ∙ pending.2 z nz has_z
+                              ],
+                        )
+                  ]
+            ];
+          };
+      clash = λ n is. absurd (whole (right.clash n is));
+      broken = λ is. absurd (let e : Busy ≡ Broken = is in cc);
+      calm = λ is. absurd (let e : Busy ≡ Calm = is in cc);
+    }
+
+-- ---- a level taken back
+chosen : {A : Type 0} (b : Bool) (m n : A) → (cond b (Some m) None ≡ Some n) → (b ≡ true) × (m ≡ n)
+chosen true m n is = (refl, cc)
+chosen false m n is = cc
+
+both : (a b : Bool) → (a && b) ≡ true → (a ≡ true) × (b ≡ true)
+both true true h = (refl, refl)
+both true false h = cc
+both false b h = cc
+
+not_true : (b : Bool) → not b ≡ true → b ≡ false
+not_true true h = cc
+not_true false h = refl
+
+kept_some : (l : ℕ) (o : Option Named) (n : Named) → keep_named l o ≡ Some n → (o ≡ Some n) × (n.in_conflict ≡ false) × (n.level ≤ l)
+kept_some l None n is = cc
+kept_some l (Some m) n is =
+    let pick = chosen (not m.in_conflict && nat_le m.level l) m n is in
+    let parts = both (not m.in_conflict) (nat_le m.level l) pick.0 in (
+      ap (λ (q : Named). let o : Option Named = Some q in o) pick.1,
+      subst (λ (q : Named). q.in_conflict ≡ false) pick.1 (not_true m.in_conflict parts.0),
+      subst (λ (q : Named). q.level ≤ l) pick.1 (leb-true m.level l parts.1),
+    )
+
+kept_held : (l : ℕ) (o : Option Held) (h : Held) → keep l o ≡ Some h → h.level ≤ l
+kept_held l None h is = cc
+kept_held l (Some g) h is =
+    let pick = chosen (nat_le g.level l) g h is in
+    subst (λ (q : Held). q.level ≤ l) pick.1 (leb-true g.level l pick.0)
+
+same_named : (m n : Named) → (let o : Option Named = Some m in o) ≡ Some n → m ≡ n
+same_named m n e = cc
+
+pub right_back : (columns : List ℕ) (s : State) (l : ℕ) → IsRight columns s → l < s.level → IsRight columns (back l s)
+right_back columns s l right lt = record {
+  within = right.within;
+  wide = length-map s.values (keep l) ∙ right.wide;
+  rows = length-map s.named (keep_named l) ∙ right.rows;
+  levels = λ x h is. kept_held l (get_or s.values x None) h (sym (get_or-map (keep l) s.values x None) ∙ is);
+  settled = λ p below.
+      silent_same (at_level p s) (at_level p (back l s)) refl refl (sym (kept-twice l p s.values (omega arith))) (right.settled p (omega arith));
+  reasons = λ k n in' is.
+      let old = kept_some l (get_or s.named k None) n (sym (get_or-map (keep_named l) s.named k None) ∙ is) in
+      let r = right.reasons k n in' old.0 in
+      record {
+        in_conflict = r.in_conflict;
+        level = old.2;
+        within_vars = r.within_vars;
+        has = r.has;
+        summed = r.summed;
+        stands = elim r.stands [
+          | inl held ↦
+              let low : held.0.level ≤ l = let a = held.2 in let b = old.2 in omega arith in
+              inl (
+                held.0,
+                get_or-map (keep l) s.values (column_at columns k) None ∙ ap (keep l) held.1 ∙ ap (λ b. cond b (Some held.0) None) (le-leb held.0.level l low),
+                held.2,
+              )
+          | inr pending ↦ absurd (let a = pending.0 in let b = old.2 in omega arith)
+        ];
+      };
+  clash = λ n is.
+      let old = kept_some l (get_or s.named (length columns) None) n (sym (get_or-map (keep_named l) s.named (length columns) None) ∙ is) in
+      let b = right.broken (right.clash n old.0) in
+      let same : b.0 ≡ n = same_named b.0 n (sym b.1 ∙ old.0) in
+      let yes : n.in_conflict ≡ true = subst (λ (q : Named). q.in_conflict ≡ true) same b.2 in
+      absurd (let e : true ≡ false = sym yes ∙ old.1 in cc);
+  broken = λ is. absurd (let e : Calm ≡ Broken = is in cc);
+  calm = λ is. let silent = right.settled l lt in record { consistent = silent.consistent; forced = silent.forced };
+}
+
+-- ---- events
+pub right_quiet : (columns : List ℕ) (s : State) → IsRight columns s → s.mood ≢ Broken → IsSilent s → IsRight columns (record s { mood = Calm })
+right_quiet columns s right whole silent = record {
+  within = right.within;
+  wide = right.wide;
+  rows = right.rows;
+  levels = right.levels;
+  settled = λ p lt. let old = right.settled p lt in record { consistent = old.consistent; forced = old.forced };
+  reasons = λ k n lt is.
+      let r = right.reasons k n lt is in
+      record { in_conflict = r.in_conflict; level = r.level; within_vars = r.within_vars; has = r.has; summed = r.summed; stands = r.stands };
+  clash = λ n is. absurd (whole (right.clash n is));
+  broken = λ is. absurd (let e : Calm ≡ Broken = is in cc);
+  calm = λ is. record { consistent = silent.consistent; forced = silent.forced };
+}
+
+-- a row that is named for its one unassigned variable
+pub right_implied : (columns : List ℕ) (s : State) (row : ℕ) (n : Named) → IsRight columns s → s.mood ≢ Broken → row < length columns
+    → IsNamedNow s n false → column_at columns row < s.vars → has_at n.form (column_at columns row) ≡ true
+    → get_or s.values (column_at columns row) None ≡ None
+    → ((y : ℕ) → y ≢ column_at columns row → has_at n.form y ≡ true → is_unassigned (get_or s.values y None) ≡ false)
+    → IsRight columns (names s row n Busy)
+right_implied columns s row n right whole in' now within has_x free others =
+    let k : ℕ = row in
+    let inside : k < length s.named = let r = right.rows in omega arith in
+    record {
+      within = right.within;
+      wide = right.wide;
+      rows = length-set s.named k (Some n) ∙ right.rows;
+      levels = right.levels;
+      settled = λ p lt. let old = right.settled p lt in record { consistent = old.consistent; forced = old.forced };
+      reasons = λ j m lt is.
+          elim (cases_eq j k) [
+            | inl e ↦
+                let same : n ≡ m = same_named n m (sym (get_or-set_same s.named k (Some n) None inside) ∙ ap (λ i. get_or (set s.named k (Some n)) i None) (sym e) ∙ is) in
+                subst (λ (q : Named). IsReason (names s row n Busy) q (column_at columns j)) same
+                (subst (λ i. IsReason (names s row n Busy) n (column_at columns i)) (sym e)
+                (record {
+                  in_conflict = now.kind_is;
+                  level = let l = now.level_is in omega arith;
+                  within_vars = within;
+                  has = has_x;
+                  summed = (now.numbers, now.sums);
+                  stands = inr (now.level_is, free, others);
+                }))
+            | inr ne ↦
+                let r = right.reasons j m lt (sym (get_or-set_other s.named k j (Some n) None ne) ∙ is) in
+                record { in_conflict = r.in_conflict; level = r.level; within_vars = r.within_vars; has = r.has; summed = r.summed; stands = r.stands }
+          ];
+      clash = λ m is. absurd (whole (right.clash m (sym (get_or-set_other s.named k (length columns) (Some n) None (λ e. omega arith)) ∙ is)));
+      broken = λ is. absurd (let e : Busy ≡ Broken = is in cc);
+      calm = λ is. absurd (let e : Busy ≡ Calm = is in cc);
+    }
+
+-- a row that is named for a contradiction, in the last place
+pub right_broken : (columns : List ℕ) (s : State) (row : ℕ) (n : Named) → IsRight columns s → row ≡ length columns
+    → IsNamedNow s n true → IsBroken s n.form → IsRight columns (names s row n Broken)
+right_broken columns s row n right at now clashes =
+    let k : ℕ = row in
+    let inside : k < length s.named = let r = right.rows in omega arith in
+    record {
+      within = right.within;
+      wide = right.wide;
+      rows = length-set s.named k (Some n) ∙ right.rows;
+      levels = right.levels;
+      settled = λ p lt. let old = right.settled p lt in record { consistent = old.consistent; forced = old.forced };
+      reasons = λ j m lt is.
+          let r = right.reasons j m lt (sym (get_or-set_other s.named k j (Some n) None (λ e. omega arith)) ∙ is) in
+          record { in_conflict = r.in_conflict; level = r.level; within_vars = r.within_vars; has = r.has; summed = r.summed; stands = r.stands };
+      clash = λ m is. refl;
+      broken = λ is. (
+        n,
+        ap (λ i. get_or (set s.named k (Some n)) i None) (sym at) ∙ get_or-set_same s.named k (Some n) None inside,
+        now.kind_is,
+        now.level_is,
+        (now.numbers, now.sums),
+        record { none = clashes.none; whole = clashes.whole; unmet = clashes.unmet },
+      );
+      calm = λ is. absurd (let e : Broken ≡ Calm = is in cc);
+    }
+
+pub lower_levels_stay : LowerLevelsStay
+lower_levels_stay s p = (
+  λ v b lt free. kept-set p (v - 1) (record { value = b; level = s.level }) s.values lt free,
+  refl,
+  λ l le. kept-twice l p s.values le,
+  λ low. kept-values p s low,
+)
+
+-- each named row is the sum of its sources
+pub summed : (columns : List ℕ) (s : State) (k : ℕ) (n : Named) → IsRight columns s → get_or s.named k None ≡ Some n → IsSummed s n
+summed columns s k n right is =
+    elim (cases_lt k (length columns)) [
+      | inl lt ↦ let r = right.reasons k n lt is in r.summed
+      | inr ge ↦
+          elim (cases_eq k (length columns)) [
+            | inl e ↦
+                let at : get_or s.named (length columns) None ≡ Some n = ap (λ i. get_or s.named i None) (sym e) ∙ is in
+                let b = right.broken (right.clash n at) in
+                subst (IsSummed s) (same_named b.0 n (sym b.1 ∙ at)) b.4
+            | inr ne ↦
+                let out : length s.named ≤ k = let r = right.rows in omega arith in
+                absurd (let clash : None ≡ Some n = sym (get_or-eq_default s.named None out) ∙ is in cc)
+          ]
+    ]
+
+-- ---- the start
+nothing_at : {A : Type 0} (n k : ℕ) → get_or (replicate n (let o : Option A = None in o)) k None ≡ None
+nothing_at zero k = refl
+nothing_at (suc n) zero = refl
+nothing_at {A = A} (suc n) (suc k) = nothing_at {A = A} n k
+
+pub right_fresh : (columns : List ℕ) (vars : ℕ) (parities : List (List Literal)) → AllByRecursion (AreWithin vars) parities → IsRight columns (fresh vars parities (length columns + 1))
+right_fresh columns vars parities within = record {
+  within = within;
+  wide = length-replicate vars (let o : Option Held = None in o);
+  rows = length-replicate (length columns + 1) (let o : Option Named = None in o);
+  levels = λ x h is. absurd (let clash : None ≡ Some h = sym (nothing_at {A = Held} vars x) ∙ is in cc);
+  settled = λ p lt. absurd (omega arith);
+  reasons = λ k n lt is. absurd (let clash : None ≡ Some n = sym (nothing_at {A = Named} (length columns + 1) k) ∙ is in cc);
+  clash = λ n is. absurd (let clash : None ≡ Some n = sym (nothing_at {A = Named} (length columns + 1) (length columns)) ∙ is in cc);
+  broken = λ is. absurd (let e : Busy ≡ Broken = is in cc);
+  calm = λ is. absurd (let e : Busy ≡ Calm = is in cc);
+}

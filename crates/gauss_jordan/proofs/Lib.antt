@@ -1,0 +1,9 @@
+pub mod Quiet
+pub mod Known
+pub mod Events
+pub mod Kept
+pub mod RowKinds
+pub mod ScratchSteps
+pub mod ScratchEvents
+pub mod Writable
+pub mod Watching

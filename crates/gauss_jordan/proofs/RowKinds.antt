@@ -1,0 +1,248 @@
+-- From the masks of columns to what follows from the parities.
+use Rattle.std.proofs.Common.{◌≡◌, ◌≢◌, ℕ, ◌+◌, ◌-◌, ◌*◌, ◌<◌, ◌≤◌, zero, suc, Bool, true, false, not, List, [], ◌∷◌, map, length, get_or, Some, None, ◌⊎◌, inl, inr, refl, sym, ap, ◌∙◌, subst, arith}
+use Rattle.std.specs.List.{list_all, AllByRecursion}
+use Rattle.std.proofs.lemmas.Bool.{cases_eq, cases_lt, ne_eqb, eqb-false}
+use Rattle.std.proofs.lemmas.List.{length-map, get_or-map}
+use Rattle.std.specs.Slice.Scan.{HoldsNowhere}
+use mathlib.Core.Bool.{beq}
+use Rattle.cx_base.specs.Literals.{differ}
+use Rattle.cx_base.specs.Problem.{AreWithin, parity_met}
+use Rattle.gf2_rows.specs.Bits.{bit_of, is_outside}
+use Rattle.gf2_matrix.specs.Equations.{Equation, has_term, total, MeetsEquation, form_of}
+use Rattle.gf2_matrix.specs.Content.{Content, no_row, row_at, equation, form, has, IsOpenAt, IsReducedRow, IsOfGiven, AreBitsOf, AreColumns}
+use Rattle.gf2_matrix.proofs.Reduce.{found_open, none_open}
+use Rattle.gauss_jordan.specs.declared.found.RowKind.TheVariants.{Met, Unmet, Unit, Open}
+use Rattle.gauss_jordan.specs.Rows.{IsFinished, IsUnfinished, part_at}
+use Rattle.gauss_jordan.specs.State.{State, is_unassigned, IsSilent, IsImplied, IsBroken}
+use Rattle.gauss_jordan.specs.System.{part, equation_at, has_term_at, total_at, right_at, IsSystemOf, filled, IsWhole, IsUnit}
+use Rattle.gauss_jordan.specs.Found.{IsClosed, IsClosedBut, SumsTo, IsKind, IsMasked}
+use Rattle.gauss_jordan.proofs.Events.{silent_from_quiet, implied_from_unit, broken_from_whole, finished_from_whole, part-at, none_from, length-filled}
+
+-- ---- columns
+columns-least : (least vars : ℕ) (cols : List ℕ) (k : ℕ) → AreColumns least vars cols → k < length cols → least ≤ get_or cols k 0
+columns-least least vars [] k rise lt = absurd (omega arith)
+columns-least least vars (c ∷ cs) zero rise lt = rise.0
+columns-least least vars (c ∷ cs) (suc k) rise lt = let h = columns-least (c + 1) vars cs k rise.2 (omega arith) in let g = rise.0 in omega arith
+
+columns-most : (least vars : ℕ) (cols : List ℕ) (k : ℕ) → AreColumns least vars cols → k < length cols → get_or cols k 0 ≤ vars
+columns-most least vars [] k rise lt = absurd (omega arith)
+columns-most least vars (c ∷ cs) zero rise lt = rise.1
+columns-most least vars (c ∷ cs) (suc k) rise lt = columns-most (c + 1) vars cs k rise.2 (omega arith)
+
+columns-apart : (least vars : ℕ) (cols : List ℕ) (j k : ℕ) → AreColumns least vars cols → j < k → k < length cols → get_or cols j 0 < get_or cols k 0
+columns-apart least vars [] j k rise jk lt = absurd (omega arith)
+columns-apart least vars (c ∷ cs) zero zero rise jk lt = absurd (omega arith)
+columns-apart least vars (c ∷ cs) zero (suc k) rise jk lt = let h = columns-least (c + 1) vars cs k rise.2 (omega arith) in omega arith
+columns-apart least vars (c ∷ cs) (suc j) zero rise jk lt = absurd (omega arith)
+columns-apart least vars (c ∷ cs) (suc j) (suc k) rise jk lt = columns-apart (c + 1) vars cs j k rise.2 (omega arith) (omega arith)
+
+-- different columns are different variables
+columns-differ : (vars : ℕ) (cols : List ℕ) (j k : ℕ) → AreColumns 1 vars cols → j < length cols → k < length cols → j ≢ k → get_or cols j 0 - 1 ≢ get_or cols k 0 - 1
+columns-differ vars cols j k rise jl kl ne e =
+    let lowj = columns-least 1 vars cols j rise jl in
+    let lowk = columns-least 1 vars cols k rise kl in
+    elim (cases_lt j k) [
+      | inl lt ↦ let h = columns-apart 1 vars cols j k rise lt kl in omega arith
+      | inr ge ↦ let h = columns-apart 1 vars cols k j rise (omega arith) jl in omega arith
+    ]
+
+-- ---- one row
+pub closed_but : (c : Content) (assigned words : List ℕ) (r k : ℕ) → AreBitsOf c r words → HoldsNowhere (is_outside words assigned (Some k)) 0 (64 * length words)
+    → IsClosedBut c assigned r k
+closed_but c assigned words r k bits nowhere x o ne =
+    let j : ℕ = o.0 in
+    let other : k ≡ j → ⊥ = λ e. ne (sym o.3 ∙ ap (λ i. get_or c.columns i 0 - 1) (sym e)) in
+    subst (λ y. has (row_at c.rows r) y ≡ false) o.3 (none_open c assigned words r (Some k) bits nowhere j o.1 o.2 (ne_eqb k j other))
+
+pub two_open : (c : Content) (assigned words : List ℕ) (r j k : ℕ) → IsOfGiven c → AreBitsOf c r words → is_outside words assigned None j ≡ true
+    → is_outside words assigned (Some j) k ≡ true → IsKind c assigned [] r Open
+two_open c assigned words r j k of_given bits hit_j hit_k =
+    let a = found_open c assigned words r j None bits hit_j in
+    let b = found_open c assigned words r k (Some j) bits hit_k in (
+      get_or c.columns j 0 - 1,
+      get_or c.columns k 0 - 1,
+      (j, a.0, a.1, refl),
+      (k, b.0, b.1, refl),
+      (λ e. columns-differ c.vars c.columns j k of_given.columns_rise a.0 b.0 (eqb-false j k b.3) (sym e)),
+      a.2,
+      b.2,
+    )
+
+-- ---- all rows
+module _ (c : Content) (of_given : IsOfGiven c) (assigned truths : List ℕ) (s : State) (masked : IsMasked s c assigned truths) where
+  pub rows : List Equation
+  rows = map equation c.rows
+
+  length-rows : length rows ≡ length c.rows
+  unfolding rows
+  length-rows = length-map c.rows equation
+
+  pub row-is : (i : ℕ) → i < length c.rows → equation_at rows i ≡ equation (row_at c.rows i)
+  unfolding rows
+  row-is i lt = get_or-map equation c.rows i no_row (record { terms = []; right = false }) lt
+
+  pub system : IsSystemOf s rows
+  system = record {
+    long = λ i lt. ap (λ (e : Equation). length e.terms) (row-is i (omega (arith, length-rows))) ∙ (of_given.long i (omega (arith, length-rows))).0 ∙ sym masked.vars;
+    sound = λ v long met i lt.
+        subst (MeetsEquation v) (sym (row-is i (omega (arith, length-rows))))
+        (of_given.sound v (long ∙ masked.vars) (subst (λ ps. list_all (parity_met v) ps ≡ true) masked.parities met) i (omega (arith, length-rows)));
+    complete = λ v long met.
+        subst (λ ps. list_all (parity_met v) ps ≡ true) (sym masked.parities)
+        (of_given.complete v (long ∙ masked.vars) (λ i lt. subst (MeetsEquation v) (row-is i lt) (met i (omega (arith, length-rows)))));
+  }
+
+  within : AllByRecursion (AreWithin s.vars) s.parities
+  within = subst (λ n. AllByRecursion (AreWithin n) s.parities) (sym masked.vars) (subst (AllByRecursion (AreWithin c.vars)) (sym masked.parities) of_given.within)
+
+  true_or_false : (b : Bool) → (b ≡ true) ⊎ (b ≡ false)
+  true_or_false true = inl refl
+  true_or_false false = inr refl
+
+  not-flip : (b d : Bool) → b ≡ not d → b ≡ true → d ≡ false
+  not-flip b true e h = let clash : true ≡ false = sym h ∙ e in cc
+  not-flip b false e h = refl
+
+  not-back : (b d : Bool) → b ≡ not d → b ≡ false → d ≡ true
+  not-back b true e h = refl
+  not-back b false e h = let clash : true ≡ false = sym e ∙ h in cc
+
+  -- an open column is an unassigned variable
+  open_unassigned : (x : ℕ) → IsOpenAt c assigned x → is_unassigned (get_or s.values x None) ≡ true
+  open_unassigned x o =
+      subst (λ y. is_unassigned (get_or s.values y None) ≡ true) o.3
+      (not-back (bit_of assigned o.0) (is_unassigned (get_or s.values (get_or c.columns o.0 0 - 1) None)) (masked.masks o.0 o.1) o.2)
+
+  -- a variable of a row that is not open is assigned
+  assigned_unless : (i : ℕ) → i < length c.rows → (x : ℕ) → has (row_at c.rows i) x ≡ true → (IsOpenAt c assigned x → ⊥) → is_unassigned (get_or s.values x None) ≡ false
+  assigned_unless i lt x has_x closed =
+      let place = of_given.in_columns i lt x has_x in
+      let k : ℕ = place.0 in
+      let at : get_or c.columns k 0 - 1 ≡ x = let e = place.2 in omega arith in
+      elim (true_or_false (bit_of assigned k)) [
+        | inl on ↦
+            subst (λ y. is_unassigned (get_or s.values y None) ≡ false) at
+            (not-flip (bit_of assigned k) (is_unassigned (get_or s.values (get_or c.columns k 0 - 1) None)) (masked.masks k place.1) on)
+        | inr free ↦ absurd (closed (k, place.1, free, at))
+      ]
+
+  whole : (i : ℕ) → i < length c.rows → IsClosed c assigned i → IsWhole s (has_term (equation_at rows i))
+  whole i lt closed =
+      subst (λ (e : Equation). IsWhole s (has_term e)) (sym (row-is i lt))
+      (λ x has_x. assigned_unless i lt x has_x (λ o. let clash : true ≡ false = sym has_x ∙ closed x o in cc))
+
+  filled_sum : (i : ℕ) (b : Bool) → i < length c.rows → SumsTo c truths i b → differ (total_at rows i (filled s)) (right_at rows i) ≡ b
+  filled_sum i b lt sums =
+      subst (λ (e : Equation). differ (total e (filled s)) e.right ≡ b) (sym (row-is i lt))
+      (sums (filled s) (length-filled s ∙ masked.wide ∙ masked.vars) masked.holds)
+
+  differ-equal : (a b : Bool) → differ a b ≡ false → a ≡ b
+  differ-equal true true h = refl
+  differ-equal true false h = h
+  differ-equal false true h = sym h
+  differ-equal false false h = refl
+
+  differ-unlike : (a b : Bool) → differ a b ≡ true → a ≡ b → ⊥
+  differ-unlike true true h e = let clash : true ≡ false = sym h in cc
+  differ-unlike true false h e = let clash : true ≡ false = e in cc
+  differ-unlike false true h e = let clash : true ≡ false = sym e in cc
+  differ-unlike false false h e = let clash : true ≡ false = sym h in cc
+
+  finished : (i : ℕ) → i < length c.rows → IsKind c assigned truths i Met → IsFinished s.vars (total_at rows) (right_at rows) (part s) i
+  finished i lt kind =
+      finished_from_whole s rows within masked.wide system i (omega (arith, length-rows)) (whole i lt kind.0)
+      (differ-equal (total_at rows i (filled s)) (right_at rows i) (filled_sum i false lt kind.1))
+
+  in_vars : (x : ℕ) → IsOpenAt c assigned x → x < s.vars
+  in_vars x o =
+      let low = columns-least 1 c.vars c.columns o.0 of_given.columns_rise o.1 in
+      let high = columns-most 1 c.vars c.columns o.0 of_given.columns_rise o.1 in
+      let at = o.3 in
+      let v = masked.vars in
+      omega arith
+
+  none_at : (x : ℕ) → IsOpenAt c assigned x → part_at (part s) x ≡ None
+  none_at x o = part-at s x ∙ none_from (get_or s.values x None) (open_unassigned x o)
+
+  unfinished : (i : ℕ) → i < length c.rows → IsKind c assigned truths i Open → IsReducedRow c assigned i
+      → (b : ℕ) × (o : ℕ) × IsUnfinished (length rows) s.vars (has_term_at rows) (part s) i b o
+  unfinished i lt kind reduced =
+      let x : ℕ = kind.0 in
+      let y : ℕ = kind.1 in
+      elim reduced [
+        | inl closed ↦ absurd (let clash : true ≡ false = sym kind.5 ∙ closed x kind.2 in cc)
+        | inr b ↦
+            let made : (o : ℕ) → IsOpenAt c assigned o → has (row_at c.rows i) o ≡ true → o ≢ b.0 → IsUnfinished (length rows) s.vars (has_term_at rows) (part s) i b.0 o =
+            λ o open_o has_o apart. record {
+              basic_in = in_vars b.0 b.1;
+              has_basic = ap (λ (e : Equation). has_term e b.0) (row-is i lt) ∙ b.2;
+              basic_open = none_at b.0 b.1;
+              alone = λ j small ne. ap (λ (e : Equation). has_term e b.0) (row-is j (omega (arith, length-rows))) ∙ b.3 j (omega (arith, length-rows)) ne;
+              other_in = in_vars o open_o;
+              has_other = ap (λ (e : Equation). has_term e o) (row-is i lt) ∙ has_o;
+              other_open = none_at o open_o;
+              apart = apart;
+            } in
+            elim (cases_eq x b.0) [
+              | inl e ↦ (b.0, y, made y kind.3 kind.6 (λ h. kind.4 (h ∙ sym e)))
+              | inr ne ↦ (b.0, x, made x kind.2 kind.5 ne)
+            ]
+      ]
+
+  pub silent : ((r : ℕ) → r < length c.rows → IsReducedRow c assigned r) → ((r : ℕ) → r < length c.rows → IsKind c assigned truths r Met ⊎ IsKind c assigned truths r Open) → IsSilent s
+  silent reduced kinds =
+      let P : ℕ → Type 0 = IsFinished s.vars (total_at rows) (right_at rows) (part s) in
+      let Q : ℕ → ℕ → ℕ → Type 0 = IsUnfinished (length rows) s.vars (has_term_at rows) (part s) in
+      let pick : (i : ℕ) → (b : ℕ) × (o : ℕ) × (i < length rows → P i ⊎ Q i b o) =
+      λ i.
+      elim (cases_lt i (length c.rows)) [
+        | inl lt ↦
+            elim (kinds i lt) [
+              | inl met ↦ (0, 0, λ h. inl (finished i lt met))
+              | inr open' ↦ let u = unfinished i lt open' (reduced i lt) in (u.0, u.1, λ h. inr u.2)
+            ]
+        | inr ge ↦ (0, 0, λ h. absurd (omega (arith, length-rows)))
+      ] in
+      silent_from_quiet s rows (λ i. (pick i).0) (λ i. (pick i).1) masked.wide system (λ i lt. (pick i).2 lt)
+
+  pub contradicted : (r : ℕ) → r < length c.rows → IsKind c assigned truths r Unmet → IsBroken s (form (row_at c.rows r))
+  contradicted r lt kind =
+      subst (λ (e : Equation). IsBroken s (form_of e)) (row-is r lt)
+      (broken_from_whole s rows r within masked.wide system (omega (arith, length-rows)) (whole r lt kind.0)
+      (differ-unlike (total_at rows r (filled s)) (right_at rows r) (filled_sum r true lt kind.1)))
+
+  pub implied : (r k : ℕ) (b : Bool) → r < length c.rows → IsKind c assigned truths r (Unit k b)
+      → IsImplied s (record { variable = get_or c.columns k 0; negative = not b }) (form (row_at c.rows r))
+  implied r k b lt kind =
+      let x : ℕ = get_or c.columns k 0 - 1 in
+      let o : IsOpenAt c assigned x = (k, kind.0, kind.1, refl) in
+      let low = columns-least 1 c.vars c.columns k of_given.columns_rise kind.0 in
+      let at : x + 1 ≡ get_or c.columns k 0 = omega arith in
+      let unit : IsUnit s (has_term (equation_at rows r)) x =
+      subst (λ (e : Equation). IsUnit s (has_term e) x) (sym (row-is r lt))
+      (record {
+        within = in_vars x o;
+        has_it = kind.2;
+        unassigned = open_unassigned x o;
+        others = λ y ne has_y. assigned_unless r lt y has_y (λ oy. let clash : true ≡ false = sym has_y ∙ kind.3 y oy ne in cc);
+      }) in
+      let made = implied_from_unit s rows r x within masked.wide system (omega (arith, length-rows)) unit in
+      subst (λ v. IsImplied s (record { variable = v; negative = not b }) (form (row_at c.rows r))) at
+      (subst (λ d. IsImplied s (record { variable = x + 1; negative = not d }) (form (row_at c.rows r))) (filled_sum r b lt kind.4)
+      (subst (λ (e : Equation). IsImplied s (record { variable = x + 1; negative = not (differ (total_at rows r (filled s)) (right_at rows r)) }) (form_of e)) (row-is r lt) made))
+
+pub differ-beq : (a b : Bool) → not (beq a b) ≡ differ a b
+differ-beq true true = refl
+differ-beq true false = refl
+differ-beq false true = refl
+differ-beq false false = refl
+
+-- ---- the loop over the rows
+pub one_more : (c : Content) (assigned truths : List ℕ) (r : ℕ) → IsKind c assigned truths r Met ⊎ IsKind c assigned truths r Open
+    → ((i : ℕ) → i < r → IsKind c assigned truths i Met ⊎ IsKind c assigned truths i Open)
+    → (i : ℕ) → i < r + 1 → IsKind c assigned truths i Met ⊎ IsKind c assigned truths i Open
+one_more c assigned truths r here before i lt =
+    elim (cases_eq i r) [
+      | inl e ↦ subst (λ j. IsKind c assigned truths j Met ⊎ IsKind c assigned truths j Open) (sym e) here
+      | inr ne ↦ before i (omega arith)
+    ]

@@ -1,0 +1,161 @@
+-- The steps of an engine with copies of its named rows.
+use Rattle.std.proofs.Common.{◌≡◌, ◌≢◌, ℕ, ◌+◌, ◌-◌, ◌<◌, ◌≤◌, zero, suc, Bool, true, false, cond, not, ◌&&◌, nat_le, List, [], ◌∷◌, map, length, get_or, set, Option, Some, None, inl, inr, refl, sym, ap, ◌∙◌, subst, arith}
+use Rattle.std.proofs.Math.ListN.{length-set}
+use Rattle.std.proofs.lemmas.List.{length-map, get_or-set_same, get_or-set_other, ext_get_or, get_or-map}
+use Rattle.std.proofs.lemmas.Bool.{cases_eq}
+use Rattle.gf2_rows.specs.Bits.{bit_of}
+use Rattle.gf2_matrix.specs.Equations.{numbers_from}
+use Rattle.gf2_matrix.specs.Content.{Content, sources_of}
+use Rattle.gf2_matrix.specs.Views.{viewed_form}
+use Rattle.gauss_jordan.specs.declared.slot.Slot.{Slot}
+use Rattle.gauss_jordan.specs.declared.slot.Naming.{Naming}
+use Rattle.gauss_jordan.specs.declared.state.Held.{Held}
+use Rattle.gauss_jordan.specs.declared.state.Mood.{Mood}
+use Rattle.gauss_jordan.specs.declared.state.Mood.TheVariants.{Busy, Calm, Broken}
+use Rattle.gauss_jordan.specs.State.{Named, keep, keep_named, is_unassigned}
+use Rattle.gauss_jordan.specs.Right.{IsRight}
+use Rattle.gauss_jordan.specs.Slots.{keep_naming, named_as, named_of, state_of, IsKeptSlot, AreKept, IsScratch}
+use Rattle.gauss_jordan.proofs.Kept.{right_pushed, right_assigned, right_back}
+
+-- ---- loops
+pub record HeldSoFar (level : ℕ) (old new : List (Option Held)) (n : ℕ) : Type 0 where
+  pub long : length new ≡ length old
+  pub done : (k : ℕ) (d : Option Held) → k < n → get_or new k d ≡ keep level (get_or old k d)
+  pub left : (k : ℕ) (d : Option Held) → n ≤ k → get_or new k d ≡ get_or old k d
+
+pub held_none : (level : ℕ) (held : List (Option Held)) → HeldSoFar level held held 0
+held_none level held = record { long = refl; done = λ k d lt. absurd (omega arith); left = λ k d ge. refl }
+
+same_read : {A : Type 0} (xs : List A) (i : ℕ) (d e : A) → i < length xs → get_or xs i d ≡ get_or xs i e
+same_read [] i d e lt = absurd (omega arith)
+same_read (x ∷ xs) zero d e lt = refl
+same_read (x ∷ xs) (suc i) d e lt = same_read xs i d e (omega arith)
+
+pub held_more : (level : ℕ) (old new : List (Option Held)) (k : ℕ) (e v : Option Held) → HeldSoFar level old new k → k < length old → v ≡ keep level (get_or new k e)
+    → HeldSoFar level old (set new k v) (k + 1)
+held_more level old new k e v before lt is =
+    let within : k < length new = let h = before.long in omega arith in
+    record {
+      long = length-set new k v ∙ before.long;
+      done = λ j d small.
+          elim (cases_eq j k) [
+            | inl same ↦
+                subst (λ i. get_or (set new k v) i d ≡ keep level (get_or old i d)) (sym same)
+                (get_or-set_same new k v d within ∙ is ∙ ap (keep level) (same_read new k e d within ∙ before.left k d (omega arith)))
+            | inr ne ↦ get_or-set_other new k j v d ne ∙ before.done j d (omega arith)
+          ];
+      left = λ j d ge. get_or-set_other new k j v d (λ e'. omega arith) ∙ before.left j d (omega arith);
+    }
+
+pub held_all : (level : ℕ) (old new : List (Option Held)) (n : ℕ) → HeldSoFar level old new n → length old ≤ n → new ≡ map (keep level) old
+held_all level old new n so_far all =
+    ext_get_or None new (map (keep level) old) (so_far.long ∙ sym (length-map old (keep level)))
+    (λ k lt. let small : k < length old = let h = so_far.long in omega arith in so_far.done k None (omega arith) ∙ sym (get_or-map (keep level) old k None None small))
+
+pub slots_none : (level : ℕ) (slots : List Slot) → AreKept level slots slots 0
+slots_none level slots = record { long = refl; done = λ k d lt. absurd (omega arith); left = λ k d ge. refl }
+
+pub slots_more : (level : ℕ) (old new : List Slot) (k : ℕ) (e v : Slot) → AreKept level old new k → k < length old → IsKeptSlot level (get_or new k e) v → AreKept level old (set new k v) (k + 1)
+slots_more level old new k e v before lt is =
+    let within : k < length new = let h = before.long in omega arith in
+    record {
+      long = length-set new k v ∙ before.long;
+      done = λ j d small.
+          elim (cases_eq j k) [
+            | inl same ↦
+                subst (λ i. IsKeptSlot level (get_or old i d) (get_or (set new k v) i d)) (sym same)
+                (rw (get_or-set_same new k v d within) (subst (λ o. IsKeptSlot level o v) (same_read new k e d within ∙ before.left k d (omega arith)) is))
+            | inr ne ↦ rw (get_or-set_other new k j v d ne) (before.done j d (omega arith))
+          ];
+      left = λ j d ge. get_or-set_other new k j v d (λ e'. omega arith) ∙ before.left j d (omega arith);
+    }
+
+-- ---- the state
+-- the row of a slot rests on its words alone
+same_row : (c : Content) (level : ℕ) (old new : Slot) → IsKeptSlot level old new → (m : Option Naming) → named_as c new m ≡ named_as c old m
+same_row c level old new kept None = refl
+same_row c level old new kept (Some m) =
+    ap (λ (ws : List ℕ). let o : Option Named = Some (record { level = m.level; in_conflict = m.in_conflict; form = viewed_form c.vars c.columns ws new.right; sources = numbers_from 1 (sources_of (length c.given) new.sources.items) }) in o) kept.words
+    ∙ ap (λ (b : Bool). let o : Option Named = Some (record { level = m.level; in_conflict = m.in_conflict; form = viewed_form c.vars c.columns old.words.items b; sources = numbers_from 1 (sources_of (length c.given) new.sources.items) }) in o) kept.right
+    ∙ ap (λ (ws : List ℕ). let o : Option Named = Some (record { level = m.level; in_conflict = m.in_conflict; form = viewed_form c.vars c.columns old.words.items old.right; sources = numbers_from 1 (sources_of (length c.given) ws) }) in o) kept.sources
+
+naming-cases : (c : Content) (slot : Slot) (m : Naming) (b : Bool) → named_as c slot (cond b (Some m) None) ≡ cond b (named_as c slot (Some m)) None
+naming-cases c slot m true = refl
+naming-cases c slot m false = refl
+
+naming-kept : (c : Content) (level : ℕ) (slot : Slot) (o : Option Naming) → named_as c slot (keep_naming level o) ≡ keep_named level (named_as c slot o)
+naming-kept c level slot None = refl
+naming-kept c level slot (Some m) = naming-cases c slot m (not m.in_conflict && nat_le m.level level)
+
+pub none_is : (o : Option Held) → is_unassigned o ≡ true → o ≡ None
+none_is None h = refl
+none_is (Some g) h = cc
+
+first : (slots : List Slot) (k : ℕ) → k < length slots → Slot
+first [] k lt = absurd (omega arith)
+first (s ∷ ss) k lt = s
+
+named-kept : (c : Content) (level : ℕ) (old new : Slot) → IsKeptSlot level old new → named_of c new ≡ keep_named level (named_of c old)
+named-kept c level old new kept =
+    ap (named_as c new) kept.naming
+    ∙ same_row c level old new kept (keep_naming level old.naming)
+    ∙ naming-kept c level old old.naming
+
+pub states_back : (c : Content) (level now : ℕ) (held : List (Option Held)) (old new : List Slot) (mood : Mood) → AreKept level old new (length old)
+    → map (named_of c) new ≡ map (keep_named level) (map (named_of c) old)
+states_back c level now held old new mood kept =
+    ext_get_or None (map (named_of c) new) (map (keep_named level) (map (named_of c) old))
+    (length-map new (named_of c) ∙ kept.long ∙ sym (length-map (map (named_of c) old) (keep_named level) ∙ length-map old (named_of c)))
+    (λ k lt.
+    let small : k < length old = let h = kept.long in omega (arith, length-map new (named_of c)) in
+    let d : Slot = get_or old k (first old k small) in
+    get_or-map (named_of c) new k d None (let h = kept.long in omega arith)
+    ∙ named-kept c level (get_or old k d) (get_or new k d) (kept.done k d small)
+    ∙ ap (keep_named level) (sym (get_or-map (named_of c) old k d None small))
+    ∙ sym (get_or-map (keep_named level) (map (named_of c) old) k None None (omega (arith, length-map old (named_of c)))))
+
+module _ (c : Content) (level : ℕ) (held : List (Option Held)) (masks truths : List ℕ) (slots : List Slot) (mood : Mood)
+    (is : IsScratch c level held masks truths slots mood) where
+  pub scratch_pushed : mood ≡ Calm → IsScratch c (level + 1) held masks truths slots mood
+  scratch_pushed calm = record {
+    of_given = is.of_given;
+    few = is.few;
+    few_given = is.few_given;
+    right = right_pushed c.columns (state_of c level held slots mood) is.right calm;
+    assigned_long = is.assigned_long;
+    truths_long = is.truths_long;
+    fits = is.fits;
+  }
+
+  pub scratch_assigned : (v : ℕ) (b : Bool) → 1 ≤ v → v ≤ c.vars → is_unassigned (get_or held (v - 1) None) ≡ true → mood ≢ Broken
+      → IsScratch c level (set held (v - 1) (Some (record { value = b; level = level }))) masks truths slots Busy
+  scratch_assigned v b low high free whole = record {
+    of_given = is.of_given;
+    few = is.few;
+    few_given = is.few_given;
+    right = right_assigned c.columns (state_of c level held slots mood) v b is.right low high (none_is (get_or held (v - 1) None) free) whole;
+    assigned_long = is.assigned_long;
+    truths_long = is.truths_long;
+    fits = is.fits;
+  }
+
+  pub scratch_back : (l : ℕ) (new : List Slot) → l < level → AreKept l slots new (length slots) → IsScratch c l (map (keep l) held) masks truths new Calm
+  scratch_back l new lt kept = record {
+    of_given = is.of_given;
+    few = is.few;
+    few_given = is.few_given;
+    right =
+        subst (λ named. IsRight c.columns (record { vars = c.vars; parities = c.given; level = l; values = map (keep l) held; named = named; mood = Calm }))
+        (sym (states_back c l level held slots new mood kept)) (right_back c.columns (state_of c level held slots mood) l is.right lt);
+    assigned_long = is.assigned_long;
+    truths_long = is.truths_long;
+    fits = λ k d small.
+        let old : k < length slots = let h = kept.long in omega arith in
+        let f = is.fits k d old in
+        let kk = kept.done k d old in
+        record {
+          words = ap length kk.words ∙ f.words;
+          sources = ap length kk.sources ∙ f.sources;
+          padded = λ j ge. ap (λ ws. bit_of ws j) kk.words ∙ f.padded j ge;
+        };
+  }

@@ -1,0 +1,5 @@
+use Rattle.gauss_jordan.proofs.ScratchEvents.{AreEmpty}
+use Rattle.gauss_jordan.proofs.slot.empty_slots.Given as goal
+
+abbrev pub invariant-loop : goal.invariant-loop
+invariant-loop l = AreEmpty l.columns l.parities l.slots.items l.counter

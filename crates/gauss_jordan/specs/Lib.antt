@@ -1,0 +1,9 @@
+pub mod Rows
+pub mod State
+pub mod System
+pub mod Levels
+pub mod Right
+pub mod Found
+pub mod Slots
+pub mod Stored
+pub mod Watching

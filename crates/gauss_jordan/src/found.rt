@@ -1,0 +1,72 @@
+//! What the rows of a reduced matrix say.
+ghost use Rattle.std.specs.Prelude.{◌≡◌, ℕ, ◌<◌, length};
+ghost use Rattle.gf2_matrix.specs.Content.{IsOfGiven, IsReducedRow, words_for};
+ghost use Rattle.gauss_jordan.specs.Found.{IsKind, Says, SumsTo};
+
+use gf2_matrix::Matrix;
+
+/// What one row says under the values assigned.
+#[derive(Clone, Copy, Drop)]
+pub enum RowKind {
+    /// All its columns are assigned, and it is met.
+    Met,
+    /// All its columns are assigned, and it is not met.
+    Unmet,
+    /// The column alone is not assigned, and takes the value.
+    Unit(usize, bool),
+    /// More than one column is not assigned.
+    Open,
+}
+
+/// The first row that says something.
+#[derive(Clone, Copy, Drop)]
+pub enum Found {
+    Nothing,
+    Literal(usize, usize, bool),
+    Contradiction(usize),
+}
+
+/// Whether the row's sum over the true columns is not its right side.
+fn is_unmet(matrix: &Matrix, row: usize, truths: &[u64]) -> bool
+    requires row_in { row < length matrix.now.rows }
+    requires wide { length truths.now ≡ words_for (length matrix.now.columns) }
+    ensures { SumsTo matrix.now truths.now row result }
+{
+    matrix.row_sum(row, truths) ^ matrix.row_right(row)
+}
+
+fn kind_of(matrix: &Matrix, row: usize, assigned: &[u64], truths: &[u64]) -> RowKind
+    requires row_in { row < length matrix.now.rows }
+    requires long { length assigned.now ≡ words_for (length matrix.now.columns) }
+    requires wide { length truths.now ≡ words_for (length matrix.now.columns) }
+    ensures { IsKind matrix.now assigned.now truths.now row result }
+{
+    let _rows = matrix.rows();
+    let words = matrix.row_words(row);
+    let differs = is_unmet(matrix, row, truths);
+    match gf2_rows::first_outside(words, assigned, None) {
+        None if differs => RowKind::Unmet,
+        None => RowKind::Met,
+        Some(first) => match gf2_rows::first_outside(words, assigned, Some(first)) {
+            None => RowKind::Unit(first as usize, differs),
+            Some(_) => RowKind::Open,
+        },
+    }
+}
+
+/// The first row that implies a literal or is contradicted.
+pub(crate) fn find(matrix: &Matrix, assigned: &[u64], truths: &[u64]) -> Found
+    requires long { length assigned.now ≡ words_for (length matrix.now.columns) }
+    requires wide { length truths.now ≡ words_for (length matrix.now.columns) }
+    requires reduced { (r : ℕ) → r < length matrix.now.rows → IsReducedRow matrix.now assigned.now r }
+    ensures { Says matrix.now assigned.now truths.now result }
+{
+    for row in 0..matrix.rows() {
+        match kind_of(matrix, row, assigned, truths) {
+            RowKind::Unmet => return Found::Contradiction(row),
+            RowKind::Unit(column, value) => return Found::Literal(row, column, value),
+            RowKind::Met | RowKind::Open => {}
+        }
+    }
+    Found::Nothing
+}

@@ -1,0 +1,214 @@
+//! An engine that eliminates anew at each event.
+ghost use Rattle.std.specs.Prelude.{◌≡◌, ◌≢◌, ℕ, ◌<◌, length, map, replicate, None, IfOk};
+ghost use Rattle.gf2_matrix.specs.Content.{IsReducedRow};
+ghost use Rattle.gauss_jordan.specs.State.{Answers, keep};
+ghost use Rattle.gauss_jordan.specs.Slots.{AreMasks, IsNamedSlot, IsScratch, IsSlotOf, state_of};
+ghost use Rattle.gauss_jordan.specs.declared.state.Mood.TheVariants.{Broken};
+
+use crate::engine::ParityEngine;
+use crate::event::ParityEvent;
+use crate::found::{Found, find};
+use crate::masks;
+use crate::slot::{Naming, Slot, copy_row, empty_slots, is_unmet, keep_slots};
+use crate::state::{Held, Mood};
+use cx_base::{IdList, Lit, LitList, ParityList, Row, Var};
+use gf2_matrix::{Matrix, RowView, clear_words, source_list};
+use std::alloc::{AllocError, Global};
+use std::marker::Model;
+
+/// An engine that keeps a matrix and eliminates anew at each event, outside what is assigned. It keeps a copy of
+/// each named row, in room made at `make`.
+#[derive(Drop)]
+pub struct Scratch {
+    alloc: Global,
+    matrix: Matrix,
+    level: u32,
+    held: Vec<Option<Held>>,
+    assigned: Vec<u64>,
+    truths: Vec<u64>,
+    slots: Vec<Slot>,
+    mood: Mood,
+}
+
+impl Model for Scratch {
+    ghost use Rattle.gauss_jordan.specs.State.{State};
+    ghost use Rattle.gauss_jordan.specs.Stored.{state_code};
+
+    ghost Value = { State };
+
+    ghost coded = { state_code };
+
+    ghost use Rattle.gauss_jordan.specs.Slots.{IsScratch, state_of};
+
+    ghost view = { λ s. state_of s.matrix s.level s.held.items s.slots.items s.mood };
+
+    ghost invariant = { λ s. IsScratch s.matrix s.level s.held.items s.assigned.items s.truths.items s.slots.items s.mood };
+}
+
+impl ParityEngine for Scratch {
+    ghost state = { λ s. s };
+
+    fn make(alloc: Global, vars: u32, parities: &ParityList) -> Result<Self, AllocError> {
+        let matrix = Matrix::make(alloc, vars, parities)?;
+        let columns = matrix.columns();
+        let held = nothing_held(alloc, vars as usize)?;
+        let assigned = clear_words(alloc, columns)?;
+        let truths = clear_words(alloc, columns)?;
+        let slots = empty_slots(alloc, columns, matrix.given())?;
+        Ok(Scratch {
+            alloc,
+            matrix,
+            level: 0,
+            held,
+            assigned,
+            truths,
+            slots,
+            mood: Mood::Busy,
+        })
+    }
+
+    fn assign(&mut self, var: Var, value: bool) {
+        let at = (var.number() - 1) as usize;
+        self.held[at] = Some(Held {
+            value,
+            level: self.level,
+        });
+        self.mood = Mood::Busy;
+    }
+
+    fn next_event(&mut self) -> ParityEvent {
+        let last = self.matrix.columns();
+        if let Mood::Broken = self.mood {
+            return ParityEvent::Conflict(Row::new(last as u32));
+        }
+        masks::fill(
+            &self.matrix,
+            &self.held,
+            &mut self.assigned,
+            &mut self.truths,
+        );
+        self.matrix.reduce_outside(&self.assigned);
+        let (event, mood) = answer(
+            &self.matrix,
+            self.level,
+            &self.held,
+            &self.assigned,
+            &self.truths,
+            &mut self.slots,
+            self.mood,
+        );
+        self.mood = mood;
+        event
+    }
+
+    fn push_level(&mut self) {
+        self.level += 1;
+    }
+
+    fn back_to(&mut self, level: u32) {
+        keep_held(&mut self.held, level);
+        keep_slots(&mut self.slots, level);
+        self.level = level;
+        self.mood = Mood::Calm;
+    }
+
+    fn row_view(&self, row: Row) -> RowView<'_> {
+        let slot = &self.slots[row.place() as usize];
+        RowView::new(
+            self.matrix.vars(),
+            self.matrix.variables(),
+            &slot.words,
+            slot.right,
+        )
+    }
+
+    fn row_parity(&self, row: Row) -> Result<LitList, AllocError> {
+        self.row_view(row).parity(self.alloc)
+    }
+
+    fn row_sources(&self, row: Row) -> Result<IdList, AllocError> {
+        let slot = &self.slots[row.place() as usize];
+        source_list(self.alloc, &slot.sources, self.matrix.given())
+    }
+}
+
+/// No value for each variable.
+fn nothing_held(alloc: Global, vars: usize) -> Result<Vec<Option<Held>>, AllocError>
+    ensures { IfOk result (λ held. held.items ≡ replicate vars None) }
+{
+    Ok(vec![in alloc; None; vars]?)
+}
+
+/// The value, if its level is not above this one.
+fn kept(held: Option<Held>, level: u32) -> Option<Held>
+    ensures { result ≡ keep level held }
+{
+    match held {
+        Some(h) if h.level <= level => Some(h),
+        _ => None,
+    }
+}
+
+/// Forgets the values above the level.
+fn keep_held(held: &mut [Option<Held>], level: u32)
+    ensures { held.new ≡ map (keep level) held.old }
+{
+    for k in 0..held.len() {
+        held[k] = kept(held[k], level);
+    }
+}
+
+/// The event that the reduced rows give, and the mood that it leaves. The row is copied.
+fn answer(
+    matrix: &Matrix,
+    level: u32,
+    held: &[Option<Held>],
+    assigned: &[u64],
+    truths: &[u64],
+    slots: &mut [Slot],
+    mood: Mood,
+) -> (ParityEvent, Mood)
+    requires scratch { IsScratch matrix.now level held.now assigned.now truths.now slots.old mood }
+    requires whole { mood ≢ Broken }
+    requires masks { AreMasks matrix.now.columns held.now assigned.now truths.now (length matrix.now.columns) }
+    requires reduced { (r : ℕ) → r < length matrix.now.rows → IsReducedRow matrix.now assigned.now r }
+    ensures answers { Answers (state_of matrix.now level held.now slots.old mood) result.0 (state_of matrix.now level held.now slots.new result.1) }
+    ensures scratch { IsScratch matrix.now level held.now assigned.now truths.now slots.new result.1 }
+{
+    match find(matrix, assigned, truths) {
+        Found::Nothing => (ParityEvent::Quiet, Mood::Calm),
+        Found::Contradiction(row) => {
+            let last = matrix.columns();
+            let naming = Naming {
+                level,
+                in_conflict: true,
+            };
+            copy_row(&mut slots[last], matrix, row, naming);
+            (ParityEvent::Conflict(Row::new(last as u32)), Mood::Broken)
+        }
+        Found::Literal(row, column, _) => {
+            let naming = Naming {
+                level,
+                in_conflict: false,
+            };
+            name(&mut slots[column], matrix, row, naming);
+            let negative = !is_unmet(&slots[column], truths);
+            let var = Var::new(matrix.column(column));
+            (
+                ParityEvent::Implied(Lit::new(var, negative), Row::new(column as u32)),
+                Mood::Busy,
+            )
+        }
+    }
+}
+
+/// Names the row in the slot, unless the slot is kept from before.
+fn name(slot: &mut Slot, matrix: &Matrix, row: usize, naming: Naming)
+    requires row_in { row < length matrix.now.rows }
+    requires sized { IsSlotOf matrix.now slot.old }
+    ensures { IsNamedSlot matrix.now row naming slot.old slot.new slot.old.naming }
+{
+    if slot.naming.is_none() {
+        copy_row(slot, matrix, row, naming);
+    }
+}

@@ -1,0 +1,11 @@
+pub mod Products
+pub mod Forms
+pub mod ColumnSums
+pub mod Pivot
+pub mod Reduce
+pub mod Rows
+pub mod Numbered
+pub mod Columns
+pub mod Literals
+pub mod Marks
+pub mod Made

@@ -1,0 +1,117 @@
+-- Lists of literals and their normal forms.
+use Rattle.std.proofs.Common.{◌≡◌, ℕ, ◌+◌, suc, Bool, true, false, not, ◌&&◌, ◌||◌, eqb, nat_eq, List, [], ◌∷◌, ◌++◌, map, length, count_by, refl, sym, ap, ◌∙◌, subst, arith, inl, inr, ◌⊎◌, true≢false}
+use Rattle.std.specs.List.{list_any}
+use Rattle.std.specs.FinSet as set
+use Rattle.std.proofs.lemmas.List.{map-append}
+use Rattle.std.proofs.lemmas.Bool.{cases_eq, eq-eqb, ne_eqb}
+use Rattle.cx_base.specs.Literals.{Literal, differ}
+use Rattle.cx_base.specs.Parity.{normal_form, occurs_odd}
+use Rattle.cx_base.proofs.ParityLaws.{contains-normal_form}
+use Rattle.gf2_rows.specs.Bits.{parity, bit_of}
+use Rattle.gf2_rows.proofs.Words.{parity-count, odd-suc}
+use Rattle.gf2_matrix.specs.Content.{place}
+use Rattle.gf2_matrix.specs.Views.{IsView, viewed, viewed_form}
+use Rattle.gf2_matrix.specs.Written.{positive, literals_with, Rises, IsWritable, IsWritten, picked}
+use Rattle.gf2_matrix.proofs.Forms.{same_from_one, contains-form_zero}
+use Rattle.gf2_matrix.proofs.Columns.{none_below, picked_rises, any_picked, contains_viewed}
+
+-- ---- normal forms as sums of bits
+pub occurs_parity : (lits : List Literal) (y : ℕ) → occurs_odd lits y ≡ parity (map (λ (l : Literal). eqb l.variable y) lits)
+occurs_parity lits y = sym (parity-count (λ (l : Literal). eqb l.variable y) lits)
+
+pub contains_parity : (lits : List Literal) (y : ℕ) → set.contains (normal_form lits).variables y ≡ parity (map (λ (l : Literal). eqb l.variable y) lits)
+contains_parity lits y = contains-normal_form lits y ∙ occurs_parity lits y
+
+pub right_parity : (lits : List Literal) → (normal_form lits).right_side ≡ not (parity (map (λ (l : Literal). l.negative) lits))
+unfolding normal_form
+right_parity lits = odd-suc (count_by (λ (l : Literal). l.negative) lits) ∙ ap not (sym (parity-count (λ (l : Literal). l.negative) lits))
+
+-- ---- written literals
+variables-positive : (vs : List ℕ) → map (λ (l : Literal). l.variable) (map positive vs) ≡ vs
+variables-positive [] = refl
+variables-positive (v ∷ vs) = ap (λ xs. v ∷ xs) (variables-positive vs)
+
+pub variables_written : (right : Bool) (vs : List ℕ) → map (λ (l : Literal). l.variable) (literals_with right vs) ≡ vs
+variables_written right [] = refl
+variables_written true (v ∷ vs) = ap (λ xs. v ∷ xs) (variables-positive vs)
+variables_written false (v ∷ vs) = ap (λ xs. v ∷ xs) (variables-positive vs)
+
+negatives-positive : (vs : List ℕ) → parity (map (λ (l : Literal). l.negative) (map positive vs)) ≡ false
+negatives-positive [] = refl
+negatives-positive (v ∷ vs) = negatives-positive vs
+
+negatives_written : (right : Bool) (v : ℕ) (vs : List ℕ) → parity (map (λ (l : Literal). l.negative) (literals_with right (v ∷ vs))) ≡ not right
+negatives_written true v vs = negatives-positive vs
+negatives_written false v vs = ap not (negatives-positive vs)
+
+pub written-push : (right : Bool) (vs : List ℕ) (v : ℕ)
+    → literals_with right (vs ++ v ∷ []) ≡ literals_with right vs ++ record { variable = v; negative = not right && eqb (length (literals_with right vs)) 0 } ∷ []
+written-push true [] v = refl
+written-push true (x ∷ vs) v = ap (λ xs. positive x ∷ xs) (map-append positive vs (v ∷ []))
+written-push false [] v = refl
+written-push false (x ∷ vs) v =
+    let later : eqb (suc (length (map positive vs))) 0 ≡ false = ne_eqb (suc (length (map positive vs))) 0 (λ e. omega arith) in
+    ap (λ xs. record { variable = x; negative = true } ∷ xs)
+    (map-append positive vs (v ∷ []) ∙ ap (λ b. map positive vs ++ record { variable = v; negative = b } ∷ []) (sym later))
+
+pub written_more : (right : Bool) (vs : List ℕ) (lits more : List Literal) (l : Literal) (v w n : ℕ) (b : Bool) → lits ≡ literals_with right vs → more ≡ lits ++ l ∷ []
+    → l ≡ record { variable = w; negative = b } → w ≡ v → b ≡ (not right && eqb n 0) → n ≡ length lits → more ≡ literals_with right (vs ++ v ∷ [])
+written_more right vs lits more l v w n b is pushed made at sign long =
+    pushed ∙ ap (λ m. lits ++ m ∷ []) (made ∙ (λ i. record { variable = at i; negative = (sign ∙ ap (λ k. not right && eqb k 0) long) i }))
+    ∙ ap (λ ls. ls ++ record { variable = v; negative = not right && eqb (length ls) 0 } ∷ []) is ∙ sym (written-push right vs v)
+
+-- different variables: one is there an odd number of times where it is there
+occurs-rising : (least : ℕ) (vs : List ℕ) (y : ℕ) → Rises least vs → parity (map (λ v. eqb v y) vs) ≡ list_any (λ z. nat_eq z y) vs
+occurs-rising least [] y rise = refl
+occurs-rising least (v ∷ vs) y rise =
+    elim (cases_eq v y) [
+      | inl e ↦
+          let gone = none_below (v + 1) vs y rise.1 (omega arith) in
+          (λ i. differ (eq-eqb v y e i) ((occurs-rising (v + 1) vs y rise.1 ∙ gone) i)) ∙ sym (ap (λ b. b || list_any (λ z. nat_eq z y) vs) (eq-eqb v y e))
+      | inr ne ↦
+          (λ i. differ (ne_eqb v y ne i) (occurs-rising (v + 1) vs y rise.1 i)) ∙ sym (ap (λ b. b || list_any (λ z. nat_eq z y) vs) (ne_eqb v y ne))
+    ]
+
+through-variables : (lits : List Literal) (y : ℕ) → parity (map (λ (l : Literal). eqb l.variable y) lits) ≡ parity (map (λ v. eqb v y) (map (λ (l : Literal). l.variable) lits))
+through-variables [] y = refl
+through-variables (l ∷ lits) y = ap (differ (eqb l.variable y)) (through-variables lits y)
+
+contains_written : (right : Bool) (vs : List ℕ) (y : ℕ) → Rises 1 vs → set.contains (normal_form (literals_with right vs)).variables y ≡ list_any (λ z. nat_eq z y) vs
+contains_written right vs y rise =
+    contains_parity (literals_with right vs) y ∙ through-variables (literals_with right vs) y
+    ∙ ap (λ xs. parity (map (λ v. eqb v y) xs)) (variables_written right vs) ∙ occurs-rising 1 vs y rise
+
+right_written : (right : Bool) (vs : List ℕ) → ((y : ℕ) × (list_any (λ z. nat_eq z y) vs ≡ true)) ⊎ (right ≡ true) → (normal_form (literals_with right vs)).right_side ≡ right
+right_written true [] some = right_parity []
+right_written false [] (inl some) = absurd (true≢false (sym some.1))
+right_written false [] (inr e) = absurd (true≢false (sym e))
+right_written right (v ∷ vs) some = right_parity (literals_with right (v ∷ vs)) ∙ ap not (negatives_written right v vs) ∙ twice right
+  where
+    twice : (b : Bool) → not (not b) ≡ b
+    twice true = refl
+    twice false = refl
+
+pub is_written : (vars : ℕ) (columns words : List ℕ) (right : Bool) → IsView vars columns words → IsWritable (viewed_form vars columns words right)
+    → IsWritten (viewed_form vars columns words right) (literals_with right (picked 0 words columns))
+is_written vars columns words right is some =
+    let vs : List ℕ = picked 0 words columns in
+    let rise : Rises 1 vs = picked_rises 0 1 vars words columns is.rise in
+    let any : (y : ℕ) → list_any (λ z. nat_eq z y) vs ≡ bit_of words (place columns y) =
+    λ y. any_picked 0 1 vars words columns y is.rise (is.padded (0 + length columns) (omega arith)) ∙ ap (bit_of words) (let e : 0 + place columns y ≡ place columns y = omega arith in e) in
+    let alike : (x : ℕ) → set.contains (normal_form (literals_with right vs)).variables (x + 1) ≡ set.contains (viewed_form vars columns words right).variables (x + 1) =
+    λ x. contains_written right vs (x + 1) rise ∙ any (x + 1) ∙ sym (contains_viewed vars columns words right (x + 1) is (omega arith)) in
+    let member : (v : ℕ) → set.contains (viewed_form vars columns words right).variables v ≡ true → list_any (λ z. nat_eq z v) vs ≡ true =
+    λ v h.
+    elim (cases_eq v 0) [
+      | inl z ↦ absurd (true≢false (sym h ∙ ap (set.contains (viewed_form vars columns words right).variables) z ∙ contains-form_zero (viewed vars columns words right)))
+      | inr nz ↦ any v ∙ sym (contains_viewed vars columns words right v is (omega arith)) ∙ h
+    ] in
+    let picked_some : ((y : ℕ) × (list_any (λ z. nat_eq z y) vs ≡ true)) ⊎ (right ≡ true) = elim some [ inl s ↦ inl (s.0, member s.0 s.1) | inr r ↦ inr r ] in
+    record {
+      normal =
+          same_from_one (normal_form (literals_with right vs)) (viewed_form vars columns words right)
+          (contains_written right vs 0 rise ∙ none_below 1 vs 0 rise (omega arith)) (contains-form_zero (viewed vars columns words right)) alike
+          (right_written right vs picked_some);
+      rises = subst (Rises 1) (sym (variables_written right vs)) rise;
+      signs = ap (literals_with right) (sym (variables_written right vs));
+    }

@@ -1,0 +1,16 @@
+//! Rows over the two-element field, packed 64 positions to a word.
+//!
+//! Position `k` of a row is bit `k % 64` of word `k / 64`. The kernels go over blocks of eight words at a
+//! time, and over the words behind the last whole block one by one. The module [`plain`] has them as plain
+//! loops under the same contracts.
+#![tactic(auto)]
+
+mod lanes;
+pub mod plain;
+mod position;
+#[cfg(test)]
+mod tests;
+
+pub use lanes::{add_into, first_outside, parity_and};
+pub use plain::ones;
+pub use position::{bit, flip, put};
