@@ -1,1 +1,7 @@
 pub mod ReadsTo
+pub mod TokensLeft
+pub mod Meanings
+pub mod Body
+pub mod Refusals
+pub mod Runs
+pub mod Passed

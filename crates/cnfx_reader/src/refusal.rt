@@ -1,7 +1,9 @@
 //! Why a text is no formula.
 ghost use Rattle.std.specs.Prelude.{◌≡◌};
+ghost use Rattle.cnfx_reader.specs.Refusals.{refusal_of};
 ghost use Rattle.cnfx_reader.specs.declared.refusal.ReadRefusal.TheVariants.{Memory};
 
+use cx_semantics::Offence;
 use std::alloc::AllocError;
 use thiserror::Error;
 
@@ -33,5 +35,19 @@ impl From<AllocError> for ReadRefusal {
 
     fn from(_: AllocError) -> Self {
         ReadRefusal::Memory
+    }
+}
+
+impl From<Offence> for ReadRefusal {
+    ghost from_gives = { λ o e. e ≡ refusal_of o };
+
+    fn from(offence: Offence) -> Self {
+        match offence {
+            Offence::NoHeader(place) => ReadRefusal::NoHeader(place),
+            Offence::BadHeader(place) => ReadRefusal::BadHeader(place),
+            Offence::BadToken(place) => ReadRefusal::BadToken(place),
+            Offence::Unterminated(place) => ReadRefusal::Unterminated(place),
+            Offence::VarLimit(place) => ReadRefusal::VarLimit(place),
+        }
     }
 }

@@ -3,3 +3,5 @@ pub mod ParityLaws
 pub mod UnmetLaws
 pub mod Within
 pub mod Drafting
+pub mod Parts
+pub mod Differences

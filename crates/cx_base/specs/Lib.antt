@@ -5,3 +5,4 @@ pub mod Parity
 pub mod Borrowed
 pub mod Heads
 pub mod Drafts
+pub mod Numbers

@@ -54,19 +54,18 @@ first_unmet values n (c ∷ constraints) = if constraint_met values c then first
 abbrev pub Unmet : Problem → Type 0
 Unmet formula = (values : List Bool) → ¬ Meets formula values
 
-clause_in : Constraint → Option (List Literal)
+-- the literals of a clause, and those of a parity
+abbrev pub clause_in : Constraint → Option (List Literal)
 clause_in (Clause lits) = Some lits
 clause_in (Parity lits) = None
 
-parity_in : Constraint → Option (List Literal)
+abbrev pub parity_in : Constraint → Option (List Literal)
 parity_in (Clause lits) = None
 parity_in (Parity lits) = Some lits
 
 -- the formula's clauses in order, and its parities in order
 unfoldable pub clauses_of : List Constraint → List (List Literal)
-unfolding clause_in
 clauses_of constraints = filter_map clause_in constraints
 
 unfoldable pub parities_of : List Constraint → List (List Literal)
-unfolding parity_in
 parities_of constraints = filter_map parity_in constraints

@@ -14,3 +14,6 @@ pub use formula::Formula;
 pub use lists::{IdList, IntList, LitList, ParityList, RefList, Values};
 pub use literal::{Lit, MAX_VARIABLE, Var};
 pub use refs::{ClauseRef, Row};
+
+#[cfg(test)]
+mod tests;

@@ -1,5 +1,6 @@
 //! Small lists, which contracts see as lists.
 ghost use Rattle.std.specs.Prelude.{◌≡◌};
+ghost use Rattle.cx_base.specs.Numbers.{AreStepIntegers};
 
 use crate::literal::Lit;
 use crate::refs::ClauseRef;
@@ -117,7 +118,8 @@ impl RefList {
     }
 }
 
-/// A list of integers, as a text has them.
+/// A list of integers of a step: none is zero, and each has a magnitude up to
+/// 9,223,372,036,854,775,807.
 #[derive(Debug, Drop)]
 pub struct IntList {
     integers: Vec<i64>,
@@ -125,30 +127,36 @@ pub struct IntList {
 
 impl Model for IntList {
     ghost use Rattle.std.specs.Prelude.{List, ℤ};
+    ghost use Rattle.cx_base.specs.Numbers.{AreStepIntegers};
 
     ghost Value = { List ℤ };
 
     ghost view = { λ a. a.integers.items };
+
+    ghost invariant = { λ a. AreStepIntegers a.integers.items };
 }
 
 impl IntList {
-    /// The list of a vector's elements.
+    /// The list of a vector's integers.
     pub fn from_vec(integers: Vec<i64>) -> IntList
+        requires { AreStepIntegers integers.items }
         ensures { result ≡ integers.items }
     {
         IntList { integers }
     }
 
-    /// The elements in order.
+    /// The integers in order.
     pub fn as_slice(&self) -> &[i64]
-        ensures { result.now ≡ self.now }
+        ensures elements { result.now ≡ self.now }
+        ensures proper { AreStepIntegers self.now }
     {
         &self.integers
     }
 
-    /// The vector of the elements.
+    /// The vector of the integers.
     pub fn into_vec(self) -> Vec<i64>
-        ensures { result.items ≡ self }
+        ensures elements { result.items ≡ self }
+        ensures proper { AreStepIntegers self }
     {
         self.integers
     }

@@ -1,0 +1,7 @@
+pub mod SumLaws
+pub mod LiteralLaws
+pub mod ChainSteps
+pub mod ParityValues
+pub mod ClauseValues
+pub mod ExclusionLaws
+pub mod ClausesParity

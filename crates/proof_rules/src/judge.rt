@@ -1,75 +1,78 @@
 //! The four judges: one for each kind of step that adds something.
-ghost use Rattle.std.specs.Prelude.{◌≡◌, ◌++◌, length};
+ghost use Rattle.std.specs.Prelude.{◌++◌, ◌∷◌, []};
 ghost use Rattle.cx_semantics.specs.Integers.{sizes};
 ghost use Rattle.cx_semantics.specs.Tables.{named};
 ghost use Rattle.cx_semantics.specs.ProofRules.{hinting, chaining, summing, clause_of_parity, parity_of_clauses};
 ghost use Rattle.proof_rules.specs.Judges.{JudgesBy};
 
-use crate::{JudgeRefusal, Live};
-use cx_base::{IntList, LitList};
+use crate::hints::{id_of, judge_hints};
+use crate::live::Kind;
+use crate::{JudgeRefusal, Live, chain, clauses_parity, parity_clause, sum};
+use cx_base::LitList;
 use std::alloc::Global;
 
 /// Judges a clause by a chain of hints: live clauses, each of which has one literal left or none.
 ///
+/// The target's negations are assumed, and then what each hint has left, in order; hints behind the one with nothing
+/// left are not taken. The causes, in order: `RatHint`, `HintNotLive`, `HintNotUnit`, `HintsEnd`.
 /// It costs the literals of the target and of the hints that are taken, times a logarithm.
 pub fn judge_chain(
     alloc: Global,
     live: &Live,
     target: &LitList,
-    hints: &IntList,
+    hints: &[i64],
 ) -> Result<(), JudgeRefusal>
     ensures { JudgesBy (hinting live.now.clauses hints.now ++ chaining target.now (named live.now.clauses (sizes hints.now))) result }
 {
-    let _alloc = alloc;
-    let _target = target.as_slice();
-    let _hints = hints.as_slice();
-    Err(JudgeRefusal::Memory)
+    judge_hints(live, Kind::Clauses, hints)?;
+    chain::judge_target(alloc, live, target.as_slice(), hints)
 }
 
 /// Judges a parity as the sum of live parities, each counted as often as it is named.
+///
+/// The causes, in order: `RatHint`, `HintNotLive`, `SumDiffers`.
+/// It costs the literals of the target and of the hints, times a logarithm.
 pub fn judge_sum(
     alloc: Global,
     live: &Live,
     target: &LitList,
-    hints: &IntList,
+    hints: &[i64],
 ) -> Result<(), JudgeRefusal>
     ensures { JudgesBy (hinting live.now.parities hints.now ++ summing target.now (named live.now.parities (sizes hints.now))) result }
 {
-    let _alloc = alloc;
-    let _target = target.as_slice();
-    let _hints = hints.as_slice();
-    Err(JudgeRefusal::Memory)
+    judge_hints(live, Kind::Parities, hints)?;
+    sum::judge_target(alloc, live, target.as_slice(), hints)
 }
 
-/// Judges a clause as implied by one live parity.
+/// Judges a clause as implied by the one live parity that the hint names.
+///
+/// The causes, in order: `RatHint`, `HintNotLive`, `NotImplied`.
+/// It costs the literals of both, times a logarithm.
 pub fn judge_clause_of_parity(
     alloc: Global,
     live: &Live,
     target: &LitList,
-    hints: &IntList,
+    hint: i64,
 ) -> Result<(), JudgeRefusal>
-    requires { length hints.now ≡ 1 }
-    ensures { JudgesBy (hinting live.now.parities hints.now ++ clause_of_parity target.now (named live.now.parities (sizes hints.now))) result }
+    ensures { JudgesBy (hinting live.now.parities (hint ∷ []) ++ clause_of_parity target.now (named live.now.parities (sizes (hint ∷ [])))) result }
 {
-    let _alloc = alloc;
-    let _target = target.as_slice();
-    let _hints = hints.as_slice();
-    Err(JudgeRefusal::Memory)
+    judge_hints(live, Kind::Parities, &[hint])?;
+    let parity = live.parity(id_of(hint)).unwrap();
+    parity_clause::judge_target(alloc, parity, target.as_slice())
 }
 
 /// Judges a parity of at most 12 variables as implied by live clauses over these variables.
 ///
-/// It costs at most 4,096 and what each clause excludes.
+/// The causes, in order: `RatHint`, `HintNotLive`, `TooWide`, `ClauseOutside`, `NotImplied`.
+/// It costs the literals of the hints, at most 4,096 assignments, and the assignments that each clause excludes.
 pub fn judge_parity_of_clauses(
     alloc: Global,
     live: &Live,
     target: &LitList,
-    hints: &IntList,
+    hints: &[i64],
 ) -> Result<(), JudgeRefusal>
     ensures { JudgesBy (hinting live.now.clauses hints.now ++ parity_of_clauses target.now (named live.now.clauses (sizes hints.now))) result }
 {
-    let _alloc = alloc;
-    let _target = target.as_slice();
-    let _hints = hints.as_slice();
-    Err(JudgeRefusal::Memory)
+    judge_hints(live, Kind::Clauses, hints)?;
+    clauses_parity::judge_target(alloc, live, target.as_slice(), hints)
 }

@@ -1,10 +1,20 @@
 //! The rules of proof steps, each judged exactly, over the tables of live clauses and parities.
 #![tactic(auto)]
 
+mod chain;
+mod clauses_parity;
+mod hints;
 mod judge;
+mod literal_set;
 mod live;
+mod parity_clause;
+mod parity_sum;
 mod refusal;
+mod sum;
 
 pub use judge::{judge_chain, judge_clause_of_parity, judge_parity_of_clauses, judge_sum};
 pub use live::Live;
 pub use refusal::JudgeRefusal;
+
+#[cfg(test)]
+mod tests;

@@ -1,11 +1,19 @@
 //! The live clauses and parities of a proof, by their ids.
 ghost use Rattle.std.specs.Prelude.{◌≡◌, OnOk, OnErr, [], ◌∷◌, option_map, MatchOption, None, Some};
 ghost use Rattle.cx_semantics.specs.Tables.{Tables, get, is_live, put_clause, put_parity, drop_clauses, drop_parities, no_tables};
+ghost use Rattle.proof_rules.specs.Kinds.{chosen};
 
 use cx_base::{Lit, LitList};
 use std::alloc::{AllocError, Global};
 use std::collections::BTreeMap;
 use std::marker::Model;
+
+/// One of the two tables.
+#[derive(Clone, Copy, Drop)]
+pub(crate) enum Kind {
+    Clauses,
+    Parities,
+}
 
 /// Two tables, of clauses and of parities, each from ids to literals. The two sets of ids are separate.
 #[derive(Drop)]
@@ -47,6 +55,16 @@ impl Live {
         ensures { result ≡ is_live self.now.parities id }
     {
         self.parities.contains_key(&id)
+    }
+
+    /// Whether a constraint of this kind and id is live.
+    pub(crate) fn has(&self, kind: Kind, id: u64) -> bool
+        ensures { result ≡ is_live (chosen kind self.now) id }
+    {
+        match kind {
+            Kind::Clauses => self.has_clause(id),
+            Kind::Parities => self.has_parity(id),
+        }
     }
 
     /// The literals of the live clause of this id.

@@ -6,3 +6,4 @@ pub mod ReadingLaws
 pub mod Places
 pub mod Puts
 pub mod Given
+pub mod StepIntegers

@@ -14,7 +14,7 @@ use Rattle.proof_text.specs.declared.source.TextRefusal.{TextRefusal}
 
 -- ---- words
 
-rises_le : (size place : ℕ) (ps : List Placed) → RisesTo size place ps → place ≤ size
+pub rises_le : (size place : ℕ) (ps : List Placed) → RisesTo size place ps → place ≤ size
 rises_le size place [] h = h
 rises_le size place (p ∷ ps) h = let k = rises_le size (p.place + 1) ps h.1 in let l = h.0 in omega arith
 

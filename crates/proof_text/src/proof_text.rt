@@ -1,5 +1,5 @@
 //! The steps of a proof's text.
-ghost use Rattle.std.specs.Prelude.{◌≡◌, length, None};
+ghost use Rattle.std.specs.Prelude.{◌≡◌, ◌≤◌, length, None};
 ghost use Rattle.cx_semantics.specs.Tokens.{tokens};
 ghost use Rattle.proof_text.specs.Texts.{TextState};
 
@@ -24,18 +24,20 @@ pub struct ProofText<'a> {
 }
 
 impl<'a> Model for ProofText<'a> {
+    ghost use Rattle.std.specs.Prelude.{◌≤◌};
     ghost use Rattle.proof_text.specs.Texts.{TextState, IsInOrder};
 
     ghost Value = { TextState };
 
     ghost view = { λ t. record { tokens = t.tokens; size = t.size; place = t.place; refused = t.refused } };
 
-    ghost invariant = { λ t. IsInOrder t.tokens t.size t.place t.refused };
+    ghost invariant = { λ t. IsInOrder t.tokens t.size t.place t.refused × ((t.place ≤ t.size) × (t.size ≤ 4294967295)) };
 }
 
 impl<'a> ProofText<'a> {
-    /// The steps of a text, which may have any bytes.
+    /// The steps of a text of at most 4,294,967,295 bytes.
     pub fn new(alloc: Global, text: &'a [u8]) -> ProofText<'a>
+        requires { length text.now ≤ 4294967295 }
         ensures { result ≡ record { tokens = tokens text.now; size = length text.now; place = 0; refused = None } }
     {
         ProofText {

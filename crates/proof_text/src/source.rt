@@ -33,7 +33,7 @@ pub enum TextRefusal {
 ///
 /// What it has left is a list of steps and an ending, where it tells them. After `BadToken`,
 /// `Unterminated`, `TooBig` or `TooLong` the same answer comes again. It is not asked again after
-/// `Memory` or `Failed`.
+/// `Memory` or `Failed`. The place rises at each step, and stays below 2^62.
 pub trait StepSource {
     type Step;
 
@@ -60,7 +60,9 @@ pub trait StepSource {
         ensures spent { SpentAs result (is_spent self.new) }
         ensures faults { FaultsAs result (faults self.old) (faults self.new) }
         ensures long { IsTooLongOnly (passes_limit self.old) result }
+        ensures limit { (passes_limit self.new → passes_limit self.old) × (passes_limit self.old → passes_limit self.new) }
         ensures rises { Rises result (place_of self.old) (place_of self.new) }
+        ensures far { place_of self.new < 2 ^ 62 }
         ensures frame { keeps self.old self.new };
 
     /// How far the source has come: it rises at each step.

@@ -17,6 +17,9 @@ fn printed(rt: &HostRuntime, text: &[u8]) -> Result<(Vec<u8>, Option<TextRefusal
         3,
         Vec::new(rt.alloc()),
     )?;
+    if text.len() > 4096 {
+        return Ok((Vec::new(rt.alloc()), None));
+    }
     let mut source = ProofText::new(rt.alloc(), text);
     let mut ending = None;
     for _ in 0..16 {

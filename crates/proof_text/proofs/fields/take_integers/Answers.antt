@@ -1,3 +1,4 @@
+use Rattle.proof_text.proofs.StepIntegers.{step_integers}
 use Rattle.proof_text.proofs.Taken.{kept_integer}
 use Rattle.proof_text.proofs.TakingLaws.{one_integer, closed_integers, integers_refused}
 use Rattle.proof_text.proofs.fields.take_integers.Goals as goal
@@ -10,3 +11,6 @@ returns-in-Ok-None c = rw c.from_vec.ensures (closed_integers _ _ _ _ c.loop-int
 
 pub returns-in-Err : goal.returns-in-Err
 returns-in-Err c = integers_refused _ _ _ _ _ c.loop-integer.invariant c.in-Err.ensures.taken
+
+pub from_vec-requires : goal.from_vec-requires
+from_vec-requires c = step_integers _ _ _ c.loop-integer.invariant

@@ -1,0 +1,38 @@
+-- Tokens of the body as words.
+use Rattle.std.proofs.Common.{◌≡◌, sym, ap, ◌∙◌, subst, ℕ, zero, suc, ◌+◌, ◌<◌, ◌≤◌, ℤ, true, false, cond, List, [], ◌∷◌, length, take, drop, get_or, Some, None, arith, true≢false}
+use Rattle.std.proofs.lemmas.List.{drop_more}
+use Rattle.cx_semantics.specs.Tokens.{is_blank, NoBlank, EndsRun}
+use Rattle.cx_semantics.specs.Words.{Word, letter, other, number, number_or, integer, word_of, joined_words, formula_words_of}
+use Rattle.cx_semantics.proofs.Printing.{not_equal}
+use Rattle.cnfx_reader.specs.Meanings.{IsStrange}
+
+-- a token that is no integer and does not begin with `x`
+pub strange_token : (t : List ℕ) → 0 < length t → (get_or t 0 0 ≡ 120 → ⊥) → integer t ≡ None → (w : Word) × IsStrange w × (formula_words_of t ≡ w ∷ [])
+strange_token [] l n e = absurd (omega arith)
+strange_token (b ∷ []) l n e = (letter b, n, ap (λ i. number_or (letter b) i ∷ []) e)
+strange_token (b ∷ c ∷ bs) l n e =
+    (other, tt, ap (λ x. cond x (joined_words (integer (c ∷ bs))) (word_of (b ∷ c ∷ bs) ∷ [])) (not_equal b 120 n) ∙ ap (λ i. number_or other i ∷ []) e)
+
+zero_not_mark : ◌≡◌ {A = ℕ} 0 120 → ⊥
+zero_not_mark e = omega arith
+
+-- an `x` joined to an integer
+pub joined_token : (t : List ℕ) (len : ℕ) (z : ℤ) → get_or t 0 0 ≡ 120 → 0 < len → len ≤ length (drop 1 t) → integer (take len (drop 1 t)) ≡ Some z → formula_words_of (take (suc len) t) ≡ letter 120 ∷ number z ∷ []
+joined_token [] len z x some l e = absurd (zero_not_mark x)
+joined_token (b ∷ []) len z x some l e = absurd (omega arith)
+joined_token (b ∷ c ∷ bs) zero z x some l e = absurd (omega arith)
+joined_token (b ∷ c ∷ bs) (suc len) z x some l e = ap (λ y. formula_words_of (y ∷ c ∷ take len bs)) x ∙ ap joined_words e
+
+-- a run that begins is not empty
+pub run_begins : (text : List ℕ) → 0 < length text → is_blank (get_or text 0 0) ≡ false → EndsRun text → ⊥
+run_begins [] l b e = omega arith
+run_begins (c ∷ text) l b e = true≢false (sym e ∙ b)
+
+-- a run ends where a blank stands
+pub ends_at_blank : (text : List ℕ) (k : ℕ) → k < length text → is_blank (get_or text k 0) ≡ true → EndsRun (drop k text)
+ends_at_blank text k l b = subst EndsRun (sym (drop_more text k 0 l)) b
+
+-- a byte that is no blank before a run
+pub run_more : (text : List ℕ) (len : ℕ) → 0 < length text → is_blank (get_or text 0 0) ≡ false → NoBlank (take len (drop 1 text)) → NoBlank (take (1 + len) text)
+run_more [] len l b h = absurd (omega arith)
+run_more (c ∷ text) len l b h = let e : 1 + len ≡ suc len = omega arith in subst (λ n. NoBlank (take n (c ∷ text))) (sym e) (b, h)

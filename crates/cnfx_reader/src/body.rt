@@ -1,0 +1,98 @@
+//! The constraints of a formula.
+ghost use Rattle.std.specs.Prelude.{◌≡◌, ℕ, ℤ, List, [], ◌∷◌, ◌++◌, IfOk, IfErr, MatchResult};
+ghost use Rattle.cx_semantics.specs.Words.{Word, number, Placed, placed_formula_words};
+ghost use Rattle.cx_semantics.specs.Grammar.{finished};
+ghost use Rattle.cnfx_reader.specs.Meanings.{IsInteger, Says, placed_at};
+ghost use Rattle.cnfx_reader.specs.declared.pending.Pending.TheVariants as pending;
+ghost use Rattle.cnfx_reader.specs.Body.{outcome, Fits, IsEndedBy};
+
+use crate::body_token::BodyToken;
+use crate::integer::Integer;
+use crate::pending::Pending;
+use crate::refusal::ReadRefusal;
+use crate::tokens::{BodyTokenAt, FormulaTokens};
+use cx_base::FormulaBuilder;
+
+/// Takes an integer into the constraint that is pending, or ends it.
+#[inline(always)]
+fn take_integer(
+    builder: &mut FormulaBuilder,
+    pending: Pending,
+    integer: Integer,
+    place: u64,
+) -> Result<Pending, ReadRefusal>
+    requires { Fits pending builder.old }
+    ensures fits { IfOk result (λ next. Fits next builder.new) }
+    ensures ok { IfOk result (λ next. (len : ℕ) (z : ℤ) (rest : List Placed) → IsInteger integer z
+        → outcome len pending builder.old (record { place = place; word = number z } ∷ rest) ≡ outcome len next builder.new rest) }
+    ensures err { IfErr result (λ e. (len : ℕ) (z : ℤ) (rest : List Placed) → IsInteger integer z
+        → IsEndedBy e (outcome len pending builder.old (record { place = place; word = number z } ∷ rest)).ending) }
+{
+    match integer {
+        Integer::Zero => {
+            match pending {
+                Pending::Nothing | Pending::Clause => builder.end_clause()?,
+                Pending::Parity => builder.end_parity()?,
+            }
+            Ok(Pending::Nothing)
+        }
+        Integer::Literal(lit) => {
+            builder.push(lit)?;
+            match pending {
+                Pending::Nothing | Pending::Clause => Ok(Pending::Clause),
+                Pending::Parity => Ok(Pending::Parity),
+            }
+        }
+        Integer::Above => Err(ReadRefusal::VarLimit(place)),
+    }
+}
+
+/// Takes a token into the constraint that is pending, or begins or ends one.
+#[inline(always)]
+fn take_token(
+    builder: &mut FormulaBuilder,
+    pending: Pending,
+    at: BodyTokenAt,
+) -> Result<Pending, ReadRefusal>
+    requires { Fits pending builder.old }
+    ensures fits { IfOk result (λ next. Fits next builder.new) }
+    ensures ok { IfOk result (λ next. (len : ℕ) (words : List Word) (rest : List Placed) → Says at.token words
+        → outcome len pending builder.old (placed_at at.place words ++ rest) ≡ outcome len next builder.new rest) }
+    ensures err { IfErr result (λ e. (len : ℕ) (words : List Word) (rest : List Placed) → Says at.token words
+        → IsEndedBy e (outcome len pending builder.old (placed_at at.place words ++ rest)).ending) }
+{
+    let BodyTokenAt { place, token } = at;
+    match token {
+        BodyToken::Integer(integer) => take_integer(builder, pending, integer, place),
+        BodyToken::Mark => match pending {
+            Pending::Nothing => Ok(Pending::Parity),
+            _ => Err(ReadRefusal::BadToken(place)),
+        },
+        BodyToken::MarkedInteger(integer) => match pending {
+            Pending::Nothing => take_integer(builder, Pending::Parity, integer, place),
+            _ => Err(ReadRefusal::BadToken(place)),
+        },
+        BodyToken::Other => Err(ReadRefusal::BadToken(place)),
+    }
+}
+
+/// Reads the constraints behind the header. `len` is the text's length.
+pub(crate) fn read_body(
+    tokens: &mut FormulaTokens,
+    builder: &mut FormulaBuilder,
+    len: u64,
+) -> Result<(), ReadRefusal>
+    requires { builder.old.unfinished ≡ [] }
+    ensures { MatchResult result
+        (λ _. (builder.new.unfinished ≡ []) × (outcome len pending.Nothing builder.old (placed_formula_words tokens.old) ≡ record { constraints = builder.new.constraints; ending = finished }))
+        (λ e. IsEndedBy e (outcome len pending.Nothing builder.old (placed_formula_words tokens.old)).ending) }
+{
+    let mut pending = Pending::Nothing;
+    while let Some(at) = tokens.next_in_body() {
+        pending = take_token(builder, pending, at)?;
+    }
+    match pending {
+        Pending::Nothing => Ok(()),
+        _ => Err(ReadRefusal::Unterminated(len)),
+    }
+}

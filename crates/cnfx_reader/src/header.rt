@@ -1,0 +1,73 @@
+//! The header of a formula.
+ghost use Rattle.std.specs.Prelude.{◌≡◌, ◌≤◌, IfOk, MatchResult, Ok, Err};
+ghost use Rattle.cx_base.specs.declared.literal.TheConstants.{MAX_VARIABLE};
+ghost use Rattle.cx_semantics.specs.FormulaText.{header, behind_p, behind_cnf, behind_count};
+
+use crate::natural::{Natural, read_natural};
+use crate::tokens::FormulaTokens;
+use cx_semantics::Offence;
+
+/// Reads the header, and gives its number of variables. `len` is the text's length.
+#[inline(never)]
+pub(crate) fn read_header(tokens: &mut FormulaTokens, len: u64) -> Result<u32, Offence>
+    ensures within { IfOk result (λ v. v ≤ MAX_VARIABLE) }
+    ensures read { MatchResult result (λ v. header len tokens.old ≡ Ok (v, tokens.new)) (λ o. header len tokens.old ≡ Err o) }
+{
+    match tokens.next_token() {
+        None => Err(Offence::NoHeader(len)),
+        Some(token) => {
+            if token.text == b"p".as_slice() {
+                read_cnf(tokens, len)
+            } else {
+                Err(Offence::NoHeader(token.place as u64))
+            }
+        }
+    }
+}
+
+/// Reads `cnf` and the numbers.
+fn read_cnf(tokens: &mut FormulaTokens, len: u64) -> Result<u32, Offence>
+    ensures within { IfOk result (λ v. v ≤ MAX_VARIABLE) }
+    ensures read { MatchResult result (λ v. behind_p len tokens.old ≡ Ok (v, tokens.new)) (λ o. behind_p len tokens.old ≡ Err o) }
+{
+    match tokens.next_token() {
+        None => Err(Offence::BadHeader(len)),
+        Some(token) => {
+            if token.text == b"cnf".as_slice() {
+                read_numbers(tokens, len)
+            } else {
+                Err(Offence::BadHeader(token.place as u64))
+            }
+        }
+    }
+}
+
+/// Reads the number of variables and the number behind it.
+fn read_numbers(tokens: &mut FormulaTokens, len: u64) -> Result<u32, Offence>
+    ensures within { IfOk result (λ v. v ≤ MAX_VARIABLE) }
+    ensures read { MatchResult result (λ v. behind_cnf len tokens.old ≡ Ok (v, tokens.new)) (λ o. behind_cnf len tokens.old ≡ Err o) }
+{
+    match tokens.next_token() {
+        None => Err(Offence::BadHeader(len)),
+        Some(token) => match read_natural(token.text) {
+            Natural::Within(vars) => read_count(tokens, len, vars),
+            Natural::Above => Err(Offence::VarLimit(token.place as u64)),
+            Natural::Malformed => Err(Offence::BadHeader(token.place as u64)),
+        },
+    }
+}
+
+/// Reads the number of constraints, which has no meaning.
+fn read_count(tokens: &mut FormulaTokens, len: u64, vars: u32) -> Result<u32, Offence>
+    requires { vars ≤ MAX_VARIABLE }
+    ensures within { IfOk result (λ v. v ≤ MAX_VARIABLE) }
+    ensures read { MatchResult result (λ v. behind_count len vars tokens.old ≡ Ok (v, tokens.new)) (λ o. behind_count len vars tokens.old ≡ Err o) }
+{
+    match tokens.next_token() {
+        None => Err(Offence::BadHeader(len)),
+        Some(token) => match read_natural(token.text) {
+            Natural::Malformed => Err(Offence::BadHeader(token.place as u64)),
+            _ => Ok(vars),
+        },
+    }
+}

@@ -1,0 +1,95 @@
+//! The tokens of a formula's text, one after another.
+ghost use Rattle.std.specs.Prelude.{◌≡◌, ℕ, List, [], ◌∷◌, MatchOption};
+ghost use Rattle.cnfx_reader.specs.TokensLeft.{formula_tokens_from};
+ghost use Rattle.cnfx_reader.specs.Meanings.{Says};
+ghost use Rattle.cx_semantics.specs.Tokens.{Token};
+ghost use Rattle.cx_semantics.specs.Words.{formula_words_of};
+
+use crate::body_token::{BodyToken, leading_token};
+use crate::places::{Place, behind_token, next_begin, run_len};
+use cx_semantics::TokenAt;
+use std::marker::Model;
+
+/// What is left of a formula's text.
+#[derive(Drop)]
+pub(crate) struct FormulaTokens<'a> {
+    text: &'a [u8],
+    at: usize,
+    in_line: bool,
+}
+
+impl<'a> Model for FormulaTokens<'a> {
+    ghost use Rattle.std.specs.Prelude.{List, length, drop, ◌≤◌};
+    ghost use Rattle.cx_semantics.specs.Tokens.{Token};
+    ghost use Rattle.cnfx_reader.specs.TokensLeft.{formula_tokens_left};
+
+    ghost Value = { List Token };
+
+    ghost view = { λ r. formula_tokens_left r.in_line r.at (drop r.at r.text.now) };
+
+    ghost invariant = { λ r. r.at ≤ length r.text.now };
+}
+
+/// A token of the body, and the place of its first byte.
+#[derive(Clone, Copy, Drop)]
+pub(crate) struct BodyTokenAt {
+    pub place: u64,
+    pub token: BodyToken,
+}
+
+impl<'a> FormulaTokens<'a> {
+    /// The tokens of a whole text.
+    pub(crate) fn new(text: &'a [u8]) -> FormulaTokens<'a>
+        ensures { result ≡ formula_tokens_from 0 text.now }
+    {
+        FormulaTokens {
+            text,
+            at: 0,
+            in_line: false,
+        }
+    }
+
+    /// The next token by its bytes, or none at the end.
+    pub(crate) fn next_token(&mut self) -> Option<TokenAt<'a>>
+        ensures { MatchOption result ((self.old ≡ []) × (self.new ≡ [])) (λ t. self.old ≡ record { place = t.place; text = t.text.now } ∷ self.new) }
+    {
+        let text = self.text;
+        let at = next_begin(
+            text,
+            Place {
+                at: self.at,
+                in_line: self.in_line,
+            },
+        )?;
+        let len = run_len(&text[at..]);
+        self.at = at + len;
+        self.in_line = true;
+        Some(TokenAt {
+            place: at,
+            text: &text[at..at + len],
+        })
+    }
+
+    /// The next token by what it says in the body, or none at the end.
+    #[inline(always)]
+    pub(crate) fn next_in_body(&mut self) -> Option<BodyTokenAt>
+        ensures { MatchOption result ((self.old ≡ []) × (self.new ≡ [])) (λ t. (text : List ℕ) × (self.old ≡ record { place = t.place; text = text } ∷ self.new) × Says t.token (formula_words_of text)) }
+    {
+        let text = self.text;
+        let at = next_begin(
+            text,
+            Place {
+                at: self.at,
+                in_line: self.in_line,
+            },
+        )?;
+        let leading = leading_token(&text[at..]);
+        let next = behind_token(text, at + leading.len, leading.blank_follows);
+        self.at = next.at;
+        self.in_line = next.in_line;
+        Some(BodyTokenAt {
+            place: at as u64,
+            token: leading.token,
+        })
+    }
+}

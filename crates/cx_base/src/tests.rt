@@ -1,0 +1,30 @@
+//! A small formula, and the values that meet it.
+use crate::{Formula, FormulaBuilder, Lit, Var};
+use std::alloc::{AllocError, Global};
+use std::test::Fail;
+
+/// The parity of 1, 1 and 2, and the clause of 1, over at least one variable.
+fn small(alloc: Global) -> Result<Formula, AllocError> {
+    let one = Lit::new(Var::new(1), false);
+    let two = Lit::new(Var::new(2), false);
+    let mut builder = FormulaBuilder::new(alloc);
+    builder.push(one)?;
+    builder.push(one)?;
+    builder.push(two)?;
+    builder.end_parity()?;
+    builder.push(one)?;
+    builder.end_clause()?;
+    Ok(builder.finish(1))
+}
+
+#[test]
+fn repeats_count_in_parities(rt: HostRuntime) -> Result<(), Fail> {
+    let formula = small(rt.alloc())?;
+    assert_eq!(rt; formula.vars(), 2);
+    assert_eq!(rt; formula.len(), 2);
+    assert_eq!(rt; formula.first_unmet(&[true, true]), None);
+    assert_eq!(rt; formula.first_unmet(&[true, false]), Some(1));
+    assert_eq!(rt; formula.first_unmet(&[false, true]), Some(2));
+    assert!(rt; formula.meets(&[true, true]));
+    Ok(())
+}

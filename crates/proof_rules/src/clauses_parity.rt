@@ -1,0 +1,121 @@
+//! Parities that clauses imply.
+ghost use Rattle.std.specs.Prelude.{◌≡◌, ◌<◌, ◌≤◌, length, IfOk};
+ghost use Rattle.std.specs.List.{list_any};
+ghost use Rattle.cx_semantics.specs.ProofRules.{parity_of_clauses};
+ghost use Rattle.proof_rules.specs.Exclusions.{Fits, excluded, all_excluded, Excludes, is_outside};
+ghost use Rattle.proof_rules.specs.Judges.{JudgesBy};
+ghost use Rattle.proof_rules.specs.Kinds.{hinted};
+
+use crate::JudgeRefusal;
+use crate::hints::id_of;
+use crate::literal_set::LiteralSet;
+use crate::live::Live;
+use crate::parity_sum::ParitySum;
+use cx_base::{Lit, Var};
+use cx_semantics::Cause;
+use std::alloc::{AllocError, Global};
+
+/// The greatest number of variables of a parity that is judged by clauses.
+const WIDEST: usize = 12;
+
+/// Whether the clause has a variable that is not left in the sum.
+fn is_outside(sum: &ParitySum, clause: &[Lit]) -> bool
+    ensures { result ≡ is_outside sum.now.variables clause.now }
+{
+    clause.iter().any(|lit| !sum.has(lit.var()))
+}
+
+/// Whether some hinted clause has a variable that is not left in the sum.
+fn any_outside(sum: &ParitySum, live: &Live, hints: &[i64]) -> bool
+    ensures { result ≡ list_any (is_outside sum.now.variables) (hinted live.now.clauses hints.now) }
+{
+    for hint in hints {
+        if let Some(clause) = live.clause(id_of(*hint)) {
+            if is_outside(sum, clause) {
+                return true;
+            }
+        }
+    }
+    false
+}
+
+/// Marks the assignments of the variables under which the clause is not met.
+///
+/// `place` is that of the assignment where all of them are false, and `step` how far the first of them moves it.
+fn exclude(table: &mut [bool], variables: &[Var], clause: &LiteralSet, place: usize, step: usize)
+    requires place { place < step }
+    requires fits { Fits variables.now step (length table.old) }
+    ensures { table.new ≡ excluded clause.now variables.now place step table.old }
+{
+    match variables {
+        [] => table[place] = true,
+        [first, rest @ ..] => {
+            if !clause.contains(Lit::new(*first, true)) {
+                exclude(table, rest, clause, place, 2 * step);
+            }
+            if !clause.contains(Lit::new(*first, false)) {
+                exclude(table, rest, clause, place + step, 2 * step);
+            }
+        }
+    }
+}
+
+/// The table of the assignments that the hinted clauses exclude.
+fn exclusions(
+    alloc: Global,
+    variables: &[Var],
+    live: &Live,
+    hints: &[i64],
+) -> Result<Vec<bool>, AllocError>
+    requires { length variables.now ≤ WIDEST }
+    ensures { IfOk result (λ table. Excludes variables.now (hinted live.now.clauses hints.now) table.items) }
+{
+    let mut table = vec![in alloc; false; 1 << variables.len()]?;
+    for hint in hints {
+        if let Some(clause) = live.clause(id_of(*hint)) {
+            let set = LiteralSet::of(alloc, clause)?;
+            exclude(&mut table, variables, &set, 0, 1);
+        }
+    }
+    Ok(table)
+}
+
+/// Whether each assignment is excluded under which the sum of the variables is wrong.
+fn all_excluded(table: &[bool], variables: &[Var], place: usize, step: usize, wrong: bool) -> bool
+    requires place { place < step }
+    requires fits { Fits variables.now step (length table.now) }
+    ensures { result ≡ all_excluded variables.now place step wrong table.now }
+{
+    match variables {
+        [] => table[place] || !wrong,
+        [_, rest @ ..] => {
+            all_excluded(table, rest, place, 2 * step, wrong)
+                && all_excluded(table, rest, place + step, 2 * step, !wrong)
+        }
+    }
+}
+
+/// Judges the target as implied by the clauses that the hints name.
+pub(crate) fn judge_target(
+    alloc: Global,
+    live: &Live,
+    target: &[Lit],
+    hints: &[i64],
+) -> Result<(), JudgeRefusal>
+    ensures { JudgesBy (parity_of_clauses target.now (hinted live.now.clauses hints.now)) result }
+{
+    let sum = ParitySum::of(alloc, target)?;
+    if sum.width() > WIDEST {
+        return Err(JudgeRefusal::Wrong(Cause::TooWide));
+    }
+    if any_outside(&sum, live, hints) {
+        return Err(JudgeRefusal::Wrong(Cause::ClauseOutside));
+    }
+    let variables = sum.variables(alloc)?;
+    let table = exclusions(alloc, &variables, live, hints)?;
+    if all_excluded(&table, &variables, 0, 1, sum.right_side()) {
+        Ok(())
+    } else {
+        Err(JudgeRefusal::Wrong(Cause::NotImplied))
+    }
+}

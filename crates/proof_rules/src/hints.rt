@@ -1,0 +1,46 @@
+//! The rules that all hints of a step meet.
+ghost use Rattle.std.specs.Prelude.{◌≡◌, nat_abs, not, ℤ};
+ghost use Rattle.std.specs.List.{list_any};
+ghost use Rattle.cx_semantics.specs.Integers.{is_negative};
+ghost use Rattle.cx_semantics.specs.Tables.{is_live};
+ghost use Rattle.cx_semantics.specs.ProofRules.{hinting};
+ghost use Rattle.proof_rules.specs.Judges.{JudgesBy};
+ghost use Rattle.proof_rules.specs.Kinds.{chosen};
+
+use crate::JudgeRefusal;
+use crate::live::{Kind, Live};
+use cx_semantics::Cause;
+
+/// The id that a hint names.
+pub(crate) fn id_of(hint: i64) -> u64
+    ensures { result ≡ nat_abs hint }
+{
+    hint.unsigned_abs()
+}
+
+/// Whether some hint is negative.
+fn any_negative(hints: &[i64]) -> bool
+    ensures { result ≡ list_any is_negative hints.now }
+{
+    hints.iter().any(|hint| *hint < 0)
+}
+
+/// Whether some hint names no live constraint of the kind.
+fn any_not_live(live: &Live, kind: Kind, hints: &[i64]) -> bool
+    ensures { result ≡ list_any (λ z. not (is_live (chosen kind live.now) (nat_abs z))) hints.now }
+{
+    hints.iter().any(|hint| !live.has(kind, id_of(*hint)))
+}
+
+/// Judges the hints: none is negative, and each names a live constraint of the kind.
+pub(crate) fn judge_hints(live: &Live, kind: Kind, hints: &[i64]) -> Result<(), JudgeRefusal>
+    ensures { JudgesBy (hinting (chosen kind live.now) hints.now) result }
+{
+    if any_negative(hints) {
+        return Err(JudgeRefusal::Wrong(Cause::RatHint));
+    }
+    if any_not_live(live, kind, hints) {
+        return Err(JudgeRefusal::Wrong(Cause::HintNotLive));
+    }
+    Ok(())
+}

@@ -1,0 +1,75 @@
+//! Sets of literals.
+ghost use Rattle.std.specs.Prelude.{◌≡◌, [], ◌∷◌, OnOk, IfOk};
+ghost use Rattle.cx_semantics.specs.Chain.{has_literal, negations};
+ghost use Rattle.proof_rules.specs.LiteralSets.{HaveSame, ArePositive};
+
+use cx_base::Lit;
+use std::alloc::{AllocError, Global};
+use std::collections::BTreeSet;
+use std::marker::Model;
+
+/// A set of literals, which a contract sees as a list of them in some order.
+#[derive(Drop)]
+pub(crate) struct LiteralSet {
+    lits: BTreeSet<Lit>,
+}
+
+impl Model for LiteralSet {
+    ghost use Rattle.std.specs.Prelude.{List};
+    ghost use Rattle.cx_base.specs.Literals.{Literal};
+
+    ghost Value = { List Literal };
+
+    ghost view = { λ a. a.lits.keys };
+}
+
+impl LiteralSet {
+    /// The empty set.
+    fn new(alloc: Global) -> LiteralSet
+        ensures { result ≡ [] }
+    {
+        LiteralSet {
+            lits: BTreeSet::new(alloc),
+        }
+    }
+
+    /// The set of the literals.
+    pub(crate) fn of(alloc: Global, lits: &[Lit]) -> Result<LiteralSet, AllocError>
+        ensures same { IfOk result (λ set. HaveSame set lits.now) }
+        ensures positive { OnOk result (ArePositive lits.now) }
+    {
+        let mut set = LiteralSet::new(alloc);
+        for lit in lits {
+            // Its contract says that no variable is 0.
+            let _number = lit.var().number();
+            set.insert(*lit)?;
+        }
+        Ok(set)
+    }
+
+    /// The set of the negations of the literals.
+    pub(crate) fn of_negations(alloc: Global, lits: &[Lit]) -> Result<LiteralSet, AllocError>
+        ensures { IfOk result (λ set. HaveSame set (negations lits.now)) }
+    {
+        let mut set = LiteralSet::new(alloc);
+        for lit in lits {
+            set.insert(lit.negate())?;
+        }
+        Ok(set)
+    }
+
+    /// Whether it has the literal.
+    pub(crate) fn contains(&self, lit: Lit) -> bool
+        ensures { result ≡ has_literal self.now lit }
+    {
+        self.lits.contains(&lit)
+    }
+
+    /// Puts a literal in.
+    pub(crate) fn insert(&mut self, lit: Lit) -> Result<(), AllocError>
+        ensures { OnOk result (HaveSame self.new (lit ∷ self.old)) }
+    {
+        self.lits.insert(lit)?;
+        Ok(())
+    }
+}

@@ -1,0 +1,9 @@
+//! Runs of the program over a desk in memory, from the bytes in to the line out.
+#![tactic(auto)]
+
+#[cfg(test)]
+mod check;
+#[cfg(test)]
+mod desk;
+#[cfg(test)]
+mod refusals;

@@ -1,0 +1,98 @@
+-- The status and the lines of each ending.
+use Rattle.std.specs.Prelude.{ℕ, List, [], ◌∷◌, ◌++◌, codes, decimal}
+use Rattle.cx_desk.specs.declared.desk.Slot.{Slot}
+use Rattle.cx_desk.specs.declared.desk.Slot.TheVariants as slot
+use Rattle.cx_semantics.specs.declared.offence.Offence.{Offence}
+use Rattle.cx_semantics.specs.declared.offence.Offence.TheVariants as offence
+use Rattle.cx_semantics.specs.declared.steps.Cause.{Cause}
+use Rattle.cx_semantics.specs.declared.steps.Cause.TheVariants as cause
+use Rattle.solve_cli.specs.declared.ending.Ending.{Ending}
+use Rattle.solve_cli.specs.declared.ending.Ending.TheVariants as ending
+use Rattle.solve_cli.specs.declared.ending.Outcome.{Outcome}
+use Rattle.solve_cli.specs.declared.ending.Outcome.TheVariants as outcome
+use Rattle.solve_cli.specs.declared.ending.Status.{Status}
+use Rattle.solve_cli.specs.declared.ending.Status.TheVariants as status
+
+abbrev pub code_of : Status → ℕ
+code_of status.Done = 0
+code_of status.Usage = 2
+code_of status.FormulaRefused = 3
+code_of status.ReadFault = 4
+code_of status.WriteFault = 5
+code_of status.OutOfMemory = 6
+code_of status.ProofRefused = 7
+code_of status.Limit = 9
+
+-- a variable above the limit is the limit's, and every other offence the formula's
+abbrev pub status_of_offence : Offence → Status
+status_of_offence (offence.NoHeader b) = status.FormulaRefused
+status_of_offence (offence.BadHeader b) = status.FormulaRefused
+status_of_offence (offence.BadToken b) = status.FormulaRefused
+status_of_offence (offence.Unterminated b) = status.FormulaRefused
+status_of_offence (offence.VarLimit b) = status.Limit
+
+abbrev pub status_of_ending : Ending → Status
+status_of_ending (ending.FormulaRefused o) = status_of_offence o
+status_of_ending (ending.TooLong s) = status.Limit
+status_of_ending (ending.Verified k) = status.Done
+status_of_ending (ending.NotVerified k c) = status.ProofRefused
+
+abbrev pub status_of : Outcome → Status
+status_of (outcome.Ended e) = status_of_ending e
+status_of outcome.Usage = status.Usage
+status_of outcome.ReadFault = status.ReadFault
+status_of outcome.WriteFault = status.WriteFault
+status_of outcome.Memory = status.OutOfMemory
+
+-- pieces one behind the other
+abbrev pub joined : List (List ℕ) → List ℕ
+joined [] = []
+joined (p ∷ ps) = p ++ joined ps
+
+-- the number of a cause of a proof's refusal; the last three are no causes of a proof
+abbrev pub cause_text : Cause → List ℕ
+cause_text (cause.TextRefused b) = codes "P0 at byte " ++ decimal b
+cause_text cause.VarUnknown = codes "P1"
+cause_text cause.IdInUse = codes "P2"
+cause_text cause.RatHint = codes "P3"
+cause_text cause.HintNotLive = codes "P4"
+cause_text cause.HintNotUnit = codes "P5"
+cause_text cause.HintsEnd = codes "P6"
+cause_text cause.SumDiffers = codes "P7"
+cause_text cause.NotImplied = codes "P8"
+cause_text cause.TooWide = codes "P9"
+cause_text cause.ClauseOutside = codes "P10"
+cause_text cause.NoEmptyClause = codes "P11"
+cause_text cause.NotInFormula = codes "P"
+cause_text cause.NotLive = codes "P"
+cause_text cause.NoChain = codes "P"
+
+-- what an ending puts on the Answer port; none where the formula or a text's length was refused
+unfoldable pub answer_text : Ending → List ℕ
+answer_text (ending.FormulaRefused o) = []
+answer_text (ending.TooLong s) = []
+answer_text (ending.Verified k) = codes "s VERIFIED\n"
+answer_text (ending.NotVerified k c) = joined (codes "c step " ∷ decimal k ∷ codes " " ∷ cause_text c ∷ codes "\ns NOT VERIFIED\n" ∷ [])
+
+abbrev pub slot_text : Slot → List ℕ
+slot_text slot.Formula = codes "formula"
+slot_text slot.Second = codes "second"
+
+-- the line of a formula's offence, up to its place
+abbrev pub offence_text : Offence → List ℕ
+offence_text (offence.NoHeader b) = joined (codes "error: formula F1 at byte " ∷ decimal b ∷ codes "\n" ∷ [])
+offence_text (offence.BadHeader b) = joined (codes "error: formula F2 at byte " ∷ decimal b ∷ codes "\n" ∷ [])
+offence_text (offence.BadToken b) = joined (codes "error: formula F3 at byte " ∷ decimal b ∷ codes "\n" ∷ [])
+offence_text (offence.Unterminated b) = joined (codes "error: formula F4 at byte " ∷ decimal b ∷ codes "\n" ∷ [])
+offence_text (offence.VarLimit b) = joined (codes "error: limit L1 at byte " ∷ decimal b ∷ codes "\n" ∷ [])
+
+-- what an outcome puts on the Message port
+unfoldable pub message_text : Outcome → List ℕ
+message_text (outcome.Ended (ending.FormulaRefused o)) = offence_text o
+message_text (outcome.Ended (ending.TooLong s)) = joined (codes "error: limit L2 " ∷ slot_text s ∷ codes "\n" ∷ [])
+message_text (outcome.Ended (ending.Verified k)) = []
+message_text (outcome.Ended (ending.NotVerified k c)) = []
+message_text outcome.Usage = codes "error: usage\nusage: cxsat solve FORMULA [--proof LOG] [--conflicts N]\nusage: cxsat check FORMULA PROOF\nusage: cxsat elab FORMULA LOG PROOF\nusage: cxsat model FORMULA ANSWER\nusage: cxsat demo KIND SIZE SEED\n"
+message_text outcome.ReadFault = codes "error: read fault\n"
+message_text outcome.WriteFault = codes "error: write fault\n"
+message_text outcome.Memory = codes "error: out of memory\n"

@@ -1,0 +1,92 @@
+-- The steps of a command: a text is read whole, the formula is read, the answer is written.
+use Rattle.std.specs.Prelude.{true, ◌≡◌, ◌<◌, ◌≤◌, ℕ, true, length, take, IfSome, Result, MatchResult}
+use Rattle.cx_desk.specs.declared.desk.Slot.{Slot}
+use Rattle.cx_desk.specs.declared.desk.Slot.TheVariants as slot
+use Rattle.cx_desk.specs.declared.desk.Port.TheVariants as port
+use Rattle.cx_desk.specs.Outside.{Bytes, Outside, left_in, started_in}
+use Rattle.cx_base.specs.Problem.{Problem}
+use Rattle.cx_semantics.specs.declared.offence.Offence.TheVariants as offence
+use Rattle.cx_semantics.specs.ProofRules.{Accepted, RefusedAt}
+use Rattle.cnfx_reader.specs.declared.refusal.ReadRefusal.{ReadRefusal}
+use Rattle.cnfx_reader.specs.declared.refusal.ReadRefusal.TheVariants as refusal
+use Rattle.xlrup_check.specs.declared.verdict.Verdict.{Verdict}
+use Rattle.xlrup_check.specs.declared.verdict.Verdict.TheVariants.{Verified, Refused}
+use Rattle.solve_cli.specs.declared.plans.Plan.{Plan}
+use Rattle.solve_cli.specs.declared.ending.Ending.{Ending}
+use Rattle.solve_cli.specs.declared.ending.Ending.TheVariants as ending
+use Rattle.solve_cli.specs.declared.ending.Outcome.{Outcome}
+use Rattle.solve_cli.specs.declared.ending.Outcome.TheVariants as outcome
+use Rattle.solve_cli.specs.Endings.{answer_text}
+use Rattle.solve_cli.specs.Seen.{Seen, seen, asks, says, ReadFault, WriteFault, text_named}
+use Rattle.solve_cli.specs.Happens.{is_early, FormulaRead, EarlyDue, Works, asked_both, formula_of, second_of}
+
+abbrev pub LoadFails : Slot → Bytes → ℕ → Seen → Outcome → Seen → Type 0
+LoadFails slot name limit old (outcome.Ended (ending.TooLong s)) new =
+    (s ≡ slot) × (new ≡ asks slot name old) × IfSome old.files (λ files. limit < length (text_named name files))
+LoadFails slot name limit old outcome.ReadFault new = ReadFault (asks slot name old) new
+LoadFails slot name limit old outcome.Memory new = new ≡ asks slot name old
+LoadFails slot name limit old o new = ⊥
+
+-- a slot that was started on this file, and of which nothing was read
+pub record Ready (slot : Slot) (name : Bytes) (o : Outside) : Type 0 where
+  pub started : started_in slot o.started ≡ true
+  pub all : IfSome o.told (λ t. left_in slot t.left ≡ text_named name t.files)
+
+abbrev pub StartsSlot : {T : Type 0} → Slot → Bytes → Outside → Result T Outcome → Outside → Type 0
+StartsSlot slot name old result new = MatchResult result
+    (λ _. (seen new ≡ asks slot name (seen old)) × Ready slot name new)
+    (λ o. (o ≡ outcome.ReadFault) × ReadFault (asks slot name (seen old)) (seen new))
+
+abbrev pub ReadFails : Slot → Bytes → ℕ → Outside → Outcome → Outside → Type 0
+ReadFails slot name limit old (outcome.Ended (ending.TooLong s)) new =
+    (s ≡ slot) × (seen new ≡ seen old) × IfSome (seen old).files (λ files. limit < length (text_named name files))
+ReadFails slot name limit old outcome.ReadFault new = ReadFault (seen old) (seen new)
+ReadFails slot name limit old outcome.Memory new = seen new ≡ seen old
+ReadFails slot name limit old o new = ⊥
+
+-- a started slot was read to its end
+abbrev pub ReadsSlot : Slot → Bytes → ℕ → Outside → Result Bytes Outcome → Outside → Type 0
+ReadsSlot slot name limit old result new = MatchResult result
+    (λ text. (seen new ≡ seen old) × (length text ≤ limit) × IfSome (seen old).files (λ files. text ≡ text_named name files))
+    (λ o. ReadFails slot name limit old o new)
+
+abbrev pub FormulaFails : Bytes → ℕ → Seen → Outcome → Seen → Type 0
+FormulaFails name limit old (outcome.Ended e) new =
+    (is_early e ≡ true) × (new ≡ asks slot.Formula name old) × IfSome old.files (λ files. EarlyDue limit (text_named name files) e)
+FormulaFails name limit old outcome.ReadFault new = ReadFault (asks slot.Formula name old) new
+FormulaFails name limit old outcome.Memory new = new ≡ asks slot.Formula name old
+FormulaFails name limit old o new = ⊥
+
+-- the formula was read
+abbrev pub ReadsFormula : Bytes → ℕ → Seen → Result Problem Outcome → Seen → Type 0
+ReadsFormula name limit old result new = MatchResult result
+    (λ f. (new ≡ asks slot.Formula name old) × IfSome old.files (λ files. FormulaRead limit (text_named name files) f))
+    (λ o. FormulaFails name limit old o new)
+
+-- an answer was written, or a front of it
+abbrev pub Answers : Ending → Seen → Outcome → Seen → Type 0
+Answers e old (outcome.Ended d) new = (d ≡ e) × (new ≡ says port.Answer (answer_text e) old)
+Answers e old outcome.WriteFault new =
+    (k : ℕ) × (k < length (answer_text e)) × WriteFault (says port.Answer (take k (answer_text e)) old) new
+Answers e old o new = ⊥
+
+-- the formula was read, and the second slot was started
+abbrev pub Begins : Plan → ℕ → Outside → Result Problem Outcome → Outside → Type 0
+Begins p limit old result new = MatchResult result
+    (λ f. (seen new ≡ asked_both p (seen old)) × Ready slot.Second (second_of p) new
+    × IfSome (seen old).files (λ files. FormulaRead limit (text_named (formula_of p) files) f))
+    (λ o. Works p limit (seen old) o (seen new))
+
+-- where a formula's text is refused
+abbrev pub refused_as : ReadRefusal → Outcome
+refused_as (refusal.NoHeader place) = outcome.Ended (ending.FormulaRefused (offence.NoHeader place))
+refused_as (refusal.BadHeader place) = outcome.Ended (ending.FormulaRefused (offence.BadHeader place))
+refused_as (refusal.BadToken place) = outcome.Ended (ending.FormulaRefused (offence.BadToken place))
+refused_as (refusal.Unterminated place) = outcome.Ended (ending.FormulaRefused (offence.Unterminated place))
+refused_as (refusal.VarLimit place) = outcome.Ended (ending.FormulaRefused (offence.VarLimit place))
+refused_as refusal.Memory = outcome.Memory
+
+-- the judgement of a proof's text
+abbrev pub JudgesTo : Problem → Bytes → Verdict → Type 0
+JudgesTo formula text (Verified k) = Accepted formula text k
+JudgesTo formula text (Refused k cause) = RefusedAt formula text k cause

@@ -1,0 +1,126 @@
+//! The lines of the endings.
+ghost use Rattle.cx_desk.specs.declared.desk.Port.TheVariants as port;
+ghost use Rattle.std.specs.Prelude.{[], ◌∷◌, codes, decimal};
+ghost use Rattle.cx_desk.specs.Calls.{PutsAll};
+ghost use Rattle.solve_cli.specs.Endings.{answer_text, message_text, cause_text, offence_text, joined};
+
+use crate::{Ending, Outcome};
+use cx_desk::{Desk, Failed, Port, Slot, put_all, put_pieces};
+use cx_semantics::{Cause, Offence};
+use itoa::Buffer;
+
+/// The lines of a step that was refused.
+fn put_step<D: Desk>(desk: &mut D, step: u64, code: &[u8], last: &[u8]) -> Result<(), Failed>
+    ensures { PutsAll port.Answer (joined (codes "c step " ∷ decimal step ∷ codes " " ∷ code.now ∷ last.now ∷ [])) (D.outside desk.old) result (D.outside desk.new) }
+{
+    let mut number = Buffer::new();
+    let step = number.format(step).as_bytes();
+    put_pieces(desk, Port::Answer, &[b"c step ", step, b" ", code, last])
+}
+
+/// The same, with a place behind the code.
+fn put_step_at<D: Desk>(
+    desk: &mut D,
+    step: u64,
+    code: &[u8],
+    place: u64,
+    last: &[u8],
+) -> Result<(), Failed>
+    ensures { PutsAll port.Answer (joined (codes "c step " ∷ decimal step ∷ codes " " ∷ code.now ∷ decimal place ∷ last.now ∷ [])) (D.outside desk.old) result (D.outside desk.new) }
+{
+    let mut number = Buffer::new();
+    let step = number.format(step).as_bytes();
+    let mut place_number = Buffer::new();
+    let place = place_number.format(place).as_bytes();
+    put_pieces(
+        desk,
+        Port::Answer,
+        &[b"c step ", step, b" ", code, place, last],
+    )
+}
+
+/// The lines of a refusal by its cause.
+fn put_refusal<D: Desk>(desk: &mut D, step: u64, cause: Cause, last: &[u8]) -> Result<(), Failed>
+    ensures { PutsAll port.Answer (joined (codes "c step " ∷ decimal step ∷ codes " " ∷ cause_text cause ∷ last.now ∷ [])) (D.outside desk.old) result (D.outside desk.new) }
+{
+    match cause {
+        Cause::TextRefused(place) => put_step_at(desk, step, b"P0 at byte ", place, last),
+        Cause::VarUnknown => put_step(desk, step, b"P1", last),
+        Cause::IdInUse => put_step(desk, step, b"P2", last),
+        Cause::RatHint => put_step(desk, step, b"P3", last),
+        Cause::HintNotLive => put_step(desk, step, b"P4", last),
+        Cause::HintNotUnit => put_step(desk, step, b"P5", last),
+        Cause::HintsEnd => put_step(desk, step, b"P6", last),
+        Cause::SumDiffers => put_step(desk, step, b"P7", last),
+        Cause::NotImplied => put_step(desk, step, b"P8", last),
+        Cause::TooWide => put_step(desk, step, b"P9", last),
+        Cause::ClauseOutside => put_step(desk, step, b"P10", last),
+        Cause::NoEmptyClause => put_step(desk, step, b"P11", last),
+        Cause::NotInFormula => put_step(desk, step, b"P", last),
+        Cause::NotLive => put_step(desk, step, b"P", last),
+        Cause::NoChain => put_step(desk, step, b"P", last),
+    }
+}
+
+/// Writes what an ending puts on the Answer port.
+#[tactic(auto, unfolding(crate::specs::Endings::answer_text))]
+pub fn put_answer_text<D: Desk>(desk: &mut D, ending: Ending) -> Result<(), Failed>
+    ensures { PutsAll port.Answer (answer_text ending) (D.outside desk.old) result (D.outside desk.new) }
+{
+    match ending {
+        Ending::Verified(_) => put_all(desk, Port::Answer, b"s VERIFIED\n"),
+        Ending::NotVerified(step, cause) => {
+            put_refusal(desk, step, cause, b"\ns NOT VERIFIED\n")
+        }
+        Ending::FormulaRefused(_) => put_all(desk, Port::Answer, b""),
+        Ending::TooLong(_) => put_all(desk, Port::Answer, b""),
+    }
+}
+
+/// The message where the words are refused.
+const USAGE: &[u8] =
+    b"error: usage\nusage: cxsat solve FORMULA [--proof LOG] [--conflicts N]\nusage: cxsat check FORMULA PROOF\nusage: cxsat elab FORMULA LOG PROOF\nusage: cxsat model FORMULA ANSWER\nusage: cxsat demo KIND SIZE SEED\n";
+
+/// A line with a place.
+fn put_place_line<D: Desk>(desk: &mut D, front: &[u8], place: u64) -> Result<(), Failed>
+    ensures { PutsAll port.Message (joined (front.now ∷ decimal place ∷ codes "\n" ∷ [])) (D.outside desk.old) result (D.outside desk.new) }
+{
+    let mut number = Buffer::new();
+    let place = number.format(place).as_bytes();
+    put_pieces(desk, Port::Message, &[front, place, b"\n"])
+}
+
+/// The line of a formula's offence.
+fn put_offence<D: Desk>(desk: &mut D, offence: Offence) -> Result<(), Failed>
+    ensures { PutsAll port.Message (offence_text offence) (D.outside desk.old) result (D.outside desk.new) }
+{
+    match offence {
+        Offence::NoHeader(place) => put_place_line(desk, b"error: formula F1 at byte ", place),
+        Offence::BadHeader(place) => put_place_line(desk, b"error: formula F2 at byte ", place),
+        Offence::BadToken(place) => put_place_line(desk, b"error: formula F3 at byte ", place),
+        Offence::Unterminated(place) => put_place_line(desk, b"error: formula F4 at byte ", place),
+        Offence::VarLimit(place) => put_place_line(desk, b"error: limit L1 at byte ", place),
+    }
+}
+
+/// Writes what an outcome puts on the Message port.
+#[tactic(auto, unfolding(crate::specs::Endings::message_text))]
+pub fn put_message_text<D: Desk>(desk: &mut D, outcome: &Outcome) -> Result<(), Failed>
+    ensures { PutsAll port.Message (message_text outcome.now) (D.outside desk.old) result (D.outside desk.new) }
+{
+    match outcome {
+        Outcome::Ended(Ending::FormulaRefused(offence)) => put_offence(desk, *offence),
+        Outcome::Ended(Ending::TooLong(Slot::Formula)) => {
+            put_all(desk, Port::Message, b"error: limit L2 formula\n")
+        }
+        Outcome::Ended(Ending::TooLong(Slot::Second)) => {
+            put_all(desk, Port::Message, b"error: limit L2 second\n")
+        }
+        Outcome::Ended(Ending::Verified(_)) => put_all(desk, Port::Message, b""),
+        Outcome::Ended(Ending::NotVerified(_, _)) => put_all(desk, Port::Message, b""),
+        Outcome::Usage => put_all(desk, Port::Message, USAGE),
+        Outcome::ReadFault => put_all(desk, Port::Message, b"error: read fault\n"),
+        Outcome::WriteFault => put_all(desk, Port::Message, b"error: write fault\n"),
+        Outcome::Memory => put_all(desk, Port::Message, b"error: out of memory\n"),
+    }
+}

@@ -1,0 +1,94 @@
+-- One step more of a proof that is judged.
+use Rattle.std.proofs.Common.{◌≡◌, refl, sym, ap, subst, ℕ, ◌+◌, Bool, true, false, List, [], ◌∷◌, ◌++◌, length-append, append-nil, append_assoc, inl, inr, arith, IfOk, Some, None, Result, Ok, Err}
+use Rattle.cx_base.specs.Problem.{Problem}
+use Rattle.cx_semantics.specs.declared.steps.ProofStep.{ProofStep}
+use Rattle.cx_semantics.specs.declared.steps.Cause.{Cause}
+use Rattle.cx_semantics.specs.declared.steps.Cause.TheVariants as causes
+use Rattle.cx_semantics.specs.Grammar.{Ending, bad_token, too_big, unterminated}
+use Rattle.proof_text.specs.Sources.{GivesNone}
+use Rattle.proof_text.specs.declared.source.TextRefusal.{TextRefusal}
+use Rattle.proof_text.specs.declared.source.TextRefusal.TheVariants as text
+use Rattle.cx_semantics.specs.Tables.{Tables, first_tables}
+use Rattle.cx_semantics.specs.Judging.{Runs, FirstFailure, AcceptedAt, end_cause}
+use Rattle.cx_semantics.specs.ProofRules.{proof_calculus, proof_rules}
+use Rattle.cx_semantics.proofs.JudgingLaws.{runs_push}
+use Rattle.cx_semantics.proofs.Soundness.{accepted_steps_are_unmet}
+use Rattle.xlrup_check.specs.Verdicts.{Kept, Goes, StepTaken, TakesStep, text_refused, what_follows_of}
+use Rattle.proof_rules.specs.declared.refusal.JudgeRefusal.{JudgeRefusal}
+use Rattle.proof_rules.specs.declared.refusal.JudgeRefusal.TheVariants as refusal
+use Rattle.xlrup_check.specs.declared.verdict.Verdict.TheVariants.{Verified, Refused}
+
+module _ {X : Type 0} (leaves : X → List ProofStep → Ending → Type 0) (formula : Problem) (first old new : X) (tables : Tables) (count : ℕ) (kept : Kept leaves formula first old tables count) where
+  -- the text ends here
+  pub end_is_refused : (ending : Ending) (cause : Cause) → cause ≡ end_cause ending → leaves old [] ending → Goes leaves formula first new tables count (Some (Refused (count + 1) cause))
+  end_is_refused ending cause e h = (
+    (
+      kept.before,
+      ending,
+      subst (λ (ss : List ProofStep). leaves first ss ending) (append-nil kept.before) (kept.left [] ending h),
+      inr (record { tables = tables; runs = kept.runs; why = e; number = ap (λ n. n + 1) kept.number }),
+    ),
+    tt,
+  )
+
+  -- no step comes
+  pub text_is_refused : (why : TextRefusal) → GivesNone leaves why old new → IfOk (text_refused why (count + 1)) (Goes leaves formula first new tables count)
+  text_is_refused (text.BadToken place) h = end_is_refused (bad_token place) (causes.TextRefused place) refl h.0
+  text_is_refused (text.Unterminated place) h = end_is_refused (unterminated place) (causes.TextRefused place) refl h.0
+  text_is_refused (text.TooBig place) h = end_is_refused (too_big place) (causes.TextRefused place) refl h.0
+  text_is_refused text.TooLong h = tt
+  text_is_refused text.Memory h = tt
+  text_is_refused text.Failed h = tt
+
+  module _ (step : ProofStep) (follows : (steps : List ProofStep) (ending : Ending) → leaves new steps ending → leaves old (step ∷ steps) ending) where
+    -- the step is wrong; the source has something left behind it
+    step_is_refused : (cause : Cause) → FirstFailure (proof_rules formula tables step) cause → (rest : (steps : List ProofStep) × (ending : Ending) × leaves new steps ending)
+        → (after : Tables) → Goes leaves formula first new after count (Some (Refused (count + 1) cause))
+    step_is_refused cause f rest after = (
+      (
+        kept.before ++ step ∷ rest.0,
+        rest.1,
+        kept.left (step ∷ rest.0) rest.1 (follows rest.0 rest.1 rest.2),
+        inl (record { before = kept.before; step = step; later = rest.0; tables = tables; split = refl; runs = kept.runs; wrong = f; number = ap (λ n. n + 1) kept.number }),
+      ),
+      tt,
+    )
+
+    accepted_here : (after : Tables) → StepTaken formula tables step true after → (later : List ProofStep) → AcceptedAt (proof_calculus formula) (kept.before ++ step ∷ later) (count + 1)
+    accepted_here after t later = record {
+      before = kept.before;
+      step = step;
+      later = later;
+      tables = tables;
+      split = refl;
+      runs = kept.runs;
+      right = t.0;
+      ends = sym t.1.1;
+      number = ap (λ n. n + 1) kept.number;
+    }
+
+    -- the step is right and ends the proof
+    step_is_accepted : (after : Tables) → StepTaken formula tables step true after → (rest : (steps : List ProofStep) × (ending : Ending) × leaves new steps ending)
+        → Goes leaves formula first new after count (Some (Verified (count + 1)))
+    step_is_accepted after t rest = (
+      (kept.before ++ step ∷ rest.0, rest.1, kept.left (step ∷ rest.0) rest.1 (follows rest.0 rest.1 rest.2), accepted_here after t rest.0),
+      accepted_steps_are_unmet formula _ _ (accepted_here after t rest.0),
+    )
+
+    -- the step is right, and the proof goes on
+    step_is_kept : (after : Tables) → StepTaken formula tables step false after → Goes leaves formula first new after count None
+    step_is_kept after t = record {
+      before = kept.before ++ step ∷ [];
+      runs = subst (λ (u : Tables). Runs (proof_calculus formula) (first_tables formula) (kept.before ++ step ∷ []) u) (sym t.1.0)
+          (runs_push (proof_calculus formula) (first_tables formula) kept.before step tables kept.runs t.0 (sym t.1.1));
+      number = omega (arith, kept.number, length-append kept.before (step ∷ []));
+      left = λ steps ending h. subst (λ (ss : List ProofStep). leaves first ss ending) (sym (append_assoc kept.before (step ∷ []) steps)) (kept.left (step ∷ steps) ending (follows steps ending h));
+    }
+
+    -- what follows the step, as it was judged
+    pub step_goes : (after : Tables) (taken : Result Bool JudgeRefusal) → TakesStep formula tables step taken after → ((steps : List ProofStep) × (ending : Ending) × leaves new steps ending)
+        → IfOk (what_follows_of taken (count + 1)) (Goes leaves formula first new after count)
+    step_goes after (Ok true) t rest = step_is_accepted after t rest
+    step_goes after (Ok false) t rest = step_is_kept after t
+    step_goes after (Err (refusal.Wrong cause)) f rest = step_is_refused cause f rest after
+    step_goes after (Err refusal.Memory) f rest = tt

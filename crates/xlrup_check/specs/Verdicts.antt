@@ -1,0 +1,77 @@
+-- What the checker answers.
+use Rattle.std.specs.Prelude.{◌≡◌, ℕ, Bool, true, false, List, length, ◌++◌, ◌+◌, Option, Some, None, Result, Ok, Err, ⊤}
+use Rattle.cx_base.specs.Problem.{Problem, Unmet}
+use Rattle.cx_semantics.specs.declared.steps.ProofStep.{ProofStep}
+use Rattle.cx_semantics.specs.Grammar.{Ending}
+use Rattle.cx_semantics.specs.Tables.{Tables, first_tables}
+use Rattle.cx_semantics.specs.declared.steps.Cause.TheVariants as causes
+use Rattle.proof_text.specs.declared.source.TextRefusal.{TextRefusal}
+use Rattle.proof_text.specs.declared.source.TextRefusal.TheVariants as text
+use Rattle.cx_semantics.specs.Judging.{Judgement, accepted, refused, IsRight, Runs, JudgedAs}
+use Rattle.cx_semantics.specs.ProofRules.{proof_calculus, proof_rules, after_step, adds_empty_clause}
+use Rattle.proof_text.specs.Sources.{Rose}
+use Rattle.proof_rules.specs.declared.refusal.JudgeRefusal.{JudgeRefusal}
+use Rattle.proof_rules.specs.declared.refusal.JudgeRefusal.TheVariants as refusal
+use Rattle.proof_rules.specs.Judges.{IsRefusedBy}
+use Rattle.xlrup_check.specs.declared.verdict.Verdict.{Verdict}
+use Rattle.xlrup_check.specs.declared.verdict.Verdict.TheVariants.{Verified, Refused}
+use Rattle.xlrup_check.specs.declared.verdict.Fault.{Fault}
+use Rattle.xlrup_check.specs.declared.verdict.Fault.TheVariants.{Memory, Read, TooLong}
+
+abbrev pub judgement_of : Verdict → Judgement
+judgement_of (Verified k) = accepted k
+judgement_of (Refused k cause) = refused k cause
+
+-- the source had some steps and an ending left, and these are judged so
+abbrev pub IsJudgedBy : {X : Type 0} → (X → List ProofStep → Ending → Type 0) → Problem → X → Verdict → Type 0
+IsJudgedBy leaves formula source verdict =
+    (steps : List ProofStep) × (ending : Ending) × leaves source steps ending × JudgedAs (proof_calculus formula) steps ending (judgement_of verdict)
+
+-- verified only where no values meet the formula, whatever the source tells
+abbrev pub IsSound : Problem → Verdict → Type 0
+IsSound formula (Verified k) = Unmet formula
+IsSound formula (Refused k cause) = ⊤
+
+-- a fault of reading is one that was counted, and a text is too long only where the source tells so
+abbrev pub HasCause : Type 0 → ℕ → ℕ → Fault → Type 0
+HasCause Passes before now Memory = ⊤
+HasCause Passes before now Read = Rose before now
+HasCause Passes before now TooLong = Passes
+
+-- what stands where no step comes: a text that does not fit is refused at this number, the rest is a fault
+abbrev pub text_refused : TextRefusal → ℕ → Result (Option Verdict) Fault
+text_refused (text.BadToken place) k = Ok (Some (Refused k (causes.TextRefused place)))
+text_refused (text.Unterminated place) k = Ok (Some (Refused k (causes.TextRefused place)))
+text_refused (text.TooBig place) k = Ok (Some (Refused k (causes.TextRefused place)))
+text_refused text.TooLong k = Err TooLong
+text_refused text.Memory k = Err Memory
+text_refused text.Failed k = Err Read
+
+-- what follows a step that was judged: a right one ends the proof or does not, a wrong one is refused
+abbrev pub what_follows_of : Result Bool JudgeRefusal → ℕ → Result (Option Verdict) Fault
+what_follows_of (Ok true) k = Ok (Some (Verified k))
+what_follows_of (Ok false) k = Ok None
+what_follows_of (Err (refusal.Wrong cause)) k = Ok (Some (Refused k cause))
+what_follows_of (Err refusal.Memory) k = Err Memory
+
+-- What is known before a step: the steps taken are right and did not end the proof, and what is left follows them.
+pub record Kept {X : Type 0} (leaves : X → List ProofStep → Ending → Type 0) (formula : Problem) (first now : X) (tables : Tables) (count : ℕ) : Type 0 where
+  pub before : List ProofStep
+  pub runs : Runs (proof_calculus formula) (first_tables formula) before tables
+  pub number : count ≡ length before
+  pub left : (steps : List ProofStep) (ending : Ending) → leaves now steps ending → leaves first (before ++ steps) ending
+
+-- the proof goes on behind one step more, or is judged
+abbrev pub Goes : {X : Type 0} → (X → List ProofStep → Ending → Type 0) → Problem → X → X → Tables → ℕ → Option Verdict → Type 0
+Goes leaves formula first now tables steps None = Kept leaves formula first now tables (steps + 1)
+Goes leaves formula first now tables steps (Some verdict) = IsJudgedBy leaves formula first verdict × IsSound formula verdict
+
+-- the step is right, these tables stand after it, and whether it ends the proof
+abbrev pub StepTaken : Problem → Tables → ProofStep → Bool → Tables → Type 0
+StepTaken formula old step ends new =
+    IsRight (proof_calculus formula) old step × ((new ≡ after_step old step) × (ends ≡ adds_empty_clause step))
+
+-- a step was taken, or has this first cause against it
+abbrev pub TakesStep : Problem → Tables → ProofStep → Result Bool JudgeRefusal → Tables → Type 0
+TakesStep formula old step (Ok ends) new = StepTaken formula old step ends new
+TakesStep formula old step (Err why) new = IsRefusedBy (proof_rules formula old step) why

@@ -1,0 +1,106 @@
+//! The judgement of a proof, step by step.
+ghost use Rattle.std.specs.Prelude.{◌≡◌, ◌<◌, ◌≤◌, ◌^◌, ◌+◌, false, None, IfOk, IfErr};
+ghost use Rattle.cx_base.specs.Problem.{Problem};
+ghost use Rattle.cx_base.specs.declared.literal.TheConstants.{MAX_VARIABLE};
+ghost use Rattle.xlrup_check.specs.Verdicts.{IsJudgedBy, IsSound, HasCause, Kept, Goes, text_refused, what_follows_of};
+
+use crate::begin::first_live;
+use crate::step::take_step;
+use crate::verdict::{Fault, Verdict};
+use cx_base::Formula;
+use cx_semantics::{Cause, ProofStep};
+use proof_rules::{JudgeRefusal, Live};
+use proof_text::{StepSource, TextRefusal};
+use std::alloc::Global;
+
+/// Judges a proof of the formula, from a source of steps.
+///
+/// Steps are taken in order. The first right step that adds a clause without literals ends the
+/// proof; what stands behind it is not judged. The first wrong step is refused for its first cause.
+/// `Fault::Read` comes only where the source counted a fault, `Fault::TooLong` only where its text
+/// passes its limit.
+pub fn check<S: StepSource<Step = ProofStep>>(
+    alloc: Global,
+    formula: &Formula,
+    source: &mut S,
+) -> Result<Verdict, Fault>
+    requires { S.is_spent source.old ≡ false }
+    ensures judged { IfOk result (IsJudgedBy S.leaves formula.now source.old) }
+    ensures sound { IfOk result (IsSound formula.now) }
+    ensures cause { IfErr result (HasCause (S.passes_limit source.old) (S.faults source.old) (S.faults source.new)) }
+    ensures frame { S.keeps source.old source.new }
+{
+    let vars = formula.vars();
+    let mut live = match first_live(alloc, formula) {
+        Ok(live) => live,
+        Err(_) => return Err(Fault::Memory),
+    };
+    let mut steps = 0;
+    loop {
+        match take_next(alloc, vars, &mut live, source, steps) {
+            Ok(None) => steps += 1,
+            Ok(Some(verdict)) => return Ok(verdict),
+            Err(fault) => return Err(fault),
+        }
+    }
+}
+
+/// Takes the next step, behind so many; none where the proof goes on.
+fn take_next<S: StepSource<Step = ProofStep>>(
+    alloc: Global,
+    vars: u32,
+    live: &mut Live,
+    source: &mut S,
+    steps: u64,
+) -> Result<Option<Verdict>, Fault>
+    requires few { vars ≤ MAX_VARIABLE }
+    requires fresh { S.is_spent source.old ≡ false }
+    requires count { steps < 2 ^ 63 }
+    ensures goes { (formula : Problem) (first : S) → formula.variables ≡ vars → Kept S.leaves formula first source.old live.old steps
+        → IfOk result (Goes S.leaves formula first source.new live.new steps) }
+    ensures fresh { IfOk result (λ verdict. verdict ≡ None → S.is_spent source.new ≡ false) }
+    ensures faults { IfOk result (λ _. S.faults source.new ≡ S.faults source.old) }
+    ensures rises { IfOk result (λ verdict. verdict ≡ None → S.place_of source.old < S.place_of source.new) }
+    ensures far { S.place_of source.new < 2 ^ 62 }
+    ensures limit { S.passes_limit source.new → S.passes_limit source.old }
+    ensures cause { IfErr result (HasCause (S.passes_limit source.old) (S.faults source.old) (S.faults source.new)) }
+    ensures frame { S.keeps source.old source.new }
+{
+    let step = match source.next_step() {
+        Ok(Some(step)) => step,
+        Ok(None) => {
+            return Ok(Some(Verdict::Refused(steps + 1, Cause::NoEmptyClause)));
+        }
+        Err(why) => return refused_text(why, steps + 1),
+    };
+    let taken = take_step(alloc, vars, live, &step);
+    what_follows(taken, steps + 1)
+}
+
+/// What follows a step that was judged; none where the proof goes on.
+fn what_follows(taken: Result<bool, JudgeRefusal>, number: u64) -> Result<Option<Verdict>, Fault>
+    ensures { result ≡ what_follows_of taken number }
+{
+    match taken {
+        Ok(true) => Ok(Some(Verdict::Verified(number))),
+        Ok(false) => Ok(None),
+        Err(JudgeRefusal::Wrong(cause)) => Ok(Some(Verdict::Refused(number, cause))),
+        Err(JudgeRefusal::Memory) => Err(Fault::Memory),
+    }
+}
+
+/// What stands where the source gives no step.
+fn refused_text(why: TextRefusal, number: u64) -> Result<Option<Verdict>, Fault>
+    ensures { result ≡ text_refused why number }
+{
+    match why {
+        TextRefusal::BadToken(place)
+        | TextRefusal::Unterminated(place)
+        | TextRefusal::TooBig(place) => {
+            Ok(Some(Verdict::Refused(number, Cause::TextRefused(place))))
+        }
+        TextRefusal::TooLong => Err(Fault::TooLong),
+        TextRefusal::Memory => Err(Fault::Memory),
+        TextRefusal::Failed => Err(Fault::Read),
+    }
+}

@@ -1,0 +1,215 @@
+//! One step of a proof: judged, and then done.
+ghost use Rattle.std.specs.Prelude.{◌≡◌, ◌≤◌, ◌<◌, ℕ, false, [], ◌∷◌, IfOk, length, nat_lt, nat_abs};
+ghost use Rattle.std.specs.List.{list_any};
+ghost use Rattle.cx_base.specs.Problem.{Problem};
+ghost use Rattle.cx_base.specs.declared.literal.TheConstants.{MAX_VARIABLE};
+ghost use Rattle.cx_semantics.specs.declared.steps.Cause.TheVariants as causes;
+ghost use Rattle.cx_semantics.specs.declared.steps.ProofStep.TheVariants as step;
+ghost use Rattle.cx_semantics.specs.Integers.{literal, literals};
+ghost use Rattle.cx_semantics.specs.Judging.{refused_where};
+ghost use Rattle.cx_semantics.specs.Tables.{drop_clauses, drop_parities};
+ghost use Rattle.proof_rules.specs.Judges.{JudgesBy};
+ghost use Rattle.xlrup_check.specs.Verdicts.{TakesStep};
+
+use cx_base::{IdList, IntList, Lit, LitList, Var};
+use cx_semantics::{Cause, ProofStep};
+use proof_rules::{
+    JudgeRefusal, Live, judge_chain, judge_clause_of_parity, judge_parity_of_clauses, judge_sum,
+};
+use std::alloc::{AllocError, Global};
+
+/// Whether a literal has a variable above the formula's number.
+fn has_unknown(vars: u32, lits: &[i64]) -> bool
+    ensures { result ≡ list_any (λ z. nat_lt vars (nat_abs z)) lits.now }
+{
+    for lit in lits {
+        if u64::from(vars) < lit.unsigned_abs() {
+            return true;
+        }
+    }
+    false
+}
+
+/// The rules for what is added: its variables are the formula's, and its id is not live.
+fn judge_added(vars: u32, lits: &IntList, is_live: bool) -> Result<(), JudgeRefusal>
+    ensures { JudgesBy (refused_where causes.VarUnknown (list_any (λ z. nat_lt vars (nat_abs z)) lits.now) ∷ refused_where causes.IdInUse is_live ∷ []) result }
+{
+    if has_unknown(vars, lits.as_slice()) {
+        return Err(JudgeRefusal::Wrong(Cause::VarUnknown));
+    }
+    if is_live {
+        return Err(JudgeRefusal::Wrong(Cause::IdInUse));
+    }
+    Ok(())
+}
+
+/// The literal of an integer that is not zero.
+fn literal_of(integer: i64) -> Lit
+    requires low { 1 ≤ nat_abs integer }
+    requires high { nat_abs integer ≤ MAX_VARIABLE }
+    ensures { result ≡ literal integer }
+{
+    Lit::new(Var::new(integer.unsigned_abs() as u32), integer < 0)
+}
+
+/// The literals of integers, whose variables are within the formula's number.
+fn literals_of(alloc: Global, vars: u32, integers: &IntList) -> Result<LitList, AllocError>
+    requires few { vars ≤ MAX_VARIABLE }
+    requires known { list_any (λ z. nat_lt vars (nat_abs z)) integers.now ≡ false }
+    ensures { IfOk result (λ lits. lits ≡ literals integers.now) }
+{
+    let integers = integers.as_slice();
+    let mut lits = Vec::with_capacity(alloc, integers.len())?;
+    for integer in integers {
+        lits.push(literal_of(*integer))?;
+    }
+    Ok(LitList::from_vec(lits))
+}
+
+/// A clause by a chain.
+fn take_clause(
+    alloc: Global,
+    vars: u32,
+    live: &mut Live,
+    id: u64,
+    lits: &IntList,
+    hints: &IntList,
+) -> Result<bool, JudgeRefusal>
+    requires few { vars ≤ MAX_VARIABLE }
+    ensures { (formula : Problem) → formula.variables ≡ vars → TakesStep formula live.old (step.Clause id lits.now hints.now) result live.new }
+{
+    match judge_added(vars, lits, live.has_clause(id)) {
+        Ok(()) => {}
+        Err(why) => return Err(why),
+    }
+    let target = literals_of(alloc, vars, lits)?;
+    match judge_chain(alloc, live, &target, hints.as_slice()) {
+        Ok(()) => {}
+        Err(why) => return Err(why),
+    }
+    live.add_clause(id, target)?;
+    Ok(lits.as_slice().is_empty())
+}
+
+/// A parity as the sum of named parities.
+fn take_parity(
+    alloc: Global,
+    vars: u32,
+    live: &mut Live,
+    id: u64,
+    lits: &IntList,
+    hints: &IntList,
+) -> Result<bool, JudgeRefusal>
+    requires few { vars ≤ MAX_VARIABLE }
+    ensures { (formula : Problem) → formula.variables ≡ vars → TakesStep formula live.old (step.Parity id lits.now hints.now) result live.new }
+{
+    match judge_added(vars, lits, live.has_parity(id)) {
+        Ok(()) => {}
+        Err(why) => return Err(why),
+    }
+    let target = literals_of(alloc, vars, lits)?;
+    match judge_sum(alloc, live, &target, hints.as_slice()) {
+        Ok(()) => {}
+        Err(why) => return Err(why),
+    }
+    live.add_parity(id, target)?;
+    Ok(false)
+}
+
+/// A clause that a parity implies.
+fn take_clause_of_parity(
+    alloc: Global,
+    vars: u32,
+    live: &mut Live,
+    id: u64,
+    lits: &IntList,
+    hint: &i64,
+) -> Result<bool, JudgeRefusal>
+    requires few { vars ≤ MAX_VARIABLE }
+    ensures { (formula : Problem) → formula.variables ≡ vars → TakesStep formula live.old (step.ClauseOfParity id lits.now hint.now) result live.new }
+{
+    match judge_added(vars, lits, live.has_clause(id)) {
+        Ok(()) => {}
+        Err(why) => return Err(why),
+    }
+    let target = literals_of(alloc, vars, lits)?;
+    match judge_clause_of_parity(alloc, live, &target, *hint) {
+        Ok(()) => {}
+        Err(why) => return Err(why),
+    }
+    live.add_clause(id, target)?;
+    Ok(lits.as_slice().is_empty())
+}
+
+/// A parity that clauses imply.
+fn take_parity_of_clauses(
+    alloc: Global,
+    vars: u32,
+    live: &mut Live,
+    id: u64,
+    lits: &IntList,
+    hints: &IntList,
+) -> Result<bool, JudgeRefusal>
+    requires few { vars ≤ MAX_VARIABLE }
+    ensures { (formula : Problem) → formula.variables ≡ vars → TakesStep formula live.old (step.ParityOfClauses id lits.now hints.now) result live.new }
+{
+    match judge_added(vars, lits, live.has_parity(id)) {
+        Ok(()) => {}
+        Err(why) => return Err(why),
+    }
+    let target = literals_of(alloc, vars, lits)?;
+    match judge_parity_of_clauses(alloc, live, &target, hints.as_slice()) {
+        Ok(()) => {}
+        Err(why) => return Err(why),
+    }
+    live.add_parity(id, target)?;
+    Ok(false)
+}
+
+/// Takes clauses out.
+fn delete_clauses(live: &mut Live, ids: &IdList)
+    ensures { live.new ≡ drop_clauses live.old ids.now }
+{
+    for id in ids.as_slice() {
+        live.remove_clause(*id);
+    }
+}
+
+/// Takes parities out.
+fn delete_parities(live: &mut Live, ids: &IdList)
+    ensures { live.new ≡ drop_parities live.old ids.now }
+{
+    for id in ids.as_slice() {
+        live.remove_parity(*id);
+    }
+}
+
+/// Judges a step, and where it is right does it and says whether it ends the proof.
+pub fn take_step(
+    alloc: Global,
+    vars: u32,
+    live: &mut Live,
+    step: &ProofStep,
+) -> Result<bool, JudgeRefusal>
+    requires few { vars ≤ MAX_VARIABLE }
+    ensures { (formula : Problem) → formula.variables ≡ vars → TakesStep formula live.old step.now result live.new }
+{
+    match step {
+        ProofStep::Clause(id, lits, hints) => take_clause(alloc, vars, live, *id, lits, hints),
+        ProofStep::Parity(id, lits, hints) => take_parity(alloc, vars, live, *id, lits, hints),
+        ProofStep::ClauseOfParity(id, lits, hint) => {
+            take_clause_of_parity(alloc, vars, live, *id, lits, hint)
+        }
+        ProofStep::ParityOfClauses(id, lits, hints) => {
+            take_parity_of_clauses(alloc, vars, live, *id, lits, hints)
+        }
+        ProofStep::DeleteClauses(_, ids) => {
+            delete_clauses(live, ids);
+            Ok(false)
+        }
+        ProofStep::DeleteParities(ids) => {
+            delete_parities(live, ids);
+            Ok(false)
+        }
+    }
+}
