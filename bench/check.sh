@@ -1,7 +1,7 @@
 #!/usr/bin/env bash
-# Times `cxsat check` on proofs of three kinds, each at a size and at twice its work, beside a plain C loop that finds and
+# Times `cxsat check` on proofs of four kinds, each at a size and at twice its work, beside a plain C loop that finds and
 # converts the tokens of the same proof. Prints steps and megabytes a second, and how often the loop's time is needed.
-# usage: bench/check.sh [CHAIN [HOLES [SUMS]]]
+# usage: bench/check.sh [CHAIN [HOLES [WIDE [SUMS]]]]
 set -euo pipefail
 here=$(cd "$(dirname "$0")" && pwd)
 work=$(mktemp -d)
@@ -30,10 +30,12 @@ measure() {
     }'
 }
 
-chain=${1:-500000} holes=${2:-13} sums=${3:-4000}
+chain=${1:-500000} holes=${2:-13} wide=${3:-100000} sums=${4:-4000}
 measure chain "$chain"
 measure chain $((2 * chain))
 measure holes "$holes"
 measure holes $((holes + 1))
+measure wide "$wide"
+measure wide $((2 * wide))
 measure sums "$sums"
 measure sums $((2 * sums))

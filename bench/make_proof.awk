@@ -2,6 +2,7 @@
 # chain: the implications 1, 1 -> 2, .., -N; one unit clause a step, N steps.
 # holes: N + 1 pigeons and N holes; for each set S of holes that pigeons 1 to |S| + 1 do not all fit in S.
 #        Some N * 2^(N - 1) steps.
+# wide: a clause of N literals by a chain of N + 1 hints, and one that is false by N + 1 hints more.
 # sums: a thousand parities x_i + x_(i + 1); N steps, each the sum of all of them, and one that is false.
 function literal(pigeon, hole) { return (pigeon - 1) * size + hole }
 
@@ -59,6 +60,21 @@ function holes(  i, j, k, n, set, count, hints, none, all, own) {
     }
 }
 
+function wide(  k, lits, hints, units) {
+    printf "p cnf %d %d\n%d 0\n", 2 * size, 2 * size + 1, -2 * size > formula
+    for (k = 1; k <= size; k++) {
+        if (k == 1) printf "%d %d 0\n", 1, size + 1 > formula
+        else printf "%d %d %d 0\n", k, -(size + k - 1), size + k > formula
+        lits = lits k " "
+        hints = hints k + 1 " "
+    }
+    for (k = 1; k <= size; k++) {
+        printf "-%d 0\n", k > formula
+        units = units size + 1 + k " "
+    }
+    printf "%d %s0 %s1 0\n%d 0 %s%d 0\n", 2 * size + 2, lits, hints, 2 * size + 3, units, 2 * size + 2 > proof
+}
+
 function sums(  k, hints) {
     printf "p cnf 1001 1001\n" > formula
     for (k = 1; k <= 1000; k++) printf "x-%d %d 0\n", k, k + 1 > formula
@@ -71,5 +87,6 @@ function sums(  k, hints) {
 BEGIN {
     if (kind == "chain") chain()
     if (kind == "holes") holes()
+    if (kind == "wide") wide()
     if (kind == "sums") sums()
 }

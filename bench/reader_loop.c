@@ -78,14 +78,9 @@ int main(int argc, char **argv) {
     if (argc < 2) { fprintf(stderr, "usage: reader_loop FILE [keep]\n"); return 2; }
     size_t len;
     unsigned char *text = read_file(argv[1], &len);
-    double best = 1e9;
-    struct counts c = {0, 0, 0, 0};
-    for (int turn = 0; turn < 5; turn++) {
-        double start = seconds();
-        c = read_tokens(text, len, argc > 2);
-        double took = seconds() - start;
-        if (took < best) best = took;
-    }
-    printf("%zu bytes, %zu literals, %zu constraints, %zu parities, sum %zu: %.1f ms\n", len, c.literals, c.constraints, c.parities, c.sum, best * 1e3);
+    double start = seconds();
+    struct counts c = read_tokens(text, len, argc > 2);
+    double took = seconds() - start;
+    printf("%zu bytes, %zu literals, %zu constraints, %zu parities, sum %zu: %.1f ms\n", len, c.literals, c.constraints, c.parities, c.sum, took * 1e3);
     return 0;
 }

@@ -15,18 +15,30 @@ use Rattle.proof_text.specs.Spaced.{spaced, spaced_integer, spaced_id}
 abbrev pub Fails : Port → Bytes → Outside → Outside → Type 0
 Fails port bytes old new = (k : ℕ) × (k < length bytes) × PutFaulted port (gained port (take k bytes) old) new
 
-pub fails_first : (port : Port) (a b : Bytes) (old new : Outside) → Fails port a old new → Fails port (a ++ b) old new
+fails_first : (port : Port) (a b : Bytes) (old new : Outside) → Fails port a old new → Fails port (a ++ b) old new
 fails_first port a b old new h = fails-within port [] a b h.0 old old new h.1 (sym (gained-none port old)) h.2
 
-pub fails_then : (port : Port) (a b : Bytes) (old mid new : Outside) → mid ≡ gained port a old → Fails port b mid new → Fails port (a ++ b) old new
+fails_then : (port : Port) (a b : Bytes) (old mid new : Outside) → mid ≡ gained port a old → Fails port b mid new → Fails port (a ++ b) old new
 fails_then port a b old mid new e h = subst (λ c. Fails port (a ++ c) old new) (append-nil b) (fails-within port a b [] h.0 old mid new h.1 e h.2)
 
-pub puts_then : {T E : Type 0} (port : Port) (a b : Bytes) (old mid new : Outside) (r : Result T E) → mid ≡ gained port a old → PutsAll port b mid r new → PutsAll port (a ++ b) old r new
+puts_then : {T E : Type 0} (port : Port) (a b : Bytes) (old mid new : Outside) (r : Result T E) → mid ≡ gained port a old → PutsAll port b mid r new → PutsAll port (a ++ b) old r new
 puts_then port a b old mid new (Ok x) e h = h ∙ ap (gained port b) e ∙ gained-twice port a b old
 puts_then port a b old mid new (Err x) e h = fails_then port a b old mid new e h
 
-pub gained_then : (port : Port) (a b : Bytes) (old mid new : Outside) → mid ≡ gained port a old → new ≡ gained port b mid → new ≡ gained port (a ++ b) old
-gained_then port a b old mid new e f = f ∙ ap (gained port b) e ∙ gained-twice port a b old
+-- ---- a text of two or three pieces
+
+pub first_fails : (port : Port) (a b l : Bytes) (old new : Outside) → a ++ b ≡ l → Fails port a old new → Fails port l old new
+first_fails port a b l old new e h = subst (λ t. Fails port t old new) e (fails_first port a b old new h)
+
+pub two_puts : {T E : Type 0} (port : Port) (a b l : Bytes) (old mid new : Outside) (r : Result T E) → a ++ b ≡ l → mid ≡ gained port a old → PutsAll port b mid r new → PutsAll port l old r new
+two_puts port a b l old mid new r e h k = subst (λ t. PutsAll port t old r new) e (puts_then port a b old mid new r h k)
+
+pub second_fails : (port : Port) (a b c l : Bytes) (old mid new : Outside) → a ++ (b ++ c) ≡ l → mid ≡ gained port a old → Fails port b mid new → Fails port l old new
+second_fails port a b c l old mid new e h k = subst (λ t. Fails port t old new) e (fails_then port a (b ++ c) old mid new h (fails_first port b c mid new k))
+
+pub three_puts : {T E : Type 0} (port : Port) (a b c l : Bytes) (old mid late new : Outside) (r : Result T E)
+    → a ++ (b ++ c) ≡ l → mid ≡ gained port a old → late ≡ gained port b mid → PutsAll port c late r new → PutsAll port l old r new
+three_puts port a b c l old mid late new r e h k m = two_puts port a (b ++ c) l old mid new r e h (puts_then port b c mid late new r k m)
 
 -- ---- lines
 

@@ -1,5 +1,6 @@
 //! The fields of a step, taken from a text's tokens.
-ghost use Rattle.std.specs.Prelude.{◌≡◌, ◌<◌, length, [], ◌∷◌, pos, IfOk};
+ghost use Rattle.std.specs.Prelude.{◌≡◌, ◌<◌, length, [], ◌∷◌, pos, IfOk, MatchResult};
+ghost use Rattle.proof_text.specs.declared.source.TextRefusal.TheVariants.{Memory};
 ghost use Rattle.cx_semantics.specs.Words.{placed_words};
 ghost use Rattle.cx_semantics.specs.Grammar.{id, integer, end, ids, integers};
 ghost use Rattle.cx_semantics.proofs.Shapes.{an_id, an_integer, an_end, some_ids, some_integers};
@@ -115,6 +116,19 @@ fn take_listed_id(tokens: &mut TokensAhead, size: usize) -> Result<Option<u64>, 
     }
 }
 
+/// The members that a list has room for at first.
+const FEW: usize = 16;
+
+/// An empty list with room for a few members.
+fn few<T>(alloc: Global) -> Result<Vec<T>, TextRefusal>
+    ensures { MatchResult result (λ v. v.items ≡ []) (λ r. r ≡ Memory) }
+{
+    match Vec::with_capacity(alloc, FEW) {
+        Ok(members) => Ok(members),
+        Err(_) => Err(TextRefusal::Memory),
+    }
+}
+
 /// Integers that are not zero, up to a zero.
 pub fn take_integers(
     alloc: Global,
@@ -123,7 +137,7 @@ pub fn take_integers(
 ) -> Result<IntList, TextRefusal>
     ensures { TakesAll (λ zs. integers zs ∷ []) (some_integers ∷ []) size (placed_words tokens.old) result (placed_words tokens.new) }
 {
-    let mut members = Vec::new(alloc);
+    let mut members = few(alloc)?;
     loop {
         match take_listed_integer(tokens, size) {
             Ok(Some(integer)) => match members.push(integer) {
@@ -140,7 +154,7 @@ pub fn take_integers(
 pub fn take_ids(alloc: Global, tokens: &mut TokensAhead, size: usize) -> Result<IdList, TextRefusal>
     ensures { TakesAll (λ ns. ids ns ∷ []) (some_ids ∷ []) size (placed_words tokens.old) result (placed_words tokens.new) }
 {
-    let mut members = Vec::new(alloc);
+    let mut members = few(alloc)?;
     loop {
         match take_listed_id(tokens, size) {
             Ok(Some(name)) => match members.push(name) {

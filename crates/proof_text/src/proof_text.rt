@@ -10,7 +10,10 @@ use cx_semantics::ProofStep;
 use std::alloc::Global;
 use std::marker::Model;
 
-/// A proof that is read from a text, step by step.
+/// A proof that is read from a text, step by step, in one pass and with no copy of it.
+///
+/// It has no limit, never answers `TooLong` or `Failed`, and asks for memory for the steps' lists
+/// alone. Its place is the place of the token behind the last step, or the text's length at the end.
 #[derive(Drop)]
 pub struct ProofText<'a> {
     alloc: Global,

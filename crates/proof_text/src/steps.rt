@@ -37,6 +37,7 @@ struct Lists {
     hints: IntList,
 }
 
+/// Literals and hints, each up to a zero.
 fn take_lists(alloc: Global, tokens: &mut TokensAhead, size: usize) -> Result<Lists, TextRefusal>
     ensures { TakesAll (λ l. integers l.literals ∷ integers l.hints ∷ []) (some_integers ∷ some_integers ∷ []) size (placed_words tokens.old) result (placed_words tokens.new) }
 {
@@ -45,6 +46,7 @@ fn take_lists(alloc: Global, tokens: &mut TokensAhead, size: usize) -> Result<Li
     Ok(Lists { literals, hints })
 }
 
+/// An id, literals and hints.
 fn take_hinted(alloc: Global, tokens: &mut TokensAhead, size: usize) -> Result<Hinted, TextRefusal>
     ensures { TakesAll (λ h. id h.id ∷ integers h.literals ∷ integers h.hints ∷ []) (an_id ∷ some_integers ∷ some_integers ∷ []) size (placed_words tokens.old) result (placed_words tokens.new) }
 {
@@ -57,6 +59,7 @@ fn take_hinted(alloc: Global, tokens: &mut TokensAhead, size: usize) -> Result<H
     })
 }
 
+/// An id, literals and one hint with the zero behind it.
 fn take_implied(
     alloc: Global,
     tokens: &mut TokensAhead,
@@ -132,6 +135,7 @@ fn take_implied_step(
     }
 }
 
+/// A step; its first word tells which one it may be.
 fn take_step(alloc: Global, tokens: &mut TokensAhead, size: usize) -> Result<ProofStep, TextRefusal>
     ensures { TakesStep size (placed_words tokens.old) result (placed_words tokens.new) }
 {

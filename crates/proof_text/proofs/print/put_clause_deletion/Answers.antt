@@ -1,16 +1,26 @@
 use Rattle.std.proofs.lemmas.Result.{err_from_is_err_and}
-use Rattle.std.proofs.Common.{subst, map, pos, decimal, ◌∷◌, ◌++◌, []}
+use Rattle.std.proofs.Common.{map, pos, decimal, ◌∷◌, ◌++◌, []}
 use Rattle.cx_semantics.specs.Grammar.{spelled_list}
-use Rattle.cx_desk.specs.Outside.{Bytes}
-use Rattle.cx_desk.specs.Calls.{PutsAll}
 use Rattle.proof_text.specs.Spaced.{spaced}
-use Rattle.proof_text.proofs.Puts.{Fails, fails_first, puts_then, clause_names_line}
+use Rattle.proof_text.proofs.Puts.{first_fails, two_puts, clause_names_line}
 use Rattle.proof_text.proofs.print.put_clause_deletion.Goals as goal
 
 pub returns-in_err-put_id : goal.returns-in_err-put_id
 returns-in_err-put_id g c =
     let p = err_from_is_err_and c.from_residual.result c.from_residual.ensures.1 in
-    rw p.1 (subst (λ (b : Bytes). Fails c.args.port b (g.D.Desk.outside c.args.desk.now) (g.D.Desk.outside c.put_id.new.desk)) (clause_names_line c.args.name c.args.names.now) (fails_first c.args.port (decimal c.args.name ++ (32 ∷ 100 ∷ [])) (spaced (spelled_list (map pos c.args.names.now)) ++ 10 ∷ []) (g.D.Desk.outside c.args.desk.now) _ c.in_err-put_id.ensures))
+    let first = decimal c.args.name ++ (32 ∷ 100 ∷ []) in
+    let second = spaced (spelled_list (map pos c.args.names.now)) ++ 10 ∷ [] in
+    let line = clause_names_line c.args.name c.args.names.now in
+    let old = g.D.Desk.outside c.args.desk.now in
+    let new = g.D.Desk.outside c.put_id.new.desk in
+    rw p.1 (first_fails c.args.port first second _ old new line c.in_err-put_id.ensures)
 
 pub returns : goal.returns
-returns g c = subst (λ (b : Bytes). PutsAll c.args.port b (g.D.Desk.outside c.args.desk.now) c.put_ids.result (g.D.Desk.outside c.put_ids.new.desk)) (clause_names_line c.args.name c.args.names.now) (puts_then c.args.port (decimal c.args.name ++ (32 ∷ 100 ∷ [])) (spaced (spelled_list (map pos c.args.names.now)) ++ 10 ∷ []) (g.D.Desk.outside c.args.desk.now) (g.D.Desk.outside c.put_id.new.desk) (g.D.Desk.outside c.put_ids.new.desk) c.put_ids.result c.in_ok-put_id.ensures c.put_ids.ensures)
+returns g c =
+    let first = decimal c.args.name ++ (32 ∷ 100 ∷ []) in
+    let second = spaced (spelled_list (map pos c.args.names.now)) ++ 10 ∷ [] in
+    let line = clause_names_line c.args.name c.args.names.now in
+    let old = g.D.Desk.outside c.args.desk.now in
+    let mid = g.D.Desk.outside c.put_id.new.desk in
+    let new = g.D.Desk.outside c.put_ids.new.desk in
+    two_puts c.args.port first second _ old mid new c.put_ids.result line c.in_ok-put_id.ensures c.put_ids.ensures

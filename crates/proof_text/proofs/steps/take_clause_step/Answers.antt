@@ -13,15 +13,22 @@ returns-in_err-id c =
 pub returns-in_err-names : goal.returns-in_err-names
 returns-in_err-names c =
     let p = err_from_is_err_and c.from_residual-in_err-names.result c.from_residual-in_err-names.ensures.1 in
-    rw (p.1, p.2) (clause_names_refused _ _ _ _ _ _ c.in_ok-id.ensures (letter_taken 100 _ c.pass.new.self (sym c.is_letter.ensures ∙ c.if-is_letter.true) c.pass.ensures) (c.in_err-names.ensures []))
+    let letter = letter_taken 100 c.take_id.new.tokens c.pass.new.self (sym c.is_letter.ensures ∙ c.if-is_letter.true) c.pass.ensures in
+    rw (p.1, p.2) (clause_names_refused _ _ _ _ _ _ c.in_ok-id.ensures letter (c.in_err-names.ensures []))
 
 pub returns-in_err-lists : goal.returns-in_err-lists
 returns-in_err-lists c =
     let p = err_from_is_err_and c.from_residual-in_err-lists.result c.from_residual-in_err-lists.ensures.1 in
-    rw (p.1, p.2) (clause_lists_refused _ _ _ _ _ c.in_ok-id.ensures (sym c.is_letter.ensures ∙ c.if-is_letter.false) (c.in_err-lists.ensures []))
+    let no_letter = sym c.is_letter.ensures ∙ c.if-is_letter.false in
+    rw (p.1, p.2) (clause_lists_refused _ _ _ _ _ c.in_ok-id.ensures no_letter (c.in_err-lists.ensures []))
 
 pub returns-in_ok-names : goal.returns-in_ok-names
-returns-in_ok-names c = takes_append (id c.in_ok-id.id ∷ mark 100 ∷ []) (ids c.in_ok-names.names ∷ []) _ _ _ (takes_append (id c.in_ok-id.id ∷ []) (mark 100 ∷ []) _ _ _ c.in_ok-id.ensures (letter_taken 100 _ c.pass.new.self (sym c.is_letter.ensures ∙ c.if-is_letter.true) c.pass.ensures)) c.in_ok-names.ensures
+returns-in_ok-names c =
+    let letter = letter_taken 100 c.take_id.new.tokens c.pass.new.self (sym c.is_letter.ensures ∙ c.if-is_letter.true) c.pass.ensures in
+    let two = takes_append (id c.in_ok-id.id ∷ []) (mark 100 ∷ []) _ _ _ c.in_ok-id.ensures letter in
+    takes_append (id c.in_ok-id.id ∷ mark 100 ∷ []) (ids c.in_ok-names.names ∷ []) _ _ _ two c.in_ok-names.ensures
 
 pub returns-in_ok-lists : goal.returns-in_ok-lists
-returns-in_ok-lists c = takes_append (id c.in_ok-id.id ∷ []) (integers c.in_ok-lists.lists.literals ∷ integers c.in_ok-lists.lists.hints ∷ []) _ _ _ c.in_ok-id.ensures c.in_ok-lists.ensures
+returns-in_ok-lists c =
+    let lists = c.in_ok-lists.lists in
+    takes_append (id c.in_ok-id.id ∷ []) (integers lists.literals ∷ integers lists.hints ∷ []) _ _ _ c.in_ok-id.ensures c.in_ok-lists.ensures

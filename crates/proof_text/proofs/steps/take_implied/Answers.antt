@@ -19,12 +19,18 @@ returns-in_err-literals c =
 pub returns-in_err-hint : goal.returns-in_err-hint
 returns-in_err-hint c =
     let p = err_from_is_err_and c.from_residual-in_err-hint.result c.from_residual-in_err-hint.ensures.1 in
-    rw (p.1, p.2) (λ ks. refused_after (id c.in_ok-id.id ∷ integers c.in_ok-literals.literals ∷ []) (an_integer ∷ an_end ∷ ks) _ _ _ _ (takes_append (id c.in_ok-id.id ∷ []) (integers c.in_ok-literals.literals ∷ []) _ _ _ c.in_ok-id.ensures c.in_ok-literals.ensures) (one_refused an_integer (an_end ∷ ks) _ _ _ c.in_err-hint.ensures))
+    let two = takes_append (id c.in_ok-id.id ∷ []) (integers c.in_ok-literals.literals ∷ []) _ _ _ c.in_ok-id.ensures c.in_ok-literals.ensures in
+    rw (p.1, p.2) (λ ks. refused_after (id c.in_ok-id.id ∷ integers c.in_ok-literals.literals ∷ []) (an_integer ∷ an_end ∷ ks) _ _ _ _ two (one_refused an_integer (an_end ∷ ks) _ _ _ c.in_err-hint.ensures))
 
 pub returns-in_err-take_end : goal.returns-in_err-take_end
 returns-in_err-take_end c =
     let p = err_from_is_err_and c.from_residual-in_err-take_end.result c.from_residual-in_err-take_end.ensures.1 in
-    rw (p.1, p.2) (λ ks. refused_after (id c.in_ok-id.id ∷ integers c.in_ok-literals.literals ∷ integer c.in_ok-hint.hint ∷ []) (an_end ∷ ks) _ _ _ _ (takes_append (id c.in_ok-id.id ∷ integers c.in_ok-literals.literals ∷ []) (integer c.in_ok-hint.hint ∷ []) _ _ _ (takes_append (id c.in_ok-id.id ∷ []) (integers c.in_ok-literals.literals ∷ []) _ _ _ c.in_ok-id.ensures c.in_ok-literals.ensures) c.in_ok-hint.ensures) (one_refused an_end ks _ _ _ c.in_err-take_end.ensures))
+    let two = takes_append (id c.in_ok-id.id ∷ []) (integers c.in_ok-literals.literals ∷ []) _ _ _ c.in_ok-id.ensures c.in_ok-literals.ensures in
+    let three = takes_append (id c.in_ok-id.id ∷ integers c.in_ok-literals.literals ∷ []) (integer c.in_ok-hint.hint ∷ []) _ _ _ two c.in_ok-hint.ensures in
+    rw (p.1, p.2) (λ ks. refused_after (id c.in_ok-id.id ∷ integers c.in_ok-literals.literals ∷ integer c.in_ok-hint.hint ∷ []) (an_end ∷ ks) _ _ _ _ three (one_refused an_end ks _ _ _ c.in_err-take_end.ensures))
 
 pub returns : goal.returns
-returns c = kept_hint _ _ c.in_ok-hint.hint _ _ (takes_append (id c.in_ok-id.id ∷ integers c.in_ok-literals.literals ∷ integer c.in_ok-hint.hint ∷ []) (end ∷ []) _ _ _ (takes_append (id c.in_ok-id.id ∷ integers c.in_ok-literals.literals ∷ []) (integer c.in_ok-hint.hint ∷ []) _ _ _ (takes_append (id c.in_ok-id.id ∷ []) (integers c.in_ok-literals.literals ∷ []) _ _ _ c.in_ok-id.ensures c.in_ok-literals.ensures) c.in_ok-hint.ensures) c.in_ok-take_end.ensures)
+returns c =
+    let two = takes_append (id c.in_ok-id.id ∷ []) (integers c.in_ok-literals.literals ∷ []) _ _ _ c.in_ok-id.ensures c.in_ok-literals.ensures in
+    let three = takes_append (id c.in_ok-id.id ∷ integers c.in_ok-literals.literals ∷ []) (integer c.in_ok-hint.hint ∷ []) _ _ _ two c.in_ok-hint.ensures in
+    kept_hint _ _ c.in_ok-hint.hint _ _ (takes_append (id c.in_ok-id.id ∷ integers c.in_ok-literals.literals ∷ integer c.in_ok-hint.hint ∷ []) (end ∷ []) _ _ _ three c.in_ok-take_end.ensures)

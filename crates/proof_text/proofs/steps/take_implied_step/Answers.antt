@@ -9,15 +9,28 @@ use Rattle.proof_text.proofs.steps.take_implied_step.Goals as goal
 pub returns-in_err-parity : goal.returns-in_err-parity
 returns-in_err-parity c =
     let p = err_from_is_err_and c.from_residual.result c.from_residual.ensures.1 in
-    rw (p.1, p.2) (implied_parity_refused _ _ _ _ _ (letter_taken 105 c.args.tokens.now c.pass.new.self c.requires c.pass.ensures) (letter_taken 120 c.pass.new.self c.pass-then-is_letter.new.self (sym c.is_letter.ensures ∙ c.if-is_letter.true) c.pass-then-is_letter.ensures) (c.in_err-parity.ensures []))
+    let first = letter_taken 105 c.args.tokens.now c.pass.new.self c.requires c.pass.ensures in
+    let second = letter_taken 120 c.pass.new.self c.pass-then-is_letter.new.self (sym c.is_letter.ensures ∙ c.if-is_letter.true) c.pass-then-is_letter.ensures in
+    rw (p.1, p.2) (implied_parity_refused _ _ _ _ _ first second (c.in_err-parity.ensures []))
 
 pub returns-in_err-clause : goal.returns-in_err-clause
 returns-in_err-clause c =
     let p = err_from_is_err_and c.from_residual-in_err-clause.result c.from_residual-in_err-clause.ensures.1 in
-    rw (p.1, p.2) (implied_clause_refused _ _ _ _ (letter_taken 105 c.args.tokens.now c.pass.new.self c.requires c.pass.ensures) (sym c.is_letter.ensures ∙ c.if-is_letter.false) (c.in_err-clause.ensures []))
+    let first = letter_taken 105 c.args.tokens.now c.pass.new.self c.requires c.pass.ensures in
+    let no_letter = sym c.is_letter.ensures ∙ c.if-is_letter.false in
+    rw (p.1, p.2) (implied_clause_refused _ _ _ _ first no_letter (c.in_err-clause.ensures []))
 
 pub returns-in_ok-parity : goal.returns-in_ok-parity
-returns-in_ok-parity c = takes_append (mark 105 ∷ mark 120 ∷ []) (id c.in_ok-parity.parity.id ∷ integers c.in_ok-parity.parity.literals ∷ integers c.in_ok-parity.parity.hints ∷ []) _ _ _ (takes_append (mark 105 ∷ []) (mark 120 ∷ []) _ _ _ (letter_taken 105 c.args.tokens.now c.pass.new.self c.requires c.pass.ensures) (letter_taken 120 c.pass.new.self c.pass-then-is_letter.new.self (sym c.is_letter.ensures ∙ c.if-is_letter.true) c.pass-then-is_letter.ensures)) c.in_ok-parity.ensures
+returns-in_ok-parity c =
+    let first = letter_taken 105 c.args.tokens.now c.pass.new.self c.requires c.pass.ensures in
+    let second = letter_taken 120 c.pass.new.self c.pass-then-is_letter.new.self (sym c.is_letter.ensures ∙ c.if-is_letter.true) c.pass-then-is_letter.ensures in
+    let both = takes_append (mark 105 ∷ []) (mark 120 ∷ []) _ _ _ first second in
+    let parity = c.in_ok-parity.parity in
+    takes_append (mark 105 ∷ mark 120 ∷ []) (id parity.id ∷ integers parity.literals ∷ integers parity.hints ∷ []) _ _ _ both c.in_ok-parity.ensures
 
 pub returns-in_ok-clause : goal.returns-in_ok-clause
-returns-in_ok-clause c = takes_append (mark 105 ∷ []) (id c.in_ok-clause.clause.id ∷ integers c.in_ok-clause.clause.literals ∷ integer _ ∷ end ∷ []) _ _ _ (letter_taken 105 c.args.tokens.now c.pass.new.self c.requires c.pass.ensures) (kept_hint _ _ c.in_ok-clause.clause.hint _ _ c.in_ok-clause.ensures)
+returns-in_ok-clause c =
+    let first = letter_taken 105 c.args.tokens.now c.pass.new.self c.requires c.pass.ensures in
+    let clause = c.in_ok-clause.clause in
+    let kept = kept_hint clause.id clause.literals clause.hint _ _ c.in_ok-clause.ensures in
+    takes_append (mark 105 ∷ []) (id clause.id ∷ integers clause.literals ∷ integer _ ∷ end ∷ []) _ _ _ first kept
