@@ -1,0 +1,2 @@
+pub mod TrailValues
+pub mod ClauseLaws

@@ -1,0 +1,2 @@
+pub mod LiteralChoice
+pub mod ReasonClause

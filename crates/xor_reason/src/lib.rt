@@ -1,0 +1,7 @@
+//! Clauses that say why a row of parities implied a literal or was missed.
+#![tactic(auto)]
+
+mod literals;
+mod reason;
+
+pub use reason::{ReasonOf, reason_clause};
