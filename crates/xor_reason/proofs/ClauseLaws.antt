@@ -1,10 +1,11 @@
 -- The literals chosen for a written parity are a reason's clause.
-use Rattle.std.proofs.Common.{◌≡◌, ℕ, ◌+◌, ◌<◌, zero, suc, Bool, true, false, not, ◌||◌, eqb-true, nat_eq, List, [], ◌∷◌, ◌++◌, map, length, Option, Some, None, refl, sym, ap, ◌∙◌, subst, arith, true≢false, ◌⊎◌, inl, inr, get_or, take}
+use Rattle.std.proofs.Common.{◌≤◌, ◌≡◌, ℕ, ◌+◌, ◌<◌, zero, suc, Bool, true, false, not, ◌||◌, eqb-true, nat_eq, List, [], ◌∷◌, ◌++◌, map, length, Option, Some, None, refl, sym, ap, ◌∙◌, subst, arith, true≢false, ◌⊎◌, inl, inr, get_or, take}
 use Rattle.std.specs.List.{list_any}
 use Rattle.std.specs.Cmp.{nat_cmp_total}
 use Rattle.std.specs.FinSet as set
-use Rattle.std.proofs.lemmas.Bool.{cases_eq, eq-eqb, ne_eqb}
+use Rattle.std.proofs.lemmas.Bool.{cases_eq, cases_lt, eq-eqb, ne_eqb}
 use Rattle.std.proofs.Math.Seq.{take-suc}
+use Rattle.std.proofs.lemmas.List.Elements.{AllZip-push}
 use Rattle.cx_base.specs.Literals.{Literal, differ, same_literal, value_of, literal_true}
 use Rattle.cx_base.specs.Problem.{clause_met, parity_met}
 use Rattle.cx_base.specs.Parity.{NormalForm, HasOneOfEach, occurs_odd}
@@ -59,13 +60,6 @@ has_by_index (m ∷ ms) zero d lt = has_at_head m ms
 has_by_index (m ∷ ms) (suc i) d lt = has_behind m ms (get_or ms i d) (has_by_index ms i d (omega arith))
 
 -- ---- choices, one at a time
-pub choice_pushed : (trail : TrailState) (implied : Option Literal) (ls ms : List Literal) (l m : Literal) → AreLiteralsFor trail implied ls ms → IsLiteralFor trail implied l.variable m
-    → AreLiteralsFor trail implied (ls ++ l ∷ []) (ms ++ m ∷ [])
-choice_pushed trail implied [] [] l m are is = (is, tt)
-choice_pushed trail implied [] (y ∷ ms) l m are is = absurd are
-choice_pushed trail implied (x ∷ ls) [] l m are is = absurd are
-choice_pushed trail implied (x ∷ ls) (y ∷ ms) l m are is = (are.0, choice_pushed trail implied ls ms l m are.1 is)
-
 pub choice_more : (trail : TrailState) (implied : Option Literal) (lits clause more : List Literal) (i v : ℕ) (l m : Literal) → AreLiteralsFor trail implied (take i lits) clause → i < length lits
     → l ≡ get_or lits i l → v ≡ l.variable → IsLiteralFor trail implied v m → more ≡ clause ++ m ∷ [] → AreLiteralsFor trail implied (take (i + 1) lits) more
 choice_more trail implied lits clause more i v l m are lt read at is pushed =
@@ -73,7 +67,7 @@ choice_more trail implied lits clause more i v l m are lt read at is pushed =
     let longer : take (i + 1) lits ≡ take i lits ++ l ∷ [] = ap (λ n. take n lits) one ∙ take-suc lits i l lt ∙ ap (λ x. take i lits ++ x ∷ []) (sym read) in
     subst (λ ls. AreLiteralsFor trail implied ls more) (sym longer)
     (subst (λ ms. AreLiteralsFor trail implied (take i lits ++ l ∷ []) ms) (sym pushed)
-    (choice_pushed trail implied (take i lits) clause l m are (subst (λ x. IsLiteralFor trail implied x m) at is)))
+    (AllZip-push (λ (x y : Literal). IsLiteralFor trail implied x.variable y) (take i lits) clause l m are (subst (λ x. IsLiteralFor trail implied x m) at is)))
 
 same_variable : (trail : TrailState) (implied : Option Literal) (v : ℕ) (m : Literal) → IsLiteralFor trail implied v m → m.variable ≡ v
 same_variable trail None v m is = is.0
@@ -102,7 +96,17 @@ pub contains_written : (form : NormalForm) (lits : List Literal) → IsWritten f
 contains_written form lits written y =
     ap (λ (f : NormalForm). set.contains f.variables y) (sym written.normal) ∙ contains-normal_form lits y ∙ occurs_rising 1 lits y written.rises
 
--- each literal of a written parity is of a variable of the form
+rising_low : (vs : List ℕ) (least v : ℕ) → Rises least vs → list_any (λ z. nat_eq z v) vs ≡ true → least ≤ v
+rising_low vs least v rise h =
+    elim (cases_lt v least) [
+      | inl lt ↦ absurd (true≢false (sym h ∙ none_below least vs v rise lt))
+      | inr le ↦ le
+    ]
+
+-- the variables of a written parity are at least 1, and the form has them
+pub low_written : (form : NormalForm) (lits : List Literal) → IsWritten form lits → (l : Literal) → has_literal lits l ≡ true → 1 ≤ l.variable
+low_written form lits written l h = rising_low (variables lits) 1 l.variable written.rises (variable_of_has lits l h)
+
 pub has_written : (form : NormalForm) (lits : List Literal) → IsWritten form lits → (l : Literal) → has_literal lits l ≡ true → set.contains form.variables l.variable ≡ true
 has_written form lits written l h = contains_written form lits written l.variable ∙ variable_of_has lits l h
 

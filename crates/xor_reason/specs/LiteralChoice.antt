@@ -1,5 +1,6 @@
 -- The literals that stand for the variables of a row.
-use Rattle.std.specs.Prelude.{◌≡◌, ◌≢◌, ℕ, List, [], ◌∷◌, Option, Some, None, ⊤}
+use Rattle.std.specs.Prelude.{◌≡◌, ◌≢◌, ℕ, List, Option, Some, None}
+use Rattle.std.specs.List.{AllZip}
 use Rattle.cx_base.specs.Literals.{Literal}
 use Rattle.cx_trail.specs.Sequence.{TrailState, IsFalseIn}
 
@@ -10,7 +11,4 @@ IsLiteralFor trail (Some l) variable m = (m.variable ≡ variable) × (variable 
 
 -- one for each literal's variable, in order
 abbrev pub AreLiteralsFor : TrailState → Option Literal → List Literal → List Literal → Type 0
-AreLiteralsFor trail implied [] [] = ⊤
-AreLiteralsFor trail implied [] (m ∷ ms) = ⊥
-AreLiteralsFor trail implied (l ∷ ls) [] = ⊥
-AreLiteralsFor trail implied (l ∷ ls) (m ∷ ms) = IsLiteralFor trail implied l.variable m × AreLiteralsFor trail implied ls ms
+AreLiteralsFor trail implied lits clause = AllZip (λ l m. IsLiteralFor trail implied l.variable m) lits clause

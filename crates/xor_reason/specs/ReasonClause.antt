@@ -1,5 +1,5 @@
 -- What a row says under the values of a trail, and the clause that follows from it.
-use Rattle.std.specs.Prelude.{ℕ, Bool, List, Option, Some, None, IsTrue, IsFalse}
+use Rattle.std.specs.Prelude.{ℕ, ◌≤◌, Bool, List, Option, Some, None, IsTrue, IsFalse}
 use Rattle.std.specs.FinSet as set
 use Rattle.cx_base.specs.Literals.{Literal, same_literal, literal_true}
 use Rattle.cx_base.specs.Problem.{clause_met, parity_met}
@@ -10,7 +10,7 @@ use Rattle.gauss_jordan.specs.State.{MeetsForm, MissesForm}
 
 -- each variable of the form is assigned
 abbrev pub AreAssigned : TrailState → NormalForm → Type 0
-AreAssigned trail form = (v : ℕ) → IsTrue (set.contains form.variables v) → IsAssignedIn trail.entries v
+AreAssigned trail form = (v : ℕ) → 1 ≤ v → IsTrue (set.contains form.variables v) → IsAssignedIn trail.entries v
 
 -- the values make each literal of the trail true
 abbrev pub AgreesWithTrail : TrailState → List Bool → Type 0

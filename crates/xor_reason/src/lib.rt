@@ -1,6 +1,7 @@
 //! Clauses that say why a row of parities implied a literal or was missed.
 #![tactic(auto)]
 
+pub mod laws;
 mod literals;
 mod reason;
 

@@ -18,7 +18,7 @@ pub struct ReasonOf {
     pub parity: LitList,
     /// The numbers of the given parities that the row is the sum of, from 1 and rising.
     pub sources: IdList,
-    /// A literal for each variable of the row, in the same order.
+    /// A literal for each variable of the row.
     pub clause: LitList,
 }
 

@@ -3,7 +3,7 @@ use Rattle.std.specs.Prelude.{IsSome}
 use Rattle.cx_semantics.specs.Chain.{has_literal}
 use Rattle.gauss_jordan.specs.State.{Named, named_at}
 use Rattle.xor_reason.specs.LiteralChoice.{AreLiteralsFor}
-use Rattle.xor_reason.proofs.ClauseLaws.{has_written, is_reason_clause}
+use Rattle.xor_reason.proofs.ClauseLaws.{has_written, low_written, is_reason_clause}
 use Rattle.xor_reason.proofs.reason.reason_clause.Goals as goal
 
 from_some : (o : Option Named) → IsSome o → (n : Named) × (o ≡ Some n)
@@ -14,8 +14,10 @@ pub literals_for-requires : goal.literals_for-requires
 literals_for-requires g c = record {
   assigned = λ l h.
       let some = from_some (named_at (g.P.ParityEngine.state c.args.engine.now) c.args.row) c.requires.named in
-      c.requires.assigned some.0 some.1 l.variable
-      (has_written some.0.form c.in_ok-parity.parity (c.in_ok-parity.ensures some.0 some.1) l (ap (λ ls. has_literal ls l) (sym c.as_slice.ensures) ∙ h));
+      let lits = c.in_ok-parity.parity in
+      let written = c.in_ok-parity.ensures some.0 some.1 in
+      let here = ap (λ ls. has_literal ls l) (sym c.as_slice.ensures) ∙ h in
+      c.requires.assigned some.0 some.1 l.variable (low_written some.0.form lits written l here) (has_written some.0.form lits written l here);
 }
 
 pub returns-clause-clause : goal.returns-clause-clause
