@@ -16,18 +16,25 @@ AreAssigned trail form = (v : ℕ) → 1 ≤ v → IsTrue (set.contains form.var
 abbrev pub AgreesWithTrail : TrailState → List Bool → Type 0
 AgreesWithTrail trail values = (l : Literal) → IsTrueIn trail.entries l → IsTrue (literal_true values l)
 
--- the literal is true, the form has its variable, and all values that agree with the trail meet the form
-pub record Implies (trail : TrailState) (l : Literal) (form : NormalForm) : Type 0 where
+-- all values that agree with the trail meet the form, or miss it
+abbrev pub TrailMeets : TrailState → NormalForm → Type 0
+TrailMeets trail form = (values : List Bool) → AgreesWithTrail trail values → MeetsForm values form
+
+abbrev pub TrailMisses : TrailState → NormalForm → Type 0
+TrailMisses trail form = (values : List Bool) → AgreesWithTrail trail values → MissesForm values form
+
+-- the literal is true on the trail, the form has its variable, and the trail meets the form
+pub record GivesLiteral (trail : TrailState) (l : Literal) (form : NormalForm) : Type 0 where
   pub is_true : IsTrueIn trail.entries l
   pub has : IsTrue (set.contains form.variables l.variable)
-  pub met : (values : List Bool) → AgreesWithTrail trail values → MeetsForm values form
+  pub met : TrailMeets trail form
 
--- all values that agree with the trail miss the form, or the form implies the literal
+-- the form gives the implied literal; for a conflict, with none, the trail misses the form
 abbrev pub IsReasonFor : TrailState → Option Literal → NormalForm → Type 0
-IsReasonFor trail None form = (values : List Bool) → AgreesWithTrail trail values → MissesForm values form
-IsReasonFor trail (Some l) form = Implies trail l form
+IsReasonFor trail None form = TrailMisses trail form
+IsReasonFor trail (Some l) form = GivesLiteral trail l form
 
--- each literal of the clause is false on the trail; with an implied literal, that one is in the clause and each other is false
+-- each literal of the clause is false on the trail, but the implied one, which is in the clause
 abbrev pub AreFalseBut : TrailState → Option Literal → List Literal → Type 0
 AreFalseBut trail None clause = (m : Literal) → IsTrue (has_literal clause m) → IsFalseIn trail.entries m
 AreFalseBut trail (Some l) clause = IsTrue (has_literal clause l) × ((m : Literal) → IsTrue (has_literal clause m) → IsFalse (same_literal l m) → IsFalseIn trail.entries m)

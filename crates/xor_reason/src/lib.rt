@@ -4,5 +4,7 @@
 pub mod laws;
 mod literals;
 mod reason;
+#[cfg(test)]
+mod tests;
 
 pub use reason::{ReasonOf, reason_clause};
