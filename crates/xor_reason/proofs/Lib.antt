@@ -1,0 +1,3 @@
+pub mod TrailValues
+pub mod ClauseLaws
+pub mod EventLaws

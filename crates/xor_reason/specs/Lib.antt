@@ -1,0 +1,3 @@
+pub mod LiteralChoice
+pub mod ReasonClause
+pub mod Laws

@@ -1,0 +1,54 @@
+//! Why a row implied a literal, or was missed.
+ghost use Rattle.std.specs.Prelude.{◌≡◌, length, IfOk, IsSome};
+ghost use Rattle.gf2_matrix.specs.Equations.{sum_of_numbers};
+ghost use Rattle.gf2_matrix.specs.Written.{IsWritten};
+ghost use Rattle.gauss_jordan.specs.State.{AreRising, OfNamed, named_at};
+ghost use Rattle.xor_reason.specs.ReasonClause.{AreAssigned, IsReasonClause, IsReasonFor};
+
+use crate::literals::literals_for;
+use cx_base::{IdList, Lit, LitList, Row};
+use cx_trail::Trail;
+use gauss_jordan::ParityEngine;
+use std::alloc::{AllocError, Global};
+
+/// A named row with the clause that it gives under the values of a trail.
+#[derive(Debug, Drop)]
+pub struct ReasonOf {
+    /// The row as a parity, its variables rising.
+    pub parity: LitList,
+    /// The numbers of the given parities that the row is the sum of, from 1 and rising.
+    pub sources: IdList,
+    /// A literal for each variable of the row.
+    pub clause: LitList,
+}
+
+/// The reason that a named row gives: for a literal that it implied, or, where none is given, for a conflict.
+///
+/// Each variable of the row is assigned. With an implied literal, which is true and of one of the variables, the
+/// trail's values meet the row; with none they miss it. Each other literal of the clause is false on the trail, and
+/// the parity implies the clause. It fails only for want of memory.
+pub fn reason_clause<P: ParityEngine>(
+    alloc: Global,
+    engine: &P,
+    row: Row,
+    implied: Option<Lit>,
+    trail: &Trail,
+) -> Result<ReasonOf, AllocError>
+    requires named { IsSome (named_at (P.state engine.now) row) }
+    requires assigned { OfNamed (P.state engine.now) row (λ n. AreAssigned trail.now n.form) }
+    requires kind { OfNamed (P.state engine.now) row (λ n. IsReasonFor trail.now implied n.form) }
+    ensures parity { IfOk result (λ r. OfNamed (P.state engine.now) row (λ n. IsWritten n.form r.parity)) }
+    ensures sources { IfOk result (λ r. OfNamed (P.state engine.now) row (λ n. r.sources ≡ n.sources)) }
+    ensures numbers { IfOk result (λ r. AreRising 1 (length (P.state engine.now).parities) r.sources) }
+    ensures sum { IfOk result (λ r. OfNamed (P.state engine.now) row (λ n. n.form ≡ sum_of_numbers (P.state engine.now).parities r.sources)) }
+    ensures clause { IfOk result (λ r. OfNamed (P.state engine.now) row (λ n. IsReasonClause trail.now implied n.form r.parity r.clause)) }
+{
+    let parity = engine.row_parity(row)?;
+    let sources = engine.row_sources(row)?;
+    let clause = literals_for(alloc, trail, &implied, parity.as_slice())?;
+    Ok(ReasonOf {
+        parity,
+        sources,
+        clause,
+    })
+}

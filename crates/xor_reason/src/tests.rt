@@ -1,0 +1,83 @@
+//! A worked reason, from an engine's event.
+ghost use Rattle.std.specs.Prelude.{◌≡◌, ◌≤◌, ◌∷◌, [], false, IfOk, IsTrue};
+ghost use Rattle.std.specs.List.{AllByRecursion};
+ghost use Rattle.cx_base.specs.Problem.{AreWithin};
+ghost use Rattle.cx_trail.specs.Sequence.{IsOpenIn};
+ghost use Rattle.xor_reason.specs.Laws.{StandsOn};
+
+use crate::{ReasonOf, reason_clause};
+use cx_base::{Lit, LitList, ParityList, Var};
+use cx_trail::{Reason, Trail};
+use gauss_jordan::{ParityEngine, ParityEvent, Scratch};
+use std::alloc::{AllocError, Global};
+use std::test::Fail;
+
+/// The parity of the two positive literals.
+fn pair(alloc: Global, first: Var, second: Var) -> Result<LitList, AllocError>
+    ensures { IfOk result (λ p. p ≡ record { variable = first; negative = false } ∷ record { variable = second; negative = false } ∷ []) }
+{
+    let lits = vec![in alloc; Lit::new(first, false), Lit::new(second, false)]?;
+    Ok(LitList::from_vec(lits))
+}
+
+/// Whether the trail can take the variable.
+fn is_open(trail: &Trail, variable: Var) -> bool
+    ensures within { IsTrue result → variable ≤ trail.now.variables }
+    ensures unassigned { IsTrue result → IsOpenIn trail.now.entries variable }
+{
+    variable.number() <= trail.vars() && trail.value(variable).is_none()
+}
+
+/// The reason that the next event gives. An implied literal is put on the trail first.
+fn reason_of_next<P: ParityEngine>(
+    alloc: Global,
+    engine: &mut P,
+    trail: &mut Trail,
+) -> Result<Option<ReasonOf>, AllocError>
+    requires { StandsOn (P.state engine.old) trail.old }
+{
+    match engine.next_event() {
+        ParityEvent::Quiet => Ok(None),
+        ParityEvent::Implied(literal, row) => {
+            if !is_open(trail, literal.var()) {
+                return Ok(None);
+            }
+            trail.imply(literal, Reason::Row(row));
+            let reason = reason_clause(alloc, &*engine, row, Some(literal), trail)?;
+            Ok(Some(reason))
+        }
+        ParityEvent::Conflict(row) => {
+            let reason = reason_clause(alloc, &*engine, row, None, trail)?;
+            Ok(Some(reason))
+        }
+    }
+}
+
+/// The reason of what follows from variable 1.
+fn reason_from_one<P: ParityEngine + Drop>(
+    alloc: Global,
+    parities: &ParityList,
+) -> Result<Option<ReasonOf>, AllocError>
+    requires { AllByRecursion (AreWithin 3) parities.now }
+{
+    let mut engine = P::make(alloc, 3, parities)?;
+    let mut trail = Trail::make(alloc, 3)?;
+    engine.assign(Var::new(1), true);
+    trail.imply(Lit::new(Var::new(1), false), Reason::Decision);
+    reason_of_next(alloc, &mut engine, &mut trail)
+}
+
+#[test]
+fn one_of_two_is_false(rt: HostRuntime) -> Result<(), Fail> {
+    let alloc = rt.alloc();
+    let parity = pair(alloc, Var::new(1), Var::new(2))?;
+    let parities = ParityList::from_vec(vec![in alloc; parity]?);
+    let reason = reason_from_one::<Scratch>(alloc, &parities)?.expect(&rt, "a reason");
+    assert_eq!(rt; reason.sources.as_slice(), [1].as_slice());
+    assert_eq!(rt; reason.parity.as_slice().len(), 2);
+    let clause = reason.clause.as_slice();
+    assert_eq!(rt; clause.len(), 2);
+    assert_eq!(rt; clause[0], Lit::new(Var::new(1), true));
+    assert_eq!(rt; clause[1], Lit::new(Var::new(2), true));
+    Ok(())
+}
