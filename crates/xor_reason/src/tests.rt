@@ -12,11 +12,15 @@ use gauss_jordan::{ParityEngine, ParityEvent, Scratch};
 use std::alloc::{AllocError, Global};
 use std::test::Fail;
 
-/// The parity of the two positive literals.
-fn pair(alloc: Global, first: Var, second: Var) -> Result<LitList, AllocError>
-    ensures { IfOk result (λ p. p ≡ record { variable = first; negative = false } ∷ record { variable = second; negative = false } ∷ []) }
+/// The parity of the positive literals of variables 1 to 3.
+fn triple(alloc: Global) -> Result<LitList, AllocError>
+    ensures { IfOk result (AreWithin 3) }
 {
-    let lits = vec![in alloc; Lit::new(first, false), Lit::new(second, false)]?;
+    let lits = vec![in alloc;
+        Lit::new(Var::new(1), false),
+        Lit::new(Var::new(2), false),
+        Lit::new(Var::new(3), false),
+    ]?;
     Ok(LitList::from_vec(lits))
 }
 
@@ -53,8 +57,8 @@ fn reason_of_next<P: ParityEngine>(
     }
 }
 
-/// The reason of what follows from variable 1.
-fn reason_from_one<P: ParityEngine + Drop>(
+/// The reason of what follows from variables 1 and 2.
+fn reason_from_two<P: ParityEngine + Drop>(
     alloc: Global,
     parities: &ParityList,
 ) -> Result<Option<ReasonOf>, AllocError>
@@ -64,20 +68,32 @@ fn reason_from_one<P: ParityEngine + Drop>(
     let mut trail = Trail::make(alloc, 3)?;
     engine.assign(Var::new(1), true);
     trail.imply(Lit::new(Var::new(1), false), Reason::Decision);
+    if !is_open(&trail, Var::new(2)) {
+        return Ok(None);
+    }
+    engine.assign(Var::new(2), true);
+    trail.imply(Lit::new(Var::new(2), false), Reason::Decision);
     reason_of_next(alloc, &mut engine, &mut trail)
 }
 
 #[test]
-fn one_of_two_is_false(rt: HostRuntime) -> Result<(), Fail> {
+fn two_of_three_are_false(rt: HostRuntime) -> Result<(), Fail> {
     let alloc = rt.alloc();
-    let parity = pair(alloc, Var::new(1), Var::new(2))?;
+    let parity = triple(alloc)?;
     let parities = ParityList::from_vec(vec![in alloc; parity]?);
-    let reason = reason_from_one::<Scratch>(alloc, &parities)?.expect(&rt, "a reason");
+    let reason = reason_from_two::<Scratch>(alloc, &parities)?.expect(&rt, "a reason");
     assert_eq!(rt; reason.sources.as_slice(), [1].as_slice());
-    assert_eq!(rt; reason.parity.as_slice().len(), 2);
-    let clause = reason.clause.as_slice();
-    assert_eq!(rt; clause.len(), 2);
-    assert_eq!(rt; clause[0], Lit::new(Var::new(1), true));
-    assert_eq!(rt; clause[1], Lit::new(Var::new(2), true));
+    let parity = [
+        Lit::new(Var::new(1), false),
+        Lit::new(Var::new(2), false),
+        Lit::new(Var::new(3), false),
+    ];
+    assert_eq!(rt; reason.parity.as_slice(), parity.as_slice());
+    let clause = [
+        Lit::new(Var::new(1), true),
+        Lit::new(Var::new(2), true),
+        Lit::new(Var::new(3), false),
+    ];
+    assert_eq!(rt; reason.clause.as_slice(), clause.as_slice());
     Ok(())
 }
