@@ -6,7 +6,7 @@ ghost use Rattle.cx_trail.specs.Sequence.{IsOpenIn};
 ghost use Rattle.xor_reason.specs.Laws.{StandsOn};
 
 use crate::{ReasonOf, reason_clause};
-use cx_base::{Lit, LitList, ParityList, Var};
+use cx_base::{Lit, LitList, ParityList, Row, Var};
 use cx_trail::{Reason, Trail};
 use gauss_jordan::{ParityEngine, ParityEvent, Scratch};
 use std::alloc::{AllocError, Global};
@@ -57,7 +57,7 @@ fn reason_of_next<P: ParityEngine>(
     }
 }
 
-/// The reason of what follows from variables 1 and 2.
+/// The reason of what follows from variables 1 and 2 at level 1, where nothing follows before.
 fn reason_from_two<P: ParityEngine + Drop>(
     alloc: Global,
     parities: &ParityList,
@@ -66,13 +66,18 @@ fn reason_from_two<P: ParityEngine + Drop>(
 {
     let mut engine = P::make(alloc, 3, parities)?;
     let mut trail = Trail::make(alloc, 3)?;
+    match engine.next_event() {
+        ParityEvent::Quiet => {}
+        ParityEvent::Implied(_, _) | ParityEvent::Conflict(_) => return Ok(None),
+    }
+    engine.push_level();
     engine.assign(Var::new(1), true);
-    trail.imply(Lit::new(Var::new(1), false), Reason::Decision);
+    trail.decide(Lit::new(Var::new(1), false));
     if !is_open(&trail, Var::new(2)) {
         return Ok(None);
     }
     engine.assign(Var::new(2), true);
-    trail.imply(Lit::new(Var::new(2), false), Reason::Decision);
+    trail.imply(Lit::new(Var::new(2), false), Reason::Row(Row::new(0)));
     reason_of_next(alloc, &mut engine, &mut trail)
 }
 
