@@ -1,3 +1,4 @@
 pub mod Builds
+pub mod Enters
 pub mod PastBounds
 pub mod Refused
