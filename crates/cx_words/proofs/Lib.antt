@@ -1,7 +1,10 @@
+pub mod Asked
 pub mod Builds
+pub mod Defaults
 pub mod Enters
 pub mod Leaves
 pub mod PastBounds
+pub mod PlainTexts
 pub mod Refused
 pub mod Runs
 pub mod Uses
