@@ -7,6 +7,8 @@ use Rattle.cx_desk.specs.Outside.{Bytes}
 use Rattle.cx_words.specs.CommandLine.{cxsat}
 use Rattle.cx_words.proofs.Enters.{Enters}
 use Rattle.cx_words.proofs.Uses.{placed, chosen}
+use Rattle.cx_words.proofs.Runs.{HasNoDefaults}
+use Rattle.cx_words.proofs.Defaults.{Defaultless, no_fault, same_rows}
 use Rattle.clap.specs.Simple.{filled, help_rule}
 
 abbrev pub leaf : Bytes → List Rule → Shape
@@ -46,3 +48,6 @@ enters_model = record { met = refl; fine = refl; command = refl; defaults = refl
 pub enters_demo : Enters (built cxsat) (codes "demo") demo_leaf
 unfolding clap_on_literals
 enters_demo = record { met = refl; fine = refl; command = refl; defaults = refl; complete = refl }
+
+pub no_defaults : (s : Shape) → Defaultless s.rules → HasNoDefaults s
+no_defaults s none = record { fine = λ rows. no_fault s.rules rows none; same = λ rows. same_rows s.rules rows none }

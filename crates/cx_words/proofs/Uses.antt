@@ -43,7 +43,7 @@ holding rows pending = record { rows = rows; pending = pending; skip = 0 }
 abbrev pub at : List Row → Pending → Waiting → ℕ → Walk
 at rows pending waiting place = record { held = holding rows pending; waiting = waiting; position = place; is_trailing = false; stopped = None }
 
-none_in : (a b : Bool) → (a || b) ≡ false → (a ≡ false) × (b ≡ false)
+pub none_in : (a b : Bool) → (a || b) ≡ false → (a ≡ false) × (b ≡ false)
 none_in true b e = cc
 none_in false b e = (refl, e)
 

@@ -2,6 +2,7 @@
 #![tactic(auto)]
 
 mod commands;
+mod laws;
 mod name;
 mod numbers;
 mod plans;
@@ -10,6 +11,7 @@ mod values;
 mod words;
 
 
+pub use laws::{plain_words_are_taken, words_ask_for_one_plan};
 pub use name::Name;
 pub use plans::{Kind, Plan};
 pub use refusal::PlanRefusal;
