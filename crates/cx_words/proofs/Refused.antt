@@ -25,6 +25,5 @@ refused a words e is_cxsat by not_memory none =
       | inr among ↦ none_among (kind_of e) (fault_of cxsat words) none among
     ]
 
-
 pub taken : (a : App) (words : List Bytes) → a ≡ cxsat → (is_simple_and_free a ≡ true → fault_of a words ≡ []) → fault_of cxsat words ≡ []
 taken a words is_cxsat by = subst (λ (b : App). is_simple_and_free b ≡ true → fault_of b words ≡ []) is_cxsat by simple

@@ -82,11 +82,9 @@ pub record PlainSolve (name : Bytes) (to : Option Bytes) (budget : ℕ) (words :
   pub arguments : List Argument
   pub given : Option Bytes
   pub spelt : words ≡ program ∷ codes "solve" ∷ flat_map words_of arguments
-
   pub formula_once : flat_map formula_in arguments ≡ name ∷ []
   pub log_once : flat_map log_in arguments ≡ at_most_once to
   pub conflicts_once : flat_map conflicts_in arguments ≡ at_most_once given
-
   pub formula_name : IsFormulaName name
   pub log_name : IfSome to IsName
   pub differ : IfSome to (λ l. name ≢ l)

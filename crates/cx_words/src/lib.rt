@@ -10,9 +10,11 @@ mod refusal;
 mod values;
 mod words;
 
-
 pub use laws::{plain_words_are_taken, words_ask_for_one_plan};
 pub use name::Name;
 pub use plans::{Kind, Plan};
 pub use refusal::PlanRefusal;
 pub use words::plan;
+
+#[cfg(test)]
+mod tests;
