@@ -1,5 +1,6 @@
 -- What the values that clap finds ask for.
-use Rattle.std.specs.Prelude.{◌&&◌, ℕ, Bool, true, not, List, length, codes, Option, Some, None, option_map, option_and_then, if◌then◌else◌, nat_lt, nat_le}
+use Rattle.std.specs.Prelude.{◌≡◌, ◌&&◌, ℕ, Bool, true, not, List, length, codes, Option, Some, None, Result, MatchResult, option_map, option_and_then, if◌then◌else◌, nat_lt, nat_le}
+use Rattle.std.specs.Borrow.{Bor}
 use Rattle.std.specs.Str.{bytes_eq}
 use Rattle.std.specs.List.{list_all}
 use Rattle.std.specs.Char.{is_ascii_digit}
@@ -10,6 +11,16 @@ use Rattle.cx_words.specs.declared.plans.Kind.{Kind}
 use Rattle.cx_words.specs.declared.plans.Kind.TheVariants.{Even, Odd}
 use Rattle.cx_words.specs.declared.plans.Plan.{Plan}
 use Rattle.cx_words.specs.declared.plans.Plan.TheVariants as plan
+use Rattle.cx_words.specs.declared.refusal.PlanRefusal.{PlanRefusal}
+use Rattle.cx_words.specs.declared.refusal.PlanRefusal.TheVariants.{Usage}
+
+-- the text that is lent, where one is
+abbrev pub lent : Option (Bor Bytes) → Option Bytes
+lent = option_map (λ t. t.now)
+
+-- the answer is the value that is wanted, and a faulty command line only where there is none
+abbrev pub Answers : {X : Type 0} → Option X → Result X PlanRefusal → Type 0
+Answers wanted answer = MatchResult answer (λ x. wanted ≡ Some x) (λ why. why ≡ Usage → wanted ≡ None)
 
 abbrev pub differ : Bytes → Bytes → Bool
 differ a b = not (bytes_eq a b)

@@ -1,8 +1,8 @@
 //! Numbers and kinds as words give them.
-ghost use Rattle.std.specs.Prelude.{◌≡◌, ◌≤◌, ◌&&◌, Some, None, if◌then◌else◌, nat_lt, nat_le, length, option_map, IfSome};
+ghost use Rattle.std.specs.Prelude.{◌≡◌, ◌≤◌, ◌&&◌, Some, None, if◌then◌else◌, nat_lt, nat_le, length, IfSome};
 ghost use Rattle.std.specs.List.{list_all};
 ghost use Rattle.std.specs.Char.{is_ascii_digit};
-ghost use Rattle.cx_words.specs.Given.{number_in, conflicts_of, size_of, seed_of, kind_of, kind_named};
+ghost use Rattle.cx_words.specs.Given.{lent, number_in, conflicts_of, size_of, seed_of, kind_of, kind_named};
 
 use crate::Kind;
 
@@ -49,7 +49,7 @@ fn number(text: &str, least: u64, most: u64) -> Option<u64>
 
 /// The number of conflicts, from 1 to 10^18.
 pub(crate) fn conflicts(text: Option<&str>) -> Option<u64>
-    ensures { result ≡ conflicts_of (option_map (λ s. s.now) text.entry) }
+    ensures { result ≡ conflicts_of (lent text.entry) }
 {
     match text {
         None => Some(DEFAULT_CONFLICTS),
@@ -59,7 +59,7 @@ pub(crate) fn conflicts(text: Option<&str>) -> Option<u64>
 
 /// The size of an instance, from 4 to 2000.
 pub(crate) fn size(text: Option<&str>) -> Option<u32>
-    ensures { result ≡ size_of (option_map (λ s. s.now) text.entry) }
+    ensures { result ≡ size_of (lent text.entry) }
 {
     match text {
         None => None,
@@ -79,7 +79,7 @@ fn narrowed(number: Option<u64>) -> Option<u32>
 
 /// A seed, which may be any `u64`.
 pub(crate) fn seed(text: Option<&str>) -> Option<u64>
-    ensures { result ≡ seed_of (option_map (λ s. s.now) text.entry) }
+    ensures { result ≡ seed_of (lent text.entry) }
 {
     match text {
         None => None,
@@ -101,7 +101,7 @@ fn named(text: &str) -> Option<Kind>
 
 /// The kind of an instance: `even` or `odd`.
 pub(crate) fn kind(text: Option<&str>) -> Option<Kind>
-    ensures { result ≡ kind_of (option_map (λ s. s.now) text.entry) }
+    ensures { result ≡ kind_of (lent text.entry) }
 {
     match text {
         None => None,

@@ -1,7 +1,7 @@
 //! The plan of a command, from the values of its arguments.
-ghost use Rattle.std.specs.Prelude.{◌≡◌, List, ℕ, Option, Some, None, codes, option_map, IfOk, IsErrOf};
+ghost use Rattle.std.specs.Prelude.{◌≡◌, Some, IfOk};
 ghost use Rattle.clap.specs.Words.{first_of, rows_of, found_of};
-ghost use Rattle.cx_words.specs.Given.{two_names, three_names, logged, solve_of, check_of, elab_of, model_of, demo_of, planned};
+ghost use Rattle.cx_words.specs.Given.{lent, Answers, two_names, three_names, logged, solve_of, check_of, elab_of, model_of, demo_of, planned};
 
 use crate::numbers::{conflicts, kind, seed, size};
 use crate::{Name, Plan, PlanRefusal};
@@ -16,8 +16,7 @@ fn name_of(alloc: Global, text: &str) -> Result<Name, AllocError>
 
 /// Two names, which differ.
 fn pair(alloc: Global, first: &str, second: &str) -> Result<(Name, Name), PlanRefusal>
-    ensures ok { IfOk result (λ n. two_names (Some first.now) (Some second.now) ≡ Some (n.0, n.1)) }
-    ensures usage { IsErrOf result PlanRefusal.Usage → two_names (Some first.now) (Some second.now) ≡ None }
+    ensures { Answers (two_names (Some first.now) (Some second.now)) result }
 {
     if first == second {
         return Err(PlanRefusal::Usage);
@@ -32,8 +31,7 @@ fn triple(
     second: &str,
     third: &str,
 ) -> Result<(Name, Name, Name), PlanRefusal>
-    ensures ok { IfOk result (λ n. three_names (Some first.now) (Some second.now) (Some third.now) ≡ Some (n.0, n.1, n.2)) }
-    ensures usage { IsErrOf result PlanRefusal.Usage → three_names (Some first.now) (Some second.now) (Some third.now) ≡ None }
+    ensures { Answers (three_names (Some first.now) (Some second.now) (Some third.now)) result }
 {
     if first == second || first == third || second == third {
         return Err(PlanRefusal::Usage);
@@ -51,8 +49,7 @@ fn logged(
     formula: &str,
     log: Option<&str>,
 ) -> Result<(Name, Option<Name>), PlanRefusal>
-    ensures ok { IfOk result (λ n. logged (Some formula.now) (option_map (λ s. s.now) log.entry) ≡ Some (n.0, n.1)) }
-    ensures usage { IsErrOf result PlanRefusal.Usage → logged (Some formula.now) (option_map (λ s. s.now) log.entry) ≡ None }
+    ensures { Answers (logged (Some formula.now) (lent log.entry)) result }
 {
     match log {
         None => Ok((name_of(alloc, formula)?, None)),
@@ -69,8 +66,7 @@ fn solve(
     log: Option<&str>,
     budget: Option<&str>,
 ) -> Result<Plan, PlanRefusal>
-    ensures ok { IfOk result (λ p. solve_of (option_map (λ s. s.now) formula.entry) (option_map (λ s. s.now) log.entry) (option_map (λ s. s.now) budget.entry) ≡ Some p) }
-    ensures usage { IsErrOf result PlanRefusal.Usage → solve_of (option_map (λ s. s.now) formula.entry) (option_map (λ s. s.now) log.entry) (option_map (λ s. s.now) budget.entry) ≡ None }
+    ensures { Answers (solve_of (lent formula.entry) (lent log.entry) (lent budget.entry)) result }
 {
     let Some(formula) = formula else {
         return Err(PlanRefusal::Usage);
@@ -87,8 +83,7 @@ fn solve(
 }
 
 fn check(alloc: Global, formula: Option<&str>, proof: Option<&str>) -> Result<Plan, PlanRefusal>
-    ensures ok { IfOk result (λ p. check_of (option_map (λ s. s.now) formula.entry) (option_map (λ s. s.now) proof.entry) ≡ Some p) }
-    ensures usage { IsErrOf result PlanRefusal.Usage → check_of (option_map (λ s. s.now) formula.entry) (option_map (λ s. s.now) proof.entry) ≡ None }
+    ensures { Answers (check_of (lent formula.entry) (lent proof.entry)) result }
 {
     let (Some(formula), Some(proof)) = (formula, proof) else {
         return Err(PlanRefusal::Usage);
@@ -103,8 +98,7 @@ fn elab(
     log: Option<&str>,
     proof: Option<&str>,
 ) -> Result<Plan, PlanRefusal>
-    ensures ok { IfOk result (λ p. elab_of (option_map (λ s. s.now) formula.entry) (option_map (λ s. s.now) log.entry) (option_map (λ s. s.now) proof.entry) ≡ Some p) }
-    ensures usage { IsErrOf result PlanRefusal.Usage → elab_of (option_map (λ s. s.now) formula.entry) (option_map (λ s. s.now) log.entry) (option_map (λ s. s.now) proof.entry) ≡ None }
+    ensures { Answers (elab_of (lent formula.entry) (lent log.entry) (lent proof.entry)) result }
 {
     let (Some(formula), Some(log), Some(proof)) = (formula, log, proof) else {
         return Err(PlanRefusal::Usage);
@@ -118,8 +112,7 @@ fn elab(
 }
 
 fn model(alloc: Global, formula: Option<&str>, answer: Option<&str>) -> Result<Plan, PlanRefusal>
-    ensures ok { IfOk result (λ p. model_of (option_map (λ s. s.now) formula.entry) (option_map (λ s. s.now) answer.entry) ≡ Some p) }
-    ensures usage { IsErrOf result PlanRefusal.Usage → model_of (option_map (λ s. s.now) formula.entry) (option_map (λ s. s.now) answer.entry) ≡ None }
+    ensures { Answers (model_of (lent formula.entry) (lent answer.entry)) result }
 {
     let (Some(formula), Some(answer)) = (formula, answer) else {
         return Err(PlanRefusal::Usage);
@@ -129,7 +122,7 @@ fn model(alloc: Global, formula: Option<&str>, answer: Option<&str>) -> Result<P
 }
 
 fn demo(kind_word: Option<&str>, size_word: Option<&str>, seed_word: Option<&str>) -> Option<Plan>
-    ensures { result ≡ demo_of (option_map (λ s. s.now) kind_word.entry) (option_map (λ s. s.now) size_word.entry) (option_map (λ s. s.now) seed_word.entry) }
+    ensures { result ≡ demo_of (lent kind_word.entry) (lent size_word.entry) (lent seed_word.entry) }
 {
     Some(Plan::Demo {
         kind: kind(kind_word)?,
@@ -140,7 +133,7 @@ fn demo(kind_word: Option<&str>, size_word: Option<&str>, seed_word: Option<&str
 
 /// The value of an argument.
 fn value<'a>(found: &ArgMatches<'a>, id: &str) -> Option<&'a str>
-    ensures { option_map (λ s. s.now) result ≡ first_of id.now (rows_of (found_of found.now)) }
+    ensures { lent result ≡ first_of id.now (rows_of (found_of found.now)) }
 {
     found.get_str(id)
 }
@@ -151,8 +144,7 @@ pub(crate) fn planned(
     command: &str,
     found: &ArgMatches<'_>,
 ) -> Result<Plan, PlanRefusal>
-    ensures ok { IfOk result (λ p. planned command.now (rows_of (found_of found.now)) ≡ Some p) }
-    ensures usage { IsErrOf result PlanRefusal.Usage → planned command.now (rows_of (found_of found.now)) ≡ None }
+    ensures { Answers (planned command.now (rows_of (found_of found.now))) result }
 {
     let formula = value(found, "formula");
     let log = value(found, "log");
