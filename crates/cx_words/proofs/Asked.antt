@@ -1,6 +1,6 @@
 -- A command whose values are found asks for their plan.
-use Rattle.std.proofs.Common.{◌≡◌, ◌∙◌, ℕ, List, [], ◌∷◌, Some, false, refl, ap, codes}
-use Rattle.clap.specs.Walk.{Row, nothing_held}
+use Rattle.std.proofs.Common.{◌≡◌, ◌∙◌, ℕ, List, [], ◌∷◌, Some, false, ap}
+use Rattle.clap.specs.Walk.{Row}
 use Rattle.clap.specs.Simple.{Shape, built}
 use Rattle.clap.specs.Faults.{check_fault}
 use Rattle.cx_desk.specs.Outside.{Bytes}

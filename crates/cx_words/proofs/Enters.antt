@@ -1,6 +1,6 @@
 -- Behind a command's name all words are the command's.
-use Rattle.std.proofs.Common.{◌≡◌, ◌∙◌, ℕ, List, [], ◌∷◌, ◌++◌, refl, Some, None, Option, false, true, fold, find, ap, sym, append-nil, append_assoc}
-use Rattle.clap.specs.Walk.{Held, Names, Row, Rule, Walk, Waiting, walk, settled, walked, walk_from, idle, nothing_held, rows_after, stop_after, answers_to, finished}
+use Rattle.std.proofs.Common.{◌≡◌, ◌∙◌, ℕ, List, [], ◌∷◌, ◌++◌, refl, Some, false, true, fold, find, ap, sym, append-nil, append_assoc}
+use Rattle.clap.specs.Walk.{Held, Names, Rule, Walk, Waiting, walk, settled, walked, walk_from, idle, nothing_held, rows_after, stop_after, answers_to, finished}
 use Rattle.clap.specs.Simple.{App, Shape, names_of, label_of, entered}
 use Rattle.std.specs.Prelude.{is_some}
 use Rattle.clap.specs.Kinds.{Kinds, or_else}

@@ -1,6 +1,6 @@
 -- The commands as clap builds them.
-use Rattle.std.proofs.Common.{◌≡◌, List, [], ◌∷◌, ◌++◌, refl, codes, true}
-use Rattle.clap.specs.Simple.{App, Shape, built, with_help_flag, with_filled_rules, new_shape}
+use Rattle.std.proofs.Common.{List, [], ◌∷◌, ◌++◌, refl, codes, true}
+use Rattle.clap.specs.Simple.{Shape, built, new_shape}
 use Rattle.clap.specs.Walk.{Rule}
 use Rattle.clap.proofs.OnLiterals.{clap_on_literals}
 use Rattle.cx_desk.specs.Outside.{Bytes}

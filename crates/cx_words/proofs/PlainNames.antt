@@ -1,12 +1,10 @@
 -- Plain words of the commands without options are taken.
 use Rattle.std.proofs.Common.{◌≡◌, ℕ, List, [], ◌∷◌, Some, refl, sym, subst, codes}
-use Rattle.clap.specs.Walk.{Row}
 use Rattle.cx_desk.specs.Outside.{Bytes}
 use Rattle.cx_words.specs.declared.plans.Kind.{Kind}
 use Rattle.cx_words.specs.declared.plans.Kind.TheVariants.{Even, Odd}
-use Rattle.cx_words.specs.declared.plans.Plan.{Plan}
 use Rattle.cx_words.specs.declared.plans.Plan.TheVariants as plan
-use Rattle.cx_words.specs.Given.{planned, kind_of}
+use Rattle.cx_words.specs.Given.{kind_of}
 use Rattle.cx_words.specs.Words.{Asks}
 use Rattle.cx_words.specs.PlainWords.{PlainCheck, PlainElab, PlainModel, PlainDemo, kind_word}
 use Rattle.cx_words.proofs.Asked.{asks}
@@ -46,7 +44,7 @@ pub elab_asked : (words : List Bytes) (f l q : Bytes) → PlainElab f l q words 
 elab_asked words f l q h = subst (λ (w : List Bytes). Asks w (plan.Elab f l q)) (sym h.spelt)
     (asks h.program (codes "elab") elab_leaf (f ∷ l ∷ q ∷ []) 4 _ (plan.Elab f l q) enters_elab refl (no_defaults elab_leaf (refl, (refl, (refl, (refl, tt)))))
     (elab_finds f l q (formula_plain f h.formula_name) (name_plain l h.log_name) (name_plain q h.proof_name)) refl
-    (rw (apart f l h.log_differs, apart f q h.proof_differs.0, apart l q h.proof_differs.1) refl))
+    (rw (apart f l h.differ.0, apart f q h.differ.1, apart l q h.differ.2) refl))
 
 demo_finds : (k n s : Bytes) → NoFlag k → NoFlag n → NoFlag s
     → Finds demo_leaf (k ∷ n ∷ s ∷ []) 4 (row (codes "kind") k ∷ row (codes "size") n ∷ row (codes "seed") s ∷ [])

@@ -1,5 +1,5 @@
 -- Plain words of `solve` are taken, whatever the order of its arguments.
-use Rattle.std.proofs.Common.{◌≡◌, ◌≢◌, ◌∙◌, ◌||◌, ◌+◌, ℕ, Bool, true, false, List, [], ◌∷◌, ◌++◌, map, Option, Some, None, refl, sym, subst, ap, codes, append_assoc, append-nil}
+use Rattle.std.proofs.Common.{◌≡◌, ◌≢◌, ◌∙◌, ℕ, true, false, List, [], ◌∷◌, ◌++◌, map, Option, Some, None, refl, sym, subst, ap, codes, append_assoc, append-nil}
 use Rattle.std.specs.Prelude.{IfSome, flat_map}
 use Rattle.std.specs.Str.{bytes_eq}
 use Rattle.clap.specs.Takes.{is_given}
@@ -8,7 +8,7 @@ use Rattle.cx_desk.specs.Outside.{Bytes}
 use Rattle.cx_words.specs.declared.plans.Plan.TheVariants as plan
 use Rattle.cx_words.specs.Given.{conflicts_of, logged, planned, solve_of}
 use Rattle.cx_words.specs.Words.{Asks}
-use Rattle.cx_words.specs.PlainWords.{Argument, IsBudget, IsName, PlainSolve, at_most_once, conflicts, conflicts_in, formula, formula_in, log, log_in, words_of}
+use Rattle.cx_words.specs.PlainWords.{Argument, IsBudget, IsName, PlainSolve, conflicts_in, conflicts_option, formula_in, formula_word, listed, log_in, proof_option, words_of}
 use Rattle.cx_words.proofs.Asked.{asks}
 use Rattle.cx_words.proofs.Leaves.{enters_solve, no_defaults, solve_leaf}
 use Rattle.cx_words.proofs.PlainTexts.{apart, formula_plain, name_plain, number_plain, number_read}
@@ -18,9 +18,9 @@ use Rattle.cx_words.proofs.Uses.{NoFlag, none_in, row}
 -- ---- what is found for the arguments
 
 abbrev row_of : Argument → Row
-row_of (formula name) = row (codes "formula") name
-row_of (log name) = row (codes "proof") name
-row_of (conflicts text) = row (codes "conflicts") text
+row_of (formula_word name) = row (codes "formula") name
+row_of (proof_option name) = row (codes "proof") name
+row_of (conflicts_option text) = row (codes "conflicts") text
 
 abbrev first : List Bytes → Option Bytes
 first [] = None
@@ -28,27 +28,27 @@ first (x ∷ xs) = Some x
 
 first_formula : (args : List Argument) → first_of (codes "formula") (map row_of args) ≡ first (flat_map formula_in args)
 first_formula [] = refl
-first_formula (formula name ∷ rest) = refl
-first_formula (log name ∷ rest) = first_formula rest
-first_formula (conflicts text ∷ rest) = first_formula rest
+first_formula (formula_word name ∷ rest) = refl
+first_formula (proof_option name ∷ rest) = first_formula rest
+first_formula (conflicts_option text ∷ rest) = first_formula rest
 
 first_log : (args : List Argument) → first_of (codes "proof") (map row_of args) ≡ first (flat_map log_in args)
 first_log [] = refl
-first_log (formula name ∷ rest) = first_log rest
-first_log (log name ∷ rest) = refl
-first_log (conflicts text ∷ rest) = first_log rest
+first_log (formula_word name ∷ rest) = first_log rest
+first_log (proof_option name ∷ rest) = refl
+first_log (conflicts_option text ∷ rest) = first_log rest
 
 first_conflicts : (args : List Argument) → first_of (codes "conflicts") (map row_of args) ≡ first (flat_map conflicts_in args)
 first_conflicts [] = refl
-first_conflicts (formula name ∷ rest) = first_conflicts rest
-first_conflicts (log name ∷ rest) = first_conflicts rest
-first_conflicts (conflicts text ∷ rest) = refl
+first_conflicts (formula_word name ∷ rest) = first_conflicts rest
+first_conflicts (proof_option name ∷ rest) = first_conflicts rest
+first_conflicts (conflicts_option text ∷ rest) = refl
 
 formula_given : (args : List Argument) (name : Bytes) → flat_map formula_in args ≡ name ∷ [] → is_given (codes "formula") (map row_of args) ≡ true
 formula_given [] name once = cc
-formula_given (formula f ∷ rest) name once = refl
-formula_given (log l ∷ rest) name once = formula_given rest name once
-formula_given (conflicts n ∷ rest) name once = formula_given rest name once
+formula_given (formula_word f ∷ rest) name once = refl
+formula_given (proof_option l ∷ rest) name once = formula_given rest name once
+formula_given (conflicts_option n ∷ rest) name once = formula_given rest name once
 
 -- ---- the words are walked over
 
@@ -100,53 +100,53 @@ joined words more last rows r others found =
 
 walks : (args : List Argument) (words : List Bytes) (place : ℕ) (rows : List Row) → Finds solve_leaf words place rows → Ready place rows args
     → Found (words ++ flat_map words_of args) (rows ++ map row_of args)
-walks [] words place rows finds ready = (place, rw (append-nil, append-nil) finds)
-walks (formula f ∷ args) words place rows finds ready =
+walks [] words place rows finds ready = (place, rw (append-nil words, append-nil rows) finds)
+walks (formula_word f ∷ args) words place rows finds ready =
     let n = next rows (codes "formula") f (flat_map formula_in args) ready.formulas in
     let here : Finds solve_leaf words 1 rows = subst (λ (k : ℕ). Finds solve_leaf words k rows) ready.in_place finds in
-    joined words (f ∷ []) (flat_map words_of args) rows (row_of (formula f)) (map row_of args)
-    (walks args (words ++ f ∷ []) 2 (rows ++ row_of (formula f) ∷ [])
+    joined words (f ∷ []) (flat_map words_of args) rows (row_of (formula_word f)) (map row_of args)
+    (walks args (words ++ f ∷ []) 2 (rows ++ row_of (formula_word f) ∷ [])
     (finds_placed solve_leaf words 1 rows (codes "formula") f here refl refl refl n.new n.plain)
     (record {
-      formulas = subst (Awaits (rows ++ row_of (formula f) ∷ []) (codes "formula")) (sym n.last) tt;
+      formulas = subst (Awaits (rows ++ row_of (formula_word f) ∷ []) (codes "formula")) (sym n.last) tt;
       in_place = subst (InPlace 2) (sym n.last) tt;
       logs = still rows (codes "proof") (codes "formula") f (flat_map log_in args) refl ready.logs;
       budgets = still rows (codes "conflicts") (codes "formula") f (flat_map conflicts_in args) refl ready.budgets;
     }))
-walks (log l ∷ args) words place rows finds ready =
+walks (proof_option l ∷ args) words place rows finds ready =
     let n = next rows (codes "proof") l (flat_map log_in args) ready.logs in
-    joined words (codes "--proof" ∷ l ∷ []) (flat_map words_of args) rows (row_of (log l)) (map row_of args)
-    (walks args (words ++ codes "--proof" ∷ l ∷ []) place (rows ++ row_of (log l) ∷ [])
+    joined words (codes "--proof" ∷ l ∷ []) (flat_map words_of args) rows (row_of (proof_option l)) (map row_of args)
+    (walks args (words ++ codes "--proof" ∷ l ∷ []) place (rows ++ row_of (proof_option l) ∷ [])
     (finds_chosen solve_leaf words place rows (codes "proof") (codes "--proof") l finds refl refl refl refl refl refl n.new n.plain)
     (record {
       formulas = still rows (codes "formula") (codes "proof") l (flat_map formula_in args) refl ready.formulas;
       in_place = ready.in_place;
-      logs = subst (Awaits (rows ++ row_of (log l) ∷ []) (codes "proof")) (sym n.last) tt;
+      logs = subst (Awaits (rows ++ row_of (proof_option l) ∷ []) (codes "proof")) (sym n.last) tt;
       budgets = still rows (codes "conflicts") (codes "proof") l (flat_map conflicts_in args) refl ready.budgets;
     }))
-walks (conflicts t ∷ args) words place rows finds ready =
+walks (conflicts_option t ∷ args) words place rows finds ready =
     let n = next rows (codes "conflicts") t (flat_map conflicts_in args) ready.budgets in
-    joined words (codes "--conflicts" ∷ t ∷ []) (flat_map words_of args) rows (row_of (conflicts t)) (map row_of args)
-    (walks args (words ++ codes "--conflicts" ∷ t ∷ []) place (rows ++ row_of (conflicts t) ∷ [])
+    joined words (codes "--conflicts" ∷ t ∷ []) (flat_map words_of args) rows (row_of (conflicts_option t)) (map row_of args)
+    (walks args (words ++ codes "--conflicts" ∷ t ∷ []) place (rows ++ row_of (conflicts_option t) ∷ [])
     (finds_chosen solve_leaf words place rows (codes "conflicts") (codes "--conflicts") t finds refl refl refl refl refl refl n.new n.plain)
     (record {
       formulas = still rows (codes "formula") (codes "conflicts") t (flat_map formula_in args) refl ready.formulas;
       in_place = ready.in_place;
       logs = still rows (codes "proof") (codes "conflicts") t (flat_map log_in args) refl ready.logs;
-      budgets = subst (Awaits (rows ++ row_of (conflicts t) ∷ []) (codes "conflicts")) (sym n.last) tt;
+      budgets = subst (Awaits (rows ++ row_of (conflicts_option t) ∷ []) (codes "conflicts")) (sym n.last) tt;
     }))
 
 -- ---- the plan
 
-log_awaited : (to : Option Bytes) → IfSome to IsName → Awaits [] (codes "proof") (at_most_once to)
+log_awaited : (to : Option Bytes) → IfSome to IsName → Awaits [] (codes "proof") (listed to)
 log_awaited None h = tt
 log_awaited (Some l) h = (refl, name_plain l h)
 
-number_awaited : (given : Option Bytes) (budget : ℕ) → IsBudget given budget → Awaits [] (codes "conflicts") (at_most_once given)
+number_awaited : (given : Option Bytes) (budget : ℕ) → IsBudget given budget → Awaits [] (codes "conflicts") (listed given)
 number_awaited None budget h = tt
 number_awaited (Some text) budget h = (refl, number_plain text budget h.spelt)
 
-first_once : (to : Option Bytes) → first (at_most_once to) ≡ to
+first_once : (to : Option Bytes) → first (listed to) ≡ to
 first_once None = refl
 first_once (Some l) = refl
 
@@ -166,16 +166,16 @@ planned_is : (name : Bytes) (to : Option Bytes) (budget : ℕ) (words : List Byt
     → planned (codes "solve") (map row_of h.arguments) ≡ Some (plan.Solve name to budget)
 planned_is name to budget words h =
     let formula_is : first_of (codes "formula") (map row_of h.arguments) ≡ Some name = first_formula h.arguments ∙ ap first h.formula_once in
-    let log_is : first_of (codes "proof") (map row_of h.arguments) ≡ to = first_log h.arguments ∙ ap first h.log_once ∙ first_once to in
-    let number_is : first_of (codes "conflicts") (map row_of h.arguments) ≡ h.given = first_conflicts h.arguments ∙ ap first h.conflicts_once ∙ first_once h.given in
-    rw (formula_is, log_is, number_is) (solve_is name to h.given budget h.differ h.number)
+    let log_is : first_of (codes "proof") (map row_of h.arguments) ≡ to = first_log h.arguments ∙ ap first h.log_at_most_once ∙ first_once to in
+    let number_is : first_of (codes "conflicts") (map row_of h.arguments) ≡ h.number_text = first_conflicts h.arguments ∙ ap first h.conflicts_at_most_once ∙ first_once h.number_text in
+    rw (formula_is, log_is, number_is) (solve_is name to h.number_text budget h.differ h.budget)
 
 ready : (name : Bytes) (to : Option Bytes) (budget : ℕ) (words : List Bytes) (h : PlainSolve name to budget words) → Ready 1 [] h.arguments
 ready name to budget words h = record {
   formulas = subst (Awaits [] (codes "formula")) (sym h.formula_once) (refl, formula_plain name h.formula_name);
   in_place = subst (InPlace 1) (sym h.formula_once) refl;
-  logs = subst (Awaits [] (codes "proof")) (sym h.log_once) (log_awaited to h.log_name);
-  budgets = subst (Awaits [] (codes "conflicts")) (sym h.conflicts_once) (number_awaited h.given budget h.number);
+  logs = subst (Awaits [] (codes "proof")) (sym h.log_at_most_once) (log_awaited to h.log_name);
+  budgets = subst (Awaits [] (codes "conflicts")) (sym h.conflicts_at_most_once) (number_awaited h.number_text budget h.budget);
 }
 
 pub solve_asked : (words : List Bytes) (name : Bytes) (to : Option Bytes) (budget : ℕ) → PlainSolve name to budget words → Asks words (plan.Solve name to budget)

@@ -1,14 +1,12 @@
 -- Names and numbers of plain words: none is a flag to clap, and numbers are read as what they spell.
-use Rattle.std.proofs.Common.{◌≡◌, ◌≢◌, ◌<◌, ◌≤◌, ◌==◌, ◌&&◌, ◌⊎◌, ℕ, Bool, true, false, not, nat_le, nat_lt, List, [], ◌∷◌, length, codes, Some, inl, inr, refl, sym, subst, ap, ◌∙◌, arith}
+use Rattle.std.proofs.Common.{◌≡◌, ◌≢◌, ◌==◌, ◌&&◌, ℕ, Bool, true, false, not, nat_lt, [], ◌∷◌, length, Some, inl, inr, refl, sym, subst, arith}
 use Rattle.std.specs.Str.{bytes_eq}
-use Rattle.std.specs.List.{list_all}
 use Rattle.std.specs.Char.{is_ascii_digit}
-use Rattle.std.specs.Str.Parse.{digits_value}
 use Rattle.std.proofs.lemmas.Bool.{false_from_ne_true, eqb-true, le-leb}
 use Rattle.std.proofs.lemmas.Slice.Eq.{bytes_eq-Decides}
 use Rattle.cx_desk.specs.Outside.{Bytes}
 use Rattle.cx_words.specs.Given.{number_in}
-use Rattle.cx_words.specs.PlainWords.{IsFormulaName, IsName, Spells, SpellsWithin, is_name}
+use Rattle.cx_words.specs.PlainWords.{IsFormulaName, IsName, Spells, SpellsWithin}
 use Rattle.cx_words.proofs.Uses.{NoFlag}
 
 undash : (b : Bool) → not b ≡ true → b ≡ false

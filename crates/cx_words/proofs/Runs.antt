@@ -1,14 +1,14 @@
 -- Words of a command, one argument after the other.
-use Rattle.std.proofs.Common.{◌≡◌, ◌≢◌, ◌∙◌, ◌||◌, ◌&&◌, ◌+◌, ℕ, Bool, List, [], ◌∷◌, ◌++◌, Some, None, Option, false, true, refl, sym, ap, fold, append-nil, append_assoc}
+use Rattle.std.proofs.Common.{◌≡◌, ◌∙◌, ◌+◌, ℕ, List, [], ◌∷◌, ◌++◌, Some, None, false, true, refl, sym, ap, fold, append-nil, append_assoc}
 use Rattle.std.specs.Prelude.{min}
 use Rattle.std.specs.Str.{bytes_eq}
 use Rattle.clap.specs.Lexer.{long_of, usize_max}
 use Rattle.clap.specs.Kinds.{Kinds, or_else}
-use Rattle.clap.specs.Walk.{Row, Rule, Walk, walk, walked, walk_from, nothing_held, idle, option, has_row, settled, settled_rows, arg_by_id, arg_by_index, arg_by_long, rows_after, finished, with_default}
+use Rattle.clap.specs.Walk.{Row, Rule, Walk, walk, walked, walk_from, nothing_held, idle, has_row, settled, settled_rows, arg_by_id, arg_by_index, arg_by_long, rows_after, finished, with_default}
 use Rattle.clap.specs.Simple.{Shape}
-use Rattle.clap.specs.Faults.{level_fault, walk_fault, turn_fault, settle_fault, defaults_fault, check_fault}
+use Rattle.clap.specs.Faults.{level_fault, walk_fault, settle_fault, defaults_fault, check_fault}
 use Rattle.cx_desk.specs.Outside.{Bytes}
-use Rattle.cx_words.proofs.Uses.{Pending, NoFlag, Turn, at, chosen, holding, option_met, place_met, placed, row, settles, settles_fine, single, value_met}
+use Rattle.cx_words.proofs.Uses.{Pending, NoFlag, Turn, at, chosen, holding, option_met, place_met, placed, row, settles, settles_fine, value_met}
 
 -- words take a walk from here to there, and none is a fault
 pub record Passes (s : Shape) (from : Walk) (words : List Bytes) (to : Walk) : Type 0 where

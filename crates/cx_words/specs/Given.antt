@@ -1,5 +1,5 @@
 -- What the values that clap finds ask for.
-use Rattle.std.specs.Prelude.{◌≡◌, ◌&&◌, ℕ, Bool, true, not, List, length, codes, Option, Some, None, Result, MatchResult, option_map, option_and_then, if◌then◌else◌, nat_lt, nat_le}
+use Rattle.std.specs.Prelude.{◌≡◌, ◌&&◌, ℕ, Bool, not, List, length, codes, Option, Some, None, Result, MatchResult, option_map, option_and_then, if◌then◌else◌, nat_lt, nat_le}
 use Rattle.std.specs.Borrow.{Bor}
 use Rattle.std.specs.Str.{bytes_eq}
 use Rattle.std.specs.List.{list_all}

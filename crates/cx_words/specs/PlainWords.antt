@@ -44,76 +44,75 @@ kind_word Odd = codes "odd"
 
 -- an argument of `solve`: FORMULA, `--proof LOG` or `--conflicts N`
 pub data Argument : Type 0 where
-  formula : Bytes → Argument
-  log : Bytes → Argument
-  conflicts : Bytes → Argument
+  formula_word : Bytes → Argument
+  proof_option : Bytes → Argument
+  conflicts_option : Bytes → Argument
 
 -- its words: the value of an option is the next word
 abbrev pub words_of : Argument → List Bytes
-words_of (formula name) = name ∷ []
-words_of (log name) = codes "--proof" ∷ name ∷ []
-words_of (conflicts text) = codes "--conflicts" ∷ text ∷ []
+words_of (formula_word name) = name ∷ []
+words_of (proof_option name) = codes "--proof" ∷ name ∷ []
+words_of (conflicts_option text) = codes "--conflicts" ∷ text ∷ []
 
 abbrev pub formula_in : Argument → List Bytes
-formula_in (formula name) = name ∷ []
+formula_in (formula_word name) = name ∷ []
 formula_in _ = []
 
 abbrev pub log_in : Argument → List Bytes
-log_in (log name) = name ∷ []
+log_in (proof_option name) = name ∷ []
 log_in _ = []
 
 abbrev pub conflicts_in : Argument → List Bytes
-conflicts_in (conflicts text) = text ∷ []
+conflicts_in (conflicts_option text) = text ∷ []
 conflicts_in _ = []
 
--- what may be left out stands at most once
-abbrev pub at_most_once : Option Bytes → List Bytes
-at_most_once None = []
-at_most_once (Some text) = text ∷ []
+-- what may be left out, as a list of one or none
+abbrev pub listed : Option Bytes → List Bytes
+listed None = []
+listed (Some text) = text ∷ []
 
--- a number of conflicts from 1 to 10^18; a million where none is given
+-- a number of conflicts from 1 to 10^18, or a million where none is given
 abbrev pub IsBudget : Option Bytes → ℕ → Type 0
 IsBudget None number = number ≡ 1000000
 IsBudget (Some text) number = SpellsWithin 1 1000000000000000000 text number
 
--- `solve` with its arguments in any order
-pub record PlainSolve (name : Bytes) (to : Option Bytes) (budget : ℕ) (words : List Bytes) : Type 0 where
+-- `solve` with its arguments in any order: FORMULA once, each option at most once
+pub record PlainSolve (formula : Bytes) (log : Option Bytes) (conflicts : ℕ) (words : List Bytes) : Type 0 where
   pub program : Bytes
   pub arguments : List Argument
-  pub given : Option Bytes
+  pub number_text : Option Bytes
   pub spelt : words ≡ program ∷ codes "solve" ∷ flat_map words_of arguments
-  pub formula_once : flat_map formula_in arguments ≡ name ∷ []
-  pub log_once : flat_map log_in arguments ≡ at_most_once to
-  pub conflicts_once : flat_map conflicts_in arguments ≡ at_most_once given
-  pub formula_name : IsFormulaName name
-  pub log_name : IfSome to IsName
-  pub differ : IfSome to (λ l. name ≢ l)
-  pub number : IsBudget given budget
+  pub formula_once : flat_map formula_in arguments ≡ formula ∷ []
+  pub log_at_most_once : flat_map log_in arguments ≡ listed log
+  pub conflicts_at_most_once : flat_map conflicts_in arguments ≡ listed number_text
+  pub formula_name : IsFormulaName formula
+  pub log_name : IfSome log IsName
+  pub differ : IfSome log (λ l. formula ≢ l)
+  pub budget : IsBudget number_text conflicts
 
 -- ---- the commands without options
 
-pub record PlainCheck (name proof : Bytes) (words : List Bytes) : Type 0 where
+pub record PlainCheck (formula proof : Bytes) (words : List Bytes) : Type 0 where
   pub program : Bytes
-  pub spelt : words ≡ program ∷ codes "check" ∷ name ∷ proof ∷ []
-  pub formula_name : IsFormulaName name
+  pub spelt : words ≡ program ∷ codes "check" ∷ formula ∷ proof ∷ []
+  pub formula_name : IsFormulaName formula
   pub proof_name : IsName proof
-  pub differ : name ≢ proof
+  pub differ : formula ≢ proof
 
-pub record PlainElab (name to proof : Bytes) (words : List Bytes) : Type 0 where
+pub record PlainElab (formula log proof : Bytes) (words : List Bytes) : Type 0 where
   pub program : Bytes
-  pub spelt : words ≡ program ∷ codes "elab" ∷ name ∷ to ∷ proof ∷ []
-  pub formula_name : IsFormulaName name
-  pub log_name : IsName to
+  pub spelt : words ≡ program ∷ codes "elab" ∷ formula ∷ log ∷ proof ∷ []
+  pub formula_name : IsFormulaName formula
+  pub log_name : IsName log
   pub proof_name : IsName proof
-  pub log_differs : name ≢ to
-  pub proof_differs : (name ≢ proof) × (to ≢ proof)
+  pub differ : (formula ≢ log) × (formula ≢ proof) × (log ≢ proof)
 
-pub record PlainModel (name answer : Bytes) (words : List Bytes) : Type 0 where
+pub record PlainModel (formula answer : Bytes) (words : List Bytes) : Type 0 where
   pub program : Bytes
-  pub spelt : words ≡ program ∷ codes "model" ∷ name ∷ answer ∷ []
-  pub formula_name : IsFormulaName name
+  pub spelt : words ≡ program ∷ codes "model" ∷ formula ∷ answer ∷ []
+  pub formula_name : IsFormulaName formula
   pub answer_name : IsName answer
-  pub differ : name ≢ answer
+  pub differ : formula ≢ answer
 
 pub record PlainDemo (kind : Kind) (size seed : ℕ) (words : List Bytes) : Type 0 where
   pub program : Bytes
@@ -125,8 +124,8 @@ pub record PlainDemo (kind : Kind) (size seed : ℕ) (words : List Bytes) : Type
 
 -- the words are plain and ask for the plan
 abbrev pub IsPlain : List Bytes → Plan → Type 0
-IsPlain words (plan.Solve name to budget) = PlainSolve name to budget words
-IsPlain words (plan.Check name proof) = PlainCheck name proof words
-IsPlain words (plan.Elab name to proof) = PlainElab name to proof words
-IsPlain words (plan.Model name answer) = PlainModel name answer words
+IsPlain words (plan.Solve formula log conflicts) = PlainSolve formula log conflicts words
+IsPlain words (plan.Check formula proof) = PlainCheck formula proof words
+IsPlain words (plan.Elab formula log proof) = PlainElab formula log proof words
+IsPlain words (plan.Model formula answer) = PlainModel formula answer words
 IsPlain words (plan.Demo kind size seed) = PlainDemo kind size seed words

@@ -1,4 +1,7 @@
 //! The command line, read by clap: which plan the words ask for.
+//!
+//! `plan` answers by clap's own definition of the command line (`Asks`, `Refuses`). That plain words,
+//! as the usage lines show them, are taken and ask for what they say is a law of that definition.
 #![tactic(auto)]
 
 mod commands;
