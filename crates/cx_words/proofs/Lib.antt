@@ -2,6 +2,7 @@ pub mod Asked
 pub mod Builds
 pub mod Defaults
 pub mod Enters
+pub mod Fits
 pub mod PlanLaws
 pub mod Leaves
 pub mod PastBounds

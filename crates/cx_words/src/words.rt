@@ -2,7 +2,7 @@
 ghost use Rattle.std.specs.Prelude.{◌≡◌, ◌≢◌, [], IfOk, IsErrOf};
 ghost use Rattle.clap.specs.Words.{fault_of, subcommand_of, subcommand_rows_of};
 ghost use Rattle.cx_words.specs.CommandLine.{cxsat as line};
-ghost use Rattle.cx_words.specs.Words.{texts, Asks, Refuses};
+ghost use Rattle.cx_words.specs.Words.{texts, Asks, IsFit, Refuses};
 
 use crate::commands::cxsat;
 use crate::values::planned;
@@ -31,6 +31,7 @@ fn parse<'a>(alloc: Global, words: &'a [String]) -> Result<ArgMatches<'a>, PlanR
 #[tactic(auto, unfolding(crate::specs::Words::plan_of))]
 pub fn plan(alloc: Global, words: &[String]) -> Result<Plan, PlanRefusal>
     ensures ok { IfOk result (Asks (texts words.now)) }
+    ensures fit { IfOk result IsFit }
     ensures usage { IsErrOf result PlanRefusal.Usage → Refuses (texts words.now) }
 {
     let matches = match parse(alloc, words) {
