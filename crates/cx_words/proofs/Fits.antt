@@ -1,5 +1,5 @@
 -- The plan that words ask for has its numbers in range, and no two equal names.
-use Rattle.std.proofs.Common.{◌≡◌, ◌≢◌, ◌≤◌, ◌&&◌, ◌⊎◌, ℕ, Bool, true, false, not, nat_le, List, Option, Some, None, Result, Ok, Err, IfOk, IfSome, codes, inl, inr, refl, sym, subst, ap, ◌∙◌, arith, option_map}
+use Rattle.std.proofs.Common.{◌≡◌, ◌≢◌, ◌≤◌, ◌&&◌, ℕ, Bool, true, false, not, List, Option, Some, None, Result, Ok, Err, IfOk, IfSome, codes, refl, subst, arith, option_map}
 use Rattle.std.specs.Prelude.{if◌then◌else◌, option_and_then}
 use Rattle.std.specs.Str.{bytes_eq}
 use Rattle.std.specs.Str.Parse.{digits_value}
@@ -7,7 +7,6 @@ use Rattle.std.proofs.lemmas.Bool.{leb-true}
 use Rattle.std.proofs.lemmas.Slice.Eq.{bytes_eq-Decides}
 use Rattle.clap.specs.Words.{Row, first_of, subcommand_of}
 use Rattle.cx_desk.specs.Outside.{Bytes}
-use Rattle.cx_words.specs.declared.plans.Kind.{Kind}
 use Rattle.cx_words.specs.declared.plans.Plan.{Plan}
 use Rattle.cx_words.specs.declared.plans.Plan.TheVariants as plan
 use Rattle.cx_words.specs.declared.refusal.PlanRefusal.{PlanRefusal}

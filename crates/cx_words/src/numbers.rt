@@ -11,6 +11,11 @@ const DEFAULT_CONFLICTS: u64 = 1_000_000;
 /// The greatest number of conflicts that may be given.
 const MOST_CONFLICTS: u64 = 1_000_000_000_000_000_000;
 
+/// The sizes that an instance may have.
+const LEAST_SIZE: u64 = 4;
+
+const MOST_SIZE: u64 = 2000;
+
 fn all_digits(text: &[u8]) -> bool
     ensures { result ≡ list_all is_ascii_digit text.now }
 {
@@ -63,7 +68,7 @@ pub(crate) fn size(text: Option<&str>) -> Option<u32>
 {
     match text {
         None => None,
-        Some(text) => narrowed(number(text, 4, 2000)),
+        Some(text) => narrowed(number(text, LEAST_SIZE, MOST_SIZE)),
     }
 }
 
