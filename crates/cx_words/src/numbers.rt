@@ -10,10 +10,9 @@ use crate::Kind;
 const DEFAULT_CONFLICTS: u64 = 1_000_000;
 /// The greatest number of conflicts that may be given.
 const MOST_CONFLICTS: u64 = 1_000_000_000_000_000_000;
-
-/// The sizes that an instance may have.
+/// The least size of an instance.
 const LEAST_SIZE: u64 = 4;
-
+/// The greatest size of an instance.
 const MOST_SIZE: u64 = 2000;
 
 fn all_digits(text: &[u8]) -> bool
