@@ -1,0 +1,14 @@
+pub mod Asked
+pub mod Builds
+pub mod Defaults
+pub mod Enters
+pub mod Fits
+pub mod PlanLaws
+pub mod Leaves
+pub mod PastBounds
+pub mod PlainNames
+pub mod PlainSolve
+pub mod PlainTexts
+pub mod Refused
+pub mod Runs
+pub mod Uses

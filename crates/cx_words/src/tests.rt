@@ -1,0 +1,209 @@
+//! Command lines, and what they ask for.
+use crate::{Kind, Plan, PlanRefusal, plan};
+use std::alloc::{AllocError, Global};
+use std::process::Abort;
+use std::test::Fail;
+
+/// Command lines with one blank between two words, and the plans that they ask for.
+const TAKEN: [(&str, &str); 40] = [
+    ("cxsat solve f", "solve f 1000000"),
+    ("cxsat solve -", "solve - 1000000"),
+    ("cxsat solve f --proof l", "solve f 1000000 to l"),
+    ("cxsat solve --proof l f", "solve f 1000000 to l"),
+    ("cxsat solve - --proof l", "solve - 1000000 to l"),
+    ("cxsat solve --proof l -", "solve - 1000000 to l"),
+    ("cxsat solve f --conflicts 7", "solve f 7"),
+    ("cxsat solve --conflicts 7 f", "solve f 7"),
+    ("cxsat solve f --proof l --conflicts 7", "solve f 7 to l"),
+    ("cxsat solve f --conflicts 7 --proof l", "solve f 7 to l"),
+    ("cxsat solve --proof l f --conflicts 7", "solve f 7 to l"),
+    ("cxsat solve --conflicts 7 f --proof l", "solve f 7 to l"),
+    ("cxsat solve --proof l --conflicts 7 f", "solve f 7 to l"),
+    ("cxsat solve --conflicts 7 --proof l f", "solve f 7 to l"),
+    ("cxsat solve f --conflicts 1", "solve f 1"),
+    ("cxsat solve f --conflicts 007", "solve f 7"),
+    (
+        "cxsat solve f --conflicts 1000000000000000000",
+        "solve f 1000000000000000000",
+    ),
+    (
+        "cxsat solve f --conflicts 0000000000000000000000000000000000000009",
+        "solve f 9",
+    ),
+    ("cxsat solve solve", "solve solve 1000000"),
+    ("cxsat solve f --proof=l", "solve f 1000000 to l"),
+    ("cxsat solve --conflicts=7 f", "solve f 7"),
+    ("cxsat check f p", "check f p"),
+    ("cxsat check - p", "check - p"),
+    ("cxsat check p f", "check p f"),
+    ("cxsat check f -", "check f -"),
+    ("cxsat check f ", "check f "),
+    ("cxsat check -- f p", "check f p"),
+    ("cxsat check -- -f p", "check -f p"),
+    ("cxsat elab f l p", "elab f l p"),
+    ("cxsat elab - l p", "elab - l p"),
+    ("cxsat model f a", "model f a"),
+    ("cxsat model - a", "model - a"),
+    ("cxsat demo even 60 1", "demo even 60 1"),
+    ("cxsat demo odd 60 1", "demo odd 60 1"),
+    ("cxsat demo even 4 0", "demo even 4 0"),
+    ("cxsat demo odd 2000 0", "demo odd 2000 0"),
+    ("cxsat demo even 0060 0001", "demo even 60 1"),
+    (
+        "cxsat demo odd 4 18446744073709551615",
+        "demo odd 4 18446744073709551615",
+    ),
+    (" solve f", "solve f 1000000"),
+    ("--help solve f", "solve f 1000000"),
+];
+
+/// Command lines that ask for nothing.
+const REFUSED: [&str; 56] = [
+    "cxsat",
+    "cxsat --help",
+    "cxsat -h",
+    "cxsat help",
+    "cxsat help solve",
+    "cxsat --version",
+    "cxsat solve --help",
+    "cxsat solve f --help",
+    "cxsat prove f",
+    "cxsat Solve f",
+    "cxsat --proof l solve f",
+    "cxsat solve",
+    "cxsat solve --proof l",
+    "cxsat solve f g",
+    "cxsat solve f --log l",
+    "cxsat solve f -p l",
+    "cxsat solve -f",
+    "cxsat solve f --proof",
+    "cxsat solve f --conflicts",
+    "cxsat solve f --proof --conflicts 7",
+    "cxsat solve f --proof -l",
+    "cxsat solve f --proof l --proof l",
+    "cxsat solve f --proof l --proof m",
+    "cxsat solve f --conflicts 7 --conflicts 7",
+    "cxsat solve f --proof f",
+    "cxsat solve - --proof -",
+    "cxsat solve f --conflicts 0",
+    "cxsat solve f --conflicts 1000000000000000001",
+    "cxsat solve f --conflicts 18446744073709551616",
+    "cxsat solve f --conflicts 1000000000000000000000000000000000000000",
+    "cxsat solve f --conflicts +7",
+    "cxsat solve f --conflicts -7",
+    "cxsat solve f --conflicts 7x",
+    "cxsat solve f --conflicts 1e3",
+    "cxsat solve f --conflicts ",
+    "cxsat check f",
+    "cxsat check f p q",
+    "cxsat check f f",
+    "cxsat check -f p",
+    "cxsat check f -p",
+    "cxsat check f --proof p",
+    "cxsat elab f l",
+    "cxsat elab f f p",
+    "cxsat elab f l f",
+    "cxsat elab f l l",
+    "cxsat model f",
+    "cxsat model f f",
+    "cxsat demo even 60",
+    "cxsat demo even 60 1 1",
+    "cxsat demo Even 60 1",
+    "cxsat demo 60 even 1",
+    "cxsat demo even 3 1",
+    "cxsat demo even 2001 1",
+    "cxsat demo odd +60 1",
+    "cxsat demo odd 60 -1",
+    "cxsat demo odd 60 18446744073709551616",
+];
+
+fn words_of(alloc: Global, line: &str) -> Result<Vec<String>, AllocError> {
+    let mut words = Vec::new(alloc);
+    for word in line.split(' ') {
+        words.push(String::from_str(alloc, word)?)?;
+    }
+    Ok(words)
+}
+
+fn kind_name(kind: Kind) -> &'static str {
+    match kind {
+        Kind::Even => "even",
+        Kind::Odd => "odd",
+    }
+}
+
+/// The plan as a line.
+fn shown(alloc: Global, plan: &Plan) -> Result<String, AllocError> {
+    match plan {
+        Plan::Solve {
+            formula,
+            log,
+            conflicts,
+        } => match log {
+            None => format!(in alloc; "solve {} {}", formula.as_str(), conflicts),
+            Some(log) => {
+                format!(in alloc;
+                    "solve {} {} to {}",
+                    formula.as_str(),
+                    conflicts,
+                    log.as_str()
+                )
+            }
+        },
+        Plan::Check { formula, proof } => {
+            format!(in alloc; "check {} {}", formula.as_str(), proof.as_str())
+        }
+        Plan::Elab {
+            formula,
+            log,
+            proof,
+        } => format!(in alloc;
+            "elab {} {} {}",
+            formula.as_str(),
+            log.as_str(),
+            proof.as_str()
+        ),
+        Plan::Model { formula, answer } => {
+            format!(in alloc; "model {} {}", formula.as_str(), answer.as_str())
+        }
+        Plan::Demo { kind, size, seed } => {
+            format!(in alloc; "demo {} {} {}", kind_name(*kind), size, seed)
+        }
+    }
+}
+
+/// The line of the plan that the words ask for, or `usage`.
+fn answer_to(rt: &impl Abort, alloc: Global, words: &[String]) -> Result<String, AllocError> {
+    match plan(alloc, words) {
+        Ok(plan) => shown(alloc, &plan),
+        Err(why) => {
+            assert_eq!(rt; why, PlanRefusal::Usage);
+            String::from_str(alloc, "usage")
+        }
+    }
+}
+
+#[test]
+fn lines_that_are_taken_ask_for_their_plan(rt: HostRuntime) -> Result<(), Fail> {
+    let alloc = rt.alloc();
+    for (line, wanted) in TAKEN {
+        let words = words_of(alloc, line)?;
+        let answer = answer_to(&rt, alloc, &words)?;
+        assert_eq!(rt; answer.as_str(), wanted, "{line}");
+    }
+    Ok(())
+}
+
+#[test]
+fn lines_that_are_refused_are_usage(rt: HostRuntime) -> Result<(), Fail> {
+    let alloc = rt.alloc();
+    for line in REFUSED {
+        let words = words_of(alloc, line)?;
+        let answer = answer_to(&rt, alloc, &words)?;
+        assert_eq!(rt; answer.as_str(), "usage", "{line}");
+    }
+    let none = Vec::new(alloc);
+    let answer = answer_to(&rt, alloc, &none)?;
+    assert_eq!(rt; answer.as_str(), "usage");
+    Ok(())
+}
