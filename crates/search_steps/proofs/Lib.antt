@@ -1,0 +1,17 @@
+pub mod Sets
+pub mod FreshLaws
+pub mod TrailLaws
+pub mod QuietLaws
+pub mod ServesLaws
+pub mod LogLaws
+pub mod RowLaws
+pub mod EndLaws
+pub mod UnitLaws
+pub mod RowReasons
+pub mod Telling
+pub mod UnitSteps
+pub mod Reductions
+pub mod EngineLaws
+pub mod Rounds
+pub mod StartLaws
+pub mod Deletions
