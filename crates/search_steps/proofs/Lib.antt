@@ -15,3 +15,5 @@ pub mod EngineLaws
 pub mod Rounds
 pub mod StartLaws
 pub mod Deletions
+pub mod Bridge
+pub mod LearnedLaws
