@@ -113,31 +113,6 @@ module _ (formula : Problem) (parities : List (List Literal)) (s : Search) (ok :
   pub is_log_open : IsOpen (log_calculus formula) (filter_map step_of s.events)
   is_log_open = (s.moment.tables, ok.log.runs)
 
-  -- the empty clause by a right chain ends the log, and the marks are as before
-  pub end_is_accepted : (n : ℕ) → get s.moment.tables.clauses n ≡ None → HasChain s.moment.tables.clauses []
-      → AcceptedAt (log_calculus formula) (filter_map step_of (s.events ++ Step (Clause n []) ∷ [])) (length (filter_map step_of s.events) + 1)
-  end_is_accepted n free has_chain = record {
-    before = filter_map step_of s.events;
-    step = Clause n [];
-    later = [];
-    tables = s.moment.tables;
-    split = filter_map-append step_of s.events (Step (Clause n []) ∷ []);
-    runs = ok.log.runs;
-    right = (refl, (ap is_some free, (has_chain, tt)));
-    ends = refl;
-    number = refl;
-  }
-
-  pub marks_with_end : (n : ℕ) → get s.moment.tables.clauses n ≡ None → Marked formula (s.events ++ Step (Clause n []) ∷ []) s.conflicts
-  marks_with_end n free = record {
-    marks = filter_map-append Rattle.cx_semantics.specs.Marked.mark_of s.events (Step (Clause n []) ∷ []) ∙ Rattle.search_steps.proofs.LogLaws.append_nil _ ∙ ok.log.marks;
-    originals = Rattle.search_steps.proofs.LogLaws.begins_still formula.constraints s.events (Step (Clause n []) ∷ []) ok.log.originals;
-    last = Rattle.cx_semantics.specs.Marked.after_event s.moment (Step (Clause n []));
-    fit = Rattle.cx_semantics.proofs.MoreLaws.events_go_on formula Rattle.cx_semantics.specs.Marked.first_moment s.moment s.events (Step (Clause n [])) ok.log.fits
-        (subst (λ b. MatchBool b (IsLearned s.moment []) (true ≡ false → IsKnown s.moment [])) (sym served) (λ e. absurd (true≢false e)));
-    served = refl;
-  }
-
 -- ---- the search, where both engines are quiet
 module _ (formula : Problem) (parities : List (List Literal)) (s : Search) (ok : IsSearch formula parities s) (quiet : Quiet formula.variables parities s.moment.tables.clauses (all_held s.trail))
     (theirs : (v : List Bool) → list_all (parity_met v) parities ≡ true → (parity : List Literal) → Contains (parities_of formula.constraints) parity → parity_met v parity ≡ true) where

@@ -17,3 +17,4 @@ pub mod StartLaws
 pub mod Deletions
 pub mod Bridge
 pub mod LearnedLaws
+pub mod Ends

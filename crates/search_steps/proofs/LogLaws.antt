@@ -133,16 +133,16 @@ module _ (formula : Problem) (parities : List (List Literal)) (s : Search) (ok :
   not_live table n e = ap is_some e
 
   -- a unit clause of level 0
-  pub unit_keeps : (n : ℕ) (z : ℤ) (older : List Entry) (clause : List Literal) → IsAddition formula s.moment.tables.clauses n (z ∷ []) → s.moment.awaits ≡ false
+  pub unit_keeps : (n : ℕ) (z : ℤ) (older : List Entry) (clause : List Literal) → IsAddition formula s.moment.tables.clauses n (z ∷ []) → derives_empty_clause (Clause n (z ∷ [])) ≡ false → s.moment.awaits ≡ false
       → IsTrail s.moment.tables.clauses (IsOfParities formula.variables parities) older
       → IsUnitOf s (Rattle.cx_semantics.specs.Integers.literal z) older clause → IsSearch formula parities (told s (Step (Clause n (z ∷ []))))
-  unit_keeps n z older clause a served t u =
+  unit_keeps n z older clause a goes served t u =
       let l = Rattle.cx_semantics.specs.Integers.literal z in
       let IsRow = IsOfParities formula.variables parities in
       tell (Clause n (z ∷ []))
       (a.within, (not_live s.moment.tables.clauses n a.free, (forced_has_chain s.moment.tables.clauses IsRow older t u.on_clauses clause u.live l u.forces, tt)))
-      refl
-      (subst (λ b. MatchBool b (IsLearned s.moment (l ∷ [])) (false ≡ false → IsKnown s.moment (l ∷ []))) (sym served)
+      goes
+      (subst (λ b. MatchBool b (IsLearned s.moment (l ∷ [])) (derives_empty_clause (Clause n (z ∷ [])) ≡ false → IsKnown s.moment (l ∷ []))) (sym served)
       (λ _. inl (refl, reached_is_known s.moment.tables.clauses l (forced_is_reached s.moment.tables.clauses IsRow older t u.on_clauses clause u.live l u.forces))))
       (put_serves formula parities s.trail s.quiet_levels s.moment.tables n (l ∷ []) a.free
       (λ k h. true_rests (held k s.trail) (l ∷ [])
@@ -164,9 +164,9 @@ module _ (formula : Problem) (parities : List (List Literal)) (s : Search) (ok :
   -- the clause of a row, where the sum of the row is live
   pub row_clause_keeps : (n : ℕ) (zs : List ℤ) (source : ℕ) (row : List Literal) → IsAddition formula s.moment.tables.clauses n zs → get s.moment.tables.parities source ≡ Some row
       → IsOfParities formula.variables parities (literals zs) → IsClauseOfRow formula.variables row (literals zs) → derives_empty_clause (ClauseOfParity n zs source) ≡ false → IsSearch formula parities (told s (Step (ClauseOfParity n zs source)))
-  row_clause_keeps n zs source row a live of_parities c not_empty = tell (ClauseOfParity n zs source)
+  row_clause_keeps n zs source row a live of_parities c goes = tell (ClauseOfParity n zs source)
       (a.within, (not_live s.moment.tables.clauses n a.free, (ap (λ b. not b || false) (ap is_some live), (implied, tt))))
-      not_empty
+      goes
       (row, live, c.one_of_each)
       (put_serves formula parities s.trail s.quiet_levels s.moment.tables n (literals zs) a.free
       (λ k h. implied_rests formula.variables parities (held k s.trail) (literals zs) (ok.serves.quiet k h).rows of_parities) ok.serves)
@@ -176,13 +176,13 @@ module _ (formula : Problem) (parities : List (List Literal)) (s : Search) (ok :
           (ap (λ o. list_all (parity_met values) (Rattle.std.specs.List.cons_option o [])) (sym live) ∙ h)).0
 
   -- a learned clause, where one is owed
-  pub learned_keeps : (n : ℕ) (zs : List ℤ) (back : ℕ) (l : Literal) → IsAddition formula s.moment.tables.clauses n zs → s.moment.awaits ≡ true → s.quiet_levels ≡ level_of s.trail
+  pub learned_keeps : (n : ℕ) (zs : List ℤ) (back : ℕ) (l : Literal) → IsAddition formula s.moment.tables.clauses n zs → derives_empty_clause (Clause n zs) ≡ false → s.moment.awaits ≡ true → s.quiet_levels ≡ level_of s.trail
       → HasChain s.moment.tables.clauses (literals zs) → IsLearnedOf s.trail back (literals zs) l
       → IsSearch formula parities (record (told s (Step (Clause n zs))) { quiet_levels = back })
-  learned_keeps n zs back l a owed levels has_chain learned = record {
+  learned_keeps n zs back l a goes owed levels has_chain learned = record {
     log = step_goes_on formula s.events s.moment s.conflicts ok.log (Clause n zs)
         (a.within, (not_live s.moment.tables.clauses n a.free, (has_chain, tt)))
-        (not_empty zs learned.asserting.has_it)
+        goes
         (subst (λ b. MatchBool b (IsLearned s.moment (literals zs)) (derives_empty_clause (Clause n zs) ≡ false → IsKnown s.moment (literals zs))) (sym owed)
         (long zs learned.asserting.has_it, learned_is_fresh formula parities s ok back (literals zs) l levels learned));
     serves = put_serves formula parities s.trail back s.moment.tables n (literals zs) a.free
@@ -195,10 +195,6 @@ module _ (formula : Problem) (parities : List (List Literal)) (s : Search) (ok :
         });
   }
     where
-      not_empty : (zs : List ℤ) → has_literal (literals zs) l ≡ true → derives_empty_clause (Clause n zs) ≡ false
-      not_empty [] h = not_both false h refl
-      not_empty (z ∷ zs) h = refl
-
       long : (zs : List ℤ) → has_literal (literals zs) l ≡ true → 1 ≤ length (literals zs)
       long [] h = not_both false h refl
       long (z ∷ zs) h = omega arith

@@ -7,7 +7,7 @@ use Rattle.cx_semantics.specs.declared.steps.LogStep.TheVariants.{Clause, Delete
 use Rattle.cx_semantics.specs.declared.steps.LogEvent.TheVariants.{Step}
 use Rattle.cx_semantics.specs.Chain.{has_literal}
 use Rattle.cx_semantics.specs.Integers.{literals}
-use Rattle.cx_semantics.specs.LogRules.{HasChain}
+use Rattle.cx_semantics.specs.LogRules.{HasChain, derives_empty_clause}
 use Rattle.cx_semantics.specs.Marked.{without, is_among}
 use Rattle.cx_semantics.specs.Tables.{Table, get}
 use Rattle.cx_semantics.proofs.Lookups.{Looks-insert, Looks-remove}
@@ -90,14 +90,14 @@ module _ (formula : Problem) (parities : List (List Literal)) (s : Search) (ok :
   after_round = forced_on (jumped (deleted after_learned s.moment.new_clauses) back) l (by_clause n)
 
   -- The mark, the learned clause, the deletion of what is temporary, the jump back, and the literal that the clause forces.
-  pub round_keeps : IsServed s → s.quiet_levels ≡ level_of s.trail → IsAddition formula s.moment.tables.clauses n zs → HasChain s.moment.tables.clauses (literals zs) → IsLearnedOf s.trail back (literals zs) l
+  pub round_keeps : IsServed s → s.quiet_levels ≡ level_of s.trail → IsAddition formula s.moment.tables.clauses n zs → derives_empty_clause (Clause n zs) ≡ false → HasChain s.moment.tables.clauses (literals zs) → IsLearnedOf s.trail back (literals zs) l
       → AreTemporary formula after_learned s.moment.new_clauses → is_among s.moment.new_clauses n ≡ false → IsSearch formula parities after_round
-  round_keeps served levels a has_chain learned temporary apart =
+  round_keeps served levels a goes has_chain learned temporary apart =
       let IsRow = IsOfParities formula.variables parities in
       let s1 = marked s in
       let ok1 = mark_keeps formula parities s ok served in
       let s2 = after_learned in
-      let ok2 = learned_keeps formula parities s1 ok1 n zs back l a refl levels has_chain learned in
+      let ok2 = learned_keeps formula parities s1 ok1 n zs back l a goes refl levels has_chain learned in
       let s3 = deleted s2 s.moment.new_clauses in
       let ok3 = deleted_keeps formula parities s2 ok2 s.moment.new_clauses temporary in
       let same_levels : s3.quiet_levels ≡ back = deleted_levels s2 s.moment.new_clauses in

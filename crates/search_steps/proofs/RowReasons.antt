@@ -5,9 +5,7 @@ use Rattle.cx_base.specs.Problem.{Problem}
 use Rattle.cx_semantics.specs.declared.steps.LogStep.TheVariants.{Parity, ClauseOfParity}
 use Rattle.cx_semantics.specs.declared.steps.LogEvent.TheVariants.{Step}
 use Rattle.cx_semantics.specs.Integers.{literals}
-use Rattle.cx_semantics.specs.LogRules.{derives_empty_clause}
 use Rattle.cx_semantics.specs.Marked.{without, is_among}
-use Rattle.cx_semantics.specs.ProofRules.{is_empty}
 use Rattle.cx_semantics.specs.Tables.{get}
 use Rattle.cx_semantics.proofs.Lookups.{Looks-insert}
 use Rattle.search_steps.specs.Search.{Search, IsSearch, told}
@@ -29,11 +27,8 @@ module _ (formula : Problem) (parities : List (List Literal)) (s : Search) (k : 
       Looks-insert s.moment.tables.parities (get s.moment.tables.parities) k (literals rs) (λ _. refl) k ∙ ap (λ b. cond b (Some (literals rs)) (get s.moment.tables.parities k)) (same_id k) in
       let ok2 : IsSearch formula parities s2 =
       row_clause_keeps formula parities s1 ok1 n zs k (literals rs) r.clause_step found
-      (row_is_of_parities formula.variables parities s.moment.tables ids (literals rs) (literals zs) r.row r.clause) r.clause (goes zs r.not_empty) in
+      (row_is_of_parities formula.variables parities s.moment.tables ids (literals rs) (literals zs) r.row r.clause) r.clause r.goes_on in
       delete_sum_keeps formula parities s2 ok2 k [] r.high
-    where
-      goes : (zs : List ℤ) → is_empty zs ≡ false → derives_empty_clause (ClauseOfParity n zs k) ≡ false
-      goes zs h = h
 
   -- the sums are as before, and one clause is put that is to be deleted
   pub row_reason_sums : s.moment.new_sums ≡ [] → (all_told s (row_events k rs ids n zs)).moment.new_sums ≡ []

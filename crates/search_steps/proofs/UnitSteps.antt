@@ -8,6 +8,7 @@ use Rattle.cx_semantics.specs.declared.steps.LogEvent.TheVariants.{Step}
 use Rattle.cx_semantics.specs.Chain.{has_literal}
 use Rattle.cx_semantics.specs.Fresh.{IsLive}
 use Rattle.cx_semantics.specs.Integers.{literal}
+use Rattle.cx_semantics.specs.LogRules.{derives_empty_clause}
 use Rattle.cx_semantics.specs.Tables.{Table, get}
 use Rattle.cx_semantics.proofs.Lookups.{Looks-insert}
 use Rattle.search_steps.specs.Trail.{Entry, held, all_held, IsTrail, Forces}
@@ -35,13 +36,13 @@ abbrev pub unit_told : Search → ℕ → ℤ → List Entry → Entry → List 
 unit_told s n z newer e older = record (told s (Step (Clause n (z ∷ [])))) { trail = newer ++ rests_on e n ∷ older }
 
 pub unit_rests_keeps : (formula : Problem) (parities : List (List Literal)) (s : Search) → IsSearch formula parities s → (n : ℕ) (z : ℤ) (newer older : List Entry) (e : Entry) → s.trail ≡ newer ++ e ∷ older → e.level ≡ 0 → literal z ≡ e.literal
-    → IsAddition formula s.moment.tables.clauses n (z ∷ []) → s.moment.awaits ≡ false → RestOnClauses older → (clause : List Literal) → IsLive s.moment.tables.clauses clause → Forces clause (all_held older) e.literal
+    → IsAddition formula s.moment.tables.clauses n (z ∷ []) → derives_empty_clause (Clause n (z ∷ [])) ≡ false → s.moment.awaits ≡ false → RestOnClauses older → (clause : List Literal) → IsLive s.moment.tables.clauses clause → Forces clause (all_held older) e.literal
     → IsSearch formula parities (unit_told s n z newer e older)
-unit_rests_keeps formula parities s ok n z newer older e same low is a served on_clauses clause live forces =
+unit_rests_keeps formula parities s ok n z newer older e same low is a goes served on_clauses clause live forces =
     let IsRow = IsOfParities formula.variables parities in
     let t : IsTrail s.moment.tables.clauses IsRow (newer ++ e ∷ older) = subst (IsTrail s.moment.tables.clauses IsRow) same ok.serves.stands in
     let here : has_literal (held 0 (newer ++ e ∷ older)) e.literal ≡ true = held_there 0 newer older e (omega (arith, low)) in
-    let ok1 = unit_keeps formula parities s ok n z older clause a served (trail_part s.moment.tables.clauses IsRow newer older e t)
+    let ok1 = unit_keeps formula parities s ok n z older clause a goes served (trail_part s.moment.tables.clauses IsRow newer older e t)
     (record { level_0 = ap (λ es. has_literal (held 0 es) (literal z)) same ∙ ap (has_literal (held 0 (newer ++ e ∷ older))) is ∙ here; on_clauses = on_clauses; live = live; forces = subst (Forces clause (all_held older)) (sym is) forces }) in
     let after = (told s (Step (Clause n (z ∷ [])))).moment.tables.clauses in
     let put : get after n ≡ Some (e.literal ∷ []) =

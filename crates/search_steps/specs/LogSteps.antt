@@ -8,9 +8,11 @@ use Rattle.cx_semantics.specs.Chain.{has_literal}
 use Rattle.cx_semantics.specs.Fresh.{IsLive}
 use Rattle.cx_semantics.specs.Implied.{Implies}
 use Rattle.cx_semantics.specs.Integers.{literals}
-use Rattle.cx_semantics.specs.LogRules.{AreLive}
+use Rattle.cx_semantics.specs.LogRules.{AreLive, derives_empty_clause, log_calculus}
+use Rattle.cx_semantics.specs.LogText.{steps_of}
+use Rattle.cx_semantics.specs.Judging.{AcceptedAt}
 use Rattle.cx_semantics.specs.Marked.{is_among}
-use Rattle.cx_semantics.specs.ProofRules.{IsSum, is_empty}
+use Rattle.cx_semantics.specs.ProofRules.{IsSum}
 use Rattle.cx_semantics.specs.declared.steps.LogEvent.{LogEvent}
 use Rattle.cx_semantics.specs.declared.steps.LogEvent.TheVariants.{Step}
 use Rattle.cx_semantics.specs.declared.steps.LogStep.TheVariants.{Parity, ClauseOfParity, DeleteParity, Delete}
@@ -60,14 +62,14 @@ abbrev pub all_told : Search → List LogEvent → Search
 all_told s [] = s
 all_told s (event ∷ events) = all_told (told s event) events
 
--- what these steps ask: free ids, the sum's above the engine's parities, a row of the engine and its clause, which has a literal
+-- what these steps ask: free ids, the sum's above the engine's parities, a row of the engine and its clause, which does not end the log
 pub record IsRowReason (formula : Problem) (parities : List (List Literal)) (s : Search) (k : ℕ) (rs : List ℤ) (ids : List ℕ) (n : ℕ) (zs : List ℤ) : Type 0 where
   pub high : length parities < k
   pub row_step : IsAddition formula s.moment.tables.parities k rs
   pub row : IsRowOf parities s.moment.tables ids (literals rs)
   pub clause_step : IsAddition formula s.moment.tables.clauses n zs
   pub clause : IsClauseOfRow formula.variables (literals rs) (literals zs)
-  pub not_empty : IsFalse (is_empty zs)
+  pub goes_on : IsFalse (derives_empty_clause (ClauseOfParity n zs k))
 
 -- no entry rests on the clause of the id
 abbrev pub IsNoReason : ℕ → List Entry → Type 0
@@ -82,3 +84,7 @@ AreTemporary formula s ids = AllByRecursion (λ n. (length (clauses_of formula.c
 abbrev pub deleted : Search → List ℕ → Search
 deleted s [] = s
 deleted s (n ∷ ids) = deleted (told s (Step (Delete n []))) ids
+
+-- the steps are right, and the last one ends the log
+abbrev pub IsEnded : Problem → List LogEvent → Type 0
+IsEnded formula events = AcceptedAt (log_calculus formula) (steps_of events) (length (steps_of events))
