@@ -18,3 +18,5 @@ pub mod Deletions
 pub mod Bridge
 pub mod LearnedLaws
 pub mod Ends
+pub mod CodeSteps
+pub mod Stored
