@@ -20,3 +20,4 @@ pub mod LearnedLaws
 pub mod Ends
 pub mod CodeSteps
 pub mod Stored
+pub mod IdLaws

@@ -154,6 +154,7 @@ module _ (formula : Problem) (taken : List Constraint) (s : Search) (b : IsBegun
         no_trail = b.no_trail;
         no_level = b.no_level;
         no_conflict = b.no_conflict;
+        no_learned = b.no_learned;
         tidy = record { served = b.tidy.served; no_old_clauses = b.tidy.no_old_clauses; no_new_clauses = b.tidy.no_new_clauses; no_old_sums = b.tidy.no_old_sums; no_new_sums = b.tidy.no_new_sums; levels = b.tidy.levels };
       }
 
@@ -178,6 +179,7 @@ module _ (formula : Problem) (taken : List Constraint) (s : Search) (b : IsBegun
         no_trail = b.no_trail;
         no_level = b.no_level;
         no_conflict = b.no_conflict;
+        no_learned = b.no_learned;
         tidy = record { served = b.tidy.served; no_old_clauses = b.tidy.no_old_clauses; no_new_clauses = b.tidy.no_new_clauses; no_old_sums = b.tidy.no_old_sums; no_new_sums = b.tidy.no_new_sums; levels = b.tidy.levels };
       }
 
@@ -194,6 +196,7 @@ nothing_is_begun formula = record {
   no_trail = refl;
   no_level = refl;
   no_conflict = refl;
+  no_learned = refl;
   tidy = record { served = refl; no_old_clauses = refl; no_new_clauses = refl; no_old_sums = refl; no_new_sums = refl; levels = refl };
 }
 

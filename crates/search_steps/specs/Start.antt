@@ -30,4 +30,5 @@ pub record IsBegun (formula : Problem) (taken : List Constraint) (s : Search) : 
   pub no_trail : s.trail ≡ []
   pub no_level : s.quiet_levels ≡ 0
   pub no_conflict : s.conflicts ≡ 0
+  pub no_learned : s.moment.learned ≡ []
   pub tidy : IsTidy s
