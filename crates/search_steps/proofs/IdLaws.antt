@@ -7,17 +7,18 @@ use Rattle.cx_base.specs.Literals.{Literal}
 use Rattle.cx_base.specs.Problem.{Problem, clauses_of}
 use Rattle.cx_semantics.specs.declared.steps.LogStep.TheVariants.{Clause, Parity, ClauseOfParity, DeleteParity, Delete}
 use Rattle.cx_semantics.specs.declared.steps.LogEvent.TheVariants.{Step, Conflict}
+use Rattle.cx_semantics.specs.Integers.{literals}
+use Rattle.cx_semantics.specs.LogRules.{HasChain, derives_empty_clause}
 use Rattle.cx_semantics.specs.Marked.{Moment, after_event, is_among, without}
 use Rattle.cx_semantics.specs.Tables.{Table, get}
 use Rattle.cx_semantics.proofs.Lookups.{Looks-insert, Looks-remove}
-use Rattle.search_steps.specs.Trail.{Entry, Why, decided, by_clause, by_row, back_to}
-use Rattle.search_steps.specs.Search.{Search, told, marked, decided_on, forced_on, jumped}
-use Rattle.search_steps.specs.LogSteps.{IsNoReason, AreTemporary, row_events, all_told, deleted}
+use Rattle.search_steps.specs.Trail.{Entry, rests_on, decided, by_clause, by_row, back_to, level_of}
+use Rattle.search_steps.specs.Search.{Search, IsSearch, IsServed, IsLearnedOf, told, marked, decided_on, forced_on, jumped}
+use Rattle.search_steps.specs.LogSteps.{IsNoReason, IsAddition, AreTemporary, row_events, all_told, deleted, after_learned, after_round}
 use Rattle.search_steps.specs.Start.{IsBegun}
 use Rattle.search_steps.specs.Ids.{ReasonsBelow, AreRowIds, IsRanged, HasFreeSums}
 use Rattle.search_steps.proofs.Sets.{by_cases, not_both}
-use Rattle.search_steps.proofs.UnitLaws.{rests_on}
-use Rattle.search_steps.proofs.Rounds.{deleted_trail}
+use Rattle.search_steps.proofs.Rounds.{round_keeps, round_clears_old, round_clears_new}
 
 -- ---- ids of the two ranges differ
 pub high_is_no_reason : (bound n : ℕ) (es : List Entry) → bound ≤ n → ReasonsBelow bound es → IsNoReason n es
@@ -235,6 +236,29 @@ module _ (formula : Problem) (bound next row_next : ℕ) where
 -- the sum's id is free again behind them
 pub row_reason_frees_sum : (count : ℕ) (s : Search) (k : ℕ) (rs : List ℤ) (ids : List ℕ) (n : ℕ) (zs : List ℤ) → HasFreeSums count s.moment → HasFreeSums count (all_told s (row_events k rs ids n zs)).moment
 row_reason_frees_sum count s k rs ids n zs f m h = get_gone (told s (Step (Parity k rs ids))).moment.tables.parities k m (λ apart. get_other s.moment.tables.parities k m _ apart (f m h))
+
+-- ---- a whole conflict
+module _ (formula : Problem) (bound next row_next : ℕ) (s : Search) (i : IsRanged formula bound next row_next s.trail s.moment) (n : ℕ) (zs : List ℤ) (back : ℕ) (low : next ≤ n) (high : n < bound) where
+  learned_ranged : IsRanged formula bound (n + 1) row_next (after_learned s n zs back).trail (after_learned s n zs back).moment
+  learned_ranged = clause_ranged formula bound next row_next (marked s) (mark_ranged formula bound next row_next s i) n zs low high
+
+  -- the clauses of rows go, so their ids begin anew
+  pub round_ranged : (l : Literal) → s.moment.old_clauses ≡ [] → IsRanged formula bound (n + 1) bound (after_round s n zs back l).trail (after_round s n zs back l).moment
+  round_ranged l none =
+      let s1 = after_learned s n zs back in
+      let s2 = deleted s1 s.moment.new_clauses in
+      let s3 = jumped s2 back in
+      let r2 = deletions_ranged formula bound (n + 1) row_next s1 s.moment.new_clauses learned_ranged in
+      let r3 = jump_ranged formula bound (n + 1) row_next s2 r2 back in
+      let r4 = force_ranged formula bound (n + 1) row_next s3 r3 l n high in
+      anew_ranged formula bound (n + 1) row_next (after_round s n zs back l) r4 (round_clears_new s n zs back l) (round_clears_old s n zs back l none)
+
+  -- so with ranges a round asks nothing more of ids
+  pub ranged_round_keeps : (parities : List (List Literal)) → IsSearch formula parities s → (l : Literal) → IsServed s → s.quiet_levels ≡ level_of s.trail → IsAddition formula s.moment.tables.clauses n zs
+      → derives_empty_clause (Clause n zs) ≡ false → HasChain s.moment.tables.clauses (literals zs) → IsLearnedOf s.trail back (literals zs) l → IsSearch formula parities (after_round s n zs back l)
+  ranged_round_keeps parities ok l served levels a goes has_chain learned = round_keeps formula parities s ok n zs back l served levels a goes has_chain learned
+      (row_ids_are_temporary formula bound (n + 1) row_next (after_learned s n zs back) learned_ranged s.moment.new_clauses i.new_rows)
+      (low_is_no_row formula bound next row_next s i n high)
 
 -- ---- at the start
 pub begun_is_ranged : (formula : Problem) (bound : ℕ) (s : Search) → length (clauses_of formula.constraints) < bound → IsBegun formula formula.constraints s

@@ -3,11 +3,8 @@ use Rattle.std.proofs.Common.{◌≡◌, refl, sym, ap, ◌∙◌, subst, ℕ, s
 use Rattle.cx_base.specs.Literals.{Literal, same_literal}
 use Rattle.cx_semantics.specs.Tables.{Table, get}
 use Rattle.cx_semantics.proofs.ChainLaws.{same_literal-itself}
-use Rattle.search_steps.specs.Trail.{Entry, Why, decided, by_clause, by_row, held, all_held, level_of, IsTrail, Stands, Forces}
+use Rattle.search_steps.specs.Trail.{Entry, rests_on, Why, decided, by_clause, by_row, held, all_held, level_of, IsTrail, Stands, Forces}
 use Rattle.search_steps.proofs.Sets.{has_split, has_at_head, not_both}
-
-abbrev pub rests_on : Entry → ℕ → Entry
-rests_on e n = record e { why = by_clause n }
 
 all_same : (newer older : List Entry) (e : Entry) (n : ℕ) → all_held (newer ++ rests_on e n ∷ older) ≡ all_held (newer ++ e ∷ older)
 all_same [] older e n = refl

@@ -11,13 +11,13 @@ use Rattle.cx_semantics.specs.Integers.{literal}
 use Rattle.cx_semantics.specs.LogRules.{derives_empty_clause}
 use Rattle.cx_semantics.specs.Tables.{Table, get}
 use Rattle.cx_semantics.proofs.Lookups.{Looks-insert}
-use Rattle.search_steps.specs.Trail.{Entry, held, all_held, IsTrail, Forces}
-use Rattle.search_steps.specs.Quiet.{HasNoClash, Quiet, ClausesQuiet, HasTrue, HasTwoOpen, IsOfParities}
+use Rattle.search_steps.specs.Trail.{Entry, rests_on, held, all_held, IsTrail, Forces}
+use Rattle.search_steps.specs.Quiet.{HasNoClash, Quiet, ClausesQuiet, HasTrue, HasTwoOpen, IsOfParities, IsWatchedWell}
 use Rattle.search_steps.specs.Search.{Search, IsSearch, told}
-use Rattle.search_steps.specs.LogSteps.{IsAddition, RestOnClauses}
+use Rattle.search_steps.specs.LogSteps.{IsAddition, RestOnClauses, unit_told}
 use Rattle.search_steps.proofs.Sets.{true_rests, two_open_rests, tautology_rests, has_at_head, has_behind}
 use Rattle.search_steps.proofs.LogLaws.{unit_keeps}
-use Rattle.search_steps.proofs.UnitLaws.{rests_on, held_same, trail_rests_on}
+use Rattle.search_steps.proofs.UnitLaws.{held_same, trail_rests_on}
 
 trail_part : (table : Table) (IsRow : List Literal → Type 0) (newer older : List Entry) (e : Entry) → IsTrail table IsRow (newer ++ e ∷ older) → IsTrail table IsRow older
 trail_part table IsRow [] older e t = t.2
@@ -30,10 +30,6 @@ held_there k (x ∷ newer) older e h = go (nat_le x.level k) (held_there k newer
     go : (b : Bool) → has_literal (held k (newer ++ e ∷ older)) e.literal ≡ true → has_literal (cond b (x.literal ∷ held k (newer ++ e ∷ older)) (held k (newer ++ e ∷ older))) e.literal ≡ true
     go true r = has_behind x.literal (held k (newer ++ e ∷ older)) e.literal r
     go false r = r
-
--- the search after the unit clause of an entry of level 0
-abbrev pub unit_told : Search → ℕ → ℤ → List Entry → Entry → List Entry → Search
-unit_told s n z newer e older = record (told s (Step (Clause n (z ∷ [])))) { trail = newer ++ rests_on e n ∷ older }
 
 pub unit_rests_keeps : (formula : Problem) (parities : List (List Literal)) (s : Search) → IsSearch formula parities s → (n : ℕ) (z : ℤ) (newer older : List Entry) (e : Entry) → s.trail ≡ newer ++ e ∷ older → e.level ≡ 0 → literal z ≡ e.literal
     → IsAddition formula s.moment.tables.clauses n (z ∷ []) → derives_empty_clause (Clause n (z ∷ [])) ≡ false → s.moment.awaits ≡ false → RestOnClauses older → (clause : List Literal) → IsLive s.moment.tables.clauses clause → Forces clause (all_held older) e.literal
@@ -59,10 +55,6 @@ unit_rests_keeps formula parities s ok n z newer older e same low is a goes serv
     }
 
 -- ---- quiet from what the watches answer
--- each live clause has a true literal, two different open ones, or a literal with its negation
-abbrev pub IsWatchedWell : List Literal → List Literal → Type 0
-IsWatchedWell known clause = HasTrue known clause ⊎ (HasTwoOpen known clause ⊎ ((l : Literal) × (has_literal clause l ≡ true) × (has_literal clause (negate l) ≡ true)))
-
 pub watched_quiet : (table : Table) (known : List Literal) → HasNoClash known → ((clause : List Literal) → IsLive table clause → IsWatchedWell known clause) → ClausesQuiet table known
 watched_quiet table known clash h clause live = elim (h clause live) [
   | inl t ↦ true_rests known clause clash t

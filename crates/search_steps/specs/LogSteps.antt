@@ -1,5 +1,5 @@
 -- What the search tells its log, and when.
-use Rattle.std.specs.Prelude.{◌≡◌, ℕ, ◌<◌, ℤ, nat_abs, nat_lt, false, List, [], ◌∷◌, length, None, IsTrue, IsFalse, Contains, ⊤}
+use Rattle.std.specs.Prelude.{◌≡◌, ℕ, ◌<◌, ℤ, nat_abs, nat_lt, false, List, [], ◌∷◌, ◌++◌, length, None, IsTrue, IsFalse, Contains, ⊤}
 use Rattle.std.specs.List.{list_any, AllByRecursion}
 use Rattle.cx_base.specs.Literals.{Literal}
 use Rattle.cx_base.specs.Parity.{normal_form, HasOneOfEach}
@@ -15,10 +15,10 @@ use Rattle.cx_semantics.specs.Marked.{is_among}
 use Rattle.cx_semantics.specs.ProofRules.{IsSum}
 use Rattle.cx_semantics.specs.declared.steps.LogEvent.{LogEvent}
 use Rattle.cx_semantics.specs.declared.steps.LogEvent.TheVariants.{Step}
-use Rattle.cx_semantics.specs.declared.steps.LogStep.TheVariants.{Parity, ClauseOfParity, DeleteParity, Delete}
+use Rattle.cx_semantics.specs.declared.steps.LogStep.TheVariants.{Clause, Parity, ClauseOfParity, DeleteParity, Delete}
 use Rattle.cx_semantics.specs.Tables.{Table, Tables, get, named}
-use Rattle.search_steps.specs.Trail.{Entry, by_clause, held, all_held, Forces}
-use Rattle.search_steps.specs.Search.{Search, told}
+use Rattle.search_steps.specs.Trail.{Entry, rests_on, by_clause, held, all_held, Forces}
+use Rattle.search_steps.specs.Search.{Search, told, marked, jumped, forced_on}
 
 -- the variables of the step's integers are the formula's, and its id is free
 pub record IsAddition (formula : Problem) (table : Table) (n : ℕ) (zs : List ℤ) : Type 0 where
@@ -88,3 +88,15 @@ deleted s (n ∷ ids) = deleted (told s (Step (Delete n []))) ids
 -- the steps are right, and the last one ends the log
 abbrev pub IsEnded : Problem → List LogEvent → Type 0
 IsEnded formula events = AcceptedAt (log_calculus formula) (steps_of events) (length (steps_of events))
+
+-- the search after the unit clause of an entry of level 0, which is its reason from then on
+abbrev pub unit_told : Search → ℕ → ℤ → List Entry → Entry → List Entry → Search
+unit_told s n z newer e older = record (told s (Step (Clause n (z ∷ [])))) { trail = newer ++ rests_on e n ∷ older }
+
+-- the search after a counted conflict and its clause
+abbrev pub after_learned : Search → ℕ → List ℤ → ℕ → Search
+after_learned s n zs back = record (told (marked s) (Step (Clause n zs))) { quiet_levels = back }
+
+-- and after the deletion of the clauses of rows, the jump back, and the literal that the clause forces
+abbrev pub after_round : Search → ℕ → List ℤ → ℕ → Literal → Search
+after_round s n zs back l = forced_on (jumped (deleted (after_learned s n zs back) s.moment.new_clauses) back) l (by_clause n)

@@ -1,5 +1,5 @@
 -- When nothing more follows from the live clauses and the parities.
-use Rattle.std.specs.Prelude.{◌≡◌, ℕ, ◌≤◌, ◌<◌, List, IsTrue, IsFalse}
+use Rattle.std.specs.Prelude.{◌≡◌, ℕ, ◌≤◌, ◌<◌, List, IsTrue, IsFalse, ◌⊎◌}
 use Rattle.std.specs.List.{list_all}
 use Rattle.cx_base.specs.Literals.{Literal, negate, same_literal}
 use Rattle.cx_base.specs.Problem.{clause_met, parity_met, AreWithin}
@@ -34,6 +34,10 @@ pub record HasTwoOpen (known clause : List Literal) : Type 0 where
   pub apart : IsFalse (same_literal l m)
   pub open_l : IsFalse (has_literal known (negate l))
   pub open_m : IsFalse (has_literal known (negate m))
+
+-- a literal of the clause is held, two different ones are not false, or one stands beside its negation
+abbrev pub IsWatchedWell : List Literal → List Literal → Type 0
+IsWatchedWell known clause = HasTrue known clause ⊎ (HasTwoOpen known clause ⊎ ((l : Literal) × IsTrue (has_literal clause l) × IsTrue (has_literal clause (negate l))))
 
 -- the parities imply the clause, which has variables up to n
 pub record IsOfParities (n : ℕ) (parities : List (List Literal)) (clause : List Literal) : Type 0 where
