@@ -21,3 +21,4 @@ pub mod Ends
 pub mod CodeSteps
 pub mod Stored
 pub mod IdLaws
+pub mod OverSearch

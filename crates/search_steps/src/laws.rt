@@ -1,0 +1,287 @@
+//! The laws of the search's steps. Each function's contract is the law, and its body is empty.
+ghost use Rattle.search_steps.specs.Laws.{AnswersHold, AssignedValuesHold, BegunIsRanged, BegunIsSearch, ChainedClausesEnd, ClauseConflictsAreNow, ClauseStepsKeep, DecisionsKeep, DeletionsKeep, EndedIsUnmet, FalsifiedHasChain, FreshEnginesHold, FullIsMet, ImpliedClausesRest, JumpsKeep, JumpsStayTied, KnownIsTrue, LargerClausesRest, LastStepsEnd, LaterEntriesGo, LearnedClausesKeep, LearnedDeletionsKeep, LearnedHasChain, MarksKeep, NewLevelsHold, NextIdsAreFree, NoValueIsOpen, NothingIsBegun, OpenHasNoValue, OriginalClausesAreTold, OriginalParitiesAreTold, RecoveredParitiesJoin, RoundsKeep, RoundsKeepRanges, RoundsLeaveNothing, RowClausesEnd, RowClausesKeep, RowConflictsAreNow, RowIdsAreTemporary, RowReasonsKeep, RowStepsKeep, RowsAreOfParities, SearchesAreOpen, SettledWantsNoDecision, SilentIsQuiet, StoredForces, StoredIsFalse, StoredRests, SumDeletionsKeep, SumsAreFreeAgain, SumsKeep, TaughtIsLearned, ToldStepsKeepRanges, TrailStepsKeepRanges, UnitsKeep, ValuesTakenBackHold, WatchedIsQuiet};
+
+/// At the start nothing is told.
+pub fn nothing_is_begun()
+    ensures { NothingIsBegun }
+{}
+
+/// The next clause of the formula is told under the next id.
+pub fn original_clauses_are_told()
+    ensures { OriginalClausesAreTold }
+{}
+
+/// The next parity of the formula is told under the next id of its own.
+pub fn original_parities_are_told()
+    ensures { OriginalParitiesAreTold }
+{}
+
+/// Behind the last constraint the search holds, with the parities of the formula.
+pub fn begun_is_search()
+    ensures { BegunIsSearch }
+{}
+
+/// A recovered parity joins the engine's, before the first decision.
+pub fn recovered_parities_join()
+    ensures { RecoveredParitiesJoin }
+{}
+
+/// A literal that a live clause forces.
+pub fn clause_steps_keep()
+    ensures { ClauseStepsKeep }
+{}
+
+/// A literal that a clause of the parities forces.
+pub fn row_steps_keep()
+    ensures { RowStepsKeep }
+{}
+
+/// A decision, where both engines are quiet.
+pub fn decisions_keep()
+    ensures { DecisionsKeep }
+{}
+
+/// A jump back to a level up to which all levels are quiet.
+pub fn jumps_keep()
+    ensures { JumpsKeep }
+{}
+
+/// After a jump back the code's trail is that of the calculus.
+pub fn jumps_stay_tied()
+    ensures { JumpsStayTied }
+{}
+
+/// The three steps of the reason that a row gave.
+pub fn row_reasons_keep()
+    ensures { RowReasonsKeep }
+{}
+
+/// The sum of parities of the engine.
+pub fn sums_keep()
+    ensures { SumsKeep }
+{}
+
+/// The clause of a row, where the sum of the row is live.
+pub fn row_clauses_keep()
+    ensures { RowClausesKeep }
+{}
+
+/// The deletion of a sum, whose id is above the engine's parities.
+pub fn sum_deletions_keep()
+    ensures { SumDeletionsKeep }
+{}
+
+/// The unit clause of a literal of level 0, which rests on it from then on.
+pub fn units_keep()
+    ensures { UnitsKeep }
+{}
+
+/// The mark of a counted conflict.
+pub fn marks_keep()
+    ensures { MarksKeep }
+{}
+
+/// The learned clause, where one is owed.
+pub fn learned_clauses_keep()
+    ensures { LearnedClausesKeep }
+{}
+
+/// The deletion of clauses that are temporary, one after another.
+pub fn deletions_keep()
+    ensures { DeletionsKeep }
+{}
+
+/// The deletion of a learned clause that is no reason, where enough are left.
+pub fn learned_deletions_keep()
+    ensures { LearnedDeletionsKeep }
+{}
+
+/// A whole conflict: the mark, the learned clause, the deletions, the jump back, and the literal that the clause forces.
+pub fn rounds_keep()
+    ensures { RoundsKeep }
+{}
+
+/// Behind it no clause of a row is left.
+pub fn rounds_leave_nothing()
+    ensures { RoundsLeaveNothing }
+{}
+
+/// The clause that an analysis answers is learned, asserting by its first literal.
+pub fn taught_is_learned()
+    ensures { TaughtIsLearned }
+{}
+
+/// It has a right chain, where the conflict and the clauses that the source holds have the literals of live ones.
+pub fn learned_has_chain()
+    ensures { LearnedHasChain }
+{}
+
+/// Above level 0 a clause with the literals of a live one has a literal that is false at the current level or not at all.
+pub fn clause_conflicts_are_now()
+    ensures { ClauseConflictsAreNow }
+{}
+
+/// So has a clause that the parities imply.
+pub fn row_conflicts_are_now()
+    ensures { RowConflictsAreNow }
+{}
+
+/// The clause of a row of the engine is one that the parities imply.
+pub fn rows_are_of_parities()
+    ensures { RowsAreOfParities }
+{}
+
+/// Where the steps are right and the last one ends the log, no values meet the formula.
+pub fn ended_is_unmet()
+    ensures { EndedIsUnmet }
+{}
+
+/// A right step that ends the log ends it.
+pub fn last_steps_end()
+    ensures { LastStepsEnd }
+{}
+
+/// So does a clause by a right chain, and where no clause is owed the marks are as before.
+pub fn chained_clauses_end()
+    ensures { ChainedClausesEnd }
+{}
+
+/// And the clause of a row, where its sum is live.
+pub fn row_clauses_end()
+    ensures { RowClausesEnd }
+{}
+
+/// A live clause that is false by older entries, which all rest on live clauses, gives the empty clause a right chain.
+pub fn falsified_has_chain()
+    ensures { FalsifiedHasChain }
+{}
+
+/// While no clause is owed the log is open, and marked once for each conflict.
+pub fn searches_are_open()
+    ensures { SearchesAreOpen }
+{}
+
+/// Where both engines are quiet and all is decided, the values of the trail meet the formula.
+pub fn full_is_met()
+    ensures { FullIsMet }
+{}
+
+/// Where both engines are quiet over a settled formula, all is decided.
+pub fn settled_wants_no_decision()
+    ensures { SettledWantsNoDecision }
+{}
+
+/// Live clauses that each have a true literal, two open ones or a literal with its negation are quiet.
+pub fn watched_is_quiet()
+    ensures { WatchedIsQuiet }
+{}
+
+/// A clause rests where a stored list with the same literals has a true one or two open ones.
+pub fn stored_rests()
+    ensures { StoredRests }
+{}
+
+/// It forces what the stored list forces.
+pub fn stored_forces()
+    ensures { StoredForces }
+{}
+
+/// It is false where each literal of the stored list is.
+pub fn stored_is_false()
+    ensures { StoredIsFalse }
+{}
+
+/// A clause rests where one inside it does.
+pub fn larger_clauses_rest()
+    ensures { LargerClausesRest }
+{}
+
+/// So does each clause that quiet parities imply.
+pub fn implied_clauses_rest()
+    ensures { ImpliedClausesRest }
+{}
+
+/// Where the engine is silent, the parities are quiet over the trail.
+pub fn silent_is_quiet()
+    ensures { SilentIsQuiet }
+{}
+
+/// A fresh engine holds the values of an empty trail.
+pub fn fresh_engines_hold()
+    ensures { FreshEnginesHold }
+{}
+
+/// The literal of the next entry is assigned.
+pub fn assigned_values_hold()
+    ensures { AssignedValuesHold }
+{}
+
+/// A level is opened.
+pub fn new_levels_hold()
+    ensures { NewLevelsHold }
+{}
+
+/// An event is answered.
+pub fn answers_hold()
+    ensures { AnswersHold }
+{}
+
+/// Levels are taken back.
+pub fn values_taken_back_hold()
+    ensures { ValuesTakenBackHold }
+{}
+
+/// Newer entries above a level do not count in a jump back to it.
+pub fn later_entries_go()
+    ensures { LaterEntriesGo }
+{}
+
+/// What the engine knows is true on the code's trail, which may have newer entries.
+pub fn known_is_true()
+    ensures { KnownIsTrue }
+{}
+
+/// An unassigned literal has no value.
+pub fn open_has_no_value()
+    ensures { OpenHasNoValue }
+{}
+
+/// A variable without a value is open on the code's trail.
+pub fn no_value_is_open()
+    ensures { NoValueIsOpen }
+{}
+
+/// They stand at the start.
+pub fn begun_is_ranged()
+    ensures { BegunIsRanged }
+{}
+
+/// Steps of the trail keep them.
+pub fn trail_steps_keep_ranges()
+    ensures { TrailStepsKeepRanges }
+{}
+
+/// Steps that are told keep them: a clause for good, the reason of a row, deletions, a mark.
+pub fn told_steps_keep_ranges()
+    ensures { ToldStepsKeepRanges }
+{}
+
+/// A whole conflict keeps them, and the ids of rows begin anew.
+pub fn rounds_keep_ranges()
+    ensures { RoundsKeepRanges }
+{}
+
+/// The next ids are free.
+pub fn next_ids_are_free()
+    ensures { NextIdsAreFree }
+{}
+
+/// Clauses of rows may go: none is a reason, and none is learned.
+pub fn row_ids_are_temporary()
+    ensures { RowIdsAreTemporary }
+{}
+
+/// Behind the reason of a row the id of its sum is free again.
+pub fn sums_are_free_again()
+    ensures { SumsAreFreeAgain }
+{}
