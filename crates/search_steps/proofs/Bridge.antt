@@ -1,13 +1,12 @@
 -- The trail of the code holds what the trail of the calculus holds, at the same levels.
-use Rattle.std.proofs.Common.{◌≡◌, ◌≢◌, refl, sym, ap, ◌∙◌, subst, ℕ, zero, suc, ◌+◌, ◌-◌, ◌<◌, ◌≤◌, nat_le, nat_eq, Bool, true, false, cond, List, [], ◌∷◌, ◌++◌, length, ◌⊎◌, inl, inr, eqb-true, arith, length-append}
+use Rattle.std.proofs.Common.{◌≡◌, ◌≢◌, refl, sym, ap, ◌∙◌, subst, ℕ, zero, suc, ◌+◌, ◌-◌, ◌<◌, ◌≤◌, nat_le, nat_eq, Bool, true, false, cond, not, List, [], ◌∷◌, ◌++◌, length, ◌⊎◌, inl, inr, eqb-true, arith, length-append}
 use Rattle.std.proofs.lemmas.Bool.{le-leb, lt-leb, eqb-false}
 use Rattle.cx_base.specs.Literals.{Literal, negate}
 use Rattle.cx_semantics.specs.Chain.{has_literal}
 use Rattle.cx_semantics.specs.Tables.{Table}
-use Rattle.cx_semantics.proofs.ChainLaws.{negate-negate, are_one}
 use Rattle.cx_semantics.proofs.Closure.{has_by_inside}
 use Rattle.cx_trail.specs.declared.entry.Entry.{Entry as TrailEntry}
-use Rattle.cx_trail.specs.Sequence.{TrailState, entry_at, IsTrueIn, IsFalseIn, IsOpenIn, IsTrail as IsCodeTrail}
+use Rattle.cx_trail.specs.Sequence.{TrailState, entry_at, IsTrueIn, IsOpenIn, IsTrail as IsCodeTrail}
 use Rattle.search_steps.specs.Trail.{Entry, held, all_held, level_of, IsTrail, IsUnassigned}
 use Rattle.search_steps.specs.Tied.{IsTied}
 use Rattle.search_steps.proofs.Sets.{by_cases, not_both, has_at_head, has_behind, has_split}
@@ -105,6 +104,15 @@ open_is_unassigned es entries t l is_open = (none l refl, none (negate l) refl)
     none m same = by_cases (has_literal (all_held es) m)
         (λ h. let r = held_is_true es entries t m h in absurd (is_open r.0 r.1.0 (ap (λ x. x.variable) r.1.1 ∙ same)))
         (λ e. e)
+
+pub unassigned_is_open : (es : List Entry) (entries : List TrailEntry) → IsTied es entries → (l : Literal) → IsUnassigned (all_held es) l → IsOpenIn entries l.variable
+unassigned_is_open es entries t l none p less same = one_of (entry_at entries p).literal (true_is_held es entries t (entry_at entries p).literal (p, (less, refl))) same (entry_at entries p).literal.negative l.negative refl refl
+  where
+    one_of : (x : Literal) → has_literal (all_held es) x ≡ true → x.variable ≡ l.variable → (a b : Bool) → x.negative ≡ a → l.negative ≡ b → ⊥
+    one_of x h v true true e f = let is : x ≡ l = (λ i. record { variable = v i; negative = (e ∙ sym f) i }) in not_both (has_literal (all_held es) l) (ap (has_literal (all_held es)) (sym is) ∙ h) none.0
+    one_of x h v false false e f = let is : x ≡ l = (λ i. record { variable = v i; negative = (e ∙ sym f) i }) in not_both (has_literal (all_held es) l) (ap (has_literal (all_held es)) (sym is) ∙ h) none.0
+    one_of x h v true false e f = let is : x ≡ negate l = (λ i. record { variable = v i; negative = (e ∙ sym (ap not f)) i }) in not_both (has_literal (all_held es) (negate l)) (ap (has_literal (all_held es)) (sym is) ∙ h) none.1
+    one_of x h v false true e f = let is : x ≡ negate l = (λ i. record { variable = v i; negative = (e ∙ sym (ap not f)) i }) in not_both (has_literal (all_held es) (negate l)) (ap (has_literal (all_held es)) (sym is) ∙ h) none.1
 
 -- ---- levels
 pub level_tied : (es : List Entry) (t : TrailState) → IsTied es t.entries → IsCodeTrail t → level_of es ≡ t.level

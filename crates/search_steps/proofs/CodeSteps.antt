@@ -1,6 +1,6 @@
 -- The steps of the trail, said of the code's trail.
-use Rattle.std.proofs.Common.{◌≡◌, refl, sym, ap, ◌∙◌, subst, ℕ, suc, ◌+◌, ◌-◌, ◌<◌, ◌≤◌, nat_le, Bool, true, false, cond, ◌&&◌, List, [], ◌∷◌, ◌++◌, length, Some, ◌⊎◌, inl, inr, arith, true≢false}
-use Rattle.std.proofs.lemmas.Bool.{leb-true, leb-false, le-leb, lt-leb}
+use Rattle.std.proofs.Common.{◌≡◌, refl, sym, ap, ◌∙◌, subst, ℕ, suc, ◌+◌, ◌-◌, ◌<◌, ◌≤◌, nat_le, true, false, cond, ◌&&◌, List, [], ◌∷◌, ◌++◌, length, Some, ◌⊎◌, inl, inr, arith, true≢false}
+use Rattle.std.proofs.lemmas.Bool.{leb-true, leb-false}
 use Rattle.cx_base.specs.Literals.{Literal, negate}
 use Rattle.cx_base.specs.Problem.{Problem}
 use Rattle.cx_semantics.specs.Chain.{has_literal, is_inside}
@@ -10,12 +10,12 @@ use Rattle.cx_semantics.proofs.ChainLaws.{and_parts}
 use Rattle.cx_semantics.proofs.Closure.{has_by_inside}
 use Rattle.cx_trail.specs.declared.entry.Entry.{Entry as TrailEntry}
 use Rattle.cx_trail.specs.declared.entry.Reason.{Reason}
-use Rattle.cx_trail.specs.Sequence.{TrailState, TakesBack, entry_at, no_entry, pushed, IsFalseIn, IsOpenIn}
+use Rattle.cx_trail.specs.Sequence.{TrailState, TakesBack, entry_at, no_entry, pushed, IsOpenIn}
 use Rattle.conflict_learn.specs.Learning.{IsOfLevel}
 use Rattle.search_steps.specs.Trail.{Entry, by_clause, by_row, held, all_held, back_to, level_of, Forces}
 use Rattle.search_steps.specs.Quiet.{Quiet, RestsOn, IsOfParities}
 use Rattle.search_steps.specs.Search.{Search, IsSearch, decided_on, forced_on}
-use Rattle.search_steps.specs.Tied.{IsTied, IsLiveSet, Follows, ForcesOn}
+use Rattle.search_steps.specs.Tied.{IsTied, IsLiveSet, Mirrors, ForcesOn}
 use Rattle.search_steps.proofs.Sets.{by_cases, not_both, has_at_head, has_behind}
 use Rattle.search_steps.proofs.QuietLaws.{implied_rests}
 use Rattle.search_steps.proofs.ServesLaws.{decide_keeps, force_keeps}
@@ -25,7 +25,7 @@ use Rattle.search_steps.proofs.Bridge.{entry_last, length_push, to_held, true_is
 pub forces_by : (es : List Entry) (entries : List TrailEntry) (clause : List Literal) (l : Literal) → IsTied es entries → ForcesOn entries clause l → Forces clause (all_held es) l
 forces_by es entries clause l t f = record { has_it = f.has_it; others_false = λ m h n. true_is_held es entries t (negate m) (f.others_false m h n) }
 
-module _ (formula : Problem) (parities : List (List Literal)) (s : Search) (ok : IsSearch formula parities s) (t : TrailState) (follows : Follows s.trail t) (l : Literal) (reason : Reason) (is_open : IsOpenIn t.entries l.variable) where
+module _ (formula : Problem) (parities : List (List Literal)) (s : Search) (ok : IsSearch formula parities s) (t : TrailState) (follows : Mirrors s.trail t) (l : Literal) (reason : Reason) (is_open : IsOpenIn t.entries l.variable) where
   same_level : level_of s.trail ≡ t.level
   same_level = level_tied s.trail t follows.tied follows.sound
 
@@ -105,9 +105,9 @@ tied_back_by k (e ∷ es) kept dropped low high (before, i, same, lit, lev, t) =
 
     goes : ((d : List TrailEntry) → AllOf (λ v. k < v) d → IsTied es (kept ++ d) → IsTied (back_to k es) kept) → k < e.level → (dropped ≡ []) ⊎ ((d : List TrailEntry) × (dropped ≡ d ++ i ∷ []) × (kept ++ d ≡ before)) → IsTied (back_to k es) kept
     goes rec big (inl none) = absurd (
-      let are : kept ≡ before ++ i ∷ [] = sym (nothing_behind kept) ∙ ap (λ ys. kept ++ ys) (sym none) ∙ same in
-      let below : i.level ≤ k = last_of (λ v. v ≤ k) before i (subst (AllOf (λ v. v ≤ k)) are low) in
-      omega (arith, below, big, lev))
+        let are : kept ≡ before ++ i ∷ [] = sym (nothing_behind kept) ∙ ap (λ ys. kept ++ ys) (sym none) ∙ same in
+        let below : i.level ≤ k = last_of (λ v. v ≤ k) before i (subst (AllOf (λ v. v ≤ k)) are low) in
+        omega (arith, below, big, lev))
     goes rec big (inr (d, are, rest)) = rec d (before_last (λ v. k < v) d i (subst (AllOf (λ v. k < v)) are high)) (subst (IsTied es) (sym rest) t)
 
 pub tied_back : (k : ℕ) (es : List Entry) (old new : TrailState) → TakesBack k old new → IsTied es old.entries → IsTied (back_to k es) new.entries
@@ -122,14 +122,14 @@ open_one u (m ∷ ms) h = by_cases (has_literal u (negate m))
     (λ e. (m, has_at_head m ms, e))
 
 -- a literal that is not yet false one level below is false at the current level, or not at all
-is_now : (es : List Entry) (t : TrailState) → Follows es t → 0 < t.level → (m : Literal) → has_literal (held (t.level - 1) es) (negate m) ≡ false → IsOfLevel t m t.level
+is_now : (es : List Entry) (t : TrailState) → Mirrors es t → 0 < t.level → (m : Literal) → has_literal (held (t.level - 1) es) (negate m) ≡ false → IsOfLevel t m t.level
 is_now es t f above m is_open q within at =
     let top = f.sound.levels q within in
     by_cases (nat_le (entry_at t.entries q).level (t.level - 1))
     (λ e. not_both (has_literal (held (t.level - 1) es) (negate m)) (ap (has_literal (held (t.level - 1) es)) (sym at) ∙ to_held (t.level - 1) es t.entries f.tied q within (leb-true _ _ e)) is_open)
     (λ e. let high = leb-false (entry_at t.entries q).level (t.level - 1) e in omega (arith, high, top, above))
 
-module _ (formula : Problem) (parities : List (List Literal)) (s : Search) (ok : IsSearch formula parities s) (t : TrailState) (follows : Follows s.trail t) (above : 0 < t.level) (levels : s.quiet_levels ≡ t.level) where
+module _ (formula : Problem) (parities : List (List Literal)) (s : Search) (ok : IsSearch formula parities s) (t : TrailState) (follows : Mirrors s.trail t) (above : 0 < t.level) (levels : s.quiet_levels ≡ t.level) where
   below : t.level - 1 < s.quiet_levels
   below = omega (arith, above, levels)
 

@@ -41,5 +41,6 @@ next_deletion formula parities old new step rest e (s, ok, a, (ids, same, tempor
       (ids, tail_is step (Delete n []) rest (map (λ n. Delete n []) ids) same, temporary_still formula s n ids t.1),
     )
 
-pub keep_search : (formula : Problem) (parities : List (List Literal)) (told_events : Option (List LogEvent)) (Fact : Search → Type 0) → Holds formula parities told_events Fact → Holds formula parities told_events (λ s. s.quiet_levels ≡ s.quiet_levels)
-keep_search formula parities told_events Fact (s, ok, a, f) = (s, ok, a, refl)
+-- a fact in place of one that gives it
+pub weaker_holds : (formula : Problem) (parities : List (List Literal)) (events : Option (List LogEvent)) (Fact Other : Search → Type 0) → ((s : Search) → Fact s → Other s) → Holds formula parities events Fact → Holds formula parities events Other
+weaker_holds formula parities events Fact Other gives (s, ok, a, f) = (s, ok, a, gives s f)

@@ -1,28 +1,25 @@
 -- How the search ends: with values, with the empty clause, or with an open log; and a settled formula wants no decision.
-use Rattle.std.proofs.Common.{◌≡◌, refl, sym, ap, ◌∙◌, subst, ℕ, ◌+◌, ◌≤◌, Bool, true, false, not, ◌&&◌, ◌||◌, MatchBool, List, [], ◌∷◌, ◌++◌, length, None, is_some, Contains, filter_map, ◌⊎◌, inl, inr, true≢false}
-use Rattle.std.proofs.lemmas.List.Elements.{filter_map-append}
+use Rattle.std.proofs.Common.{◌≡◌, refl, sym, ap, ◌∙◌, ℕ, ◌≤◌, Bool, true, false, not, ◌&&◌, ◌||◌, List, [], ◌∷◌, length, Contains, filter_map, ◌⊎◌, inl, inr, true≢false}
 use Rattle.std.specs.List.{list_all, AllByRecursion}
 use Rattle.cx_base.specs.Literals.{Literal, negate, literal_true, differ}
 use Rattle.cx_base.specs.Problem.{Problem, Meets, clause_met, parity_met, constraint_met, clauses_of, parities_of, AreWithin, literals_of}
 use Rattle.cx_base.specs.declared.constraint.Constraint.{Constraint}
 use Rattle.cx_base.specs.declared.constraint.Constraint.TheVariants as constraint
 use Rattle.cx_base.proofs.Odd.{parity_met-cons}
-use Rattle.cx_semantics.specs.declared.steps.LogStep.TheVariants.{Clause}
-use Rattle.cx_semantics.specs.declared.steps.LogEvent.TheVariants.{Step}
 use Rattle.cx_semantics.specs.Chain.{has_literal}
 use Rattle.cx_semantics.specs.Fresh.{is_falsified}
-use Rattle.cx_semantics.specs.Judging.{AcceptedAt, IsOpen}
-use Rattle.cx_semantics.specs.LogRules.{log_calculus, HasChain}
+use Rattle.cx_semantics.specs.Judging.{IsOpen}
+use Rattle.cx_semantics.specs.LogRules.{log_calculus}
 use Rattle.cx_semantics.specs.LogText.{step_of}
-use Rattle.cx_semantics.specs.Marked.{Marked, IsLearned, IsKnown}
+use Rattle.cx_semantics.specs.Marked.{Marked}
 use Rattle.cx_semantics.specs.Settled.{IsClauseOf, Decides, IsClosed, SettledBy}
-use Rattle.cx_semantics.specs.Tables.{Table, get}
+use Rattle.cx_semantics.specs.Tables.{Table}
 use Rattle.cx_semantics.proofs.ChainLaws.{and_both, true_by_all, literal_true-negate}
 use Rattle.search_steps.specs.Quiet.{Quiet}
 use Rattle.search_steps.specs.Trail.{all_held}
 use Rattle.search_steps.specs.Search.{Search, IsSearch}
 use Rattle.search_steps.proofs.Sets.{not_both}
-use Rattle.search_steps.proofs.LogLaws.{step_goes_on, here, there}
+use Rattle.search_steps.proofs.LogLaws.{here, there}
 
 -- ---- a settled formula
 -- Where both engines are quiet over a settled formula, each variable is decided; so no decision is made, and no conflict above level 0 comes.

@@ -1,9 +1,8 @@
 -- A step that ends the log: the log is right to its end, the marks are as before, and nothing meets the formula.
-use Rattle.std.proofs.Common.{◌≡◌, refl, sym, ap, ◌∙◌, subst, ℕ, ◌+◌, ℤ, Bool, true, false, not, ◌||◌, MatchBool, List, [], ◌∷◌, ◌++◌, length, None, Some, is_some, filter_map, true≢false, length-append}
+use Rattle.std.proofs.Common.{◌≡◌, refl, sym, ap, ◌∙◌, subst, ℕ, ℤ, true, false, not, ◌||◌, MatchBool, List, [], ◌∷◌, ◌++◌, length, Some, is_some, true≢false, length-append}
 use Rattle.std.proofs.lemmas.List.Elements.{filter_map-append}
 use Rattle.std.specs.List.{list_all, cons_option}
 use Rattle.cx_base.specs.Literals.{Literal}
-use Rattle.cx_base.specs.Parity.{normal_form, HasOneOfEach}
 use Rattle.cx_base.specs.Problem.{Problem, Unmet, clause_met, parity_met}
 use Rattle.cx_semantics.specs.declared.steps.LogStep.{LogStep}
 use Rattle.cx_semantics.specs.declared.steps.LogStep.TheVariants.{Clause, ClauseOfParity}

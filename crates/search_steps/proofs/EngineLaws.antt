@@ -3,20 +3,18 @@ use Rattle.std.proofs.Common.{◌≡◌, ◌≢◌, refl, sym, ap, ◌∙◌, su
 use Rattle.std.proofs.lemmas.Bool.{leb-true, leb-false, le-leb, eqb-false}
 use Rattle.std.proofs.lemmas.List.{get_or-set_same, get_or-set_other}
 use Rattle.std.proofs.Math.ListN.{get_or-map}
-use Rattle.std.specs.List.{list_all}
 use Rattle.std.specs.Prelude.{replicate}
-use Rattle.cx_base.specs.Literals.{Literal, negate, same_literal, literal_true, differ}
+use Rattle.cx_base.specs.Literals.{Literal, negate, literal_true}
 use Rattle.cx_semantics.specs.Chain.{has_literal}
 use Rattle.cx_semantics.specs.Forced.{Solves}
 use Rattle.cx_semantics.specs.Tables.{Table}
-use Rattle.cx_semantics.proofs.ChainLaws.{are_one, same_literal-itself}
 use Rattle.cx_semantics.proofs.Closure.{has_by_inside}
 use Rattle.cx_trail.specs.declared.entry.Entry.{Entry as TrailEntry}
 use Rattle.cx_trail.specs.Sequence.{IsTrueIn, IsOpenIn, entry_at}
 use Rattle.gauss_jordan.specs.declared.event.ParityEvent.{ParityEvent}
 use Rattle.gauss_jordan.specs.declared.event.ParityEvent.TheVariants.{Quiet, Implied, Conflict}
 use Rattle.gauss_jordan.specs.declared.state.Held.{Held}
-use Rattle.gauss_jordan.specs.State.{State, IsSilent, Answers, assigned, back, fresh, pushed, keep, held_at, is_unassigned, known, known_from}
+use Rattle.gauss_jordan.specs.State.{State, IsSilent, Answers, assigned, back, fresh, pushed, keep, held_at, known, known_from}
 use Rattle.search_steps.specs.Trail.{Entry, held, all_held, back_to, level_of, IsTrail, IsUnassigned}
 use Rattle.search_steps.specs.Quiet.{ParitiesQuiet}
 use Rattle.search_steps.specs.Engine.{HasValue, HoldsValues}

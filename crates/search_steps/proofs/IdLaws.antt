@@ -1,12 +1,11 @@
 -- Each step keeps the ranges of ids.
-use Rattle.std.proofs.Common.{◌≡◌, refl, sym, ap, ◌∙◌, subst, ℕ, suc, ◌+◌, ◌≤◌, ◌<◌, ℤ, Bool, true, false, cond, not, ◌||◌, nat_eq, nat_le, eqb-true, List, [], ◌∷◌, ◌++◌, length, Some, None, arith, true≢false}
-use Rattle.std.proofs.lemmas.Bool.{eqb-false}
+use Rattle.std.proofs.Common.{◌≡◌, refl, sym, ap, ◌∙◌, subst, ℕ, ◌+◌, ◌≤◌, ◌<◌, ℤ, Bool, true, false, cond, not, ◌||◌, nat_eq, nat_le, eqb-true, List, [], ◌∷◌, ◌++◌, length, Some, None, arith, true≢false}
 use Rattle.std.specs.List.{AllByRecursion}
 use Rattle.std.specs.FinMap as map_
 use Rattle.cx_base.specs.Literals.{Literal}
 use Rattle.cx_base.specs.Problem.{Problem, clauses_of}
 use Rattle.cx_semantics.specs.declared.steps.LogStep.TheVariants.{Clause, Parity, ClauseOfParity, DeleteParity, Delete}
-use Rattle.cx_semantics.specs.declared.steps.LogEvent.TheVariants.{Step, Conflict}
+use Rattle.cx_semantics.specs.declared.steps.LogEvent.TheVariants.{Step}
 use Rattle.cx_semantics.specs.Integers.{literals}
 use Rattle.cx_semantics.specs.LogRules.{HasChain, derives_empty_clause}
 use Rattle.cx_semantics.specs.Marked.{Moment, after_event, is_among, without}
@@ -17,7 +16,7 @@ use Rattle.search_steps.specs.Search.{Search, IsSearch, IsServed, IsLearnedOf, t
 use Rattle.search_steps.specs.LogSteps.{IsNoReason, IsAddition, AreTemporary, row_events, all_told, deleted, after_learned, after_round}
 use Rattle.search_steps.specs.Start.{IsBegun}
 use Rattle.search_steps.specs.Ids.{ReasonsBelow, AreRowIds, IsRanged, HasFreeSums}
-use Rattle.search_steps.proofs.Sets.{by_cases, not_both}
+use Rattle.search_steps.proofs.Sets.{by_cases}
 use Rattle.search_steps.proofs.Rounds.{round_keeps, round_clears_old, round_clears_new}
 
 -- ---- ids of the two ranges differ

@@ -1,16 +1,15 @@
 -- What an analysis learned is what the calculus takes for a learned clause, and it has a right chain.
-use Rattle.std.proofs.Common.{◌≡◌, refl, sym, ap, ◌∙◌, subst, ℕ, ◌-◌, ◌<◌, ◌≤◌, Bool, true, false, List, [], ◌∷◌, ◌++◌, length, is_some, Contains, ◌⊎◌, inl, inr, arith}
+use Rattle.std.proofs.Common.{◌≡◌, refl, sym, ap, ◌∙◌, subst, ℕ, ◌-◌, ◌<◌, ◌≤◌, true, false, List, [], ◌∷◌, ◌++◌, length, is_some, ◌⊎◌, inl, inr, arith}
 use Rattle.std.specs.Prelude.{reverse}
 use Rattle.std.specs.List.{AllByRecursion, cons_option}
 use Rattle.cx_base.specs.Literals.{Literal, negate, same_literal}
-use Rattle.cx_semantics.specs.Chain.{has_literal, same_literals, IsChain}
-use Rattle.cx_semantics.specs.Fresh.{IsLive}
+use Rattle.cx_semantics.specs.Chain.{has_literal}
 use Rattle.cx_semantics.specs.LogRules.{AreLive, HasChain}
 use Rattle.cx_semantics.specs.Tables.{Table, named}
 use Rattle.cx_semantics.proofs.ChainLaws.{negate-negate, are_one, same_literal-itself}
 use Rattle.cx_semantics.proofs.Closure.{has_by_inside}
-use Rattle.cx_semantics.proofs.SameSets.{Same, Same-by_test, AllSame, chain_stays_right}
-use Rattle.cx_trail.specs.Sequence.{TrailState, entry_at, IsTrail as IsCodeTrail}
+use Rattle.cx_semantics.proofs.SameSets.{Same-by_test, AllSame, chain_stays_right}
+use Rattle.cx_trail.specs.Sequence.{TrailState, IsTrail as IsCodeTrail}
 use Rattle.conflict_learn.specs.Learning.{IsLearned, AreAntecedents, negated_at, level_at, literal_at, has_place, IsFalling}
 use Rattle.conflict_learn.specs.Levels.{Teaches, second, levels_at}
 use Rattle.conflict_learn.proofs.ChainOfResolutions.{served_is_chain}

@@ -22,3 +22,4 @@ pub mod CodeSteps
 pub mod Stored
 pub mod IdLaws
 pub mod OverSearch
+pub mod RoundEnds

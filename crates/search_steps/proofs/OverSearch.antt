@@ -13,7 +13,7 @@ use Rattle.search_steps.specs.Trail.{Entry, all_held, back_to, IsTrail}
 use Rattle.search_steps.specs.Quiet.{IsOfParities}
 use Rattle.search_steps.specs.Search.{Search, IsSearch, IsLearnedOf}
 use Rattle.search_steps.specs.LogSteps.{RestOnClauses}
-use Rattle.search_steps.specs.Tied.{Follows}
+use Rattle.search_steps.specs.Tied.{Mirrors}
 use Rattle.search_steps.specs.Engine.{HoldsValues}
 use Rattle.search_steps.proofs.LogLaws.{falsified_has_chain}
 use Rattle.search_steps.proofs.LearnedLaws.{taught_is_learned}
@@ -28,7 +28,7 @@ module _ (formula : Problem) (parities : List (List Literal)) (s : Search) (ok :
   pub no_clash : Rattle.search_steps.specs.Quiet.HasNoClash (all_held s.trail)
   no_clash = trail_no_clash s.moment.tables.clauses (IsOfParities formula.variables parities) s.trail ok.serves.stands
 
-  pub taught_by_search : (t : TrailState) → Follows s.trail t → 0 < t.level → (conflict : List Literal) (holds : List Literal → Type 0) (resolved lits : List Literal) (back lbd : ℕ)
+  pub taught_by_search : (t : TrailState) → Mirrors s.trail t → 0 < t.level → (conflict : List Literal) (holds : List Literal → Type 0) (resolved lits : List Literal) (back lbd : ℕ)
       → Teaches t conflict holds resolved lits back lbd → (l : Literal) × (more : List Literal) × (lits ≡ l ∷ more) × IsLearnedOf s.trail back lits l
   taught_by_search t f above conflict holds resolved lits back lbd =
       taught_is_learned s.moment.tables.clauses (IsOfParities formula.variables parities) s.trail ok.serves.stands t f.sound f.tied above conflict holds resolved lits back lbd

@@ -14,7 +14,7 @@ use Rattle.cx_semantics.proofs.Lookups.{Looks-insert, Looks-remove}
 use Rattle.cx_semantics.proofs.Closure.{has_by_inside}
 use Rattle.search_steps.specs.Trail.{by_clause, held, all_held, back_to, level_of, IsTrail, IsUnassigned, Forces}
 use Rattle.search_steps.specs.Quiet.{IsOfParities}
-use Rattle.search_steps.specs.Search.{Search, IsSearch, IsServed, IsLearnedOf, told, marked, jumped, forced_on}
+use Rattle.search_steps.specs.Search.{Search, IsSearch, IsServed, IsLearnedOf, told, marked, jumped}
 use Rattle.search_steps.specs.LogSteps.{IsAddition, AreTemporary, deleted, after_learned, after_round}
 use Rattle.search_steps.proofs.Sets.{by_cases, not_both}
 use Rattle.search_steps.proofs.TrailLaws.{trail_no_clash, held_inside, back_holds, back_level}

@@ -1,7 +1,7 @@
 -- A unit clause of level 0 is logged, and its literal rests on it; and what the engines' quiet says.
-use Rattle.std.proofs.Common.{◌≡◌, refl, sym, ap, ◌∙◌, subst, ℕ, ◌≤◌, nat_le, ℤ, Bool, true, false, cond, eq-eqb, List, [], ◌∷◌, ◌++◌, Some, ◌⊎◌, inl, inr, arith}
+use Rattle.std.proofs.Common.{◌≡◌, refl, sym, ap, ◌∙◌, subst, ℕ, ◌≤◌, nat_le, ℤ, Bool, true, false, cond, eq-eqb, List, [], ◌∷◌, ◌++◌, Some, inl, inr, arith}
 use Rattle.std.proofs.lemmas.Bool.{le-leb}
-use Rattle.cx_base.specs.Literals.{Literal, negate}
+use Rattle.cx_base.specs.Literals.{Literal}
 use Rattle.cx_base.specs.Problem.{Problem}
 use Rattle.cx_semantics.specs.declared.steps.LogStep.TheVariants.{Clause}
 use Rattle.cx_semantics.specs.declared.steps.LogEvent.TheVariants.{Step}
@@ -11,8 +11,8 @@ use Rattle.cx_semantics.specs.Integers.{literal}
 use Rattle.cx_semantics.specs.LogRules.{derives_empty_clause}
 use Rattle.cx_semantics.specs.Tables.{Table, get}
 use Rattle.cx_semantics.proofs.Lookups.{Looks-insert}
-use Rattle.search_steps.specs.Trail.{Entry, rests_on, held, all_held, IsTrail, Forces}
-use Rattle.search_steps.specs.Quiet.{HasNoClash, Quiet, ClausesQuiet, HasTrue, HasTwoOpen, IsOfParities, IsWatchedWell}
+use Rattle.search_steps.specs.Trail.{Entry, held, all_held, IsTrail, Forces}
+use Rattle.search_steps.specs.Quiet.{HasNoClash, Quiet, ClausesQuiet, IsOfParities, IsWatchedWell}
 use Rattle.search_steps.specs.Search.{Search, IsSearch, told}
 use Rattle.search_steps.specs.LogSteps.{IsAddition, RestOnClauses, unit_told}
 use Rattle.search_steps.proofs.Sets.{true_rests, two_open_rests, tautology_rests, has_at_head, has_behind}

@@ -1,7 +1,7 @@
 -- The laws of the search's steps.
 use Rattle.std.specs.Prelude.{◌≡◌, ℕ, ◌+◌, ◌*◌, ◌≤◌, ◌<◌, ℤ, Bool, not, List, [], ◌∷◌, ◌++◌, length, Option, Some, None, IsTrue, IsFalse, Contains}
 use Rattle.std.specs.List.{list_all, AllByRecursion}
-use Rattle.cx_base.specs.Literals.{Literal, negate, literal_true}
+use Rattle.cx_base.specs.Literals.{Literal, literal_true}
 use Rattle.cx_base.specs.Problem.{Problem, Meets, Unmet, clauses_of, parities_of, literals_of, parity_met, AreWithin}
 use Rattle.cx_base.specs.declared.constraint.Constraint.{Constraint}
 use Rattle.cx_base.specs.declared.constraint.Constraint.TheVariants as constraint
@@ -15,25 +15,25 @@ use Rattle.cx_semantics.specs.Integers.{literal, literals, integers_of}
 use Rattle.cx_semantics.specs.Judging.{IsRight, IsOpen}
 use Rattle.cx_semantics.specs.LogRules.{log_calculus, derives_empty_clause, HasChain, IsOriginalParity}
 use Rattle.cx_semantics.specs.LogText.{steps_of}
-use Rattle.cx_semantics.specs.Marked.{Marked, after_event, without}
+use Rattle.cx_semantics.specs.Marked.{Marked, after_event, is_among, without}
 use Rattle.cx_semantics.specs.Settled.{Settled, Decides}
 use Rattle.cx_semantics.specs.Tables.{Table, Tables, get}
 use Rattle.cx_trail.specs.declared.entry.Entry.{Entry as TrailEntry}
 use Rattle.cx_trail.specs.declared.entry.Reason.{Reason}
-use Rattle.cx_trail.specs.Sequence.{TrailState, TakesBack, pushed, IsTrueIn, IsOpenIn, IsTrail as IsCodeTrail}
+use Rattle.cx_trail.specs.Sequence.{TrailState, TakesBack, pushed, IsTrueIn, IsOpenIn}
 use Rattle.conflict_learn.specs.Learning.{IsLearned, IsOfLevel}
 use Rattle.conflict_learn.specs.Levels.{Teaches}
 use Rattle.gauss_jordan.specs.declared.event.ParityEvent.{ParityEvent}
 use Rattle.gauss_jordan.specs.declared.state.Held.{Held}
 use Rattle.gauss_jordan.specs.State.{State, IsSilent, Answers, assigned, back, fresh, known, held_at, pushed as opened}
 use Rattle.search_steps.specs.Engine.{HoldsValues}
-use Rattle.search_steps.specs.Ids.{AreRowIds, HasFreeSums, IsRanged}
+use Rattle.search_steps.specs.Ids.{ReasonsBelow, AreRowIds, HasFreeSums, IsRanged}
 use Rattle.search_steps.specs.LogSteps.{IsAddition, RestOnClauses, IsRowOf, IsClauseOfRow, IsRowReason, IsNoReason, IsEnded, AreTemporary, row_events, all_told, deleted, unit_told, after_round}
 use Rattle.search_steps.specs.Quiet.{HasNoClash, RestsOn, IsOfParities, IsWatchedWell, ParitiesQuiet, ClausesQuiet, Quiet}
-use Rattle.search_steps.specs.Search.{Search, IsSearch, IsServed, IsLearnedOf, told, decided_on, forced_on, jumped, marked}
+use Rattle.search_steps.specs.Search.{Search, IsSearch, IsServed, IsTidy, IsLearnedOf, told, decided_on, forced_on, jumped, marked}
 use Rattle.search_steps.specs.Start.{IsBegun, start}
-use Rattle.search_steps.specs.Tied.{IsTied, IsLiveSet, Follows, ForcesOn, IsQuietOn, AreOthersFalseOn, IsFalsifiedOn}
-use Rattle.search_steps.specs.Trail.{Entry, by_clause, by_row, rests_on, all_held, back_to, level_of, IsTrail, IsUnassigned, Forces}
+use Rattle.search_steps.specs.Tied.{IsTied, IsLiveSet, Mirrors, ForcesOn, IsQuietOn, AreOthersFalseOn, IsFalsifiedOn}
+use Rattle.search_steps.specs.Trail.{Entry, by_clause, by_row, rests_on, all_held, back_to, level_of, IsUnassigned, Forces}
 
 -- a law of each search that holds
 abbrev pub OfSearch : (Problem → List (List Literal) → Search → Type 0) → Type 0
@@ -41,7 +41,7 @@ OfSearch Law = (formula : Problem) (parities : List (List Literal)) (s : Search)
 
 -- a law of each search that holds, the code's trail behind it, and a literal that is open there and is put on it for a reason
 abbrev pub OfTrail : (Problem → List (List Literal) → Search → TrailState → Literal → Reason → Type 0) → Type 0
-OfTrail Law = OfSearch (λ formula parities s. (t : TrailState) → Follows s.trail t → (l : Literal) (reason : Reason) → IsOpenIn t.entries l.variable → Law formula parities s t l reason)
+OfTrail Law = OfSearch (λ formula parities s. (t : TrailState) → Mirrors s.trail t → (l : Literal) (reason : Reason) → IsOpenIn t.entries l.variable → Law formula parities s t l reason)
 
 -- a law of each search whose ids keep to their ranges
 abbrev pub OfRanges : (Problem → ℕ → ℕ → ℕ → Search → Type 0) → Type 0
@@ -78,7 +78,6 @@ RecoveredParitiesJoin = OfSearch (λ formula parities s.
     s.trail ≡ [] → s.quiet_levels ≡ 0 → (n : ℕ) (zs : List ℤ) (ids : List ℕ) → n ≤ length parities + 1 → get s.moment.tables.parities n ≡ None
     → IsRight (log_calculus formula) s.moment.tables (ParityOfClauses n zs ids) → IsSearch formula (parities ++ literals zs ∷ []) (told s (Step (ParityOfClauses n zs ids))))
 
-
 -- ---- the steps of the trail, over the code's
 -- a literal that a live clause forces
 abbrev pub ClauseStepsKeep : Type 0
@@ -106,7 +105,6 @@ JumpsKeep = OfSearch (λ formula parities s.
 -- after a jump back the code's trail is that of the calculus
 abbrev pub JumpsStayTied : Type 0
 JumpsStayTied = (k : ℕ) (es : List Entry) (old new : TrailState) → TakesBack k old new → IsTied es old.entries → IsTied (back_to k es) new.entries
-
 
 -- ---- what is told
 -- the three steps of the reason that a row gave
@@ -167,18 +165,28 @@ RoundsKeep =
     → (parities : List (List Literal)) → IsSearch formula parities s → (l : Literal) → IsServed s → s.quiet_levels ≡ level_of s.trail → IsAddition formula s.moment.tables.clauses n zs
     → IsFalse (derives_empty_clause (Clause n zs)) → HasChain s.moment.tables.clauses (literals zs) → IsLearnedOf s.trail back (literals zs) l → IsSearch formula parities (after_round s n zs back l)
 
--- behind it no clause of a row is left
-abbrev pub RoundsLeaveNothing : Type 0
-RoundsLeaveNothing =
-    (s : Search) (n : ℕ) (zs : List ℤ) (back : ℕ) (l : Literal) → s.moment.old_clauses ≡ []
-    → ((after_round s n zs back l).moment.new_clauses ≡ []) × ((after_round s n zs back l).moment.old_clauses ≡ [])
+-- the reason of a row leaves a search that may be marked so, and no sum
+abbrev pub RowReasonsServe : Type 0
+RowReasonsServe =
+    (formula : Problem) (parities : List (List Literal)) (s : Search) (k : ℕ) (rs : List ℤ) (ids : List ℕ) (n : ℕ) (zs : List ℤ) → IsRowReason formula parities s k rs ids n zs
+    → IsServed s → s.moment.new_sums ≡ [] → IsServed (all_told s (row_events k rs ids n zs)) × ((all_told s (row_events k rs ids n zs)).moment.new_sums ≡ [])
 
+-- behind a whole conflict the search is tidy
+abbrev pub RoundsAreTidy : Type 0
+RoundsAreTidy = OfSearch (λ formula parities s.
+    (n : ℕ) (zs : List ℤ) (back : ℕ) (l : Literal) → IsLearnedOf s.trail back (literals zs) l → IsServed s → s.moment.new_sums ≡ [] → IsTidy (after_round s n zs back l))
+
+-- the literal that the learned clause forces is open on the code's trail after the jump, and is put behind it
+abbrev pub RoundsStayTied : Type 0
+RoundsStayTied = OfSearch (λ formula parities s.
+    (n : ℕ) (zs : List ℤ) (back : ℕ) (l : Literal) → IsLearnedOf s.trail back (literals zs) l → (t u : TrailState) → IsTied s.trail t.entries → TakesBack back t u → (reason : Reason)
+    → IsOpenIn u.entries l.variable × IsTied (after_round s n zs back l).trail (pushed u back l reason).entries)
 
 -- ---- conflicts and what they teach
 -- the clause that an analysis answers is learned, asserting by its first literal
 abbrev pub TaughtIsLearned : Type 0
 TaughtIsLearned = OfSearch (λ formula parities s.
-    (t : TrailState) → Follows s.trail t → 0 < t.level → (conflict resolved lits : List Literal) (back lbd : ℕ) → Teaches t conflict (IsLiveSet s.moment.tables.clauses) resolved lits back lbd
+    (t : TrailState) → Mirrors s.trail t → 0 < t.level → (conflict resolved lits : List Literal) (back lbd : ℕ) → Teaches t conflict (IsLiveSet s.moment.tables.clauses) resolved lits back lbd
     → (l : Literal) × (more : List Literal) × (lits ≡ l ∷ more) × IsLearnedOf s.trail back lits l)
 
 -- it has a right chain, where the conflict and the clauses that the source holds have the literals of live ones
@@ -189,20 +197,19 @@ LearnedHasChain =
 -- above level 0 a clause with the literals of a live one has a literal that is false at the current level or not at all
 abbrev pub ClauseConflictsAreNow : Type 0
 ClauseConflictsAreNow = OfSearch (λ formula parities s.
-    (t : TrailState) → Follows s.trail t → 0 < t.level → s.quiet_levels ≡ t.level → (lits : List Literal) → IsLiveSet s.moment.tables.clauses lits
+    (t : TrailState) → Mirrors s.trail t → 0 < t.level → s.quiet_levels ≡ t.level → (lits : List Literal) → IsLiveSet s.moment.tables.clauses lits
     → (m : Literal) × IsTrue (has_literal lits m) × IsOfLevel t m t.level)
 
 -- so has a clause that the parities imply
 abbrev pub RowConflictsAreNow : Type 0
 RowConflictsAreNow = OfSearch (λ formula parities s.
-    (t : TrailState) → Follows s.trail t → 0 < t.level → s.quiet_levels ≡ t.level → (clause : List Literal) → IsOfParities formula.variables parities clause
+    (t : TrailState) → Mirrors s.trail t → 0 < t.level → s.quiet_levels ≡ t.level → (clause : List Literal) → IsOfParities formula.variables parities clause
     → (m : Literal) × IsTrue (has_literal clause m) × IsOfLevel t m t.level)
 
 -- the clause of a row of the engine is one that the parities imply
 abbrev pub RowsAreOfParities : Type 0
 RowsAreOfParities =
     (n : ℕ) (parities : List (List Literal)) (tables : Tables) (ids : List ℕ) (row clause : List Literal) → IsRowOf parities tables ids row → IsClauseOfRow n row clause → IsOfParities n parities clause
-
 
 -- ---- the end
 -- where the steps are right and the last one ends the log, no values meet the formula
@@ -249,12 +256,16 @@ abbrev pub SettledWantsNoDecision : Type 0
 SettledWantsNoDecision = OfSearch (λ formula parities s.
     Quiet formula.variables parities s.moment.tables.clauses (all_held s.trail) → HaveTheirs formula parities → Settled formula → Decides formula.variables (all_held s.trail))
 
-
 -- ---- quiet, from what the watches and the engine answer
 -- live clauses that each have a true literal, two open ones or a literal with its negation are quiet
 abbrev pub WatchedIsQuiet : Type 0
 WatchedIsQuiet =
     (table : Table) (known : List Literal) → HasNoClash known → ((clause : List Literal) → IsLive table clause → IsWatchedWell known clause) → ClausesQuiet table known
+
+-- no literal of the trail stands beside its negation
+abbrev pub TrailsHaveNoClash : Type 0
+TrailsHaveNoClash = OfSearch (λ formula parities s.
+    HasNoClash (all_held s.trail))
 
 -- a clause rests where a stored list with the same literals has a true one or two open ones
 abbrev pub StoredRests : Type 0
@@ -282,7 +293,6 @@ ImpliedClausesRest = (n : ℕ) (parities : List (List Literal)) (known clause : 
 -- where the engine is silent, the parities are quiet over the trail
 abbrev pub SilentIsQuiet : Type 0
 SilentIsQuiet = (s : State) (es : List Entry) → HoldsValues es s.values → IsSilent s → ParitiesQuiet s.vars s.parities (all_held es)
-
 
 -- ---- the engine's values
 -- a fresh engine holds the values of an empty trail
@@ -326,7 +336,6 @@ abbrev pub NoValueIsOpen : Type 0
 NoValueIsOpen =
     (es : List Entry) (values : List (Option Held)) → HoldsValues es values → (entries : List TrailEntry) → IsTied es entries → (v : ℕ) → held_at values v ≡ None → IsOpenIn entries v
 
-
 -- ---- the ranges of ids
 -- they stand at the start
 abbrev pub BegunIsRanged : Type 0
@@ -364,6 +373,14 @@ NextIdsAreFree = OfRanges (λ formula bound next row_next s.
 -- clauses of rows may go: none is a reason, and none is learned
 abbrev pub RowIdsAreTemporary : Type 0
 RowIdsAreTemporary = OfRanges (λ formula bound next row_next s. (ids : List ℕ) → AreRowIds bound row_next ids → AreTemporary formula s ids)
+
+-- no clause from the bound on is a reason where reasons are below it
+abbrev pub HighIsNoReason : Type 0
+HighIsNoReason = (bound n : ℕ) (es : List Entry) → bound ≤ n → ReasonsBelow bound es → IsNoReason n es
+
+-- no id from the bound on is among ids below it
+abbrev pub HighIsNotAmong : Type 0
+HighIsNotAmong = (bound n : ℕ) (ids : List ℕ) → bound ≤ n → AllByRecursion (λ i. i < bound) ids → IsFalse (is_among ids n)
 
 -- behind the reason of a row the id of its sum is free again
 abbrev pub SumsAreFreeAgain : Type 0

@@ -18,7 +18,7 @@ abbrev pub IsLiveSet : Table → List Literal → Type 0
 IsLiveSet table lits = (clause : List Literal) × IsLive table clause × IsTrue (same_literals lits clause)
 
 -- the code's trail is sound and has the search's literals and levels
-pub record Follows (es : List Entry) (t : TrailState) : Type 0 where
+pub record Mirrors (es : List Entry) (t : TrailState) : Type 0 where
   pub tied : IsTied es t.entries
   pub sound : IsCodeTrail t
 

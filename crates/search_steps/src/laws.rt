@@ -1,5 +1,5 @@
 //! The laws of the search's steps. Each function's contract is the law, and its body is empty.
-ghost use Rattle.search_steps.specs.Laws.{AnswersHold, AssignedValuesHold, BegunIsRanged, BegunIsSearch, ChainedClausesEnd, ClauseConflictsAreNow, ClauseStepsKeep, DecisionsKeep, DeletionsKeep, EndedIsUnmet, FalsifiedHasChain, FreshEnginesHold, FullIsMet, ImpliedClausesRest, JumpsKeep, JumpsStayTied, KnownIsTrue, LargerClausesRest, LastStepsEnd, LaterEntriesGo, LearnedClausesKeep, LearnedDeletionsKeep, LearnedHasChain, MarksKeep, NewLevelsHold, NextIdsAreFree, NoValueIsOpen, NothingIsBegun, OpenHasNoValue, OriginalClausesAreTold, OriginalParitiesAreTold, RecoveredParitiesJoin, RoundsKeep, RoundsKeepRanges, RoundsLeaveNothing, RowClausesEnd, RowClausesKeep, RowConflictsAreNow, RowIdsAreTemporary, RowReasonsKeep, RowStepsKeep, RowsAreOfParities, SearchesAreOpen, SettledWantsNoDecision, SilentIsQuiet, StoredForces, StoredIsFalse, StoredRests, SumDeletionsKeep, SumsAreFreeAgain, SumsKeep, TaughtIsLearned, ToldStepsKeepRanges, TrailStepsKeepRanges, UnitsKeep, ValuesTakenBackHold, WatchedIsQuiet};
+ghost use Rattle.search_steps.specs.Laws.{AnswersHold, AssignedValuesHold, BegunIsRanged, BegunIsSearch, ChainedClausesEnd, ClauseConflictsAreNow, ClauseStepsKeep, DecisionsKeep, DeletionsKeep, EndedIsUnmet, FalsifiedHasChain, FreshEnginesHold, FullIsMet, HighIsNoReason, HighIsNotAmong, ImpliedClausesRest, JumpsKeep, JumpsStayTied, KnownIsTrue, LargerClausesRest, LastStepsEnd, LaterEntriesGo, LearnedClausesKeep, LearnedDeletionsKeep, LearnedHasChain, MarksKeep, NewLevelsHold, NextIdsAreFree, NoValueIsOpen, NothingIsBegun, OpenHasNoValue, OriginalClausesAreTold, OriginalParitiesAreTold, RecoveredParitiesJoin, RoundsAreTidy, RoundsKeep, RoundsKeepRanges, RoundsStayTied, RowClausesEnd, RowClausesKeep, RowConflictsAreNow, RowIdsAreTemporary, RowReasonsKeep, RowReasonsServe, RowStepsKeep, RowsAreOfParities, SearchesAreOpen, SettledWantsNoDecision, SilentIsQuiet, StoredForces, StoredIsFalse, StoredRests, SumDeletionsKeep, SumsAreFreeAgain, SumsKeep, TaughtIsLearned, ToldStepsKeepRanges, TrailStepsKeepRanges, TrailsHaveNoClash, UnitsKeep, ValuesTakenBackHold, WatchedIsQuiet};
 
 /// At the start nothing is told.
 pub fn nothing_is_begun()
@@ -101,9 +101,19 @@ pub fn rounds_keep()
     ensures { RoundsKeep }
 {}
 
-/// Behind it no clause of a row is left.
-pub fn rounds_leave_nothing()
-    ensures { RoundsLeaveNothing }
+/// The reason of a row leaves a search that may be marked so, and no sum.
+pub fn row_reasons_serve()
+    ensures { RowReasonsServe }
+{}
+
+/// Behind a whole conflict the search is tidy.
+pub fn rounds_are_tidy()
+    ensures { RoundsAreTidy }
+{}
+
+/// The literal that the learned clause forces is open on the code's trail after the jump, and is put behind it.
+pub fn rounds_stay_tied()
+    ensures { RoundsStayTied }
 {}
 
 /// The clause that an analysis answers is learned, asserting by its first literal.
@@ -174,6 +184,11 @@ pub fn settled_wants_no_decision()
 /// Live clauses that each have a true literal, two open ones or a literal with its negation are quiet.
 pub fn watched_is_quiet()
     ensures { WatchedIsQuiet }
+{}
+
+/// No literal of the trail stands beside its negation.
+pub fn trails_have_no_clash()
+    ensures { TrailsHaveNoClash }
 {}
 
 /// A clause rests where a stored list with the same literals has a true one or two open ones.
@@ -279,6 +294,16 @@ pub fn next_ids_are_free()
 /// Clauses of rows may go: none is a reason, and none is learned.
 pub fn row_ids_are_temporary()
     ensures { RowIdsAreTemporary }
+{}
+
+/// No clause from the bound on is a reason where reasons are below it.
+pub fn high_is_no_reason()
+    ensures { HighIsNoReason }
+{}
+
+/// No id from the bound on is among ids below it.
+pub fn high_is_not_among()
+    ensures { HighIsNotAmong }
 {}
 
 /// Behind the reason of a row the id of its sum is free again.
