@@ -3,8 +3,8 @@ use Rattle.std.proofs.Common.{◌≡◌, refl, sym, ap, ◌∙◌, subst, ℕ, �
 use Rattle.std.specs.List.{AllByRecursion}
 use Rattle.std.specs.FinMap as map_
 use Rattle.cx_base.specs.Literals.{Literal}
-use Rattle.cx_base.specs.Problem.{Problem, clauses_of}
-use Rattle.cx_semantics.specs.declared.steps.LogStep.TheVariants.{Clause, Parity, ClauseOfParity, DeleteParity, Delete}
+use Rattle.cx_base.specs.Problem.{Problem, clauses_of, parities_of}
+use Rattle.cx_semantics.specs.declared.steps.LogStep.TheVariants.{Clause, Parity, ClauseOfParity, ParityOfClauses, DeleteParity, Delete}
 use Rattle.cx_semantics.specs.declared.steps.LogEvent.TheVariants.{Step}
 use Rattle.cx_semantics.specs.Integers.{literals}
 use Rattle.cx_semantics.specs.LogRules.{HasChain, derives_empty_clause}
@@ -176,6 +176,9 @@ module _ (formula : Problem) (bound next row_next : ℕ) where
     pub sum_deletion_ranged : (k : ℕ) (rs : List ℤ) → IsRanged formula bound next row_next s.trail (after_event s.moment (Step (DeleteParity k rs)))
     sum_deletion_ranged k rs = record { originals = i.originals; room = i.room; reasons = i.reasons; learned = i.learned; new_rows = i.new_rows; old_rows = i.old_rows; free = i.free; rows_free = i.rows_free }
 
+    pub recovered_ranged : (n : ℕ) (zs : List ℤ) (ids : List ℕ) → IsRanged formula bound next row_next s.trail (after_event s.moment (Step (ParityOfClauses n zs ids)))
+    recovered_ranged n zs ids = record { originals = i.originals; room = i.room; reasons = i.reasons; learned = i.learned; new_rows = i.new_rows; old_rows = i.old_rows; free = i.free; rows_free = i.rows_free }
+
     pub mark_ranged : IsRanged formula bound next row_next (marked s).trail (marked s).moment
     mark_ranged = record {
       originals = i.originals;
@@ -272,3 +275,10 @@ begun_is_ranged formula bound s room b = record {
   free = λ n h k. b.clauses.free n (omega (arith, h));
   rows_free = λ n h k l. b.clauses.free n (omega (arith, h, room));
 }
+
+pub begun_has_free_sums : (formula : Problem) (s : Search) → IsBegun formula formula.constraints s → HasFreeSums (length (parities_of formula.constraints)) s.moment
+begun_has_free_sums formula s b = b.parities.free
+
+-- a recovered parity takes the next of these ids
+pub recovered_has_free_sums : (count : ℕ) (s : Search) (zs : List ℤ) (ids : List ℕ) → HasFreeSums count s.moment → HasFreeSums (count + 1) (told s (Step (ParityOfClauses (count + 1) zs ids))).moment
+recovered_has_free_sums count s zs ids f m h = get_other s.moment.tables.parities (count + 1) m _ (apart_ids m (count + 1) (λ e. omega (arith, e, h))) (f m (omega (arith, h)))

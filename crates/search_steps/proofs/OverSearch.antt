@@ -1,7 +1,11 @@
 -- Laws of trails, said of a search's trail and of its older part.
-use Rattle.std.proofs.Common.{◌≡◌, subst, ℕ, ◌<◌, List, [], ◌∷◌, ◌++◌}
+use Rattle.std.proofs.Common.{◌≡◌, sym, ◌∙◌, subst, ℕ, ◌<◌, Bool, true, List, [], ◌∷◌, ◌++◌, Contains}
 use Rattle.cx_base.specs.Literals.{Literal}
-use Rattle.cx_base.specs.Problem.{Problem}
+use Rattle.std.proofs.lemmas.List.Folds.{list_all-append}
+use Rattle.std.specs.List.{list_all}
+use Rattle.cx_base.specs.Problem.{Problem, parities_of, parity_met}
+use Rattle.cx_semantics.proofs.ChainLaws.{and_parts}
+use Rattle.search_steps.proofs.RowLaws.{at_place}
 use Rattle.cx_semantics.specs.Chain.{is_inside, negations}
 use Rattle.cx_semantics.specs.Fresh.{IsLive}
 use Rattle.cx_semantics.specs.LogRules.{HasChain}
@@ -19,6 +23,12 @@ use Rattle.search_steps.proofs.LogLaws.{falsified_has_chain}
 use Rattle.search_steps.proofs.LearnedLaws.{taught_is_learned}
 use Rattle.search_steps.proofs.EngineLaws.{back_holds_values}
 use Rattle.search_steps.proofs.TrailLaws.{trail_no_clash}
+
+-- the engine's parities say what the formula's do, where these stand first among them
+pub theirs_are_had : (formula : Problem) (more : List (List Literal)) (values : List Bool) → list_all (parity_met values) (parities_of formula.constraints ++ more) ≡ true
+    → (parity : List Literal) → Contains (parities_of formula.constraints) parity → parity_met values parity ≡ true
+theirs_are_had formula more values h parity c =
+    at_place (parity_met values) (parities_of formula.constraints) (and_parts _ _ (sym (list_all-append (parity_met values) (parities_of formula.constraints) more) ∙ h)).0 parity c
 
 pub older_is_trail : (table : Table) (IsRow : List Literal → Type 0) (newer older : List Entry) → IsTrail table IsRow (newer ++ older) → IsTrail table IsRow older
 older_is_trail table IsRow [] older t = t
@@ -38,7 +48,7 @@ module _ (formula : Problem) (parities : List (List Literal)) (s : Search) (ok :
     older_stands = older_is_trail s.moment.tables.clauses (IsOfParities formula.variables parities) newer older
         (subst (IsTrail s.moment.tables.clauses (IsOfParities formula.variables parities)) parts ok.serves.stands)
 
-    pub false_by_units : RestOnClauses older → (clause : List Literal) → IsLive s.moment.tables.clauses clause → is_inside (negations clause) (all_held older) ≡ Rattle.std.proofs.Common.true → HasChain s.moment.tables.clauses []
+    pub false_by_units : RestOnClauses older → (clause : List Literal) → IsLive s.moment.tables.clauses clause → is_inside (negations clause) (all_held older) ≡ true → HasChain s.moment.tables.clauses []
     false_by_units rest clause live h = falsified_has_chain s.moment.tables.clauses (IsOfParities formula.variables parities) older older_stands rest clause live h
 
     pub older_values_back : (engine : State) → HoldsValues older engine.values → (k : ℕ) → HoldsValues (back_to k older) (back k engine).values

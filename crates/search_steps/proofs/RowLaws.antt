@@ -9,7 +9,7 @@ use Rattle.cx_semantics.proofs.Soundness.{sum_is_met}
 use Rattle.search_steps.specs.Quiet.{IsOfParities}
 use Rattle.search_steps.specs.LogSteps.{IsRowOf, IsClauseOfRow}
 
-at_place : (p : List Literal → Bool) (lists : List (List Literal)) → list_all p lists ≡ true → (x : List Literal) → Contains lists x → p x ≡ true
+pub at_place : (p : List Literal → Bool) (lists : List (List Literal)) → list_all p lists ≡ true → (x : List Literal) → Contains lists x → p x ≡ true
 at_place p [] h x (k, less, e) = absurd (omega (Rattle.std.proofs.Common.arith, less))
 at_place p (y ∷ ys) h x (Rattle.std.proofs.Common.zero, less, e) = ap p (sym e) ∙ (and_parts (p y) _ h).0
 at_place p (y ∷ ys) h x (Rattle.std.proofs.Common.suc k, less, e) = at_place p ys (and_parts (p y) _ h).1 x (k, omega (Rattle.std.proofs.Common.arith, less), e)

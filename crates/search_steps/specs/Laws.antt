@@ -79,25 +79,25 @@ RecoveredParitiesJoin = OfSearch (λ formula parities s.
     → IsRight (log_calculus formula) s.moment.tables (ParityOfClauses n zs ids) → IsSearch formula (parities ++ literals zs ∷ []) (told s (Step (ParityOfClauses n zs ids))))
 
 -- ---- the steps of the trail, over the code's
--- a literal that a live clause forces
+-- a literal that a live clause forces keeps the search, and the code's trail with that literal put on it is tied to the longer one
 abbrev pub ClauseStepsKeep : Type 0
 ClauseStepsKeep = OfTrail (λ formula parities s t l reason.
     (n : ℕ) (clause : List Literal) → s.quiet_levels ≤ t.level → get s.moment.tables.clauses n ≡ Some clause → ForcesOn t.entries clause l
     → IsSearch formula parities (forced_on s l (by_clause n)) × IsTied (forced_on s l (by_clause n)).trail (pushed t t.level l reason).entries)
 
--- a literal that a clause of the parities forces
+-- so does a literal that a clause of the parities forces
 abbrev pub RowStepsKeep : Type 0
 RowStepsKeep = OfTrail (λ formula parities s t l reason.
     (clause : List Literal) → s.quiet_levels ≤ t.level → IsOfParities formula.variables parities clause → ForcesOn t.entries clause l
     → IsSearch formula parities (forced_on s l (by_row clause)) × IsTied (forced_on s l (by_row clause)).trail (pushed t t.level l reason).entries)
 
--- a decision, where both engines are quiet
+-- so does a decision, where both engines are quiet
 abbrev pub DecisionsKeep : Type 0
 DecisionsKeep = OfTrail (λ formula parities s t l reason.
     s.quiet_levels ≡ t.level → Quiet formula.variables parities s.moment.tables.clauses (all_held s.trail)
     → IsSearch formula parities (decided_on s l) × IsTied (decided_on s l).trail (pushed t (t.level + 1) l reason).entries)
 
--- a jump back to a level up to which all levels are quiet
+-- a jump back keeps the search, to a level up to which all levels are quiet
 abbrev pub JumpsKeep : Type 0
 JumpsKeep = OfSearch (λ formula parities s.
     (back : ℕ) → back ≤ s.quiet_levels → IsSearch formula parities (jumped s back))
@@ -107,65 +107,65 @@ abbrev pub JumpsStayTied : Type 0
 JumpsStayTied = (k : ℕ) (es : List Entry) (old new : TrailState) → TakesBack k old new → IsTied es old.entries → IsTied (back_to k es) new.entries
 
 -- ---- what is told
--- the three steps of the reason that a row gave
+-- the three steps of the reason that a row gave keep the search
 abbrev pub RowReasonsKeep : Type 0
 RowReasonsKeep =
     (formula : Problem) (parities : List (List Literal)) (s : Search) (k : ℕ) (rs : List ℤ) (ids : List ℕ) (n : ℕ) (zs : List ℤ) → IsRowReason formula parities s k rs ids n zs
     → IsSearch formula parities s → IsSearch formula parities (all_told s (row_events k rs ids n zs))
 
--- the sum of parities of the engine
+-- telling the sum of parities of the engine keeps the search
 abbrev pub SumsKeep : Type 0
 SumsKeep = OfSearch (λ formula parities s.
     (n : ℕ) (zs : List ℤ) (ids : List ℕ) → IsAddition formula s.moment.tables.parities n zs → IsRowOf parities s.moment.tables ids (literals zs) → IsSearch formula parities (told s (Step (Parity n zs ids))))
 
--- the clause of a row, where the sum of the row is live
+-- telling the clause of a row keeps the search, where the row's sum is live
 abbrev pub RowClausesKeep : Type 0
 RowClausesKeep = OfSearch (λ formula parities s.
     (n : ℕ) (zs : List ℤ) (source : ℕ) (row : List Literal) → IsAddition formula s.moment.tables.clauses n zs → get s.moment.tables.parities source ≡ Some row → IsOfParities formula.variables parities (literals zs)
     → IsClauseOfRow formula.variables row (literals zs) → IsFalse (derives_empty_clause (ClauseOfParity n zs source)) → IsSearch formula parities (told s (Step (ClauseOfParity n zs source))))
 
--- the deletion of a sum, whose id is above the engine's parities
+-- deleting a sum keeps the search, where its id is above the engine's parities
 abbrev pub SumDeletionsKeep : Type 0
 SumDeletionsKeep = OfSearch (λ formula parities s.
     (n : ℕ) (zs : List ℤ) → length parities < n → IsSearch formula parities (told s (Step (DeleteParity n zs))))
 
--- the unit clause of a literal of level 0, which rests on it from then on
+-- telling the unit clause of a literal of level 0 keeps the search, and the literal rests on it from then on
 abbrev pub UnitsKeep : Type 0
 UnitsKeep = OfSearch (λ formula parities s.
     (n : ℕ) (z : ℤ) (newer older : List Entry) (e : Entry) → s.trail ≡ newer ++ e ∷ older → e.level ≡ 0 → literal z ≡ e.literal → IsAddition formula s.moment.tables.clauses n (z ∷ [])
     → IsFalse (derives_empty_clause (Clause n (z ∷ []))) → IsFalse s.moment.awaits → RestOnClauses older → (clause : List Literal) → IsLive s.moment.tables.clauses clause → Forces clause (all_held older) e.literal
     → IsSearch formula parities (unit_told s n z newer e older))
 
--- the mark of a counted conflict
+-- the mark of a counted conflict keeps the search
 abbrev pub MarksKeep : Type 0
 MarksKeep = OfSearch (λ formula parities s.
     IsServed s → IsSearch formula parities (marked s))
 
--- the learned clause, where one is owed
+-- telling the learned clause keeps the search, where one is owed
 abbrev pub LearnedClausesKeep : Type 0
 LearnedClausesKeep = OfSearch (λ formula parities s.
     (n : ℕ) (zs : List ℤ) (back : ℕ) (l : Literal) → IsAddition formula s.moment.tables.clauses n zs → IsFalse (derives_empty_clause (Clause n zs)) → IsTrue s.moment.awaits → s.quiet_levels ≡ level_of s.trail
     → HasChain s.moment.tables.clauses (literals zs) → IsLearnedOf s.trail back (literals zs) l → IsSearch formula parities (record (told s (Step (Clause n zs))) { quiet_levels = back }))
 
--- the deletion of clauses that are temporary, one after another
+-- deleting temporary clauses one after another keeps the search
 abbrev pub DeletionsKeep : Type 0
 DeletionsKeep = OfSearch (λ formula parities s.
     (ids : List ℕ) → AreTemporary formula s ids → IsSearch formula parities (deleted s ids))
 
--- the deletion of a learned clause that is no reason, where enough are left
+-- deleting a learned clause that is no reason keeps the search, where enough are left
 abbrev pub LearnedDeletionsKeep : Type 0
 LearnedDeletionsKeep = OfSearch (λ formula parities s.
     (n : ℕ) (zs : List ℤ) → length (clauses_of formula.constraints) < n → IsNoReason n s.trail → 1000 + 250 * s.moment.reductions ≤ length (without s.moment.learned n)
     → IsSearch formula parities (told s (Step (Delete n zs))))
 
--- a whole conflict: the mark, the learned clause, the deletions, the jump back, and the literal that the clause forces
+-- a whole conflict keeps the search: the mark, the learned clause, the deletions, the jump back, and the literal that the clause forces
 abbrev pub RoundsKeep : Type 0
 RoundsKeep =
     (formula : Problem) (bound next row_next : ℕ) (s : Search) → IsRanged formula bound next row_next s.trail s.moment → (n : ℕ) (zs : List ℤ) (back : ℕ) → next ≤ n → n < bound
     → (parities : List (List Literal)) → IsSearch formula parities s → (l : Literal) → IsServed s → s.quiet_levels ≡ level_of s.trail → IsAddition formula s.moment.tables.clauses n zs
     → IsFalse (derives_empty_clause (Clause n zs)) → HasChain s.moment.tables.clauses (literals zs) → IsLearnedOf s.trail back (literals zs) l → IsSearch formula parities (after_round s n zs back l)
 
--- the reason of a row leaves a search that may be marked so, and no sum
+-- the reason of a row leaves no sum, and a search that may be marked stays so
 abbrev pub RowReasonsServe : Type 0
 RowReasonsServe =
     (formula : Problem) (parities : List (List Literal)) (s : Search) (k : ℕ) (rs : List ℤ) (ids : List ℕ) (n : ℕ) (zs : List ℤ) → IsRowReason formula parities s k rs ids n zs
@@ -189,7 +189,7 @@ TaughtIsLearned = OfSearch (λ formula parities s.
     (t : TrailState) → Mirrors s.trail t → 0 < t.level → (conflict resolved lits : List Literal) (back lbd : ℕ) → Teaches t conflict (IsLiveSet s.moment.tables.clauses) resolved lits back lbd
     → (l : Literal) × (more : List Literal) × (lits ≡ l ∷ more) × IsLearnedOf s.trail back lits l)
 
--- it has a right chain, where the conflict and the clauses that the source holds have the literals of live ones
+-- a learned clause has a right chain, where the conflict and the clauses that the source holds have the literals of live ones
 abbrev pub LearnedHasChain : Type 0
 LearnedHasChain =
     (table : Table) (trail : TrailState) (conflict resolved lits : List Literal) → IsLiveSet table conflict → IsLearned trail conflict (IsLiveSet table) resolved lits → HasChain table lits
@@ -200,7 +200,7 @@ ClauseConflictsAreNow = OfSearch (λ formula parities s.
     (t : TrailState) → Mirrors s.trail t → 0 < t.level → s.quiet_levels ≡ t.level → (lits : List Literal) → IsLiveSet s.moment.tables.clauses lits
     → (m : Literal) × IsTrue (has_literal lits m) × IsOfLevel t m t.level)
 
--- so has a clause that the parities imply
+-- above level 0 so has a clause that the parities imply
 abbrev pub RowConflictsAreNow : Type 0
 RowConflictsAreNow = OfSearch (λ formula parities s.
     (t : TrailState) → Mirrors s.trail t → 0 < t.level → s.quiet_levels ≡ t.level → (clause : List Literal) → IsOfParities formula.variables parities clause
@@ -216,18 +216,18 @@ RowsAreOfParities =
 abbrev pub EndedIsUnmet : Type 0
 EndedIsUnmet = (formula : Problem) (events : List LogEvent) → IsEnded formula events → Unmet formula
 
--- a right step that ends the log ends it
+-- a right step that ends a log makes it one that is right to its end
 abbrev pub LastStepsEnd : Type 0
 LastStepsEnd = OfSearch (λ formula parities s.
     (step : LogStep) → IsRight (log_calculus formula) s.moment.tables step → IsTrue (derives_empty_clause step) → IsEnded formula (s.events ++ Step step ∷ []))
 
--- so does a clause by a right chain, and where no clause is owed the marks are as before
+-- so does a clause by a right chain, and the marks are as before where no clause is owed
 abbrev pub ChainedClausesEnd : Type 0
 ChainedClausesEnd = OfSearch (λ formula parities s.
     (n : ℕ) (zs : List ℤ) → IsAddition formula s.moment.tables.clauses n zs → HasChain s.moment.tables.clauses (literals zs) → IsTrue (derives_empty_clause (Clause n zs)) → IsFalse s.moment.awaits
     → IsEnded formula (s.events ++ Step (Clause n zs) ∷ []) × Marked formula (s.events ++ Step (Clause n zs) ∷ []) s.conflicts)
 
--- and the clause of a row, where its sum is live
+-- so does the clause of a row, where its sum is live
 abbrev pub RowClausesEnd : Type 0
 RowClausesEnd = OfSearch (λ formula parities s.
     (n : ℕ) (zs : List ℤ) (source : ℕ) (row : List Literal) → IsAddition formula s.moment.tables.clauses n zs → get s.moment.tables.parities source ≡ Some row → IsClauseOfRow formula.variables row (literals zs)
@@ -251,6 +251,10 @@ FullIsMet = OfSearch (λ formula parities s.
     Quiet formula.variables parities s.moment.tables.clauses (all_held s.trail) → HaveTheirs formula parities → (values : List Bool) → AllByRecursion (λ c. AreWithin formula.variables (literals_of c)) formula.constraints
     → Decides formula.variables (all_held s.trail) → length values ≡ formula.variables → IsTrue (list_all (literal_true values) (all_held s.trail)) → Meets formula values)
 
+-- the engine's parities say what the formula's do, where these stand first among them
+abbrev pub TheirsAreHad : Type 0
+TheirsAreHad = (formula : Problem) (more : List (List Literal)) → HaveTheirs formula (parities_of formula.constraints ++ more)
+
 -- where both engines are quiet over a settled formula, all is decided
 abbrev pub SettledWantsNoDecision : Type 0
 SettledWantsNoDecision = OfSearch (λ formula parities s.
@@ -272,12 +276,12 @@ abbrev pub StoredRests : Type 0
 StoredRests =
     (lits clause : List Literal) → IsTrue (same_literals lits clause) → (es : List Entry) (entries : List TrailEntry) → IsTied es entries → HasNoClash (all_held es) → IsQuietOn entries lits → RestsOn (all_held es) clause
 
--- it forces what the stored list forces
+-- a clause forces what a stored list with the same literals forces
 abbrev pub StoredForces : Type 0
 StoredForces =
     (lits clause : List Literal) → IsTrue (same_literals lits clause) → (entries : List TrailEntry) (l : Literal) → Contains lits l → AreOthersFalseOn entries lits l → ForcesOn entries clause l
 
--- it is false where each literal of the stored list is
+-- a clause is false where each literal of a stored list with the same literals is
 abbrev pub StoredIsFalse : Type 0
 StoredIsFalse =
     (lits clause : List Literal) → IsTrue (same_literals lits clause) → (es : List Entry) (entries : List TrailEntry) → IsTied es entries → IsFalsifiedOn entries lits → IsTrue (is_inside (negations clause) (all_held es))
@@ -286,7 +290,7 @@ StoredIsFalse =
 abbrev pub LargerClausesRest : Type 0
 LargerClausesRest = (known inner clause : List Literal) → IsTrue (is_inside inner clause) → RestsOn known inner → RestsOn known clause
 
--- so does each clause that quiet parities imply
+-- each clause that quiet parities imply rests
 abbrev pub ImpliedClausesRest : Type 0
 ImpliedClausesRest = (n : ℕ) (parities : List (List Literal)) (known clause : List Literal) → ParitiesQuiet n parities known → IsOfParities n parities clause → RestsOn known clause
 
@@ -299,21 +303,21 @@ SilentIsQuiet = (s : State) (es : List Entry) → HoldsValues es s.values → Is
 abbrev pub FreshEnginesHold : Type 0
 FreshEnginesHold = (vars : ℕ) (parities : List (List Literal)) (rows : ℕ) → HoldsValues [] (fresh vars parities rows).values
 
--- the literal of the next entry is assigned
+-- an engine that is assigned the literal of the next entry holds the values of the longer trail
 abbrev pub AssignedValuesHold : Type 0
 AssignedValuesHold =
     (s : State) (es : List Entry) → HoldsValues es s.values → (e : Entry) → e.level ≡ s.level → 1 ≤ e.literal.variable → e.literal.variable ≤ length s.values → IsUnassigned (all_held es) e.literal
     → HoldsValues (e ∷ es) (assigned s e.literal.variable (not e.literal.negative)).values
 
--- a level is opened
+-- an engine that opens a level holds what it held
 abbrev pub NewLevelsHold : Type 0
 NewLevelsHold = (s : State) (es : List Entry) → HoldsValues es s.values → HoldsValues es (opened s).values
 
--- an event is answered
+-- so does an engine that answers an event
 abbrev pub AnswersHold : Type 0
 AnswersHold = (s : State) (es : List Entry) → HoldsValues es s.values → (event : ParityEvent) (new : State) → Answers s event new → HoldsValues es new.values
 
--- levels are taken back
+-- an engine that takes levels back holds the values of the trail that is left
 abbrev pub ValuesTakenBackHold : Type 0
 ValuesTakenBackHold = OfSearch (λ formula parities s.
     (newer older : List Entry) → s.trail ≡ newer ++ older → (engine : State) → HoldsValues older engine.values → (k : ℕ) → HoldsValues (back_to k older) (back k engine).values)
@@ -337,13 +341,13 @@ NoValueIsOpen =
     (es : List Entry) (values : List (Option Held)) → HoldsValues es values → (entries : List TrailEntry) → IsTied es entries → (v : ℕ) → held_at values v ≡ None → IsOpenIn entries v
 
 -- ---- the ranges of ids
--- they stand at the start
+-- the ranges of ids stand at the start
 abbrev pub BegunIsRanged : Type 0
 BegunIsRanged =
     (formula : Problem) (bound : ℕ) (s : Search) → length (clauses_of formula.constraints) < bound → IsBegun formula formula.constraints s
     → IsRanged formula bound (length (clauses_of formula.constraints) + 1) bound s.trail s.moment
 
--- steps of the trail keep them
+-- steps of the trail keep the ranges: a decision, a literal that a row or a clause forces, a jump back, and a literal that rests on its unit
 abbrev pub TrailStepsKeepRanges : Type 0
 TrailStepsKeepRanges = OfRanges (λ formula bound next row_next s.
     ((l : Literal) → IsRanged formula bound next row_next (decided_on s l).trail s.moment)
@@ -352,15 +356,16 @@ TrailStepsKeepRanges = OfRanges (λ formula bound next row_next s.
     × ((k : ℕ) → IsRanged formula bound next row_next (jumped s k).trail s.moment)
     × ((n : ℕ) (newer older : List Entry) (e : Entry) → s.trail ≡ newer ++ e ∷ older → n < bound → IsRanged formula bound next row_next (newer ++ rests_on e n ∷ older) s.moment))
 
--- steps that are told keep them: a clause for good, the reason of a row, deletions, a mark
+-- steps that are told keep the ranges: a clause for good, the reason of a row, deletions, a recovered parity, a mark
 abbrev pub ToldStepsKeepRanges : Type 0
 ToldStepsKeepRanges = OfRanges (λ formula bound next row_next s.
     ((n : ℕ) (zs : List ℤ) → next ≤ n → n < bound → IsRanged formula bound (n + 1) row_next s.trail (after_event s.moment (Step (Clause n zs))))
     × ((k : ℕ) (rs : List ℤ) (ids : List ℕ) (n : ℕ) (zs : List ℤ) → bound ≤ n → row_next ≤ n → IsRanged formula bound next (n + 1) s.trail (all_told s (row_events k rs ids n zs)).moment)
     × ((ids : List ℕ) → IsRanged formula bound next row_next (deleted s ids).trail (deleted s ids).moment)
+    × ((n : ℕ) (zs : List ℤ) (ids : List ℕ) → IsRanged formula bound next row_next s.trail (after_event s.moment (Step (ParityOfClauses n zs ids))))
     × IsRanged formula bound next row_next (marked s).trail (marked s).moment)
 
--- a whole conflict keeps them, and the ids of rows begin anew
+-- a whole conflict keeps the ranges, and the ids of rows begin anew
 abbrev pub RoundsKeepRanges : Type 0
 RoundsKeepRanges = OfRanges (λ formula bound next row_next s.
     (n : ℕ) (zs : List ℤ) (back : ℕ) → next ≤ n → n < bound → (l : Literal) → s.moment.old_clauses ≡ [] → IsRanged formula bound (n + 1) bound (after_round s n zs back l).trail (after_round s n zs back l).moment)
@@ -381,6 +386,15 @@ HighIsNoReason = (bound n : ℕ) (es : List Entry) → bound ≤ n → ReasonsBe
 -- no id from the bound on is among ids below it
 abbrev pub HighIsNotAmong : Type 0
 HighIsNotAmong = (bound n : ℕ) (ids : List ℕ) → bound ≤ n → AllByRecursion (λ i. i < bound) ids → IsFalse (is_among ids n)
+
+-- at the start the ids above the formula's parities are free for sums
+abbrev pub SumsAreFreeAtFirst : Type 0
+SumsAreFreeAtFirst = (formula : Problem) (s : Search) → IsBegun formula formula.constraints s → HasFreeSums (length (parities_of formula.constraints)) s.moment
+
+-- a recovered parity takes the next of them
+abbrev pub RecoveredTakesOne : Type 0
+RecoveredTakesOne =
+    (count : ℕ) (s : Search) (zs : List ℤ) (ids : List ℕ) → HasFreeSums count s.moment → HasFreeSums (count + 1) (told s (Step (ParityOfClauses (count + 1) zs ids))).moment
 
 -- behind the reason of a row the id of its sum is free again
 abbrev pub SumsAreFreeAgain : Type 0

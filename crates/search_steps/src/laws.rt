@@ -1,5 +1,5 @@
 //! The laws of the search's steps. Each function's contract is the law, and its body is empty.
-ghost use Rattle.search_steps.specs.Laws.{AnswersHold, AssignedValuesHold, BegunIsRanged, BegunIsSearch, ChainedClausesEnd, ClauseConflictsAreNow, ClauseStepsKeep, DecisionsKeep, DeletionsKeep, EndedIsUnmet, FalsifiedHasChain, FreshEnginesHold, FullIsMet, HighIsNoReason, HighIsNotAmong, ImpliedClausesRest, JumpsKeep, JumpsStayTied, KnownIsTrue, LargerClausesRest, LastStepsEnd, LaterEntriesGo, LearnedClausesKeep, LearnedDeletionsKeep, LearnedHasChain, MarksKeep, NewLevelsHold, NextIdsAreFree, NoValueIsOpen, NothingIsBegun, OpenHasNoValue, OriginalClausesAreTold, OriginalParitiesAreTold, RecoveredParitiesJoin, RoundsAreTidy, RoundsKeep, RoundsKeepRanges, RoundsStayTied, RowClausesEnd, RowClausesKeep, RowConflictsAreNow, RowIdsAreTemporary, RowReasonsKeep, RowReasonsServe, RowStepsKeep, RowsAreOfParities, SearchesAreOpen, SettledWantsNoDecision, SilentIsQuiet, StoredForces, StoredIsFalse, StoredRests, SumDeletionsKeep, SumsAreFreeAgain, SumsKeep, TaughtIsLearned, ToldStepsKeepRanges, TrailStepsKeepRanges, TrailsHaveNoClash, UnitsKeep, ValuesTakenBackHold, WatchedIsQuiet};
+ghost use Rattle.search_steps.specs.Laws.{AnswersHold, AssignedValuesHold, BegunIsRanged, BegunIsSearch, ChainedClausesEnd, ClauseConflictsAreNow, ClauseStepsKeep, DecisionsKeep, DeletionsKeep, EndedIsUnmet, FalsifiedHasChain, FreshEnginesHold, FullIsMet, HighIsNoReason, HighIsNotAmong, ImpliedClausesRest, JumpsKeep, JumpsStayTied, KnownIsTrue, LargerClausesRest, LastStepsEnd, LaterEntriesGo, LearnedClausesKeep, LearnedDeletionsKeep, LearnedHasChain, MarksKeep, NewLevelsHold, NextIdsAreFree, NoValueIsOpen, NothingIsBegun, OpenHasNoValue, OriginalClausesAreTold, OriginalParitiesAreTold, RecoveredParitiesJoin, RecoveredTakesOne, RoundsAreTidy, RoundsKeep, RoundsKeepRanges, RoundsStayTied, RowClausesEnd, RowClausesKeep, RowConflictsAreNow, RowIdsAreTemporary, RowReasonsKeep, RowReasonsServe, RowStepsKeep, RowsAreOfParities, SearchesAreOpen, SettledWantsNoDecision, SilentIsQuiet, StoredForces, StoredIsFalse, StoredRests, SumDeletionsKeep, SumsAreFreeAgain, SumsAreFreeAtFirst, SumsKeep, TaughtIsLearned, TheirsAreHad, ToldStepsKeepRanges, TrailStepsKeepRanges, TrailsHaveNoClash, UnitsKeep, ValuesTakenBackHold, WatchedIsQuiet};
 
 /// At the start nothing is told.
 pub fn nothing_is_begun()
@@ -26,22 +26,22 @@ pub fn recovered_parities_join()
     ensures { RecoveredParitiesJoin }
 {}
 
-/// A literal that a live clause forces.
+/// A literal that a live clause forces keeps the search, and the code's trail with that literal put on it is tied to the longer one.
 pub fn clause_steps_keep()
     ensures { ClauseStepsKeep }
 {}
 
-/// A literal that a clause of the parities forces.
+/// So does a literal that a clause of the parities forces.
 pub fn row_steps_keep()
     ensures { RowStepsKeep }
 {}
 
-/// A decision, where both engines are quiet.
+/// So does a decision, where both engines are quiet.
 pub fn decisions_keep()
     ensures { DecisionsKeep }
 {}
 
-/// A jump back to a level up to which all levels are quiet.
+/// A jump back keeps the search, to a level up to which all levels are quiet.
 pub fn jumps_keep()
     ensures { JumpsKeep }
 {}
@@ -51,57 +51,57 @@ pub fn jumps_stay_tied()
     ensures { JumpsStayTied }
 {}
 
-/// The three steps of the reason that a row gave.
+/// The three steps of the reason that a row gave keep the search.
 pub fn row_reasons_keep()
     ensures { RowReasonsKeep }
 {}
 
-/// The sum of parities of the engine.
+/// Telling the sum of parities of the engine keeps the search.
 pub fn sums_keep()
     ensures { SumsKeep }
 {}
 
-/// The clause of a row, where the sum of the row is live.
+/// Telling the clause of a row keeps the search, where the row's sum is live.
 pub fn row_clauses_keep()
     ensures { RowClausesKeep }
 {}
 
-/// The deletion of a sum, whose id is above the engine's parities.
+/// Deleting a sum keeps the search, where its id is above the engine's parities.
 pub fn sum_deletions_keep()
     ensures { SumDeletionsKeep }
 {}
 
-/// The unit clause of a literal of level 0, which rests on it from then on.
+/// Telling the unit clause of a literal of level 0 keeps the search, and the literal rests on it from then on.
 pub fn units_keep()
     ensures { UnitsKeep }
 {}
 
-/// The mark of a counted conflict.
+/// The mark of a counted conflict keeps the search.
 pub fn marks_keep()
     ensures { MarksKeep }
 {}
 
-/// The learned clause, where one is owed.
+/// Telling the learned clause keeps the search, where one is owed.
 pub fn learned_clauses_keep()
     ensures { LearnedClausesKeep }
 {}
 
-/// The deletion of clauses that are temporary, one after another.
+/// Deleting temporary clauses one after another keeps the search.
 pub fn deletions_keep()
     ensures { DeletionsKeep }
 {}
 
-/// The deletion of a learned clause that is no reason, where enough are left.
+/// Deleting a learned clause that is no reason keeps the search, where enough are left.
 pub fn learned_deletions_keep()
     ensures { LearnedDeletionsKeep }
 {}
 
-/// A whole conflict: the mark, the learned clause, the deletions, the jump back, and the literal that the clause forces.
+/// A whole conflict keeps the search: the mark, the learned clause, the deletions, the jump back, and the literal that the clause forces.
 pub fn rounds_keep()
     ensures { RoundsKeep }
 {}
 
-/// The reason of a row leaves a search that may be marked so, and no sum.
+/// The reason of a row leaves no sum, and a search that may be marked stays so.
 pub fn row_reasons_serve()
     ensures { RowReasonsServe }
 {}
@@ -121,7 +121,7 @@ pub fn taught_is_learned()
     ensures { TaughtIsLearned }
 {}
 
-/// It has a right chain, where the conflict and the clauses that the source holds have the literals of live ones.
+/// A learned clause has a right chain, where the conflict and the clauses that the source holds have the literals of live ones.
 pub fn learned_has_chain()
     ensures { LearnedHasChain }
 {}
@@ -131,7 +131,7 @@ pub fn clause_conflicts_are_now()
     ensures { ClauseConflictsAreNow }
 {}
 
-/// So has a clause that the parities imply.
+/// Above level 0 so has a clause that the parities imply.
 pub fn row_conflicts_are_now()
     ensures { RowConflictsAreNow }
 {}
@@ -146,17 +146,17 @@ pub fn ended_is_unmet()
     ensures { EndedIsUnmet }
 {}
 
-/// A right step that ends the log ends it.
+/// A right step that ends a log makes it one that is right to its end.
 pub fn last_steps_end()
     ensures { LastStepsEnd }
 {}
 
-/// So does a clause by a right chain, and where no clause is owed the marks are as before.
+/// So does a clause by a right chain, and the marks are as before where no clause is owed.
 pub fn chained_clauses_end()
     ensures { ChainedClausesEnd }
 {}
 
-/// And the clause of a row, where its sum is live.
+/// So does the clause of a row, where its sum is live.
 pub fn row_clauses_end()
     ensures { RowClausesEnd }
 {}
@@ -174,6 +174,11 @@ pub fn searches_are_open()
 /// Where both engines are quiet and all is decided, the values of the trail meet the formula.
 pub fn full_is_met()
     ensures { FullIsMet }
+{}
+
+/// The engine's parities say what the formula's do, where these stand first among them.
+pub fn theirs_are_had()
+    ensures { TheirsAreHad }
 {}
 
 /// Where both engines are quiet over a settled formula, all is decided.
@@ -196,12 +201,12 @@ pub fn stored_rests()
     ensures { StoredRests }
 {}
 
-/// It forces what the stored list forces.
+/// A clause forces what a stored list with the same literals forces.
 pub fn stored_forces()
     ensures { StoredForces }
 {}
 
-/// It is false where each literal of the stored list is.
+/// A clause is false where each literal of a stored list with the same literals is.
 pub fn stored_is_false()
     ensures { StoredIsFalse }
 {}
@@ -211,7 +216,7 @@ pub fn larger_clauses_rest()
     ensures { LargerClausesRest }
 {}
 
-/// So does each clause that quiet parities imply.
+/// Each clause that quiet parities imply rests.
 pub fn implied_clauses_rest()
     ensures { ImpliedClausesRest }
 {}
@@ -226,22 +231,22 @@ pub fn fresh_engines_hold()
     ensures { FreshEnginesHold }
 {}
 
-/// The literal of the next entry is assigned.
+/// An engine that is assigned the literal of the next entry holds the values of the longer trail.
 pub fn assigned_values_hold()
     ensures { AssignedValuesHold }
 {}
 
-/// A level is opened.
+/// An engine that opens a level holds what it held.
 pub fn new_levels_hold()
     ensures { NewLevelsHold }
 {}
 
-/// An event is answered.
+/// So does an engine that answers an event.
 pub fn answers_hold()
     ensures { AnswersHold }
 {}
 
-/// Levels are taken back.
+/// An engine that takes levels back holds the values of the trail that is left.
 pub fn values_taken_back_hold()
     ensures { ValuesTakenBackHold }
 {}
@@ -266,22 +271,22 @@ pub fn no_value_is_open()
     ensures { NoValueIsOpen }
 {}
 
-/// They stand at the start.
+/// The ranges of ids stand at the start.
 pub fn begun_is_ranged()
     ensures { BegunIsRanged }
 {}
 
-/// Steps of the trail keep them.
+/// Steps of the trail keep the ranges: a decision, a literal that a row or a clause forces, a jump back, and a literal that rests on its unit.
 pub fn trail_steps_keep_ranges()
     ensures { TrailStepsKeepRanges }
 {}
 
-/// Steps that are told keep them: a clause for good, the reason of a row, deletions, a mark.
+/// Steps that are told keep the ranges: a clause for good, the reason of a row, deletions, a recovered parity, a mark.
 pub fn told_steps_keep_ranges()
     ensures { ToldStepsKeepRanges }
 {}
 
-/// A whole conflict keeps them, and the ids of rows begin anew.
+/// A whole conflict keeps the ranges, and the ids of rows begin anew.
 pub fn rounds_keep_ranges()
     ensures { RoundsKeepRanges }
 {}
@@ -304,6 +309,16 @@ pub fn high_is_no_reason()
 /// No id from the bound on is among ids below it.
 pub fn high_is_not_among()
     ensures { HighIsNotAmong }
+{}
+
+/// At the start the ids above the formula's parities are free for sums.
+pub fn sums_are_free_at_first()
+    ensures { SumsAreFreeAtFirst }
+{}
+
+/// A recovered parity takes the next of them.
+pub fn recovered_takes_one()
+    ensures { RecoveredTakesOne }
 {}
 
 /// Behind the reason of a row the id of its sum is free again.
