@@ -87,7 +87,7 @@ reasons_back : (bound k : ℕ) (es : List Entry) → ReasonsBelow bound es → R
 reasons_back bound k [] r = tt
 reasons_back bound k (e ∷ es) r = elim (nat_le e.level k) as (λ b. ReasonsBelow bound (cond b (e ∷ es) (back_to k es))) [ true ↦ r | false ↦ reasons_back bound k es r.1 ]
 
-low_reason : (bound n : ℕ) → n < bound → (k : ℕ) → by_clause n ≡ by_clause k → k < bound
+pub low_reason : (bound n : ℕ) → n < bound → (k : ℕ) → by_clause n ≡ by_clause k → k < bound
 low_reason bound n h k e = let same : n ≡ k = same_number n k e in omega (arith, same, h)
   where
     same_number : (a b : ℕ) → by_clause a ≡ by_clause b → a ≡ b

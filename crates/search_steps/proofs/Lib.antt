@@ -23,3 +23,4 @@ pub mod Stored
 pub mod IdLaws
 pub mod OverSearch
 pub mod RoundEnds
+pub mod Propagation

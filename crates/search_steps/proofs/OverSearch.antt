@@ -1,5 +1,5 @@
 -- Laws of trails, said of a search's trail and of its older part.
-use Rattle.std.proofs.Common.{◌≡◌, sym, ◌∙◌, subst, ℕ, ◌<◌, Bool, true, List, [], ◌∷◌, ◌++◌, Contains}
+use Rattle.std.proofs.Common.{◌≡◌, sym, ◌∙◌, subst, ℕ, ◌≤◌, ◌<◌, Bool, true, List, [], ◌∷◌, ◌++◌, Contains}
 use Rattle.cx_base.specs.Literals.{Literal}
 use Rattle.std.proofs.lemmas.List.Folds.{list_all-append}
 use Rattle.std.specs.List.{list_all}
@@ -17,7 +17,11 @@ use Rattle.search_steps.specs.Trail.{Entry, all_held, back_to, IsTrail}
 use Rattle.search_steps.specs.Quiet.{IsOfParities}
 use Rattle.search_steps.specs.Search.{Search, IsSearch, IsLearnedOf}
 use Rattle.search_steps.specs.LogSteps.{RestOnClauses}
-use Rattle.search_steps.specs.Tied.{Mirrors}
+use Rattle.cx_trail.specs.declared.entry.Entry.{Entry as TrailEntry}
+use Rattle.search_steps.specs.Propagated.{IsPropagated}
+use Rattle.search_steps.specs.Tied.{Mirrors, AreForcedBehind}
+use Rattle.search_steps.proofs.Bridge.{level_tied}
+use Rattle.search_steps.proofs.Propagation.{propagation_keeps}
 use Rattle.search_steps.specs.Engine.{HoldsValues}
 use Rattle.search_steps.proofs.LogLaws.{falsified_has_chain}
 use Rattle.search_steps.proofs.LearnedLaws.{taught_is_learned}
@@ -42,6 +46,10 @@ module _ (formula : Problem) (parities : List (List Literal)) (s : Search) (ok :
       → Teaches t conflict holds resolved lits back lbd → (l : Literal) × (more : List Literal) × (lits ≡ l ∷ more) × IsLearnedOf s.trail back lits l
   taught_by_search t f above conflict holds resolved lits back lbd =
       taught_is_learned s.moment.tables.clauses (IsOfParities formula.variables parities) s.trail ok.serves.stands t f.sound f.tied above conflict holds resolved lits back lbd
+
+  pub propagated_search : (t : TrailState) → Mirrors s.trail t → s.quiet_levels ≤ t.level → (bound : ℕ) (more : List TrailEntry) → AreForcedBehind s.moment.tables.clauses bound t.level t.entries more
+      → IsPropagated formula parities bound s (t.entries ++ more)
+  propagated_search t f low bound more forced = propagation_keeps formula parities bound t.level s ok low (level_tied s.trail t f.tied f.sound) t.entries f.tied more forced
 
   module _ (newer older : List Entry) (parts : s.trail ≡ newer ++ older) where
     older_stands : IsTrail s.moment.tables.clauses (IsOfParities formula.variables parities) older

@@ -29,10 +29,6 @@ deleted_new_sums : (s : Search) (ids : List ℕ) → (deleted s ids).moment.new_
 deleted_new_sums s [] = refl
 deleted_new_sums s (n ∷ ids) = deleted_new_sums (told s (Step (Delete n []))) ids
 
-deleted_quiet : (s : Search) (ids : List ℕ) → (deleted s ids).quiet_levels ≡ s.quiet_levels
-deleted_quiet s [] = refl
-deleted_quiet s (n ∷ ids) = deleted_quiet (told s (Step (Delete n []))) ids
-
 both_empty : (xs ys : List ℕ) → xs ≡ [] → ys ≡ [] → xs ++ ys ≡ []
 both_empty xs ys a b = ap (λ zs. zs ++ ys) a ∙ b
 

@@ -19,7 +19,7 @@ use Rattle.search_steps.specs.LogSteps.{IsAddition, AreTemporary, deleted, after
 use Rattle.search_steps.proofs.Sets.{by_cases, not_both}
 use Rattle.search_steps.proofs.TrailLaws.{trail_no_clash, held_inside, back_holds, back_level}
 use Rattle.search_steps.proofs.ServesLaws.{force_keeps, jump_keeps}
-use Rattle.search_steps.proofs.LogLaws.{mark_keeps, learned_keeps, delete_keeps}
+use Rattle.search_steps.proofs.LogLaws.{append_nil, mark_keeps, learned_keeps, delete_keeps}
 use Rattle.search_steps.proofs.RowReasons.{all_deleted}
 
 still_not : (xs : List ℕ) (n m : ℕ) → is_among xs m ≡ false → is_among (without xs n) m ≡ false
@@ -113,10 +113,6 @@ module _ (s : Search) (n : ℕ) (zs : List ℤ) (back : ℕ) (l : Literal) where
   pub round_clears_old : s.moment.old_clauses ≡ [] → (after_round s n zs back l).moment.old_clauses ≡ []
   round_clears_old none = deleted_old (after_learned s n zs back) s.moment.new_clauses ∙ all_deleted s.moment.new_clauses (s.moment.new_clauses ++ s.moment.old_clauses)
       (λ m h. subst (λ xs. is_among xs m ≡ true) (ap (λ xs. s.moment.new_clauses ++ xs) none ∙ append_nil s.moment.new_clauses) h)
-    where
-      append_nil : (xs : List ℕ) → xs ++ [] ≡ xs
-      append_nil [] = refl
-      append_nil (x ∷ xs) = ap (λ ys. x ∷ ys) (append_nil xs)
 
   pub round_clears_new : (after_round s n zs back l).moment.new_clauses ≡ []
   round_clears_new = deleted_new (after_learned s n zs back) s.moment.new_clauses refl

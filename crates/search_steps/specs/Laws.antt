@@ -29,10 +29,11 @@ use Rattle.gauss_jordan.specs.State.{State, IsSilent, Answers, assigned, back, f
 use Rattle.search_steps.specs.Engine.{HoldsValues}
 use Rattle.search_steps.specs.Ids.{ReasonsBelow, AreRowIds, HasFreeSums, IsRanged}
 use Rattle.search_steps.specs.LogSteps.{IsAddition, RestOnClauses, IsRowOf, IsClauseOfRow, IsRowReason, IsNoReason, IsEnded, AreTemporary, row_events, all_told, deleted, unit_told, after_round}
+use Rattle.search_steps.specs.Propagated.{IsPropagated}
 use Rattle.search_steps.specs.Quiet.{HasNoClash, RestsOn, IsOfParities, IsWatchedWell, ParitiesQuiet, ClausesQuiet, Quiet}
 use Rattle.search_steps.specs.Search.{Search, IsSearch, IsServed, IsTidy, IsLearnedOf, told, decided_on, forced_on, jumped, marked}
 use Rattle.search_steps.specs.Start.{IsBegun, start}
-use Rattle.search_steps.specs.Tied.{IsTied, IsLiveSet, Mirrors, ForcesOn, IsQuietOn, AreOthersFalseOn, IsFalsifiedOn}
+use Rattle.search_steps.specs.Tied.{IsTied, AreForcedBehind, IsLiveSet, Mirrors, ForcesOn, IsQuietOn, AreOthersFalseOn, IsFalsifiedOn}
 use Rattle.search_steps.specs.Trail.{Entry, by_clause, by_row, rests_on, all_held, back_to, level_of, IsUnassigned, Forces}
 
 -- a law of each search that holds
@@ -84,6 +85,12 @@ abbrev pub ClauseStepsKeep : Type 0
 ClauseStepsKeep = OfTrail (λ formula parities s t l reason.
     (n : ℕ) (clause : List Literal) → s.quiet_levels ≤ t.level → get s.moment.tables.clauses n ≡ Some clause → ForcesOn t.entries clause l
     → IsSearch formula parities (forced_on s l (by_clause n)) × IsTied (forced_on s l (by_clause n)).trail (pushed t t.level l reason).entries)
+
+-- a whole propagation keeps the search: entries that live clauses force one after another
+abbrev pub PropagationsKeep : Type 0
+PropagationsKeep = OfSearch (λ formula parities s.
+    (t : TrailState) → Mirrors s.trail t → s.quiet_levels ≤ t.level → (bound : ℕ) (more : List TrailEntry) → AreForcedBehind s.moment.tables.clauses bound t.level t.entries more
+    → IsPropagated formula parities bound s (t.entries ++ more))
 
 -- so does a literal that a clause of the parities forces
 abbrev pub RowStepsKeep : Type 0

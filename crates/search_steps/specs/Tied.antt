@@ -1,9 +1,9 @@
 -- The trail of the code and the trail of the calculus.
-use Rattle.std.specs.Prelude.{◌≡◌, ◌≢◌, ◌⊎◌, List, [], ◌∷◌, ◌++◌, IsTrue, IsFalse, Contains}
+use Rattle.std.specs.Prelude.{◌≡◌, ◌≢◌, ◌⊎◌, ℕ, ◌<◌, ⊤, Some, List, [], ◌∷◌, ◌++◌, IsTrue, IsFalse, Contains}
 use Rattle.cx_base.specs.Literals.{Literal, same_literal}
 use Rattle.cx_semantics.specs.Chain.{has_literal, same_literals}
 use Rattle.cx_semantics.specs.Fresh.{IsLive}
-use Rattle.cx_semantics.specs.Tables.{Table}
+use Rattle.cx_semantics.specs.Tables.{Table, get}
 use Rattle.cx_trail.specs.declared.entry.Entry.{Entry as TrailEntry}
 use Rattle.cx_trail.specs.Sequence.{TrailState, IsTrueIn, IsFalseIn, IsOpenIn, IsTrail as IsCodeTrail}
 use Rattle.search_steps.specs.Trail.{Entry}
@@ -39,3 +39,10 @@ AreOthersFalseOn entries lits l = (m : Literal) → Contains lits m → m ≢ l 
 -- each is false
 abbrev pub IsFalsifiedOn : List TrailEntry → List Literal → Type 0
 IsFalsifiedOn entries lits = (m : Literal) → Contains lits m → IsFalseIn entries m
+
+-- The entries stand behind the others, at this level: each is open there and forced by a live clause whose id is below the bound.
+abbrev pub AreForcedBehind : Table → ℕ → ℕ → List TrailEntry → List TrailEntry → Type 0
+AreForcedBehind table bound level before [] = ⊤
+AreForcedBehind table bound level before (e ∷ more) =
+    (e.level ≡ level) × IsOpenIn before e.literal.variable × ((n : ℕ) × (clause : List Literal) × (n < bound) × (get table n ≡ Some clause) × ForcesOn before clause e.literal)
+    × AreForcedBehind table bound level (before ++ e ∷ []) more
