@@ -98,7 +98,7 @@ reasons_rest bound n [] older e h r = (low_reason bound n h, r.1)
 reasons_rest bound n (x ∷ newer) older e h r = (r.0, reasons_rest bound n newer older e h r.1)
 
 module _ (formula : Problem) (bound next row_next : ℕ) where
-  with_trail : (old new : List Entry) (m : Moment) → ReasonsBelow bound new → IsRanged formula bound next row_next old m → IsRanged formula bound next row_next new m
+  pub with_trail : (old new : List Entry) (m : Moment) → ReasonsBelow bound new → IsRanged formula bound next row_next old m → IsRanged formula bound next row_next new m
   with_trail old new m r i = record {
     originals = i.originals;
     room = i.room;

@@ -21,7 +21,7 @@ use Rattle.cx_semantics.specs.Tables.{Table, Tables, get}
 use Rattle.cx_trail.specs.declared.entry.Entry.{Entry as TrailEntry}
 use Rattle.cx_trail.specs.declared.entry.Reason.{Reason}
 use Rattle.cx_trail.specs.Sequence.{TrailState, TakesBack, pushed, IsTrueIn, IsOpenIn}
-use Rattle.conflict_learn.specs.Learning.{IsLearned, IsOfLevel}
+use Rattle.conflict_learn.specs.Learning.{IsAntecedent, IsLearned, IsOfLevel}
 use Rattle.conflict_learn.specs.Levels.{Teaches}
 use Rattle.gauss_jordan.specs.declared.event.ParityEvent.{ParityEvent}
 use Rattle.gauss_jordan.specs.declared.state.Held.{Held}
@@ -201,6 +201,11 @@ abbrev pub LearnedHasChain : Type 0
 LearnedHasChain =
     (table : Table) (trail : TrailState) (conflict resolved lits : List Literal) → IsLiveSet table conflict → IsLearned trail conflict (IsLiveSet table) resolved lits → HasChain table lits
 
+-- a clause that forced an entry in the calculus is one that implied its literal on the code's trail
+abbrev pub ForcedIsImplied : Type 0
+ForcedIsImplied =
+    (t : TrailState) (newer older : List Entry) (e : Entry) → Mirrors (newer ++ e ∷ older) t → (clause : List Literal) → Forces clause (all_held older) e.literal → IsAntecedent t e.literal clause
+
 -- above level 0 a clause with the literals of a live one has a literal that is false at the current level or not at all
 abbrev pub ClauseConflictsAreNow : Type 0
 ClauseConflictsAreNow = OfSearch (λ formula parities s.
@@ -371,6 +376,10 @@ ToldStepsKeepRanges = OfRanges (λ formula bound next row_next s.
     × ((ids : List ℕ) → IsRanged formula bound next row_next (deleted s ids).trail (deleted s ids).moment)
     × ((n : ℕ) (zs : List ℤ) (ids : List ℕ) → IsRanged formula bound next row_next s.trail (after_event s.moment (Step (ParityOfClauses n zs ids))))
     × IsRanged formula bound next row_next (marked s).trail (marked s).moment)
+
+-- so does any trail whose reasons are below the bound
+abbrev pub OtherTrailsKeepRanges : Type 0
+OtherTrailsKeepRanges = OfRanges (λ formula bound next row_next s. (es : List Entry) → ReasonsBelow bound es → IsRanged formula bound next row_next es s.moment)
 
 -- a whole conflict keeps the ranges, and the ids of rows begin anew
 abbrev pub RoundsKeepRanges : Type 0

@@ -1,5 +1,5 @@
 //! The laws of the search's steps. Each function's contract is the law, and its body is empty.
-ghost use Rattle.search_steps.specs.Laws.{AnswersHold, AssignedValuesHold, BegunIsRanged, BegunIsSearch, ChainedClausesEnd, ClauseConflictsAreNow, ClauseStepsKeep, DecisionsKeep, DeletionsKeep, EndedIsUnmet, FalsifiedHasChain, FreshEnginesHold, FullIsMet, HighIsNoReason, HighIsNotAmong, ImpliedClausesRest, JumpsKeep, JumpsStayTied, KnownIsTrue, LargerClausesRest, LastStepsEnd, LaterEntriesGo, LearnedClausesKeep, LearnedDeletionsKeep, LearnedHasChain, MarksKeep, NewLevelsHold, NextIdsAreFree, NoValueIsOpen, NothingIsBegun, OpenHasNoValue, OriginalClausesAreTold, OriginalParitiesAreTold, PropagationsKeep, RecoveredParitiesJoin, RecoveredTakesOne, RoundsAreTidy, RoundsKeep, RoundsKeepRanges, RoundsStayTied, RowClausesEnd, RowClausesKeep, RowConflictsAreNow, RowIdsAreTemporary, RowReasonsKeep, RowReasonsServe, RowStepsKeep, RowsAreOfParities, SearchesAreOpen, SettledWantsNoDecision, SilentIsQuiet, StoredForces, StoredIsFalse, StoredRests, SumDeletionsKeep, SumsAreFreeAgain, SumsAreFreeAtFirst, SumsKeep, TaughtIsLearned, TheirsAreHad, ToldStepsKeepRanges, TrailStepsKeepRanges, TrailsHaveNoClash, UnitsKeep, ValuesTakenBackHold, WatchedIsQuiet};
+ghost use Rattle.search_steps.specs.Laws.{AnswersHold, AssignedValuesHold, BegunIsRanged, BegunIsSearch, ChainedClausesEnd, ClauseConflictsAreNow, ClauseStepsKeep, DecisionsKeep, DeletionsKeep, EndedIsUnmet, FalsifiedHasChain, ForcedIsImplied, FreshEnginesHold, FullIsMet, HighIsNoReason, HighIsNotAmong, ImpliedClausesRest, JumpsKeep, JumpsStayTied, KnownIsTrue, LargerClausesRest, LastStepsEnd, LaterEntriesGo, LearnedClausesKeep, LearnedDeletionsKeep, LearnedHasChain, MarksKeep, NewLevelsHold, NextIdsAreFree, NoValueIsOpen, NothingIsBegun, OpenHasNoValue, OriginalClausesAreTold, OriginalParitiesAreTold, OtherTrailsKeepRanges, PropagationsKeep, RecoveredParitiesJoin, RecoveredTakesOne, RoundsAreTidy, RoundsKeep, RoundsKeepRanges, RoundsStayTied, RowClausesEnd, RowClausesKeep, RowConflictsAreNow, RowIdsAreTemporary, RowReasonsKeep, RowReasonsServe, RowStepsKeep, RowsAreOfParities, SearchesAreOpen, SettledWantsNoDecision, SilentIsQuiet, StoredForces, StoredIsFalse, StoredRests, SumDeletionsKeep, SumsAreFreeAgain, SumsAreFreeAtFirst, SumsKeep, TaughtIsLearned, TheirsAreHad, ToldStepsKeepRanges, TrailStepsKeepRanges, TrailsHaveNoClash, UnitsKeep, ValuesTakenBackHold, WatchedIsQuiet};
 
 /// At the start nothing is told.
 pub fn nothing_is_begun()
@@ -129,6 +129,11 @@ pub fn taught_is_learned()
 /// A learned clause has a right chain, where the conflict and the clauses that the source holds have the literals of live ones.
 pub fn learned_has_chain()
     ensures { LearnedHasChain }
+{}
+
+/// A clause that forced an entry in the calculus is one that implied its literal on the code's trail.
+pub fn forced_is_implied()
+    ensures { ForcedIsImplied }
 {}
 
 /// Above level 0 a clause with the literals of a live one has a literal that is false at the current level or not at all.
@@ -289,6 +294,11 @@ pub fn trail_steps_keep_ranges()
 /// Steps that are told keep the ranges: a clause for good, the reason of a row, deletions, a recovered parity, a mark.
 pub fn told_steps_keep_ranges()
     ensures { ToldStepsKeepRanges }
+{}
+
+/// So does any trail whose reasons are below the bound.
+pub fn other_trails_keep_ranges()
+    ensures { OtherTrailsKeepRanges }
 {}
 
 /// A whole conflict keeps the ranges, and the ids of rows begin anew.
