@@ -1,0 +1,78 @@
+-- A step that ends the log: the log is right to its end, the marks are as before, and nothing meets the formula.
+use Rattle.std.proofs.Common.{◌≡◌, refl, sym, ap, ◌∙◌, subst, ℕ, ℤ, true, false, not, ◌||◌, MatchBool, List, [], ◌∷◌, ◌++◌, length, Some, is_some, true≢false, length-append}
+use Rattle.std.proofs.lemmas.List.Elements.{filter_map-append}
+use Rattle.std.specs.List.{list_all, cons_option}
+use Rattle.cx_base.specs.Literals.{Literal}
+use Rattle.cx_base.specs.Problem.{Problem, Unmet, clause_met, parity_met}
+use Rattle.cx_semantics.specs.declared.steps.LogStep.{LogStep}
+use Rattle.cx_semantics.specs.declared.steps.LogStep.TheVariants.{Clause, ClauseOfParity}
+use Rattle.cx_semantics.specs.declared.steps.LogEvent.{LogEvent}
+use Rattle.cx_semantics.specs.declared.steps.LogEvent.TheVariants.{Step}
+use Rattle.cx_semantics.specs.Implied.{Implies}
+use Rattle.cx_semantics.specs.Integers.{literals}
+use Rattle.cx_semantics.specs.Judging.{IsRight}
+use Rattle.cx_semantics.specs.LogRules.{log_calculus, HasChain, derives_empty_clause}
+use Rattle.cx_semantics.specs.LogText.{steps_of, step_of}
+use Rattle.cx_semantics.specs.Marked.{Marked, StepFits, IsLearned, IsKnown, first_moment, after_event, mark_of}
+use Rattle.cx_semantics.specs.ProofRules.{all_met}
+use Rattle.cx_semantics.specs.Tables.{get, named}
+use Rattle.cx_semantics.proofs.ChainLaws.{and_parts}
+use Rattle.cx_semantics.proofs.MoreLaws.{events_go_on}
+use Rattle.cx_semantics.proofs.Soundness.{right_steps_are_unmet}
+use Rattle.search_steps.specs.Search.{Search, IsSearch}
+use Rattle.search_steps.specs.LogSteps.{IsAddition, IsEnded, IsClauseOfRow}
+use Rattle.search_steps.proofs.LogLaws.{append_nil, begins_still}
+
+-- a log that is right to its end shows that no values meet the formula
+pub ended_is_unmet : (formula : Problem) (events : List LogEvent) → IsEnded formula events → Unmet formula
+ended_is_unmet formula events e = right_steps_are_unmet formula (steps_of events) (length (steps_of events)) e
+
+module _ (formula : Problem) (parities : List (List Literal)) (s : Search) (ok : IsSearch formula parities s) where
+  -- a right step that ends the log
+  pub last_step_ends : (step : LogStep) → IsRight (log_calculus formula) s.moment.tables step → derives_empty_clause step ≡ true → IsEnded formula (s.events ++ Step step ∷ [])
+  last_step_ends step is_right ends = record {
+    before = steps_of s.events;
+    step = step;
+    later = [];
+    tables = s.moment.tables;
+    split = split;
+    runs = ok.log.runs;
+    right = is_right;
+    ends = ends;
+    number = ap length split ∙ length-append (steps_of s.events) (step ∷ []);
+  }
+    where
+      split : steps_of (s.events ++ Step step ∷ []) ≡ steps_of s.events ++ step ∷ []
+      split = filter_map-append step_of s.events (Step step ∷ [])
+
+  -- and the marks are those of before
+  pub last_step_is_marked : (step : LogStep) → StepFits s.moment step → (after_event s.moment (Step step)).awaits ≡ false → Marked formula (s.events ++ Step step ∷ []) s.conflicts
+  last_step_is_marked step fits served = record {
+    marks = filter_map-append mark_of s.events (Step step ∷ []) ∙ append_nil _ ∙ ok.log.marks;
+    originals = begins_still formula.constraints s.events (Step step ∷ []) ok.log.originals;
+    last = after_event s.moment (Step step);
+    fit = events_go_on formula first_moment s.moment s.events (Step step) ok.log.fits fits;
+    served = served;
+  }
+
+  -- a clause by a right chain, while no clause is owed
+  pub chained_clause_ends : (n : ℕ) (zs : List ℤ) → IsAddition formula s.moment.tables.clauses n zs → HasChain s.moment.tables.clauses (literals zs) → derives_empty_clause (Clause n zs) ≡ true
+      → IsEnded formula (s.events ++ Step (Clause n zs) ∷ [])
+  chained_clause_ends n zs a has_chain ends = last_step_ends (Clause n zs) (a.within, (ap is_some a.free, (has_chain, tt))) ends
+
+  pub chained_clause_is_marked : (n : ℕ) (zs : List ℤ) → s.moment.awaits ≡ false → derives_empty_clause (Clause n zs) ≡ true → Marked formula (s.events ++ Step (Clause n zs) ∷ []) s.conflicts
+  chained_clause_is_marked n zs served ends = last_step_is_marked (Clause n zs)
+      (subst (λ b. MatchBool b (IsLearned s.moment (literals zs)) (derives_empty_clause (Clause n zs) ≡ false → IsKnown s.moment (literals zs))) (sym served) (λ e. absurd (true≢false (sym ends ∙ e))))
+      refl
+
+  -- the clause of a row
+  pub row_clause_ends : (n : ℕ) (zs : List ℤ) (source : ℕ) (row : List Literal) → IsAddition formula s.moment.tables.clauses n zs → get s.moment.tables.parities source ≡ Some row
+      → IsClauseOfRow formula.variables row (literals zs) → derives_empty_clause (ClauseOfParity n zs source) ≡ true → IsEnded formula (s.events ++ Step (ClauseOfParity n zs source) ∷ [])
+  row_clause_ends n zs source row a live c ends = last_step_ends (ClauseOfParity n zs source) (a.within, (ap is_some a.free, (ap (λ b. not b || false) (ap is_some live), (implied, tt)))) ends
+    where
+      implied : Implies (all_met parity_met (named s.moment.tables.parities (source ∷ []))) (λ values. clause_met values (literals zs))
+      implied values h = c.implied values (and_parts (parity_met values row) true (ap (λ o. list_all (parity_met values) (cons_option o [])) (sym live) ∙ h)).0
+
+  pub row_clause_is_marked : (n : ℕ) (zs : List ℤ) (source : ℕ) (row : List Literal) → s.moment.awaits ≡ false → get s.moment.tables.parities source ≡ Some row → IsClauseOfRow formula.variables row (literals zs)
+      → Marked formula (s.events ++ Step (ClauseOfParity n zs source) ∷ []) s.conflicts
+  row_clause_is_marked n zs source row served live c = last_step_is_marked (ClauseOfParity n zs source) (row, live, c.one_of_each) served

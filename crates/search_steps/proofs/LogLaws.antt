@@ -1,0 +1,232 @@
+-- Each step that the search tells is right and fits, and keeps what holds of the search.
+use Rattle.std.proofs.Common.{◌≡◌, refl, sym, ap, ◌∙◌, subst, ℕ, zero, suc, ◌+◌, ◌*◌, ◌≤◌, ◌<◌, ℤ, true, false, not, ◌||◌, MatchBool, List, [], ◌∷◌, ◌++◌, length, Some, None, is_some, filter_map, Contains, arith, ◌⊎◌, inl, inr, true≢false}
+use Rattle.std.proofs.lemmas.List.Elements.{filter_map-append}
+use Rattle.std.specs.List.{list_any, list_all, range_with_len, AllByRecursion}
+use Rattle.std.specs.FinMap as map_
+use Rattle.cx_base.specs.Literals.{Literal, negate, same_literal}
+use Rattle.cx_base.specs.Problem.{Problem, clauses_of, clause_met, parity_met}
+use Rattle.cx_base.specs.declared.constraint.Constraint.{Constraint}
+use Rattle.cx_semantics.specs.declared.steps.LogStep.{LogStep}
+use Rattle.cx_semantics.specs.declared.steps.LogStep.TheVariants.{Clause, Parity, ClauseOfParity, Delete, DeleteParity}
+use Rattle.cx_semantics.specs.declared.steps.LogEvent.{LogEvent}
+use Rattle.cx_semantics.specs.declared.steps.LogEvent.TheVariants.{Step, Conflict}
+use Rattle.cx_semantics.specs.Chain.{has_literal, is_inside, negations, same_literals}
+use Rattle.cx_semantics.specs.Fresh.{Fresh, IsLive, KeepsUnits, FalsifiesNone, is_falsified}
+use Rattle.cx_semantics.specs.Implied.{Implies}
+use Rattle.cx_semantics.specs.Integers.{literals}
+use Rattle.cx_semantics.specs.Judging.{IsRight, Runs}
+use Rattle.cx_semantics.specs.LogRules.{log_calculus, after_log_step, derives_empty_clause, HasChain, AreLive}
+use Rattle.cx_semantics.specs.LogText.{step_of}
+use Rattle.cx_semantics.specs.Marked.{Moment, first_moment, after_event, StepFits, MarkFits, KeepsFormula, mark_of, BeginsWithOriginals, IsLearned, IsKnown, is_among, without}
+use Rattle.cx_semantics.specs.ProofRules.{all_met}
+use Rattle.cx_semantics.specs.Settled.{IsClauseOf}
+use Rattle.cx_semantics.specs.Tables.{Table, get, is_live, named}
+use Rattle.cx_semantics.proofs.ChainLaws.{and_parts, and_both, are_one}
+use Rattle.cx_semantics.proofs.Closure.{chain_or_closed, has_by_inside}
+use Rattle.cx_semantics.proofs.JudgingLaws.{runs_push}
+use Rattle.cx_semantics.proofs.MoreLaws.{events_go_on}
+use Rattle.search_steps.specs.Trail.{Entry, Why, by_clause, held, all_held, IsTrail, Forces, level_of}
+use Rattle.search_steps.specs.Quiet.{IsOfParities}
+use Rattle.search_steps.specs.Search.{Search, IsLog, Serves, IsSearch, told, marked, IsServed, IsLearnedOf, IsReached}
+use Rattle.search_steps.specs.LogSteps.{IsNoReason, IsAddition, RestOnClauses, IsUnitOf, IsRowOf, IsClauseOfRow, IsTemporary}
+use Rattle.search_steps.proofs.Sets.{by_cases, not_both, has_split, has_at_head, each_member, true_rests}
+use Rattle.search_steps.proofs.FreshLaws.{takes_forced}
+use Rattle.search_steps.proofs.QuietLaws.{implied_rests}
+use Rattle.search_steps.proofs.TrailLaws.{held_rises, held_inside, trail_no_clash, part_no_clash}
+use Rattle.search_steps.proofs.ServesLaws.{put_serves, drop_serves, put_parity_serves, drop_parity_serves, learned_is_fresh}
+
+-- ---- logs grow
+pub begins_still : (cs : List Constraint) (events : List LogEvent) (more : List LogEvent) → BeginsWithOriginals cs events → BeginsWithOriginals cs (events ++ more)
+begins_still [] events more h = tt
+begins_still (c ∷ cs) [] more h = absurd h
+begins_still (c ∷ cs) (e ∷ events) more h = (h.0, begins_still cs events more h.1)
+
+pub append_nil : {X : Type 0} (xs : List X) → xs ++ [] ≡ xs
+append_nil [] = refl
+append_nil (x ∷ xs) = ap (λ ys. x ∷ ys) (append_nil xs)
+
+range_push : (a n : ℕ) → range_with_len a (suc n) ≡ range_with_len a n ++ (a + n) ∷ []
+range_push a zero = ap (λ x. x ∷ []) (omega arith)
+range_push a (suc n) = ap (λ xs. a ∷ xs) (range_push (a + 1) n) ∙ ap (λ x. (a ∷ range_with_len (a + 1) n) ++ x ∷ []) (omega arith)
+
+next_range : (n : ℕ) → range_with_len 1 (n + 1) ≡ range_with_len 1 n ++ (n + 1) ∷ []
+next_range n =
+    let e : n + 1 ≡ suc n = omega arith in
+    let f : 1 + n ≡ n + 1 = omega arith in
+    ap (range_with_len 1) e ∙ range_push 1 n ∙ ap (λ x. range_with_len 1 n ++ x ∷ []) f
+
+module _ (formula : Problem) (events : List LogEvent) (moment : Moment) (conflicts : ℕ) (log : IsLog formula events moment conflicts) where
+  pub step_goes_on : (step : LogStep) → IsRight (log_calculus formula) moment.tables step → derives_empty_clause step ≡ false → StepFits moment step
+      → IsLog formula (events ++ Step step ∷ []) (after_event moment (Step step)) conflicts
+  step_goes_on step is_right goes fits = record {
+    runs = subst (λ steps. Runs (log_calculus formula) (log_calculus formula).start steps (after_log_step moment.tables step)) (sym (filter_map-append step_of events (Step step ∷ [])))
+        (runs_push (log_calculus formula) (log_calculus formula).start (filter_map step_of events) step moment.tables log.runs is_right goes);
+    fits = events_go_on formula first_moment moment events (Step step) log.fits fits;
+    marks = filter_map-append mark_of events (Step step ∷ []) ∙ append_nil (filter_map mark_of events) ∙ log.marks;
+    originals = begins_still formula.constraints events (Step step ∷ []) log.originals;
+  }
+
+  pub mark_goes_on : MarkFits formula moment → IsLog formula (events ++ Conflict (conflicts + 1) ∷ []) (after_event moment (Conflict (conflicts + 1))) (conflicts + 1)
+  mark_goes_on fits = record {
+    runs = subst (λ steps. Runs (log_calculus formula) (log_calculus formula).start steps moment.tables) (sym (filter_map-append step_of events (Conflict (conflicts + 1) ∷ []) ∙ append_nil (filter_map step_of events))) log.runs;
+    fits = events_go_on formula first_moment moment events (Conflict (conflicts + 1)) log.fits fits;
+    marks = filter_map-append mark_of events (Conflict (conflicts + 1) ∷ []) ∙ ap (λ xs. xs ++ (conflicts + 1) ∷ []) log.marks ∙ sym (next_range conflicts);
+    originals = begins_still formula.constraints events (Conflict (conflicts + 1) ∷ []) log.originals;
+  }
+
+pub here : {X : Type 0} (c : X) (cs : List X) → Contains (c ∷ cs) c
+here c cs = (0, omega arith, refl)
+
+pub there : {X : Type 0} (c : X) (cs : List X) (d : X) → Contains cs d → Contains (c ∷ cs) d
+there c cs d (k, less, e) = (suc k, omega (arith, less), e)
+
+-- ---- literals of level 0 are known
+-- literals that live clauses force one after another are in each closed set without conflict
+pub takes_all : (table : Table) (IsRow : List Literal → Type 0) (u : List Literal) → KeepsUnits (IsLive table) u → FalsifiesNone (IsLive table) u → (es : List Entry) → IsTrail table IsRow es → RestOnClauses es
+    → is_inside (all_held es) u ≡ true
+takes_all table IsRow u units none [] t r = refl
+takes_all table IsRow u units none (e ∷ es) t r =
+    let rest : is_inside (all_held es) u ≡ true = takes_all table IsRow u units none es t.2 r.1 in
+    let why : Rattle.search_steps.specs.Trail.Stands table IsRow (by_clause r.0.0) e.literal e.level es = subst (λ w. Rattle.search_steps.specs.Trail.Stands table IsRow w e.literal e.level es) r.0.1 t.1 in
+    let c = why.1 in
+    and_both _ _ (takes_forced table u c.0 e.literal units none (r.0.0, c.1) (λ m h n. has_by_inside (all_held es) u (negate m) rest (c.2.others_false m h n))) rest
+
+module _ (table : Table) (IsRow : List Literal → Type 0) (older : List Entry) (t : IsTrail table IsRow older) (r : RestOnClauses older) (clause : List Literal) (live : IsLive table clause) where
+  forced_is_reached : (l : Literal) → Forces clause (all_held older) l → IsReached table l
+  forced_is_reached l f u units none = takes_forced table u clause l units none live (λ m h n. has_by_inside (all_held older) u (negate m) (takes_all table IsRow u units none older t r) (f.others_false m h n))
+
+  -- a set with its negation falsifies the clause, so there is a right chain
+  pub forced_has_chain : (l : Literal) → Forces clause (all_held older) l → HasChain table (l ∷ [])
+  forced_has_chain l f = elim (chain_or_closed table (l ∷ [])) [
+    | inl h ↦ h
+    | inr c ↦ absurd (not_both (is_falsified c.u clause) (each_member (λ m. has_literal c.u (negate m)) clause (λ m h. by_cases (same_literal l m)
+        (λ e. ap (λ x. has_literal c.u (negate x)) (sym (are_one l m e)) ∙ (and_parts (has_literal c.u (negate l)) true c.has_assumed).0)
+        (λ n. has_by_inside (all_held older) c.u (negate m) (takes_all table IsRow c.u c.units c.no_conflict older t r) (f.others_false m h n))))
+        (c.no_conflict clause live))
+  ]
+
+  -- a falsified clause has a right chain for the empty clause
+  pub falsified_has_chain : is_inside (negations clause) (all_held older) ≡ true → HasChain table []
+  falsified_has_chain h = elim (chain_or_closed table []) [
+    | inl k ↦ k
+    | inr c ↦ absurd (not_both (is_falsified c.u clause)
+        (each_member (λ m. has_literal c.u (negate m)) clause (λ m k. has_by_inside (all_held older) c.u (negate m) (takes_all table IsRow c.u c.units c.no_conflict older t r) (Rattle.search_steps.proofs.Sets.negated_in clause (all_held older) m h k)))
+        (c.no_conflict clause live))
+  ]
+
+pub reached_is_known : (table : Table) (l : Literal) → IsReached table l → ¬ Fresh table (l ∷ [])
+reached_is_known table l h f =
+    let it : f.l ≡ l = only (has_split l [] f.l f.has_it) in
+    not_both (has_literal f.unknown.closed f.l) (ap (has_literal f.unknown.closed) it ∙ h f.unknown.closed f.unknown.units f.unknown.no_conflict) f.unknown.not_in
+  where
+    only : (f.l ≡ l) ⊎ (false ≡ true) → f.l ≡ l
+    only (inl e) = e
+    only (inr e) = absurd (true≢false (sym e))
+
+-- ---- steps of the search
+module _ (formula : Problem) (parities : List (List Literal)) (s : Search) (ok : IsSearch formula parities s) where
+  tell : (step : LogStep) → IsRight (log_calculus formula) s.moment.tables step → derives_empty_clause step ≡ false → StepFits s.moment step
+      → Serves formula parities (after_log_step s.moment.tables step) s.trail s.quiet_levels → IsSearch formula parities (told s (Step step))
+  tell step is_right goes fits serves = record { log = step_goes_on formula s.events s.moment s.conflicts ok.log step is_right goes fits; serves = serves }
+
+  not_live : (table : Table) (n : ℕ) → get table n ≡ None → is_live table n ≡ false
+  not_live table n e = ap is_some e
+
+  -- a unit clause of level 0
+  pub unit_keeps : (n : ℕ) (z : ℤ) (older : List Entry) (clause : List Literal) → IsAddition formula s.moment.tables.clauses n (z ∷ []) → derives_empty_clause (Clause n (z ∷ [])) ≡ false → s.moment.awaits ≡ false
+      → IsTrail s.moment.tables.clauses (IsOfParities formula.variables parities) older
+      → IsUnitOf s (Rattle.cx_semantics.specs.Integers.literal z) older clause → IsSearch formula parities (told s (Step (Clause n (z ∷ []))))
+  unit_keeps n z older clause a goes served t u =
+      let l = Rattle.cx_semantics.specs.Integers.literal z in
+      let IsRow = IsOfParities formula.variables parities in
+      tell (Clause n (z ∷ []))
+      (a.within, (not_live s.moment.tables.clauses n a.free, (forced_has_chain s.moment.tables.clauses IsRow older t u.on_clauses clause u.live l u.forces, tt)))
+      goes
+      (subst (λ b. MatchBool b (IsLearned s.moment (l ∷ [])) (derives_empty_clause (Clause n (z ∷ [])) ≡ false → IsKnown s.moment (l ∷ []))) (sym served)
+      (λ _. inl (refl, reached_is_known s.moment.tables.clauses l (forced_is_reached s.moment.tables.clauses IsRow older t u.on_clauses clause u.live l u.forces))))
+      (put_serves formula parities s.trail s.quiet_levels s.moment.tables n (l ∷ []) a.free
+      (λ k h. true_rests (held k s.trail) (l ∷ [])
+      (part_no_clash (held k s.trail) (all_held s.trail) (held_inside k s.trail) (trail_no_clash s.moment.tables.clauses IsRow s.trail ok.serves.stands))
+      (record { l = l; has_it = has_at_head l []; is_held = has_by_inside (held 0 s.trail) (held k s.trail) l (held_rises 0 k s.trail (omega arith)) u.level_0 }))
+      ok.serves)
+
+  -- the sum of parities of the engine
+  pub sum_keeps : (n : ℕ) (zs : List ℤ) (ids : List ℕ) → IsAddition formula s.moment.tables.parities n zs → IsRowOf parities s.moment.tables ids (literals zs) → IsSearch formula parities (told s (Step (Parity n zs ids)))
+  sum_keeps n zs ids a row = tell (Parity n zs ids)
+      (a.within, (not_live s.moment.tables.parities n a.free, (all_are_live ids row.live, (row.sums, tt))))
+      refl tt
+      (put_parity_serves formula parities s.trail s.quiet_levels s.moment.tables n (literals zs) a.free ok.serves)
+    where
+      all_are_live : (ids : List ℕ) → AreLive s.moment.tables.parities ids → list_any (λ k. not (is_live s.moment.tables.parities k)) ids ≡ false
+      all_are_live [] h = refl
+      all_are_live (k ∷ ks) h = ap (λ b. not b || list_any (λ x. not (is_live s.moment.tables.parities x)) ks) h.0 ∙ all_are_live ks h.1
+
+  -- the clause of a row, where the sum of the row is live
+  pub row_clause_keeps : (n : ℕ) (zs : List ℤ) (source : ℕ) (row : List Literal) → IsAddition formula s.moment.tables.clauses n zs → get s.moment.tables.parities source ≡ Some row
+      → IsOfParities formula.variables parities (literals zs) → IsClauseOfRow formula.variables row (literals zs) → derives_empty_clause (ClauseOfParity n zs source) ≡ false → IsSearch formula parities (told s (Step (ClauseOfParity n zs source)))
+  row_clause_keeps n zs source row a live of_parities c goes = tell (ClauseOfParity n zs source)
+      (a.within, (not_live s.moment.tables.clauses n a.free, (ap (λ b. not b || false) (ap is_some live), (implied, tt))))
+      goes
+      (row, live, c.one_of_each)
+      (put_serves formula parities s.trail s.quiet_levels s.moment.tables n (literals zs) a.free
+      (λ k h. implied_rests formula.variables parities (held k s.trail) (literals zs) (ok.serves.quiet k h).rows of_parities) ok.serves)
+    where
+      implied : Implies (all_met parity_met (named s.moment.tables.parities (source ∷ []))) (λ values. clause_met values (literals zs))
+      implied values h = c.implied values (and_parts (parity_met values row) true
+          (ap (λ o. list_all (parity_met values) (Rattle.std.specs.List.cons_option o [])) (sym live) ∙ h)).0
+
+  -- a learned clause, where one is owed
+  pub learned_keeps : (n : ℕ) (zs : List ℤ) (back : ℕ) (l : Literal) → IsAddition formula s.moment.tables.clauses n zs → derives_empty_clause (Clause n zs) ≡ false → s.moment.awaits ≡ true → s.quiet_levels ≡ level_of s.trail
+      → HasChain s.moment.tables.clauses (literals zs) → IsLearnedOf s.trail back (literals zs) l
+      → IsSearch formula parities (record (told s (Step (Clause n zs))) { quiet_levels = back })
+  learned_keeps n zs back l a goes owed levels has_chain learned = record {
+    log = step_goes_on formula s.events s.moment s.conflicts ok.log (Clause n zs)
+        (a.within, (not_live s.moment.tables.clauses n a.free, (has_chain, tt)))
+        goes
+        (subst (λ b. MatchBool b (IsLearned s.moment (literals zs)) (derives_empty_clause (Clause n zs) ≡ false → IsKnown s.moment (literals zs))) (sym owed)
+        (long zs learned.asserting.has_it, learned_is_fresh formula parities s ok back (literals zs) l levels learned));
+    serves = put_serves formula parities s.trail back s.moment.tables n (literals zs) a.free
+        (Rattle.search_steps.proofs.ServesLaws.learned_rests formula parities s ok back (literals zs) l learned)
+        (record {
+          stands = ok.serves.stands;
+          quiet = λ k h. let low = learned.lower in ok.serves.quiet k (omega (arith, h, levels, low));
+          keeps_clauses = ok.serves.keeps_clauses;
+          keeps_parities = ok.serves.keeps_parities;
+        });
+  }
+    where
+      long : (zs : List ℤ) → has_literal (literals zs) l ≡ true → 1 ≤ length (literals zs)
+      long [] h = not_both false h refl
+      long (z ∷ zs) h = omega arith
+
+  -- deletions
+  pub delete_keeps : (n : ℕ) (zs : List ℤ) → IsTemporary formula s n → IsNoReason n s.trail → IsSearch formula parities (told s (Step (Delete n zs)))
+  delete_keeps n zs t no_reason = tell (Delete n zs) tt refl
+      (λ h. not_both (is_among s.moment.learned n) (and_parts _ _ h).0 t.not_learned)
+      (drop_serves formula parities s.trail s.quiet_levels s.moment.tables n t.high no_reason ok.serves)
+
+  pub delete_learned_keeps : (n : ℕ) (zs : List ℤ) → length (clauses_of formula.constraints) < n → IsNoReason n s.trail → 1000 + 250 * s.moment.reductions ≤ length (without s.moment.learned n)
+      → IsSearch formula parities (told s (Step (Delete n zs)))
+  delete_learned_keeps n zs high no_reason enough = tell (Delete n zs) tt refl (λ _. enough)
+      (drop_serves formula parities s.trail s.quiet_levels s.moment.tables n high no_reason ok.serves)
+
+  pub delete_sum_keeps : (n : ℕ) (zs : List ℤ) → length parities < n → IsSearch formula parities (told s (Step (DeleteParity n zs)))
+  delete_sum_keeps n zs high = tell (DeleteParity n zs) tt refl tt (drop_parity_serves formula parities s.trail s.quiet_levels s.moment.tables n high ok.serves)
+
+  -- the mark of a counted conflict
+  keeps_formula : KeepsFormula formula s.moment.tables.clauses
+  keeps_formula clause h = inl (look (clauses_of formula.constraints) (λ c k. k) h)
+    where
+      look : (lists : List (List Literal)) → ((c : List Literal) → Contains lists c → IsClauseOf formula c) → list_any (same_literals clause) lists ≡ true
+          → (inner : List Literal) × IsLive s.moment.tables.clauses inner × (is_inside inner clause ≡ true)
+      look [] f e = not_both false e refl
+      look (c ∷ cs) f e = elim (same_literals clause c) as (λ b. same_literals clause c ≡ b → (b || list_any (same_literals clause) cs) ≡ true → (inner : List Literal) × IsLive s.moment.tables.clauses inner × (is_inside inner clause ≡ true)) [
+        | true ↦ λ g _. let kept = ok.serves.keeps_clauses c (f c (here c cs)) in (c, (kept.0, kept.2), (and_parts (is_inside clause c) (is_inside c clause) g).1)
+        | false ↦ λ g r. look cs (λ d k. f d (there c cs d k)) r
+      ] refl e
+
+  pub mark_keeps : IsServed s → IsSearch formula parities (marked s)
+  mark_keeps tidy = record {
+    log = mark_goes_on formula s.events s.moment s.conflicts ok.log (record { served = tidy.served; kept = keeps_formula; no_old_clauses = tidy.no_old_clauses; no_old_sums = tidy.no_old_sums });
+    serves = ok.serves;
+  }

@@ -1,0 +1,5 @@
+use Rattle.search_steps.proofs.CodeSteps.{decision_step_keeps}
+use Rattle.search_steps.proofs.laws.decisions_keep.Goals as goal
+
+pub returns : goal.returns
+returns c = decision_step_keeps

@@ -1,0 +1,5 @@
+use Rattle.search_steps.proofs.EndLaws.{full_is_met}
+use Rattle.search_steps.proofs.laws.full_is_met.Goals as goal
+
+pub returns : goal.returns
+returns c = full_is_met

@@ -1,0 +1,5 @@
+use Rattle.search_steps.proofs.LogLaws.{mark_keeps}
+use Rattle.search_steps.proofs.laws.marks_keep.Goals as goal
+
+pub returns : goal.returns
+returns c = mark_keeps

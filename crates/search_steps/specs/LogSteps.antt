@@ -1,0 +1,102 @@
+-- What the search tells its log, and when.
+use Rattle.std.specs.Prelude.{◌≡◌, ℕ, ◌<◌, ℤ, nat_abs, nat_lt, false, List, [], ◌∷◌, ◌++◌, length, None, IsTrue, IsFalse, Contains, ⊤}
+use Rattle.std.specs.List.{list_any, AllByRecursion}
+use Rattle.cx_base.specs.Literals.{Literal}
+use Rattle.cx_base.specs.Parity.{normal_form, HasOneOfEach}
+use Rattle.cx_base.specs.Problem.{Problem, clauses_of, clause_met, parity_met, AreWithin}
+use Rattle.cx_semantics.specs.Chain.{has_literal}
+use Rattle.cx_semantics.specs.Fresh.{IsLive}
+use Rattle.cx_semantics.specs.Implied.{Implies}
+use Rattle.cx_semantics.specs.Integers.{literals}
+use Rattle.cx_semantics.specs.LogRules.{AreLive, derives_empty_clause, log_calculus}
+use Rattle.cx_semantics.specs.LogText.{steps_of}
+use Rattle.cx_semantics.specs.Judging.{AcceptedAt}
+use Rattle.cx_semantics.specs.Marked.{is_among}
+use Rattle.cx_semantics.specs.ProofRules.{IsSum}
+use Rattle.cx_semantics.specs.declared.steps.LogEvent.{LogEvent}
+use Rattle.cx_semantics.specs.declared.steps.LogEvent.TheVariants.{Step}
+use Rattle.cx_semantics.specs.declared.steps.LogStep.TheVariants.{Clause, Parity, ClauseOfParity, DeleteParity, Delete}
+use Rattle.cx_semantics.specs.Tables.{Table, Tables, get, named}
+use Rattle.search_steps.specs.Trail.{Entry, rests_on, by_clause, held, all_held, Forces}
+use Rattle.search_steps.specs.Search.{Search, told, marked, jumped, forced_on}
+
+-- the variables of the step's integers are the formula's, and its id is free
+pub record IsAddition (formula : Problem) (table : Table) (n : ℕ) (zs : List ℤ) : Type 0 where
+  pub within : IsFalse (list_any (λ z. nat_lt formula.variables (nat_abs z)) zs)
+  pub free : get table n ≡ None
+
+-- each entry was forced by a live clause
+abbrev pub RestOnClauses : List Entry → Type 0
+RestOnClauses [] = ⊤
+RestOnClauses (e ∷ es) = ((n : ℕ) × (e.why ≡ by_clause n)) × RestOnClauses es
+
+-- The unit clause of a literal of level 0: some live clause forces it from older literals, each of which a live clause forces.
+pub record IsUnitOf (s : Search) (l : Literal) (older : List Entry) (clause : List Literal) : Type 0 where
+  pub level_0 : IsTrue (has_literal (held 0 s.trail) l)
+  pub on_clauses : RestOnClauses older
+  pub live : IsLive s.moment.tables.clauses clause
+  pub forces : Forces clause (all_held older) l
+
+-- a row: the sum of parities of the engine, under their ids
+pub record IsRowOf (parities : List (List Literal)) (tables : Tables) (ids : List ℕ) (row : List Literal) : Type 0 where
+  pub live : AreLive tables.parities ids
+  pub theirs : AllByRecursion (Contains parities) (named tables.parities ids)
+  pub sums : IsSum row (named tables.parities ids)
+
+-- the clause of a row: one literal of each of its variables, and the row implies it
+pub record IsClauseOfRow (n : ℕ) (row clause : List Literal) : Type 0 where
+  pub within : AreWithin n clause
+  pub one_of_each : HasOneOfEach (normal_form row).variables clause
+  pub implied : Implies (λ values. parity_met values row) (λ values. clause_met values clause)
+
+-- an id that may be deleted without leave: of no learned clause and of none of the formula
+pub record IsTemporary (formula : Problem) (s : Search) (n : ℕ) : Type 0 where
+  pub high : length (clauses_of formula.constraints) < n
+  pub not_learned : IsFalse (is_among s.moment.learned n)
+
+-- the three steps for the reason that a row gave: its sum, its clause, and the sum's deletion
+abbrev pub row_events : ℕ → List ℤ → List ℕ → ℕ → List ℤ → List LogEvent
+row_events k rs ids n zs = Step (Parity k rs ids) ∷ Step (ClauseOfParity n zs k) ∷ Step (DeleteParity k []) ∷ []
+
+abbrev pub all_told : Search → List LogEvent → Search
+all_told s [] = s
+all_told s (event ∷ events) = all_told (told s event) events
+
+-- what these steps ask: free ids, the sum's above the engine's parities, a row of the engine and its clause, which does not end the log
+pub record IsRowReason (formula : Problem) (parities : List (List Literal)) (s : Search) (k : ℕ) (rs : List ℤ) (ids : List ℕ) (n : ℕ) (zs : List ℤ) : Type 0 where
+  pub high : length parities < k
+  pub row_step : IsAddition formula s.moment.tables.parities k rs
+  pub row : IsRowOf parities s.moment.tables ids (literals rs)
+  pub clause_step : IsAddition formula s.moment.tables.clauses n zs
+  pub clause : IsClauseOfRow formula.variables (literals rs) (literals zs)
+  pub goes_on : IsFalse (derives_empty_clause (ClauseOfParity n zs k))
+
+-- no entry rests on the clause of the id
+abbrev pub IsNoReason : ℕ → List Entry → Type 0
+IsNoReason n [] = ⊤
+IsNoReason n (e ∷ es) = (e.why ≡ by_clause n → ⊥) × IsNoReason n es
+
+-- ids of clauses that may go: none of the formula's, none learned, and none a reason
+abbrev pub AreTemporary : Problem → Search → List ℕ → Type 0
+AreTemporary formula s ids = AllByRecursion (λ n. (length (clauses_of formula.constraints) < n) × (is_among s.moment.learned n ≡ false) × IsNoReason n s.trail) ids
+
+-- the search after these ids were deleted one after another
+abbrev pub deleted : Search → List ℕ → Search
+deleted s [] = s
+deleted s (n ∷ ids) = deleted (told s (Step (Delete n []))) ids
+
+-- the steps are right, and the last one ends the log
+abbrev pub IsEnded : Problem → List LogEvent → Type 0
+IsEnded formula events = AcceptedAt (log_calculus formula) (steps_of events) (length (steps_of events))
+
+-- the search after the unit clause of an entry of level 0, which is its reason from then on
+abbrev pub unit_told : Search → ℕ → ℤ → List Entry → Entry → List Entry → Search
+unit_told s n z newer e older = record (told s (Step (Clause n (z ∷ [])))) { trail = newer ++ rests_on e n ∷ older }
+
+-- the search after a counted conflict and its clause
+abbrev pub after_learned : Search → ℕ → List ℤ → ℕ → Search
+after_learned s n zs back = record (told (marked s) (Step (Clause n zs))) { quiet_levels = back }
+
+-- and after the deletion of the clauses of rows, the jump back, and the literal that the clause forces
+abbrev pub after_round : Search → ℕ → List ℤ → ℕ → Literal → Search
+after_round s n zs back l = forced_on (jumped (deleted (after_learned s n zs back) s.moment.new_clauses) back) l (by_clause n)
