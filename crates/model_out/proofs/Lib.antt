@@ -1,0 +1,5 @@
+mod Digits
+pub mod MentionLaws
+pub mod ScanLaws
+pub mod SettlingLaws
+pub mod JudgingLaws
