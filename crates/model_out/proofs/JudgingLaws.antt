@@ -43,7 +43,9 @@ same_values formula lits v w g h =
     ext_get_or false v w (g.one_each ∙ sym h.one_each)
     (λ i low.
         let is : IsVariable formula (suc i) = (omega arith, omega (arith, g.one_each)) in
-        same_value (get_or v i false) (get_or w i false) i (sym (g.as_written (suc i) is) ∙ h.as_written (suc i) is))
+        let at : suc i - 1 ≡ i = omega arith in
+        same_value (get_or v i false) (get_or w i false) i
+        (subst (λ k. signed (get_or v k false) (suc i) ∷ [] ≡ signed (get_or w k false) (suc i) ∷ []) at (sym (g.as_written (suc i) is) ∙ h.as_written (suc i) is)))
 
 same_least : (formula : Problem) (P : ℕ → Type 0) (x y : ℕ) → LeastVariable formula P x → LeastVariable formula P y → x ≡ y
 same_least formula P x y a b = elim (Rattle.std.proofs.lemmas.Bool.cases_lt x y) [

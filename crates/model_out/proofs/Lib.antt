@@ -1,5 +1,7 @@
 mod Digits
 pub mod MentionLaws
 pub mod ScanLaws
+pub mod TurnLaws
+pub mod Puts
 pub mod SettlingLaws
 pub mod JudgingLaws

@@ -1,5 +1,5 @@
 -- What a table of mentions tells of an answer's integers.
-use Rattle.std.proofs.Common.{◌≡◌, ◌≢◌, refl, sym, ap, ◌∙◌, subst, ℕ, zero, suc, ◌+◌, ◌-◌, ◌<◌, ◌≤◌, ℤ, pos, negsuc, neg_ℤ, nat_abs, Bool, true, false, cond, not, List, [], ◌∷◌, ◌++◌, length, get_or, map, filter, arith, true≢false, append-nil, eqb-true, ◌==◌}
+use Rattle.std.proofs.Common.{◌≡◌, ◌≢◌, refl, sym, ap, ◌∙◌, subst, ℕ, zero, suc, ◌+◌, ◌-◌, ◌<◌, ◌≤◌, ℤ, pos, negsuc, neg_ℤ, nat_abs, Bool, true, false, cond, not, List, [], ◌∷◌, ◌++◌, length, get_or, map, filter, arith, true≢false, append-nil, eqb-true, ◌==◌, Option, Some, None}
 use Rattle.std.proofs.lemmas.List.{length-map, get_or-map}
 use Rattle.std.proofs.lemmas.List.Elements.{filter-append}
 use Rattle.cx_base.specs.Literals.{value_of}
@@ -8,7 +8,7 @@ use Rattle.cx_base.specs.declared.literal.TheConstants.{MAX_VARIABLE}
 use Rattle.cx_semantics.specs.Integers.{is_negative}
 use Rattle.cx_semantics.proofs.Printing.{not_equal}
 use Rattle.model_out.specs.Answers.{written_of, signed, IsVariable, Gives, LeastVariable, IsMissing, IsRepeated}
-use Rattle.model_out.specs.Mentions.{mention_of, is_never, is_repeated, is_true_once, Tells}
+use Rattle.model_out.specs.Mentions.{mention_of, is_never, is_repeated, is_true_once, IsFirstOf, Tells}
 use Rattle.model_out.specs.Settling.{NoneMissing}
 use Rattle.model_out.specs.declared.mentions.Mention.{Mention}
 use Rattle.model_out.specs.declared.mentions.Mention.TheVariants.{Never, Once, Repeated}
@@ -41,13 +41,13 @@ only_one [] h k = absurd (true≢false h)
 only_one (z ∷ []) h k = (z, refl, refl)
 only_one (z ∷ y ∷ ws) h k = absurd (true≢false k)
 
+head_step : (p : ℤ → Bool) (y : ℤ) (ys : List ℤ) (z : ℤ) (rest : List ℤ) → (ys ≡ z ∷ rest → p z ≡ true) → (b : Bool) → p y ≡ b → cond b (y ∷ ys) ys ≡ z ∷ rest → p z ≡ true
+head_step p y ys z rest more true k f = let same : y ≡ z = cc (f) in ap p (sym same) ∙ k
+head_step p y ys z rest more false k f = more f
+
 head_passes : (p : ℤ → Bool) (zs : List ℤ) (z : ℤ) (rest : List ℤ) → filter p zs ≡ z ∷ rest → p z ≡ true
 head_passes p [] z rest e = cc
-head_passes p (y ∷ zs) z rest e = go (p y) refl e
-  where
-    go : (b : Bool) → p y ≡ b → cond b (y ∷ filter p zs) (filter p zs) ≡ z ∷ rest → p z ≡ true
-    go true k f = let same : y ≡ z = cc (f) in ap p (sym same) ∙ k
-    go false k f = head_passes p zs z rest f
+head_passes p (y ∷ zs) z rest e = head_step p y (filter p zs) z rest (head_passes p zs z rest) (p y) refl e
 
 pub size_of_written : (lits : List ℤ) (x : ℕ) (z : ℤ) (rest : List ℤ) → written_of lits x ≡ z ∷ rest → nat_abs z ≡ x
 size_of_written lits x z rest e = eqb-true (nat_abs z) x (head_passes (λ y. nat_abs y == x) lits z rest e)
@@ -74,19 +74,25 @@ module _ (lits : List ℤ) (formula : Problem) (table : List Mention) (len : len
   is_variable : (x : ℕ) → 1 ≤ x → x ≤ length table → IsVariable formula x
   is_variable x h k = (h, omega (arith, len))
 
-  pub least_missing : (x : ℕ) → 1 ≤ x → x ≤ length table → is_never (get_or table (x - 1) Never) ≡ true → ((k : ℕ) → k < x - 1 → is_never (get_or table k Never) ≡ false) → LeastVariable formula (IsMissing lits) x
+  least_missing : (x : ℕ) → 1 ≤ x → x ≤ length table → is_never (get_or table (x - 1) Never) ≡ true → ((k : ℕ) → k < x - 1 → is_never (get_or table k Never) ≡ false) → LeastVariable formula (IsMissing lits) x
   least_missing x low high h none = record {
     is_variable = is_variable x low high;
     holds = never_true (written_of lits x) (ap is_never (sym (at x (is_variable x low high))) ∙ h);
     not_below = λ y v less m. true≢false (ap (λ ws. is_never (mention_of ws)) (sym m) ∙ ap is_never (sym (at y v)) ∙ none (y - 1) (below x y v less));
   }
 
-  pub least_repeated : (x : ℕ) → 1 ≤ x → x ≤ length table → is_repeated (get_or table (x - 1) Never) ≡ true → ((k : ℕ) → k < x - 1 → is_repeated (get_or table k Never) ≡ false) → LeastVariable formula (IsRepeated lits) x
+  least_repeated : (x : ℕ) → 1 ≤ x → x ≤ length table → is_repeated (get_or table (x - 1) Never) ≡ true → ((k : ℕ) → k < x - 1 → is_repeated (get_or table k Never) ≡ false) → LeastVariable formula (IsRepeated lits) x
   least_repeated x low high h none = record {
     is_variable = is_variable x low high;
     holds = repeated_true (written_of lits x) (ap is_repeated (sym (at x (is_variable x low high))) ∙ h);
     not_below = λ y v less m. true≢false (sym (repeated_long (written_of lits y) m) ∙ ap is_repeated (sym (at y v)) ∙ none (y - 1) (below x y v less));
   }
+
+  pub first_missing : (x : ℕ) → IsFirstOf is_never table (Some x) → LeastVariable formula (IsMissing lits) x
+  first_missing x h = least_missing x h.0 h.1 h.2 h.3
+
+  pub first_repeated : (x : ℕ) → IsFirstOf is_repeated table (Some x) → LeastVariable formula (IsRepeated lits) x
+  first_repeated x h = least_repeated x h.0 h.1 h.2 h.3
 
   module _ (named : (k : ℕ) → k < length table → is_never (get_or table k Never) ≡ false) where
     pub none_missing : NoneMissing lits formula
@@ -101,3 +107,7 @@ module _ (lits : List ℤ) (formula : Problem) (table : List Mention) (len : len
           let value : value_of (map is_true_once table) x ≡ not (is_negative o.0) = get_or-map is_true_once table (x - 1) Never false (inside x v) ∙ ap is_true_once e ∙ o.2 in
           o.1 ∙ ap (λ z. z ∷ []) (signed_is o.0 x (size_of_written lits x o.0 [] o.1) ∙ ap (λ b. signed b x) (sym value));
     }
+
+pub none_of : (test : Mention → Bool) (table : List Mention) (o : Option ℕ) → ((x : ℕ) → o ≡ Some x → ⊥) → IsFirstOf test table o → (k : ℕ) → k < length table → test (get_or table k Never) ≡ false
+none_of test table None n h = h
+none_of test table (Some x) n h = absurd (n x refl)

@@ -1,19 +1,20 @@
 -- A whole answer is judged by its integers.
-use Rattle.std.proofs.Common.{◌≡◌, refl, sym, ap, ◌∙◌, subst, ℕ, ◌+◌, ℤ, Bool, true, false, not, List, [], ◌∷◌, ◌++◌, length, Option, Some, None, Result, Ok, Err, is_some}
+use Rattle.std.proofs.Common.{◌≡◌, refl, sym, ap, ◌∙◌, subst, ℕ, ◌+◌, ℤ, Bool, true, false, not, List, [], ◌∷◌, ◌++◌, length, Option, Some, None, MatchOption, Result, Ok, Err, is_some}
 use Rattle.std.specs.List.{list_all}
 use Rattle.cx_base.specs.Problem.{Problem, Meets, constraint_met, first_unmet}
 use Rattle.cx_base.proofs.UnmetLaws.{is_some-first_unmet}
 use Rattle.model_out.specs.LineTokens.{LineToken, line_tokens}
 use Rattle.model_out.specs.Answers.{behind_status, IsAnswer, BadAt, Gives, AnswersAs}
-use Rattle.model_out.specs.Reading.{scan, whole, bad}
-use Rattle.model_out.specs.Settling.{JudgesAs}
+use Rattle.model_out.specs.Reading.{scan, whole, bad, ScansTo}
+use Rattle.model_out.specs.Settling.{SettlesAs, JudgesAs}
+use Rattle.model_out.specs.declared.mentions.Mention.{Mention}
 use Rattle.model_out.specs.declared.refusal.AnswerRefusal.{AnswerRefusal}
 use Rattle.model_out.specs.declared.refusal.AnswerRefusal.TheVariants.{NoStatusLine, BadToken, Missing, Twice, Unmet, Memory}
 use Rattle.model_out.proofs.ScanLaws.{ended_of, bad_of}
 
 not_false : (b : Bool) → false ≡ not b → b ≡ true
 not_false true e = refl
-not_false false e = sym e
+not_false false e = e
 
 pub meets_of_none : (formula : Problem) (values : List Bool) → length values ≡ formula.variables → first_unmet values 1 formula.constraints ≡ None → Meets formula values
 meets_of_none formula values len e = record { one_each = len; all_met = not_false _ (ap is_some (sym e) ∙ is_some-first_unmet values 1 formula.constraints) }
@@ -39,3 +40,21 @@ answers_of text formula lits (Err (Missing x)) form j = record { lits = lits; fo
 answers_of text formula lits (Err (Twice x)) form j = record { lits = lits; form = form; none_missing = j.0; least = j.1 }
 answers_of text formula lits (Err (Unmet k)) form j = record { lits = lits; form = form; values = j.0; gives = j.1; unmet = j.2 }
 answers_of text formula lits (Err Memory) form j = tt
+
+pub judges_refused : (lits : List ℤ) (formula : Problem) (e : AnswerRefusal) → SettlesAs lits formula (Err e) → JudgesAs lits formula (Err e)
+judges_refused lits formula NoStatusLine h = absurd h
+judges_refused lits formula (BadToken place) h = absurd h
+judges_refused lits formula (Missing x) h = h
+judges_refused lits formula (Twice x) h = h
+judges_refused lits formula (Unmet k) h = absurd h
+judges_refused lits formula Memory h = tt
+
+-- what a scan refuses is refused of the text
+pub refused_of : (text : List ℕ) (formula : Problem) (body : List LineToken) (table : List Mention) (e : AnswerRefusal) → behind_status (line_tokens text) ≡ Some body
+    → ScansTo {T = Unit {0}} (length text) body (Err e) table → AnswersAs text formula (Err e)
+refused_of text formula body table NoStatusLine status h = absurd h
+refused_of text formula body table (BadToken place) status h = bad_of_scan text body place status h
+refused_of text formula body table (Missing x) status h = absurd h
+refused_of text formula body table (Twice x) status h = absurd h
+refused_of text formula body table (Unmet k) status h = absurd h
+refused_of text formula body table Memory status h = tt

@@ -1,5 +1,5 @@
 -- How each variable is mentioned by an answer's integers.
-use Rattle.std.specs.Prelude.{◌≡◌, ℕ, ◌+◌, ◌<◌, ℤ, Bool, true, false, not, List, [], ◌∷◌, length, get_or}
+use Rattle.std.specs.Prelude.{◌≡◌, ℕ, ◌+◌, ◌-◌, ◌<◌, ◌≤◌, ℤ, Bool, true, false, not, List, [], ◌∷◌, length, get_or, Option, Some, None}
 use Rattle.cx_semantics.specs.Integers.{is_negative}
 use Rattle.model_out.specs.Answers.{written_of}
 use Rattle.model_out.specs.declared.mentions.Mention.{Mention}
@@ -34,3 +34,8 @@ is_true_once Repeated = false
 -- the table tells how each variable from 1 up to its length is mentioned
 abbrev pub Tells : List ℤ → List Mention → Type 0
 Tells lits table = (k : ℕ) → k < length table → get_or table k Never ≡ mention_of (written_of lits (k + 1))
+
+-- the least variable whose mention passes the test, if there is one
+abbrev pub IsFirstOf : (Mention → Bool) → List Mention → Option ℕ → Type 0
+IsFirstOf test table None = (k : ℕ) → k < length table → test (get_or table k Never) ≡ false
+IsFirstOf test table (Some x) = (1 ≤ x) × (x ≤ length table) × (test (get_or table (x - 1) Never) ≡ true) × ((k : ℕ) → k < x - 1 → test (get_or table k Never) ≡ false)

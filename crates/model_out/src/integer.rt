@@ -1,7 +1,7 @@
 //! Tokens as integers.
 ghost use Rattle.std.specs.Prelude.{◌≡◌, ◌+◌, ◌*◌, ◌<◌, ℕ, ℤ, None, Some, MatchOption};
 ghost use Rattle.cx_semantics.specs.Words.{integer, natural};
-ghost use Rattle.model_out.specs.Integers.{IsInteger, Stands, with_sign};
+ghost use Rattle.model_out.specs.Integers.{begins_with_minus, IsInteger, Stands, with_sign};
 
 use cx_base::{Lit, MAX_VARIABLE, Var};
 
@@ -62,19 +62,30 @@ fn signed_integer(negative: bool, magnitude: u32) -> Integer
     }
 }
 
+/// Whether a minus stands first.
+fn has_minus(token: &[u8]) -> bool
+    ensures { result ≡ begins_with_minus token.now }
+{
+    !token.is_empty() && token[0] == b'-'
+}
+
+/// The integer of a sign and the digits behind it.
+fn integer_behind(negative: bool, digits: &[u8]) -> Option<Integer>
+    ensures { MatchOption result (natural digits.now ≡ None) (λ i. (n : ℕ) × IsInteger i (with_sign negative n) × (natural digits.now ≡ Some n)) }
+{
+    match magnitude(digits) {
+        Some(size) => Some(signed_integer(negative, size)),
+        None => None,
+    }
+}
+
 /// The integer of a token of any length, if it is one.
 pub(crate) fn read_integer(token: &[u8]) -> Option<Integer>
     ensures { MatchOption result (integer token.now ≡ None) (λ i. (z : ℤ) × IsInteger i z × (integer token.now ≡ Some z)) }
 {
-    if token.is_empty() || token[0] != b'-' {
-        match magnitude(token) {
-            Some(size) => Some(signed_integer(false, size)),
-            None => None,
-        }
+    if has_minus(token) {
+        integer_behind(true, &token[1..])
     } else {
-        match magnitude(&token[1..]) {
-            Some(size) => Some(signed_integer(true, size)),
-            None => None,
-        }
+        integer_behind(false, token)
     }
 }

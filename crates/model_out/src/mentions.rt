@@ -1,9 +1,8 @@
 //! How each variable is mentioned.
-ghost use Rattle.std.specs.Prelude.{◌≡◌, ◌-◌, ◌<◌, ◌≤◌, ◌∷◌, [], ◌++◌, ℕ, ℤ, List, true, false, length, get_or, map, IfOk, MatchOption};
+ghost use Rattle.std.specs.Prelude.{◌≡◌, ◌≤◌, ◌∷◌, [], ◌++◌, ℤ, List, length, map, IfOk};
 ghost use Rattle.cx_base.specs.declared.literal.TheConstants.{MAX_VARIABLE};
 ghost use Rattle.cx_semantics.specs.Integers.{integer_of};
-ghost use Rattle.model_out.specs.Mentions.{is_never, is_repeated, is_true_once, mentioned, Tells};
-ghost use Rattle.model_out.specs.declared.mentions.Mention.TheVariants.{Never};
+ghost use Rattle.model_out.specs.Mentions.{is_never, is_repeated, is_true_once, IsFirstOf, mentioned, Tells};
 
 use cx_base::{Lit, Values, Var};
 use std::alloc::{AllocError, Global};
@@ -96,10 +95,7 @@ impl Mentions {
 
     /// The least variable with no literal.
     pub(crate) fn first_missing(&self) -> Option<Var>
-        ensures { MatchOption result
-            ((k : ℕ) → k < length self.now → is_never (get_or self.now k Never) ≡ false)
-            (λ x. (1 ≤ x) × (x ≤ length self.now) × (is_never (get_or self.now (x - 1) Never) ≡ true)
-                × ((k : ℕ) → k < x - 1 → is_never (get_or self.now k Never) ≡ false)) }
+        ensures { IsFirstOf is_never self.now result }
     {
         for index in 0..self.mentions.len() {
             if self.mentions[index].is_never() {
@@ -111,10 +107,7 @@ impl Mentions {
 
     /// The least variable with two literals or more.
     pub(crate) fn first_repeated(&self) -> Option<Var>
-        ensures { MatchOption result
-            ((k : ℕ) → k < length self.now → is_repeated (get_or self.now k Never) ≡ false)
-            (λ x. (1 ≤ x) × (x ≤ length self.now) × (is_repeated (get_or self.now (x - 1) Never) ≡ true)
-                × ((k : ℕ) → k < x - 1 → is_repeated (get_or self.now k Never) ≡ false)) }
+        ensures { IsFirstOf is_repeated self.now result }
     {
         for index in 0..self.mentions.len() {
             if self.mentions[index].is_repeated() {
@@ -128,11 +121,10 @@ impl Mentions {
     pub(crate) fn values(&self, alloc: Global) -> Result<Values, AllocError>
         ensures { IfOk result (λ v. v ≡ map is_true_once self.now) }
     {
-        let values = self
-            .mentions
-            .iter()
-            .map(|mention| mention.is_true_once())
-            .collect(alloc)?;
+        let mut values = Vec::with_capacity(alloc, self.mentions.len())?;
+        for mention in &self.mentions {
+            values.push(mention.is_true_once())?;
+        }
         Ok(Values::from_vec(values))
     }
 }

@@ -1,6 +1,7 @@
 //! Answers from their text.
-ghost use Rattle.std.specs.Prelude.{◌≡◌, ℕ, ℤ, List, [], None, Some, MatchResult, length};
+ghost use Rattle.std.specs.Prelude.{◌≡◌, ◌≤◌, ℕ, ℤ, List, [], None, Some, IfOk, MatchResult, length};
 ghost use Rattle.cx_base.specs.Problem.{Problem};
+ghost use Rattle.cx_base.specs.declared.literal.TheConstants.{MAX_VARIABLE};
 ghost use Rattle.model_out.specs.declared.refusal.AnswerRefusal.TheVariants.{NoStatusLine};
 ghost use Rattle.model_out.specs.Answers.{behind_status, AnswersAs};
 ghost use Rattle.model_out.specs.Integers.{IsInteger};
@@ -55,6 +56,7 @@ enum Turn {
 
 /// Takes an integer behind a `v`.
 fn take_integer(mentions: &mut Mentions, integer: Integer) -> Turn
+    requires { length mentions.old ≤ MAX_VARIABLE }
     ensures length { length mentions.new ≡ length mentions.old }
     ensures turn { (z : ℤ) (lits : List ℤ) → IsInteger integer z → Tells lits mentions.old → TakesTo z lits result mentions.new }
 {
@@ -70,6 +72,7 @@ fn take_integer(mentions: &mut Mentions, integer: Integer) -> Turn
 
 /// Takes a token of the `v` lines.
 fn take_token(mentions: &mut Mentions, token: LineTokenAt) -> Result<Turn, AnswerRefusal>
+    requires { length mentions.old ≤ MAX_VARIABLE }
     ensures length { length mentions.new ≡ length mentions.old }
     ensures turn { (len : ℕ) (lits : List ℤ) (rest : List LineToken) → Tells lits mentions.old → TurnsTo len lits (seen token.entry) rest result mentions.new }
 {
@@ -103,7 +106,8 @@ fn read_literals<'a>(
     len: u64,
     mentions: &mut Mentions,
 ) -> Result<(), AnswerRefusal>
-    requires { Tells [] mentions.old }
+    requires tells { Tells [] mentions.old }
+    requires few { length mentions.old ≤ MAX_VARIABLE }
     ensures length { length mentions.new ≡ length mentions.old }
     ensures scanned { ScansTo len (ahead first.entry tokens.old) result mentions.new }
 {
@@ -119,7 +123,8 @@ fn read_literals<'a>(
 
 /// The values that are mentioned, where each variable is mentioned once.
 fn settle(alloc: Global, mentions: &Mentions) -> Result<Values, AnswerRefusal>
-    ensures { (lits : List ℤ) (formula : Problem) → length mentions.now ≡ formula.variables → Tells lits mentions.now → SettlesAs lits formula result }
+    ensures length { IfOk result (λ v. length v ≡ length mentions.now) }
+    ensures settled { (lits : List ℤ) (formula : Problem) → length mentions.now ≡ formula.variables → Tells lits mentions.now → SettlesAs lits formula result }
 {
     if let Some(missing) = mentions.first_missing() {
         return Err(AnswerRefusal::Missing(missing));

@@ -6,4 +6,4 @@ use Rattle.cx_semantics.specs.AnswerText.{printed_value}
 use Rattle.model_out.proofs.put.put_values.Given as goal
 
 abbrev pub invariant-loop-place : goal.invariant-loop-place
-invariant-loop-place g l = g.D.Desk.outside l.desk ≡ gained Answer (flat_map printed_value (enumerate_from 0 (take l.place l.values))) (g.D.Desk.outside l.initial.desk)
+invariant-loop-place g l = g.D.Desk.outside l.desk ≡ gained Answer (flat_map printed_value (take l.place (enumerate_from 0 l.values))) (g.D.Desk.outside l.initial.desk)
