@@ -5,3 +5,4 @@ pub mod TurnLaws
 pub mod Puts
 pub mod SettlingLaws
 pub mod JudgingLaws
+mod PrintedLaws

@@ -39,8 +39,11 @@ module _ (len : ℕ) (lits : List ℤ) (t : LineToken) (rest : List LineToken) w
   after_number (pos (suc m)) n = refl
   after_number (negsuc m) n = refl
 
+  pub scan_integer : (z : ℤ) → t.begins ≡ false → integer t.text ≡ Some z → z ≢ pos 0 → scan len lits (t ∷ rest) ≡ scan len (lits ++ z ∷ []) rest
+  scan_integer z b e n = by_part (number z) (part_inside t (Some z) b e) ∙ after_number z n
+
   pub turn_integer : (z : ℤ) (r : Turn) (table : List Mention) → t.begins ≡ false → integer t.text ≡ Some z → TakesTo z lits r table → TurnsTo len lits t rest (Ok r) table
-  turn_integer z GoesOn table b e h = (lits ++ z ∷ [], by_part (number z) (part_inside t (Some z) b e) ∙ after_number z h.0, h.1)
+  turn_integer z GoesOn table b e h = (lits ++ z ∷ [], scan_integer z b e h.0, h.1)
   turn_integer z Ends table b e h = (by_part (number (pos 0)) (part_inside t (Some z) b e ∙ ap number h.0), h.1)
 
 -- ---- the loop over the tokens
