@@ -1,4 +1,4 @@
--- A text is judged in one way.
+-- No text is judged in two ways.
 use Rattle.std.proofs.Common.{◌≡◌, ◌≢◌, refl, sym, ap, ◌∙◌, subst, ℕ, suc, ◌+◌, ◌-◌, ◌<◌, ◌≤◌, ℤ, pos, neg_ℤ, Bool, true, false, not, List, [], ◌∷◌, ◌++◌, length, get_or, Option, Some, None, Result, Ok, Err, option_map, arith, ◌⊎◌, inl, inr}
 use Rattle.std.proofs.lemmas.List.{ext_get_or}
 use Rattle.cx_base.specs.Literals.{value_of}
@@ -7,7 +7,6 @@ use Rattle.model_out.specs.LineTokens.{LineToken, line_tokens}
 use Rattle.model_out.specs.Answers.{behind_status, IsAnswer, BadAt, Gives, signed, written_of, IsVariable, LeastVariable, IsMissing, IsRepeated, AnswersAs}
 use Rattle.model_out.specs.Reading.{Scan, whole, bad, scan}
 use Rattle.model_out.specs.Settling.{JudgesAs, NoneMissing}
-use Rattle.model_out.specs.Laws.{AnswersAreJudgedInOneWay}
 use Rattle.model_out.specs.declared.refusal.AnswerRefusal.{AnswerRefusal}
 use Rattle.model_out.specs.declared.refusal.AnswerRefusal.TheVariants.{NoStatusLine, BadToken, Missing, Twice, Unmet, Memory}
 use Rattle.model_out.proofs.ScanLaws.{scan_whole, scan_bad}
@@ -42,10 +41,10 @@ same_values : (formula : Problem) (lits : List ℤ) (v w : List Bool) → Gives 
 same_values formula lits v w g h =
     ext_get_or false v w (g.one_each ∙ sym h.one_each)
     (λ i low.
-        let is : IsVariable formula (suc i) = (omega arith, omega (arith, g.one_each)) in
-        let at : suc i - 1 ≡ i = omega arith in
-        same_value (get_or v i false) (get_or w i false) i
-        (subst (λ k. signed (get_or v k false) (suc i) ∷ [] ≡ signed (get_or w k false) (suc i) ∷ []) at (sym (g.as_written (suc i) is) ∙ h.as_written (suc i) is)))
+    let is : IsVariable formula (suc i) = (omega arith, omega (arith, g.one_each)) in
+    let at : suc i - 1 ≡ i = omega arith in
+    same_value (get_or v i false) (get_or w i false) i
+    (subst (λ k. signed (get_or v k false) (suc i) ∷ [] ≡ signed (get_or w k false) (suc i) ∷ []) at (sym (g.as_written (suc i) is) ∙ h.as_written (suc i) is)))
 
 same_least : (formula : Problem) (P : ℕ → Type 0) (x y : ℕ) → LeastVariable formula P x → LeastVariable formula P y → x ≡ y
 same_least formula P x y a b = elim (Rattle.std.proofs.lemmas.Bool.cases_lt x y) [
@@ -132,5 +131,5 @@ same_stage text formula a b m n (judged j) (judged k) =
     let y : j.lits ≡ k.lits = cc (x) in
     same_judgement formula j.lits a b m n j.judges (subst (λ l. JudgesAs l formula b) (sym y) k.judges)
 
-pub judged_in_one_way : AnswersAreJudgedInOneWay
-judged_in_one_way text formula a b m n r s = same_stage text formula a b m n (stage text formula a m r) (stage text formula b n s)
+pub same_answer : (text : List ℕ) (formula : Problem) (a b : Answer) → a ≢ Err Memory → b ≢ Err Memory → AnswersAs text formula a → AnswersAs text formula b → a ≡ b
+same_answer text formula a b m n r s = same_stage text formula a b m n (stage text formula a m r) (stage text formula b n s)

@@ -6,3 +6,4 @@ pub mod Puts
 pub mod SettlingLaws
 pub mod JudgingLaws
 mod PrintedLaws
+mod DecidingLaws

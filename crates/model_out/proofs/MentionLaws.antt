@@ -21,17 +21,17 @@ tells_above lits z table few far h k low =
 
 -- ---- one mention
 
-never_true : (ws : List ℤ) → is_never (mention_of ws) ≡ true → ws ≡ []
+pub never_true : (ws : List ℤ) → is_never (mention_of ws) ≡ true → ws ≡ []
 never_true [] h = refl
 never_true (z ∷ []) h = absurd (true≢false (sym h))
 never_true (z ∷ y ∷ ws) h = absurd (true≢false (sym h))
 
-repeated_true : (ws : List ℤ) → is_repeated (mention_of ws) ≡ true → 2 ≤ length ws
+pub repeated_true : (ws : List ℤ) → is_repeated (mention_of ws) ≡ true → 2 ≤ length ws
 repeated_true [] h = absurd (true≢false (sym h))
 repeated_true (z ∷ []) h = absurd (true≢false (sym h))
 repeated_true (z ∷ y ∷ ws) h = omega arith
 
-repeated_long : (ws : List ℤ) → 2 ≤ length ws → is_repeated (mention_of ws) ≡ true
+pub repeated_long : (ws : List ℤ) → 2 ≤ length ws → is_repeated (mention_of ws) ≡ true
 repeated_long [] h = absurd (omega arith)
 repeated_long (z ∷ []) h = absurd (omega arith)
 repeated_long (z ∷ y ∷ ws) h = refl

@@ -3,13 +3,17 @@ use Rattle.std.specs.Prelude.{◌≡◌, ◌≢◌, ℕ, ◌≤◌, Bool, List, 
 use Rattle.cx_base.specs.Problem.{Problem, Meets}
 use Rattle.cx_base.specs.declared.literal.TheConstants.{MAX_VARIABLE}
 use Rattle.cx_semantics.specs.AnswerText.{answer_text}
+use Rattle.cx_semantics.specs.ExactlyOne.{ExactlyOne}
 use Rattle.model_out.specs.Answers.{AnswerReads, AnswersAs}
 use Rattle.model_out.specs.declared.refusal.AnswerRefusal.{AnswerRefusal}
 use Rattle.model_out.specs.declared.refusal.AnswerRefusal.TheVariants.{Memory}
 
+abbrev pub IsJudgedAs : List ℕ → Problem → Result (List Bool) AnswerRefusal → Type 0
+IsJudgedAs text formula answer = (answer ≢ Err Memory) × AnswersAs text formula answer
+
 -- a text gives one list of values, or is refused for one cause
 abbrev pub AnswersAreJudgedInOneWay : Type 0
-AnswersAreJudgedInOneWay = (text : List ℕ) (formula : Problem) (a b : Result (List Bool) AnswerRefusal) → a ≢ Err Memory → b ≢ Err Memory → AnswersAs text formula a → AnswersAs text formula b → a ≡ b
+AnswersAreJudgedInOneWay = (text : List ℕ) (formula : Problem) → ExactlyOne (IsJudgedAs text formula)
 
 -- a printed answer is read as the values that were printed
 abbrev pub PrintedAnswersRead : Type 0

@@ -153,11 +153,7 @@ fn judge(alloc: Global, mentions: &Mentions, formula: &Formula) -> Result<Values
 /// for each variable of the formula, and they meet it; a refusal is the first cause in the order of
 /// [`AnswerRefusal`]. Without memory it is `Memory`, which says nothing of the text. It takes a byte or two for each
 /// variable, whatever the text's length.
-pub fn read_answer(
-    alloc: Global,
-    text: &[u8],
-    formula: &Formula,
-) -> Result<Values, AnswerRefusal>
+pub fn read_answer(alloc: Global, text: &[u8], formula: &Formula) -> Result<Values, AnswerRefusal>
     ensures { AnswersAs text.now formula.now result }
 {
     let mut tokens = LineTokens::new(text);

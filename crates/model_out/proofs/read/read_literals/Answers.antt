@@ -20,8 +20,7 @@ loop-next-preserved c =
     let lits = c.loop-next.invariant.1.0 in
     let rest = c.loop-next.tokens in
     let so_far : scan c.args.len [] body ≡ scan c.args.len lits (seen c.in-Some.token ∷ rest) = c.loop-next.invariant.1.1 ∙ ap (λ o. scan c.args.len lits (ahead o rest)) c.in-Some.is in
-    let w = turn_goes_on c.args.len body lits (seen c.in-Some.token) rest so_far c.take_token.new.mentions c.in_ok-take_token.field-0 c.in-GoesOn.is (c.in_ok-take_token.ensures.turn c.args.len lits rest c.loop-next.invariant.1.2) in
-    (
+    let w = turn_goes_on c.args.len body lits (seen c.in-Some.token) rest so_far c.take_token.new.mentions c.in_ok-take_token.field-0 c.in-GoesOn.is (c.in_ok-take_token.ensures.turn c.args.len lits rest c.loop-next.invariant.1.2) in (
       c.take_token.ensures.length ∙ c.loop-next.invariant.0,
       (w.0, w.1 ∙ ap (scan c.args.len w.0) (ahead_is c.next_token-next.result rest c.next_token-next.new.self c.next_token-next.ensures), w.2),
     )
