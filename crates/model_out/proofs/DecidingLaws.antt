@@ -1,13 +1,12 @@
 -- Each text is judged in some way.
-use Rattle.std.proofs.Common.{◌≡◌, ◌≢◌, refl, sym, ap, ◌∙◌, subst, ℕ, zero, suc, ◌+◌, ◌<◌, ◌≤◌, ℤ, Bool, true, false, List, [], length, get_or, map, Option, Some, None, Result, Ok, Err, arith, true≢false, ◌⊎◌, inl, inr}
+use Rattle.std.proofs.Common.{◌≡◌, ◌≢◌, refl, sym, ap, ◌∙◌, ℕ, zero, suc, ◌+◌, ◌<◌, ◌≤◌, ℤ, Bool, true, false, List, [], length, get_or, map, Option, Some, None, Result, Ok, Err, arith, true≢false, ◌⊎◌, inl, inr}
 use Rattle.std.specs.List.{range_with_len}
 use Rattle.std.proofs.lemmas.List.FromFn.{length-map-range_with_len, get_or-map-range_with_len}
 use Rattle.cx_base.specs.Problem.{Problem, first_unmet}
-use Rattle.cx_semantics.specs.ExactlyOne.{ExactlyOne}
 use Rattle.model_out.specs.LineTokens.{LineToken, line_tokens}
-use Rattle.model_out.specs.Answers.{behind_status, written_of, IsVariable, Gives, LeastVariable, IsMissing, IsRepeated, AnswersAs}
+use Rattle.model_out.specs.Answers.{behind_status, written_of, Gives, LeastVariable, IsMissing, IsRepeated}
 use Rattle.model_out.specs.Laws.{IsJudgedAs, AnswersAreJudgedInOneWay}
-use Rattle.model_out.specs.Mentions.{mention_of, is_never, is_repeated, is_true_once, Tells}
+use Rattle.model_out.specs.Mentions.{mention_of, is_never, is_repeated, is_true_once}
 use Rattle.model_out.specs.Reading.{Scan, whole, bad, scan}
 use Rattle.model_out.specs.Settling.{JudgesAs, NoneMissing}
 use Rattle.model_out.specs.declared.mentions.Mention.{Mention}

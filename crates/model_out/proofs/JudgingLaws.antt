@@ -1,12 +1,12 @@
 -- No text is judged in two ways.
-use Rattle.std.proofs.Common.{◌≡◌, ◌≢◌, refl, sym, ap, ◌∙◌, subst, ℕ, suc, ◌+◌, ◌-◌, ◌<◌, ◌≤◌, ℤ, pos, neg_ℤ, Bool, true, false, not, List, [], ◌∷◌, ◌++◌, length, get_or, Option, Some, None, Result, Ok, Err, option_map, arith, ◌⊎◌, inl, inr}
+use Rattle.std.proofs.Common.{◌≡◌, ◌≢◌, refl, sym, ap, ◌∙◌, subst, ℕ, suc, ◌-◌, ◌≤◌, ℤ, Bool, true, false, List, [], ◌∷◌, length, get_or, Option, Some, None, Result, Ok, Err, option_map, arith, inl, inr}
 use Rattle.std.proofs.lemmas.List.{ext_get_or}
 use Rattle.cx_base.specs.Literals.{value_of}
-use Rattle.cx_base.specs.Problem.{Problem, Meets, first_unmet}
-use Rattle.model_out.specs.LineTokens.{LineToken, line_tokens}
+use Rattle.cx_base.specs.Problem.{Problem, first_unmet}
+use Rattle.model_out.specs.LineTokens.{line_tokens}
 use Rattle.model_out.specs.Answers.{behind_status, IsAnswer, BadAt, Gives, signed, written_of, IsVariable, LeastVariable, IsMissing, IsRepeated, AnswersAs}
 use Rattle.model_out.specs.Reading.{Scan, whole, bad, scan}
-use Rattle.model_out.specs.Settling.{JudgesAs, NoneMissing}
+use Rattle.model_out.specs.Settling.{JudgesAs}
 use Rattle.model_out.specs.declared.refusal.AnswerRefusal.{AnswerRefusal}
 use Rattle.model_out.specs.declared.refusal.AnswerRefusal.TheVariants.{NoStatusLine, BadToken, Missing, Twice, Unmet, Memory}
 use Rattle.model_out.proofs.ScanLaws.{scan_whole, scan_bad}

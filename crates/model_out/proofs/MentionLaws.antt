@@ -1,5 +1,5 @@
 -- What a table of mentions tells of an answer's integers.
-use Rattle.std.proofs.Common.{◌≡◌, ◌≢◌, refl, sym, ap, ◌∙◌, subst, ℕ, zero, suc, ◌+◌, ◌-◌, ◌<◌, ◌≤◌, ℤ, pos, negsuc, neg_ℤ, nat_abs, Bool, true, false, cond, not, List, [], ◌∷◌, ◌++◌, length, get_or, map, filter, arith, true≢false, append-nil, eqb-true, ◌==◌, Option, Some, None}
+use Rattle.std.proofs.Common.{◌≡◌, refl, sym, ap, ◌∙◌, ℕ, ◌+◌, ◌-◌, ◌<◌, ◌≤◌, ℤ, pos, negsuc, neg_ℤ, nat_abs, Bool, true, false, cond, not, List, [], ◌∷◌, ◌++◌, length, get_or, map, filter, arith, true≢false, append-nil, eqb-true, ◌==◌, Option, Some, None}
 use Rattle.std.proofs.lemmas.List.{length-map, get_or-map}
 use Rattle.std.proofs.lemmas.List.Elements.{filter-append}
 use Rattle.cx_base.specs.Literals.{value_of}
@@ -11,7 +11,7 @@ use Rattle.model_out.specs.Answers.{written_of, signed, IsVariable, Gives, Least
 use Rattle.model_out.specs.Mentions.{mention_of, is_never, is_repeated, is_true_once, IsFirstOf, Tells}
 use Rattle.model_out.specs.Settling.{NoneMissing}
 use Rattle.model_out.specs.declared.mentions.Mention.{Mention}
-use Rattle.model_out.specs.declared.mentions.Mention.TheVariants.{Never, Once, Repeated}
+use Rattle.model_out.specs.declared.mentions.Mention.TheVariants.{Never}
 
 -- a literal of a variable above the table changes nothing
 pub tells_above : (lits : List ℤ) (z : ℤ) (table : List Mention) → length table ≤ MAX_VARIABLE → MAX_VARIABLE < nat_abs z → Tells lits table → Tells (lits ++ z ∷ []) table

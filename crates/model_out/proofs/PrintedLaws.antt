@@ -5,17 +5,15 @@ use Rattle.std.specs.Str.Parse.{IsNumeral}
 use Rattle.std.proofs.lemmas.Fmt.{decimal_is_IsNumeral_wide}
 use Rattle.std.proofs.lemmas.List.{take-append-le, take_all}
 use Rattle.std.proofs.lemmas.List.Sums.{fold-append}
-use Rattle.cx_base.specs.Literals.{value_of}
-use Rattle.cx_base.specs.Problem.{Problem, Meets}
+use Rattle.cx_base.specs.Problem.{Problem}
 use Rattle.cx_base.specs.declared.literal.TheConstants.{MAX_VARIABLE}
 use Rattle.cx_semantics.specs.AnswerText.{break_before, printed_value, answer_text}
 use Rattle.cx_semantics.specs.Printed.{printed_integer}
 use Rattle.cx_semantics.specs.Tokens.{Token, is_blank, tokens, tokens_from, tokens_within, NoBlank, EndsRun}
-use Rattle.cx_semantics.specs.Words.{integer}
 use Rattle.cx_semantics.proofs.Printing.{IsPiece, digit_is, digit_bounds, not_equal, digits_no_blank, integer-printed}
 use Rattle.cx_semantics.proofs.TokenLaws.{token_at, not_feed, tokens_from-kept, tokens_within-blank, tokens_within-feed, tokens_within-run}
 use Rattle.model_out.specs.LineTokens.{LineToken, step_in_line, at_line_begin, line_token, line_tokens}
-use Rattle.model_out.specs.Answers.{behind_status, written_of, signed, IsVariable, Gives, AnswerReads, number}
+use Rattle.model_out.specs.Answers.{behind_status, written_of, signed, Gives, AnswerReads}
 use Rattle.model_out.specs.Laws.{PrintedAnswersRead}
 use Rattle.model_out.specs.Reading.{scan, whole}
 use Rattle.model_out.proofs.Puts.{text_is}

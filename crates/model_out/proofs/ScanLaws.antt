@@ -1,8 +1,8 @@
 -- The scan of the `v` lines gives what the form of answers says.
 use Rattle.std.proofs.Common.{◌≡◌, ◌≢◌, refl, sym, ap, ◌∙◌, subst, ℕ, zero, suc, ℤ, pos, negsuc, List, [], ◌∷◌, ◌++◌, append_assoc, append-nil}
 use Rattle.model_out.specs.LineTokens.{LineToken}
-use Rattle.model_out.specs.Answers.{Part, mark, number, strange, part_of, GoesOn, AllGoOn, onto_numbers, numbers, IsStrange, IsBehindZero, IsUnended, FirstBad, at_strange, behind_zero, at_end}
-use Rattle.model_out.specs.Reading.{Scan, whole, bad, scan_end, at_part, scan}
+use Rattle.model_out.specs.Answers.{Part, mark, number, strange, part_of, GoesOn, AllGoOn, onto_numbers, numbers, FirstBad, at_strange, behind_zero, at_end}
+use Rattle.model_out.specs.Reading.{whole, bad, scan_end, at_part, scan}
 
 -- the body ends with the first zero, behind integers that come behind these
 pub record Ended (body : List LineToken) (lits all : List ℤ) : Type 0 where

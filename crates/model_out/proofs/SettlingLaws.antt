@@ -1,10 +1,9 @@
 -- A whole answer is judged by its integers.
-use Rattle.std.proofs.Common.{◌≡◌, refl, sym, ap, ◌∙◌, subst, ℕ, ◌+◌, ℤ, Bool, true, false, not, List, [], ◌∷◌, ◌++◌, length, Option, Some, None, MatchOption, Result, Ok, Err, is_some}
-use Rattle.std.specs.List.{list_all}
-use Rattle.cx_base.specs.Problem.{Problem, Meets, constraint_met, first_unmet}
+use Rattle.std.proofs.Common.{◌≡◌, refl, sym, ap, ◌∙◌, ℕ, ℤ, Bool, true, false, not, List, [], length, Some, None, Result, Ok, Err, is_some}
+use Rattle.cx_base.specs.Problem.{Problem, Meets, first_unmet}
 use Rattle.cx_base.proofs.UnmetLaws.{is_some-first_unmet}
 use Rattle.model_out.specs.LineTokens.{LineToken, line_tokens}
-use Rattle.model_out.specs.Answers.{behind_status, IsAnswer, BadAt, Gives, AnswersAs}
+use Rattle.model_out.specs.Answers.{behind_status, IsAnswer, BadAt, AnswersAs}
 use Rattle.model_out.specs.Reading.{scan, whole, bad, ScansTo}
 use Rattle.model_out.specs.Settling.{SettlesAs, JudgesAs}
 use Rattle.model_out.specs.declared.mentions.Mention.{Mention}

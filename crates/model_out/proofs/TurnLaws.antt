@@ -1,10 +1,10 @@
 -- One token of the `v` lines.
-use Rattle.std.proofs.Common.{◌≡◌, ◌≢◌, refl, sym, ap, ◌∙◌, ℕ, zero, suc, ℤ, pos, negsuc, Bool, true, false, cond, List, [], ◌∷◌, ◌++◌, Option, Some, None, MatchOption, Result, Ok, Err, codes, bytes_eq}
+use Rattle.std.proofs.Common.{◌≡◌, ◌≢◌, refl, ap, ◌∙◌, ℕ, zero, suc, ℤ, pos, negsuc, true, false, cond, List, [], ◌∷◌, ◌++◌, Option, Some, None, MatchOption, Result, Ok, Err, codes, bytes_eq}
 use Rattle.cx_semantics.specs.Words.{integer}
 use Rattle.model_out.specs.LineTokens.{LineToken}
 use Rattle.model_out.specs.Answers.{Part, mark, number, strange, part_of, number_or_strange}
 use Rattle.model_out.specs.Mentions.{Tells}
-use Rattle.model_out.specs.Reading.{scan, scan_end, at_part, bad, seen, ahead, TakesTo, TurnsTo, EndsTo, ScansTo}
+use Rattle.model_out.specs.Reading.{scan, at_part, seen, ahead, TakesTo, TurnsTo, EndsTo, ScansTo}
 use Rattle.model_out.specs.declared.line_tokens.LineTokenAt.{LineTokenAt}
 use Rattle.model_out.specs.declared.mentions.Mention.{Mention}
 use Rattle.model_out.specs.declared.read.Turn.{Turn}

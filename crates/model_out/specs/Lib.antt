@@ -3,5 +3,6 @@ pub mod Answers
 pub mod Reading
 pub mod Mentions
 pub mod Integers
+pub mod Waiting
 pub mod Laws
 pub mod Settling

@@ -1,5 +1,5 @@
 -- What an answer's integers say of a formula's variables.
-use Rattle.std.specs.Prelude.{◌≡◌, ℕ, ℤ, Bool, List, Some, None, Result, Ok, Err, ⊤}
+use Rattle.std.specs.Prelude.{◌≡◌, ℕ, ℤ, Bool, List, Some, Result, Ok, Err, ⊤}
 use Rattle.cx_base.specs.Problem.{Problem, Meets, first_unmet}
 use Rattle.model_out.specs.Answers.{Gives, LeastVariable, IsMissing, IsRepeated, IsVariable}
 use Rattle.model_out.specs.declared.refusal.AnswerRefusal.{AnswerRefusal}

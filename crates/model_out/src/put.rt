@@ -1,12 +1,31 @@
 //! Answers as text.
-ghost use Rattle.std.specs.Prelude.{◌≡◌, ◌<◌, ◌++◌, codes, flat_map};
+ghost use Rattle.std.specs.Prelude.{◌≡◌, ◌<◌, ◌++◌, [], if◌then◌else◌, codes, flat_map};
 ghost use Rattle.std.specs.List.{enumerate_from};
 ghost use Rattle.cx_desk.specs.Calls.{PutsAll};
 ghost use Rattle.cx_desk.specs.declared.desk.Port.TheVariants.{Answer};
 ghost use Rattle.cx_semantics.specs.AnswerText.{break_before, printed_value, answer_text};
+ghost use Rattle.model_out.specs.Waiting.{Adds};
 
-use cx_desk::{Desk, Failed, Port, put_all, put_pieces};
+use arrayvec::ArrayVec;
+use cx_desk::{Desk, Failed, Port, put_all};
 use itoa::Buffer;
+
+/// How many bytes wait at most, so that the desk is not called for each literal.
+const ROOM: usize = 4096;
+
+/// Takes a piece behind the bytes that wait, and writes them all where there is no room for it.
+fn add<D: Desk>(desk: &mut D, waiting: &mut ArrayVec<u8, ROOM>, piece: &[u8]) -> Result<(), Failed>
+    ensures { Adds piece.now (D.outside desk.old) waiting.old.items result (D.outside desk.new) waiting.new.items }
+{
+    match waiting.try_extend_from_slice(piece) {
+        Ok(()) => Ok(()),
+        Err(_) => {
+            put_all(desk, Port::Answer, waiting.as_slice())?;
+            waiting.clear();
+            put_all(desk, Port::Answer, piece)
+        }
+    }
+}
 
 /// What stands before the literal at a place, from 0.
 fn space_before(place: usize) -> &'static [u8]
@@ -19,27 +38,40 @@ fn space_before(place: usize) -> &'static [u8]
     }
 }
 
-/// Writes the literal of the variable at a place, from 0.
-fn put_value<D: Desk>(desk: &mut D, place: usize, value: bool) -> Result<(), Failed>
+/// The sign of a literal that is true where its variable has the value.
+fn sign_of(value: bool) -> &'static [u8]
+    ensures { result.now ≡ if value then [] else codes "-" }
+{
+    if value { b"" } else { b"-" }
+}
+
+/// Adds the literal of the variable at a place, from 0.
+fn add_value<D: Desk>(
+    desk: &mut D,
+    waiting: &mut ArrayVec<u8, ROOM>,
+    place: usize,
+    value: bool,
+) -> Result<(), Failed>
     requires { place < 18446744073709551615 }
-    ensures { PutsAll Answer (printed_value (place, value)) (D.outside desk.old) result (D.outside desk.new) }
+    ensures { Adds (printed_value (place, value)) (D.outside desk.old) waiting.old.items result (D.outside desk.new) waiting.new.items }
 {
     let mut buffer = Buffer::new();
     let number = buffer.format(place as u64 + 1);
-    let sign = if value { b"".as_slice() } else { b"-" };
-    put_pieces(
-        desk,
-        Port::Answer,
-        &[space_before(place), sign, number.as_bytes()],
-    )
+    add(desk, waiting, space_before(place))?;
+    add(desk, waiting, sign_of(value))?;
+    add(desk, waiting, number.as_bytes())
 }
 
-/// Writes the literals of all variables.
-fn put_values<D: Desk>(desk: &mut D, values: &[bool]) -> Result<(), Failed>
-    ensures { PutsAll Answer (flat_map printed_value (enumerate_from 0 values.now)) (D.outside desk.old) result (D.outside desk.new) }
+/// Adds the literals of all variables.
+fn add_values<D: Desk>(
+    desk: &mut D,
+    waiting: &mut ArrayVec<u8, ROOM>,
+    values: &[bool],
+) -> Result<(), Failed>
+    ensures { Adds (flat_map printed_value (enumerate_from 0 values.now)) (D.outside desk.old) waiting.old.items result (D.outside desk.new) waiting.new.items }
 {
     for (place, value) in values.iter().enumerate() {
-        put_value(desk, place, *value)?;
+        add_value(desk, waiting, place, *value)?;
     }
     Ok(())
 }
@@ -51,7 +83,9 @@ fn put_values<D: Desk>(desk: &mut D, values: &[bool]) -> Result<(), Failed>
 pub fn put_answer<D: Desk>(desk: &mut D, values: &[bool]) -> Result<(), Failed>
     ensures { PutsAll Answer (answer_text values.now) (D.outside desk.old) result (D.outside desk.new) }
 {
-    put_all(desk, Port::Answer, b"s SATISFIABLE\nv")?;
-    put_values(desk, values)?;
-    put_all(desk, Port::Answer, b" 0\n")
+    let mut waiting = ArrayVec::new();
+    add(desk, &mut waiting, b"s SATISFIABLE\nv")?;
+    add_values(desk, &mut waiting, values)?;
+    add(desk, &mut waiting, b" 0\n")?;
+    put_all(desk, Port::Answer, waiting.as_slice())
 }

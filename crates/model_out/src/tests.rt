@@ -29,7 +29,7 @@ fn refusal(rt: &HostRuntime, text: &[u8]) -> Result<Option<AnswerRefusal>, Fail>
 
 /// What is written of a list of true values on an answer port with so much room, and whether that was all.
 fn printed(rt: &HostRuntime, count: usize, answer: usize) -> Result<(Vec<u8>, bool), Fail> {
-    if answer > 4096 || count > 64 {
+    if answer > 16_384 || count > 4096 {
         return Ok((Vec::new(rt.alloc()), false));
     }
     let rooms = Rooms {
@@ -71,6 +71,15 @@ fn sixteen_literals_stand_on_a_line(rt: HostRuntime) -> Result<(), Fail> {
         assert_eq!(rt; text.as_slice(), want);
         assert_eq!(rt; done, all);
     }
+    Ok(())
+}
+
+#[test]
+fn a_long_answer_is_written_whole(rt: HostRuntime) -> Result<(), Fail> {
+    let (text, done) = printed(&rt, 2000, 10_000)?;
+    assert!(rt; done);
+    assert_eq!(rt; text.len(), 9159);
+    assert!(rt; text.as_slice().ends_with(b" 1999 2000 0\n"));
     Ok(())
 }
 

@@ -1,6 +1,5 @@
-use Rattle.std.proofs.Common.{◌≡◌, ◌∙◌, ap, ◌∷◌, [], List, ℤ}
+use Rattle.std.proofs.Common.{◌≡◌, ◌∙◌, ap, ◌∷◌, []}
 use Rattle.std.proofs.lemmas.Result.{err_from_is_err_and}
-use Rattle.model_out.specs.LineTokens.{LineToken}
 use Rattle.model_out.specs.Reading.{seen, ahead, scan}
 use Rattle.model_out.proofs.TurnLaws.{ahead_is, turn_refused, turn_goes_on, turn_ends}
 use Rattle.model_out.proofs.read.read_literals.Goals as goal

@@ -1,5 +1,4 @@
-use Rattle.std.proofs.Common.{◌≡◌, ℕ, ℤ, true, List, codes, bytes_eq, rules}
-use Rattle.model_out.specs.LineTokens.{LineToken}
+use Rattle.std.proofs.Common.{◌≡◌, true, codes, bytes_eq, rules}
 use Rattle.model_out.specs.Reading.{seen}
 use Rattle.model_out.proofs.TurnLaws.{turn_mark, turn_integer}
 use Rattle.model_out.proofs.read.take_token.Goals as goal

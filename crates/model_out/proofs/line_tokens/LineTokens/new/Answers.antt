@@ -1,4 +1,4 @@
-use Rattle.std.proofs.Common.{ap, map, ◌∙◌, sym}
+use Rattle.std.proofs.Common.{ap, map}
 use Rattle.cx_semantics.specs.Tokens.{tokens}
 use Rattle.model_out.specs.LineTokens.{line_token}
 use Rattle.model_out.proofs.line_tokens.LineTokens.new.Goals as goal
