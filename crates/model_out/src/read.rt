@@ -151,8 +151,8 @@ fn judge(alloc: Global, mentions: &Mentions, formula: &Formula) -> Result<Values
 ///
 /// The text is read once, in order. Literals of variables above the formula's number say nothing. `Ok` has a value
 /// for each variable of the formula, and they meet it; a refusal is the first cause in the order of
-/// [`AnswerRefusal`]. Without memory it is `Memory`, which says nothing of the text. It takes a byte or two for each
-/// variable, whatever the text's length.
+/// [`AnswerRefusal`]. Without memory it is `Memory`, which says nothing of the text. Nothing of the text is kept but
+/// how each variable of the formula is mentioned.
 pub fn read_answer(alloc: Global, text: &[u8], formula: &Formula) -> Result<Values, AnswerRefusal>
     ensures { AnswersAs text.now formula.now result }
 {
