@@ -5,5 +5,6 @@ pub mod TurnLaws
 pub mod Puts
 pub mod SettlingLaws
 pub mod JudgingLaws
-mod PrintedLaws
+pub mod PrintedLaws
 mod DecidingLaws
+mod LineLaws

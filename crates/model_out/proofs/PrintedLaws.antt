@@ -75,14 +75,14 @@ run_keeps : (run : List ℕ) → NoBlank run → fold step_in_line false run ≡
 run_keeps [] h = refl
 run_keeps (b ∷ run) h = ap (λ x. fold step_in_line x run) (step_no_blank false b h.0) ∙ run_keeps run h.1
 
-piece_inside : (s : Bool) (p : List ℕ) → IsPiece p → fold step_in_line s p ≡ false
+pub piece_inside : (s : Bool) (p : List ℕ) → IsPiece p → fold step_in_line s p ≡ false
 piece_inside s p k = ap (fold step_in_line s) k.is ∙ ap (λ x. fold step_in_line x k.rest) (step_no_blank s k.first k.no_blank.0) ∙ run_keeps k.rest k.no_blank.1
 
 gap_begins : (b : Bool) → step_in_line false (gap b) ≡ b
 gap_begins true = refl
 gap_begins false = refl
 
-front_of : (all front rest : List ℕ) (n : ℕ) → all ≡ front ++ rest → length front ≡ n → take n all ≡ front
+pub front_of : (all front rest : List ℕ) (n : ℕ) → all ≡ front ++ rest → length front ≡ n → take n all ≡ front
 front_of all front rest n e l =
     let low : n ≤ length front = omega arith in
     ap (take n) e ∙ take-append-le n front rest low ∙ take_all n front (omega arith)

@@ -11,7 +11,7 @@ mod refusal;
 #[cfg(test)]
 mod tests;
 
-pub use laws::{answers_are_judged_in_one_way, printed_answers_read};
+pub use laws::{answers_are_judged_in_one_way, printed_answers_read, tokens_are_of_lines};
 pub use put::put_answer;
 pub use read::read_answer;
 pub use refusal::AnswerRefusal;
