@@ -5,6 +5,7 @@ mod ahead;
 mod fields;
 mod print;
 mod proof_text;
+mod sink;
 mod source;
 mod steps;
 mod token_word;
@@ -12,6 +13,7 @@ mod token_word;
 pub use cx_semantics::{Cause, ProofStep};
 pub use print::put_proof_step;
 pub use proof_text::ProofText;
+pub use sink::{ProofSink, SinkFault};
 pub use source::{StepSource, TextRefusal};
 
 #[cfg(test)]
