@@ -2,6 +2,7 @@
 #![tactic(auto)]
 
 mod ahead;
+pub mod copies;
 mod fields;
 mod print;
 mod proof_text;
