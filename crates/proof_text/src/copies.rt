@@ -1,7 +1,8 @@
-//! Copies of a step's lists.
+//! Copies of a step's lists and of a step.
 ghost use Rattle.std.specs.Prelude.{◌≡◌, IfOk};
 
 use cx_base::{IdList, IntList};
+use cx_semantics::ProofStep;
 use std::alloc::{AllocError, Global};
 
 /// A copy of a list of integers.
@@ -18,4 +19,36 @@ pub fn copy_ids(alloc: Global, list: &IdList) -> Result<IdList, AllocError>
 {
     let ids = list.as_slice().to_vec(alloc)?;
     Ok(IdList::from_vec(ids))
+}
+
+/// A copy of a step of a proof.
+pub fn copy_proof_step(alloc: Global, step: &ProofStep) -> Result<ProofStep, AllocError>
+    ensures { IfOk result (λ copy. copy ≡ step.now) }
+{
+    match step {
+        ProofStep::Clause(id, literals, hints) => Ok(ProofStep::Clause(
+            *id,
+            copy_integers(alloc, literals)?,
+            copy_integers(alloc, hints)?,
+        )),
+        ProofStep::DeleteClauses(id, names) => {
+            Ok(ProofStep::DeleteClauses(*id, copy_ids(alloc, names)?))
+        }
+        ProofStep::Parity(id, literals, hints) => Ok(ProofStep::Parity(
+            *id,
+            copy_integers(alloc, literals)?,
+            copy_integers(alloc, hints)?,
+        )),
+        ProofStep::DeleteParities(names) => Ok(ProofStep::DeleteParities(copy_ids(alloc, names)?)),
+        ProofStep::ClauseOfParity(id, literals, hint) => Ok(ProofStep::ClauseOfParity(
+            *id,
+            copy_integers(alloc, literals)?,
+            *hint,
+        )),
+        ProofStep::ParityOfClauses(id, literals, hints) => Ok(ProofStep::ParityOfClauses(
+            *id,
+            copy_integers(alloc, literals)?,
+            copy_integers(alloc, hints)?,
+        )),
+    }
 }
