@@ -1,9 +1,9 @@
 //! Steps of proofs from their text, and their printed form.
 #![tactic(auto)]
 
-mod ahead;
+pub mod ahead;
 pub mod copies;
-mod fields;
+pub mod fields;
 mod list_proof;
 pub mod pieces;
 mod print;
@@ -11,7 +11,7 @@ mod proof_text;
 mod sink;
 mod source;
 mod steps;
-mod token_word;
+pub mod token_word;
 
 pub use cx_semantics::{Cause, ProofStep};
 pub use list_proof::ListProof;
