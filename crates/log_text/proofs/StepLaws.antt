@@ -108,11 +108,11 @@ pub no_start : (size : ℕ) (r : TextRefusal) (a : List Placed) → is_head_lett
 unfolding log_forms
 no_start size r a no_o no_a no_i no_d no_f h = head_refused (a_mark 111) named _ size r a
     (λ p rest e o.
-        let a_ = head_refuses 97 a no_a p rest e in
-        let i = head_refuses 105 a no_i p rest e in
-        let d = head_refuses 100 a no_d p rest e in
-        let f = head_refuses 102 a no_f p rest e in
-        (o, (a_, (a_, (a_, (i, (i, (d, (d, (f, (f, tt))))))))))) h
+    let a_ = head_refuses 97 a no_a p rest e in
+    let i = head_refuses 105 a no_i p rest e in
+    let d = head_refuses 100 a no_d p rest e in
+    let f = head_refuses 102 a no_f p rest e in
+    (o, (a_, (a_, (a_, (i, (i, (d, (d, (f, (f, tt))))))))))) h
 
 pub other_letter : (c size : ℕ) (a : List Placed) (seen : SeenWord) → is_head_letter c a ≡ false → Some seen ≡ seen_head a → HeadFails (a_mark c) size (BadToken seen.place) a
 other_letter c size [] seen h e = cc

@@ -17,3 +17,6 @@ pub use no_log::NoLog;
 pub use print::{put_log, put_log_step};
 pub use proof_text::{SinkFault, StepSource, TextRefusal};
 pub use sink::LogSink;
+
+#[cfg(test)]
+mod tests;

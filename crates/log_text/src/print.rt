@@ -56,18 +56,18 @@ fn put_with_hints<D: Desk>(
     put_integers(desk, port, hints, b"\n")
 }
 
-/// An id, literals and the ids of sources behind a text, as the end of a line.
+/// An id, a parity's literals and the ids of sources behind a text, as the end of a line.
 fn put_with_sources<D: Desk>(
     desk: &mut D,
     port: Port,
     before: &[u8],
     name: u64,
-    literals: &[i64],
+    parity: &[i64],
     sources: &[u64],
 ) -> Result<(), Failed>
-    ensures { PutsAll port (before.now ++ printed_line (flat_map spelled (id name ∷ integers literals.now ∷ mark 108 ∷ ids sources.now ∷ []))) (D.outside desk.old) result (D.outside desk.new) }
+    ensures { PutsAll port (before.now ++ printed_line (flat_map spelled (id name ∷ integers parity.now ∷ mark 108 ∷ ids sources.now ∷ []))) (D.outside desk.old) result (D.outside desk.new) }
 {
-    put_head(desk, port, before, name, literals, b" l")?;
+    put_head(desk, port, before, name, parity, b" l")?;
     put_ids(desk, port, sources)
 }
 
@@ -101,13 +101,27 @@ pub fn put_log_step<D: Desk>(desk: &mut D, port: Port, step: &LogStep) -> Result
             put_with_hints(desk, port, b"a ", *id, lits.as_slice(), hints.as_slice())
         }
         LogStep::Parity(id, lits, sources) => {
-            put_with_sources(desk, port, b"a x ", *id, lits.as_slice(), sources.as_slice())
+            put_with_sources(
+                desk,
+                port,
+                b"a x ",
+                *id,
+                lits.as_slice(),
+                sources.as_slice(),
+            )
         }
         LogStep::ClauseOfParity(id, lits, source) => {
             put_with_source(desk, port, b"i ", *id, lits.as_slice(), *source)
         }
         LogStep::ParityOfClauses(id, lits, sources) => {
-            put_with_sources(desk, port, b"i x ", *id, lits.as_slice(), sources.as_slice())
+            put_with_sources(
+                desk,
+                port,
+                b"i x ",
+                *id,
+                lits.as_slice(),
+                sources.as_slice(),
+            )
         }
         LogStep::Delete(id, lits) => put_plain(desk, port, b"d ", *id, lits.as_slice()),
         LogStep::DeleteParity(id, lits) => put_plain(desk, port, b"d x ", *id, lits.as_slice()),

@@ -132,11 +132,7 @@ fn take_added(alloc: Global, tokens: &mut TokensAhead, size: usize) -> Result<Lo
     if tokens.is_letter(b'x') {
         tokens.pass();
         let parity = take_sourced(alloc, tokens, size)?;
-        return Ok(LogStep::Parity(
-            parity.id,
-            parity.literals,
-            parity.sources,
-        ));
+        return Ok(LogStep::Parity(parity.id, parity.literals, parity.sources));
     }
     let id = take_id(tokens, size)?;
     let literals = take_integers(alloc, tokens, size)?;
@@ -161,18 +157,10 @@ fn take_implied_step(
     if tokens.is_letter(b'x') {
         tokens.pass();
         let parity = take_sourced(alloc, tokens, size)?;
-        Ok(LogStep::ParityOfClauses(
-            parity.id,
-            parity.literals,
-            parity.sources,
-        ))
+        Ok(LogStep::ParityOfClauses(parity.id, parity.literals, parity.sources))
     } else {
         let clause = take_implied(alloc, tokens, size)?;
-        Ok(LogStep::ClauseOfParity(
-            clause.id,
-            clause.literals,
-            clause.source,
-        ))
+        Ok(LogStep::ClauseOfParity(clause.id, clause.literals, clause.source))
     }
 }
 

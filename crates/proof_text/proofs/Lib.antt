@@ -8,3 +8,4 @@ pub mod Places
 pub mod Puts
 pub mod Given
 pub mod StepIntegers
+pub mod ToldLaws

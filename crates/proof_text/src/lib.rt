@@ -3,6 +3,7 @@
 
 pub mod ahead;
 pub mod copies;
+mod desk_proof;
 pub mod fields;
 mod list_proof;
 pub mod pieces;
@@ -14,6 +15,7 @@ mod steps;
 pub mod token_word;
 
 pub use cx_semantics::{Cause, ProofStep};
+pub use desk_proof::DeskProof;
 pub use list_proof::ListProof;
 pub use print::put_proof_step;
 pub use proof_text::ProofText;
