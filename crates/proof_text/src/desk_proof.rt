@@ -47,6 +47,8 @@ impl<D: Desk> ProofSink for DeskProof<'_, D> {
 
     ghost faults = { λ s. (D.outside s.desk.now).faults.writes + s.refused };
 
+    ghost has_failed = { λ s. s.failed };
+
     ghost torn = { λ s step. s.refused ≡ 0 → TornOn step (D.outside s.desk.now) };
 
     ghost keeps = { λ a b. (b.desk.ghost_name ≡ a.desk.ghost_name) × Goes a.failed a.refused (D.outside a.desk.now) b.failed b.refused (D.outside b.desk.now) };
