@@ -1,5 +1,5 @@
 pub mod Endings
-pub mod Words
 pub mod Seen
+pub mod Commands
 pub mod Happens
 pub mod Steps

@@ -5,15 +5,10 @@ mod ending;
 mod judge;
 mod laws;
 mod load;
-mod name;
-mod plans;
 mod print;
 mod program;
-mod words;
 
+pub use cx_words::{Kind, Name, Plan, PlanRefusal, plan};
 pub use ending::{Ending, Outcome, Status};
 pub use laws::one_ending_is_due;
-pub use name::Name;
-pub use plans::Plan;
 pub use program::{run, run_within};
-pub use words::{PlanRefusal, plan};

@@ -1,6 +1,6 @@
 use Rattle.solve_cli.specs.Seen.{seen}
 use Rattle.solve_cli.proofs.Works.{formula_refused}
-use Rattle.solve_cli.proofs.load.formula_of.Goals as goal
+use Rattle.solve_cli.proofs.load.read_formula_of.Goals as goal
 
 pub returns : goal.returns
 returns g c =
