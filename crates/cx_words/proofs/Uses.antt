@@ -1,0 +1,116 @@
+-- One argument with one value: what a walk makes of its words.
+use Rattle.std.proofs.Common.{◌≡◌, ◌∙◌, ◌||◌, ◌&&◌, ◌+◌, ℕ, Bool, List, [], ◌∷◌, ◌++◌, Some, None, Option, false, true, refl, append-nil, codes}
+use Rattle.std.specs.Prelude.{min}
+use Rattle.std.specs.Str.{bytes_eq}
+use Rattle.clap.specs.Lexer.{long_of, short_of, usize_max}
+use Rattle.clap.specs.Walk.{Held, Row, Rule, Walk, Waiting, walked, idle, option, at_row, has_row, more_values, settled_rows, arg_by_id, arg_by_index, arg_by_long}
+use Rattle.clap.specs.Simple.{Shape, new_rule}
+use Rattle.clap.specs.Faults.{turn_fault, settle_fault}
+use Rattle.clap.specs.declared.builder.ArgAction.TheVariants.{Set}
+use Rattle.clap.specs.declared.builder.ValueParser.TheVariants as vp
+use Rattle.clap.specs.declared.parser.matches.ValueSource.TheVariants.{CommandLine}
+use Rattle.clap.specs.declared.builder.value_parser.Reading.TheVariants.{AsWritten}
+use Rattle.cx_desk.specs.Outside.{Bytes}
+
+-- an argument that takes one value, as clap builds it
+abbrev pub single : Bytes → Option Bytes → Option ℕ → Bool → Rule
+single id long index required = record (new_rule id) {
+  long = long;
+  index = index;
+  required = required;
+  action = Some Set;
+  parser = Some vp.String;
+  range = Some (record { start_inclusive = 1; end_inclusive = 1 });
+}
+
+-- in its place, and as an option
+abbrev pub placed : Bytes → ℕ → Rule
+placed id place = single id None (Some place) true
+
+abbrev pub chosen : Bytes → Rule
+chosen id = single id (Some id) None false
+
+-- what is found for it
+abbrev pub row : Bytes → Bytes → Row
+row id value = record { id = id; values = value ∷ []; count = None; source = Some CommandLine; reading = AsWritten }
+
+abbrev pub Pending : Type 0
+Pending = Option (Bytes × List Bytes)
+
+abbrev pub holding : List Row → Pending → Held
+holding rows pending = record { rows = rows; pending = pending; skip = 0 }
+
+abbrev pub at : List Row → Pending → Waiting → ℕ → Walk
+at rows pending waiting place = record { held = holding rows pending; waiting = waiting; position = place; is_trailing = false; stopped = None }
+
+none_in : (a b : Bool) → (a || b) ≡ false → (a ≡ false) × (b ≡ false)
+none_in true b e = cc
+none_in false b e = (refl, e)
+
+at_new_row : (id : Bytes) (change : Row → List Row) (missing rows : List Row) → has_row id rows ≡ false → at_row id change missing rows ≡ rows ++ missing
+at_new_row id change missing [] none = refl
+at_new_row id change missing (r ∷ rs) none =
+    let two = none_in (bytes_eq r.id id) (has_row id rs) none in
+    rw (two.0, at_new_row id change missing rs two.1) refl
+
+-- a first value makes a new row, and is no fault
+pub settles : (rules : List Rule) (id : Bytes) (long : Option Bytes) (index : Option ℕ) (required : Bool) (rows : List Row) (value : Bytes)
+    → arg_by_id rules id ≡ Some (single id long index required) → has_row id rows ≡ false
+    → settled_rows rules (Some (id, value ∷ [])) rows ≡ rows ++ row id value ∷ []
+settles rules id long index required rows value known new =
+    rw (known, at_new_row id _ [] rows new, append-nil) (at_new_row id (more_values CommandLine (value ∷ [])) _ rows new)
+
+pub settles_fine : (rules : List Rule) (id : Bytes) (long : Option Bytes) (index : Option ℕ) (required : Bool) (rows : List Row) (value : Bytes)
+    → arg_by_id rules id ≡ Some (single id long index required) → has_row id rows ≡ false
+    → settle_fault rules false (holding rows (Some (id, value ∷ []))) ≡ []
+settles_fine rules id long index required rows value known new = rw (known, new) refl
+
+-- the word is no flag, and neither `-abc` nor `--`
+pub record NoFlag (word : Bytes) : Type 0 where
+  pub long : long_of word ≡ None
+  pub short : short_of word ≡ None
+  pub dashes : bytes_eq word (45 ∷ 45 ∷ []) ≡ false
+
+-- one word takes a walk from here to there, and is no fault
+pub record Turn (s : Shape) (from : Walk) (word : Bytes) (to : Walk) : Type 0 where
+  pub met : walked s.rules [] from word ≡ to
+  pub fine : turn_fault s [] from word ≡ []
+
+and_false : (b : Bool) → (b && false) ≡ false
+and_false true = refl
+and_false false = refl
+
+-- a value in its place
+pub place_met : (s : Shape) (rows : List Row) (pending : Pending) (id : Bytes) (place : ℕ) (word : Bytes)
+    → arg_by_index s.rules place ≡ Some (placed id place) → NoFlag word → settle_fault s.rules false (holding rows pending) ≡ [] → s.args_override_self ≡ false
+    → Turn s (at rows pending idle place) word (at (settled_rows s.rules pending rows) (Some (id, word ∷ [])) idle (min (place + 1) usize_max))
+unfolding walked
+place_met s rows None id place word known plain fine once = record {
+  met = rw (plain.dashes, plain.long, plain.short, known) refl;
+  fine = rw (plain.dashes, plain.long, plain.short, known) refl;
+}
+place_met s rows (Some p) id place word known plain fine once = record {
+  met = rw (plain.dashes, plain.long, plain.short, known, and_false (bytes_eq p.0 id)) refl;
+  fine = rw (plain.dashes, plain.long, plain.short, known, and_false (bytes_eq p.0 id), once) fine;
+}
+
+-- the name of an option
+pub option_met : (s : Shape) (rows : List Row) (pending : Pending) (id word : Bytes) (place : ℕ)
+    → arg_by_long s.rules id ≡ Some (chosen id) → long_of word ≡ Some (id, None) → bytes_eq word (45 ∷ 45 ∷ []) ≡ false
+    → settle_fault s.rules false (holding rows pending) ≡ [] → s.args_override_self ≡ false
+    → Turn s (at rows pending idle place) word (at (settled_rows s.rules pending rows) (Some (id, [])) (option id) place)
+unfolding walked
+option_met s rows pending id word place known named dashes fine once = record {
+  met = rw (dashes, named, known) refl;
+  fine = rw (dashes, named, known, once) (rw fine refl);
+}
+
+-- its value
+pub value_met : (s : Shape) (rows : List Row) (id word : Bytes) (place : ℕ)
+    → arg_by_id s.rules id ≡ Some (chosen id) → NoFlag word → bytes_eq id id ≡ true
+    → Turn s (at rows (Some (id, [])) (option id) place) word (at rows (Some (id, word ∷ [])) idle place)
+unfolding walked
+value_met s rows id word place known plain same = record {
+  met = rw (plain.dashes, plain.long, plain.short, known, same) refl;
+  fine = rw (plain.dashes, plain.long, plain.short) refl;
+}

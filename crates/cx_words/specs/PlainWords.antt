@@ -1,0 +1,134 @@
+-- Plain words: a command with its names and values in their order and its options anywhere, each at
+-- most once. Nothing here speaks of clap.
+use Rattle.std.specs.Prelude.{◌≡◌, ◌≢◌, ◌⊎◌, ◌≤◌, ◌==◌, ℕ, Bool, true, false, not, List, [], ◌∷◌, codes, Option, Some, None, IfSome, flat_map}
+use Rattle.std.specs.List.{list_all}
+use Rattle.std.specs.Char.{is_ascii_digit}
+use Rattle.std.specs.Str.Parse.{digits_value}
+use Rattle.cx_desk.specs.Outside.{Bytes}
+use Rattle.cx_words.specs.declared.plans.Kind.{Kind}
+use Rattle.cx_words.specs.declared.plans.Kind.TheVariants.{Even, Odd}
+use Rattle.cx_words.specs.declared.plans.Plan.{Plan}
+use Rattle.cx_words.specs.declared.plans.Plan.TheVariants as plan
+
+-- ---- names and numbers
+
+-- the text is not empty and does not begin with a dash
+abbrev pub is_name : Bytes → Bool
+is_name [] = false
+is_name (b ∷ rest) = not (b == 45)
+
+abbrev pub IsName : Bytes → Type 0
+IsName name = is_name name ≡ true
+
+-- a name, or a dash alone: the standard input
+abbrev pub IsFormulaName : Bytes → Type 0
+IsFormulaName name = IsName name ⊎ (name ≡ codes "-")
+
+-- digits alone, which spell this number
+pub record Spells (text : Bytes) (number : ℕ) : Type 0 where
+  pub some : text ≢ []
+  pub digits : list_all is_ascii_digit text ≡ true
+  pub value : digits_value 10 text ≡ number
+
+pub record SpellsWithin (least most : ℕ) (text : Bytes) (number : ℕ) : Type 0 where
+  pub spelt : Spells text number
+  pub least_met : least ≤ number
+  pub most_met : number ≤ most
+
+-- the word for a kind of instance
+abbrev pub kind_word : Kind → Bytes
+kind_word Even = codes "even"
+kind_word Odd = codes "odd"
+
+-- ---- solve
+
+-- an argument of `solve`: FORMULA, `--proof LOG` or `--conflicts N`
+pub data Argument : Type 0 where
+  formula : Bytes → Argument
+  log : Bytes → Argument
+  conflicts : Bytes → Argument
+
+-- its words: the value of an option is the next word
+abbrev pub words_of : Argument → List Bytes
+words_of (formula name) = name ∷ []
+words_of (log name) = codes "--proof" ∷ name ∷ []
+words_of (conflicts text) = codes "--conflicts" ∷ text ∷ []
+
+abbrev pub formula_in : Argument → List Bytes
+formula_in (formula name) = name ∷ []
+formula_in _ = []
+
+abbrev pub log_in : Argument → List Bytes
+log_in (log name) = name ∷ []
+log_in _ = []
+
+abbrev pub conflicts_in : Argument → List Bytes
+conflicts_in (conflicts text) = text ∷ []
+conflicts_in _ = []
+
+-- what may be left out stands at most once
+abbrev pub at_most_once : Option Bytes → List Bytes
+at_most_once None = []
+at_most_once (Some text) = text ∷ []
+
+-- a number of conflicts from 1 to 10^18; a million where none is given
+abbrev pub IsBudget : Option Bytes → ℕ → Type 0
+IsBudget None number = number ≡ 1000000
+IsBudget (Some text) number = SpellsWithin 1 1000000000000000000 text number
+
+-- `solve` with its arguments in any order
+pub record PlainSolve (name : Bytes) (to : Option Bytes) (budget : ℕ) (words : List Bytes) : Type 0 where
+  pub program : Bytes
+  pub arguments : List Argument
+  pub given : Option Bytes
+  pub spelt : words ≡ program ∷ codes "solve" ∷ flat_map words_of arguments
+
+  pub formula_once : flat_map formula_in arguments ≡ name ∷ []
+  pub log_once : flat_map log_in arguments ≡ at_most_once to
+  pub conflicts_once : flat_map conflicts_in arguments ≡ at_most_once given
+
+  pub formula_name : IsFormulaName name
+  pub log_name : IfSome to IsName
+  pub differ : IfSome to (λ l. name ≢ l)
+  pub number : IsBudget given budget
+
+-- ---- the commands without options
+
+pub record PlainCheck (name proof : Bytes) (words : List Bytes) : Type 0 where
+  pub program : Bytes
+  pub spelt : words ≡ program ∷ codes "check" ∷ name ∷ proof ∷ []
+  pub formula_name : IsFormulaName name
+  pub proof_name : IsName proof
+  pub differ : name ≢ proof
+
+pub record PlainElab (name to proof : Bytes) (words : List Bytes) : Type 0 where
+  pub program : Bytes
+  pub spelt : words ≡ program ∷ codes "elab" ∷ name ∷ to ∷ proof ∷ []
+  pub formula_name : IsFormulaName name
+  pub log_name : IsName to
+  pub proof_name : IsName proof
+  pub log_differs : name ≢ to
+  pub proof_differs : (name ≢ proof) × (to ≢ proof)
+
+pub record PlainModel (name answer : Bytes) (words : List Bytes) : Type 0 where
+  pub program : Bytes
+  pub spelt : words ≡ program ∷ codes "model" ∷ name ∷ answer ∷ []
+  pub formula_name : IsFormulaName name
+  pub answer_name : IsName answer
+  pub differ : name ≢ answer
+
+pub record PlainDemo (kind : Kind) (size seed : ℕ) (words : List Bytes) : Type 0 where
+  pub program : Bytes
+  pub size_text : Bytes
+  pub seed_text : Bytes
+  pub spelt : words ≡ program ∷ codes "demo" ∷ kind_word kind ∷ size_text ∷ seed_text ∷ []
+  pub size_number : SpellsWithin 4 2000 size_text size
+  pub seed_number : SpellsWithin 0 18446744073709551615 seed_text seed
+
+-- the words are plain and ask for the plan
+abbrev pub IsPlain : List Bytes → Plan → Type 0
+IsPlain words (plan.Solve name to budget) = PlainSolve name to budget words
+IsPlain words (plan.Check name proof) = PlainCheck name proof words
+IsPlain words (plan.Elab name to proof) = PlainElab name to proof words
+IsPlain words (plan.Model name answer) = PlainModel name answer words
+IsPlain words (plan.Demo kind size seed) = PlainDemo kind size seed words

@@ -1,0 +1,80 @@
+//! The command line as clap is given it.
+ghost use Rattle.std.specs.Prelude.{◌≡◌, false, IfOk};
+ghost use Rattle.clap.specs.Words.{app_of, rule_of};
+ghost use Rattle.clap.specs.declared.builder.Command.TheViews.{out-Command as fields_of};
+ghost use Rattle.cx_words.specs.CommandLine as line;
+
+use clap::{Arg, ArgAction, Command};
+use std::alloc::{AllocError, Global};
+
+/// A word that has to stand in its place.
+fn needed<'a>(alloc: Global, id: &'a str) -> Arg<'a>
+    ensures rule { rule_of result ≡ line.needed id.entry.now }
+    ensures local { result.global ≡ false }
+{
+    Arg::new(alloc, id).required(true).action(ArgAction::Set)
+}
+
+/// An option, with the value that stands behind it.
+fn optional<'a>(alloc: Global, id: &'a str) -> Arg<'a>
+    ensures rule { rule_of result ≡ line.optional id.entry.now }
+    ensures local { result.global ≡ false }
+{
+    Arg::new(alloc, id).long(id).action(ArgAction::Set)
+}
+
+fn solve<'a>(alloc: Global) -> Result<Command<'a>, AllocError>
+    ensures { IfOk result (λ c. (app_of c ≡ line.solve) × ((fields_of c).has_globals ≡ false)) }
+{
+    Command::new(alloc, "solve")
+        .arg(needed(alloc, "formula"))?
+        .arg(optional(alloc, "proof"))?
+        .arg(optional(alloc, "conflicts"))
+}
+
+fn check<'a>(alloc: Global) -> Result<Command<'a>, AllocError>
+    ensures { IfOk result (λ c. (app_of c ≡ line.check) × ((fields_of c).has_globals ≡ false)) }
+{
+    Command::new(alloc, "check")
+        .arg(needed(alloc, "formula"))?
+        .arg(needed(alloc, "proof"))
+}
+
+fn elab<'a>(alloc: Global) -> Result<Command<'a>, AllocError>
+    ensures { IfOk result (λ c. (app_of c ≡ line.elab) × ((fields_of c).has_globals ≡ false)) }
+{
+    Command::new(alloc, "elab")
+        .arg(needed(alloc, "formula"))?
+        .arg(needed(alloc, "log"))?
+        .arg(needed(alloc, "proof"))
+}
+
+fn model<'a>(alloc: Global) -> Result<Command<'a>, AllocError>
+    ensures { IfOk result (λ c. (app_of c ≡ line.model) × ((fields_of c).has_globals ≡ false)) }
+{
+    Command::new(alloc, "model")
+        .arg(needed(alloc, "formula"))?
+        .arg(needed(alloc, "answer"))
+}
+
+fn demo<'a>(alloc: Global) -> Result<Command<'a>, AllocError>
+    ensures { IfOk result (λ c. (app_of c ≡ line.demo) × ((fields_of c).has_globals ≡ false)) }
+{
+    Command::new(alloc, "demo")
+        .arg(needed(alloc, "kind"))?
+        .arg(needed(alloc, "size"))?
+        .arg(needed(alloc, "seed"))
+}
+
+/// The whole command line. It has to name a command.
+pub(crate) fn cxsat<'a>(alloc: Global) -> Result<Command<'a>, AllocError>
+    ensures { IfOk result (λ c. app_of c ≡ line.cxsat) }
+{
+    Command::new(alloc, "cxsat")
+        .subcommand_required(true)
+        .subcommand(solve(alloc)?)?
+        .subcommand(check(alloc)?)?
+        .subcommand(elab(alloc)?)?
+        .subcommand(model(alloc)?)?
+        .subcommand(demo(alloc)?)
+}

@@ -1,0 +1,110 @@
+//! Numbers and kinds as words give them.
+ghost use Rattle.std.specs.Prelude.{◌≡◌, ◌≤◌, ◌&&◌, Some, None, if◌then◌else◌, nat_lt, nat_le, length, option_map, IfSome};
+ghost use Rattle.std.specs.List.{list_all};
+ghost use Rattle.std.specs.Char.{is_ascii_digit};
+ghost use Rattle.cx_words.specs.Given.{number_in, conflicts_of, size_of, seed_of, kind_of, kind_named};
+
+use crate::Kind;
+
+/// The conflicts at which a search stops that is given no number of them.
+const DEFAULT_CONFLICTS: u64 = 1_000_000;
+/// The greatest number of conflicts that may be given.
+const MOST_CONFLICTS: u64 = 1_000_000_000_000_000_000;
+
+fn all_digits(text: &[u8]) -> bool
+    ensures { result ≡ list_all is_ascii_digit text.now }
+{
+    text.iter().all(|byte| byte.is_ascii_digit())
+}
+
+/// Digits alone, and at least one.
+fn is_digits(text: &str) -> bool
+    ensures { result ≡ (list_all is_ascii_digit text.now && nat_lt 0 (length text.now)) }
+{
+    all_digits(text.as_bytes()) && !text.is_empty()
+}
+
+fn within(number: u64, least: u64, most: u64) -> Option<u64>
+    ensures { result ≡ (if nat_le least number && nat_le number most then Some number else None) }
+{
+    if least <= number && number <= most {
+        Some(number)
+    } else {
+        None
+    }
+}
+
+/// The number that digits spell, where it is in the range.
+fn number(text: &str, least: u64, most: u64) -> Option<u64>
+    ensures { result ≡ number_in least most text.now }
+{
+    if !is_digits(text) {
+        return None;
+    }
+    match text.parse::<u64>() {
+        Ok(number) => within(number, least, most),
+        Err(_) => None,
+    }
+}
+
+/// The number of conflicts, from 1 to 10^18.
+pub(crate) fn conflicts(text: Option<&str>) -> Option<u64>
+    ensures { result ≡ conflicts_of (option_map (λ s. s.now) text.entry) }
+{
+    match text {
+        None => Some(DEFAULT_CONFLICTS),
+        Some(text) => number(text, 1, MOST_CONFLICTS),
+    }
+}
+
+/// The size of an instance, from 4 to 2000.
+pub(crate) fn size(text: Option<&str>) -> Option<u32>
+    ensures { result ≡ size_of (option_map (λ s. s.now) text.entry) }
+{
+    match text {
+        None => None,
+        Some(text) => narrowed(number(text, 4, 2000)),
+    }
+}
+
+fn narrowed(number: Option<u64>) -> Option<u32>
+    requires { IfSome number (λ n. n ≤ 2000) }
+    ensures { result ≡ number }
+{
+    match number {
+        None => None,
+        Some(number) => Some(number as u32),
+    }
+}
+
+/// A seed, which may be any `u64`.
+pub(crate) fn seed(text: Option<&str>) -> Option<u64>
+    ensures { result ≡ seed_of (option_map (λ s. s.now) text.entry) }
+{
+    match text {
+        None => None,
+        Some(text) => number(text, 0, u64::MAX),
+    }
+}
+
+fn named(text: &str) -> Option<Kind>
+    ensures { result ≡ kind_named text.now }
+{
+    if text == "even" {
+        return Some(Kind::Even);
+    }
+    if text == "odd" {
+        return Some(Kind::Odd);
+    }
+    None
+}
+
+/// The kind of an instance: `even` or `odd`.
+pub(crate) fn kind(text: Option<&str>) -> Option<Kind>
+    ensures { result ≡ kind_of (option_map (λ s. s.now) text.entry) }
+{
+    match text {
+        None => None,
+        Some(text) => named(text),
+    }
+}

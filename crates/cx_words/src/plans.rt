@@ -1,0 +1,57 @@
+//! What a command is to do.
+use crate::Name;
+
+/// Whether the instance of `demo` has an assignment that meets it.
+#[derive(Clone, Copy, Debug, PartialEq, Eq)]
+pub enum Kind {
+    /// The planted values meet it.
+    Even,
+    /// No values meet it.
+    Odd,
+}
+
+/// What a command is to do, with its names and numbers.
+#[derive(Drop)]
+pub enum Plan {
+    /// Search for values that meet a formula.
+    Solve {
+        /// The formula's file, or `-` for the standard input.
+        formula: Name,
+        /// The file that the log is written to.
+        log: Option<Name>,
+        /// The number of conflicts at which the search stops: 1 to 10^18.
+        conflicts: u64,
+    },
+    /// Judge a proof of a formula.
+    Check {
+        /// The formula's file, or `-` for the standard input.
+        formula: Name,
+        /// The proof's file.
+        proof: Name,
+    },
+    /// Make a proof of a log.
+    Elab {
+        /// The formula's file, or `-` for the standard input.
+        formula: Name,
+        /// The log's file.
+        log: Name,
+        /// The file that the proof is written to.
+        proof: Name,
+    },
+    /// Judge printed values.
+    Model {
+        /// The formula's file, or `-` for the standard input.
+        formula: Name,
+        /// The file of the printed values.
+        answer: Name,
+    },
+    /// Make an instance, solve it, and check the log.
+    Demo {
+        /// Which instance.
+        kind: Kind,
+        /// The number of its planted variables: 4 to 2000.
+        size: u32,
+        /// The seed of its random words.
+        seed: u64,
+    },
+}

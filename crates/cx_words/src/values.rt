@@ -1,0 +1,173 @@
+//! The plan of a command, from the values of its arguments.
+ghost use Rattle.std.specs.Prelude.{◌≡◌, List, ℕ, Option, Some, None, codes, option_map, IfOk, IsErrOf};
+ghost use Rattle.clap.specs.Words.{first_of, rows_of, found_of};
+ghost use Rattle.cx_words.specs.Given.{two_names, three_names, logged, solve_of, check_of, elab_of, model_of, demo_of, planned};
+
+use crate::numbers::{conflicts, kind, seed, size};
+use crate::{Name, Plan, PlanRefusal};
+use clap::ArgMatches;
+use std::alloc::{AllocError, Global};
+
+fn name_of(alloc: Global, text: &str) -> Result<Name, AllocError>
+    ensures { IfOk result (λ n. n ≡ text.now) }
+{
+    Ok(Name::from_string(String::from_str(alloc, text)?))
+}
+
+/// Two names, which differ.
+fn pair(alloc: Global, first: &str, second: &str) -> Result<(Name, Name), PlanRefusal>
+    ensures ok { IfOk result (λ n. two_names (Some first.now) (Some second.now) ≡ Some (n.0, n.1)) }
+    ensures usage { IsErrOf result PlanRefusal.Usage → two_names (Some first.now) (Some second.now) ≡ None }
+{
+    if first == second {
+        return Err(PlanRefusal::Usage);
+    }
+    Ok((name_of(alloc, first)?, name_of(alloc, second)?))
+}
+
+/// Three names, no two of them equal.
+fn triple(
+    alloc: Global,
+    first: &str,
+    second: &str,
+    third: &str,
+) -> Result<(Name, Name, Name), PlanRefusal>
+    ensures ok { IfOk result (λ n. three_names (Some first.now) (Some second.now) (Some third.now) ≡ Some (n.0, n.1, n.2)) }
+    ensures usage { IsErrOf result PlanRefusal.Usage → three_names (Some first.now) (Some second.now) (Some third.now) ≡ None }
+{
+    if first == second || first == third || second == third {
+        return Err(PlanRefusal::Usage);
+    }
+    Ok((
+        name_of(alloc, first)?,
+        name_of(alloc, second)?,
+        name_of(alloc, third)?,
+    ))
+}
+
+/// The formula, and the log where one is given, which differs from it.
+fn logged(
+    alloc: Global,
+    formula: &str,
+    log: Option<&str>,
+) -> Result<(Name, Option<Name>), PlanRefusal>
+    ensures ok { IfOk result (λ n. logged (Some formula.now) (option_map (λ s. s.now) log.entry) ≡ Some (n.0, n.1)) }
+    ensures usage { IsErrOf result PlanRefusal.Usage → logged (Some formula.now) (option_map (λ s. s.now) log.entry) ≡ None }
+{
+    match log {
+        None => Ok((name_of(alloc, formula)?, None)),
+        Some(log) => {
+            let (formula, log) = pair(alloc, formula, log)?;
+            Ok((formula, Some(log)))
+        }
+    }
+}
+
+fn solve(
+    alloc: Global,
+    formula: Option<&str>,
+    log: Option<&str>,
+    budget: Option<&str>,
+) -> Result<Plan, PlanRefusal>
+    ensures ok { IfOk result (λ p. solve_of (option_map (λ s. s.now) formula.entry) (option_map (λ s. s.now) log.entry) (option_map (λ s. s.now) budget.entry) ≡ Some p) }
+    ensures usage { IsErrOf result PlanRefusal.Usage → solve_of (option_map (λ s. s.now) formula.entry) (option_map (λ s. s.now) log.entry) (option_map (λ s. s.now) budget.entry) ≡ None }
+{
+    let Some(formula) = formula else {
+        return Err(PlanRefusal::Usage);
+    };
+    let (formula, log) = logged(alloc, formula, log)?;
+    let Some(conflicts) = conflicts(budget) else {
+        return Err(PlanRefusal::Usage);
+    };
+    Ok(Plan::Solve {
+        formula,
+        log,
+        conflicts,
+    })
+}
+
+fn check(alloc: Global, formula: Option<&str>, proof: Option<&str>) -> Result<Plan, PlanRefusal>
+    ensures ok { IfOk result (λ p. check_of (option_map (λ s. s.now) formula.entry) (option_map (λ s. s.now) proof.entry) ≡ Some p) }
+    ensures usage { IsErrOf result PlanRefusal.Usage → check_of (option_map (λ s. s.now) formula.entry) (option_map (λ s. s.now) proof.entry) ≡ None }
+{
+    let (Some(formula), Some(proof)) = (formula, proof) else {
+        return Err(PlanRefusal::Usage);
+    };
+    let (formula, proof) = pair(alloc, formula, proof)?;
+    Ok(Plan::Check { formula, proof })
+}
+
+fn elab(
+    alloc: Global,
+    formula: Option<&str>,
+    log: Option<&str>,
+    proof: Option<&str>,
+) -> Result<Plan, PlanRefusal>
+    ensures ok { IfOk result (λ p. elab_of (option_map (λ s. s.now) formula.entry) (option_map (λ s. s.now) log.entry) (option_map (λ s. s.now) proof.entry) ≡ Some p) }
+    ensures usage { IsErrOf result PlanRefusal.Usage → elab_of (option_map (λ s. s.now) formula.entry) (option_map (λ s. s.now) log.entry) (option_map (λ s. s.now) proof.entry) ≡ None }
+{
+    let (Some(formula), Some(log), Some(proof)) = (formula, log, proof) else {
+        return Err(PlanRefusal::Usage);
+    };
+    let (formula, log, proof) = triple(alloc, formula, log, proof)?;
+    Ok(Plan::Elab {
+        formula,
+        log,
+        proof,
+    })
+}
+
+fn model(alloc: Global, formula: Option<&str>, answer: Option<&str>) -> Result<Plan, PlanRefusal>
+    ensures ok { IfOk result (λ p. model_of (option_map (λ s. s.now) formula.entry) (option_map (λ s. s.now) answer.entry) ≡ Some p) }
+    ensures usage { IsErrOf result PlanRefusal.Usage → model_of (option_map (λ s. s.now) formula.entry) (option_map (λ s. s.now) answer.entry) ≡ None }
+{
+    let (Some(formula), Some(answer)) = (formula, answer) else {
+        return Err(PlanRefusal::Usage);
+    };
+    let (formula, answer) = pair(alloc, formula, answer)?;
+    Ok(Plan::Model { formula, answer })
+}
+
+fn demo(kind_word: Option<&str>, size_word: Option<&str>, seed_word: Option<&str>) -> Option<Plan>
+    ensures { result ≡ demo_of (option_map (λ s. s.now) kind_word.entry) (option_map (λ s. s.now) size_word.entry) (option_map (λ s. s.now) seed_word.entry) }
+{
+    Some(Plan::Demo {
+        kind: kind(kind_word)?,
+        size: size(size_word)?,
+        seed: seed(seed_word)?,
+    })
+}
+
+/// The value of an argument.
+fn value<'a>(found: &ArgMatches<'a>, id: &str) -> Option<&'a str>
+    ensures { option_map (λ s. s.now) result ≡ first_of id.now (rows_of (found_of found.now)) }
+{
+    found.get_str(id)
+}
+
+/// The plan of the command of this name, where it has the name of one.
+pub(crate) fn planned(
+    alloc: Global,
+    command: &str,
+    found: &ArgMatches<'_>,
+) -> Result<Plan, PlanRefusal>
+    ensures ok { IfOk result (λ p. planned command.now (rows_of (found_of found.now)) ≡ Some p) }
+    ensures usage { IsErrOf result PlanRefusal.Usage → planned command.now (rows_of (found_of found.now)) ≡ None }
+{
+    let formula = value(found, "formula");
+    let log = value(found, "log");
+    let proof = value(found, "proof");
+    match command {
+        "solve" => solve(alloc, formula, proof, value(found, "conflicts")),
+        "check" => check(alloc, formula, proof),
+        "elab" => elab(alloc, formula, log, proof),
+        "model" => model(alloc, formula, value(found, "answer")),
+        "demo" => demo(
+            value(found, "kind"),
+            value(found, "size"),
+            value(found, "seed"),
+        )
+        .ok_or(PlanRefusal::Usage),
+        _ => Err(PlanRefusal::Usage),
+    }
+}
