@@ -56,6 +56,8 @@ abbrev is_ending : Status → Bool
 is_ending status.Done = true
 is_ending status.FormulaRefused = true
 is_ending status.ProofRefused = true
+is_ending status.LogRefused = true
+is_ending status.AnswerRefused = true
 is_ending status.Limit = true
 is_ending status.Usage = false
 is_ending status.ReadFault = false
@@ -71,6 +73,10 @@ ending_status (ending.FormulaRefused (offence.VarLimit b)) = refl
 ending_status (ending.TooLong s) = refl
 ending_status (ending.Verified k) = refl
 ending_status (ending.NotVerified k c) = refl
+ending_status ending.ModelRight = refl
+ending_status (ending.ModelWrong w) = refl
+ending_status (ending.Elaborated k) = refl
+ending_status (ending.NotElaborated k c) = refl
 
 -- a status of no ending
 no_ending : (s : Status) (e : Ending) → is_ending s ≡ false → s ≡ status_of_ending e → ⊥
@@ -100,9 +106,15 @@ is_usage (outcome.Ended d) e = absurd (no_ending status.Usage d refl e)
 -- the outcomes of status 0
 data Done : Outcome → Type 0 where
   verified : (k : ℕ) → Done (outcome.Ended (ending.Verified k))
+  right : Done (outcome.Ended ending.ModelRight)
+  elaborated : (k : ℕ) → Done (outcome.Ended (ending.Elaborated k))
 
 done_ending : (e : Ending) → status.Done ≡ status_of_ending e → Done (outcome.Ended e)
 done_ending (ending.Verified k) e = verified k
+done_ending ending.ModelRight e = right
+done_ending (ending.Elaborated k) e = elaborated k
+done_ending (ending.ModelWrong w) e = cc
+done_ending (ending.NotElaborated k c) e = cc
 done_ending (ending.FormulaRefused (offence.NoHeader b)) e = cc
 done_ending (ending.FormulaRefused (offence.BadHeader b)) e = cc
 done_ending (ending.FormulaRefused (offence.BadToken b)) e = cc
@@ -121,6 +133,18 @@ is_done outcome.Memory e = cc
 -- the ending of a verified proof is due only for the formula of the file
 due_is_unmet : (f q : Bytes) (limit : ℕ) (files : Files) (formula : Problem) (e : Ending) → Done (outcome.Ended e) → Due (plan.Check f q) limit files e
     → Reads (text_named f files) formula → Unmet formula
+due_is_unmet f q limit files formula _ right (inl early) reads = absurd early
+due_is_unmet f q limit files formula _ right (inr late) reads = absurd (none late.due)
+  where
+    none : LateDue (plan.Check f q) limit late.formula (text_named q files) ending.ModelRight → ⊥
+    none (inl h) = let e = h.1 in cc
+    none (inr h) = h.1
+due_is_unmet f q limit files formula _ (elaborated k) (inl early) reads = absurd early
+due_is_unmet f q limit files formula _ (elaborated k) (inr late) reads = absurd (none late.due)
+  where
+    none : LateDue (plan.Check f q) limit late.formula (text_named q files) (ending.Elaborated k) → ⊥
+    none (inl h) = let e = h.1 in cc
+    none (inr h) = h.1
 due_is_unmet f q limit files formula _ (verified k) (inl early) reads = absurd early
 due_is_unmet f q limit files formula _ (verified k) (inr late) reads =
     let same = one_formula one_formula_reading (text_named f files) late.formula formula late.is_formula.reads reads in
@@ -184,6 +208,8 @@ module _ (words : List Bytes) (limit : ℕ) (old : Seen) (s : Status) (new : See
   -- a status of 0 comes from an ending of the command
   from_done : (p : Plan) (o : Outcome) → Asks words p → Done o → WorksFor words limit old o h.done → (e : Ending) × Done (outcome.Ended e) × Works p limit old (outcome.Ended e) h.done
   from_done p _ asks (verified k) w = (ending.Verified k, verified k, subst (λ (x : Plan). Works x limit old (outcome.Ended (ending.Verified k)) h.done) (one_plan words w.0 p w.1 asks) w.2)
+  from_done p _ asks right w = (ending.ModelRight, right, subst (λ (x : Plan). Works x limit old (outcome.Ended ending.ModelRight) h.done) (one_plan words w.0 p w.1 asks) w.2)
+  from_done p _ asks (elaborated k) w = (ending.Elaborated k, elaborated k, subst (λ (x : Plan). Works x limit old (outcome.Ended (ending.Elaborated k)) h.done) (one_plan words w.0 p w.1 asks) w.2)
 
   -- a proof is verified only where no values meet the formula
   pub sound : IsSound words old s

@@ -1,5 +1,5 @@
 -- At most one ending is due for a command and its files.
-use Rattle.std.proofs.Common.{◌≡◌, ◌<◌, ◌≤◌, ℕ, length, Option, Some, None, Result, Ok, Err, inl, inr, refl, ap, sym, subst, ◌∙◌, arith}
+use Rattle.std.proofs.Common.{◌≡◌, ◌<◌, ◌≤◌, ℕ, Bool, List, length, Option, Some, None, Result, Ok, Err, inl, inr, refl, ap, sym, subst, ◌∙◌, arith}
 use Rattle.cx_base.specs.Problem.{Problem}
 use Rattle.cx_semantics.specs.declared.offence.Offence.{Offence}
 use Rattle.cx_semantics.specs.declared.steps.Cause.{Cause}
@@ -7,8 +7,15 @@ use Rattle.cx_semantics.specs.ExactlyOne.{ExactlyOne}
 use Rattle.cx_semantics.specs.FormulaText.{Reads, FirstOffence, ReadsAs}
 use Rattle.cx_semantics.specs.Judging.{Judgement, accepted, refused}
 use Rattle.cx_semantics.specs.ProofRules.{Accepted, RefusedAt, ProofJudgedAs}
-use Rattle.cx_semantics.specs.Laws.{FormulasReadInOneWay, ProofsAreJudgedInOneWay}
+use Rattle.cx_semantics.specs.LogRules.{LogRight, LogRefusedAt, LogJudgedAs}
+use Rattle.cx_semantics.specs.Laws.{FormulasReadInOneWay, ProofsAreJudgedInOneWay, LogsAreJudgedInOneWay}
+use Rattle.model_out.proofs.JudgingLaws.{judged_in_one_way}
+use Rattle.model_out.specs.Answers.{AnswerReads, AnswerRefusedFor}
+use Rattle.model_out.specs.Laws.{AnswersAreJudgedInOneWay}
+use Rattle.model_out.specs.declared.refusal.AnswerRefusal.{AnswerRefusal}
+use Rattle.model_out.specs.declared.refusal.AnswerRefusal.TheVariants as refusal
 use Rattle.cx_semantics.proofs.Deciding.{one_proof_judgement}
+use Rattle.cx_semantics.proofs.DecidingLogs.{one_log_judgement}
 use Rattle.cx_semantics.proofs.TextLaws.{one_formula_reading}
 use Rattle.cx_desk.specs.declared.desk.Slot.TheVariants as slot
 use Rattle.cx_desk.specs.Outside.{Bytes, Files}
@@ -16,9 +23,11 @@ use Rattle.cx_words.specs.declared.plans.Plan.{Plan}
 use Rattle.cx_words.specs.declared.plans.Plan.TheVariants as plan
 use Rattle.solve_cli.specs.declared.ending.Ending.{Ending}
 use Rattle.solve_cli.specs.declared.ending.Ending.TheVariants as ending
+use Rattle.solve_cli.specs.declared.ending.WrongAnswer.{WrongAnswer}
+use Rattle.solve_cli.specs.declared.ending.WrongAnswer.TheVariants as wrong
 use Rattle.solve_cli.specs.Seen.{text_named}
 use Rattle.solve_cli.specs.Commands.{formula_of, second_of, second_text}
-use Rattle.solve_cli.specs.Happens.{Named, FormulaRead, EarlyDue, Judged, LateDue, Due}
+use Rattle.solve_cli.specs.Happens.{Named, FormulaRead, EarlyDue, refusal_of, Judged, LateDue, Due}
 
 -- two of which there is exactly one
 same_of_one : {A : Type 0} {P : A → Type 0} → ExactlyOne P → (a b : A) → P a → P b → a ≡ b
@@ -48,6 +57,10 @@ module _ (readings : FormulasReadInOneWay) where
   early limit text (ending.TooLong slot.Second) h = absurd h
   early limit text (ending.Verified k) h = absurd h
   early limit text (ending.NotVerified k c) h = absurd h
+  early limit text ending.ModelRight h = absurd h
+  early limit text (ending.ModelWrong w) h = absurd h
+  early limit text (ending.Elaborated k) h = absurd h
+  early limit text (ending.NotElaborated k c) h = absurd h
 
   two_early : (limit : ℕ) (text : Bytes) (d e : Ending) → Early limit text d → Early limit text e → d ≡ e
   two_early limit text _ _ (bad a _ p) (bad b _ q) = ap ending.FormulaRefused (one_offence text a b p q)
@@ -82,44 +95,128 @@ module _ (judgements : ProofsAreJudgedInOneWay) where
   judging f text a b p q = same_of_one {P = ProofJudgedAs f text} (judgements f text) a b p q
 
   data OfProof (f : Problem) (text : Bytes) : Ending → Type 0 where
-    right : (k : ℕ) → Accepted f text k → OfProof f text (ending.Verified k)
-    wrong : (k : ℕ) (c : Cause) → RefusedAt f text k c → OfProof f text (ending.NotVerified k c)
+    proof_right : (k : ℕ) → Accepted f text k → OfProof f text (ending.Verified k)
+    proof_wrong : (k : ℕ) (c : Cause) → RefusedAt f text k c → OfProof f text (ending.NotVerified k c)
 
   of_proof : (n q : Bytes) (f : Problem) (text : Bytes) (e : Ending) → Judged e (plan.Check n q) f text → OfProof f text e
-  of_proof n q f text (ending.Verified k) h = right k h
-  of_proof n q f text (ending.NotVerified k c) h = wrong k c h
+  of_proof n q f text (ending.Verified k) h = proof_right k h
+  of_proof n q f text (ending.NotVerified k c) h = proof_wrong k c h
   of_proof n q f text (ending.TooLong s) h = absurd h
   of_proof n q f text (ending.FormulaRefused o) h = absurd h
+  of_proof n q f text ending.ModelRight h = absurd h
+  of_proof n q f text (ending.ModelWrong w) h = absurd h
+  of_proof n q f text (ending.Elaborated k) h = absurd h
+  of_proof n q f text (ending.NotElaborated k c) h = absurd h
 
   two_of_proof : (f : Problem) (text : Bytes) (d e : Ending) → OfProof f text d → OfProof f text e → d ≡ e
-  two_of_proof f text _ _ (right k p) (right j q) = let e : accepted k ≡ accepted j = judging f text (accepted k) (accepted j) p q in let s : k ≡ j = cc in ap ending.Verified s
-  two_of_proof f text _ _ (right k p) (wrong j c q) = let e : accepted k ≡ refused j c = judging f text (accepted k) (refused j c) p q in cc
-  two_of_proof f text _ _ (wrong k c p) (right j q) = let e : refused k c ≡ accepted j = judging f text (refused k c) (accepted j) p q in cc
-  two_of_proof f text _ _ (wrong k c p) (wrong j d q) =
+  two_of_proof f text _ _ (proof_right k p) (proof_right j q) = let e : accepted k ≡ accepted j = judging f text (accepted k) (accepted j) p q in let s : k ≡ j = cc in ap ending.Verified s
+  two_of_proof f text _ _ (proof_right k p) (proof_wrong j c q) = let e : accepted k ≡ refused j c = judging f text (accepted k) (refused j c) p q in cc
+  two_of_proof f text _ _ (proof_wrong k c p) (proof_right j q) = let e : refused k c ≡ accepted j = judging f text (refused k c) (accepted j) p q in cc
+  two_of_proof f text _ _ (proof_wrong k c p) (proof_wrong j d q) =
       let e : refused k c ≡ refused j d = judging f text (refused k c) (refused j d) p q in
       let s : k ≡ j = cc in let t : c ≡ d = cc in λ i. ending.NotVerified (s i) (t i)
 
   pub one_proof_ending : (n q : Bytes) (f : Problem) (text : Bytes) (d e : Ending) → Judged d (plan.Check n q) f text → Judged e (plan.Check n q) f text → d ≡ e
   one_proof_ending n q f text d e h k = two_of_proof f text d e (of_proof n q f text d h) (of_proof n q f text e k)
 
+module _ (judgements : LogsAreJudgedInOneWay) where
+  judging_logs : (f : Problem) (text : Bytes) (a b : Judgement) → LogJudgedAs f text a → LogJudgedAs f text b → a ≡ b
+  judging_logs f text a b p q = same_of_one {P = LogJudgedAs f text} (judgements f text) a b p q
+
+  data OfLog (f : Problem) (text : Bytes) : Ending → Type 0 where
+    log_right : (k : ℕ) → LogRight f text k → OfLog f text (ending.Elaborated k)
+    log_wrong : (k : ℕ) (c : Cause) → LogRefusedAt f text k c → OfLog f text (ending.NotElaborated k c)
+
+  of_log : (n l q : Bytes) (f : Problem) (text : Bytes) (e : Ending) → Judged e (plan.Elab n l q) f text → OfLog f text e
+  of_log n l q f text (ending.Elaborated k) h = log_right k h
+  of_log n l q f text (ending.NotElaborated k c) h = log_wrong k c h
+  of_log n l q f text (ending.TooLong s) h = absurd h
+  of_log n l q f text (ending.FormulaRefused o) h = absurd h
+  of_log n l q f text ending.ModelRight h = absurd h
+  of_log n l q f text (ending.ModelWrong w) h = absurd h
+  of_log n l q f text (ending.Verified k) h = absurd h
+  of_log n l q f text (ending.NotVerified k c) h = absurd h
+
+  two_of_log : (f : Problem) (text : Bytes) (d e : Ending) → OfLog f text d → OfLog f text e → d ≡ e
+  two_of_log f text _ _ (log_right k p) (log_right j q) = let e : accepted k ≡ accepted j = judging_logs f text (accepted k) (accepted j) p q in let s : k ≡ j = cc in ap ending.Elaborated s
+  two_of_log f text _ _ (log_right k p) (log_wrong j c q) = let e : accepted k ≡ refused j c = judging_logs f text (accepted k) (refused j c) p q in cc
+  two_of_log f text _ _ (log_wrong k c p) (log_right j q) = let e : refused k c ≡ accepted j = judging_logs f text (refused k c) (accepted j) p q in cc
+  two_of_log f text _ _ (log_wrong k c p) (log_wrong j d q) =
+      let e : refused k c ≡ refused j d = judging_logs f text (refused k c) (refused j d) p q in
+      let s : k ≡ j = cc in let t : c ≡ d = cc in λ i. ending.NotElaborated (s i) (t i)
+
+  pub one_log_ending : (n l q : Bytes) (f : Problem) (text : Bytes) (d e : Ending) → Judged d (plan.Elab n l q) f text → Judged e (plan.Elab n l q) f text → d ≡ e
+  one_log_ending n l q f text d e h k = two_of_log f text d e (of_log n l q f text d h) (of_log n l q f text e k)
+
+-- ---- the answers
+
+-- the ending of an answer that is read or refused
+abbrev Answered : Type 0
+Answered = Result (List Bool) AnswerRefusal
+
+not_memory : (w : WrongAnswer) → ◌≡◌ {A = Answered} (Err (refusal_of w)) (Err refusal.Memory) → ⊥
+not_memory wrong.NoStatusLine e = cc
+not_memory (wrong.BadToken b) e = cc
+not_memory (wrong.Missing v) e = cc
+not_memory (wrong.Twice v) e = cc
+not_memory (wrong.Unmet n) e = cc
+
+-- back from the reader's name of a cause
+back : AnswerRefusal → WrongAnswer
+back refusal.NoStatusLine = wrong.NoStatusLine
+back (refusal.BadToken place) = wrong.BadToken place
+back (refusal.Missing v) = wrong.Missing v
+back (refusal.Twice v) = wrong.Twice v
+back (refusal.Unmet n) = wrong.Unmet n
+back refusal.Memory = wrong.NoStatusLine
+
+back-refusal_of : (w : WrongAnswer) → back (refusal_of w) ≡ w
+unfolding back
+back-refusal_of wrong.NoStatusLine = refl
+back-refusal_of (wrong.BadToken b) = refl
+back-refusal_of (wrong.Missing v) = refl
+back-refusal_of (wrong.Twice v) = refl
+back-refusal_of (wrong.Unmet n) = refl
+
+same_wrong : (v w : WrongAnswer) → refusal_of v ≡ refusal_of w → v ≡ w
+same_wrong v w e = sym (back-refusal_of v) ∙ (ap back e ∙ back-refusal_of w)
+
+module _ (judgements : AnswersAreJudgedInOneWay) where
+  data OfAnswer (f : Problem) (text : Bytes) : Ending → Type 0 where
+    values_right : (values : List Bool) → AnswerReads text f values → OfAnswer f text ending.ModelRight
+    values_wrong : (w : WrongAnswer) → AnswerRefusedFor text f (refusal_of w) → OfAnswer f text (ending.ModelWrong w)
+
+  of_answer : (n a : Bytes) (f : Problem) (text : Bytes) (e : Ending) → Judged e (plan.Model n a) f text → OfAnswer f text e
+  of_answer n a f text ending.ModelRight h = values_right h.0 h.1
+  of_answer n a f text (ending.ModelWrong w) h = values_wrong w h
+  of_answer n a f text (ending.TooLong s) h = absurd h
+  of_answer n a f text (ending.FormulaRefused o) h = absurd h
+  of_answer n a f text (ending.Verified k) h = absurd h
+  of_answer n a f text (ending.NotVerified k c) h = absurd h
+  of_answer n a f text (ending.Elaborated k) h = absurd h
+  of_answer n a f text (ending.NotElaborated k c) h = absurd h
+
+  right_and_wrong : (f : Problem) (text : Bytes) (values : List Bool) (w : WrongAnswer) → AnswerReads text f values → AnswerRefusedFor text f (refusal_of w) → ⊥
+  right_and_wrong f text values w h k =
+      let e : ◌≡◌ {A = Answered} (Ok values) (Err (refusal_of w)) = judgements text f (Ok values) (Err (refusal_of w)) (λ m. cc) (not_memory w) h k in cc
+
+  two_of_answer : (f : Problem) (text : Bytes) (d e : Ending) → OfAnswer f text d → OfAnswer f text e → d ≡ e
+  two_of_answer f text _ _ (values_right v p) (values_right w q) = refl
+  two_of_answer f text _ _ (values_right v p) (values_wrong w q) = absurd (right_and_wrong f text v w p q)
+  two_of_answer f text _ _ (values_wrong v p) (values_right w q) = absurd (right_and_wrong f text w v q p)
+  two_of_answer f text _ _ (values_wrong v p) (values_wrong w q) =
+      let e : ◌≡◌ {A = Answered} (Err (refusal_of v)) (Err (refusal_of w)) = judgements text f (Err (refusal_of v)) (Err (refusal_of w)) (not_memory v) (not_memory w) p q in
+      let s : refusal_of v ≡ refusal_of w = cc in ap ending.ModelWrong (same_wrong v w s)
+
+  pub one_answer_ending : (n a : Bytes) (f : Problem) (text : Bytes) (d e : Ending) → Judged d (plan.Model n a) f text → Judged e (plan.Model n a) f text → d ≡ e
+  one_answer_ending n a f text d e h k = two_of_answer f text d e (of_answer n a f text d h) (of_answer n a f text e k)
+
 one_judged : (p : Plan) (second : Bytes) (f : Problem) (text : Bytes) (d e : Ending) → second_of p ≡ Some second → Judged d p f text → Judged e p f text → d ≡ e
 one_judged (plan.Check n q) second f text d e named h k = one_proof_ending one_proof_judgement n q f text d e h k
+one_judged (plan.Model n a) second f text d e named h k = one_answer_ending judged_in_one_way n a f text d e h k
+one_judged (plan.Elab n l q) second f text d e named h k = one_log_ending one_log_judgement n l q f text d e h k
 one_judged (plan.Solve n l c) second f text d e named h k = cc
 one_judged (plan.Demo a b c) second f text d e named h k = cc
-one_judged (plan.Model n a) second f text d e named h k = none d h
-  where
-    none : (d : Ending) → Judged d (plan.Model n a) f text → d ≡ e
-    none (ending.Verified k) h = absurd h
-    none (ending.NotVerified k c) h = absurd h
-    none (ending.TooLong s) h = absurd h
-    none (ending.FormulaRefused o) h = absurd h
-one_judged (plan.Elab n l q) second f text d e named h k = none d h
-  where
-    none : (d : Ending) → Judged d (plan.Elab n l q) f text → d ≡ e
-    none (ending.Verified k) h = absurd h
-    none (ending.NotVerified k c) h = absurd h
-    none (ending.TooLong s) h = absurd h
-    none (ending.FormulaRefused o) h = absurd h
 
 two_late : (p : Plan) (second : Bytes) (limit : ℕ) (f : Problem) (text : Bytes) (d e : Ending) → second_of p ≡ Some second
     → LateDue p limit f text d → LateDue p limit f text e → d ≡ e

@@ -56,6 +56,10 @@ early_text (ending.FormulaRefused o) h = refl
 early_text (ending.TooLong s) h = refl
 early_text (ending.Verified k) h = cc
 early_text (ending.NotVerified k c) h = cc
+early_text ending.ModelRight h = cc
+early_text (ending.ModelWrong w) h = cc
+early_text (ending.Elaborated k) h = cc
+early_text (ending.NotElaborated k c) h = cc
 
 too_long_text : (s : Slot) → answer_text (ending.TooLong s) ≡ []
 unfolding answer_text
@@ -230,6 +234,10 @@ second_failed p name limit old f mid (outcome.Ended (ending.TooLong slot.Formula
 second_failed p name limit old f mid (outcome.Ended (ending.FormulaRefused b)) new named is read h = absurd h
 second_failed p name limit old f mid (outcome.Ended (ending.Verified k)) new named is read h = absurd h
 second_failed p name limit old f mid (outcome.Ended (ending.NotVerified k c)) new named is read h = absurd h
+second_failed p name limit old f mid (outcome.Ended ending.ModelRight) new named is read h = absurd h
+second_failed p name limit old f mid (outcome.Ended (ending.ModelWrong w)) new named is read h = absurd h
+second_failed p name limit old f mid (outcome.Ended (ending.Elaborated k)) new named is read h = absurd h
+second_failed p name limit old f mid (outcome.Ended (ending.NotElaborated k c)) new named is read h = absurd h
 second_failed p name limit old f mid outcome.WriteFault new named is read h = absurd h
 second_failed p name limit old f mid outcome.Usage new named is read h = absurd h
 
@@ -273,6 +281,10 @@ judged_late (ending.FormulaRefused o) p f text h = absurd h
 judged_late (ending.TooLong s) p f text h = absurd h
 judged_late (ending.Verified k) p f text h = refl
 judged_late (ending.NotVerified k c) p f text h = refl
+judged_late ending.ModelRight p f text h = refl
+judged_late (ending.ModelWrong w) p f text h = refl
+judged_late (ending.Elaborated k) p f text h = refl
+judged_late (ending.NotElaborated k c) p f text h = refl
 
 -- both texts were read, and what they come to
 pub ends : (p : Plan) (limit : ℕ) (old : Seen) (f : Problem) (text : Bytes) (e : Ending) (proof : Bytes) (mid : Seen)

@@ -12,7 +12,7 @@ abbrev pub is_built : Plan → Bool
 is_built (plan.Solve formula log conflicts) = false
 is_built (plan.Check formula proof) = true
 is_built (plan.Elab formula log proof) = false
-is_built (plan.Model formula answer) = false
+is_built (plan.Model formula answer) = true
 is_built (plan.Demo kind size seed) = false
 
 -- ---- the names

@@ -3,6 +3,10 @@ use Rattle.std.specs.Prelude.{◌≡◌, ◌<◌, ◌≤◌, ℕ, Bool, true, fa
 use Rattle.cx_base.specs.Problem.{Problem, Unmet}
 use Rattle.cx_semantics.specs.FormulaText.{Reads, FirstOffence}
 use Rattle.cx_semantics.specs.ProofRules.{Accepted, RefusedAt}
+use Rattle.cx_semantics.specs.LogRules.{LogRight, LogRefusedAt}
+use Rattle.model_out.specs.Answers.{AnswerReads, AnswerRefusedFor}
+use Rattle.model_out.specs.declared.refusal.AnswerRefusal.{AnswerRefusal}
+use Rattle.model_out.specs.declared.refusal.AnswerRefusal.TheVariants as refusal
 use Rattle.cx_desk.specs.declared.desk.Slot.TheVariants as slot
 use Rattle.cx_desk.specs.declared.desk.Port.TheVariants as port
 use Rattle.cx_desk.specs.Outside.{Bytes, Files}
@@ -11,6 +15,8 @@ use Rattle.cx_words.specs.declared.plans.Plan.{Plan}
 use Rattle.cx_words.specs.declared.plans.Plan.TheVariants as plan
 use Rattle.solve_cli.specs.declared.ending.Ending.{Ending}
 use Rattle.solve_cli.specs.declared.ending.Ending.TheVariants as ending
+use Rattle.solve_cli.specs.declared.ending.WrongAnswer.{WrongAnswer}
+use Rattle.solve_cli.specs.declared.ending.WrongAnswer.TheVariants as wrong
 use Rattle.solve_cli.specs.declared.ending.Outcome.{Outcome}
 use Rattle.solve_cli.specs.declared.ending.Outcome.TheVariants as outcome
 use Rattle.solve_cli.specs.declared.ending.Status.{Status}
@@ -41,10 +47,22 @@ EarlyDue limit text (ending.FormulaRefused o) = (length text ≤ limit) × First
 EarlyDue limit text (ending.TooLong slot.Formula) = limit < length text
 EarlyDue limit text e = ⊥
 
+-- the cause as the reader of answers names it
+abbrev pub refusal_of : WrongAnswer → AnswerRefusal
+refusal_of wrong.NoStatusLine = refusal.NoStatusLine
+refusal_of (wrong.BadToken place) = refusal.BadToken place
+refusal_of (wrong.Missing v) = refusal.Missing v
+refusal_of (wrong.Twice v) = refusal.Twice v
+refusal_of (wrong.Unmet n) = refusal.Unmet n
+
 -- what a command makes of a formula and its second text
 abbrev pub Judged : Ending → Plan → Problem → Bytes → Type 0
 Judged (ending.Verified k) (plan.Check n q) f text = Accepted f text k
 Judged (ending.NotVerified k c) (plan.Check n q) f text = RefusedAt f text k c
+Judged ending.ModelRight (plan.Model n a) f text = (values : List Bool) × AnswerReads text f values
+Judged (ending.ModelWrong w) (plan.Model n a) f text = AnswerRefusedFor text f (refusal_of w)
+Judged (ending.Elaborated k) (plan.Elab n l q) f text = LogRight f text k
+Judged (ending.NotElaborated k c) (plan.Elab n l q) f text = LogRefusedAt f text k c
 Judged e p f text = ⊥
 
 -- the endings where the formula is read: its second text's length is judged before what it says

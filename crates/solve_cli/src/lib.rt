@@ -9,6 +9,6 @@ mod print;
 mod program;
 
 pub use cx_words::{Kind, Name, Plan, PlanRefusal, plan};
-pub use ending::{Ending, Outcome, Status};
+pub use ending::{Ending, Outcome, Status, WrongAnswer};
 pub use laws::one_ending_is_due;
 pub use program::{run, run_within};

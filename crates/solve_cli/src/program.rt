@@ -9,7 +9,7 @@ ghost use Rattle.solve_cli.specs.Commands.{Unasked, is_built};
 ghost use Rattle.solve_cli.specs.Steps.{Answers};
 ghost use Rattle.solve_cli.specs.Happens.{Works, WorksFor, AsksForMore, Runs, Comes, IsSound};
 
-use crate::judge::judge_proof;
+use crate::judge::{judge_answer, judge_proof};
 use crate::load::load;
 use crate::print::{put_answer_text, put_message_text};
 use crate::{Ending, Outcome, Status};
@@ -43,6 +43,22 @@ fn check<D: Desk>(alloc: Global, desk: &mut D, formula: Name, proof: Name, limit
     }
 }
 
+/// `model`: judges printed values.
+fn model<D: Desk>(alloc: Global, desk: &mut D, formula: Name, values: Name, limit: u64) -> Outcome
+    requires fresh { Unasked (D.outside desk.old).asked }
+    requires limit { limit ≤ 4294967295 }
+    ensures { Works (plan.Model formula values) limit (seen (D.outside desk.old)) result (seen (D.outside desk.new)) }
+{
+    let texts = match load(alloc, desk, formula, values, None, limit) {
+        Ok(texts) => texts,
+        Err(outcome) => return outcome,
+    };
+    match judge_answer(alloc, &texts.formula, texts.second.as_slice()) {
+        Ok(ending) => answer(desk, ending),
+        Err(AllocError) => Outcome::Memory,
+    }
+}
+
 /// Reads the words, and carries out what they ask for.
 fn work<D: Desk>(alloc: Global, desk: &mut D, words: &[String], limit: u64) -> Outcome
     requires fresh { Unasked (D.outside desk.old).asked }
@@ -51,9 +67,9 @@ fn work<D: Desk>(alloc: Global, desk: &mut D, words: &[String], limit: u64) -> O
 {
     match plan(alloc, words) {
         Ok(Plan::Check { formula, proof }) => check(alloc, desk, formula, proof, limit),
+        Ok(Plan::Model { formula, answer }) => model(alloc, desk, formula, answer, limit),
         Ok(Plan::Solve { .. }) => Outcome::Usage,
         Ok(Plan::Elab { .. }) => Outcome::Usage,
-        Ok(Plan::Model { .. }) => Outcome::Usage,
         Ok(Plan::Demo { .. }) => Outcome::Usage,
         Err(PlanRefusal::Usage) => Outcome::Usage,
         Err(PlanRefusal::Memory) => Outcome::Memory,
