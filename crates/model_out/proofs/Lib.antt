@@ -1,0 +1,8 @@
+mod Digits
+pub mod MentionLaws
+pub mod ScanLaws
+pub mod TurnLaws
+pub mod Puts
+pub mod SettlingLaws
+pub mod JudgingLaws
+mod PrintedLaws
