@@ -1,13 +1,14 @@
 -- What a run says in single clauses: the causes of the faults and of a refusal of the words, soundness, completeness.
-use Rattle.std.proofs.Common.{◌≡◌, ◌⊎◌, ℕ, Bool, true, false, List, take, Option, Some, None, IfSome, IsTrue, inl, inr, refl, ap, sym, subst, ◌∙◌}
+use Rattle.std.proofs.Common.{◌≡◌, ◌⊎◌, ℕ, Bool, true, false, List, length, option_map, take, Option, Some, None, IfSome, IsTrue, inl, inr, refl, ap, sym, subst, ◌∙◌}
 use Rattle.cx_base.specs.Problem.{Problem, Unmet}
 use Rattle.cx_semantics.specs.FormulaText.{Reads}
+use Rattle.cx_semantics.specs.ProofRules.{Accepted}
 use Rattle.cx_semantics.specs.declared.offence.Offence.TheVariants as offence
 use Rattle.std.proofs.lemmas.Bool.{false≢true}
 use Rattle.cx_semantics.proofs.Soundness.{accepted_is_unmet}
 use Rattle.cx_semantics.proofs.TextLaws.{one_formula_reading}
 use Rattle.cx_desk.specs.declared.desk.Port.TheVariants as port
-use Rattle.cx_desk.specs.Outside.{Bytes, Files, Rose}
+use Rattle.cx_desk.specs.Outside.{Bytes, Files, Written, Rose}
 use Rattle.cx_words.specs.Words.{Asks, Refuses}
 use Rattle.cx_words.specs.declared.plans.Plan.{Plan}
 use Rattle.cx_words.specs.declared.plans.Plan.TheVariants as plan
@@ -17,21 +18,44 @@ use Rattle.solve_cli.specs.declared.ending.Outcome.{Outcome}
 use Rattle.solve_cli.specs.declared.ending.Outcome.TheVariants as outcome
 use Rattle.solve_cli.specs.declared.ending.Status.{Status}
 use Rattle.solve_cli.specs.declared.ending.Status.TheVariants as status
-use Rattle.solve_cli.specs.Endings.{status_of, status_of_ending, message_text}
-use Rattle.solve_cli.specs.Seen.{Seen, says, asks_proof, text_named}
-use Rattle.solve_cli.specs.Commands.{is_built, second_started, asked_to}
-use Rattle.solve_cli.specs.Happens.{end_stage, LateDue, Ends, Stops, CreateFails, ProofFails, Due, AsksForMore, Works, WorksFor, Tells, Runs, Comes, IsSound}
+use Rattle.solve_cli.specs.Endings.{status_of, status_of_ending, answer_text, message_text}
+use Rattle.solve_cli.specs.Seen.{Seen, says, asks_proof, creates, text_named}
+use Rattle.solve_cli.specs.Commands.{is_built, Stage, second_started, proof_created, asked_to}
+use Rattle.solve_cli.specs.Happens.{end_stage, LateDue, Gains, Ends, Stops, CreateFails, ProofFails, Due, AsksForMore, Works, WorksFor, Tells, Runs, Comes, IsSound, IsElaborated}
 use Rattle.solve_cli.proofs.OneEnding.{one_formula}
 use Rattle.solve_cli.proofs.Words.{one_plan, not_refused}
-use Rattle.solve_cli.proofs.Works.{if_some, faults_at}
+use Rattle.solve_cli.proofs.Works.{if_some, if_some_both, faults_at}
 
--- what a message leaves of the faults
+-- what stands on the Proof port
+abbrev proof_in : Seen → Option Bytes
+proof_in s = option_map (λ (w : Written). w.proof) s.written
+
+said_answer : (text : Bytes) (s : Seen) → proof_in (says port.Answer text s) ≡ proof_in s
+said_answer text s = elim s.written as (λ v. proof_in (says port.Answer text (record s { written = v })) ≡ proof_in (record s { written = v })) [ None ↦ refl | Some w ↦ refl ]
+
+said_message : (text : Bytes) (s : Seen) → proof_in (says port.Message text s) ≡ proof_in s
+said_message text s = elim s.written as (λ v. proof_in (says port.Message text (record s { written = v })) ≡ proof_in (record s { written = v })) [ None ↦ refl | Some w ↦ refl ]
+
+-- a created port has just what it gained
+gained_proof : (name text : Bytes) (s : Seen) → proof_in (says port.Proof text (creates name s)) ≡ option_map (λ (w : Written). text) s.written
+gained_proof name text s = elim s.written as (λ v. proof_in (says port.Proof text (creates name (record s { written = v }))) ≡ option_map (λ (w : Written). text) v) [ None ↦ refl | Some w ↦ refl ]
+
+if_proof : (P : Bytes → Type 0) (v : Option Written) → IfSome (option_map (λ (w : Written). w.proof) v) P → IfSome v (λ w. P w.proof)
+if_proof P None h = tt
+if_proof P (Some w) h = h
+
+if_written : (P : Bytes → Type 0) (v : Option Written) (text : Bytes) → P text → IfSome (option_map (λ (w : Written). text) v) P
+if_written P None text h = tt
+if_written P (Some w) text h = h
+
+-- what a message leaves of the faults and the proof
 record Kept (old new : Seen) : Type 0 where
   faults_reads : new.faults.reads ≡ old.faults.reads
   faults_writes : new.faults.writes ≡ old.faults.writes
+  proof : proof_in new ≡ proof_in old
 
 said : (text : Bytes) (s : Seen) → Kept s (says port.Message text s)
-said text s = record { faults_reads = refl; faults_writes = refl }
+said text s = record { faults_reads = refl; faults_writes = refl; proof = said_message text s }
 
 message_keeps : (text : Bytes) (old new : Seen) → Tells text old new → Kept old new
 message_keeps text old new (inl e) = subst (Kept old) (sym e) (said text old)
@@ -41,6 +65,7 @@ message_keeps text old new (inr h) =
     record {
       faults_reads = ap (λ (s : Seen). s.faults.reads) e ∙ k.faults_reads;
       faults_writes = ap (λ (s : Seen). s.faults.writes) e ∙ k.faults_writes;
+      proof = ap proof_in e ∙ k.proof;
     }
 
 stops_faults : (p : Plan) (limit : ℕ) (old at : Seen) → Stops p limit old at → at.faults ≡ old.faults
@@ -154,6 +179,31 @@ due_is_unmet f q limit files formula _ (verified k) (inr late) reads =
     accepted (inl h) = let e = h.1 in cc
     accepted (inr h) = accepted_is_unmet late.formula (text_named q files) k h.1
 
+-- what stands on the Proof port behind a right log is accepted
+left_is_accepted : (f l q : Bytes) (limit : ℕ) (files : Files) (formula : Problem) (e : Ending) (proof : Bytes) → Done (outcome.Ended e) → Due (plan.Elab f l q) limit files e
+    → Gains (plan.Elab f l q) limit files e proof → Reads (text_named f files) formula → (k : ℕ) × Accepted formula proof k
+left_is_accepted f l q limit files formula _ proof (elaborated k) due gains reads =
+    let same = one_formula one_formula_reading (text_named f files) gains.0 formula gains.1.reads reads in
+    (length gains.2.steps, subst (λ (g : Problem). Accepted g proof (length gains.2.steps)) same gains.2.accepted)
+left_is_accepted f l q limit files formula _ proof right (inl early) gains reads = absurd early
+left_is_accepted f l q limit files formula _ proof right (inr late) gains reads = absurd (none late.due)
+  where
+    none : LateDue (plan.Elab f l q) limit late.formula (text_named l files) ending.ModelRight → ⊥
+    none (inl h) = let e = h.1 in cc
+    none (inr h) = h.1
+left_is_accepted f l q limit files formula _ proof (verified k) (inl early) gains reads = absurd early
+left_is_accepted f l q limit files formula _ proof (verified k) (inr late) gains reads = absurd (none late.due)
+  where
+    none : LateDue (plan.Elab f l q) limit late.formula (text_named l files) (ending.Verified k) → ⊥
+    none (inl h) = let e = h.1 in cc
+    none (inr h) = h.1
+
+-- endings of status 0 come after all calls
+done_late : (e : Ending) → Done (outcome.Ended e) → end_stage e ≡ proof_created
+done_late _ (verified k) = refl
+done_late _ right = refl
+done_late _ (elaborated k) = refl
+
 module _ (words : List Bytes) (limit : ℕ) (old : Seen) (s : Status) (new : Seen) (h : Runs words limit old s new) where
   kept : Kept h.done new
   kept = message_keeps (message_text h.outcome) h.done new h.tells
@@ -216,3 +266,16 @@ module _ (words : List Bytes) (limit : ℕ) (old : Seen) (s : Status) (new : See
   sound f q formula asks e =
       let d = from_done (plan.Check f q) h.outcome asks (is_done h.outcome (sym e ∙ h.status_is)) h.works in
       if_some old.files d.2.1.due (λ files due. λ reads. due_is_unmet f q limit files formula d.0 d.1 due reads)
+
+  -- what stands on the Proof port behind the answer of an elaborated log
+  pub elaborated_is_accepted : IsElaborated words old s new
+  elaborated_is_accepted f l q formula asks e =
+      let d = from_done (plan.Elab f l q) h.outcome asks (is_done h.outcome (sym e ∙ h.status_is)) h.works in
+      let ends = d.2.1 in
+      let before : d.2.0 ≡ says port.Proof ends.proof (asked_to proof_created (plan.Elab f l q) old) =
+          subst (λ (t : Stage). d.2.0 ≡ says port.Proof ends.proof (asked_to t (plan.Elab f l q) old)) (done_late d.0 d.1) ends.before_is in
+      let is : proof_in new ≡ option_map (λ (w : Written). ends.proof) old.written =
+          kept.proof ∙ (ap proof_in d.2.2 ∙ (said_answer (answer_text d.0) d.2.0 ∙ (ap proof_in before ∙ gained_proof q ends.proof (asked_to second_started (plan.Elab f l q) old)))) in
+      if_some_both old.files ends.due ends.gains (λ files due gains. λ reads.
+          if_proof (λ b. (k : ℕ) × Accepted formula b k) new.written (subst (λ (v : Option Bytes). IfSome v (λ b. (k : ℕ) × Accepted formula b k)) (sym is)
+          (if_written (λ b. (k : ℕ) × Accepted formula b k) old.written ends.proof (left_is_accepted f l q limit files formula d.0 ends.proof d.1 due gains reads))))

@@ -2,6 +2,7 @@
 use Rattle.std.proofs.Common.{true, false, ◌≡◌, ◌<◌, ◌≤◌, ℕ, [], length, take, Option, Some, None, IfSome, Result, Ok, Err, inl, inr, refl, ap, sym, subst, ◌∙◌, append-nil}
 use Rattle.cx_base.specs.Problem.{Problem}
 use Rattle.cx_semantics.specs.FormulaText.{FirstOffence}
+use Rattle.cx_semantics.specs.Tables.{first_tables}
 use Rattle.cx_semantics.specs.declared.offence.Offence.{Offence}
 use Rattle.cx_semantics.specs.declared.offence.Offence.TheVariants as offence
 use Rattle.cnfx_reader.specs.ReadsTo.{IsRefusedAs}
@@ -14,6 +15,7 @@ use Rattle.cx_desk.specs.declared.desk.Port.TheVariants as port
 use Rattle.cx_desk.specs.Outside.{Bytes, Files, Written, Outside, Faults}
 use Rattle.cx_desk.specs.Calls.{gained, PutsAll, MessageFaulted}
 use Rattle.cx_words.specs.declared.plans.Plan.{Plan}
+use Rattle.cx_words.specs.declared.plans.Plan.TheVariants as plan
 use Rattle.solve_cli.specs.declared.ending.Ending.{Ending}
 use Rattle.solve_cli.specs.declared.ending.Ending.TheVariants as ending
 use Rattle.solve_cli.specs.declared.ending.Outcome.{Outcome}
@@ -22,13 +24,14 @@ use Rattle.solve_cli.specs.Endings.{answer_text}
 use Rattle.solve_cli.specs.Seen.{Seen, seen, asks, asks_proof, says, append_to, ReadFault, WriteFault, MessageFault, text_named}
 use Rattle.solve_cli.specs.Commands.{formula_of, second_of, proof_of, Stage, formula_started, second_started, proof_created, starts, gives_file, asked_to, text_of, second_text}
 use Rattle.solve_cli.specs.Happens.{is_early, end_stage, Named, FormulaRead, IsFormula, FormulaIn, Judged, LateDue, Gains, SoFar, Reaches, Ends, Stops, Works, Tells}
-use Rattle.solve_cli.specs.Steps.{FormulaFails, ReadFails, Answers, Loaded, refused_as}
+use Rattle.solve_cli.specs.Proofs.{IsRightSoFar}
+use Rattle.solve_cli.specs.Steps.{FormulaFails, ReadFails, Answers, Loaded, LeftBy, Elaborated, refused_as}
 
 pub if_some : {X : Type 0} {P Q : X → Type 0} (w : Option X) → IfSome w P → ((x : X) → P x → Q x) → IfSome w Q
 if_some None p f = tt
 if_some (Some x) p f = f x p
 
-if_some_both : {X : Type 0} {P Q R : X → Type 0} (w : Option X) → IfSome w P → IfSome w Q → ((x : X) → P x → Q x → R x) → IfSome w R
+pub if_some_both : {X : Type 0} {P Q R : X → Type 0} (w : Option X) → IfSome w P → IfSome w Q → ((x : X) → P x → Q x → R x) → IfSome w R
 if_some_both None p q f = tt
 if_some_both (Some x) p q f = f x p q
 
@@ -121,10 +124,46 @@ all_files None h = tt
 all_files (Some files) h = h files
 
 early_gains : (p : Plan) (limit : ℕ) (files : Files) (e : Ending) → is_early e ≡ true → Gains p limit files e []
-early_gains p limit files e h = refl
+early_gains (plan.Elab n l q) limit files (ending.Elaborated k) h = cc
+early_gains (plan.Elab n l q) limit files (ending.NotElaborated k c) h = cc
+early_gains (plan.Elab n l q) limit files (ending.FormulaRefused o) h = refl
+early_gains (plan.Elab n l q) limit files (ending.TooLong s) h = refl
+early_gains (plan.Elab n l q) limit files ending.ModelRight h = refl
+early_gains (plan.Elab n l q) limit files (ending.ModelWrong w) h = refl
+early_gains (plan.Elab n l q) limit files (ending.Verified k) h = refl
+early_gains (plan.Elab n l q) limit files (ending.NotVerified k c) h = refl
+early_gains (plan.Check n q) limit files e h = refl
+early_gains (plan.Model n a) limit files e h = refl
+early_gains (plan.Solve n l c) limit files e h = refl
+early_gains (plan.Demo a b c) limit files e h = refl
+
+too_long_gains : (p : Plan) (limit : ℕ) (files : Files) (s : Slot) → Gains p limit files (ending.TooLong s) []
+too_long_gains (plan.Elab n l q) limit files s = refl
+too_long_gains (plan.Check n q) limit files s = refl
+too_long_gains (plan.Model n a) limit files s = refl
+too_long_gains (plan.Solve n l c) limit files s = refl
+too_long_gains (plan.Demo a b c) limit files s = refl
+
+-- nothing is a front of a proof
+none_so_far : (f : Problem) → IsRightSoFar f []
+none_so_far f = record { steps = []; right = inl (first_tables f, refl); rest = []; front = refl }
 
 nothing_yet : (stage : Stage) (p : Plan) (limit : ℕ) (old : Seen) → Reaches stage p limit old → IfSome old.files (λ files. SoFar stage p limit files [])
-nothing_yet stage p limit old h = all_files old.files (λ files. refl)
+nothing_yet formula_started (plan.Elab n l q) limit old h = all_files old.files (λ files. refl)
+nothing_yet second_started (plan.Elab n l q) limit old h = all_files old.files (λ files. refl)
+nothing_yet proof_created (plan.Elab n l q) limit old h = if_some old.files h (λ files r. (r.0, r.1, none_so_far r.0))
+nothing_yet formula_started (plan.Check n q) limit old h = all_files old.files (λ files. refl)
+nothing_yet second_started (plan.Check n q) limit old h = all_files old.files (λ files. refl)
+nothing_yet proof_created (plan.Check n q) limit old h = all_files old.files (λ files. refl)
+nothing_yet formula_started (plan.Model n a) limit old h = all_files old.files (λ files. refl)
+nothing_yet second_started (plan.Model n a) limit old h = all_files old.files (λ files. refl)
+nothing_yet proof_created (plan.Model n a) limit old h = all_files old.files (λ files. refl)
+nothing_yet formula_started (plan.Solve n l c) limit old h = all_files old.files (λ files. refl)
+nothing_yet second_started (plan.Solve n l c) limit old h = all_files old.files (λ files. refl)
+nothing_yet proof_created (plan.Solve n l c) limit old h = all_files old.files (λ files. refl)
+nothing_yet formula_started (plan.Demo a b c) limit old h = all_files old.files (λ files. refl)
+nothing_yet second_started (plan.Demo a b c) limit old h = all_files old.files (λ files. refl)
+nothing_yet proof_created (plan.Demo a b c) limit old h = all_files old.files (λ files. refl)
 
 pub stopped : (stage : Stage) (p : Plan) (limit : ℕ) (old at : Seen) → Reaches stage p limit old → at ≡ asked_to stage p old → Stops p limit old at
 stopped stage p limit old at reaches is = record {
@@ -222,7 +261,7 @@ second_failed p name limit old f mid (outcome.Ended (ending.TooLong slot.Second)
     due = if_some_both old.files read (subst (λ (w : Option Files). IfSome w (λ files. limit < length (text_named name files))) (ap (λ (s : Seen). s.files) is ∙ files_at proof_created p old) h.2)
         (λ files r long. inr (record { formula = f; is_formula = r; due = inl (rw named long, refl) }));
     proof = [];
-    gains = all_files old.files (λ files. refl);
+    gains = all_files old.files (λ files. too_long_gains p limit files slot.Second);
     before_is = bare (asked_to proof_created p old);
   },
   h.1 ∙ (is ∙ sym (says-none port.Answer (answer_text (ending.TooLong slot.Second)) _ (too_long_text slot.Second))),
@@ -308,6 +347,61 @@ concluded p limit old f text e mid o new h judged gains answers =
 -- want of memory for the judgement
 pub wanted : (p : Plan) (limit : ℕ) (old : Seen) (f : Problem) (text : Bytes) (mid : Seen) → Loaded p limit old f text mid → Stops p limit old mid
 wanted p limit old f text mid h = stopped proof_created p limit old mid (formula_in p limit old f h.is_formula) h.asked
+
+-- ---- a log
+
+files_of_loaded : (p : Plan) (limit : ℕ) (old : Seen) (f : Problem) (text : Bytes) (mid : Seen) → Loaded p limit old f text mid → mid.files ≡ old.files
+files_of_loaded p limit old f text mid h = ap (λ (s : Seen). s.files) h.asked ∙ files_at proof_created p old
+
+-- what was left on the Proof port, of the files at the start
+left_gains : (n l q : Bytes) (limit : ℕ) (files : Files) (f : Problem) (e : Ending) (proof : Bytes)
+    → FormulaRead limit (text_named n files) f → LeftBy e f (text_named l files) proof → Gains (plan.Elab n l q) limit files e proof
+left_gains n l q limit files f (ending.Elaborated k) proof read left = (f, read, left)
+left_gains n l q limit files f (ending.NotElaborated k c) proof read left = (f, read, left)
+left_gains n l q limit files f (ending.FormulaRefused o) proof read left = absurd left
+left_gains n l q limit files f (ending.TooLong s) proof read left = absurd left
+left_gains n l q limit files f (ending.Verified k) proof read left = absurd left
+left_gains n l q limit files f (ending.NotVerified k c) proof read left = absurd left
+left_gains n l q limit files f ending.ModelRight proof read left = absurd left
+left_gains n l q limit files f (ending.ModelWrong w) proof read left = absurd left
+
+if_some_three : {X : Type 0} {P Q R S : X → Type 0} (w : Option X) → IfSome w P → IfSome w Q → IfSome w R → ((x : X) → P x → Q x → R x → S x) → IfSome w S
+if_some_three None p q r f = tt
+if_some_three (Some x) p q r f = f x p q r
+
+-- the log was judged, its proof written, and the answer
+pub elaborated : (n l q : Bytes) (limit : ℕ) (old : Seen) (f : Problem) (text : Bytes) (e : Ending) (mid at : Seen) (o : Outcome) (new : Seen)
+    → Loaded (plan.Elab n l q) limit old f text mid → Elaborated f text mid (Ok e) at → Answers e at o new → Works (plan.Elab n l q) limit old o new
+elaborated n l q limit old f text e mid at o new h made answers =
+    let p = plan.Elab n l q in
+    let left = subst (λ (w : Option Files). IfSome w (λ _. LeftBy e f text made.1.0)) (files_of_loaded p limit old f text mid h) made.1.2 in
+    answered p limit old e at o new
+    (subst (Ends p limit old e) (sym made.1.1) (ends p limit old f text e made.1.0 mid h (made.0 n l q)
+    (if_some_three old.files h.is_formula h.is_second left
+        (λ files read is by. left_gains n l q limit files f e made.1.0 read (subst (λ (x : Bytes). LeftBy e f x made.1.0) is by)))))
+    answers
+
+-- the log was not judged to its end, or its proof not written
+pub not_elaborated : (n l q : Bytes) (limit : ℕ) (old : Seen) (f : Problem) (text : Bytes) (mid : Seen) (o : Outcome) (new : Seen)
+    → Loaded (plan.Elab n l q) limit old f text mid → Elaborated f text mid (Err o) new → Works (plan.Elab n l q) limit old o new
+not_elaborated n l q limit old f text mid o new h made = by o made
+  where
+    stops : (proof : Bytes) → IfSome mid.files (λ _. IsRightSoFar f proof) → Stops (plan.Elab n l q) limit old (says port.Proof proof mid)
+    stops proof right = record {
+      stage = proof_created;
+      reaches = formula_in (plan.Elab n l q) limit old f h.is_formula;
+      proof = proof;
+      so_far = if_some_both old.files h.is_formula (subst (λ (w : Option Files). IfSome w (λ _. IsRightSoFar f proof)) (files_of_loaded (plan.Elab n l q) limit old f text mid h) right)
+          (λ files read r. (f, read, r));
+      at_is = ap (says port.Proof proof) h.asked;
+    }
+
+    by : (o : Outcome) → Elaborated f text mid (Err o) new → Works (plan.Elab n l q) limit old o new
+    by outcome.Memory m = subst (Stops (plan.Elab n l q) limit old) (sym m.1) (stops m.0 m.2)
+    by outcome.WriteFault m = inr (inr (record { writes = refl; at = says port.Proof m.0 mid; stops = stops m.0 m.2; fault = m.1 }))
+    by outcome.ReadFault m = absurd m
+    by outcome.Usage m = absurd m
+    by (outcome.Ended e) m = absurd m
 
 -- ---- the message
 

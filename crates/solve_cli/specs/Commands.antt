@@ -11,7 +11,7 @@ use Rattle.solve_cli.specs.Seen.{Seen, asks, creates, text_named}
 abbrev pub is_built : Plan → Bool
 is_built (plan.Solve formula log conflicts) = false
 is_built (plan.Check formula proof) = true
-is_built (plan.Elab formula log proof) = false
+is_built (plan.Elab formula log proof) = true
 is_built (plan.Model formula answer) = true
 is_built (plan.Demo kind size seed) = false
 

@@ -23,6 +23,7 @@ use Rattle.solve_cli.specs.declared.ending.Status.{Status}
 use Rattle.solve_cli.specs.declared.ending.Status.TheVariants as status
 use Rattle.solve_cli.specs.Endings.{status_of, status_of_ending, answer_text, message_text}
 use Rattle.solve_cli.specs.Seen.{Seen, asks_proof, says, ReadFault, WriteFault, MessageFault, text_named}
+use Rattle.solve_cli.specs.Proofs.{IsWholeProof, IsProofBefore, IsRightSoFar}
 use Rattle.solve_cli.specs.Commands.{is_built, formula_of, proof_of, writes_proof, Stage, formula_started, second_started, proof_created, asked_to, second_text}
 
 -- ---- which ending is due
@@ -86,10 +87,14 @@ Due p limit files e = Early p limit files e ⊎ Late p limit files e
 
 -- what the Proof port gains before the answer of an ending
 abbrev pub Gains : Plan → ℕ → Files → Ending → Bytes → Type 0
+Gains (plan.Elab n l q) limit files (ending.Elaborated k) proof = (f : Problem) × FormulaRead limit (text_named n files) f × IsWholeProof f proof
+Gains (plan.Elab n l q) limit files (ending.NotElaborated k c) proof =
+    (f : Problem) × FormulaRead limit (text_named n files) f × IsProofBefore f (text_named l files) k proof
 Gains p limit files e proof = proof ≡ []
 
 -- what it may have gained where a command is cut off
 abbrev pub SoFar : Stage → Plan → ℕ → Files → Bytes → Type 0
+SoFar proof_created (plan.Elab n l q) limit files proof = (f : Problem) × FormulaRead limit (text_named n files) f × IsRightSoFar f proof
 SoFar stage p limit files proof = proof ≡ []
 
 -- ---- which outcome may come
@@ -195,3 +200,8 @@ pub record Comes (words : List Bytes) (limit : ℕ) (old : Seen) (s : Status) : 
 abbrev pub IsSound : List Bytes → Seen → Status → Type 0
 IsSound words old s = (f p : Bytes) (formula : Problem) → Asks words (plan.Check f p) → s ≡ status.Done
     → IfSome old.files (λ files. Reads (text_named f files) formula → Unmet formula)
+
+-- a log was elaborated only where what stands on the Proof port is a proof that is accepted
+abbrev pub IsElaborated : List Bytes → Seen → Status → Seen → Type 0
+IsElaborated words old s new = (f l p : Bytes) (formula : Problem) → Asks words (plan.Elab f l p) → s ≡ status.Done
+    → IfSome old.files (λ files. Reads (text_named f files) formula → IfSome new.written (λ w. (k : ℕ) × Accepted formula w.proof k))

@@ -1,6 +1,7 @@
 //! The program as one call over its words and its desk.
 #![tactic(auto)]
 
+mod elab;
 mod ending;
 mod judge;
 mod laws;

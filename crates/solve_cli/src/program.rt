@@ -7,8 +7,9 @@ ghost use Rattle.cx_words.specs.declared.plans.Plan.TheVariants as plan;
 ghost use Rattle.solve_cli.specs.Seen.{seen};
 ghost use Rattle.solve_cli.specs.Commands.{Unasked, is_built};
 ghost use Rattle.solve_cli.specs.Steps.{Answers};
-ghost use Rattle.solve_cli.specs.Happens.{Works, WorksFor, AsksForMore, Runs, Comes, IsSound};
+ghost use Rattle.solve_cli.specs.Happens.{Works, WorksFor, AsksForMore, Runs, Comes, IsSound, IsElaborated};
 
+use crate::elab::elaborate_text;
 use crate::judge::{judge_answer, judge_proof};
 use crate::load::load;
 use crate::print::{put_answer_text, put_message_text};
@@ -59,6 +60,29 @@ fn model<D: Desk>(alloc: Global, desk: &mut D, formula: Name, values: Name, limi
     }
 }
 
+/// `elab`: makes a proof of a log.
+fn elab<D: Desk>(
+    alloc: Global,
+    desk: &mut D,
+    formula: Name,
+    log: Name,
+    proof: Name,
+    limit: u64,
+) -> Outcome
+    requires fresh { Unasked (D.outside desk.old).asked }
+    requires limit { limit ≤ 4294967295 }
+    ensures { Works (plan.Elab formula log proof) limit (seen (D.outside desk.old)) result (seen (D.outside desk.new)) }
+{
+    let texts = match load(alloc, desk, formula, log, Some(proof), limit) {
+        Ok(texts) => texts,
+        Err(outcome) => return outcome,
+    };
+    match elaborate_text(alloc, desk, &texts.formula, texts.second.as_slice()) {
+        Ok(ending) => answer(desk, ending),
+        Err(outcome) => outcome,
+    }
+}
+
 /// Reads the words, and carries out what they ask for.
 fn work<D: Desk>(alloc: Global, desk: &mut D, words: &[String], limit: u64) -> Outcome
     requires fresh { Unasked (D.outside desk.old).asked }
@@ -68,8 +92,12 @@ fn work<D: Desk>(alloc: Global, desk: &mut D, words: &[String], limit: u64) -> O
     match plan(alloc, words) {
         Ok(Plan::Check { formula, proof }) => check(alloc, desk, formula, proof, limit),
         Ok(Plan::Model { formula, answer }) => model(alloc, desk, formula, answer, limit),
+        Ok(Plan::Elab {
+            formula,
+            log,
+            proof,
+        }) => elab(alloc, desk, formula, log, proof, limit),
         Ok(Plan::Solve { .. }) => Outcome::Usage,
-        Ok(Plan::Elab { .. }) => Outcome::Usage,
         Ok(Plan::Demo { .. }) => Outcome::Usage,
         Err(PlanRefusal::Usage) => Outcome::Usage,
         Err(PlanRefusal::Memory) => Outcome::Memory,
@@ -84,6 +112,7 @@ pub fn run_within<D: Desk>(alloc: Global, words: Vec<String>, limit: u64, desk: 
     requires limit { limit ≤ 4294967295 }
     ensures runs { Runs (texts words.items) limit (seen (D.outside desk.old)) result (seen (D.outside desk.new)) }
     ensures sound { IsSound (texts words.items) (seen (D.outside desk.old)) result }
+    ensures elaborated { IsElaborated (texts words.items) (seen (D.outside desk.old)) result (seen (D.outside desk.new)) }
     ensures complete { (p : PlanOf) → Asks (texts words.items) p → IsTrue (is_built p)
         → (Rose (D.outside desk.old).faults.reads (D.outside desk.new).faults.reads → ⊥)
         → (Rose (D.outside desk.old).faults.writes (D.outside desk.new).faults.writes → ⊥)
@@ -102,6 +131,7 @@ pub fn run<D: Desk>(alloc: Global, words: Vec<String>, desk: &mut D) -> Status
     requires { Unasked (D.outside desk.old).asked }
     ensures runs { Runs (texts words.items) 4294967295 (seen (D.outside desk.old)) result (seen (D.outside desk.new)) }
     ensures sound { IsSound (texts words.items) (seen (D.outside desk.old)) result }
+    ensures elaborated { IsElaborated (texts words.items) (seen (D.outside desk.old)) result (seen (D.outside desk.new)) }
     ensures complete { (p : PlanOf) → Asks (texts words.items) p → IsTrue (is_built p)
         → (Rose (D.outside desk.old).faults.reads (D.outside desk.new).faults.reads → ⊥)
         → (Rose (D.outside desk.old).faults.writes (D.outside desk.new).faults.writes → ⊥)
