@@ -6,4 +6,6 @@ mod check;
 #[cfg(test)]
 mod desk;
 #[cfg(test)]
+mod model;
+#[cfg(test)]
 mod refusals;

@@ -35,12 +35,7 @@ fn start_slot<D: Desk>(desk: &mut D, slot: Slot, name: Name) -> Result<(), Outco
 }
 
 /// Reads a started slot to its end.
-fn read_slot<D: Desk>(
-    alloc: Global,
-    desk: &mut D,
-    slot: Slot,
-    limit: u64,
-) -> Result<Text, Outcome>
+fn read_slot<D: Desk>(alloc: Global, desk: &mut D, slot: Slot, limit: u64) -> Result<Text, Outcome>
     requires started { started_in slot (D.outside desk.old).started ≡ true }
     requires limit { limit < 2 ^ 62 }
     ensures { (name : List ℕ) → Ready slot name (D.outside desk.old) → ReadsSlot slot name limit (D.outside desk.old) result (D.outside desk.new) }
