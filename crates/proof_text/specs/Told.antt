@@ -47,7 +47,7 @@ step_line step = printed_line (spelling proof_steps step)
 
 -- behind whole lines stands a front of the step's line that is not all of it
 abbrev pub TornOn : ProofStep → Outside → Type 0
-TornOn step o = IfSome o.told (λ t. (before : Bytes) × (k : ℕ) × (begun_line [] before ≡ []) × (k < length (step_line step)) × (t.written.proof ≡ before ++ take k (step_line step)))
+TornOn step o = HasProofText step × IfSome o.told (λ t. (before : Bytes) × (k : ℕ) × (begun_line [] before ≡ []) × (k < length (step_line step)) × (t.written.proof ≡ before ++ take k (step_line step)))
 
 -- the proof port gained the lines of these steps, and nothing else changed
 pub record Prints (old new : Outside) : Type 0 where

@@ -21,11 +21,11 @@ use Rattle.solve_cli.specs.declared.ending.Ending.TheVariants as ending
 use Rattle.solve_cli.specs.declared.ending.Outcome.{Outcome}
 use Rattle.solve_cli.specs.declared.ending.Outcome.TheVariants as outcome
 use Rattle.solve_cli.specs.Endings.{answer_text}
-use Rattle.solve_cli.specs.Seen.{Seen, seen, asks, asks_proof, says, append_to, ReadFault, WriteFault, MessageFault, text_named}
+use Rattle.solve_cli.specs.Seen.{Seen, seen, asks, asks_proof, creates, says, append_to, ReadFault, WriteFault, MessageFault, text_named}
 use Rattle.solve_cli.specs.Commands.{formula_of, second_of, proof_of, Stage, formula_started, second_started, proof_created, starts, gives_file, asked_to, text_of, second_text}
 use Rattle.solve_cli.specs.Happens.{is_early, end_stage, Named, FormulaRead, IsFormula, FormulaIn, Judged, LateDue, Gains, SoFar, Reaches, Ends, Stops, Works, Tells}
 use Rattle.solve_cli.specs.Proofs.{IsRightSoFar}
-use Rattle.solve_cli.specs.Steps.{FormulaFails, ReadFails, Answers, Loaded, LeftBy, Elaborated, refused_as}
+use Rattle.solve_cli.specs.Steps.{FormulaFails, ReadFails, Answers, Loaded, HasNoProof, LeftBy, Elaborated, refused_as}
 
 pub if_some : {X : Type 0} {P Q : X → Type 0} (w : Option X) → IfSome w P → ((x : X) → P x → Q x) → IfSome w Q
 if_some None p f = tt
@@ -47,7 +47,7 @@ says-none p text s e = rw e (elim s.written as (λ w. says p [] (record s { writ
   | Some w ↦ rw (append_to-none p w) refl
 ])
 
-seen-gained : (p : Port) (text : Bytes) (o : Outside) → seen (gained p text o) ≡ says p text (seen o)
+pub seen-gained : (p : Port) (text : Bytes) (o : Outside) → seen (gained p text o) ≡ says p text (seen o)
 seen-gained p text o = elim o.told as (λ w. seen (gained p text (record o { told = w })) ≡ says p text (seen (record o { told = w }))) [
   | None ↦ refl
   | Some t ↦ refl
@@ -352,6 +352,13 @@ wanted p limit old f text mid h = stopped proof_created p limit old mid (formula
 
 files_of_loaded : (p : Plan) (limit : ℕ) (old : Seen) (f : Problem) (text : Bytes) (mid : Seen) → Loaded p limit old f text mid → mid.files ≡ old.files
 files_of_loaded p limit old f text mid h = ap (λ (s : Seen). s.files) h.asked ∙ files_at proof_created p old
+
+none_on_created : (name : Bytes) (s : Seen) → HasNoProof (creates name s)
+none_on_created name s = elim s.written as (λ w. HasNoProof (creates name (record s { written = w }))) [ None ↦ tt | Some w ↦ refl ]
+
+-- nothing stands on a Proof port that was given its file
+pub none_created : (n l q : Bytes) (limit : ℕ) (old : Seen) (f : Problem) (text : Bytes) (mid : Seen) → Loaded (plan.Elab n l q) limit old f text mid → HasNoProof mid
+none_created n l q limit old f text mid h = subst HasNoProof (sym h.asked) (none_on_created q (asked_to second_started (plan.Elab n l q) old))
 
 -- what was left on the Proof port, of the files at the start
 left_gains : (n l q : Bytes) (limit : ℕ) (files : Files) (f : Problem) (e : Ending) (proof : Bytes)

@@ -1,5 +1,5 @@
 -- The steps of a command: its texts are read whole, the Proof port is given its file, the answer is written.
-use Rattle.std.specs.Prelude.{true, ◌≡◌, ◌<◌, ◌≤◌, ℕ, length, take, Option, IfSome, Result, Ok, Err, MatchResult}
+use Rattle.std.specs.Prelude.{true, ◌≡◌, ◌<◌, ◌≤◌, ℕ, [], length, take, Option, IfSome, Result, Ok, Err, MatchResult}
 use Rattle.cx_desk.specs.declared.desk.Slot.{Slot}
 use Rattle.cx_desk.specs.declared.desk.Slot.TheVariants as slot
 use Rattle.cx_desk.specs.declared.desk.Port.TheVariants as port
@@ -88,6 +88,10 @@ abbrev pub Loads : Plan → ℕ → Seen → Result Texts Outcome → Seen → T
 Loads p limit old result new = MatchResult result
     (λ t. Loaded p limit old t.formula t.second new)
     (λ o. Works p limit old o new)
+
+-- nothing stands on the Proof port
+abbrev pub HasNoProof : Seen → Type 0
+HasNoProof s = IfSome s.written (λ w. w.proof ≡ [])
 
 -- what a log's ending leaves on the Proof port
 abbrev pub LeftBy : Ending → Problem → Bytes → Bytes → Type 0

@@ -1,11 +1,14 @@
 //! A log, elaborated onto the Proof port.
 ghost use Rattle.std.specs.Prelude.{◌≤◌, length};
 ghost use Rattle.solve_cli.specs.Seen.{seen};
-ghost use Rattle.solve_cli.specs.Steps.{Elaborated};
+ghost use Rattle.solve_cli.specs.Steps.{HasNoProof, Elaborated};
 
 use crate::{Ending, Outcome};
 use cx_base::Formula;
 use cx_desk::Desk;
+use fratx_elab::{Elab, ElabFault, Joined, elaborate};
+use log_text::LogText;
+use proof_text::DeskProof;
 use std::alloc::Global;
 
 /// `elab`: judges the text of a log, and writes its proof on the Proof port, each step as soon as
@@ -16,12 +19,20 @@ pub fn elaborate_text<D: Desk>(
     formula: &Formula,
     text: &[u8],
 ) -> Result<Ending, Outcome>
-    requires { length text.now ≤ 4294967295 }
+    requires text { length text.now ≤ 4294967295 }
+    requires empty { HasNoProof (seen (D.outside desk.old)) }
     ensures { Elaborated formula.now text.now (seen (D.outside desk.old)) result (seen (D.outside desk.new)) }
 {
-    let _a = alloc;
-    let _f = formula;
-    let _t = text;
-    let _d = desk;
-    Err(Outcome::Memory)
+    let mut ends = Joined {
+        source: LogText::new(alloc, text),
+        sink: DeskProof::new(desk),
+    };
+    match elaborate(alloc, formula, &mut ends) {
+        Ok(Elab::Done(step)) => Ok(Ending::Elaborated(step)),
+        Ok(Elab::Refused(step, cause)) => Ok(Ending::NotElaborated(step, cause)),
+        Err(ElabFault::Memory) => Err(Outcome::Memory),
+        Err(ElabFault::Write) => Err(Outcome::WriteFault),
+        Err(ElabFault::Read) => unreachable!(),
+        Err(ElabFault::TooLong) => unreachable!(),
+    }
 }
