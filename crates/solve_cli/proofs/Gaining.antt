@@ -36,13 +36,13 @@ whole_told (Some t) h = ap (λ (b : Bytes). is_none (begun_line [] b)) h
 pub whole_port : (o : Outside) → HasNoProof (seen o) → is_whole o.told ≡ true
 whole_port o h = whole_told o.told (empty_told o h)
 
-pub on_files : {Q : Type 0} (w : Option Told) → IfSome w (λ _. Q) → IfSome (option_map (λ (t : Told). t.files) w) (λ _. Q)
-on_files None h = tt
-on_files (Some t) h = h
+on_files : (Q : Type 0) (w : Option Told) → IfSome w (λ _. Q) → IfSome (option_map (λ (t : Told). t.files) w) (λ _. Q)
+on_files Q None h = tt
+on_files Q (Some t) h = h
 
-on_told : {Q R : Type 0} (w : Option Told) → IfSome w (λ _. Q) → (Q → R) → IfSome w (λ _. R)
-on_told None h f = tt
-on_told (Some t) h f = f h
+on_told : (Q R : Type 0) (w : Option Told) → IfSome w (λ _. Q) → (Q → R) → IfSome w (λ _. R)
+on_told Q R None h f = tt
+on_told Q R (Some t) h f = f h
 
 -- the printed steps are those that the sink tells
 same_steps : (w : Option Told) (o n : Outside) (steps more : List ProofStep) → IfSome w (λ t. t.written.proof ≡ []) → AllByRecursion HasProofText steps
@@ -68,7 +68,7 @@ pub whole : (f : Problem) (o n : Outside) (more : List ProofStep) → HasNoProof
 whole f o n more empty h told accepted = (
   printed_proof h.steps,
   printed_seen o n h,
-  on_files o.told (on_told o.told (printed_same o n h more empty told) (λ same. record {
+  on_files (IsWholeProof f (printed_proof h.steps)) o.told (on_told (h.steps ≡ more) (IsWholeProof f (printed_proof h.steps)) o.told (printed_same o n h more empty told) (λ same. record {
     steps = h.steps;
     printed = refl;
     accepted = record {
@@ -88,7 +88,7 @@ pub before : (f : Problem) (log : Bytes) (k : ℕ) (o n : Outside) (more : List 
 before f log k o n more front later ending empty h told reads number is_proof = (
   printed_proof h.steps,
   printed_seen o n h,
-  on_files o.told (on_told o.told (printed_same o n h more empty told) (λ same. record {
+  on_files (IsProofBefore f log k (printed_proof h.steps)) o.told (on_told (h.steps ≡ more) (IsProofBefore f log k (printed_proof h.steps)) o.told (printed_same o n h more empty told) (λ same. record {
     before = front;
     later = later;
     ending = ending;
@@ -106,7 +106,7 @@ pub so_far : (f : Problem) (o n : Outside) (more : List ProofStep) → HasNoProo
 so_far f o n more empty h told right = (
   printed_proof h.steps,
   printed_seen o n h,
-  on_files o.told (on_told o.told (printed_same o n h more empty told) (λ same. record {
+  on_files (IsRightSoFar f (printed_proof h.steps)) o.told (on_told (h.steps ≡ more) (IsRightSoFar f (printed_proof h.steps)) o.told (printed_same o n h more empty told) (λ same. record {
     steps = h.steps;
     right = subst (AreRight f) (sym same) right;
     rest = [];
@@ -167,7 +167,7 @@ pub torn_so_far : (f : Problem) (o n : Outside) (more : List ProofStep) (step : 
 torn_so_far f o n more step empty h told torn right = (
   printed_proof h.steps ++ take h.kept (step_line h.part),
   write_fault (printed_proof h.steps ++ take h.kept (step_line h.part)) o n h.moved,
-  on_files o.told (torn_right f o.told o n h more step (empty_told o empty) told torn right),
+  on_files (IsRightSoFar f (printed_proof h.steps ++ take h.kept (step_line h.part))) o.told (torn_right f o.told o n h more step (empty_told o empty) told torn right),
 )
 
 -- ---- whether the sink failed
