@@ -1,5 +1,5 @@
 -- What `elab` leaves on the Proof port: the printed steps of a proof.
-use Rattle.std.specs.Prelude.{◌≡◌, ℕ, ◌+◌, List, ◌++◌, length, ◌⊎◌}
+use Rattle.std.specs.Prelude.{◌≡◌, ℕ, ◌-◌, List, ◌++◌, length, take, ◌⊎◌}
 use Rattle.cx_base.specs.Problem.{Problem}
 use Rattle.cx_semantics.specs.declared.steps.LogStep.{LogStep}
 use Rattle.cx_semantics.specs.declared.steps.ProofStep.{ProofStep}
@@ -19,13 +19,11 @@ pub record IsWholeProof (formula : Problem) (bytes : Bytes) : Type 0 where
 
 -- the bytes are the proof of the log's steps before step k
 pub record IsProofBefore (formula : Problem) (log : Bytes) (k : ℕ) (bytes : Bytes) : Type 0 where
-  pub before : List LogStep
-  pub later : List LogStep
+  pub log_steps : List LogStep
   pub ending : Ending
-  pub reads : LogReads log (before ++ later) ending
-  pub number : k ≡ length before + 1
+  pub reads : LogReads log log_steps ending
   pub steps : List ProofStep
-  pub is_proof : IsProofOf formula before steps
+  pub is_proof : IsProofOf formula (take (k - 1) log_steps) steps
   pub printed : bytes ≡ printed_proof steps
 
 -- each step is right, and none but the last ends the proof

@@ -10,6 +10,10 @@ use Rattle.cnfx_reader.specs.declared.refusal.ReadRefusal.{ReadRefusal}
 use Rattle.cnfx_reader.specs.declared.refusal.ReadRefusal.TheVariants as refusal
 use Rattle.cx_words.specs.declared.plans.Plan.{Plan}
 use Rattle.cx_words.specs.declared.plans.Plan.TheVariants as plan
+use Rattle.fratx_elab.specs.declared.outcome.Elab.{Elab}
+use Rattle.fratx_elab.specs.declared.outcome.Elab.TheVariants as elab
+use Rattle.fratx_elab.specs.declared.outcome.ElabFault.{ElabFault}
+use Rattle.fratx_elab.specs.declared.outcome.ElabFault.TheVariants as fault
 use Rattle.solve_cli.specs.declared.load.Texts.{Texts}
 use Rattle.solve_cli.specs.declared.ending.Ending.{Ending}
 use Rattle.solve_cli.specs.declared.ending.Ending.TheVariants as ending
@@ -106,6 +110,15 @@ Elaborated f log old (Ok e) new =
 Elaborated f log old (Err outcome.Memory) new = (proof : Bytes) × (new ≡ says port.Proof proof old) × IfSome old.files (λ _. IsRightSoFar f proof)
 Elaborated f log old (Err outcome.WriteFault) new = (proof : Bytes) × WriteFault (says port.Proof proof old) new × IfSome old.files (λ _. IsRightSoFar f proof)
 Elaborated f log old (Err o) new = ⊥
+
+-- the same in the elaborator's words: its source is a text, which counts no fault and has no limit
+abbrev pub ElaboratedAs : Problem → Bytes → Seen → Result Elab ElabFault → Seen → Type 0
+ElaboratedAs f log old (Ok (elab.Done k)) new = Elaborated f log old (Ok (ending.Elaborated k)) new
+ElaboratedAs f log old (Ok (elab.Refused k c)) new = Elaborated f log old (Ok (ending.NotElaborated k c)) new
+ElaboratedAs f log old (Err fault.Memory) new = Elaborated f log old (Err outcome.Memory) new
+ElaboratedAs f log old (Err fault.Write) new = Elaborated f log old (Err outcome.WriteFault) new
+ElaboratedAs f log old (Err fault.Read) new = ⊥
+ElaboratedAs f log old (Err fault.TooLong) new = ⊥
 
 -- where a formula's text is refused
 abbrev pub refused_as : ReadRefusal → Outcome
