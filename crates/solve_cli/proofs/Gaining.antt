@@ -1,5 +1,5 @@
 -- What the elaborator leaves on the Proof port, in the words of the top call.
-use Rattle.std.proofs.Common.{◌≡◌, ◌≤◌, ◌<◌, ℕ, ◌+◌, List, [], ◌∷◌, ◌++◌, Bool, true, false, length, take, drop, flat_map, option_map, Option, Some, None, IfSome, inl, inr, refl, ap, sym, subst, ◌∙◌, append-nil, append_assoc, length-append, arith}
+use Rattle.std.proofs.Common.{◌≡◌, ◌≤◌, ◌<◌, ℕ, ◌+◌, List, [], ◌∷◌, ◌++◌, Bool, true, false, length, take, drop, flat_map, option_map, Option, Some, None, IfSome, Result, Ok, Err, IfOk, IfErr, inl, inr, refl, ap, sym, subst, ◌∙◌, append-nil, append_assoc, length-append, arith}
 use Rattle.std.proofs.lemmas.Grind.{flat_map-append}
 use Rattle.std.proofs.lemmas.List.{take-append-drop}
 use Rattle.std.specs.List.{AllByRecursion}
@@ -20,11 +20,14 @@ use Rattle.cx_desk.specs.Calls.{gained, WriteFaulted}
 use Rattle.proof_text.specs.Sources.{Rose}
 use Rattle.proof_text.specs.Told.{told_steps, steps_told, fault_of, is_none, begun_line, is_whole, step_line, TornOn, Prints, Tears, Goes}
 use Rattle.proof_text.proofs.ToldLaws.{told_front, told_proof, gained_proof, begun_proof, begun_front}
-use Rattle.fratx_elab.specs.Outcomes.{Gained, IsWritten}
+use Rattle.fratx_elab.specs.Outcomes.{Gained, IsWritten, IsElaborated, IsCutOff, HasCause, WritesStand}
+use Rattle.fratx_elab.specs.declared.outcome.Elab.{Elab}
+use Rattle.fratx_elab.specs.declared.outcome.ElabFault.{ElabFault}
+use Rattle.fratx_elab.specs.declared.outcome.ElabFault.TheVariants as fault
 use Rattle.fratx_elab.specs.declared.outcome.Elab.TheVariants as elab
 use Rattle.solve_cli.specs.Seen.{Seen, seen, says, WriteFault}
 use Rattle.solve_cli.specs.Proofs.{IsWholeProof, IsProofBefore, AreRight, IsRightSoFar}
-use Rattle.solve_cli.specs.Steps.{HasNoProof}
+use Rattle.solve_cli.specs.Steps.{HasNoProof, ElaboratedAs}
 use Rattle.solve_cli.proofs.Works.{seen-gained}
 
 empty_told : (o : Outside) → HasNoProof (seen o) → IfSome o.told (λ t. t.written.proof ≡ [])
@@ -194,6 +197,10 @@ torn_so_far f o n step empty h torn gains = (
   on_files (IsRightSoFar f (printed_proof h.steps ++ take h.kept (step_line h.part))) o.told (torn_right f o.told o n h step (empty_told o empty) gains torn),
 )
 
+-- the same of what the sink tells
+told_as : (P : List ProofStep → Type 0) (a o b n : Option (List ProofStep)) → a ≡ o → b ≡ n → Gained a b P → Gained o n P
+told_as P a o b n first last h = subst (λ (x : Option (List ProofStep)). Gained x n P) first (subst (λ (x : Option (List ProofStep)). Gained a x P) last h)
+
 -- ---- whether the sink failed
 
 pub has_printed : (first last : Bool) (o n : Outside) → first ≡ false → Goes first o last n → fault_of last ≡ fault_of first → Prints o n
@@ -205,3 +212,29 @@ pub has_torn : (first last : Bool) (o n : Outside) → first ≡ false → Goes 
 has_torn true last o n e h rose = cc
 has_torn false true o n e h rose = h
 has_torn false false o n e h rose = absurd (omega (arith, rose))
+
+-- ---- the whole run of the elaborator
+
+pub settled : {X : Type 0} (leaves : X → List LogStep → Ending → Type 0) (told : X → Option (List ProofStep)) (torn : X → ProofStep → Type 0)
+    (f : Problem) (log : Bytes) (a b : X) (first last : Bool) (o n : Outside) (r : Result Elab ElabFault)
+    → ((steps : List LogStep) (ending : Ending) → leaves a steps ending → LogReads log steps ending)
+    → told a ≡ steps_told o → told b ≡ steps_told n → ((step : ProofStep) → torn b step → TornOn step n)
+    → HasNoProof (seen o) → first ≡ false → Goes first o last n
+    → IfOk r (IsElaborated leaves told torn f a b) → IfErr r (IsCutOff leaves told torn f a b)
+    → IfErr r (HasCause ⊥ 0 0 (fault_of first) (fault_of last)) → WritesStand r (fault_of first) (fault_of last)
+    → ElaboratedAs f log (seen o) r (seen n)
+settled leaves told torn f log a b first last o n (Ok (elab.Done k)) reads at_first at_last tears empty whole_before goes judged cut cause stand = (
+  λ _ _ _. record { steps = judged.0; ending = judged.1; reads = reads judged.0 judged.1 judged.2; judged = judged.3 },
+  whole f judged.0 o n k empty (has_printed first last o n whole_before goes stand) (told_as (IsWritten f judged.0 (elab.Done k)) (told a) (steps_told o) (told b) (steps_told n) at_first at_last judged.4),
+)
+settled leaves told torn f log a b first last o n (Ok (elab.Refused k c)) reads at_first at_last tears empty whole_before goes judged cut cause stand = (
+  λ _ _ _. record { steps = judged.0; ending = judged.1; reads = reads judged.0 judged.1 judged.2; judged = judged.3 },
+  before f log k c o n judged.0 judged.1 empty (has_printed first last o n whole_before goes stand)
+      (told_as (IsWritten f judged.0 (elab.Refused k c)) (told a) (steps_told o) (told b) (steps_told n) at_first at_last judged.4) (reads judged.0 judged.1 judged.2),
+)
+settled leaves told torn f log a b first last o n (Err fault.Memory) reads at_first at_last tears empty whole_before goes judged cut cause stand =
+    so_far f o n empty (has_printed first last o n whole_before goes stand) (told_as (IsOpen (proof_calculus f)) (told a) (steps_told o) (told b) (steps_told n) at_first at_last cut)
+settled leaves told torn f log a b first last o n (Err fault.Write) reads at_first at_last tears empty whole_before goes judged cut cause stand =
+    torn_so_far f o n cut.0 empty (has_torn first last o n whole_before goes cause) (tears cut.0 cut.1) (told_as (Torn f cut.0) (told a) (steps_told o) (told b) (steps_told n) at_first at_last cut.2)
+settled leaves told torn f log a b first last o n (Err fault.Read) reads at_first at_last tears empty whole_before goes judged cut cause stand = absurd (omega (arith, cause))
+settled leaves told torn f log a b first last o n (Err fault.TooLong) reads at_first at_last tears empty whole_before goes judged cut cause stand = absurd cause

@@ -8,6 +8,7 @@ use crate::{Ending, Outcome};
 use cx_base::Formula;
 use cx_desk::Desk;
 use fratx_elab::{Elab, ElabFault, elaborate};
+use log_text::LogText;
 use std::alloc::Global;
 
 /// Elaborates the text of a log onto the Proof port of a desk.
@@ -21,7 +22,8 @@ fn elaborate_on<D: Desk>(
     requires empty { HasNoProof (seen (D.outside desk.old)) }
     ensures { ElaboratedAs formula.now text.now (seen (D.outside desk.old)) result (seen (D.outside desk.new)) }
 {
-    let mut ends = LogOnDesk::new(alloc, text, desk);
+    let mut source = LogText::new(alloc, text);
+    let mut ends = LogOnDesk::new(&mut source, desk);
     elaborate(alloc, formula, &mut ends)
 }
 

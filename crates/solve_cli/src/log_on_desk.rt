@@ -1,6 +1,5 @@
 //! The text of a log and the Proof port of a desk, as the elaborator's two ends.
-ghost use Rattle.std.specs.Prelude.{◌≡◌, ◌≤◌, length, true, false, None};
-ghost use Rattle.cx_semantics.specs.Tokens.{tokens};
+ghost use Rattle.std.specs.Prelude.{◌≡◌, true, false};
 ghost use Rattle.proof_text.specs.Told.{is_whole};
 
 use cx_desk::Desk;
@@ -8,33 +7,33 @@ use cx_semantics::{LogStep, ProofStep};
 use fratx_elab::ElabEnds;
 use log_text::LogText;
 use proof_text::{DeskProof, ProofSink, SinkFault, StepSource, TextRefusal};
-use std::alloc::Global;
 
-/// A log that is read from a text, and a proof that is printed on a lent desk.
+/// A log that is read from a lent text, and a proof that is printed on a lent desk.
+///
+/// It holds no text of its own, so that the desk's owner knows what was done to it.
 #[derive(Drop)]
-pub struct LogOnDesk<'a, 'b, D: Desk> {
-    source: LogText<'a>,
+pub struct LogOnDesk<'s, 'a, 'b, D: Desk> {
+    source: &'s mut LogText<'a>,
     sink: DeskProof<'b, D>,
 }
 
-impl<'a, 'b, D: Desk> LogOnDesk<'a, 'b, D> {
+impl<'s, 'a, 'b, D: Desk> LogOnDesk<'s, 'a, 'b, D> {
     /// The two ends, before the first step.
-    pub fn new(alloc: Global, text: &'a [u8], desk: &'b mut D) -> LogOnDesk<'a, 'b, D>
-        requires text { length text.now ≤ 4294967295 }
-        requires port { is_whole (D.outside desk.old).told ≡ true }
-        ensures source { result.source ≡ record { tokens = tokens text.now; size = length text.now; place = 0; refused = None } }
+    pub fn new(source: &'s mut LogText<'a>, desk: &'b mut D) -> LogOnDesk<'s, 'a, 'b, D>
+        requires { is_whole (D.outside desk.old).told ≡ true }
+        ensures source { result.source.now ≡ source.entry.now }
         ensures same_desk { result.sink.desk.ghost_name ≡ desk.entry.ghost_name }
         ensures outside { D.outside result.sink.desk.now ≡ D.outside desk.entry.now }
         ensures whole { result.sink.failed ≡ false }
     {
         LogOnDesk {
-            source: LogText::new(alloc, text),
+            source,
             sink: DeskProof::new(desk),
         }
     }
 }
 
-impl<D: Desk> ElabEnds for LogOnDesk<'_, '_, D> {
+impl<D: Desk> ElabEnds for LogOnDesk<'_, '_, '_, D> {
     ghost use Rattle.std.specs.Prelude.{◌≡◌, refl};
     ghost use Rattle.std.proofs.Common.{◌∙◌};
     ghost use Rattle.cx_semantics.specs.LogText.{log_steps};
@@ -43,15 +42,15 @@ impl<D: Desk> ElabEnds for LogOnDesk<'_, '_, D> {
     ghost use Rattle.proof_text.specs.ToldSteps.{goes_itself, goes_on};
     ghost use Rattle.log_text.specs.Left.{log_is_left};
 
-    ghost leaves = { λ j. Leaves log_steps j.source };
+    ghost leaves = { λ j. Leaves log_steps j.source.now };
 
     ghost passes_limit = { λ _. ⊥ };
 
-    ghost is_spent = { λ j. is_spent_by j.source.refused };
+    ghost is_spent = { λ j. is_spent_by j.source.now.refused };
 
     ghost read_faults = { λ _. 0 };
 
-    ghost place_of = { λ j. j.source.place };
+    ghost place_of = { λ j. j.source.now.place };
 
     ghost steps = { λ j. steps_told (D.outside j.sink.desk.now) };
 
@@ -73,7 +72,7 @@ impl<D: Desk> ElabEnds for LogOnDesk<'_, '_, D> {
         self.sink.step(step)
     }
 
-    ghost leaves_some = { λ j. log_is_left j.source };
+    ghost leaves_some = { λ j. log_is_left j.source.now };
 
     ghost keeps_itself = { λ a. (refl, goes_itself a.sink.failed (D.outside a.sink.desk.now)) };
 
