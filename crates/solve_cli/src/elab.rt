@@ -9,6 +9,7 @@ use cx_base::Formula;
 use cx_desk::Desk;
 use fratx_elab::{Elab, ElabFault, elaborate};
 use log_text::LogText;
+use proof_text::DeskProof;
 use std::alloc::Global;
 
 /// Elaborates the text of a log onto the Proof port of a desk.
@@ -23,7 +24,10 @@ fn elaborate_on<D: Desk>(
     ensures { ElaboratedAs formula.now text.now (seen (D.outside desk.old)) result (seen (D.outside desk.new)) }
 {
     let mut source = LogText::new(alloc, text);
-    let mut ends = LogOnDesk::new(&mut source, desk);
+    let mut ends = LogOnDesk {
+        source: &mut source,
+        sink: DeskProof::new(desk),
+    };
     elaborate(alloc, formula, &mut ends)
 }
 

@@ -1,7 +1,4 @@
 //! The text of a log and the Proof port of a desk, as the elaborator's two ends.
-ghost use Rattle.std.specs.Prelude.{◌≡◌, true, false};
-ghost use Rattle.proof_text.specs.Told.{is_whole};
-
 use cx_desk::Desk;
 use cx_semantics::{LogStep, ProofStep};
 use fratx_elab::ElabEnds;
@@ -13,24 +10,10 @@ use proof_text::{DeskProof, ProofSink, SinkFault, StepSource, TextRefusal};
 /// It holds no text of its own, so that the desk's owner knows what was done to it.
 #[derive(Drop)]
 pub struct LogOnDesk<'s, 'a, 'b, D: Desk> {
-    source: &'s mut LogText<'a>,
-    sink: DeskProof<'b, D>,
-}
-
-impl<'s, 'a, 'b, D: Desk> LogOnDesk<'s, 'a, 'b, D> {
-    /// The two ends, before the first step.
-    pub fn new(source: &'s mut LogText<'a>, desk: &'b mut D) -> LogOnDesk<'s, 'a, 'b, D>
-        requires { is_whole (D.outside desk.old).told ≡ true }
-        ensures source { result.source.now ≡ source.entry.now }
-        ensures same_desk { result.sink.desk.ghost_name ≡ desk.entry.ghost_name }
-        ensures outside { D.outside result.sink.desk.now ≡ D.outside desk.entry.now }
-        ensures whole { result.sink.failed ≡ false }
-    {
-        LogOnDesk {
-            source,
-            sink: DeskProof::new(desk),
-        }
-    }
+    /// Where the log's steps come from.
+    pub source: &'s mut LogText<'a>,
+    /// Where the proof's steps go.
+    pub sink: DeskProof<'b, D>,
 }
 
 impl<D: Desk> ElabEnds for LogOnDesk<'_, '_, '_, D> {
