@@ -12,7 +12,9 @@ mod parity_sum;
 mod refusal;
 mod sum;
 
+pub use chain::{LeftOf, left_of};
 pub use judge::{judge_chain, judge_clause_of_parity, judge_parity_of_clauses, judge_sum};
+pub use literal_set::LiteralSet;
 pub use live::Live;
 pub use refusal::JudgeRefusal;
 
