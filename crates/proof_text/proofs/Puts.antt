@@ -65,7 +65,7 @@ integers_text zs after =
 pub ids_text : (ns : List ℕ) → flat_map spaced_id ns ++ (32 ∷ 48 ∷ 10 ∷ []) ≡ spaced (spelled_list (map pos ns)) ++ 10 ∷ []
 ids_text ns = sym (append_assoc (flat_map spaced_id ns) (32 ∷ 48 ∷ []) (10 ∷ [])) ∙ ap (λ l. l ++ 10 ∷ []) (sym (spaced_ids ns))
 
-spaced-append : (us ws : List Word) → spaced (us ++ ws) ≡ spaced us ++ spaced ws
+pub spaced-append : (us ws : List Word) → spaced (us ++ ws) ≡ spaced us ++ spaced ws
 spaced-append us ws = flat_map-append (λ w. 32 ∷ printed_word w) us ws
 
 in_row : (a d l h : Bytes) → (a ++ (d ++ [])) ++ ((l ++ []) ++ h) ≡ a ++ (d ++ (l ++ h))

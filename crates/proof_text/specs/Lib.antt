@@ -5,5 +5,6 @@ pub mod Taking
 pub mod Reading
 pub mod Spaced
 pub mod Sources
+pub mod Sinks
 pub mod Texts
 pub mod Left

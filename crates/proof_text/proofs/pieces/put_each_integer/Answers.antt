@@ -6,7 +6,7 @@ use Rattle.cx_desk.specs.Outside.{Bytes}
 use Rattle.cx_desk.proofs.Moves.{pieces-fail}
 use Rattle.proof_text.specs.Spaced.{spaced_integer}
 use Rattle.proof_text.proofs.Puts.{Fails}
-use Rattle.proof_text.proofs.print.put_each_integer.Goals as goal
+use Rattle.proof_text.proofs.pieces.put_each_integer.Goals as goal
 
 pub returns-in_err-put_integer : goal.returns-in_err-put_integer
 returns-in_err-put_integer g c =

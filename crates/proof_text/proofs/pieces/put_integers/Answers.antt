@@ -2,7 +2,7 @@ use Rattle.std.proofs.lemmas.Result.{err_from_is_err_and}
 use Rattle.std.proofs.Common.{flat_map, ◌∷◌, ◌++◌, []}
 use Rattle.proof_text.specs.Spaced.{spaced_integer}
 use Rattle.proof_text.proofs.Puts.{first_fails, two_puts, integers_text}
-use Rattle.proof_text.proofs.print.put_integers.Goals as goal
+use Rattle.proof_text.proofs.pieces.put_integers.Goals as goal
 
 pub returns-in_err-put_each_integer : goal.returns-in_err-put_each_integer
 returns-in_err-put_each_integer g c =

@@ -4,7 +4,7 @@ use Rattle.cx_desk.specs.Outside.{Bytes}
 use Rattle.cx_desk.proofs.Moves.{pieces-fail}
 use Rattle.proof_text.specs.Spaced.{spaced_id}
 use Rattle.proof_text.proofs.Puts.{Fails}
-use Rattle.proof_text.proofs.print.put_each_id.Goals as goal
+use Rattle.proof_text.proofs.pieces.put_each_id.Goals as goal
 
 pub returns-in_err-put_id : goal.returns-in_err-put_id
 returns-in_err-put_id g c =

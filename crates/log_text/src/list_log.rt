@@ -1,0 +1,104 @@
+//! A log that is kept as a list.
+ghost use Rattle.std.specs.Prelude.{◌≡◌, [], ◌∷◌, ◌++◌, OnOk, OnErr, IfErr};
+ghost use Rattle.std.specs.List.{AllByRecursion};
+ghost use Rattle.cx_semantics.specs.declared.steps.LogEvent.TheVariants.{Step, Conflict};
+ghost use Rattle.cx_semantics.specs.Printed.{HasText};
+ghost use Rattle.proof_text.specs.declared.sink.SinkFault.TheVariants.{Memory};
+
+use crate::copy::copy_step;
+use crate::sink::LogSink;
+use cx_semantics::{LogEvent, LogStep};
+use proof_text::SinkFault;
+use std::alloc::Global;
+use std::marker::Model;
+
+/// A sink that keeps the list of its events. It never fails but for want of memory.
+#[derive(Drop)]
+pub struct ListLog {
+    alloc: Global,
+    events: Vec<LogEvent>,
+}
+
+impl Model for ListLog {
+    ghost use Rattle.std.specs.Prelude.{List};
+    ghost use Rattle.std.specs.List.{AllByRecursion};
+    ghost use Rattle.cx_semantics.specs.declared.steps.LogEvent.{LogEvent};
+    ghost use Rattle.cx_semantics.specs.Printed.{HasText};
+
+    ghost Value = { List LogEvent };
+
+    ghost view = { λ a. a.events.items };
+
+    ghost invariant = { λ a. AllByRecursion HasText a.events.items };
+}
+
+impl ListLog {
+    /// A log with no event, which takes no memory yet.
+    pub fn make(alloc: Global) -> ListLog
+        ensures { result ≡ [] }
+    {
+        ListLog {
+            alloc,
+            events: Vec::new(alloc),
+        }
+    }
+
+    /// The events in order. A text can have each of them.
+    pub fn events(&self) -> &[LogEvent]
+        ensures events { result.now ≡ self.now }
+        ensures texts { AllByRecursion HasText self.now }
+    {
+        &self.events
+    }
+
+    /// Puts an event behind the others.
+    fn push(&mut self, event: LogEvent) -> Result<(), SinkFault>
+        requires { HasText event }
+        ensures told { OnOk result (self.new ≡ self.old ++ event ∷ []) }
+        ensures same { OnErr result (self.new ≡ self.old) }
+        ensures memory { IfErr result (λ e. e ≡ Memory) }
+    {
+        match self.events.push(event) {
+            Ok(()) => Ok(()),
+            Err(_) => Err(SinkFault::Memory),
+        }
+    }
+}
+
+impl LogSink for ListLog {
+    ghost use Rattle.std.specs.Prelude.{Some};
+
+    ghost events = { λ a. Some a };
+
+    ghost faults = { λ _. 0 };
+
+    ghost torn = { λ _ _. ⊥ };
+
+    ghost keeps = { λ _ _. Unit {0} };
+
+    /// Keeps a copy of the step.
+    fn step(&mut self, step: &LogStep) -> Result<(), SinkFault>
+        requires text { HasText (Step step.now) }
+        ensures kept { OnOk result (self.new ≡ self.old ++ Step step.now ∷ []) }
+        ensures unchanged { OnErr result (self.new ≡ self.old) }
+        ensures memory { IfErr result (λ e. e ≡ Memory) }
+    {
+        match copy_step(self.alloc, step) {
+            Ok(copy) => self.push(LogEvent::Step(copy)),
+            Err(_) => Err(SinkFault::Memory),
+        }
+    }
+
+    /// Keeps the mark.
+    fn conflict(&mut self, k: u64) -> Result<(), SinkFault>
+        ensures kept { OnOk result (self.new ≡ self.old ++ Conflict k ∷ []) }
+        ensures unchanged { OnErr result (self.new ≡ self.old) }
+        ensures memory { IfErr result (λ e. e ≡ Memory) }
+    {
+        self.push(LogEvent::Conflict(k))
+    }
+
+    ghost keeps_itself = { λ _. tt };
+
+    ghost keeps_on = { λ _ _ _ _ _. tt };
+}

@@ -1,0 +1,93 @@
+//! A proof that is kept as a list.
+ghost use Rattle.std.specs.Prelude.{◌≡◌, [], ◌∷◌, ◌++◌, OnOk, OnErr, IfErr};
+ghost use Rattle.std.specs.List.{AllByRecursion};
+ghost use Rattle.cx_semantics.specs.Printed.{HasProofText};
+ghost use Rattle.proof_text.specs.declared.sink.SinkFault.TheVariants.{Memory};
+
+use crate::copies::copy_proof_step;
+use crate::sink::{ProofSink, SinkFault};
+use cx_semantics::ProofStep;
+use std::alloc::Global;
+use std::marker::Model;
+
+/// A sink that keeps the list of its steps. It never fails but for want of memory.
+#[derive(Drop)]
+pub struct ListProof {
+    alloc: Global,
+    steps: Vec<ProofStep>,
+}
+
+impl Model for ListProof {
+    ghost use Rattle.std.specs.Prelude.{List};
+    ghost use Rattle.std.specs.List.{AllByRecursion};
+    ghost use Rattle.cx_semantics.specs.declared.steps.ProofStep.{ProofStep};
+    ghost use Rattle.cx_semantics.specs.Printed.{HasProofText};
+
+    ghost Value = { List ProofStep };
+
+    ghost view = { λ a. a.steps.items };
+
+    ghost invariant = { λ a. AllByRecursion HasProofText a.steps.items };
+}
+
+impl ListProof {
+    /// A proof with no step, which takes no memory yet.
+    pub fn make(alloc: Global) -> ListProof
+        ensures { result ≡ [] }
+    {
+        ListProof {
+            alloc,
+            steps: Vec::new(alloc),
+        }
+    }
+
+    /// The steps in order. A text can have each of them.
+    pub fn steps(&self) -> &[ProofStep]
+        ensures steps { result.now ≡ self.now }
+        ensures texts { AllByRecursion HasProofText self.now }
+    {
+        &self.steps
+    }
+
+    /// Puts a step behind the others.
+    fn push(&mut self, step: ProofStep) -> Result<(), SinkFault>
+        requires { HasProofText step }
+        ensures told { OnOk result (self.new ≡ self.old ++ step ∷ []) }
+        ensures same { OnErr result (self.new ≡ self.old) }
+        ensures memory { IfErr result (λ e. e ≡ Memory) }
+    {
+        match self.steps.push(step) {
+            Ok(()) => Ok(()),
+            Err(_) => Err(SinkFault::Memory),
+        }
+    }
+}
+
+impl ProofSink for ListProof {
+    ghost use Rattle.std.specs.Prelude.{Some};
+
+    ghost steps = { λ a. Some a };
+
+    ghost faults = { λ _. 0 };
+
+    ghost torn = { λ _ _. ⊥ };
+
+    ghost keeps = { λ _ _. Unit {0} };
+
+    /// Keeps a copy of the step.
+    fn step(&mut self, step: &ProofStep) -> Result<(), SinkFault>
+        requires text { HasProofText step.now }
+        ensures kept { OnOk result (self.new ≡ self.old ++ step.now ∷ []) }
+        ensures unchanged { OnErr result (self.new ≡ self.old) }
+        ensures memory { IfErr result (λ e. e ≡ Memory) }
+    {
+        match copy_proof_step(self.alloc, step) {
+            Ok(copy) => self.push(copy),
+            Err(_) => Err(SinkFault::Memory),
+        }
+    }
+
+    ghost keeps_itself = { λ _. tt };
+
+    ghost keeps_on = { λ _ _ _ _ _. tt };
+}
