@@ -7,6 +7,7 @@ mod hints;
 mod judge;
 mod literal_set;
 mod live;
+mod named;
 mod parity_clause;
 mod parity_sum;
 mod refusal;
@@ -16,6 +17,7 @@ pub use chain::{LeftOf, left_of};
 pub use judge::{judge_chain, judge_clause_of_parity, judge_parity_of_clauses, judge_sum};
 pub use literal_set::LiteralSet;
 pub use live::Live;
+pub use named::{judge_clause_of_named_parity, judge_named_sum, judge_parity_of_named_clauses};
 pub use refusal::JudgeRefusal;
 
 #[cfg(test)]
