@@ -1,13 +1,14 @@
-// A library with one function.
+//! A log becomes a proof: each step is judged, and what it adds is written with hints.
 #![tactic(auto)]
 
-ghost use Rattle.std.specs.Prelude.{◌≡◌};
-ghost use Rattle.fratx_elab.specs.Echo.{echo_of};
+mod elaborate;
+mod ends;
+mod naming;
+mod originals;
+mod outcome;
+mod state;
+mod take;
 
-// The `ensures` clause is the contract: what `echo` returns is `echo_of` of its argument, a definition
-// in `specs/Echo.antt`, which a caller's clause can cite too.
-pub fn echo(x: usize) -> usize
-    ensures { result ≡ echo_of x }
-{
-    x
-}
+pub use elaborate::elaborate_log;
+pub use ends::{ElabEnds, Joined};
+pub use outcome::{Elab, ElabFault};

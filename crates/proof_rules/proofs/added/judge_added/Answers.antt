@@ -1,6 +1,6 @@
 use Rattle.std.proofs.Common.{refl, sym, ap, ◌∙◌, ℤ, List, Bool, nat_lt, nat_abs, inl, inr}
 use Rattle.std.specs.List.{list_any}
-use Rattle.xlrup_check.proofs.step.judge_added.Goals as goal
+use Rattle.proof_rules.proofs.added.judge_added.Goals as goal
 
 pub returns-then-has_unknown : goal.returns-then-has_unknown
 returns-then-has_unknown c =
