@@ -10,7 +10,7 @@ use std::marker::Model;
 pub const MAX_ID: u64 = 9_223_372_036_854_775_807;
 
 /// An id of the proof, from 1 up to [`MAX_ID`].
-#[derive(Clone, Copy, Drop)]
+#[derive(Clone, Copy, Debug, Drop)]
 pub struct ProofId {
     number: u64,
 }
@@ -24,6 +24,8 @@ impl Model for ProofId {
     ghost view = { λ p. p.number };
 
     ghost invariant = { λ p. (1 ≤ p.number) × (p.number ≤ MAX_ID) };
+
+    ghost inverse = { λ n. record { number = n } };
 }
 
 impl ProofId {

@@ -48,11 +48,14 @@ pub fn clause_number(
 {
     let mut number = 0;
     for place in 0..formula.len() {
-        if let ConstraintRef::Clause(clause) = formula.item(place) {
-            number += 1;
-            if have_same_literals(alloc, lits, clause)? {
-                return Ok(Some(ProofId::new(number)));
+        match formula.item(place) {
+            ConstraintRef::Clause(clause) => {
+                number += 1;
+                if have_same_literals(alloc, lits, clause)? {
+                    return Ok(Some(ProofId::new(number)));
+                }
             }
+            ConstraintRef::Parity(_) => {}
         }
     }
     Ok(None)
@@ -69,11 +72,14 @@ pub fn parity_number(
 {
     let mut number = 0;
     for place in 0..formula.len() {
-        if let ConstraintRef::Parity(parity) = formula.item(place) {
-            number += 1;
-            if have_same_form(alloc, parity, lits)? {
-                return Ok(Some(ProofId::new(number)));
+        match formula.item(place) {
+            ConstraintRef::Parity(parity) => {
+                number += 1;
+                if have_same_form(alloc, parity, lits)? {
+                    return Ok(Some(ProofId::new(number)));
+                }
             }
+            ConstraintRef::Clause(_) => {}
         }
     }
     Ok(None)

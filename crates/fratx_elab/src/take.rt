@@ -7,17 +7,19 @@ ghost use Rattle.cx_semantics.specs.Tables.{named};
 ghost use Rattle.cx_semantics.specs.declared.steps.LogStep.TheVariants as step;
 ghost use Rattle.proof_rules.specs.Judges.{JudgesBy};
 ghost use Rattle.fratx_elab.specs.Names.{hints_for};
-ghost use Rattle.fratx_elab.specs.Takes.{TakesLogStep};
+ghost use Rattle.cx_semantics.specs.declared.steps.ProofStep.TheVariants as proof;
+ghost use Rattle.cx_semantics.specs.Printed.{HasProofText};
+ghost use Rattle.fratx_elab.specs.Takes.{TakesLogStep, Admits, GivesChain, CanBePrinted, CountsOneMore};
 ghost use Rattle.fratx_elab.specs.declared.naming.TheConstants.{MAX_ID};
 
-use crate::naming::{MAX_ID, Names};
-use crate::originals::{Counts, clause_number, parity_number};
+use crate::naming::{Names, ProofId};
+use crate::originals::{clause_number, parity_number};
 use crate::state::State;
 use cx_base::{Formula, IdList, IntList, LitList};
-use cx_semantics::{Cause, LogStep, ProofStep};
+use cx_semantics::{Cause, ProofStep};
 use proof_rules::{
-    JudgeRefusal, Live, judge_added, judge_chain, judge_clause_of_named_parity, judge_named_sum,
-    judge_parity_of_named_clauses, literals_of,
+    JudgeRefusal, Live, ids_of, judge_added, judge_chain, judge_clause_of_named_parity,
+    judge_named_sum, judge_parity_of_named_clauses, literals_of,
 };
 use rup_finder::find;
 use std::alloc::{AllocError, Global};
@@ -42,22 +44,59 @@ fn hints_of(alloc: Global, names: &Names, ids: &[u64]) -> Result<IntList, AllocE
     Ok(IntList::from_vec(hints))
 }
 
-/// A clause of the formula.
-fn take_original(
+/// The literals of what a step adds: its variables are the formula's, and its id is not live.
+fn admit(
+    alloc: Global,
+    formula: &Formula,
+    lits: &IntList,
+    is_live: bool,
+) -> Result<LitList, JudgeRefusal>
+    ensures { Admits formula.now is_live lits.now result }
+{
+    match judge_added(formula.vars(), lits, is_live) {
+        Ok(()) => {}
+        Err(why) => return Err(why),
+    }
+    Ok(literals_of(alloc, formula.vars(), lits)?)
+}
+
+/// Live hints that are a right chain for the clause: those that are given, where they are, or else any.
+fn chain_of(
+    alloc: Global,
+    live: &Live,
+    target: &LitList,
+    given: &[i64],
+) -> Result<IdList, JudgeRefusal>
+    ensures { GivesChain live.now.clauses target.now result }
+{
+    match judge_chain(alloc, live, target, given) {
+        Ok(()) => return Ok(IdList::from_vec(ids_of(alloc, given)?)),
+        Err(JudgeRefusal::Memory) => return Err(JudgeRefusal::Memory),
+        Err(JudgeRefusal::Wrong(_)) => {}
+    }
+    match find(alloc, live, target.as_slice())? {
+        Some(ids) => Ok(ids),
+        None => Err(JudgeRefusal::Wrong(Cause::NoChain)),
+    }
+}
+
+/// A clause of the formula: nothing is written.
+pub fn take_original(
     alloc: Global,
     formula: &Formula,
     state: &mut State,
     id: u64,
     lits: &IntList,
 ) -> Result<Option<ProofStep>, JudgeRefusal>
-    requires { length formula.now.constraints < MAX_ID }
-    ensures { TakesLogStep formula.now state.old (step.Original id lits.now) result state.new }
+    requires few { length formula.now.constraints < MAX_ID }
+    ensures taken { TakesLogStep formula.now state.old (step.Original id lits.now) result state.new }
+    ensures text { IfOk result CanBePrinted }
+    ensures counts { CountsOneMore state.old state.new }
 {
-    match judge_added(formula.vars(), lits, state.live.has_clause(id)) {
-        Ok(()) => {}
+    let target = match admit(alloc, formula, lits, state.live.has_clause(id)) {
+        Ok(target) => target,
         Err(why) => return Err(why),
-    }
-    let target = literals_of(alloc, formula.vars(), lits)?;
+    };
     match clause_number(alloc, formula, target.as_slice())? {
         Some(number) => {
             state.live.add_clause(id, target)?;
@@ -66,4 +105,68 @@ fn take_original(
         }
         None => Err(JudgeRefusal::Wrong(Cause::NotInFormula)),
     }
+}
+
+/// A parity of the formula: nothing is written.
+pub fn take_original_parity(
+    alloc: Global,
+    formula: &Formula,
+    state: &mut State,
+    id: u64,
+    lits: &IntList,
+) -> Result<Option<ProofStep>, JudgeRefusal>
+    requires few { length formula.now.constraints < MAX_ID }
+    ensures taken { TakesLogStep formula.now state.old (step.OriginalParity id lits.now) result state.new }
+    ensures text { IfOk result CanBePrinted }
+    ensures counts { CountsOneMore state.old state.new }
+{
+    let target = match admit(alloc, formula, lits, state.live.has_parity(id)) {
+        Ok(target) => target,
+        Err(why) => return Err(why),
+    };
+    match parity_number(alloc, formula, target.as_slice())? {
+        Some(number) => {
+            state.live.add_parity(id, target)?;
+            state.parities.put_original(id, number)?;
+            Ok(None)
+        }
+        None => Err(JudgeRefusal::Wrong(Cause::NotInFormula)),
+    }
+}
+
+/// A clause by a chain; the given hints are tried first.
+pub fn take_clause(
+    alloc: Global,
+    formula: &Formula,
+    state: &mut State,
+    id: u64,
+    lits: &IntList,
+    given: &[i64],
+) -> Result<Option<ProofStep>, JudgeRefusal>
+    requires room { state.old.clauses.last < MAX_ID }
+    ensures taken { TakesLogStep formula.now state.old (step.Clause id lits.now) result state.new }
+    ensures text { IfOk result CanBePrinted }
+    ensures counts { CountsOneMore state.old state.new }
+{
+    let target = match admit(alloc, formula, lits, state.live.has_clause(id)) {
+        Ok(target) => target,
+        Err(why) => return Err(why),
+    };
+    let ids = match chain_of(alloc, &state.live, &target, given) {
+        Ok(ids) => ids,
+        Err(why) => return Err(why),
+    };
+    let hints = hints_of(alloc, &state.clauses, ids.as_slice())?;
+    let copy = copy(alloc, lits)?;
+    state.live.add_clause(id, target)?;
+    let next = state.clauses.put_next(id)?;
+    Ok(Some(clause_step(next, copy, hints)))
+}
+
+/// The step that adds a clause.
+fn clause_step(id: ProofId, lits: IntList, hints: IntList) -> ProofStep
+    ensures step { result ≡ proof.Clause id lits hints }
+    ensures text { HasProofText result }
+{
+    ProofStep::Clause(id.number(), lits, hints)
 }

@@ -48,7 +48,7 @@ pub(crate) fn judge_hints(live: &Live, kind: Kind, hints: &[i64]) -> Result<(), 
 }
 
 /// The ids that hints name.
-pub(crate) fn ids_of(alloc: Global, hints: &[i64]) -> Result<Vec<u64>, AllocError>
+pub fn ids_of(alloc: Global, hints: &[i64]) -> Result<Vec<u64>, AllocError>
     ensures { IfOk result (λ ids. ids.items ≡ sizes hints.now) }
 {
     let mut ids = Vec::with_capacity(alloc, hints.len())?;

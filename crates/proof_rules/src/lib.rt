@@ -17,6 +17,7 @@ mod sum;
 
 pub use added::{judge_added, literals_of};
 pub use chain::{LeftOf, left_of};
+pub use hints::ids_of;
 pub use judge::{judge_chain, judge_clause_of_parity, judge_parity_of_clauses, judge_sum};
 pub use literal_set::LiteralSet;
 pub use live::Live;

@@ -1,0 +1,4 @@
+mod TieLaws
+mod Transfers
+mod NameEntries
+mod Numbers
