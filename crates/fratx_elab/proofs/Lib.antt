@@ -2,3 +2,4 @@ mod TieLaws
 mod Transfers
 mod NameEntries
 mod Numbers
+mod Taking

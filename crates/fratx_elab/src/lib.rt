@@ -6,6 +6,7 @@ mod naming;
 mod originals;
 mod outcome;
 mod state;
+mod steps;
 mod take;
 
 pub use ends::{ElabEnds, Joined};

@@ -1,5 +1,5 @@
 //! One step of a log: judged, done, and what the proof gains by it.
-ghost use Rattle.std.specs.Prelude.{◌≡◌, ◌≤◌, ◌<◌, ◌+◌, pos, length, IfOk, MatchOption};
+ghost use Rattle.std.specs.Prelude.{◌≡◌, ◌≤◌, ◌<◌, ◌+◌, pos, length, IfOk, OnOk};
 ghost use Rattle.cx_base.specs.Problem.{Problem};
 ghost use Rattle.cx_semantics.specs.Chain.{IsChain};
 ghost use Rattle.cx_semantics.specs.LogRules.{AreLive, HasChain, chained, derives_empty_clause};
@@ -7,19 +7,18 @@ ghost use Rattle.cx_semantics.specs.Tables.{named};
 ghost use Rattle.cx_semantics.specs.declared.steps.LogStep.TheVariants as step;
 ghost use Rattle.proof_rules.specs.Judges.{JudgesBy};
 ghost use Rattle.fratx_elab.specs.Names.{hints_for};
-ghost use Rattle.cx_semantics.specs.declared.steps.ProofStep.TheVariants as proof;
-ghost use Rattle.cx_semantics.specs.Printed.{HasProofText};
 ghost use Rattle.fratx_elab.specs.Takes.{TakesLogStep, Admits, GivesChain, CanBePrinted, CountsOneMore};
 ghost use Rattle.fratx_elab.specs.declared.naming.TheConstants.{MAX_ID};
 
-use crate::naming::{Names, ProofId};
+use crate::naming::Names;
 use crate::originals::{clause_number, parity_number};
 use crate::state::State;
+use crate::steps::{clause_step, parity_of_clauses_step, parity_step};
 use cx_base::{Formula, IdList, IntList, LitList};
 use cx_semantics::{Cause, ProofStep};
 use proof_rules::{
-    JudgeRefusal, Live, ids_of, judge_added, judge_chain, judge_clause_of_named_parity,
-    judge_named_sum, judge_parity_of_named_clauses, literals_of,
+    JudgeRefusal, Live, ids_of, judge_added, judge_chain, judge_named_sum,
+    judge_parity_of_named_clauses, literals_of,
 };
 use rup_finder::find;
 use std::alloc::{AllocError, Global};
@@ -91,7 +90,7 @@ pub fn take_original(
     requires few { length formula.now.constraints < MAX_ID }
     ensures taken { TakesLogStep formula.now state.old (step.Original id lits.now) result state.new }
     ensures text { IfOk result CanBePrinted }
-    ensures counts { CountsOneMore state.old state.new }
+    ensures counts { OnOk result (CountsOneMore state.old state.new) }
 {
     let target = match admit(alloc, formula, lits, state.live.has_clause(id)) {
         Ok(target) => target,
@@ -118,7 +117,7 @@ pub fn take_original_parity(
     requires few { length formula.now.constraints < MAX_ID }
     ensures taken { TakesLogStep formula.now state.old (step.OriginalParity id lits.now) result state.new }
     ensures text { IfOk result CanBePrinted }
-    ensures counts { CountsOneMore state.old state.new }
+    ensures counts { OnOk result (CountsOneMore state.old state.new) }
 {
     let target = match admit(alloc, formula, lits, state.live.has_parity(id)) {
         Ok(target) => target,
@@ -146,7 +145,7 @@ pub fn take_clause(
     requires room { state.old.clauses.last < MAX_ID }
     ensures taken { TakesLogStep formula.now state.old (step.Clause id lits.now) result state.new }
     ensures text { IfOk result CanBePrinted }
-    ensures counts { CountsOneMore state.old state.new }
+    ensures counts { OnOk result (CountsOneMore state.old state.new) }
 {
     let target = match admit(alloc, formula, lits, state.live.has_clause(id)) {
         Ok(target) => target,
@@ -163,10 +162,60 @@ pub fn take_clause(
     Ok(Some(clause_step(next, copy, hints)))
 }
 
-/// The step that adds a clause.
-fn clause_step(id: ProofId, lits: IntList, hints: IntList) -> ProofStep
-    ensures step { result ≡ proof.Clause id lits hints }
-    ensures text { HasProofText result }
+/// A parity as the sum of parities that the log names.
+pub fn take_parity(
+    alloc: Global,
+    formula: &Formula,
+    state: &mut State,
+    id: u64,
+    lits: &IntList,
+    sources: &IdList,
+) -> Result<Option<ProofStep>, JudgeRefusal>
+    requires room { state.old.parities.last < MAX_ID }
+    ensures taken { TakesLogStep formula.now state.old (step.Parity id lits.now sources.now) result state.new }
+    ensures text { IfOk result CanBePrinted }
+    ensures counts { OnOk result (CountsOneMore state.old state.new) }
 {
-    ProofStep::Clause(id.number(), lits, hints)
+    let target = match admit(alloc, formula, lits, state.live.has_parity(id)) {
+        Ok(target) => target,
+        Err(why) => return Err(why),
+    };
+    match judge_named_sum(alloc, &state.live, &target, sources.as_slice()) {
+        Ok(()) => {}
+        Err(why) => return Err(why),
+    }
+    let hints = hints_of(alloc, &state.parities, sources.as_slice())?;
+    let copy = copy(alloc, lits)?;
+    state.live.add_parity(id, target)?;
+    let next = state.parities.put_next(id)?;
+    Ok(Some(parity_step(next, copy, hints)))
+}
+
+/// A parity that clauses imply, which the log names.
+pub fn take_parity_of_clauses(
+    alloc: Global,
+    formula: &Formula,
+    state: &mut State,
+    id: u64,
+    lits: &IntList,
+    sources: &IdList,
+) -> Result<Option<ProofStep>, JudgeRefusal>
+    requires room { state.old.parities.last < MAX_ID }
+    ensures taken { TakesLogStep formula.now state.old (step.ParityOfClauses id lits.now sources.now) result state.new }
+    ensures text { IfOk result CanBePrinted }
+    ensures counts { OnOk result (CountsOneMore state.old state.new) }
+{
+    let target = match admit(alloc, formula, lits, state.live.has_parity(id)) {
+        Ok(target) => target,
+        Err(why) => return Err(why),
+    };
+    match judge_parity_of_named_clauses(alloc, &state.live, &target, sources.as_slice()) {
+        Ok(()) => {}
+        Err(why) => return Err(why),
+    }
+    let hints = hints_of(alloc, &state.clauses, sources.as_slice())?;
+    let copy = copy(alloc, lits)?;
+    state.live.add_parity(id, target)?;
+    let next = state.parities.put_next(id)?;
+    Ok(Some(parity_of_clauses_step(next, copy, hints)))
 }
