@@ -3,3 +3,4 @@ mod Transfers
 mod NameEntries
 mod Numbers
 mod Taking
+mod Texts

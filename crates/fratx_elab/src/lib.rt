@@ -1,6 +1,7 @@
 //! A log becomes a proof: each step is judged, and what it adds is written with hints.
 #![tactic(auto)]
 
+mod delete;
 mod ends;
 mod naming;
 mod originals;

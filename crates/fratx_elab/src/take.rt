@@ -13,12 +13,12 @@ ghost use Rattle.fratx_elab.specs.declared.naming.TheConstants.{MAX_ID};
 use crate::naming::Names;
 use crate::originals::{clause_number, parity_number};
 use crate::state::State;
-use crate::steps::{clause_step, parity_of_clauses_step, parity_step};
+use crate::steps::{clause_of_parity_step, clause_step, parity_of_clauses_step, parity_step};
 use cx_base::{Formula, IdList, IntList, LitList};
 use cx_semantics::{Cause, ProofStep};
 use proof_rules::{
-    JudgeRefusal, Live, ids_of, judge_added, judge_chain, judge_named_sum,
-    judge_parity_of_named_clauses, literals_of,
+    JudgeRefusal, Live, ids_of, judge_added, judge_chain, judge_clause_of_named_parity,
+    judge_named_sum, judge_parity_of_named_clauses, literals_of,
 };
 use rup_finder::find;
 use std::alloc::{AllocError, Global};
@@ -218,4 +218,37 @@ pub fn take_parity_of_clauses(
     state.live.add_parity(id, target)?;
     let next = state.parities.put_next(id)?;
     Ok(Some(parity_of_clauses_step(next, copy, hints)))
+}
+
+/// A clause that a parity implies, which the log names.
+pub fn take_clause_of_parity(
+    alloc: Global,
+    formula: &Formula,
+    state: &mut State,
+    id: u64,
+    lits: &IntList,
+    source: u64,
+) -> Result<Option<ProofStep>, JudgeRefusal>
+    requires room { state.old.clauses.last < MAX_ID }
+    ensures taken { TakesLogStep formula.now state.old (step.ClauseOfParity id lits.now source) result state.new }
+    ensures text { IfOk result CanBePrinted }
+    ensures counts { OnOk result (CountsOneMore state.old state.new) }
+{
+    let target = match admit(alloc, formula, lits, state.live.has_clause(id)) {
+        Ok(target) => target,
+        Err(why) => return Err(why),
+    };
+    match judge_clause_of_named_parity(alloc, &state.live, &target, source) {
+        Ok(()) => {}
+        Err(why) => return Err(why),
+    }
+    let named = match state.parities.get(source) {
+        Some(named) => named,
+        // Nothing that is live in the log is without a name in the proof.
+        None => return Err(JudgeRefusal::Memory),
+    };
+    let copy = copy(alloc, lits)?;
+    state.live.add_clause(id, target)?;
+    let next = state.clauses.put_next(id)?;
+    Ok(Some(clause_of_parity_step(next, copy, named)))
 }
