@@ -1,5 +1,5 @@
 -- Each kind of step: judged in the log, it is right in the proof, and the tables stay tied.
-use Rattle.std.proofs.Common.{◌≡◌, refl, sym, ap, ◌∙◌, subst, ℕ, ◌+◌, ◌<◌, ◌≤◌, ℤ, pos, nat_abs, Bool, true, false, not, ◌||◌, cond, nat_lt, List, [], ◌∷◌, ◌++◌, length, Option, Some, None, Ok, Err, arith}
+use Rattle.std.proofs.Common.{◌≡◌, refl, sym, ap, ◌∙◌, subst, ℕ, ◌+◌, ◌<◌, ◌≤◌, ℤ, pos, nat_abs, Bool, true, false, not, ◌||◌, cond, nat_lt, List, [], ◌∷◌, ◌++◌, length, Option, Some, None, Result, Ok, Err, arith}
 use Rattle.std.specs.List.{list_any}
 use Rattle.cx_base.specs.Literals.{Literal}
 use Rattle.cx_base.specs.Parity.{normal_form}
@@ -16,6 +16,7 @@ use Rattle.cx_semantics.specs.declared.steps.ProofStep.{ProofStep}
 use Rattle.cx_semantics.specs.declared.steps.ProofStep.TheVariants as proof
 use Rattle.cx_semantics.proofs.SameSets.{Same-by_test}
 use Rattle.proof_rules.specs.LiteralSets.{HaveSame}
+use Rattle.proof_rules.specs.declared.refusal.JudgeRefusal.{JudgeRefusal}
 use Rattle.proof_rules.proofs.ChainSteps.{right_holds}
 use Rattle.fratx_elab.specs.Names.{Naming, Names, stands_for, hints_for, name_original, name_next, drop_name}
 use Rattle.fratx_elab.specs.Elaborates.{IsClauseNumber, IsParityNumber, number_of_clauses, number_of_parities, deleted_id, clause_deletion, parity_deletion}
@@ -283,3 +284,10 @@ module _ (formula : Problem) (old new : State) where
           ),
         ),
   )
+
+-- the hints of a log have no meaning
+pub taken_with_hints : (formula : Problem) (old new : State) (n : ℕ) (lits hints : List ℤ) (r : Result (Option ProofStep) JudgeRefusal)
+    → TakesLogStep formula old (log.Clause n lits) r new → TakesLogStep formula old (log.ClauseWithHints n lits hints) r new
+taken_with_hints formula old new n lits hints (Ok None) h = h
+taken_with_hints formula old new n lits hints (Ok (Some s)) h = h
+taken_with_hints formula old new n lits hints (Err why) h = h

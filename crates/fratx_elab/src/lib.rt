@@ -2,8 +2,10 @@
 #![tactic(auto)]
 
 mod delete;
+mod elaborate;
 mod ends;
 mod naming;
+mod one_step;
 mod originals;
 mod outcome;
 mod state;
