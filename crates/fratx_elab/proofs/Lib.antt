@@ -4,3 +4,4 @@ mod NameEntries
 mod Numbers
 mod Taking
 mod Texts
+mod Turns

@@ -12,6 +12,10 @@ use Rattle.cx_semantics.specs.Tables.{Tables, first_tables, no_tables}
 use Rattle.proof_text.specs.Sources.{Rose}
 use Rattle.proof_text.specs.declared.source.TextRefusal.{TextRefusal}
 use Rattle.proof_text.specs.declared.source.TextRefusal.TheVariants as text
+use Rattle.proof_text.specs.declared.sink.SinkFault.{SinkFault}
+use Rattle.proof_text.specs.declared.sink.SinkFault.TheVariants as sink
+use Rattle.proof_rules.specs.declared.refusal.JudgeRefusal.{JudgeRefusal}
+use Rattle.proof_rules.specs.declared.refusal.JudgeRefusal.TheVariants as refusal
 use Rattle.fratx_elab.specs.Names.{Names, first_names}
 use Rattle.fratx_elab.specs.Elaborates.{Elaborates, IsProofOf}
 use Rattle.fratx_elab.specs.Ties.{AreTied}
@@ -87,3 +91,15 @@ text_refused (text.TooBig place) k = Ok (Some (Refused k (causes.TextRefused pla
 text_refused text.TooLong k = Err TooLong
 text_refused text.Memory k = Err Memory
 text_refused text.Failed k = Err Read
+
+-- what stands where a step is not right
+abbrev pub step_refused : JudgeRefusal → ℕ → Result (Option Elab) ElabFault
+step_refused (refusal.Wrong cause) k = Ok (Some (Refused k cause))
+step_refused refusal.Memory k = Err Memory
+
+-- what follows a right step that was written down: it ends the log or does not
+abbrev pub what_follows_of : {T : Type 0} → Result T SinkFault → Bool → ℕ → Result (Option Elab) ElabFault
+what_follows_of (Ok done) true k = Ok (Some (Done k))
+what_follows_of (Ok done) false k = Ok None
+what_follows_of (Err sink.Memory) ends k = Err Memory
+what_follows_of (Err sink.Failed) ends k = Err Write

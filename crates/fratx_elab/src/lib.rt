@@ -2,7 +2,6 @@
 #![tactic(auto)]
 
 mod delete;
-mod elaborate;
 mod ends;
 mod naming;
 mod one_step;
@@ -11,6 +10,8 @@ mod outcome;
 mod state;
 mod steps;
 mod take;
+mod walk;
 
 pub use ends::{ElabEnds, Joined};
 pub use outcome::{Elab, ElabFault};
+pub use walk::elaborate;
