@@ -1,6 +1,6 @@
 -- One turn of the elaborator: from what is known before a step to what is known behind it, or to the answer.
 use Rattle.std.proofs.Common.{◌≡◌, refl, sym, ap, ◌∙◌, subst, ℕ, zero, suc, ◌+◌, ◌-◌, Bool, true, false, List, [], ◌∷◌, ◌++◌, length, length-append, take, append-nil, append_assoc, option_map, Option, Some, None, Result, Ok, Err, inl, inr, arith, true≢false}
-use Rattle.cx_base.specs.Problem.{Problem}
+use Rattle.cx_base.specs.Problem.{Problem, clauses_of, parities_of}
 use Rattle.cx_semantics.specs.declared.steps.LogStep.{LogStep}
 use Rattle.cx_semantics.specs.declared.steps.ProofStep.{ProofStep}
 use Rattle.cx_semantics.specs.declared.steps.Cause.{Cause}
@@ -19,9 +19,11 @@ use Rattle.proof_text.specs.declared.sink.SinkFault.{SinkFault}
 use Rattle.proof_text.specs.declared.sink.SinkFault.TheVariants as sink
 use Rattle.proof_rules.specs.declared.refusal.JudgeRefusal.{JudgeRefusal}
 use Rattle.proof_rules.specs.declared.refusal.JudgeRefusal.TheVariants as refusal
-use Rattle.fratx_elab.specs.Names.{Names, first_names}
-use Rattle.fratx_elab.specs.Elaborates.{Writes, Elaborates, IsProofOf}
-use Rattle.fratx_elab.specs.Ties.{AreTied}
+use Rattle.proof_rules.specs.LiteralSets.{HaveSame}
+use Rattle.fratx_elab.specs.Names.{Names, first_naming, first_names}
+use Rattle.fratx_elab.specs.Elaborates.{Writes, Elaborates, IsProofOf, number_of_clauses, number_of_parities}
+use Rattle.fratx_elab.specs.Ties.{AreTied, HaveSameForm}
+use Rattle.fratx_elab.proofs.TieLaws.{tied_first}
 use Rattle.fratx_elab.specs.Takes.{TakesLogStep, KeepsTie, listed, names_of}
 use Rattle.fratx_elab.specs.Writing.{WritesDown}
 use Rattle.fratx_elab.specs.Outcomes.{Gained, IsWritten, IsElaborated, IsCutOff, Kept, Goes, Turns, text_refused, step_refused, what_follows_of}
@@ -155,7 +157,7 @@ module _ {X : Type 0} (leaves : X → List LogStep → Ending → Type 0) (told 
             tables = on.0;
             log_runs = subst (λ (u : Tables). Runs (log_calculus formula) no_tables (kept.before ++ step ∷ []) u) (sym taken.1) (runs_push (log_calculus formula) no_tables kept.before step state.live kept.log_runs taken.0 e);
             proof_runs = on.1;
-            elaborated = both_steps.1;
+            elaborated = elaborates_push formula (first_names formula) kept.before kept.written (names_of state) step (listed written) (names_of after) kept.elaborated part.0;
             tied = on.2;
             number = omega (arith, kept.number, length-append kept.before (step ∷ []));
             left = λ steps ending h. subst (λ (ss : List LogStep). leaves first ss ending) (sym (append_assoc kept.before (step ∷ []) steps)) (kept.left (step ∷ steps) ending (follows steps ending h));
@@ -186,3 +188,28 @@ module _ {X : Type 0} (leaves : X → List LogStep → Ending → Type 0) (told 
           again None h = h
       write_turns (Err sink.Memory) w ends e = no_memory written w
       write_turns (Err sink.Failed) w ends e = torn_here written w part.1
+
+-- nothing was taken yet
+pub kept_first : {X : Type 0} (leaves : X → List LogStep → Ending → Type 0) (told : X → Option (List ProofStep)) (torn : X → ProofStep → Type 0) (formula : Problem) (first : X) (state : State)
+    → state.live ≡ no_tables → state.clauses ≡ first_naming (number_of_clauses formula) → state.parities ≡ first_naming (number_of_parities formula)
+    → Kept leaves told torn formula first first state 0
+kept_first leaves told torn formula first state e f g =
+    let names : names_of state ≡ first_names formula = λ i. record { clauses = f i; parities = g i } in
+    record {
+      before = [];
+      written = [];
+      tables = first_tables formula;
+      log_runs = e;
+      proof_runs = refl;
+      elaborated = (refl, names);
+      tied = subst (λ (m : Names). AreTied formula state.live (first_tables formula) m) (sym names) (record {
+        clauses = tied_first HaveSame (clauses_of formula.constraints) state.live.clauses (ap (λ (t : Tables). t.clauses) e);
+        parities = tied_first HaveSameForm (parities_of formula.constraints) state.live.parities (ap (λ (t : Tables). t.parities) e);
+      });
+      number = refl;
+      left = λ steps ending h. h;
+      told_all = λ start h. h ∙ ap Some (sym (append-nil start));
+    }
+
+pub nothing_gained : (formula : Problem) (told : Option (List ProofStep)) → Gained told told (IsOpen (proof_calculus formula))
+nothing_gained formula told start e = ([], e ∙ ap Some (sym (append-nil start)), (first_tables formula, refl))
