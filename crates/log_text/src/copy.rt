@@ -40,6 +40,9 @@ pub fn copy_step(alloc: Global, step: &LogStep) -> Result<LogStep, AllocError>
             Ok(LogStep::DeleteParity(*id, copy_integers(alloc, lits)?))
         }
         LogStep::Final(id, lits) => Ok(LogStep::Final(*id, copy_integers(alloc, lits)?)),
-        LogStep::FinalParity(id, lits) => Ok(LogStep::FinalParity(*id, copy_integers(alloc, lits)?)),
+        LogStep::FinalParity(id, lits) => Ok(LogStep::FinalParity(
+            *id,
+            copy_integers(alloc, lits)?,
+        )),
     }
 }

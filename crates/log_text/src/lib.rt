@@ -3,11 +3,20 @@
 
 mod copy;
 mod list_log;
+mod log_text;
 mod no_log;
+mod plain;
+mod print;
 mod sink;
+mod steps;
 
 pub use cx_semantics::{LogEvent, LogStep};
 pub use list_log::ListLog;
+pub use log_text::LogText;
 pub use no_log::NoLog;
-pub use proof_text::SinkFault;
+pub use print::{put_log, put_log_step};
+pub use proof_text::{SinkFault, StepSource, TextRefusal};
 pub use sink::LogSink;
+
+#[cfg(test)]
+mod tests;

@@ -3,17 +3,17 @@ use Rattle.std.proofs.Common.{◌≡◌, sym, subst, ℤ, List, [], ◌∷◌, m
 use Rattle.std.specs.List.{AllByRecursion}
 use Rattle.cx_base.specs.Numbers.{AreStepIntegers}
 use Rattle.cx_semantics.specs.Words.{number, Placed, words, IsWithin}
-use Rattle.cx_semantics.specs.Grammar.{integer, spelled, IsProper, AreWithin}
-use Rattle.cx_semantics.specs.ProofText.{proof_steps}
-use Rattle.proof_text.specs.Taking.{Takes}
+use Rattle.cx_semantics.specs.Grammar.{integer, spelled, IsProper}
+use Rattle.proof_text.specs.Seen.{limit}
+use Rattle.proof_text.specs.Taking.{AreSmall, Takes}
 
-proper : (zs : List ℤ) (front : List Placed) → AllByRecursion IsProper (map integer zs) → flat_map spelled (map integer zs) ≡ words front → AreWithin proof_steps front → AreStepIntegers zs
+proper : (zs : List ℤ) (front : List Placed) → AllByRecursion IsProper (map integer zs) → flat_map spelled (map integer zs) ≡ words front → AreSmall front → AreStepIntegers zs
 proper [] front a e w = tt
 proper (z ∷ zs) [] a e w = cc
 proper (z ∷ zs) (p ∷ front) a e w =
     let head : number z ≡ p.word = cc in
     let tail : flat_map spelled (map integer zs) ≡ words front = cc in
-    ((a.0, subst (IsWithin proof_steps.limit) (sym head) w.0), proper zs front a.1 tail w.1)
+    ((a.0, subst (IsWithin limit) (sym head) w.0), proper zs front a.1 tail w.1)
 
 pub step_integers : (zs : List ℤ) (placed rest : List Placed) → Takes (map integer zs) placed rest → AreStepIntegers zs
 step_integers zs placed rest t = proper zs t.front t.proper t.spells t.within

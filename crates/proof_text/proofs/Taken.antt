@@ -5,14 +5,13 @@ use Rattle.std.proofs.lemmas.Int.{to_z-of_z}
 use mir.Val.{SFits}
 use Rattle.cx_semantics.specs.Tokens.{Token}
 use Rattle.cx_semantics.specs.Words.{Word, number, letter, conflict, other, Placed, words, placed_words, word_of, IsWithin}
-use Rattle.cx_semantics.specs.Grammar.{Field, id, integer, end, integers, spelled, spelled_list, IsProper, AreWithin}
-use Rattle.cx_semantics.specs.ProofText.{proof_steps}
+use Rattle.cx_semantics.specs.Grammar.{Field, id, integer, end, integers, spelled, spelled_list, IsProper}
 use Rattle.proof_text.specs.declared.ahead.SeenWord.{SeenWord}
 use Rattle.proof_text.specs.declared.token_word.TokenWord.{TokenWord}
 use Rattle.proof_text.specs.declared.token_word.TokenWord.TheVariants.{Zero, Positive, Negative, BigPositive, BigNegative}
 use Rattle.proof_text.specs.Seen.{limit, seen}
 use Rattle.proof_text.specs.Heads.{seen_head}
-use Rattle.proof_text.specs.Taking.{Takes}
+use Rattle.proof_text.specs.Taking.{AreSmall, Takes}
 
 -- the words that are seen as a word are spelled by the field
 abbrev pub Fills : TokenWord → Field → Type 0
@@ -104,7 +103,7 @@ zero_fills (letter c) h = cc
 zero_fills (conflict k) h = cc
 zero_fills other h = cc
 
-within_one : (z : ℤ) (front : List Placed) → number z ∷ [] ≡ words front → AreWithin proof_steps front → nat_abs z ≤ limit
+within_one : (z : ℤ) (front : List Placed) → number z ∷ [] ≡ words front → AreSmall front → nat_abs z ≤ limit
 within_one z [] e h = cc
 within_one z (p ∷ front) e h = let k : p.word ≡ number z = cc in subst (IsWithin limit) k h.0
 
@@ -112,7 +111,7 @@ within_one z (p ∷ front) e h = let k : p.word ≡ number z = cc in subst (IsWi
 pub kept_integer : (z : ℤ) (a b : List Placed) → Takes (integer z ∷ []) a b → Takes (integer (to_z w64 (of_z w64 z)) ∷ []) a b
 kept_integer z a b t = subst (λ y. Takes (integer y ∷ []) a b) (sym (read_back z z refl (within_one z t.front t.spells t.within))) t
 
-within_words : (placed : List Placed) (ws : List Word) → ws ≡ words placed → AreWithin proof_steps placed → AllByRecursion (IsWithin limit) ws
+within_words : (placed : List Placed) (ws : List Word) → ws ≡ words placed → AreSmall placed → AllByRecursion (IsWithin limit) ws
 within_words [] [] e h = tt
 within_words [] (w ∷ ws) e h = cc
 within_words (p ∷ placed) [] e h = cc

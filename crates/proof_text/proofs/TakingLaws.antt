@@ -4,13 +4,12 @@ use Rattle.std.specs.List.{AllByRecursion}
 use Rattle.std.proofs.lemmas.List.{map-append}
 use Rattle.std.proofs.lemmas.Grind.{flat_map-append}
 use Rattle.cx_semantics.specs.Words.{Word, number, Placed, words}
-use Rattle.cx_semantics.specs.Grammar.{Field, mark, conflict_line, id, integer, end, ids, integers, spelled, spelled_list, IsProper, AreWithin}
-use Rattle.cx_semantics.specs.ProofText.{proof_steps}
+use Rattle.cx_semantics.specs.Grammar.{Field, mark, conflict_line, id, integer, end, ids, integers, spelled, spelled_list, IsProper}
 use Rattle.cx_semantics.proofs.Shapes.{Kind, a_mark, some_ids, some_integers, kind, Move, closes, stays, refuses, move}
 use Rattle.cx_semantics.proofs.Remaining.{behind, after_word, remaining}
 use Rattle.proof_text.specs.declared.source.TextRefusal.{TextRefusal}
 use Rattle.proof_text.specs.declared.source.TextRefusal.TheVariants.{BadToken, Unterminated, TooBig, TooLong, Memory, Failed}
-use Rattle.proof_text.specs.Taking.{Takes, IsFit, HeadFails, IsOpen, RefusedIn}
+use Rattle.proof_text.specs.Taking.{AreSmall, Takes, IsFit, HeadFails, IsOpen, RefusedIn}
 
 all_append : {X : Type 0} (P : X → Type 0) (xs ys : List X) → AllByRecursion P xs → AllByRecursion P ys → AllByRecursion P (xs ++ ys)
 all_append P [] ys h k = k
@@ -88,7 +87,7 @@ remaining-words : (rows : List (List Kind)) (a b : List Placed) (next : List (Li
 remaining-words rows a b next e = ap (remaining rows) (words-append a b) ∙ remaining-more rows (words a) (words b) ∙ ap (λ r. remaining r (words b)) e
 
 -- behind words that fit, what is refused there is refused
-pub refused_behind : (rows next : List (List Kind)) (size : ℕ) (r : TextRefusal) (front a b : List Placed) → a ≡ front ++ b → AreWithin proof_steps front → remaining rows (words front) ≡ next
+pub refused_behind : (rows next : List (List Kind)) (size : ℕ) (r : TextRefusal) (front a b : List Placed) → a ≡ front ++ b → AreSmall front → remaining rows (words front) ≡ next
     → RefusedIn next size r b → RefusedIn rows size r a
 refused_behind rows next size (BadToken place) front a b e w k h =
     let m = remaining-words rows front h.front next k in
@@ -117,7 +116,7 @@ refused_behind rows next size (TooBig place) front a b e w k h =
 refused_behind rows next size (Unterminated place) front a b e w k h = (
   h.0,
   subst IsOpen (sym (ap (λ x. remaining rows (words x)) e ∙ remaining-words rows front b next k)) h.1,
-  subst (AreWithin proof_steps) (sym e) (all_append _ front b w h.2),
+  subst (AreSmall) (sym e) (all_append _ front b w h.2),
 )
 refused_behind rows next size TooLong front a b e w k h = absurd h
 refused_behind rows next size Memory front a b e w k h = tt
@@ -168,7 +167,7 @@ head_refused k ks more size (TooBig place) a others (p, rest, split, at, fits, a
   fits = some_behind k ks (move k p.word) (flat_map (after_word p.word) more) fits;
   above = above;
 }
-head_refused k ks more size (Unterminated place) a others h = (h.1, subst (λ x. IsOpen (remaining ((k ∷ ks) ∷ more) (words x))) (sym h.0) tt, subst (AreWithin proof_steps) (sym h.0) tt)
+head_refused k ks more size (Unterminated place) a others h = (h.1, subst (λ x. IsOpen (remaining ((k ∷ ks) ∷ more) (words x))) (sym h.0) tt, subst (AreSmall) (sym h.0) tt)
 head_refused k ks more size TooLong a others h = absurd h
 head_refused k ks more size Memory a others h = absurd h
 head_refused k ks more size Failed a others h = absurd h
@@ -214,7 +213,7 @@ passed (integers (pos zero ∷ zs)) ks ws h = absurd (h.0 refl)
 passed (integers (pos (suc n) ∷ zs)) ks ws h = passed (integers zs) ks ws h.1
 passed (integers (negsuc n ∷ zs)) ks ws h = passed (integers zs) ks ws h.1
 
-all_passed : (fs : List Field) (ks : List Kind) → AllByRecursion IsProper fs → remaining ((map kind fs ++ ks) ∷ []) (flat_map spelled fs) ≡ ks ∷ []
+pub all_passed : (fs : List Field) (ks : List Kind) → AllByRecursion IsProper fs → remaining ((map kind fs ++ ks) ∷ []) (flat_map spelled fs) ≡ ks ∷ []
 all_passed [] ks h = refl
 all_passed (f ∷ fs) ks h = passed f (map kind fs ++ ks) (flat_map spelled fs) h.0 ∙ all_passed fs ks h.1
 

@@ -2,9 +2,10 @@
 use Rattle.std.specs.Prelude.{refl, ℕ, List, [], Option, Some, None}
 use Rattle.cx_semantics.specs.Tokens.{Token}
 use Rattle.cx_semantics.specs.Words.{placed_words}
-use Rattle.cx_semantics.specs.Grammar.{Ending, finished, bad_token, too_big, unterminated}
+use Rattle.cx_semantics.specs.Grammar.{Grammar, Ending, finished, bad_token, too_big, unterminated}
 use Rattle.cx_semantics.specs.ProofText.{proof_steps}
 use Rattle.cx_semantics.specs.declared.steps.ProofStep.{ProofStep}
+use Rattle.cx_semantics.proofs.Forms.{Forms}
 use Rattle.cx_semantics.proofs.Grammars.{proof_forms}
 use Rattle.cx_semantics.proofs.Readings.{reading_of}
 use Rattle.proof_text.specs.Texts.{TextState, IsEnding, LeftOf, Leaves}
@@ -19,9 +20,10 @@ some_ending TooLong = (finished, tt)
 some_ending Memory = (finished, tt)
 some_ending Failed = (finished, tt)
 
-some_left : (tokens : List Token) (size : ℕ) (refused : Option TextRefusal) → (steps : List ProofStep) × (ending : Ending) × LeftOf proof_steps tokens size refused steps ending
-some_left tokens size None = reading_of proof_steps proof_forms size (placed_words tokens)
-some_left tokens size (Some refusal) = let e = some_ending refusal in ([], e.0, (refl, e.1))
+-- whatever the grammar is, if it is given by forms
+pub text_is_left : {S : Type 0} (g : Grammar S) (all : Forms g) (tokens : List Token) (size : ℕ) (refused : Option TextRefusal) → (steps : List S) × (ending : Ending) × LeftOf g tokens size refused steps ending
+text_is_left g all tokens size None = reading_of g all size (placed_words tokens)
+text_is_left g all tokens size (Some refusal) = let e = some_ending refusal in ([], e.0, (refl, e.1))
 
 pub proof_is_left : (s : TextState) → (steps : List ProofStep) × (ending : Ending) × Leaves proof_steps s steps ending
-proof_is_left s = some_left s.tokens s.size s.refused
+proof_is_left s = text_is_left proof_steps proof_forms s.tokens s.size s.refused

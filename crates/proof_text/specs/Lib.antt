@@ -8,3 +8,5 @@ pub mod Sources
 pub mod Sinks
 pub mod Texts
 pub mod Left
+pub mod Told
+pub mod ToldSteps

@@ -3,7 +3,7 @@ use Rattle.std.specs.Prelude.{◌≡◌, ℕ, List, [], ◌∷◌, ◌++◌, fla
 use Rattle.std.specs.List.{AllByRecursion}
 use Rattle.cx_semantics.specs.declared.steps.ProofStep.{ProofStep}
 use Rattle.cx_semantics.specs.Words.{Placed, words, IsWithin}
-use Rattle.cx_semantics.specs.Grammar.{Field, end, spelled, IsProper, AreWithin}
+use Rattle.cx_semantics.specs.Grammar.{Field, end, spelled, IsProper}
 use Rattle.cx_semantics.specs.ProofText.{proof_steps, proof_fields}
 use Rattle.cx_semantics.proofs.Shapes.{Kind, Move, closes, stays, refuses, move}
 use Rattle.cx_semantics.proofs.Remaining.{after_word, remaining, rows_of}
@@ -12,13 +12,17 @@ use Rattle.proof_text.specs.declared.source.TextRefusal.{TextRefusal}
 use Rattle.proof_text.specs.declared.source.TextRefusal.TheVariants.{BadToken, Unterminated, TooBig, TooLong, Memory, Failed}
 use Rattle.proof_text.specs.Seen.{limit}
 
+-- each number's magnitude is within the limit
+abbrev pub AreSmall : List Placed → Type 0
+AreSmall placed = AllByRecursion (λ p. IsWithin limit p.word) placed
+
 -- the words are the fields' spelling and then the rest
 pub record Takes (fields : List Field) (placed rest : List Placed) : Type 0 where
   pub front : List Placed
   pub split : placed ≡ front ++ rest
   pub proper : AllByRecursion IsProper fields
   pub spells : flat_map spelled fields ≡ words front
-  pub within : AreWithin proof_steps front
+  pub within : AreSmall front
 
 abbrev pub IsFit : Move → Type 0
 IsFit (closes f) = ⊤
@@ -50,7 +54,7 @@ module _ (rows : List (List Kind)) where
     pub split : placed ≡ front ++ bad ∷ rest
     pub at : place ≡ bad.place
     pub unfinished : IsOpen (remaining rows (words front))
-    pub within : AreWithin proof_steps front
+    pub within : AreSmall front
     pub fits_not : flat_map (after_word bad.word) (remaining rows (words front)) ≡ []
 
   -- the first word whose magnitude alone does not fit
@@ -60,7 +64,7 @@ module _ (rows : List (List Kind)) where
     pub rest : List Placed
     pub split : placed ≡ front ++ big ∷ rest
     pub at : place ≡ big.place
-    pub within : AreWithin proof_steps front
+    pub within : AreSmall front
     pub fits : (row : List Kind) × (more : List (List Kind)) × (flat_map (after_word big.word) (remaining rows (words front)) ≡ row ∷ more)
     pub above : ¬ IsWithin limit big.word
 
@@ -68,7 +72,7 @@ module _ (rows : List (List Kind)) where
   abbrev pub RefusedIn : ℕ → TextRefusal → List Placed → Type 0
   RefusedIn size (BadToken place) placed = BadIn placed place
   RefusedIn size (TooBig place) placed = BigIn placed place
-  RefusedIn size (Unterminated place) placed = (place ≡ size) × IsOpen (remaining rows (words placed)) × AreWithin proof_steps placed
+  RefusedIn size (Unterminated place) placed = (place ≡ size) × IsOpen (remaining rows (words placed)) × AreSmall placed
   RefusedIn size TooLong placed = ⊥
   RefusedIn size Memory placed = ⊤
   RefusedIn size Failed placed = ⊥

@@ -1,9 +1,9 @@
 //! The fields of a step, taken from a text's tokens.
-ghost use Rattle.std.specs.Prelude.{◌≡◌, ◌<◌, length, [], ◌∷◌, pos, IfOk, MatchResult};
+ghost use Rattle.std.specs.Prelude.{◌≡◌, ◌<◌, false, length, [], ◌∷◌, pos, IfOk, MatchResult};
 ghost use Rattle.proof_text.specs.declared.source.TextRefusal.TheVariants.{Memory};
-ghost use Rattle.cx_semantics.specs.Words.{placed_words};
-ghost use Rattle.cx_semantics.specs.Grammar.{id, integer, end, ids, integers};
-ghost use Rattle.cx_semantics.proofs.Shapes.{an_id, an_integer, an_end, some_ids, some_integers};
+ghost use Rattle.cx_semantics.specs.Words.{is_digit, placed_words};
+ghost use Rattle.cx_semantics.specs.Grammar.{mark, id, integer, end, ids, integers};
+ghost use Rattle.cx_semantics.proofs.Shapes.{a_mark, an_id, an_integer, an_end, some_ids, some_integers};
 ghost use Rattle.proof_text.specs.Taking.{TakesOne, TakesMember, TakesAll};
 
 use crate::ahead::TokensAhead;
@@ -48,6 +48,21 @@ pub fn take_integer(tokens: &mut TokensAhead, size: usize) -> Result<i64, TextRe
             TokenWord::BigNegative => Err(TextRefusal::TooBig(seen.place)),
             _ => Err(TextRefusal::BadToken(seen.place)),
         },
+    }
+}
+
+/// A letter, which is no digit.
+pub fn take_letter(tokens: &mut TokensAhead, size: usize, letter: u8) -> Result<(), TextRefusal>
+    requires { is_digit letter ≡ false }
+    ensures { TakesOne (λ _. mark letter) (a_mark letter) size (placed_words tokens.old) result (placed_words tokens.new) }
+{
+    if tokens.is_letter(letter) {
+        tokens.pass();
+        return Ok(());
+    }
+    match tokens.word() {
+        None => Err(TextRefusal::Unterminated(size as u64)),
+        Some(seen) => Err(TextRefusal::BadToken(seen.place)),
     }
 }
 

@@ -1,9 +1,10 @@
 //! Steps of proofs from their text, and their printed form.
 #![tactic(auto)]
 
-mod ahead;
+pub mod ahead;
 pub mod copies;
-mod fields;
+mod desk_proof;
+pub mod fields;
 mod list_proof;
 pub mod pieces;
 mod print;
@@ -11,9 +12,10 @@ mod proof_text;
 mod sink;
 mod source;
 mod steps;
-mod token_word;
+pub mod token_word;
 
 pub use cx_semantics::{Cause, ProofStep};
+pub use desk_proof::DeskProof;
 pub use list_proof::ListProof;
 pub use print::put_proof_step;
 pub use proof_text::ProofText;

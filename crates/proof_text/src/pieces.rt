@@ -23,7 +23,12 @@ pub fn put_id<D: Desk>(
 }
 
 /// An integer behind a space, and a text.
-pub fn put_integer<D: Desk>(desk: &mut D, port: Port, integer: i64, after: &[u8]) -> Result<(), Failed>
+pub fn put_integer<D: Desk>(
+    desk: &mut D,
+    port: Port,
+    integer: i64,
+    after: &[u8],
+) -> Result<(), Failed>
     ensures { PutsAll port (spaced_integer integer ++ after.now) (D.outside desk.old) result (D.outside desk.new) }
 {
     let mut buffer = Buffer::new();

@@ -2,6 +2,7 @@
 ghost use Rattle.std.specs.Prelude.{◌≡◌, true, false, [], ◌∷◌};
 ghost use Rattle.cx_semantics.specs.Words.{placed_words};
 ghost use Rattle.cx_semantics.specs.Grammar.{id, integer, end, integers};
+ghost use Rattle.cx_semantics.specs.ProofText.{proof_steps};
 ghost use Rattle.cx_semantics.proofs.Shapes.{an_id, an_integer, an_end, some_integers};
 ghost use Rattle.proof_text.specs.Heads.{is_head_letter};
 ghost use Rattle.proof_text.specs.Taking.{TakesAll, TakesStep};
@@ -154,7 +155,7 @@ pub fn read_step(
     tokens: &mut TokensAhead,
     size: usize,
 ) -> Result<Option<ProofStep>, TextRefusal>
-    ensures { ReadsStep size (placed_words tokens.old) result (placed_words tokens.new) }
+    ensures { ReadsStep proof_steps size (placed_words tokens.old) result (placed_words tokens.new) }
 {
     if tokens.is_empty() {
         return Ok(None);

@@ -1,5 +1,6 @@
 use Rattle.std.proofs.Common.{rules}
-use Rattle.proof_text.proofs.ReadingLaws.{step_spells, refused_tells, some_words}
+use Rattle.proof_text.proofs.ReadingLaws.{some_words}
+use Rattle.proof_text.proofs.StepLaws.{step_spells, refused_tells}
 use Rattle.proof_text.proofs.steps.read_step.Goals as goal
 
 pub returns-in-Ok : goal.returns-in-Ok

@@ -2,7 +2,8 @@ use Rattle.std.proofs.Common.{[], ◌∷◌, sym, ◌∙◌}
 use Rattle.std.proofs.lemmas.Result.{err_from_is_err_and}
 use Rattle.cx_semantics.specs.Grammar.{mark, id, ids, integers}
 use Rattle.proof_text.proofs.TakingLaws.{takes_append}
-use Rattle.proof_text.proofs.StepLaws.{letter_taken, no_start, clause_lists_refused, clause_names_refused}
+use Rattle.proof_text.proofs.Choices.{letter_taken}
+use Rattle.proof_text.proofs.StepLaws.{no_start, clause_lists_refused, clause_names_refused}
 use Rattle.proof_text.proofs.steps.take_clause_step.Goals as goal
 
 pub returns-in_err-id : goal.returns-in_err-id

@@ -1,0 +1,60 @@
+//! The steps that have literals alone.
+ghost use Rattle.std.specs.Prelude.{◌≡◌, ◌∷◌, List};
+ghost use Rattle.cx_semantics.specs.Words.{Placed};
+ghost use Rattle.cx_semantics.specs.Grammar.{mark};
+ghost use Rattle.cx_semantics.specs.LogText.{log_fields};
+ghost use Rattle.log_text.specs.Taking.{letter_of, listed_fields, StandsAlone};
+
+use cx_base::IntList;
+use cx_semantics::LogStep;
+
+/// An id and literals, and whether they are of a parity.
+#[derive(Drop)]
+pub struct Listed {
+    pub of_parity: bool,
+    pub id: u64,
+    pub literals: IntList,
+}
+
+/// The steps that have literals alone, but for the added clause.
+#[derive(Clone, Copy, Debug, PartialEq, Eq, Drop)]
+pub enum Plain {
+    Original,
+    Delete,
+    Final,
+}
+
+/// The step of an id and literals.
+pub fn plain_step(plain: Plain, listed: Listed) -> LogStep
+    ensures fields { log_fields result ≡ mark (letter_of plain) ∷ listed_fields listed.of_parity listed.id listed.literals }
+    ensures alone { (rest : List Placed) → StandsAlone result rest }
+{
+    let Listed {
+        of_parity,
+        id,
+        literals,
+    } = listed;
+    match plain {
+        Plain::Original => {
+            if of_parity {
+                LogStep::OriginalParity(id, literals)
+            } else {
+                LogStep::Original(id, literals)
+            }
+        }
+        Plain::Delete => {
+            if of_parity {
+                LogStep::DeleteParity(id, literals)
+            } else {
+                LogStep::Delete(id, literals)
+            }
+        }
+        Plain::Final => {
+            if of_parity {
+                LogStep::FinalParity(id, literals)
+            } else {
+                LogStep::Final(id, literals)
+            }
+        }
+    }
+}

@@ -1,0 +1,163 @@
+//! The printed form of logs.
+ghost use Rattle.std.specs.Prelude.{[], ◌∷◌, ◌++◌, flat_map, decimal};
+ghost use Rattle.cx_desk.specs.Calls.{PutsAll};
+ghost use Rattle.cx_semantics.specs.declared.steps.LogEvent.TheVariants.{Step};
+ghost use Rattle.cx_semantics.specs.Words.{conflict};
+ghost use Rattle.cx_semantics.specs.Grammar.{spelling, spelled, mark, id, ids, integers, end};
+ghost use Rattle.cx_semantics.specs.LogText.{log_steps, log_events};
+ghost use Rattle.cx_semantics.specs.Printed.{printed_line, printed_log, HasText};
+ghost use Rattle.proof_text.specs.Spaced.{spaced};
+
+use crate::list_log::ListLog;
+use cx_desk::{Desk, Failed, Port};
+use cx_semantics::{LogEvent, LogStep};
+use proof_text::pieces::{put_id, put_ids, put_integers};
+
+/// An id between two texts, its literals, and a text.
+fn put_head<D: Desk>(
+    desk: &mut D,
+    port: Port,
+    before: &[u8],
+    name: u64,
+    literals: &[i64],
+    after: &[u8],
+) -> Result<(), Failed>
+    ensures { PutsAll port (before.now ++ (decimal name ++ (spaced (spelled (integers literals.now)) ++ after.now))) (D.outside desk.old) result (D.outside desk.new) }
+{
+    put_id(desk, port, before, name, b"")?;
+    put_integers(desk, port, literals, after)
+}
+
+/// An id and literals behind a text, as the end of a line.
+fn put_plain<D: Desk>(
+    desk: &mut D,
+    port: Port,
+    before: &[u8],
+    name: u64,
+    literals: &[i64],
+) -> Result<(), Failed>
+    ensures { PutsAll port (before.now ++ printed_line (flat_map spelled (id name ∷ integers literals.now ∷ []))) (D.outside desk.old) result (D.outside desk.new) }
+{
+    put_head(desk, port, before, name, literals, b"\n")
+}
+
+/// An id, literals and hints behind a text, as the end of a line.
+fn put_with_hints<D: Desk>(
+    desk: &mut D,
+    port: Port,
+    before: &[u8],
+    name: u64,
+    literals: &[i64],
+    hints: &[i64],
+) -> Result<(), Failed>
+    ensures { PutsAll port (before.now ++ printed_line (flat_map spelled (id name ∷ integers literals.now ∷ mark 108 ∷ integers hints.now ∷ []))) (D.outside desk.old) result (D.outside desk.new) }
+{
+    put_head(desk, port, before, name, literals, b" l")?;
+    put_integers(desk, port, hints, b"\n")
+}
+
+/// An id, a parity's literals and the ids of sources behind a text, as the end of a line.
+fn put_with_sources<D: Desk>(
+    desk: &mut D,
+    port: Port,
+    before: &[u8],
+    name: u64,
+    parity: &[i64],
+    sources: &[u64],
+) -> Result<(), Failed>
+    ensures { PutsAll port (before.now ++ printed_line (flat_map spelled (id name ∷ integers parity.now ∷ mark 108 ∷ ids sources.now ∷ []))) (D.outside desk.old) result (D.outside desk.new) }
+{
+    put_head(desk, port, before, name, parity, b" l")?;
+    put_ids(desk, port, sources)
+}
+
+/// An id, literals and the id of one source behind a text, as the end of a line.
+fn put_with_source<D: Desk>(
+    desk: &mut D,
+    port: Port,
+    before: &[u8],
+    name: u64,
+    literals: &[i64],
+    source: u64,
+) -> Result<(), Failed>
+    ensures { PutsAll port (before.now ++ printed_line (flat_map spelled (id name ∷ integers literals.now ∷ mark 108 ∷ id source ∷ end ∷ []))) (D.outside desk.old) result (D.outside desk.new) }
+{
+    put_head(desk, port, before, name, literals, b" l")?;
+    put_id(desk, port, b" ", source, b" 0\n")
+}
+
+/// Writes the line of a step: its words parted by one space, and a line feed. It takes no memory.
+///
+/// It fails only where the desk counted a fault of the port; then the port gained a front of the line.
+pub fn put_log_step<D: Desk>(desk: &mut D, port: Port, step: &LogStep) -> Result<(), Failed>
+    requires { HasText (Step step.now) }
+    ensures { PutsAll port (printed_line (spelling log_steps step.now)) (D.outside desk.old) result (D.outside desk.new) }
+{
+    match step {
+        LogStep::Original(id, lits) => put_plain(desk, port, b"o ", *id, lits.as_slice()),
+        LogStep::OriginalParity(id, lits) => put_plain(desk, port, b"o x ", *id, lits.as_slice()),
+        LogStep::Clause(id, lits) => put_plain(desk, port, b"a ", *id, lits.as_slice()),
+        LogStep::ClauseWithHints(id, lits, hints) => {
+            put_with_hints(desk, port, b"a ", *id, lits.as_slice(), hints.as_slice())
+        }
+        LogStep::Parity(id, lits, sources) => {
+            put_with_sources(
+                desk,
+                port,
+                b"a x ",
+                *id,
+                lits.as_slice(),
+                sources.as_slice(),
+            )
+        }
+        LogStep::ClauseOfParity(id, lits, source) => {
+            put_with_source(desk, port, b"i ", *id, lits.as_slice(), *source)
+        }
+        LogStep::ParityOfClauses(id, lits, sources) => {
+            put_with_sources(
+                desk,
+                port,
+                b"i x ",
+                *id,
+                lits.as_slice(),
+                sources.as_slice(),
+            )
+        }
+        LogStep::Delete(id, lits) => put_plain(desk, port, b"d ", *id, lits.as_slice()),
+        LogStep::DeleteParity(id, lits) => put_plain(desk, port, b"d x ", *id, lits.as_slice()),
+        LogStep::Final(id, lits) => put_plain(desk, port, b"f ", *id, lits.as_slice()),
+        LogStep::FinalParity(id, lits) => put_plain(desk, port, b"f x ", *id, lits.as_slice()),
+    }
+}
+
+/// The line of a mark.
+fn put_mark<D: Desk>(desk: &mut D, port: Port, k: u64) -> Result<(), Failed>
+    ensures { PutsAll port (printed_line (conflict k ∷ [])) (D.outside desk.old) result (D.outside desk.new) }
+{
+    put_id(desk, port, b"c conflict ", k, b"\n")
+}
+
+/// The line of an event.
+fn put_event<D: Desk>(desk: &mut D, port: Port, event: &LogEvent) -> Result<(), Failed>
+    requires { HasText event.now }
+    ensures { PutsAll port (printed_line (spelling log_events event.now)) (D.outside desk.old) result (D.outside desk.new) }
+{
+    match event {
+        LogEvent::Step(step) => put_log_step(desk, port, step),
+        LogEvent::Conflict(k) => put_mark(desk, port, *k),
+    }
+}
+
+/// Writes the lines of a log's events: steps as `put_log_step` does, the mark of conflict K as the
+/// line `c conflict K`. It takes no memory.
+///
+/// What it writes is read as the log's events (`printed_logs_read` of cx_semantics). It fails only
+/// where the desk counted a fault of the port; then the port gained a front of the lines.
+pub fn put_log<D: Desk>(desk: &mut D, port: Port, log: &ListLog) -> Result<(), Failed>
+    ensures { PutsAll port (printed_log log.now) (D.outside desk.old) result (D.outside desk.new) }
+{
+    for event in log.events() {
+        put_event(desk, port, event)?;
+    }
+    Ok(())
+}

@@ -1,0 +1,216 @@
+//! The steps of a log, taken from a text's tokens.
+ghost use Rattle.std.specs.Prelude.{◌≡◌, true, false, [], ◌∷◌, MatchResult};
+ghost use Rattle.cx_semantics.specs.Words.{placed_words};
+ghost use Rattle.cx_semantics.specs.Grammar.{mark, id, end, ids, integers};
+ghost use Rattle.cx_semantics.specs.LogText.{log_steps};
+ghost use Rattle.cx_semantics.proofs.Shapes.{a_mark, an_id, an_end, some_ids, some_integers};
+ghost use Rattle.proof_text.specs.Heads.{is_head_letter};
+ghost use Rattle.proof_text.specs.Taking.{Takes, RefusedIn, TakesAll};
+ghost use Rattle.proof_text.specs.Reading.{ReadsStep};
+ghost use Rattle.log_text.specs.Taking.{letter_of, listed_fields, listed_rows, log_rows, TakesLogStep};
+
+use crate::plain::{Listed, Plain, plain_step};
+use cx_base::{IdList, IntList};
+use cx_semantics::LogStep;
+use proof_text::TextRefusal;
+use proof_text::ahead::TokensAhead;
+use proof_text::fields::{take_end, take_id, take_ids, take_integers, take_letter};
+use std::alloc::Global;
+
+/// An id and literals.
+#[derive(Drop)]
+struct Named {
+    id: u64,
+    literals: IntList,
+}
+
+/// An id and literals, and the ids that show them.
+#[derive(Drop)]
+struct Sourced {
+    id: u64,
+    literals: IntList,
+    sources: IdList,
+}
+
+/// An id and literals, and the one id that implies them.
+#[derive(Drop)]
+struct Implied {
+    id: u64,
+    literals: IntList,
+    source: u64,
+}
+
+/// An id and literals up to a zero.
+fn take_named(alloc: Global, tokens: &mut TokensAhead, size: usize) -> Result<Named, TextRefusal>
+    ensures { TakesAll (λ n. id n.id ∷ integers n.literals ∷ []) (an_id ∷ some_integers ∷ []) size (placed_words tokens.old) result (placed_words tokens.new) }
+{
+    let id = take_id(tokens, size)?;
+    let literals = take_integers(alloc, tokens, size)?;
+    Ok(Named { id, literals })
+}
+
+/// An id, literals, the letter l and ids.
+fn take_sourced(
+    alloc: Global,
+    tokens: &mut TokensAhead,
+    size: usize,
+) -> Result<Sourced, TextRefusal>
+    ensures { TakesAll (λ s. id s.id ∷ integers s.literals ∷ mark 108 ∷ ids s.sources ∷ []) (an_id ∷ some_integers ∷ a_mark 108 ∷ some_ids ∷ []) size (placed_words tokens.old) result (placed_words tokens.new) }
+{
+    let named = take_named(alloc, tokens, size)?;
+    take_letter(tokens, size, b'l')?;
+    let sources = take_ids(alloc, tokens, size)?;
+    Ok(Sourced {
+        id: named.id,
+        literals: named.literals,
+        sources,
+    })
+}
+
+/// An id, literals, the letter l and one id with the zero behind it.
+fn take_implied(
+    alloc: Global,
+    tokens: &mut TokensAhead,
+    size: usize,
+) -> Result<Implied, TextRefusal>
+    ensures { TakesAll (λ s. id s.id ∷ integers s.literals ∷ mark 108 ∷ id s.source ∷ end ∷ []) (an_id ∷ some_integers ∷ a_mark 108 ∷ an_id ∷ an_end ∷ []) size (placed_words tokens.old) result (placed_words tokens.new) }
+{
+    let named = take_named(alloc, tokens, size)?;
+    take_letter(tokens, size, b'l')?;
+    let source = take_id(tokens, size)?;
+    take_end(tokens, size)?;
+    Ok(Implied {
+        id: named.id,
+        literals: named.literals,
+        source,
+    })
+}
+
+/// An id and literals, of a parity where the letter x stands in front.
+fn take_listed(alloc: Global, tokens: &mut TokensAhead, size: usize) -> Result<Listed, TextRefusal>
+    ensures { MatchResult result (λ l. Takes (listed_fields l.of_parity l.id l.literals) (placed_words tokens.old) (placed_words tokens.new)) (λ r. RefusedIn listed_rows size r (placed_words tokens.old)) }
+{
+    if tokens.is_letter(b'x') {
+        tokens.pass();
+        let named = take_named(alloc, tokens, size)?;
+        Ok(Listed {
+            of_parity: true,
+            id: named.id,
+            literals: named.literals,
+        })
+    } else {
+        let named = take_named(alloc, tokens, size)?;
+        Ok(Listed {
+            of_parity: false,
+            id: named.id,
+            literals: named.literals,
+        })
+    }
+}
+
+/// A step that has literals alone, behind its letter.
+fn take_plain(
+    alloc: Global,
+    tokens: &mut TokensAhead,
+    size: usize,
+    plain: Plain,
+) -> Result<LogStep, TextRefusal>
+    requires { is_head_letter (letter_of plain) (placed_words tokens.old) ≡ true }
+    ensures { TakesLogStep size (placed_words tokens.old) result (placed_words tokens.new) }
+{
+    tokens.pass();
+    let listed = take_listed(alloc, tokens, size)?;
+    Ok(plain_step(plain, listed))
+}
+
+/// An added clause or parity. The letter l behind the literals of a clause belongs to it.
+fn take_added(alloc: Global, tokens: &mut TokensAhead, size: usize) -> Result<LogStep, TextRefusal>
+    requires { is_head_letter 97 (placed_words tokens.old) ≡ true }
+    ensures { TakesLogStep size (placed_words tokens.old) result (placed_words tokens.new) }
+{
+    tokens.pass();
+    if tokens.is_letter(b'x') {
+        tokens.pass();
+        let parity = take_sourced(alloc, tokens, size)?;
+        return Ok(LogStep::Parity(parity.id, parity.literals, parity.sources));
+    }
+    let id = take_id(tokens, size)?;
+    let literals = take_integers(alloc, tokens, size)?;
+    if tokens.is_letter(b'l') {
+        tokens.pass();
+        let hints = take_integers(alloc, tokens, size)?;
+        return Ok(LogStep::ClauseWithHints(id, literals, hints));
+    }
+    Ok(LogStep::Clause(id, literals))
+}
+
+/// A clause from a parity, or a parity from clauses.
+fn take_implied_step(
+    alloc: Global,
+    tokens: &mut TokensAhead,
+    size: usize,
+) -> Result<LogStep, TextRefusal>
+    requires { is_head_letter 105 (placed_words tokens.old) ≡ true }
+    ensures { TakesLogStep size (placed_words tokens.old) result (placed_words tokens.new) }
+{
+    tokens.pass();
+    if tokens.is_letter(b'x') {
+        tokens.pass();
+        let parity = take_sourced(alloc, tokens, size)?;
+        Ok(LogStep::ParityOfClauses(parity.id, parity.literals, parity.sources))
+    } else {
+        let clause = take_implied(alloc, tokens, size)?;
+        Ok(LogStep::ClauseOfParity(clause.id, clause.literals, clause.source))
+    }
+}
+
+/// Why no step begins here.
+fn no_step(tokens: &TokensAhead, size: usize) -> TextRefusal
+    requires original { is_head_letter 111 (placed_words tokens.now) ≡ false }
+    requires added { is_head_letter 97 (placed_words tokens.now) ≡ false }
+    requires implied { is_head_letter 105 (placed_words tokens.now) ≡ false }
+    requires deleted { is_head_letter 100 (placed_words tokens.now) ≡ false }
+    requires finally { is_head_letter 102 (placed_words tokens.now) ≡ false }
+    ensures { RefusedIn log_rows size result (placed_words tokens.now) }
+{
+    match tokens.word() {
+        None => TextRefusal::Unterminated(size as u64),
+        Some(seen) => TextRefusal::BadToken(seen.place),
+    }
+}
+
+/// A step; its first word tells which one it may be.
+fn take_step(alloc: Global, tokens: &mut TokensAhead, size: usize) -> Result<LogStep, TextRefusal>
+    ensures { TakesLogStep size (placed_words tokens.old) result (placed_words tokens.new) }
+{
+    if tokens.is_letter(b'a') {
+        take_added(alloc, tokens, size)
+    } else if tokens.is_letter(b'd') {
+        take_plain(alloc, tokens, size, Plain::Delete)
+    } else if tokens.is_letter(b'i') {
+        take_implied_step(alloc, tokens, size)
+    } else if tokens.is_letter(b'o') {
+        take_plain(alloc, tokens, size, Plain::Original)
+    } else if tokens.is_letter(b'f') {
+        take_plain(alloc, tokens, size, Plain::Final)
+    } else {
+        Err(no_step(tokens, size))
+    }
+}
+
+/// The next step of a text of this size, or none at its end.
+pub fn read_step(
+    alloc: Global,
+    tokens: &mut TokensAhead,
+    size: usize,
+) -> Result<Option<LogStep>, TextRefusal>
+    ensures { ReadsStep log_steps size (placed_words tokens.old) result (placed_words tokens.new) }
+{
+    if tokens.is_empty() {
+        return Ok(None);
+    }
+    match take_step(alloc, tokens, size) {
+        Ok(step) => Ok(Some(step)),
+        Err(refusal) => Err(refusal),
+    }
+}

@@ -1,0 +1,73 @@
+-- The steps that a port was given, and what a sink that prints on it does to the outside.
+use Rattle.std.specs.Prelude.{◌≡◌, ◌==◌, ◌<◌, ◌≤◌, ℕ, Bool, true, false, cond, List, [], ◌∷◌, ◌++◌, flat_map, length, take, Option, Some, None, option_map, IfSome}
+use Rattle.std.specs.List.{AllByRecursion}
+use Rattle.cx_desk.specs.declared.desk.Port.TheVariants.{Proof}
+use Rattle.cx_desk.specs.Outside.{Bytes, Told, Outside}
+use Rattle.cx_desk.specs.Calls.{gained, WriteFaulted}
+use Rattle.cx_semantics.specs.declared.steps.ProofStep.{ProofStep}
+use Rattle.cx_semantics.specs.Tokens.{tokens}
+use Rattle.cx_semantics.specs.Words.{placed_words}
+use Rattle.cx_semantics.specs.Grammar.{spelling}
+use Rattle.cx_semantics.specs.ProofText.{proof_steps}
+use Rattle.cx_semantics.specs.Printed.{printed_line, printed_proof, HasProofText}
+use Rattle.cx_semantics.proofs.Grammars.{proof_forms}
+use Rattle.cx_semantics.proofs.Readings.{one_reading}
+
+-- the whole lines of a text, each with its line feed, where a line begins with these bytes; and what stands behind them
+abbrev pub whole_lines : Bytes → Bytes → List Bytes
+whole_lines begun [] = []
+whole_lines begun (b ∷ text) = cond (b == 10) ((begun ++ b ∷ []) ∷ whole_lines [] text) (whole_lines (begun ++ b ∷ []) text)
+
+abbrev pub begun_line : Bytes → Bytes → Bytes
+begun_line begun [] = begun
+begun_line begun (b ∷ text) = cond (b == 10) (begun_line [] text) (begun_line (begun ++ b ∷ []) text)
+
+-- the steps of a text's one reading
+abbrev pub steps_read : Bytes → List ProofStep
+steps_read text = (one_reading proof_steps proof_forms (length text) (placed_words (tokens text))).0.0
+
+-- the steps of a text's whole lines
+abbrev pub told_steps : Bytes → List ProofStep
+told_steps text = flat_map steps_read (whole_lines [] text)
+
+abbrev pub steps_told : Outside → Option (List ProofStep)
+steps_told o = option_map (λ t. told_steps t.written.proof) o.told
+
+-- no line is begun on the proof port
+abbrev pub is_none : Bytes → Bool
+is_none [] = true
+is_none (b ∷ bytes) = false
+
+abbrev pub is_whole : Option Told → Bool
+is_whole None = true
+is_whole (Some t) = is_none (begun_line [] t.written.proof)
+
+abbrev pub step_line : ProofStep → Bytes
+step_line step = printed_line (spelling proof_steps step)
+
+-- behind whole lines stands a front of the step's line that is not all of it
+abbrev pub TornOn : ProofStep → Outside → Type 0
+TornOn step o = IfSome o.told (λ t. (before : Bytes) × (k : ℕ) × (begun_line [] before ≡ []) × (k < length (step_line step)) × (t.written.proof ≡ before ++ take k (step_line step)))
+
+-- the proof port gained the lines of these steps, and nothing else changed
+pub record Prints (old new : Outside) : Type 0 where
+  pub steps : List ProofStep
+  pub texts : AllByRecursion HasProofText steps
+  pub moved : new ≡ gained Proof (printed_proof steps) old
+
+-- and then a front of one more line that is not all of it, and a fault of writing
+pub record Tears (old new : Outside) : Type 0 where
+  pub steps : List ProofStep
+  pub texts : AllByRecursion HasProofText steps
+  pub part : ProofStep
+  pub text : HasProofText part
+  pub kept : ℕ
+  pub front : kept < length (step_line part)
+  pub moved : WriteFaulted (gained Proof (printed_proof steps ++ take kept (step_line part)) old) new
+
+-- from a state of a sink to a later one: whether it failed, how many steps it refused since, and the outside
+abbrev pub Goes : Bool → ℕ → Outside → Bool → ℕ → Outside → Type 0
+Goes true n old true m new = (new ≡ old) × (n ≤ m)
+Goes true n old false m new = ⊥
+Goes false n old false m new = (m ≡ n) × Prints old new
+Goes false n old true m new = (n ≤ m) × Tears old new
