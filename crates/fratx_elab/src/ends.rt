@@ -5,7 +5,7 @@ ghost use Rattle.cx_semantics.specs.Printed.{HasProofText};
 ghost use Rattle.cx_semantics.specs.declared.steps.LogStep.{LogStep};
 ghost use Rattle.cx_semantics.specs.declared.steps.ProofStep.{ProofStep};
 ghost use Rattle.proof_text.specs.Sources.{Gives, Rises, FaultsAs, SpentAs, IsTooLongOnly};
-ghost use Rattle.proof_text.specs.Sinks.{with_next, SinkFaultsAs, OnFailed};
+ghost use Rattle.proof_text.specs.Sinks.{with_next, SinkFaultsAs, HasFailedAs, OnFailed};
 
 use cx_semantics::{LogStep, ProofStep};
 use proof_text::{ProofSink, SinkFault, StepSource, TextRefusal};
@@ -32,6 +32,9 @@ pub trait ElabEnds {
 
     ghost write_faults: { Self → ℕ };
 
+    // its sink has answered `Failed`
+    ghost has_failed: { Self → Bool };
+
     // a part of this step was written behind the steps, after a fault
     ghost torn: { Self → ProofStep → Type 0 };
 
@@ -50,6 +53,7 @@ pub trait ElabEnds {
         ensures far { place_of self.new < 2 ^ 62 }
         ensures steps_stay { steps self.new ≡ steps self.old }
         ensures writes_stay { write_faults self.new ≡ write_faults self.old }
+        ensures failed_stays { has_failed self.new ≡ has_failed self.old }
         ensures frame { keeps self.old self.new };
 
     /// How far the source has come: it rises at each step.
@@ -63,6 +67,7 @@ pub trait ElabEnds {
         ensures same { OnErr result (steps self.new ≡ steps self.old) }
         ensures torn { OnFailed result (torn self.new step.now) }
         ensures faults { SinkFaultsAs result (write_faults self.old) (write_faults self.new) }
+        ensures failed { HasFailedAs result (has_failed self.old) (has_failed self.new) }
         ensures rest_stays { (left : List LogStep) (ending : Ending) → (leaves self.new left ending → leaves self.old left ending) × (leaves self.old left ending → leaves self.new left ending) }
         ensures limit_stays { (passes_limit self.new → passes_limit self.old) × (passes_limit self.old → passes_limit self.new) }
         ensures spent_stays { is_spent self.new ≡ is_spent self.old }
@@ -99,6 +104,8 @@ impl<A: StepSource<Step = LogStep>, B: ProofSink> ElabEnds for Joined<A, B> {
     ghost steps = { λ j. B.steps j.sink };
 
     ghost write_faults = { λ j. B.faults j.sink };
+
+    ghost has_failed = { λ j. B.has_failed j.sink };
 
     ghost torn = { λ j. B.torn j.sink };
 

@@ -15,3 +15,6 @@ mod walk;
 pub use ends::{ElabEnds, Joined};
 pub use outcome::{Elab, ElabFault};
 pub use walk::elaborate;
+
+#[cfg(test)]
+mod tests;

@@ -7,7 +7,7 @@ ghost use Rattle.fratx_elab.specs.Elaborates.{number_of_clauses, number_of_parit
 ghost use Rattle.fratx_elab.specs.Outcomes.{IsElaborated, IsCutOff, HasCause, Kept, Turns, text_refused, step_refused, what_follows_of};
 ghost use Rattle.fratx_elab.specs.Takes.{CanBePrinted, CountsOneMore, TakesLogStep};
 ghost use Rattle.fratx_elab.specs.Writing.{WritesDown};
-ghost use Rattle.proof_text.specs.Sinks.{SinkFaultsAs};
+ghost use Rattle.proof_text.specs.Sinks.{SinkFaultsAs, HasFailedAs};
 
 use crate::ends::ElabEnds;
 use crate::naming::Names;
@@ -26,6 +26,7 @@ fn write<E: ElabEnds>(ends: &mut E, written: &Option<ProofStep>) -> Result<(), S
     requires text { CanBePrinted written.now }
     ensures told { WritesDown (E.steps ends.old) (E.steps ends.new) (E.torn ends.new) written.now result }
     ensures faults { SinkFaultsAs result (E.write_faults ends.old) (E.write_faults ends.new) }
+    ensures failed { HasFailedAs result (E.has_failed ends.old) (E.has_failed ends.new) }
     ensures rest { (left : List LogStep) (ending : Ending) → (E.leaves ends.new left ending → E.leaves ends.old left ending) × (E.leaves ends.old left ending → E.leaves ends.new left ending) }
     ensures limit { (E.passes_limit ends.new → E.passes_limit ends.old) × (E.passes_limit ends.old → E.passes_limit ends.new) }
     ensures spent { E.is_spent ends.new ≡ E.is_spent ends.old }
@@ -108,6 +109,7 @@ fn take_next<E: ElabEnds>(
     ensures fresh { IfOk result (λ elab. elab ≡ None → E.is_spent ends.new ≡ false) }
     ensures reads { IfOk result (λ _. E.read_faults ends.new ≡ E.read_faults ends.old) }
     ensures writes { IfOk result (λ _. E.write_faults ends.new ≡ E.write_faults ends.old) }
+    ensures failed { IfOk result (λ _. E.has_failed ends.new ≡ E.has_failed ends.old) }
     ensures rises { IfOk result (λ elab. elab ≡ None → E.place_of ends.old < E.place_of ends.new) }
     ensures far { E.place_of ends.new < 2 ^ 62 }
     ensures limit { E.passes_limit ends.new → E.passes_limit ends.old }
@@ -143,6 +145,9 @@ pub fn elaborate<E: ElabEnds>(
     ensures judged { IfOk result (IsElaborated E.leaves E.steps E.torn formula.now ends.old ends.new) }
     ensures cut_off { IfErr result (IsCutOff E.leaves E.steps E.torn formula.now ends.old ends.new) }
     ensures cause { IfErr result (HasCause (E.passes_limit ends.old) (E.read_faults ends.old) (E.read_faults ends.new) (E.write_faults ends.old) (E.write_faults ends.new)) }
+    ensures reads { IfOk result (λ _. E.read_faults ends.new ≡ E.read_faults ends.old) }
+    ensures writes { IfOk result (λ _. E.write_faults ends.new ≡ E.write_faults ends.old) }
+    ensures failed { IfOk result (λ _. E.has_failed ends.new ≡ E.has_failed ends.old) }
     ensures frame { E.keeps ends.old ends.new }
 {
     // So many constraints are more than any memory holds.

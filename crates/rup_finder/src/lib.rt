@@ -5,3 +5,6 @@ mod rounds;
 mod search;
 
 pub use search::find;
+
+#[cfg(test)]
+mod tests;

@@ -19,6 +19,7 @@ loop-steps-init g c =
       fresh = c.requires;
       reads = refl;
       writes = refl;
+      failed = refl;
       few = omega arith;
       far = omega arith;
       limit = λ h. h;

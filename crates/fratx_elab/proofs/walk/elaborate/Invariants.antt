@@ -10,6 +10,7 @@ invariant-loop-steps g l = record {
   fresh : g.E.ElabEnds.is_spent l.ends ≡ false;
   reads : g.E.ElabEnds.read_faults l.ends ≡ g.E.ElabEnds.read_faults l.initial.ends;
   writes : g.E.ElabEnds.write_faults l.ends ≡ g.E.ElabEnds.write_faults l.initial.ends;
+  failed : g.E.ElabEnds.has_failed l.ends ≡ g.E.ElabEnds.has_failed l.initial.ends;
   few : l.steps ≤ g.E.ElabEnds.place_of l.ends;
   far : l.steps ≤ 2 ^ 62;
   limit : g.E.ElabEnds.passes_limit l.ends → g.E.ElabEnds.passes_limit l.initial.ends;
