@@ -34,7 +34,7 @@ fn a_chain_where_there_is_one(rt: HostRuntime) -> Result<(), Fail> {
         Some(ids) => ids.as_slice(),
         None => &[],
     };
-    assert_eq!(rt; ids, &[1, 2]);
+    assert_eq!(rt; ids, [1, 2].as_slice());
     assert!(rt; find(alloc, &live, &[])?.is_none());
     assert!(rt; find(alloc, &live, &[lit(1, false), lit(1, true)])?.is_some());
     Ok(())
