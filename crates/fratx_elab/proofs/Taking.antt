@@ -62,16 +62,18 @@ module _ (formula : Problem) (old new : State) where
   takes_original n k lits added least e f g =
       let cs = clauses_of formula.constraints in
       let names = named_both (name_original old.clauses n k) old.parities f g in
-      let has = least_passes (same_literals (literals lits)) cs k least in
-      (
+      let has = least_passes (same_literals (literals lits)) cs k least in (
         (added.0, (added.1.0, (ap not has, tt))),
         e,
         λ tables (tied : Tied_ tables). (
           (refl, (k, least, names)),
-          (refl, moved (put_clause old.live n (literals lits)) tables (both (name_original old.clauses n k) old.parities) e names (record {
-            clauses = tied_original HaveSame cs old.live.clauses tables.clauses old.clauses tied.clauses n k (literals lits) least.it (least_within _ cs k least) (least_gets _ cs k least) (Same-by_test (literals lits) least.it least.has_it);
-            parities = tied.parities;
-          })),
+          (
+            refl,
+            moved (put_clause old.live n (literals lits)) tables (both (name_original old.clauses n k) old.parities) e names (record {
+              clauses = tied_original HaveSame cs old.live.clauses tables.clauses old.clauses tied.clauses n k (literals lits) least.it (least_within _ cs k least) (least_gets _ cs k least) (Same-by_test (literals lits) least.it least.has_it);
+              parities = tied.parities;
+            }),
+          ),
         ),
       )
 
@@ -79,16 +81,18 @@ module _ (formula : Problem) (old new : State) where
       → new.live ≡ put_parity old.live n (literals lits) → new.clauses ≡ old.clauses → new.parities ≡ name_original old.parities n k → TakesLogStep formula old (log.OriginalParity n lits) (Ok None) new
   takes_original_parity n k lits added least e f g =
       let ps = parities_of formula.constraints in
-      let names = named_both old.clauses (name_original old.parities n k) f g in
-      (
+      let names = named_both old.clauses (name_original old.parities n k) f g in (
         (added.0, (added.1.0, (least_any (λ parity. normal_form parity ≡ normal_form (literals lits)) ps k least, tt))),
         e,
         λ tables (tied : Tied_ tables). (
           (refl, (k, least, names)),
-          (refl, moved (put_parity old.live n (literals lits)) tables (both old.clauses (name_original old.parities n k)) e names (record {
-            clauses = tied.clauses;
-            parities = tied_original HaveSameForm ps old.live.parities tables.parities old.parities tied.parities n k (literals lits) least.it (least_within _ ps k least) (least_gets _ ps k least) (sym least.has_it);
-          })),
+          (
+            refl,
+            moved (put_parity old.live n (literals lits)) tables (both old.clauses (name_original old.parities n k)) e names (record {
+              clauses = tied.clauses;
+              parities = tied_original HaveSameForm ps old.live.parities tables.parities old.parities tied.parities n k (literals lits) least.it (least_within _ ps k least) (least_gets _ ps k least) (sym least.has_it);
+            }),
+          ),
         ),
       )
 
@@ -122,8 +126,7 @@ module _ (formula : Problem) (old new : State) where
         let a = named_alike HaveSame _ old.live.clauses tables.clauses old.clauses tied.clauses ids live in
         let ns = numbers old.clauses ids in
         let right = chain_alike (literals lits) (named old.live.clauses ids) (named tables.clauses ns) a.0 chain in
-        let chained = subst (λ cs. AllHold (chaining (literals lits) cs)) (sym (named_hints tables.clauses ns)) (right_holds (literals lits) (named tables.clauses ns) (sym right)) in
-        (
+        let chained = subst (λ cs. AllHold (chaining (literals lits) cs)) (sym (named_hints tables.clauses ns)) (right_holds (literals lits) (named tables.clauses ns) (sym right)) in (
           ((hints_for old.clauses ids, refl), named_both _ _ f g),
           (
             (let f = free_clause tables lits n tied added in let h = hints_hold tables.clauses ns a.1 in (f.0, (f.1.0, (h.0, (h.1.0, chained))))),
@@ -144,8 +147,7 @@ module _ (formula : Problem) (old new : State) where
         let parts : AllHold (naming old.live.parities ids) × AllHold (summing (literals lits) (named old.live.parities ids)) = ((judged.0, tt), judged.1) in
         let a = named_alike HaveSameForm _ old.live.parities tables.parities old.parities tied.parities ids (names_live old.live.parities ids parts.0) in
         let ns = numbers old.parities ids in
-        let summed = subst (λ ps. AllHold (summing (literals lits) ps)) (sym (named_hints tables.parities ns)) (sum_alike (literals lits) (named old.live.parities ids) (named tables.parities ns) a.0 parts.1) in
-        (
+        let summed = subst (λ ps. AllHold (summing (literals lits) ps)) (sym (named_hints tables.parities ns)) (sum_alike (literals lits) (named old.live.parities ids) (named tables.parities ns) a.0 parts.1) in (
           (refl, named_both _ _ f g),
           (
             (let f = free_parity tables lits n tied added in let h = hints_hold tables.parities ns a.1 in (f.0, (f.1.0, (h.0, (h.1.0, summed))))),
@@ -166,8 +168,7 @@ module _ (formula : Problem) (old new : State) where
         let parts : AllHold (naming old.live.clauses ids) × AllHold (parity_of_clauses (literals lits) (named old.live.clauses ids)) = ((judged.0, tt), judged.1) in
         let a = named_alike HaveSame _ old.live.clauses tables.clauses old.clauses tied.clauses ids (names_live old.live.clauses ids parts.0) in
         let ns = numbers old.clauses ids in
-        let implied = subst (λ cs. AllHold (parity_of_clauses (literals lits) cs)) (sym (named_hints tables.clauses ns)) (parity_alike (literals lits) (named old.live.clauses ids) (named tables.clauses ns) a.0 parts.1) in
-        (
+        let implied = subst (λ cs. AllHold (parity_of_clauses (literals lits) cs)) (sym (named_hints tables.clauses ns)) (parity_alike (literals lits) (named old.live.clauses ids) (named tables.clauses ns) a.0 parts.1) in (
           (refl, named_both _ _ f g),
           (
             (let f = free_parity tables lits n tied added in let h = hints_hold tables.clauses ns a.1 in (f.0, (f.1.0, (h.0, (h.1.0, implied))))),
@@ -190,8 +191,7 @@ module _ (formula : Problem) (old new : State) where
         let a = named_alike HaveSameForm _ old.live.parities tables.parities old.parities tied.parities (id ∷ []) (names_live old.live.parities (id ∷ []) parts.0) in
         let one : numbers old.parities (id ∷ []) ≡ p ∷ [] = ap (λ o. Rattle.std.specs.List.cons_option o []) stands in
         let alike = subst (λ ns. AreLive tables.parities ns) one a.1 in
-        let implied = subst (λ ns. AllHold (clause_of_parity (literals lits) (named tables.parities ns))) one (clause_alike (literals lits) (named old.live.parities (id ∷ [])) (named tables.parities (numbers old.parities (id ∷ []))) a.0 parts.1) in
-        (
+        let implied = subst (λ ns. AllHold (clause_of_parity (literals lits) (named tables.parities ns))) one (clause_alike (literals lits) (named old.live.parities (id ∷ [])) (named tables.parities (numbers old.parities (id ∷ []))) a.0 parts.1) in (
           ((p, stands, refl), named_both _ _ f g),
           (
             (let f = free_clause tables lits n tied added in let h = hints_hold tables.parities (p ∷ []) alike in (f.0, (f.1.0, (h.0, (h.1.0, implied))))),
@@ -210,10 +210,13 @@ module _ (formula : Problem) (old new : State) where
     e,
     λ tables (tied : Tied_ tables). (
       (ap (clause_deletion old.clauses.last) (sym none), named_both _ _ f g),
-      (refl, moved (drop_clauses old.live (n ∷ [])) tables (both (drop_name old.clauses n) old.parities) e (named_both _ _ f g) (record {
-        clauses = tied_kept HaveSame _ old.live.clauses tables.clauses old.clauses tied.clauses n;
-        parities = tied.parities;
-      })),
+      (
+        refl,
+        moved (drop_clauses old.live (n ∷ [])) tables (both (drop_name old.clauses n) old.parities) e (named_both _ _ f g) (record {
+          clauses = tied_kept HaveSame _ old.live.clauses tables.clauses old.clauses tied.clauses n;
+          parities = tied.parities;
+        }),
+      ),
     ),
   )
 
@@ -224,10 +227,13 @@ module _ (formula : Problem) (old new : State) where
     e,
     λ tables (tied : Tied_ tables). (
       (ap parity_deletion (sym none), named_both _ _ f g),
-      (refl, moved (drop_parities old.live (n ∷ [])) tables (both old.clauses (drop_name old.parities n)) e (named_both _ _ f g) (record {
-        clauses = tied.clauses;
-        parities = tied_kept HaveSameForm _ old.live.parities tables.parities old.parities tied.parities n;
-      })),
+      (
+        refl,
+        moved (drop_parities old.live (n ∷ [])) tables (both old.clauses (drop_name old.parities n)) e (named_both _ _ f g) (record {
+          clauses = tied.clauses;
+          parities = tied_kept HaveSameForm _ old.live.parities tables.parities old.parities tied.parities n;
+        }),
+      ),
     ),
   )
 
@@ -250,8 +256,7 @@ module _ (formula : Problem) (old new : State) where
     e,
     λ tables (tied : Tied_ tables).
         let d = deleted_is (number_of_clauses formula) p (stands_for old.clauses n) some in
-        let below = named_below HaveSame _ old.live.clauses tables.clauses old.clauses tied.clauses n p d.0 in
-        (
+        let below = named_below HaveSame _ old.live.clauses tables.clauses old.clauses tied.clauses n p d.0 in (
           ((λ i. proof.DeleteClauses (at below i) (p ∷ []) ∷ []) ∙ ap (clause_deletion old.clauses.last) (sym some), named_both _ _ f g),
           (
             tt,
@@ -271,8 +276,7 @@ module _ (formula : Problem) (old new : State) where
     tt,
     e,
     λ tables (tied : Tied_ tables).
-        let d = deleted_is (number_of_parities formula) p (stands_for old.parities n) some in
-        (
+        let d = deleted_is (number_of_parities formula) p (stands_for old.parities n) some in (
           (ap parity_deletion (sym some), named_both _ _ f g),
           (
             tt,

@@ -49,7 +49,7 @@ module _ (Alike : List Literal → List Literal → Type 0) (lists : List (List 
           let a = tie.alike n p lits e f in
           let P : Option (List Literal) → Option ℕ → Type 0 = λ o q. AllAlike Alike (cons_option o (named log ids)) (named proof (cons_option q (numbers naming ids))) × AreLive proof (cons_option q (numbers naming ids)) in
           let there : AllAlike Alike (lits ∷ named log ids) (cons_option (get proof p) (named proof (numbers naming ids))) =
-                  subst (λ o. AllAlike Alike (lits ∷ named log ids) (cons_option o (named proof (numbers naming ids)))) (sym a.1) (a.2, rest.0) in
+          subst (λ o. AllAlike Alike (lits ∷ named log ids) (cons_option o (named proof (numbers naming ids)))) (sym a.1) (a.2, rest.0) in
           subst (λ o. P o (stands_for naming n)) (sym e) (subst (P (Some lits)) (sym f) (there, (ap is_some a.1, rest.1)))
 
 -- ---- hints

@@ -12,7 +12,7 @@ use Rattle.cx_semantics.specs.ProofRules.{proof_calculus, after_step, adds_empty
 use Rattle.cx_semantics.specs.Tables.{Tables, first_tables, no_tables}
 use Rattle.cx_semantics.proofs.JudgingLaws.{runs_push}
 use Rattle.proof_text.specs.Sources.{Gives, GivesNone}
-use Rattle.proof_text.specs.Sinks.{with_next}
+use Rattle.proof_text.specs.Sinks.{with_next, SinkFaultsAs}
 use Rattle.proof_text.specs.declared.source.TextRefusal.{TextRefusal}
 use Rattle.proof_text.specs.declared.source.TextRefusal.TheVariants as text
 use Rattle.proof_text.specs.declared.sink.SinkFault.{SinkFault}
@@ -26,7 +26,7 @@ use Rattle.fratx_elab.specs.Ties.{AreTied, HaveSameForm}
 use Rattle.fratx_elab.proofs.TieLaws.{tied_first}
 use Rattle.fratx_elab.specs.Takes.{TakesLogStep, KeepsTie, listed, names_of}
 use Rattle.fratx_elab.specs.Writing.{WritesDown}
-use Rattle.fratx_elab.specs.Outcomes.{Gained, IsWritten, IsElaborated, IsCutOff, Kept, Goes, Turns, text_refused, step_refused, what_follows_of}
+use Rattle.fratx_elab.specs.Outcomes.{Gained, IsWritten, IsElaborated, IsCutOff, Kept, Goes, Turns, text_refused, step_refused, what_follows_of, WritesStand}
 use Rattle.fratx_elab.specs.declared.state.State.{State}
 use Rattle.fratx_elab.specs.declared.outcome.Elab.TheVariants.{Done, Refused}
 use Rattle.fratx_elab.specs.declared.outcome.ElabFault.TheVariants.{Memory, Read, Write, TooLong}
@@ -213,3 +213,24 @@ kept_first leaves told torn formula first state e f g =
 
 pub nothing_gained : (formula : Problem) (told : Option (List ProofStep)) → Gained told told (IsOpen (proof_calculus formula))
 nothing_gained formula told start e = ([], e ∙ ap Some (sym (append-nil start)), (first_tables formula, refl))
+
+-- ---- the sink's faults
+
+module _ (before now : ℕ) where
+  pub text_stands : (why : TextRefusal) (k : ℕ) → now ≡ before → WritesStand (text_refused why k) before now
+  text_stands (text.BadToken place) k e = e
+  text_stands (text.Unterminated place) k e = e
+  text_stands (text.TooBig place) k e = e
+  text_stands text.TooLong k e = e
+  text_stands text.Memory k e = e
+  text_stands text.Failed k e = e
+
+  pub step_stands : (why : JudgeRefusal) (k : ℕ) → now ≡ before → WritesStand (step_refused why k) before now
+  step_stands (refusal.Wrong cause) k e = e
+  step_stands refusal.Memory k e = e
+
+  pub write_stands : (wrote : Result (Unit {0}) SinkFault) (ends : Bool) (k : ℕ) → SinkFaultsAs wrote before now → WritesStand (what_follows_of wrote ends k) before now
+  write_stands (Ok u) true k e = e
+  write_stands (Ok u) false k e = e
+  write_stands (Err sink.Memory) ends k e = e
+  write_stands (Err sink.Failed) ends k e = tt

@@ -103,3 +103,11 @@ what_follows_of (Ok done) true k = Ok (Some (Done k))
 what_follows_of (Ok done) false k = Ok None
 what_follows_of (Err sink.Memory) ends k = Err Memory
 what_follows_of (Err sink.Failed) ends k = Err Write
+
+-- the sink's faults stand but where a fault of writing is answered
+abbrev pub WritesStand : {T : Type 0} → Result T ElabFault → ℕ → ℕ → Type 0
+WritesStand (Ok elab) before now = now ≡ before
+WritesStand (Err Memory) before now = now ≡ before
+WritesStand (Err Read) before now = now ≡ before
+WritesStand (Err TooLong) before now = now ≡ before
+WritesStand (Err Write) before now = ⊤

@@ -48,11 +48,7 @@ pub fn clause_of_parity_step(id: ProofId, lits: IntList, source: ProofId) -> Pro
 }
 
 /// The deletion of one clause, behind the id `front`.
-pub fn clause_deletion(
-    alloc: Global,
-    front: ProofId,
-    id: ProofId,
-) -> Result<ProofStep, AllocError>
+pub fn clause_deletion(alloc: Global, front: ProofId, id: ProofId) -> Result<ProofStep, AllocError>
     ensures step { IfOk result (λ made. made ≡ step.DeleteClauses front (id ∷ [])) }
     ensures text { IfOk result HasProofText }
 {

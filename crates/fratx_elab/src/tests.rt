@@ -137,7 +137,9 @@ fn a_proof_is_written(rt: HostRuntime) -> Result<(), Fail> {
         ("f 99 500 0\nd 77 0\n", "l 10 11 0", "l 20 12 13 0", 8),
         ("d 13 0\no 13 -2 -1 -1 0\n", "l 10 11 0", "l 20 12 13 0", 8),
     ] {
-        let log = format!(in alloc; "{originals}{between}a 20 2 0 {two_hints}\na 21 0 {nothing_hints}\n")?;
+        let log = format!(in alloc;
+            "{originals}{between}a 20 2 0 {two_hints}\na 21 0 {nothing_hints}\n"
+        )?;
         let written = run(alloc, &formula, log.as_str())?;
         assert_eq!(rt; written.elab, Elab::Done(last), "{log}");
         assert_eq!(rt; written.steps.as_str(), want.as_str(), "{log}");

@@ -4,7 +4,7 @@ ghost use Rattle.cx_semantics.specs.Grammar.{Ending};
 ghost use Rattle.cx_semantics.specs.declared.steps.LogStep.{LogStep};
 ghost use Rattle.cx_base.specs.Problem.{Problem};
 ghost use Rattle.fratx_elab.specs.Elaborates.{number_of_clauses, number_of_parities};
-ghost use Rattle.fratx_elab.specs.Outcomes.{IsElaborated, IsCutOff, HasCause, Kept, Turns, text_refused, step_refused, what_follows_of};
+ghost use Rattle.fratx_elab.specs.Outcomes.{IsElaborated, IsCutOff, HasCause, Kept, Turns, text_refused, step_refused, what_follows_of, WritesStand};
 ghost use Rattle.fratx_elab.specs.Takes.{CanBePrinted, CountsOneMore, TakesLogStep};
 ghost use Rattle.fratx_elab.specs.Writing.{WritesDown};
 ghost use Rattle.proof_text.specs.Sinks.{SinkFaultsAs, HasFailedAs};
@@ -108,7 +108,7 @@ fn take_next<E: ElabEnds>(
     ensures parity_room { IfOk result (λ elab. elab ≡ None → state.new.parities.last ≤ 2 ^ 61 + (steps + 1)) }
     ensures fresh { IfOk result (λ elab. elab ≡ None → E.is_spent ends.new ≡ false) }
     ensures reads { IfOk result (λ _. E.read_faults ends.new ≡ E.read_faults ends.old) }
-    ensures writes { IfOk result (λ _. E.write_faults ends.new ≡ E.write_faults ends.old) }
+    ensures writes { WritesStand result (E.write_faults ends.old) (E.write_faults ends.new) }
     ensures failed { IfOk result (λ _. E.has_failed ends.new ≡ E.has_failed ends.old) }
     ensures rises { IfOk result (λ elab. elab ≡ None → E.place_of ends.old < E.place_of ends.new) }
     ensures far { E.place_of ends.new < 2 ^ 62 }
@@ -146,7 +146,7 @@ pub fn elaborate<E: ElabEnds>(
     ensures cut_off { IfErr result (IsCutOff E.leaves E.steps E.torn formula.now ends.old ends.new) }
     ensures cause { IfErr result (HasCause (E.passes_limit ends.old) (E.read_faults ends.old) (E.read_faults ends.new) (E.write_faults ends.old) (E.write_faults ends.new)) }
     ensures reads { IfOk result (λ _. E.read_faults ends.new ≡ E.read_faults ends.old) }
-    ensures writes { IfOk result (λ _. E.write_faults ends.new ≡ E.write_faults ends.old) }
+    ensures writes { WritesStand result (E.write_faults ends.old) (E.write_faults ends.new) }
     ensures failed { IfOk result (λ _. E.has_failed ends.new ≡ E.has_failed ends.old) }
     ensures frame { E.keeps ends.old ends.new }
 {

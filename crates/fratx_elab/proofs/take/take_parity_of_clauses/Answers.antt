@@ -20,7 +20,7 @@ returns-clause-taken c =
     let target = c.in-Ok.ensures.1 in
     let slice = c.as_slice.ensures in
     let judged = subst (λ (l : List Literal). AllHold (naming state.live.clauses ids ++ parity_of_clauses l (named state.live.clauses ids))) target
-            (subst (λ (ns : List ℕ). AllHold (naming state.live.clauses ns ++ parity_of_clauses c.in-Ok.target (named state.live.clauses ns))) slice c.in-Ok-judge_parity_of_named_clauses.ensures) in
+    (subst (λ (ns : List ℕ). AllHold (naming state.live.clauses ns ++ parity_of_clauses c.in-Ok.target (named state.live.clauses ns))) slice c.in-Ok-judge_parity_of_named_clauses.ensures) in
     let hints = c.in_ok-hints.ensures ∙ ap (hints_for state.clauses) c.as_slice-2.ensures in
     takes_parity_of_clauses formula state _ c.args.id lits ids c.parity_of_clauses_step.result added judged
     (c.in_ok-add_parity.ensures.ok ∙ ap (put_parity state.live c.args.id) target) refl c.in_ok-next.ensures.named

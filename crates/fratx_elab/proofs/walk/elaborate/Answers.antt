@@ -1,7 +1,8 @@
-use Rattle.std.proofs.Common.{◌≡◌, refl, sym, ap, ◌∙◌, subst, Option, ◌≤◌, ◌+◌, ◌^◌, arith}
+use Rattle.std.proofs.Common.{◌≡◌, refl, sym, ap, ◌∙◌, subst, Option, Result, Err, ◌≤◌, ◌+◌, ◌^◌, arith}
 use Rattle.fratx_elab.specs.Names.{Naming, first_naming}
-use Rattle.fratx_elab.specs.Outcomes.{Goes}
+use Rattle.fratx_elab.specs.Outcomes.{Goes, WritesStand}
 use Rattle.fratx_elab.specs.declared.outcome.Elab.{Elab}
+use Rattle.fratx_elab.specs.declared.outcome.ElabFault.{ElabFault}
 use Rattle.fratx_elab.proofs.Turns.{kept_first, nothing_gained}
 use Rattle.fratx_elab.proofs.walk.elaborate.Goals as goal
 
@@ -30,3 +31,10 @@ pub returns-in-Ok-Some-clause-judged : goal.returns-in-Ok-Some-clause-judged
 returns-in-Ok-Some-clause-judged g c =
     let P : Option Elab → Type 0 = Goes g.E.ElabEnds.leaves g.E.ElabEnds.steps g.E.ElabEnds.torn c.args.formula.now c.args.ends.now c.take_next.new.ends c.take_next.new.state c.loop-steps.steps in
     subst P c.in-Ok-Some.field-0-is (c.in-Ok-Some.ensures.turns c.args.ends.now c.loop-steps.invariant.kept)
+
+pub returns-in-Err-clause-writes : goal.returns-in-Err-clause-writes
+returns-in-Err-clause-writes g c =
+    subst (λ n. WritesStand (failed c.in-Err.fault) n (g.E.ElabEnds.write_faults c.take_next.new.ends)) c.loop-steps.invariant.writes c.in-Err.ensures.writes
+  where
+    failed : ElabFault → Result Elab ElabFault
+    failed fault = Err fault
