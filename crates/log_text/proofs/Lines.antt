@@ -1,5 +1,5 @@
 -- Lines of a log in their pieces.
-use Rattle.std.proofs.Common.{◌≡◌, refl, sym, ap, ◌∙◌, ℕ, ℤ, pos, List, [], ◌∷◌, ◌++◌, map, decimal, codes, append_assoc, append-nil}
+use Rattle.std.proofs.Common.{◌≡◌, refl, sym, ap, ◌∙◌, ℕ, ℤ, pos, List, [], ◌∷◌, ◌++◌, decimal, codes, append_assoc, append-nil}
 use Rattle.std.specs.Fmt.{digits}
 use Rattle.cx_desk.specs.Outside.{Bytes}
 use Rattle.cx_semantics.specs.Words.{Word, number, letter, conflict}

@@ -1,5 +1,5 @@
 -- The steps of logs from their parts, and what was taken and refused in the grammar of logs.
-use Rattle.std.proofs.Common.{◌≡◌, ◌≢◌, refl, sym, ap, ◌∙◌, subst, ℕ, ◌<◌, ℤ, pos, true, false, List, [], ◌∷◌, ◌++◌, map, flat_map, Option, Some, None}
+use Rattle.std.proofs.Common.{◌≡◌, ◌≢◌, refl, sym, ap, ◌∙◌, subst, ℕ, ◌<◌, ℤ, pos, false, List, [], ◌∷◌, ◌++◌, flat_map, Some, None}
 use Rattle.std.specs.List.{AllByRecursion}
 use Rattle.cx_semantics.specs.declared.steps.LogStep.{LogStep}
 use Rattle.cx_semantics.specs.declared.steps.LogStep.TheVariants as log

@@ -1,5 +1,5 @@
 -- Integers that may be the last field of one list of kinds and not the last of another.
-use Rattle.std.proofs.Common.{◌≡◌, refl, sym, ap, ◌∙◌, subst, ℕ, zero, suc, ℤ, pos, negsuc, List, [], ◌∷◌, ◌++◌, flat_map}
+use Rattle.std.proofs.Common.{◌≡◌, refl, sym, ap, ◌∙◌, subst, ℕ, zero, suc, pos, negsuc, List, [], ◌∷◌, ◌++◌, flat_map}
 use Rattle.cx_semantics.specs.Words.{Word, number, letter, conflict, other, Placed, words}
 use Rattle.cx_semantics.proofs.Shapes.{Kind, some_integers, Move, closes, stays, refuses, move}
 use Rattle.cx_semantics.proofs.Remaining.{behind, after_word, remaining}

@@ -66,11 +66,13 @@ impl ListLog {
 }
 
 impl LogSink for ListLog {
-    ghost use Rattle.std.specs.Prelude.{Some};
+    ghost use Rattle.std.specs.Prelude.{Some, false};
 
     ghost events = { λ a. Some a };
 
     ghost faults = { λ _. 0 };
+
+    ghost has_failed = { λ _. false };
 
     ghost torn = { λ _ _. ⊥ };
 

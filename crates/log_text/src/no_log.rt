@@ -12,11 +12,13 @@ use proof_text::SinkFault;
 pub struct NoLog;
 
 impl LogSink for NoLog {
-    ghost use Rattle.std.specs.Prelude.{None};
+    ghost use Rattle.std.specs.Prelude.{None, false};
 
     ghost events = { λ _. None };
 
     ghost faults = { λ _. 0 };
+
+    ghost has_failed = { λ _. false };
 
     ghost torn = { λ _ _. ⊥ };
 

@@ -1,9 +1,9 @@
 //! Where the events of a log go, one after another.
-ghost use Rattle.std.specs.Prelude.{◌≡◌, ℕ, List, Option, OnOk, OnErr};
+ghost use Rattle.std.specs.Prelude.{◌≡◌, ℕ, Bool, List, Option, OnOk, OnErr};
 ghost use Rattle.cx_semantics.specs.declared.steps.LogEvent.{LogEvent};
 ghost use Rattle.cx_semantics.specs.declared.steps.LogEvent.TheVariants.{Step, Conflict};
 ghost use Rattle.cx_semantics.specs.Printed.{HasText};
-ghost use Rattle.proof_text.specs.Sinks.{with_next, SinkFaultsAs, OnFailed};
+ghost use Rattle.proof_text.specs.Sinks.{with_next, SinkFaultsAs, HasFailedAs, OnFailed};
 
 use cx_semantics::LogStep;
 use proof_text::SinkFault;
@@ -15,6 +15,9 @@ pub trait LogSink {
 
     // how many write faults it counted
     ghost faults: { Self → ℕ };
+
+    // it has answered `Failed`
+    ghost has_failed: { Self → Bool };
 
     // a part of this event was written behind the events, after a fault
     ghost torn: { Self → LogEvent → Type 0 };
@@ -29,6 +32,7 @@ pub trait LogSink {
         ensures same { OnErr result (events self.new ≡ events self.old) }
         ensures torn { OnFailed result (torn self.new (Step step.now)) }
         ensures faults { SinkFaultsAs result (faults self.old) (faults self.new) }
+        ensures failed { HasFailedAs result (has_failed self.old) (has_failed self.new) }
         ensures frame { keeps self.old self.new };
 
     /// Takes the mark of conflict `k`.
@@ -37,6 +41,7 @@ pub trait LogSink {
         ensures same { OnErr result (events self.new ≡ events self.old) }
         ensures torn { OnFailed result (torn self.new (Conflict k)) }
         ensures faults { SinkFaultsAs result (faults self.old) (faults self.new) }
+        ensures failed { HasFailedAs result (has_failed self.old) (has_failed self.new) }
         ensures frame { keeps self.old self.new };
 
     ghost keeps_itself: { (a : Self) → keeps a a };

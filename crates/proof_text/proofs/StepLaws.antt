@@ -1,5 +1,5 @@
 -- The six steps of proofs from their parts, and what was taken and refused in the grammar of proofs.
-use Rattle.std.proofs.Common.{◌≡◌, ◌≢◌, refl, sym, ℕ, ◌<◌, pos, false, List, [], ◌∷◌}
+use Rattle.std.proofs.Common.{◌≡◌, ◌≢◌, refl, ℕ, ◌<◌, pos, false, List, [], ◌∷◌}
 use Rattle.cx_semantics.specs.declared.steps.ProofStep.{ProofStep}
 use Rattle.cx_semantics.specs.declared.steps.ProofStep.TheVariants as proof
 use Rattle.cx_semantics.specs.Words.{Word, number, letter, Placed, words}

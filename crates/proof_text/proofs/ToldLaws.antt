@@ -1,5 +1,5 @@
 -- What a port that was given lines of steps tells.
-use Rattle.std.proofs.Common.{◌≡◌, refl, sym, ap, ◌∙◌, subst, ℕ, ◌+◌, ◌^◌, ◌<◌, ◌≤◌, ◌==◌, pos, nat_abs, Bool, true, false, cond, List, [], ◌∷◌, ◌++◌, map, flat_map, length, take, append_assoc, append-nil, length-append, lt_of_le_of_lt, arith, Option, Some, None, option_map, zero, suc, ℤ}
+use Rattle.std.proofs.Common.{◌≡◌, refl, sym, ap, ◌∙◌, subst, ℕ, ◌+◌, ◌<◌, ◌≤◌, ◌==◌, pos, true, false, cond, List, [], ◌∷◌, ◌++◌, map, flat_map, length, take, append_assoc, append-nil, length-append, lt_of_le_of_lt, arith, Some, None, option_map, zero, suc, ℤ}
 use Rattle.std.specs.List.{AllByRecursion, join_with_byte}
 use Rattle.std.proofs.lemmas.Grind.{flat_map-append}
 use Rattle.std.proofs.lemmas.List.{take-append-le}
@@ -12,7 +12,7 @@ use Rattle.cx_semantics.specs.Tokens.{is_blank, tokens}
 use Rattle.cx_semantics.specs.Words.{Word, number, letter, conflict, other, placed_words, IsWithin}
 use Rattle.cx_semantics.specs.Grammar.{spelling, spelled_list, Ending, finished}
 use Rattle.cx_semantics.specs.ProofText.{proof_steps, ProofReads}
-use Rattle.cx_semantics.specs.Printed.{printed_word, printed_line, printed_proof, HasProofText}
+use Rattle.cx_semantics.specs.Printed.{printed_word, printed_proof, HasProofText}
 use Rattle.cx_semantics.proofs.Grammars.{proof_forms}
 use Rattle.cx_semantics.proofs.Readings.{one_reading}
 use Rattle.cx_semantics.proofs.Printing.{IsPiece, integer_piece, limit_small, NoFeed, no_feed_joined}

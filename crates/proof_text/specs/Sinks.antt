@@ -1,5 +1,5 @@
 -- What a sink answers.
-use Rattle.std.specs.Prelude.{◌≡◌, ℕ, List, [], ◌∷◌, ◌++◌, Option, option_map, Result, Ok, Err, ⊤}
+use Rattle.std.specs.Prelude.{◌≡◌, ℕ, Bool, true, List, [], ◌∷◌, ◌++◌, Option, option_map, Result, Ok, Err, ⊤}
 use Rattle.proof_text.specs.declared.sink.SinkFault.{SinkFault}
 use Rattle.proof_text.specs.declared.sink.SinkFault.TheVariants.{Memory, Failed}
 use Rattle.proof_text.specs.Sources.{Rose}
@@ -13,6 +13,12 @@ abbrev pub SinkFaultsAs : {T : Type 0} → Result T SinkFault → ℕ → ℕ �
 SinkFaultsAs (Ok answer) before now = now ≡ before
 SinkFaultsAs (Err Memory) before now = now ≡ before
 SinkFaultsAs (Err Failed) before now = Rose before now
+
+-- a sink has failed once it answered a fault of writing
+abbrev pub HasFailedAs : {T : Type 0} → Result T SinkFault → Bool → Bool → Type 0
+HasFailedAs (Ok answer) before now = now ≡ before
+HasFailedAs (Err Memory) before now = now ≡ before
+HasFailedAs (Err Failed) before now = now ≡ true
 
 -- this holds after a fault of writing
 abbrev pub OnFailed : {T : Type 0} → Result T SinkFault → Type 0 → Type 0

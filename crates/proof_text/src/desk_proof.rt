@@ -44,6 +44,8 @@ impl<D: Desk> ProofSink for DeskProof<'_, D> {
 
     ghost faults = { λ s. fault_of s.failed };
 
+    ghost has_failed = { λ s. s.failed };
+
     ghost torn = { λ s step. TornOn step (D.outside s.desk.now) };
 
     ghost keeps = { λ a b. (b.desk.ghost_name ≡ a.desk.ghost_name) × Goes a.failed (D.outside a.desk.now) b.failed (D.outside b.desk.now) };

@@ -64,11 +64,13 @@ impl ListProof {
 }
 
 impl ProofSink for ListProof {
-    ghost use Rattle.std.specs.Prelude.{Some};
+    ghost use Rattle.std.specs.Prelude.{Some, false};
 
     ghost steps = { λ a. Some a };
 
     ghost faults = { λ _. 0 };
+
+    ghost has_failed = { λ _. false };
 
     ghost torn = { λ _ _. ⊥ };
 

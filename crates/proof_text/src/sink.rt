@@ -1,8 +1,8 @@
 //! Where the steps of a proof go, one after another.
-ghost use Rattle.std.specs.Prelude.{◌≡◌, ℕ, List, Option, OnOk, OnErr};
+ghost use Rattle.std.specs.Prelude.{◌≡◌, ℕ, Bool, List, Option, OnOk, OnErr};
 ghost use Rattle.cx_semantics.specs.declared.steps.ProofStep.{ProofStep};
 ghost use Rattle.cx_semantics.specs.Printed.{HasProofText};
-ghost use Rattle.proof_text.specs.Sinks.{with_next, SinkFaultsAs, OnFailed};
+ghost use Rattle.proof_text.specs.Sinks.{with_next, SinkFaultsAs, HasFailedAs, OnFailed};
 
 use cx_semantics::ProofStep;
 use thiserror::Error;
@@ -26,6 +26,9 @@ pub trait ProofSink {
     // how many write faults it counted
     ghost faults: { Self → ℕ };
 
+    // it has answered `Failed`
+    ghost has_failed: { Self → Bool };
+
     // a part of this step was written behind the steps, after a fault
     ghost torn: { Self → ProofStep → Type 0 };
 
@@ -39,6 +42,7 @@ pub trait ProofSink {
         ensures same { OnErr result (steps self.new ≡ steps self.old) }
         ensures torn { OnFailed result (torn self.new step.now) }
         ensures faults { SinkFaultsAs result (faults self.old) (faults self.new) }
+        ensures failed { HasFailedAs result (has_failed self.old) (has_failed self.new) }
         ensures frame { keeps self.old self.new };
 
     ghost keeps_itself: { (a : Self) → keeps a a };

@@ -1,6 +1,14 @@
 //! Worked texts: the steps that are read and printed again, and what is refused and where.
-use super::{ProofText, StepSource, TextRefusal, put_proof_step};
-use cx_desk::{MemDesk, Port, Rooms};
+ghost use Rattle.std.specs.Prelude.{◌≡◌, true, false, OnOk};
+ghost use Rattle.cx_semantics.specs.Printed.{HasProofText};
+ghost use Rattle.proof_text.specs.Texts.{is_spent_by};
+ghost use Rattle.proof_text.specs.Told.{is_whole, Prints};
+
+use super::{
+    DeskProof, ListProof, ProofSink, ProofStep, ProofText, SinkFault, StepSource, TextRefusal,
+    put_proof_step,
+};
+use cx_desk::{Desk, MemDesk, Port, Rooms};
 use std::test::Fail;
 
 /// The printed steps of a text of at most sixteen, and the refusal that it ends with.
@@ -106,4 +114,90 @@ fn a_refusal_comes_again(rt: HostRuntime) {
         Err(_) => panic!(rt; "another refusal"),
         Ok(_) => panic!(rt; "a step"),
     }
+}
+
+/// Gives a step to any sink.
+fn give<S: ProofSink>(sink: &mut S, step: &ProofStep) -> Result<(), SinkFault>
+    requires { HasProofText step.now }
+    ensures failed { OnOk result (S.has_failed sink.new ≡ S.has_failed sink.old) }
+    ensures frame { S.keeps sink.old sink.new }
+{
+    sink.step(step)
+}
+
+/// Prints a step through a sink over a lent desk.
+fn print_through<D: Desk>(desk: &mut D, step: &ProofStep) -> Result<(), SinkFault>
+    requires whole { is_whole (D.outside desk.old).told ≡ true }
+    requires text { HasProofText step.now }
+    ensures { OnOk result (Prints (D.outside desk.old) (D.outside desk.new)) }
+{
+    let mut sink = DeskProof::new(desk);
+    give(&mut sink, step)
+}
+
+/// Gives the steps that a text has left, at most eight, to a sink; how many it refused.
+fn give_all<S: ProofSink>(source: &mut ProofText, sink: &mut S) -> u64
+    requires { is_spent_by source.old.refused ≡ false }
+{
+    let mut refused = 0u64;
+    for _ in 0..8 {
+        match source.next_step() {
+            Ok(Some(step)) => {
+                if give(sink, &step).is_err() {
+                    refused = refused.saturating_add(1);
+                }
+            }
+            _ => break,
+        }
+    }
+    refused
+}
+
+#[test]
+fn a_torn_step_is_the_last_one(rt: HostRuntime) -> Result<(), Fail> {
+    let text = b"6 0 0 7 d 6 0 8 0 0".as_slice();
+    let rooms = Rooms {
+        answer: 0,
+        proof: 8,
+        message: 0,
+    };
+    let mut desk = MemDesk::make(
+        rt.alloc(),
+        Vec::new(rt.alloc()),
+        rooms,
+        3,
+        Vec::new(rt.alloc()),
+    )?;
+    let mut source = ProofText::new(rt.alloc(), text);
+    let refused = give_all(&mut source, &mut DeskProof::new(&mut desk));
+    assert_eq!(rt; refused, 2);
+    assert_eq!(rt; desk.written(Port::Proof), b"6 0 0\n7 ".as_slice());
+    assert_eq!(rt; desk.write_faults(), 1);
+    Ok(())
+}
+
+#[test]
+fn kept_steps_are_those_given(rt: HostRuntime) -> Result<(), Fail> {
+    let mut source = ProofText::new(rt.alloc(), b"6 0 0 7 d 6 0 8 0 0".as_slice());
+    let mut kept = ListProof::make(rt.alloc());
+    let refused = give_all(&mut source, &mut kept);
+    assert_eq!(rt; refused, 0);
+    assert_eq!(rt; kept.steps().len(), 3);
+    let rooms = Rooms {
+        answer: 0,
+        proof: 8,
+        message: 0,
+    };
+    let mut desk = MemDesk::make(
+        rt.alloc(),
+        Vec::new(rt.alloc()),
+        rooms,
+        3,
+        Vec::new(rt.alloc()),
+    )?;
+    if let Some(first) = kept.steps().first() {
+        print_through(&mut desk, first)?;
+    }
+    assert_eq!(rt; desk.written(Port::Proof), b"6 0 0\n".as_slice());
+    Ok(())
 }

@@ -39,6 +39,8 @@ impl<D: Desk> ElabEnds for LogOnDesk<'_, '_, '_, D> {
 
     ghost write_faults = { λ j. fault_of j.sink.failed };
 
+    ghost has_failed = { λ j. j.sink.failed };
+
     ghost torn = { λ j step. TornOn step (D.outside j.sink.desk.now) };
 
     ghost keeps = { λ a b. (b.sink.desk.ghost_name ≡ a.sink.desk.ghost_name) × Goes a.sink.failed (D.outside a.sink.desk.now) b.sink.failed (D.outside b.sink.desk.now) };
