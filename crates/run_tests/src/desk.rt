@@ -16,7 +16,8 @@ fn file(alloc: Global, name: &str, text: &[u8]) -> Result<NamedFile, AllocError>
     })
 }
 
-/// A desk with the files `f` and `s`, ample room, and pieces of this size.
+/// A desk with the files `f` and `s`, this room for an answer, ample room else, and pieces of this
+/// size.
 pub fn two_files(
     alloc: Global,
     formula: &[u8],
@@ -27,12 +28,27 @@ pub fn two_files(
     requires { 1 ≤ piece }
     ensures { IfOk result (λ m. Unasked (outside_of m).asked) }
 {
+    desk_with(alloc, formula, second, answer_room, 1000, piece)
+}
+
+/// The same with this room for a proof.
+pub fn desk_with(
+    alloc: Global,
+    formula: &[u8],
+    second: &[u8],
+    answer_room: usize,
+    proof_room: usize,
+    piece: usize,
+) -> Result<MemDesk, AllocError>
+    requires { 1 ≤ piece }
+    ensures { IfOk result (λ m. Unasked (outside_of m).asked) }
+{
     let mut files = Vec::new(alloc);
     files.push(file(alloc, "f", formula)?)?;
     files.push(file(alloc, "s", second)?)?;
     let rooms = Rooms {
         answer: answer_room,
-        proof: 1000,
+        proof: proof_room,
         message: 1000,
     };
     MemDesk::make(alloc, files, rooms, piece, Vec::new(alloc))

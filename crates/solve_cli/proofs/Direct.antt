@@ -273,9 +273,9 @@ module _ (words : List Bytes) (limit : ℕ) (old : Seen) (s : Status) (new : See
       let d = from_done (plan.Elab f l q) h.outcome asks (is_done h.outcome (sym e ∙ h.status_is)) h.works in
       let ends = d.2.1 in
       let before : d.2.0 ≡ says port.Proof ends.proof (asked_to proof_created (plan.Elab f l q) old) =
-          subst (λ (t : Stage). d.2.0 ≡ says port.Proof ends.proof (asked_to t (plan.Elab f l q) old)) (done_late d.0 d.1) ends.before_is in
+      subst (λ (t : Stage). d.2.0 ≡ says port.Proof ends.proof (asked_to t (plan.Elab f l q) old)) (done_late d.0 d.1) ends.before_is in
       let is : proof_in new ≡ option_map (λ (w : Written). ends.proof) old.written =
-          kept.proof ∙ (ap proof_in d.2.2 ∙ (said_answer (answer_text d.0) d.2.0 ∙ (ap proof_in before ∙ gained_proof q ends.proof (asked_to second_started (plan.Elab f l q) old)))) in
+      kept.proof ∙ (ap proof_in d.2.2 ∙ (said_answer (answer_text d.0) d.2.0 ∙ (ap proof_in before ∙ gained_proof q ends.proof (asked_to second_started (plan.Elab f l q) old)))) in
       if_some_both old.files ends.due ends.gains (λ files due gains. λ reads.
-          if_proof (λ b. (k : ℕ) × Accepted formula b k) new.written (subst (λ (v : Option Bytes). IfSome v (λ b. (k : ℕ) × Accepted formula b k)) (sym is)
-          (if_written (λ b. (k : ℕ) × Accepted formula b k) old.written ends.proof (left_is_accepted f l q limit files formula d.0 ends.proof d.1 due gains reads))))
+      if_proof (λ b. (k : ℕ) × Accepted formula b k) new.written (subst (λ (v : Option Bytes). IfSome v (λ b. (k : ℕ) × Accepted formula b k)) (sym is)
+      (if_written (λ b. (k : ℕ) × Accepted formula b k) old.written ends.proof (left_is_accepted f l q limit files formula d.0 ends.proof d.1 due gains reads))))

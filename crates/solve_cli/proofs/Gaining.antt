@@ -58,7 +58,7 @@ printed_has P (Some t) o n steps empty texts moved gains =
     let by = ap steps_told moved ∙ gained_proof (record o { told = Some t }) steps (whole_told (Some t) empty) texts in
     let both : ◌≡◌ {A = Option (List ProofStep)} (Some (told_steps t.written.proof ++ steps)) (Some (told_steps t.written.proof ++ found.0)) = sym by ∙ found.1 in
     let bare : ◌≡◌ {A = Option (List ProofStep)} (Some steps) (Some found.0) =
-        subst (λ (x : Bytes). ◌≡◌ {A = Option (List ProofStep)} (Some (told_steps x ++ steps)) (Some (told_steps x ++ found.0))) empty both in
+    subst (λ (x : Bytes). ◌≡◌ {A = Option (List ProofStep)} (Some (told_steps x ++ steps)) (Some (told_steps x ++ found.0))) empty both in
     let same : steps ≡ found.0 = cc in
     subst P (sym same) found.2
 
@@ -171,13 +171,13 @@ torn_right f (Some t) o n h step empty gains torn =
     let now = ap (λ (x : Outside). x.told) h.moved.else_same in
     let stands : ◌≡◌ {A = Option (List ProofStep)} (steps_told n) (Some (told_steps (t.written.proof ++ bytes))) = ap (option_map (λ (x : Told). told_steps x.written.proof)) now in
     let plain : ◌≡◌ {A = Option (List ProofStep)} (Some (told_steps bytes)) (Some found.0) =
-        subst (λ (x : Bytes). ◌≡◌ {A = Option (List ProofStep)} (Some (told_steps (x ++ bytes))) (Some (told_steps x ++ found.0))) empty (sym stands ∙ found.1) in
+    subst (λ (x : Bytes). ◌≡◌ {A = Option (List ProofStep)} (Some (told_steps (x ++ bytes))) (Some (told_steps x ++ found.0))) empty (sym stands ∙ found.1) in
     let tells : ◌≡◌ {A = Option (List ProofStep)} (Some h.steps) (Some found.0) = ap (λ (x : List ProofStep). Some x) (sym (torn_steps h.steps h.part h.kept h.texts h.text h.front)) ∙ plain in
     let same : h.steps ≡ found.0 = cc in
     let line_of = subst (λ (x : Option Told). IfSome x (λ y. (before : Bytes) × (k : ℕ) × (begun_line [] before ≡ []) × (k < length (step_line step)) × (y.written.proof ≡ before ++ take k (step_line step)))) now torn.1 in
     let is : bytes ≡ line_of.0 ++ take line_of.1 (step_line step) = subst (λ (x : Bytes). x ++ bytes ≡ line_of.0 ++ take line_of.1 (step_line step)) empty line_of.4 in
     let line : take h.kept (step_line h.part) ≡ take line_of.1 (step_line step) =
-        sym (torn_line h.steps h.part h.kept h.texts h.text h.front) ∙ (ap (begun_line []) is ∙ begun_front line_of.0 step line_of.1 line_of.2 torn.0 line_of.3) in
+    sym (torn_line h.steps h.part h.kept h.texts h.text h.front) ∙ (ap (begun_line []) is ∙ begun_front line_of.0 step line_of.1 line_of.2 torn.0 line_of.3) in
     let runs = subst (Torn f step) (sym same) found.2 in
     torn_front f h.steps step h.part line_of.1 h.kept line (right_on f runs.0 h.steps step runs.1 runs.2)
 

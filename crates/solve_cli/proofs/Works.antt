@@ -385,7 +385,7 @@ elaborated n l q limit old f text e mid at o new h made answers =
     answered p limit old e at o new
     (subst (Ends p limit old e) (sym made.1.1) (ends p limit old f text e made.1.0 mid h (made.0 n l q)
     (if_some_three old.files h.is_formula h.is_second left
-        (λ files read is by. left_gains n l q limit files f e made.1.0 read (subst (λ (x : Bytes). LeftBy e f x made.1.0) is by)))))
+    (λ files read is by. left_gains n l q limit files f e made.1.0 read (subst (λ (x : Bytes). LeftBy e f x made.1.0) is by)))))
     answers
 
 -- the log was not judged to its end, or its proof not written

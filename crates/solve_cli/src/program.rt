@@ -92,11 +92,13 @@ fn work<D: Desk>(alloc: Global, desk: &mut D, words: &[String], limit: u64) -> O
     match plan(alloc, words) {
         Ok(Plan::Check { formula, proof }) => check(alloc, desk, formula, proof, limit),
         Ok(Plan::Model { formula, answer }) => model(alloc, desk, formula, answer, limit),
-        Ok(Plan::Elab {
-            formula,
-            log,
-            proof,
-        }) => elab(alloc, desk, formula, log, proof, limit),
+        Ok(
+            Plan::Elab {
+                formula,
+                log,
+                proof,
+            },
+        ) => elab(alloc, desk, formula, log, proof, limit),
         Ok(Plan::Solve { .. }) => Outcome::Usage,
         Ok(Plan::Demo { .. }) => Outcome::Usage,
         Err(PlanRefusal::Usage) => Outcome::Usage,

@@ -29,6 +29,8 @@ pub returns-in-Err-clause-frame : goal.returns-in-Err-clause-frame
 returns-in-Err-clause-frame g c =
     let old = g.D.Desk.outside c.args.self.now.desk.now in
     let new = g.D.Desk.outside c.put_proof_step.new.desk in
-    let torn = c.in-Err.ensures in
-    (refl, subst (λ (b : Bool). Goes b old true new) (sym c.if-self.false)
-    (record { steps = []; texts = tt; part = c.args.step.now; text = c.requires.text; kept = torn.0; front = torn.1; moved = torn.2 }))
+    let torn = c.in-Err.ensures in (
+      refl,
+      subst (λ (b : Bool). Goes b old true new) (sym c.if-self.false)
+          (record { steps = []; texts = tt; part = c.args.step.now; text = c.requires.text; kept = torn.0; front = torn.1; moved = torn.2 }),
+    )
