@@ -12,12 +12,11 @@ use Rattle.cx_semantics.specs.Implied.{Implies, HasCounterexample}
 use Rattle.cx_semantics.specs.ProofRules.{all_met, parity_of_clauses}
 use Rattle.cx_semantics.specs.Judging.{AllHold, FirstFailure}
 use Rattle.cx_semantics.specs.declared.steps.Cause.TheVariants as causes
-use Rattle.cx_semantics.specs.Tables.{Table, get}
+use Rattle.cx_semantics.specs.Tables.{Table, get, named}
 use Rattle.cx_semantics.proofs.ChainLaws.{and_parts, and_both}
 use Rattle.proof_rules.specs.Assignments.{Lists, odd_sum}
 use Rattle.proof_rules.specs.LiteralSets.{HaveSame}
 use Rattle.proof_rules.specs.Exclusions.{Fits, excluded, is_hit, all_excluded, Excludes, is_outside}
-use Rattle.proof_rules.specs.Kinds.{hinted}
 use Rattle.proof_rules.proofs.ParityValues.{values_by, values-values_by, top, within_top, parity_met-list}
 use Rattle.proof_rules.proofs.ClauseValues.{or_cases}
 use Rattle.proof_rules.proofs.ExclusionLaws.{get_or-excluded, is_hit-same, place_of, place_of-below, ForEach, for_each-map, falsified, is_hit-place, falsified-unmet, not_falsified-met, inside_by_set, marked_by_all, escape, assigned, map-assigned}
@@ -120,11 +119,11 @@ or_moved false b c = refl
 abbrev pub marks : List ℕ → ℕ → List (List Literal) → Bool
 marks xs j clauses = list_any (λ clause. is_hit clause xs 0 1 j) clauses
 
-pub marks-hint : (xs : List ℕ) (j : ℕ) (table : Table) (z : ℤ) (zs : List ℤ) (clause : List Literal) → get table (nat_abs z) ≡ Some clause → (is_hit clause xs 0 1 j || marks xs j (hinted table zs)) ≡ marks xs j (hinted table (z ∷ zs))
-marks-hint xs j table z zs clause h = ap (λ o. marks xs j (cons_option o (hinted table zs))) (sym h)
+pub marks-hint : (xs : List ℕ) (j : ℕ) (table : Table) (n : ℕ) (ns : List ℕ) (clause : List Literal) → get table n ≡ Some clause → (is_hit clause xs 0 1 j || marks xs j (named table ns)) ≡ marks xs j (named table (n ∷ ns))
+marks-hint xs j table n ns clause h = ap (λ o. marks xs j (cons_option o (named table ns))) (sym h)
 
-pub marks-no_hint : (xs : List ℕ) (j : ℕ) (table : Table) (z : ℤ) (zs : List ℤ) → get table (nat_abs z) ≡ None → marks xs j (hinted table zs) ≡ marks xs j (hinted table (z ∷ zs))
-marks-no_hint xs j table z zs h = ap (λ o. marks xs j (cons_option o (hinted table zs))) (sym h)
+pub marks-no_hint : (xs : List ℕ) (j : ℕ) (table : Table) (n : ℕ) (ns : List ℕ) → get table n ≡ None → marks xs j (named table ns) ≡ marks xs j (named table (n ∷ ns))
+marks-no_hint xs j table n ns h = ap (λ o. marks xs j (cons_option o (named table ns))) (sym h)
 
 -- the marks of one more clause
 pub one_more : (set clause : List Literal) → HaveSame set clause → (xs : List ℕ) (j : ℕ) (old new : List Bool) (rest : Bool) → new ≡ excluded set xs 0 1 old → j < length old

@@ -5,3 +5,4 @@ pub mod ParityValues
 pub mod ClauseValues
 pub mod ExclusionLaws
 pub mod ClausesParity
+pub mod StepIntegers

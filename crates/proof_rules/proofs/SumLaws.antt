@@ -10,10 +10,9 @@ use Rattle.cx_base.specs.Parity.{NormalForm, normal_form, symmetric_difference, 
 use Rattle.cx_base.proofs.Odd.{is_odd, is_odd-suc, is_odd-count}
 use Rattle.cx_base.proofs.ParityLaws.{contains-normal_form, contains-symmetric_difference}
 use Rattle.cx_base.proofs.Differences.{differ_assoc, differ_turned, differ_false, differ_itself, same-differ, same_members, contains-one, difference_assoc, difference_nothing, nothing_difference, difference_itself, same-no_difference}
-use Rattle.cx_semantics.specs.Tables.{Table, get}
+use Rattle.cx_semantics.specs.Tables.{Table, get, named}
 use Rattle.cx_semantics.specs.ProofRules.{IsSum}
 use Rattle.proof_rules.specs.Assignments.{AreDistinct}
-use Rattle.proof_rules.specs.Kinds.{hinted}
 use Rattle.proof_rules.specs.Sums.{zero_sum, plus, flipped, turned, plus_all}
 
 pub plus_assoc : (p q r : NormalForm) → plus (plus p q) r ≡ plus p (plus q r)
@@ -93,11 +92,11 @@ plus_all-none p = ap (plus p) sum_of-none ∙ plus_zero p
 plus_all-cons : (p : NormalForm) (lits : List Literal) (parities : List (List Literal)) → plus_all (plus p (normal_form lits)) parities ≡ plus_all p (lits ∷ parities)
 plus_all-cons p lits parities = plus_assoc p (normal_form lits) (sum_of (map normal_form parities)) ∙ ap (plus p) (sym (sum_of-cons (normal_form lits) (map normal_form parities)))
 
-pub plus_all-hint : (p : NormalForm) (table : Table) (z : ℤ) (zs : List ℤ) (lits : List Literal) → get table (nat_abs z) ≡ Some lits → plus_all (plus p (normal_form lits)) (hinted table zs) ≡ plus_all p (hinted table (z ∷ zs))
-plus_all-hint p table z zs lits h = plus_all-cons p lits (hinted table zs) ∙ ap (λ o. plus_all p (cons_option o (hinted table zs))) (sym h)
+pub plus_all-hint : (p : NormalForm) (table : Table) (n : ℕ) (ns : List ℕ) (lits : List Literal) → get table n ≡ Some lits → plus_all (plus p (normal_form lits)) (named table ns) ≡ plus_all p (named table (n ∷ ns))
+plus_all-hint p table n ns lits h = plus_all-cons p lits (named table ns) ∙ ap (λ o. plus_all p (cons_option o (named table ns))) (sym h)
 
-pub plus_all-no_hint : (p : NormalForm) (table : Table) (z : ℤ) (zs : List ℤ) → get table (nat_abs z) ≡ None → plus_all p (hinted table zs) ≡ plus_all p (hinted table (z ∷ zs))
-plus_all-no_hint p table z zs h = ap (λ o. plus_all p (cons_option o (hinted table zs))) (sym h)
+pub plus_all-no_hint : (p : NormalForm) (table : Table) (n : ℕ) (ns : List ℕ) → get table n ≡ None → plus_all p (named table ns) ≡ plus_all p (named table (n ∷ ns))
+plus_all-no_hint p table n ns h = ap (λ o. plus_all p (cons_option o (named table ns))) (sym h)
 
 -- ---- nothing is left
 

@@ -16,9 +16,11 @@ use std::alloc::{AllocError, Global};
 
 /// What is left of a clause.
 #[derive(Clone, Copy, Drop)]
-enum LeftOf {
+pub enum LeftOf {
     Nothing,
+    /// One literal, perhaps at several places.
     One(Lit),
+    /// Two different literals at least.
     More,
 }
 
@@ -51,7 +53,7 @@ fn with(found: LeftOf, lit: Lit) -> LeftOf
 }
 
 /// What is left of the clause where the negations of assumed literals are taken out.
-fn left_of(assumed: &LiteralSet, clause: &[Lit]) -> LeftOf
+pub fn left_of(assumed: &LiteralSet, clause: &[Lit]) -> LeftOf
     ensures { left_seen result ≡ count_left (left assumed.now clause.now) }
 {
     let mut found = LeftOf::Nothing;

@@ -2,12 +2,11 @@
 ghost use Rattle.std.specs.Prelude.{◌≡◌, ◌<◌, ◌≤◌, length, IfOk};
 ghost use Rattle.std.specs.List.{list_any};
 ghost use Rattle.cx_semantics.specs.ProofRules.{parity_of_clauses};
+ghost use Rattle.cx_semantics.specs.Tables.{named};
 ghost use Rattle.proof_rules.specs.Exclusions.{Fits, excluded, all_excluded, Excludes, is_outside};
 ghost use Rattle.proof_rules.specs.Judges.{JudgesBy};
-ghost use Rattle.proof_rules.specs.Kinds.{hinted};
 
 use crate::JudgeRefusal;
-use crate::hints::id_of;
 use crate::literal_set::LiteralSet;
 use crate::live::Live;
 use crate::parity_sum::ParitySum;
@@ -25,12 +24,12 @@ fn is_outside(sum: &ParitySum, clause: &[Lit]) -> bool
     clause.iter().any(|lit| !sum.has(lit.var()))
 }
 
-/// Whether some hinted clause has a variable that is not left in the sum.
-fn any_outside(sum: &ParitySum, live: &Live, hints: &[i64]) -> bool
-    ensures { result ≡ list_any (is_outside sum.now.variables) (hinted live.now.clauses hints.now) }
+/// Whether some named clause has a variable that is not left in the sum.
+fn any_outside(sum: &ParitySum, live: &Live, ids: &[u64]) -> bool
+    ensures { result ≡ list_any (is_outside sum.now.variables) (named live.now.clauses ids.now) }
 {
-    for hint in hints {
-        if let Some(clause) = live.clause(id_of(*hint)) {
+    for id in ids {
+        if let Some(clause) = live.clause(*id) {
             if is_outside(sum, clause) {
                 return true;
             }
@@ -60,19 +59,19 @@ fn exclude(table: &mut [bool], variables: &[Var], clause: &LiteralSet, place: us
     }
 }
 
-/// The table of the assignments that the hinted clauses exclude.
+/// The table of the assignments that the named clauses exclude.
 fn exclusions(
     alloc: Global,
     variables: &[Var],
     live: &Live,
-    hints: &[i64],
+    ids: &[u64],
 ) -> Result<Vec<bool>, AllocError>
     requires { length variables.now ≤ WIDEST }
-    ensures { IfOk result (λ table. Excludes variables.now (hinted live.now.clauses hints.now) table.items) }
+    ensures { IfOk result (λ table. Excludes variables.now (named live.now.clauses ids.now) table.items) }
 {
     let mut table = vec![in alloc; false; 1 << variables.len()]?;
-    for hint in hints {
-        if let Some(clause) = live.clause(id_of(*hint)) {
+    for id in ids {
+        if let Some(clause) = live.clause(*id) {
             let set = LiteralSet::of(alloc, clause)?;
             exclude(&mut table, variables, &set, 0, 1);
         }
@@ -95,24 +94,24 @@ fn all_excluded(table: &[bool], variables: &[Var], place: usize, step: usize, wr
     }
 }
 
-/// Judges the target as implied by the clauses that the hints name.
+/// Judges the target as implied by the clauses that the ids name.
 pub(crate) fn judge_target(
     alloc: Global,
     live: &Live,
     target: &[Lit],
-    hints: &[i64],
+    ids: &[u64],
 ) -> Result<(), JudgeRefusal>
-    ensures { JudgesBy (parity_of_clauses target.now (hinted live.now.clauses hints.now)) result }
+    ensures { JudgesBy (parity_of_clauses target.now (named live.now.clauses ids.now)) result }
 {
     let sum = ParitySum::of(alloc, target)?;
     if sum.width() > WIDEST {
         return Err(JudgeRefusal::Wrong(Cause::TooWide));
     }
-    if any_outside(&sum, live, hints) {
+    if any_outside(&sum, live, ids) {
         return Err(JudgeRefusal::Wrong(Cause::ClauseOutside));
     }
     let variables = sum.variables(alloc)?;
-    let table = exclusions(alloc, &variables, live, hints)?;
+    let table = exclusions(alloc, &variables, live, ids)?;
     if all_excluded(&table, &variables, 0, 1, sum.right_side()) {
         Ok(())
     } else {

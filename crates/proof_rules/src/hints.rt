@@ -1,8 +1,9 @@
 //! The rules that all hints of a step meet.
-ghost use Rattle.std.specs.Prelude.{◌≡◌, nat_abs, not, ℤ};
+ghost use Rattle.std.specs.Prelude.{◌≡◌, nat_abs, not, IfOk, ℤ};
 ghost use Rattle.std.specs.List.{list_any};
-ghost use Rattle.cx_semantics.specs.Integers.{is_negative};
+ghost use Rattle.cx_semantics.specs.Integers.{is_negative, sizes};
 ghost use Rattle.cx_semantics.specs.Tables.{is_live};
+ghost use Rattle.cx_semantics.specs.LogRules.{naming};
 ghost use Rattle.cx_semantics.specs.ProofRules.{hinting};
 ghost use Rattle.proof_rules.specs.Judges.{JudgesBy};
 ghost use Rattle.proof_rules.specs.Kinds.{chosen};
@@ -10,6 +11,7 @@ ghost use Rattle.proof_rules.specs.Kinds.{chosen};
 use crate::JudgeRefusal;
 use crate::live::{Kind, Live};
 use cx_semantics::Cause;
+use std::alloc::{AllocError, Global};
 
 /// The id that a hint names.
 pub(crate) fn id_of(hint: i64) -> u64
@@ -41,6 +43,34 @@ pub(crate) fn judge_hints(live: &Live, kind: Kind, hints: &[i64]) -> Result<(), 
     }
     if any_not_live(live, kind, hints) {
         return Err(JudgeRefusal::Wrong(Cause::HintNotLive));
+    }
+    Ok(())
+}
+
+/// The ids that hints name.
+pub fn ids_of(alloc: Global, hints: &[i64]) -> Result<Vec<u64>, AllocError>
+    ensures { IfOk result (λ ids. ids.items ≡ sizes hints.now) }
+{
+    let mut ids = Vec::with_capacity(alloc, hints.len())?;
+    for hint in hints {
+        ids.push(id_of(*hint))?;
+    }
+    Ok(ids)
+}
+
+/// Whether some id is not that of a live constraint of the kind.
+fn any_unknown(live: &Live, kind: Kind, ids: &[u64]) -> bool
+    ensures { result ≡ list_any (λ n. not (is_live (chosen kind live.now) n)) ids.now }
+{
+    ids.iter().any(|id| !live.has(kind, *id))
+}
+
+/// Judges ids that a log names: each is that of a live constraint of the kind.
+pub(crate) fn judge_names(live: &Live, kind: Kind, ids: &[u64]) -> Result<(), JudgeRefusal>
+    ensures { JudgesBy (naming (chosen kind live.now) ids.now) result }
+{
+    if any_unknown(live, kind, ids) {
+        return Err(JudgeRefusal::Wrong(Cause::NotLive));
     }
     Ok(())
 }

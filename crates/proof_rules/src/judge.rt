@@ -5,7 +5,7 @@ ghost use Rattle.cx_semantics.specs.Tables.{named};
 ghost use Rattle.cx_semantics.specs.ProofRules.{hinting, chaining, summing, clause_of_parity, parity_of_clauses};
 ghost use Rattle.proof_rules.specs.Judges.{JudgesBy};
 
-use crate::hints::{id_of, judge_hints};
+use crate::hints::{id_of, ids_of, judge_hints};
 use crate::live::Kind;
 use crate::{JudgeRefusal, Live, chain, clauses_parity, parity_clause, sum};
 use cx_base::LitList;
@@ -41,7 +41,8 @@ pub fn judge_sum(
     ensures { JudgesBy (hinting live.now.parities hints.now ++ summing target.now (named live.now.parities (sizes hints.now))) result }
 {
     judge_hints(live, Kind::Parities, hints)?;
-    sum::judge_target(alloc, live, target.as_slice(), hints)
+    let ids = ids_of(alloc, hints)?;
+    sum::judge_target(alloc, live, target.as_slice(), &ids)
 }
 
 /// Judges a clause as implied by the one live parity that the hint names.
@@ -74,5 +75,6 @@ pub fn judge_parity_of_clauses(
     ensures { JudgesBy (hinting live.now.clauses hints.now ++ parity_of_clauses target.now (named live.now.clauses (sizes hints.now))) result }
 {
     judge_hints(live, Kind::Clauses, hints)?;
-    clauses_parity::judge_target(alloc, live, target.as_slice(), hints)
+    let ids = ids_of(alloc, hints)?;
+    clauses_parity::judge_target(alloc, live, target.as_slice(), &ids)
 }

@@ -1,20 +1,29 @@
 //! The rules of proof steps, each judged exactly, over the tables of live clauses and parities.
 #![tactic(auto)]
 
+mod added;
 mod chain;
 mod clauses_parity;
 mod hints;
 mod judge;
 mod literal_set;
 mod live;
+mod named;
 mod parity_clause;
 mod parity_sum;
 mod refusal;
+mod same;
 mod sum;
 
+pub use added::{judge_added, literals_of};
+pub use chain::{LeftOf, left_of};
+pub use hints::ids_of;
 pub use judge::{judge_chain, judge_clause_of_parity, judge_parity_of_clauses, judge_sum};
+pub use literal_set::LiteralSet;
 pub use live::Live;
+pub use named::{judge_clause_of_named_parity, judge_named_sum, judge_parity_of_named_clauses};
 pub use refusal::JudgeRefusal;
+pub use same::{have_same_form, have_same_literals};
 
 #[cfg(test)]
 mod tests;

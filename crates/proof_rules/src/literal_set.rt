@@ -10,7 +10,7 @@ use std::marker::Model;
 
 /// A set of literals, which a contract sees as a list of them in some order.
 #[derive(Drop)]
-pub(crate) struct LiteralSet {
+pub struct LiteralSet {
     lits: BTreeSet<Lit>,
 }
 
@@ -34,7 +34,7 @@ impl LiteralSet {
     }
 
     /// The set of the literals.
-    pub(crate) fn of(alloc: Global, lits: &[Lit]) -> Result<LiteralSet, AllocError>
+    pub fn of(alloc: Global, lits: &[Lit]) -> Result<LiteralSet, AllocError>
         ensures same { IfOk result (λ set. HaveSame set lits.now) }
         ensures positive { OnOk result (ArePositive lits.now) }
     {
@@ -48,7 +48,7 @@ impl LiteralSet {
     }
 
     /// The set of the negations of the literals.
-    pub(crate) fn of_negations(alloc: Global, lits: &[Lit]) -> Result<LiteralSet, AllocError>
+    pub fn of_negations(alloc: Global, lits: &[Lit]) -> Result<LiteralSet, AllocError>
         ensures { IfOk result (λ set. HaveSame set (negations lits.now)) }
     {
         let mut set = LiteralSet::new(alloc);
@@ -59,14 +59,14 @@ impl LiteralSet {
     }
 
     /// Whether it has the literal.
-    pub(crate) fn contains(&self, lit: Lit) -> bool
+    pub fn contains(&self, lit: Lit) -> bool
         ensures { result ≡ has_literal self.now lit }
     {
         self.lits.contains(&lit)
     }
 
     /// Puts a literal in.
-    pub(crate) fn insert(&mut self, lit: Lit) -> Result<(), AllocError>
+    pub fn insert(&mut self, lit: Lit) -> Result<(), AllocError>
         ensures { OnOk result (HaveSame self.new (lit ∷ self.old)) }
     {
         self.lits.insert(lit)?;

@@ -1,9 +1,9 @@
 //! The live clauses and parities of a proof, by their ids.
-ghost use Rattle.std.specs.Prelude.{◌≡◌, OnOk, OnErr, [], ◌∷◌, option_map, MatchOption, None, Some};
+ghost use Rattle.std.specs.Prelude.{◌≡◌, IfOk, OnOk, OnErr, [], ◌∷◌, option_map, MatchOption, None, Some};
 ghost use Rattle.cx_semantics.specs.Tables.{Tables, get, is_live, put_clause, put_parity, drop_clauses, drop_parities, no_tables};
-ghost use Rattle.proof_rules.specs.Kinds.{chosen};
+ghost use Rattle.proof_rules.specs.Kinds.{chosen, ListsLive};
 
-use cx_base::{Lit, LitList};
+use cx_base::{IdList, Lit, LitList};
 use std::alloc::{AllocError, Global};
 use std::collections::BTreeMap;
 use std::marker::Model;
@@ -65,6 +65,17 @@ impl Live {
             Kind::Clauses => self.has_clause(id),
             Kind::Parities => self.has_parity(id),
         }
+    }
+
+    /// The ids of the live clauses.
+    pub fn clause_ids(&self, alloc: Global) -> Result<IdList, AllocError>
+        ensures { IfOk result (ListsLive self.now.clauses) }
+    {
+        let mut ids = Vec::new(alloc);
+        for id in self.clauses.keys() {
+            ids.push(*id)?;
+        }
+        Ok(IdList::from_vec(ids))
     }
 
     /// The literals of the live clause of this id.

@@ -1,41 +1,40 @@
 //! Parities as sums of parities.
 ghost use Rattle.std.specs.Prelude.{◌≡◌, OnOk};
 ghost use Rattle.cx_semantics.specs.ProofRules.{summing};
+ghost use Rattle.cx_semantics.specs.Tables.{named};
 ghost use Rattle.proof_rules.specs.Judges.{JudgesBy};
-ghost use Rattle.proof_rules.specs.Kinds.{hinted};
 ghost use Rattle.proof_rules.specs.Sums.{plus_all};
 
 use crate::JudgeRefusal;
-use crate::hints::id_of;
 use crate::live::Live;
 use crate::parity_sum::ParitySum;
 use cx_base::Lit;
 use cx_semantics::Cause;
 use std::alloc::{AllocError, Global};
 
-/// Adds each parity that the hints name, as often as they name it.
-fn add_hinted(sum: &mut ParitySum, live: &Live, hints: &[i64]) -> Result<(), AllocError>
-    ensures { OnOk result (sum.new ≡ plus_all sum.old (hinted live.now.parities hints.now)) }
+/// Adds each parity that the ids name, as often as they name it.
+fn add_named(sum: &mut ParitySum, live: &Live, ids: &[u64]) -> Result<(), AllocError>
+    ensures { OnOk result (sum.new ≡ plus_all sum.old (named live.now.parities ids.now)) }
 {
-    for hint in hints {
-        if let Some(lits) = live.parity(id_of(*hint)) {
+    for id in ids {
+        if let Some(lits) = live.parity(*id) {
             sum.add(lits)?;
         }
     }
     Ok(())
 }
 
-/// Judges the target as the sum of the parities that the hints name.
+/// Judges the target as the sum of the parities that the ids name.
 pub(crate) fn judge_target(
     alloc: Global,
     live: &Live,
     target: &[Lit],
-    hints: &[i64],
+    ids: &[u64],
 ) -> Result<(), JudgeRefusal>
-    ensures { JudgesBy (summing target.now (hinted live.now.parities hints.now)) result }
+    ensures { JudgesBy (summing target.now (named live.now.parities ids.now)) result }
 {
     let mut sum = ParitySum::of(alloc, target)?;
-    add_hinted(&mut sum, live, hints)?;
+    add_named(&mut sum, live, ids)?;
     if sum.is_zero() {
         Ok(())
     } else {

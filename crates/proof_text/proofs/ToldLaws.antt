@@ -127,6 +127,19 @@ told_proof b (s ∷ steps) e h =
     ∙ told_proof (b ++ step_line s) steps (step_ends b s e h.0) h.1
     ∙ ap (λ x. x ++ steps) (told_step b s e h.0) ∙ append_assoc (told_steps b) (s ∷ []) steps
 
+-- the lines of a proof leave no line begun
+pub begun_proof : (b : Bytes) (steps : List ProofStep) → begun_line [] b ≡ [] → AllByRecursion HasProofText steps → begun_line [] (b ++ printed_proof steps) ≡ []
+begun_proof b [] e h = ap (begun_line []) (append-nil b) ∙ e
+begun_proof b (s ∷ steps) e h = ap (begun_line []) (sym (append_assoc b (step_line s) (printed_proof steps))) ∙ begun_proof (b ++ step_line s) steps (step_ends b s e h.0) h.1
+
+-- a front of a step's line behind whole lines is the line that is begun
+pub begun_front : (b : Bytes) (s : ProofStep) (k : ℕ) → begun_line [] b ≡ [] → HasProofText s → k < length (step_line s) → begun_line [] (b ++ take k (step_line s)) ≡ take k (step_line s)
+begun_front b s k e h low =
+    let l : length (step_line s) ≡ length (words_text s) + 1 = length-append (words_text s) (10 ∷ []) in
+    let within : k ≤ length (words_text s) = omega arith in
+    let front : take k (step_line s) ≡ take k (words_text s) = take-append-le k (words_text s) (10 ∷ []) within in
+    begun-append [] b (take k (step_line s)) ∙ ap (λ x. begun_line x (take k (step_line s))) e ∙ ap (begun_line []) front ∙ all_begun [] (take k (words_text s)) (no_feed_front k (words_text s) (no_feed_step s h)) ∙ sym front
+
 -- ---- the outside
 
 none_left : (b : Bytes) → is_none b ≡ true → b ≡ []

@@ -47,7 +47,7 @@ step_line step = printed_line (spelling proof_steps step)
 
 -- behind whole lines stands a front of the step's line that is not all of it
 abbrev pub TornOn : ProofStep → Outside → Type 0
-TornOn step o = IfSome o.told (λ t. (before : Bytes) × (k : ℕ) × (begun_line [] before ≡ []) × (k < length (step_line step)) × (t.written.proof ≡ before ++ take k (step_line step)))
+TornOn step o = HasProofText step × IfSome o.told (λ t. (before : Bytes) × (k : ℕ) × (begun_line [] before ≡ []) × (k < length (step_line step)) × (t.written.proof ≡ before ++ take k (step_line step)))
 
 -- the proof port gained the lines of these steps, and nothing else changed
 pub record Prints (old new : Outside) : Type 0 where
@@ -65,9 +65,13 @@ pub record Tears (old new : Outside) : Type 0 where
   pub front : kept < length (step_line part)
   pub moved : WriteFaulted (gained Proof (printed_proof steps ++ take kept (step_line part)) old) new
 
--- from a state of a sink to a later one: whether it failed, how many steps it refused since, and the outside
-abbrev pub Goes : Bool → ℕ → Outside → Bool → ℕ → Outside → Type 0
-Goes true n old true m new = (new ≡ old) × (n ≤ m)
-Goes true n old false m new = ⊥
-Goes false n old false m new = (m ≡ n) × Prints old new
-Goes false n old true m new = (n ≤ m) × Tears old new
+-- the faults that a sink counted, by whether it failed
+abbrev pub fault_of : Bool → ℕ
+fault_of failed = cond failed 1 0
+
+-- from a state of a sink to a later one: whether it failed, and the outside
+abbrev pub Goes : Bool → Outside → Bool → Outside → Type 0
+Goes true old true new = new ≡ old
+Goes true old false new = ⊥
+Goes false old false new = Prints old new
+Goes false old true new = Tears old new

@@ -1,7 +1,7 @@
 -- States of a sink that prints, one after another.
-use Rattle.std.specs.Prelude.{◌≡◌, refl, ℕ, ◌≤◌, Bool, true, false, List, [], ◌∷◌, ◌++◌, take}
+use Rattle.std.specs.Prelude.{◌≡◌, refl, Bool, true, false, List, [], ◌∷◌, ◌++◌, take}
 use Rattle.std.specs.List.{AllByRecursion}
-use Rattle.std.proofs.Common.{sym, ap, ◌∙◌, subst, append_assoc, le_refl, arith}
+use Rattle.std.proofs.Common.{sym, ap, ◌∙◌, subst, append_assoc, append-nil}
 use Rattle.std.proofs.lemmas.Grind.{flat_map-append}
 use Rattle.cx_desk.specs.declared.desk.Port.TheVariants.{Proof}
 use Rattle.cx_desk.specs.Outside.{Bytes, Outside}
@@ -14,9 +14,9 @@ use Rattle.proof_text.specs.Told.{step_line, Prints, Tears, Goes}
 prints_nothing : (o : Outside) → Prints o o
 prints_nothing o = record { steps = []; texts = tt; moved = sym (gained-none Proof o) }
 
-pub goes_itself : (failed : Bool) (n : ℕ) (o : Outside) → Goes failed n o failed n o
-goes_itself true n o = (refl, le_refl n)
-goes_itself false n o = (refl, prints_nothing o)
+pub goes_itself : (failed : Bool) (o : Outside) → Goes failed o failed o
+goes_itself true o = refl
+goes_itself false o = prints_nothing o
 
 all_append : (xs ys : List ProofStep) → AllByRecursion HasProofText xs → AllByRecursion HasProofText ys → AllByRecursion HasProofText (xs ++ ys)
 all_append [] ys h k = k
@@ -48,11 +48,11 @@ tears_on a b c h k =
       moved = subst (λ (o : Outside). WriteFaulted o c) same k.moved;
     }
 
-pub goes_on : (f : Bool) (n : ℕ) (a : Outside) (g : Bool) (m : ℕ) (b : Outside) (i : Bool) (l : ℕ) (c : Outside) → Goes f n a g m b → Goes g m b i l c → Goes f n a i l c
-goes_on true n a true m b true l c h k = (k.0 ∙ h.0, let x : n ≤ m = h.1 in let y : m ≤ l = k.1 in omega arith)
-goes_on true n a true m b false l c h k = k
-goes_on true n a false m b i l c h k = absurd h
-goes_on false n a true m b true l c h k = (let x : n ≤ m = h.0 in let y : m ≤ l = k.1 in omega arith, subst (Tears a) (sym k.0) h.1)
-goes_on false n a true m b false l c h k = absurd k
-goes_on false n a false m b true l c h k = (let x : m ≡ n = h.0 in let y : m ≤ l = k.0 in omega arith, tears_on a b c h.1 k.1)
-goes_on false n a false m b false l c h k = (k.0 ∙ h.0, prints_on a b c h.1 k.1)
+pub goes_on : (f : Bool) (a : Outside) (g : Bool) (b : Outside) (i : Bool) (c : Outside) → Goes f a g b → Goes g b i c → Goes f a i c
+goes_on true a true b true c h k = k ∙ h
+goes_on true a true b false c h k = k
+goes_on true a false b i c h k = absurd h
+goes_on false a true b true c h k = subst (Tears a) (sym k) h
+goes_on false a true b false c h k = absurd k
+goes_on false a false b true c h k = tears_on a b c h k
+goes_on false a false b false c h k = prints_on a b c h k

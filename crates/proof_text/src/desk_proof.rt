@@ -9,13 +9,12 @@ use cx_semantics::ProofStep;
 
 /// A sink that prints each step on the proof port of a lent desk at once. It takes no memory.
 ///
-/// Where the desk tells its bytes, it tells the steps of the port's whole lines. After a fault it
-/// writes no more: each further step is refused, and counted as a fault of the sink.
+/// Where the desk tells its bytes, it tells the steps of the port's whole lines. It counts one fault
+/// at most: after that it takes nothing more, and answers `Memory`.
 #[derive(Drop)]
 pub struct DeskProof<'a, D: Desk> {
     desk: &'a mut D,
     failed: bool,
-    refused: u64,
     // between two steps no line is begun
     ghost whole: { failed ≡ false → is_whole (D.outside desk.now).told ≡ true },
 }
@@ -27,36 +26,33 @@ impl<'a, D: Desk> DeskProof<'a, D> {
         ensures same_desk { result.desk.ghost_name ≡ desk.entry.ghost_name }
         ensures outside { D.outside result.desk.now ≡ D.outside desk.entry.now }
         ensures whole { result.failed ≡ false }
-        ensures none_refused { result.refused ≡ 0 }
     {
         DeskProof {
             desk,
             failed: false,
-            refused: 0,
         }
     }
 }
 
 impl<D: Desk> ProofSink for DeskProof<'_, D> {
-    ghost use Rattle.std.specs.Prelude.{◌≡◌, ◌+◌, refl};
+    ghost use Rattle.std.specs.Prelude.{◌≡◌, refl};
     ghost use Rattle.std.proofs.Common.{◌∙◌};
-    ghost use Rattle.proof_text.specs.Told.{steps_told, TornOn, Goes};
+    ghost use Rattle.proof_text.specs.Told.{steps_told, fault_of, TornOn, Goes};
     ghost use Rattle.proof_text.specs.ToldSteps.{goes_itself, goes_on};
 
     ghost steps = { λ s. steps_told (D.outside s.desk.now) };
 
-    ghost faults = { λ s. (D.outside s.desk.now).faults.writes + s.refused };
+    ghost faults = { λ s. fault_of s.failed };
 
     ghost has_failed = { λ s. s.failed };
 
-    ghost torn = { λ s step. s.refused ≡ 0 → TornOn step (D.outside s.desk.now) };
+    ghost torn = { λ s step. TornOn step (D.outside s.desk.now) };
 
-    ghost keeps = { λ a b. (b.desk.ghost_name ≡ a.desk.ghost_name) × Goes a.failed a.refused (D.outside a.desk.now) b.failed b.refused (D.outside b.desk.now) };
+    ghost keeps = { λ a b. (b.desk.ghost_name ≡ a.desk.ghost_name) × Goes a.failed (D.outside a.desk.now) b.failed (D.outside b.desk.now) };
 
     fn step(&mut self, step: &ProofStep) -> Result<(), SinkFault> {
         if self.failed {
-            self.refused = self.refused.saturating_add(1);
-            return Err(SinkFault::Failed);
+            return Err(SinkFault::Memory);
         }
         self.failed = true;
         match put_proof_step(self.desk, Port::Proof, step) {
@@ -68,7 +64,7 @@ impl<D: Desk> ProofSink for DeskProof<'_, D> {
         }
     }
 
-    ghost keeps_itself = { λ a. (refl, goes_itself a.failed a.refused (D.outside a.desk.now)) };
+    ghost keeps_itself = { λ a. (refl, goes_itself a.failed (D.outside a.desk.now)) };
 
-    ghost keeps_on = { λ a b c h k. (k.0 ∙ h.0, goes_on a.failed a.refused (D.outside a.desk.now) b.failed b.refused (D.outside b.desk.now) c.failed c.refused (D.outside c.desk.now) h.1 k.1) };
+    ghost keeps_on = { λ a b c h k. (k.0 ∙ h.0, goes_on a.failed (D.outside a.desk.now) b.failed (D.outside b.desk.now) c.failed (D.outside c.desk.now) h.1 k.1) };
 }

@@ -1,5 +1,5 @@
 //! Proofs that are verified, and proofs that are refused at a step for a cause.
-use crate::desk::expect_check;
+use crate::desk::expect_run;
 use std::alloc::{AllocError, Global};
 use std::process::Abort;
 use std::test::Fail;
@@ -11,7 +11,7 @@ const TRIANGLE: &str = "p cnf 3 3\nx1 2 0\nx2 3 0\nx1 3 0\n";
 const SQUARE: &str = "p cnf 2 4\n1 2 0\n-1 2 0\n1 -2 0\n-1 -2 0\n";
 
 fn verified(rt: &impl Abort, alloc: Global, formula: &str, proof: &str) -> Result<(), AllocError> {
-    expect_check(rt, alloc, formula, proof, 0, "s VERIFIED\n")
+    expect_run(rt, alloc, "check", formula, proof, 0, "s VERIFIED\n")
 }
 
 fn refused(
@@ -22,7 +22,7 @@ fn refused(
     first_line: &str,
 ) -> Result<(), AllocError> {
     let answer = format!(in alloc; "c step {first_line}\ns NOT VERIFIED\n")?;
-    expect_check(rt, alloc, formula, proof, 7, answer.as_str())
+    expect_run(rt, alloc, "check", formula, proof, 7, answer.as_str())
 }
 
 #[test]

@@ -6,4 +6,8 @@ mod check;
 #[cfg(test)]
 mod desk;
 #[cfg(test)]
+mod elab;
+#[cfg(test)]
+mod model;
+#[cfg(test)]
 mod refusals;

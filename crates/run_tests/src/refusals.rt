@@ -22,7 +22,7 @@ fn refused(
         answer: "",
         message: message.as_str(),
     };
-    expect_within(rt, alloc, formula, "", 4_294_967_295, &expected)
+    expect_within(rt, alloc, "check", formula, "", 4_294_967_295, &expected)
 }
 
 #[test]
@@ -76,7 +76,15 @@ fn limited(
         answer,
         message,
     };
-    expect_within(rt, alloc, formula, "2 0 1 0\nzzz\n", limit, &expected)
+    expect_within(
+        rt,
+        alloc,
+        "check",
+        formula,
+        "2 0 1 0\nzzz\n",
+        limit,
+        &expected,
+    )
 }
 
 #[test]
@@ -127,7 +135,7 @@ fn words_are_refused_or_taken(rt: HostRuntime) -> Result<(), Fail> {
     );
     assert_eq!(rt;
         status_of(alloc, ["cxsat", "check", "f", ""].as_slice())?,
-        2
+        4
     );
     assert_eq!(rt; status_of(alloc, ["cxsat", "check", "f"].as_slice())?, 2);
     assert_eq!(rt; status_of(alloc, ["cxsat"].as_slice())?, 2);

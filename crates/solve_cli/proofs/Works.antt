@@ -1,7 +1,8 @@
 -- From the steps of a command to what it does.
-use Rattle.std.proofs.Common.{true, ◌≡◌, ◌<◌, ◌≤◌, ℕ, [], length, take, Option, Some, None, IfSome, Result, Ok, Err, inl, inr, refl, ap, sym, subst, ◌∙◌, append-nil}
+use Rattle.std.proofs.Common.{true, false, ◌≡◌, ◌<◌, ◌≤◌, ℕ, [], length, take, Option, Some, None, IfSome, Result, Ok, Err, inl, inr, refl, ap, sym, subst, ◌∙◌, append-nil}
 use Rattle.cx_base.specs.Problem.{Problem}
 use Rattle.cx_semantics.specs.FormulaText.{FirstOffence}
+use Rattle.cx_semantics.specs.Tables.{first_tables}
 use Rattle.cx_semantics.specs.declared.offence.Offence.{Offence}
 use Rattle.cx_semantics.specs.declared.offence.Offence.TheVariants as offence
 use Rattle.cnfx_reader.specs.ReadsTo.{IsRefusedAs}
@@ -11,23 +12,26 @@ use Rattle.cx_desk.specs.declared.desk.Slot.{Slot}
 use Rattle.cx_desk.specs.declared.desk.Slot.TheVariants as slot
 use Rattle.cx_desk.specs.declared.desk.Port.{Port}
 use Rattle.cx_desk.specs.declared.desk.Port.TheVariants as port
-use Rattle.cx_desk.specs.Outside.{Bytes, Files, Written, Outside}
+use Rattle.cx_desk.specs.Outside.{Bytes, Files, Written, Outside, Faults}
 use Rattle.cx_desk.specs.Calls.{gained, PutsAll, MessageFaulted}
-use Rattle.solve_cli.specs.declared.plans.Plan.{Plan}
+use Rattle.cx_words.specs.declared.plans.Plan.{Plan}
+use Rattle.cx_words.specs.declared.plans.Plan.TheVariants as plan
 use Rattle.solve_cli.specs.declared.ending.Ending.{Ending}
 use Rattle.solve_cli.specs.declared.ending.Ending.TheVariants as ending
 use Rattle.solve_cli.specs.declared.ending.Outcome.{Outcome}
 use Rattle.solve_cli.specs.declared.ending.Outcome.TheVariants as outcome
 use Rattle.solve_cli.specs.Endings.{answer_text}
-use Rattle.solve_cli.specs.Seen.{Seen, seen, asks, says, append_to, ReadFault, MessageFault, text_named}
-use Rattle.solve_cli.specs.Happens.{is_early, end_stage, FormulaRead, FormulaIn, LateDue, formula_of, second_of, Stage, formula_only, both, asked_both, asked_to, Reaches, Ends, Stops, Works, Tells}
-use Rattle.solve_cli.specs.Steps.{FormulaFails, ReadFails, Answers, refused_as}
+use Rattle.solve_cli.specs.Seen.{Seen, seen, asks, asks_proof, creates, says, append_to, ReadFault, WriteFault, MessageFault, text_named}
+use Rattle.solve_cli.specs.Commands.{formula_of, second_of, proof_of, Stage, formula_started, second_started, proof_created, starts, gives_file, asked_to, text_of, second_text}
+use Rattle.solve_cli.specs.Happens.{is_early, end_stage, Named, FormulaRead, IsFormula, FormulaIn, Judged, LateDue, Gains, SoFar, Reaches, Ends, Stops, Works, Tells}
+use Rattle.solve_cli.specs.Proofs.{IsRightSoFar}
+use Rattle.solve_cli.specs.Steps.{FormulaFails, ReadFails, Answers, Loaded, HasNoProof, LeftBy, Elaborated, refused_as}
 
-if_some : {X : Type 0} {P Q : X → Type 0} (w : Option X) → IfSome w P → ((x : X) → P x → Q x) → IfSome w Q
+pub if_some : {X : Type 0} {P Q : X → Type 0} (w : Option X) → IfSome w P → ((x : X) → P x → Q x) → IfSome w Q
 if_some None p f = tt
 if_some (Some x) p f = f x p
 
-if_some_both : {X : Type 0} {P Q R : X → Type 0} (w : Option X) → IfSome w P → IfSome w Q → ((x : X) → P x → Q x → R x) → IfSome w R
+pub if_some_both : {X : Type 0} {P Q R : X → Type 0} (w : Option X) → IfSome w P → IfSome w Q → ((x : X) → P x → Q x → R x) → IfSome w R
 if_some_both None p q f = tt
 if_some_both (Some x) p q f = f x p q
 
@@ -43,7 +47,7 @@ says-none p text s e = rw e (elim s.written as (λ w. says p [] (record s { writ
   | Some w ↦ rw (append_to-none p w) refl
 ])
 
-seen-gained : (p : Port) (text : Bytes) (o : Outside) → seen (gained p text o) ≡ says p text (seen o)
+pub seen-gained : (p : Port) (text : Bytes) (o : Outside) → seen (gained p text o) ≡ says p text (seen o)
 seen-gained p text o = elim o.told as (λ w. seen (gained p text (record o { told = w })) ≡ says p text (seen (record o { told = w }))) [
   | None ↦ refl
   | Some t ↦ refl
@@ -55,6 +59,10 @@ early_text (ending.FormulaRefused o) h = refl
 early_text (ending.TooLong s) h = refl
 early_text (ending.Verified k) h = cc
 early_text (ending.NotVerified k c) h = cc
+early_text ending.ModelRight h = cc
+early_text (ending.ModelWrong w) h = cc
+early_text (ending.Elaborated k) h = cc
+early_text (ending.NotElaborated k c) h = cc
 
 too_long_text : (s : Slot) → answer_text (ending.TooLong s) ≡ []
 unfolding answer_text
@@ -67,26 +75,126 @@ faulted text o k q h = record {
   rose = h.rose;
 }
 
+-- ---- how far the calls went
+
+starts_faults : (slot : Slot) (name : Option Bytes) (s : Seen) → (starts slot name s).faults ≡ s.faults
+starts_faults slot None s = refl
+starts_faults slot (Some n) s = refl
+
+gives_faults : (name : Option Bytes) (s : Seen) → (gives_file name s).faults ≡ s.faults
+gives_faults None s = refl
+gives_faults (Some n) s = refl
+
+-- the calls count no fault
+pub faults_at : (stage : Stage) (p : Plan) (s : Seen) → (asked_to stage p s).faults ≡ s.faults
+faults_at formula_started p s = starts_faults slot.Formula (formula_of p) s
+faults_at second_started p s = starts_faults slot.Second (second_of p) _ ∙ starts_faults slot.Formula (formula_of p) s
+faults_at proof_created p s = gives_faults (proof_of p) _ ∙ (starts_faults slot.Second (second_of p) _ ∙ starts_faults slot.Formula (formula_of p) s)
+
+starts_files : (slot : Slot) (name : Option Bytes) (s : Seen) → (starts slot name s).files ≡ s.files
+starts_files slot None s = refl
+starts_files slot (Some n) s = refl
+
+gives_files : (name : Option Bytes) (s : Seen) → (gives_file name s).files ≡ s.files
+gives_files None s = refl
+gives_files (Some n) s = refl
+
+-- and leave the files as they were
+pub files_at : (stage : Stage) (p : Plan) (s : Seen) → (asked_to stage p s).files ≡ s.files
+files_at formula_started p s = starts_files slot.Formula (formula_of p) s
+files_at second_started p s = starts_files slot.Second (second_of p) _ ∙ starts_files slot.Formula (formula_of p) s
+files_at proof_created p s = gives_files (proof_of p) _ ∙ (starts_files slot.Second (second_of p) _ ∙ starts_files slot.Formula (formula_of p) s)
+
+-- the formula's slot is the first that is started
+pub formula_call : (p : Plan) (name : Bytes) (s : Seen) → formula_of p ≡ Some name → asks slot.Formula name s ≡ asked_to formula_started p s
+formula_call p name s e = ap (λ (n : Option Bytes). starts slot.Formula n s) (sym e)
+
+pub second_call : (p : Plan) (name : Bytes) (s : Seen) → second_of p ≡ Some name → asks slot.Second name (asked_to formula_started p s) ≡ asked_to second_started p s
+second_call p name s e = ap (λ (n : Option Bytes). starts slot.Second n (asked_to formula_started p s)) (sym e)
+
+pub proof_call : (p : Plan) (name : Option Bytes) (s : Seen) → proof_of p ≡ name → gives_file name (asked_to second_started p s) ≡ asked_to proof_created p s
+proof_call p name s e = ap (λ (n : Option Bytes). gives_file n (asked_to second_started p s)) (sym e)
+
+-- with nothing on the Proof port
+bare : (s : Seen) → s ≡ says port.Proof [] s
+bare s = sym (says-none port.Proof [] s refl)
+
+all_files : {P : Files → Type 0} (w : Option Files) → ((files : Files) → P files) → IfSome w P
+all_files None h = tt
+all_files (Some files) h = h files
+
+early_gains : (p : Plan) (limit : ℕ) (files : Files) (e : Ending) → is_early e ≡ true → Gains p limit files e []
+early_gains (plan.Elab n l q) limit files (ending.Elaborated k) h = cc
+early_gains (plan.Elab n l q) limit files (ending.NotElaborated k c) h = cc
+early_gains (plan.Elab n l q) limit files (ending.FormulaRefused o) h = refl
+early_gains (plan.Elab n l q) limit files (ending.TooLong s) h = refl
+early_gains (plan.Elab n l q) limit files ending.ModelRight h = refl
+early_gains (plan.Elab n l q) limit files (ending.ModelWrong w) h = refl
+early_gains (plan.Elab n l q) limit files (ending.Verified k) h = refl
+early_gains (plan.Elab n l q) limit files (ending.NotVerified k c) h = refl
+early_gains (plan.Check n q) limit files e h = refl
+early_gains (plan.Model n a) limit files e h = refl
+early_gains (plan.Solve n l c) limit files e h = refl
+early_gains (plan.Demo a b c) limit files e h = refl
+
+too_long_gains : (p : Plan) (limit : ℕ) (files : Files) (s : Slot) → Gains p limit files (ending.TooLong s) []
+too_long_gains (plan.Elab n l q) limit files s = refl
+too_long_gains (plan.Check n q) limit files s = refl
+too_long_gains (plan.Model n a) limit files s = refl
+too_long_gains (plan.Solve n l c) limit files s = refl
+too_long_gains (plan.Demo a b c) limit files s = refl
+
+-- nothing is a front of a proof
+none_so_far : (f : Problem) → IsRightSoFar f []
+none_so_far f = record { steps = []; right = inl (first_tables f, refl); rest = []; front = refl }
+
+nothing_yet : (stage : Stage) (p : Plan) (limit : ℕ) (old : Seen) → Reaches stage p limit old → IfSome old.files (λ files. SoFar stage p limit files [])
+nothing_yet formula_started (plan.Elab n l q) limit old h = all_files old.files (λ files. refl)
+nothing_yet second_started (plan.Elab n l q) limit old h = all_files old.files (λ files. refl)
+nothing_yet proof_created (plan.Elab n l q) limit old h = if_some old.files h (λ files r. (r.0, r.1, none_so_far r.0))
+nothing_yet formula_started (plan.Check n q) limit old h = all_files old.files (λ files. refl)
+nothing_yet second_started (plan.Check n q) limit old h = all_files old.files (λ files. refl)
+nothing_yet proof_created (plan.Check n q) limit old h = all_files old.files (λ files. refl)
+nothing_yet formula_started (plan.Model n a) limit old h = all_files old.files (λ files. refl)
+nothing_yet second_started (plan.Model n a) limit old h = all_files old.files (λ files. refl)
+nothing_yet proof_created (plan.Model n a) limit old h = all_files old.files (λ files. refl)
+nothing_yet formula_started (plan.Solve n l c) limit old h = all_files old.files (λ files. refl)
+nothing_yet second_started (plan.Solve n l c) limit old h = all_files old.files (λ files. refl)
+nothing_yet proof_created (plan.Solve n l c) limit old h = all_files old.files (λ files. refl)
+nothing_yet formula_started (plan.Demo a b c) limit old h = all_files old.files (λ files. refl)
+nothing_yet second_started (plan.Demo a b c) limit old h = all_files old.files (λ files. refl)
+nothing_yet proof_created (plan.Demo a b c) limit old h = all_files old.files (λ files. refl)
+
 pub stopped : (stage : Stage) (p : Plan) (limit : ℕ) (old at : Seen) → Reaches stage p limit old → at ≡ asked_to stage p old → Stops p limit old at
-stopped stage p limit old at reaches is = record { stage = stage; reaches = reaches; at_is = is }
+stopped stage p limit old at reaches is = record {
+  stage = stage;
+  reaches = reaches;
+  proof = [];
+  so_far = nothing_yet stage p limit old reaches;
+  at_is = is ∙ bare (asked_to stage p old);
+}
+
+-- ---- the formula
 
 -- the formula was not read
-pub formula_failed : (p : Plan) (limit : ℕ) (old : Seen) (o : Outcome) (new : Seen)
-    → FormulaFails (formula_of p) limit old o new → Works p limit old o new
-formula_failed p limit old (outcome.Ended e) new h = (
-  asks slot.Formula (formula_of p) old,
+pub formula_failed : (p : Plan) (name : Bytes) (limit : ℕ) (old : Seen) (o : Outcome) (new : Seen) → formula_of p ≡ Some name
+    → FormulaFails name limit old o new → Works p limit old o new
+formula_failed p name limit old (outcome.Ended e) new named h = (
+  asks slot.Formula name old,
   record {
     reaches = rw h.0 tt;
-    due = if_some old.files h.2 (λ files early. inl early);
-    before_is = rw h.0 refl;
+    due = if_some old.files h.2 (λ files early. inl (rw named early));
+    proof = [];
+    gains = all_files old.files (λ files. early_gains p limit files e h.0);
+    before_is = rw h.0 (formula_call p name old named ∙ bare (asked_to formula_started p old));
   },
-  h.1 ∙ sym (says-none port.Answer (answer_text e) (asks slot.Formula (formula_of p) old) (early_text e h.0)),
+  h.1 ∙ sym (says-none port.Answer (answer_text e) (asks slot.Formula name old) (early_text e h.0)),
 )
-formula_failed p limit old outcome.ReadFault new h =
-    (asks slot.Formula (formula_of p) old, stopped formula_only p limit old (asks slot.Formula (formula_of p) old) tt refl, h)
-formula_failed p limit old outcome.Memory new h = stopped formula_only p limit old new tt h
-formula_failed p limit old outcome.WriteFault new h = absurd h
-formula_failed p limit old outcome.Usage new h = absurd h
+formula_failed p name limit old outcome.ReadFault new named h =
+    (asks slot.Formula name old, stopped formula_started p limit old (asks slot.Formula name old) tt (formula_call p name old named), h)
+formula_failed p name limit old outcome.Memory new named h = stopped formula_started p limit old new tt (h ∙ formula_call p name old named)
+formula_failed p name limit old outcome.WriteFault new named h = absurd h
+formula_failed p name limit old outcome.Usage new named h = absurd h
 
 -- the offence of a text that was read whole
 offence_due : (name text : Bytes) (limit : ℕ) (old mid : Seen) (o : Offence) → mid ≡ asks slot.Formula name old → length text ≤ limit
@@ -108,46 +216,84 @@ formula_refused name text limit old mid new why is read bad =
     by (refusal.VarLimit b) e t h = offence_due name text limit old new (offence.VarLimit b) e read.1 t h
     by refusal.Memory e t h = e
 
-pub formula_in : (p : Plan) (limit : ℕ) (old : Seen) (f : Problem)
-    → IfSome old.files (λ files. FormulaRead limit (text_named (formula_of p) files) f) → FormulaIn p limit old
-formula_in p limit old f read = if_some old.files read (λ files r. (f, r))
+pub formula_read : (p : Plan) (name : Bytes) (limit : ℕ) (old : Seen) (f : Problem) → formula_of p ≡ Some name
+    → IfSome old.files (λ files. FormulaRead limit (text_named name files) f) → IfSome old.files (λ files. IsFormula p limit files f)
+formula_read p name limit old f named h = if_some old.files h (λ files r. rw named r)
+
+pub formula_in : (p : Plan) (limit : ℕ) (old : Seen) (f : Problem) → IfSome old.files (λ files. IsFormula p limit files f) → FormulaIn p limit old
+formula_in p limit old f h = if_some old.files h (λ files r. (f, r))
+
+-- ---- the calls behind it
 
 -- the second slot was not started
-pub start_failed : (p : Plan) (limit : ℕ) (old mid : Seen) (f : Problem) (o : Outcome) (new : Seen)
-    → mid ≡ asks slot.Formula (formula_of p) old
-    → IfSome old.files (λ files. FormulaRead limit (text_named (formula_of p) files) f)
-    → (o ≡ outcome.ReadFault) × ReadFault (asks slot.Second (second_of p) mid) new → Works p limit old o new
-start_failed p limit old mid f o new first read h =
+pub start_failed : (p : Plan) (name : Bytes) (limit : ℕ) (old mid : Seen) (f : Problem) (o : Outcome) (new : Seen) → second_of p ≡ Some name
+    → mid ≡ asked_to formula_started p old → IfSome old.files (λ files. IsFormula p limit files f)
+    → (o ≡ outcome.ReadFault) × ReadFault (asks slot.Second name mid) new → Works p limit old o new
+start_failed p name limit old mid f o new named first read h =
     subst (λ (x : Outcome). Works p limit old x new) (sym h.0) (
-      asked_both p old,
-      stopped both p limit old (asked_both p old) (formula_in p limit old f read) refl,
-      subst (λ (m : Seen). ReadFault (asks slot.Second (second_of p) m) new) first h.1,
+      asks slot.Second name mid,
+      stopped second_started p limit old (asks slot.Second name mid) (formula_in p limit old f read)
+          (ap (asks slot.Second name) first ∙ second_call p name old named),
+      h.1,
     )
 
+-- the Proof port was not given its file
+pub create_failed : (p : Plan) (proof : Option Bytes) (limit : ℕ) (old mid : Seen) (f : Problem) (o : Outcome) (new : Seen) → proof_of p ≡ proof
+    → mid ≡ asked_to second_started p old → IfSome old.files (λ files. IsFormula p limit files f)
+    → (o ≡ outcome.WriteFault) × Named proof (λ name. WriteFault (asks_proof name mid) new) → Works p limit old o new
+create_failed p None limit old mid f o new named second read h = absurd h.1
+create_failed p (Some name) limit old mid f o new named second read h =
+    subst (λ (x : Outcome). Works p limit old x new) (sym h.0) (inr (inl (record {
+      name = name;
+      named = named;
+      reaches = formula_in p limit old f read;
+      fault = subst (λ (m : Seen). WriteFault (asks_proof name m) new) second h.1;
+    })))
+
 -- the second text was not read
-pub second_failed : (p : Plan) (limit : ℕ) (old : Seen) (f : Problem) (mid : Outside) (o : Outcome) (new : Outside)
-    → FormulaIn p limit old → seen mid ≡ asked_both p old → (seen mid).files ≡ old.files
-    → IfSome old.files (λ files. FormulaRead limit (text_named (formula_of p) files) f)
-    → ReadFails slot.Second (second_of p) limit mid o new → Works p limit old o (seen new)
-second_failed p limit old f mid (outcome.Ended (ending.TooLong slot.Second)) new reaches is same read h = (
-  asked_both p old,
+pub second_failed : (p : Plan) (name : Bytes) (limit : ℕ) (old : Seen) (f : Problem) (mid : Outside) (o : Outcome) (new : Outside) → second_of p ≡ Some name
+    → seen mid ≡ asked_to proof_created p old → IfSome old.files (λ files. IsFormula p limit files f)
+    → ReadFails slot.Second name limit mid o new → Works p limit old o (seen new)
+second_failed p name limit old f mid (outcome.Ended (ending.TooLong slot.Second)) new named is read h = (
+  asked_to proof_created p old,
   record {
-    reaches = reaches;
-    due = (if_some_both old.files read (subst (λ (w : Option Files). IfSome w (λ files. limit < length (text_named (second_of p) files))) same h.2)
-        (λ files r l. inr (record { formula = f; read = r; due = l })));
-    before_is = refl;
+    reaches = formula_in p limit old f read;
+    due = if_some_both old.files read (subst (λ (w : Option Files). IfSome w (λ files. limit < length (text_named name files))) (ap (λ (s : Seen). s.files) is ∙ files_at proof_created p old) h.2)
+        (λ files r long. inr (record { formula = f; is_formula = r; due = inl (rw named long, refl) }));
+    proof = [];
+    gains = all_files old.files (λ files. too_long_gains p limit files slot.Second);
+    before_is = bare (asked_to proof_created p old);
   },
   h.1 ∙ (is ∙ sym (says-none port.Answer (answer_text (ending.TooLong slot.Second)) _ (too_long_text slot.Second))),
 )
-second_failed p limit old f mid outcome.ReadFault new reaches is same read h =
-    (asked_both p old, stopped both p limit old (asked_both p old) reaches refl, subst (λ (m : Seen). ReadFault m (seen new)) is h)
-second_failed p limit old f mid outcome.Memory new reaches is same read h = stopped both p limit old (seen new) reaches (h ∙ is)
-second_failed p limit old f mid (outcome.Ended (ending.TooLong slot.Formula)) new reaches is same read h = let e = h.0 in cc
-second_failed p limit old f mid (outcome.Ended (ending.FormulaRefused b)) new reaches is same read h = absurd h
-second_failed p limit old f mid (outcome.Ended (ending.Verified k)) new reaches is same read h = absurd h
-second_failed p limit old f mid (outcome.Ended (ending.NotVerified k c)) new reaches is same read h = absurd h
-second_failed p limit old f mid outcome.WriteFault new reaches is same read h = absurd h
-second_failed p limit old f mid outcome.Usage new reaches is same read h = absurd h
+second_failed p name limit old f mid outcome.ReadFault new named is read h =
+    (seen mid, stopped proof_created p limit old (seen mid) (formula_in p limit old f read) is, h)
+second_failed p name limit old f mid outcome.Memory new named is read h = stopped proof_created p limit old (seen new) (formula_in p limit old f read) (h ∙ is)
+second_failed p name limit old f mid (outcome.Ended (ending.TooLong slot.Formula)) new named is read h = let e = h.0 in cc
+second_failed p name limit old f mid (outcome.Ended (ending.FormulaRefused b)) new named is read h = absurd h
+second_failed p name limit old f mid (outcome.Ended (ending.Verified k)) new named is read h = absurd h
+second_failed p name limit old f mid (outcome.Ended (ending.NotVerified k c)) new named is read h = absurd h
+second_failed p name limit old f mid (outcome.Ended ending.ModelRight) new named is read h = absurd h
+second_failed p name limit old f mid (outcome.Ended (ending.ModelWrong w)) new named is read h = absurd h
+second_failed p name limit old f mid (outcome.Ended (ending.Elaborated k)) new named is read h = absurd h
+second_failed p name limit old f mid (outcome.Ended (ending.NotElaborated k c)) new named is read h = absurd h
+second_failed p name limit old f mid outcome.WriteFault new named is read h = absurd h
+second_failed p name limit old f mid outcome.Usage new named is read h = absurd h
+
+-- both texts were read
+pub loaded : (p : Plan) (name : Bytes) (limit : ℕ) (old : Seen) (f : Problem) (text : Bytes) (mid : Outside) (new : Outside) → second_of p ≡ Some name
+    → seen mid ≡ asked_to proof_created p old → IfSome old.files (λ files. IsFormula p limit files f)
+    → (seen new ≡ seen mid) × (length text ≤ limit) × IfSome (seen mid).files (λ files. text ≡ text_named name files)
+    → Loaded p limit old f text (seen new)
+loaded p name limit old f text mid new named is read h = record {
+  asked = h.0 ∙ is;
+  is_formula = read;
+  fits = h.1;
+  is_second = if_some old.files (subst (λ (w : Option Files). IfSome w (λ files. text ≡ text_named name files)) (ap (λ (s : Seen). s.files) is ∙ files_at proof_created p old) h.2)
+      (λ files t. t ∙ ap (λ (n : Option Bytes). text_of n files) (sym named));
+}
+
+-- ---- the answer
 
 -- an ending whose answer was written, or a front of it
 pub answered : (p : Plan) (limit : ℕ) (old : Seen) (e : Ending) (before : Seen) (o : Outcome) (new : Seen)
@@ -157,37 +303,116 @@ answered p limit old e before (outcome.Ended d) new ends h = (
   subst (λ (x : Ending). Ends p limit old x before) (sym h.0) ends,
   h.1 ∙ ap (λ (x : Ending). says port.Answer (answer_text x) before) (sym h.0),
 )
-answered p limit old e before outcome.WriteFault new ends h = record {
+answered p limit old e before outcome.WriteFault new ends h = inl (record {
   ending = e;
   before = before;
   ends = ends;
   count = h.0;
   front = h.1;
   fault = h.2;
-}
+})
 answered p limit old e before outcome.ReadFault new ends h = absurd h
 answered p limit old e before outcome.Memory new ends h = absurd h
 answered p limit old e before outcome.Usage new ends h = absurd h
 
--- both texts were read
-pub ends : (p : Plan) (limit : ℕ) (old : Seen) (f : Problem) (text : Bytes) (e : Ending) (mid : Seen)
-    → Reaches (end_stage e) p limit old → mid ≡ asked_to (end_stage e) p old
-    → IfSome old.files (λ files. FormulaRead limit (text_named (formula_of p) files) f)
-    → IfSome old.files (λ files. text ≡ text_named (second_of p) files)
-    → LateDue p limit f text e → Ends p limit old e mid
-ends p limit old f text e mid reaches is read is_text late = record {
-  reaches = reaches;
-  due = if_some_both old.files read is_text
-      (λ files r t. inr (record { formula = f; read = r; due = subst (λ (x : Bytes). LateDue p limit f x e) t late }));
-  before_is = is;
+judged_late : (e : Ending) (p : Plan) (f : Problem) (text : Bytes) → Judged e p f text → is_early e ≡ false
+judged_late (ending.FormulaRefused o) p f text h = absurd h
+judged_late (ending.TooLong s) p f text h = absurd h
+judged_late (ending.Verified k) p f text h = refl
+judged_late (ending.NotVerified k c) p f text h = refl
+judged_late ending.ModelRight p f text h = refl
+judged_late (ending.ModelWrong w) p f text h = refl
+judged_late (ending.Elaborated k) p f text h = refl
+judged_late (ending.NotElaborated k c) p f text h = refl
+
+-- both texts were read, and what they come to
+pub ends : (p : Plan) (limit : ℕ) (old : Seen) (f : Problem) (text : Bytes) (e : Ending) (proof : Bytes) (mid : Seen)
+    → Loaded p limit old f text mid → Judged e p f text → IfSome old.files (λ files. Gains p limit files e proof)
+    → Ends p limit old e (says port.Proof proof mid)
+ends p limit old f text e proof mid h judged gains = record {
+  reaches = rw (judged_late e p f text judged) (formula_in p limit old f h.is_formula);
+  due = if_some_both old.files h.is_formula h.is_second
+      (λ files r t. inr (record { formula = f; is_formula = r; due = inr (subst (λ (x : Bytes). (length x ≤ limit) × Judged e p f x) t (h.fits, judged)) }));
+  proof = proof;
+  gains = gains;
+  before_is = rw (judged_late e p f text judged) (ap (says port.Proof proof) h.asked);
 }
+
+-- the same with nothing on the Proof port, and the answer
+pub concluded : (p : Plan) (limit : ℕ) (old : Seen) (f : Problem) (text : Bytes) (e : Ending) (mid : Seen) (o : Outcome) (new : Seen)
+    → Loaded p limit old f text mid → Judged e p f text → ((files : Files) → Gains p limit files e []) → Answers e mid o new → Works p limit old o new
+concluded p limit old f text e mid o new h judged gains answers =
+    answered p limit old e mid o new (subst (Ends p limit old e) (sym (bare mid)) (ends p limit old f text e [] mid h judged (all_files old.files gains))) answers
+
+-- want of memory for the judgement
+pub wanted : (p : Plan) (limit : ℕ) (old : Seen) (f : Problem) (text : Bytes) (mid : Seen) → Loaded p limit old f text mid → Stops p limit old mid
+wanted p limit old f text mid h = stopped proof_created p limit old mid (formula_in p limit old f h.is_formula) h.asked
+
+-- ---- a log
+
+files_of_loaded : (p : Plan) (limit : ℕ) (old : Seen) (f : Problem) (text : Bytes) (mid : Seen) → Loaded p limit old f text mid → mid.files ≡ old.files
+files_of_loaded p limit old f text mid h = ap (λ (s : Seen). s.files) h.asked ∙ files_at proof_created p old
+
+none_on_created : (name : Bytes) (s : Seen) → HasNoProof (creates name s)
+none_on_created name s = elim s.written as (λ w. HasNoProof (creates name (record s { written = w }))) [ None ↦ tt | Some w ↦ refl ]
+
+-- nothing stands on a Proof port that was given its file
+pub none_created : (n l q : Bytes) (limit : ℕ) (old : Seen) (f : Problem) (text : Bytes) (mid : Seen) → Loaded (plan.Elab n l q) limit old f text mid → HasNoProof mid
+none_created n l q limit old f text mid h = subst HasNoProof (sym h.asked) (none_on_created q (asked_to second_started (plan.Elab n l q) old))
+
+-- what was left on the Proof port, of the files at the start
+left_gains : (n l q : Bytes) (limit : ℕ) (files : Files) (f : Problem) (e : Ending) (proof : Bytes)
+    → FormulaRead limit (text_named n files) f → LeftBy e f (text_named l files) proof → Gains (plan.Elab n l q) limit files e proof
+left_gains n l q limit files f (ending.Elaborated k) proof read left = (f, read, left)
+left_gains n l q limit files f (ending.NotElaborated k c) proof read left = (f, read, left)
+left_gains n l q limit files f (ending.FormulaRefused o) proof read left = absurd left
+left_gains n l q limit files f (ending.TooLong s) proof read left = absurd left
+left_gains n l q limit files f (ending.Verified k) proof read left = absurd left
+left_gains n l q limit files f (ending.NotVerified k c) proof read left = absurd left
+left_gains n l q limit files f ending.ModelRight proof read left = absurd left
+left_gains n l q limit files f (ending.ModelWrong w) proof read left = absurd left
+
+if_some_three : {X : Type 0} {P Q R S : X → Type 0} (w : Option X) → IfSome w P → IfSome w Q → IfSome w R → ((x : X) → P x → Q x → R x → S x) → IfSome w S
+if_some_three None p q r f = tt
+if_some_three (Some x) p q r f = f x p q r
+
+-- the log was judged, its proof written, and the answer
+pub elaborated : (n l q : Bytes) (limit : ℕ) (old : Seen) (f : Problem) (text : Bytes) (e : Ending) (mid at : Seen) (o : Outcome) (new : Seen)
+    → Loaded (plan.Elab n l q) limit old f text mid → Elaborated f text mid (Ok e) at → Answers e at o new → Works (plan.Elab n l q) limit old o new
+elaborated n l q limit old f text e mid at o new h made answers =
+    let p = plan.Elab n l q in
+    let left = subst (λ (w : Option Files). IfSome w (λ _. LeftBy e f text made.1.0)) (files_of_loaded p limit old f text mid h) made.1.2 in
+    answered p limit old e at o new
+    (subst (Ends p limit old e) (sym made.1.1) (ends p limit old f text e made.1.0 mid h (made.0 n l q)
+    (if_some_three old.files h.is_formula h.is_second left
+    (λ files read is by. left_gains n l q limit files f e made.1.0 read (subst (λ (x : Bytes). LeftBy e f x made.1.0) is by)))))
+    answers
+
+-- the log was not judged to its end, or its proof not written
+pub not_elaborated : (n l q : Bytes) (limit : ℕ) (old : Seen) (f : Problem) (text : Bytes) (mid : Seen) (o : Outcome) (new : Seen)
+    → Loaded (plan.Elab n l q) limit old f text mid → Elaborated f text mid (Err o) new → Works (plan.Elab n l q) limit old o new
+not_elaborated n l q limit old f text mid o new h made = by o made
+  where
+    stops : (proof : Bytes) → IfSome mid.files (λ _. IsRightSoFar f proof) → Stops (plan.Elab n l q) limit old (says port.Proof proof mid)
+    stops proof right = record {
+      stage = proof_created;
+      reaches = formula_in (plan.Elab n l q) limit old f h.is_formula;
+      proof = proof;
+      so_far = if_some_both old.files h.is_formula (subst (λ (w : Option Files). IfSome w (λ _. IsRightSoFar f proof)) (files_of_loaded (plan.Elab n l q) limit old f text mid h) right)
+          (λ files read r. (f, read, r));
+      at_is = ap (says port.Proof proof) h.asked;
+    }
+
+    by : (o : Outcome) → Elaborated f text mid (Err o) new → Works (plan.Elab n l q) limit old o new
+    by outcome.Memory m = subst (Stops (plan.Elab n l q) limit old) (sym m.1) (stops m.0 m.2)
+    by outcome.WriteFault m = inr (inr (record { writes = refl; at = says port.Proof m.0 mid; stops = stops m.0 m.2; fault = m.1 }))
+    by outcome.ReadFault m = absurd m
+    by outcome.Usage m = absurd m
+    by (outcome.Ended e) m = absurd m
+
+-- ---- the message
 
 pub tells_of : {T E : Type 0} (text : Bytes) (o : Outside) (r : Result T E) (q : Outside)
     → PutsAll port.Message text o r q → Tells text (seen o) (seen q)
 tells_of text o (Ok v) q h = inl (ap seen h ∙ seen-gained port.Message text o)
 tells_of text o (Err e) q h = inr (h.0, h.1, faulted text o h.0 q h.2)
-
--- what was read, of the files at the start
-pub text_at_start : (text name : Bytes) (old mid : Seen) → mid.files ≡ old.files
-    → IfSome mid.files (λ files. text ≡ text_named name files) → IfSome old.files (λ files. text ≡ text_named name files)
-text_at_start text name old mid same h = subst (λ (w : Option Files). IfSome w (λ files. text ≡ text_named name files)) same h

@@ -8,6 +8,8 @@ use Rattle.cx_semantics.specs.declared.steps.Cause.{Cause}
 use Rattle.cx_semantics.specs.declared.steps.Cause.TheVariants as cause
 use Rattle.solve_cli.specs.declared.ending.Ending.{Ending}
 use Rattle.solve_cli.specs.declared.ending.Ending.TheVariants as ending
+use Rattle.solve_cli.specs.declared.ending.WrongAnswer.{WrongAnswer}
+use Rattle.solve_cli.specs.declared.ending.WrongAnswer.TheVariants as wrong
 use Rattle.solve_cli.specs.declared.ending.Outcome.{Outcome}
 use Rattle.solve_cli.specs.declared.ending.Outcome.TheVariants as outcome
 use Rattle.solve_cli.specs.declared.ending.Status.{Status}
@@ -21,7 +23,9 @@ code_of status.ReadFault = 4
 code_of status.WriteFault = 5
 code_of status.OutOfMemory = 6
 code_of status.ProofRefused = 7
+code_of status.LogRefused = 8
 code_of status.Limit = 9
+code_of status.AnswerRefused = 11
 
 -- a variable above the limit is the limit's, and every other offence the formula's
 abbrev pub status_of_offence : Offence → Status
@@ -36,6 +40,10 @@ status_of_ending (ending.FormulaRefused o) = status_of_offence o
 status_of_ending (ending.TooLong s) = status.Limit
 status_of_ending (ending.Verified k) = status.Done
 status_of_ending (ending.NotVerified k c) = status.ProofRefused
+status_of_ending ending.ModelRight = status.Done
+status_of_ending (ending.ModelWrong w) = status.AnswerRefused
+status_of_ending (ending.Elaborated k) = status.Done
+status_of_ending (ending.NotElaborated k c) = status.LogRefused
 
 abbrev pub status_of : Outcome → Status
 status_of (outcome.Ended e) = status_of_ending e
@@ -67,12 +75,42 @@ cause_text cause.NotInFormula = codes "P"
 cause_text cause.NotLive = codes "P"
 cause_text cause.NoChain = codes "P"
 
+-- the number of a cause of a log's refusal; the last four are no causes of a log
+abbrev pub log_cause_text : Cause → List ℕ
+log_cause_text (cause.TextRefused b) = codes "E0 at byte " ++ decimal b
+log_cause_text cause.VarUnknown = codes "E1"
+log_cause_text cause.IdInUse = codes "E2"
+log_cause_text cause.NotInFormula = codes "E3"
+log_cause_text cause.NotLive = codes "E4"
+log_cause_text cause.NoChain = codes "E5"
+log_cause_text cause.SumDiffers = codes "E7"
+log_cause_text cause.NotImplied = codes "E8"
+log_cause_text cause.TooWide = codes "E9"
+log_cause_text cause.ClauseOutside = codes "E10"
+log_cause_text cause.NoEmptyClause = codes "E11"
+log_cause_text cause.RatHint = codes "E"
+log_cause_text cause.HintNotLive = codes "E"
+log_cause_text cause.HintNotUnit = codes "E"
+log_cause_text cause.HintsEnd = codes "E"
+
+-- the lines of printed values that are refused
+abbrev pub wrong_text : WrongAnswer → List ℕ
+wrong_text wrong.NoStatusLine = codes "c A1\ns MODEL WRONG\n"
+wrong_text (wrong.BadToken b) = joined (codes "c A2 at byte " ∷ decimal b ∷ codes "\ns MODEL WRONG\n" ∷ [])
+wrong_text (wrong.Missing v) = joined (codes "c A3 variable " ∷ decimal v ∷ codes "\ns MODEL WRONG\n" ∷ [])
+wrong_text (wrong.Twice v) = joined (codes "c A4 variable " ∷ decimal v ∷ codes "\ns MODEL WRONG\n" ∷ [])
+wrong_text (wrong.Unmet n) = joined (codes "c A5 constraint " ∷ decimal n ∷ codes "\ns MODEL WRONG\n" ∷ [])
+
 -- what an ending puts on the Answer port; none where the formula or a text's length was refused
 unfoldable pub answer_text : Ending → List ℕ
 answer_text (ending.FormulaRefused o) = []
 answer_text (ending.TooLong s) = []
 answer_text (ending.Verified k) = codes "s VERIFIED\n"
 answer_text (ending.NotVerified k c) = joined (codes "c step " ∷ decimal k ∷ codes " " ∷ cause_text c ∷ codes "\ns NOT VERIFIED\n" ∷ [])
+answer_text ending.ModelRight = codes "s MODEL RIGHT\n"
+answer_text (ending.ModelWrong w) = wrong_text w
+answer_text (ending.Elaborated k) = codes "s ELABORATED\n"
+answer_text (ending.NotElaborated k c) = joined (codes "c step " ∷ decimal k ∷ codes " " ∷ log_cause_text c ∷ codes "\ns NOT ELABORATED\n" ∷ [])
 
 abbrev pub slot_text : Slot → List ℕ
 slot_text slot.Formula = codes "formula"
@@ -92,6 +130,10 @@ message_text (outcome.Ended (ending.FormulaRefused o)) = offence_text o
 message_text (outcome.Ended (ending.TooLong s)) = joined (codes "error: limit L2 " ∷ slot_text s ∷ codes "\n" ∷ [])
 message_text (outcome.Ended (ending.Verified k)) = []
 message_text (outcome.Ended (ending.NotVerified k c)) = []
+message_text (outcome.Ended ending.ModelRight) = []
+message_text (outcome.Ended (ending.ModelWrong w)) = []
+message_text (outcome.Ended (ending.Elaborated k)) = []
+message_text (outcome.Ended (ending.NotElaborated k c)) = []
 message_text outcome.Usage = codes "error: usage\nusage: cxsat solve FORMULA [--proof LOG] [--conflicts N]\nusage: cxsat check FORMULA PROOF\nusage: cxsat elab FORMULA LOG PROOF\nusage: cxsat model FORMULA ANSWER\nusage: cxsat demo KIND SIZE SEED\n"
 message_text outcome.ReadFault = codes "error: read fault\n"
 message_text outcome.WriteFault = codes "error: write fault\n"

@@ -1,35 +1,46 @@
 -- What a command may do: which ending is due for its files, and which outcome may come in its place.
-use Rattle.std.specs.Prelude.{◌≡◌, ◌<◌, ◌≤◌, ℕ, Bool, true, false, List, length, take, if◌then◌else◌, None, IfSome, ◌⊎◌}
+use Rattle.std.specs.Prelude.{◌≡◌, ◌<◌, ◌≤◌, ℕ, Bool, true, false, List, [], length, take, if◌then◌else◌, Option, Some, None, IfSome, IsTrue, IsFalse, ◌⊎◌}
 use Rattle.cx_base.specs.Problem.{Problem, Unmet}
 use Rattle.cx_semantics.specs.FormulaText.{Reads, FirstOffence}
 use Rattle.cx_semantics.specs.ProofRules.{Accepted, RefusedAt}
+use Rattle.cx_semantics.specs.LogRules.{LogRight, LogRefusedAt}
+use Rattle.model_out.specs.Answers.{AnswerReads, AnswerRefusedFor}
+use Rattle.model_out.specs.declared.refusal.AnswerRefusal.{AnswerRefusal}
+use Rattle.model_out.specs.declared.refusal.AnswerRefusal.TheVariants as refusal
 use Rattle.cx_desk.specs.declared.desk.Slot.TheVariants as slot
 use Rattle.cx_desk.specs.declared.desk.Port.TheVariants as port
-use Rattle.cx_desk.specs.Outside.{Bytes, Files, Asked}
-use Rattle.solve_cli.specs.declared.plans.Plan.{Plan}
-use Rattle.solve_cli.specs.declared.plans.Plan.TheVariants as plan
+use Rattle.cx_desk.specs.Outside.{Bytes, Files}
+use Rattle.cx_words.specs.Words.{Asks, Refuses}
+use Rattle.cx_words.specs.declared.plans.Plan.{Plan}
+use Rattle.cx_words.specs.declared.plans.Plan.TheVariants as plan
 use Rattle.solve_cli.specs.declared.ending.Ending.{Ending}
 use Rattle.solve_cli.specs.declared.ending.Ending.TheVariants as ending
+use Rattle.solve_cli.specs.declared.ending.WrongAnswer.{WrongAnswer}
+use Rattle.solve_cli.specs.declared.ending.WrongAnswer.TheVariants as wrong
 use Rattle.solve_cli.specs.declared.ending.Outcome.{Outcome}
 use Rattle.solve_cli.specs.declared.ending.Outcome.TheVariants as outcome
 use Rattle.solve_cli.specs.declared.ending.Status.{Status}
 use Rattle.solve_cli.specs.declared.ending.Status.TheVariants as status
 use Rattle.solve_cli.specs.Endings.{status_of, status_of_ending, answer_text, message_text}
-use Rattle.solve_cli.specs.Words.{Asks, Refuses}
-use Rattle.solve_cli.specs.Seen.{Seen, asks, says, ReadFault, WriteFault, MessageFault, text_named}
+use Rattle.solve_cli.specs.Seen.{Seen, asks_proof, says, ReadFault, WriteFault, MessageFault, text_named}
+use Rattle.solve_cli.specs.Proofs.{IsWholeProof, IsProofBefore, IsRightSoFar}
+use Rattle.solve_cli.specs.Commands.{is_built, formula_of, proof_of, writes_proof, Stage, formula_started, second_started, proof_created, asked_to, second_text}
 
 -- ---- which ending is due
 
-abbrev pub formula_of : Plan → Bytes
-formula_of (plan.Check f p) = f
-
-abbrev pub second_of : Plan → Bytes
-second_of (plan.Check f p) = p
+-- there is a name, and this holds of it
+abbrev pub Named : Option Bytes → (Bytes → Type 0) → Type 0
+Named None P = ⊥
+Named (Some name) P = P name
 
 -- the text is within the limit, and reads to the formula
 pub record FormulaRead (limit : ℕ) (text : Bytes) (f : Problem) : Type 0 where
   pub fits : length text ≤ limit
   pub reads : Reads text f
+
+-- the formula of a command
+abbrev pub IsFormula : Plan → ℕ → Files → Problem → Type 0
+IsFormula p limit files f = Named (formula_of p) (λ name. FormulaRead limit (text_named name files) f)
 
 -- the endings of a formula's text that is not read
 abbrev pub EarlyDue : ℕ → Bytes → Ending → Type 0
@@ -37,54 +48,65 @@ EarlyDue limit text (ending.FormulaRefused o) = (length text ≤ limit) × First
 EarlyDue limit text (ending.TooLong slot.Formula) = limit < length text
 EarlyDue limit text e = ⊥
 
--- what a command makes of a formula and its second text
-abbrev pub Judged : Plan → Problem → Bytes → Ending → Type 0
-Judged (plan.Check n p) f text (ending.Verified k) = Accepted f text k
-Judged (plan.Check n p) f text (ending.NotVerified k c) = RefusedAt f text k c
-Judged p f text e = ⊥
+-- the cause as the reader of answers names it
+abbrev pub refusal_of : WrongAnswer → AnswerRefusal
+refusal_of wrong.NoStatusLine = refusal.NoStatusLine
+refusal_of (wrong.BadToken place) = refusal.BadToken place
+refusal_of (wrong.Missing v) = refusal.Missing v
+refusal_of (wrong.Twice v) = refusal.Twice v
+refusal_of (wrong.Unmet n) = refusal.Unmet n
 
--- the endings of a second text, where the formula is read
+-- what a command makes of a formula and its second text
+abbrev pub Judged : Ending → Plan → Problem → Bytes → Type 0
+Judged (ending.Verified k) (plan.Check n q) f text = Accepted f text k
+Judged (ending.NotVerified k c) (plan.Check n q) f text = RefusedAt f text k c
+Judged ending.ModelRight (plan.Model n a) f text = (values : List Bool) × AnswerReads text f values
+Judged (ending.ModelWrong w) (plan.Model n a) f text = AnswerRefusedFor text f (refusal_of w)
+Judged (ending.Elaborated k) (plan.Elab n l q) f text = LogRight f text k
+Judged (ending.NotElaborated k c) (plan.Elab n l q) f text = LogRefusedAt f text k c
+Judged e p f text = ⊥
+
+-- the endings where the formula is read: its second text's length is judged before what it says
 abbrev pub LateDue : Plan → ℕ → Problem → Bytes → Ending → Type 0
-LateDue p limit f text (ending.TooLong slot.Second) = limit < length text
-LateDue p limit f text e = (length text ≤ limit) × Judged p f text e
+LateDue p limit f text e = ((limit < length text) × (e ≡ ending.TooLong slot.Second)) ⊎ ((length text ≤ limit) × Judged e p f text)
 
 -- The ending that is due for these files, in the order of work: the formula's length, its contents,
 -- the second text's length, the result.
 pub record Late (p : Plan) (limit : ℕ) (files : Files) (e : Ending) : Type 0 where
   pub formula : Problem
-  pub read : FormulaRead limit (text_named (formula_of p) files) formula
-  pub due : LateDue p limit formula (text_named (second_of p) files) e
+  pub is_formula : IsFormula p limit files formula
+  pub due : LateDue p limit formula (second_text p files) e
+
+abbrev pub Early : Plan → ℕ → Files → Ending → Type 0
+Early p limit files e = Named (formula_of p) (λ name. EarlyDue limit (text_named name files) e)
 
 abbrev pub Due : Plan → ℕ → Files → Ending → Type 0
-Due p limit files e = EarlyDue limit (text_named (formula_of p) files) e ⊎ Late p limit files e
+Due p limit files e = Early p limit files e ⊎ Late p limit files e
+
+-- ---- what stands on the Proof port
+
+-- what the Proof port gains before the answer of an ending
+abbrev pub Gains : Plan → ℕ → Files → Ending → Bytes → Type 0
+Gains (plan.Elab n l q) limit files (ending.Elaborated k) proof = (f : Problem) × FormulaRead limit (text_named n files) f × IsWholeProof f proof
+Gains (plan.Elab n l q) limit files (ending.NotElaborated k c) proof =
+    (f : Problem) × FormulaRead limit (text_named n files) f × IsProofBefore f (text_named l files) k proof
+Gains p limit files e proof = proof ≡ []
+
+-- what it may have gained where a command is cut off
+abbrev pub SoFar : Stage → Plan → ℕ → Files → Bytes → Type 0
+SoFar proof_created (plan.Elab n l q) limit files proof = (f : Problem) × FormulaRead limit (text_named n files) f × IsRightSoFar f proof
+SoFar stage p limit files proof = proof ≡ []
 
 -- ---- which outcome may come
 
--- no name was asked for
-pub record Unasked (a : Asked) : Type 0 where
-  pub formula : a.formula ≡ None
-  pub second : a.second ≡ None
-  pub proof : a.proof ≡ None
-
--- how far the names of the words were asked for
-pub data Stage : Type 0 where
-  formula_only : Stage
-  both : Stage
-
-abbrev pub asked_both : Plan → Seen → Seen
-asked_both p s = asks slot.Second (second_of p) (asks slot.Formula (formula_of p) s)
-
-abbrev pub asked_to : Stage → Plan → Seen → Seen
-asked_to formula_only p s = asks slot.Formula (formula_of p) s
-asked_to both p s = asked_both p s
-
 abbrev pub FormulaIn : Plan → ℕ → Seen → Type 0
-FormulaIn p limit s = IfSome s.files (λ files. (f : Problem) × FormulaRead limit (text_named (formula_of p) files) f)
+FormulaIn p limit s = IfSome s.files (λ files. (f : Problem) × IsFormula p limit files f)
 
 -- names but the formula's are asked for only where the formula reads
 abbrev pub Reaches : Stage → Plan → ℕ → Seen → Type 0
-Reaches formula_only p limit s = Unit {0}
-Reaches both p limit s = FormulaIn p limit s
+Reaches formula_started p limit s = Unit {0}
+Reaches second_started p limit s = FormulaIn p limit s
+Reaches proof_created p limit s = FormulaIn p limit s
 
 -- the endings of a formula that is not read
 abbrev pub is_early : Ending → Bool
@@ -92,22 +114,27 @@ is_early (ending.FormulaRefused o) = true
 is_early (ending.TooLong slot.Formula) = true
 is_early e = false
 
+-- every other ending comes after all calls
 abbrev pub end_stage : Ending → Stage
-end_stage e = if is_early e then formula_only else both
+end_stage e = if is_early e then formula_started else proof_created
 
--- an ending with all that was asked for before its answer
+-- an ending with all that was asked for and written before its answer
 pub record Ends (p : Plan) (limit : ℕ) (old : Seen) (e : Ending) (before : Seen) : Type 0 where
   pub reaches : Reaches (end_stage e) p limit old
   pub due : IfSome old.files (λ files. Due p limit files e)
-  pub before_is : before ≡ asked_to (end_stage e) p old
+  pub proof : Bytes
+  pub gains : IfSome old.files (λ files. Gains p limit files e proof)
+  pub before_is : before ≡ says port.Proof proof (asked_to (end_stage e) p old)
 
 -- a command that was cut off
 pub record Stops (p : Plan) (limit : ℕ) (old : Seen) (at : Seen) : Type 0 where
   pub stage : Stage
   pub reaches : Reaches stage p limit old
-  pub at_is : at ≡ asked_to stage p old
+  pub proof : Bytes
+  pub so_far : IfSome old.files (λ files. SoFar stage p limit files proof)
+  pub at_is : at ≡ says port.Proof proof (asked_to stage p old)
 
--- a write of the answer that failed
+-- a write of the answer that failed, behind a front of it
 pub record AnswerFails (p : Plan) (limit : ℕ) (old new : Seen) : Type 0 where
   pub ending : Ending
   pub before : Seen
@@ -116,17 +143,35 @@ pub record AnswerFails (p : Plan) (limit : ℕ) (old new : Seen) : Type 0 where
   pub front : count < length (answer_text ending)
   pub fault : WriteFault (says port.Answer (take count (answer_text ending)) before) new
 
+-- the Proof port was not given its file
+pub record CreateFails (p : Plan) (limit : ℕ) (old new : Seen) : Type 0 where
+  pub name : Bytes
+  pub named : proof_of p ≡ Some name
+  pub reaches : Reaches second_started p limit old
+  pub fault : WriteFault (asks_proof name (asked_to second_started p old)) new
+
+-- a write on the Proof port that failed
+pub record ProofFails (p : Plan) (limit : ℕ) (old new : Seen) : Type 0 where
+  pub writes : IsTrue (writes_proof p)
+  pub at : Seen
+  pub stops : Stops p limit old at
+  pub fault : WriteFault at new
+
 -- What happened by an outcome, before its message.
 abbrev pub Works : Plan → ℕ → Seen → Outcome → Seen → Type 0
 Works p limit old (outcome.Ended e) new = (before : Seen) × Ends p limit old e before × (new ≡ says port.Answer (answer_text e) before)
 Works p limit old outcome.ReadFault new = (at : Seen) × Stops p limit old at × ReadFault at new
-Works p limit old outcome.WriteFault new = AnswerFails p limit old new
+Works p limit old outcome.WriteFault new = AnswerFails p limit old new ⊎ (CreateFails p limit old new ⊎ ProofFails p limit old new)
 Works p limit old outcome.Memory new = Stops p limit old new
 Works p limit old outcome.Usage new = ⊥
 
+-- the words ask for a command that this version does not carry out
+abbrev pub AsksForMore : List Bytes → Type 0
+AsksForMore words = (p : Plan) × Asks words p × IsFalse (is_built p)
+
 -- The same from the words. Want of memory may come while the words are read.
 abbrev pub WorksFor : List Bytes → ℕ → Seen → Outcome → Seen → Type 0
-WorksFor words limit old outcome.Usage new = Refuses words × (new ≡ old)
+WorksFor words limit old outcome.Usage new = (Refuses words ⊎ AsksForMore words) × (new ≡ old)
 WorksFor words limit old outcome.Memory new = (new ≡ old) ⊎ ((p : Plan) × Asks words p × Works p limit old outcome.Memory new)
 WorksFor words limit old o new = (p : Plan) × Asks words p × Works p limit old o new
 
@@ -155,3 +200,8 @@ pub record Comes (words : List Bytes) (limit : ℕ) (old : Seen) (s : Status) : 
 abbrev pub IsSound : List Bytes → Seen → Status → Type 0
 IsSound words old s = (f p : Bytes) (formula : Problem) → Asks words (plan.Check f p) → s ≡ status.Done
     → IfSome old.files (λ files. Reads (text_named f files) formula → Unmet formula)
+
+-- a log was elaborated only where what stands on the Proof port is a proof that is accepted
+abbrev pub IsElaborated : List Bytes → Seen → Status → Seen → Type 0
+IsElaborated words old s new = (f l p : Bytes) (formula : Problem) → Asks words (plan.Elab f l p) → s ≡ status.Done
+    → IfSome old.files (λ files. Reads (text_named f files) formula → IfSome new.written (λ w. (k : ℕ) × Accepted formula w.proof k))

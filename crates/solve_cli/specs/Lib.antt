@@ -1,5 +1,6 @@
 pub mod Endings
-pub mod Words
 pub mod Seen
+pub mod Commands
+pub mod Proofs
 pub mod Happens
 pub mod Steps

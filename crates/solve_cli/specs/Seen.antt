@@ -1,6 +1,6 @@
 -- What the top call's contract speaks of: the files and the ports, where they are told, the names that
 -- were asked for and the faults. How far a slot was read is left out.
-use Rattle.std.specs.Prelude.{◌≡◌, [], ◌++◌, Option, option_map, unwrap_or}
+use Rattle.std.specs.Prelude.{◌≡◌, [], ◌++◌, Option, Some, option_map, unwrap_or}
 use Rattle.cx_desk.specs.declared.desk.Slot.{Slot}
 use Rattle.cx_desk.specs.declared.desk.Port.{Port}
 use Rattle.cx_desk.specs.Outside.{Bytes, Files, Written, Asked, Faults, Outside, file_named, with_asked, written_on, with_written, Rose}
@@ -25,6 +25,17 @@ asks slot name s = record s { asked = with_asked slot name s.asked }
 
 abbrev pub append_to : Port → Bytes → Written → Written
 append_to port bytes w = with_written port (written_on port w ++ bytes) w
+
+-- the Proof port was asked for this name
+abbrev pub asks_proof : Bytes → Seen → Seen
+asks_proof name s = record s { asked = record s.asked { proof = Some name } }
+
+abbrev pub without_proof : Written → Written
+without_proof w = record w { proof = [] }
+
+-- and it is an empty file of this name
+abbrev pub creates : Bytes → Seen → Seen
+creates name s = record (asks_proof name s) { written = option_map without_proof s.written }
 
 -- a port gained these bytes
 abbrev pub says : Port → Bytes → Seen → Seen

@@ -1,31 +1,29 @@
--- The steps of a command: a text is read whole, the formula is read, the answer is written.
-use Rattle.std.specs.Prelude.{true, ◌≡◌, ◌<◌, ◌≤◌, ℕ, true, length, take, IfSome, Result, MatchResult}
+-- The steps of a command: its texts are read whole, the Proof port is given its file, the answer is written.
+use Rattle.std.specs.Prelude.{true, ◌≡◌, ◌<◌, ◌≤◌, ℕ, [], length, take, Option, IfSome, Result, Ok, Err, MatchResult}
 use Rattle.cx_desk.specs.declared.desk.Slot.{Slot}
 use Rattle.cx_desk.specs.declared.desk.Slot.TheVariants as slot
 use Rattle.cx_desk.specs.declared.desk.Port.TheVariants as port
 use Rattle.cx_desk.specs.Outside.{Bytes, Outside, left_in, started_in}
 use Rattle.cx_base.specs.Problem.{Problem}
 use Rattle.cx_semantics.specs.declared.offence.Offence.TheVariants as offence
-use Rattle.cx_semantics.specs.ProofRules.{Accepted, RefusedAt}
 use Rattle.cnfx_reader.specs.declared.refusal.ReadRefusal.{ReadRefusal}
 use Rattle.cnfx_reader.specs.declared.refusal.ReadRefusal.TheVariants as refusal
-use Rattle.xlrup_check.specs.declared.verdict.Verdict.{Verdict}
-use Rattle.xlrup_check.specs.declared.verdict.Verdict.TheVariants.{Verified, Refused}
-use Rattle.solve_cli.specs.declared.plans.Plan.{Plan}
+use Rattle.cx_words.specs.declared.plans.Plan.{Plan}
+use Rattle.cx_words.specs.declared.plans.Plan.TheVariants as plan
+use Rattle.fratx_elab.specs.declared.outcome.Elab.{Elab}
+use Rattle.fratx_elab.specs.declared.outcome.Elab.TheVariants as elab
+use Rattle.fratx_elab.specs.declared.outcome.ElabFault.{ElabFault}
+use Rattle.fratx_elab.specs.declared.outcome.ElabFault.TheVariants as fault
+use Rattle.solve_cli.specs.declared.load.Texts.{Texts}
 use Rattle.solve_cli.specs.declared.ending.Ending.{Ending}
 use Rattle.solve_cli.specs.declared.ending.Ending.TheVariants as ending
 use Rattle.solve_cli.specs.declared.ending.Outcome.{Outcome}
 use Rattle.solve_cli.specs.declared.ending.Outcome.TheVariants as outcome
 use Rattle.solve_cli.specs.Endings.{answer_text}
-use Rattle.solve_cli.specs.Seen.{Seen, seen, asks, says, ReadFault, WriteFault, text_named}
-use Rattle.solve_cli.specs.Happens.{is_early, FormulaRead, EarlyDue, Works, asked_both, formula_of, second_of}
-
-abbrev pub LoadFails : Slot → Bytes → ℕ → Seen → Outcome → Seen → Type 0
-LoadFails slot name limit old (outcome.Ended (ending.TooLong s)) new =
-    (s ≡ slot) × (new ≡ asks slot name old) × IfSome old.files (λ files. limit < length (text_named name files))
-LoadFails slot name limit old outcome.ReadFault new = ReadFault (asks slot name old) new
-LoadFails slot name limit old outcome.Memory new = new ≡ asks slot name old
-LoadFails slot name limit old o new = ⊥
+use Rattle.solve_cli.specs.Seen.{Seen, seen, asks, asks_proof, says, ReadFault, WriteFault, text_named}
+use Rattle.solve_cli.specs.Commands.{second_started, proof_created, asked_to, gives_file, second_text}
+use Rattle.solve_cli.specs.Proofs.{IsWholeProof, IsProofBefore, IsRightSoFar}
+use Rattle.solve_cli.specs.Happens.{is_early, Named, FormulaRead, IsFormula, EarlyDue, Judged, Works}
 
 -- a slot that was started on this file, and of which nothing was read
 pub record Ready (slot : Slot) (name : Bytes) (o : Outside) : Type 0 where
@@ -71,11 +69,56 @@ Answers e old outcome.WriteFault new =
 Answers e old o new = ⊥
 
 -- the formula was read, and the second slot was started
-abbrev pub Begins : Plan → ℕ → Outside → Result Problem Outcome → Outside → Type 0
-Begins p limit old result new = MatchResult result
-    (λ f. (seen new ≡ asked_both p (seen old)) × Ready slot.Second (second_of p) new
-    × IfSome (seen old).files (λ files. FormulaRead limit (text_named (formula_of p) files) f))
+abbrev pub Begins : Plan → Bytes → ℕ → Outside → Result Problem Outcome → Outside → Type 0
+Begins p second limit old result new = MatchResult result
+    (λ f. (seen new ≡ asked_to second_started p (seen old)) × Ready slot.Second second new
+    × IfSome (seen old).files (λ files. IsFormula p limit files f))
     (λ o. Works p limit (seen old) o (seen new))
+
+-- the Proof port was given its file, where there is a name for it
+abbrev pub GivesFile : {T : Type 0} → Option Bytes → Outside → Result T Outcome → Outside → Type 0
+GivesFile proof old result new = MatchResult result
+    (λ _. (seen new ≡ gives_file proof (seen old)) × ((name : Bytes) → Ready slot.Second name old → Ready slot.Second name new))
+    (λ o. (o ≡ outcome.WriteFault) × Named proof (λ name. WriteFault (asks_proof name (seen old)) (seen new)))
+
+-- both texts were read, and each name of the command was asked for
+pub record Loaded (p : Plan) (limit : ℕ) (old : Seen) (f : Problem) (text : Bytes) (at : Seen) : Type 0 where
+  pub asked : at ≡ asked_to proof_created p old
+  pub is_formula : IfSome old.files (λ files. IsFormula p limit files f)
+  pub fits : length text ≤ limit
+  pub is_second : IfSome old.files (λ files. text ≡ second_text p files)
+
+abbrev pub Loads : Plan → ℕ → Seen → Result Texts Outcome → Seen → Type 0
+Loads p limit old result new = MatchResult result
+    (λ t. Loaded p limit old t.formula t.second new)
+    (λ o. Works p limit old o new)
+
+-- nothing stands on the Proof port
+abbrev pub HasNoProof : Seen → Type 0
+HasNoProof s = IfSome s.written (λ w. w.proof ≡ [])
+
+-- what a log's ending leaves on the Proof port
+abbrev pub LeftBy : Ending → Problem → Bytes → Bytes → Type 0
+LeftBy (ending.Elaborated k) f log proof = IsWholeProof f proof
+LeftBy (ending.NotElaborated k c) f log proof = IsProofBefore f log k proof
+LeftBy e f log proof = ⊥
+
+-- a log was judged, and its proof written on the Proof port, or a front of it
+abbrev pub Elaborated : Problem → Bytes → Seen → Result Ending Outcome → Seen → Type 0
+Elaborated f log old (Ok e) new =
+    ((n l q : Bytes) → Judged e (plan.Elab n l q) f log) × ((proof : Bytes) × (new ≡ says port.Proof proof old) × IfSome old.files (λ _. LeftBy e f log proof))
+Elaborated f log old (Err outcome.Memory) new = (proof : Bytes) × (new ≡ says port.Proof proof old) × IfSome old.files (λ _. IsRightSoFar f proof)
+Elaborated f log old (Err outcome.WriteFault) new = (proof : Bytes) × WriteFault (says port.Proof proof old) new × IfSome old.files (λ _. IsRightSoFar f proof)
+Elaborated f log old (Err o) new = ⊥
+
+-- the same in the elaborator's words: its source is a text, which counts no fault and has no limit
+abbrev pub ElaboratedAs : Problem → Bytes → Seen → Result Elab ElabFault → Seen → Type 0
+ElaboratedAs f log old (Ok (elab.Done k)) new = Elaborated f log old (Ok (ending.Elaborated k)) new
+ElaboratedAs f log old (Ok (elab.Refused k c)) new = Elaborated f log old (Ok (ending.NotElaborated k c)) new
+ElaboratedAs f log old (Err fault.Memory) new = Elaborated f log old (Err outcome.Memory) new
+ElaboratedAs f log old (Err fault.Write) new = Elaborated f log old (Err outcome.WriteFault) new
+ElaboratedAs f log old (Err fault.Read) new = ⊥
+ElaboratedAs f log old (Err fault.TooLong) new = ⊥
 
 -- where a formula's text is refused
 abbrev pub refused_as : ReadRefusal → Outcome
@@ -85,8 +128,3 @@ refused_as (refusal.BadToken place) = outcome.Ended (ending.FormulaRefused (offe
 refused_as (refusal.Unterminated place) = outcome.Ended (ending.FormulaRefused (offence.Unterminated place))
 refused_as (refusal.VarLimit place) = outcome.Ended (ending.FormulaRefused (offence.VarLimit place))
 refused_as refusal.Memory = outcome.Memory
-
--- the judgement of a proof's text
-abbrev pub JudgesTo : Problem → Bytes → Verdict → Type 0
-JudgesTo formula text (Verified k) = Accepted formula text k
-JudgesTo formula text (Refused k cause) = RefusedAt formula text k cause

@@ -5,6 +5,21 @@ ghost use Rattle.solve_cli.specs.Endings.{status_of, code_of};
 use cx_desk::Slot;
 use cx_semantics::{Cause, Offence};
 
+/// Why printed values are refused: the first cause in this order.
+#[derive(Clone, Copy, Debug, PartialEq, Eq, Drop)]
+pub enum WrongAnswer {
+    /// A1: the first line has other tokens than `s` and `SATISFIABLE`.
+    NoStatusLine,
+    /// A2: the token at this byte does not fit; the text's length where the zero is missing.
+    BadToken(u64),
+    /// A3: no literal of the variable of this number.
+    Missing(u32),
+    /// A4: two or more literals of the variable of this number.
+    Twice(u32),
+    /// A5: the values do not meet the constraint of this number, from 1.
+    Unmet(u64),
+}
+
 /// What a command found, where nothing failed.
 #[derive(Clone, Copy, Debug, PartialEq, Eq, Drop)]
 pub enum Ending {
@@ -16,6 +31,14 @@ pub enum Ending {
     Verified(u64),
     /// The proof is refused at the step of this number, for its first cause.
     NotVerified(u64, Cause),
+    /// The printed values are whole and meet the formula.
+    ModelRight,
+    /// The printed values are refused for their first cause.
+    ModelWrong(WrongAnswer),
+    /// The log is right at the step of this number, and its proof was written.
+    Elaborated(u64),
+    /// The log is refused at the step of this number, for its first cause.
+    NotElaborated(u64, Cause),
 }
 
 /// How a command ended.
@@ -36,7 +59,7 @@ pub enum Outcome {
 /// The exit status.
 #[derive(Clone, Copy, Debug, PartialEq, Eq, Drop)]
 pub enum Status {
-    /// 0: the proof is verified.
+    /// 0: the proof is verified, the values are right, or the log is elaborated.
     Done,
     /// 2: the words are refused.
     Usage,
@@ -50,8 +73,12 @@ pub enum Status {
     OutOfMemory,
     /// 7: the proof is refused.
     ProofRefused,
+    /// 8: the log is refused.
+    LogRefused,
     /// 9: a variable or a text is over its limit.
     Limit,
+    /// 11: the printed values are refused.
+    AnswerRefused,
 }
 
 impl Status {
@@ -67,7 +94,9 @@ impl Status {
             Status::WriteFault => 5,
             Status::OutOfMemory => 6,
             Status::ProofRefused => 7,
+            Status::LogRefused => 8,
             Status::Limit => 9,
+            Status::AnswerRefused => 11,
         }
     }
 }
@@ -83,6 +112,10 @@ impl Outcome {
             Outcome::Ended(Ending::TooLong(_)) => Status::Limit,
             Outcome::Ended(Ending::Verified(_)) => Status::Done,
             Outcome::Ended(Ending::NotVerified(_, _)) => Status::ProofRefused,
+            Outcome::Ended(Ending::ModelRight) => Status::Done,
+            Outcome::Ended(Ending::ModelWrong(_)) => Status::AnswerRefused,
+            Outcome::Ended(Ending::Elaborated(_)) => Status::Done,
+            Outcome::Ended(Ending::NotElaborated(_, _)) => Status::LogRefused,
             Outcome::Usage => Status::Usage,
             Outcome::ReadFault => Status::ReadFault,
             Outcome::WriteFault => Status::WriteFault,

@@ -1,13 +1,14 @@
 //! Laws of what is due.
-ghost use Rattle.std.specs.Prelude.{◌≡◌, ℕ};
+ghost use Rattle.std.specs.Prelude.{◌≡◌, ℕ, Some};
 ghost use Rattle.cx_desk.specs.Outside.{Bytes, Files};
+ghost use Rattle.cx_words.specs.declared.plans.Plan.{Plan};
+ghost use Rattle.solve_cli.specs.Commands.{second_of};
 ghost use Rattle.solve_cli.specs.Happens.{Due};
 ghost use Rattle.solve_cli.specs.declared.ending.Ending.{Ending};
-ghost use Rattle.solve_cli.specs.declared.plans.Plan.TheVariants as plan;
 
-/// For the files of a `check` at most one ending is due. So an ending comes exactly where it is
-/// due, unless memory is wanted or a fault is counted.
+/// For the files of a command that judges a second text at most one ending is due. So an ending
+/// comes exactly where it is due, unless memory is wanted or a fault is counted.
 pub fn one_ending_is_due()
-    ensures { (n q : Bytes) (limit : ℕ) (files : Files) (d e : Ending)
-        → Due (plan.Check n q) limit files d → Due (plan.Check n q) limit files e → d ≡ e }
+    ensures { (p : Plan) (second : Bytes) (limit : ℕ) (files : Files) (d e : Ending) → second_of p ≡ Some second
+        → Due p limit files d → Due p limit files e → d ≡ e }
 {}

@@ -1,18 +1,30 @@
 //! The texts of a command, read whole.
-ghost use Rattle.std.specs.Prelude.{◌≡◌, ◌<◌, ◌^◌, List, ℕ, None, true};
+ghost use Rattle.std.specs.Prelude.{◌≡◌, ◌<◌, ◌≤◌, ◌^◌, List, ℕ, None, Some, true};
 ghost use Rattle.cx_desk.specs.Outside.{asked_in, started_in};
+ghost use Rattle.cx_words.specs.declared.plans.Plan.{Plan as PlanOf};
 ghost use Rattle.solve_cli.specs.Seen.{seen};
-ghost use Rattle.solve_cli.specs.Steps.{Ready, StartsSlot, ReadsSlot, ReadsFormula, refused_as};
+ghost use Rattle.solve_cli.specs.Commands.{Unasked, formula_of, second_of, proof_of};
+ghost use Rattle.solve_cli.specs.Steps.{Ready, StartsSlot, ReadsSlot, ReadsFormula, Begins, GivesFile, Loads, refused_as};
 
-use crate::{Ending, Name, Outcome};
+use crate::{Ending, Outcome};
 use cnfx_reader::{ReadRefusal, read_formula};
 use cx_base::Formula;
 use cx_desk::{Desk, Failed, ReadErr, Slot, Text, read_whole};
 use cx_semantics::Offence;
+use cx_words::Name;
 use std::alloc::Global;
 
+/// The texts of a command, read whole.
+#[derive(Drop)]
+pub struct Texts {
+    /// The formula that the first text reads to.
+    pub formula: Formula,
+    /// The second text.
+    pub second: Text,
+}
+
 /// Starts a slot on a file.
-pub fn start_slot<D: Desk>(desk: &mut D, slot: Slot, name: Name) -> Result<(), Outcome>
+fn start_slot<D: Desk>(desk: &mut D, slot: Slot, name: Name) -> Result<(), Outcome>
     requires unasked { asked_in slot (D.outside desk.old).asked ≡ None }
     ensures { StartsSlot slot name (D.outside desk.old) result (D.outside desk.new) }
 {
@@ -23,12 +35,7 @@ pub fn start_slot<D: Desk>(desk: &mut D, slot: Slot, name: Name) -> Result<(), O
 }
 
 /// Reads a started slot to its end.
-pub fn read_slot<D: Desk>(
-    alloc: Global,
-    desk: &mut D,
-    slot: Slot,
-    limit: u64,
-) -> Result<Text, Outcome>
+fn read_slot<D: Desk>(alloc: Global, desk: &mut D, slot: Slot, limit: u64) -> Result<Text, Outcome>
     requires started { started_in slot (D.outside desk.old).started ≡ true }
     requires limit { limit < 2 ^ 62 }
     ensures { (name : List ℕ) → Ready slot name (D.outside desk.old) → ReadsSlot slot name limit (D.outside desk.old) result (D.outside desk.new) }
@@ -42,7 +49,7 @@ pub fn read_slot<D: Desk>(
 }
 
 /// The formula of a file.
-pub fn formula_of<D: Desk>(
+fn read_formula_of<D: Desk>(
     alloc: Global,
     desk: &mut D,
     name: Name,
@@ -87,5 +94,70 @@ fn refused(why: ReadRefusal) -> Outcome
             place,
         ))),
         ReadRefusal::Memory => Outcome::Memory,
+    }
+}
+
+/// Reads the formula, and starts the second slot.
+fn begin<D: Desk>(
+    alloc: Global,
+    desk: &mut D,
+    formula: Name,
+    second: Name,
+    limit: u64,
+) -> Result<Formula, Outcome>
+    requires fresh { Unasked (D.outside desk.old).asked }
+    requires limit { limit ≤ 4294967295 }
+    ensures { (p : PlanOf) → formula_of p ≡ Some formula → second_of p ≡ Some second → Begins p second limit (D.outside desk.old) result (D.outside desk.new) }
+{
+    let formula = match read_formula_of(alloc, desk, formula, limit) {
+        Ok(formula) => formula,
+        Err(outcome) => return Err(outcome),
+    };
+    match start_slot(desk, Slot::Second, second) {
+        Ok(()) => Ok(formula),
+        Err(outcome) => Err(outcome),
+    }
+}
+
+/// Gives the Proof port its file, where it is to have one.
+fn create_proof<D: Desk>(desk: &mut D, proof: Option<Name>) -> Result<(), Outcome>
+    requires unasked { (D.outside desk.old).asked.proof ≡ None }
+    ensures { GivesFile proof (D.outside desk.old) result (D.outside desk.new) }
+{
+    let Some(name) = proof else {
+        return Ok(());
+    };
+    match desk.create(name.into_string()) {
+        Ok(()) => Ok(()),
+        Err(Failed) => Err(Outcome::WriteFault),
+    }
+}
+
+/// Reads the formula and the second text of a command. Between the two the Proof port is given its
+/// file, where the command names one.
+pub fn load<D: Desk>(
+    alloc: Global,
+    desk: &mut D,
+    formula: Name,
+    second: Name,
+    proof: Option<Name>,
+    limit: u64,
+) -> Result<Texts, Outcome>
+    requires fresh { Unasked (D.outside desk.old).asked }
+    requires limit { limit ≤ 4294967295 }
+    ensures { (p : PlanOf) → formula_of p ≡ Some formula → second_of p ≡ Some second → proof_of p ≡ proof
+        → Loads p limit (seen (D.outside desk.old)) result (seen (D.outside desk.new)) }
+{
+    let formula = match begin(alloc, desk, formula, second, limit) {
+        Ok(formula) => formula,
+        Err(outcome) => return Err(outcome),
+    };
+    match create_proof(desk, proof) {
+        Ok(()) => {}
+        Err(outcome) => return Err(outcome),
+    }
+    match read_slot(alloc, desk, Slot::Second, limit) {
+        Ok(second) => Ok(Texts { formula, second }),
+        Err(outcome) => Err(outcome),
     }
 }

@@ -2,9 +2,9 @@
 ghost use Rattle.cx_desk.specs.declared.desk.Port.TheVariants as port;
 ghost use Rattle.std.specs.Prelude.{[], ◌∷◌, codes, decimal};
 ghost use Rattle.cx_desk.specs.Calls.{PutsAll};
-ghost use Rattle.solve_cli.specs.Endings.{answer_text, message_text, cause_text, offence_text, joined};
+ghost use Rattle.solve_cli.specs.Endings.{answer_text, message_text, cause_text, log_cause_text, wrong_text, offence_text, joined};
 
-use crate::{Ending, Outcome};
+use crate::{Ending, Outcome, WrongAnswer};
 use cx_desk::{Desk, Failed, Port, Slot, put_all, put_pieces};
 use cx_semantics::{Cause, Offence};
 use itoa::Buffer;
@@ -39,7 +39,7 @@ fn put_step_at<D: Desk>(
     )
 }
 
-/// The lines of a refusal by its cause.
+/// The lines of a proof's refusal by its cause.
 fn put_refusal<D: Desk>(desk: &mut D, step: u64, cause: Cause, last: &[u8]) -> Result<(), Failed>
     ensures { PutsAll port.Answer (joined (codes "c step " ∷ decimal step ∷ codes " " ∷ cause_text cause ∷ last.now ∷ [])) (D.outside desk.old) result (D.outside desk.new) }
 {
@@ -62,6 +62,56 @@ fn put_refusal<D: Desk>(desk: &mut D, step: u64, cause: Cause, last: &[u8]) -> R
     }
 }
 
+/// The lines of a log's refusal by its cause.
+fn put_log_refusal<D: Desk>(
+    desk: &mut D,
+    step: u64,
+    cause: Cause,
+    last: &[u8],
+) -> Result<(), Failed>
+    ensures { PutsAll port.Answer (joined (codes "c step " ∷ decimal step ∷ codes " " ∷ log_cause_text cause ∷ last.now ∷ [])) (D.outside desk.old) result (D.outside desk.new) }
+{
+    match cause {
+        Cause::TextRefused(place) => put_step_at(desk, step, b"E0 at byte ", place, last),
+        Cause::VarUnknown => put_step(desk, step, b"E1", last),
+        Cause::IdInUse => put_step(desk, step, b"E2", last),
+        Cause::NotInFormula => put_step(desk, step, b"E3", last),
+        Cause::NotLive => put_step(desk, step, b"E4", last),
+        Cause::NoChain => put_step(desk, step, b"E5", last),
+        Cause::SumDiffers => put_step(desk, step, b"E7", last),
+        Cause::NotImplied => put_step(desk, step, b"E8", last),
+        Cause::TooWide => put_step(desk, step, b"E9", last),
+        Cause::ClauseOutside => put_step(desk, step, b"E10", last),
+        Cause::NoEmptyClause => put_step(desk, step, b"E11", last),
+        Cause::RatHint => put_step(desk, step, b"E", last),
+        Cause::HintNotLive => put_step(desk, step, b"E", last),
+        Cause::HintNotUnit => put_step(desk, step, b"E", last),
+        Cause::HintsEnd => put_step(desk, step, b"E", last),
+    }
+}
+
+/// The lines of values that are refused, with a number.
+fn put_wrong_at<D: Desk>(desk: &mut D, front: &[u8], number: u64) -> Result<(), Failed>
+    ensures { PutsAll port.Answer (joined (front.now ∷ decimal number ∷ codes "\ns MODEL WRONG\n" ∷ [])) (D.outside desk.old) result (D.outside desk.new) }
+{
+    let mut buffer = Buffer::new();
+    let number = buffer.format(number).as_bytes();
+    put_pieces(desk, Port::Answer, &[front, number, b"\ns MODEL WRONG\n"])
+}
+
+/// The lines of values that are refused.
+fn put_wrong<D: Desk>(desk: &mut D, wrong: WrongAnswer) -> Result<(), Failed>
+    ensures { PutsAll port.Answer (wrong_text wrong) (D.outside desk.old) result (D.outside desk.new) }
+{
+    match wrong {
+        WrongAnswer::NoStatusLine => put_all(desk, Port::Answer, b"c A1\ns MODEL WRONG\n"),
+        WrongAnswer::BadToken(place) => put_wrong_at(desk, b"c A2 at byte ", place),
+        WrongAnswer::Missing(var) => put_wrong_at(desk, b"c A3 variable ", u64::from(var)),
+        WrongAnswer::Twice(var) => put_wrong_at(desk, b"c A4 variable ", u64::from(var)),
+        WrongAnswer::Unmet(number) => put_wrong_at(desk, b"c A5 constraint ", number),
+    }
+}
+
 /// Writes what an ending puts on the Answer port.
 #[tactic(auto, unfolding(crate::specs::Endings::answer_text))]
 pub fn put_answer_text<D: Desk>(desk: &mut D, ending: Ending) -> Result<(), Failed>
@@ -71,6 +121,12 @@ pub fn put_answer_text<D: Desk>(desk: &mut D, ending: Ending) -> Result<(), Fail
         Ending::Verified(_) => put_all(desk, Port::Answer, b"s VERIFIED\n"),
         Ending::NotVerified(step, cause) => {
             put_refusal(desk, step, cause, b"\ns NOT VERIFIED\n")
+        }
+        Ending::ModelRight => put_all(desk, Port::Answer, b"s MODEL RIGHT\n"),
+        Ending::ModelWrong(wrong) => put_wrong(desk, wrong),
+        Ending::Elaborated(_) => put_all(desk, Port::Answer, b"s ELABORATED\n"),
+        Ending::NotElaborated(step, cause) => {
+            put_log_refusal(desk, step, cause, b"\ns NOT ELABORATED\n")
         }
         Ending::FormulaRefused(_) => put_all(desk, Port::Answer, b""),
         Ending::TooLong(_) => put_all(desk, Port::Answer, b""),
@@ -118,6 +174,10 @@ pub fn put_message_text<D: Desk>(desk: &mut D, outcome: &Outcome) -> Result<(), 
         }
         Outcome::Ended(Ending::Verified(_)) => put_all(desk, Port::Message, b""),
         Outcome::Ended(Ending::NotVerified(_, _)) => put_all(desk, Port::Message, b""),
+        Outcome::Ended(Ending::ModelRight) => put_all(desk, Port::Message, b""),
+        Outcome::Ended(Ending::ModelWrong(_)) => put_all(desk, Port::Message, b""),
+        Outcome::Ended(Ending::Elaborated(_)) => put_all(desk, Port::Message, b""),
+        Outcome::Ended(Ending::NotElaborated(_, _)) => put_all(desk, Port::Message, b""),
         Outcome::Usage => put_all(desk, Port::Message, USAGE),
         Outcome::ReadFault => put_all(desk, Port::Message, b"error: read fault\n"),
         Outcome::WriteFault => put_all(desk, Port::Message, b"error: write fault\n"),

@@ -1,22 +1,22 @@
 //! The top call.
-ghost use Rattle.std.specs.Prelude.{◌≡◌, ◌≤◌, ◌⊎◌};
+ghost use Rattle.std.specs.Prelude.{◌≡◌, ◌≤◌, ◌⊎◌, IsTrue};
 ghost use Rattle.cx_desk.specs.Outside.{Rose};
-ghost use Rattle.solve_cli.specs.Words.{texts, Asks, Refuses};
+ghost use Rattle.cx_words.specs.Words.{texts, Asks, Refuses};
+ghost use Rattle.cx_words.specs.declared.plans.Plan.{Plan as PlanOf};
+ghost use Rattle.cx_words.specs.declared.plans.Plan.TheVariants as plan;
 ghost use Rattle.solve_cli.specs.Seen.{seen};
-ghost use Rattle.solve_cli.specs.Steps.{Answers, Begins};
-ghost use Rattle.solve_cli.specs.Happens.{Works, WorksFor, Runs, Comes, IsSound, Unasked, formula_of, second_of};
-ghost use Rattle.solve_cli.specs.declared.plans.Plan.{Plan as PlanOf};
-ghost use Rattle.solve_cli.specs.declared.plans.Plan.TheVariants as plan;
+ghost use Rattle.solve_cli.specs.Commands.{Unasked, is_built};
+ghost use Rattle.solve_cli.specs.Steps.{Answers};
+ghost use Rattle.solve_cli.specs.Happens.{Works, WorksFor, AsksForMore, Runs, Comes, IsSound, IsElaborated};
 
-use crate::judge::judge_text;
-use crate::load::{formula_of, read_slot, start_slot};
+use crate::elab::elaborate_text;
+use crate::judge::{judge_answer, judge_proof};
+use crate::load::load;
 use crate::print::{put_answer_text, put_message_text};
-use crate::words::plan;
-use crate::{Ending, Name, Outcome, Plan, PlanRefusal, Status};
-use cx_base::Formula;
-use cx_desk::{Desk, Failed, Slot};
+use crate::{Ending, Outcome, Status};
+use cx_desk::{Desk, Failed};
+use cx_words::{Name, Plan, PlanRefusal, plan};
 use std::alloc::{AllocError, Global};
-use xlrup_check::Verdict;
 
 /// Writes the answer of an ending.
 fn answer<D: Desk>(desk: &mut D, ending: Ending) -> Outcome
@@ -28,57 +28,58 @@ fn answer<D: Desk>(desk: &mut D, ending: Ending) -> Outcome
     }
 }
 
-/// Reads the formula, and starts the second slot.
-fn begin<D: Desk>(
-    alloc: Global,
-    desk: &mut D,
-    formula: Name,
-    second: Name,
-    limit: u64,
-) -> Result<Formula, Outcome>
-    requires fresh { Unasked (D.outside desk.old).asked }
-    requires limit { limit ≤ 4294967295 }
-    ensures { (p : PlanOf) → formula_of p ≡ formula → second_of p ≡ second → Begins p limit (D.outside desk.old) result (D.outside desk.new) }
-{
-    let formula = match formula_of(alloc, desk, formula, limit) {
-        Ok(formula) => formula,
-        Err(outcome) => return Err(outcome),
-    };
-    match start_slot(desk, Slot::Second, second) {
-        Ok(()) => Ok(formula),
-        Err(outcome) => Err(outcome),
-    }
-}
-
-/// `check`: reads both texts, judges the proof and answers.
-fn judge<D: Desk>(alloc: Global, desk: &mut D, formula: Name, proof: Name, limit: u64) -> Outcome
+/// `check`: judges a proof.
+fn check<D: Desk>(alloc: Global, desk: &mut D, formula: Name, proof: Name, limit: u64) -> Outcome
     requires fresh { Unasked (D.outside desk.old).asked }
     requires limit { limit ≤ 4294967295 }
     ensures { Works (plan.Check formula proof) limit (seen (D.outside desk.old)) result (seen (D.outside desk.new)) }
 {
-    let formula = match begin(alloc, desk, formula, proof, limit) {
-        Ok(formula) => formula,
+    let texts = match load(alloc, desk, formula, proof, None, limit) {
+        Ok(texts) => texts,
         Err(outcome) => return outcome,
     };
-    let text = match read_slot(alloc, desk, Slot::Second, limit) {
-        Ok(text) => text,
-        Err(outcome) => return outcome,
-    };
-    match judge_text(alloc, &formula, text.as_slice()) {
-        Ok(Verdict::Verified(step)) => answer(desk, Ending::Verified(step)),
-        Ok(Verdict::Refused(step, cause)) => answer(desk, Ending::NotVerified(step, cause)),
+    match judge_proof(alloc, &texts.formula, texts.second.as_slice()) {
+        Ok(ending) => answer(desk, ending),
         Err(AllocError) => Outcome::Memory,
     }
 }
 
-/// Does what the plan says.
-fn carry_out<D: Desk>(alloc: Global, desk: &mut D, plan: Plan, limit: u64) -> Outcome
+/// `model`: judges printed values.
+fn model<D: Desk>(alloc: Global, desk: &mut D, formula: Name, values: Name, limit: u64) -> Outcome
     requires fresh { Unasked (D.outside desk.old).asked }
     requires limit { limit ≤ 4294967295 }
-    ensures { Works plan limit (seen (D.outside desk.old)) result (seen (D.outside desk.new)) }
+    ensures { Works (plan.Model formula values) limit (seen (D.outside desk.old)) result (seen (D.outside desk.new)) }
 {
-    match plan {
-        Plan::Check { formula, proof } => judge(alloc, desk, formula, proof, limit),
+    let texts = match load(alloc, desk, formula, values, None, limit) {
+        Ok(texts) => texts,
+        Err(outcome) => return outcome,
+    };
+    match judge_answer(alloc, &texts.formula, texts.second.as_slice()) {
+        Ok(ending) => answer(desk, ending),
+        Err(AllocError) => Outcome::Memory,
+    }
+}
+
+/// `elab`: makes a proof of a log.
+fn elab<D: Desk>(
+    alloc: Global,
+    desk: &mut D,
+    formula: Name,
+    log: Name,
+    proof: Name,
+    limit: u64,
+) -> Outcome
+    requires fresh { Unasked (D.outside desk.old).asked }
+    requires limit { limit ≤ 4294967295 }
+    ensures { Works (plan.Elab formula log proof) limit (seen (D.outside desk.old)) result (seen (D.outside desk.new)) }
+{
+    let texts = match load(alloc, desk, formula, log, Some(proof), limit) {
+        Ok(texts) => texts,
+        Err(outcome) => return outcome,
+    };
+    match elaborate_text(alloc, desk, &texts.formula, texts.second.as_slice()) {
+        Ok(ending) => answer(desk, ending),
+        Err(outcome) => outcome,
     }
 }
 
@@ -89,7 +90,17 @@ fn work<D: Desk>(alloc: Global, desk: &mut D, words: &[String], limit: u64) -> O
     ensures { WorksFor (texts words.now) limit (seen (D.outside desk.old)) result (seen (D.outside desk.new)) }
 {
     match plan(alloc, words) {
-        Ok(plan) => carry_out(alloc, desk, plan, limit),
+        Ok(Plan::Check { formula, proof }) => check(alloc, desk, formula, proof, limit),
+        Ok(Plan::Model { formula, answer }) => model(alloc, desk, formula, answer, limit),
+        Ok(
+            Plan::Elab {
+                formula,
+                log,
+                proof,
+            },
+        ) => elab(alloc, desk, formula, log, proof, limit),
+        Ok(Plan::Solve { .. }) => Outcome::Usage,
+        Ok(Plan::Demo { .. }) => Outcome::Usage,
         Err(PlanRefusal::Usage) => Outcome::Usage,
         Err(PlanRefusal::Memory) => Outcome::Memory,
     }
@@ -103,11 +114,12 @@ pub fn run_within<D: Desk>(alloc: Global, words: Vec<String>, limit: u64, desk: 
     requires limit { limit ≤ 4294967295 }
     ensures runs { Runs (texts words.items) limit (seen (D.outside desk.old)) result (seen (D.outside desk.new)) }
     ensures sound { IsSound (texts words.items) (seen (D.outside desk.old)) result }
-    ensures complete { (p : PlanOf) → Asks (texts words.items) p
+    ensures elaborated { IsElaborated (texts words.items) (seen (D.outside desk.old)) result (seen (D.outside desk.new)) }
+    ensures complete { (p : PlanOf) → Asks (texts words.items) p → IsTrue (is_built p)
         → (Rose (D.outside desk.old).faults.reads (D.outside desk.new).faults.reads → ⊥)
         → (Rose (D.outside desk.old).faults.writes (D.outside desk.new).faults.writes → ⊥)
         → (result ≡ Status.OutOfMemory) ⊎ Comes (texts words.items) limit (seen (D.outside desk.old)) result }
-    ensures usage { result ≡ Status.Usage → Refuses (texts words.items) }
+    ensures usage { result ≡ Status.Usage → Refuses (texts words.items) ⊎ AsksForMore (texts words.items) }
     ensures read_fault { result ≡ Status.ReadFault → Rose (D.outside desk.old).faults.reads (D.outside desk.new).faults.reads }
     ensures write_fault { result ≡ Status.WriteFault → Rose (D.outside desk.old).faults.writes (D.outside desk.new).faults.writes }
 {
@@ -121,11 +133,12 @@ pub fn run<D: Desk>(alloc: Global, words: Vec<String>, desk: &mut D) -> Status
     requires { Unasked (D.outside desk.old).asked }
     ensures runs { Runs (texts words.items) 4294967295 (seen (D.outside desk.old)) result (seen (D.outside desk.new)) }
     ensures sound { IsSound (texts words.items) (seen (D.outside desk.old)) result }
-    ensures complete { (p : PlanOf) → Asks (texts words.items) p
+    ensures elaborated { IsElaborated (texts words.items) (seen (D.outside desk.old)) result (seen (D.outside desk.new)) }
+    ensures complete { (p : PlanOf) → Asks (texts words.items) p → IsTrue (is_built p)
         → (Rose (D.outside desk.old).faults.reads (D.outside desk.new).faults.reads → ⊥)
         → (Rose (D.outside desk.old).faults.writes (D.outside desk.new).faults.writes → ⊥)
         → (result ≡ Status.OutOfMemory) ⊎ Comes (texts words.items) 4294967295 (seen (D.outside desk.old)) result }
-    ensures usage { result ≡ Status.Usage → Refuses (texts words.items) }
+    ensures usage { result ≡ Status.Usage → Refuses (texts words.items) ⊎ AsksForMore (texts words.items) }
     ensures read_fault { result ≡ Status.ReadFault → Rose (D.outside desk.old).faults.reads (D.outside desk.new).faults.reads }
     ensures write_fault { result ≡ Status.WriteFault → Rose (D.outside desk.old).faults.writes (D.outside desk.new).faults.writes }
 {

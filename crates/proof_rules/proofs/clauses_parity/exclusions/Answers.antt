@@ -1,17 +1,14 @@
 use Rattle.std.proofs.Common.{◌≡◌, sym, ap, ◌∙◌, subst, ◌+◌, ◌^◌, ◌<◌, ◌≤◌, ◌||◌, Bool, false, List, drop, length, get_or, replicate, nat_abs, pos, w64, rules, arith}
 use Rattle.std.proofs.lemmas.List.{drop_more, get_or-replicate, length-replicate, with_items_is}
-use Rattle.std.proofs.lemmas.Int.{to_z-of_z}
-use mir.Val.{SFits}
-use Rattle.cx_semantics.specs.Tables.{get}
+use Rattle.cx_semantics.specs.Tables.{named}
 use Rattle.proof_rules.specs.Exclusions.{Fits, excluded}
-use Rattle.proof_rules.specs.Kinds.{hinted}
 use Rattle.proof_rules.proofs.ExclusionLaws.{length-excluded}
 use Rattle.proof_rules.proofs.ClausesParity.{small_power, reach_of_power, marks, marks-hint, marks-no_hint, one_more}
 use Rattle.proof_rules.proofs.clauses_parity.exclusions.Goals.{in-Some+in_ok-set, in_default}
 use Rattle.proof_rules.proofs.clauses_parity.exclusions.Goals as goal
 
-pub loop-hint-init : goal.loop-hint-init
-loop-hint-init c =
+pub loop-id-init : goal.loop-id-init
+loop-id-init c =
     let xs = c.args.variables.now in
     let few : length xs ≤ 60 = omega arith in
     let items = c.in_ok-table.ensures.items_if_clones_equal (λ y h. h) ∙ ap (λ n. replicate n false) (small_power (length xs) few) in
@@ -20,44 +17,42 @@ loop-hint-init c =
       reach = reach_of_power xs (length c.in_ok-table.table.items) long;
       marked = λ j h.
           let k : j < 2 ^ length xs = omega arith in
-          ap (λ b. b || marks xs j (hinted c.args.live.now.clauses c.args.hints.now)) (ap (λ t. get_or t j false) items ∙ get_or-replicate (2 ^ length xs) j false false k);
+          ap (λ b. b || marks xs j (named c.args.live.now.clauses c.args.ids.now)) (ap (λ t. get_or t j false) items ∙ get_or-replicate (2 ^ length xs) j false false k);
     }
 
-pub loop-hint-preserved : goal.loop-hint-preserved
-loop-hint-preserved c =
+pub loop-id-preserved : goal.loop-id-preserved
+loop-id-preserved c =
     let xs = c.args.variables.now in
-    let hints = c.args.hints.now in
-    let here = get_or hints c.loop-hint.hint-index (pos 0) in
-    let rest = drop (c.loop-hint.hint-index + 1) hints in
+    let ids = c.args.ids.now in
+    let here = get_or ids c.loop-id.id-index 0 in
+    let rest = drop (c.loop-id.id-index + 1) ids in
     let clauses = c.args.live.now.clauses in
-    let old = c.loop-hint.table.items in
-    let next = sym (drop_more hints c.loop-hint.hint-index (pos 0) c.loop-hint-test.true) in
-    let fits : SFits w64 here = search rules in
-    let known = ap (get clauses) (sym (c.id_of.ensures ∙ ap nat_abs (to_z-of_z w64 here fits))) in
+    let old = c.loop-id.table.items in
+    let next = sym (drop_more ids c.loop-id.id-index 0 c.loop-id-test.true) in
     elim c.match-clause.branch [
       | in-Some+in_ok-set w ↦
           let new = w.exclude.new.table in
           let marked = w.exclude.ensures ∙ ap (excluded w.in_ok-set.set xs 0 1) w.deref_mut.ensures.value in
           let same : length new ≡ length old = ap length marked ∙ length-excluded w.in_ok-set.set xs 0 1 old in
-          let items : ◌≡◌ {A = List Bool} c.match-clause.table.items new = ap (λ t. t.items) w.table-is ∙ with_items_is c.loop-hint.table new (same ∙ sym c.loop-hint.table.ok.0) in
+          let items : ◌≡◌ {A = List Bool} c.match-clause.table.items new = ap (λ t. t.items) w.table-is ∙ with_items_is c.loop-id.table new (same ∙ sym c.loop-id.table.ok.0) in
           let long : length c.match-clause.table.items ≡ length old = ap length items ∙ same in
           record {
-            reach = subst (Fits xs 1) (sym long) c.loop-hint.invariant.reach;
+            reach = subst (Fits xs 1) (sym long) c.loop-id.invariant.reach;
             marked = λ j h.
                 let k : j < length old = omega arith in
-                ap (λ t. get_or t j false || marks xs j (hinted clauses rest)) items
-                ∙ one_more w.in_ok-set.set w.in-Some.clause.now w.in_ok-set.ensures.same xs j old new (marks xs j (hinted clauses rest)) marked k
-                ∙ ap (λ b. get_or old j false || b) (marks-hint xs j clauses here rest w.in-Some.clause.now (known ∙ w.in-Some.ensures))
-                ∙ ap (λ zs. get_or old j false || marks xs j (hinted clauses zs)) next ∙ c.loop-hint.invariant.marked j k;
+                ap (λ t. get_or t j false || marks xs j (named clauses rest)) items
+                ∙ one_more w.in_ok-set.set w.in-Some.clause.now w.in_ok-set.ensures.same xs j old new (marks xs j (named clauses rest)) marked k
+                ∙ ap (λ b. get_or old j false || b) (marks-hint xs j clauses here rest w.in-Some.clause.now w.in-Some.ensures)
+                ∙ ap (λ zs. get_or old j false || marks xs j (named clauses zs)) next ∙ c.loop-id.invariant.marked j k;
           }
       | in_default w ↦
           let items : ◌≡◌ {A = List Bool} c.match-clause.table.items old = ap (λ t. t.items) w.table-is in
           record {
-            reach = subst (Fits xs 1) (sym (ap length items)) c.loop-hint.invariant.reach;
+            reach = subst (Fits xs 1) (sym (ap length items)) c.loop-id.invariant.reach;
             marked = λ j h.
                 let k : j < length old = omega (arith, ap length items) in
-                ap (λ t. get_or t j false || marks xs j (hinted clauses rest)) items
-                ∙ ap (λ b. get_or old j false || b) (marks-no_hint xs j clauses here rest (known ∙ w.in_default.ensures))
-                ∙ ap (λ zs. get_or old j false || marks xs j (hinted clauses zs)) next ∙ c.loop-hint.invariant.marked j k;
+                ap (λ t. get_or t j false || marks xs j (named clauses rest)) items
+                ∙ ap (λ b. get_or old j false || b) (marks-no_hint xs j clauses here rest w.in_default.ensures)
+                ∙ ap (λ zs. get_or old j false || marks xs j (named clauses zs)) next ∙ c.loop-id.invariant.marked j k;
           }
     ]

@@ -5,7 +5,7 @@ use Rattle.cx_base.specs.Parity.{NormalForm, normal_form}
 use Rattle.cx_semantics.proofs.RecoveredLaws.{len-distinct}
 use Rattle.proof_rules.specs.Assignments.{Lists}
 use Rattle.proof_rules.specs.Exclusions.{is_outside, all_excluded, Excludes}
-use Rattle.proof_rules.specs.Kinds.{hinted}
+use Rattle.cx_semantics.specs.Tables.{named}
 use Rattle.proof_rules.proofs.ClausesParity.{too_wide_fails, outside_fails, refused_fails, implied_holds}
 use Rattle.proof_rules.proofs.clauses_parity.judge_target.Goals as goal
 
@@ -14,12 +14,12 @@ returns-then-width-gt-WIDEST c =
     let target = c.args.target.now in
     let form = c.in_ok-sum.ensures in
     let wide : 12 < set.len (normal_form target).variables = omega (arith, c.width.ensures ∙ ap (λ p. set.len p.variables) form) in
-    too_wide_fails target (hinted c.args.live.now.clauses c.args.hints.now) wide
+    too_wide_fails target (named c.args.live.now.clauses c.args.ids.now) wide
 
 pub returns-then-any_outside : goal.returns-then-any_outside
 returns-then-any_outside c =
     let target = c.args.target.now in
-    let clauses = hinted c.args.live.now.clauses c.args.hints.now in
+    let clauses = named c.args.live.now.clauses c.args.ids.now in
     let form = c.in_ok-sum.ensures in
     let narrow : set.len (normal_form target).variables ≤ 12 = omega (arith, c.width.ensures ∙ ap (λ p. set.len p.variables) form) in
     outside_fails target clauses narrow (ap (λ p. list_any (is_outside p.variables) clauses) (sym form) ∙ sym c.any_outside.ensures ∙ c.if-any_outside.true)
@@ -34,7 +34,7 @@ exclusions-requires c =
 pub returns-then-all_excluded : goal.returns-then-all_excluded
 returns-then-all_excluded c =
     let target = c.args.target.now in
-    let clauses = hinted c.args.live.now.clauses c.args.hints.now in
+    let clauses = named c.args.live.now.clauses c.args.ids.now in
     let xs = c.in_ok-variables.variables.items in
     let table = c.in_ok-table.table.items in
     let form = c.in_ok-sum.ensures in
@@ -47,7 +47,7 @@ returns-then-all_excluded c =
 pub returns : goal.returns
 returns c =
     let target = c.args.target.now in
-    let clauses = hinted c.args.live.now.clauses c.args.hints.now in
+    let clauses = named c.args.live.now.clauses c.args.ids.now in
     let xs = c.in_ok-variables.variables.items in
     let table = c.in_ok-table.table.items in
     let form = c.in_ok-sum.ensures in

@@ -1,7 +1,7 @@
 use Rattle.solve_cli.proofs.Works.{tells_of}
-use Rattle.solve_cli.proofs.Direct.{sound, complete, usage, read_fault, write_fault}
+use Rattle.solve_cli.proofs.Direct.{sound, elaborated_is_accepted, complete, usage, read_fault, write_fault}
 use Rattle.solve_cli.specs.Seen.{seen}
-use Rattle.solve_cli.specs.Words.{texts}
+use Rattle.cx_words.specs.Words.{texts}
 use Rattle.solve_cli.specs.Happens.{Runs}
 use Rattle.solve_cli.specs.Endings.{message_text}
 use Rattle.solve_cli.proofs.program.run_within.Goals as goal
@@ -22,7 +22,8 @@ returns g c =
     record {
       runs = runs;
       sound = sound words c.args.limit old c.status.result new runs;
-      complete = λ p asks no_read no_write. complete words c.args.limit old c.status.result new runs p asks no_read no_write;
+      elaborated = elaborated_is_accepted words c.args.limit old c.status.result new runs;
+      complete = λ p asks built no_read no_write. complete words c.args.limit old c.status.result new runs p asks built no_read no_write;
       usage = usage words c.args.limit old c.status.result new runs;
       read_fault = read_fault words c.args.limit old c.status.result new runs;
       write_fault = write_fault words c.args.limit old c.status.result new runs;

@@ -1,4 +1,4 @@
-use Rattle.std.proofs.Common.{◌≡◌, refl, sym, ap, subst, ◌∙◌, Bool, false, true, [], ◌∷◌, append-nil, le_refl}
+use Rattle.std.proofs.Common.{◌≡◌, refl, sym, ap, subst, ◌∙◌, Bool, false, true, [], ◌∷◌, append-nil}
 use Rattle.cx_desk.specs.declared.desk.Port.TheVariants.{Proof}
 use Rattle.cx_desk.specs.Outside.{Bytes, Outside}
 use Rattle.cx_desk.specs.Calls.{gained}
@@ -6,8 +6,8 @@ use Rattle.proof_text.specs.Told.{is_whole, step_line, Goes}
 use Rattle.proof_text.proofs.ToldLaws.{gained_step, gained_whole, torn_told}
 use Rattle.proof_text.proofs.desk_proof.DeskProofProofSink.step.Goals as goal
 
-pub invariant_of-self-in-Ok : goal.invariant_of-self-in-Ok
-invariant_of-self-in-Ok g c =
+pub invariant_of-self : goal.invariant_of-self
+invariant_of-self g c =
     let whole = gained_whole (g.D.Desk.outside c.args.self.now.desk.now) c.args.step.now (c.args.self.now.whole c.if-self.false) c.requires.text in
     record { whole = λ h. subst (λ (o : Outside). is_whole o.told ≡ true) (sym c.in-Ok.ensures) whole }
 
@@ -19,9 +19,8 @@ pub returns-in-Ok-clause-frame : goal.returns-in-Ok-clause-frame
 returns-in-Ok-clause-frame g c =
     let old = g.D.Desk.outside c.args.self.now.desk.now in
     let new = g.D.Desk.outside c.put_proof_step.new.desk in
-    let n = c.args.self.now.refused in
     let moved = c.in-Ok.ensures ∙ ap (λ (x : Bytes). gained Proof x old) (sym (append-nil (step_line c.args.step.now))) in
-    (refl, subst (λ (b : Bool). Goes b n old false n new) (sym c.if-self.false) (refl, record { steps = c.args.step.now ∷ []; texts = (c.requires.text, tt); moved = moved }))
+    (refl, subst (λ (b : Bool). Goes b old false new) (sym c.if-self.false) (record { steps = c.args.step.now ∷ []; texts = (c.requires.text, tt); moved = moved }))
 
 pub returns-in-Err-clause-same : goal.returns-in-Err-clause-same
 returns-in-Err-clause-same g c = torn_told (g.D.Desk.outside c.args.self.now.desk.now) (g.D.Desk.outside c.put_proof_step.new.desk) c.args.step.now c.requires.text c.in-Err.ensures
@@ -30,9 +29,8 @@ pub returns-in-Err-clause-frame : goal.returns-in-Err-clause-frame
 returns-in-Err-clause-frame g c =
     let old = g.D.Desk.outside c.args.self.now.desk.now in
     let new = g.D.Desk.outside c.put_proof_step.new.desk in
-    let n = c.args.self.now.refused in
     let torn = c.in-Err.ensures in (
       refl,
-      subst (λ (b : Bool). Goes b n old true n new) (sym c.if-self.false)
-          (le_refl n, record { steps = []; texts = tt; part = c.args.step.now; text = c.requires.text; kept = torn.0; front = torn.1; moved = torn.2 }),
+      subst (λ (b : Bool). Goes b old true new) (sym c.if-self.false)
+          (record { steps = []; texts = tt; part = c.args.step.now; text = c.requires.text; kept = torn.0; front = torn.1; moved = torn.2 }),
     )

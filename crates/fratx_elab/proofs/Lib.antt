@@ -1,0 +1,7 @@
+mod TieLaws
+mod Transfers
+mod NameEntries
+mod Numbers
+mod Taking
+mod Texts
+mod Turns

@@ -1,0 +1,23 @@
+use Rattle.std.proofs.Common.{◌≡◌, refl, sym, ap, ◌∙◌, ℕ, ◌≤◌, max, [], ◌∷◌, arith}
+use Rattle.cx_semantics.specs.declared.steps.ProofStep.TheVariants as step
+use Rattle.fratx_elab.specs.Elaborates.{deleted_id}
+use Rattle.fratx_elab.specs.Names.{stands_for}
+use Rattle.fratx_elab.proofs.Taking.{keeps_clause, deletes_clause}
+use Rattle.fratx_elab.proofs.delete.delete_clause.Goals as goal
+
+pub returns-in_ok-clause_deletion-in-Some-clause-taken : goal.returns-in_ok-clause_deletion-in-Some-clause-taken
+returns-in_ok-clause_deletion-in-Some-clause-taken c = λ formula e.
+    let state = c.args.state.now in
+    let p : ℕ = c.in-Some.gone in
+    let front : ℕ = c.front_of.result in
+    let last : ℕ = c.last-last.result in
+    let some = ap (λ n. deleted_id n (stands_for state.clauses c.args.id)) (sym e) ∙ sym c.deleted-gone.ensures ∙ c.in-Some.is in
+    deletes_clause formula state _ c.args.id p front c.args.lits.now c.in_ok-clause_deletion-in-Some.field-0 some
+    (λ h. let at : front ≡ max last p = c.front_of.ensures in let l : last ≡ state.clauses.last = c.last-last.ensures in omega arith)
+    c.remove_clause.ensures c.remove.ensures refl c.in_ok-clause_deletion-in-Some.ensures.step
+
+pub returns-in-None-clause-taken : goal.returns-in-None-clause-taken
+returns-in-None-clause-taken c = λ formula e.
+    let state = c.args.state.now in
+    let none = ap (λ n. deleted_id n (stands_for state.clauses c.args.id)) (sym e) ∙ sym c.deleted-gone.ensures ∙ c.in-None.is in
+    keeps_clause formula state _ c.args.id c.args.lits.now none c.remove_clause.ensures c.remove.ensures refl

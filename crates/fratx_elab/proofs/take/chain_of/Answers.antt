@@ -1,0 +1,30 @@
+use Rattle.std.proofs.Common.{◌≡◌, refl, sym, ap, ◌∙◌, subst, ℕ, ℤ, nat_abs, Bool, true, false, not, ◌||◌, List, [], ◌∷◌, true≢false}
+use Rattle.std.specs.List.{list_any}
+use Rattle.cx_semantics.specs.Chain.{ChainEnd, right, not_unit, hints_end, chain, negations, IsChain}
+use Rattle.cx_semantics.specs.Integers.{sizes}
+use Rattle.cx_semantics.specs.LogRules.{AreLive}
+use Rattle.cx_semantics.specs.ProofRules.{is_not_unit, is_hints_end}
+use Rattle.cx_semantics.specs.Tables.{Table, is_live, named}
+use Rattle.fratx_elab.proofs.take.chain_of.Goals as goal
+
+live_sizes : (table : Table) (zs : List ℤ) → list_any (λ z. not (is_live table (nat_abs z))) zs ≡ false → AreLive table (sizes zs)
+live_sizes table [] h = tt
+live_sizes table (z ∷ zs) h = go (is_live table (nat_abs z)) refl (live_sizes table zs)
+  where
+    go : (b : Bool) → is_live table (nat_abs z) ≡ b → (list_any (λ z. not (is_live table (nat_abs z))) zs ≡ false → AreLive table (sizes zs)) → (is_live table (nat_abs z) ≡ true) × AreLive table (sizes zs)
+    go true e rest = (e, rest (sym (ap (λ b. not b || list_any (λ z. not (is_live table (nat_abs z))) zs) e) ∙ h))
+    go false e rest = absurd (true≢false (sym (ap (λ b. not b || list_any (λ z. not (is_live table (nat_abs z))) zs) e) ∙ h))
+
+is_right : (e : ChainEnd) → is_not_unit e ≡ false → is_hints_end e ≡ false → e ≡ right
+is_right right h k = refl
+is_right not_unit h k = absurd (true≢false h)
+is_right hints_end h k = absurd (true≢false k)
+
+pub returns-in-Ok : goal.returns-in-Ok
+returns-in-Ok c =
+    let table = c.args.live.now.clauses in
+    let target = c.args.target.now in
+    let h = c.in-Ok.ensures in
+    let ids : c.from_vec.result ≡ sizes c.args.given.now = c.from_vec.ensures ∙ c.in_ok-ids_of-in-Ok.ensures in
+    let P : List ℕ → Type 0 = λ ns. AreLive table ns × IsChain target (named table ns) in
+    subst P (sym ids) (live_sizes table c.args.given.now h.1.0, is_right (chain (negations target) (named table (sizes c.args.given.now))) h.1.1.0 h.1.1.1.0)

@@ -1,0 +1,22 @@
+use Rattle.std.proofs.Common.{◌≡◌, refl, sym, ap, ◌∙◌, subst, ℕ, List, Option, MatchOption, IsFalse}
+use Rattle.cx_base.specs.Literals.{Literal}
+use Rattle.cx_semantics.specs.Judging.{AllHold}
+use Rattle.cx_semantics.specs.LogRules.{is_original}
+use Rattle.cx_semantics.specs.Tables.{put_clause}
+use Rattle.fratx_elab.specs.Elaborates.{IsClauseNumber}
+use Rattle.fratx_elab.specs.Takes.{added_rules}
+use Rattle.fratx_elab.proofs.Taking.{takes_original}
+use Rattle.fratx_elab.proofs.take.take_original.Goals as goal
+
+pub returns-in_ok-put_original-in-Some-clause-taken : goal.returns-in_ok-put_original-in-Some-clause-taken
+returns-in_ok-put_original-in-Some-clause-taken c =
+    let formula = c.args.formula.now in
+    let lits = c.args.lits.now in
+    let k = c.in-Some.number in
+    let added = subst (λ b. AllHold (added_rules formula b lits)) c.has_clause.ensures c.in-Ok.ensures.0 in
+    let target = c.in-Ok.ensures.1 in
+    let seen = c.as_slice.result.now in
+    let P : Option ℕ → Type 0 = λ o. MatchOption o (IsFalse (is_original formula seen)) (IsClauseNumber formula seen) in
+    let number = subst P c.in-Some.is c.in_ok-number.ensures in
+    takes_original formula c.args.state.now _ c.args.id k lits added (subst (λ (l : List Literal). IsClauseNumber formula l k) (c.as_slice.ensures ∙ target) number)
+    (c.in_ok-add_clause-in-Some.ensures.ok ∙ ap (put_clause c.args.state.now.live c.args.id) target) c.in_ok-put_original-in-Some.ensures refl

@@ -1,0 +1,40 @@
+use Rattle.std.proofs.Common.{◌≡◌, refl, sym, ap, ◌∙◌, subst, Option, Result, Err, ◌≤◌, ◌+◌, ◌^◌, arith}
+use Rattle.fratx_elab.specs.Names.{Naming, first_naming}
+use Rattle.fratx_elab.specs.Outcomes.{Goes, WritesStand}
+use Rattle.fratx_elab.specs.declared.outcome.Elab.{Elab}
+use Rattle.fratx_elab.specs.declared.outcome.ElabFault.{ElabFault}
+use Rattle.fratx_elab.proofs.Turns.{kept_first, nothing_gained}
+use Rattle.fratx_elab.proofs.walk.elaborate.Goals as goal
+
+pub returns-then-len-clause-cut_off : goal.returns-then-len-clause-cut_off
+returns-then-len-clause-cut_off g c = nothing_gained c.args.formula.now (g.E.ElabEnds.steps c.args.ends.now)
+
+pub loop-steps-init : goal.loop-steps-init
+loop-steps-init g c =
+    let clauses = c.new.ensures ∙ ap first_naming c.count_kinds-counts.ensures.clauses in
+    let parities = c.new-2.ensures ∙ ap first_naming c.count_kinds-counts.ensures.parities in
+    record {
+      kept = kept_first _ _ _ c.args.formula.now c.args.ends.now _ c.make.ensures clauses parities;
+      clause_room = omega (arith, ap (λ (n : Naming). n.last) c.new.ensures, c.count_kinds-counts.ensures.few, c.if-len.false, c.len.ensures);
+      parity_room = omega (arith, ap (λ (n : Naming). n.last) c.new-2.ensures, c.count_kinds-counts.ensures.few, c.if-len.false, c.len.ensures);
+      fresh = c.requires;
+      reads = refl;
+      writes = refl;
+      failed = refl;
+      few = omega arith;
+      far = omega arith;
+      limit = λ h. h;
+      frame = g.met.E.ElabEnds.keeps_itself c.args.ends.now;
+    }
+
+pub returns-in-Ok-Some-clause-judged : goal.returns-in-Ok-Some-clause-judged
+returns-in-Ok-Some-clause-judged g c =
+    let P : Option Elab → Type 0 = Goes g.E.ElabEnds.leaves g.E.ElabEnds.steps g.E.ElabEnds.torn c.args.formula.now c.args.ends.now c.take_next.new.ends c.take_next.new.state c.loop-steps.steps in
+    subst P c.in-Ok-Some.field-0-is (c.in-Ok-Some.ensures.turns c.args.ends.now c.loop-steps.invariant.kept)
+
+pub returns-in-Err-clause-writes : goal.returns-in-Err-clause-writes
+returns-in-Err-clause-writes g c =
+    subst (λ n. WritesStand (failed c.in-Err.fault) n (g.E.ElabEnds.write_faults c.take_next.new.ends)) c.loop-steps.invariant.writes c.in-Err.ensures.writes
+  where
+    failed : ElabFault → Result Elab ElabFault
+    failed fault = Err fault

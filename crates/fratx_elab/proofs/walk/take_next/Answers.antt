@@ -1,0 +1,46 @@
+use Rattle.std.proofs.Common.{◌≡◌, refl, sym, ap, ◌∙◌, subst, Option, Ok}
+use Rattle.cx_semantics.specs.Grammar.{finished}
+use Rattle.cx_semantics.specs.declared.steps.LogStep.{LogStep}
+use Rattle.proof_text.specs.Sources.{Gives}
+use Rattle.proof_text.specs.Sinks.{SinkFaultsAs}
+use Rattle.fratx_elab.specs.Writing.{WritesDown}
+use Rattle.fratx_elab.proofs.Turns.{end_is_refused, text_is_refused, refusal_turns, write_turns, text_stands, step_stands, write_stands}
+use Rattle.fratx_elab.proofs.walk.take_next.Goals as goal
+
+pub returns-in-Ok-None-clause-turns : goal.returns-in-Ok-None-clause-turns
+returns-in-Ok-None-clause-turns g c = λ first kept.
+    let h = subst (λ (o : Option LogStep). Gives g.E.ElabEnds.leaves c.args.ends.now (Ok o) c.next_step.new.self) c.in-Ok-None.field-0-is c.in-Ok-None.ensures.step in
+    end_is_refused _ _ _ c.args.formula.now first c.args.ends.now c.next_step.new.self c.args.state.now _ kept finished _ refl h.0 c.in-Ok-None.ensures.steps_stay
+
+pub returns-in-Err-clause-turns : goal.returns-in-Err-clause-turns
+returns-in-Err-clause-turns g c = λ first kept.
+    rw c.refused_text.ensures (text_is_refused _ _ _ c.args.formula.now first c.args.ends.now c.next_step.new.self c.args.state.now _ kept c.args.state.now c.in-Err.why c.in-Err.ensures.step c.in-Err.ensures.steps_stay)
+
+pub returns-in-Err-take_step-clause-turns : goal.returns-in-Err-take_step-clause-turns
+returns-in-Err-take_step-clause-turns g c = λ first kept.
+    let h = subst (λ (o : Option LogStep). Gives g.E.ElabEnds.leaves c.args.ends.now (Ok o) c.next_step.new.self) c.in-Ok-Some.field-0-is c.in-Ok-Some.ensures.step in
+    rw c.refused_step.ensures
+    (refusal_turns _ _ _ c.args.formula.now first c.args.ends.now c.next_step.new.self c.args.state.now _ kept c.in-Ok-Some.step h (g.met.E.ElabEnds.leaves_some c.next_step.new.self)
+    c.take_step.new.state c.in-Err-take_step.why c.in-Err-take_step.ensures.taken c.in-Ok-Some.ensures.steps_stay)
+
+pub returns-clause-turns : goal.returns-clause-turns
+returns-clause-turns g c = λ first kept.
+    let old = c.args.ends.now in
+    let new = c.write-wrote.new.ends in
+    let h = subst (λ (o : Option LogStep). Gives g.E.ElabEnds.leaves old (Ok o) c.next_step.new.self) c.in-Ok-Some.field-0-is c.in-Ok-Some.ensures.step in
+    let told = subst (λ t. WritesDown t (g.E.ElabEnds.steps new) (g.E.ElabEnds.torn new) c.in-Ok.written c.write-wrote.result) c.in-Ok-Some.ensures.steps_stay c.write-wrote.ensures.told in
+    rw c.what_follows.ensures
+    (write_turns _ _ _ c.args.formula.now first old new c.args.state.now _ kept c.in-Ok-Some.step (λ steps ending k. h steps ending ((c.write-wrote.ensures.rest steps ending).0 k)) (g.met.E.ElabEnds.leaves_some new)
+    c.take_step.new.state c.in-Ok.written c.in-Ok.ensures.taken c.write-wrote.result told c.ends_log.result c.ends_log.ensures)
+
+pub returns-in-Err-clause-writes : goal.returns-in-Err-clause-writes
+returns-in-Err-clause-writes g c = rw c.refused_text.ensures (text_stands _ _ c.in-Err.why _ c.in-Err.ensures.writes_stay)
+
+pub returns-in-Err-take_step-clause-writes : goal.returns-in-Err-take_step-clause-writes
+returns-in-Err-take_step-clause-writes g c = rw c.refused_step.ensures (step_stands _ _ c.in-Err-take_step.why _ c.in-Ok-Some.ensures.writes_stay)
+
+pub returns-clause-writes : goal.returns-clause-writes
+returns-clause-writes g c =
+    let new = g.E.ElabEnds.write_faults c.write-wrote.new.ends in
+    let faults = subst (λ n. SinkFaultsAs c.write-wrote.result n new) c.in-Ok-Some.ensures.writes_stay c.write-wrote.ensures.faults in
+    rw c.what_follows.ensures (write_stands _ _ c.write-wrote.result c.ends_log.result _ faults)

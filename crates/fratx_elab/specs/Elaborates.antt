@@ -1,0 +1,99 @@
+-- The proof that a log gives, step by step.
+use Rattle.std.specs.Prelude.{◌≡◌, ℕ, ◌+◌, ℤ, pos, List, [], ◌∷◌, ◌++◌, length, Option, Some, None, IsTrue, nat_lt, if◌then◌else◌}
+use Rattle.std.specs.List.{AllByRecursion}
+use Rattle.cx_base.specs.Literals.{Literal}
+use Rattle.cx_base.specs.Problem.{Problem, clauses_of, parities_of}
+use Rattle.cx_base.specs.Parity.{normal_form}
+use Rattle.cx_semantics.specs.declared.steps.LogStep.{LogStep}
+use Rattle.cx_semantics.specs.declared.steps.LogStep.TheVariants.{Original, OriginalParity, Clause, ClauseWithHints, Parity, ClauseOfParity, ParityOfClauses, Delete, DeleteParity, Final, FinalParity}
+use Rattle.cx_semantics.specs.declared.steps.ProofStep.{ProofStep}
+use Rattle.cx_semantics.specs.declared.steps.ProofStep.TheVariants as proof
+use Rattle.cx_semantics.specs.Chain.{same_literals}
+use Rattle.cx_semantics.specs.Integers.{literals}
+use Rattle.fratx_elab.specs.Names.{Naming, Names, stands_for, hints_for, first_names, name_original, name_next, drop_name}
+
+-- k is the least number, from 1, of a list with the property
+pub record IsLeast (P : List Literal → Type 0) (lists : List (List Literal)) (k : ℕ) : Type 0 where
+  pub before : List (List Literal)
+  pub it : List Literal
+  pub later : List (List Literal)
+  pub split : lists ≡ before ++ it ∷ later
+  pub has_it : P it
+  pub none_before : AllByRecursion (λ lits. ¬ P lits) before
+  pub number : k ≡ length before + 1
+
+-- of the formula's clauses, one with the same set of literals
+abbrev pub IsClauseNumber : Problem → List Literal → ℕ → Type 0
+IsClauseNumber formula lits k = IsLeast (λ clause. IsTrue (same_literals lits clause)) (clauses_of formula.constraints) k
+
+-- of the formula's parities, one with the same normal form
+abbrev pub IsParityNumber : Problem → List Literal → ℕ → Type 0
+IsParityNumber formula lits k = IsLeast (λ parity. normal_form parity ≡ normal_form lits) (parities_of formula.constraints) k
+
+-- an id above the formula's number of constraints of this kind is that of an added one
+abbrev pub is_added : ℕ → ℕ → Option ℕ
+is_added count p = if nat_lt count p then Some p else None
+
+-- the id to delete in the proof where the log deletes n: none for an original, and none for an id that is not live
+abbrev pub deleted_id : ℕ → Option ℕ → Option ℕ
+deleted_id count (Some p) = is_added count p
+deleted_id count None = None
+
+abbrev pub clause_deletion : ℕ → Option ℕ → List ProofStep
+clause_deletion front (Some p) = proof.DeleteClauses front (p ∷ []) ∷ []
+clause_deletion front None = []
+
+abbrev pub parity_deletion : Option ℕ → List ProofStep
+parity_deletion (Some p) = proof.DeleteParities (p ∷ []) ∷ []
+parity_deletion None = []
+
+abbrev pub number_of_clauses : Problem → ℕ
+number_of_clauses formula = length (clauses_of formula.constraints)
+
+abbrev pub number_of_parities : Problem → ℕ
+number_of_parities formula = length (parities_of formula.constraints)
+
+-- a step that adds a clause gives it the next clause id; its hints are some list
+abbrev pub WritesClause : Names → ℕ → List ℤ → List ProofStep → Names → Type 0
+WritesClause old n lits written new =
+    ((hints : List ℤ) × (written ≡ proof.Clause (old.clauses.last + 1) lits hints ∷ [])) × (new ≡ record { clauses = name_next old.clauses n; parities = old.parities })
+
+-- what is written for a step of the log, and the names after it
+abbrev pub Writes : Problem → Names → LogStep → List ProofStep → Names → Type 0
+-- an original writes nothing: the least number of a clause with the same literals stands for its id
+Writes formula old (Original n lits) written new =
+    (written ≡ []) × ((k : ℕ) × IsClauseNumber formula (literals lits) k × (new ≡ record { clauses = name_original old.clauses n k; parities = old.parities }))
+Writes formula old (OriginalParity n lits) written new =
+    (written ≡ []) × ((k : ℕ) × IsParityNumber formula (literals lits) k × (new ≡ record { clauses = old.clauses; parities = name_original old.parities n k }))
+-- a clause by a chain is one by a chain
+Writes formula old (Clause n lits) written new = WritesClause old n lits written new
+Writes formula old (ClauseWithHints n lits hints) written new = WritesClause old n lits written new
+-- a sum names the parities that stand for those of the log, in order and with repeats
+Writes formula old (Parity n lits sources) written new =
+    (written ≡ proof.Parity (old.parities.last + 1) lits (hints_for old.parities sources) ∷ []) × (new ≡ record { clauses = old.clauses; parities = name_next old.parities n })
+-- so do a clause of a parity and a parity of clauses
+Writes formula old (ClauseOfParity n lits source) written new =
+    ((p : ℕ) × (stands_for old.parities source ≡ Some p) × (written ≡ proof.ClauseOfParity (old.clauses.last + 1) lits (pos p) ∷ []))
+    × (new ≡ record { clauses = name_next old.clauses n; parities = old.parities })
+Writes formula old (ParityOfClauses n lits sources) written new =
+    (written ≡ proof.ParityOfClauses (old.parities.last + 1) lits (hints_for old.clauses sources) ∷ []) × (new ≡ record { clauses = old.clauses; parities = name_next old.parities n })
+-- what was added is deleted, behind the last clause id that was given
+Writes formula old (Delete n lits) written new =
+    (written ≡ clause_deletion old.clauses.last (deleted_id (number_of_clauses formula) (stands_for old.clauses n)))
+    × (new ≡ record { clauses = drop_name old.clauses n; parities = old.parities })
+Writes formula old (DeleteParity n lits) written new =
+    (written ≡ parity_deletion (deleted_id (number_of_parities formula) (stands_for old.parities n)))
+    × (new ≡ record { clauses = old.clauses; parities = drop_name old.parities n })
+-- a final step writes nothing
+Writes formula old (Final n lits) written new = (written ≡ []) × (new ≡ old)
+Writes formula old (FinalParity n lits) written new = (written ≡ []) × (new ≡ old)
+
+-- the steps write these, one after another
+abbrev pub Elaborates : Problem → Names → List LogStep → List ProofStep → Names → Type 0
+Elaborates formula old [] written new = (written ≡ []) × (new ≡ old)
+Elaborates formula old (step ∷ steps) written new =
+    (now : List ProofStep) × (rest : List ProofStep) × (between : Names) × (written ≡ now ++ rest) × Writes formula old step now between × Elaborates formula between steps rest new
+
+-- the proof that the steps of a log give, from the formula's constraints on
+abbrev pub IsProofOf : Problem → List LogStep → List ProofStep → Type 0
+IsProofOf formula steps written = (last : Names) × Elaborates formula (first_names formula) steps written last

@@ -1,0 +1,44 @@
+-- What stands in a proof for the ids of a log.
+use Rattle.std.specs.Prelude.{◌≡◌, ℕ, ◌+◌, ℤ, pos, List, length, map, filter_map, Option, refl}
+use Rattle.std.specs.Coded.{Coded, code_by, coded×, coded_ℕ}
+use Rattle.std.specs.Ordering.{nat_cmp}
+use Rattle.std.specs.FinMap as map_
+use Rattle.cx_base.specs.Problem.{Problem, clauses_of, parities_of}
+
+-- the proof id that stands for each live id of the log, and the last id that was given in the proof
+pub record Naming : Type 0 where
+  pub ids : map_.FinMap nat_cmp ℕ
+  pub last : ℕ
+
+-- clause ids and parity ids are separate sets of names, each with a counter of its own
+pub record Names : Type 0 where
+  pub clauses : Naming
+  pub parities : Naming
+
+abbrev pub stands_for : Naming → ℕ → Option ℕ
+stands_for naming n = map_.get naming.ids n
+
+-- the hints by which a proof names what a log names by these ids
+abbrev pub hints_for : Naming → List ℕ → List ℤ
+hints_for naming ids = map pos (filter_map (stands_for naming) ids)
+
+-- the formula's constraints have the first ids
+abbrev pub first_naming : ℕ → Naming
+first_naming count = record { ids = map_.empty; last = count }
+
+abbrev pub first_names : Problem → Names
+first_names formula = record { clauses = first_naming (length (clauses_of formula.constraints)); parities = first_naming (length (parities_of formula.constraints)) }
+
+-- number k stands for the id n
+abbrev pub name_original : Naming → ℕ → ℕ → Naming
+name_original naming n k = record { ids = map_.insert naming.ids n k; last = naming.last }
+
+-- the next id stands for the id n
+abbrev pub name_next : Naming → ℕ → Naming
+name_next naming n = record { ids = map_.insert naming.ids n (naming.last + 1); last = naming.last + 1 }
+
+abbrev pub drop_name : Naming → ℕ → Naming
+drop_name naming n = record { ids = map_.remove naming.ids n; last = naming.last }
+
+abbrev pub naming_code : Coded Naming
+naming_code = code_by (map_.FinMap nat_cmp ℕ × ℕ) (coded× (map_.code coded_ℕ coded_ℕ) coded_ℕ) (λ a. (a.ids, a.last)) (λ p. record { ids = p.0; last = p.1 }) (λ _. refl)

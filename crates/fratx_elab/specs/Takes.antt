@@ -1,0 +1,63 @@
+-- One step of a log, judged and done.
+use Rattle.std.specs.Prelude.{◌≡◌, ◌≤◌, ◌+◌, ℕ, ℤ, nat_abs, nat_lt, ⊤, Bool, true, false, List, [], ◌∷◌, Option, Some, None, Result, Ok, Err}
+use Rattle.std.specs.List.{list_any}
+use Rattle.cx_base.specs.Literals.{Literal}
+use Rattle.cx_base.specs.Problem.{Problem}
+use Rattle.cx_semantics.specs.Chain.{IsChain}
+use Rattle.cx_semantics.specs.Integers.{literals}
+use Rattle.cx_semantics.specs.declared.steps.Cause.TheVariants as causes
+use Rattle.cx_semantics.specs.Judging.{Rule, refused_where, AllHold, IsRight}
+use Rattle.cx_semantics.specs.LogRules.{AreLive, chained, log_calculus, log_rules, after_log_step, derives_empty_clause}
+use Rattle.cx_semantics.specs.ProofRules.{proof_calculus, after_step, adds_empty_clause}
+use Rattle.cx_semantics.specs.Printed.{HasProofText}
+use Rattle.cx_semantics.specs.Tables.{Table, Tables, named}
+use Rattle.cx_semantics.specs.declared.steps.LogStep.{LogStep}
+use Rattle.cx_semantics.specs.declared.steps.ProofStep.{ProofStep}
+use Rattle.proof_rules.specs.declared.refusal.JudgeRefusal.{JudgeRefusal}
+use Rattle.proof_rules.specs.Judges.{IsRefusedBy}
+use Rattle.fratx_elab.specs.Names.{Names}
+use Rattle.fratx_elab.specs.Elaborates.{Writes}
+use Rattle.fratx_elab.specs.Ties.{AreTied}
+use Rattle.fratx_elab.specs.declared.state.State.{State}
+
+abbrev pub names_of : State → Names
+names_of state = record { clauses = state.clauses; parities = state.parities }
+
+abbrev pub listed : Option ProofStep → List ProofStep
+listed (Some step) = step ∷ []
+listed None = []
+
+-- What is written is right in the proof, it ends the proof where the log ends, and the tables stay tied.
+abbrev pub KeepsTie : Problem → Tables → State → Bool → Option ProofStep → Type 0
+KeepsTie formula proof new ends (Some step) =
+    IsRight (proof_calculus formula) proof step × (adds_empty_clause step ≡ ends) × AreTied formula new.live (after_step proof step) (names_of new)
+KeepsTie formula proof new ends None = (ends ≡ false) × AreTied formula new.live proof (names_of new)
+
+-- the step is right and done, or has this first cause against it
+abbrev pub TakesLogStep : Problem → State → LogStep → Result (Option ProofStep) JudgeRefusal → State → Type 0
+TakesLogStep formula old step (Ok written) new =
+    IsRight (log_calculus formula) old.live step × (new.live ≡ after_log_step old.live step)
+    × ((proof : Tables) → AreTied formula old.live proof (names_of old) → Writes formula (names_of old) step (listed written) (names_of new) × KeepsTie formula proof new (derives_empty_clause step) written)
+TakesLogStep formula old step (Err why) new = IsRefusedBy (log_rules formula old.live step) why
+
+-- a text can have what is written
+abbrev pub CanBePrinted : Option ProofStep → Type 0
+CanBePrinted (Some step) = HasProofText step
+CanBePrinted None = ⊤
+
+-- at most one more id of each kind is given
+abbrev pub CountsOneMore : State → State → Type 0
+CountsOneMore old new = (new.clauses.last ≤ old.clauses.last + 1) × (new.parities.last ≤ old.parities.last + 1)
+
+-- the literals of what is added, whose id is live or not
+abbrev pub added_rules : Problem → Bool → List ℤ → List Rule
+added_rules formula is_live lits = refused_where causes.VarUnknown (list_any (λ z. nat_lt formula.variables (nat_abs z)) lits) ∷ refused_where causes.IdInUse is_live ∷ []
+
+abbrev pub Admits : Problem → Bool → List ℤ → Result (List Literal) JudgeRefusal → Type 0
+Admits formula is_live lits (Ok target) = AllHold (added_rules formula is_live lits) × (target ≡ literals lits)
+Admits formula is_live lits (Err why) = IsRefusedBy (added_rules formula is_live lits) why
+
+-- live hints that are a right chain; else there is no such list
+abbrev pub GivesChain : Table → List Literal → Result (List ℕ) JudgeRefusal → Type 0
+GivesChain table target (Ok ids) = AreLive table ids × IsChain target (named table ids)
+GivesChain table target (Err why) = IsRefusedBy (chained table target) why

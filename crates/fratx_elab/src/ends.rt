@@ -1,0 +1,131 @@
+//! Where steps come from and go to.
+ghost use Rattle.std.specs.Prelude.{◌≡◌, ◌<◌, ◌≤◌, ◌^◌, ℕ, Bool, true, false, List, Option, OnOk, OnErr};
+ghost use Rattle.cx_semantics.specs.Grammar.{Ending};
+ghost use Rattle.cx_semantics.specs.Printed.{HasProofText};
+ghost use Rattle.cx_semantics.specs.declared.steps.LogStep.{LogStep};
+ghost use Rattle.cx_semantics.specs.declared.steps.ProofStep.{ProofStep};
+ghost use Rattle.proof_text.specs.Sources.{Gives, Rises, FaultsAs, SpentAs, IsTooLongOnly};
+ghost use Rattle.proof_text.specs.Sinks.{with_next, SinkFaultsAs, HasFailedAs, OnFailed};
+
+use cx_semantics::{LogStep, ProofStep};
+use proof_text::{ProofSink, SinkFault, StepSource, TextRefusal};
+
+/// A source of the steps of a log and a sink of the steps of a proof, in one object.
+///
+/// Each call leaves the other side's steps, place and count of faults as they were.
+pub trait ElabEnds {
+    // it has these steps left and then this ending
+    ghost leaves: { Self → List LogStep → Ending → Type 0 };
+
+    // it tells that its text passes its limit
+    ghost passes_limit: { Self → Type 0 };
+
+    // its source has answered `Memory` or `Failed`
+    ghost is_spent: { Self → Bool };
+
+    ghost read_faults: { Self → ℕ };
+
+    ghost place_of: { Self → ℕ };
+
+    // the steps of the proof, where it tells them
+    ghost steps: { Self → Option (List ProofStep) };
+
+    ghost write_faults: { Self → ℕ };
+
+    // its sink has answered `Failed`
+    ghost has_failed: { Self → Bool };
+
+    // a part of this step was written behind the steps, after a fault
+    ghost torn: { Self → ProofStep → Type 0 };
+
+    // what a call leaves as it was
+    ghost keeps: { Self → Self → Type 0 };
+
+    /// The next step of the log, or none at the end of the text between two steps.
+    fn next_step(&mut self) -> Result<Option<LogStep>, TextRefusal>
+        requires { is_spent self.old ≡ false }
+        ensures step { Gives leaves self.old result self.new }
+        ensures spent { SpentAs result (is_spent self.new) }
+        ensures faults { FaultsAs result (read_faults self.old) (read_faults self.new) }
+        ensures long { IsTooLongOnly (passes_limit self.old) result }
+        ensures limit { (passes_limit self.new → passes_limit self.old) × (passes_limit self.old → passes_limit self.new) }
+        ensures rises { Rises result (place_of self.old) (place_of self.new) }
+        ensures far { place_of self.new < 2 ^ 62 }
+        ensures steps_stay { steps self.new ≡ steps self.old }
+        ensures writes_stay { write_faults self.new ≡ write_faults self.old }
+        ensures failed_stays { has_failed self.new ≡ has_failed self.old }
+        ensures frame { keeps self.old self.new };
+
+    /// How far the source has come: it rises at each step.
+    fn place(&self) -> u64
+        ensures { result ≡ place_of self.now };
+
+    /// Takes the next step of the proof, which a text can have.
+    fn step(&mut self, step: &ProofStep) -> Result<(), SinkFault>
+        requires text { HasProofText step.now }
+        ensures told { OnOk result (steps self.new ≡ with_next step.now (steps self.old)) }
+        ensures same { OnErr result (steps self.new ≡ steps self.old) }
+        ensures torn { OnFailed result (torn self.new step.now) }
+        ensures faults { SinkFaultsAs result (write_faults self.old) (write_faults self.new) }
+        ensures failed { HasFailedAs result (has_failed self.old) (has_failed self.new) }
+        ensures rest_stays { (left : List LogStep) (ending : Ending) → (leaves self.new left ending → leaves self.old left ending) × (leaves self.old left ending → leaves self.new left ending) }
+        ensures limit_stays { (passes_limit self.new → passes_limit self.old) × (passes_limit self.old → passes_limit self.new) }
+        ensures spent_stays { is_spent self.new ≡ is_spent self.old }
+        ensures reads_stay { read_faults self.new ≡ read_faults self.old }
+        ensures place_stays { place_of self.new ≡ place_of self.old }
+        ensures frame { keeps self.old self.new };
+
+    // it always has some steps left and an ending
+    ghost leaves_some: { (a : Self) → (steps : List LogStep) × (ending : Ending) × leaves a steps ending };
+
+    ghost keeps_itself: { (a : Self) → keeps a a };
+
+    ghost keeps_on: { (a b c : Self) → keeps a b → keeps b c → keeps a c };
+}
+
+/// A source and a sink, side by side.
+#[derive(Drop)]
+pub struct Joined<A, B> {
+    pub source: A,
+    pub sink: B,
+}
+
+impl<A: StepSource<Step = LogStep>, B: ProofSink> ElabEnds for Joined<A, B> {
+    ghost leaves = { λ j. A.leaves j.source };
+
+    ghost passes_limit = { λ j. A.passes_limit j.source };
+
+    ghost is_spent = { λ j. A.is_spent j.source };
+
+    ghost read_faults = { λ j. A.faults j.source };
+
+    ghost place_of = { λ j. A.place_of j.source };
+
+    ghost steps = { λ j. B.steps j.sink };
+
+    ghost write_faults = { λ j. B.faults j.sink };
+
+    ghost has_failed = { λ j. B.has_failed j.sink };
+
+    ghost torn = { λ j. B.torn j.sink };
+
+    ghost keeps = { λ a b. A.keeps a.source b.source × B.keeps a.sink b.sink };
+
+    fn next_step(&mut self) -> Result<Option<LogStep>, TextRefusal> {
+        self.source.next_step()
+    }
+
+    fn place(&self) -> u64 {
+        self.source.place()
+    }
+
+    fn step(&mut self, step: &ProofStep) -> Result<(), SinkFault> {
+        self.sink.step(step)
+    }
+
+    ghost leaves_some = { λ j. A.leaves_some j.source };
+
+    ghost keeps_itself = { λ j. (A.keeps_itself j.source, B.keeps_itself j.sink) };
+
+    ghost keeps_on = { λ a b c h k. (A.keeps_on a.source b.source c.source h.0 k.0, B.keeps_on a.sink b.sink c.sink h.1 k.1) };
+}

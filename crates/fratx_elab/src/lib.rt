@@ -1,0 +1,20 @@
+//! A log becomes a proof: each step is judged, and what it adds is written with hints.
+#![tactic(auto)]
+
+mod delete;
+mod ends;
+mod naming;
+mod one_step;
+mod originals;
+mod outcome;
+mod state;
+mod steps;
+mod take;
+mod walk;
+
+pub use ends::{ElabEnds, Joined};
+pub use outcome::{Elab, ElabFault};
+pub use walk::elaborate;
+
+#[cfg(test)]
+mod tests;

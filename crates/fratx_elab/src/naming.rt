@@ -1,0 +1,132 @@
+//! What stands in the proof for the ids of a log.
+ghost use Rattle.std.specs.Prelude.{◌≡◌, ◌≢◌, ◌≤◌, ◌<◌, ◌+◌, ℕ, ℤ, pos, nat_abs, IfOk, OnOk, MatchOption, None, Some};
+ghost use Rattle.fratx_elab.specs.Names.{Naming, stands_for, first_naming, name_original, name_next, drop_name};
+
+use std::alloc::{AllocError, Global};
+use std::collections::BTreeMap;
+use std::marker::Model;
+
+/// The greatest id of a proof.
+pub const MAX_ID: u64 = 9_223_372_036_854_775_807;
+
+/// An id of the proof, from 1 up to [`MAX_ID`].
+#[derive(Clone, Copy, Debug, Drop)]
+pub struct ProofId {
+    number: u64,
+}
+
+impl Model for ProofId {
+    ghost use Rattle.std.specs.Prelude.{ℕ, ◌≤◌};
+    ghost use Rattle.fratx_elab.specs.declared.naming.TheConstants.{MAX_ID};
+
+    ghost Value = { ℕ };
+
+    ghost view = { λ p. p.number };
+
+    ghost invariant = { λ p. (1 ≤ p.number) × (p.number ≤ MAX_ID) };
+
+    ghost inverse = { λ n. record { number = n } };
+}
+
+impl ProofId {
+    /// The id of this number.
+    pub fn new(number: u64) -> ProofId
+        requires low { 1 ≤ number }
+        requires high { number ≤ MAX_ID }
+        ensures { result ≡ number }
+    {
+        ProofId { number }
+    }
+
+    /// Its number.
+    pub fn number(self) -> u64
+        ensures number { result ≡ self }
+        ensures low { 1 ≤ result }
+        ensures high { result ≤ MAX_ID }
+    {
+        self.number
+    }
+
+    /// The hint that names it.
+    pub fn hint(self) -> i64
+        ensures hint { result ≡ pos self }
+        ensures some { result ≢ pos 0 }
+        ensures within { nat_abs result ≤ MAX_ID }
+    {
+        self.number as i64
+    }
+}
+
+/// The proof id that stands for each live id of a log, and the last id given in the proof.
+#[derive(Drop)]
+pub struct Names {
+    ids: BTreeMap<u64, ProofId>,
+    last: u64,
+}
+
+impl Model for Names {
+    ghost use Rattle.std.specs.FinMap as map;
+    ghost use Rattle.fratx_elab.specs.Names.{Naming, naming_code};
+
+    ghost Value = { Naming };
+
+    ghost coded = { naming_code };
+
+    ghost view = { λ a. record { ids = map.from_entries a.ids.entries; last = a.last } };
+}
+
+impl Names {
+    /// Nothing is named, and the formula's constraints have the first ids.
+    pub fn new(alloc: Global, count: u64) -> Names
+        ensures { result ≡ first_naming count }
+    {
+        Names {
+            ids: BTreeMap::new(alloc),
+            last: count,
+        }
+    }
+
+    /// The last id that was given in the proof.
+    pub fn last(&self) -> u64
+        ensures { result ≡ self.now.last }
+    {
+        self.last
+    }
+
+    /// The proof id that stands for an id of the log.
+    pub fn get(&self, id: u64) -> Option<ProofId>
+        ensures { result ≡ stands_for self.now id }
+    {
+        match self.ids.get(&id) {
+            Some(found) => Some(*found),
+            None => None,
+        }
+    }
+
+    /// A constraint of the formula stands for this id from now on.
+    pub fn put_original(&mut self, id: u64, number: ProofId) -> Result<(), AllocError>
+        ensures { OnOk result (self.new ≡ name_original self.old id number) }
+    {
+        self.ids.insert(id, number)?;
+        Ok(())
+    }
+
+    /// The next id of the proof stands for this id from now on.
+    pub fn put_next(&mut self, id: u64) -> Result<ProofId, AllocError>
+        requires { self.old.last < MAX_ID }
+        ensures next { IfOk result (λ next. next ≡ self.old.last + 1) }
+        ensures named { OnOk result (self.new ≡ name_next self.old id) }
+    {
+        let next = ProofId::new(self.last + 1);
+        self.ids.insert(id, next)?;
+        self.last += 1;
+        Ok(next)
+    }
+
+    /// Nothing stands for this id any more.
+    pub fn remove(&mut self, id: u64)
+        ensures { self.new ≡ drop_name self.old id }
+    {
+        self.ids.remove(&id);
+    }
+}

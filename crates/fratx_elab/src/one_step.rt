@@ -1,0 +1,78 @@
+//! One step of a log of any kind.
+ghost use Rattle.std.specs.Prelude.{◌≡◌, ◌<◌, length, IfOk, OnOk};
+ghost use Rattle.cx_semantics.specs.LogRules.{derives_empty_clause};
+ghost use Rattle.fratx_elab.specs.Elaborates.{number_of_clauses, number_of_parities};
+ghost use Rattle.fratx_elab.specs.Takes.{TakesLogStep, CanBePrinted, CountsOneMore};
+ghost use Rattle.fratx_elab.specs.declared.naming.TheConstants.{MAX_ID};
+
+use crate::delete::{delete_clause, delete_parity};
+use crate::originals::Counts;
+use crate::state::State;
+use crate::take::{
+    take_clause, take_clause_of_parity, take_original, take_original_parity, take_parity,
+    take_parity_of_clauses,
+};
+use cx_base::Formula;
+use cx_semantics::{LogStep, ProofStep};
+use proof_rules::JudgeRefusal;
+use std::alloc::Global;
+
+/// Whether a right step ends the log: one that derives a clause without literals.
+pub fn ends_log(step: &LogStep) -> bool
+    ensures { result ≡ derives_empty_clause step.now }
+{
+    match step {
+        LogStep::Clause(_, lits)
+        | LogStep::ClauseWithHints(_, lits, _)
+        | LogStep::ClauseOfParity(_, lits, _) => lits.as_slice().is_empty(),
+        LogStep::Original(_, _)
+        | LogStep::OriginalParity(_, _)
+        | LogStep::Parity(_, _, _)
+        | LogStep::ParityOfClauses(_, _, _)
+        | LogStep::Delete(_, _)
+        | LogStep::DeleteParity(_, _)
+        | LogStep::Final(_, _)
+        | LogStep::FinalParity(_, _) => false,
+    }
+}
+
+/// Judges a step, and where it is right does it and gives what the proof gains, if anything.
+///
+/// `counts` are the formula's numbers of clauses and of parities. After an error the state is spoilt.
+pub fn take_step(
+    alloc: Global,
+    formula: &Formula,
+    counts: Counts,
+    state: &mut State,
+    step: &LogStep,
+) -> Result<Option<ProofStep>, JudgeRefusal>
+    requires few { length formula.now.constraints < MAX_ID }
+    requires clauses { counts.clauses ≡ number_of_clauses formula.now }
+    requires parities { counts.parities ≡ number_of_parities formula.now }
+    requires clause_room { state.old.clauses.last < MAX_ID }
+    requires parity_room { state.old.parities.last < MAX_ID }
+    ensures taken { TakesLogStep formula.now state.old step.now result state.new }
+    ensures text { IfOk result CanBePrinted }
+    ensures more { OnOk result (CountsOneMore state.old state.new) }
+{
+    match step {
+        LogStep::Original(id, lits) => take_original(alloc, formula, state, *id, lits),
+        LogStep::OriginalParity(id, lits) => {
+            take_original_parity(alloc, formula, state, *id, lits)
+        }
+        LogStep::Clause(id, lits) => take_clause(alloc, formula, state, *id, lits, &[]),
+        LogStep::ClauseWithHints(id, lits, hints) => {
+            take_clause(alloc, formula, state, *id, lits, hints.as_slice())
+        }
+        LogStep::Parity(id, lits, ids) => take_parity(alloc, formula, state, *id, lits, ids),
+        LogStep::ClauseOfParity(id, lits, source) => {
+            take_clause_of_parity(alloc, formula, state, *id, lits, *source)
+        }
+        LogStep::ParityOfClauses(id, lits, ids) => {
+            take_parity_of_clauses(alloc, formula, state, *id, lits, ids)
+        }
+        LogStep::Delete(id, lits) => delete_clause(alloc, counts.clauses, state, *id, lits),
+        LogStep::DeleteParity(id, lits) => delete_parity(alloc, counts.parities, state, *id, lits),
+        LogStep::Final(_, _) | LogStep::FinalParity(_, _) => Ok(None),
+    }
+}

@@ -1,0 +1,29 @@
+//! What the elaborator answers.
+use cx_semantics::Cause;
+use thiserror::Error;
+
+/// The judgement of a log.
+#[derive(Clone, Copy, Debug, PartialEq, Eq, Drop)]
+pub enum Elab {
+    /// The log is right and ends at the step of this number, from 1; the proof is written whole.
+    Done(u64),
+    /// The log is refused at the step of this number, from 1, for its first cause.
+    Refused(u64, Cause),
+}
+
+/// Why a log was not judged to its end.
+#[derive(Clone, Copy, Debug, PartialEq, Eq, Drop, Error)]
+pub enum ElabFault {
+    /// Want of memory, which says nothing of the log.
+    #[error("out of memory")]
+    Memory,
+    /// A fault of reading, which the source counted.
+    #[error("the read failed")]
+    Read,
+    /// A fault of writing, which the sink counted.
+    #[error("the write failed")]
+    Write,
+    /// The text of the log is longer than the source's limit.
+    #[error("the text is too long")]
+    TooLong,
+}

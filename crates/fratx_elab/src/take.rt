@@ -1,0 +1,254 @@
+//! One step of a log: judged, done, and what the proof gains by it.
+ghost use Rattle.std.specs.Prelude.{◌≡◌, ◌≤◌, ◌<◌, ◌+◌, pos, length, IfOk, OnOk};
+ghost use Rattle.cx_base.specs.Problem.{Problem};
+ghost use Rattle.cx_semantics.specs.Chain.{IsChain};
+ghost use Rattle.cx_semantics.specs.LogRules.{AreLive, HasChain, chained, derives_empty_clause};
+ghost use Rattle.cx_semantics.specs.Tables.{named};
+ghost use Rattle.cx_semantics.specs.declared.steps.LogStep.TheVariants as step;
+ghost use Rattle.proof_rules.specs.Judges.{JudgesBy};
+ghost use Rattle.fratx_elab.specs.Names.{hints_for};
+ghost use Rattle.fratx_elab.specs.Takes.{TakesLogStep, Admits, GivesChain, CanBePrinted, CountsOneMore};
+ghost use Rattle.fratx_elab.specs.declared.naming.TheConstants.{MAX_ID};
+
+use crate::naming::Names;
+use crate::originals::{clause_number, parity_number};
+use crate::state::State;
+use crate::steps::{clause_of_parity_step, clause_step, parity_of_clauses_step, parity_step};
+use cx_base::{Formula, IdList, IntList, LitList};
+use cx_semantics::{Cause, ProofStep};
+use proof_rules::{
+    JudgeRefusal, Live, ids_of, judge_added, judge_chain, judge_clause_of_named_parity,
+    judge_named_sum, judge_parity_of_named_clauses, literals_of,
+};
+use rup_finder::find;
+use std::alloc::{AllocError, Global};
+
+/// A copy of the integers.
+fn copy(alloc: Global, integers: &IntList) -> Result<IntList, AllocError>
+    ensures { IfOk result (λ copy. copy ≡ integers.now) }
+{
+    Ok(IntList::from_vec(Vec::from_slice(alloc, integers.as_slice())?))
+}
+
+/// The hints that name in the proof what the ids name in the log.
+fn hints_of(alloc: Global, names: &Names, ids: &[u64]) -> Result<IntList, AllocError>
+    ensures { IfOk result (λ hints. hints ≡ hints_for names.now ids.now) }
+{
+    let mut hints = Vec::new(alloc);
+    for id in ids {
+        if let Some(found) = names.get(*id) {
+            hints.push(found.hint())?;
+        }
+    }
+    Ok(IntList::from_vec(hints))
+}
+
+/// The literals of what a step adds: its variables are the formula's, and its id is not live.
+fn admit(
+    alloc: Global,
+    formula: &Formula,
+    lits: &IntList,
+    is_live: bool,
+) -> Result<LitList, JudgeRefusal>
+    ensures { Admits formula.now is_live lits.now result }
+{
+    match judge_added(formula.vars(), lits, is_live) {
+        Ok(()) => {}
+        Err(why) => return Err(why),
+    }
+    Ok(literals_of(alloc, formula.vars(), lits)?)
+}
+
+/// Live hints that are a right chain for the clause: those that are given, where they are, or else any.
+fn chain_of(
+    alloc: Global,
+    live: &Live,
+    target: &LitList,
+    given: &[i64],
+) -> Result<IdList, JudgeRefusal>
+    ensures { GivesChain live.now.clauses target.now result }
+{
+    match judge_chain(alloc, live, target, given) {
+        Ok(()) => return Ok(IdList::from_vec(ids_of(alloc, given)?)),
+        Err(JudgeRefusal::Memory) => return Err(JudgeRefusal::Memory),
+        Err(JudgeRefusal::Wrong(_)) => {}
+    }
+    match find(alloc, live, target.as_slice())? {
+        Some(ids) => Ok(ids),
+        None => Err(JudgeRefusal::Wrong(Cause::NoChain)),
+    }
+}
+
+/// A clause of the formula: nothing is written.
+pub fn take_original(
+    alloc: Global,
+    formula: &Formula,
+    state: &mut State,
+    id: u64,
+    lits: &IntList,
+) -> Result<Option<ProofStep>, JudgeRefusal>
+    requires few { length formula.now.constraints < MAX_ID }
+    ensures taken { TakesLogStep formula.now state.old (step.Original id lits.now) result state.new }
+    ensures text { IfOk result CanBePrinted }
+    ensures counts { OnOk result (CountsOneMore state.old state.new) }
+{
+    let target = match admit(alloc, formula, lits, state.live.has_clause(id)) {
+        Ok(target) => target,
+        Err(why) => return Err(why),
+    };
+    match clause_number(alloc, formula, target.as_slice())? {
+        Some(number) => {
+            state.live.add_clause(id, target)?;
+            state.clauses.put_original(id, number)?;
+            Ok(None)
+        }
+        None => Err(JudgeRefusal::Wrong(Cause::NotInFormula)),
+    }
+}
+
+/// A parity of the formula: nothing is written.
+pub fn take_original_parity(
+    alloc: Global,
+    formula: &Formula,
+    state: &mut State,
+    id: u64,
+    lits: &IntList,
+) -> Result<Option<ProofStep>, JudgeRefusal>
+    requires few { length formula.now.constraints < MAX_ID }
+    ensures taken { TakesLogStep formula.now state.old (step.OriginalParity id lits.now) result state.new }
+    ensures text { IfOk result CanBePrinted }
+    ensures counts { OnOk result (CountsOneMore state.old state.new) }
+{
+    let target = match admit(alloc, formula, lits, state.live.has_parity(id)) {
+        Ok(target) => target,
+        Err(why) => return Err(why),
+    };
+    match parity_number(alloc, formula, target.as_slice())? {
+        Some(number) => {
+            state.live.add_parity(id, target)?;
+            state.parities.put_original(id, number)?;
+            Ok(None)
+        }
+        None => Err(JudgeRefusal::Wrong(Cause::NotInFormula)),
+    }
+}
+
+/// A clause by a chain; the given hints are tried first.
+pub fn take_clause(
+    alloc: Global,
+    formula: &Formula,
+    state: &mut State,
+    id: u64,
+    lits: &IntList,
+    given: &[i64],
+) -> Result<Option<ProofStep>, JudgeRefusal>
+    requires room { state.old.clauses.last < MAX_ID }
+    ensures taken { TakesLogStep formula.now state.old (step.Clause id lits.now) result state.new }
+    ensures text { IfOk result CanBePrinted }
+    ensures counts { OnOk result (CountsOneMore state.old state.new) }
+{
+    let target = match admit(alloc, formula, lits, state.live.has_clause(id)) {
+        Ok(target) => target,
+        Err(why) => return Err(why),
+    };
+    let ids = match chain_of(alloc, &state.live, &target, given) {
+        Ok(ids) => ids,
+        Err(why) => return Err(why),
+    };
+    let hints = hints_of(alloc, &state.clauses, ids.as_slice())?;
+    let copy = copy(alloc, lits)?;
+    state.live.add_clause(id, target)?;
+    let next = state.clauses.put_next(id)?;
+    Ok(Some(clause_step(next, copy, hints)))
+}
+
+/// A parity as the sum of parities that the log names.
+pub fn take_parity(
+    alloc: Global,
+    formula: &Formula,
+    state: &mut State,
+    id: u64,
+    lits: &IntList,
+    sources: &IdList,
+) -> Result<Option<ProofStep>, JudgeRefusal>
+    requires room { state.old.parities.last < MAX_ID }
+    ensures taken { TakesLogStep formula.now state.old (step.Parity id lits.now sources.now) result state.new }
+    ensures text { IfOk result CanBePrinted }
+    ensures counts { OnOk result (CountsOneMore state.old state.new) }
+{
+    let target = match admit(alloc, formula, lits, state.live.has_parity(id)) {
+        Ok(target) => target,
+        Err(why) => return Err(why),
+    };
+    match judge_named_sum(alloc, &state.live, &target, sources.as_slice()) {
+        Ok(()) => {}
+        Err(why) => return Err(why),
+    }
+    let hints = hints_of(alloc, &state.parities, sources.as_slice())?;
+    let copy = copy(alloc, lits)?;
+    state.live.add_parity(id, target)?;
+    let next = state.parities.put_next(id)?;
+    Ok(Some(parity_step(next, copy, hints)))
+}
+
+/// A parity that clauses imply, which the log names.
+pub fn take_parity_of_clauses(
+    alloc: Global,
+    formula: &Formula,
+    state: &mut State,
+    id: u64,
+    lits: &IntList,
+    sources: &IdList,
+) -> Result<Option<ProofStep>, JudgeRefusal>
+    requires room { state.old.parities.last < MAX_ID }
+    ensures taken { TakesLogStep formula.now state.old (step.ParityOfClauses id lits.now sources.now) result state.new }
+    ensures text { IfOk result CanBePrinted }
+    ensures counts { OnOk result (CountsOneMore state.old state.new) }
+{
+    let target = match admit(alloc, formula, lits, state.live.has_parity(id)) {
+        Ok(target) => target,
+        Err(why) => return Err(why),
+    };
+    match judge_parity_of_named_clauses(alloc, &state.live, &target, sources.as_slice()) {
+        Ok(()) => {}
+        Err(why) => return Err(why),
+    }
+    let hints = hints_of(alloc, &state.clauses, sources.as_slice())?;
+    let copy = copy(alloc, lits)?;
+    state.live.add_parity(id, target)?;
+    let next = state.parities.put_next(id)?;
+    Ok(Some(parity_of_clauses_step(next, copy, hints)))
+}
+
+/// A clause that a parity implies, which the log names.
+pub fn take_clause_of_parity(
+    alloc: Global,
+    formula: &Formula,
+    state: &mut State,
+    id: u64,
+    lits: &IntList,
+    source: u64,
+) -> Result<Option<ProofStep>, JudgeRefusal>
+    requires room { state.old.clauses.last < MAX_ID }
+    ensures taken { TakesLogStep formula.now state.old (step.ClauseOfParity id lits.now source) result state.new }
+    ensures text { IfOk result CanBePrinted }
+    ensures counts { OnOk result (CountsOneMore state.old state.new) }
+{
+    let target = match admit(alloc, formula, lits, state.live.has_clause(id)) {
+        Ok(target) => target,
+        Err(why) => return Err(why),
+    };
+    match judge_clause_of_named_parity(alloc, &state.live, &target, source) {
+        Ok(()) => {}
+        Err(why) => return Err(why),
+    }
+    let named = match state.parities.get(source) {
+        Some(named) => named,
+        // Nothing that is live in the log is without a name in the proof.
+        None => return Err(JudgeRefusal::Memory),
+    };
+    let copy = copy(alloc, lits)?;
+    state.live.add_clause(id, target)?;
+    let next = state.clauses.put_next(id)?;
+    Ok(Some(clause_of_parity_step(next, copy, named)))
+}

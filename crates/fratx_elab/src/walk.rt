@@ -1,0 +1,171 @@
+//! The elaborator: steps are taken one after another.
+ghost use Rattle.std.specs.Prelude.{◌≡◌, ◌<◌, ◌≤◌, ◌^◌, ◌+◌, false, None, length, IfOk, IfErr, OnOk, OnErr, List};
+ghost use Rattle.cx_semantics.specs.Grammar.{Ending};
+ghost use Rattle.cx_semantics.specs.declared.steps.LogStep.{LogStep};
+ghost use Rattle.cx_base.specs.Problem.{Problem};
+ghost use Rattle.fratx_elab.specs.Elaborates.{number_of_clauses, number_of_parities};
+ghost use Rattle.fratx_elab.specs.Outcomes.{IsElaborated, IsCutOff, HasCause, Kept, Turns, text_refused, step_refused, what_follows_of, WritesStand};
+ghost use Rattle.fratx_elab.specs.Takes.{CanBePrinted, CountsOneMore, TakesLogStep};
+ghost use Rattle.fratx_elab.specs.Writing.{WritesDown};
+ghost use Rattle.proof_text.specs.Sinks.{SinkFaultsAs, HasFailedAs};
+
+use crate::ends::ElabEnds;
+use crate::naming::Names;
+use crate::one_step::{ends_log, take_step};
+use crate::originals::{Counts, count_kinds};
+use crate::outcome::{Elab, ElabFault};
+use crate::state::State;
+use cx_base::Formula;
+use cx_semantics::{Cause, LogStep, ProofStep};
+use proof_rules::{JudgeRefusal, Live};
+use proof_text::{SinkFault, TextRefusal};
+use std::alloc::Global;
+
+/// Hands a step to the sink, if there is one.
+fn write<E: ElabEnds>(ends: &mut E, written: &Option<ProofStep>) -> Result<(), SinkFault>
+    requires text { CanBePrinted written.now }
+    ensures told { WritesDown (E.steps ends.old) (E.steps ends.new) (E.torn ends.new) written.now result }
+    ensures faults { SinkFaultsAs result (E.write_faults ends.old) (E.write_faults ends.new) }
+    ensures failed { HasFailedAs result (E.has_failed ends.old) (E.has_failed ends.new) }
+    ensures rest { (left : List LogStep) (ending : Ending) → (E.leaves ends.new left ending → E.leaves ends.old left ending) × (E.leaves ends.old left ending → E.leaves ends.new left ending) }
+    ensures limit { (E.passes_limit ends.new → E.passes_limit ends.old) × (E.passes_limit ends.old → E.passes_limit ends.new) }
+    ensures spent { E.is_spent ends.new ≡ E.is_spent ends.old }
+    ensures reads { E.read_faults ends.new ≡ E.read_faults ends.old }
+    ensures place { E.place_of ends.new ≡ E.place_of ends.old }
+    ensures frame { E.keeps ends.old ends.new }
+{
+    match written {
+        Some(step) => ends.step(step),
+        None => Ok(()),
+    }
+}
+
+/// What stands where the source gives no step.
+fn refused_text(why: TextRefusal, number: u64) -> Result<Option<Elab>, ElabFault>
+    ensures { result ≡ text_refused why number }
+{
+    match why {
+        TextRefusal::BadToken(place)
+        | TextRefusal::Unterminated(place)
+        | TextRefusal::TooBig(place) => {
+            Ok(Some(Elab::Refused(number, Cause::TextRefused(place))))
+        }
+        TextRefusal::TooLong => Err(ElabFault::TooLong),
+        TextRefusal::Memory => Err(ElabFault::Memory),
+        TextRefusal::Failed => Err(ElabFault::Read),
+    }
+}
+
+/// What stands where a step is not right.
+fn refused_step(why: JudgeRefusal, number: u64) -> Result<Option<Elab>, ElabFault>
+    ensures { result ≡ step_refused why number }
+{
+    match why {
+        JudgeRefusal::Wrong(cause) => Ok(Some(Elab::Refused(number, cause))),
+        JudgeRefusal::Memory => Err(ElabFault::Memory),
+    }
+}
+
+/// What follows a right step that was handed to the sink; none where the log goes on.
+fn what_follows(
+    wrote: Result<(), SinkFault>,
+    is_last: bool,
+    number: u64,
+) -> Result<Option<Elab>, ElabFault>
+    ensures { result ≡ what_follows_of wrote is_last number }
+{
+    match wrote {
+        Ok(()) => {
+            if is_last {
+                Ok(Some(Elab::Done(number)))
+            } else {
+                Ok(None)
+            }
+        }
+        Err(SinkFault::Memory) => Err(ElabFault::Memory),
+        Err(SinkFault::Failed) => Err(ElabFault::Write),
+    }
+}
+
+/// Takes the next step, behind so many; none where the log goes on.
+fn take_next<E: ElabEnds>(
+    alloc: Global,
+    formula: &Formula,
+    counts: Counts,
+    state: &mut State,
+    ends: &mut E,
+    steps: u64,
+) -> Result<Option<Elab>, ElabFault>
+    requires few { length formula.now.constraints < 2 ^ 61 }
+    requires clauses { counts.clauses ≡ number_of_clauses formula.now }
+    requires parities { counts.parities ≡ number_of_parities formula.now }
+    requires clause_room { state.old.clauses.last ≤ 2 ^ 61 + steps }
+    requires parity_room { state.old.parities.last ≤ 2 ^ 61 + steps }
+    requires fresh { E.is_spent ends.old ≡ false }
+    requires count { steps ≤ 2 ^ 62 }
+    ensures turns { (first : E) → Kept E.leaves E.steps E.torn formula.now first ends.old state.old steps → Turns E.leaves E.steps E.torn formula.now first ends.new state.new steps result }
+    ensures clause_room { IfOk result (λ elab. elab ≡ None → state.new.clauses.last ≤ 2 ^ 61 + (steps + 1)) }
+    ensures parity_room { IfOk result (λ elab. elab ≡ None → state.new.parities.last ≤ 2 ^ 61 + (steps + 1)) }
+    ensures fresh { IfOk result (λ elab. elab ≡ None → E.is_spent ends.new ≡ false) }
+    ensures reads { IfOk result (λ _. E.read_faults ends.new ≡ E.read_faults ends.old) }
+    ensures writes { WritesStand result (E.write_faults ends.old) (E.write_faults ends.new) }
+    ensures failed { IfOk result (λ _. E.has_failed ends.new ≡ E.has_failed ends.old) }
+    ensures rises { IfOk result (λ elab. elab ≡ None → E.place_of ends.old < E.place_of ends.new) }
+    ensures far { E.place_of ends.new < 2 ^ 62 }
+    ensures limit { E.passes_limit ends.new → E.passes_limit ends.old }
+    ensures cause { IfErr result (HasCause (E.passes_limit ends.old) (E.read_faults ends.old) (E.read_faults ends.new) (E.write_faults ends.old) (E.write_faults ends.new)) }
+    ensures frame { E.keeps ends.old ends.new }
+{
+    let step = match ends.next_step() {
+        Ok(Some(step)) => step,
+        Ok(None) => return Ok(Some(Elab::Refused(steps + 1, Cause::NoEmptyClause))),
+        Err(why) => return refused_text(why, steps + 1),
+    };
+    let written = match take_step(alloc, formula, counts, state, &step) {
+        Ok(written) => written,
+        Err(why) => return refused_step(why, steps + 1),
+    };
+    let wrote = write(ends, &written);
+    what_follows(wrote, ends_log(&step), steps + 1)
+}
+
+/// Turns a log into a proof of the formula: each step is judged, and what is right is written with hints.
+///
+/// Steps are taken in order. The first right step that derives a clause without literals ends the
+/// log; what stands behind it is not judged. The first wrong step is refused for its first cause.
+/// The proof's steps are handed to the sink one by one, each before the next step is read.
+/// `ElabFault::Read` and `ElabFault::Write` come only where the source or the sink counted a fault,
+/// `ElabFault::TooLong` only where the source tells that its text passes its limit.
+pub fn elaborate<E: ElabEnds>(
+    alloc: Global,
+    formula: &Formula,
+    ends: &mut E,
+) -> Result<Elab, ElabFault>
+    requires { E.is_spent ends.old ≡ false }
+    ensures judged { IfOk result (IsElaborated E.leaves E.steps E.torn formula.now ends.old ends.new) }
+    ensures cut_off { IfErr result (IsCutOff E.leaves E.steps E.torn formula.now ends.old ends.new) }
+    ensures cause { IfErr result (HasCause (E.passes_limit ends.old) (E.read_faults ends.old) (E.read_faults ends.new) (E.write_faults ends.old) (E.write_faults ends.new)) }
+    ensures reads { IfOk result (λ _. E.read_faults ends.new ≡ E.read_faults ends.old) }
+    ensures writes { WritesStand result (E.write_faults ends.old) (E.write_faults ends.new) }
+    ensures failed { IfOk result (λ _. E.has_failed ends.new ≡ E.has_failed ends.old) }
+    ensures frame { E.keeps ends.old ends.new }
+{
+    // So many constraints are more than any memory holds.
+    if formula.len() >= 1 << 61 {
+        return Err(ElabFault::Memory);
+    }
+    let counts = count_kinds(formula);
+    let mut state = State {
+        live: Live::make(alloc),
+        clauses: Names::new(alloc, counts.clauses),
+        parities: Names::new(alloc, counts.parities),
+    };
+    let mut steps = 0;
+    loop {
+        match take_next(alloc, formula, counts, &mut state, ends, steps) {
+            Ok(None) => steps += 1,
+            Ok(Some(elab)) => return Ok(elab),
+            Err(fault) => return Err(fault),
+        }
+    }
+}
