@@ -143,7 +143,13 @@ impl Antecedents for CheckedSource<'_> {
 
     ghost ready = { λ s. Unit {0} };
 
-    ghost stopped = { λ s. Unit {0} };
+    ghost stopped = { λ s e. Unit {0} };
+
+    ghost keeps = { λ a b. Unit {0} };
+
+    ghost keeps_itself = { λ a. tt };
+
+    ghost keeps_on = { λ a b c h k. tt };
 
     fn clause_of(&mut self, reason: Reason, literal: Lit) -> Result<LitList, CoreFault> {
         let place = self.trail.place_of(literal.negate());

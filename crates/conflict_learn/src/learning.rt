@@ -4,8 +4,8 @@ ghost use Rattle.cx_base.specs.Literals.{Literal};
 ghost use Rattle.cx_base.specs.declared.literal.TheConstants.{MAX_VARIABLE};
 ghost use Rattle.cx_semantics.specs.Chain.{has_literal};
 ghost use Rattle.cx_trail.specs.Sequence.{IsFalseIn};
-ghost use Rattle.conflict_learn.specs.declared.fault.CoreFault.TheVariants.{Write};
-ghost use Rattle.conflict_learn.specs.Learning.{AreHeld, IsOfLevel};
+ghost use Rattle.conflict_learn.specs.declared.fault.CoreFault.TheVariants.{Memory, Write};
+ghost use Rattle.conflict_learn.specs.Learning.{AreHeld, IsOfLevel, Rose};
 ghost use Rattle.conflict_learn.specs.Levels.{ArePlacesOf, levels_at, distinct, second, Teaches};
 
 use crate::antecedents::Antecedents;
@@ -75,11 +75,12 @@ pub fn analyse<S: Antecedents>(
     requires all_false { (m : Literal) → IsTrue (has_literal conflict.now m) → IsFalseIn trail.now.entries m }
     requires one_now { (m : Literal) × IsTrue (has_literal conflict.now m) × IsOfLevel trail.now m trail.now.level }
     ensures trail { S.trail source.new ≡ S.trail source.old }
-    ensures keeps { AreHeld (S.holds source.old) (S.holds source.new) }
+    ensures held { AreHeld (S.holds source.old) (S.holds source.new) }
     ensures learned { IfOk result (λ r. Teaches trail.now conflict.now (S.holds source.new) r.resolved r.lits r.back_level r.lbd) }
-    ensures write { IfErr result (λ e. e ≡ Write → S.faults source.old < S.faults source.new) }
+    ensures write { IfErr result (λ e. e ≡ Write → Rose (S.faults source.old) (S.faults source.new)) }
     ensures goes_on { IfOk result (λ r. S.ready source.new) }
-    ensures gave_up { IfErr result (λ e. S.ready source.new ⊎ S.stopped source.new) }
+    ensures gave_up { IfErr result (λ e. ((e ≡ Memory) × S.ready source.new) ⊎ S.stopped source.new e) }
+    ensures frame { S.keeps source.old source.new }
 {
     let resolvent = resolve(alloc, trail, conflict, source)?;
     let (back_level, lbd) = levels_of(trail, resolvent.lits.as_slice());

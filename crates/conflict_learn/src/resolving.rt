@@ -5,8 +5,8 @@ ghost use Rattle.std.specs.BTreeSet.{contains};
 ghost use Rattle.cx_base.specs.Literals.{Literal, negate};
 ghost use Rattle.cx_semantics.specs.Chain.{has_literal};
 ghost use Rattle.cx_trail.specs.Sequence.{IsFalseIn, IsTrail};
-ghost use Rattle.conflict_learn.specs.declared.fault.CoreFault.TheVariants.{Write};
-ghost use Rattle.conflict_learn.specs.Learning.{AreHeld, IsLearned, IsOfLevel, level_at};
+ghost use Rattle.conflict_learn.specs.declared.fault.CoreFault.TheVariants.{Memory, Write};
+ghost use Rattle.conflict_learn.specs.Learning.{AreHeld, IsLearned, IsOfLevel, Rose, level_at};
 
 use crate::antecedents::Antecedents;
 use crate::fault::CoreFault;
@@ -54,12 +54,13 @@ pub(crate) fn resolve<S: Antecedents>(
     requires all_false { (m : Literal) → IsTrue (has_literal conflict.now m) → IsFalseIn trail.now.entries m }
     requires one_now { (m : Literal) × IsTrue (has_literal conflict.now m) × IsOfLevel trail.now m trail.now.level }
     ensures trail { S.trail source.new ≡ S.trail source.old }
-    ensures keeps { AreHeld (S.holds source.old) (S.holds source.new) }
+    ensures held { AreHeld (S.holds source.old) (S.holds source.new) }
     ensures learned { IfOk result (λ r. IsLearned trail.now conflict.now (S.holds source.new) r.resolved r.lits) }
     ensures sound { IsTrail trail.now }
-    ensures write { IfErr result (λ e. e ≡ Write → S.faults source.old < S.faults source.new) }
+    ensures write { IfErr result (λ e. e ≡ Write → Rose (S.faults source.old) (S.faults source.new)) }
     ensures goes_on { IfOk result (λ r. S.ready source.new) }
-    ensures gave_up { IfErr result (λ e. S.ready source.new ⊎ S.stopped source.new) }
+    ensures gave_up { IfErr result (λ e. ((e ≡ Memory) × S.ready source.new) ⊎ S.stopped source.new e) }
+    ensures frame { S.keeps source.old source.new }
 {
     let mut touched = BTreeSet::new(alloc);
     touch(trail, conflict.as_slice(), &None, trail.len(), &mut touched)?;

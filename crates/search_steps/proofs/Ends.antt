@@ -5,7 +5,7 @@ use Rattle.std.specs.List.{list_all, cons_option}
 use Rattle.cx_base.specs.Literals.{Literal}
 use Rattle.cx_base.specs.Problem.{Problem, Unmet, clause_met, parity_met}
 use Rattle.cx_semantics.specs.declared.steps.LogStep.{LogStep}
-use Rattle.cx_semantics.specs.declared.steps.LogStep.TheVariants.{Clause, ClauseOfParity}
+use Rattle.cx_semantics.specs.declared.steps.LogStep.TheVariants.{ClauseWithHints, ClauseOfParity}
 use Rattle.cx_semantics.specs.declared.steps.LogEvent.{LogEvent}
 use Rattle.cx_semantics.specs.declared.steps.LogEvent.TheVariants.{Step}
 use Rattle.cx_semantics.specs.Implied.{Implies}
@@ -56,13 +56,13 @@ module _ (formula : Problem) (parities : List (List Literal)) (s : Search) (ok :
   }
 
   -- a clause by a right chain, while no clause is owed
-  pub chained_clause_ends : (n : ℕ) (zs : List ℤ) → IsAddition formula s.moment.tables.clauses n zs → HasChain s.moment.tables.clauses (literals zs) → derives_empty_clause (Clause n zs) ≡ true
-      → IsEnded formula (s.events ++ Step (Clause n zs) ∷ [])
-  chained_clause_ends n zs a has_chain ends = last_step_ends (Clause n zs) (a.within, (ap is_some a.free, (has_chain, tt))) ends
+  pub chained_clause_ends : (n : ℕ) (zs hints : List ℤ) → IsAddition formula s.moment.tables.clauses n zs → HasChain s.moment.tables.clauses (literals zs) → derives_empty_clause (ClauseWithHints n zs hints) ≡ true
+      → IsEnded formula (s.events ++ Step (ClauseWithHints n zs hints) ∷ [])
+  chained_clause_ends n zs hints a has_chain ends = last_step_ends (ClauseWithHints n zs hints) (a.within, (ap is_some a.free, (has_chain, tt))) ends
 
-  pub chained_clause_is_marked : (n : ℕ) (zs : List ℤ) → s.moment.awaits ≡ false → derives_empty_clause (Clause n zs) ≡ true → Marked formula (s.events ++ Step (Clause n zs) ∷ []) s.conflicts
-  chained_clause_is_marked n zs served ends = last_step_is_marked (Clause n zs)
-      (subst (λ b. MatchBool b (IsLearned s.moment (literals zs)) (derives_empty_clause (Clause n zs) ≡ false → IsKnown s.moment (literals zs))) (sym served) (λ e. absurd (true≢false (sym ends ∙ e))))
+  pub chained_clause_is_marked : (n : ℕ) (zs hints : List ℤ) → s.moment.awaits ≡ false → derives_empty_clause (ClauseWithHints n zs hints) ≡ true → Marked formula (s.events ++ Step (ClauseWithHints n zs hints) ∷ []) s.conflicts
+  chained_clause_is_marked n zs hints served ends = last_step_is_marked (ClauseWithHints n zs hints)
+      (subst (λ b. MatchBool b (IsLearned s.moment (literals zs)) (derives_empty_clause (ClauseWithHints n zs hints) ≡ false → IsKnown s.moment (literals zs))) (sym served) (λ e. absurd (true≢false (sym ends ∙ e))))
       refl
 
   -- the clause of a row

@@ -4,7 +4,7 @@ use Rattle.std.specs.List.{AllByRecursion}
 use Rattle.std.specs.FinMap as map_
 use Rattle.cx_base.specs.Literals.{Literal}
 use Rattle.cx_base.specs.Problem.{Problem, clauses_of, parities_of}
-use Rattle.cx_semantics.specs.declared.steps.LogStep.TheVariants.{Clause, Parity, ClauseOfParity, ParityOfClauses, DeleteParity, Delete}
+use Rattle.cx_semantics.specs.declared.steps.LogStep.TheVariants.{ClauseWithHints, Parity, ClauseOfParity, ParityOfClauses, DeleteParity, Delete}
 use Rattle.cx_semantics.specs.declared.steps.LogEvent.TheVariants.{Step}
 use Rattle.cx_semantics.specs.Integers.{literals}
 use Rattle.cx_semantics.specs.LogRules.{HasChain, derives_empty_clause}
@@ -133,8 +133,8 @@ module _ (formula : Problem) (bound next row_next : ℕ) where
     rest_ranged n newer older e same h = with_trail s.trail (newer ++ rests_on e n ∷ older) s.moment (reasons_rest bound n newer older e h (subst (ReasonsBelow bound) same i.reasons)) i
 
     -- a learned clause, or a unit
-    pub clause_ranged : (n : ℕ) (zs : List ℤ) → next ≤ n → n < bound → IsRanged formula bound (n + 1) row_next s.trail (after_event s.moment (Step (Clause n zs)))
-    clause_ranged n zs low high = record {
+    pub clause_ranged : (n : ℕ) (zs hints : List ℤ) → next ≤ n → n < bound → IsRanged formula bound (n + 1) row_next s.trail (after_event s.moment (Step (ClauseWithHints n zs hints)))
+    clause_ranged n zs hints low high = record {
       originals = let o = i.originals in omega (arith, o, low);
       room = omega (arith, high);
       reasons = i.reasons;
@@ -240,26 +240,26 @@ pub row_reason_frees_sum : (count : ℕ) (s : Search) (k : ℕ) (rs : List ℤ) 
 row_reason_frees_sum count s k rs ids n zs f m h = get_gone (told s (Step (Parity k rs ids))).moment.tables.parities k m (λ apart. get_other s.moment.tables.parities k m _ apart (f m h))
 
 -- ---- a whole conflict
-module _ (formula : Problem) (bound next row_next : ℕ) (s : Search) (i : IsRanged formula bound next row_next s.trail s.moment) (n : ℕ) (zs : List ℤ) (back : ℕ) (low : next ≤ n) (high : n < bound) where
-  learned_ranged : IsRanged formula bound (n + 1) row_next (after_learned s n zs back).trail (after_learned s n zs back).moment
-  learned_ranged = clause_ranged formula bound next row_next (marked s) (mark_ranged formula bound next row_next s i) n zs low high
+module _ (formula : Problem) (bound next row_next : ℕ) (s : Search) (i : IsRanged formula bound next row_next s.trail s.moment) (n : ℕ) (zs hints : List ℤ) (back : ℕ) (low : next ≤ n) (high : n < bound) where
+  learned_ranged : IsRanged formula bound (n + 1) row_next (after_learned s n zs hints back).trail (after_learned s n zs hints back).moment
+  learned_ranged = clause_ranged formula bound next row_next (marked s) (mark_ranged formula bound next row_next s i) n zs hints low high
 
   -- the clauses of rows go, so their ids begin anew
-  pub round_ranged : (l : Literal) → s.moment.old_clauses ≡ [] → IsRanged formula bound (n + 1) bound (after_round s n zs back l).trail (after_round s n zs back l).moment
+  pub round_ranged : (l : Literal) → s.moment.old_clauses ≡ [] → IsRanged formula bound (n + 1) bound (after_round s n zs hints back l).trail (after_round s n zs hints back l).moment
   round_ranged l none =
-      let s1 = after_learned s n zs back in
+      let s1 = after_learned s n zs hints back in
       let s2 = deleted s1 s.moment.new_clauses in
       let s3 = jumped s2 back in
       let r2 = deletions_ranged formula bound (n + 1) row_next s1 s.moment.new_clauses learned_ranged in
       let r3 = jump_ranged formula bound (n + 1) row_next s2 r2 back in
       let r4 = force_ranged formula bound (n + 1) row_next s3 r3 l n high in
-      anew_ranged formula bound (n + 1) row_next (after_round s n zs back l) r4 (round_clears_new s n zs back l) (round_clears_old s n zs back l none)
+      anew_ranged formula bound (n + 1) row_next (after_round s n zs hints back l) r4 (round_clears_new s n zs hints back l) (round_clears_old s n zs hints back l none)
 
   -- so with ranges a round asks nothing more of ids
   pub ranged_round_keeps : (parities : List (List Literal)) → IsSearch formula parities s → (l : Literal) → IsServed s → s.quiet_levels ≡ level_of s.trail → IsAddition formula s.moment.tables.clauses n zs
-      → derives_empty_clause (Clause n zs) ≡ false → HasChain s.moment.tables.clauses (literals zs) → IsLearnedOf s.trail back (literals zs) l → IsSearch formula parities (after_round s n zs back l)
-  ranged_round_keeps parities ok l served levels a goes has_chain learned = round_keeps formula parities s ok n zs back l served levels a goes has_chain learned
-      (row_ids_are_temporary formula bound (n + 1) row_next (after_learned s n zs back) learned_ranged s.moment.new_clauses i.new_rows)
+      → derives_empty_clause (ClauseWithHints n zs hints) ≡ false → HasChain s.moment.tables.clauses (literals zs) → IsLearnedOf s.trail back (literals zs) l → IsSearch formula parities (after_round s n zs hints back l)
+  ranged_round_keeps parities ok l served levels a goes has_chain learned = round_keeps formula parities s ok n zs hints back l served levels a goes has_chain learned
+      (row_ids_are_temporary formula bound (n + 1) row_next (after_learned s n zs hints back) learned_ranged s.moment.new_clauses i.new_rows)
       (low_is_no_row formula bound next row_next s i n high)
 
 -- ---- at the start

@@ -7,7 +7,7 @@ use Rattle.cx_base.specs.Literals.{Literal, negate, same_literal}
 use Rattle.cx_base.specs.Problem.{Problem, clauses_of, clause_met, parity_met}
 use Rattle.cx_base.specs.declared.constraint.Constraint.{Constraint}
 use Rattle.cx_semantics.specs.declared.steps.LogStep.{LogStep}
-use Rattle.cx_semantics.specs.declared.steps.LogStep.TheVariants.{Clause, Parity, ClauseOfParity, Delete, DeleteParity}
+use Rattle.cx_semantics.specs.declared.steps.LogStep.TheVariants.{ClauseWithHints, Parity, ClauseOfParity, Delete, DeleteParity}
 use Rattle.cx_semantics.specs.declared.steps.LogEvent.{LogEvent}
 use Rattle.cx_semantics.specs.declared.steps.LogEvent.TheVariants.{Step, Conflict}
 use Rattle.cx_semantics.specs.Chain.{has_literal, is_inside, negations, same_literals}
@@ -133,16 +133,16 @@ module _ (formula : Problem) (parities : List (List Literal)) (s : Search) (ok :
   not_live table n e = ap is_some e
 
   -- a unit clause of level 0
-  pub unit_keeps : (n : ℕ) (z : ℤ) (older : List Entry) (clause : List Literal) → IsAddition formula s.moment.tables.clauses n (z ∷ []) → derives_empty_clause (Clause n (z ∷ [])) ≡ false → s.moment.awaits ≡ false
+  pub unit_keeps : (n : ℕ) (z : ℤ) (hints : List ℤ) (older : List Entry) (clause : List Literal) → IsAddition formula s.moment.tables.clauses n (z ∷ []) → derives_empty_clause (ClauseWithHints n (z ∷ []) hints) ≡ false → s.moment.awaits ≡ false
       → IsTrail s.moment.tables.clauses (IsOfParities formula.variables parities) older
-      → IsUnitOf s (Rattle.cx_semantics.specs.Integers.literal z) older clause → IsSearch formula parities (told s (Step (Clause n (z ∷ []))))
-  unit_keeps n z older clause a goes served t u =
+      → IsUnitOf s (Rattle.cx_semantics.specs.Integers.literal z) older clause → IsSearch formula parities (told s (Step (ClauseWithHints n (z ∷ []) hints)))
+  unit_keeps n z hints older clause a goes served t u =
       let l = Rattle.cx_semantics.specs.Integers.literal z in
       let IsRow = IsOfParities formula.variables parities in
-      tell (Clause n (z ∷ []))
+      tell (ClauseWithHints n (z ∷ []) hints)
       (a.within, (not_live s.moment.tables.clauses n a.free, (forced_has_chain s.moment.tables.clauses IsRow older t u.on_clauses clause u.live l u.forces, tt)))
       goes
-      (subst (λ b. MatchBool b (IsLearned s.moment (l ∷ [])) (derives_empty_clause (Clause n (z ∷ [])) ≡ false → IsKnown s.moment (l ∷ []))) (sym served)
+      (subst (λ b. MatchBool b (IsLearned s.moment (l ∷ [])) (derives_empty_clause (ClauseWithHints n (z ∷ []) hints) ≡ false → IsKnown s.moment (l ∷ []))) (sym served)
       (λ _. inl (refl, reached_is_known s.moment.tables.clauses l (forced_is_reached s.moment.tables.clauses IsRow older t u.on_clauses clause u.live l u.forces))))
       (put_serves formula parities s.trail s.quiet_levels s.moment.tables n (l ∷ []) a.free
       (λ k h. true_rests (held k s.trail) (l ∷ [])
@@ -176,14 +176,14 @@ module _ (formula : Problem) (parities : List (List Literal)) (s : Search) (ok :
           (ap (λ o. list_all (parity_met values) (Rattle.std.specs.List.cons_option o [])) (sym live) ∙ h)).0
 
   -- a learned clause, where one is owed
-  pub learned_keeps : (n : ℕ) (zs : List ℤ) (back : ℕ) (l : Literal) → IsAddition formula s.moment.tables.clauses n zs → derives_empty_clause (Clause n zs) ≡ false → s.moment.awaits ≡ true → s.quiet_levels ≡ level_of s.trail
+  pub learned_keeps : (n : ℕ) (zs hints : List ℤ) (back : ℕ) (l : Literal) → IsAddition formula s.moment.tables.clauses n zs → derives_empty_clause (ClauseWithHints n zs hints) ≡ false → s.moment.awaits ≡ true → s.quiet_levels ≡ level_of s.trail
       → HasChain s.moment.tables.clauses (literals zs) → IsLearnedOf s.trail back (literals zs) l
-      → IsSearch formula parities (record (told s (Step (Clause n zs))) { quiet_levels = back })
-  learned_keeps n zs back l a goes owed levels has_chain learned = record {
-    log = step_goes_on formula s.events s.moment s.conflicts ok.log (Clause n zs)
+      → IsSearch formula parities (record (told s (Step (ClauseWithHints n zs hints))) { quiet_levels = back })
+  learned_keeps n zs hints back l a goes owed levels has_chain learned = record {
+    log = step_goes_on formula s.events s.moment s.conflicts ok.log (ClauseWithHints n zs hints)
         (a.within, (not_live s.moment.tables.clauses n a.free, (has_chain, tt)))
         goes
-        (subst (λ b. MatchBool b (IsLearned s.moment (literals zs)) (derives_empty_clause (Clause n zs) ≡ false → IsKnown s.moment (literals zs))) (sym owed)
+        (subst (λ b. MatchBool b (IsLearned s.moment (literals zs)) (derives_empty_clause (ClauseWithHints n zs hints) ≡ false → IsKnown s.moment (literals zs))) (sym owed)
         (long zs learned.asserting.has_it, learned_is_fresh formula parities s ok back (literals zs) l levels learned));
     serves = put_serves formula parities s.trail back s.moment.tables n (literals zs) a.free
         (Rattle.search_steps.proofs.ServesLaws.learned_rests formula parities s ok back (literals zs) l learned)

@@ -32,29 +32,29 @@ deleted_new_sums s (n ∷ ids) = deleted_new_sums (told s (Step (Delete n []))) 
 both_empty : (xs ys : List ℕ) → xs ≡ [] → ys ≡ [] → xs ++ ys ≡ []
 both_empty xs ys a b = ap (λ zs. zs ++ ys) a ∙ b
 
-module _ (formula : Problem) (parities : List (List Literal)) (s : Search) (ok : IsSearch formula parities s) (n : ℕ) (zs : List ℤ) (back : ℕ) (l : Literal) (learned : IsLearnedOf s.trail back (Rattle.cx_semantics.specs.Integers.literals zs) l) where
+module _ (formula : Problem) (parities : List (List Literal)) (s : Search) (ok : IsSearch formula parities s) (n : ℕ) (zs hints : List ℤ) (back : ℕ) (l : Literal) (learned : IsLearnedOf s.trail back (Rattle.cx_semantics.specs.Integers.literals zs) l) where
   abbrev IsRow : List Literal → Type 0
   IsRow = IsOfParities formula.variables parities
 
   level_then : level_of (back_to back s.trail) ≡ back
   level_then = let low = learned.lower in back_level s.moment.tables.clauses IsRow back s.trail ok.serves.stands (omega (arith, low))
 
-  same_trail : (deleted (after_learned s n zs back) s.moment.new_clauses).trail ≡ s.trail
-  same_trail = deleted_trail (after_learned s n zs back) s.moment.new_clauses
+  same_trail : (deleted (after_learned s n zs hints back) s.moment.new_clauses).trail ≡ s.trail
+  same_trail = deleted_trail (after_learned s n zs hints back) s.moment.new_clauses
 
-  pub round_is_tidy : IsServed s → s.moment.new_sums ≡ [] → IsTidy (after_round s n zs back l)
+  pub round_is_tidy : IsServed s → s.moment.new_sums ≡ [] → IsTidy (after_round s n zs hints back l)
   round_is_tidy served none = record {
-    served = deleted_awaits (after_learned s n zs back) s.moment.new_clauses;
-    no_old_clauses = round_clears_old s n zs back l served.no_old_clauses;
-    no_new_clauses = round_clears_new s n zs back l;
-    no_old_sums = deleted_old_sums (after_learned s n zs back) s.moment.new_clauses ∙ both_empty s.moment.new_sums s.moment.old_sums none served.no_old_sums;
-    no_new_sums = deleted_new_sums (after_learned s n zs back) s.moment.new_clauses;
+    served = deleted_awaits (after_learned s n zs hints back) s.moment.new_clauses;
+    no_old_clauses = round_clears_old s n zs hints back l served.no_old_clauses;
+    no_new_clauses = round_clears_new s n zs hints back l;
+    no_old_sums = deleted_old_sums (after_learned s n zs hints back) s.moment.new_clauses ∙ both_empty s.moment.new_sums s.moment.old_sums none served.no_old_sums;
+    no_new_sums = deleted_new_sums (after_learned s n zs hints back) s.moment.new_clauses;
     levels = sym (ap (λ es. level_of (back_to back es)) same_trail ∙ level_then);
   }
 
   -- the literal that the clause forces is open after the jump, and is put behind it
   pub round_stays_tied : (t u : TrailState) → IsTied s.trail t.entries → TakesBack back t u → (reason : Reason)
-      → IsOpenIn u.entries l.variable × IsTied (after_round s n zs back l).trail (pushed u back l reason).entries
+      → IsOpenIn u.entries l.variable × IsTied (after_round s n zs hints back l).trail (pushed u back l reason).entries
   round_stays_tied t u tied takes reason =
       let rest : IsTied (back_to back s.trail) u.entries = tied_back back s.trail t u takes tied in (
         unassigned_is_open (back_to back s.trail) u.entries rest l (unassigned_then s.moment.tables.clauses IsRow s ok.serves.stands back (Rattle.cx_semantics.specs.Integers.literals zs) l learned),

@@ -3,7 +3,7 @@ use Rattle.std.proofs.Common.{◌≡◌, refl, sym, ap, ◌∙◌, subst, ℕ, �
 use Rattle.std.specs.FinMap as map_
 use Rattle.cx_base.specs.Literals.{Literal, negate}
 use Rattle.cx_base.specs.Problem.{Problem}
-use Rattle.cx_semantics.specs.declared.steps.LogStep.TheVariants.{Clause, Delete}
+use Rattle.cx_semantics.specs.declared.steps.LogStep.TheVariants.{ClauseWithHints, Delete}
 use Rattle.cx_semantics.specs.declared.steps.LogEvent.TheVariants.{Step}
 use Rattle.cx_semantics.specs.Chain.{has_literal}
 use Rattle.cx_semantics.specs.Integers.{literals}
@@ -82,16 +82,16 @@ module _ (table : Table) (IsRow : List Literal → Type 0) (s : Search) (t : IsT
   )
 
 -- ---- the round
-module _ (formula : Problem) (parities : List (List Literal)) (s : Search) (ok : IsSearch formula parities s) (n : ℕ) (zs : List ℤ) (back : ℕ) (l : Literal) where
+module _ (formula : Problem) (parities : List (List Literal)) (s : Search) (ok : IsSearch formula parities s) (n : ℕ) (zs hints : List ℤ) (back : ℕ) (l : Literal) where
   -- The mark, the learned clause, the deletion of what is temporary, the jump back, and the literal that the clause forces.
-  pub round_keeps : IsServed s → s.quiet_levels ≡ level_of s.trail → IsAddition formula s.moment.tables.clauses n zs → derives_empty_clause (Clause n zs) ≡ false → HasChain s.moment.tables.clauses (literals zs) → IsLearnedOf s.trail back (literals zs) l
-      → AreTemporary formula (after_learned s n zs back) s.moment.new_clauses → is_among s.moment.new_clauses n ≡ false → IsSearch formula parities (after_round s n zs back l)
+  pub round_keeps : IsServed s → s.quiet_levels ≡ level_of s.trail → IsAddition formula s.moment.tables.clauses n zs → derives_empty_clause (ClauseWithHints n zs hints) ≡ false → HasChain s.moment.tables.clauses (literals zs) → IsLearnedOf s.trail back (literals zs) l
+      → AreTemporary formula (after_learned s n zs hints back) s.moment.new_clauses → is_among s.moment.new_clauses n ≡ false → IsSearch formula parities (after_round s n zs hints back l)
   round_keeps served levels a goes has_chain learned temporary apart =
       let IsRow = IsOfParities formula.variables parities in
       let s1 = marked s in
       let ok1 = mark_keeps formula parities s ok served in
-      let s2 = after_learned s n zs back in
-      let ok2 = learned_keeps formula parities s1 ok1 n zs back l a goes refl levels has_chain learned in
+      let s2 = after_learned s n zs hints back in
+      let ok2 = learned_keeps formula parities s1 ok1 n zs hints back l a goes refl levels has_chain learned in
       let s3 = deleted s2 s.moment.new_clauses in
       let ok3 = deleted_keeps formula parities s2 ok2 s.moment.new_clauses temporary in
       let same_levels : s3.quiet_levels ≡ back = deleted_levels s2 s.moment.new_clauses in
@@ -108,11 +108,11 @@ module _ (formula : Problem) (parities : List (List Literal)) (s : Search) (ok :
       (subst (λ es. IsUnassigned (all_held (back_to back es)) l) (sym same_trail) (unassigned_then s.moment.tables.clauses IsRow s ok.serves.stands back (literals zs) l learned))
       (refl, (literals zs, here, subst (λ es. Forces (literals zs) (all_held (back_to back es)) l) (sym same_trail) (forces_then s.moment.tables.clauses IsRow s ok.serves.stands back (literals zs) l learned)))
 
-module _ (s : Search) (n : ℕ) (zs : List ℤ) (back : ℕ) (l : Literal) where
+module _ (s : Search) (n : ℕ) (zs hints : List ℤ) (back : ℕ) (l : Literal) where
   -- nothing temporary is left
-  pub round_clears_old : s.moment.old_clauses ≡ [] → (after_round s n zs back l).moment.old_clauses ≡ []
-  round_clears_old none = deleted_old (after_learned s n zs back) s.moment.new_clauses ∙ all_deleted s.moment.new_clauses (s.moment.new_clauses ++ s.moment.old_clauses)
+  pub round_clears_old : s.moment.old_clauses ≡ [] → (after_round s n zs hints back l).moment.old_clauses ≡ []
+  round_clears_old none = deleted_old (after_learned s n zs hints back) s.moment.new_clauses ∙ all_deleted s.moment.new_clauses (s.moment.new_clauses ++ s.moment.old_clauses)
       (λ m h. subst (λ xs. is_among xs m ≡ true) (ap (λ xs. s.moment.new_clauses ++ xs) none ∙ append_nil s.moment.new_clauses) h)
 
-  pub round_clears_new : (after_round s n zs back l).moment.new_clauses ≡ []
-  round_clears_new = deleted_new (after_learned s n zs back) s.moment.new_clauses refl
+  pub round_clears_new : (after_round s n zs hints back l).moment.new_clauses ≡ []
+  round_clears_new = deleted_new (after_learned s n zs hints back) s.moment.new_clauses refl

@@ -3,7 +3,7 @@ use Rattle.std.proofs.Common.{◌≡◌, refl, sym, ap, ◌∙◌, subst, ℕ, �
 use Rattle.std.proofs.lemmas.Bool.{le-leb}
 use Rattle.cx_base.specs.Literals.{Literal}
 use Rattle.cx_base.specs.Problem.{Problem}
-use Rattle.cx_semantics.specs.declared.steps.LogStep.TheVariants.{Clause}
+use Rattle.cx_semantics.specs.declared.steps.LogStep.TheVariants.{ClauseWithHints}
 use Rattle.cx_semantics.specs.declared.steps.LogEvent.TheVariants.{Step}
 use Rattle.cx_semantics.specs.Chain.{has_literal}
 use Rattle.cx_semantics.specs.Fresh.{IsLive}
@@ -31,16 +31,16 @@ held_there k (x ∷ newer) older e h = go (nat_le x.level k) (held_there k newer
     go true r = has_behind x.literal (held k (newer ++ e ∷ older)) e.literal r
     go false r = r
 
-pub unit_rests_keeps : (formula : Problem) (parities : List (List Literal)) (s : Search) → IsSearch formula parities s → (n : ℕ) (z : ℤ) (newer older : List Entry) (e : Entry) → s.trail ≡ newer ++ e ∷ older → e.level ≡ 0 → literal z ≡ e.literal
-    → IsAddition formula s.moment.tables.clauses n (z ∷ []) → derives_empty_clause (Clause n (z ∷ [])) ≡ false → s.moment.awaits ≡ false → RestOnClauses older → (clause : List Literal) → IsLive s.moment.tables.clauses clause → Forces clause (all_held older) e.literal
-    → IsSearch formula parities (unit_told s n z newer e older)
-unit_rests_keeps formula parities s ok n z newer older e same low is a goes served on_clauses clause live forces =
+pub unit_rests_keeps : (formula : Problem) (parities : List (List Literal)) (s : Search) → IsSearch formula parities s → (n : ℕ) (z : ℤ) (hints : List ℤ) (newer older : List Entry) (e : Entry) → s.trail ≡ newer ++ e ∷ older → e.level ≡ 0 → literal z ≡ e.literal
+    → IsAddition formula s.moment.tables.clauses n (z ∷ []) → derives_empty_clause (ClauseWithHints n (z ∷ []) hints) ≡ false → s.moment.awaits ≡ false → RestOnClauses older → (clause : List Literal) → IsLive s.moment.tables.clauses clause → Forces clause (all_held older) e.literal
+    → IsSearch formula parities (unit_told s n z hints newer e older)
+unit_rests_keeps formula parities s ok n z hints newer older e same low is a goes served on_clauses clause live forces =
     let IsRow = IsOfParities formula.variables parities in
     let t : IsTrail s.moment.tables.clauses IsRow (newer ++ e ∷ older) = subst (IsTrail s.moment.tables.clauses IsRow) same ok.serves.stands in
     let here : has_literal (held 0 (newer ++ e ∷ older)) e.literal ≡ true = held_there 0 newer older e (omega (arith, low)) in
-    let ok1 = unit_keeps formula parities s ok n z older clause a goes served (trail_part s.moment.tables.clauses IsRow newer older e t)
+    let ok1 = unit_keeps formula parities s ok n z hints older clause a goes served (trail_part s.moment.tables.clauses IsRow newer older e t)
     (record { level_0 = ap (λ es. has_literal (held 0 es) (literal z)) same ∙ ap (has_literal (held 0 (newer ++ e ∷ older))) is ∙ here; on_clauses = on_clauses; live = live; forces = subst (Forces clause (all_held older)) (sym is) forces }) in
-    let after = (told s (Step (Clause n (z ∷ [])))).moment.tables.clauses in
+    let after = (told s (Step (ClauseWithHints n (z ∷ []) hints))).moment.tables.clauses in
     let put : get after n ≡ Some (e.literal ∷ []) =
     Looks-insert s.moment.tables.clauses (get s.moment.tables.clauses) n (literal z ∷ []) (λ _. refl) n
     ∙ ap (λ b. cond b (Some (literal z ∷ [])) (get s.moment.tables.clauses n)) (eq-eqb n n refl) ∙ ap (λ l. Some (l ∷ [])) is in

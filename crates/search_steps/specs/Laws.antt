@@ -6,7 +6,7 @@ use Rattle.cx_base.specs.Problem.{Problem, Meets, Unmet, clauses_of, parities_of
 use Rattle.cx_base.specs.declared.constraint.Constraint.{Constraint}
 use Rattle.cx_base.specs.declared.constraint.Constraint.TheVariants as constraint
 use Rattle.cx_semantics.specs.declared.steps.LogStep.{LogStep}
-use Rattle.cx_semantics.specs.declared.steps.LogStep.TheVariants.{Original, OriginalParity, Clause, Parity, ClauseOfParity, ParityOfClauses, Delete, DeleteParity}
+use Rattle.cx_semantics.specs.declared.steps.LogStep.TheVariants.{Original, OriginalParity, ClauseWithHints, Parity, ClauseOfParity, ParityOfClauses, Delete, DeleteParity}
 use Rattle.cx_semantics.specs.declared.steps.LogEvent.{LogEvent}
 use Rattle.cx_semantics.specs.declared.steps.LogEvent.TheVariants.{Step}
 use Rattle.cx_semantics.specs.Chain.{has_literal, is_inside, negations, same_literals}
@@ -139,9 +139,9 @@ SumDeletionsKeep = OfSearch (λ formula parities s.
 -- telling the unit clause of a literal of level 0 keeps the search, and the literal rests on it from then on
 abbrev pub UnitsKeep : Type 0
 UnitsKeep = OfSearch (λ formula parities s.
-    (n : ℕ) (z : ℤ) (newer older : List Entry) (e : Entry) → s.trail ≡ newer ++ e ∷ older → e.level ≡ 0 → literal z ≡ e.literal → IsAddition formula s.moment.tables.clauses n (z ∷ [])
-    → IsFalse (derives_empty_clause (Clause n (z ∷ []))) → IsFalse s.moment.awaits → RestOnClauses older → (clause : List Literal) → IsLive s.moment.tables.clauses clause → Forces clause (all_held older) e.literal
-    → IsSearch formula parities (unit_told s n z newer e older))
+    (n : ℕ) (z : ℤ) (hints : List ℤ) (newer older : List Entry) (e : Entry) → s.trail ≡ newer ++ e ∷ older → e.level ≡ 0 → literal z ≡ e.literal → IsAddition formula s.moment.tables.clauses n (z ∷ [])
+    → IsFalse (derives_empty_clause (ClauseWithHints n (z ∷ []) hints)) → IsFalse s.moment.awaits → RestOnClauses older → (clause : List Literal) → IsLive s.moment.tables.clauses clause → Forces clause (all_held older) e.literal
+    → IsSearch formula parities (unit_told s n z hints newer e older))
 
 -- the mark of a counted conflict keeps the search
 abbrev pub MarksKeep : Type 0
@@ -151,8 +151,8 @@ MarksKeep = OfSearch (λ formula parities s.
 -- telling the learned clause keeps the search, where one is owed
 abbrev pub LearnedClausesKeep : Type 0
 LearnedClausesKeep = OfSearch (λ formula parities s.
-    (n : ℕ) (zs : List ℤ) (back : ℕ) (l : Literal) → IsAddition formula s.moment.tables.clauses n zs → IsFalse (derives_empty_clause (Clause n zs)) → IsTrue s.moment.awaits → s.quiet_levels ≡ level_of s.trail
-    → HasChain s.moment.tables.clauses (literals zs) → IsLearnedOf s.trail back (literals zs) l → IsSearch formula parities (record (told s (Step (Clause n zs))) { quiet_levels = back }))
+    (n : ℕ) (zs hints : List ℤ) (back : ℕ) (l : Literal) → IsAddition formula s.moment.tables.clauses n zs → IsFalse (derives_empty_clause (ClauseWithHints n zs hints)) → IsTrue s.moment.awaits → s.quiet_levels ≡ level_of s.trail
+    → HasChain s.moment.tables.clauses (literals zs) → IsLearnedOf s.trail back (literals zs) l → IsSearch formula parities (record (told s (Step (ClauseWithHints n zs hints))) { quiet_levels = back }))
 
 -- deleting temporary clauses one after another keeps the search
 abbrev pub DeletionsKeep : Type 0
@@ -168,9 +168,9 @@ LearnedDeletionsKeep = OfSearch (λ formula parities s.
 -- a whole conflict keeps the search: the mark, the learned clause, the deletions, the jump back, and the literal that the clause forces
 abbrev pub RoundsKeep : Type 0
 RoundsKeep =
-    (formula : Problem) (bound next row_next : ℕ) (s : Search) → IsRanged formula bound next row_next s.trail s.moment → (n : ℕ) (zs : List ℤ) (back : ℕ) → next ≤ n → n < bound
+    (formula : Problem) (bound next row_next : ℕ) (s : Search) → IsRanged formula bound next row_next s.trail s.moment → (n : ℕ) (zs hints : List ℤ) (back : ℕ) → next ≤ n → n < bound
     → (parities : List (List Literal)) → IsSearch formula parities s → (l : Literal) → IsServed s → s.quiet_levels ≡ level_of s.trail → IsAddition formula s.moment.tables.clauses n zs
-    → IsFalse (derives_empty_clause (Clause n zs)) → HasChain s.moment.tables.clauses (literals zs) → IsLearnedOf s.trail back (literals zs) l → IsSearch formula parities (after_round s n zs back l)
+    → IsFalse (derives_empty_clause (ClauseWithHints n zs hints)) → HasChain s.moment.tables.clauses (literals zs) → IsLearnedOf s.trail back (literals zs) l → IsSearch formula parities (after_round s n zs hints back l)
 
 -- the reason of a row leaves no sum, and a search that may be marked stays so
 abbrev pub RowReasonsServe : Type 0
@@ -181,13 +181,13 @@ RowReasonsServe =
 -- behind a whole conflict the search is tidy
 abbrev pub RoundsAreTidy : Type 0
 RoundsAreTidy = OfSearch (λ formula parities s.
-    (n : ℕ) (zs : List ℤ) (back : ℕ) (l : Literal) → IsLearnedOf s.trail back (literals zs) l → IsServed s → s.moment.new_sums ≡ [] → IsTidy (after_round s n zs back l))
+    (n : ℕ) (zs hints : List ℤ) (back : ℕ) (l : Literal) → IsLearnedOf s.trail back (literals zs) l → IsServed s → s.moment.new_sums ≡ [] → IsTidy (after_round s n zs hints back l))
 
 -- the literal that the learned clause forces is open on the code's trail after the jump, and is put behind it
 abbrev pub RoundsStayTied : Type 0
 RoundsStayTied = OfSearch (λ formula parities s.
-    (n : ℕ) (zs : List ℤ) (back : ℕ) (l : Literal) → IsLearnedOf s.trail back (literals zs) l → (t u : TrailState) → IsTied s.trail t.entries → TakesBack back t u → (reason : Reason)
-    → IsOpenIn u.entries l.variable × IsTied (after_round s n zs back l).trail (pushed u back l reason).entries)
+    (n : ℕ) (zs hints : List ℤ) (back : ℕ) (l : Literal) → IsLearnedOf s.trail back (literals zs) l → (t u : TrailState) → IsTied s.trail t.entries → TakesBack back t u → (reason : Reason)
+    → IsOpenIn u.entries l.variable × IsTied (after_round s n zs hints back l).trail (pushed u back l reason).entries)
 
 -- ---- conflicts and what they teach
 -- the clause that an analysis answers is learned, asserting by its first literal
@@ -236,8 +236,8 @@ LastStepsEnd = OfSearch (λ formula parities s.
 -- so does a clause by a right chain, and the marks are as before where no clause is owed
 abbrev pub ChainedClausesEnd : Type 0
 ChainedClausesEnd = OfSearch (λ formula parities s.
-    (n : ℕ) (zs : List ℤ) → IsAddition formula s.moment.tables.clauses n zs → HasChain s.moment.tables.clauses (literals zs) → IsTrue (derives_empty_clause (Clause n zs)) → IsFalse s.moment.awaits
-    → IsEnded formula (s.events ++ Step (Clause n zs) ∷ []) × Marked formula (s.events ++ Step (Clause n zs) ∷ []) s.conflicts)
+    (n : ℕ) (zs hints : List ℤ) → IsAddition formula s.moment.tables.clauses n zs → HasChain s.moment.tables.clauses (literals zs) → IsTrue (derives_empty_clause (ClauseWithHints n zs hints)) → IsFalse s.moment.awaits
+    → IsEnded formula (s.events ++ Step (ClauseWithHints n zs hints) ∷ []) × Marked formula (s.events ++ Step (ClauseWithHints n zs hints) ∷ []) s.conflicts)
 
 -- so does the clause of a row, where its sum is live
 abbrev pub RowClausesEnd : Type 0
@@ -371,7 +371,7 @@ TrailStepsKeepRanges = OfRanges (λ formula bound next row_next s.
 -- steps that are told keep the ranges: a clause for good, the reason of a row, deletions, a recovered parity, a mark
 abbrev pub ToldStepsKeepRanges : Type 0
 ToldStepsKeepRanges = OfRanges (λ formula bound next row_next s.
-    ((n : ℕ) (zs : List ℤ) → next ≤ n → n < bound → IsRanged formula bound (n + 1) row_next s.trail (after_event s.moment (Step (Clause n zs))))
+    ((n : ℕ) (zs hints : List ℤ) → next ≤ n → n < bound → IsRanged formula bound (n + 1) row_next s.trail (after_event s.moment (Step (ClauseWithHints n zs hints))))
     × ((k : ℕ) (rs : List ℤ) (ids : List ℕ) (n : ℕ) (zs : List ℤ) → bound ≤ n → row_next ≤ n → IsRanged formula bound next (n + 1) s.trail (all_told s (row_events k rs ids n zs)).moment)
     × ((ids : List ℕ) → IsRanged formula bound next row_next (deleted s ids).trail (deleted s ids).moment)
     × ((n : ℕ) (zs : List ℤ) (ids : List ℕ) → IsRanged formula bound next row_next s.trail (after_event s.moment (Step (ParityOfClauses n zs ids))))
@@ -384,7 +384,7 @@ OtherTrailsKeepRanges = OfRanges (λ formula bound next row_next s. (es : List E
 -- a whole conflict keeps the ranges, and the ids of rows begin anew
 abbrev pub RoundsKeepRanges : Type 0
 RoundsKeepRanges = OfRanges (λ formula bound next row_next s.
-    (n : ℕ) (zs : List ℤ) (back : ℕ) → next ≤ n → n < bound → (l : Literal) → s.moment.old_clauses ≡ [] → IsRanged formula bound (n + 1) bound (after_round s n zs back l).trail (after_round s n zs back l).moment)
+    (n : ℕ) (zs hints : List ℤ) (back : ℕ) → next ≤ n → n < bound → (l : Literal) → s.moment.old_clauses ≡ [] → IsRanged formula bound (n + 1) bound (after_round s n zs hints back l).trail (after_round s n zs hints back l).moment)
 
 -- the next ids are free
 abbrev pub NextIdsAreFree : Type 0

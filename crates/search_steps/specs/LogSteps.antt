@@ -15,7 +15,7 @@ use Rattle.cx_semantics.specs.Marked.{is_among}
 use Rattle.cx_semantics.specs.ProofRules.{IsSum}
 use Rattle.cx_semantics.specs.declared.steps.LogEvent.{LogEvent}
 use Rattle.cx_semantics.specs.declared.steps.LogEvent.TheVariants.{Step}
-use Rattle.cx_semantics.specs.declared.steps.LogStep.TheVariants.{Clause, Parity, ClauseOfParity, DeleteParity, Delete}
+use Rattle.cx_semantics.specs.declared.steps.LogStep.TheVariants.{ClauseWithHints, Parity, ClauseOfParity, DeleteParity, Delete}
 use Rattle.cx_semantics.specs.Tables.{Table, Tables, get, named}
 use Rattle.search_steps.specs.Trail.{Entry, rests_on, by_clause, held, all_held, Forces}
 use Rattle.search_steps.specs.Search.{Search, told, marked, jumped, forced_on}
@@ -89,14 +89,14 @@ deleted s (n ∷ ids) = deleted (told s (Step (Delete n []))) ids
 abbrev pub IsEnded : Problem → List LogEvent → Type 0
 IsEnded formula events = AcceptedAt (log_calculus formula) (steps_of events) (length (steps_of events))
 
--- the search after the unit clause of an entry of level 0, which is its reason from then on
-abbrev pub unit_told : Search → ℕ → ℤ → List Entry → Entry → List Entry → Search
-unit_told s n z newer e older = record (told s (Step (Clause n (z ∷ [])))) { trail = newer ++ rests_on e n ∷ older }
+-- the search after the unit clause of an entry of level 0, which is its reason from then on; the hints of a clause by a chain may be any
+abbrev pub unit_told : Search → ℕ → ℤ → List ℤ → List Entry → Entry → List Entry → Search
+unit_told s n z hints newer e older = record (told s (Step (ClauseWithHints n (z ∷ []) hints))) { trail = newer ++ rests_on e n ∷ older }
 
 -- the search after a counted conflict and its clause
-abbrev pub after_learned : Search → ℕ → List ℤ → ℕ → Search
-after_learned s n zs back = record (told (marked s) (Step (Clause n zs))) { quiet_levels = back }
+abbrev pub after_learned : Search → ℕ → List ℤ → List ℤ → ℕ → Search
+after_learned s n zs hints back = record (told (marked s) (Step (ClauseWithHints n zs hints))) { quiet_levels = back }
 
 -- and after the deletion of the clauses of rows, the jump back, and the literal that the clause forces
-abbrev pub after_round : Search → ℕ → List ℤ → ℕ → Literal → Search
-after_round s n zs back l = forced_on (jumped (deleted (after_learned s n zs back) s.moment.new_clauses) back) l (by_clause n)
+abbrev pub after_round : Search → ℕ → List ℤ → List ℤ → ℕ → Literal → Search
+after_round s n zs hints back l = forced_on (jumped (deleted (after_learned s n zs hints back) s.moment.new_clauses) back) l (by_clause n)

@@ -17,7 +17,8 @@ loop-place-init g c =
     (subst (λ lits. Touched c.args.trail.now None c.len.result c.new-touched.result c.touch.new.touched lits) c.as_slice.ensures c.in_ok-touch.ensures) in
     record {
       trail = c.requires.stands;
-      keeps = λ x h. h;
+      held = λ x h. h;
+      frame = g.met.S.Antecedents.keeps_itself c.args.source.now;
       faults = omega arith;
       ready = c.requires.ready;
       state = subst (λ ls. Analysing c.args.trail.now c.args.conflict.now (g.S.Antecedents.holds c.args.source.now) ls c.new-lits.result.items c.touch.new.touched.keys) (sym c.new-resolved.ensures.items)
@@ -79,7 +80,8 @@ loop-place-preserved-in-Continue-branch-2 g c =
     c.in_ok-push.ensures.items ∙ ap (λ x. c.loop-place.lits.items ++ x ∷ []) (c.negate.ensures ∙ ap (λ x. negate x.literal) c.entry-literal.ensures.is) in
     record {
       trail = c.loop-place.invariant.trail;
-      keeps = c.loop-place.invariant.keeps;
+      held = c.loop-place.invariant.held;
+      frame = c.loop-place.invariant.frame;
       faults = c.loop-place.invariant.faults;
       ready = c.loop-place.invariant.ready;
       state = subst (λ lits. Analysing c.args.trail.now c.args.conflict.now (g.S.Antecedents.holds c.loop-place.source) c.loop-place.resolved.items lits c.pop_last.new.self.keys) (sym pushed)
@@ -110,14 +112,15 @@ loop-place-preserved g c =
     (subst (λ lits. Touched c.args.trail.now (Some c.entry-literal.result.literal) p c.pop_last.new.self c.touch-else-is_kept.new.touched lits) c.as_slice-else-is_kept.ensures c.in_ok-touch-2.ensures) in
     record {
       trail = c.in_ok-clause.ensures.trail ∙ c.loop-place.invariant.trail;
-      keeps = λ x h. c.in_ok-clause.ensures.keeps x (c.loop-place.invariant.keeps x h);
+      held = λ x h. c.in_ok-clause.ensures.held x (c.loop-place.invariant.held x h);
+      frame = g.met.S.Antecedents.keeps_on _ _ _ c.loop-place.invariant.frame c.clause_of.ensures.frame;
       faults = omega (arith, before, now);
       ready = c.in_ok-clause.ensures.goes_on;
       state = subst (λ ls. Analysing c.args.trail.now c.args.conflict.now (g.S.Antecedents.holds c.clause_of.new.self) ls c.loop-place.lits.items c.touch-else-is_kept.new.touched.keys) (sym pushed)
           (analysing_resolves c.args.trail.now c.args.conflict.now c.len.ensures.sound c.requires.above (g.S.Antecedents.holds c.loop-place.source) c.loop-place.resolved.items c.loop-place.lits.items c.pop_last.new.self.keys p
           (subst (Analysing c.args.trail.now c.args.conflict.now (g.S.Antecedents.holds c.loop-place.source) c.loop-place.resolved.items c.loop-place.lits.items) c.in-Some.ensures.removal c.loop-place.invariant.state)
           (below_popped c.loop-place.touched c.pop_last.new.self p c.in-Some.ensures.updates c.in-Some.ensures.greatest)
-          (g.S.Antecedents.holds c.clause_of.new.self) c.pop_last.new.self c.touch-else-is_kept.new.touched c.in_ok-clause.clause refl c.in_ok-clause.ensures.keeps c.in_ok-clause.ensures.clause implied t
+          (g.S.Antecedents.holds c.clause_of.new.self) c.pop_last.new.self c.touch-else-is_kept.new.touched c.in_ok-clause.clause refl c.in_ok-clause.ensures.held c.in_ok-clause.ensures.clause implied t
           c.is_empty.result first (λ h. c.is_kept.ensures.more h c.if-is_kept.false) (λ h. sym c.if-is_kept.false ∙ c.is_kept.ensures.later h));
     }
 
@@ -135,8 +138,8 @@ returns-in_err-touch-clause-write g c = no_write _ c.from_residual.result c.from
 pub returns-in_err-push-clause-trail : goal.returns-in_err-push-clause-trail
 returns-in_err-push-clause-trail g c = c.loop-place.invariant.trail ∙ sym c.requires.stands
 
-pub returns-in_err-push-clause-keeps : goal.returns-in_err-push-clause-keeps
-returns-in_err-push-clause-keeps g c = c.loop-place.invariant.keeps
+pub returns-in_err-push-clause-held : goal.returns-in_err-push-clause-held
+returns-in_err-push-clause-held g c = c.loop-place.invariant.held
 
 pub returns-in_err-push-clause-write : goal.returns-in_err-push-clause-write
 returns-in_err-push-clause-write g c = no_write _ c.from_residual-in_err-push.result c.from_residual-in_err-push.ensures.1
@@ -144,8 +147,8 @@ returns-in_err-push-clause-write g c = no_write _ c.from_residual-in_err-push.re
 pub returns-in_err-clause-clause-trail : goal.returns-in_err-clause-clause-trail
 returns-in_err-clause-clause-trail g c = c.clause_of.ensures.trail ∙ c.loop-place.invariant.trail ∙ sym c.requires.stands
 
-pub returns-in_err-clause-clause-keeps : goal.returns-in_err-clause-clause-keeps
-returns-in_err-clause-clause-keeps g c = λ x h. c.clause_of.ensures.keeps x (c.loop-place.invariant.keeps x h)
+pub returns-in_err-clause-clause-held : goal.returns-in_err-clause-clause-held
+returns-in_err-clause-clause-held g c = λ x h. c.clause_of.ensures.held x (c.loop-place.invariant.held x h)
 
 pub returns-in_err-clause-clause-write : goal.returns-in_err-clause-clause-write
 returns-in_err-clause-clause-write g c =
@@ -155,8 +158,8 @@ returns-in_err-clause-clause-write g c =
 pub returns-in_err-touch-2-clause-trail : goal.returns-in_err-touch-2-clause-trail
 returns-in_err-touch-2-clause-trail g c = c.clause_of.ensures.trail ∙ c.loop-place.invariant.trail ∙ sym c.requires.stands
 
-pub returns-in_err-touch-2-clause-keeps : goal.returns-in_err-touch-2-clause-keeps
-returns-in_err-touch-2-clause-keeps g c = λ x h. c.clause_of.ensures.keeps x (c.loop-place.invariant.keeps x h)
+pub returns-in_err-touch-2-clause-held : goal.returns-in_err-touch-2-clause-held
+returns-in_err-touch-2-clause-held g c = λ x h. c.clause_of.ensures.held x (c.loop-place.invariant.held x h)
 
 pub returns-in_err-touch-2-clause-write : goal.returns-in_err-touch-2-clause-write
 returns-in_err-touch-2-clause-write g c = no_write _ c.from_residual-in_err-touch-2.result c.from_residual-in_err-touch-2.ensures.1
@@ -164,5 +167,5 @@ returns-in_err-touch-2-clause-write g c = no_write _ c.from_residual-in_err-touc
 pub returns-clause-trail : goal.returns-clause-trail
 returns-clause-trail g c = c.loop-place.invariant.trail ∙ sym c.requires.stands
 
-pub returns-clause-keeps : goal.returns-clause-keeps
-returns-clause-keeps g c = c.loop-place.invariant.keeps
+pub returns-clause-held : goal.returns-clause-held
+returns-clause-held g c = c.loop-place.invariant.held

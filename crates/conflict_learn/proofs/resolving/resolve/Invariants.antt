@@ -5,7 +5,8 @@ use Rattle.conflict_learn.proofs.resolving.resolve.Given as goal
 abbrev pub invariant-loop-place : goal.invariant-loop-place
 invariant-loop-place g l = record {
   trail : g.S.Antecedents.trail l.source ≡ l.trail;
-  keeps : AreHeld (g.S.Antecedents.holds l.fn.source) (g.S.Antecedents.holds l.source);
+  held : AreHeld (g.S.Antecedents.holds l.fn.source) (g.S.Antecedents.holds l.source);
+  frame : g.S.Antecedents.keeps l.fn.source l.source;
   faults : g.S.Antecedents.faults l.fn.source ≤ g.S.Antecedents.faults l.source;
   ready : g.S.Antecedents.ready l.source;
   state : Analysing l.trail l.conflict (g.S.Antecedents.holds l.source) l.resolved.items l.lits.items l.touched.keys;
