@@ -13,7 +13,7 @@ use Rattle.cx_semantics.proofs.Lookups.{lookup, Looks-numbered_from}
 use Rattle.fratx_elab.specs.Elaborates.{IsLeast}
 use Rattle.fratx_elab.proofs.TieLaws.{lookup_at}
 
-all_push : (P : List Literal → Type 0) (lists : List (List Literal)) (it : List Literal) → AllByRecursion P lists → P it → AllByRecursion P (lists ++ it ∷ [])
+pub all_push : (P : List Literal → Type 0) (lists : List (List Literal)) (it : List Literal) → AllByRecursion P lists → P it → AllByRecursion P (lists ++ it ∷ [])
 all_push P [] it h k = (k, tt)
 all_push P (x ∷ lists) it h k = (h.0, all_push P lists it h.1 k)
 
@@ -32,6 +32,32 @@ module _ (kind : Constraint → Option (List Literal)) (cs : List Constraint) (p
       ap (filter_map kind) (sym (split_at cs place) ∙ ap (λ xs. take place cs ++ xs) (drop_more cs place (Clause []) within ∙ ap (λ i. i ∷ drop (place + 1) cs) (sym is)))
       ∙ filter_map-append kind (take place cs) (c ∷ drop (place + 1) cs)
       ∙ ap (λ x. filter_map kind (take place cs) ++ cons_option x (filter_map kind (drop (place + 1) cs))) e
+
+-- what the first constraints gain by the next one
+module _ (cs : List Constraint) (place : ℕ) (within : place < length cs) (lits : List Literal) where
+  pub clause_joins : Clause lits ≡ constraint_at cs place → clauses_of (take (place + 1) cs) ≡ clauses_of (take place cs) ++ lits ∷ []
+  unfolding clauses_of
+  clause_joins e = seen clause_in cs place (Clause lits) within e (Some lits) refl
+
+  pub parity_passes : Parity lits ≡ constraint_at cs place → clauses_of (take (place + 1) cs) ≡ clauses_of (take place cs)
+  unfolding clauses_of
+  parity_passes e = seen clause_in cs place (Parity lits) within e None refl ∙ append-nil _
+
+  pub parity_joins : Parity lits ≡ constraint_at cs place → parities_of (take (place + 1) cs) ≡ parities_of (take place cs) ++ lits ∷ []
+  unfolding parities_of
+  parity_joins e = seen parity_in cs place (Parity lits) within e (Some lits) refl
+
+  pub clause_passes : Clause lits ≡ constraint_at cs place → parities_of (take (place + 1) cs) ≡ parities_of (take place cs)
+  unfolding parities_of
+  clause_passes e = seen parity_in cs place (Clause lits) within e None refl ∙ append-nil _
+
+pub no_clauses : clauses_of [] ≡ []
+unfolding clauses_of
+no_clauses = refl
+
+pub no_parities : parities_of [] ≡ []
+unfolding parities_of
+no_parities = refl
 
 -- so many lists were passed, and none has the property
 pub record Passed (P : List Literal → Type 0) (lists : List (List Literal)) (number : ℕ) : Type 0 where
