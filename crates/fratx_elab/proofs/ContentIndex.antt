@@ -70,7 +70,7 @@ module _ {K : Type 0} (list_of : K → List ℕ) (Has : List Literal → List �
       cases true t (Some k) h = later_too Here old new lits k e h
       cases false t None h =
           subst (AllByRecursion Apart) (sym e) (all_push Apart old lits h (λ g.
-              true≢false (sym (same_list (list_of key)) ∙ ap (λ l. is_eq (slice_cmp nat_cmp (list_of key) l)) (once lits (list_of key) (list_of q) has g) ∙ t)))
+          true≢false (sym (same_list (list_of key)) ∙ ap (λ l. is_eq (slice_cmp nat_cmp (list_of key) l)) (once lits (list_of key) (list_of q) has g) ∙ t)))
       cases false t (Some k) h = later_too Here old new lits k e h
 
 pub grown : (old new : List (List Literal)) (lits : List Literal) → new ≡ old ++ lits ∷ [] → length new ≡ length old + 1

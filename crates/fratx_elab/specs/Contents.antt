@@ -1,5 +1,5 @@
 -- Numbers of constraints by what these say.
-use Rattle.std.specs.Prelude.{◌≡◌, ℕ, cond, List, Option, Some, None, MatchOption}
+use Rattle.std.specs.Prelude.{◌≡◌, ℕ, cond, List, Some, MatchOption}
 use Rattle.std.specs.List.{AllByRecursion}
 use Rattle.std.specs.Option.{unwrap_or}
 use Rattle.std.specs.Ordering.{nat_cmp, is_eq}

@@ -92,11 +92,7 @@ impl Originals {
     }
 
     /// The least number of a clause of the formula with the same set of literals; none where it has no such clause.
-    pub fn clause_number(
-        &self,
-        alloc: Global,
-        lits: &[Lit],
-    ) -> Result<Option<ProofId>, AllocError>
+    pub fn clause_number(&self, alloc: Global, lits: &[Lit]) -> Result<Option<ProofId>, AllocError>
         ensures { (formula : Problem) → StandsFor self.now formula → IfOk result (λ found. MatchOption found (IsFalse (is_original formula lits.now)) (IsClauseNumber formula lits.now)) }
     {
         let content = clause_content(alloc, lits)?;
@@ -104,11 +100,7 @@ impl Originals {
     }
 
     /// The least number of a parity of the formula with the same normal form; none where it has no such parity.
-    pub fn parity_number(
-        &self,
-        alloc: Global,
-        lits: &[Lit],
-    ) -> Result<Option<ProofId>, AllocError>
+    pub fn parity_number(&self, alloc: Global, lits: &[Lit]) -> Result<Option<ProofId>, AllocError>
         ensures { (formula : Problem) → StandsFor self.now formula → IfOk result (λ found. MatchOption found (¬ IsOriginalParity formula lits.now) (IsParityNumber formula lits.now)) }
     {
         let content = parity_content(alloc, lits)?;

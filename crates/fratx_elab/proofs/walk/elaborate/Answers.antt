@@ -1,4 +1,4 @@
-use Rattle.std.proofs.Common.{◌≡◌, refl, sym, ap, ◌∙◌, subst, Option, Result, Err, ◌≤◌, ◌+◌, ◌^◌, arith}
+use Rattle.std.proofs.Common.{refl, ap, ◌∙◌, subst, Option, Result, Err, arith}
 use Rattle.fratx_elab.specs.Names.{Naming, first_naming}
 use Rattle.fratx_elab.specs.Outcomes.{Goes, WritesStand}
 use Rattle.fratx_elab.specs.declared.outcome.Elab.{Elab}

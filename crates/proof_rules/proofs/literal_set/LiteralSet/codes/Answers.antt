@@ -1,4 +1,4 @@
-use Rattle.std.proofs.Common.{◌≡◌, ◌++◌, ◌∙◌, ap, sym, subst, ℕ, append-nil, nat_cmp, List, map}
+use Rattle.std.proofs.Common.{◌++◌, ◌∙◌, ap, sym, subst, ℕ, append-nil, nat_cmp, List, map}
 use Rattle.std.specs.Map.Iter.{deref}
 use Rattle.std.specs.List.Sorted.{IsStrictlySortedBy}
 use Rattle.std.proofs.lemmas.Map.Iter.{rest_all}
