@@ -5,3 +5,4 @@ mod Numbers
 mod Taking
 mod Texts
 mod Turns
+pub mod ContentIndex

@@ -1,10 +1,10 @@
 -- Steps that a text can have.
-use Rattle.std.proofs.Common.{◌≡◌, ◌≢◌, ◌<◌, ◌≤◌, ℕ, ℤ, pos, nat_abs, List, [], ◌∷◌, ◌++◌, arith}
+use Rattle.std.proofs.Common.{◌≢◌, ◌≤◌, ℕ, ℤ, pos, nat_abs, List, [], ◌∷◌, ◌++◌, arith}
 use Rattle.std.specs.List.{AllByRecursion}
 use Rattle.cx_base.specs.Numbers.{AreStepIntegers}
 use Rattle.cx_semantics.specs.Grammar.{spelled_list}
 use Rattle.cx_semantics.specs.Printed.{HasProofText}
-use Rattle.cx_semantics.specs.Words.{Word, number, IsWithin}
+use Rattle.cx_semantics.specs.Words.{Word, IsWithin}
 use Rattle.cx_semantics.specs.declared.steps.ProofStep.TheVariants as step
 
 abbrev Limit : ℕ

@@ -1,25 +1,24 @@
 -- What is right over the constraints of a log is right over those of its proof, whose content is alike.
 use Rattle.std.proofs.Common.{◌≡◌, refl, sym, ap, ◌∙◌, subst, ℕ, ◌+◌, ◌≤◌, ℤ, pos, nat_abs, Bool, true, false, not, ◌&&◌, ◌||◌, List, [], ◌∷◌, map, filter_map, Option, Some, None, is_some, arith, true≢false}
-use Rattle.std.specs.List.{list_any, list_all, AllByRecursion, cons_option}
+use Rattle.std.specs.List.{list_any, list_all, cons_option}
 use Rattle.std.specs.Bool.{⊤}
 use Rattle.std.specs.FinSet as set
 use Rattle.cx_base.specs.Literals.{Literal, same_literal}
 use Rattle.cx_base.specs.Problem.{clause_met, parity_met}
-use Rattle.cx_base.specs.Parity.{NormalForm, normal_form, sum_of}
+use Rattle.cx_base.specs.Parity.{normal_form, sum_of}
 use Rattle.cx_base.proofs.ParityLaws.{Sums, Sums-from_met, met-from_Sums}
 use Rattle.cx_semantics.specs.Chain.{has_literal, is_inside, IsChain}
-use Rattle.cx_semantics.specs.Implied.{Implies}
 use Rattle.cx_semantics.specs.Integers.{is_negative, sizes}
 use Rattle.cx_semantics.specs.Judging.{AllHold}
 use Rattle.cx_semantics.specs.LogRules.{AreLive}
-use Rattle.cx_semantics.specs.ProofRules.{hinting, IsSum, summing, all_met, clause_of_parity, parity_of_clauses}
+use Rattle.cx_semantics.specs.ProofRules.{hinting, summing, all_met, clause_of_parity, parity_of_clauses}
 use Rattle.cx_semantics.specs.Tables.{Table, get, is_live, named, numbered_from}
-use Rattle.cx_semantics.proofs.SameSets.{Same, AllSame, chain_stays_right}
+use Rattle.cx_semantics.proofs.SameSets.{AllSame, chain_stays_right}
 use Rattle.cx_semantics.proofs.ChainLaws.{and_parts, are_one}
 use Rattle.cx_semantics.proofs.Closure.{inside_itself}
 use Rattle.cx_semantics.proofs.Soundness.{same_clause, roof, below_roof}
 use Rattle.proof_rules.specs.LiteralSets.{HaveSame}
-use Rattle.fratx_elab.specs.Names.{Naming, stands_for, hints_for}
+use Rattle.fratx_elab.specs.Names.{Naming, stands_for}
 use Rattle.fratx_elab.specs.Ties.{Tied, HaveSameForm}
 
 -- two lists of constraints, one by one alike

@@ -1,17 +1,17 @@
 -- One turn of the elaborator: from what is known before a step to what is known behind it, or to the answer.
-use Rattle.std.proofs.Common.{◌≡◌, refl, sym, ap, ◌∙◌, subst, ℕ, zero, suc, ◌+◌, ◌-◌, Bool, true, false, List, [], ◌∷◌, ◌++◌, length, length-append, take, append-nil, append_assoc, option_map, Option, Some, None, Result, Ok, Err, inl, inr, arith, true≢false}
+use Rattle.std.proofs.Common.{◌≡◌, refl, sym, ap, ◌∙◌, subst, ℕ, ◌+◌, ◌-◌, Bool, true, false, List, [], ◌∷◌, ◌++◌, length, length-append, take, append-nil, append_assoc, Option, Some, None, Result, Ok, Err, inl, inr, arith, true≢false}
 use Rattle.cx_base.specs.Problem.{Problem, clauses_of, parities_of}
 use Rattle.cx_semantics.specs.declared.steps.LogStep.{LogStep}
 use Rattle.cx_semantics.specs.declared.steps.ProofStep.{ProofStep}
 use Rattle.cx_semantics.specs.declared.steps.Cause.{Cause}
 use Rattle.cx_semantics.specs.declared.steps.Cause.TheVariants as causes
-use Rattle.cx_semantics.specs.Grammar.{Ending, finished, bad_token, too_big, unterminated}
+use Rattle.cx_semantics.specs.Grammar.{Ending, bad_token, too_big, unterminated}
 use Rattle.cx_semantics.specs.Judging.{FirstFailure, IsRight, Runs, AcceptedAt, IsOpen, end_cause}
-use Rattle.cx_semantics.specs.LogRules.{log_calculus, log_rules, after_log_step, derives_empty_clause}
-use Rattle.cx_semantics.specs.ProofRules.{proof_calculus, after_step, adds_empty_clause}
+use Rattle.cx_semantics.specs.LogRules.{log_calculus, log_rules, derives_empty_clause}
+use Rattle.cx_semantics.specs.ProofRules.{proof_calculus, after_step}
 use Rattle.cx_semantics.specs.Tables.{Tables, first_tables, no_tables}
 use Rattle.cx_semantics.proofs.JudgingLaws.{runs_push}
-use Rattle.proof_text.specs.Sources.{Gives, GivesNone}
+use Rattle.proof_text.specs.Sources.{GivesNone}
 use Rattle.proof_text.specs.Sinks.{with_next, SinkFaultsAs}
 use Rattle.proof_text.specs.declared.source.TextRefusal.{TextRefusal}
 use Rattle.proof_text.specs.declared.source.TextRefusal.TheVariants as text
@@ -26,10 +26,10 @@ use Rattle.fratx_elab.specs.Ties.{AreTied, HaveSameForm}
 use Rattle.fratx_elab.proofs.TieLaws.{tied_first}
 use Rattle.fratx_elab.specs.Takes.{TakesLogStep, KeepsTie, listed, names_of}
 use Rattle.fratx_elab.specs.Writing.{WritesDown}
-use Rattle.fratx_elab.specs.Outcomes.{Gained, IsWritten, IsElaborated, IsCutOff, Kept, Goes, Turns, text_refused, step_refused, what_follows_of, WritesStand}
+use Rattle.fratx_elab.specs.Outcomes.{Gained, IsWritten, IsElaborated, IsCutOff, Kept, Turns, text_refused, step_refused, what_follows_of, WritesStand}
 use Rattle.fratx_elab.specs.declared.state.State.{State}
 use Rattle.fratx_elab.specs.declared.outcome.Elab.TheVariants.{Done, Refused}
-use Rattle.fratx_elab.specs.declared.outcome.ElabFault.TheVariants.{Memory, Read, Write, TooLong}
+use Rattle.fratx_elab.specs.declared.outcome.ElabFault.TheVariants.{Memory, Write}
 
 abbrev took : Unit {0} → Result (Unit {0}) SinkFault
 took u = Ok u

@@ -10,7 +10,7 @@ use Rattle.cx_semantics.specs.declared.steps.ProofStep.{ProofStep}
 use Rattle.cx_semantics.specs.declared.steps.ProofStep.TheVariants as proof
 use Rattle.cx_semantics.specs.Chain.{same_literals}
 use Rattle.cx_semantics.specs.Integers.{literals}
-use Rattle.fratx_elab.specs.Names.{Naming, Names, stands_for, hints_for, first_names, name_original, name_next, drop_name}
+use Rattle.fratx_elab.specs.Names.{Names, stands_for, hints_for, first_names, name_original, name_next, drop_name}
 
 -- k is the least number, from 1, of a list with the property
 pub record IsLeast (P : List Literal → Type 0) (lists : List (List Literal)) (k : ℕ) : Type 0 where

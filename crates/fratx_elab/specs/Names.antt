@@ -1,5 +1,5 @@
 -- What stands in a proof for the ids of a log.
-use Rattle.std.specs.Prelude.{◌≡◌, ℕ, ◌+◌, ℤ, pos, List, length, map, filter_map, Option, refl}
+use Rattle.std.specs.Prelude.{ℕ, ◌+◌, ℤ, pos, List, length, map, filter_map, Option, refl}
 use Rattle.std.specs.Coded.{Coded, code_by, coded×, coded_ℕ}
 use Rattle.std.specs.Ordering.{nat_cmp}
 use Rattle.std.specs.FinMap as map_

@@ -1,8 +1,8 @@
 -- The live constraints of a log beside those of its proof.
-use Rattle.std.specs.Prelude.{◌≡◌, ◌≤◌, ◌<◌, ℕ, Bool, true, List, length, Option, Some, is_some}
+use Rattle.std.specs.Prelude.{◌≡◌, ◌≤◌, ◌<◌, ℕ, true, List, Some, is_some}
 use Rattle.cx_base.specs.Literals.{Literal}
 use Rattle.cx_base.specs.Parity.{normal_form}
-use Rattle.cx_base.specs.Problem.{Problem, clauses_of, parities_of}
+use Rattle.cx_base.specs.Problem.{Problem}
 use Rattle.cx_semantics.specs.Tables.{Table, Tables, get, is_live, first_tables}
 use Rattle.proof_rules.specs.LiteralSets.{HaveSame}
 use Rattle.fratx_elab.specs.Names.{Naming, Names, stands_for}

@@ -1,5 +1,5 @@
 -- What the sink tells after a step of the proof was handed to it.
-use Rattle.std.specs.Prelude.{◌≡◌, List, Option, Some, None, Result, Ok, Err, ⊤}
+use Rattle.std.specs.Prelude.{◌≡◌, List, Option, Some, None, Result, Ok, Err}
 use Rattle.cx_semantics.specs.declared.steps.ProofStep.{ProofStep}
 use Rattle.proof_text.specs.Sinks.{with_next}
 use Rattle.proof_text.specs.declared.sink.SinkFault.{SinkFault}

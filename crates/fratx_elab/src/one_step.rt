@@ -1,12 +1,13 @@
 //! One step of a log of any kind.
 ghost use Rattle.std.specs.Prelude.{◌≡◌, ◌<◌, length, IfOk, OnOk};
 ghost use Rattle.cx_semantics.specs.LogRules.{derives_empty_clause};
+ghost use Rattle.fratx_elab.specs.Contents.{StandsFor};
 ghost use Rattle.fratx_elab.specs.Elaborates.{number_of_clauses, number_of_parities};
 ghost use Rattle.fratx_elab.specs.Takes.{TakesLogStep, CanBePrinted, CountsOneMore};
 ghost use Rattle.fratx_elab.specs.declared.naming.TheConstants.{MAX_ID};
 
 use crate::delete::{delete_clause, delete_parity};
-use crate::originals::Counts;
+use crate::originals::{Counts, Originals};
 use crate::state::State;
 use crate::take::{
     take_clause, take_clause_of_parity, take_original, take_original_parity, take_parity,
@@ -43,10 +44,11 @@ pub fn take_step(
     alloc: Global,
     formula: &Formula,
     counts: Counts,
+    originals: &Originals,
     state: &mut State,
     step: &LogStep,
 ) -> Result<Option<ProofStep>, JudgeRefusal>
-    requires few { length formula.now.constraints < MAX_ID }
+    requires originals { StandsFor originals.now formula.now }
     requires clauses { counts.clauses ≡ number_of_clauses formula.now }
     requires parities { counts.parities ≡ number_of_parities formula.now }
     requires clause_room { state.old.clauses.last < MAX_ID }
@@ -56,9 +58,9 @@ pub fn take_step(
     ensures more { OnOk result (CountsOneMore state.old state.new) }
 {
     match step {
-        LogStep::Original(id, lits) => take_original(alloc, formula, state, *id, lits),
+        LogStep::Original(id, lits) => take_original(alloc, formula, originals, state, *id, lits),
         LogStep::OriginalParity(id, lits) => {
-            take_original_parity(alloc, formula, state, *id, lits)
+            take_original_parity(alloc, formula, originals, state, *id, lits)
         }
         LogStep::Clause(id, lits) => take_clause(alloc, formula, state, *id, lits, &[]),
         LogStep::ClauseWithHints(id, lits, hints) => {

@@ -3,12 +3,16 @@ ghost use Rattle.std.specs.Prelude.{◌≡◌, ◌≤◌, ◌<◌, ◌+◌, leng
 ghost use Rattle.cx_base.specs.Problem.{clauses_of, parities_of};
 ghost use Rattle.cx_semantics.specs.LogRules.{is_original, IsOriginalParity};
 ghost use Rattle.fratx_elab.specs.Elaborates.{IsClauseNumber, IsParityNumber, number_of_clauses, number_of_parities};
+ghost use Rattle.std.specs.Prelude.{OnOk};
+ghost use Rattle.cx_base.specs.Problem.{Problem};
+ghost use Rattle.fratx_elab.specs.Contents.{PutsFirst, StandsFor};
 ghost use Rattle.fratx_elab.specs.declared.naming.TheConstants.{MAX_ID};
 
 use crate::naming::{MAX_ID, ProofId};
 use cx_base::{ConstraintRef, Formula, Lit};
-use proof_rules::{have_same_form, have_same_literals};
+use proof_rules::{clause_content, parity_content};
 use std::alloc::{AllocError, Global};
+use std::collections::BTreeMap;
 
 /// How many clauses and how many parities were seen.
 #[derive(Clone, Copy, Drop)]
@@ -37,50 +41,69 @@ pub fn count_kinds(formula: &Formula) -> Counts
     counts
 }
 
-/// The least number of a clause of the formula with the same set of literals; none where it has no such clause.
-pub fn clause_number(
-    alloc: Global,
-    formula: &Formula,
-    lits: &[Lit],
-) -> Result<Option<ProofId>, AllocError>
-    requires { length formula.now.constraints < MAX_ID }
-    ensures { IfOk result (λ found. MatchOption found (IsFalse (is_original formula.now lits.now)) (IsClauseNumber formula.now lits.now)) }
-{
-    let mut number = 0;
-    for place in 0..formula.len() {
-        match formula.item(place) {
-            ConstraintRef::Clause(clause) => {
-                number += 1;
-                if have_same_literals(alloc, lits, clause)? {
-                    return Ok(Some(ProofId::new(number)));
-                }
-            }
-            ConstraintRef::Parity(_) => {}
-        }
-    }
-    Ok(None)
+/// The numbers of the formula's clauses and parities by what they say, each with the least where several say the same.
+#[derive(Drop)]
+pub struct Originals {
+    clauses: BTreeMap<Vec<u32>, ProofId>,
+    parities: BTreeMap<Vec<u32>, ProofId>,
 }
 
-/// The least number of a parity of the formula with the same normal form; none where it has no such parity.
-pub fn parity_number(
-    alloc: Global,
-    formula: &Formula,
-    lits: &[Lit],
-) -> Result<Option<ProofId>, AllocError>
-    requires { length formula.now.constraints < MAX_ID }
-    ensures { IfOk result (λ found. MatchOption found (¬ IsOriginalParity formula.now lits.now) (IsParityNumber formula.now lits.now)) }
+/// The number stands at this content from now on, if none stood there.
+fn put_first(
+    index: &mut BTreeMap<Vec<u32>, ProofId>,
+    content: Vec<u32>,
+    number: ProofId,
+) -> Result<(), AllocError>
+    ensures { OnOk result (PutsFirst (λ k. k.items) index.old index.new content number) }
 {
-    let mut number = 0;
-    for place in 0..formula.len() {
-        match formula.item(place) {
-            ConstraintRef::Parity(parity) => {
-                number += 1;
-                if have_same_form(alloc, parity, lits)? {
-                    return Ok(Some(ProofId::new(number)));
+    if !index.contains_key(&content) {
+        index.insert(content, number)?;
+    }
+    Ok(())
+}
+
+impl Originals {
+    /// Those of the formula.
+    pub fn of(alloc: Global, formula: &Formula) -> Result<Originals, AllocError>
+        requires { length formula.now.constraints < MAX_ID }
+        ensures { IfOk result (λ originals. StandsFor originals formula.now) }
+    {
+        let mut clauses = BTreeMap::new(alloc);
+        let mut parities = BTreeMap::new(alloc);
+        let mut counts = Counts {
+            clauses: 0,
+            parities: 0,
+        };
+        for place in 0..formula.len() {
+            match formula.item(place) {
+                ConstraintRef::Clause(clause) => {
+                    counts.clauses += 1;
+                    let content = clause_content(alloc, clause)?;
+                    put_first(&mut clauses, content, ProofId::new(counts.clauses))?;
+                }
+                ConstraintRef::Parity(parity) => {
+                    counts.parities += 1;
+                    let content = parity_content(alloc, parity)?;
+                    put_first(&mut parities, content, ProofId::new(counts.parities))?;
                 }
             }
-            ConstraintRef::Clause(_) => {}
         }
+        Ok(Originals { clauses, parities })
     }
-    Ok(None)
+
+    /// The least number of a clause of the formula with the same set of literals; none where it has no such clause.
+    pub fn clause_number(&self, alloc: Global, lits: &[Lit]) -> Result<Option<ProofId>, AllocError>
+        ensures { (formula : Problem) → StandsFor self.now formula → IfOk result (λ found. MatchOption found (IsFalse (is_original formula lits.now)) (IsClauseNumber formula lits.now)) }
+    {
+        let content = clause_content(alloc, lits)?;
+        Ok(self.clauses.get(&content).copied())
+    }
+
+    /// The least number of a parity of the formula with the same normal form; none where it has no such parity.
+    pub fn parity_number(&self, alloc: Global, lits: &[Lit]) -> Result<Option<ProofId>, AllocError>
+        ensures { (formula : Problem) → StandsFor self.now formula → IfOk result (λ found. MatchOption found (¬ IsOriginalParity formula lits.now) (IsParityNumber formula lits.now)) }
+    {
+        let content = parity_content(alloc, lits)?;
+        Ok(self.parities.get(&content).copied())
+    }
 }

@@ -6,12 +6,13 @@ ghost use Rattle.cx_semantics.specs.LogRules.{AreLive, HasChain, chained, derive
 ghost use Rattle.cx_semantics.specs.Tables.{named};
 ghost use Rattle.cx_semantics.specs.declared.steps.LogStep.TheVariants as step;
 ghost use Rattle.proof_rules.specs.Judges.{JudgesBy};
+ghost use Rattle.fratx_elab.specs.Contents.{StandsFor};
 ghost use Rattle.fratx_elab.specs.Names.{hints_for};
 ghost use Rattle.fratx_elab.specs.Takes.{TakesLogStep, Admits, GivesChain, CanBePrinted, CountsOneMore};
 ghost use Rattle.fratx_elab.specs.declared.naming.TheConstants.{MAX_ID};
 
 use crate::naming::Names;
-use crate::originals::{clause_number, parity_number};
+use crate::originals::Originals;
 use crate::state::State;
 use crate::steps::{clause_of_parity_step, clause_step, parity_of_clauses_step, parity_step};
 use cx_base::{Formula, IdList, IntList, LitList};
@@ -83,11 +84,12 @@ fn chain_of(
 pub fn take_original(
     alloc: Global,
     formula: &Formula,
+    originals: &Originals,
     state: &mut State,
     id: u64,
     lits: &IntList,
 ) -> Result<Option<ProofStep>, JudgeRefusal>
-    requires few { length formula.now.constraints < MAX_ID }
+    requires originals { StandsFor originals.now formula.now }
     ensures taken { TakesLogStep formula.now state.old (step.Original id lits.now) result state.new }
     ensures text { IfOk result CanBePrinted }
     ensures counts { OnOk result (CountsOneMore state.old state.new) }
@@ -96,7 +98,7 @@ pub fn take_original(
         Ok(target) => target,
         Err(why) => return Err(why),
     };
-    match clause_number(alloc, formula, target.as_slice())? {
+    match originals.clause_number(alloc, target.as_slice())? {
         Some(number) => {
             state.live.add_clause(id, target)?;
             state.clauses.put_original(id, number)?;
@@ -110,11 +112,12 @@ pub fn take_original(
 pub fn take_original_parity(
     alloc: Global,
     formula: &Formula,
+    originals: &Originals,
     state: &mut State,
     id: u64,
     lits: &IntList,
 ) -> Result<Option<ProofStep>, JudgeRefusal>
-    requires few { length formula.now.constraints < MAX_ID }
+    requires originals { StandsFor originals.now formula.now }
     ensures taken { TakesLogStep formula.now state.old (step.OriginalParity id lits.now) result state.new }
     ensures text { IfOk result CanBePrinted }
     ensures counts { OnOk result (CountsOneMore state.old state.new) }
@@ -123,7 +126,7 @@ pub fn take_original_parity(
         Ok(target) => target,
         Err(why) => return Err(why),
     };
-    match parity_number(alloc, formula, target.as_slice())? {
+    match originals.parity_number(alloc, target.as_slice())? {
         Some(number) => {
             state.live.add_parity(id, target)?;
             state.parities.put_original(id, number)?;

@@ -3,6 +3,7 @@ ghost use Rattle.std.specs.Prelude.{◌≡◌, ◌<◌, ◌≤◌, ◌^◌, ◌+
 ghost use Rattle.cx_semantics.specs.Grammar.{Ending};
 ghost use Rattle.cx_semantics.specs.declared.steps.LogStep.{LogStep};
 ghost use Rattle.cx_base.specs.Problem.{Problem};
+ghost use Rattle.fratx_elab.specs.Contents.{StandsFor};
 ghost use Rattle.fratx_elab.specs.Elaborates.{number_of_clauses, number_of_parities};
 ghost use Rattle.fratx_elab.specs.Outcomes.{IsElaborated, IsCutOff, HasCause, Kept, Turns, text_refused, step_refused, what_follows_of, WritesStand};
 ghost use Rattle.fratx_elab.specs.Takes.{CanBePrinted, CountsOneMore, TakesLogStep};
@@ -12,7 +13,7 @@ ghost use Rattle.proof_text.specs.Sinks.{SinkFaultsAs, HasFailedAs};
 use crate::ends::ElabEnds;
 use crate::naming::Names;
 use crate::one_step::{ends_log, take_step};
-use crate::originals::{Counts, count_kinds};
+use crate::originals::{Counts, Originals, count_kinds};
 use crate::outcome::{Elab, ElabFault};
 use crate::state::State;
 use cx_base::Formula;
@@ -92,11 +93,12 @@ fn take_next<E: ElabEnds>(
     alloc: Global,
     formula: &Formula,
     counts: Counts,
+    originals: &Originals,
     state: &mut State,
     ends: &mut E,
     steps: u64,
 ) -> Result<Option<Elab>, ElabFault>
-    requires few { length formula.now.constraints < 2 ^ 61 }
+    requires originals { StandsFor originals.now formula.now }
     requires clauses { counts.clauses ≡ number_of_clauses formula.now }
     requires parities { counts.parities ≡ number_of_parities formula.now }
     requires clause_room { state.old.clauses.last ≤ 2 ^ 61 + steps }
@@ -121,7 +123,7 @@ fn take_next<E: ElabEnds>(
         Ok(None) => return Ok(Some(Elab::Refused(steps + 1, Cause::NoEmptyClause))),
         Err(why) => return refused_text(why, steps + 1),
     };
-    let written = match take_step(alloc, formula, counts, state, &step) {
+    let written = match take_step(alloc, formula, counts, originals, state, &step) {
         Ok(written) => written,
         Err(why) => return refused_step(why, steps + 1),
     };
@@ -155,6 +157,10 @@ pub fn elaborate<E: ElabEnds>(
         return Err(ElabFault::Memory);
     }
     let counts = count_kinds(formula);
+    let originals = match Originals::of(alloc, formula) {
+        Ok(originals) => originals,
+        Err(_) => return Err(ElabFault::Memory),
+    };
     let mut state = State {
         live: Live::make(alloc),
         clauses: Names::new(alloc, counts.clauses),
@@ -162,7 +168,7 @@ pub fn elaborate<E: ElabEnds>(
     };
     let mut steps = 0;
     loop {
-        match take_next(alloc, formula, counts, &mut state, ends, steps) {
+        match take_next(alloc, formula, counts, &originals, &mut state, ends, steps) {
             Ok(None) => steps += 1,
             Ok(Some(elab)) => return Ok(elab),
             Err(fault) => return Err(fault),

@@ -1,5 +1,5 @@
 -- Clauses imply a parity where they exclude each assignment of the wrong sum.
-use Rattle.std.proofs.Common.{◌≡◌, refl, sym, ap, ◌∙◌, ℕ, suc, ◌*◌, ◌^◌, ◌%◌, ◌<◌, ◌≤◌, ℤ, nat_abs, Bool, true, false, not, ◌||◌, List, [], ◌∷◌, map, length, get_or, Some, None, nat_lt, lt-ltb, le-ltb, arith, inl, inr, true≢false}
+use Rattle.std.proofs.Common.{◌≡◌, refl, sym, ap, ◌∙◌, ℕ, suc, ◌*◌, ◌^◌, ◌%◌, ◌<◌, ◌≤◌, Bool, true, false, not, ◌||◌, List, [], ◌∷◌, map, length, get_or, Some, None, nat_lt, lt-ltb, le-ltb, arith, inl, inr, true≢false}
 use Rattle.std.specs.List.{list_any, cons_option}
 use Rattle.std.specs.FinSet as set
 use Rattle.std.specs.Ordering.{nat_cmp}

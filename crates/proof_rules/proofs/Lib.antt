@@ -6,3 +6,4 @@ pub mod ClauseValues
 pub mod ExclusionLaws
 pub mod ClausesParity
 pub mod StepIntegers
+pub mod ContentLaws

@@ -13,7 +13,7 @@ use Rattle.cx_semantics.proofs.ChainLaws.{are_one, same_literal-itself}
 pub tied_by_code : (q k : Literal) → is_eq (cmp-value.it q k) ≡ is_eq (nat_cmp (code_of q) (code_of k))
 tied_by_code q k = refl
 
-same_code : (q k : Literal) → nat_eq (code_of q) (code_of k) ≡ same_literal q k
+pub same_code : (q k : Literal) → nat_eq (code_of q) (code_of k) ≡ same_literal q k
 same_code q k = both_ways _ _
     (λ h. let e : q ≡ k = sym (literal_of_code-code_of q) ∙ ap literal_of_code (eqb-true (code_of q) (code_of k) h) ∙ literal_of_code-code_of k in subst (λ x. same_literal q x ≡ true) e (same_literal-itself q))
     (λ h. eq-eqb (code_of q) (code_of k) (ap code_of (are_one q k h)))

@@ -1,5 +1,5 @@
 -- Sums of normal forms: one literal and one parity at a time.
-use Rattle.std.proofs.Common.{◌≡◌, refl, sym, ap, ◌∙◌, ℕ, ℤ, nat_abs, Bool, true, false, cond, not, ◌||◌, nat_eq, eqb-true, is_eq, List, [], ◌∷◌, length, map, count_by, Some, None, Less, true≢false}
+use Rattle.std.proofs.Common.{◌≡◌, refl, sym, ap, ◌∙◌, ℕ, Bool, true, false, cond, not, ◌||◌, nat_eq, eqb-true, is_eq, List, [], ◌∷◌, length, map, count_by, Some, None, Less, true≢false}
 use Rattle.std.specs.List.{list_any, cons_option, AllByRecursion}
 use Rattle.std.specs.List.Sorted.{IsStrictlySortedBy}
 use Rattle.std.specs.Ordering.{nat_cmp, eq_by_cmp}

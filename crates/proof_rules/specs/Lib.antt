@@ -5,3 +5,4 @@ pub mod LiteralSets
 pub mod Ends
 pub mod Assignments
 pub mod Exclusions
+pub mod Contents

@@ -4,6 +4,7 @@
 mod added;
 mod chain;
 mod clauses_parity;
+mod content;
 mod hints;
 mod judge;
 mod literal_set;
@@ -17,6 +18,7 @@ mod sum;
 
 pub use added::{judge_added, literals_of};
 pub use chain::{LeftOf, left_of};
+pub use content::{clause_content, parity_content};
 pub use hints::ids_of;
 pub use judge::{judge_chain, judge_clause_of_parity, judge_parity_of_clauses, judge_sum};
 pub use literal_set::LiteralSet;

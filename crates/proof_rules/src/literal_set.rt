@@ -1,6 +1,10 @@
 //! Sets of literals.
 ghost use Rattle.std.specs.Prelude.{◌≡◌, [], ◌∷◌, OnOk, IfOk};
 ghost use Rattle.cx_semantics.specs.Chain.{has_literal, negations};
+ghost use Rattle.std.specs.Prelude.{map};
+ghost use Rattle.std.specs.List.Sorted.{IsStrictlySortedBy};
+ghost use Rattle.std.specs.Ordering.{nat_cmp};
+ghost use Rattle.cx_base.specs.Literals.{code_of};
 ghost use Rattle.proof_rules.specs.LiteralSets.{HaveSame, ArePositive};
 
 use cx_base::Lit;
@@ -71,5 +75,16 @@ impl LiteralSet {
     {
         self.lits.insert(lit)?;
         Ok(())
+    }
+    /// The codes of its literals, rising.
+    pub(crate) fn codes(&self, alloc: Global) -> Result<Vec<u32>, AllocError>
+        ensures codes { IfOk result (λ codes. codes.items ≡ map code_of self.now) }
+        ensures rising { IfOk result (λ codes. IsStrictlySortedBy nat_cmp codes.items) }
+    {
+        let mut codes = Vec::new(alloc);
+        for lit in &self.lits {
+            codes.push(lit.code() as u32)?;
+        }
+        Ok(codes)
     }
 }

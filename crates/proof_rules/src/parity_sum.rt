@@ -3,6 +3,7 @@ ghost use Rattle.std.specs.Prelude.{◌≡◌, OnOk, IfOk, IsTrue, ◌↔◌};
 ghost use Rattle.std.specs.FinSet as set;
 ghost use Rattle.cx_base.specs.Parity.{normal_form};
 ghost use Rattle.proof_rules.specs.Assignments.{Lists};
+ghost use Rattle.proof_rules.specs.Contents.{IsFormContent};
 ghost use Rattle.proof_rules.specs.Sums.{zero_sum, plus, flipped, turned};
 
 use cx_base::{Lit, Var};
@@ -22,6 +23,7 @@ pub(crate) struct ParitySum {
 impl Model for ParitySum {
     ghost use Rattle.std.specs.FinSet as set;
     ghost use Rattle.cx_base.specs.Parity.{NormalForm};
+    ghost use Rattle.proof_rules.specs.Contents.{IsFormContent};
     ghost use Rattle.proof_rules.specs.Sums.{form_code};
 
     ghost Value = { NormalForm };
@@ -112,6 +114,18 @@ impl ParitySum {
             list.push(*variable)?;
         }
         Ok(list)
+    }
+
+    /// The right side, 1 or 0, and then the numbers of the variables that are left, rising.
+    pub(crate) fn content(&self, alloc: Global) -> Result<Vec<u32>, AllocError>
+        ensures { IfOk result (λ content. IsFormContent self.now content.items) }
+    {
+        let mut content = Vec::new(alloc);
+        content.push(self.right_side as u32)?;
+        for variable in &self.variables {
+            content.push(variable.number())?;
+        }
+        Ok(content)
     }
 
     /// Whether nothing is left: no variable, and the right side 0.

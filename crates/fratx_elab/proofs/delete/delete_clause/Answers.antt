@@ -1,5 +1,4 @@
-use Rattle.std.proofs.Common.{◌≡◌, refl, sym, ap, ◌∙◌, ℕ, ◌≤◌, max, [], ◌∷◌, arith}
-use Rattle.cx_semantics.specs.declared.steps.ProofStep.TheVariants as step
+use Rattle.std.proofs.Common.{◌≡◌, refl, sym, ap, ◌∙◌, ℕ, max, arith}
 use Rattle.fratx_elab.specs.Elaborates.{deleted_id}
 use Rattle.fratx_elab.specs.Names.{stands_for}
 use Rattle.fratx_elab.proofs.Taking.{keeps_clause, deletes_clause}

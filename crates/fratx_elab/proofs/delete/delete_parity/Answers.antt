@@ -1,4 +1,4 @@
-use Rattle.std.proofs.Common.{◌≡◌, refl, sym, ap, ◌∙◌, ℕ, [], ◌∷◌}
+use Rattle.std.proofs.Common.{refl, sym, ap, ◌∙◌, ℕ}
 use Rattle.fratx_elab.specs.Elaborates.{deleted_id}
 use Rattle.fratx_elab.specs.Names.{stands_for}
 use Rattle.fratx_elab.proofs.Taking.{keeps_parity, deletes_parity}

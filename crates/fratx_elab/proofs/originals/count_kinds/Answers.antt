@@ -1,5 +1,4 @@
-use Rattle.std.proofs.Common.{◌≡◌, sym, ap, ◌∙◌, subst, ◌<◌, ◌+◌, List, length, take, arith}
-use Rattle.std.proofs.lemmas.List.{take_all}
+use Rattle.std.proofs.Common.{sym, ap, subst, ◌<◌, ◌+◌, List, length, take, arith}
 use Rattle.cx_base.specs.Literals.{Literal}
 use Rattle.cx_base.specs.Problem.{clauses_of, parities_of}
 use Rattle.fratx_elab.proofs.Numbers.{Passed, first_clauses, first_parities, clause_passed, parity_between, parity_passed, clause_between}

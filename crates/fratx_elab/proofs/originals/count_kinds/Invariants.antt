@@ -1,5 +1,4 @@
-use Rattle.std.proofs.Common.{◌≤◌, ◌+◌, ℕ, List, take}
-use Rattle.cx_base.specs.Literals.{Literal}
+use Rattle.std.proofs.Common.{◌≤◌, ◌+◌, take}
 use Rattle.cx_base.specs.Problem.{clauses_of, parities_of}
 use Rattle.fratx_elab.proofs.Numbers.{Passed}
 use Rattle.fratx_elab.proofs.originals.count_kinds.Given as goal

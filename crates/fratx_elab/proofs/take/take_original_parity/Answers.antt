@@ -1,4 +1,4 @@
-use Rattle.std.proofs.Common.{◌≡◌, refl, sym, ap, ◌∙◌, subst, ℕ, List, Option, MatchOption}
+use Rattle.std.proofs.Common.{refl, ap, ◌∙◌, subst, ℕ, List, Option, MatchOption}
 use Rattle.cx_base.specs.Literals.{Literal}
 use Rattle.cx_semantics.specs.Judging.{AllHold}
 use Rattle.cx_semantics.specs.LogRules.{IsOriginalParity}
@@ -17,6 +17,6 @@ returns-in_ok-put_original-in-Some-clause-taken c =
     let target = c.in-Ok.ensures.1 in
     let seen = c.as_slice.result.now in
     let P : Option ℕ → Type 0 = λ o. MatchOption o (¬ IsOriginalParity formula seen) (IsParityNumber formula seen) in
-    let number = subst P c.in-Some.is c.in_ok-number.ensures in
+    let number = subst P c.in-Some.is (c.in_ok-number.ensures formula c.requires.originals) in
     takes_original_parity formula c.args.state.now _ c.args.id k lits added (subst (λ (l : List Literal). IsParityNumber formula l k) (c.as_slice.ensures ∙ target) number)
     (c.in_ok-add_parity-in-Some.ensures.ok ∙ ap (put_parity c.args.state.now.live c.args.id) target) refl c.in_ok-put_original-in-Some.ensures

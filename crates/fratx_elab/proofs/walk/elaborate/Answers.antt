@@ -1,4 +1,4 @@
-use Rattle.std.proofs.Common.{◌≡◌, refl, sym, ap, ◌∙◌, subst, Option, Result, Err, ◌≤◌, ◌+◌, ◌^◌, arith}
+use Rattle.std.proofs.Common.{refl, ap, ◌∙◌, subst, Option, Result, Err, arith}
 use Rattle.fratx_elab.specs.Names.{Naming, first_naming}
 use Rattle.fratx_elab.specs.Outcomes.{Goes, WritesStand}
 use Rattle.fratx_elab.specs.declared.outcome.Elab.{Elab}
@@ -32,9 +32,12 @@ returns-in-Ok-Some-clause-judged g c =
     let P : Option Elab → Type 0 = Goes g.E.ElabEnds.leaves g.E.ElabEnds.steps g.E.ElabEnds.torn c.args.formula.now c.args.ends.now c.take_next.new.ends c.take_next.new.state c.loop-steps.steps in
     subst P c.in-Ok-Some.field-0-is (c.in-Ok-Some.ensures.turns c.args.ends.now c.loop-steps.invariant.kept)
 
-pub returns-in-Err-clause-writes : goal.returns-in-Err-clause-writes
-returns-in-Err-clause-writes g c =
-    subst (λ n. WritesStand (failed c.in-Err.fault) n (g.E.ElabEnds.write_faults c.take_next.new.ends)) c.loop-steps.invariant.writes c.in-Err.ensures.writes
+pub returns-in-Err-clause-cut_off : goal.returns-in-Err-clause-cut_off
+returns-in-Err-clause-cut_off g c = nothing_gained c.args.formula.now (g.E.ElabEnds.steps c.args.ends.now)
+
+pub returns-in-Err-take_next-clause-writes : goal.returns-in-Err-take_next-clause-writes
+returns-in-Err-take_next-clause-writes g c =
+    subst (λ n. WritesStand (failed c.in-Err-take_next.fault) n (g.E.ElabEnds.write_faults c.take_next.new.ends)) c.loop-steps.invariant.writes c.in-Err-take_next.ensures.writes
   where
     failed : ElabFault → Result Elab ElabFault
     failed fault = Err fault

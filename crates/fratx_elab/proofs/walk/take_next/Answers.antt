@@ -1,4 +1,4 @@
-use Rattle.std.proofs.Common.{◌≡◌, refl, sym, ap, ◌∙◌, subst, Option, Ok}
+use Rattle.std.proofs.Common.{refl, subst, Option, Ok}
 use Rattle.cx_semantics.specs.Grammar.{finished}
 use Rattle.cx_semantics.specs.declared.steps.LogStep.{LogStep}
 use Rattle.proof_text.specs.Sources.{Gives}

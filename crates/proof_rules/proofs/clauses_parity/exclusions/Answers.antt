@@ -1,4 +1,4 @@
-use Rattle.std.proofs.Common.{◌≡◌, sym, ap, ◌∙◌, subst, ◌+◌, ◌^◌, ◌<◌, ◌≤◌, ◌||◌, Bool, false, List, drop, length, get_or, replicate, nat_abs, pos, w64, rules, arith}
+use Rattle.std.proofs.Common.{◌≡◌, sym, ap, ◌∙◌, subst, ◌+◌, ◌^◌, ◌<◌, ◌≤◌, ◌||◌, Bool, false, List, drop, length, get_or, replicate, arith}
 use Rattle.std.proofs.lemmas.List.{drop_more, get_or-replicate, length-replicate, with_items_is}
 use Rattle.cx_semantics.specs.Tables.{named}
 use Rattle.proof_rules.specs.Exclusions.{Fits, excluded}

@@ -1,4 +1,4 @@
-use Rattle.std.proofs.Common.{sym, ap, ◌∙◌, ◌+◌, drop, get_or, nat_abs, pos, w64, rules}
+use Rattle.std.proofs.Common.{sym, ap, ◌∙◌, ◌+◌, drop, get_or}
 use Rattle.std.proofs.Math.ListN.{drop_of_length-le}
 use Rattle.std.proofs.lemmas.List.{drop_more}
 use Rattle.cx_semantics.specs.Tables.{named}

@@ -1,4 +1,4 @@
-use Rattle.std.proofs.Common.{◌≡◌, ◌∙◌, ap, sym, Some, ℕ, ◌+◌, cond, is_eq, nat_cmp, subst, Option}
+use Rattle.std.proofs.Common.{◌∙◌, ap, Some, ◌+◌, cond, is_eq, nat_cmp}
 use Rattle.fratx_elab.specs.Names.{Naming, name_next}
 use Rattle.fratx_elab.proofs.NameEntries.{look, ids-insert}
 use Rattle.fratx_elab.proofs.naming.Names.put_next.Goals as goal

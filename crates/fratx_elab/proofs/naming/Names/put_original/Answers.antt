@@ -1,4 +1,4 @@
-use Rattle.std.proofs.Common.{◌∙◌, ap, sym}
+use Rattle.std.proofs.Common.{◌∙◌, ap}
 use Rattle.fratx_elab.specs.Names.{name_original}
 use Rattle.fratx_elab.proofs.NameEntries.{ids-insert}
 use Rattle.fratx_elab.proofs.naming.Names.put_original.Goals as goal

@@ -1,4 +1,4 @@
-use Rattle.std.proofs.Common.{◌∙◌, ap, sym}
+use Rattle.std.proofs.Common.{◌∙◌, ap}
 use Rattle.fratx_elab.specs.Names.{drop_name}
 use Rattle.fratx_elab.proofs.NameEntries.{ids-remove}
 use Rattle.fratx_elab.proofs.naming.Names.remove.Goals as goal
