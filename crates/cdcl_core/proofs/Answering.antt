@@ -1,0 +1,109 @@
+-- What the logs of the search's answers are.
+use Rattle.std.proofs.Common.{◌≡◌, refl, sym, ap, ◌∙◌, subst, ℕ, suc, ◌+◌, ◌<◌, ◌≤◌, false, List, [], ◌∷◌, length, Bool, Some, None, Option, Result, Ok, Err, IfOk, OnOk, inl, inr, arith}
+use Rattle.std.specs.List.{range_with_len}
+use Rattle.cx_base.specs.Literals.{Literal}
+use Rattle.cx_base.specs.Problem.{Problem, parities_of}
+use Rattle.cx_semantics.specs.declared.steps.LogStep.{LogStep}
+use Rattle.cx_semantics.specs.declared.steps.LogEvent.{LogEvent}
+use Rattle.cx_semantics.specs.Integers.{integers_of}
+use Rattle.cx_semantics.specs.Marked.{Marked}
+use Rattle.conflict_learn.specs.declared.fault.CoreFault.{CoreFault}
+use Rattle.gauss_jordan.specs.State.{State}
+use Rattle.search_steps.specs.Search.{Search, IsSearch}
+use Rattle.search_steps.specs.LogSteps.{after_round}
+use Rattle.search_steps.specs.Holding.{AreTold}
+use Rattle.search_steps.proofs.EndLaws.{is_marked, is_log_open}
+use Rattle.cdcl_core.specs.declared.kept.Kept.{Kept}
+use Rattle.cdcl_core.specs.declared.solving.Outcome.{Outcome}
+use Rattle.cdcl_core.specs.declared.solving.Outcome.TheVariants.{Sat, Unsat, Unknown}
+use Rattle.cdcl_core.specs.Concluding.{IsEndedWith, EndsLog}
+use Rattle.cdcl_core.specs.Learning.{Learns}
+use Rattle.cdcl_core.specs.Results.{IsOpenWith, IsOpenWithin, IsEndedWithin, Refutes, Satisfies, UsesUp, Answers, HasNoMark, IsSettledBy}
+use Rattle.cdcl_core.specs.Tells.{IsLeft, GivesUp, TellsAll, as_events, with_events}
+use Rattle.cdcl_core.specs.Ties.{Stands}
+use Rattle.cx_trail.specs.Sequence.{TrailState}
+use Rattle.cdcl_core.specs.Finds.{Finds, HasAll}
+use Rattle.cdcl_core.specs.Units.{HasOther}
+use Rattle.cdcl_core.specs.declared.propagation.Found.{Found}
+use Rattle.cdcl_core.specs.declared.propagation.Found.TheVariants as found
+use Rattle.cdcl_core.proofs.Entering.{round_is_search, conflicts_then, tidy}
+use Rattle.cdcl_core.proofs.Events.{gives_up}
+
+-- ---- open logs
+search_is_open : (formula : Problem) (s : Search) (n : ℕ) (told : Option (List LogEvent)) → IsSearch formula (parities_of formula.constraints) s → s.moment.awaits ≡ false → s.conflicts ≡ n → AreTold told s.events → IsOpenWith formula n told
+search_is_open formula s n None ok served count a = tt
+search_is_open formula s n (Some es) ok served count a = subst (λ xs. IsOpenWith formula n (Some xs)) (sym a)
+    (is_log_open formula (parities_of formula.constraints) s ok served, subst (Marked formula s.events) count (is_marked formula (parities_of formula.constraints) s ok served))
+
+-- between two conflicts the log is open, with a mark for each counted one
+pub log_is_open : (formula : Problem) (c : Kept) (e : State) (rows : List (List Literal)) (told : Option (List LogEvent)) → Stands formula c e rows told → IsOpenWith formula c.conflicts told
+log_is_open formula c e rows told (s, ok, a, t) = search_is_open formula s c.conflicts told ok t.served.served t.conflicts a
+
+-- behind a learned clause it is open, with one mark more
+pub learned_log_is_open : (formula : Problem) (c : Kept) (e : State) (lits : List Literal) (back : ℕ) (told : Option (List LogEvent)) → Learns formula c e lits back told → IsOpenWith formula (c.conflicts + 1) told
+learned_log_is_open formula c e lits back told l = search_is_open formula (after_round l.search c.next (integers_of lits) l.hints back l.taught.first) (c.conflicts + 1) told
+    (round_is_search formula c e lits back l.search l.taught l.hints) (tidy formula c e lits back l.search l.taught l.hints).served (conflicts_then formula c e lits back l.search l.taught l.hints) l.told_is
+
+open_is_left : (formula : Problem) (n : ℕ) (told : Option (List LogEvent)) → IsOpenWith formula n told → IsLeft formula told
+open_is_left formula n None h = tt
+open_is_left formula n (Some es) h = inl h.0
+
+pub stands_is_left : (formula : Problem) (c : Kept) (e : State) (rows : List (List Literal)) (told : Option (List LogEvent)) → Stands formula c e rows told → IsLeft formula told
+stands_is_left formula c e rows told st = open_is_left formula c.conflicts told (log_is_open formula c e rows told st)
+
+pub learned_is_left : (formula : Problem) (c : Kept) (e : State) (lits : List Literal) (back : ℕ) (told : Option (List LogEvent)) → Learns formula c e lits back told → IsLeft formula told
+learned_is_left formula c e lits back told l = open_is_left formula (c.conflicts + 1) told (learned_log_is_open formula c e lits back told l)
+
+-- ---- ended logs
+ended_within : (formula : Problem) (marks : ℕ) (told : Option (List LogEvent)) → IsEndedWith formula marks told → IsEndedWithin formula (marks + 1) told
+ended_within formula marks None h = tt
+ended_within formula marks (Some es) (e, m) = (e, (marks, omega arith, m))
+
+pub end_refutes : (formula : Problem) (marks : ℕ) (steps : List LogStep) (old new : Option (List LogEvent)) → EndsLog formula marks old steps → new ≡ with_events (as_events steps) old → Refutes formula (marks + 1) new
+end_refutes formula marks steps old new x is = record {
+  unmet = x.unmet;
+  log = subst (IsEndedWithin formula (marks + 1)) (sym is) (ended_within formula marks (with_events (as_events steps) old) x.log);
+}
+
+more_within : (formula : Problem) (a b : ℕ) (told : Option (List LogEvent)) → a ≤ b → IsEndedWithin formula a told → IsEndedWithin formula b told
+more_within formula a b None less h = tt
+more_within formula a b (Some es) less (e, (n, fewer, m)) = (e, (n, omega (arith, fewer, less), m))
+
+pub refutes_within : (formula : Problem) (a b : ℕ) (told : Option (List LogEvent)) → a ≤ b → Refutes formula a told → Refutes formula b told
+refutes_within formula a b told less x = record { unmet = x.unmet; log = more_within formula a b told less x.log }
+
+-- ---- settled formulas
+no_marks : (formula : Problem) (es : List LogEvent) (n : ℕ) → n < 1 → Marked formula es n → HasNoMark (Some es)
+no_marks formula es n fewer m = let none : n ≡ 0 = omega (arith, fewer) in m.marks ∙ ap (range_with_len 1) none
+
+pub settled_has_no_mark : (formula : Problem) (told : Option (List LogEvent)) (a : Outcome) → IsSettledBy formula 1 told a → HasNoMark told
+settled_has_no_mark formula None a h = tt
+settled_has_no_mark formula (Some es) (Sat values) h = let log = h.0.log in no_marks formula es log.0 log.1 log.2.1
+settled_has_no_mark formula (Some es) Unsat h = let log = h.0.log in no_marks formula es log.1.0 log.1.1 log.1.2
+settled_has_no_mark formula (Some es) (Unknown n) h = absurd (h.1 n refl)
+
+-- ---- an end that was not told whole
+length_of : (steps : List LogStep) → length (as_events steps) ≡ length steps
+length_of [] = refl
+length_of (s ∷ steps) = ap suc (length_of steps)
+
+pub end_gives_up : (formula : Problem) (torn : LogEvent → Type 0) (marks : ℕ) (steps : List LogStep) (old new : Option (List LogEvent)) (fault : CoreFault) → EndsLog formula marks old steps
+    → TellsAll {T = Unit {0}} torn (as_events steps) old (Err fault) new → GivesUp formula torn new fault
+end_gives_up formula torn marks steps old new fault x tells = gives_up formula torn (as_events steps) old new fault tells (λ i less. x.fronts i (let n = length_of steps in omega (arith, less, n)))
+
+-- ---- unit clauses change nothing that propagation found
+has_all_still : (old new : Kept) → HasOther old new → HasAll old → HasAll new
+has_all_still old new same h = same.given ∙ h ∙ ap (λ (t : TrailState). length t.entries) (sym same.trail)
+
+pub finds_still : (old new : Kept) (e : State) (f : Found) → HasOther old new → Finds old e f → Finds new e f
+finds_still old new e found.Quiet same h = (rw (same.watches, same.arena, same.trail) h.0, has_all_still old new same h.1, h.2, h.3)
+finds_still old new e (found.Clause r) same h = (rw same.watches h.0, rw (same.arena, same.trail) h.1, h.2)
+finds_still old new e (found.Row row) same h = (has_all_still old new same h.0, h.1)
+
+-- ---- settled answers
+pub values_are_known : (values : List Bool) (n : ℕ) → Sat values ≡ Unknown n → ⊥
+values_are_known values n is = cc
+
+pub settled_answer_has_no_mark : (formula : Problem) (told : Option (List LogEvent)) (r : Result Outcome CoreFault) → IfOk r (λ a. IsSettledBy formula 1 told a) → OnOk r (HasNoMark told)
+settled_answer_has_no_mark formula told (Ok a) h = settled_has_no_mark formula told a h
+settled_answer_has_no_mark formula told (Err fault) h = tt

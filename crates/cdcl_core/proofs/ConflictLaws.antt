@@ -1,0 +1,117 @@
+-- The row of a contradiction explains a conflict, and what a conflict comes to.
+use Rattle.std.proofs.Common.{◌≡◌, sym, ap, ◌∙◌, subst, ℕ, suc, ◌+◌, ◌<◌, Bool, true, eqb-true, List, [], ◌∷◌, length, take, Contains, Option, None, is_some, arith, inl, inr}
+use Rattle.std.specs.Prelude.{IsSome, ◌==◌}
+use Rattle.std.specs.List.{AllByRecursion}
+use Rattle.cx_base.specs.Literals.{Literal}
+use Rattle.cx_base.specs.Problem.{Problem, parities_of}
+use Rattle.cx_semantics.specs.Chain.{has_literal}
+use Rattle.cx_semantics.specs.Integers.{integers_of, literals}
+use Rattle.cx_semantics.specs.Printed.{HasText}
+use Rattle.cx_semantics.specs.ProofRules.{is_empty}
+use Rattle.cx_semantics.specs.declared.steps.LogStep.{LogStep}
+use Rattle.cx_semantics.specs.declared.steps.LogStep.TheVariants.{Parity, ClauseOfParity}
+use Rattle.cx_semantics.specs.declared.steps.LogEvent.{LogEvent}
+use Rattle.cx_semantics.specs.declared.steps.LogEvent.TheVariants.{Step}
+use Rattle.clause_arena.specs.Clauses.{IsLive, literals_at}
+use Rattle.gauss_jordan.specs.State.{State, named_at, OfNamed, AreRising}
+use Rattle.gf2_matrix.specs.Equations.{sum_of_numbers}
+use Rattle.gf2_matrix.specs.Written.{IsWritten}
+use Rattle.watch_lists.specs.Truths.{IsFalsified}
+use Rattle.xor_reason.specs.Laws.{StandsOn}
+use Rattle.xor_reason.specs.ReasonClause.{AreAssigned, IsReasonFor, IsReasonClause}
+use Rattle.xor_reason.specs.declared.reason.ReasonOf.{ReasonOf}
+use Rattle.xor_reason.proofs.EventLaws.{broken_is_missed}
+use Rattle.search_steps.specs.Tied.{IsTied}
+use Rattle.search_steps.proofs.EngineLaws.{known_is_true}
+use Rattle.search_steps.proofs.Stored.{of_has}
+use Rattle.cdcl_core.specs.declared.kept.Kept.{Kept}
+use Rattle.cdcl_core.specs.declared.conflicts.Conclusion.TheVariants.{Clause}
+use Rattle.cdcl_core.specs.declared.conflicts.Conflict.{Conflict}
+use Rattle.cdcl_core.specs.Concluding.{Concludes, EndsLog, IsEndedWith}
+use Rattle.cdcl_core.specs.Explaining.{Explains}
+use Rattle.cdcl_core.specs.declared.propagation.Found.{Found}
+use Rattle.cdcl_core.specs.declared.propagation.Found.TheVariants as found
+use Rattle.cdcl_core.specs.Finds.{Finds, IsClash}
+use Rattle.cdcl_core.specs.Tells.{IsLeft, as_events, with_events}
+use Rattle.cdcl_core.specs.Ties.{Stands, first_row_id}
+use Rattle.cdcl_core.proofs.RowReasons.{some_of}
+use Rattle.cdcl_core.proofs.RowSteps.{two_are_unmet, two_end, two_fronts}
+
+module _ (formula : Problem) (c : Kept) (e : State) (told : Option (List LogEvent)) (st : Stands formula c e [] told) where
+  stands_on : StandsOn e c.trail
+  stands_on l h =
+      let fed = st.3.fed in
+      known_is_true e fed.older fed.values fed.newer c.trail.entries (subst (λ es. IsTied es c.trail.entries) fed.parts st.3.follows.tied) l h
+
+  -- a stored clause that is falsified
+  pub stored_concludes : (r : ℕ) → IsLive c.arena r → IsFalsified c.trail.entries (literals_at c.arena r) → (k : Conflict) → k.lits ≡ literals_at c.arena r → k.rows.items ≡ [] → Concludes formula c e told (Clause k)
+  stored_concludes r live falsified k are none = (
+    subst (λ rows. Stands formula c e rows told) (sym none) st,
+    record { sourced = inl (r, live, are); all_false = λ m h. falsified m (of_has (literals_at c.arena r) m (ap (λ ls. has_literal ls m) (sym are) ∙ h)) },
+  )
+
+  module _ (row : ℕ) (clash : IsClash e row) where
+    pub clash_is_named : IsSome (named_at e row)
+    clash_is_named = ap is_some clash.1
+
+    pub clash_assigned : OfNamed e row (λ n. AreAssigned c.trail n.form)
+    clash_assigned n is = subst (λ m. AreAssigned c.trail m.form) (some_of clash.0 n (sym clash.1 ∙ is)) (broken_is_missed e c.trail clash.0.form stands_on clash.3).0
+
+    pub clash_is_reason : OfNamed e row (λ n. IsReasonFor c.trail None n.form)
+    clash_is_reason n is = subst (λ m. IsReasonFor c.trail None m.form) (some_of clash.0 n (sym clash.1 ∙ is)) (broken_is_missed e c.trail clash.0.form stands_on clash.3).1
+
+    module _ (reason : ReasonOf) (written : OfNamed e row (λ n. IsWritten n.form reason.parity)) (numbers : AreRising 1 (length e.parities) reason.sources)
+        (sums : OfNamed e row (λ n. n.form ≡ sum_of_numbers e.parities reason.sources)) (clause : OfNamed e row (λ n. IsReasonClause c.trail None n.form reason.parity reason.clause)) where
+      abbrev theirs : List (List Literal)
+      theirs = parities_of formula.constraints
+
+      is_clause : IsReasonClause c.trail None clash.0.form reason.parity reason.clause
+      is_clause = clause clash.0 clash.1
+
+      pub clash_numbers : AreRising 1 (length theirs) reason.sources
+      clash_numbers = subst (λ ps. AreRising 1 (length ps) reason.sources) st.3.engine.parities numbers
+
+      pub clash_explains : Explains theirs c.trail reason
+      clash_explains = record {
+        form = clash.0.form;
+        written = written clash.0 clash.1;
+        numbers = clash_numbers;
+        sums = sums clash.0 clash.1 ∙ ap (λ ps. sum_of_numbers ps reason.sources) st.3.engine.parities;
+        one_of_each = is_clause.one_of_each;
+        follows = is_clause.follows;
+        assigned = clash_assigned clash.0 clash.1;
+      }
+
+      pub row_concludes : (new : Option (List LogEvent)) (k : Conflict) → k.lits ≡ reason.clause → k.rows.items ≡ reason.clause ∷ [] → Stands formula c e (reason.clause ∷ []) new → Concludes formula c e new (Clause k)
+      row_concludes new k are rows stands = (
+        subst (λ xs. Stands formula c e xs new) (sym rows) stands,
+        record {
+          sourced = inr (inr (subst (λ xs. Contains xs k.lits) (sym rows) (0, omega arith, sym are)));
+          all_false = λ m h. is_clause.are_false m (ap (λ ls. has_literal ls m) (sym are) ∙ h);
+        },
+      )
+
+      -- the steps of a row without variables
+      pub ends_log : literals (integers_of reason.parity) ≡ reason.parity → literals (integers_of reason.clause) ≡ reason.clause → reason.clause ≡ [] → (steps : List LogStep)
+          → steps ≡ Parity (length formula.constraints + 1) (integers_of reason.parity) reason.sources ∷ ClauseOfParity first_row_id (integers_of reason.clause) (length formula.constraints + 1) ∷ []
+          → AllByRecursion (λ s. HasText (Step s)) steps → EndsLog formula c.conflicts told steps
+      ends_log back_parity back_clause none steps are texts =
+          let empty : is_empty (integers_of reason.clause) ≡ true = ap (λ ls. is_empty (integers_of ls)) none in
+          record {
+            texts = texts;
+            unmet = two_are_unmet formula c e [] st.0 st.1 st.3 reason clash_explains back_parity back_clause empty;
+            log = subst (λ xs. IsEndedWith formula c.conflicts (with_events (as_events xs) told)) (sym are)
+                (two_end formula c e [] st.0 st.1 st.3 reason clash_explains back_parity back_clause empty told st.2);
+            fronts = λ i less. subst (λ xs. IsLeft formula (with_events (take i (as_events xs)) told)) (sym are)
+                (two_fronts formula c e [] st.0 st.1 st.3 reason clash_explains back_parity back_clause empty told st.2 i (subst (λ xs. i < length xs) are less));
+          }
+
+pub found_concludes : (formula : Problem) (c : Kept) (e : State) (told : Option (List LogEvent)) → Stands formula c e [] told → (what : Found) (r : ℕ) → what ≡ found.Clause r → Finds c e what
+    → (k : Conflict) → k.lits ≡ literals_at c.arena r → k.rows.items ≡ [] → Concludes formula c e told (Clause k)
+found_concludes formula c e told st what r is finds k are none =
+    let f = subst (Finds c e) is finds in
+    stored_concludes formula c e told st r (st.3.fits.nodes.live r f.0) f.1 k are none
+
+pub is_empty_list : (lits seen : List Literal) (b : Bool) → seen ≡ lits → b ≡ (length seen == 0) → b ≡ true → lits ≡ []
+is_empty_list lits [] b same is t = sym same
+is_empty_list lits (x ∷ xs) b same is t = absurd (let long : suc (length xs) ≡ 0 = eqb-true (suc (length xs)) 0 (sym is ∙ t) in omega (arith, long))

@@ -1,0 +1,289 @@
+-- A learned clause is entered: a clause of several literals, and one of a single literal.
+use Rattle.std.proofs.Common.{◌≡◌, ◌≢◌, refl, sym, ap, ◌∙◌, subst, ℕ, zero, suc, ◌+◌, ◌-◌, ◌<◌, ◌≤◌, ◌^◌, ℤ, Bool, true, false, cond, nat_eq, nat_le, nat_lt, is_some, eq-eqb, List, [], ◌∷◌, ◌++◌, length, take, get_or, map, Some, None, Option, ◌⊎◌, inl, inr, arith, length-append, Contains, true≢false}
+use Rattle.std.proofs.lemmas.Bool.{eqb-false, ltb-true, ltb-false}
+use Rattle.std.proofs.lemmas.List.{take-append-le, get_or_append_left}
+use Rattle.std.specs.FinMap as map_
+use Rattle.std.specs.Prelude.{IsTrue}
+use Rattle.std.specs.FinSet as set
+use Rattle.cx_base.specs.Literals.{Literal, negate, literal_true}
+use Rattle.cx_base.specs.Problem.{Problem, parities_of, AreWithin}
+use Rattle.cx_semantics.specs.declared.steps.LogStep.TheVariants.{ClauseWithHints, Delete}
+use Rattle.cx_semantics.specs.declared.steps.LogEvent.TheVariants.{Step}
+use Rattle.cx_semantics.specs.Chain.{has_literal, same_literals}
+use Rattle.cx_semantics.specs.Integers.{literals, integers_of}
+use Rattle.cx_semantics.specs.LogRules.{derives_empty_clause}
+use Rattle.cx_semantics.specs.Marked.{is_among}
+use Rattle.cx_semantics.specs.Tables.{Table, get}
+use Rattle.cx_semantics.proofs.Lookups.{Looks-insert}
+use Rattle.cx_trail.specs.declared.entry.Entry.{Entry as TrailEntry}
+use Rattle.cx_trail.specs.declared.entry.Reason.{Reason}
+use Rattle.cx_trail.specs.declared.entry.Reason.TheVariants as why
+use Rattle.cx_trail.specs.Sequence.{TrailState, TakesBack, entry_at, pushed, IsOpenIn, IsTrueIn, IsAssignedIn}
+use Rattle.clause_arena.specs.Clauses.{Stored, IsLive, clause_at, literals_in, literals_at, id_in, id_at}
+use Rattle.watch_lists.specs.Truths.{AreOthersFalse}
+use Rattle.watch_lists.specs.Watching.{Fits, IsAttached}
+use Rattle.search_policy.specs.Standing.{OrderState, AllStand}
+use Rattle.search_steps.specs.Trail.{Entry, by_clause, held, back_to, level_of}
+use Rattle.search_steps.specs.Quiet.{IsOfParities, HasTrue}
+use Rattle.search_steps.specs.Search.{Search, IsSearch, IsServed as Served, IsTidy, IsLearnedOf, jumped, told, marked}
+use Rattle.search_steps.specs.LogSteps.{IsAddition, deleted, after_learned, after_round}
+use Rattle.search_steps.specs.Tied.{IsTied, Mirrors}
+use Rattle.search_steps.specs.Ids.{IsRanged}
+use Rattle.search_steps.proofs.TrailLaws.{back_level}
+use Rattle.search_steps.proofs.Rounds.{deleted_trail, deleted_get}
+use Rattle.search_steps.proofs.RoundEnds.{round_is_tidy, round_stays_tied}
+use Rattle.search_steps.proofs.IdLaws.{ranged_round_keeps, round_ranged, next_is_free, low_is_no_row}
+use Rattle.search_steps.proofs.StartLaws.{variables_are_within}
+use Rattle.search_steps.proofs.Sets.{by_cases, has_behind, has_at_head}
+use Rattle.watch_lists.proofs.EventLaws.{fits_pushed}
+use Rattle.search_steps.proofs.Bridge.{entry_last}
+use Rattle.conflict_learn.specs.Learning.{negated_at, literal_at}
+use Rattle.gauss_jordan.specs.State.{State}
+use Rattle.cdcl_core.specs.declared.kept.Kept.{Kept}
+use Rattle.cdcl_core.specs.Ties.{first_row_id, IsNamedBy, AreClauses, AreNumbered, AreUnits, IsFed, HasReasonAt, HaveReasons, Ties}
+use Rattle.cdcl_core.specs.Entering.{IsPut, EntersUnit, EntersClause}
+use Rattle.cdcl_core.proofs.Places.{entry_at_front, tied_length}
+use Rattle.cdcl_core.specs.Learning.{ArePlaced, IsTaught, Learns}
+use Rattle.cdcl_core.proofs.Entering.{trail_is, get_new, named_then, was, within}
+use Rattle.cdcl_core.proofs.Entered.{true_more, kept_at, new_at, old_or_new, length_D, same_entry, same_take, last_entry, place, level_D, reason_stays, ties_entered, unit_stays}
+use Rattle.search_steps.specs.LogSteps.{RestOnClauses}
+use Rattle.cx_semantics.proofs.ChainLaws.{and_both}
+use Rattle.cx_semantics.proofs.Closure.{inside_itself}
+use Rattle.cdcl_core.specs.Ties.{IsStored, IsClauseReason, IsCovered}
+use Rattle.std.proofs.lemmas.List.{get_or_append_left}
+
+id_front : (xs : List ℕ) (y i : ℕ) → i < length xs → get_or (xs ++ y ∷ []) i 0 ≡ get_or xs i 0
+id_front [] y i h = absurd (omega (arith, h))
+id_front (x ∷ xs) y zero h = refl
+id_front (x ∷ xs) y (suc i) h = id_front xs y i (omega (arith, h))
+
+id_last : (xs : List ℕ) (y : ℕ) → get_or (xs ++ y ∷ []) (length xs) 0 ≡ y
+id_last [] y = refl
+id_last (x ∷ xs) y = id_last xs y
+
+same_itself : (lits : List Literal) → same_literals lits lits ≡ true
+same_itself lits = and_both _ _ (inside_itself lits) (inside_itself lits)
+
+module _ (formula : Problem) (c : Kept) (e : State) (lits : List Literal) (back : ℕ) (s : Search) (taught : IsTaught formula c e lits back s) (hints : List ℤ)
+    (c1 : Kept) (e1 : State) (t1 : Ties formula c1 e1 taught.rows (jumped s back)) (takes : TakesBack back c.trail c1.trail)
+    (o : OrderState) (stands : AllStand o c1.trail) (D : Kept) where
+  abbrev l : Literal
+  l = taught.first
+
+  abbrev after : Search
+  after = after_round s c.next (integers_of lits) hints back taught.first
+
+  abbrev new : Entry
+  new = record { literal = taught.first; level = level_of (back_to back s.trail); why = by_clause c.next }
+
+  true_then : (clause : List Literal) → HasTrue (held 0 (back_to back s.trail)) clause → HasTrue (held 0 after.trail) clause
+  true_then clause h = subst (λ es. HasTrue (held 0 es) clause) (sym (trail_is formula c e lits back s taught hints)) (true_more new (back_to back s.trail) clause h)
+
+  -- ---- several literals
+  module _ (lbd : ℕ) (enters : EntersClause (record c1 { order = o; next = c.next + 1; conflicts = c.conflicts + 1 }) D lits taught.first c.next lbd) where
+    abbrev reason : Reason
+    reason = why.Clause (length c1.arena.clauses)
+
+    abbrev stored : Stored
+    stored = record { literals = lits; id = c.next; lbd = lbd; learned = true }
+
+    clause_kept : (r : ℕ) → IsLive c1.arena r → clause_at D.arena r ≡ clause_at c1.arena r
+    clause_kept r live = ap (λ xs. get_or xs r None) enters.added ∙ kept_at c1.arena.clauses (Some stored) r live
+
+    clause_new : clause_at D.arena (length c1.arena.clauses) ≡ Some stored
+    clause_new = ap (λ xs. get_or xs (length c1.arena.clauses) None) enters.added ∙ new_at c1.arena.clauses (Some stored)
+
+    attached_still : (r : ℕ) → IsAttached c1.watches.attached r → IsAttached D.watches.attached r
+    attached_still r a = by_cases (nat_eq r (length c1.arena.clauses))
+        (λ q. subst (IsAttached D.watches.attached) (sym (Rattle.std.proofs.Common.eqb-true r (length c1.arena.clauses) q)) enters.attached)
+        (λ q. enters.others r (eqb-false r (length c1.arena.clauses) q) ∙ a)
+
+    stored_then : (r : ℕ) → IsLive D.arena r → IsStored after.moment.tables.clauses D r
+    stored_then r live = elim (old_or_new c1.arena.clauses (Some stored) r (sym (ap (λ xs. is_some (get_or xs r None)) enters.added) ∙ live)) [
+      | inl old ↦
+          let st = t1.clauses.stored r old in
+          let same = clause_kept r old in
+          record {
+            attached = attached_still r st.attached;
+            named = subst (λ x. IsNamedBy after.moment.tables.clauses (literals_in x) (id_in x)) (sym same) (named_then formula c e lits back s taught hints (literals_at c1.arena r) (id_at c1.arena r) st.low st.named);
+            low = subst (λ x. id_in x < first_row_id) (sym same) st.low;
+          }
+      | inr is ↦
+          let same : clause_at D.arena r ≡ Some stored = ap (clause_at D.arena) is ∙ clause_new in
+          record {
+            attached = subst (IsAttached D.watches.attached) (sym is) enters.attached;
+            named = subst (λ x. IsNamedBy after.moment.tables.clauses (literals_in x) (id_in x)) (sym same) (record { clause = lits; live = get_new formula c e lits back s taught hints; same = same_itself lits });
+            low = subst (λ x. id_in x < first_row_id) (sym same) taught.room;
+          }
+    ]
+
+    covered_then : (m : ℕ) (clause : List Literal) → m < first_row_id → get after.moment.tables.clauses m ≡ Some clause → IsCovered D after.trail clause
+    covered_then m clause low live = elim (was formula c e lits back s taught hints m clause low live) [
+      | inl is ↦ inl (length c1.arena.clauses, enters.attached, ap (λ x. same_literals (literals_in x) clause) clause_new ∙ ap (same_literals lits) is ∙ same_itself lits)
+      | inr old ↦ elim (t1.clauses.covered m clause low old) [
+        | inl (r, attached, same) ↦ inl (r, attached_still r attached, ap (λ x. same_literals (literals_in x) clause) (clause_kept r (t1.fits.nodes.live r attached)) ∙ same)
+        | inr (inl taut) ↦ inr (inl taut)
+        | inr (inr held_one) ↦ inr (inr (true_then clause held_one))
+      ]
+    ]
+
+    units_then : AreUnits after.moment.tables.clauses D.trail after.trail D.units.items
+    units_then =
+        let put = enters.put in
+        let count = ap length enters.units in
+        let few = t1.units.few in
+        let long = length_D formula c e lits back s taught hints c1 e1 t1 takes o stands D reason put in
+        record {
+          few = omega (arith, count, few, long);
+          level_0 = λ i h. (unit_stays formula c e lits back s taught hints c1 e1 t1 takes o stands D reason put D.units.items enters.units i h).0;
+          named = λ i h. (unit_stays formula c e lits back s taught hints c1 e1 t1 takes o stands D reason put D.units.items enters.units i h).1;
+          low = λ i h. subst (λ us. get_or us i 0 < first_row_id) (sym enters.units) (t1.units.low i (omega (arith, count, h)));
+          newer = new ∷ t1.units.newer;
+          older = t1.units.older;
+          parts = (let then : List Entry → List Entry = λ es. new ∷ es in trail_is formula c e lits back s taught hints ∙ ap then t1.units.parts);
+          count = t1.units.count ∙ sym count;
+          rest = t1.units.rest;
+          all = λ above i far h. elim (place formula c e lits back s taught hints c1 e1 t1 takes o stands D reason put i h) [
+            | inl less ↦
+                let at : D.trail.level ≡ back = level_D formula c e lits back s taught hints c1 e1 t1 takes o stands D reason put in
+                let was_at = takes.level in
+                subst (λ x. 0 < x.level) (same_entry formula c e lits back s taught hints c1 e1 t1 takes o stands D reason put i less)
+                (t1.units.all (omega (arith, above, at, was_at)) i (omega (arith, far, count)) less)
+            | inr is ↦
+                let at : D.trail.level ≡ back = level_D formula c e lits back s taught hints c1 e1 t1 takes o stands D reason put in
+                subst (λ x. 0 < x.level) (sym (last_entry formula c e lits back s taught hints c1 e1 t1 takes o stands D reason put i is)) (let high : 0 < back = omega (arith, above, at) in high)
+          ];
+        }
+
+    others_false : AreOthersFalse c1.trail.entries lits l → IsClauseReason D (length c1.trail.entries) (length c1.arena.clauses)
+    others_false others =
+        let put = enters.put in
+        let here : entry_at D.trail.entries (length c1.trail.entries) ≡ record { literal = l; level = back; reason = reason } = last_entry formula c e lits back s taught hints c1 e1 t1 takes o stands D reason put (length c1.trail.entries) refl in
+        let lits_are : lits ≡ literals_at D.arena (length c1.arena.clauses) = sym (ap literals_in clause_new) in
+        let all : c1.trail.entries ≡ take (length c1.trail.entries) D.trail.entries = sym (Rattle.std.proofs.Math.Seq.take-length c1.trail.entries) ∙ same_take formula c e lits back s taught hints c1 e1 t1 takes o stands D reason put (length c1.trail.entries) (omega arith) in
+        record {
+          live = ap is_some clause_new;
+          has = subst (λ x. Contains (literals_at D.arena (length c1.arena.clauses)) x.literal) (sym here) (subst (λ xs. Contains xs l) lits_are (subst (λ xs. Contains xs l) (sym taught.parts) (0, omega arith, refl)));
+          others = subst (λ x. AreOthersFalse (take (length c1.trail.entries) D.trail.entries) (literals_at D.arena (length c1.arena.clauses)) x.literal) (sym here)
+              (subst (λ es. AreOthersFalse es (literals_at D.arena (length c1.arena.clauses)) l) all (subst (λ xs. AreOthersFalse c1.trail.entries xs l) lits_are others));
+        }
+
+    reasons_then : AreOthersFalse c1.trail.entries lits l → HaveReasons D e1
+    reasons_then others i far h =
+        let put = enters.put in
+        let count = ap length enters.units in
+        elim (place formula c e lits back s taught hints c1 e1 t1 takes o stands D reason put i h) [
+          | inl less ↦
+              reason_stays formula c e lits back s taught hints c1 e1 t1 takes o stands D reason put clause_kept i less (entry_at D.trail.entries i).reason
+              (subst (λ x. HasReasonAt c1 e1 i x.reason) (same_entry formula c e lits back s taught hints c1 e1 t1 takes o stands D reason put i less) (t1.reasons i (omega (arith, far, count)) less))
+          | inr is ↦
+              let here = last_entry formula c e lits back s taught hints c1 e1 t1 takes o stands D reason put i is in
+              subst (λ x. HasReasonAt D e1 i x.reason) (sym here) (subst (λ k. IsClauseReason D k (length c1.arena.clauses)) (sym is) (others_false others))
+        ]
+
+    pub clause_ties : AreOthersFalse c1.trail.entries lits l → Ties formula D e1 [] after
+    clause_ties others = ties_entered formula c e lits back s taught hints c1 e1 t1 takes o stands D reason enters.put enters.fits (record { stored = stored_then; covered = covered_then }) units_then (reasons_then others)
+
+  -- ---- one literal
+  module _ (one : length lits ≡ 1) (none_above : back ≡ 0) (all_units : length c1.units.items ≡ length c1.trail.entries)
+      (enters : EntersUnit (record c1 { order = o; next = c.next + 1; conflicts = c.conflicts + 1 }) D taught.first c.next) where
+    single : lits ≡ taught.first ∷ []
+    single = taught.parts ∙ ap (λ ms. taught.first ∷ ms) (no_more taught.more (sym (ap length taught.parts) ∙ one))
+      where
+        no_more : (ms : List Literal) → length (taught.first ∷ ms) ≡ 1 → ms ≡ []
+        no_more [] h = refl
+        no_more (m ∷ ms) h = absurd (omega (arith, h))
+
+    unit_stored : (r : ℕ) → IsLive D.arena r → IsStored after.moment.tables.clauses D r
+    unit_stored r live =
+        let st = t1.clauses.stored r (subst (λ a. IsLive a r) enters.arena live) in
+        record {
+          attached = ap (λ w. get_or w.attached r false) enters.watches ∙ st.attached;
+          named = subst (λ a. IsNamedBy after.moment.tables.clauses (literals_at a r) (id_at a r)) (sym enters.arena)
+              (named_then formula c e lits back s taught hints (literals_at c1.arena r) (id_at c1.arena r) st.low st.named);
+          low = subst (λ a. id_at a r < first_row_id) (sym enters.arena) st.low;
+        }
+
+    at_zero : level_of (back_to back s.trail) ≡ 0
+    at_zero = Rattle.cdcl_core.proofs.Entering.level_then formula c e lits back s taught hints ∙ none_above
+
+    held_now : has_literal (held 0 after.trail) taught.first ≡ true
+    held_now = ap (λ es. has_literal (held 0 es) taught.first) (trail_is formula c e lits back s taught hints)
+        ∙ ap (λ k. has_literal (cond (nat_le k 0) (taught.first ∷ held 0 (back_to back s.trail)) (held 0 (back_to back s.trail))) taught.first) at_zero
+        ∙ has_at_head taught.first (held 0 (back_to back s.trail))
+
+    unit_covered : (m : ℕ) (clause : List Literal) → m < first_row_id → get after.moment.tables.clauses m ≡ Some clause → IsCovered D after.trail clause
+    unit_covered m clause low live = elim (was formula c e lits back s taught hints m clause low live) [
+      | inl is ↦ inr (inr (record { l = taught.first; has_it = ap (λ xs. has_literal xs taught.first) (is ∙ single) ∙ has_at_head taught.first []; is_held = held_now }))
+      | inr old ↦ elim (t1.clauses.covered m clause low old) [
+        | inl (r, attached, same) ↦ inl (r, ap (λ w. get_or w.attached r false) enters.watches ∙ attached, ap (λ a. same_literals (literals_at a r) clause) enters.arena ∙ same)
+        | inr (inl taut) ↦ inr (inl taut)
+        | inr (inr held_one) ↦ inr (inr (true_then clause held_one))
+      ]
+    ]
+
+    units_long : length D.units.items ≡ length c1.units.items + 1
+    units_long = ap length enters.units ∙ length-append c1.units.items (c.next ∷ [])
+
+    unit_place : (i : ℕ) → i < length D.units.items → (i < length c1.units.items) ⊎ (i ≡ length c1.units.items)
+    unit_place i h = by_cases (nat_lt i (length c1.units.items)) (λ q. inl (ltb-true i (length c1.units.items) q))
+        (λ q. let far = ltb-false i (length c1.units.items) q in let long = units_long in inr (omega (arith, far, h, long)))
+
+    front_id : (i : ℕ) → i < length c1.units.items → get_or D.units.items i 0 ≡ get_or c1.units.items i 0
+    front_id i h = ap (λ us. get_or us i 0) enters.units ∙ id_front c1.units.items c.next i h
+
+    last_id : (i : ℕ) → i ≡ length c1.units.items → get_or D.units.items i 0 ≡ c.next
+    last_id i is = ap (λ us. get_or us i 0) enters.units ∙ ap (λ k. get_or (c1.units.items ++ c.next ∷ []) k 0) is ∙ id_last c1.units.items c.next
+
+    unit_last : (i : ℕ) → i ≡ length c1.units.items → entry_at D.trail.entries i ≡ record { literal = taught.first; level = back; reason = why.Decision }
+    unit_last i is = last_entry formula c e lits back s taught hints c1 e1 t1 takes o stands D why.Decision enters.put i (is ∙ all_units)
+
+    unit_named : (i : ℕ) → i < length D.units.items → IsNamedBy after.moment.tables.clauses ((entry_at D.trail.entries i).literal ∷ []) (get_or D.units.items i 0)
+    unit_named i h = elim (unit_place i h) [
+      | inl less ↦ subst (λ m. IsNamedBy after.moment.tables.clauses ((entry_at D.trail.entries i).literal ∷ []) m) (sym (front_id i less))
+          (unit_stays formula c e lits back s taught hints c1 e1 t1 takes o stands D why.Decision enters.put c1.units.items refl i less).1
+      | inr is ↦ subst (λ m. IsNamedBy after.moment.tables.clauses ((entry_at D.trail.entries i).literal ∷ []) m) (sym (last_id i is))
+          (subst (λ x. IsNamedBy after.moment.tables.clauses (x.literal ∷ []) c.next) (sym (unit_last i is))
+          (record { clause = lits; live = get_new formula c e lits back s taught hints; same = ap (same_literals (taught.first ∷ [])) single ∙ same_itself (taught.first ∷ []) }))
+    ]
+
+    older_are_all : back_to back s.trail ≡ t1.units.older
+    older_are_all = t1.units.parts ∙ none_newer t1.units.newer (let n = ap length t1.units.parts in let m = length-append t1.units.newer t1.units.older in let k = t1.units.count in
+        let tied = tied_length (back_to back s.trail) c1.trail.entries t1.follows.tied in let a = all_units in omega (arith, n, m, k, tied, a))
+      where
+        none_newer : (xs : List Entry) → length xs ≡ 0 → xs ++ t1.units.older ≡ t1.units.older
+        none_newer [] h = refl
+        none_newer (x ∷ xs) h = absurd (omega (arith, h))
+
+    unit_units : AreUnits after.moment.tables.clauses D.trail after.trail D.units.items
+    unit_units =
+        let long = units_long in
+        let trail_long = length_D formula c e lits back s taught hints c1 e1 t1 takes o stands D why.Decision enters.put in
+        let a = all_units in
+        record {
+          few = omega (arith, long, trail_long, a);
+          level_0 = λ i h. elim (unit_place i h) [
+            | inl less ↦ (unit_stays formula c e lits back s taught hints c1 e1 t1 takes o stands D why.Decision enters.put c1.units.items refl i less).0
+            | inr is ↦ ap (λ x. x.level) (unit_last i is) ∙ none_above
+          ];
+          named = unit_named;
+          low = λ i h. elim (unit_place i h) [
+            | inl less ↦ subst (λ m. m < first_row_id) (sym (front_id i less)) (t1.units.low i less)
+            | inr is ↦ subst (λ m. m < first_row_id) (sym (last_id i is)) taught.room
+          ];
+          newer = [];
+          older = new ∷ back_to back s.trail;
+          parts = trail_is formula c e lits back s taught hints;
+          count = (let tied = tied_length (back_to back s.trail) c1.trail.entries t1.follows.tied in omega (arith, tied, long, a));
+          rest = ((c.next, refl), subst RestOnClauses (sym older_are_all) t1.units.rest);
+          all = λ above i far h. absurd (let at = level_D formula c e lits back s taught hints c1 e1 t1 takes o stands D why.Decision enters.put in let z = none_above in omega (arith, above, at, z));
+        }
+
+    pub unit_ties : Ties formula D e1 [] after
+    unit_ties =
+        let put = enters.put in
+        ties_entered formula c e lits back s taught hints c1 e1 t1 takes o stands D why.Decision put
+        (subst (λ w. Fits w D.arena D.trail) (sym enters.watches) (subst (λ a. Fits c1.watches a D.trail) (sym enters.arena)
+        (subst (Fits c1.watches c1.arena) (sym put.trail) (fits_pushed c1.watches c1.arena c1.trail c1.trail.level taught.first why.Decision (omega arith) t1.fits))))
+        (record { stored = unit_stored; covered = unit_covered }) unit_units
+        (λ i far h. absurd (let long = units_long in let trail_long = length_D formula c e lits back s taught hints c1 e1 t1 takes o stands D why.Decision put in let a = all_units in omega (arith, far, h, long, trail_long, a)))

@@ -1,0 +1,160 @@
+-- A learned clause is entered: the ties of the search behind a whole conflict.
+use Rattle.std.proofs.Common.{◌≡◌, ◌≢◌, refl, sym, ap, ◌∙◌, subst, ℕ, zero, suc, ◌+◌, ◌-◌, ◌<◌, ◌≤◌, ◌^◌, ℤ, Bool, true, false, cond, nat_eq, nat_le, nat_lt, is_some, eq-eqb, List, [], ◌∷◌, ◌++◌, length, take, get_or, map, Some, None, Option, ◌⊎◌, inl, inr, arith, length-append, Contains, true≢false}
+use Rattle.std.proofs.lemmas.Bool.{eqb-false, ltb-true, ltb-false}
+use Rattle.std.proofs.lemmas.List.{take-append-le, get_or_append_left}
+use Rattle.std.specs.FinMap as map_
+use Rattle.std.specs.Prelude.{IsTrue}
+use Rattle.std.specs.FinSet as set
+use Rattle.cx_base.specs.Literals.{Literal, negate, literal_true}
+use Rattle.cx_base.specs.Problem.{Problem, parities_of, AreWithin}
+use Rattle.cx_semantics.specs.declared.steps.LogStep.TheVariants.{ClauseWithHints, Delete}
+use Rattle.cx_semantics.specs.declared.steps.LogEvent.TheVariants.{Step}
+use Rattle.cx_semantics.specs.Chain.{has_literal, same_literals}
+use Rattle.cx_semantics.specs.Integers.{literals, integers_of}
+use Rattle.cx_semantics.specs.LogRules.{derives_empty_clause}
+use Rattle.cx_semantics.specs.Marked.{is_among}
+use Rattle.cx_semantics.specs.Tables.{Table, get}
+use Rattle.cx_semantics.proofs.Lookups.{Looks-insert}
+use Rattle.cx_trail.specs.declared.entry.Entry.{Entry as TrailEntry}
+use Rattle.cx_trail.specs.declared.entry.Reason.{Reason}
+use Rattle.cx_trail.specs.declared.entry.Reason.TheVariants as why
+use Rattle.cx_trail.specs.Sequence.{TrailState, TakesBack, entry_at, pushed, IsOpenIn, IsTrueIn, IsAssignedIn}
+use Rattle.clause_arena.specs.Clauses.{Stored, IsLive, clause_at, literals_in, literals_at, id_in, id_at}
+use Rattle.watch_lists.specs.Truths.{AreOthersFalse}
+use Rattle.watch_lists.specs.Watching.{Fits, IsAttached}
+use Rattle.search_policy.specs.Standing.{OrderState, AllStand}
+use Rattle.search_steps.specs.Trail.{Entry, by_clause, held, back_to, level_of}
+use Rattle.search_steps.specs.Quiet.{IsOfParities, HasTrue}
+use Rattle.search_steps.specs.Search.{Search, IsSearch, IsServed as Served, IsTidy, IsLearnedOf, jumped, told, marked}
+use Rattle.search_steps.specs.LogSteps.{IsAddition, deleted, after_learned, after_round}
+use Rattle.search_steps.specs.Tied.{IsTied, Mirrors}
+use Rattle.search_steps.specs.Ids.{IsRanged}
+use Rattle.search_steps.proofs.TrailLaws.{back_level}
+use Rattle.search_steps.proofs.Rounds.{deleted_trail, deleted_get}
+use Rattle.search_steps.proofs.RoundEnds.{round_is_tidy, round_stays_tied}
+use Rattle.search_steps.proofs.IdLaws.{ranged_round_keeps, round_ranged, next_is_free, low_is_no_row}
+use Rattle.search_steps.proofs.StartLaws.{variables_are_within}
+use Rattle.search_steps.proofs.Sets.{by_cases, has_behind}
+use Rattle.search_steps.proofs.Bridge.{entry_last}
+use Rattle.conflict_learn.specs.Learning.{negated_at, literal_at}
+use Rattle.gauss_jordan.specs.State.{State}
+use Rattle.cdcl_core.specs.declared.kept.Kept.{Kept}
+use Rattle.cdcl_core.specs.Ties.{first_row_id, IsNamedBy, AreClauses, AreNumbered, AreUnits, IsFed, HasReasonAt, HaveReasons, Ties}
+use Rattle.cdcl_core.specs.Entering.{IsPut, EntersUnit, EntersClause}
+use Rattle.cdcl_core.proofs.Places.{entry_at_front}
+use Rattle.cdcl_core.specs.Learning.{ArePlaced, IsTaught, Learns}
+
+-- what deletions and the round leave as it was
+pub deleted_parities : (s : Search) (ids : List ℕ) → (deleted s ids).moment.tables.parities ≡ s.moment.tables.parities
+deleted_parities s [] = refl
+deleted_parities s (n ∷ ids) = deleted_parities (told s (Step (Delete n []))) ids
+
+pub deleted_conflicts : (s : Search) (ids : List ℕ) → (deleted s ids).conflicts ≡ s.conflicts
+deleted_conflicts s [] = refl
+deleted_conflicts s (n ∷ ids) = deleted_conflicts (told s (Step (Delete n []))) ids
+
+-- literals of the trail are within the variables
+negated_within : (formula : Problem) (t : TrailState) → t.variables ≡ formula.variables → Rattle.cx_trail.specs.Sequence.IsTrail t → (ps : List ℕ) → Rattle.std.specs.List.AllByRecursion (λ p. p < length t.entries) ps → AreWithin formula.variables (negated_at t ps)
+negated_within formula t vars sound [] a = tt
+negated_within formula t vars sound (p ∷ ps) a = (
+  (sound.low p a.0, let high = sound.high p a.0 in omega (arith, high, vars)),
+  negated_within formula t vars sound ps a.1,
+)
+
+below_first : (t : TrailState) (first : ℕ) (rest : List ℕ) → first < length t.entries → Rattle.std.specs.List.AllByRecursion (λ q. q < first) rest → Rattle.std.specs.List.AllByRecursion (λ p. p < length t.entries) rest
+below_first t first [] h a = tt
+below_first t first (q ∷ rest) h a = (let less = a.0 in omega (arith, less, h), below_first t first rest h a.1)
+
+module _ (formula : Problem) (c : Kept) (e : State) (lits : List Literal) (back : ℕ) (s : Search) (taught : IsTaught formula c e lits back s) (hints : List ℤ) where
+  abbrev IsRow : List Literal → Type 0
+  IsRow = IsOfParities formula.variables (parities_of formula.constraints)
+
+  abbrev n : ℕ
+  n = c.next
+
+  abbrev zs : List ℤ
+  zs = integers_of lits
+
+  abbrev l : Literal
+  l = taught.first
+
+  abbrev after : Search
+  after = after_round s c.next (integers_of lits) hints back taught.first
+
+  pub within : AreWithin formula.variables lits
+  within = subst (AreWithin formula.variables) (sym taught.placed.are)
+      (negated_within formula c.trail taught.ties.variables taught.ties.follows.sound (taught.placed.first ∷ taught.placed.rest)
+      (taught.placed.within, below_first c.trail taught.placed.first taught.placed.rest taught.placed.within taught.placed.falling.0))
+
+  pub addition : IsAddition formula s.moment.tables.clauses n zs
+  addition = record { within = variables_are_within formula.variables lits within; free = next_is_free formula first_row_id c.next (first_row_id + length taught.rows) s taught.ties.ranged taught.room }
+
+  pub goes_on : derives_empty_clause (ClauseWithHints n zs hints) ≡ false
+  goes_on = ap (λ xs. derives_empty_clause (ClauseWithHints n (integers_of xs) hints)) taught.parts
+
+  learned : IsLearnedOf s.trail back (literals zs) l
+  learned = subst (λ xs. IsLearnedOf s.trail back xs l) (sym taught.integers) taught.learned
+
+  served : Served s
+  served = record { served = taught.ties.served.served; no_old_clauses = taught.ties.served.old_clauses; no_old_sums = taught.ties.served.old_sums }
+
+  pub round_is_search : IsSearch formula (parities_of formula.constraints) after
+  round_is_search = ranged_round_keeps formula first_row_id c.next (first_row_id + length taught.rows) s taught.ties.ranged n zs hints back (omega arith) taught.room (parities_of formula.constraints) taught.search l served taught.ties.levels
+      addition goes_on (subst (Rattle.cx_semantics.specs.LogRules.HasChain s.moment.tables.clauses) (sym taught.integers) taught.chain) learned
+
+  pub tidy : IsTidy after
+  tidy = round_is_tidy formula (parities_of formula.constraints) s taught.search n zs hints back l learned served taught.ties.served.new_sums
+
+  pub ranged_then : IsRanged formula first_row_id (n + 1) first_row_id after.trail after.moment
+  ranged_then = round_ranged formula first_row_id c.next (first_row_id + length taught.rows) s taught.ties.ranged n zs hints back (omega arith) taught.room l taught.ties.served.old_clauses
+
+  pub tied_then : (u : TrailState) → TakesBack back c.trail u → (reason : Reason) → IsOpenIn u.entries l.variable × IsTied after.trail (pushed u back l reason).entries
+  tied_then u takes reason = round_stays_tied formula (parities_of formula.constraints) s taught.search n zs hints back l learned c.trail u taught.ties.follows.tied takes reason
+
+  -- ---- the trail
+  abbrev the_entry : Entry
+  the_entry = record { literal = taught.first; level = level_of (back_to back s.trail); why = by_clause c.next }
+
+  pub level_then : level_of (back_to back s.trail) ≡ back
+  level_then = let low = taught.learned.lower in back_level s.moment.tables.clauses IsRow back s.trail taught.search.serves.stands (omega (arith, low))
+
+  pub trail_is : after.trail ≡ the_entry ∷ back_to back s.trail
+  trail_is =
+      let then : List Entry → List Entry = λ es. record { literal = l; level = level_of (back_to back es); why = by_clause n } ∷ back_to back es in
+      ap then (deleted_trail (after_learned s n zs hints back) s.moment.new_clauses)
+
+  -- ---- the tables
+  pub parities_then : after.moment.tables.parities ≡ s.moment.tables.parities
+  parities_then = deleted_parities (after_learned s n zs hints back) s.moment.new_clauses
+
+  pub conflicts_then : after.conflicts ≡ c.conflicts + 1
+  conflicts_then = deleted_conflicts (after_learned s n zs hints back) s.moment.new_clauses ∙ ap (λ k. k + 1) taught.ties.conflicts
+
+  got : (m : ℕ) → m < first_row_id → get after.moment.tables.clauses m ≡ cond (nat_eq m n) (Some (literals zs)) (get s.moment.tables.clauses m)
+  got m low = deleted_get (after_learned s n zs hints back) s.moment.new_clauses m (low_is_no_row formula first_row_id c.next (first_row_id + length taught.rows) s taught.ties.ranged m low)
+      ∙ Looks-insert s.moment.tables.clauses (get s.moment.tables.clauses) n (literals zs) (λ _. refl) m
+
+  pub get_new : get after.moment.tables.clauses n ≡ Some lits
+  get_new = got n taught.room ∙ ap (λ b. cond b (Some (literals zs)) (get s.moment.tables.clauses n)) (eq-eqb n n refl) ∙ ap Some taught.integers
+
+  pub get_old : (m : ℕ) → m < first_row_id → m ≢ n → get after.moment.tables.clauses m ≡ get s.moment.tables.clauses m
+  get_old m low apart = got m low ∙ ap (λ b. cond b (Some (literals zs)) (get s.moment.tables.clauses m)) (apart_is m n apart)
+    where
+      apart_is : (a b : ℕ) → a ≢ b → nat_eq a b ≡ false
+      apart_is a b apart = by_cases (nat_eq a b) (λ q. absurd (apart (Rattle.std.proofs.Common.eqb-true a b q))) (λ q. q)
+
+  -- a live clause with a low id has another id, and stays
+  pub stays : (m : ℕ) (clause : List Literal) → m < first_row_id → get s.moment.tables.clauses m ≡ Some clause → get after.moment.tables.clauses m ≡ Some clause
+  stays m clause low live = get_old m low (λ same. no_clause clause (sym live ∙ ap (get s.moment.tables.clauses) same ∙ addition.free)) ∙ live
+    where
+      no_clause : (x : List Literal) → ◌≡◌ {A = Option (List Literal)} (Some x) None → ⊥
+      no_clause x q = cc
+
+  pub named_then : (lits : List Literal) (m : ℕ) → m < first_row_id → IsNamedBy s.moment.tables.clauses lits m → IsNamedBy after.moment.tables.clauses lits m
+  named_then lits m low named = record { clause = named.clause; live = stays m named.clause low named.live; same = named.same }
+
+  -- and each other one was there
+  pub was : (m : ℕ) (clause : List Literal) → m < first_row_id → get after.moment.tables.clauses m ≡ Some clause → (clause ≡ lits) ⊎ (get s.moment.tables.clauses m ≡ Some clause)
+  was m clause low live = by_cases (nat_eq m n)
+      (λ q. inl (let at : Some clause ≡ Some lits = sym live ∙ ap (get after.moment.tables.clauses) (Rattle.std.proofs.Common.eqb-true m n q) ∙ get_new in cc (at)))
+      (λ q. inr (sym (get_old m low (eqb-false m n q)) ∙ live))

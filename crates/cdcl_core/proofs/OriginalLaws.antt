@@ -1,0 +1,145 @@
+-- Telling the formula's constraints one after another.
+use Rattle.std.proofs.Common.{◌≡◌, refl, sym, ap, ◌∙◌, subst, ℕ, zero, suc, ◌+◌, ◌<◌, ◌≤◌, List, [], ◌∷◌, ◌++◌, length, take, get_or, Option, Some, None, Result, Ok, Err, IfErr, Contains, arith, inl, inr, length-append}
+use Rattle.std.specs.Prelude.{OnOk}
+use Rattle.std.proofs.lemmas.List.{take_more}
+use Rattle.std.proofs.lemmas.List.Elements.{filter_map-append}
+use Rattle.cx_base.specs.Literals.{Literal}
+use Rattle.cx_base.specs.Parity.{normal_form}
+use Rattle.cx_base.specs.Problem.{Problem, clauses_of, parities_of, clause_in, parity_in, AreWithin, literals_of}
+use Rattle.cx_base.specs.declared.constraint.Constraint.{Constraint}
+use Rattle.cx_base.specs.declared.constraint.Constraint.TheVariants as constraint
+use Rattle.cx_semantics.specs.declared.steps.LogStep.{LogStep}
+use Rattle.cx_semantics.specs.declared.steps.LogStep.TheVariants.{Original, OriginalParity}
+use Rattle.cx_semantics.specs.declared.steps.LogEvent.{LogEvent}
+use Rattle.cx_semantics.specs.declared.steps.LogEvent.TheVariants.{Step}
+use Rattle.cx_semantics.specs.Integers.{integers_of}
+use Rattle.cx_semantics.specs.LogRules.{IsOriginalParity}
+use Rattle.conflict_learn.specs.declared.fault.CoreFault.{CoreFault}
+use Rattle.search_steps.specs.Holding.{AreTold}
+use Rattle.search_steps.specs.Search.{Search, told}
+use Rattle.search_steps.specs.Start.{IsBegun, start}
+use Rattle.search_steps.proofs.StartLaws.{nothing_is_begun, clause_begins, parity_begins}
+use Rattle.cdcl_core.specs.Originals.{IsFresh, HasBegun, AreCounted}
+use Rattle.cdcl_core.specs.Tells.{TellsAll, GivesUp, IsLeft, IsId, with_events}
+use Rattle.cdcl_core.proofs.Events.{no_more, gives_up}
+
+-- ---- constraints by their places
+clause_there : (cs : List Constraint) (i : ℕ) (lits : List Literal) (d : Constraint) → i < length cs → get_or cs i d ≡ constraint.Clause lits → Contains (clauses_of cs) lits
+unfolding clauses_of
+clause_there [] i lits d less is = absurd (omega (arith, less))
+clause_there (c ∷ cs) zero lits d less is = subst (λ x. Contains (clauses_of (x ∷ cs)) lits) (sym is) (0, omega arith, refl)
+clause_there (constraint.Clause x ∷ cs) (suc i) lits d less is = let r = clause_there cs i lits d (omega (arith, less)) is in let low = r.1 in (suc r.0, omega (arith, low), r.2)
+clause_there (constraint.Parity x ∷ cs) (suc i) lits d less is = clause_there cs i lits d (omega (arith, less)) is
+
+parity_there : (cs : List Constraint) (i : ℕ) (lits : List Literal) (d : Constraint) → i < length cs → get_or cs i d ≡ constraint.Parity lits → Contains (parities_of cs) lits
+unfolding parities_of
+parity_there [] i lits d less is = absurd (omega (arith, less))
+parity_there (c ∷ cs) zero lits d less is = subst (λ x. Contains (parities_of (x ∷ cs)) lits) (sym is) (0, omega arith, refl)
+parity_there (constraint.Parity x ∷ cs) (suc i) lits d less is = let r = parity_there cs i lits d (omega (arith, less)) is in let low = r.1 in (suc r.0, omega (arith, low), r.2)
+parity_there (constraint.Clause x ∷ cs) (suc i) lits d less is = parity_there cs i lits d (omega (arith, less)) is
+
+few_clauses : (cs : List Constraint) → length (clauses_of cs) ≤ length cs
+unfolding clauses_of
+few_clauses [] = omega arith
+few_clauses (constraint.Clause lits ∷ cs) = let rec = few_clauses cs in omega (arith, rec)
+few_clauses (constraint.Parity lits ∷ cs) = let rec = few_clauses cs in omega (arith, rec)
+
+few_parities : (cs : List Constraint) → length (parities_of cs) ≤ length cs
+unfolding parities_of
+few_parities [] = omega arith
+few_parities (constraint.Clause lits ∷ cs) = let rec = few_parities cs in omega (arith, rec)
+few_parities (constraint.Parity lits ∷ cs) = let rec = few_parities cs in omega (arith, rec)
+
+few_taken : (cs : List Constraint) (n : ℕ) → length (take n cs) ≤ n
+few_taken cs zero = omega arith
+few_taken [] (suc n) = omega arith
+few_taken (c ∷ cs) (suc n) = let rec = few_taken cs n in omega (arith, rec)
+
+count_clause : (cs : List Constraint) (clauses parities : ℕ) (lits : List Literal) → AreCounted cs clauses parities → AreCounted (cs ++ constraint.Clause lits ∷ []) (clauses + 1) parities
+unfolding clauses_of parities_of
+count_clause cs clauses parities lits a = record {
+  clauses = let long = ap length (filter_map-append clause_in cs (constraint.Clause lits ∷ [])) in let both = length-append (clauses_of cs) (lits ∷ []) in let was = a.clauses in omega (arith, long, both, was);
+  parities = let long = ap length (filter_map-append parity_in cs (constraint.Clause lits ∷ [])) in let both = length-append (parities_of cs) [] in let was = a.parities in omega (arith, long, both, was);
+}
+
+count_parity : (cs : List Constraint) (clauses parities : ℕ) (lits : List Literal) → AreCounted cs clauses parities → AreCounted (cs ++ constraint.Parity lits ∷ []) clauses (parities + 1)
+unfolding clauses_of parities_of
+count_parity cs clauses parities lits a = record {
+  clauses = let long = ap length (filter_map-append clause_in cs (constraint.Parity lits ∷ [])) in let both = length-append (clauses_of cs) [] in let was = a.clauses in omega (arith, long, both, was);
+  parities = let long = ap length (filter_map-append parity_in cs (constraint.Parity lits ∷ [])) in let both = length-append (parities_of cs) (lits ∷ []) in let was = a.parities in omega (arith, long, both, was);
+}
+
+pub none_counted : AreCounted [] 0 0
+unfolding clauses_of parities_of
+none_counted = record { clauses = refl; parities = refl }
+
+-- ---- what stands before the first
+pub fresh_has_begun : (formula : Problem) (old : Option (List LogEvent)) → IsFresh old → HasBegun formula [] old
+fresh_has_begun formula None fresh = (start, nothing_is_begun formula, tt)
+fresh_has_begun formula (Some es) fresh = (start, nothing_is_begun formula, fresh)
+
+pub begun_is_left : (formula : Problem) (taken : List Constraint) (old : Option (List LogEvent)) → HasBegun formula taken old → IsLeft formula old
+begun_is_left formula taken None (s, b, a) = tt
+begun_is_left formula taken (Some es) (s, b, a) = subst (λ xs. IsLeft formula (Some xs)) (sym a) (inl (s.moment.tables, b.runs))
+
+-- ---- one more
+module _ (formula : Problem) (place : ℕ) (d : Constraint) (less : place < length formula.constraints) (few : length formula.constraints ≤ 4294967295) (clauses parities : ℕ)
+    (counted : AreCounted (take place formula.constraints) clauses parities) (old : Option (List LogEvent)) (begun : HasBegun formula (take place formula.constraints) old) where
+  abbrev taken : List Constraint
+  taken = take place formula.constraints
+
+  told_more : (step : LogStep) (o : Option (List LogEvent)) → AreTold o begun.0.events → AreTold (with_events (Step step ∷ []) o) (begun.0.events ++ Step step ∷ [])
+  told_more step None a = tt
+  told_more step (Some es) a = ap (λ xs. xs ++ Step step ∷ []) a
+
+  one_is_left : (step : LogStep) (i : ℕ) → i < 1 → IsLeft formula (with_events (take i (Step step ∷ [])) old)
+  one_is_left step zero small = subst (IsLeft formula) (sym (no_more old)) (begun_is_left formula taken old begun)
+  one_is_left step (suc i) small = absurd (omega (arith, small))
+
+  pub clause_is_id : (1 ≤ clauses + 1) × (clauses + 1 ≤ 9223372036854775807)
+  clause_is_id = let a = few_clauses taken in let b = few_taken formula.constraints place in let was = counted.clauses in (omega arith, omega (arith, a, b, was, less, few))
+
+  pub parity_is_id : (1 ≤ parities + 1) × (parities + 1 ≤ 9223372036854775807)
+  parity_is_id = let a = few_parities taken in let b = few_taken formula.constraints place in let was = counted.parities in (omega arith, omega (arith, a, b, was, less, few))
+
+  pub gives_up_original : (step : LogStep) (torn : LogEvent → Type 0) (r : Result (Unit {0}) CoreFault) (new : Option (List LogEvent)) → TellsAll torn (Step step ∷ []) old r new → IfErr r (λ f. GivesUp formula torn new f)
+  gives_up_original step torn (Ok done) new tells = tt
+  gives_up_original step torn (Err fault) new tells = gives_up formula torn (Step step ∷ []) old new fault tells (λ i small. one_is_left step i small)
+
+  module _ (lits : List Literal) (w : AreWithin formula.variables lits) where
+    pub clause_counted : get_or formula.constraints place d ≡ constraint.Clause lits → AreCounted (take (place + 1) formula.constraints) (clauses + 1) parities
+    clause_counted is = subst (λ cs. AreCounted cs (clauses + 1) parities) (sym (take_more formula.constraints place d less ∙ ap (λ c. taken ++ c ∷ []) is)) (count_clause taken clauses parities lits counted)
+
+    pub parity_counted : get_or formula.constraints place d ≡ constraint.Parity lits → AreCounted (take (place + 1) formula.constraints) clauses (parities + 1)
+    parity_counted is = subst (λ cs. AreCounted cs clauses (parities + 1)) (sym (take_more formula.constraints place d less ∙ ap (λ c. taken ++ c ∷ []) is)) (count_parity taken clauses parities lits counted)
+
+    pub clause_begun : get_or formula.constraints place d ≡ constraint.Clause lits → (torn : LogEvent → Type 0) (r : Result (Unit {0}) CoreFault) (new : Option (List LogEvent))
+        → TellsAll torn (Step (Original (clauses + 1) (integers_of lits)) ∷ []) old r new → OnOk r (HasBegun formula (take (place + 1) formula.constraints) new)
+    clause_begun is torn (Err fault) new tells = tt
+    clause_begun is torn (Ok done) new tells =
+        let step = Original (clauses + 1) (integers_of lits) in
+        subst (λ o. HasBegun formula (take (place + 1) formula.constraints) o) (sym tells)
+        (subst (λ cs. HasBegun formula cs (with_events (Step step ∷ []) old)) (sym (take_more formula.constraints place d less ∙ ap (λ c. taken ++ c ∷ []) is)) (
+          told begun.0 (Step step),
+          subst (λ n. IsBegun formula (taken ++ constraint.Clause lits ∷ []) (told begun.0 (Step (Original (n + 1) (integers_of lits))))) (sym counted.clauses)
+              (clause_begins formula taken begun.0 begun.1 lits w (clause_there formula.constraints place lits d less is)),
+          told_more step old begun.2,
+        ))
+
+    pub parity_begun : get_or formula.constraints place d ≡ constraint.Parity lits → (torn : LogEvent → Type 0) (r : Result (Unit {0}) CoreFault) (new : Option (List LogEvent))
+        → TellsAll torn (Step (OriginalParity (parities + 1) (integers_of lits)) ∷ []) old r new → OnOk r (HasBegun formula (take (place + 1) formula.constraints) new)
+    parity_begun is torn (Err fault) new tells = tt
+    parity_begun is torn (Ok done) new tells =
+        let step = OriginalParity (parities + 1) (integers_of lits) in
+        let has = parity_there formula.constraints place lits d less is in
+        subst (λ o. HasBegun formula (take (place + 1) formula.constraints) o) (sym tells)
+        (subst (λ cs. HasBegun formula cs (with_events (Step step ∷ []) old)) (sym (take_more formula.constraints place d less ∙ ap (λ c. taken ++ c ∷ []) is)) (
+          told begun.0 (Step step),
+          subst (λ n. IsBegun formula (taken ++ constraint.Parity lits ∷ []) (told begun.0 (Step (OriginalParity (n + 1) (integers_of lits))))) (sym counted.parities)
+              (parity_begins formula taken begun.0 begun.1 lits w (has.0, lits, has.1, has.2, refl)),
+          told_more step old begun.2,
+        ))
+
+pub in_any_case : {T E : Type 0} (r : Result T E) (P : Type 0) → P → OnOk r P
+in_any_case (Ok x) P p = p
+in_any_case (Err e) P p = tt

@@ -1,0 +1,18 @@
+use Rattle.std.proofs.Common.{◌≡◌, sym, ap, ◌∙◌, ◌++◌, ◌-◌, arith}
+use Rattle.cx_semantics.specs.Printed.{HasText}
+use Rattle.cx_semantics.specs.declared.steps.LogEvent.TheVariants.{Step}
+use Rattle.cdcl_core.specs.Deleting.{deletions}
+use Rattle.cdcl_core.specs.Tells.{as_events}
+use Rattle.cdcl_core.specs.Ties.{row_ids}
+use Rattle.cdcl_core.proofs.DeletedRows.{one_deleted, one_more_text}
+use Rattle.cdcl_core.proofs.deleting.deletions_of_rows.Goals as goal
+
+pub loop-left-preserved : goal.loop-left-preserved
+loop-left-preserved c =
+    let few = c.loop-left.invariant.few in
+    record {
+      few = omega (arith, few);
+      steps = ap (λ xs. as_events xs ++ deletions (row_ids (c.loop-left.left - 1))) c.in_ok-push.ensures.items
+          ∙ one_deleted c.loop-left.steps.items c.loop-left.left c.deletion.result (deletions (row_ids c.args.count)) c.loop-left-test.true c.deletion.ensures.is c.loop-left.invariant.steps;
+      texts = one_more_text c.loop-left.steps.items c.deletion.result c.push.new.self.items c.in_ok-push.ensures.items c.loop-left.invariant.texts c.deletion.ensures.text;
+    }

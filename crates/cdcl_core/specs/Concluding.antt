@@ -1,0 +1,34 @@
+-- What a conflict comes to.
+use Rattle.std.specs.Prelude.{ℕ, ◌<◌, List, [], length, take, Option, Some, None}
+use Rattle.std.specs.List.{AllByRecursion}
+use Rattle.cx_base.specs.Problem.{Problem, Unmet}
+use Rattle.cx_semantics.specs.declared.steps.LogEvent.{LogEvent}
+use Rattle.cx_semantics.specs.declared.steps.LogEvent.TheVariants.{Step}
+use Rattle.cx_semantics.specs.declared.steps.LogStep.{LogStep}
+use Rattle.cx_semantics.specs.Marked.{Marked}
+use Rattle.cx_semantics.specs.Printed.{HasText}
+use Rattle.gauss_jordan.specs.State.{State}
+use Rattle.search_steps.specs.LogSteps.{IsEnded}
+use Rattle.cdcl_core.specs.declared.kept.Kept.{Kept}
+use Rattle.cdcl_core.specs.declared.conflicts.Conclusion.{Conclusion}
+use Rattle.cdcl_core.specs.declared.conflicts.Conclusion.TheVariants.{Clause, Ending}
+use Rattle.cdcl_core.specs.Sources.{IsConflict}
+use Rattle.cdcl_core.specs.Tells.{IsLeft, as_events, with_events}
+use Rattle.cdcl_core.specs.Ties.{Stands}
+
+-- the log is right to its end, and marked so often
+abbrev pub IsEndedWith : Problem → ℕ → Option (List LogEvent) → Type 0
+IsEndedWith formula marks None = Unit {0}
+IsEndedWith formula marks (Some events) = IsEnded formula events × Marked formula events marks
+
+-- telling these steps ends the log, and each front of them leaves it open; so no values meet the formula
+pub record EndsLog (formula : Problem) (marks : ℕ) (told : Option (List LogEvent)) (steps : List LogStep) : Type 0 where
+  pub texts : AllByRecursion (λ s. HasText (Step s)) steps
+  pub unmet : Unmet formula
+  pub log : IsEndedWith formula marks (with_events (as_events steps) told)
+  pub fronts : (i : ℕ) → i < length steps → IsLeft formula (with_events (take i (as_events steps)) told)
+
+-- a clause whose literals are all false, or steps that end the log
+abbrev pub Concludes : Problem → Kept → State → Option (List LogEvent) → Conclusion → Type 0
+Concludes formula c e told (Clause k) = Stands formula c e k.rows.items told × IsConflict c k.rows.items k.lits
+Concludes formula c e told (Ending steps) = Stands formula c e [] told × EndsLog formula c.conflicts told steps.items

@@ -1,0 +1,47 @@
+-- What a conflict teaches, and what the sink is told of it.
+use Rattle.std.specs.Prelude.{◌≡◌, ℕ, ◌<◌, ◌^◌, ℤ, List, ◌∷◌, length, Option}
+use Rattle.cx_base.specs.Literals.{Literal}
+use Rattle.cx_base.specs.Problem.{Problem, parities_of}
+use Rattle.cx_semantics.specs.declared.steps.LogEvent.{LogEvent}
+use Rattle.cx_semantics.specs.Integers.{integers_of, literals}
+use Rattle.cx_semantics.specs.LogRules.{HasChain}
+use Rattle.cx_trail.specs.Sequence.{TrailState}
+use Rattle.conflict_learn.specs.Learning.{negated_at, IsFalling}
+use Rattle.conflict_learn.specs.Levels.{levels_at, second}
+use Rattle.gauss_jordan.specs.State.{State}
+use Rattle.search_steps.specs.Search.{Search, IsSearch, IsLearnedOf}
+use Rattle.search_steps.specs.LogSteps.{after_round}
+use Rattle.search_steps.specs.Holding.{AreTold}
+use Rattle.cdcl_core.specs.declared.kept.Kept.{Kept}
+use Rattle.cdcl_core.specs.Ties.{Ties, first_row_id}
+
+-- The literals are the negations of those at falling places of the trail. The back level is that of the second one, 0 where there is none.
+pub record ArePlaced (trail : TrailState) (lits : List Literal) (back : ℕ) : Type 0 where
+  pub first : ℕ
+  pub rest : List ℕ
+  pub are : lits ≡ negated_at trail (first ∷ rest)
+  pub falling : IsFalling (first ∷ rest)
+  pub within : first < length trail.entries
+  pub back_is : back ≡ second (levels_at trail (first ∷ rest))
+
+-- The search stands before the mark. The clause has a right chain and is asserting by its first literal, and there is an id for it and a number for its mark.
+pub record IsTaught (formula : Problem) (c : Kept) (e : State) (lits : List Literal) (back : ℕ) (s : Search) : Type 0 where
+  pub search : IsSearch formula (parities_of formula.constraints) s
+  pub rows : List (List Literal)
+  pub ties : Ties formula c e rows s
+  pub chain : HasChain s.moment.tables.clauses lits
+  pub first : Literal
+  pub more : List Literal
+  pub parts : lits ≡ first ∷ more
+  pub learned : IsLearnedOf s.trail back lits first
+  pub placed : ArePlaced c.trail lits back
+  pub integers : literals (integers_of lits) ≡ lits
+  pub room : c.next < first_row_id
+  pub few : c.conflicts < 10 ^ 18
+
+-- What the sink tells ends with the mark, the learned clause with hints, and the deletions of the clauses of rows.
+pub record Learns (formula : Problem) (c : Kept) (e : State) (lits : List Literal) (back : ℕ) (told : Option (List LogEvent)) : Type 0 where
+  pub search : Search
+  pub taught : IsTaught formula c e lits back search
+  pub hints : List ℤ
+  pub told_is : AreTold told (after_round search c.next (integers_of lits) hints back taught.first).events

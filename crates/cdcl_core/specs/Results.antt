@@ -1,0 +1,60 @@
+-- What the search answers.
+use Rattle.std.specs.Prelude.{◌≡◌, ◌≢◌, ℕ, ◌<◌, Bool, [], List, Option, Some, None, filter_map}
+use Rattle.cx_base.specs.Problem.{Problem, Meets, Unmet}
+use Rattle.cx_semantics.specs.declared.steps.LogEvent.{LogEvent}
+use Rattle.cx_semantics.specs.Judging.{IsOpen}
+use Rattle.cx_semantics.specs.LogRules.{log_calculus}
+use Rattle.cx_semantics.specs.LogText.{steps_of}
+use Rattle.cx_semantics.specs.Marked.{Marked, mark_of}
+use Rattle.search_steps.specs.LogSteps.{IsEnded}
+use Rattle.cdcl_core.specs.declared.solving.Outcome.{Outcome}
+use Rattle.cdcl_core.specs.declared.solving.Outcome.TheVariants.{Sat, Unsat, Unknown}
+
+-- where the events are told, there is none yet
+abbrev pub IsFresh : Option (List LogEvent) → Type 0
+IsFresh None = Unit {0}
+IsFresh (Some events) = events ≡ []
+
+-- the log is open and has so many marks
+abbrev pub IsOpenWith : Problem → ℕ → Option (List LogEvent) → Type 0
+IsOpenWith formula n None = Unit {0}
+IsOpenWith formula n (Some events) = IsOpen (log_calculus formula) (steps_of events) × Marked formula events n
+
+-- the log is open and has fewer marks than the budget
+abbrev pub IsOpenWithin : Problem → ℕ → Option (List LogEvent) → Type 0
+IsOpenWithin formula budget told = (n : ℕ) × (n < budget) × IsOpenWith formula n told
+
+-- the log is right to its end, with fewer marks than the budget
+abbrev pub IsEndedWithin : Problem → ℕ → Option (List LogEvent) → Type 0
+IsEndedWithin formula budget None = Unit {0}
+IsEndedWithin formula budget (Some events) = IsEnded formula events × ((n : ℕ) × (n < budget) × Marked formula events n)
+
+-- no values meet the formula, and the log shows it
+pub record Refutes (formula : Problem) (budget : ℕ) (told : Option (List LogEvent)) : Type 0 where
+  pub unmet : Unmet formula
+  pub log : IsEndedWithin formula budget told
+
+-- the values meet the formula, and the log is open with fewer marks than the budget
+pub record Satisfies (formula : Problem) (budget : ℕ) (told : Option (List LogEvent)) (values : List Bool) : Type 0 where
+  pub meets : Meets formula values
+  pub log : IsOpenWithin formula budget told
+
+-- the budget of counted conflicts is used up, and the log is open with as many marks
+pub record UsesUp (formula : Problem) (budget : ℕ) (told : Option (List LogEvent)) (conflicts : ℕ) : Type 0 where
+  pub count : conflicts ≡ budget
+  pub log : IsOpenWith formula budget told
+
+-- what an answer says of the formula and of the log
+abbrev pub Answers : Problem → ℕ → Option (List LogEvent) → Outcome → Type 0
+Answers formula budget told (Sat values) = Satisfies formula budget told values
+Answers formula budget told Unsat = Refutes formula budget told
+Answers formula budget told (Unknown conflicts) = UsesUp formula budget told conflicts
+
+-- where the events are told, none is a mark
+abbrev pub HasNoMark : Option (List LogEvent) → Type 0
+HasNoMark None = Unit {0}
+HasNoMark (Some events) = filter_map mark_of events ≡ []
+
+-- an answer that is not unknown, with fewer marks than this
+abbrev pub IsSettledBy : Problem → ℕ → Option (List LogEvent) → Outcome → Type 0
+IsSettledBy formula budget told outcome = Answers formula budget told outcome × ((conflicts : ℕ) → outcome ≢ Unknown conflicts)

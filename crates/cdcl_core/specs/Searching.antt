@@ -1,0 +1,33 @@
+-- What holds of the search between two conflicts.
+use Rattle.std.specs.Prelude.{◌≡◌, ◌≢◌, ℕ, ◌<◌, [], List, length, Option}
+use Rattle.cx_base.specs.Problem.{Problem}
+use Rattle.cx_semantics.specs.declared.steps.LogEvent.{LogEvent}
+use Rattle.cx_trail.specs.Sequence.{IsFull}
+use Rattle.gauss_jordan.specs.declared.state.Mood.TheVariants.{Broken}
+use Rattle.gauss_jordan.specs.State.{State}
+use Rattle.cdcl_core.specs.declared.kept.Kept.{Kept}
+use Rattle.cdcl_core.specs.declared.propagation.Found.{Found}
+use Rattle.cdcl_core.specs.declared.propagation.Found.TheVariants.{Quiet}
+use Rattle.cdcl_core.specs.Ties.{Stands}
+use Rattle.cdcl_core.specs.Finds.{Finds}
+
+-- a unit clause was told for each literal of level 0, where that is the current one
+abbrev pub HasUnits : Kept → Type 0
+HasUnits c = c.trail.level ≡ 0 → length c.units.items ≡ length c.trail.entries
+
+-- both engines are quiet and each variable is assigned, or one is in conflict; the units of level 0 are told
+pub record Reaches (c : Kept) (e : State) (found : Found) : Type 0 where
+  pub finds : Finds c e found
+  pub full : found ≡ Quiet → IsFull c.trail
+  pub units : HasUnits c
+
+-- a decision opened a level
+pub record Decides (old new : Kept) (e : State) : Type 0 where
+  pub longer : length old.trail.entries < length new.trail.entries
+  pub unbroken : e.mood ≢ Broken
+
+-- the search stands before a propagation, with fewer counted conflicts than the budget
+pub record GoesOn (formula : Problem) (budget : ℕ) (told : Option (List LogEvent)) (c : Kept) (e : State) : Type 0 where
+  pub stands : Stands formula c e [] told
+  pub unbroken : e.mood ≢ Broken
+  pub fewer : c.conflicts < budget

@@ -1,0 +1,53 @@
+-- What a sink is told, and what its log is worth when the search gives up.
+use Rattle.std.specs.Prelude.{◌≡◌, ◌⊎◌, ℕ, ◌<◌, ◌≤◌, List, ◌++◌, length, take, map, get_or, Option, Some, None, option_map, Result, Ok, Err}
+use Rattle.cx_base.specs.Problem.{Problem}
+use Rattle.cx_semantics.specs.declared.steps.LogEvent.{LogEvent}
+use Rattle.cx_semantics.specs.declared.steps.LogEvent.TheVariants.{Step, Conflict}
+use Rattle.cx_semantics.specs.declared.steps.LogStep.{LogStep}
+use Rattle.cx_semantics.specs.Judging.{IsOpen}
+use Rattle.cx_semantics.specs.LogRules.{log_calculus}
+use Rattle.cx_semantics.specs.LogText.{steps_of}
+use Rattle.conflict_learn.specs.declared.fault.CoreFault.{CoreFault}
+use Rattle.conflict_learn.specs.declared.fault.CoreFault.TheVariants.{Memory, Write}
+use Rattle.conflict_learn.specs.Learning.{Rose}
+use Rattle.proof_text.specs.declared.sink.SinkFault.{SinkFault}
+use Rattle.proof_text.specs.declared.sink.SinkFault.TheVariants as sink
+use Rattle.search_steps.specs.LogSteps.{IsEnded}
+
+abbrev pub as_events : List LogStep → List LogEvent
+as_events steps = map Step steps
+
+-- the events and these behind them, where they are told
+abbrev pub with_events : List LogEvent → Option (List LogEvent) → Option (List LogEvent)
+with_events more told = option_map (λ es. es ++ more) told
+
+-- Ok: the sink was told these events. Err: a proper front of them; after a fault of writing the next one may be torn.
+abbrev pub TellsAll : {T : Type 0} → (LogEvent → Type 0) → List LogEvent → Option (List LogEvent) → Result T CoreFault → Option (List LogEvent) → Type 0
+TellsAll torn events old (Ok done) new = new ≡ with_events events old
+TellsAll torn events old (Err fault) new =
+    (k : ℕ) × (k < length events) × (new ≡ with_events (take k events) old) × (fault ≡ Write → torn (get_or events k (Conflict 0)))
+
+-- the search's word for a sink's fault
+abbrev pub fault_as : SinkFault → CoreFault
+fault_as sink.Memory = Memory
+fault_as sink.Failed = Write
+
+-- the count of faults: it rose after a fault of writing, and else it stands
+abbrev pub FaultsAs : {T : Type 0} → Result T CoreFault → ℕ → ℕ → Type 0
+FaultsAs (Ok done) before now = now ≡ before
+FaultsAs (Err Memory) before now = now ≡ before
+FaultsAs (Err Write) before now = Rose before now
+
+-- each step of the log is right and none ends it, or just the last one does
+abbrev pub IsLeft : Problem → Option (List LogEvent) → Type 0
+IsLeft formula None = Unit {0}
+IsLeft formula (Some events) = IsOpen (log_calculus formula) (steps_of events) ⊎ IsEnded formula events
+
+-- the search gave up: its log is right as far as it goes, and after a fault of writing some event is torn
+abbrev pub GivesUp : Problem → (LogEvent → Type 0) → Option (List LogEvent) → CoreFault → Type 0
+GivesUp formula torn told Memory = IsLeft formula told
+GivesUp formula torn told Write = IsLeft formula told × ((event : LogEvent) × torn event)
+
+-- an id that a step may have
+abbrev pub IsId : ℕ → Type 0
+IsId n = (1 ≤ n) × (n ≤ 9223372036854775807)

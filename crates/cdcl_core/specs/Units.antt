@@ -1,0 +1,28 @@
+-- How unit clauses of level 0 are told.
+use Rattle.std.specs.Prelude.{◌≡◌, ◌≤◌, List, length, IsTrue, Option}
+use Rattle.std.specs.List.{AllByRecursion}
+use Rattle.cx_base.specs.Literals.{Literal}
+use Rattle.cx_trail.specs.Sequence.{StandsAt}
+use Rattle.conflict_learn.specs.Learning.{IsAntecedent}
+use Rattle.cdcl_core.specs.declared.kept.Kept.{Kept}
+use Rattle.cdcl_core.specs.Sources.{IsSourced}
+
+-- only the unit clauses and the next id differ
+pub record HasOther (old new : Kept) : Type 0 where
+  pub trail : new.trail ≡ old.trail
+  pub arena : new.arena ≡ old.arena
+  pub watches : new.watches ≡ old.watches
+  pub order : new.order ≡ old.order
+  pub given : new.given ≡ old.given
+  pub conflicts : new.conflicts ≡ old.conflicts
+  pub phases : new.phases ≡ old.phases
+
+-- the literal stands behind those that have unit clauses, and this clause of a source implied it
+pub record IsNextUnit (c : Kept) (rows : List (List Literal)) (l : Literal) (clause : List Literal) : Type 0 where
+  pub next : StandsAt c.trail.entries l (length c.units.items)
+  pub sourced : IsSourced c rows clause
+  pub implied : IsAntecedent c.trail l clause
+
+-- no variable of the literals is above that of the trail
+abbrev pub AreKnown : Kept → List Literal → Type 0
+AreKnown c lits = AllByRecursion (λ l. l.variable ≤ c.trail.variables) lits

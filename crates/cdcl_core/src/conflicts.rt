@@ -1,0 +1,170 @@
+//! The clauses of conflicts.
+ghost use Rattle.std.specs.Prelude.{◌≡◌, ◌≢◌, ◌+◌, [], ◌∷◌, List, length, IfOk, IfErr, IsTrue, None, Some};
+ghost use Rattle.std.specs.List.{AllByRecursion};
+ghost use Rattle.cx_base.specs.Literals.{Literal};
+ghost use Rattle.cx_base.specs.Problem.{parities_of};
+ghost use Rattle.cx_semantics.specs.Chain.{has_literal};
+ghost use Rattle.cx_semantics.specs.Integers.{integers_of, literals};
+ghost use Rattle.cx_semantics.specs.Printed.{HasText};
+ghost use Rattle.cx_semantics.specs.declared.steps.LogEvent.TheVariants.{Step};
+ghost use Rattle.cx_semantics.specs.declared.steps.LogStep.TheVariants as step;
+ghost use Rattle.cx_trail.specs.Sequence.{IsFalseIn};
+ghost use Rattle.clause_arena.specs.Clauses.{IsLive, literals_at};
+ghost use Rattle.conflict_learn.specs.Learning.{Rose};
+ghost use Rattle.conflict_learn.specs.declared.fault.CoreFault.TheVariants.{Write};
+ghost use Rattle.gauss_jordan.specs.State.{AreRising};
+ghost use Rattle.cdcl_core.specs.Concluding.{Concludes};
+ghost use Rattle.cdcl_core.specs.Explaining.{Explains};
+ghost use Rattle.cdcl_core.specs.Finds.{Finds, IsClash};
+ghost use Rattle.cdcl_core.specs.Sources.{IsConflict};
+ghost use Rattle.cdcl_core.specs.Tells.{GivesUp, FaultsAs};
+ghost use Rattle.cdcl_core.specs.Ties.{Stands, first_row_id};
+ghost use Rattle.cdcl_core.specs.declared.propagation.Found.TheVariants.{Quiet};
+
+use crate::kept::Kept;
+use crate::propagation::Found;
+use crate::rows::{FIRST_ROW_ID, next_ids, sum_and_clause, tell_reason};
+use crate::source::stored;
+use conflict_learn::CoreFault;
+use cx_base::{ClauseRef, Formula, LitList, Row};
+use cx_semantics::LogStep;
+use gauss_jordan::ParityEngine;
+use log_text::LogSink;
+use std::alloc::{AllocError, Global};
+use xor_reason::{ReasonOf, reason_clause};
+
+/// A conflict's clause, with its id in the log, and the clauses of rows that were told for it.
+#[derive(Drop)]
+pub(crate) struct Conflict {
+    pub lits: LitList,
+    pub id: u64,
+    pub rows: Vec<LitList>,
+}
+
+/// What a conflict comes to.
+#[derive(Drop)]
+pub(crate) enum Conclusion {
+    /// Each literal of this clause is false.
+    Clause(Conflict),
+    /// A row without variables is not met: these steps, which were not told yet, end the log.
+    Ending(Vec<LogStep>),
+}
+
+/// The conflict of a clause of the arena.
+fn stored_conflict(alloc: Global, kept: &Kept, reference: ClauseRef) -> Result<Conflict, AllocError>
+    requires { IsLive kept.now.arena reference }
+    ensures clause { IfOk result (λ c. c.lits ≡ literals_at kept.now.arena reference) }
+    ensures rows { IfOk result (λ c. c.rows.items ≡ []) }
+{
+    let hinted = stored(alloc, kept, reference)?;
+    Ok(Conflict {
+        lits: hinted.lits,
+        id: hinted.id,
+        rows: Vec::new(alloc),
+    })
+}
+
+/// The conflict of a row with a variable. Its clause is told.
+fn told_conflict<P: ParityEngine, L: LogSink>(
+    alloc: Global,
+    formula: &Formula,
+    kept: &Kept,
+    engine: &P,
+    sink: &mut L,
+    reason: ReasonOf,
+) -> Result<Conflict, CoreFault>
+    requires stands { Stands formula.now kept.now (P.state engine.now) [] (L.events sink.old) }
+    requires explains { Explains (parities_of formula.now.constraints) kept.now.trail reason }
+    requires some { reason.clause ≢ [] }
+    ensures clause { IfOk result (λ c. c.lits ≡ reason.clause) }
+    ensures rows { IfOk result (λ c. c.rows.items ≡ reason.clause ∷ []) }
+    ensures stands { IfOk result (λ c. Stands formula.now kept.now (P.state engine.now) (reason.clause ∷ []) (L.events sink.new)) }
+    ensures gave_up { IfErr result (λ e. GivesUp formula.now (L.torn sink.new) (L.events sink.new) e) }
+    ensures write { IfErr result (λ e. e ≡ Write → Rose (L.faults sink.old) (L.faults sink.new)) }
+    ensures faults { FaultsAs result (L.faults sink.old) (L.faults sink.new) }
+    ensures frame { L.keeps sink.old sink.new }
+{
+    let mut rows = Vec::new(alloc);
+    match tell_reason(alloc, formula, kept, engine, sink, reason, &mut rows) {
+        Ok(lits) => Ok(Conflict {
+            lits,
+            id: FIRST_ROW_ID,
+            rows,
+        }),
+        Err(fault) => Err(fault),
+    }
+}
+
+/// The steps of a row: its sum and its clause.
+fn ending(alloc: Global, formula: &Formula, reason: ReasonOf) -> Result<Vec<LogStep>, AllocError>
+    requires { AreRising 1 (length (parities_of formula.now.constraints)) reason.sources }
+    ensures steps { IfOk result (λ s. s.items ≡ step.Parity (length formula.now.constraints + 1) (integers_of reason.parity) reason.sources
+        ∷ step.ClauseOfParity first_row_id (integers_of reason.clause) (length formula.now.constraints + 1) ∷ []) }
+    ensures texts { IfOk result (λ s. AllByRecursion (λ t. HasText (Step t)) s.items) }
+    ensures parity { IfOk result (λ s. literals (integers_of reason.parity) ≡ reason.parity) }
+    ensures clause { IfOk result (λ s. literals (integers_of reason.clause) ≡ reason.clause) }
+{
+    let ids = next_ids(formula, &[])?;
+    let ReasonOf {
+        parity,
+        sources,
+        clause,
+    } = reason;
+    sum_and_clause(alloc, ids, &parity, sources, &clause)
+}
+
+/// The conflict of a row.
+fn row_conflict<P: ParityEngine, L: LogSink>(
+    alloc: Global,
+    formula: &Formula,
+    kept: &Kept,
+    engine: &P,
+    sink: &mut L,
+    row: Row,
+) -> Result<Conclusion, CoreFault>
+    requires stands { Stands formula.now kept.now (P.state engine.now) [] (L.events sink.old) }
+    requires clash { IsClash (P.state engine.now) row }
+    ensures concludes { IfOk result (λ c. Concludes formula.now kept.now (P.state engine.now) (L.events sink.new) c) }
+    ensures gave_up { IfErr result (λ e. GivesUp formula.now (L.torn sink.new) (L.events sink.new) e) }
+    ensures write { IfErr result (λ e. e ≡ Write → Rose (L.faults sink.old) (L.faults sink.new)) }
+    ensures faults { FaultsAs result (L.faults sink.old) (L.faults sink.new) }
+    ensures frame { L.keeps sink.old sink.new }
+{
+    let reason = reason_clause(alloc, engine, row, None, &kept.trail)?;
+    if reason.clause.as_slice().is_empty() {
+        let steps = ending(alloc, formula, reason)?;
+        return Ok(Conclusion::Ending(steps));
+    }
+    match told_conflict(alloc, formula, kept, engine, sink, reason) {
+        Ok(conflict) => Ok(Conclusion::Clause(conflict)),
+        Err(fault) => Err(fault),
+    }
+}
+
+/// What a conflict comes to. The clause of a row is told first.
+pub(crate) fn conflict_clause<P: ParityEngine, L: LogSink>(
+    alloc: Global,
+    formula: &Formula,
+    kept: &Kept,
+    engine: &P,
+    sink: &mut L,
+    found: Found,
+) -> Result<Conclusion, CoreFault>
+    requires stands { Stands formula.now kept.now (P.state engine.now) [] (L.events sink.old) }
+    requires found { Finds kept.now (P.state engine.now) found }
+    requires conflict { found ≢ Quiet }
+    ensures concludes { IfOk result (λ c. Concludes formula.now kept.now (P.state engine.now) (L.events sink.new) c) }
+    ensures gave_up { IfErr result (λ e. GivesUp formula.now (L.torn sink.new) (L.events sink.new) e) }
+    ensures write { IfErr result (λ e. e ≡ Write → Rose (L.faults sink.old) (L.faults sink.new)) }
+    ensures faults { FaultsAs result (L.faults sink.old) (L.faults sink.new) }
+    ensures frame { L.keeps sink.old sink.new }
+{
+    match found {
+        Found::Clause(reference) => {
+            let conflict = stored_conflict(alloc, kept, reference)?;
+            Ok(Conclusion::Clause(conflict))
+        }
+        Found::Row(row) => row_conflict(alloc, formula, kept, engine, sink, row),
+        Found::Quiet => Err(CoreFault::Memory),
+    }
+}

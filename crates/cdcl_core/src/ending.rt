@@ -1,0 +1,95 @@
+//! The end of a log.
+ghost use Rattle.std.specs.Prelude.{◌≡◌, ◌≢◌, ◌+◌, [], length, OnOk, IfErr};
+ghost use Rattle.conflict_learn.specs.Learning.{Rose};
+ghost use Rattle.conflict_learn.specs.declared.fault.CoreFault.TheVariants.{Write};
+ghost use Rattle.cdcl_core.specs.Concluding.{EndsLog};
+ghost use Rattle.cdcl_core.specs.Finds.{Finds};
+ghost use Rattle.cdcl_core.specs.Results.{Refutes};
+ghost use Rattle.cdcl_core.specs.Sources.{IsConflict};
+ghost use Rattle.cdcl_core.specs.Tells.{GivesUp, FaultsAs};
+ghost use Rattle.cdcl_core.specs.Ties.{Stands};
+ghost use Rattle.cdcl_core.specs.declared.propagation.Found.TheVariants.{Quiet};
+
+use crate::chains::{hints_of, tell_chained};
+use crate::conflicts::{Conclusion, Conflict, conflict_clause};
+use crate::kept::Kept;
+use crate::propagation::Found;
+use crate::rows::FIRST_ROW_ID;
+use crate::telling::tell_all;
+use conflict_learn::CoreFault;
+use cx_base::Formula;
+use cx_semantics::LogStep;
+use gauss_jordan::ParityEngine;
+use log_text::LogSink;
+use std::alloc::Global;
+
+/// Tells the steps that end the log.
+pub(crate) fn tell_ending<L: LogSink>(
+    formula: &Formula,
+    kept: &Kept,
+    sink: &mut L,
+    steps: &[LogStep],
+) -> Result<(), CoreFault>
+    requires { EndsLog formula.now kept.now.conflicts (L.events sink.old) steps.now }
+    ensures refutes { OnOk result (Refutes formula.now (kept.now.conflicts + 1) (L.events sink.new)) }
+    ensures gave_up { IfErr result (λ e. GivesUp formula.now (L.torn sink.new) (L.events sink.new) e) }
+    ensures write { IfErr result (λ e. e ≡ Write → Rose (L.faults sink.old) (L.faults sink.new)) }
+    ensures faults { FaultsAs result (L.faults sink.old) (L.faults sink.new) }
+    ensures frame { L.keeps sink.old sink.new }
+{
+    tell_all(sink, steps)
+}
+
+/// Tells the empty clause: each literal of the conflict's clause is false by a unit clause.
+fn end_by_clause<P: ParityEngine, L: LogSink>(
+    alloc: Global,
+    formula: &Formula,
+    kept: &Kept,
+    engine: &P,
+    sink: &mut L,
+    conflict: &Conflict,
+) -> Result<(), CoreFault>
+    requires stands { Stands formula.now kept.now (P.state engine.now) conflict.now.rows.items (L.events sink.old) }
+    requires conflict { IsConflict kept.now conflict.now.rows.items conflict.now.lits }
+    requires all { length kept.now.units.items ≡ length kept.now.trail.entries }
+    ensures refutes { OnOk result (Refutes formula.now (kept.now.conflicts + 1) (L.events sink.new)) }
+    ensures gave_up { IfErr result (λ e. GivesUp formula.now (L.torn sink.new) (L.events sink.new) e) }
+    ensures write { IfErr result (λ e. e ≡ Write → Rose (L.faults sink.old) (L.faults sink.new)) }
+    ensures faults { FaultsAs result (L.faults sink.old) (L.faults sink.new) }
+    ensures frame { L.keeps sink.old sink.new }
+{
+    let id = kept.next;
+    if id >= FIRST_ROW_ID {
+        return Err(CoreFault::Memory);
+    }
+    let hints = hints_of(alloc, kept, conflict.lits.as_slice(), conflict.id)?;
+    tell_chained(alloc, sink, id, &[], hints)
+}
+
+/// Ends the log by the empty clause, where each literal of the trail has a unit clause.
+pub(crate) fn end<P: ParityEngine, L: LogSink>(
+    alloc: Global,
+    formula: &Formula,
+    kept: &Kept,
+    engine: &P,
+    sink: &mut L,
+    found: Found,
+) -> Result<(), CoreFault>
+    requires stands { Stands formula.now kept.now (P.state engine.now) [] (L.events sink.old) }
+    requires found { Finds kept.now (P.state engine.now) found }
+    requires conflict { found ≢ Quiet }
+    requires all { length kept.now.units.items ≡ length kept.now.trail.entries }
+    ensures refutes { OnOk result (Refutes formula.now (kept.now.conflicts + 1) (L.events sink.new)) }
+    ensures gave_up { IfErr result (λ e. GivesUp formula.now (L.torn sink.new) (L.events sink.new) e) }
+    ensures write { IfErr result (λ e. e ≡ Write → Rose (L.faults sink.old) (L.faults sink.new)) }
+    ensures faults { FaultsAs result (L.faults sink.old) (L.faults sink.new) }
+    ensures frame { L.keeps sink.old sink.new }
+{
+    match conflict_clause(alloc, formula, kept, engine, sink, found) {
+        Ok(Conclusion::Clause(conflict)) => end_by_clause(
+            alloc, formula, kept, engine, sink, &conflict,
+        ),
+        Ok(Conclusion::Ending(steps)) => tell_ending(formula, kept, sink, &steps),
+        Err(fault) => Err(fault),
+    }
+}

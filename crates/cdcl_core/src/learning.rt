@@ -1,0 +1,203 @@
+//! Learning from a conflict.
+ghost use Rattle.std.specs.Prelude.{◌≡◌, ◌≢◌, ◌<◌, ◌≤◌, ◌^◌, pos, nat_abs, [], ◌∷◌, ◌++◌, map, length, IfOk, OnOk, IfErr};
+ghost use Rattle.std.specs.List.{AllByRecursion};
+ghost use Rattle.cx_semantics.specs.Integers.{integers_of, literals};
+ghost use Rattle.cx_semantics.specs.Printed.{HasText};
+ghost use Rattle.cx_semantics.specs.declared.steps.LogEvent.TheVariants as event;
+ghost use Rattle.cx_semantics.specs.declared.steps.LogStep.TheVariants as step;
+ghost use Rattle.conflict_learn.specs.Learning.{Rose};
+ghost use Rattle.conflict_learn.specs.Levels.{Teaches};
+ghost use Rattle.conflict_learn.specs.declared.fault.CoreFault.TheVariants.{Write};
+ghost use Rattle.cdcl_core.specs.Tells.{GivesUp, FaultsAs, TellsAll, IsId, as_events};
+ghost use Rattle.cdcl_core.specs.Ties.{Stands, first_row_id, row_ids};
+ghost use Rattle.cdcl_core.specs.Sources.{IsSourced, IsConflict, counted};
+ghost use Rattle.cdcl_core.specs.Learning.{Learns};
+
+use crate::conflicts::Conflict;
+use crate::integers::integers;
+use crate::kept::Kept;
+use crate::rows::FIRST_ROW_ID;
+use crate::source::Source;
+use crate::steps::{chained, deletion};
+use crate::telling::{tell_all, tell_mark};
+use conflict_learn::{CoreFault, Learned, analyse};
+use cx_base::{Formula, IntList, Lit, LitList};
+use cx_semantics::LogStep;
+use gauss_jordan::ParityEngine;
+use log_text::LogSink;
+use std::alloc::{AllocError, Global};
+
+/// The most clauses of rows between two marks.
+const MOST_ROWS: usize = 500_000_000_000_000_000;
+
+/// The deletions of the clauses of rows, the newest first, behind these steps.
+fn put_deletions(alloc: Global, steps: &mut Vec<LogStep>, rows: usize) -> Result<(), AllocError>
+    requires few { rows ≤ 500000000000000000 }
+    requires texts { AllByRecursion (λ t. HasText (event.Step t)) steps.old.items }
+    ensures steps { OnOk result (steps.new.items ≡ steps.old.items ++ map (λ n. step.Delete n []) (row_ids rows)) }
+    ensures texts { OnOk result (AllByRecursion (λ t. HasText (event.Step t)) steps.new.items) }
+{
+    let mut left = rows;
+    while left > 0 {
+        left -= 1;
+        steps.push(deletion(alloc, FIRST_ROW_ID + left as u64))?;
+    }
+    Ok(())
+}
+
+/// The steps behind the mark of a conflict: the learned clause with its hints, and the deletions of the clauses of rows.
+fn steps_of_learned(
+    alloc: Global,
+    id: u64,
+    lits: &[Lit],
+    hints: IntList,
+    rows: usize,
+) -> Result<Vec<LogStep>, AllocError>
+    requires { IsId id }
+    ensures steps { IfOk result (λ s. s.items ≡ step.ClauseWithHints id (integers_of lits.now) hints ∷ map (λ n. step.Delete n []) (row_ids rows)) }
+    ensures texts { IfOk result (λ s. AllByRecursion (λ t. HasText (event.Step t)) s.items) }
+    ensures literals { IfOk result (λ s. literals (integers_of lits.now) ≡ lits.now) }
+{
+    if rows > MOST_ROWS {
+        return Err(AllocError);
+    }
+    let clause = chained(id, integers(alloc, lits)?, hints);
+    let mut steps = Vec::new(alloc);
+    steps.push(clause)?;
+    put_deletions(alloc, &mut steps, rows)?;
+    Ok(steps)
+}
+
+/// Tells a mark and the steps behind it, up to a fault.
+fn tell_marked<L: LogSink>(sink: &mut L, number: u64, steps: &[LogStep]) -> Result<(), CoreFault>
+    requires texts { AllByRecursion (λ s. HasText (event.Step s)) steps.now }
+    ensures told { TellsAll (L.torn sink.new) (event.Conflict number ∷ as_events steps.now) (L.events sink.old) result (L.events sink.new) }
+    ensures write { IfErr result (λ e. e ≡ Write → Rose (L.faults sink.old) (L.faults sink.new)) }
+    ensures faults { FaultsAs result (L.faults sink.old) (L.faults sink.new) }
+    ensures frame { L.keeps sink.old sink.new }
+{
+    match tell_mark(sink, number) {
+        Ok(()) => tell_all(sink, steps),
+        Err(fault) => Err(fault),
+    }
+}
+
+/// Tells what a conflict taught: the mark, the learned clause with its hints, and the deletions of the clauses of rows.
+fn tell_learned<P: ParityEngine, L: LogSink>(
+    alloc: Global,
+    formula: &Formula,
+    kept: &Kept,
+    engine: &P,
+    sink: &mut L,
+    conflict: &LitList,
+    rows: &[LitList],
+    learned: &Learned,
+    hints: IntList,
+) -> Result<(), CoreFault>
+    requires stands { Stands formula.now kept.now (P.state engine.now) rows.now (L.events sink.old) }
+    requires conflict { IsConflict kept.now rows.now conflict.now }
+    requires above { 0 < kept.now.trail.level }
+    requires room { kept.now.next < first_row_id }
+    requires few { kept.now.conflicts < 10 ^ 18 }
+    requires teaches { Teaches kept.now.trail conflict.now (IsSourced kept.now rows.now) learned.now.resolved learned.now.lits learned.now.back_level learned.now.lbd }
+    ensures learned { IfOk result (λ u. Learns formula.now kept.now (P.state engine.now) learned.now.lits learned.now.back_level (L.events sink.new)) }
+    ensures gave_up { IfErr result (λ e. GivesUp formula.now (L.torn sink.new) (L.events sink.new) e) }
+    ensures write { IfErr result (λ e. e ≡ Write → Rose (L.faults sink.old) (L.faults sink.new)) }
+    ensures faults { FaultsAs result (L.faults sink.old) (L.faults sink.new) }
+    ensures frame { L.keeps sink.old sink.new }
+{
+    let steps = steps_of_learned(alloc, kept.next, learned.lits.as_slice(), hints, rows.len())?;
+    tell_marked(sink, kept.conflicts + 1, &steps)
+}
+
+/// The ids of hints: those of the clauses that were asked for, the last first, and then the conflict's.
+fn hints_of(alloc: Global, ids: &[u64], conflict: u64) -> Result<IntList, AllocError> {
+    let mut hints = Vec::with_capacity(alloc, ids.len())?;
+    let mut left = ids.len();
+    while left > 0 {
+        left -= 1;
+        hints.push(as_integer(ids[left]))?;
+    }
+    hints.push(as_integer(conflict))?;
+    Ok(IntList::from_vec(hints))
+}
+
+/// An id as an integer. Ids are small and not 0: any other stands as the greatest integer.
+fn as_integer(id: u64) -> i64
+    ensures { (result ≢ pos 0) × (nat_abs result ≤ 9223372036854775807) }
+{
+    if 0 < id && id < 9_223_372_036_854_775_807 {
+        id as i64
+    } else {
+        i64::MAX
+    }
+}
+
+/// What a conflict above level 0 teaches. The clauses of rows that are told for it come behind these rows, and the ids of the clauses that it rests on behind these ids.
+fn lesson_of<P: ParityEngine, L: LogSink>(
+    alloc: Global,
+    formula: &Formula,
+    kept: &Kept,
+    engine: &P,
+    sink: &mut L,
+    conflict: &LitList,
+    rows: &mut Vec<LitList>,
+    ids: &mut Vec<u64>,
+) -> Result<Learned, CoreFault>
+    requires stands { Stands formula.now kept.now (P.state engine.now) rows.old.items (L.events sink.old) }
+    requires conflict { IsConflict kept.now rows.old.items conflict.now }
+    requires above { 0 < kept.now.trail.level }
+    ensures stands { IfOk result (λ r. Stands formula.now kept.now (P.state engine.now) rows.new.items (L.events sink.new)) }
+    ensures conflict { IsConflict kept.now rows.new.items conflict.now }
+    ensures teaches { IfOk result (λ r. Teaches kept.now.trail conflict.now (IsSourced kept.now rows.new.items) r.resolved r.lits r.back_level r.lbd) }
+    ensures gave_up { IfErr result (λ e. GivesUp formula.now (L.torn sink.new) (L.events sink.new) e) }
+    ensures write { IfErr result (λ e. e ≡ Write → Rose (L.faults sink.old) (L.faults sink.new)) }
+    ensures faults { counted (L.faults sink.old) ≤ counted (L.faults sink.new) }
+    ensures frame { L.keeps sink.old sink.new }
+{
+    let mut source = Source {
+        alloc,
+        formula,
+        kept,
+        engine,
+        sink,
+        rows,
+        ids,
+    };
+    analyse(alloc, &kept.trail, conflict, &mut source)
+}
+
+/// What a conflict above level 0 teaches. Told are the mark, the learned clause with its hints, and the deletions of the clauses of rows.
+///
+/// `Write` comes only where a write fault was counted.
+pub(crate) fn learn<P: ParityEngine, L: LogSink>(
+    alloc: Global,
+    formula: &Formula,
+    kept: &Kept,
+    engine: &P,
+    sink: &mut L,
+    conflict: Conflict,
+) -> Result<Learned, CoreFault>
+    requires stands { Stands formula.now kept.now (P.state engine.now) conflict.rows.items (L.events sink.old) }
+    requires conflict { IsConflict kept.now conflict.rows.items conflict.lits }
+    requires above { 0 < kept.now.trail.level }
+    requires room { kept.now.next < first_row_id }
+    requires few { kept.now.conflicts < 10 ^ 18 }
+    ensures learned { IfOk result (λ r. Learns formula.now kept.now (P.state engine.now) r.lits r.back_level (L.events sink.new)) }
+    ensures gave_up { IfErr result (λ e. GivesUp formula.now (L.torn sink.new) (L.events sink.new) e) }
+    ensures write { IfErr result (λ e. e ≡ Write → Rose (L.faults sink.old) (L.faults sink.new)) }
+    ensures faults { OnOk result (counted (L.faults sink.old) ≤ counted (L.faults sink.new)) }
+    ensures frame { L.keeps sink.old sink.new }
+{
+    let Conflict { lits, id, rows } = conflict;
+    let mut rows = rows;
+    let mut ids = Vec::new(alloc);
+    let learned = lesson_of(
+        alloc, formula, kept, engine, sink, &lits, &mut rows, &mut ids,
+    )?;
+    let hints = hints_of(alloc, &ids, id)?;
+    tell_learned(
+        alloc, formula, kept, engine, sink, &lits, &rows, &learned, hints,
+    )?;
+    Ok(learned)
+}

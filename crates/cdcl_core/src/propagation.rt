@@ -1,0 +1,110 @@
+//! What the clauses and the parities force.
+ghost use Rattle.std.specs.Prelude.{◌≡◌, ◌≢◌, ◌≤◌, [], List, Option, length};
+ghost use Rattle.cx_base.specs.Problem.{Problem};
+ghost use Rattle.cx_semantics.specs.declared.steps.LogEvent.{LogEvent};
+ghost use Rattle.watch_lists.specs.Watching.{Fits};
+ghost use Rattle.watch_lists.specs.Events.{Happens};
+ghost use Rattle.gauss_jordan.specs.State.{State};
+ghost use Rattle.gauss_jordan.specs.declared.state.Mood.TheVariants.{Broken};
+ghost use Rattle.cdcl_core.specs.Ties.{Stands};
+ghost use Rattle.cdcl_core.specs.Finds.{Finds, RowsSay, HasAll};
+
+use crate::kept::Kept;
+use cx_base::{ClauseRef, Formula, Row};
+use cx_trail::Reason;
+use gauss_jordan::{ParityEngine, ParityEvent};
+use watch_lists::Event;
+
+/// What propagation comes to.
+#[derive(Clone, Copy, Debug, Drop)]
+pub(crate) enum Found {
+    /// Nothing more is forced.
+    Quiet,
+    /// Each literal of this clause is false.
+    Clause(ClauseRef),
+    /// The values miss this row.
+    Row(Row),
+}
+
+/// What the rows say.
+#[derive(Clone, Copy, Debug, Drop)]
+pub(crate) enum RowFinding {
+    Quiet,
+    /// A literal was implied, and stands on the trail now.
+    Implied,
+    Conflict(Row),
+}
+
+/// Implies what the clauses force, up to a conflict.
+fn follow_clauses(kept: &mut Kept) -> Event
+    requires { Fits kept.old.watches kept.old.arena kept.old.trail }
+    ensures stands { (formula : Problem) (e : State) (told : Option (List LogEvent)) → Stands formula kept.old e [] told → Stands formula kept.new e [] told }
+    ensures happens { Happens kept.new.watches.attached kept.new.arena kept.new.trail result }
+    ensures grows { length kept.old.trail.entries ≤ length kept.new.trail.entries }
+    ensures same { (kept.new.given ≡ kept.old.given) × (kept.new.trail.level ≡ kept.old.trail.level) × (kept.new.units.items ≡ kept.old.units.items) × (kept.new.conflicts ≡ kept.old.conflicts) × (kept.new.next ≡ kept.old.next) }
+{
+    let event = kept.watches.next_event(&kept.arena, &mut kept.trail);
+    let _sound = kept.trail.len();
+    event
+}
+
+/// Gives the engine the literals of the trail that it does not have yet.
+fn feed<P: ParityEngine>(formula: &Formula, kept: &mut Kept, engine: &mut P)
+    requires stands { (told : Option (List LogEvent)) × Stands formula.now kept.old (P.state engine.old) [] told }
+    requires unbroken { (P.state engine.old).mood ≢ Broken }
+    ensures stands { (told : Option (List LogEvent)) → Stands formula.now kept.old (P.state engine.old) [] told → Stands formula.now kept.new (P.state engine.new) [] told }
+    ensures given { kept.new ≡ record kept.old { given = length kept.old.trail.entries } }
+    ensures unbroken { (P.state engine.new).mood ≢ Broken }
+{
+    for place in kept.given..kept.trail.len() {
+        let literal = kept.trail.entry(place).literal;
+        engine.assign(literal.var(), !literal.is_negative());
+    }
+    kept.given = kept.trail.len();
+}
+
+/// What follows from the parities. An implied literal goes on the trail.
+fn follow_rows<P: ParityEngine>(formula: &Formula, kept: &mut Kept, engine: &mut P) -> RowFinding
+    requires stands { (told : Option (List LogEvent)) × Stands formula.now kept.old (P.state engine.old) [] told }
+    requires unbroken { (P.state engine.old).mood ≢ Broken }
+    requires all { HasAll kept.old }
+    ensures stands { (told : Option (List LogEvent)) → Stands formula.now kept.old (P.state engine.old) [] told → Stands formula.now kept.new (P.state engine.new) [] told }
+    ensures says { RowsSay kept.old kept.new (P.state engine.new) result }
+    ensures same { (kept.new.trail.level ≡ kept.old.trail.level) × (kept.new.units.items ≡ kept.old.units.items) × (kept.new.conflicts ≡ kept.old.conflicts) × (kept.new.next ≡ kept.old.next) }
+{
+    match engine.next_event() {
+        ParityEvent::Quiet => RowFinding::Quiet,
+        ParityEvent::Implied(literal, row) => {
+            kept.trail.imply(literal, Reason::Row(row));
+            RowFinding::Implied
+        }
+        ParityEvent::Conflict(row) => RowFinding::Conflict(row),
+    }
+}
+
+/// Implies what the clauses and the parities force, until both are quiet or one is in conflict.
+pub(crate) fn propagate<P: ParityEngine>(
+    formula: &Formula,
+    kept: &mut Kept,
+    engine: &mut P,
+) -> Found
+    requires stands { (told : Option (List LogEvent)) × Stands formula.now kept.old (P.state engine.old) [] told }
+    requires unbroken { (P.state engine.old).mood ≢ Broken }
+    ensures stands { (told : Option (List LogEvent)) → Stands formula.now kept.old (P.state engine.old) [] told → Stands formula.now kept.new (P.state engine.new) [] told }
+    ensures finds { Finds kept.new (P.state engine.new) result }
+    ensures same { (kept.new.trail.level ≡ kept.old.trail.level) × (kept.new.units.items ≡ kept.old.units.items) × (kept.new.conflicts ≡ kept.old.conflicts) × (kept.new.next ≡ kept.old.next) }
+    ensures grows { length kept.old.trail.entries ≤ length kept.new.trail.entries }
+{
+    loop {
+        match follow_clauses(kept) {
+            Event::Conflict(reference) => return Found::Clause(reference),
+            Event::Quiet => {}
+        }
+        feed(formula, kept, engine);
+        match follow_rows(formula, kept, engine) {
+            RowFinding::Quiet => return Found::Quiet,
+            RowFinding::Implied => {}
+            RowFinding::Conflict(row) => return Found::Row(row),
+        }
+    }
+}

@@ -1,0 +1,186 @@
+//! The search as a whole.
+ghost use Rattle.std.specs.Prelude.{◌≡◌, ◌≢◌, ℕ, ◌+◌, ◌<◌, ◌≤◌, ◌^◌, [], length, OnOk, IfOk, IfErr, MatchOption};
+ghost use Rattle.cx_semantics.specs.Settled.{Settled};
+ghost use Rattle.conflict_learn.specs.Learning.{Rose};
+ghost use Rattle.conflict_learn.specs.declared.fault.CoreFault.TheVariants.{Write};
+ghost use Rattle.cdcl_core.specs.Finds.{Finds};
+ghost use Rattle.cdcl_core.specs.Results.{Answers, IsSettledBy};
+ghost use Rattle.cdcl_core.specs.Searching.{GoesOn, Reaches};
+ghost use Rattle.cdcl_core.specs.Sources.{IsConflict, counted};
+ghost use Rattle.cdcl_core.specs.Tells.{GivesUp};
+ghost use Rattle.cdcl_core.specs.Ties.{Stands};
+ghost use Rattle.cdcl_core.specs.declared.propagation.Found.TheVariants as finding;
+ghost use Rattle.cdcl_core.specs.declared.solving.Outcome.{Outcome};
+ghost use Rattle.cdcl_core.specs.declared.solving.Outcome.TheVariants as outcome;
+
+use crate::conflicts::{Conclusion, Conflict, conflict_clause};
+use crate::ending::{end, tell_ending};
+use crate::jumping::jump;
+use crate::kept::Kept;
+use crate::learning::learn;
+use crate::models::values_of;
+use crate::propagation::Found;
+use crate::rows::FIRST_ROW_ID;
+use crate::searching::search_on;
+use conflict_learn::CoreFault;
+use cx_base::{Formula, Values};
+use gauss_jordan::ParityEngine;
+use log_text::LogSink;
+use std::alloc::Global;
+
+/// What a search comes to.
+#[derive(Debug, Drop)]
+pub enum Outcome {
+    /// These values meet the formula.
+    Sat(Values),
+    /// No values meet the formula. The log ends with the empty clause.
+    Unsat,
+    /// The budget of counted conflicts is used up. Both may be so.
+    Unknown { conflicts: u64 },
+}
+
+/// Learns from a conflict above level 0, and goes back. None: the search goes on.
+fn learn_and_jump<P: ParityEngine, L: LogSink>(
+    alloc: Global,
+    formula: &Formula,
+    kept: &mut Kept,
+    engine: &mut P,
+    budget: u64,
+    sink: &mut L,
+    conflict: Conflict,
+) -> Result<Option<Outcome>, CoreFault>
+    requires stands { Stands formula.now kept.old (P.state engine.old) conflict.rows.items (L.events sink.old) }
+    requires conflict { IsConflict kept.old conflict.rows.items conflict.lits }
+    requires above { 0 < kept.old.trail.level }
+    requires few { (kept.old.conflicts < budget) × (budget ≤ 10 ^ 18) }
+    ensures goes_on { IfOk result (λ o. MatchOption o (GoesOn formula.now budget (L.events sink.new) kept.new (P.state engine.new)) (λ a. Answers formula.now budget (L.events sink.new) a)) }
+    ensures one_more { IfOk result (λ o. MatchOption o (kept.new.conflicts ≡ kept.old.conflicts + 1) (λ _. Unit {0})) }
+    ensures gave_up { IfErr result (λ e. GivesUp formula.now (L.torn sink.new) (L.events sink.new) e) }
+    ensures write { IfErr result (λ e. e ≡ Write → Rose (L.faults sink.old) (L.faults sink.new)) }
+    ensures faults { OnOk result (counted (L.faults sink.old) ≤ counted (L.faults sink.new)) }
+    ensures frame { L.keeps sink.old sink.new }
+{
+    if kept.next >= FIRST_ROW_ID {
+        return Err(CoreFault::Memory);
+    }
+    let learned = learn(alloc, formula, kept, engine, sink, conflict)?;
+    if kept.conflicts + 1 == budget {
+        return Ok(Some(Outcome::Unknown { conflicts: budget }));
+    }
+    jump(formula, kept, engine, &learned)?;
+    Ok(None)
+}
+
+/// What a conflict above level 0 brings. None: the search goes on.
+fn meet_conflict<P: ParityEngine, L: LogSink>(
+    alloc: Global,
+    formula: &Formula,
+    kept: &mut Kept,
+    engine: &mut P,
+    budget: u64,
+    sink: &mut L,
+    found: Found,
+) -> Result<Option<Outcome>, CoreFault>
+    requires stands { Stands formula.now kept.old (P.state engine.old) [] (L.events sink.old) }
+    requires found { Finds kept.old (P.state engine.old) found }
+    requires conflict { found ≢ finding.Quiet }
+    requires above { 0 < kept.old.trail.level }
+    requires few { (kept.old.conflicts < budget) × (budget ≤ 10 ^ 18) }
+    ensures goes_on { IfOk result (λ o. MatchOption o (GoesOn formula.now budget (L.events sink.new) kept.new (P.state engine.new)) (λ a. Answers formula.now budget (L.events sink.new) a)) }
+    ensures one_more { IfOk result (λ o. MatchOption o (kept.new.conflicts ≡ kept.old.conflicts + 1) (λ _. Unit {0})) }
+    ensures gave_up { IfErr result (λ e. GivesUp formula.now (L.torn sink.new) (L.events sink.new) e) }
+    ensures write { IfErr result (λ e. e ≡ Write → Rose (L.faults sink.old) (L.faults sink.new)) }
+    ensures faults { OnOk result (counted (L.faults sink.old) ≤ counted (L.faults sink.new)) }
+    ensures frame { L.keeps sink.old sink.new }
+{
+    match conflict_clause(alloc, formula, kept, engine, sink, found)? {
+        Conclusion::Clause(conflict) => learn_and_jump(
+            alloc, formula, kept, engine, budget, sink, conflict,
+        ),
+        Conclusion::Ending(steps) => {
+            tell_ending(formula, kept, sink, &steps)?;
+            Ok(Some(Outcome::Unsat))
+        }
+    }
+}
+
+/// What the search comes to where it stops: the values of a full trail, the end of the log at level 0, or what a conflict brings. None: the search goes on.
+fn conclude<P: ParityEngine, L: LogSink>(
+    alloc: Global,
+    formula: &Formula,
+    kept: &mut Kept,
+    engine: &mut P,
+    budget: u64,
+    sink: &mut L,
+    found: Found,
+) -> Result<Option<Outcome>, CoreFault>
+    requires stands { Stands formula.now kept.old (P.state engine.old) [] (L.events sink.old) }
+    requires reaches { Reaches kept.old (P.state engine.old) found }
+    requires few { (kept.old.conflicts < budget) × (budget ≤ 10 ^ 18) }
+    ensures goes_on { IfOk result (λ o. MatchOption o (GoesOn formula.now budget (L.events sink.new) kept.new (P.state engine.new)) (λ a. Answers formula.now budget (L.events sink.new) a)) }
+    ensures one_more { IfOk result (λ o. MatchOption o (kept.new.conflicts ≡ kept.old.conflicts + 1) (λ _. Unit {0})) }
+    ensures at_start { kept.old.trail.level ≡ 0 → IfOk result (λ o. MatchOption o ⊥ (λ a. IsSettledBy formula.now (kept.old.conflicts + 1) (L.events sink.new) a)) }
+    ensures gave_up { IfErr result (λ e. GivesUp formula.now (L.torn sink.new) (L.events sink.new) e) }
+    ensures write { IfErr result (λ e. e ≡ Write → Rose (L.faults sink.old) (L.faults sink.new)) }
+    ensures faults { OnOk result (counted (L.faults sink.old) ≤ counted (L.faults sink.new)) }
+    ensures frame { L.keeps sink.old sink.new }
+{
+    if let Found::Quiet = found {
+        let values = values_of(alloc, formula, kept, engine)?;
+        return Ok(Some(Outcome::Sat(values)));
+    }
+    if kept.trail.level() > 0 {
+        return meet_conflict(alloc, formula, kept, engine, budget, sink, found);
+    }
+    end(alloc, formula, kept, engine, sink, found)?;
+    Ok(Some(Outcome::Unsat))
+}
+
+/// Searches up to the next conflict or a full trail, and acts on it. None: the search goes on.
+fn round<P: ParityEngine, L: LogSink>(
+    alloc: Global,
+    formula: &Formula,
+    kept: &mut Kept,
+    engine: &mut P,
+    budget: u64,
+    sink: &mut L,
+) -> Result<Option<Outcome>, CoreFault>
+    requires goes_on { GoesOn formula.now budget (L.events sink.old) kept.old (P.state engine.old) }
+    requires few { budget ≤ 10 ^ 18 }
+    ensures goes_on { IfOk result (λ o. MatchOption o (GoesOn formula.now budget (L.events sink.new) kept.new (P.state engine.new)) (λ a. Answers formula.now budget (L.events sink.new) a)) }
+    ensures one_more { IfOk result (λ o. MatchOption o (kept.new.conflicts ≡ kept.old.conflicts + 1) (λ _. Unit {0})) }
+    ensures settled { Settled formula.now → kept.old.trail.level ≡ 0 → IfOk result (λ o. MatchOption o ⊥ (λ a. IsSettledBy formula.now (kept.old.conflicts + 1) (L.events sink.new) a)) }
+    ensures gave_up { IfErr result (λ e. GivesUp formula.now (L.torn sink.new) (L.events sink.new) e) }
+    ensures write { IfErr result (λ e. e ≡ Write → Rose (L.faults sink.old) (L.faults sink.new)) }
+    ensures faults { OnOk result (counted (L.faults sink.old) ≤ counted (L.faults sink.new)) }
+    ensures frame { L.keeps sink.old sink.new }
+{
+    let found = search_on(alloc, formula, kept, engine, sink)?;
+    conclude(alloc, formula, kept, engine, budget, sink, found)
+}
+
+/// Searches up to the budget.
+pub(crate) fn search<P: ParityEngine, L: LogSink>(
+    alloc: Global,
+    formula: &Formula,
+    kept: &mut Kept,
+    engine: &mut P,
+    budget: u64,
+    sink: &mut L,
+) -> Result<Outcome, CoreFault>
+    requires goes_on { GoesOn formula.now budget (L.events sink.old) kept.old (P.state engine.old) }
+    requires few { budget ≤ 10 ^ 18 }
+    requires level { kept.old.trail.level ≡ 0 }
+    requires none { kept.old.conflicts ≡ 0 }
+    ensures answers { IfOk result (λ a. Answers formula.now budget (L.events sink.new) a) }
+    ensures settled { Settled formula.now → IfOk result (λ a. IsSettledBy formula.now 1 (L.events sink.new) a) }
+    ensures gave_up { IfErr result (λ e. GivesUp formula.now (L.torn sink.new) (L.events sink.new) e) }
+    ensures write { IfErr result (λ e. e ≡ Write → Rose (L.faults sink.old) (L.faults sink.new)) }
+    ensures frame { L.keeps sink.old sink.new }
+{
+    loop {
+        if let Some(outcome) = round(alloc, formula, kept, engine, budget, sink)? {
+            return Ok(outcome);
+        }
+    }
+}
