@@ -11,3 +11,5 @@ mod elab;
 mod model;
 #[cfg(test)]
 mod refusals;
+#[cfg(test)]
+mod solve;

@@ -19,9 +19,9 @@ use Rattle.solve_cli.specs.declared.ending.Outcome.TheVariants as outcome
 use Rattle.solve_cli.specs.declared.ending.Status.{Status}
 use Rattle.solve_cli.specs.declared.ending.Status.TheVariants as status
 use Rattle.solve_cli.specs.Endings.{status_of, status_of_ending, answer_text, message_text}
-use Rattle.solve_cli.specs.Seen.{Seen, says, asks_proof, creates, text_named}
+use Rattle.solve_cli.specs.Seen.{Seen, says, creates, text_named}
 use Rattle.solve_cli.specs.Commands.{is_built, Stage, second_started, proof_created, asked_to}
-use Rattle.solve_cli.specs.Happens.{end_stage, LateDue, Gains, Ends, Stops, CreateFails, ProofFails, Due, AsksForMore, Works, WorksFor, Tells, Runs, Comes, IsSound, IsElaborated}
+use Rattle.solve_cli.specs.Happens.{end_stage, LateDue, Gains, Ends, Stops, Due, AsksForMore, Works, WorksFor, Tells, Runs, Comes, IsSound, IsElaborated}
 use Rattle.solve_cli.proofs.OneEnding.{one_formula}
 use Rattle.solve_cli.proofs.Words.{one_plan, not_refused}
 use Rattle.solve_cli.proofs.Works.{if_some, if_some_both, faults_at}
@@ -84,6 +84,8 @@ is_ending status.ProofRefused = true
 is_ending status.LogRefused = true
 is_ending status.AnswerRefused = true
 is_ending status.Limit = true
+is_ending status.Satisfiable = true
+is_ending status.Unsatisfiable = true
 is_ending status.Usage = false
 is_ending status.ReadFault = false
 is_ending status.WriteFault = false
@@ -102,6 +104,9 @@ ending_status ending.ModelRight = refl
 ending_status (ending.ModelWrong w) = refl
 ending_status (ending.Elaborated k) = refl
 ending_status (ending.NotElaborated k c) = refl
+ending_status (ending.Satisfiable v) = refl
+ending_status ending.Unsatisfiable = refl
+ending_status (ending.Unknown k) = refl
 
 -- a status of no ending
 no_ending : (s : Status) (e : Ending) → is_ending s ≡ false → s ≡ status_of_ending e → ⊥
@@ -129,15 +134,19 @@ is_usage outcome.Memory e = cc
 is_usage (outcome.Ended d) e = absurd (no_ending status.Usage d refl e)
 
 -- the outcomes of status 0
-data Done : Outcome → Type 0 where
+pub data Done : Outcome → Type 0 where
   verified : (k : ℕ) → Done (outcome.Ended (ending.Verified k))
   right : Done (outcome.Ended ending.ModelRight)
   elaborated : (k : ℕ) → Done (outcome.Ended (ending.Elaborated k))
+  unknown : (k : ℕ) → Done (outcome.Ended (ending.Unknown k))
 
 done_ending : (e : Ending) → status.Done ≡ status_of_ending e → Done (outcome.Ended e)
 done_ending (ending.Verified k) e = verified k
 done_ending ending.ModelRight e = right
 done_ending (ending.Elaborated k) e = elaborated k
+done_ending (ending.Unknown k) e = unknown k
+done_ending (ending.Satisfiable v) e = cc
+done_ending ending.Unsatisfiable e = cc
 done_ending (ending.ModelWrong w) e = cc
 done_ending (ending.NotElaborated k c) e = cc
 done_ending (ending.FormulaRefused (offence.NoHeader b)) e = cc
@@ -148,7 +157,7 @@ done_ending (ending.FormulaRefused (offence.VarLimit b)) e = cc
 done_ending (ending.TooLong s) e = cc
 done_ending (ending.NotVerified k c) e = cc
 
-is_done : (o : Outcome) → status.Done ≡ status_of o → Done o
+pub is_done : (o : Outcome) → status.Done ≡ status_of o → Done o
 is_done (outcome.Ended d) e = done_ending d e
 is_done outcome.Usage e = cc
 is_done outcome.WriteFault e = cc
@@ -168,6 +177,12 @@ due_is_unmet f q limit files formula _ (elaborated k) (inl early) reads = absurd
 due_is_unmet f q limit files formula _ (elaborated k) (inr late) reads = absurd (none late.due)
   where
     none : LateDue (plan.Check f q) limit late.formula (text_named q files) (ending.Elaborated k) → ⊥
+    none (inl h) = let e = h.1 in cc
+    none (inr h) = h.1
+due_is_unmet f q limit files formula _ (unknown k) (inl early) reads = absurd early
+due_is_unmet f q limit files formula _ (unknown k) (inr late) reads = absurd (none late.due)
+  where
+    none : LateDue (plan.Check f q) limit late.formula (text_named q files) (ending.Unknown k) → ⊥
     none (inl h) = let e = h.1 in cc
     none (inr h) = h.1
 due_is_unmet f q limit files formula _ (verified k) (inl early) reads = absurd early
@@ -191,6 +206,12 @@ left_is_accepted f l q limit files formula _ proof right (inr late) gains reads 
     none : LateDue (plan.Elab f l q) limit late.formula (text_named l files) ending.ModelRight → ⊥
     none (inl h) = let e = h.1 in cc
     none (inr h) = h.1
+left_is_accepted f l q limit files formula _ proof (unknown k) (inl early) gains reads = absurd early
+left_is_accepted f l q limit files formula _ proof (unknown k) (inr late) gains reads = absurd (none late.due)
+  where
+    none : LateDue (plan.Elab f l q) limit late.formula (text_named l files) (ending.Unknown k) → ⊥
+    none (inl h) = let e = h.1 in cc
+    none (inr h) = h.1
 left_is_accepted f l q limit files formula _ proof (verified k) (inl early) gains reads = absurd early
 left_is_accepted f l q limit files formula _ proof (verified k) (inr late) gains reads = absurd (none late.due)
   where
@@ -203,6 +224,7 @@ done_late : (e : Ending) → Done (outcome.Ended e) → end_stage e ≡ proof_cr
 done_late _ (verified k) = refl
 done_late _ right = refl
 done_late _ (elaborated k) = refl
+done_late _ (unknown k) = refl
 
 module _ (words : List Bytes) (limit : ℕ) (old : Seen) (s : Status) (new : Seen) (h : Runs words limit old s new) where
   kept : Kept h.done new
@@ -256,10 +278,11 @@ module _ (words : List Bytes) (limit : ℕ) (old : Seen) (s : Status) (new : See
   complete p asks built no_read no_write = go p h.outcome asks built h.status_is h.works no_read no_write
 
   -- a status of 0 comes from an ending of the command
-  from_done : (p : Plan) (o : Outcome) → Asks words p → Done o → WorksFor words limit old o h.done → (e : Ending) × Done (outcome.Ended e) × Works p limit old (outcome.Ended e) h.done
+  pub from_done : (p : Plan) (o : Outcome) → Asks words p → Done o → WorksFor words limit old o h.done → (e : Ending) × Done (outcome.Ended e) × Works p limit old (outcome.Ended e) h.done
   from_done p _ asks (verified k) w = (ending.Verified k, verified k, subst (λ (x : Plan). Works x limit old (outcome.Ended (ending.Verified k)) h.done) (one_plan words w.0 p w.1 asks) w.2)
   from_done p _ asks right w = (ending.ModelRight, right, subst (λ (x : Plan). Works x limit old (outcome.Ended ending.ModelRight) h.done) (one_plan words w.0 p w.1 asks) w.2)
   from_done p _ asks (elaborated k) w = (ending.Elaborated k, elaborated k, subst (λ (x : Plan). Works x limit old (outcome.Ended (ending.Elaborated k)) h.done) (one_plan words w.0 p w.1 asks) w.2)
+  from_done p _ asks (unknown k) w = (ending.Unknown k, unknown k, subst (λ (x : Plan). Works x limit old (outcome.Ended (ending.Unknown k)) h.done) (one_plan words w.0 p w.1 asks) w.2)
 
   -- a proof is verified only where no values meet the formula
   pub sound : IsSound words old s

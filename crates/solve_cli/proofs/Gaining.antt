@@ -1,5 +1,5 @@
 -- What the elaborator leaves on the Proof port, in the words of the top call.
-use Rattle.std.proofs.Common.{◌≡◌, ◌≤◌, ◌<◌, ℕ, ◌+◌, List, [], ◌∷◌, ◌++◌, Bool, true, false, length, take, drop, flat_map, option_map, Option, Some, None, IfSome, Result, Ok, Err, IfOk, IfErr, inl, inr, refl, ap, sym, subst, ◌∙◌, append-nil, append_assoc, length-append, arith}
+use Rattle.std.proofs.Common.{◌≡◌, ◌<◌, ℕ, List, [], ◌∷◌, ◌++◌, Bool, true, false, length, take, drop, option_map, Option, Some, None, IfSome, Result, Ok, Err, IfOk, IfErr, inl, inr, refl, ap, sym, subst, ◌∙◌, append-nil, append_assoc, length-append, arith}
 use Rattle.std.proofs.lemmas.Grind.{flat_map-append}
 use Rattle.std.proofs.lemmas.List.{take-append-drop}
 use Rattle.std.specs.List.{AllByRecursion}
@@ -15,7 +15,7 @@ use Rattle.cx_semantics.specs.Printed.{HasProofText, printed_proof}
 use Rattle.cx_semantics.specs.ProofRules.{proof_calculus, after_step, adds_empty_clause}
 use Rattle.cx_semantics.proofs.PrintingProofs.{printed_proof_reads}
 use Rattle.cx_desk.specs.declared.desk.Port.TheVariants as port
-use Rattle.cx_desk.specs.Outside.{Bytes, Files, Told, Outside}
+use Rattle.cx_desk.specs.Outside.{Bytes, Told, Outside}
 use Rattle.cx_desk.specs.Calls.{gained, WriteFaulted}
 use Rattle.proof_text.specs.Sources.{Rose}
 use Rattle.proof_text.specs.Told.{told_steps, steps_told, fault_of, is_none, begun_line, is_whole, step_line, TornOn, Prints, Tears, Goes}
@@ -181,7 +181,7 @@ torn_right f (Some t) o n h step empty gains torn =
     let runs = subst (Torn f step) (sym same) found.2 in
     torn_front f h.steps step h.part line_of.1 h.kept line (right_on f runs.0 h.steps step runs.1 runs.2)
 
-write_fault : (text : Bytes) (o n : Outside) → WriteFaulted (gained port.Proof text o) n → WriteFault (says port.Proof text (seen o)) (seen n)
+pub write_fault : (text : Bytes) (o n : Outside) → WriteFaulted (gained port.Proof text o) n → WriteFault (says port.Proof text (seen o)) (seen n)
 write_fault text o n h = record {
   else_same = ap seen h.else_same ∙ ap (λ (s : Seen). record s { faults = record s.faults { writes = n.faults.writes } }) (seen-gained port.Proof text o);
   rose = h.rose;

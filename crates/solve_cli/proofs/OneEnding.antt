@@ -61,6 +61,9 @@ module _ (readings : FormulasReadInOneWay) where
   early limit text (ending.ModelWrong w) h = absurd h
   early limit text (ending.Elaborated k) h = absurd h
   early limit text (ending.NotElaborated k c) h = absurd h
+  early limit text (ending.Satisfiable v) h = absurd h
+  early limit text ending.Unsatisfiable h = absurd h
+  early limit text (ending.Unknown k) h = absurd h
 
   two_early : (limit : ℕ) (text : Bytes) (d e : Ending) → Early limit text d → Early limit text e → d ≡ e
   two_early limit text _ _ (bad a _ p) (bad b _ q) = ap ending.FormulaRefused (one_offence text a b p q)
@@ -107,6 +110,9 @@ module _ (judgements : ProofsAreJudgedInOneWay) where
   of_proof n q f text (ending.ModelWrong w) h = absurd h
   of_proof n q f text (ending.Elaborated k) h = absurd h
   of_proof n q f text (ending.NotElaborated k c) h = absurd h
+  of_proof n q f text (ending.Satisfiable v) h = absurd h
+  of_proof n q f text ending.Unsatisfiable h = absurd h
+  of_proof n q f text (ending.Unknown k) h = absurd h
 
   two_of_proof : (f : Problem) (text : Bytes) (d e : Ending) → OfProof f text d → OfProof f text e → d ≡ e
   two_of_proof f text _ _ (proof_right k p) (proof_right j q) = let e : accepted k ≡ accepted j = judging f text (accepted k) (accepted j) p q in let s : k ≡ j = cc in ap ending.Verified s
@@ -136,6 +142,9 @@ module _ (judgements : LogsAreJudgedInOneWay) where
   of_log n l q f text (ending.ModelWrong w) h = absurd h
   of_log n l q f text (ending.Verified k) h = absurd h
   of_log n l q f text (ending.NotVerified k c) h = absurd h
+  of_log n l q f text (ending.Satisfiable v) h = absurd h
+  of_log n l q f text ending.Unsatisfiable h = absurd h
+  of_log n l q f text (ending.Unknown k) h = absurd h
 
   two_of_log : (f : Problem) (text : Bytes) (d e : Ending) → OfLog f text d → OfLog f text e → d ≡ e
   two_of_log f text _ _ (log_right k p) (log_right j q) = let e : accepted k ≡ accepted j = judging_logs f text (accepted k) (accepted j) p q in let s : k ≡ j = cc in ap ending.Elaborated s
@@ -195,6 +204,9 @@ module _ (judgements : AnswersAreJudgedInOneWay) where
   of_answer n a f text (ending.NotVerified k c) h = absurd h
   of_answer n a f text (ending.Elaborated k) h = absurd h
   of_answer n a f text (ending.NotElaborated k c) h = absurd h
+  of_answer n a f text (ending.Satisfiable v) h = absurd h
+  of_answer n a f text ending.Unsatisfiable h = absurd h
+  of_answer n a f text (ending.Unknown k) h = absurd h
 
   right_and_wrong : (f : Problem) (text : Bytes) (values : List Bool) (w : WrongAnswer) → AnswerReads text f values → AnswerRefusedFor text f (refusal_of w) → ⊥
   right_and_wrong f text values w h k =

@@ -12,7 +12,7 @@ use Rattle.cx_desk.specs.declared.desk.Slot.{Slot}
 use Rattle.cx_desk.specs.declared.desk.Slot.TheVariants as slot
 use Rattle.cx_desk.specs.declared.desk.Port.{Port}
 use Rattle.cx_desk.specs.declared.desk.Port.TheVariants as port
-use Rattle.cx_desk.specs.Outside.{Bytes, Files, Written, Outside, Faults}
+use Rattle.cx_desk.specs.Outside.{Bytes, Files, Written, Outside}
 use Rattle.cx_desk.specs.Calls.{gained, PutsAll, MessageFaulted}
 use Rattle.cx_words.specs.declared.plans.Plan.{Plan}
 use Rattle.cx_words.specs.declared.plans.Plan.TheVariants as plan
@@ -22,9 +22,10 @@ use Rattle.solve_cli.specs.declared.ending.Outcome.{Outcome}
 use Rattle.solve_cli.specs.declared.ending.Outcome.TheVariants as outcome
 use Rattle.solve_cli.specs.Endings.{answer_text}
 use Rattle.solve_cli.specs.Seen.{Seen, seen, asks, asks_proof, creates, says, append_to, ReadFault, WriteFault, MessageFault, text_named}
-use Rattle.solve_cli.specs.Commands.{formula_of, second_of, proof_of, Stage, formula_started, second_started, proof_created, starts, gives_file, asked_to, text_of, second_text}
-use Rattle.solve_cli.specs.Happens.{is_early, end_stage, Named, FormulaRead, IsFormula, FormulaIn, Judged, LateDue, Gains, SoFar, Reaches, Ends, Stops, Works, Tells}
+use Rattle.solve_cli.specs.Commands.{formula_of, second_of, proof_of, Stage, formula_started, second_started, proof_created, starts, gives_file, asked_to, text_of}
+use Rattle.solve_cli.specs.Happens.{is_early, Named, FormulaRead, IsFormula, FormulaIn, Judged, Gains, SoFar, Reaches, Ends, Stops, Works, Tells}
 use Rattle.solve_cli.specs.Proofs.{IsRightSoFar}
+use Rattle.solve_cli.proofs.Logging.{nothing_logged}
 use Rattle.solve_cli.specs.Steps.{FormulaFails, ReadFails, Answers, Loaded, HasNoProof, LeftBy, Elaborated, refused_as}
 
 pub if_some : {X : Type 0} {P Q : X → Type 0} (w : Option X) → IfSome w P → ((x : X) → P x → Q x) → IfSome w Q
@@ -41,7 +42,7 @@ append_to-none port.Proof w = simp append-nil
 append_to-none port.Message w = simp append-nil
 
 -- nothing said is nothing done
-says-none : (p : Port) (text : Bytes) (s : Seen) → text ≡ [] → says p text s ≡ s
+pub says-none : (p : Port) (text : Bytes) (s : Seen) → text ≡ [] → says p text s ≡ s
 says-none p text s e = rw e (elim s.written as (λ w. says p [] (record s { written = w }) ≡ record s { written = w }) [
   | None ↦ refl
   | Some w ↦ rw (append_to-none p w) refl
@@ -63,6 +64,9 @@ early_text ending.ModelRight h = cc
 early_text (ending.ModelWrong w) h = cc
 early_text (ending.Elaborated k) h = cc
 early_text (ending.NotElaborated k c) h = cc
+early_text (ending.Satisfiable v) h = cc
+early_text ending.Unsatisfiable h = cc
+early_text (ending.Unknown k) h = cc
 
 too_long_text : (s : Slot) → answer_text (ending.TooLong s) ≡ []
 unfolding answer_text
@@ -132,9 +136,22 @@ early_gains (plan.Elab n l q) limit files ending.ModelRight h = refl
 early_gains (plan.Elab n l q) limit files (ending.ModelWrong w) h = refl
 early_gains (plan.Elab n l q) limit files (ending.Verified k) h = refl
 early_gains (plan.Elab n l q) limit files (ending.NotVerified k c) h = refl
+early_gains (plan.Elab n l q) limit files (ending.Satisfiable v) h = refl
+early_gains (plan.Elab n l q) limit files ending.Unsatisfiable h = refl
+early_gains (plan.Elab n l q) limit files (ending.Unknown k) h = refl
 early_gains (plan.Check n q) limit files e h = refl
 early_gains (plan.Model n a) limit files e h = refl
-early_gains (plan.Solve n l c) limit files e h = refl
+early_gains (plan.Solve n l c) limit files (ending.FormulaRefused o) h = refl
+early_gains (plan.Solve n l c) limit files (ending.TooLong s) h = refl
+early_gains (plan.Solve n l c) limit files (ending.Verified k) h = refl
+early_gains (plan.Solve n l c) limit files (ending.NotVerified k d) h = refl
+early_gains (plan.Solve n l c) limit files ending.ModelRight h = refl
+early_gains (plan.Solve n l c) limit files (ending.ModelWrong w) h = refl
+early_gains (plan.Solve n l c) limit files (ending.Elaborated k) h = refl
+early_gains (plan.Solve n l c) limit files (ending.NotElaborated k d) h = refl
+early_gains (plan.Solve n l c) limit files (ending.Satisfiable v) h = cc
+early_gains (plan.Solve n l c) limit files ending.Unsatisfiable h = cc
+early_gains (plan.Solve n l c) limit files (ending.Unknown k) h = cc
 early_gains (plan.Demo a b c) limit files e h = refl
 
 too_long_gains : (p : Plan) (limit : ℕ) (files : Files) (s : Slot) → Gains p limit files (ending.TooLong s) []
@@ -160,7 +177,7 @@ nothing_yet second_started (plan.Model n a) limit old h = all_files old.files (�
 nothing_yet proof_created (plan.Model n a) limit old h = all_files old.files (λ files. refl)
 nothing_yet formula_started (plan.Solve n l c) limit old h = all_files old.files (λ files. refl)
 nothing_yet second_started (plan.Solve n l c) limit old h = all_files old.files (λ files. refl)
-nothing_yet proof_created (plan.Solve n l c) limit old h = all_files old.files (λ files. refl)
+nothing_yet proof_created (plan.Solve n l c) limit old h = if_some old.files h (λ files r. (r.0, r.1, nothing_logged r.0))
 nothing_yet formula_started (plan.Demo a b c) limit old h = all_files old.files (λ files. refl)
 nothing_yet second_started (plan.Demo a b c) limit old h = all_files old.files (λ files. refl)
 nothing_yet proof_created (plan.Demo a b c) limit old h = all_files old.files (λ files. refl)
@@ -277,6 +294,9 @@ second_failed p name limit old f mid (outcome.Ended ending.ModelRight) new named
 second_failed p name limit old f mid (outcome.Ended (ending.ModelWrong w)) new named is read h = absurd h
 second_failed p name limit old f mid (outcome.Ended (ending.Elaborated k)) new named is read h = absurd h
 second_failed p name limit old f mid (outcome.Ended (ending.NotElaborated k c)) new named is read h = absurd h
+second_failed p name limit old f mid (outcome.Ended (ending.Satisfiable v)) new named is read h = absurd h
+second_failed p name limit old f mid (outcome.Ended ending.Unsatisfiable) new named is read h = absurd h
+second_failed p name limit old f mid (outcome.Ended (ending.Unknown k)) new named is read h = absurd h
 second_failed p name limit old f mid outcome.WriteFault new named is read h = absurd h
 second_failed p name limit old f mid outcome.Usage new named is read h = absurd h
 
@@ -315,7 +335,7 @@ answered p limit old e before outcome.ReadFault new ends h = absurd h
 answered p limit old e before outcome.Memory new ends h = absurd h
 answered p limit old e before outcome.Usage new ends h = absurd h
 
-judged_late : (e : Ending) (p : Plan) (f : Problem) (text : Bytes) → Judged e p f text → is_early e ≡ false
+pub judged_late : (e : Ending) (p : Plan) (f : Problem) (text : Bytes) → Judged e p f text → is_early e ≡ false
 judged_late (ending.FormulaRefused o) p f text h = absurd h
 judged_late (ending.TooLong s) p f text h = absurd h
 judged_late (ending.Verified k) p f text h = refl
@@ -324,6 +344,9 @@ judged_late ending.ModelRight p f text h = refl
 judged_late (ending.ModelWrong w) p f text h = refl
 judged_late (ending.Elaborated k) p f text h = refl
 judged_late (ending.NotElaborated k c) p f text h = refl
+judged_late (ending.Satisfiable v) p f text h = refl
+judged_late ending.Unsatisfiable p f text h = refl
+judged_late (ending.Unknown k) p f text h = refl
 
 -- both texts were read, and what they come to
 pub ends : (p : Plan) (limit : ℕ) (old : Seen) (f : Problem) (text : Bytes) (e : Ending) (proof : Bytes) (mid : Seen)
@@ -371,6 +394,9 @@ left_gains n l q limit files f (ending.Verified k) proof read left = absurd left
 left_gains n l q limit files f (ending.NotVerified k c) proof read left = absurd left
 left_gains n l q limit files f ending.ModelRight proof read left = absurd left
 left_gains n l q limit files f (ending.ModelWrong w) proof read left = absurd left
+left_gains n l q limit files f (ending.Satisfiable v) proof read left = absurd left
+left_gains n l q limit files f ending.Unsatisfiable proof read left = absurd left
+left_gains n l q limit files f (ending.Unknown k) proof read left = absurd left
 
 if_some_three : {X : Type 0} {P Q R S : X → Type 0} (w : Option X) → IfSome w P → IfSome w Q → IfSome w R → ((x : X) → P x → Q x → R x → S x) → IfSome w S
 if_some_three None p q r f = tt

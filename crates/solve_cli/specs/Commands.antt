@@ -9,7 +9,7 @@ use Rattle.solve_cli.specs.Seen.{Seen, asks, creates, text_named}
 
 -- the commands that this version carries out
 abbrev pub is_built : Plan → Bool
-is_built (plan.Solve formula log conflicts) = false
+is_built (plan.Solve formula log conflicts) = true
 is_built (plan.Check formula proof) = true
 is_built (plan.Elab formula log proof) = true
 is_built (plan.Model formula answer) = true

@@ -6,6 +6,7 @@ use Rattle.cx_semantics.specs.declared.offence.Offence.{Offence}
 use Rattle.cx_semantics.specs.declared.offence.Offence.TheVariants as offence
 use Rattle.cx_semantics.specs.declared.steps.Cause.{Cause}
 use Rattle.cx_semantics.specs.declared.steps.Cause.TheVariants as cause
+use Rattle.cx_semantics.specs.AnswerText as printed
 use Rattle.solve_cli.specs.declared.ending.Ending.{Ending}
 use Rattle.solve_cli.specs.declared.ending.Ending.TheVariants as ending
 use Rattle.solve_cli.specs.declared.ending.WrongAnswer.{WrongAnswer}
@@ -26,6 +27,8 @@ code_of status.ProofRefused = 7
 code_of status.LogRefused = 8
 code_of status.Limit = 9
 code_of status.AnswerRefused = 11
+code_of status.Satisfiable = 10
+code_of status.Unsatisfiable = 20
 
 -- a variable above the limit is the limit's, and every other offence the formula's
 abbrev pub status_of_offence : Offence → Status
@@ -44,6 +47,9 @@ status_of_ending ending.ModelRight = status.Done
 status_of_ending (ending.ModelWrong w) = status.AnswerRefused
 status_of_ending (ending.Elaborated k) = status.Done
 status_of_ending (ending.NotElaborated k c) = status.LogRefused
+status_of_ending (ending.Satisfiable v) = status.Satisfiable
+status_of_ending ending.Unsatisfiable = status.Unsatisfiable
+status_of_ending (ending.Unknown k) = status.Done
 
 abbrev pub status_of : Outcome → Status
 status_of (outcome.Ended e) = status_of_ending e
@@ -111,6 +117,9 @@ answer_text ending.ModelRight = codes "s MODEL RIGHT\n"
 answer_text (ending.ModelWrong w) = wrong_text w
 answer_text (ending.Elaborated k) = codes "s ELABORATED\n"
 answer_text (ending.NotElaborated k c) = joined (codes "c step " ∷ decimal k ∷ codes " " ∷ log_cause_text c ∷ codes "\ns NOT ELABORATED\n" ∷ [])
+answer_text (ending.Satisfiable v) = printed.answer_text v
+answer_text ending.Unsatisfiable = codes "s UNSATISFIABLE\n"
+answer_text (ending.Unknown k) = joined (codes "c conflicts " ∷ decimal k ∷ codes "\ns UNKNOWN\n" ∷ [])
 
 abbrev pub slot_text : Slot → List ℕ
 slot_text slot.Formula = codes "formula"
@@ -134,6 +143,9 @@ message_text (outcome.Ended ending.ModelRight) = []
 message_text (outcome.Ended (ending.ModelWrong w)) = []
 message_text (outcome.Ended (ending.Elaborated k)) = []
 message_text (outcome.Ended (ending.NotElaborated k c)) = []
+message_text (outcome.Ended (ending.Satisfiable v)) = []
+message_text (outcome.Ended ending.Unsatisfiable) = []
+message_text (outcome.Ended (ending.Unknown k)) = []
 message_text outcome.Usage = codes "error: usage\nusage: cxsat solve FORMULA [--proof LOG] [--conflicts N]\nusage: cxsat check FORMULA PROOF\nusage: cxsat elab FORMULA LOG PROOF\nusage: cxsat model FORMULA ANSWER\nusage: cxsat demo KIND SIZE SEED\n"
 message_text outcome.ReadFault = codes "error: read fault\n"
 message_text outcome.WriteFault = codes "error: write fault\n"

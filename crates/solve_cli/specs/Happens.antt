@@ -1,9 +1,11 @@
 -- What a command may do: which ending is due for its files, and which outcome may come in its place.
 use Rattle.std.specs.Prelude.{◌≡◌, ◌<◌, ◌≤◌, ℕ, Bool, true, false, List, [], length, take, if◌then◌else◌, Option, Some, None, IfSome, IsTrue, IsFalse, ◌⊎◌}
-use Rattle.cx_base.specs.Problem.{Problem, Unmet}
+use Rattle.cx_base.specs.Problem.{Problem, Meets, Unmet}
 use Rattle.cx_semantics.specs.FormulaText.{Reads, FirstOffence}
 use Rattle.cx_semantics.specs.ProofRules.{Accepted, RefusedAt}
 use Rattle.cx_semantics.specs.LogRules.{LogRight, LogRefusedAt}
+use Rattle.cx_semantics.specs.Marked.{Budgeted}
+use Rattle.cx_semantics.specs.Settled.{Settled}
 use Rattle.model_out.specs.Answers.{AnswerReads, AnswerRefusedFor}
 use Rattle.model_out.specs.declared.refusal.AnswerRefusal.{AnswerRefusal}
 use Rattle.model_out.specs.declared.refusal.AnswerRefusal.TheVariants as refusal
@@ -24,6 +26,7 @@ use Rattle.solve_cli.specs.declared.ending.Status.TheVariants as status
 use Rattle.solve_cli.specs.Endings.{status_of, status_of_ending, answer_text, message_text}
 use Rattle.solve_cli.specs.Seen.{Seen, asks_proof, says, ReadFault, WriteFault, MessageFault, text_named}
 use Rattle.solve_cli.specs.Proofs.{IsWholeProof, IsProofBefore, IsRightSoFar}
+use Rattle.solve_cli.specs.Logs.{IsOpenLog, IsClosedLog, IsLogSoFar}
 use Rattle.solve_cli.specs.Commands.{is_built, formula_of, proof_of, writes_proof, Stage, formula_started, second_started, proof_created, asked_to, second_text}
 
 -- ---- which ending is due
@@ -64,6 +67,9 @@ Judged ending.ModelRight (plan.Model n a) f text = (values : List Bool) × Answe
 Judged (ending.ModelWrong w) (plan.Model n a) f text = AnswerRefusedFor text f (refusal_of w)
 Judged (ending.Elaborated k) (plan.Elab n l q) f text = LogRight f text k
 Judged (ending.NotElaborated k c) (plan.Elab n l q) f text = LogRefusedAt f text k c
+Judged (ending.Satisfiable v) (plan.Solve n l c) f text = Meets f v
+Judged ending.Unsatisfiable (plan.Solve n l c) f text = Unmet f
+Judged (ending.Unknown k) (plan.Solve n l c) f text = (k ≡ c) × ¬ Settled f
 Judged e p f text = ⊥
 
 -- the endings where the formula is read: its second text's length is judged before what it says
@@ -90,11 +96,15 @@ abbrev pub Gains : Plan → ℕ → Files → Ending → Bytes → Type 0
 Gains (plan.Elab n l q) limit files (ending.Elaborated k) proof = (f : Problem) × FormulaRead limit (text_named n files) f × IsWholeProof f proof
 Gains (plan.Elab n l q) limit files (ending.NotElaborated k c) proof =
     (f : Problem) × FormulaRead limit (text_named n files) f × IsProofBefore f (text_named l files) k proof
+Gains (plan.Solve n l c) limit files (ending.Satisfiable v) log = (f : Problem) × FormulaRead limit (text_named n files) f × IsOpenLog f c log
+Gains (plan.Solve n l c) limit files ending.Unsatisfiable log = (f : Problem) × FormulaRead limit (text_named n files) f × IsClosedLog f c log
+Gains (plan.Solve n l c) limit files (ending.Unknown k) log = (f : Problem) × FormulaRead limit (text_named n files) f × Budgeted f log c
 Gains p limit files e proof = proof ≡ []
 
 -- what it may have gained where a command is cut off
 abbrev pub SoFar : Stage → Plan → ℕ → Files → Bytes → Type 0
 SoFar proof_created (plan.Elab n l q) limit files proof = (f : Problem) × FormulaRead limit (text_named n files) f × IsRightSoFar f proof
+SoFar proof_created (plan.Solve n l c) limit files log = (f : Problem) × FormulaRead limit (text_named n files) f × IsLogSoFar f log
 SoFar stage p limit files proof = proof ≡ []
 
 -- ---- which outcome may come

@@ -2,5 +2,8 @@ pub mod Endings
 pub mod Seen
 pub mod Commands
 pub mod Proofs
+pub mod Logs
 pub mod Happens
 pub mod Steps
+pub mod Solving
+pub mod Solved

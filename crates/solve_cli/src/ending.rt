@@ -2,6 +2,7 @@
 ghost use Rattle.std.specs.Prelude.{◌≡◌};
 ghost use Rattle.solve_cli.specs.Endings.{status_of, code_of};
 
+use cx_base::Values;
 use cx_desk::Slot;
 use cx_semantics::{Cause, Offence};
 
@@ -21,7 +22,7 @@ pub enum WrongAnswer {
 }
 
 /// What a command found, where nothing failed.
-#[derive(Clone, Copy, Debug, PartialEq, Eq, Drop)]
+#[derive(Debug, Drop)]
 pub enum Ending {
     /// The formula's text is refused for its first offence.
     FormulaRefused(Offence),
@@ -39,10 +40,16 @@ pub enum Ending {
     Elaborated(u64),
     /// The log is refused at the step of this number, for its first cause.
     NotElaborated(u64, Cause),
+    /// These values meet the formula.
+    Satisfiable(Values),
+    /// No values meet the formula.
+    Unsatisfiable,
+    /// So many conflicts were counted, as many as the search may count.
+    Unknown(u64),
 }
 
 /// How a command ended.
-#[derive(Clone, Copy, Debug, PartialEq, Eq, Drop)]
+#[derive(Debug, Drop)]
 pub enum Outcome {
     /// The files decided.
     Ended(Ending),
@@ -59,7 +66,8 @@ pub enum Outcome {
 /// The exit status.
 #[derive(Clone, Copy, Debug, PartialEq, Eq, Drop)]
 pub enum Status {
-    /// 0: the proof is verified, the values are right, or the log is elaborated.
+    /// 0: the proof is verified, the values are right, the log is elaborated, or the search has
+    /// counted as many conflicts as it may.
     Done,
     /// 2: the words are refused.
     Usage,
@@ -79,6 +87,10 @@ pub enum Status {
     Limit,
     /// 11: the printed values are refused.
     AnswerRefused,
+    /// 10: values meet the formula.
+    Satisfiable,
+    /// 20: no values meet the formula.
+    Unsatisfiable,
 }
 
 impl Status {
@@ -97,6 +109,8 @@ impl Status {
             Status::LogRefused => 8,
             Status::Limit => 9,
             Status::AnswerRefused => 11,
+            Status::Satisfiable => 10,
+            Status::Unsatisfiable => 20,
         }
     }
 }
@@ -116,6 +130,9 @@ impl Outcome {
             Outcome::Ended(Ending::ModelWrong(_)) => Status::AnswerRefused,
             Outcome::Ended(Ending::Elaborated(_)) => Status::Done,
             Outcome::Ended(Ending::NotElaborated(_, _)) => Status::LogRefused,
+            Outcome::Ended(Ending::Satisfiable(_)) => Status::Satisfiable,
+            Outcome::Ended(Ending::Unsatisfiable) => Status::Unsatisfiable,
+            Outcome::Ended(Ending::Unknown(_)) => Status::Done,
             Outcome::Usage => Status::Usage,
             Outcome::ReadFault => Status::ReadFault,
             Outcome::WriteFault => Status::WriteFault,

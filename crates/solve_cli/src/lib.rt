@@ -9,6 +9,7 @@ mod load;
 mod log_on_desk;
 mod print;
 mod program;
+mod solve;
 
 pub use cx_words::{Kind, Name, Plan, PlanRefusal, plan};
 pub use ending::{Ending, Outcome, Status, WrongAnswer};

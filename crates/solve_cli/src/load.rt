@@ -1,5 +1,5 @@
 //! The texts of a command, read whole.
-ghost use Rattle.std.specs.Prelude.{◌≡◌, ◌<◌, ◌≤◌, ◌^◌, List, ℕ, None, Some, true};
+ghost use Rattle.std.specs.Prelude.{◌≡◌, ◌<◌, ◌≤◌, ◌^◌, List, ℕ, None, Some, true, length, IfOk};
 ghost use Rattle.cx_desk.specs.Outside.{asked_in, started_in};
 ghost use Rattle.cx_words.specs.declared.plans.Plan.{Plan as PlanOf};
 ghost use Rattle.solve_cli.specs.Seen.{seen};
@@ -49,7 +49,7 @@ fn read_slot<D: Desk>(alloc: Global, desk: &mut D, slot: Slot, limit: u64) -> Re
 }
 
 /// The formula of a file.
-fn read_formula_of<D: Desk>(
+pub(crate) fn read_formula_of<D: Desk>(
     alloc: Global,
     desk: &mut D,
     name: Name,
@@ -57,7 +57,8 @@ fn read_formula_of<D: Desk>(
 ) -> Result<Formula, Outcome>
     requires unasked { (D.outside desk.old).asked.formula ≡ None }
     requires limit { limit < 2 ^ 62 }
-    ensures { ReadsFormula name limit (seen (D.outside desk.old)) result (seen (D.outside desk.new)) }
+    ensures reads { ReadsFormula name limit (seen (D.outside desk.old)) result (seen (D.outside desk.new)) }
+    ensures few { IfOk result (λ f. length f.constraints ≤ limit) }
 {
     match start_slot(desk, Slot::Formula, name) {
         Ok(()) => {}
@@ -120,7 +121,7 @@ fn begin<D: Desk>(
 }
 
 /// Gives the Proof port its file, where it is to have one.
-fn create_proof<D: Desk>(desk: &mut D, proof: Option<Name>) -> Result<(), Outcome>
+pub(crate) fn create_proof<D: Desk>(desk: &mut D, proof: Option<Name>) -> Result<(), Outcome>
     requires unasked { (D.outside desk.old).asked.proof ≡ None }
     ensures { GivesFile proof (D.outside desk.old) result (D.outside desk.new) }
 {

@@ -8,6 +8,7 @@ use crate::{Ending, Outcome, WrongAnswer};
 use cx_desk::{Desk, Failed, Port, Slot, put_all, put_pieces};
 use cx_semantics::{Cause, Offence};
 use itoa::Buffer;
+use model_out::put_answer;
 
 /// The lines of a step that was refused.
 fn put_step<D: Desk>(desk: &mut D, step: u64, code: &[u8], last: &[u8]) -> Result<(), Failed>
@@ -112,22 +113,38 @@ fn put_wrong<D: Desk>(desk: &mut D, wrong: WrongAnswer) -> Result<(), Failed>
     }
 }
 
-/// Writes what an ending puts on the Answer port.
+/// The lines of a search that counted so many conflicts.
+fn put_unknown<D: Desk>(desk: &mut D, conflicts: u64) -> Result<(), Failed>
+    ensures { PutsAll port.Answer (joined (codes "c conflicts " ∷ decimal conflicts ∷ codes "\ns UNKNOWN\n" ∷ [])) (D.outside desk.old) result (D.outside desk.new) }
+{
+    let mut buffer = Buffer::new();
+    let number = buffer.format(conflicts).as_bytes();
+    put_pieces(
+        desk,
+        Port::Answer,
+        &[b"c conflicts ", number, b"\ns UNKNOWN\n"],
+    )
+}
+
+/// Writes what an ending puts on the Answer port. It takes no memory.
 #[tactic(auto, unfolding(crate::specs::Endings::answer_text))]
-pub fn put_answer_text<D: Desk>(desk: &mut D, ending: Ending) -> Result<(), Failed>
-    ensures { PutsAll port.Answer (answer_text ending) (D.outside desk.old) result (D.outside desk.new) }
+pub fn put_answer_text<D: Desk>(desk: &mut D, ending: &Ending) -> Result<(), Failed>
+    ensures { PutsAll port.Answer (answer_text ending.now) (D.outside desk.old) result (D.outside desk.new) }
 {
     match ending {
         Ending::Verified(_) => put_all(desk, Port::Answer, b"s VERIFIED\n"),
         Ending::NotVerified(step, cause) => {
-            put_refusal(desk, step, cause, b"\ns NOT VERIFIED\n")
+            put_refusal(desk, *step, *cause, b"\ns NOT VERIFIED\n")
         }
         Ending::ModelRight => put_all(desk, Port::Answer, b"s MODEL RIGHT\n"),
-        Ending::ModelWrong(wrong) => put_wrong(desk, wrong),
+        Ending::ModelWrong(wrong) => put_wrong(desk, *wrong),
         Ending::Elaborated(_) => put_all(desk, Port::Answer, b"s ELABORATED\n"),
         Ending::NotElaborated(step, cause) => {
-            put_log_refusal(desk, step, cause, b"\ns NOT ELABORATED\n")
+            put_log_refusal(desk, *step, *cause, b"\ns NOT ELABORATED\n")
         }
+        Ending::Satisfiable(values) => put_answer(desk, values.as_slice()),
+        Ending::Unsatisfiable => put_all(desk, Port::Answer, b"s UNSATISFIABLE\n"),
+        Ending::Unknown(conflicts) => put_unknown(desk, *conflicts),
         Ending::FormulaRefused(_) => put_all(desk, Port::Answer, b""),
         Ending::TooLong(_) => put_all(desk, Port::Answer, b""),
     }
@@ -178,6 +195,9 @@ pub fn put_message_text<D: Desk>(desk: &mut D, outcome: &Outcome) -> Result<(), 
         Outcome::Ended(Ending::ModelWrong(_)) => put_all(desk, Port::Message, b""),
         Outcome::Ended(Ending::Elaborated(_)) => put_all(desk, Port::Message, b""),
         Outcome::Ended(Ending::NotElaborated(_, _)) => put_all(desk, Port::Message, b""),
+        Outcome::Ended(Ending::Satisfiable(_)) => put_all(desk, Port::Message, b""),
+        Outcome::Ended(Ending::Unsatisfiable) => put_all(desk, Port::Message, b""),
+        Outcome::Ended(Ending::Unknown(_)) => put_all(desk, Port::Message, b""),
         Outcome::Usage => put_all(desk, Port::Message, USAGE),
         Outcome::ReadFault => put_all(desk, Port::Message, b"error: read fault\n"),
         Outcome::WriteFault => put_all(desk, Port::Message, b"error: write fault\n"),

@@ -1,6 +1,6 @@
 //! The top call.
-ghost use Rattle.std.specs.Prelude.{◌≡◌, ◌≤◌, ◌⊎◌, IsTrue};
-ghost use Rattle.cx_desk.specs.Outside.{Rose};
+ghost use Rattle.std.specs.Prelude.{◌≡◌, ◌≤◌, ◌^◌, ◌⊎◌, ℕ, Option, IsTrue};
+ghost use Rattle.cx_desk.specs.Outside.{Bytes, Rose};
 ghost use Rattle.cx_words.specs.Words.{texts, Asks, Refuses};
 ghost use Rattle.cx_words.specs.declared.plans.Plan.{Plan as PlanOf};
 ghost use Rattle.cx_words.specs.declared.plans.Plan.TheVariants as plan;
@@ -8,21 +8,24 @@ ghost use Rattle.solve_cli.specs.Seen.{seen};
 ghost use Rattle.solve_cli.specs.Commands.{Unasked, is_built};
 ghost use Rattle.solve_cli.specs.Steps.{Answers};
 ghost use Rattle.solve_cli.specs.Happens.{Works, WorksFor, AsksForMore, Runs, Comes, IsSound, IsElaborated};
+ghost use Rattle.solve_cli.specs.Solved.{IsSatisfied, IsRefuted, IsSpent, IsSettled, IsUnsolvable};
 
 use crate::elab::elaborate_text;
 use crate::judge::{judge_answer, judge_proof};
 use crate::load::load;
 use crate::print::{put_answer_text, put_message_text};
+use crate::solve::{begin_search, search};
 use crate::{Ending, Outcome, Status};
-use cx_desk::{Desk, Failed};
+use cx_desk::{Desk, Failed, Port};
 use cx_words::{Name, Plan, PlanRefusal, plan};
+use log_text::{ListLog, put_log};
 use std::alloc::{AllocError, Global};
 
 /// Writes the answer of an ending.
 fn answer<D: Desk>(desk: &mut D, ending: Ending) -> Outcome
     ensures { Answers ending (seen (D.outside desk.old)) result (seen (D.outside desk.new)) }
 {
-    match put_answer_text(desk, ending) {
+    match put_answer_text(desk, &ending) {
         Ok(()) => Outcome::Ended(ending),
         Err(Failed) => Outcome::WriteFault,
     }
@@ -83,6 +86,35 @@ fn elab<D: Desk>(
     }
 }
 
+/// `solve`: searches for values that meet the formula. The log is written whole before the answer.
+fn solve<D: Desk>(
+    alloc: Global,
+    desk: &mut D,
+    formula: Name,
+    log: Option<Name>,
+    conflicts: u64,
+    limit: u64,
+) -> Outcome
+    requires fresh { Unasked (D.outside desk.old).asked }
+    requires limit { limit ≤ 4294967295 }
+    requires conflicts { (1 ≤ conflicts) × (conflicts ≤ 10 ^ 18) }
+    ensures { Works (plan.Solve formula log conflicts) limit (seen (D.outside desk.old)) result (seen (D.outside desk.new)) }
+{
+    let formula = match begin_search(alloc, desk, formula, log, limit) {
+        Ok(formula) => formula,
+        Err(outcome) => return outcome,
+    };
+    let mut events = ListLog::make(alloc);
+    let ending = match search(alloc, &formula, conflicts, &mut events) {
+        Ok(ending) => ending,
+        Err(AllocError) => return Outcome::Memory,
+    };
+    match put_log(desk, Port::Proof, &events) {
+        Ok(()) => answer(desk, ending),
+        Err(Failed) => Outcome::WriteFault,
+    }
+}
+
 /// Reads the words, and carries out what they ask for.
 fn work<D: Desk>(alloc: Global, desk: &mut D, words: &[String], limit: u64) -> Outcome
     requires fresh { Unasked (D.outside desk.old).asked }
@@ -99,7 +131,13 @@ fn work<D: Desk>(alloc: Global, desk: &mut D, words: &[String], limit: u64) -> O
                 proof,
             },
         ) => elab(alloc, desk, formula, log, proof, limit),
-        Ok(Plan::Solve { .. }) => Outcome::Usage,
+        Ok(
+            Plan::Solve {
+                formula,
+                log,
+                conflicts,
+            },
+        ) => solve(alloc, desk, formula, log, conflicts, limit),
         Ok(Plan::Demo { .. }) => Outcome::Usage,
         Err(PlanRefusal::Usage) => Outcome::Usage,
         Err(PlanRefusal::Memory) => Outcome::Memory,
@@ -115,6 +153,12 @@ pub fn run_within<D: Desk>(alloc: Global, words: Vec<String>, limit: u64, desk: 
     ensures runs { Runs (texts words.items) limit (seen (D.outside desk.old)) result (seen (D.outside desk.new)) }
     ensures sound { IsSound (texts words.items) (seen (D.outside desk.old)) result }
     ensures elaborated { IsElaborated (texts words.items) (seen (D.outside desk.old)) result (seen (D.outside desk.new)) }
+    ensures satisfiable { result ≡ Status.Satisfiable → IsSatisfied (texts words.items) (seen (D.outside desk.old)) (seen (D.outside desk.new)) }
+    ensures unsatisfiable { result ≡ Status.Unsatisfiable → IsRefuted (texts words.items) (seen (D.outside desk.old)) (seen (D.outside desk.new)) }
+    ensures unknown { (f : Bytes) (log : Option Bytes) (n : ℕ) → Asks (texts words.items) (plan.Solve f log n) → result ≡ Status.Done
+        → IsSpent (texts words.items) (seen (D.outside desk.old)) (seen (D.outside desk.new)) }
+    ensures settled { IsSettled (texts words.items) (seen (D.outside desk.old)) result }
+    ensures unsolvable { IsUnsolvable (texts words.items) (seen (D.outside desk.old)) result }
     ensures complete { (p : PlanOf) → Asks (texts words.items) p → IsTrue (is_built p)
         → (Rose (D.outside desk.old).faults.reads (D.outside desk.new).faults.reads → ⊥)
         → (Rose (D.outside desk.old).faults.writes (D.outside desk.new).faults.writes → ⊥)
@@ -134,6 +178,12 @@ pub fn run<D: Desk>(alloc: Global, words: Vec<String>, desk: &mut D) -> Status
     ensures runs { Runs (texts words.items) 4294967295 (seen (D.outside desk.old)) result (seen (D.outside desk.new)) }
     ensures sound { IsSound (texts words.items) (seen (D.outside desk.old)) result }
     ensures elaborated { IsElaborated (texts words.items) (seen (D.outside desk.old)) result (seen (D.outside desk.new)) }
+    ensures satisfiable { result ≡ Status.Satisfiable → IsSatisfied (texts words.items) (seen (D.outside desk.old)) (seen (D.outside desk.new)) }
+    ensures unsatisfiable { result ≡ Status.Unsatisfiable → IsRefuted (texts words.items) (seen (D.outside desk.old)) (seen (D.outside desk.new)) }
+    ensures unknown { (f : Bytes) (log : Option Bytes) (n : ℕ) → Asks (texts words.items) (plan.Solve f log n) → result ≡ Status.Done
+        → IsSpent (texts words.items) (seen (D.outside desk.old)) (seen (D.outside desk.new)) }
+    ensures settled { IsSettled (texts words.items) (seen (D.outside desk.old)) result }
+    ensures unsolvable { IsUnsolvable (texts words.items) (seen (D.outside desk.old)) result }
     ensures complete { (p : PlanOf) → Asks (texts words.items) p → IsTrue (is_built p)
         → (Rose (D.outside desk.old).faults.reads (D.outside desk.new).faults.reads → ⊥)
         → (Rose (D.outside desk.old).faults.writes (D.outside desk.new).faults.writes → ⊥)

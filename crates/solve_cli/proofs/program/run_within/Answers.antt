@@ -1,5 +1,6 @@
 use Rattle.solve_cli.proofs.Works.{tells_of}
 use Rattle.solve_cli.proofs.Direct.{sound, elaborated_is_accepted, complete, usage, read_fault, write_fault}
+use Rattle.solve_cli.proofs.Solved.{satisfied, unsatisfied, spent_budget, settled, unsolvable}
 use Rattle.solve_cli.specs.Seen.{seen}
 use Rattle.cx_words.specs.Words.{texts}
 use Rattle.solve_cli.specs.Happens.{Runs}
@@ -23,6 +24,11 @@ returns g c =
       runs = runs;
       sound = sound words c.args.limit old c.status.result new runs;
       elaborated = elaborated_is_accepted words c.args.limit old c.status.result new runs;
+      satisfiable = satisfied words c.args.limit old c.status.result new runs;
+      unsatisfiable = unsatisfied words c.args.limit old c.status.result new runs;
+      unknown = λ f log n asks e. spent_budget words c.args.limit old c.status.result new runs f log n asks e;
+      settled = settled words c.args.limit old c.status.result new runs;
+      unsolvable = unsolvable words c.args.limit old c.status.result new runs;
       complete = λ p asks built no_read no_write. complete words c.args.limit old c.status.result new runs p asks built no_read no_write;
       usage = usage words c.args.limit old c.status.result new runs;
       read_fault = read_fault words c.args.limit old c.status.result new runs;

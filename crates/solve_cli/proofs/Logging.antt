@@ -1,0 +1,58 @@
+-- From the events of a search to the text of its log.
+use Rattle.std.proofs.Common.{◌≡◌, ◌<◌, ◌⊎◌, ℕ, zero, suc, List, [], filter_map, take, drop, inl, refl, sym, ◌∙◌}
+use Rattle.std.specs.List.{AllByRecursion, range_with_len}
+use Rattle.std.proofs.lemmas.List.{take-append-drop}
+use Rattle.cx_base.specs.Problem.{Problem}
+use Rattle.cx_semantics.specs.declared.steps.LogEvent.{LogEvent}
+use Rattle.cx_semantics.specs.Grammar.{finished}
+use Rattle.cx_semantics.specs.Judging.{IsOpen}
+use Rattle.cx_semantics.specs.LogRules.{log_calculus, LogOpen}
+use Rattle.cx_semantics.specs.LogText.{LogReads, steps_of}
+use Rattle.cx_semantics.specs.Marked.{Marked, Budgeted, mark_of}
+use Rattle.cx_semantics.specs.Printed.{HasText, printed_log}
+use Rattle.cx_semantics.specs.Settled.{Settled}
+use Rattle.cx_semantics.specs.Tables.{no_tables}
+use Rattle.cx_semantics.proofs.EventSteps.{events_give_steps}
+use Rattle.cx_semantics.proofs.Printing.{printed_log_reads}
+use Rattle.search_steps.specs.LogSteps.{IsEnded}
+use Rattle.cx_desk.specs.Outside.{Bytes}
+use Rattle.solve_cli.specs.Logs.{HasFewMarks, IsRefutation, IsLogSoFar}
+
+steps_read : (events : List LogEvent) → AllByRecursion HasText events → LogReads (printed_log events) (steps_of events) finished
+steps_read events texts = events_give_steps (printed_log events) events (printed_log_reads events texts)
+
+pub open_log : (f : Problem) (events : List LogEvent) → AllByRecursion HasText events → IsOpen (log_calculus f) (steps_of events) → LogOpen f (printed_log events)
+open_log f events texts runs = record { steps = steps_of events; reads = steps_read events texts; open_run = runs }
+
+pub refutation : (f : Problem) (events : List LogEvent) → AllByRecursion HasText events → IsEnded f events → IsRefutation f (printed_log events)
+refutation f events texts ended = record {
+  steps = steps_of events;
+  reads = steps_read events texts;
+  right = record { steps = steps_of events; ending = finished; reads = steps_read events texts; judged = ended };
+}
+
+pub budgeted : (f : Problem) (events : List LogEvent) (n : ℕ) → AllByRecursion HasText events → IsOpen (log_calculus f) (steps_of events) → Marked f events n → Budgeted f (printed_log events) n
+budgeted f events n texts runs marked = record { is_open = open_log f events texts runs; events = events; read = printed_log_reads events texts; marked = marked }
+
+no_marks : (n : ℕ) → range_with_len 1 n ≡ [] → n ≡ 0
+no_marks zero e = refl
+no_marks (suc n) e = cc
+
+pub few_marks : (f : Problem) (budget : ℕ) (events : List LogEvent) (n : ℕ) → AllByRecursion HasText events → n < budget → Marked f events n → (Settled f → filter_map mark_of events ≡ [])
+    → HasFewMarks f budget (printed_log events)
+few_marks f budget events n texts low marked none = record {
+  events = events;
+  read = printed_log_reads events texts;
+  count = n;
+  marked = marked;
+  few = low;
+  settled = λ s. no_marks n (sym marked.marks ∙ none s);
+}
+
+-- nothing is a front of a log
+pub nothing_logged : (f : Problem) → IsLogSoFar f []
+nothing_logged f = record { log = []; right = inl (open_log f [] tt (no_tables, refl)); rest = []; front = refl }
+
+-- a front of a right log
+pub front_so_far : (f : Problem) (log : Bytes) (k : ℕ) → LogOpen f log ⊎ IsRefutation f log → IsLogSoFar f (take k log)
+front_so_far f log k right = record { log = log; right = right; rest = drop k log; front = take-append-drop k log }

@@ -1,0 +1,43 @@
+-- What `solve` leaves on the Proof port: the text of a log.
+use Rattle.std.specs.Prelude.{◌≡◌, ℕ, ◌<◌, List, ◌++◌, length, ◌⊎◌}
+use Rattle.cx_base.specs.Problem.{Problem}
+use Rattle.cx_semantics.specs.declared.steps.LogStep.{LogStep}
+use Rattle.cx_semantics.specs.declared.steps.LogEvent.{LogEvent}
+use Rattle.cx_semantics.specs.Grammar.{finished}
+use Rattle.cx_semantics.specs.LogRules.{LogOpen, LogRight}
+use Rattle.cx_semantics.specs.LogText.{LogReads, EventsRead}
+use Rattle.cx_semantics.specs.Marked.{Marked}
+use Rattle.cx_semantics.specs.Settled.{Settled}
+use Rattle.cx_desk.specs.Outside.{Bytes}
+
+-- The log is marked fewer times than the budget, and never where propagation settles the formula.
+pub record HasFewMarks (formula : Problem) (budget : ℕ) (log : Bytes) : Type 0 where
+  pub events : List LogEvent
+  pub read : EventsRead log events finished
+  pub count : ℕ
+  pub marked : Marked formula events count
+  pub few : count < budget
+  pub settled : Settled formula → count ≡ 0
+
+-- behind values: each step is right, and none ends the log
+pub record IsOpenLog (formula : Problem) (budget : ℕ) (log : Bytes) : Type 0 where
+  pub is_open : LogOpen formula log
+  pub marks : HasFewMarks formula budget log
+
+-- the log is right, and its last step ends it
+pub record IsRefutation (formula : Problem) (log : Bytes) : Type 0 where
+  pub steps : List LogStep
+  pub reads : LogReads log steps finished
+  pub right : LogRight formula log (length steps)
+
+-- behind the answer that there are none
+pub record IsClosedLog (formula : Problem) (budget : ℕ) (log : Bytes) : Type 0 where
+  pub refutes : IsRefutation formula log
+  pub marks : HasFewMarks formula budget log
+
+-- the bytes are a front of a log all of whose steps are right
+pub record IsLogSoFar (formula : Problem) (bytes : Bytes) : Type 0 where
+  pub log : Bytes
+  pub right : LogOpen formula log ⊎ IsRefutation formula log
+  pub rest : Bytes
+  pub front : bytes ++ rest ≡ log

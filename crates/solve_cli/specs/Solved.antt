@@ -1,0 +1,62 @@
+-- What the answers of `solve` say.
+use Rattle.std.specs.Prelude.{◌≡◌, ◌≢◌, ℕ, Bool, List, [], ◌∷◌, Option, IfSome, codes, decimal}
+use Rattle.cx_base.specs.Problem.{Problem, Meets, Unmet, parities_of}
+use Rattle.cx_semantics.specs.AnswerText as printed
+use Rattle.cx_semantics.specs.Forced.{Consistent}
+use Rattle.cx_semantics.specs.FormulaText.{Reads}
+use Rattle.cx_semantics.specs.Marked.{Budgeted}
+use Rattle.cx_semantics.specs.Settled.{Settled}
+use Rattle.cx_desk.specs.declared.desk.Slot.TheVariants as slot
+use Rattle.cx_desk.specs.declared.desk.Port.TheVariants as port
+use Rattle.cx_desk.specs.Outside.{Bytes, Files}
+use Rattle.cx_words.specs.Words.{Asks}
+use Rattle.cx_words.specs.declared.plans.Plan.TheVariants as plan
+use Rattle.solve_cli.specs.declared.ending.Status.{Status}
+use Rattle.solve_cli.specs.declared.ending.Status.TheVariants as status
+use Rattle.solve_cli.specs.Endings.{joined}
+use Rattle.solve_cli.specs.Seen.{Seen, asks, says, text_named}
+use Rattle.solve_cli.specs.Commands.{gives_file}
+use Rattle.solve_cli.specs.Logs.{IsOpenLog, IsClosedLog}
+
+-- the formula's name was asked for, the Proof port was given its file, where there is a name for it, and gained
+-- the log, and then the Answer port gained the answer
+abbrev pub solved : Bytes → Option Bytes → Bytes → Bytes → Seen → Seen
+solved name log_name log answer s = says port.Answer answer (says port.Proof log (gives_file log_name (asks slot.Formula name s)))
+
+-- the words ask for `solve`, this answer of the budget was written behind a log, and this holds of the formula, the budget and the log
+pub record HasSolved (words : List Bytes) (old : Seen) (files : Files) (new : Seen) (answer : ℕ → Bytes) (Holds : Problem → ℕ → Bytes → Type 0) : Type 0 where
+  pub name : Bytes
+  pub log_name : Option Bytes
+  pub budget : ℕ
+  pub asked : Asks words (plan.Solve name log_name budget)
+  pub formula : Problem
+  pub reads : Reads (text_named name files) formula
+  pub log : Bytes
+  pub done : new ≡ solved name log_name log (answer budget) old
+  pub holds : Holds formula budget log
+
+-- `solve` printed values that meet the formula, behind an open log
+abbrev pub IsSatisfied : List Bytes → Seen → Seen → Type 0
+IsSatisfied words old new = IfSome old.files (λ files. (values : List Bool) × HasSolved words old files new (λ budget. printed.answer_text values) (λ f budget log. Meets f values × IsOpenLog f budget log))
+
+-- no values meet the formula, and `solve` said so, behind a log that is right to its end
+abbrev pub IsRefuted : List Bytes → Seen → Seen → Type 0
+IsRefuted words old new = IfSome old.files (λ files. HasSolved words old files new (λ budget. codes "s UNSATISFIABLE\n") (λ f budget log. Unmet f × IsClosedLog f budget log))
+
+-- `solve` said that the budget is spent, behind an open log that is marked so many times
+abbrev pub IsSpent : List Bytes → Seen → Seen → Type 0
+IsSpent words old new = IfSome old.files (λ files. HasSolved words old files new
+    (λ budget. joined (codes "c conflicts " ∷ decimal budget ∷ codes "\ns UNKNOWN\n" ∷ [])) (λ f budget log. Budgeted f log budget))
+
+-- the words ask for `solve` with any log and budget, and this holds of the formula
+abbrev pub OfSolve : List Bytes → Seen → (Problem → Type 0) → Type 0
+OfSolve words old Holds = (name : Bytes) (log_name : Option Bytes) (budget : ℕ) (f : Problem) → Asks words (plan.Solve name log_name budget)
+    → IfSome old.files (λ files. Reads (text_named name files) f → Holds f)
+
+-- a formula that propagation settles is not left unknown
+abbrev pub IsSettled : List Bytes → Seen → Status → Type 0
+IsSettled words old s = OfSolve words old (λ f. Settled f → s ≢ status.Done)
+
+-- a formula whose parities have no solution is not left unknown, and no values are printed
+abbrev pub IsUnsolvable : List Bytes → Seen → Status → Type 0
+IsUnsolvable words old s = OfSolve words old (λ f. ¬ Consistent (parities_of f.constraints) [] → (s ≢ status.Done) × (s ≢ status.Satisfiable))

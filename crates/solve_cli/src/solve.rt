@@ -1,0 +1,63 @@
+//! The search for values that meet a formula.
+ghost use Rattle.std.specs.Prelude.{◌≡◌, ◌≤◌, ◌^◌, ℕ, [], length, IfOk};
+ghost use Rattle.cx_words.specs.declared.plans.Plan.TheVariants as plan;
+ghost use Rattle.solve_cli.specs.Seen.{seen};
+ghost use Rattle.solve_cli.specs.Commands.{Unasked};
+ghost use Rattle.solve_cli.specs.Solving.{BeginsSearch, Finds};
+
+use crate::load::{create_proof, read_formula_of};
+use crate::{Ending, Outcome};
+use cdcl_core::{CoreFault, Outcome as Answer, solve_core};
+use cx_base::Formula;
+use cx_desk::Desk;
+use cx_words::Name;
+use gauss_jordan::Scratch;
+use log_text::ListLog;
+use std::alloc::{AllocError, Global};
+
+/// Reads the formula, and gives the Proof port its file, where the log is to have one.
+pub fn begin_search<D: Desk>(
+    alloc: Global,
+    desk: &mut D,
+    formula: Name,
+    log: Option<Name>,
+    limit: u64,
+) -> Result<Formula, Outcome>
+    requires fresh { Unasked (D.outside desk.old).asked }
+    requires limit { limit ≤ 4294967295 }
+    ensures begins { (conflicts : ℕ) → BeginsSearch (plan.Solve formula log conflicts) limit (seen (D.outside desk.old)) result (seen (D.outside desk.new)) }
+    ensures few { IfOk result (λ f. length f.constraints ≤ limit) }
+{
+    let formula = match read_formula_of(alloc, desk, formula, limit) {
+        Ok(formula) => formula,
+        Err(outcome) => return Err(outcome),
+    };
+    match create_proof(desk, log) {
+        Ok(()) => Ok(formula),
+        Err(outcome) => Err(outcome),
+    }
+}
+
+/// Searches for values that meet the formula, until so many conflicts are counted. The log has each
+/// step of the search.
+pub fn search(
+    alloc: Global,
+    formula: &Formula,
+    conflicts: u64,
+    log: &mut ListLog,
+) -> Result<Ending, AllocError>
+    requires conflicts { (1 ≤ conflicts) × (conflicts ≤ 10 ^ 18) }
+    requires few { length formula.now.constraints ≤ 4294967295 }
+    requires fresh { log.old ≡ [] }
+    ensures { IfOk result (Finds formula.now conflicts log.new) }
+{
+    let answer = solve_core::<Scratch, ListLog>(alloc, formula, conflicts, log);
+    let _with_texts = log.events();
+    match answer {
+        Ok(Answer::Sat(values)) => Ok(Ending::Satisfiable(values)),
+        Ok(Answer::Unsat) => Ok(Ending::Unsatisfiable),
+        Ok(Answer::Unknown { conflicts }) => Ok(Ending::Unknown(conflicts)),
+        Err(CoreFault::Memory) => Err(AllocError),
+        Err(CoreFault::Write) => unreachable!(),
+    }
+}
