@@ -1,5 +1,5 @@
 -- The clauses of rows are deleted: the ties of the search behind that.
-use Rattle.std.proofs.Common.{◌≡◌, refl, sym, ap, ◌∙◌, subst, ℕ, zero, suc, ◌+◌, ◌-◌, ◌<◌, ◌≤◌, false, true, true≢false, List, [], ◌∷◌, ◌++◌, length, take, fold, Option, Some, None, arith}
+use Rattle.std.proofs.Common.{◌≡◌, refl, sym, ap, ◌∙◌, subst, ℕ, zero, suc, ◌+◌, ◌-◌, ◌<◌, true≢false, List, [], ◌∷◌, ◌++◌, length, take, fold, Option, arith}
 use Rattle.std.specs.List.{AllByRecursion}
 use Rattle.cx_base.specs.Literals.{Literal}
 use Rattle.cx_base.specs.Problem.{Problem, parities_of}
@@ -8,7 +8,7 @@ use Rattle.cx_semantics.specs.declared.steps.LogStep.TheVariants.{Delete}
 use Rattle.cx_semantics.specs.declared.steps.LogEvent.{LogEvent}
 use Rattle.cx_semantics.specs.declared.steps.LogEvent.TheVariants.{Step}
 use Rattle.cx_semantics.specs.Printed.{HasText}
-use Rattle.cx_semantics.specs.Marked.{is_among, without}
+use Rattle.cx_semantics.specs.Marked.{without}
 use Rattle.cx_semantics.specs.Tables.{get}
 use Rattle.gauss_jordan.specs.State.{State}
 use Rattle.conflict_learn.specs.declared.fault.CoreFault.{CoreFault}

@@ -1,11 +1,9 @@
 -- Lists of literals without repeats.
-use Rattle.std.proofs.Common.{◌≡◌, refl, sym, ap, ◌∙◌, subst, ℕ, zero, suc, ◌+◌, ◌<◌, Bool, true, false, ◌||◌, List, [], ◌∷◌, ◌++◌, length, take, get_or, arith, ◌⊎◌, inl, inr}
-use Rattle.std.specs.List.{list_any}
+use Rattle.std.proofs.Common.{◌≡◌, refl, sym, ap, ◌∙◌, subst, ℕ, ◌+◌, ◌<◌, true, false, List, [], ◌∷◌, ◌++◌, length, take, get_or, ◌⊎◌, inl, inr}
 use Rattle.std.proofs.lemmas.List.{take_more}
-use Rattle.cx_base.specs.Literals.{Literal, same_literal}
-use Rattle.cx_semantics.specs.Chain.{has_literal, is_inside, same_literals}
-use Rattle.cx_semantics.proofs.ChainLaws.{and_parts, and_both, same_literal-itself, are_one}
-use Rattle.cx_semantics.proofs.Closure.{has_by_inside}
+use Rattle.cx_base.specs.Literals.{Literal}
+use Rattle.cx_semantics.specs.Chain.{has_literal, same_literals}
+use Rattle.cx_semantics.proofs.ChainLaws.{and_both}
 use Rattle.search_steps.proofs.Sets.{by_cases, not_both, has_split, has_at_head, has_behind, inside_by}
 use Rattle.cdcl_core.specs.Clauses.{AreDifferent}
 

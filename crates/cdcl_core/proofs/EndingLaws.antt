@@ -1,21 +1,20 @@
 -- What is told last: the empty clause.
-use Rattle.std.proofs.Common.{◌≡◌, refl, sym, ap, ◌∙◌, subst, ℕ, zero, suc, ◌+◌, ◌<◌, ◌≤◌, ℤ, true, List, [], ◌∷◌, ◌++◌, length, take, map, Option, Some, None, Result, Ok, Err, IfErr, Contains, arith, length-append}
+use Rattle.std.proofs.Common.{◌≡◌, refl, sym, ap, subst, ℕ, zero, suc, ◌+◌, ◌<◌, ◌≤◌, ℤ, true, List, [], ◌∷◌, ◌++◌, length, take, Option, Some, None, Result, Ok, Err, IfErr, arith, length-append}
 use Rattle.std.specs.Prelude.{OnOk}
 use Rattle.std.specs.List.{All}
-use Rattle.cx_base.specs.Literals.{Literal, negate}
-use Rattle.cx_base.specs.Problem.{Problem, Unmet, parities_of}
+use Rattle.cx_base.specs.Literals.{Literal}
+use Rattle.cx_base.specs.Problem.{Problem, parities_of}
 use Rattle.cx_semantics.specs.declared.steps.LogStep.{LogStep}
 use Rattle.cx_semantics.specs.declared.steps.LogStep.TheVariants.{ClauseWithHints}
 use Rattle.cx_semantics.specs.declared.steps.LogEvent.{LogEvent}
 use Rattle.cx_semantics.specs.declared.steps.LogEvent.TheVariants.{Step}
-use Rattle.cx_semantics.specs.Chain.{has_literal, is_inside, negations}
+use Rattle.cx_semantics.specs.Chain.{is_inside, negations}
 use Rattle.cx_semantics.specs.LogRules.{HasChain}
 use Rattle.cx_semantics.specs.Marked.{Marked}
 use Rattle.conflict_learn.specs.declared.fault.CoreFault.{CoreFault}
 use Rattle.gauss_jordan.specs.State.{State}
 use Rattle.search_steps.specs.LogSteps.{IsAddition, IsEnded, RestOnClauses}
 use Rattle.search_steps.specs.Quiet.{IsOfParities}
-use Rattle.search_steps.specs.Search.{Search}
 use Rattle.search_steps.specs.Tied.{IsLiveSet}
 use Rattle.search_steps.specs.Trail.{Entry, all_held}
 use Rattle.search_steps.proofs.Ends.{ended_is_unmet, chained_clause_ends, chained_clause_is_marked}
@@ -27,7 +26,7 @@ use Rattle.cdcl_core.specs.Concluding.{EndsLog, IsEndedWith}
 use Rattle.cdcl_core.specs.Results.{Refutes, IsEndedWithin}
 use Rattle.cdcl_core.specs.Sources.{IsConflict}
 use Rattle.cdcl_core.specs.Tells.{TellsAll, GivesUp, IsLeft, as_events, with_events}
-use Rattle.cdcl_core.specs.Ties.{Ties, Stands, first_row_id}
+use Rattle.cdcl_core.specs.Ties.{Stands, first_row_id}
 use Rattle.cdcl_core.proofs.Events.{no_more, gives_up}
 use Rattle.cdcl_core.proofs.LearnLaws.{sourced_is_live}
 use Rattle.cdcl_core.proofs.Places.{tied_length}
@@ -53,7 +52,7 @@ module _ (formula : Problem) (marks : ℕ) (old : Option (List LogEvent)) (steps
   ending_gives_up (Err fault) tells = gives_up formula torn (as_events steps) old new fault tells (λ i less. ends.fronts i (let long = as_many steps in omega (arith, long, less)))
 
 -- ---- the empty clause
-no_newer : (newer older es : List Entry) → es ≡ newer ++ older → length older ≡ length es → older ≡ es
+pub no_newer : (newer older es : List Entry) → es ≡ newer ++ older → length older ≡ length es → older ≡ es
 no_newer [] older es is long = sym is
 no_newer (x ∷ newer) older es is long = absurd (let a = ap length is in let b = length-append newer older in omega (arith, a, b, long))
 

@@ -38,7 +38,7 @@ held_grows k y es l h = go (nat_le y.level k)
     go true = has_behind y.literal (held k es) l h
     go false = h
 
-covered_grows : (c : Kept) (es : List Entry) (y : Entry) (clause : List Literal) → IsCovered c es clause → IsCovered c (y ∷ es) clause
+pub covered_grows : (c : Kept) (es : List Entry) (y : Entry) (clause : List Literal) → IsCovered c es clause → IsCovered c (y ∷ es) clause
 covered_grows c es y clause (inl stored) = inl stored
 covered_grows c es y clause (inr (inl both)) = inr (inl both)
 covered_grows c es y clause (inr (inr t)) = inr (inr (record { l = t.l; has_it = t.has_it; is_held = held_grows 0 y es t.l t.is_held }))

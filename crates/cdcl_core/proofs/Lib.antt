@@ -35,3 +35,6 @@ pub mod UnitLaws
 pub mod EndingLaws
 pub mod OriginalLaws
 pub mod DifferentLiterals
+pub mod FillingLaws
+pub mod WaitingLaws
+pub mod FilledClauses

@@ -1,10 +1,14 @@
 -- Telling the formula's constraints one after another.
-use Rattle.std.proofs.Common.{◌≡◌, refl, sym, ap, ◌∙◌, subst, ℕ, zero, suc, ◌+◌, ◌<◌, ◌≤◌, List, [], ◌∷◌, ◌++◌, length, take, get_or, Option, Some, None, Result, Ok, Err, IfErr, Contains, arith, inl, inr, length-append}
+use Rattle.std.proofs.Common.{◌≡◌, ◌≢◌, refl, sym, ap, ◌∙◌, subst, ℕ, zero, suc, ◌+◌, ◌-◌, nat_eq, eqb-true, ◌<◌, ◌≤◌, List, [], ◌∷◌, ◌++◌, length, take, get_or, Option, Some, None, Result, Ok, Err, IfErr, Contains, arith, inl, length-append}
 use Rattle.std.specs.Prelude.{OnOk}
+use Rattle.std.proofs.lemmas.Bool.{eqb-false}
 use Rattle.std.proofs.lemmas.List.{take_more}
 use Rattle.std.proofs.lemmas.List.Elements.{filter_map-append}
+use Rattle.std.proofs.Math.ListN.{get_or-append}
+use Rattle.std.proofs.Math.Seq.{get_or-append_seam}
+use Rattle.std.specs.FinMap as map_
+use Rattle.std.specs.List.{AllByRecursion}
 use Rattle.cx_base.specs.Literals.{Literal}
-use Rattle.cx_base.specs.Parity.{normal_form}
 use Rattle.cx_base.specs.Problem.{Problem, clauses_of, parities_of, clause_in, parity_in, AreWithin, literals_of}
 use Rattle.cx_base.specs.declared.constraint.Constraint.{Constraint}
 use Rattle.cx_base.specs.declared.constraint.Constraint.TheVariants as constraint
@@ -12,16 +16,22 @@ use Rattle.cx_semantics.specs.declared.steps.LogStep.{LogStep}
 use Rattle.cx_semantics.specs.declared.steps.LogStep.TheVariants.{Original, OriginalParity}
 use Rattle.cx_semantics.specs.declared.steps.LogEvent.{LogEvent}
 use Rattle.cx_semantics.specs.declared.steps.LogEvent.TheVariants.{Step}
-use Rattle.cx_semantics.specs.Integers.{integers_of}
+use Rattle.cx_semantics.specs.Integers.{integers_of, literals}
 use Rattle.cx_semantics.specs.LogRules.{IsOriginalParity}
+use Rattle.cx_semantics.specs.Tables.{Table, get}
+use Rattle.cx_semantics.proofs.Lookups.{Looks-empty}
 use Rattle.conflict_learn.specs.declared.fault.CoreFault.{CoreFault}
 use Rattle.search_steps.specs.Holding.{AreTold}
 use Rattle.search_steps.specs.Search.{Search, told}
 use Rattle.search_steps.specs.Start.{IsBegun, start}
-use Rattle.search_steps.proofs.StartLaws.{nothing_is_begun, clause_begins, parity_begins}
-use Rattle.cdcl_core.specs.Originals.{IsFresh, HasBegun, AreCounted}
-use Rattle.cdcl_core.specs.Tells.{TellsAll, GivesUp, IsLeft, IsId, with_events}
+use Rattle.search_steps.proofs.LogLaws.{append_nil}
+use Rattle.search_steps.proofs.Sets.{by_cases}
+use Rattle.search_steps.proofs.StartLaws.{nothing_is_begun, clause_begins, parity_begins, literals_are}
+use Rattle.cdcl_core.specs.Originals.{AreListed, HasBegun, AreCounted}
+use Rattle.cdcl_core.specs.Results.{IsFresh}
+use Rattle.cdcl_core.specs.Tells.{TellsAll, GivesUp, IsLeft, with_events}
 use Rattle.cdcl_core.proofs.Events.{no_more, gives_up}
+use Rattle.cdcl_core.proofs.TableLaws.{put_same, put_other}
 
 -- ---- constraints by their places
 clause_there : (cs : List Constraint) (i : ℕ) (lits : List Literal) (d : Constraint) → i < length cs → get_or cs i d ≡ constraint.Clause lits → Contains (clauses_of cs) lits
@@ -38,7 +48,7 @@ parity_there (c ∷ cs) zero lits d less is = subst (λ x. Contains (parities_of
 parity_there (constraint.Parity x ∷ cs) (suc i) lits d less is = let r = parity_there cs i lits d (omega (arith, less)) is in let low = r.1 in (suc r.0, omega (arith, low), r.2)
 parity_there (constraint.Clause x ∷ cs) (suc i) lits d less is = parity_there cs i lits d (omega (arith, less)) is
 
-few_clauses : (cs : List Constraint) → length (clauses_of cs) ≤ length cs
+pub few_clauses : (cs : List Constraint) → length (clauses_of cs) ≤ length cs
 unfolding clauses_of
 few_clauses [] = omega arith
 few_clauses (constraint.Clause lits ∷ cs) = let rec = few_clauses cs in omega (arith, rec)
@@ -73,14 +83,101 @@ pub none_counted : AreCounted [] 0 0
 unfolding clauses_of parities_of
 none_counted = record { clauses = refl; parities = refl }
 
+-- ---- lists under their numbers
+nothing_listed : AreListed map_.empty []
+nothing_listed = record { numbered = λ k low high. absurd (omega (arith, low, high)); none_before = Looks-empty 0 }
+
+listed_more : (table : Table) (lists : List (List Literal)) (lits : List Literal) → AreListed table lists → AreListed (map_.insert table (length lists + 1) lits) (lists ++ lits ∷ [])
+listed_more table lists lits a = record {
+  numbered = λ k low high.
+      let long = length-append lists (lits ∷ []) in
+      by_cases (nat_eq k (length lists + 1))
+      (λ is.
+      let same : k ≡ length lists + 1 = eqb-true k (length lists + 1) is in
+      let at : k - 1 ≡ length lists = omega (arith, same) in
+      ap (get (map_.insert table (length lists + 1) lits)) same ∙ put_same table (length lists + 1) lits
+      ∙ ap Some (sym (ap (λ j. get_or (lists ++ lits ∷ []) j []) at ∙ get_or-append_seam lists lits [] [])))
+      (λ is.
+      let apart : k ≢ length lists + 1 = eqb-false k (length lists + 1) is in
+      put_other table (length lists + 1) k lits apart ∙ a.numbered k low (omega (arith, high, long, apart))
+      ∙ ap Some (sym (get_or-append lists (lits ∷ []) [] (k - 1) (omega (arith, low, high, long, apart)))));
+  none_before = put_other table (length lists + 1) 0 lits (λ e. omega (arith, e)) ∙ a.none_before;
+}
+
+module _ (n : ℕ) (taken : List Constraint) (lits : List Literal) where
+  clause_joins : clauses_of (taken ++ constraint.Clause lits ∷ []) ≡ clauses_of taken ++ lits ∷ []
+  unfolding clauses_of
+  clause_joins = filter_map-append clause_in taken (constraint.Clause lits ∷ [])
+
+  parity_joins : parities_of (taken ++ constraint.Parity lits ∷ []) ≡ parities_of taken ++ lits ∷ []
+  unfolding parities_of
+  parity_joins = filter_map-append parity_in taken (constraint.Parity lits ∷ [])
+
+  parities_stay : parities_of (taken ++ constraint.Clause lits ∷ []) ≡ parities_of taken
+  unfolding parities_of
+  parities_stay = filter_map-append parity_in taken (constraint.Clause lits ∷ []) ∙ append_nil (parities_of taken)
+
+  clauses_stay : clauses_of (taken ++ constraint.Parity lits ∷ []) ≡ clauses_of taken
+  unfolding clauses_of
+  clauses_stay = filter_map-append clause_in taken (constraint.Parity lits ∷ []) ∙ append_nil (clauses_of taken)
+
+  module _ (w : AreWithin n lits) (table : Table) where
+    clause_listed : AreListed table (clauses_of taken) → AreListed (map_.insert table (length (clauses_of taken) + 1) (literals (integers_of lits))) (clauses_of (taken ++ constraint.Clause lits ∷ []))
+    clause_listed a = subst (AreListed (map_.insert table (length (clauses_of taken) + 1) (literals (integers_of lits)))) (sym clause_joins)
+        (subst (λ xs. AreListed (map_.insert table (length (clauses_of taken) + 1) xs) (clauses_of taken ++ lits ∷ [])) (sym (literals_are n lits w)) (listed_more table (clauses_of taken) lits a))
+
+    parity_listed : AreListed table (parities_of taken) → AreListed (map_.insert table (length (parities_of taken) + 1) (literals (integers_of lits))) (parities_of (taken ++ constraint.Parity lits ∷ []))
+    parity_listed a = subst (AreListed (map_.insert table (length (parities_of taken) + 1) (literals (integers_of lits)))) (sym parity_joins)
+        (subst (λ xs. AreListed (map_.insert table (length (parities_of taken) + 1) xs) (parities_of taken ++ lits ∷ [])) (sym (literals_are n lits w)) (listed_more table (parities_of taken) lits a))
+
+-- ---- the parities of the first constraints
+pub no_parity : (cs : List Constraint) → [] ≡ parities_of (take 0 cs)
+unfolding parities_of
+no_parity cs = refl
+
+module _ (cs : List Constraint) (place : ℕ) (d : Constraint) (lits : List Literal) (less : place < length cs) where
+  pub clause_passes : get_or cs place d ≡ constraint.Clause lits → parities_of (take (place + 1) cs) ≡ parities_of (take place cs)
+  clause_passes is = ap parities_of (take_more cs place d less ∙ ap (λ c. take place cs ++ c ∷ []) is) ∙ parities_stay 0 (take place cs) lits
+
+  pub parity_comes : get_or cs place d ≡ constraint.Parity lits → parities_of (take (place + 1) cs) ≡ parities_of (take place cs) ++ lits ∷ []
+  parity_comes is = ap parities_of (take_more cs place d less ∙ ap (λ c. take place cs ++ c ∷ []) is) ∙ parity_joins 0 (take place cs) lits
+
+pub parities_are_within : (n : ℕ) (cs : List Constraint) → AllByRecursion (λ c. AreWithin n (literals_of c)) cs → AllByRecursion (AreWithin n) (parities_of cs)
+unfolding parities_of
+parities_are_within n [] w = tt
+parities_are_within n (constraint.Clause lits ∷ cs) w = parities_are_within n cs w.1
+parities_are_within n (constraint.Parity lits ∷ cs) w = (w.0, parities_are_within n cs w.1)
+
+-- the log has begun, with a constraint more
+module _ (formula : Problem) (taken : List Constraint) (s : Search) (lits : List Literal) (w : AreWithin formula.variables lits) (begun : IsBegun formula taken s)
+    (clauses : AreListed s.moment.tables.clauses (clauses_of taken)) (parities : AreListed s.moment.tables.parities (parities_of taken)) (o : Option (List LogEvent)) where
+  clause_has_begun : Contains (clauses_of formula.constraints) lits → AreTold o (s.events ++ Step (Original (length (clauses_of taken) + 1) (integers_of lits)) ∷ []) → HasBegun formula (taken ++ constraint.Clause lits ∷ []) o
+  clause_has_begun has a = (
+    told s (Step (Original (length (clauses_of taken) + 1) (integers_of lits))),
+    clause_begins formula taken s begun lits w has,
+    clause_listed formula.variables taken lits w s.moment.tables.clauses clauses,
+    subst (AreListed s.moment.tables.parities) (sym (parities_stay formula.variables taken lits)) parities,
+    a,
+  )
+
+  parity_has_begun : IsOriginalParity formula lits → AreTold o (s.events ++ Step (OriginalParity (length (parities_of taken) + 1) (integers_of lits)) ∷ []) → HasBegun formula (taken ++ constraint.Parity lits ∷ []) o
+  parity_has_begun has a = (
+    told s (Step (OriginalParity (length (parities_of taken) + 1) (integers_of lits))),
+    parity_begins formula taken s begun lits w has,
+    subst (AreListed s.moment.tables.clauses) (sym (clauses_stay formula.variables taken lits)) clauses,
+    parity_listed formula.variables taken lits w s.moment.tables.parities parities,
+    a,
+  )
+
 -- ---- what stands before the first
 pub fresh_has_begun : (formula : Problem) (old : Option (List LogEvent)) → IsFresh old → HasBegun formula [] old
-fresh_has_begun formula None fresh = (start, nothing_is_begun formula, tt)
-fresh_has_begun formula (Some es) fresh = (start, nothing_is_begun formula, fresh)
+unfolding clauses_of parities_of
+fresh_has_begun formula None fresh = (start, nothing_is_begun formula, nothing_listed, nothing_listed, tt)
+fresh_has_begun formula (Some es) fresh = (start, nothing_is_begun formula, nothing_listed, nothing_listed, fresh)
 
 pub begun_is_left : (formula : Problem) (taken : List Constraint) (old : Option (List LogEvent)) → HasBegun formula taken old → IsLeft formula old
-begun_is_left formula taken None (s, b, a) = tt
-begun_is_left formula taken (Some es) (s, b, a) = subst (λ xs. IsLeft formula (Some xs)) (sym a) (inl (s.moment.tables, b.runs))
+begun_is_left formula taken None b = tt
+begun_is_left formula taken (Some es) b = subst (λ xs. IsLeft formula (Some xs)) (sym b.4) (inl (b.0.moment.tables, b.1.runs))
 
 -- ---- one more
 module _ (formula : Problem) (place : ℕ) (d : Constraint) (less : place < length formula.constraints) (few : length formula.constraints ≤ 4294967295) (clauses parities : ℕ)
@@ -119,12 +216,9 @@ module _ (formula : Problem) (place : ℕ) (d : Constraint) (less : place < leng
     clause_begun is torn (Ok done) new tells =
         let step = Original (clauses + 1) (integers_of lits) in
         subst (λ o. HasBegun formula (take (place + 1) formula.constraints) o) (sym tells)
-        (subst (λ cs. HasBegun formula cs (with_events (Step step ∷ []) old)) (sym (take_more formula.constraints place d less ∙ ap (λ c. taken ++ c ∷ []) is)) (
-          told begun.0 (Step step),
-          subst (λ n. IsBegun formula (taken ++ constraint.Clause lits ∷ []) (told begun.0 (Step (Original (n + 1) (integers_of lits))))) (sym counted.clauses)
-              (clause_begins formula taken begun.0 begun.1 lits w (clause_there formula.constraints place lits d less is)),
-          told_more step old begun.2,
-        ))
+        (subst (λ cs. HasBegun formula cs (with_events (Step step ∷ []) old)) (sym (take_more formula.constraints place d less ∙ ap (λ c. taken ++ c ∷ []) is))
+        (clause_has_begun formula taken begun.0 lits w begun.1 begun.2 begun.3 (with_events (Step step ∷ []) old) (clause_there formula.constraints place lits d less is)
+        (subst (λ n. AreTold (with_events (Step step ∷ []) old) (begun.0.events ++ Step (Original (n + 1) (integers_of lits)) ∷ [])) counted.clauses (told_more step old begun.4))))
 
     pub parity_begun : get_or formula.constraints place d ≡ constraint.Parity lits → (torn : LogEvent → Type 0) (r : Result (Unit {0}) CoreFault) (new : Option (List LogEvent))
         → TellsAll torn (Step (OriginalParity (parities + 1) (integers_of lits)) ∷ []) old r new → OnOk r (HasBegun formula (take (place + 1) formula.constraints) new)
@@ -133,12 +227,9 @@ module _ (formula : Problem) (place : ℕ) (d : Constraint) (less : place < leng
         let step = OriginalParity (parities + 1) (integers_of lits) in
         let has = parity_there formula.constraints place lits d less is in
         subst (λ o. HasBegun formula (take (place + 1) formula.constraints) o) (sym tells)
-        (subst (λ cs. HasBegun formula cs (with_events (Step step ∷ []) old)) (sym (take_more formula.constraints place d less ∙ ap (λ c. taken ++ c ∷ []) is)) (
-          told begun.0 (Step step),
-          subst (λ n. IsBegun formula (taken ++ constraint.Parity lits ∷ []) (told begun.0 (Step (OriginalParity (n + 1) (integers_of lits))))) (sym counted.parities)
-              (parity_begins formula taken begun.0 begun.1 lits w (has.0, lits, has.1, has.2, refl)),
-          told_more step old begun.2,
-        ))
+        (subst (λ cs. HasBegun formula cs (with_events (Step step ∷ []) old)) (sym (take_more formula.constraints place d less ∙ ap (λ c. taken ++ c ∷ []) is))
+        (parity_has_begun formula taken begun.0 lits w begun.1 begun.2 begun.3 (with_events (Step step ∷ []) old) (has.0, lits, has.1, has.2, refl)
+        (subst (λ n. AreTold (with_events (Step step ∷ []) old) (begun.0.events ++ Step (OriginalParity (n + 1) (integers_of lits)) ∷ [])) counted.parities (told_more step old begun.4))))
 
 pub in_any_case : {T E : Type 0} (r : Result T E) (P : Type 0) → P → OnOk r P
 in_any_case (Ok x) P p = p

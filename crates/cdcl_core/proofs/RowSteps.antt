@@ -51,7 +51,7 @@ use Rattle.cdcl_core.proofs.Events.{no_more, more_and_more, gives_up}
 use Rattle.cdcl_core.proofs.TableLaws.{put_same, put_other, drop_other, put_answers_below, clauses_stay, units_stay}
 
 -- ---- variables
-within_by : (n : ℕ) (lits : List Literal) → ((l : Literal) → has_literal lits l ≡ true → (1 ≤ l.variable) × (l.variable ≤ n)) → AreWithin n lits
+pub within_by : (n : ℕ) (lits : List Literal) → ((l : Literal) → has_literal lits l ≡ true → (1 ≤ l.variable) × (l.variable ≤ n)) → AreWithin n lits
 within_by n [] h = tt
 within_by n (l ∷ lits) h = (h l (has_at_head l lits), within_by n lits (λ m k. h m (has_behind l lits m k)))
 

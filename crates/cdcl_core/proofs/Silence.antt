@@ -29,7 +29,7 @@ some_not_none : (x : List Literal) → (let o : Option (List Literal) = Some x i
 some_not_none x e = cc
 
 -- a literal that passes the test, where some does
-some_literal : (p : Literal → Bool) (lits : List Literal) → list_any p lits ≡ true → (l : Literal) × (has_literal lits l ≡ true) × (p l ≡ true)
+pub some_literal : (p : Literal → Bool) (lits : List Literal) → list_any p lits ≡ true → (l : Literal) × (has_literal lits l ≡ true) × (p l ≡ true)
 some_literal p [] h = not_both false h refl
 some_literal p (x ∷ lits) h = by_cases (p x)
     (λ is. (x, has_at_head x lits, is))

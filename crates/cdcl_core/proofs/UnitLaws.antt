@@ -1,22 +1,21 @@
 -- What implied the next literal of level 0, and what telling its unit clause leaves.
-use Rattle.std.proofs.Common.{◌≡◌, ◌≢◌, refl, sym, ap, ◌∙◌, subst, ℕ, zero, suc, ◌+◌, ◌<◌, ◌≤◌, ℤ, true, false, List, [], ◌∷◌, ◌++◌, length, take, get_or, Option, Some, None, Result, Ok, Err, IfOk, IfErr, Contains, arith}
-use Rattle.std.specs.Prelude.{OnOk, slice_index_or}
+use Rattle.std.proofs.Common.{◌≡◌, refl, sym, ap, ◌∙◌, subst, ℕ, zero, suc, ◌+◌, ◌<◌, ◌≤◌, ℤ, true, List, [], ◌∷◌, ◌++◌, length, take, get_or, Option, Some, None, Err, arith}
+use Rattle.std.specs.Prelude.{slice_index_or}
 use Rattle.std.specs.List.{All}
 use Rattle.std.specs.Global.{Vec}
 use Rattle.cx_base.specs.Literals.{Literal, negate, same_literal}
-use Rattle.cx_base.specs.Problem.{Problem, parities_of, clauses_of}
+use Rattle.cx_base.specs.Problem.{Problem, parities_of}
 use Rattle.cx_semantics.specs.declared.steps.LogStep.{LogStep}
 use Rattle.cx_semantics.specs.declared.steps.LogStep.TheVariants.{ClauseWithHints}
 use Rattle.cx_semantics.specs.declared.steps.LogEvent.{LogEvent}
 use Rattle.cx_semantics.specs.declared.steps.LogEvent.TheVariants.{Step}
 use Rattle.cx_semantics.specs.Chain.{has_literal, is_inside, same_literals}
-use Rattle.cx_semantics.specs.Integers.{integer_of, integers_of, literals}
+use Rattle.cx_semantics.specs.Integers.{integers_of, literals}
 use Rattle.cx_semantics.proofs.ChainLaws.{and_parts}
 use Rattle.cx_semantics.proofs.Closure.{has_by_inside}
 use Rattle.cx_trail.specs.Sequence.{TrailState, IsTrail, IsTrueIn, entry_at}
 use Rattle.conflict_learn.specs.Learning.{IsAntecedent}
 use Rattle.conflict_learn.specs.declared.fault.CoreFault.{CoreFault}
-use Rattle.conflict_learn.specs.declared.fault.CoreFault.TheVariants.{Memory, Write}
 use Rattle.gauss_jordan.specs.State.{State}
 use Rattle.search_steps.specs.Holding.{AreTold}
 use Rattle.search_steps.specs.Search.{Search, IsSearch}
@@ -25,11 +24,11 @@ use Rattle.search_steps.proofs.Sets.{by_cases}
 use Rattle.search_steps.proofs.StartLaws.{literals_are}
 use Rattle.cdcl_core.specs.declared.kept.Kept.{Kept}
 use Rattle.cdcl_core.specs.Tells.{TellsAll, GivesUp, IsLeft, IsId, with_events}
-use Rattle.cdcl_core.specs.Ties.{Ties, Stands, first_row_id}
+use Rattle.cdcl_core.specs.Ties.{Stands, first_row_id}
 use Rattle.cdcl_core.specs.Units.{IsNextUnit}
 use Rattle.cdcl_core.proofs.Events.{no_more, gives_up}
 use Rattle.cdcl_core.proofs.LearnLaws.{sourced_is_live}
-use Rattle.cdcl_core.proofs.RowReasons.{entry_taken, few_taken}
+use Rattle.cdcl_core.proofs.RowReasons.{entry_taken}
 use Rattle.cdcl_core.proofs.RowSteps.{is_left}
 use Rattle.cdcl_core.proofs.UnitTies.{unit_is_search, unit_ties, after_unit, with_unit, l_within}
 

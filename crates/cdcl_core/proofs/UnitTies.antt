@@ -7,10 +7,9 @@ use Rattle.std.proofs.Math.Seq.{get_or-append_seam}
 use Rattle.std.specs.FinMap as map_
 use Rattle.std.specs.List.{AllByRecursion}
 use Rattle.std.specs.Global.{Vec}
-use Rattle.cx_base.specs.Literals.{Literal, negate, same_literal}
+use Rattle.cx_base.specs.Literals.{Literal}
 use Rattle.cx_base.specs.Problem.{Problem, parities_of, AreWithin}
 use Rattle.cx_semantics.specs.declared.steps.LogStep.TheVariants.{ClauseWithHints}
-use Rattle.cx_semantics.specs.declared.steps.LogEvent.{LogEvent}
 use Rattle.cx_semantics.specs.declared.steps.LogEvent.TheVariants.{Step}
 use Rattle.cx_semantics.specs.Chain.{has_literal, same_literals}
 use Rattle.cx_semantics.specs.Fresh.{IsLive}
@@ -19,15 +18,14 @@ use Rattle.cx_semantics.specs.Tables.{Table, get}
 use Rattle.cx_trail.specs.declared.entry.Entry.{Entry as TrailEntry}
 use Rattle.cx_trail.specs.declared.entry.Reason.{Reason}
 use Rattle.cx_trail.specs.declared.entry.Reason.TheVariants as reason
-use Rattle.cx_trail.specs.Sequence.{TrailState, IsTrail, entry_at}
+use Rattle.cx_trail.specs.Sequence.{TrailState, entry_at}
 use Rattle.gauss_jordan.specs.declared.state.Held.{Held}
 use Rattle.gauss_jordan.specs.State.{State}
 use Rattle.search_steps.specs.Engine.{HoldsValues}
 use Rattle.search_steps.specs.Ids.{IsRanged}
 use Rattle.search_steps.specs.LogSteps.{IsAddition, RestOnClauses, unit_told}
-use Rattle.search_steps.specs.Quiet.{HasTrue}
 use Rattle.search_steps.specs.Search.{Search, IsSearch, told}
-use Rattle.search_steps.specs.Tied.{IsTied, Mirrors, ForcesOn}
+use Rattle.search_steps.specs.Tied.{IsTied, ForcesOn}
 use Rattle.search_steps.specs.Trail.{Entry, rests_on, by_clause, held, all_held, level_of}
 use Rattle.search_steps.proofs.Bridge.{to_held}
 use Rattle.search_steps.proofs.CodeSteps.{forces_by}
@@ -37,7 +35,7 @@ use Rattle.search_steps.proofs.StartLaws.{variables_are_within}
 use Rattle.search_steps.proofs.UnitLaws.{held_same, level_same}
 use Rattle.search_steps.proofs.UnitSteps.{unit_rests_keeps}
 use Rattle.cdcl_core.specs.declared.kept.Kept.{Kept}
-use Rattle.cdcl_core.specs.Ties.{Ties, IsNamedBy, IsStored, IsCovered, AreClauses, AreRows, AreUnits, IsFed, HasReasonAt, HaveReasons, first_row_id}
+use Rattle.cdcl_core.specs.Ties.{Ties, IsNamedBy, IsCovered, AreClauses, AreUnits, IsFed, HasReasonAt, HaveReasons, first_row_id}
 use Rattle.cdcl_core.proofs.Places.{tied_length, older_level}
 use Rattle.cdcl_core.proofs.TableLaws.{put_same, put_other}
 

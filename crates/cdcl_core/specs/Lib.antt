@@ -9,6 +9,9 @@ pub mod Explaining
 pub mod Concluding
 pub mod Units
 pub mod Searching
+pub mod Beginning
 pub mod Deleting
 pub mod Originals
 pub mod Clauses
+pub mod Filling
+pub mod Waiting

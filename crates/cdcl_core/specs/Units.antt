@@ -1,6 +1,5 @@
 -- How unit clauses of level 0 are told.
-use Rattle.std.specs.Prelude.{◌≡◌, ◌≤◌, List, length, IsTrue, Option}
-use Rattle.std.specs.List.{AllByRecursion}
+use Rattle.std.specs.Prelude.{◌≡◌, List, length}
 use Rattle.cx_base.specs.Literals.{Literal}
 use Rattle.cx_trail.specs.Sequence.{StandsAt}
 use Rattle.conflict_learn.specs.Learning.{IsAntecedent}
@@ -22,7 +21,3 @@ pub record IsNextUnit (c : Kept) (rows : List (List Literal)) (l : Literal) (cla
   pub next : StandsAt c.trail.entries l (length c.units.items)
   pub sourced : IsSourced c rows clause
   pub implied : IsAntecedent c.trail l clause
-
--- no variable of the literals is above that of the trail
-abbrev pub AreKnown : Kept → List Literal → Type 0
-AreKnown c lits = AllByRecursion (λ l. l.variable ≤ c.trail.variables) lits

@@ -20,7 +20,7 @@ fn has(lits: &[Lit], lit: Lit) -> bool
 }
 
 /// Whether some literal stands beside its negation.
-fn has_both(lits: &[Lit]) -> bool
+pub(crate) fn has_both(lits: &[Lit]) -> bool
     ensures { result ≡ is_tautology lits.now }
 {
     for lit in lits {
@@ -32,7 +32,7 @@ fn has_both(lits: &[Lit]) -> bool
 }
 
 /// The different literals, in the order in which they come first.
-fn different(alloc: Global, lits: &[Lit]) -> Result<Vec<Lit>, AllocError>
+pub(crate) fn different(alloc: Global, lits: &[Lit]) -> Result<Vec<Lit>, AllocError>
     ensures same { IfOk result (λ d. IsTrue (same_literals d.items lits.now)) }
     ensures once { IfOk result (λ d. AreDifferent d.items) }
 {

@@ -1,12 +1,14 @@
 //! The search over clauses and parities: conflict-driven clause learning with Gauss-Jordan elimination.
 #![tactic(auto)]
 
+mod beginning;
 mod chains;
 mod clauses;
 mod conflicts;
 mod deciding;
 mod deleting;
 mod ending;
+mod filling;
 mod integers;
 mod jumping;
 mod kept;
@@ -23,4 +25,4 @@ mod telling;
 mod units;
 
 pub use conflict_learn::CoreFault;
-pub use solving::Outcome;
+pub use solving::{Outcome, solve_core};

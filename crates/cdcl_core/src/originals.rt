@@ -5,7 +5,8 @@ ghost use Rattle.cx_semantics.specs.declared.steps.LogEvent.TheVariants.{Step};
 ghost use Rattle.cx_semantics.specs.declared.steps.LogStep.TheVariants as step;
 ghost use Rattle.conflict_learn.specs.Learning.{Rose};
 ghost use Rattle.conflict_learn.specs.declared.fault.CoreFault.TheVariants.{Write};
-ghost use Rattle.cdcl_core.specs.Originals.{IsFresh, HasBegun, AreCounted};
+ghost use Rattle.cdcl_core.specs.Originals.{HasBegun, AreCounted};
+ghost use Rattle.cdcl_core.specs.Results.{IsFresh};
 ghost use Rattle.cdcl_core.specs.Tells.{GivesUp, FaultsAs, TellsAll, IsId};
 
 use crate::integers::integers;

@@ -4,7 +4,7 @@ ghost use Rattle.cx_semantics.specs.Settled.{Settled};
 ghost use Rattle.conflict_learn.specs.Learning.{Rose};
 ghost use Rattle.conflict_learn.specs.declared.fault.CoreFault.TheVariants.{Write};
 ghost use Rattle.cdcl_core.specs.Finds.{Finds};
-ghost use Rattle.cdcl_core.specs.Results.{Answers, IsSettledBy};
+ghost use Rattle.cdcl_core.specs.Results.{Answers, IsFresh, IsSettledBy, HasNoMark};
 ghost use Rattle.cdcl_core.specs.Searching.{GoesOn, Reaches};
 ghost use Rattle.cdcl_core.specs.Sources.{IsConflict, counted};
 ghost use Rattle.cdcl_core.specs.Tells.{GivesUp};
@@ -13,6 +13,7 @@ ghost use Rattle.cdcl_core.specs.declared.propagation.Found.TheVariants as findi
 ghost use Rattle.cdcl_core.specs.declared.solving.Outcome.{Outcome};
 ghost use Rattle.cdcl_core.specs.declared.solving.Outcome.TheVariants as outcome;
 
+use crate::beginning::{Begun, begin};
 use crate::conflicts::{Conclusion, Conflict, conflict_clause};
 use crate::ending::{end, tell_ending};
 use crate::jumping::jump;
@@ -160,7 +161,7 @@ fn round<P: ParityEngine, L: LogSink>(
 }
 
 /// Searches up to the budget.
-pub(crate) fn search<P: ParityEngine, L: LogSink>(
+fn search<P: ParityEngine, L: LogSink>(
     alloc: Global,
     formula: &Formula,
     kept: &mut Kept,
@@ -182,5 +183,41 @@ pub(crate) fn search<P: ParityEngine, L: LogSink>(
         if let Some(outcome) = round(alloc, formula, kept, engine, budget, sink)? {
             return Ok(outcome);
         }
+    }
+}
+
+/// Searches for values that meet the formula, up to a budget of counted conflicts, 1 to 10^18.
+///
+/// Counted are the conflicts above level 0, where a decision was made. The sink is told the log: the
+/// originals, a mark and a learned clause for each counted conflict, and the unit clauses of level 0. Where the
+/// formula is settled by propagation alone, no conflict is counted and the answer is never unknown.
+///
+/// It gives up for want of memory, or where the sink failed to write; the log is right as far as it goes.
+pub fn solve_core<P: ParityEngine + Drop, L: LogSink>(
+    alloc: Global,
+    formula: &Formula,
+    budget: u64,
+    sink: &mut L,
+) -> Result<Outcome, CoreFault>
+    requires budget { (1 ≤ budget) × (budget ≤ 10 ^ 18) }
+    requires few { length formula.now.constraints ≤ 4294967295 }
+    requires fresh { IsFresh (L.events sink.old) }
+    ensures answers { IfOk result (λ a. Answers formula.now budget (L.events sink.new) a) }
+    ensures settled { Settled formula.now → IfOk result (λ a. (conflicts : ℕ) → a ≢ outcome.Unknown conflicts) }
+    ensures unmarked { Settled formula.now → OnOk result (HasNoMark (L.events sink.new)) }
+    ensures gave_up { IfErr result (λ e. GivesUp formula.now (L.torn sink.new) (L.events sink.new) e) }
+    ensures write { IfErr result (λ e. e ≡ Write → Rose (L.faults sink.old) (L.faults sink.new)) }
+    ensures frame { L.keeps sink.old sink.new }
+{
+    match begin::<P, L>(alloc, formula, sink)? {
+        Begun::Search(mut kept, mut engine) => search(
+            alloc,
+            formula,
+            &mut kept,
+            &mut engine,
+            budget,
+            sink,
+        ),
+        Begun::Ended => Ok(Outcome::Unsat),
     }
 }

@@ -1,6 +1,6 @@
-use Rattle.std.proofs.Common.{◌≡◌, sym, ap, ◌∙◌, subst, ◌+◌, length, take, arith}
+use Rattle.std.proofs.Common.{sym, ap, ◌∙◌, subst, ◌+◌, take}
 use Rattle.std.proofs.lemmas.List.{take_all}
-use Rattle.cx_semantics.specs.Chain.{has_literal, same_literals}
+use Rattle.cx_semantics.specs.Chain.{has_literal}
 use Rattle.cdcl_core.proofs.DifferentLiterals.{AreFound, same_found, found_more, found_already}
 use Rattle.cdcl_core.proofs.clauses.different.Goals.{then-not-has+in_ok-push, else-not-has}
 use Rattle.cdcl_core.proofs.clauses.different.Goals as goal

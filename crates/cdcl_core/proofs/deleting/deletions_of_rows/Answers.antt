@@ -1,6 +1,4 @@
-use Rattle.std.proofs.Common.{◌≡◌, sym, ap, ◌∙◌, ◌++◌, ◌-◌, arith}
-use Rattle.cx_semantics.specs.Printed.{HasText}
-use Rattle.cx_semantics.specs.declared.steps.LogEvent.TheVariants.{Step}
+use Rattle.std.proofs.Common.{ap, ◌∙◌, ◌++◌, ◌-◌, arith}
 use Rattle.cdcl_core.specs.Deleting.{deletions}
 use Rattle.cdcl_core.specs.Tells.{as_events}
 use Rattle.cdcl_core.specs.Ties.{row_ids}

@@ -1,8 +1,7 @@
-use Rattle.std.proofs.Common.{◌≡◌, sym, subst, ◌≤◌}
+use Rattle.std.proofs.Common.{sym, subst, ◌≤◌}
 use Rattle.std.proofs.lemmas.Result.{err_from_is_err_and}
 use Rattle.std.specs.List.{All}
 use Rattle.cdcl_core.proofs.RowSteps.{left_now, memory_is_left}
-use Rattle.cdcl_core.proofs.UnitLaws.{next_is_id}
 use Rattle.cdcl_core.proofs.EndingLaws.{conflict_is_low, clause_refutes, clause_gives_up}
 use Rattle.cdcl_core.proofs.ending.end_by_clause.Goals as goal
 

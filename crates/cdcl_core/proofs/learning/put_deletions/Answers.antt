@@ -1,4 +1,4 @@
-use Rattle.std.proofs.Common.{sym, ap, ◌∙◌, subst, ◌-◌, ◌++◌, [], map, arith}
+use Rattle.std.proofs.Common.{◌≡◌, sym, ap, ◌∙◌, subst, ◌-◌, ◌++◌, [], map, arith}
 use Rattle.std.specs.List.{AllByRecursion}
 use Rattle.cx_semantics.specs.Printed.{HasText}
 use Rattle.cx_semantics.specs.declared.steps.LogEvent.TheVariants.{Step}

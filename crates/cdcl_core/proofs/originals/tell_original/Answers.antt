@@ -1,8 +1,7 @@
-use Rattle.std.proofs.Common.{◌≡◌, sym, ◌+◌, [], take, arith}
+use Rattle.std.proofs.Common.{sym, ◌+◌, [], arith}
 use Rattle.cx_base.specs.declared.constraint.Constraint.TheVariants as constraint
 use Rattle.cx_semantics.specs.Integers.{integers_of}
 use Rattle.cx_semantics.specs.declared.steps.LogStep.TheVariants.{Original, OriginalParity}
-use Rattle.cdcl_core.specs.Originals.{AreCounted}
 use Rattle.cdcl_core.proofs.OriginalLaws.{clause_is_id, parity_is_id, clause_counted, parity_counted, clause_begun, parity_begun, gives_up_original, in_any_case}
 use Rattle.cdcl_core.proofs.originals.tell_original.Goals as goal
 

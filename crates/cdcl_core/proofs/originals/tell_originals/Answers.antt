@@ -1,4 +1,4 @@
-use Rattle.std.proofs.Common.{◌≡◌, ◌≤◌, refl, ◌∙◌, subst, length, arith}
+use Rattle.std.proofs.Common.{refl, subst, arith}
 use Rattle.std.proofs.lemmas.List.{take_all}
 use Rattle.cdcl_core.specs.Originals.{HasBegun}
 use Rattle.cdcl_core.proofs.OriginalLaws.{none_counted, fresh_has_begun}

@@ -1,4 +1,4 @@
-use Rattle.std.proofs.Common.{◌≡◌, ◌≤◌, length, take}
+use Rattle.std.proofs.Common.{◌≡◌, take}
 use Rattle.cdcl_core.specs.Originals.{HasBegun, AreCounted}
 use Rattle.cdcl_core.proofs.originals.tell_originals.Given as goal
 

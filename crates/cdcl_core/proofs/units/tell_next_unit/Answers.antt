@@ -1,4 +1,4 @@
-use Rattle.std.proofs.Common.{◌≡◌, refl, sym, ap, ◌∙◌, subst, length, arith}
+use Rattle.std.proofs.Common.{◌≡◌, sym, ap, ◌∙◌, subst, length, arith}
 use Rattle.cx_trail.specs.Sequence.{entry_at}
 use Rattle.cdcl_core.specs.Ties.{Stands}
 use Rattle.cdcl_core.specs.Sources.{IsSourced}

@@ -1,9 +1,8 @@
-use Rattle.std.proofs.Common.{◌≡◌, refl, sym, ap, ◌∙◌, subst, ◌≤◌}
+use Rattle.std.proofs.Common.{refl, sym, subst, ◌≤◌}
 use Rattle.std.proofs.lemmas.Result.{err_from_is_err_and}
 use Rattle.std.specs.List.{All}
-use Rattle.cdcl_core.specs.Ties.{Stands}
 use Rattle.cdcl_core.proofs.RowSteps.{left_now, memory_is_left, fault_is_left}
-use Rattle.cdcl_core.proofs.UnitLaws.{implying_are_low, next_is_id, stands_then, left_then, gives_up_then}
+use Rattle.cdcl_core.proofs.UnitLaws.{implying_are_low, stands_then, left_then, gives_up_then}
 use Rattle.cdcl_core.proofs.units.tell_unit.Goals as goal
 
 pub returns-then-id-ge-FIRST_ROW_ID-clause-gave_up :

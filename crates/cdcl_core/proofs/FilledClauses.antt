@@ -1,0 +1,314 @@
+-- The clauses of the formula are taken one after another.
+use Rattle.std.proofs.Common.{◌≡◌, ◌≢◌, refl, sym, ap, ◌∙◌, subst, ℕ, zero, suc, ◌+◌, ◌-◌, ◌<◌, ◌≤◌, Bool, true, false, not, ◌||◌, nat_eq, eqb-true, is_some, true≢false, List, [], ◌∷◌, ◌++◌, length, take, get_or, Option, Some, None, Result, Ok, Err, ◌⊎◌, inl, inr, Contains, arith, length-append}
+use Rattle.std.specs.Prelude.{IsSome, IfSome, OnOk}
+use Rattle.std.specs.List.{list_any, AllByRecursion}
+use Rattle.std.proofs.lemmas.Bool.{eqb-false}
+use Rattle.std.proofs.lemmas.List.{take_more}
+use Rattle.std.proofs.lemmas.List.Elements.{filter_map-append, All-from_recursion, Contains-append_left, Contains-push}
+use Rattle.cx_base.specs.Literals.{Literal, negate}
+use Rattle.cx_base.specs.Problem.{Problem, clauses_of, clause_in, AreWithin}
+use Rattle.cx_base.specs.declared.constraint.Constraint.{Constraint}
+use Rattle.cx_base.specs.declared.constraint.Constraint.TheVariants as constraint
+use Rattle.cx_semantics.specs.Chain.{has_literal, is_inside, same_literals}
+use Rattle.cx_semantics.specs.Fresh.{is_tautology}
+use Rattle.cx_semantics.proofs.ChainLaws.{and_parts}
+use Rattle.cx_semantics.proofs.Closure.{has_by_inside, or_right}
+use Rattle.clause_arena.specs.Clauses.{Stored, IsLive, clause_at, literals_in, id_in}
+use Rattle.cx_trail.specs.Sequence.{TrailState}
+use Rattle.search_steps.proofs.Sets.{by_cases, not_both, has_at_head, has_behind, has_split}
+use Rattle.watch_lists.specs.Watching.{Fits, IsAttached}
+use Rattle.watch_lists.specs.Attaching.{CanBeWatched, literal_at}
+use Rattle.search_policy.specs.Standing.{AllStand}
+use Rattle.cdcl_core.specs.declared.kept.Kept.{Kept}
+use Rattle.cdcl_core.specs.declared.filling.Single.{Single}
+use Rattle.cdcl_core.specs.declared.filling.Filled.{Filled}
+use Rattle.cdcl_core.specs.Clauses.{AreDifferent}
+use Rattle.cdcl_core.specs.Filling.{IsEmpty, clause_number, IsUnitClause, IsTaken, IsFilledUpTo, IsNext, Attaches}
+use Rattle.cdcl_core.proofs.Entered.{kept_at, new_at, old_or_new}
+use Rattle.cdcl_core.proofs.OriginalLaws.{few_clauses}
+use Rattle.cdcl_core.proofs.RowSteps.{within_by}
+use Rattle.cdcl_core.proofs.Silence.{some_literal}
+
+-- ---- the numbers of clauses
+pub clause_counts : (cs : List Constraint) (i : ℕ) (d : Constraint) (lits : List Literal) → i < length cs → get_or cs i d ≡ constraint.Clause lits → length (clauses_of (take (i + 1) cs)) ≡ length (clauses_of (take i cs)) + 1
+unfolding clauses_of
+clause_counts cs i d lits less is =
+    let more = take_more cs i d less ∙ ap (λ c. take i cs ++ c ∷ []) is in
+    let long = ap length (ap clauses_of more ∙ filter_map-append clause_in (take i cs) (constraint.Clause lits ∷ [])) in
+    let both = length-append (clauses_of (take i cs)) (lits ∷ []) in
+    omega (arith, long, both)
+
+pub parity_passes : (cs : List Constraint) (i : ℕ) (d : Constraint) (lits : List Literal) → i < length cs → get_or cs i d ≡ constraint.Parity lits → length (clauses_of (take (i + 1) cs)) ≡ length (clauses_of (take i cs))
+unfolding clauses_of
+parity_passes cs i d lits less is =
+    let more = take_more cs i d less ∙ ap (λ c. take i cs ++ c ∷ []) is in
+    let long = ap length (ap clauses_of more ∙ filter_map-append clause_in (take i cs) (constraint.Parity lits ∷ [])) in
+    let both = length-append (clauses_of (take i cs)) [] in
+    omega (arith, long, both)
+
+pub clause_is_at : (cs : List Constraint) (i : ℕ) (d : Constraint) (lits : List Literal) → i < length cs → get_or cs i d ≡ constraint.Clause lits
+    → (length (clauses_of (take i cs)) < length (clauses_of cs)) × (get_or (clauses_of cs) (length (clauses_of (take i cs))) [] ≡ lits)
+unfolding clauses_of
+clause_is_at [] i d lits less is = absurd (omega (arith, less))
+clause_is_at (c ∷ cs) zero d lits less is = subst (λ x. (0 < length (clauses_of (x ∷ cs))) × (get_or (clauses_of (x ∷ cs)) 0 [] ≡ lits)) (sym is) (omega arith, refl)
+clause_is_at (constraint.Clause x ∷ cs) (suc i) d lits less is = let r = clause_is_at cs i d lits (omega (arith, less)) is in let low = r.0 in (omega (arith, low), r.1)
+clause_is_at (constraint.Parity x ∷ cs) (suc i) d lits less is = clause_is_at cs i d lits (omega (arith, less)) is
+
+pub none_counted : 0 ≡ length (clauses_of [])
+unfolding clauses_of
+none_counted = refl
+
+-- ---- clauses of the same literals
+any_by : (p : Literal → Bool) (lits : List Literal) (l : Literal) → has_literal lits l ≡ true → p l ≡ true → list_any p lits ≡ true
+any_by p [] l h k = not_both false h refl
+any_by p (m ∷ ms) l h k = elim (has_split m ms l h) [
+  | inl e ↦ ap (λ b. b || list_any p ms) (sym (ap p e) ∙ k)
+  | inr g ↦ or_right (p m) _ (any_by p ms l g k)
+]
+
+same_tautology : (a b : List Literal) → same_literals a b ≡ true → is_tautology a ≡ true → is_tautology b ≡ true
+same_tautology a b same h =
+    let inside = (and_parts (is_inside a b) (is_inside b a) same).0 in
+    let both = some_literal (λ l. has_literal a (negate l)) a h in
+    any_by (λ l. has_literal b (negate l)) b both.0 (has_by_inside a b both.0 inside both.1) (has_by_inside a b (negate both.0) inside both.2)
+
+same_as_none : (lits : List Literal) → same_literals [] lits ≡ true → lits ≡ []
+same_as_none [] h = refl
+same_as_none (m ∷ ms) h = absurd (true≢false (sym h))
+
+within_member : (n : ℕ) (lits : List Literal) (l : Literal) → AreWithin n lits → has_literal lits l ≡ true → (1 ≤ l.variable) × (l.variable ≤ n)
+within_member n [] l w h = not_both false h refl
+within_member n (m ∷ ms) l w h = elim (has_split m ms l h) [
+  | inl e ↦ subst (λ x. (1 ≤ x.variable) × (x.variable ≤ n)) (sym e) w.0
+  | inr g ↦ within_member n ms l w.1 g
+]
+
+different_within : (n : ℕ) (a b : List Literal) → same_literals a b ≡ true → AreWithin n b → AreWithin n a
+different_within n a b same w = within_by n a (λ l h. within_member n b l w (has_by_inside a b l (and_parts (is_inside a b) (is_inside b a) same).0 h))
+
+-- ---- a clause can be watched while the trail is empty
+signs : (a b : Bool) → (a ≡ b) ⊎ (not a ≡ b)
+signs true true = inl refl
+signs true false = inr refl
+signs false true = inr refl
+signs false false = inl refl
+
+same_or_negated : (l m : Literal) → l.variable ≡ m.variable → (l ≡ m) ⊎ (negate l ≡ m)
+same_or_negated l m v = elim (signs l.negative m.negative) [
+  | inl s ↦ inl (λ i. record { variable = v i; negative = s i })
+  | inr s ↦ inr (λ i. record { variable = v i; negative = s i })
+]
+
+first_two : (lits : List Literal) → 2 ≤ length lits → AreDifferent lits → is_tautology lits ≡ false → (literal_at lits 0).variable ≢ (literal_at lits 1).variable
+first_two [] long d h = absurd (omega (arith, long))
+first_two (l ∷ []) long d h = absurd (omega (arith, long))
+first_two (l ∷ m ∷ lits) long d h = λ v. elim (same_or_negated l m v) [
+  | inl e ↦ not_both (has_literal (m ∷ lits) l) (ap (has_literal (m ∷ lits)) e ∙ has_at_head m lits) d.0
+  | inr e ↦ not_both (is_tautology (l ∷ m ∷ lits)) (any_by (λ x. has_literal (l ∷ m ∷ lits) (negate x)) (l ∷ m ∷ lits) l (has_at_head l (m ∷ lits)) (ap (has_literal (l ∷ m ∷ lits)) e ∙ has_behind l (m ∷ lits) m (has_at_head m lits))) h
+]
+
+pub can_be_watched : (n : ℕ) (t : TrailState) (lits : List Literal) → t.entries ≡ [] → 2 ≤ length lits → AreDifferent lits → is_tautology lits ≡ false → AreWithin n lits → CanBeWatched n t lits
+can_be_watched n t lits none long d h w =
+    let short = ap length none in
+    record {
+      long = long;
+      within = All-from_recursion (λ l. (1 ≤ l.variable) × (l.variable ≤ n)) lits w;
+      apart = first_two lits long d h;
+      first = λ f. let low = f.1 in absurd (omega (arith, low, short));
+      second = λ i s. let low = s.0 in absurd (omega (arith, low, short));
+    }
+
+-- ---- before the first clause
+pub nothing_is_filled : (formula : Problem) (c : Kept) → IsEmpty formula.variables c → IsFilledUpTo formula 0 c [] None
+nothing_is_filled formula c e = record {
+  trail = e.trail;
+  fits = e.fits;
+  stand = e.stand;
+  phases = e.phases;
+  no_units = e.units;
+  next = e.next;
+  given = e.given;
+  conflicts = e.conflicts;
+  stored = λ r live. absurd (true≢false (sym (sym (ap (λ xs. is_some (get_or xs r None)) e.clauses) ∙ live)));
+  units_are = tt;
+  covered = λ k low high. absurd (omega (arith, low, high));
+  empty_is = tt;
+}
+
+-- ---- the next clause
+module _ (formula : Problem) (f : Filled) (lits : List Literal) (is : IsNext formula f lits) where
+  abbrev n : ℕ
+  n = f.kept.next
+
+  -- the number is one of those before, or the next
+  before_or_next : (k : ℕ) → k ≤ f.kept.next → (k ≤ f.kept.next - 1) ⊎ (k ≡ f.kept.next)
+  before_or_next k high = by_cases (nat_eq k f.kept.next)
+      (λ q. inr (eqb-true k f.kept.next q))
+      (λ q. inl (let apart : k ≢ f.kept.next = eqb-false k f.kept.next q in omega (arith, apart, high)))
+
+  low : 1 ≤ f.kept.next
+  low = let after = is.filled.next in omega (arith, after)
+
+  -- where the arena stays
+  module _ (units : List Single) (empty : Option ℕ) (more : (u : Single) → Contains f.units.items u → Contains units u) (still : IsSome f.empty → IsSome empty) where
+    pub taken_still : (k : ℕ) → IsTaken formula f.kept f.units.items f.empty k → IsTaken formula f.kept units empty k
+    taken_still k (inl a) = inl a
+    taken_still k (inr (inl a)) = inr (inl a)
+    taken_still k (inr (inr (inl (u, has, number)))) = inr (inr (inl (u, more u has, number)))
+    taken_still k (inr (inr (inr a))) = inr (inr (inr (still a)))
+
+    pub filled_then : AllByRecursion (λ u. IsUnitClause formula u.number u.literal × (1 ≤ u.literal.variable) × (u.literal.variable ≤ formula.variables)) units
+        → IfSome empty (λ k. (1 ≤ k) × (k ≤ f.kept.next) × (clause_number formula k ≡ []))
+        → IsTaken formula f.kept units empty f.kept.next → IsFilledUpTo formula f.kept.next (record f.kept { next = f.kept.next + 1 }) units empty
+    filled_then units_are empty_is taken = record {
+      trail = is.filled.trail;
+      fits = is.filled.fits;
+      stand = is.filled.stand;
+      phases = is.filled.phases;
+      no_units = is.filled.no_units;
+      next = refl;
+      given = is.filled.given;
+      conflicts = is.filled.conflicts;
+      stored = λ r live. let st = is.filled.stored r live in let high = st.2 in (st.0, st.1, omega (arith, high), st.3);
+      units_are = units_are;
+      covered = λ k small high. elim (before_or_next k high) [
+        | inl old ↦ taken_still k (is.filled.covered k small old)
+        | inr new ↦ subst (IsTaken formula f.kept units empty) (sym new) taken
+      ];
+      empty_is = empty_is;
+    }
+
+  empty_before : IfSome f.empty (λ k. (1 ≤ k) × (k ≤ f.kept.next) × (clause_number formula k ≡ []))
+  empty_before = go f.empty is.filled.empty_is
+    where
+      go : (empty : Option ℕ) → IfSome empty (λ k. (1 ≤ k) × (k ≤ f.kept.next - 1) × (clause_number formula k ≡ [])) → IfSome empty (λ k. (1 ≤ k) × (k ≤ f.kept.next) × (clause_number formula k ≡ []))
+      go None h = tt
+      go (Some k) h = let high = h.1 in (h.0, omega (arith, high), h.2)
+
+  pub tautology_taken : is_tautology lits ≡ true → IsFilledUpTo formula f.kept.next (record f.kept { next = f.kept.next + 1 }) f.units.items f.empty
+  tautology_taken h = filled_then f.units.items f.empty (λ u has. has) (λ some. some) is.filled.units_are empty_before
+      (inr (inl (same_tautology lits (clause_number formula f.kept.next) is.same h)))
+
+  pub empty_taken : lits ≡ [] → IsFilledUpTo formula f.kept.next (record f.kept { next = f.kept.next + 1 }) f.units.items (Some f.kept.next)
+  empty_taken none = filled_then f.units.items (Some f.kept.next) (λ u has. has) (λ some. refl) is.filled.units_are
+      (low, omega arith, same_as_none (clause_number formula f.kept.next) (sym (ap (λ xs. same_literals xs (clause_number formula f.kept.next)) none) ∙ is.same))
+      (inr (inr (inr refl)))
+
+  all_push : (P : Single → Type 0) (us : List Single) (u : Single) → AllByRecursion P us → P u → AllByRecursion P (us ++ u ∷ [])
+  all_push P [] u all p = (p, tt)
+  all_push P (x ∷ us) u all p = (all.0, all_push P us u all.1 p)
+
+  pub unit_taken : (l : Literal) → lits ≡ l ∷ [] → (units : List Single) → units ≡ f.units.items ++ (record { literal = l; number = f.kept.next }) ∷ []
+      → IsFilledUpTo formula f.kept.next (record f.kept { next = f.kept.next + 1 }) units f.empty
+  unit_taken l one units more =
+      let u : Single = record { literal = l; number = f.kept.next } in
+      let same : same_literals (l ∷ []) (clause_number formula f.kept.next) ≡ true = sym (ap (λ xs. same_literals xs (clause_number formula f.kept.next)) one) ∙ is.same in
+      let w : AreWithin formula.variables (l ∷ []) = subst (AreWithin formula.variables) one is.within in
+      subst (λ us. IsFilledUpTo formula f.kept.next (record f.kept { next = f.kept.next + 1 }) us f.empty) (sym more)
+      (filled_then (f.units.items ++ u ∷ []) f.empty (λ v has. Contains-append_left f.units.items (u ∷ []) v has) (λ some. some)
+      (all_push (λ v. IsUnitClause formula v.number v.literal × (1 ≤ v.literal.variable) × (v.literal.variable ≤ formula.variables)) f.units.items u is.filled.units_are (record { low = low; high = is.high; same = same }, w.0.0, w.0.1))
+      empty_before
+      (inr (inr (inl (u, Contains-push f.units.items u, refl)))))
+
+  -- a clause of several literals is attached
+  module _ (D : Kept) (a : Attaches (record f.kept { next = f.kept.next + 1 }) D lits f.kept.next) where
+    abbrev stored : Stored
+    stored = record { literals = lits; id = f.kept.next; lbd = 0; learned = false }
+
+    clause_kept : (r : ℕ) → IsLive f.kept.arena r → clause_at D.arena r ≡ clause_at f.kept.arena r
+    clause_kept r live = ap (λ xs. get_or xs r None) a.added ∙ kept_at f.kept.arena.clauses (Some stored) r live
+
+    clause_new : clause_at D.arena (length f.kept.arena.clauses) ≡ Some stored
+    clause_new = ap (λ xs. get_or xs (length f.kept.arena.clauses) None) a.added ∙ new_at f.kept.arena.clauses (Some stored)
+
+    attached_still : (r : ℕ) → IsAttached f.kept.watches.attached r → IsAttached D.watches.attached r
+    attached_still r h = by_cases (nat_eq r (length f.kept.arena.clauses))
+        (λ q. subst (IsAttached D.watches.attached) (sym (eqb-true r (length f.kept.arena.clauses) q)) a.attached)
+        (λ q. a.others r (eqb-false r (length f.kept.arena.clauses) q) ∙ h)
+
+    abbrev IsGood : ℕ → Option Stored → Type 0
+    IsGood r x = IsAttached D.watches.attached r × (1 ≤ id_in x) × (id_in x ≤ f.kept.next) × (same_literals (literals_in x) (clause_number formula (id_in x)) ≡ true)
+
+    stored_then : (r : ℕ) → IsLive D.arena r → IsGood r (clause_at D.arena r)
+    stored_then r live = elim (old_or_new f.kept.arena.clauses (Some stored) r (sym (ap (λ xs. is_some (get_or xs r None)) a.added) ∙ live)) [
+      | inl old ↦
+          let st = is.filled.stored r old in
+          let high = st.2 in
+          subst (IsGood r) (sym (clause_kept r old)) (attached_still r st.0, st.1, omega (arith, high), st.3)
+      | inr new ↦ subst (IsGood r) (sym (ap (clause_at D.arena) new ∙ clause_new)) (subst (IsAttached D.watches.attached) (sym new) a.attached, low, omega arith, is.same)
+    ]
+
+    taken_then : (k : ℕ) → IsTaken formula f.kept f.units.items f.empty k → IsTaken formula D f.units.items f.empty k
+    taken_then k (inl (r, attached, same)) = inl (r, attached_still r attached, ap (λ x. same_literals (literals_in x) (clause_number formula k)) (clause_kept r (is.filled.fits.nodes.live r attached)) ∙ same)
+    taken_then k (inr (inl h)) = inr (inl h)
+    taken_then k (inr (inr (inl h))) = inr (inr (inl h))
+    taken_then k (inr (inr (inr h))) = inr (inr (inr h))
+
+    new_taken : IsTaken formula D f.units.items f.empty f.kept.next
+    new_taken = inl (length f.kept.arena.clauses, a.attached, ap (λ x. same_literals (literals_in x) (clause_number formula f.kept.next)) clause_new ∙ is.same)
+
+    pub attached_taken : IsFilledUpTo formula f.kept.next D f.units.items f.empty
+    attached_taken = record {
+      trail = a.trail ∙ is.filled.trail;
+      fits = subst (Fits D.watches D.arena) (sym a.trail) a.fits;
+      stand = subst (λ o. AllStand o D.trail) (sym a.order) (subst (AllStand f.kept.order) (sym a.trail) is.filled.stand);
+      phases = ap length a.phases ∙ is.filled.phases;
+      no_units = a.units ∙ is.filled.no_units;
+      next = a.next;
+      given = a.given ∙ is.filled.given;
+      conflicts = a.conflicts ∙ is.filled.conflicts;
+      stored = stored_then;
+      units_are = is.filled.units_are;
+      covered = λ k small high. elim (before_or_next k high) [
+        | inl old ↦ taken_then k (is.filled.covered k small old)
+        | inr new ↦ subst (IsTaken formula D f.units.items f.empty) (sym new) new_taken
+      ];
+      empty_is = empty_before;
+    }
+
+-- ---- a place of the formula
+module _ (formula : Problem) (place : ℕ) (d : Constraint) (less : place < length formula.constraints) (f : Filled)
+    (filled : IsFilledUpTo formula (length (clauses_of (take place formula.constraints))) f.kept f.units.items f.empty) where
+  abbrev count : ℕ
+  count = length (clauses_of (take place formula.constraints))
+
+  pub next_is_few : length formula.constraints ≤ 4294967295 → (lits : List Literal) → get_or formula.constraints place d ≡ constraint.Clause lits → f.kept.next ≤ 4294967295
+  next_is_few few lits at =
+      let there = (clause_is_at formula.constraints place d lits less at).0 in
+      let all = few_clauses formula.constraints in
+      let after = filled.next in
+      omega (arith, there, all, after, few)
+
+  pub next_clause : (lits given : List Literal) → get_or formula.constraints place d ≡ constraint.Clause given → same_literals lits given ≡ true → AreDifferent lits → AreWithin formula.variables given → IsNext formula f lits
+  next_clause lits given at same once w =
+      let there = clause_is_at formula.constraints place d given less at in
+      let small = there.0 in
+      let after = filled.next in
+      let back : f.kept.next - 1 ≡ count = omega (arith, after) in
+      record {
+        filled = subst (λ n. IsFilledUpTo formula n f.kept f.units.items f.empty) (sym back) filled;
+        high = omega (arith, small, after);
+        same = ap (same_literals lits) (ap (λ k. get_or (clauses_of formula.constraints) k []) back ∙ there.1) ∙ same;
+        different = once;
+        within = different_within formula.variables lits given same w;
+      }
+
+  pub next_filled : (lits : List Literal) → get_or formula.constraints place d ≡ constraint.Clause lits → (g : Filled) → IsFilledUpTo formula f.kept.next g.kept g.units.items g.empty
+      → IsFilledUpTo formula (length (clauses_of (take (place + 1) formula.constraints))) g.kept g.units.items g.empty
+  next_filled lits at g then = subst (λ n. IsFilledUpTo formula n g.kept g.units.items g.empty) (filled.next ∙ sym (clause_counts formula.constraints place d lits less at)) then
+
+  pub parity_passed : (lits : List Literal) → get_or formula.constraints place d ≡ constraint.Parity lits → IsFilledUpTo formula (length (clauses_of (take (place + 1) formula.constraints))) f.kept f.units.items f.empty
+  parity_passed lits at = subst (λ n. IsFilledUpTo formula n f.kept f.units.items f.empty) (sym (parity_passes formula.constraints place d lits less at)) filled
+
+pub on_ok : {T E : Type 0} (r : Result T E) (P Q : Type 0) → OnOk r P → (P → Q) → OnOk r Q
+on_ok (Ok x) P Q p f = f p
+on_ok (Err e) P Q p f = tt
+
+pub only_one : (xs : List Literal) (d : Literal) → length xs ≤ 1 → length xs ≢ 0 → xs ≡ get_or xs 0 d ∷ []
+only_one [] d few some = absurd (some refl)
+only_one (l ∷ []) d few some = refl
+only_one (l ∷ m ∷ xs) d few some = absurd (omega (arith, few))
+
+pub none_at_all : (xs : List Literal) → length xs ≡ 0 → xs ≡ []
+none_at_all [] none = refl
+none_at_all (l ∷ xs) none = absurd (omega (arith, none))

@@ -1,0 +1,529 @@
+-- Unit clauses of the formula come onto the trail, one after another, and what stands when none waits.
+use Rattle.std.proofs.Common.{◌≡◌, ◌≢◌, refl, sym, ap, ◌∙◌, subst, ℕ, zero, suc, ◌+◌, ◌-◌, ◌<◌, ◌≤◌, ℤ, nat_le, nat_lt, Bool, true, false, cond, List, [], ◌∷◌, ◌++◌, length, take, drop, drop-cons, get_or, Option, Some, None, ◌⊎◌, inl, inr, Result, Ok, Err, IfErr, Contains, arith, length-append, true≢false}
+use Rattle.std.specs.Prelude.{OnOk, IfSome}
+use Rattle.std.proofs.lemmas.Bool.{le-leb, ltb-true, ltb-false}
+use Rattle.std.proofs.lemmas.List.{length-replicate}
+use Rattle.std.proofs.Math.ListN.{get_or-append}
+use Rattle.std.proofs.Math.Seq.{get_or-append_seam}
+use Rattle.std.specs.List.{AllByRecursion}
+use Rattle.std.specs.Global.{Vec}
+use Rattle.cx_base.specs.Literals.{Literal, same_literal}
+use Rattle.cx_base.specs.Problem.{Problem, Unmet, clauses_of, parities_of, IsWithinVariables}
+use Rattle.cx_semantics.specs.declared.steps.LogStep.{LogStep}
+use Rattle.cx_semantics.specs.declared.steps.LogStep.TheVariants.{ClauseWithHints}
+use Rattle.cx_semantics.specs.declared.steps.LogEvent.{LogEvent}
+use Rattle.cx_semantics.specs.declared.steps.LogEvent.TheVariants.{Step}
+use Rattle.cx_semantics.specs.Chain.{has_literal, is_inside, negations, same_literals}
+use Rattle.cx_semantics.specs.Fresh.{IsLive}
+use Rattle.cx_semantics.specs.LogRules.{HasChain}
+use Rattle.cx_semantics.specs.Marked.{Marked}
+use Rattle.cx_semantics.specs.Tables.{Table, get}
+use Rattle.cx_semantics.proofs.ChainLaws.{and_parts, same_literal-itself}
+use Rattle.cx_semantics.proofs.Closure.{has_by_inside}
+use Rattle.cx_trail.specs.declared.entry.Entry.{Entry as TrailEntry}
+use Rattle.cx_trail.specs.declared.entry.Reason.{Reason}
+use Rattle.cx_trail.specs.Sequence.{TrailState, IsTrail, IsTrueIn, IsFalseIn, IsOpenIn, entry_at, pushed}
+use Rattle.conflict_learn.specs.declared.fault.CoreFault.{CoreFault}
+use Rattle.gauss_jordan.specs.declared.state.Mood.TheVariants.{Busy, Broken}
+use Rattle.gauss_jordan.specs.State.{State, fresh}
+use Rattle.clause_arena.specs.Clauses.{id_at}
+use Rattle.watch_lists.proofs.EventLaws.{fits_pushed}
+use Rattle.search_steps.specs.Engine.{HoldsValues}
+use Rattle.search_steps.specs.Holding.{AreTold}
+use Rattle.search_steps.specs.Ids.{IsRanged}
+use Rattle.search_steps.specs.LogSteps.{IsEnded, RestOnClauses}
+use Rattle.search_steps.specs.Quiet.{HasTrue, IsOfParities}
+use Rattle.search_steps.specs.Search.{Search, IsSearch, forced_on}
+use Rattle.search_steps.specs.Tied.{IsTied, ForcesOn}
+use Rattle.search_steps.specs.Trail.{Entry, by_clause, held, all_held, level_of}
+use Rattle.search_steps.proofs.Bridge.{entry_last, entry_before, length_push, to_held, level_tied}
+use Rattle.search_steps.proofs.CodeSteps.{clause_step_keeps}
+use Rattle.search_steps.proofs.EngineLaws.{fresh_holds}
+use Rattle.search_steps.proofs.Ends.{ended_is_unmet, chained_clause_ends, chained_clause_is_marked}
+use Rattle.search_steps.proofs.IdLaws.{begun_is_ranged, begun_has_free_sums, force_ranged, next_is_free}
+use Rattle.search_steps.proofs.LogLaws.{append_nil, falsified_has_chain}
+use Rattle.search_steps.proofs.Sets.{by_cases, not_both, has_at_head, has_split}
+use Rattle.search_steps.proofs.StartLaws.{begun_is_search}
+use Rattle.search_steps.proofs.Stored.{stored_is_false}
+use Rattle.cdcl_core.specs.declared.kept.Kept.{Kept}
+use Rattle.cdcl_core.specs.declared.filling.Single.{Single}
+use Rattle.cdcl_core.specs.Filling.{IsFilled, IsUnitClause, clause_number}
+use Rattle.cdcl_core.specs.Originals.{HasBegun}
+use Rattle.cdcl_core.specs.Results.{Refutes, IsEndedWithin}
+use Rattle.cdcl_core.specs.Tells.{TellsAll, GivesUp, IsLeft, IsId, with_events}
+use Rattle.cdcl_core.specs.Ties.{IsNamedBy, IsCovered, AreClauses, AreUnits, IsFed, Stands, first_row_id}
+use Rattle.cdcl_core.specs.Waiting.{TiesBut, StandsBut, IsWaiting, IsSingle, IsContradicted, IsRefutable}
+use Rattle.cdcl_core.proofs.EndingLaws.{no_newer}
+use Rattle.cdcl_core.proofs.Events.{no_more, gives_up}
+use Rattle.cdcl_core.proofs.Growing.{covered_grows, stand_grows}
+use Rattle.cdcl_core.proofs.OriginalLaws.{few_clauses}
+use Rattle.cdcl_core.proofs.Places.{tied_length}
+use Rattle.cdcl_core.proofs.RowSteps.{is_left}
+
+-- ---- the empty clause is told
+module _ (formula : Problem) (id : ℕ) (old : Option (List LogEvent)) (shown : IsRefutable formula id old) (hints : List ℤ) where
+  abbrev step : LogStep
+  step = ClauseWithHints id [] hints
+
+  abbrev s : Search
+  s = shown.1.0
+
+  abbrev k : IsContradicted formula id s
+  k = shown.1.2
+
+  ended : IsEnded formula (s.events ++ Step step ∷ [])
+  ended = chained_clause_ends formula (parities_of formula.constraints) s k.search id [] hints (record { within = refl; free = k.free }) k.chain refl
+
+  is_marked : Marked formula (s.events ++ Step step ∷ []) 0
+  is_marked = subst (Marked formula (s.events ++ Step step ∷ [])) k.no_conflict (chained_clause_is_marked formula (parities_of formula.constraints) s k.search id [] hints k.served refl)
+
+  log_then : (o : Option (List LogEvent)) → AreTold o s.events → IsEndedWithin formula 1 (with_events (Step step ∷ []) o)
+  log_then None a = tt
+  log_then (Some es) a = subst (λ xs. IsEnded formula (xs ++ Step step ∷ []) × ((n : ℕ) × (n < 1) × Marked formula (xs ++ Step step ∷ []) n)) (sym a) (ended, (0, omega arith, is_marked))
+
+  module _ (torn : LogEvent → Type 0) (new : Option (List LogEvent)) where
+    pub told_refutes : (r : Result (Unit {0}) CoreFault) → TellsAll torn (Step step ∷ []) old r new → OnOk r (Refutes formula 1 new)
+    told_refutes (Ok done) tells = record { unmet = ended_is_unmet formula (s.events ++ Step step ∷ []) ended; log = subst (IsEndedWithin formula 1) (sym tells) (log_then old shown.1.1) }
+    told_refutes (Err fault) tells = tt
+
+    front : (i : ℕ) → i < 1 → IsLeft formula (with_events (take i (Step step ∷ [])) old)
+    front zero less = subst (IsLeft formula) (sym (no_more old)) (is_left formula (parities_of formula.constraints) s old k.search k.served shown.1.1)
+    front (suc i) less = absurd (omega (arith, less))
+
+    pub told_gives_up : (r : Result (Unit {0}) CoreFault) → TellsAll torn (Step step ∷ []) old r new → IfErr r (λ f. GivesUp formula torn new f)
+    told_gives_up (Ok done) tells = tt
+    told_gives_up (Err fault) tells = gives_up formula torn (Step step ∷ []) old new fault tells (λ i less. front i less)
+
+pub refutable_is_left : (formula : Problem) (id : ℕ) (old : Option (List LogEvent)) → IsRefutable formula id old → IsLeft formula old
+refutable_is_left formula id old shown = is_left formula (parities_of formula.constraints) shown.1.0 old shown.1.2.search shown.1.2.served shown.1.1
+
+pub waiting_is_left : (formula : Problem) (c : Kept) (waiting : List Single) (old : Option (List LogEvent)) → StandsBut formula c waiting old → IsLeft formula old
+waiting_is_left formula c waiting old st = is_left formula (parities_of formula.constraints) st.0 old st.1 st.3.served.served st.2
+
+-- ---- a clause of one literal
+only_one : (lits : List Literal) (l m : Literal) → same_literals (l ∷ []) lits ≡ true → has_literal lits m ≡ true → m ≡ l
+only_one lits l m same has = elim (has_split l [] m (has_by_inside lits (l ∷ []) m (and_parts (is_inside (l ∷ []) lits) (is_inside lits (l ∷ [])) same).1 has)) [
+  | inl is ↦ is
+  | inr none ↦ absurd (true≢false (sym none))
+]
+
+has_the_one : (lits : List Literal) (l : Literal) → same_literals (l ∷ []) lits ≡ true → has_literal lits l ≡ true
+has_the_one lits l same = has_by_inside (l ∷ []) lits l (and_parts (is_inside (l ∷ []) lits) (is_inside lits (l ∷ [])) same).0 (has_at_head l [])
+
+one_forces : (entries : List TrailEntry) (lits : List Literal) (l : Literal) → same_literals (l ∷ []) lits ≡ true → ForcesOn entries lits l
+one_forces entries lits l same = record {
+  has_it = has_the_one lits l same;
+  others_false = λ m has apart. not_both (same_literal l m) (ap (same_literal l) (only_one lits l m same has) ∙ same_literal-itself l) apart;
+}
+
+one_is_false : (entries : List TrailEntry) (l : Literal) → IsFalseIn entries l → (m : Literal) → Contains (l ∷ []) m → IsFalseIn entries m
+one_is_false entries l h m (zero, less, is) = subst (IsFalseIn entries) is h
+one_is_false entries l h m (suc k, less, is) = absurd (omega (arith, less))
+
+-- the next one, or one of the others
+still_waits : (u : Single) (more : List Single) (k : ℕ) → IsWaiting (u ∷ more) k → (k ≡ u.number) ⊎ IsWaiting more k
+still_waits u more k (v, (zero, less, is), number) = inl (sym number ∙ ap (λ x. x.number) (sym is))
+still_waits u more k (v, (suc i, less, is), number) = inr (v, (i, omega (arith, less), is), number)
+
+-- ---- the units of a longer trail
+module _ (table : Table) (t : TrailState) (es : List Entry) (ids : List ℕ) (u : AreUnits table t es ids) (every : length ids ≡ length t.entries) (level : ℕ) (low : level ≡ 0) (l : Literal) (why : Reason) (n : ℕ) where
+  abbrev new : TrailEntry
+  new = record { literal = l; level = level; reason = why }
+
+  abbrev grown : List TrailEntry
+  grown = t.entries ++ new ∷ []
+
+  places : (P : TrailEntry → ℕ → Type 0) → ((i : ℕ) → i < length ids → P (entry_at t.entries i) (get_or ids i 0)) → P new n → (i : ℕ) → i < length (ids ++ n ∷ []) → P (entry_at grown i) (get_or (ids ++ n ∷ []) i 0)
+  places P old last i less = by_cases (nat_lt i (length ids))
+      (λ q.
+      let small = ltb-true i (length ids) q in
+      subst (λ x. P x (get_or (ids ++ n ∷ []) i 0)) (sym (entry_before t.entries new i (omega (arith, small, every))))
+      (subst (P (entry_at t.entries i)) (sym (get_or-append ids (n ∷ []) 0 i small)) (old i small)))
+      (λ q.
+      let far = ltb-false i (length ids) q in
+      let long = length-append ids (n ∷ []) in
+      let at : i ≡ length ids = omega (arith, far, less, long) in
+      subst (λ x. P x (get_or (ids ++ n ∷ []) i 0)) (sym (ap (entry_at grown) (at ∙ every) ∙ entry_last t.entries new))
+      (subst (P new) (sym (ap (λ j. get_or (ids ++ n ∷ []) j 0) at ∙ get_or-append_seam ids n [] 0)) last))
+
+  no_more_above : 0 < level → ⊥
+  no_more_above high = omega (arith, high, low)
+
+  pub one_more_unit : (y : Entry) → y.why ≡ by_clause n → RestOnClauses es → length es ≡ length t.entries → IsNamedBy table (l ∷ []) n → n < first_row_id → AreUnits table (pushed t level l why) (y ∷ es) (ids ++ n ∷ [])
+  one_more_unit y rests rest tied named small = record {
+    few = let a = length-append ids (n ∷ []) in let b = length_push t.entries new in omega (arith, a, b, every);
+    level_0 = places (λ x _. x.level ≡ 0) u.level_0 low;
+    named = places (λ x i. IsNamedBy table (x.literal ∷ []) i) u.named named;
+    low = places (λ _ i. i < first_row_id) u.low small;
+    newer = [];
+    older = y ∷ es;
+    parts = refl;
+    count = let a = length-append ids (n ∷ []) in omega (arith, a, every, tied);
+    rest = ((n, rests), rest);
+    all = λ high i far less. absurd (no_more_above high);
+  }
+
+no_clause : (x : List Literal) → ◌≡◌ {A = Option (List Literal)} (Some x) None → ⊥
+no_clause x q = cc
+
+some_is : (x y : List Literal) → ◌≡◌ {A = Option (List Literal)} (Some x) (Some y) → x ≡ y
+some_is x y q = cc
+
+busy : Busy ≡ Broken → ⊥
+busy q = cc
+
+-- what the code holds with other units and another trail
+abbrev pub with_single : Kept → Vec ℕ → TrailState → Kept
+with_single c units trail = record c { trail = trail; units = units }
+
+pub next_waits : (formula : Problem) (c : Kept) (units : List Single) (place : ℕ) (u : Single) (told : Option (List LogEvent)) → place < length units → u ≡ get_or units place u → StandsBut formula c (drop place units) told → StandsBut formula c (u ∷ drop (place + 1) units) told
+next_waits formula c units place u told less is st = subst (λ us. StandsBut formula c us told) (drop-cons units place u less ∙ ap (λ j. get_or units place u ∷ drop j units) (let e : suc place ≡ place + 1 = omega arith in e) ∙ ap (λ x. x ∷ drop (place + 1) units) (sym is)) st
+
+pub none_left : (units : List Single) (place : ℕ) → length units ≤ place → drop place units ≡ []
+none_left [] zero far = refl
+none_left [] (suc place) far = refl
+none_left (u ∷ units) zero far = absurd (omega (arith, far))
+none_left (u ∷ units) (suc place) far = none_left units place (omega (arith, far))
+
+-- ---- the next unit clause
+module _ (formula : Problem) (c : Kept) (u : Single) (more : List Single) (old : Option (List LogEvent)) (st : StandsBut formula c (u ∷ more) old) where
+  abbrev search : Search
+  search = st.0
+
+  abbrev ties : TiesBut formula c (u ∷ more) search
+  ties = st.3
+
+  abbrev single : IsSingle formula u
+  single = ties.singles.0
+
+  abbrev clause : List Literal
+  clause = clause_number formula u.number
+
+  live : get search.moment.tables.clauses u.number ≡ Some clause
+  live = ties.clauses.numbered u.number single.0.low single.0.high
+
+  small : u.number < first_row_id
+  small = let high = single.0.high in let next = ties.next in let room = ties.room in omega (arith, high, next, room)
+
+  long : length search.trail ≡ length c.trail.entries
+  long = tied_length search.trail c.trail.entries ties.follows.tied
+
+  rest : RestOnClauses search.trail
+  rest = subst RestOnClauses (no_newer ties.units.newer ties.units.older search.trail ties.units.parts
+      (let a = long in let count = ties.units.count in let every = ties.every in omega (arith, a, count, every))) ties.units.rest
+
+  pub unit_is_known : (1 ≤ u.literal.variable) × (u.literal.variable ≤ c.trail.variables)
+  unit_is_known = let low = single.1 in let high = single.2 in let same = ties.variables in (omega (arith, low), omega (arith, high, same))
+
+  -- its literal is true already
+  true_covers : IsTrueIn c.trail.entries u.literal → HasTrue (held 0 search.trail) clause
+  true_covers (i, (less, at)) = record {
+    l = u.literal;
+    has_it = has_the_one clause u.literal single.0.same;
+    is_held = ap (has_literal (held 0 search.trail)) (sym at)
+        ∙ to_held 0 search.trail c.trail.entries ties.follows.tied i less (let low = ties.follows.sound.levels i less in let level = ties.level in omega (arith, low, level));
+  }
+
+  pub true_is_put : IsTrueIn c.trail.entries u.literal → StandsBut formula c more old
+  true_is_put h = (
+    search,
+    st.1,
+    st.2,
+    record {
+      follows = ties.follows;
+      variables = ties.variables;
+      level = ties.level;
+      ranged = ties.ranged;
+      next = ties.next;
+      room = ties.room;
+      sums = ties.sums;
+      parities = ties.parities;
+      clauses = ties.clauses;
+      stored = ties.stored;
+      covered = λ k low high. elim (ties.covered k low high) [
+        | inl done ↦ inl done
+        | inr waits ↦ elim (still_waits u more k waits) [
+          | inl is ↦ inl (inr (inr (subst (λ j. HasTrue (held 0 search.trail) (clause_number formula j)) (sym is) (true_covers h))))
+          | inr later ↦ inr later
+        ]
+      ];
+      singles = ties.singles.1;
+      units = ties.units;
+      every = ties.every;
+      fits = ties.fits;
+      stand = ties.stand;
+      phases = ties.phases;
+      given = ties.given;
+      conflicts = ties.conflicts;
+      no_conflict = ties.no_conflict;
+      no_level = ties.no_level;
+      served = ties.served;
+    },
+  )
+
+  -- its literal is false
+  pub false_is_refutable : IsFalseIn c.trail.entries u.literal → IsRefutable formula c.next old
+  false_is_refutable h = (
+    (let next = ties.next in omega (arith, next), let room = ties.room in omega (arith, room)),
+    (
+      search,
+      st.2,
+      record {
+        search = st.1;
+        chain = falsified_has_chain search.moment.tables.clauses (IsOfParities formula.variables (parities_of formula.constraints)) search.trail st.1.serves.stands rest clause (u.number, live)
+            (stored_is_false (u.literal ∷ []) clause single.0.same search.trail c.trail.entries ties.follows.tied (one_is_false c.trail.entries u.literal h));
+        free = next_is_free formula first_row_id c.next first_row_id search ties.ranged ties.room;
+        served = ties.served.served;
+        no_conflict = ties.no_conflict;
+      },
+    ),
+  )
+
+  -- its literal is put on the trail
+  module _ (is_open : IsOpenIn c.trail.entries u.literal.variable) (why : Reason) where
+    abbrev entry : Entry
+    entry = record { literal = u.literal; level = level_of search.trail; why = by_clause u.number }
+
+    abbrev after : Search
+    after = forced_on search u.literal (by_clause u.number)
+
+    keeps : IsSearch formula (parities_of formula.constraints) after × IsTied after.trail (pushed c.trail c.trail.level u.literal why).entries
+    keeps = clause_step_keeps formula (parities_of formula.constraints) search st.1 c.trail ties.follows u.literal why is_open u.number clause (let none = ties.no_level in omega (arith, none)) live (one_forces c.trail.entries clause u.literal single.0.same)
+
+    head_covers : HasTrue (held 0 after.trail) clause
+    head_covers = record {
+      l = u.literal;
+      has_it = has_the_one clause u.literal single.0.same;
+      is_held = ap (λ b. has_literal (cond b (u.literal ∷ held 0 search.trail) (held 0 search.trail)) u.literal)
+          (le-leb (level_of search.trail) 0 (let at = level_tied search.trail c.trail ties.follows.tied ties.follows.sound in let level = ties.level in omega (arith, at, level)))
+          ∙ has_at_head u.literal (held 0 search.trail);
+    }
+
+    units_then : AreUnits search.moment.tables.clauses (pushed c.trail c.trail.level u.literal why) after.trail (c.units.items ++ u.number ∷ [])
+    units_then = one_more_unit search.moment.tables.clauses c.trail search.trail c.units.items ties.units ties.every c.trail.level ties.level u.literal why u.number entry refl rest long
+        (record { clause = clause; live = live; same = single.0.same }) small
+
+    module _ (units : Vec ℕ) (grown : units.items ≡ c.units.items ++ u.number ∷ []) where
+      pushed_is_put : IsTrail (pushed c.trail c.trail.level u.literal why) → StandsBut formula (with_single c units (pushed c.trail c.trail.level u.literal why)) more old
+      pushed_is_put sound = (
+        after,
+        keeps.0,
+        st.2,
+        record {
+          follows = record { tied = keeps.1; sound = sound };
+          variables = ties.variables;
+          level = ties.level;
+          ranged = force_ranged formula first_row_id c.next first_row_id search ties.ranged u.literal u.number small;
+          next = ties.next;
+          room = ties.room;
+          sums = ties.sums;
+          parities = ties.parities;
+          clauses = ties.clauses;
+          stored = λ r is_live. let s = ties.stored r is_live in record { attached = s.attached; low = s.low; high = s.high; same = s.same };
+          covered = λ k low high. elim (ties.covered k low high) [
+            | inl done ↦ inl (covered_grows c search.trail entry (clause_number formula k) done)
+            | inr waits ↦ elim (still_waits u more k waits) [
+              | inl is ↦ inl (inr (inr (subst (λ j. HasTrue (held 0 after.trail) (clause_number formula j)) (sym is) head_covers)))
+              | inr later ↦ inr later
+            ]
+          ];
+          singles = ties.singles.1;
+          units = subst (AreUnits search.moment.tables.clauses (pushed c.trail c.trail.level u.literal why) after.trail) (sym grown) units_then;
+          every = let a = ap length grown in let b = length-append c.units.items (u.number ∷ []) in
+              let l = length_push c.trail.entries (record { literal = u.literal; level = c.trail.level; reason = why }) in let every = ties.every in omega (arith, a, b, l, every);
+          fits = fits_pushed c.watches c.arena c.trail c.trail.level u.literal why (omega arith) ties.fits;
+          stand = stand_grows c c.trail.level u.literal why c.order ties.stand;
+          phases = ties.phases;
+          given = ties.given;
+          conflicts = ties.conflicts;
+          no_conflict = ties.no_conflict;
+          no_level = ties.no_level;
+          served = record { served = ties.served.served; old_clauses = ties.served.old_clauses; new_clauses = ties.served.new_clauses; old_sums = ties.served.old_sums; new_sums = ties.served.new_sums };
+        },
+      )
+
+      pub open_is_put : (trail : TrailState) → trail ≡ pushed c.trail c.trail.level u.literal why → IsTrail trail → StandsBut formula (with_single c units trail) more old
+      open_is_put trail is sound = subst (λ t. StandsBut formula (with_single c units t) more old) (sym is) (pushed_is_put (subst IsTrail is sound))
+
+-- ---- before the first unit clause
+module _ (formula : Problem) (few : length formula.constraints ≤ 4294967295) (known : IsWithinVariables formula.variables formula.constraints) (told : Option (List LogEvent)) (b : HasBegun formula formula.constraints told) (c : Kept) (units : List Single) where
+  room_then : length (clauses_of formula.constraints) + 1 < first_row_id
+  room_then = let a = few_clauses formula.constraints in omega (arith, a, few)
+
+  empty_is_sound : (t : TrailState) → t ≡ record { variables = formula.variables; level = 0; entries = [] } → IsTrail t
+  empty_is_sound t is = subst IsTrail (sym is) (record {
+    few = known.0;
+    short = omega arith;
+    distinct = λ i j less more same. absurd (omega (arith, less));
+    low = λ i less. absurd (omega (arith, less));
+    high = λ i less. absurd (omega (arith, less));
+    levels = λ i less. absurd (omega (arith, less));
+    rising = λ i j up less. absurd (omega (arith, less));
+    deep = omega arith;
+    newest = refl;
+    opens = λ i j less more above decision. absurd (omega (arith, more));
+    decided = λ k low high. absurd (omega (arith, low, high));
+  })
+
+  no_unit : (table : Table) (t : TrailState) (es : List Entry) (ids : List ℕ) → es ≡ [] → ids ≡ [] → t.level ≡ 0 → AreUnits table t es ids
+  no_unit table t es ids none no_id level = record {
+    few = let l = ap length no_id in omega (arith, l);
+    level_0 = λ i less. absurd (let l = ap length no_id in omega (arith, l, less));
+    named = λ i less. absurd (let l = ap length no_id in omega (arith, l, less));
+    low = λ i less. absurd (let l = ap length no_id in omega (arith, l, less));
+    newer = [];
+    older = [];
+    parts = none;
+    count = sym (ap length no_id);
+    rest = tt;
+    all = λ high i far less. absurd (omega (arith, high, level));
+  }
+
+  pub filled_stands : IsFilled formula c units None → StandsBut formula c units told
+  filled_stands f = (
+    b.0,
+    begun_is_search formula b.0 b.1,
+    b.4,
+    record {
+      follows = record { tied = subst (λ es. IsTied es c.trail.entries) (sym b.1.no_trail) (ap (λ t. t.entries) f.trail); sound = empty_is_sound c.trail f.trail };
+      variables = ap (λ t. t.variables) f.trail;
+      level = ap (λ t. t.level) f.trail;
+      ranged = subst (λ n. IsRanged formula first_row_id n first_row_id b.0.trail b.0.moment) (sym f.next) (begun_is_ranged formula first_row_id b.0 (let r = room_then in omega (arith, r)) b.1);
+      next = f.next;
+      room = let r = room_then in let next = f.next in omega (arith, r, next);
+      sums = begun_has_free_sums formula b.0 b.1;
+      parities = b.3;
+      clauses = b.2;
+      stored = λ r live. let s = f.stored r live in record { attached = s.0; low = s.1; high = s.2; same = s.3 };
+      covered = λ k low high. elim (f.covered k low high) [
+        | inl stored ↦ inl (inl stored)
+        | inr (inl both) ↦ inl (inr (inl both))
+        | inr (inr (inl waits)) ↦ inr waits
+        | inr (inr (inr none)) ↦ absurd (true≢false (sym none))
+      ];
+      singles = f.units_are;
+      units = no_unit b.0.moment.tables.clauses c.trail b.0.trail c.units.items b.1.no_trail f.no_units (ap (λ t. t.level) f.trail);
+      every = ap length f.no_units ∙ sym (ap (λ t. length t.entries) f.trail);
+      fits = f.fits;
+      stand = f.stand;
+      phases = f.phases;
+      given = f.given;
+      conflicts = f.conflicts;
+      no_conflict = b.1.no_conflict;
+      no_level = b.1.no_level;
+      served = record { served = b.1.tidy.served; old_clauses = b.1.tidy.no_old_clauses; new_clauses = b.1.tidy.no_new_clauses; old_sums = b.1.tidy.no_old_sums; new_sums = b.1.tidy.no_new_sums };
+    },
+  )
+
+  -- a clause without literals
+  pub empty_is_refutable : (number : ℕ) → IsFilled formula c units (Some number) → IsRefutable formula c.next told
+  empty_is_refutable number f = (
+    (let next = f.next in omega (arith, next), let r = room_then in let next = f.next in omega (arith, next, r)),
+    (
+      b.0,
+      b.4,
+      record {
+        search = begun_is_search formula b.0 b.1;
+        chain = falsified_has_chain b.0.moment.tables.clauses (IsOfParities formula.variables (parities_of formula.constraints)) [] tt tt [] (number, b.2.numbered number f.empty_is.0 f.empty_is.1 ∙ ap Some f.empty_is.2) refl;
+        free = ap (get b.0.moment.tables.clauses) f.next ∙ b.1.clauses.free (length (clauses_of formula.constraints) + 1) (omega arith);
+        served = b.1.tidy.served;
+        no_conflict = b.1.no_conflict;
+      },
+    ),
+  )
+
+-- ---- behind the last unit clause
+module _ (formula : Problem) (c : Kept) (told : Option (List LogEvent)) (st : StandsBut formula c [] told) where
+  none_waits : (k : ℕ) → IsWaiting [] k → ⊥
+  none_waits k (u, (i, less, is), number) = omega (arith, less)
+
+  is_number : (n : ℕ) (clause : List Literal) → get st.0.moment.tables.clauses n ≡ Some clause → n < first_row_id → (1 ≤ n) × (n ≤ length (clauses_of formula.constraints))
+  is_number zero clause live low = absurd (no_clause clause (sym live ∙ st.3.clauses.none_before))
+  is_number (suc n) clause live low = (
+    omega arith,
+    by_cases (nat_lt (length (clauses_of formula.constraints)) (suc n))
+        (λ q.
+        let far = ltb-true (length (clauses_of formula.constraints)) (suc n) q in
+        absurd (no_clause clause (sym live ∙ st.3.ranged.free (suc n) (let next = st.3.next in omega (arith, far, next)) low)))
+        (λ q. let near = ltb-false (length (clauses_of formula.constraints)) (suc n) q in near),
+  )
+
+  clauses_then : AreClauses st.0.moment.tables.clauses c st.0.trail
+  clauses_then = record {
+    stored = λ r live.
+        let s = st.3.stored r live in
+        record {
+          attached = s.attached;
+          named = record { clause = clause_number formula (id_at c.arena r); live = st.3.clauses.numbered (id_at c.arena r) s.low s.high; same = s.same };
+          low = let high = s.high in let next = st.3.next in let room = st.3.room in omega (arith, high, next, room);
+        };
+    covered = λ n clause low live.
+        let number = is_number n clause live low in
+        subst (IsCovered c st.0.trail) (some_is (clause_number formula n) clause (sym (st.3.clauses.numbered n number.0 number.1) ∙ live)) (elim (st.3.covered n number.0 number.1) [
+          | inl done ↦ done
+          | inr waits ↦ absurd (none_waits n waits)
+        ]);
+  }
+
+  all_low : (es : List Entry) (entries : List TrailEntry) → IsTied es entries → ((i : ℕ) → i < length entries → (entry_at entries i).level ≤ 0) → AllByRecursion (λ (e : Entry). e.level ≡ 0) es
+  all_low [] entries t low = tt
+  all_low (e ∷ es) entries (before, x, same, lit, lev, t) low =
+      let l = length_push before x in
+      let q = ap length same in (
+        (let at = low (length before) (omega (arith, l, q)) in
+            let is : (entry_at entries (length before)).level ≡ e.level = ap (λ xs. (entry_at xs (length before)).level) same ∙ ap (λ y. y.level) (entry_last before x) ∙ lev in
+            omega (arith, at, is)),
+        all_low es before t (λ i less.
+            let at = low i (omega (arith, less, l, q)) in
+            let is : (entry_at entries i).level ≡ (entry_at before i).level = ap (λ xs. (entry_at xs i).level) same ∙ ap (λ y. y.level) (entry_before before x i less) in
+            omega (arith, at, is)),
+      )
+
+  level_is : level_of st.0.trail ≡ 0
+  level_is = level_tied st.0.trail c.trail st.3.follows.tied st.3.follows.sound ∙ st.3.level
+
+  module _ (e : State) (rows : ℕ) (made : e ≡ fresh formula.variables (parities_of formula.constraints) rows) where
+    fed_then : IsFed st.0.trail c.given e
+    fed_then = record {
+      newer = st.0.trail;
+      older = [];
+      parts = sym (append_nil st.0.trail);
+      count = sym st.3.given;
+      now = subst (λ k. AllByRecursion (λ (x : Entry). x.level ≡ k) st.0.trail) (sym (ap (λ x. x.level) made))
+          (all_low st.0.trail c.trail.entries st.3.follows.tied (λ i less. let low = st.3.follows.sound.levels i less in let level = st.3.level in omega (arith, low, level)));
+      values = subst (λ x. HoldsValues [] x.values) (sym made) (fresh_holds formula.variables (parities_of formula.constraints) rows);
+      level = ap (λ x. x.level) made ∙ sym level_is;
+    }
+
+    pub begun_stands : Stands formula c e [] told
+    begun_stands = (
+      st.0,
+      st.1,
+      st.2,
+      record {
+        follows = st.3.follows;
+        variables = st.3.variables;
+        ranged = st.3.ranged;
+        sums = st.3.sums;
+        numbered = st.3.parities.numbered;
+        clauses = clauses_then;
+        rows_told = λ i less. absurd (omega (arith, less));
+        units = st.3.units;
+        engine = record {
+          vars = ap (λ x. x.vars) made;
+          parities = ap (λ x. x.parities) made;
+          wide = subst (λ x. length x.values ≡ x.vars) (sym made) (length-replicate formula.variables None);
+        };
+        fed = fed_then;
+        reasons = λ i far less. absurd (let every = st.3.every in omega (arith, far, less, every));
+        fits = st.3.fits;
+        stand = st.3.stand;
+        phases = st.3.phases;
+        conflicts = st.3.no_conflict ∙ sym st.3.conflicts;
+        levels = st.3.no_level ∙ sym level_is;
+        served = st.3.served;
+      },
+    )
+
+    pub begun_is_calm : e.mood ≢ Broken
+    begun_is_calm broken = busy (sym (ap (λ x. x.mood) made) ∙ broken)

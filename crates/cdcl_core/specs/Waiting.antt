@@ -1,0 +1,83 @@
+-- What a search holds while some unit clauses of the formula still wait.
+use Rattle.std.specs.Prelude.{◌≡◌, ◌⊎◌, ℕ, ◌+◌, ◌<◌, ◌≤◌, Bool, true, false, List, [], length, Option, None, IsTrue, IsFalse, Contains}
+use Rattle.std.specs.List.{AllByRecursion}
+use Rattle.cx_base.specs.Problem.{Problem, clauses_of, parities_of}
+use Rattle.cx_semantics.specs.declared.steps.LogEvent.{LogEvent}
+use Rattle.cx_semantics.specs.Chain.{same_literals}
+use Rattle.cx_semantics.specs.LogRules.{HasChain}
+use Rattle.cx_semantics.specs.Tables.{get}
+use Rattle.clause_arena.specs.Clauses.{IsLive, literals_at, id_at}
+use Rattle.watch_lists.specs.Watching.{Fits, IsAttached}
+use Rattle.search_policy.specs.Standing.{AllStand}
+use Rattle.search_steps.specs.Holding.{AreTold}
+use Rattle.search_steps.specs.Ids.{IsRanged, HasFreeSums}
+use Rattle.search_steps.specs.Search.{Search, IsSearch}
+use Rattle.search_steps.specs.Tied.{Mirrors}
+use Rattle.cdcl_core.specs.declared.kept.Kept.{Kept}
+use Rattle.cdcl_core.specs.declared.filling.Single.{Single}
+use Rattle.cdcl_core.specs.Filling.{clause_number, IsUnitClause}
+use Rattle.cdcl_core.specs.Originals.{AreListed}
+use Rattle.cdcl_core.specs.Results.{Refutes}
+use Rattle.cdcl_core.specs.Tells.{IsId}
+use Rattle.cdcl_core.specs.Ties.{IsCovered, AreUnits, IsServed, first_row_id}
+
+-- what the arena holds is attached, and has the literals of the formula's clause of its number
+pub record IsOfFormula (formula : Problem) (c : Kept) (r : ℕ) : Type 0 where
+  pub attached : IsAttached c.watches.attached r
+  pub low : 1 ≤ id_at c.arena r
+  pub high : id_at c.arena r ≤ length (clauses_of formula.constraints)
+  pub same : IsTrue (same_literals (literals_at c.arena r) (clause_number formula (id_at c.arena r)))
+
+-- one of these unit clauses has the number
+abbrev pub IsWaiting : List Single → ℕ → Type 0
+IsWaiting units k = (u : Single) × Contains units u × (u.number ≡ k)
+
+-- a unit clause of the formula, over its variables
+abbrev pub IsSingle : Problem → Single → Type 0
+IsSingle formula u = IsUnitClause formula u.number u.literal × (1 ≤ u.literal.variable) × (u.literal.variable ≤ formula.variables)
+
+-- What the code holds at level 0 is what the search of the calculus holds, but these unit clauses are not covered yet. Just the formula was told, and there is no engine.
+pub record TiesBut (formula : Problem) (c : Kept) (waiting : List Single) (s : Search) : Type 0 where
+  pub follows : Mirrors s.trail c.trail
+  pub variables : c.trail.variables ≡ formula.variables
+  pub level : c.trail.level ≡ 0
+  pub ranged : IsRanged formula first_row_id c.next first_row_id s.trail s.moment
+  pub next : c.next ≡ length (clauses_of formula.constraints) + 1
+  pub room : c.next < first_row_id
+  pub sums : HasFreeSums (length (parities_of formula.constraints)) s.moment
+  pub parities : AreListed s.moment.tables.parities (parities_of formula.constraints)
+  pub clauses : AreListed s.moment.tables.clauses (clauses_of formula.constraints)
+  pub stored : (r : ℕ) → IsLive c.arena r → IsOfFormula formula c r
+  pub covered : (k : ℕ) → 1 ≤ k → k ≤ length (clauses_of formula.constraints) → IsCovered c s.trail (clause_number formula k) ⊎ IsWaiting waiting k
+  pub singles : AllByRecursion (IsSingle formula) waiting
+  pub units : AreUnits s.moment.tables.clauses c.trail s.trail c.units.items
+  pub every : length c.units.items ≡ length c.trail.entries
+  pub fits : Fits c.watches c.arena c.trail
+  pub stand : AllStand c.order c.trail
+  pub phases : length c.phases.items ≡ formula.variables
+  pub given : c.given ≡ 0
+  pub conflicts : c.conflicts ≡ 0
+  pub no_conflict : s.conflicts ≡ 0
+  pub no_level : s.quiet_levels ≡ 0
+  pub served : IsServed s 0
+
+-- some search of the calculus stands behind the code but for these unit clauses, and its events are the sink's where that tells them
+abbrev pub StandsBut : Problem → Kept → List Single → Option (List LogEvent) → Type 0
+StandsBut formula c waiting told = (s : Search) × IsSearch formula (parities_of formula.constraints) s × AreTold told s.events × TiesBut formula c waiting s
+
+-- the clauses of the search show the empty clause, which may have this id
+pub record IsContradicted (formula : Problem) (id : ℕ) (s : Search) : Type 0 where
+  pub search : IsSearch formula (parities_of formula.constraints) s
+  pub chain : HasChain s.moment.tables.clauses []
+  pub free : get s.moment.tables.clauses id ≡ None
+  pub served : IsFalse s.moment.awaits
+  pub no_conflict : s.conflicts ≡ 0
+
+-- the clauses that were told show the empty clause, which may have this id
+abbrev pub IsRefutable : Problem → ℕ → Option (List LogEvent) → Type 0
+IsRefutable formula id told = IsId id × ((s : Search) × AreTold told s.events × IsContradicted formula id s)
+
+-- true: the search stands but for these unit clauses; false: the log is ended, with no mark
+abbrev pub Puts : Problem → Kept → List Single → Option (List LogEvent) → Bool → Type 0
+Puts formula c waiting told true = StandsBut formula c waiting told
+Puts formula c waiting told false = Refutes formula 1 told

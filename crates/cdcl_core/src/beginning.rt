@@ -1,0 +1,203 @@
+//! The beginning of a search.
+ghost use Rattle.std.specs.Prelude.{◌≡◌, ◌+◌, ◌<◌, ◌≤◌, ℕ, [], length, drop, take, OnOk, IfOk, IfErr};
+ghost use Rattle.std.specs.List.{All};
+ghost use Rattle.cx_base.specs.Problem.{parities_of};
+ghost use Rattle.gauss_jordan.specs.State.{fresh};
+ghost use Rattle.conflict_learn.specs.declared.fault.CoreFault.TheVariants.{Write};
+ghost use Rattle.conflict_learn.specs.Learning.{Rose};
+ghost use Rattle.cdcl_core.specs.Beginning.{Begins};
+ghost use Rattle.cdcl_core.specs.Filling.{IsFilled};
+ghost use Rattle.cdcl_core.specs.Originals.{HasBegun};
+ghost use Rattle.cdcl_core.specs.Results.{IsFresh, Refutes};
+ghost use Rattle.cdcl_core.specs.Tells.{GivesUp, FaultsAs};
+ghost use Rattle.cdcl_core.specs.Waiting.{StandsBut, IsRefutable, Puts};
+
+use crate::chains::{hints_of, tell_chained};
+use crate::filling::{Filled, Single, fill};
+use crate::kept::Kept;
+use crate::originals::tell_originals;
+use crate::rows::copy_of;
+use conflict_learn::CoreFault;
+use cx_base::{ConstraintRef, Formula, Lit, LitList, ParityList};
+use cx_trail::{Reason, Truth};
+use gauss_jordan::ParityEngine;
+use log_text::LogSink;
+use std::alloc::{AllocError, Global};
+
+/// What the beginning of a search comes to.
+#[derive(Drop)]
+pub(crate) enum Begun<P> {
+    /// The search stands at level 0.
+    Search(Kept, P),
+    /// An empty clause, or two units that contradict each other, have ended the log.
+    Ended,
+}
+
+/// Tells the empty clause. This clause of the formula shows it, with the unit clauses that make its literals false.
+fn refute<L: LogSink>(
+    alloc: Global,
+    formula: &Formula,
+    kept: &Kept,
+    sink: &mut L,
+    lits: &[Lit],
+    number: u64,
+) -> Result<(), CoreFault>
+    requires known { All (λ l. l.variable ≤ kept.now.trail.variables) lits.now }
+    requires shown { IsRefutable formula.now kept.now.next (L.events sink.old) }
+    ensures refutes { OnOk result (Refutes formula.now 1 (L.events sink.new)) }
+    ensures gave_up { IfErr result (λ e. GivesUp formula.now (L.torn sink.new) (L.events sink.new) e) }
+    ensures write { IfErr result (λ e. e ≡ Write → Rose (L.faults sink.old) (L.faults sink.new)) }
+    ensures faults { FaultsAs result (L.faults sink.old) (L.faults sink.new) }
+    ensures frame { L.keeps sink.old sink.new }
+{
+    let hints = hints_of(alloc, kept, lits, number)?;
+    tell_chained(alloc, sink, kept.next, &[], hints)
+}
+
+/// Puts the literal of the unit clause at a place on the trail. False where its negation stands there: then the log is
+/// ended.
+fn put_unit<L: LogSink>(
+    alloc: Global,
+    formula: &Formula,
+    kept: &mut Kept,
+    sink: &mut L,
+    units: &[Single],
+    place: usize,
+) -> Result<bool, CoreFault>
+    requires place { place < length units.now }
+    requires stands { StandsBut formula.now kept.old (drop place units.now) (L.events sink.old) }
+    ensures puts { IfOk result (λ going. Puts formula.now kept.new (drop (place + 1) units.now) (L.events sink.new) going) }
+    ensures gave_up { IfErr result (λ e. GivesUp formula.now (L.torn sink.new) (L.events sink.new) e) }
+    ensures write { IfErr result (λ e. e ≡ Write → Rose (L.faults sink.old) (L.faults sink.new)) }
+    ensures faults { FaultsAs result (L.faults sink.old) (L.faults sink.new) }
+    ensures frame { L.keeps sink.old sink.new }
+{
+    let unit = units[place];
+    match kept.trail.truth(unit.literal) {
+        Truth::True => Ok(true),
+        Truth::False => {
+            refute(alloc, formula, kept, sink, &[unit.literal], unit.number)?;
+            Ok(false)
+        }
+        Truth::Open => {
+            kept.units.push(unit.number)?;
+            kept.trail.imply(unit.literal, Reason::Decision);
+            Ok(true)
+        }
+    }
+}
+
+/// Puts the literals of the unit clauses on the trail. False where two contradict each other: then the log is ended.
+fn put_units<L: LogSink>(
+    alloc: Global,
+    formula: &Formula,
+    kept: &mut Kept,
+    sink: &mut L,
+    units: &[Single],
+) -> Result<bool, CoreFault>
+    requires { StandsBut formula.now kept.old units.now (L.events sink.old) }
+    ensures puts { IfOk result (λ going. Puts formula.now kept.new [] (L.events sink.new) going) }
+    ensures gave_up { IfErr result (λ e. GivesUp formula.now (L.torn sink.new) (L.events sink.new) e) }
+    ensures write { IfErr result (λ e. e ≡ Write → Rose (L.faults sink.old) (L.faults sink.new)) }
+    ensures faults { FaultsAs result (L.faults sink.old) (L.faults sink.new) }
+    ensures frame { L.keeps sink.old sink.new }
+{
+    for place in 0..units.len() {
+        if !put_unit(alloc, formula, kept, sink, units, place)? {
+            return Ok(false);
+        }
+    }
+    Ok(true)
+}
+
+/// Puts the parity at a place of the formula, where there is one, behind those of the places before.
+fn add_parity(
+    alloc: Global,
+    formula: &Formula,
+    place: usize,
+    parities: &mut Vec<LitList>,
+) -> Result<(), AllocError>
+    requires place { place < length formula.now.constraints }
+    requires before { parities.old.items ≡ parities_of (take place formula.now.constraints) }
+    ensures { OnOk result (parities.new.items ≡ parities_of (take (place + 1) formula.now.constraints)) }
+{
+    match formula.item(place) {
+        ConstraintRef::Clause(_) => Ok(()),
+        ConstraintRef::Parity(lits) => {
+            parities.push(copy_of(alloc, lits)?)?;
+            Ok(())
+        }
+    }
+}
+
+/// The formula's parities, in order.
+fn parities(alloc: Global, formula: &Formula) -> Result<ParityList, AllocError>
+    ensures { IfOk result (λ p. p ≡ parities_of formula.now.constraints) }
+{
+    let mut parities = Vec::new(alloc);
+    for place in 0..formula.len() {
+        add_parity(alloc, formula, place, &mut parities)?;
+    }
+    Ok(ParityList::from_vec(parities))
+}
+
+/// A fresh engine over the formula's parities.
+fn engine<P: ParityEngine>(alloc: Global, formula: &Formula) -> Result<P, AllocError>
+    ensures { IfOk result (λ e. (rows : ℕ) × (P.state e ≡ fresh formula.now.variables (parities_of formula.now.constraints) rows)) }
+{
+    let parities = parities(alloc, formula)?;
+    P::make(alloc, formula.vars(), &parities)
+}
+
+/// Puts the unit clauses on the trail and makes the engine.
+fn start<P: ParityEngine, L: LogSink>(
+    alloc: Global,
+    formula: &Formula,
+    sink: &mut L,
+    filled: Filled,
+) -> Result<Begun<P>, CoreFault>
+    requires few { length formula.now.constraints ≤ 4294967295 }
+    requires begun { HasBegun formula.now formula.now.constraints (L.events sink.old) }
+    requires filled { IsFilled formula.now filled.kept filled.units.items filled.empty }
+    ensures begins { IfOk result (λ b. Begins P.state formula.now (L.events sink.new) b) }
+    ensures gave_up { IfErr result (λ e. GivesUp formula.now (L.torn sink.new) (L.events sink.new) e) }
+    ensures write { IfErr result (λ e. e ≡ Write → Rose (L.faults sink.old) (L.faults sink.new)) }
+    ensures faults { FaultsAs result (L.faults sink.old) (L.faults sink.new) }
+    ensures frame { L.keeps sink.old sink.new }
+{
+    let _vars = formula.vars();
+    let Filled {
+        mut kept,
+        units,
+        empty,
+    } = filled;
+    if let Some(number) = empty {
+        refute(alloc, formula, &kept, sink, &[], number)?;
+        return Ok(Begun::Ended);
+    }
+    if !put_units(alloc, formula, &mut kept, sink, &units)? {
+        return Ok(Begun::Ended);
+    }
+    let engine = engine(alloc, formula)?;
+    Ok(Begun::Search(kept, engine))
+}
+
+/// Tells the originals and makes the search: clauses of two or more different literals are attached, those of one
+/// stand on the trail at level 0, tautologies are left out.
+pub(crate) fn begin<P: ParityEngine, L: LogSink>(
+    alloc: Global,
+    formula: &Formula,
+    sink: &mut L,
+) -> Result<Begun<P>, CoreFault>
+    requires few { length formula.now.constraints ≤ 4294967295 }
+    requires fresh { IsFresh (L.events sink.old) }
+    ensures begins { IfOk result (λ b. Begins P.state formula.now (L.events sink.new) b) }
+    ensures gave_up { IfErr result (λ e. GivesUp formula.now (L.torn sink.new) (L.events sink.new) e) }
+    ensures write { IfErr result (λ e. e ≡ Write → Rose (L.faults sink.old) (L.faults sink.new)) }
+    ensures faults { FaultsAs result (L.faults sink.old) (L.faults sink.new) }
+    ensures frame { L.keeps sink.old sink.new }
+{
+    tell_originals(alloc, formula, sink)?;
+    let filled = fill(alloc, formula)?;
+    start(alloc, formula, sink, filled)
+}

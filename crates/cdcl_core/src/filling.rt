@@ -1,0 +1,130 @@
+//! The clauses of the formula are put into a search.
+ghost use Rattle.std.specs.Prelude.{◌+◌, ◌<◌, ◌≤◌, length, take, IfOk, OnOk};
+ghost use Rattle.cx_base.specs.Problem.{Problem, clauses_of};
+ghost use Rattle.cx_base.specs.declared.literal.TheConstants.{MAX_VARIABLE};
+ghost use Rattle.watch_lists.specs.Watching.{Fits};
+ghost use Rattle.watch_lists.specs.Attaching.{CanBeWatched};
+ghost use Rattle.cdcl_core.specs.Filling.{IsEmpty, IsFilledUpTo, IsFilled, IsNext, Attaches};
+
+use crate::clauses::{different, has_both};
+use crate::kept::Kept;
+use clause_arena::Arena;
+use cx_base::{ConstraintRef, Formula, Lit};
+use cx_trail::Trail;
+use search_policy::Order;
+use std::alloc::{AllocError, Global};
+use watch_lists::Watches;
+
+/// A clause of the formula of one literal, and its number.
+#[derive(Clone, Copy, Drop)]
+pub(crate) struct Single {
+    pub literal: Lit,
+    pub number: u64,
+}
+
+/// A search in which the clauses of several literals are attached, and the others wait.
+#[derive(Drop)]
+pub(crate) struct Filled {
+    pub kept: Kept,
+    /// The clauses of one literal.
+    pub units: Vec<Single>,
+    /// The number of a clause without a literal.
+    pub empty: Option<u64>,
+}
+
+/// A search over so many variables, before its first clause.
+fn empty_kept(alloc: Global, vars: u32) -> Result<Kept, AllocError>
+    requires { vars ≤ MAX_VARIABLE }
+    ensures { IfOk result (IsEmpty vars) }
+{
+    let trail = Trail::make(alloc, vars)?;
+    let watches = Watches::make(alloc, vars)?;
+    let order = Order::make(alloc, vars)?;
+    let phases = vec![in alloc; false; vars as usize]?;
+    Ok(Kept {
+        trail,
+        arena: Arena::make(alloc),
+        watches,
+        order,
+        phases,
+        units: Vec::new(alloc),
+        next: 1,
+        given: 0,
+        conflicts: 0,
+    })
+}
+
+/// Attaches a clause of the formula.
+fn attach(kept: &mut Kept, lits: &[Lit], number: u64) -> Result<(), AllocError>
+    requires fits { Fits kept.old.watches kept.old.arena kept.old.trail }
+    requires watched { CanBeWatched kept.old.watches.variables kept.old.trail lits.now }
+    ensures { OnOk result (Attaches kept.old kept.new lits.now number) }
+{
+    let reference = kept.arena.add(lits, number, 0, false)?;
+    kept.watches.attach(&kept.arena, &kept.trail, reference)
+}
+
+/// Takes the next clause of the formula, whose different literals these are.
+fn take_clause(filled: &mut Filled, lits: &[Lit]) -> Result<(), AllocError>
+    requires few { filled.old.kept.next ≤ 4294967295 }
+    requires is_next { (formula : Problem) × IsNext formula filled.old lits.now }
+    ensures { OnOk result ((formula : Problem) → IsNext formula filled.old lits.now
+        → IsFilledUpTo formula filled.old.kept.next filled.new.kept filled.new.units.items filled.new.empty) }
+{
+    let number = filled.kept.next;
+    filled.kept.next = number + 1;
+    if has_both(lits) {
+        return Ok(());
+    }
+    if lits.len() > 1 {
+        return attach(&mut filled.kept, lits, number);
+    }
+    if lits.is_empty() {
+        filled.empty = Some(number);
+        return Ok(());
+    }
+    filled.units.push(Single {
+        literal: lits[0],
+        number,
+    })?;
+    Ok(())
+}
+
+/// Takes the constraint at a place of the formula; parities are passed over.
+fn take_item(
+    alloc: Global,
+    formula: &Formula,
+    filled: &mut Filled,
+    place: usize,
+) -> Result<(), AllocError>
+    requires few { length formula.now.constraints ≤ 4294967295 }
+    requires place { place < length formula.now.constraints }
+    requires filled { IsFilledUpTo formula.now (length (clauses_of (take place formula.now.constraints))) filled.old.kept filled.old.units.items filled.old.empty }
+    ensures { OnOk result (IsFilledUpTo formula.now (length (clauses_of (take (place + 1) formula.now.constraints))) filled.new.kept filled.new.units.items filled.new.empty) }
+{
+    match formula.item(place) {
+        ConstraintRef::Clause(lits) => {
+            let lits = different(alloc, lits)?;
+            take_clause(filled, &lits)
+        }
+        ConstraintRef::Parity(_) => Ok(()),
+    }
+}
+
+/// Attaches the clauses of two or more different literals, and gives those of one; tautologies are left out.
+///
+/// It fails for want of memory, or where the clauses are more than an arena holds.
+pub(crate) fn fill(alloc: Global, formula: &Formula) -> Result<Filled, AllocError>
+    requires { length formula.now.constraints ≤ 4294967295 }
+    ensures { IfOk result (λ f. IsFilled formula.now f.kept f.units.items f.empty) }
+{
+    let mut filled = Filled {
+        kept: empty_kept(alloc, formula.vars())?,
+        units: Vec::new(alloc),
+        empty: None,
+    };
+    for place in 0..formula.len() {
+        take_item(alloc, formula, &mut filled, place)?;
+    }
+    Ok(filled)
+}
