@@ -1,0 +1,60 @@
+# Writes a formula: awk -v kind=KIND -v size=N -v seed=S -f make_instance.awk
+# random:  N variables, 4.26 N clauses of three different variables.
+# holes:   N + 1 pigeons and N holes.
+# parity:  N parities of three variables over N variables, and their sum turned round: inconsistent.
+# planted: N variables, N parities of three variables and 2 N clauses of three, met by hidden values.
+function word() { state = (state * 16807) % 2147483647; return state }
+function pick(n) { return 1 + int(word() / 2147483647 * n) }
+function three(  i) {
+    v[1] = pick(size)
+    do v[2] = pick(size); while (v[2] == v[1])
+    do v[3] = pick(size); while (v[3] == v[1] || v[3] == v[2])
+}
+function sign() { return word() % 2 ? 1 : -1 }
+function random(  k) {
+    printf "p cnf %d %d\n", size, int(4.26 * size)
+    for (k = 0; k < int(4.26 * size); k++) { three(); print sign() * v[1], sign() * v[2], sign() * v[3], 0 }
+}
+function holes(  i, j, k) {
+    printf "p cnf %d %d\n", (size + 1) * size, size + 1 + size * size * (size + 1) / 2
+    for (i = 0; i <= size; i++) { for (j = 1; j <= size; j++) printf "%d ", i * size + j; print 0 }
+    for (j = 1; j <= size; j++) for (i = 0; i <= size; i++) for (k = i + 1; k <= size; k++) print -(i * size + j), -(k * size + j), 0
+}
+function parity(  k, x) {
+    printf "p cnf %d %d\n", size, size + 1
+    for (k = 0; k < size; k++) {
+        three()
+        negative = word() % 2
+        print "x" (negative ? -v[1] : v[1]), v[2], v[3], 0
+        right += 1 + negative
+        for (x = 1; x <= 3; x++) odd[v[x]] = !odd[v[x]]
+    }
+    # the sum of all of them with the other right side: that of a parity is 1 plus its negative literals
+    line = ""
+    for (x = 1; x <= size; x++) if (odd[x]) line = line (line == "" && right % 2 == 1 ? -x : x) " "
+    print "x " line "0"
+}
+function planted(  k, x, sum, met) {
+    printf "p cnf %d %d\n", size, 3 * size
+    for (x = 1; x <= size; x++) value[x] = word() % 2
+    for (k = 0; k < size; k++) {
+        three()
+        sum = (value[v[1]] + value[v[2]] + value[v[3]]) % 2
+        print "x" (sum ? v[1] : -v[1]), v[2], v[3], 0
+    }
+    for (k = 0; k < 2 * size; k++) {
+        three()
+        met = 0
+        for (x = 1; x <= 3; x++) { s[x] = sign(); if ((s[x] > 0) == value[v[x]]) met = 1 }
+        if (!met) s[1] = -s[1]
+        print s[1] * v[1], s[2] * v[2], s[3] * v[3], 0
+    }
+}
+BEGIN {
+    state = seed + 12345
+    for (i = 0; i < 10; i++) word()
+    if (kind == "random") random()
+    if (kind == "holes") holes()
+    if (kind == "parity") parity()
+    if (kind == "planted") planted()
+}
