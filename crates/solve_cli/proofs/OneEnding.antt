@@ -9,9 +9,8 @@ use Rattle.cx_semantics.specs.Judging.{Judgement, accepted, refused}
 use Rattle.cx_semantics.specs.ProofRules.{Accepted, RefusedAt, ProofJudgedAs}
 use Rattle.cx_semantics.specs.LogRules.{LogRight, LogRefusedAt, LogJudgedAs}
 use Rattle.cx_semantics.specs.Laws.{FormulasReadInOneWay, ProofsAreJudgedInOneWay, LogsAreJudgedInOneWay}
-use Rattle.model_out.proofs.JudgingLaws.{judged_in_one_way}
+use Rattle.model_out.proofs.JudgingLaws.{same_answer}
 use Rattle.model_out.specs.Answers.{AnswerReads, AnswerRefusedFor}
-use Rattle.model_out.specs.Laws.{AnswersAreJudgedInOneWay}
 use Rattle.model_out.specs.declared.refusal.AnswerRefusal.{AnswerRefusal}
 use Rattle.model_out.specs.declared.refusal.AnswerRefusal.TheVariants as refusal
 use Rattle.cx_semantics.proofs.Deciding.{one_proof_judgement}
@@ -190,42 +189,41 @@ back-refusal_of (wrong.Unmet n) = refl
 same_wrong : (v w : WrongAnswer) → refusal_of v ≡ refusal_of w → v ≡ w
 same_wrong v w e = sym (back-refusal_of v) ∙ (ap back e ∙ back-refusal_of w)
 
-module _ (judgements : AnswersAreJudgedInOneWay) where
-  data OfAnswer (f : Problem) (text : Bytes) : Ending → Type 0 where
-    values_right : (values : List Bool) → AnswerReads text f values → OfAnswer f text ending.ModelRight
-    values_wrong : (w : WrongAnswer) → AnswerRefusedFor text f (refusal_of w) → OfAnswer f text (ending.ModelWrong w)
+data OfAnswer (f : Problem) (text : Bytes) : Ending → Type 0 where
+  values_right : (values : List Bool) → AnswerReads text f values → OfAnswer f text ending.ModelRight
+  values_wrong : (w : WrongAnswer) → AnswerRefusedFor text f (refusal_of w) → OfAnswer f text (ending.ModelWrong w)
 
-  of_answer : (n a : Bytes) (f : Problem) (text : Bytes) (e : Ending) → Judged e (plan.Model n a) f text → OfAnswer f text e
-  of_answer n a f text ending.ModelRight h = values_right h.0 h.1
-  of_answer n a f text (ending.ModelWrong w) h = values_wrong w h
-  of_answer n a f text (ending.TooLong s) h = absurd h
-  of_answer n a f text (ending.FormulaRefused o) h = absurd h
-  of_answer n a f text (ending.Verified k) h = absurd h
-  of_answer n a f text (ending.NotVerified k c) h = absurd h
-  of_answer n a f text (ending.Elaborated k) h = absurd h
-  of_answer n a f text (ending.NotElaborated k c) h = absurd h
-  of_answer n a f text (ending.Satisfiable v) h = absurd h
-  of_answer n a f text ending.Unsatisfiable h = absurd h
-  of_answer n a f text (ending.Unknown k) h = absurd h
+of_answer : (n a : Bytes) (f : Problem) (text : Bytes) (e : Ending) → Judged e (plan.Model n a) f text → OfAnswer f text e
+of_answer n a f text ending.ModelRight h = values_right h.0 h.1
+of_answer n a f text (ending.ModelWrong w) h = values_wrong w h
+of_answer n a f text (ending.TooLong s) h = absurd h
+of_answer n a f text (ending.FormulaRefused o) h = absurd h
+of_answer n a f text (ending.Verified k) h = absurd h
+of_answer n a f text (ending.NotVerified k c) h = absurd h
+of_answer n a f text (ending.Elaborated k) h = absurd h
+of_answer n a f text (ending.NotElaborated k c) h = absurd h
+of_answer n a f text (ending.Satisfiable v) h = absurd h
+of_answer n a f text ending.Unsatisfiable h = absurd h
+of_answer n a f text (ending.Unknown k) h = absurd h
 
-  right_and_wrong : (f : Problem) (text : Bytes) (values : List Bool) (w : WrongAnswer) → AnswerReads text f values → AnswerRefusedFor text f (refusal_of w) → ⊥
-  right_and_wrong f text values w h k =
-      let e : ◌≡◌ {A = Answered} (Ok values) (Err (refusal_of w)) = judgements text f (Ok values) (Err (refusal_of w)) (λ m. cc) (not_memory w) h k in cc
+right_and_wrong : (f : Problem) (text : Bytes) (values : List Bool) (w : WrongAnswer) → AnswerReads text f values → AnswerRefusedFor text f (refusal_of w) → ⊥
+right_and_wrong f text values w h k =
+    let e : ◌≡◌ {A = Answered} (Ok values) (Err (refusal_of w)) = same_answer text f (Ok values) (Err (refusal_of w)) (λ m. cc) (not_memory w) h k in cc
 
-  two_of_answer : (f : Problem) (text : Bytes) (d e : Ending) → OfAnswer f text d → OfAnswer f text e → d ≡ e
-  two_of_answer f text _ _ (values_right v p) (values_right w q) = refl
-  two_of_answer f text _ _ (values_right v p) (values_wrong w q) = absurd (right_and_wrong f text v w p q)
-  two_of_answer f text _ _ (values_wrong v p) (values_right w q) = absurd (right_and_wrong f text w v q p)
-  two_of_answer f text _ _ (values_wrong v p) (values_wrong w q) =
-      let e : ◌≡◌ {A = Answered} (Err (refusal_of v)) (Err (refusal_of w)) = judgements text f (Err (refusal_of v)) (Err (refusal_of w)) (not_memory v) (not_memory w) p q in
-      let s : refusal_of v ≡ refusal_of w = cc in ap ending.ModelWrong (same_wrong v w s)
+two_of_answer : (f : Problem) (text : Bytes) (d e : Ending) → OfAnswer f text d → OfAnswer f text e → d ≡ e
+two_of_answer f text _ _ (values_right v p) (values_right w q) = refl
+two_of_answer f text _ _ (values_right v p) (values_wrong w q) = absurd (right_and_wrong f text v w p q)
+two_of_answer f text _ _ (values_wrong v p) (values_right w q) = absurd (right_and_wrong f text w v q p)
+two_of_answer f text _ _ (values_wrong v p) (values_wrong w q) =
+    let e : ◌≡◌ {A = Answered} (Err (refusal_of v)) (Err (refusal_of w)) = same_answer text f (Err (refusal_of v)) (Err (refusal_of w)) (not_memory v) (not_memory w) p q in
+    let s : refusal_of v ≡ refusal_of w = cc in ap ending.ModelWrong (same_wrong v w s)
 
-  pub one_answer_ending : (n a : Bytes) (f : Problem) (text : Bytes) (d e : Ending) → Judged d (plan.Model n a) f text → Judged e (plan.Model n a) f text → d ≡ e
-  one_answer_ending n a f text d e h k = two_of_answer f text d e (of_answer n a f text d h) (of_answer n a f text e k)
+pub one_answer_ending : (n a : Bytes) (f : Problem) (text : Bytes) (d e : Ending) → Judged d (plan.Model n a) f text → Judged e (plan.Model n a) f text → d ≡ e
+one_answer_ending n a f text d e h k = two_of_answer f text d e (of_answer n a f text d h) (of_answer n a f text e k)
 
 one_judged : (p : Plan) (second : Bytes) (f : Problem) (text : Bytes) (d e : Ending) → second_of p ≡ Some second → Judged d p f text → Judged e p f text → d ≡ e
 one_judged (plan.Check n q) second f text d e named h k = one_proof_ending one_proof_judgement n q f text d e h k
-one_judged (plan.Model n a) second f text d e named h k = one_answer_ending judged_in_one_way n a f text d e h k
+one_judged (plan.Model n a) second f text d e named h k = one_answer_ending n a f text d e h k
 one_judged (plan.Elab n l q) second f text d e named h k = one_log_ending one_log_judgement n l q f text d e h k
 one_judged (plan.Solve n l c) second f text d e named h k = cc
 one_judged (plan.Demo a b c) second f text d e named h k = cc
