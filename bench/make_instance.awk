@@ -2,6 +2,8 @@
 # random:  N variables, 4.26 N clauses of three different variables.
 # holes:   N + 1 pigeons and N holes.
 # parity:  N parities of three variables over N variables, and their sum turned round: inconsistent.
+# ladder:  a circular ladder of N rungs, a variable for each edge, and at each vertex the clauses of a parity of its three edges;
+#          one vertex alone is odd, so no values meet them (a formula of Urquhart's kind).
 # planted: N variables, N parities of three variables and 2 N clauses of three, met by hidden values.
 function word() { state = (state * 16807) % 2147483647; return state }
 function pick(n) { return 1 + int(word() / 2147483647 * n) }
@@ -34,6 +36,19 @@ function parity(  k, x) {
     for (x = 1; x <= size; x++) if (odd[x]) line = line (line == "" && right % 2 == 1 ? -x : x) " "
     print "x " line "0"
 }
+# the clauses that exclude the values of a, b and c whose sum modulo two is not this one
+function vertex(a, b, c, sum,  i, j, k) {
+    for (i = 0; i < 2; i++) for (j = 0; j < 2; j++) for (k = 0; k < 2; k++)
+        if ((i + j + k) % 2 != sum) print (i ? -a : a), (j ? -b : b), (k ? -c : c), 0
+}
+function ladder(  i, before) {
+    printf "p cnf %d %d\n", 3 * size, 8 * size
+    for (i = 1; i <= size; i++) {
+        before = i > 1 ? i - 1 : size
+        vertex(i, size + i, size + before, i == 1)
+        vertex(i, 2 * size + i, 2 * size + before, 0)
+    }
+}
 function planted(  k, x, sum, met) {
     printf "p cnf %d %d\n", size, 3 * size
     for (x = 1; x <= size; x++) value[x] = word() % 2
@@ -56,5 +71,6 @@ BEGIN {
     if (kind == "random") random()
     if (kind == "holes") holes()
     if (kind == "parity") parity()
+    if (kind == "ladder") ladder()
     if (kind == "planted") planted()
 }

@@ -32,7 +32,7 @@ measure() {
         read -r checked _ verdict <<< "$(run "$here/../bin/cxsat" check "$formula" "$work/proof")"
         printf ', log %s bytes, elab %s s, check %s s (status %s)' "$(wc -c < "$work/log")" "$elaborated" "$checked" "$verdict"
     fi
-    if [ "$kind" = random ] || [ "$kind" = holes ]; then
+    if [ "$kind" != parity ] && [ "$kind" != planted ]; then
         read -r seconds memory status <<< "$(run minisat "$formula")"
         printf '; minisat %s s, %s kB, %s conflicts' "$seconds" "$memory" "$(awk '/^conflicts/ { print $3 }' "$work/out")"
     fi
@@ -41,6 +41,7 @@ measure() {
 }
 
 for size in 50 100 150; do measure random "$size"; done
-for size in 5 6 7; do measure holes "$size"; done
-for size in 20 40 80; do measure parity "$size"; done
-for size in 20 40 80; do measure planted "$size"; done
+for size in 6 7 8 9; do measure holes "$size"; done
+for size in 4 6 8; do measure ladder "$size"; done
+for size in 100 200 400; do measure parity "$size"; done
+for size in 100 200 400; do measure planted "$size"; done
