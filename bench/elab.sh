@@ -1,41 +1,28 @@
 #!/usr/bin/env bash
-# Times `cxsat elab` on logs of chains, with the hints in the log and without them, and `cxsat check` on the proofs that it
-# writes, each at a size and at twice its work. Without hints each added clause is searched for among all live clauses, so
-# those sizes are small.
-# usage: bench/elab.sh [CHAIN [HOLES [CHAIN_WITHOUT_HINTS]]]
+# Times `cxsat elab` on logs of chains and pigeonholes, with the hints in the log and without them, and `cxsat check` on the
+# proofs that it writes, each at a size and at twice its work. Without hints each added clause is searched for.
+# usage: bench/elab.sh [CHAIN [HOLES]]
 set -euo pipefail
-here=$(cd "$(dirname "$0")" && pwd)
-work=$(mktemp -d)
-trap 'rm -rf "$work"' EXIT
-"$here/../bin/cxsat" elab "$here/../examples/triangle.cnf" "$here/../examples/triangle.frat" "$work/proof" > "$work/answer"
-grep -qx 's ELABORATED' "$work/answer"
-
-# The processor time of a command, in seconds.
-seconds() {
-    local TIMEFORMAT=%U
-    { time "$@" > "$work/answer" 2>&1; } 2>&1
-}
+source "$(dirname "$0")/common.sh"
+build
 
 measure() {
-    local kind=$1 size=$2 hints=$3
+    local what=$1 kind=$2 size=$3 hints=$4 elaborated checked had
     awk -v kind="$kind" -v size="$size" -v formula="$work/formula" -v proof="$work/hinted" -f "$here/make_proof.awk"
     awk -v hints="$hints" -f "$here/log_of_proof.awk" "$work/formula" "$work/hinted" > "$work/log"
-    local elaborated checked
-    elaborated=$(seconds "$here/../bin/cxsat" elab "$work/formula" "$work/log" "$work/proof")
-    grep -qx 's ELABORATED' "$work/answer" || { echo "$kind $size is not elaborated"; cat "$work/answer"; exit 1; }
-    checked=$(seconds "$here/../bin/cxsat" check "$work/formula" "$work/proof")
-    grep -qx 's VERIFIED' "$work/answer" || { echo "$kind $size is not verified"; exit 1; }
-    awk -v kind="$kind" -v size="$size" -v hints="$hints" -v elaborated="$elaborated" -v checked="$checked" \
-        -v steps="$(wc -l < "$work/log")" -v log_bytes="$(wc -c < "$work/log")" -v proof_bytes="$(wc -c < "$work/proof")" 'BEGIN {
-        printf "%-6s %8d %s: log %9d steps, %6.1f MB; proof %6.1f MB; elab %6.2f s, check %6.2f s\n", kind, size,
-            hints ? "with hints   " : "without hints", steps, log_bytes / 1e6, proof_bytes / 1e6, elaborated, checked
-    }'
+    elaborated=$(seconds "$program" elab "$work/formula" "$work/log" "$work/proof")
+    answered 's ELABORATED'
+    checked=$(seconds "$program" check "$work/formula" "$work/proof")
+    answered 's VERIFIED'
+    if [ "$hints" = 1 ]; then had='hints'; else had='no hints'; fi
+    row 'elaborating a log' "$what $size, $had: $(wc -l < "$work/log") steps, log $(megabytes "$work/log"), proof $(megabytes "$work/proof")" \
+        "$elaborated s" "check of the proof: $checked s" "$(ratio "$elaborated" "$checked")"
 }
 
-chain=${1:-250000} holes=${2:-11} bare=${3:-1000}
-measure chain "$chain" 1
-measure chain $((2 * chain)) 1
-measure holes "$holes" 1
-measure holes $((holes + 1)) 1
-measure chain "$bare" 0
-measure chain $((2 * bare)) 0
+chain=${1:-250000} holes=${2:-11}
+for hints in 1 0; do
+    measure 'implication chain' chain "$chain" "$hints"
+    measure 'implication chain' chain $((2 * chain)) "$hints"
+    measure pigeonholes holes "$holes" "$hints"
+    measure pigeonholes holes $((holes + 1)) "$hints"
+done

@@ -2,11 +2,8 @@
 # Texts at the limits: `check` must give each its named answer, within 1 GB of memory.
 # usage: bench/hostile.sh
 set -euo pipefail
-here=$(cd "$(dirname "$0")" && pwd)
-work=$(mktemp -d)
-trap 'rm -rf "$work"' EXIT
-program=$here/../bin/cxsat
-"$program" check "$here/../examples/triangle.cnf" "$here/../examples/triangle.xlrup" > /dev/null
+source "$(dirname "$0")/common.sh"
+build
 ulimit -v 1000000
 failures=0
 

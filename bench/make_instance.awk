@@ -5,6 +5,7 @@
 # ladder:  a circular ladder of N rungs, a variable for each edge, and at each vertex the clauses of a parity of its three edges;
 #          one vertex alone is odd, so no values meet them (a formula of Urquhart's kind).
 # planted: N variables, N parities of three variables and 2 N clauses of three, met by hidden values.
+# mixed:   N variables, N / 3 parities of three variables and 3 N clauses of three: some have values that meet them, some have none.
 function word() { state = (state * 16807) % 2147483647; return state }
 function pick(n) { return 1 + int(word() / 2147483647 * n) }
 function three(  i) {
@@ -65,6 +66,11 @@ function planted(  k, x, sum, met) {
         print s[1] * v[1], s[2] * v[2], s[3] * v[3], 0
     }
 }
+function mixed(  k) {
+    printf "p cnf %d %d\n", size, int(size / 3) + 3 * size
+    for (k = 0; k < int(size / 3); k++) { three(); print "x" sign() * v[1], v[2], v[3], 0 }
+    for (k = 0; k < 3 * size; k++) { three(); print sign() * v[1], sign() * v[2], sign() * v[3], 0 }
+}
 BEGIN {
     state = seed + 12345
     for (i = 0; i < 10; i++) word()
@@ -73,4 +79,5 @@ BEGIN {
     if (kind == "parity") parity()
     if (kind == "ladder") ladder()
     if (kind == "planted") planted()
+    if (kind == "mixed") mixed()
 }

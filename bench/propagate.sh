@@ -12,13 +12,8 @@
 # number by minisat's count is between its two. Seconds are processor time of the whole process, reading included.
 # The program is proved, built and run in a folder of its own; where nothing was proved before it takes some minutes.
 set -euo pipefail
-if ! command -v minisat > /dev/null; then
-    echo "bench/propagate.sh: minisat is not on PATH: apt-get install -y minisat" >&2
-    exit 2
-fi
-here=$(cd "$(dirname "$0")" && pwd)
-work=$(mktemp -d)
-trap 'rm -rf "$work"' EXIT
+source "$(dirname "$0")/common.sh"
+need minisat
 seed=${1:-1}
 clauses=${2:-1000000}
 vars=${3:-300000}
@@ -28,7 +23,7 @@ if [ "$vars" -lt 3 ]; then
     echo "bench/propagate.sh: a clause has three different variables" >&2
     exit 2
 fi
-program="$work/crates/propagate_times"
+program=$work/crates/propagate_times
 mkdir -p "$program/src" "$program"/proofs/tables/{are_within,attach_all}
 mkdir -p "$program"/proofs/rounds/{start_again,decide_all,run_round,run_rounds}
 for crate in cx_base cx_semantics cnfx_reader cx_trail clause_arena watch_lists; do
@@ -341,18 +336,7 @@ read -r watched rounds put sure millis < "$work/program.log"
 seconds=$(awk '{ print $1 + $2 }' "$work/program.time")
 theirs=$(awk '/^propagations/ { print $3 }' "$work/minisat.log")
 their_seconds=$(awk '/^CPU time/ { print $4 }' "$work/minisat.log")
-echo "seed $seed: $clauses clauses over $vars variables; $watched watched, $rounds rounds in $millis milliseconds by the clock"
-awk -v theirs="$theirs" -v their_seconds="$their_seconds" -v put="$put" -v sure="$sure" -v seconds="$seconds" '
-function ratio(count, base) {
-    return (base > 0) ? count / base : 0
-}
-function line(name, count, time) {
-    rate = ratio(count, time)
-    printf "%-26s  %12d  %7.2f  %10d  %5.2f\n", name, count, time, rate, ratio(rate, ratio(theirs, their_seconds))
-}
-BEGIN {
-    printf "%-26s  %12s  %7s  %10s  %5s\n", "", "propagations", "seconds", "a second", "ratio"
-    line("minisat", theirs, their_seconds)
-    line("watch_lists", put, seconds)
-    line("watch_lists, no conflicts", sure, seconds)
-}'
+rate() { awk -v n="$1" -v s="$2" 'BEGIN { if (s > 0) printf "%.0f", n / s; else print 0 }'; }
+own=$(rate "$sure" "$seconds") their=$(rate "$theirs" "$their_seconds")
+row 'unit propagation' "$watched clauses of three literals over $vars variables, seed $seed: $rounds rounds in $millis ms by the clock" \
+    "$own propagations a second ($(rate "$put" "$seconds") with those of calls that ended in a conflict)" "minisat: $their propagations a second" "$(ratio "$own" "$their")"

@@ -4,13 +4,12 @@
 # Both are whole processes; the best processor time of five runs each counts.
 # usage: bench/reader.sh [SEED] [BYTES]
 set -euo pipefail
-here=$(cd "$(dirname "$0")" && pwd)
-work=$(mktemp -d)
-trap 'rm -rf "$work"' EXIT
+source "$(dirname "$0")/common.sh"
+need gcc
+build
 awk -v seed="${1:-1}" -v size="${2:-50000000}" -f "$here/make_text.awk" > "$work/text"
 { cat "$work/text"; echo stop; } > "$work/stopped"
 gcc -O2 -o "$work/reader_loop" "$here/reader_loop.c"
-"$here/../bin/cxsat" check "$here/../examples/triangle.cnf" "$here/../examples/triangle.xlrup" > /dev/null
 
 # The least user and system time of a command in five runs, in seconds; $1 is the exit status that it must have.
 least() {
@@ -26,7 +25,5 @@ least() {
 }
 
 loop=$(least 0 "$work/reader_loop" "$work/text" keep)
-own=$(least 3 "$here/../bin/cxsat" check "$work/stopped" "$work/text")
-awk -v loop="$loop" -v own="$own" -v bytes="$(wc -c < "$work/text")" 'BEGIN {
-    printf "%.1f MB: plain loop %.2f s, cxsat %.2f s, %.2f times the loop\n", bytes / 1e6, loop, own, own / loop
-}'
+own=$(least 3 "$program" check "$work/stopped" "$work/text")
+row 'reading a formula' "$(megabytes "$work/text") of clauses and x-lines" "$own s" "plain C loop: $loop s" "$(ratio "$own" "$loop")"

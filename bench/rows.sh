@@ -1,12 +1,10 @@
 #!/usr/bin/env bash
-# Times the kernels of gf2_rows beside their plain loops, on rows of 1, 8, 64 and 1,024 words in one run.
+# Times the kernels of gf2_rows over lanes beside their plain loops, on rows of 1, 8, 64 and 1,024 words.
 # usage: bench/rows.sh [WORDS]
-# Each line goes over about WORDS words (100,000,000 if none are given). Times are in milliseconds. `ones` is the plain
-# loop in both columns. The program is proved, built and run in a folder of its own; it takes a minute or two.
+# Each row goes over about WORDS words (100,000,000 if none are given). The program is proved, built and run in a folder of
+# its own; it takes a minute or two.
 set -euo pipefail
-here=$(cd "$(dirname "$0")" && pwd)
-work=$(mktemp -d)
-trap 'rm -rf "$work"' EXIT
+source "$(dirname "$0")/common.sh"
 mkdir -p "$work/crates/rows_times/src"
 cp -r "$here/../crates/cx_base" "$here/../crates/gf2_rows" "$work/crates/"
 rm -rf "$work"/crates/*/must-fail
@@ -36,7 +34,6 @@ enum Kernel {
     Add,
     ParityAnd,
     FirstOutside,
-    Ones,
 }
 
 /// Calls the kernel once. The answer is a number that depends on what it does.
@@ -66,7 +63,6 @@ fn call(kernel: Kernel, plain: bool, row: &mut [u64], other: &[u64]) -> u64 {
             };
             found.unwrap_or(1)
         }
-        Kernel::Ones => gf2_rows::ones(row),
     }
 }
 
@@ -94,7 +90,7 @@ fn measure(rt: &HostRuntime, name: &str, kernel: Kernel, len: usize, rounds: u64
     let second = rounds_of(kernel, false, &mut row, &other, rounds);
     let lanes = start.elapsed(rt)?.as_millis();
     let same = first == second;
-    println!(rt; "{len:>5}  {name}  {plain:>6}  {lanes:>6}  {same}")?;
+    println!(rt; "kernel {name} {len} {plain} {lanes} {same}")?;
     Ok(())
 }
 
@@ -105,13 +101,11 @@ fn main(rt: HostRuntime) -> io::Result<()> {
             words = number;
         }
     }
-    println!(rt; "words  kernel          plain   lanes  same answers (milliseconds)")?;
     for len in [1usize, 8, 64, 1024] {
         let rounds = words / (len as u64).max(1);
-        measure(&rt, "add_into     ", Kernel::Add, len, rounds)?;
-        measure(&rt, "parity_and   ", Kernel::ParityAnd, len, rounds)?;
+        measure(&rt, "add_into", Kernel::Add, len, rounds)?;
+        measure(&rt, "parity_and", Kernel::ParityAnd, len, rounds)?;
         measure(&rt, "first_outside", Kernel::FirstOutside, len, rounds)?;
-        measure(&rt, "ones         ", Kernel::Ones, len, rounds)?;
     }
     Ok(())
 }
@@ -121,4 +115,7 @@ if ! rt run -- "${1:-100000000}" > "$work/run.log" 2>&1; then
     cat "$work/run.log" >&2
     exit 1
 fi
-sed -n '/^words/,$p' "$work/run.log"
+while read -r _ name words plain lanes same; do
+    [ "$same" = true ] || { echo "rows.sh: $name answers otherwise over lanes" >&2; exit 1; }
+    row 'row kernels' "$name, rows of $words words" "over lanes: $lanes ms" "plain loop: $plain ms" "$(ratio "$lanes" "$plain")"
+done < <(grep '^kernel ' "$work/run.log")

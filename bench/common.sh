@@ -1,0 +1,45 @@
+# What the measuring scripts of this folder share. It is sourced, not run.
+here=$(cd "$(dirname "${BASH_SOURCE[0]}")" && pwd)
+program=$here/../bin/cxsat
+examples=$here/../examples
+work=$(mktemp -d)
+trap 'rm -rf "$work"' EXIT
+
+# Ends the script with 2 where one of these commands is not there.
+need() {
+    local name
+    for name in "$@"; do
+        command -v "$name" > /dev/null || { echo "$(basename "$0"): $name is not there: apt-get install minisat cryptominisat time gcc" >&2; exit 2; }
+    done
+}
+
+# Has the program built before anything is measured.
+build() {
+    "$program" check "$examples/triangle.cnf" "$examples/triangle.xlrup" > "$work/answer"
+    grep -qx 's VERIFIED' "$work/answer"
+}
+
+# The processor time of a command in seconds. What it prints stands in $work/answer.
+seconds() {
+    local TIMEFORMAT=%U
+    { time "$@" > "$work/answer" 2>&1; } 2>&1
+}
+
+# Ends the script unless the last command that was timed printed this line.
+answered() {
+    grep -qx "$1" "$work/answer" || { echo "$(basename "$0"): wanted '$1', got:" >&2; head -n 5 "$work/answer" >&2; exit 1; }
+}
+
+# The first number over the second.
+ratio() {
+    awk -v a="$1" -v b="$2" 'BEGIN { if (b > 0) printf "%.2f", a / b; else printf "-" }'
+}
+
+megabytes() {
+    cat "$@" | wc -c | awk '{ printf "%.1f MB", $1 / 1e6 }'
+}
+
+# One row of the table: what is measured, on what, cxsat, what stands beside it, and cxsat's over the other's.
+row() {
+    printf '| %s | %s | %s | %s | %s |\n' "$@"
+}

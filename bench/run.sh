@@ -1,0 +1,43 @@
+#!/usr/bin/env bash
+# Runs all measurements in one go, on inputs made from seeds, and writes them as one table into bench/RESULTS.md.
+# The peers are Debian's packages: apt-get install minisat cryptominisat time gcc
+# usage: bench/run.sh [FILE]     (some ten minutes once the program is built; nothing else should run meanwhile)
+set -euo pipefail
+source "$(dirname "$0")/common.sh"
+need minisat cryptominisat5 gcc /usr/bin/time
+build
+results=${1:-$here/RESULTS.md}
+
+# The version of a Debian package.
+version() {
+    echo "$1 $(dpkg-query -W -f '${Version}' "$1")"
+}
+
+{
+    cat <<TEXT
+# Measurements
+
+Made by \`bench/run.sh\` in one run, on inputs from fixed seeds; \`bench/run.sh\` makes this page anew. Times are processor
+time of whole processes, one run each (the reader: the best of five). The last column is cxsat's number over that of what
+stands beside it: below 1 cxsat took less, but in the rows of propagation, where above 1 it did more. No figure is a
+promise: the ratios say how things stood on that day and machine.
+
+- date: $(date -u +%F), commit $(git -C "$here" rev-parse --short HEAD)
+- processor: $(lscpu | sed -n 's/^Model name: *//p'), $(nproc) processors; load before the run $(cut -d' ' -f1 /proc/loadavg)
+- built by: $(rt version | head -n 1)
+- beside it: $(version minisat), $(version cryptominisat), $(gcc --version | head -n 1) with -O2
+
+| what | on what | cxsat | beside it | ratio |
+| --- | --- | --- | --- | --- |
+TEXT
+    for script in reader check elab solve propagate rows; do
+        "$here/$script.sh"
+    done
+} > "$work/results"
+"$here/hostile.sh" > "$work/hostile"
+{
+    cat "$work/results"
+    echo
+    echo "Texts at the limits (\`bench/hostile.sh\`): $(grep -c '^as wanted' "$work/hostile") tried, $(tail -n 1 "$work/hostile")."
+} > "$results"
+echo "written: $results"
