@@ -8,12 +8,13 @@ use Rattle.std.proofs.lemmas.Simd.{length-replicate}
 use Rattle.std.specs.List.{AllByRecursion}
 use Rattle.cx_base.specs.Literals.{Literal}
 use Rattle.cx_base.specs.Problem.{AreWithin}
-use Rattle.gauss_jordan.specs.State.{fresh}
-use Rattle.gauss_jordan.specs.declared.state.Held.{Held}
-use Rattle.gauss_jordan.specs.declared.state.Mood.TheVariants.{Busy, Calm, Broken}
-use Rattle.gauss_jordan.specs.State.{State, Named, keep, keep_named, is_unassigned, IsSilent, IsBroken, IsNamedNow, assigned, pushed, back, names}
+use Rattle.parity_engine.specs.State.{fresh}
+use Rattle.parity_engine.specs.declared.state.Held.{Held}
+use Rattle.parity_engine.specs.declared.state.Mood.{Mood}
+use Rattle.parity_engine.specs.declared.state.Mood.TheVariants.{Busy, Calm, Broken}
+use Rattle.parity_engine.specs.State.{State, Named, keep, keep_named, is_unassigned, IsSilent, IsBroken, IsNamedNow, assigned, pushed, back, names}
 use Rattle.gauss_jordan.specs.System.{has_at, IsUnit}
-use Rattle.gauss_jordan.proofs.Known.{known_value}
+use Rattle.parity_engine.proofs.Known.{known_value}
 use Rattle.gauss_jordan.proofs.Events.{implied_by_sum}
 use Rattle.gauss_jordan.specs.Levels.{at_level, LowerLevelsStay}
 use Rattle.gauss_jordan.specs.Right.{IsSummed}
@@ -265,6 +266,36 @@ right_quiet columns s right whole silent = record {
   calm = λ is. record { consistent = silent.consistent; forced = silent.forced };
 }
 
+-- a row that is named, where the event leaves what its kind asks for
+right_named : (columns : List ℕ) (s : State) (row : ℕ) (n : Named) (mood : Mood) → IsRight columns s → row ≤ length columns
+    → (row < length columns → IsReason (names s row n mood) n (column_at columns row))
+    → ((m : Named) → get_or (set s.named row (Some n)) (length columns) None ≡ Some m → mood ≡ Broken)
+    → (mood ≡ Broken
+    → (m : Named) × (get_or (set s.named row (Some n)) (length columns) None ≡ Some m) × (m.in_conflict ≡ true) × (m.level ≡ s.level) × IsSummed s m × IsBroken (names s row n mood) m.form)
+    → (mood ≡ Calm → ⊥) → IsRight columns (names s row n mood)
+right_named columns s row n mood right low own clash broken restless =
+    let inside : row < length s.named = let r = right.rows in omega arith in
+    record {
+      within = right.within;
+      wide = right.wide;
+      rows = length-set s.named row (Some n) ∙ right.rows;
+      levels = right.levels;
+      settled = λ p lt. let old = right.settled p lt in record { consistent = old.consistent; forced = old.forced };
+      reasons = λ j m lt is.
+          elim (cases_eq j row) [
+            | inl e ↦
+                let same : n ≡ m = same_named n m (sym (get_or-set_same s.named row (Some n) None inside) ∙ ap (λ i. get_or (set s.named row (Some n)) i None) (sym e) ∙ is) in
+                subst (λ (q : Named). IsReason (names s row n mood) q (column_at columns j)) same
+                (subst (λ i. IsReason (names s row n mood) n (column_at columns i)) (sym e) (own (omega arith)))
+            | inr ne ↦
+                let r = right.reasons j m lt (sym (get_or-set_other s.named row j (Some n) None ne) ∙ is) in
+                record { in_conflict = r.in_conflict; level = r.level; within_vars = r.within_vars; has = r.has; summed = r.summed; stands = r.stands }
+          ];
+      clash = clash;
+      broken = broken;
+      calm = λ is. absurd (restless is);
+    }
+
 -- a row that is named for its one unassigned variable
 pub right_implied : (columns : List ℕ) (s : State) (row : ℕ) (n : Named) → IsRight columns s → s.mood ≢ Broken → row < length columns
     → IsNamedNow s n false → column_at columns row < s.vars → has_at n.form (column_at columns row) ≡ true
@@ -272,63 +303,34 @@ pub right_implied : (columns : List ℕ) (s : State) (row : ℕ) (n : Named) →
     → ((y : ℕ) → y ≢ column_at columns row → has_at n.form y ≡ true → is_unassigned (get_or s.values y None) ≡ false)
     → IsRight columns (names s row n Busy)
 right_implied columns s row n right whole in' now within has_x free others =
-    let k : ℕ = row in
-    let inside : k < length s.named = let r = right.rows in omega arith in
-    record {
-      within = right.within;
-      wide = right.wide;
-      rows = length-set s.named k (Some n) ∙ right.rows;
-      levels = right.levels;
-      settled = λ p lt. let old = right.settled p lt in record { consistent = old.consistent; forced = old.forced };
-      reasons = λ j m lt is.
-          elim (cases_eq j k) [
-            | inl e ↦
-                let same : n ≡ m = same_named n m (sym (get_or-set_same s.named k (Some n) None inside) ∙ ap (λ i. get_or (set s.named k (Some n)) i None) (sym e) ∙ is) in
-                subst (λ (q : Named). IsReason (names s row n Busy) q (column_at columns j)) same
-                (subst (λ i. IsReason (names s row n Busy) n (column_at columns i)) (sym e)
-                (record {
-                  in_conflict = now.kind_is;
-                  level = let l = now.level_is in omega arith;
-                  within_vars = within;
-                  has = has_x;
-                  summed = (now.numbers, now.sums);
-                  stands = inr (now.level_is, free, others);
-                }))
-            | inr ne ↦
-                let r = right.reasons j m lt (sym (get_or-set_other s.named k j (Some n) None ne) ∙ is) in
-                record { in_conflict = r.in_conflict; level = r.level; within_vars = r.within_vars; has = r.has; summed = r.summed; stands = r.stands }
-          ];
-      clash = λ m is. absurd (whole (right.clash m (sym (get_or-set_other s.named k (length columns) (Some n) None (λ e. omega arith)) ∙ is)));
-      broken = λ is. absurd (let e : Busy ≡ Broken = is in cc);
-      calm = λ is. absurd (let e : Busy ≡ Calm = is in cc);
-    }
+    right_named columns s row n Busy right (omega arith)
+    (λ _. record {
+      in_conflict = now.kind_is;
+      level = let l = now.level_is in omega arith;
+      within_vars = within;
+      has = has_x;
+      summed = (now.numbers, now.sums);
+      stands = inr (now.level_is, free, others);
+    })
+    (λ m is. absurd (whole (right.clash m (sym (get_or-set_other s.named row (length columns) (Some n) None (λ e. omega arith)) ∙ is))))
+    (λ is. absurd (let e : Busy ≡ Broken = is in cc))
+    (λ is. let e : Busy ≡ Calm = is in cc)
 
 -- a row that is named for a contradiction, in the last place
 pub right_broken : (columns : List ℕ) (s : State) (row : ℕ) (n : Named) → IsRight columns s → row ≡ length columns
     → IsNamedNow s n true → IsBroken s n.form → IsRight columns (names s row n Broken)
 right_broken columns s row n right at now clashes =
-    let k : ℕ = row in
-    let inside : k < length s.named = let r = right.rows in omega arith in
-    record {
-      within = right.within;
-      wide = right.wide;
-      rows = length-set s.named k (Some n) ∙ right.rows;
-      levels = right.levels;
-      settled = λ p lt. let old = right.settled p lt in record { consistent = old.consistent; forced = old.forced };
-      reasons = λ j m lt is.
-          let r = right.reasons j m lt (sym (get_or-set_other s.named k j (Some n) None (λ e. omega arith)) ∙ is) in
-          record { in_conflict = r.in_conflict; level = r.level; within_vars = r.within_vars; has = r.has; summed = r.summed; stands = r.stands };
-      clash = λ m is. refl;
-      broken = λ is. (
-        n,
-        ap (λ i. get_or (set s.named k (Some n)) i None) (sym at) ∙ get_or-set_same s.named k (Some n) None inside,
-        now.kind_is,
-        now.level_is,
-        (now.numbers, now.sums),
-        record { none = clashes.none; whole = clashes.whole; unmet = clashes.unmet },
-      );
-      calm = λ is. absurd (let e : Broken ≡ Calm = is in cc);
-    }
+    let inside : row < length s.named = let r = right.rows in omega arith in
+    right_named columns s row n Broken right (omega arith) (λ lt. absurd (omega arith)) (λ m is. refl)
+    (λ is. (
+      n,
+      ap (λ i. get_or (set s.named row (Some n)) i None) (sym at) ∙ get_or-set_same s.named row (Some n) None inside,
+      now.kind_is,
+      now.level_is,
+      (now.numbers, now.sums),
+      record { none = clashes.none; whole = clashes.whole; unmet = clashes.unmet },
+    ))
+    (λ is. let e : Broken ≡ Calm = is in cc)
 
 pub lower_levels_stay : LowerLevelsStay
 lower_levels_stay s p = (

@@ -4,16 +4,17 @@ use Rattle.std.specs.List.{list_all, AllByRecursion}
 use Rattle.std.proofs.lemmas.Bool.{cases_eq, cases_lt, ne_eqb, eqb-false}
 use Rattle.std.proofs.lemmas.List.{length-map, get_or-map}
 use Rattle.std.specs.Slice.Scan.{HoldsNowhere}
-use mathlib.Core.Bool.{beq}
 use Rattle.cx_base.specs.Literals.{differ}
 use Rattle.cx_base.specs.Problem.{AreWithin, parity_met}
 use Rattle.gf2_rows.specs.Bits.{bit_of, is_outside}
-use Rattle.gf2_matrix.specs.Equations.{Equation, has_term, total, MeetsEquation, form_of}
-use Rattle.gf2_matrix.specs.Content.{Content, no_row, row_at, equation, form, has, IsOpenAt, IsReducedRow, IsOfGiven, AreBitsOf, AreColumns}
+use Rattle.parity_engine.specs.Equations.{Equation, has_term, form_of}
+use Rattle.gf2_matrix.specs.Totals.{total, MeetsEquation}
+use Rattle.gf2_matrix.specs.Content.{Content, no_row, row_at, equation, form, has, IsOpenAt, IsReducedRow, IsOfGiven, AreBitsOf}
+use Rattle.parity_engine.specs.Columns.{AreColumns}
 use Rattle.gf2_matrix.proofs.Reduce.{found_open, none_open}
 use Rattle.gauss_jordan.specs.declared.found.RowKind.TheVariants.{Met, Unmet, Unit, Open}
 use Rattle.gauss_jordan.specs.Rows.{IsFinished, IsUnfinished, part_at}
-use Rattle.gauss_jordan.specs.State.{State, is_unassigned, IsSilent, IsImplied, IsBroken}
+use Rattle.parity_engine.specs.State.{State, is_unassigned, IsSilent, IsImplied, IsBroken}
 use Rattle.gauss_jordan.specs.System.{part, equation_at, has_term_at, total_at, right_at, IsSystemOf, filled, IsWhole, IsUnit}
 use Rattle.gauss_jordan.specs.Found.{IsClosed, IsClosedBut, SumsTo, IsKind, IsMasked}
 use Rattle.gauss_jordan.proofs.Events.{silent_from_quiet, implied_from_unit, broken_from_whole, finished_from_whole, part-at, none_from, length-filled}
@@ -230,12 +231,6 @@ module _ (c : Content) (of_given : IsOfGiven c) (assigned truths : List ℕ) (s 
       subst (λ v. IsImplied s (record { variable = v; negative = not b }) (form (row_at c.rows r))) at
       (subst (λ d. IsImplied s (record { variable = x + 1; negative = not d }) (form (row_at c.rows r))) (filled_sum r b lt kind.4)
       (subst (λ (e : Equation). IsImplied s (record { variable = x + 1; negative = not (differ (total_at rows r (filled s)) (right_at rows r)) }) (form_of e)) (row-is r lt) made))
-
-pub differ-beq : (a b : Bool) → not (beq a b) ≡ differ a b
-differ-beq true true = refl
-differ-beq true false = refl
-differ-beq false true = refl
-differ-beq false false = refl
 
 -- ---- the loop over the rows
 pub one_more : (c : Content) (assigned truths : List ℕ) (r : ℕ) → IsKind c assigned truths r Met ⊎ IsKind c assigned truths r Open

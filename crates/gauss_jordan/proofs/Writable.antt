@@ -10,10 +10,10 @@ use Rattle.cx_base.specs.Literals.{Literal, differ, value_of}
 use Rattle.cx_base.specs.Problem.{parity_met}
 use Rattle.cx_base.specs.Parity.{NormalForm, normal_form}
 use Rattle.cx_base.proofs.Odd.{parity_met-cons}
-use Rattle.gf2_matrix.specs.Written.{IsWritable}
-use Rattle.gf2_matrix.proofs.Forms.{same_form}
-use Rattle.gf2_matrix.proofs.Literals.{contains_parity, right_parity}
-use Rattle.gauss_jordan.specs.State.{State, Named, IsBroken}
+use Rattle.parity_engine.specs.Written.{IsWritable}
+use Rattle.parity_engine.proofs.Forms.{same_form}
+use Rattle.parity_engine.proofs.Literals.{contains_parity, right_parity}
+use Rattle.parity_engine.specs.State.{State, Named, IsBroken}
 use Rattle.gauss_jordan.specs.System.{filled}
 use Rattle.gauss_jordan.specs.Right.{IsRight, column_at}
 use Rattle.gauss_jordan.proofs.Events.{known_agrees, filled_agrees}

@@ -1,7 +1,7 @@
 use Rattle.std.proofs.Common.{◌≡◌, refl, sym, subst, ap, ◌∙◌, Option, Some, None, true≢false}
 use Rattle.std.specs.Prelude.{IsSome}
 use Rattle.cx_semantics.specs.Chain.{has_literal}
-use Rattle.gauss_jordan.specs.State.{Named, named_at}
+use Rattle.parity_engine.specs.State.{Named, named_at}
 use Rattle.xor_reason.specs.LiteralChoice.{AreLiteralsFor}
 use Rattle.xor_reason.proofs.ClauseLaws.{has_written, low_written, is_reason_clause}
 use Rattle.xor_reason.proofs.reason.reason_clause.Goals as goal

@@ -1,7 +1,7 @@
 use Rattle.std.proofs.Common.{◌≡◌, sym, subst, refl, Option, Some, None, true≢false}
 use Rattle.std.specs.Prelude.{IsSome}
-use Rattle.gf2_matrix.specs.Written.{IsWritable}
-use Rattle.gauss_jordan.specs.State.{State, Named, named_at}
+use Rattle.parity_engine.specs.Written.{IsWritable}
+use Rattle.parity_engine.specs.State.{State, Named, named_at}
 use Rattle.gauss_jordan.proofs.Writable.{named_writable}
 use Rattle.gauss_jordan.proofs.scratch.ScratchParityEngine.row_parity.Goals as goal
 

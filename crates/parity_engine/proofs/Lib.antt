@@ -1,0 +1,4 @@
+pub mod Forms
+pub mod Columns
+pub mod Literals
+pub mod Known
