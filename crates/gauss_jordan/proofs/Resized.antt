@@ -4,7 +4,7 @@ use Rattle.std.specs.List.{list_all, AllByRecursion, range_with_len}
 use Rattle.std.specs.FinSet as set
 use Rattle.std.proofs.Math.ListN.{get_or-eq_default}
 use Rattle.std.proofs.lemmas.List.FromFn.{get_or-map-range_with_len, length-map-range_with_len}
-use Rattle.std.proofs.lemmas.Bool.{cases_lt}
+use Rattle.std.proofs.lemmas.Bool.{cases_lt, false_from_ne_true}
 use Rattle.cx_base.specs.Literals.{Literal, differ, value_of}
 use Rattle.cx_base.specs.Problem.{AreWithin, parity_met}
 use Rattle.cx_base.specs.Parity.{normal_form}
@@ -50,10 +50,6 @@ unfolding most
 below_most m [] le = tt
 below_most m (l ∷ lits) le = (omega arith, below_most m lits (omega arith))
 
-true_or_false : (b : Bool) → (b ≡ true → ⊥) → b ≡ false
-true_or_false true h = absurd (h refl)
-true_or_false false h = refl
-
 -- the sum over the set is the same for the values as they are
 members-resized : (n m : ℕ) (v : List Bool) (e : Equation) → length e.terms ≡ n → sum_of_members m v (form_of e).variables ≡ sum_of_members m (resized n v) (form_of e).variables
 members-resized n m v e long =
@@ -89,4 +85,4 @@ meets_form n v e lits long is met =
     meets_from_Sums m (resized n v) e (long ∙ sym (length-resized n v)) (omega (arith, length-resized n v)) (sym (members-resized n (suc m) v e long) ∙ sums)
 
 pub form_missed : (n : ℕ) (v : List Bool) (e : Equation) (lits : List Literal) → length e.terms ≡ n → normal_form lits ≡ form_of e → (MeetsEquation (resized n v) e → ⊥) → parity_met v lits ≡ false
-form_missed n v e lits long is misses = true_or_false (parity_met v lits) (λ met. misses (meets_form n v e lits long is met))
+form_missed n v e lits long is misses = false_from_ne_true (parity_met v lits) (λ met. misses (meets_form n v e lits long is met))

@@ -5,7 +5,7 @@ use Rattle.std.specs.FinSet as set
 use Rattle.std.proofs.Math.Seq.{take-suc, drop-cons}
 use Rattle.std.proofs.Math.ListN.{length-set}
 use Rattle.std.proofs.lemmas.List.{get_or-set_same, get_or-set_other, map-append}
-use Rattle.std.proofs.lemmas.Bool.{cases_eq, eq-eqb, ne_eqb}
+use Rattle.std.proofs.lemmas.Bool.{cases_eq, eq-eqb, ne_eqb, false_from_ne_true}
 use Rattle.cx_base.specs.Literals.{Literal, differ}
 use Rattle.cx_base.specs.Problem.{AreWithin}
 use Rattle.cx_base.specs.Parity.{normal_form, occurs_odd}
@@ -137,10 +137,6 @@ moved_more old_to old_from to from to' from' lits i at l m before same lt read h
           ];
     }
 
-not_true : (b : Bool) → (b ≡ true → ⊥) → b ≡ false
-not_true true h = absurd (h refl)
-not_true false h = refl
-
 or-false : (a : Bool) → (a || false) ≡ a
 or-false true = refl
 or-false false = refl
@@ -148,7 +144,7 @@ or-false false = refl
 pub moved_clear : (old_to old_from to from : List Bool) (lits : List Literal) (n : ℕ) → AreMoved old_to old_from to from lits n → length lits ≤ n
     → (x : ℕ) → x < length old_from → get_or from x false ≡ false
 moved_clear old_to old_from to from lits n is le x lt =
-    not_true (get_or from x false)
+    false_from_ne_true (get_or from x false)
     (λ h. true≢false (sym (is.left x lt h) ∙ ap (list_any (λ (l : Literal). eqb l.variable (x + 1))) (Rattle.std.proofs.lemmas.List.drop_all n lits le)))
 
 pub moved_all : (old_to old_from to from : List Bool) (lits : List Literal) (n : ℕ) → AreMoved old_to old_from to from lits n → length lits ≤ n

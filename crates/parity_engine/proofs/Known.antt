@@ -2,6 +2,7 @@
 use Rattle.std.proofs.Common.{◌≡◌, ℕ, ◌+◌, ◌-◌, ◌≤◌, zero, suc, Bool, true, false, not, ◌&&◌, ◌||◌, List, [], ◌∷◌, get_or, Option, Some, None, refl, sym, ap, ◌∙◌, arith}
 use Rattle.std.specs.List.{list_all}
 use Rattle.std.proofs.lemmas.Bool.{eq-eqb, eqb-true}
+use Rattle.std.proofs.lemmas.Option.{same_Some}
 use Rattle.cx_base.specs.Literals.{Literal, differ, literal_true, same_literal}
 use Rattle.cx_base.proofs.Differences.{not_differ-same}
 use Rattle.cx_semantics.specs.Chain.{has_literal}
@@ -29,9 +30,6 @@ known_true k (Some g ∷ held) v low agrees =
     ap (λ b. b && list_all (literal_true v) (known_from (k + 1) held)) (ap (λ i. differ (not g.value) (get_or v i false)) e ∙ ap (differ (not g.value)) (agrees 0 g refl) ∙ own_sign g.value)
     ∙ known_true (k + 1) held v (omega arith) (λ x h is. let f : k + 1 + x - 1 ≡ k + suc x - 1 = omega arith in ap (λ i. get_or v i false) f ∙ agrees (suc x) h is)
 
-some_is : (h g : Held) → (let o : Option Held = Some h in o) ≡ Some g → h ≡ g
-some_is h g e = cc
-
 pub agrees_known : (k : ℕ) (held : List (Option Held)) (v : List Bool) → 1 ≤ k → list_all (literal_true v) (known_from k held) ≡ true
     → (x : ℕ) (h : Held) → get_or held x None ≡ Some h → get_or v (k + x - 1) false ≡ h.value
 agrees_known k [] v low all x h is = cc
@@ -41,7 +39,7 @@ agrees_known k (None ∷ held) v low all (suc x) h is =
     ap (λ i. get_or v i false) e ∙ agrees_known (k + 1) held v (omega arith) all x h is
 agrees_known k (Some g ∷ held) v low all zero h is =
     let e : k + 0 - 1 ≡ k - 1 = omega arith in
-    ap (λ i. get_or v i false) e ∙ sign_from g.value (get_or v (k - 1) false) (and_parts _ _ all).0 ∙ ap (λ (q : Held). q.value) (some_is g h is)
+    ap (λ i. get_or v i false) e ∙ sign_from g.value (get_or v (k - 1) false) (and_parts _ _ all).0 ∙ ap (λ (q : Held). q.value) (same_Some g h is)
 agrees_known k (Some g ∷ held) v low all (suc x) h is =
     let e : k + suc x - 1 ≡ k + 1 + x - 1 = omega arith in
     ap (λ i. get_or v i false) e ∙ agrees_known (k + 1) held v (omega arith) (and_parts _ _ all).1 x h is
@@ -53,7 +51,7 @@ has_known k [] x h l is at sign = cc
 has_known k (None ∷ held) zero h l is at sign = cc
 has_known k (None ∷ held) (suc x) h l is at sign = has_known (k + 1) held x h l is (omega arith) sign
 has_known k (Some g ∷ held) zero h l is at sign =
-    let same : l.negative ≡ not g.value = sign ∙ ap (λ (q : Held). not q.value) (sym (some_is g h is)) in
+    let same : l.negative ≡ not g.value = sign ∙ ap (λ (q : Held). not q.value) (sym (same_Some g h is)) in
     ap (λ b. b || has_literal (known_from (k + 1) held) l)
     ((λ i. eq-eqb l.variable k (omega arith) i && not (differ l.negative (not g.value)))
     ∙ ap (λ b. not (differ b (not g.value))) same ∙ not_differ-same (not g.value) (not g.value) refl)

@@ -2,6 +2,7 @@
 use Rattle.std.proofs.Common.{◌≡◌, ℕ, ◌+◌, ◌-◌, ◌<◌, ◌≤◌, zero, suc, Bool, true, false, not, ◌||◌, List, [], ◌∷◌, map, length, get_or, refl, sym, ap, ◌∙◌, arith, true≢false}
 use Rattle.std.specs.List.{list_any, range_with_len}
 use Rattle.std.proofs.lemmas.List.FromFn.{get_or-map-range_with_len}
+use Rattle.std.proofs.lemmas.Bool.{not-true}
 use Rattle.cx_base.specs.Literals.{Literal, differ, negate, same_literal, value_of, literal_true}
 use Rattle.cx_semantics.proofs.ChainLaws.{are_one, same_literal-itself, literal_true-negate}
 use Rattle.cx_semantics.proofs.Closure.{or_right}
@@ -74,10 +75,6 @@ trail_values_agree trail sound l stands =
     let high : l.variable ≤ trail.variables = let h = sound.high stands.0 stands.1.0 in omega arith in
     true_sign l.negative (value_of (trail_values trail) l.variable) (value_of-trail trail l.variable low high ∙ value_on-standing trail sound l stands)
 
-not_true : (b : Bool) → not b ≡ true → b ≡ false
-not_true true h = absurd (true≢false (sym h))
-not_true false h = refl
-
 -- a literal that is false on the trail is false under values that agree with it
 pub false_under : (trail : TrailState) (v : List Bool) (m : Literal) → AgreesWithTrail trail v → IsFalseIn trail.entries m → literal_true v m ≡ false
-false_under trail v m agrees is = not_true (literal_true v m) (sym (literal_true-negate v m) ∙ agrees (negate m) is)
+false_under trail v m agrees is = not-true (literal_true v m) (sym (literal_true-negate v m) ∙ agrees (negate m) is)
