@@ -6,7 +6,7 @@ use Rattle.cx_trail.specs.declared.entry.Reason.{Reason}
 use Rattle.cx_trail.specs.declared.entry.Reason.TheVariants as reason
 use Rattle.watch_lists.specs.Watching.{WatchState, IsAttached}
 use Rattle.search_policy.specs.Standing.{OrderState}
-use Rattle.gauss_jordan.specs.State.{State}
+use Rattle.parity_engine.specs.State.{State}
 use Rattle.search_steps.specs.Trail.{Entry}
 use Rattle.search_steps.specs.Search.{Search}
 use Rattle.cdcl_core.specs.declared.kept.Kept.{Kept}

@@ -8,7 +8,7 @@ use Rattle.cx_semantics.specs.declared.steps.LogEvent.{LogEvent}
 use Rattle.cx_semantics.specs.Integers.{integers_of}
 use Rattle.cx_semantics.specs.Marked.{Marked}
 use Rattle.conflict_learn.specs.declared.fault.CoreFault.{CoreFault}
-use Rattle.gauss_jordan.specs.State.{State}
+use Rattle.parity_engine.specs.State.{State}
 use Rattle.search_steps.specs.Search.{Search, IsSearch}
 use Rattle.search_steps.specs.LogSteps.{after_round}
 use Rattle.search_steps.specs.Holding.{AreTold}

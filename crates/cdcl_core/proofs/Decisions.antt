@@ -10,8 +10,8 @@ use Rattle.cx_trail.specs.declared.entry.Reason.TheVariants as reason
 use Rattle.cx_trail.specs.Sequence.{TrailState, IsTrail, IsOpenIn, entry_at, pushed}
 use Rattle.watch_lists.proofs.EventLaws.{fits_pushed}
 use Rattle.search_policy.specs.Standing.{OrderState, AllStand}
-use Rattle.gauss_jordan.specs.State.{State}
-use Rattle.gauss_jordan.specs.State.{pushed as opened}
+use Rattle.parity_engine.specs.State.{State}
+use Rattle.parity_engine.specs.State.{pushed as opened}
 use Rattle.search_steps.specs.Trail.{Entry, decided, all_held, level_of}
 use Rattle.search_steps.specs.Quiet.{Quiet}
 use Rattle.search_steps.specs.Laws.{HaveTheirs}

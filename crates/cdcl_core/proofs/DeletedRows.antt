@@ -10,7 +10,7 @@ use Rattle.cx_semantics.specs.declared.steps.LogEvent.TheVariants.{Step}
 use Rattle.cx_semantics.specs.Printed.{HasText}
 use Rattle.cx_semantics.specs.Marked.{without}
 use Rattle.cx_semantics.specs.Tables.{get}
-use Rattle.gauss_jordan.specs.State.{State}
+use Rattle.parity_engine.specs.State.{State}
 use Rattle.conflict_learn.specs.declared.fault.CoreFault.{CoreFault}
 use Rattle.std.specs.Prelude.{Result, Ok, Err, OnOk, IfErr}
 use Rattle.search_steps.specs.Trail.{level_of}

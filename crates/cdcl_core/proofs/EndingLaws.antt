@@ -12,7 +12,7 @@ use Rattle.cx_semantics.specs.Chain.{is_inside, negations}
 use Rattle.cx_semantics.specs.LogRules.{HasChain}
 use Rattle.cx_semantics.specs.Marked.{Marked}
 use Rattle.conflict_learn.specs.declared.fault.CoreFault.{CoreFault}
-use Rattle.gauss_jordan.specs.State.{State}
+use Rattle.parity_engine.specs.State.{State}
 use Rattle.search_steps.specs.LogSteps.{IsAddition, IsEnded, RestOnClauses}
 use Rattle.search_steps.specs.Quiet.{IsOfParities}
 use Rattle.search_steps.specs.Tied.{IsLiveSet}

@@ -9,7 +9,7 @@ use Rattle.cx_trail.specs.declared.entry.Entry.{Entry as TrailEntry}
 use Rattle.cx_trail.specs.declared.entry.Reason.{Reason}
 use Rattle.cx_trail.specs.declared.entry.Reason.TheVariants as reason
 use Rattle.cx_trail.specs.Sequence.{entry_at}
-use Rattle.gauss_jordan.specs.State.{State, Named, named_at, MeetsForm}
+use Rattle.parity_engine.specs.State.{State, Named, named_at, MeetsForm}
 use Rattle.search_steps.specs.Trail.{Entry}
 use Rattle.search_steps.specs.Search.{Search}
 use Rattle.search_steps.specs.Engine.{HoldsValues}

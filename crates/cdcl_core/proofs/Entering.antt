@@ -37,7 +37,7 @@ use Rattle.search_steps.proofs.StartLaws.{variables_are_within}
 use Rattle.search_steps.proofs.Sets.{by_cases, has_behind}
 use Rattle.search_steps.proofs.Bridge.{entry_last}
 use Rattle.conflict_learn.specs.Learning.{negated_at, literal_at}
-use Rattle.gauss_jordan.specs.State.{State}
+use Rattle.parity_engine.specs.State.{State}
 use Rattle.cdcl_core.specs.declared.kept.Kept.{Kept}
 use Rattle.cdcl_core.specs.Ties.{first_row_id, IsNamedBy, AreClauses, AreNumbered, AreUnits, IsFed, HasReasonAt, HaveReasons, Ties}
 use Rattle.cdcl_core.specs.Entering.{IsPut, EntersUnit, EntersClause}

@@ -7,8 +7,8 @@ use Rattle.cx_base.specs.Problem.{Problem, parities_of}
 use Rattle.cx_semantics.specs.declared.steps.LogEvent.{LogEvent}
 use Rattle.cx_trail.specs.declared.entry.Entry.{Entry as TrailEntry}
 use Rattle.cx_trail.specs.Sequence.{entry_at}
-use Rattle.gauss_jordan.specs.declared.state.Held.{Held}
-use Rattle.gauss_jordan.specs.State.{State, assigned, held_at, is_unassigned}
+use Rattle.parity_engine.specs.declared.state.Held.{Held}
+use Rattle.parity_engine.specs.State.{State, assigned, held_at, is_unassigned}
 use Rattle.search_steps.specs.Trail.{Entry, all_held, IsTrail, IsUnassigned}
 use Rattle.search_steps.specs.Quiet.{IsOfParities}
 use Rattle.search_steps.specs.Search.{Search, IsSearch}

@@ -11,7 +11,7 @@ use Rattle.cx_trail.specs.Sequence.{TrailState, IsTrail, entry_at, no_entry, pus
 use Rattle.clause_arena.specs.Clauses.{literals_at, id_at}
 use Rattle.watch_lists.specs.Truths.{AreOthersFalse}
 use Rattle.watch_lists.specs.Watching.{WatchState, Fits, IsForced, Propagates}
-use Rattle.gauss_jordan.specs.State.{State}
+use Rattle.parity_engine.specs.State.{State}
 use Rattle.search_steps.specs.Trail.{by_clause}
 use Rattle.search_steps.specs.Search.{Search, forced_on}
 use Rattle.search_steps.proofs.Bridge.{level_tied}

@@ -9,7 +9,7 @@ use Rattle.cx_semantics.specs.Chain.{has_literal}
 use Rattle.cx_semantics.specs.declared.steps.LogEvent.{LogEvent}
 use Rattle.cx_semantics.specs.Settled.{Decides}
 use Rattle.cx_trail.specs.Sequence.{TrailState, IsTrail, IsFull, IsTrueIn, entry_at}
-use Rattle.gauss_jordan.specs.State.{State}
+use Rattle.parity_engine.specs.State.{State}
 use Rattle.search_steps.specs.Trail.{all_held}
 use Rattle.search_steps.specs.Search.{Search, IsSearch}
 use Rattle.search_steps.proofs.Sets.{by_cases, each_member}

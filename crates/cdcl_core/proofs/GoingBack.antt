@@ -16,7 +16,7 @@ use Rattle.clause_arena.specs.Clauses.{IsLive, literals_at, id_at}
 use Rattle.watch_lists.specs.Watching.{IsAttached, Fits}
 use Rattle.watch_lists.proofs.EventLaws.{fits_back}
 use Rattle.search_policy.specs.Standing.{AllStand}
-use Rattle.gauss_jordan.specs.State.{State, Named, named_at, keep, keep_named, back}
+use Rattle.parity_engine.specs.State.{State, Named, named_at, keep, keep_named, back}
 use Rattle.search_steps.specs.Trail.{Entry, held, back_to, level_of}
 use Rattle.search_steps.specs.Quiet.{IsOfParities}
 use Rattle.search_steps.specs.Search.{Search, IsSearch, jumped}

@@ -16,7 +16,7 @@ use Rattle.clause_arena.specs.Clauses.{literals_at}
 use Rattle.watch_lists.specs.Truths.{AreOthersFalse}
 use Rattle.watch_lists.proofs.EventLaws.{fits_pushed}
 use Rattle.search_policy.specs.Standing.{OrderState, AllStand}
-use Rattle.gauss_jordan.specs.State.{State}
+use Rattle.parity_engine.specs.State.{State}
 use Rattle.search_steps.specs.Trail.{Entry, Why, held, level_of}
 use Rattle.search_steps.specs.Search.{Search, forced_on}
 use Rattle.search_steps.specs.Ids.{IsRanged}

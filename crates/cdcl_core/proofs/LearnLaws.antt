@@ -22,7 +22,7 @@ use Rattle.conflict_learn.specs.Learning.{IsOfLevel}
 use Rattle.cx_semantics.specs.Chain.{has_literal}
 use Rattle.search_steps.proofs.CodeSteps.{clause_conflict_is_now}
 use Rattle.search_steps.proofs.Bridge.{level_tied}
-use Rattle.gauss_jordan.specs.State.{State}
+use Rattle.parity_engine.specs.State.{State}
 use Rattle.search_steps.specs.Search.{Search, IsSearch, told}
 use Rattle.search_steps.specs.LogSteps.{deleted, after_learned, after_round}
 use Rattle.search_steps.specs.Holding.{AreTold}

@@ -17,13 +17,13 @@ use Rattle.cx_trail.specs.declared.entry.Reason.TheVariants as reason
 use Rattle.cx_trail.specs.Sequence.{TrailState, pushed, IsTrueIn, IsOpenIn, IsAssignedIn, IsTrail}
 use Rattle.cx_trail.proofs.CellLaws.{at_take}
 use Rattle.cx_trail.proofs.TruthLaws.{negate_negate}
-use Rattle.gauss_jordan.specs.declared.state.Held.{Held}
-use Rattle.gauss_jordan.specs.declared.state.Mood.{Mood}
-use Rattle.gauss_jordan.specs.declared.state.Mood.TheVariants.{Busy, Calm, Broken}
-use Rattle.gauss_jordan.specs.declared.event.ParityEvent.TheVariants.{Implied, Conflict}
-use Rattle.gauss_jordan.specs.State.{State, Answers, Named, names, named_at, known, known_from, held_at, is_unassigned, IsImplied, IsBroken, IsNamedNow, IsSameNamed}
-use Rattle.gauss_jordan.proofs.Known.{has_known}
-use Rattle.gf2_matrix.specs.Equations.{numbered}
+use Rattle.parity_engine.specs.declared.state.Held.{Held}
+use Rattle.parity_engine.specs.declared.state.Mood.{Mood}
+use Rattle.parity_engine.specs.declared.state.Mood.TheVariants.{Busy, Calm, Broken}
+use Rattle.parity_engine.specs.declared.event.ParityEvent.TheVariants.{Implied, Conflict}
+use Rattle.parity_engine.specs.State.{State, Answers, Named, names, named_at, known, known_from, held_at, is_unassigned, IsImplied, IsBroken, IsNamedNow, IsSameNamed}
+use Rattle.parity_engine.proofs.Known.{has_known}
+use Rattle.parity_engine.specs.Equations.{numbered}
 use Rattle.xor_reason.proofs.TrailValues.{trail_values, trail_values_agree}
 use Rattle.search_steps.specs.Trail.{Entry, by_row}
 use Rattle.search_steps.specs.Quiet.{IsOfParities}

@@ -19,9 +19,9 @@ use Rattle.cx_semantics.specs.LogRules.{AreLive}
 use Rattle.cx_semantics.specs.ProofRules.{is_empty}
 use Rattle.cx_semantics.specs.Tables.{Table, get, named}
 use Rattle.cx_trail.specs.Sequence.{TrailState, IsTrail, IsAssignedIn}
-use Rattle.gauss_jordan.specs.State.{State, AreRising}
-use Rattle.gf2_matrix.specs.Equations.{parity_number, numbered}
-use Rattle.gf2_matrix.specs.Written.{IsWritten, Rises}
+use Rattle.parity_engine.specs.State.{State, AreRising}
+use Rattle.parity_engine.specs.Equations.{parity_number, numbered}
+use Rattle.parity_engine.specs.Written.{IsWritten, Rises}
 use Rattle.xor_reason.specs.declared.reason.ReasonOf.{ReasonOf}
 use Rattle.xor_reason.proofs.ClauseLaws.{contains_written, has_written}
 use Rattle.search_steps.specs.Search.{Search, IsSearch, told}

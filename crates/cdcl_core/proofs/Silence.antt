@@ -11,7 +11,7 @@ use Rattle.cx_semantics.proofs.Closure.{has_by_inside}
 use Rattle.clause_arena.specs.Clauses.{literals_at}
 use Rattle.watch_lists.specs.Events.{Happens}
 use Rattle.watch_lists.specs.declared.event.Event.TheVariants as event
-use Rattle.gauss_jordan.specs.State.{State, IsSilent}
+use Rattle.parity_engine.specs.State.{State, IsSilent}
 use Rattle.search_steps.specs.Trail.{held, all_held}
 use Rattle.search_steps.specs.Quiet.{Quiet, RestsOn, HasNoClash, ClausesQuiet, ParitiesQuiet}
 use Rattle.search_steps.specs.Search.{Search, IsSearch}

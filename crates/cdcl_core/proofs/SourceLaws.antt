@@ -9,7 +9,7 @@ use Rattle.cx_trail.specs.declared.entry.Reason.TheVariants as reason
 use Rattle.cx_trail.specs.Sequence.{TrailState, IsTrail, IsFalseIn, entry_at}
 use Rattle.clause_arena.specs.Clauses.{IsLive, literals_at}
 use Rattle.conflict_learn.specs.Learning.{IsAntecedent, HasReason, literal_at}
-use Rattle.gauss_jordan.specs.State.{State}
+use Rattle.parity_engine.specs.State.{State}
 use Rattle.search_steps.proofs.Sets.{has_split, has_at_head, not_both}
 use Rattle.search_steps.proofs.Stored.{has_of, of_has}
 use Rattle.cdcl_core.specs.declared.kept.Kept.{Kept}

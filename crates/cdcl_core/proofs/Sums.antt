@@ -8,8 +8,8 @@ use Rattle.cx_base.specs.Parity.{NormalForm, normal_form, sum_of, symmetric_diff
 use Rattle.cx_base.proofs.ParityLaws.{contains-symmetric_difference}
 use Rattle.gf2_rows.specs.Bits.{parity}
 use Rattle.gf2_rows.proofs.Words.{parity-append}
-use Rattle.gf2_matrix.proofs.Forms.{same_form}
-use Rattle.gf2_matrix.proofs.Literals.{contains_parity, right_parity}
+use Rattle.parity_engine.proofs.Forms.{same_form}
+use Rattle.parity_engine.proofs.Literals.{contains_parity, right_parity}
 
 -- one variable with both signs: no variable is left, and the right side is 0
 abbrev both_signs : List Literal

@@ -16,7 +16,7 @@ use Rattle.cx_semantics.proofs.Closure.{has_by_inside}
 use Rattle.cx_trail.specs.Sequence.{TrailState, IsTrail, IsTrueIn, entry_at}
 use Rattle.conflict_learn.specs.Learning.{IsAntecedent}
 use Rattle.conflict_learn.specs.declared.fault.CoreFault.{CoreFault}
-use Rattle.gauss_jordan.specs.State.{State}
+use Rattle.parity_engine.specs.State.{State}
 use Rattle.search_steps.specs.Holding.{AreTold}
 use Rattle.search_steps.specs.Search.{Search, IsSearch}
 use Rattle.search_steps.specs.Tied.{IsLiveSet, ForcesOn}

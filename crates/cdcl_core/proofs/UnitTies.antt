@@ -19,8 +19,8 @@ use Rattle.cx_trail.specs.declared.entry.Entry.{Entry as TrailEntry}
 use Rattle.cx_trail.specs.declared.entry.Reason.{Reason}
 use Rattle.cx_trail.specs.declared.entry.Reason.TheVariants as reason
 use Rattle.cx_trail.specs.Sequence.{TrailState, entry_at}
-use Rattle.gauss_jordan.specs.declared.state.Held.{Held}
-use Rattle.gauss_jordan.specs.State.{State}
+use Rattle.parity_engine.specs.declared.state.Held.{Held}
+use Rattle.parity_engine.specs.State.{State}
 use Rattle.search_steps.specs.Engine.{HoldsValues}
 use Rattle.search_steps.specs.Ids.{IsRanged}
 use Rattle.search_steps.specs.LogSteps.{IsAddition, RestOnClauses, unit_told}

@@ -24,8 +24,8 @@ use Rattle.cx_trail.specs.declared.entry.Entry.{Entry as TrailEntry}
 use Rattle.cx_trail.specs.declared.entry.Reason.{Reason}
 use Rattle.cx_trail.specs.Sequence.{TrailState, IsTrail, IsTrueIn, IsFalseIn, IsOpenIn, entry_at, pushed}
 use Rattle.conflict_learn.specs.declared.fault.CoreFault.{CoreFault}
-use Rattle.gauss_jordan.specs.declared.state.Mood.TheVariants.{Busy, Broken}
-use Rattle.gauss_jordan.specs.State.{State, fresh}
+use Rattle.parity_engine.specs.declared.state.Mood.TheVariants.{Busy, Broken}
+use Rattle.parity_engine.specs.State.{State, fresh}
 use Rattle.clause_arena.specs.Clauses.{id_at}
 use Rattle.watch_lists.proofs.EventLaws.{fits_pushed}
 use Rattle.search_steps.specs.Engine.{HoldsValues}

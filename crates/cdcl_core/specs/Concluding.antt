@@ -7,7 +7,7 @@ use Rattle.cx_semantics.specs.declared.steps.LogEvent.TheVariants.{Step}
 use Rattle.cx_semantics.specs.declared.steps.LogStep.{LogStep}
 use Rattle.cx_semantics.specs.Marked.{Marked}
 use Rattle.cx_semantics.specs.Printed.{HasText}
-use Rattle.gauss_jordan.specs.State.{State}
+use Rattle.parity_engine.specs.State.{State}
 use Rattle.search_steps.specs.LogSteps.{IsEnded}
 use Rattle.cdcl_core.specs.declared.kept.Kept.{Kept}
 use Rattle.cdcl_core.specs.declared.conflicts.Conclusion.{Conclusion}

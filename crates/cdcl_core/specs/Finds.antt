@@ -5,8 +5,8 @@ use Rattle.watch_lists.specs.Truths.{IsFalsified}
 use Rattle.watch_lists.specs.Watching.{IsAttached}
 use Rattle.watch_lists.specs.Events.{Happens}
 use Rattle.watch_lists.specs.declared.event.Event.TheVariants as event
-use Rattle.gauss_jordan.specs.declared.state.Mood.TheVariants.{Calm, Broken}
-use Rattle.gauss_jordan.specs.State.{State, Named, named_at, IsSilent, IsBroken}
+use Rattle.parity_engine.specs.declared.state.Mood.TheVariants.{Calm, Broken}
+use Rattle.parity_engine.specs.State.{State, Named, named_at, IsSilent, IsBroken}
 use Rattle.cdcl_core.specs.declared.kept.Kept.{Kept}
 use Rattle.cdcl_core.specs.declared.propagation.Found.{Found}
 use Rattle.cdcl_core.specs.declared.propagation.Found.TheVariants.{Quiet, Clause, Row}

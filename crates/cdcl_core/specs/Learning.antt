@@ -8,7 +8,7 @@ use Rattle.cx_semantics.specs.LogRules.{HasChain}
 use Rattle.cx_trail.specs.Sequence.{TrailState}
 use Rattle.conflict_learn.specs.Learning.{negated_at, IsFalling}
 use Rattle.conflict_learn.specs.Levels.{levels_at, second}
-use Rattle.gauss_jordan.specs.State.{State}
+use Rattle.parity_engine.specs.State.{State}
 use Rattle.search_steps.specs.Search.{Search, IsSearch, IsLearnedOf}
 use Rattle.search_steps.specs.LogSteps.{after_round}
 use Rattle.search_steps.specs.Holding.{AreTold}

@@ -3,8 +3,8 @@ use Rattle.std.specs.Prelude.{◌≡◌, ◌≢◌, ℕ, ◌<◌, [], List, leng
 use Rattle.cx_base.specs.Problem.{Problem}
 use Rattle.cx_semantics.specs.declared.steps.LogEvent.{LogEvent}
 use Rattle.cx_trail.specs.Sequence.{IsFull}
-use Rattle.gauss_jordan.specs.declared.state.Mood.TheVariants.{Broken}
-use Rattle.gauss_jordan.specs.State.{State}
+use Rattle.parity_engine.specs.declared.state.Mood.TheVariants.{Broken}
+use Rattle.parity_engine.specs.State.{State}
 use Rattle.cdcl_core.specs.declared.kept.Kept.{Kept}
 use Rattle.cdcl_core.specs.declared.propagation.Found.{Found}
 use Rattle.cdcl_core.specs.declared.propagation.Found.TheVariants.{Quiet}

@@ -16,7 +16,7 @@ use Rattle.clause_arena.specs.Clauses.{IsLive, literals_at, id_at}
 use Rattle.watch_lists.specs.Truths.{AreOthersFalse}
 use Rattle.watch_lists.specs.Watching.{Fits, IsAttached}
 use Rattle.search_policy.specs.Standing.{AllStand}
-use Rattle.gauss_jordan.specs.State.{State, Named, named_at, MeetsForm}
+use Rattle.parity_engine.specs.State.{State, Named, named_at, MeetsForm}
 use Rattle.search_steps.specs.Trail.{Entry, held, level_of}
 use Rattle.search_steps.specs.Quiet.{HasTrue}
 use Rattle.search_steps.specs.Search.{Search, IsSearch}

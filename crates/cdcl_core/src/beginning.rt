@@ -2,7 +2,7 @@
 ghost use Rattle.std.specs.Prelude.{◌≡◌, ◌+◌, ◌<◌, ◌≤◌, ℕ, [], length, drop, take, OnOk, IfOk, IfErr};
 ghost use Rattle.std.specs.List.{All};
 ghost use Rattle.cx_base.specs.Problem.{parities_of};
-ghost use Rattle.gauss_jordan.specs.State.{fresh};
+ghost use Rattle.parity_engine.specs.State.{fresh};
 ghost use Rattle.conflict_learn.specs.declared.fault.CoreFault.TheVariants.{Write};
 ghost use Rattle.conflict_learn.specs.Learning.{Rose};
 ghost use Rattle.cdcl_core.specs.Beginning.{Begins};
@@ -20,8 +20,8 @@ use crate::rows::copy_of;
 use conflict_learn::CoreFault;
 use cx_base::{ConstraintRef, Formula, Lit, LitList, ParityList};
 use cx_trail::{Reason, Truth};
-use gauss_jordan::ParityEngine;
 use log_text::LogSink;
+use parity_engine::ParityEngine;
 use std::alloc::{AllocError, Global};
 
 /// What the beginning of a search comes to.

@@ -12,7 +12,7 @@ ghost use Rattle.cx_trail.specs.Sequence.{IsFalseIn};
 ghost use Rattle.clause_arena.specs.Clauses.{IsLive, literals_at};
 ghost use Rattle.conflict_learn.specs.Learning.{Rose};
 ghost use Rattle.conflict_learn.specs.declared.fault.CoreFault.TheVariants.{Write};
-ghost use Rattle.gauss_jordan.specs.State.{AreRising};
+ghost use Rattle.parity_engine.specs.State.{AreRising};
 ghost use Rattle.cdcl_core.specs.Concluding.{Concludes};
 ghost use Rattle.cdcl_core.specs.Explaining.{Explains};
 ghost use Rattle.cdcl_core.specs.Finds.{Finds, IsClash};
@@ -28,8 +28,8 @@ use crate::source::stored;
 use conflict_learn::CoreFault;
 use cx_base::{ClauseRef, Formula, LitList, Row};
 use cx_semantics::LogStep;
-use gauss_jordan::ParityEngine;
 use log_text::LogSink;
+use parity_engine::ParityEngine;
 use std::alloc::{AllocError, Global};
 use xor_reason::{ReasonOf, reason_clause};
 

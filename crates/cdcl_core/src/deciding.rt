@@ -3,14 +3,14 @@ ghost use Rattle.std.specs.Prelude.{◌≡◌, ◌≢◌, ◌+◌, [], List, Opt
 ghost use Rattle.cx_semantics.specs.declared.steps.LogEvent.{LogEvent};
 ghost use Rattle.cx_semantics.specs.Settled.{Settled};
 ghost use Rattle.cx_trail.specs.Sequence.{IsFull};
-ghost use Rattle.gauss_jordan.specs.declared.state.Mood.TheVariants.{Broken};
+ghost use Rattle.parity_engine.specs.declared.state.Mood.TheVariants.{Broken};
 ghost use Rattle.cdcl_core.specs.Ties.{Stands};
 ghost use Rattle.cdcl_core.specs.Finds.{Finds};
 ghost use Rattle.cdcl_core.specs.declared.propagation.Found.TheVariants as found;
 
 use crate::kept::Kept;
 use cx_base::{Formula, Lit};
-use gauss_jordan::ParityEngine;
+use parity_engine::ParityEngine;
 
 /// Opens a level by a decision, where both engines are quiet; false where each variable is assigned.
 pub(crate) fn decide<P: ParityEngine>(formula: &Formula, kept: &mut Kept, engine: &mut P) -> bool

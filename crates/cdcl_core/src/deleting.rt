@@ -16,8 +16,8 @@ use crate::telling::tell_all;
 use conflict_learn::CoreFault;
 use cx_base::{Formula, LitList};
 use cx_semantics::LogStep;
-use gauss_jordan::ParityEngine;
 use log_text::LogSink;
+use parity_engine::ParityEngine;
 use std::alloc::{AllocError, Global};
 
 /// The deletions of so many clauses of rows, the newest first.

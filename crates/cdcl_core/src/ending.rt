@@ -19,8 +19,8 @@ use crate::telling::tell_all;
 use conflict_learn::CoreFault;
 use cx_base::Formula;
 use cx_semantics::LogStep;
-use gauss_jordan::ParityEngine;
 use log_text::LogSink;
+use parity_engine::ParityEngine;
 use std::alloc::Global;
 
 /// Tells the steps that end the log.

@@ -8,7 +8,7 @@ ghost use Rattle.cx_trail.specs.Sequence.{TrailState, TakesBack, IsOpenIn};
 ghost use Rattle.watch_lists.specs.Watching.{Fits};
 ghost use Rattle.watch_lists.specs.Attaching.{CanBeWatched, literal_at};
 ghost use Rattle.search_policy.specs.Standing.{AllStand};
-ghost use Rattle.gauss_jordan.specs.declared.state.Mood.TheVariants.{Broken};
+ghost use Rattle.parity_engine.specs.declared.state.Mood.TheVariants.{Broken};
 ghost use Rattle.search_steps.specs.Search.{Search, IsSearch, jumped};
 ghost use Rattle.cdcl_core.specs.Ties.{Stands, Ties};
 ghost use Rattle.cdcl_core.specs.Learning.{Learns};
@@ -18,7 +18,7 @@ use crate::kept::Kept;
 use conflict_learn::Learned;
 use cx_base::{Formula, Lit};
 use cx_trail::{Reason, Trail};
-use gauss_jordan::ParityEngine;
+use parity_engine::ParityEngine;
 use search_policy::Order;
 use std::alloc::{AllocError, Global};
 

@@ -23,8 +23,8 @@ use crate::telling::{tell_all, tell_mark};
 use conflict_learn::{CoreFault, Learned, analyse};
 use cx_base::{Formula, IntList, Lit, LitList};
 use cx_semantics::LogStep;
-use gauss_jordan::ParityEngine;
 use log_text::LogSink;
+use parity_engine::ParityEngine;
 use std::alloc::{AllocError, Global};
 
 /// The most clauses of rows between two marks.

@@ -10,7 +10,7 @@ ghost use Rattle.cdcl_core.specs.declared.propagation.Found.TheVariants as found
 use crate::kept::Kept;
 use cx_base::{Formula, Values, Var};
 use cx_trail::Trail;
-use gauss_jordan::ParityEngine;
+use parity_engine::ParityEngine;
 use std::alloc::{AllocError, Global};
 
 /// The value of an assigned variable.

@@ -4,15 +4,15 @@ ghost use Rattle.cx_base.specs.Problem.{Problem};
 ghost use Rattle.cx_semantics.specs.declared.steps.LogEvent.{LogEvent};
 ghost use Rattle.watch_lists.specs.Watching.{Fits};
 ghost use Rattle.watch_lists.specs.Events.{Happens};
-ghost use Rattle.gauss_jordan.specs.State.{State};
-ghost use Rattle.gauss_jordan.specs.declared.state.Mood.TheVariants.{Broken};
+ghost use Rattle.parity_engine.specs.State.{State};
+ghost use Rattle.parity_engine.specs.declared.state.Mood.TheVariants.{Broken};
 ghost use Rattle.cdcl_core.specs.Ties.{Stands};
 ghost use Rattle.cdcl_core.specs.Finds.{Finds, RowsSay, HasAll};
 
 use crate::kept::Kept;
 use cx_base::{ClauseRef, Formula, Row};
 use cx_trail::Reason;
-use gauss_jordan::{ParityEngine, ParityEvent};
+use parity_engine::{ParityEngine, ParityEvent};
 use watch_lists::Event;
 
 /// What propagation comes to.

@@ -9,7 +9,7 @@ ghost use Rattle.cx_semantics.specs.declared.steps.LogEvent.TheVariants.{Step};
 ghost use Rattle.cx_semantics.specs.declared.steps.LogStep.TheVariants as step;
 ghost use Rattle.conflict_learn.specs.declared.fault.CoreFault.TheVariants.{Write};
 ghost use Rattle.conflict_learn.specs.Learning.{IsAntecedent, Rose};
-ghost use Rattle.gauss_jordan.specs.State.{AreRising};
+ghost use Rattle.parity_engine.specs.State.{AreRising};
 ghost use Rattle.search_steps.specs.LogSteps.{row_events};
 ghost use Rattle.cdcl_core.specs.Explaining.{Explains, IsReasonOf};
 ghost use Rattle.cdcl_core.specs.Tells.{GivesUp, FaultsAs, IsId, as_events};
@@ -22,8 +22,8 @@ use crate::telling::tell_all;
 use conflict_learn::CoreFault;
 use cx_base::{Formula, IdList, Lit, LitList, Row};
 use cx_semantics::LogStep;
-use gauss_jordan::ParityEngine;
 use log_text::LogSink;
+use parity_engine::ParityEngine;
 use std::alloc::{AllocError, Global};
 use xor_reason::{ReasonOf, reason_clause};
 

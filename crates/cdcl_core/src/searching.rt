@@ -3,7 +3,7 @@ ghost use Rattle.std.specs.Prelude.{◌≡◌, ◌≢◌, ◌≤◌, [], length,
 ghost use Rattle.cx_semantics.specs.Settled.{Settled};
 ghost use Rattle.conflict_learn.specs.Learning.{Rose};
 ghost use Rattle.conflict_learn.specs.declared.fault.CoreFault.TheVariants.{Write};
-ghost use Rattle.gauss_jordan.specs.declared.state.Mood.TheVariants.{Broken};
+ghost use Rattle.parity_engine.specs.declared.state.Mood.TheVariants.{Broken};
 ghost use Rattle.cdcl_core.specs.Finds.{Finds};
 ghost use Rattle.cdcl_core.specs.Searching.{HasUnits, Decides, Reaches};
 ghost use Rattle.cdcl_core.specs.Tells.{GivesUp, FaultsAs};
@@ -16,8 +16,8 @@ use crate::propagation::{Found, propagate};
 use crate::units::tell_units;
 use conflict_learn::CoreFault;
 use cx_base::Formula;
-use gauss_jordan::ParityEngine;
 use log_text::LogSink;
+use parity_engine::ParityEngine;
 use std::alloc::Global;
 
 /// Tells the units that are not told yet, where the search is at level 0.

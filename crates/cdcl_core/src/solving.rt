@@ -25,8 +25,8 @@ use crate::rows::FIRST_ROW_ID;
 use crate::searching::search_on;
 use conflict_learn::CoreFault;
 use cx_base::{Formula, Values};
-use gauss_jordan::ParityEngine;
 use log_text::LogSink;
+use parity_engine::ParityEngine;
 use std::alloc::Global;
 
 /// What a search comes to.

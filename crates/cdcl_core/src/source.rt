@@ -8,7 +8,7 @@ ghost use Rattle.cx_trail.specs.Sequence.{entry_at};
 ghost use Rattle.clause_arena.specs.Clauses.{IsLive, literals_at};
 ghost use Rattle.conflict_learn.specs.Learning.{HasReason, IsAntecedent, Rose};
 ghost use Rattle.conflict_learn.specs.declared.fault.CoreFault.TheVariants.{Write};
-ghost use Rattle.gauss_jordan.specs.State.{State};
+ghost use Rattle.parity_engine.specs.State.{State};
 ghost use Rattle.cdcl_core.specs.Explaining.{IsReasonOf};
 ghost use Rattle.cdcl_core.specs.Sources.{IsSourced, counted};
 ghost use Rattle.cdcl_core.specs.Tells.{GivesUp, FaultsAs};
@@ -19,8 +19,8 @@ use crate::rows::{FIRST_ROW_ID, copy_of, tell_row};
 use conflict_learn::{Antecedents, CoreFault};
 use cx_base::{ClauseRef, Formula, Lit, LitList, Row};
 use cx_trail::Reason;
-use gauss_jordan::ParityEngine;
 use log_text::LogSink;
+use parity_engine::ParityEngine;
 use std::alloc::{AllocError, Global};
 
 /// A clause with its id in the log.

@@ -13,8 +13,8 @@ use crate::rows::FIRST_ROW_ID;
 use crate::source::{Hinted, clause_of_reason};
 use conflict_learn::CoreFault;
 use cx_base::{Formula, Lit, LitList};
-use gauss_jordan::ParityEngine;
 use log_text::LogSink;
+use parity_engine::ParityEngine;
 use std::alloc::Global;
 
 /// Tells the unit clause of the next literal, which this clause implied.

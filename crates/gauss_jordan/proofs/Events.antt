@@ -10,19 +10,24 @@ use Rattle.cx_base.specs.Literals.{Literal, differ, value_of}
 use Rattle.cx_base.specs.Problem.{AreWithin, parity_met}
 use Rattle.cx_base.specs.Parity.{NormalForm, normal_form}
 use Rattle.cx_base.proofs.ParityLaws.{Sums}
+use Rattle.cx_base.proofs.Differences.{differ_false, differ_itself}
+use Rattle.gf2_rows.proofs.Words.{differ_again}
 use Rattle.cx_semantics.specs.Chain.{has_literal}
 use Rattle.cx_semantics.specs.Forced.{Solves, Forced}
 use Rattle.gf2_rows.specs.Bits.{parity}
-use Rattle.gf2_matrix.specs.Equations.{Equation, has_term, total, MeetsEquation, form_of, sum_of_numbers, parity_number}
+use Rattle.parity_engine.specs.Equations.{Equation, has_term, form_of, sum_of_numbers, parity_number}
+use Rattle.gf2_matrix.specs.Totals.{total, MeetsEquation}
 use Rattle.gf2_matrix.proofs.Products.{products_turned, products_same}
-use Rattle.gf2_matrix.proofs.Forms.{contains-form, contains-form_zero, contains-sum_of_numbers, AreNumbers, every-at, sum_below-same, sum_met, meets_from_Sums}
-use Rattle.gf2_matrix.proofs.Literals.{contains_parity}
+use Rattle.parity_engine.proofs.Forms.{contains-form, contains-form_zero}
+use Rattle.gf2_matrix.proofs.FormSums.{contains-sum_of_numbers, AreNumbers, every-at, sum_below-same, sum_met, meets_from_Sums}
+use Rattle.parity_engine.proofs.Literals.{contains_parity}
 use Rattle.gauss_jordan.specs.Rows.{IsLinear, IsFinished, Agrees}
-use Rattle.gauss_jordan.specs.declared.state.Held.{Held}
-use Rattle.gauss_jordan.specs.State.{State, known, held_at, is_unassigned, IsImplied, IsBroken, AreRising, AgreesWith}
+use Rattle.parity_engine.specs.declared.state.Held.{Held}
+use Rattle.parity_engine.specs.State.{State, known, held_at, is_unassigned, IsImplied, IsBroken, AreRising, AgreesWith}
 use Rattle.gauss_jordan.specs.System.{just_value, part, has_at, equation_at, has_term_at, total_at, right_at, IsSystemOf, filled, IsWhole, IsUnit, SilentFromQuiet, ImpliedFromUnit, BrokenFromWhole}
 use Rattle.gauss_jordan.proofs.Quiet.{open_from_quiet}
-use Rattle.gauss_jordan.proofs.Known.{known_true, agrees_known, has_known, resized, length-resized, resized-at, all_met-resized, form_met, form_missed}
+use Rattle.parity_engine.proofs.Known.{own_sign, sign_from, known_true, agrees_known, has_known}
+use Rattle.gauss_jordan.proofs.Resized.{resized, length-resized, resized-at, all_met-resized, form_met, form_missed}
 
 -- ---- the part
 pub part-at : (s : State) (x : ℕ) → get_or (part s) x None ≡ just_value (get_or s.values x None)
@@ -108,34 +113,12 @@ module _ (s : State) (rows : List Equation) (within : AllByRecursion (AreWithin 
           ap (λ y. is_unassigned (get_or s.values y None)) r
           ∙ whole x (sym (contains-form (equation_at rows i) x) ∙ ap (set.contains (form_of (equation_at rows i)).variables) (sym q) ∙ has)
 
-differ-true' : (b : Bool) → differ b true ≡ not b
-differ-true' true = refl
-differ-true' false = refl
-
-differ-none' : (b : Bool) → differ b false ≡ b
-differ-none' true = refl
-differ-none' false = refl
-
 -- a row whose one unassigned value is y
 unit_met : (known y right : Bool) → differ known y ≡ right → differ (not (differ known right)) y ≡ true
-unit_met true true true h = cc
-unit_met true true false h = refl
-unit_met true false true h = refl
-unit_met true false false h = cc
-unit_met false true true h = refl
-unit_met false true false h = cc
-unit_met false false true h = cc
-unit_met false false false h = refl
+unit_met known y right is = ap (λ d. differ (not d) y) (ap (differ known) (sym is) ∙ differ_again known y) ∙ own_sign y
 
 unit_back : (known y right : Bool) → differ (not (differ known right)) y ≡ true → differ known y ≡ right
-unit_back true true true h = cc
-unit_back true true false h = refl
-unit_back true false true h = refl
-unit_back true false false h = cc
-unit_back false true true h = refl
-unit_back false true false h = cc
-unit_back false false true h = cc
-unit_back false false false h = refl
+unit_back known y right h = ap (differ known) (sign_from (differ known right) y h) ∙ differ_again known right
 
 module _ (s : State) (e : Equation) (wide : length s.values ≡ s.vars) (long_e : length e.terms ≡ s.vars)
     (within : AllByRecursion (AreWithin s.vars) s.parities)
@@ -168,7 +151,7 @@ module _ (s : State) (e : Equation) (wide : length s.values ≡ s.vars) (long_e 
               | inl q ↦ subst (λ z. get_or v z false ≡ get_or f z false) (sym q) (is ∙ sym open_x)
               | inr ne ↦ same_where_assigned s v y agrees (unit.others y ne has)
             ])
-            ∙ sym (differ-none' (total e f))
+            ∙ sym (differ_false (total e f))
       ] in
       cases (get_or v x false) refl
 
@@ -208,10 +191,6 @@ module _ (s : State) (e : Equation) (wide : length s.values ≡ s.vars) (long_e 
         ∙ unit_back (total e (filled s)) (get_or w x false) (e.right) (ap (differ (not (differ (total e (filled s)) e.right))) (own_value v) ∙ true'));
   }
 
-differ-self : (b : Bool) → differ b b ≡ false
-differ-self true = refl
-differ-self false = refl
-
 held_cases : (b h : Bool) → (h ≡ not b) ⊎ (h ≡ b)
 held_cases true true = inr refl
 held_cases true false = inl refl
@@ -239,10 +218,10 @@ silent_from_quiet s rows basic other wide system quiet =
           (λ h is same.
           let v : List Bool = opened.0.0 in
           let at : get_or v (l.variable - 1) false ≡ l.negative = opened.0.1.agrees (l.variable - 1) h.value (part-at s (l.variable - 1) ∙ ap just_value is) ∙ same in
-          true≢false (sym (f v first) ∙ ap (differ l.negative) at ∙ differ-self l.negative))
+          true≢false (sym (f v first) ∙ ap (differ l.negative) at ∙ differ_itself l.negative))
           (λ is.
           let one = opened.1 (l.variable - 1) l.negative (omega arith) (part-at s (l.variable - 1) ∙ ap just_value is) in
-          true≢false (sym (f one.0 (solves one.0 one.1.long one.1.agrees one.1.meets)) ∙ ap (differ l.negative) one.2 ∙ differ-self l.negative));
+          true≢false (sym (f one.0 (solves one.0 one.1.long one.1.agrees one.1.meets)) ∙ ap (differ l.negative) one.2 ∙ differ_itself l.negative));
     }
   where
     held_or_open : (s : State) (l : Literal) → 1 ≤ l.variable → (o : Option Held) → get_or s.values (l.variable - 1) None ≡ o

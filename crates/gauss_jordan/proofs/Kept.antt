@@ -2,18 +2,21 @@
 use Rattle.std.proofs.Common.{zero, suc, ◌≡◌, ◌≢◌, ℕ, ◌-◌, ◌<◌, ◌≤◌, Bool, true, false, cond, not, ◌&&◌, nat_le, List, map, length, get_or, set, Option, Some, None, inl, inr, true≢false, refl, sym, ap, ◌∙◌, subst, arith}
 use Rattle.std.proofs.Math.ListN.{get_or-map, length-set, get_or-eq_default}
 use Rattle.std.proofs.lemmas.List.{length-map, get_or-set_same, get_or-set_other, ext_get_or}
-use Rattle.std.proofs.lemmas.Bool.{cases_eq, cases_lt, le-leb, lt-leb, leb-true}
+use Rattle.std.proofs.lemmas.Option.{same_Some}
+use Rattle.std.proofs.lemmas.Bool.{cases_eq, cases_lt, le-leb, lt-leb, leb-true, not-true}
 use Rattle.std.specs.Prelude.{replicate, ◌+◌}
 use Rattle.std.proofs.lemmas.Simd.{length-replicate}
 use Rattle.std.specs.List.{AllByRecursion}
 use Rattle.cx_base.specs.Literals.{Literal}
 use Rattle.cx_base.specs.Problem.{AreWithin}
-use Rattle.gauss_jordan.specs.State.{fresh}
-use Rattle.gauss_jordan.specs.declared.state.Held.{Held}
-use Rattle.gauss_jordan.specs.declared.state.Mood.TheVariants.{Busy, Calm, Broken}
-use Rattle.gauss_jordan.specs.State.{State, Named, keep, keep_named, is_unassigned, IsSilent, IsBroken, IsNamedNow, assigned, pushed, back, names}
+use Rattle.cx_semantics.proofs.ChainLaws.{and_parts}
+use Rattle.parity_engine.specs.State.{fresh}
+use Rattle.parity_engine.specs.declared.state.Held.{Held}
+use Rattle.parity_engine.specs.declared.state.Mood.{Mood}
+use Rattle.parity_engine.specs.declared.state.Mood.TheVariants.{Busy, Calm, Broken}
+use Rattle.parity_engine.specs.State.{State, Named, keep, keep_named, is_unassigned, IsSilent, IsBroken, IsNamedNow, assigned, pushed, back, names}
 use Rattle.gauss_jordan.specs.System.{has_at, IsUnit}
-use Rattle.gauss_jordan.proofs.Known.{known_value}
+use Rattle.parity_engine.proofs.Known.{known_value}
 use Rattle.gauss_jordan.proofs.Events.{implied_by_sum}
 use Rattle.gauss_jordan.specs.Levels.{at_level, LowerLevelsStay}
 use Rattle.gauss_jordan.specs.Right.{IsSummed}
@@ -70,9 +73,6 @@ silent_same s t ev ep es silent =
     let made2 : IsSilent (record s { vars = t.vars; parities = t.parities }) = subst (λ q. IsSilent (record s { vars = t.vars; parities = q })) ep (made t.vars ev) in
     let made3 : IsSilent (record s { vars = t.vars; parities = t.parities; values = t.values }) = subst (λ q. IsSilent (record s { vars = t.vars; parities = t.parities; values = q })) es made2 in
     record { consistent = made3.consistent; forced = made3.forced }
-
-some_is : (h g : Held) → (let o : Option Held = Some h in o) ≡ Some g → h ≡ g
-some_is h g e = cc
 
 -- where nothing follows no row is pending
 no_pending : (columns : List ℕ) (s : State) → IsRight columns s → IsSilent s → (k : ℕ) (n : Named) → k < length columns → get_or s.named k None ≡ Some n
@@ -138,7 +138,7 @@ right_assigned columns s v b right low high free whole =
           elim (cases_eq y x) [
             | inl e ↦
                 let same : Some h ≡ Some g = sym at ∙ ap (λ z. get_or (set s.values x (Some h)) z None) (sym e) ∙ is in
-                let hg : h ≡ g = some_is h g same in
+                let hg : h ≡ g = same_Some h g same in
                 subst (λ (q : Held). q.level ≤ s.level) hg (omega arith)
             | inr ne ↦ right.levels y g (sym (values y ne) ∙ is)
           ];
@@ -183,22 +183,13 @@ chosen : {A : Type 0} (b : Bool) (m n : A) → (cond b (Some m) None ≡ Some n)
 chosen true m n is = (refl, cc)
 chosen false m n is = cc
 
-both : (a b : Bool) → (a && b) ≡ true → (a ≡ true) × (b ≡ true)
-both true true h = (refl, refl)
-both true false h = cc
-both false b h = cc
-
-not_true : (b : Bool) → not b ≡ true → b ≡ false
-not_true true h = cc
-not_true false h = refl
-
 kept_some : (l : ℕ) (o : Option Named) (n : Named) → keep_named l o ≡ Some n → (o ≡ Some n) × (n.in_conflict ≡ false) × (n.level ≤ l)
 kept_some l None n is = cc
 kept_some l (Some m) n is =
     let pick = chosen (not m.in_conflict && nat_le m.level l) m n is in
-    let parts = both (not m.in_conflict) (nat_le m.level l) pick.0 in (
+    let parts = and_parts (not m.in_conflict) (nat_le m.level l) pick.0 in (
       ap (λ (q : Named). let o : Option Named = Some q in o) pick.1,
-      subst (λ (q : Named). q.in_conflict ≡ false) pick.1 (not_true m.in_conflict parts.0),
+      subst (λ (q : Named). q.in_conflict ≡ false) pick.1 (not-true m.in_conflict parts.0),
       subst (λ (q : Named). q.level ≤ l) pick.1 (leb-true m.level l parts.1),
     )
 
@@ -207,9 +198,6 @@ kept_held l None h is = cc
 kept_held l (Some g) h is =
     let pick = chosen (nat_le g.level l) g h is in
     subst (λ (q : Held). q.level ≤ l) pick.1 (leb-true g.level l pick.0)
-
-same_named : (m n : Named) → (let o : Option Named = Some m in o) ≡ Some n → m ≡ n
-same_named m n e = cc
 
 pub right_back : (columns : List ℕ) (s : State) (l : ℕ) → IsRight columns s → l < s.level → IsRight columns (back l s)
 right_back columns s l right lt = record {
@@ -242,7 +230,7 @@ right_back columns s l right lt = record {
   clash = λ n is.
       let old = kept_some l (get_or s.named (length columns) None) n (sym (get_or-map (keep_named l) s.named (length columns) None) ∙ is) in
       let b = right.broken (right.clash n old.0) in
-      let same : b.0 ≡ n = same_named b.0 n (sym b.1 ∙ old.0) in
+      let same : b.0 ≡ n = same_Some b.0 n (sym b.1 ∙ old.0) in
       let yes : n.in_conflict ≡ true = subst (λ (q : Named). q.in_conflict ≡ true) same b.2 in
       absurd (let e : true ≡ false = sym yes ∙ old.1 in cc);
   broken = λ is. absurd (let e : Calm ≡ Broken = is in cc);
@@ -265,6 +253,36 @@ right_quiet columns s right whole silent = record {
   calm = λ is. record { consistent = silent.consistent; forced = silent.forced };
 }
 
+-- a row that is named, where the event leaves what its kind asks for
+right_named : (columns : List ℕ) (s : State) (row : ℕ) (n : Named) (mood : Mood) → IsRight columns s → row ≤ length columns
+    → (row < length columns → IsReason (names s row n mood) n (column_at columns row))
+    → ((m : Named) → get_or (set s.named row (Some n)) (length columns) None ≡ Some m → mood ≡ Broken)
+    → (mood ≡ Broken
+    → (m : Named) × (get_or (set s.named row (Some n)) (length columns) None ≡ Some m) × (m.in_conflict ≡ true) × (m.level ≡ s.level) × IsSummed s m × IsBroken (names s row n mood) m.form)
+    → (mood ≡ Calm → ⊥) → IsRight columns (names s row n mood)
+right_named columns s row n mood right low own clash broken restless =
+    let inside : row < length s.named = let r = right.rows in omega arith in
+    record {
+      within = right.within;
+      wide = right.wide;
+      rows = length-set s.named row (Some n) ∙ right.rows;
+      levels = right.levels;
+      settled = λ p lt. let old = right.settled p lt in record { consistent = old.consistent; forced = old.forced };
+      reasons = λ j m lt is.
+          elim (cases_eq j row) [
+            | inl e ↦
+                let same : n ≡ m = same_Some n m (sym (get_or-set_same s.named row (Some n) None inside) ∙ ap (λ i. get_or (set s.named row (Some n)) i None) (sym e) ∙ is) in
+                subst (λ (q : Named). IsReason (names s row n mood) q (column_at columns j)) same
+                (subst (λ i. IsReason (names s row n mood) n (column_at columns i)) (sym e) (own (omega arith)))
+            | inr ne ↦
+                let r = right.reasons j m lt (sym (get_or-set_other s.named row j (Some n) None ne) ∙ is) in
+                record { in_conflict = r.in_conflict; level = r.level; within_vars = r.within_vars; has = r.has; summed = r.summed; stands = r.stands }
+          ];
+      clash = clash;
+      broken = broken;
+      calm = λ is. absurd (restless is);
+    }
+
 -- a row that is named for its one unassigned variable
 pub right_implied : (columns : List ℕ) (s : State) (row : ℕ) (n : Named) → IsRight columns s → s.mood ≢ Broken → row < length columns
     → IsNamedNow s n false → column_at columns row < s.vars → has_at n.form (column_at columns row) ≡ true
@@ -272,63 +290,34 @@ pub right_implied : (columns : List ℕ) (s : State) (row : ℕ) (n : Named) →
     → ((y : ℕ) → y ≢ column_at columns row → has_at n.form y ≡ true → is_unassigned (get_or s.values y None) ≡ false)
     → IsRight columns (names s row n Busy)
 right_implied columns s row n right whole in' now within has_x free others =
-    let k : ℕ = row in
-    let inside : k < length s.named = let r = right.rows in omega arith in
-    record {
-      within = right.within;
-      wide = right.wide;
-      rows = length-set s.named k (Some n) ∙ right.rows;
-      levels = right.levels;
-      settled = λ p lt. let old = right.settled p lt in record { consistent = old.consistent; forced = old.forced };
-      reasons = λ j m lt is.
-          elim (cases_eq j k) [
-            | inl e ↦
-                let same : n ≡ m = same_named n m (sym (get_or-set_same s.named k (Some n) None inside) ∙ ap (λ i. get_or (set s.named k (Some n)) i None) (sym e) ∙ is) in
-                subst (λ (q : Named). IsReason (names s row n Busy) q (column_at columns j)) same
-                (subst (λ i. IsReason (names s row n Busy) n (column_at columns i)) (sym e)
-                (record {
-                  in_conflict = now.kind_is;
-                  level = let l = now.level_is in omega arith;
-                  within_vars = within;
-                  has = has_x;
-                  summed = (now.numbers, now.sums);
-                  stands = inr (now.level_is, free, others);
-                }))
-            | inr ne ↦
-                let r = right.reasons j m lt (sym (get_or-set_other s.named k j (Some n) None ne) ∙ is) in
-                record { in_conflict = r.in_conflict; level = r.level; within_vars = r.within_vars; has = r.has; summed = r.summed; stands = r.stands }
-          ];
-      clash = λ m is. absurd (whole (right.clash m (sym (get_or-set_other s.named k (length columns) (Some n) None (λ e. omega arith)) ∙ is)));
-      broken = λ is. absurd (let e : Busy ≡ Broken = is in cc);
-      calm = λ is. absurd (let e : Busy ≡ Calm = is in cc);
-    }
+    right_named columns s row n Busy right (omega arith)
+    (λ _. record {
+      in_conflict = now.kind_is;
+      level = let l = now.level_is in omega arith;
+      within_vars = within;
+      has = has_x;
+      summed = (now.numbers, now.sums);
+      stands = inr (now.level_is, free, others);
+    })
+    (λ m is. absurd (whole (right.clash m (sym (get_or-set_other s.named row (length columns) (Some n) None (λ e. omega arith)) ∙ is))))
+    (λ is. absurd (let e : Busy ≡ Broken = is in cc))
+    (λ is. let e : Busy ≡ Calm = is in cc)
 
 -- a row that is named for a contradiction, in the last place
 pub right_broken : (columns : List ℕ) (s : State) (row : ℕ) (n : Named) → IsRight columns s → row ≡ length columns
     → IsNamedNow s n true → IsBroken s n.form → IsRight columns (names s row n Broken)
 right_broken columns s row n right at now clashes =
-    let k : ℕ = row in
-    let inside : k < length s.named = let r = right.rows in omega arith in
-    record {
-      within = right.within;
-      wide = right.wide;
-      rows = length-set s.named k (Some n) ∙ right.rows;
-      levels = right.levels;
-      settled = λ p lt. let old = right.settled p lt in record { consistent = old.consistent; forced = old.forced };
-      reasons = λ j m lt is.
-          let r = right.reasons j m lt (sym (get_or-set_other s.named k j (Some n) None (λ e. omega arith)) ∙ is) in
-          record { in_conflict = r.in_conflict; level = r.level; within_vars = r.within_vars; has = r.has; summed = r.summed; stands = r.stands };
-      clash = λ m is. refl;
-      broken = λ is. (
-        n,
-        ap (λ i. get_or (set s.named k (Some n)) i None) (sym at) ∙ get_or-set_same s.named k (Some n) None inside,
-        now.kind_is,
-        now.level_is,
-        (now.numbers, now.sums),
-        record { none = clashes.none; whole = clashes.whole; unmet = clashes.unmet },
-      );
-      calm = λ is. absurd (let e : Broken ≡ Calm = is in cc);
-    }
+    let inside : row < length s.named = let r = right.rows in omega arith in
+    right_named columns s row n Broken right (omega arith) (λ lt. absurd (omega arith)) (λ m is. refl)
+    (λ is. (
+      n,
+      ap (λ i. get_or (set s.named row (Some n)) i None) (sym at) ∙ get_or-set_same s.named row (Some n) None inside,
+      now.kind_is,
+      now.level_is,
+      (now.numbers, now.sums),
+      record { none = clashes.none; whole = clashes.whole; unmet = clashes.unmet },
+    ))
+    (λ is. let e : Broken ≡ Calm = is in cc)
 
 pub lower_levels_stay : LowerLevelsStay
 lower_levels_stay s p = (
@@ -348,7 +337,7 @@ summed columns s k n right is =
             | inl e ↦
                 let at : get_or s.named (length columns) None ≡ Some n = ap (λ i. get_or s.named i None) (sym e) ∙ is in
                 let b = right.broken (right.clash n at) in
-                subst (IsSummed s) (same_named b.0 n (sym b.1 ∙ at)) b.4
+                subst (IsSummed s) (same_Some b.0 n (sym b.1 ∙ at)) b.4
             | inr ne ↦
                 let out : length s.named ≤ k = let r = right.rows in omega arith in
                 absurd (let clash : None ≡ Some n = sym (get_or-eq_default s.named None out) ∙ is in cc)

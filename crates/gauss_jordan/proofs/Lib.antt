@@ -1,5 +1,5 @@
 pub mod Quiet
-pub mod Known
+pub mod Resized
 pub mod Events
 pub mod Kept
 pub mod RowKinds

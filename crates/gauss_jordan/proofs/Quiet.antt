@@ -4,11 +4,9 @@ use Rattle.std.proofs.lemmas.List.{get_or-set_same, get_or-set_other, length-map
 use Rattle.std.proofs.Math.ListN.{length-set, get_or-map}
 use Rattle.std.proofs.lemmas.Bool.{cases_eq}
 use Rattle.cx_base.specs.Literals.{differ}
+use Rattle.cx_base.proofs.Differences.{differ_false}
+use Rattle.gf2_rows.proofs.Words.{differ_twice}
 use Rattle.gauss_jordan.specs.Rows.{value_at, part_at, Agrees, IsLinear, IsFinished, IsUnfinished, IsQuiet, IsSolution, IsOpen}
-
-true_or_false : (b : Bool) → (b ≡ true) ⊎ (b ≡ false)
-true_or_false true = inl refl
-true_or_false false = inr refl
 
 -- two bits that differ
 unlike : (a b : Bool) → (a ≡ b → ⊥) → differ a true ≡ b
@@ -28,14 +26,6 @@ not_same true true h = absurd (h refl)
 not_same true false h = refl
 not_same false true h = refl
 not_same false false h = absurd (h refl)
-
-differ-none : (b : Bool) → differ b false ≡ b
-differ-none true = refl
-differ-none false = refl
-
-differ-twice : (b : Bool) → differ (differ b true) true ≡ b
-differ-twice true = refl
-differ-twice false = refl
 
 -- the value turned over at a position
 turn : List Bool → ℕ → List Bool
@@ -83,7 +73,7 @@ module _ (rows width : ℕ) (has : ℕ → ℕ → Bool) (total : ℕ → List B
   turned_other : (n m : ℕ) (w : List Bool) → length w ≡ width → IsUnfinished rows width has part n (basic n) (other n) → m < rows → m ≢ n
       → total m (turn w (basic n)) ≡ total m w
   turned_other n m w long u lt ne =
-      total-turn m (basic n) w lt long u.basic_in ∙ ap (differ (total m w)) (u.alone m lt ne) ∙ differ-none (total m w)
+      total-turn m (basic n) w lt long u.basic_in ∙ ap (differ (total m w)) (u.alone m lt ne) ∙ differ_false (total m w)
 
   record Solved (n : ℕ) (w : List Bool) : Type 0 where
     long : length w ≡ width
@@ -203,7 +193,7 @@ module _ (rows width : ℕ) (has : ℕ → ℕ → Bool) (total : ℕ → List B
               let has_x : has i x ≡ true = subst (λ k. has i k ≡ true) found.2 u.has_basic in
               let met : total i w ≡ right i =
               total-turn i (other i) t found.1 long u.other_in ∙ ap (λ h. differ (total i t) h) u.has_other
-              ∙ ap (λ h. differ h true) (total-turn i x s found.1 is.long in' ∙ ap (λ h. differ (total i s) h) has_x) ∙ differ-twice (total i s) ∙ is.meets i found.1 in
+              ∙ ap (λ h. differ h true) (total-turn i x s found.1 is.long in' ∙ ap (λ h. differ (total i s) h) has_x) ∙ differ_twice (total i s) true ∙ is.meets i found.1 in
               let guards : (m : ℕ) → m < rows → basic m ≡ x → total m w ≡ right m =
               λ m small e.
               elim (cases_eq m i) [

@@ -1,46 +1,39 @@
 -- From the masks of columns to what follows from the parities.
-use Rattle.std.proofs.Common.{◌≡◌, ◌≢◌, ℕ, ◌+◌, ◌-◌, ◌*◌, ◌<◌, ◌≤◌, zero, suc, Bool, true, false, not, List, [], ◌∷◌, map, length, get_or, Some, None, ◌⊎◌, inl, inr, refl, sym, ap, ◌∙◌, subst, arith}
+use Rattle.std.proofs.Common.{◌≡◌, ◌≢◌, ℕ, ◌+◌, ◌-◌, ◌*◌, ◌<◌, zero, suc, Bool, true, false, not, List, [], ◌∷◌, map, length, get_or, Some, None, ◌⊎◌, inl, inr, refl, sym, ap, ◌∙◌, subst, arith}
 use Rattle.std.specs.List.{list_all, AllByRecursion}
 use Rattle.std.proofs.lemmas.Bool.{cases_eq, cases_lt, ne_eqb, eqb-false}
 use Rattle.std.proofs.lemmas.List.{length-map, get_or-map}
 use Rattle.std.specs.Slice.Scan.{HoldsNowhere}
-use mathlib.Core.Bool.{beq}
 use Rattle.cx_base.specs.Literals.{differ}
 use Rattle.cx_base.specs.Problem.{AreWithin, parity_met}
+use Rattle.cx_base.proofs.Differences.{same-differ}
+use Rattle.parity_engine.proofs.Columns.{column-low, column-high}
 use Rattle.gf2_rows.specs.Bits.{bit_of, is_outside}
-use Rattle.gf2_matrix.specs.Equations.{Equation, has_term, total, MeetsEquation, form_of}
-use Rattle.gf2_matrix.specs.Content.{Content, no_row, row_at, equation, form, has, IsOpenAt, IsReducedRow, IsOfGiven, AreBitsOf, AreColumns}
+use Rattle.parity_engine.specs.Equations.{Equation, has_term, form_of}
+use Rattle.gf2_matrix.specs.Totals.{total, MeetsEquation}
+use Rattle.gf2_matrix.specs.Content.{Content, no_row, row_at, equation, form, has, IsOpenAt, IsReducedRow, IsOfGiven, AreBitsOf}
+use Rattle.parity_engine.specs.Columns.{AreColumns}
 use Rattle.gf2_matrix.proofs.Reduce.{found_open, none_open}
 use Rattle.gauss_jordan.specs.declared.found.RowKind.TheVariants.{Met, Unmet, Unit, Open}
 use Rattle.gauss_jordan.specs.Rows.{IsFinished, IsUnfinished, part_at}
-use Rattle.gauss_jordan.specs.State.{State, is_unassigned, IsSilent, IsImplied, IsBroken}
+use Rattle.parity_engine.specs.State.{State, is_unassigned, IsSilent, IsImplied, IsBroken}
 use Rattle.gauss_jordan.specs.System.{part, equation_at, has_term_at, total_at, right_at, IsSystemOf, filled, IsWhole, IsUnit}
 use Rattle.gauss_jordan.specs.Found.{IsClosed, IsClosedBut, SumsTo, IsKind, IsMasked}
 use Rattle.gauss_jordan.proofs.Events.{silent_from_quiet, implied_from_unit, broken_from_whole, finished_from_whole, part-at, none_from, length-filled}
 
 -- ---- columns
-columns-least : (least vars : ℕ) (cols : List ℕ) (k : ℕ) → AreColumns least vars cols → k < length cols → least ≤ get_or cols k 0
-columns-least least vars [] k rise lt = absurd (omega arith)
-columns-least least vars (c ∷ cs) zero rise lt = rise.0
-columns-least least vars (c ∷ cs) (suc k) rise lt = let h = columns-least (c + 1) vars cs k rise.2 (omega arith) in let g = rise.0 in omega arith
-
-columns-most : (least vars : ℕ) (cols : List ℕ) (k : ℕ) → AreColumns least vars cols → k < length cols → get_or cols k 0 ≤ vars
-columns-most least vars [] k rise lt = absurd (omega arith)
-columns-most least vars (c ∷ cs) zero rise lt = rise.1
-columns-most least vars (c ∷ cs) (suc k) rise lt = columns-most (c + 1) vars cs k rise.2 (omega arith)
-
 columns-apart : (least vars : ℕ) (cols : List ℕ) (j k : ℕ) → AreColumns least vars cols → j < k → k < length cols → get_or cols j 0 < get_or cols k 0
 columns-apart least vars [] j k rise jk lt = absurd (omega arith)
 columns-apart least vars (c ∷ cs) zero zero rise jk lt = absurd (omega arith)
-columns-apart least vars (c ∷ cs) zero (suc k) rise jk lt = let h = columns-least (c + 1) vars cs k rise.2 (omega arith) in omega arith
+columns-apart least vars (c ∷ cs) zero (suc k) rise jk lt = let h = column-low (c + 1) vars cs k rise.2 (omega arith) in omega arith
 columns-apart least vars (c ∷ cs) (suc j) zero rise jk lt = absurd (omega arith)
 columns-apart least vars (c ∷ cs) (suc j) (suc k) rise jk lt = columns-apart (c + 1) vars cs j k rise.2 (omega arith) (omega arith)
 
 -- different columns are different variables
 columns-differ : (vars : ℕ) (cols : List ℕ) (j k : ℕ) → AreColumns 1 vars cols → j < length cols → k < length cols → j ≢ k → get_or cols j 0 - 1 ≢ get_or cols k 0 - 1
 columns-differ vars cols j k rise jl kl ne e =
-    let lowj = columns-least 1 vars cols j rise jl in
-    let lowk = columns-least 1 vars cols k rise kl in
+    let lowj = column-low 1 vars cols j rise jl in
+    let lowk = column-low 1 vars cols k rise kl in
     elim (cases_lt j k) [
       | inl lt ↦ let h = columns-apart 1 vars cols j k rise lt kl in omega arith
       | inr ge ↦ let h = columns-apart 1 vars cols k j rise (omega arith) jl in omega arith
@@ -136,12 +129,6 @@ module _ (c : Content) (of_given : IsOfGiven c) (assigned truths : List ℕ) (s 
       subst (λ (e : Equation). differ (total e (filled s)) e.right ≡ b) (sym (row-is i lt))
       (sums (filled s) (length-filled s ∙ masked.wide ∙ masked.vars) masked.holds)
 
-  differ-equal : (a b : Bool) → differ a b ≡ false → a ≡ b
-  differ-equal true true h = refl
-  differ-equal true false h = h
-  differ-equal false true h = sym h
-  differ-equal false false h = refl
-
   differ-unlike : (a b : Bool) → differ a b ≡ true → a ≡ b → ⊥
   differ-unlike true true h e = let clash : true ≡ false = sym h in cc
   differ-unlike true false h e = let clash : true ≡ false = e in cc
@@ -151,12 +138,12 @@ module _ (c : Content) (of_given : IsOfGiven c) (assigned truths : List ℕ) (s 
   finished : (i : ℕ) → i < length c.rows → IsKind c assigned truths i Met → IsFinished s.vars (total_at rows) (right_at rows) (part s) i
   finished i lt kind =
       finished_from_whole s rows within masked.wide system i (omega (arith, length-rows)) (whole i lt kind.0)
-      (differ-equal (total_at rows i (filled s)) (right_at rows i) (filled_sum i false lt kind.1))
+      (same-differ (total_at rows i (filled s)) (right_at rows i) (filled_sum i false lt kind.1))
 
   in_vars : (x : ℕ) → IsOpenAt c assigned x → x < s.vars
   in_vars x o =
-      let low = columns-least 1 c.vars c.columns o.0 of_given.columns_rise o.1 in
-      let high = columns-most 1 c.vars c.columns o.0 of_given.columns_rise o.1 in
+      let low = column-low 1 c.vars c.columns o.0 of_given.columns_rise o.1 in
+      let high = column-high 1 c.vars c.columns o.0 of_given.columns_rise o.1 in
       let at = o.3 in
       let v = masked.vars in
       omega arith
@@ -216,7 +203,7 @@ module _ (c : Content) (of_given : IsOfGiven c) (assigned truths : List ℕ) (s 
   implied r k b lt kind =
       let x : ℕ = get_or c.columns k 0 - 1 in
       let o : IsOpenAt c assigned x = (k, kind.0, kind.1, refl) in
-      let low = columns-least 1 c.vars c.columns k of_given.columns_rise kind.0 in
+      let low = column-low 1 c.vars c.columns k of_given.columns_rise kind.0 in
       let at : x + 1 ≡ get_or c.columns k 0 = omega arith in
       let unit : IsUnit s (has_term (equation_at rows r)) x =
       subst (λ (e : Equation). IsUnit s (has_term e) x) (sym (row-is r lt))
@@ -230,12 +217,6 @@ module _ (c : Content) (of_given : IsOfGiven c) (assigned truths : List ℕ) (s 
       subst (λ v. IsImplied s (record { variable = v; negative = not b }) (form (row_at c.rows r))) at
       (subst (λ d. IsImplied s (record { variable = x + 1; negative = not d }) (form (row_at c.rows r))) (filled_sum r b lt kind.4)
       (subst (λ (e : Equation). IsImplied s (record { variable = x + 1; negative = not (differ (total_at rows r (filled s)) (right_at rows r)) }) (form_of e)) (row-is r lt) made))
-
-pub differ-beq : (a b : Bool) → not (beq a b) ≡ differ a b
-differ-beq true true = refl
-differ-beq true false = refl
-differ-beq false true = refl
-differ-beq false false = refl
 
 -- ---- the loop over the rows
 pub one_more : (c : Content) (assigned truths : List ℕ) (r : ℕ) → IsKind c assigned truths r Met ⊎ IsKind c assigned truths r Open

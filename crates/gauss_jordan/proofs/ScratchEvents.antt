@@ -11,21 +11,26 @@ use Rattle.cx_base.specs.Literals.{Literal, differ}
 use Rattle.cx_base.specs.declared.literal.TheConstants.{MAX_VARIABLE}
 use Rattle.cx_base.specs.Problem.{AreWithin}
 use Rattle.gf2_rows.specs.Bits.{bit_of}
-use Rattle.gf2_matrix.specs.Equations.{Equation, total, form_of, numbers_from, sum_of_numbers}
-use Rattle.gf2_matrix.specs.Content.{Content, SourcedRow, IsOfGiven, IsSameShape, row_at, form, source_numbers, sources_of, words_for, place}
-use Rattle.gf2_matrix.specs.Views.{viewed, viewed_form}
+use Rattle.parity_engine.specs.Equations.{Equation, form_of, numbers_from, sum_of_numbers}
+use Rattle.gf2_matrix.specs.Totals.{total}
+use Rattle.gf2_matrix.specs.Content.{Content, IsOfGiven, IsSameShape, row_at, form, source_numbers, sources_of}
+use Rattle.parity_engine.specs.Views.{words_for}
+use Rattle.parity_engine.specs.Columns.{place}
+use Rattle.parity_engine.specs.Views.{viewed, viewed_form}
 use Rattle.gf2_matrix.proofs.ColumnSums.{packed_sum}
 use Rattle.gauss_jordan.specs.declared.slot.Slot.{Slot}
 use Rattle.gauss_jordan.specs.declared.slot.Naming.{Naming}
-use Rattle.gauss_jordan.specs.declared.state.Held.{Held}
-use Rattle.gauss_jordan.specs.declared.state.Mood.{Mood}
-use Rattle.gauss_jordan.specs.declared.state.Mood.TheVariants.{Busy, Calm, Broken}
-use Rattle.gauss_jordan.specs.State.{State, Named, is_unassigned, IsSilent, IsImplied, IsBroken, IsNamedNow, IsSameNamed, AreRising, fresh, names, named_at}
+use Rattle.parity_engine.specs.declared.state.Held.{Held}
+use Rattle.parity_engine.specs.declared.state.Mood.{Mood}
+use Rattle.parity_engine.specs.declared.state.Mood.TheVariants.{Busy, Calm, Broken}
+use Rattle.parity_engine.specs.State.{State, Named, is_unassigned, IsSilent, IsImplied, IsBroken, IsNamedNow, IsSameNamed, AreRising, fresh, names, named_at}
 use Rattle.gauss_jordan.specs.System.{just_value, has_at, filled, IsUnit}
-use Rattle.gauss_jordan.specs.Found.{IsMasked}
+use Rattle.gauss_jordan.specs.declared.found.Found.TheVariants as found
+use Rattle.gauss_jordan.specs.Found.{IsMasked, Says}
 use Rattle.gauss_jordan.specs.Right.{IsRight, column_at}
 use Rattle.gauss_jordan.specs.Slots.{named_as, named_of, state_of, value_or_false, AreMasks, IsSlotOf, IsEmptySlot, IsCopy, IsNamedSlot, IsSlotSum, IsScratch}
-use Rattle.gauss_jordan.proofs.Events.{filled-at, part-at, length-filled, implied_by_equation}
+use Rattle.gauss_jordan.proofs.ScratchSteps.{none_is}
+use Rattle.gauss_jordan.proofs.Events.{at_column, filled-at, part-at, length-filled, implied_by_equation}
 use Rattle.gauss_jordan.proofs.Kept.{summed, right_fresh, right_quiet, right_implied, right_broken}
 
 pub same_shape : (c d : Content) → IsSameShape c d → d ≡ record c { rows = d.rows }
@@ -59,15 +64,9 @@ refit c d slot ec eg f = record {
   padded = λ k ge. f.padded k (subst (λ cs. length cs ≤ k) (sym ec) ge);
 }
 
-module _ (c : Content) (level : ℕ) (held : List (Option Held)) (masks truths : List ℕ) (slots : List Slot) (mood : Mood)
-    (is : IsScratch c level held masks truths slots mood) (whole : mood ≢ Broken)
-    (rs : List SourcedRow) (of_given : IsOfGiven (record c { rows = rs })) (on ts : List ℕ)
-    (on_long : length on ≡ words_for (length c.columns)) (ts_long : length ts ≡ words_for (length c.columns))
-    (filled_in : AreMasks c.columns held on ts (length c.columns)) where
-  pub before : State
-  before = state_of c level held slots mood
-
-  pub masked : IsMasked (state_of c level held slots mood) (record c { rows = rs }) on ts
+module _ (c : Content) (level : ℕ) (held : List (Option Held)) (on ts : List ℕ) (slots : List Slot) (mood : Mood)
+    (is : IsScratch c level held on ts slots mood) (whole : mood ≢ Broken) (filled_in : AreMasks c.columns held on ts (length c.columns)) where
+  pub masked : IsMasked (state_of c level held slots mood) c on ts
   masked = record {
     vars = refl;
     parities = refl;
@@ -79,15 +78,15 @@ module _ (c : Content) (level : ℕ) (held : List (Option Held)) (masks truths :
         filled_in.1 k lt ∙ value-is (get_or held x None) ∙ sym (filled-at s x ∙ ap (λ o. unwrap_or o false) (part-at s x));
   }
 
-  pub quiet : IsSilent (state_of c level held slots mood) → IsScratch (record c { rows = rs }) level held on ts slots Calm
+  pub quiet : IsSilent (state_of c level held slots mood) → IsScratch c level held on ts slots Calm
   quiet silent = record {
-    of_given = of_given;
+    of_given = is.of_given;
     few = is.few;
     few_given = is.few_given;
     right = right_quiet c.columns (state_of c level held slots mood) is.right whole silent;
-    assigned_long = on_long;
-    truths_long = ts_long;
-    fits = λ k d lt. refit c (record c { rows = rs }) (get_or slots k d) refl refl (is.fits k d lt);
+    assigned_long = is.assigned_long;
+    truths_long = is.truths_long;
+    fits = is.fits;
   }
 
   set_fits : (k : ℕ) (slot : Slot) → IsSlotOf c slot → (j : ℕ) (d : Slot) → j < length (set slots k slot) → IsSlotOf c (get_or (set slots k slot) j d)
@@ -105,34 +104,30 @@ module _ (c : Content) (level : ℕ) (held : List (Option Held)) (masks truths :
       ap (λ (ns : List (Option Named)). let s : State = record { vars = c.vars; parities = c.given; level = level; values = held; named = ns; mood = m } in s)
       (map-set (named_of c) slots k slot ∙ ap (set (map (named_of c) slots) k) named ∙ ap (λ i. set (map (named_of c) slots) i (Some n)) (sym at))
 
-  copied : (row : ℕ) → row < length rs → (b : Bool) → Named
-  copied row lt b = record { level = level; in_conflict = b; form = form (row_at rs row); sources = source_numbers (row_at rs row) }
-
-  pub named_now : (row : ℕ) (lt : row < length rs) (b : Bool)
-      → IsNamedNow (state_of c level held slots mood) (record { level = level; in_conflict = b; form = form (row_at rs row); sources = source_numbers (row_at rs row) }) b
+  pub named_now : (row : ℕ) (lt : row < length c.rows) (b : Bool)
+      → IsNamedNow (state_of c level held slots mood) (record { level = level; in_conflict = b; form = form (row_at c.rows row); sources = source_numbers (row_at c.rows row) }) b
   named_now row lt b = record {
     level_is = refl;
     kind_is = refl;
-    numbers = numbers_rise (row_at rs row).sources 1 (length c.given) (let h = (of_given.long row lt).1 in omega arith);
-    sums = of_given.sums row lt;
+    numbers = numbers_rise (row_at c.rows row).sources 1 (length c.given) (let h = (is.of_given.long row lt).1 in omega arith);
+    sums = is.of_given.sums row lt;
   }
 
-  pub contradiction : (row : ℕ) (slot : Slot) (index : ℕ) → row < length rs → index ≡ length c.columns
-      → IsCopy (record c { rows = rs }) row (record { level = level; in_conflict = true }) slot
-      → IsBroken (state_of c level held slots mood) (form (row_at rs row))
-      → IsScratch (record c { rows = rs }) level held on ts (set slots (length c.columns) slot) Broken
+  pub contradiction : (row : ℕ) (slot : Slot) (index : ℕ) → row < length c.rows → index ≡ length c.columns
+      → IsCopy c row (record { level = level; in_conflict = true }) slot
+      → IsBroken (state_of c level held slots mood) (form (row_at c.rows row))
+      → IsScratch c level held on ts (set slots (length c.columns) slot) Broken
   contradiction row slot index lt at copy broken =
-      let n : Named = record { level = level; in_conflict = true; form = form (row_at rs row); sources = source_numbers (row_at rs row) } in
+      let n : Named = record { level = level; in_conflict = true; form = form (row_at c.rows row); sources = source_numbers (row_at c.rows row) } in
       record {
-        of_given = of_given;
+        of_given = is.of_given;
         few = is.few;
         few_given = is.few_given;
         right = subst (IsRight c.columns) (sym (state_named (length c.columns) slot n index Broken copy.named at))
             (right_broken c.columns (state_of c level held slots mood) index n is.right at (named_now row lt true) broken);
-        assigned_long = on_long;
-        truths_long = ts_long;
-        fits = λ k d lt'. refit c (record c { rows = rs }) (get_or (set slots (length c.columns) slot) k d) refl refl
-            (set_fits (length c.columns) slot (refit (record c { rows = rs }) c slot refl refl copy.fits) k d lt');
+        assigned_long = is.assigned_long;
+        truths_long = is.truths_long;
+        fits = set_fits (length c.columns) slot copy.fits;
       }
 
   pub not_named : (n : Named) (index : ℕ) → index ≡ length c.columns → IsSameNamed (named_at (state_of c level held slots mood) index) n
@@ -158,20 +153,20 @@ module _ (c : Content) (level : ℕ) (held : List (Option Held)) (masks truths :
   named-at : (k : ℕ) (d : Slot) → k < length slots → get_or (map (named_of c) slots) k None ≡ named_of c (get_or slots k d)
   named-at k d lt = get_or-map (named_of c) slots k d None lt
 
-  pub fit_copy : (k row : ℕ) (slot d : Slot) → k < length slots → row < length rs → IsCopy (record c { rows = rs }) row (record { level = level; in_conflict = false }) slot
+  pub fit_copy : (k row : ℕ) (slot d : Slot) → k < length slots → row < length c.rows → IsCopy c row (record { level = level; in_conflict = false }) slot
       → (let e : Slot = get_or slots k d in e.naming) ≡ None
-      → has_at (form (row_at rs row)) (column_at c.columns k) ≡ true
-      → ((y : ℕ) → y ≢ column_at c.columns k → has_at (form (row_at rs row)) y ≡ true → is_unassigned (get_or held y None) ≡ false)
+      → has_at (form (row_at c.rows row)) (column_at c.columns k) ≡ true
+      → ((y : ℕ) → y ≢ column_at c.columns k → has_at (form (row_at c.rows row)) y ≡ true → is_unassigned (get_or held y None) ≡ false)
       → (n : Named) × IsFit k slot n
   fit_copy k row slot d in' lt copy none has_x others =
-      let n : Named = record { level = level; in_conflict = false; form = form (row_at rs row); sources = source_numbers (row_at rs row) } in
+      let n : Named = record { level = level; in_conflict = false; form = form (row_at c.rows row); sources = source_numbers (row_at c.rows row) } in
       let made : named_of c slot ≡ Some (record { level = level; in_conflict = false; form = viewed_form c.vars c.columns slot.words.items slot.right; sources = numbers_from 1 (sources_of (length c.given) slot.sources.items) }) =
       ap (named_as c slot) copy.naming_is in
-      let eq : form (row_at rs row) ≡ viewed_form c.vars c.columns slot.words.items slot.right = ap (λ (o : Option Named). (unwrap_or o n).form) (sym copy.named ∙ made) in (
+      let eq : form (row_at c.rows row) ≡ viewed_form c.vars c.columns slot.words.items slot.right = ap (λ (o : Option Named). (unwrap_or o n).form) (sym copy.named ∙ made) in (
         n,
         record {
           named = copy.named;
-          fits = refit (record c { rows = rs }) c slot refl refl copy.fits;
+          fits = copy.fits;
           same = λ index at.
               subst (λ o. IsSameNamed o n)
               (sym (ap (λ i. get_or (map (named_of c) slots) i None) at ∙ named-at k d in' ∙ ap (named_as c (get_or slots k d)) none)) tt;
@@ -209,9 +204,44 @@ module _ (c : Content) (level : ℕ) (held : List (Option Held)) (masks truths :
         )
       ]
 
-  -- what a fit row implies
-  module _ (k : ℕ) (slot : Slot) (n : Named) (k_in : k < length c.columns) (fit : IsFit k slot n) (low : 1 ≤ get_or c.columns k 0) (high : get_or c.columns k 0 ≤ c.vars)
-      (free : get_or held (column_at c.columns k) None ≡ None) where
+  -- a slot that was named now or before
+  fit_named : (k row : ℕ) (old new d : Slot) → k < length c.columns → k < length slots → row < length c.rows → old ≡ get_or slots k d
+      → IsNamedSlot c row (record { level = level; in_conflict = false }) old new old.naming
+      → get_or held (column_at c.columns k) None ≡ None
+      → has_at (form (row_at c.rows row)) (column_at c.columns k) ≡ true
+      → ((y : ℕ) → y ≢ column_at c.columns k → has_at (form (row_at c.rows row)) y ≡ true → is_unassigned (get_or held y None) ≡ false)
+      → (n : Named) × IsFit k new n
+  fit_named k row old new d k_in in' lt read named free has_x others =
+      let cases : (o : Option Naming) → old.naming ≡ o → IsNamedSlot c row (record { level = level; in_conflict = false }) old new o → (n : Named) × IsFit k new n =
+      elim [
+        | None ↦ λ e copy. fit_copy k row new d in' lt copy (ap (λ (s : Slot). s.naming) (sym read) ∙ e) has_x others
+        | Some m ↦ λ e same. subst (λ (s : Slot). (n : Named) × IsFit k s n) (sym (same ∙ read)) (fit_old k d m k_in in' (ap (λ (s : Slot). s.naming) (sym read) ∙ e) free)
+      ] in
+      cases old.naming refl named
+
+  -- what is known once the row of the literal that the rows say is named in slot k
+  pub record IsTold (k : ℕ) (slot : Slot) (n : Named) : Type 0 where
+    pub column_in : k < length c.columns
+    pub slot_in : k < length slots
+    pub fit : IsFit k slot n
+    pub low : 1 ≤ get_or c.columns k 0
+    pub high : get_or c.columns k 0 ≤ c.vars
+    pub free : get_or held (column_at c.columns k) None ≡ None
+
+  pub literal_told : (k row : ℕ) (b : Bool) (old new d : Slot) → Says c on ts (found.Literal row k b) → old ≡ get_or slots k d
+      → IsNamedSlot c row (record { level = level; in_conflict = false }) old new old.naming → (n : Named) × IsTold k new n
+  literal_told k row b old new d says read named =
+      let ri = is.right in
+      let in' : k < length slots = let q = ri.rows in let g = says.1 in omega (arith, length-map slots (named_of c)) in
+      let implied = says.2 (state_of c level held slots mood) masked in
+      let low = implied.low in
+      let col = at_column _ _ _ (column_at c.columns k) implied (omega arith) in
+      let free : get_or held (column_at c.columns k) None ≡ None = none_is (get_or held (column_at c.columns k) None) col.1 in
+      let made = fit_named k row old new d says.1 in' says.0 read named free col.0 col.2 in
+      (made.0, record { column_in = says.1; slot_in = in'; fit = made.1; low = implied.low; high = implied.high; free = free })
+
+  -- what the named row implies, and the engine that keeps it
+  module _ (k : ℕ) (slot : Slot) (n : Named) (told : IsTold k slot n) where
     pub fit_implied : (b : Bool) → IsSlotSum slot ts b
         → IsImplied (state_of c level held slots mood) (record { variable = get_or c.columns k 0; negative = not b }) n.form
     fit_implied b sums =
@@ -219,12 +249,15 @@ module _ (c : Content) (level : ℕ) (held : List (Option Held)) (masks truths :
         let e : Equation = viewed c.vars c.columns slot.words.items slot.right in
         let ri = is.right in
         let x : ℕ = column_at c.columns k in
+        let fit = told.fit in
+        let low = told.low in
+        let high = told.high in
         let back : x + 1 ≡ get_or c.columns k 0 = omega arith in
-        let unit : IsUnit s (has_at n.form) x = record { within = omega arith; has_it = fit.has; unassigned = ap is_unassigned free; others = fit.others } in
+        let unit : IsUnit s (has_at n.form) x = record { within = omega arith; has_it = fit.has; unassigned = ap is_unassigned told.free; others = fit.others } in
         let long : length (filled s) ≡ c.vars = length-filled s ∙ ri.wide in
         let f = fit.fits in
         let value : differ (total e (filled s)) e.right ≡ b =
-        ap (λ q. differ q slot.right) (sym (packed_sum (record c { rows = rs }) slot.words.items ts (filled s) of_given.columns_rise f.words f.padded (f.words ∙ sym ts_long) long masked.holds)) ∙ sums in
+        ap (λ q. differ q slot.right) (sym (packed_sum c slot.words.items ts (filled s) is.of_given.columns_rise f.words f.padded (f.words ∙ sym is.truths_long) long masked.holds)) ∙ sums in
         let nw = fit.now in
         let long_e : length e.terms ≡ c.vars = length-map-range_with_len (λ y. bit_of slot.words.items (place c.columns (y + 1))) 0 c.vars in
         subst (λ g. IsImplied s (record { variable = get_or c.columns k 0; negative = not b }) g) (sym fit.viewed_is)
@@ -233,38 +266,26 @@ module _ (c : Content) (level : ℕ) (held : List (Option Held)) (masks truths :
         (implied_by_equation s e n.sources x ri.within ri.wide long_e nw.numbers (sym fit.viewed_is ∙ nw.sums)
         (subst (λ g. IsUnit s (has_at g) x) fit.viewed_is unit))))
 
-    pub fit_kept : (index : ℕ) → index ≡ k → IsScratch (record c { rows = rs }) level held on ts (set slots k slot) Busy
+    pub fit_kept : (index : ℕ) → index ≡ k → IsScratch c level held on ts (set slots k slot) Busy
     fit_kept index at =
         let s : State = state_of c level held slots mood in
+        let fit = told.fit in
+        let low = told.low in
+        let high = told.high in
         record {
-          of_given = of_given;
+          of_given = is.of_given;
           few = is.few;
           few_given = is.few_given;
           right = subst (IsRight c.columns) (sym (state_named k slot n index Busy fit.named at))
-              (right_implied c.columns s index n is.right whole (subst (λ i. i < length c.columns) (sym at) k_in) fit.now
+              (right_implied c.columns s index n is.right whole (subst (λ i. i < length c.columns) (sym at) told.column_in) fit.now
               (subst (λ i. column_at c.columns i < c.vars) (sym at) (omega arith))
               (subst (λ i. has_at n.form (column_at c.columns i) ≡ true) (sym at) fit.has)
-              (subst (λ i. get_or held (column_at c.columns i) None ≡ None) (sym at) free)
+              (subst (λ i. get_or held (column_at c.columns i) None ≡ None) (sym at) told.free)
               (subst (λ i. (y : ℕ) → y ≢ column_at c.columns i → has_at n.form y ≡ true → is_unassigned (get_or held y None) ≡ false) (sym at) fit.others));
-          assigned_long = on_long;
-          truths_long = ts_long;
-          fits = λ j d lt. refit c (record c { rows = rs }) (get_or (set slots k slot) j d) refl refl (set_fits k slot fit.fits j d lt);
+          assigned_long = is.assigned_long;
+          truths_long = is.truths_long;
+          fits = set_fits k slot fit.fits;
         }
-
-  -- a slot that was named now or before
-  pub fit_named : (k row : ℕ) (old new d : Slot) → k < length c.columns → k < length slots → row < length rs → old ≡ get_or slots k d
-      → IsNamedSlot (record c { rows = rs }) row (record { level = level; in_conflict = false }) old new old.naming
-      → get_or held (column_at c.columns k) None ≡ None
-      → has_at (form (row_at rs row)) (column_at c.columns k) ≡ true
-      → ((y : ℕ) → y ≢ column_at c.columns k → has_at (form (row_at rs row)) y ≡ true → is_unassigned (get_or held y None) ≡ false)
-      → (n : Named) × IsFit k new n
-  fit_named k row old new d k_in in' lt read named free has_x others =
-      let cases : (o : Option Naming) → old.naming ≡ o → IsNamedSlot (record c { rows = rs }) row (record { level = level; in_conflict = false }) old new o → (n : Named) × IsFit k new n =
-      elim [
-        | None ↦ λ e copy. fit_copy k row new d in' lt copy (ap (λ (s : Slot). s.naming) (sym read) ∙ e) has_x others
-        | Some m ↦ λ e same. subst (λ (s : Slot). (n : Named) × IsFit k s n) (sym (same ∙ read)) (fit_old k d m k_in in' (ap (λ (s : Slot). s.naming) (sym read) ∙ e) free)
-      ] in
-      cases old.naming refl named
 
 -- ---- the matrix reduced, the masks filled
 -- the state rests on no row of the matrix

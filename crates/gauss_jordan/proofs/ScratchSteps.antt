@@ -1,18 +1,18 @@
 -- The steps of an engine with copies of its named rows.
-use Rattle.std.proofs.Common.{◌≡◌, ◌≢◌, ℕ, ◌+◌, ◌-◌, ◌<◌, ◌≤◌, zero, suc, Bool, true, false, cond, not, ◌&&◌, nat_le, List, [], ◌∷◌, map, length, get_or, set, Option, Some, None, inl, inr, refl, sym, ap, ◌∙◌, subst, arith}
+use Rattle.std.proofs.Common.{◌≡◌, ◌≢◌, ℕ, ◌+◌, ◌-◌, ◌<◌, ◌≤◌, Bool, true, false, cond, not, ◌&&◌, nat_le, List, [], ◌∷◌, map, length, get_or, set, Option, Some, None, refl, sym, ap, ◌∙◌, subst, arith}
 use Rattle.std.proofs.Math.ListN.{length-set}
-use Rattle.std.proofs.lemmas.List.{length-map, get_or-set_same, get_or-set_other, ext_get_or, get_or-map}
-use Rattle.std.proofs.lemmas.Bool.{cases_eq}
+use Rattle.std.proofs.lemmas.List.{length-map, ext_get_or, get_or-map}
 use Rattle.gf2_rows.specs.Bits.{bit_of}
-use Rattle.gf2_matrix.specs.Equations.{numbers_from}
+use Rattle.parity_engine.specs.Equations.{numbers_from}
 use Rattle.gf2_matrix.specs.Content.{Content, sources_of}
-use Rattle.gf2_matrix.specs.Views.{viewed_form}
+use Rattle.parity_engine.specs.Views.{viewed_form}
+use Rattle.gf2_matrix.proofs.Updates.{changed_more, left_more}
 use Rattle.gauss_jordan.specs.declared.slot.Slot.{Slot}
 use Rattle.gauss_jordan.specs.declared.slot.Naming.{Naming}
-use Rattle.gauss_jordan.specs.declared.state.Held.{Held}
-use Rattle.gauss_jordan.specs.declared.state.Mood.{Mood}
-use Rattle.gauss_jordan.specs.declared.state.Mood.TheVariants.{Busy, Calm, Broken}
-use Rattle.gauss_jordan.specs.State.{Named, keep, keep_named, is_unassigned}
+use Rattle.parity_engine.specs.declared.state.Held.{Held}
+use Rattle.parity_engine.specs.declared.state.Mood.{Mood}
+use Rattle.parity_engine.specs.declared.state.Mood.TheVariants.{Busy, Calm, Broken}
+use Rattle.parity_engine.specs.State.{Named, keep, keep_named, is_unassigned}
 use Rattle.gauss_jordan.specs.Right.{IsRight}
 use Rattle.gauss_jordan.specs.Slots.{keep_naming, named_as, named_of, state_of, IsKeptSlot, AreKept, IsScratch}
 use Rattle.gauss_jordan.proofs.Kept.{right_pushed, right_assigned, right_back}
@@ -26,25 +26,14 @@ pub record HeldSoFar (level : ℕ) (old new : List (Option Held)) (n : ℕ) : Ty
 pub held_none : (level : ℕ) (held : List (Option Held)) → HeldSoFar level held held 0
 held_none level held = record { long = refl; done = λ k d lt. absurd (omega arith); left = λ k d ge. refl }
 
-same_read : {A : Type 0} (xs : List A) (i : ℕ) (d e : A) → i < length xs → get_or xs i d ≡ get_or xs i e
-same_read [] i d e lt = absurd (omega arith)
-same_read (x ∷ xs) zero d e lt = refl
-same_read (x ∷ xs) (suc i) d e lt = same_read xs i d e (omega arith)
-
 pub held_more : (level : ℕ) (old new : List (Option Held)) (k : ℕ) (e v : Option Held) → HeldSoFar level old new k → k < length old → v ≡ keep level (get_or new k e)
     → HeldSoFar level old (set new k v) (k + 1)
 held_more level old new k e v before lt is =
     let within : k < length new = let h = before.long in omega arith in
     record {
       long = length-set new k v ∙ before.long;
-      done = λ j d small.
-          elim (cases_eq j k) [
-            | inl same ↦
-                subst (λ i. get_or (set new k v) i d ≡ keep level (get_or old i d)) (sym same)
-                (get_or-set_same new k v d within ∙ is ∙ ap (keep level) (same_read new k e d within ∙ before.left k d (omega arith)))
-            | inr ne ↦ get_or-set_other new k j v d ne ∙ before.done j d (omega arith)
-          ];
-      left = λ j d ge. get_or-set_other new k j v d (λ e'. omega arith) ∙ before.left j d (omega arith);
+      done = changed_more (λ _ o w. w ≡ keep level o) old new k e v within before.left before.done is;
+      left = left_more old new k v before.left;
     }
 
 pub held_all : (level : ℕ) (old new : List (Option Held)) (n : ℕ) → HeldSoFar level old new n → length old ≤ n → new ≡ map (keep level) old
@@ -60,14 +49,8 @@ slots_more level old new k e v before lt is =
     let within : k < length new = let h = before.long in omega arith in
     record {
       long = length-set new k v ∙ before.long;
-      done = λ j d small.
-          elim (cases_eq j k) [
-            | inl same ↦
-                subst (λ i. IsKeptSlot level (get_or old i d) (get_or (set new k v) i d)) (sym same)
-                (rw (get_or-set_same new k v d within) (subst (λ o. IsKeptSlot level o v) (same_read new k e d within ∙ before.left k d (omega arith)) is))
-            | inr ne ↦ rw (get_or-set_other new k j v d ne) (before.done j d (omega arith))
-          ];
-      left = λ j d ge. get_or-set_other new k j v d (λ e'. omega arith) ∙ before.left j d (omega arith);
+      done = changed_more (λ _ o w. IsKeptSlot level o w) old new k e v within before.left before.done is;
+      left = left_more old new k v before.left;
     }
 
 -- ---- the state

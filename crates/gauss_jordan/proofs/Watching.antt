@@ -3,13 +3,13 @@ use Rattle.std.proofs.Common.{◌≡◌, ◌≢◌, ℕ, ◌+◌, ◌<◌, ◌�
 use Rattle.std.proofs.Math.ListN.{get_or-map}
 use Rattle.std.proofs.lemmas.List.{length-map}
 use Rattle.std.proofs.lemmas.Bool.{cases_eq, cases_lt, le-leb, lt-leb}
-use Rattle.gf2_matrix.specs.Equations.{has_term}
-use Rattle.gauss_jordan.specs.declared.state.Held.{Held}
-use Rattle.gauss_jordan.specs.State.{State, keep, is_unassigned}
+use Rattle.parity_engine.specs.Equations.{has_term}
+use Rattle.parity_engine.specs.declared.state.Held.{Held}
+use Rattle.parity_engine.specs.State.{State, keep, is_unassigned}
 use Rattle.gauss_jordan.specs.System.{equation_at, IsSystemOf, IsUnit}
 use Rattle.gauss_jordan.specs.Levels.{at_level}
 use Rattle.gauss_jordan.specs.Watching.{rank_of, rank, IsHigh, back_rank, BackIsFree, AssignIsFree, PushIsFree, PivotKeepsBasic, NoLateUnit, SecondIsHigh}
-use Rattle.gauss_jordan.proofs.Known.{known_value}
+use Rattle.parity_engine.proofs.Known.{known_value}
 use Rattle.gauss_jordan.proofs.Events.{implied_from_unit}
 
 -- ---- one row

@@ -1,19 +1,20 @@
 -- A named row can be written as a parity.
-use Rattle.std.proofs.Common.{◌≡◌, ℕ, ◌+◌, ◌≤◌, Bool, true, false, ◌||◌, List, [], ◌∷◌, length, get_or, Option, Some, None, inl, inr, ◌⊎◌, refl, sym, ap, ◌∙◌, subst, arith, true≢false}
+use Rattle.std.proofs.Common.{◌≡◌, ℕ, ◌+◌, ◌≤◌, Bool, true, false, ◌||◌, List, [], ◌∷◌, length, get_or, Some, None, inl, inr, ◌⊎◌, refl, sym, ap, ◌∙◌, subst, arith, true≢false}
 use Rattle.std.specs.List.{list_any}
 use Rattle.std.specs.Ordering.{nat_cmp, eq_by_cmp, is_eq}
 use Rattle.std.specs.FinSet as set
 use Rattle.std.proofs.Math.ListN.{get_or-eq_default}
+use Rattle.std.proofs.lemmas.Option.{same_Some}
 use Rattle.std.proofs.lemmas.Bool.{cases_eq, cases_lt}
 use Rattle.std.specs.Cmp.{nat_cmp_total, tied_itself}
 use Rattle.cx_base.specs.Literals.{Literal, differ, value_of}
 use Rattle.cx_base.specs.Problem.{parity_met}
 use Rattle.cx_base.specs.Parity.{NormalForm, normal_form}
 use Rattle.cx_base.proofs.Odd.{parity_met-cons}
-use Rattle.gf2_matrix.specs.Written.{IsWritable}
-use Rattle.gf2_matrix.proofs.Forms.{same_form}
-use Rattle.gf2_matrix.proofs.Literals.{contains_parity, right_parity}
-use Rattle.gauss_jordan.specs.State.{State, Named, IsBroken}
+use Rattle.parity_engine.specs.Written.{IsWritable}
+use Rattle.parity_engine.proofs.Forms.{same_form}
+use Rattle.parity_engine.proofs.Literals.{contains_parity, right_parity}
+use Rattle.parity_engine.specs.State.{State, Named, IsBroken}
 use Rattle.gauss_jordan.specs.System.{filled}
 use Rattle.gauss_jordan.specs.Right.{IsRight, column_at}
 use Rattle.gauss_jordan.proofs.Events.{known_agrees, filled_agrees}
@@ -67,9 +68,6 @@ broken_writable s f broken =
         let same : normal_form both_signs ≡ f = same_form (normal_form both_signs) f (λ y. no_variable y ∙ sym (none y)) (right_zero ∙ sym is) in
         absurd (true≢false (sym (is_met (filled s)) ∙ broken.unmet (filled s) (known_agrees s (filled s) (filled_agrees s)) both_signs same))
 
-same_named : (m n : Named) → (let o : Option Named = Some m in o) ≡ Some n → m ≡ n
-same_named m n e = cc
-
 pub named_writable : (columns : List ℕ) (s : State) (k : ℕ) (n : Named) → IsRight columns s → get_or s.named k None ≡ Some n → IsWritable n.form
 named_writable columns s k n right is =
     elim (cases_lt k (length columns)) [
@@ -79,7 +77,7 @@ named_writable columns s k n right is =
             | inl e ↦
                 let at : get_or s.named (length columns) None ≡ Some n = ap (λ i. get_or s.named i None) (sym e) ∙ is in
                 let b = right.broken (right.clash n at) in
-                let same : b.0 ≡ n = same_named b.0 n (sym b.1 ∙ at) in
+                let same : b.0 ≡ n = same_Some b.0 n (sym b.1 ∙ at) in
                 broken_writable s n.form (subst (λ (m : Named). IsBroken s m.form) same b.5)
             | inr ne ↦
                 let out : length s.named ≤ k = let r = right.rows in omega arith in

@@ -1,6 +1,6 @@
 -- What rows say under masks of the columns that are assigned and true.
 use Rattle.std.specs.Prelude.{◌≡◌, ◌≢◌, ℕ, ◌-◌, ◌<◌, Bool, true, false, not, List, length, slice_index, slice_index_or, None}
-use Rattle.gf2_matrix.specs.Equations.{total}
+use Rattle.gf2_matrix.specs.Totals.{total}
 use Rattle.cx_base.specs.Literals.{differ}
 use Rattle.gf2_rows.specs.Bits.{bit_of}
 use Rattle.gf2_matrix.specs.Content.{Content, row_at, equation, form, has, IsOpenAt, HoldsValues}
@@ -8,7 +8,7 @@ use Rattle.gauss_jordan.specs.declared.found.RowKind.{RowKind}
 use Rattle.gauss_jordan.specs.declared.found.RowKind.TheVariants.{Met, Unmet, Unit, Open}
 use Rattle.gauss_jordan.specs.declared.found.Found.{Found}
 use Rattle.gauss_jordan.specs.declared.found.Found.TheVariants.{Nothing, Literal, Contradiction}
-use Rattle.gauss_jordan.specs.State.{State, is_unassigned, IsSilent, IsImplied, IsBroken}
+use Rattle.parity_engine.specs.State.{State, is_unassigned, IsSilent, IsImplied, IsBroken}
 use Rattle.gauss_jordan.specs.System.{filled}
 
 -- no column of the row is open but perhaps one

@@ -1,7 +1,7 @@
 -- What each level below the current one has reached.
 use Rattle.std.specs.Prelude.{◌≡◌, ℕ, ◌<◌, ◌≤◌, Bool, map, slice_index_or, Some, None}
-use Rattle.gauss_jordan.specs.declared.state.Held.{Held}
-use Rattle.gauss_jordan.specs.State.{State, IsSilent, assigned, back, held_at, keep, pushed}
+use Rattle.parity_engine.specs.declared.state.Held.{Held}
+use Rattle.parity_engine.specs.State.{State, IsSilent, assigned, back, held_at, keep, pushed}
 
 -- the state as it was when the next level was pushed
 abbrev pub at_level : ℕ → State → State

@@ -1,5 +1,4 @@
 pub mod Rows
-pub mod State
 pub mod System
 pub mod Levels
 pub mod Right

@@ -2,10 +2,10 @@
 use Rattle.std.specs.Prelude.{◌≡◌, ◌≢◌, ℕ, ◌+◌, ◌-◌, ◌<◌, ◌≤◌, ◌⊎◌, true, false, List, length, slice_index, slice_index_or, Some, None}
 use Rattle.std.specs.List.{AllByRecursion}
 use Rattle.cx_base.specs.Problem.{AreWithin}
-use Rattle.gf2_matrix.specs.Equations.{sum_of_numbers}
-use Rattle.gauss_jordan.specs.declared.state.Held.{Held}
-use Rattle.gauss_jordan.specs.declared.state.Mood.TheVariants.{Calm, Broken}
-use Rattle.gauss_jordan.specs.State.{State, Named, AreRising, is_unassigned, IsSilent, IsBroken}
+use Rattle.parity_engine.specs.Equations.{sum_of_numbers}
+use Rattle.parity_engine.specs.declared.state.Held.{Held}
+use Rattle.parity_engine.specs.declared.state.Mood.TheVariants.{Calm, Broken}
+use Rattle.parity_engine.specs.State.{State, Named, AreRising, is_unassigned, IsSilent, IsBroken}
 use Rattle.gauss_jordan.specs.System.{has_at}
 use Rattle.gauss_jordan.specs.Levels.{IsSettledBelow}
 

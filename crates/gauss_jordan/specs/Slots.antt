@@ -4,14 +4,15 @@ use Rattle.std.specs.Simd.Lanes.{zip2}
 use Rattle.cx_base.specs.Literals.{differ}
 use Rattle.cx_base.specs.declared.literal.TheConstants.{MAX_VARIABLE}
 use Rattle.gf2_rows.specs.Bits.{bit_of, bits_of, parity}
-use Rattle.gf2_matrix.specs.Equations.{numbers_from}
-use Rattle.gf2_matrix.specs.Content.{Content, IsOfGiven, sources_of, words_for, form, row_at, source_numbers}
-use Rattle.gf2_matrix.specs.Views.{viewed_form}
+use Rattle.parity_engine.specs.Equations.{numbers_from}
+use Rattle.gf2_matrix.specs.Content.{Content, IsOfGiven, sources_of, form, row_at, source_numbers}
+use Rattle.parity_engine.specs.Views.{words_for}
+use Rattle.parity_engine.specs.Views.{viewed_form}
 use Rattle.gauss_jordan.specs.declared.slot.Slot.{Slot}
 use Rattle.gauss_jordan.specs.declared.slot.Naming.{Naming}
-use Rattle.gauss_jordan.specs.declared.state.Held.{Held}
-use Rattle.gauss_jordan.specs.declared.state.Mood.{Mood}
-use Rattle.gauss_jordan.specs.State.{State, Named, is_unassigned}
+use Rattle.parity_engine.specs.declared.state.Held.{Held}
+use Rattle.parity_engine.specs.declared.state.Mood.{Mood}
+use Rattle.parity_engine.specs.State.{State, Named, is_unassigned}
 use Rattle.gauss_jordan.specs.Right.{IsRight, column_at}
 
 abbrev pub keep_naming : ℕ → Option Naming → Option Naming

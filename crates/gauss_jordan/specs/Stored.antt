@@ -4,11 +4,11 @@ use Rattle.std.specs.Coded.{Coded, code_by, coded×, coded_ℕ, coded_bool, code
 use Rattle.cx_base.specs.Literals.{Literal}
 use Rattle.cx_base.specs.Parity.{NormalForm}
 use Rattle.cx_semantics.specs.Tables.{literal_code}
-use Rattle.gf2_matrix.specs.Equations.{form_code}
-use Rattle.gauss_jordan.specs.declared.state.Held.{Held}
-use Rattle.gauss_jordan.specs.declared.state.Mood.{Mood}
-use Rattle.gauss_jordan.specs.declared.state.Mood.TheVariants.{Busy, Calm, Broken}
-use Rattle.gauss_jordan.specs.State.{Named, State}
+use Rattle.parity_engine.specs.Equations.{form_code}
+use Rattle.parity_engine.specs.declared.state.Held.{Held}
+use Rattle.parity_engine.specs.declared.state.Mood.{Mood}
+use Rattle.parity_engine.specs.declared.state.Mood.TheVariants.{Busy, Calm, Broken}
+use Rattle.parity_engine.specs.State.{Named, State}
 
 abbrev pub held_code : Coded Held
 held_code = code_by (Bool × ℕ) (coded× coded_bool coded_ℕ) (λ h. (h.value, h.level)) (λ p. record { value = p.0; level = p.1 }) (λ _. refl)

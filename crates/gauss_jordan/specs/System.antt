@@ -5,10 +5,11 @@ use Rattle.std.specs.FinSet as set
 use Rattle.cx_base.specs.Literals.{differ}
 use Rattle.cx_base.specs.Problem.{AreWithin, parity_met}
 use Rattle.cx_base.specs.Parity.{NormalForm}
-use Rattle.gf2_matrix.specs.Equations.{Equation, has_term, total, MeetsEquation, form_of}
-use Rattle.gauss_jordan.specs.declared.state.Held.{Held}
+use Rattle.parity_engine.specs.Equations.{Equation, has_term, form_of}
+use Rattle.gf2_matrix.specs.Totals.{total, MeetsEquation}
+use Rattle.parity_engine.specs.declared.state.Held.{Held}
 use Rattle.gauss_jordan.specs.Rows.{IsQuiet}
-use Rattle.gauss_jordan.specs.State.{State, is_unassigned, IsSilent, IsImplied, IsBroken}
+use Rattle.parity_engine.specs.State.{State, is_unassigned, IsSilent, IsImplied, IsBroken}
 
 abbrev pub just_value : Option Held → Option Bool
 just_value None = None

@@ -2,9 +2,9 @@
 use Rattle.std.specs.Prelude.{◌≡◌, ◌≢◌, ℕ, ◌+◌, ◌<◌, ◌≤◌, Bool, true, cond, nat_le, min, List, length, slice_index_or, Option, Some, None, ◌⊎◌}
 use Rattle.std.specs.List.{AllByRecursion}
 use Rattle.cx_base.specs.Problem.{AreWithin}
-use Rattle.gf2_matrix.specs.Equations.{Equation, has_term}
-use Rattle.gauss_jordan.specs.declared.state.Held.{Held}
-use Rattle.gauss_jordan.specs.State.{State}
+use Rattle.parity_engine.specs.Equations.{Equation, has_term}
+use Rattle.parity_engine.specs.declared.state.Held.{Held}
+use Rattle.parity_engine.specs.State.{State}
 use Rattle.gauss_jordan.specs.System.{equation_at, IsSystemOf}
 use Rattle.gauss_jordan.specs.Levels.{IsSettledBelow}
 

@@ -1,6 +1,7 @@
 //! What the rows of a reduced matrix say.
 ghost use Rattle.std.specs.Prelude.{◌≡◌, ℕ, ◌<◌, length};
-ghost use Rattle.gf2_matrix.specs.Content.{IsOfGiven, IsReducedRow, words_for};
+ghost use Rattle.gf2_matrix.specs.Content.{IsOfGiven, IsReducedRow};
+ghost use Rattle.parity_engine.specs.Views.{words_for};
 ghost use Rattle.gauss_jordan.specs.Found.{IsKind, Says, SumsTo};
 
 use gf2_matrix::Matrix;

@@ -1,19 +1,15 @@
 //! Gauss-Jordan elimination over parities.
 #![tactic(auto)]
 
-mod engine;
-mod event;
 mod found;
 pub mod laws;
 mod masks;
+#[cfg(test)]
+mod reason_tests;
 mod scratch;
 mod slot;
-mod state;
 #[cfg(test)]
 mod tests;
 
-pub use engine::ParityEngine;
-pub use event::ParityEvent;
-pub use gf2_matrix::RowView;
+pub use parity_engine::{Held, Mood, ParityEngine, ParityEvent, RowView};
 pub use scratch::Scratch;
-pub use state::{Held, Mood};

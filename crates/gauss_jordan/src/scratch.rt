@@ -1,18 +1,16 @@
 //! An engine that eliminates anew at each event.
 ghost use Rattle.std.specs.Prelude.{◌≡◌, ◌≢◌, ℕ, ◌<◌, length, map, replicate, None, IfOk};
 ghost use Rattle.gf2_matrix.specs.Content.{IsReducedRow};
-ghost use Rattle.gauss_jordan.specs.State.{Answers, keep};
+ghost use Rattle.parity_engine.specs.State.{Answers, keep};
 ghost use Rattle.gauss_jordan.specs.Slots.{AreMasks, IsNamedSlot, IsScratch, IsSlotOf, state_of};
-ghost use Rattle.gauss_jordan.specs.declared.state.Mood.TheVariants.{Broken};
+ghost use Rattle.parity_engine.specs.declared.state.Mood.TheVariants.{Broken};
 
-use crate::engine::ParityEngine;
-use crate::event::ParityEvent;
 use crate::found::{Found, find};
 use crate::masks;
 use crate::slot::{Naming, Slot, copy_row, empty_slots, is_unmet, keep_slots};
-use crate::state::{Held, Mood};
 use cx_base::{IdList, Lit, LitList, ParityList, Row, Var};
-use gf2_matrix::{Matrix, RowView, clear_words, source_list};
+use gf2_matrix::{Matrix, clear_words, source_list};
+use parity_engine::{Held, Mood, ParityEngine, ParityEvent, RowView};
 use std::alloc::{AllocError, Global};
 use std::marker::Model;
 
@@ -31,7 +29,7 @@ pub struct Scratch {
 }
 
 impl Model for Scratch {
-    ghost use Rattle.gauss_jordan.specs.State.{State};
+    ghost use Rattle.parity_engine.specs.State.{State};
     ghost use Rattle.gauss_jordan.specs.Stored.{state_code};
 
     ghost Value = { State };

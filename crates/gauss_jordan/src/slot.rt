@@ -1,6 +1,6 @@
 //! Copies of named rows.
 ghost use Rattle.std.specs.Prelude.{◌≡◌, ℕ, ◌+◌, ◌<◌, length, slice_index_or, IfOk};
-ghost use Rattle.gf2_matrix.specs.Content.{words_for};
+ghost use Rattle.parity_engine.specs.Views.{words_for};
 ghost use Rattle.gauss_jordan.specs.Slots.{AreKept, IsCopy, IsEmptySlot, IsSlotSum, IsSlotOf, keep_naming};
 
 use gf2_matrix::{Matrix, clear_words};

@@ -3,7 +3,7 @@ ghost use Rattle.std.specs.Prelude.{◌≡◌, ◌≤◌, ◌∷◌, [], IfOk, I
 ghost use Rattle.std.specs.List.{AllByRecursion};
 ghost use Rattle.cx_base.specs.Problem.{AreWithin};
 ghost use Rattle.cx_base.specs.declared.literal.TheConstants.{MAX_VARIABLE};
-ghost use Rattle.gauss_jordan.specs.declared.state.Mood.TheVariants.{Calm};
+ghost use Rattle.parity_engine.specs.declared.state.Mood.TheVariants.{Calm};
 
 use crate::{ParityEngine, ParityEvent, Scratch};
 use cx_base::{IdList, Lit, LitList, ParityList, Var};

@@ -5,11 +5,14 @@ use Rattle.std.specs.Simd.Lanes.{zip2}
 use Rattle.std.proofs.lemmas.List.{map-append}
 use Rattle.std.proofs.lemmas.Bool.{cases_eq, eq-eqb, ne_eqb}
 use Rattle.cx_base.specs.Literals.{differ}
-use Rattle.gf2_matrix.specs.Equations.{total}
+use Rattle.gf2_matrix.specs.Totals.{total}
 use Rattle.gf2_matrix.proofs.Products.{total-over}
 use Rattle.gf2_rows.specs.Bits.{parity, bit_of, bits_of}
-use Rattle.gf2_rows.proofs.Words.{range_same, range_split, range_shift, parity-append, parity-none, differ-false, products_of_rows}
-use Rattle.gf2_matrix.specs.Content.{Content, row_at, equation, place, terms_of, AreBitsOf, HoldsValues, words_for, AreColumns}
+use Rattle.gf2_rows.proofs.Words.{range_same, range_split, range_shift, parity-append, parity-none, products_of_rows}
+use Rattle.cx_base.proofs.Differences.{differ_false}
+use Rattle.gf2_matrix.specs.Content.{Content, row_at, equation, AreBitsOf, HoldsValues}
+use Rattle.parity_engine.specs.Columns.{place, AreColumns}
+use Rattle.parity_engine.specs.Views.{terms_of, words_for}
 
 place-none : (least vars : ℕ) (cols : List ℕ) (v : ℕ) → AreColumns least vars cols → v < least → place cols v ≡ length cols
 place-none least vars [] v rise lt = refl
@@ -68,7 +71,7 @@ packed_sum c words truths v rise size padded alike long truth =
     ∙ ap parity (ap (map p) (range_split 0 n (64 * w - n)) ∙ map-append p (range_with_len 0 n) (range_with_len (0 + n) (64 * w - n)))
     ∙ parity-append (map p (range_with_len 0 n)) (map p (range_with_len (0 + n) (64 * w - n)))
     ∙ ap (differ (parity (map p (range_with_len 0 n)))) (nothing p (0 + n) (64 * w - n) (λ k low high. and-false-left (bit_of words k) (bit_of truths k) (padded k (omega arith))))
-    ∙ differ-false (parity (map p (range_with_len 0 n)))
+    ∙ differ_false (parity (map p (range_with_len 0 n)))
     ∙ ap parity (range_same p (λ k. bit_of words k && get_or v (get_or c.columns k 0 - 1) false) 0 n (λ k low high. ap (λ b. bit_of words k && b) (truth k (omega arith))))
     ∙ sym (column_sum c.vars 0 c.columns (bit_of words) (λ x. get_or v x false) rise' (padded n (omega arith)))
     ∙ sym (total-over v c.vars (λ x. bit_of words (place c.columns (x + 1))) long)

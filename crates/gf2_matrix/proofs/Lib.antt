@@ -1,11 +1,10 @@
 pub mod Products
-pub mod Forms
+pub mod FormSums
 pub mod ColumnSums
 pub mod Pivot
 pub mod Reduce
+pub mod Updates
 pub mod Rows
 pub mod Numbered
-pub mod Columns
-pub mod Literals
 pub mod Marks
 pub mod Made

@@ -13,16 +13,21 @@ use Rattle.cx_base.specs.Problem.{AreWithin, parity_met}
 use Rattle.cx_base.specs.Parity.{normal_form}
 use Rattle.cx_base.proofs.ParityLaws.{Sums, met-from_Sums}
 use Rattle.gf2_rows.specs.Bits.{bit_of, bits_of, parity}
-use Rattle.gf2_rows.proofs.Words.{bits_turned, differ-assoc, differ-false}
+use Rattle.cx_base.proofs.Differences.{differ_assoc, differ_false}
+use Rattle.gf2_rows.proofs.Words.{bits_turned}
 use Rattle.gf2_matrix.specs.declared.packed.PackedRow.{PackedRow}
-use Rattle.gf2_matrix.specs.Equations.{MeetsEquation, numbers_from, sum_of_numbers}
-use Rattle.gf2_matrix.specs.Content.{SourcedRow, no_row, row_at, equation, form, has, place, source_numbers, IsLong, AreColumns, IsInColumns, IsOfGiven, words_for}
+use Rattle.gf2_matrix.specs.Totals.{MeetsEquation}
+use Rattle.parity_engine.specs.Equations.{numbers_from, sum_of_numbers}
+use Rattle.gf2_matrix.specs.Content.{SourcedRow, no_row, row_at, equation, form, has, source_numbers, IsLong, IsInColumns, IsOfGiven}
+use Rattle.parity_engine.specs.Columns.{place, AreColumns}
+use Rattle.parity_engine.specs.Views.{words_for}
 use Rattle.gf2_matrix.specs.Packed.{unpacked, content, IsMatrix}
 use Rattle.gf2_matrix.specs.Made.{is_flipped, IsMade, IsEmptyRow, IsRowOf, AreRowsOf, IsMadeOf, occurs_in}
-use Rattle.gf2_matrix.proofs.Forms.{contains-form, contains-form_zero, same_form, same_from_one, Sums_from_meets, below_from_within, each-all, every-at, numbers-at, contains-sum_of_numbers, right-sum_of_numbers}
-use Rattle.gf2_matrix.proofs.Literals.{contains_parity, right_parity}
+use Rattle.parity_engine.proofs.Forms.{contains-form, contains-form_zero, same_form, same_from_one, numbers-at}
+use Rattle.gf2_matrix.proofs.FormSums.{Sums_from_meets, below_from_within, each-all, every-at, contains-sum_of_numbers, right-sum_of_numbers}
+use Rattle.parity_engine.proofs.Literals.{contains_parity, right_parity}
 use Rattle.gf2_matrix.proofs.Marks.{parity_taken}
-use Rattle.gf2_matrix.proofs.Columns.{columns_rise, none_below}
+use Rattle.parity_engine.proofs.Columns.{columns_rise, none_below}
 use Rattle.gf2_matrix.proofs.Rows.{place-holds}
 use Rattle.gf2_matrix.proofs.Pivot.{sound_from_sum}
 
@@ -32,7 +37,7 @@ turned-true false old e = ap (λ x. differ x true) (sym e)
 
 turned-is : (e b old : Bool) → (e ≡ true → old ≡ b) → cond e (not b) old ≡ differ old e
 turned-is true b old h = turned-true b old (h refl)
-turned-is false b old h = sym (differ-false old)
+turned-is false b old h = sym (differ_false old)
 
 -- ---- one column turned over
 pub flipped_in : (old new : List ℕ) (column columns : ℕ) → length new ≡ length old → column < columns → columns ≤ 64 * length old
@@ -43,14 +48,14 @@ flipped_in old new column columns long lt room flipped k =
     ∙ ap (λ b. differ (bit_of old k) (b && eqb k column)) (sym (lt-ltb column columns lt))
 
 pub flipped_out : (old : List ℕ) (column columns : ℕ) → columns ≤ column → (k : ℕ) → bit_of old k ≡ differ (bit_of old k) (is_flipped column columns k)
-flipped_out old column columns le k = sym (ap (λ b. differ (bit_of old k) (b && eqb k column)) (le-ltb column columns le) ∙ differ-false (bit_of old k))
+flipped_out old column columns le k = sym (ap (λ b. differ (bit_of old k) (b && eqb k column)) (le-ltb column columns le) ∙ differ_false (bit_of old k))
 
 -- ---- one literal more
 pub made_none : (columns : List ℕ) (row : PackedRow) (lits : List Literal) → IsMade columns row row lits 0
 made_none columns row lits = record {
   long = refl;
-  bits = λ k. sym (differ-false (bit_of row.bits.items k));
-  right = sym (differ-false row.right);
+  bits = λ k. sym (differ_false (bit_of row.bits.items k));
+  right = sym (differ_false row.right);
   sources = refl;
 }
 
@@ -67,10 +72,10 @@ made_more columns old row new lits i l words column before lt read at long flipp
       bits = λ k.
           ap (λ ws. bit_of ws k) is ∙ flipped k
           ∙ (λ j. differ (before.bits k j) (is_flipped (at j) (length columns) k))
-          ∙ differ-assoc (bit_of old.bits.items k) (parity (map (f k) (take i lits))) (f k l)
+          ∙ differ_assoc (bit_of old.bits.items k) (parity (map (f k) (take i lits))) (f k l)
           ∙ ap (differ (bit_of old.bits.items k)) (ap (λ m. differ (parity (map (f k) (take i lits))) (f k m)) read ∙ sym (parity_taken (f k) lits i l lt));
       right =
-          right ∙ ap (λ b. differ b l.negative) before.right ∙ differ-assoc old.right (parity (map g (take i lits))) l.negative
+          right ∙ ap (λ b. differ b l.negative) before.right ∙ differ_assoc old.right (parity (map g (take i lits))) l.negative
           ∙ ap (differ old.right) (ap (λ m. differ (parity (map g (take i lits))) (g m)) read ∙ sym (parity_taken g lits i l lt));
       sources = sources ∙ before.sources;
     }
@@ -233,8 +238,14 @@ one_number f i k m a (suc n) is low high at =
     ]
 
 -- ---- the whole matrix
-module _ (vars : ℕ) (given : List (List Literal)) (columns : List ℕ) (rows : List PackedRow) (d : PackedRow) (within : AllByRecursion (AreWithin vars) given)
-    (rise : AreColumns 1 vars columns) (occur : (v : ℕ) → list_any (λ c. nat_eq c v) columns ≡ occurs_in given v) (are : AreRowsOf columns given rows (length given)) where
+-- the columns and the rows are those of the parities
+pub record AreMadeFrom (vars : ℕ) (given : List (List Literal)) (columns : List ℕ) (rows : List PackedRow) : Type 0 where
+  pub within : AllByRecursion (AreWithin vars) given
+  pub rise : AreColumns 1 vars columns
+  pub occur : (v : ℕ) → list_any (λ c. nat_eq c v) columns ≡ occurs_in given v
+  pub are : AreRowsOf columns given rows (length given)
+
+module _ (vars : ℕ) (given : List (List Literal)) (columns : List ℕ) (rows : List PackedRow) (d : PackedRow) (made : AreMadeFrom vars given columns rows) where
   seen : ℕ → SourcedRow
   seen k = unpacked vars (length given) columns (get_or rows k d)
 
@@ -243,15 +254,15 @@ module _ (vars : ℕ) (given : List (List Literal)) (columns : List ℕ) (rows :
 
   within_of : (k : ℕ) → k < length given → AreWithin vars (lits_of k)
   unfolding lits_of
-  within_of k lt = every-at (AreWithin vars) given k [] within lt
+  within_of k lt = every-at (AreWithin vars) given k [] made.within lt
 
   row_of : (k : ℕ) → k < length given → IsRowOf columns (length given) k (lits_of k) (get_or rows k d)
   unfolding lits_of
-  row_of k lt = are.each k d lt
+  row_of k lt = made.are.each k d lt
 
   row_seen : (k : ℕ) → k < length given → row_at (content vars given columns rows).rows k ≡ seen k
   unfolding seen
-  row_seen k lt = get_or-map-within (unpacked vars (length given) columns) rows k d no_row (let h = are.count in omega arith)
+  row_seen k lt = get_or-map-within (unpacked vars (length given) columns) rows k d no_row (let h = made.are.count in omega arith)
 
   padded_row : (k j : ℕ) → k < length given → length columns ≤ j → bit_of (get_or rows k d).bits.items j ≡ false
   padded_row k j lt le = (row_of k lt).bits j ∙ flipped_past columns (lits_of k) j le
@@ -269,7 +280,7 @@ module _ (vars : ℕ) (given : List (List Literal)) (columns : List ℕ) (rows :
                   (row_of k lt).bits (place columns (x + 1)) ∙ flipped_all columns (lits_of k) (x + 1) col ∙ sym (contains_parity (lits_of k) (x + 1))
               | inr none ↦
                   padded_row k (place columns (x + 1)) lt none
-                  ∙ sym (any_not (λ ls. set.contains (normal_form ls).variables (x + 1)) given k [] (sym (occur (x + 1)) ∙ missing columns (x + 1) none) lt)
+                  ∙ sym (any_not (λ ls. set.contains (normal_form ls).variables (x + 1)) given k [] (sym (made.occur (x + 1)) ∙ missing columns (x + 1) none) lt)
             ]
         | inr out ↦
             get_or-eq_default (map (λ y. bit_of words (place columns (y + 1))) (range_with_len 0 vars)) false
@@ -297,9 +308,9 @@ module _ (vars : ℕ) (given : List (List Literal)) (columns : List ℕ) (rows :
       form_seen k lt
       ∙ same_form (normal_form (lits_of k)) (sum_of_numbers given ((k + 1) ∷ []))
       (λ y.
-      sym (contains-sum_of_numbers given ((k + 1) ∷ []) y ∙ differ-false (set.contains (normal_form (get_or given (k + 1 - 1) [])).variables y)
+      sym (contains-sum_of_numbers given ((k + 1) ∷ []) y ∙ differ_false (set.contains (normal_form (get_or given (k + 1 - 1) [])).variables y)
       ∙ ap (λ j. set.contains (normal_form (get_or given j [])).variables y) at))
-      (sym (right-sum_of_numbers given ((k + 1) ∷ []) ∙ differ-false (normal_form (get_or given (k + 1 - 1) [])).right_side
+      (sym (right-sum_of_numbers given ((k + 1) ∷ []) ∙ differ_false (normal_form (get_or given (k + 1 - 1) [])).right_side
       ∙ ap (λ j. (normal_form (get_or given j [])).right_side) at))
       ∙ ap (sum_of_numbers given) (sym (sources_seen k lt))
 
@@ -318,7 +329,7 @@ module _ (vars : ℕ) (given : List (List Literal)) (columns : List ℕ) (rows :
         | inr none ↦
             absurd (true≢false
             (sym (sym (has_seen k x lt) ∙ is)
-            ∙ any_not (λ ls. set.contains (normal_form ls).variables (x + 1)) given k [] (sym (occur (x + 1)) ∙ missing columns (x + 1) none) lt))
+            ∙ any_not (λ ls. set.contains (normal_form ls).variables (x + 1)) given k [] (sym (made.occur (x + 1)) ∙ missing columns (x + 1) none) lt))
       ]
 
   met_seen : (v : List Bool) → length v ≡ vars → (k : ℕ) → k < length given → MeetsEquation v (equation (seen k)) → parity_met v (lits_of k) ≡ true
@@ -329,16 +340,16 @@ module _ (vars : ℕ) (given : List (List Literal)) (columns : List ℕ) (rows :
   pub made_of_given : IsOfGiven (content vars given columns rows)
   unfolding lits_of
   made_of_given =
-      let count : length (content vars given columns rows).rows ≡ length given = length-map rows (unpacked vars (length given) columns) ∙ are.count in
+      let count : length (content vars given columns rows).rows ≡ length given = length-map rows (unpacked vars (length given) columns) ∙ made.are.count in
       record {
-        within = within;
-        columns_rise = rise;
+        within = made.within;
+        columns_rise = made.rise;
         in_columns = λ k lt. subst (IsInColumns columns) (sym (row_seen k (omega arith))) (columns_seen k (omega arith));
         long = λ k lt. subst (IsLong (content vars given columns rows)) (sym (row_seen k (omega arith))) (long_seen k);
         sums = λ k lt. subst (λ row. form row ≡ sum_of_numbers given (source_numbers row)) (sym (row_seen k (omega arith))) (sum_seen k (omega arith));
         sound = λ v long met k lt.
             subst (λ row. MeetsEquation v (equation row)) (sym (row_seen k (omega arith)))
-            (sound_from_sum vars given (seen k) v (long_seen k).0 (long_seen k).1 within (sum_seen k (omega arith)) long met);
+            (sound_from_sum vars given (seen k) v (long_seen k).0 (long_seen k).1 made.within (sum_seen k (omega arith)) long met);
         complete = λ v long met.
             each-all (parity_met v) given []
             (λ k lt. met_seen v long k lt (subst (λ row. MeetsEquation v (equation row)) (row_seen k lt) (met k (omega arith))));
@@ -349,9 +360,9 @@ module _ (vars : ℕ) (given : List (List Literal)) (columns : List ℕ) (rows :
   made_is = record {
     vars_are = refl;
     given_are = refl;
-    columns_rise = rise;
-    columns_are = occur;
-    count = length-map rows (unpacked vars (length given) columns) ∙ are.count;
+    columns_rise = made.rise;
+    columns_are = made.occur;
+    count = length-map rows (unpacked vars (length given) columns) ∙ made.are.count;
     forms = λ k lt. ap form (row_seen k lt) ∙ form_seen k lt;
     sources = λ k lt. ap source_numbers (row_seen k lt) ∙ sources_seen k lt;
   }
@@ -360,17 +371,17 @@ module _ (vars : ℕ) (given : List (List Literal)) (columns : List ℕ) (rows :
       → length no_columns ≡ words_for (length columns) → ((k : ℕ) → bit_of no_columns k ≡ false) → IsMatrix vars given columns rows spare no_columns
   made_matrix spare no_columns few few_given empty long none = record {
     of_given = made_of_given;
-    columns_rise = rise;
+    columns_rise = made.rise;
     sized = λ k e lt.
-        let small : k < length given = let h = are.count in omega arith in
-        let row = are.each k e small in
+        let small : k < length given = let h = made.are.count in omega arith in
+        let row = made.are.each k e small in
         (row.words ∙ sym empty.words, row.source_words ∙ sym empty.source_words);
     words = empty.words;
     source_words = empty.source_words;
     few = few;
     padded = λ j k e lt ge.
-        let small : j < length given = let h = are.count in omega arith in
-        (are.each j e small).bits k ∙ flipped_past columns (get_or given j []) k ge;
+        let small : j < length given = let h = made.are.count in omega arith in
+        (made.are.each j e small).bits k ∙ flipped_past columns (get_or given j []) k ge;
     few_given = few_given;
     no_words = long;
     none = none;
@@ -386,16 +397,16 @@ pub made_inputs : (vars : ℕ) (parities lists given : List (List Literal)) (mar
     → AllByRecursion (AreWithin vars) parities → lists ≡ parities → given ≡ lists → length marks ≡ vars
     → ((x : ℕ) → x < vars → get_or marks x false ≡ occurs_in lists (x + 1)) → columns ≡ numbers_from 1 marks → seen ≡ columns
     → AreRowsOf seen lists rows (length lists)
-    → AllByRecursion (AreWithin vars) given × AreColumns 1 vars columns × ((v : ℕ) → list_any (λ c. nat_eq c v) columns ≡ occurs_in given v)
-    × AreRowsOf columns given rows (length given)
+    → AreMadeFrom vars given columns rows
 made_inputs vars parities lists given marks columns seen rows within lists_is given_is long marked is seen_is are =
     let within_lists : AllByRecursion (AreWithin vars) lists = subst (AllByRecursion (AreWithin vars)) (sym lists_is) within in
-    let rows_here : AreRowsOf columns lists rows (length lists) = subst (λ cs. AreRowsOf cs lists rows (length lists)) seen_is are in (
-      subst (AllByRecursion (AreWithin vars)) (sym given_is) within_lists,
-      subst (AreColumns 1 vars) (sym is) (numbers_rise 1 vars marks (omega arith)),
-      λ v. ap (list_any (λ c. nat_eq c v)) is ∙ columns_occur vars lists marks within_lists long marked v ∙ ap (λ ps. occurs_in ps v) (sym given_is),
-      subst (λ (ps : List (List Literal)). AreRowsOf columns ps rows (length ps)) (sym given_is) rows_here,
-    )
+    let rows_here : AreRowsOf columns lists rows (length lists) = subst (λ cs. AreRowsOf cs lists rows (length lists)) seen_is are in
+    record {
+      within = subst (AllByRecursion (AreWithin vars)) (sym given_is) within_lists;
+      rise = subst (AreColumns 1 vars) (sym is) (numbers_rise 1 vars marks (omega arith));
+      occur = λ v. ap (list_any (λ c. nat_eq c v)) is ∙ columns_occur vars lists marks within_lists long marked v ∙ ap (λ ps. occurs_in ps v) (sym given_is);
+      are = subst (λ (ps : List (List Literal)). AreRowsOf columns ps rows (length ps)) (sym given_is) rows_here;
+    }
 
 pub empty_as : (n columns m count : ℕ) (row : PackedRow) → n ≡ columns → m ≡ count → IsEmptyRow n m row → IsEmptyRow columns count row
 empty_as n columns m count row e f is = subst (λ k. IsEmptyRow columns k row) f (subst (λ k. IsEmptyRow k m row) e is)

@@ -5,18 +5,19 @@ use Rattle.std.specs.FinSet as set
 use Rattle.std.proofs.Math.Seq.{take-suc, drop-cons}
 use Rattle.std.proofs.Math.ListN.{length-set}
 use Rattle.std.proofs.lemmas.List.{get_or-set_same, get_or-set_other, map-append}
-use Rattle.std.proofs.lemmas.Bool.{cases_eq, eq-eqb, ne_eqb}
+use Rattle.std.proofs.lemmas.Bool.{cases_eq, eq-eqb, ne_eqb, false_from_ne_true}
 use Rattle.cx_base.specs.Literals.{Literal, differ}
 use Rattle.cx_base.specs.Problem.{AreWithin}
 use Rattle.cx_base.specs.Parity.{normal_form, occurs_odd}
 use Rattle.cx_base.proofs.ParityLaws.{contains-normal_form}
 use Rattle.gf2_rows.specs.Bits.{parity}
-use Rattle.gf2_rows.proofs.Words.{differ-assoc, differ-false, parity-append}
-use Rattle.gf2_matrix.specs.Equations.{numbers_from}
+use Rattle.cx_base.proofs.Differences.{differ_assoc, differ_turned, differ_false}
+use Rattle.gf2_rows.proofs.Words.{parity-append}
+use Rattle.parity_engine.specs.Equations.{numbers_from}
 use Rattle.gf2_matrix.specs.Made.{occurs_in}
-use Rattle.gf2_matrix.proofs.Forms.{every-at}
+use Rattle.gf2_matrix.proofs.FormSums.{every-at}
 use Rattle.gf2_matrix.proofs.Numbered.{numbers-append}
-use Rattle.gf2_matrix.proofs.Literals.{occurs_parity}
+use Rattle.parity_engine.proofs.Literals.{occurs_parity}
 
 -- ---- one literal more
 pub parity_taken : {A : Type 0} (f : A → Bool) (xs : List A) (i : ℕ) (d : A) → i < length xs → parity (map f (take (i + 1) xs)) ≡ differ (parity (map f (take i xs))) (f (get_or xs i d))
@@ -25,7 +26,7 @@ parity_taken f xs i d lt =
     ap (λ n. parity (map f (take n xs))) e ∙ ap (λ ys. parity (map f ys)) (take-suc xs i d lt)
     ∙ ap parity (map-append f (take i xs) (get_or xs i d ∷ []))
     ∙ parity-append (map f (take i xs)) (f (get_or xs i d) ∷ [])
-    ∙ ap (differ (parity (map f (take i xs)))) (differ-false (f (get_or xs i d)))
+    ∙ ap (differ (parity (map f (take i xs)))) (differ_false (f (get_or xs i d)))
 
 is_at : ℕ → Literal → Bool
 is_at x l = eqb l.variable (x + 1)
@@ -36,11 +37,7 @@ pub record AreTurned (old new : List Bool) (lits : List Literal) (n : ℕ) : Typ
   pub marks : (x : ℕ) → x < length old → get_or new x false ≡ differ (get_or old x false) (parity (map (λ (l : Literal). eqb l.variable (x + 1)) (take n lits)))
 
 pub turned_none : (old : List Bool) (lits : List Literal) → AreTurned old old lits 0
-turned_none old lits = record { long = refl; marks = λ x lt. sym (differ-false (get_or old x false)) }
-
-differ-true : (b : Bool) → not b ≡ differ b true
-differ-true true = refl
-differ-true false = refl
+turned_none old lits = record { long = refl; marks = λ x lt. sym (differ_false (get_or old x false)) }
 
 pub turned_more : (old odd new : List Bool) (lits : List Literal) (i at : ℕ) (l : Literal) (b : Bool) → AreTurned old odd lits i → i < length lits → l ≡ get_or lits i l
     → at + 1 ≡ l.variable → at < length odd → b ≡ get_or odd at false → new ≡ set odd at (not b) → AreTurned old new lits (i + 1)
@@ -48,7 +45,7 @@ turned_more old odd new lits i at l b before lt read here inside seen is =
     let f : ℕ → Literal → Bool = λ x m. eqb m.variable (x + 1) in
     let more : (x : ℕ) → x < length old → differ (get_or odd x false) (f x l) ≡ differ (get_or old x false) (parity (map (f x) (take (i + 1) lits))) =
     λ x small.
-    ap (λ c. differ c (f x l)) (before.marks x small) ∙ differ-assoc (get_or old x false) (parity (map (f x) (take i lits))) (f x l)
+    ap (λ c. differ c (f x l)) (before.marks x small) ∙ differ_assoc (get_or old x false) (parity (map (f x) (take i lits))) (f x l)
     ∙ ap (differ (get_or old x false)) (ap (λ m. differ (parity (map (f x) (take i lits))) (f x m)) read ∙ sym (parity_taken (f x) lits i l lt)) in
     record {
       long = ap length is ∙ length-set odd at (not b) ∙ before.long;
@@ -57,10 +54,10 @@ turned_more old odd new lits i at l b before lt read here inside seen is =
           ∙ elim (cases_eq x at) [
             | inl e ↦
                 ap (λ y. get_or (set odd at (not b)) y false) e ∙ get_or-set_same odd at (not b) false inside ∙ ap not seen
-                ∙ ap (λ y. not (get_or odd y false)) (sym e) ∙ differ-true (get_or odd x false)
+                ∙ ap (λ y. not (get_or odd y false)) (sym e) ∙ differ_turned true (get_or odd x false)
                 ∙ ap (differ (get_or odd x false)) (sym (eq-eqb l.variable (x + 1) (omega arith))) ∙ more x small
             | inr ne ↦
-                get_or-set_other odd at x (not b) false ne ∙ sym (differ-false (get_or odd x false))
+                get_or-set_other odd at x (not b) false ne ∙ sym (differ_false (get_or odd x false))
                 ∙ ap (differ (get_or odd x false)) (sym (ne_eqb l.variable (x + 1) (λ e. ne (omega arith)))) ∙ more x small
           ];
     }
@@ -140,10 +137,6 @@ moved_more old_to old_from to from to' from' lits i at l m before same lt read h
           ];
     }
 
-not_true : (b : Bool) → (b ≡ true → ⊥) → b ≡ false
-not_true true h = absurd (h refl)
-not_true false h = refl
-
 or-false : (a : Bool) → (a || false) ≡ a
 or-false true = refl
 or-false false = refl
@@ -151,7 +144,7 @@ or-false false = refl
 pub moved_clear : (old_to old_from to from : List Bool) (lits : List Literal) (n : ℕ) → AreMoved old_to old_from to from lits n → length lits ≤ n
     → (x : ℕ) → x < length old_from → get_or from x false ≡ false
 moved_clear old_to old_from to from lits n is le x lt =
-    not_true (get_or from x false)
+    false_from_ne_true (get_or from x false)
     (λ h. true≢false (sym (is.left x lt h) ∙ ap (list_any (λ (l : Literal). eqb l.variable (x + 1))) (Rattle.std.proofs.lemmas.List.drop_all n lits le)))
 
 pub moved_all : (old_to old_from to from : List Bool) (lits : List Literal) (n : ℕ) → AreMoved old_to old_from to from lits n → length lits ≤ n

@@ -8,13 +8,15 @@ use Rattle.std.specs.List.{list_all, AllByRecursion}
 use Rattle.std.specs.FinSet as set
 use Rattle.cx_base.specs.Problem.{AreWithin, parity_met}
 use Rattle.cx_base.specs.Parity.{NormalForm, normal_form}
-use Rattle.cx_base.proofs.ParityLaws.{Sums}
-use Rattle.gf2_matrix.specs.Equations.{total, MeetsEquation, numbers_from, parity_number, sum_of_numbers}
-use Rattle.gf2_matrix.proofs.Products.{and-differ, products_added}
-use Rattle.gf2_matrix.proofs.Forms.{contains-form, contains-form_zero, same_form, contains-sum_of_numbers, right-sum_of_numbers, meets_from_Sums, AreNumbers, sum_met}
+use Rattle.cx_base.proofs.ParityLaws.{Sums, differ_and}
+use Rattle.gf2_matrix.specs.Totals.{total, MeetsEquation}
+use Rattle.parity_engine.specs.Equations.{numbers_from, parity_number, sum_of_numbers}
+use Rattle.gf2_matrix.proofs.Products.{products_added}
+use Rattle.parity_engine.proofs.Forms.{contains-form, contains-form_zero, same_form}
+use Rattle.gf2_matrix.proofs.FormSums.{contains-sum_of_numbers, right-sum_of_numbers, meets_from_Sums, AreNumbers, sum_met}
 use Rattle.cx_base.specs.Literals.{Literal, differ}
 use Rattle.gf2_rows.specs.Bits.{parity}
-use Rattle.gf2_rows.proofs.Words.{differ-swap}
+use Rattle.gf2_rows.proofs.Words.{differ_swap, differ_twice}
 use Rattle.gf2_matrix.specs.Content.{SourcedRow, Content, no_row, row_at, equation, form, has, source_numbers, added, pivoted_row, pivoted, IsLong, IsOfGiven, IsInColumns}
 
 -- ---- sums over the set bits
@@ -35,8 +37,8 @@ weigh-differ f k [] [] e = refl
 weigh-differ f k [] (b ∷ bs) e = absurd (omega arith)
 weigh-differ f k (a ∷ as') [] e = absurd (omega arith)
 weigh-differ f k (a ∷ as') (b ∷ bs) e =
-    ap (λ x. differ x (weigh f (k + 1) (zip2 differ as' bs))) (and-differ a b (f k)) ∙ ap (differ (differ (a && f k) (b && f k))) (weigh-differ f (k + 1) as' bs (omega arith))
-    ∙ differ-swap (a && f k) (b && f k) (weigh f (k + 1) as') (weigh f (k + 1) bs)
+    ap (λ x. differ x (weigh f (k + 1) (zip2 differ as' bs))) (differ_and a b (f k)) ∙ ap (differ (differ (a && f k) (b && f k))) (weigh-differ f (k + 1) as' bs (omega arith))
+    ∙ differ_swap (a && f k) (b && f k) (weigh f (k + 1) as') (weigh f (k + 1) bs)
 
 numbers-differ : (f : ℕ → Bool) (as' bs : List Bool) → length as' ≡ length bs
     → parity (map f (numbers_from 1 (zip2 differ as' bs))) ≡ differ (parity (map f (numbers_from 1 as'))) (parity (map f (numbers_from 1 bs)))
@@ -86,18 +88,7 @@ added_met : (a b : SourcedRow) (v : List Bool) → length a.terms ≡ length v �
 added_met a b v e f ma mb = products_added a.terms b.terms v e f ∙ ap (λ x. differ x (total (equation b) v)) ma ∙ ap (differ a.right) mb
 
 differ-cancel : (a b c d : Bool) → differ a b ≡ differ c d → b ≡ d → a ≡ c
-differ-cancel true true true d h e = refl
-differ-cancel true true false true h e = cc
-differ-cancel true true false false h e = cc
-differ-cancel true false true d h e = refl
-differ-cancel true false false true h e = cc
-differ-cancel true false false false h e = cc
-differ-cancel false true false d h e = refl
-differ-cancel false true true true h e = cc
-differ-cancel false true true false h e = cc
-differ-cancel false false false d h e = refl
-differ-cancel false false true true h e = cc
-differ-cancel false false true false h e = cc
+differ-cancel a b c d h e = sym (differ_twice a b) ∙ ap (λ x. differ x b) h ∙ ap (differ (differ c d)) e ∙ differ_twice c d
 
 first_met : (a b : SourcedRow) (v : List Bool) → length a.terms ≡ length v → length b.terms ≡ length v
     → MeetsEquation v (equation (added a b)) → MeetsEquation v (equation b) → MeetsEquation v (equation a)

@@ -7,13 +7,9 @@ use Rattle.std.proofs.lemmas.List.{ext_get_or}
 use Rattle.std.proofs.lemmas.List.FromFn.{get_or-map-range_with_len, length-map-range_with_len}
 use Rattle.cx_base.specs.Literals.{differ}
 use Rattle.gf2_rows.specs.Bits.{parity}
-use Rattle.gf2_rows.proofs.Words.{differ-false, differ-swap}
-
-pub and-differ : (a b c : Bool) → (differ a b && c) ≡ differ (a && c) (b && c)
-and-differ true true true = refl
-and-differ true true false = refl
-and-differ true false c = sym (differ-false c)
-and-differ false b c = refl
+use Rattle.cx_base.proofs.ParityLaws.{differ_and}
+use Rattle.cx_base.proofs.Differences.{differ_assoc}
+use Rattle.gf2_rows.proofs.Words.{differ_swap}
 
 -- ---- sums over the positions
 listed : (values : List Bool) (n : ℕ) → length values ≡ n → values ≡ map (λ x. get_or values x false) (range_with_len 0 n)
@@ -32,12 +28,6 @@ total-over values n f long =
     ∙ ap parity (zip2-map ◌&&◌ f (λ x. get_or values x false) (range_with_len 0 n))
 
 -- ---- one value turned over
-differ-swap_last : (a b c : Bool) → differ a (differ b c) ≡ differ (differ a b) c
-differ-swap_last true true true = refl
-differ-swap_last true true false = refl
-differ-swap_last true false c = refl
-differ-swap_last false b c = refl
-
 differ-rotate : (t v r : Bool) → differ (t && not v) r ≡ differ (differ (t && v) r) t
 differ-rotate true true true = refl
 differ-rotate true true false = refl
@@ -52,9 +42,9 @@ products_turned terms [] x e lt = absurd (omega arith)
 products_turned [] (v ∷ vs) x e lt = absurd (omega arith)
 products_turned (t ∷ ts) (v ∷ vs) zero e lt = differ-rotate t v (parity (zip2 ◌&&◌ ts vs))
 products_turned (t ∷ ts) (v ∷ vs) (suc x) e lt =
-    ap (differ (t && v)) (products_turned ts vs x (omega arith) (omega arith)) ∙ differ-swap_last (t && v) (parity (zip2 ◌&&◌ ts vs)) (get_or ts x false)
+    ap (differ (t && v)) (products_turned ts vs x (omega arith) (omega arith)) ∙ sym (differ_assoc (t && v) (parity (zip2 ◌&&◌ ts vs)) (get_or ts x false))
 
-and_same : (t v w : Bool) → (t ≡ true → v ≡ w) → (t && v) ≡ (t && w)
+pub and_same : (t v w : Bool) → (t ≡ true → v ≡ w) → (t && v) ≡ (t && w)
 and_same true v w h = h refl
 and_same false v w h = refl
 
@@ -78,6 +68,6 @@ products_added (a ∷ as') [] [] e f = absurd (omega arith)
 products_added (a ∷ as') [] (v ∷ vs) e f = absurd (omega arith)
 products_added (a ∷ as') (b ∷ bs) [] e f = absurd (omega arith)
 products_added (a ∷ as') (b ∷ bs) (v ∷ vs) e f =
-    ap (λ x. differ x (parity (zip2 ◌&&◌ (zip2 differ as' bs) vs))) (and-differ a b v)
+    ap (λ x. differ x (parity (zip2 ◌&&◌ (zip2 differ as' bs) vs))) (differ_and a b v)
     ∙ ap (differ (differ (a && v) (b && v))) (products_added as' bs vs (omega arith) (omega arith))
-    ∙ differ-swap (a && v) (b && v) (parity (zip2 ◌&&◌ as' vs)) (parity (zip2 ◌&&◌ bs vs))
+    ∙ differ_swap (a && v) (b && v) (parity (zip2 ◌&&◌ as' vs)) (parity (zip2 ◌&&◌ bs vs))

@@ -1,8 +1,8 @@
 -- Packed rows and what they stand for.
-use Rattle.std.proofs.Common.{◌≡◌, ℕ, ◌+◌, ◌-◌, ◌<◌, ◌≤◌, zero, suc, Bool, true, false, cond, not, ◌&&◌, eqb, List, [], ◌∷◌, map, length, get_or, set, refl, sym, ap, ◌∙◌, subst, arith, inl, inr, ◌⊎◌}
+use Rattle.std.proofs.Common.{◌≡◌, ℕ, ◌+◌, ◌-◌, ◌<◌, ◌≤◌, suc, Bool, true, false, cond, not, ◌&&◌, eqb, List, [], ◌∷◌, map, length, get_or, set, refl, sym, ap, ◌∙◌, subst, arith, inl, inr, ◌⊎◌}
 use mathlib.Core.Bool.{beq}
 use Rattle.std.proofs.Math.ListN.{length-set, get_or-eq_default}
-use Rattle.std.proofs.lemmas.List.{get_or-set_same, get_or-set_other, length-map, ext_get_or, get_or-map as get_or-map-within}
+use Rattle.std.proofs.lemmas.List.{length-map, ext_get_or, get_or-map as get_or-map-within}
 use Rattle.std.proofs.lemmas.Bool.{cases_eq, cases_lt, eq-eqb, ne_eqb}
 use Rattle.std.specs.Simd.Lanes.{zip2}
 use Rattle.std.specs.List.{range_with_len}
@@ -13,7 +13,10 @@ use Rattle.cx_base.specs.Literals.{Literal, differ}
 use Rattle.gf2_rows.specs.Bits.{bit_of, bits_of}
 use Rattle.gf2_rows.proofs.Words.{bit_of_sum}
 use Rattle.gf2_matrix.specs.declared.packed.PackedRow.{PackedRow}
-use Rattle.gf2_matrix.specs.Content.{SourcedRow, Content, no_row, row_at, added, pivoted, has, IsOfGiven, AreBitsOf, IsInColumns, place, sources_of, AreColumns}
+use Rattle.gf2_matrix.specs.Content.{SourcedRow, Content, no_row, row_at, added, pivoted, has, IsOfGiven, AreBitsOf, IsInColumns, sources_of}
+use Rattle.parity_engine.specs.Columns.{place, AreColumns}
+use Rattle.parity_engine.proofs.Columns.{columns_rise, column-low, column-high, place_found}
+use Rattle.gf2_matrix.proofs.Updates.{changed_more, left_more}
 use Rattle.gf2_matrix.specs.Packed.{IsSized, IsSumRow, IsSameRow, takes_pivot, IsPivotedRow, ArePivoted, unpacked, content, IsMatrix}
 
 pub differ-beq : (a b : Bool) → not (beq a b) ≡ differ a b
@@ -39,11 +42,6 @@ sum_row target other new bits sources eb es er lb ls ob os hb hs = record {
 }
 
 -- ---- the loop over the rows
-pub same_read : {A : Type 0} (xs : List A) (i : ℕ) (d e : A) → i < length xs → get_or xs i d ≡ get_or xs i e
-same_read [] i d e lt = absurd (omega arith)
-same_read (x ∷ xs) zero d e lt = refl
-same_read (x ∷ xs) (suc i) d e lt = same_read xs i d e (omega arith)
-
 pub pivoted_none : (row column : ℕ) (pivot : PackedRow) (rows : List PackedRow) → ArePivoted row column pivot rows rows 0
 pivoted_none row column pivot rows = record { long = refl; done = λ j d lt. absurd (omega arith); left = λ j d ge. refl }
 
@@ -54,37 +52,12 @@ pivoted_more row column pivot old new j e n takes before lt is step =
     let within : j < length new = let h = before.long in omega arith in
     record {
       long = length-set new j n ∙ before.long;
-      done = λ k d small.
-          elim (cases_eq k j) [
-            | inl same ↦
-                let read : get_or new j e ≡ get_or old j d = same_read new j e d within ∙ before.left j d (omega arith) in
-                subst (λ i. IsPivotedRow (takes_pivot row column i (get_or old i d)) pivot (get_or old i d) (get_or (set new j n) i d)) (sym same)
-                (rw (get_or-set_same new j n d within) (subst (λ r. IsPivotedRow (takes_pivot row column j r) pivot r n) read (subst (λ b. IsPivotedRow b pivot (get_or new j e) n) is step)))
-            | inr ne ↦ rw (get_or-set_other new j k n d ne) (before.done k d (omega arith))
-          ];
-      left = λ k d ge. get_or-set_other new j k n d (λ same. omega arith) ∙ before.left k d (omega arith);
+      done = changed_more (λ k o w. IsPivotedRow (takes_pivot row column k o) pivot o w) old new j e n within before.left before.done
+          (subst (λ b. IsPivotedRow b pivot (get_or new j e) n) is step);
+      left = left_more old new j n before.left;
     }
 
 -- ---- what a pivot leaves of the rows as callers see them
--- rising columns
-pub column-low : (least vars : ℕ) (columns : List ℕ) (k : ℕ) → AreColumns least vars columns → k < length columns → least ≤ get_or columns k 0
-column-low least vars [] k rise lt = absurd (omega arith)
-column-low least vars (c ∷ cs) zero rise lt = rise.0
-column-low least vars (c ∷ cs) (suc k) rise lt = let h = column-low (c + 1) vars cs k rise.2 (omega arith) in let g = rise.0 in omega arith
-
-pub column-high : (least vars : ℕ) (columns : List ℕ) (k : ℕ) → AreColumns least vars columns → k < length columns → get_or columns k 0 ≤ vars
-column-high least vars [] k rise lt = absurd (omega arith)
-column-high least vars (c ∷ cs) zero rise lt = rise.1
-column-high least vars (c ∷ cs) (suc k) rise lt = column-high (c + 1) vars cs k rise.2 (omega arith)
-
--- a column stands at its place
-pub place-of : (least vars : ℕ) (columns : List ℕ) (k : ℕ) → AreColumns least vars columns → k < length columns → place columns (get_or columns k 0) ≡ k
-place-of least vars [] k rise lt = absurd (omega arith)
-place-of least vars (c ∷ cs) zero rise lt = rw (eq-eqb c c refl) refl
-place-of least vars (c ∷ cs) (suc k) rise lt =
-    let above = column-low (c + 1) vars cs k rise.2 (omega arith) in
-    rw (ne_eqb c (get_or cs k 0) (λ e. omega arith), place-of (c + 1) vars cs k rise.2 (omega arith)) (omega arith)
-
 same_row : (a b : SourcedRow) → a.terms ≡ b.terms → a.right ≡ b.right → a.sources ≡ b.sources → a ≡ b
 same_row a b e f g =
     ap (λ (ts : List Bool). let r : SourcedRow = record { terms = ts; right = a.right; sources = a.sources } in r) e
@@ -120,7 +93,7 @@ module _ (vars count : ℕ) (columns : List ℕ) where
       let x : ℕ = get_or columns k 0 - 1 in
       let back : x + 1 ≡ get_or columns k 0 = omega arith in
       get_or-map-range_with_len (λ y. bit_of row.bits.items (place columns (y + 1))) 0 vars x x false (omega arith) (omega arith)
-      ∙ ap (bit_of row.bits.items) (ap (place columns) back ∙ place-of 1 vars columns k rise lt)
+      ∙ ap (bit_of row.bits.items) (ap (place columns) back ∙ place_found 1 columns k (columns_rise 1 vars columns rise) lt)
 
   by_cases : (pivot old new : PackedRow) (sum : SourcedRow) → sum ≡ unpacked vars count columns pivot → (a b : Bool) → IsPivotedRow (not a && b) pivot old new
       → unpacked vars count columns new ≡ cond a (unpacked vars count columns old) (cond b (added (unpacked vars count columns old) sum) (unpacked vars count columns old))
@@ -212,10 +185,6 @@ length-columns least vars (c ∷ cs) rise =
 
 pub few_columns : (vars : ℕ) (columns : List ℕ) → AreColumns 1 vars columns → length columns ≤ vars
 few_columns vars columns rise = elim (length-columns 1 vars columns rise) [ inl h ↦ omega arith | inr h ↦ omega arith ]
-
-pub place-le : (columns : List ℕ) (v : ℕ) → place columns v ≤ length columns
-place-le [] v = omega arith
-place-le (c ∷ cs) v = elim (cases_eq c v) [ inl e ↦ rw (eq-eqb c v e) (omega arith) | inr ne ↦ rw (ne_eqb c v ne) (let h = place-le cs v in omega arith) ]
 
 pub place-holds : (columns : List ℕ) (v : ℕ) → place columns v < length columns → get_or columns (place columns v) 0 ≡ v
 place-holds [] v lt = absurd (omega arith)

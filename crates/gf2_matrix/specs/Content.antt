@@ -1,12 +1,15 @@
 -- What a matrix holds: the given parities, and rows that are sums of them.
-use Rattle.std.specs.Prelude.{◌≡◌, ℕ, ◌+◌, ◌-◌, ◌<◌, ◌≤◌, Bool, true, false, cond, eqb, List, [], ◌∷◌, map, length, slice_index, slice_index_or, ◌/◌, ◌≢◌, ◌⊎◌, IsTrue}
-use Rattle.std.specs.List.{range_with_len, position_or_len, list_all, AllByRecursion}
+use Rattle.std.specs.Prelude.{◌≡◌, ℕ, ◌+◌, ◌-◌, ◌<◌, ◌≤◌, Bool, true, false, cond, eqb, List, [], map, length, slice_index, slice_index_or, ◌≢◌, ◌⊎◌, IsTrue}
+use Rattle.std.specs.List.{range_with_len, list_all, AllByRecursion}
 use Rattle.std.specs.Simd.Lanes.{zip2}
 use Rattle.cx_base.specs.Literals.{Literal, differ}
 use Rattle.cx_base.specs.Problem.{AreWithin, parity_met}
 use Rattle.cx_base.specs.Parity.{NormalForm}
 use Rattle.gf2_rows.specs.Bits.{bit_of}
-use Rattle.gf2_matrix.specs.Equations.{Equation, MeetsEquation, numbers_from, form_of, sum_of_numbers}
+use Rattle.parity_engine.specs.Columns.{AreColumns}
+use Rattle.parity_engine.specs.Views.{words_for, terms_of}
+use Rattle.parity_engine.specs.Equations.{Equation, numbers_from, form_of, sum_of_numbers}
+use Rattle.gf2_matrix.specs.Totals.{MeetsEquation}
 
 -- a bit for each variable, the right side, and a bit for each given parity that the row is a sum of
 pub record SourcedRow : Type 0 where
@@ -57,11 +60,6 @@ pivoted rows r x = map (pivoted_row rows r x) (range_with_len 0 (length rows))
 abbrev pub IsLong : Content → SourcedRow → Type 0
 IsLong c row = (length row.terms ≡ c.vars) × (length row.sources ≡ length c.given)
 
--- the columns are variables, rising
-abbrev pub AreColumns : ℕ → ℕ → List ℕ → Type 0
-AreColumns least vars [] = Unit {0}
-AreColumns least vars (v ∷ vs) = (least ≤ v) × (v ≤ vars) × AreColumns (v + 1) vars vs
-
 -- each variable of the row stands in a column
 abbrev pub IsInColumns : List ℕ → SourcedRow → Type 0
 IsInColumns columns row = (x : ℕ) → has row x ≡ true → (k : ℕ) × (k < length columns) × (slice_index columns k ≡ x + 1)
@@ -99,20 +97,9 @@ pub record IsSameShape (old new : Content) : Type 0 where
   pub columns : new.columns ≡ old.columns
   pub rows : length new.rows ≡ length old.rows
 
--- where the variable stands among the columns, or their number
-abbrev pub place : List ℕ → ℕ → ℕ
-place columns variable = position_or_len (λ c. eqb c variable) columns
-
--- a bit for each variable and for each parity, from packed words
-abbrev pub terms_of : ℕ → List ℕ → List ℕ → List Bool
-terms_of vars columns words = map (λ x. bit_of words (place columns (x + 1))) (range_with_len 0 vars)
-
+-- a bit for each given parity, from packed words
 abbrev pub sources_of : ℕ → List ℕ → List Bool
 sources_of count words = map (bit_of words) (range_with_len 0 count)
-
--- the words that hold so many bits
-abbrev pub words_for : ℕ → ℕ
-words_for bits = (bits + 63) / 64
 
 -- the words have the row's bits over the columns, and no other
 pub record AreBitsOf (c : Content) (r : ℕ) (words : List ℕ) : Type 0 where

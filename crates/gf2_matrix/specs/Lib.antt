@@ -1,6 +1,4 @@
-pub mod Equations
+pub mod Totals
 pub mod Content
 pub mod Packed
-pub mod Views
-pub mod Written
 pub mod Made

@@ -6,7 +6,9 @@ use Rattle.cx_base.specs.Literals.{Literal, differ}
 use Rattle.cx_base.specs.Parity.{normal_form}
 use Rattle.gf2_rows.specs.Bits.{bit_of, parity}
 use Rattle.gf2_matrix.specs.declared.packed.PackedRow.{PackedRow}
-use Rattle.gf2_matrix.specs.Content.{Content, AreColumns, form, row_at, source_numbers, place, words_for}
+use Rattle.gf2_matrix.specs.Content.{Content, form, row_at, source_numbers}
+use Rattle.parity_engine.specs.Columns.{AreColumns, place}
+use Rattle.parity_engine.specs.Views.{words_for}
 
 -- whether the bit at k is that of the column, and there is such a column
 abbrev pub is_flipped : ℕ → ℕ → ℕ → Bool

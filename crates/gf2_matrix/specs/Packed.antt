@@ -4,7 +4,9 @@ use Rattle.cx_base.specs.declared.literal.TheConstants.{MAX_VARIABLE}
 use Rattle.cx_base.specs.Literals.{Literal, differ}
 use Rattle.gf2_rows.specs.Bits.{bit_of}
 use Rattle.gf2_matrix.specs.declared.packed.PackedRow.{PackedRow}
-use Rattle.gf2_matrix.specs.Content.{SourcedRow, Content, IsOfGiven, words_for, terms_of, sources_of, AreColumns}
+use Rattle.gf2_matrix.specs.Content.{SourcedRow, Content, IsOfGiven, sources_of}
+use Rattle.parity_engine.specs.Views.{words_for, terms_of}
+use Rattle.parity_engine.specs.Columns.{AreColumns}
 
 -- the row has so many words of bits and of sources
 abbrev pub IsSized : ℕ → ℕ → PackedRow → Type 0

@@ -10,9 +10,7 @@ mod packed;
 mod sources;
 #[cfg(test)]
 mod tests;
-mod view;
 
 pub use make::clear_words;
 pub use matrix::Matrix;
 pub use sources::source_list;
-pub use view::RowView;

@@ -7,14 +7,14 @@ ghost use Rattle.cx_base.specs.Literals.{differ};
 ghost use Rattle.cx_base.specs.Problem.{AreWithin};
 ghost use Rattle.cx_base.specs.Parity.{normal_form, occurs_odd};
 ghost use Rattle.gf2_rows.specs.Bits.{bit_of};
-ghost use Rattle.gf2_matrix.specs.Equations.{numbers_from};
-ghost use Rattle.gf2_matrix.specs.Content.{words_for};
+ghost use Rattle.parity_engine.specs.Equations.{numbers_from};
+ghost use Rattle.parity_engine.specs.Views.{words_for};
 ghost use Rattle.gf2_matrix.specs.Made.{is_flipped, IsMade, IsEmptyRow, IsRowOf, AreRowsOf, occurs_in};
-ghost use Rattle.gf2_matrix.specs.Written.{Rises};
+ghost use Rattle.parity_engine.specs.Written.{Rises};
 
 use crate::packed::PackedRow;
-use crate::view::place_of;
 use cx_base::{Lit, LitList, ParityList};
+use parity_engine::place_of;
 use std::alloc::{AllocError, Global};
 
 /// Turns over the mark of each literal's variable; that of variable 1 is the first.

@@ -3,16 +3,18 @@ ghost use Rattle.std.specs.Prelude.{◌≡◌, ℕ, ◌-◌, ◌<◌, ◌≤◌,
 ghost use Rattle.std.specs.List.{AllByRecursion};
 ghost use Rattle.cx_base.specs.Problem.{AreWithin};
 ghost use Rattle.gf2_rows.specs.Bits.{bit_of};
-ghost use Rattle.gf2_matrix.specs.Equations.{total, sum_of_numbers};
+ghost use Rattle.gf2_matrix.specs.Totals.{total};
+ghost use Rattle.parity_engine.specs.Equations.{sum_of_numbers};
 ghost use Rattle.gf2_matrix.specs.Made.{IsMadeOf};
-ghost use Rattle.gf2_matrix.specs.Written.{IsWritten, IsWritable, Rises};
-ghost use Rattle.gf2_matrix.specs.Content.{Content, IsOfGiven, has, form, row_at, source_numbers, pivoted, AreBitsOf, IsInColumns, IsOpenAt, IsReducedRow, HasOwnColumn, IsSameShape, words_for, sources_of, equation, HoldsValues};
+ghost use Rattle.parity_engine.specs.Written.{IsWritten, IsWritable, Rises};
+ghost use Rattle.gf2_matrix.specs.Content.{Content, IsOfGiven, has, form, row_at, source_numbers, pivoted, AreBitsOf, IsInColumns, IsOpenAt, IsReducedRow, HasOwnColumn, IsSameShape, sources_of, equation, HoldsValues};
+ghost use Rattle.parity_engine.specs.Views.{words_for};
 
 use crate::make::{clear_words, columns_of, copy_of, empty_row, occurring_variables, parity_rows};
 use crate::packed::{PackedRow, add_to_others, copy_row};
 use crate::sources::source_list;
-use crate::view::RowView;
 use cx_base::{IdList, LitList, MAX_VARIABLE, ParityList};
+use parity_engine::RowView;
 use std::alloc::{AllocError, Global};
 use std::marker::Model;
 

@@ -1,6 +1,6 @@
 //! Lists of sources.
 ghost use Rattle.std.specs.Prelude.{◌≡◌, ◌*◌, ◌<◌, ◌≤◌, ◌^◌, IfOk, length};
-ghost use Rattle.gf2_matrix.specs.Equations.{numbers_from};
+ghost use Rattle.parity_engine.specs.Equations.{numbers_from};
 ghost use Rattle.gf2_matrix.specs.Content.{sources_of};
 
 use cx_base::IdList;

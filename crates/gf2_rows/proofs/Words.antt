@@ -17,31 +17,28 @@ use Rattle.std.proofs.Math.Nat.{mod-eq_of_lt}
 use Rattle.std.proofs.Math.Pow.{pow-lt}
 use Rattle.std.proofs.lemmas.Bool.{eq-eqb, ne_eqb, cases_eq, cases_lt}
 use Rattle.cx_base.specs.Literals.{differ}
+use Rattle.cx_base.proofs.Differences.{differ_assoc, differ_turned, differ_false, differ_itself}
 use Rattle.gf2_rows.specs.Bits.{parity, word_bit, bit_of, bits_of, is_skipped, is_outside}
 
--- the sum of two digits
+-- ---- digits
+-- what holds of 0 and of 1
+digit_by : (P : ℕ → Type 0) → P 0 → P 1 → (m : ℕ) → m < 2 → P m
+digit_by P none one zero lt = none
+digit_by P none one (suc zero) lt = one
+digit_by P none one (suc (suc m)) lt = absurd (omega arith)
+
 digit_xor : (m n : ℕ) → m < 2 → n < 2 → eqb ((m + n) % 2) 1 ≡ differ (eqb m 1) (eqb n 1)
-digit_xor zero zero p q = refl
-digit_xor zero (suc zero) p q = refl
-digit_xor (suc zero) zero p q = refl
-digit_xor (suc zero) (suc zero) p q = refl
-digit_xor (suc (suc m)) n p q = absurd (omega arith)
-digit_xor zero (suc (suc n)) p q = absurd (omega arith)
-digit_xor (suc zero) (suc (suc n)) p q = absurd (omega arith)
+digit_xor m n p q =
+    digit_by (λ m. eqb ((m + n) % 2) 1 ≡ differ (eqb m 1) (eqb n 1)) (digit_by (λ n. eqb ((0 + n) % 2) 1 ≡ eqb n 1) refl refl n q)
+    (digit_by (λ n. eqb ((1 + n) % 2) 1 ≡ not (eqb n 1)) refl refl n q) m p
 
 digit_and : (m n : ℕ) → m < 2 → n < 2 → eqb (min m n) 1 ≡ (eqb m 1 && eqb n 1)
-digit_and zero zero p q = refl
-digit_and zero (suc zero) p q = refl
-digit_and (suc zero) zero p q = refl
-digit_and (suc zero) (suc zero) p q = refl
-digit_and (suc (suc m)) n p q = absurd (omega arith)
-digit_and zero (suc (suc n)) p q = absurd (omega arith)
-digit_and (suc zero) (suc (suc n)) p q = absurd (omega arith)
+digit_and m n p q =
+    digit_by (λ m. eqb (min m n) 1 ≡ (eqb m 1 && eqb n 1)) (digit_by (λ n. eqb (min 0 n) 1 ≡ false) refl refl n q)
+    (digit_by (λ n. eqb (min 1 n) 1 ≡ eqb n 1) refl refl n q) m p
 
 digit_is : (m : ℕ) → m < 2 → cond (eqb m 1) 1 0 ≡ m
-digit_is zero p = refl
-digit_is (suc zero) p = refl
-digit_is (suc (suc m)) p = absurd (omega arith)
+digit_is m p = digit_by (λ m. cond (eqb m 1) 1 0 ≡ m) refl refl m p
 
 pub word_bit-differ : (a b i : ℕ) → word_bit (bit_xor a b) i ≡ differ (word_bit a i) (word_bit b i)
 word_bit-differ a b i = ap (λ d. eqb d 1) (bit_at_xor a b i) ∙ digit_xor _ _ (bit_at-lt a i) (bit_at-lt b i)
@@ -70,32 +67,26 @@ range_shift f a b (suc n) =
     rw e (ap (λ xs. f (a + b) ∷ xs) (range_shift f a (b + 1) n))
 
 -- ---- sums modulo two
-pub differ-assoc : (a b c : Bool) → differ (differ a b) c ≡ differ a (differ b c)
-differ-assoc true true true = refl
-differ-assoc true true false = refl
-differ-assoc true false c = refl
-differ-assoc false b c = refl
+pub differ_move : (a b c : Bool) → differ a (differ b c) ≡ differ b (differ a c)
+differ_move a b c = sym (differ_assoc a b c) ∙ ap (λ x. differ x c) (differ_turned a b) ∙ differ_assoc b a c
 
-pub differ-swap : (a b c d : Bool) → differ (differ a b) (differ c d) ≡ differ (differ a c) (differ b d)
-differ-swap true true true true = refl
-differ-swap true true true false = refl
-differ-swap true true false true = refl
-differ-swap true true false false = refl
-differ-swap true false true true = refl
-differ-swap true false true false = refl
-differ-swap true false false d = refl
-differ-swap false true true true = refl
-differ-swap false true true false = refl
-differ-swap false true false d = refl
-differ-swap false false c d = refl
+pub differ_swap : (a b c d : Bool) → differ (differ a b) (differ c d) ≡ differ (differ a c) (differ b d)
+differ_swap a b c d = differ_assoc a b (differ c d) ∙ ap (differ a) (differ_move b c d) ∙ sym (differ_assoc a c (differ b d))
+
+-- added twice, it cancels
+pub differ_again : (a b : Bool) → differ a (differ a b) ≡ b
+differ_again a b = sym (differ_assoc a a b) ∙ ap (λ x. differ x b) (differ_itself a)
+
+pub differ_twice : (a b : Bool) → differ (differ a b) b ≡ a
+differ_twice a b = differ_assoc a b b ∙ ap (differ a) (differ_itself b) ∙ differ_false a
 
 pub parity-append : (xs ys : List Bool) → parity (xs ++ ys) ≡ differ (parity xs) (parity ys)
 parity-append [] ys = refl
-parity-append (x ∷ xs) ys = ap (differ x) (parity-append xs ys) ∙ sym (differ-assoc x (parity xs) (parity ys))
+parity-append (x ∷ xs) ys = ap (differ x) (parity-append xs ys) ∙ sym (differ_assoc x (parity xs) (parity ys))
 
 pub parity-differ : {X : Type 0} (f g : X → Bool) (xs : List X) → parity (map (λ x. differ (f x) (g x)) xs) ≡ differ (parity (map f xs)) (parity (map g xs))
 parity-differ f g [] = refl
-parity-differ f g (x ∷ xs) = ap (differ (differ (f x) (g x))) (parity-differ f g xs) ∙ differ-swap (f x) (g x) (parity (map f xs)) (parity (map g xs))
+parity-differ f g (x ∷ xs) = ap (differ (differ (f x) (g x))) (parity-differ f g xs) ∙ differ_swap (f x) (g x) (parity (map f xs)) (parity (map g xs))
 
 pub parity-none : {X : Type 0} (xs : List X) → parity (map (λ _. false) xs) ≡ false
 parity-none [] = refl
@@ -237,9 +228,7 @@ products_of_rows a b n e alike =
 
 -- ---- one bit
 digit_not : (m : ℕ) → m < 2 → eqb (1 - m) 1 ≡ not (eqb m 1)
-digit_not zero p = refl
-digit_not (suc zero) p = refl
-digit_not (suc (suc m)) p = absurd (omega arith)
+digit_not m p = digit_by (λ m. eqb (1 - m) 1 ≡ not (eqb m 1)) refl refl m p
 
 pub word_bit-rest : (word masked j : ℕ) → masked < 2 ^ 64 → j < 64 → word_bit (bit_and word (bit_not w64 masked)) j ≡ (word_bit word j && not (word_bit masked j))
 word_bit-rest word masked j small lt =
@@ -327,14 +316,6 @@ first_here row mask skip from to i found t bits place some small start within be
 one_bit : (k : ℕ) → k < 64 → 1 * 2 ^ k % 2 ^ 64 ≡ 2 ^ k
 one_bit k lt = let e : 1 * 2 ^ k ≡ 2 ^ k = omega arith in rw e (mod-eq_of_lt (pow-lt lt))
 
-differ-true : (b : Bool) → differ b true ≡ not b
-differ-true true = refl
-differ-true false = refl
-
-pub differ-false : (b : Bool) → differ b false ≡ b
-differ-false true = refl
-differ-false false = refl
-
 pub length-bits : (row : List ℕ) → length (bits_of row) ≡ 64 * length row
 unfolding bits_of
 length-bits row = length-map-range_with_len (bit_of row) 0 (64 * length row)
@@ -370,7 +351,7 @@ module _ (words : List ℕ) (k : ℕ) (within : k < 64 * length words) where
   here =
       let in' : k / 64 < length words = omega arith in
       rw get_or-set_same
-      (word_bit-differ (get_or words (k / 64) 0) (2 ^ (k % 64)) (k % 64) ∙ ap (λ d. differ (bit_of words k) (eqb d 1)) (bit_at-pow_same (k % 64)) ∙ differ-true (bit_of words k))
+      (word_bit-differ (get_or words (k / 64) 0) (2 ^ (k % 64)) (k % 64) ∙ ap (λ d. differ (bit_of words k) (eqb d 1)) (bit_at-pow_same (k % 64)) ∙ differ_turned (bit_of words k) true)
 
   elsewhere : (i : ℕ) → (i ≡ k → ⊥) → bit_of turned i ≡ bit_of words i
   unfolding turned
@@ -382,7 +363,7 @@ module _ (words : List ℕ) (k : ℕ) (within : k < 64 * length words) where
             rw (same, get_or-set_same)
             (word_bit-differ (get_or words (k / 64) 0) (2 ^ (k % 64)) (i % 64)
             ∙ ap (λ d. differ (word_bit (get_or words (k / 64) 0) (i % 64)) (eqb d 1)) (bit_at-pow_other (k % 64) (i % 64) apart)
-            ∙ differ-false (word_bit (get_or words (k / 64) 0) (i % 64)))
+            ∙ differ_false (word_bit (get_or words (k / 64) 0) (i % 64)))
         | inr apart ↦ ap (λ w. word_bit w (i % 64)) (get_or-set_other words (k / 64) (i / 64) (bit_xor (get_or words (k / 64) 0) (2 ^ (k % 64))) 0 apart)
       ]
 

@@ -11,10 +11,10 @@ use Rattle.cx_semantics.specs.Tables.{Table}
 use Rattle.cx_semantics.proofs.Closure.{has_by_inside}
 use Rattle.cx_trail.specs.declared.entry.Entry.{Entry as TrailEntry}
 use Rattle.cx_trail.specs.Sequence.{IsTrueIn, IsOpenIn, entry_at}
-use Rattle.gauss_jordan.specs.declared.event.ParityEvent.{ParityEvent}
-use Rattle.gauss_jordan.specs.declared.event.ParityEvent.TheVariants.{Quiet, Implied, Conflict}
-use Rattle.gauss_jordan.specs.declared.state.Held.{Held}
-use Rattle.gauss_jordan.specs.State.{State, IsSilent, Answers, assigned, back, fresh, pushed, keep, held_at, known, known_from}
+use Rattle.parity_engine.specs.declared.event.ParityEvent.{ParityEvent}
+use Rattle.parity_engine.specs.declared.event.ParityEvent.TheVariants.{Quiet, Implied, Conflict}
+use Rattle.parity_engine.specs.declared.state.Held.{Held}
+use Rattle.parity_engine.specs.State.{State, IsSilent, Answers, assigned, back, fresh, pushed, keep, held_at, known, known_from}
 use Rattle.search_steps.specs.Trail.{Entry, held, all_held, back_to, level_of, IsTrail, IsUnassigned}
 use Rattle.search_steps.specs.Quiet.{ParitiesQuiet}
 use Rattle.search_steps.specs.Engine.{HasValue, HoldsValues}

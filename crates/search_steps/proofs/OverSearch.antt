@@ -12,7 +12,7 @@ use Rattle.cx_semantics.specs.LogRules.{HasChain}
 use Rattle.cx_semantics.specs.Tables.{Table}
 use Rattle.cx_trail.specs.Sequence.{TrailState}
 use Rattle.conflict_learn.specs.Levels.{Teaches}
-use Rattle.gauss_jordan.specs.State.{State, back}
+use Rattle.parity_engine.specs.State.{State, back}
 use Rattle.search_steps.specs.Trail.{Entry, all_held, back_to, IsTrail}
 use Rattle.search_steps.specs.Quiet.{IsOfParities}
 use Rattle.search_steps.specs.Search.{Search, IsSearch, IsLearnedOf}

@@ -11,12 +11,15 @@ use Rattle.cx_base.specs.Problem.{clause_met, parity_met}
 use Rattle.cx_base.specs.Parity.{NormalForm, HasOneOfEach, occurs_odd}
 use Rattle.cx_base.proofs.Odd.{parity_met-cons, is_odd-count}
 use Rattle.cx_base.proofs.ParityLaws.{contains-normal_form}
+use Rattle.cx_base.proofs.Differences.{differ_assoc}
+use Rattle.gf2_rows.proofs.Words.{differ_move}
 use Rattle.cx_semantics.specs.Chain.{has_literal}
 use Rattle.cx_semantics.proofs.ChainLaws.{are_one, same_literal-itself}
+use Rattle.cx_semantics.proofs.Closure.{or_right}
 use Rattle.cx_semantics.proofs.RecoveredLaws.{Distinct, len-distinct, or_apart}
 use Rattle.cx_trail.specs.Sequence.{TrailState, IsTrail, IsTrueIn, IsFalseIn}
-use Rattle.gf2_matrix.specs.Written.{IsWritten, Rises}
-use Rattle.gf2_matrix.proofs.Columns.{none_below}
+use Rattle.parity_engine.specs.Written.{IsWritten, Rises}
+use Rattle.parity_engine.proofs.Columns.{none_below}
 use Rattle.xor_reason.specs.LiteralChoice.{IsLiteralFor, AreLiteralsFor}
 use Rattle.xor_reason.specs.ReasonClause.{AgreesWithTrail, AreFalseBut, IsReasonFor, IsReasonClause}
 use Rattle.xor_reason.proofs.TrailValues.{trail_values, trail_values_agree, false_under}
@@ -29,11 +32,7 @@ pub has_at_head : (m : Literal) (ms : List Literal) → has_literal (m ∷ ms) m
 has_at_head m ms = ap (λ b. b || has_literal ms m) (same_literal-itself m)
 
 pub has_behind : (m : Literal) (ms : List Literal) (l : Literal) → has_literal ms l ≡ true → has_literal (m ∷ ms) l ≡ true
-has_behind m ms l h = or_right (same_literal l m) h
-  where
-    or_right : (a : Bool) → has_literal ms l ≡ true → (a || has_literal ms l) ≡ true
-    or_right true g = refl
-    or_right false g = g
+has_behind m ms l h = or_right (same_literal l m) (has_literal ms l) h
 
 has_split : (m : Literal) (ms : List Literal) (l : Literal) → has_literal (m ∷ ms) l ≡ true → (l ≡ m) ⊎ (has_literal ms l ≡ true)
 has_split m ms l h = pick (same_literal l m) refl h
@@ -47,12 +46,8 @@ variable_of_has [] l h = absurd (true≢false (sym h))
 variable_of_has (m ∷ ms) l h =
     elim (has_split m ms l h) [
       | inl e ↦ ap (λ b. b || list_any (λ z. nat_eq z l.variable) (variables ms)) (eq-eqb m.variable l.variable (ap (λ (x : Literal). x.variable) (sym e)))
-      | inr g ↦ or_right (nat_eq m.variable l.variable) (variable_of_has ms l g)
+      | inr g ↦ or_right (nat_eq m.variable l.variable) (list_any (λ z. nat_eq z l.variable) (variables ms)) (variable_of_has ms l g)
     ]
-  where
-    or_right : (a : Bool) → list_any (λ z. nat_eq z l.variable) (variables ms) ≡ true → (a || list_any (λ z. nat_eq z l.variable) (variables ms)) ≡ true
-    or_right true g = refl
-    or_right false g = g
 
 pub has_by_index : (lits : List Literal) (i : ℕ) (d : Literal) → i < length lits → has_literal lits (get_or lits i d) ≡ true
 has_by_index [] i d lt = absurd (omega arith)
@@ -198,26 +193,12 @@ sum_same trail v w (l ∷ lits) (m ∷ clause) agrees are none =
     ∙ (λ i. differ (differ l.negative (here i)) (sum_same trail v w lits clause agrees are.1 parts.1 i))
     ∙ sym (parity_met-cons w l lits)
 
-differ-not : (a b : Bool) → differ a (not b) ≡ not (differ a b)
-differ-not true b = refl
-differ-not false b = refl
-
-differ-swap : (a b c : Bool) → differ a (differ b c) ≡ differ b (differ a c)
-differ-swap true b c = sym (differ-not b c)
-differ-swap false b c = refl
-
-differ-over : (a b c : Bool) → differ (differ a b) c ≡ differ a (differ b c)
-differ-over true true true = refl
-differ-over true true false = refl
-differ-over true false c = refl
-differ-over false b c = refl
-
 differ_four : (n t b o r : Bool) → differ (differ n (differ t b)) (differ o r) ≡ differ (differ t o) (differ (differ n b) r)
 differ_four n t b o r =
-    ap (λ x. differ x (differ o r)) (differ-swap n t b)
-    ∙ differ-over t (differ n b) (differ o r)
-    ∙ ap (differ t) (differ-swap (differ n b) o r)
-    ∙ sym (differ-over t o (differ (differ n b) r))
+    ap (λ x. differ x (differ o r)) (differ_move n t b)
+    ∙ differ_assoc t (differ n b) (differ o r)
+    ∙ ap (differ t) (differ_move (differ n b) o r)
+    ∙ sym (differ_assoc t o (differ (differ n b) r))
 
 -- the implied one is false too: the sum is turned over once for each place of its variable
 sum_turned : (trail : TrailState) (l : Literal) (v w : List Bool) (lits clause : List Literal) → AgreesWithTrail trail v → IsTrueIn trail.entries l → AreLiteralsFor trail (Some l) lits clause

@@ -10,12 +10,12 @@ use Rattle.cx_semantics.specs.Chain.{has_literal}
 use Rattle.cx_trail.specs.declared.entry.Entry.{Entry}
 use Rattle.cx_trail.specs.declared.entry.Reason.{Reason}
 use Rattle.cx_trail.specs.Sequence.{TrailState, IsTrueIn, IsAssignedIn, no_entry, pushed}
-use Rattle.gauss_jordan.specs.declared.state.Held.{Held}
-use Rattle.gauss_jordan.specs.declared.state.Mood.{Mood}
-use Rattle.gauss_jordan.specs.declared.state.Mood.TheVariants.{Busy, Broken}
-use Rattle.gauss_jordan.specs.declared.event.ParityEvent.TheVariants.{Implied, Conflict}
-use Rattle.gauss_jordan.specs.State.{State, Named, Answers, names, named_at, known, held_at, is_unassigned, AgreesWith}
-use Rattle.gauss_jordan.proofs.Known.{has_known}
+use Rattle.parity_engine.specs.declared.state.Held.{Held}
+use Rattle.parity_engine.specs.declared.state.Mood.{Mood}
+use Rattle.parity_engine.specs.declared.state.Mood.TheVariants.{Busy, Broken}
+use Rattle.parity_engine.specs.declared.event.ParityEvent.TheVariants.{Implied, Conflict}
+use Rattle.parity_engine.specs.State.{State, Named, Answers, names, named_at, known, held_at, is_unassigned, AgreesWith}
+use Rattle.parity_engine.proofs.Known.{has_known}
 use Rattle.xor_reason.specs.ReasonClause.{AgreesWithTrail, AreAssigned, IsReasonFor}
 use Rattle.xor_reason.specs.Laws.{StandsOn, ImpliedIsMet, BrokenIsMissed}
 use Rattle.xor_reason.proofs.ClauseLaws.{has_at_head, has_behind}

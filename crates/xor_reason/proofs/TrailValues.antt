@@ -2,8 +2,10 @@
 use Rattle.std.proofs.Common.{◌≡◌, ℕ, ◌+◌, ◌-◌, ◌<◌, ◌≤◌, zero, suc, Bool, true, false, not, ◌||◌, List, [], ◌∷◌, map, length, get_or, refl, sym, ap, ◌∙◌, arith, true≢false}
 use Rattle.std.specs.List.{list_any, range_with_len}
 use Rattle.std.proofs.lemmas.List.FromFn.{get_or-map-range_with_len}
+use Rattle.std.proofs.lemmas.Bool.{not-true}
 use Rattle.cx_base.specs.Literals.{Literal, differ, negate, same_literal, value_of, literal_true}
 use Rattle.cx_semantics.proofs.ChainLaws.{are_one, same_literal-itself, literal_true-negate}
+use Rattle.cx_semantics.proofs.Closure.{or_right}
 use Rattle.cx_trail.specs.declared.entry.Entry.{Entry}
 use Rattle.cx_trail.specs.Sequence.{TrailState, IsTrail, IsTrueIn, IsFalseIn, entry_at, no_entry}
 use Rattle.xor_reason.specs.ReasonClause.{AgreesWithTrail}
@@ -12,11 +14,7 @@ use Rattle.xor_reason.specs.ReasonClause.{AgreesWithTrail}
 any_at : {X : Type 0} (p : X → Bool) (xs : List X) (i : ℕ) (d : X) → i < length xs → p (get_or xs i d) ≡ true → list_any p xs ≡ true
 any_at p [] i d lt h = absurd (omega arith)
 any_at p (x ∷ xs) zero d lt h = ap (λ b. b || list_any p xs) h
-any_at p (x ∷ xs) (suc i) d lt h = or_right (p x) (any_at p xs i d (omega arith) h)
-  where
-    or_right : (a : Bool) → list_any p xs ≡ true → (a || list_any p xs) ≡ true
-    or_right true g = refl
-    or_right false g = g
+any_at p (x ∷ xs) (suc i) d lt h = or_right (p x) (list_any p xs) (any_at p xs i d (omega arith) h)
 
 place_of_any : {X : Type 0} (p : X → Bool) (xs : List X) (d : X) → list_any p xs ≡ true → (i : ℕ) × (i < length xs) × (p (get_or xs i d) ≡ true)
 place_of_any p [] d h = absurd (true≢false (sym h))
@@ -77,10 +75,6 @@ trail_values_agree trail sound l stands =
     let high : l.variable ≤ trail.variables = let h = sound.high stands.0 stands.1.0 in omega arith in
     true_sign l.negative (value_of (trail_values trail) l.variable) (value_of-trail trail l.variable low high ∙ value_on-standing trail sound l stands)
 
-not_true : (b : Bool) → not b ≡ true → b ≡ false
-not_true true h = absurd (true≢false (sym h))
-not_true false h = refl
-
 -- a literal that is false on the trail is false under values that agree with it
 pub false_under : (trail : TrailState) (v : List Bool) (m : Literal) → AgreesWithTrail trail v → IsFalseIn trail.entries m → literal_true v m ≡ false
-false_under trail v m agrees is = not_true (literal_true v m) (sym (literal_true-negate v m) ∙ agrees (negate m) is)
+false_under trail v m agrees is = not-true (literal_true v m) (sym (literal_true-negate v m) ∙ agrees (negate m) is)

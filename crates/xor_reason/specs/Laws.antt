@@ -4,7 +4,7 @@ use Rattle.cx_base.specs.Literals.{Literal}
 use Rattle.cx_base.specs.Parity.{NormalForm}
 use Rattle.cx_semantics.specs.Chain.{has_literal}
 use Rattle.cx_trail.specs.Sequence.{TrailState, IsTrueIn}
-use Rattle.gauss_jordan.specs.State.{State, known, IsImplied, IsBroken}
+use Rattle.parity_engine.specs.State.{State, known, IsImplied, IsBroken}
 use Rattle.xor_reason.specs.ReasonClause.{AreAssigned, IsReasonFor}
 
 -- each literal that the engine holds is true on the trail

@@ -6,7 +6,7 @@ use Rattle.cx_base.specs.Problem.{clause_met, parity_met}
 use Rattle.cx_base.specs.Parity.{NormalForm, HasOneOfEach}
 use Rattle.cx_semantics.specs.Chain.{has_literal}
 use Rattle.cx_trail.specs.Sequence.{TrailState, IsAssignedIn, IsTrueIn, IsFalseIn}
-use Rattle.gauss_jordan.specs.State.{MeetsForm, MissesForm}
+use Rattle.parity_engine.specs.State.{MeetsForm, MissesForm}
 
 -- each variable of the form is assigned
 abbrev pub AreAssigned : TrailState → NormalForm → Type 0

@@ -4,7 +4,5 @@
 pub mod laws;
 mod literals;
 mod reason;
-#[cfg(test)]
-mod tests;
 
 pub use reason::{ReasonOf, reason_clause};

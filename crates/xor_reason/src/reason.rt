@@ -1,14 +1,14 @@
 //! Why a row implied a literal, or was missed.
 ghost use Rattle.std.specs.Prelude.{◌≡◌, length, IfOk, IsSome};
-ghost use Rattle.gf2_matrix.specs.Equations.{sum_of_numbers};
-ghost use Rattle.gf2_matrix.specs.Written.{IsWritten};
-ghost use Rattle.gauss_jordan.specs.State.{AreRising, OfNamed, named_at};
+ghost use Rattle.parity_engine.specs.Equations.{sum_of_numbers};
+ghost use Rattle.parity_engine.specs.Written.{IsWritten};
+ghost use Rattle.parity_engine.specs.State.{AreRising, OfNamed, named_at};
 ghost use Rattle.xor_reason.specs.ReasonClause.{AreAssigned, IsReasonClause, IsReasonFor};
 
 use crate::literals::literals_for;
 use cx_base::{IdList, Lit, LitList, Row};
 use cx_trail::Trail;
-use gauss_jordan::ParityEngine;
+use parity_engine::ParityEngine;
 use std::alloc::{AllocError, Global};
 
 /// A named row with the clause that it gives under the values of a trail.

@@ -1,6 +1,6 @@
 use Rattle.std.proofs.Common.{◌≡◌, ◌≤◌, ◌+◌, sym, ap, ◌∙◌, subst, true, not, [], arith}
-use Rattle.gauss_jordan.specs.declared.state.Mood.TheVariants.{Busy, Broken}
-use Rattle.gauss_jordan.specs.State.{State, assigned, held_at, is_unassigned}
+use Rattle.parity_engine.specs.declared.state.Mood.TheVariants.{Busy, Broken}
+use Rattle.parity_engine.specs.State.{State, assigned, held_at, is_unassigned}
 use Rattle.cdcl_core.specs.Ties.{Stands}
 use Rattle.cdcl_core.proofs.Feeding.{few_given, given_stands, next_within, next_unassigned}
 use Rattle.cdcl_core.proofs.propagation.feed.Goals as goal

@@ -1,6 +1,6 @@
 use Rattle.std.proofs.Common.{◌≢◌, [], List, Option}
 use Rattle.cx_semantics.specs.declared.steps.LogEvent.{LogEvent}
-use Rattle.gauss_jordan.specs.declared.state.Mood.TheVariants.{Broken}
+use Rattle.parity_engine.specs.declared.state.Mood.TheVariants.{Broken}
 use Rattle.cdcl_core.specs.Ties.{Stands}
 use Rattle.cdcl_core.proofs.propagation.feed.Given as goal
 

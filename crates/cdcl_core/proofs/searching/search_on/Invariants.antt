@@ -1,6 +1,6 @@
 use Rattle.std.proofs.Common.{◌≡◌, ◌≢◌, ◌-◌, [], length}
 use Rattle.cx_semantics.specs.Settled.{Settled}
-use Rattle.gauss_jordan.specs.declared.state.Mood.TheVariants.{Broken}
+use Rattle.parity_engine.specs.declared.state.Mood.TheVariants.{Broken}
 use Rattle.cdcl_core.specs.Ties.{Stands}
 use Rattle.cdcl_core.proofs.searching.search_on.Given as goal
 

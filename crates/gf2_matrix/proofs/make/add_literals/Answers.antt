@@ -2,7 +2,7 @@ use Rattle.std.proofs.Common.{◌∙◌, sym, ap, length, refl}
 use Rattle.std.proofs.lemmas.List.{with_items_is}
 use Rattle.gf2_rows.specs.Bits.{bit_of}
 use Rattle.cx_base.specs.Literals.{differ}
-use Rattle.gf2_matrix.specs.Content.{place}
+use Rattle.parity_engine.specs.Columns.{place}
 use Rattle.gf2_matrix.specs.Made.{is_flipped}
 use Rattle.gf2_matrix.proofs.Rows.{differ-beq}
 use Rattle.gf2_matrix.proofs.Made.{made_none, made_more}

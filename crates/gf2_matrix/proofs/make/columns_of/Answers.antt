@@ -1,6 +1,6 @@
 use Rattle.std.proofs.Common.{◌+◌, ◌∙◌, ◌++◌, ◌∷◌, [], take, sym, ap}
 use Rattle.std.proofs.lemmas.List.{append-nil}
-use Rattle.gf2_matrix.specs.Equations.{numbers_from}
+use Rattle.parity_engine.specs.Equations.{numbers_from}
 use Rattle.gf2_matrix.proofs.Marks.{columns_more}
 use Rattle.gf2_matrix.proofs.make.columns_of.Goals as goal
 use Rattle.gf2_matrix.proofs.make.columns_of.Goals.{then-occurring-k+in_ok-push, else-occurring-k}

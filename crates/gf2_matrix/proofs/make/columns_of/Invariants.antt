@@ -1,5 +1,5 @@
 use Rattle.std.proofs.Common.{◌≡◌, take}
-use Rattle.gf2_matrix.specs.Equations.{numbers_from}
+use Rattle.parity_engine.specs.Equations.{numbers_from}
 use Rattle.gf2_matrix.proofs.make.columns_of.Given as goal
 
 abbrev pub invariant-loop-k : goal.invariant-loop-k

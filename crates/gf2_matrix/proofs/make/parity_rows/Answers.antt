@@ -1,7 +1,7 @@
 use Rattle.std.proofs.Common.{◌∙◌, sym, subst, List, []}
 use Rattle.gf2_matrix.specs.declared.packed.PackedRow.{PackedRow}
 use Rattle.gf2_matrix.specs.Made.{AreRowsOf}
-use Rattle.gf2_matrix.proofs.Rows.{same_read}
+use Rattle.gf2_matrix.proofs.Updates.{same_read}
 use Rattle.gf2_matrix.proofs.Made.{rows_none, rows_more}
 use Rattle.gf2_matrix.proofs.make.parity_rows.Goals as goal
 

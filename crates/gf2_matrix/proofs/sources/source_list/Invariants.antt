@@ -1,5 +1,5 @@
 use Rattle.std.proofs.Common.{◌≡◌}
-use Rattle.gf2_matrix.specs.Equations.{numbers_from}
+use Rattle.parity_engine.specs.Equations.{numbers_from}
 use Rattle.gf2_matrix.specs.Content.{sources_of}
 use Rattle.gf2_matrix.proofs.sources.source_list.Given as goal
 

@@ -1,19 +1,14 @@
-use Rattle.std.proofs.Common.{◌≡◌, refl, sym, subst, ap, ◌∙◌, Option, Some, None, true≢false}
-use Rattle.std.specs.Prelude.{IsSome}
+use Rattle.std.proofs.Common.{sym, subst, ap, ◌∙◌}
 use Rattle.cx_semantics.specs.Chain.{has_literal}
-use Rattle.gauss_jordan.specs.State.{Named, named_at}
+use Rattle.parity_engine.proofs.Named.{named_row}
 use Rattle.xor_reason.specs.LiteralChoice.{AreLiteralsFor}
 use Rattle.xor_reason.proofs.ClauseLaws.{has_written, low_written, is_reason_clause}
 use Rattle.xor_reason.proofs.reason.reason_clause.Goals as goal
 
-from_some : (o : Option Named) → IsSome o → (n : Named) × (o ≡ Some n)
-from_some None some = absurd (true≢false (sym some))
-from_some (Some n) some = (n, refl)
-
 pub literals_for-requires : goal.literals_for-requires
 literals_for-requires g c = record {
   assigned = λ l h.
-      let some = from_some (named_at (g.P.ParityEngine.state c.args.engine.now) c.args.row) c.requires.named in
+      let some = named_row (g.P.ParityEngine.state c.args.engine.now) c.args.row c.requires.named in
       let lits = c.in_ok-parity.parity in
       let written = c.in_ok-parity.ensures some.0 some.1 in
       let here = ap (λ ls. has_literal ls l) (sym c.as_slice.ensures) ∙ h in

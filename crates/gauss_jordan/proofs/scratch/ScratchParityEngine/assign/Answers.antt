@@ -1,6 +1,6 @@
 use Rattle.std.proofs.Common.{◌≡◌, ◌≢◌, ◌≤◌, true, sym, subst, arith}
-use Rattle.gauss_jordan.specs.declared.state.Mood.TheVariants.{Broken}
-use Rattle.gauss_jordan.specs.State.{State, held_at, is_unassigned}
+use Rattle.parity_engine.specs.declared.state.Mood.TheVariants.{Broken}
+use Rattle.parity_engine.specs.State.{State, held_at, is_unassigned}
 use Rattle.gauss_jordan.proofs.ScratchSteps.{scratch_assigned}
 use Rattle.gauss_jordan.proofs.scratch.ScratchParityEngine.assign.Goals as goal
 

@@ -1,5 +1,5 @@
 use Rattle.std.proofs.Common.{◌∙◌, ◌+◌, ap, length, arith}
-use Rattle.gf2_matrix.specs.Content.{words_for}
+use Rattle.parity_engine.specs.Views.{words_for}
 use Rattle.gauss_jordan.proofs.ScratchEvents.{made_empty, state_fresh, scratch_fresh}
 use Rattle.gauss_jordan.proofs.scratch.ScratchParityEngine.make.Goals as goal
 

@@ -2,10 +2,10 @@ use Rattle.std.proofs.Common.{◌≡◌, ◌<◌, ◌∙◌, ℕ, sym, ap, subst
 use Rattle.std.proofs.lemmas.List.{with_items_is}
 use Rattle.gf2_matrix.specs.Content.{IsReducedRow}
 use Rattle.gauss_jordan.specs.declared.slot.Slot.{Slot}
-use Rattle.gauss_jordan.specs.State.{State, Named, Answers, IsBroken, IsNamedNow, IsSameNamed, named_at, names}
+use Rattle.parity_engine.specs.State.{State, Named, Answers, IsBroken, IsNamedNow, IsSameNamed, named_at, names}
 use Rattle.gauss_jordan.specs.Slots.{AreMasks, state_of}
 use Rattle.gauss_jordan.proofs.ScratchEvents.{refreshed, state_shape, broken_again}
-use Rattle.gauss_jordan.specs.declared.state.Mood.TheVariants.{Broken}
+use Rattle.parity_engine.specs.declared.state.Mood.TheVariants.{Broken}
 use Rattle.gauss_jordan.proofs.scratch.ScratchParityEngine.next_event.Goals as goal
 
 pub returns-in-Broken : goal.returns-in-Broken

@@ -1,6 +1,6 @@
 use Rattle.std.proofs.Common.{◌≡◌, sym, subst}
-use Rattle.gauss_jordan.specs.declared.state.Mood.TheVariants.{Calm}
-use Rattle.gauss_jordan.specs.State.{State}
+use Rattle.parity_engine.specs.declared.state.Mood.TheVariants.{Calm}
+use Rattle.parity_engine.specs.State.{State}
 use Rattle.gauss_jordan.proofs.ScratchSteps.{scratch_pushed}
 use Rattle.gauss_jordan.proofs.scratch.ScratchParityEngine.push_level.Goals as goal
 

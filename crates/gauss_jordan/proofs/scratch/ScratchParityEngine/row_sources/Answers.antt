@@ -1,9 +1,9 @@
 use Rattle.std.proofs.Common.{◌≡◌, ◌∙◌, ℕ, List, ap, subst, length, get_or}
 use Rattle.std.proofs.lemmas.Result.{IfOk-weaker}
-use Rattle.gf2_matrix.specs.Equations.{numbers_from, sum_of_numbers}
+use Rattle.parity_engine.specs.Equations.{numbers_from, sum_of_numbers}
 use Rattle.gf2_matrix.specs.Content.{sources_of}
 use Rattle.gauss_jordan.specs.declared.slot.Slot.{Slot}
-use Rattle.gauss_jordan.specs.State.{State, Named, OfNamed, AreRising}
+use Rattle.parity_engine.specs.State.{State, Named, OfNamed, AreRising}
 use Rattle.gauss_jordan.proofs.ScratchEvents.{sources_listed}
 use Rattle.gauss_jordan.proofs.scratch.ScratchParityEngine.row_sources.Goals as goal
 

@@ -1,9 +1,9 @@
 use Rattle.std.proofs.Common.{◌≡◌, sym, subst}
 use Rattle.std.proofs.lemmas.Result.{IfOk-weaker}
-use Rattle.gf2_matrix.specs.Equations.{numbers_from}
+use Rattle.parity_engine.specs.Equations.{numbers_from}
 use Rattle.gf2_matrix.specs.Content.{sources_of}
-use Rattle.gf2_matrix.specs.Written.{Rises}
-use Rattle.gf2_matrix.proofs.Columns.{numbers_are_rising}
+use Rattle.parity_engine.specs.Written.{Rises}
+use Rattle.parity_engine.proofs.Columns.{numbers_are_rising}
 use Rattle.gf2_matrix.proofs.matrix.Matrix.row_sources.Goals as goal
 
 pub returns-clause-rising : goal.returns-clause-rising

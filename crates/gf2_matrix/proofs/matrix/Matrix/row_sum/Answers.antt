@@ -1,7 +1,8 @@
 use Rattle.std.proofs.Common.{◌≡◌, ◌∙◌, sym, ap, subst, length, get_or, List, Bool}
-use Rattle.gf2_matrix.specs.Equations.{total}
+use Rattle.gf2_matrix.specs.Totals.{total}
 use Rattle.gf2_matrix.specs.declared.packed.PackedRow.{PackedRow}
-use Rattle.gf2_matrix.specs.Content.{Content, words_for, HoldsValues, equation, row_at, AreBitsOf}
+use Rattle.gf2_matrix.specs.Content.{Content, HoldsValues, equation, row_at, AreBitsOf}
+use Rattle.parity_engine.specs.Views.{words_for}
 use Rattle.gf2_matrix.specs.Packed.{content}
 use Rattle.gf2_matrix.proofs.Rows.{bits_of_row, row_within}
 use Rattle.gf2_matrix.proofs.ColumnSums.{words_sum}

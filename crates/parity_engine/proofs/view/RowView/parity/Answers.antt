@@ -2,10 +2,10 @@ use Rattle.std.proofs.Common.{◌≡◌, sym, subst, List}
 use Rattle.std.proofs.lemmas.Result.{IfOk-weaker}
 use Rattle.cx_base.specs.Literals.{Literal}
 use Rattle.cx_base.specs.Parity.{NormalForm}
-use Rattle.gf2_matrix.specs.Written.{IsWritable, IsWritten, literals_with, picked}
-use Rattle.gf2_matrix.proofs.Columns.{columns_within}
-use Rattle.gf2_matrix.proofs.Literals.{is_written}
-use Rattle.gf2_matrix.proofs.view.RowView.parity.Goals as goal
+use Rattle.parity_engine.specs.Written.{IsWritable, IsWritten, literals_with, picked}
+use Rattle.parity_engine.proofs.Columns.{columns_within}
+use Rattle.parity_engine.proofs.Literals.{is_written}
+use Rattle.parity_engine.proofs.view.RowView.parity.Goals as goal
 
 pub write-requires-clause-rise : goal.write-requires-clause-rise
 write-requires-clause-rise c = columns_within 1 c.self.inside.vars c.self.inside.columns.now c.self.invariant.rise c.self.invariant.few

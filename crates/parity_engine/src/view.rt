@@ -2,9 +2,9 @@
 ghost use Rattle.std.specs.Prelude.{◌≡◌, ℕ, ◌≤◌, ◌*◌, ◌&&◌, length, IfOk, List, not, eqb};
 ghost use Rattle.std.specs.FinSet as set;
 ghost use Rattle.cx_base.specs.declared.literal.TheConstants.{MAX_VARIABLE};
-ghost use Rattle.gf2_matrix.specs.Content.{AreColumns, place};
-ghost use Rattle.gf2_matrix.specs.Views.{IsView, viewed_form};
-ghost use Rattle.gf2_matrix.specs.Written.{IsWritten, IsWritable, Rises, literals_with, picked};
+ghost use Rattle.parity_engine.specs.Columns.{AreColumns, place};
+ghost use Rattle.parity_engine.specs.Views.{IsView, viewed_form};
+ghost use Rattle.parity_engine.specs.Written.{IsWritten, IsWritable, Rises, literals_with, picked};
 
 use cx_base::{Lit, LitList, Var};
 use std::alloc::{AllocError, Global};
@@ -23,13 +23,13 @@ pub struct RowView<'a> {
 
 impl<'a> Model for RowView<'a> {
     ghost use Rattle.cx_base.specs.Parity.{NormalForm};
-    ghost use Rattle.gf2_matrix.specs.Equations.{form_code};
+    ghost use Rattle.parity_engine.specs.Equations.{form_code};
 
     ghost Value = { NormalForm };
 
     ghost coded = { form_code };
 
-    ghost use Rattle.gf2_matrix.specs.Views.{IsView, viewed_form};
+    ghost use Rattle.parity_engine.specs.Views.{IsView, viewed_form};
 
     ghost view = { λ v. viewed_form v.vars v.columns.now v.words.now v.right };
 
@@ -76,7 +76,7 @@ impl<'a> RowView<'a> {
 }
 
 /// Where the variable stands among the columns, or their number.
-pub(crate) fn place_of(columns: &[u32], number: u32) -> usize
+pub fn place_of(columns: &[u32], number: u32) -> usize
     requires { Rises 1 columns.now }
     ensures { result ≡ place columns.now number }
 {

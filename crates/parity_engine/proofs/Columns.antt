@@ -10,11 +10,11 @@ use Rattle.std.proofs.lemmas.List.FromFn.{get_or-map-range_with_len, length-map-
 use Rattle.std.proofs.lemmas.List.Sums.{position_or_len_is}
 use Rattle.cx_base.specs.declared.literal.TheConstants.{MAX_VARIABLE}
 use Rattle.gf2_rows.specs.Bits.{bit_of}
-use Rattle.gf2_matrix.specs.Equations.{has_term, numbers_from}
-use Rattle.gf2_matrix.specs.Content.{AreColumns, place}
-use Rattle.gf2_matrix.specs.Views.{IsView, viewed, viewed_form}
-use Rattle.gf2_matrix.specs.Written.{Rises, picked}
-use Rattle.gf2_matrix.proofs.Forms.{contains-form}
+use Rattle.parity_engine.specs.Equations.{has_term, numbers_from}
+use Rattle.parity_engine.specs.Columns.{AreColumns, place}
+use Rattle.parity_engine.specs.Views.{IsView, viewed, viewed_form}
+use Rattle.parity_engine.specs.Written.{Rises, picked}
+use Rattle.parity_engine.proofs.Forms.{contains-form}
 
 -- ---- rising numbers
 pub columns_rise : (least vars : ℕ) (cs : List ℕ) → AreColumns least vars cs → Rises least cs
@@ -25,11 +25,21 @@ pub columns_within : (least vars : ℕ) (cs : List ℕ) → AreColumns least var
 columns_within least vars [] rise few = tt
 columns_within least vars (c ∷ cs) rise few = (rise.0, let h = rise.1 in omega arith, columns_within (c + 1) vars cs rise.2 few)
 
-rises-least : (least : ℕ) (cs : List ℕ) (k : ℕ) → Rises least cs → k < length cs → least ≤ get_or cs k 0
+pub rises-least : (least : ℕ) (cs : List ℕ) (k : ℕ) → Rises least cs → k < length cs → least ≤ get_or cs k 0
 rises-least least [] k rise lt = absurd (omega arith)
 rises-least least (c ∷ cs) zero rise lt = rise.0
 rises-least least (c ∷ cs) (suc k) rise lt = let h = rises-least (c + 1) cs k rise.1 (omega arith) in let g = rise.0 in omega arith
 
+-- ---- the columns' numbers
+pub column-low : (least vars : ℕ) (columns : List ℕ) (k : ℕ) → AreColumns least vars columns → k < length columns → least ≤ get_or columns k 0
+column-low least vars columns k rise lt = rises-least least columns k (columns_rise least vars columns rise) lt
+
+pub column-high : (least vars : ℕ) (columns : List ℕ) (k : ℕ) → AreColumns least vars columns → k < length columns → get_or columns k 0 ≤ vars
+column-high least vars [] k rise lt = absurd (omega arith)
+column-high least vars (c ∷ cs) zero rise lt = rise.1
+column-high least vars (c ∷ cs) (suc k) rise lt = column-high (c + 1) vars cs k rise.2 (omega arith)
+
+-- ---- rising numbers in order
 pub rises_along : (least : ℕ) (cs : List ℕ) (i j : ℕ) → Rises least cs → i ≤ j → j < length cs → get_or cs i 0 ≤ get_or cs j 0
 rises_along least [] i j rise le lt = absurd (omega arith)
 rises_along least (c ∷ cs) zero zero rise le lt = omega arith
@@ -37,12 +47,9 @@ rises_along least (c ∷ cs) zero (suc j) rise le lt = let h = rises-least (c + 
 rises_along least (c ∷ cs) (suc i) zero rise le lt = absurd (omega arith)
 rises_along least (c ∷ cs) (suc i) (suc j) rise le lt = rises_along (c + 1) cs i j rise.1 (omega arith) (omega arith)
 
-not_before : (least : ℕ) (cs : List ℕ) (v y : ℕ) → Rises least cs → y < least → list_any (λ z. nat_eq z y) cs ≡ false
-not_before least [] v y rise lt = refl
-not_before least (c ∷ cs) v y rise lt = let low = rise.0 in (λ i. ne_eqb c y (λ e. omega arith) i || not_before (c + 1) cs v y rise.1 (omega arith) i)
-
 pub none_below : (least : ℕ) (cs : List ℕ) (y : ℕ) → Rises least cs → y < least → list_any (λ z. nat_eq z y) cs ≡ false
-none_below least cs y rise lt = not_before least cs 0 y rise lt
+none_below least [] y rise lt = refl
+none_below least (c ∷ cs) y rise lt = let low = rise.0 in (λ i. ne_eqb c y (λ e. omega arith) i || none_below (c + 1) cs y rise.1 (omega arith) i)
 
 rises_lower : (low high : ℕ) (xs : List ℕ) → low ≤ high → Rises high xs → Rises low xs
 rises_lower low high [] le h = tt

@@ -1,12 +1,10 @@
 -- Equations over the variables, and the normal forms that they stand for.
-use Rattle.std.specs.Prelude.{◌≡◌, ℕ, ◌+◌, ◌-◌, Bool, false, cond, ◌&&◌, List, [], ◌∷◌, map, slice_index_or, refl}
-use Rattle.std.specs.Simd.Lanes.{zip2}
+use Rattle.std.specs.Prelude.{ℕ, ◌+◌, ◌-◌, Bool, false, cond, List, [], ◌∷◌, map, slice_index_or, refl}
 use Rattle.std.specs.Ordering.{nat_cmp}
 use Rattle.std.specs.FinSet as set
 use Rattle.std.specs.Coded.{Coded, code_by, coded×, coded_ℕ, coded_bool}
 use Rattle.cx_base.specs.Literals.{Literal}
 use Rattle.cx_base.specs.Parity.{NormalForm, normal_form, sum_of}
-use Rattle.gf2_rows.specs.Bits.{parity}
 
 -- a bit for each variable, where that of variable 1 is the first, and the right side
 pub record Equation : Type 0 where
@@ -16,13 +14,6 @@ pub record Equation : Type 0 where
 -- the equation has the variable at x, from 0
 abbrev pub has_term : Equation → ℕ → Bool
 has_term e x = slice_index_or e.terms x false
-
--- the sum of the values of the equation's variables modulo two, and whether it is the right side
-abbrev pub total : Equation → List Bool → Bool
-total e values = parity (zip2 ◌&&◌ e.terms values)
-
-abbrev pub MeetsEquation : List Bool → Equation → Type 0
-MeetsEquation values e = total e values ≡ e.right
 
 -- the numbers of the set bits, where the first has number k
 abbrev pub numbers_from : ℕ → List Bool → List ℕ

@@ -3,7 +3,7 @@ use Rattle.cx_trail.specs.Sequence.{TrailState}
 use Rattle.cx_trail.specs.declared.entry.Reason.TheVariants as reasons
 use Rattle.xor_reason.specs.ReasonClause.{AreAssigned, IsReasonFor}
 use Rattle.xor_reason.proofs.EventLaws.{implied_on_pushed, conflict_on_trail}
-use Rattle.xor_reason.proofs.tests.reason_of_next.Goals as goal
+use Rattle.gauss_jordan.proofs.reason_tests.reason_of_next.Goals as goal
 
 pub reason_clause-requires-clause-assigned : goal.reason_clause-requires-clause-assigned
 reason_clause-requires-clause-assigned g c n is =

@@ -3,14 +3,14 @@ ghost use Rattle.std.specs.Prelude.{◌≡◌, ◌≢◌, ℕ, ◌<◌, ◌≤�
 ghost use Rattle.std.specs.List.{AllByRecursion};
 ghost use Rattle.cx_base.specs.declared.literal.TheConstants.{MAX_VARIABLE};
 ghost use Rattle.cx_base.specs.Problem.{AreWithin};
-ghost use Rattle.gf2_matrix.specs.Equations.{sum_of_numbers};
-ghost use Rattle.gf2_matrix.specs.Written.{IsWritten};
-ghost use Rattle.gauss_jordan.specs.declared.state.Mood.TheVariants.{Broken, Calm};
-ghost use Rattle.gauss_jordan.specs.State.{Answers, AreRising, OfNamed, State, assigned, back, fresh, held_at, is_unassigned, named_at, pushed};
+ghost use Rattle.parity_engine.specs.Equations.{sum_of_numbers};
+ghost use Rattle.parity_engine.specs.Written.{IsWritten};
+ghost use Rattle.parity_engine.specs.declared.state.Mood.TheVariants.{Broken, Calm};
+ghost use Rattle.parity_engine.specs.State.{Answers, AreRising, OfNamed, State, assigned, back, fresh, held_at, is_unassigned, named_at, pushed};
 
 use crate::event::ParityEvent;
+use crate::view::RowView;
 use cx_base::{IdList, LitList, ParityList, Row, Var};
-use gf2_matrix::RowView;
 use std::alloc::{AllocError, Global};
 
 /// An engine over parities: values go in, events come out, and levels can be taken back.

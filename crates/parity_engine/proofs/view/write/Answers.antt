@@ -1,12 +1,12 @@
 use Rattle.std.proofs.Common.{◌∙◌, sym, ap, ◌+◌, ◌∷◌, [], ◌++◌, ◌≡◌, cond, take, get_or}
 use Rattle.std.proofs.lemmas.List.{append-nil}
 use Rattle.cx_base.specs.declared.literal.TheConstants.{MAX_VARIABLE}
-use Rattle.gf2_matrix.specs.Written.{literals_with, picked}
-use Rattle.gf2_matrix.proofs.Rows.{column-low, column-high}
-use Rattle.gf2_matrix.proofs.Columns.{picked_more}
-use Rattle.gf2_matrix.proofs.Literals.{written_more}
-use Rattle.gf2_matrix.proofs.view.write.Goals as goal
-use Rattle.gf2_matrix.proofs.view.write.Goals.{then-bit+in_ok-push, else-bit}
+use Rattle.parity_engine.specs.Written.{literals_with, picked}
+use Rattle.parity_engine.proofs.Columns.{column-low, column-high}
+use Rattle.parity_engine.proofs.Columns.{picked_more}
+use Rattle.parity_engine.proofs.Literals.{written_more}
+use Rattle.parity_engine.proofs.view.write.Goals as goal
+use Rattle.parity_engine.proofs.view.write.Goals.{then-bit+in_ok-push, else-bit}
 
 pub new-requires-clause-low : goal.new-requires-clause-low
 new-requires-clause-low c = column-low 1 MAX_VARIABLE c.args.columns.now c.loop-k.k c.requires.rise c.loop-k-test.true

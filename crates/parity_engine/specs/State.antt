@@ -7,12 +7,12 @@ use Rattle.cx_base.specs.Problem.{parity_met}
 use Rattle.cx_base.specs.Parity.{NormalForm, normal_form}
 use Rattle.cx_semantics.specs.Chain.{has_literal}
 use Rattle.cx_semantics.specs.Forced.{Consistent, Forced}
-use Rattle.gf2_matrix.specs.Equations.{sum_of_numbers}
-use Rattle.gauss_jordan.specs.declared.state.Held.{Held}
-use Rattle.gauss_jordan.specs.declared.state.Mood.{Mood}
-use Rattle.gauss_jordan.specs.declared.state.Mood.TheVariants.{Busy, Calm, Broken}
-use Rattle.gauss_jordan.specs.declared.event.ParityEvent.{ParityEvent}
-use Rattle.gauss_jordan.specs.declared.event.ParityEvent.TheVariants.{Quiet, Implied, Conflict}
+use Rattle.parity_engine.specs.Equations.{sum_of_numbers}
+use Rattle.parity_engine.specs.declared.state.Held.{Held}
+use Rattle.parity_engine.specs.declared.state.Mood.{Mood}
+use Rattle.parity_engine.specs.declared.state.Mood.TheVariants.{Busy, Calm, Broken}
+use Rattle.parity_engine.specs.declared.event.ParityEvent.{ParityEvent}
+use Rattle.parity_engine.specs.declared.event.ParityEvent.TheVariants.{Quiet, Implied, Conflict}
 
 -- a row that an event named: the level and the kind of the event, the normal form, and the parities that it is the sum of
 pub record Named : Type 0 where

@@ -1,56 +1,19 @@
--- Equations and normal forms: the same variables, the same values that meet them, the same sums.
-use Rattle.std.proofs.Common.{◌≡◌, ℕ, ◌+◌, ◌-◌, ◌<◌, ◌≤◌, zero, suc, Bool, true, false, ◌&&◌, ◌||◌, nat_eq, List, [], ◌∷◌, map, length, get_or, refl, sym, ap, ◌∙◌, arith}
-use Rattle.std.specs.List.{list_any, list_all, AllByRecursion}
+-- Sums of normal forms, and the values that meet them.
+use Rattle.std.proofs.Common.{◌≡◌, ℕ, ◌+◌, ◌-◌, ◌<◌, ◌≤◌, zero, suc, Bool, true, false, ◌&&◌, List, [], ◌∷◌, map, length, get_or, refl, sym, ap, ◌∙◌, arith}
+use Rattle.std.specs.List.{list_all, AllByRecursion}
 use Rattle.std.specs.Ordering.{nat_cmp}
 use Rattle.std.specs.Simd.Lanes.{zip2}
-use Rattle.std.specs.Cmp.{nat_cmp_total}
 use Rattle.std.specs.FinSet as set
-use Rattle.std.proofs.lemmas.Bool.{eq-eqb, ne_eqb}
 use Rattle.cx_base.specs.Literals.{Literal, differ, value_of}
 use Rattle.cx_base.specs.Problem.{AreWithin, parity_met}
 use Rattle.cx_base.specs.Parity.{NormalForm, normal_form, sum_of}
 use Rattle.cx_base.proofs.ParityLaws.{contains-symmetric_difference, sum_below, sum_of_members, Sums, AllSum, AreBelow, Sums-from_met, Sums-sum_of}
+use Rattle.cx_semantics.proofs.ChainLaws.{and_parts}
 use Rattle.gf2_rows.specs.Bits.{parity}
-use Rattle.gf2_matrix.specs.Equations.{Equation, has_term, total, MeetsEquation, numbers_from, form_of, parity_number, numbered, sum_of_numbers}
-
--- ---- the variables of an equation
-numbers-below : (k y : ℕ) (bs : List Bool) → y < k → list_any (λ z. nat_eq z y) (numbers_from k bs) ≡ false
-numbers-below k y [] lt = refl
-numbers-below k y (true ∷ bs) lt = ap (λ b. b || list_any (λ z. nat_eq z y) (numbers_from (k + 1) bs)) (ne_eqb k y (λ e. omega arith)) ∙ numbers-below (k + 1) y bs (omega arith)
-numbers-below k y (false ∷ bs) lt = numbers-below (k + 1) y bs (omega arith)
-
--- a number is one of them where its bit is set
-pub numbers-at : (k x : ℕ) (bs : List Bool) → list_any (λ z. nat_eq z (k + x)) (numbers_from k bs) ≡ get_or bs x false
-numbers-at k x [] = refl
-numbers-at k zero (true ∷ bs) = ap (λ b. b || list_any (λ z. nat_eq z (k + 0)) (numbers_from (k + 1) bs)) (eq-eqb k (k + 0) (omega arith))
-numbers-at k zero (false ∷ bs) = numbers-below (k + 1) (k + 0) bs (omega arith)
-numbers-at k (suc x) (true ∷ bs) =
-    let e : k + suc x ≡ k + 1 + x = omega arith in
-    ap (λ b. b || list_any (λ z. nat_eq z (k + suc x)) (numbers_from (k + 1) bs)) (ne_eqb k (k + suc x) (λ e. omega arith))
-    ∙ ap (λ y. list_any (λ z. nat_eq z y) (numbers_from (k + 1) bs)) e ∙ numbers-at (k + 1) x bs
-numbers-at k (suc x) (false ∷ bs) =
-    let e : k + suc x ≡ k + 1 + x = omega arith in
-    ap (λ y. list_any (λ z. nat_eq z y) (numbers_from (k + 1) bs)) e ∙ numbers-at (k + 1) x bs
-
-pub contains-form : (e : Equation) (x : ℕ) → set.contains (form_of e).variables (x + 1) ≡ has_term e x
-contains-form e x =
-    let q : x + 1 ≡ 1 + x = omega arith in
-    set.contains-from_list_nat (numbers_from 1 e.terms) (x + 1) ∙ ap (λ y. list_any (λ z. nat_eq z y) (numbers_from 1 e.terms)) q ∙ numbers-at 1 x e.terms
-
-pub contains-form_zero : (e : Equation) → set.contains (form_of e).variables 0 ≡ false
-contains-form_zero e = set.contains-from_list_nat (numbers_from 1 e.terms) 0 ∙ numbers-below 1 0 e.terms (omega arith)
-
-pub same_form : (f g : NormalForm) → ((y : ℕ) → set.contains f.variables y ≡ set.contains g.variables y) → f.right_side ≡ g.right_side → f ≡ g
-same_form f g same right = λ i. record { variables = set.same_set nat_cmp_total set.nat_cmp-IsAntisymmetric f.variables g.variables same i; right_side = right i }
-
--- a form over the variables from 1 is known by these
-pub same_from_one : (f g : NormalForm) → set.contains f.variables 0 ≡ false → set.contains g.variables 0 ≡ false
-    → ((x : ℕ) → set.contains f.variables (x + 1) ≡ set.contains g.variables (x + 1)) → f.right_side ≡ g.right_side → f ≡ g
-same_from_one f g fz gz same right = same_form f g cases right
-  where
-    cases : (y : ℕ) → set.contains f.variables y ≡ set.contains g.variables y
-    cases zero = fz ∙ sym gz
-    cases (suc x) = let e : suc x ≡ x + 1 = omega arith in ap (set.contains f.variables) e ∙ same x ∙ sym (ap (set.contains g.variables) e)
+use Rattle.gf2_rows.proofs.Words.{differ_move}
+use Rattle.parity_engine.specs.Equations.{Equation, form_of, parity_number, numbered, sum_of_numbers}
+use Rattle.gf2_matrix.specs.Totals.{total, MeetsEquation}
+use Rattle.parity_engine.proofs.Forms.{contains-form, contains-form_zero}
 
 -- ---- sums
 pub contains-sum_of : (fs : List NormalForm) (y : ℕ) → set.contains (sum_of fs).variables y ≡ parity (map (λ f. set.contains f.variables y) fs)
@@ -80,28 +43,21 @@ right-sum_of_numbers given numbers =
     ∙ through (λ ls. (normal_form ls).right_side) (parity_number given) numbers
 
 -- ---- values that meet them
-differ-move : (a b c : Bool) → differ a (differ b c) ≡ differ b (differ a c)
-differ-move true true true = refl
-differ-move true true false = refl
-differ-move true false c = refl
-differ-move false true c = refl
-differ-move false false c = refl
-
 pub sum_below-first : (m : ℕ) (f : ℕ → Bool) → sum_below (suc m) f ≡ differ (f 0) (sum_below m (λ x. f (suc x)))
 sum_below-first zero f = refl
 sum_below-first (suc m) f =
-    ap (differ (f (suc m))) (sum_below-first m f) ∙ differ-move (f (suc m)) (f 0) (sum_below m (λ x. f (suc x)))
+    ap (differ (f (suc m))) (sum_below-first m f) ∙ differ_move (f (suc m)) (f 0) (sum_below m (λ x. f (suc x)))
 
 pub sum_below-same : (m : ℕ) (f g : ℕ → Bool) → ((x : ℕ) → x < m → f x ≡ g x) → sum_below m f ≡ sum_below m g
 sum_below-same zero f g h = refl
 sum_below-same (suc m) f g h = λ i. differ (h m (omega arith) i) (sum_below-same m f g (λ x lt. h x (omega arith)) i)
 
-none-below : (m : ℕ) → sum_below m (λ x. false) ≡ false
-none-below zero = refl
-none-below (suc m) = none-below m
+sum_below-none : (m : ℕ) → sum_below m (λ x. false) ≡ false
+sum_below-none zero = refl
+sum_below-none (suc m) = sum_below-none m
 
 sum-products : (m : ℕ) (terms v : List Bool) → length terms ≡ length v → length v ≤ m → sum_below m (λ x. get_or terms x false && get_or v x false) ≡ parity (zip2 ◌&&◌ terms v)
-sum-products m [] [] e le = none-below m
+sum-products m [] [] e le = sum_below-none m
 sum-products m [] (b ∷ v) e le = absurd (omega arith)
 sum-products m (t ∷ terms) [] e le = absurd (omega arith)
 sum-products zero (t ∷ terms) (b ∷ v) e le = absurd (omega arith)
@@ -133,18 +89,8 @@ below_from_within vars m (l ∷ lits) le within = (let h = within.0.1 in omega a
 
 pub all-at : {X : Type 0} (p : X → Bool) (xs : List X) (k : ℕ) (d : X) → list_all p xs ≡ true → k < length xs → p (get_or xs k d) ≡ true
 all-at p [] k d all lt = absurd (omega arith)
-all-at p (x ∷ xs) zero d all lt = (both (p x) (list_all p xs) all).0
-  where
-    both : (a b : Bool) → (a && b) ≡ true → (a ≡ true) × (b ≡ true)
-    both true true h = (refl, refl)
-    both true false h = cc
-    both false b h = cc
-all-at p (x ∷ xs) (suc k) d all lt = all-at p xs k d ((both (p x) (list_all p xs) all).1) (omega arith)
-  where
-    both : (a b : Bool) → (a && b) ≡ true → (a ≡ true) × (b ≡ true)
-    both true true h = (refl, refl)
-    both true false h = cc
-    both false b h = cc
+all-at p (x ∷ xs) zero d all lt = (and_parts (p x) (list_all p xs) all).0
+all-at p (x ∷ xs) (suc k) d all lt = all-at p xs k d ((and_parts (p x) (list_all p xs) all).1) (omega arith)
 
 pub each-all : {X : Type 0} (p : X → Bool) (xs : List X) (d : X) → ((k : ℕ) → k < length xs → p (get_or xs k d) ≡ true) → list_all p xs ≡ true
 each-all p [] d each = refl

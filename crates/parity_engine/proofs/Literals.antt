@@ -9,11 +9,11 @@ use Rattle.cx_base.specs.Parity.{normal_form, occurs_odd}
 use Rattle.cx_base.proofs.ParityLaws.{contains-normal_form}
 use Rattle.gf2_rows.specs.Bits.{parity, bit_of}
 use Rattle.gf2_rows.proofs.Words.{parity-count, odd-suc}
-use Rattle.gf2_matrix.specs.Content.{place}
-use Rattle.gf2_matrix.specs.Views.{IsView, viewed, viewed_form}
-use Rattle.gf2_matrix.specs.Written.{positive, literals_with, Rises, IsWritable, IsWritten, picked}
-use Rattle.gf2_matrix.proofs.Forms.{same_from_one, contains-form_zero}
-use Rattle.gf2_matrix.proofs.Columns.{none_below, picked_rises, any_picked, contains_viewed}
+use Rattle.parity_engine.specs.Columns.{place}
+use Rattle.parity_engine.specs.Views.{IsView, viewed, viewed_form}
+use Rattle.parity_engine.specs.Written.{positive, literals_with, Rises, IsWritable, IsWritten, picked}
+use Rattle.parity_engine.proofs.Forms.{same_from_one, contains-form_zero}
+use Rattle.parity_engine.proofs.Columns.{none_below, picked_rises, any_picked, contains_viewed}
 
 -- ---- normal forms as sums of bits
 pub occurs_parity : (lits : List Literal) (y : ℕ) → occurs_odd lits y ≡ parity (map (λ (l : Literal). eqb l.variable y) lits)

@@ -5,12 +5,13 @@ ghost use Rattle.cx_base.specs.Problem.{AreWithin};
 ghost use Rattle.cx_trail.specs.Sequence.{IsOpenIn};
 ghost use Rattle.xor_reason.specs.Laws.{StandsOn};
 
-use crate::{ReasonOf, reason_clause};
+use crate::Scratch;
 use cx_base::{Lit, LitList, ParityList, Row, Var};
 use cx_trail::{Reason, Trail};
-use gauss_jordan::{ParityEngine, ParityEvent, Scratch};
+use parity_engine::{ParityEngine, ParityEvent};
 use std::alloc::{AllocError, Global};
 use std::test::Fail;
+use xor_reason::{ReasonOf, reason_clause};
 
 /// The parity of the positive literals of variables 1 to 3.
 fn triple(alloc: Global) -> Result<LitList, AllocError>

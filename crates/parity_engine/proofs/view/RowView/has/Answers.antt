@@ -3,9 +3,9 @@ use Rattle.std.proofs.lemmas.Bool.{le-ltb}
 use Rattle.std.specs.FinSet as set
 use Rattle.cx_base.specs.Parity.{NormalForm}
 use Rattle.gf2_rows.specs.Bits.{bit_of}
-use Rattle.gf2_matrix.specs.Content.{place}
-use Rattle.gf2_matrix.proofs.Columns.{columns_rise, contains_viewed}
-use Rattle.gf2_matrix.proofs.view.RowView.has.Goals as goal
+use Rattle.parity_engine.specs.Columns.{place}
+use Rattle.parity_engine.proofs.Columns.{columns_rise, contains_viewed}
+use Rattle.parity_engine.proofs.view.RowView.has.Goals as goal
 
 pub place_of-column-requires : goal.place_of-column-requires
 place_of-column-requires c = columns_rise 1 c.self.inside.vars c.self.inside.columns.now c.self.invariant.rise
