@@ -24,8 +24,8 @@ use Rattle.cx_semantics.specs.Tokens.{tokens}
 use Rattle.cx_semantics.specs.ProofText.{proof_steps}
 use Rattle.cx_semantics.proofs.Closure.{closed_has_no_chain}
 use Rattle.cx_semantics.proofs.Lookups.{Looks, put_at, lookup, Looks-empty, Looks-insert, Looks-numbered_from, is_live_by, ids_by, hints_by, named_by}
-use Rattle.cx_semantics.proofs.MarkedRow.{AllAt-none, AllAt-put}
-use Rattle.cx_semantics.proofs.ProofRows.{p12, p23, p13, three_sum}
+use Rattle.cx_semantics.proofs.MarkedCase.{AllAt-none, AllAt-put}
+use Rattle.cx_semantics.proofs.ProofCases.{p12, p23, p13, three_sum}
 use Rattle.cx_semantics.proofs.Widths.{len-normal_form}
 use Rattle.cx_semantics.proofs.Evaluate.{step_here}
 use Rattle.cx_semantics.proofs.Grammars.{proof_forms}
