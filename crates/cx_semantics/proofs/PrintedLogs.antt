@@ -12,8 +12,9 @@ use Rattle.cx_semantics.specs.Grammar.{spelled, spelling, IsStep, Begins, Stops,
 use Rattle.cx_semantics.specs.LogText.{log_steps, log_fields, log_events, EventsRead, event_words_of_line, conflict_or, conflict_number}
 use Rattle.cx_semantics.specs.Printed.{printed_word, printed_log, HasText}
 use Rattle.cx_semantics.proofs.SpokenWords.{IsSpoken, spoken_log_step}
+use Rattle.cx_semantics.proofs.DigitLaws.{digits_are, natural_all}
 use Rattle.cx_semantics.proofs.LogSteps.{IsFirst, first_of, first_word, no_more}
-use Rattle.cx_semantics.proofs.PrintedWords.{IsPiece, decimal_piece, natural-decimal, texts, texts-joined, NoFeed, no_feed_joined, lines-line, plain_pieces, plain_all, words-printed, joined, within_words}
+use Rattle.cx_semantics.proofs.PrintedWords.{IsPiece, decimal_piece, texts, texts-joined, NoFeed, no_feed_joined, lines-line, plain_pieces, plain_all, words-printed, joined, within_words}
 
 -- ---- the words of a printed line of a log
 
@@ -79,7 +80,7 @@ are_pieces k h = (
 mark_word : (m k : ℕ) → k < 2 ^ 64 → event_words_of_line (enumerate_from m (join_with_byte 32 (mark_pieces k))) ≡ record { place = m; word = conflict k } ∷ []
 mark_word m k h =
     let d = decimal_is_IsNumeral_wide k (small_mark k h) in
-    ap (conflict_or [] m) (number_of_texts (tokens_of_line (enumerate_from m (join_with_byte 32 (mark_pieces k)))) k (texts-joined (mark_pieces k) m (are_pieces k h)) ∙ natural-decimal (decimal k) d.0 ∙ ap Some d.1)
+    ap (conflict_or [] m) (number_of_texts (tokens_of_line (enumerate_from m (join_with_byte 32 (mark_pieces k)))) k (texts-joined (mark_pieces k) m (are_pieces k h)) ∙ natural_all (decimal k) d.0.0 (digits_are (decimal k) d.0.1) ∙ ap Some d.1)
 
 -- ---- readings
 

@@ -13,7 +13,8 @@ use Rattle.cx_semantics.specs.ProofText.{proof_steps, ProofReads}
 use Rattle.cx_semantics.specs.Printed.{printed_word, printed_proof, HasProofText}
 use Rattle.cx_semantics.proofs.SpokenWords.{spoken_proof_step}
 use Rattle.cx_semantics.proofs.ProofSteps.{stops}
-use Rattle.cx_semantics.proofs.PrintedWords.{IsPiece, digit_is, digit_bounds, not_equal, digits_no_blank, joined, NoFeed, no_feed_joined, plain_pieces, plain_all, limit_small, lines-line, words-printed, within_words}
+use Rattle.cx_semantics.proofs.DigitLaws.{digit_is, digits_are, digit_bounds, not_equal, digits_no_blank}
+use Rattle.cx_semantics.proofs.PrintedWords.{IsPiece, joined, NoFeed, no_feed_joined, plain_pieces, plain_all, limit_small, lines-line, words-printed, within_words}
 
 -- ---- no printed step is a comment line
 
@@ -29,7 +30,7 @@ joined_first m w (v ∷ ws) p h = comment_piece m (printed_word w) (32 ∷ joine
 
 decimal_first : (ds : List ℕ) (h : IsNumeral 10 ds) → (p : IsPiece ds) × ((p.first == 99) ≡ false)
 decimal_first [] h = absurd (let k : 0 < 0 = h.0 in omega arith)
-decimal_first (c ∷ ds) h = (record { first = c; rest = ds; is = refl; no_blank = digits_no_blank (c ∷ ds) h.1 }, not_equal c 99 (λ e. let b = digit_bounds c (digit_is c h.1.0) in omega arith))
+decimal_first (c ∷ ds) h = (record { first = c; rest = ds; is = refl; no_blank = digits_no_blank (c ∷ ds) (digits_are (c ∷ ds) h.1) }, not_equal c 99 (λ e. let b = digit_bounds c (digit_is c h.1.0) in omega arith))
 
 number_comment : (m n : ℕ) (ws : List Word) → n < 10 ^ 64 → is_comment (enumerate_from m (joined (number (pos n) ∷ ws))) ≡ false
 number_comment m n ws h = let d = decimal_first (decimal n) (decimal_is_IsNumeral_wide n h).0 in joined_first m (number (pos n)) ws d.0 d.1

@@ -9,68 +9,9 @@ use Rattle.cx_semantics.specs.Words.{Word, number, letter, conflict, other, Plac
 use Rattle.cx_semantics.specs.Grammar.{Grammar, AreWithin}
 use Rattle.cx_semantics.specs.Printed.{printed_integer, printed_word}
 use Rattle.cx_semantics.proofs.ChainLaws.{and_parts, and_both}
+use Rattle.cx_semantics.proofs.DigitLaws.{digits_are, digits_no_blank, integer_digits, integer_minus}
 use Rattle.cx_semantics.proofs.TokenLaws.{lines-byte, blank_tokens, run_line, StartsBlank, not_feed}
 use Rattle.cx_semantics.proofs.SpokenWords.{IsSpoken}
-
--- ---- digits
-
-pub digit_is : (c : ℕ) → digit_value c < 10 → is_digit c ≡ true
-digit_is c h = first (nat_lt c 48) refl h
-  where
-    sixth : (b : Bool) → nat_lt c 123 ≡ b → nat_lt c 97 ≡ false → cond b (c - 87) 36 < 10 → is_digit c ≡ true
-    sixth true e f g = absurd (omega (arith, ltb-false c 97 f))
-    sixth false e f g = absurd (omega arith)
-
-    fifth : (b : Bool) → nat_lt c 97 ≡ b → cond b 36 (cond (nat_lt c 123) (c - 87) 36) < 10 → is_digit c ≡ true
-    fifth true e g = absurd (omega arith)
-    fifth false e g = sixth (nat_lt c 123) refl e g
-
-    fourth : (b : Bool) → nat_lt c 91 ≡ b → nat_lt c 65 ≡ false → cond b (c - 55) (cond (nat_lt c 97) 36 (cond (nat_lt c 123) (c - 87) 36)) < 10 → is_digit c ≡ true
-    fourth true e f g = absurd (omega (arith, ltb-false c 65 f))
-    fourth false e f g = fifth (nat_lt c 97) refl g
-
-    third : (b : Bool) → nat_lt c 65 ≡ b → cond b 36 (cond (nat_lt c 91) (c - 55) (cond (nat_lt c 97) 36 (cond (nat_lt c 123) (c - 87) 36))) < 10 → is_digit c ≡ true
-    third true e g = absurd (omega arith)
-    third false e g = fourth (nat_lt c 91) refl e g
-
-    second : (b : Bool) → nat_lt c 58 ≡ b → nat_lt c 48 ≡ false → cond b (c - 48) (cond (nat_lt c 65) 36 (cond (nat_lt c 91) (c - 55) (cond (nat_lt c 97) 36 (cond (nat_lt c 123) (c - 87) 36)))) < 10 → is_digit c ≡ true
-    second true e f g = and_both _ _ (le-leb 48 c (ltb-false c 48 f)) (le-leb c 57 (let k : c ≤ 57 = omega (arith, ltb-true c 58 e) in k))
-    second false e f g = third (nat_lt c 65) refl g
-
-    first : (b : Bool) → nat_lt c 48 ≡ b → cond b 36 (cond (nat_lt c 58) (c - 48) (cond (nat_lt c 65) 36 (cond (nat_lt c 91) (c - 55) (cond (nat_lt c 97) 36 (cond (nat_lt c 123) (c - 87) 36))))) < 10 → is_digit c ≡ true
-    first true e g = absurd (omega arith)
-    first false e g = second (nat_lt c 58) refl e g
-
-digits_are : (ds : List ℕ) → AllDigits 10 ds → list_all is_digit ds ≡ true
-digits_are [] h = refl
-digits_are (c ∷ ds) h = and_both _ _ (digit_is c h.0) (digits_are ds h.1)
-
-pub digit_bounds : (c : ℕ) → is_digit c ≡ true → (48 ≤ c) × (c ≤ 57)
-digit_bounds c h = let p = and_parts (nat_le 48 c) (nat_le c 57) h in (leb-true 48 c p.0, leb-true c 57 p.1)
-
-pub not_equal : (c n : ℕ) → (c ≡ n → ⊥) → (c == n) ≡ false
-not_equal c n h = elim (c == n) as (λ b. (c == n) ≡ b → b ≡ false) [ true ↦ λ e. absurd (h (eqb-true c n e)) | false ↦ λ e. refl ] refl
-
-digit_not_blank : (c : ℕ) → is_digit c ≡ true → is_blank c ≡ false
-digit_not_blank c h =
-    let p = digit_bounds c h in
-    (λ i. ((not_equal c 32 (λ e. omega arith) i || not_equal c 9 (λ e. omega arith) i) || not_equal c 13 (λ e. omega arith) i) || not_equal c 10 (λ e. omega arith) i)
-
-pub digits_no_blank : (ds : List ℕ) → AllDigits 10 ds → NoBlank ds
-digits_no_blank [] h = tt
-digits_no_blank (c ∷ ds) h = (digit_not_blank c (digit_is c h.0), digits_no_blank ds h.1)
-
-natural-digits : (c : ℕ) (ds : List ℕ) → AllDigits 10 (c ∷ ds) → natural (c ∷ ds) ≡ Some (digits_value 10 (c ∷ ds))
-natural-digits c ds h = ap (λ b. cond b (Some (digits_value 10 (c ∷ ds))) None) (digits_are (c ∷ ds) h)
-
-integer-digits : (c : ℕ) (ds : List ℕ) → AllDigits 10 (c ∷ ds) → integer (c ∷ ds) ≡ Some (pos (digits_value 10 (c ∷ ds)))
-integer-digits c ds h =
-    let p = digit_bounds c (digit_is c h.0) in
-    ap (λ b. cond b (option_map (λ n. neg_ℤ (pos n)) (natural ds)) (option_map pos (natural (c ∷ ds)))) (not_equal c 45 (λ e. omega arith))
-    ∙ ap (option_map pos) (natural-digits c ds h)
-
-integer-minus : (c : ℕ) (ds : List ℕ) → AllDigits 10 (c ∷ ds) → integer (45 ∷ c ∷ ds) ≡ Some (neg_ℤ (pos (digits_value 10 (c ∷ ds))))
-integer-minus c ds h = ap (option_map (λ n. neg_ℤ (pos n))) (natural-digits c ds h)
 
 -- ---- pieces of a line
 
@@ -83,26 +24,14 @@ pub record IsPiece (text : List ℕ) : Type 0 where
 
 pub decimal_piece : (ds : List ℕ) → IsNumeral 10 ds → IsPiece ds
 decimal_piece [] h = absurd (let k : 0 < 0 = h.0 in omega arith)
-decimal_piece (c ∷ ds) h = record { first = c; rest = ds; is = refl; no_blank = digits_no_blank (c ∷ ds) h.1 }
-
-integer-decimal : (ds : List ℕ) → IsNumeral 10 ds → integer ds ≡ Some (pos (digits_value 10 ds))
-integer-decimal [] h = absurd (let k : 0 < 0 = h.0 in omega arith)
-integer-decimal (c ∷ ds) h = integer-digits c ds h.1
-
-integer-minus_decimal : (ds : List ℕ) → IsNumeral 10 ds → integer (45 ∷ ds) ≡ Some (neg_ℤ (pos (digits_value 10 ds)))
-integer-minus_decimal [] h = absurd (let k : 0 < 0 = h.0 in omega arith)
-integer-minus_decimal (c ∷ ds) h = integer-minus c ds h.1
-
-pub natural-decimal : (ds : List ℕ) → IsNumeral 10 ds → natural ds ≡ Some (digits_value 10 ds)
-natural-decimal [] h = absurd (let k : 0 < 0 = h.0 in omega arith)
-natural-decimal (c ∷ ds) h = natural-digits c ds h.1
+decimal_piece (c ∷ ds) h = record { first = c; rest = ds; is = refl; no_blank = digits_no_blank (c ∷ ds) (digits_are (c ∷ ds) h.1) }
 
 minus_piece : (ds : List ℕ) → IsNumeral 10 ds → IsPiece (45 ∷ ds)
-minus_piece ds h = record { first = 45; rest = ds; is = refl; no_blank = (refl, digits_no_blank ds h.1) }
+minus_piece ds h = record { first = 45; rest = ds; is = refl; no_blank = (refl, digits_no_blank ds (digits_are ds h.1)) }
 
 pub integer-printed : (z : ℤ) → nat_abs z < 10 ^ 64 → integer (printed_integer z) ≡ Some z
-integer-printed (pos n) h = let d = decimal_is_IsNumeral_wide n h in integer-decimal (decimal n) d.0 ∙ ap (λ m. Some (pos m)) d.1
-integer-printed (negsuc n) h = let d = decimal_is_IsNumeral_wide (suc n) h in integer-minus_decimal (decimal (suc n)) d.0 ∙ ap (λ m. Some (neg_ℤ (pos m))) d.1
+integer-printed (pos n) h = let d = decimal_is_IsNumeral_wide n h in integer_digits (decimal n) d.0.0 (digits_are (decimal n) d.0.1) ∙ ap (λ m. Some (pos m)) d.1
+integer-printed (negsuc n) h = let d = decimal_is_IsNumeral_wide (suc n) h in integer_minus (decimal (suc n)) d.0.0 (digits_are (decimal (suc n)) d.0.1) ∙ ap (λ m. Some (neg_ℤ (pos m))) d.1
 
 pub integer_piece : (z : ℤ) → nat_abs z < 10 ^ 64 → IsPiece (printed_integer z)
 integer_piece (pos n) h = decimal_piece (decimal n) (decimal_is_IsNumeral_wide n h).0
