@@ -1,9 +1,8 @@
 -- Runs of digits as numbers, and tokens as integers.
-use Rattle.std.proofs.Common.{◌≡◌, refl, sym, ap, ◌∙◌, subst, ℕ, ◌+◌, ◌-◌, ◌*◌, ◌^◌, ◌<◌, ◌≤◌, ◌≢◌, min, pos, neg_ℤ, true, false, cond, ◌&&◌, ◌||◌, leb-true, le-leb, eqb-true, List, [], ◌∷◌, length, take, get_or, Some, None, option_map, arith, nat_le, ◌==◌}
+use Rattle.std.proofs.Common.{◌≡◌, refl, ap, ◌∙◌, ℕ, ◌+◌, ◌-◌, ◌*◌, ◌^◌, ◌<◌, ◌≤◌, min, pos, neg_ℤ, true, false, cond, ◌&&◌, ◌||◌, leb-true, le-leb, eqb-true, List, [], ◌∷◌, length, take, get_or, Some, None, option_map, arith, nat_le, ◌==◌}
 use Rattle.std.specs.List.{list_all}
 use Rattle.std.specs.Char.{digit_value}
 use Rattle.std.specs.Str.Parse.{AllDigits, digits_value}
-use Rattle.std.proofs.lemmas.List.{take_all}
 use Rattle.std.proofs.lemmas.List.Folds.{list_all_more}
 use Rattle.std.proofs.lemmas.Int.Digits.{digits_value_more}
 use Rattle.std.proofs.lemmas.Str.{digit_value_digit}

@@ -12,9 +12,10 @@ use Rattle.cx_semantics.specs.Grammar.{spelled, spelling, IsStep, Begins, Stops,
 use Rattle.cx_semantics.specs.LogText.{log_steps, log_fields, log_events, EventsRead, event_words_of_line, conflict_or, conflict_number}
 use Rattle.cx_semantics.specs.Printed.{printed_word, printed_log, HasText}
 use Rattle.cx_semantics.proofs.SpokenWords.{IsSpoken, spoken_log_step}
+use Rattle.cx_semantics.proofs.Lines.{NoFeed, lines-line}
 use Rattle.cx_semantics.proofs.DigitLaws.{digits_are, natural_all}
 use Rattle.cx_semantics.proofs.LogSteps.{IsFirst, first_of, first_word, no_more}
-use Rattle.cx_semantics.proofs.PrintedWords.{IsPiece, decimal_piece, texts, texts-joined, NoFeed, no_feed_joined, lines-line, plain_pieces, plain_all, words-printed, joined, within_words}
+use Rattle.cx_semantics.proofs.PrintedWords.{IsPiece, decimal_piece, texts, texts-joined, no_feed_joined, plain_pieces, plain_all, words-printed, joined, within_words}
 
 -- ---- the words of a printed line of a log
 

@@ -13,8 +13,9 @@ use Rattle.cx_semantics.specs.ProofText.{proof_steps, ProofReads}
 use Rattle.cx_semantics.specs.Printed.{printed_word, printed_proof, HasProofText}
 use Rattle.cx_semantics.proofs.SpokenWords.{spoken_proof_step}
 use Rattle.cx_semantics.proofs.ProofSteps.{stops}
+use Rattle.cx_semantics.proofs.Lines.{NoFeed, lines-line}
 use Rattle.cx_semantics.proofs.DigitLaws.{digit_is, digits_are, digit_bounds, not_equal, digits_no_blank}
-use Rattle.cx_semantics.proofs.PrintedWords.{IsPiece, joined, NoFeed, no_feed_joined, plain_pieces, plain_all, limit_small, lines-line, words-printed, within_words}
+use Rattle.cx_semantics.proofs.PrintedWords.{IsPiece, joined, no_feed_joined, plain_pieces, plain_all, limit_small, words-printed, within_words}
 
 -- ---- no printed step is a comment line
 

@@ -1,16 +1,15 @@
 -- Words as they are printed: the pieces of a line, and the words that are read of them.
-use Rattle.std.proofs.Common.{◌≡◌, refl, sym, ap, ◌∙◌, subst, ℕ, suc, ◌+◌, ◌-◌, ◌^◌, ◌<◌, ◌≤◌, ℤ, pos, negsuc, neg_ℤ, nat_abs, Bool, true, false, cond, ◌||◌, ltb-true, ltb-false, le-leb, leb-true, eqb-true, lit<, lt_of_le_of_lt, List, [], ◌∷◌, ◌++◌, map, length, Some, None, option_map, arith, append-nil, decimal, ◌==◌, nat_lt, nat_le}
-use Rattle.std.specs.List.{AllByRecursion, list_all, enumerate_from, join_with_byte, onto_first}
-use Rattle.std.specs.Char.{digit_value}
-use Rattle.std.specs.Str.Parse.{AllDigits, IsNumeral, digits_value}
+use Rattle.std.proofs.Common.{◌≡◌, refl, sym, ap, ◌∙◌, subst, ℕ, suc, ◌+◌, ◌^◌, ◌<◌, ℤ, pos, negsuc, neg_ℤ, nat_abs, false, lit<, lt_of_le_of_lt, List, [], ◌∷◌, ◌++◌, map, length, Some, arith, append-nil, decimal}
+use Rattle.std.specs.List.{AllByRecursion, enumerate_from, join_with_byte}
+use Rattle.std.specs.Str.Parse.{IsNumeral}
 use Rattle.std.proofs.lemmas.Fmt.{decimal_is_IsNumeral_wide}
-use Rattle.cx_semantics.specs.Tokens.{Token, is_blank, lines_from, tokens_of_line, NoBlank}
-use Rattle.cx_semantics.specs.Words.{Word, number, letter, conflict, other, Placed, words, placed_words, word_of, number_or, letter_or_other, integer, natural, is_digit, IsWithin}
+use Rattle.cx_semantics.specs.Tokens.{Token, is_blank, tokens_of_line, NoBlank}
+use Rattle.cx_semantics.specs.Words.{Word, number, letter, conflict, other, Placed, words, placed_words, word_of, number_or, letter_or_other, integer, IsWithin}
 use Rattle.cx_semantics.specs.Grammar.{Grammar, AreWithin}
 use Rattle.cx_semantics.specs.Printed.{printed_integer, printed_word}
-use Rattle.cx_semantics.proofs.ChainLaws.{and_parts, and_both}
 use Rattle.cx_semantics.proofs.DigitLaws.{digits_are, digits_no_blank, integer_digits, integer_minus}
-use Rattle.cx_semantics.proofs.TokenLaws.{lines-byte, blank_tokens, run_line, StartsBlank, not_feed}
+use Rattle.cx_semantics.proofs.Lines.{Line, StartsBlank, NoFeed, not_feed, enumerate-append}
+use Rattle.cx_semantics.proofs.TokenLaws.{blank_tokens, run_line}
 use Rattle.cx_semantics.proofs.SpokenWords.{IsSpoken}
 
 -- ---- pieces of a line
@@ -37,13 +36,6 @@ pub integer_piece : (z : ℤ) → nat_abs z < 10 ^ 64 → IsPiece (printed_integ
 integer_piece (pos n) h = decimal_piece (decimal n) (decimal_is_IsNumeral_wide n h).0
 integer_piece (negsuc n) h = minus_piece (decimal (suc n)) (decimal_is_IsNumeral_wide (suc n) h).0
 
-abbrev Line : Type 0
-Line = List (ℕ × ℕ)
-
-enumerate-append : (n : ℕ) (xs ys : List ℕ) → enumerate_from n (xs ++ ys) ≡ enumerate_from n xs ++ enumerate_from (n + length xs) ys
-enumerate-append n [] ys = ap (λ m. enumerate_from m ys) (let e : n ≡ n + 0 = omega arith in e)
-enumerate-append n (x ∷ xs) ys = ap (λ r. (n, x) ∷ r) (enumerate-append (n + 1) xs ys ∙ ap (λ m. enumerate_from (n + 1) xs ++ enumerate_from m ys) (let e : (n + 1) + length xs ≡ n + length (x ∷ xs) = omega arith in e))
-
 abbrev pub texts : List Token → List (List ℕ)
 texts ts = map (λ t. t.text) ts
 
@@ -65,9 +57,6 @@ texts-joined (p ∷ q ∷ ps) n h =
 
 -- ---- lines
 
-abbrev pub NoFeed : List ℕ → Type 0
-NoFeed line = AllByRecursion (λ b. (b == 10) ≡ false) line
-
 no_feed_append : (a b : List ℕ) → NoFeed a → NoFeed b → NoFeed (a ++ b)
 no_feed_append [] b h k = k
 no_feed_append (x ∷ a) b h k = (h.0, no_feed_append a b h.1 k)
@@ -83,12 +72,6 @@ pub no_feed_joined : (pieces : List (List ℕ)) → AllByRecursion IsPiece piece
 no_feed_joined [] h = tt
 no_feed_joined (p ∷ []) h = no_feed_piece p h.0
 no_feed_joined (p ∷ q ∷ ps) h = no_feed_append p (32 ∷ join_with_byte 32 (q ∷ ps)) (no_feed_piece p h.0) (refl, no_feed_joined (q ∷ ps) h.1)
-
-pub lines-line : (m : ℕ) (l rest : List ℕ) → NoFeed l → lines_from m (l ++ 10 ∷ rest) ≡ enumerate_from m l ∷ lines_from ((m + length l) + 1) rest
-lines-line m [] rest k = let e : m + 1 ≡ (m + 0) + 1 = omega arith in ap (λ i. [] ∷ lines_from i rest) e
-lines-line m (b ∷ l) rest k =
-    let e : ((m + 1) + length l) + 1 ≡ (m + length (b ∷ l)) + 1 = omega arith in
-    lines-byte m b (l ++ 10 ∷ rest) k.0 ∙ ap (onto_first (m, b)) (lines-line (m + 1) l rest k.1) ∙ ap (λ i. enumerate_from m (b ∷ l) ∷ lines_from i rest) e
 
 -- ---- words of a printed step
 
