@@ -1,18 +1,16 @@
 -- The tokens of a formula's text, one byte or one run at a time.
-use Rattle.std.proofs.Common.{◌≡◌, ◌≢◌, refl, sym, ap, ◌∙◌, subst, ℕ, suc, ◌+◌, ◌-◌, ◌<◌, ◌≤◌, Bool, true, false, cond, not, List, [], ◌∷◌, ◌++◌, length, take, drop, get_or, filter, flat_map, arith, add-zero, length-drop, drop-drop, ◌==◌, inl, inr}
-use Rattle.std.specs.List.{onto_first, enumerate_from, before_first, position_or_len, AllByRecursion}
+use Rattle.std.proofs.Common.{◌≡◌, refl, sym, ap, ◌∙◌, subst, ℕ, suc, ◌+◌, ◌-◌, ◌<◌, ◌≤◌, Bool, true, false, cond, not, List, [], ◌∷◌, ◌++◌, length, take, drop, get_or, filter, flat_map, arith, length-drop, drop-drop, ◌==◌, inl, inr}
+use Rattle.std.specs.List.{onto_first, enumerate_from, before_first, position_or_len}
 use Rattle.std.proofs.lemmas.List.{drop_more, drop_all}
 use Rattle.cx_semantics.specs.Tokens.{Token, is_blank, begins_with, is_comment, is_end_line, lines_from, tokens_of_line, tokens_of_lines, formula_tokens, NoBlank, EndsRun, SkipsLine}
-use Rattle.cx_semantics.proofs.TokenLaws.{lines-byte, blank_tokens, not_feed, token_at, StartsBlank, run_line}
+use Rattle.cx_semantics.proofs.Lines.{Line, lines-byte, lines-feed, some_lines, not_feed, ahead, lines-run, rest_blank, lines-line, lines-last}
+use Rattle.cx_semantics.proofs.TokenLaws.{blank_tokens, token_at, run_line}
 use Rattle.cx_semantics.proofs.Slices.{part_length, split_at}
-use Rattle.cnfx_reader.proofs.NumberLaws.{part_behind}
+use Rattle.cnfx_reader.proofs.FrontLaws.{part_behind}
 use Rattle.cnfx_reader.proofs.WordLaws.{run_begins}
 use Rattle.cnfx_reader.specs.TokensLeft.{kept_tokens, kept_with_first, formula_tokens_from, formula_tokens_within, formula_tokens_left}
 
 -- ---- the tokens of the whole text
-
-abbrev Line : Type 0
-Line = List (ℕ × ℕ)
 
 before : (line : Line) (lines : List Line) → before_first is_end_line (line ∷ lines) ≡ cond (is_end_line line) [] (line ∷ before_first is_end_line lines)
 before line lines = go (is_end_line line)
@@ -44,9 +42,6 @@ blank_begin c n b line h = ap (λ x. cond x (begins_with c line) (b == c)) h
 other_begin : (c n b : ℕ) (line : Line) → is_blank b ≡ false → begins_with c ((n, b) ∷ line) ≡ (b == c)
 other_begin c n b line h = ap (λ x. cond x (begins_with c line) (b == c)) h
 
-feed_line : (n b : ℕ) (bs : List ℕ) → (b == 10) ≡ true → lines_from n (b ∷ bs) ≡ [] ∷ lines_from (n + 1) bs
-feed_line n b bs h = ap (λ x. cond x ([] ∷ lines_from (n + 1) bs) (onto_first (n, b) (lines_from (n + 1) bs))) h
-
 -- the tokens of the lines by what the first of them begins with
 abbrev by_first : Bool → Bool → Line → List Line → List Token
 by_first end comment line lines = cond end [] (cond comment (kept_tokens lines) (tokens_of_line line ++ kept_tokens lines))
@@ -62,7 +57,7 @@ pub from-blank : (n b : ℕ) (bs : List ℕ) → is_blank b ≡ true → formula
 from-blank n b bs h = go (b == 10) refl
   where
     go : (x : Bool) → (b == 10) ≡ x → formula_tokens_from n (b ∷ bs) ≡ formula_tokens_from (n + 1) bs
-    go true e = ap kept_tokens (feed_line n b bs e)
+    go true e = ap kept_tokens (lines-feed n b bs e)
     go false e = ap kept_tokens (lines-byte n b bs e) ∙ blank_first n b (lines_from (n + 1) bs) h
 
 -- within a line a blank is passed over, and behind a line feed the next line begins
@@ -74,7 +69,7 @@ within-blank n b bs h e = ap kept_with_first (lines-byte n b bs e) ∙ go (lines
     go (line ∷ lines) = ap (λ x. x ++ kept_tokens lines) (blank_tokens n b line h)
 
 pub within-feed : (n b : ℕ) (bs : List ℕ) → (b == 10) ≡ true → formula_tokens_within n (b ∷ bs) ≡ formula_tokens_from (n + 1) bs
-within-feed n b bs e = ap kept_with_first (feed_line n b bs e)
+within-feed n b bs e = ap kept_with_first (lines-feed n b bs e)
 
 -- a line whose first byte that is no blank is neither `c` nor `%` is kept
 pub from-kept : (n b : ℕ) (bs : List ℕ) → is_blank b ≡ false → (b == 99) ≡ false → (b == 37) ≡ false → formula_tokens_from n (b ∷ bs) ≡ formula_tokens_within n (b ∷ bs)
@@ -95,68 +90,16 @@ from-end n bs = go (lines_from (n + 1) bs)
 
 -- ---- a comment line
 
-no_feed_line : (m : ℕ) (l : List ℕ) → AllByRecursion (λ b. (b == 10) ≡ false) l → lines_from m l ≡ enumerate_from m l ∷ []
-no_feed_line m [] h = refl
-no_feed_line m (b ∷ l) h = lines-byte m b l h.0 ∙ ap (onto_first (m, b)) (no_feed_line (m + 1) l h.1)
-
-whole_line : (m : ℕ) (l rest : List ℕ) → AllByRecursion (λ b. (b == 10) ≡ false) l → lines_from m (l ++ 10 ∷ rest) ≡ enumerate_from m l ∷ lines_from ((m + length l) + 1) rest
-whole_line m [] rest h = let e : m + 1 ≡ (m + 0) + 1 = omega arith in ap (λ i. [] ∷ lines_from i rest) e
-whole_line m (b ∷ l) rest h =
-    let e : ((m + 1) + length l) + 1 ≡ (m + length (b ∷ l)) + 1 = omega arith in
-    lines-byte m b (l ++ 10 ∷ rest) h.0 ∙ ap (onto_first (m, b)) (whole_line (m + 1) l rest h.1) ∙ ap (λ i. enumerate_from m (b ∷ l) ∷ lines_from i rest) e
-
 -- behind a `c` at the beginning of a line the rest of the line is passed over
 pub from-skip : (n : ℕ) (text : List ℕ) (next : ℕ) (rest : List ℕ) → SkipsLine (n + 1) text next rest → formula_tokens_from n (99 ∷ text) ≡ formula_tokens_from next rest
 from-skip n text next rest (line, h, inl (e, f)) =
-    ap (λ x. formula_tokens_from n (99 ∷ x)) e ∙ ap (λ ls. kept_tokens (onto_first (n, 99) ls)) (no_feed_line (n + 1) line h) ∙ sym (ap (formula_tokens_from next) f)
+    ap (λ x. formula_tokens_from n (99 ∷ x)) e ∙ ap (λ ls. kept_tokens (onto_first (n, 99) ls)) (lines-last (n + 1) line h) ∙ sym (ap (formula_tokens_from next) f)
 from-skip n text next rest (line, h, inr (e, f)) =
     ap (λ x. formula_tokens_from n (99 ∷ x)) e
-    ∙ ap (λ ls. kept_tokens (onto_first (n, 99) ls)) (whole_line (n + 1) line rest h)
+    ∙ ap (λ ls. kept_tokens (onto_first (n, 99) ls)) (lines-line (n + 1) line rest h)
     ∙ ap (λ m. formula_tokens_from m rest) (sym f)
 
 -- ---- a run
-
-abbrev ahead : Line → List Line → List Line
-ahead xs [] = xs ∷ []
-ahead xs (l ∷ ls) = (xs ++ l) ∷ ls
-
-ahead_more : (x : ℕ × ℕ) (xs : Line) (lines : List Line) → onto_first x (ahead xs lines) ≡ ahead (x ∷ xs) lines
-ahead_more x xs [] = refl
-ahead_more x xs (l ∷ ls) = refl
-
-some_lines : (n : ℕ) (bs : List ℕ) → lines_from n bs ≢ []
-some_lines n [] e = cc
-some_lines n (b ∷ bs) e = go (b == 10) (lines_from (n + 1) bs) e
-  where
-    go : (x : Bool) (ls : List Line) → cond x ([] ∷ ls) (onto_first (n, b) ls) ≡ [] → ⊥
-    go true ls e = cc
-    go false [] e = cc
-    go false (l ∷ ls) e = cc
-
-nothing_ahead : (ls : List Line) → ls ≢ [] → ls ≡ ahead [] ls
-nothing_ahead [] s = absurd (s refl)
-nothing_ahead (l ∷ ls) s = refl
-
-lines-run : (n : ℕ) (run rest : List ℕ) → NoBlank run → lines_from n (run ++ rest) ≡ ahead (enumerate_from n run) (lines_from (n + length run) rest)
-lines-run n [] rest h = nothing_ahead (lines_from n rest) (some_lines n rest) ∙ ap (λ m. ahead [] (lines_from m rest)) (sym (add-zero n))
-lines-run n (b ∷ run) rest h =
-    let e : (n + 1) + length run ≡ n + length (b ∷ run) = omega arith in
-    lines-byte n b (run ++ rest) (not_feed b h.0)
-    ∙ ap (onto_first (n, b)) (lines-run (n + 1) run rest h.1)
-    ∙ ahead_more (n, b) (enumerate_from (n + 1) run) (lines_from ((n + 1) + length run) rest)
-    ∙ ap (λ m. ahead (enumerate_from n (b ∷ run)) (lines_from m rest)) e
-
-rest_blank : (n : ℕ) (rest : List ℕ) → EndsRun rest → (line : Line) (lines : List Line) → lines_from n rest ≡ line ∷ lines → StartsBlank line
-rest_blank n [] h line lines e = subst StartsBlank (first e) tt
-  where
-    first : ◌≡◌ {A = List Line} ([] ∷ []) (line ∷ lines) → [] ≡ line
-    first e = cc
-rest_blank n (b ∷ rest) h line lines e = go (b == 10) (lines_from (n + 1) rest) e
-  where
-    go : (x : Bool) (ls : List Line) → cond x ([] ∷ ls) (onto_first (n, b) ls) ≡ line ∷ lines → StartsBlank line
-    go true ls e = let k : [] ≡ line = cc in subst StartsBlank k tt
-    go false [] e = let k : (n, b) ∷ [] ≡ line = cc in subst StartsBlank k h
-    go false (l ∷ ls) e = let k : (n, b) ∷ l ≡ line = cc in subst StartsBlank k h
 
 -- within a line a run up to a blank or the end is the next token
 within-run : (n b : ℕ) (run rest : List ℕ) → NoBlank (b ∷ run) → EndsRun rest → formula_tokens_within n ((b ∷ run) ++ rest) ≡ token_at n (b ∷ run) ∷ formula_tokens_within (n + length (b ∷ run)) rest
