@@ -9,8 +9,8 @@ ghost use Rattle.xlrup_check.specs.Verdicts.{TakesStep};
 use cx_base::{IdList, IntList};
 use cx_semantics::ProofStep;
 use proof_rules::{
-    JudgeRefusal, Live, judge_added, judge_chain, judge_clause_of_parity, judge_parity_of_clauses,
-    judge_sum, literals_of,
+    JudgeRefusal, Live, admit, judge_chain, judge_clause_of_parity, judge_parity_of_clauses,
+    judge_sum,
 };
 use std::alloc::Global;
 
@@ -26,15 +26,8 @@ fn take_clause(
     requires few { vars ≤ MAX_VARIABLE }
     ensures { (formula : Problem) → formula.variables ≡ vars → TakesStep formula live.old (step.Clause id lits.now hints.now) result live.new }
 {
-    match judge_added(vars, lits, live.has_clause(id)) {
-        Ok(()) => {}
-        Err(why) => return Err(why),
-    }
-    let target = literals_of(alloc, vars, lits)?;
-    match judge_chain(alloc, live, &target, hints.as_slice()) {
-        Ok(()) => {}
-        Err(why) => return Err(why),
-    }
+    let target = admit(alloc, vars, lits, live.has_clause(id))?;
+    judge_chain(alloc, live, &target, hints.as_slice())?;
     live.add_clause(id, target)?;
     Ok(lits.as_slice().is_empty())
 }
@@ -51,15 +44,8 @@ fn take_parity(
     requires few { vars ≤ MAX_VARIABLE }
     ensures { (formula : Problem) → formula.variables ≡ vars → TakesStep formula live.old (step.Parity id lits.now hints.now) result live.new }
 {
-    match judge_added(vars, lits, live.has_parity(id)) {
-        Ok(()) => {}
-        Err(why) => return Err(why),
-    }
-    let target = literals_of(alloc, vars, lits)?;
-    match judge_sum(alloc, live, &target, hints.as_slice()) {
-        Ok(()) => {}
-        Err(why) => return Err(why),
-    }
+    let target = admit(alloc, vars, lits, live.has_parity(id))?;
+    judge_sum(alloc, live, &target, hints.as_slice())?;
     live.add_parity(id, target)?;
     Ok(false)
 }
@@ -76,15 +62,8 @@ fn take_clause_of_parity(
     requires few { vars ≤ MAX_VARIABLE }
     ensures { (formula : Problem) → formula.variables ≡ vars → TakesStep formula live.old (step.ClauseOfParity id lits.now hint.now) result live.new }
 {
-    match judge_added(vars, lits, live.has_clause(id)) {
-        Ok(()) => {}
-        Err(why) => return Err(why),
-    }
-    let target = literals_of(alloc, vars, lits)?;
-    match judge_clause_of_parity(alloc, live, &target, *hint) {
-        Ok(()) => {}
-        Err(why) => return Err(why),
-    }
+    let target = admit(alloc, vars, lits, live.has_clause(id))?;
+    judge_clause_of_parity(alloc, live, &target, *hint)?;
     live.add_clause(id, target)?;
     Ok(lits.as_slice().is_empty())
 }
@@ -101,15 +80,8 @@ fn take_parity_of_clauses(
     requires few { vars ≤ MAX_VARIABLE }
     ensures { (formula : Problem) → formula.variables ≡ vars → TakesStep formula live.old (step.ParityOfClauses id lits.now hints.now) result live.new }
 {
-    match judge_added(vars, lits, live.has_parity(id)) {
-        Ok(()) => {}
-        Err(why) => return Err(why),
-    }
-    let target = literals_of(alloc, vars, lits)?;
-    match judge_parity_of_clauses(alloc, live, &target, hints.as_slice()) {
-        Ok(()) => {}
-        Err(why) => return Err(why),
-    }
+    let target = admit(alloc, vars, lits, live.has_parity(id))?;
+    judge_parity_of_clauses(alloc, live, &target, hints.as_slice())?;
     live.add_parity(id, target)?;
     Ok(false)
 }

@@ -1,12 +1,12 @@
-//! A copy of a log step.
+//! Copies of log steps.
 ghost use Rattle.std.specs.Prelude.{◌≡◌, IfOk};
 
 use cx_semantics::LogStep;
 use proof_text::copies::{copy_ids, copy_integers};
 use std::alloc::{AllocError, Global};
 
-/// A copy of a step.
-pub fn copy_step(alloc: Global, step: &LogStep) -> Result<LogStep, AllocError>
+/// A copy of a step of a log.
+pub fn copy_log_step(alloc: Global, step: &LogStep) -> Result<LogStep, AllocError>
     ensures { IfOk result (λ copy. copy ≡ step.now) }
 {
     match step {
