@@ -26,8 +26,14 @@ fn take_clause(
     requires few { vars ≤ MAX_VARIABLE }
     ensures { (formula : Problem) → formula.variables ≡ vars → TakesStep formula live.old (step.Clause id lits.now hints.now) result live.new }
 {
-    let target = admit(alloc, vars, lits, live.has_clause(id))?;
-    judge_chain(alloc, live, &target, hints.as_slice())?;
+    let target = match admit(alloc, vars, lits, live.has_clause(id)) {
+        Ok(target) => target,
+        Err(why) => return Err(why),
+    };
+    match judge_chain(alloc, live, &target, hints.as_slice()) {
+        Ok(()) => {}
+        Err(why) => return Err(why),
+    }
     live.add_clause(id, target)?;
     Ok(lits.as_slice().is_empty())
 }
@@ -44,8 +50,14 @@ fn take_parity(
     requires few { vars ≤ MAX_VARIABLE }
     ensures { (formula : Problem) → formula.variables ≡ vars → TakesStep formula live.old (step.Parity id lits.now hints.now) result live.new }
 {
-    let target = admit(alloc, vars, lits, live.has_parity(id))?;
-    judge_sum(alloc, live, &target, hints.as_slice())?;
+    let target = match admit(alloc, vars, lits, live.has_parity(id)) {
+        Ok(target) => target,
+        Err(why) => return Err(why),
+    };
+    match judge_sum(alloc, live, &target, hints.as_slice()) {
+        Ok(()) => {}
+        Err(why) => return Err(why),
+    }
     live.add_parity(id, target)?;
     Ok(false)
 }
@@ -62,8 +74,14 @@ fn take_clause_of_parity(
     requires few { vars ≤ MAX_VARIABLE }
     ensures { (formula : Problem) → formula.variables ≡ vars → TakesStep formula live.old (step.ClauseOfParity id lits.now hint.now) result live.new }
 {
-    let target = admit(alloc, vars, lits, live.has_clause(id))?;
-    judge_clause_of_parity(alloc, live, &target, *hint)?;
+    let target = match admit(alloc, vars, lits, live.has_clause(id)) {
+        Ok(target) => target,
+        Err(why) => return Err(why),
+    };
+    match judge_clause_of_parity(alloc, live, &target, *hint) {
+        Ok(()) => {}
+        Err(why) => return Err(why),
+    }
     live.add_clause(id, target)?;
     Ok(lits.as_slice().is_empty())
 }
@@ -80,8 +98,14 @@ fn take_parity_of_clauses(
     requires few { vars ≤ MAX_VARIABLE }
     ensures { (formula : Problem) → formula.variables ≡ vars → TakesStep formula live.old (step.ParityOfClauses id lits.now hints.now) result live.new }
 {
-    let target = admit(alloc, vars, lits, live.has_parity(id))?;
-    judge_parity_of_clauses(alloc, live, &target, hints.as_slice())?;
+    let target = match admit(alloc, vars, lits, live.has_parity(id)) {
+        Ok(target) => target,
+        Err(why) => return Err(why),
+    };
+    match judge_parity_of_clauses(alloc, live, &target, hints.as_slice()) {
+        Ok(()) => {}
+        Err(why) => return Err(why),
+    }
     live.add_parity(id, target)?;
     Ok(false)
 }
