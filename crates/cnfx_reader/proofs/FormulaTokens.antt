@@ -1,18 +1,16 @@
 -- The tokens of a formula's text, one byte or one run at a time.
-use Rattle.std.proofs.Common.{◌≡◌, ◌≢◌, refl, sym, ap, ◌∙◌, subst, ℕ, suc, ◌+◌, ◌-◌, ◌<◌, ◌≤◌, Bool, true, false, cond, not, List, [], ◌∷◌, ◌++◌, length, take, drop, get_or, filter, flat_map, arith, add-zero, length-drop, drop-drop, ◌==◌, inl, inr}
-use Rattle.std.specs.List.{onto_first, enumerate_from, before_first, position_or_len, AllByRecursion}
-use Rattle.std.proofs.lemmas.List.{drop_more, drop_all}
-use Rattle.cx_semantics.specs.Tokens.{Token, is_blank, begins_with, is_comment, is_end_line, lines_from, tokens_of_line, tokens_of_lines, formula_tokens, NoBlank, EndsRun, SkipsLine}
-use Rattle.cx_semantics.proofs.TokenLaws.{lines-byte, blank_tokens, not_feed, token_at, StartsBlank, run_line}
+use Rattle.std.proofs.Common.{◌≡◌, refl, sym, ap, ◌∙◌, subst, ℕ, suc, ◌+◌, ◌-◌, ◌<◌, ◌≤◌, Bool, true, false, cond, not, List, [], ◌∷◌, ◌++◌, length, take, drop, get_or, filter, flat_map, arith, length-drop, drop-drop, inl, inr}
+use Rattle.std.specs.List.{onto_first, enumerate_from, before_first, position_or_len}
+use Rattle.std.proofs.lemmas.List.{drop_more}
+use Rattle.cx_semantics.specs.Tokens.{is_blank, is_comment, is_end_line, lines_from, tokens_of_line, tokens_of_lines, formula_tokens, NoBlank, EndsRun, SkipsLine}
+use Rattle.cx_semantics.proofs.Lines.{Line, some_lines, ahead, lines-run, rest_blank, lines-line, lines-last}
+use Rattle.cx_semantics.proofs.TokenLaws.{token_at, run_line}
 use Rattle.cx_semantics.proofs.Slices.{part_length, split_at}
-use Rattle.cnfx_reader.proofs.NumberLaws.{part_behind}
+use Rattle.cnfx_reader.proofs.FrontLaws.{part_behind}
 use Rattle.cnfx_reader.proofs.WordLaws.{run_begins}
-use Rattle.cnfx_reader.specs.TokensLeft.{kept_tokens, kept_with_first, formula_tokens_from, formula_tokens_within, formula_tokens_left}
+use Rattle.cnfx_reader.specs.TokensLeft.{kept_tokens, kept_with_first, formula_tokens_from, formula_tokens_within}
 
 -- ---- the tokens of the whole text
-
-abbrev Line : Type 0
-Line = List (ℕ × ℕ)
 
 before : (line : Line) (lines : List Line) → before_first is_end_line (line ∷ lines) ≡ cond (is_end_line line) [] (line ∷ before_first is_end_line lines)
 before line lines = go (is_end_line line)
@@ -36,127 +34,18 @@ pub formula_tokens_are : (text : List ℕ) → formula_tokens text ≡ formula_t
 unfolding formula_tokens
 formula_tokens_are text = kept (lines_from 0 text)
 
--- ---- one byte
-
-blank_begin : (c n b : ℕ) (line : Line) → is_blank b ≡ true → begins_with c ((n, b) ∷ line) ≡ begins_with c line
-blank_begin c n b line h = ap (λ x. cond x (begins_with c line) (b == c)) h
-
-other_begin : (c n b : ℕ) (line : Line) → is_blank b ≡ false → begins_with c ((n, b) ∷ line) ≡ (b == c)
-other_begin c n b line h = ap (λ x. cond x (begins_with c line) (b == c)) h
-
-feed_line : (n b : ℕ) (bs : List ℕ) → (b == 10) ≡ true → lines_from n (b ∷ bs) ≡ [] ∷ lines_from (n + 1) bs
-feed_line n b bs h = ap (λ x. cond x ([] ∷ lines_from (n + 1) bs) (onto_first (n, b) (lines_from (n + 1) bs))) h
-
--- the tokens of the lines by what the first of them begins with
-abbrev by_first : Bool → Bool → Line → List Line → List Token
-by_first end comment line lines = cond end [] (cond comment (kept_tokens lines) (tokens_of_line line ++ kept_tokens lines))
-
-blank_first : (n b : ℕ) (lines : List Line) → is_blank b ≡ true → kept_tokens (onto_first (n, b) lines) ≡ kept_tokens lines
-blank_first n b [] h = (λ i. by_first (blank_begin 37 n b [] h i) (blank_begin 99 n b [] h i) ((n, b) ∷ []) []) ∙ ap (λ x. x ++ []) (blank_tokens n b [] h)
-blank_first n b (line ∷ lines) h =
-    (λ i. by_first (blank_begin 37 n b line h i) (blank_begin 99 n b line h i) ((n, b) ∷ line) lines)
-    ∙ ap (λ ts. cond (is_end_line line) [] (cond (is_comment line) (kept_tokens lines) (ts ++ kept_tokens lines))) (blank_tokens n b line h)
-
--- at the beginning of a line a blank is passed over, a line feed too
-pub from-blank : (n b : ℕ) (bs : List ℕ) → is_blank b ≡ true → formula_tokens_from n (b ∷ bs) ≡ formula_tokens_from (n + 1) bs
-from-blank n b bs h = go (b == 10) refl
-  where
-    go : (x : Bool) → (b == 10) ≡ x → formula_tokens_from n (b ∷ bs) ≡ formula_tokens_from (n + 1) bs
-    go true e = ap kept_tokens (feed_line n b bs e)
-    go false e = ap kept_tokens (lines-byte n b bs e) ∙ blank_first n b (lines_from (n + 1) bs) h
-
--- within a line a blank is passed over, and behind a line feed the next line begins
-pub within-blank : (n b : ℕ) (bs : List ℕ) → is_blank b ≡ true → (b == 10) ≡ false → formula_tokens_within n (b ∷ bs) ≡ formula_tokens_within (n + 1) bs
-within-blank n b bs h e = ap kept_with_first (lines-byte n b bs e) ∙ go (lines_from (n + 1) bs)
-  where
-    go : (lines : List Line) → kept_with_first (onto_first (n, b) lines) ≡ kept_with_first lines
-    go [] = ap (λ x. x ++ []) (blank_tokens n b [] h)
-    go (line ∷ lines) = ap (λ x. x ++ kept_tokens lines) (blank_tokens n b line h)
-
-pub within-feed : (n b : ℕ) (bs : List ℕ) → (b == 10) ≡ true → formula_tokens_within n (b ∷ bs) ≡ formula_tokens_from (n + 1) bs
-within-feed n b bs e = ap kept_with_first (feed_line n b bs e)
-
--- a line whose first byte that is no blank is neither `c` nor `%` is kept
-pub from-kept : (n b : ℕ) (bs : List ℕ) → is_blank b ≡ false → (b == 99) ≡ false → (b == 37) ≡ false → formula_tokens_from n (b ∷ bs) ≡ formula_tokens_within n (b ∷ bs)
-from-kept n b bs h c p =
-    ap kept_tokens (lines-byte n b bs (not_feed b h)) ∙ go (lines_from (n + 1) bs) ∙ ap kept_with_first (sym (lines-byte n b bs (not_feed b h)))
-  where
-    go : (lines : List Line) → kept_tokens (onto_first (n, b) lines) ≡ kept_with_first (onto_first (n, b) lines)
-    go [] = λ i. by_first ((other_begin 37 n b [] h ∙ p) i) ((other_begin 99 n b [] h ∙ c) i) ((n, b) ∷ []) []
-    go (line ∷ lines) = λ i. by_first ((other_begin 37 n b line h ∙ p) i) ((other_begin 99 n b line h ∙ c) i) ((n, b) ∷ line) lines
-
--- a `%` at the beginning of a line ends the text
-pub from-end : (n : ℕ) (bs : List ℕ) → formula_tokens_from n (37 ∷ bs) ≡ []
-from-end n bs = go (lines_from (n + 1) bs)
-  where
-    go : (lines : List Line) → kept_tokens (onto_first (n, 37) lines) ≡ []
-    go [] = refl
-    go (line ∷ lines) = refl
-
 -- ---- a comment line
-
-no_feed_line : (m : ℕ) (l : List ℕ) → AllByRecursion (λ b. (b == 10) ≡ false) l → lines_from m l ≡ enumerate_from m l ∷ []
-no_feed_line m [] h = refl
-no_feed_line m (b ∷ l) h = lines-byte m b l h.0 ∙ ap (onto_first (m, b)) (no_feed_line (m + 1) l h.1)
-
-whole_line : (m : ℕ) (l rest : List ℕ) → AllByRecursion (λ b. (b == 10) ≡ false) l → lines_from m (l ++ 10 ∷ rest) ≡ enumerate_from m l ∷ lines_from ((m + length l) + 1) rest
-whole_line m [] rest h = let e : m + 1 ≡ (m + 0) + 1 = omega arith in ap (λ i. [] ∷ lines_from i rest) e
-whole_line m (b ∷ l) rest h =
-    let e : ((m + 1) + length l) + 1 ≡ (m + length (b ∷ l)) + 1 = omega arith in
-    lines-byte m b (l ++ 10 ∷ rest) h.0 ∙ ap (onto_first (m, b)) (whole_line (m + 1) l rest h.1) ∙ ap (λ i. enumerate_from m (b ∷ l) ∷ lines_from i rest) e
 
 -- behind a `c` at the beginning of a line the rest of the line is passed over
 pub from-skip : (n : ℕ) (text : List ℕ) (next : ℕ) (rest : List ℕ) → SkipsLine (n + 1) text next rest → formula_tokens_from n (99 ∷ text) ≡ formula_tokens_from next rest
 from-skip n text next rest (line, h, inl (e, f)) =
-    ap (λ x. formula_tokens_from n (99 ∷ x)) e ∙ ap (λ ls. kept_tokens (onto_first (n, 99) ls)) (no_feed_line (n + 1) line h) ∙ sym (ap (formula_tokens_from next) f)
+    ap (λ x. formula_tokens_from n (99 ∷ x)) e ∙ ap (λ ls. kept_tokens (onto_first (n, 99) ls)) (lines-last (n + 1) line h) ∙ sym (ap (formula_tokens_from next) f)
 from-skip n text next rest (line, h, inr (e, f)) =
     ap (λ x. formula_tokens_from n (99 ∷ x)) e
-    ∙ ap (λ ls. kept_tokens (onto_first (n, 99) ls)) (whole_line (n + 1) line rest h)
+    ∙ ap (λ ls. kept_tokens (onto_first (n, 99) ls)) (lines-line (n + 1) line rest h)
     ∙ ap (λ m. formula_tokens_from m rest) (sym f)
 
 -- ---- a run
-
-abbrev ahead : Line → List Line → List Line
-ahead xs [] = xs ∷ []
-ahead xs (l ∷ ls) = (xs ++ l) ∷ ls
-
-ahead_more : (x : ℕ × ℕ) (xs : Line) (lines : List Line) → onto_first x (ahead xs lines) ≡ ahead (x ∷ xs) lines
-ahead_more x xs [] = refl
-ahead_more x xs (l ∷ ls) = refl
-
-some_lines : (n : ℕ) (bs : List ℕ) → lines_from n bs ≢ []
-some_lines n [] e = cc
-some_lines n (b ∷ bs) e = go (b == 10) (lines_from (n + 1) bs) e
-  where
-    go : (x : Bool) (ls : List Line) → cond x ([] ∷ ls) (onto_first (n, b) ls) ≡ [] → ⊥
-    go true ls e = cc
-    go false [] e = cc
-    go false (l ∷ ls) e = cc
-
-nothing_ahead : (ls : List Line) → ls ≢ [] → ls ≡ ahead [] ls
-nothing_ahead [] s = absurd (s refl)
-nothing_ahead (l ∷ ls) s = refl
-
-lines-run : (n : ℕ) (run rest : List ℕ) → NoBlank run → lines_from n (run ++ rest) ≡ ahead (enumerate_from n run) (lines_from (n + length run) rest)
-lines-run n [] rest h = nothing_ahead (lines_from n rest) (some_lines n rest) ∙ ap (λ m. ahead [] (lines_from m rest)) (sym (add-zero n))
-lines-run n (b ∷ run) rest h =
-    let e : (n + 1) + length run ≡ n + length (b ∷ run) = omega arith in
-    lines-byte n b (run ++ rest) (not_feed b h.0)
-    ∙ ap (onto_first (n, b)) (lines-run (n + 1) run rest h.1)
-    ∙ ahead_more (n, b) (enumerate_from (n + 1) run) (lines_from ((n + 1) + length run) rest)
-    ∙ ap (λ m. ahead (enumerate_from n (b ∷ run)) (lines_from m rest)) e
-
-rest_blank : (n : ℕ) (rest : List ℕ) → EndsRun rest → (line : Line) (lines : List Line) → lines_from n rest ≡ line ∷ lines → StartsBlank line
-rest_blank n [] h line lines e = subst StartsBlank (first e) tt
-  where
-    first : ◌≡◌ {A = List Line} ([] ∷ []) (line ∷ lines) → [] ≡ line
-    first e = cc
-rest_blank n (b ∷ rest) h line lines e = go (b == 10) (lines_from (n + 1) rest) e
-  where
-    go : (x : Bool) (ls : List Line) → cond x ([] ∷ ls) (onto_first (n, b) ls) ≡ line ∷ lines → StartsBlank line
-    go true ls e = let k : [] ≡ line = cc in subst StartsBlank k tt
-    go false [] e = let k : (n, b) ∷ [] ≡ line = cc in subst StartsBlank k h
-    go false (l ∷ ls) e = let k : (n, b) ∷ l ≡ line = cc in subst StartsBlank k h
 
 -- within a line a run up to a blank or the end is the next token
 within-run : (n b : ℕ) (run rest : List ℕ) → NoBlank (b ∷ run) → EndsRun rest → formula_tokens_within n ((b ∷ run) ++ rest) ≡ token_at n (b ∷ run) ∷ formula_tokens_within (n + length (b ∷ run)) rest
@@ -188,10 +77,6 @@ next_run text at len some l no_blank ends = go (take len (drop at text)) refl
         ∙ within-run at b run (drop (at + len) text) (subst NoBlank e no_blank) ends
         ∙ (λ i. record { place = at; text = sym e i } ∷ formula_tokens_within (n i) (drop (at + len) text))
 
-pub within-none : (text : List ℕ) (at : ℕ) → length text ≤ at → (in_line : Bool) → formula_tokens_left in_line at (drop at text) ≡ []
-within-none text at h true = ap (formula_tokens_left true at) (drop_all at text h)
-within-none text at h false = ap (formula_tokens_left false at) (drop_all at text h)
-
 -- ---- the run at a place, as `&text[at..]` has it
 
 pub next_part : (text : List ℕ) (at len : ℕ) → at < length text → is_blank (get_or text at 0) ≡ false → len ≤ length (take (length text - at) (drop at text)) → NoBlank (take len (take (length text - at) (drop at text)))
@@ -210,11 +95,3 @@ next_part text at len l begins high run ends =
     (omega (arith, length-drop at text))
     (subst (λ xs. NoBlank (take len xs)) behind run)
     (subst EndsRun (drop-drop len at text) ends_there)
-
--- a blank behind a place within a line is passed over
-pub behind_blank : (text : List ℕ) (end : ℕ) → end < length text → is_blank (get_or text end 0) ≡ true → formula_tokens_within end (drop end text) ≡ formula_tokens_left (not (get_or text end 0 == 10)) (end + 1) (drop (end + 1) text)
-behind_blank text end l h = ap (formula_tokens_within end) (drop_more text end 0 l) ∙ go (get_or text end 0 == 10) refl
-  where
-    go : (x : Bool) → (get_or text end 0 == 10) ≡ x → formula_tokens_within end (get_or text end 0 ∷ drop (end + 1) text) ≡ formula_tokens_left (not x) (end + 1) (drop (end + 1) text)
-    go true e = within-feed end (get_or text end 0) (drop (end + 1) text) e
-    go false e = within-blank end (get_or text end 0) (drop (end + 1) text) h e

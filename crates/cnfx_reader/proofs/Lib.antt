@@ -1,5 +1,5 @@
 pub mod FormulaTokens
-pub mod NumberLaws
+pub mod FrontLaws
 pub mod WordLaws
 pub mod BodyReading
 pub mod TextReading

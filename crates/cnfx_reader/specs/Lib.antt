@@ -3,5 +3,5 @@ pub mod TokensLeft
 pub mod Meanings
 pub mod Body
 pub mod Refusals
-pub mod Runs
+pub mod Leading
 pub mod Passed

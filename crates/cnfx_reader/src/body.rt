@@ -2,16 +2,17 @@
 ghost use Rattle.std.specs.Prelude.{◌≡◌, ℕ, ℤ, List, [], ◌∷◌, ◌++◌, IfOk, IfErr, MatchResult};
 ghost use Rattle.cx_semantics.specs.Words.{Word, number, Placed, placed_formula_words};
 ghost use Rattle.cx_semantics.specs.Grammar.{finished};
-ghost use Rattle.cnfx_reader.specs.Meanings.{IsInteger, Says, placed_at};
+ghost use Rattle.cx_semantics.specs.LiteralTokens.{IsInteger};
+ghost use Rattle.cnfx_reader.specs.Meanings.{Says, placed_at};
 ghost use Rattle.cnfx_reader.specs.declared.pending.Pending.TheVariants as pending;
 ghost use Rattle.cnfx_reader.specs.Body.{outcome, Fits, IsEndedBy};
 
 use crate::body_token::BodyToken;
-use crate::integer::Integer;
 use crate::pending::Pending;
 use crate::refusal::ReadRefusal;
 use crate::tokens::{BodyTokenAt, FormulaTokens};
 use cx_base::FormulaBuilder;
+use cx_semantics::Integer;
 
 /// Takes an integer into the constraint that is pending, or ends it.
 #[inline(always)]

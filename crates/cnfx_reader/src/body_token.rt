@@ -1,11 +1,13 @@
 //! Tokens of the body.
-ghost use Rattle.std.specs.Prelude.{◌≡◌, ◌≤◌, ◌<◌, true, false, IsTrue, length, take, drop, slice_index};
-ghost use Rattle.cx_semantics.specs.Tokens.{is_blank, NoBlank, EndsRun};
+ghost use Rattle.std.specs.Prelude.{◌≡◌, ◌<◌, false, length, slice_index};
+ghost use Rattle.cx_semantics.specs.Tokens.{is_blank};
 ghost use Rattle.cx_semantics.specs.Words.{formula_words_of};
 ghost use Rattle.cnfx_reader.specs.Meanings.{Says};
+ghost use Rattle.cnfx_reader.specs.Leading.{IsLeading};
 
-use crate::integer::{Integer, leading_integer, read_integer};
+use crate::leading_integer::leading_integer;
 use crate::places::run_len;
+use cx_semantics::{Integer, read_integer};
 
 /// What a token of the body says.
 #[derive(Clone, Copy, Drop)]
@@ -53,12 +55,7 @@ fn read_token(token: &[u8]) -> BodyToken
 fn any_token(text: &[u8]) -> LeadingToken
     requires some { 0 < length text.now }
     requires begins { is_blank (slice_index text.now 0) ≡ false }
-    ensures some { 0 < result.len }
-    ensures high { result.len ≤ length text.now }
-    ensures run { NoBlank (take result.len text.now) }
-    ensures ends { EndsRun (drop result.len text.now) }
-    ensures follows { IsTrue result.blank_follows → (result.len < length text.now) × (is_blank (slice_index text.now result.len) ≡ true) }
-    ensures says { Says result.token (formula_words_of (take result.len text.now)) }
+    ensures { IsLeading text.now result }
 {
     let len = run_len(text);
     LeadingToken {
@@ -75,12 +72,7 @@ fn any_token(text: &[u8]) -> LeadingToken
 fn marked_token(text: &[u8]) -> LeadingToken
     requires some { 0 < length text.now }
     requires begins { is_blank (slice_index text.now 0) ≡ false }
-    ensures some { 0 < result.len }
-    ensures high { result.len ≤ length text.now }
-    ensures run { NoBlank (take result.len text.now) }
-    ensures ends { EndsRun (drop result.len text.now) }
-    ensures follows { IsTrue result.blank_follows → (result.len < length text.now) × (is_blank (slice_index text.now result.len) ≡ true) }
-    ensures says { Says result.token (formula_words_of (take result.len text.now)) }
+    ensures { IsLeading text.now result }
 {
     if text[0] == b'x' {
         if let Some(leading) = leading_integer(&text[1..]) {
@@ -99,12 +91,7 @@ fn marked_token(text: &[u8]) -> LeadingToken
 pub(crate) fn leading_token(text: &[u8]) -> LeadingToken
     requires some { 0 < length text.now }
     requires begins { is_blank (slice_index text.now 0) ≡ false }
-    ensures some { 0 < result.len }
-    ensures high { result.len ≤ length text.now }
-    ensures run { NoBlank (take result.len text.now) }
-    ensures ends { EndsRun (drop result.len text.now) }
-    ensures follows { IsTrue result.blank_follows → (result.len < length text.now) × (is_blank (slice_index text.now result.len) ≡ true) }
-    ensures says { Says result.token (formula_words_of (take result.len text.now)) }
+    ensures { IsLeading text.now result }
 {
     match leading_integer(text) {
         Some(leading) => LeadingToken {

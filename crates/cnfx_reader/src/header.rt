@@ -3,9 +3,9 @@ ghost use Rattle.std.specs.Prelude.{◌≡◌, ◌≤◌, IfOk, MatchResult, Ok,
 ghost use Rattle.cx_base.specs.declared.literal.TheConstants.{MAX_VARIABLE};
 ghost use Rattle.cx_semantics.specs.FormulaText.{header, behind_p, behind_cnf, behind_count};
 
-use crate::natural::{Natural, read_natural};
 use crate::tokens::FormulaTokens;
-use cx_semantics::Offence;
+use cx_base::MAX_VARIABLE;
+use cx_semantics::{Offence, read_natural};
 
 /// Reads the header, and gives its number of variables. `len` is the text's length.
 #[inline(never)]
@@ -50,9 +50,13 @@ fn read_numbers(tokens: &mut FormulaTokens, len: u64) -> Result<u32, Offence>
     match tokens.next_token() {
         None => Err(Offence::BadHeader(len)),
         Some(token) => match read_natural(token.text) {
-            Natural::Within(vars) => read_count(tokens, len, vars),
-            Natural::Above => Err(Offence::VarLimit(token.place as u64)),
-            Natural::Malformed => Err(Offence::BadHeader(token.place as u64)),
+            Some(vars) => {
+                if vars > u64::from(MAX_VARIABLE) {
+                    return Err(Offence::VarLimit(token.place as u64));
+                }
+                read_count(tokens, len, vars as u32)
+            }
+            None => Err(Offence::BadHeader(token.place as u64)),
         },
     }
 }
@@ -66,8 +70,8 @@ fn read_count(tokens: &mut FormulaTokens, len: u64, vars: u32) -> Result<u32, Of
     match tokens.next_token() {
         None => Err(Offence::BadHeader(len)),
         Some(token) => match read_natural(token.text) {
-            Natural::Malformed => Err(Offence::BadHeader(token.place as u64)),
-            _ => Ok(vars),
+            Some(_) => Ok(vars),
+            None => Err(Offence::BadHeader(token.place as u64)),
         },
     }
 }

@@ -3,9 +3,9 @@
 
 mod body;
 mod body_token;
+mod digits;
 mod header;
-mod integer;
-mod natural;
+mod leading_integer;
 mod pending;
 mod places;
 mod read;

@@ -1,10 +1,10 @@
 //! Where the tokens of a formula begin and end.
 ghost use Rattle.std.specs.Prelude.{◌≡◌, ◌≤◌, ◌<◌, ◌+◌, true, false, IsTrue, length, drop, take, slice_index, IfSome, IfNone, []};
-ghost use Rattle.cx_semantics.specs.Tokens.{is_blank, NoBlank, EndsRun, SkipsLine};
+ghost use Rattle.cx_semantics.specs.Tokens.{is_blank, NoBlank, EndsRun};
 ghost use Rattle.cnfx_reader.specs.TokensLeft.{formula_tokens_left, formula_tokens_within};
 ghost use Rattle.cnfx_reader.specs.Passed.{IsPassed, left_at};
 
-use cx_semantics::is_blank_byte;
+use cx_semantics::{is_blank_byte, line_end};
 
 /// A place in a text, and whether it lies within a kept line.
 ///
@@ -37,21 +37,6 @@ pub(crate) fn run_len(text: &[u8]) -> usize
         len += 1;
     }
     len
-}
-
-/// The place behind the line that goes on here.
-#[inline(never)]
-fn line_end(text: &[u8], at: usize) -> usize
-    requires { at ≤ length text.now }
-    ensures low { at ≤ result }
-    ensures high { result ≤ length text.now }
-    ensures skipped { SkipsLine at (drop at text.now) result (drop result text.now) }
-{
-    let mut end = at;
-    while end < text.len() && text[end] != b'\n' {
-        end += 1;
-    }
-    if end < text.len() { end + 1 } else { end }
 }
 
 /// Passes over a blank or a comment line, if one stands here.

@@ -14,20 +14,19 @@ use std::marker::Model;
 #[derive(Drop)]
 pub(crate) struct FormulaTokens<'a> {
     text: &'a [u8],
-    at: usize,
-    in_line: bool,
+    place: Place,
 }
 
 impl<'a> Model for FormulaTokens<'a> {
-    ghost use Rattle.std.specs.Prelude.{List, length, drop, ◌≤◌};
+    ghost use Rattle.std.specs.Prelude.{List, length, ◌≤◌};
     ghost use Rattle.cx_semantics.specs.Tokens.{Token};
-    ghost use Rattle.cnfx_reader.specs.TokensLeft.{formula_tokens_left};
+    ghost use Rattle.cnfx_reader.specs.Passed.{left_at};
 
     ghost Value = { List Token };
 
-    ghost view = { λ r. formula_tokens_left r.in_line r.at (drop r.at r.text.now) };
+    ghost view = { λ r. left_at r.text.now r.place };
 
-    ghost invariant = { λ r. r.at ≤ length r.text.now };
+    ghost invariant = { λ r. r.place.at ≤ length r.text.now };
 }
 
 /// A token of the body, and the place of its first byte.
@@ -44,8 +43,10 @@ impl<'a> FormulaTokens<'a> {
     {
         FormulaTokens {
             text,
-            at: 0,
-            in_line: false,
+            place: Place {
+                at: 0,
+                in_line: false,
+            },
         }
     }
 
@@ -54,16 +55,12 @@ impl<'a> FormulaTokens<'a> {
         ensures { MatchOption result ((self.old ≡ []) × (self.new ≡ [])) (λ t. self.old ≡ record { place = t.place; text = t.text.now } ∷ self.new) }
     {
         let text = self.text;
-        let at = next_begin(
-            text,
-            Place {
-                at: self.at,
-                in_line: self.in_line,
-            },
-        )?;
+        let at = next_begin(text, self.place)?;
         let len = run_len(&text[at..]);
-        self.at = at + len;
-        self.in_line = true;
+        self.place = Place {
+            at: at + len,
+            in_line: true,
+        };
         Some(TokenAt {
             place: at,
             text: &text[at..at + len],
@@ -76,17 +73,9 @@ impl<'a> FormulaTokens<'a> {
         ensures { MatchOption result ((self.old ≡ []) × (self.new ≡ [])) (λ t. (text : List ℕ) × (self.old ≡ record { place = t.place; text = text } ∷ self.new) × Says t.token (formula_words_of text)) }
     {
         let text = self.text;
-        let at = next_begin(
-            text,
-            Place {
-                at: self.at,
-                in_line: self.in_line,
-            },
-        )?;
+        let at = next_begin(text, self.place)?;
         let leading = leading_token(&text[at..]);
-        let next = behind_token(text, at + leading.len, leading.blank_follows);
-        self.at = next.at;
-        self.in_line = next.in_line;
+        self.place = behind_token(text, at + leading.len, leading.blank_follows);
         Some(BodyTokenAt {
             place: at as u64,
             token: leading.token,

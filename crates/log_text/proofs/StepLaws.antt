@@ -7,8 +7,8 @@ use Rattle.cx_semantics.specs.Words.{Word, number, letter, Placed, words}
 use Rattle.cx_semantics.specs.Grammar.{mark, id, ids, integers, end, spelled, spelled_list, IsProper, spelling, IsStep, Stops, Spells}
 use Rattle.cx_semantics.specs.LogText.{log_steps, log_fields}
 use Rattle.cx_semantics.proofs.Shapes.{Kind, a_mark, an_id, an_end, some_ids, some_integers}
-use Rattle.cx_semantics.proofs.Remaining.{after_word, remaining, remaining-push, begins_nowhere}
-use Rattle.cx_semantics.proofs.EventSteps.{integers_pass, positive, first_of}
+use Rattle.cx_semantics.proofs.Remaining.{after_word, remaining, remaining-push, begins_nowhere, both_passed, positive}
+use Rattle.cx_semantics.proofs.LogSteps.{log_rows, maybe_hinted, behind_step, behind_words, first_of}
 use Rattle.cx_semantics.proofs.Grammars.{log_forms}
 use Rattle.proof_text.specs.declared.source.TextRefusal.{TextRefusal}
 use Rattle.proof_text.specs.declared.source.TextRefusal.TheVariants.{BadToken, Unterminated}
@@ -16,12 +16,12 @@ use Rattle.proof_text.specs.declared.ahead.SeenWord.{SeenWord}
 use Rattle.proof_text.specs.Heads.{seen_head, is_head_letter}
 use Rattle.proof_text.specs.Taking.{Takes, HeadFails, IsOpen, RefusedIn}
 use Rattle.proof_text.specs.Reading.{Tells}
-use Rattle.proof_text.proofs.TakingLaws.{takes_append, refused_then, head_refused, none_after, all_passed}
+use Rattle.proof_text.proofs.TakingLaws.{takes_append, refused_then, head_refused, none_after}
 use Rattle.proof_text.proofs.Choices.{head_refuses, refused_beside}
 use Rattle.proof_text.proofs.ReadingLaws as reading
 use Rattle.log_text.specs.declared.plain.Plain.{Plain}
 use Rattle.log_text.specs.declared.plain.Plain.TheVariants as plain
-use Rattle.log_text.specs.Taking.{letter_of, listed_rows, log_rows, StandsAlone}
+use Rattle.log_text.specs.Taking.{letter_of, listed_rows, StandsAlone}
 use Rattle.log_text.proofs.TwoLists.{both_refused}
 
 abbrev named : List Kind
@@ -52,18 +52,15 @@ after_i : remaining log_rows (letter 105 ∷ []) ≡ implied ∷ (a_mark 120 ∷
 unfolding log_forms
 after_i = refl
 
--- behind an added clause's letter and id, and behind its literals too
+-- behind an added clause's letter and id
 abbrev listed : List (List Kind)
 listed = (some_integers ∷ []) ∷ (some_integers ∷ a_mark 108 ∷ some_integers ∷ []) ∷ []
-
-abbrev maybe_hinted : List (List Kind)
-maybe_hinted = [] ∷ (a_mark 108 ∷ some_integers ∷ []) ∷ []
 
 after_a_id : (n : ℕ) (ws : List Word) → 0 < n → remaining log_rows (letter 97 ∷ number (pos n) ∷ ws) ≡ remaining listed ws
 after_a_id n ws h = ap (λ r. remaining r (number (pos n) ∷ ws)) after_a ∙ positive (λ m. remaining (named ∷ hinted ∷ (a_mark 120 ∷ sourced) ∷ []) (number (pos m) ∷ ws) ≡ remaining listed ws) n h (λ m. refl)
 
 after_a_lits : (n : ℕ) (lits : List ℤ) (ws : List Word) → 0 < n → AllByRecursion (λ z. z ≢ pos 0) lits → remaining log_rows (letter 97 ∷ number (pos n) ∷ (spelled_list lits ++ ws)) ≡ remaining maybe_hinted ws
-after_a_lits n lits ws h k = after_a_id n (spelled_list lits ++ ws) h ∙ integers_pass lits k listed tt ws
+after_a_lits n lits ws h k = after_a_id n (spelled_list lits ++ ws) h ∙ both_passed lits [] (a_mark 108 ∷ some_integers ∷ []) ws k
 
 -- ---- what is refused
 
@@ -124,42 +121,9 @@ no_letter c size (p ∷ a) e = cc
 
 -- ---- behind a whole step
 
-abbrev behind_step : LogStep → List (List Kind)
-behind_step (log.Clause n lits) = maybe_hinted
-behind_step _ = [] ∷ []
-
-listed_over : (n : ℕ) (lits : List ℤ) → AllByRecursion IsProper (id n ∷ integers lits ∷ []) → remaining listed_rows (flat_map spelled (id n ∷ integers lits ∷ [])) ≡ [] ∷ []
-listed_over n lits h = positive (λ m. remaining listed_rows (flat_map spelled (id m ∷ integers lits ∷ [])) ≡ [] ∷ []) n h.0 (λ m. all_passed (integers lits ∷ []) [] h.1)
-
-plain_over : (p : Plain) (n : ℕ) (lits : List ℤ) → AllByRecursion IsProper (id n ∷ integers lits ∷ []) → remaining log_rows (letter (letter_of p) ∷ flat_map spelled (id n ∷ integers lits ∷ [])) ≡ [] ∷ []
-plain_over p n lits h = ap (λ r. remaining r (flat_map spelled (id n ∷ integers lits ∷ []))) (after_plain p) ∙ listed_over n lits h
-
-parity_over : (p : Plain) (n : ℕ) (lits : List ℤ) → AllByRecursion IsProper (id n ∷ integers lits ∷ []) → remaining log_rows (letter (letter_of p) ∷ letter 120 ∷ flat_map spelled (id n ∷ integers lits ∷ [])) ≡ [] ∷ []
-parity_over p n lits h = ap (λ r. remaining r (letter 120 ∷ flat_map spelled (id n ∷ integers lits ∷ []))) (after_plain p) ∙ all_passed (id n ∷ integers lits ∷ []) [] h
-
-over : (s : LogStep) → AllByRecursion IsProper (log_fields s) → remaining log_rows (spelling log_steps s) ≡ behind_step s
-over (log.Original n lits) h = plain_over plain.Original n lits h.1
-over (log.OriginalParity n lits) h = parity_over plain.Original n lits h.1.1
-over (log.Clause n lits) h = after_a_lits n lits [] h.1.0 h.1.1.0
-over (log.ClauseWithHints n lits hints) h = after_a_lits n lits (letter 108 ∷ spelled_list hints ++ []) h.1.0 h.1.1.0 ∙ all_passed (integers hints ∷ []) [] h.1.1.1.1
-over (log.Parity n lits sources) h =
-    ap (λ r. remaining r (letter 120 ∷ flat_map spelled (id n ∷ integers lits ∷ mark 108 ∷ ids sources ∷ []))) after_a ∙ all_passed (id n ∷ integers lits ∷ mark 108 ∷ ids sources ∷ []) [] h.1.1
-over (log.ClauseOfParity n lits source) h =
-    ap (λ r. remaining r (flat_map spelled (id n ∷ integers lits ∷ mark 108 ∷ id source ∷ end ∷ []))) after_i
-    ∙ positive (λ m. remaining (implied ∷ (a_mark 120 ∷ sourced) ∷ []) (flat_map spelled (id m ∷ integers lits ∷ mark 108 ∷ id source ∷ end ∷ [])) ≡ [] ∷ []) n h.1.0 (λ m. all_passed (integers lits ∷ mark 108 ∷ id source ∷ end ∷ []) [] h.1.1)
-over (log.ParityOfClauses n lits sources) h =
-    ap (λ r. remaining r (letter 120 ∷ flat_map spelled (id n ∷ integers lits ∷ mark 108 ∷ ids sources ∷ []))) after_i ∙ all_passed (id n ∷ integers lits ∷ mark 108 ∷ ids sources ∷ []) [] h.1.1
-over (log.Delete n lits) h = plain_over plain.Delete n lits h.1
-over (log.DeleteParity n lits) h = parity_over plain.Delete n lits h.1.1
-over (log.Final n lits) h = plain_over plain.Final n lits h.1
-over (log.FinalParity n lits) h = parity_over plain.Final n lits h.1.1
-
 nothing_behind : (s : LogStep) (p : Placed) (rest : List Placed) → StandsAlone s (p ∷ rest) → flat_map (after_word p.word) (behind_step s) ≡ []
 nothing_behind (log.Clause n lits) p rest h = none_after p.word ((a_mark 108 ∷ some_integers ∷ []) ∷ []) (head_refuses 108 (p ∷ rest) h p rest refl, tt)
 nothing_behind _ p rest h = refl
-
-behind_words : (s : LogStep) (ws : List Word) → IsStep log_steps ws s → remaining log_rows ws ≡ behind_step s
-behind_words s ws h = subst (λ x. remaining log_rows x ≡ behind_step s) h.1 (over s h.0)
 
 stops : (s : LogStep) (ws : List Word) (rest : List Placed) → IsStep log_steps ws s → StandsAlone s rest → Stops log_steps ws rest
 stops s ws [] h alone = tt

@@ -4,10 +4,9 @@ use Rattle.cx_semantics.specs.declared.steps.LogStep.{LogStep}
 use Rattle.cx_semantics.specs.declared.steps.LogStep.TheVariants.{Clause}
 use Rattle.cx_semantics.specs.Words.{Placed}
 use Rattle.cx_semantics.specs.Grammar.{Field, mark, id, integers}
-use Rattle.cx_semantics.specs.LogText.{log_steps, log_fields}
+use Rattle.cx_semantics.specs.LogText.{log_fields}
 use Rattle.cx_semantics.proofs.Shapes.{Kind, a_mark, an_id, some_integers}
-use Rattle.cx_semantics.proofs.Remaining.{rows_of}
-use Rattle.cx_semantics.proofs.Grammars.{log_forms}
+use Rattle.cx_semantics.proofs.LogSteps.{log_rows}
 use Rattle.proof_text.specs.declared.source.TextRefusal.{TextRefusal}
 use Rattle.proof_text.specs.Heads.{is_head_letter}
 use Rattle.proof_text.specs.Taking.{Takes, RefusedIn}
@@ -26,10 +25,6 @@ listed_fields of_parity n lits = cond of_parity (mark 120 ∷ id n ∷ integers 
 
 abbrev pub listed_rows : List (List Kind)
 listed_rows = (an_id ∷ some_integers ∷ []) ∷ (a_mark 120 ∷ an_id ∷ some_integers ∷ []) ∷ []
-
--- the lists of kinds that a step may be
-abbrev pub log_rows : List (List Kind)
-log_rows = rows_of log_steps log_forms.forms
 
 -- behind a clause without hints no letter l follows
 abbrev pub StandsAlone : LogStep → List Placed → Type 0

@@ -1,7 +1,7 @@
 //! Logs: where their events go, their printed form, and their steps from a text.
 #![tactic(auto)]
 
-mod copy;
+mod copies;
 mod list_log;
 mod log_text;
 mod no_log;

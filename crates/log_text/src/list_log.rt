@@ -5,7 +5,7 @@ ghost use Rattle.cx_semantics.specs.declared.steps.LogEvent.TheVariants.{Step, C
 ghost use Rattle.cx_semantics.specs.Printed.{HasText};
 ghost use Rattle.proof_text.specs.declared.sink.SinkFault.TheVariants.{Memory};
 
-use crate::copy::copy_step;
+use crate::copies::copy_log_step;
 use crate::sink::LogSink;
 use cx_semantics::{LogEvent, LogStep};
 use proof_text::SinkFault;
@@ -85,7 +85,7 @@ impl LogSink for ListLog {
         ensures unchanged { OnErr result (self.new ≡ self.old) }
         ensures memory { IfErr result (λ e. e ≡ Memory) }
     {
-        match copy_step(self.alloc, step) {
+        match copy_log_step(self.alloc, step) {
             Ok(copy) => self.push(LogEvent::Step(copy)),
             Err(_) => Err(SinkFault::Memory),
         }

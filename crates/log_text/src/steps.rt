@@ -3,11 +3,12 @@ ghost use Rattle.std.specs.Prelude.{◌≡◌, true, false, [], ◌∷◌, Match
 ghost use Rattle.cx_semantics.specs.Words.{placed_words};
 ghost use Rattle.cx_semantics.specs.Grammar.{mark, id, end, ids, integers};
 ghost use Rattle.cx_semantics.specs.LogText.{log_steps};
+ghost use Rattle.cx_semantics.proofs.LogSteps.{log_rows};
 ghost use Rattle.cx_semantics.proofs.Shapes.{a_mark, an_id, an_end, some_ids, some_integers};
 ghost use Rattle.proof_text.specs.Heads.{is_head_letter};
 ghost use Rattle.proof_text.specs.Taking.{Takes, RefusedIn, TakesAll};
 ghost use Rattle.proof_text.specs.Reading.{ReadsStep};
-ghost use Rattle.log_text.specs.Taking.{letter_of, listed_fields, listed_rows, log_rows, TakesLogStep};
+ghost use Rattle.log_text.specs.Taking.{letter_of, listed_fields, listed_rows, TakesLogStep};
 
 use crate::plain::{Listed, Plain, plain_step};
 use cx_base::{IdList, IntList};

@@ -4,7 +4,7 @@ use Rattle.std.proofs.lemmas.List.{ext_get_or}
 use Rattle.cx_base.specs.Literals.{value_of}
 use Rattle.cx_base.specs.Problem.{Problem, first_unmet}
 use Rattle.model_out.specs.LineTokens.{line_tokens}
-use Rattle.model_out.specs.Answers.{behind_status, IsAnswer, BadAt, Gives, signed, written_of, IsVariable, LeastVariable, IsMissing, IsRepeated, AnswersAs}
+use Rattle.model_out.specs.Answers.{behind_status, IsAnswer, BadAt, Gives, as_literal, written_of, IsVariable, LeastVariable, IsMissing, IsRepeated, AnswersAs}
 use Rattle.model_out.specs.Reading.{Scan, whole, bad, scan}
 use Rattle.model_out.specs.Settling.{JudgesAs}
 use Rattle.model_out.specs.declared.refusal.AnswerRefusal.{AnswerRefusal}
@@ -31,7 +31,7 @@ scanned_none text e = ap (option_map (scan (length text) [])) e
 
 -- ---- values and variables
 
-same_value : (b c : Bool) (n : ℕ) → signed b (suc n) ∷ [] ≡ signed c (suc n) ∷ [] → b ≡ c
+same_value : (b c : Bool) (n : ℕ) → as_literal b (suc n) ∷ [] ≡ as_literal c (suc n) ∷ [] → b ≡ c
 same_value true true n e = refl
 same_value false false n e = refl
 same_value true false n e = cc
@@ -44,7 +44,7 @@ same_values formula lits v w g h =
     let is : IsVariable formula (suc i) = (omega arith, omega (arith, g.one_each)) in
     let at : suc i - 1 ≡ i = omega arith in
     same_value (get_or v i false) (get_or w i false) i
-    (subst (λ k. signed (get_or v k false) (suc i) ∷ [] ≡ signed (get_or w k false) (suc i) ∷ []) at (sym (g.as_written (suc i) is) ∙ h.as_written (suc i) is)))
+    (subst (λ k. as_literal (get_or v k false) (suc i) ∷ [] ≡ as_literal (get_or w k false) (suc i) ∷ []) at (sym (g.as_written (suc i) is) ∙ h.as_written (suc i) is)))
 
 same_least : (formula : Problem) (P : ℕ → Type 0) (x y : ℕ) → LeastVariable formula P x → LeastVariable formula P y → x ≡ y
 same_least formula P x y a b = elim (Rattle.std.proofs.lemmas.Bool.cases_lt x y) [
@@ -53,7 +53,7 @@ same_least formula P x y a b = elim (Rattle.std.proofs.lemmas.Bool.cases_lt x y)
 ]
 
 given_not_missing : (formula : Problem) (lits : List ℤ) (v : List Bool) (x : ℕ) → Gives formula lits v → LeastVariable formula (IsMissing lits) x → ⊥
-given_not_missing formula lits v x g m = let e : ◌≡◌ {A = List ℤ} [] (signed (value_of v x) x ∷ []) = sym m.holds ∙ g.as_written x m.is_variable in cc
+given_not_missing formula lits v x g m = let e : ◌≡◌ {A = List ℤ} [] (as_literal (value_of v x) x ∷ []) = sym m.holds ∙ g.as_written x m.is_variable in cc
 
 given_not_repeated : (formula : Problem) (lits : List ℤ) (v : List Bool) (x : ℕ) → Gives formula lits v → LeastVariable formula (IsRepeated lits) x → ⊥
 given_not_repeated formula lits v x g m = let e : length (written_of lits x) ≡ 1 = ap length (g.as_written x m.is_variable) in let k : 2 ≤ length (written_of lits x) = m.holds in omega arith

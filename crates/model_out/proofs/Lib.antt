@@ -1,4 +1,3 @@
-mod Digits
 pub mod MentionLaws
 pub mod ScanLaws
 pub mod TurnLaws

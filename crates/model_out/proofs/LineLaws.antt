@@ -4,14 +4,11 @@ use Rattle.std.specs.List.{enumerate_from, onto_first}
 use Rattle.std.proofs.lemmas.List.{map-append}
 use Rattle.std.proofs.lemmas.List.Sums.{fold-append}
 use Rattle.cx_semantics.specs.Tokens.{Token, is_blank, is_comment, lines_from, tokens_of_line, tokens_of_lines, tokens, NoBlank, EndsRun}
-use Rattle.cx_semantics.proofs.Printing.{NoFeed, lines-line}
-use Rattle.cx_semantics.proofs.TokenLaws.{token_at, blank_tokens, lines-byte, StartsBlank, run_line}
+use Rattle.cx_semantics.proofs.Lines.{Line, StartsBlank, NoFeed, lines-line, lines-last, enumerate-append}
+use Rattle.cx_semantics.proofs.TokenLaws.{token_at, blank_tokens, run_line}
 use Rattle.model_out.specs.LineTokens.{LineToken, step_in_line, at_line_begin, line_token}
 use Rattle.model_out.specs.Laws.{begin_with_first, LineTokensAreOfLines}
 use Rattle.model_out.proofs.PrintedLaws.{front_of, piece_inside}
-
-abbrev Line : Type 0
-Line = List (ℕ × ℕ)
 
 abbrev behind : Token → LineToken
 behind t = record { place = t.place; begins = false; text = t.text }
@@ -28,14 +25,6 @@ flagged_true (t ∷ ts) = refl
 flagged_false : (ts : List Token) → flagged false ts ≡ map behind ts
 flagged_false [] = refl
 flagged_false (t ∷ ts) = refl
-
-enumerate-append : (n : ℕ) (xs ys : List ℕ) → enumerate_from n (xs ++ ys) ≡ enumerate_from n xs ++ enumerate_from (n + length xs) ys
-enumerate-append n [] ys = ap (λ m. enumerate_from m ys) (let e : n ≡ n + 0 = omega arith in e)
-enumerate-append n (x ∷ xs) ys = ap (λ r. (n, x) ∷ r) (enumerate-append (n + 1) xs ys ∙ ap (λ m. enumerate_from (n + 1) xs ++ enumerate_from m ys) (let e : (n + 1) + length xs ≡ n + length (x ∷ xs) = omega arith in e))
-
-alone : (m : ℕ) (l : List ℕ) → NoFeed l → lines_from m l ≡ enumerate_from m l ∷ []
-alone m [] k = refl
-alone m (b ∷ l) k = lines-byte m b l k.0 ∙ ap (onto_first (m, b)) (alone (m + 1) l k.1)
 
 starts : (n : ℕ) (rest : List ℕ) → EndsRun rest → StartsBlank (enumerate_from n rest)
 starts n [] h = tt
@@ -154,7 +143,7 @@ module _ (all : List ℕ) where
 
   last_line : (n : ℕ) (front l : List ℕ) → NoFeed l → at_line_begin front ≡ true → length front ≡ n → all ≡ front ++ l → map (line_token all) (tokens_of_lines (lines_from n l)) ≡ of_lines (lines_from n l)
   last_line n front l k b len e =
-      subst (λ (ls : List Line). map (line_token all) (tokens_of_lines ls) ≡ of_lines ls) (sym (alone n l k))
+      subst (λ (ls : List Line). map (line_token all) (tokens_of_lines ls) ≡ of_lines ls) (sym (lines-last n l k))
       (first_line (enumerate_from n l) [] (one_line n front l [] k b len (e ∙ ap (λ x. front ++ x) (sym (append-nil l)))) refl)
 
   feed_begins : (front l : List ℕ) → at_line_begin (front ++ (l ++ 10 ∷ [])) ≡ true

@@ -6,18 +6,12 @@ use Rattle.cx_base.specs.Literals.{value_of}
 use Rattle.cx_base.specs.Problem.{Problem}
 use Rattle.cx_base.specs.declared.literal.TheConstants.{MAX_VARIABLE}
 use Rattle.cx_semantics.specs.Integers.{is_negative}
-use Rattle.cx_semantics.proofs.Printing.{not_equal}
-use Rattle.model_out.specs.Answers.{written_of, signed, IsVariable, Gives, LeastVariable, IsMissing, IsRepeated}
+use Rattle.cx_semantics.proofs.DigitLaws.{not_equal}
+use Rattle.model_out.specs.Answers.{written_of, as_literal, IsVariable, Gives, LeastVariable, IsMissing, IsRepeated}
 use Rattle.model_out.specs.Mentions.{mention_of, is_never, is_repeated, is_true_once, IsFirstOf, Tells}
 use Rattle.model_out.specs.Settling.{NoneMissing}
 use Rattle.model_out.specs.declared.mentions.Mention.{Mention}
 use Rattle.model_out.specs.declared.mentions.Mention.TheVariants.{Never}
-
--- a literal of a variable above the table changes nothing
-pub tells_above : (lits : List ℤ) (z : ℤ) (table : List Mention) → length table ≤ MAX_VARIABLE → MAX_VARIABLE < nat_abs z → Tells lits table → Tells (lits ++ z ∷ []) table
-tells_above lits z table few far h k low =
-    let apart : nat_abs z ≡ k + 1 → ⊥ = λ (e : nat_abs z ≡ k + 1). (omega arith) in
-    h k low ∙ ap mention_of (sym (filter-append (λ y. nat_abs y == k + 1) lits (z ∷ []) ∙ ap (λ b. written_of lits (k + 1) ++ cond b (z ∷ []) []) (not_equal (nat_abs z) (k + 1) apart) ∙ append-nil (written_of lits (k + 1))))
 
 -- ---- one mention
 
@@ -52,9 +46,9 @@ head_passes p (y ∷ zs) z rest e = head_step p y (filter p zs) z rest (head_pas
 pub size_of_written : (lits : List ℤ) (x : ℕ) (z : ℤ) (rest : List ℤ) → written_of lits x ≡ z ∷ rest → nat_abs z ≡ x
 size_of_written lits x z rest e = eqb-true (nat_abs z) x (head_passes (λ y. nat_abs y == x) lits z rest e)
 
-signed_is : (z : ℤ) (x : ℕ) → nat_abs z ≡ x → z ≡ signed (not (is_negative z)) x
-signed_is (pos n) x e = ap pos e
-signed_is (negsuc n) x e = ap (λ y. neg_ℤ (pos y)) e
+as_literal_is : (z : ℤ) (x : ℕ) → nat_abs z ≡ x → z ≡ as_literal (not (is_negative z)) x
+as_literal_is (pos n) x e = ap pos e
+as_literal_is (negsuc n) x e = ap (λ y. neg_ℤ (pos y)) e
 
 -- ---- a whole table
 
@@ -105,7 +99,7 @@ module _ (lits : List ℤ) (formula : Problem) (table : List Mention) (len : len
           let e = at x v in
           let o = only_one (written_of lits x) (ap is_never (sym e) ∙ named (x - 1) (inside x v)) (ap is_repeated (sym e) ∙ once (x - 1) (inside x v)) in
           let value : value_of (map is_true_once table) x ≡ not (is_negative o.0) = get_or-map is_true_once table (x - 1) Never false (inside x v) ∙ ap is_true_once e ∙ o.2 in
-          o.1 ∙ ap (λ z. z ∷ []) (signed_is o.0 x (size_of_written lits x o.0 [] o.1) ∙ ap (λ b. signed b x) (sym value));
+          o.1 ∙ ap (λ z. z ∷ []) (as_literal_is o.0 x (size_of_written lits x o.0 [] o.1) ∙ ap (λ b. as_literal b x) (sym value));
     }
 
 pub none_of : (test : Mention → Bool) (table : List Mention) (o : Option ℕ) → ((x : ℕ) → o ≡ Some x → ⊥) → IsFirstOf test table o → (k : ℕ) → k < length table → test (get_or table k Never) ≡ false

@@ -10,10 +10,12 @@ use Rattle.cx_base.specs.declared.literal.TheConstants.{MAX_VARIABLE}
 use Rattle.cx_semantics.specs.AnswerText.{break_before, printed_value, answer_text}
 use Rattle.cx_semantics.specs.Printed.{printed_integer}
 use Rattle.cx_semantics.specs.Tokens.{Token, is_blank, tokens, tokens_from, tokens_within, NoBlank, EndsRun}
-use Rattle.cx_semantics.proofs.Printing.{IsPiece, digit_is, digit_bounds, not_equal, digits_no_blank, integer-printed}
-use Rattle.cx_semantics.proofs.TokenLaws.{token_at, not_feed, tokens_from-kept, tokens_within-blank, tokens_within-feed, tokens_within-run}
+use Rattle.cx_semantics.proofs.DigitLaws.{digit_is, digits_are, digit_bounds, not_equal, digits_no_blank}
+use Rattle.cx_semantics.proofs.PrintedWords.{IsPiece, integer-printed}
+use Rattle.cx_semantics.proofs.Lines.{not_feed}
+use Rattle.cx_semantics.proofs.TokenLaws.{token_at, tokens_from-kept, tokens_within-blank, tokens_within-feed, tokens_within-run}
 use Rattle.model_out.specs.LineTokens.{LineToken, step_in_line, at_line_begin, line_token, line_tokens}
-use Rattle.model_out.specs.Answers.{behind_status, written_of, signed, Gives, AnswerReads}
+use Rattle.model_out.specs.Answers.{behind_status, written_of, as_literal, Gives, AnswerReads}
 use Rattle.model_out.specs.Laws.{PrintedAnswersRead}
 use Rattle.model_out.specs.Reading.{scan, whole}
 use Rattle.model_out.proofs.Puts.{text_is}
@@ -114,7 +116,7 @@ line_tokens_is is h =
 -- ---- the pieces of an answer
 
 abbrev integer_at : ℕ × Bool → ℤ
-integer_at p = signed p.1 (suc p.0)
+integer_at p = as_literal p.1 (suc p.0)
 
 abbrev is_broken : ℕ → Bool
 is_broken place = place % 16 == 0 && not (place == 0)
@@ -149,13 +151,13 @@ text_items (p ∷ ps) =
 
 numeral_kept : (ds : List ℕ) → IsNumeral 10 ds → IsKept ds
 numeral_kept [] h = absurd (let k : 0 < 0 = h.0 in omega arith)
-numeral_kept (c ∷ ds) h = (record { first = c; rest = ds; is = refl; no_blank = digits_no_blank (c ∷ ds) h.1 }, not_equal c 99 (λ e. let b = digit_bounds c (digit_is c h.1.0) in omega arith))
+numeral_kept (c ∷ ds) h = (record { first = c; rest = ds; is = refl; no_blank = digits_no_blank (c ∷ ds) (digits_are (c ∷ ds) h.1) }, not_equal c 99 (λ e. let b = digit_bounds c (digit_is c h.1.0) in omega arith))
 
 integer_kept : (z : ℤ) → nat_abs z < 10 ^ 64 → IsKept (printed_integer z)
 integer_kept (pos n) h = numeral_kept (decimal n) (decimal_is_IsNumeral_wide n h).0
 integer_kept (negsuc n) h =
     let d = (decimal_is_IsNumeral_wide (suc n) h).0 in
-    (record { first = 45; rest = decimal (suc n); is = refl; no_blank = (refl, digits_no_blank (decimal (suc n)) d.1) }, refl)
+    (record { first = 45; rest = decimal (suc n); is = refl; no_blank = (refl, digits_no_blank (decimal (suc n)) (digits_are (decimal (suc n)) d.1)) }, refl)
 
 size_at : (p : ℕ × Bool) → nat_abs (integer_at p) ≡ suc p.0
 size_at (k, true) = refl
@@ -214,20 +216,20 @@ written_before (b ∷ bs) k x h =
     let apart : (nat_abs (integer_at (k, b)) == x) ≡ false = not_equal (nat_abs (integer_at (k, b))) x (λ e. omega (arith, size_at (k, b))) in
     ap (λ t. cond t (integer_at (k, b) ∷ rest) rest) apart ∙ written_before bs (k + 1) x (omega arith)
 
-at_first : (b : Bool) (bs : List Bool) (k x : ℕ) → suc k ≡ x → integer_at (k, b) ∷ [] ≡ signed (get_or (b ∷ bs) ((x - 1) - k) false) x ∷ []
+at_first : (b : Bool) (bs : List Bool) (k x : ℕ) → suc k ≡ x → integer_at (k, b) ∷ [] ≡ as_literal (get_or (b ∷ bs) ((x - 1) - k) false) x ∷ []
 at_first b bs k x e =
     let f : (x - 1) - k ≡ 0 = omega arith in
-    ap (λ y. signed b y ∷ []) e ∙ ap (λ i. signed (get_or (b ∷ bs) i false) x ∷ []) (sym f)
+    ap (λ y. as_literal b y ∷ []) e ∙ ap (λ i. as_literal (get_or (b ∷ bs) i false) x ∷ []) (sym f)
 
-written_at : (values : List Bool) (k x : ℕ) → k < x → x ≤ k + length values → written_of (map integer_at (enumerate_from k values)) x ≡ signed (get_or values ((x - 1) - k) false) x ∷ []
+written_at : (values : List Bool) (k x : ℕ) → k < x → x ≤ k + length values → written_of (map integer_at (enumerate_from k values)) x ≡ as_literal (get_or values ((x - 1) - k) false) x ∷ []
 written_at [] k x low high = absurd (omega arith)
 written_at (b ∷ bs) k x low high = at_test (nat_abs (integer_at (k, b)) == x) refl (λ h. written_at bs (k + 1) x h (omega arith))
   where
     rest : List ℤ
     rest = written_of (map integer_at (enumerate_from (k + 1) bs)) x
 
-    at_test : (t : Bool) → (nat_abs (integer_at (k, b)) == x) ≡ t → (k + 1 < x → written_of (map integer_at (enumerate_from (k + 1) bs)) x ≡ signed (get_or bs ((x - 1) - (k + 1)) false) x ∷ [])
-        → cond t (integer_at (k, b) ∷ written_of (map integer_at (enumerate_from (k + 1) bs)) x) (written_of (map integer_at (enumerate_from (k + 1) bs)) x) ≡ signed (get_or (b ∷ bs) ((x - 1) - k) false) x ∷ []
+    at_test : (t : Bool) → (nat_abs (integer_at (k, b)) == x) ≡ t → (k + 1 < x → written_of (map integer_at (enumerate_from (k + 1) bs)) x ≡ as_literal (get_or bs ((x - 1) - (k + 1)) false) x ∷ [])
+        → cond t (integer_at (k, b) ∷ written_of (map integer_at (enumerate_from (k + 1) bs)) x) (written_of (map integer_at (enumerate_from (k + 1) bs)) x) ≡ as_literal (get_or (b ∷ bs) ((x - 1) - k) false) x ∷ []
     at_test true e more =
         let same : suc k ≡ x = sym (size_at (k, b)) ∙ eqb-true (nat_abs (integer_at (k, b))) x e in
         ap (λ r. integer_at (k, b) ∷ r) (written_before bs (k + 1) x (omega arith)) ∙ at_first b bs k x same
@@ -235,14 +237,14 @@ written_at (b ∷ bs) k x low high = at_test (nat_abs (integer_at (k, b)) == x) 
         let apart : suc k ≡ x → ⊥ = λ (f : suc k ≡ x). true≢false (sym (Rattle.std.proofs.Common.eq-eqb (nat_abs (integer_at (k, b))) x (size_at (k, b) ∙ f)) ∙ e) in
         let above : k + 1 < x = omega arith in
         let step : (x - 1) - k ≡ suc ((x - 1) - (k + 1)) = omega arith in
-        more above ∙ ap (λ i. signed (get_or (b ∷ bs) i false) x ∷ []) (sym step)
+        more above ∙ ap (λ i. as_literal (get_or (b ∷ bs) i false) x ∷ []) (sym step)
 
 given : (formula : Problem) (values : List Bool) → length values ≡ formula.variables → Gives formula (map integer_at (enumerate_from 0 values)) values
 given formula values len = record {
   one_each = len;
   as_written = λ x v.
       let at : (x - 1) - 0 ≡ x - 1 = omega arith in
-      written_at values 0 x (omega (arith, v.0)) (omega (arith, v.1, len)) ∙ ap (λ i. signed (get_or values i false) x ∷ []) at;
+      written_at values 0 x (omega (arith, v.0)) (omega (arith, v.1, len)) ∙ ap (λ i. as_literal (get_or values i false) x ∷ []) at;
 }
 
 -- ---- a whole answer

@@ -19,9 +19,6 @@ then_fails a b old mid new e h = subst (λ c. Fails (a ++ c) old new) (append-ni
 
 -- ---- bytes that wait
 
-pub takes_none : (old : Outside) (waiting : Bytes) → Takes [] old waiting old waiting
-takes_none old waiting = ([], sym (gained-none Answer old), sym (append-nil waiting))
-
 pub takes_more : (a b : Bytes) (old mid new : Outside) (u v w : Bytes) → Takes a old u mid v → Takes b mid v new w → Takes (a ++ b) old u new w
 takes_more a b old mid new u v w h k = (
   h.0 ++ k.0,

@@ -1,5 +1,6 @@
 -- The scan of the `v` lines gives what the form of answers says.
 use Rattle.std.proofs.Common.{◌≡◌, ◌≢◌, refl, sym, ap, ◌∙◌, subst, ℕ, zero, suc, ℤ, pos, negsuc, List, [], ◌∷◌, ◌++◌, append_assoc, append-nil}
+use Rattle.cx_semantics.proofs.Shapes.{pos_not_zero, neg_not_zero}
 use Rattle.model_out.specs.LineTokens.{LineToken}
 use Rattle.model_out.specs.Answers.{Part, mark, number, strange, part_of, GoesOn, AllGoOn, onto_numbers, numbers, FirstBad, at_strange, behind_zero, at_end}
 use Rattle.model_out.specs.Reading.{whole, bad, scan_end, at_part, scan}
@@ -21,12 +22,6 @@ longer len t ts place g (at_strange b) = at_strange (record { front = t ∷ b.fr
 longer len t ts place g (behind_zero b) = behind_zero (record { front = t ∷ b.front; zero = b.zero; bad = b.bad; rest = b.rest; split = ap (λ l. t ∷ l) b.split; goes_on = (g, b.goes_on); ends = b.ends; at = b.at })
 longer len t ts place g (at_end b) = at_end (record { goes_on = (g, b.goes_on); at = b.at })
 
-not_zero : (n : ℕ) → pos (suc n) ≢ pos 0
-not_zero n e = cc
-
-negative_not_zero : (n : ℕ) → negsuc n ≢ pos 0
-negative_not_zero n e = cc
-
 module _ (len : ℕ) where
   abbrev EndsSo : List LineToken → Type 0
   EndsSo ts = (lits all : List ℤ) → scan len lits ts ≡ whole all → Ended ts lits all
@@ -43,8 +38,8 @@ module _ (len : ℕ) where
       let w = more lits all f in
       record { front = t ∷ w.front; last = w.last; split = ap (λ l. t ∷ l) w.split; goes_on = (subst GoesOn (sym k) tt, w.goes_on); ends = w.ends; is = w.is ∙ ap (λ p. lits ++ onto_numbers p (numbers w.front)) (sym k) }
   ended_step t ts more lits all (number (pos zero)) k f = last_ended t ts lits all k f
-  ended_step t ts more lits all (number (pos (suc n))) k f = more_ended t ts lits all (pos (suc n)) k (not_zero n) (more (lits ++ pos (suc n) ∷ []) all f)
-  ended_step t ts more lits all (number (negsuc n)) k f = more_ended t ts lits all (negsuc n) k (negative_not_zero n) (more (lits ++ negsuc n ∷ []) all f)
+  ended_step t ts more lits all (number (pos (suc n))) k f = more_ended t ts lits all (pos (suc n)) k (pos_not_zero n) (more (lits ++ pos (suc n) ∷ []) all f)
+  ended_step t ts more lits all (number (negsuc n)) k f = more_ended t ts lits all (negsuc n) k (neg_not_zero n) (more (lits ++ negsuc n ∷ []) all f)
   ended_step t ts more lits all strange k f = cc
 
   ends_so : (body : List LineToken) → EndsSo body
@@ -61,8 +56,8 @@ module _ (len : ℕ) where
   bad_step : (t : LineToken) (ts : List LineToken) → BadSo ts → (lits : List ℤ) (place : ℕ) (p : Part) → part_of t ≡ p → at_part t.place lits ts (λ more. scan len more ts) p ≡ bad place → FirstBad len (t ∷ ts) place
   bad_step t ts more lits place mark k f = longer len t ts place (subst GoesOn (sym k) tt) (more lits place f)
   bad_step t ts more lits place (number (pos zero)) k f = bad_end t ts lits place k f
-  bad_step t ts more lits place (number (pos (suc n))) k f = longer len t ts place (subst GoesOn (sym k) (not_zero n)) (more (lits ++ pos (suc n) ∷ []) place f)
-  bad_step t ts more lits place (number (negsuc n)) k f = longer len t ts place (subst GoesOn (sym k) (negative_not_zero n)) (more (lits ++ negsuc n ∷ []) place f)
+  bad_step t ts more lits place (number (pos (suc n))) k f = longer len t ts place (subst GoesOn (sym k) (pos_not_zero n)) (more (lits ++ pos (suc n) ∷ []) place f)
+  bad_step t ts more lits place (number (negsuc n)) k f = longer len t ts place (subst GoesOn (sym k) (neg_not_zero n)) (more (lits ++ negsuc n ∷ []) place f)
   bad_step t ts more lits place strange k f = let same : t.place ≡ place = cc (f) in at_strange (record { front = []; bad = t; rest = ts; split = refl; goes_on = tt; is_strange = k; at = sym same })
 
   bad_so : (body : List LineToken) → BadSo body

@@ -95,8 +95,8 @@ abbrev pub written_of : List ℤ → ℕ → List ℤ
 written_of lits x = filter (λ z. nat_abs z == x) lits
 
 -- x where it is true, and -x where it is false
-abbrev pub signed : Bool → ℕ → ℤ
-signed value x = cond value (pos x) (neg_ℤ (pos x))
+abbrev pub as_literal : Bool → ℕ → ℤ
+as_literal value x = cond value (pos x) (neg_ℤ (pos x))
 
 abbrev pub IsVariable : Problem → ℕ → Type 0
 IsVariable formula x = (1 ≤ x) × (x ≤ formula.variables)
@@ -104,7 +104,7 @@ IsVariable formula x = (1 ≤ x) × (x ≤ formula.variables)
 -- each variable is written once, with its value; literals of variables above the formula's number say nothing
 pub record Gives (formula : Problem) (lits : List ℤ) (values : List Bool) : Type 0 where
   pub one_each : length values ≡ formula.variables
-  pub as_written : (x : ℕ) → IsVariable formula x → written_of lits x ≡ signed (value_of values x) x ∷ []
+  pub as_written : (x : ℕ) → IsVariable formula x → written_of lits x ≡ as_literal (value_of values x) x ∷ []
 
 -- the text is an answer that gives these values, and they meet the formula
 pub record AnswerReads (text : List ℕ) (formula : Problem) (values : List Bool) : Type 0 where

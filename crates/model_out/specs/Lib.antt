@@ -2,7 +2,6 @@ pub mod LineTokens
 pub mod Answers
 pub mod Reading
 pub mod Mentions
-pub mod Integers
 pub mod Waiting
 pub mod Laws
 pub mod Settling

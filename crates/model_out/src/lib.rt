@@ -1,7 +1,6 @@
 //! Answers: the values of a formula's variables, printed and read.
 #![tactic(auto)]
 
-mod integer;
 mod laws;
 mod line_tokens;
 mod mentions;

@@ -2,6 +2,7 @@
 use Rattle.std.proofs.Common.{◌≡◌, ◌≢◌, refl, sym, ap, ◌∙◌, subst, ℕ, ◌+◌, ◌≤◌, Bool, true, false, cond, not, ◌&&◌, ◌||◌, nat_eq, eqb-true, eq-eqb, List, [], ◌∷◌, map, Option, Some, None, option_map, arith, ◌⊎◌, inl, inr, true≢false}
 use Rattle.std.specs.List.{list_any}
 use mathlib.Core.Bool.{beq}
+use Rattle.std.proofs.lemmas.Bool.{or_cases}
 use Rattle.cx_base.specs.Literals.{Literal, differ, negate, same_literal, literal_true, value_of}
 use Rattle.cx_base.specs.Problem.{clause_met, parity_met}
 use Rattle.cx_base.specs.Parity.{normal_form}
@@ -20,10 +21,6 @@ has_first l lits = ap (λ b. b || has_literal lits l) (same_literal-itself l)
 
 pub has_later : (l m : Literal) (lits : List Literal) → has_literal lits l ≡ true → has_literal (m ∷ lits) l ≡ true
 has_later l m lits h = or_right (same_literal l m) _ h
-
-pub or_cases : (a b : Bool) → (a || b) ≡ true → (a ≡ true) ⊎ (b ≡ true)
-or_cases true b h = inl refl
-or_cases false b h = inr h
 
 -- a literal that is true meets the clause
 pub met_by : (v : List Bool) (lits : List Literal) (l : Literal) → has_literal lits l ≡ true → literal_true v l ≡ true → clause_met v lits ≡ true

@@ -5,6 +5,7 @@ use Rattle.std.specs.FinSet as set
 use Rattle.std.specs.Ordering.{nat_cmp}
 use Rattle.std.proofs.Math.Nat.{pow-succ', mod-eq_of_lt, mul-le-mul_left}
 use Rattle.std.proofs.Math.Pow.{pow_mono}
+use Rattle.std.proofs.lemmas.Bool.{or_cases, or_parts}
 use Rattle.cx_base.specs.Literals.{Literal, differ, value_of}
 use Rattle.cx_base.specs.Problem.{clause_met, parity_met}
 use Rattle.cx_base.specs.Parity.{normal_form}
@@ -18,21 +19,16 @@ use Rattle.proof_rules.specs.Assignments.{Lists, odd_sum}
 use Rattle.proof_rules.specs.LiteralSets.{HaveSame}
 use Rattle.proof_rules.specs.Exclusions.{Fits, excluded, is_hit, all_excluded, Excludes, is_outside}
 use Rattle.proof_rules.proofs.ParityValues.{values_by, values-values_by, top, within_top, parity_met-list}
-use Rattle.proof_rules.proofs.ClauseValues.{or_cases}
 use Rattle.proof_rules.proofs.ExclusionLaws.{get_or-excluded, is_hit-same, place_of, place_of-below, ForEach, for_each-map, falsified, is_hit-place, falsified-unmet, not_falsified-met, inside_by_set, marked_by_all, escape, assigned, map-assigned}
 
 -- ---- clauses and assignments
-
-or_none : (a b : Bool) → (a || b) ≡ false → (a ≡ false) × (b ≡ false)
-or_none true b h = absurd (true≢false h)
-or_none false b h = (refl, h)
 
 -- values that meet all clauses are excluded by none
 none_falsified : (v : List Bool) (xs : List ℕ) (variables : set.FinSet nat_cmp) → set.from_list xs ≡ variables → (clauses : List (List Literal))
     → list_any (is_outside variables) clauses ≡ false → all_met clause_met clauses v ≡ true → list_any (λ c. falsified c xs (map (value_of v) xs)) clauses ≡ true → ⊥
 none_falsified v xs variables same [] o m h = true≢false (sym h)
 none_falsified v xs variables same (c ∷ clauses) o m h =
-    let a = or_none (is_outside variables c) _ o in
+    let a = or_parts (is_outside variables c) _ o in
     let p = and_parts (clause_met v c) _ m in
     elim (or_cases (falsified c xs (map (value_of v) xs)) _ h) [
       | inl e ↦ true≢false (sym p.0 ∙ falsified-unmet v c xs (inside_by_set variables xs same c a.0) e)
@@ -42,7 +38,7 @@ none_falsified v xs variables same (c ∷ clauses) o m h =
 -- values that no clause excludes meet all of them
 all_met_by : (v : List Bool) (xs : List ℕ) (clauses : List (List Literal)) → list_any (λ c. falsified c xs (map (value_of v) xs)) clauses ≡ false → all_met clause_met clauses v ≡ true
 all_met_by v xs [] h = refl
-all_met_by v xs (c ∷ clauses) h = let p = or_none (falsified c xs (map (value_of v) xs)) _ h in and_both _ _ (not_falsified-met v c xs p.0) (all_met_by v xs clauses p.1)
+all_met_by v xs (c ∷ clauses) h = let p = or_parts (falsified c xs (map (value_of v) xs)) _ h in and_both _ _ (not_falsified-met v c xs p.0) (all_met_by v xs clauses p.1)
 
 not_met : (a b : Bool) → not (differ a b) ≡ false → differ b a ≡ true
 not_met true true h = absurd (true≢false h)

@@ -15,6 +15,7 @@ use Rattle.cx_semantics.specs.Chain.{has_literal, is_inside, same_literals}
 use Rattle.cx_semantics.proofs.ChainLaws.{and_both, same_literal-itself}
 use Rattle.cx_semantics.proofs.Closure.{or_right}
 use Rattle.cx_semantics.proofs.SameSets.{Same-by_test}
+use Rattle.cx_semantics.proofs.SameSets.{inside_by}
 use Rattle.proof_rules.specs.LiteralSets.{HaveSame}
 use Rattle.proof_rules.specs.Contents.{RisesOver, IsClauseContent, IsFormContent, IsParityContent}
 use Rattle.proof_rules.proofs.LiteralLaws.{same_code}
@@ -58,10 +59,6 @@ same_of_codes a b h l =
     ap (has_literal a) (sym (literal_of_code-code_of l)) ∙ sym (has_code a q) ∙ sym (set.contains-from_list nat_cmp_total (map code_of a) q)
     ∙ ap (λ s. set.contains s q) h
     ∙ set.contains-from_list nat_cmp_total (map code_of b) q ∙ has_code b q ∙ ap (has_literal b) (literal_of_code-code_of l)
-
-inside_by : (a b : List Literal) → ((l : Literal) → has_literal a l ≡ true → has_literal b l ≡ true) → is_inside a b ≡ true
-inside_by [] b h = refl
-inside_by (m ∷ a) b h = and_both _ _ (h m (ap (λ x. x || has_literal a m) (same_literal-itself m))) (inside_by a b (λ l k. h l (or_right (same_literal l m) _ k)))
 
 pub content_of_set : (set_ lits : List Literal) (codes : List ℕ) → HaveSame set_ lits → codes ≡ map code_of set_ → IsStrictlySortedBy nat_cmp codes → IsClauseContent lits codes
 content_of_set set_ lits codes h e r = record { same = ap set.from_list e ∙ codes_of_same set_ lits h; rising = r }

@@ -7,6 +7,7 @@ use Rattle.std.proofs.Math.Nat.{add-mul-mod_self_left, mod-eq_of_lt}
 use Rattle.std.proofs.Math.ListN.{length-set}
 use Rattle.std.proofs.lemmas.List.{get_or-set_other}
 use Rattle.std.proofs.lemmas.Grind.{get_or-set_at}
+use Rattle.std.proofs.lemmas.Bool.{or_cases, false_from_ne_true}
 use Rattle.cx_base.specs.Literals.{Literal, differ, same_literal, literal_true, value_of}
 use Rattle.cx_base.specs.Problem.{clause_met}
 use Rattle.cx_semantics.specs.Chain.{has_literal}
@@ -14,7 +15,7 @@ use Rattle.cx_semantics.proofs.ChainLaws.{and_parts, are_one}
 use Rattle.proof_rules.specs.LiteralSets.{HaveSame}
 use Rattle.proof_rules.specs.Assignments.{AreDistinct, odd_sum, positive_of, negative_of}
 use Rattle.proof_rules.specs.Exclusions.{Fits, excluded, is_hit, all_excluded, is_outside}
-use Rattle.proof_rules.proofs.ClauseValues.{or_cases, met_by, unmet_by}
+use Rattle.proof_rules.proofs.ClauseValues.{met_by, unmet_by}
 
 -- ---- what a clause marks
 
@@ -147,10 +148,6 @@ falsified clause [] bits = true
 falsified clause (x ∷ xs) [] = true
 falsified clause (x ∷ xs) (b ∷ bits) = not (has_literal clause (record { variable = x; negative = not b })) && falsified clause xs bits
 
-not_true : (b : Bool) → (b ≡ true → ⊥) → b ≡ false
-not_true true h = absurd (h refl)
-not_true false h = refl
-
 and_false : (a : Bool) → (a && false) ≡ false
 and_false true = refl
 and_false false = refl
@@ -165,12 +162,12 @@ is_hit-place clause [] (b ∷ bits) place step e h = absurd e
 is_hit-place clause (x ∷ xs) [] place step e h = absurd e
 is_hit-place clause (x ∷ xs) (false ∷ bits) place step e h =
     let j = place_of place (2 * step) bits in
-    let apart : is_hit clause xs (place + step) (2 * step) j ≡ false = not_true _ (λ k. halves_apart place step j h (place_of-steps bits place (2 * step)) (hit-steps clause xs (place + step) (2 * step) j k)) in
+    let apart : is_hit clause xs (place + step) (2 * step) j ≡ false = false_from_ne_true _ (λ k. halves_apart place step j h (place_of-steps bits place (2 * step)) (hit-steps clause xs (place + step) (2 * step) j k)) in
     (λ i. (not (has_literal clause (negative_of x)) && is_hit-place clause xs bits place (2 * step) e (omega arith) i) || (not (has_literal clause (positive_of x)) && apart i))
     ∙ ap (λ b. (not (has_literal clause (negative_of x)) && falsified clause xs bits) || b) (and_false (not (has_literal clause (positive_of x)))) ∙ or_false _
 is_hit-place clause (x ∷ xs) (true ∷ bits) place step e h =
     let j = place_of (place + step) (2 * step) bits in
-    let apart : is_hit clause xs place (2 * step) j ≡ false = not_true _ (λ k. halves_apart place step j h (hit-steps clause xs place (2 * step) j k) (place_of-steps bits (place + step) (2 * step))) in
+    let apart : is_hit clause xs place (2 * step) j ≡ false = false_from_ne_true _ (λ k. halves_apart place step j h (hit-steps clause xs place (2 * step) j k) (place_of-steps bits (place + step) (2 * step))) in
     (λ i. (not (has_literal clause (negative_of x)) && apart i) || (not (has_literal clause (positive_of x)) && is_hit-place clause xs bits (place + step) (2 * step) e (omega arith) i))
     ∙ ap (λ b. b || (not (has_literal clause (positive_of x)) && falsified clause xs bits)) (and_false (not (has_literal clause (negative_of x))))
 
@@ -215,7 +212,7 @@ true_sign false true h = refl
 true_sign false false h = absurd (true≢false (sym h))
 
 pub falsified-unmet : (v : List Bool) (clause : List Literal) (xs : List ℕ) → IsInside xs clause → falsified clause xs (map (value_of v) xs) ≡ true → clause_met v clause ≡ false
-falsified-unmet v clause xs inside h = unmet_by v clause (λ l k. not_true (literal_true v l) (λ t.
+falsified-unmet v clause xs inside h = unmet_by v clause (λ l k. false_from_ne_true (literal_true v l) (λ t.
     let e : has_literal clause (record { variable = l.variable; negative = l.negative }) ≡ false =
     ap (λ n. has_literal clause (record { variable = l.variable; negative = n })) (true_sign l.negative (value_of v l.variable) t) ∙ falsified_each clause xs (value_of v) h l.variable (inside l k) in
     true≢false (sym k ∙ e)))

@@ -59,3 +59,18 @@ pub fn literals_of(alloc: Global, vars: u32, integers: &IntList) -> Result<LitLi
     }
     Ok(LitList::from_vec(lits))
 }
+
+/// Judges what is added by these rules, and gives its literals.
+pub fn admit(
+    alloc: Global,
+    vars: u32,
+    lits: &IntList,
+    is_live: bool,
+) -> Result<LitList, JudgeRefusal>
+    requires few { vars ≤ MAX_VARIABLE }
+    ensures judged { JudgesBy (refused_where causes.VarUnknown (list_any (λ z. nat_lt vars (nat_abs z)) lits.now) ∷ refused_where causes.IdInUse is_live ∷ []) result }
+    ensures literals { IfOk result (λ target. target ≡ literals lits.now) }
+{
+    judge_added(vars, lits, is_live)?;
+    Ok(literals_of(alloc, vars, lits)?)
+}

@@ -13,10 +13,9 @@ mod named;
 mod parity_clause;
 mod parity_sum;
 mod refusal;
-mod same;
 mod sum;
 
-pub use added::{judge_added, literals_of};
+pub use added::{admit, judge_added, literals_of};
 pub use chain::{LeftOf, left_of};
 pub use content::{clause_content, parity_content};
 pub use hints::ids_of;
@@ -25,7 +24,6 @@ pub use literal_set::LiteralSet;
 pub use live::Live;
 pub use named::{judge_clause_of_named_parity, judge_named_sum, judge_parity_of_named_clauses};
 pub use refusal::JudgeRefusal;
-pub use same::{have_same_form, have_same_literals};
 
 #[cfg(test)]
 mod tests;

@@ -1,4 +1,3 @@
-mod Digits
 pub mod Taken
 pub mod TakingLaws
 pub mod ReadingLaws

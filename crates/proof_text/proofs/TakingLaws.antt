@@ -6,7 +6,7 @@ use Rattle.std.proofs.lemmas.Grind.{flat_map-append}
 use Rattle.cx_semantics.specs.Words.{Word, number, Placed, words}
 use Rattle.cx_semantics.specs.Grammar.{Field, mark, conflict_line, id, integer, end, ids, integers, spelled, spelled_list, IsProper}
 use Rattle.cx_semantics.proofs.Shapes.{Kind, a_mark, some_ids, some_integers, kind, Move, closes, stays, refuses, move}
-use Rattle.cx_semantics.proofs.Remaining.{behind, after_word, remaining}
+use Rattle.cx_semantics.proofs.Remaining.{behind, after_word, remaining, remaining-more, all_passed, ids_stay, integers_stay}
 use Rattle.proof_text.specs.declared.source.TextRefusal.{TextRefusal}
 use Rattle.proof_text.specs.declared.source.TextRefusal.TheVariants.{BadToken, Unterminated, TooBig, TooLong, Memory, Failed}
 use Rattle.proof_text.specs.Taking.{AreSmall, Takes, IsFit, HeadFails, IsOpen, RefusedIn}
@@ -74,14 +74,7 @@ one_integer zs z a b c x y = subst (λ fs. Takes fs a c) (sym (map-append intege
 pub one_id : (ns : List ℕ) (n : ℕ) (a b c : List Placed) → Takes (map id ns) a b → Takes (id n ∷ []) b c → Takes (map id (ns ++ n ∷ [])) a c
 one_id ns n a b c x y = subst (λ fs. Takes fs a c) (sym (map-append id ns (n ∷ []))) (takes_append (map id ns) (id n ∷ []) a b c x y)
 
-pub nothing_taken : (a : List Placed) → Takes [] a a
-nothing_taken a = record { front = []; split = refl; proper = tt; spells = refl; within = tt }
-
 -- ---- what may follow
-
-remaining-more : (rows : List (List Kind)) (us ws : List Word) → remaining rows (us ++ ws) ≡ remaining (remaining rows us) ws
-remaining-more rows [] ws = refl
-remaining-more rows (u ∷ us) ws = remaining-more (flat_map (after_word u) rows) us ws
 
 remaining-words : (rows : List (List Kind)) (a b : List Placed) (next : List (List Kind)) → remaining rows (words a) ≡ next → remaining rows (words (a ++ b)) ≡ remaining next (words b)
 remaining-words rows a b next e = ap (remaining rows) (words-append a b) ∙ remaining-more rows (words a) (words b) ∙ ap (λ r. remaining r (words b)) e
@@ -177,45 +170,13 @@ one_refused k ks size r a h = head_refused k ks [] size r a (λ p rest e b. tt) 
 
 -- ---- lists
 
-ids_stay : (ns : List ℕ) (ks : List Kind) → AllByRecursion IsProper (map id ns) → remaining ((some_ids ∷ ks) ∷ []) (flat_map spelled (map id ns)) ≡ (some_ids ∷ ks) ∷ []
-ids_stay [] ks h = refl
-ids_stay (zero ∷ ns) ks h = let k : 0 < 0 = h.0 in absurd (omega arith)
-ids_stay (suc n ∷ ns) ks h = ids_stay ns ks h.1
-
-integers_stay : (zs : List ℤ) (ks : List Kind) → AllByRecursion IsProper (map integer zs) → remaining ((some_integers ∷ ks) ∷ []) (flat_map spelled (map integer zs)) ≡ (some_integers ∷ ks) ∷ []
-integers_stay [] ks h = refl
-integers_stay (pos zero ∷ zs) ks h = absurd (h.0 refl)
-integers_stay (pos (suc n) ∷ zs) ks h = integers_stay zs ks h.1
-integers_stay (negsuc n ∷ zs) ks h = integers_stay zs ks h.1
-
 pub ids_refused : (ns : List ℕ) (size : ℕ) (r : TextRefusal) (a b : List Placed) → Takes (map id ns) a b → HeadFails some_ids size r b → (ks : List Kind) → RefusedIn ((some_ids ∷ ks) ∷ []) size r a
-ids_refused ns size r a b t h ks = refused_then (map id ns) ((some_ids ∷ ks) ∷ []) ((some_ids ∷ ks) ∷ []) size r a b t (ids_stay ns ks t.proper) (one_refused some_ids ks size r b h)
+ids_refused ns size r a b t h ks = refused_then (map id ns) ((some_ids ∷ ks) ∷ []) ((some_ids ∷ ks) ∷ []) size r a b t (ap (remaining ((some_ids ∷ ks) ∷ [])) (spelled_ids ns) ∙ ids_stay ns ks (proper_ids ns t.proper)) (one_refused some_ids ks size r b h)
 
 pub integers_refused : (zs : List ℤ) (size : ℕ) (r : TextRefusal) (a b : List Placed) → Takes (map integer zs) a b → HeadFails some_integers size r b → (ks : List Kind) → RefusedIn ((some_integers ∷ ks) ∷ []) size r a
-integers_refused zs size r a b t h ks = refused_then (map integer zs) ((some_integers ∷ ks) ∷ []) ((some_integers ∷ ks) ∷ []) size r a b t (integers_stay zs ks t.proper) (one_refused some_integers ks size r b h)
+integers_refused zs size r a b t h ks = refused_then (map integer zs) ((some_integers ∷ ks) ∷ []) ((some_integers ∷ ks) ∷ []) size r a b t (ap (remaining ((some_integers ∷ ks) ∷ [])) (spelled_integers zs) ∙ integers_stay zs ks (proper_integers zs t.proper)) (one_refused some_integers ks size r b h)
 
 -- ---- fields in a row
-
-passed : (f : Field) (ks : List Kind) (ws : List Word) → IsProper f → remaining ((kind f ∷ ks) ∷ []) (spelled f ++ ws) ≡ remaining (ks ∷ []) ws
-passed (mark c) ks ws h = ap (λ b. remaining (behind (a_mark c) ks (Rattle.std.proofs.Common.cond b (closes (mark c)) refuses) ++ []) ws) (Rattle.std.proofs.Common.eq-eqb c c refl)
-passed (conflict_line k) ks ws h = refl
-passed (id zero) ks ws h = let k : 0 < 0 = h in absurd (omega arith)
-passed (id (suc n)) ks ws h = refl
-passed (integer (pos zero)) ks ws h = absurd (h refl)
-passed (integer (pos (suc n))) ks ws h = refl
-passed (integer (negsuc n)) ks ws h = refl
-passed end ks ws h = refl
-passed (ids []) ks ws h = refl
-passed (ids (zero ∷ ns)) ks ws h = let k : 0 < 0 = h.0 in absurd (omega arith)
-passed (ids (suc n ∷ ns)) ks ws h = passed (ids ns) ks ws h.1
-passed (integers []) ks ws h = refl
-passed (integers (pos zero ∷ zs)) ks ws h = absurd (h.0 refl)
-passed (integers (pos (suc n) ∷ zs)) ks ws h = passed (integers zs) ks ws h.1
-passed (integers (negsuc n ∷ zs)) ks ws h = passed (integers zs) ks ws h.1
-
-pub all_passed : (fs : List Field) (ks : List Kind) → AllByRecursion IsProper fs → remaining ((map kind fs ++ ks) ∷ []) (flat_map spelled fs) ≡ ks ∷ []
-all_passed [] ks h = refl
-all_passed (f ∷ fs) ks h = passed f (map kind fs ++ ks) (flat_map spelled fs) h.0 ∙ all_passed fs ks h.1
 
 -- behind fields that were taken, what is refused there is refused
 pub refused_after : (fs : List Field) (ks : List Kind) (size : ℕ) (r : TextRefusal) (a b : List Placed) → Takes fs a b → RefusedIn (ks ∷ []) size r b → RefusedIn ((map kind fs ++ ks) ∷ []) size r a

@@ -15,47 +15,21 @@ use Rattle.cx_semantics.specs.ProofText.{proof_steps, ProofReads}
 use Rattle.cx_semantics.specs.Printed.{printed_word, printed_proof, HasProofText}
 use Rattle.cx_semantics.proofs.Grammars.{proof_forms}
 use Rattle.cx_semantics.proofs.Readings.{one_reading}
-use Rattle.cx_semantics.proofs.Printing.{IsPiece, integer_piece, limit_small, NoFeed, no_feed_joined}
-use Rattle.cx_semantics.proofs.PrintingProofs.{printed_proof_reads}
+use Rattle.cx_semantics.proofs.Lines.{NoFeed}
+use Rattle.cx_semantics.proofs.SpokenWords.{spoken_proof_step}
+use Rattle.cx_semantics.proofs.PrintedWords.{joined, no_feed_joined, plain_pieces, plain_all}
+use Rattle.cx_semantics.proofs.PrintedProofs.{printed_proof_reads}
 use Rattle.proof_text.specs.Told.{whole_lines, begun_line, steps_read, told_steps, steps_told, is_none, is_whole, step_line}
 use Rattle.proof_text.specs.Sinks.{with_next}
 use Rattle.proof_text.proofs.Puts.{Fails}
 
 -- ---- a printed step has one line feed, at its end
 
-abbrev IsSpoken : Word → Type 0
-IsSpoken (number z) = Unit {0}
-IsSpoken (letter c) = is_blank c ≡ false
-IsSpoken (conflict k) = ⊥
-IsSpoken other = ⊥
-
-spoken_then : (zs : List ℤ) (ws : List Word) → AllByRecursion IsSpoken ws → AllByRecursion IsSpoken (spelled_list zs ++ ws)
-spoken_then [] ws h = (tt, h)
-spoken_then (z ∷ zs) ws h = (tt, spoken_then zs ws h)
-
-spoken_step : (s : ProofStep) → AllByRecursion IsSpoken (spelling proof_steps s)
-spoken_step (proof.Clause n lits hints) = (tt, spoken_then lits _ (spoken_then hints [] tt))
-spoken_step (proof.DeleteClauses n names) = (tt, (refl, spoken_then (map pos names) [] tt))
-spoken_step (proof.Parity n lits hints) = (refl, (tt, spoken_then lits _ (spoken_then hints [] tt)))
-spoken_step (proof.DeleteParities names) = (refl, (refl, spoken_then (map pos names) [] tt))
-spoken_step (proof.ClauseOfParity n lits hint) = (refl, (tt, spoken_then lits _ (tt, (tt, tt))))
-spoken_step (proof.ParityOfClauses n lits hints) = (refl, (refl, (tt, spoken_then lits _ (spoken_then hints [] tt))))
-
-piece_of : (w : Word) → IsSpoken w → IsWithin 9223372036854775807 w → IsPiece (printed_word w)
-piece_of (number z) h k = integer_piece z (lt_of_le_of_lt k limit_small)
-piece_of (letter c) h k = record { first = c; rest = []; is = refl; no_blank = (h, tt) }
-piece_of (conflict c) h k = absurd h
-piece_of other h k = absurd h
-
-pieces_of : (ws : List Word) → AllByRecursion IsSpoken ws → AllByRecursion (IsWithin 9223372036854775807) ws → AllByRecursion IsPiece (map printed_word ws)
-pieces_of [] h k = tt
-pieces_of (w ∷ ws) h k = (piece_of w h.0 k.0, pieces_of ws h.1 k.1)
-
 abbrev words_text : ProofStep → Bytes
-words_text s = join_with_byte 32 (map printed_word (spelling proof_steps s))
+words_text s = joined (spelling proof_steps s)
 
 no_feed_step : (s : ProofStep) → HasProofText s → NoFeed (words_text s)
-no_feed_step s h = no_feed_joined (map printed_word (spelling proof_steps s)) (pieces_of (spelling proof_steps s) (spoken_step s) h.1)
+no_feed_step s h = no_feed_joined (map printed_word (spelling proof_steps s)) (plain_pieces _ (plain_all (spelling proof_steps s) (spoken_proof_step s) h.1))
 
 no_feed_front : (k : ℕ) (l : Bytes) → NoFeed l → NoFeed (take k l)
 no_feed_front zero l h = tt

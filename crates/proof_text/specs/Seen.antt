@@ -1,5 +1,5 @@
 -- What a reader sees of a word.
-use Rattle.std.specs.Prelude.{◌≡◌, ◌<◌, ◌≤◌, ℕ, zero, suc, ℤ, pos, negsuc, neg_ℤ, Bool, cond, nat_le, if◌then◌else◌}
+use Rattle.std.specs.Prelude.{ℕ, zero, suc, ℤ, pos, negsuc, nat_le, if◌then◌else◌}
 use Rattle.cx_semantics.specs.Words.{Word, number, letter, conflict, other}
 use Rattle.proof_text.specs.declared.token_word.TokenWord.{TokenWord}
 use Rattle.proof_text.specs.declared.token_word.TokenWord.TheVariants.{Zero, Positive, Negative, BigPositive, BigNegative, Letter, Other}
@@ -7,13 +7,6 @@ use Rattle.proof_text.specs.declared.token_word.TokenWord.TheVariants.{Zero, Pos
 -- the greatest magnitude of a number
 abbrev pub limit : ℕ
 limit = 9223372036854775807
-
--- the number, or above the limit some number above it
-abbrev pub Stands : ℕ → ℕ → Type 0
-Stands m n = (m ≤ limit → m ≡ n) × (limit < m → limit < n)
-
-abbrev pub signed : Bool → ℕ → ℤ
-signed negative n = cond negative (neg_ℤ (pos n)) (pos n)
 
 abbrev pub seen_number : ℤ → TokenWord
 seen_number (pos zero) = Zero

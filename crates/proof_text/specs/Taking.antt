@@ -4,10 +4,10 @@ use Rattle.std.specs.List.{AllByRecursion}
 use Rattle.cx_semantics.specs.declared.steps.ProofStep.{ProofStep}
 use Rattle.cx_semantics.specs.Words.{Placed, words, IsWithin}
 use Rattle.cx_semantics.specs.Grammar.{Field, end, spelled, IsProper}
-use Rattle.cx_semantics.specs.ProofText.{proof_steps, proof_fields}
+use Rattle.cx_semantics.specs.ProofText.{proof_fields}
 use Rattle.cx_semantics.proofs.Shapes.{Kind, Move, closes, stays, refuses, move}
-use Rattle.cx_semantics.proofs.Remaining.{after_word, remaining, rows_of}
-use Rattle.cx_semantics.proofs.Grammars.{proof_forms}
+use Rattle.cx_semantics.proofs.Remaining.{after_word, remaining}
+use Rattle.cx_semantics.proofs.ProofSteps.{proof_rows}
 use Rattle.proof_text.specs.declared.source.TextRefusal.{TextRefusal}
 use Rattle.proof_text.specs.declared.source.TextRefusal.TheVariants.{BadToken, Unterminated, TooBig, TooLong, Memory, Failed}
 use Rattle.proof_text.specs.Seen.{limit}
@@ -91,9 +91,5 @@ abbrev pub TakesAll : {T : Type 0} → (T → List Field) → List Kind → ℕ 
 TakesAll fields kinds size old result new =
     MatchResult result (λ v. Takes (fields v) old new) (λ r. (ks : List Kind) → RefusedIn ((kinds ++ ks) ∷ []) size r old)
 
--- the lists of kinds that a step may be
-abbrev pub step_rows : List (List Kind)
-step_rows = rows_of proof_steps proof_forms.forms
-
 abbrev pub TakesStep : ℕ → List Placed → Result ProofStep TextRefusal → List Placed → Type 0
-TakesStep size old result new = MatchResult result (λ s. Takes (proof_fields s) old new) (λ r. RefusedIn step_rows size r old)
+TakesStep size old result new = MatchResult result (λ s. Takes (proof_fields s) old new) (λ r. RefusedIn proof_rows size r old)

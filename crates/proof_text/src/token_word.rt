@@ -1,7 +1,10 @@
 //! What a token says to a reader of steps.
-ghost use Rattle.std.specs.Prelude.{◌≡◌, ◌+◌, ◌*◌, ◌<◌, ℕ, MatchOption};
-ghost use Rattle.cx_semantics.specs.Words.{natural, letter_or_other, word_of};
-ghost use Rattle.proof_text.specs.Seen.{Stands, seen, seen_number, signed};
+ghost use Rattle.std.specs.Prelude.{◌≡◌, ◌-◌, ◌^◌, ℕ, min};
+ghost use Rattle.cx_semantics.specs.Integers.{signed};
+ghost use Rattle.cx_semantics.specs.Words.{letter_or_other, word_of};
+ghost use Rattle.proof_text.specs.Seen.{seen, seen_number};
+
+use cx_semantics::{has_minus, read_natural};
 
 /// A token's word. A number whose magnitude is above the limit is seen by its sign alone.
 #[derive(Clone, Copy, Debug, PartialEq, Eq, Drop)]
@@ -18,42 +21,9 @@ pub enum TokenWord {
 /// The greatest magnitude of a number.
 const LIMIT: u64 = 9_223_372_036_854_775_807;
 
-/// The most that one more digit may follow.
-const TENTH: u64 = 922_337_203_685_477_580;
-
-/// One more digit behind a magnitude; one above the limit stays above it.
-fn push_digit(value: u64, digit: u64) -> u64
-    requires { digit < 10 }
-    ensures { (n : ℕ) → Stands value n → Stands result (n * 10 + digit) }
-{
-    if value > TENTH {
-        u64::MAX
-    } else {
-        value * 10 + digit
-    }
-}
-
-/// The number that the digits write; in place of one above the limit some number above it.
-fn magnitude(digits: &[u8]) -> Option<u64>
-    ensures { MatchOption result (natural digits.now ≡ None) (λ m. (n : ℕ) × (natural digits.now ≡ Some n) × Stands m n) }
-{
-    if digits.is_empty() {
-        return None;
-    }
-    let mut value = 0;
-    for digit in digits {
-        let byte = *digit;
-        if byte < b'0' || byte > b'9' {
-            return None;
-        }
-        value = push_digit(value, (byte - b'0') as u64);
-    }
-    Some(value)
-}
-
-/// The word of a number by its sign and magnitude.
+/// The word of a number by its sign and magnitude, as far as 64 bits hold it.
 fn number_word(negative: bool, magnitude: u64) -> TokenWord
-    ensures { (n : ℕ) → Stands magnitude n → result ≡ seen_number (signed negative n) }
+    ensures { (n : ℕ) → magnitude ≡ min n (2 ^ 64 - 1) → result ≡ seen_number (signed negative n) }
 {
     if magnitude == 0 {
         TokenWord::Zero
@@ -85,14 +55,14 @@ fn no_number(text: &[u8]) -> TokenWord
 pub fn see(text: &[u8]) -> TokenWord
     ensures { result ≡ seen (word_of text.now) }
 {
-    if text.is_empty() || text[0] != b'-' {
-        match magnitude(text) {
-            Some(size) => number_word(false, size),
+    if has_minus(text) {
+        match read_natural(&text[1..]) {
+            Some(magnitude) => number_word(true, magnitude),
             None => no_number(text),
         }
     } else {
-        match magnitude(&text[1..]) {
-            Some(size) => number_word(true, size),
+        match read_natural(text) {
+            Some(magnitude) => number_word(false, magnitude),
             None => no_number(text),
         }
     }

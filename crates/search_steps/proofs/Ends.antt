@@ -17,7 +17,7 @@ use Rattle.cx_semantics.specs.Marked.{Marked, StepFits, IsLearned, IsKnown, firs
 use Rattle.cx_semantics.specs.ProofRules.{all_met}
 use Rattle.cx_semantics.specs.Tables.{get, named}
 use Rattle.cx_semantics.proofs.ChainLaws.{and_parts}
-use Rattle.cx_semantics.proofs.MoreLaws.{events_go_on}
+use Rattle.cx_semantics.proofs.MarkedLaws.{events_go_on}
 use Rattle.cx_semantics.proofs.Soundness.{right_steps_are_unmet}
 use Rattle.search_steps.specs.Search.{Search, IsSearch}
 use Rattle.search_steps.specs.LogSteps.{IsAddition, IsEnded, IsClauseOfRow}

@@ -24,7 +24,7 @@ use Rattle.cx_semantics.specs.Tables.{Table, get, is_live, named}
 use Rattle.cx_semantics.proofs.ChainLaws.{and_parts, and_both, are_one}
 use Rattle.cx_semantics.proofs.Closure.{chain_or_closed, has_by_inside}
 use Rattle.cx_semantics.proofs.JudgingLaws.{runs_push}
-use Rattle.cx_semantics.proofs.MoreLaws.{events_go_on}
+use Rattle.cx_semantics.proofs.MarkedLaws.{events_go_on}
 use Rattle.search_steps.specs.Trail.{Entry, Why, by_clause, held, all_held, IsTrail, Forces, level_of}
 use Rattle.search_steps.specs.Quiet.{IsOfParities}
 use Rattle.search_steps.specs.Search.{Search, IsLog, Serves, IsSearch, told, marked, IsServed, IsLearnedOf, IsReached}

@@ -21,7 +21,7 @@ use Rattle.cx_semantics.proofs.ChainLaws.{and_both}
 use Rattle.cx_semantics.proofs.Closure.{inside_itself, or_right}
 use Rattle.cx_semantics.proofs.JudgingLaws.{runs_push}
 use Rattle.cx_semantics.proofs.Lookups.{Looks-insert, Looks-empty}
-use Rattle.cx_semantics.proofs.MoreLaws.{events_go_on}
+use Rattle.cx_semantics.proofs.MarkedLaws.{events_go_on}
 use Rattle.search_steps.specs.Search.{Search, IsSearch, told}
 use Rattle.search_steps.specs.Start.{start, HasFirst, IsBegun}
 use Rattle.search_steps.proofs.Sets.{by_cases}

@@ -13,7 +13,7 @@ use Rattle.cx_semantics.specs.Tables.{Tables, first_tables}
 use Rattle.cx_semantics.specs.LogText.{LogReads}
 use Rattle.cx_semantics.specs.Printed.{HasProofText, printed_proof}
 use Rattle.cx_semantics.specs.ProofRules.{proof_calculus, after_step, adds_empty_clause}
-use Rattle.cx_semantics.proofs.PrintingProofs.{printed_proof_reads}
+use Rattle.cx_semantics.proofs.PrintedProofs.{printed_proof_reads}
 use Rattle.cx_desk.specs.declared.desk.Port.TheVariants as port
 use Rattle.cx_desk.specs.Outside.{Bytes, Told, Outside}
 use Rattle.cx_desk.specs.Calls.{gained, WriteFaulted}

@@ -13,7 +13,7 @@ use Rattle.cx_semantics.specs.Printed.{HasText, printed_log}
 use Rattle.cx_semantics.specs.Settled.{Settled}
 use Rattle.cx_semantics.specs.Tables.{no_tables}
 use Rattle.cx_semantics.proofs.EventSteps.{events_give_steps}
-use Rattle.cx_semantics.proofs.Printing.{printed_log_reads}
+use Rattle.cx_semantics.proofs.PrintedLogs.{printed_log_reads}
 use Rattle.search_steps.specs.LogSteps.{IsEnded}
 use Rattle.cx_desk.specs.Outside.{Bytes}
 use Rattle.solve_cli.specs.Logs.{HasFewMarks, IsRefutation, IsLogSoFar}

@@ -10,7 +10,7 @@ use Rattle.cx_semantics.specs.Forced.{Consistent}
 use Rattle.cx_semantics.specs.FormulaText.{Reads}
 use Rattle.cx_semantics.specs.Settled.{Settled}
 use Rattle.cx_semantics.specs.declared.offence.Offence.TheVariants as offence
-use Rattle.cx_semantics.proofs.MoreLaws.{unsolvable_is_settled}
+use Rattle.cx_semantics.proofs.SettledLaws.{unsolvable_is_settled}
 use Rattle.cx_semantics.proofs.TextLaws.{one_formula_reading}
 use Rattle.cx_desk.specs.declared.desk.Slot.TheVariants as slot
 use Rattle.cx_desk.specs.declared.desk.Port.TheVariants as port

@@ -9,8 +9,8 @@ ghost use Rattle.xlrup_check.specs.Verdicts.{TakesStep};
 use cx_base::{IdList, IntList};
 use cx_semantics::ProofStep;
 use proof_rules::{
-    JudgeRefusal, Live, judge_added, judge_chain, judge_clause_of_parity, judge_parity_of_clauses,
-    judge_sum, literals_of,
+    JudgeRefusal, Live, admit, judge_chain, judge_clause_of_parity, judge_parity_of_clauses,
+    judge_sum,
 };
 use std::alloc::Global;
 
@@ -26,11 +26,10 @@ fn take_clause(
     requires few { vars ≤ MAX_VARIABLE }
     ensures { (formula : Problem) → formula.variables ≡ vars → TakesStep formula live.old (step.Clause id lits.now hints.now) result live.new }
 {
-    match judge_added(vars, lits, live.has_clause(id)) {
-        Ok(()) => {}
+    let target = match admit(alloc, vars, lits, live.has_clause(id)) {
+        Ok(target) => target,
         Err(why) => return Err(why),
-    }
-    let target = literals_of(alloc, vars, lits)?;
+    };
     match judge_chain(alloc, live, &target, hints.as_slice()) {
         Ok(()) => {}
         Err(why) => return Err(why),
@@ -51,11 +50,10 @@ fn take_parity(
     requires few { vars ≤ MAX_VARIABLE }
     ensures { (formula : Problem) → formula.variables ≡ vars → TakesStep formula live.old (step.Parity id lits.now hints.now) result live.new }
 {
-    match judge_added(vars, lits, live.has_parity(id)) {
-        Ok(()) => {}
+    let target = match admit(alloc, vars, lits, live.has_parity(id)) {
+        Ok(target) => target,
         Err(why) => return Err(why),
-    }
-    let target = literals_of(alloc, vars, lits)?;
+    };
     match judge_sum(alloc, live, &target, hints.as_slice()) {
         Ok(()) => {}
         Err(why) => return Err(why),
@@ -76,11 +74,10 @@ fn take_clause_of_parity(
     requires few { vars ≤ MAX_VARIABLE }
     ensures { (formula : Problem) → formula.variables ≡ vars → TakesStep formula live.old (step.ClauseOfParity id lits.now hint.now) result live.new }
 {
-    match judge_added(vars, lits, live.has_clause(id)) {
-        Ok(()) => {}
+    let target = match admit(alloc, vars, lits, live.has_clause(id)) {
+        Ok(target) => target,
         Err(why) => return Err(why),
-    }
-    let target = literals_of(alloc, vars, lits)?;
+    };
     match judge_clause_of_parity(alloc, live, &target, *hint) {
         Ok(()) => {}
         Err(why) => return Err(why),
@@ -101,11 +98,10 @@ fn take_parity_of_clauses(
     requires few { vars ≤ MAX_VARIABLE }
     ensures { (formula : Problem) → formula.variables ≡ vars → TakesStep formula live.old (step.ParityOfClauses id lits.now hints.now) result live.new }
 {
-    match judge_added(vars, lits, live.has_parity(id)) {
-        Ok(()) => {}
+    let target = match admit(alloc, vars, lits, live.has_parity(id)) {
+        Ok(target) => target,
         Err(why) => return Err(why),
-    }
-    let target = literals_of(alloc, vars, lits)?;
+    };
     match judge_parity_of_clauses(alloc, live, &target, hints.as_slice()) {
         Ok(()) => {}
         Err(why) => return Err(why),
