@@ -6,9 +6,9 @@ use Rattle.cx_trail.specs.Sequence.{TrailState, IsTrueIn, IsFalseIn}
 use Rattle.clause_arena.specs.Clauses.{ArenaState, literals_at}
 use Rattle.watch_lists.specs.Truths.{IsFalsified}
 use Rattle.watch_lists.specs.Watching.{clause_of, held_at, partner, IsAttached, AreNodes, AreGuarded, IsBehind, Propagates}
-use Rattle.watch_lists.specs.NodeChains.{list_at}
-use Rattle.watch_lists.specs.declared.turn.Turn.{Turn}
-use Rattle.watch_lists.specs.declared.turn.Turn.TheVariants.{Ended, Passed, Stopped}
+use Rattle.watch_lists.specs.Lists.{list_at}
+use Rattle.watch_lists.specs.declared.walk.Turn.{Turn}
+use Rattle.watch_lists.specs.declared.walk.Turn.TheVariants.{Ended, Passed, Stopped}
 
 -- list n has the nodes that watch the literal of code n, and list 0 those that wait for a visit: each node of an attached clause is in its literal's list or waits
 pub record AreListed (held : List Literal) (attached : List Bool) (lists : List (List ℕ)) : Type 0 where

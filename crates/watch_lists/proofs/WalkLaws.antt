@@ -1,37 +1,19 @@
--- One turn of a walk.
-use Rattle.std.proofs.Common.{◌≡◌, ◌≢◌, ℕ, zero, suc, ◌<◌, ◌+◌, ◌*◌, ◌≤◌, Bool, true, false, List, [], ◌∷◌, length, sym, ap, ◌∙◌, subst, refl, inl, inr, ◌⊎◌, ⊎_elim, arith, cond}
+-- A walk over the list of one false literal, turn by turn.
+use Rattle.std.proofs.Common.{◌≡◌, ◌≢◌, ℕ, ◌≤◌, Bool, List, [], ◌∷◌, length, sym, ap, ◌∙◌, subst, refl, inl, inr, ◌⊎◌, ⊎_elim, arith}
 use Rattle.std.specs.List.{Contains}
 use Rattle.std.proofs.lemmas.Bool.{cases_eq}
 use Rattle.std.proofs.lemmas.List.{length-append}
-use Rattle.cx_base.specs.Codes.{literal_of_code-code_of}
-use Rattle.cx_base.specs.Literals.{literal_of_code, code_of, Literal, negate}
+use Rattle.cx_base.specs.Literals.{code_of, Literal, negate}
+use Rattle.cx_base.proofs.LiteralLaws.{same_code, code_above}
 use Rattle.cx_trail.specs.declared.entry.Entry.{Entry}
 use Rattle.cx_trail.specs.Sequence.{TrailState, IsTrueIn, IsFalseIn, entry_at}
+use Rattle.cx_trail.proofs.ValueLaws.{true_kept, entry_kept}
 use Rattle.clause_arena.specs.Clauses.{ArenaState}
 use Rattle.watch_lists.specs.Watching.{clause_of, partner, held_at, IsAttached, AreNodes, IsBehind, Propagates}
-use Rattle.watch_lists.specs.NodeChains.{list_at, IsFirst, IsMoved, IsTaken, IsDrained, IsPouring}
-use Rattle.watch_lists.specs.Turns.{AreListed, IsWalk, IsRest, Goes, AllPassed}
-use Rattle.watch_lists.proofs.NodeLaws.{true_kept, entry_kept, propagates_both, propagates_none}
-
-pub in_head : (n : ℕ) (rest : List ℕ) → Contains (n ∷ rest) n
-in_head n rest = (0, omega arith, refl)
-
-pub in_tail : (n x : ℕ) (rest : List ℕ) → Contains rest x → Contains (n ∷ rest) x
-in_tail n x rest (k, h, e) = (suc k, omega arith, e)
-
-pub in_cases : (n x : ℕ) (rest : List ℕ) → Contains (n ∷ rest) x → (n ≡ x) ⊎ Contains rest x
-in_cases n x rest (zero, h, e) = inl e
-in_cases n x rest (suc k, h, e) = inr (k, omega arith, e)
-
-pub code_injective : (l m : Literal) → code_of l ≡ code_of m → l ≡ m
-code_injective l m e = sym (literal_of_code-code_of l) ∙ ap literal_of_code e ∙ literal_of_code-code_of m
-
-cond_range : (v n : ℕ) (b : Bool) → 1 ≤ v → v ≤ n → (2 ≤ 2 * v + cond {A = ℕ} b 1 0) × (2 * v + cond {A = ℕ} b 1 0 < 2 * n + 2)
-cond_range v n true p q = (omega arith, omega arith)
-cond_range v n false p q = (omega arith, omega arith)
-
-pub code_range : (l : Literal) (n : ℕ) → 1 ≤ l.variable → l.variable ≤ n → (2 ≤ code_of l) × (code_of l < 2 * n + 2)
-code_range l n p q = cond_range l.variable n l.negative p q
+use Rattle.watch_lists.specs.Lists.{list_at, IsFirst, IsMoved, IsTaken, IsDrained}
+use Rattle.watch_lists.specs.Walking.{AreListed, IsWalk, IsRest, Goes, AllPassed}
+use Rattle.watch_lists.proofs.MemberLaws.{in_head, in_tail, in_cases, none_in}
+use Rattle.watch_lists.proofs.NodeLaws.{propagates_both, propagates_none}
 
 pub moved_listed : (held new_held : List Literal) (attached : List Bool) (old new : List (List ℕ)) (node to : ℕ) → IsFirst old 0 node → IsMoved 0 to old new → to ≢ 0 → ((n : ℕ) → n ≢ node → held_at new_held n ≡ held_at held n) → code_of (held_at new_held node) ≡ to → IsAttached attached (clause_of node) → AreListed held attached old → AreListed new_held attached new
 moved_listed held new_held attached old new node to f m nz same code_is at k =
@@ -48,11 +30,11 @@ moved_listed held new_held attached old new node to f m nz same code_is at k =
       covered = λ n atn. ⊎_elim
           (λ (e : n ≡ node). inl (subst (λ x. Contains (list_at new (code_of (held_at new_held x))) x) (sym e) (subst (λ x. Contains (list_at new x) node) (sym code_is) (subst (λ (xs : List ℕ). Contains xs node) (sym gained) (in_head node (list_at old to))))))
           (λ (ne : n ≢ node).
-          let same_code : code_of (held_at held n) ≡ code_of (held_at new_held n) = ap code_of (sym (same n ne)) in
+          let code_kept : code_of (held_at held n) ≡ code_of (held_at new_held n) = ap code_of (sym (same n ne)) in
           ⊎_elim
           (λ (h : Contains (list_at old (code_of (held_at held n))) n). ⊎_elim
           (λ (z : code_of (held_at held n) ≡ 0). inr (waits n ne (subst (λ x. Contains (list_at old x) n) z h)))
-          (λ (z : code_of (held_at held n) ≢ 0). inl (subst (λ x. Contains (list_at new x) n) same_code (⊎_elim
+          (λ (z : code_of (held_at held n) ≢ 0). inl (subst (λ x. Contains (list_at new x) n) code_kept (⊎_elim
           (λ (e : code_of (held_at held n) ≡ to). subst (λ x. Contains (list_at new x) n) (sym e) (subst (λ (xs : List ℕ). Contains xs n) (sym gained) (in_tail node n (list_at old to) (subst (λ x. Contains (list_at old x) n) e h))))
           (λ (nt : code_of (held_at held n) ≢ to). subst (λ (xs : List ℕ). Contains xs n) (sym (m.others (code_of (held_at held n)) z nt)) h) (cases_eq (code_of (held_at held n)) to)))) (cases_eq (code_of (held_at held n)) 0))
           (λ (h : Contains (list_at old 0) n). inr (waits n ne h)) (k.covered n atn)) (cases_eq n node);
@@ -121,12 +103,9 @@ goes_both h1 h2 h3 attached a s t u p q = record {
 pub first_in : (old : List (List ℕ)) (l node : ℕ) → IsFirst old l node → Contains (list_at old l) node
 first_in old l node f = subst (λ (xs : List ℕ). Contains xs node) (sym f.was) (in_head node f.rest)
 
-pub none_in : (xs : List ℕ) (n : ℕ) → xs ≡ [] → Contains xs n → ⊥
-none_in xs n e (k, h, q) = omega (arith, ap length e)
-
 pub walk_begins : (vars : ℕ) (held : List Literal) (attached : List Bool) (old new : List (List ℕ)) (a : ArenaState) (t : TrailState) (l : Literal) → IsRest vars held attached old a → IsTaken (code_of l) old new → t.variables ≡ vars → IsFalseIn t.entries l → 1 ≤ l.variable → l.variable ≤ vars → IsWalk vars held attached new a t l
 walk_begins vars held attached old new a t l k m ev falsified low high =
-    let nz : code_of l ≢ 0 = λ e. omega (arith, (code_range l vars low high).0) in
+    let nz : code_of l ≢ 0 = λ e. omega (arith, code_above l low) in
     let here : (n : ℕ) → IsAttached attached (clause_of n) → Contains (list_at old (code_of (held_at held n))) n = λ n at. ⊎_elim (λ (h : Contains (list_at old (code_of (held_at held n))) n). h) (λ (h : Contains (list_at old 0) n). absurd (none_in (list_at old 0) n k.none h)) (k.listed.covered n at) in
     let not_none : (x n : ℕ) → Contains (list_at old x) n → x ≢ 0 = λ x n h e. none_in (list_at old 0) n k.none (subst (λ y. Contains (list_at old y) n) e h) in
     let from_new : (x n : ℕ) → x ≢ 0 → Contains (list_at new x) n → Contains (list_at old x) n = λ x n z h. ⊎_elim
@@ -145,7 +124,7 @@ walk_begins vars held attached old new a t l k m ev falsified low high =
         of_literal = λ x n z h. k.listed.of_literal x n z (from_new x n z h);
       };
       size = m.count ∙ k.size;
-      waiting = λ n h. code_injective (held_at held n) l (k.listed.of_literal (code_of l) n nz (subst (λ (xs : List ℕ). Contains xs n) m.taken h));
+      waiting = λ n h. same_code (held_at held n) l (k.listed.of_literal (code_of l) n nz (subst (λ (xs : List ℕ). Contains xs n) m.taken h));
       done = λ n at e. inl (subst (λ (xs : List ℕ). Contains xs n) (sym m.taken) (subst (λ (x : Literal). Contains (list_at old (code_of x)) n) e (here n at)));
       falsified = falsified;
       low = low;
@@ -160,7 +139,7 @@ walk_passed vars held attached lists a t l k e n at q = ⊎_elim (λ (h : Contai
 
 pub walk_stops : (vars : ℕ) (held : List Literal) (attached : List Bool) (old new : List (List ℕ)) (a : ArenaState) (t : TrailState) (l : Literal) → IsWalk vars held attached old a t l → IsDrained (code_of l) old new → IsRest vars held attached new a
 walk_stops vars held attached old new a t l k m =
-    let nz : code_of l ≢ 0 = λ e. omega (arith, (code_range l vars k.low k.high).0) in
+    let nz : code_of l ≢ 0 = λ e. omega (arith, code_above l k.low) in
     let gone : (n : ℕ) → Contains (list_at new 0) n → ⊥ = λ n h. none_in (list_at new 0) n m.emptied h in
     record {
       nodes = k.nodes;
@@ -186,6 +165,13 @@ walk_stops vars held attached old new a t l k m =
             (λ (ne : x ≢ code_of l). k.listed.of_literal x n z (subst (λ (xs : List ℕ). Contains xs n) (m.others x z ne) h)) (cases_eq x (code_of l));
       };
     }
+
+-- list 0 is being emptied into another one
+pub record IsPouring (to : ℕ) (old new : List (List ℕ)) : Type 0 where
+  pub gained : (n : ℕ) → Contains (list_at old to) n ⊎ Contains (list_at old 0) n → Contains (list_at new to) n ⊎ Contains (list_at new 0) n
+  pub came : (n : ℕ) → Contains (list_at new to) n ⊎ Contains (list_at new 0) n → Contains (list_at old to) n ⊎ Contains (list_at old 0) n
+  pub others : (l : ℕ) → l ≢ 0 → l ≢ to → list_at new l ≡ list_at old l
+  pub count : length new ≡ length old
 
 pub pouring_none : (to : ℕ) (old : List (List ℕ)) → IsPouring to old old
 pouring_none to old = record { gained = λ n h. h; came = λ n h. h; others = λ l a b. refl; count = refl }

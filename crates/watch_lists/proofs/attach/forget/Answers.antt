@@ -1,7 +1,7 @@
 use Rattle.std.proofs.Common.{ℕ, List, take, ap, ◌∙◌, subst, sym, arith}
 use Rattle.watch_lists.specs.Attaching.{IsForgotten}
 use Rattle.watch_lists.proofs.AttachLaws.{forgets_level}
-use Rattle.watch_lists.proofs.attach.forget_level.Goals as goal
+use Rattle.watch_lists.proofs.attach.forget.Goals as goal
 
 pub returns-else-level-eq0-clause-forgotten : goal.returns-else-level-eq0-clause-forgotten
 returns-else-level-eq0-clause-forgotten c =

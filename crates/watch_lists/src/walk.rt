@@ -2,8 +2,8 @@
 ghost use Rattle.std.specs.Prelude.{◌≡◌, ◌≢◌, ◌<◌, ◌≤◌, ◌+◌, ◌*◌, ℕ, [], List, length, MatchOption};
 ghost use Rattle.cx_trail.specs.Sequence.{IsFalseIn};
 ghost use Rattle.watch_lists.specs.Watching.{AreNodes};
-ghost use Rattle.watch_lists.specs.NodeChains.{list_at, IsDrained};
-ghost use Rattle.watch_lists.specs.Turns.{AreListed, IsWalk, IsRest, Goes, Turns, Walked};
+ghost use Rattle.watch_lists.specs.Lists.{list_at, IsDrained};
+ghost use Rattle.watch_lists.specs.Walking.{AreListed, IsWalk, IsRest, Goes, Turns, Walked};
 
 use crate::lists::NodeLists;
 use crate::nodes::{Nodes, Visit, visit_node};

@@ -1,7 +1,7 @@
 use Rattle.std.proofs.Common.{◌∙◌, subst, refl}
-use Rattle.watch_lists.specs.NodeChains.{IsTaken, IsDrained}
-use Rattle.watch_lists.proofs.TurnLaws.{walk_begins, goes_none, goes_next, walk_next, walk_passed, walk_stops}
-use Rattle.watch_lists.proofs.turn.walk_list.Goals as goal
+use Rattle.watch_lists.specs.Lists.{IsTaken, IsDrained}
+use Rattle.watch_lists.proofs.WalkLaws.{walk_begins, goes_none, goes_next, walk_next, walk_passed, walk_stops}
+use Rattle.watch_lists.proofs.walk.walk_list.Goals as goal
 
 pub walk-init : goal.walk-init
 walk-init c =
