@@ -5,7 +5,7 @@ ghost use Rattle.cx_base.specs.Literals.{Literal};
 ghost use Rattle.cx_semantics.specs.Chain.{has_literal};
 ghost use Rattle.cx_trail.specs.Sequence.{TrailState, IsFalseIn, IsFalseBefore, entry_at, pushed};
 ghost use Rattle.cx_trail.specs.declared.entry.Reason.TheVariants.{Decision, Clause};
-ghost use Rattle.clause_rows.specs.Conflicts.{IsConflict};
+ghost use Rattle.clause_tests.specs.Conflicts.{IsConflict};
 ghost use Rattle.clause_arena.specs.Clauses.{literals_at, IsLive};
 ghost use Rattle.watch_lists.specs.Watching.{Fits};
 ghost use Rattle.watch_lists.specs.Attaching.{CanBeWatched};

@@ -2,11 +2,10 @@
 use Rattle.std.proofs.Common.{◌≡◌, ◌≢◌, ℕ, zero, suc, ◌+◌, ◌<◌, subst, ⊎_elim, true, false, List, [], ◌∷◌, length, get_or, sym, ap, ◌∙◌, true≢false, inl, inr, arith}
 use Rattle.std.proofs.lemmas.Bool.{cases_eq}
 use Rattle.std.proofs.lemmas.List.{get_or_default}
-use Rattle.cx_base.specs.Codes.{literal_of_code-code_of}
-use Rattle.cx_base.specs.Literals.{Literal, same_literal, code_of, literal_of_code}
+use Rattle.cx_base.specs.Literals.{Literal, same_literal}
 use Rattle.cx_semantics.specs.Chain.{has_literal}
 use Rattle.cx_semantics.proofs.ChainLaws.{same_literal-itself}
-use Rattle.conflict_learn.proofs.ChainOfResolutions.{has_split}
+use Rattle.conflict_learn.proofs.MemberLaws.{has_split}
 
 pub place_of_member : (xs : List Literal) (m : Literal) → has_literal xs m ≡ true → (k : ℕ) × (k < length xs) × ((d : Literal) → get_or xs k d ≡ m)
 place_of_member [] m h = absurd (true≢false (sym h))
@@ -17,9 +16,6 @@ place_of_member (x ∷ xs) m h = elim (has_split x xs m h) [
 
 pub not_same : (l m : Literal) → same_literal l m ≡ false → m ≢ l
 not_same l m h e = true≢false (sym (ap (same_literal l) e ∙ same_literal-itself l) ∙ h)
-
-pub same_code : (l m : Literal) → code_of l ≡ code_of m → l ≡ m
-same_code l m e = sym (literal_of_code-code_of l) ∙ ap literal_of_code e ∙ literal_of_code-code_of m
 
 -- what holds of the elements below a place, and of the one there
 pub one_more : (P : Literal → Type 0) (lits : List Literal) (i : ℕ) (x : Literal) → x ≡ get_or lits i x → i < length lits → P x → ((k : ℕ) (d : Literal) → k < i → P (get_or lits k d)) → (k : ℕ) (d : Literal) → k < i + 1 → P (get_or lits k d)

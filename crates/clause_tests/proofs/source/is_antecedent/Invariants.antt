@@ -2,7 +2,7 @@ use Rattle.std.proofs.Common.{◌≡◌, ◌≢◌, ℕ, ◌<◌, true, get_or}
 use Rattle.cx_base.specs.Literals.{Literal}
 use Rattle.cx_semantics.specs.Chain.{has_literal}
 use Rattle.cx_trail.specs.Sequence.{IsFalseBefore}
-use Rattle.clause_rows.proofs.source.is_antecedent.Given as goal
+use Rattle.clause_tests.proofs.source.is_antecedent.Given as goal
 
 abbrev pub invariant-loop-lit : goal.invariant-loop-lit
 invariant-loop-lit l = record {

@@ -1,10 +1,11 @@
-use Rattle.std.proofs.Common.{◌≡◌, sym, ap, ◌∙◌, subst, ◌+◌, ◌<◌, take, length, get_or, arith, if◌then◌else◌, ◌==◌}
+use Rattle.std.proofs.Common.{◌≡◌, sym, ap, ◌∙◌, subst, ◌+◌, ◌<◌, take, length, get_or, if◌then◌else◌, ◌==◌}
+use Rattle.std.proofs.lemmas.Bool.{eq-eqb, ne_eqb}
 use Rattle.cx_base.specs.Literals.{Literal}
 use Rattle.conflict_learn.specs.Learning.{level_at}
 use Rattle.conflict_learn.specs.Levels.{levels_at, second, distinct}
-use Rattle.conflict_learn.proofs.LevelLaws.{Seen, literal_of_place, one_level_more, all_seen, long_negated, is_eq_1, is_not_1}
-use Rattle.conflict_learn.proofs.learning.levels_of.Goals.{then-is_new, else-is_new, then-index-eq1, else-index-eq1}
-use Rattle.conflict_learn.proofs.learning.levels_of.Goals as goal
+use Rattle.conflict_learn.proofs.LevelLaws.{Seen, literal_of_place, one_level_more, all_seen}
+use Rattle.conflict_learn.proofs.levels.levels_of.Goals.{then-is_new, else-is_new, then-index-eq1, else-index-eq1}
+use Rattle.conflict_learn.proofs.levels.levels_of.Goals as goal
 
 pub place_of-requires : goal.place_of-requires
 place_of-requires c =
@@ -29,25 +30,17 @@ loop-literal-preserved c places a =
       | else-is_new w ↦ w.count-is ∙ sym (ap (λ b. if b then c.loop-literal.count + 1 else c.loop-literal.count) w.if-is_new.false)
     ] in
     let back : c.if-index-eq1.back_level ≡ (if c.loop-literal.index == 1 then level else c.loop-literal.back_level) = elim c.if-index-eq1.branch [
-      | then-index-eq1 w ↦ w.back_level-is ∙ sym (ap (λ b. if b then level else c.loop-literal.back_level) (is_eq_1 c.loop-literal.index w.if-index-eq1.true))
-      | else-index-eq1 w ↦ w.back_level-is ∙ sym (ap (λ b. if b then level else c.loop-literal.back_level) (is_not_1 c.loop-literal.index w.if-index-eq1.false))
+      | then-index-eq1 w ↦ w.back_level-is ∙ sym (ap (λ b. if b then level else c.loop-literal.back_level) (eq-eqb c.loop-literal.index 1 w.if-index-eq1.true))
+      | else-index-eq1 w ↦ w.back_level-is ∙ sym (ap (λ b. if b then level else c.loop-literal.back_level) (ne_eqb c.loop-literal.index 1 w.if-index-eq1.false))
     ] in
     subst (λ n. Seen (take (i + 1) (levels_at c.args.trail.now places)) c.if-index-eq1.back_level n level (c.loop-literal.index + 1)) (sym count)
     (subst (λ n. Seen (take (i + 1) (levels_at c.args.trail.now places)) n (if c.is_new.result then c.loop-literal.count + 1 else c.loop-literal.count) level (c.loop-literal.index + 1)) (sym back)
-    (one_level_more c.args.trail.now places i level c.loop-literal.back_level c.loop-literal.count c.loop-literal.last c.loop-literal.index a.sinking r.2 at (c.loop-literal.invariant places a) c.is_new.result c.is_new.ensures))
+    (one_level_more c.args.trail.now places i level c.loop-literal.back_level c.loop-literal.count c.loop-literal.last c.loop-literal.index a.never_rises r.2 at (c.loop-literal.invariant places a) c.is_new.result c.is_new.ensures))
 
 pub returns-clause-back : goal.returns-clause-back
 returns-clause-back c places a =
-    let long : length c.args.lits.now ≡ length places = ap length a.are ∙ long_negated c.args.trail.now places in
-    let low = c.loop-literal-test.false in
-    let high = c.loop-literal.auto.literal-index-end in
-    let all = all_seen c.args.trail.now places c.loop-literal.literal-index (omega (arith, low, high, long)) in
-    (c.loop-literal.invariant places a).back_is ∙ ap second all
+    (c.loop-literal.invariant places a).back_is ∙ ap second (all_seen c.args.trail.now c.args.lits.now places c.loop-literal.literal-index a c.loop-literal-test.false)
 
 pub returns-clause-count : goal.returns-clause-count
 returns-clause-count c places a =
-    let long : length c.args.lits.now ≡ length places = ap length a.are ∙ long_negated c.args.trail.now places in
-    let low = c.loop-literal-test.false in
-    let high = c.loop-literal.auto.literal-index-end in
-    let all = all_seen c.args.trail.now places c.loop-literal.literal-index (omega (arith, low, high, long)) in
-    (c.loop-literal.invariant places a).count_is ∙ ap (λ ks. length (distinct ks)) all
+    (c.loop-literal.invariant places a).count_is ∙ ap (λ ks. length (distinct ks)) (all_seen c.args.trail.now c.args.lits.now places c.loop-literal.literal-index a c.loop-literal-test.false)

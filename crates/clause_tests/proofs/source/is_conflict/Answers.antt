@@ -3,9 +3,9 @@ use Rattle.cx_base.specs.Literals.{Literal}
 use Rattle.cx_semantics.specs.Chain.{has_literal}
 use Rattle.cx_trail.specs.Sequence.{IsFalseBefore, entry_at}
 use Rattle.conflict_learn.proofs.TouchLaws.{has_by_index}
-use Rattle.clause_rows.proofs.Members.{place_of_member, one_more}
-use Rattle.clause_rows.proofs.source.is_conflict.Goals.{then-level_of-level+then-level-gt0, else-level_of-level}
-use Rattle.clause_rows.proofs.source.is_conflict.Goals as goal
+use Rattle.clause_tests.proofs.Members.{place_of_member, one_more}
+use Rattle.clause_tests.proofs.source.is_conflict.Goals.{then-level_of-level+then-level-gt0, else-level_of-level}
+use Rattle.clause_tests.proofs.source.is_conflict.Goals as goal
 
 pub loop-lit-preserved : goal.loop-lit-preserved
 loop-lit-preserved c =

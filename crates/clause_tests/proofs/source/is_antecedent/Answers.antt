@@ -1,11 +1,12 @@
 use Rattle.std.proofs.Common.{◌≡◌, ◌≢◌, ◌∙◌, get_or, sym, ap, subst, refl, eqb-true, arith}
 use Rattle.cx_base.specs.Literals.{Literal, code_of}
+use Rattle.cx_base.proofs.LiteralLaws.{same_code}
 use Rattle.cx_semantics.specs.Chain.{has_literal}
 use Rattle.cx_trail.specs.Sequence.{IsFalseBefore}
 use Rattle.conflict_learn.proofs.TouchLaws.{has_by_index}
-use Rattle.clause_rows.proofs.Members.{place_of_member, not_same, same_code, one_more}
-use Rattle.clause_rows.proofs.source.is_antecedent.Goals.{then-eq, else-eq+else-not-is_false_before}
-use Rattle.clause_rows.proofs.source.is_antecedent.Goals as goal
+use Rattle.clause_tests.proofs.Members.{place_of_member, not_same, one_more}
+use Rattle.clause_tests.proofs.source.is_antecedent.Goals.{then-eq, else-eq+else-not-is_false_before}
+use Rattle.clause_tests.proofs.source.is_antecedent.Goals as goal
 
 pub loop-lit-preserved : goal.loop-lit-preserved
 loop-lit-preserved c =

@@ -1,7 +1,7 @@
 use Rattle.std.proofs.Common.{◌≡◌, ◌∙◌, rules, List, refl, sym, ap, subst}
 use Rattle.cx_base.specs.Literals.{Literal}
 use Rattle.conflict_learn.specs.Learning.{Implied}
-use Rattle.clause_rows.proofs.source.CheckedSourceAntecedents.clause_of.Goals as goal
+use Rattle.clause_tests.proofs.source.CheckedSourceAntecedents.clause_of.Goals as goal
 
 pub returns-in_ok-to_vec-in-Clause-clause-implied : goal.returns-in_ok-to_vec-in-Clause-clause-implied
 returns-in_ok-to_vec-in-Clause-clause-implied c = λ p h e.

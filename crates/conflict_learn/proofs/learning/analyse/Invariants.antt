@@ -1,6 +1,7 @@
 use Rattle.std.proofs.Common.{◌≡◌, ◌≤◌}
-use Rattle.conflict_learn.specs.Learning.{AreHeld, Analysing, roof}
-use Rattle.conflict_learn.proofs.resolving.resolve.Given as goal
+use Rattle.conflict_learn.specs.Learning.{AreHeld}
+use Rattle.conflict_learn.proofs.Progress.{Analysing, roof}
+use Rattle.conflict_learn.proofs.learning.analyse.Given as goal
 
 abbrev pub invariant-loop-place : goal.invariant-loop-place
 invariant-loop-place g l = record {
