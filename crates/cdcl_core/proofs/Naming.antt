@@ -16,7 +16,7 @@ use Rattle.cx_trail.specs.declared.entry.Entry.{Entry as TrailEntry}
 use Rattle.cx_trail.specs.declared.entry.Reason.TheVariants as reason
 use Rattle.cx_trail.specs.Sequence.{TrailState, pushed, IsTrueIn, IsOpenIn, IsAssignedIn, IsTrail}
 use Rattle.cx_trail.proofs.CellLaws.{at_take}
-use Rattle.cx_trail.proofs.TruthLaws.{negate_negate}
+use Rattle.cx_base.proofs.LiteralLaws.{negate-negate}
 use Rattle.parity_engine.specs.declared.state.Held.{Held}
 use Rattle.parity_engine.specs.declared.state.Mood.{Mood}
 use Rattle.parity_engine.specs.declared.state.Mood.TheVariants.{Busy, Calm, Broken}
@@ -53,7 +53,7 @@ known_within n k (Some h ∷ values) low high = ((low, omega (arith, high)), kno
 has_negation : (lits : List Literal) (m : Literal) → has_literal (negations lits) m ≡ true → has_literal lits (negate m) ≡ true
 has_negation [] m h = h
 has_negation (x ∷ lits) m h = elim (has_split (negate x) (negations lits) m h) [
-  | inl is ↦ ap (has_literal (x ∷ lits)) (ap negate is ∙ negate_negate x) ∙ has_at_head x lits
+  | inl is ↦ ap (has_literal (x ∷ lits)) (ap negate is ∙ negate-negate x) ∙ has_at_head x lits
   | inr g ↦ has_behind x lits (negate m) (has_negation lits m g)
 ]
 

@@ -1,5 +1,5 @@
 -- What an analysis keeps, from the conflict to the learned clause.
-use Rattle.std.proofs.Common.{◌≡◌, ◌≢◌, refl, sym, ap, ◌∙◌, subst, ℕ, zero, suc, ◌+◌, ◌<◌, ◌≤◌, max, Bool, true, false, cond, not, ◌||◌, List, [], ◌∷◌, ◌++◌, map, length, reverse, Option, Some, Contains, ◌⊎◌, inl, inr, true≢false, nat_eq, nat_lt, nat_cmp, eqb-true, arith, Less, ◌-◌, Result, Ok, Err, IfErr, IsErrAnd}
+use Rattle.std.proofs.Common.{◌≡◌, ◌≢◌, refl, sym, ap, ◌∙◌, subst, ℕ, ◌<◌, ◌≤◌, Bool, true, false, cond, ◌||◌, List, [], ◌∷◌, ◌++◌, length, reverse, None, Some, ◌⊎◌, inl, inr, true≢false, nat_eq, nat_lt, nat_cmp, eqb-true, arith, Less, Result, Ok, Err, IfErr, IsErrAnd}
 use Rattle.std.specs.List.{AllByRecursion}
 use Rattle.std.specs.BTreeSet.{BTreeSet, contains, Updates, IsUpperBound}
 use Rattle.std.specs.Ordering.{is_lt}
@@ -7,52 +7,42 @@ use Rattle.conflict_learn.specs.declared.fault.CoreFault.{CoreFault}
 use Rattle.conflict_learn.specs.declared.fault.CoreFault.TheVariants.{Memory, Write}
 use Rattle.std.specs.Cmp.{nat_cmp_is}
 use Rattle.cx_trail.specs.declared.entry.Reason.TheVariants.{Decision}
-use Rattle.std.proofs.lemmas.List.{reverse-append}
+use Rattle.std.proofs.lemmas.Bool.{or_left, or_right, or_cases, ne_eqb, ltb-true, ltb-false, eq-eqb}
+use Rattle.std.proofs.lemmas.List.{reverse-append, map-append}
+use Rattle.std.proofs.lemmas.List.Folds.{list_any-append}
 use Rattle.std.specs.BTreeMap.{is_at}
 use Rattle.std.specs.Cmp.{unsigned_tied}
 use Rattle.cx_base.specs.Literals.{Literal, negate, same_literal}
 use Rattle.cx_semantics.specs.Chain.{has_literal}
 use Rattle.cx_semantics.proofs.ChainLaws.{same_literal-itself, negate-negate}
 use Rattle.cx_trail.specs.Sequence.{TrailState, entry_at, IsTrail}
-use Rattle.conflict_learn.specs.Resolving.{Resolves}
-use Rattle.conflict_learn.specs.Learning.{literal_at, negated_at, Follows, AreHeld, IsAntecedent, AreAntecedents, IsLearned, level_at, has_place, IsFalling, IsSeeking, HasFound, Analysing, roof}
+use Rattle.conflict_learn.proofs.Progress.{IsSeeking, HasFound, Analysing, roof}
+use Rattle.conflict_learn.specs.Learning.{literal_at, negated_at, Follows, AreHeld, IsAntecedent, AreAntecedents, IsLearned, level_at, has_place, IsFalling}
 use Rattle.conflict_learn.specs.Touching.{Touched}
-use Rattle.conflict_learn.proofs.ChainOfResolutions.{by_cases, has_at_head, has_behind, has_split, negated_in, negations_by, conflict_serves, resolved_serves}
+use Rattle.conflict_learn.proofs.MemberLaws.{has_at_head, has_behind, has_split, has_left, has_right, has_either}
+use Rattle.conflict_learn.proofs.ChainOfResolutions.{Resolves, by_cases, negated_in, negations_by, conflict_serves, resolved_serves}
 
 -- ---- places of a list
 pub place_here : (k : ℕ) (ks : List ℕ) → has_place (k ∷ ks) k ≡ true
-place_here k ks = ap (λ b. b || has_place ks k) (unsigned_tied k k ∙ Rattle.std.proofs.Common.eq-eqb k k refl)
+place_here k ks = ap (λ b. b || has_place ks k) (unsigned_tied k k ∙ eq-eqb k k refl)
 
 pub place_behind : (k : ℕ) (ks : List ℕ) (q : ℕ) → has_place ks q ≡ true → has_place (k ∷ ks) q ≡ true
-place_behind k ks q h = or_true (is_at (nat_cmp q) k) _ h
-  where
-    or_true : (a b : Bool) → b ≡ true → (a || b) ≡ true
-    or_true true b h = refl
-    or_true false b h = h
+place_behind k ks q h = or_right (is_at (nat_cmp q) k) (has_place ks q) h
 
 pub place_split : (k : ℕ) (ks : List ℕ) (q : ℕ) → has_place (k ∷ ks) q ≡ true → (q ≡ k) ⊎ (has_place ks q ≡ true)
-place_split k ks q h = elim (is_at (nat_cmp q) k) as (λ b. is_at (nat_cmp q) k ≡ b → (b || has_place ks q) ≡ true → (q ≡ k) ⊎ (has_place ks q ≡ true)) [
-  | true ↦ λ e _. inl (eqb-true q k (sym (unsigned_tied q k) ∙ e))
-  | false ↦ λ e g. inr g
-] refl h
+place_split k ks q h = elim (or_cases (is_at (nat_cmp q) k) (has_place ks q) h) [ inl e ↦ inl (eqb-true q k (sym (unsigned_tied q k) ∙ e)) | inr g ↦ inr g ]
 
 pub place_pushed : (ks : List ℕ) (p q : ℕ) → has_place (ks ++ p ∷ []) q ≡ true → (has_place ks q ≡ true) ⊎ (q ≡ p)
-place_pushed [] p q h = elim (place_split p [] q h) [ inl e ↦ inr e | inr g ↦ absurd (true≢false (sym g)) ]
-place_pushed (k ∷ ks) p q h = elim (place_split k (ks ++ p ∷ []) q h) [
-  | inl e ↦ inl (ap (has_place (k ∷ ks)) e ∙ place_here k ks)
-  | inr g ↦ elim (place_pushed ks p q g) [ inl r ↦ inl (place_behind k ks q r) | inr e ↦ inr e ]
+place_pushed ks p q h = elim (or_cases (has_place ks q) (has_place (p ∷ []) q) (sym (list_any-append (is_at (nat_cmp q)) ks (p ∷ [])) ∙ h)) [
+  | inl g ↦ inl g
+  | inr g ↦ elim (place_split p [] q g) [ inl e ↦ inr e | inr none ↦ absurd (true≢false (sym none)) ]
 ]
 
 pub place_kept : (ks : List ℕ) (p q : ℕ) → has_place ks q ≡ true → has_place (ks ++ p ∷ []) q ≡ true
-place_kept [] p q h = absurd (true≢false (sym h))
-place_kept (k ∷ ks) p q h = elim (place_split k ks q h) [
-  | inl e ↦ ap (has_place (k ∷ ks ++ p ∷ [])) e ∙ place_here k (ks ++ p ∷ [])
-  | inr g ↦ place_behind k (ks ++ p ∷ []) q (place_kept ks p q g)
-]
+place_kept ks p q h = list_any-append (is_at (nat_cmp q)) ks (p ∷ []) ∙ or_left (has_place ks q) (has_place (p ∷ []) q) h
 
 pub place_last : (ks : List ℕ) (p : ℕ) → has_place (ks ++ p ∷ []) p ≡ true
-place_last [] p = place_here p []
-place_last (k ∷ ks) p = place_behind k (ks ++ p ∷ []) p (place_last ks p)
+place_last ks p = list_any-append (is_at (nat_cmp p)) ks (p ∷ []) ∙ or_right (has_place ks p) (has_place (p ∷ []) p) (place_here p [])
 
 pub roof_above : (ks : List ℕ) (q : ℕ) → has_place ks q ≡ true → q < roof ks
 roof_above [] q h = absurd (true≢false (sym h))
@@ -84,27 +74,7 @@ module _ (trail : TrailState) where
   ]
 
   negated_push : (ps : List ℕ) (p : ℕ) → negated_at trail (ps ++ p ∷ []) ≡ negated_at trail ps ++ negate (literal_at trail p) ∷ []
-  negated_push [] p = refl
-  negated_push (k ∷ ps) p = ap (λ xs. negate (literal_at trail k) ∷ xs) (negated_push ps p)
-
--- ---- members of joined lists
-has_left : (xs ys : List Literal) (m : Literal) → has_literal xs m ≡ true → has_literal (xs ++ ys) m ≡ true
-has_left [] ys m h = absurd (true≢false (sym h))
-has_left (x ∷ xs) ys m h = elim (has_split x xs m h) [
-  | inl e ↦ ap (has_literal (x ∷ xs ++ ys)) e ∙ has_at_head x (xs ++ ys)
-  | inr g ↦ has_behind x (xs ++ ys) m (has_left xs ys m g)
-]
-
-has_right : (xs ys : List Literal) (m : Literal) → has_literal ys m ≡ true → has_literal (xs ++ ys) m ≡ true
-has_right [] ys m h = h
-has_right (x ∷ xs) ys m h = has_behind x (xs ++ ys) m (has_right xs ys m h)
-
-has_either : (xs ys : List Literal) (m : Literal) → has_literal (xs ++ ys) m ≡ true → (has_literal xs m ≡ true) ⊎ (has_literal ys m ≡ true)
-has_either [] ys m h = inr h
-has_either (x ∷ xs) ys m h = elim (has_split x (xs ++ ys) m h) [
-  | inl e ↦ inl (ap (has_literal (x ∷ xs)) e ∙ has_at_head x xs)
-  | inr g ↦ elim (has_either xs ys m g) [ inl r ↦ inl (has_behind x xs m r) | inr r ↦ inr r ]
-]
+  negated_push ps p = map-append (λ q. negate (literal_at trail q)) ps (p ∷ [])
 
 -- ---- what follows
 all_held : (trail : TrailState) (old new : List Literal → Type 0) → AreHeld old new → (ls : List Literal) (clauses : List (List Literal)) → AreAntecedents trail old ls clauses → AreAntecedents trail new ls clauses
@@ -126,25 +96,22 @@ follows_resolved trail conflict holds resolved old clause l new k implied r (cla
   resolved_serves old clause l new (clauses ++ conflict ∷ []) r s,
 )
 
--- ---- falling places
-all_push : (P : ℕ → Type 0) (ps : List ℕ) (q : ℕ) → AllByRecursion P ps → P q → AllByRecursion P (ps ++ q ∷ [])
-all_push P [] q a h = (h, tt)
-all_push P (p ∷ ps) q a h = (a.0, all_push P ps q a.1 h)
+-- ---- what holds of each number
+pub AllByRecursion-push : (P : ℕ → Type 0) (ps : List ℕ) (q : ℕ) → AllByRecursion P ps → P q → AllByRecursion P (ps ++ q ∷ [])
+AllByRecursion-push P [] q a h = (h, tt)
+AllByRecursion-push P (p ∷ ps) q a h = (a.0, AllByRecursion-push P ps q a.1 h)
+
+pub AllByRecursion-weaker : (P Q : ℕ → Type 0) → ((p : ℕ) → P p → Q p) → (ps : List ℕ) → AllByRecursion P ps → AllByRecursion Q ps
+AllByRecursion-weaker P Q f [] a = tt
+AllByRecursion-weaker P Q f (p ∷ ps) a = (f p a.0, AllByRecursion-weaker P Q f ps a.1)
 
 falling_push : (ps : List ℕ) (q : ℕ) → IsFalling ps → AllByRecursion (λ p. q < p) ps → IsFalling (ps ++ q ∷ [])
 falling_push [] q f a = (tt, tt)
-falling_push (p ∷ ps) q f a = (all_push (λ x. x < p) ps q f.0 a.0, falling_push ps q f.1 a.1)
-
-all_lower : (ps : List ℕ) (p q : ℕ) → q < p → AllByRecursion (λ x. p < x) ps → AllByRecursion (λ x. q < x) ps
-all_lower [] p q h a = tt
-all_lower (x ∷ ps) p q h a = (let b = a.0 in omega (arith, h, b), all_lower ps p q h a.1)
-
-not_zero : (n : ℕ) → nat_eq (suc n) 0 ≡ false
-not_zero n = by_cases (nat_eq (suc n) 0) (λ e. let z : suc n ≡ 0 = eqb-true (suc n) 0 e in absurd (omega (arith, z))) (λ e. e)
+falling_push (p ∷ ps) q f a = (AllByRecursion-push (λ x. x < p) ps q f.0 a.0, falling_push ps q f.1 a.1)
 
 -- ---- the analysis
 module _ (trail : TrailState) (conflict : List Literal) (levels : IsTrail trail) (above : 0 < trail.level) where
-  pub analysing_begins : (holds : List Literal → Type 0) (old new : BTreeSet ℕ) → ((q : ℕ) → contains nat_cmp old q ≡ false) → Touched trail Rattle.std.proofs.Common.None (length trail.entries) old new conflict
+  pub analysing_begins : (holds : List Literal → Type 0) (old new : BTreeSet ℕ) → ((q : ℕ) → contains nat_cmp old q ≡ false) → Touched trail None (length trail.entries) old new conflict
       → (m : Literal) → has_literal conflict m ≡ true → ((q : ℕ) → q < length trail.entries → literal_at trail q ≡ negate m → level_at trail q ≡ trail.level) → Analysing trail conflict holds [] [] new.keys
   analysing_begins holds old new empty t m in_it now = record {
     places = [];
@@ -175,7 +142,7 @@ module _ (trail : TrailState) (conflict : List Literal) (levels : IsTrail trail)
       places = a.places ++ p ∷ [];
       are = ap (λ xs. xs ++ negate (literal_at trail p) ∷ []) a.are ∙ sym (negated_push trail a.places p);
       falling = falling_push a.places p a.falling (a.below p (place_last keys p));
-      below = λ q h. all_push (λ x. q < x) a.places p (a.below q (place_kept keys p q h)) (max_place q h);
+      below = λ q h. AllByRecursion-push (λ x. q < x) a.places p (a.below q (place_kept keys p q h)) (max_place q h);
       within = λ q h. a.within q (place_kept keys p q h);
       stage = inr (found a.stage);
       follows = follows_more trail conflict holds resolved (lits ++ negated_at trail (keys ++ p ∷ [])) ((lits ++ negate (literal_at trail p) ∷ []) ++ negated_at trail keys) kept_members a.follows;
@@ -197,15 +164,15 @@ module _ (trail : TrailState) (conflict : List Literal) (levels : IsTrail trail)
               lower = first now;
             }
         found (inr f) =
-            let now : is_first ≡ false = is ∙ ap (λ xs. nat_eq (length xs) 0) (a.are ∙ ap (negated_at trail) f.are) ∙ not_zero (length (negated_at trail f.rest)) in
+            let now : is_first ≡ false = is ∙ ap (λ xs. nat_eq (length xs) 0) (a.are ∙ ap (negated_at trail) f.are) ∙ ne_eqb (length (negated_at trail (f.first ∷ f.rest))) 0 (λ e. omega (arith, e)) in
             record {
               first = f.first;
               rest = f.rest ++ p ∷ [];
               are = ap (λ ps. ps ++ p ∷ []) f.are;
               within = f.within;
               first_level = f.first_level;
-              rest_levels = all_push (λ q. (0 < level_at trail q) × (level_at trail q < trail.level)) f.rest p f.rest_levels
-                  (Rattle.std.proofs.lemmas.Bool.ltb-true 0 (level_at trail p) (sym (later now)), f.lower p (place_last keys p));
+              rest_levels = AllByRecursion-push (λ q. (0 < level_at trail q) × (level_at trail q < trail.level)) f.rest p f.rest_levels
+                  (ltb-true 0 (level_at trail p) (sym (later now)), f.lower p (place_last keys p));
               lower = λ q h. f.lower q (place_kept keys p q h);
             }
 
@@ -218,7 +185,7 @@ module _ (trail : TrailState) (conflict : List Literal) (levels : IsTrail trail)
       falling = a.falling;
       below = λ q h. elim (old_or_low q h) [
         | inl g ↦ a.below q (place_kept keys p q g)
-        | inr less ↦ all_lower a.places p q less (a.below p (place_last keys p))
+        | inr less ↦ AllByRecursion-weaker (λ x. p < x) (λ x. q < x) (λ x above_p. omega (arith, less, above_p)) a.places (a.below p (place_last keys p))
       ];
       within = λ q h. elim (old_or_low q h) [
         | inl g ↦ a.within q (place_kept keys p q g)
@@ -256,8 +223,8 @@ module _ (trail : TrailState) (conflict : List Literal) (levels : IsTrail trail)
             let r = more now in
             inl (record { none = s.none; left = (r.0, still r.0 r.1, r.2) })
         stage (inr f) =
-            let now : is_first ≡ false = is ∙ ap (λ xs. nat_eq (length xs) 0) (a.are ∙ ap (negated_at trail) f.are) ∙ not_zero (length (negated_at trail f.rest)) in
-            let low = Rattle.std.proofs.lemmas.Bool.ltb-false 0 (level_at trail p) (sym (later now)) in
+            let now : is_first ≡ false = is ∙ ap (λ xs. nat_eq (length xs) 0) (a.are ∙ ap (negated_at trail) f.are) ∙ ne_eqb (length (negated_at trail (f.first ∷ f.rest))) 0 (λ e. omega (arith, e)) in
+            let low = ltb-false 0 (level_at trail p) (sym (later now)) in
             inr (record {
               first = f.first;
               rest = f.rest;
@@ -292,9 +259,9 @@ below_popped old new k u bound q h = elim (is_at (nat_cmp k) q) as (λ b. is_at 
   | true ↦ λ e g. absurd (true≢false (sym g))
   | false ↦ λ e g.
       let up : q ≤ k = by_cases (nat_lt k q)
-      (λ less. let is : Less ≡ nat_cmp k q = nat_cmp_is k q Less (Rattle.std.proofs.lemmas.Bool.ltb-true k q less) in absurd (true≢false (ap is_lt is ∙ bound q g)))
-      (λ n. Rattle.std.proofs.lemmas.Bool.ltb-false k q n) in
-      let apart : q ≢ k = λ same. true≢false (sym (ap (λ x. is_at (nat_cmp k) x) same ∙ unsigned_tied k k ∙ Rattle.std.proofs.Common.eq-eqb k k refl) ∙ e) in
+      (λ less. let is : Less ≡ nat_cmp k q = nat_cmp_is k q Less (ltb-true k q less) in absurd (true≢false (ap is_lt is ∙ bound q g)))
+      (λ n. ltb-false k q n) in
+      let apart : q ≢ k = λ same. true≢false (sym (ap (λ x. is_at (nat_cmp k) x) same ∙ unsigned_tied k k ∙ eq-eqb k k refl) ∙ e) in
       omega (arith, up, apart)
 ] refl (sym (u.0 q) ∙ h)
 
@@ -316,7 +283,7 @@ resolved_is_forced trail conflict holds resolved lits keys p levels a low true m
     let last = levels.levels p within in
     let same = r.2 in
     omega (arith, less, last, same)
-resolved_is_forced trail conflict holds resolved lits keys p levels a low false more later above d = let z = Rattle.std.proofs.lemmas.Bool.ltb-false 0 (level_at trail p) (sym (later refl)) in omega (arith, above, z)
+resolved_is_forced trail conflict holds resolved lits keys p levels a low false more later above d = let z = ltb-false 0 (level_at trail p) (sym (later refl)) in omega (arith, above, z)
 
 -- ---- faults
 pub no_write : {X : Type 0} (P : Type 0) (r : Result X CoreFault) → IsErrAnd r (λ e. e ≡ Memory) → IfErr r (λ e. e ≡ Write → P)

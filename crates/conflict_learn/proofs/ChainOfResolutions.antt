@@ -1,27 +1,22 @@
 -- The clauses of a list of resolutions are a right chain, in reverse order.
-use Rattle.std.proofs.Common.{◌≡◌, ◌≢◌, refl, sym, ap, ◌∙◌, Bool, true, false, cond, not, ◌||◌, List, [], ◌∷◌, true≢false, ◌⊎◌, inl, inr}
+use Rattle.std.proofs.Common.{◌≡◌, ◌≢◌, refl, sym, ap, ◌∙◌, Bool, true, false, cond, not, IsTrue, IsFalse, List, [], ◌∷◌, true≢false, inl, inr}
 use Rattle.std.specs.List.{list_all}
+use Rattle.std.proofs.lemmas.Bool.{not-true}
 use Rattle.cx_base.specs.Literals.{Literal, negate, same_literal}
-use Rattle.cx_semantics.specs.Chain.{has_literal, is_inside, negations, left, Left, none, one, more, count_left, right, go_on, chain, IsChain}
-use Rattle.cx_semantics.proofs.ChainLaws.{and_parts, and_both, are_one, same_literal-itself, negate-negate}
-use Rattle.cx_semantics.proofs.Closure.{or_right, inside_itself, some_are}
-use Rattle.conflict_learn.specs.Resolving.{Serves, Resolves}
+use Rattle.cx_semantics.specs.Chain.{has_literal, is_inside, negations, left, count_left, right, go_on, chain, ChainEnd, IsChain}
+use Rattle.cx_semantics.proofs.ChainLaws.{and_parts, and_both, are_one, negate-negate}
+use Rattle.cx_semantics.proofs.Closure.{inside_itself, some_are}
+use Rattle.conflict_learn.specs.Learning.{Serves}
+use Rattle.conflict_learn.proofs.MemberLaws.{has_at_head, has_behind, has_split}
+
+-- The clause has l, its other literals are in the new target, and so are those of the old target but the negation of l.
+pub record Resolves (old clause : List Literal) (l : Literal) (new : List Literal) : Type 0 where
+  pub from_clause : (m : Literal) → IsTrue (has_literal clause m) → IsFalse (same_literal l m) → IsTrue (has_literal new m)
+  pub from_old : (m : Literal) → IsTrue (has_literal old m) → IsFalse (same_literal (negate l) m) → IsTrue (has_literal new m)
 
 pub by_cases : {A : Type 0} (b : Bool) → (b ≡ true → A) → (b ≡ false → A) → A
 by_cases true f g = f refl
 by_cases false f g = g refl
-
-pub has_at_head : (m : Literal) (ms : List Literal) → has_literal (m ∷ ms) m ≡ true
-has_at_head m ms = ap (λ b. b || has_literal ms m) (same_literal-itself m)
-
-pub has_behind : (m : Literal) (ms : List Literal) (l : Literal) → has_literal ms l ≡ true → has_literal (m ∷ ms) l ≡ true
-has_behind m ms l h = or_right (same_literal l m) _ h
-
-pub has_split : (m : Literal) (ms : List Literal) (l : Literal) → has_literal (m ∷ ms) l ≡ true → (l ≡ m) ⊎ (has_literal ms l ≡ true)
-has_split m ms l h = elim (same_literal l m) as (λ b. same_literal l m ≡ b → (b || has_literal ms l) ≡ true → (l ≡ m) ⊎ (has_literal ms l ≡ true)) [
-  | true ↦ λ e _. inl (are_one l m e)
-  | false ↦ λ e g. inr g
-] refl h
 
 pub negated_in : (lits u : List Literal) (l : Literal) → is_inside (negations lits) u ≡ true → has_literal lits l ≡ true → has_literal u (negate l) ≡ true
 negated_in [] u l h k = absurd (true≢false (sym k))
@@ -39,14 +34,10 @@ kept : (b : Bool) (m : Literal) (ms : List Literal) (l : Literal) → (b ≡ tru
 kept true m ms l f g = and_both _ _ (f refl) g
 kept false m ms l f g = g
 
-not_true : (b : Bool) → not b ≡ true → b ≡ false
-not_true true h = absurd (true≢false (sym h))
-not_true false h = refl
-
 only_it : (u clause : List Literal) (l : Literal) → ((m : Literal) → has_literal clause m ≡ true → same_literal l m ≡ false → has_literal u (negate m) ≡ true) → list_all (same_literal l) (left u clause) ≡ true
 only_it u [] l h = refl
 only_it u (m ∷ ms) l h = kept (not (has_literal u (negate m))) m (left u ms) l
-    (λ e. by_cases (same_literal l m) (λ f. f) (λ f. absurd (true≢false (sym (h m (has_at_head m ms) f) ∙ not_true _ e))))
+    (λ e. by_cases (same_literal l m) (λ f. f) (λ f. absurd (true≢false (sym (h m (has_at_head m ms) f) ∙ not-true _ e))))
     (only_it u ms l (λ x k. h x (has_behind m ms x k)))
 
 nothing_left : (u clause : List Literal) → is_inside (negations clause) u ≡ true → left u clause ≡ []
@@ -54,7 +45,7 @@ nothing_left u [] h = refl
 nothing_left u (m ∷ ms) h = let q = and_parts (has_literal u (negate m)) _ h in ap (λ b. cond (not b) (m ∷ left u ms) (left u ms)) q.0 ∙ nothing_left u ms q.1
 
 -- a list of equal literals counts as none or one
-goes : (lits : List Literal) (l : Literal) (next : Literal → Rattle.cx_semantics.specs.Chain.ChainEnd) → list_all (same_literal l) lits ≡ true → next l ≡ right → go_on (count_left lits) next ≡ right
+goes : (lits : List Literal) (l : Literal) (next : Literal → ChainEnd) → list_all (same_literal l) lits ≡ true → next l ≡ right → go_on (count_left lits) next ≡ right
 goes [] l next h k = refl
 goes (m ∷ ms) l next h k =
     let n : m ∷ ms ≢ [] = λ e. cc in

@@ -1,16 +1,15 @@
 -- Counting levels that never rise.
-use Rattle.std.proofs.Common.{◌≡◌, ◌≢◌, refl, sym, ap, ◌∙◌, subst, ℕ, zero, suc, ◌+◌, ◌<◌, ◌≤◌, Bool, true, false, cond, not, ◌||◌, nat_eq, eqb-true, List, [], ◌∷◌, ◌++◌, map, length, take, get_or, ◌⊎◌, inl, inr, arith, true≢false, length-append, if◌then◌else◌, ◌==◌}
-use Rattle.std.proofs.lemmas.Bool.{eqb-false}
-use Rattle.std.proofs.lemmas.List.{take_more}
+use Rattle.std.proofs.Common.{◌≡◌, ◌≢◌, refl, sym, ap, ◌∙◌, subst, ℕ, zero, suc, ◌+◌, ◌<◌, ◌≤◌, Bool, true, false, cond, not, ◌||◌, nat_eq, eqb-true, List, [], ◌∷◌, ◌++◌, length, take, get_or, inl, inr, arith, true≢false, length-append, if◌then◌else◌, ◌==◌}
+use Rattle.std.proofs.lemmas.Bool.{eqb-false, eq-eqb, ne_eqb}
+use Rattle.std.proofs.lemmas.List.{take_more, take_all, length-map, get_or-map}
 use Rattle.std.specs.List.{AllByRecursion}
 use Rattle.cx_base.specs.Literals.{Literal, negate}
 use Rattle.cx_semantics.proofs.ChainLaws.{negate-negate}
 use Rattle.cx_trail.specs.Sequence.{TrailState}
-use Rattle.conflict_learn.specs.Learning.{literal_at}
-use Rattle.conflict_learn.specs.Learning.{level_at, negated_at, has_place}
-use Rattle.conflict_learn.specs.Levels.{distinct, levels_at, second, IsSinking}
+use Rattle.conflict_learn.specs.Learning.{literal_at, level_at, negated_at, has_place}
+use Rattle.conflict_learn.specs.Levels.{ArePlacesOf, distinct, levels_at, second, NeverRises}
 use Rattle.conflict_learn.proofs.ChainOfResolutions.{by_cases}
-use Rattle.conflict_learn.proofs.AnalyseLaws.{place_pushed, place_kept, place_last, place_split, place_here}
+use Rattle.conflict_learn.proofs.AnalyseLaws.{AllByRecursion-push, AllByRecursion-weaker, place_pushed, place_kept, place_last, place_split, place_here, place_behind}
 
 -- what was seen so far: the levels in order, the last one of which is the least
 pub record Seen (done : List ℕ) (back count last index : ℕ) : Type 0 where
@@ -38,7 +37,7 @@ distinct_push_new : (done : List ℕ) (x : ℕ) → has_place done x ≡ false �
 distinct_push_new [] x h = omega arith
 distinct_push_new (k ∷ ks) x h =
     let not_head : k ≡ x → ⊥ = λ e. true≢false (sym (ap (has_place (k ∷ ks)) (sym e) ∙ place_here k ks) ∙ h) in
-    let not_tail : has_place ks x ≡ false = by_cases (has_place ks x) (λ e. absurd (true≢false (sym (Rattle.conflict_learn.proofs.AnalyseLaws.place_behind k ks x e) ∙ h))) (λ e. e) in
+    let not_tail : has_place ks x ≡ false = by_cases (has_place ks x) (λ e. absurd (true≢false (sym (place_behind k ks x e) ∙ h))) (λ e. e) in
     ap (λ b. length (cond b (distinct (ks ++ x ∷ [])) (k ∷ distinct (ks ++ x ∷ [])))) (same_but ks x k not_head)
     ∙ grow (has_place ks k) k 1 (distinct (ks ++ x ∷ [])) (distinct ks) (distinct_push_new ks x not_tail)
 
@@ -64,14 +63,6 @@ distinct_push_old (k ∷ ks) x h = by_cases (nat_eq k x)
     no_more : (n : ℕ) → n + 0 ≡ n
     no_more n = omega arith
 
-all_push : (P : ℕ → Type 0) (ps : List ℕ) (q : ℕ) → AllByRecursion P ps → P q → AllByRecursion P (ps ++ q ∷ [])
-all_push P [] q a h = (h, tt)
-all_push P (p ∷ ps) q a h = (a.0, all_push P ps q a.1 h)
-
-all_lower : (ps : List ℕ) (last x : ℕ) → x ≤ last → AllByRecursion (λ d. last ≤ d) ps → AllByRecursion (λ d. x ≤ d) ps
-all_lower [] last x h a = tt
-all_lower (p ∷ ps) last x h a = (let b = a.0 in omega (arith, h, b), all_lower ps last x h a.1)
-
 at_least : (ps : List ℕ) (last q : ℕ) → AllByRecursion (λ d. last ≤ d) ps → has_place ps q ≡ true → last ≤ q
 at_least [] last q a h = absurd (true≢false (sym h))
 at_least (p ∷ ps) last q a h = elim (place_split p ps q h) [ inl e ↦ (let b = a.0 in omega (arith, e, b)) | inr g ↦ at_least ps last q a.1 g ]
@@ -79,10 +70,7 @@ at_least (p ∷ ps) last q a h = elim (place_split p ps q h) [ inl e ↦ (let b 
 second_push : (done : List ℕ) (x back : ℕ) → back ≡ second done → (if length done == 1 then x else back) ≡ second (done ++ x ∷ [])
 second_push [] x back h = h
 second_push (k ∷ []) x back h = refl
-second_push (k ∷ j ∷ js) x back h = ap (λ b. cond b x back) (not_one (length js)) ∙ h
-  where
-    not_one : (n : ℕ) → nat_eq (suc (suc n)) 1 ≡ false
-    not_one n = by_cases (nat_eq (suc (suc n)) 1) (λ e. let z : suc (suc n) ≡ 1 = eqb-true (suc (suc n)) 1 e in absurd (omega (arith, z))) (λ e. e)
+second_push (k ∷ j ∷ js) x back h = ap (λ b. cond b x back) (ne_eqb (length (k ∷ j ∷ js)) 1 (λ e. omega (arith, e))) ∙ h
 
 -- the next level, which is at most the last one
 pub seen_more : (done : List ℕ) (back count last index x : ℕ) → Seen done back count last index → (index ≢ 0 → x ≤ last) → (is_new : Bool) → is_new ≡ (index == 0 || not (x == last))
@@ -91,7 +79,7 @@ seen_more done back count last index x s low is_new new_is = record {
   index_is = (let a = s.index_is in let b = length-append done (x ∷ []) in omega (arith, a, b));
   count_is = counted is_new new_is;
   back_is = ap (λ n. if n == 1 then x else back) s.index_is ∙ second_push done x back s.back_is;
-  least = all_push (λ d. x ≤ d) done x lower (omega arith);
+  least = AllByRecursion-push (λ d. x ≤ d) done x lower (omega arith);
   last_in = λ h. place_last done x;
   few = fewer is_new;
 }
@@ -99,7 +87,7 @@ seen_more done back count last index x s low is_new new_is = record {
     lower : AllByRecursion (λ d. x ≤ d) done
     lower = by_cases (nat_eq index 0)
         (λ e. let z : index ≡ 0 = eqb-true index 0 e in empty done (let a = s.index_is in omega (arith, a, z)))
-        (λ e. all_lower done last x (low (eqb-false index 0 e)) s.least)
+        (λ e. AllByRecursion-weaker (λ d. last ≤ d) (λ d. x ≤ d) (λ d above. let b = low (eqb-false index 0 e) in omega (arith, b, above)) done s.least)
       where
         empty : (ds : List ℕ) → length ds ≡ 0 → AllByRecursion (λ d. x ≤ d) ds
         empty [] h = tt
@@ -115,7 +103,7 @@ seen_more done back count last index x s low is_new new_is = record {
         (λ z. let a = s.index_is in let y : index ≡ 0 = eqb-true index 0 z in absurd (none done (omega (arith, a, y)) f))
         (λ z.
         let same : x ≡ last = between (low (eqb-false index 0 z)) (at_least done last x s.least f) in
-        absurd (true≢false (e ∙ ap (λ b. b || not (x == last)) z ∙ ap not (ap (λ y. nat_eq x y) (sym same) ∙ Rattle.std.proofs.Common.eq-eqb x x refl)))))
+        absurd (true≢false (e ∙ ap (λ b. b || not (x == last)) z ∙ ap not (ap (λ y. nat_eq x y) (sym same) ∙ eq-eqb x x refl)))))
         (λ f. f)))
       where
         none : (ds : List ℕ) → length ds ≡ 0 → has_place ds x ≡ true → ⊥
@@ -137,22 +125,13 @@ literal_of_place trail [] i x h e w = absurd (omega (arith, h))
 literal_of_place trail (p ∷ ps) zero x h e w = (w.0, sym (negate-negate (literal_at trail p)) ∙ ap negate (sym e), omega arith)
 literal_of_place trail (p ∷ ps) (suc i) x h e w = let r = literal_of_place trail ps i x (omega (arith, h)) e w.1 in (r.0, r.1, (let less = r.2 in omega (arith, less)))
 
-level_of_place : (trail : TrailState) (places : List ℕ) (i d : ℕ) → i < length places → get_or (levels_at trail places) i d ≡ level_at trail (get_or places i 0)
-level_of_place trail [] i d h = absurd (omega (arith, h))
-level_of_place trail (p ∷ ps) zero d h = refl
-level_of_place trail (p ∷ ps) (suc i) d h = level_of_place trail ps i d (omega (arith, h))
-
-long_levels : (trail : TrailState) (places : List ℕ) → length (levels_at trail places) ≡ length places
-long_levels trail [] = refl
-long_levels trail (p ∷ ps) = ap suc (long_levels trail ps)
-
--- a number of a sinking list is at most those before it
-sinks : (ks : List ℕ) (i d : ℕ) → i < length ks → IsSinking ks → (q : ℕ) → has_place (take i ks) q ≡ true → get_or ks i d ≤ q
-sinks [] i d h w q g = absurd (omega (arith, h))
-sinks (k ∷ ks) zero d h w q g = absurd (true≢false (sym g))
-sinks (k ∷ ks) (suc i) d h w q g = elim (place_split k (take i ks) q g) [
+-- a number of a list that never rises is at most those before it
+last_least : (ks : List ℕ) (i d : ℕ) → i < length ks → NeverRises ks → (q : ℕ) → has_place (take i ks) q ≡ true → get_or ks i d ≤ q
+last_least [] i d h w q g = absurd (omega (arith, h))
+last_least (k ∷ ks) zero d h w q g = absurd (true≢false (sym g))
+last_least (k ∷ ks) (suc i) d h w q g = elim (place_split k (take i ks) q g) [
   | inl e ↦ let a = high ks i (omega (arith, h)) w.0 in omega (arith, a, e)
-  | inr r ↦ sinks ks i d (omega (arith, h)) w.1 q r
+  | inr r ↦ last_least ks i d (omega (arith, h)) w.1 q r
 ]
   where
     high : (js : List ℕ) (i : ℕ) → i < length js → AllByRecursion (λ j. j ≤ k) js → get_or js i d ≤ k
@@ -160,30 +139,18 @@ sinks (k ∷ ks) (suc i) d h w q g = elim (place_split k (take i ks) q g) [
     high (j ∷ js) zero h a = a.0
     high (j ∷ js) (suc i) h a = high js i (omega (arith, h)) a.1
 
-pub one_level_more : (trail : TrailState) (places : List ℕ) (i level back count last index : ℕ) → IsSinking (levels_at trail places) → i < length places → level ≡ level_at trail (get_or places i 0) → Seen (take i (levels_at trail places)) back count last index
+pub one_level_more : (trail : TrailState) (places : List ℕ) (i level back count last index : ℕ) → NeverRises (levels_at trail places) → i < length places → level ≡ level_at trail (get_or places i 0) → Seen (take i (levels_at trail places)) back count last index
     → (is_new : Bool) → is_new ≡ (index == 0 || not (level == last)) → Seen (take (i + 1) (levels_at trail places)) (if index == 1 then level else back) (if is_new then count + 1 else count) level (index + 1)
-one_level_more trail places i level back count last index sinking h at s is_new new_is =
-    let long = long_levels trail places in
+one_level_more trail places i level back count last index never_rises h at s is_new new_is =
+    let long = length-map places (level_at trail) in
     let inside : i < length (levels_at trail places) = omega (arith, h, long) in
-    let here : get_or (levels_at trail places) i 0 ≡ level = level_of_place trail places i 0 h ∙ sym at in
+    let here : get_or (levels_at trail places) i 0 ≡ level = get_or-map (level_at trail) places i 0 0 h ∙ sym at in
     let more : take (i + 1) (levels_at trail places) ≡ take i (levels_at trail places) ++ level ∷ [] = take_more (levels_at trail places) i 0 inside ∙ ap (λ x. take i (levels_at trail places) ++ x ∷ []) here in
     subst (λ done. Seen done (if index == 1 then level else back) (if is_new then count + 1 else count) level (index + 1)) (sym more)
     (seen_more (take i (levels_at trail places)) back count last index level s
-    (λ n. let a = sinks (levels_at trail places) i 0 inside sinking last (s.last_in n) in omega (arith, a, here)) is_new new_is)
+    (λ n. let a = last_least (levels_at trail places) i 0 inside never_rises last (s.last_in n) in omega (arith, a, here)) is_new new_is)
 
-pub all_seen : (trail : TrailState) (places : List ℕ) (n : ℕ) → n ≡ length places → take n (levels_at trail places) ≡ levels_at trail places
-all_seen trail places n h = ap (λ k. take k (levels_at trail places)) (h ∙ sym (long_levels trail places)) ∙ whole (levels_at trail places)
-  where
-    whole : (ks : List ℕ) → take (length ks) ks ≡ ks
-    whole [] = refl
-    whole (k ∷ ks) = ap (λ js. k ∷ js) (whole ks)
-
-pub long_negated : (trail : TrailState) (places : List ℕ) → length (negated_at trail places) ≡ length places
-long_negated trail [] = refl
-long_negated trail (p ∷ ps) = ap suc (long_negated trail ps)
-
-pub is_eq_1 : (n : ℕ) → n ≡ 1 → (n == 1) ≡ true
-is_eq_1 n h = Rattle.std.proofs.Common.eq-eqb n 1 h
-
-pub is_not_1 : (n : ℕ) → n ≢ 1 → (n == 1) ≡ false
-is_not_1 n h = by_cases (nat_eq n 1) (λ e. absurd (h (eqb-true n 1 e))) (λ e. e)
+pub all_seen : (trail : TrailState) (lits : List Literal) (places : List ℕ) (n : ℕ) → ArePlacesOf trail lits places → length lits ≤ n → take n (levels_at trail places) ≡ levels_at trail places
+all_seen trail lits places n a h =
+    let long : length lits ≡ length places = ap length a.are ∙ length-map places (λ p. negate (literal_at trail p)) in
+    take_all n (levels_at trail places) (omega (arith, h, long, length-map places (level_at trail)))

@@ -1,24 +1,20 @@
 -- One more literal whose place is in the set, or that is skipped.
 use Rattle.std.proofs.Common.{◌≡◌, refl, sym, ap, ◌∙◌, subst, ℕ, ◌<◌, Bool, true, false, cond, not, ◌||◌, List, [], ◌∷◌, ◌++◌, Option, ◌⊎◌, inl, inr, true≢false, nat_eq, nat_cmp, zero, suc, length, get_or, arith}
-use Rattle.std.proofs.lemmas.List.Folds.{list_any-append}
 use Rattle.std.specs.BTreeSet.{BTreeSet, contains, Updates}
 use Rattle.std.specs.BTreeMap.{is_at}
 use Rattle.std.specs.Cmp.{unsigned_tied}
-use Rattle.cx_base.specs.Literals.{Literal, negate, same_literal}
+use Rattle.cx_base.specs.Literals.{Literal, negate}
 use Rattle.cx_semantics.specs.Chain.{has_literal}
-use Rattle.cx_semantics.proofs.ChainLaws.{are_one}
 use Rattle.cx_trail.specs.Sequence.{TrailState}
-use Rattle.conflict_learn.specs.Learning.{literal_at}
-use Rattle.conflict_learn.specs.Learning.{skips}
+use Rattle.conflict_learn.specs.Learning.{literal_at, skips}
 use Rattle.conflict_learn.specs.Touching.{Touched}
-use Rattle.conflict_learn.proofs.ChainOfResolutions.{by_cases, has_at_head, has_behind}
+use Rattle.conflict_learn.proofs.MemberLaws.{has_at_head, has_behind, has_split, has_either}
 
 pub has_pushed : (xs : List Literal) (x m : Literal) → has_literal (xs ++ x ∷ []) m ≡ true → (has_literal xs m ≡ true) ⊎ (m ≡ x)
-has_pushed xs x m h = by_cases (has_literal xs m) inl (λ e. inr (are_one m x (last (same_literal m x) (sym (ap (λ b. b || (same_literal m x || false)) e) ∙ sym (list_any-append (same_literal m) xs (x ∷ [])) ∙ h))))
-  where
-    last : (b : Bool) → (b || false) ≡ true → b ≡ true
-    last true h = refl
-    last false h = h
+has_pushed xs x m h = elim (has_either xs (x ∷ []) m h) [
+  | inl g ↦ inl g
+  | inr g ↦ elim (has_split x [] m g) [ inl e ↦ inr e | inr none ↦ absurd (true≢false (sym none)) ]
+]
 
 module _ (trail : TrailState) (skip : Option Literal) (below : ℕ) (old : BTreeSet ℕ) where
   pub touched_skipped : (set : BTreeSet ℕ) (done : List Literal) (x : Literal) → skips skip x ≡ true → Touched trail skip below old set done → Touched trail skip below old set (done ++ x ∷ [])

@@ -1,14 +1,13 @@
 -- What is learned from a conflict.
-use Rattle.std.specs.Prelude.{◌≡◌, ◌≢◌, ℕ, ◌<◌, ◌≤◌, ◌-◌, ◌^◌, List, [], ◌∷◌, ◌++◌, map, length, reverse, IsTrue, IsFalse, Option, Some, None, Bool, false, ◌+◌, max, min, ⊤, ◌⊎◌}
+use Rattle.std.specs.Prelude.{◌≡◌, ◌≢◌, ℕ, ◌<◌, ◌≤◌, ◌-◌, ◌^◌, List, [], ◌∷◌, ◌++◌, map, length, reverse, IsTrue, IsFalse, Option, Some, None, Bool, false, ◌+◌, min, ⊤}
 use Rattle.std.specs.List.{AllByRecursion, list_any}
 use Rattle.std.specs.Ordering.{nat_cmp}
 use Rattle.std.specs.BTreeMap.{is_at}
 use Rattle.cx_base.specs.Literals.{Literal, negate, same_literal}
-use Rattle.cx_semantics.specs.Chain.{has_literal}
+use Rattle.cx_semantics.specs.Chain.{has_literal, is_inside, negations, right, chain}
 use Rattle.cx_trail.specs.declared.entry.Reason.{Reason}
 use Rattle.cx_trail.specs.declared.entry.Reason.TheVariants.{Decision}
 use Rattle.cx_trail.specs.Sequence.{TrailState, entry_at, IsFalseBefore}
-use Rattle.conflict_learn.specs.Resolving.{Serves}
 
 -- the literal at a place of the trail, and its level
 abbrev pub literal_at : TrailState → ℕ → Literal
@@ -53,6 +52,10 @@ AreAntecedents trail holds [] (c ∷ cs) = ⊥
 AreAntecedents trail holds (l ∷ ls) [] = ⊥
 AreAntecedents trail holds (l ∷ ls) (c ∷ cs) = holds c × IsAntecedent trail l c × AreAntecedents trail holds ls cs
 
+-- under every set that negates the target, the clauses are a right chain
+abbrev pub Serves : List Literal → List (List Literal) → Type 0
+Serves target clauses = (assumed : List Literal) → IsTrue (is_inside (negations target) assumed) → chain assumed clauses ≡ right
+
 -- The clauses that implied the resolved literals, the last one's first, and the conflict behind them, are a right chain under every set that negates the literals.
 abbrev pub Follows : TrailState → List Literal → (List Literal → Type 0) → List Literal → List Literal → Type 0
 Follows trail conflict holds resolved lits = (clauses : List (List Literal)) × AreAntecedents trail holds (reverse resolved) clauses × Serves lits (clauses ++ conflict ∷ [])
@@ -81,33 +84,3 @@ pub record IsLearned (trail : TrailState) (conflict : List Literal) (holds : Lis
   pub first_level : level_at trail first ≡ trail.level
   pub rest_levels : AllByRecursion (λ q. (0 < level_at trail q) × (level_at trail q < trail.level)) rest
   pub follows : Follows trail conflict holds resolved lits
-
--- ---- the state of an analysis: the literals kept so far, and the places still to be looked at
--- none is kept yet, and a place of the current level is left
-pub record IsSeeking (trail : TrailState) (places keys : List ℕ) : Type 0 where
-  pub none : places ≡ []
-  pub left : (q : ℕ) × IsTrue (has_place keys q) × (level_at trail q ≡ trail.level)
-
--- one of the current level is kept, and only lower ones are left
-pub record HasFound (trail : TrailState) (places keys : List ℕ) : Type 0 where
-  pub first : ℕ
-  pub rest : List ℕ
-  pub are : places ≡ first ∷ rest
-  pub within : first < length trail.entries
-  pub first_level : level_at trail first ≡ trail.level
-  pub rest_levels : AllByRecursion (λ q. (0 < level_at trail q) × (level_at trail q < trail.level)) rest
-  pub lower : (q : ℕ) → IsTrue (has_place keys q) → level_at trail q < trail.level
-
-pub record Analysing (trail : TrailState) (conflict : List Literal) (holds : List Literal → Type 0) (resolved lits : List Literal) (keys : List ℕ) : Type 0 where
-  pub places : List ℕ
-  pub are : lits ≡ negated_at trail places
-  pub falling : IsFalling places
-  pub below : (q : ℕ) → IsTrue (has_place keys q) → AllByRecursion (λ p. q < p) places
-  pub within : (q : ℕ) → IsTrue (has_place keys q) → q < length trail.entries
-  pub stage : IsSeeking trail places keys ⊎ HasFound trail places keys
-  pub follows : Follows trail conflict holds resolved (lits ++ negated_at trail keys)
-
--- one more than the greatest key
-abbrev pub roof : List ℕ → ℕ
-roof [] = 0
-roof (k ∷ ks) = max (k + 1) (roof ks)

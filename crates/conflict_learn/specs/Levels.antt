@@ -20,15 +20,15 @@ second (k ∷ []) = 0
 second (k ∷ j ∷ js) = j
 
 -- no number is above an earlier one
-abbrev pub IsSinking : List ℕ → Type 0
-IsSinking [] = ⊤
-IsSinking (k ∷ ks) = AllByRecursion (λ j. j ≤ k) ks × IsSinking ks
+abbrev pub NeverRises : List ℕ → Type 0
+NeverRises [] = ⊤
+NeverRises (k ∷ ks) = AllByRecursion (λ j. j ≤ k) ks × NeverRises ks
 
 -- the literals are the negations of those at the places, and their levels never rise
 pub record ArePlacesOf (trail : TrailState) (lits : List Literal) (places : List ℕ) : Type 0 where
   pub are : lits ≡ negated_at trail places
   pub within : AllByRecursion (λ p. p < length trail.entries) places
-  pub sinking : IsSinking (levels_at trail places)
+  pub never_rises : NeverRises (levels_at trail places)
 
 -- the clause is learned, the back level is that of its second literal, and the number is that of its levels
 pub record Teaches (trail : TrailState) (conflict : List Literal) (holds : List Literal → Type 0) (resolved lits : List Literal) (back lbd : ℕ) : Type 0 where

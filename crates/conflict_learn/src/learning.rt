@@ -1,51 +1,22 @@
 //! The clause that a conflict teaches.
-ghost use Rattle.std.specs.Prelude.{◌≡◌, ℕ, ◌<◌, ◌≤◌, List, length, IsTrue, IfOk, IfErr, ◌==◌, ◌||◌, not, ◌⊎◌};
-ghost use Rattle.cx_base.specs.Literals.{Literal};
-ghost use Rattle.cx_base.specs.declared.literal.TheConstants.{MAX_VARIABLE};
+ghost use Rattle.std.specs.Prelude.{◌≡◌, ℕ, ◌<◌, length, IsTrue, IsFalse, IfOk, IfErr, nat_lt, ◌⊎◌};
+ghost use Rattle.std.specs.Ordering.{nat_cmp};
+ghost use Rattle.std.specs.BTreeSet.{contains};
+ghost use Rattle.cx_base.specs.Literals.{Literal, negate};
 ghost use Rattle.cx_semantics.specs.Chain.{has_literal};
 ghost use Rattle.cx_trail.specs.Sequence.{IsFalseIn};
 ghost use Rattle.conflict_learn.specs.declared.fault.CoreFault.TheVariants.{Memory, Write};
-ghost use Rattle.conflict_learn.specs.Learning.{AreHeld, IsOfLevel, Rose};
-ghost use Rattle.conflict_learn.specs.Levels.{ArePlacesOf, levels_at, distinct, second, Teaches};
+ghost use Rattle.conflict_learn.specs.Learning.{AreHeld, IsOfLevel, Rose, level_at};
+ghost use Rattle.conflict_learn.specs.Levels.{Teaches};
 
 use crate::antecedents::Antecedents;
 use crate::fault::CoreFault;
-use crate::resolving::resolve;
+use crate::levels::levels_of;
+use crate::touching::touch;
 use cx_base::{Lit, LitList};
 use cx_trail::Trail;
 use std::alloc::Global;
-
-// Whether a level was not met before, where equal levels stand one behind the other.
-fn is_new(index: usize, level: u32, last: u32) -> bool
-    ensures { result ≡ (index == 0 || not (level == last)) }
-{
-    index == 0 || level != last
-}
-
-// The level of the second literal, 0 where there is none, and how many levels the literals have.
-fn levels_of(trail: &Trail, lits: &[Lit]) -> (u32, u32)
-    requires few { length lits.now ≤ MAX_VARIABLE }
-    requires places { (places : List ℕ) × ArePlacesOf trail.now lits.now places }
-    ensures back { (places : List ℕ) → ArePlacesOf trail.now lits.now places → result.0 ≡ second (levels_at trail.now places) }
-    ensures count { (places : List ℕ) → ArePlacesOf trail.now lits.now places → result.1 ≡ length (distinct (levels_at trail.now places)) }
-{
-    let mut back_level = 0;
-    let mut count = 0;
-    let mut last = 0;
-    let mut index: usize = 0;
-    for literal in lits {
-        let level = trail.entry(trail.place_of(*literal)).level;
-        if is_new(index, level, last) {
-            count += 1;
-        }
-        if index == 1 {
-            back_level = level;
-        }
-        last = level;
-        index += 1;
-    }
-    (back_level, count)
-}
+use std::collections::BTreeSet;
 
 /// The learned clause, with what is kept of it.
 #[derive(Debug, Drop)]
@@ -58,6 +29,24 @@ pub struct Learned {
     pub lbd: u32,
     /// The literals whose clauses were resolved with the conflict, in this order. These clauses, the last one first, and behind them the conflict are a right chain.
     pub resolved: LitList,
+}
+
+// Whether the place that was taken out last is kept: the first one where no other of the current level is left, a later one where its level is above 0.
+fn is_kept(trail: &Trail, touched: &BTreeSet<usize>, place: usize, is_first: bool) -> bool
+    requires within { (q : ℕ) → IsTrue (contains nat_cmp touched.now q) → q < length trail.now.entries }
+    requires place { place < length trail.now.entries }
+    ensures first { IsTrue is_first → IsTrue result → (q : ℕ) → IsTrue (contains nat_cmp touched.now q) → level_at trail.now q < trail.now.level }
+    ensures more { IsTrue is_first → IsFalse result → (q : ℕ) × IsTrue (contains nat_cmp touched.now q) × (level_at trail.now q ≡ trail.now.level) }
+    ensures later { IsFalse is_first → result ≡ nat_lt 0 (level_at trail.now place) }
+{
+    if is_first {
+        match touched.last() {
+            Some(next) => trail.entry(*next).level < trail.level(),
+            None => true,
+        }
+    } else {
+        trail.entry(place).level > 0
+    }
 }
 
 /// The clause that the conflict teaches: it has one literal of the current level, and follows from the conflict and the clauses that implied literals of the trail.
@@ -82,12 +71,31 @@ pub fn analyse<S: Antecedents>(
     ensures gave_up { IfErr result (λ e. ((e ≡ Memory) × S.ready source.new) ⊎ S.stopped source.new e) }
     ensures frame { S.keeps source.old source.new }
 {
-    let resolvent = resolve(alloc, trail, conflict, source)?;
-    let (back_level, lbd) = levels_of(trail, resolvent.lits.as_slice());
+    let mut touched = BTreeSet::new(alloc);
+    touch(trail, conflict.as_slice(), &None, trail.len(), &mut touched)?;
+    let mut lits = Vec::new(alloc);
+    let mut resolved = Vec::new(alloc);
+    while let Some(place) = touched.pop_last() {
+        let entry = trail.entry(place);
+        if is_kept(trail, &touched, place, lits.is_empty()) {
+            lits.push(entry.literal.negate())?;
+        } else {
+            let clause = source.clause_of(entry.reason, entry.literal)?;
+            touch(
+                trail,
+                clause.as_slice(),
+                &Some(entry.literal),
+                place,
+                &mut touched,
+            )?;
+            resolved.push(entry.literal)?;
+        }
+    }
+    let (back_level, lbd) = levels_of(trail, &lits);
     Ok(Learned {
-        lits: resolvent.lits,
+        lits: LitList::from_vec(lits),
         back_level,
         lbd,
-        resolved: resolvent.resolved,
+        resolved: LitList::from_vec(resolved),
     })
 }

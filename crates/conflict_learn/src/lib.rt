@@ -4,7 +4,7 @@
 mod antecedents;
 mod fault;
 mod learning;
-mod resolving;
+mod levels;
 mod touching;
 
 pub use antecedents::Antecedents;

@@ -5,3 +5,4 @@ pub mod Within
 pub mod Drafting
 pub mod Parts
 pub mod Differences
+pub mod LiteralLaws

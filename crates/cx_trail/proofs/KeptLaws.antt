@@ -9,7 +9,7 @@ use Rattle.cx_trail.specs.declared.entry.Entry.{Entry}
 use Rattle.cx_trail.specs.declared.entry.Reason.TheVariants.{Decision}
 use Rattle.cx_trail.specs.declared.entry.Truth.{Truth}
 use Rattle.cx_trail.specs.declared.entry.Truth.TheVariants.{True, False, Open}
-use Rattle.cx_trail.specs.Sequence.{IsTrail, IsFalseIn, IsAssignedIn, HasEntry, entry_at, no_entry, TakesBack, IsFull, HasOpen}
+use Rattle.cx_trail.specs.Sequence.{TrailState, IsTrail, IsFalseIn, IsAssignedIn, HasEntry, entry_at, no_entry, TakesBack, IsFull, HasOpen}
 use Rattle.cx_trail.specs.Cells.{ArePaired, AreLevels, IsKept, var_at, truth_at}
 use Rattle.cx_trail.proofs.CellLaws.{at_take}
 use Rattle.cx_trail.proofs.LevelLaws.{level_count, last_level, push_levels, cut_levels}
@@ -57,6 +57,9 @@ sound_from_kept vars level len cells places truths k =
           let e = at_take len w.0 cells w.1 in
           (w.0, omega (arith, w.1), ap (λ (x : Entry). x.level) e ∙ w.2, ap (λ (x : Entry). x.reason) e ∙ w.3);
     }
+
+pub sound_shown : (vars level len : ℕ) (cells : List Entry) (places : List ℕ) (truths : List Truth) (shown : TrailState) → IsKept vars level len cells places truths → record { variables = vars; level = level; entries = take len cells } ≡ shown → IsTrail shown
+sound_shown vars level len cells places truths shown k view = subst IsTrail view (sound_from_kept vars level len cells places truths k)
 
 pub takes_back : (vars level new_level count m : ℕ) (cells : List Entry) (places : List ℕ) (truths : List Truth) → IsKept vars level count cells places truths → m ≤ count → new_level ≤ level → (0 < m → (entry_at cells (m - 1)).level ≤ new_level) → ((i : ℕ) → m ≤ i → i < count → new_level < (entry_at cells i).level) → TakesBack new_level (record { variables = vars; level = level; entries = take count cells }) (record { variables = vars; level = new_level; entries = take m cells })
 takes_back vars level new_level count m cells places truths k few low last_low above =

@@ -2,3 +2,4 @@ pub mod CellLaws
 pub mod LevelLaws
 pub mod TruthLaws
 pub mod KeptLaws
+pub mod ValueLaws

@@ -1,9 +1,9 @@
 -- The values of literals, through a put and a cut.
-use Rattle.std.proofs.Common.{Bool, true, false, not, cond, ◌≡◌, ◌≢◌, ℕ, ◌+◌, ◌*◌, ◌<◌, ◌≤◌, List, length, get_or, take, set, sym, ap, ◌∙◌, subst, refl, inl, inr, ◌⊎◌, ⊎_elim, arith}
+use Rattle.std.proofs.Common.{◌≡◌, ◌≢◌, ℕ, ◌+◌, ◌<◌, ◌≤◌, List, length, get_or, take, set, sym, ap, ◌∙◌, subst, ⊎_elim, arith}
 use Rattle.std.proofs.lemmas.List.{get_or-set_same, get_or-set_other, length-set, length-take-le}
 use Rattle.std.proofs.lemmas.Bool.{cases_eq, cases_lt}
-use Rattle.cx_base.specs.Literals.{Literal, negate, code_of, literal_of_code}
-use Rattle.cx_base.specs.Codes.{literal_of_code-code_of}
+use Rattle.cx_base.specs.Literals.{Literal, negate, code_of}
+use Rattle.cx_base.proofs.LiteralLaws.{apart_from_negation, code_below, negate-negate, same_code, same_or_negated}
 use Rattle.cx_trail.specs.declared.entry.Entry.{Entry}
 use Rattle.cx_trail.specs.declared.entry.Truth.{Truth}
 use Rattle.cx_trail.specs.declared.entry.Truth.TheVariants.{True, False, Open}
@@ -12,45 +12,13 @@ use Rattle.cx_trail.specs.Cells.{ArePaired, AreApart, AreTruths, var_at, truth_a
 use Rattle.cx_trail.proofs.CellLaws.{at_take}
 
 -- ---- codes
-pub code_below : (l : Literal) (vars : ℕ) → l.variable ≤ vars → code_of l < 2 * vars + 2
-code_below l vars h = elim l.negative as (λ b. 2 * l.variable + cond {A = ℕ} b 1 0 < 2 * vars + 2) [ true ↦ omega arith | false ↦ omega arith ]
-
-same_code : (l m : Literal) → code_of l ≡ code_of m → l ≡ m
-same_code l m e = sym (literal_of_code-code_of l) ∙ ap literal_of_code e ∙ literal_of_code-code_of m
-
 apart_code : (l m : Literal) → l.variable ≢ m.variable → code_of l ≢ code_of m
 apart_code l m ne e = ne (ap (λ (x : Literal). x.variable) (same_code l m e))
 
 negated_code : (l : Literal) → code_of (negate l) ≢ code_of l
-negated_code l = elim l.negative as (λ b. 2 * l.variable + cond {A = ℕ} (not b) 1 0 ≢ 2 * l.variable + cond {A = ℕ} b 1 0) [ true ↦ (λ e. absurd (omega arith)) | false ↦ (λ e. absurd (omega arith)) ]
-
-same_or_not : (a b : Bool) → (a ≡ b) ⊎ (a ≡ not b)
-same_or_not true true = inl refl
-same_or_not true false = inr refl
-same_or_not false true = inr refl
-same_or_not false false = inl refl
-
-literal_is : (l : Literal) (v : ℕ) (b : Bool) → l.variable ≡ v → l.negative ≡ b → l ≡ (record { variable = v; negative = b })
-literal_is l v b e f =
-    let mk : ℕ → Bool → Literal = λ x y. record { variable = x; negative = y } in
-    ap (λ x. mk x l.negative) e ∙ ap (λ y. mk v y) f
-
--- two literals of one variable are one, or each the other's negation
-pub two_literals : (l m : Literal) → l.variable ≡ m.variable → (l ≡ m) ⊎ (l ≡ negate m)
-two_literals l m e = ⊎_elim (λ (s : l.negative ≡ m.negative). inl (literal_is l m.variable m.negative e s))
-    (λ (n : l.negative ≡ not m.negative). inr (literal_is l m.variable (not m.negative) e n)) (same_or_not l.negative m.negative)
-
-not_not : (b : Bool) → not (not b) ≡ b
-not_not true = refl
-not_not false = refl
-
-pub negate_negate : (l : Literal) → negate (negate l) ≡ l
-negate_negate l = sym (literal_is l l.variable (not (not l.negative)) refl (sym (not_not l.negative)))
+negated_code l e = apart_from_negation l (sym (same_code (negate l) l e))
 
 -- ---- one literal's values written
-two_set : List Truth → Literal → Truth → Truth → List Truth
-two_set truths m a b = set (set truths (code_of m) a) (code_of (negate m)) b
-
 value_other : (truths : List Truth) (l m : Literal) (a b : Truth) → l.variable ≢ m.variable → truth_at (set (set truths (code_of m) a) (code_of (negate m)) b) (code_of l) ≡ truth_at truths (code_of l)
 value_other truths l m a b ne =
     get_or-set_other (set truths (code_of m) a) (code_of (negate m)) (code_of l) b Open (apart_code l (negate m) ne)
@@ -123,7 +91,7 @@ cut_truths count cells truths d t room =
           (λ (z : i ≡ count). ⊎_elim
           (λ (q : l ≡ m). subst (λ (x : Literal). truth_at (set (set truths (code_of m) Open) (code_of (negate m)) Open) (code_of x) ≡ Open) (sym q) (value_own truths m Open Open own))
           (λ (q : l ≡ negate m). subst (λ (x : Literal). truth_at (set (set truths (code_of m) Open) (code_of (negate m)) Open) (code_of x) ≡ Open) (sym q) (value_negated truths m Open Open other))
-          (two_literals l m (e ∙ ap (var_at cells) z)))
+          (same_or_negated l m (e ∙ ap (var_at cells) z)))
           (λ (nz : i ≢ count). value_other truths l m Open Open (λ q. apart i h nz (sym e ∙ q)) ∙ t.unset i (omega arith) h l e) (cases_eq i count);
     }
 
@@ -144,15 +112,11 @@ means_at vars count cells places truths l k t few low high =
     (p, (omega arith, stands ∙ sym q)))
     (λ (q : l ≡ negate (entry_at cells p).literal).
     subst (λ (x : Truth). Means (take count cells) l x) (sym (ap (λ (x : Literal). truth_at truths (code_of x)) q ∙ t.denied p h))
-    (p, (omega arith, stands ∙ sym (negate_negate (entry_at cells p).literal) ∙ ap (λ (x : Literal). negate x) (sym q))))
-    (two_literals l (entry_at cells p).literal (sym has)))
+    (p, (omega arith, stands ∙ sym (negate-negate (entry_at cells p).literal) ∙ ap (λ (x : Literal). negate x) (sym q))))
+    (same_or_negated l (entry_at cells p).literal (sym has)))
     (λ (h : count ≤ p).
     subst (λ (x : Truth). Means (take count cells) l x) (sym (t.unset p h inside l (sym has)))
     (λ i b e.
     let a : i < count = omega arith in
     let z : p ≡ i = ap (λ x. get_or places x 0) (sym e ∙ ap (λ (x : Entry). x.literal.variable) (at_take count i cells a)) ∙ k.placed i (omega arith) in
     omega arith)) (cases_lt p count)
-
--- a code of at least 2 is that of a variable of at least 1
-pub low_of_code : (l : Literal) → 2 ≤ code_of l → 1 ≤ l.variable
-low_of_code l = elim l.negative as (λ b. 2 ≤ 2 * l.variable + cond {A = ℕ} b 1 0 → 1 ≤ l.variable) [ true ↦ (λ h. omega arith) | false ↦ (λ h. omega arith) ]

@@ -204,13 +204,21 @@ impl Trail {
         self.places[literal.var().number() as usize] as usize
     }
 
+    // The entry of an assigned variable.
+    fn entry_of(&self, variable: Var) -> Entry
+        requires { IsAssignedIn self.now.entries variable }
+        ensures { (e : Entry) → HasEntry self.now.entries variable e → result ≡ e }
+    {
+        let place = self.places[variable.number() as usize] as usize;
+        self.cells[place]
+    }
+
     /// The level of an assigned variable.
     pub fn level_of(&self, variable: Var) -> u32
         requires { IsAssignedIn self.now.entries variable }
         ensures { (e : Entry) → HasEntry self.now.entries variable e → result ≡ e.level }
     {
-        let place = self.places[variable.number() as usize] as usize;
-        self.cells[place].level
+        self.entry_of(variable).level
     }
 
     /// The reason of an assigned variable.
@@ -218,8 +226,7 @@ impl Trail {
         requires { IsAssignedIn self.now.entries variable }
         ensures { (e : Entry) → HasEntry self.now.entries variable e → result ≡ e.reason }
     {
-        let place = self.places[variable.number() as usize] as usize;
-        self.cells[place].reason
+        self.entry_of(variable).reason
     }
 
     // Puts a literal at the end.
@@ -233,6 +240,7 @@ impl Trail {
         ensures pushed { self.new ≡ pushed self.old level literal reason }
         ensures sound { IsTrail self.new }
     {
+        // a variable is at least 1, which this call tells the proof
         let _variable = literal.var().number();
         put(
             &mut self.cells,

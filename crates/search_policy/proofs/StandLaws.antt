@@ -1,10 +1,11 @@
 -- The variables that stand in the heap.
-use Rattle.std.proofs.Common.{◌≡◌, ◌≢◌, ℕ, zero, suc, ◌+◌, ◌-◌, ◌<◌, ◌≤◌, Bool, true, false, List, ◌++◌, length, get_or, map, replicate, nat_lt, sym, ap, ◌∙◌, subst, refl, inl, inr, ◌⊎◌, ⊎_elim, arith}
-use Rattle.std.proofs.lemmas.Bool.{cases_eq, cases_lt, lt-ltb, ltb-true}
+use Rattle.std.proofs.Common.{◌≡◌, ◌≢◌, ℕ, ◌+◌, ◌-◌, ◌<◌, ◌≤◌, Bool, true, false, List, ◌++◌, length, get_or, map, replicate, nat_lt, sym, ap, ◌∙◌, subst, refl, inl, inr, ⊎_elim, arith}
+use Rattle.std.proofs.lemmas.Bool.{cases_lt, lt-ltb, ltb-true}
 use Rattle.std.proofs.lemmas.List.{get_or-map, length-map, ext_get_or, get_or-replicate, length-replicate, get_or_append_left, get_or-append_right, length-append}
 use Rattle.std.proofs.lemmas.List.Elements.{All-get_or}
 use Rattle.cx_trail.specs.declared.entry.Entry.{Entry}
 use Rattle.cx_trail.specs.Sequence.{TrailState, TakesBack, IsOpenIn, entry_at, no_entry}
+use Rattle.cx_trail.proofs.ValueLaws.{open_or_assigned}
 use Rattle.search_policy.specs.Scores.{IsBest, NoneIsOpen, ComesBefore}
 use Rattle.search_policy.specs.Heaps.{item_at, IsAhead, AreShuffled, IsHeap, HasOpenOnes}
 use Rattle.search_policy.specs.Standing.{OrderState, AllStand}
@@ -72,15 +73,6 @@ picks_top scores cells places count entries s h a some few o = record {
       subst (λ x. ComesBefore scores (item_at cells 0 + 1) x) z (comes_before scores (item_at cells 0) (u - 1) ahead);
 }
 
-up_to : (entries : List Entry) (v n : ℕ) → ((i : ℕ) → i < n → (entry_at entries i).literal.variable ≢ v) ⊎ ((i : ℕ) × (i < n) × ((entry_at entries i).literal.variable ≡ v))
-up_to entries v zero = inl (λ i h e. omega arith)
-up_to entries v (suc n) = ⊎_elim
-    (λ (f : (i : ℕ) → i < n → (entry_at entries i).literal.variable ≢ v). ⊎_elim
-    (λ (e : (entry_at entries n).literal.variable ≡ v). inr (n, omega arith, e))
-    (λ (ne : (entry_at entries n).literal.variable ≢ v). inl (λ i h. ⊎_elim (λ (q : i ≡ n). subst (λ x. (entry_at entries x).literal.variable ≢ v) (sym q) ne) (λ (q : i ≢ n). f i (omega arith)) (cases_eq i n)))
-    (cases_eq ((entry_at entries n).literal.variable) v))
-    (λ (w : (i : ℕ) × (i < n) × ((entry_at entries i).literal.variable ≡ v)). let h = w.1 in inr (w.0, omega (arith, h), w.2)) (up_to entries v n)
-
 -- what the trail takes back was put back
 pub back_stand : (n level count left : ℕ) (places new_places : List ℕ) (t u : TrailState) → TakesBack level t u → HasOpenOnes n t.entries places count
     → ((v : ℕ) → v < n → item_at places v < count → item_at new_places v < left)
@@ -100,4 +92,4 @@ back_stand n level count left places new_places t u b a stays put = λ v h o. �
     let gone : entry_at t.entries i ≡ get_or b.dropped (i - length u.entries) no_entry = whole ∙ get_or-append_right u.entries b.dropped (length u.entries) i no_entry refl high in
     let above : level < (entry_at t.entries i).level = subst (λ (x : Entry). level < x.level) (sym gone) (All-get_or (λ (e : Entry). level < e.level) b.dropped (i - length u.entries) no_entry (omega arith) b.dropped_high) in
     subst (λ x. item_at new_places x < left) z (put i inside above)) (cases_lt i (length u.entries)))
-    (up_to t.entries (v + 1) (length t.entries))
+    (open_or_assigned t.entries (v + 1))

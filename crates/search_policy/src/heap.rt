@@ -106,6 +106,7 @@ fn is_assigned(trail: &Trail, index: u32) -> bool
     requires { index + 1 ≤ trail.now.variables }
     ensures { MatchBool result (IsOpenIn trail.now.entries (index + 1) → ⊥) (IsOpenIn trail.now.entries (index + 1)) }
 {
+    // the trail is sound, which this call tells the proof
     let _vars = trail.vars();
     trail.value(Var::new(index + 1)).is_some()
 }

@@ -32,11 +32,12 @@ impl Model for Order {
 
     ghost Value = { OrderState };
 
+    ghost use Rattle.search_policy.specs.declared.scores.TheConstants.{SCORE_LIMIT};
     ghost use Rattle.search_policy.specs.Heaps.{IsOrder};
 
     ghost view = { λ o. record { scores = o.scores.items; standing = map (λ p. nat_lt p o.count) o.heap.places.items } };
 
-    ghost invariant = { λ o. (length o.scores.items ≤ MAX_VARIABLE) × All (λ s. s < 1000000000) o.scores.items
+    ghost invariant = { λ o. (length o.scores.items ≤ MAX_VARIABLE) × All (λ s. s < SCORE_LIMIT) o.scores.items
         × IsOrder o.scores.items o.heap.cells.items o.heap.places.items o.count };
 }
 

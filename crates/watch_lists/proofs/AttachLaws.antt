@@ -1,4 +1,4 @@
--- A clause more.
+-- Attaching a clause.
 use Rattle.std.proofs.Common.{◌≡◌, ◌≢◌, ℕ, ◌<◌, ◌+◌, ◌-◌, ◌*◌, ◌%◌, ◌≤◌, Bool, true, false, List, [], length, get_or, set, take, min, sym, ap, ◌∙◌, subst, inl, inr, ◌⊎◌, ⊎_elim, arith}
 use Rattle.std.specs.List.{Contains, All}
 use Rattle.std.proofs.lemmas.Bool.{cases_eq, false≢true}
@@ -7,13 +7,13 @@ use Rattle.cx_base.specs.Literals.{code_of, Literal, negate}
 use Rattle.cx_trail.specs.Sequence.{TrailState, entry_at, StandsAt, IsFalseIn, IsTrueBy}
 use Rattle.clause_arena.specs.Clauses.{ArenaState, literals_at, IsLive}
 use Rattle.watch_lists.specs.Watching.{clause_of, partner, held_at, no_literal, IsAttached, looked_at, AreNodes, AreGuarded, IsBehind, Fits}
-use Rattle.watch_lists.specs.NodeChains.{ListsState, list_at, IsLinked}
-use Rattle.watch_lists.specs.Turns.{AreListed}
+use Rattle.watch_lists.specs.Lists.{ListsState, list_at, IsLinked}
+use Rattle.watch_lists.specs.Walking.{AreListed}
 use Rattle.watch_lists.specs.Attaching.{IsForgotten, AreKept, CanBeWatched, literal_at}
-use Rattle.watch_lists.specs.Raising.{AreWatches}
+use Rattle.watch_lists.specs.Keeping.{AreWatches}
 use Rattle.std.proofs.lemmas.List.Elements.{Contains-get_or}
 use Rattle.watch_lists.proofs.NodeLaws.{node_in, partner_attached, partner_even, partner_odd, clause_of_partner}
-use Rattle.watch_lists.proofs.TurnLaws.{in_head, in_tail, in_cases, none_in}
+use Rattle.watch_lists.proofs.MemberLaws.{in_head, in_tail, in_cases, none_in}
 
 pub clause_of_first : (r : ℕ) → clause_of (2 * r) ≡ r
 clause_of_first r = omega arith

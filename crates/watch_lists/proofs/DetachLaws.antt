@@ -1,4 +1,4 @@
--- Removed clauses.
+-- Detaching the clauses that were removed.
 use Rattle.std.proofs.Common.{◌≡◌, ◌≢◌, ℕ, ◌<◌, ◌+◌, ◌*◌, ◌≤◌, Bool, false, List, [], length, get_or, take, sym, ap, ◌∙◌, subst, refl, ⊎_elim, arith}
 use Rattle.std.specs.List.{Contains, All}
 use Rattle.std.proofs.lemmas.Bool.{cases_eq, cases_lt, false≢true}
@@ -7,10 +7,10 @@ use Rattle.cx_base.specs.Literals.{code_of, Literal, negate}
 use Rattle.cx_trail.specs.Sequence.{TrailState, IsTrueBy}
 use Rattle.clause_arena.specs.Clauses.{ArenaState, literals_at, literals_in}
 use Rattle.watch_lists.specs.Watching.{clause_of, partner, held_at, IsAttached, IsBehind, Fits, WatchState}
-use Rattle.watch_lists.specs.NodeChains.{list_at, IsLinked}
-use Rattle.watch_lists.specs.Turns.{AreListed}
+use Rattle.watch_lists.specs.Lists.{list_at, IsLinked}
+use Rattle.watch_lists.specs.Walking.{AreListed}
 use Rattle.watch_lists.specs.Detaching.{AreLeft, HaveLists, IsDetached, IsPartOf}
-use Rattle.watch_lists.proofs.TurnLaws.{none_in}
+use Rattle.watch_lists.proofs.MemberLaws.{none_in}
 use Rattle.watch_lists.proofs.AttachLaws.{IsEntered, listed_entered, free_node}
 
 flag_below : (p r : ℕ) (xs : List Bool) → r < p → get_or (take p xs) r false ≡ get_or xs r false

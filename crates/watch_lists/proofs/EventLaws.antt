@@ -1,5 +1,5 @@
 -- One more literal looked at, and what holds when all are.
-use Rattle.std.proofs.Common.{◌≡◌, ◌≢◌, ℕ, zero, suc, ◌<◌, ◌+◌, ◌-◌, ◌*◌, ◌≤◌, Bool, true, false, not, List, [], ◌∷◌, ◌++◌, length, get_or, set, take, min, Option, None, IsSome, sym, ap, ◌∙◌, subst, refl, inl, inr, ◌⊎◌, ⊎_elim, arith}
+use Rattle.std.proofs.Common.{◌≡◌, ◌≢◌, ℕ, ◌<◌, ◌+◌, ◌-◌, ◌*◌, ◌≤◌, Bool, List, [], ◌∷◌, ◌++◌, length, get_or, set, take, min, Option, None, IsSome, sym, ap, ◌∙◌, subst, refl, inl, inr, ◌⊎◌, ⊎_elim, arith}
 use Rattle.std.specs.List.{Contains, All}
 use Rattle.std.proofs.lemmas.Bool.{cases_eq, cases_lt, false≢true}
 use Rattle.std.proofs.lemmas.List.{length-append, get_or-set_same, get_or-set_other, length-set, length-take, get_or-take, get_or-append_right, get_or_append_left, get_or_past}
@@ -8,45 +8,14 @@ use Rattle.cx_trail.specs.declared.entry.Reason.{Reason}
 use Rattle.watch_lists.specs.Raising.{IsRaised}
 use Rattle.cx_base.specs.Literals.{Literal, negate}
 use Rattle.cx_trail.specs.declared.entry.Entry.{Entry}
-use Rattle.cx_trail.specs.Sequence.{TrailState, IsTrail, IsTrueIn, IsFalseIn, IsOpenIn, IsAssignedIn, entry_at, no_entry, pushed, TakesBack}
+use Rattle.cx_trail.specs.Sequence.{TrailState, IsTrail, IsTrueIn, IsFalseIn, IsOpenIn, entry_at, no_entry, pushed, TakesBack}
+use Rattle.cx_base.proofs.LiteralLaws.{negate-negate}
+use Rattle.cx_trail.proofs.ValueLaws.{truth_cases, entry_kept}
 use Rattle.clause_arena.specs.Clauses.{ArenaState, Stored, clause_at, literals_in, literals_at, IsLive}
 use Rattle.watch_lists.specs.Truths.{IsQuiet}
 use Rattle.watch_lists.specs.Watching.{clause_of, partner, held_at, IsAttached, looked_at, AreNodes, AreGuarded, IsBehind, WatchState, Fits}
-use Rattle.watch_lists.specs.Turns.{AllPassed, IsRest, Goes}
-use Rattle.watch_lists.proofs.TruthLaws.{negate_negate}
-use Rattle.watch_lists.proofs.NodeLaws.{guarded_longer, entry_kept, partner_attached, partner_partner, other_inside}
-
-up_to : (entries : List Entry) (v n : ℕ) → ((i : ℕ) → i < n → (entry_at entries i).literal.variable ≢ v) ⊎ ((i : ℕ) × (i < n) × ((entry_at entries i).literal.variable ≡ v))
-up_to entries v zero = inl (λ i h e. omega arith)
-up_to entries v (suc n) = ⊎_elim
-    (λ (f : (i : ℕ) → i < n → (entry_at entries i).literal.variable ≢ v). ⊎_elim
-    (λ (e : (entry_at entries n).literal.variable ≡ v). inr (n, omega arith, e))
-    (λ (ne : (entry_at entries n).literal.variable ≢ v). inl (λ i h. ⊎_elim (λ (q : i ≡ n). subst (λ x. (entry_at entries x).literal.variable ≢ v) (sym q) ne) (λ (q : i ≢ n). f i (omega arith)) (cases_eq i n)))
-    (cases_eq ((entry_at entries n).literal.variable) v))
-    (λ (w : (i : ℕ) × (i < n) × ((entry_at entries i).literal.variable ≡ v)). inr (w.0, omega (arith, w.1), w.2))
-    (up_to entries v n)
-
-pub open_or_assigned : (entries : List Entry) (v : ℕ) → IsOpenIn entries v ⊎ IsAssignedIn entries v
-open_or_assigned entries v = up_to entries v (length entries)
-
-sign_cases : (b c : Bool) → (b ≡ c) ⊎ (b ≡ not c)
-sign_cases true true = inl refl
-sign_cases true false = inr refl
-sign_cases false true = inr refl
-sign_cases false false = inl refl
-
-mk : ℕ → Bool → Literal
-mk v b = record { variable = v; negative = b }
-
-pub truth_cases : (entries : List Entry) (l : Literal) → IsOpenIn entries l.variable ⊎ (IsTrueIn entries l ⊎ IsFalseIn entries l)
-unfolding mk
-truth_cases entries l = ⊎_elim (λ (o : IsOpenIn entries l.variable). inl o)
-    (λ (w : IsAssignedIn entries l.variable).
-    let m = (entry_at entries w.0).literal in
-    let e = ap (λ v. mk v (entry_at entries w.0).literal.negative) w.2 in
-    inr (⊎_elim (λ (s : m.negative ≡ l.negative). inl (w.0, (w.1, e ∙ ap (mk l.variable) s)))
-    (λ (s : m.negative ≡ not l.negative). inr (w.0, (w.1, e ∙ ap (mk l.variable) s))) (sign_cases m.negative l.negative)))
-    (open_or_assigned entries l.variable)
+use Rattle.watch_lists.specs.Walking.{AllPassed, IsRest, Goes}
+use Rattle.watch_lists.proofs.NodeLaws.{guarded_longer, partner_attached, partner_partner, other_inside}
 
 pub quiet_from : (vars : ℕ) (held : List Literal) (attached : List Bool) (a : ArenaState) (looked : List ℕ) (entries : List Entry) (top : ℕ) → AreNodes vars held attached a → AreGuarded looked held attached entries → top < length looked → length entries ≤ looked_at looked top → (r : ℕ) → IsAttached attached r → IsQuiet entries (literals_at a r)
 quiet_from vars held attached a looked entries top k g ht all r at =
@@ -56,7 +25,7 @@ quiet_from vars held attached a looked entries top k g ht all r at =
     let l = held_at held (2 * r) in
     let m = held_at held (partner (2 * r)) in
     let in_l : Contains (literals_at a r) (held_at held (2 * r)) = subst (λ x. Contains (literals_at a x) (held_at held (2 * r))) c (k.inside (2 * r) atn) in
-    let in_m : Contains (literals_at a r) (held_at held (partner (2 * r))) = subst (λ x. Contains (literals_at a x) (held_at held (partner (2 * r)))) c (other_inside vars held attached a (2 * r) (held_at held (partner (2 * r))) k atn refl) in
+    let in_m : Contains (literals_at a r) (held_at held (partner (2 * r))) = other_inside vars held attached a (2 * r) r (held_at held (partner (2 * r))) k atn (sym c) refl in
     let l_true : IsTrueIn entries (held_at held (2 * r)) → IsQuiet entries (literals_at a r) = λ t. inl (held_at held (2 * r), in_l, t) in
     let m_true : IsTrueIn entries (held_at held (partner (2 * r))) → IsQuiet entries (literals_at a r) = λ t. inl (held_at held (partner (2 * r)), in_m, t) in
     ⊎_elim
@@ -96,7 +65,7 @@ advance_guarded looked held attached u top head l ok et el eh ea passed g =
     let hi' : i < head + 1 = subst (λ x. i < x) (ap (looked_at (set looked top (head + 1))) q ∙ mine) hi in
     ⊎_elim
     (λ (z : i ≡ head).
-    let is_l : held_at held m ≡ l = sym (negate_negate (held_at held m)) ∙ ap negate (sym e) ∙ ap (λ x. negate (entry_at u.entries x).literal) z ∙ sym ea in
+    let is_l : held_at held m ≡ l = sym (negate-negate (held_at held m)) ∙ ap negate (sym e) ∙ ap (λ x. negate (entry_at u.entries x).literal) z ∙ sym ea in
     let w = passed m at is_l in
     (w.0, w.1.0, w.1.1, omega (arith, ok.levels w.0 w.1.0)))
     (λ (z : i ≢ head). g m k i at (omega arith) (subst (λ x. i < looked_at looked x) (sym q) (omega arith)) e) (cases_eq i head))

@@ -1,10 +1,10 @@
-//! A clause more.
+//! Attaching a clause.
 ghost use Rattle.std.specs.Prelude.{◌≡◌, ◌≢◌, ◌<◌, ◌≤◌, ◌+◌, ◌*◌, ◌^◌, ℕ, [], true, false, List, length, get_or, slice_set, OnOk, OnErr, vec_capacity};
 ghost use Rattle.cx_base.specs.Literals.{negate, code_of};
 ghost use Rattle.cx_trail.specs.Sequence.{StandsAt, entry_at};
 ghost use Rattle.watch_lists.specs.Watching.{held_at, looked_at, IsBehind};
-ghost use Rattle.watch_lists.specs.NodeChains.{list_at};
-ghost use Rattle.watch_lists.specs.Turns.{AreListed};
+ghost use Rattle.watch_lists.specs.Lists.{list_at};
+ghost use Rattle.watch_lists.specs.Walking.{AreListed};
 ghost use Rattle.watch_lists.specs.Attaching.{AreKept, IsForgotten};
 
 use crate::lists::NodeLists;
@@ -68,21 +68,6 @@ pub(crate) fn enter(nodes: &mut Nodes, lists: &mut NodeLists, place: u32, first:
     lists.link(node + 1, second.code());
 }
 
-// Forgets what was looked at on the current level.
-fn forget_level(looked: &mut Vec<usize>, trail: &Trail, second: Lit)
-    requires behind { IsBehind looked.old.items trail.now }
-    requires second { (i : ℕ) → StandsAt trail.now.entries (negate second) i → (entry_at trail.now.entries i).level ≡ trail.now.level }
-    ensures forgotten { IsForgotten trail.now second looked.old.items looked.new.items }
-    ensures room { vec_capacity looked.new ≡ vec_capacity looked.old }
-{
-    let level = trail.level() as usize;
-    if level == 0 {
-        looked[0] = 0;
-    } else {
-        looked.truncate(level);
-    }
-}
-
 // Forgets what was looked at on the current level if the literal is false.
 pub(crate) fn forget(looked: &mut Vec<usize>, trail: &Trail, second: Lit)
     requires high { second.variable ≤ trail.now.variables }
@@ -94,6 +79,13 @@ pub(crate) fn forget(looked: &mut Vec<usize>, trail: &Trail, second: Lit)
     match trail.truth(second) {
         Truth::True => {}
         Truth::Open => {}
-        Truth::False => forget_level(looked, trail, second),
+        Truth::False => {
+            let level = trail.level() as usize;
+            if level == 0 {
+                looked[0] = 0;
+            } else {
+                looked.truncate(level);
+            }
+        }
     }
 }

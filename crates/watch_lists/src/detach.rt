@@ -1,9 +1,9 @@
-//! Clauses that were removed.
+//! Detaching the clauses that were removed.
 ghost use Rattle.std.specs.Prelude.{◌≡◌, ◌≢◌, ◌<◌, ◌≤◌, ◌+◌, ◌*◌, ◌^◌, ℕ, [], true, false, List, length, get_or, take};
 ghost use Rattle.clause_arena.specs.Clauses.{IsLive};
 ghost use Rattle.watch_lists.specs.Watching.{held_at, clause_of, IsAttached};
-ghost use Rattle.watch_lists.specs.NodeChains.{list_at};
-ghost use Rattle.watch_lists.specs.Turns.{AreListed};
+ghost use Rattle.watch_lists.specs.Lists.{list_at};
+ghost use Rattle.watch_lists.specs.Walking.{AreListed};
 ghost use Rattle.watch_lists.specs.Detaching.{AreLeft, HaveLists};
 
 use crate::lists::NodeLists;

@@ -1,12 +1,12 @@
 //! Propagation up to the end of the trail or a conflict.
 ghost use Rattle.std.specs.Prelude.{◌≡◌, ◌≢◌, ◌<◌, ◌≤◌, ◌+◌, ◌*◌, ℕ, [], List, length, vec_capacity};
 ghost use Rattle.watch_lists.specs.Watching.{AreGuarded, IsBehind, Propagates};
-ghost use Rattle.watch_lists.specs.Turns.{IsRest};
+ghost use Rattle.watch_lists.specs.Walking.{IsRest};
 ghost use Rattle.watch_lists.specs.Events.{Happens};
 
 use crate::lists::NodeLists;
 use crate::nodes::Nodes;
-use crate::turn::walk_list;
+use crate::walk::walk_list;
 use clause_arena::Arena;
 use cx_base::ClauseRef;
 use cx_trail::Trail;
@@ -49,6 +49,7 @@ pub(crate) fn propagate(
         match walk_list(nodes, lists, arena, trail, entry.literal.negate()) {
             Some(reference) => return Event::Conflict(reference),
             None => {
+                // the trail is sound, which this call tells the proof
                 let _count = trail.len();
                 looked[top] = head + 1;
             }

@@ -8,7 +8,7 @@ mod laws;
 mod lists;
 mod look;
 mod nodes;
-mod turn;
+mod walk;
 mod watches;
 
 pub use event::Event;

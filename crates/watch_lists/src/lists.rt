@@ -1,7 +1,7 @@
 //! Lists of nodes through one link per node.
 ghost use Rattle.std.specs.Prelude.{◌≡◌, ◌≢◌, ◌<◌, ◌≤◌, ℕ, [], ◌∷◌, List, length, MatchOption, IfOk, OnOk, ◌^◌, slice_index_or};
 ghost use Rattle.std.specs.List.{Contains};
-ghost use Rattle.watch_lists.specs.NodeChains.{ListsState, IsFirst, IsMoved, IsTaken, IsLinked, list_at};
+ghost use Rattle.watch_lists.specs.Lists.{ListsState, IsFirst, IsMoved, IsTaken, IsLinked, list_at};
 
 use std::alloc::{AllocError, Global};
 use std::marker::Model;
@@ -22,13 +22,13 @@ pub(crate) struct NodeLists {
 
 impl Model for NodeLists {
     ghost use Rattle.std.specs.Prelude.{map, length};
-    ghost use Rattle.watch_lists.specs.NodeChains.{ListsState};
+    ghost use Rattle.watch_lists.specs.Lists.{ListsState};
 
     ghost Value = { ListsState };
 
-    ghost use Rattle.watch_lists.specs.Walks.{walk_of, AreChains};
+    ghost use Rattle.watch_lists.specs.Links.{nodes_of, AreChains};
 
-    ghost view = { λ a. record { lists = map (walk_of a.next.items) a.heads.items; nodes = length a.next.items } };
+    ghost view = { λ a. record { lists = map (nodes_of a.next.items) a.heads.items; nodes = length a.next.items } };
 
     ghost invariant = { λ a. AreChains a.next.items a.heads.items };
 }

@@ -1,5 +1,5 @@
 //! The watched literals of clauses.
-ghost use Rattle.std.specs.Prelude.{◌≡◌, ◌≢◌, ◌<◌, ◌≤◌, ◌^◌, ℕ, List, length};
+ghost use Rattle.std.specs.Prelude.{◌≡◌, ◌≢◌, ◌<◌, ◌≤◌, ◌*◌, ◌^◌, ℕ, List, length};
 ghost use Rattle.cx_trail.specs.Sequence.{IsTrail, IsFalseIn};
 ghost use Rattle.watch_lists.specs.Watching.{AreNodes, AreGuarded, IsBehind, IsAttached, Propagates, clause_of, held_at, partner};
 ghost use Rattle.watch_lists.specs.Visits.{Visited};
@@ -32,6 +32,15 @@ pub(crate) fn partner_of(node: usize) -> usize
     if node % 2 == 0 { node + 1 } else { node - 1 }
 }
 
+// The literal that the other node of the clause watches.
+fn partner_literal(nodes: &Nodes, node: u32) -> Lit
+    requires pairs { length nodes.now.held.items ≡ 2 * length nodes.now.attached.items }
+    requires attached { IsAttached nodes.now.attached.items (clause_of node) }
+    ensures { result ≡ held_at nodes.now.held.items (partner node) }
+{
+    nodes.held[partner_of(node as usize)]
+}
+
 // Visits the clause of a node whose literal is false.
 pub(crate) fn visit_node(nodes: &mut Nodes, arena: &Arena, trail: &mut Trail, node: u32) -> Visit
     requires nodes { AreNodes trail.old.variables nodes.old.held.items nodes.old.attached.items arena.now }
@@ -45,13 +54,12 @@ pub(crate) fn visit_node(nodes: &mut Nodes, arena: &Arena, trail: &mut Trail, no
     ensures propagates { Propagates nodes.old.attached.items arena.now trail.old trail.new }
     ensures visited { Visited arena.now nodes.old.held.items nodes.new.held.items trail.old trail.new node result }
 {
-    let at = node as usize;
-    let other = nodes.held[partner_of(at)];
+    let other = partner_literal(nodes, node);
     let reference = ClauseRef::new(node / 2);
     match look(arena, reference, trail, other) {
         Finding::Satisfied => Visit::Keep,
         Finding::Free(lit) => {
-            nodes.held[at] = lit;
+            nodes.held[node as usize] = lit;
             Visit::Move(lit)
         }
         Finding::Unit(lit) => {

@@ -34,7 +34,7 @@ impl Model for Watches {
 
     ghost Value = { WatchState };
 
-    ghost use Rattle.watch_lists.specs.Raising.{AreWatches};
+    ghost use Rattle.watch_lists.specs.Keeping.{AreWatches};
     ghost use Rattle.std.specs.Prelude.{vec_capacity};
 
     ghost view = { λ w. record { variables = w.vars; looked = w.looked.items; held = w.nodes.held.items; attached = w.nodes.attached.items } };
@@ -114,6 +114,7 @@ impl Watches {
         ensures others { (r : ℕ) → r ≢ reference → get_or self.new.attached r false ≡ get_or self.old.attached r false }
         ensures same { OnErr result (self.new ≡ self.old) }
     {
+        // references are few, which this call tells the proof
         let _count = arena.len();
         let place = reference.place();
         make_room(&mut self.nodes, &mut self.lists, place)?;

@@ -1,5 +1,5 @@
 use Rattle.std.proofs.Common.{◌+◌, ◌*◌, subst}
-use Rattle.watch_lists.specs.NodeChains.{IsLinked}
+use Rattle.watch_lists.specs.Lists.{IsLinked}
 use Rattle.watch_lists.proofs.AttachLaws.{free_node, free_second, clause_of_first, clause_of_second, entered, listed_entered}
 use Rattle.watch_lists.proofs.attach.enter.Goals as goal
 

@@ -1,7 +1,7 @@
 use Rattle.std.proofs.Common.{◌≡◌, ◌+◌, ◌*◌, true, false, get_or, sym, ◌∙◌, subst, refl, arith}
 use Rattle.std.proofs.lemmas.List.{get_or_read, get_or-set_same, get_or-set_other}
 use Rattle.watch_lists.specs.Watching.{no_literal}
-use Rattle.watch_lists.specs.NodeChains.{IsLinked}
+use Rattle.watch_lists.specs.Lists.{IsLinked}
 use Rattle.watch_lists.proofs.AttachLaws.{clause_of_first, clause_of_second, free_second}
 use Rattle.watch_lists.proofs.DetachLaws.{listed_skip, listed_link, free_at}
 use Rattle.watch_lists.proofs.detach.relist_one.Goals as goal

@@ -3,10 +3,11 @@ use Rattle.std.proofs.lemmas.List.{get_or_read, length-set, length-append}
 use Rattle.cx_base.specs.Literals.{negate}
 use Rattle.cx_trail.specs.declared.entry.Entry.{Entry}
 use Rattle.cx_trail.specs.Sequence.{entry_at}
+use Rattle.cx_trail.proofs.ValueLaws.{entry_kept}
 use Rattle.watch_lists.specs.Watching.{looked_at}
-use Rattle.watch_lists.specs.Turns.{AllPassed}
-use Rattle.watch_lists.proofs.NodeLaws.{entry_kept, propagates_both}
-use Rattle.watch_lists.proofs.TurnLaws.{behind_further}
+use Rattle.watch_lists.specs.Walking.{AllPassed}
+use Rattle.watch_lists.proofs.NodeLaws.{propagates_both}
+use Rattle.watch_lists.proofs.WalkLaws.{behind_further}
 use Rattle.watch_lists.proofs.EventLaws.{quiet_from, advance_behind, advance_guarded, goes_same, rest_same}
 use Rattle.watch_lists.proofs.event.propagate.Goals as goal
 

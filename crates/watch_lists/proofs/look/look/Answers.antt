@@ -1,8 +1,8 @@
 use Rattle.std.proofs.Common.{◌≡◌, ◌≢◌, List, subst, sym, ⊎_elim}
 use Rattle.std.specs.List.{Contains}
 use Rattle.cx_base.specs.Literals.{Literal}
+use Rattle.cx_base.proofs.LiteralLaws.{same_or_other}
 use Rattle.cx_trail.specs.Sequence.{IsFalseIn}
-use Rattle.watch_lists.proofs.TruthLaws.{same_or_other}
 use Rattle.watch_lists.proofs.look.look.Goals as goal
 
 pub returns-in-None-clause-finds : goal.returns-in-None-clause-finds

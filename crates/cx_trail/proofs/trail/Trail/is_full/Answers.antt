@@ -1,7 +1,7 @@
 use Rattle.std.proofs.Common.{◌≡◌, ◌≢◌, ℕ, true, false, MatchBool, eqb, ⊎_elim, sym, subst}
 use Rattle.std.proofs.lemmas.Bool.Decides.{eqb_tells}
-use Rattle.cx_trail.specs.Sequence.{TrailState, IsTrail, IsFull, HasOpen}
-use Rattle.cx_trail.proofs.KeptLaws.{sound_from_kept, full_from_kept, open_from_kept}
+use Rattle.cx_trail.specs.Sequence.{TrailState, IsFull, HasOpen}
+use Rattle.cx_trail.proofs.KeptLaws.{sound_shown, full_from_kept, open_from_kept}
 use Rattle.cx_trail.proofs.trail.Trail.is_full.Goals as goal
 
 by_test : (a b : ℕ) (t : TrailState) → (a ≡ b → IsFull t) → (a ≢ b → HasOpen t) → MatchBool (eqb a b) (IsFull t) (HasOpen t)
@@ -17,4 +17,4 @@ returns-clause-full c =
     (λ ne. subst (λ (t : TrailState). HasOpen t) c.self.view_is (open_from_kept _ _ _ _ _ _ k ne))
 
 pub returns-clause-sound : goal.returns-clause-sound
-returns-clause-sound c = subst (λ (t : TrailState). IsTrail t) c.self.view_is (sound_from_kept _ _ _ _ _ _ c.self.invariant)
+returns-clause-sound c = sound_shown _ _ _ _ _ _ _ c.self.invariant c.self.view_is

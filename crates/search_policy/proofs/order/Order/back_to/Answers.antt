@@ -1,31 +1,29 @@
-use Rattle.std.proofs.Common.{◌≡◌, ℕ, ◌<◌, List, length, sym, ◌∙◌, subst}
-use Rattle.search_policy.specs.Heaps.{item_at}
+use Rattle.std.proofs.Common.{◌≡◌, ℕ, ◌<◌, List, length, map, nat_lt, sym, ◌∙◌, subst}
+use Rattle.search_policy.specs.Heaps.{item_at, HasOpenOnes}
 use Rattle.search_policy.specs.Standing.{OrderState, AllStand}
 use Rattle.search_policy.proofs.StandLaws.{open_ones, stand_of, back_stand}
+use Rattle.search_policy.proofs.order.Order.back_to.Goals.{After-put_back-self-inside}
 use Rattle.search_policy.proofs.order.Order.back_to.Goals as goal
+
+-- the variables that stood still stand
+stays : (c : After-put_back-self-inside) → (v : ℕ) → v < length c.self.inside.scores.items → item_at c.self.inside.heap.places.items v < c.self.inside.count → item_at c.put_back-self-inside.new.heap.places.items v < c.put_back-self-inside.result
+stays c = subst (λ (xs : List ℕ). (v : ℕ) → v < length xs → item_at c.self.inside.heap.places.items v < c.self.inside.count → item_at c.put_back-self-inside.new.heap.places.items v < c.put_back-self-inside.result) c.as_slice.ensures.value c.put_back-self-inside.ensures.stays
+
+long : (c : After-put_back-self-inside) → length c.put_back-self-inside.new.heap.places.items ≡ length c.self.inside.scores.items
+long c = subst (λ (xs : List ℕ). length c.put_back-self-inside.new.heap.places.items ≡ length xs) c.as_slice.ensures.value c.put_back-self-inside.ensures.shuffled.place_count
+
+stood : (c : After-put_back-self-inside) → AllStand (record { scores = c.self.inside.scores.items; standing = map (λ p. nat_lt p c.self.inside.count) c.self.inside.heap.places.items }) c.args.trail.now
+stood c = subst (λ (o : OrderState). AllStand o c.args.trail.now) (sym c.self.view_is) c.requires
+
+open_stood : (c : After-put_back-self-inside) → HasOpenOnes (length c.self.inside.scores.items) c.args.trail.now.entries c.self.inside.heap.places.items c.self.inside.count
+open_stood c = open_ones _ _ _ _ c.self.invariant.2.shuffled.place_count (stood c)
 
 pub returns-clause-stand : goal.returns-clause-stand
 returns-clause-stand c =
-    let k = c.self.invariant.2 in
-    let t = c.args.trail.now in
-    let a = subst (λ (o : OrderState). AllStand o t) (sym c.self.view_is) c.requires in
-    let e = c.put_back-self-inside.ensures in
-    let same = c.as_slice.ensures.value in
-    let before = open_ones _ _ _ _ k.shuffled.place_count a in
-    let stays = subst (λ (xs : List ℕ). (v : ℕ) → v < length xs → item_at c.self.inside.heap.places.items v < c.self.inside.count → item_at c.put_back-self-inside.new.heap.places.items v < c.put_back-self-inside.result) same e.stays in
-    stand_of _ _ _ _ a.variables
-    (subst (λ (xs : List ℕ). length c.put_back-self-inside.new.heap.places.items ≡ length xs) same e.shuffled.place_count)
-    (λ v h o. stays v h (before v h o))
+    let put = (goal.at.returns-clause-stand c).After-put_back-self-inside in
+    stand_of _ _ _ _ (stood put).variables (long put) (λ v h o. stays put v h (open_stood put v h o))
 
 pub returns-clause-back : goal.returns-clause-back
 returns-clause-back c = λ u b.
-    let k = c.self.invariant.2 in
-    let t = c.args.trail.now in
-    let a = subst (λ (o : OrderState). AllStand o t) (sym c.self.view_is) c.requires in
-    let e = c.put_back-self-inside.ensures in
-    let same = c.as_slice.ensures.value in
-    let before = open_ones _ _ _ _ k.shuffled.place_count a in
-    let stays = subst (λ (xs : List ℕ). (v : ℕ) → v < length xs → item_at c.self.inside.heap.places.items v < c.self.inside.count → item_at c.put_back-self-inside.new.heap.places.items v < c.put_back-self-inside.result) same e.stays in
-    stand_of _ _ _ u (a.variables ∙ sym b.variables)
-    (subst (λ (xs : List ℕ). length c.put_back-self-inside.new.heap.places.items ≡ length xs) same e.shuffled.place_count)
-    (back_stand _ c.args.level _ _ _ _ t u b before stays e.put)
+    let put = (goal.at.returns-clause-back c).After-put_back-self-inside in
+    stand_of _ _ _ u ((stood put).variables ∙ sym b.variables) (long put) (back_stand _ c.args.level _ _ _ _ c.args.trail.now u b (open_stood put) (stays put) c.put_back-self-inside.ensures.put)
