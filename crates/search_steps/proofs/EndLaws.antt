@@ -12,7 +12,7 @@ use Rattle.cx_semantics.specs.Judging.{IsOpen}
 use Rattle.cx_semantics.specs.LogRules.{log_calculus}
 use Rattle.cx_semantics.specs.LogText.{step_of}
 use Rattle.cx_semantics.specs.Marked.{Marked}
-use Rattle.cx_semantics.specs.Settled.{IsClauseOf, Decides, IsClosed, SettledBy}
+use Rattle.cx_semantics.specs.Settled.{IsClauseOf, Decides, SettledBy}
 use Rattle.cx_semantics.specs.Tables.{Table}
 use Rattle.cx_semantics.proofs.ChainLaws.{and_both, true_by_all, literal_true-negate}
 use Rattle.search_steps.specs.Quiet.{Quiet}
