@@ -25,11 +25,11 @@ use Rattle.search_steps.specs.Tied.{IsTied, Mirrors}
 use Rattle.search_steps.specs.Ids.{IsRanged}
 use Rattle.search_steps.proofs.Sets.{by_cases, has_behind}
 use Rattle.search_steps.proofs.Bridge.{entry_last}
+use Rattle.search_steps.proofs.Reasons.{entry_at_front}
 use Rattle.gauss_jordan.specs.State.{State}
 use Rattle.cdcl_core.specs.declared.kept.Kept.{Kept}
 use Rattle.cdcl_core.specs.Ties.{first_row_id, IsNamedBy, AreClauses, AreNumbered, AreUnits, IsFed, HasReasonAt, HaveReasons, Ties}
 use Rattle.cdcl_core.specs.Entering.{IsPut}
-use Rattle.cdcl_core.proofs.Places.{entry_at_front}
 use Rattle.cdcl_core.specs.Learning.{IsTaught}
 use Rattle.cdcl_core.proofs.Entering.{tied_then, trail_is, ranged_then, parities_then, conflicts_then, tidy, named_then}
 

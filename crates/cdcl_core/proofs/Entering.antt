@@ -1,10 +1,9 @@
 -- A learned clause is entered: the ties of the search behind a whole conflict.
-use Rattle.std.proofs.Common.{◌≡◌, ◌≢◌, refl, sym, ap, ◌∙◌, subst, ℕ, ◌+◌, ◌-◌, ◌<◌, ℤ, false, cond, nat_eq, eq-eqb, List, [], ◌∷◌, length, Some, None, Option, ◌⊎◌, inl, inr, arith}
+use Rattle.std.proofs.Common.{◌≡◌, ◌≢◌, refl, sym, ap, ◌∙◌, subst, ℕ, ◌+◌, ◌-◌, ◌<◌, ℤ, false, cond, nat_eq, eq-eqb, List, [], ◌∷◌, length, Some, ◌⊎◌, inl, inr, arith}
 use Rattle.std.proofs.lemmas.Bool.{eqb-false}
 use Rattle.cx_base.specs.Literals.{Literal}
 use Rattle.cx_base.specs.Problem.{Problem, parities_of, AreWithin}
-use Rattle.cx_semantics.specs.declared.steps.LogStep.TheVariants.{ClauseWithHints, Delete}
-use Rattle.cx_semantics.specs.declared.steps.LogEvent.TheVariants.{Step}
+use Rattle.cx_semantics.specs.declared.steps.LogStep.TheVariants.{ClauseWithHints}
 use Rattle.cx_semantics.specs.Integers.{literals, integers_of}
 use Rattle.cx_semantics.specs.LogRules.{derives_empty_clause}
 use Rattle.cx_semantics.specs.Tables.{get}
@@ -14,12 +13,12 @@ use Rattle.cx_trail.specs.declared.entry.Reason.TheVariants as why
 use Rattle.cx_trail.specs.Sequence.{TrailState, TakesBack, pushed, IsOpenIn}
 use Rattle.search_steps.specs.Trail.{Entry, by_clause, back_to, level_of}
 use Rattle.search_steps.specs.Quiet.{IsOfParities}
-use Rattle.search_steps.specs.Search.{Search, IsSearch, IsServed as Served, IsTidy, IsLearnedOf, told}
-use Rattle.search_steps.specs.LogSteps.{IsAddition, deleted, after_learned, after_round}
+use Rattle.search_steps.specs.Search.{Search, IsSearch, IsServed as Served, IsTidy, IsLearnedOf}
+use Rattle.search_steps.specs.LogSteps.{IsAddition, after_learned, after_round}
 use Rattle.search_steps.specs.Tied.{IsTied}
 use Rattle.search_steps.specs.Ids.{IsRanged}
 use Rattle.search_steps.proofs.TrailLaws.{back_level}
-use Rattle.search_steps.proofs.Rounds.{deleted_trail, deleted_get}
+use Rattle.search_steps.proofs.Rounds.{deleted_trail, deleted_get, deleted_parities, deleted_conflicts}
 use Rattle.search_steps.proofs.RoundEnds.{round_is_tidy, round_stays_tied}
 use Rattle.search_steps.proofs.IdLaws.{ranged_round_keeps, round_ranged, next_is_free, low_is_no_row}
 use Rattle.search_steps.proofs.StartLaws.{variables_are_within}
@@ -29,15 +28,7 @@ use Rattle.gauss_jordan.specs.State.{State}
 use Rattle.cdcl_core.specs.declared.kept.Kept.{Kept}
 use Rattle.cdcl_core.specs.Ties.{first_row_id, IsNamedBy}
 use Rattle.cdcl_core.specs.Learning.{IsTaught}
-
--- what deletions and the round leave as it was
-pub deleted_parities : (s : Search) (ids : List ℕ) → (deleted s ids).moment.tables.parities ≡ s.moment.tables.parities
-deleted_parities s [] = refl
-deleted_parities s (n ∷ ids) = deleted_parities (told s (Step (Delete n []))) ids
-
-pub deleted_conflicts : (s : Search) (ids : List ℕ) → (deleted s ids).conflicts ≡ s.conflicts
-deleted_conflicts s [] = refl
-deleted_conflicts s (n ∷ ids) = deleted_conflicts (told s (Step (Delete n []))) ids
+use Rattle.cdcl_core.proofs.TableLaws.{no_clause}
 
 -- literals of the trail are within the variables
 negated_within : (formula : Problem) (t : TrailState) → t.variables ≡ formula.variables → Rattle.cx_trail.specs.Sequence.IsTrail t → (ps : List ℕ) → Rattle.std.specs.List.AllByRecursion (λ p. p < length t.entries) ps → AreWithin formula.variables (negated_at t ps)
@@ -132,9 +123,6 @@ module _ (formula : Problem) (c : Kept) (e : State) (lits : List Literal) (back 
   -- a live clause with a low id has another id, and stays
   pub stays : (m : ℕ) (clause : List Literal) → m < first_row_id → get s.moment.tables.clauses m ≡ Some clause → get after.moment.tables.clauses m ≡ Some clause
   stays m clause low live = get_old m low (λ same. no_clause clause (sym live ∙ ap (get s.moment.tables.clauses) same ∙ addition.free)) ∙ live
-    where
-      no_clause : (x : List Literal) → ◌≡◌ {A = Option (List Literal)} (Some x) None → ⊥
-      no_clause x q = cc
 
   pub named_then : (lits : List Literal) (m : ℕ) → m < first_row_id → IsNamedBy s.moment.tables.clauses lits m → IsNamedBy after.moment.tables.clauses lits m
   named_then lits m low named = record { clause = named.clause; live = stays m named.clause low named.live; same = named.same }

@@ -17,6 +17,7 @@ use Rattle.clause_arena.specs.Clauses.{Stored, IsLive, clause_at, literals_in, i
 use Rattle.cx_trail.specs.Sequence.{TrailState}
 use Rattle.search_steps.proofs.Sets.{by_cases, not_both, has_at_head, has_behind, has_split}
 use Rattle.search_steps.proofs.Lists.{all_append}
+use Rattle.search_steps.proofs.QuietLaws.{within_member}
 use Rattle.watch_lists.specs.Watching.{Fits, IsAttached}
 use Rattle.watch_lists.specs.Attaching.{CanBeWatched, literal_at}
 use Rattle.search_policy.specs.Standing.{AllStand}
@@ -76,13 +77,6 @@ same_tautology a b same h =
 same_as_none : (lits : List Literal) → same_literals [] lits ≡ true → lits ≡ []
 same_as_none [] h = refl
 same_as_none (m ∷ ms) h = absurd (true≢false (sym h))
-
-within_member : (n : ℕ) (lits : List Literal) (l : Literal) → AreWithin n lits → has_literal lits l ≡ true → (1 ≤ l.variable) × (l.variable ≤ n)
-within_member n [] l w h = not_both false h refl
-within_member n (m ∷ ms) l w h = elim (has_split m ms l h) [
-  | inl e ↦ subst (λ x. (1 ≤ x.variable) × (x.variable ≤ n)) (sym e) w.0
-  | inr g ↦ within_member n ms l w.1 g
-]
 
 different_within : (n : ℕ) (a b : List Literal) → same_literals a b ≡ true → AreWithin n b → AreWithin n a
 different_within n a b same w = within_by n a (λ l h. within_member n b l w (has_by_inside a b l (and_parts (is_inside a b) (is_inside b a) same).0 h))

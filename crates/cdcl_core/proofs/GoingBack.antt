@@ -26,9 +26,10 @@ use Rattle.search_steps.proofs.Bridge.{level_tied}
 use Rattle.search_steps.proofs.IdLaws.{jump_ranged}
 use Rattle.search_steps.proofs.EngineLaws.{back_holds_values, lagging_back}
 use Rattle.search_steps.proofs.OverSearch.{older_is_trail}
+use Rattle.search_steps.proofs.Reasons.{entry_at_front}
 use Rattle.cdcl_core.specs.declared.kept.Kept.{Kept}
 use Rattle.cdcl_core.specs.Ties.{first_row_id, IsNamedBy, AreClauses, AreUnits, HasReasonAt, IsEngineOf, IsFed, Ties}
-use Rattle.cdcl_core.proofs.Places.{entry_at_front, entry_behind, tied_length, older_level, older_stay}
+use Rattle.cdcl_core.proofs.Places.{entry_behind, tied_length, older_level, older_stay}
 
 -- the engine is at the trail's level
 pub above_too : (formula : Problem) (k : ℕ) (c : Kept) (e : State) (rows : List (List Literal)) (s : Search) → Ties formula c e rows s → k < c.trail.level → k < e.level

@@ -18,7 +18,6 @@ use Rattle.gauss_jordan.specs.State.{State}
 use Rattle.cdcl_core.specs.declared.kept.Kept.{Kept}
 use Rattle.cdcl_core.specs.Ties.{Ties}
 use Rattle.cdcl_core.specs.Entering.{EntersUnit, EntersClause}
-use Rattle.cdcl_core.proofs.Places.{entry_at_front}
 use Rattle.cdcl_core.specs.Learning.{IsTaught}
 use Rattle.cdcl_core.proofs.Entering.{within}
 use Rattle.cdcl_core.proofs.EnteredCases.{clause_ties, unit_ties}
@@ -27,6 +26,7 @@ use Rattle.cdcl_core.specs.Entering.{Enters}
 use Rattle.search_steps.proofs.TrailLaws.{back_holds}
 use Rattle.search_steps.proofs.Bridge.{held_is_true, level_tied}
 use Rattle.search_steps.proofs.Stored.{has_of}
+use Rattle.search_steps.proofs.Reasons.{entry_at_front}
 use Rattle.cx_semantics.proofs.ChainLaws.{are_one}
 use Rattle.cx_base.specs.Literals.{same_literal}
 use Rattle.watch_lists.specs.Attaching.{CanBeWatched, literal_at as nth}

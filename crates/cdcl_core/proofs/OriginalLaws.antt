@@ -31,6 +31,7 @@ use Rattle.cdcl_core.specs.Results.{IsFresh}
 use Rattle.cdcl_core.specs.Tells.{TellsAll, GivesUp, IsLeft, with_events}
 use Rattle.cdcl_core.proofs.Events.{no_more, gives_up}
 use Rattle.cdcl_core.proofs.TableLaws.{put_same, put_other}
+use Rattle.cdcl_core.proofs.RowSteps.{few_parities}
 
 -- ---- constraints by their places
 clause_there : (cs : List Constraint) (i : ℕ) (lits : List Literal) (d : Constraint) → i < length cs → get_or cs i d ≡ constraint.Clause lits → Contains (clauses_of cs) lits
@@ -52,12 +53,6 @@ unfolding clauses_of
 few_clauses [] = omega arith
 few_clauses (constraint.Clause lits ∷ cs) = let rec = few_clauses cs in omega (arith, rec)
 few_clauses (constraint.Parity lits ∷ cs) = let rec = few_clauses cs in omega (arith, rec)
-
-few_parities : (cs : List Constraint) → length (parities_of cs) ≤ length cs
-unfolding parities_of
-few_parities [] = omega arith
-few_parities (constraint.Clause lits ∷ cs) = let rec = few_parities cs in omega (arith, rec)
-few_parities (constraint.Parity lits ∷ cs) = let rec = few_parities cs in omega (arith, rec)
 
 count_clause : (cs : List Constraint) (clauses parities : ℕ) (lits : List Literal) → AreCounted cs clauses parities → AreCounted (cs ++ constraint.Clause lits ∷ []) (clauses + 1) parities
 unfolding clauses_of parities_of

@@ -1,5 +1,5 @@
 -- The unit clause of a literal of level 0 is told: the ties of the search behind that.
-use Rattle.std.proofs.Common.{◌≡◌, ◌≢◌, refl, sym, ap, ◌∙◌, subst, ℕ, suc, ◌+◌, ◌-◌, ◌<◌, ℤ, true, nat_eq, nat_lt, List, [], ◌∷◌, ◌++◌, length, take, get_or, Option, Some, None, ◌⊎◌, inl, inr, arith, length-append, append_assoc}
+use Rattle.std.proofs.Common.{◌≡◌, ◌≢◌, refl, sym, ap, ◌∙◌, subst, ℕ, suc, ◌+◌, ◌-◌, ◌<◌, ℤ, true, nat_eq, nat_lt, List, [], ◌∷◌, ◌++◌, length, take, get_or, Option, Some, ◌⊎◌, inl, inr, arith, length-append, append_assoc}
 use Rattle.std.proofs.lemmas.Bool.{eqb-false, ltb-true, ltb-false}
 use Rattle.std.proofs.lemmas.List.{take_all, take-append-le}
 use Rattle.std.proofs.Math.ListN.{get_or-append}
@@ -34,10 +34,11 @@ use Rattle.search_steps.proofs.Sets.{by_cases, has_at_head}
 use Rattle.search_steps.proofs.StartLaws.{variables_are_within}
 use Rattle.search_steps.proofs.UnitLaws.{held_same, level_same}
 use Rattle.search_steps.proofs.UnitSteps.{unit_rests_keeps}
+use Rattle.search_steps.proofs.Reasons.{entry_at_front}
 use Rattle.cdcl_core.specs.declared.kept.Kept.{Kept}
 use Rattle.cdcl_core.specs.Ties.{Ties, IsNamedBy, IsCovered, AreClauses, AreUnits, IsFed, HasReasonAt, HaveReasons, first_row_id}
 use Rattle.cdcl_core.proofs.Places.{tied_length, older_level}
-use Rattle.cdcl_core.proofs.TableLaws.{put_same, put_other}
+use Rattle.cdcl_core.proofs.TableLaws.{put_same, put_other, no_clause}
 
 -- ---- an entry that rests on its unit clause
 tied_rests : (newer older : List Entry) (e : Entry) (n : ℕ) (entries : List TrailEntry) → IsTied (newer ++ e ∷ older) entries → IsTied (newer ++ rests_on e n ∷ older) entries
@@ -112,7 +113,7 @@ older_literal (x ∷ newer) older e entries (before, i, same, lit, lev, t) =
     let l = tied_length (newer ++ e ∷ older) before t in
     let n = length-append newer (e ∷ older) in
     older_literal newer older e before t
-    ∙ sym (ap (λ x. x.literal) (ap (λ xs. entry_at xs (length older)) same ∙ Rattle.cdcl_core.proofs.Places.entry_at_front before (i ∷ []) (length older) (omega (arith, l, n))))
+    ∙ sym (ap (λ x. x.literal) (ap (λ xs. entry_at xs (length older)) same ∙ entry_at_front before (i ∷ []) (length older) (omega (arith, l, n))))
 
 last_part : (xs : List Entry) → 0 < length xs → (front : List Entry) × (x : Entry) × (xs ≡ front ++ x ∷ [])
 last_part [] h = absurd (omega (arith, h))
@@ -219,9 +220,6 @@ module _ (formula : Problem) (c : Kept) (e : State) (rows : List (List Literal))
   -- ---- the tables
   abbrev table : Table
   table = map_.insert s.moment.tables.clauses c.next (literal (integer_of l) ∷ [])
-
-  no_clause : (x : List Literal) → ◌≡◌ {A = Option (List Literal)} (Some x) None → ⊥
-  no_clause x q = cc
 
   apart : (m : ℕ) (x : List Literal) → get s.moment.tables.clauses m ≡ Some x → m ≢ n
   apart m x is same = no_clause x (sym is ∙ ap (get s.moment.tables.clauses) same ∙ addition.free)

@@ -57,6 +57,7 @@ use Rattle.cdcl_core.proofs.Growing.{covered_grows, stand_grows}
 use Rattle.cdcl_core.proofs.OriginalLaws.{few_clauses}
 use Rattle.cdcl_core.proofs.Places.{tied_length}
 use Rattle.cdcl_core.proofs.RowSteps.{is_left}
+use Rattle.cdcl_core.proofs.TableLaws.{no_clause}
 
 -- ---- the empty clause is told
 module _ (formula : Problem) (id : ℕ) (old : Option (List LogEvent)) (shown : IsRefutable formula id old) (hints : List ℤ) where
@@ -160,9 +161,6 @@ module _ (table : Table) (t : TrailState) (es : List Entry) (ids : List ℕ) (u 
     rest = ((n, rests), rest);
     all = λ high i far less. absurd (no_more_above high);
   }
-
-no_clause : (x : List Literal) → ◌≡◌ {A = Option (List Literal)} (Some x) None → ⊥
-no_clause x q = cc
 
 some_is : (x y : List Literal) → ◌≡◌ {A = Option (List Literal)} (Some x) (Some y) → x ≡ y
 some_is x y q = cc
