@@ -1,9 +1,8 @@
 -- What the logs of the search's answers are.
-use Rattle.std.proofs.Common.{◌≡◌, refl, sym, ap, ◌∙◌, subst, ℕ, suc, ◌+◌, ◌<◌, ◌≤◌, false, List, [], ◌∷◌, length, Bool, Some, None, Option, Result, Ok, Err, IfOk, OnOk, inl, inr, arith}
+use Rattle.std.proofs.Common.{◌≡◌, refl, sym, ap, ◌∙◌, subst, ℕ, ◌+◌, ◌<◌, false, List, length, Bool, Some, None, Option, Result, Ok, Err, IfOk, OnOk, inl, arith}
 use Rattle.std.specs.List.{range_with_len}
 use Rattle.cx_base.specs.Literals.{Literal}
 use Rattle.cx_base.specs.Problem.{Problem, parities_of}
-use Rattle.cx_semantics.specs.declared.steps.LogStep.{LogStep}
 use Rattle.cx_semantics.specs.declared.steps.LogEvent.{LogEvent}
 use Rattle.cx_semantics.specs.Integers.{integers_of}
 use Rattle.cx_semantics.specs.Marked.{Marked}
@@ -16,10 +15,9 @@ use Rattle.search_steps.proofs.EndLaws.{is_marked, is_log_open}
 use Rattle.cdcl_core.specs.declared.kept.Kept.{Kept}
 use Rattle.cdcl_core.specs.declared.solving.Outcome.{Outcome}
 use Rattle.cdcl_core.specs.declared.solving.Outcome.TheVariants.{Sat, Unsat, Unknown}
-use Rattle.cdcl_core.specs.Concluding.{IsEndedWith, EndsLog}
 use Rattle.cdcl_core.specs.Learning.{Learns}
-use Rattle.cdcl_core.specs.Results.{IsOpenWith, IsOpenWithin, IsEndedWithin, Refutes, Satisfies, UsesUp, Answers, HasNoMark, IsSettledBy}
-use Rattle.cdcl_core.specs.Tells.{IsLeft, GivesUp, TellsAll, as_events, with_events}
+use Rattle.cdcl_core.specs.Results.{IsOpenWith, HasNoMark, IsSettledBy}
+use Rattle.cdcl_core.specs.Tells.{IsLeft}
 use Rattle.cdcl_core.specs.Ties.{Stands}
 use Rattle.cx_trail.specs.Sequence.{TrailState}
 use Rattle.cdcl_core.specs.Finds.{Finds, HasAll}
@@ -27,7 +25,6 @@ use Rattle.cdcl_core.specs.Units.{HasOther}
 use Rattle.cdcl_core.specs.declared.propagation.Found.{Found}
 use Rattle.cdcl_core.specs.declared.propagation.Found.TheVariants as found
 use Rattle.cdcl_core.proofs.Entering.{round_is_search, conflicts_then, tidy}
-use Rattle.cdcl_core.proofs.Events.{gives_up}
 
 -- ---- open logs
 search_is_open : (formula : Problem) (s : Search) (n : ℕ) (told : Option (List LogEvent)) → IsSearch formula (parities_of formula.constraints) s → s.moment.awaits ≡ false → s.conflicts ≡ n → AreTold told s.events → IsOpenWith formula n told
@@ -54,24 +51,6 @@ stands_is_left formula c e rows told st = open_is_left formula c.conflicts told 
 pub learned_is_left : (formula : Problem) (c : Kept) (e : State) (lits : List Literal) (back : ℕ) (told : Option (List LogEvent)) → Learns formula c e lits back told → IsLeft formula told
 learned_is_left formula c e lits back told l = open_is_left formula (c.conflicts + 1) told (learned_log_is_open formula c e lits back told l)
 
--- ---- ended logs
-ended_within : (formula : Problem) (marks : ℕ) (told : Option (List LogEvent)) → IsEndedWith formula marks told → IsEndedWithin formula (marks + 1) told
-ended_within formula marks None h = tt
-ended_within formula marks (Some es) (e, m) = (e, (marks, omega arith, m))
-
-pub end_refutes : (formula : Problem) (marks : ℕ) (steps : List LogStep) (old new : Option (List LogEvent)) → EndsLog formula marks old steps → new ≡ with_events (as_events steps) old → Refutes formula (marks + 1) new
-end_refutes formula marks steps old new x is = record {
-  unmet = x.unmet;
-  log = subst (IsEndedWithin formula (marks + 1)) (sym is) (ended_within formula marks (with_events (as_events steps) old) x.log);
-}
-
-more_within : (formula : Problem) (a b : ℕ) (told : Option (List LogEvent)) → a ≤ b → IsEndedWithin formula a told → IsEndedWithin formula b told
-more_within formula a b None less h = tt
-more_within formula a b (Some es) less (e, (n, fewer, m)) = (e, (n, omega (arith, fewer, less), m))
-
-pub refutes_within : (formula : Problem) (a b : ℕ) (told : Option (List LogEvent)) → a ≤ b → Refutes formula a told → Refutes formula b told
-refutes_within formula a b told less x = record { unmet = x.unmet; log = more_within formula a b told less x.log }
-
 -- ---- settled formulas
 no_marks : (formula : Problem) (es : List LogEvent) (n : ℕ) → n < 1 → Marked formula es n → HasNoMark (Some es)
 no_marks formula es n fewer m = let none : n ≡ 0 = omega (arith, fewer) in m.marks ∙ ap (range_with_len 1) none
@@ -81,15 +60,6 @@ settled_has_no_mark formula None a h = tt
 settled_has_no_mark formula (Some es) (Sat values) h = let log = h.0.log in no_marks formula es log.0 log.1 log.2.1
 settled_has_no_mark formula (Some es) Unsat h = let log = h.0.log in no_marks formula es log.1.0 log.1.1 log.1.2
 settled_has_no_mark formula (Some es) (Unknown n) h = absurd (h.1 n refl)
-
--- ---- an end that was not told whole
-length_of : (steps : List LogStep) → length (as_events steps) ≡ length steps
-length_of [] = refl
-length_of (s ∷ steps) = ap suc (length_of steps)
-
-pub end_gives_up : (formula : Problem) (torn : LogEvent → Type 0) (marks : ℕ) (steps : List LogStep) (old new : Option (List LogEvent)) (fault : CoreFault) → EndsLog formula marks old steps
-    → TellsAll {T = Unit {0}} torn (as_events steps) old (Err fault) new → GivesUp formula torn new fault
-end_gives_up formula torn marks steps old new fault x tells = gives_up formula torn (as_events steps) old new fault tells (λ i less. x.fronts i (let n = length_of steps in omega (arith, less, n)))
 
 -- ---- unit clauses change nothing that propagation found
 has_all_still : (old new : Kept) → HasOther old new → HasAll old → HasAll new

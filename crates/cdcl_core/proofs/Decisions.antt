@@ -12,7 +12,7 @@ use Rattle.watch_lists.proofs.EventLaws.{fits_pushed}
 use Rattle.search_policy.specs.Standing.{OrderState, AllStand}
 use Rattle.parity_engine.specs.State.{State}
 use Rattle.parity_engine.specs.State.{pushed as opened}
-use Rattle.search_steps.specs.Trail.{Entry, decided, all_held, level_of}
+use Rattle.search_steps.specs.Trail.{decided, all_held, level_of}
 use Rattle.search_steps.specs.Quiet.{Quiet}
 use Rattle.search_steps.specs.Laws.{HaveTheirs}
 use Rattle.search_steps.specs.Search.{Search, IsSearch, decided_on}
@@ -66,12 +66,6 @@ module _ (formula : Problem) (c : Kept) (e : State) (s : Search) (ok : IsSearch 
   module _ (units : c.trail.level ≡ 0 → length c.units.items ≡ length c.trail.entries) (o : OrderState) (stand : AllStand o c.trail) (l : Literal) (is_open : IsOpenIn c.trail.entries l.variable) where
     abbrev next : Kept
     next = record c { order = o }
-
-    entry : Entry
-    entry = record { literal = l; level = suc (level_of s.trail); why = decided }
-
-    top : level_of s.trail ≡ c.trail.level
-    top = level_tied s.trail c.trail t.follows.tied t.follows.sound
 
     fed_now : IsFed (record { literal = l; level = suc (level_of s.trail); why = decided } ∷ s.trail) c.given (opened e)
     fed_now = record {

@@ -1,5 +1,6 @@
 -- The clauses of rows are deleted: the ties of the search behind that.
-use Rattle.std.proofs.Common.{◌≡◌, refl, sym, ap, ◌∙◌, subst, ℕ, zero, suc, ◌+◌, ◌-◌, ◌<◌, true≢false, List, [], ◌∷◌, ◌++◌, length, take, fold, Option, arith}
+use Rattle.std.proofs.Common.{◌≡◌, refl, sym, ap, ◌∙◌, subst, ℕ, zero, suc, ◌+◌, ◌-◌, ◌<◌, true≢false, List, [], ◌∷◌, ◌++◌, length, take, fold, Option, arith, append_assoc}
+use Rattle.std.proofs.lemmas.List.{map_push, take-map}
 use Rattle.std.specs.List.{AllByRecursion}
 use Rattle.cx_base.specs.Literals.{Literal}
 use Rattle.cx_base.specs.Problem.{Problem, parities_of}
@@ -19,9 +20,10 @@ use Rattle.search_steps.specs.LogSteps.{AreTemporary, deleted, all_told}
 use Rattle.search_steps.specs.Holding.{AreTold}
 use Rattle.search_steps.specs.Ids.{IsRanged}
 use Rattle.search_steps.specs.Tied.{Mirrors}
-use Rattle.search_steps.proofs.Rounds.{deleted_keeps, deleted_trail, deleted_levels, deleted_old, deleted_get}
+use Rattle.search_steps.proofs.Rounds.{deleted_keeps, deleted_trail, deleted_levels, deleted_conflicts, deleted_awaits, deleted_old_sums, deleted_new_sums, deleted_parities, deleted_old, deleted_get}
 use Rattle.search_steps.proofs.RowReasons.{all_deleted}
 use Rattle.search_steps.proofs.IdLaws.{row_ids_are_temporary, deletions_ranged, anew_ranged, low_is_no_row}
+use Rattle.search_steps.proofs.Lists.{all_append}
 use Rattle.cdcl_core.specs.declared.kept.Kept.{Kept}
 use Rattle.cdcl_core.specs.Deleting.{deletions}
 use Rattle.cdcl_core.specs.Tells.{TellsAll, GivesUp, IsLeft, as_events, with_events}
@@ -31,48 +33,20 @@ use Rattle.cdcl_core.proofs.RowSteps.{all_told_are, is_left}
 use Rattle.cdcl_core.proofs.TableLaws.{AnswersBelow, clauses_stay, units_stay}
 
 -- ---- the steps
-as_one : (steps : List LogStep) (s : LogStep) (rest : List LogEvent) → as_events (steps ++ s ∷ []) ++ rest ≡ as_events steps ++ Step s ∷ rest
-as_one [] s rest = refl
-as_one (x ∷ steps) s rest = ap (λ es. Step x ∷ es) (as_one steps s rest)
-
 -- the newest of the rows that are left goes next
 pub one_deleted : (steps : List LogStep) (left : ℕ) (s : LogStep) (all : List LogEvent) → 0 < left → s ≡ Delete (first_row_id + (left - 1)) [] → as_events steps ++ deletions (row_ids left) ≡ all
     → as_events (steps ++ s ∷ []) ++ deletions (row_ids (left - 1)) ≡ all
 one_deleted steps zero s all some is so_far = absurd (omega (arith, some))
 one_deleted steps (suc left) s all some is so_far = subst (λ k. as_events (steps ++ s ∷ []) ++ deletions (row_ids k) ≡ all) (sym one_less)
-    (as_one steps s (deletions (row_ids left)) ∙ ap (λ x. as_events steps ++ Step x ∷ deletions (row_ids left)) (is ∙ ap (λ k. Delete (first_row_id + k) []) one_less) ∙ so_far)
+    (ap (λ es. es ++ deletions (row_ids left)) (map_push Step steps s) ∙ append_assoc (as_events steps) (Step s ∷ []) (deletions (row_ids left)) ∙ ap (λ x. as_events steps ++ Step x ∷ deletions (row_ids left)) (is ∙ ap (λ k. Delete (first_row_id + k) []) one_less) ∙ so_far)
   where
     one_less : suc left - 1 ≡ left
     one_less = omega arith
 
-both_texts : (steps : List LogStep) (s : LogStep) → AllByRecursion (λ t. HasText (Step t)) steps → HasText (Step s) → AllByRecursion (λ t. HasText (Step t)) (steps ++ s ∷ [])
-both_texts [] s a h = (h, tt)
-both_texts (x ∷ steps) s a h = (a.0, both_texts steps s a.1 h)
-
 pub one_more_text : (steps : List LogStep) (s : LogStep) (more : List LogStep) → more ≡ steps ++ s ∷ [] → AllByRecursion (λ t. HasText (Step t)) steps → HasText (Step s) → AllByRecursion (λ t. HasText (Step t)) more
-one_more_text steps s more are a h = subst (AllByRecursion (λ t. HasText (Step t))) (sym are) (both_texts steps s a h)
+one_more_text steps s more are a h = subst (AllByRecursion (λ t. HasText (Step t))) (sym are) (all_append (λ t. HasText (Step t)) steps (s ∷ []) a (h, tt))
 
 -- ---- what deletions leave as it was
-deleted_awaits : (s : Search) (ids : List ℕ) → (deleted s ids).moment.awaits ≡ s.moment.awaits
-deleted_awaits s [] = refl
-deleted_awaits s (n ∷ ids) = deleted_awaits (told s (Step (Delete n []))) ids
-
-deleted_old_sums : (s : Search) (ids : List ℕ) → (deleted s ids).moment.old_sums ≡ s.moment.old_sums
-deleted_old_sums s [] = refl
-deleted_old_sums s (n ∷ ids) = deleted_old_sums (told s (Step (Delete n []))) ids
-
-deleted_new_sums : (s : Search) (ids : List ℕ) → (deleted s ids).moment.new_sums ≡ s.moment.new_sums
-deleted_new_sums s [] = refl
-deleted_new_sums s (n ∷ ids) = deleted_new_sums (told s (Step (Delete n []))) ids
-
-deleted_parities : (s : Search) (ids : List ℕ) → (deleted s ids).moment.tables.parities ≡ s.moment.tables.parities
-deleted_parities s [] = refl
-deleted_parities s (n ∷ ids) = deleted_parities (told s (Step (Delete n []))) ids
-
-deleted_conflicts : (s : Search) (ids : List ℕ) → (deleted s ids).conflicts ≡ s.conflicts
-deleted_conflicts s [] = refl
-deleted_conflicts s (n ∷ ids) = deleted_conflicts (told s (Step (Delete n []))) ids
-
 deleted_new_clauses : (s : Search) (ids : List ℕ) → (deleted s ids).moment.new_clauses ≡ fold without s.moment.new_clauses ids
 deleted_new_clauses s [] = refl
 deleted_new_clauses s (n ∷ ids) = deleted_new_clauses (told s (Step (Delete n []))) ids
@@ -80,11 +54,6 @@ deleted_new_clauses s (n ∷ ids) = deleted_new_clauses (told s (Step (Delete n 
 deleted_is_told : (s : Search) (ids : List ℕ) → all_told s (deletions ids) ≡ deleted s ids
 deleted_is_told s [] = refl
 deleted_is_told s (n ∷ ids) = deleted_is_told (told s (Step (Delete n []))) ids
-
-take_deletions : (ids : List ℕ) (k : ℕ) → take k (deletions ids) ≡ deletions (take k ids)
-take_deletions ids zero = refl
-take_deletions [] (suc k) = refl
-take_deletions (n ∷ ids) (suc k) = ap (λ es. Step (Delete n []) ∷ es) (take_deletions ids k)
 
 first_temporary : (formula : Problem) (s : Search) (ids : List ℕ) (k : ℕ) → AreTemporary formula s ids → AreTemporary formula s (take k ids)
 first_temporary formula s ids zero t = tt
@@ -149,7 +118,7 @@ module _ (formula : Problem) (c : Kept) (e : State) (rows : List (List Literal))
   told_then old a some = subst (λ (u : Search). AreTold (with_events (deletions some) old) u.events) (deleted_is_told s some) (all_told_are (deletions some) s old a)
 
   pub fronts_are_left : (old : Option (List LogEvent)) → AreTold old s.events → (k : ℕ) → IsLeft formula (with_events (take k (deletions ids)) old)
-  fronts_are_left old a k = subst (λ es. IsLeft formula (with_events es old)) (sym (take_deletions ids k))
+  fronts_are_left old a k = subst (λ es. IsLeft formula (with_events es old)) (sym (take-map (λ n. Step (Delete n [])) k ids))
       (is_left formula (parities_of formula.constraints) (deleted s (take k ids)) (with_events (deletions (take k ids)) old) (is_search_then k) (deleted_awaits s (take k ids) ∙ t.served.served) (told_then old a (take k ids)))
 
   pub stands_then : (old : Option (List LogEvent)) → AreTold old s.events → Stands formula c e [] (with_events (deletions ids) old)

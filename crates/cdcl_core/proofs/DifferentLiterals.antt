@@ -41,9 +41,6 @@ pub record AreFound (lits found : List Literal) : Type 0 where
   pub back : (l : Literal) → has_literal lits l ≡ true → has_literal found l ≡ true
   pub once : AreDifferent found
 
-pub none_found : AreFound [] []
-none_found = record { there = λ l h. h; back = λ l h. h; once = tt }
-
 pub same_found : (lits found : List Literal) → AreFound lits found → same_literals found lits ≡ true
 same_found lits found f = and_both _ _ (inside_by found lits f.there) (inside_by lits found f.back)
 

@@ -1,48 +1,36 @@
 -- A learned clause is entered: the code's trail and what stands on it.
-use Rattle.std.proofs.Common.{◌≡◌, ◌≢◌, refl, sym, ap, ◌∙◌, subst, ℕ, zero, suc, ◌+◌, ◌-◌, ◌<◌, ◌≤◌, ◌^◌, ℤ, Bool, true, false, cond, nat_eq, nat_le, nat_lt, is_some, eq-eqb, List, [], ◌∷◌, ◌++◌, length, take, get_or, map, Some, None, Option, ◌⊎◌, inl, inr, arith, length-append, Contains, true≢false}
-use Rattle.std.proofs.lemmas.Bool.{eqb-false, ltb-true, ltb-false}
-use Rattle.std.proofs.lemmas.List.{take-append-le, get_or_append_left}
-use Rattle.std.specs.FinMap as map_
+use Rattle.std.proofs.Common.{◌≡◌, ◌≢◌, refl, sym, ap, ◌∙◌, subst, ℕ, zero, suc, ◌+◌, ◌-◌, ◌<◌, ◌≤◌, ℤ, true, false, cond, nat_le, nat_lt, is_some, List, [], ◌∷◌, ◌++◌, length, take, get_or, None, Option, ◌⊎◌, inl, inr, arith, length-append, Contains, true≢false}
+use Rattle.std.proofs.lemmas.Bool.{ltb-true, ltb-false}
+use Rattle.std.proofs.lemmas.List.{take-append-le}
 use Rattle.std.specs.Prelude.{IsTrue}
 use Rattle.std.specs.FinSet as set
-use Rattle.cx_base.specs.Literals.{Literal, negate, literal_true}
-use Rattle.cx_base.specs.Problem.{Problem, parities_of, AreWithin}
-use Rattle.cx_semantics.specs.declared.steps.LogStep.TheVariants.{ClauseWithHints, Delete}
-use Rattle.cx_semantics.specs.declared.steps.LogEvent.TheVariants.{Step}
-use Rattle.cx_semantics.specs.Chain.{has_literal, same_literals}
-use Rattle.cx_semantics.specs.Integers.{literals, integers_of}
-use Rattle.cx_semantics.specs.LogRules.{derives_empty_clause}
-use Rattle.cx_semantics.specs.Marked.{is_among}
-use Rattle.cx_semantics.specs.Tables.{Table, get}
-use Rattle.cx_semantics.proofs.Lookups.{Looks-insert}
+use Rattle.cx_base.specs.Literals.{Literal, literal_true}
+use Rattle.cx_base.specs.Problem.{Problem, parities_of}
+use Rattle.cx_semantics.specs.Chain.{has_literal}
+use Rattle.cx_semantics.specs.Integers.{integers_of}
+use Rattle.cx_semantics.specs.Tables.{get}
 use Rattle.cx_trail.specs.declared.entry.Entry.{Entry as TrailEntry}
 use Rattle.cx_trail.specs.declared.entry.Reason.{Reason}
 use Rattle.cx_trail.specs.declared.entry.Reason.TheVariants as why
-use Rattle.cx_trail.specs.Sequence.{TrailState, TakesBack, entry_at, pushed, IsOpenIn, IsTrueIn, IsAssignedIn}
-use Rattle.clause_arena.specs.Clauses.{Stored, IsLive, clause_at, literals_in, literals_at, id_in, id_at}
+use Rattle.cx_trail.specs.Sequence.{TrailState, TakesBack, entry_at, pushed, IsTrueIn, IsAssignedIn}
+use Rattle.clause_arena.specs.Clauses.{Stored, IsLive, clause_at, literals_in, literals_at}
 use Rattle.watch_lists.specs.Truths.{AreOthersFalse}
-use Rattle.watch_lists.specs.Watching.{Fits, IsAttached}
+use Rattle.watch_lists.specs.Watching.{Fits}
 use Rattle.search_policy.specs.Standing.{OrderState, AllStand}
 use Rattle.search_steps.specs.Trail.{Entry, by_clause, held, back_to, level_of}
-use Rattle.search_steps.specs.Quiet.{IsOfParities, HasTrue}
-use Rattle.search_steps.specs.Search.{Search, IsSearch, IsServed as Served, IsTidy, IsLearnedOf, jumped, told, marked}
-use Rattle.search_steps.specs.LogSteps.{IsAddition, deleted, after_learned, after_round}
+use Rattle.search_steps.specs.Quiet.{HasTrue}
+use Rattle.search_steps.specs.Search.{Search, jumped}
+use Rattle.search_steps.specs.LogSteps.{after_round}
 use Rattle.search_steps.specs.Tied.{IsTied, Mirrors}
 use Rattle.search_steps.specs.Ids.{IsRanged}
-use Rattle.search_steps.proofs.TrailLaws.{back_level}
-use Rattle.search_steps.proofs.Rounds.{deleted_trail, deleted_get}
-use Rattle.search_steps.proofs.RoundEnds.{round_is_tidy, round_stays_tied}
-use Rattle.search_steps.proofs.IdLaws.{ranged_round_keeps, round_ranged, next_is_free, low_is_no_row}
-use Rattle.search_steps.proofs.StartLaws.{variables_are_within}
 use Rattle.search_steps.proofs.Sets.{by_cases, has_behind}
 use Rattle.search_steps.proofs.Bridge.{entry_last}
-use Rattle.conflict_learn.specs.Learning.{negated_at, literal_at}
+use Rattle.search_steps.proofs.Reasons.{entry_at_front}
 use Rattle.parity_engine.specs.State.{State}
 use Rattle.cdcl_core.specs.declared.kept.Kept.{Kept}
 use Rattle.cdcl_core.specs.Ties.{first_row_id, IsNamedBy, AreClauses, AreNumbered, AreUnits, IsFed, HasReasonAt, HaveReasons, Ties}
-use Rattle.cdcl_core.specs.Entering.{IsPut, EntersUnit, EntersClause}
-use Rattle.cdcl_core.proofs.Places.{entry_at_front}
-use Rattle.cdcl_core.specs.Learning.{ArePlaced, IsTaught, Learns}
+use Rattle.cdcl_core.specs.Entering.{IsPut}
+use Rattle.cdcl_core.specs.Learning.{IsTaught}
 use Rattle.cdcl_core.proofs.Entering.{tied_then, trail_is, ranged_then, parities_then, conflicts_then, tidy, named_then}
 
 -- ---- a literal more on the code's trail

@@ -1,57 +1,34 @@
 -- A learned clause is entered: the ties of the search behind a whole conflict.
-use Rattle.std.proofs.Common.{◌≡◌, ◌≢◌, refl, sym, ap, ◌∙◌, subst, ℕ, zero, suc, ◌+◌, ◌-◌, ◌<◌, ◌≤◌, ◌^◌, ℤ, Bool, true, false, cond, nat_eq, nat_le, nat_lt, is_some, eq-eqb, List, [], ◌∷◌, ◌++◌, length, take, get_or, map, Some, None, Option, ◌⊎◌, inl, inr, arith, length-append, Contains, true≢false}
-use Rattle.std.proofs.lemmas.Bool.{eqb-false, ltb-true, ltb-false}
-use Rattle.std.proofs.lemmas.List.{take-append-le, get_or_append_left}
-use Rattle.std.specs.FinMap as map_
-use Rattle.std.specs.Prelude.{IsTrue}
-use Rattle.std.specs.FinSet as set
-use Rattle.cx_base.specs.Literals.{Literal, negate, literal_true}
+use Rattle.std.proofs.Common.{◌≡◌, ◌≢◌, refl, sym, ap, ◌∙◌, subst, ℕ, ◌+◌, ◌-◌, ◌<◌, ℤ, false, cond, nat_eq, eq-eqb, List, [], ◌∷◌, length, Some, ◌⊎◌, inl, inr, arith}
+use Rattle.std.proofs.lemmas.Bool.{eqb-false}
+use Rattle.cx_base.specs.Literals.{Literal}
 use Rattle.cx_base.specs.Problem.{Problem, parities_of, AreWithin}
-use Rattle.cx_semantics.specs.declared.steps.LogStep.TheVariants.{ClauseWithHints, Delete}
-use Rattle.cx_semantics.specs.declared.steps.LogEvent.TheVariants.{Step}
-use Rattle.cx_semantics.specs.Chain.{has_literal, same_literals}
+use Rattle.cx_semantics.specs.declared.steps.LogStep.TheVariants.{ClauseWithHints}
 use Rattle.cx_semantics.specs.Integers.{literals, integers_of}
 use Rattle.cx_semantics.specs.LogRules.{derives_empty_clause}
-use Rattle.cx_semantics.specs.Marked.{is_among}
-use Rattle.cx_semantics.specs.Tables.{Table, get}
+use Rattle.cx_semantics.specs.Tables.{get}
 use Rattle.cx_semantics.proofs.Lookups.{Looks-insert}
-use Rattle.cx_trail.specs.declared.entry.Entry.{Entry as TrailEntry}
 use Rattle.cx_trail.specs.declared.entry.Reason.{Reason}
 use Rattle.cx_trail.specs.declared.entry.Reason.TheVariants as why
-use Rattle.cx_trail.specs.Sequence.{TrailState, TakesBack, entry_at, pushed, IsOpenIn, IsTrueIn, IsAssignedIn}
-use Rattle.clause_arena.specs.Clauses.{Stored, IsLive, clause_at, literals_in, literals_at, id_in, id_at}
-use Rattle.watch_lists.specs.Truths.{AreOthersFalse}
-use Rattle.watch_lists.specs.Watching.{Fits, IsAttached}
-use Rattle.search_policy.specs.Standing.{OrderState, AllStand}
-use Rattle.search_steps.specs.Trail.{Entry, by_clause, held, back_to, level_of}
-use Rattle.search_steps.specs.Quiet.{IsOfParities, HasTrue}
-use Rattle.search_steps.specs.Search.{Search, IsSearch, IsServed as Served, IsTidy, IsLearnedOf, jumped, told, marked}
-use Rattle.search_steps.specs.LogSteps.{IsAddition, deleted, after_learned, after_round}
-use Rattle.search_steps.specs.Tied.{IsTied, Mirrors}
+use Rattle.cx_trail.specs.Sequence.{TrailState, TakesBack, pushed, IsOpenIn}
+use Rattle.search_steps.specs.Trail.{Entry, by_clause, back_to, level_of}
+use Rattle.search_steps.specs.Quiet.{IsOfParities}
+use Rattle.search_steps.specs.Search.{Search, IsSearch, IsServed as Served, IsTidy, IsLearnedOf}
+use Rattle.search_steps.specs.LogSteps.{IsAddition, after_learned, after_round}
+use Rattle.search_steps.specs.Tied.{IsTied}
 use Rattle.search_steps.specs.Ids.{IsRanged}
 use Rattle.search_steps.proofs.TrailLaws.{back_level}
-use Rattle.search_steps.proofs.Rounds.{deleted_trail, deleted_get}
+use Rattle.search_steps.proofs.Rounds.{deleted_trail, deleted_get, deleted_parities, deleted_conflicts}
 use Rattle.search_steps.proofs.RoundEnds.{round_is_tidy, round_stays_tied}
 use Rattle.search_steps.proofs.IdLaws.{ranged_round_keeps, round_ranged, next_is_free, low_is_no_row}
 use Rattle.search_steps.proofs.StartLaws.{variables_are_within}
-use Rattle.search_steps.proofs.Sets.{by_cases, has_behind}
-use Rattle.search_steps.proofs.Bridge.{entry_last}
-use Rattle.conflict_learn.specs.Learning.{negated_at, literal_at}
+use Rattle.search_steps.proofs.Sets.{by_cases}
+use Rattle.conflict_learn.specs.Learning.{negated_at}
 use Rattle.parity_engine.specs.State.{State}
 use Rattle.cdcl_core.specs.declared.kept.Kept.{Kept}
-use Rattle.cdcl_core.specs.Ties.{first_row_id, IsNamedBy, AreClauses, AreNumbered, AreUnits, IsFed, HasReasonAt, HaveReasons, Ties}
-use Rattle.cdcl_core.specs.Entering.{IsPut, EntersUnit, EntersClause}
-use Rattle.cdcl_core.proofs.Places.{entry_at_front}
-use Rattle.cdcl_core.specs.Learning.{ArePlaced, IsTaught, Learns}
-
--- what deletions and the round leave as it was
-pub deleted_parities : (s : Search) (ids : List ℕ) → (deleted s ids).moment.tables.parities ≡ s.moment.tables.parities
-deleted_parities s [] = refl
-deleted_parities s (n ∷ ids) = deleted_parities (told s (Step (Delete n []))) ids
-
-pub deleted_conflicts : (s : Search) (ids : List ℕ) → (deleted s ids).conflicts ≡ s.conflicts
-deleted_conflicts s [] = refl
-deleted_conflicts s (n ∷ ids) = deleted_conflicts (told s (Step (Delete n []))) ids
+use Rattle.cdcl_core.specs.Ties.{first_row_id, IsNamedBy}
+use Rattle.cdcl_core.specs.Learning.{IsTaught}
+use Rattle.cdcl_core.proofs.TableLaws.{no_clause}
 
 -- literals of the trail are within the variables
 negated_within : (formula : Problem) (t : TrailState) → t.variables ≡ formula.variables → Rattle.cx_trail.specs.Sequence.IsTrail t → (ps : List ℕ) → Rattle.std.specs.List.AllByRecursion (λ p. p < length t.entries) ps → AreWithin formula.variables (negated_at t ps)
@@ -146,9 +123,6 @@ module _ (formula : Problem) (c : Kept) (e : State) (lits : List Literal) (back 
   -- a live clause with a low id has another id, and stays
   pub stays : (m : ℕ) (clause : List Literal) → m < first_row_id → get s.moment.tables.clauses m ≡ Some clause → get after.moment.tables.clauses m ≡ Some clause
   stays m clause low live = get_old m low (λ same. no_clause clause (sym live ∙ ap (get s.moment.tables.clauses) same ∙ addition.free)) ∙ live
-    where
-      no_clause : (x : List Literal) → ◌≡◌ {A = Option (List Literal)} (Some x) None → ⊥
-      no_clause x q = cc
 
   pub named_then : (lits : List Literal) (m : ℕ) → m < first_row_id → IsNamedBy s.moment.tables.clauses lits m → IsNamedBy after.moment.tables.clauses lits m
   named_then lits m low named = record { clause = named.clause; live = stays m named.clause low named.live; same = named.same }

@@ -1,6 +1,6 @@
 -- What a sink was told, event by event.
-use Rattle.std.proofs.Common.{◌≡◌, refl, sym, ap, ◌∙◌, subst, ℕ, zero, suc, ◌+◌, ◌<◌, List, [], ◌∷◌, ◌++◌, length, take, get_or, Option, Some, None, Err, arith}
-use Rattle.std.proofs.lemmas.List.{take_more}
+use Rattle.std.proofs.Common.{◌≡◌, refl, sym, ap, ◌∙◌, subst, ℕ, zero, suc, ◌+◌, ◌<◌, List, [], ◌∷◌, ◌++◌, length, take, get_or, Option, Some, None, Err, arith, append_assoc, append-nil}
+use Rattle.std.proofs.lemmas.List.{length-map, take-map, get_or-map}
 use Rattle.cx_semantics.specs.declared.steps.LogStep.{LogStep}
 use Rattle.cx_semantics.specs.declared.steps.LogEvent.{LogEvent}
 use Rattle.cx_semantics.specs.declared.steps.LogEvent.TheVariants.{Step, Conflict}
@@ -13,21 +13,13 @@ use Rattle.proof_text.specs.Sinks.{SinkFaultsAs, OnFailed}
 use Rattle.cx_base.specs.Problem.{Problem}
 use Rattle.cdcl_core.specs.Tells.{TellsAll, FaultsAs, GivesUp, IsLeft, as_events, with_events, fault_as}
 
-append_nil : {X : Type 0} (xs : List X) → xs ++ [] ≡ xs
-append_nil [] = refl
-append_nil (x ∷ xs) = ap (λ ys. x ∷ ys) (append_nil xs)
-
-append_both : {X : Type 0} (xs ys zs : List X) → (xs ++ ys) ++ zs ≡ xs ++ (ys ++ zs)
-append_both [] ys zs = refl
-append_both (x ∷ xs) ys zs = ap (λ ws. x ∷ ws) (append_both xs ys zs)
-
 pub no_more : (told : Option (List LogEvent)) → with_events [] told ≡ told
 no_more None = refl
-no_more (Some es) = ap Some (append_nil es)
+no_more (Some es) = ap Some (append-nil es)
 
 pub more_and_more : (a b : List LogEvent) (told : Option (List LogEvent)) → with_events b (with_events a told) ≡ with_events (a ++ b) told
 more_and_more a b None = refl
-more_and_more a b (Some es) = ap Some (append_both es a b)
+more_and_more a b (Some es) = ap Some (append_assoc es a b)
 
 -- ---- one event
 module _ (torn : LogEvent → Type 0) (event : LogEvent) (old new : Option (List LogEvent)) where
@@ -50,38 +42,14 @@ rose_where Memory before now h e = absurd (other e)
 rose_where Write before now h e = h
 
 -- ---- steps one after another
-as_push : (steps : List LogStep) (s : LogStep) → as_events (steps ++ s ∷ []) ≡ as_events steps ++ Step s ∷ []
-as_push [] s = refl
-as_push (t ∷ steps) s = ap (λ es. Step t ∷ es) (as_push steps s)
-
-pub one_more_told : (steps : List LogStep) (i : ℕ) (s : LogStep) (first old new : Option (List LogEvent)) → i < length steps → s ≡ get_or steps i s → old ≡ with_events (as_events (take i steps)) first
-    → new ≡ with_events (Step s ∷ []) old → new ≡ with_events (as_events (take (i + 1) steps)) first
-one_more_told steps i s first old new less read was is =
-    is ∙ ap (with_events (Step s ∷ [])) was ∙ more_and_more (as_events (take i steps)) (Step s ∷ []) first
-    ∙ ap (λ es. with_events es first) (sym (as_push (take i steps) s) ∙ ap (λ x. as_events (take i steps ++ x ∷ [])) read ∙ ap as_events (sym (take_more steps i s less)))
-
-take_as : (steps : List LogStep) (i : ℕ) → as_events (take i steps) ≡ take i (as_events steps)
-take_as steps zero = refl
-take_as [] (suc i) = refl
-take_as (s ∷ steps) (suc i) = ap (λ es. Step s ∷ es) (take_as steps i)
-
-length_as : (steps : List LogStep) → length (as_events steps) ≡ length steps
-length_as [] = refl
-length_as (s ∷ steps) = ap suc (length_as steps)
-
-get_as : (steps : List LogStep) (i : ℕ) (d : LogEvent) (e : LogStep) → i < length steps → get_or (as_events steps) i d ≡ Step (get_or steps i e)
-get_as [] i d e less = absurd (omega (arith, less))
-get_as (s ∷ steps) zero d e less = refl
-get_as (s ∷ steps) (suc i) d e less = get_as steps i d e (omega (arith, less))
-
 -- the step at a place is not told
 pub stops_there : (torn : LogEvent → Type 0) (steps : List LogStep) (i : ℕ) (s : LogStep) (first old new : Option (List LogEvent)) (fault : CoreFault) → i < length steps → s ≡ get_or steps i s
     → old ≡ with_events (as_events (take i steps)) first → TellsAll {T = Unit {0}} torn (Step s ∷ []) old (Err fault) new → TellsAll {T = Unit {0}} torn (as_events steps) first (Err fault) new
 stops_there torn steps i s first old new fault less read was (zero, small, is, t) = (
   i,
-  let long = length_as steps in omega (arith, long, less),
-  is ∙ no_more old ∙ was ∙ ap (λ es. with_events es first) (take_as steps i),
-  λ w. subst torn (ap Step read ∙ sym (get_as steps i (Conflict 0) s less)) (t w),
+  let long = length-map steps Step in omega (arith, long, less),
+  is ∙ no_more old ∙ was ∙ ap (λ es. with_events es first) (sym (take-map Step i steps)),
+  λ w. subst torn (ap Step read ∙ sym (get_or-map Step steps i s (Conflict 0) less)) (t w),
 )
 stops_there torn steps i s first old new fault less read was (suc k, small, is, t) = absurd (omega (arith, small))
 

@@ -1,6 +1,6 @@
 -- The engine is given the next literal of the trail.
 use Rattle.std.proofs.Common.{◌≡◌, refl, sym, ap, ◌∙◌, subst, ℕ, ◌+◌, ◌<◌, ◌≤◌, true, not, List, [], ◌∷◌, ◌++◌, length, Option, None, append_assoc, length-append, arith}
-use Rattle.std.proofs.lemmas.List.{length-set}
+use Rattle.std.proofs.lemmas.List.{length-set, length_push}
 use Rattle.std.specs.List.{AllByRecursion}
 use Rattle.cx_base.specs.Literals.{Literal}
 use Rattle.cx_base.specs.Problem.{Problem, parities_of}
@@ -14,7 +14,7 @@ use Rattle.search_steps.specs.Quiet.{IsOfParities}
 use Rattle.search_steps.specs.Search.{Search, IsSearch}
 use Rattle.search_steps.specs.Tied.{IsTied}
 use Rattle.search_steps.specs.Engine.{HoldsValues}
-use Rattle.search_steps.proofs.Bridge.{entry_last, entry_before, length_push}
+use Rattle.search_steps.proofs.Bridge.{entry_last, entry_before}
 use Rattle.search_steps.proofs.EngineLaws.{assign_holds, open_has_no_value}
 use Rattle.search_steps.proofs.OverSearch.{older_is_trail}
 use Rattle.cdcl_core.specs.declared.kept.Kept.{Kept}

@@ -16,6 +16,8 @@ use Rattle.cx_semantics.proofs.Closure.{has_by_inside, or_right}
 use Rattle.clause_arena.specs.Clauses.{Stored, IsLive, clause_at, literals_in, id_in}
 use Rattle.cx_trail.specs.Sequence.{TrailState}
 use Rattle.search_steps.proofs.Sets.{by_cases, not_both, has_at_head, has_behind, has_split}
+use Rattle.search_steps.proofs.Lists.{all_append}
+use Rattle.search_steps.proofs.QuietLaws.{within_member}
 use Rattle.watch_lists.specs.Watching.{Fits, IsAttached}
 use Rattle.watch_lists.specs.Attaching.{CanBeWatched, literal_at}
 use Rattle.search_policy.specs.Standing.{AllStand}
@@ -75,13 +77,6 @@ same_tautology a b same h =
 same_as_none : (lits : List Literal) → same_literals [] lits ≡ true → lits ≡ []
 same_as_none [] h = refl
 same_as_none (m ∷ ms) h = absurd (true≢false (sym h))
-
-within_member : (n : ℕ) (lits : List Literal) (l : Literal) → AreWithin n lits → has_literal lits l ≡ true → (1 ≤ l.variable) × (l.variable ≤ n)
-within_member n [] l w h = not_both false h refl
-within_member n (m ∷ ms) l w h = elim (has_split m ms l h) [
-  | inl e ↦ subst (λ x. (1 ≤ x.variable) × (x.variable ≤ n)) (sym e) w.0
-  | inr g ↦ within_member n ms l w.1 g
-]
 
 different_within : (n : ℕ) (a b : List Literal) → same_literals a b ≡ true → AreWithin n b → AreWithin n a
 different_within n a b same w = within_by n a (λ l h. within_member n b l w (has_by_inside a b l (and_parts (is_inside a b) (is_inside b a) same).0 h))
@@ -194,10 +189,6 @@ module _ (formula : Problem) (f : Filled) (lits : List Literal) (is : IsNext for
       (low, omega arith, same_as_none (clause_number formula f.kept.next) (sym (ap (λ xs. same_literals xs (clause_number formula f.kept.next)) none) ∙ is.same))
       (inr (inr (inr refl)))
 
-  all_push : (P : Single → Type 0) (us : List Single) (u : Single) → AllByRecursion P us → P u → AllByRecursion P (us ++ u ∷ [])
-  all_push P [] u all p = (p, tt)
-  all_push P (x ∷ us) u all p = (all.0, all_push P us u all.1 p)
-
   pub unit_taken : (l : Literal) → lits ≡ l ∷ [] → (units : List Single) → units ≡ f.units.items ++ (record { literal = l; number = f.kept.next }) ∷ []
       → IsFilledUpTo formula f.kept.next (record f.kept { next = f.kept.next + 1 }) units f.empty
   unit_taken l one units more =
@@ -206,7 +197,7 @@ module _ (formula : Problem) (f : Filled) (lits : List Literal) (is : IsNext for
       let w : AreWithin formula.variables (l ∷ []) = subst (AreWithin formula.variables) one is.within in
       subst (λ us. IsFilledUpTo formula f.kept.next (record f.kept { next = f.kept.next + 1 }) us f.empty) (sym more)
       (filled_then (f.units.items ++ u ∷ []) f.empty (λ v has. Contains-append_left f.units.items (u ∷ []) v has) (λ some. some)
-      (all_push (λ v. IsUnitClause formula v.number v.literal × (1 ≤ v.literal.variable) × (v.literal.variable ≤ formula.variables)) f.units.items u is.filled.units_are (record { low = low; high = is.high; same = same }, w.0.0, w.0.1))
+      (all_append (λ v. IsUnitClause formula v.number v.literal × (1 ≤ v.literal.variable) × (v.literal.variable ≤ formula.variables)) f.units.items (u ∷ []) is.filled.units_are ((record { low = low; high = is.high; same = same }, w.0.0, w.0.1), tt))
       empty_before
       (inr (inr (inl (u, Contains-push f.units.items u, refl)))))
 

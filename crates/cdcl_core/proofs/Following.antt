@@ -41,9 +41,6 @@ module _ (formula : Problem) (e : State) (told : Option (List LogEvent)) where
       let ranged = force_ranged formula first_row_id c.next (first_row_id + 0) s t.ranged l n stored.low in
       (forced_on s l (by_clause n), kept.0, told_is, forced_ties formula c e [] s t l why (by_clause n) ranged kept.1 sound has)
     where
-      new : Kept
-      new = put c c.trail.level l why
-
       is_reason : IsClauseReason (put c c.trail.level l why) (length c.trail.entries) f.clause
       is_reason = record {
         live = t.fits.nodes.live f.clause f.of_attached;

@@ -1,23 +1,21 @@
 -- Going back to a lower level keeps the ties.
-use Rattle.std.proofs.Common.{◌≡◌, ◌≢◌, refl, sym, ap, ◌∙◌, subst, ℕ, zero, suc, ◌+◌, ◌-◌, ◌<◌, ◌≤◌, Bool, true, false, not, cond, ◌&&◌, nat_le, List, [], ◌∷◌, ◌++◌, length, take, get_or, map, Some, None, Option, inl, inr, arith, length-append, Contains}
+use Rattle.std.proofs.Common.{◌≡◌, refl, sym, ap, ◌∙◌, subst, ℕ, zero, suc, ◌+◌, ◌-◌, ◌<◌, ◌≤◌, Bool, true, false, not, cond, ◌&&◌, nat_le, List, [], ◌∷◌, ◌++◌, length, take, get_or, Some, None, Option, inl, inr, arith, length-append, Contains}
 use Rattle.std.proofs.lemmas.Bool.{le-leb}
 use Rattle.std.proofs.lemmas.List.{take-append-le, length-map}
 use Rattle.std.proofs.Math.ListN.{get_or-map}
 use Rattle.std.specs.List.{AllByRecursion}
 use Rattle.cx_base.specs.Literals.{Literal}
 use Rattle.cx_base.specs.Problem.{Problem, parities_of}
-use Rattle.cx_semantics.specs.Chain.{has_literal, same_literals}
-use Rattle.cx_semantics.specs.Tables.{get}
-use Rattle.cx_trail.specs.declared.entry.Entry.{Entry as TrailEntry}
+use Rattle.cx_semantics.specs.Chain.{same_literals}
 use Rattle.cx_trail.specs.declared.entry.Reason.{Reason}
 use Rattle.cx_trail.specs.declared.entry.Reason.TheVariants as reason
-use Rattle.cx_trail.specs.Sequence.{TrailState, TakesBack, entry_at, no_entry, IsTrail as IsCodeTrail}
+use Rattle.cx_trail.specs.Sequence.{TakesBack, entry_at, no_entry, IsTrail as IsCodeTrail}
 use Rattle.clause_arena.specs.Clauses.{IsLive, literals_at, id_at}
-use Rattle.watch_lists.specs.Watching.{IsAttached, Fits}
+use Rattle.watch_lists.specs.Watching.{Fits}
 use Rattle.watch_lists.proofs.EventLaws.{fits_back}
 use Rattle.search_policy.specs.Standing.{AllStand}
 use Rattle.parity_engine.specs.State.{State, Named, named_at, keep, keep_named, back}
-use Rattle.search_steps.specs.Trail.{Entry, held, back_to, level_of}
+use Rattle.search_steps.specs.Trail.{Entry, back_to, level_of}
 use Rattle.search_steps.specs.Quiet.{IsOfParities}
 use Rattle.search_steps.specs.Search.{Search, IsSearch, jumped}
 use Rattle.search_steps.specs.Tied.{IsTied}
@@ -28,9 +26,10 @@ use Rattle.search_steps.proofs.Bridge.{level_tied}
 use Rattle.search_steps.proofs.IdLaws.{jump_ranged}
 use Rattle.search_steps.proofs.EngineLaws.{back_holds_values, lagging_back}
 use Rattle.search_steps.proofs.OverSearch.{older_is_trail}
+use Rattle.search_steps.proofs.Reasons.{entry_at_front}
 use Rattle.cdcl_core.specs.declared.kept.Kept.{Kept}
-use Rattle.cdcl_core.specs.Ties.{first_row_id, IsNamedBy, IsStored, IsCovered, AreClauses, AreUnits, AgreesUpTo, IsRowReason, IsClauseReason, HasReasonAt, IsEngineOf, IsFed, IsServed, Ties}
-use Rattle.cdcl_core.proofs.Places.{entry_at_front, entry_behind, tied_length, older_level, older_stay}
+use Rattle.cdcl_core.specs.Ties.{first_row_id, IsNamedBy, AreClauses, AreUnits, HasReasonAt, IsEngineOf, IsFed, Ties}
+use Rattle.cdcl_core.proofs.Places.{entry_behind, tied_length, older_level, older_stay}
 
 -- the engine is at the trail's level
 pub above_too : (formula : Problem) (k : ℕ) (c : Kept) (e : State) (rows : List (List Literal)) (s : Search) → Ties formula c e rows s → k < c.trail.level → k < e.level

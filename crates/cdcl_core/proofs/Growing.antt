@@ -1,7 +1,7 @@
 -- What the ties say of a trail with one more literal at its end.
 use Rattle.std.proofs.Common.{◌≡◌, ◌≢◌, inl, inr, refl, sym, ap, ◌∙◌, subst, ℕ, suc, ◌+◌, ◌<◌, ◌≤◌, nat_le, nat_eq, Bool, true, false, cond, List, [], ◌∷◌, ◌++◌, length, get_or, take, Contains, arith, eqb-true}
 use Rattle.std.proofs.lemmas.Bool.{eqb-false}
-use Rattle.std.proofs.lemmas.List.{take-append-le}
+use Rattle.std.proofs.lemmas.List.{take-append-le, length_push}
 use Rattle.std.specs.Prelude.{IsTrue}
 use Rattle.std.specs.FinSet as set
 use Rattle.cx_base.specs.Literals.{Literal, literal_true}
@@ -22,7 +22,7 @@ use Rattle.search_steps.specs.Search.{Search, forced_on}
 use Rattle.search_steps.specs.Ids.{IsRanged}
 use Rattle.search_steps.specs.Tied.{IsTied}
 use Rattle.search_steps.proofs.Sets.{by_cases, has_behind}
-use Rattle.search_steps.proofs.Bridge.{entry_last, entry_before, length_push}
+use Rattle.search_steps.proofs.Bridge.{entry_last, entry_before}
 use Rattle.cdcl_core.specs.declared.kept.Kept.{Kept}
 use Rattle.cdcl_core.proofs.Alike.{served_alike}
 use Rattle.cdcl_core.specs.Ties.{Ties, first_row_id, IsNamedBy, IsCovered, AreClauses, AreUnits, IsRowReason, HasReasonAt, HaveReasons, IsFed}

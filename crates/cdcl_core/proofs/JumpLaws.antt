@@ -1,71 +1,34 @@
 -- Going back from a conflict and implying what it taught.
-use Rattle.std.proofs.Common.{◌≡◌, ◌≢◌, refl, sym, ap, ◌∙◌, subst, ℕ, zero, suc, ◌+◌, ◌-◌, ◌<◌, ◌≤◌, ◌^◌, ℤ, Bool, true, false, cond, nat_eq, nat_le, nat_lt, is_some, eq-eqb, List, [], ◌∷◌, ◌++◌, length, take, get_or, map, Some, None, Option, ◌⊎◌, inl, inr, arith, length-append, Contains, true≢false}
-use Rattle.std.proofs.lemmas.Bool.{eqb-false, ltb-true, ltb-false}
-use Rattle.std.proofs.lemmas.List.{take-append-le, get_or_append_left}
-use Rattle.std.specs.FinMap as map_
-use Rattle.std.specs.Prelude.{IsTrue}
-use Rattle.std.specs.FinSet as set
-use Rattle.cx_base.specs.Literals.{Literal, negate, literal_true}
+use Rattle.std.proofs.Common.{◌≡◌, sym, ap, ◌∙◌, subst, ℕ, zero, suc, ◌+◌, ◌-◌, ◌<◌, ◌≤◌, ℤ, false, List, [], ◌∷◌, length, get_or, ◌⊎◌, inl, inr, arith, length-append}
+use Rattle.cx_base.specs.Literals.{Literal, negate}
 use Rattle.cx_base.specs.Problem.{Problem, parities_of, AreWithin}
-use Rattle.cx_semantics.specs.declared.steps.LogStep.TheVariants.{ClauseWithHints, Delete}
-use Rattle.cx_semantics.specs.declared.steps.LogEvent.TheVariants.{Step}
-use Rattle.cx_semantics.specs.Chain.{has_literal, same_literals}
-use Rattle.cx_semantics.specs.Integers.{literals, integers_of}
-use Rattle.cx_semantics.specs.LogRules.{derives_empty_clause}
-use Rattle.cx_semantics.specs.Marked.{is_among}
-use Rattle.cx_semantics.specs.Tables.{Table, get}
-use Rattle.cx_semantics.proofs.Lookups.{Looks-insert}
-use Rattle.cx_trail.specs.declared.entry.Entry.{Entry as TrailEntry}
-use Rattle.cx_trail.specs.declared.entry.Reason.{Reason}
+use Rattle.cx_semantics.specs.Chain.{has_literal}
+use Rattle.cx_semantics.specs.Integers.{integers_of}
 use Rattle.cx_trail.specs.declared.entry.Reason.TheVariants as why
-use Rattle.cx_trail.specs.Sequence.{TrailState, TakesBack, entry_at, pushed, IsOpenIn, IsTrueIn, IsAssignedIn}
-use Rattle.clause_arena.specs.Clauses.{Stored, IsLive, clause_at, literals_in, literals_at, id_in, id_at}
+use Rattle.cx_trail.specs.Sequence.{TakesBack, entry_at, IsOpenIn}
 use Rattle.watch_lists.specs.Truths.{AreOthersFalse}
-use Rattle.watch_lists.specs.Watching.{Fits, IsAttached}
 use Rattle.search_policy.specs.Standing.{OrderState, AllStand}
-use Rattle.search_steps.specs.Trail.{Entry, by_clause, held, back_to, level_of}
-use Rattle.search_steps.specs.Quiet.{IsOfParities, HasTrue}
-use Rattle.search_steps.specs.Search.{Search, IsSearch, IsServed as Served, IsTidy, IsLearnedOf, jumped, told, marked}
-use Rattle.search_steps.specs.LogSteps.{IsAddition, deleted, after_learned, after_round}
-use Rattle.search_steps.specs.Tied.{IsTied, Mirrors}
-use Rattle.search_steps.specs.Ids.{IsRanged}
-use Rattle.search_steps.proofs.TrailLaws.{back_level}
-use Rattle.search_steps.proofs.Rounds.{deleted_trail, deleted_get}
-use Rattle.search_steps.proofs.RoundEnds.{round_is_tidy, round_stays_tied}
-use Rattle.search_steps.proofs.IdLaws.{ranged_round_keeps, round_ranged, next_is_free, low_is_no_row}
-use Rattle.search_steps.proofs.StartLaws.{variables_are_within}
-use Rattle.search_steps.proofs.Sets.{by_cases, has_behind, has_at_head}
-use Rattle.watch_lists.proofs.EventLaws.{fits_pushed}
-use Rattle.search_steps.proofs.Bridge.{entry_last}
+use Rattle.search_steps.specs.Trail.{back_to}
+use Rattle.search_steps.specs.Quiet.{IsOfParities}
+use Rattle.search_steps.specs.Search.{Search, jumped}
+use Rattle.search_steps.specs.LogSteps.{after_round}
+use Rattle.search_steps.proofs.Sets.{by_cases}
 use Rattle.conflict_learn.specs.Learning.{negated_at, literal_at}
 use Rattle.parity_engine.specs.State.{State}
 use Rattle.cdcl_core.specs.declared.kept.Kept.{Kept}
-use Rattle.cdcl_core.specs.Ties.{first_row_id, IsNamedBy, AreClauses, AreNumbered, AreUnits, IsFed, HasReasonAt, HaveReasons, Ties}
-use Rattle.cdcl_core.specs.Entering.{IsPut, EntersUnit, EntersClause}
-use Rattle.cdcl_core.proofs.Places.{entry_at_front, tied_length}
-use Rattle.cdcl_core.specs.Learning.{ArePlaced, IsTaught, Learns}
-use Rattle.cdcl_core.proofs.Entering.{trail_is, get_new, named_then, was, within}
-use Rattle.cdcl_core.proofs.Entered.{true_more, kept_at, new_at, old_or_new, length_D, same_entry, same_take, last_entry, place, level_D, reason_stays, ties_entered, unit_stays}
-use Rattle.search_steps.specs.LogSteps.{RestOnClauses}
-use Rattle.cx_semantics.proofs.ChainLaws.{and_both}
-use Rattle.cx_semantics.proofs.Closure.{inside_itself}
-use Rattle.cdcl_core.specs.Ties.{IsStored, IsClauseReason, IsCovered}
-use Rattle.std.proofs.lemmas.List.{get_or_append_left}
+use Rattle.cdcl_core.specs.Ties.{Ties}
+use Rattle.cdcl_core.specs.Entering.{EntersUnit, EntersClause}
+use Rattle.cdcl_core.specs.Learning.{IsTaught}
+use Rattle.cdcl_core.proofs.Entering.{within}
 use Rattle.cdcl_core.proofs.EnteredCases.{clause_ties, unit_ties}
-use Rattle.cdcl_core.proofs.Entering.{tied_then, round_is_search}
-use Rattle.cdcl_core.specs.Ties.{Stands}
+use Rattle.cdcl_core.proofs.Entering.{tied_then}
 use Rattle.cdcl_core.specs.Entering.{Enters}
-use Rattle.search_steps.specs.Trail.{all_held}
-use Rattle.search_steps.specs.Holding.{AreTold}
 use Rattle.search_steps.proofs.TrailLaws.{back_holds}
 use Rattle.search_steps.proofs.Bridge.{held_is_true, level_tied}
 use Rattle.search_steps.proofs.Stored.{has_of}
-use Rattle.cx_semantics.proofs.ChainLaws.{are_one, negate-negate}
-use Rattle.cx_semantics.specs.declared.steps.LogEvent.{LogEvent}
-use Rattle.std.specs.List.{AllByRecursion, All}
+use Rattle.search_steps.proofs.Reasons.{entry_at_front}
+use Rattle.cx_semantics.proofs.ChainLaws.{are_one}
 use Rattle.cx_base.specs.Literals.{same_literal}
-use Rattle.cx_trail.specs.Sequence.{StandsAt}
-use Rattle.watch_lists.specs.Watching.{no_literal}
 use Rattle.watch_lists.specs.Attaching.{CanBeWatched, literal_at as nth}
 use Rattle.conflict_learn.specs.Learning.{IsFalling}
 use Rattle.conflict_learn.specs.Levels.{second, levels_at}
@@ -78,9 +41,6 @@ all_within n (l ∷ lits) w (suc k) d h = all_within n lits w.1 k d (omega (arit
 module _ (formula : Problem) (c : Kept) (e : State) (lits : List Literal) (back : ℕ) (s : Search) (taught : IsTaught formula c e lits back s) where
   pub lower_than_now : back < c.trail.level
   lower_than_now = let low = taught.learned.lower in let now = level_tied s.trail c.trail taught.ties.follows.tied taught.ties.follows.sound in omega (arith, low, now)
-
-  pub lits_some : 1 ≤ length lits
-  lits_some = let n = ap length taught.parts in omega (arith, n)
 
   pub first_is : nth lits 0 ≡ taught.first
   first_is = ap (λ xs. nth xs 0) taught.parts
@@ -102,9 +62,6 @@ module _ (formula : Problem) (c : Kept) (e : State) (lits : List Literal) (back 
 
     pub first_is_open : IsOpenIn c1.trail.entries (nth lits 0).variable
     first_is_open = subst (λ m. IsOpenIn c1.trail.entries m.variable) (sym first_is) (tied_then formula c e lits back s taught [] c1.trail takes why.Decision).0
-
-    pub first_is_within : (nth lits 0).variable ≤ c1.trail.variables
-    first_is_within = let w = all_within formula.variables lits (within formula c e lits back s taught []) 0 no_literal lits_some in let high = w.1 in let b = t1.variables in omega (arith, high, b)
 
     pub others_are_false : AreOthersFalse c1.trail.entries lits taught.first
     others_are_false m has apart =

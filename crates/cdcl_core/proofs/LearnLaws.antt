@@ -1,5 +1,5 @@
 -- What a conflict teaches, and what the sink is told of it.
-use Rattle.std.proofs.Common.{◌≡◌, refl, sym, ap, ◌∙◌, subst, ℕ, zero, suc, ◌+◌, ◌<◌, ◌^◌, ℤ, true, false, List, [], ◌∷◌, ◌++◌, length, take, drop, get_or, map, Some, None, Option, Result, Ok, Err, IfOk, IfErr, ◌⊎◌, inl, inr, arith, Contains}
+use Rattle.std.proofs.Common.{◌≡◌, refl, sym, ap, ◌∙◌, subst, ℕ, zero, suc, ◌+◌, ◌<◌, ◌^◌, ℤ, true, List, [], ◌∷◌, ◌++◌, length, take, drop, get_or, Some, None, Option, Result, Ok, Err, IfOk, IfErr, ◌⊎◌, inl, inr, arith, Contains, append-nil, append_assoc}
 use Rattle.std.proofs.lemmas.List.{take-append-drop}
 use Rattle.std.proofs.lemmas.List.Elements.{filter_map-append}
 use Rattle.cx_base.specs.Literals.{Literal}
@@ -12,10 +12,10 @@ use Rattle.cx_semantics.specs.Integers.{integers_of, literals}
 use Rattle.cx_semantics.specs.Judging.{Calculus, Runs, IsOpen}
 use Rattle.cx_semantics.specs.LogRules.{log_calculus}
 use Rattle.cx_semantics.specs.LogText.{steps_of, step_of}
-use Rattle.cx_semantics.specs.Tables.{Table, Tables, get}
+use Rattle.cx_semantics.specs.Tables.{Tables}
 use Rattle.cx_trail.specs.Sequence.{TrailState}
 use Rattle.conflict_learn.specs.declared.fault.CoreFault.{CoreFault}
-use Rattle.conflict_learn.specs.declared.fault.CoreFault.TheVariants.{Memory, Write}
+use Rattle.conflict_learn.specs.declared.fault.CoreFault.TheVariants.{Memory}
 use Rattle.conflict_learn.specs.declared.learning.Learned.{Learned}
 use Rattle.conflict_learn.specs.Levels.{Teaches}
 use Rattle.conflict_learn.specs.Learning.{IsOfLevel}
@@ -23,28 +23,24 @@ use Rattle.cx_semantics.specs.Chain.{has_literal}
 use Rattle.search_steps.proofs.CodeSteps.{clause_conflict_is_now}
 use Rattle.search_steps.proofs.Bridge.{level_tied}
 use Rattle.parity_engine.specs.State.{State}
-use Rattle.search_steps.specs.Search.{Search, IsSearch, told}
+use Rattle.search_steps.specs.Search.{Search, told}
 use Rattle.search_steps.specs.LogSteps.{deleted, after_learned, after_round}
 use Rattle.search_steps.specs.Holding.{AreTold}
 use Rattle.search_steps.specs.Tied.{IsLiveSet}
 use Rattle.search_steps.proofs.LearnedLaws.{learned_has_chain}
 use Rattle.search_steps.proofs.OverSearch.{taught_by_search}
 use Rattle.search_steps.proofs.Reasons.{live_is_live_set}
-use Rattle.search_steps.proofs.LogLaws.{append_nil}
 use Rattle.cdcl_core.specs.declared.kept.Kept.{Kept}
 use Rattle.cdcl_core.specs.Ties.{first_row_id, row_ids, Ties, Stands}
 use Rattle.cdcl_core.specs.Sources.{IsSourced, IsConflict}
 use Rattle.cdcl_core.specs.Tells.{TellsAll, IsLeft, GivesUp, as_events, with_events}
 use Rattle.cdcl_core.specs.Learning.{IsTaught, Learns}
-use Rattle.cdcl_core.proofs.Events.{no_more, more_and_more, gives_up}
+use Rattle.cdcl_core.proofs.Events.{more_and_more, gives_up}
 use Rattle.cdcl_core.proofs.RowSteps.{is_left}
 use Rattle.cdcl_core.proofs.Entering.{round_is_search, tidy}
+use Rattle.cdcl_core.specs.Deleting.{deletions}
 
 -- ---- a mark and the steps behind it
-append_both : {X : Type 0} (xs ys zs : List X) → (xs ++ ys) ++ zs ≡ xs ++ (ys ++ zs)
-append_both [] ys zs = refl
-append_both (x ∷ xs) ys zs = ap (λ ws. x ∷ ws) (append_both xs ys zs)
-
 pub mark_is_told : (torn : LogEvent → Type 0) (event : LogEvent) (events : List LogEvent) (old between new : Option (List LogEvent)) (r : Result (Unit {0}) CoreFault)
     → between ≡ with_events (event ∷ []) old → TellsAll torn events between r new → TellsAll torn (event ∷ events) old r new
 mark_is_told torn event events old between new (Ok u) first rest = rest ∙ ap (with_events events) first ∙ more_and_more (event ∷ []) events old
@@ -54,11 +50,6 @@ mark_is_told torn event events old between new (Err fault) first (k, less, is, t
   is ∙ ap (with_events (take k events)) first ∙ more_and_more (event ∷ []) (take k events) old,
   t,
 )
-
-pub mark_is_not_told : (torn : LogEvent → Type 0) (event : LogEvent) (events : List LogEvent) (old new : Option (List LogEvent)) (fault : CoreFault)
-    → TellsAll {T = Unit {0}} torn (event ∷ []) old (Err fault) new → TellsAll {T = Unit {0}} torn (event ∷ events) old (Err fault) new
-mark_is_not_told torn event events old new fault (zero, less, is, t) = (zero, omega arith, is, t)
-mark_is_not_told torn event events old new fault (suc k, less, is, t) = absurd (omega (arith, less))
 
 -- what an answer says, by the case
 pub ok_then : (torn : LogEvent → Type 0) (events : List LogEvent) (old new : Option (List LogEvent)) (r : Result (Unit {0}) CoreFault) (P : Type 0) → TellsAll torn events old r new → (new ≡ with_events events old → P) → IfOk r (λ u. P)
@@ -80,12 +71,9 @@ front_is_open : (formula : Problem) (a b : List LogEvent) → IsOpen (log_calcul
 front_is_open formula a b (v, r) = front_runs (log_calculus formula) (log_calculus formula).start (steps_of a) (steps_of b) v (subst (λ xs. Runs (log_calculus formula) (log_calculus formula).start xs v) (filter_map-append step_of a b) r)
 
 -- ---- what deletions tell
-deletions_of : List ℕ → List LogEvent
-deletions_of ids = as_events (map (λ n. Delete n []) ids)
-
-deleted_events : (s : Search) (ids : List ℕ) → (deleted s ids).events ≡ s.events ++ as_events (map (λ n. Delete n []) ids)
-deleted_events s [] = sym (append_nil s.events)
-deleted_events s (n ∷ ids) = deleted_events (told s (Step (Delete n []))) ids ∙ append_both s.events (Step (Delete n []) ∷ []) (as_events (map (λ m. Delete m []) ids))
+deleted_events : (s : Search) (ids : List ℕ) → (deleted s ids).events ≡ s.events ++ deletions ids
+deleted_events s [] = sym (append-nil s.events)
+deleted_events s (n ∷ ids) = deleted_events (told s (Step (Delete n []))) ids ∙ append_assoc s.events (Step (Delete n []) ∷ []) (deletions ids)
 
 -- ---- the source's clauses are live
 row_at : (xs : List (List Literal)) (x : List Literal) (h : Contains xs x) → get_or xs h.0 [] ≡ x
@@ -128,7 +116,7 @@ module _ (formula : Problem) (c : Kept) (e : State) (rows : List (List Literal))
         few = few;
       }
 
-  module _ (integers : literals (integers_of lits) ≡ lits) (hints : List ℤ) (steps : List LogStep) (are : steps ≡ ClauseWithHints c.next (integers_of lits) hints ∷ map (λ n. Delete n []) (row_ids (length rows))) where
+  module _ (integers : literals (integers_of lits) ≡ lits) (hints : List ℤ) (steps : List LogStep) (are : as_events steps ≡ Step (ClauseWithHints c.next (integers_of lits) hints) ∷ deletions (row_ids (length rows))) where
     abbrev then : Search
     then = after_round st.0 c.next (integers_of lits) hints back (is_taught integers).first
 
@@ -136,11 +124,11 @@ module _ (formula : Problem) (c : Kept) (e : State) (rows : List (List Literal))
     events_then =
         let s1 = after_learned st.0 c.next (integers_of lits) hints back in
         deleted_events s1 st.0.moment.new_clauses
-        ∙ append_both (st.0.events ++ Conflict (st.0.conflicts + 1) ∷ []) (Step (ClauseWithHints c.next (integers_of lits) hints) ∷ []) (as_events (map (λ n. Delete n []) st.0.moment.new_clauses))
-        ∙ append_both st.0.events (Conflict (st.0.conflicts + 1) ∷ []) (Step (ClauseWithHints c.next (integers_of lits) hints) ∷ as_events (map (λ n. Delete n []) st.0.moment.new_clauses))
-        ∙ ap (λ k. st.0.events ++ Conflict (k + 1) ∷ Step (ClauseWithHints c.next (integers_of lits) hints) ∷ as_events (map (λ n. Delete n []) st.0.moment.new_clauses)) st.3.conflicts
-        ∙ ap (λ ids. st.0.events ++ Conflict (c.conflicts + 1) ∷ Step (ClauseWithHints c.next (integers_of lits) hints) ∷ as_events (map (λ n. Delete n []) ids)) st.3.served.new_clauses
-        ∙ ap (λ xs. st.0.events ++ Conflict (c.conflicts + 1) ∷ as_events xs) (sym are)
+        ∙ append_assoc (st.0.events ++ Conflict (st.0.conflicts + 1) ∷ []) (Step (ClauseWithHints c.next (integers_of lits) hints) ∷ []) (deletions st.0.moment.new_clauses)
+        ∙ append_assoc st.0.events (Conflict (st.0.conflicts + 1) ∷ []) (Step (ClauseWithHints c.next (integers_of lits) hints) ∷ deletions st.0.moment.new_clauses)
+        ∙ ap (λ k. st.0.events ++ Conflict (k + 1) ∷ Step (ClauseWithHints c.next (integers_of lits) hints) ∷ deletions st.0.moment.new_clauses) st.3.conflicts
+        ∙ ap (λ ids. st.0.events ++ Conflict (c.conflicts + 1) ∷ Step (ClauseWithHints c.next (integers_of lits) hints) ∷ deletions ids) st.3.served.new_clauses
+        ∙ ap (λ es. st.0.events ++ Conflict (c.conflicts + 1) ∷ es) (sym are)
 
     told_then : (o : Option (List LogEvent)) → AreTold o st.0.events → AreTold (with_events (Conflict (c.conflicts + 1) ∷ as_events steps) o) then.events
     told_then None a = tt
@@ -154,7 +142,7 @@ module _ (formula : Problem) (c : Kept) (e : State) (rows : List (List Literal))
     front_is_left (Some es) a i =
         let more = Conflict (c.conflicts + 1) ∷ as_events steps in
         let whole : IsOpen (log_calculus formula) (steps_of then.events) = Rattle.search_steps.proofs.EndLaws.is_log_open formula (parities_of formula.constraints) then (round_is_search formula c e lits back st.0 (is_taught integers) hints) (tidy formula c e lits back st.0 (is_taught integers) hints).served in
-        let parts : then.events ≡ (es ++ take i more) ++ drop i more = events_then ∙ ap (λ xs. xs ++ more) (sym a) ∙ ap (λ xs. es ++ xs) (sym (take-append-drop i more)) ∙ sym (append_both es (take i more) (drop i more)) in
+        let parts : then.events ≡ (es ++ take i more) ++ drop i more = events_then ∙ ap (λ xs. xs ++ more) (sym a) ∙ ap (λ xs. es ++ xs) (sym (take-append-drop i more)) ∙ sym (append_assoc es (take i more) (drop i more)) in
         inl (front_is_open formula (es ++ take i more) (drop i more) (subst (λ xs. IsOpen (log_calculus formula) (steps_of xs)) parts whole))
 
     pub gives_up_then : (torn : LogEvent → Type 0) (new : Option (List LogEvent)) (fault : CoreFault) → TellsAll {T = Unit {0}} torn (Conflict (c.conflicts + 1) ∷ as_events steps) old (Err fault) new → GivesUp formula torn new fault

@@ -1,5 +1,4 @@
 pub mod Places
-pub mod Scores
 pub mod GoingBack
 pub mod Entering
 pub mod Entered
@@ -14,7 +13,6 @@ pub mod OneSign
 pub mod RowReasons
 pub mod Outcomes
 pub mod SourceLaws
-pub mod Deletions
 pub mod LearnLaws
 pub mod ConflictLaws
 pub mod Alike

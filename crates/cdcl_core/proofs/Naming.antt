@@ -130,9 +130,6 @@ module _ (formula : Problem) (c : Kept) (e : State) (rows : List (List Literal))
 
   -- ---- the rows that are named
   module _ (row : ℕ) (n : Named) (mood : Mood) (less : row < length e.named) (same : IsSameNamed (named_at e row) n) where
-    abbrev named_more : State
-    named_more = names e row n mood
-
     named_here : named_at (names e row n mood) row ≡ Some n
     named_here = get_or-set_same e.named row (Some n) None less
 
@@ -176,9 +173,6 @@ module _ (formula : Problem) (c : Kept) (e : State) (rows : List (List Literal))
 
     -- ---- an implied literal
     module _ (l : Literal) (now : IsNamedNow e n false) (implied : IsImplied e l n.form) where
-      end_trail : TrailState
-      end_trail = pushed c.trail c.trail.level l (reason.Row row)
-
       whole : take (suc (length c.trail.entries)) (grown c c.trail.level l (reason.Row row)) ≡ grown c c.trail.level l (reason.Row row)
       whole = ap (λ k. take k (grown c c.trail.level l (reason.Row row))) (let m : length (grown c c.trail.level l (reason.Row row)) ≡ length c.trail.entries + 1 = length-append c.trail.entries _ in
           let k : suc (length c.trail.entries) ≡ length (grown c c.trail.level l (reason.Row row)) = omega (arith, m) in k)

@@ -1,5 +1,5 @@
 -- Telling the formula's constraints one after another.
-use Rattle.std.proofs.Common.{◌≡◌, ◌≢◌, refl, sym, ap, ◌∙◌, subst, ℕ, zero, suc, ◌+◌, ◌-◌, nat_eq, eqb-true, ◌<◌, ◌≤◌, List, [], ◌∷◌, ◌++◌, length, take, get_or, Option, Some, None, Result, Ok, Err, IfErr, Contains, arith, inl, length-append}
+use Rattle.std.proofs.Common.{◌≡◌, ◌≢◌, refl, sym, ap, ◌∙◌, subst, ℕ, zero, suc, ◌+◌, ◌-◌, nat_eq, eqb-true, ◌<◌, ◌≤◌, List, [], ◌∷◌, ◌++◌, length, take, get_or, Option, Some, None, Result, Ok, Err, IfErr, Contains, arith, inl, length-append, append-nil, length-take}
 use Rattle.std.specs.Prelude.{OnOk}
 use Rattle.std.proofs.lemmas.Bool.{eqb-false}
 use Rattle.std.proofs.lemmas.List.{take_more}
@@ -24,7 +24,6 @@ use Rattle.conflict_learn.specs.declared.fault.CoreFault.{CoreFault}
 use Rattle.search_steps.specs.Holding.{AreTold}
 use Rattle.search_steps.specs.Search.{Search, told}
 use Rattle.search_steps.specs.Start.{IsBegun, start}
-use Rattle.search_steps.proofs.LogLaws.{append_nil}
 use Rattle.search_steps.proofs.Sets.{by_cases}
 use Rattle.search_steps.proofs.StartLaws.{nothing_is_begun, clause_begins, parity_begins, literals_are}
 use Rattle.cdcl_core.specs.Originals.{AreListed, HasBegun, AreCounted}
@@ -32,6 +31,7 @@ use Rattle.cdcl_core.specs.Results.{IsFresh}
 use Rattle.cdcl_core.specs.Tells.{TellsAll, GivesUp, IsLeft, with_events}
 use Rattle.cdcl_core.proofs.Events.{no_more, gives_up}
 use Rattle.cdcl_core.proofs.TableLaws.{put_same, put_other}
+use Rattle.cdcl_core.proofs.RowSteps.{few_parities}
 
 -- ---- constraints by their places
 clause_there : (cs : List Constraint) (i : ℕ) (lits : List Literal) (d : Constraint) → i < length cs → get_or cs i d ≡ constraint.Clause lits → Contains (clauses_of cs) lits
@@ -53,17 +53,6 @@ unfolding clauses_of
 few_clauses [] = omega arith
 few_clauses (constraint.Clause lits ∷ cs) = let rec = few_clauses cs in omega (arith, rec)
 few_clauses (constraint.Parity lits ∷ cs) = let rec = few_clauses cs in omega (arith, rec)
-
-few_parities : (cs : List Constraint) → length (parities_of cs) ≤ length cs
-unfolding parities_of
-few_parities [] = omega arith
-few_parities (constraint.Clause lits ∷ cs) = let rec = few_parities cs in omega (arith, rec)
-few_parities (constraint.Parity lits ∷ cs) = let rec = few_parities cs in omega (arith, rec)
-
-few_taken : (cs : List Constraint) (n : ℕ) → length (take n cs) ≤ n
-few_taken cs zero = omega arith
-few_taken [] (suc n) = omega arith
-few_taken (c ∷ cs) (suc n) = let rec = few_taken cs n in omega (arith, rec)
 
 count_clause : (cs : List Constraint) (clauses parities : ℕ) (lits : List Literal) → AreCounted cs clauses parities → AreCounted (cs ++ constraint.Clause lits ∷ []) (clauses + 1) parities
 unfolding clauses_of parities_of
@@ -115,11 +104,11 @@ module _ (n : ℕ) (taken : List Constraint) (lits : List Literal) where
 
   parities_stay : parities_of (taken ++ constraint.Clause lits ∷ []) ≡ parities_of taken
   unfolding parities_of
-  parities_stay = filter_map-append parity_in taken (constraint.Clause lits ∷ []) ∙ append_nil (parities_of taken)
+  parities_stay = filter_map-append parity_in taken (constraint.Clause lits ∷ []) ∙ append-nil (parities_of taken)
 
   clauses_stay : clauses_of (taken ++ constraint.Parity lits ∷ []) ≡ clauses_of taken
   unfolding clauses_of
-  clauses_stay = filter_map-append clause_in taken (constraint.Parity lits ∷ []) ∙ append_nil (clauses_of taken)
+  clauses_stay = filter_map-append clause_in taken (constraint.Parity lits ∷ []) ∙ append-nil (clauses_of taken)
 
   module _ (w : AreWithin n lits) (table : Table) where
     clause_listed : AreListed table (clauses_of taken) → AreListed (map_.insert table (length (clauses_of taken) + 1) (literals (integers_of lits))) (clauses_of (taken ++ constraint.Clause lits ∷ []))
@@ -194,10 +183,10 @@ module _ (formula : Problem) (place : ℕ) (d : Constraint) (less : place < leng
   one_is_left step (suc i) small = absurd (omega (arith, small))
 
   pub clause_is_id : (1 ≤ clauses + 1) × (clauses + 1 ≤ 9223372036854775807)
-  clause_is_id = let a = few_clauses taken in let b = few_taken formula.constraints place in let was = counted.clauses in (omega arith, omega (arith, a, b, was, less, few))
+  clause_is_id = let a = few_clauses taken in let b = length-take place formula.constraints in let was = counted.clauses in (omega arith, omega (arith, a, b, was, less, few))
 
   pub parity_is_id : (1 ≤ parities + 1) × (parities + 1 ≤ 9223372036854775807)
-  parity_is_id = let a = few_parities taken in let b = few_taken formula.constraints place in let was = counted.parities in (omega arith, omega (arith, a, b, was, less, few))
+  parity_is_id = let a = few_parities taken in let b = length-take place formula.constraints in let was = counted.parities in (omega arith, omega (arith, a, b, was, less, few))
 
   pub gives_up_original : (step : LogStep) (torn : LogEvent → Type 0) (r : Result (Unit {0}) CoreFault) (new : Option (List LogEvent)) → TellsAll torn (Step step ∷ []) old r new → IfErr r (λ f. GivesUp formula torn new f)
   gives_up_original step torn (Ok done) new tells = tt

@@ -1,20 +1,15 @@
 -- Places of the code's trail, and the search's entries behind them.
-use Rattle.std.proofs.Common.{◌≡◌, refl, sym, ap, ◌∙◌, subst, ℕ, zero, suc, ◌+◌, ◌-◌, ◌<◌, ◌≤◌, nat_le, cond, true, List, [], ◌∷◌, ◌++◌, length, take, get_or, arith, length-append}
+use Rattle.std.proofs.Common.{◌≡◌, refl, sym, ap, ◌∙◌, ℕ, zero, suc, ◌+◌, ◌-◌, ◌≤◌, nat_le, cond, List, [], ◌∷◌, ◌++◌, length, get_or, arith, length-append}
 use Rattle.std.proofs.lemmas.Bool.{le-leb}
-use Rattle.std.proofs.lemmas.List.{take-append-le}
+use Rattle.std.proofs.lemmas.List.{length_push}
 use Rattle.cx_base.specs.Literals.{Literal}
 use Rattle.cx_trail.specs.declared.entry.Entry.{Entry as TrailEntry}
 use Rattle.cx_trail.specs.Sequence.{entry_at}
 use Rattle.search_steps.specs.Trail.{Entry, back_to}
 use Rattle.search_steps.specs.Tied.{IsTied}
 use Rattle.search_steps.proofs.Sets.{by_cases}
-use Rattle.search_steps.proofs.Bridge.{entry_last, length_push}
-use Rattle.std.proofs.lemmas.Bool.{leb-true, leb-false}
-
-pub entry_at_front : (before rest : List TrailEntry) (p : ℕ) → p < length before → entry_at (before ++ rest) p ≡ entry_at before p
-entry_at_front [] rest p h = absurd (omega (arith, h))
-entry_at_front (x ∷ before) rest zero h = refl
-entry_at_front (x ∷ before) rest (suc p) h = entry_at_front before rest p (omega (arith, h))
+use Rattle.search_steps.proofs.Bridge.{entry_last}
+use Rattle.search_steps.proofs.Reasons.{entry_at_front}
 
 pub entry_behind : (before rest : List TrailEntry) (i p : ℕ) → i ≡ length before + p → entry_at (before ++ rest) i ≡ entry_at rest p
 entry_behind [] rest i p is = ap (entry_at rest) (omega (arith, is))

@@ -1,5 +1,5 @@
 -- The row that was named for a literal explains it.
-use Rattle.std.proofs.Common.{◌≡◌, ◌≢◌, refl, sym, ap, ◌∙◌, subst, ℕ, zero, suc, ◌+◌, ◌<◌, ◌≤◌, Bool, true, false, not, ◌||◌, nat_eq, eq-eqb, eqb-true, List, [], ◌∷◌, length, take, get_or, map, Option, Some, None, arith, inl, inr, true≢false}
+use Rattle.std.proofs.Common.{◌≡◌, ◌≢◌, sym, ap, ◌∙◌, subst, ℕ, suc, ◌<◌, ◌≤◌, true, false, nat_eq, eq-eqb, eqb-true, List, [], length, take, Option, Some, arith, true≢false, length-take}
 use Rattle.std.specs.Prelude.{IsSome}
 use Rattle.std.specs.FinSet as set
 use Rattle.std.proofs.lemmas.List.{get_or-take}
@@ -24,18 +24,8 @@ pub some_of : (m n : Named) → (let o : Option Named = Some m in o) ≡ Some n 
 some_of m n e = cc
 
 -- the first entries of a trail stand on it
-short_take : {X : Type 0} (xs : List X) (i : ℕ) → length (take i xs) ≤ length xs
-short_take xs zero = omega arith
-short_take [] (suc i) = omega arith
-short_take (x ∷ xs) (suc i) = let rec = short_take xs i in omega (arith, rec)
-
-pub few_taken : {X : Type 0} (xs : List X) (i : ℕ) → length (take i xs) ≤ i
-few_taken xs zero = omega arith
-few_taken [] (suc i) = omega arith
-few_taken (x ∷ xs) (suc i) = let rec = few_taken xs i in omega (arith, rec)
-
 pub entry_taken : (entries : List Entry) (n i : ℕ) → i < length (take n entries) → entry_at (take n entries) i ≡ entry_at entries i
-entry_taken entries n i less = get_or-take n entries i no_entry (let few = few_taken entries n in omega (arith, few, less))
+entry_taken entries n i less = get_or-take n entries i no_entry (let few = length-take n entries in omega (arith, few, less))
 
 module _ (t : TrailState) (e : State) (l : Literal) (row : ℕ) (r : IsReasonOf e t.entries l row) where
   abbrev i : ℕ
@@ -54,9 +44,8 @@ module _ (t : TrailState) (e : State) (l : Literal) (row : ℕ) (r : IsReasonOf 
   others_assigned v low other has =
       let o = why.others v low (λ same. other (same ∙ ap (λ m. m.variable) here)) has in
       let less = o.1 in
-      let few = few_taken t.entries i in
-      let short = short_take t.entries i in
-      (o.0, omega (arith, less, few), omega (arith, less, short), ap (λ x. x.literal.variable) (sym (entry_taken t.entries i o.0 less)) ∙ o.2)
+      let few = length-take i t.entries in
+      (o.0, omega (arith, less, few), omega (arith, less, few), ap (λ x. x.literal.variable) (sym (entry_taken t.entries i o.0 less)) ∙ o.2)
 
   pub all_assigned : OfNamed e row (λ n. AreAssigned t n.form)
   all_assigned n is v low has = by_cases (nat_eq v l.variable)
@@ -73,7 +62,7 @@ module _ (t : TrailState) (e : State) (l : Literal) (row : ℕ) (r : IsReasonOf 
   })
     where
       in_trail : (m : Literal) → IsTrueIn (take (suc i) t.entries) m → IsTrueIn t.entries m
-      in_trail m (j, (less, at)) = (j, (let short = short_take t.entries (suc i) in omega (arith, short, less), ap (λ x. x.literal) (sym (entry_taken t.entries (suc i) j less)) ∙ at))
+      in_trail m (j, (less, at)) = (j, (let short = length-take (suc i) t.entries in omega (arith, short, less), ap (λ x. x.literal) (sym (entry_taken t.entries (suc i) j less)) ∙ at))
 
   module _ (reason : ReasonOf) (parities : List (List Literal)) (theirs : e.parities ≡ parities) (written : OfNamed e row (λ n. IsWritten n.form reason.parity)) (numbers : AreRising 1 (length e.parities) reason.sources)
       (sums : OfNamed e row (λ n. n.form ≡ sum_of_numbers e.parities reason.sources)) (clause : OfNamed e row (λ n. IsReasonClause t (Some l) n.form reason.parity reason.clause)) where

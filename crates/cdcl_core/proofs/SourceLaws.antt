@@ -1,27 +1,23 @@
 -- The clauses of a source implied the literals.
-use Rattle.std.proofs.Common.{◌≡◌, sym, ap, ◌∙◌, subst, ℕ, ◌<◌, ◌≤◌, List, [], ◌∷◌, ◌++◌, length, Contains, arith, inl, inr, true≢false, length-append}
+use Rattle.std.proofs.Common.{◌≡◌, sym, ap, ◌∙◌, subst, ℕ, ◌<◌, ◌≤◌, List, [], ◌∷◌, ◌++◌, length, Contains, arith, inl, inr, length-append, length-take}
 use Rattle.std.proofs.Math.ListN.{get_or-append}
 use Rattle.cx_base.specs.Literals.{Literal, negate, same_literal}
 use Rattle.cx_semantics.specs.Chain.{has_literal}
 use Rattle.cx_semantics.proofs.ChainLaws.{same_literal-itself, negate-negate}
 use Rattle.cx_trail.specs.declared.entry.Reason.{Reason}
 use Rattle.cx_trail.specs.declared.entry.Reason.TheVariants as reason
-use Rattle.cx_trail.specs.Sequence.{TrailState, IsTrail, IsFalseIn, entry_at}
+use Rattle.cx_trail.specs.Sequence.{TrailState, IsTrail, entry_at}
 use Rattle.clause_arena.specs.Clauses.{IsLive, literals_at}
 use Rattle.conflict_learn.specs.Learning.{IsAntecedent, HasReason, literal_at}
 use Rattle.parity_engine.specs.State.{State}
-use Rattle.search_steps.proofs.Sets.{has_split, has_at_head, not_both}
+use Rattle.search_steps.proofs.Sets.{not_both}
 use Rattle.search_steps.proofs.Stored.{has_of, of_has}
 use Rattle.cdcl_core.specs.declared.kept.Kept.{Kept}
 use Rattle.cdcl_core.specs.Ties.{HaveReasons, HasReasonAt, IsClauseReason}
 use Rattle.cdcl_core.specs.Explaining.{IsReasonOf}
 use Rattle.std.specs.Prelude.{Result, Ok, Err, IfOk, OnErr}
 use Rattle.cdcl_core.specs.Sources.{IsSourced}
-use Rattle.cdcl_core.proofs.RowReasons.{few_taken, entry_taken}
-
--- a literal of the trail is the negation of a false one
-pub is_false_negated : (t : TrailState) (l : Literal) (why : Reason) → HasReason t l why → IsFalseIn t.entries (negate l)
-is_false_negated t l why h = (h.0, (h.1, h.2 ∙ sym (negate-negate l)))
+use Rattle.cdcl_core.proofs.RowReasons.{entry_taken}
 
 module _ (t : TrailState) (sound : IsTrail t) (l : Literal) (place : ℕ) (less : place < length t.entries) (at : (entry_at t.entries place).literal ≡ negate (negate l)) where
   pub here : (entry_at t.entries place).literal ≡ l
@@ -29,15 +25,6 @@ module _ (t : TrailState) (sound : IsTrail t) (l : Literal) (place : ℕ) (less 
 
   pub only_place : (p : ℕ) → p < length t.entries → literal_at t p ≡ l → place ≡ p
   only_place p low is = sound.distinct place p less low (ap (λ m. m.variable) (here ∙ sym is))
-
-  pub unit_is_antecedent : (clause : List Literal) → clause ≡ (entry_at t.entries place).literal ∷ [] → IsAntecedent t l clause
-  unit_is_antecedent clause is = subst (IsAntecedent t l) (sym (is ∙ ap (λ m. m ∷ []) here)) (λ p low same. record {
-    has_it = ap (has_literal (l ∷ [])) same ∙ has_at_head l [];
-    others_false = λ m has apart. absurd (elim (has_split l [] m has) [
-      | inl e ↦ not_both (same_literal l m) (ap (same_literal l) e ∙ same_literal-itself l) (ap (λ x. same_literal x m) (sym same) ∙ apart)
-      | inr none ↦ true≢false (sym none)
-    ]);
-  })
 
   pub reason_is : (why : Reason) → HasReason t l why → (entry_at t.entries place).reason ≡ why
   reason_is why h = ap (λ p. (entry_at t.entries p).reason) (only_place h.0 h.1 h.2) ∙ h.3
@@ -61,25 +48,14 @@ module _ (c : Kept) (e : State) (have : HaveReasons c e) (sound : IsTrail c.trai
         has_it = ap (has_literal (literals_at c.arena r)) (same ∙ sym is_l) ∙ has_of (literals_at c.arena r) (entry_at c.trail.entries place).literal why.has;
         others_false = λ m has apart.
             let f = why.others m (of_has (literals_at c.arena r) m has) (λ e. not_both (same_literal l m) (ap (same_literal l) (e ∙ is_l) ∙ same_literal-itself l) (ap (λ x. same_literal x m) (sym same) ∙ apart)) in
-            let few = few_taken c.trail.entries place in
+            let few = length-take place c.trail.entries in
             let short = f.1.0 in
             (f.0, omega (arith, few, short, one), ap (λ x. x.literal) (sym (entry_taken c.trail.entries place f.0 f.1.0)) ∙ f.1.1);
       })
 
 -- ---- what is sourced
-pub unit_is_sourced : (c : Kept) (place : ℕ) → place < length c.units.items → (clause : List Literal) → clause ≡ (entry_at c.trail.entries place).literal ∷ [] → IsSourced c [] clause
-unit_is_sourced c place less clause is = inr (inl (place, less, is))
-
 pub stored_is_sourced : (c : Kept) (r : ℕ) → IsLive c.arena r → (rows : List (List Literal)) (clause : List Literal) → clause ≡ literals_at c.arena r → IsSourced c rows clause
 stored_is_sourced c r live rows clause is = inl (r, live, is)
-
-none_there : (clause : List Literal) → Contains (let none : List (List Literal) = [] in none) clause → ⊥
-none_there clause (k, less, e) = omega (arith, less)
-
-pub silent_is_sourced : (c : Kept) (rows : List (List Literal)) (clause : List Literal) → IsSourced c [] clause → IsSourced c rows clause
-silent_is_sourced c rows clause (inl a) = inl a
-silent_is_sourced c rows clause (inr (inl u)) = inr (inl u)
-silent_is_sourced c rows clause (inr (inr there)) = absurd (none_there clause there)
 
 pub stays_in : (xs : List (List Literal)) (y x : List Literal) → Contains xs x → Contains (xs ++ y ∷ []) x
 stays_in xs y x (k, less, e) = (k, let long = length-append xs (y ∷ []) in omega (arith, long, less), get_or-append xs (y ∷ []) x k less ∙ e)

@@ -1,5 +1,5 @@
 -- A text can have each step that the search tells.
-use Rattle.std.proofs.Common.{◌≢◌, ◌≤◌, ◌<◌, ℕ, ℤ, pos, nat_abs, List, [], ◌∷◌, ◌++◌, map, flat_map, arith}
+use Rattle.std.proofs.Common.{◌≢◌, ◌≤◌, ◌<◌, ℕ, ℤ, pos, nat_abs, List, [], ◌∷◌, map, flat_map, arith}
 use Rattle.std.specs.List.{AllByRecursion}
 use Rattle.cx_base.specs.Numbers.{AreStepIntegers}
 use Rattle.cx_semantics.specs.declared.steps.LogStep.{LogStep}
@@ -10,13 +10,10 @@ use Rattle.cx_semantics.specs.LogText.{log_fields}
 use Rattle.cx_semantics.specs.Printed.{HasText}
 use Rattle.cx_semantics.specs.Words.{Word, number, IsWithin}
 use Rattle.cdcl_core.specs.Tells.{IsId}
+use Rattle.search_steps.proofs.Lists.{all_append}
 
 abbrev AreWords : List Word → Type 0
 AreWords ws = AllByRecursion (IsWithin 9223372036854775807) ws
-
-both : (xs ys : List Word) → AreWords xs → AreWords ys → AreWords (xs ++ ys)
-both [] ys a b = b
-both (x ∷ xs) ys a b = (a.0, both xs ys a.1 b)
 
 zero_within : nat_abs (pos 0) ≤ 9223372036854775807
 zero_within = omega arith
@@ -31,7 +28,7 @@ integer_words [] a = tt
 integer_words (z ∷ zs) a = (a.0.1, integer_words zs a.1)
 
 pub integers_within : (zs : List ℤ) → AreStepIntegers zs → AreWords (spelled_list zs)
-integers_within zs a = both (map number zs) (number (pos 0) ∷ []) (integer_words zs a) (zero_within, tt)
+integers_within zs a = all_append (IsWithin 9223372036854775807) (map number zs) (number (pos 0) ∷ []) (integer_words zs a) (zero_within, tt)
 
 pub ids_are_proper : (ns : List ℕ) → AllByRecursion IsId ns → AllByRecursion (λ n. 0 < n) ns
 ids_are_proper [] a = tt
@@ -42,12 +39,12 @@ id_words [] a = tt
 id_words (n ∷ ns) a = (a.0.1, id_words ns a.1)
 
 pub ids_within : (ns : List ℕ) → AllByRecursion IsId ns → AreWords (spelled_list (map pos ns))
-ids_within ns a = both (map number (map pos ns)) (number (pos 0) ∷ []) (id_words ns a) (zero_within, tt)
+ids_within ns a = all_append (IsWithin 9223372036854775807) (map number (map pos ns)) (number (pos 0) ∷ []) (id_words ns a) (zero_within, tt)
 
 -- ---- steps
 fields_within : (fs : List Field) → AllByRecursion (λ f. AreWords (spelled f)) fs → AreWords (flat_map spelled fs)
 fields_within [] a = tt
-fields_within (f ∷ fs) a = both (spelled f) (flat_map spelled fs) a.0 (fields_within fs a.1)
+fields_within (f ∷ fs) a = all_append (IsWithin 9223372036854775807) (spelled f) (flat_map spelled fs) a.0 (fields_within fs a.1)
 
 has_text : (s : LogStep) → AllByRecursion IsProper (log_fields s) → AllByRecursion (λ f. AreWords (spelled f)) (log_fields s) → HasText (Step s)
 has_text s proper within = (proper, fields_within (log_fields s) within)

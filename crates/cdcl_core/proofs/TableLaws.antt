@@ -1,5 +1,5 @@
 -- What is said of tables stays when a clause is put under another id.
-use Rattle.std.proofs.Common.{◌≡◌, ◌≢◌, refl, sym, ap, ◌∙◌, ℕ, ◌<◌, ◌≤◌, false, cond, nat_eq, eqb-true, eq-eqb, List, Some, None, arith}
+use Rattle.std.proofs.Common.{◌≡◌, ◌≢◌, refl, sym, ap, ◌∙◌, ℕ, ◌<◌, ◌≤◌, false, cond, nat_eq, eqb-true, eq-eqb, List, Option, Some, None, arith}
 use Rattle.std.specs.FinMap as map_
 use Rattle.cx_base.specs.Literals.{Literal}
 use Rattle.cx_semantics.specs.Tables.{Table, get}
@@ -9,6 +9,10 @@ use Rattle.search_steps.specs.Trail.{Entry}
 use Rattle.search_steps.proofs.Sets.{by_cases}
 use Rattle.cdcl_core.specs.declared.kept.Kept.{Kept}
 use Rattle.cdcl_core.specs.Ties.{IsNamedBy, AreClauses, AreUnits, first_row_id}
+
+-- no clause is none
+pub no_clause : (x : List Literal) → ◌≡◌ {A = Option (List Literal)} (Some x) None → ⊥
+no_clause x q = cc
 
 apart : (m n : ℕ) → m ≢ n → nat_eq m n ≡ false
 apart m n h = by_cases (nat_eq m n) (λ e. absurd (h (eqb-true m n e))) (λ e. e)

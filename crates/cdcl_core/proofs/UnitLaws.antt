@@ -1,5 +1,5 @@
 -- What implied the next literal of level 0, and what telling its unit clause leaves.
-use Rattle.std.proofs.Common.{◌≡◌, refl, sym, ap, ◌∙◌, subst, ℕ, zero, suc, ◌+◌, ◌<◌, ◌≤◌, ℤ, true, List, [], ◌∷◌, ◌++◌, length, take, get_or, Option, Some, None, Err, arith}
+use Rattle.std.proofs.Common.{◌≡◌, refl, sym, ap, ◌∙◌, subst, ℕ, zero, suc, ◌+◌, ◌<◌, ◌≤◌, ℤ, true, List, [], ◌∷◌, ◌++◌, length, take, get_or, Option, Some, None, Err, arith, length-take}
 use Rattle.std.specs.Prelude.{slice_index_or}
 use Rattle.std.specs.List.{All}
 use Rattle.std.specs.Global.{Vec}
@@ -23,7 +23,7 @@ use Rattle.search_steps.specs.Tied.{IsLiveSet, ForcesOn}
 use Rattle.search_steps.proofs.Sets.{by_cases}
 use Rattle.search_steps.proofs.StartLaws.{literals_are}
 use Rattle.cdcl_core.specs.declared.kept.Kept.{Kept}
-use Rattle.cdcl_core.specs.Tells.{TellsAll, GivesUp, IsLeft, IsId, with_events}
+use Rattle.cdcl_core.specs.Tells.{TellsAll, GivesUp, IsLeft, with_events}
 use Rattle.cdcl_core.specs.Ties.{Stands, first_row_id}
 use Rattle.cdcl_core.specs.Units.{IsNextUnit}
 use Rattle.cdcl_core.proofs.Events.{no_more, gives_up}
@@ -33,12 +33,6 @@ use Rattle.cdcl_core.proofs.RowSteps.{is_left}
 use Rattle.cdcl_core.proofs.UnitTies.{unit_is_search, unit_ties, after_unit, with_unit, l_within}
 
 -- ---- the clause that implied a literal forces it there
-taken_long : {X : Type 0} (xs : List X) (n i : ℕ) → i < n → i < length xs → i < length (take n xs)
-taken_long xs zero i low less = absurd (omega (arith, low))
-taken_long [] (suc n) i low less = absurd (omega (arith, less))
-taken_long (x ∷ xs) (suc n) zero low less = omega arith
-taken_long (x ∷ xs) (suc n) (suc i) low less = let rec = taken_long xs n i (omega (arith, low)) (omega (arith, less)) in omega (arith, rec)
-
 pub implied_forces : (t : TrailState) (l : Literal) (lits clause : List Literal) (place : ℕ) → place < length t.entries → (entry_at t.entries place).literal ≡ l → IsAntecedent t l lits → same_literals lits clause ≡ true
     → ForcesOn (take place t.entries) clause l
 implied_forces t l lits clause place less here implied same = record {
@@ -46,7 +40,8 @@ implied_forces t l lits clause place less here implied same = record {
   others_false = λ m has apart.
       let f = by.others_false m (has_by_inside clause lits m inside.1 has) (ap (λ x. same_literal x m) here ∙ apart) in
       let low = f.1 in
-      let long = taken_long t.entries place f.0 low (omega (arith, low, less)) in
+      let many = length-take place t.entries in
+      let long : f.0 < length (take place t.entries) = omega (arith, many, low, less) in
       (f.0, (long, ap (λ x. x.literal) (entry_taken t.entries place f.0 long) ∙ f.2));
 }
   where
@@ -82,9 +77,6 @@ module _ (t : TrailState) (sound : IsTrail t) where
 
 -- ---- the unit clause is told
 module _ (formula : Problem) (c : Kept) (e : State) (rows : List (List Literal)) (old : Option (List LogEvent)) (st : Stands formula c e rows old) where
-  pub next_is_id : c.next < first_row_id → IsId c.next
-  next_is_id room = let low = st.3.ranged.originals in (omega (arith, low), omega (arith, room))
-
   module _ (level : c.trail.level ≡ 0) (l : Literal) (lits : List Literal) (is_next : IsNextUnit c rows l lits) (room : c.next < first_row_id) (hints : List ℤ) where
     abbrev step : LogStep
     step = ClauseWithHints c.next (integers_of (l ∷ [])) hints

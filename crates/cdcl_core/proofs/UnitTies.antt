@@ -1,5 +1,5 @@
 -- The unit clause of a literal of level 0 is told: the ties of the search behind that.
-use Rattle.std.proofs.Common.{◌≡◌, ◌≢◌, refl, sym, ap, ◌∙◌, subst, ℕ, zero, suc, ◌+◌, ◌-◌, ◌<◌, ◌≤◌, ℤ, Bool, true, false, nat_eq, nat_lt, List, [], ◌∷◌, ◌++◌, length, take, get_or, Option, Some, None, ◌⊎◌, inl, inr, Contains, arith, length-append, true≢false}
+use Rattle.std.proofs.Common.{◌≡◌, ◌≢◌, refl, sym, ap, ◌∙◌, subst, ℕ, suc, ◌+◌, ◌-◌, ◌<◌, ℤ, true, nat_eq, nat_lt, List, [], ◌∷◌, ◌++◌, length, take, get_or, Option, Some, ◌⊎◌, inl, inr, arith, length-append, append_assoc}
 use Rattle.std.proofs.lemmas.Bool.{eqb-false, ltb-true, ltb-false}
 use Rattle.std.proofs.lemmas.List.{take_all, take-append-le}
 use Rattle.std.proofs.Math.ListN.{get_or-append}
@@ -26,7 +26,7 @@ use Rattle.search_steps.specs.Ids.{IsRanged}
 use Rattle.search_steps.specs.LogSteps.{IsAddition, RestOnClauses, unit_told}
 use Rattle.search_steps.specs.Search.{Search, IsSearch, told}
 use Rattle.search_steps.specs.Tied.{IsTied, ForcesOn}
-use Rattle.search_steps.specs.Trail.{Entry, rests_on, by_clause, held, all_held, level_of}
+use Rattle.search_steps.specs.Trail.{Entry, rests_on, held, all_held, level_of}
 use Rattle.search_steps.proofs.Bridge.{to_held}
 use Rattle.search_steps.proofs.CodeSteps.{forces_by}
 use Rattle.search_steps.proofs.IdLaws.{next_is_free, clause_ranged, rest_ranged}
@@ -34,10 +34,11 @@ use Rattle.search_steps.proofs.Sets.{by_cases, has_at_head}
 use Rattle.search_steps.proofs.StartLaws.{variables_are_within}
 use Rattle.search_steps.proofs.UnitLaws.{held_same, level_same}
 use Rattle.search_steps.proofs.UnitSteps.{unit_rests_keeps}
+use Rattle.search_steps.proofs.Reasons.{entry_at_front}
 use Rattle.cdcl_core.specs.declared.kept.Kept.{Kept}
 use Rattle.cdcl_core.specs.Ties.{Ties, IsNamedBy, IsCovered, AreClauses, AreUnits, IsFed, HasReasonAt, HaveReasons, first_row_id}
 use Rattle.cdcl_core.proofs.Places.{tied_length, older_level}
-use Rattle.cdcl_core.proofs.TableLaws.{put_same, put_other}
+use Rattle.cdcl_core.proofs.TableLaws.{put_same, put_other, no_clause}
 
 -- ---- an entry that rests on its unit clause
 tied_rests : (newer older : List Entry) (e : Entry) (n : ℕ) (entries : List TrailEntry) → IsTied (newer ++ e ∷ older) entries → IsTied (newer ++ rests_on e n ∷ older) entries
@@ -112,16 +113,12 @@ older_literal (x ∷ newer) older e entries (before, i, same, lit, lev, t) =
     let l = tied_length (newer ++ e ∷ older) before t in
     let n = length-append newer (e ∷ older) in
     older_literal newer older e before t
-    ∙ sym (ap (λ x. x.literal) (ap (λ xs. entry_at xs (length older)) same ∙ Rattle.cdcl_core.proofs.Places.entry_at_front before (i ∷ []) (length older) (omega (arith, l, n))))
+    ∙ sym (ap (λ x. x.literal) (ap (λ xs. entry_at xs (length older)) same ∙ entry_at_front before (i ∷ []) (length older) (omega (arith, l, n))))
 
 last_part : (xs : List Entry) → 0 < length xs → (front : List Entry) × (x : Entry) × (xs ≡ front ++ x ∷ [])
 last_part [] h = absurd (omega (arith, h))
 last_part (x ∷ []) h = ([], x, refl)
 last_part (x ∷ y ∷ xs) h = let r = last_part (y ∷ xs) (omega arith) in (x ∷ r.0, r.1, ap (λ es. x ∷ es) r.2)
-
-append_both : (xs ys zs : List Entry) → (xs ++ ys) ++ zs ≡ xs ++ (ys ++ zs)
-append_both [] ys zs = refl
-append_both (x ∷ xs) ys zs = ap (λ ws. x ∷ ws) (append_both xs ys zs)
 
 -- the entry of the first literal without a unit clause, between the newer ones and those that rest on clauses
 pub record IsNext (es : List Entry) (few : ℕ) : Type 0 where
@@ -142,7 +139,7 @@ next_of table t es ids u more =
       newer = r.0;
       entry = r.1;
       older = u.older;
-      parts = u.parts ∙ ap (λ xs. xs ++ u.older) r.2 ∙ append_both r.0 (r.1 ∷ []) u.older;
+      parts = u.parts ∙ ap (λ xs. xs ++ u.older) r.2 ∙ append_assoc r.0 (r.1 ∷ []) u.older;
       count = u.count;
       rest = u.rest;
     }
@@ -211,7 +208,7 @@ module _ (formula : Problem) (c : Kept) (e : State) (rows : List (List Literal))
   integer_is = let b = back in cc
 
   older_tied : IsTied p.older (take (length c.units.items) c.trail.entries)
-  older_tied = subst (λ k. IsTied p.older (take k c.trail.entries)) p.count (tied_front (p.newer ++ p.entry ∷ []) p.older c.trail.entries (subst (λ es. IsTied es c.trail.entries) (sym (append_both p.newer (p.entry ∷ []) p.older)) tied))
+  older_tied = subst (λ k. IsTied p.older (take k c.trail.entries)) p.count (tied_front (p.newer ++ p.entry ∷ []) p.older c.trail.entries (subst (λ es. IsTied es c.trail.entries) (sym (append_assoc p.newer (p.entry ∷ []) p.older)) tied))
 
   addition : IsAddition formula s.moment.tables.clauses n (z ∷ [])
   addition = record { within = variables_are_within formula.variables (l ∷ []) (l_within formula c e rows s ok t l more here); free = next_is_free formula first_row_id c.next (first_row_id + length rows) s t.ranged room }
@@ -223,9 +220,6 @@ module _ (formula : Problem) (c : Kept) (e : State) (rows : List (List Literal))
   -- ---- the tables
   abbrev table : Table
   table = map_.insert s.moment.tables.clauses c.next (literal (integer_of l) ∷ [])
-
-  no_clause : (x : List Literal) → ◌≡◌ {A = Option (List Literal)} (Some x) None → ⊥
-  no_clause x q = cc
 
   apart : (m : ℕ) (x : List Literal) → get s.moment.tables.clauses m ≡ Some x → m ≢ n
   apart m x is same = no_clause x (sym is ∙ ap (get s.moment.tables.clauses) same ∙ addition.free)

@@ -1,21 +1,19 @@
 -- Unit clauses of the formula come onto the trail, one after another, and what stands when none waits.
-use Rattle.std.proofs.Common.{◌≡◌, ◌≢◌, refl, sym, ap, ◌∙◌, subst, ℕ, zero, suc, ◌+◌, ◌-◌, ◌<◌, ◌≤◌, ℤ, nat_le, nat_lt, Bool, true, false, cond, List, [], ◌∷◌, ◌++◌, length, take, drop, drop-cons, get_or, Option, Some, None, ◌⊎◌, inl, inr, Result, Ok, Err, IfErr, Contains, arith, length-append, true≢false}
-use Rattle.std.specs.Prelude.{OnOk, IfSome}
+use Rattle.std.proofs.Common.{◌≡◌, ◌≢◌, refl, sym, ap, ◌∙◌, subst, ℕ, zero, suc, ◌+◌, ◌-◌, ◌<◌, ◌≤◌, ℤ, nat_lt, true, cond, List, [], ◌∷◌, ◌++◌, length, take, drop, drop-cons, get_or, Option, Some, None, ◌⊎◌, inl, inr, Result, Ok, Err, IfErr, Contains, arith, length-append, true≢false, append-nil}
+use Rattle.std.specs.Prelude.{OnOk}
 use Rattle.std.proofs.lemmas.Bool.{le-leb, ltb-true, ltb-false}
-use Rattle.std.proofs.lemmas.List.{length-replicate}
+use Rattle.std.proofs.lemmas.List.{length-replicate, length_push}
 use Rattle.std.proofs.Math.ListN.{get_or-append}
 use Rattle.std.proofs.Math.Seq.{get_or-append_seam}
 use Rattle.std.specs.List.{AllByRecursion}
 use Rattle.std.specs.Global.{Vec}
 use Rattle.cx_base.specs.Literals.{Literal, same_literal}
-use Rattle.cx_base.specs.Problem.{Problem, Unmet, clauses_of, parities_of, IsWithinVariables}
+use Rattle.cx_base.specs.Problem.{Problem, clauses_of, parities_of, IsWithinVariables}
 use Rattle.cx_semantics.specs.declared.steps.LogStep.{LogStep}
 use Rattle.cx_semantics.specs.declared.steps.LogStep.TheVariants.{ClauseWithHints}
 use Rattle.cx_semantics.specs.declared.steps.LogEvent.{LogEvent}
 use Rattle.cx_semantics.specs.declared.steps.LogEvent.TheVariants.{Step}
-use Rattle.cx_semantics.specs.Chain.{has_literal, is_inside, negations, same_literals}
-use Rattle.cx_semantics.specs.Fresh.{IsLive}
-use Rattle.cx_semantics.specs.LogRules.{HasChain}
+use Rattle.cx_semantics.specs.Chain.{has_literal, is_inside, same_literals}
 use Rattle.cx_semantics.specs.Marked.{Marked}
 use Rattle.cx_semantics.specs.Tables.{Table, get}
 use Rattle.cx_semantics.proofs.ChainLaws.{and_parts, same_literal-itself}
@@ -35,22 +33,22 @@ use Rattle.search_steps.specs.LogSteps.{IsEnded, RestOnClauses}
 use Rattle.search_steps.specs.Quiet.{HasTrue, IsOfParities}
 use Rattle.search_steps.specs.Search.{Search, IsSearch, forced_on}
 use Rattle.search_steps.specs.Tied.{IsTied, ForcesOn}
-use Rattle.search_steps.specs.Trail.{Entry, by_clause, held, all_held, level_of}
-use Rattle.search_steps.proofs.Bridge.{entry_last, entry_before, length_push, to_held, level_tied}
+use Rattle.search_steps.specs.Trail.{Entry, by_clause, held, level_of}
+use Rattle.search_steps.proofs.Bridge.{entry_last, entry_before, to_held, level_tied}
 use Rattle.search_steps.proofs.CodeSteps.{clause_step_keeps}
 use Rattle.search_steps.proofs.EngineLaws.{fresh_holds}
 use Rattle.search_steps.proofs.Ends.{ended_is_unmet, chained_clause_ends, chained_clause_is_marked}
 use Rattle.search_steps.proofs.IdLaws.{begun_is_ranged, begun_has_free_sums, force_ranged, next_is_free}
-use Rattle.search_steps.proofs.LogLaws.{append_nil, falsified_has_chain}
+use Rattle.search_steps.proofs.LogLaws.{falsified_has_chain}
 use Rattle.search_steps.proofs.Sets.{by_cases, not_both, has_at_head, has_split}
 use Rattle.search_steps.proofs.StartLaws.{begun_is_search}
 use Rattle.search_steps.proofs.Stored.{stored_is_false}
 use Rattle.cdcl_core.specs.declared.kept.Kept.{Kept}
 use Rattle.cdcl_core.specs.declared.filling.Single.{Single}
-use Rattle.cdcl_core.specs.Filling.{IsFilled, IsUnitClause, clause_number}
+use Rattle.cdcl_core.specs.Filling.{IsFilled, clause_number}
 use Rattle.cdcl_core.specs.Originals.{HasBegun}
 use Rattle.cdcl_core.specs.Results.{Refutes, IsEndedWithin}
-use Rattle.cdcl_core.specs.Tells.{TellsAll, GivesUp, IsLeft, IsId, with_events}
+use Rattle.cdcl_core.specs.Tells.{TellsAll, GivesUp, IsLeft, with_events}
 use Rattle.cdcl_core.specs.Ties.{IsNamedBy, IsCovered, AreClauses, AreUnits, IsFed, Stands, first_row_id}
 use Rattle.cdcl_core.specs.Waiting.{TiesBut, StandsBut, IsWaiting, IsSingle, IsContradicted, IsRefutable}
 use Rattle.cdcl_core.proofs.EndingLaws.{no_newer}
@@ -59,6 +57,7 @@ use Rattle.cdcl_core.proofs.Growing.{covered_grows, stand_grows}
 use Rattle.cdcl_core.proofs.OriginalLaws.{few_clauses}
 use Rattle.cdcl_core.proofs.Places.{tied_length}
 use Rattle.cdcl_core.proofs.RowSteps.{is_left}
+use Rattle.cdcl_core.proofs.TableLaws.{no_clause}
 
 -- ---- the empty clause is told
 module _ (formula : Problem) (id : ℕ) (old : Option (List LogEvent)) (shown : IsRefutable formula id old) (hints : List ℤ) where
@@ -163,9 +162,6 @@ module _ (table : Table) (t : TrailState) (es : List Entry) (ids : List ℕ) (u 
     all = λ high i far less. absurd (no_more_above high);
   }
 
-no_clause : (x : List Literal) → ◌≡◌ {A = Option (List Literal)} (Some x) None → ⊥
-no_clause x q = cc
-
 some_is : (x y : List Literal) → ◌≡◌ {A = Option (List Literal)} (Some x) (Some y) → x ≡ y
 some_is x y q = cc
 
@@ -211,9 +207,6 @@ module _ (formula : Problem) (c : Kept) (u : Single) (more : List Single) (old :
   rest : RestOnClauses search.trail
   rest = subst RestOnClauses (no_newer ties.units.newer ties.units.older search.trail ties.units.parts
       (let a = long in let count = ties.units.count in let every = ties.every in omega (arith, a, count, every))) ties.units.rest
-
-  pub unit_is_known : (1 ≤ u.literal.variable) × (u.literal.variable ≤ c.trail.variables)
-  unit_is_known = let low = single.1 in let high = single.2 in let same = ties.variables in (omega (arith, low), omega (arith, high, same))
 
   -- its literal is true already
   true_covers : IsTrueIn c.trail.entries u.literal → HasTrue (held 0 search.trail) clause
@@ -487,7 +480,7 @@ module _ (formula : Problem) (c : Kept) (told : Option (List LogEvent)) (st : St
     fed_then = record {
       newer = st.0.trail;
       older = [];
-      parts = sym (append_nil st.0.trail);
+      parts = sym (append-nil st.0.trail);
       count = sym st.3.given;
       now = subst (λ k. AllByRecursion (λ (x : Entry). x.level ≡ k) st.0.trail) (sym (ap (λ x. x.level) made))
           (all_low st.0.trail c.trail.entries st.3.follows.tied (λ i less. let low = st.3.follows.sound.levels i less in let level = st.3.level in omega (arith, low, level)));

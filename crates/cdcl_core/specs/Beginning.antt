@@ -4,7 +4,6 @@ use Rattle.cx_base.specs.Problem.{Problem}
 use Rattle.cx_semantics.specs.declared.steps.LogEvent.{LogEvent}
 use Rattle.parity_engine.specs.State.{State}
 use Rattle.parity_engine.specs.declared.state.Mood.TheVariants.{Broken}
-use Rattle.cdcl_core.specs.declared.kept.Kept.{Kept}
 use Rattle.cdcl_core.specs.declared.beginning.Begun.{Begun}
 use Rattle.cdcl_core.specs.declared.beginning.Begun.TheVariants.{Search, Ended}
 use Rattle.cdcl_core.specs.Results.{Refutes}

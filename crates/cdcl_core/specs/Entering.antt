@@ -4,7 +4,6 @@ use Rattle.cx_base.specs.Literals.{Literal}
 use Rattle.cx_trail.specs.declared.entry.Reason.{Reason}
 use Rattle.cx_trail.specs.declared.entry.Reason.TheVariants.{Decision, Clause}
 use Rattle.cx_trail.specs.Sequence.{pushed, IsTrail}
-use Rattle.clause_arena.specs.Clauses.{Stored}
 use Rattle.watch_lists.specs.Attaching.{literal_at}
 use Rattle.watch_lists.specs.Watching.{Fits, IsAttached}
 use Rattle.cdcl_core.specs.declared.kept.Kept.{Kept}

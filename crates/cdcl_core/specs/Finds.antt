@@ -13,6 +13,10 @@ use Rattle.cdcl_core.specs.declared.propagation.Found.TheVariants.{Quiet, Clause
 use Rattle.cdcl_core.specs.declared.propagation.RowFinding.{RowFinding}
 use Rattle.cdcl_core.specs.declared.propagation.RowFinding.TheVariants as finding
 
+-- the level, the unit clauses, the count of conflicts and the next id stay
+abbrev pub HasSameCounts : Kept → Kept → Type 0
+HasSameCounts old new = (new.trail.level ≡ old.trail.level) × (new.units.items ≡ old.units.items) × (new.conflicts ≡ old.conflicts) × (new.next ≡ old.next)
+
 -- the engine has all literals of the trail
 abbrev pub HasAll : Kept → Type 0
 HasAll c = c.given ≡ length c.trail.entries

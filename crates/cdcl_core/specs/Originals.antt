@@ -1,5 +1,5 @@
 -- The log begins with the formula's constraints.
-use Rattle.std.specs.Prelude.{◌≡◌, ℕ, List, [], length, Option, None}
+use Rattle.std.specs.Prelude.{◌≡◌, ℕ, List, length, Option, None}
 use Rattle.cx_base.specs.Literals.{Literal}
 use Rattle.cx_base.specs.Problem.{Problem, clauses_of, parities_of}
 use Rattle.cx_base.specs.declared.constraint.Constraint.{Constraint}

@@ -165,6 +165,7 @@ fn start<P: ParityEngine, L: LogSink>(
     ensures faults { FaultsAs result (L.faults sink.old) (L.faults sink.new) }
     ensures frame { L.keeps sink.old sink.new }
 {
+    // `vars` says to the proof that the literals of the formula are within its variables.
     let _vars = formula.vars();
     let Filled {
         mut kept,

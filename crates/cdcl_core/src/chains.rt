@@ -20,7 +20,7 @@ use log_text::LogSink;
 use std::alloc::{AllocError, Global};
 
 /// Puts an id behind the hints of a step. One that no step can have counts as want of memory.
-fn push_hint(hints: &mut Vec<i64>, id: u64) -> Result<(), AllocError>
+pub(crate) fn push_hint(hints: &mut Vec<i64>, id: u64) -> Result<(), AllocError>
     requires { AreStepIntegers hints.old.items }
     ensures { OnOk result (AreStepIntegers hints.new.items) }
 {

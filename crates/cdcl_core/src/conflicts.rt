@@ -1,14 +1,11 @@
 //! The clauses of conflicts.
-ghost use Rattle.std.specs.Prelude.{◌≡◌, ◌≢◌, ◌+◌, [], ◌∷◌, List, length, IfOk, IfErr, IsTrue, None, Some};
+ghost use Rattle.std.specs.Prelude.{◌≡◌, ◌≢◌, ◌+◌, [], ◌∷◌, length, IfOk, IfErr, None};
 ghost use Rattle.std.specs.List.{AllByRecursion};
-ghost use Rattle.cx_base.specs.Literals.{Literal};
 ghost use Rattle.cx_base.specs.Problem.{parities_of};
-ghost use Rattle.cx_semantics.specs.Chain.{has_literal};
 ghost use Rattle.cx_semantics.specs.Integers.{integers_of, literals};
 ghost use Rattle.cx_semantics.specs.Printed.{HasText};
 ghost use Rattle.cx_semantics.specs.declared.steps.LogEvent.TheVariants.{Step};
 ghost use Rattle.cx_semantics.specs.declared.steps.LogStep.TheVariants as step;
-ghost use Rattle.cx_trail.specs.Sequence.{IsFalseIn};
 ghost use Rattle.clause_arena.specs.Clauses.{IsLive, literals_at};
 ghost use Rattle.conflict_learn.specs.Learning.{Rose};
 ghost use Rattle.conflict_learn.specs.declared.fault.CoreFault.TheVariants.{Write};
@@ -16,7 +13,6 @@ ghost use Rattle.parity_engine.specs.State.{AreRising};
 ghost use Rattle.cdcl_core.specs.Concluding.{Concludes};
 ghost use Rattle.cdcl_core.specs.Explaining.{Explains};
 ghost use Rattle.cdcl_core.specs.Finds.{Finds, IsClash};
-ghost use Rattle.cdcl_core.specs.Sources.{IsConflict};
 ghost use Rattle.cdcl_core.specs.Tells.{GivesUp, FaultsAs};
 ghost use Rattle.cdcl_core.specs.Ties.{Stands, first_row_id};
 ghost use Rattle.cdcl_core.specs.declared.propagation.Found.TheVariants.{Quiet};

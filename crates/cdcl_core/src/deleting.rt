@@ -1,5 +1,5 @@
 //! Deleting the clauses of rows.
-ghost use Rattle.std.specs.Prelude.{◌≡◌, [], List, length, map, OnOk, IfOk, IfErr};
+ghost use Rattle.std.specs.Prelude.{◌≡◌, [], ◌++◌, OnOk, IfOk, IfErr};
 ghost use Rattle.std.specs.List.{AllByRecursion};
 ghost use Rattle.cx_semantics.specs.Printed.{HasText};
 ghost use Rattle.cx_semantics.specs.declared.steps.LogEvent.TheVariants.{Step};
@@ -20,20 +20,34 @@ use log_text::LogSink;
 use parity_engine::ParityEngine;
 use std::alloc::{AllocError, Global};
 
-/// The deletions of so many clauses of rows, the newest first.
-pub(crate) fn deletions_of_rows(alloc: Global, count: usize) -> Result<Vec<LogStep>, AllocError>
-    ensures steps { IfOk result (λ s. as_events s.items ≡ deletions (row_ids count)) }
-    ensures texts { IfOk result (λ s. AllByRecursion (λ t. HasText (Step t)) s.items) }
+/// Puts the deletions of so many clauses of rows behind these steps, the newest first.
+pub(crate) fn put_deletions(
+    alloc: Global,
+    steps: &mut Vec<LogStep>,
+    count: usize,
+) -> Result<(), AllocError>
+    requires { AllByRecursion (λ t. HasText (Step t)) steps.old.items }
+    ensures steps { OnOk result (as_events steps.new.items ≡ as_events steps.old.items ++ deletions (row_ids count)) }
+    ensures texts { OnOk result (AllByRecursion (λ t. HasText (Step t)) steps.new.items) }
 {
     if count as u64 >= MOST {
         return Err(AllocError);
     }
-    let mut steps = Vec::new(alloc);
     let mut left = count;
     while left > 0 {
         left -= 1;
         steps.push(deletion(alloc, FIRST_ROW_ID + left as u64))?;
     }
+    Ok(())
+}
+
+/// The deletions of so many clauses of rows, the newest first.
+fn deletions_of_rows(alloc: Global, count: usize) -> Result<Vec<LogStep>, AllocError>
+    ensures steps { IfOk result (λ s. as_events s.items ≡ deletions (row_ids count)) }
+    ensures texts { IfOk result (λ s. AllByRecursion (λ t. HasText (Step t)) s.items) }
+{
+    let mut steps = Vec::new(alloc);
+    put_deletions(alloc, &mut steps, count)?;
     Ok(steps)
 }
 

@@ -1,13 +1,12 @@
 //! Going back to an earlier level.
-ghost use Rattle.std.specs.Prelude.{◌≡◌, ◌≢◌, ◌<◌, ◌≤◌, ◌+◌, ℕ, List, [], ◌∷◌, length, Option, OnOk};
+ghost use Rattle.std.specs.Prelude.{◌≡◌, ◌≢◌, ◌<◌, ◌≤◌, ◌+◌, List, [], length, Option, OnOk};
 ghost use Rattle.std.specs.List.{All};
 ghost use Rattle.cx_base.specs.Literals.{Literal};
 ghost use Rattle.cx_base.specs.Problem.{parities_of};
 ghost use Rattle.cx_semantics.specs.declared.steps.LogEvent.{LogEvent};
-ghost use Rattle.cx_trail.specs.Sequence.{TrailState, TakesBack, IsOpenIn};
+ghost use Rattle.cx_trail.specs.Sequence.{TakesBack, IsOpenIn};
 ghost use Rattle.watch_lists.specs.Watching.{Fits};
 ghost use Rattle.watch_lists.specs.Attaching.{CanBeWatched, literal_at};
-ghost use Rattle.search_policy.specs.Standing.{AllStand};
 ghost use Rattle.parity_engine.specs.declared.state.Mood.TheVariants.{Broken};
 ghost use Rattle.search_steps.specs.Search.{Search, IsSearch, jumped};
 ghost use Rattle.cdcl_core.specs.Ties.{Stands, Ties};
@@ -20,7 +19,7 @@ use cx_base::{Formula, Lit};
 use cx_trail::{Reason, Trail};
 use parity_engine::ParityEngine;
 use search_policy::Order;
-use std::alloc::{AllocError, Global};
+use std::alloc::AllocError;
 
 /// Keeps the values of the literals above a level for later decisions.
 fn save_phases(phases: &mut Vec<bool>, trail: &Trail, level: u32)

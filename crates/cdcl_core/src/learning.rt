@@ -1,5 +1,5 @@
 //! Learning from a conflict.
-ghost use Rattle.std.specs.Prelude.{◌≡◌, ◌≢◌, ◌<◌, ◌≤◌, ◌^◌, pos, nat_abs, [], ◌∷◌, ◌++◌, map, length, IfOk, OnOk, IfErr};
+ghost use Rattle.std.specs.Prelude.{◌≡◌, ◌<◌, ◌≤◌, ◌^◌, ◌∷◌, IfOk, OnOk, IfErr};
 ghost use Rattle.std.specs.List.{AllByRecursion};
 ghost use Rattle.cx_semantics.specs.Integers.{integers_of, literals};
 ghost use Rattle.cx_semantics.specs.Printed.{HasText};
@@ -8,17 +8,19 @@ ghost use Rattle.cx_semantics.specs.declared.steps.LogStep.TheVariants as step;
 ghost use Rattle.conflict_learn.specs.Learning.{Rose};
 ghost use Rattle.conflict_learn.specs.Levels.{Teaches};
 ghost use Rattle.conflict_learn.specs.declared.fault.CoreFault.TheVariants.{Write};
+ghost use Rattle.cdcl_core.specs.Deleting.{deletions};
 ghost use Rattle.cdcl_core.specs.Tells.{GivesUp, FaultsAs, TellsAll, IsId, as_events};
 ghost use Rattle.cdcl_core.specs.Ties.{Stands, first_row_id, row_ids};
 ghost use Rattle.cdcl_core.specs.Sources.{IsSourced, IsConflict, counted};
 ghost use Rattle.cdcl_core.specs.Learning.{Learns};
 
+use crate::chains::push_hint;
 use crate::conflicts::Conflict;
+use crate::deleting::put_deletions;
 use crate::integers::integers;
 use crate::kept::Kept;
-use crate::rows::FIRST_ROW_ID;
 use crate::source::Source;
-use crate::steps::{chained, deletion};
+use crate::steps::chained;
 use crate::telling::{tell_all, tell_mark};
 use conflict_learn::{CoreFault, Learned, analyse};
 use cx_base::{Formula, IntList, Lit, LitList};
@@ -26,24 +28,6 @@ use cx_semantics::LogStep;
 use log_text::LogSink;
 use parity_engine::ParityEngine;
 use std::alloc::{AllocError, Global};
-
-/// The most clauses of rows between two marks.
-const MOST_ROWS: usize = 500_000_000_000_000_000;
-
-/// The deletions of the clauses of rows, the newest first, behind these steps.
-fn put_deletions(alloc: Global, steps: &mut Vec<LogStep>, rows: usize) -> Result<(), AllocError>
-    requires few { rows ≤ 500000000000000000 }
-    requires texts { AllByRecursion (λ t. HasText (event.Step t)) steps.old.items }
-    ensures steps { OnOk result (steps.new.items ≡ steps.old.items ++ map (λ n. step.Delete n []) (row_ids rows)) }
-    ensures texts { OnOk result (AllByRecursion (λ t. HasText (event.Step t)) steps.new.items) }
-{
-    let mut left = rows;
-    while left > 0 {
-        left -= 1;
-        steps.push(deletion(alloc, FIRST_ROW_ID + left as u64))?;
-    }
-    Ok(())
-}
 
 /// The steps behind the mark of a conflict: the learned clause with its hints, and the deletions of the clauses of rows.
 fn steps_of_learned(
@@ -54,13 +38,10 @@ fn steps_of_learned(
     rows: usize,
 ) -> Result<Vec<LogStep>, AllocError>
     requires { IsId id }
-    ensures steps { IfOk result (λ s. s.items ≡ step.ClauseWithHints id (integers_of lits.now) hints ∷ map (λ n. step.Delete n []) (row_ids rows)) }
+    ensures steps { IfOk result (λ s. as_events s.items ≡ event.Step (step.ClauseWithHints id (integers_of lits.now) hints) ∷ deletions (row_ids rows)) }
     ensures texts { IfOk result (λ s. AllByRecursion (λ t. HasText (event.Step t)) s.items) }
     ensures literals { IfOk result (λ s. literals (integers_of lits.now) ≡ lits.now) }
 {
-    if rows > MOST_ROWS {
-        return Err(AllocError);
-    }
     let clause = chained(id, integers(alloc, lits)?, hints);
     let mut steps = Vec::new(alloc);
     steps.push(clause)?;
@@ -110,27 +91,16 @@ fn tell_learned<P: ParityEngine, L: LogSink>(
     tell_marked(sink, kept.conflicts + 1, &steps)
 }
 
-/// The ids of hints: those of the clauses that were asked for, the last first, and then the conflict's.
-fn hints_of(alloc: Global, ids: &[u64], conflict: u64) -> Result<IntList, AllocError> {
+/// The hints of a learned clause: the ids of the clauses that were asked for, the last first, and then the conflict's.
+fn hints_of_lesson(alloc: Global, ids: &[u64], conflict: u64) -> Result<IntList, AllocError> {
     let mut hints = Vec::with_capacity(alloc, ids.len())?;
     let mut left = ids.len();
     while left > 0 {
         left -= 1;
-        hints.push(as_integer(ids[left]))?;
+        push_hint(&mut hints, ids[left])?;
     }
-    hints.push(as_integer(conflict))?;
+    push_hint(&mut hints, conflict)?;
     Ok(IntList::from_vec(hints))
-}
-
-/// An id as an integer. Ids are small and not 0: any other stands as the greatest integer.
-fn as_integer(id: u64) -> i64
-    ensures { (result ≢ pos 0) × (nat_abs result ≤ 9223372036854775807) }
-{
-    if 0 < id && id < 9_223_372_036_854_775_807 {
-        id as i64
-    } else {
-        i64::MAX
-    }
 }
 
 /// What a conflict above level 0 teaches. The clauses of rows that are told for it come behind these rows, and the ids of the clauses that it rests on behind these ids.
@@ -195,7 +165,7 @@ pub(crate) fn learn<P: ParityEngine, L: LogSink>(
     let learned = lesson_of(
         alloc, formula, kept, engine, sink, &lits, &mut rows, &mut ids,
     )?;
-    let hints = hints_of(alloc, &ids, id)?;
+    let hints = hints_of_lesson(alloc, &ids, id)?;
     tell_learned(
         alloc, formula, kept, engine, sink, &lits, &rows, &learned, hints,
     )?;

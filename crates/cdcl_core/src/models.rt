@@ -1,5 +1,5 @@
 //! The values of a full trail.
-ghost use Rattle.std.specs.Prelude.{◌≡◌, ◌+◌, ◌≤◌, not, [], List, Option, IfOk};
+ghost use Rattle.std.specs.Prelude.{◌+◌, ◌≤◌, not, [], List, Option, IfOk};
 ghost use Rattle.cx_base.specs.Problem.{Meets};
 ghost use Rattle.cx_semantics.specs.declared.steps.LogEvent.{LogEvent};
 ghost use Rattle.cx_trail.specs.Sequence.{IsFull, IsTrueIn, IsAssignedIn};

@@ -7,7 +7,7 @@ ghost use Rattle.watch_lists.specs.Events.{Happens};
 ghost use Rattle.parity_engine.specs.State.{State};
 ghost use Rattle.parity_engine.specs.declared.state.Mood.TheVariants.{Broken};
 ghost use Rattle.cdcl_core.specs.Ties.{Stands};
-ghost use Rattle.cdcl_core.specs.Finds.{Finds, RowsSay, HasAll};
+ghost use Rattle.cdcl_core.specs.Finds.{Finds, RowsSay, HasAll, HasSameCounts};
 
 use crate::kept::Kept;
 use cx_base::{ClauseRef, Formula, Row};
@@ -41,9 +41,11 @@ fn follow_clauses(kept: &mut Kept) -> Event
     ensures stands { (formula : Problem) (e : State) (told : Option (List LogEvent)) → Stands formula kept.old e [] told → Stands formula kept.new e [] told }
     ensures happens { Happens kept.new.watches.attached kept.new.arena kept.new.trail result }
     ensures grows { length kept.old.trail.entries ≤ length kept.new.trail.entries }
-    ensures same { (kept.new.given ≡ kept.old.given) × (kept.new.trail.level ≡ kept.old.trail.level) × (kept.new.units.items ≡ kept.old.units.items) × (kept.new.conflicts ≡ kept.old.conflicts) × (kept.new.next ≡ kept.old.next) }
+    ensures given { kept.new.given ≡ kept.old.given }
+    ensures same { HasSameCounts kept.old kept.new }
 {
     let event = kept.watches.next_event(&kept.arena, &mut kept.trail);
+    // `len` says to the proof that the trail is sound.
     let _sound = kept.trail.len();
     event
 }
@@ -70,7 +72,7 @@ fn follow_rows<P: ParityEngine>(formula: &Formula, kept: &mut Kept, engine: &mut
     requires all { HasAll kept.old }
     ensures stands { (told : Option (List LogEvent)) → Stands formula.now kept.old (P.state engine.old) [] told → Stands formula.now kept.new (P.state engine.new) [] told }
     ensures says { RowsSay kept.old kept.new (P.state engine.new) result }
-    ensures same { (kept.new.trail.level ≡ kept.old.trail.level) × (kept.new.units.items ≡ kept.old.units.items) × (kept.new.conflicts ≡ kept.old.conflicts) × (kept.new.next ≡ kept.old.next) }
+    ensures same { HasSameCounts kept.old kept.new }
 {
     match engine.next_event() {
         ParityEvent::Quiet => RowFinding::Quiet,
@@ -92,7 +94,7 @@ pub(crate) fn propagate<P: ParityEngine>(
     requires unbroken { (P.state engine.old).mood ≢ Broken }
     ensures stands { (told : Option (List LogEvent)) → Stands formula.now kept.old (P.state engine.old) [] told → Stands formula.now kept.new (P.state engine.new) [] told }
     ensures finds { Finds kept.new (P.state engine.new) result }
-    ensures same { (kept.new.trail.level ≡ kept.old.trail.level) × (kept.new.units.items ≡ kept.old.units.items) × (kept.new.conflicts ≡ kept.old.conflicts) × (kept.new.next ≡ kept.old.next) }
+    ensures same { HasSameCounts kept.old kept.new }
     ensures grows { length kept.old.trail.entries ≤ length kept.new.trail.entries }
 {
     loop {

@@ -1,10 +1,9 @@
 //! Rows as the log tells them.
-ghost use Rattle.std.specs.Prelude.{◌≡◌, ◌≢◌, ◌+◌, ◌<◌, [], ◌∷◌, ◌++◌, List, Option, length, IfOk, IfErr, OnErr};
+ghost use Rattle.std.specs.Prelude.{◌≡◌, ◌≢◌, ◌+◌, ◌<◌, [], ◌∷◌, ◌++◌, length, IfOk, IfErr, OnErr};
 ghost use Rattle.std.specs.List.{AllByRecursion};
 ghost use Rattle.cx_base.specs.Problem.{parities_of};
 ghost use Rattle.cx_semantics.specs.Integers.{integers_of, literals};
 ghost use Rattle.cx_semantics.specs.Printed.{HasText};
-ghost use Rattle.cx_semantics.specs.declared.steps.LogEvent.{LogEvent};
 ghost use Rattle.cx_semantics.specs.declared.steps.LogEvent.TheVariants.{Step};
 ghost use Rattle.cx_semantics.specs.declared.steps.LogStep.TheVariants as step;
 ghost use Rattle.conflict_learn.specs.declared.fault.CoreFault.TheVariants.{Write};

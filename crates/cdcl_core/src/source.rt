@@ -1,9 +1,7 @@
 //! Where the clauses come from that implied the literals of the trail.
-ghost use Rattle.std.specs.Prelude.{◌≡◌, ◌<◌, ◌≤◌, ◌≢◌, ℕ, [], ◌∷◌, ◌++◌, List, Option, length, Contains, IfOk, IfErr, IfSome, OnErr, refl};
+ghost use Rattle.std.specs.Prelude.{◌≡◌, ◌<◌, ◌≤◌, [], ◌∷◌, ◌++◌, List, Option, length, IfOk, IfErr, IfSome, OnErr, refl};
 ghost use Rattle.std.proofs.Common.{◌∙◌, arith};
 ghost use Rattle.cx_base.specs.Literals.{Literal};
-ghost use Rattle.cx_base.specs.Problem.{Problem};
-ghost use Rattle.cx_semantics.specs.declared.steps.LogEvent.{LogEvent};
 ghost use Rattle.cx_trail.specs.Sequence.{entry_at};
 ghost use Rattle.clause_arena.specs.Clauses.{IsLive, literals_at};
 ghost use Rattle.conflict_learn.specs.Learning.{HasReason, IsAntecedent, Rose};

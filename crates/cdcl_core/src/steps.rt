@@ -1,5 +1,7 @@
 //! The steps that the search tells. A text can have each of them.
-ghost use Rattle.std.specs.Prelude.{◌≡◌, ◌≤◌, [], ◌∷◌, IfOk};
+//!
+//! A call of `as_slice` whose answer is let go says to the proof what holds of each integer of a list.
+ghost use Rattle.std.specs.Prelude.{◌≡◌, []};
 ghost use Rattle.std.specs.List.{AllByRecursion};
 ghost use Rattle.cx_semantics.specs.Printed.{HasText};
 ghost use Rattle.cx_semantics.specs.declared.steps.LogEvent.TheVariants.{Step};
@@ -8,7 +10,7 @@ ghost use Rattle.cdcl_core.specs.Tells.{IsId};
 
 use cx_base::{IdList, IntList};
 use cx_semantics::LogStep;
-use std::alloc::{AllocError, Global};
+use std::alloc::Global;
 
 /// A clause of the formula.
 pub(crate) fn original(id: u64, lits: IntList) -> LogStep

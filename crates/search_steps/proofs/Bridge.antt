@@ -1,6 +1,7 @@
 -- The trail of the code holds what the trail of the calculus holds, at the same levels.
-use Rattle.std.proofs.Common.{◌≡◌, ◌≢◌, refl, sym, ap, ◌∙◌, subst, ℕ, zero, suc, ◌+◌, ◌-◌, ◌<◌, ◌≤◌, nat_le, nat_eq, Bool, true, false, cond, not, List, [], ◌∷◌, ◌++◌, length, ◌⊎◌, inl, inr, eqb-true, arith, length-append}
+use Rattle.std.proofs.Common.{◌≡◌, ◌≢◌, refl, sym, ap, ◌∙◌, subst, ℕ, zero, suc, ◌+◌, ◌-◌, ◌<◌, ◌≤◌, nat_le, nat_eq, Bool, true, false, cond, not, List, [], ◌∷◌, ◌++◌, length, ◌⊎◌, inl, inr, eqb-true, arith}
 use Rattle.std.proofs.lemmas.Bool.{le-leb, lt-leb, eqb-false}
+use Rattle.std.proofs.lemmas.List.{length_push}
 use Rattle.cx_base.specs.Literals.{Literal, negate}
 use Rattle.cx_semantics.specs.Chain.{has_literal}
 use Rattle.cx_semantics.specs.Tables.{Table}
@@ -21,9 +22,6 @@ pub entry_before : (before : List TrailEntry) (i : TrailEntry) (p : ℕ) → p <
 entry_before [] i p h = absurd (omega (arith, h))
 entry_before (x ∷ before) i zero h = refl
 entry_before (x ∷ before) i (suc p) h = entry_before before i p (omega (arith, h))
-
-pub length_push : (before : List TrailEntry) (i : TrailEntry) → length (before ++ i ∷ []) ≡ length before + 1
-length_push before i = length-append before (i ∷ [])
 
 put_held : (k : ℕ) (e : Entry) (es : List Entry) (m : Literal) → has_literal (held k es) m ≡ true → has_literal (held k (e ∷ es)) m ≡ true
 put_held k e es m h = elim (nat_le e.level k) as (λ b. has_literal (cond b (e.literal ∷ held k es) (held k es)) m ≡ true) [ true ↦ has_behind e.literal (held k es) m h | false ↦ h ]

@@ -1,6 +1,7 @@
 -- The steps of the trail, said of the code's trail.
-use Rattle.std.proofs.Common.{◌≡◌, refl, sym, ap, ◌∙◌, subst, ℕ, suc, ◌+◌, ◌-◌, ◌<◌, ◌≤◌, nat_le, true, false, cond, ◌&&◌, List, [], ◌∷◌, ◌++◌, length, Some, ◌⊎◌, inl, inr, arith, true≢false}
+use Rattle.std.proofs.Common.{◌≡◌, refl, sym, ap, ◌∙◌, subst, ℕ, suc, ◌+◌, ◌-◌, ◌<◌, ◌≤◌, nat_le, true, false, cond, ◌&&◌, List, [], ◌∷◌, ◌++◌, length, Some, ◌⊎◌, inl, inr, arith, true≢false, append-nil}
 use Rattle.std.proofs.lemmas.Bool.{leb-true, leb-false}
+use Rattle.std.proofs.lemmas.List.{length_push}
 use Rattle.cx_base.specs.Literals.{Literal, negate}
 use Rattle.cx_base.specs.Problem.{Problem}
 use Rattle.cx_semantics.specs.Chain.{has_literal, is_inside}
@@ -18,9 +19,8 @@ use Rattle.search_steps.specs.Search.{Search, IsSearch, decided_on, forced_on}
 use Rattle.search_steps.specs.Tied.{IsTied, IsLiveSet, Mirrors, ForcesOn}
 use Rattle.search_steps.proofs.Sets.{by_cases, not_both, has_at_head, has_behind}
 use Rattle.search_steps.proofs.QuietLaws.{implied_rests}
-use Rattle.search_steps.proofs.LogLaws.{append_nil}
 use Rattle.search_steps.proofs.ServesLaws.{decide_keeps, force_keeps}
-use Rattle.search_steps.proofs.Bridge.{entry_last, length_push, to_held, true_is_held, open_is_unassigned, level_tied}
+use Rattle.search_steps.proofs.Bridge.{entry_last, to_held, true_is_held, open_is_unassigned, level_tied}
 
 -- a clause that forces a literal on the code's trail forces it in the calculus
 pub forces_by : (es : List Entry) (entries : List TrailEntry) (clause : List Literal) (l : Literal) → IsTied es entries → ForcesOn entries clause l → Forces clause (all_held es) l
@@ -97,12 +97,12 @@ tied_back_by k (e ∷ es) kept dropped low high (before, i, same, lit, lev, t) =
     (λ big. subst (λ b. IsTied (cond b (e ∷ es) (back_to k es)) kept) (sym big) (goes (λ d. tied_back_by k es kept d low) (leb-false e.level k big) (split_end kept dropped before i same)))
   where
     stays : e.level ≤ k → (dropped ≡ []) ⊎ ((d : List TrailEntry) × (dropped ≡ d ++ i ∷ []) × (kept ++ d ≡ before)) → IsTied (e ∷ es) kept
-    stays small (inl none) = (before, i, sym (append_nil kept) ∙ ap (λ ys. kept ++ ys) (sym none) ∙ same, lit, lev, t)
+    stays small (inl none) = (before, i, sym (append-nil kept) ∙ ap (λ ys. kept ++ ys) (sym none) ∙ same, lit, lev, t)
     stays small (inr (d, are, rest)) = absurd (let above : k < i.level = last_of (λ v. k < v) d i (subst (AllOf (λ v. k < v)) are high) in omega (arith, above, small, lev))
 
     goes : ((d : List TrailEntry) → AllOf (λ v. k < v) d → IsTied es (kept ++ d) → IsTied (back_to k es) kept) → k < e.level → (dropped ≡ []) ⊎ ((d : List TrailEntry) × (dropped ≡ d ++ i ∷ []) × (kept ++ d ≡ before)) → IsTied (back_to k es) kept
     goes rec big (inl none) = absurd (
-        let are : kept ≡ before ++ i ∷ [] = sym (append_nil kept) ∙ ap (λ ys. kept ++ ys) (sym none) ∙ same in
+        let are : kept ≡ before ++ i ∷ [] = sym (append-nil kept) ∙ ap (λ ys. kept ++ ys) (sym none) ∙ same in
         let below : i.level ≤ k = last_of (λ v. v ≤ k) before i (subst (AllOf (λ v. v ≤ k)) are low) in
         omega (arith, below, big, lev))
     goes rec big (inr (d, are, rest)) = rec d (before_last (λ v. k < v) d i (subst (AllOf (λ v. k < v)) are high)) (subst (IsTied es) (sym rest) t)

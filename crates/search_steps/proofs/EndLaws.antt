@@ -12,13 +12,13 @@ use Rattle.cx_semantics.specs.Judging.{IsOpen}
 use Rattle.cx_semantics.specs.LogRules.{log_calculus}
 use Rattle.cx_semantics.specs.LogText.{step_of}
 use Rattle.cx_semantics.specs.Marked.{Marked}
-use Rattle.cx_semantics.specs.Settled.{IsClauseOf, Decides, IsClosed, SettledBy}
+use Rattle.cx_semantics.specs.Settled.{IsClauseOf, Decides, SettledBy}
 use Rattle.cx_semantics.specs.Tables.{Table}
 use Rattle.cx_semantics.proofs.ChainLaws.{and_both, true_by_all, literal_true-negate}
 use Rattle.search_steps.specs.Quiet.{Quiet}
 use Rattle.search_steps.specs.Trail.{all_held}
 use Rattle.search_steps.specs.Search.{Search, IsSearch}
-use Rattle.search_steps.proofs.Sets.{not_both}
+use Rattle.search_steps.proofs.Sets.{not_both, not_true}
 use Rattle.search_steps.proofs.LogLaws.{here, there}
 
 -- ---- a settled formula
@@ -55,15 +55,11 @@ module _ (n : ℕ) (known : List Literal) (decides : Decides n known) where
       swap_sides (inl a) = inr a
       swap_sides (inr b) = inl b
 
-  not_false : (b : Bool) → not b ≡ true → b ≡ false
-  not_false true h = absurd (true≢false (sym h))
-  not_false false h = refl
-
   -- values that make all that is held true agree on each literal
   agree : (v w : List Bool) → list_all (literal_true v) known ≡ true → list_all (literal_true w) known ≡ true → (l : Literal) → 1 ≤ l.variable → l.variable ≤ n → literal_true v l ≡ literal_true w l
   agree v w hv hw l low high = elim (one_held l low high) [
     | inl h ↦ true_by_all v known l hv h ∙ sym (true_by_all w known l hw h)
-    | inr h ↦ not_false _ (sym (literal_true-negate v l) ∙ true_by_all v known (negate l) hv h) ∙ sym (not_false _ (sym (literal_true-negate w l) ∙ true_by_all w known (negate l) hw h))
+    | inr h ↦ not_true _ (sym (literal_true-negate v l) ∙ true_by_all v known (negate l) hv h) ∙ sym (not_true _ (sym (literal_true-negate w l) ∙ true_by_all w known (negate l) hw h))
   ]
 
   parity_agrees : (v w : List Bool) → list_all (literal_true v) known ≡ true → list_all (literal_true w) known ≡ true → (lits : List Literal) → AreWithin n lits → parity_met v lits ≡ parity_met w lits

@@ -1,5 +1,5 @@
 -- A step that ends the log: the log is right to its end, the marks are as before, and nothing meets the formula.
-use Rattle.std.proofs.Common.{◌≡◌, refl, sym, ap, ◌∙◌, subst, ℕ, ℤ, true, false, not, ◌||◌, MatchBool, List, [], ◌∷◌, ◌++◌, length, Some, is_some, true≢false, length-append}
+use Rattle.std.proofs.Common.{◌≡◌, refl, sym, ap, ◌∙◌, subst, ℕ, ℤ, true, false, not, ◌||◌, MatchBool, List, [], ◌∷◌, ◌++◌, length, Some, is_some, true≢false, length-append, append-nil}
 use Rattle.std.proofs.lemmas.List.Elements.{filter_map-append}
 use Rattle.std.specs.List.{list_all, cons_option}
 use Rattle.cx_base.specs.Literals.{Literal}
@@ -21,7 +21,7 @@ use Rattle.cx_semantics.proofs.MarkedLaws.{events_go_on}
 use Rattle.cx_semantics.proofs.Soundness.{right_steps_are_unmet}
 use Rattle.search_steps.specs.Search.{Search, IsSearch}
 use Rattle.search_steps.specs.LogSteps.{IsAddition, IsEnded, IsClauseOfRow}
-use Rattle.search_steps.proofs.LogLaws.{append_nil, begins_still}
+use Rattle.search_steps.proofs.LogLaws.{begins_still}
 
 -- a log that is right to its end shows that no values meet the formula
 pub ended_is_unmet : (formula : Problem) (events : List LogEvent) → IsEnded formula events → Unmet formula
@@ -48,7 +48,7 @@ module _ (formula : Problem) (parities : List (List Literal)) (s : Search) (ok :
   -- and the marks are those of before
   pub last_step_is_marked : (step : LogStep) → StepFits s.moment step → (after_event s.moment (Step step)).awaits ≡ false → Marked formula (s.events ++ Step step ∷ []) s.conflicts
   last_step_is_marked step fits served = record {
-    marks = filter_map-append mark_of s.events (Step step ∷ []) ∙ append_nil _ ∙ ok.log.marks;
+    marks = filter_map-append mark_of s.events (Step step ∷ []) ∙ append-nil _ ∙ ok.log.marks;
     originals = begins_still formula.constraints s.events (Step step ∷ []) ok.log.originals;
     last = after_event s.moment (Step step);
     fit = events_go_on formula first_moment s.moment s.events (Step step) ok.log.fits fits;

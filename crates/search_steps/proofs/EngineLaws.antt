@@ -1,5 +1,5 @@
 -- The engine's values stay those of the trail, and where the engine is quiet the parities are.
-use Rattle.std.proofs.Common.{◌≡◌, ◌≢◌, refl, sym, ap, ◌∙◌, subst, ℕ, zero, suc, ◌+◌, ◌-◌, ◌≤◌, ◌<◌, nat_le, nat_eq, Bool, true, false, cond, not, ◌||◌, ◌&&◌, List, [], ◌∷◌, ◌++◌, map, length, get_or, Option, Some, None, arith, ◌⊎◌, inl, inr, true≢false, eqb-true, eq-eqb}
+use Rattle.std.proofs.Common.{◌≡◌, ◌≢◌, refl, sym, ap, ◌∙◌, subst, ℕ, zero, suc, ◌+◌, ◌-◌, ◌≤◌, ◌<◌, nat_le, nat_eq, Bool, true, false, cond, not, List, [], ◌∷◌, ◌++◌, length, get_or, Option, Some, None, arith, ◌⊎◌, inl, inr, eqb-true}
 use Rattle.std.proofs.lemmas.Bool.{leb-true, leb-false, le-leb, eqb-false}
 use Rattle.std.proofs.lemmas.List.{get_or-set_same, get_or-set_other}
 use Rattle.std.proofs.Math.ListN.{get_or-map}
@@ -234,9 +234,6 @@ module _ (s : State) (es : List Entry) (v : HoldsValues es s.values) where
       behind : (newer : List Entry) → has_literal (all_held es) l ≡ true → has_literal (all_held (newer ++ es)) l ≡ true
       behind [] g = g
       behind (x ∷ newer) g = has_behind x.literal (all_held (newer ++ es)) l (behind newer g)
-
-  by_held : (values : List Bool) → Solves s.parities (all_held es) values → Solves s.parities (known s) values
-  by_held values solves = record { agrees = each_member (literal_true values) (known s) (λ l h. member_of_all (literal_true values) (all_held es) l solves.agrees (known_is_held l h)); meets = solves.meets }
 
   by_known : (values : List Bool) → Solves s.parities (known s) values → Solves s.parities (all_held es) values
   by_known values solves = record { agrees = each_member (literal_true values) (all_held es) (λ l h. member_of_all (literal_true values) (known s) l solves.agrees (held_is_known l h)); meets = solves.meets }

@@ -1,5 +1,5 @@
 -- A clause that a conflict gives is fresh, and a literal of level 0 is not.
-use Rattle.std.proofs.Common.{◌≡◌, refl, sym, ap, ◌∙◌, Bool, true, false, cond, not, List, [], ◌∷◌, true≢false}
+use Rattle.std.proofs.Common.{◌≡◌, refl, sym, ap, ◌∙◌, Bool, true, false, cond, not, List, [], ◌∷◌}
 use Rattle.std.specs.List.{list_all}
 use Rattle.cx_base.specs.Literals.{Literal, negate, same_literal}
 use Rattle.cx_semantics.specs.Chain.{has_literal, is_inside, left}
@@ -7,7 +7,7 @@ use Rattle.cx_semantics.specs.Fresh.{Fresh, IsLive, is_falsified, others, KeepsU
 use Rattle.cx_semantics.specs.Tables.{Table}
 use Rattle.cx_semantics.proofs.Closure.{has_by_inside, falsified-left, some_are}
 use Rattle.search_steps.specs.Quiet.{HasNoClash, ClausesQuiet}
-use Rattle.search_steps.proofs.Sets.{by_cases, not_both, negations_by, others_of, false_is_no_tautology, has_at_head, has_behind}
+use Rattle.search_steps.proofs.Sets.{by_cases, not_both, negations_by, others_of, false_is_no_tautology, has_at_head, has_behind, not_true}
 
 module _ (table : Table) (all low : List Literal) (clash : HasNoClash all) (inside : is_inside low all ≡ true) (quiet : ClausesQuiet table low) where
   -- one literal of the clause is false, and the others are so in a part of what is held in which all clauses rest
@@ -41,10 +41,6 @@ takes_forced table u clause l units no_conflict live h =
     step : (b : Bool) (m : Literal) (ms : List Literal) → (b ≡ true → same_literal l m ≡ true) → list_all (same_literal l) ms ≡ true → list_all (same_literal l) (cond b (m ∷ ms) ms) ≡ true
     step true m ms f g = Rattle.cx_semantics.proofs.ChainLaws.and_both _ _ (f refl) g
     step false m ms f g = g
-
-    not_true : (b : Bool) → not b ≡ true → b ≡ false
-    not_true true h = absurd (true≢false (sym h))
-    not_true false h = refl
 
     only : (ms : List Literal) → ((m : Literal) → has_literal ms m ≡ true → same_literal l m ≡ false → has_literal u (negate m) ≡ true) → list_all (same_literal l) (left u ms) ≡ true
     only [] g = refl

@@ -4,7 +4,7 @@ use Rattle.std.specs.List.{AllByRecursion}
 use Rattle.std.specs.FinMap as map_
 use Rattle.cx_base.specs.Literals.{Literal}
 use Rattle.cx_base.specs.Problem.{Problem, clauses_of, parities_of}
-use Rattle.cx_semantics.specs.declared.steps.LogStep.TheVariants.{ClauseWithHints, Parity, ClauseOfParity, ParityOfClauses, DeleteParity, Delete}
+use Rattle.cx_semantics.specs.declared.steps.LogStep.TheVariants.{ClauseWithHints, Parity, ClauseOfParity, ParityOfClauses, Delete}
 use Rattle.cx_semantics.specs.declared.steps.LogEvent.TheVariants.{Step}
 use Rattle.cx_semantics.specs.Integers.{literals}
 use Rattle.cx_semantics.specs.LogRules.{HasChain, derives_empty_clause}
@@ -18,6 +18,7 @@ use Rattle.search_steps.specs.Start.{IsBegun}
 use Rattle.search_steps.specs.Ids.{ReasonsBelow, AreRowIds, IsRanged, HasFreeSums}
 use Rattle.search_steps.proofs.Sets.{by_cases}
 use Rattle.search_steps.proofs.Rounds.{round_keeps, round_clears_old, round_clears_new}
+use Rattle.search_steps.proofs.Lists.{all_append}
 
 -- ---- ids of the two ranges differ
 pub high_is_no_reason : (bound n : ℕ) (es : List Entry) → bound ≤ n → ReasonsBelow bound es → IsNoReason n es
@@ -46,10 +47,6 @@ next_is_not_among bound row_next n (i ∷ ids) h a =
 kept_without : (P : ℕ → Type 0) (ids : List ℕ) (n : ℕ) → AllByRecursion P ids → AllByRecursion P (without ids n)
 kept_without P [] n a = tt
 kept_without P (i ∷ ids) n a = elim (not (nat_eq n i)) as (λ b. AllByRecursion P (cond b (i ∷ without ids n) (without ids n))) [ true ↦ (a.0, kept_without P ids n a.1) | false ↦ kept_without P ids n a.1 ]
-
-all_both : (P : ℕ → Type 0) (xs ys : List ℕ) → AllByRecursion P xs → AllByRecursion P ys → AllByRecursion P (xs ++ ys)
-all_both P [] ys a b = b
-all_both P (x ∷ xs) ys a b = (a.0, all_both P xs ys a.1 b)
 
 rows_up : (bound low high : ℕ) (ids : List ℕ) → low ≤ high → AreRowIds bound low ids → AreRowIds bound high ids
 rows_up bound low high [] h a = tt
@@ -173,9 +170,6 @@ module _ (formula : Problem) (bound next row_next : ℕ) where
     pub sum_ranged : (k : ℕ) (rs : List ℤ) (ids : List ℕ) → IsRanged formula bound next row_next s.trail (after_event s.moment (Step (Parity k rs ids)))
     sum_ranged k rs ids = record { originals = i.originals; room = i.room; reasons = i.reasons; learned = i.learned; new_rows = i.new_rows; old_rows = i.old_rows; free = i.free; rows_free = i.rows_free }
 
-    pub sum_deletion_ranged : (k : ℕ) (rs : List ℤ) → IsRanged formula bound next row_next s.trail (after_event s.moment (Step (DeleteParity k rs)))
-    sum_deletion_ranged k rs = record { originals = i.originals; room = i.room; reasons = i.reasons; learned = i.learned; new_rows = i.new_rows; old_rows = i.old_rows; free = i.free; rows_free = i.rows_free }
-
     pub recovered_ranged : (n : ℕ) (zs : List ℤ) (ids : List ℕ) → IsRanged formula bound next row_next s.trail (after_event s.moment (Step (ParityOfClauses n zs ids)))
     recovered_ranged n zs ids = record { originals = i.originals; room = i.room; reasons = i.reasons; learned = i.learned; new_rows = i.new_rows; old_rows = i.old_rows; free = i.free; rows_free = i.rows_free }
 
@@ -186,7 +180,7 @@ module _ (formula : Problem) (bound next row_next : ℕ) where
       reasons = i.reasons;
       learned = i.learned;
       new_rows = tt;
-      old_rows = all_both (λ m. (bound ≤ m) × (m < row_next)) s.moment.new_clauses s.moment.old_clauses i.new_rows i.old_rows;
+      old_rows = all_append (λ m. (bound ≤ m) × (m < row_next)) s.moment.new_clauses s.moment.old_clauses i.new_rows i.old_rows;
       free = i.free;
       rows_free = λ m h j l. let p = not_in_parts s.moment.new_clauses s.moment.old_clauses m l in i.rows_free m h p.0 p.1;
     }

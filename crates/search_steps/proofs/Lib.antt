@@ -1,3 +1,4 @@
+pub mod Lists
 pub mod Sets
 pub mod FreshLaws
 pub mod TrailLaws
@@ -8,13 +9,10 @@ pub mod RowLaws
 pub mod EndLaws
 pub mod UnitLaws
 pub mod RowReasons
-pub mod Telling
 pub mod UnitSteps
-pub mod Reductions
 pub mod EngineLaws
 pub mod Rounds
 pub mod StartLaws
-pub mod Deletions
 pub mod Bridge
 pub mod LearnedLaws
 pub mod Ends

@@ -1,8 +1,7 @@
 -- Each step that the search tells is right and fits, and keeps what holds of the search.
-use Rattle.std.proofs.Common.{◌≡◌, refl, sym, ap, ◌∙◌, subst, ℕ, zero, suc, ◌+◌, ◌*◌, ◌≤◌, ◌<◌, ℤ, true, false, not, ◌||◌, MatchBool, List, [], ◌∷◌, ◌++◌, length, Some, None, is_some, filter_map, Contains, arith, ◌⊎◌, inl, inr, true≢false}
+use Rattle.std.proofs.Common.{◌≡◌, refl, sym, ap, ◌∙◌, subst, ℕ, zero, suc, ◌+◌, ◌*◌, ◌≤◌, ◌<◌, ℤ, true, false, not, ◌||◌, MatchBool, List, [], ◌∷◌, ◌++◌, length, Some, None, is_some, filter_map, Contains, arith, ◌⊎◌, inl, inr, true≢false, append-nil}
 use Rattle.std.proofs.lemmas.List.Elements.{filter_map-append}
-use Rattle.std.specs.List.{list_any, list_all, range_with_len, AllByRecursion}
-use Rattle.std.specs.FinMap as map_
+use Rattle.std.specs.List.{list_any, list_all, range_with_len}
 use Rattle.cx_base.specs.Literals.{Literal, negate, same_literal}
 use Rattle.cx_base.specs.Problem.{Problem, clauses_of, clause_met, parity_met}
 use Rattle.cx_base.specs.declared.constraint.Constraint.{Constraint}
@@ -25,7 +24,7 @@ use Rattle.cx_semantics.proofs.ChainLaws.{and_parts, and_both, are_one}
 use Rattle.cx_semantics.proofs.Closure.{chain_or_closed, has_by_inside}
 use Rattle.cx_semantics.proofs.JudgingLaws.{runs_push}
 use Rattle.cx_semantics.proofs.MarkedLaws.{events_go_on}
-use Rattle.search_steps.specs.Trail.{Entry, Why, by_clause, held, all_held, IsTrail, Forces, level_of}
+use Rattle.search_steps.specs.Trail.{Entry, by_clause, held, all_held, IsTrail, Forces, level_of}
 use Rattle.search_steps.specs.Quiet.{IsOfParities}
 use Rattle.search_steps.specs.Search.{Search, IsLog, Serves, IsSearch, told, marked, IsServed, IsLearnedOf, IsReached}
 use Rattle.search_steps.specs.LogSteps.{IsNoReason, IsAddition, RestOnClauses, IsUnitOf, IsRowOf, IsClauseOfRow, IsTemporary}
@@ -40,10 +39,6 @@ pub begins_still : (cs : List Constraint) (events : List LogEvent) (more : List 
 begins_still [] events more h = tt
 begins_still (c ∷ cs) [] more h = absurd h
 begins_still (c ∷ cs) (e ∷ events) more h = (h.0, begins_still cs events more h.1)
-
-pub append_nil : {X : Type 0} (xs : List X) → xs ++ [] ≡ xs
-append_nil [] = refl
-append_nil (x ∷ xs) = ap (λ ys. x ∷ ys) (append_nil xs)
 
 range_push : (a n : ℕ) → range_with_len a (suc n) ≡ range_with_len a n ++ (a + n) ∷ []
 range_push a zero = ap (λ x. x ∷ []) (omega arith)
@@ -62,13 +57,13 @@ module _ (formula : Problem) (events : List LogEvent) (moment : Moment) (conflic
     runs = subst (λ steps. Runs (log_calculus formula) (log_calculus formula).start steps (after_log_step moment.tables step)) (sym (filter_map-append step_of events (Step step ∷ [])))
         (runs_push (log_calculus formula) (log_calculus formula).start (filter_map step_of events) step moment.tables log.runs is_right goes);
     fits = events_go_on formula first_moment moment events (Step step) log.fits fits;
-    marks = filter_map-append mark_of events (Step step ∷ []) ∙ append_nil (filter_map mark_of events) ∙ log.marks;
+    marks = filter_map-append mark_of events (Step step ∷ []) ∙ append-nil (filter_map mark_of events) ∙ log.marks;
     originals = begins_still formula.constraints events (Step step ∷ []) log.originals;
   }
 
   pub mark_goes_on : MarkFits formula moment → IsLog formula (events ++ Conflict (conflicts + 1) ∷ []) (after_event moment (Conflict (conflicts + 1))) (conflicts + 1)
   mark_goes_on fits = record {
-    runs = subst (λ steps. Runs (log_calculus formula) (log_calculus formula).start steps moment.tables) (sym (filter_map-append step_of events (Conflict (conflicts + 1) ∷ []) ∙ append_nil (filter_map step_of events))) log.runs;
+    runs = subst (λ steps. Runs (log_calculus formula) (log_calculus formula).start steps moment.tables) (sym (filter_map-append step_of events (Conflict (conflicts + 1) ∷ []) ∙ append-nil (filter_map step_of events))) log.runs;
     fits = events_go_on formula first_moment moment events (Conflict (conflicts + 1)) log.fits fits;
     marks = filter_map-append mark_of events (Conflict (conflicts + 1) ∷ []) ∙ ap (λ xs. xs ++ (conflicts + 1) ∷ []) log.marks ∙ sym (next_range conflicts);
     originals = begins_still formula.constraints events (Conflict (conflicts + 1) ∷ []) log.originals;

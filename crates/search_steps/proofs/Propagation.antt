@@ -1,5 +1,5 @@
 -- A propagation keeps the search, entry by entry.
-use Rattle.std.proofs.Common.{◌≡◌, refl, sym, ap, ◌∙◌, subst, ℕ, ◌≤◌, List, [], ◌∷◌, ◌++◌, arith}
+use Rattle.std.proofs.Common.{◌≡◌, refl, sym, ap, ◌∙◌, subst, ℕ, ◌≤◌, List, [], ◌∷◌, ◌++◌, arith, append-nil}
 use Rattle.cx_base.specs.Literals.{Literal}
 use Rattle.cx_base.specs.Problem.{Problem}
 use Rattle.cx_trail.specs.declared.entry.Entry.{Entry as TrailEntry}
@@ -10,7 +10,6 @@ use Rattle.search_steps.specs.Tied.{IsTied, AreForcedBehind}
 use Rattle.search_steps.specs.Trail.{Entry, by_clause, level_of}
 use Rattle.search_steps.proofs.Bridge.{open_is_unassigned}
 use Rattle.search_steps.proofs.CodeSteps.{forces_by}
-use Rattle.search_steps.proofs.LogLaws.{append_nil}
 use Rattle.search_steps.proofs.ServesLaws.{force_keeps}
 use Rattle.search_steps.proofs.IdLaws.{low_reason}
 
@@ -25,7 +24,7 @@ older_first (x ∷ xs) e ys = ap (λ zs. x ∷ zs) (older_first xs e ys)
 pub propagation_keeps : (formula : Problem) (parities : List (List Literal)) (bound level : ℕ) (s : Search) → IsSearch formula parities s → s.quiet_levels ≤ level → level_of s.trail ≡ level → (before : List TrailEntry) → IsTied s.trail before
     → (more : List TrailEntry) → AreForcedBehind s.moment.tables.clauses bound level before more → IsPropagated formula parities bound s (before ++ more)
 propagation_keeps formula parities bound level s ok low at before tied [] forced =
-    record { newer = []; holds = ok; tied = subst (IsTied s.trail) (sym (append_nil before)) tied; level = refl; reasons = λ r. r }
+    record { newer = []; holds = ok; tied = subst (IsTied s.trail) (sym (append-nil before)) tied; level = refl; reasons = λ r. r }
 propagation_keeps formula parities bound level s ok low at before tied (e ∷ more) (same_level, is_open, (n, clause, small, live, forces), rest) =
     let s1 = forced_on s e.literal (by_clause n) in
     let entry : Entry = record { literal = e.literal; level = level_of s.trail; why = by_clause n } in

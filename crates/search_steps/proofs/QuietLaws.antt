@@ -39,7 +39,7 @@ pub quiet_without : (table : Table) (u : List Literal) (n : ℕ) → ClausesQuie
 quiet_without table u n q clause live = q clause (live_without table n clause live)
 
 -- ---- clauses that parities imply
-within_member : (n : ℕ) (lits : List Literal) (l : Literal) → AreWithin n lits → has_literal lits l ≡ true → (1 ≤ l.variable) × (l.variable ≤ n)
+pub within_member : (n : ℕ) (lits : List Literal) (l : Literal) → AreWithin n lits → has_literal lits l ≡ true → (1 ≤ l.variable) × (l.variable ≤ n)
 within_member n [] l w h = not_both false h refl
 within_member n (m ∷ ms) l w h = elim (has_split m ms l h) [
   | inl e ↦ subst (λ x. (1 ≤ x.variable) × (x.variable ≤ n)) (sym e) w.0

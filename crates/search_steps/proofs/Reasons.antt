@@ -1,5 +1,5 @@
 -- What forced an entry in the calculus implied its literal on the code's trail.
-use Rattle.std.proofs.Common.{◌≡◌, refl, sym, ap, ◌∙◌, ℕ, zero, suc, ◌+◌, ◌<◌, List, [], ◌∷◌, ◌++◌, length, arith, length-append}
+use Rattle.std.proofs.Common.{◌≡◌, refl, sym, ap, ◌∙◌, ℕ, zero, suc, ◌+◌, ◌<◌, List, [], ◌∷◌, ◌++◌, length, arith, length-append, append_assoc}
 use Rattle.cx_base.specs.Literals.{Literal, negate, same_literal}
 use Rattle.cx_semantics.specs.Chain.{has_literal}
 use Rattle.cx_semantics.specs.Fresh.{IsLive}
@@ -20,14 +20,10 @@ at_middle : (before after : List TrailEntry) (i : TrailEntry) → entry_at (befo
 at_middle [] after i = refl
 at_middle (x ∷ before) after i = at_middle before after i
 
-at_front : (before rest : List TrailEntry) (p : ℕ) → p < length before → entry_at (before ++ rest) p ≡ entry_at before p
-at_front [] rest p h = absurd (omega (arith, h))
-at_front (x ∷ before) rest zero h = refl
-at_front (x ∷ before) rest (suc p) h = at_front before rest p (omega (arith, h))
-
-joined : (xs ys zs : List TrailEntry) → (xs ++ ys) ++ zs ≡ xs ++ (ys ++ zs)
-joined [] ys zs = refl
-joined (x ∷ xs) ys zs = ap (λ us. x ∷ us) (joined xs ys zs)
+pub entry_at_front : (before rest : List TrailEntry) (p : ℕ) → p < length before → entry_at (before ++ rest) p ≡ entry_at before p
+entry_at_front [] rest p h = absurd (omega (arith, h))
+entry_at_front (x ∷ before) rest zero h = refl
+entry_at_front (x ∷ before) rest (suc p) h = entry_at_front before rest p (omega (arith, h))
 
 -- the code's entry for an entry of the trail, with those before it
 pub record StandsBehind (older : List Entry) (e : Entry) (entries : List TrailEntry) : Type 0 where
@@ -46,7 +42,7 @@ tied_split (x ∷ newer) older e entries (before, i, same, lit, lev, t) =
       before = r.before;
       entry = r.entry;
       after = r.after ++ i ∷ [];
-      parts = same ∙ ap (λ xs. xs ++ i ∷ []) r.parts ∙ joined r.before (r.entry ∷ r.after) (i ∷ []);
+      parts = same ∙ ap (λ xs. xs ++ i ∷ []) r.parts ∙ append_assoc r.before (r.entry ∷ r.after) (i ∷ []);
       literal = r.literal;
       tied = r.tied;
     }
@@ -59,7 +55,7 @@ forced_is_implied t newer older e m clause f place within at = record {
       let less = g.1.0 in (
         g.0,
         omega (arith, less, here),
-        ap (λ xs. (entry_at xs g.0).literal) r.parts ∙ ap (λ y. y.literal) (at_front r.before (r.entry ∷ r.after) g.0 less) ∙ g.1.1,
+        ap (λ xs. (entry_at xs g.0).literal) r.parts ∙ ap (λ y. y.literal) (entry_at_front r.before (r.entry ∷ r.after) g.0 less) ∙ g.1.1,
       );
 }
   where

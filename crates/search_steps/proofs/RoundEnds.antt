@@ -1,33 +1,19 @@
 -- What stands behind a whole conflict: the search is tidy, and the code's trail is that of the calculus.
-use Rattle.std.proofs.Common.{◌≡◌, refl, sym, ap, ◌∙◌, subst, ℕ, ℤ, List, [], ◌∷◌, ◌++◌, arith}
+use Rattle.std.proofs.Common.{◌≡◌, refl, sym, ap, ◌∙◌, subst, ℕ, ℤ, List, [], ◌++◌, arith}
 use Rattle.cx_base.specs.Literals.{Literal}
 use Rattle.cx_base.specs.Problem.{Problem}
-use Rattle.cx_semantics.specs.declared.steps.LogStep.TheVariants.{Delete}
-use Rattle.cx_semantics.specs.declared.steps.LogEvent.TheVariants.{Step}
 use Rattle.cx_trail.specs.declared.entry.Reason.{Reason}
 use Rattle.cx_trail.specs.Sequence.{TrailState, TakesBack, IsOpenIn, pushed}
 use Rattle.search_steps.specs.Trail.{back_to, level_of}
 use Rattle.search_steps.specs.Quiet.{IsOfParities}
-use Rattle.search_steps.specs.Search.{Search, IsSearch, IsServed, IsTidy, IsLearnedOf, told}
+use Rattle.search_steps.specs.Search.{Search, IsSearch, IsServed, IsTidy, IsLearnedOf}
 use Rattle.search_steps.specs.LogSteps.{IsRowReason, row_events, all_told, deleted, after_learned, after_round}
 use Rattle.search_steps.specs.Tied.{IsTied}
 use Rattle.search_steps.proofs.TrailLaws.{back_level}
-use Rattle.search_steps.proofs.Rounds.{deleted_trail, round_clears_old, round_clears_new, unassigned_then}
+use Rattle.search_steps.proofs.Rounds.{deleted_trail, deleted_awaits, deleted_old_sums, deleted_new_sums, round_clears_old, round_clears_new, unassigned_then}
 use Rattle.search_steps.proofs.RowReasons.{row_reason_sums, row_reason_old_sums}
 use Rattle.search_steps.proofs.CodeSteps.{tied_back}
 use Rattle.search_steps.proofs.Bridge.{unassigned_is_open}
-
-deleted_awaits : (s : Search) (ids : List ℕ) → (deleted s ids).moment.awaits ≡ s.moment.awaits
-deleted_awaits s [] = refl
-deleted_awaits s (n ∷ ids) = deleted_awaits (told s (Step (Delete n []))) ids
-
-deleted_old_sums : (s : Search) (ids : List ℕ) → (deleted s ids).moment.old_sums ≡ s.moment.old_sums
-deleted_old_sums s [] = refl
-deleted_old_sums s (n ∷ ids) = deleted_old_sums (told s (Step (Delete n []))) ids
-
-deleted_new_sums : (s : Search) (ids : List ℕ) → (deleted s ids).moment.new_sums ≡ s.moment.new_sums
-deleted_new_sums s [] = refl
-deleted_new_sums s (n ∷ ids) = deleted_new_sums (told s (Step (Delete n []))) ids
 
 both_empty : (xs ys : List ℕ) → xs ≡ [] → ys ≡ [] → xs ++ ys ≡ []
 both_empty xs ys a b = ap (λ zs. zs ++ ys) a ∙ b

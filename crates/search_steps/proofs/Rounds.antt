@@ -1,5 +1,5 @@
 -- A whole conflict, from the end of its analysis to the literal that its clause forces.
-use Rattle.std.proofs.Common.{◌≡◌, refl, sym, ap, ◌∙◌, subst, ℕ, ℤ, Bool, true, false, cond, not, ◌||◌, nat_eq, eq-eqb, List, [], ◌∷◌, ◌++◌, fold, Some, None, arith, true≢false}
+use Rattle.std.proofs.Common.{◌≡◌, refl, sym, ap, ◌∙◌, subst, ℕ, ℤ, Bool, true, false, cond, not, ◌||◌, nat_eq, eq-eqb, List, [], ◌∷◌, ◌++◌, fold, Some, None, arith, true≢false, append-nil}
 use Rattle.std.specs.FinMap as map_
 use Rattle.cx_base.specs.Literals.{Literal, negate}
 use Rattle.cx_base.specs.Problem.{Problem}
@@ -19,7 +19,7 @@ use Rattle.search_steps.specs.LogSteps.{IsAddition, AreTemporary, deleted, after
 use Rattle.search_steps.proofs.Sets.{by_cases, not_both}
 use Rattle.search_steps.proofs.TrailLaws.{trail_no_clash, held_inside, back_holds, back_level}
 use Rattle.search_steps.proofs.ServesLaws.{force_keeps, jump_keeps}
-use Rattle.search_steps.proofs.LogLaws.{append_nil, mark_keeps, learned_keeps, delete_keeps}
+use Rattle.search_steps.proofs.LogLaws.{mark_keeps, learned_keeps, delete_keeps}
 use Rattle.search_steps.proofs.RowReasons.{all_deleted}
 
 still_not : (xs : List ℕ) (n m : ℕ) → is_among xs m ≡ false → is_among (without xs n) m ≡ false
@@ -39,15 +39,33 @@ deleted_keeps formula parities s ok [] t = ok
 deleted_keeps formula parities s ok (n ∷ ids) t =
     deleted_keeps formula parities (told s (Step (Delete n []))) (delete_keeps formula parities s ok n [] (record { high = t.0.0; not_learned = t.0.1 }) t.0.2) ids (temporary_still formula s n ids t.1)
 
--- what deletions leave as it was, and what they take from the lists
+-- what each deletion leaves as it was, all of them leave
+deletions_leave : {X : Type 0} (part : Search → X) → ((s : Search) (n : ℕ) → part (told s (Step (Delete n []))) ≡ part s) → (s : Search) (ids : List ℕ) → part (deleted s ids) ≡ part s
+deletions_leave part each s [] = refl
+deletions_leave part each s (n ∷ ids) = deletions_leave part each (told s (Step (Delete n []))) ids ∙ each s n
+
 pub deleted_trail : (s : Search) (ids : List ℕ) → (deleted s ids).trail ≡ s.trail
-deleted_trail s [] = refl
-deleted_trail s (n ∷ ids) = deleted_trail (told s (Step (Delete n []))) ids
+deleted_trail s ids = deletions_leave (λ u. u.trail) (λ u n. refl) s ids
 
 pub deleted_levels : (s : Search) (ids : List ℕ) → (deleted s ids).quiet_levels ≡ s.quiet_levels
-deleted_levels s [] = refl
-deleted_levels s (n ∷ ids) = deleted_levels (told s (Step (Delete n []))) ids
+deleted_levels s ids = deletions_leave (λ u. u.quiet_levels) (λ u n. refl) s ids
 
+pub deleted_conflicts : (s : Search) (ids : List ℕ) → (deleted s ids).conflicts ≡ s.conflicts
+deleted_conflicts s ids = deletions_leave (λ u. u.conflicts) (λ u n. refl) s ids
+
+pub deleted_awaits : (s : Search) (ids : List ℕ) → (deleted s ids).moment.awaits ≡ s.moment.awaits
+deleted_awaits s ids = deletions_leave (λ u. u.moment.awaits) (λ u n. refl) s ids
+
+pub deleted_old_sums : (s : Search) (ids : List ℕ) → (deleted s ids).moment.old_sums ≡ s.moment.old_sums
+deleted_old_sums s ids = deletions_leave (λ u. u.moment.old_sums) (λ u n. refl) s ids
+
+pub deleted_new_sums : (s : Search) (ids : List ℕ) → (deleted s ids).moment.new_sums ≡ s.moment.new_sums
+deleted_new_sums s ids = deletions_leave (λ u. u.moment.new_sums) (λ u n. refl) s ids
+
+pub deleted_parities : (s : Search) (ids : List ℕ) → (deleted s ids).moment.tables.parities ≡ s.moment.tables.parities
+deleted_parities s ids = deletions_leave (λ u. u.moment.tables.parities) (λ u n. refl) s ids
+
+-- what deletions take from the lists
 pub deleted_old : (s : Search) (ids : List ℕ) → (deleted s ids).moment.old_clauses ≡ fold without s.moment.old_clauses ids
 deleted_old s [] = refl
 deleted_old s (n ∷ ids) = deleted_old (told s (Step (Delete n []))) ids
@@ -112,7 +130,7 @@ module _ (s : Search) (n : ℕ) (zs hints : List ℤ) (back : ℕ) (l : Literal)
   -- nothing temporary is left
   pub round_clears_old : s.moment.old_clauses ≡ [] → (after_round s n zs hints back l).moment.old_clauses ≡ []
   round_clears_old none = deleted_old (after_learned s n zs hints back) s.moment.new_clauses ∙ all_deleted s.moment.new_clauses (s.moment.new_clauses ++ s.moment.old_clauses)
-      (λ m h. subst (λ xs. is_among xs m ≡ true) (ap (λ xs. s.moment.new_clauses ++ xs) none ∙ append_nil s.moment.new_clauses) h)
+      (λ m h. subst (λ xs. is_among xs m ≡ true) (ap (λ xs. s.moment.new_clauses ++ xs) none ∙ append-nil s.moment.new_clauses) h)
 
   pub round_clears_new : (after_round s n zs hints back l).moment.new_clauses ≡ []
   round_clears_new = deleted_new (after_learned s n zs hints back) s.moment.new_clauses refl

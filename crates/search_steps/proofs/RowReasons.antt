@@ -37,9 +37,6 @@ module _ (formula : Problem) (parities : List (List Literal)) (s : Search) (k : 
   pub row_reason_old_sums : s.moment.old_sums ≡ [] → (all_told s (row_events k rs ids n zs)).moment.old_sums ≡ []
   row_reason_old_sums none = ap (λ xs. without xs k) none
 
-  pub row_reason_clauses : (all_told s (row_events k rs ids n zs)).moment.new_clauses ≡ n ∷ s.moment.new_clauses
-  row_reason_clauses = refl
-
 -- ---- deleting all that is temporary
 lost : (xs : List ℕ) (n m : ℕ) → is_among (without xs n) m ≡ true → (is_among xs m ≡ true) × (nat_eq n m ≡ false)
 lost [] n m h = not_both false h refl

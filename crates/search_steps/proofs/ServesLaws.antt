@@ -19,7 +19,6 @@ use Rattle.search_steps.proofs.TrailLaws.{held_inside, held_rises, held_over, he
 use Rattle.search_steps.proofs.QuietLaws.{quiet_with, quiet_without}
 
 -- ---- reasons stay where their clauses do
-
 module _ (IsRow : List Literal → Type 0) where
   pub trail_by : (table other : Table) (es : List Entry) → ((n : ℕ) (clause : List Literal) → get table n ≡ Some clause → (get other n ≡ Some clause)) → IsTrail table IsRow es → IsTrail other IsRow es
   trail_by table other [] h t = t

@@ -15,6 +15,14 @@ by_cases false f g = g refl
 pub not_both : {A : Type 0} (b : Bool) → b ≡ true → b ≡ false → A
 not_both b h k = absurd (true≢false (sym h ∙ k))
 
+pub and_false : (a b : Bool) → b ≡ false → (a && b) ≡ false
+and_false true b h = h
+and_false false b h = refl
+
+pub not_true : (b : Bool) → not b ≡ true → b ≡ false
+not_true true h = absurd (true≢false (sym h))
+not_true false h = refl
+
 -- ---- members
 pub has_at_head : (m : Literal) (ms : List Literal) → has_literal (m ∷ ms) m ≡ true
 has_at_head m ms = ap (λ b. b || has_literal ms m) (same_literal-itself m)
@@ -135,10 +143,6 @@ tautology_rests u clause l c h k = by_cases (has_literal u l)
     signs : (b : Bool) → not (Rattle.cx_base.specs.Literals.differ b (not b)) ≡ false
     signs true = refl
     signs false = refl
-
-    and_false : (a b : Bool) → b ≡ false → (a && b) ≡ false
-    and_false true b h = h
-    and_false false b h = refl
 
     not_its_negation : (l : Literal) → same_literal l (negate l) ≡ false
     not_its_negation l = and_false _ _ (signs l.negative)

@@ -1,8 +1,8 @@
 -- The constraints of the formula, told one by one, and the search that begins behind them.
-use Rattle.std.proofs.Common.{◌≡◌, refl, sym, ap, ◌∙◌, subst, ℕ, zero, suc, ◌+◌, ◌≤◌, ℤ, pos, neg_ℤ, nat_abs, nat_lt, Bool, true, false, cond, not, ◌||◌, nat_eq, eq-eqb, eqb-true, List, [], ◌∷◌, ◌++◌, length, Some, None, is_some, Contains, filter_map, ◌⊎◌, inl, inr, arith, length-append}
+use Rattle.std.proofs.Common.{◌≡◌, refl, sym, ap, ◌∙◌, subst, ℕ, zero, suc, ◌+◌, ◌≤◌, ℤ, pos, neg_ℤ, nat_abs, nat_lt, Bool, true, false, cond, not, ◌||◌, nat_eq, eq-eqb, eqb-true, List, [], ◌∷◌, ◌++◌, length, Some, None, is_some, Contains, filter_map, ◌⊎◌, inl, inr, arith, length-append, append-nil}
 use Rattle.std.proofs.lemmas.Bool.{ltb-true}
 use Rattle.std.proofs.lemmas.List.Elements.{filter_map-append}
-use Rattle.std.specs.List.{list_any, list_all}
+use Rattle.std.specs.List.{list_any}
 use Rattle.std.specs.FinMap as map_
 use Rattle.cx_base.specs.Literals.{Literal}
 use Rattle.cx_base.specs.Problem.{Problem, clauses_of, parities_of, AreWithin}
@@ -25,7 +25,7 @@ use Rattle.cx_semantics.proofs.MarkedLaws.{events_go_on}
 use Rattle.search_steps.specs.Search.{Search, IsSearch, told}
 use Rattle.search_steps.specs.Start.{start, HasFirst, IsBegun}
 use Rattle.search_steps.proofs.Sets.{by_cases}
-use Rattle.search_steps.proofs.LogLaws.{append_nil, step_goes_on}
+use Rattle.search_steps.proofs.LogLaws.{step_goes_on}
 use Rattle.search_steps.proofs.ServesLaws.{not_live_stays}
 
 -- ---- literals as integers
@@ -145,7 +145,7 @@ module _ (formula : Problem) (taken : List Constraint) (s : Search) (b : IsBegun
             (runs_push (log_calculus formula) (log_calculus formula).start (steps_of s.events) step s.moment.tables b.runs
             (variables_are_within formula.variables lits w, (ap is_some (b.clauses.free n (omega arith)), (ap (λ xs. not (is_original formula xs)) is ∙ ap not (same_one formula lits c), tt))) refl);
         fits = events_go_on formula first_moment s.moment s.events (Step step) b.fits tt;
-        marks = filter_map-append mark_of s.events (Step step ∷ []) ∙ append_nil (filter_map mark_of s.events) ∙ b.marks;
+        marks = filter_map-append mark_of s.events (Step step ∷ []) ∙ append-nil (filter_map mark_of s.events) ∙ b.marks;
         begins = begins_push taken s.events (constraint.Clause lits) (Step step) b.begins b.as_many (n, refl);
         as_many = long_push s.events (Step step) (length taken) b.as_many ∙ sym (long_push taken (constraint.Clause lits) (length taken) refl);
         clauses = subst (HasFirst (map_.insert s.moment.tables.clauses n (literals (integers_of lits)))) (sym (clauses_push taken lits))
@@ -170,7 +170,7 @@ module _ (formula : Problem) (taken : List Constraint) (s : Search) (b : IsBegun
             (runs_push (log_calculus formula) (log_calculus formula).start (steps_of s.events) step s.moment.tables b.runs
             (variables_are_within formula.variables lits w, (ap is_some (b.parities.free n (omega arith)), (subst (IsOriginalParity formula) (sym is) c, tt))) refl);
         fits = events_go_on formula first_moment s.moment s.events (Step step) b.fits tt;
-        marks = filter_map-append mark_of s.events (Step step ∷ []) ∙ append_nil (filter_map mark_of s.events) ∙ b.marks;
+        marks = filter_map-append mark_of s.events (Step step ∷ []) ∙ append-nil (filter_map mark_of s.events) ∙ b.marks;
         begins = begins_push taken s.events (constraint.Parity lits) (Step step) b.begins b.as_many (n, refl);
         as_many = long_push s.events (Step step) (length taken) b.as_many ∙ sym (long_push taken (constraint.Parity lits) (length taken) refl);
         clauses = subst (HasFirst s.moment.tables.clauses) (sym (clauses_same taken lits)) b.clauses;

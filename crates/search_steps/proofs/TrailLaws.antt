@@ -1,5 +1,5 @@
 -- Trails: no clash, levels, and taking levels back.
-use Rattle.std.proofs.Common.{◌≡◌, refl, sym, ap, ◌∙◌, subst, ℕ, ◌+◌, ◌<◌, ◌≤◌, nat_le, Bool, true, false, cond, not, ◌||◌, ◌&&◌, nat_eq, List, [], ◌∷◌, arith, inl, inr}
+use Rattle.std.proofs.Common.{◌≡◌, refl, sym, ap, ◌∙◌, subst, ℕ, ◌+◌, ◌<◌, ◌≤◌, nat_le, Bool, true, false, cond, not, ◌||◌, nat_eq, List, [], ◌∷◌, arith, inl, inr}
 use Rattle.std.proofs.lemmas.Bool.{leb-true, leb-false}
 use Rattle.cx_base.specs.Literals.{Literal, negate, same_literal, differ}
 use Rattle.cx_semantics.specs.Chain.{has_literal, is_inside}
@@ -8,15 +8,11 @@ use Rattle.cx_semantics.proofs.ChainLaws.{negate-negate, are_one, and_both}
 use Rattle.cx_semantics.proofs.Closure.{has_by_inside, inside_more}
 use Rattle.search_steps.specs.Quiet.{HasNoClash}
 use Rattle.search_steps.specs.Trail.{Why, decided, by_clause, by_row, Entry, all_held, held, back_to, level_of, Stands, IsTrail, IsUnassigned}
-use Rattle.search_steps.proofs.Sets.{by_cases, not_both, has_split, has_at_head}
+use Rattle.search_steps.proofs.Sets.{by_cases, not_both, has_split, has_at_head, and_false}
 
 signs : (b : Bool) → not (differ (not b) b) ≡ false
 signs true = refl
 signs false = refl
-
-and_false : (a b : Bool) → b ≡ false → (a && b) ≡ false
-and_false true b h = h
-and_false false b h = refl
 
 not_same_false : (l : Literal) → same_literal (negate l) l ≡ false
 not_same_false l = and_false (nat_eq l.variable l.variable) (not (differ (not l.negative) l.negative)) (signs l.negative)

@@ -1,4 +1,4 @@
-use Rattle.std.proofs.Common.{◌≡◌, ◌≤◌, subst, [], length, drop, arith}
+use Rattle.std.proofs.Common.{subst, arith}
 use Rattle.cdcl_core.specs.Waiting.{StandsBut}
 use Rattle.cdcl_core.proofs.WaitingLaws.{none_left}
 use Rattle.cdcl_core.proofs.beginning.put_units.Goals as goal

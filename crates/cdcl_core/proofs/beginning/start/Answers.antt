@@ -1,4 +1,4 @@
-use Rattle.std.proofs.Common.{◌≡◌, sym, subst, []}
+use Rattle.std.proofs.Common.{sym, subst, []}
 use Rattle.std.proofs.lemmas.Result.{err_from_is_err_and}
 use Rattle.cdcl_core.specs.Filling.{IsFilled}
 use Rattle.cdcl_core.specs.Waiting.{StandsBut, Puts}

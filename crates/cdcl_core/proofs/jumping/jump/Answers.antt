@@ -1,15 +1,11 @@
-use Rattle.std.proofs.Common.{◌≡◌, refl, sym, ap, ◌∙◌, subst, length, List, Option, ◌≤◌, ◌+◌}
-use Rattle.cx_base.specs.Literals.{Literal}
-use Rattle.cx_semantics.specs.declared.steps.LogEvent.{LogEvent}
+use Rattle.std.proofs.Common.{sym, subst, length, ◌≤◌, ◌+◌}
 use Rattle.cx_semantics.specs.Integers.{integers_of}
 use Rattle.watch_lists.specs.Attaching.{CanBeWatched, literal_at}
 use Rattle.cx_trail.specs.Sequence.{IsOpenIn}
 use Rattle.search_steps.specs.LogSteps.{after_round}
-use Rattle.search_steps.proofs.Telling.{on_ok}
 use Rattle.cdcl_core.specs.Entering.{Enters}
-use Rattle.cdcl_core.specs.Ties.{Stands}
-use Rattle.cdcl_core.specs.Learning.{Learns}
 use Rattle.cdcl_core.proofs.Entering.{round_is_search}
+use Rattle.cdcl_core.proofs.Outcomes.{on_ok}
 use Rattle.cdcl_core.proofs.JumpLaws.{lower_than_now, scores_within, first_is_open, can_be_watched, enters_stands}
 use Rattle.cdcl_core.proofs.jumping.jump.Goals as goal
 

@@ -1,4 +1,4 @@
-use Rattle.std.proofs.Common.{◌≡◌, subst, IfOk, rules}
+use Rattle.std.proofs.Common.{subst, IfOk, rules}
 use Rattle.conflict_learn.specs.Levels.{Teaches}
 use Rattle.cdcl_core.specs.Ties.{Stands}
 use Rattle.cdcl_core.specs.Sources.{IsSourced}

@@ -1,11 +1,11 @@
-use Rattle.std.proofs.Common.{◌≡◌, sym, ap, ◌∙◌, subst, ◌+◌, [], ◌∷◌, map, length}
+use Rattle.std.proofs.Common.{◌≡◌, ap, ◌∙◌, subst, ◌+◌, ◌∷◌, length}
 use Rattle.std.proofs.lemmas.Result.{err_from_is_err_and}
-use Rattle.cx_semantics.specs.declared.steps.LogEvent.TheVariants.{Conflict}
+use Rattle.cx_semantics.specs.declared.steps.LogEvent.TheVariants.{Step, Conflict}
 use Rattle.cx_semantics.specs.declared.steps.LogStep.TheVariants as step
 use Rattle.cx_semantics.specs.Integers.{integers_of, literals}
 use Rattle.cdcl_core.specs.Ties.{row_ids}
-use Rattle.cdcl_core.specs.Tells.{GivesUp, as_events}
-use Rattle.cdcl_core.specs.Learning.{Learns}
+use Rattle.cdcl_core.specs.Deleting.{deletions}
+use Rattle.cdcl_core.specs.Tells.{as_events}
 use Rattle.cdcl_core.proofs.RowSteps.{left_now, memory_is_left}
 use Rattle.cdcl_core.proofs.LearnLaws.{learns_then, gives_up_then, ok_then, err_then}
 use Rattle.cdcl_core.proofs.learning.tell_learned.Goals as goal
@@ -23,7 +23,7 @@ returns-clause-learned g c =
     (λ is. learns_then c.args.formula.now c.args.kept.now (g.P.ParityEngine.state c.args.engine.now) c.args.rows.now (g.L.LogSink.events c.args.sink.now) c.requires.stands
     c.requires.above c.requires.room c.requires.few c.args.conflict.now c.requires.conflict c.args.learned.now.resolved lits c.args.learned.now.back_level c.args.learned.now.lbd c.requires.teaches
     (subst (λ xs. literals (integers_of xs) ≡ xs) c.as_slice.ensures c.in_ok-steps.ensures.literals) c.args.hints c.deref.result.now
-    (c.deref.ensures.value ∙ c.in_ok-steps.ensures.steps ∙ ap (λ xs. step.ClauseWithHints c.args.kept.now.next (integers_of xs) c.args.hints ∷ map (λ n. step.Delete n []) (row_ids (length c.args.rows.now))) c.as_slice.ensures)
+    (ap as_events c.deref.ensures.value ∙ c.in_ok-steps.ensures.steps ∙ ap (λ xs. Step (step.ClauseWithHints c.args.kept.now.next (integers_of xs) c.args.hints) ∷ deletions (row_ids (length c.args.rows.now))) c.as_slice.ensures)
     (g.L.LogSink.events c.tell_marked.new.sink) is)
 
 pub returns-clause-gave_up : goal.returns-clause-gave_up
@@ -33,5 +33,5 @@ returns-clause-gave_up g c =
     (λ fault tells. gives_up_then c.args.formula.now c.args.kept.now (g.P.ParityEngine.state c.args.engine.now) c.args.rows.now (g.L.LogSink.events c.args.sink.now) c.requires.stands
     c.requires.above c.requires.room c.requires.few c.args.conflict.now c.requires.conflict c.args.learned.now.resolved lits c.args.learned.now.back_level c.args.learned.now.lbd c.requires.teaches
     (subst (λ xs. literals (integers_of xs) ≡ xs) c.as_slice.ensures c.in_ok-steps.ensures.literals) c.args.hints c.deref.result.now
-    (c.deref.ensures.value ∙ c.in_ok-steps.ensures.steps ∙ ap (λ xs. step.ClauseWithHints c.args.kept.now.next (integers_of xs) c.args.hints ∷ map (λ n. step.Delete n []) (row_ids (length c.args.rows.now))) c.as_slice.ensures)
+    (ap as_events c.deref.ensures.value ∙ c.in_ok-steps.ensures.steps ∙ ap (λ xs. Step (step.ClauseWithHints c.args.kept.now.next (integers_of xs) c.args.hints) ∷ deletions (row_ids (length c.args.rows.now))) c.as_slice.ensures)
     (g.L.LogSink.torn c.tell_marked.new.sink) (g.L.LogSink.events c.tell_marked.new.sink) fault tells)

@@ -1,13 +1,22 @@
-use Rattle.std.proofs.Common.{refl, sym, ap, ◌∙◌, subst, [], length, arith}
+use Rattle.std.proofs.Common.{◌≡◌, refl, sym, ap, ◌∙◌, subst, [], length, arith}
 use Rattle.watch_lists.specs.Events.{Happens}
 use Rattle.watch_lists.specs.declared.event.Event.TheVariants.{Quiet}
 use Rattle.cdcl_core.specs.declared.kept.Kept.{Kept}
-use Rattle.cdcl_core.specs.Finds.{HasAll}
+use Rattle.cdcl_core.specs.Finds.{HasAll, HasSameCounts}
 use Rattle.cdcl_core.proofs.Feeding.{trail_is_short}
 use Rattle.cdcl_core.proofs.propagation.propagate.Goals as goal
 
+-- what neither the clauses nor the rows change, nor the values that the engine is given
+same_by_all : (start before followed fed now : Kept) → HasSameCounts start before → HasSameCounts before followed → fed ≡ record followed { given = length followed.trail.entries } → HasSameCounts fed now → HasSameCounts start now
+same_by_all start before followed fed now so_far clauses given rows = (
+  rows.0 ∙ ap (λ (k : Kept). k.trail.level) given ∙ clauses.0 ∙ so_far.0,
+  rows.1 ∙ ap (λ (k : Kept). k.units.items) given ∙ clauses.1 ∙ so_far.1,
+  rows.2 ∙ ap (λ (k : Kept). k.conflicts) given ∙ clauses.2 ∙ so_far.2,
+  rows.3 ∙ ap (λ (k : Kept). k.next) given ∙ clauses.3 ∙ so_far.3,
+)
+
 pub loop-reference-init : goal.loop-reference-init
-loop-reference-init g c = record { stands = λ told stands. stands; unbroken = c.requires.unbroken; level = refl; units = refl; conflicts = refl; next = refl; grows = omega arith }
+loop-reference-init g c = record { stands = λ told stands. stands; unbroken = c.requires.unbroken; same = (refl, refl, refl, refl); grows = omega arith }
 
 pub follow_clauses-requires : goal.follow_clauses-requires
 follow_clauses-requires g c = (c.loop-reference.invariant.stands c.requires.stands.0 c.requires.stands.1).3.fits
@@ -21,7 +30,8 @@ returns-in-Conflict-clause-finds g c = (c.in-Conflict.ensures.happens.0, c.in-Co
 pub returns-in-Conflict-clause-same : goal.returns-in-Conflict-clause-same
 returns-in-Conflict-clause-same g c =
     let same = c.follow_clauses.ensures.same in
-    (same.1 ∙ c.loop-reference.invariant.level, same.2 ∙ c.loop-reference.invariant.units, same.3 ∙ c.loop-reference.invariant.conflicts, same.4 ∙ c.loop-reference.invariant.next)
+    let before = c.loop-reference.invariant.same in
+    (same.0 ∙ before.0, same.1 ∙ before.1, same.2 ∙ before.2, same.3 ∙ before.3)
 
 pub returns-in-Conflict-clause-grows : goal.returns-in-Conflict-clause-grows
 returns-in-Conflict-clause-grows g c = let a = c.follow_clauses.ensures.grows in let b = c.loop-reference.invariant.grows in omega (arith, a, b)
@@ -51,13 +61,7 @@ returns-in-Quiet-follow_rows-clause-finds g c =
 
 pub returns-in-Quiet-follow_rows-clause-same : goal.returns-in-Quiet-follow_rows-clause-same
 returns-in-Quiet-follow_rows-clause-same g c =
-    let first = c.follow_clauses.ensures.same in
-    let last = c.follow_rows.ensures.same in (
-      last.0 ∙ ap (λ (k : Kept). k.trail.level) c.feed.ensures.given ∙ first.1 ∙ c.loop-reference.invariant.level,
-      last.1 ∙ ap (λ (k : Kept). k.units.items) c.feed.ensures.given ∙ first.2 ∙ c.loop-reference.invariant.units,
-      last.2 ∙ ap (λ (k : Kept). k.conflicts) c.feed.ensures.given ∙ first.3 ∙ c.loop-reference.invariant.conflicts,
-      last.3 ∙ ap (λ (k : Kept). k.next) c.feed.ensures.given ∙ first.4 ∙ c.loop-reference.invariant.next,
-    )
+    same_by_all c.args.kept.now c.loop-reference.kept c.follow_clauses.new.kept c.feed.new.kept c.follow_rows.new.kept c.loop-reference.invariant.same c.follow_clauses.ensures.same c.feed.ensures.given c.follow_rows.ensures.same
 
 pub returns-in-Quiet-follow_rows-clause-grows : goal.returns-in-Quiet-follow_rows-clause-grows
 returns-in-Quiet-follow_rows-clause-grows g c =
@@ -79,8 +83,6 @@ loop-reference-smaller g c =
 
 pub loop-reference-preserved : goal.loop-reference-preserved
 loop-reference-preserved g c =
-    let first = c.follow_clauses.ensures.same in
-    let last = c.follow_rows.ensures.same in
     let n = c.in-Implied.ensures.says.0 in
     let m = ap (λ (k : Kept). length k.trail.entries) c.feed.ensures.given in
     let a = c.follow_clauses.ensures.grows in
@@ -88,10 +90,7 @@ loop-reference-preserved g c =
     record {
       stands = λ told stands. c.follow_rows.ensures.stands told (c.feed.ensures.stands told (c.follow_clauses.ensures.stands c.args.formula.now (g.P.ParityEngine.state c.loop-reference.engine) told (c.loop-reference.invariant.stands told stands)));
       unbroken = c.in-Implied.ensures.says.1;
-      level = last.0 ∙ ap (λ (k : Kept). k.trail.level) c.feed.ensures.given ∙ first.1 ∙ c.loop-reference.invariant.level;
-      units = last.1 ∙ ap (λ (k : Kept). k.units.items) c.feed.ensures.given ∙ first.2 ∙ c.loop-reference.invariant.units;
-      conflicts = last.2 ∙ ap (λ (k : Kept). k.conflicts) c.feed.ensures.given ∙ first.3 ∙ c.loop-reference.invariant.conflicts;
-      next = last.3 ∙ ap (λ (k : Kept). k.next) c.feed.ensures.given ∙ first.4 ∙ c.loop-reference.invariant.next;
+      same = same_by_all c.args.kept.now c.loop-reference.kept c.follow_clauses.new.kept c.feed.new.kept c.follow_rows.new.kept c.loop-reference.invariant.same c.follow_clauses.ensures.same c.feed.ensures.given c.follow_rows.ensures.same;
       grows = omega (arith, n, m, a, b);
     }
 
@@ -108,13 +107,7 @@ returns-in-Conflict-follow_rows-clause-finds g c =
 
 pub returns-in-Conflict-follow_rows-clause-same : goal.returns-in-Conflict-follow_rows-clause-same
 returns-in-Conflict-follow_rows-clause-same g c =
-    let first = c.follow_clauses.ensures.same in
-    let last = c.follow_rows.ensures.same in (
-      last.0 ∙ ap (λ (k : Kept). k.trail.level) c.feed.ensures.given ∙ first.1 ∙ c.loop-reference.invariant.level,
-      last.1 ∙ ap (λ (k : Kept). k.units.items) c.feed.ensures.given ∙ first.2 ∙ c.loop-reference.invariant.units,
-      last.2 ∙ ap (λ (k : Kept). k.conflicts) c.feed.ensures.given ∙ first.3 ∙ c.loop-reference.invariant.conflicts,
-      last.3 ∙ ap (λ (k : Kept). k.next) c.feed.ensures.given ∙ first.4 ∙ c.loop-reference.invariant.next,
-    )
+    same_by_all c.args.kept.now c.loop-reference.kept c.follow_clauses.new.kept c.feed.new.kept c.follow_rows.new.kept c.loop-reference.invariant.same c.follow_clauses.ensures.same c.feed.ensures.given c.follow_rows.ensures.same
 
 pub returns-in-Conflict-follow_rows-clause-grows :
     goal.returns-in-Conflict-follow_rows-clause-grows

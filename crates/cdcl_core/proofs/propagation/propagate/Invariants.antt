@@ -1,17 +1,15 @@
-use Rattle.std.proofs.Common.{◌≡◌, ◌≢◌, ◌≤◌, ◌-◌, [], List, Option, length}
+use Rattle.std.proofs.Common.{◌≢◌, ◌≤◌, ◌-◌, [], List, Option, length}
 use Rattle.cx_semantics.specs.declared.steps.LogEvent.{LogEvent}
 use Rattle.parity_engine.specs.declared.state.Mood.TheVariants.{Broken}
 use Rattle.cdcl_core.specs.Ties.{Stands}
+use Rattle.cdcl_core.specs.Finds.{HasSameCounts}
 use Rattle.cdcl_core.proofs.propagation.propagate.Given as goal
 
 abbrev pub invariant-loop-reference : goal.invariant-loop-reference
 invariant-loop-reference g l = record {
   stands : (told : Option (List LogEvent)) → Stands l.fn.formula l.fn.kept (g.P.ParityEngine.state l.fn.engine) [] told → Stands l.fn.formula l.kept (g.P.ParityEngine.state l.engine) [] told;
   unbroken : (g.P.ParityEngine.state l.engine).mood ≢ Broken;
-  level : l.kept.trail.level ≡ l.fn.kept.trail.level;
-  units : l.kept.units.items ≡ l.fn.kept.units.items;
-  conflicts : l.kept.conflicts ≡ l.fn.kept.conflicts;
-  next : l.kept.next ≡ l.fn.kept.next;
+  same : HasSameCounts l.fn.kept l.kept;
   grows : length l.fn.kept.trail.entries ≤ length l.kept.trail.entries;
 }
 

@@ -1,4 +1,4 @@
-use Rattle.std.proofs.Common.{◌≡◌, ◌∙◌, sym, [], true≢false, arith}
+use Rattle.std.proofs.Common.{◌∙◌, sym, [], true≢false, arith}
 use Rattle.cdcl_core.specs.Searching.{Decides}
 use Rattle.cdcl_core.proofs.Feeding.{trail_is_short}
 use Rattle.cdcl_core.proofs.searching.search_on.Goals as goal

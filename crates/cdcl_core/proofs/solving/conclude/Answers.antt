@@ -1,4 +1,4 @@
-use Rattle.std.proofs.Common.{◌≡◌, [], arith}
+use Rattle.std.proofs.Common.{[], arith}
 use Rattle.std.proofs.lemmas.Result.{err_from_is_err_and}
 use Rattle.cdcl_core.proofs.Answering.{stands_is_left, log_is_open, values_are_known}
 use Rattle.cdcl_core.proofs.RowSteps.{memory_is_left}

@@ -1,4 +1,4 @@
-use Rattle.std.proofs.Common.{◌≡◌, refl, subst, arith}
+use Rattle.std.proofs.Common.{refl, subst, arith}
 use Rattle.std.proofs.lemmas.Result.{err_from_is_err_and}
 use Rattle.cdcl_core.specs.Results.{IsOpenWith}
 use Rattle.cdcl_core.proofs.Answering.{stands_is_left, learned_log_is_open, learned_is_left}

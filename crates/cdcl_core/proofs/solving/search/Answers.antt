@@ -1,4 +1,4 @@
-use Rattle.std.proofs.Common.{◌≡◌, ◌+◌, subst}
+use Rattle.std.proofs.Common.{◌+◌, subst}
 use Rattle.cdcl_core.specs.Results.{IsSettledBy}
 use Rattle.cdcl_core.proofs.solving.search.Goals as goal
 

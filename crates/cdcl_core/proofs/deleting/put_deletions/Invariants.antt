@@ -5,13 +5,13 @@ use Rattle.cx_semantics.specs.declared.steps.LogEvent.TheVariants.{Step}
 use Rattle.cdcl_core.specs.Deleting.{deletions}
 use Rattle.cdcl_core.specs.Tells.{as_events}
 use Rattle.cdcl_core.specs.Ties.{row_ids}
-use Rattle.cdcl_core.proofs.deleting.deletions_of_rows.Given as goal
+use Rattle.cdcl_core.proofs.deleting.put_deletions.Given as goal
 
--- the steps so far delete all clauses but the oldest ones that are left
+-- the steps so far delete all clauses of rows but the oldest ones, which are left
 abbrev pub invariant-loop-left : goal.invariant-loop-left
 invariant-loop-left l = record {
   few : l.left ≤ l.count;
-  steps : as_events l.steps.items ++ deletions (row_ids l.left) ≡ deletions (row_ids l.count);
+  steps : as_events l.steps.items ++ deletions (row_ids l.left) ≡ as_events l.initial.steps.items ++ deletions (row_ids l.count);
   texts : AllByRecursion (λ t. HasText (Step t)) l.steps.items;
 }
 

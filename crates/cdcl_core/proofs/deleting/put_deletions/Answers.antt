@@ -3,7 +3,7 @@ use Rattle.cdcl_core.specs.Deleting.{deletions}
 use Rattle.cdcl_core.specs.Tells.{as_events}
 use Rattle.cdcl_core.specs.Ties.{row_ids}
 use Rattle.cdcl_core.proofs.DeletedRows.{one_deleted, one_more_text}
-use Rattle.cdcl_core.proofs.deleting.deletions_of_rows.Goals as goal
+use Rattle.cdcl_core.proofs.deleting.put_deletions.Goals as goal
 
 pub loop-left-preserved : goal.loop-left-preserved
 loop-left-preserved c =
@@ -11,6 +11,6 @@ loop-left-preserved c =
     record {
       few = omega (arith, few);
       steps = ap (λ xs. as_events xs ++ deletions (row_ids (c.loop-left.left - 1))) c.in_ok-push.ensures.items
-          ∙ one_deleted c.loop-left.steps.items c.loop-left.left c.deletion.result (deletions (row_ids c.args.count)) c.loop-left-test.true c.deletion.ensures.is c.loop-left.invariant.steps;
-      texts = one_more_text c.loop-left.steps.items c.deletion.result c.push.new.self.items c.in_ok-push.ensures.items c.loop-left.invariant.texts c.deletion.ensures.text;
+          ∙ one_deleted c.loop-left.steps.items c.loop-left.left c.deletion.result _ c.loop-left-test.true c.deletion.ensures.is c.loop-left.invariant.steps;
+      texts = one_more_text c.loop-left.steps.items c.deletion.result _ c.in_ok-push.ensures.items c.loop-left.invariant.texts c.deletion.ensures.text;
     }
