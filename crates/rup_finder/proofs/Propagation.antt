@@ -1,5 +1,5 @@
 -- Unit propagation: one more hint, and what is known where no clause gives more.
-use Rattle.std.proofs.Common.{◌≡◌, ◌≢◌, refl, sym, ap, ◌∙◌, subst, ℕ, Bool, true, false, cond, not, ◌||◌, List, [], ◌∷◌, ◌++◌, length, drop, arith, Result, Ok, Err, IfOk, eqb-true, Some, ◌⊎◌, inl, inr, true≢false}
+use Rattle.std.proofs.Common.{◌≡◌, ◌≢◌, refl, sym, ap, ◌∙◌, subst, ℕ, Bool, true, false, cond, not, ◌||◌, List, [], ◌∷◌, ◌++◌, Option, None, length, drop, arith, Result, Ok, Err, IfOk, eqb-true, Some, ◌⊎◌, inl, inr, true≢false}
 use Rattle.std.specs.List.{list_any, list_all}
 use Rattle.std.specs.Ordering.{nat_cmp, eq_by_cmp}
 use Rattle.std.specs.Cmp.{unsigned_tied}
@@ -16,7 +16,7 @@ use Rattle.rup_finder.specs.declared.reached.Reached.{Reached}
 use Rattle.rup_finder.specs.Occurrences.{HasId, Covers, ListsPlace, is_wide}
 use Rattle.rup_finder.specs.declared.occurrences.Occurrence.{Occurrence}
 use Rattle.rup_finder.specs.declared.occurrences.TheConstants.{SHORT}
-use Rattle.rup_finder.specs.Saturation.{IsUnit, Follows, after, HasCome, IsUsed, IsWide, IsAwaited, IsHandled, AllSeen, IsSaturated, Advances, IsAssumedBy, AssumesBy, Begins}
+use Rattle.rup_finder.specs.Saturation.{IsUnit, Follows, after, HasCome, IsUsed, IsWide, IsAwaited, IsHandled, AllSeen, IsSaturated, Advances, IsAssumedBy, AssumesBy, Begins, Propagates, Ends}
 
 -- ---- lists of literals
 
@@ -222,17 +222,34 @@ seen_more table old new k rest on now seen n clause e = elim (seen n clause e) [
 
 -- ---- the clauses of a literal
 
--- a literal leaves the queue: its clauses are to be tried
-pub seen_popped : (table : Table) (old new : Reached) (lit : Literal) (pairs : List Occurrence) (ids : List ℕ) → new.assumed ≡ old.assumed → old.queue.items ≡ lit ∷ new.queue.items
-    → Covers table pairs → ListsPlace pairs (code_of (negate lit)) ids → AllSeen table old [] → AllSeen table new ids
-seen_popped table old new lit pairs ids same popped covers lists seen n clause e = elim (seen n clause e) [
+-- the queue may be another one with the same literals
+pub seen_same : (table : Table) (old new : Reached) (later : List ℕ) → new.assumed ≡ old.assumed → new.queue.items ≡ old.queue.items → AllSeen table old later → AllSeen table new later
+seen_same table old new later same queue seen n clause e = elim (seen n clause e) [
   | inl (inl u) ↦ inl (inl (subst (λ a. IsUsed a clause) (sym same) u))
   | inl (inr (inl w)) ↦ inl (inr (inl (subst (λ a. IsWide a clause) (sym same) w)))
-  | inl (inr (inr (l, h, k))) ↦ elim (same_literal l lit) as (λ b. same_literal l lit ≡ b → (b || has_literal new.queue.items l) ≡ true → IsHandled new clause ⊎ HasId ids n) [
-    | true ↦ λ f _. inr (lists n ((covers n clause e).at_literals (negate lit) (subst (λ x. has_literal clause (negate x) ≡ true) (are_one l lit f) k)))
+  | inl (inr (inr (l, h, k))) ↦ inl (inr (inr (l, ap (λ q. has_literal q l) queue ∙ h, k)))
+  | inr h ↦ inr h
+]
+
+has_id_in_front : (ids later : List ℕ) (n : ℕ) → HasId ids n → HasId (ids ++ later) n
+has_id_in_front [] later n h = absurd (true≢false (sym h))
+has_id_in_front (k ∷ ids) later n h = elim (eq_by_cmp nat_cmp n k) as (λ b. (b || list_any (eq_by_cmp nat_cmp n) ids) ≡ true → (b || list_any (eq_by_cmp nat_cmp n) (ids ++ later)) ≡ true) [ true ↦ λ _. refl | false ↦ λ g. has_id_in_front ids later n g ] h
+
+has_id_behind : (ids later : List ℕ) (n : ℕ) → HasId later n → HasId (ids ++ later) n
+has_id_behind [] later n h = h
+has_id_behind (k ∷ ids) later n h = or_right (eq_by_cmp nat_cmp n k) _ (has_id_behind ids later n h)
+
+-- a literal leaves the queue: its clauses are to be tried
+pub seen_popped : (table : Table) (old new : Reached) (lit : Literal) (pairs : List Occurrence) (ids later : List ℕ) → new.assumed ≡ old.assumed → old.queue.items ≡ lit ∷ new.queue.items
+    → Covers table pairs → ListsPlace pairs (code_of (negate lit)) ids → AllSeen table old later → AllSeen table new (ids ++ later)
+seen_popped table old new lit pairs ids later same popped covers lists seen n clause e = elim (seen n clause e) [
+  | inl (inl u) ↦ inl (inl (subst (λ a. IsUsed a clause) (sym same) u))
+  | inl (inr (inl w)) ↦ inl (inr (inl (subst (λ a. IsWide a clause) (sym same) w)))
+  | inl (inr (inr (l, h, k))) ↦ elim (same_literal l lit) as (λ b. same_literal l lit ≡ b → (b || has_literal new.queue.items l) ≡ true → IsHandled new clause ⊎ HasId (ids ++ later) n) [
+    | true ↦ λ f _. inr (has_id_in_front ids later n (lists n ((covers n clause e).at_literals (negate lit) (subst (λ x. has_literal clause (negate x) ≡ true) (are_one l lit f) k))))
     | false ↦ λ _ g. inl (inr (inr (l, g, k)))
   ] refl (ap (λ q. has_literal q l) (sym popped) ∙ h)
-  | inr h ↦ absurd (true≢false (sym h))
+  | inr h ↦ inr (has_id_behind ids later n h)
 ]
 
 none_differs : (l : Literal) (ms : List Literal) → list_all (same_literal l) ms ≡ true → list_any (λ m. not (same_literal l m)) ms ≡ false
@@ -278,6 +295,10 @@ saturated_by table reached done seen n clause e = elim (seen n clause e) [
   | inl (inr (inr (l, h, k))) ↦ absurd (true≢false (sym h ∙ ap (λ q. has_literal q l) done))
   | inr h ↦ absurd (true≢false (sym h))
 ]
+
+pub ends_by : (table : Table) (target : List Literal) (old new : Reached) (found : Option ℕ) → HasCome table target old → AllSeen table old [] → Propagates table old new found → Ends table target new found
+ends_by table target old new None come seen p = (p.0 target come, saturated_by table new p.2 (p.1 [] seen))
+ends_by table target old new (Some id) come seen p = (p.0 target come, p.1)
 
 left_nil : (a clause : List Literal) → is_falsified a clause ≡ true → left a clause ≡ []
 left_nil a [] h = refl

@@ -4,7 +4,9 @@ use Rattle.cx_base.specs.Literals.{Literal, negate}
 use Rattle.cx_semantics.specs.Chain.{has_literal, negations, left, none, one, more, count_left}
 use Rattle.cx_semantics.specs.Tables.{Table, get}
 use Rattle.proof_rules.specs.LiteralSets.{HaveSame}
-use Rattle.rup_finder.specs.Occurrences.{HasId}
+use Rattle.rup_finder.specs.Occurrences.{HasId, ListsPlace}
+use Rattle.rup_finder.specs.declared.occurrences.Occurrence.{Occurrence}
+use Rattle.rup_finder.specs.declared.occurrences.TheConstants.{SHORT}
 use Rattle.rup_finder.specs.declared.reached.Hint.{Hint}
 use Rattle.rup_finder.specs.declared.reached.Reached.{Reached}
 
@@ -54,6 +56,10 @@ IsHandled reached clause = IsUsed reached.assumed clause ⊎ (IsWide reached.ass
 abbrev pub AllSeen : Table → Reached → List ℕ → Type 0
 AllSeen table reached ids = (n : ℕ) (clause : List Literal) → get table n ≡ Some clause → IsHandled reached clause ⊎ HasId ids n
 
+-- each live clause is handled or among the short ones
+abbrev pub AllButShort : Table → List Occurrence → Reached → Type 0
+AllButShort table pairs reached = (ids : List ℕ) → ListsPlace pairs SHORT ids → AllSeen table reached ids
+
 -- no live clause gives anything
 abbrev pub IsSaturated : Table → List Literal → Type 0
 IsSaturated table assumed = (n : ℕ) (clause : List Literal) → get table n ≡ Some clause → IsUsed assumed clause ⊎ IsWide assumed clause
@@ -79,7 +85,7 @@ TurnGives table id old new false = Advances table old new × ((clause : List Lit
 
 -- all clauses of the list are handled, or one is falsified
 abbrev pub GoesThrough : Table → List ℕ → Reached → Reached → Option ℕ → Type 0
-GoesThrough table ids old new None = Advances table old new × (AllSeen table old ids → AllSeen table new [])
+GoesThrough table ids old new None = Advances table old new × ((later : List ℕ) → AllSeen table old (ids ++ later) → AllSeen table new later)
 GoesThrough table ids old new (Some id) = Advances table old new × IsFalsifiedAt table new.assumed id
 
 -- the negations of the target's literals are assumed, and nothing is tried yet
@@ -87,6 +93,12 @@ pub record Begins (target : List Literal) (reached : Reached) : Type 0 where
   pub assumed : HaveSame reached.assumed (negations target)
   pub hints : reached.hints.items ≡ []
   pub queue : reached.queue.items ≡ negations target
+
+-- no literal is open any more, and what was seen is seen still; or a clause is falsified
+abbrev pub Propagates : Table → Reached → Reached → Option ℕ → Type 0
+Propagates table old new None =
+    ((target : List Literal) → HasCome table target old → HasCome table target new) × ((later : List ℕ) → AllSeen table old later → AllSeen table new later) × (new.queue.items ≡ [])
+Propagates table old new (Some id) = ((target : List Literal) → HasCome table target old → HasCome table target new) × IsFalsifiedAt table new.assumed id
 
 -- no clause gives more, or one is falsified
 abbrev pub Ends : Table → List Literal → Reached → Option ℕ → Type 0

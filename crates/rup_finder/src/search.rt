@@ -5,7 +5,7 @@ ghost use Rattle.cx_semantics.specs.Chain.{IsChain, negations};
 ghost use Rattle.cx_semantics.specs.LogRules.{AreLive, HasChain};
 ghost use Rattle.cx_semantics.specs.Tables.{named};
 ghost use Rattle.rup_finder.specs.Occurrences.{Covers};
-ghost use Rattle.rup_finder.specs.Saturation.{HasCome, AllSeen, Begins, Ends};
+ghost use Rattle.rup_finder.specs.Saturation.{HasCome, AllButShort, Propagates, Begins, Ends};
 
 use crate::occurrences::{Occurrences, SHORT};
 use crate::pruning::pruned;
@@ -46,7 +46,7 @@ fn propagate(
     reached: &mut Reached,
 ) -> Result<Option<u64>, AllocError>
     requires { Covers live.now.clauses occurrences.now.pairs.keys }
-    ensures { IfOk result (λ found. (target : List Literal) → HasCome live.now.clauses target reached.old → AllSeen live.now.clauses reached.old [] → Ends live.now.clauses target reached.new found) }
+    ensures { IfOk result (Propagates live.now.clauses reached.old reached.new) }
 {
     for _ in 0..u64::MAX {
         let lit = match reached.queue.pop_front() {
@@ -62,7 +62,25 @@ fn propagate(
     Err(AllocError)
 }
 
-/// Tries the short clauses, and then propagates.
+/// Propagates with the short clauses.
+fn conflict_with_short(
+    alloc: Global,
+    live: &Live,
+    occurrences: &Occurrences,
+    reached: &mut Reached,
+) -> Result<Option<u64>, AllocError>
+    requires { Covers live.now.clauses occurrences.now.pairs.keys }
+    ensures { IfOk result (λ found. (target : List Literal) → HasCome live.now.clauses target reached.old → AllButShort live.now.clauses occurrences.now.pairs.keys reached.old → Ends live.now.clauses target reached.new found) }
+{
+    let short = occurrences.ids_at(alloc, SHORT)?;
+    match try_all(live, &short, reached)? {
+        Some(id) => Ok(Some(id)),
+        None => propagate(alloc, live, occurrences, reached),
+    }
+}
+
+/// Propagates what the target gives, and only where that meets no conflict the short clauses too:
+/// there may be many of them.
 fn conflict(
     alloc: Global,
     live: &Live,
@@ -72,18 +90,18 @@ fn conflict(
     requires { Covers live.now.clauses occurrences.now.pairs.keys }
     ensures { IfOk result (λ found. (target : List Literal) → Begins target reached.old → Ends live.now.clauses target reached.new found) }
 {
-    let short = occurrences.ids_at(alloc, SHORT)?;
-    match try_all(live, &short, reached)? {
+    match propagate(alloc, live, occurrences, reached)? {
         Some(id) => Ok(Some(id)),
-        None => propagate(alloc, live, occurrences, reached),
+        None => conflict_with_short(alloc, live, occurrences, reached),
     }
 }
 
 /// A list of live hints that is a right chain for the clause; none where no list of live hints is one.
 ///
-/// The negations of the target's literals are assumed. The clauses of at most one different
-/// literal are tried first, and then, for each assumed literal, those that have its negation.
-/// No other clause is looked at, and no hint is given on which the last one does not rest.
+/// The negations of the target's literals are assumed, and for each assumed literal the clauses
+/// that have its negation are tried. Where that meets no conflict, the clauses of at most one
+/// different literal follow. No other clause is looked at, and no hint is given on which the last
+/// one does not rest.
 pub fn find_by(
     alloc: Global,
     live: &Live,
