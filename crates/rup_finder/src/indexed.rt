@@ -80,6 +80,9 @@ impl IndexedClauses {
     }
 
     /// Puts a clause under this id. Without memory no table changes.
+    ///
+    /// Take out first what is live under it: the index would go on listing the literals of that
+    /// clause too, at the cost of later calls.
     pub fn add_clause(&mut self, id: u64, lits: LitList) -> Result<(), AllocError>
         ensures ok { OnOk result (self.new ≡ put_clause self.old id lits) }
         ensures err { OnErr result (self.new ≡ self.old) }
