@@ -1,11 +1,11 @@
 //! What stands between two steps.
 use crate::naming::Names;
-use proof_rules::Live;
+use rup_finder::IndexedClauses;
 
 /// The live constraints of the log, and what stands for them in the proof.
 #[derive(Drop)]
 pub struct State {
-    pub live: Live,
+    pub live: IndexedClauses,
     pub clauses: Names,
     pub parities: Names,
 }

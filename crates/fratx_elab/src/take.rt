@@ -18,10 +18,10 @@ use crate::steps::{clause_of_parity_step, clause_step, parity_of_clauses_step, p
 use cx_base::{Formula, IdList, IntList, LitList};
 use cx_semantics::{Cause, ProofStep};
 use proof_rules::{
-    JudgeRefusal, Live, ids_of, judge_added, judge_chain, judge_clause_of_named_parity,
-    judge_named_sum, judge_parity_of_named_clauses, literals_of,
+    JudgeRefusal, ids_of, judge_added, judge_chain, judge_clause_of_named_parity, judge_named_sum,
+    judge_parity_of_named_clauses, literals_of,
 };
-use rup_finder::find;
+use rup_finder::IndexedClauses;
 use std::alloc::{AllocError, Global};
 
 /// A copy of the integers.
@@ -63,18 +63,18 @@ fn admit(
 /// Live hints that are a right chain for the clause: those that are given, where they are, or else any.
 fn chain_of(
     alloc: Global,
-    live: &Live,
+    live: &IndexedClauses,
     target: &LitList,
     given: &[i64],
 ) -> Result<IdList, JudgeRefusal>
     ensures { GivesChain live.now.clauses target.now result }
 {
-    match judge_chain(alloc, live, target, given) {
+    match judge_chain(alloc, live.live(), target, given) {
         Ok(()) => return Ok(IdList::from_vec(ids_of(alloc, given)?)),
         Err(JudgeRefusal::Memory) => return Err(JudgeRefusal::Memory),
         Err(JudgeRefusal::Wrong(_)) => {}
     }
-    match find(alloc, live, target.as_slice())? {
+    match live.find(alloc, target.as_slice())? {
         Some(ids) => Ok(ids),
         None => Err(JudgeRefusal::Wrong(Cause::NoChain)),
     }
@@ -183,7 +183,7 @@ pub fn take_parity(
         Ok(target) => target,
         Err(why) => return Err(why),
     };
-    match judge_named_sum(alloc, &state.live, &target, sources.as_slice()) {
+    match judge_named_sum(alloc, state.live.live(), &target, sources.as_slice()) {
         Ok(()) => {}
         Err(why) => return Err(why),
     }
@@ -212,7 +212,7 @@ pub fn take_parity_of_clauses(
         Ok(target) => target,
         Err(why) => return Err(why),
     };
-    match judge_parity_of_named_clauses(alloc, &state.live, &target, sources.as_slice()) {
+    match judge_parity_of_named_clauses(alloc, state.live.live(), &target, sources.as_slice()) {
         Ok(()) => {}
         Err(why) => return Err(why),
     }
@@ -241,7 +241,7 @@ pub fn take_clause_of_parity(
         Ok(target) => target,
         Err(why) => return Err(why),
     };
-    match judge_clause_of_named_parity(alloc, &state.live, &target, source) {
+    match judge_clause_of_named_parity(alloc, state.live.live(), &target, source) {
         Ok(()) => {}
         Err(why) => return Err(why),
     }

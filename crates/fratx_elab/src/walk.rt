@@ -18,8 +18,9 @@ use crate::outcome::{Elab, ElabFault};
 use crate::state::State;
 use cx_base::Formula;
 use cx_semantics::{Cause, LogStep, ProofStep};
-use proof_rules::{JudgeRefusal, Live};
+use proof_rules::JudgeRefusal;
 use proof_text::{SinkFault, TextRefusal};
+use rup_finder::IndexedClauses;
 use std::alloc::Global;
 
 /// Hands a step to the sink, if there is one.
@@ -162,7 +163,7 @@ pub fn elaborate<E: ElabEnds>(
         Err(_) => return Err(ElabFault::Memory),
     };
     let mut state = State {
-        live: Live::make(alloc),
+        live: IndexedClauses::make(alloc),
         clauses: Names::new(alloc, counts.clauses),
         parities: Names::new(alloc, counts.parities),
     };

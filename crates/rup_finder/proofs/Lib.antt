@@ -1,1 +1,3 @@
-mod SaturationLaws
+pub mod Propagation
+pub mod Listing
+pub mod PruningLaws

@@ -1,1 +1,3 @@
+pub mod Occurrences
 pub mod Saturation
+pub mod Prunings

@@ -1,9 +1,13 @@
-//! Chains of hints for clauses that come without any, by unit propagation over all live clauses.
+//! Chains of hints for clauses that come without any, by unit propagation over the live clauses.
 #![tactic(auto)]
 
-mod rounds;
+mod indexed;
+mod occurrences;
+mod pruning;
+mod reached;
 mod search;
 
+pub use indexed::IndexedClauses;
 pub use search::find;
 
 #[cfg(test)]

@@ -1,34 +1,37 @@
-//! Chains over the four clauses of two variables.
-use super::find;
+//! Chains over the four clauses of two variables, and by them alone where others are live.
+use super::{IndexedClauses, find};
 use cx_base::{Lit, LitList, Var};
 use proof_rules::Live;
 use std::alloc::{AllocError, Global};
 use std::test::Fail;
 
-/// The literal of a variable, 1 or 2.
+/// The literal of a variable from 1 to 4.
 fn lit(number: u32, negative: bool) -> Lit {
-    Lit::new(Var::new(number.clamp(1, 2)), negative)
+    Lit::new(Var::new(number.clamp(1, 4)), negative)
+}
+
+/// The list of some literals.
+fn list(alloc: Global, lits: &[Lit]) -> Result<LitList, AllocError> {
+    Ok(LitList::from_vec(Vec::from_slice(alloc, lits)?))
 }
 
 /// The clauses 1 to 4: `1 2`, `-1 2`, `1 -2`, `-1 -2`.
-fn square(alloc: Global) -> Result<Live, AllocError> {
-    let mut live = Live::make(alloc);
-    let clauses = [
+fn square() -> [(u64, [Lit; 2]); 4] {
+    [
         (1, [lit(1, false), lit(2, false)]),
         (2, [lit(1, true), lit(2, false)]),
         (3, [lit(1, false), lit(2, true)]),
         (4, [lit(1, true), lit(2, true)]),
-    ];
-    for (id, lits) in clauses {
-        live.add_clause(id, LitList::from_vec(Vec::from_slice(alloc, &lits)?))?;
-    }
-    Ok(live)
+    ]
 }
 
 #[test]
 fn a_chain_where_there_is_one(rt: HostRuntime) -> Result<(), Fail> {
     let alloc = rt.alloc();
-    let live = square(alloc)?;
+    let mut live = Live::make(alloc);
+    for (id, lits) in square() {
+        live.add_clause(id, list(alloc, &lits)?)?;
+    }
     let found = find(alloc, &live, &[lit(2, false)])?;
     let ids = match &found {
         Some(ids) => ids.as_slice(),
@@ -37,5 +40,36 @@ fn a_chain_where_there_is_one(rt: HostRuntime) -> Result<(), Fail> {
     assert_eq!(rt; ids, [1, 2].as_slice());
     assert!(rt; find(alloc, &live, &[])?.is_none());
     assert!(rt; find(alloc, &live, &[lit(1, false), lit(1, true)])?.is_some());
+    Ok(())
+}
+
+#[test]
+fn needed_hints_alone(rt: HostRuntime) -> Result<(), Fail> {
+    let alloc = rt.alloc();
+    let mut clauses = IndexedClauses::make(alloc);
+    clauses.add_clause(8, list(alloc, &[lit(3, false)])?)?;
+    clauses.add_clause(
+        9,
+        list(alloc, &[lit(3, true), lit(4, false), lit(4, false)])?,
+    )?;
+    for (id, lits) in square() {
+        clauses.add_clause(id, list(alloc, &lits)?)?;
+    }
+    let found = clauses.find(alloc, &[lit(2, false)])?;
+    let ids = match &found {
+        Some(ids) => ids.as_slice(),
+        None => &[],
+    };
+    assert_eq!(rt; ids, [1, 2].as_slice());
+    let found = clauses.find(alloc, &[lit(4, false)])?;
+    let ids = match &found {
+        Some(ids) => ids.as_slice(),
+        None => &[],
+    };
+    assert_eq!(rt; ids, [8, 9].as_slice());
+    clauses.remove_clause(2);
+    assert!(rt; clauses.find(alloc, &[lit(2, false)])?.is_none());
+    assert!(rt; !clauses.has_clause(2));
+    assert!(rt; clauses.live().has_clause(1));
     Ok(())
 }

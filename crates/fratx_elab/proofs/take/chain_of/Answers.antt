@@ -4,7 +4,7 @@ use Rattle.cx_semantics.specs.Chain.{ChainEnd, right, not_unit, hints_end, chain
 use Rattle.cx_semantics.specs.Integers.{sizes}
 use Rattle.cx_semantics.specs.LogRules.{AreLive}
 use Rattle.cx_semantics.specs.ProofRules.{is_not_unit, is_hints_end}
-use Rattle.cx_semantics.specs.Tables.{Table, is_live, named}
+use Rattle.cx_semantics.specs.Tables.{Table, Tables, is_live, named}
 use Rattle.fratx_elab.proofs.take.chain_of.Goals as goal
 
 live_sizes : (table : Table) (zs : List ℤ) → list_any (λ z. not (is_live table (nat_abs z))) zs ≡ false → AreLive table (sizes zs)
@@ -22,9 +22,12 @@ is_right hints_end h k = absurd (true≢false k)
 
 pub returns-in-Ok : goal.returns-in-Ok
 returns-in-Ok c =
-    let table = c.args.live.now.clauses in
+    let table = c.live.result.now.clauses in
     let target = c.args.target.now in
+    let ns = sizes c.args.given.now in
     let h = c.in-Ok.ensures in
-    let ids : c.from_vec.result ≡ sizes c.args.given.now = c.from_vec.ensures ∙ c.in_ok-ids_of-in-Ok.ensures in
-    let P : List ℕ → Type 0 = λ ns. AreLive table ns × IsChain target (named table ns) in
-    subst P (sym ids) (live_sizes table c.args.given.now h.1.0, is_right (chain (negations target) (named table (sizes c.args.given.now))) h.1.1.0 h.1.1.1.0)
+    let ids : c.from_vec.result ≡ ns = c.from_vec.ensures ∙ c.in_ok-ids_of-in-Ok.ensures in
+    let found : AreLive table ns × IsChain target (named table ns) = (live_sizes table c.args.given.now h.1.0, is_right (chain (negations target) (named table ns)) h.1.1.0 h.1.1.1.0) in
+    let here = subst (λ (t : Tables). AreLive t.clauses ns × IsChain target (named t.clauses ns)) c.live.ensures found in
+    let P : List ℕ → Type 0 = λ ks. AreLive c.args.live.now.clauses ks × IsChain target (named c.args.live.now.clauses ks) in
+    subst P (sym ids) here

@@ -3,7 +3,7 @@ use Rattle.cx_base.specs.Literals.{Literal}
 use Rattle.cx_semantics.specs.Judging.{AllHold}
 use Rattle.cx_semantics.specs.LogRules.{naming}
 use Rattle.cx_semantics.specs.ProofRules.{clause_of_parity}
-use Rattle.cx_semantics.specs.Tables.{named, put_clause}
+use Rattle.cx_semantics.specs.Tables.{Tables, named, put_clause}
 use Rattle.cx_semantics.specs.declared.steps.ProofStep.TheVariants as step
 use Rattle.fratx_elab.specs.Takes.{added_rules}
 use Rattle.fratx_elab.proofs.Taking.{takes_clause_of_parity}
@@ -18,7 +18,8 @@ returns-clause-taken c =
     let p : ℕ = c.in-Some.named in
     let added = subst (λ b. AllHold (added_rules formula b lits)) c.has_clause.ensures c.in-Ok.ensures.0 in
     let target = c.in-Ok.ensures.1 in
-    let judged = subst (λ (l : List Literal). AllHold (naming state.live.parities ids ++ clause_of_parity l (named state.live.parities ids))) target c.in-Ok-judge_clause_of_named_parity.ensures in
+    let judged = subst (λ (l : List Literal). AllHold (naming state.live.parities ids ++ clause_of_parity l (named state.live.parities ids))) target
+    (subst (λ (t : Tables). AllHold (naming t.parities ids ++ clause_of_parity c.in-Ok.target (named t.parities ids))) c.live.ensures c.in-Ok-judge_clause_of_named_parity.ensures) in
     takes_clause_of_parity formula state _ c.args.id lits c.args.source p c.clause_of_parity_step.result added judged (sym (sym c.in-Some.is ∙ c.get.ensures))
     (c.in_ok-add_clause.ensures.ok ∙ ap (put_clause state.live c.args.id) target) c.in_ok-next.ensures.named refl
     (c.clause_of_parity_step.ensures.step ∙ (λ i. step.ClauseOfParity (c.in_ok-next.ensures.next i) (c.in_ok-copy.ensures i) (pos p)))

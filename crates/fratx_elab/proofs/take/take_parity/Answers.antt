@@ -3,7 +3,7 @@ use Rattle.cx_base.specs.Literals.{Literal}
 use Rattle.cx_semantics.specs.Judging.{AllHold}
 use Rattle.cx_semantics.specs.LogRules.{naming}
 use Rattle.cx_semantics.specs.ProofRules.{summing}
-use Rattle.cx_semantics.specs.Tables.{named, put_parity}
+use Rattle.cx_semantics.specs.Tables.{Tables, named, put_parity}
 use Rattle.cx_semantics.specs.declared.steps.ProofStep.TheVariants as step
 use Rattle.fratx_elab.specs.Names.{hints_for}
 use Rattle.fratx_elab.specs.Takes.{added_rules}
@@ -20,7 +20,8 @@ returns-clause-taken c =
     let target = c.in-Ok.ensures.1 in
     let slice = c.as_slice.ensures in
     let judged = subst (λ (l : List Literal). AllHold (naming state.live.parities ids ++ summing l (named state.live.parities ids))) target
-    (subst (λ (ns : List ℕ). AllHold (naming state.live.parities ns ++ summing c.in-Ok.target (named state.live.parities ns))) slice c.in-Ok-judge_named_sum.ensures) in
+    (subst (λ (ns : List ℕ). AllHold (naming state.live.parities ns ++ summing c.in-Ok.target (named state.live.parities ns))) slice
+    (subst (λ (t : Tables). AllHold (naming t.parities c.as_slice.result.now ++ summing c.in-Ok.target (named t.parities c.as_slice.result.now))) c.live.ensures c.in-Ok-judge_named_sum.ensures)) in
     let hints = c.in_ok-hints.ensures ∙ ap (hints_for state.parities) c.as_slice-2.ensures in
     takes_parity formula state _ c.args.id lits ids c.parity_step.result added judged
     (c.in_ok-add_parity.ensures.ok ∙ ap (put_parity state.live c.args.id) target) refl c.in_ok-next.ensures.named
