@@ -282,40 +282,8 @@ judged_late (ending.FormulaRefused o) p f text h = absurd h
 judged_late (ending.TooLong s) p f text h = absurd h
 judged_late e p f text h = refl
 
--- both texts were read, and what they come to
-pub ends : (p : Plan) (limit : ℕ) (old : Seen) (f : Problem) (text : Bytes) (e : Ending) (proof : Bytes) (mid : Seen)
-    → Loaded p limit old f text mid → Judged e p f text → IfSome old.files (λ files. Gains p limit files e proof)
-    → Ends p limit old e (says port.Proof proof mid)
-ends p limit old f text e proof mid h judged gains = record {
-  reaches = rw (judged_late e p f text judged) (formula_in p limit old f h.is_formula);
-  due = if_some_both old.files h.is_formula h.is_second
-      (λ files r t. inr (record { formula = f; is_formula = r; due = inr (subst (λ (x : Bytes). (length x ≤ limit) × Judged e p f x) t (h.fits, judged)) }));
-  proof = proof;
-  gains = gains;
-  before_is = rw (judged_late e p f text judged) (ap (says port.Proof proof) h.asked);
-}
-
--- the same with nothing on the Proof port, and the answer
-pub concluded : (p : Plan) (limit : ℕ) (old : Seen) (f : Problem) (text : Bytes) (e : Ending) (mid : Seen) (o : Outcome) (new : Seen)
-    → Loaded p limit old f text mid → Judged e p f text → ((files : Files) → Gains p limit files e []) → Answers e mid o new → Works p limit old o new
-concluded p limit old f text e mid o new h judged gains answers =
-    answered p limit old e mid o new (subst (Ends p limit old e) (sym (bare mid)) (ends p limit old f text e [] mid h judged (all_files old.files gains))) answers
-
--- want of memory for the judgement
-pub wanted : (p : Plan) (limit : ℕ) (old : Seen) (f : Problem) (text : Bytes) (mid : Seen) → Loaded p limit old f text mid → Stops p limit old mid
-wanted p limit old f text mid h = stopped proof_created p limit old mid (formula_in p limit old f h.is_formula) h.asked
-
--- ---- a log
-
-files_of_loaded : (p : Plan) (limit : ℕ) (old : Seen) (f : Problem) (text : Bytes) (mid : Seen) → Loaded p limit old f text mid → mid.files ≡ old.files
-files_of_loaded p limit old f text mid h = ap (λ (s : Seen). s.files) h.asked ∙ files_at proof_created p old
-
 none_on_created : (name : Bytes) (s : Seen) → HasNoProof (creates name s)
 none_on_created name s = elim s.written as (λ w. HasNoProof (creates name (record s { written = w }))) [ None ↦ tt | Some w ↦ refl ]
-
--- nothing stands on a Proof port that was given its file
-pub none_created : (n l q : Bytes) (limit : ℕ) (old : Seen) (f : Problem) (text : Bytes) (mid : Seen) → Loaded (plan.Elab n l q) limit old f text mid → HasNoProof mid
-none_created n l q limit old f text mid h = subst HasNoProof (sym h.asked) (none_on_created q (asked_to second_started (plan.Elab n l q) old))
 
 -- what was left on the Proof port, of the files at the start
 left_gains : (n l q : Bytes) (limit : ℕ) (files : Files) (f : Problem) (e : Ending) (proof : Bytes)
@@ -328,37 +296,68 @@ if_some_three : {X : Type 0} {P Q R S : X → Type 0} (w : Option X) → IfSome 
 if_some_three None p q r f = tt
 if_some_three (Some x) p q r f = f x p q r
 
--- the log was judged, its proof written, and the answer
-pub elaborated : (n l q : Bytes) (limit : ℕ) (old : Seen) (f : Problem) (text : Bytes) (e : Ending) (mid at : Seen) (o : Outcome) (new : Seen)
-    → Loaded (plan.Elab n l q) limit old f text mid → Elaborated f text mid (Ok e) at → Answers e at o new → Works (plan.Elab n l q) limit old o new
-elaborated n l q limit old f text e mid at o new h made answers =
-    let p = plan.Elab n l q in
-    let left = subst (λ (w : Option Files). IfSome w (λ _. LeftBy e f text made.1.0)) (files_of_loaded p limit old f text mid h) made.1.2 in
-    answered p limit old e at o new
-    (subst (Ends p limit old e) (sym made.1.1) (ends p limit old f text e made.1.0 mid h (made.0 n l q)
-    (if_some_three old.files h.is_formula h.is_second left
-    (λ files read is by. left_gains n l q limit files f e made.1.0 read (subst (λ (x : Bytes). LeftBy e f x made.1.0) is by)))))
-    answers
+-- where both texts were read
+module _ {p : Plan} {limit : ℕ} {old : Seen} {f : Problem} {text : Bytes} {mid : Seen} (h : Loaded p limit old f text mid) where
+  reached : FormulaIn p limit old
+  reached = formula_in p limit old f h.is_formula
 
--- the log was not judged to its end, or its proof not written
-pub not_elaborated : (n l q : Bytes) (limit : ℕ) (old : Seen) (f : Problem) (text : Bytes) (mid : Seen) (o : Outcome) (new : Seen)
-    → Loaded (plan.Elab n l q) limit old f text mid → Elaborated f text mid (Err o) new → Works (plan.Elab n l q) limit old o new
-not_elaborated n l q limit old f text mid o new h made = by o made
-  where
-    stops : (proof : Bytes) → IfSome mid.files (λ _. IsRightSoFar f proof) → Stops (plan.Elab n l q) limit old (says port.Proof proof mid)
-    stops proof right = record {
-      stage = proof_created;
-      reaches = formula_in (plan.Elab n l q) limit old f h.is_formula;
-      proof = proof;
-      so_far = if_some_both old.files h.is_formula (subst (λ (w : Option Files). IfSome w (λ _. IsRightSoFar f proof)) (files_of_loaded (plan.Elab n l q) limit old f text mid h) right)
-          (λ files read r. (f, read, r));
-      at_is = ap (says port.Proof proof) h.asked;
-    }
+  files_same : mid.files ≡ old.files
+  files_same = ap (λ (s : Seen). s.files) h.asked ∙ files_at proof_created p old
 
-    by : (o : Outcome) → Elaborated f text mid (Err o) new → Works (plan.Elab n l q) limit old o new
-    by outcome.Memory m = subst (Stops (plan.Elab n l q) limit old) (sym m.1) (stops m.0 m.2)
-    by outcome.WriteFault m = inr (inr (record { writes = refl; at = says port.Proof m.0 mid; stops = stops m.0 m.2; fault = m.1 }))
-    by o m = absurd m
+  -- what they come to
+  ends : (e : Ending) (proof : Bytes) → Judged e p f text → IfSome old.files (λ files. Gains p limit files e proof) → Ends p limit old e (says port.Proof proof mid)
+  ends e proof judged gains = record {
+    reaches = rw (judged_late e p f text judged) reached;
+    due = if_some_both old.files h.is_formula h.is_second
+        (λ files r t. inr (record { formula = f; is_formula = r; due = inr (subst (λ (x : Bytes). (length x ≤ limit) × Judged e p f x) t (h.fits, judged)) }));
+    proof = proof;
+    gains = gains;
+    before_is = rw (judged_late e p f text judged) (ap (says port.Proof proof) h.asked);
+  }
+
+  -- the same with nothing on the Proof port, and the answer
+  pub concluded : (e : Ending) (o : Outcome) (new : Seen) → Judged e p f text → ((files : Files) → Gains p limit files e []) → Answers e mid o new → Works p limit old o new
+  concluded e o new judged gains answers =
+      answered p limit old e mid o new (subst (Ends p limit old e) (sym (bare mid)) (ends e [] judged (all_files old.files gains))) answers
+
+  -- want of memory for the judgement
+  pub wanted : Stops p limit old mid
+  wanted = stopped proof_created p limit old mid reached h.asked
+
+-- ---- a log
+
+module _ {n l q : Bytes} {limit : ℕ} {old : Seen} {f : Problem} {text : Bytes} {mid : Seen} (h : Loaded (plan.Elab n l q) limit old f text mid) where
+  -- nothing stands on a Proof port that was given its file
+  pub none_created : HasNoProof mid
+  none_created = subst HasNoProof (sym h.asked) (none_on_created q (asked_to second_started (plan.Elab n l q) old))
+
+  -- the log was judged, its proof written, and the answer
+  pub elaborated : (e : Ending) (at : Seen) (o : Outcome) (new : Seen) → Elaborated f text mid (Ok e) at → Answers e at o new → Works (plan.Elab n l q) limit old o new
+  elaborated e at o new made answers =
+      let left = subst (λ (w : Option Files). IfSome w (λ _. LeftBy e f text made.1.0)) (files_same h) made.1.2 in
+      answered (plan.Elab n l q) limit old e at o new
+      (subst (Ends (plan.Elab n l q) limit old e) (sym made.1.1) (ends h e made.1.0 (made.0 n l q)
+      (if_some_three old.files h.is_formula h.is_second left
+      (λ files read is by. left_gains n l q limit files f e made.1.0 read (subst (λ (x : Bytes). LeftBy e f x made.1.0) is by)))))
+      answers
+
+  -- the log was not judged to its end, or its proof not written
+  pub not_elaborated : (o : Outcome) (new : Seen) → Elaborated f text mid (Err o) new → Works (plan.Elab n l q) limit old o new
+  not_elaborated o new made = by o made
+    where
+      stops : (proof : Bytes) → IfSome mid.files (λ _. IsRightSoFar f proof) → Stops (plan.Elab n l q) limit old (says port.Proof proof mid)
+      stops proof right = record {
+        stage = proof_created;
+        reaches = reached h;
+        proof = proof;
+        so_far = if_some_both old.files h.is_formula (subst (λ (w : Option Files). IfSome w (λ _. IsRightSoFar f proof)) (files_same h) right) (λ files read r. (f, read, r));
+        at_is = ap (says port.Proof proof) h.asked;
+      }
+
+      by : (o : Outcome) → Elaborated f text mid (Err o) new → Works (plan.Elab n l q) limit old o new
+      by outcome.Memory m = subst (Stops (plan.Elab n l q) limit old) (sym m.1) (stops m.0 m.2)
+      by outcome.WriteFault m = inr (inr (record { writes = refl; at = says port.Proof m.0 mid; stops = stops m.0 m.2; fault = m.1 }))
+      by o m = absurd m
 
 -- ---- the message
 
