@@ -3,7 +3,7 @@ use Rattle.std.proofs.Common.{◌≡◌, ◌≢◌, ◌≤◌, ◌&&◌, ℕ, Bo
 use Rattle.std.specs.Prelude.{if◌then◌else◌, option_and_then}
 use Rattle.std.specs.Str.{bytes_eq}
 use Rattle.std.specs.Str.Parse.{digits_value}
-use Rattle.std.proofs.lemmas.Bool.{leb-true}
+use Rattle.std.proofs.lemmas.Bool.{and_parts, both_ways, leb-true, not-true}
 use Rattle.std.proofs.lemmas.Slice.Eq.{bytes_eq-Decides}
 use Rattle.clap.specs.Words.{Row, first_of, subcommand_of}
 use Rattle.cx_desk.specs.Outside.{Bytes}
@@ -28,16 +28,8 @@ followed : {X Y : Type 0} (g : X → Option Y) (o : Option X) (y : Y) → option
 followed g None y e = cc
 followed g (Some x) y e = (x, refl, e)
 
-both : (a b : Bool) → (a && b) ≡ true → (a ≡ true) × (b ≡ true)
-both true b e = (refl, e)
-both false b e = cc
-
-not_true : (b : Bool) → b ≡ true → not b ≡ true → ⊥
-not_true true e h = cc
-not_true false e h = cc
-
 apart_by : (a b : Bytes) → differ a b ≡ true → a ≢ b
-apart_by a b d e = not_true (bytes_eq a b) ((bytes_eq-Decides a b).1 e) d
+apart_by a b d e = both_ways (bytes_eq a b) (not-true _ d) ((bytes_eq-Decides a b).1 e)
 
 -- ---- names
 
@@ -57,8 +49,8 @@ three_apart (Some a) None t n e = cc
 three_apart (Some a) (Some b) None n e = cc
 three_apart (Some a) (Some b) (Some c) n e =
     let p = chosen (differ a b && (differ a c && differ b c)) (a, b, c) n e in
-    let first = both (differ a b) (differ a c && differ b c) p.0 in
-    let second = both (differ a c) (differ b c) first.1 in
+    let first = and_parts (differ a b) (differ a c && differ b c) p.0 in
+    let second = and_parts (differ a c) (differ b c) first.1 in
     subst ThreeApart p.1 (apart_by a b first.0, apart_by a c second.0, apart_by b c second.1)
 
 log_apart : (f l : Option Bytes) (n : Bytes × Option Bytes) → logged f l ≡ Some n → IfSome n.1 (λ x. n.0 ≢ x)
@@ -73,9 +65,9 @@ log_apart (Some a) (Some b) n e =
 in_range : (least most : ℕ) (t : Bytes) (n : ℕ) → number_in least most t ≡ Some n → (least ≤ n) × (n ≤ most)
 in_range least most t n e =
     let c = chosen _ (digits_value 10 t) n e in
-    let after_digits = both _ _ c.0 in
-    let after_length = both _ _ after_digits.1 in
-    let ends = both _ _ after_length.1 in
+    let after_digits = and_parts _ _ c.0 in
+    let after_length = and_parts _ _ after_digits.1 in
+    let ends = and_parts _ _ after_length.1 in
     subst (λ (k : ℕ). (least ≤ k) × (k ≤ most)) c.1 (leb-true least (digits_value 10 t) ends.0, leb-true (digits_value 10 t) most ends.1)
 
 conflicts_in_range : (given : Option Bytes) (n : ℕ) → conflicts_of given ≡ Some n → (1 ≤ n) × (n ≤ 1000000000000000000)

@@ -4,7 +4,7 @@ use Rattle.std.specs.Str.{all_ascii_digits}
 use Rattle.std.specs.Str.Parse.{digits_value, ParsesUnsigned}
 use Rattle.std.proofs.lemmas.Str.Parse.{parse_digits, numerals_by_value, tells_all_ascii_digits}
 use Rattle.std.proofs.lemmas.Bool.Decides.{leb_tells}
-use Rattle.std.proofs.lemmas.Bool.{ltb-true}
+use Rattle.std.proofs.lemmas.Bool.{and_parts, ltb-true}
 use Rattle.std.specs.Prelude.{if◌then◌else◌}
 use Rattle.std.specs.List.{list_all}
 use Rattle.std.specs.Char.{is_ascii_digit}
@@ -21,16 +21,11 @@ off true true false d e = refl
 off true false c d e = refl
 off false b c d e = refl
 
-parts : (a b : Bool) → true ≡ (a && b) → (a ≡ true) × (b ≡ true)
-parts true true e = (refl, refl)
-parts true false e = cc
-parts false b e = cc
-
 -- a number past 64 bits is past every bound
 pub too_great : {E : Type 0} (t : Bytes) (least most : ℕ) (e : E) → most < 2 ^ 64
     → ParsesUnsigned {E = E} 64 10 t (Err e) → true ≡ (list_all is_ascii_digit t && nat_lt 0 (length t)) → None ≡ number_in least most t
 too_great t least most e fits h digits =
-    let two = parts _ _ digits in
+    let two = and_parts _ _ (sym digits) in
     let all : all_ascii_digits t ≡ true = sym (digits_alike t) ∙ two.0 in
     let some : 0 < length t = ltb-true _ _ two.1 in
     let past = parse_digits (numerals_by_value _ tells_all_ascii_digits) 64 t (Err e) h all in

@@ -2,6 +2,7 @@
 use Rattle.std.proofs.Common.{◌≡◌, ◌≢◌, ◌∙◌, ℕ, true, false, List, [], ◌∷◌, ◌++◌, map, Option, Some, None, refl, sym, subst, ap, codes, append_assoc, append-nil}
 use Rattle.std.specs.Prelude.{IfSome, flat_map}
 use Rattle.std.specs.Str.{bytes_eq}
+use Rattle.std.proofs.lemmas.Bool.{or_parts}
 use Rattle.clap.specs.Takes.{is_given}
 use Rattle.clap.specs.Walk.{Row, first_of, has_row}
 use Rattle.cx_desk.specs.Outside.{Bytes}
@@ -13,7 +14,7 @@ use Rattle.cx_words.proofs.Asked.{asks}
 use Rattle.cx_words.proofs.Leaves.{enters_solve, no_defaults, solve_leaf}
 use Rattle.cx_words.proofs.PlainTexts.{apart, formula_plain, name_plain, number_plain, number_read}
 use Rattle.cx_words.proofs.Runs.{Finds, finds_chosen, finds_nothing, finds_placed}
-use Rattle.cx_words.proofs.Uses.{NoFlag, none_in, row}
+use Rattle.cx_words.proofs.Uses.{NoFlag, row}
 
 -- ---- what is found for the arguments
 
@@ -75,7 +76,7 @@ next rows id v (w ∷ rest) h = absurd h
 new_after : (rows : List Row) (id other value : Bytes) → bytes_eq other id ≡ false → has_row id rows ≡ false → has_row id (rows ++ row other value ∷ []) ≡ false
 new_after [] id other value differ new = rw differ refl
 new_after (r ∷ rs) id other value differ new =
-    let two = none_in (bytes_eq r.id id) (has_row id rs) new in
+    let two = or_parts (bytes_eq r.id id) (has_row id rs) new in
     rw (two.0, new_after rs id other value differ two.1) refl
 
 still : (rows : List Row) (id other value : Bytes) (values : List Bytes) → bytes_eq other id ≡ false → Awaits rows id values → Awaits (rows ++ row other value ∷ []) id values

@@ -2,31 +2,23 @@
 use Rattle.std.proofs.Common.{◌≡◌, ◌≢◌, ◌==◌, ◌&&◌, ℕ, Bool, true, false, not, nat_lt, [], ◌∷◌, length, Some, inl, inr, refl, sym, subst, arith}
 use Rattle.std.specs.Str.{bytes_eq}
 use Rattle.std.specs.Char.{is_ascii_digit}
-use Rattle.std.proofs.lemmas.Bool.{false_from_ne_true, eqb-true, le-leb}
+use Rattle.std.proofs.lemmas.Bool.{and_parts, false_from_ne_true, not-true, eqb-true, le-leb}
 use Rattle.std.proofs.lemmas.Slice.Eq.{bytes_eq-Decides}
 use Rattle.cx_desk.specs.Outside.{Bytes}
 use Rattle.cx_words.specs.Given.{number_in}
 use Rattle.cx_words.specs.PlainWords.{IsFormulaName, IsName, Spells, SpellsWithin}
 use Rattle.cx_words.proofs.Uses.{NoFlag}
 
-undash : (b : Bool) → not b ≡ true → b ≡ false
-undash true e = cc
-undash false e = refl
-
 pub no_dash : (b : ℕ) (rest : Bytes) → (b == 45) ≡ false → NoFlag (b ∷ rest)
 no_dash b rest e = record { long = rw e refl; short = rw e refl; dashes = rw e refl }
 
 pub name_plain : (name : Bytes) → IsName name → NoFlag name
 name_plain [] h = cc
-name_plain (b ∷ rest) h = no_dash b rest (undash _ h)
+name_plain (b ∷ rest) h = no_dash b rest (not-true _ h)
 
 pub formula_plain : (name : Bytes) → IsFormulaName name → NoFlag name
 formula_plain name (inl h) = name_plain name h
 formula_plain name (inr e) = subst NoFlag (sym e) (record { long = refl; short = refl; dashes = refl })
-
-both : (a b : Bool) → (a && b) ≡ true → (a ≡ true) × (b ≡ true)
-both true b e = (refl, e)
-both false b e = cc
 
 digit_no_dash : (b : ℕ) → is_ascii_digit b ≡ true → (b == 45) ≡ false
 digit_no_dash b digit = false_from_ne_true (b == 45) (λ e.
@@ -35,7 +27,7 @@ digit_no_dash b digit = false_from_ne_true (b == 45) (λ e.
 
 pub number_plain : (text : Bytes) (number : ℕ) → Spells text number → NoFlag text
 number_plain [] number h = absurd (h.some refl)
-number_plain (b ∷ rest) number h = no_dash b rest (digit_no_dash b (both (is_ascii_digit b) _ h.digits).0)
+number_plain (b ∷ rest) number h = no_dash b rest (digit_no_dash b (and_parts (is_ascii_digit b) _ h.digits).0)
 
 some_bytes : (text : Bytes) → text ≢ [] → nat_lt 0 (length text) ≡ true
 some_bytes [] h = absurd (h refl)

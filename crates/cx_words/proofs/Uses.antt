@@ -1,6 +1,8 @@
 -- One argument with one value: what a walk makes of its words.
 use Rattle.std.proofs.Common.{◌≡◌, ◌||◌, ◌&&◌, ◌+◌, ℕ, Bool, List, [], ◌∷◌, ◌++◌, Some, None, Option, false, true, refl, append-nil}
 use Rattle.std.specs.Prelude.{min}
+use Rattle.std.proofs.lemmas.Bool.{or_parts}
+use Rattle.std.proofs.Math.Bool.{and-false}
 use Rattle.std.specs.Str.{bytes_eq}
 use Rattle.clap.specs.Lexer.{long_of, short_of, usize_max}
 use Rattle.clap.specs.Walk.{Held, Row, Rule, Walk, Waiting, walked, idle, option, at_row, has_row, more_values, settled_rows, arg_by_id, arg_by_index, arg_by_long}
@@ -43,14 +45,10 @@ holding rows pending = record { rows = rows; pending = pending; skip = 0 }
 abbrev pub at : List Row → Pending → Waiting → ℕ → Walk
 at rows pending waiting place = record { held = holding rows pending; waiting = waiting; position = place; is_trailing = false; stopped = None }
 
-pub none_in : (a b : Bool) → (a || b) ≡ false → (a ≡ false) × (b ≡ false)
-none_in true b e = cc
-none_in false b e = (refl, e)
-
 at_new_row : (id : Bytes) (change : Row → List Row) (missing rows : List Row) → has_row id rows ≡ false → at_row id change missing rows ≡ rows ++ missing
 at_new_row id change missing [] none = refl
 at_new_row id change missing (r ∷ rs) none =
-    let two = none_in (bytes_eq r.id id) (has_row id rs) none in
+    let two = or_parts (bytes_eq r.id id) (has_row id rs) none in
     rw (two.0, at_new_row id change missing rs two.1) refl
 
 -- a first value makes a new row, and is no fault
@@ -76,10 +74,6 @@ pub record Turn (s : Shape) (from : Walk) (word : Bytes) (to : Walk) : Type 0 wh
   pub met : walked s.rules [] from word ≡ to
   pub fine : turn_fault s [] from word ≡ []
 
-and_false : (b : Bool) → (b && false) ≡ false
-and_false true = refl
-and_false false = refl
-
 -- a value in its place
 pub place_met : (s : Shape) (rows : List Row) (pending : Pending) (id : Bytes) (place : ℕ) (word : Bytes)
     → arg_by_index s.rules place ≡ Some (placed id place) → NoFlag word → settle_fault s.rules false (holding rows pending) ≡ [] → s.args_override_self ≡ false
@@ -90,8 +84,8 @@ place_met s rows None id place word known plain fine once = record {
   fine = rw (plain.dashes, plain.long, plain.short, known) refl;
 }
 place_met s rows (Some p) id place word known plain fine once = record {
-  met = rw (plain.dashes, plain.long, plain.short, known, and_false (bytes_eq p.0 id)) refl;
-  fine = rw (plain.dashes, plain.long, plain.short, known, and_false (bytes_eq p.0 id), once) fine;
+  met = rw (plain.dashes, plain.long, plain.short, known, and-false (bytes_eq p.0 id)) refl;
+  fine = rw (plain.dashes, plain.long, plain.short, known, and-false (bytes_eq p.0 id), once) fine;
 }
 
 -- the name of an option

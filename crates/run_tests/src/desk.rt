@@ -1,12 +1,51 @@
-//! A desk with two files, and a run over it.
-ghost use Rattle.std.specs.Prelude.{◌≤◌, IfOk};
-ghost use Rattle.cx_desk.specs.Memory.{outside_of};
-ghost use Rattle.solve_cli.specs.Commands.{Unasked};
+//! Runs of the program, each over a desk of its own with two files.
+ghost use Rattle.std.specs.Prelude.{◌≤◌};
 
 use cx_desk::{MemDesk, NamedFile, Port, Rooms};
 use solve_cli::run_within;
 use std::alloc::{AllocError, Global};
 use std::process::Abort;
+
+/// The most bytes that the ports take, that one call moves, and that a text may have.
+#[derive(Clone, Copy, Drop)]
+pub struct Bounds {
+    pub answer: usize,
+    pub proof: usize,
+    pub piece: usize,
+    pub limit: u32,
+}
+
+/// Room for all that these tests read and write, in pieces that cut lines and words.
+pub const AMPLE: Bounds = Bounds {
+    answer: 10_000,
+    proof: 10_000,
+    piece: 7,
+    limit: u32::MAX,
+};
+
+/// What a run came to: its status, and the desk that it leaves.
+#[derive(Drop)]
+pub struct Ended {
+    pub status: u8,
+    desk: MemDesk,
+}
+
+impl Ended {
+    /// What stands on the Answer port.
+    pub fn answer(&self) -> &[u8] {
+        self.desk.written(Port::Answer)
+    }
+
+    /// What stands on the Proof port.
+    pub fn proof(&self) -> &[u8] {
+        self.desk.written(Port::Proof)
+    }
+
+    /// What stands on the Message port.
+    pub fn message(&self) -> &[u8] {
+        self.desk.written(Port::Message)
+    }
+}
 
 /// A file of this text.
 fn file(alloc: Global, name: &str, text: &[u8]) -> Result<NamedFile, AllocError> {
@@ -16,46 +55,8 @@ fn file(alloc: Global, name: &str, text: &[u8]) -> Result<NamedFile, AllocError>
     })
 }
 
-/// A desk with the files `f` and `s`, this room for an answer, ample room else, and pieces of this
-/// size.
-pub fn two_files(
-    alloc: Global,
-    formula: &[u8],
-    second: &[u8],
-    answer_room: usize,
-    piece: usize,
-) -> Result<MemDesk, AllocError>
-    requires { 1 ≤ piece }
-    ensures { IfOk result (λ m. Unasked (outside_of m).asked) }
-{
-    desk_with(alloc, formula, second, answer_room, 1000, piece)
-}
-
-/// The same with this room for a proof.
-pub fn desk_with(
-    alloc: Global,
-    formula: &[u8],
-    second: &[u8],
-    answer_room: usize,
-    proof_room: usize,
-    piece: usize,
-) -> Result<MemDesk, AllocError>
-    requires { 1 ≤ piece }
-    ensures { IfOk result (λ m. Unasked (outside_of m).asked) }
-{
-    let mut files = Vec::new(alloc);
-    files.push(file(alloc, "f", formula)?)?;
-    files.push(file(alloc, "s", second)?)?;
-    let rooms = Rooms {
-        answer: answer_room,
-        proof: proof_room,
-        message: 1000,
-    };
-    MemDesk::make(alloc, files, rooms, piece, Vec::new(alloc))
-}
-
 /// The words of a command line.
-pub fn words_of(alloc: Global, line: &[&str]) -> Result<Vec<String>, AllocError> {
+fn words_of(alloc: Global, line: &[&str]) -> Result<Vec<String>, AllocError> {
     let mut words = Vec::new(alloc);
     for word in line {
         words.push(String::from_str(alloc, word)?)?;
@@ -63,51 +64,33 @@ pub fn words_of(alloc: Global, line: &[&str]) -> Result<Vec<String>, AllocError>
     Ok(words)
 }
 
-/// What a run is to end with.
-#[derive(Clone, Copy, Drop)]
-pub struct Expected<'a> {
-    pub status: u8,
-    pub answer: &'a str,
-    pub message: &'a str,
-}
-
-/// Runs `check f s`, or another command of two texts, within the limit, and compares what it ends
-/// with.
-pub fn expect_within(
-    rt: &impl Abort,
+/// Runs a command line, from the program's name on, over the files `f` and `s`.
+pub fn run(
     alloc: Global,
-    command: &str,
     formula: &str,
-    second: &str,
-    limit: u64,
-    expected: &Expected<'_>,
-) -> Result<(), AllocError>
-    requires { limit ≤ 4294967295 }
+    second: &[u8],
+    line: &[&str],
+    bounds: Bounds,
+) -> Result<Ended, AllocError>
+    requires { 1 ≤ bounds.piece }
 {
-    let mut desk = two_files(alloc, formula.as_bytes(), second.as_bytes(), 1000, 4096)?;
-    let line = words_of(alloc, ["cxsat", command, "f", "s"].as_slice())?;
-    let status = run_within(alloc, line, limit, &mut desk).code();
-    assert!(rt;
-        status == expected.status,
-        "{formula} {second}: status {status}"
-    );
-    assert!(rt;
-        desk.written(Port::Answer) == expected.answer.as_bytes(),
-        "{formula} {second}: answer"
-    );
-    assert!(rt;
-        desk.written(Port::Message) == expected.message.as_bytes(),
-        "{formula} {second}: message"
-    );
-    assert!(rt;
-        desk.written(Port::Proof).is_empty(),
-        "{formula} {second}: proof"
-    );
-    Ok(())
+    let mut files = Vec::new(alloc);
+    files.push(file(alloc, "f", formula.as_bytes())?)?;
+    files.push(file(alloc, "s", second)?)?;
+    let rooms = Rooms {
+        answer: bounds.answer,
+        proof: bounds.proof,
+        message: 1000,
+    };
+    let mut desk = MemDesk::make(alloc, files, rooms, bounds.piece, Vec::new(alloc))?;
+    let words = words_of(alloc, line)?;
+    let status = run_within(alloc, words, u64::from(bounds.limit), &mut desk).code();
+    Ok(Ended { status, desk })
 }
 
-/// The same with ample room for both texts.
-pub fn expect_run(
+/// Runs a command of the texts `f` and `s`, which is to end with this status and this answer, and
+/// to write nothing else.
+pub fn expect(
     rt: &impl Abort,
     alloc: Global,
     command: &str,
@@ -116,18 +99,18 @@ pub fn expect_run(
     status: u8,
     answer: &str,
 ) -> Result<(), AllocError> {
-    let expected = Expected {
-        status,
-        answer,
-        message: "",
-    };
-    expect_within(
-        rt,
-        alloc,
-        command,
-        formula,
-        second,
-        4_294_967_295,
-        &expected,
-    )
+    let line = ["cxsat", command, "f", "s"];
+    let run = run(alloc, formula, second.as_bytes(), line.as_slice(), AMPLE)?;
+    assert!(rt;
+        run.status == status,
+        "{formula}{second}: status {}",
+        run.status
+    );
+    assert!(rt;
+        run.answer() == answer.as_bytes(),
+        "{formula}{second}: answer"
+    );
+    assert!(rt; run.message().is_empty(), "{formula}{second}: message");
+    assert!(rt; run.proof().is_empty(), "{formula}{second}: proof");
+    Ok(())
 }

@@ -8,6 +8,10 @@ mod desk;
 #[cfg(test)]
 mod elab;
 #[cfg(test)]
+mod flow;
+#[cfg(test)]
+mod formulas;
+#[cfg(test)]
 mod model;
 #[cfg(test)]
 mod refusals;

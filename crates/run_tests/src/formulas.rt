@@ -1,0 +1,10 @@
+//! Formulas that more than one test runs over.
+
+/// Three parities that no values meet together.
+pub const TRIANGLE: &str = "p cnf 3 3\nx1 2 0\nx2 3 0\nx1 3 0\n";
+
+/// The four clauses over two variables.
+pub const SQUARE: &str = "p cnf 2 4\n1 2 0\n-1 2 0\n1 -2 0\n-1 -2 0\n";
+
+/// The empty clause.
+pub const EMPTY: &str = "p cnf 1 1\n0\n";
