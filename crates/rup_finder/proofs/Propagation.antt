@@ -256,16 +256,10 @@ none_differs : (l : Literal) (ms : List Literal) → list_all (same_literal l) m
 none_differs l [] h = refl
 none_differs l (m ∷ ms) h = let p = and_parts (same_literal l m) (list_all (same_literal l) ms) h in ap (λ b. not b || list_any (λ k. not (same_literal l k)) ms) p.0 ∙ none_differs l ms p.1
 
-no_pair_differs : (l : Literal) (xs clause : List Literal) → list_all (same_literal l) xs ≡ true → list_all (same_literal l) clause ≡ true → list_any (λ x. list_any (λ m. not (same_literal x m)) clause) xs ≡ false
-no_pair_differs l [] clause h k = refl
-no_pair_differs l (x ∷ xs) clause h k =
-    let p = and_parts (same_literal l x) (list_all (same_literal l) xs) h in
-    or_false (list_any (λ m. not (same_literal x m)) clause) _ (ap (λ y. list_any (λ m. not (same_literal y m)) clause) (sym (are_one l x p.0)) ∙ none_differs l clause k) (no_pair_differs l xs clause p.1 k)
-
 wide_is_more : (clause : List Literal) → is_wide clause ≡ true → count_left clause ≡ more
 wide_is_more [] h = absurd (true≢false (sym h))
 wide_is_more (l ∷ lits) h = elim (list_all (same_literal l) lits) as (λ b. list_all (same_literal l) lits ≡ b → cond b (one l) more ≡ more) [
-  | true ↦ λ e. let all : list_all (same_literal l) (l ∷ lits) ≡ true = and_both _ _ (same_literal-itself l) e in absurd (true≢false (sym h ∙ no_pair_differs l (l ∷ lits) (l ∷ lits) all all))
+  | true ↦ λ e. absurd (true≢false (sym h ∙ none_differs l lits e))
   | false ↦ λ _. refl
 ] refl
 
