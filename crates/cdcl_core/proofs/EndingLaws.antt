@@ -13,7 +13,7 @@ use Rattle.cx_semantics.specs.LogRules.{HasChain}
 use Rattle.cx_semantics.specs.Marked.{Marked}
 use Rattle.conflict_learn.specs.declared.fault.CoreFault.{CoreFault}
 use Rattle.parity_engine.specs.State.{State}
-use Rattle.search_steps.specs.LogSteps.{IsAddition, IsEnded, RestOnClauses}
+use Rattle.search_steps.specs.LogSteps.{IsEnded, RestOnClauses}
 use Rattle.search_steps.specs.Quiet.{IsOfParities}
 use Rattle.search_steps.specs.Tied.{IsLiveSet}
 use Rattle.search_steps.specs.Trail.{Entry, all_held}
@@ -21,8 +21,10 @@ use Rattle.search_steps.proofs.Ends.{ended_is_unmet, chained_clause_ends, chaine
 use Rattle.search_steps.proofs.IdLaws.{next_is_free}
 use Rattle.search_steps.proofs.LogLaws.{falsified_has_chain}
 use Rattle.search_steps.proofs.Stored.{has_of, stored_is_false}
+use Rattle.search_steps.specs.Search.{Search}
+use Rattle.search_steps.specs.Holding.{AreTold}
 use Rattle.cdcl_core.specs.declared.kept.Kept.{Kept}
-use Rattle.cdcl_core.specs.Concluding.{EndsLog, IsEndedWith}
+use Rattle.cdcl_core.specs.Concluding.{EndsLog, IsEndedWith, IsContradicted, IsRefutable}
 use Rattle.cdcl_core.specs.Results.{Refutes, IsEndedWithin}
 use Rattle.cdcl_core.specs.Sources.{IsConflict}
 use Rattle.cdcl_core.specs.Tells.{TellsAll, GivesUp, IsLeft, as_events, with_events}
@@ -51,7 +53,44 @@ module _ (formula : Problem) (marks : ℕ) (old : Option (List LogEvent)) (steps
   ending_gives_up (Ok done) tells = tt
   ending_gives_up (Err fault) tells = gives_up formula torn (as_events steps) old new fault tells (λ i less. ends.fronts i (let long = as_many steps in omega (arith, long, less)))
 
--- ---- the empty clause
+-- ---- the empty clause is told
+module _ (formula : Problem) (id marks : ℕ) (old : Option (List LogEvent)) (shown : IsRefutable formula id marks old) (hints : List ℤ) where
+  abbrev step : LogStep
+  step = ClauseWithHints id [] hints
+
+  abbrev s : Search
+  s = shown.1.0
+
+  abbrev k : IsContradicted formula id marks s
+  k = shown.1.2
+
+  ended : IsEnded formula (s.events ++ Step step ∷ [])
+  ended = chained_clause_ends formula (parities_of formula.constraints) s k.search id [] hints (record { within = refl; free = k.free }) k.chain refl
+
+  is_marked : Marked formula (s.events ++ Step step ∷ []) marks
+  is_marked = subst (Marked formula (s.events ++ Step step ∷ [])) k.conflicts (chained_clause_is_marked formula (parities_of formula.constraints) s k.search id [] hints k.served refl)
+
+  log_then : (o : Option (List LogEvent)) → AreTold o s.events → IsEndedWithin formula (marks + 1) (with_events (Step step ∷ []) o)
+  log_then None a = tt
+  log_then (Some es) a = subst (λ xs. IsEnded formula (xs ++ Step step ∷ []) × ((n : ℕ) × (n < marks + 1) × Marked formula (xs ++ Step step ∷ []) n)) (sym a) (ended, (marks, omega arith, is_marked))
+
+  module _ (torn : LogEvent → Type 0) (new : Option (List LogEvent)) where
+    pub told_refutes : (r : Result (Unit {0}) CoreFault) → TellsAll torn (Step step ∷ []) old r new → OnOk r (Refutes formula (marks + 1) new)
+    told_refutes (Ok done) tells = record { unmet = ended_is_unmet formula (s.events ++ Step step ∷ []) ended; log = subst (IsEndedWithin formula (marks + 1)) (sym tells) (log_then old shown.1.1) }
+    told_refutes (Err fault) tells = tt
+
+    front : (i : ℕ) → i < 1 → IsLeft formula (with_events (take i (Step step ∷ [])) old)
+    front zero less = subst (IsLeft formula) (sym (no_more old)) (is_left formula (parities_of formula.constraints) s old k.search k.served shown.1.1)
+    front (suc i) less = absurd (omega (arith, less))
+
+    pub told_gives_up : (r : Result (Unit {0}) CoreFault) → TellsAll torn (Step step ∷ []) old r new → IfErr r (λ f. GivesUp formula torn new f)
+    told_gives_up (Ok done) tells = tt
+    told_gives_up (Err fault) tells = gives_up formula torn (Step step ∷ []) old new fault tells (λ i less. front i less)
+
+pub refutable_is_left : (formula : Problem) (id marks : ℕ) (old : Option (List LogEvent)) → IsRefutable formula id marks old → IsLeft formula old
+refutable_is_left formula id marks old shown = is_left formula (parities_of formula.constraints) shown.1.0 old shown.1.2.search shown.1.2.served shown.1.1
+
+-- ---- a conflict at level 0
 pub no_newer : (newer older es : List Entry) → es ≡ newer ++ older → length older ≡ length es → older ≡ es
 no_newer [] older es is long = sym is
 no_newer (x ∷ newer) older es is long = absurd (let a = ap length is in let b = length-append newer older in omega (arith, a, b, long))
@@ -60,10 +99,7 @@ module _ (formula : Problem) (c : Kept) (e : State) (rows : List (List Literal))
   pub conflict_is_low : All (λ m. m.variable ≤ c.trail.variables) lits
   conflict_is_low = false_are_low c.trail st.3.follows.sound lits conflict.all_false
 
-  module _ (every : length c.units.items ≡ length c.trail.entries) (room : c.next < first_row_id) (hints : List ℤ) where
-    abbrev step : LogStep
-    step = ClauseWithHints c.next [] hints
-
+  module _ (every : length c.units.items ≡ length c.trail.entries) (room : c.next < first_row_id) where
     rest : RestOnClauses st.0.trail
     rest = subst RestOnClauses (no_newer st.3.units.newer st.3.units.older st.0.trail st.3.units.parts
         (let long = tied_length st.0.trail c.trail.entries st.3.follows.tied in let count = st.3.units.count in omega (arith, long, count, every))) st.3.units.rest
@@ -77,29 +113,19 @@ module _ (formula : Problem) (c : Kept) (e : State) (rows : List (List Literal))
     chain : HasChain st.0.moment.tables.clauses []
     chain = falsified_has_chain st.0.moment.tables.clauses (IsOfParities formula.variables (parities_of formula.constraints)) st.0.trail st.1.serves.stands rest live.0 live.1 all_false
 
-    addition : IsAddition formula st.0.moment.tables.clauses c.next []
-    addition = record { within = refl; free = next_is_free formula first_row_id c.next (first_row_id + length rows) st.0 st.3.ranged room }
-
-    ended : IsEnded formula (st.0.events ++ Step step ∷ [])
-    ended = chained_clause_ends formula (parities_of formula.constraints) st.0 st.1 c.next [] hints addition chain refl
-
-    is_marked : Marked formula (st.0.events ++ Step step ∷ []) c.conflicts
-    is_marked = subst (Marked formula (st.0.events ++ Step step ∷ [])) st.3.conflicts
-        (chained_clause_is_marked formula (parities_of formula.constraints) st.0 st.1 c.next [] hints st.3.served.served refl)
-
-    log_then : (o : Option (List LogEvent)) → Rattle.search_steps.specs.Holding.AreTold o st.0.events → IsEndedWithin formula (c.conflicts + 1) (with_events (Step step ∷ []) o)
-    log_then None a = tt
-    log_then (Some es) a = subst (λ xs. IsEnded formula (xs ++ Step step ∷ []) × ((n : ℕ) × (n < c.conflicts + 1) × Marked formula (xs ++ Step step ∷ []) n)) (sym a) (ended, (c.conflicts, omega arith, is_marked))
-
-    module _ (torn : LogEvent → Type 0) (new : Option (List LogEvent)) where
-      pub clause_refutes : (r : Result (Unit {0}) CoreFault) → TellsAll torn (Step step ∷ []) old r new → OnOk r (Refutes formula (c.conflicts + 1) new)
-      clause_refutes (Ok done) tells = record { unmet = ended_is_unmet formula (st.0.events ++ Step step ∷ []) ended; log = subst (IsEndedWithin formula (c.conflicts + 1)) (sym tells) (log_then old st.2) }
-      clause_refutes (Err fault) tells = tt
-
-      front : (i : ℕ) → i < 1 → IsLeft formula (with_events (take i (Step step ∷ [])) old)
-      front zero less = subst (IsLeft formula) (sym (no_more old)) (is_left formula (parities_of formula.constraints) st.0 old st.1 st.3.served.served st.2)
-      front (suc i) less = absurd (omega (arith, less))
-
-      pub clause_gives_up : (r : Result (Unit {0}) CoreFault) → TellsAll torn (Step step ∷ []) old r new → IfErr r (λ f. GivesUp formula torn new f)
-      clause_gives_up (Ok done) tells = tt
-      clause_gives_up (Err fault) tells = gives_up formula torn (Step step ∷ []) old new fault tells (λ i less. front i less)
+    -- each literal of the conflict's clause is false at level 0
+    pub conflict_is_refutable : IsRefutable formula c.next c.conflicts old
+    conflict_is_refutable = (
+      (let low = st.3.ranged.originals in omega (arith, low), omega (arith, room)),
+      (
+        st.0,
+        st.2,
+        record {
+          search = st.1;
+          chain = chain;
+          free = next_is_free formula first_row_id c.next (first_row_id + length rows) st.0 st.3.ranged room;
+          served = st.3.served.served;
+          conflicts = st.3.conflicts;
+        },
+      ),
+    )

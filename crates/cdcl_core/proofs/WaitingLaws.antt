@@ -1,6 +1,5 @@
 -- Unit clauses of the formula come onto the trail, one after another, and what stands when none waits.
-use Rattle.std.proofs.Common.{◌≡◌, ◌≢◌, refl, sym, ap, ◌∙◌, subst, ℕ, zero, suc, ◌+◌, ◌-◌, ◌<◌, ◌≤◌, ℤ, nat_lt, true, cond, List, [], ◌∷◌, ◌++◌, length, take, drop, drop-cons, get_or, Option, Some, None, ◌⊎◌, inl, inr, Result, Ok, Err, IfErr, Contains, arith, length-append, true≢false, append-nil}
-use Rattle.std.specs.Prelude.{OnOk}
+use Rattle.std.proofs.Common.{◌≡◌, ◌≢◌, refl, sym, ap, ◌∙◌, subst, ℕ, zero, suc, ◌+◌, ◌-◌, ◌<◌, ◌≤◌, nat_lt, true, cond, List, [], ◌∷◌, ◌++◌, length, drop, drop-cons, get_or, Option, Some, None, ◌⊎◌, inl, inr, Contains, arith, length-append, true≢false, append-nil}
 use Rattle.std.proofs.lemmas.Bool.{le-leb, ltb-true, ltb-false}
 use Rattle.std.proofs.lemmas.List.{length-replicate, length_push}
 use Rattle.std.proofs.Math.ListN.{get_or-append}
@@ -9,27 +8,21 @@ use Rattle.std.specs.List.{AllByRecursion}
 use Rattle.std.specs.Global.{Vec}
 use Rattle.cx_base.specs.Literals.{Literal, same_literal}
 use Rattle.cx_base.specs.Problem.{Problem, clauses_of, parities_of, IsWithinVariables}
-use Rattle.cx_semantics.specs.declared.steps.LogStep.{LogStep}
-use Rattle.cx_semantics.specs.declared.steps.LogStep.TheVariants.{ClauseWithHints}
 use Rattle.cx_semantics.specs.declared.steps.LogEvent.{LogEvent}
-use Rattle.cx_semantics.specs.declared.steps.LogEvent.TheVariants.{Step}
 use Rattle.cx_semantics.specs.Chain.{has_literal, is_inside, same_literals}
-use Rattle.cx_semantics.specs.Marked.{Marked}
 use Rattle.cx_semantics.specs.Tables.{Table, get}
 use Rattle.cx_semantics.proofs.ChainLaws.{and_parts, same_literal-itself}
 use Rattle.cx_semantics.proofs.Closure.{has_by_inside}
 use Rattle.cx_trail.specs.declared.entry.Entry.{Entry as TrailEntry}
 use Rattle.cx_trail.specs.declared.entry.Reason.{Reason}
 use Rattle.cx_trail.specs.Sequence.{TrailState, IsTrail, IsTrueIn, IsFalseIn, IsOpenIn, entry_at, pushed}
-use Rattle.conflict_learn.specs.declared.fault.CoreFault.{CoreFault}
 use Rattle.parity_engine.specs.declared.state.Mood.TheVariants.{Busy, Broken}
 use Rattle.parity_engine.specs.State.{State, fresh}
 use Rattle.clause_arena.specs.Clauses.{id_at}
 use Rattle.watch_lists.proofs.EventLaws.{fits_pushed}
 use Rattle.search_steps.specs.Engine.{HoldsValues}
-use Rattle.search_steps.specs.Holding.{AreTold}
 use Rattle.search_steps.specs.Ids.{IsRanged}
-use Rattle.search_steps.specs.LogSteps.{IsEnded, RestOnClauses}
+use Rattle.search_steps.specs.LogSteps.{RestOnClauses}
 use Rattle.search_steps.specs.Quiet.{HasTrue, IsOfParities}
 use Rattle.search_steps.specs.Search.{Search, IsSearch, forced_on}
 use Rattle.search_steps.specs.Tied.{IsTied, ForcesOn}
@@ -37,7 +30,6 @@ use Rattle.search_steps.specs.Trail.{Entry, by_clause, held, level_of}
 use Rattle.search_steps.proofs.Bridge.{entry_last, entry_before, to_held, level_tied}
 use Rattle.search_steps.proofs.CodeSteps.{clause_step_keeps}
 use Rattle.search_steps.proofs.EngineLaws.{fresh_holds}
-use Rattle.search_steps.proofs.Ends.{ended_is_unmet, chained_clause_ends, chained_clause_is_marked}
 use Rattle.search_steps.proofs.IdLaws.{begun_is_ranged, begun_has_free_sums, force_ranged, next_is_free}
 use Rattle.search_steps.proofs.LogLaws.{falsified_has_chain}
 use Rattle.search_steps.proofs.Sets.{by_cases, not_both, has_at_head, has_split}
@@ -47,54 +39,16 @@ use Rattle.cdcl_core.specs.declared.kept.Kept.{Kept}
 use Rattle.cdcl_core.specs.declared.filling.Single.{Single}
 use Rattle.cdcl_core.specs.Filling.{IsFilled, clause_number}
 use Rattle.cdcl_core.specs.Originals.{HasBegun}
-use Rattle.cdcl_core.specs.Results.{Refutes, IsEndedWithin}
-use Rattle.cdcl_core.specs.Tells.{TellsAll, GivesUp, IsLeft, with_events}
+use Rattle.cdcl_core.specs.Tells.{IsLeft}
 use Rattle.cdcl_core.specs.Ties.{IsNamedBy, IsCovered, AreClauses, AreUnits, IsFed, Stands, first_row_id}
-use Rattle.cdcl_core.specs.Waiting.{TiesBut, StandsBut, IsWaiting, IsSingle, IsContradicted, IsRefutable}
+use Rattle.cdcl_core.specs.Waiting.{TiesBut, StandsBut, IsWaiting, IsSingle}
 use Rattle.cdcl_core.proofs.EndingLaws.{no_newer}
-use Rattle.cdcl_core.proofs.Events.{no_more, gives_up}
 use Rattle.cdcl_core.proofs.Growing.{covered_grows, stand_grows}
 use Rattle.cdcl_core.proofs.OriginalLaws.{few_clauses}
 use Rattle.cdcl_core.proofs.Places.{tied_length}
 use Rattle.cdcl_core.proofs.RowSteps.{is_left}
 use Rattle.cdcl_core.proofs.TableLaws.{no_clause}
-
--- ---- the empty clause is told
-module _ (formula : Problem) (id : ℕ) (old : Option (List LogEvent)) (shown : IsRefutable formula id old) (hints : List ℤ) where
-  abbrev step : LogStep
-  step = ClauseWithHints id [] hints
-
-  abbrev s : Search
-  s = shown.1.0
-
-  abbrev k : IsContradicted formula id s
-  k = shown.1.2
-
-  ended : IsEnded formula (s.events ++ Step step ∷ [])
-  ended = chained_clause_ends formula (parities_of formula.constraints) s k.search id [] hints (record { within = refl; free = k.free }) k.chain refl
-
-  is_marked : Marked formula (s.events ++ Step step ∷ []) 0
-  is_marked = subst (Marked formula (s.events ++ Step step ∷ [])) k.no_conflict (chained_clause_is_marked formula (parities_of formula.constraints) s k.search id [] hints k.served refl)
-
-  log_then : (o : Option (List LogEvent)) → AreTold o s.events → IsEndedWithin formula 1 (with_events (Step step ∷ []) o)
-  log_then None a = tt
-  log_then (Some es) a = subst (λ xs. IsEnded formula (xs ++ Step step ∷ []) × ((n : ℕ) × (n < 1) × Marked formula (xs ++ Step step ∷ []) n)) (sym a) (ended, (0, omega arith, is_marked))
-
-  module _ (torn : LogEvent → Type 0) (new : Option (List LogEvent)) where
-    pub told_refutes : (r : Result (Unit {0}) CoreFault) → TellsAll torn (Step step ∷ []) old r new → OnOk r (Refutes formula 1 new)
-    told_refutes (Ok done) tells = record { unmet = ended_is_unmet formula (s.events ++ Step step ∷ []) ended; log = subst (IsEndedWithin formula 1) (sym tells) (log_then old shown.1.1) }
-    told_refutes (Err fault) tells = tt
-
-    front : (i : ℕ) → i < 1 → IsLeft formula (with_events (take i (Step step ∷ [])) old)
-    front zero less = subst (IsLeft formula) (sym (no_more old)) (is_left formula (parities_of formula.constraints) s old k.search k.served shown.1.1)
-    front (suc i) less = absurd (omega (arith, less))
-
-    pub told_gives_up : (r : Result (Unit {0}) CoreFault) → TellsAll torn (Step step ∷ []) old r new → IfErr r (λ f. GivesUp formula torn new f)
-    told_gives_up (Ok done) tells = tt
-    told_gives_up (Err fault) tells = gives_up formula torn (Step step ∷ []) old new fault tells (λ i less. front i less)
-
-pub refutable_is_left : (formula : Problem) (id : ℕ) (old : Option (List LogEvent)) → IsRefutable formula id old → IsLeft formula old
-refutable_is_left formula id old shown = is_left formula (parities_of formula.constraints) shown.1.0 old shown.1.2.search shown.1.2.served shown.1.1
+use Rattle.cdcl_core.specs.Concluding.{IsRefutable}
 
 pub waiting_is_left : (formula : Problem) (c : Kept) (waiting : List Single) (old : Option (List LogEvent)) → StandsBut formula c waiting old → IsLeft formula old
 waiting_is_left formula c waiting old st = is_left formula (parities_of formula.constraints) st.0 old st.1 st.3.served.served st.2
@@ -255,7 +209,7 @@ module _ (formula : Problem) (c : Kept) (u : Single) (more : List Single) (old :
   )
 
   -- its literal is false
-  pub false_is_refutable : IsFalseIn c.trail.entries u.literal → IsRefutable formula c.next old
+  pub false_is_refutable : IsFalseIn c.trail.entries u.literal → IsRefutable formula c.next c.conflicts old
   false_is_refutable h = (
     (let next = ties.next in omega (arith, next), let room = ties.room in omega (arith, room)),
     (
@@ -267,7 +221,7 @@ module _ (formula : Problem) (c : Kept) (u : Single) (more : List Single) (old :
             (stored_is_false (u.literal ∷ []) clause single.0.same search.trail c.trail.entries ties.follows.tied (one_is_false c.trail.entries u.literal h));
         free = next_is_free formula first_row_id c.next first_row_id search ties.ranged ties.room;
         served = ties.served.served;
-        no_conflict = ties.no_conflict;
+        conflicts = ties.no_conflict ∙ sym ties.conflicts;
       },
     ),
   )
@@ -409,7 +363,7 @@ module _ (formula : Problem) (few : length formula.constraints ≤ 4294967295) (
   )
 
   -- a clause without literals
-  pub empty_is_refutable : (number : ℕ) → IsFilled formula c units (Some number) → IsRefutable formula c.next told
+  pub empty_is_refutable : (number : ℕ) → IsFilled formula c units (Some number) → IsRefutable formula c.next c.conflicts told
   empty_is_refutable number f = (
     (let next = f.next in omega (arith, next), let r = room_then in let next = f.next in omega (arith, next, r)),
     (
@@ -420,7 +374,7 @@ module _ (formula : Problem) (few : length formula.constraints ≤ 4294967295) (
         chain = falsified_has_chain b.0.moment.tables.clauses (IsOfParities formula.variables (parities_of formula.constraints)) [] tt tt [] (number, b.2.numbered number f.empty_is.0 f.empty_is.1 ∙ ap Some f.empty_is.2) refl;
         free = ap (get b.0.moment.tables.clauses) f.next ∙ b.1.clauses.free (length (clauses_of formula.constraints) + 1) (omega arith);
         served = b.1.tidy.served;
-        no_conflict = b.1.no_conflict;
+        conflicts = b.1.no_conflict ∙ sym f.conflicts;
       },
     ),
   )

@@ -1,19 +1,23 @@
 -- What a conflict comes to.
-use Rattle.std.specs.Prelude.{ℕ, ◌<◌, List, [], length, take, Option, Some, None}
+use Rattle.std.specs.Prelude.{◌≡◌, ℕ, ◌<◌, List, [], length, take, Option, Some, None, IsFalse}
 use Rattle.std.specs.List.{AllByRecursion}
-use Rattle.cx_base.specs.Problem.{Problem, Unmet}
+use Rattle.cx_base.specs.Problem.{Problem, Unmet, parities_of}
 use Rattle.cx_semantics.specs.declared.steps.LogEvent.{LogEvent}
 use Rattle.cx_semantics.specs.declared.steps.LogEvent.TheVariants.{Step}
 use Rattle.cx_semantics.specs.declared.steps.LogStep.{LogStep}
+use Rattle.cx_semantics.specs.LogRules.{HasChain}
 use Rattle.cx_semantics.specs.Marked.{Marked}
 use Rattle.cx_semantics.specs.Printed.{HasText}
+use Rattle.cx_semantics.specs.Tables.{get}
 use Rattle.parity_engine.specs.State.{State}
+use Rattle.search_steps.specs.Holding.{AreTold}
 use Rattle.search_steps.specs.LogSteps.{IsEnded}
+use Rattle.search_steps.specs.Search.{Search, IsSearch}
 use Rattle.cdcl_core.specs.declared.kept.Kept.{Kept}
 use Rattle.cdcl_core.specs.declared.conflicts.Conclusion.{Conclusion}
 use Rattle.cdcl_core.specs.declared.conflicts.Conclusion.TheVariants.{Clause, Ending}
 use Rattle.cdcl_core.specs.Sources.{IsConflict}
-use Rattle.cdcl_core.specs.Tells.{IsLeft, as_events, with_events}
+use Rattle.cdcl_core.specs.Tells.{IsId, IsLeft, as_events, with_events}
 use Rattle.cdcl_core.specs.Ties.{Stands}
 
 -- the log is right to its end, and marked so often
@@ -32,3 +36,15 @@ pub record EndsLog (formula : Problem) (marks : ℕ) (told : Option (List LogEve
 abbrev pub Concludes : Problem → Kept → State → Option (List LogEvent) → Conclusion → Type 0
 Concludes formula c e told (Clause k) = Stands formula c e k.rows.items told × IsConflict c k.rows.items k.lits
 Concludes formula c e told (Ending steps) = Stands formula c e [] told × EndsLog formula c.conflicts told steps.items
+
+-- the clauses of the search show the empty clause, which may have this id; so many conflicts are counted
+pub record IsContradicted (formula : Problem) (id marks : ℕ) (s : Search) : Type 0 where
+  pub search : IsSearch formula (parities_of formula.constraints) s
+  pub chain : HasChain s.moment.tables.clauses []
+  pub free : get s.moment.tables.clauses id ≡ None
+  pub served : IsFalse s.moment.awaits
+  pub conflicts : s.conflicts ≡ marks
+
+-- the clauses that were told show the empty clause, which may have this id
+abbrev pub IsRefutable : Problem → ℕ → ℕ → Option (List LogEvent) → Type 0
+IsRefutable formula id marks told = IsId id × ((s : Search) × AreTold told s.events × IsContradicted formula id marks s)

@@ -1,11 +1,9 @@
 -- What a search holds while some unit clauses of the formula still wait.
-use Rattle.std.specs.Prelude.{◌≡◌, ◌⊎◌, ℕ, ◌+◌, ◌<◌, ◌≤◌, Bool, true, false, List, [], length, Option, None, IsTrue, IsFalse, Contains}
+use Rattle.std.specs.Prelude.{◌≡◌, ◌⊎◌, ℕ, ◌+◌, ◌<◌, ◌≤◌, Bool, true, false, List, length, Option, IsTrue, Contains}
 use Rattle.std.specs.List.{AllByRecursion}
 use Rattle.cx_base.specs.Problem.{Problem, clauses_of, parities_of}
 use Rattle.cx_semantics.specs.declared.steps.LogEvent.{LogEvent}
 use Rattle.cx_semantics.specs.Chain.{same_literals}
-use Rattle.cx_semantics.specs.LogRules.{HasChain}
-use Rattle.cx_semantics.specs.Tables.{get}
 use Rattle.clause_arena.specs.Clauses.{IsLive, literals_at, id_at}
 use Rattle.watch_lists.specs.Watching.{Fits, IsAttached}
 use Rattle.search_policy.specs.Standing.{AllStand}
@@ -18,7 +16,6 @@ use Rattle.cdcl_core.specs.declared.filling.Single.{Single}
 use Rattle.cdcl_core.specs.Filling.{clause_number, IsUnitClause}
 use Rattle.cdcl_core.specs.Originals.{AreListed}
 use Rattle.cdcl_core.specs.Results.{Refutes}
-use Rattle.cdcl_core.specs.Tells.{IsId}
 use Rattle.cdcl_core.specs.Ties.{IsCovered, AreUnits, IsServed, first_row_id}
 
 -- what the arena holds is attached, and has the literals of the formula's clause of its number
@@ -64,18 +61,6 @@ pub record TiesBut (formula : Problem) (c : Kept) (waiting : List Single) (s : S
 -- some search of the calculus stands behind the code but for these unit clauses, and its events are the sink's where that tells them
 abbrev pub StandsBut : Problem → Kept → List Single → Option (List LogEvent) → Type 0
 StandsBut formula c waiting told = (s : Search) × IsSearch formula (parities_of formula.constraints) s × AreTold told s.events × TiesBut formula c waiting s
-
--- the clauses of the search show the empty clause, which may have this id
-pub record IsContradicted (formula : Problem) (id : ℕ) (s : Search) : Type 0 where
-  pub search : IsSearch formula (parities_of formula.constraints) s
-  pub chain : HasChain s.moment.tables.clauses []
-  pub free : get s.moment.tables.clauses id ≡ None
-  pub served : IsFalse s.moment.awaits
-  pub no_conflict : s.conflicts ≡ 0
-
--- the clauses that were told show the empty clause, which may have this id
-abbrev pub IsRefutable : Problem → ℕ → Option (List LogEvent) → Type 0
-IsRefutable formula id told = IsId id × ((s : Search) × AreTold told s.events × IsContradicted formula id s)
 
 -- true: the search stands but for these unit clauses; false: the log is ended, with no mark
 abbrev pub Puts : Problem → Kept → List Single → Option (List LogEvent) → Bool → Type 0

@@ -10,9 +10,9 @@ ghost use Rattle.cdcl_core.specs.Filling.{IsFilled};
 ghost use Rattle.cdcl_core.specs.Originals.{HasBegun};
 ghost use Rattle.cdcl_core.specs.Results.{IsFresh, Refutes};
 ghost use Rattle.cdcl_core.specs.Tells.{GivesUp, FaultsAs};
-ghost use Rattle.cdcl_core.specs.Waiting.{StandsBut, IsRefutable, Puts};
+ghost use Rattle.cdcl_core.specs.Waiting.{StandsBut, Puts};
 
-use crate::chains::{hints_of, tell_chained};
+use crate::ending::refute;
 use crate::filling::{Filled, Single, fill};
 use crate::kept::Kept;
 use crate::originals::tell_originals;
@@ -31,27 +31,6 @@ pub(crate) enum Begun<P> {
     Search(Kept, P),
     /// An empty clause, or two units that contradict each other, have ended the log.
     Ended,
-}
-
-/// Tells the empty clause. This clause of the formula shows it, with the unit clauses that make its literals false.
-fn refute<L: LogSink>(
-    alloc: Global,
-    formula: &Formula,
-    kept: &Kept,
-    sink: &mut L,
-    lits: &[Lit],
-    number: u64,
-) -> Result<(), CoreFault>
-    requires known { All (λ l. l.variable ≤ kept.now.trail.variables) lits.now }
-    requires shown { IsRefutable formula.now kept.now.next (L.events sink.old) }
-    ensures refutes { OnOk result (Refutes formula.now 1 (L.events sink.new)) }
-    ensures gave_up { IfErr result (λ e. GivesUp formula.now (L.torn sink.new) (L.events sink.new) e) }
-    ensures write { IfErr result (λ e. e ≡ Write → Rose (L.faults sink.old) (L.faults sink.new)) }
-    ensures faults { FaultsAs result (L.faults sink.old) (L.faults sink.new) }
-    ensures frame { L.keeps sink.old sink.new }
-{
-    let hints = hints_of(alloc, kept, lits, number)?;
-    tell_chained(alloc, sink, kept.next, &[], hints)
 }
 
 /// Puts the literal of the unit clause at a place on the trail. False where its negation stands there: then the log is

@@ -1,8 +1,9 @@
 //! The end of a log.
-ghost use Rattle.std.specs.Prelude.{◌≡◌, ◌≢◌, ◌+◌, [], length, OnOk, IfErr};
+ghost use Rattle.std.specs.Prelude.{◌≡◌, ◌≢◌, ◌+◌, ◌≤◌, [], length, OnOk, IfErr};
+ghost use Rattle.std.specs.List.{All};
 ghost use Rattle.conflict_learn.specs.Learning.{Rose};
 ghost use Rattle.conflict_learn.specs.declared.fault.CoreFault.TheVariants.{Write};
-ghost use Rattle.cdcl_core.specs.Concluding.{EndsLog};
+ghost use Rattle.cdcl_core.specs.Concluding.{EndsLog, IsRefutable};
 ghost use Rattle.cdcl_core.specs.Finds.{Finds};
 ghost use Rattle.cdcl_core.specs.Results.{Refutes};
 ghost use Rattle.cdcl_core.specs.Sources.{IsConflict};
@@ -17,7 +18,7 @@ use crate::propagation::Found;
 use crate::rows::FIRST_ROW_ID;
 use crate::telling::tell_all;
 use conflict_learn::CoreFault;
-use cx_base::Formula;
+use cx_base::{Formula, Lit};
 use cx_semantics::LogStep;
 use log_text::LogSink;
 use parity_engine::ParityEngine;
@@ -40,7 +41,28 @@ pub(crate) fn tell_ending<L: LogSink>(
     tell_all(sink, steps)
 }
 
-/// Tells the empty clause: each literal of the conflict's clause is false by a unit clause.
+/// Tells the empty clause. The clause of this id shows it, with the unit clauses that make its literals false.
+pub(crate) fn refute<L: LogSink>(
+    alloc: Global,
+    formula: &Formula,
+    kept: &Kept,
+    sink: &mut L,
+    lits: &[Lit],
+    id: u64,
+) -> Result<(), CoreFault>
+    requires known { All (λ l. l.variable ≤ kept.now.trail.variables) lits.now }
+    requires shown { IsRefutable formula.now kept.now.next kept.now.conflicts (L.events sink.old) }
+    ensures refutes { OnOk result (Refutes formula.now (kept.now.conflicts + 1) (L.events sink.new)) }
+    ensures gave_up { IfErr result (λ e. GivesUp formula.now (L.torn sink.new) (L.events sink.new) e) }
+    ensures write { IfErr result (λ e. e ≡ Write → Rose (L.faults sink.old) (L.faults sink.new)) }
+    ensures faults { FaultsAs result (L.faults sink.old) (L.faults sink.new) }
+    ensures frame { L.keeps sink.old sink.new }
+{
+    let hints = hints_of(alloc, kept, lits, id)?;
+    tell_chained(alloc, sink, kept.next, &[], hints)
+}
+
+/// Ends the log by the empty clause, where each literal of the conflict's clause is false by a unit clause.
 fn end_by_clause<P: ParityEngine, L: LogSink>(
     alloc: Global,
     formula: &Formula,
@@ -58,12 +80,17 @@ fn end_by_clause<P: ParityEngine, L: LogSink>(
     ensures faults { FaultsAs result (L.faults sink.old) (L.faults sink.new) }
     ensures frame { L.keeps sink.old sink.new }
 {
-    let id = kept.next;
-    if id >= FIRST_ROW_ID {
+    if kept.next >= FIRST_ROW_ID {
         return Err(CoreFault::Memory);
     }
-    let hints = hints_of(alloc, kept, conflict.lits.as_slice(), conflict.id)?;
-    tell_chained(alloc, sink, id, &[], hints)
+    refute(
+        alloc,
+        formula,
+        kept,
+        sink,
+        conflict.lits.as_slice(),
+        conflict.id,
+    )
 }
 
 /// Ends the log by the empty clause, where each literal of the trail has a unit clause.

@@ -1,6 +1,7 @@
-use Rattle.std.proofs.Common.{◌+◌, drop}
+use Rattle.std.proofs.Common.{subst, ◌+◌, drop}
 use Rattle.std.proofs.lemmas.Result.{err_from_is_err_and}
 use Rattle.cx_trail.specs.declared.entry.Reason.TheVariants.{Decision}
+use Rattle.cdcl_core.specs.Results.{Refutes}
 use Rattle.cdcl_core.proofs.RowSteps.{memory_is_left}
 use Rattle.cdcl_core.proofs.WaitingLaws.{waiting_is_left, next_waits, true_is_put, false_is_refutable, open_is_put}
 use Rattle.cdcl_core.proofs.beginning.put_unit.Goals as goal
@@ -25,3 +26,6 @@ returns-in_ok-push-in-Open-clause-puts g c =
     (next_waits c.args.formula.now c.args.kept.now c.args.units.now c.args.place c.index-units-place.result (g.L.LogSink.events c.args.sink.now) c.requires.place c.index-units-place.is c.requires.stands)
     c.in-Open.ensures.means Decision c.push.new.self c.in_ok-push-in-Open.ensures.items c.imply.new.self c.imply.ensures.pushed c.imply.ensures.sound in
     st
+
+pub returns-in_ok-refute-in-False-clause-puts : goal.returns-in_ok-refute-in-False-clause-puts
+returns-in_ok-refute-in-False-clause-puts g c = subst (λ n. Refutes c.args.formula.now (n + 1) (g.L.LogSink.events c.refute.new.sink)) c.requires.stands.3.conflicts c.in_ok-refute-in-False.ensures.refutes

@@ -1,6 +1,7 @@
-use Rattle.std.proofs.Common.{sym, subst, []}
+use Rattle.std.proofs.Common.{sym, subst, ◌+◌, []}
 use Rattle.std.proofs.lemmas.Result.{err_from_is_err_and}
 use Rattle.cdcl_core.specs.Filling.{IsFilled}
+use Rattle.cdcl_core.specs.Results.{Refutes}
 use Rattle.cdcl_core.specs.Waiting.{StandsBut, Puts}
 use Rattle.cdcl_core.proofs.RowSteps.{memory_is_left}
 use Rattle.cdcl_core.proofs.WaitingLaws.{filled_stands, empty_is_refutable, waiting_is_left, begun_stands, begun_is_calm}
@@ -33,3 +34,6 @@ returns-clause-begins g c =
       stands.3.level,
       stands.3.conflicts,
     )
+
+pub returns-in-Some-clause-begins : goal.returns-in-Some-clause-begins
+returns-in-Some-clause-begins g c = subst (λ n. Refutes c.args.formula.now (n + 1) (g.L.LogSink.events c.refute.new.sink)) c.requires.filled.conflicts c.in_ok-refute.ensures.refutes
