@@ -139,21 +139,19 @@ shorter_cnf len (t ∷ ts) = behind t ts (behind_cnf len (t ∷ ts)) (by (natura
     by (Some v) = over v (nat_lt MAX_VARIABLE v)
     by None = tt
 
+either : (n : ℕ) (x : Bool) (r : Result (ℕ × List Token) Offence) (e : Offence) → Shorter n r → Shorter n (if x then r else Err e)
+either n true r e h = h
+either n false r e h = tt
+
 shorter_p : (len : ℕ) (ts : List Token) → Shorter (words_in ts) (behind_p len ts)
 shorter_p len [] = tt
-shorter_p len (t ∷ ts) = behind t ts (behind_p len (t ∷ ts)) (by (bytes_eq t.text (codes "cnf")))
-  where
-    by : (x : Bool) → Shorter (words_in ts) (if x then behind_cnf len ts else Err (BadHeader t.place))
-    by true = shorter_cnf len ts
-    by false = tt
+shorter_p len (t ∷ ts) =
+    behind t ts (behind_p len (t ∷ ts)) (either (words_in ts) (bytes_eq t.text (codes "cnf")) (behind_cnf len ts) (BadHeader t.place) (shorter_cnf len ts))
 
 shorter_header : (len : ℕ) (ts : List Token) → Shorter (words_in ts) (header len ts)
 shorter_header len [] = tt
-shorter_header len (t ∷ ts) = behind t ts (header len (t ∷ ts)) (by (bytes_eq t.text (codes "p")))
-  where
-    by : (x : Bool) → Shorter (words_in ts) (if x then behind_p len ts else Err (NoHeader t.place))
-    by true = shorter_p len ts
-    by false = tt
+shorter_header len (t ∷ ts) =
+    behind t ts (header len (t ∷ ts)) (either (words_in ts) (bytes_eq t.text (codes "p")) (behind_p len ts) (NoHeader t.place) (shorter_p len ts))
 
 -- ---- the constraints
 

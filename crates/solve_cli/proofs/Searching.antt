@@ -1,6 +1,7 @@
 -- From a search to what `solve` does.
 use Rattle.std.proofs.Common.{◌≡◌, ◌<◌, ◌≤◌, ◌⊎◌, ◌≢◌, ℕ, List, [], length, filter_map, take, Option, Some, IfSome, inl, inr, refl, ap, sym, subst, ◌∙◌, arith}
 use Rattle.std.specs.List.{AllByRecursion}
+use Rattle.std.proofs.lemmas.Option.{IfSome_then}
 use Rattle.cx_base.specs.Problem.{Problem, Meets, Unmet}
 use Rattle.cx_semantics.specs.declared.steps.LogEvent.{LogEvent}
 use Rattle.cx_semantics.specs.LogRules.{LogOpen}
@@ -25,7 +26,7 @@ use Rattle.solve_cli.specs.Solving.{Finds}
 use Rattle.solve_cli.specs.Steps.{Answers}
 use Rattle.solve_cli.proofs.Gaining.{write_fault}
 use Rattle.solve_cli.proofs.Logging.{open_log, refutation, budgeted, few_marks, front_so_far}
-use Rattle.solve_cli.proofs.Works.{if_some, seen-gained, formula_in, judged_late, answered}
+use Rattle.solve_cli.proofs.Works.{seen-gained, formula_in, judged_late, answered}
 
 -- ---- what the search answers
 
@@ -58,14 +59,7 @@ found : (f : Problem) (budget : ℕ) (events : List LogEvent) (e : Ending) → F
 found f budget events (ending.Satisfiable v) h = values v h.0 h.1
 found f budget events ending.Unsatisfiable h = none h.0 h.1
 found f budget events (ending.Unknown k) h = nothing k h.0 h.1 h.2
-found f budget events (ending.FormulaRefused o) h = absurd h
-found f budget events (ending.TooLong s) h = absurd h
-found f budget events (ending.Verified k) h = absurd h
-found f budget events (ending.NotVerified k c) h = absurd h
-found f budget events ending.ModelRight h = absurd h
-found f budget events (ending.ModelWrong w) h = absurd h
-found f budget events (ending.Elaborated k) h = absurd h
-found f budget events (ending.NotElaborated k c) h = absurd h
+found f budget events e h = absurd h
 
 judged : (n : Bytes) (l : Option Bytes) (budget : ℕ) (f : Problem) (log : Bytes) (e : Ending) → Found f budget log e → Judged e (plan.Solve n l budget) f []
 judged n l budget f log _ (values v meets log_open) = meets
@@ -94,9 +88,9 @@ module _ (n : Bytes) (l : Option Bytes) (budget limit : ℕ) (old : Seen) (f : P
       let none : 0 ≤ limit = omega arith in
       record {
         reaches = rw (judged_late e (plan.Solve n l budget) f [] is) (formula_in (plan.Solve n l budget) limit old f read);
-        due = if_some old.files read (λ files r. inr (record { formula = f; is_formula = r; due = inr (none, is) }));
+        due = IfSome_then old.files read (λ files r. inr (record { formula = f; is_formula = r; due = inr (none, is) }));
         proof = printed_log events;
-        gains = if_some old.files read (λ files r. gains n l budget limit files f (printed_log events) e r have);
+        gains = IfSome_then old.files read (λ files r. gains n l budget limit files f (printed_log events) e r have);
         before_is = rw (judged_late e (plan.Solve n l budget) f [] is) (ap (says port.Proof (printed_log events)) begun);
       }
 
@@ -115,7 +109,7 @@ module _ (n : Bytes) (l : Option Bytes) (budget limit : ℕ) (old : Seen) (f : P
         stage = proof_created;
         reaches = formula_in (plan.Solve n l budget) limit old f read;
         proof = front;
-        so_far = if_some old.files read (λ files r. (f, r, front_so_far f (printed_log events) h.0 (is_right f budget (printed_log events) e (found f budget events e finds))));
+        so_far = IfSome_then old.files read (λ files r. (f, r, front_so_far f (printed_log events) h.0 (is_right f budget (printed_log events) e (found f budget events e finds))));
         at_is = ap (says port.Proof front) begun;
       } in
       inr (inr (record { writes = refl; at = says port.Proof front (seen mid); stops = stops; fault = write_fault front mid new h.2 }))

@@ -1,5 +1,6 @@
 -- From the steps of a command to what it does.
 use Rattle.std.proofs.Common.{true, false, ◌≡◌, ◌<◌, ◌≤◌, ℕ, [], length, take, Option, Some, None, IfSome, Result, Ok, Err, inl, inr, refl, ap, sym, subst, ◌∙◌, append-nil}
+use Rattle.std.proofs.lemmas.Option.{IfSome_then}
 use Rattle.cx_base.specs.Problem.{Problem}
 use Rattle.cx_semantics.specs.FormulaText.{FirstOffence}
 use Rattle.cx_semantics.specs.Tables.{first_tables}
@@ -28,10 +29,6 @@ use Rattle.solve_cli.specs.Proofs.{IsRightSoFar}
 use Rattle.solve_cli.proofs.Logging.{nothing_logged}
 use Rattle.solve_cli.specs.Steps.{FormulaFails, ReadFails, Answers, Loaded, HasNoProof, LeftBy, Elaborated, refused_as}
 
-pub if_some : {X : Type 0} {P Q : X → Type 0} (w : Option X) → IfSome w P → ((x : X) → P x → Q x) → IfSome w Q
-if_some None p f = tt
-if_some (Some x) p f = f x p
-
 pub if_some_both : {X : Type 0} {P Q R : X → Type 0} (w : Option X) → IfSome w P → IfSome w Q → ((x : X) → P x → Q x → R x) → IfSome w R
 if_some_both None p q f = tt
 if_some_both (Some x) p q f = f x p q
@@ -58,15 +55,7 @@ early_text : (e : Ending) → is_early e ≡ true → answer_text e ≡ []
 unfolding answer_text
 early_text (ending.FormulaRefused o) h = refl
 early_text (ending.TooLong s) h = refl
-early_text (ending.Verified k) h = cc
-early_text (ending.NotVerified k c) h = cc
-early_text ending.ModelRight h = cc
-early_text (ending.ModelWrong w) h = cc
-early_text (ending.Elaborated k) h = cc
-early_text (ending.NotElaborated k c) h = cc
-early_text (ending.Satisfiable v) h = cc
-early_text ending.Unsatisfiable h = cc
-early_text (ending.Unknown k) h = cc
+early_text e h = cc
 
 too_long_text : (s : Slot) → answer_text (ending.TooLong s) ≡ []
 unfolding answer_text
@@ -130,57 +119,24 @@ all_files (Some files) h = h files
 early_gains : (p : Plan) (limit : ℕ) (files : Files) (e : Ending) → is_early e ≡ true → Gains p limit files e []
 early_gains (plan.Elab n l q) limit files (ending.Elaborated k) h = cc
 early_gains (plan.Elab n l q) limit files (ending.NotElaborated k c) h = cc
-early_gains (plan.Elab n l q) limit files (ending.FormulaRefused o) h = refl
-early_gains (plan.Elab n l q) limit files (ending.TooLong s) h = refl
-early_gains (plan.Elab n l q) limit files ending.ModelRight h = refl
-early_gains (plan.Elab n l q) limit files (ending.ModelWrong w) h = refl
-early_gains (plan.Elab n l q) limit files (ending.Verified k) h = refl
-early_gains (plan.Elab n l q) limit files (ending.NotVerified k c) h = refl
-early_gains (plan.Elab n l q) limit files (ending.Satisfiable v) h = refl
-early_gains (plan.Elab n l q) limit files ending.Unsatisfiable h = refl
-early_gains (plan.Elab n l q) limit files (ending.Unknown k) h = refl
-early_gains (plan.Check n q) limit files e h = refl
-early_gains (plan.Model n a) limit files e h = refl
-early_gains (plan.Solve n l c) limit files (ending.FormulaRefused o) h = refl
-early_gains (plan.Solve n l c) limit files (ending.TooLong s) h = refl
-early_gains (plan.Solve n l c) limit files (ending.Verified k) h = refl
-early_gains (plan.Solve n l c) limit files (ending.NotVerified k d) h = refl
-early_gains (plan.Solve n l c) limit files ending.ModelRight h = refl
-early_gains (plan.Solve n l c) limit files (ending.ModelWrong w) h = refl
-early_gains (plan.Solve n l c) limit files (ending.Elaborated k) h = refl
-early_gains (plan.Solve n l c) limit files (ending.NotElaborated k d) h = refl
 early_gains (plan.Solve n l c) limit files (ending.Satisfiable v) h = cc
 early_gains (plan.Solve n l c) limit files ending.Unsatisfiable h = cc
 early_gains (plan.Solve n l c) limit files (ending.Unknown k) h = cc
-early_gains (plan.Demo a b c) limit files e h = refl
+early_gains p limit files e h = refl
 
 too_long_gains : (p : Plan) (limit : ℕ) (files : Files) (s : Slot) → Gains p limit files (ending.TooLong s) []
 too_long_gains (plan.Elab n l q) limit files s = refl
-too_long_gains (plan.Check n q) limit files s = refl
-too_long_gains (plan.Model n a) limit files s = refl
 too_long_gains (plan.Solve n l c) limit files s = refl
-too_long_gains (plan.Demo a b c) limit files s = refl
+too_long_gains p limit files s = refl
 
 -- nothing is a front of a proof
 none_so_far : (f : Problem) → IsRightSoFar f []
 none_so_far f = record { steps = []; right = inl (first_tables f, refl); rest = []; front = refl }
 
 nothing_yet : (stage : Stage) (p : Plan) (limit : ℕ) (old : Seen) → Reaches stage p limit old → IfSome old.files (λ files. SoFar stage p limit files [])
-nothing_yet formula_started (plan.Elab n l q) limit old h = all_files old.files (λ files. refl)
-nothing_yet second_started (plan.Elab n l q) limit old h = all_files old.files (λ files. refl)
-nothing_yet proof_created (plan.Elab n l q) limit old h = if_some old.files h (λ files r. (r.0, r.1, none_so_far r.0))
-nothing_yet formula_started (plan.Check n q) limit old h = all_files old.files (λ files. refl)
-nothing_yet second_started (plan.Check n q) limit old h = all_files old.files (λ files. refl)
-nothing_yet proof_created (plan.Check n q) limit old h = all_files old.files (λ files. refl)
-nothing_yet formula_started (plan.Model n a) limit old h = all_files old.files (λ files. refl)
-nothing_yet second_started (plan.Model n a) limit old h = all_files old.files (λ files. refl)
-nothing_yet proof_created (plan.Model n a) limit old h = all_files old.files (λ files. refl)
-nothing_yet formula_started (plan.Solve n l c) limit old h = all_files old.files (λ files. refl)
-nothing_yet second_started (plan.Solve n l c) limit old h = all_files old.files (λ files. refl)
-nothing_yet proof_created (plan.Solve n l c) limit old h = if_some old.files h (λ files r. (r.0, r.1, nothing_logged r.0))
-nothing_yet formula_started (plan.Demo a b c) limit old h = all_files old.files (λ files. refl)
-nothing_yet second_started (plan.Demo a b c) limit old h = all_files old.files (λ files. refl)
-nothing_yet proof_created (plan.Demo a b c) limit old h = all_files old.files (λ files. refl)
+nothing_yet proof_created (plan.Elab n l q) limit old h = IfSome_then old.files h (λ files r. (r.0, r.1, none_so_far r.0))
+nothing_yet proof_created (plan.Solve n l c) limit old h = IfSome_then old.files h (λ files r. (r.0, r.1, nothing_logged r.0))
+nothing_yet stage p limit old h = all_files old.files (λ files. refl)
 
 pub stopped : (stage : Stage) (p : Plan) (limit : ℕ) (old at : Seen) → Reaches stage p limit old → at ≡ asked_to stage p old → Stops p limit old at
 stopped stage p limit old at reaches is = record {
@@ -200,7 +156,7 @@ formula_failed p name limit old (outcome.Ended e) new named h = (
   asks slot.Formula name old,
   record {
     reaches = rw h.0 tt;
-    due = if_some old.files h.2 (λ files early. inl (rw named early));
+    due = IfSome_then old.files h.2 (λ files early. inl (rw named early));
     proof = [];
     gains = all_files old.files (λ files. early_gains p limit files e h.0);
     before_is = rw h.0 (formula_call p name old named ∙ bare (asked_to formula_started p old));
@@ -210,14 +166,13 @@ formula_failed p name limit old (outcome.Ended e) new named h = (
 formula_failed p name limit old outcome.ReadFault new named h =
     (asks slot.Formula name old, stopped formula_started p limit old (asks slot.Formula name old) tt (formula_call p name old named), h)
 formula_failed p name limit old outcome.Memory new named h = stopped formula_started p limit old new tt (h ∙ formula_call p name old named)
-formula_failed p name limit old outcome.WriteFault new named h = absurd h
-formula_failed p name limit old outcome.Usage new named h = absurd h
+formula_failed p name limit old o new named h = absurd h
 
 -- the offence of a text that was read whole
 offence_due : (name text : Bytes) (limit : ℕ) (old mid : Seen) (o : Offence) → mid ≡ asks slot.Formula name old → length text ≤ limit
     → IfSome old.files (λ files. text ≡ text_named name files) → FirstOffence text o → FormulaFails name limit old (outcome.Ended (ending.FormulaRefused o)) mid
 offence_due name text limit old mid o is fits named bad =
-    (refl, is, if_some old.files named (λ files t. (subst (λ (x : Bytes). length x ≤ limit) t fits, subst (λ (x : Bytes). FirstOffence x o) t bad)))
+    (refl, is, IfSome_then old.files named (λ files t. (subst (λ (x : Bytes). length x ≤ limit) t fits, subst (λ (x : Bytes). FirstOffence x o) t bad)))
 
 pub formula_refused : (name text : Bytes) (limit : ℕ) (old mid new : Seen) (why : ReadRefusal)
     → mid ≡ asks slot.Formula name old → (new ≡ mid) × (length text ≤ limit) × IfSome mid.files (λ files. text ≡ text_named name files)
@@ -235,10 +190,10 @@ formula_refused name text limit old mid new why is read bad =
 
 pub formula_read : (p : Plan) (name : Bytes) (limit : ℕ) (old : Seen) (f : Problem) → formula_of p ≡ Some name
     → IfSome old.files (λ files. FormulaRead limit (text_named name files) f) → IfSome old.files (λ files. IsFormula p limit files f)
-formula_read p name limit old f named h = if_some old.files h (λ files r. rw named r)
+formula_read p name limit old f named h = IfSome_then old.files h (λ files r. rw named r)
 
 pub formula_in : (p : Plan) (limit : ℕ) (old : Seen) (f : Problem) → IfSome old.files (λ files. IsFormula p limit files f) → FormulaIn p limit old
-formula_in p limit old f h = if_some old.files h (λ files r. (f, r))
+formula_in p limit old f h = IfSome_then old.files h (λ files r. (f, r))
 
 -- ---- the calls behind it
 
@@ -287,18 +242,7 @@ second_failed p name limit old f mid outcome.ReadFault new named is read h =
     (seen mid, stopped proof_created p limit old (seen mid) (formula_in p limit old f read) is, h)
 second_failed p name limit old f mid outcome.Memory new named is read h = stopped proof_created p limit old (seen new) (formula_in p limit old f read) (h ∙ is)
 second_failed p name limit old f mid (outcome.Ended (ending.TooLong slot.Formula)) new named is read h = let e = h.0 in cc
-second_failed p name limit old f mid (outcome.Ended (ending.FormulaRefused b)) new named is read h = absurd h
-second_failed p name limit old f mid (outcome.Ended (ending.Verified k)) new named is read h = absurd h
-second_failed p name limit old f mid (outcome.Ended (ending.NotVerified k c)) new named is read h = absurd h
-second_failed p name limit old f mid (outcome.Ended ending.ModelRight) new named is read h = absurd h
-second_failed p name limit old f mid (outcome.Ended (ending.ModelWrong w)) new named is read h = absurd h
-second_failed p name limit old f mid (outcome.Ended (ending.Elaborated k)) new named is read h = absurd h
-second_failed p name limit old f mid (outcome.Ended (ending.NotElaborated k c)) new named is read h = absurd h
-second_failed p name limit old f mid (outcome.Ended (ending.Satisfiable v)) new named is read h = absurd h
-second_failed p name limit old f mid (outcome.Ended ending.Unsatisfiable) new named is read h = absurd h
-second_failed p name limit old f mid (outcome.Ended (ending.Unknown k)) new named is read h = absurd h
-second_failed p name limit old f mid outcome.WriteFault new named is read h = absurd h
-second_failed p name limit old f mid outcome.Usage new named is read h = absurd h
+second_failed p name limit old f mid o new named is read h = absurd h
 
 -- both texts were read
 pub loaded : (p : Plan) (name : Bytes) (limit : ℕ) (old : Seen) (f : Problem) (text : Bytes) (mid : Outside) (new : Outside) → second_of p ≡ Some name
@@ -309,7 +253,7 @@ loaded p name limit old f text mid new named is read h = record {
   asked = h.0 ∙ is;
   is_formula = read;
   fits = h.1;
-  is_second = if_some old.files (subst (λ (w : Option Files). IfSome w (λ files. text ≡ text_named name files)) (ap (λ (s : Seen). s.files) is ∙ files_at proof_created p old) h.2)
+  is_second = IfSome_then old.files (subst (λ (w : Option Files). IfSome w (λ files. text ≡ text_named name files)) (ap (λ (s : Seen). s.files) is ∙ files_at proof_created p old) h.2)
       (λ files t. t ∙ ap (λ (n : Option Bytes). text_of n files) (sym named));
 }
 
@@ -331,110 +275,89 @@ answered p limit old e before outcome.WriteFault new ends h = inl (record {
   front = h.1;
   fault = h.2;
 })
-answered p limit old e before outcome.ReadFault new ends h = absurd h
-answered p limit old e before outcome.Memory new ends h = absurd h
-answered p limit old e before outcome.Usage new ends h = absurd h
+answered p limit old e before o new ends h = absurd h
 
 pub judged_late : (e : Ending) (p : Plan) (f : Problem) (text : Bytes) → Judged e p f text → is_early e ≡ false
 judged_late (ending.FormulaRefused o) p f text h = absurd h
 judged_late (ending.TooLong s) p f text h = absurd h
-judged_late (ending.Verified k) p f text h = refl
-judged_late (ending.NotVerified k c) p f text h = refl
-judged_late ending.ModelRight p f text h = refl
-judged_late (ending.ModelWrong w) p f text h = refl
-judged_late (ending.Elaborated k) p f text h = refl
-judged_late (ending.NotElaborated k c) p f text h = refl
-judged_late (ending.Satisfiable v) p f text h = refl
-judged_late ending.Unsatisfiable p f text h = refl
-judged_late (ending.Unknown k) p f text h = refl
-
--- both texts were read, and what they come to
-pub ends : (p : Plan) (limit : ℕ) (old : Seen) (f : Problem) (text : Bytes) (e : Ending) (proof : Bytes) (mid : Seen)
-    → Loaded p limit old f text mid → Judged e p f text → IfSome old.files (λ files. Gains p limit files e proof)
-    → Ends p limit old e (says port.Proof proof mid)
-ends p limit old f text e proof mid h judged gains = record {
-  reaches = rw (judged_late e p f text judged) (formula_in p limit old f h.is_formula);
-  due = if_some_both old.files h.is_formula h.is_second
-      (λ files r t. inr (record { formula = f; is_formula = r; due = inr (subst (λ (x : Bytes). (length x ≤ limit) × Judged e p f x) t (h.fits, judged)) }));
-  proof = proof;
-  gains = gains;
-  before_is = rw (judged_late e p f text judged) (ap (says port.Proof proof) h.asked);
-}
-
--- the same with nothing on the Proof port, and the answer
-pub concluded : (p : Plan) (limit : ℕ) (old : Seen) (f : Problem) (text : Bytes) (e : Ending) (mid : Seen) (o : Outcome) (new : Seen)
-    → Loaded p limit old f text mid → Judged e p f text → ((files : Files) → Gains p limit files e []) → Answers e mid o new → Works p limit old o new
-concluded p limit old f text e mid o new h judged gains answers =
-    answered p limit old e mid o new (subst (Ends p limit old e) (sym (bare mid)) (ends p limit old f text e [] mid h judged (all_files old.files gains))) answers
-
--- want of memory for the judgement
-pub wanted : (p : Plan) (limit : ℕ) (old : Seen) (f : Problem) (text : Bytes) (mid : Seen) → Loaded p limit old f text mid → Stops p limit old mid
-wanted p limit old f text mid h = stopped proof_created p limit old mid (formula_in p limit old f h.is_formula) h.asked
-
--- ---- a log
-
-files_of_loaded : (p : Plan) (limit : ℕ) (old : Seen) (f : Problem) (text : Bytes) (mid : Seen) → Loaded p limit old f text mid → mid.files ≡ old.files
-files_of_loaded p limit old f text mid h = ap (λ (s : Seen). s.files) h.asked ∙ files_at proof_created p old
+judged_late e p f text h = refl
 
 none_on_created : (name : Bytes) (s : Seen) → HasNoProof (creates name s)
 none_on_created name s = elim s.written as (λ w. HasNoProof (creates name (record s { written = w }))) [ None ↦ tt | Some w ↦ refl ]
-
--- nothing stands on a Proof port that was given its file
-pub none_created : (n l q : Bytes) (limit : ℕ) (old : Seen) (f : Problem) (text : Bytes) (mid : Seen) → Loaded (plan.Elab n l q) limit old f text mid → HasNoProof mid
-none_created n l q limit old f text mid h = subst HasNoProof (sym h.asked) (none_on_created q (asked_to second_started (plan.Elab n l q) old))
 
 -- what was left on the Proof port, of the files at the start
 left_gains : (n l q : Bytes) (limit : ℕ) (files : Files) (f : Problem) (e : Ending) (proof : Bytes)
     → FormulaRead limit (text_named n files) f → LeftBy e f (text_named l files) proof → Gains (plan.Elab n l q) limit files e proof
 left_gains n l q limit files f (ending.Elaborated k) proof read left = (f, read, left)
 left_gains n l q limit files f (ending.NotElaborated k c) proof read left = (f, read, left)
-left_gains n l q limit files f (ending.FormulaRefused o) proof read left = absurd left
-left_gains n l q limit files f (ending.TooLong s) proof read left = absurd left
-left_gains n l q limit files f (ending.Verified k) proof read left = absurd left
-left_gains n l q limit files f (ending.NotVerified k c) proof read left = absurd left
-left_gains n l q limit files f ending.ModelRight proof read left = absurd left
-left_gains n l q limit files f (ending.ModelWrong w) proof read left = absurd left
-left_gains n l q limit files f (ending.Satisfiable v) proof read left = absurd left
-left_gains n l q limit files f ending.Unsatisfiable proof read left = absurd left
-left_gains n l q limit files f (ending.Unknown k) proof read left = absurd left
+left_gains n l q limit files f e proof read left = absurd left
 
 if_some_three : {X : Type 0} {P Q R S : X → Type 0} (w : Option X) → IfSome w P → IfSome w Q → IfSome w R → ((x : X) → P x → Q x → R x → S x) → IfSome w S
 if_some_three None p q r f = tt
 if_some_three (Some x) p q r f = f x p q r
 
--- the log was judged, its proof written, and the answer
-pub elaborated : (n l q : Bytes) (limit : ℕ) (old : Seen) (f : Problem) (text : Bytes) (e : Ending) (mid at : Seen) (o : Outcome) (new : Seen)
-    → Loaded (plan.Elab n l q) limit old f text mid → Elaborated f text mid (Ok e) at → Answers e at o new → Works (plan.Elab n l q) limit old o new
-elaborated n l q limit old f text e mid at o new h made answers =
-    let p = plan.Elab n l q in
-    let left = subst (λ (w : Option Files). IfSome w (λ _. LeftBy e f text made.1.0)) (files_of_loaded p limit old f text mid h) made.1.2 in
-    answered p limit old e at o new
-    (subst (Ends p limit old e) (sym made.1.1) (ends p limit old f text e made.1.0 mid h (made.0 n l q)
-    (if_some_three old.files h.is_formula h.is_second left
-    (λ files read is by. left_gains n l q limit files f e made.1.0 read (subst (λ (x : Bytes). LeftBy e f x made.1.0) is by)))))
-    answers
+-- where both texts were read
+module _ {p : Plan} {limit : ℕ} {old : Seen} {f : Problem} {text : Bytes} {mid : Seen} (h : Loaded p limit old f text mid) where
+  reached : FormulaIn p limit old
+  reached = formula_in p limit old f h.is_formula
 
--- the log was not judged to its end, or its proof not written
-pub not_elaborated : (n l q : Bytes) (limit : ℕ) (old : Seen) (f : Problem) (text : Bytes) (mid : Seen) (o : Outcome) (new : Seen)
-    → Loaded (plan.Elab n l q) limit old f text mid → Elaborated f text mid (Err o) new → Works (plan.Elab n l q) limit old o new
-not_elaborated n l q limit old f text mid o new h made = by o made
-  where
-    stops : (proof : Bytes) → IfSome mid.files (λ _. IsRightSoFar f proof) → Stops (plan.Elab n l q) limit old (says port.Proof proof mid)
-    stops proof right = record {
-      stage = proof_created;
-      reaches = formula_in (plan.Elab n l q) limit old f h.is_formula;
-      proof = proof;
-      so_far = if_some_both old.files h.is_formula (subst (λ (w : Option Files). IfSome w (λ _. IsRightSoFar f proof)) (files_of_loaded (plan.Elab n l q) limit old f text mid h) right)
-          (λ files read r. (f, read, r));
-      at_is = ap (says port.Proof proof) h.asked;
-    }
+  files_same : mid.files ≡ old.files
+  files_same = ap (λ (s : Seen). s.files) h.asked ∙ files_at proof_created p old
 
-    by : (o : Outcome) → Elaborated f text mid (Err o) new → Works (plan.Elab n l q) limit old o new
-    by outcome.Memory m = subst (Stops (plan.Elab n l q) limit old) (sym m.1) (stops m.0 m.2)
-    by outcome.WriteFault m = inr (inr (record { writes = refl; at = says port.Proof m.0 mid; stops = stops m.0 m.2; fault = m.1 }))
-    by outcome.ReadFault m = absurd m
-    by outcome.Usage m = absurd m
-    by (outcome.Ended e) m = absurd m
+  -- what they come to
+  ends : (e : Ending) (proof : Bytes) → Judged e p f text → IfSome old.files (λ files. Gains p limit files e proof) → Ends p limit old e (says port.Proof proof mid)
+  ends e proof judged gains = record {
+    reaches = rw (judged_late e p f text judged) reached;
+    due = if_some_both old.files h.is_formula h.is_second
+        (λ files r t. inr (record { formula = f; is_formula = r; due = inr (subst (λ (x : Bytes). (length x ≤ limit) × Judged e p f x) t (h.fits, judged)) }));
+    proof = proof;
+    gains = gains;
+    before_is = rw (judged_late e p f text judged) (ap (says port.Proof proof) h.asked);
+  }
+
+  -- the same with nothing on the Proof port, and the answer
+  pub concluded : (e : Ending) (o : Outcome) (new : Seen) → Judged e p f text → ((files : Files) → Gains p limit files e []) → Answers e mid o new → Works p limit old o new
+  concluded e o new judged gains answers =
+      answered p limit old e mid o new (subst (Ends p limit old e) (sym (bare mid)) (ends e [] judged (all_files old.files gains))) answers
+
+  -- want of memory for the judgement
+  pub wanted : Stops p limit old mid
+  wanted = stopped proof_created p limit old mid reached h.asked
+
+-- ---- a log
+
+module _ {n l q : Bytes} {limit : ℕ} {old : Seen} {f : Problem} {text : Bytes} {mid : Seen} (h : Loaded (plan.Elab n l q) limit old f text mid) where
+  -- nothing stands on a Proof port that was given its file
+  pub none_created : HasNoProof mid
+  none_created = subst HasNoProof (sym h.asked) (none_on_created q (asked_to second_started (plan.Elab n l q) old))
+
+  -- the log was judged, its proof written, and the answer
+  pub elaborated : (e : Ending) (at : Seen) (o : Outcome) (new : Seen) → Elaborated f text mid (Ok e) at → Answers e at o new → Works (plan.Elab n l q) limit old o new
+  elaborated e at o new made answers =
+      let left = subst (λ (w : Option Files). IfSome w (λ _. LeftBy e f text made.1.0)) (files_same h) made.1.2 in
+      answered (plan.Elab n l q) limit old e at o new
+      (subst (Ends (plan.Elab n l q) limit old e) (sym made.1.1) (ends h e made.1.0 (made.0 n l q)
+      (if_some_three old.files h.is_formula h.is_second left
+      (λ files read is by. left_gains n l q limit files f e made.1.0 read (subst (λ (x : Bytes). LeftBy e f x made.1.0) is by)))))
+      answers
+
+  -- the log was not judged to its end, or its proof not written
+  pub not_elaborated : (o : Outcome) (new : Seen) → Elaborated f text mid (Err o) new → Works (plan.Elab n l q) limit old o new
+  not_elaborated o new made = by o made
+    where
+      stops : (proof : Bytes) → IfSome mid.files (λ _. IsRightSoFar f proof) → Stops (plan.Elab n l q) limit old (says port.Proof proof mid)
+      stops proof right = record {
+        stage = proof_created;
+        reaches = reached h;
+        proof = proof;
+        so_far = if_some_both old.files h.is_formula (subst (λ (w : Option Files). IfSome w (λ _. IsRightSoFar f proof)) (files_same h) right) (λ files read r. (f, read, r));
+        at_is = ap (says port.Proof proof) h.asked;
+      }
+
+      by : (o : Outcome) → Elaborated f text mid (Err o) new → Works (plan.Elab n l q) limit old o new
+      by outcome.Memory m = subst (Stops (plan.Elab n l q) limit old) (sym m.1) (stops m.0 m.2)
+      by outcome.WriteFault m = inr (inr (record { writes = refl; at = says port.Proof m.0 mid; stops = stops m.0 m.2; fault = m.1 }))
+      by o m = absurd m
 
 -- ---- the message
 

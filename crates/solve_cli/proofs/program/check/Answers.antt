@@ -13,12 +13,9 @@ judge_proof-requires g c =
 
 pub returns-in-Ok-judge_proof : goal.returns-in-Ok-judge_proof
 returns-in-Ok-judge_proof g c =
-    let p = plan.Check c.args.formula c.args.proof in
-    let loaded = c.in-Ok.ensures p refl refl refl in
-    concluded p c.args.limit (seen (g.D.Desk.outside c.args.desk.now)) c.in-Ok.texts.formula c.in-Ok.texts.second c.in-Ok-judge_proof.ending (seen (g.D.Desk.outside c.load.new.desk)) c.answer.result
-    (seen (g.D.Desk.outside c.answer.new.desk)) loaded (rw c.as_slice.ensures at (c.in-Ok-judge_proof.ensures c.args.formula c.args.proof)) (λ files. refl) c.answer.ensures
+    let loaded = c.in-Ok.ensures (plan.Check c.args.formula c.args.proof) refl refl refl in
+    let judged = rw c.as_slice.ensures at (c.in-Ok-judge_proof.ensures c.args.formula c.args.proof) in
+    concluded loaded c.in-Ok-judge_proof.ending c.answer.result (seen (g.D.Desk.outside c.answer.new.desk)) judged (λ files. refl) c.answer.ensures
 
 pub returns : goal.returns
-returns g c =
-    let p = plan.Check c.args.formula c.args.proof in
-    wanted p c.args.limit (seen (g.D.Desk.outside c.args.desk.now)) c.in-Ok.texts.formula c.in-Ok.texts.second (seen (g.D.Desk.outside c.load.new.desk)) (c.in-Ok.ensures p refl refl refl)
+returns g c = wanted (c.in-Ok.ensures (plan.Check c.args.formula c.args.proof) refl refl refl)

@@ -6,9 +6,7 @@ use Rattle.cx_words.specs.declared.plans.Plan.TheVariants as plan
 use Rattle.solve_cli.proofs.program.elab.Goals as goal
 
 pub elaborate_text-requires-clause-empty : goal.elaborate_text-requires-clause-empty
-elaborate_text-requires-clause-empty g c =
-    let loaded = c.in-Ok.ensures (plan.Elab c.args.formula c.args.log c.args.proof) refl refl refl in
-    none_created c.args.formula c.args.log c.args.proof c.args.limit (seen (g.D.Desk.outside c.args.desk.now)) c.in-Ok.texts.formula c.in-Ok.texts.second (seen (g.D.Desk.outside c.load.new.desk)) loaded
+elaborate_text-requires-clause-empty g c = none_created (c.in-Ok.ensures (plan.Elab c.args.formula c.args.log c.args.proof) refl refl refl)
 
 pub elaborate_text-requires-clause-text : goal.elaborate_text-requires-clause-text
 elaborate_text-requires-clause-text g c =
@@ -20,15 +18,13 @@ elaborate_text-requires-clause-text g c =
 pub returns-in-Ok-elaborate_text : goal.returns-in-Ok-elaborate_text
 returns-in-Ok-elaborate_text g c =
     let loaded = c.in-Ok.ensures (plan.Elab c.args.formula c.args.log c.args.proof) refl refl refl in
-    elaborated c.args.formula c.args.log c.args.proof c.args.limit (seen (g.D.Desk.outside c.args.desk.now)) c.in-Ok.texts.formula c.in-Ok.texts.second c.in-Ok-elaborate_text.ending
-    (seen (g.D.Desk.outside c.load.new.desk)) (seen (g.D.Desk.outside c.elaborate_text.new.desk)) c.answer.result
-    (seen (g.D.Desk.outside c.answer.new.desk)) loaded (rw c.as_slice.ensures at c.in-Ok-elaborate_text.ensures) c.answer.ensures
+    elaborated loaded c.in-Ok-elaborate_text.ending (seen (g.D.Desk.outside c.elaborate_text.new.desk)) c.answer.result (seen (g.D.Desk.outside c.answer.new.desk))
+    (rw c.as_slice.ensures at c.in-Ok-elaborate_text.ensures) c.answer.ensures
 
 pub returns : goal.returns
 returns g c =
     let loaded = c.in-Ok.ensures (plan.Elab c.args.formula c.args.log c.args.proof) refl refl refl in
     let mid = seen (g.D.Desk.outside c.load.new.desk) in
     let new = seen (g.D.Desk.outside c.elaborate_text.new.desk) in
-    not_elaborated c.args.formula c.args.log c.args.proof c.args.limit (seen (g.D.Desk.outside c.args.desk.now)) c.in-Ok.texts.formula c.in-Ok.texts.second
-    mid c.in-Err-elaborate_text.outcome new loaded
+    not_elaborated loaded c.in-Err-elaborate_text.outcome new
     (subst (λ (x : List ℕ). Elaborated c.in-Ok.texts.formula x mid (Err c.in-Err-elaborate_text.outcome) new) c.as_slice.ensures c.in-Err-elaborate_text.ensures)
