@@ -123,17 +123,12 @@ impl RealDesk {
     }
 }
 
-/// Writes all that waits; false where the file took less.
+/// Writes all that waits; false where the file took less. Then what it left is dropped, so that no
+/// byte of the front that it took is written again.
 fn flush(file: &mut File, pending: &mut Vec<u8>) -> bool {
-    let mut done = 0;
-    while done < pending.len() {
-        match file.write(&pending[done..]) {
-            Ok(count) if count > 0 => done += count,
-            _ => return false,
-        }
-    }
+    let is_whole = file.write_all(pending.as_slice()).is_ok();
     pending.clear();
-    true
+    is_whole
 }
 
 /// Writes what waits of the proof, if it has a file.
