@@ -1,5 +1,5 @@
 -- Arguments without default values.
-use Rattle.std.proofs.Common.{◌≡◌, ◌||◌, Bool, List, [], ◌∷◌, false, true, refl, if◌then◌else◌, fold, ap, ◌∙◌}
+use Rattle.std.proofs.Common.{◌≡◌, Bool, List, [], ◌∷◌, false, true, refl, if◌then◌else◌, fold, ap, ◌∙◌}
 use Rattle.std.proofs.Math.Bool.{or-true}
 use Rattle.clap.specs.Walk.{Row, Rule, has_row, with_default}
 use Rattle.clap.specs.Faults.{defaults_fault}

@@ -1,5 +1,5 @@
 -- The plan that words ask for has its numbers in range, and no two equal names.
-use Rattle.std.proofs.Common.{◌≡◌, ◌≢◌, ◌≤◌, ◌&&◌, ℕ, Bool, true, false, not, List, Option, Some, None, Result, Ok, Err, IfOk, IfSome, codes, refl, subst, arith, option_map}
+use Rattle.std.proofs.Common.{◌≡◌, ◌≢◌, ◌≤◌, ◌&&◌, ℕ, Bool, true, false, List, Option, Some, None, Result, Ok, Err, IfOk, IfSome, codes, refl, subst, arith, option_map}
 use Rattle.std.specs.Prelude.{if◌then◌else◌, option_and_then}
 use Rattle.std.specs.Str.{bytes_eq}
 use Rattle.std.specs.Str.Parse.{digits_value}

@@ -1,5 +1,5 @@
 -- Names and numbers of plain words: none is a flag to clap, and numbers are read as what they spell.
-use Rattle.std.proofs.Common.{◌≡◌, ◌≢◌, ◌==◌, ◌&&◌, ℕ, Bool, true, false, not, nat_lt, [], ◌∷◌, length, Some, inl, inr, refl, sym, subst, arith}
+use Rattle.std.proofs.Common.{◌≡◌, ◌≢◌, ◌==◌, ℕ, true, false, nat_lt, [], ◌∷◌, length, Some, inl, inr, refl, sym, subst, arith}
 use Rattle.std.specs.Str.{bytes_eq}
 use Rattle.std.specs.Char.{is_ascii_digit}
 use Rattle.std.proofs.lemmas.Bool.{and_parts, false_from_ne_true, not-true, eqb-true, le-leb}

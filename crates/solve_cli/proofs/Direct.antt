@@ -1,5 +1,5 @@
 -- What a run says in single clauses: the causes of the faults and of a refusal of the words, soundness, completeness.
-use Rattle.std.proofs.Common.{◌≡◌, ◌⊎◌, ℕ, Bool, true, false, List, length, option_map, take, Option, Some, None, IfSome, IsTrue, inl, inr, refl, ap, sym, subst, ◌∙◌}
+use Rattle.std.proofs.Common.{◌≡◌, ◌⊎◌, ℕ, List, length, option_map, take, Option, Some, None, IfSome, IsTrue, inl, inr, refl, ap, sym, subst, ◌∙◌}
 use Rattle.cx_base.specs.Problem.{Problem, Unmet}
 use Rattle.cx_semantics.specs.FormulaText.{Reads}
 use Rattle.cx_semantics.specs.ProofRules.{Accepted}
