@@ -5,8 +5,9 @@ ghost use Rattle.cxsat.specs.Real.{outside_of, StartsReal, PutsReal, Untold};
 
 use cx_desk::{Desk, Failed, Port, Slot};
 use std::alloc::{AllocError, Global};
-use std::fs::File;
+use std::fs::{File, OpenOptions};
 use std::io::{Read, Write};
+use std::os::unix::fs::MetadataExt;
 
 /// Where a slot reads from.
 #[derive(Drop)]
@@ -22,6 +23,13 @@ struct Source {
     name: Option<String>,
     stream: Stream,
     is_started: bool,
+}
+
+/// Which regular file an open one is: it is the same under each of its names.
+#[derive(Clone, Copy, PartialEq, Eq, Drop)]
+struct FileId {
+    device: u64,
+    inode: u64,
 }
 
 /// Files by name, standard input, standard output and standard error, with a count of the faults.
@@ -59,6 +67,40 @@ impl Source {
             is_started: false,
         }
     }
+
+    /// Whether it reads from this file.
+    fn reads(&self, id: FileId) -> bool {
+        match &self.stream {
+            Stream::Open(file) => id_of(file) == Some(id),
+            _ => false,
+        }
+    }
+}
+
+/// Which regular file this is; none of streams and devices.
+fn id_of(file: &File) -> Option<FileId> {
+    match file.metadata() {
+        Ok(about) if about.is_file() => Some(FileId {
+            device: about.dev(),
+            inode: about.ino(),
+        }),
+        _ => None,
+    }
+}
+
+/// Opens a file that is written from its start. One that a slot reads is left as it is, by whatever name it is meant:
+/// else a log would be lost where its proof is to stand in its place.
+fn create_at(rt: &HostRuntime, formula: &Source, second: &Source, name: &str) -> Option<File> {
+    let file = match OpenOptions::new().write(true).create(true).open(rt, name) {
+        Ok(file) => file,
+        Err(_) => return None,
+    };
+    if let Some(id) = id_of(&file) {
+        if formula.reads(id) || second.reads(id) || file.set_len(0).is_err() {
+            return None;
+        }
+    }
+    Some(file)
 }
 
 /// Opens a file, or the standard input where that is meant by a dash.
@@ -216,14 +258,14 @@ impl Desk for RealDesk {
     }
 
     fn create(&mut self, name: String) -> Result<(), Failed> {
-        let made = File::create(&self.rt, name.as_str());
+        let made = create_at(&self.rt, &self.formula, &self.second, name.as_str());
         self.proof_name = Some(name);
         match made {
-            Ok(file) => {
+            Some(file) => {
                 self.proof = Some(file);
                 Ok(())
             }
-            Err(_) => {
+            None => {
                 count_fault(&mut self.write_faults);
                 Err(Failed)
             }
