@@ -2,6 +2,7 @@
 use Rattle.std.proofs.Common.{◌≡◌, sym, ap, ◌∙◌, subst, ℕ, suc, ◌+◌, ◌<◌, Bool, true, eqb-true, List, [], ◌∷◌, length, take, Contains, Option, None, is_some, arith, inl, inr}
 use Rattle.std.specs.Prelude.{IsSome, ◌==◌}
 use Rattle.std.specs.List.{AllByRecursion}
+use Rattle.std.proofs.lemmas.Option.{same_Some}
 use Rattle.cx_base.specs.Literals.{Literal}
 use Rattle.cx_base.specs.Problem.{Problem, parities_of}
 use Rattle.cx_semantics.specs.Chain.{has_literal}
@@ -34,7 +35,6 @@ use Rattle.cdcl_core.specs.declared.propagation.Found.TheVariants as found
 use Rattle.cdcl_core.specs.Finds.{Finds, IsClash}
 use Rattle.cdcl_core.specs.Tells.{IsLeft, as_events, with_events}
 use Rattle.cdcl_core.specs.Ties.{Stands, first_row_id}
-use Rattle.cdcl_core.proofs.RowReasons.{some_of}
 use Rattle.cdcl_core.proofs.RowSteps.{two_are_unmet, two_end, two_fronts}
 
 module _ (formula : Problem) (c : Kept) (e : State) (told : Option (List LogEvent)) (st : Stands formula c e [] told) where
@@ -55,10 +55,10 @@ module _ (formula : Problem) (c : Kept) (e : State) (told : Option (List LogEven
     clash_is_named = ap is_some clash.1
 
     pub clash_assigned : OfNamed e row (λ n. AreAssigned c.trail n.form)
-    clash_assigned n is = subst (λ m. AreAssigned c.trail m.form) (some_of clash.0 n (sym clash.1 ∙ is)) (broken_is_missed e c.trail clash.0.form stands_on clash.3).0
+    clash_assigned n is = subst (λ m. AreAssigned c.trail m.form) (same_Some clash.0 n (sym clash.1 ∙ is)) (broken_is_missed e c.trail clash.0.form stands_on clash.3).0
 
     pub clash_is_reason : OfNamed e row (λ n. IsReasonFor c.trail None n.form)
-    clash_is_reason n is = subst (λ m. IsReasonFor c.trail None m.form) (some_of clash.0 n (sym clash.1 ∙ is)) (broken_is_missed e c.trail clash.0.form stands_on clash.3).1
+    clash_is_reason n is = subst (λ m. IsReasonFor c.trail None m.form) (same_Some clash.0 n (sym clash.1 ∙ is)) (broken_is_missed e c.trail clash.0.form stands_on clash.3).1
 
     module _ (reason : ReasonOf) (written : OfNamed e row (λ n. IsWritten n.form reason.parity)) (numbers : AreRising 1 (length e.parities) reason.sources)
         (sums : OfNamed e row (λ n. n.form ≡ sum_of_numbers e.parities reason.sources)) (clause : OfNamed e row (λ n. IsReasonClause c.trail None n.form reason.parity reason.clause)) where

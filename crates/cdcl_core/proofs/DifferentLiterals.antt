@@ -4,7 +4,10 @@ use Rattle.std.proofs.lemmas.List.{take_more}
 use Rattle.cx_base.specs.Literals.{Literal}
 use Rattle.cx_semantics.specs.Chain.{has_literal, same_literals}
 use Rattle.cx_semantics.proofs.ChainLaws.{and_both}
-use Rattle.search_steps.proofs.Sets.{by_cases, not_both, has_split, has_at_head, has_behind, inside_by}
+use Rattle.cx_semantics.proofs.Members.{has_at_head, has_behind, has_split}
+use Rattle.cx_semantics.proofs.SameSets.{inside_by}
+use Rattle.conflict_learn.proofs.ChainOfResolutions.{by_cases}
+use Rattle.search_steps.proofs.Sets.{not_both}
 use Rattle.cdcl_core.specs.Clauses.{AreDifferent}
 
 -- ---- one more at the end

@@ -9,6 +9,7 @@ use Rattle.cx_base.specs.Problem.{Problem, parities_of}
 use Rattle.cx_semantics.specs.Chain.{has_literal}
 use Rattle.cx_semantics.specs.Integers.{integers_of}
 use Rattle.cx_semantics.specs.Tables.{get}
+use Rattle.cx_semantics.proofs.Members.{has_behind}
 use Rattle.cx_trail.specs.declared.entry.Entry.{Entry as TrailEntry}
 use Rattle.cx_trail.specs.declared.entry.Reason.{Reason}
 use Rattle.cx_trail.specs.declared.entry.Reason.TheVariants as why
@@ -23,7 +24,7 @@ use Rattle.search_steps.specs.Search.{Search, jumped}
 use Rattle.search_steps.specs.LogSteps.{after_round}
 use Rattle.search_steps.specs.Tied.{IsTied, Mirrors}
 use Rattle.search_steps.specs.Ids.{IsRanged}
-use Rattle.search_steps.proofs.Sets.{by_cases, has_behind}
+use Rattle.conflict_learn.proofs.ChainOfResolutions.{by_cases}
 use Rattle.search_steps.proofs.Bridge.{entry_last}
 use Rattle.search_steps.proofs.Reasons.{entry_at_front}
 use Rattle.parity_engine.specs.State.{State}

@@ -17,7 +17,7 @@ use Rattle.search_steps.specs.Trail.{Entry, by_clause, held, back_to, level_of}
 use Rattle.search_steps.specs.Quiet.{HasTrue}
 use Rattle.search_steps.specs.Search.{Search, jumped}
 use Rattle.search_steps.specs.LogSteps.{after_round}
-use Rattle.search_steps.proofs.Sets.{by_cases, has_at_head}
+use Rattle.conflict_learn.proofs.ChainOfResolutions.{by_cases}
 use Rattle.watch_lists.proofs.EventLaws.{fits_pushed}
 use Rattle.parity_engine.specs.State.{State}
 use Rattle.cdcl_core.specs.declared.kept.Kept.{Kept}
@@ -30,6 +30,7 @@ use Rattle.cdcl_core.proofs.Entered.{true_more, kept_at, new_at, old_or_new, len
 use Rattle.search_steps.specs.LogSteps.{RestOnClauses}
 use Rattle.cx_semantics.proofs.ChainLaws.{and_both}
 use Rattle.cx_semantics.proofs.Closure.{inside_itself}
+use Rattle.cx_semantics.proofs.Members.{has_at_head}
 use Rattle.cdcl_core.specs.Ties.{IsStored, IsClauseReason, IsCovered}
 
 id_front : (xs : List ℕ) (y i : ℕ) → i < length xs → get_or (xs ++ y ∷ []) i 0 ≡ get_or xs i 0

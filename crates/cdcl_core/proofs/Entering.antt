@@ -22,8 +22,8 @@ use Rattle.search_steps.proofs.Rounds.{deleted_trail, deleted_get, deleted_parit
 use Rattle.search_steps.proofs.RoundEnds.{round_is_tidy, round_stays_tied}
 use Rattle.search_steps.proofs.IdLaws.{ranged_round_keeps, round_ranged, next_is_free, low_is_no_row}
 use Rattle.search_steps.proofs.StartLaws.{variables_are_within}
-use Rattle.search_steps.proofs.Sets.{by_cases}
 use Rattle.conflict_learn.specs.Learning.{negated_at}
+use Rattle.conflict_learn.proofs.ChainOfResolutions.{by_cases}
 use Rattle.parity_engine.specs.State.{State}
 use Rattle.cdcl_core.specs.declared.kept.Kept.{Kept}
 use Rattle.cdcl_core.specs.Ties.{first_row_id, IsNamedBy}

@@ -13,9 +13,11 @@ use Rattle.cx_semantics.specs.Chain.{has_literal, is_inside, same_literals}
 use Rattle.cx_semantics.specs.Fresh.{is_tautology}
 use Rattle.cx_semantics.proofs.ChainLaws.{and_parts}
 use Rattle.cx_semantics.proofs.Closure.{has_by_inside, or_right}
+use Rattle.cx_semantics.proofs.Members.{has_at_head, has_behind, has_split}
 use Rattle.clause_arena.specs.Clauses.{Stored, IsLive, clause_at, literals_in, id_in}
 use Rattle.cx_trail.specs.Sequence.{TrailState}
-use Rattle.search_steps.proofs.Sets.{by_cases, not_both, has_at_head, has_behind, has_split}
+use Rattle.conflict_learn.proofs.ChainOfResolutions.{by_cases}
+use Rattle.search_steps.proofs.Sets.{not_both}
 use Rattle.search_steps.proofs.Lists.{all_append}
 use Rattle.search_steps.proofs.QuietLaws.{within_member}
 use Rattle.watch_lists.specs.Watching.{Fits, IsAttached}

@@ -4,7 +4,7 @@ use Rattle.std.proofs.lemmas.Bool.{leb-true, leb-false}
 use Rattle.std.proofs.lemmas.List.{length-take-le}
 use Rattle.cx_trail.specs.Sequence.{TrailState, IsTrail, entry_at}
 use Rattle.cx_trail.proofs.CellLaws.{at_take}
-use Rattle.search_steps.proofs.Sets.{by_cases}
+use Rattle.conflict_learn.proofs.ChainOfResolutions.{by_cases}
 
 abbrev pub front : TrailState → ℕ → TrailState
 front u n = record u { entries = take n u.entries }

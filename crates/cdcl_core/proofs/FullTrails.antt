@@ -1,6 +1,6 @@
 -- The values of a full trail meet the formula where both engines are quiet.
 use Rattle.std.proofs.Common.{◌≡◌, ◌≢◌, nat_eq, eqb-true, ◌∷◌, ◌++◌, refl, sym, ap, ◌∙◌, subst, ℕ, ◌+◌, ◌-◌, ◌<◌, Bool, true, false, not, ◌||◌, List, [], length, get_or, Option, arith}
-use Rattle.std.proofs.lemmas.Bool.{eqb-false}
+use Rattle.std.proofs.lemmas.Bool.{eqb-false, or_right}
 use Rattle.std.proofs.Math.ListN.{get_or-append}
 use Rattle.std.proofs.Math.Seq.{get_or-append_seam}
 use Rattle.cx_base.specs.Literals.{Literal, literal_true, value_of, differ}
@@ -12,7 +12,8 @@ use Rattle.cx_trail.specs.Sequence.{TrailState, IsTrail, IsFull, IsTrueIn, entry
 use Rattle.parity_engine.specs.State.{State}
 use Rattle.search_steps.specs.Trail.{all_held}
 use Rattle.search_steps.specs.Search.{Search, IsSearch}
-use Rattle.search_steps.proofs.Sets.{by_cases, each_member}
+use Rattle.conflict_learn.proofs.ChainOfResolutions.{by_cases}
+use Rattle.search_steps.proofs.Sets.{each_member}
 use Rattle.search_steps.proofs.Bridge.{true_is_held, held_is_true}
 use Rattle.search_steps.proofs.EndLaws.{full_is_met}
 use Rattle.cdcl_core.specs.declared.kept.Kept.{Kept}
@@ -52,10 +53,6 @@ module _ (formula : Problem) (c : Kept) (e : State) (s : Search) (ok : IsSearch 
       let r = full v low (omega (arith, high, n)) in
       go r.0 r.1 (entry_at c.trail.entries r.0).literal.negative refl r.2
     where
-      or_right : (a b : Bool) → b ≡ true → (a || b) ≡ true
-      or_right true b h = refl
-      or_right false b h = h
-
       go : (i : ℕ) → i < length c.trail.entries → (b : Bool) → (entry_at c.trail.entries i).literal.negative ≡ b → (entry_at c.trail.entries i).literal.variable ≡ v
           → (has_literal (all_held s.trail) (record { variable = v; negative = false }) || has_literal (all_held s.trail) (record { variable = v; negative = true })) ≡ true
       go i less true sign same =

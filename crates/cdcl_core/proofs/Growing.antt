@@ -8,6 +8,7 @@ use Rattle.cx_base.specs.Literals.{Literal, literal_true}
 use Rattle.cx_base.specs.Problem.{Problem}
 use Rattle.cx_semantics.specs.Chain.{has_literal}
 use Rattle.cx_semantics.specs.Tables.{Table}
+use Rattle.cx_semantics.proofs.Members.{has_behind}
 use Rattle.cx_trail.specs.declared.entry.Entry.{Entry as TrailEntry}
 use Rattle.cx_trail.specs.declared.entry.Reason.{Reason}
 use Rattle.cx_trail.specs.declared.entry.Reason.TheVariants as reason
@@ -21,7 +22,7 @@ use Rattle.search_steps.specs.Trail.{Entry, Why, held, level_of}
 use Rattle.search_steps.specs.Search.{Search, forced_on}
 use Rattle.search_steps.specs.Ids.{IsRanged}
 use Rattle.search_steps.specs.Tied.{IsTied}
-use Rattle.search_steps.proofs.Sets.{by_cases, has_behind}
+use Rattle.conflict_learn.proofs.ChainOfResolutions.{by_cases}
 use Rattle.search_steps.proofs.Bridge.{entry_last, entry_before}
 use Rattle.cdcl_core.specs.declared.kept.Kept.{Kept}
 use Rattle.cdcl_core.proofs.Alike.{served_alike}

@@ -12,7 +12,6 @@ use Rattle.search_steps.specs.Trail.{back_to}
 use Rattle.search_steps.specs.Quiet.{IsOfParities}
 use Rattle.search_steps.specs.Search.{Search, jumped}
 use Rattle.search_steps.specs.LogSteps.{after_round}
-use Rattle.search_steps.proofs.Sets.{by_cases}
 use Rattle.conflict_learn.specs.Learning.{negated_at, literal_at}
 use Rattle.parity_engine.specs.State.{State}
 use Rattle.cdcl_core.specs.declared.kept.Kept.{Kept}
@@ -32,6 +31,7 @@ use Rattle.cx_base.specs.Literals.{same_literal}
 use Rattle.watch_lists.specs.Attaching.{CanBeWatched, literal_at as nth}
 use Rattle.conflict_learn.specs.Learning.{IsFalling}
 use Rattle.conflict_learn.specs.Levels.{second, levels_at}
+use Rattle.conflict_learn.proofs.ChainOfResolutions.{by_cases}
 
 all_within : (n : ℕ) (lits : List Literal) → AreWithin n lits → (k : ℕ) (d : Literal) → k < length lits → (1 ≤ (get_or lits k d).variable) × ((get_or lits k d).variable ≤ n)
 all_within n [] w k d h = absurd (omega (arith, h))

@@ -3,7 +3,7 @@ use Rattle.std.proofs.Common.{◌≡◌, ◌≢◌, refl, sym, ap, ◌∙◌, su
 use Rattle.std.specs.List.{list_all}
 use Rattle.std.specs.Prelude.{IsTrue}
 use Rattle.std.specs.FinSet as set
-use Rattle.std.proofs.lemmas.Bool.{eqb-false}
+use Rattle.std.proofs.lemmas.Bool.{eqb-false, or_right}
 use Rattle.std.proofs.lemmas.List.{get_or-set_same, get_or-set_other, length-take}
 use Rattle.std.proofs.Math.Seq.{take-length}
 use Rattle.cx_base.specs.Literals.{Literal, negate, literal_true, same_literal}
@@ -12,6 +12,7 @@ use Rattle.cx_base.specs.Problem.{Problem, parities_of, parity_met, clause_met, 
 use Rattle.cx_semantics.specs.Chain.{has_literal, negations}
 use Rattle.cx_semantics.specs.declared.steps.LogEvent.{LogEvent}
 use Rattle.cx_semantics.proofs.ChainLaws.{literal_true-negate, same_literal-itself}
+use Rattle.cx_semantics.proofs.Members.{has_at_head, has_behind, has_split}
 use Rattle.cx_trail.specs.declared.entry.Entry.{Entry as TrailEntry}
 use Rattle.cx_trail.specs.declared.entry.Reason.TheVariants as reason
 use Rattle.cx_trail.specs.Sequence.{TrailState, pushed, IsTrueIn, IsOpenIn, IsAssignedIn, IsTrail}
@@ -22,7 +23,7 @@ use Rattle.parity_engine.specs.declared.state.Mood.{Mood}
 use Rattle.parity_engine.specs.declared.state.Mood.TheVariants.{Busy, Calm, Broken}
 use Rattle.parity_engine.specs.declared.event.ParityEvent.TheVariants.{Implied, Conflict}
 use Rattle.parity_engine.specs.State.{State, Answers, Named, names, named_at, known, known_from, held_at, is_unassigned, IsImplied, IsBroken, IsNamedNow, IsSameNamed}
-use Rattle.parity_engine.proofs.Known.{has_known}
+use Rattle.parity_engine.proofs.Known.{has_known, none_is}
 use Rattle.parity_engine.specs.Equations.{numbered}
 use Rattle.xor_reason.proofs.TrailValues.{trail_values, trail_values_agree}
 use Rattle.search_steps.specs.Trail.{Entry, by_row}
@@ -30,7 +31,8 @@ use Rattle.search_steps.specs.Quiet.{IsOfParities}
 use Rattle.search_steps.specs.Search.{Search, IsSearch, forced_on}
 use Rattle.search_steps.specs.Tied.{IsTied, ForcesOn}
 use Rattle.search_steps.specs.Engine.{HoldsValues}
-use Rattle.search_steps.proofs.Sets.{by_cases, not_both, each_member, has_at_head, has_behind, has_split}
+use Rattle.conflict_learn.proofs.ChainOfResolutions.{by_cases}
+use Rattle.search_steps.proofs.Sets.{not_both, each_member}
 use Rattle.search_steps.proofs.Bridge.{entry_before, level_tied}
 use Rattle.search_steps.proofs.EngineLaws.{known_is_true, no_value_is_open}
 use Rattle.search_steps.proofs.CodeSteps.{row_step_keeps}
@@ -64,10 +66,6 @@ any_negated v (x ∷ lits) some = go (literal_true v x) refl some (any_negated v
   where
     go : (b : Bool) → literal_true v x ≡ b → (b && list_all (literal_true v) lits) ≡ false → (list_all (literal_true v) lits ≡ false → clause_met v (negations lits) ≡ true) → (literal_true v (negate x) || clause_met v (negations lits)) ≡ true
     go true is h rec = or_right (literal_true v (negate x)) (clause_met v (negations lits)) (rec h)
-      where
-        or_right : (a b : Bool) → b ≡ true → (a || b) ≡ true
-        or_right true b g = refl
-        or_right false b g = g
     go false is h rec = ap (λ b. b || clause_met v (negations lits)) (literal_true-negate v x ∙ ap not is)
 
 abbrev pub clause_of : State → Literal → List Literal
@@ -80,10 +78,6 @@ implied_of_parities e l f wide i = record {
       (λ all. ap (λ b. b || clause_met v (negations (known e))) (i.forced v (record { agrees = all; meets = met })))
       (λ some. or_right (literal_true v l) (clause_met v (negations (known e))) (any_negated v (known e) some));
 }
-  where
-    or_right : (a b : Bool) → b ≡ true → (a || b) ≡ true
-    or_right true b g = refl
-    or_right false b g = g
 
 -- ---- what the engine knows stands on the trail
 module _ (formula : Problem) (c : Kept) (e : State) (rows : List (List Literal)) (s : Search) (t : Ties formula c e rows s) where
@@ -122,11 +116,7 @@ module _ (formula : Problem) (c : Kept) (e : State) (rows : List (List Literal))
       older_is (x ∷ newer) parts none = absurd (omega (arith, none))
 
   pub implied_is_open : HasAll c → (l : Literal) → is_unassigned (held_at e.values l.variable) ≡ true → IsOpenIn c.trail.entries l.variable
-  implied_is_open all l none = no_value_is_open s.trail e.values (all_fed all) c.trail.entries t.follows.tied l.variable (is_none (held_at e.values l.variable) none)
-    where
-      is_none : (o : Option Held) → is_unassigned o ≡ true → o ≡ None
-      is_none None h = refl
-      is_none (Some h) g = absurd (true≢false (sym g))
+  implied_is_open all l none = no_value_is_open s.trail e.values (all_fed all) c.trail.entries t.follows.tied l.variable (none_is (held_at e.values l.variable) none)
 
   -- ---- the rows that are named
   module _ (row : ℕ) (n : Named) (mood : Mood) (less : row < length e.named) (same : IsSameNamed (named_at e row) n) where

@@ -1,5 +1,5 @@
 -- A list of one literal for each variable has one sign of each.
-use Rattle.std.proofs.Common.{◌≡◌, refl, sym, ap, ◌∙◌, ℕ, suc, ◌+◌, ◌≤◌, Bool, true, false, cond, ◌||◌, nat_eq, eq-eqb, List, [], ◌∷◌, length, map, arith, inl, inr, true≢false}
+use Rattle.std.proofs.Common.{◌≡◌, refl, sym, ap, ◌∙◌, ℕ, suc, ◌+◌, ◌≤◌, Bool, true, false, cond, nat_eq, List, [], ◌∷◌, length, arith, inl, inr, true≢false}
 use Rattle.std.specs.List.{list_any}
 use Rattle.std.specs.Cmp.{nat_cmp_total}
 use Rattle.std.specs.Ordering.{nat_cmp}
@@ -8,10 +8,10 @@ use Rattle.cx_base.specs.Literals.{Literal, same_literal}
 use Rattle.cx_base.specs.Parity.{NormalForm, HasOneOfEach}
 use Rattle.cx_semantics.specs.Chain.{has_literal}
 use Rattle.cx_semantics.proofs.ChainLaws.{same_literal-itself}
-use Rattle.search_steps.proofs.Sets.{by_cases, not_both, has_split}
-
-abbrev variables : List Literal → List ℕ
-variables lits = map (λ x. x.variable) lits
+use Rattle.cx_semantics.proofs.Members.{has_split}
+use Rattle.cx_semantics.proofs.Widths.{variable_in, length-variables, variables}
+use Rattle.conflict_learn.proofs.ChainOfResolutions.{by_cases}
+use Rattle.search_steps.proofs.Sets.{not_both}
 
 -- a set of a list's members has at most as many, and fewer where one stands twice
 len_more : (x : ℕ) (xs : List ℕ) → set.len (set.from_list {R = nat_cmp} (x ∷ xs)) ≡ cond (list_any (λ y. nat_eq y x) xs) (set.len (set.from_list {R = nat_cmp} xs)) (set.len (set.from_list {R = nat_cmp} xs) + 1)
@@ -32,17 +32,6 @@ heads_apart x xs h = by_cases (list_any (λ y. nat_eq y x) xs)
     (λ e. absurd (let is = h ∙ len_more x xs ∙ ap (λ c. cond c (set.len (set.from_list {R = nat_cmp} xs)) (set.len (set.from_list {R = nat_cmp} xs) + 1)) e in let few = at_most xs in omega (arith, is, few)))
     (λ e. (e, let is = h ∙ len_more x xs ∙ ap (λ c. cond c (set.len (set.from_list {R = nat_cmp} xs)) (set.len (set.from_list {R = nat_cmp} xs) + 1)) e in omega (arith, is)))
 
-pub variable_in : (lits : List Literal) (l : Literal) → has_literal lits l ≡ true → list_any (λ y. nat_eq y l.variable) (variables lits) ≡ true
-variable_in [] l h = absurd (true≢false (sym h))
-variable_in (m ∷ ms) l h = elim (has_split m ms l h) [
-  | inl e ↦ ap (λ b. b || list_any (λ y. nat_eq y l.variable) (variables ms)) (eq-eqb m.variable l.variable (ap (λ x. x.variable) (sym e)))
-  | inr g ↦ or_right (nat_eq m.variable l.variable) (variable_in ms l g)
-]
-  where
-    or_right : (a : Bool) → list_any (λ y. nat_eq y l.variable) (variables ms) ≡ true → (a || list_any (λ y. nat_eq y l.variable) (variables ms)) ≡ true
-    or_right true g = refl
-    or_right false g = g
-
 not_twice : (lits : List Literal) → length (variables lits) ≡ set.len (set.from_list {R = nat_cmp} (variables lits)) → (l m : Literal) → has_literal lits l ≡ true → has_literal lits m ≡ true → l.variable ≡ m.variable → l ≡ m
 not_twice [] h l m a b same = absurd (true≢false (sym a))
 not_twice (x ∷ lits) h l m a b same =
@@ -58,11 +47,7 @@ not_twice (x ∷ lits) h l m a b same =
       ]
     ]
 
-same_length : (lits : List Literal) → length (variables lits) ≡ length lits
-same_length [] = refl
-same_length (l ∷ lits) = ap suc (same_length lits)
-
 pub one_sign : (form : NormalForm) (lits : List Literal) → HasOneOfEach form.variables lits → (l m : Literal) → has_literal lits l ≡ true → has_literal lits m ≡ true → l.variable ≡ m.variable → same_literal l m ≡ false → ⊥
 one_sign form lits each l m a b same apart =
-    let one : l ≡ m = not_twice lits (same_length lits ∙ each.once ∙ ap set.len (sym each.same)) l m a b same in
+    let one : l ≡ m = not_twice lits (length-variables lits ∙ each.once ∙ ap set.len (sym each.same)) l m a b same in
     true≢false (sym (same_literal-itself l) ∙ ap (same_literal l) one ∙ apart)

@@ -21,10 +21,10 @@ use Rattle.cx_semantics.specs.LogRules.{IsOriginalParity}
 use Rattle.cx_semantics.specs.Tables.{Table, get}
 use Rattle.cx_semantics.proofs.Lookups.{Looks-empty}
 use Rattle.conflict_learn.specs.declared.fault.CoreFault.{CoreFault}
+use Rattle.conflict_learn.proofs.ChainOfResolutions.{by_cases}
 use Rattle.search_steps.specs.Holding.{AreTold}
 use Rattle.search_steps.specs.Search.{Search, told}
 use Rattle.search_steps.specs.Start.{IsBegun, start}
-use Rattle.search_steps.proofs.Sets.{by_cases}
 use Rattle.search_steps.proofs.StartLaws.{nothing_is_begun, clause_begins, parity_begins, literals_are}
 use Rattle.cdcl_core.specs.Originals.{AreListed, HasBegun, AreCounted}
 use Rattle.cdcl_core.specs.Results.{IsFresh}

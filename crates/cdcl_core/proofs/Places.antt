@@ -7,7 +7,7 @@ use Rattle.cx_trail.specs.declared.entry.Entry.{Entry as TrailEntry}
 use Rattle.cx_trail.specs.Sequence.{entry_at}
 use Rattle.search_steps.specs.Trail.{Entry, back_to}
 use Rattle.search_steps.specs.Tied.{IsTied}
-use Rattle.search_steps.proofs.Sets.{by_cases}
+use Rattle.conflict_learn.proofs.ChainOfResolutions.{by_cases}
 use Rattle.search_steps.proofs.Bridge.{entry_last}
 use Rattle.search_steps.proofs.Reasons.{entry_at_front}
 

@@ -1,27 +1,26 @@
 -- The row that was named for a literal explains it.
-use Rattle.std.proofs.Common.{◌≡◌, ◌≢◌, sym, ap, ◌∙◌, subst, ℕ, suc, ◌<◌, ◌≤◌, true, false, nat_eq, eq-eqb, eqb-true, List, [], length, take, Option, Some, arith, true≢false, length-take}
+use Rattle.std.proofs.Common.{◌≡◌, ◌≢◌, sym, ap, ◌∙◌, subst, ℕ, suc, ◌<◌, ◌≤◌, true, false, nat_eq, eq-eqb, eqb-true, List, [], length, take, Some, arith, true≢false, length-take}
 use Rattle.std.specs.Prelude.{IsSome}
 use Rattle.std.specs.FinSet as set
 use Rattle.std.proofs.lemmas.List.{get_or-take}
+use Rattle.std.proofs.lemmas.Option.{same_Some}
 use Rattle.cx_base.specs.Literals.{Literal, same_literal}
 use Rattle.cx_base.specs.Parity.{NormalForm}
 use Rattle.cx_semantics.specs.Chain.{has_literal}
 use Rattle.cx_trail.specs.declared.entry.Entry.{Entry}
 use Rattle.cx_trail.specs.Sequence.{TrailState, IsTrail, IsTrueIn, IsFalseBefore, entry_at, no_entry}
 use Rattle.conflict_learn.specs.Learning.{IsAntecedent}
-use Rattle.parity_engine.specs.State.{State, Named, named_at, OfNamed, AreRising}
+use Rattle.conflict_learn.proofs.ChainOfResolutions.{by_cases}
+use Rattle.parity_engine.specs.State.{State, named_at, OfNamed, AreRising}
 use Rattle.parity_engine.specs.Equations.{sum_of_numbers}
 use Rattle.parity_engine.specs.Written.{IsWritten}
 use Rattle.xor_reason.specs.ReasonClause.{AreAssigned, IsReasonFor, GivesLiteral, IsReasonClause}
 use Rattle.xor_reason.specs.declared.reason.ReasonOf.{ReasonOf}
-use Rattle.search_steps.proofs.Sets.{by_cases, not_both}
+use Rattle.search_steps.proofs.Sets.{not_both}
 use Rattle.cdcl_core.specs.Ties.{IsRowReason}
 use Rattle.cdcl_core.specs.Explaining.{Explains, IsReasonOf}
 use Rattle.cdcl_core.proofs.OneSign.{one_sign}
 use Rattle.cdcl_core.proofs.RowSteps.{in_form, low_form}
-
-pub some_of : (m n : Named) → (let o : Option Named = Some m in o) ≡ Some n → m ≡ n
-some_of m n e = cc
 
 -- the first entries of a trail stand on it
 pub entry_taken : (entries : List Entry) (n i : ℕ) → i < length (take n entries) → entry_at (take n entries) i ≡ entry_at entries i
@@ -51,11 +50,11 @@ module _ (t : TrailState) (e : State) (l : Literal) (row : ℕ) (r : IsReasonOf 
   all_assigned n is v low has = by_cases (nat_eq v l.variable)
       (λ same. (i, r.1.0, ap (λ m. m.variable) here ∙ sym (eqb-true v l.variable same)))
       (λ apart. let o = others_assigned v low (λ same. not_both (nat_eq v l.variable) (eq-eqb v l.variable same) apart)
-      (ap (λ m. set.contains m.form.variables v) (some_of why.named n (sym why.is ∙ is)) ∙ has) in
+      (ap (λ m. set.contains m.form.variables v) (same_Some why.named n (sym why.is ∙ is)) ∙ has) in
       (o.0, o.2, o.3))
 
   pub gives_literal : OfNamed e row (λ n. IsReasonFor t (Some l) n.form)
-  gives_literal n is = subst (λ m. GivesLiteral t l m.form) (some_of why.named n (sym why.is ∙ is)) (record {
+  gives_literal n is = subst (λ m. GivesLiteral t l m.form) (same_Some why.named n (sym why.is ∙ is)) (record {
     is_true = (i, (r.1.0, here));
     has = ap (λ m. set.contains why.named.form.variables m.variable) (sym here) ∙ why.has;
     met = λ values agrees. why.met values (λ m is_true. agrees m (in_trail m is_true));

@@ -27,7 +27,6 @@ use Rattle.xor_reason.proofs.ClauseLaws.{contains_written, has_written}
 use Rattle.search_steps.specs.Search.{Search, IsSearch, told}
 use Rattle.search_steps.specs.LogSteps.{IsAddition, IsRowOf, IsClauseOfRow, IsRowReason, row_events, all_told}
 use Rattle.search_steps.specs.Holding.{AreTold}
-use Rattle.search_steps.proofs.Sets.{has_at_head, has_behind}
 use Rattle.search_steps.proofs.StartLaws.{variables_are_within}
 use Rattle.search_steps.proofs.LogLaws.{sum_keeps, row_clause_keeps}
 use Rattle.search_steps.proofs.RowLaws.{row_is_of_parities}
@@ -37,6 +36,8 @@ use Rattle.search_steps.proofs.EndLaws.{is_log_open}
 use Rattle.search_steps.proofs.Ends.{row_clause_ends, row_clause_is_marked, ended_is_unmet}
 use Rattle.cx_base.specs.Problem.{Unmet}
 use Rattle.cx_semantics.specs.Marked.{Marked}
+use Rattle.cx_semantics.proofs.Members.{has_at_head, has_behind}
+use Rattle.cx_semantics.proofs.Widths.{variable_in}
 use Rattle.search_steps.specs.LogSteps.{IsEnded}
 use Rattle.cdcl_core.specs.Concluding.{IsEndedWith}
 use Rattle.cdcl_core.specs.declared.kept.Kept.{Kept}
@@ -46,7 +47,6 @@ use Rattle.conflict_learn.specs.declared.fault.CoreFault.{CoreFault}
 use Rattle.conflict_learn.specs.declared.fault.CoreFault.TheVariants.{Memory}
 use Rattle.cdcl_core.specs.Tells.{TellsAll, GivesUp, IsLeft, with_events}
 use Rattle.cdcl_core.specs.Explaining.{Explains}
-use Rattle.cdcl_core.proofs.OneSign.{variable_in}
 use Rattle.cdcl_core.proofs.Events.{no_more, more_and_more, gives_up}
 use Rattle.cdcl_core.proofs.TableLaws.{put_same, put_other, drop_other, put_answers_below, clauses_stay, units_stay}
 

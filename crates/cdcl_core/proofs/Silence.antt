@@ -8,6 +8,7 @@ use Rattle.cx_semantics.specs.Chain.{has_literal}
 use Rattle.cx_semantics.specs.Fresh.{is_tautology}
 use Rattle.cx_semantics.specs.Marked.{is_among}
 use Rattle.cx_semantics.proofs.Closure.{has_by_inside}
+use Rattle.cx_semantics.proofs.Members.{has_at_head, has_behind}
 use Rattle.clause_arena.specs.Clauses.{literals_at}
 use Rattle.watch_lists.specs.Events.{Happens}
 use Rattle.watch_lists.specs.declared.event.Event.TheVariants as event
@@ -15,7 +16,8 @@ use Rattle.parity_engine.specs.State.{State, IsSilent}
 use Rattle.search_steps.specs.Trail.{held, all_held}
 use Rattle.search_steps.specs.Quiet.{Quiet, RestsOn, HasNoClash, ClausesQuiet, ParitiesQuiet}
 use Rattle.search_steps.specs.Search.{Search, IsSearch}
-use Rattle.search_steps.proofs.Sets.{by_cases, not_both, has_at_head, has_behind, true_rests, tautology_rests}
+use Rattle.conflict_learn.proofs.ChainOfResolutions.{by_cases}
+use Rattle.search_steps.proofs.Sets.{not_both, true_rests, tautology_rests}
 use Rattle.search_steps.proofs.TrailLaws.{held_inside}
 use Rattle.search_steps.proofs.EngineLaws.{silent_is_quiet}
 use Rattle.search_steps.proofs.OverSearch.{no_clash}

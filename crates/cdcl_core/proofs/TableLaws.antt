@@ -6,7 +6,7 @@ use Rattle.cx_semantics.specs.Tables.{Table, get}
 use Rattle.cx_semantics.proofs.Lookups.{Looks-insert, Looks-remove}
 use Rattle.cx_trail.specs.Sequence.{TrailState}
 use Rattle.search_steps.specs.Trail.{Entry}
-use Rattle.search_steps.proofs.Sets.{by_cases}
+use Rattle.conflict_learn.proofs.ChainOfResolutions.{by_cases}
 use Rattle.cdcl_core.specs.declared.kept.Kept.{Kept}
 use Rattle.cdcl_core.specs.Ties.{IsNamedBy, AreClauses, AreUnits, first_row_id}
 

@@ -15,6 +15,7 @@ use Rattle.cx_semantics.specs.Chain.{has_literal, same_literals}
 use Rattle.cx_semantics.specs.Fresh.{IsLive}
 use Rattle.cx_semantics.specs.Integers.{integer_of, literal, literals, integers_of}
 use Rattle.cx_semantics.specs.Tables.{Table, get}
+use Rattle.cx_semantics.proofs.Members.{has_at_head}
 use Rattle.cx_trail.specs.declared.entry.Entry.{Entry as TrailEntry}
 use Rattle.cx_trail.specs.declared.entry.Reason.{Reason}
 use Rattle.cx_trail.specs.declared.entry.Reason.TheVariants as reason
@@ -30,7 +31,7 @@ use Rattle.search_steps.specs.Trail.{Entry, rests_on, held, all_held, level_of}
 use Rattle.search_steps.proofs.Bridge.{to_held}
 use Rattle.search_steps.proofs.CodeSteps.{forces_by}
 use Rattle.search_steps.proofs.IdLaws.{next_is_free, clause_ranged, rest_ranged}
-use Rattle.search_steps.proofs.Sets.{by_cases, has_at_head}
+use Rattle.conflict_learn.proofs.ChainOfResolutions.{by_cases}
 use Rattle.search_steps.proofs.StartLaws.{variables_are_within}
 use Rattle.search_steps.proofs.UnitLaws.{held_same, level_same}
 use Rattle.search_steps.proofs.UnitSteps.{unit_rests_keeps}

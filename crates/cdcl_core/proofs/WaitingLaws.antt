@@ -6,6 +6,7 @@ use Rattle.std.proofs.Math.ListN.{get_or-append}
 use Rattle.std.proofs.Math.Seq.{get_or-append_seam}
 use Rattle.std.specs.List.{AllByRecursion}
 use Rattle.std.specs.Global.{Vec}
+use Rattle.std.proofs.lemmas.Option.{same_Some}
 use Rattle.cx_base.specs.Literals.{Literal, same_literal}
 use Rattle.cx_base.specs.Problem.{Problem, clauses_of, parities_of, IsWithinVariables}
 use Rattle.cx_semantics.specs.declared.steps.LogEvent.{LogEvent}
@@ -13,6 +14,7 @@ use Rattle.cx_semantics.specs.Chain.{has_literal, is_inside, same_literals}
 use Rattle.cx_semantics.specs.Tables.{Table, get}
 use Rattle.cx_semantics.proofs.ChainLaws.{and_parts, same_literal-itself}
 use Rattle.cx_semantics.proofs.Closure.{has_by_inside}
+use Rattle.cx_semantics.proofs.Members.{has_at_head, has_split}
 use Rattle.cx_trail.specs.declared.entry.Entry.{Entry as TrailEntry}
 use Rattle.cx_trail.specs.declared.entry.Reason.{Reason}
 use Rattle.cx_trail.specs.Sequence.{TrailState, IsTrail, IsTrueIn, IsFalseIn, IsOpenIn, entry_at, pushed}
@@ -32,7 +34,8 @@ use Rattle.search_steps.proofs.CodeSteps.{clause_step_keeps}
 use Rattle.search_steps.proofs.EngineLaws.{fresh_holds}
 use Rattle.search_steps.proofs.IdLaws.{begun_is_ranged, begun_has_free_sums, force_ranged, next_is_free}
 use Rattle.search_steps.proofs.LogLaws.{falsified_has_chain}
-use Rattle.search_steps.proofs.Sets.{by_cases, not_both, has_at_head, has_split}
+use Rattle.conflict_learn.proofs.ChainOfResolutions.{by_cases}
+use Rattle.search_steps.proofs.Sets.{not_both}
 use Rattle.search_steps.proofs.StartLaws.{begun_is_search}
 use Rattle.search_steps.proofs.Stored.{stored_is_false}
 use Rattle.cdcl_core.specs.declared.kept.Kept.{Kept}
@@ -115,9 +118,6 @@ module _ (table : Table) (t : TrailState) (es : List Entry) (ids : List ℕ) (u 
     rest = ((n, rests), rest);
     all = λ high i far less. absurd (no_more_above high);
   }
-
-some_is : (x y : List Literal) → ◌≡◌ {A = Option (List Literal)} (Some x) (Some y) → x ≡ y
-some_is x y q = cc
 
 busy : Busy ≡ Broken → ⊥
 busy q = cc
@@ -406,7 +406,7 @@ module _ (formula : Problem) (c : Kept) (told : Option (List LogEvent)) (st : St
         };
     covered = λ n clause low live.
         let number = is_number n clause live low in
-        subst (IsCovered c st.0.trail) (some_is (clause_number formula n) clause (sym (st.3.clauses.numbered n number.0 number.1) ∙ live)) (elim (st.3.covered n number.0 number.1) [
+        subst (IsCovered c st.0.trail) (same_Some (clause_number formula n) clause (sym (st.3.clauses.numbered n number.0 number.1) ∙ live)) (elim (st.3.covered n number.0 number.1) [
           | inl done ↦ done
           | inr waits ↦ absurd (none_waits n waits)
         ]);

@@ -13,13 +13,14 @@ use Rattle.std.proofs.lemmas.List.Folds.{list_any-append}
 use Rattle.std.specs.BTreeMap.{is_at}
 use Rattle.std.specs.Cmp.{unsigned_tied}
 use Rattle.cx_base.specs.Literals.{Literal, negate, same_literal}
+use Rattle.cx_base.proofs.LiteralLaws.{negate-negate}
 use Rattle.cx_semantics.specs.Chain.{has_literal}
-use Rattle.cx_semantics.proofs.ChainLaws.{same_literal-itself, negate-negate}
+use Rattle.cx_semantics.proofs.ChainLaws.{same_literal-itself}
+use Rattle.cx_semantics.proofs.Members.{has_at_head, has_behind, has_split, has_left, has_right, has_either}
 use Rattle.cx_trail.specs.Sequence.{TrailState, entry_at, IsTrail}
 use Rattle.conflict_learn.proofs.Progress.{IsSeeking, HasFound, Analysing, roof}
 use Rattle.conflict_learn.specs.Learning.{literal_at, negated_at, Follows, AreHeld, IsAntecedent, AreAntecedents, IsLearned, level_at, has_place, IsFalling}
 use Rattle.conflict_learn.specs.Touching.{Touched}
-use Rattle.conflict_learn.proofs.MemberLaws.{has_at_head, has_behind, has_split, has_left, has_right, has_either}
 use Rattle.conflict_learn.proofs.ChainOfResolutions.{Resolves, by_cases, negated_in, negations_by, conflict_serves, resolved_serves}
 
 -- ---- places of a list

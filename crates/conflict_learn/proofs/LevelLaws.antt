@@ -4,7 +4,7 @@ use Rattle.std.proofs.lemmas.Bool.{eqb-false, eq-eqb, ne_eqb}
 use Rattle.std.proofs.lemmas.List.{take_more, take_all, length-map, get_or-map}
 use Rattle.std.specs.List.{AllByRecursion}
 use Rattle.cx_base.specs.Literals.{Literal, negate}
-use Rattle.cx_semantics.proofs.ChainLaws.{negate-negate}
+use Rattle.cx_base.proofs.LiteralLaws.{negate-negate}
 use Rattle.cx_trail.specs.Sequence.{TrailState}
 use Rattle.conflict_learn.specs.Learning.{literal_at, level_at, negated_at, has_place}
 use Rattle.conflict_learn.specs.Levels.{ArePlacesOf, distinct, levels_at, second, NeverRises}

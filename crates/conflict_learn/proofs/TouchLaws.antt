@@ -5,10 +5,10 @@ use Rattle.std.specs.BTreeMap.{is_at}
 use Rattle.std.specs.Cmp.{unsigned_tied}
 use Rattle.cx_base.specs.Literals.{Literal, negate}
 use Rattle.cx_semantics.specs.Chain.{has_literal}
+use Rattle.cx_semantics.proofs.Members.{has_at_head, has_behind, has_split, has_either}
 use Rattle.cx_trail.specs.Sequence.{TrailState}
 use Rattle.conflict_learn.specs.Learning.{literal_at, skips}
 use Rattle.conflict_learn.specs.Touching.{Touched}
-use Rattle.conflict_learn.proofs.MemberLaws.{has_at_head, has_behind, has_split, has_either}
 
 pub has_pushed : (xs : List Literal) (x m : Literal) → has_literal (xs ++ x ∷ []) m ≡ true → (has_literal xs m ≡ true) ⊎ (m ≡ x)
 has_pushed xs x m h = elim (has_either xs (x ∷ []) m h) [

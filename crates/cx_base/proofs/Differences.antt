@@ -5,7 +5,7 @@ use Rattle.std.specs.Cmp.{nat_cmp_total, unsigned_tied, nat_eq_equiv}
 use Rattle.std.specs.FinSet as set
 use Rattle.cx_base.specs.Literals.{differ}
 use Rattle.cx_base.specs.Parity.{symmetric_difference}
-use Rattle.cx_base.proofs.ParityLaws.{contains-symmetric_difference}
+use Rattle.cx_base.proofs.ParityLaws.{contains-symmetric_difference, differ_false}
 
 -- ---- Booleans
 
@@ -20,10 +20,6 @@ differ_turned true true = refl
 differ_turned true false = refl
 differ_turned false true = refl
 differ_turned false false = refl
-
-pub differ_false : (b : Bool) → differ b false ≡ b
-differ_false true = refl
-differ_false false = refl
 
 pub differ_itself : (b : Bool) → differ b b ≡ false
 differ_itself true = refl

@@ -1,12 +1,9 @@
 -- A literal's negation, and its code.
 use Rattle.std.proofs.Common.{◌≡◌, ◌≢◌, ℕ, ◌+◌, ◌*◌, ◌<◌, ◌≤◌, cond, arith, sym, ap, ◌∙◌, refl, Bool, true, false, not, ◌⊎◌, inl, inr, ⊎_elim}
 use Rattle.std.proofs.lemmas.Bool.{cases_eq, false≢true}
+use Rattle.std.proofs.Math.Bool.{not-not}
 use Rattle.cx_base.specs.Literals.{Literal, negate, code_of, literal_of_code}
 use Rattle.cx_base.specs.Codes.{literal_of_code-code_of}
-
-not-not : (b : Bool) → not (not b) ≡ b
-not-not true = refl
-not-not false = refl
 
 pub negate-negate : (l : Literal) → negate (negate l) ≡ l
 negate-negate l = λ i. record { variable = l.variable; negative = not-not l.negative i }

@@ -1,6 +1,7 @@
 -- A worked case of a marked log: one conflict, and the clause learned from it.
 use Rattle.std.proofs.Common.{◌≡◌, refl, sym, ap, ◌∙◌, subst, ℕ, ℤ, pos, negsuc, Bool, true, false, cond, not, ◌||◌, nat_eq, List, [], ◌∷◌, ◌++◌, map, fold, Option, Some, None, true≢false, lit≤, inl}
 use Rattle.std.specs.List.{list_any, AllByRecursion}
+use Rattle.std.proofs.lemmas.Option.{same_Some}
 use Rattle.cx_base.specs.Literals.{Literal}
 use Rattle.cx_base.specs.Problem.{Problem, clauses_of}
 use Rattle.cx_base.specs.declared.constraint.Constraint.TheVariants as constraint
@@ -43,15 +44,12 @@ looks = Looks-insert _ _ 4 _ (Looks-insert _ _ 3 _ (Looks-insert _ _ 2 _ (Looks-
 abbrev pub AllAt : (List Literal → Bool) → (ℕ → Option (List Literal)) → Type 0
 AllAt p f = (k : ℕ) (lits : List Literal) → f k ≡ Some lits → p lits ≡ true
 
-some_is : (x y : List Literal) → Some x ≡ Some y → x ≡ y
-some_is x y e = cc
-
 pub AllAt-none : (p : List Literal → Bool) → AllAt p (λ k. None)
 AllAt-none p k lits e = cc
 
 pub AllAt-put : (p : List Literal → Bool) (f : ℕ → Option (List Literal)) (n : ℕ) (lits : List Literal) → p lits ≡ true → AllAt p f → AllAt p (put_at f n (Some lits))
 AllAt-put p f n lits h all k others e = elim (nat_eq k n) as (λ b. cond b (Some lits) (f k) ≡ Some others → p others ≡ true) [
-  | true ↦ λ g. subst (λ x. p x ≡ true) (some_is lits others g) h
+  | true ↦ λ g. subst (λ x. p x ≡ true) (same_Some lits others g) h
   | false ↦ λ g. all k others g
 ] e
 

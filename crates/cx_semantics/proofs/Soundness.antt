@@ -4,6 +4,7 @@ use Rattle.std.specs.List.{list_any, list_all, cons_option}
 use Rattle.std.specs.Ordering.{nat_cmp, eq_by_cmp}
 use Rattle.std.specs.Cmp.{nat_cmp_total}
 use Rattle.std.specs.FinMap as map_
+use Rattle.std.proofs.lemmas.Option.{same_Some}
 use Rattle.cx_base.specs.Literals.{Literal, literal_true}
 use Rattle.cx_base.specs.Problem.{Problem, Meets, Unmet, clause_met, parity_met, constraint_met, clauses_of, parities_of}
 use Rattle.cx_base.specs.Parity.{normal_form}
@@ -31,9 +32,6 @@ pub record TablesMet (v : List Bool) (tables : Tables) : Type 0 where
   pub clauses : AllMet (clause_met v) tables.clauses
   pub parities : AllMet (parity_met v) tables.parities
 
-some_same : (x y : List Literal) → Some x ≡ Some y → x ≡ y
-some_same x y e = cc
-
 none_some : (x : List Literal) → None ≡ Some x → ⊥
 none_some x e = cc
 
@@ -46,7 +44,7 @@ met_named met table h (n ∷ ids) = elim (get table n) as (λ o. get table n ≡
 
 met_insert : (met : List Literal → Bool) (table : Table) (n : ℕ) (lits : List Literal) → AllMet met table → met lits ≡ true → AllMet met (map_.insert table n lits)
 met_insert met table n lits h k m others e = elim (eq_by_cmp nat_cmp m n) as (λ b. cond b (Some lits) (get table m) ≡ Some others → met others ≡ true) [
-  | true ↦ λ f. subst (λ x. met x ≡ true) (some_same lits others f) k
+  | true ↦ λ f. subst (λ x. met x ≡ true) (same_Some lits others f) k
   | false ↦ λ f. h m others f
 ] (sym (map_.get-insert nat_cmp_total table n lits m) ∙ e)
 

@@ -1,6 +1,7 @@
 -- Each kind of step: judged in the log, it is right in the proof, and the tables stay tied.
 use Rattle.std.proofs.Common.{◌≡◌, refl, sym, ap, ◌∙◌, subst, ℕ, ◌+◌, ◌<◌, ◌≤◌, ℤ, pos, nat_abs, Bool, true, false, not, ◌||◌, cond, nat_lt, List, [], ◌∷◌, ◌++◌, length, Option, Some, None, Result, Ok, Err, arith}
 use Rattle.std.specs.List.{list_any}
+use Rattle.std.proofs.lemmas.Option.{same_Some}
 use Rattle.cx_base.specs.Literals.{Literal}
 use Rattle.cx_base.specs.Parity.{normal_form}
 use Rattle.cx_base.specs.Problem.{Problem, clauses_of, parities_of}
@@ -240,12 +241,9 @@ module _ (formula : Problem) (old new : State) where
   deleted_is : (count p : ℕ) (o : Option ℕ) → deleted_id count o ≡ Some p → (o ≡ Some p) × (count < p)
   deleted_is count p None h = cc
   deleted_is count p (Some q) h = elim (nat_lt count q) as (λ b. nat_lt count q ≡ b → cond b (Some q) None ≡ Some p → (Some q ≡ Some p) × (count < p)) [
-    | true ↦ λ e k. (k, subst (λ x. count < x) (some_is q p k) (Rattle.std.proofs.Common.ltb-true count q e))
+    | true ↦ λ e k. (k, subst (λ x. count < x) (same_Some q p k) (Rattle.std.proofs.Common.ltb-true count q e))
     | false ↦ λ e k. cc
   ] refl h
-    where
-      some_is : (x y : ℕ) → Some x ≡ Some y → x ≡ y
-      some_is x y e = cc
 
   pub deletes_clause : (n p front : ℕ) (lits : List ℤ) (s : ProofStep) → deleted_id (number_of_clauses formula) (stands_for old.clauses n) ≡ Some p → (p ≤ old.clauses.last → front ≡ old.clauses.last)
       → new.live ≡ drop_clauses old.live (n ∷ []) → new.clauses ≡ drop_name old.clauses n → new.parities ≡ old.parities

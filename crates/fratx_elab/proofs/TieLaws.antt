@@ -4,6 +4,7 @@ use Rattle.std.proofs.lemmas.Bool.{ne_eqb}
 use Rattle.std.specs.Ordering.{nat_cmp}
 use Rattle.std.specs.Cmp.{nat_cmp_total, unsigned_tied}
 use Rattle.std.specs.FinMap as map_
+use Rattle.std.proofs.lemmas.Option.{same_Some, none-some}
 use Rattle.cx_base.specs.Literals.{Literal}
 use Rattle.cx_semantics.specs.Tables.{Table, get, is_live, numbered_from}
 use Rattle.cx_semantics.proofs.Lookups.{lookup, Looks-numbered_from}
@@ -17,12 +18,6 @@ get_put m k v q = map_.get-insert nat_cmp_total m k v q ∙ ap (λ b. cond b (So
 
 get_drop : {X : Type 0} (m : map_.FinMap nat_cmp X) (k : ℕ) (q : ℕ) → map_.get (map_.remove m k) q ≡ cond (nat_eq q k) None (map_.get m q)
 get_drop m k q = map_.get-remove nat_cmp_total m k q ∙ ap (λ b. cond b None (map_.get m q)) (unsigned_tied q k)
-
-some_is : {X : Type 0} (x y : X) → Some x ≡ Some y → x ≡ y
-some_is x y e = cc
-
-not_some : {X : Type 0} (x : X) → None ≡ Some x → ⊥
-not_some x e = cc
 
 -- what stands at q after a put or a drop at k
 data At {X : Type 0} (q k : ℕ) (here : Option X) (old new : Option X) : Type 0 where
@@ -75,10 +70,10 @@ module _ (Alike : List Literal → List Literal → Type 0) (lists : List (List 
       let no_name : (n : ℕ) → stands_for (first_naming (length lists)) n ≡ None = λ n. map_.get-empty nat_cmp n in
       record {
         keyed = λ n. ap is_some (nothing n) ∙ sym (ap is_some (no_name n));
-        alike = λ n p lits h k. absurd (not_some p (sym (no_name n) ∙ k));
+        alike = λ n p lits h k. absurd (none-some p (sym (no_name n) ∙ k));
         bounded = live_below lists;
         originals = λ k h. refl;
-        apart = λ n m p h k l. absurd (not_some p (sym (no_name n) ∙ h));
+        apart = λ n m p h k l. absurd (none-some p (sym (no_name n) ∙ h));
         covers = Rattle.std.proofs.Common.le_refl (length lists);
       }
 
@@ -122,8 +117,8 @@ module _ (Alike : List Literal → List Literal → Type 0) (lists : List (List 
             → At q n (Some lits) (get log q) (get (map_.insert log n lits) q) → At q n (Some k) (stands_for naming q) (stands_for (name_original naming n k) q)
             → (o : List Literal) × (get proof p ≡ Some o) × Alike found o
         alike_at q p found a b (at_it e f) (at_it g h) =
-            let at : k ≡ p = some_is k p (sym h ∙ b) in
-            let what : lits ≡ found = some_is lits found (sym f ∙ a) in
+            let at : k ≡ p = same_Some k p (sym h ∙ b) in
+            let what : lits ≡ found = same_Some lits found (sym f ∙ a) in
             (other, ap (get proof) (sym at) ∙ tie.originals k within ∙ is, subst (λ l. Alike l other) what alike)
         alike_at q p found a b (at_it e f) (elsewhere g h) = absurd (g e)
         alike_at q p found a b (elsewhere e f) (at_it g h) = absurd (e g)
@@ -131,8 +126,8 @@ module _ (Alike : List Literal → List Literal → Type 0) (lists : List (List 
 
         apart : (q m p : ℕ) → stands_for (name_original naming n k) q ≡ Some p → stands_for (name_original naming n k) m ≡ Some p → length lists < p
             → At q n (Some k) (stands_for naming q) (stands_for (name_original naming n k) q) → At m n (Some k) (stands_for naming m) (stands_for (name_original naming n k) m) → q ≡ m
-        apart q m p a b above (at_it e f) y = absurd (let at : k ≡ p = some_is k p (sym f ∙ a) in omega arith)
-        apart q m p a b above (elsewhere e f) (at_it g h) = absurd (let at : k ≡ p = some_is k p (sym h ∙ b) in omega arith)
+        apart q m p a b above (at_it e f) y = absurd (let at : k ≡ p = same_Some k p (sym f ∙ a) in omega arith)
+        apart q m p a b above (elsewhere e f) (at_it g h) = absurd (let at : k ≡ p = same_Some k p (sym h ∙ b) in omega arith)
         apart q m p a b above (elsewhere e f) (elsewhere g h) = tie.apart q m p (sym f ∙ a) (sym h ∙ b) above
 
     pub tied_next : (n : ℕ) (lits other : List Literal) → Alike lits other → Tie (map_.insert log n lits) (map_.insert proof (naming.last + 1) other) (name_next naming n)
@@ -155,8 +150,8 @@ module _ (Alike : List Literal → List Literal → Type 0) (lists : List (List 
             → At q n (Some lits) (get log q) (get (map_.insert log n lits) q) → At q n (Some (naming.last + 1)) (stands_for naming q) (stands_for (name_next naming n) q)
             → At p (naming.last + 1) (Some other) (get proof p) (get (map_.insert proof (naming.last + 1) other) p)
             → (o : List Literal) × (get (map_.insert proof (naming.last + 1) other) p ≡ Some o) × Alike found o
-        alike_at q p found a b (at_it e f) (at_it g h) (at_it i j) = (other, j, subst (λ l. Alike l other) (some_is lits found (sym f ∙ a)) alike)
-        alike_at q p found a b (at_it e f) (at_it g h) (elsewhere i j) = absurd (i (sym (some_is (naming.last + 1) p (sym h ∙ b))))
+        alike_at q p found a b (at_it e f) (at_it g h) (at_it i j) = (other, j, subst (λ l. Alike l other) (same_Some lits found (sym f ∙ a)) alike)
+        alike_at q p found a b (at_it e f) (at_it g h) (elsewhere i j) = absurd (i (sym (same_Some (naming.last + 1) p (sym h ∙ b))))
         alike_at q p found a b (at_it e f) (elsewhere g h) z = absurd (g e)
         alike_at q p found a b (elsewhere e f) (at_it g h) z = absurd (e g)
         alike_at q p found a b (elsewhere e f) (elsewhere g h) (at_it i j) = absurd (let low : p ≤ naming.last = named_below q p (sym h ∙ b) in omega arith)
@@ -173,8 +168,8 @@ module _ (Alike : List Literal → List Literal → Type 0) (lists : List (List 
         apart : (q m p : ℕ) → stands_for (name_next naming n) q ≡ Some p → stands_for (name_next naming n) m ≡ Some p → length lists < p
             → At q n (Some (naming.last + 1)) (stands_for naming q) (stands_for (name_next naming n) q) → At m n (Some (naming.last + 1)) (stands_for naming m) (stands_for (name_next naming n) m) → q ≡ m
         apart q m p a b above (at_it e f) (at_it g h) = e ∙ sym g
-        apart q m p a b above (at_it e f) (elsewhere g h) = absurd (let at : naming.last + 1 ≡ p = some_is _ p (sym f ∙ a) in let low : p ≤ naming.last = named_below m p (sym h ∙ b) in omega arith)
-        apart q m p a b above (elsewhere e f) (at_it g h) = absurd (let at : naming.last + 1 ≡ p = some_is _ p (sym h ∙ b) in let low : p ≤ naming.last = named_below q p (sym f ∙ a) in omega arith)
+        apart q m p a b above (at_it e f) (elsewhere g h) = absurd (let at : naming.last + 1 ≡ p = same_Some _ p (sym f ∙ a) in let low : p ≤ naming.last = named_below m p (sym h ∙ b) in omega arith)
+        apart q m p a b above (elsewhere e f) (at_it g h) = absurd (let at : naming.last + 1 ≡ p = same_Some _ p (sym h ∙ b) in let low : p ≤ naming.last = named_below q p (sym f ∙ a) in omega arith)
         apart q m p a b above (elsewhere e f) (elsewhere g h) = tie.apart q m p (sym f ∙ a) (sym h ∙ b) above
 
     -- an id of the log goes, and what is left of the proof still has what stands for the others
@@ -201,14 +196,14 @@ module _ (Alike : List Literal → List Literal → Type 0) (lists : List (List 
           alike_at : (q p : ℕ) (found : List Literal) → get (map_.remove log n) q ≡ Some found → stands_for (drop_name naming n) q ≡ Some p
               → At q n None (get log q) (get (map_.remove log n) q) → At q n None (stands_for naming q) (stands_for (drop_name naming n) q)
               → (o : List Literal) × (get new p ≡ Some o) × Alike found o
-          alike_at q p found a b (at_it e f) y = absurd (not_some found (sym f ∙ a))
+          alike_at q p found a b (at_it e f) y = absurd (none-some found (sym f ∙ a))
           alike_at q p found a b (elsewhere e f) (at_it g h) = absurd (e g)
           alike_at q p found a b (elsewhere e f) (elsewhere g h) = let x = tie.alike q p found (sym f ∙ a) (sym h ∙ b) in (x.0, stays q p e (sym h ∙ b) ∙ x.1, x.2)
 
           apart : (q m p : ℕ) → stands_for (drop_name naming n) q ≡ Some p → stands_for (drop_name naming n) m ≡ Some p → length lists < p
               → At q n None (stands_for naming q) (stands_for (drop_name naming n) q) → At m n None (stands_for naming m) (stands_for (drop_name naming n) m) → q ≡ m
-          apart q m p a b above (at_it e f) y = absurd (not_some p (sym f ∙ a))
-          apart q m p a b above (elsewhere e f) (at_it g h) = absurd (not_some p (sym h ∙ b))
+          apart q m p a b above (at_it e f) y = absurd (none-some p (sym f ∙ a))
+          apart q m p a b above (elsewhere e f) (at_it g h) = absurd (none-some p (sym h ∙ b))
           apart q m p a b above (elsewhere e f) (elsewhere g h) = tie.apart q m p (sym f ∙ a) (sym h ∙ b) above
 
     -- nothing is deleted in the proof

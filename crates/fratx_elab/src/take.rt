@@ -18,8 +18,8 @@ use crate::steps::{clause_of_parity_step, clause_step, parity_of_clauses_step, p
 use cx_base::{Formula, IdList, IntList, LitList};
 use cx_semantics::{Cause, ProofStep};
 use proof_rules::{
-    JudgeRefusal, ids_of, judge_added, judge_chain, judge_clause_of_named_parity, judge_named_sum,
-    judge_parity_of_named_clauses, literals_of,
+    JudgeRefusal, ids_of, judge_chain, judge_clause_of_named_parity, judge_named_sum,
+    judge_parity_of_named_clauses,
 };
 use rup_finder::IndexedClauses;
 use std::alloc::{AllocError, Global};
@@ -53,11 +53,7 @@ fn admit(
 ) -> Result<LitList, JudgeRefusal>
     ensures { Admits formula.now is_live lits.now result }
 {
-    match judge_added(formula.vars(), lits, is_live) {
-        Ok(()) => {}
-        Err(why) => return Err(why),
-    }
-    Ok(literals_of(alloc, formula.vars(), lits)?)
+    proof_rules::admit(alloc, formula.vars(), lits, is_live)
 }
 
 /// Live hints that are a right chain for the clause: those that are given, where they are, or else any.

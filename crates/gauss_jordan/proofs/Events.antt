@@ -9,8 +9,8 @@ use Rattle.std.proofs.lemmas.Bool.{cases_eq, cases_lt, ne_eqb}
 use Rattle.cx_base.specs.Literals.{Literal, differ, value_of}
 use Rattle.cx_base.specs.Problem.{AreWithin, parity_met}
 use Rattle.cx_base.specs.Parity.{NormalForm, normal_form}
-use Rattle.cx_base.proofs.ParityLaws.{Sums}
-use Rattle.cx_base.proofs.Differences.{differ_false, differ_itself}
+use Rattle.cx_base.proofs.ParityLaws.{Sums, differ_false}
+use Rattle.cx_base.proofs.Differences.{differ_itself}
 use Rattle.gf2_rows.proofs.Words.{differ_again}
 use Rattle.cx_semantics.specs.Chain.{has_literal}
 use Rattle.cx_semantics.specs.Forced.{Solves, Forced}

@@ -1,7 +1,7 @@
 -- From the masks of columns to what follows from the parities.
 use Rattle.std.proofs.Common.{◌≡◌, ◌≢◌, ℕ, ◌+◌, ◌-◌, ◌*◌, ◌<◌, zero, suc, Bool, true, false, not, List, [], ◌∷◌, map, length, get_or, Some, None, ◌⊎◌, inl, inr, refl, sym, ap, ◌∙◌, subst, arith}
 use Rattle.std.specs.List.{list_all, AllByRecursion}
-use Rattle.std.proofs.lemmas.Bool.{cases_eq, cases_lt, ne_eqb, eqb-false}
+use Rattle.std.proofs.lemmas.Bool.{cases_eq, cases_lt, ne_eqb, eqb-false, cases_Bool}
 use Rattle.std.proofs.lemmas.List.{length-map, get_or-map}
 use Rattle.std.specs.Slice.Scan.{HoldsNowhere}
 use Rattle.cx_base.specs.Literals.{differ}
@@ -88,10 +88,6 @@ module _ (c : Content) (of_given : IsOfGiven c) (assigned truths : List ℕ) (s 
   within : AllByRecursion (AreWithin s.vars) s.parities
   within = subst (λ n. AllByRecursion (AreWithin n) s.parities) (sym masked.vars) (subst (AllByRecursion (AreWithin c.vars)) (sym masked.parities) of_given.within)
 
-  true_or_false : (b : Bool) → (b ≡ true) ⊎ (b ≡ false)
-  true_or_false true = inl refl
-  true_or_false false = inr refl
-
   not-flip : (b d : Bool) → b ≡ not d → b ≡ true → d ≡ false
   not-flip b true e h = let clash : true ≡ false = sym h ∙ e in cc
   not-flip b false e h = refl
@@ -112,7 +108,7 @@ module _ (c : Content) (of_given : IsOfGiven c) (assigned truths : List ℕ) (s 
       let place = of_given.in_columns i lt x has_x in
       let k : ℕ = place.0 in
       let at : get_or c.columns k 0 - 1 ≡ x = let e = place.2 in omega arith in
-      elim (true_or_false (bit_of assigned k)) [
+      elim (cases_Bool (bit_of assigned k)) [
         | inl on ↦
             subst (λ y. is_unassigned (get_or s.values y None) ≡ false) at
             (not-flip (bit_of assigned k) (is_unassigned (get_or s.values (get_or c.columns k 0 - 1) None)) (masked.masks k place.1) on)

@@ -24,12 +24,12 @@ use Rattle.parity_engine.specs.declared.state.Held.{Held}
 use Rattle.parity_engine.specs.declared.state.Mood.{Mood}
 use Rattle.parity_engine.specs.declared.state.Mood.TheVariants.{Busy, Calm, Broken}
 use Rattle.parity_engine.specs.State.{State, Named, is_unassigned, IsSilent, IsImplied, IsBroken, IsNamedNow, IsSameNamed, AreRising, fresh, names, named_at}
+use Rattle.parity_engine.proofs.Known.{none_is}
 use Rattle.gauss_jordan.specs.System.{just_value, has_at, filled, IsUnit}
 use Rattle.gauss_jordan.specs.declared.found.Found.TheVariants as found
 use Rattle.gauss_jordan.specs.Found.{IsMasked, Says}
 use Rattle.gauss_jordan.specs.Right.{IsRight, column_at}
 use Rattle.gauss_jordan.specs.Slots.{named_as, named_of, state_of, value_or_false, AreMasks, IsSlotOf, IsEmptySlot, IsCopy, IsNamedSlot, IsSlotSum, IsScratch}
-use Rattle.gauss_jordan.proofs.ScratchSteps.{none_is}
 use Rattle.gauss_jordan.proofs.Events.{at_column, filled-at, part-at, length-filled, implied_by_equation}
 use Rattle.gauss_jordan.proofs.Kept.{summed, right_fresh, right_quiet, right_implied, right_broken}
 

@@ -13,6 +13,7 @@ use Rattle.parity_engine.specs.declared.state.Held.{Held}
 use Rattle.parity_engine.specs.declared.state.Mood.{Mood}
 use Rattle.parity_engine.specs.declared.state.Mood.TheVariants.{Busy, Calm, Broken}
 use Rattle.parity_engine.specs.State.{Named, keep, keep_named, is_unassigned}
+use Rattle.parity_engine.proofs.Known.{none_is}
 use Rattle.gauss_jordan.specs.Right.{IsRight}
 use Rattle.gauss_jordan.specs.Slots.{keep_naming, named_as, named_of, state_of, IsKeptSlot, AreKept, IsScratch}
 use Rattle.gauss_jordan.proofs.Kept.{right_pushed, right_assigned, right_back}
@@ -69,10 +70,6 @@ naming-cases c slot m false = refl
 naming-kept : (c : Content) (level : ℕ) (slot : Slot) (o : Option Naming) → named_as c slot (keep_naming level o) ≡ keep_named level (named_as c slot o)
 naming-kept c level slot None = refl
 naming-kept c level slot (Some m) = naming-cases c slot m (not m.in_conflict && nat_le m.level level)
-
-pub none_is : (o : Option Held) → is_unassigned o ≡ true → o ≡ None
-none_is None h = refl
-none_is (Some g) h = cc
 
 first : (slots : List Slot) (k : ℕ) → k < length slots → Slot
 first [] k lt = absurd (omega arith)

@@ -3,13 +3,13 @@ use Rattle.std.proofs.Common.{◌≡◌, ◌≢◌, ℕ, ◌+◌, ◌-◌, ◌*�
 use Rattle.std.specs.List.{range_with_len}
 use Rattle.std.specs.Simd.Lanes.{zip2}
 use Rattle.std.proofs.lemmas.List.{map-append}
-use Rattle.std.proofs.lemmas.Bool.{cases_eq, eq-eqb, ne_eqb}
+use Rattle.std.proofs.lemmas.Bool.{cases_eq, eq-eqb, ne_eqb, and_left}
 use Rattle.cx_base.specs.Literals.{differ}
+use Rattle.cx_base.proofs.ParityLaws.{differ_false}
 use Rattle.gf2_matrix.specs.Totals.{total}
 use Rattle.gf2_matrix.proofs.Products.{total-over}
 use Rattle.gf2_rows.specs.Bits.{parity, bit_of, bits_of}
 use Rattle.gf2_rows.proofs.Words.{range_same, range_split, range_shift, parity-append, parity-none, products_of_rows}
-use Rattle.cx_base.proofs.Differences.{differ_false}
 use Rattle.gf2_matrix.specs.Content.{Content, row_at, equation, AreBitsOf, HoldsValues}
 use Rattle.parity_engine.specs.Columns.{place, AreColumns}
 use Rattle.parity_engine.specs.Views.{terms_of, words_for}
@@ -23,15 +23,12 @@ place-none least vars (c ∷ cs) v rise lt =
 nothing : (f : ℕ → Bool) (a n : ℕ) → ((x : ℕ) → a ≤ x → x < a + n → f x ≡ false) → parity (map f (range_with_len a n)) ≡ false
 nothing f a n h = ap parity (range_same f (λ x. false) a n h) ∙ parity-none (range_with_len a n)
 
-and-false-left : (a b : Bool) → a ≡ false → (a && b) ≡ false
-and-false-left a b e = ap (λ x. x && b) e
-
 rise_on : (least vars : ℕ) (c : ℕ) (cs : List ℕ) → AreColumns least vars (c ∷ cs) → c ≢ least → AreColumns (least + 1) vars (c ∷ cs)
 rise_on least vars c cs rise ne = let low = rise.0 in (omega arith, rise.1, rise.2)
 
 pub column_sum : (n a : ℕ) (cols : List ℕ) (g h : ℕ → Bool) → AreColumns (a + 1) (a + n) cols → g (length cols) ≡ false
     → parity (map (λ x. g (place cols (x + 1)) && h x) (range_with_len a n)) ≡ parity (map (λ k. g k && h (get_or cols k 0 - 1)) (range_with_len 0 (length cols)))
-column_sum n a [] g h rise none = nothing (λ x. g (place [] (x + 1)) && h x) a n (λ x low high. and-false-left (g 0) (h x) none)
+column_sum n a [] g h rise none = nothing (λ x. g (place [] (x + 1)) && h x) a n (λ x low high. and_left (g 0) (h x) none)
 column_sum zero a (c ∷ cs) g h rise none = absurd (let low = rise.0 in let high = rise.1 in omega arith)
 column_sum (suc n) a (c ∷ cs) g h rise none =
     let wide : a + suc n ≡ a + 1 + n = omega arith in
@@ -70,7 +67,7 @@ packed_sum c words truths v rise size padded alike long truth =
     ∙ ap (λ m. parity (map p (range_with_len 0 m))) e
     ∙ ap parity (ap (map p) (range_split 0 n (64 * w - n)) ∙ map-append p (range_with_len 0 n) (range_with_len (0 + n) (64 * w - n)))
     ∙ parity-append (map p (range_with_len 0 n)) (map p (range_with_len (0 + n) (64 * w - n)))
-    ∙ ap (differ (parity (map p (range_with_len 0 n)))) (nothing p (0 + n) (64 * w - n) (λ k low high. and-false-left (bit_of words k) (bit_of truths k) (padded k (omega arith))))
+    ∙ ap (differ (parity (map p (range_with_len 0 n)))) (nothing p (0 + n) (64 * w - n) (λ k low high. and_left (bit_of words k) (bit_of truths k) (padded k (omega arith))))
     ∙ differ_false (parity (map p (range_with_len 0 n)))
     ∙ ap parity (range_same p (λ k. bit_of words k && get_or v (get_or c.columns k 0 - 1) false) 0 n (λ k low high. ap (λ b. bit_of words k && b) (truth k (omega arith))))
     ∙ sym (column_sum c.vars 0 c.columns (bit_of words) (λ x. get_or v x false) rise' (padded n (omega arith)))

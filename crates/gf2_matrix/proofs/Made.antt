@@ -6,14 +6,14 @@ use Rattle.std.proofs.Math.ListN.{get_or-eq_default}
 use Rattle.std.proofs.Math.Seq.{get_or-append_seam}
 use Rattle.std.proofs.lemmas.List.{length-map, get_or-map as get_or-map-within, take_all, get_or_append_left}
 use Rattle.std.proofs.lemmas.List.FromFn.{get_or-map-range_with_len, length-map-range_with_len}
-use Rattle.std.proofs.lemmas.Bool.{cases_eq, cases_lt, eq-eqb, ne_eqb, eqb-true, lt-ltb, le-ltb}
+use Rattle.std.proofs.lemmas.Bool.{cases_eq, cases_lt, eq-eqb, ne_eqb, eqb-true, lt-ltb, le-ltb, or_parts}
 use Rattle.cx_base.specs.declared.literal.TheConstants.{MAX_VARIABLE}
 use Rattle.cx_base.specs.Literals.{Literal, differ}
 use Rattle.cx_base.specs.Problem.{AreWithin, parity_met}
 use Rattle.cx_base.specs.Parity.{normal_form}
-use Rattle.cx_base.proofs.ParityLaws.{Sums, met-from_Sums}
+use Rattle.cx_base.proofs.ParityLaws.{Sums, met-from_Sums, differ_false}
 use Rattle.gf2_rows.specs.Bits.{bit_of, bits_of, parity}
-use Rattle.cx_base.proofs.Differences.{differ_assoc, differ_false}
+use Rattle.cx_base.proofs.Differences.{differ_assoc}
 use Rattle.gf2_rows.proofs.Words.{bits_turned}
 use Rattle.gf2_matrix.specs.declared.packed.PackedRow.{PackedRow}
 use Rattle.gf2_matrix.specs.Totals.{MeetsEquation}
@@ -162,16 +162,8 @@ columns_occur vars given marks within long marked (suc x) =
 -- ---- what the row of a parity stands for
 any_not : {X : Type 0} (p : X → Bool) (xs : List X) (k : ℕ) (d : X) → list_any p xs ≡ false → k < length xs → p (get_or xs k d) ≡ false
 any_not p [] k d none lt = absurd (omega arith)
-any_not p (x ∷ xs) zero d none lt = front (p x) (list_any p xs) none
-  where
-    front : (a b : Bool) → (a || b) ≡ false → a ≡ false
-    front true b h = h
-    front false b h = refl
-any_not p (x ∷ xs) (suc k) d none lt = any_not p xs k d (rest (p x) (list_any p xs) none) (omega arith)
-  where
-    rest : (a b : Bool) → (a || b) ≡ false → b ≡ false
-    rest true b h = absurd (true≢false h)
-    rest false b h = h
+any_not p (x ∷ xs) zero d none lt = (or_parts (p x) (list_any p xs) none).0
+any_not p (x ∷ xs) (suc k) d none lt = any_not p xs k d (or_parts (p x) (list_any p xs) none).1 (omega arith)
 
 missing : (cs : List ℕ) (v : ℕ) → length cs ≤ place cs v → list_any (λ d. nat_eq d v) cs ≡ false
 missing [] v le = refl

@@ -6,12 +6,13 @@ use Rattle.std.proofs.Math.Seq.{take-suc, drop-cons}
 use Rattle.std.proofs.Math.ListN.{length-set}
 use Rattle.std.proofs.lemmas.List.{get_or-set_same, get_or-set_other, map-append}
 use Rattle.std.proofs.lemmas.Bool.{cases_eq, eq-eqb, ne_eqb, false_from_ne_true}
+use Rattle.std.proofs.Math.Bool.{or-false}
 use Rattle.cx_base.specs.Literals.{Literal, differ}
 use Rattle.cx_base.specs.Problem.{AreWithin}
 use Rattle.cx_base.specs.Parity.{normal_form, occurs_odd}
-use Rattle.cx_base.proofs.ParityLaws.{contains-normal_form}
+use Rattle.cx_base.proofs.ParityLaws.{contains-normal_form, differ_false}
 use Rattle.gf2_rows.specs.Bits.{parity}
-use Rattle.cx_base.proofs.Differences.{differ_assoc, differ_turned, differ_false}
+use Rattle.cx_base.proofs.Differences.{differ_assoc, differ_turned}
 use Rattle.gf2_rows.proofs.Words.{parity-append}
 use Rattle.parity_engine.specs.Equations.{numbers_from}
 use Rattle.gf2_matrix.specs.Made.{occurs_in}
@@ -136,10 +137,6 @@ moved_more old_to old_from to from to' from' lits i at l m before same lt read h
                 ∙ sym (ap (λ ls. list_any (λ (q : Literal). eqb q.variable (x + 1)) ls) (split ∙ ap (λ n. get_or lits i l ∷ drop n lits) e)) ∙ any
           ];
     }
-
-or-false : (a : Bool) → (a || false) ≡ a
-or-false true = refl
-or-false false = refl
 
 pub moved_clear : (old_to old_from to from : List Bool) (lits : List Literal) (n : ℕ) → AreMoved old_to old_from to from lits n → length lits ≤ n
     → (x : ℕ) → x < length old_from → get_or from x false ≡ false

@@ -8,7 +8,7 @@ use Rattle.std.specs.List.{list_all, AllByRecursion}
 use Rattle.std.specs.FinSet as set
 use Rattle.cx_base.specs.Problem.{AreWithin, parity_met}
 use Rattle.cx_base.specs.Parity.{NormalForm, normal_form}
-use Rattle.cx_base.proofs.ParityLaws.{Sums, differ_and}
+use Rattle.cx_base.proofs.ParityLaws.{Sums, differ_and, differ_swap}
 use Rattle.gf2_matrix.specs.Totals.{total, MeetsEquation}
 use Rattle.parity_engine.specs.Equations.{numbers_from, parity_number, sum_of_numbers}
 use Rattle.gf2_matrix.proofs.Products.{products_added}
@@ -16,7 +16,7 @@ use Rattle.parity_engine.proofs.Forms.{contains-form, contains-form_zero, same_f
 use Rattle.gf2_matrix.proofs.FormSums.{contains-sum_of_numbers, right-sum_of_numbers, meets_from_Sums, AreNumbers, sum_met}
 use Rattle.cx_base.specs.Literals.{Literal, differ}
 use Rattle.gf2_rows.specs.Bits.{parity}
-use Rattle.gf2_rows.proofs.Words.{differ_swap, differ_twice}
+use Rattle.gf2_rows.proofs.Words.{differ_twice}
 use Rattle.gf2_matrix.specs.Content.{SourcedRow, Content, no_row, row_at, equation, form, has, source_numbers, added, pivoted_row, pivoted, IsLong, IsOfGiven, IsInColumns}
 
 -- ---- sums over the set bits

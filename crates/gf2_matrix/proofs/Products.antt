@@ -7,9 +7,8 @@ use Rattle.std.proofs.lemmas.List.{ext_get_or}
 use Rattle.std.proofs.lemmas.List.FromFn.{get_or-map-range_with_len, length-map-range_with_len}
 use Rattle.cx_base.specs.Literals.{differ}
 use Rattle.gf2_rows.specs.Bits.{parity}
-use Rattle.cx_base.proofs.ParityLaws.{differ_and}
+use Rattle.cx_base.proofs.ParityLaws.{differ_and, differ_swap}
 use Rattle.cx_base.proofs.Differences.{differ_assoc}
-use Rattle.gf2_rows.proofs.Words.{differ_swap}
 
 -- ---- sums over the positions
 listed : (values : List Bool) (n : ℕ) → length values ≡ n → values ≡ map (λ x. get_or values x false) (range_with_len 0 n)

@@ -14,8 +14,9 @@ use Rattle.std.proofs.lemmas.List.{get_or-map, length-map}
 use Rattle.std.proofs.lemmas.Simd.{length-zip2, length-chunk, get_or-zip2, get_or-chunk, get_or-put_chunk_below, get_or-put_chunk_at, get_or-put_chunk_above, fold-sum}
 use Rattle.cx_base.specs.Literals.{differ}
 use Rattle.gf2_rows.specs.Bits.{parity, word_bit, bit_of, is_outside, is_skipped}
-use Rattle.cx_base.proofs.Differences.{differ_assoc, differ_false}
-use Rattle.gf2_rows.proofs.Words.{IsAddedBelow, differ_swap, parity_of, parity_of-differ, products_upto, products_word, ones_more, word_bit-rest}
+use Rattle.cx_base.proofs.Differences.{differ_assoc}
+use Rattle.cx_base.proofs.ParityLaws.{differ_false, differ_swap}
+use Rattle.gf2_rows.proofs.Words.{IsAddedBelow, parity_of, parity_of-differ, products_upto, products_word, ones_more, word_bit-rest}
 
 -- the words of a load, one at a time
 chunk-cons : (xs : List ℕ) (i n : ℕ) → i < length xs → chunk i (suc n) xs ≡ get_or xs i 0 ∷ chunk (i + 1) n xs

@@ -17,7 +17,8 @@ use Rattle.std.proofs.Math.Nat.{mod-eq_of_lt}
 use Rattle.std.proofs.Math.Pow.{pow-lt}
 use Rattle.std.proofs.lemmas.Bool.{eq-eqb, ne_eqb, cases_eq, cases_lt}
 use Rattle.cx_base.specs.Literals.{differ}
-use Rattle.cx_base.proofs.Differences.{differ_assoc, differ_turned, differ_false, differ_itself}
+use Rattle.cx_base.proofs.Differences.{differ_assoc, differ_turned, differ_itself}
+use Rattle.cx_base.proofs.ParityLaws.{differ_false, differ_swap}
 use Rattle.gf2_rows.specs.Bits.{parity, word_bit, bit_of, bits_of, is_skipped, is_outside}
 
 -- ---- digits
@@ -69,9 +70,6 @@ range_shift f a b (suc n) =
 -- ---- sums modulo two
 pub differ_move : (a b c : Bool) → differ a (differ b c) ≡ differ b (differ a c)
 differ_move a b c = sym (differ_assoc a b c) ∙ ap (λ x. differ x c) (differ_turned a b) ∙ differ_assoc b a c
-
-pub differ_swap : (a b c d : Bool) → differ (differ a b) (differ c d) ≡ differ (differ a c) (differ b d)
-differ_swap a b c d = differ_assoc a b (differ c d) ∙ ap (differ a) (differ_move b c d) ∙ sym (differ_assoc a c (differ b d))
 
 -- added twice, it cancels
 pub differ_again : (a b : Bool) → differ a (differ a b) ≡ b

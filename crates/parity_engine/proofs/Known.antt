@@ -11,6 +11,11 @@ use Rattle.cx_semantics.proofs.Closure.{or_right}
 use Rattle.parity_engine.specs.declared.state.Held.{Held}
 use Rattle.parity_engine.specs.State.{is_unassigned, known_from}
 
+-- a variable that is unassigned holds no value
+pub none_is : (o : Option Held) → is_unassigned o ≡ true → o ≡ None
+none_is None h = refl
+none_is (Some g) h = cc
+
 pub own_sign : (b : Bool) → differ (not b) b ≡ true
 own_sign true = refl
 own_sign false = refl

@@ -7,7 +7,7 @@ use Rattle.std.proofs.Math.Nat.{add-mul-mod_self_left, mod-eq_of_lt}
 use Rattle.std.proofs.Math.ListN.{length-set}
 use Rattle.std.proofs.lemmas.List.{get_or-set_other}
 use Rattle.std.proofs.lemmas.Grind.{get_or-set_at}
-use Rattle.std.proofs.lemmas.Bool.{or_cases, false_from_ne_true}
+use Rattle.std.proofs.lemmas.Bool.{or_cases, false_from_ne_true, not-true}
 use Rattle.cx_base.specs.Literals.{Literal, differ, same_literal, literal_true, value_of}
 use Rattle.cx_base.specs.Problem.{clause_met}
 use Rattle.cx_semantics.specs.Chain.{has_literal}
@@ -184,12 +184,8 @@ pub falsified_each : (clause : List Literal) (xs : List ℕ) (f : ℕ → Bool) 
 falsified_each clause [] f h x k = absurd (true≢false (sym k))
 falsified_each clause (y ∷ xs) f h x k = go (or_cases (nat_eq y x) _ k) (falsified_each clause xs f (and_parts (not (has_literal clause (true_at y (f y)))) _ h).1 x)
   where
-    is_false : (b : Bool) → not b ≡ true → b ≡ false
-    is_false true e = sym e
-    is_false false e = refl
-
     go : (nat_eq y x ≡ true) ⊎ (list_any (λ z. nat_eq z x) xs ≡ true) → (list_any (λ z. nat_eq z x) xs ≡ true → has_literal clause (true_at x (f x)) ≡ false) → has_literal clause (true_at x (f x)) ≡ false
-    go (inl e) rest = ap (λ z. has_literal clause (true_at z (f z))) (sym (eqb-true y x e)) ∙ is_false _ (and_parts (not (has_literal clause (true_at y (f y)))) _ h).0
+    go (inl e) rest = ap (λ z. has_literal clause (true_at z (f z))) (sym (eqb-true y x e)) ∙ not-true _ (and_parts (not (has_literal clause (true_at y (f y)))) _ h).0
     go (inr e) rest = rest e
 
 pub not_falsified : (clause : List Literal) (xs : List ℕ) (f : ℕ → Bool) → falsified clause xs (map f xs) ≡ false → (x : ℕ) × (has_literal clause (true_at x (f x)) ≡ true)

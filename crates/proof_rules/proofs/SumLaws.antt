@@ -8,8 +8,8 @@ use Rattle.std.specs.FinSet as set
 use Rattle.cx_base.specs.Literals.{Literal, differ}
 use Rattle.cx_base.specs.Parity.{NormalForm, normal_form, symmetric_difference, sum_of}
 use Rattle.cx_base.proofs.Odd.{is_odd, is_odd-suc, is_odd-count}
-use Rattle.cx_base.proofs.ParityLaws.{contains-normal_form, contains-symmetric_difference}
-use Rattle.cx_base.proofs.Differences.{differ_assoc, differ_turned, differ_false, differ_itself, same-differ, same_members, contains-one, difference_assoc, difference_nothing, nothing_difference, difference_itself, same-no_difference}
+use Rattle.cx_base.proofs.ParityLaws.{contains-normal_form, contains-symmetric_difference, differ_false}
+use Rattle.cx_base.proofs.Differences.{differ_assoc, differ_turned, differ_itself, same-differ, same_members, contains-one, difference_assoc, difference_nothing, nothing_difference, difference_itself, same-no_difference}
 use Rattle.cx_semantics.specs.Tables.{Table, get, named}
 use Rattle.cx_semantics.specs.ProofRules.{IsSum}
 use Rattle.proof_rules.specs.Assignments.{AreDistinct}

@@ -25,7 +25,7 @@ fn has_unknown(vars: u32, lits: &[i64]) -> bool
 }
 
 /// The rules for what is added: its variables are the formula's, and its id is not live.
-pub fn judge_added(vars: u32, lits: &IntList, is_live: bool) -> Result<(), JudgeRefusal>
+fn judge_added(vars: u32, lits: &IntList, is_live: bool) -> Result<(), JudgeRefusal>
     ensures { JudgesBy (refused_where causes.VarUnknown (list_any (λ z. nat_lt vars (nat_abs z)) lits.now) ∷ refused_where causes.IdInUse is_live ∷ []) result }
 {
     if has_unknown(vars, lits.as_slice()) {
@@ -47,7 +47,7 @@ fn literal_of(integer: i64) -> Lit
 }
 
 /// The literals of integers, whose variables are within the formula's number.
-pub fn literals_of(alloc: Global, vars: u32, integers: &IntList) -> Result<LitList, AllocError>
+fn literals_of(alloc: Global, vars: u32, integers: &IntList) -> Result<LitList, AllocError>
     requires few { vars ≤ MAX_VARIABLE }
     requires known { list_any (λ z. nat_lt vars (nat_abs z)) integers.now ≡ false }
     ensures { IfOk result (λ lits. lits ≡ literals integers.now) }

@@ -15,7 +15,7 @@ mod parity_sum;
 mod refusal;
 mod sum;
 
-pub use added::{admit, judge_added, literals_of};
+pub use added::admit;
 pub use chain::{LeftOf, left_of};
 pub use content::{clause_content, parity_content};
 pub use hints::ids_of;

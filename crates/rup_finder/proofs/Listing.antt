@@ -8,16 +8,17 @@ use Rattle.std.specs.declared.ops.Bound.TheVariants.{Included, Excluded}
 use Rattle.std.specs.Cmp.{unsigned_tied, nat_cmp_is, nat_cmp_total}
 use Rattle.std.specs.FinMap as map_
 use Rattle.std.specs.BTreeMap.Range.{range_contains}
+use Rattle.std.proofs.lemmas.Bool.{false_from_ne_true, and_right}
+use Rattle.std.proofs.lemmas.Option.{same_Some, none-some}
 use Rattle.cx_base.specs.Literals.{Literal, code_of, same_literal}
 use Rattle.cx_semantics.specs.Chain.{has_literal}
 use Rattle.cx_semantics.specs.Tables.{Table, Tables, get, no_tables, put_clause}
 use Rattle.cx_semantics.proofs.ChainLaws.{and_parts, and_both, are_one}
-use Rattle.cx_semantics.proofs.Closure.{or_right}
+use Rattle.cx_semantics.proofs.Closure.{or_right, same_id}
 use Rattle.rup_finder.specs.declared.occurrences.Occurrence.{Occurrence}
 use Rattle.rup_finder.specs.Occurrences.{has_pair, Grows, KeepsOthers, IsListed, Covers, HasId, ListsPlace}
 use Rattle.rup_finder.specs.declared.occurrences.TheConstants.{SHORT}
 use Rattle.rup_finder.specs.contracts.occurrences.OccurrenceOrd.TheImpl.{cmp-value}
-use Rattle.rup_finder.proofs.Propagation.{is_false, same_id}
 
 -- ---- the order of pairs
 
@@ -33,11 +34,7 @@ pub has_by_order : (pairs : List Occurrence) (place id : ℕ) → list_any (λ k
 has_by_order pairs place id = λ i. list_any (λ k. tied (record { place = place; id = id }) k i) pairs
 
 pub apart : (place other id n : ℕ) → n ≢ id → is_eq (cmp-value.it (record { place = place; id = id }) (record { place = other; id = n })) ≡ false
-apart place other id n h = tied (record { place = place; id = id }) (record { place = other; id = n }) ∙ ap (λ b. nat_eq place other && b) (is_false (nat_eq id n) (λ e. h (sym (eqb-true id n e)))) ∙ and_false (nat_eq place other)
-  where
-    and_false : (b : Bool) → (b && false) ≡ false
-    and_false true = refl
-    and_false false = refl
+apart place other id n h = tied (record { place = place; id = id }) (record { place = other; id = n }) ∙ ap (λ b. nat_eq place other && b) (false_from_ne_true (nat_eq id n) (λ e. h (sym (eqb-true id n e)))) ∙ and_right (nat_eq place other) false refl
 
 cond_true : (b x : Bool) → x ≡ true → cond b true x ≡ true
 cond_true true x h = refl
@@ -126,24 +123,18 @@ covers_in table old new grows covers n clause e = listed_in old new n clause gro
 
 -- ---- the table of an index
 
-pub some_is : (x y : List Literal) → Some x ≡ Some y → x ≡ y
-some_is x y e = cc
-
-pub none_is : (x : List Literal) → None ≡ Some x → ⊥
-none_is x e = cc
-
 pub covers_nothing : (tables : Tables) (pairs : List Occurrence) → tables ≡ no_tables → Covers tables.clauses pairs
-covers_nothing tables pairs nothing n clause e = absurd (none_is clause (sym (map_.get-empty nat_cmp n) ∙ sym (ap (λ (t : Tables). get t.clauses n) nothing) ∙ e))
+covers_nothing tables pairs nothing n clause e = absurd (none-some clause (sym (map_.get-empty nat_cmp n) ∙ sym (ap (λ (t : Tables). get t.clauses n) nothing) ∙ e))
 
 pub covers_put : (table : Table) (old new : List Occurrence) (id : ℕ) (lits : List Literal) → Covers table old → Grows old new → IsListed new id lits → Covers (map_.insert table id lits) new
 covers_put table old new id lits covers grows listed n clause e = elim (eq_by_cmp nat_cmp n id) as (λ b. eq_by_cmp nat_cmp n id ≡ b → cond b (Some lits) (get table n) ≡ Some clause → IsListed new n clause) [
-  | true ↦ λ f g. subst (λ k. IsListed new k clause) (sym (same_id n id f)) (subst (IsListed new id) (some_is lits clause g) listed)
+  | true ↦ λ f g. subst (λ k. IsListed new k clause) (sym (same_id n id f)) (subst (IsListed new id) (same_Some lits clause g) listed)
   | false ↦ λ _ g. listed_in old new n clause grows (covers n clause g)
 ] refl (sym (map_.get-insert nat_cmp_total table id lits n) ∙ e)
 
 pub covers_drop : (table : Table) (old new : List Occurrence) (id : ℕ) → Covers table old → KeepsOthers id old new → Covers (map_.remove table id) new
 covers_drop table old new id covers keeps n clause e = elim (eq_by_cmp nat_cmp n id) as (λ b. eq_by_cmp nat_cmp n id ≡ b → cond b None (get table n) ≡ Some clause → IsListed new n clause) [
-  | true ↦ λ _ g. absurd (none_is clause g)
+  | true ↦ λ _ g. absurd (none-some clause g)
   | false ↦ λ f g.
       let ne : n ≢ id = λ is. true≢false (sym (unsigned_tied n id ∙ eq-eqb n id is) ∙ f) in
       let l : IsListed old n clause = covers n clause g in

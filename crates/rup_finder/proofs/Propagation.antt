@@ -1,15 +1,19 @@
 -- Unit propagation: one more hint, and what is known where no clause gives more.
-use Rattle.std.proofs.Common.{◌≡◌, ◌≢◌, refl, sym, ap, ◌∙◌, subst, ℕ, Bool, true, false, cond, not, ◌||◌, List, [], ◌∷◌, ◌++◌, Option, None, length, drop, arith, Result, Ok, Err, IfOk, eqb-true, Some, ◌⊎◌, inl, inr, true≢false}
+use Rattle.std.proofs.Common.{◌≡◌, ◌≢◌, refl, sym, ap, ◌∙◌, subst, ℕ, Bool, true, false, cond, not, ◌||◌, List, [], ◌∷◌, ◌++◌, Option, None, length, drop, arith, Result, Ok, Err, IfOk, Some, ◌⊎◌, inl, inr, true≢false}
 use Rattle.std.specs.List.{list_any, list_all}
 use Rattle.std.specs.Ordering.{nat_cmp, eq_by_cmp}
-use Rattle.std.specs.Cmp.{unsigned_tied}
+use Rattle.std.proofs.lemmas.Bool.{false_from_ne_true, or_parts, or_from}
+use Rattle.std.proofs.lemmas.Option.{same_Some}
 use Rattle.cx_base.specs.Literals.{Literal, code_of, negate, same_literal}
-use Rattle.cx_semantics.specs.Chain.{has_literal, is_inside, negations, left, none, one, more, count_left}
+use Rattle.cx_base.proofs.LiteralLaws.{negate-negate}
+use Rattle.cx_semantics.specs.Chain.{has_literal, negations, left, none, one, more, count_left}
 use Rattle.cx_semantics.specs.Fresh.{is_falsified}
 use Rattle.cx_semantics.specs.Tables.{Table, get}
 use Rattle.cx_semantics.specs.LogRules.{HasChain}
-use Rattle.cx_semantics.proofs.ChainLaws.{and_parts, and_both, are_one, same_literal-itself, negate-negate}
-use Rattle.cx_semantics.proofs.Closure.{or_right, all_are, some_are, left_under, closed_has_no_chain}
+use Rattle.cx_semantics.proofs.ChainLaws.{and_parts, are_one, same_literal-itself}
+use Rattle.cx_semantics.proofs.Closure.{or_right, all_are, some_are, left_under, closed_has_no_chain, one_in, left_nil, one_is, same_id}
+use Rattle.cx_semantics.proofs.Members.{has_at_head, has_left, has_right}
+use Rattle.cx_semantics.proofs.SameSets.{inside_by}
 use Rattle.proof_rules.specs.LiteralSets.{HaveSame}
 use Rattle.rup_finder.specs.declared.reached.Hint.{Hint}
 use Rattle.rup_finder.specs.declared.reached.Reached.{Reached}
@@ -19,21 +23,6 @@ use Rattle.rup_finder.specs.declared.occurrences.TheConstants.{SHORT}
 use Rattle.rup_finder.specs.Saturation.{IsUnit, Follows, after, HasCome, IsUsed, IsWide, IsAwaited, IsHandled, AllSeen, IsSaturated, Advances, IsAssumedBy, AssumesBy, Begins, Propagates, Ends}
 
 -- ---- lists of literals
-
-pub first_in : (l : Literal) (lits : List Literal) → has_literal (l ∷ lits) l ≡ true
-first_in l lits = ap (λ b. b || has_literal lits l) (same_literal-itself l)
-
-in_front : (xs ys : List Literal) (l : Literal) → has_literal xs l ≡ true → has_literal (xs ++ ys) l ≡ true
-in_front [] ys l h = absurd (true≢false (sym h))
-in_front (x ∷ xs) ys l h = elim (same_literal l x) as (λ b. (b || has_literal xs l) ≡ true → (b || has_literal (xs ++ ys) l) ≡ true) [ true ↦ λ _. refl | false ↦ λ g. in_front xs ys l g ] h
-
-behind : (xs ys : List Literal) (l : Literal) → has_literal ys l ≡ true → has_literal (xs ++ ys) l ≡ true
-behind [] ys l h = h
-behind (x ∷ xs) ys l h = or_right (same_literal l x) _ (behind xs ys l h)
-
-inside_all : (a v : List Literal) → ((l : Literal) → has_literal a l ≡ true → has_literal v l ≡ true) → is_inside a v ≡ true
-inside_all [] v h = refl
-inside_all (m ∷ a) v h = and_both _ _ (h m (first_in m a)) (inside_all a v (λ l k. h l (or_right (same_literal l m) _ k)))
 
 -- what is left of a clause depends on the set of what is assumed
 pub left_same : (a b clause : List Literal) → HaveSame a b → left a clause ≡ left b clause
@@ -69,23 +58,8 @@ left_stays a u (m ∷ ms) l h k = at (same_literal l m) refl (λ g. left_stays a
         ap (λ b. has_literal (cond (not b) (m ∷ left u ms) (left u ms)) l) free ∙ ap (λ c. c || has_literal (left u ms) l) f
     at false f more_ = kept (not (has_literal u (negate m))) (more_ (rest (not (has_literal a (negate m))) f h))
 
-pub one_in : (lits : List Literal) (l : Literal) → count_left lits ≡ one l → has_literal lits l ≡ true
-one_in [] l h = cc
-one_in (m ∷ lits) l h = let p = and_parts (same_literal l m) _ (all_are (m ∷ lits) l h) in ap (λ b. b || has_literal lits l) p.0
-
 pub none_are : (lits : List Literal) (l : Literal) → has_literal lits l ≡ true → lits ≢ []
 none_are lits l h e = true≢false (sym h ∙ ap (λ xs. has_literal xs l) e)
-
-pub is_false : (b : Bool) → (b ≡ true → ⊥) → b ≡ false
-is_false true h = absurd (h refl)
-is_false false h = refl
-
-false_parts : (a b : Bool) → (a || b) ≡ false → (a ≡ false) × (b ≡ false)
-false_parts true b h = absurd (true≢false h)
-false_parts false b h = (refl, h)
-
-or_false : (a b : Bool) → a ≡ false → b ≡ false → (a || b) ≡ false
-or_false a b e f = ap (λ x. x || b) e ∙ f
 
 -- ---- one more assumed literal, that is left of a clause
 
@@ -96,9 +70,9 @@ module _ (old new : List Literal) (lit : Literal) (same : HaveSame new (lit ∷ 
   one_stays : (clause : List Literal) (l : Literal) → count_left (left old clause) ≡ one l → (same_literal (negate l) lit ≡ true → ⊥) → count_left (left new clause) ≡ one l
   one_stays clause l e apart =
       let there : has_literal (left old clause) l ≡ true = one_in (left old clause) l e in
-      let free_l : has_literal new (negate l) ≡ false = same (negate l) ∙ or_false _ _ (is_false (same_literal (negate l) lit) apart) (left_kept old clause l there) in
+      let free_l : has_literal new (negate l) ≡ false = same (negate l) ∙ or_from _ _ (false_from_ne_true (same_literal (negate l) lit) apart) (left_kept old clause l there) in
       some_are (left new clause) l
-      (left_under (same_literal l) old new clause (inside_all old new has_more) (all_are (left old clause) l e))
+      (left_under (same_literal l) old new clause (inside_by old new has_more) (all_are (left old clause) l e))
       (none_are (left new clause) l (left_stays old new clause l there free_l))
 
   used_stays : (clause : List Literal) → IsUsed old clause → IsUsed new clause
@@ -118,14 +92,14 @@ module _ (old new : List Literal) (lit : Literal) (same : HaveSame new (lit ∷ 
       differs false h = true≢false h
 
   used_now : (clause : List Literal) → count_left (left old clause) ≡ one lit → IsUsed new clause
-  used_now clause e = (lit, one_stays clause lit e (not_itself lit), same lit ∙ first_in lit old)
+  used_now clause e = (lit, one_stays clause lit e (not_itself lit), same lit ∙ has_at_head lit old)
 
   -- nothing changes at a clause that has not the literal's negation
   untouched : (clause : List Literal) → has_literal clause (negate lit) ≡ false → left new clause ≡ left old clause
   untouched [] h = refl
   untouched (m ∷ ms) h =
-      let p = false_parts (same_literal (negate lit) m) (has_literal ms (negate lit)) h in
-      let apart : same_literal (negate m) lit ≡ false = is_false (same_literal (negate m) lit) (λ f.
+      let p = or_parts (same_literal (negate lit) m) (has_literal ms (negate lit)) h in
+      let apart : same_literal (negate m) lit ≡ false = false_from_ne_true (same_literal (negate m) lit) (λ f.
       let is : m ≡ negate lit = sym (negate-negate m) ∙ ap negate (are_one (negate m) lit f) in
       true≢false (sym (subst (λ x. same_literal x m ≡ true) is (same_literal-itself m)) ∙ p.0)) in
       let kept : has_literal new (negate m) ≡ has_literal old (negate m) = same (negate m) ∙ ap (λ b. b || has_literal old (negate m)) apart in
@@ -163,9 +137,6 @@ still table reached = record { come = λ target k. k; handled = λ clause k. k }
 pub advances_on : (table : Table) (a b c : Reached) → Advances table a b → Advances table b c → Advances table a c
 advances_on table a b c h k = record { come = λ target g. k.come target (h.come target g); handled = λ clause g. k.handled clause (h.handled clause g) }
 
-some_is : (x y : List Literal) → Some x ≡ Some y → x ≡ y
-some_is x y e = cc
-
 module _ (table : Table) (id : ℕ) (clause : List Literal) (live : get table id ≡ Some clause) (old new : Reached) (lit : Literal) (left_is : one lit ≡ count_left (left old.assumed clause)) where
   free_lit : has_literal old.assumed (negate lit) ≡ false
   free_lit = left_kept old.assumed clause lit (one_in (left old.assumed clause) lit (sym left_is))
@@ -184,30 +155,27 @@ module _ (table : Table) (id : ℕ) (clause : List Literal) (live : get table id
   handled_stays : IsAssumedBy id lit old new → (c : List Literal) → IsHandled old c → IsHandled new c
   handled_stays by c (inl u) = inl (used_stays old.assumed new.assumed lit by.assumed free_lit c u)
   handled_stays by c (inr (inl w)) = elim (has_literal c (negate lit)) as (λ b. has_literal c (negate lit) ≡ b → IsHandled new c) [
-    | true ↦ λ e. inr (inr (lit, ap (λ q. has_literal q lit) by.queue ∙ behind old.queue.items (lit ∷ []) lit (first_in lit []), e))
+    | true ↦ λ e. inr (inr (lit, ap (λ q. has_literal q lit) by.queue ∙ has_right old.queue.items (lit ∷ []) lit (has_at_head lit []), e))
     | false ↦ λ e. inr (inl (ap count_left (untouched old.assumed new.assumed lit by.assumed free_lit c e) ∙ w))
   ] refl
-  handled_stays by c (inr (inr (l, h, k))) = inr (inr (l, ap (λ q. has_literal q l) by.queue ∙ in_front old.queue.items (lit ∷ []) l h, k))
+  handled_stays by c (inr (inr (l, h, k))) = inr (inr (l, ap (λ q. has_literal q l) by.queue ∙ has_left old.queue.items (lit ∷ []) l h, k))
 
   -- one literal is left of it
   pub is_used : AssumesBy id lit old new → Advances table old new × ((c : List Literal) → get table id ≡ Some c → IsHandled new c)
   is_used (inl (h, e)) = (
     subst (Advances table old) (sym e) (still table old),
-    λ c f. subst (λ (r : Reached). IsHandled r c) (sym e) (subst (IsHandled old) (some_is clause c (sym live ∙ f)) (inl (lit, sym left_is, h))),
+    λ c f. subst (λ (r : Reached). IsHandled r c) (sym e) (subst (IsHandled old) (same_Some clause c (sym live ∙ f)) (inl (lit, sym left_is, h))),
   )
   is_used (inr by) = (
     record { come = come_on by; handled = handled_stays by },
-    λ c f. subst (IsHandled new) (some_is clause c (sym live ∙ f)) (inl (used_now old.assumed new.assumed lit by.assumed free_lit clause (sym left_is))),
+    λ c f. subst (IsHandled new) (same_Some clause c (sym live ∙ f)) (inl (used_now old.assumed new.assumed lit by.assumed free_lit clause (sym left_is))),
   )
 
 -- two literals are left of it, or more
 pub is_wide_still : (table : Table) (id : ℕ) (clause : List Literal) → get table id ≡ Some clause → (reached : Reached) → more ≡ count_left (left reached.assumed clause) → (c : List Literal) → get table id ≡ Some c → IsHandled reached c
-is_wide_still table id clause live reached e c f = subst (IsHandled reached) (some_is clause c (sym live ∙ f)) (inr (inl (sym e)))
+is_wide_still table id clause live reached e c f = subst (IsHandled reached) (same_Some clause c (sym live ∙ f)) (inr (inl (sym e)))
 
 -- ---- lists of ids
-
-pub same_id : (n k : ℕ) → eq_by_cmp nat_cmp n k ≡ true → n ≡ k
-same_id n k h = eqb-true n k (sym (unsigned_tied n k) ∙ h)
 
 -- the clause of the first id is handled
 pub seen_more : (table : Table) (old new : Reached) (k : ℕ) (rest : List ℕ) → Advances table old new → ((clause : List Literal) → get table k ≡ Some clause → IsHandled new clause)
@@ -267,7 +235,7 @@ wide_is_more (l ∷ lits) h = elim (list_all (same_literal l) lits) as (λ b. li
 whole : (a queue clause : List Literal) → ((l : Literal) → has_literal a l ≡ true → has_literal queue l ≡ true) → IsAwaited queue clause ⊎ (left a clause ≡ clause)
 whole a queue [] h = inr refl
 whole a queue (m ∷ ms) h = elim (has_literal a (negate m)) as (λ b. has_literal a (negate m) ≡ b → IsAwaited queue ms ⊎ (left a ms ≡ ms) → IsAwaited queue (m ∷ ms) ⊎ (cond (not b) (m ∷ left a ms) (left a ms) ≡ m ∷ ms)) [
-  | true ↦ λ e _. inl (negate m, h (negate m) e, ap (has_literal (m ∷ ms)) (negate-negate m) ∙ first_in m ms)
+  | true ↦ λ e _. inl (negate m, h (negate m) e, ap (has_literal (m ∷ ms)) (negate-negate m) ∙ has_at_head m ms)
   | false ↦ λ e rest. elim rest [ inl (l, f, g) ↦ inl (l, f, or_right (same_literal (negate l) m) _ g) | inr f ↦ inr (ap (λ xs. m ∷ xs) f) ]
 ] refl (whole a queue ms h)
 
@@ -294,18 +262,11 @@ pub ends_by : (table : Table) (target : List Literal) (old new : Reached) (found
 ends_by table target old new None come seen p = (p.0 target come, saturated_by table new p.2 (p.1 [] seen))
 ends_by table target old new (Some id) come seen p = (p.0 target come, p.1)
 
-left_nil : (a clause : List Literal) → is_falsified a clause ≡ true → left a clause ≡ []
-left_nil a [] h = refl
-left_nil a (m ∷ ms) h = let p = and_parts (has_literal a (negate m)) _ h in ap (λ b. cond (not b) (m ∷ left a ms) (left a ms)) p.0 ∙ left_nil a ms p.1
-
-one_is : (a b : Literal) → one a ≡ one b → a ≡ b
-one_is a b e = cc
-
 pub has_no_chain : (table : Table) (target : List Literal) (reached : Reached) → HasCome table target reached → IsSaturated table reached.assumed → ¬ HasChain table target
 has_no_chain table target reached come saturated = closed_has_no_chain table reached.assumed target
     (λ clause l (n, e) f. units clause l f (saturated n clause e))
-    (λ clause (n, e). is_false (is_falsified reached.assumed clause) (λ f. falsified clause (ap count_left (left_nil reached.assumed clause f)) (saturated n clause e)))
-    (inside_all (negations target) reached.assumed (λ l h. come.same l ∙ after_has (negations target) reached.hints.items l h))
+    (λ clause (n, e). false_from_ne_true (is_falsified reached.assumed clause) (λ f. falsified clause (ap count_left (left_nil reached.assumed clause f)) (saturated n clause e)))
+    (inside_by (negations target) reached.assumed (λ l h. come.same l ∙ after_has (negations target) reached.hints.items l h))
   where
     units : (clause : List Literal) (l : Literal) → count_left (left reached.assumed clause) ≡ one l → IsUsed reached.assumed clause ⊎ IsWide reached.assumed clause → has_literal reached.assumed l ≡ true
     units clause l f (inl (m, e, h)) = subst (λ x. has_literal reached.assumed x ≡ true) (one_is m l (sym e ∙ f)) h

@@ -2,17 +2,19 @@
 use Rattle.std.proofs.Common.{◌≡◌, refl, sym, ap, ◌∙◌, subst, ℕ, Bool, true, false, cond, not, ◌||◌, List, [], ◌∷◌, ◌++◌, reverse, Some, is_some, true≢false}
 use Rattle.std.proofs.lemmas.List.{reverse-append}
 use Rattle.std.specs.List.{list_all, cons_option}
+use Rattle.std.proofs.lemmas.Bool.{false_from_ne_true}
 use Rattle.cx_base.specs.Literals.{Literal, negate, same_literal}
 use Rattle.cx_semantics.specs.Chain.{has_literal, negations, left, one, count_left, right, go_on, chain}
 use Rattle.cx_semantics.specs.Tables.{Table, get, named}
 use Rattle.cx_semantics.specs.LogRules.{AreLive}
 use Rattle.cx_semantics.proofs.ChainLaws.{and_parts, and_both, are_one}
-use Rattle.cx_semantics.proofs.Closure.{or_right, all_are, some_are, none_left}
+use Rattle.cx_semantics.proofs.Closure.{or_right, all_are, some_are, none_left, one_in}
+use Rattle.cx_semantics.proofs.Members.{has_at_head}
 use Rattle.rup_finder.specs.declared.reached.Hint.{Hint}
 use Rattle.rup_finder.specs.declared.pruning.Pruning.{Pruning}
 use Rattle.rup_finder.specs.Saturation.{IsUnit, Follows, after, IsFalsifiedAt}
 use Rattle.rup_finder.specs.Prunings.{Keeps, IsPruned}
-use Rattle.rup_finder.proofs.Propagation.{first_in, left_kept, left_stays, one_in, none_are, is_false, follows_pop, after_push}
+use Rattle.rup_finder.proofs.Propagation.{left_kept, left_stays, none_are, follows_pop, after_push}
 
 -- What all that is left of a clause under the assumed literals passes, passes too what is left under a part of them that has all of the clause's.
 left_of_part : (p : Literal → Bool) (a part clause : List Literal) → ((l : Literal) → has_literal (negations clause) l ≡ true → has_literal a l ≡ true → has_literal part l ≡ true)
@@ -23,7 +25,7 @@ left_of_part p a part (m ∷ ms) has h = go (has_literal a (negate m)) refl (has
     go : (b : Bool) → has_literal a (negate m) ≡ b → (c : Bool) → has_literal part (negate m) ≡ c → (list_all p (left a ms) ≡ true → list_all p (left part ms) ≡ true) → list_all p (left part (m ∷ ms)) ≡ true
     go true e true f rest =
         ap (λ c. list_all p (cond (not c) (m ∷ left part ms) (left part ms))) f ∙ rest (sym (ap (λ b. list_all p (cond (not b) (m ∷ left a ms) (left a ms))) e) ∙ h)
-    go true e false f rest = absurd (true≢false (sym (has (negate m) (first_in (negate m) (negations ms)) e) ∙ f))
+    go true e false f rest = absurd (true≢false (sym (has (negate m) (has_at_head (negate m) (negations ms)) e) ∙ f))
     go false e true f rest =
         let q = and_parts (p m) (list_all p (left a ms)) (sym (ap (λ b. list_all p (cond (not b) (m ∷ left a ms) (left a ms))) e) ∙ h) in
         ap (λ c. list_all p (cond (not c) (m ∷ left part ms) (left part ms))) f ∙ rest q.1
@@ -62,7 +64,7 @@ module _ (table : Table) (id : ℕ) (old new : Pruning) (keeps : Keeps table id 
     chains = λ part up down.
         let has_lit : has_literal (left a unit.clause) lit ≡ true = one_in (left a unit.clause) lit unit.unit in
         let all : list_all (same_literal lit) (left part unit.clause) ≡ true = left_of_part (same_literal lit) a part unit.clause (λ l h k. up l (keeps.needs unit.clause unit.live l h) k) (all_are (left a unit.clause) lit unit.unit) in
-        let free : has_literal part (negate lit) ≡ false = is_false (has_literal part (negate lit)) (λ h. true≢false (sym (down (negate lit) h) ∙ left_kept a unit.clause lit has_lit)) in
+        let free : has_literal part (negate lit) ≡ false = false_from_ne_true (has_literal part (negate lit)) (λ h. true≢false (sym (down (negate lit) h) ∙ left_kept a unit.clause lit has_lit)) in
         let here : count_left (left part unit.clause) ≡ one lit = some_are (left part unit.clause) lit all (none_are (left part unit.clause) lit (left_stays a part unit.clause lit has_lit free)) in
         ap (λ ks. chain part (named table ks)) turned ∙ chain_front table part id unit.clause (reverse old.kept.items) unit.live
         ∙ ap (λ c. go_on c (λ l. chain (l ∷ part) (named table (reverse old.kept.items)))) here

@@ -6,11 +6,13 @@ use Rattle.cx_base.specs.Literals.{Literal, negate}
 use Rattle.cx_semantics.specs.Chain.{has_literal}
 use Rattle.cx_semantics.specs.Tables.{Table}
 use Rattle.cx_semantics.proofs.Closure.{has_by_inside}
+use Rattle.cx_semantics.proofs.Members.{has_at_head, has_behind, has_split}
 use Rattle.cx_trail.specs.declared.entry.Entry.{Entry as TrailEntry}
 use Rattle.cx_trail.specs.Sequence.{TrailState, entry_at, IsTrueIn, IsOpenIn, IsTrail as IsCodeTrail}
 use Rattle.search_steps.specs.Trail.{Entry, held, all_held, level_of, IsTrail, IsUnassigned}
 use Rattle.search_steps.specs.Tied.{IsTied}
-use Rattle.search_steps.proofs.Sets.{by_cases, not_both, has_at_head, has_behind, has_split}
+use Rattle.conflict_learn.proofs.ChainOfResolutions.{by_cases}
+use Rattle.search_steps.proofs.Sets.{not_both}
 use Rattle.search_steps.proofs.TrailLaws.{held_inside}
 
 -- ---- entries at the end and before it

@@ -9,15 +9,17 @@ use Rattle.cx_semantics.specs.Fresh.{is_falsified}
 use Rattle.cx_semantics.specs.Tables.{get}
 use Rattle.cx_semantics.proofs.ChainLaws.{and_parts}
 use Rattle.cx_semantics.proofs.Closure.{has_by_inside}
+use Rattle.cx_semantics.proofs.Members.{has_at_head, has_behind}
 use Rattle.cx_trail.specs.declared.entry.Entry.{Entry as TrailEntry}
 use Rattle.cx_trail.specs.declared.entry.Reason.{Reason}
 use Rattle.cx_trail.specs.Sequence.{TrailState, TakesBack, entry_at, no_entry, pushed, IsOpenIn}
 use Rattle.conflict_learn.specs.Learning.{IsOfLevel}
+use Rattle.conflict_learn.proofs.ChainOfResolutions.{by_cases}
 use Rattle.search_steps.specs.Trail.{Entry, by_clause, by_row, held, all_held, back_to, level_of, Forces}
 use Rattle.search_steps.specs.Quiet.{Quiet, RestsOn, IsOfParities}
 use Rattle.search_steps.specs.Search.{Search, IsSearch, decided_on, forced_on}
 use Rattle.search_steps.specs.Tied.{IsTied, IsLiveSet, Mirrors, ForcesOn}
-use Rattle.search_steps.proofs.Sets.{by_cases, not_both, has_at_head, has_behind}
+use Rattle.search_steps.proofs.Sets.{not_both}
 use Rattle.search_steps.proofs.QuietLaws.{implied_rests}
 use Rattle.search_steps.proofs.ServesLaws.{decide_keeps, force_keeps}
 use Rattle.search_steps.proofs.Bridge.{entry_last, to_held, true_is_held, open_is_unassigned, level_tied}

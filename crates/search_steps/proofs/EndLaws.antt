@@ -1,6 +1,7 @@
 -- How the search ends: with values, with the empty clause, or with an open log; and a settled formula wants no decision.
 use Rattle.std.proofs.Common.{◌≡◌, refl, sym, ap, ◌∙◌, ℕ, ◌≤◌, Bool, true, false, not, ◌&&◌, ◌||◌, List, [], ◌∷◌, length, Contains, filter_map, ◌⊎◌, inl, inr, true≢false}
 use Rattle.std.specs.List.{list_all, AllByRecursion}
+use Rattle.std.proofs.lemmas.Bool.{not-true, or_right}
 use Rattle.cx_base.specs.Literals.{Literal, negate, literal_true, differ}
 use Rattle.cx_base.specs.Problem.{Problem, Meets, clause_met, parity_met, constraint_met, clauses_of, parities_of, AreWithin, literals_of}
 use Rattle.cx_base.specs.declared.constraint.Constraint.{Constraint}
@@ -18,7 +19,7 @@ use Rattle.cx_semantics.proofs.ChainLaws.{and_both, true_by_all, literal_true-ne
 use Rattle.search_steps.specs.Quiet.{Quiet}
 use Rattle.search_steps.specs.Trail.{all_held}
 use Rattle.search_steps.specs.Search.{Search, IsSearch}
-use Rattle.search_steps.proofs.Sets.{not_both, not_true}
+use Rattle.search_steps.proofs.Sets.{not_both}
 use Rattle.search_steps.proofs.LogLaws.{here, there}
 
 -- ---- a settled formula
@@ -59,7 +60,7 @@ module _ (n : ℕ) (known : List Literal) (decides : Decides n known) where
   agree : (v w : List Bool) → list_all (literal_true v) known ≡ true → list_all (literal_true w) known ≡ true → (l : Literal) → 1 ≤ l.variable → l.variable ≤ n → literal_true v l ≡ literal_true w l
   agree v w hv hw l low high = elim (one_held l low high) [
     | inl h ↦ true_by_all v known l hv h ∙ sym (true_by_all w known l hw h)
-    | inr h ↦ not_true _ (sym (literal_true-negate v l) ∙ true_by_all v known (negate l) hv h) ∙ sym (not_true _ (sym (literal_true-negate w l) ∙ true_by_all w known (negate l) hw h))
+    | inr h ↦ not-true _ (sym (literal_true-negate v l) ∙ true_by_all v known (negate l) hv h) ∙ sym (not-true _ (sym (literal_true-negate w l) ∙ true_by_all w known (negate l) hw h))
   ]
 
   parity_agrees : (v w : List Bool) → list_all (literal_true v) known ≡ true → list_all (literal_true w) known ≡ true → (lits : List Literal) → AreWithin n lits → parity_met v lits ≡ parity_met w lits
@@ -72,10 +73,6 @@ module _ (n : ℕ) (known : List Literal) (decides : Decides n known) where
     | inl k ↦ ap (λ b. b || clause_met v ms) (true_by_all v known m h k)
     | inr k ↦ or_right (literal_true v m) _ (clause_holds v ms h w.1 (sym (ap (λ b. b && is_falsified known ms) k) ∙ f))
   ]
-    where
-      or_right : (a b : Bool) → b ≡ true → (a || b) ≡ true
-      or_right true b h = refl
-      or_right false b h = h
 
 all_constraints : (n : ℕ) (v : List Bool) (cs : List Constraint) → AllByRecursion (λ c. AreWithin n (literals_of c)) cs
     → ((clause : List Literal) → Contains (clauses_of cs) clause → AreWithin n clause → clause_met v clause ≡ true) → ((parity : List Literal) → Contains (parities_of cs) parity → AreWithin n parity → parity_met v parity ≡ true)

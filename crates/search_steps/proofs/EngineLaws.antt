@@ -4,11 +4,13 @@ use Rattle.std.proofs.lemmas.Bool.{leb-true, leb-false, le-leb, eqb-false}
 use Rattle.std.proofs.lemmas.List.{get_or-set_same, get_or-set_other}
 use Rattle.std.proofs.Math.ListN.{get_or-map}
 use Rattle.std.specs.Prelude.{replicate}
+use Rattle.std.proofs.Math.Bool.{not-not}
 use Rattle.cx_base.specs.Literals.{Literal, negate, literal_true}
 use Rattle.cx_semantics.specs.Chain.{has_literal}
 use Rattle.cx_semantics.specs.Forced.{Solves}
 use Rattle.cx_semantics.specs.Tables.{Table}
 use Rattle.cx_semantics.proofs.Closure.{has_by_inside}
+use Rattle.cx_semantics.proofs.Members.{has_at_head, has_behind, has_split}
 use Rattle.cx_trail.specs.declared.entry.Entry.{Entry as TrailEntry}
 use Rattle.cx_trail.specs.Sequence.{IsTrueIn, IsOpenIn, entry_at}
 use Rattle.parity_engine.specs.declared.event.ParityEvent.{ParityEvent}
@@ -19,17 +21,14 @@ use Rattle.search_steps.specs.Trail.{Entry, held, all_held, back_to, level_of, I
 use Rattle.search_steps.specs.Quiet.{ParitiesQuiet}
 use Rattle.search_steps.specs.Engine.{HasValue, HoldsValues}
 use Rattle.search_steps.specs.Tied.{IsTied}
-use Rattle.search_steps.proofs.Sets.{by_cases, not_both, each_member, member_of_all, has_split, has_at_head, has_behind}
+use Rattle.conflict_learn.proofs.ChainOfResolutions.{by_cases}
+use Rattle.search_steps.proofs.Sets.{not_both, each_member, member_of_all}
 use Rattle.search_steps.proofs.TrailLaws.{held_inside, held_all, held_back, back_is_trail}
 use Rattle.search_steps.proofs.Bridge.{true_is_held, held_is_true}
 
 -- ---- literals and values
 one_sign : (a b : Literal) → a.variable ≡ b.variable → a.negative ≡ b.negative → a ≡ b
 one_sign a b v n = λ i. record { variable = v i; negative = n i }
-
-not_twice : (b : Bool) → not (not b) ≡ b
-not_twice true = refl
-not_twice false = refl
 
 some_one : (h g : Held) → (let o : Option Held = Some h in o) ≡ Some g → h ≡ g
 some_one h g e = cc
@@ -137,7 +136,7 @@ module _ (s : State) (es : List Entry) (v : HoldsValues es s.values) where
       put_here : (l : Literal) (h : Held) → HasValue values l h → l.variable ≡ e.literal.variable → has_literal (held h.level (e ∷ es)) l ≡ true
       put_here l h has_it same =
           let is : new ≡ h = some_one new h (sym put ∙ ap (held_at values) (sym same) ∙ has_it.has_it) in
-          let sign : l.negative ≡ e.literal.negative = sym (not_twice l.negative) ∙ ap not (sym has_it.sign ∙ ap (λ x. x.value) (sym is)) ∙ not_twice e.literal.negative in
+          let sign : l.negative ≡ e.literal.negative = sym (not-not l.negative) ∙ ap not (sym has_it.sign ∙ ap (λ x. x.value) (sym is)) ∙ not-not e.literal.negative in
           let at : s.level ≡ h.level = ap (λ x. x.level) is in
           ap (λ b. has_literal (cond b (e.literal ∷ held h.level es) (held h.level es)) l) (le-leb e.level h.level (omega (arith, level, at)))
           ∙ ap (has_literal (e.literal ∷ held h.level es)) (one_sign l e.literal same sign) ∙ has_at_head e.literal (held h.level es)
@@ -202,7 +201,7 @@ known_has k (Some g ∷ values) l h = go (has_split (record { variable = k; nega
     go (inl is) rec =
         let same : l.variable ≡ k = ap (λ x. x.variable) is in
         let at : l.variable - k ≡ 0 = omega (arith, same) in
-        (omega (arith, same), (g, ap (λ i. get_or (Some g ∷ values) i None) at, sym (not_twice g.value) ∙ ap not (ap (λ x. x.negative) (sym is))))
+        (omega (arith, same), (g, ap (λ i. get_or (Some g ∷ values) i None) at, sym (not-not g.value) ∙ ap not (ap (λ x. x.negative) (sym is))))
     go (inr f) rec =
         let r = rec f in
         let low = r.0 in
@@ -215,7 +214,7 @@ has_known k (None ∷ values) zero h l is at sign = cc
 has_known k (None ∷ values) (suc x) h l is at sign = has_known (k + 1) values x h l is (omega (arith, at)) sign
 has_known k (Some g ∷ values) zero h l is at sign =
     let same : l.variable ≡ k = omega (arith, at) in
-    let negative : l.negative ≡ not g.value = sym (not_twice l.negative) ∙ ap not (sym sign ∙ ap (λ x. x.value) (sym (some_one g h is))) in
+    let negative : l.negative ≡ not g.value = sym (not-not l.negative) ∙ ap not (sym sign ∙ ap (λ x. x.value) (sym (some_one g h is))) in
     ap (has_literal (record { variable = k; negative = not g.value } ∷ known_from (k + 1) values)) (one_sign l (record { variable = k; negative = not g.value }) same negative)
     ∙ has_at_head (record { variable = k; negative = not g.value }) (known_from (k + 1) values)
 has_known k (Some g ∷ values) (suc x) h l is at sign = has_behind (record { variable = k; negative = not g.value }) (known_from (k + 1) values) l (has_known (k + 1) values x h l is (omega (arith, at)) sign)

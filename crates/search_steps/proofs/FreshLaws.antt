@@ -1,13 +1,16 @@
 -- A clause that a conflict gives is fresh, and a literal of level 0 is not.
 use Rattle.std.proofs.Common.{◌≡◌, refl, sym, ap, ◌∙◌, Bool, true, false, cond, not, List, [], ◌∷◌}
 use Rattle.std.specs.List.{list_all}
+use Rattle.std.proofs.lemmas.Bool.{not-true}
 use Rattle.cx_base.specs.Literals.{Literal, negate, same_literal}
 use Rattle.cx_semantics.specs.Chain.{has_literal, is_inside, left}
 use Rattle.cx_semantics.specs.Fresh.{Fresh, IsLive, is_falsified, others, KeepsUnits, FalsifiesNone}
 use Rattle.cx_semantics.specs.Tables.{Table}
 use Rattle.cx_semantics.proofs.Closure.{has_by_inside, falsified-left, some_are}
+use Rattle.cx_semantics.proofs.Members.{has_at_head, has_behind}
 use Rattle.search_steps.specs.Quiet.{HasNoClash, ClausesQuiet}
-use Rattle.search_steps.proofs.Sets.{by_cases, not_both, negations_by, others_of, false_is_no_tautology, has_at_head, has_behind, not_true}
+use Rattle.conflict_learn.proofs.ChainOfResolutions.{by_cases, negations_by}
+use Rattle.search_steps.proofs.Sets.{not_both, others_of, false_is_no_tautology}
 
 module _ (table : Table) (all low : List Literal) (clash : HasNoClash all) (inside : is_inside low all ≡ true) (quiet : ClausesQuiet table low) where
   -- one literal of the clause is false, and the others are so in a part of what is held in which all clauses rest
@@ -45,5 +48,5 @@ takes_forced table u clause l units no_conflict live h =
     only : (ms : List Literal) → ((m : Literal) → has_literal ms m ≡ true → same_literal l m ≡ false → has_literal u (negate m) ≡ true) → list_all (same_literal l) (left u ms) ≡ true
     only [] g = refl
     only (m ∷ ms) g = step (not (has_literal u (negate m))) m (left u ms)
-        (λ e. by_cases (same_literal l m) (λ f. f) (λ f. not_both (has_literal u (negate m)) (g m (has_at_head m ms) f) (not_true _ e)))
+        (λ e. by_cases (same_literal l m) (λ f. f) (λ f. not_both (has_literal u (negate m)) (g m (has_at_head m ms) f) (not-true _ e)))
         (only ms (λ x k. g x (has_behind m ms x k)))

@@ -1,7 +1,8 @@
 -- Each step keeps the ranges of ids.
-use Rattle.std.proofs.Common.{◌≡◌, refl, sym, ap, ◌∙◌, subst, ℕ, ◌+◌, ◌≤◌, ◌<◌, ℤ, Bool, true, false, cond, not, ◌||◌, nat_eq, nat_le, eqb-true, List, [], ◌∷◌, ◌++◌, length, Some, None, arith, true≢false}
+use Rattle.std.proofs.Common.{◌≡◌, refl, sym, ap, ◌∙◌, subst, ℕ, ◌+◌, ◌≤◌, ◌<◌, ℤ, Bool, true, false, cond, not, ◌||◌, nat_eq, nat_le, eqb-true, List, [], ◌∷◌, ◌++◌, length, Some, None, arith}
 use Rattle.std.specs.List.{AllByRecursion}
 use Rattle.std.specs.FinMap as map_
+use Rattle.std.proofs.lemmas.Bool.{or_parts}
 use Rattle.cx_base.specs.Literals.{Literal}
 use Rattle.cx_base.specs.Problem.{Problem, clauses_of, parities_of}
 use Rattle.cx_semantics.specs.declared.steps.LogStep.TheVariants.{ClauseWithHints, Parity, ClauseOfParity, ParityOfClauses, Delete}
@@ -16,7 +17,7 @@ use Rattle.search_steps.specs.Search.{Search, IsSearch, IsServed, IsLearnedOf, t
 use Rattle.search_steps.specs.LogSteps.{IsNoReason, IsAddition, AreTemporary, row_events, all_told, deleted, after_learned, after_round}
 use Rattle.search_steps.specs.Start.{IsBegun}
 use Rattle.search_steps.specs.Ids.{ReasonsBelow, AreRowIds, IsRanged, HasFreeSums}
-use Rattle.search_steps.proofs.Sets.{by_cases}
+use Rattle.conflict_learn.proofs.ChainOfResolutions.{by_cases}
 use Rattle.search_steps.proofs.Rounds.{round_keeps, round_clears_old, round_clears_new}
 use Rattle.search_steps.proofs.Lists.{all_append}
 
@@ -52,14 +53,10 @@ rows_up : (bound low high : ℕ) (ids : List ℕ) → low ≤ high → AreRowIds
 rows_up bound low high [] h a = tt
 rows_up bound low high (i ∷ ids) h a = ((a.0.0, let less = a.0.1 in omega (arith, less, h)), rows_up bound low high ids h a.1)
 
-or_false : (a b : Bool) → (a || b) ≡ false → (a ≡ false) × (b ≡ false)
-or_false true b h = absurd (true≢false h)
-or_false false b h = (refl, h)
-
 not_in_parts : (xs ys : List ℕ) (m : ℕ) → is_among (xs ++ ys) m ≡ false → (is_among xs m ≡ false) × (is_among ys m ≡ false)
 not_in_parts [] ys m h = (refl, h)
 not_in_parts (x ∷ xs) ys m h =
-    let p = or_false (nat_eq m x) (is_among (xs ++ ys) m) h in
+    let p = or_parts (nat_eq m x) (is_among (xs ++ ys) m) h in
     let r = not_in_parts xs ys m p.1 in
     (ap (λ b. b || is_among xs m) p.0 ∙ r.0, r.1)
 
@@ -70,7 +67,7 @@ not_before (x ∷ xs) n m d h = go (nat_eq n x) refl h (not_before xs n m d)
   where
     go : (b : Bool) → nat_eq n x ≡ b → is_among (cond (not b) (x ∷ without xs n) (without xs n)) m ≡ false → (is_among (without xs n) m ≡ false → is_among xs m ≡ false) → is_among (x ∷ xs) m ≡ false
     go true e g rec = ap (λ b. b || is_among xs m) (ap (nat_eq m) (sym (eqb-true n x e)) ∙ d) ∙ rec g
-    go false e g rec = let p = or_false (nat_eq m x) (is_among (without xs n) m) g in ap (λ b. b || is_among xs m) p.0 ∙ rec p.1
+    go false e g rec = let p = or_parts (nat_eq m x) (is_among (without xs n) m) g in ap (λ b. b || is_among xs m) p.0 ∙ rec p.1
 
 -- ---- tables
 get_other : (table : Table) (n m : ℕ) (lits : List Literal) → nat_eq m n ≡ false → get table m ≡ None → get (map_.insert table n lits) m ≡ None
@@ -152,7 +149,7 @@ module _ (formula : Problem) (bound next row_next : ℕ) where
       new_rows = ((low, omega arith), rows_up bound row_next (n + 1) s.moment.new_clauses (omega (arith, next_low)) i.new_rows);
       old_rows = rows_up bound row_next (n + 1) s.moment.old_clauses (omega (arith, next_low)) i.old_rows;
       free = λ m h j. get_other s.moment.tables.clauses n m _ (apart_ids m n (λ e. omega (arith, e, j, low))) (i.free m h j);
-      rows_free = λ m h j l. let p = or_false (nat_eq m n) (is_among s.moment.new_clauses m) j in get_other s.moment.tables.clauses n m _ p.0 (i.rows_free m h p.1 l);
+      rows_free = λ m h j l. let p = or_parts (nat_eq m n) (is_among s.moment.new_clauses m) j in get_other s.moment.tables.clauses n m _ p.0 (i.rows_free m h p.1 l);
     }
 
     pub deletion_ranged : (n : ℕ) (zs : List ℤ) → IsRanged formula bound next row_next s.trail (after_event s.moment (Step (Delete n zs)))

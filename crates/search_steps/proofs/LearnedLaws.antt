@@ -3,21 +3,23 @@ use Rattle.std.proofs.Common.{◌≡◌, refl, sym, ap, ◌∙◌, subst, ℕ, �
 use Rattle.std.specs.Prelude.{reverse}
 use Rattle.std.specs.List.{AllByRecursion, cons_option}
 use Rattle.cx_base.specs.Literals.{Literal, negate, same_literal}
+use Rattle.cx_base.proofs.LiteralLaws.{negate-negate}
 use Rattle.cx_semantics.specs.Chain.{has_literal}
 use Rattle.cx_semantics.specs.LogRules.{AreLive, HasChain}
 use Rattle.cx_semantics.specs.Tables.{Table, named}
-use Rattle.cx_semantics.proofs.ChainLaws.{negate-negate, are_one, same_literal-itself}
+use Rattle.cx_semantics.proofs.ChainLaws.{are_one, same_literal-itself}
 use Rattle.cx_semantics.proofs.Closure.{has_by_inside}
 use Rattle.cx_semantics.proofs.SameSets.{Same-by_test, AllSame, chain_stays_right}
+use Rattle.cx_semantics.proofs.Members.{has_at_head, has_behind, has_split}
 use Rattle.cx_trail.specs.Sequence.{TrailState, IsTrail as IsCodeTrail}
 use Rattle.conflict_learn.specs.Learning.{IsLearned, AreAntecedents, negated_at, level_at, literal_at, has_place, IsFalling}
 use Rattle.conflict_learn.specs.Levels.{Teaches, second, levels_at}
-use Rattle.conflict_learn.proofs.ChainOfResolutions.{served_is_chain}
+use Rattle.conflict_learn.proofs.ChainOfResolutions.{served_is_chain, by_cases}
 use Rattle.conflict_learn.proofs.AnalyseLaws.{negated_from, place_here, place_split}
 use Rattle.search_steps.specs.Trail.{Entry, held, all_held, level_of, IsTrail}
 use Rattle.search_steps.specs.Search.{IsLearnedOf}
 use Rattle.search_steps.specs.Tied.{IsTied, IsLiveSet}
-use Rattle.search_steps.proofs.Sets.{by_cases, not_both, has_at_head, has_behind, has_split}
+use Rattle.search_steps.proofs.Sets.{not_both}
 use Rattle.search_steps.proofs.TrailLaws.{held_inside}
 use Rattle.search_steps.proofs.Bridge.{to_held, not_yet_held, level_tied}
 

@@ -24,11 +24,13 @@ use Rattle.cx_semantics.proofs.ChainLaws.{and_parts, and_both, are_one}
 use Rattle.cx_semantics.proofs.Closure.{chain_or_closed, has_by_inside}
 use Rattle.cx_semantics.proofs.JudgingLaws.{runs_push}
 use Rattle.cx_semantics.proofs.MarkedLaws.{events_go_on}
+use Rattle.cx_semantics.proofs.Members.{has_at_head, has_split}
 use Rattle.search_steps.specs.Trail.{Entry, by_clause, held, all_held, IsTrail, Forces, level_of}
 use Rattle.search_steps.specs.Quiet.{IsOfParities}
 use Rattle.search_steps.specs.Search.{Search, IsLog, Serves, IsSearch, told, marked, IsServed, IsLearnedOf, IsReached}
 use Rattle.search_steps.specs.LogSteps.{IsNoReason, IsAddition, RestOnClauses, IsUnitOf, IsRowOf, IsClauseOfRow, IsTemporary}
-use Rattle.search_steps.proofs.Sets.{by_cases, not_both, has_split, has_at_head, each_member, true_rests}
+use Rattle.conflict_learn.proofs.ChainOfResolutions.{by_cases}
+use Rattle.search_steps.proofs.Sets.{not_both, each_member, true_rests}
 use Rattle.search_steps.proofs.FreshLaws.{takes_forced}
 use Rattle.search_steps.proofs.QuietLaws.{implied_rests}
 use Rattle.search_steps.proofs.TrailLaws.{held_rises, held_inside, trail_no_clash, part_no_clash}
@@ -105,7 +107,7 @@ module _ (table : Table) (IsRow : List Literal → Type 0) (older : List Entry) 
   falsified_has_chain h = elim (chain_or_closed table []) [
     | inl k ↦ k
     | inr c ↦ absurd (not_both (is_falsified c.u clause)
-        (each_member (λ m. has_literal c.u (negate m)) clause (λ m k. has_by_inside (all_held older) c.u (negate m) (takes_all table IsRow c.u c.units c.no_conflict older t r) (Rattle.search_steps.proofs.Sets.negated_in clause (all_held older) m h k)))
+        (each_member (λ m. has_literal c.u (negate m)) clause (λ m k. has_by_inside (all_held older) c.u (negate m) (takes_all table IsRow c.u c.units c.no_conflict older t r) (Rattle.conflict_learn.proofs.ChainOfResolutions.negated_in clause (all_held older) m h k)))
         (c.no_conflict clause live))
   ]
 

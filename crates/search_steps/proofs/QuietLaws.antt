@@ -1,24 +1,27 @@
 -- What keeps levels quiet.
-use Rattle.std.proofs.Common.{◌≡◌, refl, sym, ap, ◌∙◌, subst, ℕ, ◌≤◌, Bool, true, false, cond, not, nat_eq, List, [], ◌∷◌, Some, None, ◌⊎◌, inl, inr, true≢false}
+use Rattle.std.proofs.Common.{◌≡◌, refl, sym, ap, ◌∙◌, subst, ℕ, ◌≤◌, Bool, true, false, cond, not, nat_eq, List, [], ◌∷◌, Some, None, ◌⊎◌, inl, inr}
 use Rattle.std.specs.List.{list_all}
 use Rattle.std.specs.FinMap as map_
+use Rattle.std.proofs.lemmas.Option.{same_Some}
+use Rattle.std.proofs.lemmas.Bool.{not-true}
 use Rattle.cx_base.specs.Literals.{Literal, negate, literal_true}
 use Rattle.cx_base.specs.Problem.{clause_met, AreWithin}
-use Rattle.cx_semantics.specs.Chain.{has_literal, left, one, count_left}
+use Rattle.cx_semantics.specs.Chain.{has_literal, left, one}
 use Rattle.cx_semantics.specs.Fresh.{IsLive, is_falsified}
 use Rattle.cx_semantics.specs.Tables.{Table, get}
 use Rattle.cx_semantics.proofs.ChainLaws.{true_by_all, literal_true-negate}
 use Rattle.cx_semantics.proofs.Lookups.{Looks-insert, Looks-remove}
+use Rattle.cx_semantics.proofs.Members.{has_split}
+use Rattle.cx_semantics.proofs.Closure.{one_in, left_in}
 use Rattle.search_steps.specs.Quiet.{RestsOn, ParitiesQuiet, ClausesQuiet, IsOfParities}
-use Rattle.search_steps.proofs.Sets.{by_cases, not_both, one_left, left_has, no_member, member_of_all, has_split, has_at_head, has_behind}
+use Rattle.conflict_learn.proofs.ChainOfResolutions.{by_cases}
+use Rattle.search_steps.proofs.Sets.{not_both, one_left, left_has, no_member, member_of_all}
 
 -- ---- tables
-some_same : (x y : List Literal) → Some x ≡ Some y → x ≡ y
-some_same x y e = cc
 
 pub live_with : (table : Table) (n : ℕ) (lits clause : List Literal) → IsLive (map_.insert table n lits) clause → (clause ≡ lits) ⊎ IsLive table clause
 live_with table n lits clause (k, e) = elim (nat_eq k n) as (λ b. cond b (Some lits) (get table k) ≡ Some clause → (clause ≡ lits) ⊎ IsLive table clause) [
-  | true ↦ λ f. inl (sym (some_same lits clause f))
+  | true ↦ λ f. inl (sym (same_Some lits clause f))
   | false ↦ λ f. inr (k, f)
 ] (sym (Looks-insert table (get table) n lits (λ _. refl) k) ∙ e)
 
@@ -48,11 +51,7 @@ within_member n (m ∷ ms) l w h = elim (has_split m ms l h) [
 
 -- where a literal's negation is true, it is false
 false_by : (v : List Bool) (l : Literal) → literal_true v (negate l) ≡ true → literal_true v l ≡ false
-false_by v l h = turned (literal_true v l) (sym (literal_true-negate v l) ∙ h)
-  where
-    turned : (b : Bool) → not b ≡ true → b ≡ false
-    turned true h = absurd (true≢false (sym h))
-    turned false h = refl
+false_by v l h = not-true (literal_true v l) (sym (literal_true-negate v l) ∙ h)
 
 -- where all that is held is true, and so is no other literal of the clause, a met clause makes l true
 pub only_one_true : (v : List Bool) (u clause : List Literal) (l : Literal) → list_all (literal_true v) u ≡ true → clause_met v clause ≡ true
@@ -65,20 +64,6 @@ only_one_true v u clause l h met only = by_cases (literal_true v l) (λ e. e) (�
 falsified_unmet : (v : List Bool) (u clause : List Literal) → list_all (literal_true v) u ≡ true → is_falsified u clause ≡ true → clause_met v clause ≡ true → ⊥
 falsified_unmet v u clause h f met = not_both (clause_met v clause) met (no_member (literal_true v) clause (λ m k.
     false_by v m (true_by_all v u (negate m) h (member_of_all (λ x. has_literal u (negate x)) clause m f k))))
-
-pub left_in : (u clause : List Literal) (l : Literal) → has_literal (left u clause) l ≡ true → has_literal clause l ≡ true
-left_in u [] l h = h
-left_in u (m ∷ ms) l h = elim (not (has_literal u (negate m))) as (λ b. has_literal (cond b (m ∷ left u ms) (left u ms)) l ≡ true → has_literal (m ∷ ms) l ≡ true) [
-  | true ↦ λ g. elim (has_split m (left u ms) l g) [
-    | inl e ↦ ap (has_literal (m ∷ ms)) e ∙ has_at_head m ms
-    | inr k ↦ has_behind m ms l (left_in u ms l k)
-  ]
-  | false ↦ λ g. has_behind m ms l (left_in u ms l g)
-] h
-
-one_in : (lits : List Literal) (l : Literal) → count_left lits ≡ one l → has_literal lits l ≡ true
-one_in [] l h = cc
-one_in (m ∷ ms) l h = let e = one_left (m ∷ ms) l m h (has_at_head m ms) in ap (has_literal (m ∷ ms)) (sym e) ∙ has_at_head m ms
 
 pub implied_rests : (n : ℕ) (parities : List (List Literal)) (u clause : List Literal) → ParitiesQuiet n parities u → IsOfParities n parities clause → RestsOn u clause
 implied_rests n parities u clause q c = record {

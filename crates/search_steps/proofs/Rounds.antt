@@ -16,7 +16,8 @@ use Rattle.search_steps.specs.Trail.{by_clause, held, all_held, back_to, level_o
 use Rattle.search_steps.specs.Quiet.{IsOfParities}
 use Rattle.search_steps.specs.Search.{Search, IsSearch, IsServed, IsLearnedOf, told, marked, jumped}
 use Rattle.search_steps.specs.LogSteps.{IsAddition, AreTemporary, deleted, after_learned, after_round}
-use Rattle.search_steps.proofs.Sets.{by_cases, not_both}
+use Rattle.conflict_learn.proofs.ChainOfResolutions.{by_cases}
+use Rattle.search_steps.proofs.Sets.{not_both}
 use Rattle.search_steps.proofs.TrailLaws.{trail_no_clash, held_inside, back_holds, back_level}
 use Rattle.search_steps.proofs.ServesLaws.{force_keeps, jump_keeps}
 use Rattle.search_steps.proofs.LogLaws.{mark_keeps, learned_keeps, delete_keeps}

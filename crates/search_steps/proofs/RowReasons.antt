@@ -10,7 +10,8 @@ use Rattle.cx_semantics.specs.Tables.{get}
 use Rattle.cx_semantics.proofs.Lookups.{Looks-insert}
 use Rattle.search_steps.specs.Search.{Search, IsSearch, told}
 use Rattle.search_steps.specs.LogSteps.{IsRowReason, row_events, all_told}
-use Rattle.search_steps.proofs.Sets.{by_cases, not_both}
+use Rattle.conflict_learn.proofs.ChainOfResolutions.{by_cases}
+use Rattle.search_steps.proofs.Sets.{not_both}
 use Rattle.search_steps.proofs.LogLaws.{sum_keeps, row_clause_keeps, delete_sum_keeps}
 use Rattle.search_steps.proofs.RowLaws.{row_is_of_parities}
 

@@ -13,7 +13,8 @@ use Rattle.search_steps.specs.Trail.{Entry, Why, decided, by_clause, by_row, hel
 use Rattle.search_steps.specs.Quiet.{Quiet, RestsOn, HasNoClash, IsOfParities}
 use Rattle.search_steps.specs.LogSteps.{IsNoReason}
 use Rattle.search_steps.specs.Search.{Search, Serves, IsSearch, decided_on, forced_on, jumped, IsLearnedOf}
-use Rattle.search_steps.proofs.Sets.{by_cases, not_both, two_open_rests}
+use Rattle.conflict_learn.proofs.ChainOfResolutions.{by_cases}
+use Rattle.search_steps.proofs.Sets.{not_both, two_open_rests}
 use Rattle.search_steps.proofs.FreshLaws.{asserting_is_fresh}
 use Rattle.search_steps.proofs.TrailLaws.{held_inside, held_rises, held_over, held_back, held_all, trail_no_clash, back_is_trail}
 use Rattle.search_steps.proofs.QuietLaws.{quiet_with, quiet_without}

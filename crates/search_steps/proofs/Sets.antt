@@ -1,41 +1,21 @@
 -- Clauses over sets of literals that hold no clash.
-use Rattle.std.proofs.Common.{◌≡◌, refl, sym, ap, ◌∙◌, subst, Bool, true, false, cond, not, ◌&&◌, ◌||◌, List, [], ◌∷◌, ◌⊎◌, inl, inr, true≢false}
+use Rattle.std.proofs.Common.{◌≡◌, refl, sym, ap, ◌∙◌, subst, Bool, true, false, cond, not, ◌||◌, List, [], ◌∷◌, inl, inr, true≢false}
 use Rattle.std.specs.List.{list_any, list_all}
+use Rattle.std.proofs.lemmas.Bool.{and_right}
 use Rattle.cx_base.specs.Literals.{Literal, negate, same_literal}
+use Rattle.cx_base.proofs.LiteralLaws.{negate-negate}
 use Rattle.cx_semantics.specs.Chain.{has_literal, is_inside, negations, left, one, more, count_left}
 use Rattle.cx_semantics.specs.Fresh.{is_tautology, is_falsified, others}
-use Rattle.cx_semantics.proofs.ChainLaws.{and_parts, and_both, are_one, same_literal-itself, negate-negate}
-use Rattle.cx_semantics.proofs.Closure.{or_right}
+use Rattle.cx_semantics.proofs.ChainLaws.{and_parts, and_both, are_one, same_literal-itself}
+use Rattle.cx_semantics.proofs.Closure.{one_is}
+use Rattle.cx_semantics.proofs.Members.{has_at_head, has_behind, has_split}
 use Rattle.search_steps.specs.Quiet.{HasNoClash, RestsOn, HasTrue, HasTwoOpen}
-
-pub by_cases : {A : Type 0} (b : Bool) → (b ≡ true → A) → (b ≡ false → A) → A
-by_cases true f g = f refl
-by_cases false f g = g refl
+use Rattle.conflict_learn.proofs.ChainOfResolutions.{by_cases, negated_in}
 
 pub not_both : {A : Type 0} (b : Bool) → b ≡ true → b ≡ false → A
 not_both b h k = absurd (true≢false (sym h ∙ k))
 
-pub and_false : (a b : Bool) → b ≡ false → (a && b) ≡ false
-and_false true b h = h
-and_false false b h = refl
-
-pub not_true : (b : Bool) → not b ≡ true → b ≡ false
-not_true true h = absurd (true≢false (sym h))
-not_true false h = refl
-
 -- ---- members
-pub has_at_head : (m : Literal) (ms : List Literal) → has_literal (m ∷ ms) m ≡ true
-has_at_head m ms = ap (λ b. b || has_literal ms m) (same_literal-itself m)
-
-pub has_behind : (m : Literal) (ms : List Literal) (l : Literal) → has_literal ms l ≡ true → has_literal (m ∷ ms) l ≡ true
-has_behind m ms l h = or_right (same_literal l m) _ h
-
--- a member of a list is its head or a member of the rest
-pub has_split : (m : Literal) (ms : List Literal) (l : Literal) → has_literal (m ∷ ms) l ≡ true → (l ≡ m) ⊎ (has_literal ms l ≡ true)
-has_split m ms l h = elim (same_literal l m) as (λ b. same_literal l m ≡ b → (b || has_literal ms l) ≡ true → (l ≡ m) ⊎ (has_literal ms l ≡ true)) [
-  | true ↦ λ e _. inl (are_one l m e)
-  | false ↦ λ e g. inr g
-] refl h
 
 pub no_member : (p : Literal → Bool) (ms : List Literal) → ((l : Literal) → has_literal ms l ≡ true → p l ≡ false) → list_any p ms ≡ false
 no_member p [] h = refl
@@ -50,21 +30,6 @@ member_of_all p [] l h k = not_both false k refl
 member_of_all p (m ∷ ms) l h k = let q = and_parts (p m) _ h in elim (has_split m ms l k) [
   | inl e ↦ ap p e ∙ q.0
   | inr g ↦ member_of_all p ms l q.1 g
-]
-
-pub inside_by : (a u : List Literal) → ((l : Literal) → has_literal a l ≡ true → has_literal u l ≡ true) → is_inside a u ≡ true
-inside_by a u h = each_member (has_literal u) a h
-
--- a list of negations lies inside where each negation does
-pub negations_by : (lits u : List Literal) → ((l : Literal) → has_literal lits l ≡ true → has_literal u (negate l) ≡ true) → is_inside (negations lits) u ≡ true
-negations_by [] u h = refl
-negations_by (m ∷ ms) u h = and_both _ _ (h m (has_at_head m ms)) (negations_by ms u (λ l k. h l (has_behind m ms l k)))
-
-pub negated_in : (lits u : List Literal) (l : Literal) → is_inside (negations lits) u ≡ true → has_literal lits l ≡ true → has_literal u (negate l) ≡ true
-negated_in [] u l h k = not_both false k refl
-negated_in (m ∷ ms) u l h k = let q = and_parts (has_literal u (negate m)) _ h in elim (has_split m ms l k) [
-  | inl e ↦ ap (λ x. has_literal u (negate x)) e ∙ q.0
-  | inr g ↦ negated_in ms u l q.1 g
 ]
 
 -- the other literals of a clause are in it and are not l
@@ -97,9 +62,6 @@ one_left lits l m h k = are_one m l (sym_same l m (member_of_all (same_literal l
   where
     sym_same : (a b : Literal) → same_literal a b ≡ true → same_literal b a ≡ true
     sym_same a b h = ap (same_literal b) (are_one a b h) ∙ same_literal-itself b
-
-    one_is : (a b : Literal) → one a ≡ one b → a ≡ b
-    one_is a b e = cc
 
     all_same : (xs : List Literal) (a : Literal) → count_left xs ≡ one a → list_all (same_literal a) xs ≡ true
     all_same [] a h = cc
@@ -145,7 +107,7 @@ tautology_rests u clause l c h k = by_cases (has_literal u l)
     signs false = refl
 
     not_its_negation : (l : Literal) → same_literal l (negate l) ≡ false
-    not_its_negation l = and_false _ _ (signs l.negative)
+    not_its_negation l = and_right _ _ (signs l.negative)
 
 -- false literals are no tautology
 pub false_is_no_tautology : (u lits : List Literal) → HasNoClash u → is_inside (negations lits) u ≡ true → is_tautology lits ≡ false

@@ -24,7 +24,7 @@ use Rattle.cx_semantics.proofs.Lookups.{Looks-insert, Looks-empty}
 use Rattle.cx_semantics.proofs.MarkedLaws.{events_go_on}
 use Rattle.search_steps.specs.Search.{Search, IsSearch, told}
 use Rattle.search_steps.specs.Start.{start, HasFirst, IsBegun}
-use Rattle.search_steps.proofs.Sets.{by_cases}
+use Rattle.conflict_learn.proofs.ChainOfResolutions.{by_cases}
 use Rattle.search_steps.proofs.LogLaws.{step_goes_on}
 use Rattle.search_steps.proofs.ServesLaws.{not_live_stays}
 

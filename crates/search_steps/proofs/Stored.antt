@@ -4,13 +4,15 @@ use Rattle.cx_base.specs.Literals.{Literal, negate, same_literal}
 use Rattle.cx_semantics.specs.Chain.{has_literal, is_inside, same_literals, negations, left}
 use Rattle.cx_semantics.specs.Fresh.{is_falsified}
 use Rattle.cx_semantics.proofs.ChainLaws.{and_parts, are_one, same_literal-itself}
-use Rattle.cx_semantics.proofs.Closure.{has_by_inside, falsified-left, some_are}
+use Rattle.cx_semantics.proofs.Closure.{has_by_inside, falsified-left, some_are, left_in}
+use Rattle.cx_semantics.proofs.Members.{has_at_head, has_behind, has_split}
 use Rattle.cx_trail.specs.declared.entry.Entry.{Entry as TrailEntry}
 use Rattle.search_steps.specs.Quiet.{RestsOn, HasNoClash, HasTrue, HasTwoOpen}
 use Rattle.search_steps.specs.Tied.{IsTied, ForcesOn, IsQuietOn, AreOthersFalseOn, IsFalsifiedOn}
 use Rattle.search_steps.specs.Trail.{Entry, all_held}
-use Rattle.search_steps.proofs.Sets.{by_cases, not_both, each_member, member_of_all, left_has, one_left, has_at_head, has_behind, has_split, negations_by, true_rests, two_open_rests}
-use Rattle.search_steps.proofs.QuietLaws.{left_in, left_open}
+use Rattle.conflict_learn.proofs.ChainOfResolutions.{by_cases, negations_by}
+use Rattle.search_steps.proofs.Sets.{not_both, each_member, member_of_all, left_has, one_left, true_rests, two_open_rests}
+use Rattle.search_steps.proofs.QuietLaws.{left_open}
 use Rattle.search_steps.proofs.Bridge.{true_is_held, open_is_unassigned}
 
 pub rests_around : (u inner clause : List Literal) → is_inside inner clause ≡ true → RestsOn u inner → RestsOn u clause

@@ -1,21 +1,24 @@
 -- Trails: no clash, levels, and taking levels back.
 use Rattle.std.proofs.Common.{◌≡◌, refl, sym, ap, ◌∙◌, subst, ℕ, ◌+◌, ◌<◌, ◌≤◌, nat_le, Bool, true, false, cond, not, ◌||◌, nat_eq, List, [], ◌∷◌, arith, inl, inr}
-use Rattle.std.proofs.lemmas.Bool.{leb-true, leb-false}
+use Rattle.std.proofs.lemmas.Bool.{leb-true, leb-false, and_right}
 use Rattle.cx_base.specs.Literals.{Literal, negate, same_literal, differ}
+use Rattle.cx_base.proofs.LiteralLaws.{negate-negate}
 use Rattle.cx_semantics.specs.Chain.{has_literal, is_inside}
 use Rattle.cx_semantics.specs.Tables.{Table}
-use Rattle.cx_semantics.proofs.ChainLaws.{negate-negate, are_one, and_both}
+use Rattle.cx_semantics.proofs.ChainLaws.{are_one, and_both}
 use Rattle.cx_semantics.proofs.Closure.{has_by_inside, inside_more}
+use Rattle.cx_semantics.proofs.Members.{has_at_head, has_split}
 use Rattle.search_steps.specs.Quiet.{HasNoClash}
 use Rattle.search_steps.specs.Trail.{Why, decided, by_clause, by_row, Entry, all_held, held, back_to, level_of, Stands, IsTrail, IsUnassigned}
-use Rattle.search_steps.proofs.Sets.{by_cases, not_both, has_split, has_at_head, and_false}
+use Rattle.conflict_learn.proofs.ChainOfResolutions.{by_cases}
+use Rattle.search_steps.proofs.Sets.{not_both}
 
 signs : (b : Bool) → not (differ (not b) b) ≡ false
 signs true = refl
 signs false = refl
 
 not_same_false : (l : Literal) → same_literal (negate l) l ≡ false
-not_same_false l = and_false (nat_eq l.variable l.variable) (not (differ (not l.negative) l.negative)) (signs l.negative)
+not_same_false l = and_right (nat_eq l.variable l.variable) (not (differ (not l.negative) l.negative)) (signs l.negative)
 
 pub one_more_no_clash : (u : List Literal) (l : Literal) → HasNoClash u → IsUnassigned u l → HasNoClash (l ∷ u)
 one_more_no_clash u l c n x h = elim (has_split l u x h) [

@@ -3,8 +3,9 @@ use Rattle.std.proofs.Common.{◌≡◌, refl, sym, ap, ◌∙◌, subst, ℕ, s
 use Rattle.cx_base.specs.Literals.{Literal, same_literal}
 use Rattle.cx_semantics.specs.Tables.{Table, get}
 use Rattle.cx_semantics.proofs.ChainLaws.{same_literal-itself}
+use Rattle.cx_semantics.proofs.Members.{has_at_head, has_split}
 use Rattle.search_steps.specs.Trail.{Entry, rests_on, Why, decided, by_clause, by_row, held, all_held, level_of, IsTrail, Stands, Forces}
-use Rattle.search_steps.proofs.Sets.{has_split, has_at_head, not_both}
+use Rattle.search_steps.proofs.Sets.{not_both}
 
 all_same : (newer older : List Entry) (e : Entry) (n : ℕ) → all_held (newer ++ rests_on e n ∷ older) ≡ all_held (newer ++ e ∷ older)
 all_same [] older e n = refl

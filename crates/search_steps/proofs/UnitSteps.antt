@@ -11,11 +11,12 @@ use Rattle.cx_semantics.specs.Integers.{literal}
 use Rattle.cx_semantics.specs.LogRules.{derives_empty_clause}
 use Rattle.cx_semantics.specs.Tables.{Table, get}
 use Rattle.cx_semantics.proofs.Lookups.{Looks-insert}
+use Rattle.cx_semantics.proofs.Members.{has_at_head, has_behind}
 use Rattle.search_steps.specs.Trail.{Entry, held, all_held, IsTrail, Forces}
 use Rattle.search_steps.specs.Quiet.{HasNoClash, Quiet, ClausesQuiet, IsOfParities, IsWatchedWell}
 use Rattle.search_steps.specs.Search.{Search, IsSearch, told}
 use Rattle.search_steps.specs.LogSteps.{IsAddition, RestOnClauses, unit_told}
-use Rattle.search_steps.proofs.Sets.{true_rests, two_open_rests, tautology_rests, has_at_head, has_behind}
+use Rattle.search_steps.proofs.Sets.{true_rests, two_open_rests, tautology_rests}
 use Rattle.search_steps.proofs.LogLaws.{unit_keeps}
 use Rattle.search_steps.proofs.UnitLaws.{held_same, trail_rests_on}
 

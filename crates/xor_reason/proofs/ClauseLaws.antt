@@ -1,9 +1,9 @@
 -- The literals chosen for a written parity are a reason's clause.
-use Rattle.std.proofs.Common.{◌≡◌, ℕ, ◌+◌, ◌<◌, ◌≤◌, zero, suc, Bool, true, false, not, ◌||◌, eqb-true, nat_eq, List, [], ◌∷◌, ◌++◌, map, length, Option, Some, None, refl, sym, ap, ◌∙◌, subst, arith, true≢false, ◌⊎◌, inl, inr, get_or, take}
+use Rattle.std.proofs.Common.{◌≡◌, ℕ, ◌+◌, ◌<◌, ◌≤◌, zero, suc, Bool, true, false, not, ◌||◌, eqb-true, nat_eq, List, [], ◌∷◌, ◌++◌, length, Option, Some, None, refl, sym, ap, ◌∙◌, subst, arith, true≢false, inl, inr, get_or, take}
 use Rattle.std.specs.List.{list_any}
 use Rattle.std.specs.Cmp.{nat_cmp_total}
 use Rattle.std.specs.FinSet as set
-use Rattle.std.proofs.lemmas.Bool.{cases_eq, cases_lt, eq-eqb, ne_eqb}
+use Rattle.std.proofs.lemmas.Bool.{cases_eq, cases_lt, eq-eqb, ne_eqb, or_parts}
 use Rattle.std.proofs.Math.Seq.{take-suc}
 use Rattle.std.proofs.lemmas.List.Elements.{AllZip-push}
 use Rattle.cx_base.specs.Literals.{Literal, differ, same_literal, value_of, literal_true}
@@ -14,9 +14,10 @@ use Rattle.cx_base.proofs.ParityLaws.{contains-normal_form}
 use Rattle.cx_base.proofs.Differences.{differ_assoc}
 use Rattle.gf2_rows.proofs.Words.{differ_move}
 use Rattle.cx_semantics.specs.Chain.{has_literal}
-use Rattle.cx_semantics.proofs.ChainLaws.{are_one, same_literal-itself}
-use Rattle.cx_semantics.proofs.Closure.{or_right}
+use Rattle.cx_semantics.proofs.ChainLaws.{same_literal-itself}
 use Rattle.cx_semantics.proofs.RecoveredLaws.{Distinct, len-distinct, or_apart}
+use Rattle.cx_semantics.proofs.Members.{has_at_head, has_behind, has_split}
+use Rattle.cx_semantics.proofs.Widths.{variable_in, length-variables, variables}
 use Rattle.cx_trail.specs.Sequence.{TrailState, IsTrail, IsTrueIn, IsFalseIn}
 use Rattle.parity_engine.specs.Written.{IsWritten, Rises}
 use Rattle.parity_engine.proofs.Columns.{none_below}
@@ -24,30 +25,7 @@ use Rattle.xor_reason.specs.LiteralChoice.{IsLiteralFor, AreLiteralsFor}
 use Rattle.xor_reason.specs.ReasonClause.{AgreesWithTrail, AreFalseBut, IsReasonFor, IsReasonClause}
 use Rattle.xor_reason.proofs.TrailValues.{trail_values, trail_values_agree, false_under}
 
-abbrev variables : List Literal → List ℕ
-variables lits = map (λ (l : Literal). l.variable) lits
-
 -- ---- literals of a list
-pub has_at_head : (m : Literal) (ms : List Literal) → has_literal (m ∷ ms) m ≡ true
-has_at_head m ms = ap (λ b. b || has_literal ms m) (same_literal-itself m)
-
-pub has_behind : (m : Literal) (ms : List Literal) (l : Literal) → has_literal ms l ≡ true → has_literal (m ∷ ms) l ≡ true
-has_behind m ms l h = or_right (same_literal l m) (has_literal ms l) h
-
-has_split : (m : Literal) (ms : List Literal) (l : Literal) → has_literal (m ∷ ms) l ≡ true → (l ≡ m) ⊎ (has_literal ms l ≡ true)
-has_split m ms l h = pick (same_literal l m) refl h
-  where
-    pick : (b : Bool) → same_literal l m ≡ b → (b || has_literal ms l) ≡ true → (l ≡ m) ⊎ (has_literal ms l ≡ true)
-    pick true e g = inl (are_one l m e)
-    pick false e g = inr g
-
-variable_of_has : (lits : List Literal) (l : Literal) → has_literal lits l ≡ true → list_any (λ z. nat_eq z l.variable) (variables lits) ≡ true
-variable_of_has [] l h = absurd (true≢false (sym h))
-variable_of_has (m ∷ ms) l h =
-    elim (has_split m ms l h) [
-      | inl e ↦ ap (λ b. b || list_any (λ z. nat_eq z l.variable) (variables ms)) (eq-eqb m.variable l.variable (ap (λ (x : Literal). x.variable) (sym e)))
-      | inr g ↦ or_right (nat_eq m.variable l.variable) (list_any (λ z. nat_eq z l.variable) (variables ms)) (variable_of_has ms l g)
-    ]
 
 pub has_by_index : (lits : List Literal) (i : ℕ) (d : Literal) → i < length lits → has_literal lits (get_or lits i d) ≡ true
 has_by_index [] i d lt = absurd (omega arith)
@@ -100,19 +78,15 @@ rising_low vs least v rise h =
 
 -- the variables of a written parity are at least 1, and the form has them
 pub low_written : (form : NormalForm) (lits : List Literal) → IsWritten form lits → (l : Literal) → has_literal lits l ≡ true → 1 ≤ l.variable
-low_written form lits written l h = rising_low (variables lits) 1 l.variable written.rises (variable_of_has lits l h)
+low_written form lits written l h = rising_low (variables lits) 1 l.variable written.rises (variable_in lits l h)
 
 pub has_written : (form : NormalForm) (lits : List Literal) → IsWritten form lits → (l : Literal) → has_literal lits l ≡ true → set.contains form.variables l.variable ≡ true
-has_written form lits written l h = contains_written form lits written l.variable ∙ variable_of_has lits l h
+has_written form lits written l h = contains_written form lits written l.variable ∙ variable_in lits l h
 
 written_set : (form : NormalForm) (lits : List Literal) → IsWritten form lits → set.from_list (variables lits) ≡ form.variables
 written_set form lits written =
     set.same_set nat_cmp_total set.nat_cmp-IsAntisymmetric _ form.variables
     (λ y. set.contains-from_list_nat (variables lits) y ∙ sym (contains_written form lits written y))
-
-length-variables : (lits : List Literal) → length (variables lits) ≡ length lits
-length-variables [] = refl
-length-variables (l ∷ lits) = ap suc (length-variables lits)
 
 one_of_each : (trail : TrailState) (implied : Option Literal) (form : NormalForm) (lits clause : List Literal) → IsWritten form lits → AreLiteralsFor trail implied lits clause → HasOneOfEach form.variables clause
 one_of_each trail implied form lits clause written are =
@@ -159,9 +133,6 @@ others_false trail l (y ∷ lits) (x ∷ clause) are m h ne =
     ]
 
 -- ---- values that make the clause false
-none_true : (a b : Bool) → (a || b) ≡ false → (a ≡ false) × (b ≡ false)
-none_true true b h = absurd (true≢false h)
-none_true false b h = (refl, h)
 
 -- values under which a literal is false alike have the same value of its variable
 same_value : (n a b : Bool) → differ n a ≡ false → differ n b ≡ false → a ≡ b
@@ -187,7 +158,7 @@ sum_same trail v w [] [] agrees are none = refl
 sum_same trail v w [] (m ∷ clause) agrees are none = absurd are
 sum_same trail v w (l ∷ lits) [] agrees are none = absurd are
 sum_same trail v w (l ∷ lits) (m ∷ clause) agrees are none =
-    let parts = none_true (literal_true w m) (clause_met w clause) none in
+    let parts = or_parts (literal_true w m) (clause_met w clause) none in
     let here : value_of v l.variable ≡ value_of w l.variable = value_between v w m l.variable are.0.0 (false_under trail v m agrees are.0.1) parts.0 in
     parity_met-cons v l lits
     ∙ (λ i. differ (differ l.negative (here i)) (sum_same trail v w lits clause agrees are.1 parts.1 i))
@@ -207,7 +178,7 @@ sum_turned trail l v w [] [] agrees is are none = refl
 sum_turned trail l v w [] (m ∷ clause) agrees is are none = absurd are
 sum_turned trail l v w (x ∷ lits) [] agrees is are none = absurd are
 sum_turned trail l v w (x ∷ lits) (m ∷ clause) agrees is are none =
-    let parts = none_true (literal_true w m) (clause_met w clause) none in
+    let parts = or_parts (literal_true w m) (clause_met w clause) none in
     let here : value_of v x.variable ≡ differ (nat_eq x.variable l.variable) (value_of w x.variable) = value_here parts.0 in
     parity_met-cons v x lits
     ∙ (λ i. differ (differ x.negative (here i)) (sum_turned trail l v w lits clause agrees is are.1 parts.1 i))

@@ -1,15 +1,16 @@
 -- The rows that an engine names are reasons on a trail that its values stand on.
-use Rattle.std.proofs.Common.{◌≡◌, ℕ, ◌-◌, ◌<◌, ◌≤◌, ◌++◌, length, length-append, Bool, true, false, not, ◌&&◌, List, [], ◌∷◌, Option, Some, None, refl, sym, ap, ◌∙◌, subst, arith, inl, inr, true≢false}
+use Rattle.std.proofs.Common.{◌≡◌, ℕ, ◌-◌, ◌<◌, ◌≤◌, length, Bool, true, false, not, ◌&&◌, List, [], ◌∷◌, Option, Some, None, refl, sym, ap, ◌∙◌, subst, arith, inl, inr, true≢false}
 use Rattle.std.specs.List.{list_all}
 use Rattle.std.proofs.lemmas.Bool.{cases_eq}
 use Rattle.std.proofs.lemmas.List.{get_or-set_same}
-use Rattle.std.proofs.Math.ListN.{get_or-append}
-use Rattle.std.proofs.Math.Seq.{get_or-append_seam}
+use Rattle.std.proofs.lemmas.Option.{same_Some}
 use Rattle.cx_base.specs.Literals.{Literal, literal_true}
 use Rattle.cx_semantics.specs.Chain.{has_literal}
+use Rattle.cx_semantics.proofs.Members.{has_at_head, has_behind}
 use Rattle.cx_trail.specs.declared.entry.Entry.{Entry}
 use Rattle.cx_trail.specs.declared.entry.Reason.{Reason}
-use Rattle.cx_trail.specs.Sequence.{TrailState, IsTrueIn, IsAssignedIn, no_entry, pushed}
+use Rattle.cx_trail.specs.Sequence.{TrailState, IsTrueIn, IsAssignedIn, pushed}
+use Rattle.cx_trail.proofs.ValueLaws.{true_kept, true_pushed}
 use Rattle.parity_engine.specs.declared.state.Held.{Held}
 use Rattle.parity_engine.specs.declared.state.Mood.{Mood}
 use Rattle.parity_engine.specs.declared.state.Mood.TheVariants.{Busy, Broken}
@@ -18,7 +19,6 @@ use Rattle.parity_engine.specs.State.{State, Named, Answers, names, named_at, kn
 use Rattle.parity_engine.proofs.Known.{has_known}
 use Rattle.xor_reason.specs.ReasonClause.{AgreesWithTrail, AreAssigned, IsReasonFor}
 use Rattle.xor_reason.specs.Laws.{StandsOn, ImpliedIsMet, BrokenIsMissed}
-use Rattle.xor_reason.proofs.ClauseLaws.{has_at_head, has_behind}
 
 all_true : (v : List Bool) (lits : List Literal) → ((l : Literal) → has_literal lits l ≡ true → literal_true v l ≡ true) → list_all (literal_true v) lits ≡ true
 all_true v [] each = refl
@@ -60,20 +60,10 @@ broken_is_missed s trail form stands broken = (
 )
 
 -- ---- the trail that an implied literal is put on
-stands_behind : (entries : List Entry) (e : Entry) (l : Literal) → IsTrueIn entries l → IsTrueIn (entries ++ e ∷ []) l
-stands_behind entries e l is =
-    let lt = is.1.0 in
-    (is.0, (omega (arith, length-append entries (e ∷ [])), ap (λ (x : Entry). x.literal) (get_or-append entries (e ∷ []) no_entry is.0 is.1.0) ∙ is.1.1))
-
-stands_last : (entries : List Entry) (e : Entry) → IsTrueIn (entries ++ e ∷ []) e.literal
-stands_last entries e = (length entries, (omega (arith, length-append entries (e ∷ [])), ap (λ (x : Entry). x.literal) (get_or-append_seam entries e [] no_entry)))
-
-some_named : (m n : Named) → (let o : Option Named = Some m in o) ≡ Some n → m ≡ n
-some_named m n e = cc
 
 named_is : (old new : State) (row : ℕ) (m n : Named) (mood : Mood) → row < length old.named → new ≡ names old row m mood → named_at new row ≡ Some n → m ≡ n
 named_is old new row m n mood lt left is =
-    some_named m n (sym (get_or-set_same old.named row (Some m) None lt) ∙ ap (λ (s : State). named_at s row) (sym left) ∙ is)
+    same_Some m n (sym (get_or-set_same old.named row (Some m) None lt) ∙ ap (λ (s : State). named_at s row) (sym left) ∙ is)
 
 -- an implied literal's row is a reason for it on the trail with the literal at its end
 pub implied_on_pushed : (old new : State) (row : ℕ) (l : Literal) (n : Named) (trail : TrailState) (level : ℕ) (reason : Reason) → StandsOn old trail → Answers old (Implied l row) new → named_at new row ≡ Some n
@@ -82,7 +72,7 @@ implied_on_pushed old new row l n trail level reason stands answers is =
     let e : Entry = record { literal = l; level = level; reason = reason } in
     let same : answers.0 ≡ n = named_is old new row answers.0 n Busy answers.1 answers.2 is in
     subst (λ (m : Named). AreAssigned (pushed trail level l reason) m.form × IsReasonFor (pushed trail level l reason) (Some l) m.form) same
-    (implied_is_met old (pushed trail level l reason) l answers.0.form (λ m h. stands_behind trail.entries e m (stands m h)) (stands_last trail.entries e) answers.5)
+    (implied_is_met old (pushed trail level l reason) l answers.0.form (λ m h. true_kept trail.entries (e ∷ []) m (stands m h)) (true_pushed trail (pushed trail level l reason) level l reason refl) answers.5)
 
 pub conflict_on_trail : (old new : State) (row : ℕ) (n : Named) (trail : TrailState) → StandsOn old trail → Answers old (Conflict row) new → named_at new row ≡ Some n
     → AreAssigned trail n.form × IsReasonFor trail None n.form

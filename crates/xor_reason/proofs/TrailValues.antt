@@ -3,7 +3,8 @@ use Rattle.std.proofs.Common.{◌≡◌, ℕ, ◌+◌, ◌-◌, ◌<◌, ◌≤�
 use Rattle.std.specs.List.{list_any, range_with_len}
 use Rattle.std.proofs.lemmas.List.FromFn.{get_or-map-range_with_len}
 use Rattle.std.proofs.lemmas.Bool.{not-true}
-use Rattle.cx_base.specs.Literals.{Literal, differ, negate, same_literal, value_of, literal_true}
+use Rattle.cx_base.specs.Literals.{Literal, negate, same_literal, value_of, literal_true}
+use Rattle.cx_base.proofs.ParityLaws.{to_differ}
 use Rattle.cx_semantics.proofs.ChainLaws.{are_one, same_literal-itself, literal_true-negate}
 use Rattle.cx_semantics.proofs.Closure.{or_right}
 use Rattle.cx_trail.specs.declared.entry.Entry.{Entry}
@@ -44,10 +45,6 @@ value_of-trail trail v low high =
 signed : (l : Literal) (b : Bool) → l.negative ≡ b → l ≡ record { variable = l.variable; negative = b }
 signed l b e = λ i. record { variable = l.variable; negative = e i }
 
-true_sign : (n b : Bool) → b ≡ not n → differ n b ≡ true
-true_sign true b e = ap not e
-true_sign false b e = e
-
 -- a literal that stands on the trail gives its variable its sign
 value_on-standing : (trail : TrailState) → IsTrail trail → (l : Literal) → IsTrueIn trail.entries l → value_on trail.entries l.variable ≡ not l.negative
 value_on-standing trail sound l stands = by_sign l.negative refl (value_on trail.entries l.variable) refl
@@ -73,7 +70,7 @@ trail_values_agree trail sound l stands =
     let variable : (entry_at trail.entries stands.0).literal.variable ≡ l.variable = ap (λ (x : Literal). x.variable) stands.1.1 in
     let low : 1 ≤ l.variable = let h = sound.low stands.0 stands.1.0 in omega arith in
     let high : l.variable ≤ trail.variables = let h = sound.high stands.0 stands.1.0 in omega arith in
-    true_sign l.negative (value_of (trail_values trail) l.variable) (value_of-trail trail l.variable low high ∙ value_on-standing trail sound l stands)
+    to_differ l.negative (value_of (trail_values trail) l.variable) (value_of-trail trail l.variable low high ∙ value_on-standing trail sound l stands)
 
 -- a literal that is false on the trail is false under values that agree with it
 pub false_under : (trail : TrailState) (v : List Bool) (m : Literal) → AgreesWithTrail trail v → IsFalseIn trail.entries m → literal_true v m ≡ false
