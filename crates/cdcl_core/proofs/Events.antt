@@ -4,7 +4,7 @@ use Rattle.std.proofs.lemmas.List.{length-map, take-map, get_or-map}
 use Rattle.cx_semantics.specs.declared.steps.LogStep.{LogStep}
 use Rattle.cx_semantics.specs.declared.steps.LogEvent.{LogEvent}
 use Rattle.cx_semantics.specs.declared.steps.LogEvent.TheVariants.{Step, Conflict}
-use Rattle.conflict_learn.specs.Learning.{Rose}
+use Rattle.cx_base.specs.Counts.{Rose}
 use Rattle.conflict_learn.specs.declared.fault.CoreFault.{CoreFault}
 use Rattle.conflict_learn.specs.declared.fault.CoreFault.TheVariants.{Memory, Write}
 use Rattle.proof_text.specs.declared.sink.SinkFault.{SinkFault}

@@ -9,7 +9,7 @@ use Rattle.cx_semantics.specs.LogRules.{log_calculus}
 use Rattle.cx_semantics.specs.LogText.{steps_of}
 use Rattle.conflict_learn.specs.declared.fault.CoreFault.{CoreFault}
 use Rattle.conflict_learn.specs.declared.fault.CoreFault.TheVariants.{Memory, Write}
-use Rattle.conflict_learn.specs.Learning.{Rose}
+use Rattle.cx_base.specs.Counts.{Rose}
 use Rattle.proof_text.specs.declared.sink.SinkFault.{SinkFault}
 use Rattle.proof_text.specs.declared.sink.SinkFault.TheVariants as sink
 use Rattle.search_steps.specs.LogSteps.{IsEnded}

@@ -7,7 +7,7 @@ ghost use Rattle.cx_semantics.specs.Printed.{HasText};
 ghost use Rattle.cx_semantics.specs.declared.steps.LogEvent.TheVariants.{Step};
 ghost use Rattle.cx_semantics.specs.declared.steps.LogStep.TheVariants as step;
 ghost use Rattle.clause_arena.specs.Clauses.{IsLive, literals_at};
-ghost use Rattle.conflict_learn.specs.Learning.{Rose};
+ghost use Rattle.cx_base.specs.Counts.{Rose};
 ghost use Rattle.conflict_learn.specs.declared.fault.CoreFault.TheVariants.{Write};
 ghost use Rattle.parity_engine.specs.State.{AreRising};
 ghost use Rattle.cdcl_core.specs.Concluding.{Concludes};

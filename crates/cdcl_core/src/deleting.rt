@@ -4,7 +4,7 @@ ghost use Rattle.std.specs.List.{AllByRecursion};
 ghost use Rattle.cx_semantics.specs.Printed.{HasText};
 ghost use Rattle.cx_semantics.specs.declared.steps.LogEvent.TheVariants.{Step};
 ghost use Rattle.conflict_learn.specs.declared.fault.CoreFault.TheVariants.{Write};
-ghost use Rattle.conflict_learn.specs.Learning.{Rose};
+ghost use Rattle.cx_base.specs.Counts.{Rose};
 ghost use Rattle.cdcl_core.specs.Deleting.{deletions};
 ghost use Rattle.cdcl_core.specs.Tells.{GivesUp, FaultsAs, as_events};
 ghost use Rattle.cdcl_core.specs.Ties.{Stands, row_ids};

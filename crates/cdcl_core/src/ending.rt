@@ -1,7 +1,7 @@
 //! The end of a log.
 ghost use Rattle.std.specs.Prelude.{◌≡◌, ◌≢◌, ◌+◌, ◌≤◌, [], length, OnOk, IfErr};
 ghost use Rattle.std.specs.List.{All};
-ghost use Rattle.conflict_learn.specs.Learning.{Rose};
+ghost use Rattle.cx_base.specs.Counts.{Rose};
 ghost use Rattle.conflict_learn.specs.declared.fault.CoreFault.TheVariants.{Write};
 ghost use Rattle.cdcl_core.specs.Concluding.{EndsLog, IsRefutable};
 ghost use Rattle.cdcl_core.specs.Finds.{Finds};

@@ -5,7 +5,7 @@ ghost use Rattle.cx_semantics.specs.Integers.{integers_of, literals};
 ghost use Rattle.cx_semantics.specs.Printed.{HasText};
 ghost use Rattle.cx_semantics.specs.declared.steps.LogEvent.TheVariants as event;
 ghost use Rattle.cx_semantics.specs.declared.steps.LogStep.TheVariants as step;
-ghost use Rattle.conflict_learn.specs.Learning.{Rose};
+ghost use Rattle.cx_base.specs.Counts.{Rose};
 ghost use Rattle.conflict_learn.specs.Levels.{Teaches};
 ghost use Rattle.conflict_learn.specs.declared.fault.CoreFault.TheVariants.{Write};
 ghost use Rattle.cdcl_core.specs.Deleting.{deletions};

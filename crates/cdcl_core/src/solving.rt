@@ -1,7 +1,7 @@
 //! The search as a whole.
 ghost use Rattle.std.specs.Prelude.{◌≡◌, ◌≢◌, ℕ, ◌+◌, ◌<◌, ◌≤◌, ◌^◌, [], length, OnOk, IfOk, IfErr, MatchOption};
 ghost use Rattle.cx_semantics.specs.Settled.{Settled};
-ghost use Rattle.conflict_learn.specs.Learning.{Rose};
+ghost use Rattle.cx_base.specs.Counts.{Rose};
 ghost use Rattle.conflict_learn.specs.declared.fault.CoreFault.TheVariants.{Write};
 ghost use Rattle.cdcl_core.specs.Finds.{Finds};
 ghost use Rattle.cdcl_core.specs.Results.{Answers, IsFresh, IsSettledBy, HasNoMark};

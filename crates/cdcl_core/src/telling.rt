@@ -3,7 +3,7 @@ ghost use Rattle.std.specs.Prelude.{◌≡◌, [], ◌∷◌, IfErr};
 ghost use Rattle.std.specs.List.{AllByRecursion};
 ghost use Rattle.cx_semantics.specs.Printed.{HasText};
 ghost use Rattle.cx_semantics.specs.declared.steps.LogEvent.TheVariants.{Step, Conflict};
-ghost use Rattle.conflict_learn.specs.Learning.{Rose};
+ghost use Rattle.cx_base.specs.Counts.{Rose};
 ghost use Rattle.conflict_learn.specs.declared.fault.CoreFault.TheVariants.{Write};
 ghost use Rattle.cdcl_core.specs.Tells.{TellsAll, FaultsAs, as_events, fault_as};
 

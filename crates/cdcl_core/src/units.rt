@@ -1,6 +1,6 @@
 //! Unit clauses of the literals of level 0.
 ghost use Rattle.std.specs.Prelude.{◌≡◌, ◌+◌, ◌<◌, [], length, OnOk, IfErr};
-ghost use Rattle.conflict_learn.specs.Learning.{Rose};
+ghost use Rattle.cx_base.specs.Counts.{Rose};
 ghost use Rattle.conflict_learn.specs.declared.fault.CoreFault.TheVariants.{Write};
 ghost use Rattle.cdcl_core.specs.Tells.{GivesUp, FaultsAs};
 ghost use Rattle.cdcl_core.specs.Ties.{Stands};

@@ -1,5 +1,5 @@
 -- What is learned from a conflict.
-use Rattle.std.specs.Prelude.{◌≡◌, ◌≢◌, ℕ, ◌<◌, ◌≤◌, ◌-◌, ◌^◌, List, [], ◌∷◌, ◌++◌, map, length, reverse, IsTrue, IsFalse, Option, Some, None, Bool, false, ◌+◌, min, ⊤}
+use Rattle.std.specs.Prelude.{◌≡◌, ◌≢◌, ℕ, ◌<◌, List, [], ◌∷◌, ◌++◌, map, length, reverse, IsTrue, IsFalse, Option, Some, None, Bool, false, ⊤}
 use Rattle.std.specs.List.{AllByRecursion, list_any}
 use Rattle.std.specs.Ordering.{nat_cmp}
 use Rattle.std.specs.BTreeMap.{is_at}
@@ -31,10 +31,6 @@ negated_at trail places = map (λ p. negate (literal_at trail p)) places
 -- what holds of a clause goes on to hold
 abbrev pub AreHeld : (List Literal → Type 0) → (List Literal → Type 0) → Type 0
 AreHeld old new = (clause : List Literal) → old clause → new clause
-
--- one more fault; a count of 64 bits that is at its last value stays there
-abbrev pub Rose : ℕ → ℕ → Type 0
-Rose before now = min (before + 1) (2 ^ 64 - 1) ≤ now
 
 -- the clause implied the literal at the place: it has it, and its others are false below that place
 pub record Implied (trail : TrailState) (place : ℕ) (clause : List Literal) : Type 0 where

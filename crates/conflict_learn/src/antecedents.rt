@@ -4,7 +4,8 @@ ghost use Rattle.cx_base.specs.Literals.{Literal};
 ghost use Rattle.cx_trail.specs.Sequence.{TrailState};
 ghost use Rattle.conflict_learn.specs.declared.fault.CoreFault.{CoreFault};
 ghost use Rattle.conflict_learn.specs.declared.fault.CoreFault.TheVariants.{Write};
-ghost use Rattle.conflict_learn.specs.Learning.{AreHeld, IsAntecedent, HasReason, Rose};
+ghost use Rattle.conflict_learn.specs.Learning.{AreHeld, IsAntecedent, HasReason};
+ghost use Rattle.cx_base.specs.Counts.{Rose};
 
 use crate::fault::CoreFault;
 use cx_base::{Lit, LitList};

@@ -6,7 +6,8 @@ ghost use Rattle.cx_base.specs.Literals.{Literal, negate};
 ghost use Rattle.cx_semantics.specs.Chain.{has_literal};
 ghost use Rattle.cx_trail.specs.Sequence.{IsFalseIn};
 ghost use Rattle.conflict_learn.specs.declared.fault.CoreFault.TheVariants.{Memory, Write};
-ghost use Rattle.conflict_learn.specs.Learning.{AreHeld, IsOfLevel, Rose, level_at};
+ghost use Rattle.conflict_learn.specs.Learning.{AreHeld, IsOfLevel, level_at};
+ghost use Rattle.cx_base.specs.Counts.{Rose};
 ghost use Rattle.conflict_learn.specs.Levels.{Teaches};
 
 use crate::antecedents::Antecedents;

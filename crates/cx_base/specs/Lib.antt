@@ -6,3 +6,4 @@ pub mod Borrowed
 pub mod Heads
 pub mod Drafts
 pub mod Numbers
+pub mod Counts

@@ -1,7 +1,8 @@
 -- What a put does to one port of a desk in memory.
 use Rattle.std.specs.Prelude.{◌≡◌, ◌-◌, ◌++◌, ◌==◌, ◌||◌, ℕ, Bool, min, length, take, Result, is_err, MatchResult}
 use Rattle.cx_desk.specs.declared.memory.sheet.Sheet.{Sheet}
-use Rattle.cx_desk.specs.Outside.{Bytes, count_after}
+use Rattle.cx_desk.specs.Outside.{Bytes}
+use Rattle.cx_base.specs.Counts.{count_after}
 
 -- the bytes that it still takes
 abbrev pub sheet_room : Sheet → ℕ

@@ -2,7 +2,8 @@
 use Rattle.std.specs.Prelude.{◌≡◌, ◌<◌, ◌≤◌, ℕ, Some, None, true, false, option_map, string_bytes, Result, MatchResult}
 use Rattle.cxsat.specs.declared.real_desk.RealDesk.{RealDesk}
 use Rattle.cxsat.specs.declared.real_desk.Source.{Source}
-use Rattle.cx_desk.specs.Outside.{Bytes, Outside, Rose}
+use Rattle.cx_desk.specs.Outside.{Bytes, Outside}
+use Rattle.cx_base.specs.Counts.{Rose}
 
 abbrev pub outside_of : RealDesk → Outside
 outside_of d = record {

@@ -1,6 +1,6 @@
 //! The desk over the system's files and streams. It tells no bytes.
 ghost use Rattle.std.specs.Prelude.{◌≡◌, ◌≤◌, length, None, Some, true, false, ◌<◌, ◌⊎◌, string_bytes, IfSome, IfOk};
-ghost use Rattle.cx_desk.specs.Outside.{Rose};
+ghost use Rattle.cx_base.specs.Counts.{Rose};
 ghost use Rattle.cxsat.specs.Real.{outside_of, StartsReal, PutsReal, Untold};
 
 use cx_desk::{Desk, Failed, Port, Slot};

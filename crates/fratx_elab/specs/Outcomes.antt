@@ -9,7 +9,7 @@ use Rattle.cx_semantics.specs.Judging.{Judgement, accepted, refused, IsRight, Ru
 use Rattle.cx_semantics.specs.LogRules.{log_calculus}
 use Rattle.cx_semantics.specs.ProofRules.{proof_calculus}
 use Rattle.cx_semantics.specs.Tables.{Tables, first_tables, no_tables}
-use Rattle.proof_text.specs.Sources.{Rose}
+use Rattle.cx_base.specs.Counts.{Rose}
 use Rattle.proof_text.specs.declared.source.TextRefusal.{TextRefusal}
 use Rattle.proof_text.specs.declared.source.TextRefusal.TheVariants as text
 use Rattle.proof_text.specs.declared.sink.SinkFault.{SinkFault}

@@ -2,7 +2,7 @@
 use Rattle.std.specs.Prelude.{◌≡◌, ℕ, Bool, true, List, [], ◌∷◌, ◌++◌, Option, option_map, Result, Ok, Err, ⊤}
 use Rattle.proof_text.specs.declared.sink.SinkFault.{SinkFault}
 use Rattle.proof_text.specs.declared.sink.SinkFault.TheVariants.{Memory, Failed}
-use Rattle.proof_text.specs.Sources.{Rose}
+use Rattle.cx_base.specs.Counts.{Rose}
 
 -- what was told, and one more behind it
 abbrev pub with_next : {S : Type 0} → S → Option (List S) → Option (List S)

@@ -1,5 +1,6 @@
 -- What a source of steps answers.
-use Rattle.std.specs.Prelude.{◌≡◌, ◌+◌, ◌-◌, ◌^◌, ◌<◌, ◌≤◌, ℕ, Bool, true, false, List, [], ◌∷◌, Option, Some, None, Result, Ok, Err, min, ⊤}
+use Rattle.std.specs.Prelude.{◌≡◌, ◌<◌, ◌≤◌, ℕ, Bool, true, false, List, [], ◌∷◌, Option, Some, None, Result, Ok, Err, ⊤}
+use Rattle.cx_base.specs.Counts.{Rose}
 use Rattle.cx_semantics.specs.Grammar.{Ending, finished, bad_token, too_big, unterminated}
 use Rattle.proof_text.specs.declared.source.TextRefusal.{TextRefusal}
 use Rattle.proof_text.specs.declared.source.TextRefusal.TheVariants.{BadToken, Unterminated, TooBig, TooLong, Memory, Failed}
@@ -24,10 +25,6 @@ module _ {X S : Type 0} (leaves : X → List S → Ending → Type 0) where
   Gives old (Ok (Some step)) new = (steps : List S) (ending : Ending) → leaves new steps ending → leaves old (step ∷ steps) ending
   Gives old (Ok None) new = EndsAs finished old new
   Gives old (Err refusal) new = GivesNone refusal old new
-
--- one more fault; a count of 64 bits that is at its last value stays there
-abbrev pub Rose : ℕ → ℕ → Type 0
-Rose before now = min (before + 1) (2 ^ 64 - 1) ≤ now
 
 -- the faults rose where the answer is a fault, and else stand
 abbrev pub FaultsAs : {T : Type 0} → Result T TextRefusal → ℕ → ℕ → Type 0

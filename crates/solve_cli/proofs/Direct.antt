@@ -7,7 +7,8 @@ use Rattle.std.proofs.lemmas.Bool.{false≢true}
 use Rattle.std.proofs.lemmas.Option.{IfSome_then}
 use Rattle.cx_semantics.proofs.Soundness.{accepted_is_unmet}
 use Rattle.cx_desk.specs.declared.desk.Port.TheVariants as port
-use Rattle.cx_desk.specs.Outside.{Bytes, Files, Written, Rose}
+use Rattle.cx_desk.specs.Outside.{Bytes, Files, Written}
+use Rattle.cx_base.specs.Counts.{Rose}
 use Rattle.cx_words.specs.Words.{Asks, Refuses}
 use Rattle.cx_words.specs.declared.plans.Plan.{Plan}
 use Rattle.cx_words.specs.declared.plans.Plan.TheVariants as plan

@@ -17,7 +17,7 @@ use Rattle.cx_semantics.proofs.PrintedProofs.{printed_proof_reads}
 use Rattle.cx_desk.specs.declared.desk.Port.TheVariants as port
 use Rattle.cx_desk.specs.Outside.{Bytes, Told, Outside}
 use Rattle.cx_desk.specs.Calls.{gained, WriteFaulted}
-use Rattle.proof_text.specs.Sources.{Rose}
+use Rattle.cx_base.specs.Counts.{Rose}
 use Rattle.proof_text.specs.Told.{told_steps, steps_told, fault_of, is_none, begun_line, is_whole, step_line, TornOn, Prints, Tears, Goes}
 use Rattle.proof_text.proofs.ToldLaws.{told_front, told_proof, gained_proof, begun_proof, begun_front}
 use Rattle.fratx_elab.specs.Outcomes.{Gained, IsWritten, IsElaborated, IsCutOff, HasCause, WritesStand}

@@ -3,7 +3,8 @@
 use Rattle.std.specs.Prelude.{◌≡◌, [], ◌++◌, Option, Some, option_map, unwrap_or}
 use Rattle.cx_desk.specs.declared.desk.Slot.{Slot}
 use Rattle.cx_desk.specs.declared.desk.Port.{Port}
-use Rattle.cx_desk.specs.Outside.{Bytes, Files, Written, Asked, Faults, Outside, file_named, with_asked, written_on, with_written, Rose}
+use Rattle.cx_desk.specs.Outside.{Bytes, Files, Written, Asked, Faults, Outside, file_named, with_asked, written_on, with_written}
+use Rattle.cx_base.specs.Counts.{Rose}
 
 pub record Seen : Type 0 where
   pub files : Option Files

@@ -1,6 +1,7 @@
 //! The top call.
 ghost use Rattle.std.specs.Prelude.{◌≡◌, ◌≤◌, ◌^◌, ◌⊎◌, ℕ, Option, IsTrue};
-ghost use Rattle.cx_desk.specs.Outside.{Bytes, Rose};
+ghost use Rattle.cx_desk.specs.Outside.{Bytes};
+ghost use Rattle.cx_base.specs.Counts.{Rose};
 ghost use Rattle.cx_words.specs.Words.{texts, Asks, Refuses};
 ghost use Rattle.cx_words.specs.declared.plans.Plan.{Plan as PlanOf};
 ghost use Rattle.cx_words.specs.declared.plans.Plan.TheVariants as plan;

@@ -9,7 +9,7 @@ use Rattle.proof_text.specs.declared.source.TextRefusal.{TextRefusal}
 use Rattle.proof_text.specs.declared.source.TextRefusal.TheVariants as text
 use Rattle.cx_semantics.specs.Judging.{Judgement, accepted, refused, IsRight, Runs, JudgedAs}
 use Rattle.cx_semantics.specs.ProofRules.{proof_calculus, proof_rules, after_step, adds_empty_clause}
-use Rattle.proof_text.specs.Sources.{Rose}
+use Rattle.cx_base.specs.Counts.{Rose}
 use Rattle.proof_rules.specs.declared.refusal.JudgeRefusal.{JudgeRefusal}
 use Rattle.proof_rules.specs.declared.refusal.JudgeRefusal.TheVariants as refusal
 use Rattle.proof_rules.specs.Judges.{IsRefusedBy}

@@ -11,7 +11,7 @@ pub(super) struct Schedule {
 }
 
 impl Schedule {
-    ghost use Rattle.cx_desk.specs.Outside.{count_after};
+    ghost use Rattle.cx_base.specs.Counts.{count_after};
     ghost use Rattle.cx_desk.specs.Schedule.{is_failing};
 
     pub(super) fn new(failing: Vec<u64>, piece: usize) -> Self

@@ -1,5 +1,5 @@
 use Rattle.std.proofs.Common.{◌≡◌, subst, IfErr}
-use Rattle.conflict_learn.specs.Learning.{Rose}
+use Rattle.cx_base.specs.Counts.{Rose}
 use Rattle.conflict_learn.specs.declared.fault.CoreFault.TheVariants.{Write}
 use Rattle.cdcl_core.proofs.Answering.{settled_answer_has_no_mark}
 use Rattle.cdcl_core.proofs.solving.solve_core.Goals as goal
