@@ -1,7 +1,7 @@
 #!/usr/bin/env bash
 # Times `cxsat elab` on logs of chains and pigeonholes, with the hints in the log and without them, and `cxsat check` on the
 # proofs that it writes, each at a size and at twice its work. Without hints each added clause is searched for.
-# usage: bench/elab.sh [CHAIN [HOLES]]
+# usage: bench/elab.sh [CHAIN [HOLES [HOLES_WITHOUT_HINTS]]]
 set -euo pipefail
 source "$(dirname "$0")/common.sh"
 build
@@ -19,10 +19,12 @@ measure() {
         "$elaborated s" "check of the proof: $checked s" "$(ratio "$elaborated" "$checked")"
 }
 
-chain=${1:-250000} holes=${2:-11}
-for hints in 1 0; do
-    measure 'implication chain' chain "$chain" "$hints"
-    measure 'implication chain' chain $((2 * chain)) "$hints"
-    measure pigeonholes holes "$holes" "$hints"
-    measure pigeonholes holes $((holes + 1)) "$hints"
-done
+chain=${1:-250000} holes=${2:-11} searched=${3:-7}
+measure 'implication chain' chain "$chain" 1
+measure 'implication chain' chain $((2 * chain)) 1
+measure pigeonholes holes "$holes" 1
+measure pigeonholes holes $((holes + 1)) 1
+measure 'implication chain' chain "$chain" 0
+measure 'implication chain' chain $((2 * chain)) 0
+measure pigeonholes holes "$searched" 0
+measure pigeonholes holes $((searched + 1)) 0

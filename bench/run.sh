@@ -19,8 +19,9 @@ version() {
 
 Made by \`bench/run.sh\` in one run, on inputs from fixed seeds; \`bench/run.sh\` makes this page anew. Times are processor
 time of whole processes, one run each (the reader: the best of five). The last column is cxsat's number over that of what
-stands beside it: below 1 cxsat took less, but in the rows of propagation, where above 1 it did more. No figure is a
-promise: the ratios say how things stood on that day and machine.
+stands beside it: below 1 cxsat took less, but in the row of propagation, where above 1 it did more. Where a peer was cut
+off, the ratio is over the limit and so an upper bound. No figure is a promise: the ratios say how things stood on that
+day and machine.
 
 - date: $(date -u +%F), commit $(git -C "$here" rev-parse --short HEAD)
 - processor: $(lscpu | sed -n 's/^Model name: *//p'), $(nproc) processors; load before the run $(cut -d' ' -f1 /proc/loadavg)

@@ -9,34 +9,40 @@ need minisat cryptominisat5 /usr/bin/time
 build
 limit=${1:-60}
 
-# Seconds and megabytes of a command, as "S MB STATUS"; its output stands in $work/answer.
+# Seconds and megabytes of a command, as "S MB STATUS"; its output stands in $work/answer. One that was cut off has taken
+# the limit at the least.
 run() {
-    local status=0
-    timeout "$limit" /usr/bin/time -f '%U %M' -o "$work/time" "$@" > "$work/answer" 2>&1 || status=$?
+    local status=0 taken TIMEFORMAT=%U
+    taken=$({ time timeout "$limit" /usr/bin/time -f %M -o "$work/time" "$@" > "$work/answer" 2>&1; } 2>&1) || status=$?
     if [ "$status" = 124 ]; then
-        echo "over_$limit - $status"
+        echo "$limit - $status"
     else
-        tail -n 1 "$work/time" | awk -v status="$status" '{ printf "%s %.0f %s\n", $1, $2 / 1000, status }'
+        tail -n 1 "$work/time" | awk -v taken="$taken" -v status="$status" '{ printf "%s %.0f %s\n", taken, $1 / 1000, status }'
     fi
 }
 
-# A row that sets cxsat's run beside a peer's: the peer's name, its seconds, megabytes and conflicts.
+# What a run took, in words: its seconds, megabytes, status and conflicts.
+took() {
+    if [ "$3" = 124 ]; then echo "cut off at $1 s"; else echo "$1 s, $2 MB, $4 conflicts"; fi
+}
+
+# A row that sets cxsat's run beside a peer's: the peer's name, its seconds, megabytes, status and conflicts.
 beside() {
-    row 'solving' "$what" "$own s, $own_memory MB, $own_conflicts conflicts" "$1: $2 s, $3 MB, $4 conflicts" "$(ratio "$own" "$2")"
+    row 'solving' "$what" "$(took "$own" "$own_memory" "$status" "$own_conflicts")" "$1: $(took "$2" "$3" "$4" "$5")" "$(ratio "$own" "$2")"
 }
 
 measure() {
-    local family=$1 kind=$2 size=$3 formula=$work/formula what own own_memory own_conflicts status taken memory
+    local family=$1 kind=$2 size=$3 formula=$work/formula what own own_memory own_conflicts status taken memory peer
     awk -v kind="$kind" -v size="$size" -v seed="$size" -f "$here/make_instance.awk" > "$formula"
     read -r own own_memory status <<< "$(run "$program" solve "$formula" --proof "$work/log" --conflicts 1000000000)"
     own_conflicts=$(grep -c '^c conflict' "$work/log" || true)
     what="$family $size (status $status)"
     if [ "$kind" != parity ] && [ "$kind" != planted ]; then
-        read -r taken memory _ <<< "$(run minisat "$formula")"
-        beside minisat "$taken" "$memory" "$(awk '/^conflicts/ { print $3 }' "$work/answer")"
+        read -r taken memory peer <<< "$(run minisat "$formula")"
+        beside minisat "$taken" "$memory" "$peer" "$(awk '/^conflicts/ { print $3 }' "$work/answer")"
     fi
-    read -r taken memory _ <<< "$(run cryptominisat5 --verb 1 "$formula")"
-    beside cryptominisat5 "$taken" "$memory" "$(awk '/^c conflicts/ { print $4; exit }' "$work/answer")"
+    read -r taken memory peer <<< "$(run cryptominisat5 --verb 1 "$formula")"
+    beside cryptominisat5 "$taken" "$memory" "$peer" "$(awk '/^c conflicts/ { print $4; exit }' "$work/answer")"
     if [ "$status" = 20 ]; then
         taken=$(seconds "$program" elab "$formula" "$work/log" "$work/proof")
         answered 's ELABORATED'
@@ -47,8 +53,8 @@ measure() {
     fi
 }
 
-for size in 50 100 150; do measure 'random 3-clauses, variables:' random "$size"; done
-for size in 6 7 8 9; do measure 'pigeonholes, holes:' holes "$size"; done
-for size in 4 6 8; do measure 'ladder (Urquhart), rungs:' ladder "$size"; done
-for size in 100 200 400; do measure 'inconsistent parities:' parity "$size"; done
-for size in 100 200 400; do measure 'planted, variables:' planted "$size"; done
+for size in 100 150 200; do measure 'random 3-clauses, variables:' random "$size"; done
+for size in 7 8 9; do measure 'pigeonholes, holes:' holes "$size"; done
+for size in 8 10 12; do measure 'ladder (Urquhart), rungs:' ladder "$size"; done
+for size in 200 400 800; do measure 'inconsistent parities:' parity "$size"; done
+for size in 200 400 800; do measure 'planted, variables:' planted "$size"; done
