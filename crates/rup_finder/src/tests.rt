@@ -66,7 +66,8 @@ fn needed_hints_alone(rt: HostRuntime) -> Result<(), Fail> {
         Some(ids) => ids.as_slice(),
         None => &[],
     };
-    assert_eq!(rt; ids, [8, 9].as_slice());
+    // Over 9 the negation of 4 gives that of 3, and 8 has nothing left then.
+    assert_eq!(rt; ids, [9, 8].as_slice());
     clauses.remove_clause(2);
     assert!(rt; clauses.find(alloc, &[lit(2, false)])?.is_none());
     assert!(rt; !clauses.has_clause(2));
