@@ -4,6 +4,7 @@ use Rattle.std.proofs.lemmas.List.{map_push, take-map}
 use Rattle.std.specs.List.{AllByRecursion}
 use Rattle.cx_base.specs.Literals.{Literal}
 use Rattle.cx_base.specs.Problem.{Problem, parities_of}
+use Rattle.cx_base.proofs.Elements.{all_append}
 use Rattle.cx_semantics.specs.declared.steps.LogStep.{LogStep}
 use Rattle.cx_semantics.specs.declared.steps.LogStep.TheVariants.{Delete}
 use Rattle.cx_semantics.specs.declared.steps.LogEvent.{LogEvent}
@@ -23,7 +24,6 @@ use Rattle.search_steps.specs.Tied.{Mirrors}
 use Rattle.search_steps.proofs.Rounds.{deleted_keeps, deleted_trail, deleted_levels, deleted_conflicts, deleted_awaits, deleted_old_sums, deleted_new_sums, deleted_parities, deleted_old, deleted_get}
 use Rattle.search_steps.proofs.RowReasons.{all_deleted}
 use Rattle.search_steps.proofs.IdLaws.{row_ids_are_temporary, deletions_ranged, anew_ranged, low_is_no_row}
-use Rattle.search_steps.proofs.Lists.{all_append}
 use Rattle.cdcl_core.specs.declared.kept.Kept.{Kept}
 use Rattle.cdcl_core.specs.Deleting.{deletions}
 use Rattle.cdcl_core.specs.Tells.{TellsAll, GivesUp, IsLeft, as_events, with_events}

@@ -14,6 +14,7 @@ use Rattle.cx_trail.specs.declared.entry.Entry.{Entry as TrailEntry}
 use Rattle.cx_trail.specs.declared.entry.Reason.{Reason}
 use Rattle.cx_trail.specs.declared.entry.Reason.TheVariants as why
 use Rattle.cx_trail.specs.Sequence.{TrailState, TakesBack, entry_at, pushed, IsTrueIn, IsAssignedIn}
+use Rattle.cx_trail.proofs.ValueLaws.{entry_kept}
 use Rattle.clause_arena.specs.Clauses.{Stored, IsLive, clause_at, literals_in, literals_at}
 use Rattle.watch_lists.specs.Truths.{AreOthersFalse}
 use Rattle.watch_lists.specs.Watching.{Fits}
@@ -26,7 +27,6 @@ use Rattle.search_steps.specs.Tied.{IsTied, Mirrors}
 use Rattle.search_steps.specs.Ids.{IsRanged}
 use Rattle.conflict_learn.proofs.ChainOfResolutions.{by_cases}
 use Rattle.search_steps.proofs.Bridge.{entry_last}
-use Rattle.search_steps.proofs.Reasons.{entry_at_front}
 use Rattle.parity_engine.specs.State.{State}
 use Rattle.cdcl_core.specs.declared.kept.Kept.{Kept}
 use Rattle.cdcl_core.specs.Ties.{first_row_id, IsNamedBy, AreClauses, AreNumbered, AreUnits, IsFed, HasReasonAt, HaveReasons, Ties}
@@ -41,7 +41,7 @@ stand_longer o t level l reason a = record {
   stand = λ v low high is_open. a.stand v low high (λ i within same.
       let it : TrailEntry = record { literal = l; level = level; reason = reason } in
       let long = length-append t.entries (it ∷ []) in
-      is_open i (omega (arith, within, long)) (ap (λ x. x.literal.variable) (entry_at_front t.entries (it ∷ []) i within) ∙ same));
+      is_open i (omega (arith, within, long)) (ap (λ x. x.literal.variable) (entry_kept t.entries (it ∷ []) i within) ∙ same));
 }
 
 pub true_more : (x : Entry) (es : List Entry) (clause : List Literal) → HasTrue (held 0 es) clause → HasTrue (held 0 (x ∷ es)) clause
@@ -93,7 +93,7 @@ module _ (formula : Problem) (c : Kept) (e : State) (lits : List Literal) (back 
   level_D = ap (λ t. t.level) trail_D
 
   pub same_entry : (i : ℕ) → i < length c1.trail.entries → entry_at c1.trail.entries i ≡ entry_at D.trail.entries i
-  same_entry i h = sym (ap (λ xs. entry_at xs i) entries_D ∙ entry_at_front c1.trail.entries (it ∷ []) i h)
+  same_entry i h = sym (ap (λ xs. entry_at xs i) entries_D ∙ entry_kept c1.trail.entries (it ∷ []) i h)
 
   pub same_take : (i : ℕ) → i ≤ length c1.trail.entries → take i c1.trail.entries ≡ take i D.trail.entries
   same_take i h = sym (ap (take i) entries_D ∙ take-append-le i c1.trail.entries (it ∷ []) h)

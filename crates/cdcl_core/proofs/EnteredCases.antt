@@ -1,6 +1,6 @@
 -- A learned clause is entered: a clause of several literals, and one of a single literal.
 use Rattle.std.proofs.Common.{◌≡◌, refl, sym, ap, ◌∙◌, subst, ℕ, zero, suc, ◌+◌, ◌-◌, ◌<◌, ℤ, true, false, cond, nat_eq, nat_le, nat_lt, is_some, List, [], ◌∷◌, ◌++◌, length, take, get_or, Some, None, ◌⊎◌, inl, inr, arith, length-append, Contains}
-use Rattle.std.proofs.lemmas.Bool.{eqb-false, ltb-true, ltb-false}
+use Rattle.std.proofs.lemmas.Bool.{eqb-false, ltb-true, ltb-false, and_from}
 use Rattle.cx_base.specs.Literals.{Literal}
 use Rattle.cx_base.specs.Problem.{Problem}
 use Rattle.cx_semantics.specs.Chain.{has_literal, same_literals}
@@ -28,7 +28,6 @@ use Rattle.cdcl_core.specs.Learning.{IsTaught}
 use Rattle.cdcl_core.proofs.Entering.{trail_is, get_new, named_then, was}
 use Rattle.cdcl_core.proofs.Entered.{true_more, kept_at, new_at, old_or_new, length_D, same_entry, same_take, last_entry, place, level_D, reason_stays, ties_entered, unit_stays}
 use Rattle.search_steps.specs.LogSteps.{RestOnClauses}
-use Rattle.cx_semantics.proofs.ChainLaws.{and_both}
 use Rattle.cx_semantics.proofs.Closure.{inside_itself}
 use Rattle.cx_semantics.proofs.Members.{has_at_head}
 use Rattle.cdcl_core.specs.Ties.{IsStored, IsClauseReason, IsCovered}
@@ -43,7 +42,7 @@ id_last [] y = refl
 id_last (x ∷ xs) y = id_last xs y
 
 same_itself : (lits : List Literal) → same_literals lits lits ≡ true
-same_itself lits = and_both _ _ (inside_itself lits) (inside_itself lits)
+same_itself lits = and_from _ _ (inside_itself lits) (inside_itself lits)
 
 module _ (formula : Problem) (c : Kept) (e : State) (lits : List Literal) (back : ℕ) (s : Search) (taught : IsTaught formula c e lits back s) (hints : List ℤ)
     (c1 : Kept) (e1 : State) (t1 : Ties formula c1 e1 taught.rows (jumped s back)) (takes : TakesBack back c.trail c1.trail)

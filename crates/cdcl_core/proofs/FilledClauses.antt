@@ -1,24 +1,23 @@
 -- The clauses of the formula are taken one after another.
-use Rattle.std.proofs.Common.{◌≡◌, ◌≢◌, refl, sym, ap, ◌∙◌, subst, ℕ, zero, suc, ◌+◌, ◌-◌, ◌<◌, ◌≤◌, Bool, true, false, not, ◌||◌, nat_eq, eqb-true, is_some, true≢false, List, [], ◌∷◌, ◌++◌, length, take, get_or, Option, Some, None, Result, Ok, Err, ◌⊎◌, inl, inr, Contains, arith, length-append}
-use Rattle.std.specs.Prelude.{IsSome, IfSome, OnOk}
+use Rattle.std.proofs.Common.{◌≡◌, ◌≢◌, refl, sym, ap, ◌∙◌, subst, ℕ, zero, suc, ◌+◌, ◌-◌, ◌<◌, ◌≤◌, Bool, true, false, not, ◌||◌, nat_eq, eqb-true, is_some, true≢false, List, [], ◌∷◌, ◌++◌, length, take, get_or, Option, Some, None, ◌⊎◌, inl, inr, Contains, arith, length-append}
+use Rattle.std.specs.Prelude.{IsSome, IfSome}
 use Rattle.std.specs.List.{list_any, AllByRecursion}
-use Rattle.std.proofs.lemmas.Bool.{eqb-false}
+use Rattle.std.proofs.lemmas.Bool.{eqb-false, and_parts, or_right}
 use Rattle.std.proofs.lemmas.List.{take_more}
 use Rattle.std.proofs.lemmas.List.Elements.{filter_map-append, All-from_recursion, Contains-append_left, Contains-push}
 use Rattle.cx_base.specs.Literals.{Literal, negate}
 use Rattle.cx_base.specs.Problem.{Problem, clauses_of, clause_in, AreWithin}
 use Rattle.cx_base.specs.declared.constraint.Constraint.{Constraint}
 use Rattle.cx_base.specs.declared.constraint.Constraint.TheVariants as constraint
+use Rattle.cx_base.proofs.Elements.{all_append}
 use Rattle.cx_semantics.specs.Chain.{has_literal, is_inside, same_literals}
 use Rattle.cx_semantics.specs.Fresh.{is_tautology}
-use Rattle.cx_semantics.proofs.ChainLaws.{and_parts}
-use Rattle.cx_semantics.proofs.Closure.{has_by_inside, or_right}
+use Rattle.cx_semantics.proofs.Closure.{has_by_inside}
 use Rattle.cx_semantics.proofs.Members.{has_at_head, has_behind, has_split}
 use Rattle.clause_arena.specs.Clauses.{Stored, IsLive, clause_at, literals_in, id_in}
 use Rattle.cx_trail.specs.Sequence.{TrailState}
 use Rattle.conflict_learn.proofs.ChainOfResolutions.{by_cases}
 use Rattle.search_steps.proofs.Sets.{not_both}
-use Rattle.search_steps.proofs.Lists.{all_append}
 use Rattle.search_steps.proofs.QuietLaws.{within_member}
 use Rattle.watch_lists.specs.Watching.{Fits, IsAttached}
 use Rattle.watch_lists.specs.Attaching.{CanBeWatched, literal_at}
@@ -292,10 +291,6 @@ module _ (formula : Problem) (place : ℕ) (d : Constraint) (less : place < leng
 
   pub parity_passed : (lits : List Literal) → get_or formula.constraints place d ≡ constraint.Parity lits → IsFilledUpTo formula (length (clauses_of (take (place + 1) formula.constraints))) f.kept f.units.items f.empty
   parity_passed lits at = subst (λ n. IsFilledUpTo formula n f.kept f.units.items f.empty) (sym (parity_passes formula.constraints place d lits less at)) filled
-
-pub on_ok : {T E : Type 0} (r : Result T E) (P Q : Type 0) → OnOk r P → (P → Q) → OnOk r Q
-on_ok (Ok x) P Q p f = f p
-on_ok (Err e) P Q p f = tt
 
 pub only_one : (xs : List Literal) (d : Literal) → length xs ≤ 1 → length xs ≢ 0 → xs ≡ get_or xs 0 d ∷ []
 only_one [] d few some = absurd (some refl)

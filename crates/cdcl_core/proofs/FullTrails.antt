@@ -8,12 +8,12 @@ use Rattle.cx_base.specs.Problem.{Problem, Meets, IsWithinVariables, parities_of
 use Rattle.cx_semantics.specs.Chain.{has_literal}
 use Rattle.cx_semantics.specs.declared.steps.LogEvent.{LogEvent}
 use Rattle.cx_semantics.specs.Settled.{Decides}
+use Rattle.cx_semantics.proofs.Members.{all_by}
 use Rattle.cx_trail.specs.Sequence.{TrailState, IsTrail, IsFull, IsTrueIn, entry_at}
 use Rattle.parity_engine.specs.State.{State}
 use Rattle.search_steps.specs.Trail.{all_held}
 use Rattle.search_steps.specs.Search.{Search, IsSearch}
 use Rattle.conflict_learn.proofs.ChainOfResolutions.{by_cases}
-use Rattle.search_steps.proofs.Sets.{each_member}
 use Rattle.search_steps.proofs.Bridge.{true_is_held, held_is_true}
 use Rattle.search_steps.proofs.EndLaws.{full_is_met}
 use Rattle.cdcl_core.specs.declared.kept.Kept.{Kept}
@@ -65,7 +65,7 @@ module _ (formula : Problem) (c : Kept) (e : State) (s : Search) (ok : IsSearch 
   values_meet : Finds c e found.Quiet → IsFull c.trail → IsWithinVariables formula.variables formula.constraints → (values : List Bool) → length values ≡ formula.variables → AreValues c.trail c.trail.variables values → Meets formula values
   values_meet finds full within values long are =
       full_is_met formula (parities_of formula.constraints) s ok (is_quiet formula c e s ok t finds) (own_are_had formula) values within.1 (decides full) long
-      (each_member (literal_true values) (all_held s.trail) (λ l h. true_under c.trail t.follows.sound values are l (held_is_true s.trail c.trail.entries t.follows.tied l h)))
+      (all_by (literal_true values) (all_held s.trail) (λ l h. true_under c.trail t.follows.sound values are l (held_is_true s.trail c.trail.entries t.follows.tied l h)))
 
 pub full_trail_meets : (formula : Problem) (c : Kept) (e : State) (told : Option (List LogEvent)) → Stands formula c e [] told → Finds c e found.Quiet → IsFull c.trail → IsWithinVariables formula.variables formula.constraints
     → (values : List Bool) → length values ≡ formula.variables → AreValues c.trail formula.variables values → Meets formula values

@@ -10,6 +10,7 @@ use Rattle.cx_semantics.specs.Chain.{same_literals}
 use Rattle.cx_trail.specs.declared.entry.Reason.{Reason}
 use Rattle.cx_trail.specs.declared.entry.Reason.TheVariants as reason
 use Rattle.cx_trail.specs.Sequence.{TakesBack, entry_at, no_entry, IsTrail as IsCodeTrail}
+use Rattle.cx_trail.proofs.ValueLaws.{entry_kept}
 use Rattle.clause_arena.specs.Clauses.{IsLive, literals_at, id_at}
 use Rattle.watch_lists.specs.Watching.{Fits}
 use Rattle.watch_lists.proofs.EventLaws.{fits_back}
@@ -26,7 +27,6 @@ use Rattle.search_steps.proofs.Bridge.{level_tied}
 use Rattle.search_steps.proofs.IdLaws.{jump_ranged}
 use Rattle.search_steps.proofs.EngineLaws.{back_holds_values, lagging_back}
 use Rattle.search_steps.proofs.OverSearch.{older_is_trail}
-use Rattle.search_steps.proofs.Reasons.{entry_at_front}
 use Rattle.cdcl_core.specs.declared.kept.Kept.{Kept}
 use Rattle.cdcl_core.specs.Ties.{first_row_id, IsNamedBy, AreClauses, AreUnits, HasReasonAt, IsEngineOf, IsFed, Ties}
 use Rattle.cdcl_core.proofs.Places.{entry_behind, tied_length, older_level, older_stay}
@@ -71,7 +71,7 @@ module _ (formula : Problem) (k : ℕ) (c d : Kept) (e f : State) (rows : List (
   shorter = let p = ap length g.takes.parts in let a = length-append d.trail.entries g.takes.dropped in omega (arith, p, a)
 
   same_entry : (i : ℕ) → i < length d.trail.entries → entry_at c.trail.entries i ≡ entry_at d.trail.entries i
-  same_entry i h = ap (λ xs. entry_at xs i) g.takes.parts ∙ entry_at_front d.trail.entries g.takes.dropped i h
+  same_entry i h = ap (λ xs. entry_at xs i) g.takes.parts ∙ entry_kept d.trail.entries g.takes.dropped i h
 
   same_take : (i : ℕ) → i ≤ length d.trail.entries → take i c.trail.entries ≡ take i d.trail.entries
   same_take i h = ap (take i) g.takes.parts ∙ take-append-le i d.trail.entries g.takes.dropped h

@@ -1,14 +1,12 @@
 -- What the ties say of a trail with one more literal at its end.
-use Rattle.std.proofs.Common.{◌≡◌, ◌≢◌, inl, inr, refl, sym, ap, ◌∙◌, subst, ℕ, suc, ◌+◌, ◌<◌, ◌≤◌, nat_le, nat_eq, Bool, true, false, cond, List, [], ◌∷◌, ◌++◌, length, get_or, take, Contains, arith, eqb-true}
+use Rattle.std.proofs.Common.{◌≡◌, ◌≢◌, inl, inr, refl, sym, ap, ◌∙◌, subst, ℕ, suc, ◌+◌, ◌<◌, ◌≤◌, nat_eq, List, [], ◌∷◌, ◌++◌, length, get_or, take, Contains, arith, eqb-true}
 use Rattle.std.proofs.lemmas.Bool.{eqb-false}
 use Rattle.std.proofs.lemmas.List.{take-append-le, length_push}
 use Rattle.std.specs.Prelude.{IsTrue}
 use Rattle.std.specs.FinSet as set
 use Rattle.cx_base.specs.Literals.{Literal, literal_true}
 use Rattle.cx_base.specs.Problem.{Problem}
-use Rattle.cx_semantics.specs.Chain.{has_literal}
 use Rattle.cx_semantics.specs.Tables.{Table}
-use Rattle.cx_semantics.proofs.Members.{has_behind}
 use Rattle.cx_trail.specs.declared.entry.Entry.{Entry as TrailEntry}
 use Rattle.cx_trail.specs.declared.entry.Reason.{Reason}
 use Rattle.cx_trail.specs.declared.entry.Reason.TheVariants as reason
@@ -18,12 +16,12 @@ use Rattle.watch_lists.specs.Truths.{AreOthersFalse}
 use Rattle.watch_lists.proofs.EventLaws.{fits_pushed}
 use Rattle.search_policy.specs.Standing.{OrderState, AllStand}
 use Rattle.parity_engine.specs.State.{State}
-use Rattle.search_steps.specs.Trail.{Entry, Why, held, level_of}
+use Rattle.search_steps.specs.Trail.{Entry, Why, level_of}
 use Rattle.search_steps.specs.Search.{Search, forced_on}
 use Rattle.search_steps.specs.Ids.{IsRanged}
 use Rattle.search_steps.specs.Tied.{IsTied}
 use Rattle.conflict_learn.proofs.ChainOfResolutions.{by_cases}
-use Rattle.search_steps.proofs.Bridge.{entry_last, entry_before}
+use Rattle.search_steps.proofs.Bridge.{entry_last, entry_before, put_held}
 use Rattle.cdcl_core.specs.declared.kept.Kept.{Kept}
 use Rattle.cdcl_core.proofs.Alike.{served_alike}
 use Rattle.cdcl_core.specs.Ties.{Ties, first_row_id, IsNamedBy, IsCovered, AreClauses, AreUnits, IsRowReason, HasReasonAt, HaveReasons, IsFed}
@@ -32,17 +30,11 @@ abbrev pub put : Kept → ℕ → Literal → Reason → Kept
 put c level l why = record c { trail = pushed c.trail level l why }
 
 -- ---- clauses
-held_grows : (k : ℕ) (y : Entry) (es : List Entry) (l : Literal) → has_literal (held k es) l ≡ true → has_literal (held k (y ∷ es)) l ≡ true
-held_grows k y es l h = go (nat_le y.level k)
-  where
-    go : (b : Bool) → has_literal (cond b (y.literal ∷ held k es) (held k es)) l ≡ true
-    go true = has_behind y.literal (held k es) l h
-    go false = h
 
 pub covered_grows : (c : Kept) (es : List Entry) (y : Entry) (clause : List Literal) → IsCovered c es clause → IsCovered c (y ∷ es) clause
 covered_grows c es y clause (inl stored) = inl stored
 covered_grows c es y clause (inr (inl both)) = inr (inl both)
-covered_grows c es y clause (inr (inr t)) = inr (inr (record { l = t.l; has_it = t.has_it; is_held = held_grows 0 y es t.l t.is_held }))
+covered_grows c es y clause (inr (inr t)) = inr (inr (record { l = t.l; has_it = t.has_it; is_held = put_held 0 y es t.l t.is_held }))
 
 pub clauses_grow : (table : Table) (c : Kept) (level : ℕ) (l : Literal) (why : Reason) (es : List Entry) (y : Entry) → AreClauses table c es → AreClauses table (put c level l why) (y ∷ es)
 clauses_grow table c level l why es y a = record {

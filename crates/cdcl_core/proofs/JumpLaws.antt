@@ -6,6 +6,7 @@ use Rattle.cx_semantics.specs.Chain.{has_literal}
 use Rattle.cx_semantics.specs.Integers.{integers_of}
 use Rattle.cx_trail.specs.declared.entry.Reason.TheVariants as why
 use Rattle.cx_trail.specs.Sequence.{TakesBack, entry_at, IsOpenIn}
+use Rattle.cx_trail.proofs.ValueLaws.{entry_kept}
 use Rattle.watch_lists.specs.Truths.{AreOthersFalse}
 use Rattle.search_policy.specs.Standing.{OrderState, AllStand}
 use Rattle.search_steps.specs.Trail.{back_to}
@@ -25,7 +26,6 @@ use Rattle.cdcl_core.specs.Entering.{Enters}
 use Rattle.search_steps.proofs.TrailLaws.{back_holds}
 use Rattle.search_steps.proofs.Bridge.{held_is_true, level_tied}
 use Rattle.search_steps.proofs.Stored.{has_of}
-use Rattle.search_steps.proofs.Reasons.{entry_at_front}
 use Rattle.cx_semantics.proofs.ChainLaws.{are_one}
 use Rattle.cx_base.specs.Literals.{same_literal}
 use Rattle.watch_lists.specs.Attaching.{CanBeWatched, literal_at as nth}
@@ -71,7 +71,7 @@ module _ (formula : Problem) (c : Kept) (e : State) (lits : List Literal) (back 
         held_is_true (back_to back s.trail) c1.trail.entries t1.follows.tied (negate m) (ap (λ u. has_literal u (negate m)) holds ∙ known)
 
     old_entry : (i : ℕ) → i < length c1.trail.entries → entry_at c.trail.entries i ≡ entry_at c1.trail.entries i
-    old_entry i h = ap (λ xs. entry_at xs i) takes.parts ∙ entry_at_front c1.trail.entries takes.dropped i h
+    old_entry i h = ap (λ xs. entry_at xs i) takes.parts ∙ entry_kept c1.trail.entries takes.dropped i h
 
     pub can_be_watched : 2 ≤ length lits → CanBeWatched c1.watches.variables c1.trail lits
     can_be_watched long = go taught.placed.rest taught.placed.are taught.placed.falling taught.placed.back_is

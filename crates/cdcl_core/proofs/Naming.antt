@@ -12,7 +12,7 @@ use Rattle.cx_base.specs.Problem.{Problem, parities_of, parity_met, clause_met, 
 use Rattle.cx_semantics.specs.Chain.{has_literal, negations}
 use Rattle.cx_semantics.specs.declared.steps.LogEvent.{LogEvent}
 use Rattle.cx_semantics.proofs.ChainLaws.{literal_true-negate, same_literal-itself}
-use Rattle.cx_semantics.proofs.Members.{has_at_head, has_behind, has_split}
+use Rattle.cx_semantics.proofs.Members.{has_at_head, has_behind, has_split, all_by}
 use Rattle.cx_trail.specs.declared.entry.Entry.{Entry as TrailEntry}
 use Rattle.cx_trail.specs.declared.entry.Reason.TheVariants as reason
 use Rattle.cx_trail.specs.Sequence.{TrailState, pushed, IsTrueIn, IsOpenIn, IsAssignedIn, IsTrail}
@@ -32,7 +32,7 @@ use Rattle.search_steps.specs.Search.{Search, IsSearch, forced_on}
 use Rattle.search_steps.specs.Tied.{IsTied, ForcesOn}
 use Rattle.search_steps.specs.Engine.{HoldsValues}
 use Rattle.conflict_learn.proofs.ChainOfResolutions.{by_cases}
-use Rattle.search_steps.proofs.Sets.{not_both, each_member}
+use Rattle.search_steps.proofs.Sets.{not_both}
 use Rattle.search_steps.proofs.Bridge.{entry_before, level_tied}
 use Rattle.search_steps.proofs.EngineLaws.{known_is_true, no_value_is_open}
 use Rattle.search_steps.proofs.CodeSteps.{row_step_keeps}
@@ -153,7 +153,7 @@ module _ (formula : Problem) (c : Kept) (e : State) (rows : List (List Literal))
         let w = sum_is_written (numbered e.parities n.sources) in
         let is : normal_form w.0 ≡ n.form = w.1 ∙ sym now.sums in
         let met : parity_met v w.0 ≡ true = h.met v (λ l true_in. agrees l (from_front (suc i) l true_in)) w.0 (is ∙ alike.0) in
-        let unmet : parity_met v w.0 ≡ false = broken.unmet v (each_member (literal_true v) (known e) (λ l k. agrees l (known_stands l k))) w.0 is in
+        let unmet : parity_met v w.0 ≡ false = broken.unmet v (all_by (literal_true v) (known e) (λ l k. agrees l (known_stands l k))) w.0 is in
         true≢false (sym met ∙ unmet)
       where
         from_front : (k : ℕ) (l : Literal) → IsTrueIn (take k c.trail.entries) l → IsTrueIn c.trail.entries l
@@ -190,7 +190,7 @@ module _ (formula : Problem) (c : Kept) (e : State) (rows : List (List Literal))
             (assigned_stands v low (implied.others v (λ is. apart (is ∙ ap (λ (x : TrailEntry). x.literal.variable) (sym (at_end c c.trail.level l (reason.Row row))))) has));
         met = λ v agrees.
             let on = subst (λ es. (m : Literal) → IsTrueIn es m → IsTrue (literal_true v m)) whole agrees in
-            implied.met v (each_member (literal_true v) (known e) (λ m k. on m (stands_behind m (known_stands m k)))) (on l stands_last);
+            implied.met v (all_by (literal_true v) (known e) (λ m k. on m (stands_behind m (known_stands m k)))) (on l stands_last);
       }
 
       pub implied_tied : IsSearch formula (parities_of formula.constraints) s → HasAll c → IsTrail (pushed c.trail c.trail.level l (reason.Row row))

@@ -5,11 +5,11 @@ use Rattle.std.proofs.lemmas.List.{length_push}
 use Rattle.cx_base.specs.Literals.{Literal}
 use Rattle.cx_trail.specs.declared.entry.Entry.{Entry as TrailEntry}
 use Rattle.cx_trail.specs.Sequence.{entry_at}
+use Rattle.cx_trail.proofs.ValueLaws.{entry_kept}
 use Rattle.search_steps.specs.Trail.{Entry, back_to}
 use Rattle.search_steps.specs.Tied.{IsTied}
 use Rattle.conflict_learn.proofs.ChainOfResolutions.{by_cases}
 use Rattle.search_steps.proofs.Bridge.{entry_last}
-use Rattle.search_steps.proofs.Reasons.{entry_at_front}
 
 pub entry_behind : (before rest : List TrailEntry) (i p : ℕ) → i ≡ length before + p → entry_at (before ++ rest) i ≡ entry_at rest p
 entry_behind [] rest i p is = ap (entry_at rest) (omega (arith, is))
@@ -32,7 +32,7 @@ older_level (x ∷ newer) older e entries (before, i, same, lit, lev, t) =
     let l = tied_length (newer ++ e ∷ older) before t in
     let n = length-append newer (e ∷ older) in
     older_level newer older e before t
-    ∙ sym (ap (λ x. x.level) (ap (λ xs. entry_at xs (length older)) same ∙ entry_at_front before (i ∷ []) (length older) (omega (arith, l, n))))
+    ∙ sym (ap (λ x. x.level) (ap (λ xs. entry_at xs (length older)) same ∙ entry_kept before (i ∷ []) (length older) (omega (arith, l, n))))
 
 -- older entries of a level up to k stay in a jump back to it
 pub older_stay : (k : ℕ) (newer older : List Entry) → ((e : Entry) (rest : List Entry) → older ≡ e ∷ rest → e.level ≤ k) → (left : List Entry) × (back_to k (newer ++ older) ≡ left ++ older)

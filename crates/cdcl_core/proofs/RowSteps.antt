@@ -1,6 +1,6 @@
 -- The three steps of a row that was told keep what stands behind the code.
-use Rattle.std.proofs.Common.{◌≡◌, ◌≢◌, refl, sym, ap, ◌∙◌, subst, ℕ, zero, suc, ◌+◌, ◌-◌, ◌<◌, ◌≤◌, ℤ, Bool, true, false, ◌||◌, nat_eq, eqb-true, List, [], ◌∷◌, ◌++◌, length, take, get_or, map, Option, Some, None, is_some, Contains, arith, inl, inr, true≢false, length-append}
-use Rattle.std.specs.List.{list_any, AllByRecursion, cons_option}
+use Rattle.std.proofs.Common.{◌≡◌, ◌≢◌, refl, sym, ap, ◌∙◌, subst, ℕ, zero, suc, ◌+◌, ◌-◌, ◌<◌, ◌≤◌, ℤ, Bool, true, false, ◌||◌, List, [], ◌∷◌, ◌++◌, length, take, get_or, map, Option, Some, None, is_some, Contains, arith, inl, inr, length-append}
+use Rattle.std.specs.List.{AllByRecursion, cons_option}
 use Rattle.std.specs.FinMap as map_
 use Rattle.std.specs.FinSet as set
 use Rattle.std.proofs.Math.ListN.{get_or-append}
@@ -21,7 +21,8 @@ use Rattle.cx_semantics.specs.Tables.{Table, get, named}
 use Rattle.cx_trail.specs.Sequence.{TrailState, IsTrail, IsAssignedIn}
 use Rattle.parity_engine.specs.State.{State, AreRising}
 use Rattle.parity_engine.specs.Equations.{parity_number, numbered}
-use Rattle.parity_engine.specs.Written.{IsWritten, Rises}
+use Rattle.parity_engine.specs.Written.{IsWritten}
+use Rattle.parity_engine.proofs.Columns.{rising_low}
 use Rattle.xor_reason.specs.declared.reason.ReasonOf.{ReasonOf}
 use Rattle.xor_reason.proofs.ClauseLaws.{contains_written, has_written}
 use Rattle.search_steps.specs.Search.{Search, IsSearch, told}
@@ -59,16 +60,8 @@ within_by n (l ∷ lits) h = (h l (has_at_head l lits), within_by n lits (λ m k
 pub in_form : (form : NormalForm) (lits : List Literal) → HasOneOfEach form.variables lits → (l : Literal) → has_literal lits l ≡ true → set.contains form.variables l.variable ≡ true
 in_form form lits each l h = ap (λ s. set.contains s l.variable) (sym each.same) ∙ set.contains-from_list_nat (map (λ x. x.variable) lits) l.variable ∙ variable_in lits l h
 
-low_rising : (least : ℕ) (vs : List ℕ) (v : ℕ) → Rises least vs → list_any (λ y. nat_eq y v) vs ≡ true → least ≤ v
-low_rising least [] v r h = absurd (true≢false (sym h))
-low_rising least (x ∷ vs) v r h = go (nat_eq x v) refl h (low_rising (x + 1) vs v r.1)
-  where
-    go : (b : Bool) → nat_eq x v ≡ b → (b || list_any (λ y. nat_eq y v) vs) ≡ true → (list_any (λ y. nat_eq y v) vs ≡ true → x + 1 ≤ v) → least ≤ v
-    go true e g rec = let same = eqb-true x v e in let low = r.0 in omega (arith, same, low)
-    go false e g rec = let low = rec g in let first = r.0 in omega (arith, low, first)
-
 pub low_form : (form : NormalForm) (lits : List Literal) → IsWritten form lits → (v : ℕ) → set.contains form.variables v ≡ true → 1 ≤ v
-low_form form lits w v h = low_rising 1 (map (λ x. x.variable) lits) v w.rises (sym (contains_written form lits w v) ∙ h)
+low_form form lits w v h = rising_low 1 (map (λ x. x.variable) lits) v w.rises (sym (contains_written form lits w v) ∙ h)
 
 assigned_within : (t : TrailState) (n v : ℕ) → IsTrail t → t.variables ≡ n → IsAssignedIn t.entries v → (1 ≤ v) × (v ≤ n)
 assigned_within t n v sound vars (i, less, is) = let low = sound.low i less in let high = sound.high i less in (omega (arith, low, is), omega (arith, high, is, vars))

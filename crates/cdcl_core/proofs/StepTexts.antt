@@ -2,6 +2,7 @@
 use Rattle.std.proofs.Common.{◌≢◌, ◌≤◌, ◌<◌, ℕ, ℤ, pos, nat_abs, List, [], ◌∷◌, map, flat_map, arith}
 use Rattle.std.specs.List.{AllByRecursion}
 use Rattle.cx_base.specs.Numbers.{AreStepIntegers}
+use Rattle.cx_base.proofs.Elements.{all_append, integers_are_proper}
 use Rattle.cx_semantics.specs.declared.steps.LogStep.{LogStep}
 use Rattle.cx_semantics.specs.declared.steps.LogStep.TheVariants as step
 use Rattle.cx_semantics.specs.declared.steps.LogEvent.TheVariants.{Step}
@@ -10,7 +11,6 @@ use Rattle.cx_semantics.specs.LogText.{log_fields}
 use Rattle.cx_semantics.specs.Printed.{HasText}
 use Rattle.cx_semantics.specs.Words.{Word, number, IsWithin}
 use Rattle.cdcl_core.specs.Tells.{IsId}
-use Rattle.search_steps.proofs.Lists.{all_append}
 
 abbrev AreWords : List Word → Type 0
 AreWords ws = AllByRecursion (IsWithin 9223372036854775807) ws
@@ -19,9 +19,6 @@ zero_within : nat_abs (pos 0) ≤ 9223372036854775807
 zero_within = omega arith
 
 -- ---- integers and ids
-pub integers_are_proper : (zs : List ℤ) → AreStepIntegers zs → AllByRecursion (λ z. z ≢ pos 0) zs
-integers_are_proper [] a = tt
-integers_are_proper (z ∷ zs) a = (a.0.0, integers_are_proper zs a.1)
 
 integer_words : (zs : List ℤ) → AreStepIntegers zs → AreWords (map number zs)
 integer_words [] a = tt

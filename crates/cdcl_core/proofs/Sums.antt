@@ -6,6 +6,7 @@ use Rattle.std.specs.Ordering.{nat_cmp}
 use Rattle.cx_base.specs.Literals.{Literal, differ}
 use Rattle.cx_base.specs.Parity.{NormalForm, normal_form, sum_of, symmetric_difference}
 use Rattle.cx_base.proofs.ParityLaws.{contains-symmetric_difference}
+use Rattle.cx_base.proofs.Differences.{differ_again}
 use Rattle.gf2_rows.specs.Bits.{parity}
 use Rattle.gf2_rows.proofs.Words.{parity-append}
 use Rattle.parity_engine.proofs.Forms.{same_form}
@@ -14,10 +15,6 @@ use Rattle.parity_engine.proofs.Literals.{contains_parity, right_parity}
 -- one variable with both signs: no variable is left, and the right side is 0
 abbrev both_signs : List Literal
 both_signs = record { variable = 1; negative = false } ∷ record { variable = 1; negative = true } ∷ []
-
-cancels : (b : Bool) → differ b (differ b false) ≡ false
-cancels true = refl
-cancels false = refl
 
 abbrev has_variable : ℕ → Literal → Bool
 has_variable y l = eqb l.variable y
@@ -38,21 +35,16 @@ both_turn : (b : Bool) → differ false (differ true b) ≡ not b
 both_turn true = refl
 both_turn false = refl
 
-both_cancel : (a b : Bool) → differ a (differ a b) ≡ b
-both_cancel true true = refl
-both_cancel true false = refl
-both_cancel false b = refl
-
 nothing : normal_form both_signs ≡ sum_of []
 unfolding sum_of
 nothing = same_form (normal_form both_signs) (record { variables = set.empty; right_side = false })
-    (λ y. contains_parity both_signs y ∙ cancels (eqb 1 y) ∙ sym (set.contains-empty nat_cmp y)) (right_parity both_signs)
+    (λ y. contains_parity both_signs y ∙ differ_again (eqb 1 y) false ∙ sym (set.contains-empty nat_cmp y)) (right_parity both_signs)
 
 -- the sum of two normal forms is that of the two lists, with both signs between them
 added : (lits more : List Literal) (f : NormalForm) → normal_form more ≡ f → normal_form (lits ++ (both_signs ++ more)) ≡ record { variables = symmetric_difference (normal_form lits).variables f.variables; right_side = differ (normal_form lits).right_side f.right_side }
 added lits more f is = same_form (normal_form (lits ++ (both_signs ++ more))) _
     (λ y. contains_parity (lits ++ (both_signs ++ more)) y ∙ split (has_variable y) lits (both_signs ++ more)
-    ∙ ap (differ (parity (map (has_variable y) lits))) (both_cancel (eqb 1 y) (parity (map (has_variable y) more)))
+    ∙ ap (differ (parity (map (has_variable y) lits))) (differ_again (eqb 1 y) (parity (map (has_variable y) more)))
     ∙ (λ i. differ (sym (contains_parity lits y) i) (sym (contains_parity more y) i))
     ∙ ap (λ (g : NormalForm). differ (set.contains (normal_form lits).variables y) (set.contains g.variables y)) is
     ∙ sym (contains-symmetric_difference (normal_form lits).variables f.variables y))

@@ -9,6 +9,7 @@ use Rattle.std.specs.List.{AllByRecursion}
 use Rattle.std.specs.Global.{Vec}
 use Rattle.cx_base.specs.Literals.{Literal}
 use Rattle.cx_base.specs.Problem.{Problem, parities_of, AreWithin}
+use Rattle.cx_base.proofs.Elements.{same_head, same_tail}
 use Rattle.cx_semantics.specs.declared.steps.LogStep.TheVariants.{ClauseWithHints}
 use Rattle.cx_semantics.specs.declared.steps.LogEvent.TheVariants.{Step}
 use Rattle.cx_semantics.specs.Chain.{has_literal, same_literals}
@@ -20,6 +21,7 @@ use Rattle.cx_trail.specs.declared.entry.Entry.{Entry as TrailEntry}
 use Rattle.cx_trail.specs.declared.entry.Reason.{Reason}
 use Rattle.cx_trail.specs.declared.entry.Reason.TheVariants as reason
 use Rattle.cx_trail.specs.Sequence.{TrailState, entry_at}
+use Rattle.cx_trail.proofs.ValueLaws.{entry_kept}
 use Rattle.parity_engine.specs.declared.state.Held.{Held}
 use Rattle.parity_engine.specs.State.{State}
 use Rattle.search_steps.specs.Engine.{HoldsValues}
@@ -35,7 +37,6 @@ use Rattle.conflict_learn.proofs.ChainOfResolutions.{by_cases}
 use Rattle.search_steps.proofs.StartLaws.{variables_are_within}
 use Rattle.search_steps.proofs.UnitLaws.{held_same, level_same}
 use Rattle.search_steps.proofs.UnitSteps.{unit_rests_keeps}
-use Rattle.search_steps.proofs.Reasons.{entry_at_front}
 use Rattle.cdcl_core.specs.declared.kept.Kept.{Kept}
 use Rattle.cdcl_core.specs.Ties.{Ties, IsNamedBy, IsCovered, AreClauses, AreUnits, IsFed, HasReasonAt, HaveReasons, first_row_id}
 use Rattle.cdcl_core.proofs.Places.{tied_length, older_level}
@@ -58,12 +59,6 @@ record IsSplit (level : ℕ) (es before : List Entry) : Type 0 where
   pub count : length older ≡ length before
   pub now : AllByRecursion (λ x. x.level ≡ level) newer
   pub still : (k : ℕ) → held k older ≡ held k before
-
-same_head : (x y : Entry) (xs ys : List Entry) → x ∷ xs ≡ y ∷ ys → x ≡ y
-same_head x y xs ys e = cc
-
-same_tail : (x y : Entry) (xs ys : List Entry) → x ∷ xs ≡ y ∷ ys → xs ≡ ys
-same_tail x y xs ys e = cc
 
 split_rests : (level : ℕ) (top low newer older : List Entry) (e : Entry) (n : ℕ) → top ++ low ≡ newer ++ e ∷ older → AllByRecursion (λ x. x.level ≡ level) top → IsSplit level (newer ++ rests_on e n ∷ older) low
 split_rests level [] low newer older e n is a = record {
@@ -114,7 +109,7 @@ older_literal (x ∷ newer) older e entries (before, i, same, lit, lev, t) =
     let l = tied_length (newer ++ e ∷ older) before t in
     let n = length-append newer (e ∷ older) in
     older_literal newer older e before t
-    ∙ sym (ap (λ x. x.literal) (ap (λ xs. entry_at xs (length older)) same ∙ entry_at_front before (i ∷ []) (length older) (omega (arith, l, n))))
+    ∙ sym (ap (λ x. x.literal) (ap (λ xs. entry_at xs (length older)) same ∙ entry_kept before (i ∷ []) (length older) (omega (arith, l, n))))
 
 last_part : (xs : List Entry) → 0 < length xs → (front : List Entry) × (x : Entry) × (xs ≡ front ++ x ∷ [])
 last_part [] h = absurd (omega (arith, h))

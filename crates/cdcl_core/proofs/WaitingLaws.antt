@@ -1,6 +1,6 @@
 -- Unit clauses of the formula come onto the trail, one after another, and what stands when none waits.
 use Rattle.std.proofs.Common.{◌≡◌, ◌≢◌, refl, sym, ap, ◌∙◌, subst, ℕ, zero, suc, ◌+◌, ◌-◌, ◌<◌, ◌≤◌, nat_lt, true, cond, List, [], ◌∷◌, ◌++◌, length, drop, drop-cons, get_or, Option, Some, None, ◌⊎◌, inl, inr, Contains, arith, length-append, true≢false, append-nil}
-use Rattle.std.proofs.lemmas.Bool.{le-leb, ltb-true, ltb-false}
+use Rattle.std.proofs.lemmas.Bool.{le-leb, ltb-true, ltb-false, and_parts}
 use Rattle.std.proofs.lemmas.List.{length-replicate, length_push}
 use Rattle.std.proofs.Math.ListN.{get_or-append}
 use Rattle.std.proofs.Math.Seq.{get_or-append_seam}
@@ -12,7 +12,7 @@ use Rattle.cx_base.specs.Problem.{Problem, clauses_of, parities_of, IsWithinVari
 use Rattle.cx_semantics.specs.declared.steps.LogEvent.{LogEvent}
 use Rattle.cx_semantics.specs.Chain.{has_literal, is_inside, same_literals}
 use Rattle.cx_semantics.specs.Tables.{Table, get}
-use Rattle.cx_semantics.proofs.ChainLaws.{and_parts, same_literal-itself}
+use Rattle.cx_semantics.proofs.ChainLaws.{same_literal-itself}
 use Rattle.cx_semantics.proofs.Closure.{has_by_inside}
 use Rattle.cx_semantics.proofs.Members.{has_at_head, has_split}
 use Rattle.cx_trail.specs.declared.entry.Entry.{Entry as TrailEntry}

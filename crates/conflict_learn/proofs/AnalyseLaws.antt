@@ -14,6 +14,7 @@ use Rattle.std.specs.BTreeMap.{is_at}
 use Rattle.std.specs.Cmp.{unsigned_tied}
 use Rattle.cx_base.specs.Literals.{Literal, negate, same_literal}
 use Rattle.cx_base.proofs.LiteralLaws.{negate-negate}
+use Rattle.cx_base.proofs.Elements.{all_push}
 use Rattle.cx_semantics.specs.Chain.{has_literal}
 use Rattle.cx_semantics.proofs.ChainLaws.{same_literal-itself}
 use Rattle.cx_semantics.proofs.Members.{has_at_head, has_behind, has_split, has_left, has_right, has_either}
@@ -98,9 +99,6 @@ follows_resolved trail conflict holds resolved old clause l new k implied r (cla
 )
 
 -- ---- what holds of each number
-pub AllByRecursion-push : (P : ℕ → Type 0) (ps : List ℕ) (q : ℕ) → AllByRecursion P ps → P q → AllByRecursion P (ps ++ q ∷ [])
-AllByRecursion-push P [] q a h = (h, tt)
-AllByRecursion-push P (p ∷ ps) q a h = (a.0, AllByRecursion-push P ps q a.1 h)
 
 pub AllByRecursion-weaker : (P Q : ℕ → Type 0) → ((p : ℕ) → P p → Q p) → (ps : List ℕ) → AllByRecursion P ps → AllByRecursion Q ps
 AllByRecursion-weaker P Q f [] a = tt
@@ -108,7 +106,7 @@ AllByRecursion-weaker P Q f (p ∷ ps) a = (f p a.0, AllByRecursion-weaker P Q f
 
 falling_push : (ps : List ℕ) (q : ℕ) → IsFalling ps → AllByRecursion (λ p. q < p) ps → IsFalling (ps ++ q ∷ [])
 falling_push [] q f a = (tt, tt)
-falling_push (p ∷ ps) q f a = (AllByRecursion-push (λ x. x < p) ps q f.0 a.0, falling_push ps q f.1 a.1)
+falling_push (p ∷ ps) q f a = (all_push (λ x. x < p) ps q f.0 a.0, falling_push ps q f.1 a.1)
 
 -- ---- the analysis
 module _ (trail : TrailState) (conflict : List Literal) (levels : IsTrail trail) (above : 0 < trail.level) where
@@ -143,7 +141,7 @@ module _ (trail : TrailState) (conflict : List Literal) (levels : IsTrail trail)
       places = a.places ++ p ∷ [];
       are = ap (λ xs. xs ++ negate (literal_at trail p) ∷ []) a.are ∙ sym (negated_push trail a.places p);
       falling = falling_push a.places p a.falling (a.below p (place_last keys p));
-      below = λ q h. AllByRecursion-push (λ x. q < x) a.places p (a.below q (place_kept keys p q h)) (max_place q h);
+      below = λ q h. all_push (λ x. q < x) a.places p (a.below q (place_kept keys p q h)) (max_place q h);
       within = λ q h. a.within q (place_kept keys p q h);
       stage = inr (found a.stage);
       follows = follows_more trail conflict holds resolved (lits ++ negated_at trail (keys ++ p ∷ [])) ((lits ++ negate (literal_at trail p) ∷ []) ++ negated_at trail keys) kept_members a.follows;
@@ -172,7 +170,7 @@ module _ (trail : TrailState) (conflict : List Literal) (levels : IsTrail trail)
               are = ap (λ ps. ps ++ p ∷ []) f.are;
               within = f.within;
               first_level = f.first_level;
-              rest_levels = AllByRecursion-push (λ q. (0 < level_at trail q) × (level_at trail q < trail.level)) f.rest p f.rest_levels
+              rest_levels = all_push (λ q. (0 < level_at trail q) × (level_at trail q < trail.level)) f.rest p f.rest_levels
                   (ltb-true 0 (level_at trail p) (sym (later now)), f.lower p (place_last keys p));
               lower = λ q h. f.lower q (place_kept keys p q h);
             }

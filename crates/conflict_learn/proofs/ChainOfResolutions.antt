@@ -1,11 +1,11 @@
 -- The clauses of a list of resolutions are a right chain, in reverse order.
 use Rattle.std.proofs.Common.{◌≡◌, ◌≢◌, refl, sym, ap, ◌∙◌, Bool, true, false, cond, not, IsTrue, IsFalse, List, [], ◌∷◌, true≢false, inl, inr}
 use Rattle.std.specs.List.{list_all}
-use Rattle.std.proofs.lemmas.Bool.{not-true}
+use Rattle.std.proofs.lemmas.Bool.{not-true, and_parts, and_from}
 use Rattle.cx_base.specs.Literals.{Literal, negate, same_literal}
 use Rattle.cx_base.proofs.LiteralLaws.{negate-negate}
 use Rattle.cx_semantics.specs.Chain.{has_literal, is_inside, negations, left, count_left, right, go_on, chain, ChainEnd, IsChain}
-use Rattle.cx_semantics.proofs.ChainLaws.{and_parts, and_both, are_one}
+use Rattle.cx_semantics.proofs.ChainLaws.{are_one}
 use Rattle.cx_semantics.proofs.Closure.{inside_itself, some_are}
 use Rattle.cx_semantics.proofs.Members.{has_at_head, has_behind, has_split}
 use Rattle.conflict_learn.specs.Learning.{Serves}
@@ -28,11 +28,11 @@ negated_in (m ∷ ms) u l h k = let q = and_parts (has_literal u (negate m)) _ h
 
 pub negations_by : (lits u : List Literal) → ((l : Literal) → has_literal lits l ≡ true → has_literal u (negate l) ≡ true) → is_inside (negations lits) u ≡ true
 negations_by [] u h = refl
-negations_by (m ∷ ms) u h = and_both _ _ (h m (has_at_head m ms)) (negations_by ms u (λ l k. h l (has_behind m ms l k)))
+negations_by (m ∷ ms) u h = and_from _ _ (h m (has_at_head m ms)) (negations_by ms u (λ l k. h l (has_behind m ms l k)))
 
 -- ---- what is left of a clause whose literals but l are negated
 kept : (b : Bool) (m : Literal) (ms : List Literal) (l : Literal) → (b ≡ true → same_literal l m ≡ true) → list_all (same_literal l) ms ≡ true → list_all (same_literal l) (cond b (m ∷ ms) ms) ≡ true
-kept true m ms l f g = and_both _ _ (f refl) g
+kept true m ms l f g = and_from _ _ (f refl) g
 kept false m ms l f g = g
 
 only_it : (u clause : List Literal) (l : Literal) → ((m : Literal) → has_literal clause m ≡ true → same_literal l m ≡ false → has_literal u (negate m) ≡ true) → list_all (same_literal l) (left u clause) ≡ true

@@ -5,11 +5,12 @@ use Rattle.std.proofs.lemmas.List.{take_more, take_all, length-map, get_or-map}
 use Rattle.std.specs.List.{AllByRecursion}
 use Rattle.cx_base.specs.Literals.{Literal, negate}
 use Rattle.cx_base.proofs.LiteralLaws.{negate-negate}
+use Rattle.cx_base.proofs.Elements.{all_push}
 use Rattle.cx_trail.specs.Sequence.{TrailState}
 use Rattle.conflict_learn.specs.Learning.{literal_at, level_at, negated_at, has_place}
 use Rattle.conflict_learn.specs.Levels.{ArePlacesOf, distinct, levels_at, second, NeverRises}
 use Rattle.conflict_learn.proofs.ChainOfResolutions.{by_cases}
-use Rattle.conflict_learn.proofs.AnalyseLaws.{AllByRecursion-push, AllByRecursion-weaker, place_pushed, place_kept, place_last, place_split, place_here, place_behind}
+use Rattle.conflict_learn.proofs.AnalyseLaws.{AllByRecursion-weaker, place_pushed, place_kept, place_last, place_split, place_here, place_behind}
 
 -- what was seen so far: the levels in order, the last one of which is the least
 pub record Seen (done : List ℕ) (back count last index : ℕ) : Type 0 where
@@ -79,7 +80,7 @@ seen_more done back count last index x s low is_new new_is = record {
   index_is = (let a = s.index_is in let b = length-append done (x ∷ []) in omega (arith, a, b));
   count_is = counted is_new new_is;
   back_is = ap (λ n. if n == 1 then x else back) s.index_is ∙ second_push done x back s.back_is;
-  least = AllByRecursion-push (λ d. x ≤ d) done x lower (omega arith);
+  least = all_push (λ d. x ≤ d) done x lower (omega arith);
   last_in = λ h. place_last done x;
   few = fewer is_new;
 }

@@ -1,20 +1,13 @@
 -- One more literal whose place is in the set, or that is skipped.
-use Rattle.std.proofs.Common.{◌≡◌, refl, sym, ap, ◌∙◌, subst, ℕ, ◌<◌, Bool, true, false, cond, not, ◌||◌, List, [], ◌∷◌, ◌++◌, Option, ◌⊎◌, inl, inr, true≢false, nat_eq, nat_cmp, zero, suc, length, get_or, arith}
+use Rattle.std.proofs.Common.{◌≡◌, refl, sym, ap, ◌∙◌, subst, ℕ, ◌<◌, Bool, true, false, cond, not, ◌||◌, List, [], ◌∷◌, ◌++◌, Option, ◌⊎◌, inl, inr, true≢false, nat_eq, nat_cmp}
 use Rattle.std.specs.BTreeSet.{BTreeSet, contains, Updates}
 use Rattle.std.specs.BTreeMap.{is_at}
 use Rattle.std.specs.Cmp.{unsigned_tied}
 use Rattle.cx_base.specs.Literals.{Literal, negate}
-use Rattle.cx_semantics.specs.Chain.{has_literal}
-use Rattle.cx_semantics.proofs.Members.{has_at_head, has_behind, has_split, has_either}
+use Rattle.cx_semantics.proofs.Members.{has_pushed}
 use Rattle.cx_trail.specs.Sequence.{TrailState}
 use Rattle.conflict_learn.specs.Learning.{literal_at, skips}
 use Rattle.conflict_learn.specs.Touching.{Touched}
-
-pub has_pushed : (xs : List Literal) (x m : Literal) → has_literal (xs ++ x ∷ []) m ≡ true → (has_literal xs m ≡ true) ⊎ (m ≡ x)
-has_pushed xs x m h = elim (has_either xs (x ∷ []) m h) [
-  | inl g ↦ inl g
-  | inr g ↦ elim (has_split x [] m g) [ inl e ↦ inr e | inr none ↦ absurd (true≢false (sym none)) ]
-]
 
 module _ (trail : TrailState) (skip : Option Literal) (below : ℕ) (old : BTreeSet ℕ) where
   pub touched_skipped : (set : BTreeSet ℕ) (done : List Literal) (x : Literal) → skips skip x ≡ true → Touched trail skip below old set done → Touched trail skip below old set (done ++ x ∷ [])
@@ -44,8 +37,3 @@ module _ (trail : TrailState) (skip : Option Literal) (below : ℕ) (old : BTree
       kept : (a b : Bool) → b ≡ true → cond a true b ≡ true
       kept true b h = refl
       kept false b h = h
-
-pub has_by_index : (xs : List Literal) (i : ℕ) (d : Literal) → i < length xs → has_literal xs (get_or xs i d) ≡ true
-has_by_index [] i d h = absurd (omega (arith, h))
-has_by_index (x ∷ xs) zero d h = has_at_head x xs
-has_by_index (x ∷ xs) (suc i) d h = has_behind x xs (get_or xs i d) (has_by_index xs i d (omega (arith, h)))

@@ -25,6 +25,21 @@ pub differ_itself : (b : Bool) → differ b b ≡ false
 differ_itself true = refl
 differ_itself false = refl
 
+pub differ_move : (a b c : Bool) → differ a (differ b c) ≡ differ b (differ a c)
+differ_move a b c = sym (differ_assoc a b c) ∙ ap (λ x. differ x c) (differ_turned a b) ∙ differ_assoc b a c
+
+-- added twice, it cancels
+pub differ_again : (a b : Bool) → differ a (differ a b) ≡ b
+differ_again a b = sym (differ_assoc a a b) ∙ ap (λ x. differ x b) (differ_itself a)
+
+pub differ_twice : (a b : Bool) → differ (differ a b) b ≡ a
+differ_twice a b = differ_assoc a b b ∙ ap (differ a) (differ_itself b) ∙ differ_false a
+
+-- a literal is true where its variable has the value that it asks for
+pub own_sign : (b : Bool) → differ (not b) b ≡ true
+own_sign true = refl
+own_sign false = refl
+
 -- two that are the same do not differ, and the other way round
 pub not_differ-same : (a b : Bool) → a ≡ b → not (differ a b) ≡ true
 not_differ-same true b h = ap (λ c. not (not c)) (sym h)

@@ -6,3 +6,4 @@ pub mod Drafting
 pub mod Parts
 pub mod Differences
 pub mod LiteralLaws
+pub mod Elements

@@ -2,7 +2,7 @@
 use Rattle.std.proofs.Common.{◌≡◌, refl, ap, ℕ, zero, suc, ◌+◌, ◌*◌, ◌/◌, ◌%◌, ◌<◌, true, false, cond, eqb, arith, ◌⊎◌, inl, inr}
 use Rattle.cx_base.specs.Literals.{Literal, code_of, literal_of_code}
 
-below_two : (m : ℕ) → m < 2 → (m ≡ 0) ⊎ (m ≡ 1)
+pub below_two : (m : ℕ) → m < 2 → (m ≡ 0) ⊎ (m ≡ 1)
 below_two zero h = inl refl
 below_two (suc zero) h = inr refl
 below_two (suc (suc m)) h = absurd (omega arith)

@@ -7,18 +7,18 @@ use Rattle.std.proofs.lemmas.List.Folds.{list_all_more}
 use Rattle.std.proofs.lemmas.Int.Digits.{digits_value_more}
 use Rattle.std.proofs.lemmas.Str.{digit_value_digit}
 use Rattle.std.proofs.lemmas.Str.Parse.{digit_from_value}
+use Rattle.std.proofs.lemmas.Bool.{and_parts, and_from}
 use Rattle.cx_semantics.specs.Tokens.{is_blank, NoBlank}
 use Rattle.cx_semantics.specs.Words.{natural, integer, is_digit}
-use Rattle.cx_semantics.proofs.ChainLaws.{and_parts, and_both}
 
 -- ---- digits
 
 pub digit_is : (c : ℕ) → digit_value c < 10 → is_digit c ≡ true
-digit_is c h = let r = digit_from_value c h in and_both _ _ (le-leb 48 c r.0) (le-leb c 57 r.1)
+digit_is c h = let r = digit_from_value c h in and_from _ _ (le-leb 48 c r.0) (le-leb c 57 r.1)
 
 pub digits_are : (ds : List ℕ) → AllDigits 10 ds → list_all is_digit ds ≡ true
 digits_are [] h = refl
-digits_are (c ∷ ds) h = and_both _ _ (digit_is c h.0) (digits_are ds h.1)
+digits_are (c ∷ ds) h = and_from _ _ (digit_is c h.0) (digits_are ds h.1)
 
 pub digit_bounds : (c : ℕ) → is_digit c ≡ true → (48 ≤ c) × (c ≤ 57)
 digit_bounds c h = let p = and_parts (nat_le 48 c) (nat_le c 57) h in (leb-true 48 c p.0, leb-true c 57 p.1)

@@ -2,6 +2,7 @@
 use Rattle.std.proofs.Common.{◌≡◌, refl, sym, ap, ◌∙◌, subst, ℕ, ℤ, pos, negsuc, Bool, true, false, cond, not, ◌||◌, nat_eq, List, [], ◌∷◌, ◌++◌, map, fold, Option, Some, None, true≢false, lit≤, inl}
 use Rattle.std.specs.List.{list_any, AllByRecursion}
 use Rattle.std.proofs.lemmas.Option.{same_Some}
+use Rattle.std.proofs.lemmas.Bool.{and_parts}
 use Rattle.cx_base.specs.Literals.{Literal}
 use Rattle.cx_base.specs.Problem.{Problem, clauses_of}
 use Rattle.cx_base.specs.declared.constraint.Constraint.TheVariants as constraint
@@ -14,7 +15,6 @@ use Rattle.cx_semantics.specs.Integers.{literals}
 use Rattle.cx_semantics.specs.Tables.{Table}
 use Rattle.cx_semantics.specs.Marked.{Marked, Moment, first_moment, after_event, KeepsFormula}
 use Rattle.cx_semantics.proofs.Lookups.{Looks, put_at, Looks-empty, Looks-insert}
-use Rattle.cx_semantics.proofs.ChainLaws.{and_parts}
 
 abbrev lists : List (List ℤ)
 lists = (pos 1 ∷ pos 2 ∷ []) ∷ (pos 1 ∷ negsuc 1 ∷ []) ∷ (negsuc 0 ∷ pos 3 ∷ []) ∷ (negsuc 0 ∷ negsuc 2 ∷ []) ∷ []

@@ -5,6 +5,7 @@ use Rattle.std.specs.Ordering.{nat_cmp, eq_by_cmp}
 use Rattle.std.specs.Cmp.{nat_cmp_total}
 use Rattle.std.specs.FinMap as map_
 use Rattle.std.proofs.lemmas.Option.{same_Some}
+use Rattle.std.proofs.lemmas.Bool.{and_parts, and_from}
 use Rattle.cx_base.specs.Literals.{Literal, literal_true}
 use Rattle.cx_base.specs.Problem.{Problem, Meets, Unmet, clause_met, parity_met, constraint_met, clauses_of, parities_of}
 use Rattle.cx_base.specs.Parity.{normal_form}
@@ -21,7 +22,7 @@ use Rattle.cx_semantics.specs.Tables.{Table, Tables, get, named, numbered_from, 
 use Rattle.cx_semantics.specs.Judging.{IsRight, Runs, Calculus, AcceptedAt}
 use Rattle.cx_semantics.specs.ProofRules.{is_not_unit, is_hints_end, IsSum, proof_calculus, after_step, adds_empty_clause, is_empty, Accepted}
 use Rattle.cx_semantics.specs.LogRules.{is_original, log_calculus, after_log_step, derives_empty_clause, LogRight}
-use Rattle.cx_semantics.proofs.ChainLaws.{and_parts, and_both, chained_is_met, are_one}
+use Rattle.cx_semantics.proofs.ChainLaws.{chained_is_met, are_one}
 
 -- ---- tables whose lists are met
 
@@ -39,7 +40,7 @@ met_named : (met : List Literal → Bool) (table : Table) → AllMet met table �
 met_named met table h [] = refl
 met_named met table h (n ∷ ids) = elim (get table n) as (λ o. get table n ≡ o → list_all met (cons_option o (named table ids)) ≡ true) [
   | None ↦ λ e. met_named met table h ids
-  | Some lits ↦ λ e. and_both _ _ (h n lits e) (met_named met table h ids)
+  | Some lits ↦ λ e. and_from _ _ (h n lits e) (met_named met table h ids)
 ] refl
 
 met_insert : (met : List Literal → Bool) (table : Table) (n : ℕ) (lits : List Literal) → AllMet met table → met lits ≡ true → AllMet met (map_.insert table n lits)
@@ -72,13 +73,13 @@ met_numbered met n (lits ∷ lists) h =
 clauses_met : (v : List Bool) (items : List Constraint) → list_all (constraint_met v) items ≡ true → list_all (clause_met v) (clauses_of items) ≡ true
 unfolding clauses_of
 clauses_met v [] h = refl
-clauses_met v (constraint.Clause lits ∷ items) h = let p = and_parts (clause_met v lits) _ h in and_both _ _ p.0 (clauses_met v items p.1)
+clauses_met v (constraint.Clause lits ∷ items) h = let p = and_parts (clause_met v lits) _ h in and_from _ _ p.0 (clauses_met v items p.1)
 clauses_met v (constraint.Parity lits ∷ items) h = clauses_met v items (and_parts (parity_met v lits) _ h).1
 
-parities_met : (v : List Bool) (items : List Constraint) → list_all (constraint_met v) items ≡ true → list_all (parity_met v) (parities_of items) ≡ true
+pub parities_met : (v : List Bool) (items : List Constraint) → list_all (constraint_met v) items ≡ true → list_all (parity_met v) (parities_of items) ≡ true
 unfolding parities_of
 parities_met v [] h = refl
-parities_met v (constraint.Parity lits ∷ items) h = let p = and_parts (parity_met v lits) _ h in and_both _ _ p.0 (parities_met v items p.1)
+parities_met v (constraint.Parity lits ∷ items) h = let p = and_parts (parity_met v lits) _ h in and_from _ _ p.0 (parities_met v items p.1)
 parities_met v (constraint.Clause lits ∷ items) h = parities_met v items (and_parts (clause_met v lits) _ h).1
 
 pub first_tables_met : (formula : Problem) (v : List Bool) → Meets formula v → TablesMet v (first_tables formula)
@@ -155,7 +156,7 @@ original_parity_met v lits parities (k, p, l, is, e) h = same_parity v p lits e 
 
 -- ---- right steps keep it
 
-chain_is_right : (c : ChainEnd) → is_not_unit c ≡ false → is_hints_end c ≡ false → c ≡ right
+pub chain_is_right : (c : ChainEnd) → is_not_unit c ≡ false → is_hints_end c ≡ false → c ≡ right
 chain_is_right right h k = refl
 chain_is_right not_unit h k = absurd (true≢false h)
 chain_is_right hints_end h k = absurd (true≢false k)

@@ -11,13 +11,14 @@ use Rattle.cx_base.specs.Literals.{Literal}
 use Rattle.cx_base.specs.Problem.{Problem, clauses_of, parities_of}
 use Rattle.cx_semantics.specs.LogRules.{is_original, IsOriginalParity}
 use Rattle.cx_base.specs.Parity.{normal_form}
+use Rattle.cx_base.proofs.Elements.{all_push}
 use Rattle.cx_semantics.specs.Chain.{same_literals}
 use Rattle.proof_rules.specs.Contents.{IsClauseContent, IsParityContent}
 use Rattle.proof_rules.proofs.ContentLaws.{same_by_content, content_of_same, form_by_parity_content, content_of_same_form}
 use Rattle.fratx_elab.specs.Elaborates.{IsLeast, IsClauseNumber, IsParityNumber}
 use Rattle.fratx_elab.specs.declared.originals.Originals.{Originals}
 use Rattle.fratx_elab.specs.Contents.{by_list, PutsFirst, IsIndexOf, StandsFor}
-use Rattle.fratx_elab.proofs.Numbers.{all_push, none_pass, none_any}
+use Rattle.fratx_elab.proofs.Numbers.{none_pass, none_any}
 
 joined : (xs ys zs : List (List Literal)) → (xs ++ ys) ++ zs ≡ xs ++ (ys ++ zs)
 joined [] ys zs = refl

@@ -1,6 +1,5 @@
 mod TieLaws
 mod Transfers
-mod NameEntries
 mod Numbers
 mod Taking
 mod Texts

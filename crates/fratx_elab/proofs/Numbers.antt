@@ -8,14 +8,11 @@ use Rattle.cx_base.specs.Problem.{clause_in, parity_in, clauses_of, parities_of}
 use Rattle.cx_base.specs.Borrowed.{constraint_at}
 use Rattle.cx_base.specs.declared.constraint.Constraint.{Constraint}
 use Rattle.cx_base.specs.declared.constraint.Constraint.TheVariants.{Clause, Parity}
+use Rattle.cx_base.proofs.Elements.{all_push}
 use Rattle.cx_semantics.specs.Tables.{get, numbered_from}
 use Rattle.cx_semantics.proofs.Lookups.{lookup, Looks-numbered_from}
 use Rattle.fratx_elab.specs.Elaborates.{IsLeast}
 use Rattle.fratx_elab.proofs.TieLaws.{lookup_at}
-
-pub all_push : (P : List Literal → Type 0) (lists : List (List Literal)) (it : List Literal) → AllByRecursion P lists → P it → AllByRecursion P (lists ++ it ∷ [])
-all_push P [] it h k = (k, tt)
-all_push P (x ∷ lists) it h k = (h.0, all_push P lists it h.1 k)
 
 module _ (kind : Constraint → Option (List Literal)) (cs : List Constraint) (place : ℕ) (c : Constraint) (within : place < length cs) (is : c ≡ constraint_at cs place) where
   next : take (place + 1) cs ≡ take place cs ++ c ∷ []

@@ -3,6 +3,7 @@ use Rattle.std.proofs.Common.{◌≡◌, refl, sym, ap, ◌∙◌, subst, ℕ, �
 use Rattle.std.specs.List.{list_any, list_all, cons_option}
 use Rattle.std.specs.Bool.{⊤}
 use Rattle.std.specs.FinSet as set
+use Rattle.std.proofs.lemmas.Bool.{and_parts}
 use Rattle.cx_base.specs.Literals.{Literal, same_literal}
 use Rattle.cx_base.specs.Problem.{clause_met, parity_met}
 use Rattle.cx_base.specs.Parity.{normal_form, sum_of}
@@ -14,7 +15,7 @@ use Rattle.cx_semantics.specs.LogRules.{AreLive}
 use Rattle.cx_semantics.specs.ProofRules.{hinting, summing, all_met, clause_of_parity, parity_of_clauses}
 use Rattle.cx_semantics.specs.Tables.{Table, get, is_live, named, numbered_from}
 use Rattle.cx_semantics.proofs.SameSets.{AllSame, chain_stays_right}
-use Rattle.cx_semantics.proofs.ChainLaws.{and_parts, are_one}
+use Rattle.cx_semantics.proofs.ChainLaws.{are_one}
 use Rattle.cx_semantics.proofs.Closure.{inside_itself}
 use Rattle.cx_semantics.proofs.Soundness.{same_clause, roof, below_roof}
 use Rattle.proof_rules.specs.LiteralSets.{HaveSame}

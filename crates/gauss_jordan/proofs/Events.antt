@@ -10,8 +10,7 @@ use Rattle.cx_base.specs.Literals.{Literal, differ, value_of}
 use Rattle.cx_base.specs.Problem.{AreWithin, parity_met}
 use Rattle.cx_base.specs.Parity.{NormalForm, normal_form}
 use Rattle.cx_base.proofs.ParityLaws.{Sums, differ_false}
-use Rattle.cx_base.proofs.Differences.{differ_itself}
-use Rattle.gf2_rows.proofs.Words.{differ_again}
+use Rattle.cx_base.proofs.Differences.{differ_itself, differ_again, own_sign}
 use Rattle.cx_semantics.specs.Chain.{has_literal}
 use Rattle.cx_semantics.specs.Forced.{Solves, Forced}
 use Rattle.gf2_rows.specs.Bits.{parity}
@@ -26,7 +25,7 @@ use Rattle.parity_engine.specs.declared.state.Held.{Held}
 use Rattle.parity_engine.specs.State.{State, known, held_at, is_unassigned, IsImplied, IsBroken, AreRising, AgreesWith}
 use Rattle.gauss_jordan.specs.System.{just_value, part, has_at, equation_at, has_term_at, total_at, right_at, IsSystemOf, filled, IsWhole, IsUnit, SilentFromQuiet, ImpliedFromUnit, BrokenFromWhole}
 use Rattle.gauss_jordan.proofs.Quiet.{open_from_quiet}
-use Rattle.parity_engine.proofs.Known.{own_sign, sign_from, known_true, agrees_known, has_known}
+use Rattle.parity_engine.proofs.Known.{sign_from, known_true, agrees_known, has_known}
 use Rattle.gauss_jordan.proofs.Resized.{resized, length-resized, resized-at, all_met-resized, form_met, form_missed}
 
 -- ---- the part

@@ -3,13 +3,12 @@ use Rattle.std.proofs.Common.{zero, suc, ◌≡◌, ◌≢◌, ℕ, ◌-◌, ◌
 use Rattle.std.proofs.Math.ListN.{get_or-map, length-set, get_or-eq_default}
 use Rattle.std.proofs.lemmas.List.{length-map, get_or-set_same, get_or-set_other, ext_get_or}
 use Rattle.std.proofs.lemmas.Option.{same_Some}
-use Rattle.std.proofs.lemmas.Bool.{cases_eq, cases_lt, le-leb, lt-leb, leb-true, not-true}
+use Rattle.std.proofs.lemmas.Bool.{cases_eq, cases_lt, le-leb, lt-leb, leb-true, not-true, and_parts}
 use Rattle.std.specs.Prelude.{replicate, ◌+◌}
 use Rattle.std.proofs.lemmas.Simd.{length-replicate}
 use Rattle.std.specs.List.{AllByRecursion}
 use Rattle.cx_base.specs.Literals.{Literal}
 use Rattle.cx_base.specs.Problem.{AreWithin}
-use Rattle.cx_semantics.proofs.ChainLaws.{and_parts}
 use Rattle.parity_engine.specs.State.{fresh}
 use Rattle.parity_engine.specs.declared.state.Held.{Held}
 use Rattle.parity_engine.specs.declared.state.Mood.{Mood}

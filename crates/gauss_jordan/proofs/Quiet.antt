@@ -5,7 +5,7 @@ use Rattle.std.proofs.Math.ListN.{length-set, get_or-map}
 use Rattle.std.proofs.lemmas.Bool.{cases_eq}
 use Rattle.cx_base.specs.Literals.{differ}
 use Rattle.cx_base.proofs.ParityLaws.{differ_false}
-use Rattle.gf2_rows.proofs.Words.{differ_twice}
+use Rattle.cx_base.proofs.Differences.{differ_twice}
 use Rattle.gauss_jordan.specs.Rows.{value_at, part_at, Agrees, IsLinear, IsFinished, IsUnfinished, IsQuiet, IsSolution, IsOpen}
 
 -- two bits that differ

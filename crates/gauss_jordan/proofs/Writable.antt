@@ -11,6 +11,7 @@ use Rattle.cx_base.specs.Literals.{Literal, differ, value_of}
 use Rattle.cx_base.specs.Problem.{parity_met}
 use Rattle.cx_base.specs.Parity.{NormalForm, normal_form}
 use Rattle.cx_base.proofs.Odd.{parity_met-cons}
+use Rattle.cx_base.proofs.Differences.{differ_again}
 use Rattle.parity_engine.specs.Written.{IsWritable}
 use Rattle.parity_engine.proofs.Forms.{same_form}
 use Rattle.parity_engine.proofs.Literals.{contains_parity, right_parity}
@@ -23,13 +24,9 @@ use Rattle.gauss_jordan.proofs.Events.{known_agrees, filled_agrees}
 both_signs : List Literal
 both_signs = record { variable = 1; negative = false } ∷ record { variable = 1; negative = true } ∷ []
 
-cancels : (b : Bool) → differ b (differ b false) ≡ false
-cancels true = refl
-cancels false = refl
-
 no_variable : (y : ℕ) → set.contains (normal_form both_signs).variables y ≡ false
 unfolding both_signs
-no_variable y = contains_parity both_signs y ∙ cancels _
+no_variable y = contains_parity both_signs y ∙ differ_again _ false
 
 right_zero : (normal_form both_signs).right_side ≡ false
 unfolding both_signs

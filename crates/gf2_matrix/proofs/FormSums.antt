@@ -4,13 +4,13 @@ use Rattle.std.specs.List.{list_all, AllByRecursion}
 use Rattle.std.specs.Ordering.{nat_cmp}
 use Rattle.std.specs.Simd.Lanes.{zip2}
 use Rattle.std.specs.FinSet as set
+use Rattle.std.proofs.lemmas.Bool.{and_parts}
 use Rattle.cx_base.specs.Literals.{Literal, differ, value_of}
 use Rattle.cx_base.specs.Problem.{AreWithin, parity_met}
 use Rattle.cx_base.specs.Parity.{NormalForm, normal_form, sum_of}
 use Rattle.cx_base.proofs.ParityLaws.{contains-symmetric_difference, sum_below, sum_of_members, Sums, AllSum, AreBelow, Sums-from_met, Sums-sum_of}
-use Rattle.cx_semantics.proofs.ChainLaws.{and_parts}
+use Rattle.cx_base.proofs.Differences.{differ_move}
 use Rattle.gf2_rows.specs.Bits.{parity}
-use Rattle.gf2_rows.proofs.Words.{differ_move}
 use Rattle.parity_engine.specs.Equations.{Equation, form_of, parity_number, numbered, sum_of_numbers}
 use Rattle.gf2_matrix.specs.Totals.{total, MeetsEquation}
 use Rattle.parity_engine.proofs.Forms.{contains-form, contains-form_zero}
@@ -91,10 +91,6 @@ pub all-at : {X : Type 0} (p : X → Bool) (xs : List X) (k : ℕ) (d : X) → l
 all-at p [] k d all lt = absurd (omega arith)
 all-at p (x ∷ xs) zero d all lt = (and_parts (p x) (list_all p xs) all).0
 all-at p (x ∷ xs) (suc k) d all lt = all-at p xs k d ((and_parts (p x) (list_all p xs) all).1) (omega arith)
-
-pub each-all : {X : Type 0} (p : X → Bool) (xs : List X) (d : X) → ((k : ℕ) → k < length xs → p (get_or xs k d) ≡ true) → list_all p xs ≡ true
-each-all p [] d each = refl
-each-all p (x ∷ xs) d each = ap (λ b. b && list_all p xs) (each 0 (omega arith)) ∙ each-all p xs d (λ k lt. each (suc k) (omega arith))
 
 pub every-at : {X : Type 0} (P : X → Type 0) (xs : List X) (k : ℕ) (d : X) → AllByRecursion P xs → k < length xs → P (get_or xs k d)
 every-at P [] k d all lt = absurd (omega arith)

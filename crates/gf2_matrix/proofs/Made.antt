@@ -7,6 +7,7 @@ use Rattle.std.proofs.Math.Seq.{get_or-append_seam}
 use Rattle.std.proofs.lemmas.List.{length-map, get_or-map as get_or-map-within, take_all, get_or_append_left}
 use Rattle.std.proofs.lemmas.List.FromFn.{get_or-map-range_with_len, length-map-range_with_len}
 use Rattle.std.proofs.lemmas.Bool.{cases_eq, cases_lt, eq-eqb, ne_eqb, eqb-true, lt-ltb, le-ltb, or_parts}
+use Rattle.std.proofs.lemmas.List.Recursion.{and_from_places}
 use Rattle.cx_base.specs.declared.literal.TheConstants.{MAX_VARIABLE}
 use Rattle.cx_base.specs.Literals.{Literal, differ}
 use Rattle.cx_base.specs.Problem.{AreWithin, parity_met}
@@ -24,7 +25,7 @@ use Rattle.parity_engine.specs.Views.{words_for}
 use Rattle.gf2_matrix.specs.Packed.{unpacked, content, IsMatrix}
 use Rattle.gf2_matrix.specs.Made.{is_flipped, IsMade, IsEmptyRow, IsRowOf, AreRowsOf, IsMadeOf, occurs_in}
 use Rattle.parity_engine.proofs.Forms.{contains-form, contains-form_zero, same_form, same_from_one, numbers-at}
-use Rattle.gf2_matrix.proofs.FormSums.{Sums_from_meets, below_from_within, each-all, every-at, contains-sum_of_numbers, right-sum_of_numbers}
+use Rattle.gf2_matrix.proofs.FormSums.{Sums_from_meets, below_from_within, every-at, contains-sum_of_numbers, right-sum_of_numbers}
 use Rattle.parity_engine.proofs.Literals.{contains_parity, right_parity}
 use Rattle.gf2_matrix.proofs.Marks.{parity_taken}
 use Rattle.parity_engine.proofs.Columns.{columns_rise, none_below}
@@ -343,7 +344,7 @@ module _ (vars : ℕ) (given : List (List Literal)) (columns : List ℕ) (rows :
             subst (λ row. MeetsEquation v (equation row)) (sym (row_seen k (omega arith)))
             (sound_from_sum vars given (seen k) v (long_seen k).0 (long_seen k).1 made.within (sum_seen k (omega arith)) long met);
         complete = λ v long met.
-            each-all (parity_met v) given []
+            and_from_places (list_all (parity_met v)) (parity_met v) refl (λ _ _. refl) given []
             (λ k lt. met_seen v long k lt (subst (λ row. MeetsEquation v (equation row)) (row_seen k lt) (met k (omega arith))));
       }
 

@@ -15,8 +15,8 @@ use Rattle.gf2_matrix.proofs.Products.{products_added}
 use Rattle.parity_engine.proofs.Forms.{contains-form, contains-form_zero, same_form}
 use Rattle.gf2_matrix.proofs.FormSums.{contains-sum_of_numbers, right-sum_of_numbers, meets_from_Sums, AreNumbers, sum_met}
 use Rattle.cx_base.specs.Literals.{Literal, differ}
+use Rattle.cx_base.proofs.Differences.{differ_twice}
 use Rattle.gf2_rows.specs.Bits.{parity}
-use Rattle.gf2_rows.proofs.Words.{differ_twice}
 use Rattle.gf2_matrix.specs.Content.{SourcedRow, Content, no_row, row_at, equation, form, has, source_numbers, added, pivoted_row, pivoted, IsLong, IsOfGiven, IsInColumns}
 
 -- ---- sums over the set bits

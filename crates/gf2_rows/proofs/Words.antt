@@ -17,7 +17,7 @@ use Rattle.std.proofs.Math.Nat.{mod-eq_of_lt}
 use Rattle.std.proofs.Math.Pow.{pow-lt}
 use Rattle.std.proofs.lemmas.Bool.{eq-eqb, ne_eqb, cases_eq, cases_lt}
 use Rattle.cx_base.specs.Literals.{differ}
-use Rattle.cx_base.proofs.Differences.{differ_assoc, differ_turned, differ_itself}
+use Rattle.cx_base.proofs.Differences.{differ_assoc, differ_turned}
 use Rattle.cx_base.proofs.ParityLaws.{differ_false, differ_swap}
 use Rattle.gf2_rows.specs.Bits.{parity, word_bit, bit_of, bits_of, is_skipped, is_outside}
 
@@ -68,15 +68,6 @@ range_shift f a b (suc n) =
     rw e (ap (λ xs. f (a + b) ∷ xs) (range_shift f a (b + 1) n))
 
 -- ---- sums modulo two
-pub differ_move : (a b c : Bool) → differ a (differ b c) ≡ differ b (differ a c)
-differ_move a b c = sym (differ_assoc a b c) ∙ ap (λ x. differ x c) (differ_turned a b) ∙ differ_assoc b a c
-
--- added twice, it cancels
-pub differ_again : (a b : Bool) → differ a (differ a b) ≡ b
-differ_again a b = sym (differ_assoc a a b) ∙ ap (λ x. differ x b) (differ_itself a)
-
-pub differ_twice : (a b : Bool) → differ (differ a b) b ≡ a
-differ_twice a b = differ_assoc a b b ∙ ap (differ a) (differ_itself b) ∙ differ_false a
 
 pub parity-append : (xs ys : List Bool) → parity (xs ++ ys) ≡ differ (parity xs) (parity ys)
 parity-append [] ys = refl

@@ -1,5 +1,5 @@
 -- Rising columns, and where variables stand among them.
-use Rattle.std.proofs.Common.{◌≡◌, ◌≢◌, ℕ, ◌+◌, ◌-◌, ◌<◌, ◌≤◌, zero, suc, Bool, true, false, ◌||◌, cond, eqb, nat_eq, List, [], ◌∷◌, ◌++◌, map, length, get_or, take, refl, sym, ap, ◌∙◌, arith, inl, inr}
+use Rattle.std.proofs.Common.{◌≡◌, ◌≢◌, ℕ, ◌+◌, ◌-◌, ◌<◌, ◌≤◌, zero, suc, Bool, true, false, ◌||◌, cond, eqb, nat_eq, List, [], ◌∷◌, ◌++◌, map, length, get_or, take, refl, sym, ap, ◌∙◌, arith, inl, inr, true≢false}
 use Rattle.std.specs.List.{list_any}
 use Rattle.std.specs.FinSet as set
 use Rattle.std.proofs.Math.Seq.{take-suc}
@@ -50,6 +50,9 @@ rises_along least (c ∷ cs) (suc i) (suc j) rise le lt = rises_along (c + 1) cs
 pub none_below : (least : ℕ) (cs : List ℕ) (y : ℕ) → Rises least cs → y < least → list_any (λ z. nat_eq z y) cs ≡ false
 none_below least [] y rise lt = refl
 none_below least (c ∷ cs) y rise lt = let low = rise.0 in (λ i. ne_eqb c y (λ e. omega arith) i || none_below (c + 1) cs y rise.1 (omega arith) i)
+
+pub rising_low : (least : ℕ) (cs : List ℕ) (y : ℕ) → Rises least cs → list_any (λ z. nat_eq z y) cs ≡ true → least ≤ y
+rising_low least cs y rise h = elim (cases_lt y least) [ inl lt ↦ absurd (true≢false (sym h ∙ none_below least cs y rise lt)) | inr le ↦ le ]
 
 rises_lower : (low high : ℕ) (xs : List ℕ) → low ≤ high → Rises high xs → Rises low xs
 rises_lower low high [] le h = tt

@@ -8,19 +8,13 @@ use Rattle.cx_base.specs.Problem.{clause_met, parity_met}
 use Rattle.cx_base.specs.Parity.{normal_form}
 use Rattle.cx_base.proofs.Differences.{not_differ-same, same-not_differ}
 use Rattle.cx_semantics.specs.Chain.{has_literal}
-use Rattle.cx_semantics.proofs.ChainLaws.{are_one, same_literal-itself, literal_true-negate}
-use Rattle.cx_semantics.proofs.Closure.{or_right}
+use Rattle.cx_semantics.proofs.ChainLaws.{are_one, literal_true-negate}
+use Rattle.cx_semantics.proofs.Members.{has_at_head, has_behind}
 use Rattle.proof_rules.specs.LiteralSets.{HaveSame, ArePositive}
 use Rattle.proof_rules.specs.Assignments.{Lists, odd_sum, positive_of, negative_of, has_opposites, forced_sum, Decided}
 use Rattle.proof_rules.proofs.ParityValues.{values_by, value_of-values_by, values-values_by, AreWithin, top, within_top, parity_met-list, flip_at, odd_sum-flipped}
 
 -- ---- literals of a clause
-
-pub has_first : (l : Literal) (lits : List Literal) → has_literal (l ∷ lits) l ≡ true
-has_first l lits = ap (λ b. b || has_literal lits l) (same_literal-itself l)
-
-pub has_later : (l m : Literal) (lits : List Literal) → has_literal lits l ≡ true → has_literal (m ∷ lits) l ≡ true
-has_later l m lits h = or_right (same_literal l m) _ h
 
 -- a literal that is true meets the clause
 pub met_by : (v : List Bool) (lits : List Literal) (l : Literal) → has_literal lits l ≡ true → literal_true v l ≡ true → clause_met v lits ≡ true
@@ -34,7 +28,7 @@ met_by v (m ∷ lits) l h t = go (or_cases (same_literal l m) (has_literal lits 
 -- a clause is not met where each of its literals is false
 pub unmet_by : (v : List Bool) (lits : List Literal) → ((l : Literal) → has_literal lits l ≡ true → literal_true v l ≡ false) → clause_met v lits ≡ false
 unmet_by v [] h = refl
-unmet_by v (m ∷ lits) h = ap (λ b. b || clause_met v lits) (h m (has_first m lits)) ∙ unmet_by v lits (λ l k. h l (has_later l m lits k))
+unmet_by v (m ∷ lits) h = ap (λ b. b || clause_met v lits) (h m (has_at_head m lits)) ∙ unmet_by v lits (λ l k. h l (has_behind m lits l k))
 
 -- ---- a clause with a literal and its negation
 
@@ -44,8 +38,8 @@ opposite_in others (m ∷ lits) h = go (or_cases (has_literal others (negate m))
   where
     go : (has_literal others (negate m) ≡ true) ⊎ (has_opposites others lits ≡ true) → (has_opposites others lits ≡ true → (l : Literal) × (has_literal lits l ≡ true) × (has_literal others (negate l) ≡ true))
         → (l : Literal) × (has_literal (m ∷ lits) l ≡ true) × (has_literal others (negate l) ≡ true)
-    go (inl e) rest = (m, has_first m lits, e)
-    go (inr e) rest = let r = rest e in (r.0, has_later r.0 m lits r.1, r.2)
+    go (inl e) rest = (m, has_at_head m lits, e)
+    go (inr e) rest = let r = rest e in (r.0, has_behind m lits r.0 r.1, r.2)
 
 one_of_two : (b : Bool) → (b ≡ true) ⊎ (not b ≡ true)
 one_of_two true = inl refl

@@ -5,7 +5,7 @@ use Rattle.std.specs.FinSet as set
 use Rattle.std.specs.Ordering.{nat_cmp}
 use Rattle.std.proofs.Math.Nat.{pow-succ', mod-eq_of_lt, mul-le-mul_left}
 use Rattle.std.proofs.Math.Pow.{pow_mono}
-use Rattle.std.proofs.lemmas.Bool.{or_cases, or_parts}
+use Rattle.std.proofs.lemmas.Bool.{or_cases, or_parts, and_parts, and_from}
 use Rattle.cx_base.specs.Literals.{Literal, differ, value_of}
 use Rattle.cx_base.specs.Problem.{clause_met, parity_met}
 use Rattle.cx_base.specs.Parity.{normal_form}
@@ -14,12 +14,12 @@ use Rattle.cx_semantics.specs.ProofRules.{all_met, parity_of_clauses}
 use Rattle.cx_semantics.specs.Judging.{AllHold, FirstFailure}
 use Rattle.cx_semantics.specs.declared.steps.Cause.TheVariants as causes
 use Rattle.cx_semantics.specs.Tables.{Table, get, named}
-use Rattle.cx_semantics.proofs.ChainLaws.{and_parts, and_both}
 use Rattle.proof_rules.specs.Assignments.{Lists, odd_sum}
 use Rattle.proof_rules.specs.LiteralSets.{HaveSame}
 use Rattle.proof_rules.specs.Exclusions.{Fits, excluded, is_hit, all_excluded, Excludes, is_outside}
 use Rattle.proof_rules.proofs.ParityValues.{values_by, values-values_by, top, within_top, parity_met-list}
 use Rattle.proof_rules.proofs.ExclusionLaws.{get_or-excluded, is_hit-same, place_of, place_of-below, ForEach, for_each-map, falsified, is_hit-place, falsified-unmet, not_falsified-met, inside_by_set, marked_by_all, escape, assigned, map-assigned}
+use Rattle.proof_rules.proofs.LiteralLaws.{or_swap}
 
 -- ---- clauses and assignments
 
@@ -38,7 +38,7 @@ none_falsified v xs variables same (c ∷ clauses) o m h =
 -- values that no clause excludes meet all of them
 all_met_by : (v : List Bool) (xs : List ℕ) (clauses : List (List Literal)) → list_any (λ c. falsified c xs (map (value_of v) xs)) clauses ≡ false → all_met clause_met clauses v ≡ true
 all_met_by v xs [] h = refl
-all_met_by v xs (c ∷ clauses) h = let p = or_parts (falsified c xs (map (value_of v) xs)) _ h in and_both _ _ (not_falsified-met v c xs p.0) (all_met_by v xs clauses p.1)
+all_met_by v xs (c ∷ clauses) h = let p = or_parts (falsified c xs (map (value_of v) xs)) _ h in and_from _ _ (not_falsified-met v c xs p.0) (all_met_by v xs clauses p.1)
 
 not_met : (a b : Bool) → not (differ a b) ≡ false → differ b a ≡ true
 not_met true true h = absurd (true≢false h)
@@ -107,11 +107,6 @@ reach_of_power xs n h = fits_power xs 1 n (omega arith)
 
 -- ---- one hint at a time
 
-or_moved : (a b c : Bool) → ((a || b) || c) ≡ (b || (a || c))
-or_moved true true c = refl
-or_moved true false c = refl
-or_moved false b c = refl
-
 abbrev pub marks : List ℕ → ℕ → List (List Literal) → Bool
 marks xs j clauses = list_any (λ clause. is_hit clause xs 0 1 j) clauses
 
@@ -126,7 +121,7 @@ pub one_more : (set clause : List Literal) → HaveSame set clause → (xs : Lis
     → (get_or new j false || rest) ≡ (get_or old j false || (is_hit clause xs 0 1 j || rest))
 one_more set clause same xs j old new rest e h =
     ap (λ t. get_or t j false || rest) e ∙ ap (λ b. b || rest) (get_or-excluded set xs 0 1 old j h ∙ ap (λ b. b || get_or old j false) (is_hit-same set clause same xs 0 1 j))
-    ∙ or_moved (is_hit clause xs 0 1 j) (get_or old j false) rest
+    ∙ or_swap (is_hit clause xs 0 1 j) (get_or old j false) rest
 
 -- ---- the rules in order
 

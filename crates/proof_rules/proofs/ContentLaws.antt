@@ -6,14 +6,14 @@ use Rattle.std.specs.Ordering.{nat_cmp}
 use Rattle.std.specs.Cmp.{nat_cmp_total, unsigned_tied}
 use Rattle.std.specs.FinSet as set
 use Rattle.std.proofs.lemmas.Map.Lookups.{btree_set_from_contains, exact_unsigned}
+use Rattle.std.proofs.lemmas.Bool.{and_from}
 use Rattle.cx_base.specs.Literals.{Literal, code_of, literal_of_code, same_literal}
 use Rattle.cx_base.specs.Codes.{code_of-literal_of_code, literal_of_code-code_of}
 use Rattle.cx_base.specs.Parity.{NormalForm, normal_form}
 use Rattle.cx_base.proofs.Differences.{same_members}
 use Rattle.cx_base.specs.contracts.literal.LitOrd.TheImpl.{cmp-value}
 use Rattle.cx_semantics.specs.Chain.{has_literal, is_inside, same_literals}
-use Rattle.cx_semantics.proofs.ChainLaws.{and_both, same_literal-itself}
-use Rattle.cx_semantics.proofs.Closure.{or_right}
+use Rattle.cx_semantics.proofs.ChainLaws.{same_literal-itself}
 use Rattle.cx_semantics.proofs.SameSets.{Same-by_test}
 use Rattle.cx_semantics.proofs.SameSets.{inside_by}
 use Rattle.proof_rules.specs.LiteralSets.{HaveSame}
@@ -69,7 +69,7 @@ clause_content_once lits q k g h = rising_once _ q k g h
 pub same_by_content : (a b : List Literal) (q : List ℕ) → IsClauseContent a q → IsClauseContent b q → same_literals a b ≡ true
 same_by_content a b q g h =
     let same = same_of_codes a b (sym g.same ∙ h.same) in
-    and_both (is_inside a b) (is_inside b a) (inside_by a b (λ l k. sym (same l) ∙ k)) (inside_by b a (λ l k. same l ∙ k))
+    and_from (is_inside a b) (is_inside b a) (inside_by a b (λ l k. sym (same l) ∙ k)) (inside_by b a (λ l k. same l ∙ k))
 
 pub content_of_same : (a b : List Literal) (q : List ℕ) → same_literals a b ≡ true → IsClauseContent a q → IsClauseContent b q
 content_of_same a b q h g = record { same = g.same ∙ codes_of_same a b (Same-by_test a b h); rising = g.rising }

@@ -7,11 +7,13 @@ use Rattle.std.proofs.Math.Nat.{add-mul-mod_self_left, mod-eq_of_lt}
 use Rattle.std.proofs.Math.ListN.{length-set}
 use Rattle.std.proofs.lemmas.List.{get_or-set_other}
 use Rattle.std.proofs.lemmas.Grind.{get_or-set_at}
-use Rattle.std.proofs.lemmas.Bool.{or_cases, false_from_ne_true, not-true}
+use Rattle.std.proofs.lemmas.Bool.{or_cases, false_from_ne_true, not-true, and_parts}
+use Rattle.std.proofs.lemmas.List.Folds.{or-false}
 use Rattle.cx_base.specs.Literals.{Literal, differ, same_literal, literal_true, value_of}
 use Rattle.cx_base.specs.Problem.{clause_met}
+use Rattle.cx_base.proofs.Differences.{own_sign}
 use Rattle.cx_semantics.specs.Chain.{has_literal}
-use Rattle.cx_semantics.proofs.ChainLaws.{and_parts, are_one}
+use Rattle.cx_semantics.proofs.ChainLaws.{are_one}
 use Rattle.proof_rules.specs.LiteralSets.{HaveSame}
 use Rattle.proof_rules.specs.Assignments.{AreDistinct, odd_sum, positive_of, negative_of}
 use Rattle.proof_rules.specs.Exclusions.{Fits, excluded, is_hit, all_excluded, is_outside}
@@ -152,10 +154,6 @@ and_false : (a : Bool) → (a && false) ≡ false
 and_false true = refl
 and_false false = refl
 
-or_false : (a : Bool) → (a || false) ≡ a
-or_false true = refl
-or_false false = refl
-
 pub is_hit-place : (clause : List Literal) (xs : List ℕ) (bits : List Bool) (place step : ℕ) → ForEach xs bits → place < step → is_hit clause xs place step (place_of place step bits) ≡ falsified clause xs bits
 is_hit-place clause [] [] place step e h = eq-eqb place place refl
 is_hit-place clause [] (b ∷ bits) place step e h = absurd e
@@ -164,7 +162,7 @@ is_hit-place clause (x ∷ xs) (false ∷ bits) place step e h =
     let j = place_of place (2 * step) bits in
     let apart : is_hit clause xs (place + step) (2 * step) j ≡ false = false_from_ne_true _ (λ k. halves_apart place step j h (place_of-steps bits place (2 * step)) (hit-steps clause xs (place + step) (2 * step) j k)) in
     (λ i. (not (has_literal clause (negative_of x)) && is_hit-place clause xs bits place (2 * step) e (omega arith) i) || (not (has_literal clause (positive_of x)) && apart i))
-    ∙ ap (λ b. (not (has_literal clause (negative_of x)) && falsified clause xs bits) || b) (and_false (not (has_literal clause (positive_of x)))) ∙ or_false _
+    ∙ ap (λ b. (not (has_literal clause (negative_of x)) && falsified clause xs bits) || b) (and_false (not (has_literal clause (positive_of x)))) ∙ or-false _
 is_hit-place clause (x ∷ xs) (true ∷ bits) place step e h =
     let j = place_of (place + step) (2 * step) bits in
     let apart : is_hit clause xs place (2 * step) j ≡ false = false_from_ne_true _ (λ k. halves_apart place step j h (hit-steps clause xs place (2 * step) j k) (place_of-steps bits (place + step) (2 * step))) in
@@ -175,10 +173,6 @@ is_hit-place clause (x ∷ xs) (true ∷ bits) place step e h =
 
 abbrev true_at : ℕ → Bool → Literal
 true_at x b = record { variable = x; negative = not b }
-
-true_there : (b : Bool) → differ (not b) b ≡ true
-true_there true = refl
-true_there false = refl
 
 pub falsified_each : (clause : List Literal) (xs : List ℕ) (f : ℕ → Bool) → falsified clause xs (map f xs) ≡ true → (x : ℕ) → list_any (λ y. nat_eq y x) xs ≡ true → has_literal clause (true_at x (f x)) ≡ false
 falsified_each clause [] f h x k = absurd (true≢false (sym k))
@@ -214,7 +208,7 @@ falsified-unmet v clause xs inside h = unmet_by v clause (λ l k. false_from_ne_
     true≢false (sym k ∙ e)))
 
 pub not_falsified-met : (v : List Bool) (clause : List Literal) (xs : List ℕ) → falsified clause xs (map (value_of v) xs) ≡ false → clause_met v clause ≡ true
-not_falsified-met v clause xs h = let r = not_falsified clause xs (value_of v) h in met_by v clause (true_at r.0 (value_of v r.0)) r.1 (true_there (value_of v r.0))
+not_falsified-met v clause xs h = let r = not_falsified clause xs (value_of v) h in met_by v clause (true_at r.0 (value_of v r.0)) r.1 (own_sign (value_of v r.0))
 
 pub inside_by_set : (variables : set.FinSet nat_cmp) (xs : List ℕ) → set.from_list xs ≡ variables → (clause : List Literal) → is_outside variables clause ≡ false → IsInside xs clause
 inside_by_set variables xs same [] h l k = absurd (true≢false (sym k))
@@ -238,7 +232,7 @@ pub marked_by_all : (xs : List ℕ) (place step : ℕ) (wrong : Bool) (table : L
 marked_by_all [] place step wrong table h [] e w = go wrong w h
   where
     go : (b : Bool) → differ b false ≡ true → (get_or table place false || not b) ≡ true → get_or table place false ≡ true
-    go true f k = sym (or_false (get_or table place false)) ∙ k
+    go true f k = sym (or-false (get_or table place false)) ∙ k
     go false f k = absurd (true≢false (sym f))
 marked_by_all [] place step wrong table h (b ∷ bits) e w = absurd e
 marked_by_all (x ∷ xs) place step wrong table h [] e w = absurd e

@@ -8,7 +8,7 @@ use Rattle.cx_base.specs.Literals.{Literal, differ, value_of}
 use Rattle.cx_base.specs.Problem.{parity_met}
 use Rattle.cx_base.specs.Parity.{normal_form}
 use Rattle.cx_base.proofs.ParityLaws.{sum_below, sum_below-differ, sum_below-one, differ_and, sum_of_members, no_members, Sums-from_met, met-from_Sums}
-use Rattle.cx_base.proofs.Differences.{differ_assoc, differ_turned, not_differ-same, same-not_differ}
+use Rattle.cx_base.proofs.Differences.{differ_assoc, not_differ-same, same-not_differ, differ_move}
 use Rattle.cx_semantics.proofs.RecoveredLaws.{or_apart}
 use Rattle.cx_semantics.proofs.Soundness.{roof, below_roof}
 use Rattle.proof_rules.specs.Assignments.{AreDistinct, Lists, odd_sum}
@@ -91,9 +91,6 @@ unflipped x f (y ∷ ys) h = go (nat_eq y x) refl h (unflipped x f ys)
     go true e k rest = absurd (true≢false k)
     go false e k rest = λ i. differ (e i) (f y) ∷ rest k i
 
-differ_inside : (a b c : Bool) → differ a (differ b c) ≡ differ b (differ a c)
-differ_inside a b c = sym (differ_assoc a b c) ∙ ap (λ d. differ d c) (differ_turned a b) ∙ differ_assoc b a c
-
 pub odd_sum-flipped : (x : ℕ) (f : ℕ → Bool) (xs : List ℕ) → AreDistinct xs → list_any (λ y. nat_eq y x) xs ≡ true → odd_sum (map (flip_at x f) xs) ≡ not (odd_sum (map f xs))
 odd_sum-flipped x f [] d h = absurd (true≢false (sym h))
 odd_sum-flipped x f (y ∷ ys) d h = go (nat_eq y x) refl h (odd_sum-flipped x f ys d.1)
@@ -103,4 +100,4 @@ odd_sum-flipped x f (y ∷ ys) d h = go (nat_eq y x) refl h (odd_sum-flipped x f
     go true e k rest =
         let others = unflipped x f ys (subst (λ z. list_any (λ w. nat_eq w z) ys ≡ false) (eqb-true y x e) d.0) in
         (λ i. differ (differ (e i) (f y)) (odd_sum (others i))) ∙ differ_assoc true (f y) (odd_sum (map f ys))
-    go false e k rest = (λ i. differ (differ (e i) (f y)) (rest k i)) ∙ differ_inside (f y) true (odd_sum (map f ys))
+    go false e k rest = (λ i. differ (differ (e i) (f y)) (rest k i)) ∙ differ_move (f y) true (odd_sum (map f ys))

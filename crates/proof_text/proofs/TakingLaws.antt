@@ -7,13 +7,10 @@ use Rattle.cx_semantics.specs.Words.{Word, number, Placed, words}
 use Rattle.cx_semantics.specs.Grammar.{Field, mark, conflict_line, id, integer, end, ids, integers, spelled, spelled_list, IsProper}
 use Rattle.cx_semantics.proofs.Shapes.{Kind, a_mark, some_ids, some_integers, kind, Move, closes, stays, refuses, move}
 use Rattle.cx_semantics.proofs.Remaining.{behind, after_word, remaining, remaining-more, all_passed, ids_stay, integers_stay}
+use Rattle.cx_base.proofs.Elements.{all_append}
 use Rattle.proof_text.specs.declared.source.TextRefusal.{TextRefusal}
 use Rattle.proof_text.specs.declared.source.TextRefusal.TheVariants.{BadToken, Unterminated, TooBig, TooLong, Memory, Failed}
 use Rattle.proof_text.specs.Taking.{AreSmall, Takes, IsFit, HeadFails, IsOpen, RefusedIn}
-
-all_append : {X : Type 0} (P : X → Type 0) (xs ys : List X) → AllByRecursion P xs → AllByRecursion P ys → AllByRecursion P (xs ++ ys)
-all_append P [] ys h k = k
-all_append P (x ∷ xs) ys h k = (h.0, all_append P xs ys h.1 k)
 
 words-append : (a b : List Placed) → words (a ++ b) ≡ words a ++ words b
 words-append a b = map-append _ a b

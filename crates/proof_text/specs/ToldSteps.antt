@@ -1,6 +1,5 @@
 -- States of a sink that prints, one after another.
 use Rattle.std.specs.Prelude.{◌≡◌, refl, Bool, true, false, List, [], ◌∷◌, ◌++◌, take}
-use Rattle.std.specs.List.{AllByRecursion}
 use Rattle.std.proofs.Common.{sym, ap, ◌∙◌, subst, append_assoc, append-nil}
 use Rattle.std.proofs.lemmas.Grind.{flat_map-append}
 use Rattle.cx_desk.specs.declared.desk.Port.TheVariants.{Proof}
@@ -9,6 +8,7 @@ use Rattle.cx_desk.specs.Calls.{gained, WriteFaulted}
 use Rattle.cx_desk.proofs.Moves.{gained-twice, gained-none}
 use Rattle.cx_semantics.specs.declared.steps.ProofStep.{ProofStep}
 use Rattle.cx_semantics.specs.Printed.{printed_proof, HasProofText}
+use Rattle.cx_base.proofs.Elements.{all_append}
 use Rattle.proof_text.specs.Told.{step_line, Prints, Tears, Goes}
 
 prints_nothing : (o : Outside) → Prints o o
@@ -18,17 +18,13 @@ pub goes_itself : (failed : Bool) (o : Outside) → Goes failed o failed o
 goes_itself true o = refl
 goes_itself false o = prints_nothing o
 
-all_append : (xs ys : List ProofStep) → AllByRecursion HasProofText xs → AllByRecursion HasProofText ys → AllByRecursion HasProofText (xs ++ ys)
-all_append [] ys h k = k
-all_append (x ∷ xs) ys h k = (h.0, all_append xs ys h.1 k)
-
 printed-append : (xs ys : List ProofStep) → printed_proof (xs ++ ys) ≡ printed_proof xs ++ printed_proof ys
 printed-append xs ys = flat_map-append step_line xs ys
 
 prints_on : (a b c : Outside) → Prints a b → Prints b c → Prints a c
 prints_on a b c h k = record {
   steps = h.steps ++ k.steps;
-  texts = all_append h.steps k.steps h.texts k.texts;
+  texts = all_append HasProofText h.steps k.steps h.texts k.texts;
   moved = k.moved ∙ ap (gained Proof (printed_proof k.steps)) h.moved ∙ gained-twice Proof (printed_proof h.steps) (printed_proof k.steps) a ∙ ap (λ (x : Bytes). gained Proof x a) (sym (printed-append h.steps k.steps));
 }
 
@@ -40,7 +36,7 @@ tears_on a b c h k =
     ∙ ap (λ (x : Bytes). gained Proof x a) (sym (append_assoc (printed_proof h.steps) (printed_proof k.steps) front) ∙ ap (λ (x : Bytes). x ++ front) (sym (printed-append h.steps k.steps))) in
     record {
       steps = h.steps ++ k.steps;
-      texts = all_append h.steps k.steps h.texts k.texts;
+      texts = all_append HasProofText h.steps k.steps h.texts k.texts;
       part = k.part;
       text = k.text;
       kept = k.kept;

@@ -2,7 +2,7 @@
 use Rattle.std.proofs.Common.{◌≡◌, ◌≢◌, refl, sym, ap, ◌∙◌, subst, ℕ, Bool, true, false, cond, not, ◌||◌, List, [], ◌∷◌, ◌++◌, Option, None, length, drop, arith, Result, Ok, Err, IfOk, Some, ◌⊎◌, inl, inr, true≢false}
 use Rattle.std.specs.List.{list_any, list_all}
 use Rattle.std.specs.Ordering.{nat_cmp, eq_by_cmp}
-use Rattle.std.proofs.lemmas.Bool.{false_from_ne_true, or_parts, or_from}
+use Rattle.std.proofs.lemmas.Bool.{false_from_ne_true, or_parts, or_from, and_parts, or_right}
 use Rattle.std.proofs.lemmas.Option.{same_Some}
 use Rattle.cx_base.specs.Literals.{Literal, code_of, negate, same_literal}
 use Rattle.cx_base.proofs.LiteralLaws.{negate-negate}
@@ -10,8 +10,8 @@ use Rattle.cx_semantics.specs.Chain.{has_literal, negations, left, none, one, mo
 use Rattle.cx_semantics.specs.Fresh.{is_falsified}
 use Rattle.cx_semantics.specs.Tables.{Table, get}
 use Rattle.cx_semantics.specs.LogRules.{HasChain}
-use Rattle.cx_semantics.proofs.ChainLaws.{and_parts, are_one, same_literal-itself}
-use Rattle.cx_semantics.proofs.Closure.{or_right, all_are, some_are, left_under, closed_has_no_chain, one_in, left_nil, one_is, same_id}
+use Rattle.cx_semantics.proofs.ChainLaws.{are_one, same_literal-itself}
+use Rattle.cx_semantics.proofs.Closure.{all_are, some_are, left_under, closed_has_no_chain, one_in, left_nil, one_is, same_id, left_open}
 use Rattle.cx_semantics.proofs.Members.{has_at_head, has_left, has_right}
 use Rattle.cx_semantics.proofs.SameSets.{inside_by}
 use Rattle.proof_rules.specs.LiteralSets.{HaveSame}
@@ -30,14 +30,6 @@ left_same a b [] h = refl
 left_same a b (m ∷ ms) h = (λ i. cond (not (h (negate m) i)) (m ∷ left a ms) (left a ms)) ∙ ap (λ xs. cond (not (has_literal b (negate m))) (m ∷ xs) xs) (left_same a b ms h)
 
 -- what is left has no negation among the assumed
-pub left_kept : (a clause : List Literal) (l : Literal) → has_literal (left a clause) l ≡ true → has_literal a (negate l) ≡ false
-left_kept a [] l h = absurd (true≢false (sym h))
-left_kept a (m ∷ ms) l h = go (has_literal a (negate m)) refl (same_literal l m) refl (left_kept a ms l)
-  where
-    go : (b : Bool) → has_literal a (negate m) ≡ b → (c : Bool) → same_literal l m ≡ c → (has_literal (left a ms) l ≡ true → has_literal a (negate l) ≡ false) → has_literal a (negate l) ≡ false
-    go true e c f rest = rest (sym (ap (λ b. has_literal (cond (not b) (m ∷ left a ms) (left a ms)) l) e) ∙ h)
-    go false e true f rest = ap (λ x. has_literal a (negate x)) (are_one l m f) ∙ e
-    go false e false f rest = rest (sym (ap (λ c. c || has_literal (left a ms) l) f) ∙ sym (ap (λ b. has_literal (cond (not b) (m ∷ left a ms) (left a ms)) l) e) ∙ h)
 
 -- a literal that is left stays where its negation is not assumed
 pub left_stays : (a u clause : List Literal) (l : Literal) → has_literal (left a clause) l ≡ true → has_literal u (negate l) ≡ false → has_literal (left u clause) l ≡ true
@@ -70,7 +62,7 @@ module _ (old new : List Literal) (lit : Literal) (same : HaveSame new (lit ∷ 
   one_stays : (clause : List Literal) (l : Literal) → count_left (left old clause) ≡ one l → (same_literal (negate l) lit ≡ true → ⊥) → count_left (left new clause) ≡ one l
   one_stays clause l e apart =
       let there : has_literal (left old clause) l ≡ true = one_in (left old clause) l e in
-      let free_l : has_literal new (negate l) ≡ false = same (negate l) ∙ or_from _ _ (false_from_ne_true (same_literal (negate l) lit) apart) (left_kept old clause l there) in
+      let free_l : has_literal new (negate l) ≡ false = same (negate l) ∙ or_from _ _ (false_from_ne_true (same_literal (negate l) lit) apart) (left_open old clause l there) in
       some_are (left new clause) l
       (left_under (same_literal l) old new clause (inside_by old new has_more) (all_are (left old clause) l e))
       (none_are (left new clause) l (left_stays old new clause l there free_l))
@@ -139,7 +131,7 @@ advances_on table a b c h k = record { come = λ target g. k.come target (h.come
 
 module _ (table : Table) (id : ℕ) (clause : List Literal) (live : get table id ≡ Some clause) (old new : Reached) (lit : Literal) (left_is : one lit ≡ count_left (left old.assumed clause)) where
   free_lit : has_literal old.assumed (negate lit) ≡ false
-  free_lit = left_kept old.assumed clause lit (one_in (left old.assumed clause) lit (sym left_is))
+  free_lit = left_open old.assumed clause lit (one_in (left old.assumed clause) lit (sym left_is))
 
   come_on : IsAssumedBy id lit old new → (target : List Literal) → HasCome table target old → HasCome table target new
   come_on by target come =

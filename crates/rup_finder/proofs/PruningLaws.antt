@@ -2,19 +2,19 @@
 use Rattle.std.proofs.Common.{◌≡◌, refl, sym, ap, ◌∙◌, subst, ℕ, Bool, true, false, cond, not, ◌||◌, List, [], ◌∷◌, ◌++◌, reverse, Some, is_some, true≢false}
 use Rattle.std.proofs.lemmas.List.{reverse-append}
 use Rattle.std.specs.List.{list_all, cons_option}
-use Rattle.std.proofs.lemmas.Bool.{false_from_ne_true}
+use Rattle.std.proofs.lemmas.Bool.{false_from_ne_true, and_parts, and_from, or_right}
 use Rattle.cx_base.specs.Literals.{Literal, negate, same_literal}
 use Rattle.cx_semantics.specs.Chain.{has_literal, negations, left, one, count_left, right, go_on, chain}
 use Rattle.cx_semantics.specs.Tables.{Table, get, named}
 use Rattle.cx_semantics.specs.LogRules.{AreLive}
-use Rattle.cx_semantics.proofs.ChainLaws.{and_parts, and_both, are_one}
-use Rattle.cx_semantics.proofs.Closure.{or_right, all_are, some_are, none_left, one_in}
+use Rattle.cx_semantics.proofs.ChainLaws.{are_one}
+use Rattle.cx_semantics.proofs.Closure.{all_are, some_are, none_left, one_in, none_false, left_open}
 use Rattle.cx_semantics.proofs.Members.{has_at_head}
 use Rattle.rup_finder.specs.declared.reached.Hint.{Hint}
 use Rattle.rup_finder.specs.declared.pruning.Pruning.{Pruning}
 use Rattle.rup_finder.specs.Saturation.{IsUnit, Follows, after, IsFalsifiedAt}
 use Rattle.rup_finder.specs.Prunings.{Keeps, IsPruned}
-use Rattle.rup_finder.proofs.Propagation.{left_kept, left_stays, none_are, follows_pop, after_push}
+use Rattle.rup_finder.proofs.Propagation.{left_stays, none_are, follows_pop, after_push}
 
 -- What all that is left of a clause under the assumed literals passes, passes too what is left under a part of them that has all of the clause's.
 left_of_part : (p : Literal → Bool) (a part clause : List Literal) → ((l : Literal) → has_literal (negations clause) l ≡ true → has_literal a l ≡ true → has_literal part l ≡ true)
@@ -31,11 +31,7 @@ left_of_part p a part (m ∷ ms) has h = go (has_literal a (negate m)) refl (has
         ap (λ c. list_all p (cond (not c) (m ∷ left part ms) (left part ms))) f ∙ rest q.1
     go false e false f rest =
         let q = and_parts (p m) (list_all p (left a ms)) (sym (ap (λ b. list_all p (cond (not b) (m ∷ left a ms) (left a ms))) e) ∙ h) in
-        ap (λ c. list_all p (cond (not c) (m ∷ left part ms) (left part ms))) f ∙ and_both _ _ q.0 (rest q.1)
-
-nothing_is : (lits : List Literal) → list_all (λ l. false) lits ≡ true → lits ≡ []
-nothing_is [] h = refl
-nothing_is (l ∷ lits) h = absurd (true≢false (sym h))
+        ap (λ c. list_all p (cond (not c) (m ∷ left part ms) (left part ms))) f ∙ and_from _ _ q.0 (rest q.1)
 
 -- one more id in front of a chain
 chain_front : (table : Table) (a : List Literal) (id : ℕ) (clause : List Literal) (ids : List ℕ) → get table id ≡ Some clause → chain a (named table (id ∷ ids)) ≡ go_on (count_left (left a clause)) (λ l. chain (l ∷ a) (named table ids))
@@ -54,7 +50,7 @@ module _ (table : Table) (id : ℕ) (old new : Pruning) (keeps : Keeps table id 
         chains = λ part up down.
             let all : list_all (λ l. false) (left part by.clause) ≡ true = left_of_part (λ l. false) a part by.clause (λ l h k. up l (keeps.needs by.clause by.live l h) k) (ap (list_all (λ l. false)) (none_left (left a by.clause) by.nothing)) in
             ap (λ ks. chain part (named table ks)) only ∙ chain_front table part id by.clause [] by.live
-            ∙ ap (λ xs. go_on (count_left xs) (λ l. chain (l ∷ part) (named table []))) (nothing_is (left part by.clause) all);
+            ∙ ap (λ xs. go_on (count_left xs) (λ l. chain (l ∷ part) (named table []))) (none_false (left part by.clause) all);
       }
 
   -- a hint is kept
@@ -64,7 +60,7 @@ module _ (table : Table) (id : ℕ) (old new : Pruning) (keeps : Keeps table id 
     chains = λ part up down.
         let has_lit : has_literal (left a unit.clause) lit ≡ true = one_in (left a unit.clause) lit unit.unit in
         let all : list_all (same_literal lit) (left part unit.clause) ≡ true = left_of_part (same_literal lit) a part unit.clause (λ l h k. up l (keeps.needs unit.clause unit.live l h) k) (all_are (left a unit.clause) lit unit.unit) in
-        let free : has_literal part (negate lit) ≡ false = false_from_ne_true (has_literal part (negate lit)) (λ h. true≢false (sym (down (negate lit) h) ∙ left_kept a unit.clause lit has_lit)) in
+        let free : has_literal part (negate lit) ≡ false = false_from_ne_true (has_literal part (negate lit)) (λ h. true≢false (sym (down (negate lit) h) ∙ left_open a unit.clause lit has_lit)) in
         let here : count_left (left part unit.clause) ≡ one lit = some_are (left part unit.clause) lit all (none_are (left part unit.clause) lit (left_stays a part unit.clause lit has_lit free)) in
         ap (λ ks. chain part (named table ks)) turned ∙ chain_front table part id unit.clause (reverse old.kept.items) unit.live
         ∙ ap (λ c. go_on c (λ l. chain (l ∷ part) (named table (reverse old.kept.items)))) here

@@ -25,7 +25,7 @@ entry_before [] i p h = absurd (omega (arith, h))
 entry_before (x ∷ before) i zero h = refl
 entry_before (x ∷ before) i (suc p) h = entry_before before i p (omega (arith, h))
 
-put_held : (k : ℕ) (e : Entry) (es : List Entry) (m : Literal) → has_literal (held k es) m ≡ true → has_literal (held k (e ∷ es)) m ≡ true
+pub put_held : (k : ℕ) (e : Entry) (es : List Entry) (m : Literal) → has_literal (held k es) m ≡ true → has_literal (held k (e ∷ es)) m ≡ true
 put_held k e es m h = elim (nat_le e.level k) as (λ b. has_literal (cond b (e.literal ∷ held k es) (held k es)) m ≡ true) [ true ↦ has_behind e.literal (held k es) m h | false ↦ h ]
 
 -- at the last place, or before it

@@ -1,13 +1,13 @@
 -- The steps of the trail, said of the code's trail.
 use Rattle.std.proofs.Common.{◌≡◌, refl, sym, ap, ◌∙◌, subst, ℕ, suc, ◌+◌, ◌-◌, ◌<◌, ◌≤◌, nat_le, true, false, cond, ◌&&◌, List, [], ◌∷◌, ◌++◌, length, Some, ◌⊎◌, inl, inr, arith, true≢false, append-nil}
-use Rattle.std.proofs.lemmas.Bool.{leb-true, leb-false}
+use Rattle.std.proofs.lemmas.Bool.{leb-true, leb-false, and_parts}
 use Rattle.std.proofs.lemmas.List.{length_push}
 use Rattle.cx_base.specs.Literals.{Literal, negate}
 use Rattle.cx_base.specs.Problem.{Problem}
+use Rattle.cx_base.proofs.Elements.{same_head, same_tail}
 use Rattle.cx_semantics.specs.Chain.{has_literal, is_inside}
 use Rattle.cx_semantics.specs.Fresh.{is_falsified}
 use Rattle.cx_semantics.specs.Tables.{get}
-use Rattle.cx_semantics.proofs.ChainLaws.{and_parts}
 use Rattle.cx_semantics.proofs.Closure.{has_by_inside}
 use Rattle.cx_semantics.proofs.Members.{has_at_head, has_behind}
 use Rattle.cx_trail.specs.declared.entry.Entry.{Entry as TrailEntry}
@@ -59,11 +59,6 @@ module _ (formula : Problem) (parities : List (List Literal)) (s : Search) (ok :
   )
 
 -- ---- the code's trail after a jump back
-same_head : (x y : TrailEntry) (xs ys : List TrailEntry) → x ∷ xs ≡ y ∷ ys → x ≡ y
-same_head x y xs ys e = cc
-
-same_tail : (x y : TrailEntry) (xs ys : List TrailEntry) → x ∷ xs ≡ y ∷ ys → xs ≡ ys
-same_tail x y xs ys e = cc
 
 no_rest : (xs ys : List TrailEntry) → xs ++ ys ≡ [] → ys ≡ []
 no_rest [] ys e = e

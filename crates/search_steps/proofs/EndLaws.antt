@@ -1,12 +1,13 @@
 -- How the search ends: with values, with the empty clause, or with an open log; and a settled formula wants no decision.
 use Rattle.std.proofs.Common.{◌≡◌, refl, sym, ap, ◌∙◌, ℕ, ◌≤◌, Bool, true, false, not, ◌&&◌, ◌||◌, List, [], ◌∷◌, length, Contains, filter_map, ◌⊎◌, inl, inr, true≢false}
 use Rattle.std.specs.List.{list_all, AllByRecursion}
-use Rattle.std.proofs.lemmas.Bool.{not-true, or_right}
+use Rattle.std.proofs.lemmas.Bool.{not-true, or_right, and_from}
 use Rattle.cx_base.specs.Literals.{Literal, negate, literal_true, differ}
 use Rattle.cx_base.specs.Problem.{Problem, Meets, clause_met, parity_met, constraint_met, clauses_of, parities_of, AreWithin, literals_of}
 use Rattle.cx_base.specs.declared.constraint.Constraint.{Constraint}
 use Rattle.cx_base.specs.declared.constraint.Constraint.TheVariants as constraint
 use Rattle.cx_base.proofs.Odd.{parity_met-cons}
+use Rattle.cx_base.proofs.Elements.{in_head, in_tail}
 use Rattle.cx_semantics.specs.Chain.{has_literal}
 use Rattle.cx_semantics.specs.Fresh.{is_falsified}
 use Rattle.cx_semantics.specs.Judging.{IsOpen}
@@ -15,12 +16,11 @@ use Rattle.cx_semantics.specs.LogText.{step_of}
 use Rattle.cx_semantics.specs.Marked.{Marked}
 use Rattle.cx_semantics.specs.Settled.{IsClauseOf, Decides, SettledBy}
 use Rattle.cx_semantics.specs.Tables.{Table}
-use Rattle.cx_semantics.proofs.ChainLaws.{and_both, true_by_all, literal_true-negate}
+use Rattle.cx_semantics.proofs.ChainLaws.{true_by_all, literal_true-negate}
 use Rattle.search_steps.specs.Quiet.{Quiet}
 use Rattle.search_steps.specs.Trail.{all_held}
 use Rattle.search_steps.specs.Search.{Search, IsSearch}
 use Rattle.search_steps.proofs.Sets.{not_both}
-use Rattle.search_steps.proofs.LogLaws.{here, there}
 
 -- ---- a settled formula
 -- Where both engines are quiet over a settled formula, each variable is decided; so no decision is made, and no conflict above level 0 comes.
@@ -79,8 +79,8 @@ all_constraints : (n : ℕ) (v : List Bool) (cs : List Constraint) → AllByRecu
     → list_all (constraint_met v) cs ≡ true
 unfolding clauses_of parities_of
 all_constraints n v [] w f g = refl
-all_constraints n v (constraint.Clause lits ∷ cs) w f g = and_both _ _ (f lits (here lits (clauses_of cs)) w.0) (all_constraints n v cs w.1 (λ c k. f c (there lits (clauses_of cs) c k)) g)
-all_constraints n v (constraint.Parity lits ∷ cs) w f g = and_both _ _ (g lits (here lits (parities_of cs)) w.0) (all_constraints n v cs w.1 f (λ p k. g p (there lits (parities_of cs) p k)))
+all_constraints n v (constraint.Clause lits ∷ cs) w f g = and_from _ _ (f lits (in_head lits (clauses_of cs)) w.0) (all_constraints n v cs w.1 (λ c k. f c (in_tail lits (clauses_of cs) c k)) g)
+all_constraints n v (constraint.Parity lits ∷ cs) w f g = and_from _ _ (g lits (in_head lits (parities_of cs)) w.0) (all_constraints n v cs w.1 f (λ p k. g p (in_tail lits (parities_of cs) p k)))
 
 -- where all variables are decided and both engines are quiet, the values of the trail meet the formula
 pub quiet_is_met : (formula : Problem) (parities : List (List Literal)) (table : Table) (known : List Literal) (values : List Bool)
@@ -111,7 +111,7 @@ module _ (formula : Problem) (parities : List (List Literal)) (s : Search) (ok :
 
   all_theirs : (v : List Bool) (lists : List (List Literal)) → ((parity : List Literal) → Contains lists parity → parity_met v parity ≡ true) → list_all (parity_met v) lists ≡ true
   all_theirs v [] h = refl
-  all_theirs v (p ∷ ps) h = and_both _ _ (h p (here p ps)) (all_theirs v ps (λ x k. h x (there p ps x k)))
+  all_theirs v (p ∷ ps) h = and_from _ _ (h p (in_head p ps)) (all_theirs v ps (λ x k. h x (in_tail p ps x k)))
 
   -- no decision is made over a settled formula
   pub settled_wants_no_decision : Rattle.cx_semantics.specs.Settled.Settled formula → Decides formula.variables (all_held s.trail)

@@ -2,6 +2,7 @@
 use Rattle.std.proofs.Common.{◌≡◌, refl, sym, ap, ◌∙◌, subst, ℕ, ℤ, true, false, not, ◌||◌, MatchBool, List, [], ◌∷◌, ◌++◌, length, Some, is_some, true≢false, length-append, append-nil}
 use Rattle.std.proofs.lemmas.List.Elements.{filter_map-append}
 use Rattle.std.specs.List.{list_all, cons_option}
+use Rattle.std.proofs.lemmas.Bool.{and_parts}
 use Rattle.cx_base.specs.Literals.{Literal}
 use Rattle.cx_base.specs.Problem.{Problem, Unmet, clause_met, parity_met}
 use Rattle.cx_semantics.specs.declared.steps.LogStep.{LogStep}
@@ -16,7 +17,6 @@ use Rattle.cx_semantics.specs.LogText.{steps_of, step_of}
 use Rattle.cx_semantics.specs.Marked.{Marked, StepFits, IsLearned, IsKnown, first_moment, after_event, mark_of}
 use Rattle.cx_semantics.specs.ProofRules.{all_met}
 use Rattle.cx_semantics.specs.Tables.{get, named}
-use Rattle.cx_semantics.proofs.ChainLaws.{and_parts}
 use Rattle.cx_semantics.proofs.MarkedLaws.{events_go_on}
 use Rattle.cx_semantics.proofs.Soundness.{right_steps_are_unmet}
 use Rattle.search_steps.specs.Search.{Search, IsSearch}

@@ -10,7 +10,7 @@ use Rattle.cx_semantics.specs.Chain.{has_literal}
 use Rattle.cx_semantics.specs.Forced.{Solves}
 use Rattle.cx_semantics.specs.Tables.{Table}
 use Rattle.cx_semantics.proofs.Closure.{has_by_inside}
-use Rattle.cx_semantics.proofs.Members.{has_at_head, has_behind, has_split}
+use Rattle.cx_semantics.proofs.Members.{has_at_head, has_behind, has_split, all_by}
 use Rattle.cx_trail.specs.declared.entry.Entry.{Entry as TrailEntry}
 use Rattle.cx_trail.specs.Sequence.{IsTrueIn, IsOpenIn, entry_at}
 use Rattle.parity_engine.specs.declared.event.ParityEvent.{ParityEvent}
@@ -22,7 +22,7 @@ use Rattle.search_steps.specs.Quiet.{ParitiesQuiet}
 use Rattle.search_steps.specs.Engine.{HasValue, HoldsValues}
 use Rattle.search_steps.specs.Tied.{IsTied}
 use Rattle.conflict_learn.proofs.ChainOfResolutions.{by_cases}
-use Rattle.search_steps.proofs.Sets.{not_both, each_member, member_of_all}
+use Rattle.search_steps.proofs.Sets.{not_both, member_of_all}
 use Rattle.search_steps.proofs.TrailLaws.{held_inside, held_all, held_back, back_is_trail}
 use Rattle.search_steps.proofs.Bridge.{true_is_held, held_is_true}
 
@@ -235,7 +235,7 @@ module _ (s : State) (es : List Entry) (v : HoldsValues es s.values) where
       behind (x ∷ newer) g = has_behind x.literal (all_held (newer ++ es)) l (behind newer g)
 
   by_known : (values : List Bool) → Solves s.parities (known s) values → Solves s.parities (all_held es) values
-  by_known values solves = record { agrees = each_member (literal_true values) (all_held es) (λ l h. member_of_all (literal_true values) (known s) l solves.agrees (held_is_known l h)); meets = solves.meets }
+  by_known values solves = record { agrees = all_by (literal_true values) (all_held es) (λ l h. member_of_all (literal_true values) (known s) l solves.agrees (held_is_known l h)); meets = solves.meets }
 
   pub silent_is_quiet : IsSilent s → ParitiesQuiet s.vars s.parities (all_held es)
   silent_is_quiet silent = record {

@@ -5,6 +5,7 @@ use Rattle.std.specs.FinMap as map_
 use Rattle.std.proofs.lemmas.Bool.{or_parts}
 use Rattle.cx_base.specs.Literals.{Literal}
 use Rattle.cx_base.specs.Problem.{Problem, clauses_of, parities_of}
+use Rattle.cx_base.proofs.Elements.{all_append}
 use Rattle.cx_semantics.specs.declared.steps.LogStep.TheVariants.{ClauseWithHints, Parity, ClauseOfParity, ParityOfClauses, Delete}
 use Rattle.cx_semantics.specs.declared.steps.LogEvent.TheVariants.{Step}
 use Rattle.cx_semantics.specs.Integers.{literals}
@@ -19,7 +20,6 @@ use Rattle.search_steps.specs.Start.{IsBegun}
 use Rattle.search_steps.specs.Ids.{ReasonsBelow, AreRowIds, IsRanged, HasFreeSums}
 use Rattle.conflict_learn.proofs.ChainOfResolutions.{by_cases}
 use Rattle.search_steps.proofs.Rounds.{round_keeps, round_clears_old, round_clears_new}
-use Rattle.search_steps.proofs.Lists.{all_append}
 
 -- ---- ids of the two ranges differ
 pub high_is_no_reason : (bound n : ℕ) (es : List Entry) → bound ≤ n → ReasonsBelow bound es → IsNoReason n es

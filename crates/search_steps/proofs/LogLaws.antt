@@ -2,9 +2,11 @@
 use Rattle.std.proofs.Common.{◌≡◌, refl, sym, ap, ◌∙◌, subst, ℕ, zero, suc, ◌+◌, ◌*◌, ◌≤◌, ◌<◌, ℤ, true, false, not, ◌||◌, MatchBool, List, [], ◌∷◌, ◌++◌, length, Some, None, is_some, filter_map, Contains, arith, ◌⊎◌, inl, inr, true≢false, append-nil}
 use Rattle.std.proofs.lemmas.List.Elements.{filter_map-append}
 use Rattle.std.specs.List.{list_any, list_all, range_with_len}
+use Rattle.std.proofs.lemmas.Bool.{and_parts, and_from}
 use Rattle.cx_base.specs.Literals.{Literal, negate, same_literal}
 use Rattle.cx_base.specs.Problem.{Problem, clauses_of, clause_met, parity_met}
 use Rattle.cx_base.specs.declared.constraint.Constraint.{Constraint}
+use Rattle.cx_base.proofs.Elements.{in_head, in_tail}
 use Rattle.cx_semantics.specs.declared.steps.LogStep.{LogStep}
 use Rattle.cx_semantics.specs.declared.steps.LogStep.TheVariants.{ClauseWithHints, Parity, ClauseOfParity, Delete, DeleteParity}
 use Rattle.cx_semantics.specs.declared.steps.LogEvent.{LogEvent}
@@ -20,17 +22,17 @@ use Rattle.cx_semantics.specs.Marked.{Moment, first_moment, after_event, StepFit
 use Rattle.cx_semantics.specs.ProofRules.{all_met}
 use Rattle.cx_semantics.specs.Settled.{IsClauseOf}
 use Rattle.cx_semantics.specs.Tables.{Table, get, is_live, named}
-use Rattle.cx_semantics.proofs.ChainLaws.{and_parts, and_both, are_one}
+use Rattle.cx_semantics.proofs.ChainLaws.{are_one}
 use Rattle.cx_semantics.proofs.Closure.{chain_or_closed, has_by_inside}
 use Rattle.cx_semantics.proofs.JudgingLaws.{runs_push}
 use Rattle.cx_semantics.proofs.MarkedLaws.{events_go_on}
-use Rattle.cx_semantics.proofs.Members.{has_at_head, has_split}
+use Rattle.cx_semantics.proofs.Members.{has_at_head, has_split, all_by}
 use Rattle.search_steps.specs.Trail.{Entry, by_clause, held, all_held, IsTrail, Forces, level_of}
 use Rattle.search_steps.specs.Quiet.{IsOfParities}
 use Rattle.search_steps.specs.Search.{Search, IsLog, Serves, IsSearch, told, marked, IsServed, IsLearnedOf, IsReached}
 use Rattle.search_steps.specs.LogSteps.{IsNoReason, IsAddition, RestOnClauses, IsUnitOf, IsRowOf, IsClauseOfRow, IsTemporary}
 use Rattle.conflict_learn.proofs.ChainOfResolutions.{by_cases}
-use Rattle.search_steps.proofs.Sets.{not_both, each_member, true_rests}
+use Rattle.search_steps.proofs.Sets.{not_both, true_rests}
 use Rattle.search_steps.proofs.FreshLaws.{takes_forced}
 use Rattle.search_steps.proofs.QuietLaws.{implied_rests}
 use Rattle.search_steps.proofs.TrailLaws.{held_rises, held_inside, trail_no_clash, part_no_clash}
@@ -71,12 +73,6 @@ module _ (formula : Problem) (events : List LogEvent) (moment : Moment) (conflic
     originals = begins_still formula.constraints events (Conflict (conflicts + 1) ∷ []) log.originals;
   }
 
-pub here : {X : Type 0} (c : X) (cs : List X) → Contains (c ∷ cs) c
-here c cs = (0, omega arith, refl)
-
-pub there : {X : Type 0} (c : X) (cs : List X) (d : X) → Contains cs d → Contains (c ∷ cs) d
-there c cs d (k, less, e) = (suc k, omega (arith, less), e)
-
 -- ---- literals of level 0 are known
 -- literals that live clauses force one after another are in each closed set without conflict
 pub takes_all : (table : Table) (IsRow : List Literal → Type 0) (u : List Literal) → KeepsUnits (IsLive table) u → FalsifiesNone (IsLive table) u → (es : List Entry) → IsTrail table IsRow es → RestOnClauses es
@@ -86,17 +82,17 @@ takes_all table IsRow u units none (e ∷ es) t r =
     let rest : is_inside (all_held es) u ≡ true = takes_all table IsRow u units none es t.2 r.1 in
     let why : Rattle.search_steps.specs.Trail.Stands table IsRow (by_clause r.0.0) e.literal e.level es = subst (λ w. Rattle.search_steps.specs.Trail.Stands table IsRow w e.literal e.level es) r.0.1 t.1 in
     let c = why.1 in
-    and_both _ _ (takes_forced table u c.0 e.literal units none (r.0.0, c.1) (λ m h n. has_by_inside (all_held es) u (negate m) rest (c.2.others_false m h n))) rest
+    and_from _ _ (takes_forced table u c.0 e.literal units none (r.0.0, c.1) (λ m h n. has_by_inside (all_held es) u (negate m) rest (c.2.others_false m h n))) rest
 
 module _ (table : Table) (IsRow : List Literal → Type 0) (older : List Entry) (t : IsTrail table IsRow older) (r : RestOnClauses older) (clause : List Literal) (live : IsLive table clause) where
   forced_is_reached : (l : Literal) → Forces clause (all_held older) l → IsReached table l
   forced_is_reached l f u units none = takes_forced table u clause l units none live (λ m h n. has_by_inside (all_held older) u (negate m) (takes_all table IsRow u units none older t r) (f.others_false m h n))
 
-  -- a set with its negation falsifies the clause, so there is a right chain
+  -- a set with its negation falsifies the clause, so in_tail is a right chain
   pub forced_has_chain : (l : Literal) → Forces clause (all_held older) l → HasChain table (l ∷ [])
   forced_has_chain l f = elim (chain_or_closed table (l ∷ [])) [
     | inl h ↦ h
-    | inr c ↦ absurd (not_both (is_falsified c.u clause) (each_member (λ m. has_literal c.u (negate m)) clause (λ m h. by_cases (same_literal l m)
+    | inr c ↦ absurd (not_both (is_falsified c.u clause) (all_by (λ m. has_literal c.u (negate m)) clause (λ m h. by_cases (same_literal l m)
         (λ e. ap (λ x. has_literal c.u (negate x)) (sym (are_one l m e)) ∙ (and_parts (has_literal c.u (negate l)) true c.has_assumed).0)
         (λ n. has_by_inside (all_held older) c.u (negate m) (takes_all table IsRow c.u c.units c.no_conflict older t r) (f.others_false m h n))))
         (c.no_conflict clause live))
@@ -107,7 +103,7 @@ module _ (table : Table) (IsRow : List Literal → Type 0) (older : List Entry) 
   falsified_has_chain h = elim (chain_or_closed table []) [
     | inl k ↦ k
     | inr c ↦ absurd (not_both (is_falsified c.u clause)
-        (each_member (λ m. has_literal c.u (negate m)) clause (λ m k. has_by_inside (all_held older) c.u (negate m) (takes_all table IsRow c.u c.units c.no_conflict older t r) (Rattle.conflict_learn.proofs.ChainOfResolutions.negated_in clause (all_held older) m h k)))
+        (all_by (λ m. has_literal c.u (negate m)) clause (λ m k. has_by_inside (all_held older) c.u (negate m) (takes_all table IsRow c.u c.units c.no_conflict older t r) (Rattle.conflict_learn.proofs.ChainOfResolutions.negated_in clause (all_held older) m h k)))
         (c.no_conflict clause live))
   ]
 
@@ -218,8 +214,8 @@ module _ (formula : Problem) (parities : List (List Literal)) (s : Search) (ok :
           → (inner : List Literal) × IsLive s.moment.tables.clauses inner × (is_inside inner clause ≡ true)
       look [] f e = not_both false e refl
       look (c ∷ cs) f e = elim (same_literals clause c) as (λ b. same_literals clause c ≡ b → (b || list_any (same_literals clause) cs) ≡ true → (inner : List Literal) × IsLive s.moment.tables.clauses inner × (is_inside inner clause ≡ true)) [
-        | true ↦ λ g _. let kept = ok.serves.keeps_clauses c (f c (here c cs)) in (c, (kept.0, kept.2), (and_parts (is_inside clause c) (is_inside c clause) g).1)
-        | false ↦ λ g r. look cs (λ d k. f d (there c cs d k)) r
+        | true ↦ λ g _. let kept = ok.serves.keeps_clauses c (f c (in_head c cs)) in (c, (kept.0, kept.2), (and_parts (is_inside clause c) (is_inside c clause) g).1)
+        | false ↦ λ g r. look cs (λ d k. f d (in_tail c cs d k)) r
       ] refl e
 
   pub mark_keeps : IsServed s → IsSearch formula parities (marked s)

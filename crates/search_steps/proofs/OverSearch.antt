@@ -3,8 +3,8 @@ use Rattle.std.proofs.Common.{◌≡◌, sym, ◌∙◌, subst, ℕ, ◌≤◌, 
 use Rattle.cx_base.specs.Literals.{Literal}
 use Rattle.std.proofs.lemmas.List.Folds.{list_all-append}
 use Rattle.std.specs.List.{list_all}
+use Rattle.std.proofs.lemmas.Bool.{and_parts}
 use Rattle.cx_base.specs.Problem.{Problem, parities_of, parity_met}
-use Rattle.cx_semantics.proofs.ChainLaws.{and_parts}
 use Rattle.search_steps.proofs.RowLaws.{at_place}
 use Rattle.cx_semantics.specs.Chain.{is_inside, negations}
 use Rattle.cx_semantics.specs.Fresh.{IsLive}

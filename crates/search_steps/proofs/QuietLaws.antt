@@ -76,10 +76,3 @@ implied_rests n parities u clause q c = record {
 }
 
 -- what is left is not false
-pub left_open : (u clause : List Literal) (l : Literal) → has_literal (left u clause) l ≡ true → has_literal u (negate l) ≡ false
-left_open u [] l h = not_both false h refl
-left_open u (m ∷ ms) l h = go (has_literal u (negate m)) refl h (left_open u ms l)
-  where
-    go : (b : Bool) → has_literal u (negate m) ≡ b → has_literal (cond (not b) (m ∷ left u ms) (left u ms)) l ≡ true → (has_literal (left u ms) l ≡ true → has_literal u (negate l) ≡ false) → has_literal u (negate l) ≡ false
-    go true e g rec = rec g
-    go false e g rec = elim (has_split m (left u ms) l g) [ inl f ↦ ap (λ x. has_literal u (negate x)) f ∙ e | inr k ↦ rec k ]

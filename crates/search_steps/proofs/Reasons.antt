@@ -1,29 +1,25 @@
 -- What forced an entry in the calculus implied its literal on the code's trail.
-use Rattle.std.proofs.Common.{◌≡◌, refl, sym, ap, ◌∙◌, ℕ, zero, suc, ◌+◌, ◌<◌, List, [], ◌∷◌, ◌++◌, length, arith, length-append, append_assoc}
+use Rattle.std.proofs.Common.{◌≡◌, refl, sym, ap, ◌∙◌, suc, ◌+◌, ◌<◌, List, [], ◌∷◌, ◌++◌, length, arith, length-append, append_assoc}
+use Rattle.std.proofs.lemmas.Bool.{and_from}
 use Rattle.cx_base.specs.Literals.{Literal, negate, same_literal}
 use Rattle.cx_semantics.specs.Chain.{has_literal}
 use Rattle.cx_semantics.specs.Fresh.{IsLive}
 use Rattle.cx_semantics.specs.Tables.{Table}
-use Rattle.cx_semantics.proofs.ChainLaws.{and_both}
 use Rattle.cx_semantics.proofs.Closure.{inside_itself}
 use Rattle.cx_trail.specs.declared.entry.Entry.{Entry as TrailEntry}
 use Rattle.cx_trail.specs.Sequence.{TrailState, entry_at}
+use Rattle.cx_trail.proofs.ValueLaws.{entry_kept}
 use Rattle.conflict_learn.specs.Learning.{IsAntecedent}
 use Rattle.search_steps.specs.Trail.{Entry, all_held, Forces}
 use Rattle.search_steps.specs.Tied.{IsTied, IsLiveSet, Mirrors}
 use Rattle.search_steps.proofs.Bridge.{held_is_true}
 
 pub live_is_live_set : (table : Table) (clause : List Literal) → IsLive table clause → IsLiveSet table clause
-live_is_live_set table clause live = (clause, live, and_both _ _ (inside_itself clause) (inside_itself clause))
+live_is_live_set table clause live = (clause, live, and_from _ _ (inside_itself clause) (inside_itself clause))
 
 at_middle : (before after : List TrailEntry) (i : TrailEntry) → entry_at (before ++ i ∷ after) (length before) ≡ i
 at_middle [] after i = refl
 at_middle (x ∷ before) after i = at_middle before after i
-
-pub entry_at_front : (before rest : List TrailEntry) (p : ℕ) → p < length before → entry_at (before ++ rest) p ≡ entry_at before p
-entry_at_front [] rest p h = absurd (omega (arith, h))
-entry_at_front (x ∷ before) rest zero h = refl
-entry_at_front (x ∷ before) rest (suc p) h = entry_at_front before rest p (omega (arith, h))
 
 -- the code's entry for an entry of the trail, with those before it
 pub record StandsBehind (older : List Entry) (e : Entry) (entries : List TrailEntry) : Type 0 where
@@ -55,7 +51,7 @@ forced_is_implied t newer older e m clause f place within at = record {
       let less = g.1.0 in (
         g.0,
         omega (arith, less, here),
-        ap (λ xs. (entry_at xs g.0).literal) r.parts ∙ ap (λ y. y.literal) (entry_at_front r.before (r.entry ∷ r.after) g.0 less) ∙ g.1.1,
+        ap (λ xs. (entry_at xs g.0).literal) r.parts ∙ ap (λ y. y.literal) (entry_kept r.before (r.entry ∷ r.after) g.0 less) ∙ g.1.1,
       );
 }
   where

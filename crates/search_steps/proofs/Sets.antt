@@ -1,12 +1,12 @@
 -- Clauses over sets of literals that hold no clash.
 use Rattle.std.proofs.Common.{◌≡◌, refl, sym, ap, ◌∙◌, subst, Bool, true, false, cond, not, ◌||◌, List, [], ◌∷◌, inl, inr, true≢false}
 use Rattle.std.specs.List.{list_any, list_all}
-use Rattle.std.proofs.lemmas.Bool.{and_right}
+use Rattle.std.proofs.lemmas.Bool.{and_right, and_parts, and_from}
 use Rattle.cx_base.specs.Literals.{Literal, negate, same_literal}
 use Rattle.cx_base.proofs.LiteralLaws.{negate-negate}
 use Rattle.cx_semantics.specs.Chain.{has_literal, is_inside, negations, left, one, more, count_left}
 use Rattle.cx_semantics.specs.Fresh.{is_tautology, is_falsified, others}
-use Rattle.cx_semantics.proofs.ChainLaws.{and_parts, and_both, are_one, same_literal-itself}
+use Rattle.cx_semantics.proofs.ChainLaws.{are_one, same_literal-itself}
 use Rattle.cx_semantics.proofs.Closure.{one_is}
 use Rattle.cx_semantics.proofs.Members.{has_at_head, has_behind, has_split}
 use Rattle.search_steps.specs.Quiet.{HasNoClash, RestsOn, HasTrue, HasTwoOpen}
@@ -20,10 +20,6 @@ not_both b h k = absurd (true≢false (sym h ∙ k))
 pub no_member : (p : Literal → Bool) (ms : List Literal) → ((l : Literal) → has_literal ms l ≡ true → p l ≡ false) → list_any p ms ≡ false
 no_member p [] h = refl
 no_member p (m ∷ ms) h = ap (λ b. b || list_any p ms) (h m (has_at_head m ms)) ∙ no_member p ms (λ l k. h l (has_behind m ms l k))
-
-pub each_member : (p : Literal → Bool) (ms : List Literal) → ((l : Literal) → has_literal ms l ≡ true → p l ≡ true) → list_all p ms ≡ true
-each_member p [] h = refl
-each_member p (m ∷ ms) h = and_both _ _ (h m (has_at_head m ms)) (each_member p ms (λ l k. h l (has_behind m ms l k)))
 
 pub member_of_all : (p : Literal → Bool) (ms : List Literal) (l : Literal) → list_all p ms ≡ true → has_literal ms l ≡ true → p l ≡ true
 member_of_all p [] l h k = not_both false k refl
@@ -66,7 +62,7 @@ one_left lits l m h k = are_one m l (sym_same l m (member_of_all (same_literal l
     all_same : (xs : List Literal) (a : Literal) → count_left xs ≡ one a → list_all (same_literal a) xs ≡ true
     all_same [] a h = cc
     all_same (x ∷ xs) a h = elim (list_all (same_literal x) xs) as (λ b. list_all (same_literal x) xs ≡ b → cond b (one x) more ≡ one a → list_all (same_literal a) (x ∷ xs) ≡ true) [
-      | true ↦ λ e f. subst (λ y. list_all (same_literal y) (x ∷ xs) ≡ true) (one_is x a f) (and_both _ _ (same_literal-itself x) e)
+      | true ↦ λ e f. subst (λ y. list_all (same_literal y) (x ∷ xs) ≡ true) (one_is x a f) (and_from _ _ (same_literal-itself x) e)
       | false ↦ λ e f. cc
     ] refl h
 

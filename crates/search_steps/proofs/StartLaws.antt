@@ -1,6 +1,6 @@
 -- The constraints of the formula, told one by one, and the search that begins behind them.
 use Rattle.std.proofs.Common.{◌≡◌, refl, sym, ap, ◌∙◌, subst, ℕ, zero, suc, ◌+◌, ◌≤◌, ℤ, pos, neg_ℤ, nat_abs, nat_lt, Bool, true, false, cond, not, ◌||◌, nat_eq, eq-eqb, eqb-true, List, [], ◌∷◌, ◌++◌, length, Some, None, is_some, Contains, filter_map, ◌⊎◌, inl, inr, arith, length-append, append-nil}
-use Rattle.std.proofs.lemmas.Bool.{ltb-true}
+use Rattle.std.proofs.lemmas.Bool.{ltb-true, and_from, or_right}
 use Rattle.std.proofs.lemmas.List.Elements.{filter_map-append}
 use Rattle.std.specs.List.{list_any}
 use Rattle.std.specs.FinMap as map_
@@ -17,8 +17,7 @@ use Rattle.cx_semantics.specs.LogRules.{log_calculus, IsOriginalParity, is_origi
 use Rattle.cx_semantics.specs.LogText.{steps_of, step_of}
 use Rattle.cx_semantics.specs.Marked.{first_moment, mark_of, BeginsWithOriginals, IsOriginal}
 use Rattle.cx_semantics.specs.Tables.{Table, get}
-use Rattle.cx_semantics.proofs.ChainLaws.{and_both}
-use Rattle.cx_semantics.proofs.Closure.{inside_itself, or_right}
+use Rattle.cx_semantics.proofs.Closure.{inside_itself}
 use Rattle.cx_semantics.proofs.JudgingLaws.{runs_push}
 use Rattle.cx_semantics.proofs.Lookups.{Looks-insert, Looks-empty}
 use Rattle.cx_semantics.proofs.MarkedLaws.{events_go_on}
@@ -126,7 +125,7 @@ same_one formula lits c = go (clauses_of formula.constraints) c
   where
     go : (lists : List (List Literal)) → Contains lists lits → list_any (same_literals lits) lists ≡ true
     go [] (k, less, e) = absurd (omega (arith, less))
-    go (x ∷ xs) (zero, less, e) = ap (λ y. same_literals lits y || list_any (same_literals lits) xs) e ∙ ap (λ b. b || list_any (same_literals lits) xs) (and_both _ _ (inside_itself lits) (inside_itself lits))
+    go (x ∷ xs) (zero, less, e) = ap (λ y. same_literals lits y || list_any (same_literals lits) xs) e ∙ ap (λ b. b || list_any (same_literals lits) xs) (and_from _ _ (inside_itself lits) (inside_itself lits))
     go (x ∷ xs) (suc k, less, e) = or_right (same_literals lits x) _ (go xs (k, omega (arith, less), e))
 
 long_push : {X : Type 0} (xs : List X) (x : X) (n : ℕ) → length xs ≡ n → length (xs ++ x ∷ []) ≡ n + 1

@@ -1,27 +1,27 @@
 -- Clauses that rest by their literals alone: one that has a resting one inside it, and one that the code stores as another list.
 use Rattle.std.proofs.Common.{◌≡◌, refl, sym, ap, ◌∙◌, zero, suc, true, false, List, [], ◌∷◌, Contains, ◌⊎◌, inl, inr, arith}
+use Rattle.std.proofs.lemmas.Bool.{and_parts}
 use Rattle.cx_base.specs.Literals.{Literal, negate, same_literal}
 use Rattle.cx_semantics.specs.Chain.{has_literal, is_inside, same_literals, negations, left}
 use Rattle.cx_semantics.specs.Fresh.{is_falsified}
-use Rattle.cx_semantics.proofs.ChainLaws.{and_parts, are_one, same_literal-itself}
-use Rattle.cx_semantics.proofs.Closure.{has_by_inside, falsified-left, some_are, left_in}
-use Rattle.cx_semantics.proofs.Members.{has_at_head, has_behind, has_split}
+use Rattle.cx_semantics.proofs.ChainLaws.{are_one, same_literal-itself}
+use Rattle.cx_semantics.proofs.Closure.{has_by_inside, falsified-left, some_are, left_in, left_open}
+use Rattle.cx_semantics.proofs.Members.{has_at_head, has_behind, has_split, all_by}
 use Rattle.cx_trail.specs.declared.entry.Entry.{Entry as TrailEntry}
 use Rattle.search_steps.specs.Quiet.{RestsOn, HasNoClash, HasTrue, HasTwoOpen}
 use Rattle.search_steps.specs.Tied.{IsTied, ForcesOn, IsQuietOn, AreOthersFalseOn, IsFalsifiedOn}
 use Rattle.search_steps.specs.Trail.{Entry, all_held}
 use Rattle.conflict_learn.proofs.ChainOfResolutions.{by_cases, negations_by}
-use Rattle.search_steps.proofs.Sets.{not_both, each_member, member_of_all, left_has, one_left, true_rests, two_open_rests}
-use Rattle.search_steps.proofs.QuietLaws.{left_open}
+use Rattle.search_steps.proofs.Sets.{not_both, member_of_all, left_has, one_left, true_rests, two_open_rests}
 use Rattle.search_steps.proofs.Bridge.{true_is_held, open_is_unassigned}
 
 pub rests_around : (u inner clause : List Literal) → is_inside inner clause ≡ true → RestsOn u inner → RestsOn u clause
 rests_around u inner clause inside r = record {
   not_falsified = by_cases (is_falsified u clause)
-      (λ e. not_both (is_falsified u inner) (each_member (λ m. has_literal u (negate m)) inner (λ m h. member_of_all (λ x. has_literal u (negate x)) clause m e (has_by_inside inner clause m inside h))) r.not_falsified)
+      (λ e. not_both (is_falsified u inner) (all_by (λ m. has_literal u (negate m)) inner (λ m h. member_of_all (λ x. has_literal u (negate x)) clause m e (has_by_inside inner clause m inside h))) r.not_falsified)
       (λ e. e);
   unit_held = λ l e. r.unit_held l (some_are (left u inner) l
-      (each_member (same_literal l) (left u inner) (λ m h.
+      (all_by (same_literal l) (left u inner) (λ m h.
       let is = one_left (left u clause) l m e (left_has u clause m (has_by_inside inner clause m inside (left_in u inner m h)) (left_open u inner m h)) in
       ap (same_literal l) is ∙ same_literal-itself l))
       (λ none. not_both (is_falsified u inner) (falsified-left u inner none) r.not_falsified));

@@ -1,11 +1,11 @@
 -- Trails: no clash, levels, and taking levels back.
 use Rattle.std.proofs.Common.{◌≡◌, refl, sym, ap, ◌∙◌, subst, ℕ, ◌+◌, ◌<◌, ◌≤◌, nat_le, Bool, true, false, cond, not, ◌||◌, nat_eq, List, [], ◌∷◌, arith, inl, inr}
-use Rattle.std.proofs.lemmas.Bool.{leb-true, leb-false, and_right}
+use Rattle.std.proofs.lemmas.Bool.{leb-true, leb-false, and_right, and_from}
 use Rattle.cx_base.specs.Literals.{Literal, negate, same_literal, differ}
 use Rattle.cx_base.proofs.LiteralLaws.{negate-negate}
 use Rattle.cx_semantics.specs.Chain.{has_literal, is_inside}
 use Rattle.cx_semantics.specs.Tables.{Table}
-use Rattle.cx_semantics.proofs.ChainLaws.{are_one, and_both}
+use Rattle.cx_semantics.proofs.ChainLaws.{are_one}
 use Rattle.cx_semantics.proofs.Closure.{has_by_inside, inside_more}
 use Rattle.cx_semantics.proofs.Members.{has_at_head, has_split}
 use Rattle.search_steps.specs.Quiet.{HasNoClash}
@@ -43,7 +43,7 @@ gt_is a b h = by_cases (nat_le a b) (λ e. absurd (omega (arith, h, le_by a b e)
 pub held_inside : (k : ℕ) (es : List Entry) → is_inside (held k es) (all_held es) ≡ true
 held_inside k [] = refl
 held_inside k (e ∷ es) = elim (nat_le e.level k) as (λ b. is_inside (cond b (e.literal ∷ held k es) (held k es)) (all_held (e ∷ es)) ≡ true) [
-  | true ↦ and_both _ _ (has_at_head e.literal (all_held es)) (inside_more (held k es) (all_held es) e.literal (held_inside k es))
+  | true ↦ and_from _ _ (has_at_head e.literal (all_held es)) (inside_more (held k es) (all_held es) e.literal (held_inside k es))
   | false ↦ inside_more (held k es) (all_held es) e.literal (held_inside k es)
 ]
 
@@ -54,7 +54,7 @@ held_rises j k (e ∷ es) h = by_cases (nat_le e.level j)
     (λ a. let b : nat_le e.level k ≡ true = le_is e.level k (omega (arith, h, le_by e.level j a)) in
     subst (λ x. is_inside (cond x (e.literal ∷ held j es) (held j es)) (cond (nat_le e.level k) (e.literal ∷ held k es) (held k es)) ≡ true) (sym a)
     (subst (λ x. is_inside (e.literal ∷ held j es) (cond x (e.literal ∷ held k es) (held k es)) ≡ true) (sym b)
-    (and_both _ _ (has_at_head e.literal (held k es)) (inside_more (held j es) (held k es) e.literal (held_rises j k es h)))))
+    (and_from _ _ (has_at_head e.literal (held k es)) (inside_more (held j es) (held k es) e.literal (held_rises j k es h)))))
     (λ a. subst (λ x. is_inside (cond x (e.literal ∷ held j es) (held j es)) (cond (nat_le e.level k) (e.literal ∷ held k es) (held k es)) ≡ true) (sym a)
     (more (nat_le e.level k) (held_rises j k es h)))
   where

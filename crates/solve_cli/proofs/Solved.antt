@@ -1,16 +1,15 @@
 -- What a run of `solve` says by its status.
 use Rattle.std.proofs.Common.{◌≡◌, ◌<◌, ℕ, Bool, true, false, List, [], ◌∷◌, length, Option, Some, None, IfSome, codes, decimal, inl, inr, refl, ap, sym, subst, ◌∙◌, arith}
-use Rattle.std.proofs.lemmas.Bool.{and_parts, both_ways}
+use Rattle.std.proofs.lemmas.Bool.{both_ways}
 use Rattle.std.proofs.lemmas.Option.{IfSome_then}
-use Rattle.std.specs.List.{list_all}
-use Rattle.cx_base.specs.Problem.{Problem, Meets, parities_of, parity_met, clause_met, constraint_met}
-use Rattle.cx_base.specs.declared.constraint.Constraint.{Constraint}
+use Rattle.cx_base.specs.Problem.{Problem, Meets, parities_of}
 use Rattle.cx_base.specs.declared.constraint.Constraint.TheVariants as constraint
 use Rattle.cx_semantics.specs.AnswerText as printed
 use Rattle.cx_semantics.specs.Forced.{Consistent}
 use Rattle.cx_semantics.specs.FormulaText.{Reads}
 use Rattle.cx_semantics.specs.Settled.{Settled}
 use Rattle.cx_semantics.proofs.SettledLaws.{unsolvable_is_settled}
+use Rattle.cx_semantics.proofs.Soundness.{parities_met}
 use Rattle.cx_desk.specs.declared.desk.Port.TheVariants as port
 use Rattle.cx_desk.specs.Outside.{Bytes, Files}
 use Rattle.cx_words.specs.Words.{Asks}
@@ -74,12 +73,6 @@ quiet text old new e (inl is) = is ∙ says-none port.Message text old e
 quiet text old new e (inr h) = let front : h.0 < length text = h.1 in let len = ap length e in absurd (omega (arith, front, len))
 
 -- ---- the parities of a formula that is met
-
-parities_met : (v : List Bool) (items : List Constraint) → list_all (constraint_met v) items ≡ true → list_all (parity_met v) (parities_of items) ≡ true
-unfolding parities_of
-parities_met v [] h = refl
-parities_met v (constraint.Clause lits ∷ items) h = parities_met v items (and_parts (clause_met v lits) _ h).1
-parities_met v (constraint.Parity lits ∷ items) h = let p = and_parts (parity_met v lits) _ h in rw p.0 (parities_met v items p.1)
 
 solvable : (f : Problem) (v : List Bool) → Meets f v → Consistent (parities_of f.constraints) []
 solvable f v m = (v, record { agrees = refl; meets = parities_met v f.constraints m.all_met })

@@ -4,6 +4,7 @@ use Rattle.std.specs.List.{Contains, All}
 use Rattle.std.proofs.lemmas.Bool.{cases_eq, false≢true}
 use Rattle.std.proofs.lemmas.List.{get_or-set_same, get_or-set_other, length-set, length-take, get_or-take}
 use Rattle.cx_base.specs.Literals.{code_of, Literal, negate}
+use Rattle.cx_base.proofs.Elements.{in_head}
 use Rattle.cx_trail.specs.Sequence.{TrailState, entry_at, StandsAt, IsFalseIn, IsTrueBy}
 use Rattle.clause_arena.specs.Clauses.{ArenaState, literals_at, IsLive}
 use Rattle.watch_lists.specs.Watching.{clause_of, partner, held_at, no_literal, IsAttached, looked_at, AreNodes, AreGuarded, IsBehind, Fits}
@@ -13,7 +14,7 @@ use Rattle.watch_lists.specs.Attaching.{IsForgotten, AreKept, CanBeWatched, lite
 use Rattle.watch_lists.specs.Keeping.{AreWatches}
 use Rattle.std.proofs.lemmas.List.Elements.{Contains-get_or}
 use Rattle.watch_lists.proofs.NodeLaws.{node_in, partner_attached, partner_even, partner_odd, clause_of_partner}
-use Rattle.watch_lists.proofs.MemberLaws.{in_head, in_tail, in_cases, none_in}
+use Rattle.watch_lists.proofs.MemberLaws.{in_tail, in_cases, none_in}
 
 pub clause_of_first : (r : ℕ) → clause_of (2 * r) ≡ r
 clause_of_first r = omega arith

@@ -1,9 +1,6 @@
 -- Members of a list of nodes.
-use Rattle.std.proofs.Common.{◌≡◌, ℕ, zero, suc, List, [], ◌∷◌, length, ap, refl, inl, inr, ◌⊎◌, arith}
+use Rattle.std.proofs.Common.{◌≡◌, ℕ, zero, suc, List, [], ◌∷◌, length, ap, inl, inr, ◌⊎◌, arith}
 use Rattle.std.specs.List.{Contains}
-
-pub in_head : (n : ℕ) (rest : List ℕ) → Contains (n ∷ rest) n
-in_head n rest = (0, omega arith, refl)
 
 pub in_tail : (n x : ℕ) (rest : List ℕ) → Contains rest x → Contains (n ∷ rest) x
 in_tail n x rest (k, h, e) = (suc k, omega arith, e)

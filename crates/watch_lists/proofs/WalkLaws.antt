@@ -5,6 +5,7 @@ use Rattle.std.proofs.lemmas.Bool.{cases_eq}
 use Rattle.std.proofs.lemmas.List.{length-append}
 use Rattle.cx_base.specs.Literals.{code_of, Literal, negate}
 use Rattle.cx_base.proofs.LiteralLaws.{same_code, code_above}
+use Rattle.cx_base.proofs.Elements.{in_head}
 use Rattle.cx_trail.specs.declared.entry.Entry.{Entry}
 use Rattle.cx_trail.specs.Sequence.{TrailState, IsTrueIn, IsFalseIn, entry_at}
 use Rattle.cx_trail.proofs.ValueLaws.{true_kept, entry_kept}
@@ -12,7 +13,7 @@ use Rattle.clause_arena.specs.Clauses.{ArenaState}
 use Rattle.watch_lists.specs.Watching.{clause_of, partner, held_at, IsAttached, AreNodes, IsBehind, Propagates}
 use Rattle.watch_lists.specs.Lists.{list_at, IsFirst, IsMoved, IsTaken, IsDrained}
 use Rattle.watch_lists.specs.Walking.{AreListed, IsWalk, IsRest, Goes, AllPassed}
-use Rattle.watch_lists.proofs.MemberLaws.{in_head, in_tail, in_cases, none_in}
+use Rattle.watch_lists.proofs.MemberLaws.{in_tail, in_cases, none_in}
 use Rattle.watch_lists.proofs.NodeLaws.{propagates_both, propagates_none}
 
 pub moved_listed : (held new_held : List Literal) (attached : List Bool) (old new : List (List ℕ)) (node to : ℕ) → IsFirst old 0 node → IsMoved 0 to old new → to ≢ 0 → ((n : ℕ) → n ≢ node → held_at new_held n ≡ held_at held n) → code_of (held_at new_held node) ≡ to → IsAttached attached (clause_of node) → AreListed held attached old → AreListed new_held attached new

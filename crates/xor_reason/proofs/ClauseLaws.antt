@@ -1,9 +1,9 @@
 -- The literals chosen for a written parity are a reason's clause.
-use Rattle.std.proofs.Common.{◌≡◌, ℕ, ◌+◌, ◌<◌, ◌≤◌, zero, suc, Bool, true, false, not, ◌||◌, eqb-true, nat_eq, List, [], ◌∷◌, ◌++◌, length, Option, Some, None, refl, sym, ap, ◌∙◌, subst, arith, true≢false, inl, inr, get_or, take}
+use Rattle.std.proofs.Common.{◌≡◌, ℕ, ◌+◌, ◌<◌, ◌≤◌, suc, Bool, true, false, not, ◌||◌, eqb-true, nat_eq, List, [], ◌∷◌, ◌++◌, length, Option, Some, None, refl, sym, ap, ◌∙◌, subst, arith, true≢false, inl, inr, get_or, take}
 use Rattle.std.specs.List.{list_any}
 use Rattle.std.specs.Cmp.{nat_cmp_total}
 use Rattle.std.specs.FinSet as set
-use Rattle.std.proofs.lemmas.Bool.{cases_eq, cases_lt, eq-eqb, ne_eqb, or_parts}
+use Rattle.std.proofs.lemmas.Bool.{cases_eq, eq-eqb, ne_eqb, or_parts}
 use Rattle.std.proofs.Math.Seq.{take-suc}
 use Rattle.std.proofs.lemmas.List.Elements.{AllZip-push}
 use Rattle.cx_base.specs.Literals.{Literal, differ, same_literal, value_of, literal_true}
@@ -11,8 +11,7 @@ use Rattle.cx_base.specs.Problem.{clause_met, parity_met}
 use Rattle.cx_base.specs.Parity.{NormalForm, HasOneOfEach, occurs_odd}
 use Rattle.cx_base.proofs.Odd.{parity_met-cons, is_odd-count}
 use Rattle.cx_base.proofs.ParityLaws.{contains-normal_form}
-use Rattle.cx_base.proofs.Differences.{differ_assoc}
-use Rattle.gf2_rows.proofs.Words.{differ_move}
+use Rattle.cx_base.proofs.Differences.{differ_assoc, differ_move}
 use Rattle.cx_semantics.specs.Chain.{has_literal}
 use Rattle.cx_semantics.proofs.ChainLaws.{same_literal-itself}
 use Rattle.cx_semantics.proofs.RecoveredLaws.{Distinct, len-distinct, or_apart}
@@ -20,17 +19,12 @@ use Rattle.cx_semantics.proofs.Members.{has_at_head, has_behind, has_split}
 use Rattle.cx_semantics.proofs.Widths.{variable_in, length-variables, variables}
 use Rattle.cx_trail.specs.Sequence.{TrailState, IsTrail, IsTrueIn, IsFalseIn}
 use Rattle.parity_engine.specs.Written.{IsWritten, Rises}
-use Rattle.parity_engine.proofs.Columns.{none_below}
+use Rattle.parity_engine.proofs.Columns.{none_below, rising_low}
 use Rattle.xor_reason.specs.LiteralChoice.{IsLiteralFor, AreLiteralsFor}
 use Rattle.xor_reason.specs.ReasonClause.{AgreesWithTrail, AreFalseBut, IsReasonFor, IsReasonClause}
 use Rattle.xor_reason.proofs.TrailValues.{trail_values, trail_values_agree, false_under}
 
 -- ---- literals of a list
-
-pub has_by_index : (lits : List Literal) (i : ℕ) (d : Literal) → i < length lits → has_literal lits (get_or lits i d) ≡ true
-has_by_index [] i d lt = absurd (omega arith)
-has_by_index (m ∷ ms) zero d lt = has_at_head m ms
-has_by_index (m ∷ ms) (suc i) d lt = has_behind m ms (get_or ms i d) (has_by_index ms i d (omega arith))
 
 -- ---- choices, one at a time
 pub choice_more : (trail : TrailState) (implied : Option Literal) (lits clause more : List Literal) (i v : ℕ) (l m : Literal) → AreLiteralsFor trail implied (take i lits) clause → i < length lits
@@ -69,16 +63,9 @@ pub contains_written : (form : NormalForm) (lits : List Literal) → IsWritten f
 contains_written form lits written y =
     ap (λ (f : NormalForm). set.contains f.variables y) (sym written.normal) ∙ contains-normal_form lits y ∙ occurs_rising 1 lits y written.rises
 
-rising_low : (vs : List ℕ) (least v : ℕ) → Rises least vs → list_any (λ z. nat_eq z v) vs ≡ true → least ≤ v
-rising_low vs least v rise h =
-    elim (cases_lt v least) [
-      | inl lt ↦ absurd (true≢false (sym h ∙ none_below least vs v rise lt))
-      | inr le ↦ le
-    ]
-
 -- the variables of a written parity are at least 1, and the form has them
 pub low_written : (form : NormalForm) (lits : List Literal) → IsWritten form lits → (l : Literal) → has_literal lits l ≡ true → 1 ≤ l.variable
-low_written form lits written l h = rising_low (variables lits) 1 l.variable written.rises (variable_in lits l h)
+low_written form lits written l h = rising_low 1 (variables lits) l.variable written.rises (variable_in lits l h)
 
 pub has_written : (form : NormalForm) (lits : List Literal) → IsWritten form lits → (l : Literal) → has_literal lits l ≡ true → set.contains form.variables l.variable ≡ true
 has_written form lits written l h = contains_written form lits written l.variable ∙ variable_in lits l h

@@ -2,11 +2,10 @@
 use Rattle.std.proofs.Common.{◌≡◌, ℕ, ◌+◌, ◌-◌, ◌<◌, ◌≤◌, zero, suc, Bool, true, false, not, ◌||◌, List, [], ◌∷◌, map, length, get_or, refl, sym, ap, ◌∙◌, arith, true≢false}
 use Rattle.std.specs.List.{list_any, range_with_len}
 use Rattle.std.proofs.lemmas.List.FromFn.{get_or-map-range_with_len}
-use Rattle.std.proofs.lemmas.Bool.{not-true}
+use Rattle.std.proofs.lemmas.Bool.{not-true, or_right}
 use Rattle.cx_base.specs.Literals.{Literal, negate, same_literal, value_of, literal_true}
 use Rattle.cx_base.proofs.ParityLaws.{to_differ}
 use Rattle.cx_semantics.proofs.ChainLaws.{are_one, same_literal-itself, literal_true-negate}
-use Rattle.cx_semantics.proofs.Closure.{or_right}
 use Rattle.cx_trail.specs.declared.entry.Entry.{Entry}
 use Rattle.cx_trail.specs.Sequence.{TrailState, IsTrail, IsTrueIn, IsFalseIn, entry_at, no_entry}
 use Rattle.xor_reason.specs.ReasonClause.{AgreesWithTrail}

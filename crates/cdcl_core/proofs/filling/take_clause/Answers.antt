@@ -1,9 +1,10 @@
 use Rattle.std.proofs.Common.{◌≢◌, sym, ap, ◌∙◌, subst, eqb-true, ◌+◌, length, [], ◌∷◌}
 use Rattle.std.proofs.lemmas.Bool.{eqb-false}
 use Rattle.watch_lists.specs.Attaching.{CanBeWatched}
-use Rattle.cdcl_core.specs.Filling.{IsNext, Attaches}
-use Rattle.cdcl_core.proofs.FilledClauses.{tautology_taken, empty_taken, unit_taken, attached_taken, can_be_watched, on_ok, only_one, none_at_all}
+use Rattle.cdcl_core.specs.Filling.{IsNext}
+use Rattle.cdcl_core.proofs.FilledClauses.{tautology_taken, empty_taken, unit_taken, attached_taken, can_be_watched, only_one, none_at_all}
 use Rattle.cdcl_core.proofs.filling.take_clause.Goals as goal
+use Rattle.cdcl_core.proofs.Outcomes.{on_ok}
 
 pub attach-requires-clause-watched : goal.attach-requires-clause-watched
 attach-requires-clause-watched c =
@@ -17,7 +18,7 @@ pub returns-then-has_both : goal.returns-then-has_both
 returns-then-has_both c = λ formula is. tautology_taken formula c.args.filled.now c.args.lits.now is (sym c.has_both.ensures ∙ c.if-has_both.true)
 
 pub returns-then-lits-gt1 : goal.returns-then-lits-gt1
-returns-then-lits-gt1 c = on_ok c.attach.result (Attaches (record c.args.filled.now.kept { next = c.args.filled.now.kept.next + 1 }) c.attach.new.kept c.args.lits.now c.args.filled.now.kept.next) _ c.attach.ensures
+returns-then-lits-gt1 c = on_ok _ c.attach.result c.attach.ensures
     (λ a formula is. attached_taken formula c.args.filled.now c.args.lits.now is c.attach.new.kept a)
 
 pub returns-then-is_empty : goal.returns-then-is_empty

@@ -1,8 +1,9 @@
 use Rattle.std.proofs.Common.{sym, subst, []}
 use Rattle.cx_base.specs.declared.constraint.Constraint.TheVariants as constraint
 use Rattle.cdcl_core.specs.Filling.{IsNext}
-use Rattle.cdcl_core.proofs.FilledClauses.{next_is_few, next_clause, next_filled, parity_passed, on_ok}
+use Rattle.cdcl_core.proofs.FilledClauses.{next_is_few, next_clause, next_filled, parity_passed}
 use Rattle.cdcl_core.proofs.filling.take_item.Goals as goal
+use Rattle.cdcl_core.proofs.Outcomes.{on_ok}
 
 pub take_clause-requires-clause-few : goal.take_clause-requires-clause-few
 take_clause-requires-clause-few c = next_is_few c.args.formula.now c.args.place (constraint.Clause []) c.requires.place c.args.filled.now c.requires.filled c.requires.few c.in-Clause.lits.now (sym c.in-Clause.ensures.item)
@@ -20,7 +21,7 @@ returns-in_ok-lits-in-Clause c =
     let is : IsNext c.args.formula.now c.args.filled.now c.deref.result.now = subst (IsNext c.args.formula.now c.args.filled.now) (sym c.deref.ensures.value)
     (next_clause c.args.formula.now c.args.place (constraint.Clause []) c.requires.place c.args.filled.now c.requires.filled c.in_ok-lits-in-Clause.lits.items c.in-Clause.lits.now (sym c.in-Clause.ensures.item)
     c.in_ok-lits-in-Clause.ensures.same c.in_ok-lits-in-Clause.ensures.once c.in-Clause.ensures.within) in
-    on_ok c.take_clause.result _ _ c.take_clause.ensures
+    on_ok _ c.take_clause.result c.take_clause.ensures
     (λ f. next_filled c.args.formula.now c.args.place (constraint.Clause []) c.requires.place c.args.filled.now c.requires.filled c.in-Clause.lits.now (sym c.in-Clause.ensures.item) c.take_clause.new.filled (f c.args.formula.now is))
 
 pub returns-in-Parity : goal.returns-in-Parity

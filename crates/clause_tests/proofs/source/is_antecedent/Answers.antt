@@ -2,8 +2,8 @@ use Rattle.std.proofs.Common.{◌≡◌, ◌≢◌, ◌∙◌, get_or, sym, ap, 
 use Rattle.cx_base.specs.Literals.{Literal, code_of}
 use Rattle.cx_base.proofs.LiteralLaws.{same_code}
 use Rattle.cx_semantics.specs.Chain.{has_literal}
+use Rattle.cx_semantics.proofs.Members.{has_by_index}
 use Rattle.cx_trail.specs.Sequence.{IsFalseBefore}
-use Rattle.conflict_learn.proofs.TouchLaws.{has_by_index}
 use Rattle.clause_tests.proofs.Members.{place_of_member, not_same, one_more}
 use Rattle.clause_tests.proofs.source.is_antecedent.Goals.{then-eq, else-eq+else-not-is_false_before}
 use Rattle.clause_tests.proofs.source.is_antecedent.Goals as goal

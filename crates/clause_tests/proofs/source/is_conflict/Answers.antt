@@ -1,8 +1,8 @@
 use Rattle.std.proofs.Common.{◌∙◌, length, sym, ap, subst, refl, arith}
 use Rattle.cx_base.specs.Literals.{Literal}
 use Rattle.cx_semantics.specs.Chain.{has_literal}
+use Rattle.cx_semantics.proofs.Members.{has_by_index}
 use Rattle.cx_trail.specs.Sequence.{IsFalseBefore, entry_at}
-use Rattle.conflict_learn.proofs.TouchLaws.{has_by_index}
 use Rattle.clause_tests.proofs.Members.{place_of_member, one_more}
 use Rattle.clause_tests.proofs.source.is_conflict.Goals.{then-level_of-level+then-level-gt0, else-level_of-level}
 use Rattle.clause_tests.proofs.source.is_conflict.Goals as goal

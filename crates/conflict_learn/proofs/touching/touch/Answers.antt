@@ -2,9 +2,10 @@ use Rattle.std.proofs.Common.{◌≡◌, sym, ap, ◌∙◌, subst, ◌+◌, tru
 use Rattle.std.proofs.lemmas.List.{take_more}
 use Rattle.cx_base.specs.Literals.{Literal}
 use Rattle.cx_semantics.specs.Chain.{has_literal}
+use Rattle.cx_semantics.proofs.Members.{has_by_index}
 use Rattle.conflict_learn.specs.Learning.{skips}
 use Rattle.conflict_learn.specs.Touching.{Touched}
-use Rattle.conflict_learn.proofs.TouchLaws.{touched_skipped, touched_put, has_by_index}
+use Rattle.conflict_learn.proofs.TouchLaws.{touched_skipped, touched_put}
 use Rattle.conflict_learn.proofs.touching.touch.Goals.{then-not-is_skipped+in_ok-insert, else-not-is_skipped}
 use Rattle.conflict_learn.proofs.touching.touch.Goals as goal
 

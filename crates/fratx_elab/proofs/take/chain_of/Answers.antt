@@ -1,10 +1,10 @@
 use Rattle.std.proofs.Common.{◌≡◌, refl, sym, ap, ◌∙◌, subst, ℕ, ℤ, nat_abs, Bool, true, false, not, ◌||◌, List, [], ◌∷◌, true≢false}
 use Rattle.std.specs.List.{list_any}
-use Rattle.cx_semantics.specs.Chain.{ChainEnd, right, not_unit, hints_end, chain, negations, IsChain}
+use Rattle.cx_semantics.specs.Chain.{chain, negations, IsChain}
 use Rattle.cx_semantics.specs.Integers.{sizes}
 use Rattle.cx_semantics.specs.LogRules.{AreLive}
-use Rattle.cx_semantics.specs.ProofRules.{is_not_unit, is_hints_end}
 use Rattle.cx_semantics.specs.Tables.{Table, Tables, is_live, named}
+use Rattle.cx_semantics.proofs.Soundness.{chain_is_right}
 use Rattle.fratx_elab.proofs.take.chain_of.Goals as goal
 
 live_sizes : (table : Table) (zs : List ℤ) → list_any (λ z. not (is_live table (nat_abs z))) zs ≡ false → AreLive table (sizes zs)
@@ -15,11 +15,6 @@ live_sizes table (z ∷ zs) h = go (is_live table (nat_abs z)) refl (live_sizes 
     go true e rest = (e, rest (sym (ap (λ b. not b || list_any (λ z. not (is_live table (nat_abs z))) zs) e) ∙ h))
     go false e rest = absurd (true≢false (sym (ap (λ b. not b || list_any (λ z. not (is_live table (nat_abs z))) zs) e) ∙ h))
 
-is_right : (e : ChainEnd) → is_not_unit e ≡ false → is_hints_end e ≡ false → e ≡ right
-is_right right h k = refl
-is_right not_unit h k = absurd (true≢false h)
-is_right hints_end h k = absurd (true≢false k)
-
 pub returns-in-Ok : goal.returns-in-Ok
 returns-in-Ok c =
     let table = c.live.result.now.clauses in
@@ -27,7 +22,7 @@ returns-in-Ok c =
     let ns = sizes c.args.given.now in
     let h = c.in-Ok.ensures in
     let ids : c.from_vec.result ≡ ns = c.from_vec.ensures ∙ c.in_ok-ids_of-in-Ok.ensures in
-    let found : AreLive table ns × IsChain target (named table ns) = (live_sizes table c.args.given.now h.1.0, is_right (chain (negations target) (named table ns)) h.1.1.0 h.1.1.1.0) in
+    let found : AreLive table ns × IsChain target (named table ns) = (live_sizes table c.args.given.now h.1.0, chain_is_right (chain (negations target) (named table ns)) h.1.1.0 h.1.1.1.0) in
     let here = subst (λ (t : Tables). AreLive t.clauses ns × IsChain target (named t.clauses ns)) c.live.ensures found in
     let P : List ℕ → Type 0 = λ ks. AreLive c.args.live.now.clauses ks × IsChain target (named c.args.live.now.clauses ks) in
     subst P (sym ids) here

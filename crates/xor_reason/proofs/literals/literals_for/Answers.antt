@@ -1,9 +1,10 @@
 use Rattle.std.proofs.Common.{sym, subst, ap, ◌∙◌}
 use Rattle.std.proofs.lemmas.List.{take_all}
 use Rattle.cx_semantics.specs.Chain.{has_literal}
+use Rattle.cx_semantics.proofs.Members.{has_by_index}
 use Rattle.cx_trail.specs.Sequence.{IsAssignedIn}
 use Rattle.xor_reason.specs.LiteralChoice.{AreLiteralsFor}
-use Rattle.xor_reason.proofs.ClauseLaws.{choice_more, has_by_index}
+use Rattle.xor_reason.proofs.ClauseLaws.{choice_more}
 use Rattle.xor_reason.proofs.literals.literals_for.Goals as goal
 
 pub literal_for-requires-clause-assigned : goal.literal_for-requires-clause-assigned

@@ -1,6 +1,6 @@
 use Rattle.std.proofs.Common.{◌∙◌, ap}
 use Rattle.cx_semantics.specs.Tables.{Table, Tables, put_clause}
-use Rattle.cx_semantics.proofs.TableEntries.{from_entries-insert}
+use Rattle.cx_semantics.proofs.MapEntries.{from_entries-insert}
 use Rattle.proof_rules.proofs.live.Live.add_clause.Goals as goal
 
 with_clauses : Table → Tables → Tables

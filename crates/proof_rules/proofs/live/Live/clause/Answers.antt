@@ -1,6 +1,6 @@
 use Rattle.std.proofs.Common.{◌∙◌, ap, sym, Some}
 use Rattle.cx_semantics.specs.Tables.{get}
-use Rattle.cx_semantics.proofs.TableEntries.{get-from_entries}
+use Rattle.cx_semantics.proofs.MapEntries.{get-from_entries}
 use Rattle.proof_rules.proofs.live.Live.clause.Goals as goal
 
 pub returns-in-Some : goal.returns-in-Some

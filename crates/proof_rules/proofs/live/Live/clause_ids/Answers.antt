@@ -4,7 +4,7 @@ use Rattle.std.specs.Ordering.{eq_by_cmp}
 use Rattle.std.specs.Map.Iter.{deref}
 use Rattle.std.proofs.lemmas.Map.Iter.{rest_all}
 use Rattle.cx_semantics.specs.Tables.{is_live}
-use Rattle.cx_semantics.proofs.TableEntries.{get-from_entries}
+use Rattle.cx_semantics.proofs.MapEntries.{get-from_entries}
 use Rattle.proof_rules.proofs.live.Live.clause_ids.Goals as goal
 
 pub returns : goal.returns

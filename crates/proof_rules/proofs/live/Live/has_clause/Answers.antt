@@ -1,6 +1,6 @@
 use Rattle.std.proofs.Common.{◌∙◌, ap, sym, is_some}
 use Rattle.cx_semantics.specs.Tables.{is_live}
-use Rattle.cx_semantics.proofs.TableEntries.{get-from_entries}
+use Rattle.cx_semantics.proofs.MapEntries.{get-from_entries}
 use Rattle.proof_rules.proofs.live.Live.has_clause.Goals as goal
 
 pub returns : goal.returns

@@ -1,6 +1,6 @@
 use Rattle.std.proofs.Common.{◌∙◌, ap, ◌∷◌, []}
 use Rattle.cx_semantics.specs.Tables.{drop_parities}
-use Rattle.cx_semantics.proofs.TableEntries.{from_entries-remove}
+use Rattle.cx_semantics.proofs.MapEntries.{from_entries-remove}
 use Rattle.proof_rules.proofs.live.Live.remove_parity.Goals as goal
 
 pub returns : goal.returns
