@@ -11,16 +11,17 @@ use Rattle.std.proofs.lemmas.List.Recursion.{and_from_places}
 use Rattle.cx_base.specs.declared.literal.TheConstants.{MAX_VARIABLE}
 use Rattle.cx_base.specs.Literals.{Literal, differ}
 use Rattle.cx_base.specs.Problem.{AreWithin, parity_met}
-use Rattle.cx_base.specs.Parity.{normal_form}
+use Rattle.cx_base.specs.Parity.{normal_form, odd_sum}
 use Rattle.cx_base.proofs.ParityLaws.{Sums, met-from_Sums, differ_false}
-use Rattle.gf2_rows.specs.Bits.{bit_of, bits_of, parity}
+use Rattle.gf2_rows.specs.Bits.{bit_of, bits_of}
 use Rattle.cx_base.proofs.Differences.{differ_assoc}
 use Rattle.gf2_rows.proofs.Words.{bits_turned}
 use Rattle.gf2_matrix.specs.declared.packed.PackedRow.{PackedRow}
 use Rattle.gf2_matrix.specs.Totals.{MeetsEquation}
 use Rattle.parity_engine.specs.Equations.{numbers_from, sum_of_numbers}
 use Rattle.gf2_matrix.specs.Content.{SourcedRow, no_row, row_at, equation, form, has, source_numbers, IsLong, IsInColumns, IsOfGiven}
-use Rattle.parity_engine.specs.Columns.{place, AreColumns}
+use Rattle.parity_engine.specs.Columns.{place}
+use Rattle.parity_engine.specs.Written.{AreRising}
 use Rattle.parity_engine.specs.Views.{words_for}
 use Rattle.gf2_matrix.specs.Packed.{unpacked, content, IsMatrix}
 use Rattle.gf2_matrix.specs.Made.{is_flipped, IsMade, IsEmptyRow, IsRowOf, AreRowsOf, IsMadeOf, occurs_in}
@@ -73,11 +74,11 @@ made_more columns old row new lits i l words column before lt read at long flipp
       bits = λ k.
           ap (λ ws. bit_of ws k) is ∙ flipped k
           ∙ (λ j. differ (before.bits k j) (is_flipped (at j) (length columns) k))
-          ∙ differ_assoc (bit_of old.bits.items k) (parity (map (f k) (take i lits))) (f k l)
-          ∙ ap (differ (bit_of old.bits.items k)) (ap (λ m. differ (parity (map (f k) (take i lits))) (f k m)) read ∙ sym (parity_taken (f k) lits i l lt));
+          ∙ differ_assoc (bit_of old.bits.items k) (odd_sum (map (f k) (take i lits))) (f k l)
+          ∙ ap (differ (bit_of old.bits.items k)) (ap (λ m. differ (odd_sum (map (f k) (take i lits))) (f k m)) read ∙ sym (parity_taken (f k) lits i l lt));
       right =
-          right ∙ ap (λ b. differ b l.negative) before.right ∙ differ_assoc old.right (parity (map g (take i lits))) l.negative
-          ∙ ap (differ old.right) (ap (λ m. differ (parity (map g (take i lits))) (g m)) read ∙ sym (parity_taken g lits i l lt));
+          right ∙ ap (λ b. differ b l.negative) before.right ∙ differ_assoc old.right (odd_sum (map g (take i lits))) l.negative
+          ∙ ap (differ old.right) (ap (λ m. differ (odd_sum (map g (take i lits))) (g m)) read ∙ sym (parity_taken g lits i l lt));
       sources = sources ∙ before.sources;
     }
 
@@ -91,9 +92,9 @@ row_made columns count at lits empty made new sources none is long put bits_is r
   source_words = ap length sources_is ∙ long ∙ ap length is.sources ∙ none.source_words;
   bits = λ k.
       ap (λ ws. bit_of ws k) bits_is ∙ is.bits k
-      ∙ (λ j. differ (none.bits k j) (parity (map (λ (l : Literal). is_flipped (place columns l.variable) (length columns) k) (take_all (length lits) lits (omega arith) j))));
+      ∙ (λ j. differ (none.bits k j) (odd_sum (map (λ (l : Literal). is_flipped (place columns l.variable) (length columns) k) (take_all (length lits) lits (omega arith) j))));
   right =
-      right_is ∙ is.right ∙ (λ j. differ (none.right j) (parity (map (λ (l : Literal). l.negative) (take_all (length lits) lits (omega arith) j))))
+      right_is ∙ is.right ∙ (λ j. differ (none.right j) (odd_sum (map (λ (l : Literal). l.negative) (take_all (length lits) lits (omega arith) j))))
       ∙ sym (right_parity lits);
   sources = λ k.
       ap (λ ws. bit_of ws k) sources_is ∙ put k ∙ ap (cond (nat_eq k at) true) (ap (λ ws. bit_of ws k) is.sources ∙ none.sources k) ∙ tested (nat_eq k at);
@@ -123,17 +124,17 @@ rows_more columns parities rows more n row lits before is read one =
     })
 
 -- ---- columns of the marked variables
-columns_lower : (low high vars : ℕ) (cs : List ℕ) → low ≤ high → AreColumns high vars cs → AreColumns low vars cs
+columns_lower : (low high vars : ℕ) (cs : List ℕ) → low ≤ high → AreRising high vars cs → AreRising low vars cs
 columns_lower low high vars [] le rise = tt
 columns_lower low high vars (c ∷ cs) le rise = (let h = rise.0 in omega arith, rise.1, rise.2)
 
-pub numbers_rise : (k vars : ℕ) (marks : List Bool) → k + length marks ≤ vars + 1 → AreColumns k vars (numbers_from k marks)
+pub numbers_rise : (k vars : ℕ) (marks : List Bool) → k + length marks ≤ vars + 1 → AreRising k vars (numbers_from k marks)
 numbers_rise k vars [] le = tt
 numbers_rise k vars (true ∷ marks) le = (omega arith, omega arith, numbers_rise (k + 1) vars marks (omega arith))
 numbers_rise k vars (false ∷ marks) le = columns_lower k (k + 1) vars (numbers_from (k + 1) marks) (omega arith) (numbers_rise (k + 1) vars marks (omega arith))
 
 -- a variable outside the range is in no normal form
-outside : (vars : ℕ) (lits : List Literal) (v : ℕ) → AreWithin vars lits → (v ≡ 0) ⊎ (vars < v) → parity (map (λ (l : Literal). eqb l.variable v) lits) ≡ false
+outside : (vars : ℕ) (lits : List Literal) (v : ℕ) → AreWithin vars lits → (v ≡ 0) ⊎ (vars < v) → odd_sum (map (λ (l : Literal). eqb l.variable v) lits) ≡ false
 outside vars [] v within out = refl
 outside vars (l ∷ lits) v within out =
     let ne : l.variable ≡ v → ⊥ = λ e. elim out [ inl z ↦ let h = within.0.0 in omega arith | inr gt ↦ let h = within.0.1 in omega arith ] in
@@ -184,7 +185,7 @@ not_flipped column columns k le =
     ]
 
 flipped_past : (columns : List ℕ) (lits : List Literal) (k : ℕ) → length columns ≤ k
-    → parity (map (λ (l : Literal). is_flipped (place columns l.variable) (length columns) k) lits) ≡ false
+    → odd_sum (map (λ (l : Literal). is_flipped (place columns l.variable) (length columns) k) lits) ≡ false
 flipped_past columns [] k le = refl
 flipped_past columns (l ∷ lits) k le = (λ i. differ (not_flipped (place columns l.variable) (length columns) k le i) (flipped_past columns lits k le i))
 
@@ -208,7 +209,7 @@ flipped_own columns u v lt =
     ]
 
 flipped_all : (columns : List ℕ) (lits : List Literal) (v : ℕ) → place columns v < length columns
-    → parity (map (λ (l : Literal). is_flipped (place columns l.variable) (length columns) (place columns v)) lits) ≡ parity (map (λ (l : Literal). eqb l.variable v) lits)
+    → odd_sum (map (λ (l : Literal). is_flipped (place columns l.variable) (length columns) (place columns v)) lits) ≡ odd_sum (map (λ (l : Literal). eqb l.variable v) lits)
 flipped_all columns [] v lt = refl
 flipped_all columns (l ∷ lits) v lt = (λ i. differ (flipped_own columns l.variable v lt i) (flipped_all columns lits v lt i))
 
@@ -234,7 +235,7 @@ one_number f i k m a (suc n) is low high at =
 -- the columns and the rows are those of the parities
 pub record AreMadeFrom (vars : ℕ) (given : List (List Literal)) (columns : List ℕ) (rows : List PackedRow) : Type 0 where
   pub within : AllByRecursion (AreWithin vars) given
-  pub rise : AreColumns 1 vars columns
+  pub rise : AreRising 1 vars columns
   pub occur : (v : ℕ) → list_any (λ c. nat_eq c v) columns ≡ occurs_in given v
   pub are : AreRowsOf columns given rows (length given)
 
@@ -381,9 +382,9 @@ module _ (vars : ℕ) (given : List (List Literal)) (columns : List ℕ) (rows :
   }
 
 -- the columns that come from marks
-pub made_columns : (vars : ℕ) (marks read : List Bool) (seen columns : List ℕ) → length marks ≡ vars → read ≡ marks → columns ≡ numbers_from 1 read → seen ≡ columns → AreColumns 1 vars seen
+pub made_columns : (vars : ℕ) (marks read : List Bool) (seen columns : List ℕ) → length marks ≡ vars → read ≡ marks → columns ≡ numbers_from 1 read → seen ≡ columns → AreRising 1 vars seen
 made_columns vars marks read seen columns long read_is is seen_is =
-    subst (AreColumns 1 vars) (sym (seen_is ∙ is ∙ ap (numbers_from 1) read_is)) (numbers_rise 1 vars marks (omega arith))
+    subst (AreRising 1 vars) (sym (seen_is ∙ is ∙ ap (numbers_from 1) read_is)) (numbers_rise 1 vars marks (omega arith))
 
 -- what a matrix is made of, said of its fields
 pub made_inputs : (vars : ℕ) (parities lists given : List (List Literal)) (marks : List Bool) (columns seen : List ℕ) (rows : List PackedRow)
@@ -396,7 +397,7 @@ made_inputs vars parities lists given marks columns seen rows within lists_is gi
     let rows_here : AreRowsOf columns lists rows (length lists) = subst (λ cs. AreRowsOf cs lists rows (length lists)) seen_is are in
     record {
       within = subst (AllByRecursion (AreWithin vars)) (sym given_is) within_lists;
-      rise = subst (AreColumns 1 vars) (sym is) (numbers_rise 1 vars marks (omega arith));
+      rise = subst (AreRising 1 vars) (sym is) (numbers_rise 1 vars marks (omega arith));
       occur = λ v. ap (list_any (λ c. nat_eq c v)) is ∙ columns_occur vars lists marks within_lists long marked v ∙ ap (λ ps. occurs_in ps v) (sym given_is);
       are = subst (λ (ps : List (List Literal)). AreRowsOf columns ps rows (length ps)) (sym given_is) rows_here;
     }

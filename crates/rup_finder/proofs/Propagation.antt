@@ -6,7 +6,7 @@ use Rattle.std.proofs.lemmas.Bool.{false_from_ne_true, or_parts, or_from, and_pa
 use Rattle.std.proofs.lemmas.Option.{same_Some}
 use Rattle.cx_base.specs.Literals.{Literal, code_of, negate, same_literal}
 use Rattle.cx_base.proofs.LiteralLaws.{negate-negate}
-use Rattle.cx_semantics.specs.Chain.{has_literal, negations, left, none, one, more, count_left}
+use Rattle.cx_semantics.specs.Chain.{has_literal, negations, left, none, one, more, count_left, HaveSame}
 use Rattle.cx_semantics.specs.Fresh.{is_falsified}
 use Rattle.cx_semantics.specs.Tables.{Table, get}
 use Rattle.cx_semantics.specs.LogRules.{HasChain}
@@ -14,13 +14,12 @@ use Rattle.cx_semantics.proofs.ChainLaws.{are_one, same_literal-itself}
 use Rattle.cx_semantics.proofs.Closure.{all_are, some_are, left_under, closed_has_no_chain, one_in, left_nil, one_is, same_id, left_open}
 use Rattle.cx_semantics.proofs.Members.{has_at_head, has_left, has_right}
 use Rattle.cx_semantics.proofs.SameSets.{inside_by}
-use Rattle.proof_rules.specs.LiteralSets.{HaveSame}
 use Rattle.rup_finder.specs.declared.reached.Hint.{Hint}
 use Rattle.rup_finder.specs.declared.reached.Reached.{Reached}
 use Rattle.rup_finder.specs.Occurrences.{HasId, Covers, ListsPlace, is_wide}
 use Rattle.rup_finder.specs.declared.occurrences.Occurrence.{Occurrence}
 use Rattle.rup_finder.specs.declared.occurrences.TheConstants.{SHORT}
-use Rattle.rup_finder.specs.Saturation.{IsUnit, Follows, after, HasCome, IsUsed, IsWide, IsAwaited, IsHandled, AllSeen, IsSaturated, Advances, IsAssumedBy, AssumesBy, Begins, Propagates, Ends}
+use Rattle.rup_finder.specs.Saturation.{IsUnit, Follows, after, HasCome, IsUsed, IsWide, IsAwaited, IsHandled, AllSeen, IsSaturated, Advances, IsAssumedBy, AssumesBy, IsStart, Propagates, Ends}
 
 -- ---- lists of literals
 
@@ -115,7 +114,7 @@ after_has : (a : List Literal) (hints : List Hint) (l : Literal) → has_literal
 after_has a [] l h = h
 after_has a (k ∷ hints) l h = after_has (k.lit ∷ a) hints l (or_right (same_literal l k.lit) _ h)
 
-pub come_first : (table : Table) (target : List Literal) (reached : Reached) → Begins target reached → HasCome table target reached
+pub come_first : (table : Table) (target : List Literal) (reached : Reached) → IsStart target reached → HasCome table target reached
 come_first table target reached b = record {
   follows = subst (Follows table (negations target)) (sym b.hints) tt;
   same = λ l. b.assumed l ∙ ap (λ hs. has_literal (after (negations target) hs) l) (sym b.hints);
@@ -231,7 +230,7 @@ whole a queue (m ∷ ms) h = elim (has_literal a (negate m)) as (λ b. has_liter
   | false ↦ λ e rest. elim rest [ inl (l, f, g) ↦ inl (l, f, or_right (same_literal (negate l) m) _ g) | inr f ↦ inr (ap (λ xs. m ∷ xs) f) ]
 ] refl (whole a queue ms h)
 
-pub seen_first : (table : Table) (target : List Literal) (reached : Reached) (pairs : List Occurrence) (ids : List ℕ) → Begins target reached → Covers table pairs → ListsPlace pairs SHORT ids → AllSeen table reached ids
+pub seen_first : (table : Table) (target : List Literal) (reached : Reached) (pairs : List Occurrence) (ids : List ℕ) → IsStart target reached → Covers table pairs → ListsPlace pairs SHORT ids → AllSeen table reached ids
 seen_first table target reached pairs ids b covers lists n clause e = elim (whole reached.assumed reached.queue.items clause (λ l h. ap (λ q. has_literal q l) b.queue ∙ sym (b.assumed l) ∙ h)) [
   | inl w ↦ inl (inr (inr w))
   | inr all ↦ elim (is_wide clause) as (λ w. is_wide clause ≡ w → IsHandled reached clause ⊎ HasId ids n) [
