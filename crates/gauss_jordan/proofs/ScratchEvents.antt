@@ -26,6 +26,7 @@ use Rattle.parity_engine.specs.declared.state.Mood.TheVariants.{Busy, Calm, Brok
 use Rattle.parity_engine.specs.State.{State, Named, is_unassigned, IsSilent, IsImplied, IsBroken, IsNamedNow, IsSameNamed, fresh, names, named_at}
 use Rattle.parity_engine.specs.Written.{AreRising}
 use Rattle.parity_engine.proofs.Known.{none_is}
+use Rattle.parity_engine.proofs.Columns.{numbers_rise}
 use Rattle.gauss_jordan.specs.System.{just_value, has_at, filled, IsOneOpen}
 use Rattle.gauss_jordan.specs.declared.found.Found.TheVariants as found
 use Rattle.gauss_jordan.specs.Found.{IsMasked, Shows}
@@ -39,15 +40,6 @@ same_shape c d shape =
     ap (λ (v : ℕ). let q : Content = record { vars = v; given = d.given; columns = d.columns; rows = d.rows } in q) shape.vars
     ∙ ap (λ g. let q : Content = record { vars = c.vars; given = g; columns = d.columns; rows = d.rows } in q) shape.given
     ∙ ap (λ k. let q : Content = record { vars = c.vars; given = c.given; columns = k; rows = d.rows } in q) shape.columns
-
-rising_more : (least next count : ℕ) (ks : List ℕ) → least ≤ next → AreRising next count ks → AreRising least count ks
-rising_more least next count [] le rise = tt
-rising_more least next count (k ∷ ks) le rise = let a = rise.0 in (omega arith, rise.1, rise.2)
-
-numbers_rise : (bs : List Bool) (k count : ℕ) → k + length bs ≤ count + 1 → AreRising k count (numbers_from k bs)
-numbers_rise [] k count le = tt
-numbers_rise (true ∷ bs) k count le = (omega arith, omega arith, numbers_rise bs (k + 1) count (omega arith))
-numbers_rise (false ∷ bs) k count le = rising_more k (k + 1) count (numbers_from (k + 1) bs) (omega arith) (numbers_rise bs (k + 1) count (omega arith))
 
 map-set : {A B : Type 0} (f : A → B) (xs : List A) (k : ℕ) (a : A) → map f (set xs k a) ≡ set (map f xs) k (f a)
 map-set f [] k a = refl
@@ -110,7 +102,7 @@ module _ (c : Content) (level : ℕ) (held : List (Option Held)) (on ts : List �
   named_now row lt b = record {
     level_is = refl;
     kind_is = refl;
-    numbers = numbers_rise (row_at c.rows row).sources 1 (length c.given) (let h = (is.of_given.long row lt).1 in omega arith);
+    numbers = numbers_rise 1 (length c.given) (row_at c.rows row).sources (let h = (is.of_given.long row lt).1 in omega arith);
     sums = is.of_given.sums row lt;
   }
 

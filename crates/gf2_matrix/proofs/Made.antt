@@ -29,7 +29,7 @@ use Rattle.parity_engine.proofs.Forms.{contains-form, contains-form_zero, same_f
 use Rattle.gf2_matrix.proofs.FormSums.{Sums_from_meets, below_from_within, every-at, contains-sum_of_numbers, right-sum_of_numbers}
 use Rattle.parity_engine.proofs.Literals.{contains_parity, right_parity}
 use Rattle.gf2_matrix.proofs.Marks.{parity_taken}
-use Rattle.parity_engine.proofs.Columns.{columns_rise, none_below}
+use Rattle.parity_engine.proofs.Columns.{columns_rise, none_below, numbers_rise}
 use Rattle.gf2_matrix.proofs.Rows.{place-holds}
 use Rattle.gf2_matrix.proofs.Pivot.{sound_from_sum}
 
@@ -124,14 +124,6 @@ rows_more columns parities rows more n row lits before is read one =
     })
 
 -- ---- columns of the marked variables
-columns_lower : (low high vars : ℕ) (cs : List ℕ) → low ≤ high → AreRising high vars cs → AreRising low vars cs
-columns_lower low high vars [] le rise = tt
-columns_lower low high vars (c ∷ cs) le rise = (let h = rise.0 in omega arith, rise.1, rise.2)
-
-pub numbers_rise : (k vars : ℕ) (marks : List Bool) → k + length marks ≤ vars + 1 → AreRising k vars (numbers_from k marks)
-numbers_rise k vars [] le = tt
-numbers_rise k vars (true ∷ marks) le = (omega arith, omega arith, numbers_rise (k + 1) vars marks (omega arith))
-numbers_rise k vars (false ∷ marks) le = columns_lower k (k + 1) vars (numbers_from (k + 1) marks) (omega arith) (numbers_rise (k + 1) vars marks (omega arith))
 
 -- a variable outside the range is in no normal form
 outside : (vars : ℕ) (lits : List Literal) (v : ℕ) → AreWithin vars lits → (v ≡ 0) ⊎ (vars < v) → odd_sum (map (λ (l : Literal). eqb l.variable v) lits) ≡ false

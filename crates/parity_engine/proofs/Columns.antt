@@ -25,6 +25,15 @@ pub columns_within : (least vars : ℕ) (cs : List ℕ) → AreRising least vars
 columns_within least vars [] rise few = tt
 columns_within least vars (c ∷ cs) rise few = (rise.0, let h = rise.1 in omega arith, columns_within (c + 1) vars cs rise.2 few)
 
+lower_stays : (low high greatest : ℕ) (cs : List ℕ) → low ≤ high → AreRising high greatest cs → AreRising low greatest cs
+lower_stays low high greatest [] le rise = tt
+lower_stays low high greatest (c ∷ cs) le rise = (let h = rise.0 in omega arith, rise.1, rise.2)
+
+pub numbers_rise : (k greatest : ℕ) (marks : List Bool) → k + length marks ≤ greatest + 1 → AreRising k greatest (numbers_from k marks)
+numbers_rise k greatest [] le = tt
+numbers_rise k greatest (true ∷ marks) le = (omega arith, omega arith, numbers_rise (k + 1) greatest marks (omega arith))
+numbers_rise k greatest (false ∷ marks) le = lower_stays k (k + 1) greatest (numbers_from (k + 1) marks) (omega arith) (numbers_rise (k + 1) greatest marks (omega arith))
+
 pub rises-least : (least : ℕ) (cs : List ℕ) (k : ℕ) → Rises least cs → k < length cs → least ≤ get_or cs k 0
 rises-least least [] k rise lt = absurd (omega arith)
 rises-least least (c ∷ cs) zero rise lt = rise.0
@@ -59,9 +68,7 @@ rises_lower low high [] le h = tt
 rises_lower low high (x ∷ xs) le h = (let g = h.0 in omega arith, h.1)
 
 pub numbers_are_rising : (k : ℕ) (bs : List Bool) → Rises k (numbers_from k bs)
-numbers_are_rising k [] = tt
-numbers_are_rising k (true ∷ bs) = (omega arith, numbers_are_rising (k + 1) bs)
-numbers_are_rising k (false ∷ bs) = rises_lower k (k + 1) (numbers_from (k + 1) bs) (omega arith) (numbers_are_rising (k + 1) bs)
+numbers_are_rising k bs = columns_rise k (k + length bs) (numbers_from k bs) (numbers_rise k (k + length bs) bs (omega arith))
 
 -- ---- the place of a variable
 pub place_found : (least : ℕ) (cs : List ℕ) (k : ℕ) → Rises least cs → k < length cs → place cs (get_or cs k 0) ≡ k
