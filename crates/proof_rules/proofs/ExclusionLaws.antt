@@ -8,7 +8,7 @@ use Rattle.std.proofs.Math.ListN.{length-set}
 use Rattle.std.proofs.lemmas.List.{get_or-set_other}
 use Rattle.std.proofs.lemmas.Grind.{get_or-set_at}
 use Rattle.std.proofs.lemmas.Bool.{or_cases, false_from_ne_true, not-true, and_parts}
-use Rattle.std.proofs.lemmas.List.Folds.{or-false}
+use Rattle.std.proofs.Math.Bool.{and-false, or-false}
 use Rattle.cx_base.specs.Literals.{Literal, differ, same_literal, literal_true, value_of, positive_of, negative_of}
 use Rattle.cx_base.specs.Problem.{clause_met}
 use Rattle.cx_base.proofs.Differences.{own_sign}
@@ -150,10 +150,6 @@ falsified clause [] bits = true
 falsified clause (x ∷ xs) [] = true
 falsified clause (x ∷ xs) (b ∷ bits) = not (has_literal clause (record { variable = x; negative = not b })) && falsified clause xs bits
 
-and_false : (a : Bool) → (a && false) ≡ false
-and_false true = refl
-and_false false = refl
-
 pub is_hit-place : (clause : List Literal) (xs : List ℕ) (bits : List Bool) (place step : ℕ) → ForEach xs bits → place < step → is_hit clause xs place step (place_of place step bits) ≡ falsified clause xs bits
 is_hit-place clause [] [] place step e h = eq-eqb place place refl
 is_hit-place clause [] (b ∷ bits) place step e h = absurd e
@@ -162,12 +158,12 @@ is_hit-place clause (x ∷ xs) (false ∷ bits) place step e h =
     let j = place_of place (2 * step) bits in
     let apart : is_hit clause xs (place + step) (2 * step) j ≡ false = false_from_ne_true _ (λ k. halves_apart place step j h (place_of-steps bits place (2 * step)) (hit-steps clause xs (place + step) (2 * step) j k)) in
     (λ i. (not (has_literal clause (negative_of x)) && is_hit-place clause xs bits place (2 * step) e (omega arith) i) || (not (has_literal clause (positive_of x)) && apart i))
-    ∙ ap (λ b. (not (has_literal clause (negative_of x)) && falsified clause xs bits) || b) (and_false (not (has_literal clause (positive_of x)))) ∙ or-false _
+    ∙ ap (λ b. (not (has_literal clause (negative_of x)) && falsified clause xs bits) || b) (and-false (not (has_literal clause (positive_of x)))) ∙ or-false _
 is_hit-place clause (x ∷ xs) (true ∷ bits) place step e h =
     let j = place_of (place + step) (2 * step) bits in
     let apart : is_hit clause xs place (2 * step) j ≡ false = false_from_ne_true _ (λ k. halves_apart place step j h (hit-steps clause xs place (2 * step) j k) (place_of-steps bits (place + step) (2 * step))) in
     (λ i. (not (has_literal clause (negative_of x)) && apart i) || (not (has_literal clause (positive_of x)) && is_hit-place clause xs bits (place + step) (2 * step) e (omega arith) i))
-    ∙ ap (λ b. b || (not (has_literal clause (positive_of x)) && falsified clause xs bits)) (and_false (not (has_literal clause (negative_of x))))
+    ∙ ap (λ b. b || (not (has_literal clause (positive_of x)) && falsified clause xs bits)) (and-false (not (has_literal clause (negative_of x))))
 
 -- ---- a clause under values
 
