@@ -12,10 +12,10 @@ use Rattle.cx_semantics.specs.Tables.{Table, get}
 use Rattle.cx_semantics.proofs.ChainLaws.{true_by_all, literal_true-negate}
 use Rattle.cx_semantics.proofs.Lookups.{Looks-insert, Looks-remove}
 use Rattle.cx_semantics.proofs.Members.{has_split}
-use Rattle.cx_semantics.proofs.Closure.{one_in, left_in}
+use Rattle.cx_semantics.proofs.Closure.{one_in, left_in, left_has}
 use Rattle.search_steps.specs.Quiet.{RestsOn, ParitiesQuiet, ClausesQuiet, IsOfParities}
 use Rattle.conflict_learn.proofs.ChainOfResolutions.{by_cases}
-use Rattle.search_steps.proofs.Sets.{not_both, one_left, left_has, no_member, member_of_all}
+use Rattle.search_steps.proofs.Sets.{not_both, one_left, no_member, member_of_all}
 
 -- ---- tables
 

@@ -7,7 +7,7 @@ use Rattle.cx_base.proofs.LiteralLaws.{negate-negate}
 use Rattle.cx_semantics.specs.Chain.{has_literal, is_inside, negations, left, one, more, count_left}
 use Rattle.cx_semantics.specs.Fresh.{is_tautology, is_falsified, others}
 use Rattle.cx_semantics.proofs.ChainLaws.{are_one, same_literal-itself}
-use Rattle.cx_semantics.proofs.Closure.{one_is}
+use Rattle.cx_semantics.proofs.Closure.{one_is, left_has}
 use Rattle.cx_semantics.proofs.Members.{has_at_head, has_behind, has_split}
 use Rattle.search_steps.specs.Quiet.{HasNoClash, RestsOn, HasTrue, HasTwoOpen}
 use Rattle.conflict_learn.proofs.ChainOfResolutions.{by_cases, negated_in}
@@ -40,18 +40,6 @@ others_of (x ∷ xs) l m h = elim (same_literal l x) as (λ b. same_literal l x 
 ] refl h
 
 -- ---- what is left of a clause
-pub left_has : (u clause : List Literal) (l : Literal) → has_literal clause l ≡ true → has_literal u (negate l) ≡ false → has_literal (left u clause) l ≡ true
-left_has u [] l h k = not_both false h refl
-left_has u (m ∷ ms) l h k = elim (has_split m ms l h) [
-  | inl e ↦
-      let f : has_literal u (negate m) ≡ false = subst (λ x. has_literal u (negate x) ≡ false) e k in
-      ap (λ b. has_literal (cond (not b) (m ∷ left u ms) (left u ms)) l) f ∙ ap (has_literal (m ∷ left u ms)) e ∙ has_at_head m (left u ms)
-  | inr g ↦ kept (not (has_literal u (negate m))) (left_has u ms l g k)
-]
-  where
-    kept : (b : Bool) → has_literal (left u ms) l ≡ true → has_literal (cond b (m ∷ left u ms) (left u ms)) l ≡ true
-    kept true r = has_behind m (left u ms) l r
-    kept false r = r
 
 pub one_left : (lits : List Literal) (l m : Literal) → count_left lits ≡ one l → has_literal lits m ≡ true → m ≡ l
 one_left lits l m h k = are_one m l (sym_same l m (member_of_all (same_literal l) lits m (all_same lits l h) k))

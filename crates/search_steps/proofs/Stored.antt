@@ -5,14 +5,14 @@ use Rattle.cx_base.specs.Literals.{Literal, negate, same_literal}
 use Rattle.cx_semantics.specs.Chain.{has_literal, is_inside, same_literals, negations, left}
 use Rattle.cx_semantics.specs.Fresh.{is_falsified}
 use Rattle.cx_semantics.proofs.ChainLaws.{are_one, same_literal-itself}
-use Rattle.cx_semantics.proofs.Closure.{has_by_inside, falsified-left, some_are, left_in, left_open}
+use Rattle.cx_semantics.proofs.Closure.{has_by_inside, falsified-left, some_are, left_in, left_open, left_has}
 use Rattle.cx_semantics.proofs.Members.{has_at_head, has_behind, has_split, all_by}
 use Rattle.cx_trail.specs.declared.entry.Entry.{Entry as TrailEntry}
 use Rattle.search_steps.specs.Quiet.{RestsOn, HasNoClash, HasTrue, HasTwoOpen}
 use Rattle.search_steps.specs.Tied.{IsTied, ForcesOn, IsQuietOn, AreOthersFalseOn, IsFalsifiedOn}
 use Rattle.search_steps.specs.Trail.{Entry, all_held}
 use Rattle.conflict_learn.proofs.ChainOfResolutions.{by_cases, negations_by}
-use Rattle.search_steps.proofs.Sets.{not_both, member_of_all, left_has, one_left, true_rests, two_open_rests}
+use Rattle.search_steps.proofs.Sets.{not_both, member_of_all, one_left, true_rests, two_open_rests}
 use Rattle.search_steps.proofs.Bridge.{true_is_held, open_is_unassigned}
 
 pub rests_around : (u inner clause : List Literal) → is_inside inner clause ≡ true → RestsOn u inner → RestsOn u clause
