@@ -31,7 +31,7 @@ module _ {S : Type 0} (g : Grammar S) where
 
   pub given_is_printable : Forms g → (old new : TextState) (s : S) → Gives (Leaves g) old (Ok (Some s)) new → IsPrintable s
   given_is_printable all old new s gives =
-      let left = text_is_left g all new.tokens new.size new.refused in
+      let left = text_is_left g all new in
       left_is_printable old old.refused s left.0 left.1 (gives left.0 left.1 left.2)
 
 pub given_has_text : (old new : TextState) (s : ProofStep) → Gives (Leaves proof_steps) old (Ok (Some s)) new → HasProofText s

@@ -2,18 +2,25 @@
 ghost use Rattle.std.specs.Prelude.{◌≡◌, true, false, [], ◌∷◌};
 ghost use Rattle.cx_semantics.specs.Words.{placed_words};
 ghost use Rattle.cx_semantics.specs.Grammar.{id, integer, end, integers};
-ghost use Rattle.cx_semantics.specs.ProofText.{proof_steps};
 ghost use Rattle.cx_semantics.proofs.Shapes.{an_id, an_integer, an_end, some_integers};
 ghost use Rattle.proof_text.specs.Heads.{is_head_letter};
 ghost use Rattle.proof_text.specs.Taking.{TakesAll, TakesStep};
-ghost use Rattle.proof_text.specs.Reading.{ReadsStep};
 
 use crate::ahead::TokensAhead;
 use crate::fields::{take_end, take_id, take_ids, take_integer, take_integers};
+use crate::grammar::StepGrammar;
 use crate::source::TextRefusal;
+use crate::step_text::StepText;
 use cx_base::IntList;
 use cx_semantics::ProofStep;
 use std::alloc::Global;
+
+/// The grammar of proofs.
+#[derive(Drop)]
+pub enum ProofGrammar {}
+
+/// A proof that is read from a text.
+pub type ProofText<'a> = StepText<'a, ProofGrammar>;
 
 /// A constraint's id and literals, and the hints that show it.
 #[derive(Drop)]
@@ -149,19 +156,21 @@ fn take_step(alloc: Global, tokens: &mut TokensAhead, size: usize) -> Result<Pro
     }
 }
 
-/// The next step of a text of this size, or none at its end.
-pub fn read_step(
-    alloc: Global,
-    tokens: &mut TokensAhead,
-    size: usize,
-) -> Result<Option<ProofStep>, TextRefusal>
-    ensures { ReadsStep proof_steps size (placed_words tokens.old) result (placed_words tokens.new) }
-{
-    if tokens.is_empty() {
-        return Ok(None);
+impl StepGrammar for ProofGrammar {
+    type Step = ProofStep;
+
+    ghost use Rattle.cx_semantics.specs.ProofText.{proof_steps};
+    ghost use Rattle.cx_semantics.proofs.Grammars.{proof_forms};
+
+    ghost steps = { proof_steps };
+
+    fn read_step(
+        alloc: Global,
+        tokens: &mut TokensAhead,
+        size: usize,
+    ) -> Result<ProofStep, TextRefusal> {
+        take_step(alloc, tokens, size)
     }
-    match take_step(alloc, tokens, size) {
-        Ok(step) => Ok(Some(step)),
-        Err(refusal) => Err(refusal),
-    }
+
+    ghost forms = { proof_forms };
 }
