@@ -9,14 +9,14 @@ use Rattle.std.proofs.lemmas.List.{get_or-set_other}
 use Rattle.std.proofs.lemmas.Grind.{get_or-set_at}
 use Rattle.std.proofs.lemmas.Bool.{or_cases, false_from_ne_true, not-true, and_parts}
 use Rattle.std.proofs.lemmas.List.Folds.{or-false}
-use Rattle.cx_base.specs.Literals.{Literal, differ, same_literal, literal_true, value_of}
+use Rattle.cx_base.specs.Literals.{Literal, differ, same_literal, literal_true, value_of, positive_of, negative_of}
 use Rattle.cx_base.specs.Problem.{clause_met}
 use Rattle.cx_base.proofs.Differences.{own_sign}
-use Rattle.cx_semantics.specs.Chain.{has_literal}
+use Rattle.cx_semantics.specs.Chain.{has_literal, HaveSame}
 use Rattle.cx_semantics.proofs.ChainLaws.{are_one}
-use Rattle.proof_rules.specs.LiteralSets.{HaveSame}
-use Rattle.proof_rules.specs.Assignments.{AreDistinct, odd_sum, positive_of, negative_of}
-use Rattle.proof_rules.specs.Exclusions.{Fits, excluded, is_hit, all_excluded, is_outside}
+use Rattle.cx_base.specs.Parity.{odd_sum}
+use Rattle.proof_rules.specs.Assignments.{AreDistinct}
+use Rattle.proof_rules.specs.Exclusions.{HasPlaces, excluded, is_hit, all_excluded, is_outside}
 use Rattle.proof_rules.proofs.ClauseValues.{met_by, unmet_by}
 
 -- ---- what a clause marks
@@ -116,7 +116,7 @@ place_of-steps [] place step = (0, omega arith)
 place_of-steps (true ∷ bits) place step = steps-high place step _ (place_of-steps bits (place + step) (2 * step))
 place_of-steps (false ∷ bits) place step = steps-low place step _ (place_of-steps bits place (2 * step))
 
-pub place_of-below : (xs : List ℕ) (bits : List Bool) (place step n : ℕ) → ForEach xs bits → Fits xs step n → place < step → place_of place step bits < n
+pub place_of-below : (xs : List ℕ) (bits : List Bool) (place step n : ℕ) → ForEach xs bits → HasPlaces xs step n → place < step → place_of place step bits < n
 place_of-below [] [] place step n e f h = omega arith
 place_of-below [] (b ∷ bits) place step n e f h = absurd e
 place_of-below (x ∷ xs) [] place step n e f h = absurd e

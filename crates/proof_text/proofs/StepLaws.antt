@@ -10,7 +10,7 @@ use Rattle.cx_semantics.proofs.Grammars.{proof_forms}
 use Rattle.cx_semantics.proofs.ProofSteps.{proof_rows, no_more, stops}
 use Rattle.proof_text.specs.declared.source.TextRefusal.{TextRefusal}
 use Rattle.proof_text.specs.Heads.{is_head_letter}
-use Rattle.proof_text.specs.Taking.{Takes, HeadFails, IsOpen, RefusedIn, TakesStep}
+use Rattle.proof_text.specs.Taking.{Takes, HeadFails, MayGoOn, RefusedIn, TakesStep}
 use Rattle.proof_text.specs.Reading.{ReadsStep}
 use Rattle.proof_text.proofs.TakingLaws.{takes_append, refused_then, head_refused}
 use Rattle.proof_text.proofs.Choices.{head_refuses, refused_beside}
@@ -85,7 +85,7 @@ implied_parity_refused size r a b c t d h = refused_then (mark 105 ∷ mark 120 
 step_spells : (s : ProofStep) (a b : List Placed) → Takes (proof_fields s) a b → Spells proof_steps s a b
 step_spells s a b t = reading.step_spells proof_steps proof_forms refl s a b t (stops s (words t.front) b (t.proper, t.spells))
 
-whole : (s : ProofStep) (ws : List Word) → IsStep proof_steps ws s → ¬ IsOpen (remaining proof_rows ws)
+whole : (s : ProofStep) (ws : List Word) → IsStep proof_steps ws s → ¬ MayGoOn (remaining proof_rows ws)
 whole s ws step h = let w = reading.goes_on proof_steps proof_forms refl ws (remaining proof_rows ws) refl h in no_more s ws w.0 step w.1
 
 -- what was taken of some words, or refused, is so in the grammar
