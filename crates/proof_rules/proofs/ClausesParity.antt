@@ -121,7 +121,7 @@ pub one_more : (set clause : List Literal) → HaveSame set clause → (xs : Lis
     → (get_or new j false || rest) ≡ (get_or old j false || (is_hit clause xs 0 1 j || rest))
 one_more set clause same xs j old new rest e h =
     ap (λ t. get_or t j false || rest) e ∙ ap (λ b. b || rest) (get_or-excluded set xs 0 1 old j h ∙ ap (λ b. b || get_or old j false) (is_hit-same set clause same xs 0 1 j))
-    ∙ or_swap (is_hit clause xs 0 1 j) (get_or old j false) rest
+    ∙ or_swap (get_or old j false) (is_hit clause xs 0 1 j) rest
 
 -- ---- the rules in order
 

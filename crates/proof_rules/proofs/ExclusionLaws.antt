@@ -8,7 +8,7 @@ use Rattle.std.proofs.Math.ListN.{length-set}
 use Rattle.std.proofs.lemmas.List.{get_or-set_other}
 use Rattle.std.proofs.lemmas.Grind.{get_or-set_at}
 use Rattle.std.proofs.lemmas.Bool.{or_cases, false_from_ne_true, not-true, and_parts}
-use Rattle.std.proofs.lemmas.List.Folds.{or-false}
+use Rattle.std.proofs.Math.Bool.{or-false}
 use Rattle.cx_base.specs.Literals.{Literal, differ, same_literal, literal_true, value_of, positive_of, negative_of}
 use Rattle.cx_base.specs.Problem.{clause_met}
 use Rattle.cx_base.proofs.Differences.{own_sign}
