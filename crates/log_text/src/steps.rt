@@ -12,7 +12,7 @@ use crate::plain::{Listed, Plain, plain_step};
 use cx_base::{IdList, IntList};
 use cx_semantics::LogStep;
 use proof_text::ahead::TokensAhead;
-use proof_text::fields::{take_end, take_id, take_ids, take_integers, take_letter};
+use proof_text::fields::{take_end, take_id, take_ids, take_integers, take_letter, take_named};
 use proof_text::{StepGrammar, StepText, TextRefusal};
 use std::alloc::Global;
 
@@ -23,13 +23,6 @@ pub enum LogGrammar {}
 /// A log that is read from a text. Lines that begin with `c` are passed over, the marks of conflicts
 /// among them.
 pub type LogText<'a> = StepText<'a, LogGrammar>;
-
-/// An id and literals.
-#[derive(Drop)]
-struct Named {
-    id: u64,
-    literals: IntList,
-}
 
 /// An id and literals, and the ids that show them.
 #[derive(Drop)]
@@ -45,15 +38,6 @@ struct Implied {
     id: u64,
     literals: IntList,
     source: u64,
-}
-
-/// An id and literals up to a zero.
-fn take_named(alloc: Global, tokens: &mut TokensAhead, size: usize) -> Result<Named, TextRefusal>
-    ensures { TakesAll (λ n. id n.id ∷ integers n.literals ∷ []) (an_id ∷ some_integers ∷ []) size (placed_words tokens.old) result (placed_words tokens.new) }
-{
-    let id = take_id(tokens, size)?;
-    let literals = take_integers(alloc, tokens, size)?;
-    Ok(Named { id, literals })
 }
 
 /// An id, literals, the letter l and ids.
