@@ -1,4 +1,3 @@
 pub mod Lines
 pub mod TwoLists
 pub mod StepLaws
-pub mod Given

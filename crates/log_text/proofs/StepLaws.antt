@@ -1,27 +1,27 @@
 -- The steps of logs from their parts, and what was taken and refused in the grammar of logs.
-use Rattle.std.proofs.Common.{◌≡◌, ◌≢◌, refl, sym, ap, ◌∙◌, subst, ℕ, ◌<◌, ℤ, pos, false, List, [], ◌∷◌, ◌++◌, flat_map, Some, None}
+use Rattle.std.proofs.Common.{◌≡◌, ◌≢◌, refl, ap, ◌∙◌, subst, ℕ, ◌<◌, ℤ, pos, false, List, [], ◌∷◌, ◌++◌, flat_map, Some, None, Result, Ok, Err}
 use Rattle.std.specs.List.{AllByRecursion}
 use Rattle.cx_semantics.specs.declared.steps.LogStep.{LogStep}
 use Rattle.cx_semantics.specs.declared.steps.LogStep.TheVariants as log
 use Rattle.cx_semantics.specs.Words.{Word, number, letter, Placed, words}
-use Rattle.cx_semantics.specs.Grammar.{mark, id, ids, integers, end, spelled, spelled_list, IsProper, spelling, IsStep, Stops, Spells}
+use Rattle.cx_semantics.specs.Grammar.{mark, id, integers, spelled_list, IsStep, Stops, Spells}
 use Rattle.cx_semantics.specs.LogText.{log_steps, log_fields}
 use Rattle.cx_semantics.proofs.Shapes.{Kind, a_mark, an_id, an_end, some_ids, some_integers}
 use Rattle.cx_semantics.proofs.Remaining.{after_word, remaining, remaining-push, begins_nowhere, both_passed, positive}
-use Rattle.cx_semantics.proofs.LogSteps.{log_rows, maybe_hinted, behind_step, behind_words, first_of}
+use Rattle.cx_semantics.proofs.LogSteps.{log_rows, maybe_hinted, behind_step, behind_words}
 use Rattle.cx_semantics.proofs.Grammars.{log_forms}
 use Rattle.proof_text.specs.declared.source.TextRefusal.{TextRefusal}
 use Rattle.proof_text.specs.declared.source.TextRefusal.TheVariants.{BadToken, Unterminated}
 use Rattle.proof_text.specs.declared.ahead.SeenWord.{SeenWord}
 use Rattle.proof_text.specs.Heads.{seen_head, is_head_letter}
 use Rattle.proof_text.specs.Taking.{Takes, HeadFails, MayGoOn, RefusedIn}
-use Rattle.proof_text.specs.Reading.{IsRefusal}
+use Rattle.proof_text.specs.Reading.{ReadsStep}
 use Rattle.proof_text.proofs.TakingLaws.{takes_append, refused_then, head_refused, none_after}
 use Rattle.proof_text.proofs.Choices.{head_refuses, refused_beside}
 use Rattle.proof_text.proofs.ReadingLaws as reading
 use Rattle.log_text.specs.declared.plain.Plain.{Plain}
 use Rattle.log_text.specs.declared.plain.Plain.TheVariants as plain
-use Rattle.log_text.specs.Taking.{letter_of, listed_rows, StandsAlone}
+use Rattle.log_text.specs.Taking.{letter_of, listed_rows, StandsAlone, TakesLogStep}
 use Rattle.log_text.proofs.TwoLists.{both_refused}
 
 abbrev named : List Kind
@@ -136,14 +136,13 @@ not_open _ h = h
 
 -- ---- in the grammar
 
-pub no_empty_step : (s : LogStep) → spelling log_steps s ≢ []
-no_empty_step s e = let f = first_of s [] in let k : [] ≡ f.0 ∷ f.1 = ap (λ x. x ++ []) (sym e) ∙ f.3 in cc
-
-pub step_spells : (s : LogStep) (a b : List Placed) → Takes (log_fields s) a b → StandsAlone s b → Spells log_steps s a b
+step_spells : (s : LogStep) (a b : List Placed) → Takes (log_fields s) a b → StandsAlone s b → Spells log_steps s a b
 step_spells s a b t alone = reading.step_spells log_steps log_forms refl s a b t (stops s (words t.front) b (t.proper, t.spells) alone)
 
 whole : (s : LogStep) (ws : List Word) → IsStep log_steps ws s → ¬ MayGoOn (remaining log_rows ws)
 whole s ws h open_ = not_open s (subst MayGoOn (behind_words s ws h) open_)
 
-pub refused_tells : (size : ℕ) (r : TextRefusal) (a : List Placed) → a ≢ [] → RefusedIn log_rows size r a → IsRefusal log_steps size r a
-refused_tells size r a some h = reading.refused_tells log_steps log_forms refl whole size r a some h
+-- what was taken of some words, or refused, is so in the grammar
+pub taken_is_read : (size : ℕ) (r : Result LogStep TextRefusal) (a b : List Placed) → a ≢ [] → TakesLogStep size a r b → ReadsStep log_steps size a r b
+taken_is_read size (Ok s) a b some t = step_spells s a b t.0 t.1
+taken_is_read size (Err r) a b some h = reading.refused_tells log_steps log_forms refl whole size r a some h

@@ -3,7 +3,6 @@
 
 mod copies;
 mod list_log;
-mod log_text;
 mod no_log;
 mod plain;
 mod print;
@@ -12,11 +11,11 @@ mod steps;
 
 pub use cx_semantics::{LogEvent, LogStep};
 pub use list_log::ListLog;
-pub use log_text::LogText;
 pub use no_log::NoLog;
 pub use print::{put_log, put_log_step};
 pub use proof_text::{SinkFault, StepSource, TextRefusal};
 pub use sink::LogSink;
+pub use steps::{LogGrammar, LogText};
 
 #[cfg(test)]
 mod tests;

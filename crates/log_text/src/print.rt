@@ -11,22 +11,7 @@ ghost use Rattle.proof_text.specs.Spaced.{spaced};
 use crate::list_log::ListLog;
 use cx_desk::{Desk, Failed, Port};
 use cx_semantics::{LogEvent, LogStep};
-use proof_text::pieces::{put_id, put_ids, put_integers};
-
-/// An id between two texts, its literals, and a text.
-fn put_head<D: Desk>(
-    desk: &mut D,
-    port: Port,
-    before: &[u8],
-    name: u64,
-    literals: &[i64],
-    after: &[u8],
-) -> Result<(), Failed>
-    ensures { PutsAll port (before.now ++ (decimal name ++ (spaced (spelled (integers literals.now)) ++ after.now))) (D.outside desk.old) result (D.outside desk.new) }
-{
-    put_id(desk, port, before, name, b"")?;
-    put_integers(desk, port, literals, after)
-}
+use proof_text::pieces::{put_head, put_id, put_ids, put_integers};
 
 /// An id and literals behind a text, as the end of a line.
 fn put_plain<D: Desk>(

@@ -2,28 +2,27 @@
 ghost use Rattle.std.specs.Prelude.{◌≡◌, true, false, [], ◌∷◌, MatchResult};
 ghost use Rattle.cx_semantics.specs.Words.{placed_words};
 ghost use Rattle.cx_semantics.specs.Grammar.{mark, id, end, ids, integers};
-ghost use Rattle.cx_semantics.specs.LogText.{log_steps};
 ghost use Rattle.cx_semantics.proofs.LogSteps.{log_rows};
 ghost use Rattle.cx_semantics.proofs.Shapes.{a_mark, an_id, an_end, some_ids, some_integers};
 ghost use Rattle.proof_text.specs.Heads.{is_head_letter};
 ghost use Rattle.proof_text.specs.Taking.{Takes, RefusedIn, TakesAll};
-ghost use Rattle.proof_text.specs.Reading.{ReadsStep};
 ghost use Rattle.log_text.specs.Taking.{letter_of, listed_fields, listed_rows, TakesLogStep};
 
 use crate::plain::{Listed, Plain, plain_step};
 use cx_base::{IdList, IntList};
 use cx_semantics::LogStep;
-use proof_text::TextRefusal;
 use proof_text::ahead::TokensAhead;
-use proof_text::fields::{take_end, take_id, take_ids, take_integers, take_letter};
+use proof_text::fields::{take_end, take_id, take_ids, take_integers, take_letter, take_named};
+use proof_text::{StepGrammar, StepText, TextRefusal};
 use std::alloc::Global;
 
-/// An id and literals.
+/// The grammar of logs.
 #[derive(Drop)]
-struct Named {
-    id: u64,
-    literals: IntList,
-}
+pub enum LogGrammar {}
+
+/// A log that is read from a text. Lines that begin with `c` are passed over, the marks of conflicts
+/// among them.
+pub type LogText<'a> = StepText<'a, LogGrammar>;
 
 /// An id and literals, and the ids that show them.
 #[derive(Drop)]
@@ -39,15 +38,6 @@ struct Implied {
     id: u64,
     literals: IntList,
     source: u64,
-}
-
-/// An id and literals up to a zero.
-fn take_named(alloc: Global, tokens: &mut TokensAhead, size: usize) -> Result<Named, TextRefusal>
-    ensures { TakesAll (λ n. id n.id ∷ integers n.literals ∷ []) (an_id ∷ some_integers ∷ []) size (placed_words tokens.old) result (placed_words tokens.new) }
-{
-    let id = take_id(tokens, size)?;
-    let literals = take_integers(alloc, tokens, size)?;
-    Ok(Named { id, literals })
 }
 
 /// An id, literals, the letter l and ids.
@@ -199,19 +189,21 @@ fn take_step(alloc: Global, tokens: &mut TokensAhead, size: usize) -> Result<Log
     }
 }
 
-/// The next step of a text of this size, or none at its end.
-pub fn read_step(
-    alloc: Global,
-    tokens: &mut TokensAhead,
-    size: usize,
-) -> Result<Option<LogStep>, TextRefusal>
-    ensures { ReadsStep log_steps size (placed_words tokens.old) result (placed_words tokens.new) }
-{
-    if tokens.is_empty() {
-        return Ok(None);
+impl StepGrammar for LogGrammar {
+    type Step = LogStep;
+
+    ghost use Rattle.cx_semantics.specs.LogText.{log_steps};
+    ghost use Rattle.cx_semantics.proofs.Grammars.{log_forms};
+
+    ghost steps = { log_steps };
+
+    fn read_step(
+        alloc: Global,
+        tokens: &mut TokensAhead,
+        size: usize,
+    ) -> Result<LogStep, TextRefusal> {
+        take_step(alloc, tokens, size)
     }
-    match take_step(alloc, tokens, size) {
-        Ok(step) => Ok(Some(step)),
-        Err(refusal) => Err(refusal),
-    }
+
+    ghost forms = { log_forms };
 }

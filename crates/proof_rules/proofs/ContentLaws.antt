@@ -7,13 +7,12 @@ use Rattle.std.specs.Cmp.{nat_cmp_total, unsigned_tied}
 use Rattle.std.specs.FinSet as set
 use Rattle.std.proofs.lemmas.Map.Lookups.{btree_set_from_contains, exact_unsigned}
 use Rattle.std.proofs.lemmas.Bool.{and_from}
-use Rattle.cx_base.specs.Literals.{Literal, code_of, literal_of_code, same_literal}
+use Rattle.cx_base.specs.Literals.{Literal, code_of, literal_of_code}
 use Rattle.cx_base.specs.Codes.{code_of-literal_of_code, literal_of_code-code_of}
 use Rattle.cx_base.specs.Parity.{NormalForm, normal_form}
 use Rattle.cx_base.proofs.Differences.{same_members}
 use Rattle.cx_base.specs.contracts.literal.LitOrd.TheImpl.{cmp-value}
 use Rattle.cx_semantics.specs.Chain.{has_literal, is_inside, same_literals, HaveSame}
-use Rattle.cx_semantics.proofs.ChainLaws.{same_literal-itself}
 use Rattle.cx_semantics.proofs.SameSets.{HaveSame-by_test}
 use Rattle.cx_semantics.proofs.SameSets.{inside_by}
 use Rattle.proof_rules.specs.Contents.{RisesOver, IsClauseContent, IsFormContent, IsParityContent}

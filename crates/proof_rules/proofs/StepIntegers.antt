@@ -1,5 +1,5 @@
 -- The integers of a step, one by one.
-use Rattle.std.proofs.Common.{◌≡◌, ◌≢◌, refl, sym, ap, ◌∙◌, ℕ, zero, suc, ◌<◌, ◌≤◌, ℤ, pos, negsuc, nat_abs, Bool, true, false, ◌||◌, nat_lt, List, [], ◌∷◌, length, get_or, arith, ltb-false}
+use Rattle.std.proofs.Common.{◌≡◌, ◌≢◌, refl, ℕ, zero, suc, ◌<◌, ◌≤◌, ℤ, pos, negsuc, nat_abs, false, nat_lt, List, [], ◌∷◌, length, get_or, arith, ltb-false}
 use Rattle.std.specs.List.{list_any}
 use Rattle.std.proofs.lemmas.Bool.{or_parts}
 use Rattle.cx_base.specs.Numbers.{AreStepIntegers}

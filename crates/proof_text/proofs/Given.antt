@@ -1,13 +1,9 @@
 -- A step that a text gives can be printed.
 use Rattle.std.proofs.Common.{sym, subst, List, [], ◌∷◌, Option, Some, None, Ok}
 use Rattle.std.specs.List.{AllByRecursion}
-use Rattle.cx_semantics.specs.declared.steps.ProofStep.{ProofStep}
 use Rattle.cx_semantics.specs.Words.{Placed, words, IsWithin}
 use Rattle.cx_semantics.specs.Grammar.{Grammar, spelling, IsProper, AreInLimit, Spells, Ending}
-use Rattle.cx_semantics.specs.ProofText.{proof_steps}
-use Rattle.cx_semantics.specs.Printed.{HasProofText}
 use Rattle.cx_semantics.proofs.Forms.{Forms}
-use Rattle.cx_semantics.proofs.Grammars.{proof_forms}
 use Rattle.proof_text.specs.declared.source.TextRefusal.{TextRefusal}
 use Rattle.proof_text.specs.Left.{text_is_left}
 use Rattle.proof_text.specs.Sources.{Gives}
@@ -31,8 +27,5 @@ module _ {S : Type 0} (g : Grammar S) where
 
   pub given_is_printable : Forms g → (old new : TextState) (s : S) → Gives (Leaves g) old (Ok (Some s)) new → IsPrintable s
   given_is_printable all old new s gives =
-      let left = text_is_left g all new.tokens new.size new.refused in
+      let left = text_is_left g all new in
       left_is_printable old old.refused s left.0 left.1 (gives left.0 left.1 left.2)
-
-pub given_has_text : (old new : TextState) (s : ProofStep) → Gives (Leaves proof_steps) old (Ok (Some s)) new → HasProofText s
-given_has_text old new s gives = given_is_printable proof_steps proof_forms old new s gives

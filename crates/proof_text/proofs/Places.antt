@@ -1,17 +1,19 @@
 -- The places of a text's tokens rise and stay below its length.
-use Rattle.std.proofs.Common.{◌≡◌, ◌≢◌, refl, sym, ap, ◌∙◌, subst, ℕ, ◌+◌, ◌<◌, ◌≤◌, Bool, true, false, cond, not, List, [], ◌∷◌, ◌++◌, length, filter, flat_map, filter_map, ◌==◌, Option, None, arith}
+use Rattle.std.proofs.Common.{◌≡◌, refl, sym, ap, ◌∙◌, subst, ℕ, ◌+◌, ◌<◌, ◌≤◌, Bool, true, false, cond, not, List, [], ◌∷◌, ◌++◌, length, filter, flat_map, filter_map, ◌==◌, Option, None, arith}
 use Rattle.std.specs.List.{slice_split, onto_first, enumerate_from}
 use Rattle.std.proofs.lemmas.List.{map-append}
 use Rattle.cx_semantics.specs.Tokens.{Token, is_blank, is_comment, lines_from, token_of, tokens_of_line, tokens}
 use Rattle.cx_semantics.specs.Words.{Placed, words, placed_words}
-use Rattle.cx_semantics.specs.Grammar.{Grammar, spelling, Spells}
+use Rattle.cx_semantics.specs.Grammar.{Grammar, IsStep, Spells}
+use Rattle.cx_semantics.proofs.Forms.{Forms}
+use Rattle.cx_semantics.proofs.Readings.{no_step_of_nothing}
 use Rattle.proof_text.specs.Heads.{head_place}
 use Rattle.proof_text.specs.Texts.{RisesTo, IsInOrder}
 use Rattle.proof_text.specs.declared.source.TextRefusal.{TextRefusal}
 
 -- ---- words
 
-pub rises_le : (size place : ℕ) (ps : List Placed) → RisesTo size place ps → place ≤ size
+rises_le : (size place : ℕ) (ps : List Placed) → RisesTo size place ps → place ≤ size
 rises_le size place [] h = h
 rises_le size place (p ∷ ps) h = let k = rises_le size (p.place + 1) ps h.1 in let l = h.0 in omega arith
 
@@ -105,24 +107,25 @@ head_rises : (size place : ℕ) (tokens : List Token) → place < size → Rises
 head_rises size place [] l h = (l, omega arith)
 head_rises size place (t ∷ tokens) l h = (let k = h.0 in omega arith, (omega arith, h.1))
 
-step_rises : {S : Type 0} (g : Grammar S) (size place : ℕ) (s : S) (old : List Placed) (new : List Token) → spelling g s ≢ [] → RisesTo size place old → Spells g s old (placed_words new)
-    → (place < head_place size new) × RisesTo size (head_place size new) (placed_words new)
-step_rises g size place s old new some h sp = go sp.front refl
-  where
-    go : (front : List Placed) → sp.front ≡ front → (place < head_place size new) × RisesTo size (head_place size new) (placed_words new)
-    go [] e = absurd (some (sp.step.1 ∙ ap words e))
-    go (p ∷ front) e =
-        let r : RisesTo size place (p ∷ (front ++ placed_words new)) = subst (RisesTo size place) (sp.split ∙ ap (λ f. f ++ placed_words new) e) h in
-        let behind = rises_behind size (p.place + 1) front (placed_words new) r.1 in
-        let low : place ≤ p.place = r.0 in
-        let top = rises_le size (p.place + 1) (placed_words new) behind in
-        head_rises size place new (omega arith) (lower size (p.place + 1) (place + 1) (placed_words new) (omega arith) behind)
+module _ {S : Type 0} (g : Grammar S) (all : Forms g) (size : ℕ) where
+  step_rises : (place : ℕ) (s : S) (old : List Placed) (new : List Token) → RisesTo size place old → Spells g s old (placed_words new)
+      → (place < head_place size new) × RisesTo size (head_place size new) (placed_words new)
+  step_rises place s old new h sp = go sp.front refl
+    where
+      go : (front : List Placed) → sp.front ≡ front → (place < head_place size new) × RisesTo size (head_place size new) (placed_words new)
+      go [] e = absurd (no_step_of_nothing g all s (subst (λ f. IsStep g (words f) s) e sp.step))
+      go (p ∷ front) e =
+          let r : RisesTo size place (p ∷ (front ++ placed_words new)) = subst (RisesTo size place) (sp.split ∙ ap (λ f. f ++ placed_words new) e) h in
+          let behind = rises_behind size (p.place + 1) front (placed_words new) r.1 in
+          let low : place ≤ p.place = r.0 in
+          let top = rises_le size (p.place + 1) (placed_words new) behind in
+          head_rises size place new (omega arith) (lower size (p.place + 1) (place + 1) (placed_words new) (omega arith) behind)
 
--- the same of a source that has refused nothing
-pub step_in_order : {S : Type 0} (g : Grammar S) (size place at : ℕ) (s : S) (old new : List Token) (refused : Option TextRefusal) → spelling g s ≢ [] → refused ≡ None → IsInOrder old size place refused
-    → Spells g s (placed_words old) (placed_words new) → at ≡ head_place size new → (place < at) × IsInOrder new size at refused
-step_in_order g size place at s old new refused some none h sp e =
-    let r = step_rises g size place s (placed_words old) new some (subst (IsInOrder old size place) none h) sp in
-    let low : place < at = subst (λ n. place < n) (sym e) r.0 in
-    let order : IsInOrder new size at None = subst (λ n. RisesTo size n (placed_words new)) (sym e) r.1 in
-    (low, subst (IsInOrder new size at) (sym none) order)
+  -- the same of a source that has refused nothing
+  pub step_in_order : (place at : ℕ) (s : S) (old new : List Token) (refused : Option TextRefusal) → refused ≡ None → IsInOrder old size place refused
+      → Spells g s (placed_words old) (placed_words new) → at ≡ head_place size new → (place < at) × (at ≤ size) × IsInOrder new size at refused
+  step_in_order place at s old new refused none h sp e =
+      let r = step_rises place s (placed_words old) new (subst (IsInOrder old size place) none h) sp in
+      let low : place < at = subst (λ n. place < n) (sym e) r.0 in
+      let order : IsInOrder new size at None = subst (λ n. RisesTo size n (placed_words new)) (sym e) r.1 in
+      (low, rises_le size at (placed_words new) order, subst (IsInOrder new size at) (sym none) order)

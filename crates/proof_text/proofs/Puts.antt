@@ -25,20 +25,13 @@ puts_then : {T E : Type 0} (port : Port) (a b : Bytes) (old mid new : Outside) (
 puts_then port a b old mid new (Ok x) e h = h ∙ ap (gained port b) e ∙ gained-twice port a b old
 puts_then port a b old mid new (Err x) e h = fails_then port a b old mid new e h
 
--- ---- a text of two or three pieces
+-- ---- a text of two pieces
 
 pub first_fails : (port : Port) (a b l : Bytes) (old new : Outside) → a ++ b ≡ l → Fails port a old new → Fails port l old new
 first_fails port a b l old new e h = subst (λ t. Fails port t old new) e (fails_first port a b old new h)
 
 pub two_puts : {T E : Type 0} (port : Port) (a b l : Bytes) (old mid new : Outside) (r : Result T E) → a ++ b ≡ l → mid ≡ gained port a old → PutsAll port b mid r new → PutsAll port l old r new
 two_puts port a b l old mid new r e h k = subst (λ t. PutsAll port t old r new) e (puts_then port a b old mid new r h k)
-
-pub second_fails : (port : Port) (a b c l : Bytes) (old mid new : Outside) → a ++ (b ++ c) ≡ l → mid ≡ gained port a old → Fails port b mid new → Fails port l old new
-second_fails port a b c l old mid new e h k = subst (λ t. Fails port t old new) e (fails_then port a (b ++ c) old mid new h (fails_first port b c mid new k))
-
-pub three_puts : {T E : Type 0} (port : Port) (a b c l : Bytes) (old mid late new : Outside) (r : Result T E)
-    → a ++ (b ++ c) ≡ l → mid ≡ gained port a old → late ≡ gained port b mid → PutsAll port c late r new → PutsAll port l old r new
-three_puts port a b c l old mid late new r e h k m = two_puts port a (b ++ c) l old mid new r e h (puts_then port b c mid late new r k m)
 
 -- ---- lines
 
@@ -68,29 +61,29 @@ ids_text ns = sym (append_assoc (flat_map spaced_id ns) (32 ∷ 48 ∷ []) (10 �
 pub spaced-append : (us ws : List Word) → spaced (us ++ ws) ≡ spaced us ++ spaced ws
 spaced-append us ws = flat_map-append (λ w. 32 ∷ printed_word w) us ws
 
-in_row : (a d l h : Bytes) → (a ++ (d ++ [])) ++ ((l ++ []) ++ h) ≡ a ++ (d ++ (l ++ h))
-in_row a d l h = simp (append_assoc, append-nil)
+pub head_text : (before : Bytes) (n : ℕ) (ls : List ℤ) (after : Bytes) → (before ++ (decimal n ++ [])) ++ (spaced (spelled_list ls) ++ after) ≡ before ++ (decimal n ++ (spaced (spelled_list ls) ++ after))
+head_text before n ls after = simp (append_assoc, append-nil)
 
-pub hinted_line : (before : Bytes) (n : ℕ) (ls hs : List ℤ) → (before ++ (decimal n ++ [])) ++ ((spaced (spelled_list ls) ++ []) ++ (spaced (spelled_list hs) ++ 10 ∷ []))
-    ≡ before ++ printed_line (number (pos n) ∷ (spelled_list ls ++ (spelled_list hs ++ [])))
-hinted_line before n ls hs =
-    let both : spaced (spelled_list ls ++ (spelled_list hs ++ [])) ≡ spaced (spelled_list ls) ++ spaced (spelled_list hs) =
-    spaced-append (spelled_list ls) (spelled_list hs ++ []) ∙ ap (λ ws. spaced (spelled_list ls) ++ spaced ws) (append-nil (spelled_list hs)) in
-    in_row before (decimal n) (spaced (spelled_list ls)) (spaced (spelled_list hs) ++ 10 ∷ [])
-    ∙ ap (λ l. before ++ (decimal n ++ l)) (sym (append_assoc (spaced (spelled_list ls)) (spaced (spelled_list hs)) (10 ∷ [])) ∙ ap (λ l. l ++ 10 ∷ []) (sym both))
-    ∙ ap (λ l. before ++ l) (sym (line_spaced (number (pos n)) (spelled_list ls ++ (spelled_list hs ++ []))))
+in_row : (a d l h t : Bytes) → (a ++ (d ++ (l ++ h))) ++ t ≡ a ++ (d ++ (l ++ (h ++ t)))
+in_row a d l h t = simp append_assoc
 
-pub implied_line : (n : ℕ) (ls : List ℤ) (hint : ℤ) → ((105 ∷ 32 ∷ []) ++ (decimal n ++ [])) ++ ((spaced (spelled_list ls) ++ []) ++ (spaced_integer hint ++ (32 ∷ 48 ∷ 10 ∷ [])))
-    ≡ printed_line (letter 105 ∷ number (pos n) ∷ (spelled_list ls ++ (number hint ∷ number (pos 0) ∷ [])))
-implied_line n ls hint =
-    let tail : spaced (number hint ∷ number (pos 0) ∷ []) ++ 10 ∷ [] ≡ spaced_integer hint ++ (32 ∷ 48 ∷ 10 ∷ []) =
-    append_assoc (spaced_integer hint) (32 ∷ (decimal 0 ++ [])) (10 ∷ []) ∙ ap (λ d. spaced_integer hint ++ 32 ∷ ((d ++ []) ++ 10 ∷ [])) zero_digit in
-    let both : spaced (spelled_list ls ++ (number hint ∷ number (pos 0) ∷ [])) ++ 10 ∷ [] ≡ spaced (spelled_list ls) ++ (spaced_integer hint ++ (32 ∷ 48 ∷ 10 ∷ [])) =
-    ap (λ l. l ++ 10 ∷ []) (spaced-append (spelled_list ls) (number hint ∷ number (pos 0) ∷ []))
-    ∙ append_assoc (spaced (spelled_list ls)) (spaced (number hint ∷ number (pos 0) ∷ [])) (10 ∷ []) ∙ ap (λ l. spaced (spelled_list ls) ++ l) tail in
-    in_row (105 ∷ 32 ∷ []) (decimal n) (spaced (spelled_list ls)) (spaced_integer hint ++ (32 ∷ 48 ∷ 10 ∷ []))
-    ∙ ap (λ l. 105 ∷ 32 ∷ (decimal n ++ l)) (sym both)
-    ∙ ap (λ l. 105 ∷ 32 ∷ l) (sym (line_spaced (number (pos n)) (spelled_list ls ++ (number hint ∷ number (pos 0) ∷ []))))
+-- a line goes on behind its head
+pub line_on : (before : Bytes) (n : ℕ) (ls : List ℤ) (ws : List Word) (after tail : Bytes) → after ++ tail ≡ spaced ws ++ 10 ∷ []
+    → (before ++ (decimal n ++ (spaced (spelled_list ls) ++ after))) ++ tail ≡ before ++ printed_line (number (pos n) ∷ (spelled_list ls ++ ws))
+line_on before n ls ws after tail e =
+    in_row before (decimal n) (spaced (spelled_list ls)) after tail
+    ∙ ap (λ l. before ++ (decimal n ++ (spaced (spelled_list ls) ++ l))) e
+    ∙ ap (λ l. before ++ (decimal n ++ l)) (sym (append_assoc (spaced (spelled_list ls)) (spaced ws) (10 ∷ [])) ∙ ap (λ l. l ++ 10 ∷ []) (sym (spaced-append (spelled_list ls) ws)))
+    ∙ ap (λ l. before ++ l) (sym (line_spaced (number (pos n)) (spelled_list ls ++ ws)))
+
+-- the tails of lines: a list, or one number and a zero
+pub list_tail : (ws : List Word) → spaced ws ++ 10 ∷ [] ≡ spaced (ws ++ []) ++ 10 ∷ []
+list_tail ws = ap (λ us. spaced us ++ 10 ∷ []) (sym (append-nil ws))
+
+pub number_tail : (z : ℤ) → spaced_integer z ++ (32 ∷ 48 ∷ 10 ∷ []) ≡ spaced (number z ∷ number (pos 0) ∷ []) ++ 10 ∷ []
+number_tail z =
+    ap (λ d. spaced_integer z ++ 32 ∷ ((d ++ []) ++ 10 ∷ [])) (sym zero_digit)
+    ∙ sym (append_assoc (spaced_integer z) (32 ∷ (decimal 0 ++ [])) (10 ∷ []))
 
 pub clause_names_line : (n : ℕ) (ns : List ℕ) → (decimal n ++ (32 ∷ 100 ∷ [])) ++ (spaced (spelled_list (map pos ns)) ++ 10 ∷ []) ≡ printed_line (number (pos n) ∷ letter 100 ∷ (spelled_list (map pos ns) ++ []))
 clause_names_line n ns =

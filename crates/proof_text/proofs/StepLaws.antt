@@ -1,9 +1,8 @@
 -- The six steps of proofs from their parts, and what was taken and refused in the grammar of proofs.
-use Rattle.std.proofs.Common.{◌≡◌, ◌≢◌, refl, ℕ, ◌<◌, pos, false, List, [], ◌∷◌}
+use Rattle.std.proofs.Common.{◌≡◌, ◌≢◌, refl, ℕ, ◌<◌, pos, false, List, [], ◌∷◌, Result, Ok, Err}
 use Rattle.cx_semantics.specs.declared.steps.ProofStep.{ProofStep}
-use Rattle.cx_semantics.specs.declared.steps.ProofStep.TheVariants as proof
 use Rattle.cx_semantics.specs.Words.{Word, number, letter, Placed, words}
-use Rattle.cx_semantics.specs.Grammar.{mark, id, spelling, IsStep, Stops, Spells}
+use Rattle.cx_semantics.specs.Grammar.{mark, id, IsStep, Spells}
 use Rattle.cx_semantics.specs.ProofText.{proof_steps, proof_fields}
 use Rattle.cx_semantics.proofs.Shapes.{Kind, a_mark, an_id, an_integer, an_end, some_ids, some_integers}
 use Rattle.cx_semantics.proofs.Remaining.{remaining, positive}
@@ -11,8 +10,8 @@ use Rattle.cx_semantics.proofs.Grammars.{proof_forms}
 use Rattle.cx_semantics.proofs.ProofSteps.{proof_rows, no_more, stops}
 use Rattle.proof_text.specs.declared.source.TextRefusal.{TextRefusal}
 use Rattle.proof_text.specs.Heads.{is_head_letter}
-use Rattle.proof_text.specs.Taking.{Takes, HeadFails, MayGoOn, RefusedIn}
-use Rattle.proof_text.specs.Reading.{IsRefusal}
+use Rattle.proof_text.specs.Taking.{Takes, HeadFails, MayGoOn, RefusedIn, TakesStep}
+use Rattle.proof_text.specs.Reading.{ReadsStep}
 use Rattle.proof_text.proofs.TakingLaws.{takes_append, refused_then, head_refused}
 use Rattle.proof_text.proofs.Choices.{head_refuses, refused_beside}
 use Rattle.proof_text.proofs.ReadingLaws as reading
@@ -83,19 +82,13 @@ implied_parity_refused size r a b c t d h = refused_then (mark 105 ∷ mark 120 
 
 -- ---- in the grammar
 
-pub no_empty_step : (s : ProofStep) → spelling proof_steps s ≢ []
-no_empty_step (proof.Clause n lits hints) e = cc
-no_empty_step (proof.DeleteClauses n names) e = cc
-no_empty_step (proof.Parity n lits hints) e = cc
-no_empty_step (proof.DeleteParities names) e = cc
-no_empty_step (proof.ClauseOfParity n lits hint) e = cc
-no_empty_step (proof.ParityOfClauses n lits hints) e = cc
-
-pub step_spells : (s : ProofStep) (a b : List Placed) → Takes (proof_fields s) a b → Spells proof_steps s a b
+step_spells : (s : ProofStep) (a b : List Placed) → Takes (proof_fields s) a b → Spells proof_steps s a b
 step_spells s a b t = reading.step_spells proof_steps proof_forms refl s a b t (stops s (words t.front) b (t.proper, t.spells))
 
 whole : (s : ProofStep) (ws : List Word) → IsStep proof_steps ws s → ¬ MayGoOn (remaining proof_rows ws)
 whole s ws step h = let w = reading.goes_on proof_steps proof_forms refl ws (remaining proof_rows ws) refl h in no_more s ws w.0 step w.1
 
-pub refused_tells : (size : ℕ) (r : TextRefusal) (a : List Placed) → a ≢ [] → RefusedIn proof_rows size r a → IsRefusal proof_steps size r a
-refused_tells size r a some h = reading.refused_tells proof_steps proof_forms refl whole size r a some h
+-- what was taken of some words, or refused, is so in the grammar
+pub taken_is_read : (size : ℕ) (r : Result ProofStep TextRefusal) (a b : List Placed) → a ≢ [] → TakesStep size a r b → ReadsStep proof_steps size a r b
+taken_is_read size (Ok s) a b some t = step_spells s a b t
+taken_is_read size (Err r) a b some h = reading.refused_tells proof_steps proof_forms refl whole size r a some h

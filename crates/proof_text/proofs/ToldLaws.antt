@@ -1,16 +1,15 @@
 -- What a port that was given lines of steps tells.
-use Rattle.std.proofs.Common.{◌≡◌, refl, sym, ap, ◌∙◌, subst, ℕ, ◌+◌, ◌<◌, ◌≤◌, ◌==◌, pos, true, false, cond, List, [], ◌∷◌, ◌++◌, map, flat_map, length, take, append_assoc, append-nil, length-append, lt_of_le_of_lt, arith, Some, None, option_map, zero, suc, ℤ}
-use Rattle.std.specs.List.{AllByRecursion, join_with_byte}
+use Rattle.std.proofs.Common.{◌≡◌, refl, sym, ap, ◌∙◌, subst, ℕ, ◌+◌, ◌<◌, ◌≤◌, ◌==◌, true, false, cond, List, [], ◌∷◌, ◌++◌, map, flat_map, length, take, append_assoc, append-nil, length-append, arith, Some, None, option_map, zero, suc}
+use Rattle.std.specs.List.{AllByRecursion}
 use Rattle.std.proofs.lemmas.Grind.{flat_map-append}
 use Rattle.std.proofs.lemmas.List.{take-append-le}
 use Rattle.cx_desk.specs.declared.desk.Port.TheVariants.{Proof}
 use Rattle.cx_desk.specs.Outside.{Bytes, Outside}
 use Rattle.cx_desk.specs.Calls.{gained, append_on}
 use Rattle.cx_semantics.specs.declared.steps.ProofStep.{ProofStep}
-use Rattle.cx_semantics.specs.declared.steps.ProofStep.TheVariants as proof
-use Rattle.cx_semantics.specs.Tokens.{is_blank, tokens}
-use Rattle.cx_semantics.specs.Words.{Word, number, letter, conflict, other, placed_words, IsWithin}
-use Rattle.cx_semantics.specs.Grammar.{spelling, spelled_list, Ending, finished}
+use Rattle.cx_semantics.specs.Tokens.{tokens}
+use Rattle.cx_semantics.specs.Words.{placed_words}
+use Rattle.cx_semantics.specs.Grammar.{spelling, Ending, finished}
 use Rattle.cx_semantics.specs.ProofText.{proof_steps, ProofReads}
 use Rattle.cx_semantics.specs.Printed.{printed_word, printed_proof, HasProofText}
 use Rattle.cx_semantics.proofs.Grammars.{proof_forms}

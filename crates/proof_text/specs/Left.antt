@@ -3,10 +3,7 @@ use Rattle.std.specs.Prelude.{refl, ℕ, List, [], Option, Some, None}
 use Rattle.cx_semantics.specs.Tokens.{Token}
 use Rattle.cx_semantics.specs.Words.{placed_words}
 use Rattle.cx_semantics.specs.Grammar.{Grammar, Ending, finished, bad_token, too_big, unterminated}
-use Rattle.cx_semantics.specs.ProofText.{proof_steps}
-use Rattle.cx_semantics.specs.declared.steps.ProofStep.{ProofStep}
 use Rattle.cx_semantics.proofs.Forms.{Forms}
-use Rattle.cx_semantics.proofs.Grammars.{proof_forms}
 use Rattle.cx_semantics.proofs.Readings.{reading_of}
 use Rattle.proof_text.specs.Texts.{TextState, IsEnding, LeftOf, Leaves}
 use Rattle.proof_text.specs.declared.source.TextRefusal.{TextRefusal}
@@ -20,10 +17,10 @@ some_ending TooLong = (finished, tt)
 some_ending Memory = (finished, tt)
 some_ending Failed = (finished, tt)
 
--- whatever the grammar is, if it is given by forms
-pub text_is_left : {S : Type 0} (g : Grammar S) (all : Forms g) (tokens : List Token) (size : ℕ) (refused : Option TextRefusal) → (steps : List S) × (ending : Ending) × LeftOf g tokens size refused steps ending
-text_is_left g all tokens size None = reading_of g all size (placed_words tokens)
-text_is_left g all tokens size (Some refusal) = let e = some_ending refusal in ([], e.0, (refl, e.1))
+left_of : {S : Type 0} (g : Grammar S) (all : Forms g) (tokens : List Token) (size : ℕ) (refused : Option TextRefusal) → (steps : List S) × (ending : Ending) × LeftOf g tokens size refused steps ending
+left_of g all tokens size None = reading_of g all size (placed_words tokens)
+left_of g all tokens size (Some refusal) = let e = some_ending refusal in ([], e.0, (refl, e.1))
 
-pub proof_is_left : (s : TextState) → (steps : List ProofStep) × (ending : Ending) × Leaves proof_steps s steps ending
-proof_is_left s = text_is_left proof_steps proof_forms s.tokens s.size s.refused
+-- whatever the grammar is, if it is given by forms
+pub text_is_left : {S : Type 0} (g : Grammar S) (all : Forms g) (s : TextState) → (steps : List S) × (ending : Ending) × Leaves g s steps ending
+text_is_left g all s = left_of g all s.tokens s.size s.refused

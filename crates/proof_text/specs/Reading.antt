@@ -1,5 +1,5 @@
 -- What one call reads of a text's words.
-use Rattle.std.specs.Prelude.{◌≡◌, ℕ, List, [], Option, Some, None, Result, Ok, Err, ⊤}
+use Rattle.std.specs.Prelude.{ℕ, List, Result, MatchResult, ⊤}
 use Rattle.cx_semantics.specs.Words.{Placed}
 use Rattle.cx_semantics.specs.Grammar.{Grammar, Spells, EndsAs, bad_token, too_big, unterminated}
 use Rattle.proof_text.specs.declared.source.TextRefusal.{TextRefusal}
@@ -15,7 +15,5 @@ module _ {S : Type 0} (g : Grammar S) (size : ℕ) where
   IsRefusal Memory placed = ⊤
   IsRefusal Failed placed = ⊥
 
-  abbrev pub ReadsStep : List Placed → Result (Option S) TextRefusal → List Placed → Type 0
-  ReadsStep old (Ok (Some step)) new = Spells g step old new
-  ReadsStep old (Ok None) new = (old ≡ []) × (new ≡ [])
-  ReadsStep old (Err refusal) new = IsRefusal refusal old
+  abbrev pub ReadsStep : List Placed → Result S TextRefusal → List Placed → Type 0
+  ReadsStep old result new = MatchResult result (λ step. Spells g step old new) (λ refusal. IsRefusal refusal old)

@@ -1,5 +1,5 @@
 -- The steps that a port was given, and what a sink that prints on it does to the outside.
-use Rattle.std.specs.Prelude.{◌≡◌, ◌==◌, ◌<◌, ◌≤◌, ℕ, Bool, true, false, cond, List, [], ◌∷◌, ◌++◌, flat_map, length, take, Option, Some, None, option_map, IfSome}
+use Rattle.std.specs.Prelude.{◌≡◌, ◌==◌, ◌<◌, ℕ, Bool, true, false, cond, List, [], ◌∷◌, ◌++◌, flat_map, length, take, Option, Some, None, option_map, IfSome}
 use Rattle.std.specs.List.{AllByRecursion}
 use Rattle.cx_desk.specs.declared.desk.Port.TheVariants.{Proof}
 use Rattle.cx_desk.specs.Outside.{Bytes, Told, Outside}

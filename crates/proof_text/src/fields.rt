@@ -12,6 +12,13 @@ use crate::token_word::TokenWord;
 use cx_base::{IdList, IntList};
 use std::alloc::Global;
 
+/// An id and literals.
+#[derive(Drop)]
+pub struct Named {
+    pub id: u64,
+    pub literals: IntList,
+}
+
 /// An id.
 pub fn take_id(tokens: &mut TokensAhead, size: usize) -> Result<u64, TextRefusal>
     ensures { TakesOne id an_id size (placed_words tokens.old) result (placed_words tokens.new) }
@@ -180,4 +187,13 @@ pub fn take_ids(alloc: Global, tokens: &mut TokensAhead, size: usize) -> Result<
             Err(refusal) => return Err(refusal),
         }
     }
+}
+
+/// An id and literals up to a zero.
+pub fn take_named(alloc: Global, tokens: &mut TokensAhead, size: usize) -> Result<Named, TextRefusal>
+    ensures { TakesAll (λ n. id n.id ∷ integers n.literals ∷ []) (an_id ∷ some_integers ∷ []) size (placed_words tokens.old) result (placed_words tokens.new) }
+{
+    let id = take_id(tokens, size)?;
+    let literals = take_integers(alloc, tokens, size)?;
+    Ok(Named { id, literals })
 }

@@ -76,3 +76,18 @@ pub fn put_ids<D: Desk>(desk: &mut D, port: Port, members: &[u64]) -> Result<(),
     put_each_id(desk, port, members)?;
     put_all(desk, port, b" 0\n")
 }
+
+/// An id behind a text, its literals, and a text: the head of a step's line.
+pub fn put_head<D: Desk>(
+    desk: &mut D,
+    port: Port,
+    before: &[u8],
+    name: u64,
+    literals: &[i64],
+    after: &[u8],
+) -> Result<(), Failed>
+    ensures { PutsAll port (before.now ++ (decimal name ++ (spaced (spelled (integers literals.now)) ++ after.now))) (D.outside desk.old) result (D.outside desk.new) }
+{
+    put_id(desk, port, before, name, b"")?;
+    put_integers(desk, port, literals, after)
+}

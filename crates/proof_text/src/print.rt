@@ -5,7 +5,7 @@ ghost use Rattle.cx_semantics.specs.Grammar.{spelling, spelled, mark, id, ids, i
 ghost use Rattle.cx_semantics.specs.ProofText.{proof_steps};
 ghost use Rattle.cx_semantics.specs.Printed.{printed_line, HasProofText};
 
-use crate::pieces::{put_id, put_ids, put_integer, put_integers};
+use crate::pieces::{put_head, put_id, put_ids, put_integer, put_integers};
 use cx_desk::{Desk, Failed, Port, put_all};
 use cx_semantics::ProofStep;
 
@@ -20,8 +20,7 @@ fn put_hinted<D: Desk>(
 ) -> Result<(), Failed>
     ensures { PutsAll port (before.now ++ printed_line (flat_map spelled (id name ∷ integers literals.now ∷ integers hints.now ∷ []))) (D.outside desk.old) result (D.outside desk.new) }
 {
-    put_id(desk, port, before, name, b"")?;
-    put_integers(desk, port, literals, b"")?;
+    put_head(desk, port, before, name, literals, b"")?;
     put_integers(desk, port, hints, b"\n")
 }
 
@@ -35,8 +34,7 @@ fn put_implied<D: Desk>(
 ) -> Result<(), Failed>
     ensures { PutsAll port (printed_line (flat_map spelled (mark 105 ∷ id name ∷ integers literals.now ∷ integer hint ∷ end ∷ []))) (D.outside desk.old) result (D.outside desk.new) }
 {
-    put_id(desk, port, b"i ", name, b"")?;
-    put_integers(desk, port, literals, b"")?;
+    put_head(desk, port, b"i ", name, literals, b"")?;
     put_integer(desk, port, hint, b" 0\n")
 }
 

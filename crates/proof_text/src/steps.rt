@@ -2,18 +2,25 @@
 ghost use Rattle.std.specs.Prelude.{◌≡◌, true, false, [], ◌∷◌};
 ghost use Rattle.cx_semantics.specs.Words.{placed_words};
 ghost use Rattle.cx_semantics.specs.Grammar.{id, integer, end, integers};
-ghost use Rattle.cx_semantics.specs.ProofText.{proof_steps};
 ghost use Rattle.cx_semantics.proofs.Shapes.{an_id, an_integer, an_end, some_integers};
 ghost use Rattle.proof_text.specs.Heads.{is_head_letter};
 ghost use Rattle.proof_text.specs.Taking.{TakesAll, TakesStep};
-ghost use Rattle.proof_text.specs.Reading.{ReadsStep};
 
 use crate::ahead::TokensAhead;
-use crate::fields::{take_end, take_id, take_ids, take_integer, take_integers};
+use crate::fields::{take_end, take_id, take_ids, take_integer, take_integers, take_named};
+use crate::grammar::StepGrammar;
 use crate::source::TextRefusal;
+use crate::step_text::StepText;
 use cx_base::IntList;
 use cx_semantics::ProofStep;
 use std::alloc::Global;
+
+/// The grammar of proofs.
+#[derive(Drop)]
+pub enum ProofGrammar {}
+
+/// A proof that is read from a text.
+pub type ProofText<'a> = StepText<'a, ProofGrammar>;
 
 /// A constraint's id and literals, and the hints that show it.
 #[derive(Drop)]
@@ -31,32 +38,16 @@ struct Implied {
     hint: i64,
 }
 
-/// The literals and the hints of a step.
-#[derive(Drop)]
-struct Lists {
-    literals: IntList,
-    hints: IntList,
-}
-
-/// Literals and hints, each up to a zero.
-fn take_lists(alloc: Global, tokens: &mut TokensAhead, size: usize) -> Result<Lists, TextRefusal>
-    ensures { TakesAll (λ l. integers l.literals ∷ integers l.hints ∷ []) (some_integers ∷ some_integers ∷ []) size (placed_words tokens.old) result (placed_words tokens.new) }
-{
-    let literals = take_integers(alloc, tokens, size)?;
-    let hints = take_integers(alloc, tokens, size)?;
-    Ok(Lists { literals, hints })
-}
-
 /// An id, literals and hints.
 fn take_hinted(alloc: Global, tokens: &mut TokensAhead, size: usize) -> Result<Hinted, TextRefusal>
     ensures { TakesAll (λ h. id h.id ∷ integers h.literals ∷ integers h.hints ∷ []) (an_id ∷ some_integers ∷ some_integers ∷ []) size (placed_words tokens.old) result (placed_words tokens.new) }
 {
-    let id = take_id(tokens, size)?;
-    let lists = take_lists(alloc, tokens, size)?;
+    let named = take_named(alloc, tokens, size)?;
+    let hints = take_integers(alloc, tokens, size)?;
     Ok(Hinted {
-        id,
-        literals: lists.literals,
-        hints: lists.hints,
+        id: named.id,
+        literals: named.literals,
+        hints,
     })
 }
 
@@ -68,11 +59,14 @@ fn take_implied(
 ) -> Result<Implied, TextRefusal>
     ensures { TakesAll (λ h. id h.id ∷ integers h.literals ∷ integer h.hint ∷ end ∷ []) (an_id ∷ some_integers ∷ an_integer ∷ an_end ∷ []) size (placed_words tokens.old) result (placed_words tokens.new) }
 {
-    let id = take_id(tokens, size)?;
-    let literals = take_integers(alloc, tokens, size)?;
+    let named = take_named(alloc, tokens, size)?;
     let hint = take_integer(tokens, size)?;
     take_end(tokens, size)?;
-    Ok(Implied { id, literals, hint })
+    Ok(Implied {
+        id: named.id,
+        literals: named.literals,
+        hint,
+    })
 }
 
 /// A clause by a chain, or a deletion of clauses.
@@ -91,8 +85,9 @@ fn take_clause_step(
         let names = take_ids(alloc, tokens, size)?;
         Ok(ProofStep::DeleteClauses(id, names))
     } else {
-        let lists = take_lists(alloc, tokens, size)?;
-        Ok(ProofStep::Clause(id, lists.literals, lists.hints))
+        let literals = take_integers(alloc, tokens, size)?;
+        let hints = take_integers(alloc, tokens, size)?;
+        Ok(ProofStep::Clause(id, literals, hints))
     }
 }
 
@@ -149,19 +144,21 @@ fn take_step(alloc: Global, tokens: &mut TokensAhead, size: usize) -> Result<Pro
     }
 }
 
-/// The next step of a text of this size, or none at its end.
-pub fn read_step(
-    alloc: Global,
-    tokens: &mut TokensAhead,
-    size: usize,
-) -> Result<Option<ProofStep>, TextRefusal>
-    ensures { ReadsStep proof_steps size (placed_words tokens.old) result (placed_words tokens.new) }
-{
-    if tokens.is_empty() {
-        return Ok(None);
+impl StepGrammar for ProofGrammar {
+    type Step = ProofStep;
+
+    ghost use Rattle.cx_semantics.specs.ProofText.{proof_steps};
+    ghost use Rattle.cx_semantics.proofs.Grammars.{proof_forms};
+
+    ghost steps = { proof_steps };
+
+    fn read_step(
+        alloc: Global,
+        tokens: &mut TokensAhead,
+        size: usize,
+    ) -> Result<ProofStep, TextRefusal> {
+        take_step(alloc, tokens, size)
     }
-    match take_step(alloc, tokens, size) {
-        Ok(step) => Ok(Some(step)),
-        Err(refusal) => Err(refusal),
-    }
+
+    ghost forms = { proof_forms };
 }

@@ -20,10 +20,11 @@ impl<D: Desk> ElabEnds for LogOnDesk<'_, '_, '_, D> {
     ghost use Rattle.std.specs.Prelude.{◌≡◌, refl};
     ghost use Rattle.std.proofs.Common.{◌∙◌};
     ghost use Rattle.cx_semantics.specs.LogText.{log_steps};
+    ghost use Rattle.cx_semantics.proofs.Grammars.{log_forms};
+    ghost use Rattle.proof_text.specs.Left.{text_is_left};
     ghost use Rattle.proof_text.specs.Texts.{Leaves, is_spent_by};
     ghost use Rattle.proof_text.specs.Told.{steps_told, fault_of, TornOn, Goes};
     ghost use Rattle.proof_text.specs.ToldSteps.{goes_itself, goes_on};
-    ghost use Rattle.log_text.specs.Left.{log_is_left};
 
     ghost leaves = { λ j. Leaves log_steps j.source.now };
 
@@ -57,7 +58,7 @@ impl<D: Desk> ElabEnds for LogOnDesk<'_, '_, '_, D> {
         self.sink.step(step)
     }
 
-    ghost leaves_some = { λ j. log_is_left j.source.now };
+    ghost leaves_some = { λ j. text_is_left log_steps log_forms j.source.now };
 
     ghost keeps_itself = { λ a. (refl, goes_itself a.sink.failed (D.outside a.sink.desk.now)) };
 

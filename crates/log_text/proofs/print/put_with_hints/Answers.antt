@@ -1,9 +1,9 @@
 use Rattle.std.proofs.lemmas.Result.{err_from_is_err_and}
-use Rattle.std.proofs.Common.{decimal, ◌∷◌, ◌++◌, []}
+use Rattle.std.proofs.Common.{ap, decimal, ◌∷◌, ◌++◌, []}
+use Rattle.cx_semantics.specs.Words.{letter}
 use Rattle.cx_semantics.specs.Grammar.{spelled_list}
 use Rattle.proof_text.specs.Spaced.{spaced}
-use Rattle.proof_text.proofs.Puts.{first_fails, two_puts}
-use Rattle.log_text.proofs.Lines.{with_line, list_tail}
+use Rattle.proof_text.proofs.Puts.{first_fails, two_puts, line_on, list_tail}
 use Rattle.log_text.proofs.print.put_with_hints.Goals as goal
 
 pub returns-in_err-put_head : goal.returns-in_err-put_head
@@ -11,7 +11,7 @@ returns-in_err-put_head g c =
     let p = err_from_is_err_and c.from_residual.result c.from_residual.ensures.1 in
     let first = c.args.before.now ++ (decimal c.args.name ++ (spaced (spelled_list c.args.literals.now) ++ (32 ∷ 108 ∷ []))) in
     let second = spaced (spelled_list c.args.hints.now) ++ 10 ∷ [] in
-    let line = with_line c.args.before.now c.args.name c.args.literals.now (spelled_list c.args.hints.now ++ []) second (list_tail (spelled_list c.args.hints.now)) in
+    let line = line_on c.args.before.now c.args.name c.args.literals.now (letter 108 ∷ (spelled_list c.args.hints.now ++ [])) (32 ∷ 108 ∷ []) second (ap (λ t. 32 ∷ 108 ∷ t) (list_tail (spelled_list c.args.hints.now))) in
     let old = g.D.Desk.outside c.args.desk.now in
     let new = g.D.Desk.outside c.put_head.new.desk in
     rw p.1 (first_fails c.args.port first second _ old new line c.in_err-put_head.ensures)
@@ -20,7 +20,7 @@ pub returns : goal.returns
 returns g c =
     let first = c.args.before.now ++ (decimal c.args.name ++ (spaced (spelled_list c.args.literals.now) ++ (32 ∷ 108 ∷ []))) in
     let second = spaced (spelled_list c.args.hints.now) ++ 10 ∷ [] in
-    let line = with_line c.args.before.now c.args.name c.args.literals.now (spelled_list c.args.hints.now ++ []) second (list_tail (spelled_list c.args.hints.now)) in
+    let line = line_on c.args.before.now c.args.name c.args.literals.now (letter 108 ∷ (spelled_list c.args.hints.now ++ [])) (32 ∷ 108 ∷ []) second (ap (λ t. 32 ∷ 108 ∷ t) (list_tail (spelled_list c.args.hints.now))) in
     let old = g.D.Desk.outside c.args.desk.now in
     let mid = g.D.Desk.outside c.put_head.new.desk in
     let new = g.D.Desk.outside c.put_integers.new.desk in

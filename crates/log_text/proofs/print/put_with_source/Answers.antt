@@ -1,10 +1,9 @@
 use Rattle.std.proofs.lemmas.Result.{err_from_is_err_and}
-use Rattle.std.proofs.Common.{decimal, pos, ◌∷◌, ◌++◌, []}
-use Rattle.cx_semantics.specs.Words.{number}
+use Rattle.std.proofs.Common.{ap, decimal, pos, ◌∷◌, ◌++◌, []}
+use Rattle.cx_semantics.specs.Words.{number, letter}
 use Rattle.cx_semantics.specs.Grammar.{spelled_list}
 use Rattle.proof_text.specs.Spaced.{spaced}
-use Rattle.proof_text.proofs.Puts.{first_fails, two_puts}
-use Rattle.log_text.proofs.Lines.{with_line, source_tail}
+use Rattle.proof_text.proofs.Puts.{first_fails, two_puts, line_on, number_tail}
 use Rattle.log_text.proofs.print.put_with_source.Goals as goal
 
 pub returns-in_err-put_head : goal.returns-in_err-put_head
@@ -12,7 +11,7 @@ returns-in_err-put_head g c =
     let p = err_from_is_err_and c.from_residual.result c.from_residual.ensures.1 in
     let first = c.args.before.now ++ (decimal c.args.name ++ (spaced (spelled_list c.args.literals.now) ++ (32 ∷ 108 ∷ []))) in
     let second = (32 ∷ []) ++ (decimal c.args.source ++ (32 ∷ 48 ∷ 10 ∷ [])) in
-    let line = with_line c.args.before.now c.args.name c.args.literals.now (number (pos c.args.source) ∷ number (pos 0) ∷ []) second (source_tail c.args.source) in
+    let line = line_on c.args.before.now c.args.name c.args.literals.now (letter 108 ∷ number (pos c.args.source) ∷ number (pos 0) ∷ []) (32 ∷ 108 ∷ []) second (ap (λ t. 32 ∷ 108 ∷ t) (number_tail (pos c.args.source))) in
     let old = g.D.Desk.outside c.args.desk.now in
     let new = g.D.Desk.outside c.put_head.new.desk in
     rw p.1 (first_fails c.args.port first second _ old new line c.in_err-put_head.ensures)
@@ -21,7 +20,7 @@ pub returns : goal.returns
 returns g c =
     let first = c.args.before.now ++ (decimal c.args.name ++ (spaced (spelled_list c.args.literals.now) ++ (32 ∷ 108 ∷ []))) in
     let second = (32 ∷ []) ++ (decimal c.args.source ++ (32 ∷ 48 ∷ 10 ∷ [])) in
-    let line = with_line c.args.before.now c.args.name c.args.literals.now (number (pos c.args.source) ∷ number (pos 0) ∷ []) second (source_tail c.args.source) in
+    let line = line_on c.args.before.now c.args.name c.args.literals.now (letter 108 ∷ number (pos c.args.source) ∷ number (pos 0) ∷ []) (32 ∷ 108 ∷ []) second (ap (λ t. 32 ∷ 108 ∷ t) (number_tail (pos c.args.source))) in
     let old = g.D.Desk.outside c.args.desk.now in
     let mid = g.D.Desk.outside c.put_head.new.desk in
     let new = g.D.Desk.outside c.put_id.new.desk in

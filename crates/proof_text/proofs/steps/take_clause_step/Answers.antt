@@ -1,7 +1,8 @@
 use Rattle.std.proofs.Common.{[], ◌∷◌, sym, ◌∙◌}
 use Rattle.std.proofs.lemmas.Result.{err_from_is_err_and}
 use Rattle.cx_semantics.specs.Grammar.{mark, id, ids, integers}
-use Rattle.proof_text.proofs.TakingLaws.{takes_append}
+use Rattle.cx_semantics.proofs.Shapes.{some_integers}
+use Rattle.proof_text.proofs.TakingLaws.{takes_append, refused_after}
 use Rattle.proof_text.proofs.Choices.{letter_taken}
 use Rattle.proof_text.proofs.StepLaws.{no_start, clause_lists_refused, clause_names_refused}
 use Rattle.proof_text.proofs.steps.take_clause_step.Goals as goal
@@ -17,11 +18,18 @@ returns-in_err-names c =
     let letter = letter_taken 100 c.take_id.new.tokens c.pass.new.self (sym c.is_letter.ensures ∙ c.if-is_letter.true) c.pass.ensures in
     rw (p.1, p.2) (clause_names_refused _ _ _ _ _ _ c.in_ok-id.ensures letter (c.in_err-names.ensures []))
 
-pub returns-in_err-lists : goal.returns-in_err-lists
-returns-in_err-lists c =
-    let p = err_from_is_err_and c.from_residual-in_err-lists.result c.from_residual-in_err-lists.ensures.1 in
+pub returns-in_err-literals : goal.returns-in_err-literals
+returns-in_err-literals c =
+    let p = err_from_is_err_and c.from_residual-in_err-literals.result c.from_residual-in_err-literals.ensures.1 in
     let no_letter = sym c.is_letter.ensures ∙ c.if-is_letter.false in
-    rw (p.1, p.2) (clause_lists_refused _ _ _ _ _ c.in_ok-id.ensures no_letter (c.in_err-lists.ensures []))
+    rw (p.1, p.2) (clause_lists_refused _ _ _ _ _ c.in_ok-id.ensures no_letter (c.in_err-literals.ensures (some_integers ∷ [])))
+
+pub returns-in_err-hints : goal.returns-in_err-hints
+returns-in_err-hints c =
+    let p = err_from_is_err_and c.from_residual-in_err-hints.result c.from_residual-in_err-hints.ensures.1 in
+    let no_letter = sym c.is_letter.ensures ∙ c.if-is_letter.false in
+    let behind = refused_after (integers c.in_ok-literals.literals ∷ []) (some_integers ∷ []) _ _ _ _ c.in_ok-literals.ensures (c.in_err-hints.ensures []) in
+    rw (p.1, p.2) (clause_lists_refused _ _ _ _ _ c.in_ok-id.ensures no_letter behind)
 
 pub returns-in_ok-names : goal.returns-in_ok-names
 returns-in_ok-names c =
@@ -29,7 +37,7 @@ returns-in_ok-names c =
     let two = takes_append (id c.in_ok-id.id ∷ []) (mark 100 ∷ []) _ _ _ c.in_ok-id.ensures letter in
     takes_append (id c.in_ok-id.id ∷ mark 100 ∷ []) (ids c.in_ok-names.names ∷ []) _ _ _ two c.in_ok-names.ensures
 
-pub returns-in_ok-lists : goal.returns-in_ok-lists
-returns-in_ok-lists c =
-    let lists = c.in_ok-lists.lists in
-    takes_append (id c.in_ok-id.id ∷ []) (integers lists.literals ∷ integers lists.hints ∷ []) _ _ _ c.in_ok-id.ensures c.in_ok-lists.ensures
+pub returns-in_ok-hints : goal.returns-in_ok-hints
+returns-in_ok-hints c =
+    let two = takes_append (id c.in_ok-id.id ∷ []) (integers c.in_ok-literals.literals ∷ []) _ _ _ c.in_ok-id.ensures c.in_ok-literals.ensures in
+    takes_append (id c.in_ok-id.id ∷ integers c.in_ok-literals.literals ∷ []) (integers c.in_ok-hints.hints ∷ []) _ _ _ two c.in_ok-hints.ensures

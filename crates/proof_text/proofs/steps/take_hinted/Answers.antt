@@ -1,20 +1,17 @@
 use Rattle.std.proofs.Common.{[], ◌∷◌}
 use Rattle.std.proofs.lemmas.Result.{err_from_is_err_and}
 use Rattle.cx_semantics.specs.Grammar.{id, integers}
-use Rattle.cx_semantics.proofs.Shapes.{an_id, some_integers}
-use Rattle.proof_text.proofs.TakingLaws.{takes_append, refused_after, one_refused}
+use Rattle.cx_semantics.proofs.Shapes.{some_integers}
+use Rattle.proof_text.proofs.TakingLaws.{takes_append, refused_after}
 use Rattle.proof_text.proofs.steps.take_hinted.Goals as goal
 
-pub returns-in_err-id : goal.returns-in_err-id
-returns-in_err-id c =
-    let p = err_from_is_err_and c.from_residual.result c.from_residual.ensures.1 in
-    rw (p.1, p.2) (λ ks. one_refused an_id (some_integers ∷ some_integers ∷ ks) _ _ _ c.in_err-id.ensures)
-
-pub returns-in_err-lists : goal.returns-in_err-lists
-returns-in_err-lists c =
-    let p = err_from_is_err_and c.from_residual-in_err-lists.result c.from_residual-in_err-lists.ensures.1 in
-    rw (p.1, p.2) (λ ks. refused_after (id c.in_ok-id.id ∷ []) (some_integers ∷ some_integers ∷ ks) _ _ _ _ c.in_ok-id.ensures (c.in_err-lists.ensures ks))
+pub returns-in_err-hints : goal.returns-in_err-hints
+returns-in_err-hints c =
+    let p = err_from_is_err_and c.from_residual-in_err-hints.result c.from_residual-in_err-hints.ensures.1 in
+    let n = c.in_ok-named.named in
+    rw (p.1, p.2) (λ ks. refused_after (id n.id ∷ integers n.literals ∷ []) (some_integers ∷ ks) _ _ _ _ c.in_ok-named.ensures (c.in_err-hints.ensures ks))
 
 pub returns : goal.returns
 returns c =
-    takes_append (id c.in_ok-id.id ∷ []) (integers c.in_ok-lists.lists.literals ∷ integers c.in_ok-lists.lists.hints ∷ []) _ _ _ c.in_ok-id.ensures c.in_ok-lists.ensures
+    let n = c.in_ok-named.named in
+    takes_append (id n.id ∷ integers n.literals ∷ []) (integers c.in_ok-hints.hints ∷ []) _ _ _ c.in_ok-named.ensures c.in_ok-hints.ensures

@@ -3,7 +3,7 @@ use Rattle.std.proofs.lemmas.Result.{err_from_is_err_and}
 use Rattle.cx_semantics.specs.Grammar.{id, integers}
 use Rattle.cx_semantics.proofs.Shapes.{an_id, some_integers}
 use Rattle.proof_text.proofs.TakingLaws.{takes_append, refused_after, one_refused}
-use Rattle.log_text.proofs.steps.take_named.Goals as goal
+use Rattle.proof_text.proofs.fields.take_named.Goals as goal
 
 pub returns-in_err-id : goal.returns-in_err-id
 returns-in_err-id c =

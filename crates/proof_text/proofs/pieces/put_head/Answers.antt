@@ -2,9 +2,8 @@ use Rattle.std.proofs.lemmas.Result.{err_from_is_err_and}
 use Rattle.std.proofs.Common.{decimal, ◌++◌, []}
 use Rattle.cx_semantics.specs.Grammar.{spelled_list}
 use Rattle.proof_text.specs.Spaced.{spaced}
-use Rattle.proof_text.proofs.Puts.{first_fails, two_puts}
-use Rattle.log_text.proofs.Lines.{head_text}
-use Rattle.log_text.proofs.print.put_head.Goals as goal
+use Rattle.proof_text.proofs.Puts.{first_fails, two_puts, head_text}
+use Rattle.proof_text.proofs.pieces.put_head.Goals as goal
 
 pub returns-in_err-put_id : goal.returns-in_err-put_id
 returns-in_err-put_id g c =

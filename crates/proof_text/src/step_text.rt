@@ -1,30 +1,29 @@
-//! The steps of a log's text.
+//! The steps of a text, by any grammar.
 ghost use Rattle.std.specs.Prelude.{◌≡◌, ◌≤◌, length, None};
 ghost use Rattle.cx_semantics.specs.Tokens.{tokens};
 ghost use Rattle.proof_text.specs.Texts.{TextState};
 
-use crate::steps::read_step;
-use cx_semantics::LogStep;
-use proof_text::ahead::TokensAhead;
-use proof_text::{StepSource, TextRefusal};
+use crate::ahead::TokensAhead;
+use crate::grammar::StepGrammar;
+use crate::source::{StepSource, TextRefusal};
 use std::alloc::Global;
-use std::marker::Model;
+use std::marker::{Model, PhantomData};
 
-/// A log that is read from a text, step by step, in one pass and with no copy of it.
+/// The steps of a grammar that are read from a text, step by step, in one pass and with no copy of it.
 ///
-/// Lines that begin with `c` are passed over, the marks of conflicts among them. It has no limit,
-/// never answers `TooLong` or `Failed`, and asks for memory for the steps' lists alone. Its place is
-/// the place of the token behind the last step, or the text's length at the end.
+/// It has no limit, never answers `TooLong` or `Failed`, and asks for memory for the steps' lists
+/// alone. Its place is the place of the token behind the last step, or the text's length at the end.
 #[derive(Drop)]
-pub struct LogText<'a> {
+pub struct StepText<'a, G> {
     alloc: Global,
     tokens: TokensAhead<'a>,
     size: usize,
     place: usize,
     refused: Option<TextRefusal>,
+    grammar: PhantomData<G>,
 }
 
-impl<'a> Model for LogText<'a> {
+impl<'a, G> Model for StepText<'a, G> {
     ghost use Rattle.std.specs.Prelude.{◌≤◌};
     ghost use Rattle.proof_text.specs.Texts.{TextState, IsInOrder};
 
@@ -35,32 +34,32 @@ impl<'a> Model for LogText<'a> {
     ghost invariant = { λ t. IsInOrder t.tokens t.size t.place t.refused × ((t.place ≤ t.size) × (t.size ≤ 4294967295)) };
 }
 
-impl<'a> LogText<'a> {
+impl<'a, G: StepGrammar> StepText<'a, G> {
     /// The steps of a text of at most 4,294,967,295 bytes.
-    pub fn new(alloc: Global, text: &'a [u8]) -> LogText<'a>
+    pub fn new(alloc: Global, text: &'a [u8]) -> StepText<'a, G>
         requires { length text.now ≤ 4294967295 }
         ensures { result ≡ record { tokens = tokens text.now; size = length text.now; place = 0; refused = None } }
     {
-        LogText {
+        StepText {
             alloc,
             tokens: TokensAhead::new(text),
             size: text.len(),
             place: 0,
             refused: None,
+            grammar: PhantomData,
         }
     }
 }
 
-impl<'a> StepSource for LogText<'a> {
-    type Step = LogStep;
+impl<'a, G: StepGrammar> StepSource for StepText<'a, G> {
+    type Step = G::Step;
 
     ghost use Rattle.std.specs.Prelude.{refl, ◌≡◌};
     ghost use Rattle.std.proofs.Common.{◌∙◌};
-    ghost use Rattle.cx_semantics.specs.LogText.{log_steps};
+    ghost use Rattle.proof_text.specs.Left.{text_is_left};
     ghost use Rattle.proof_text.specs.Texts.{Leaves, is_spent_by};
-    ghost use Rattle.log_text.specs.Left.{log_is_left};
 
-    ghost leaves = { Leaves log_steps };
+    ghost leaves = { Leaves G.steps };
 
     ghost passes_limit = { λ _. ⊥ };
 
@@ -72,16 +71,18 @@ impl<'a> StepSource for LogText<'a> {
 
     ghost keeps = { λ a b. b.size ≡ a.size };
 
-    fn next_step(&mut self) -> Result<Option<LogStep>, TextRefusal> {
+    fn next_step(&mut self) -> Result<Option<G::Step>, TextRefusal> {
         if let Some(refusal) = self.refused {
             return Err(refusal);
         }
-        match read_step(self.alloc, &mut self.tokens, self.size) {
-            Ok(Some(step)) => {
+        if self.tokens.is_empty() {
+            return Ok(None);
+        }
+        match G::read_step(self.alloc, &mut self.tokens, self.size) {
+            Ok(step) => {
                 self.place = self.tokens.place(self.size);
                 Ok(Some(step))
             }
-            Ok(None) => Ok(None),
             Err(refusal) => {
                 self.refused = Some(refusal);
                 Err(refusal)
@@ -93,7 +94,7 @@ impl<'a> StepSource for LogText<'a> {
         self.place as u64
     }
 
-    ghost leaves_some = { log_is_left };
+    ghost leaves_some = { text_is_left G.steps G.forms };
 
     ghost keeps_itself = { λ a. refl };
 
