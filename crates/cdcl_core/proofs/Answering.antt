@@ -1,5 +1,5 @@
 -- What the logs of the search's answers are.
-use Rattle.std.proofs.Common.{◌≡◌, refl, sym, ap, ◌∙◌, subst, ℕ, ◌+◌, ◌<◌, false, List, length, Bool, Some, None, Option, Result, Ok, Err, IfOk, OnOk, inl, arith}
+use Rattle.std.proofs.Common.{◌≡◌, refl, sym, ap, ◌∙◌, subst, ℕ, ◌+◌, ◌<◌, false, List, Bool, Some, None, Option, Result, Ok, Err, IfOk, OnOk, inl, arith}
 use Rattle.std.specs.List.{range_with_len}
 use Rattle.cx_base.specs.Literals.{Literal}
 use Rattle.cx_base.specs.Problem.{Problem, parities_of}
@@ -19,11 +19,6 @@ use Rattle.cdcl_core.specs.Learning.{Learns}
 use Rattle.cdcl_core.specs.Results.{IsOpenWith, HasNoMark, IsSettledBy}
 use Rattle.cdcl_core.specs.Tells.{IsLeft}
 use Rattle.cdcl_core.specs.Ties.{Stands}
-use Rattle.cx_trail.specs.Sequence.{TrailState}
-use Rattle.cdcl_core.specs.Finds.{Finds, HasAll}
-use Rattle.cdcl_core.specs.Units.{HasOther}
-use Rattle.cdcl_core.specs.declared.propagation.Found.{Found}
-use Rattle.cdcl_core.specs.declared.propagation.Found.TheVariants as found
 use Rattle.cdcl_core.proofs.Entering.{round_is_search, conflicts_then, tidy}
 
 -- ---- open logs
@@ -60,15 +55,6 @@ settled_has_no_mark formula None a h = tt
 settled_has_no_mark formula (Some es) (Sat values) h = let log = h.0.log in no_marks formula es log.0 log.1 log.2.1
 settled_has_no_mark formula (Some es) Unsat h = let log = h.0.log in no_marks formula es log.1.0 log.1.1 log.1.2
 settled_has_no_mark formula (Some es) (Unknown n) h = absurd (h.1 n refl)
-
--- ---- unit clauses change nothing that propagation found
-has_all_still : (old new : Kept) → HasOther old new → HasAll old → HasAll new
-has_all_still old new same h = same.given ∙ h ∙ ap (λ (t : TrailState). length t.entries) (sym same.trail)
-
-pub finds_still : (old new : Kept) (e : State) (f : Found) → HasOther old new → Finds old e f → Finds new e f
-finds_still old new e found.Quiet same h = (rw (same.watches, same.arena, same.trail) h.0, has_all_still old new same h.1, h.2, h.3)
-finds_still old new e (found.Clause r) same h = (rw same.watches h.0, rw (same.arena, same.trail) h.1, h.2)
-finds_still old new e (found.Row row) same h = (has_all_still old new same h.0, h.1)
 
 -- ---- settled answers
 pub values_are_known : (values : List Bool) (n : ℕ) → Sat values ≡ Unknown n → ⊥

@@ -1,10 +1,10 @@
 -- The row of a contradiction explains a conflict, and what a conflict comes to.
-use Rattle.std.proofs.Common.{◌≡◌, sym, ap, ◌∙◌, subst, ℕ, suc, ◌+◌, ◌<◌, Bool, true, eqb-true, List, [], ◌∷◌, length, take, Contains, Option, None, is_some, arith, inl, inr}
+use Rattle.std.proofs.Common.{◌≡◌, sym, ap, ◌∙◌, subst, ℕ, suc, ◌+◌, ◌<◌, Bool, true, eqb-true, List, [], ◌∷◌, length, take, Contains, Option, None, is_some, arith, inl, inr, zero, Some, ℤ}
 use Rattle.std.specs.Prelude.{IsSome, ◌==◌}
 use Rattle.std.specs.List.{AllByRecursion}
 use Rattle.std.proofs.lemmas.Option.{same_Some}
 use Rattle.cx_base.specs.Literals.{Literal}
-use Rattle.cx_base.specs.Problem.{Problem, parities_of}
+use Rattle.cx_base.specs.Problem.{Problem, parities_of, Unmet}
 use Rattle.cx_semantics.specs.Chain.{has_literal}
 use Rattle.cx_semantics.specs.Integers.{integers_of, literals}
 use Rattle.cx_semantics.specs.Printed.{HasText}
@@ -13,6 +13,7 @@ use Rattle.cx_semantics.specs.declared.steps.LogStep.{LogStep}
 use Rattle.cx_semantics.specs.declared.steps.LogStep.TheVariants.{Parity, ClauseOfParity}
 use Rattle.cx_semantics.specs.declared.steps.LogEvent.{LogEvent}
 use Rattle.cx_semantics.specs.declared.steps.LogEvent.TheVariants.{Step}
+use Rattle.cx_semantics.specs.Marked.{Marked}
 use Rattle.clause_arena.specs.Clauses.{IsLive, literals_at}
 use Rattle.parity_engine.specs.State.{State, named_at, OfNamed, AreRising}
 use Rattle.parity_engine.specs.Equations.{sum_of_numbers}
@@ -25,6 +26,10 @@ use Rattle.xor_reason.proofs.EventLaws.{broken_is_missed}
 use Rattle.search_steps.specs.Tied.{IsTied}
 use Rattle.search_steps.proofs.EngineLaws.{known_is_true}
 use Rattle.search_steps.proofs.Stored.{of_has}
+use Rattle.search_steps.specs.Search.{Search, IsSearch, told}
+use Rattle.search_steps.specs.LogSteps.{IsEnded, all_told}
+use Rattle.search_steps.specs.Holding.{AreTold}
+use Rattle.search_steps.proofs.Ends.{row_clause_ends, row_clause_is_marked, ended_is_unmet}
 use Rattle.cdcl_core.specs.declared.kept.Kept.{Kept}
 use Rattle.cdcl_core.specs.declared.conflicts.Conclusion.TheVariants.{Clause}
 use Rattle.cdcl_core.specs.declared.conflicts.Conflict.{Conflict}
@@ -34,9 +39,58 @@ use Rattle.cdcl_core.specs.declared.propagation.Found.{Found}
 use Rattle.cdcl_core.specs.declared.propagation.Found.TheVariants as found
 use Rattle.cdcl_core.specs.Finds.{Finds, IsClash}
 use Rattle.cdcl_core.specs.Tells.{IsLeft, as_events, with_events}
-use Rattle.cdcl_core.specs.Ties.{Stands, first_row_id}
-use Rattle.cdcl_core.proofs.RowSteps.{two_are_unmet, two_end, two_fronts}
+use Rattle.cdcl_core.specs.Ties.{Stands, first_row_id, Ties}
+use Rattle.cdcl_core.proofs.RowSteps.{all_told_are, is_left, sum_told, sum_is, clause_added, clause_is}
 
+-- ---- a row without variables: its sum and its clause end the log
+module _ (formula : Problem) (c : Kept) (e : State) (rows : List (List Literal)) (s : Search) (ok : IsSearch formula (parities_of formula.constraints) s) (t : Ties formula c e rows s)
+    (r : ReasonOf) (x : Explains (parities_of formula.constraints) c.trail r) (back_parity : literals (integers_of r.parity) ≡ r.parity) (back_clause : literals (integers_of r.clause) ≡ r.clause)
+    (none : is_empty (integers_of r.clause) ≡ true) where
+  abbrev theirs : List (List Literal)
+  theirs = parities_of formula.constraints
+
+  abbrev k : ℕ
+  k = length formula.constraints + 1
+
+  abbrev n : ℕ
+  n = first_row_id + length rows
+
+  abbrev rs : List ℤ
+  rs = integers_of r.parity
+
+  abbrev zs : List ℤ
+  zs = integers_of r.clause
+
+  abbrev two : List LogEvent
+  two = Step (Parity k rs r.sources) ∷ Step (ClauseOfParity n zs k) ∷ []
+
+  abbrev after_sum : Search
+  after_sum = told s (Step (Parity k rs r.sources))
+
+  after_sum_is : IsSearch formula theirs after_sum
+  after_sum_is = sum_told formula c e rows s ok t r x back_parity back_clause
+
+  ended : IsEnded formula (all_told s two).events
+  ended = row_clause_ends formula theirs after_sum after_sum_is n zs k (literals rs) (clause_added formula c e rows s ok t r x back_parity back_clause)
+      (sum_is formula c e rows s ok t r x back_parity back_clause) (clause_is formula c e rows s ok t r x back_parity back_clause) none
+
+  marked : Marked formula (all_told s two).events s.conflicts
+  marked = row_clause_is_marked formula theirs after_sum after_sum_is n zs k (literals rs) t.served.served
+      (sum_is formula c e rows s ok t r x back_parity back_clause) (clause_is formula c e rows s ok t r x back_parity back_clause)
+
+  two_are_unmet : Unmet formula
+  two_are_unmet = ended_is_unmet formula (all_told s two).events ended
+
+  two_end : (told_ : Option (List LogEvent)) → AreTold told_ s.events → IsEndedWith formula c.conflicts (with_events two told_)
+  two_end None a = tt
+  two_end (Some es) a = subst (λ xs. IsEndedWith formula c.conflicts (Some xs)) (sym (all_told_are two s (Some es) a)) (ended, subst (Marked formula (all_told s two).events) t.conflicts marked)
+
+  two_fronts : (told_ : Option (List LogEvent)) → AreTold told_ s.events → (i : ℕ) → i < 2 → IsLeft formula (with_events (take i two) told_)
+  two_fronts told_ a zero less = is_left formula theirs s (with_events [] told_) ok t.served.served (all_told_are [] s told_ a)
+  two_fronts told_ a (suc zero) less = is_left formula theirs after_sum (with_events (take 1 two) told_) after_sum_is t.served.served (all_told_are (take 1 two) s told_ a)
+  two_fronts told_ a (suc (suc i)) less = absurd (omega (arith, less))
+
+-- ---- conflicts
 module _ (formula : Problem) (c : Kept) (e : State) (told : Option (List LogEvent)) (st : Stands formula c e [] told) where
   stands_on : StandsOn e c.trail
   stands_on l h =

@@ -24,13 +24,12 @@ use Rattle.search_steps.proofs.Stored.{has_of, stored_is_false}
 use Rattle.search_steps.specs.Search.{Search}
 use Rattle.search_steps.specs.Holding.{AreTold}
 use Rattle.cdcl_core.specs.declared.kept.Kept.{Kept}
-use Rattle.cdcl_core.specs.Concluding.{EndsLog, IsEndedWith, IsContradicted, IsRefutable}
+use Rattle.cdcl_core.specs.Concluding.{EndsLog, IsEndedWith, IsContradicted, IsRefutable, IsConflict}
 use Rattle.cdcl_core.specs.Results.{Refutes, IsEndedWithin}
-use Rattle.cdcl_core.specs.Sources.{IsConflict}
 use Rattle.cdcl_core.specs.Tells.{TellsAll, GivesUp, IsLeft, as_events, with_events}
 use Rattle.cdcl_core.specs.Ties.{Stands, first_row_id}
 use Rattle.cdcl_core.proofs.Events.{no_more, gives_up}
-use Rattle.cdcl_core.proofs.LearnLaws.{sourced_is_live}
+use Rattle.cdcl_core.proofs.SourceLaws.{sourced_is_live}
 use Rattle.cdcl_core.proofs.Places.{tied_length}
 use Rattle.cdcl_core.proofs.RowSteps.{is_left}
 use Rattle.cdcl_core.proofs.UnitLaws.{false_are_low}

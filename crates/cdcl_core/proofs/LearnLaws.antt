@@ -1,5 +1,5 @@
 -- What a conflict teaches, and what the sink is told of it.
-use Rattle.std.proofs.Common.{◌≡◌, refl, sym, ap, ◌∙◌, subst, ℕ, zero, suc, ◌+◌, ◌<◌, ◌^◌, ℤ, true, List, [], ◌∷◌, ◌++◌, length, take, drop, get_or, Some, None, Option, Result, Ok, Err, IfOk, IfErr, ◌⊎◌, inl, inr, arith, Contains, append-nil, append_assoc}
+use Rattle.std.proofs.Common.{◌≡◌, refl, sym, ap, ◌∙◌, subst, ℕ, suc, ◌+◌, ◌<◌, ◌^◌, ℤ, true, List, [], ◌∷◌, ◌++◌, length, take, drop, Some, None, Option, Result, Ok, Err, IfOk, IfErr, ◌⊎◌, inl, inr, arith, append-nil, append_assoc}
 use Rattle.std.proofs.lemmas.List.{take-append-drop}
 use Rattle.std.proofs.lemmas.List.Elements.{filter_map-append}
 use Rattle.cx_base.specs.Literals.{Literal}
@@ -26,19 +26,19 @@ use Rattle.parity_engine.specs.State.{State}
 use Rattle.search_steps.specs.Search.{Search, told}
 use Rattle.search_steps.specs.LogSteps.{deleted, after_learned, after_round}
 use Rattle.search_steps.specs.Holding.{AreTold}
-use Rattle.search_steps.specs.Tied.{IsLiveSet}
 use Rattle.search_steps.proofs.LearnedLaws.{learned_has_chain}
 use Rattle.search_steps.proofs.OverSearch.{taught_by_search}
-use Rattle.search_steps.proofs.Reasons.{live_is_live_set}
 use Rattle.cdcl_core.specs.declared.kept.Kept.{Kept}
-use Rattle.cdcl_core.specs.Ties.{first_row_id, row_ids, Ties, Stands}
-use Rattle.cdcl_core.specs.Sources.{IsSourced, IsConflict}
+use Rattle.cdcl_core.specs.Ties.{first_row_id, row_ids, Stands}
+use Rattle.cdcl_core.specs.Sources.{IsSourced}
 use Rattle.cdcl_core.specs.Tells.{TellsAll, IsLeft, GivesUp, as_events, with_events}
 use Rattle.cdcl_core.specs.Learning.{IsTaught, Learns}
 use Rattle.cdcl_core.proofs.Events.{more_and_more, gives_up}
 use Rattle.cdcl_core.proofs.RowSteps.{is_left}
 use Rattle.cdcl_core.proofs.Entering.{round_is_search, tidy}
 use Rattle.cdcl_core.specs.Deleting.{deletions}
+use Rattle.cdcl_core.proofs.SourceLaws.{sourced_is_live}
+use Rattle.cdcl_core.specs.Concluding.{IsConflict}
 
 -- ---- a mark and the steps behind it
 pub mark_is_told : (torn : LogEvent → Type 0) (event : LogEvent) (events : List LogEvent) (old between new : Option (List LogEvent)) (r : Result (Unit {0}) CoreFault)
@@ -74,22 +74,6 @@ front_is_open formula a b (v, r) = front_runs (log_calculus formula) (log_calcul
 deleted_events : (s : Search) (ids : List ℕ) → (deleted s ids).events ≡ s.events ++ deletions ids
 deleted_events s [] = sym (append-nil s.events)
 deleted_events s (n ∷ ids) = deleted_events (told s (Step (Delete n []))) ids ∙ append_assoc s.events (Step (Delete n []) ∷ []) (deletions ids)
-
--- ---- the source's clauses are live
-row_at : (xs : List (List Literal)) (x : List Literal) (h : Contains xs x) → get_or xs h.0 [] ≡ x
-row_at [] x (n, less, is) = absurd (omega (arith, less))
-row_at (y ∷ xs) x (zero, less, is) = is
-row_at (y ∷ xs) x (suc n, less, is) = row_at xs x (n, omega (arith, less), is)
-
-pub sourced_is_live : (formula : Problem) (c : Kept) (e : State) (rows : List (List Literal)) (s : Search) → Ties formula c e rows s → (clause : List Literal) → IsSourced c rows clause → IsLiveSet s.moment.tables.clauses clause
-sourced_is_live formula c e rows s t clause (inl (r, live, is)) =
-    let named = (t.clauses.stored r live).named in
-    subst (IsLiveSet s.moment.tables.clauses) (sym is) (named.clause, (_, named.live), named.same)
-sourced_is_live formula c e rows s t clause (inr (inl (i, less, is))) =
-    let named = t.units.named i less in
-    subst (IsLiveSet s.moment.tables.clauses) (sym is) (named.clause, (_, named.live), named.same)
-sourced_is_live formula c e rows s t clause (inr (inr h)) =
-    live_is_live_set s.moment.tables.clauses clause (first_row_id + h.0, t.rows_told h.0 h.1 ∙ ap Some (row_at rows clause h))
 
 module _ (formula : Problem) (c : Kept) (e : State) (rows : List (List Literal)) (old : Option (List LogEvent)) (st : Stands formula c e rows old)
     (above : 0 < c.trail.level) (room : c.next < first_row_id) (few : c.conflicts < 10 ^ 18)

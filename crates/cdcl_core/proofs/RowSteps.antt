@@ -34,13 +34,8 @@ use Rattle.search_steps.proofs.RowLaws.{row_is_of_parities}
 use Rattle.search_steps.proofs.RowReasons.{row_reason_keeps, row_reason_sums, row_reason_old_sums}
 use Rattle.search_steps.proofs.IdLaws.{row_next_is_free, row_reason_ranged, row_reason_frees_sum}
 use Rattle.search_steps.proofs.EndLaws.{is_log_open}
-use Rattle.search_steps.proofs.Ends.{row_clause_ends, row_clause_is_marked, ended_is_unmet}
-use Rattle.cx_base.specs.Problem.{Unmet}
-use Rattle.cx_semantics.specs.Marked.{Marked}
 use Rattle.cx_semantics.proofs.Members.{has_at_head, has_behind}
 use Rattle.cx_semantics.proofs.Widths.{variable_in}
-use Rattle.search_steps.specs.LogSteps.{IsEnded}
-use Rattle.cdcl_core.specs.Concluding.{IsEndedWith}
 use Rattle.cdcl_core.specs.declared.kept.Kept.{Kept}
 use Rattle.cdcl_core.specs.Ties.{Ties, Stands, IsServed, AreNumbered, AreRows, first_row_id, row_ids}
 use Rattle.std.specs.Prelude.{Result, Err, IfErr}
@@ -164,13 +159,13 @@ module _ (formula : Problem) (c : Kept) (e : State) (rows : List (List Literal))
     sums = normal ∙ x.sums ∙ ap (λ ps. sum_of (map normal_form ps)) (sym names_same);
   }
 
-  clause_added : IsAddition formula s.moment.tables.clauses n zs
+  pub clause_added : IsAddition formula s.moment.tables.clauses n zs
   clause_added = record {
     within = variables_are_within formula.variables r.clause clause_within;
     free = row_next_is_free formula first_row_id c.next (first_row_id + length rows) s t.ranged (omega arith);
   }
 
-  clause_is : IsClauseOfRow formula.variables (literals rs) (literals zs)
+  pub clause_is : IsClauseOfRow formula.variables (literals rs) (literals zs)
   clause_is = record {
     within = subst (AreWithin formula.variables) (sym back_clause) clause_within;
     one_of_each = subst (HasOneOfEach (normal_form (literals rs)).variables) (sym back_clause) (subst (λ f. HasOneOfEach f.variables r.clause) (sym normal) x.one_of_each);
@@ -180,34 +175,11 @@ module _ (formula : Problem) (c : Kept) (e : State) (rows : List (List Literal))
   abbrev after_sum : Search
   after_sum = told s (Step (Parity k rs r.sources))
 
-  sum_told : IsSearch formula theirs after_sum
+  pub sum_told : IsSearch formula theirs after_sum
   sum_told = sum_keeps formula theirs s ok k rs r.sources row_added row_is
 
-  sum_is : get after_sum.moment.tables.parities k ≡ Some (literals rs)
+  pub sum_is : get after_sum.moment.tables.parities k ≡ Some (literals rs)
   sum_is = put_same s.moment.tables.parities k (literals rs)
-
-  -- a row without variables: its sum and its clause end the log
-  abbrev two : List LogEvent
-  two = Step (Parity k rs r.sources) ∷ Step (ClauseOfParity n zs k) ∷ []
-
-  module _ (none : is_empty zs ≡ true) where
-    ended : IsEnded formula (all_told s two).events
-    ended = row_clause_ends formula theirs after_sum sum_told n zs k (literals rs) clause_added sum_is clause_is none
-
-    marked : Marked formula (all_told s two).events s.conflicts
-    marked = row_clause_is_marked formula theirs after_sum sum_told n zs k (literals rs) t.served.served sum_is clause_is
-
-    pub two_are_unmet : Unmet formula
-    two_are_unmet = ended_is_unmet formula (all_told s two).events ended
-
-    pub two_end : (told_ : Option (List LogEvent)) → AreTold told_ s.events → IsEndedWith formula c.conflicts (with_events two told_)
-    two_end None a = tt
-    two_end (Some es) a = subst (λ xs. IsEndedWith formula c.conflicts (Some xs)) (sym (all_told_are two s (Some es) a)) (ended, subst (Marked formula (all_told s two).events) t.conflicts marked)
-
-    pub two_fronts : (told_ : Option (List LogEvent)) → AreTold told_ s.events → (i : ℕ) → i < 2 → IsLeft formula (with_events (take i two) told_)
-    two_fronts told_ a zero less = is_left formula theirs s (with_events [] told_) ok t.served.served (all_told_are [] s told_ a)
-    two_fronts told_ a (suc zero) less = is_left formula theirs after_sum (with_events (take 1 two) told_) sum_told t.served.served (all_told_are (take 1 two) s told_ a)
-    two_fronts told_ a (suc (suc i)) less = absurd (omega (arith, less))
 
   module _ (some : is_empty zs ≡ false) where
     reason_is : IsRowReason formula theirs s k rs r.sources n zs

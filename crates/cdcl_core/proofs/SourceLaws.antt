@@ -1,8 +1,9 @@
 -- The clauses of a source implied the literals.
-use Rattle.std.proofs.Common.{◌≡◌, sym, ap, ◌∙◌, subst, ℕ, ◌<◌, ◌≤◌, List, [], ◌∷◌, ◌++◌, length, Contains, arith, inl, inr, length-append, length-take}
+use Rattle.std.proofs.Common.{◌≡◌, sym, ap, ◌∙◌, subst, ℕ, ◌<◌, ◌≤◌, List, [], ◌∷◌, ◌++◌, length, Contains, arith, inl, inr, length-append, length-take, zero, suc, get_or, Some}
 use Rattle.std.proofs.Math.ListN.{get_or-append}
 use Rattle.cx_base.specs.Literals.{Literal, negate, same_literal}
 use Rattle.cx_base.proofs.LiteralLaws.{negate-negate}
+use Rattle.cx_base.specs.Problem.{Problem}
 use Rattle.cx_semantics.specs.Chain.{has_literal}
 use Rattle.cx_semantics.proofs.ChainLaws.{same_literal-itself}
 use Rattle.cx_trail.specs.declared.entry.Reason.{Reason}
@@ -13,8 +14,11 @@ use Rattle.conflict_learn.specs.Learning.{IsAntecedent, HasReason, literal_at}
 use Rattle.parity_engine.specs.State.{State}
 use Rattle.search_steps.proofs.Sets.{not_both}
 use Rattle.search_steps.proofs.Stored.{has_of, of_has}
+use Rattle.search_steps.specs.Search.{Search}
+use Rattle.search_steps.specs.Tied.{IsLiveSet}
+use Rattle.search_steps.proofs.Reasons.{live_is_live_set}
 use Rattle.cdcl_core.specs.declared.kept.Kept.{Kept}
-use Rattle.cdcl_core.specs.Ties.{HaveReasons, HasReasonAt, IsClauseReason}
+use Rattle.cdcl_core.specs.Ties.{HaveReasons, HasReasonAt, IsClauseReason, Ties, first_row_id}
 use Rattle.cdcl_core.specs.Explaining.{IsReasonOf}
 use Rattle.std.specs.Prelude.{Result, Ok, Err, IfOk, OnErr}
 use Rattle.cdcl_core.specs.Sources.{IsSourced}
@@ -68,6 +72,22 @@ pub sourced_stays : (c : Kept) (rows : List (List Literal)) (y clause : List Lit
 sourced_stays c rows y clause (inl a) = inl a
 sourced_stays c rows y clause (inr (inl u)) = inr (inl u)
 sourced_stays c rows y clause (inr (inr k)) = inr (inr (stays_in rows y clause k))
+
+-- ---- the source's clauses are live
+row_at : (xs : List (List Literal)) (x : List Literal) (h : Contains xs x) → get_or xs h.0 [] ≡ x
+row_at [] x (n, less, is) = absurd (omega (arith, less))
+row_at (y ∷ xs) x (zero, less, is) = is
+row_at (y ∷ xs) x (suc n, less, is) = row_at xs x (n, omega (arith, less), is)
+
+pub sourced_is_live : (formula : Problem) (c : Kept) (e : State) (rows : List (List Literal)) (s : Search) → Ties formula c e rows s → (clause : List Literal) → IsSourced c rows clause → IsLiveSet s.moment.tables.clauses clause
+sourced_is_live formula c e rows s t clause (inl (r, live, is)) =
+    let named = (t.clauses.stored r live).named in
+    subst (IsLiveSet s.moment.tables.clauses) (sym is) (named.clause, (_, named.live), named.same)
+sourced_is_live formula c e rows s t clause (inr (inl (i, less, is))) =
+    let named = t.units.named i less in
+    subst (IsLiveSet s.moment.tables.clauses) (sym is) (named.clause, (_, named.live), named.same)
+sourced_is_live formula c e rows s t clause (inr (inr h)) =
+    live_is_live_set s.moment.tables.clauses clause (first_row_id + h.0, t.rows_told h.0 h.1 ∙ ap Some (row_at rows clause h))
 
 -- ---- rows that grew by one, or are as before
 module _ {T : Type 0} (c : Kept) (old new : List (List Literal)) (lits : T → List Literal) where

@@ -25,12 +25,15 @@ use Rattle.search_steps.proofs.StartLaws.{literals_are}
 use Rattle.cdcl_core.specs.declared.kept.Kept.{Kept}
 use Rattle.cdcl_core.specs.Tells.{TellsAll, GivesUp, IsLeft, with_events}
 use Rattle.cdcl_core.specs.Ties.{Stands, first_row_id}
-use Rattle.cdcl_core.specs.Units.{IsNextUnit}
+use Rattle.cdcl_core.specs.Units.{IsNextUnit, HasOther}
 use Rattle.cdcl_core.proofs.Events.{no_more, gives_up}
-use Rattle.cdcl_core.proofs.LearnLaws.{sourced_is_live}
 use Rattle.cdcl_core.proofs.RowReasons.{entry_taken}
 use Rattle.cdcl_core.proofs.RowSteps.{is_left}
 use Rattle.cdcl_core.proofs.UnitTies.{unit_is_search, unit_ties, after_unit, with_unit, l_within}
+use Rattle.cdcl_core.proofs.SourceLaws.{sourced_is_live}
+use Rattle.cdcl_core.specs.Finds.{Finds, HasAll}
+use Rattle.cdcl_core.specs.declared.propagation.Found.{Found}
+use Rattle.cdcl_core.specs.declared.propagation.Found.TheVariants as found
 
 -- ---- the clause that implied a literal forces it there
 pub implied_forces : (t : TrailState) (l : Literal) (lits clause : List Literal) (place : ℕ) → place < length t.entries → (entry_at t.entries place).literal ≡ l → IsAntecedent t l lits → same_literals lits clause ≡ true
@@ -117,3 +120,12 @@ module _ (formula : Problem) (c : Kept) (e : State) (rows : List (List Literal))
         front : (i : ℕ) → i < 1 → IsLeft formula (with_events (take i (Step step ∷ [])) old)
         front zero less = subst (IsLeft formula) (sym (no_more old)) (is_left formula (parities_of formula.constraints) st.0 old st.1 st.3.served.served st.2)
         front (suc i) less = absurd (omega (arith, less))
+
+-- ---- unit clauses change nothing that propagation found
+has_all_still : (old new : Kept) → HasOther old new → HasAll old → HasAll new
+has_all_still old new same h = same.given ∙ h ∙ ap (λ (t : TrailState). length t.entries) (sym same.trail)
+
+pub finds_still : (old new : Kept) (e : State) (f : Found) → HasOther old new → Finds old e f → Finds new e f
+finds_still old new e found.Quiet same h = (rw (same.watches, same.arena, same.trail) h.0, has_all_still old new same h.1, h.2, h.3)
+finds_still old new e (found.Clause r) same h = (rw same.watches h.0, rw (same.arena, same.trail) h.1, h.2)
+finds_still old new e (found.Row row) same h = (has_all_still old new same h.0, h.1)

@@ -1,14 +1,11 @@
 -- What holds of the search between two conflicts.
-use Rattle.std.specs.Prelude.{◌≡◌, ◌≢◌, ℕ, ◌<◌, [], List, length, Option}
-use Rattle.cx_base.specs.Problem.{Problem}
-use Rattle.cx_semantics.specs.declared.steps.LogEvent.{LogEvent}
+use Rattle.std.specs.Prelude.{◌≡◌, ◌≢◌, ℕ, ◌<◌, length}
 use Rattle.cx_trail.specs.Sequence.{IsFull}
 use Rattle.parity_engine.specs.declared.state.Mood.TheVariants.{Broken}
 use Rattle.parity_engine.specs.State.{State}
 use Rattle.cdcl_core.specs.declared.kept.Kept.{Kept}
 use Rattle.cdcl_core.specs.declared.propagation.Found.{Found}
 use Rattle.cdcl_core.specs.declared.propagation.Found.TheVariants.{Quiet}
-use Rattle.cdcl_core.specs.Ties.{Stands}
 use Rattle.cdcl_core.specs.Finds.{Finds}
 
 -- a unit clause was told for each literal of level 0, where that is the current one
@@ -25,9 +22,3 @@ pub record Reaches (c : Kept) (e : State) (found : Found) : Type 0 where
 pub record Decides (old new : Kept) (e : State) : Type 0 where
   pub longer : length old.trail.entries < length new.trail.entries
   pub unbroken : e.mood ≢ Broken
-
--- the search stands before a propagation, with fewer counted conflicts than the budget
-pub record GoesOn (formula : Problem) (budget : ℕ) (told : Option (List LogEvent)) (c : Kept) (e : State) : Type 0 where
-  pub stands : Stands formula c e [] told
-  pub unbroken : e.mood ≢ Broken
-  pub fewer : c.conflicts < budget

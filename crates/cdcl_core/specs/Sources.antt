@@ -1,8 +1,7 @@
 -- The clauses that a source holds.
-use Rattle.std.specs.Prelude.{◌≡◌, ◌⊎◌, ℕ, ◌<◌, ◌-◌, ◌^◌, min, List, [], ◌∷◌, length, Contains, IsTrue}
+use Rattle.std.specs.Prelude.{◌≡◌, ◌⊎◌, ℕ, ◌<◌, ◌-◌, ◌^◌, min, List, [], ◌∷◌, length, Contains}
 use Rattle.cx_base.specs.Literals.{Literal}
-use Rattle.cx_semantics.specs.Chain.{has_literal}
-use Rattle.cx_trail.specs.Sequence.{entry_at, IsFalseIn}
+use Rattle.cx_trail.specs.Sequence.{entry_at}
 use Rattle.clause_arena.specs.Clauses.{IsLive, literals_at}
 use Rattle.cdcl_core.specs.declared.kept.Kept.{Kept}
 
@@ -15,8 +14,3 @@ IsSourced c rows clause = ((r : ℕ) × IsLive c.arena r × (clause ≡ literals
 -- a count of 64 bits stays at its last value
 abbrev pub counted : ℕ → ℕ
 counted faults = min faults (2 ^ 64 - 1)
-
--- the clause of a conflict: it is held, and each of its literals is false
-pub record IsConflict (c : Kept) (rows : List (List Literal)) (clause : List Literal) : Type 0 where
-  pub sourced : IsSourced c rows clause
-  pub all_false : (m : Literal) → IsTrue (has_literal clause m) → IsFalseIn c.trail.entries m

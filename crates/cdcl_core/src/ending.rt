@@ -3,10 +3,9 @@ ghost use Rattle.std.specs.Prelude.{◌≡◌, ◌≢◌, ◌+◌, ◌≤◌, []
 ghost use Rattle.std.specs.List.{All};
 ghost use Rattle.cx_base.specs.Counts.{Rose};
 ghost use Rattle.conflict_learn.specs.declared.fault.CoreFault.TheVariants.{Write};
-ghost use Rattle.cdcl_core.specs.Concluding.{EndsLog, IsRefutable};
+ghost use Rattle.cdcl_core.specs.Concluding.{EndsLog, IsConflict, IsRefutable};
 ghost use Rattle.cdcl_core.specs.Finds.{Finds};
 ghost use Rattle.cdcl_core.specs.Results.{Refutes};
-ghost use Rattle.cdcl_core.specs.Sources.{IsConflict};
 ghost use Rattle.cdcl_core.specs.Tells.{GivesUp, FaultsAs};
 ghost use Rattle.cdcl_core.specs.Ties.{Stands};
 ghost use Rattle.cdcl_core.specs.declared.propagation.Found.TheVariants.{Quiet};

@@ -11,7 +11,8 @@ ghost use Rattle.conflict_learn.specs.declared.fault.CoreFault.TheVariants.{Writ
 ghost use Rattle.cdcl_core.specs.Deleting.{deletions};
 ghost use Rattle.cdcl_core.specs.Tells.{GivesUp, FaultsAs, TellsAll, IsId, as_events};
 ghost use Rattle.cdcl_core.specs.Ties.{Stands, first_row_id, row_ids};
-ghost use Rattle.cdcl_core.specs.Sources.{IsSourced, IsConflict, counted};
+ghost use Rattle.cdcl_core.specs.Concluding.{IsConflict};
+ghost use Rattle.cdcl_core.specs.Sources.{IsSourced, counted};
 ghost use Rattle.cdcl_core.specs.Learning.{Learns};
 
 use crate::chains::push_hint;

@@ -1,5 +1,5 @@
-use Rattle.cdcl_core.proofs.Answering.{finds_still}
 use Rattle.cdcl_core.proofs.searching.settle.Goals as goal
+use Rattle.cdcl_core.proofs.UnitLaws.{finds_still}
 
 pub tell_units_at_start-requires : goal.tell_units_at_start-requires
 tell_units_at_start-requires g c = c.propagate-found.ensures.stands (g.L.LogSink.events c.args.sink.now) c.requires.stands

@@ -1,6 +1,6 @@
 use Rattle.std.proofs.Common.{◌≡◌, ◌≤◌, ◌-◌}
 use Rattle.cx_semantics.specs.Settled.{Settled}
-use Rattle.cdcl_core.specs.Searching.{GoesOn}
+use Rattle.cdcl_core.specs.Concluding.{GoesOn}
 use Rattle.cdcl_core.specs.Sources.{counted}
 use Rattle.cdcl_core.proofs.solving.search.Given as goal
 
