@@ -12,13 +12,13 @@ use Rattle.search_steps.specs.Search.{Search, IsSearch}
 use Rattle.search_steps.specs.LogSteps.{after_round}
 use Rattle.search_steps.specs.Holding.{AreTold}
 use Rattle.search_steps.proofs.EndLaws.{is_marked, is_log_open}
-use Rattle.cdcl_core.specs.declared.kept.Kept.{Kept}
+use Rattle.cdcl_search.specs.declared.state.SearchState.{SearchState}
 use Rattle.cdcl_core.specs.declared.solving.Outcome.{Outcome}
 use Rattle.cdcl_core.specs.declared.solving.Outcome.TheVariants.{Sat, Unsat, Unknown}
 use Rattle.cdcl_core.specs.Learning.{Learns}
 use Rattle.cdcl_core.specs.Results.{IsOpenWith, HasNoMark, IsSettledBy}
-use Rattle.cdcl_core.specs.Tells.{IsLeft}
-use Rattle.cdcl_core.specs.Ties.{Stands}
+use Rattle.cdcl_search.specs.Tells.{IsLeft}
+use Rattle.cdcl_search.specs.Ties.{SearchStands}
 use Rattle.cdcl_core.proofs.Entering.{round_is_search, conflicts_then, tidy}
 
 -- ---- open logs
@@ -28,11 +28,11 @@ search_is_open formula s n (Some es) ok served count a = subst (λ xs. IsOpenWit
     (is_log_open formula (parities_of formula.constraints) s ok served, subst (Marked formula s.events) count (is_marked formula (parities_of formula.constraints) s ok served))
 
 -- between two conflicts the log is open, with a mark for each counted one
-pub log_is_open : (formula : Problem) (c : Kept) (e : State) (rows : List (List Literal)) (told : Option (List LogEvent)) → Stands formula c e rows told → IsOpenWith formula c.conflicts told
+pub log_is_open : (formula : Problem) (c : SearchState) (e : State) (rows : List (List Literal)) (told : Option (List LogEvent)) → SearchStands formula c e rows told → IsOpenWith formula c.conflicts told
 log_is_open formula c e rows told (s, ok, a, t) = search_is_open formula s c.conflicts told ok t.served.served t.conflicts a
 
 -- behind a learned clause it is open, with one mark more
-pub learned_log_is_open : (formula : Problem) (c : Kept) (e : State) (lits : List Literal) (back : ℕ) (told : Option (List LogEvent)) → Learns formula c e lits back told → IsOpenWith formula (c.conflicts + 1) told
+pub learned_log_is_open : (formula : Problem) (c : SearchState) (e : State) (lits : List Literal) (back : ℕ) (told : Option (List LogEvent)) → Learns formula c e lits back told → IsOpenWith formula (c.conflicts + 1) told
 learned_log_is_open formula c e lits back told l = search_is_open formula (after_round l.search c.next (integers_of lits) l.hints back l.taught.first) (c.conflicts + 1) told
     (round_is_search formula c e lits back l.search l.taught l.hints) (tidy formula c e lits back l.search l.taught l.hints).served (conflicts_then formula c e lits back l.search l.taught l.hints) l.told_is
 
@@ -40,10 +40,10 @@ open_is_left : (formula : Problem) (n : ℕ) (told : Option (List LogEvent)) →
 open_is_left formula n None h = tt
 open_is_left formula n (Some es) h = inl h.0
 
-pub stands_is_left : (formula : Problem) (c : Kept) (e : State) (rows : List (List Literal)) (told : Option (List LogEvent)) → Stands formula c e rows told → IsLeft formula told
+pub stands_is_left : (formula : Problem) (c : SearchState) (e : State) (rows : List (List Literal)) (told : Option (List LogEvent)) → SearchStands formula c e rows told → IsLeft formula told
 stands_is_left formula c e rows told st = open_is_left formula c.conflicts told (log_is_open formula c e rows told st)
 
-pub learned_is_left : (formula : Problem) (c : Kept) (e : State) (lits : List Literal) (back : ℕ) (told : Option (List LogEvent)) → Learns formula c e lits back told → IsLeft formula told
+pub learned_is_left : (formula : Problem) (c : SearchState) (e : State) (lits : List Literal) (back : ℕ) (told : Option (List LogEvent)) → Learns formula c e lits back told → IsLeft formula told
 learned_is_left formula c e lits back told l = open_is_left formula (c.conflicts + 1) told (learned_log_is_open formula c e lits back told l)
 
 -- ---- settled formulas

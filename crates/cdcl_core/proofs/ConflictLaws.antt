@@ -30,20 +30,20 @@ use Rattle.search_steps.specs.Search.{Search, IsSearch, told}
 use Rattle.search_steps.specs.LogSteps.{IsEnded, all_told}
 use Rattle.search_steps.specs.Holding.{AreTold}
 use Rattle.search_steps.proofs.Ends.{row_clause_ends, row_clause_is_marked, ended_is_unmet}
-use Rattle.cdcl_core.specs.declared.kept.Kept.{Kept}
+use Rattle.cdcl_search.specs.declared.state.SearchState.{SearchState}
 use Rattle.cdcl_core.specs.declared.conflicts.Conclusion.TheVariants.{Clause}
 use Rattle.cdcl_core.specs.declared.conflicts.Conflict.{Conflict}
 use Rattle.cdcl_core.specs.Concluding.{Concludes, EndsLog, IsEndedWith}
-use Rattle.cdcl_core.specs.Explaining.{Explains}
-use Rattle.cdcl_core.specs.declared.propagation.Found.{Found}
-use Rattle.cdcl_core.specs.declared.propagation.Found.TheVariants as found
-use Rattle.cdcl_core.specs.Finds.{Finds, IsClash}
-use Rattle.cdcl_core.specs.Tells.{IsLeft, as_events, with_events}
-use Rattle.cdcl_core.specs.Ties.{Stands, first_row_id, Ties}
-use Rattle.cdcl_core.proofs.RowSteps.{all_told_are, is_left, sum_told, sum_is, clause_added, clause_is}
+use Rattle.cdcl_search.specs.Explaining.{Explains}
+use Rattle.cdcl_search.specs.declared.propagation.Found.{Found}
+use Rattle.cdcl_search.specs.declared.propagation.Found.TheVariants as found
+use Rattle.cdcl_search.specs.Finds.{PropagationFinds, IsClash}
+use Rattle.cdcl_search.specs.Tells.{IsLeft, as_events, with_events}
+use Rattle.cdcl_search.specs.Ties.{SearchStands, first_row_id, Ties}
+use Rattle.cdcl_search.proofs.RowSteps.{all_told_are, is_left, sum_told, sum_is, clause_added, clause_is}
 
 -- ---- a row without variables: its sum and its clause end the log
-module _ (formula : Problem) (c : Kept) (e : State) (rows : List (List Literal)) (s : Search) (ok : IsSearch formula (parities_of formula.constraints) s) (t : Ties formula c e rows s)
+module _ (formula : Problem) (c : SearchState) (e : State) (rows : List (List Literal)) (s : Search) (ok : IsSearch formula (parities_of formula.constraints) s) (t : Ties formula c e rows s)
     (r : ReasonOf) (x : Explains (parities_of formula.constraints) c.trail r) (back_parity : literals (integers_of r.parity) ≡ r.parity) (back_clause : literals (integers_of r.clause) ≡ r.clause)
     (none : is_empty (integers_of r.clause) ≡ true) where
   abbrev theirs : List (List Literal)
@@ -91,7 +91,7 @@ module _ (formula : Problem) (c : Kept) (e : State) (rows : List (List Literal))
   two_fronts told_ a (suc (suc i)) less = absurd (omega (arith, less))
 
 -- ---- conflicts
-module _ (formula : Problem) (c : Kept) (e : State) (told : Option (List LogEvent)) (st : Stands formula c e [] told) where
+module _ (formula : Problem) (c : SearchState) (e : State) (told : Option (List LogEvent)) (st : SearchStands formula c e [] told) where
   stands_on : StandsOn e c.trail
   stands_on l h =
       let fed = st.3.fed in
@@ -100,7 +100,7 @@ module _ (formula : Problem) (c : Kept) (e : State) (told : Option (List LogEven
   -- a stored clause that is falsified
   pub stored_concludes : (r : ℕ) → IsLive c.arena r → IsFalsified c.trail.entries (literals_at c.arena r) → (k : Conflict) → k.lits ≡ literals_at c.arena r → k.rows.items ≡ [] → Concludes formula c e told (Clause k)
   stored_concludes r live falsified k are none = (
-    subst (λ rows. Stands formula c e rows told) (sym none) st,
+    subst (λ rows. SearchStands formula c e rows told) (sym none) st,
     record { sourced = inl (r, live, are); all_false = λ m h. falsified m (of_has (literals_at c.arena r) m (ap (λ ls. has_literal ls m) (sym are) ∙ h)) },
   )
 
@@ -136,9 +136,9 @@ module _ (formula : Problem) (c : Kept) (e : State) (told : Option (List LogEven
         assigned = clash_assigned clash.0 clash.1;
       }
 
-      pub row_concludes : (new : Option (List LogEvent)) (k : Conflict) → k.lits ≡ reason.clause → k.rows.items ≡ reason.clause ∷ [] → Stands formula c e (reason.clause ∷ []) new → Concludes formula c e new (Clause k)
+      pub row_concludes : (new : Option (List LogEvent)) (k : Conflict) → k.lits ≡ reason.clause → k.rows.items ≡ reason.clause ∷ [] → SearchStands formula c e (reason.clause ∷ []) new → Concludes formula c e new (Clause k)
       row_concludes new k are rows stands = (
-        subst (λ xs. Stands formula c e xs new) (sym rows) stands,
+        subst (λ xs. SearchStands formula c e xs new) (sym rows) stands,
         record {
           sourced = inr (inr (subst (λ xs. Contains xs k.lits) (sym rows) (0, omega arith, sym are)));
           all_false = λ m h. is_clause.are_false m (ap (λ ls. has_literal ls m) (sym are) ∙ h);
@@ -160,10 +160,10 @@ module _ (formula : Problem) (c : Kept) (e : State) (told : Option (List LogEven
                 (two_fronts formula c e [] st.0 st.1 st.3 reason clash_explains back_parity back_clause empty told st.2 i (subst (λ xs. i < length xs) are less));
           }
 
-pub found_concludes : (formula : Problem) (c : Kept) (e : State) (told : Option (List LogEvent)) → Stands formula c e [] told → (what : Found) (r : ℕ) → what ≡ found.Clause r → Finds c e what
+pub found_concludes : (formula : Problem) (c : SearchState) (e : State) (told : Option (List LogEvent)) → SearchStands formula c e [] told → (what : Found) (r : ℕ) → what ≡ found.Clause r → PropagationFinds c e what
     → (k : Conflict) → k.lits ≡ literals_at c.arena r → k.rows.items ≡ [] → Concludes formula c e told (Clause k)
 found_concludes formula c e told st what r is finds k are none =
-    let f = subst (Finds c e) is finds in
+    let f = subst (PropagationFinds c e) is finds in
     stored_concludes formula c e told st r (st.3.fits.nodes.live r f.0) f.1 k are none
 
 pub is_empty_list : (lits seen : List Literal) (b : Bool) → seen ≡ lits → b ≡ (length seen == 0) → b ≡ true → lits ≡ []

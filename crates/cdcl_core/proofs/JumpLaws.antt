@@ -15,8 +15,8 @@ use Rattle.search_steps.specs.Search.{Search, jumped}
 use Rattle.search_steps.specs.LogSteps.{after_round}
 use Rattle.conflict_learn.specs.Learning.{negated_at, literal_at}
 use Rattle.parity_engine.specs.State.{State}
-use Rattle.cdcl_core.specs.declared.kept.Kept.{Kept}
-use Rattle.cdcl_core.specs.Ties.{Ties}
+use Rattle.cdcl_search.specs.declared.state.SearchState.{SearchState}
+use Rattle.cdcl_search.specs.Ties.{Ties}
 use Rattle.cdcl_core.specs.Entering.{EntersUnit, EntersClause}
 use Rattle.cdcl_core.specs.Learning.{IsTaught}
 use Rattle.cdcl_core.proofs.Entering.{within}
@@ -38,7 +38,7 @@ all_within n [] w k d h = absurd (omega (arith, h))
 all_within n (l ∷ lits) w zero d h = w.0
 all_within n (l ∷ lits) w (suc k) d h = all_within n lits w.1 k d (omega (arith, h))
 
-module _ (formula : Problem) (c : Kept) (e : State) (lits : List Literal) (back : ℕ) (s : Search) (taught : IsTaught formula c e lits back s) where
+module _ (formula : Problem) (c : SearchState) (e : State) (lits : List Literal) (back : ℕ) (s : Search) (taught : IsTaught formula c e lits back s) where
   pub lower_than_now : back < c.trail.level
   lower_than_now = let low = taught.learned.lower in let now = level_tied s.trail c.trail taught.ties.follows.tied taught.ties.follows.sound in omega (arith, low, now)
 
@@ -52,7 +52,7 @@ module _ (formula : Problem) (c : Kept) (e : State) (lits : List Literal) (back 
       go [] are b = b
       go (q ∷ qs) are b = absurd (let n = ap length are in omega (arith, n, one))
 
-  module _ (c1 : Kept) (e1 : State) (t1 : Ties formula c1 e1 taught.rows (jumped s back)) (takes : TakesBack back c.trail c1.trail) where
+  module _ (c1 : SearchState) (e1 : State) (t1 : Ties formula c1 e1 taught.rows (jumped s back)) (takes : TakesBack back c.trail c1.trail) where
     pub scores_within : (lits1 : List Literal) → lits1 ≡ lits → (k : ℕ) (d : Literal) → k < length lits1 → (1 ≤ (get_or lits1 k d).variable) × ((get_or lits1 k d).variable ≤ length c1.order.scores)
     scores_within lits1 same k d h =
         let w = all_within formula.variables lits (within formula c e lits back s taught []) k d (let n = ap length same in omega (arith, n, h)) in
@@ -108,7 +108,7 @@ module _ (formula : Problem) (c : Kept) (e : State) (lits : List Literal) (back 
       stands_still : AllStand o c1.trail
       stands_still = record { variables = scores ∙ t1.stand.variables; stand = λ v low high is_open. ap (λ b. get_or b (v - 1) false) standing ∙ t1.stand.stand v low high is_open }
 
-      pub enters_stands : (D : Kept) (lbd : ℕ) (hints : List ℤ) → c1.next ≡ c.next → c1.conflicts ≡ c.conflicts → (back ≡ 0 → length c1.units.items ≡ length c1.trail.entries)
+      pub enters_stands : (D : SearchState) (lbd : ℕ) (hints : List ℤ) → c1.next ≡ c.next → c1.conflicts ≡ c.conflicts → (back ≡ 0 → length c1.units.items ≡ length c1.trail.entries)
           → Enters (record c1 { order = o; next = c1.next + 1; conflicts = c1.conflicts + 1 }) D lits c1.next lbd → Ties formula D e1 [] (after_round s c.next (integers_of lits) hints back taught.first)
       enters_stands D lbd hints next conflicts units enters =
           let Law : ℕ → ℕ → Literal → Type 0 = λ m k x. ((length lits ≡ 1) × EntersUnit (record c1 { order = o; next = m + 1; conflicts = k + 1 }) D x m) ⊎ ((2 ≤ length lits) × EntersClause (record c1 { order = o; next = m + 1; conflicts = k + 1 }) D lits x m lbd) in

@@ -17,15 +17,15 @@ use Rattle.search_steps.specs.Holding.{AreTold}
 use Rattle.search_steps.specs.LogSteps.{IsEnded}
 use Rattle.search_steps.specs.Search.{Search, IsSearch}
 use Rattle.cx_trail.specs.Sequence.{IsFalseIn}
-use Rattle.cdcl_core.specs.declared.kept.Kept.{Kept}
+use Rattle.cdcl_search.specs.declared.state.SearchState.{SearchState}
 use Rattle.cdcl_core.specs.declared.conflicts.Conclusion.{Conclusion}
 use Rattle.cdcl_core.specs.declared.conflicts.Conclusion.TheVariants.{Clause, Ending}
-use Rattle.cdcl_core.specs.Tells.{IsId, IsLeft, as_events, with_events}
-use Rattle.cdcl_core.specs.Ties.{Stands}
-use Rattle.cdcl_core.specs.Sources.{IsSourced}
+use Rattle.cdcl_search.specs.Tells.{IsId, IsLeft, as_events, with_events}
+use Rattle.cdcl_search.specs.Ties.{SearchStands}
+use Rattle.cdcl_search.specs.Sources.{IsSourced}
 
 -- the clause of a conflict: it is held, and each of its literals is false
-pub record IsConflict (c : Kept) (rows : List (List Literal)) (clause : List Literal) : Type 0 where
+pub record IsConflictClause (c : SearchState) (rows : List (List Literal)) (clause : List Literal) : Type 0 where
   pub sourced : IsSourced c rows clause
   pub all_false : (m : Literal) → IsTrue (has_literal clause m) → IsFalseIn c.trail.entries m
 
@@ -42,9 +42,9 @@ pub record EndsLog (formula : Problem) (marks : ℕ) (told : Option (List LogEve
   pub fronts : (i : ℕ) → i < length steps → IsLeft formula (with_events (take i (as_events steps)) told)
 
 -- a clause whose literals are all false, or steps that end the log
-abbrev pub Concludes : Problem → Kept → State → Option (List LogEvent) → Conclusion → Type 0
-Concludes formula c e told (Clause k) = Stands formula c e k.rows.items told × IsConflict c k.rows.items k.lits
-Concludes formula c e told (Ending steps) = Stands formula c e [] told × EndsLog formula c.conflicts told steps.items
+abbrev pub Concludes : Problem → SearchState → State → Option (List LogEvent) → Conclusion → Type 0
+Concludes formula c e told (Clause k) = SearchStands formula c e k.rows.items told × IsConflictClause c k.rows.items k.lits
+Concludes formula c e told (Ending steps) = SearchStands formula c e [] told × EndsLog formula c.conflicts told steps.items
 
 -- the clauses of the search show the empty clause, which may have this id; so many conflicts are counted
 pub record IsContradicted (formula : Problem) (id marks : ℕ) (s : Search) : Type 0 where
@@ -59,7 +59,7 @@ abbrev pub IsRefutable : Problem → ℕ → ℕ → Option (List LogEvent) → 
 IsRefutable formula id marks told = IsId id × ((s : Search) × AreTold told s.events × IsContradicted formula id marks s)
 
 -- the search stands before a propagation, with fewer counted conflicts than the budget
-pub record GoesOn (formula : Problem) (budget : ℕ) (told : Option (List LogEvent)) (c : Kept) (e : State) : Type 0 where
-  pub stands : Stands formula c e [] told
+pub record SearchGoesOn (formula : Problem) (budget : ℕ) (told : Option (List LogEvent)) (c : SearchState) (e : State) : Type 0 where
+  pub stands : SearchStands formula c e [] told
   pub unbroken : e.mood ≢ Broken
   pub fewer : c.conflicts < budget

@@ -4,7 +4,7 @@ use Rattle.cx_trail.specs.declared.entry.Reason.TheVariants as reason
 use Rattle.watch_lists.specs.Attaching.{literal_at}
 use Rattle.watch_lists.specs.Watching.{Fits, IsAttached, no_literal}
 use Rattle.watch_lists.proofs.EventLaws.{fits_arena, fits_pushed}
-use Rattle.cdcl_core.proofs.Places.{first_any}
+use Rattle.cdcl_search.proofs.Places.{first_any}
 use Rattle.cdcl_core.proofs.jumping.enter_clause.Goals as goal
 
 pub attach-requires-clause-fits : goal.attach-requires-clause-fits
