@@ -13,12 +13,12 @@ use Rattle.search_steps.specs.LogSteps.{after_round}
 use Rattle.search_steps.specs.Holding.{AreTold}
 use Rattle.search_steps.proofs.EndLaws.{is_marked, is_log_open}
 use Rattle.cdcl_search.specs.declared.state.SearchState.{SearchState}
+use Rattle.cdcl_search.specs.Tells.{IsLeft}
+use Rattle.cdcl_search.specs.Ties.{SearchStands}
 use Rattle.cdcl_core.specs.declared.solving.Outcome.{Outcome}
 use Rattle.cdcl_core.specs.declared.solving.Outcome.TheVariants.{Sat, Unsat, Unknown}
 use Rattle.cdcl_core.specs.Learning.{Learns}
 use Rattle.cdcl_core.specs.Results.{IsOpenWith, HasNoMark, IsSettledBy}
-use Rattle.cdcl_search.specs.Tells.{IsLeft}
-use Rattle.cdcl_search.specs.Ties.{SearchStands}
 use Rattle.cdcl_core.proofs.Entering.{round_is_search, conflicts_then, tidy}
 
 -- ---- open logs

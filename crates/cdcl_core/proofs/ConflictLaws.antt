@@ -31,9 +31,6 @@ use Rattle.search_steps.specs.LogSteps.{IsEnded, all_told}
 use Rattle.search_steps.specs.Holding.{AreTold}
 use Rattle.search_steps.proofs.Ends.{row_clause_ends, row_clause_is_marked, ended_is_unmet}
 use Rattle.cdcl_search.specs.declared.state.SearchState.{SearchState}
-use Rattle.cdcl_core.specs.declared.conflicts.Conclusion.TheVariants.{Clause}
-use Rattle.cdcl_core.specs.declared.conflicts.Conflict.{Conflict}
-use Rattle.cdcl_core.specs.Concluding.{Concludes, EndsLog, IsEndedWith}
 use Rattle.cdcl_search.specs.Explaining.{Explains}
 use Rattle.cdcl_search.specs.declared.propagation.Found.{Found}
 use Rattle.cdcl_search.specs.declared.propagation.Found.TheVariants as found
@@ -41,6 +38,9 @@ use Rattle.cdcl_search.specs.Finds.{PropagationFinds, IsClash}
 use Rattle.cdcl_search.specs.Tells.{IsLeft, as_events, with_events}
 use Rattle.cdcl_search.specs.Ties.{SearchStands, first_row_id, Ties}
 use Rattle.cdcl_search.proofs.RowSteps.{all_told_are, is_left, sum_told, sum_is, clause_added, clause_is}
+use Rattle.cdcl_core.specs.declared.conflicts.Conclusion.TheVariants.{Clause}
+use Rattle.cdcl_core.specs.declared.conflicts.Conflict.{Conflict}
+use Rattle.cdcl_core.specs.Concluding.{Concludes, EndsLog, IsEndedWith}
 
 -- ---- a row without variables: its sum and its clause end the log
 module _ (formula : Problem) (c : SearchState) (e : State) (rows : List (List Literal)) (s : Search) (ok : IsSearch formula (parities_of formula.constraints) s) (t : Ties formula c e rows s)

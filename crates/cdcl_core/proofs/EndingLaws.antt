@@ -24,8 +24,6 @@ use Rattle.search_steps.proofs.Stored.{has_of, stored_is_false}
 use Rattle.search_steps.specs.Search.{Search}
 use Rattle.search_steps.specs.Holding.{AreTold}
 use Rattle.cdcl_search.specs.declared.state.SearchState.{SearchState}
-use Rattle.cdcl_core.specs.Concluding.{EndsLog, IsEndedWith, IsContradicted, IsRefutable, IsConflictClause}
-use Rattle.cdcl_core.specs.Results.{Refutes, IsEndedWithin}
 use Rattle.cdcl_search.specs.Tells.{TellsAll, GivesUp, IsLeft, as_events, with_events}
 use Rattle.cdcl_search.specs.Ties.{SearchStands, first_row_id}
 use Rattle.cdcl_search.proofs.Events.{no_more, gives_up}
@@ -33,6 +31,8 @@ use Rattle.cdcl_search.proofs.SourceLaws.{sourced_is_live}
 use Rattle.cdcl_search.proofs.Places.{tied_length}
 use Rattle.cdcl_search.proofs.RowSteps.{is_left}
 use Rattle.cdcl_search.proofs.UnitLaws.{false_are_low}
+use Rattle.cdcl_core.specs.Concluding.{EndsLog, IsEndedWith, IsContradicted, IsRefutable, IsConflictClause}
+use Rattle.cdcl_core.specs.Results.{Refutes, IsEndedWithin}
 
 -- ---- steps that end the log
 within : (formula : Problem) (marks : ℕ) (told : Option (List LogEvent)) → IsEndedWith formula marks told → IsEndedWithin formula (marks + 1) told

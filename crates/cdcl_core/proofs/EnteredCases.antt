@@ -20,17 +20,17 @@ use Rattle.search_steps.specs.LogSteps.{after_round}
 use Rattle.conflict_learn.proofs.ChainOfResolutions.{by_cases}
 use Rattle.watch_lists.proofs.EventLaws.{fits_pushed}
 use Rattle.parity_engine.specs.State.{State}
-use Rattle.cdcl_search.specs.declared.state.SearchState.{SearchState}
-use Rattle.cdcl_search.specs.Ties.{first_row_id, IsNamedBy, AreUnits, HasReasonAt, HaveReasons, Ties}
-use Rattle.cdcl_core.specs.Entering.{EntersUnit, EntersClause}
-use Rattle.cdcl_search.proofs.Places.{tied_length}
-use Rattle.cdcl_core.specs.Learning.{IsTaught}
-use Rattle.cdcl_core.proofs.Entering.{trail_is, get_new, named_then, was}
-use Rattle.cdcl_core.proofs.Entered.{true_more, kept_at, new_at, old_or_new, length_D, same_entry, same_take, last_entry, place, level_D, reason_stays, ties_entered, unit_stays}
 use Rattle.search_steps.specs.LogSteps.{RestOnClauses}
 use Rattle.cx_semantics.proofs.Closure.{inside_itself}
 use Rattle.cx_semantics.proofs.Members.{has_at_head}
+use Rattle.cdcl_search.specs.declared.state.SearchState.{SearchState}
+use Rattle.cdcl_search.specs.Ties.{first_row_id, IsNamedBy, AreUnits, HasReasonAt, HaveReasons, Ties}
+use Rattle.cdcl_search.proofs.Places.{tied_length}
 use Rattle.cdcl_search.specs.Ties.{IsStored, IsClauseReasonAt, IsCovered}
+use Rattle.cdcl_core.specs.Entering.{EntersUnit, EntersClause}
+use Rattle.cdcl_core.specs.Learning.{IsTaught}
+use Rattle.cdcl_core.proofs.Entering.{trail_is, get_new, named_then, was}
+use Rattle.cdcl_core.proofs.Entered.{true_more, kept_at, new_at, old_or_new, length_D, same_entry, same_take, last_entry, place, level_D, reason_stays, ties_entered, unit_stays}
 
 id_front : (xs : List ℕ) (y i : ℕ) → i < length xs → get_or (xs ++ y ∷ []) i 0 ≡ get_or xs i 0
 id_front [] y i h = absurd (omega (arith, h))

@@ -27,8 +27,8 @@ use Rattle.conflict_learn.proofs.ChainOfResolutions.{by_cases}
 use Rattle.parity_engine.specs.State.{State}
 use Rattle.cdcl_search.specs.declared.state.SearchState.{SearchState}
 use Rattle.cdcl_search.specs.Ties.{first_row_id, IsNamedBy}
-use Rattle.cdcl_core.specs.Learning.{IsTaught}
 use Rattle.cdcl_search.proofs.TableLaws.{no_clause}
+use Rattle.cdcl_core.specs.Learning.{IsTaught}
 
 -- literals of the trail are within the variables
 negated_within : (formula : Problem) (t : TrailState) → t.variables ≡ formula.variables → Rattle.cx_trail.specs.Sequence.IsTrail t → (ps : List ℕ) → Rattle.std.specs.List.AllByRecursion (λ p. p < length t.entries) ps → AreWithin formula.variables (negated_at t ps)

@@ -23,14 +23,14 @@ use Rattle.watch_lists.specs.Watching.{Fits, IsAttached}
 use Rattle.watch_lists.specs.Attaching.{CanBeWatched, literal_at}
 use Rattle.search_policy.specs.Standing.{AllStand}
 use Rattle.cdcl_search.specs.declared.state.SearchState.{SearchState}
+use Rattle.cdcl_search.proofs.RowSteps.{within_by}
+use Rattle.cdcl_search.proofs.Silence.{some_literal}
 use Rattle.cdcl_core.specs.declared.filling.Single.{Single}
 use Rattle.cdcl_core.specs.declared.filling.Filled.{Filled}
 use Rattle.cdcl_core.specs.Clauses.{AreDifferent}
 use Rattle.cdcl_core.specs.Filling.{IsEmpty, clause_number, IsUnitClause, IsClauseTaken, IsFilledUpTo, IsNext, Attaches}
 use Rattle.cdcl_core.proofs.Entered.{kept_at, new_at, old_or_new}
 use Rattle.cdcl_core.proofs.OriginalLaws.{few_clauses}
-use Rattle.cdcl_search.proofs.RowSteps.{within_by}
-use Rattle.cdcl_search.proofs.Silence.{some_literal}
 
 -- ---- the numbers of clauses
 pub clause_counts : (cs : List Constraint) (i : ℕ) (d : Constraint) (lits : List Literal) → i < length cs → get_or cs i d ≡ constraint.Clause lits → length (clauses_of (take (i + 1) cs)) ≡ length (clauses_of (take i cs)) + 1

@@ -15,14 +15,6 @@ use Rattle.search_steps.specs.Search.{Search, jumped}
 use Rattle.search_steps.specs.LogSteps.{after_round}
 use Rattle.conflict_learn.specs.Learning.{negated_at, literal_at}
 use Rattle.parity_engine.specs.State.{State}
-use Rattle.cdcl_search.specs.declared.state.SearchState.{SearchState}
-use Rattle.cdcl_search.specs.Ties.{Ties}
-use Rattle.cdcl_core.specs.Entering.{EntersUnit, EntersClause}
-use Rattle.cdcl_core.specs.Learning.{IsTaught}
-use Rattle.cdcl_core.proofs.Entering.{within}
-use Rattle.cdcl_core.proofs.EnteredCases.{clause_ties, unit_ties}
-use Rattle.cdcl_core.proofs.Entering.{tied_then}
-use Rattle.cdcl_core.specs.Entering.{Enters}
 use Rattle.search_steps.proofs.TrailLaws.{back_holds}
 use Rattle.search_steps.proofs.Bridge.{held_is_true, level_tied}
 use Rattle.search_steps.proofs.Stored.{has_of}
@@ -32,6 +24,14 @@ use Rattle.watch_lists.specs.Attaching.{CanBeWatched, literal_at as nth}
 use Rattle.conflict_learn.specs.Learning.{IsFalling}
 use Rattle.conflict_learn.specs.Levels.{second, levels_at}
 use Rattle.conflict_learn.proofs.ChainOfResolutions.{by_cases}
+use Rattle.cdcl_search.specs.declared.state.SearchState.{SearchState}
+use Rattle.cdcl_search.specs.Ties.{Ties}
+use Rattle.cdcl_core.specs.Entering.{EntersUnit, EntersClause}
+use Rattle.cdcl_core.specs.Learning.{IsTaught}
+use Rattle.cdcl_core.proofs.Entering.{within}
+use Rattle.cdcl_core.proofs.EnteredCases.{clause_ties, unit_ties}
+use Rattle.cdcl_core.proofs.Entering.{tied_then}
+use Rattle.cdcl_core.specs.Entering.{Enters}
 
 all_within : (n : ℕ) (lits : List Literal) → AreWithin n lits → (k : ℕ) (d : Literal) → k < length lits → (1 ≤ (get_or lits k d).variable) × ((get_or lits k d).variable ≤ n)
 all_within n [] w k d h = absurd (omega (arith, h))

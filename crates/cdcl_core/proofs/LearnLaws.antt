@@ -32,12 +32,12 @@ use Rattle.cdcl_search.specs.declared.state.SearchState.{SearchState}
 use Rattle.cdcl_search.specs.Ties.{first_row_id, row_ids, SearchStands}
 use Rattle.cdcl_search.specs.Sources.{IsSourced}
 use Rattle.cdcl_search.specs.Tells.{TellsAll, IsLeft, GivesUp, as_events, with_events}
-use Rattle.cdcl_core.specs.Learning.{IsTaught, Learns}
 use Rattle.cdcl_search.proofs.Events.{more_and_more, gives_up}
 use Rattle.cdcl_search.proofs.RowSteps.{is_left}
-use Rattle.cdcl_core.proofs.Entering.{round_is_search, tidy}
 use Rattle.cdcl_search.specs.Deleting.{deletions}
 use Rattle.cdcl_search.proofs.SourceLaws.{sourced_is_live}
+use Rattle.cdcl_core.specs.Learning.{IsTaught, Learns}
+use Rattle.cdcl_core.proofs.Entering.{round_is_search, tidy}
 use Rattle.cdcl_core.specs.Concluding.{IsConflictClause}
 
 -- ---- a mark and the steps behind it

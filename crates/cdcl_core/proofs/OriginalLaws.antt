@@ -26,12 +26,12 @@ use Rattle.search_steps.specs.Holding.{AreTold}
 use Rattle.search_steps.specs.Search.{Search, told}
 use Rattle.search_steps.specs.Start.{IsBegun, start}
 use Rattle.search_steps.proofs.StartLaws.{nothing_is_begun, clause_begins, parity_begins, literals_are}
-use Rattle.cdcl_core.specs.Originals.{AreListedFromOne, HasBegun, AreCounted}
-use Rattle.cdcl_core.specs.Results.{IsFresh}
 use Rattle.cdcl_search.specs.Tells.{TellsAll, GivesUp, IsLeft, with_events}
 use Rattle.cdcl_search.proofs.Events.{no_more, gives_up}
 use Rattle.cdcl_search.proofs.TableLaws.{put_same, put_other}
 use Rattle.cdcl_search.proofs.RowSteps.{few_parities}
+use Rattle.cdcl_core.specs.Originals.{AreListedFromOne, HasBegun, AreCounted}
+use Rattle.cdcl_core.specs.Results.{IsFresh}
 
 -- ---- constraints by their places
 clause_there : (cs : List Constraint) (i : ℕ) (lits : List Literal) (d : Constraint) → i < length cs → get_or cs i d ≡ constraint.Clause lits → Contains (clauses_of cs) lits

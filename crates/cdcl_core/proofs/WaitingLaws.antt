@@ -39,18 +39,18 @@ use Rattle.search_steps.proofs.Sets.{not_both}
 use Rattle.search_steps.proofs.StartLaws.{begun_is_search}
 use Rattle.search_steps.proofs.Stored.{stored_is_false}
 use Rattle.cdcl_search.specs.declared.state.SearchState.{SearchState}
-use Rattle.cdcl_core.specs.declared.filling.Single.{Single}
-use Rattle.cdcl_core.specs.Filling.{IsFilled, clause_number}
-use Rattle.cdcl_core.specs.Originals.{HasBegun}
 use Rattle.cdcl_search.specs.Tells.{IsLeft}
 use Rattle.cdcl_search.specs.Ties.{IsNamedBy, IsCovered, AreClauses, AreUnits, IsFed, SearchStands, first_row_id}
-use Rattle.cdcl_core.specs.Waiting.{TiesBut, SearchStandsBut, IsWaiting, IsSingle}
-use Rattle.cdcl_core.proofs.EndingLaws.{no_newer}
 use Rattle.cdcl_search.proofs.Growing.{covered_grows, stand_grows}
-use Rattle.cdcl_core.proofs.OriginalLaws.{few_clauses}
 use Rattle.cdcl_search.proofs.Places.{tied_length}
 use Rattle.cdcl_search.proofs.RowSteps.{is_left}
 use Rattle.cdcl_search.proofs.TableLaws.{no_clause}
+use Rattle.cdcl_core.specs.declared.filling.Single.{Single}
+use Rattle.cdcl_core.specs.Filling.{IsFilled, clause_number}
+use Rattle.cdcl_core.specs.Originals.{HasBegun}
+use Rattle.cdcl_core.specs.Waiting.{TiesBut, SearchStandsBut, IsWaiting, IsSingle}
+use Rattle.cdcl_core.proofs.EndingLaws.{no_newer}
+use Rattle.cdcl_core.proofs.OriginalLaws.{few_clauses}
 use Rattle.cdcl_core.specs.Concluding.{IsRefutable}
 
 pub waiting_is_left : (formula : Problem) (c : SearchState) (waiting : List Single) (old : Option (List LogEvent)) → SearchStandsBut formula c waiting old → IsLeft formula old

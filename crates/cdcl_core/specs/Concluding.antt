@@ -18,11 +18,11 @@ use Rattle.search_steps.specs.LogSteps.{IsEnded}
 use Rattle.search_steps.specs.Search.{Search, IsSearch}
 use Rattle.cx_trail.specs.Sequence.{IsFalseIn}
 use Rattle.cdcl_search.specs.declared.state.SearchState.{SearchState}
-use Rattle.cdcl_core.specs.declared.conflicts.Conclusion.{Conclusion}
-use Rattle.cdcl_core.specs.declared.conflicts.Conclusion.TheVariants.{Clause, Ending}
 use Rattle.cdcl_search.specs.Tells.{IsId, IsLeft, as_events, with_events}
 use Rattle.cdcl_search.specs.Ties.{SearchStands}
 use Rattle.cdcl_search.specs.Sources.{IsSourced}
+use Rattle.cdcl_core.specs.declared.conflicts.Conclusion.{Conclusion}
+use Rattle.cdcl_core.specs.declared.conflicts.Conclusion.TheVariants.{Clause, Ending}
 
 -- the clause of a conflict: it is held, and each of its literals is false
 pub record IsConflictClause (c : SearchState) (rows : List (List Literal)) (clause : List Literal) : Type 0 where

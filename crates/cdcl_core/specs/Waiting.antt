@@ -12,11 +12,11 @@ use Rattle.search_steps.specs.Ids.{IsRanged, HasFreeSums}
 use Rattle.search_steps.specs.Search.{Search, IsSearch}
 use Rattle.search_steps.specs.Tied.{Mirrors}
 use Rattle.cdcl_search.specs.declared.state.SearchState.{SearchState}
+use Rattle.cdcl_search.specs.Ties.{IsCovered, AreUnits, HasOnlyRowClauses, first_row_id}
 use Rattle.cdcl_core.specs.declared.filling.Single.{Single}
 use Rattle.cdcl_core.specs.Filling.{clause_number, IsUnitClause}
 use Rattle.cdcl_core.specs.Originals.{AreListedFromOne}
 use Rattle.cdcl_core.specs.Results.{Refutes}
-use Rattle.cdcl_search.specs.Ties.{IsCovered, AreUnits, HasOnlyRowClauses, first_row_id}
 
 -- what the arena holds is attached, and has the literals of the formula's clause of its number
 pub record IsOfFormula (formula : Problem) (c : SearchState) (r : ℕ) : Type 0 where

@@ -10,16 +10,16 @@ ghost use Rattle.clause_arena.specs.Clauses.{IsLive, literals_at};
 ghost use Rattle.cx_base.specs.Counts.{Rose};
 ghost use Rattle.conflict_learn.specs.declared.fault.CoreFault.TheVariants.{Write};
 ghost use Rattle.parity_engine.specs.State.{AreRising};
-ghost use Rattle.cdcl_core.specs.Concluding.{Concludes};
 ghost use Rattle.cdcl_search.specs.Explaining.{Explains};
 ghost use Rattle.cdcl_search.specs.Finds.{PropagationFinds, IsClash};
 ghost use Rattle.cdcl_search.specs.Tells.{GivesUp, FaultsAs};
 ghost use Rattle.cdcl_search.specs.Ties.{SearchStands, first_row_id};
 ghost use Rattle.cdcl_search.specs.declared.propagation.Found.TheVariants.{Quiet};
+ghost use Rattle.cdcl_core.specs.Concluding.{Concludes};
 
-use cdcl_search::{Found, SearchState};
 use cdcl_search::rows::{FIRST_ROW_ID, next_ids, sum_and_clause, tell_reason};
 use cdcl_search::source::stored;
+use cdcl_search::{Found, SearchState};
 use conflict_learn::CoreFault;
 use cx_base::{ClauseRef, Formula, LitList, Row};
 use cx_semantics::LogStep;
@@ -46,7 +46,11 @@ pub(crate) enum Conclusion {
 }
 
 /// The conflict of a clause of the arena.
-fn stored_conflict(alloc: Global, kept: &SearchState, reference: ClauseRef) -> Result<Conflict, AllocError>
+fn stored_conflict(
+    alloc: Global,
+    kept: &SearchState,
+    reference: ClauseRef,
+) -> Result<Conflict, AllocError>
     requires { IsLive kept.now.arena reference }
     ensures clause { IfOk result (λ c. c.lits ≡ literals_at kept.now.arena reference) }
     ensures rows { IfOk result (λ c. c.rows.items ≡ []) }

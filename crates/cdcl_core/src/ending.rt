@@ -3,18 +3,18 @@ ghost use Rattle.std.specs.Prelude.{◌≡◌, ◌≢◌, ◌+◌, ◌≤◌, []
 ghost use Rattle.std.specs.List.{All};
 ghost use Rattle.cx_base.specs.Counts.{Rose};
 ghost use Rattle.conflict_learn.specs.declared.fault.CoreFault.TheVariants.{Write};
-ghost use Rattle.cdcl_core.specs.Concluding.{EndsLog, IsConflictClause, IsRefutable};
 ghost use Rattle.cdcl_search.specs.Finds.{PropagationFinds};
-ghost use Rattle.cdcl_core.specs.Results.{Refutes};
 ghost use Rattle.cdcl_search.specs.Tells.{GivesUp, FaultsAs};
 ghost use Rattle.cdcl_search.specs.Ties.{SearchStands};
 ghost use Rattle.cdcl_search.specs.declared.propagation.Found.TheVariants.{Quiet};
+ghost use Rattle.cdcl_core.specs.Concluding.{EndsLog, IsConflictClause, IsRefutable};
+ghost use Rattle.cdcl_core.specs.Results.{Refutes};
 
-use cdcl_search::{Found, SearchState};
-use cdcl_search::chains::{hints_of, tell_chained};
 use crate::conflicts::{Conclusion, Conflict, conflict_clause};
+use cdcl_search::chains::{hints_of, tell_chained};
 use cdcl_search::rows::FIRST_ROW_ID;
 use cdcl_search::telling::tell_all;
+use cdcl_search::{Found, SearchState};
 use conflict_learn::CoreFault;
 use cx_base::{Formula, Lit};
 use cx_semantics::LogStep;

@@ -6,8 +6,8 @@ ghost use Rattle.watch_lists.specs.Watching.{Fits};
 ghost use Rattle.watch_lists.specs.Attaching.{CanBeWatched};
 ghost use Rattle.cdcl_core.specs.Filling.{IsEmpty, IsFilledUpTo, IsFilled, IsNext, Attaches};
 
-use cdcl_search::SearchState;
 use crate::clauses::{different, has_both};
+use cdcl_search::SearchState;
 use clause_arena::Arena;
 use cx_base::{ConstraintRef, Formula, Lit};
 use cx_trail::Trail;

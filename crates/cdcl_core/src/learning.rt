@@ -11,13 +11,13 @@ ghost use Rattle.conflict_learn.specs.declared.fault.CoreFault.TheVariants.{Writ
 ghost use Rattle.cdcl_search.specs.Deleting.{deletions};
 ghost use Rattle.cdcl_search.specs.Tells.{GivesUp, FaultsAs, TellsAll, IsId, as_events};
 ghost use Rattle.cdcl_search.specs.Ties.{SearchStands, first_row_id, row_ids};
-ghost use Rattle.cdcl_core.specs.Concluding.{IsConflictClause};
 ghost use Rattle.cdcl_search.specs.Sources.{IsSourced, counted};
+ghost use Rattle.cdcl_core.specs.Concluding.{IsConflictClause};
 ghost use Rattle.cdcl_core.specs.Learning.{Learns};
 
+use crate::conflicts::Conflict;
 use cdcl_search::SearchState;
 use cdcl_search::chains::push_hint;
-use crate::conflicts::Conflict;
 use cdcl_search::deleting::put_deletions;
 use cdcl_search::integers::integers;
 use cdcl_search::source::Source;

@@ -5,9 +5,9 @@ ghost use Rattle.cx_semantics.specs.declared.steps.LogEvent.TheVariants.{Step};
 ghost use Rattle.cx_semantics.specs.declared.steps.LogStep.TheVariants as step;
 ghost use Rattle.cx_base.specs.Counts.{Rose};
 ghost use Rattle.conflict_learn.specs.declared.fault.CoreFault.TheVariants.{Write};
+ghost use Rattle.cdcl_search.specs.Tells.{GivesUp, FaultsAs, TellsAll, IsId};
 ghost use Rattle.cdcl_core.specs.Originals.{HasBegun, AreCounted};
 ghost use Rattle.cdcl_core.specs.Results.{IsFresh};
-ghost use Rattle.cdcl_search.specs.Tells.{GivesUp, FaultsAs, TellsAll, IsId};
 
 use cdcl_search::integers::integers;
 use cdcl_search::steps::{original, original_parity};

@@ -1,5 +1,5 @@
 -- The clauses of a source implied the literals.
-use Rattle.std.proofs.Common.{◌≡◌, sym, ap, ◌∙◌, subst, ℕ, ◌<◌, ◌≤◌, List, [], ◌∷◌, ◌++◌, length, Contains, arith, inl, inr, length-append, length-take, zero, suc, get_or, Some}
+use Rattle.std.proofs.Common.{◌≡◌, sym, ap, ◌∙◌, subst, ℕ, ◌+◌, ◌<◌, ◌≤◌, List, [], ◌∷◌, ◌++◌, length, Contains, arith, inl, inr, length-append, length-take, zero, suc, get_or, Some}
 use Rattle.std.proofs.Math.ListN.{get_or-append}
 use Rattle.cx_base.specs.Literals.{Literal, negate, same_literal}
 use Rattle.cx_base.proofs.LiteralLaws.{negate-negate}

@@ -234,7 +234,7 @@ module _ (formula : Problem) (c : SearchState) (e : State) (rows : List (List Li
       ∙ to_held 0 s.trail c.trail.entries t.follows.tied (length c.units.items) more (let low = t.follows.sound.levels (length c.units.items) more in omega (arith, low, level))
 
   same_one : same_literals (l ∷ []) (l ∷ []) ≡ true
-  same_one = Rattle.cx_semantics.proofs.ChainLaws.and_both _ _ (Rattle.cx_semantics.proofs.Closure.inside_itself (l ∷ [])) (Rattle.cx_semantics.proofs.Closure.inside_itself (l ∷ []))
+  same_one = Rattle.std.proofs.lemmas.Bool.and_from _ _ (Rattle.cx_semantics.proofs.Closure.inside_itself (l ∷ [])) (Rattle.cx_semantics.proofs.Closure.inside_itself (l ∷ []))
 
   module _ (units : Vec ℕ) (grown : units.items ≡ c.units.items ++ c.next ∷ []) (next : ℕ) (next_is : next ≡ c.next + 1) where
     abbrev d : SearchState

@@ -13,7 +13,11 @@ use cx_base::{Formula, Lit};
 use parity_engine::ParityEngine;
 
 /// Opens a level by a decision, where both engines are quiet; false where each variable is assigned.
-pub(crate) fn decide<P: ParityEngine>(formula: &Formula, kept: &mut SearchState, engine: &mut P) -> bool
+pub(crate) fn decide<P: ParityEngine>(
+    formula: &Formula,
+    kept: &mut SearchState,
+    engine: &mut P,
+) -> bool
     requires stands { (told : Option (List LogEvent)) × SearchStands formula.now kept.old (P.state engine.old) [] told }
     requires quiet { PropagationFinds kept.old (P.state engine.old) found.Quiet }
     requires units { kept.old.trail.level ≡ 0 → length kept.old.units.items ≡ length kept.old.trail.entries }

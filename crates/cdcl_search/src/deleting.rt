@@ -9,8 +9,8 @@ ghost use Rattle.cdcl_search.specs.Deleting.{deletions};
 ghost use Rattle.cdcl_search.specs.Tells.{GivesUp, FaultsAs, as_events};
 ghost use Rattle.cdcl_search.specs.Ties.{SearchStands, row_ids};
 
+use crate::rows::{CONSTRAINT_AND_ROW_LIMIT, FIRST_ROW_ID};
 use crate::state::SearchState;
-use crate::rows::{FIRST_ROW_ID, CONSTRAINT_AND_ROW_LIMIT};
 use crate::steps::deletion;
 use crate::telling::tell_all;
 use conflict_learn::CoreFault;

@@ -66,7 +66,11 @@ fn feed<P: ParityEngine>(formula: &Formula, kept: &mut SearchState, engine: &mut
 }
 
 /// What follows from the parities. An implied literal goes on the trail.
-fn follow_rows<P: ParityEngine>(formula: &Formula, kept: &mut SearchState, engine: &mut P) -> RowFinding
+fn follow_rows<P: ParityEngine>(
+    formula: &Formula,
+    kept: &mut SearchState,
+    engine: &mut P,
+) -> RowFinding
     requires stands { (told : Option (List LogEvent)) × SearchStands formula.now kept.old (P.state engine.old) [] told }
     requires unbroken { (P.state engine.old).mood ≢ Broken }
     requires all { HasAll kept.old }

@@ -11,8 +11,8 @@ ghost use Rattle.cdcl_search.specs.Ties.{SearchStands};
 ghost use Rattle.cdcl_search.specs.Units.{HasOther};
 
 use crate::deciding::decide;
-use crate::state::SearchState;
 use crate::propagation::{Found, propagate};
+use crate::state::SearchState;
 use crate::units::tell_units;
 use conflict_learn::CoreFault;
 use cx_base::Formula;

@@ -13,8 +13,8 @@ ghost use Rattle.cdcl_search.specs.Sources.{IsSourced, counted};
 ghost use Rattle.cdcl_search.specs.Tells.{GivesUp, FaultsAs};
 ghost use Rattle.cdcl_search.specs.Ties.{SearchStands, HaveReasons};
 
-use crate::state::SearchState;
 use crate::rows::{FIRST_ROW_ID, copy_of, tell_row};
+use crate::state::SearchState;
 use conflict_learn::{Antecedents, CoreFault};
 use cx_base::{ClauseRef, Formula, Lit, LitList, Row};
 use cx_trail::Reason;

@@ -8,9 +8,9 @@ ghost use Rattle.cdcl_search.specs.Units.{HasOther, IsNextUnit};
 
 use crate::chains::{hints_of, tell_chained};
 use crate::deleting::delete_rows;
-use crate::state::SearchState;
 use crate::rows::FIRST_ROW_ID;
 use crate::source::{Hinted, clause_of_reason};
+use crate::state::SearchState;
 use conflict_learn::CoreFault;
 use cx_base::{Formula, Lit, LitList};
 use log_text::LogSink;

@@ -42,7 +42,7 @@ takes_forced table u clause l units no_conflict live h =
     units clause l live (some_are (left u clause) l (only clause (λ m k. h m k)) (λ e. not_both (is_falsified u clause) (falsified-left u clause e) (no_conflict clause live)))
   where
     step : (b : Bool) (m : Literal) (ms : List Literal) → (b ≡ true → same_literal l m ≡ true) → list_all (same_literal l) ms ≡ true → list_all (same_literal l) (cond b (m ∷ ms) ms) ≡ true
-    step true m ms f g = Rattle.cx_semantics.proofs.ChainLaws.and_both _ _ (f refl) g
+    step true m ms f g = Rattle.std.proofs.lemmas.Bool.and_from _ _ (f refl) g
     step false m ms f g = g
 
     only : (ms : List Literal) → ((m : Literal) → has_literal ms m ≡ true → same_literal l m ≡ false → has_literal u (negate m) ≡ true) → list_all (same_literal l) (left u ms) ≡ true

@@ -1,9 +1,9 @@
 use Rattle.std.proofs.Common.{sym, subst, ◌+◌, []}
 use Rattle.std.proofs.lemmas.Result.{err_from_is_err_and}
+use Rattle.cdcl_search.proofs.RowSteps.{memory_is_left}
 use Rattle.cdcl_core.specs.Filling.{IsFilled}
 use Rattle.cdcl_core.specs.Results.{Refutes}
 use Rattle.cdcl_core.specs.Waiting.{SearchStandsBut, PutsUnits}
-use Rattle.cdcl_search.proofs.RowSteps.{memory_is_left}
 use Rattle.cdcl_core.proofs.WaitingLaws.{filled_stands, empty_is_refutable, waiting_is_left, begun_stands, begun_is_calm}
 use Rattle.cdcl_core.proofs.beginning.start.Goals as goal
 

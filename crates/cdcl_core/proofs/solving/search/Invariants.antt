@@ -1,7 +1,7 @@
 use Rattle.std.proofs.Common.{◌≡◌, ◌≤◌, ◌-◌}
 use Rattle.cx_semantics.specs.Settled.{Settled}
-use Rattle.cdcl_core.specs.Concluding.{SearchGoesOn}
 use Rattle.cdcl_search.specs.Sources.{counted}
+use Rattle.cdcl_core.specs.Concluding.{SearchGoesOn}
 use Rattle.cdcl_core.proofs.solving.search.Given as goal
 
 abbrev pub invariant-loop-outcome : goal.invariant-loop-outcome
