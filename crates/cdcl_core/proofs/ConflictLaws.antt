@@ -46,8 +46,8 @@ use Rattle.cdcl_core.specs.Concluding.{Concludes, EndsLog, IsEndedWith}
 module _ (formula : Problem) (c : SearchState) (e : State) (rows : List (List Literal)) (s : Search) (ok : IsSearch formula (parities_of formula.constraints) s) (t : Ties formula c e rows s)
     (r : ReasonOf) (x : Explains (parities_of formula.constraints) c.trail r) (back_parity : literals (integers_of r.parity) ≡ r.parity) (back_clause : literals (integers_of r.clause) ≡ r.clause)
     (none : is_empty (integers_of r.clause) ≡ true) where
-  abbrev theirs : List (List Literal)
-  theirs = parities_of formula.constraints
+  abbrev parities : List (List Literal)
+  parities = parities_of formula.constraints
 
   abbrev k : ℕ
   k = length formula.constraints + 1
@@ -67,15 +67,15 @@ module _ (formula : Problem) (c : SearchState) (e : State) (rows : List (List Li
   abbrev after_sum : Search
   after_sum = told s (Step (Parity k rs r.sources))
 
-  after_sum_is : IsSearch formula theirs after_sum
+  after_sum_is : IsSearch formula parities after_sum
   after_sum_is = sum_told formula c e rows s ok t r x back_parity back_clause
 
   ended : IsEnded formula (all_told s two).events
-  ended = row_clause_ends formula theirs after_sum after_sum_is n zs k (literals rs) (clause_added formula c e rows s ok t r x back_parity back_clause)
+  ended = row_clause_ends formula parities after_sum after_sum_is n zs k (literals rs) (clause_added formula c e rows s ok t r x back_parity back_clause)
       (sum_is formula c e rows s ok t r x back_parity back_clause) (clause_is formula c e rows s ok t r x back_parity back_clause) none
 
   marked : Marked formula (all_told s two).events s.conflicts
-  marked = row_clause_is_marked formula theirs after_sum after_sum_is n zs k (literals rs) t.served.served
+  marked = row_clause_is_marked formula parities after_sum after_sum_is n zs k (literals rs) t.served.served
       (sum_is formula c e rows s ok t r x back_parity back_clause) (clause_is formula c e rows s ok t r x back_parity back_clause)
 
   two_are_unmet : Unmet formula
@@ -86,8 +86,8 @@ module _ (formula : Problem) (c : SearchState) (e : State) (rows : List (List Li
   two_end (Some es) a = subst (λ xs. IsEndedWith formula c.conflicts (Some xs)) (sym (all_told_are two s (Some es) a)) (ended, subst (Marked formula (all_told s two).events) t.conflicts marked)
 
   two_fronts : (told_ : Option (List LogEvent)) → AreTold told_ s.events → (i : ℕ) → i < 2 → IsLeft formula (with_events (take i two) told_)
-  two_fronts told_ a zero less = is_left formula theirs s (with_events [] told_) ok t.served.served (all_told_are [] s told_ a)
-  two_fronts told_ a (suc zero) less = is_left formula theirs after_sum (with_events (take 1 two) told_) after_sum_is t.served.served (all_told_are (take 1 two) s told_ a)
+  two_fronts told_ a zero less = is_left formula parities s (with_events [] told_) ok t.served.served (all_told_are [] s told_ a)
+  two_fronts told_ a (suc zero) less = is_left formula parities after_sum (with_events (take 1 two) told_) after_sum_is t.served.served (all_told_are (take 1 two) s told_ a)
   two_fronts told_ a (suc (suc i)) less = absurd (omega (arith, less))
 
 -- ---- conflicts
