@@ -15,9 +15,9 @@ use Rattle.cx_semantics.specs.declared.steps.LogEvent.{LogEvent}
 use Rattle.cx_semantics.specs.declared.steps.LogEvent.TheVariants.{Step}
 use Rattle.cx_semantics.specs.Marked.{Marked}
 use Rattle.clause_arena.specs.Clauses.{IsLive, literals_at}
-use Rattle.parity_engine.specs.State.{State, named_at, OfNamed, AreRising}
+use Rattle.parity_engine.specs.State.{State, named_at, OfNamed}
 use Rattle.parity_engine.specs.Equations.{sum_of_numbers}
-use Rattle.parity_engine.specs.Written.{IsWritten}
+use Rattle.parity_engine.specs.Written.{IsWritten, AreRising}
 use Rattle.watch_lists.specs.Truths.{IsFalsified}
 use Rattle.xor_reason.specs.Laws.{StandsOn}
 use Rattle.xor_reason.specs.ReasonClause.{AreAssigned, IsReasonFor, IsReasonClause}

@@ -9,7 +9,7 @@ ghost use Rattle.cx_semantics.specs.declared.steps.LogStep.TheVariants as step;
 ghost use Rattle.clause_arena.specs.Clauses.{IsLive, literals_at};
 ghost use Rattle.cx_base.specs.Counts.{Rose};
 ghost use Rattle.conflict_learn.specs.declared.fault.CoreFault.TheVariants.{Write};
-ghost use Rattle.parity_engine.specs.State.{AreRising};
+ghost use Rattle.parity_engine.specs.Written.{AreRising};
 ghost use Rattle.cdcl_search.specs.Explaining.{Explains};
 ghost use Rattle.cdcl_search.specs.Finds.{PropagationFinds, IsClash};
 ghost use Rattle.cdcl_search.specs.Tells.{GivesUp, FaultsAs};

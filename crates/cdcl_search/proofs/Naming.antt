@@ -22,7 +22,7 @@ use Rattle.parity_engine.specs.declared.state.Held.{Held}
 use Rattle.parity_engine.specs.declared.state.Mood.{Mood}
 use Rattle.parity_engine.specs.declared.state.Mood.TheVariants.{Busy, Calm, Broken}
 use Rattle.parity_engine.specs.declared.event.ParityEvent.TheVariants.{Implied, Conflict}
-use Rattle.parity_engine.specs.State.{State, Answers, Named, names, named_at, known, known_from, held_at, is_unassigned, IsImplied, IsBroken, IsNamedNow, IsSameNamed}
+use Rattle.parity_engine.specs.State.{State, Reports, Named, names, named_at, known, known_from, held_at, is_unassigned, IsImplied, IsBroken, IsNamedNow, IsSameNamed}
 use Rattle.parity_engine.proofs.Known.{has_known, none_is}
 use Rattle.parity_engine.specs.Equations.{numbered}
 use Rattle.xor_reason.proofs.TrailValues.{trail_values, trail_values_agree}
@@ -217,16 +217,16 @@ module _ (formula : Problem) (c : SearchState) (e u : State) (rows : List (List 
             (reasons_stay c e (record e { mood = Calm }) (λ i row _ h. renamed_reason e (record e { mood = Calm }) c.trail.entries i row h h.named h.is h.implied refl refl) t.reasons) t,
       )
 
-  pub implied_stands : (l : Literal) (row : ℕ) → Answers e (Implied l row) u → HasAll c → (trail : TrailState) → trail ≡ pushed c.trail c.trail.level l (reason.Row row) → IsTrail trail → SearchStands formula c e rows told → SearchStands formula (record c { trail = trail }) u rows told
+  pub implied_stands : (l : Literal) (row : ℕ) → Reports e (Implied l row) u → HasAll c → (trail : TrailState) → trail ≡ pushed c.trail c.trail.level l (reason.Row row) → IsTrail trail → SearchStands formula c e rows told → SearchStands formula (record c { trail = trail }) u rows told
   implied_stands l row a all trail is sound (s, ok, told_is, t) =
       let r = implied_tied formula c e rows s t row a.0 Busy a.1 a.3 l a.4 a.5 ok all (subst IsTrail is sound) in
       subst (λ (w : TrailState). SearchStands formula (record c { trail = w }) u rows told) (sym is) (subst (λ w. SearchStands formula (put c c.trail.level l (reason.Row row)) w rows told) (sym a.2) (forced_on s l (by_row (clause_of e l)), r.0, told_is, r.1))
 
-  pub conflict_stands : (row : ℕ) → Answers e (Conflict row) u → SearchStands formula c e rows told → SearchStands formula c u rows told
+  pub conflict_stands : (row : ℕ) → Reports e (Conflict row) u → SearchStands formula c e rows told → SearchStands formula c u rows told
   conflict_stands row a (s, ok, told_is, t) =
       subst (λ w. SearchStands formula c w rows told) (sym a.2)
       (s, ok, told_is, names_tied formula c e rows s t row a.0 Broken a.1 a.3 (λ i less h. absurd (missed_is_no_reason formula c e rows s t row a.0 Broken a.1 a.3 a.4 a.5 i less h)))
 
-pub conflict_is_clash : (e u : State) (row : ℕ) → Answers e (Conflict row) u → IsClash u row
+pub conflict_is_clash : (e u : State) (row : ℕ) → Reports e (Conflict row) u → IsClash u row
 conflict_is_clash e u row a = subst (λ w. IsClash w row) (sym a.2)
     (a.0, get_or-set_same e.named row (Some a.0) None a.1, a.4.kind_is, record { none = a.5.none; whole = a.5.whole; unmet = a.5.unmet })

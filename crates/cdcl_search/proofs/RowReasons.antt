@@ -11,9 +11,9 @@ use Rattle.cx_trail.specs.declared.entry.Entry.{Entry}
 use Rattle.cx_trail.specs.Sequence.{TrailState, IsTrail, IsTrueIn, IsFalseBefore, entry_at, no_entry}
 use Rattle.conflict_learn.specs.Learning.{IsAntecedent}
 use Rattle.conflict_learn.proofs.ChainOfResolutions.{by_cases}
-use Rattle.parity_engine.specs.State.{State, named_at, OfNamed, AreRising}
+use Rattle.parity_engine.specs.State.{State, named_at, OfNamed}
 use Rattle.parity_engine.specs.Equations.{sum_of_numbers}
-use Rattle.parity_engine.specs.Written.{IsWritten}
+use Rattle.parity_engine.specs.Written.{IsWritten, AreRising}
 use Rattle.xor_reason.specs.ReasonClause.{AreAssigned, IsReasonFor, GivesLiteral, IsReasonClause}
 use Rattle.xor_reason.specs.declared.reason.ReasonOf.{ReasonOf}
 use Rattle.search_steps.proofs.Sets.{not_both}

@@ -19,9 +19,9 @@ use Rattle.cx_semantics.specs.LogRules.{AreLive}
 use Rattle.cx_semantics.specs.ProofRules.{is_empty}
 use Rattle.cx_semantics.specs.Tables.{Table, get, named}
 use Rattle.cx_trail.specs.Sequence.{TrailState, IsTrail, IsAssignedIn}
-use Rattle.parity_engine.specs.State.{State, AreRising}
+use Rattle.parity_engine.specs.State.{State}
 use Rattle.parity_engine.specs.Equations.{parity_number, numbered}
-use Rattle.parity_engine.specs.Written.{IsWritten}
+use Rattle.parity_engine.specs.Written.{IsWritten, AreRising}
 use Rattle.parity_engine.proofs.Columns.{rising_low}
 use Rattle.xor_reason.specs.declared.reason.ReasonOf.{ReasonOf}
 use Rattle.xor_reason.proofs.ClauseLaws.{contains_written, has_written}

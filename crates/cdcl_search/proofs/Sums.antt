@@ -4,10 +4,9 @@ use Rattle.std.proofs.lemmas.List.{map-append}
 use Rattle.std.specs.FinSet as set
 use Rattle.std.specs.Ordering.{nat_cmp}
 use Rattle.cx_base.specs.Literals.{Literal, differ}
-use Rattle.cx_base.specs.Parity.{NormalForm, normal_form, sum_of, symmetric_difference}
+use Rattle.cx_base.specs.Parity.{NormalForm, normal_form, sum_of, symmetric_difference, odd_sum}
 use Rattle.cx_base.proofs.ParityLaws.{contains-symmetric_difference}
 use Rattle.cx_base.proofs.Differences.{differ_again}
-use Rattle.gf2_rows.specs.Bits.{parity}
 use Rattle.gf2_rows.proofs.Words.{parity-append}
 use Rattle.parity_engine.proofs.Forms.{same_form}
 use Rattle.parity_engine.proofs.Literals.{contains_parity, right_parity}
@@ -22,8 +21,8 @@ has_variable y l = eqb l.variable y
 abbrev is_negative : Literal → Bool
 is_negative l = l.negative
 
-split : (f : Literal → Bool) (xs ys : List Literal) → parity (map f (xs ++ ys)) ≡ differ (parity (map f xs)) (parity (map f ys))
-split f xs ys = ap parity (map-append f xs ys) ∙ parity-append (map f xs) (map f ys)
+split : (f : Literal → Bool) (xs ys : List Literal) → odd_sum (map f (xs ++ ys)) ≡ differ (odd_sum (map f xs)) (odd_sum (map f ys))
+split f xs ys = ap odd_sum (map-append f xs ys) ∙ parity-append (map f xs) (map f ys)
 
 turned : (a b : Bool) → not (differ a (not b)) ≡ differ (not a) (not b)
 turned true true = refl
@@ -44,13 +43,13 @@ nothing = same_form (normal_form both_signs) (record { variables = set.empty; ri
 added : (lits more : List Literal) (f : NormalForm) → normal_form more ≡ f → normal_form (lits ++ (both_signs ++ more)) ≡ record { variables = symmetric_difference (normal_form lits).variables f.variables; right_side = differ (normal_form lits).right_side f.right_side }
 added lits more f is = same_form (normal_form (lits ++ (both_signs ++ more))) _
     (λ y. contains_parity (lits ++ (both_signs ++ more)) y ∙ split (has_variable y) lits (both_signs ++ more)
-    ∙ ap (differ (parity (map (has_variable y) lits))) (differ_again (eqb 1 y) (parity (map (has_variable y) more)))
+    ∙ ap (differ (odd_sum (map (has_variable y) lits))) (differ_again (eqb 1 y) (odd_sum (map (has_variable y) more)))
     ∙ (λ i. differ (sym (contains_parity lits y) i) (sym (contains_parity more y) i))
     ∙ ap (λ (g : NormalForm). differ (set.contains (normal_form lits).variables y) (set.contains g.variables y)) is
     ∙ sym (contains-symmetric_difference (normal_form lits).variables f.variables y))
     (right_parity (lits ++ (both_signs ++ more))
-    ∙ ap not (split is_negative lits (both_signs ++ more) ∙ ap (differ (parity (map is_negative lits))) (both_turn (parity (map is_negative more))))
-    ∙ turned (parity (map is_negative lits)) (parity (map is_negative more))
+    ∙ ap not (split is_negative lits (both_signs ++ more) ∙ ap (differ (odd_sum (map is_negative lits))) (both_turn (odd_sum (map is_negative more))))
+    ∙ turned (odd_sum (map is_negative lits)) (odd_sum (map is_negative more))
     ∙ (λ i. differ (sym (right_parity lits) i) (sym (right_parity more) i))
     ∙ ap (λ (g : NormalForm). differ (normal_form lits).right_side g.right_side) is)
 

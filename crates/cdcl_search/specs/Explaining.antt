@@ -5,9 +5,9 @@ use Rattle.cx_base.specs.Parity.{NormalForm, HasOneOfEach}
 use Rattle.cx_base.specs.Problem.{clause_met, parity_met}
 use Rattle.cx_trail.specs.declared.entry.Entry.{Entry}
 use Rattle.cx_trail.specs.Sequence.{TrailState, StandsAt}
-use Rattle.parity_engine.specs.State.{State, AreRising}
+use Rattle.parity_engine.specs.State.{State}
 use Rattle.parity_engine.specs.Equations.{sum_of_numbers}
-use Rattle.parity_engine.specs.Written.{IsWritten}
+use Rattle.parity_engine.specs.Written.{IsWritten, AreRising}
 use Rattle.xor_reason.specs.ReasonClause.{AreAssigned}
 use Rattle.xor_reason.specs.declared.reason.ReasonOf.{ReasonOf}
 use Rattle.cdcl_search.specs.Ties.{IsRowReasonAt}

@@ -9,7 +9,7 @@ ghost use Rattle.cx_semantics.specs.declared.steps.LogStep.TheVariants as step;
 ghost use Rattle.conflict_learn.specs.declared.fault.CoreFault.TheVariants.{Write};
 ghost use Rattle.conflict_learn.specs.Learning.{IsAntecedent};
 ghost use Rattle.cx_base.specs.Counts.{Rose};
-ghost use Rattle.parity_engine.specs.State.{AreRising};
+ghost use Rattle.parity_engine.specs.Written.{AreRising};
 ghost use Rattle.search_steps.specs.LogSteps.{row_events};
 ghost use Rattle.cdcl_search.specs.Explaining.{Explains, IsReasonOf};
 ghost use Rattle.cdcl_search.specs.Tells.{GivesUp, FaultsAs, IsId, as_events};

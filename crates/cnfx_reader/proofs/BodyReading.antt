@@ -10,7 +10,7 @@ use Rattle.cx_base.specs.declared.constraint.Constraint.{Constraint}
 use Rattle.cx_base.specs.declared.constraint.Constraint.TheVariants as constraint
 use Rattle.cx_semantics.specs.Integers.{integer_of, integers_of, literal}
 use Rattle.cx_semantics.specs.Words.{Word, number, letter, conflict, other, Placed, words, IsWithin}
-use Rattle.cx_semantics.specs.Grammar.{Field, IsProper, spelled, IsStep, Begins, IsUnfinished, Stops, AreWithin, Spells, FirstBad, FirstBig, Ending, bad_token, too_big, unterminated, Reading}
+use Rattle.cx_semantics.specs.Grammar.{Field, IsProper, spelled, IsStep, Begins, IsUnfinished, Stops, AreInLimit, Spells, FirstBad, FirstBig, Ending, bad_token, too_big, unterminated, Reading}
 use Rattle.cx_semantics.specs.FormulaText.{constraints}
 use Rattle.cx_semantics.proofs.Shapes.{Kind, kind, a_mark, some_integers, Parsed, whole, partial, bad, parse, push}
 use Rattle.cx_semantics.proofs.Forms.{step_parses}
@@ -134,12 +134,12 @@ record At (state : Pending) (lits : List Literal) (front : List Placed) : Type 0
   spoken : words front ≡ said state (integers_of lits)
   nonzero : AreNonzero (integers_of lits)
   shape : HasShape state (integers_of lits)
-  within : AreWithin constraints front
+  within : AreInLimit constraints front
 
 pushed : (front : List Placed) (p : Placed) → words (front ++ p ∷ []) ≡ words front ++ p.word ∷ []
 pushed front p = map-append _ front (p ∷ [])
 
-within_push : (front : List Placed) (p : Placed) → AreWithin constraints front → IsWithin MAX_VARIABLE p.word → AreWithin constraints (front ++ p ∷ [])
+within_push : (front : List Placed) (p : Placed) → AreInLimit constraints front → IsWithin MAX_VARIABLE p.word → AreInLimit constraints (front ++ p ∷ [])
 within_push [] p h k = (k, tt)
 within_push (q ∷ front) p h k = (h.0, within_push front p h.1 k)
 
@@ -312,7 +312,7 @@ module _ (len : ℕ) where
   cut state d front a some = (
     [],
     sym (append-nil d.constraints),
-    subst (λ ps. (len ≡ len) × (ps ≢ []) × IsUnfinished constraints (words ps) × AreWithin constraints ps) (sym (append-nil front))
+    subst (λ ps. (len ≡ len) × (ps ≢ []) × IsUnfinished constraints (words ps) × AreInLimit constraints ps) (sym (append-nil front))
         (refl, (λ e. some (sym a.spoken ∙ ap words e)), subst (IsUnfinished constraints) (sym a.spoken) (unfinished_so_far state _ a.nonzero a.shape), a.within),
   )
 

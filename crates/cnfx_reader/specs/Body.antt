@@ -72,10 +72,10 @@ outcome len state d [] = record { constraints = d.constraints; ending = at_end l
 outcome len state d (p ∷ ps) = elim (at_word p.place state d p.word) [ goes_on o e ↦ outcome len o e ps | stops ending ↦ record { constraints = d.constraints; ending = ending } ]
 
 -- where nothing is pending there are no literals of an unfinished constraint
-abbrev pub Fits : Pending → Draft → Type 0
-Fits Nothing d = d.unfinished ≡ []
-Fits Clause d = ⊤
-Fits Parity d = ⊤
+abbrev pub IsPendingIn : Pending → Draft → Type 0
+IsPendingIn Nothing d = d.unfinished ≡ []
+IsPendingIn Clause d = ⊤
+IsPendingIn Parity d = ⊤
 
 -- a refusal says the ending; want of memory says nothing of it
 abbrev pub IsEndedBy : ReadRefusal → Ending → Type 0

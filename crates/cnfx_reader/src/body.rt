@@ -5,7 +5,7 @@ ghost use Rattle.cx_semantics.specs.Grammar.{finished};
 ghost use Rattle.cx_semantics.specs.LiteralTokens.{IsInteger};
 ghost use Rattle.cnfx_reader.specs.Meanings.{Says, placed_at};
 ghost use Rattle.cnfx_reader.specs.declared.pending.Pending.TheVariants as pending;
-ghost use Rattle.cnfx_reader.specs.Body.{outcome, Fits, IsEndedBy};
+ghost use Rattle.cnfx_reader.specs.Body.{outcome, IsPendingIn, IsEndedBy};
 
 use crate::body_token::BodyToken;
 use crate::pending::Pending;
@@ -22,8 +22,8 @@ fn take_integer(
     integer: Integer,
     place: u64,
 ) -> Result<Pending, ReadRefusal>
-    requires { Fits pending builder.old }
-    ensures fits { IfOk result (λ next. Fits next builder.new) }
+    requires { IsPendingIn pending builder.old }
+    ensures fits { IfOk result (λ next. IsPendingIn next builder.new) }
     ensures ok { IfOk result (λ next. (len : ℕ) (z : ℤ) (rest : List Placed) → IsInteger integer z
         → outcome len pending builder.old (record { place = place; word = number z } ∷ rest) ≡ outcome len next builder.new rest) }
     ensures err { IfErr result (λ e. (len : ℕ) (z : ℤ) (rest : List Placed) → IsInteger integer z
@@ -55,8 +55,8 @@ fn take_token(
     pending: Pending,
     at: BodyTokenAt,
 ) -> Result<Pending, ReadRefusal>
-    requires { Fits pending builder.old }
-    ensures fits { IfOk result (λ next. Fits next builder.new) }
+    requires { IsPendingIn pending builder.old }
+    ensures fits { IfOk result (λ next. IsPendingIn next builder.new) }
     ensures ok { IfOk result (λ next. (len : ℕ) (words : List Word) (rest : List Placed) → Says at.token words
         → outcome len pending builder.old (placed_at at.place words ++ rest) ≡ outcome len next builder.new rest) }
     ensures err { IfErr result (λ e. (len : ℕ) (words : List Word) (rest : List Placed) → Says at.token words

@@ -3,6 +3,7 @@ use Rattle.std.proofs.Common.{◌≡◌, refl, sym, ap, ◌∙◌, ℕ, Bool, tr
 use Rattle.std.specs.Ordering.{nat_cmp}
 use Rattle.std.specs.Cmp.{nat_cmp_total, unsigned_tied, nat_eq_equiv}
 use Rattle.std.specs.FinSet as set
+use Rattle.std.proofs.Math.Bool.{or-false}
 use Rattle.cx_base.specs.Literals.{differ}
 use Rattle.cx_base.specs.Parity.{symmetric_difference}
 use Rattle.cx_base.proofs.ParityLaws.{contains-symmetric_difference, differ_false}
@@ -62,11 +63,7 @@ pub same_members : (s t : set.FinSet nat_cmp) → ((q : ℕ) → set.contains s 
 same_members s t h = set.same_set nat_cmp_total set.nat_cmp-IsAntisymmetric s t h
 
 pub contains-one : (x q : ℕ) → set.contains (set.insert (set.empty {R = nat_cmp}) x) q ≡ nat_eq x q
-contains-one x q = set.contains-insert nat_cmp_total (set.empty {R = nat_cmp}) x q ∙ (λ i. (unsigned_tied q x ∙ nat_eq_equiv.symm q x) i || set.contains-empty nat_cmp q i) ∙ or_nothing (nat_eq x q)
-  where
-    or_nothing : (b : Bool) → (b || false) ≡ b
-    or_nothing true = refl
-    or_nothing false = refl
+contains-one x q = set.contains-insert nat_cmp_total (set.empty {R = nat_cmp}) x q ∙ (λ i. (unsigned_tied q x ∙ nat_eq_equiv.symm q x) i || set.contains-empty nat_cmp q i) ∙ or-false (nat_eq x q)
 
 pub difference_assoc : (s t u : set.FinSet nat_cmp) → symmetric_difference (symmetric_difference s t) u ≡ symmetric_difference s (symmetric_difference t u)
 difference_assoc s t u = same_members _ _ (λ q.

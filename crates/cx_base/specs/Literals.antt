@@ -10,6 +10,13 @@ pub record Literal : Type 0 where
 abbrev pub negate : Literal → Literal
 negate l = record { variable = l.variable; negative = not l.negative }
 
+-- a variable's two literals
+abbrev pub positive_of : ℕ → Literal
+positive_of x = record { variable = x; negative = false }
+
+abbrev pub negative_of : ℕ → Literal
+negative_of x = record { variable = x; negative = true }
+
 -- one of the two is true, and not the other: the sum modulo two
 abbrev pub differ : Bool → Bool → Bool
 differ true b = not b

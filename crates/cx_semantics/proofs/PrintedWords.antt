@@ -5,7 +5,7 @@ use Rattle.std.specs.Str.Parse.{IsNumeral}
 use Rattle.std.proofs.lemmas.Fmt.{decimal_is_IsNumeral_wide}
 use Rattle.cx_semantics.specs.Tokens.{Token, is_blank, tokens_of_line, NoBlank}
 use Rattle.cx_semantics.specs.Words.{Word, number, letter, conflict, other, Placed, words, placed_words, word_of, number_or, letter_or_other, integer, IsWithin}
-use Rattle.cx_semantics.specs.Grammar.{Grammar, AreWithin}
+use Rattle.cx_semantics.specs.Grammar.{Grammar, AreInLimit}
 use Rattle.cx_semantics.specs.Printed.{printed_integer, printed_word}
 use Rattle.cx_semantics.proofs.DigitLaws.{digits_are, digits_no_blank, integer_digits, integer_minus}
 use Rattle.cx_semantics.proofs.Lines.{Line, StartsBlank, NoFeed, not_feed, enumerate-append}
@@ -126,6 +126,6 @@ pub plain_all : (ws : List Word) → AllByRecursion IsSpoken ws → AllByRecursi
 plain_all [] h k = tt
 plain_all (w ∷ ws) h k = (plain_of w h.0 k.0, plain_all ws h.1 k.1)
 
-pub within_words : {S : Type 0} (g : Grammar S) (placed : List Placed) → AllByRecursion (IsWithin g.limit) (words placed) → AreWithin g placed
+pub within_words : {S : Type 0} (g : Grammar S) (placed : List Placed) → AllByRecursion (IsWithin g.limit) (words placed) → AreInLimit g placed
 within_words g [] h = tt
 within_words g (p ∷ placed) h = (h.0, within_words g placed h.1)

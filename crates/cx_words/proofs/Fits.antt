@@ -11,7 +11,7 @@ use Rattle.cx_words.specs.declared.plans.Plan.{Plan}
 use Rattle.cx_words.specs.declared.plans.Plan.TheVariants as plan
 use Rattle.cx_words.specs.declared.refusal.PlanRefusal.{PlanRefusal}
 use Rattle.cx_words.specs.CommandLine.{cxsat}
-use Rattle.cx_words.specs.Given.{check_of, conflicts_of, demo_of, differ, elab_of, kind_of, logged, model_of, number_in, planned, seed_of, size_of, solve_of, three_names, two_names}
+use Rattle.cx_words.specs.Given.{check_of, conflicts_of, demo_of, bytes_differ, elab_of, kind_of, logged, model_of, number_in, planned, seed_of, size_of, solve_of, three_names, two_names}
 use Rattle.cx_words.specs.Words.{Asks, IsFit, plan_of}
 
 -- ---- where a choice or a step of options gave a value
@@ -28,7 +28,7 @@ followed : {X Y : Type 0} (g : X → Option Y) (o : Option X) (y : Y) → option
 followed g None y e = cc
 followed g (Some x) y e = (x, refl, e)
 
-apart_by : (a b : Bytes) → differ a b ≡ true → a ≢ b
+apart_by : (a b : Bytes) → bytes_differ a b ≡ true → a ≢ b
 apart_by a b d e = both_ways (bytes_eq a b) (not-true _ d) ((bytes_eq-Decides a b).1 e)
 
 -- ---- names
@@ -37,7 +37,7 @@ two_apart : (f s : Option Bytes) (n : Bytes × Bytes) → two_names f s ≡ Some
 two_apart None s n e = cc
 two_apart (Some a) None n e = cc
 two_apart (Some a) (Some b) n e =
-    let c = chosen (differ a b) (a, b) n e in
+    let c = chosen (bytes_differ a b) (a, b) n e in
     subst (λ (m : Bytes × Bytes). m.0 ≢ m.1) c.1 (apart_by a b c.0)
 
 abbrev ThreeApart : Bytes × Bytes × Bytes → Type 0
@@ -48,16 +48,16 @@ three_apart None s t n e = cc
 three_apart (Some a) None t n e = cc
 three_apart (Some a) (Some b) None n e = cc
 three_apart (Some a) (Some b) (Some c) n e =
-    let p = chosen (differ a b && (differ a c && differ b c)) (a, b, c) n e in
-    let first = and_parts (differ a b) (differ a c && differ b c) p.0 in
-    let second = and_parts (differ a c) (differ b c) first.1 in
+    let p = chosen (bytes_differ a b && (bytes_differ a c && bytes_differ b c)) (a, b, c) n e in
+    let first = and_parts (bytes_differ a b) (bytes_differ a c && bytes_differ b c) p.0 in
+    let second = and_parts (bytes_differ a c) (bytes_differ b c) first.1 in
     subst ThreeApart p.1 (apart_by a b first.0, apart_by a c second.0, apart_by b c second.1)
 
 log_apart : (f l : Option Bytes) (n : Bytes × Option Bytes) → logged f l ≡ Some n → IfSome n.1 (λ x. n.0 ≢ x)
 log_apart None l n e = cc
 log_apart (Some a) None n e = let same : (a, None) ≡ n = cc in subst (λ (m : Bytes × Option Bytes). IfSome m.1 (λ x. m.0 ≢ x)) same tt
 log_apart (Some a) (Some b) n e =
-    let c = chosen (differ a b) (a, Some b) n e in
+    let c = chosen (bytes_differ a b) (a, Some b) n e in
     subst (λ (m : Bytes × Option Bytes). IfSome m.1 (λ x. m.0 ≢ x)) c.1 (apart_by a b c.0)
 
 -- ---- numbers

@@ -8,7 +8,7 @@ use Rattle.cx_words.specs.PlainWords.{IsPlain}
 use Rattle.cx_words.specs.declared.refusal.PlanRefusal.{PlanRefusal}
 use Rattle.cx_words.specs.declared.refusal.PlanRefusal.TheVariants.{Usage}
 use Rattle.cx_words.specs.CommandLine.{cxsat}
-use Rattle.cx_words.specs.Given.{Answers}
+use Rattle.cx_words.specs.Given.{IsWanted}
 use Rattle.cx_words.specs.Words.{Asks, Refuses, plan_of}
 use Rattle.cx_words.proofs.PlainNames.{check_asked, demo_asked, elab_asked, model_asked}
 use Rattle.cx_words.proofs.PlainSolve.{solve_asked}
@@ -27,10 +27,10 @@ plain_asked words (plan.Elab name to proof) h = elab_asked words name to proof h
 plain_asked words (plan.Model name answer) h = model_asked words name answer h
 plain_asked words (plan.Demo kind size seed) h = demo_asked words kind size seed h
 
-pub asks_by : (words : List Bytes) (wanted : Option Plan) (r : Result Plan PlanRefusal) → fault_of cxsat words ≡ [] → plan_of words ≡ wanted → Answers wanted r → IfOk r (Asks words)
+pub asks_by : (words : List Bytes) (wanted : Option Plan) (r : Result Plan PlanRefusal) → fault_of cxsat words ≡ [] → plan_of words ≡ wanted → IsWanted wanted r → IfOk r (Asks words)
 asks_by words wanted (Ok p) taken is h = record { taken = taken; asked = is ∙ h }
 asks_by words wanted (Err e) taken is h = tt
 
-pub refuses_by : (words : List Bytes) (wanted : Option Plan) (r : Result Plan PlanRefusal) → plan_of words ≡ wanted → Answers wanted r → r ≡ Err Usage → Refuses words
+pub refuses_by : (words : List Bytes) (wanted : Option Plan) (r : Result Plan PlanRefusal) → plan_of words ≡ wanted → IsWanted wanted r → r ≡ Err Usage → Refuses words
 refuses_by words wanted (Ok p) is h e = cc
 refuses_by words wanted (Err why) is h e = let same : why ≡ Usage = cc in inr (is ∙ h same)

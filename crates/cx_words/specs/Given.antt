@@ -19,20 +19,20 @@ abbrev pub lent : Option (Bor Bytes) → Option Bytes
 lent = option_map (λ t. t.now)
 
 -- the answer is the value that is wanted, and a faulty command line only where there is none
-abbrev pub Answers : {X : Type 0} → Option X → Result X PlanRefusal → Type 0
-Answers wanted answer = MatchResult answer (λ x. wanted ≡ Some x) (λ why. why ≡ Usage → wanted ≡ None)
+abbrev pub IsWanted : {X : Type 0} → Option X → Result X PlanRefusal → Type 0
+IsWanted wanted answer = MatchResult answer (λ x. wanted ≡ Some x) (λ why. why ≡ Usage → wanted ≡ None)
 
-abbrev pub differ : Bytes → Bytes → Bool
-differ a b = not (bytes_eq a b)
+abbrev pub bytes_differ : Bytes → Bytes → Bool
+bytes_differ a b = not (bytes_eq a b)
 
 -- two names that are given and differ
 abbrev pub two_names : Option Bytes → Option Bytes → Option (Bytes × Bytes)
-two_names (Some a) (Some b) = if differ a b then Some (a, b) else None
+two_names (Some a) (Some b) = if bytes_differ a b then Some (a, b) else None
 two_names _ _ = None
 
 -- three names that are given, no two of them equal
 abbrev pub three_names : Option Bytes → Option Bytes → Option Bytes → Option (Bytes × Bytes × Bytes)
-three_names (Some a) (Some b) (Some c) = if differ a b && (differ a c && differ b c) then Some (a, b, c) else None
+three_names (Some a) (Some b) (Some c) = if bytes_differ a b && (bytes_differ a c && bytes_differ b c) then Some (a, b, c) else None
 three_names _ _ _ = None
 
 -- the number that digits spell, where it is in the range
@@ -62,7 +62,7 @@ kind_of = option_and_then kind_named
 abbrev pub logged : Option Bytes → Option Bytes → Option (Bytes × Option Bytes)
 logged None log = None
 logged (Some formula) None = Some (formula, None)
-logged (Some formula) (Some log) = if differ formula log then Some (formula, Some log) else None
+logged (Some formula) (Some log) = if bytes_differ formula log then Some (formula, Some log) else None
 
 abbrev pub solve_of : Option Bytes → Option Bytes → Option Bytes → Option Plan
 solve_of formula log conflicts =

@@ -1,7 +1,7 @@
 //! The plan of a command, from the values of its arguments.
 ghost use Rattle.std.specs.Prelude.{◌≡◌, Some, IfOk};
 ghost use Rattle.clap.specs.Words.{first_of, rows_of, found_of};
-ghost use Rattle.cx_words.specs.Given.{lent, Answers, two_names, three_names, logged, solve_of, check_of, elab_of, model_of, demo_of, planned};
+ghost use Rattle.cx_words.specs.Given.{lent, IsWanted, two_names, three_names, logged, solve_of, check_of, elab_of, model_of, demo_of, planned};
 
 use crate::numbers::{conflicts, kind, seed, size};
 use crate::{Name, Plan, PlanRefusal};
@@ -16,7 +16,7 @@ fn name_of(alloc: Global, text: &str) -> Result<Name, AllocError>
 
 /// Two names, which differ.
 fn pair(alloc: Global, first: &str, second: &str) -> Result<(Name, Name), PlanRefusal>
-    ensures { Answers (two_names (Some first.now) (Some second.now)) result }
+    ensures { IsWanted (two_names (Some first.now) (Some second.now)) result }
 {
     if first == second {
         return Err(PlanRefusal::Usage);
@@ -31,7 +31,7 @@ fn triple(
     second: &str,
     third: &str,
 ) -> Result<(Name, Name, Name), PlanRefusal>
-    ensures { Answers (three_names (Some first.now) (Some second.now) (Some third.now)) result }
+    ensures { IsWanted (three_names (Some first.now) (Some second.now) (Some third.now)) result }
 {
     if first == second || first == third || second == third {
         return Err(PlanRefusal::Usage);
@@ -49,7 +49,7 @@ fn logged(
     formula: &str,
     log: Option<&str>,
 ) -> Result<(Name, Option<Name>), PlanRefusal>
-    ensures { Answers (logged (Some formula.now) (lent log.entry)) result }
+    ensures { IsWanted (logged (Some formula.now) (lent log.entry)) result }
 {
     match log {
         None => Ok((name_of(alloc, formula)?, None)),
@@ -66,7 +66,7 @@ fn solve(
     log: Option<&str>,
     budget: Option<&str>,
 ) -> Result<Plan, PlanRefusal>
-    ensures { Answers (solve_of (lent formula.entry) (lent log.entry) (lent budget.entry)) result }
+    ensures { IsWanted (solve_of (lent formula.entry) (lent log.entry) (lent budget.entry)) result }
 {
     let Some(formula) = formula else {
         return Err(PlanRefusal::Usage);
@@ -83,7 +83,7 @@ fn solve(
 }
 
 fn check(alloc: Global, formula: Option<&str>, proof: Option<&str>) -> Result<Plan, PlanRefusal>
-    ensures { Answers (check_of (lent formula.entry) (lent proof.entry)) result }
+    ensures { IsWanted (check_of (lent formula.entry) (lent proof.entry)) result }
 {
     let (Some(formula), Some(proof)) = (formula, proof) else {
         return Err(PlanRefusal::Usage);
@@ -98,7 +98,7 @@ fn elab(
     log: Option<&str>,
     proof: Option<&str>,
 ) -> Result<Plan, PlanRefusal>
-    ensures { Answers (elab_of (lent formula.entry) (lent log.entry) (lent proof.entry)) result }
+    ensures { IsWanted (elab_of (lent formula.entry) (lent log.entry) (lent proof.entry)) result }
 {
     let (Some(formula), Some(log), Some(proof)) = (formula, log, proof) else {
         return Err(PlanRefusal::Usage);
@@ -112,7 +112,7 @@ fn elab(
 }
 
 fn model(alloc: Global, formula: Option<&str>, answer: Option<&str>) -> Result<Plan, PlanRefusal>
-    ensures { Answers (model_of (lent formula.entry) (lent answer.entry)) result }
+    ensures { IsWanted (model_of (lent formula.entry) (lent answer.entry)) result }
 {
     let (Some(formula), Some(answer)) = (formula, answer) else {
         return Err(PlanRefusal::Usage);
@@ -144,7 +144,7 @@ pub(crate) fn planned(
     command: &str,
     found: &ArgMatches<'_>,
 ) -> Result<Plan, PlanRefusal>
-    ensures { Answers (planned command.now (rows_of (found_of found.now))) result }
+    ensures { IsWanted (planned command.now (rows_of (found_of found.now))) result }
 {
     let formula = value(found, "formula");
     let log = value(found, "log");

@@ -5,7 +5,7 @@ use Rattle.std.proofs.lemmas.Option.{same_Some}
 use Rattle.cx_base.specs.Literals.{Literal}
 use Rattle.cx_base.specs.Parity.{normal_form}
 use Rattle.cx_base.specs.Problem.{Problem, clauses_of, parities_of}
-use Rattle.cx_semantics.specs.Chain.{same_literals, IsChain}
+use Rattle.cx_semantics.specs.Chain.{same_literals, IsChain, HaveSame}
 use Rattle.cx_semantics.specs.Integers.{literals}
 use Rattle.cx_semantics.specs.Judging.{AllHold}
 use Rattle.cx_semantics.specs.LogRules.{AreLive, naming}
@@ -14,8 +14,7 @@ use Rattle.cx_semantics.specs.Tables.{Table, Tables, is_live, named, put_clause,
 use Rattle.cx_semantics.specs.declared.steps.LogStep.TheVariants as log
 use Rattle.cx_semantics.specs.declared.steps.ProofStep.{ProofStep}
 use Rattle.cx_semantics.specs.declared.steps.ProofStep.TheVariants as proof
-use Rattle.cx_semantics.proofs.SameSets.{Same-by_test}
-use Rattle.proof_rules.specs.LiteralSets.{HaveSame}
+use Rattle.cx_semantics.proofs.SameSets.{HaveSame-by_test}
 use Rattle.proof_rules.specs.declared.refusal.JudgeRefusal.{JudgeRefusal}
 use Rattle.proof_rules.proofs.ChainSteps.{right_holds}
 use Rattle.fratx_elab.specs.Names.{Naming, Names, stands_for, hints_for, name_original, name_next, drop_name}
@@ -70,7 +69,7 @@ module _ (formula : Problem) (old new : State) where
           (
             refl,
             moved (put_clause old.live n (literals lits)) tables (both (name_original old.clauses n k) old.parities) e names (record {
-              clauses = tied_original HaveSame cs old.live.clauses tables.clauses old.clauses tied.clauses n k (literals lits) least.it (least_within _ cs k least) (least_gets _ cs k least) (Same-by_test (literals lits) least.it least.has_it);
+              clauses = tied_original HaveSame cs old.live.clauses tables.clauses old.clauses tied.clauses n k (literals lits) least.it (least_within _ cs k least) (least_gets _ cs k least) (HaveSame-by_test (literals lits) least.it least.has_it);
               parities = tied.parities;
             }),
           ),

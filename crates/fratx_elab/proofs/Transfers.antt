@@ -8,7 +8,7 @@ use Rattle.cx_base.specs.Literals.{Literal, same_literal}
 use Rattle.cx_base.specs.Problem.{clause_met, parity_met}
 use Rattle.cx_base.specs.Parity.{normal_form, sum_of}
 use Rattle.cx_base.proofs.ParityLaws.{Sums, Sums-from_met, met-from_Sums}
-use Rattle.cx_semantics.specs.Chain.{has_literal, is_inside, IsChain}
+use Rattle.cx_semantics.specs.Chain.{has_literal, is_inside, IsChain, HaveSame}
 use Rattle.cx_semantics.specs.Integers.{is_negative, sizes}
 use Rattle.cx_semantics.specs.Judging.{AllHold}
 use Rattle.cx_semantics.specs.LogRules.{AreLive}
@@ -18,7 +18,6 @@ use Rattle.cx_semantics.proofs.SameSets.{AllSame, chain_stays_right}
 use Rattle.cx_semantics.proofs.ChainLaws.{are_one}
 use Rattle.cx_semantics.proofs.Closure.{inside_itself}
 use Rattle.cx_semantics.proofs.Soundness.{same_clause, roof, below_roof}
-use Rattle.proof_rules.specs.LiteralSets.{HaveSame}
 use Rattle.fratx_elab.specs.Names.{Naming, stands_for}
 use Rattle.fratx_elab.specs.Ties.{Tied, HaveSameForm}
 

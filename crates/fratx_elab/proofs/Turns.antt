@@ -19,14 +19,14 @@ use Rattle.proof_text.specs.declared.sink.SinkFault.{SinkFault}
 use Rattle.proof_text.specs.declared.sink.SinkFault.TheVariants as sink
 use Rattle.proof_rules.specs.declared.refusal.JudgeRefusal.{JudgeRefusal}
 use Rattle.proof_rules.specs.declared.refusal.JudgeRefusal.TheVariants as refusal
-use Rattle.proof_rules.specs.LiteralSets.{HaveSame}
+use Rattle.cx_semantics.specs.Chain.{HaveSame}
 use Rattle.fratx_elab.specs.Names.{Names, first_naming, first_names}
 use Rattle.fratx_elab.specs.Elaborates.{Writes, Elaborates, IsProofOf, number_of_clauses, number_of_parities}
 use Rattle.fratx_elab.specs.Ties.{AreTied, HaveSameForm}
 use Rattle.fratx_elab.proofs.TieLaws.{tied_first}
 use Rattle.fratx_elab.specs.Takes.{TakesLogStep, KeepsTie, listed, names_of}
 use Rattle.fratx_elab.specs.Writing.{WritesDown}
-use Rattle.fratx_elab.specs.Outcomes.{Gained, IsWritten, IsElaborated, IsCutOff, Kept, Turns, text_refused, step_refused, what_follows_of, WritesStand}
+use Rattle.fratx_elab.specs.Outcomes.{Gained, IsProofWritten, IsElaborated, IsCutOff, Kept, Turns, text_refused, step_refused, what_follows_of, WritesStand}
 use Rattle.fratx_elab.specs.declared.state.State.{State}
 use Rattle.fratx_elab.specs.declared.outcome.Elab.TheVariants.{Done, Refused}
 use Rattle.fratx_elab.specs.declared.outcome.ElabFault.TheVariants.{Memory, Write}
@@ -69,7 +69,7 @@ module _ {X : Type 0} (leaves : X → List LogStep → Ending → Type 0) (told 
     ending,
     subst (λ (ss : List LogStep). leaves first ss ending) (append-nil kept.before) (kept.left [] ending h),
     inr (record { tables = state.live; runs = kept.log_runs; why = e; number = ap (λ n. n + 1) kept.number }),
-    gained_so_far (IsWritten formula kept.before (Refused (count + 1) cause)) t
+    gained_so_far (IsProofWritten formula kept.before (Refused (count + 1) cause)) t
         (subst (λ (ss : List LogStep). IsProofOf formula (take (count + 1 - 1) ss) kept.written) (append-nil kept.before) (proof_so_far []), open_so_far),
   )
 
@@ -91,7 +91,7 @@ module _ {X : Type 0} (leaves : X → List LogStep → Ending → Type 0) (told 
       rest.1,
       kept.left (step ∷ rest.0) rest.1 (follows rest.0 rest.1 rest.2),
       inl (record { before = kept.before; step = step; later = rest.0; tables = state.live; split = refl; runs = kept.log_runs; wrong = f; number = ap (λ n. n + 1) kept.number }),
-      gained_so_far (IsWritten formula (kept.before ++ step ∷ rest.0) (Refused (count + 1) cause)) t (proof_so_far (step ∷ rest.0), open_so_far),
+      gained_so_far (IsProofWritten formula (kept.before ++ step ∷ rest.0) (Refused (count + 1) cause)) t (proof_so_far (step ∷ rest.0), open_so_far),
     )
 
     pub refusal_turns : (after : State) (why : JudgeRefusal) → TakesLogStep formula state step (Err why) after → told new ≡ told old → Turns leaves told torn formula first new after count (step_refused why (count + 1))

@@ -35,15 +35,15 @@ abbrev pub Gained : Option (List ProofStep) → Option (List ProofStep) → (Lis
 Gained before now P = (first : List ProofStep) → before ≡ Some first → (gained : List ProofStep) × (now ≡ Some (first ++ gained)) × P gained
 
 -- the proof of the steps up to the last, which its own last step ends; or that of the steps before the refused one
-abbrev pub IsWritten : Problem → List LogStep → Elab → List ProofStep → Type 0
-IsWritten formula steps (Done k) gained = IsProofOf formula (take k steps) gained × AcceptedAt (proof_calculus formula) gained (length gained)
-IsWritten formula steps (Refused k cause) gained = IsProofOf formula (take (k - 1) steps) gained × IsOpen (proof_calculus formula) gained
+abbrev pub IsProofWritten : Problem → List LogStep → Elab → List ProofStep → Type 0
+IsProofWritten formula steps (Done k) gained = IsProofOf formula (take k steps) gained × AcceptedAt (proof_calculus formula) gained (length gained)
+IsProofWritten formula steps (Refused k cause) gained = IsProofOf formula (take (k - 1) steps) gained × IsOpen (proof_calculus formula) gained
 
 module _ {X : Type 0} (leaves : X → List LogStep → Ending → Type 0) (told : X → Option (List ProofStep)) (torn : X → ProofStep → Type 0) where
   -- the source had some steps and an ending left, these are judged so, and the sink gained their proof
   abbrev pub IsElaborated : Problem → X → X → Elab → Type 0
   IsElaborated formula old new elab =
-      (steps : List LogStep) × (ending : Ending) × leaves old steps ending × JudgedAs (log_calculus formula) steps ending (judgement_of elab) × Gained (told old) (told new) (IsWritten formula steps elab)
+      (steps : List LogStep) × (ending : Ending) × leaves old steps ending × JudgedAs (log_calculus formula) steps ending (judgement_of elab) × Gained (told old) (told new) (IsProofWritten formula steps elab)
 
   -- What stands where the log was not judged to its end: right steps, none of which ends the proof; after a fault of writing a right one behind them is torn.
   abbrev pub IsCutOff : Problem → X → X → ElabFault → Type 0

@@ -4,7 +4,7 @@ use Rattle.cx_base.specs.Literals.{Literal}
 use Rattle.cx_base.specs.Parity.{normal_form}
 use Rattle.cx_base.specs.Problem.{Problem}
 use Rattle.cx_semantics.specs.Tables.{Table, Tables, get, is_live, first_tables}
-use Rattle.proof_rules.specs.LiteralSets.{HaveSame}
+use Rattle.cx_semantics.specs.Chain.{HaveSame}
 use Rattle.fratx_elab.specs.Names.{Naming, Names, stands_for}
 use Rattle.fratx_elab.specs.Elaborates.{number_of_clauses, number_of_parities}
 

@@ -4,7 +4,7 @@ ghost use Rattle.cx_semantics.specs.Grammar.{Ending};
 ghost use Rattle.cx_semantics.specs.Printed.{HasProofText};
 ghost use Rattle.cx_semantics.specs.declared.steps.LogStep.{LogStep};
 ghost use Rattle.cx_semantics.specs.declared.steps.ProofStep.{ProofStep};
-ghost use Rattle.proof_text.specs.Sources.{Gives, Rises, FaultsAs, SpentAs, IsTooLongOnly};
+ghost use Rattle.proof_text.specs.Sources.{Gives, PlaceRises, FaultsAs, SpentAs, IsTooLongOnly};
 ghost use Rattle.proof_text.specs.Sinks.{with_next, SinkFaultsAs, HasFailedAs, OnFailed};
 
 use cx_semantics::{LogStep, ProofStep};
@@ -49,7 +49,7 @@ pub trait ElabEnds {
         ensures faults { FaultsAs result (read_faults self.old) (read_faults self.new) }
         ensures long { IsTooLongOnly (passes_limit self.old) result }
         ensures limit { (passes_limit self.new → passes_limit self.old) × (passes_limit self.old → passes_limit self.new) }
-        ensures rises { Rises result (place_of self.old) (place_of self.new) }
+        ensures rises { PlaceRises result (place_of self.old) (place_of self.new) }
         ensures far { place_of self.new < 2 ^ 62 }
         ensures steps_stay { steps self.new ≡ steps self.old }
         ensures writes_stay { write_faults self.new ≡ write_faults self.old }

@@ -8,12 +8,11 @@ use Rattle.std.proofs.lemmas.List.FromFn.{get_or-map-range_with_len, length-map-
 use Rattle.std.proofs.lemmas.Bool.{cases_eq, cases_lt, ne_eqb}
 use Rattle.cx_base.specs.Literals.{Literal, differ, value_of}
 use Rattle.cx_base.specs.Problem.{AreWithin, parity_met}
-use Rattle.cx_base.specs.Parity.{NormalForm, normal_form}
+use Rattle.cx_base.specs.Parity.{NormalForm, normal_form, odd_sum}
 use Rattle.cx_base.proofs.ParityLaws.{Sums, differ_false}
 use Rattle.cx_base.proofs.Differences.{differ_itself, differ_again, own_sign}
 use Rattle.cx_semantics.specs.Chain.{has_literal}
 use Rattle.cx_semantics.specs.Forced.{Solves, Forced}
-use Rattle.gf2_rows.specs.Bits.{parity}
 use Rattle.parity_engine.specs.Equations.{Equation, has_term, form_of, sum_of_numbers, parity_number}
 use Rattle.gf2_matrix.specs.Totals.{total, MeetsEquation}
 use Rattle.gf2_matrix.proofs.Products.{products_turned, products_same}
@@ -22,8 +21,9 @@ use Rattle.gf2_matrix.proofs.FormSums.{contains-sum_of_numbers, AreNumbers, ever
 use Rattle.parity_engine.proofs.Literals.{contains_parity}
 use Rattle.gauss_jordan.specs.Rows.{IsLinear, IsFinished, Agrees}
 use Rattle.parity_engine.specs.declared.state.Held.{Held}
-use Rattle.parity_engine.specs.State.{State, known, held_at, is_unassigned, IsImplied, IsBroken, AreRising, AgreesWith}
-use Rattle.gauss_jordan.specs.System.{just_value, part, has_at, equation_at, has_term_at, total_at, right_at, IsSystemOf, filled, IsWhole, IsUnit, SilentFromQuiet, ImpliedFromUnit, BrokenFromWhole}
+use Rattle.parity_engine.specs.State.{State, known, held_at, is_unassigned, IsImplied, IsBroken, AgreesWith}
+use Rattle.parity_engine.specs.Written.{AreRising}
+use Rattle.gauss_jordan.specs.System.{just_value, part, has_at, equation_at, has_term_at, total_at, right_at, IsSystemOf, filled, IsWhole, IsOneOpen, SilentFromQuiet, ImpliedFromUnit, BrokenFromWhole}
 use Rattle.gauss_jordan.proofs.Quiet.{open_from_quiet}
 use Rattle.parity_engine.proofs.Known.{sign_from, known_true, agrees_known, has_known}
 use Rattle.gauss_jordan.proofs.Resized.{resized, length-resized, resized-at, all_met-resized, form_met, form_missed}
@@ -121,7 +121,7 @@ unit_back known y right h = ap (differ known) (sign_from (differ known right) y 
 
 module _ (s : State) (e : Equation) (wide : length s.values ≡ s.vars) (long_e : length e.terms ≡ s.vars)
     (within : AllByRecursion (AreWithin s.vars) s.parities)
-    (sound : (v : List Bool) → length v ≡ s.vars → list_all (parity_met v) s.parities ≡ true → MeetsEquation v e) (x : ℕ) (unit : IsUnit s (has_term e) x) where
+    (sound : (v : List Bool) → length v ≡ s.vars → list_all (parity_met v) s.parities ≡ true → MeetsEquation v e) (x : ℕ) (unit : IsOneOpen s (has_term e) x) where
   -- the sum of the row is what is known and the value at x
   unit_total : (v : List Bool) → length v ≡ s.vars → Agrees (part s) v → total e v ≡ differ (total e (filled s)) (get_or v x false)
   unit_total v long agrees =
@@ -261,12 +261,12 @@ right-dense : (vars : ℕ) (f : NormalForm) → (dense vars f).right ≡ f.right
 unfolding dense
 right-dense vars f = refl
 
-no_zero : (vars : ℕ) (lits : List Literal) → AreWithin vars lits → parity (map (λ (l : Literal). eqb l.variable 0) lits) ≡ false
+no_zero : (vars : ℕ) (lits : List Literal) → AreWithin vars lits → odd_sum (map (λ (l : Literal). eqb l.variable 0) lits) ≡ false
 no_zero vars [] within = refl
 no_zero vars (l ∷ lits) within = (λ i. differ (ne_eqb l.variable 0 (λ e. let h = within.0.0 in omega arith) i) (no_zero vars lits within.1 i))
 
 sum_zero : (vars : ℕ) (given : List (List Literal)) (numbers : List ℕ) → AllByRecursion (AreWithin vars) given → AreNumbers (length given) numbers
-    → parity (map (λ k. set.contains (normal_form (parity_number given k)).variables 0) numbers) ≡ false
+    → odd_sum (map (λ k. set.contains (normal_form (parity_number given k)).variables 0) numbers) ≡ false
 sum_zero vars given [] within are = refl
 sum_zero vars given (k ∷ numbers) within are =
     let lt : k - 1 < length given = let h = are.0 in omega arith in
@@ -290,7 +290,7 @@ dense_sums vars v f zero_out sums =
 
 -- a sum of the parities with one unassigned variable implies its literal
 pub implied_by_sum : (s : State) (f : NormalForm) (numbers : List ℕ) (x : ℕ) → AllByRecursion (AreWithin s.vars) s.parities → length s.values ≡ s.vars
-    → AreRising 1 (length s.parities) numbers → f ≡ sum_of_numbers s.parities numbers → IsUnit s (has_at f) x
+    → AreRising 1 (length s.parities) numbers → f ≡ sum_of_numbers s.parities numbers → IsOneOpen s (has_at f) x
     → (l : Literal) × (l.variable ≡ x + 1) × Forced s.parities (known s) l
 implied_by_sum s f numbers x within wide rise is unit =
     let e : Equation = dense s.vars f in
@@ -301,7 +301,7 @@ implied_by_sum s f numbers x within wide rise is unit =
     λ v long met.
     meets_from_Sums s.vars v e (long-dense s.vars f ∙ sym long) (omega arith)
     (dense_sums s.vars v f zero_out (subst (Sums (suc s.vars) v) (sym is) (sum_met s.vars s.vars v s.parities numbers (omega arith) within met are))) in
-    let dense_unit : IsUnit s (has_term e) x = record {
+    let dense_unit : IsOneOpen s (has_term e) x = record {
       within = unit.within;
       has_it = term-dense s.vars f x unit.within ∙ unit.has_it;
       unassigned = unit.unassigned;
@@ -316,7 +316,7 @@ implied_by_sum s f numbers x within wide rise is unit =
 
 -- the same of an equation, with what it says
 pub implied_by_equation : (s : State) (e : Equation) (numbers : List ℕ) (x : ℕ) → AllByRecursion (AreWithin s.vars) s.parities → length s.values ≡ s.vars
-    → length e.terms ≡ s.vars → AreRising 1 (length s.parities) numbers → form_of e ≡ sum_of_numbers s.parities numbers → IsUnit s (has_at (form_of e)) x
+    → length e.terms ≡ s.vars → AreRising 1 (length s.parities) numbers → form_of e ≡ sum_of_numbers s.parities numbers → IsOneOpen s (has_at (form_of e)) x
     → IsImplied s (record { variable = x + 1; negative = not (differ (total e (filled s)) e.right) }) (form_of e)
 implied_by_equation s e numbers x within wide long_e rise is unit =
     implied s e wide long_e within

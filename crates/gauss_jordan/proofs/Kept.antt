@@ -14,12 +14,12 @@ use Rattle.parity_engine.specs.declared.state.Held.{Held}
 use Rattle.parity_engine.specs.declared.state.Mood.{Mood}
 use Rattle.parity_engine.specs.declared.state.Mood.TheVariants.{Busy, Calm, Broken}
 use Rattle.parity_engine.specs.State.{State, Named, keep, keep_named, is_unassigned, IsSilent, IsBroken, IsNamedNow, assigned, pushed, back, names}
-use Rattle.gauss_jordan.specs.System.{has_at, IsUnit}
+use Rattle.gauss_jordan.specs.System.{has_at, IsOneOpen}
 use Rattle.parity_engine.proofs.Known.{known_value}
 use Rattle.gauss_jordan.proofs.Events.{implied_by_sum}
 use Rattle.gauss_jordan.specs.Levels.{at_level, LowerLevelsStay}
 use Rattle.gauss_jordan.specs.Right.{IsSummed}
-use Rattle.gauss_jordan.specs.Right.{column_at, IsPending, IsReason, IsRight}
+use Rattle.gauss_jordan.specs.Right.{column_at, IsPending, IsReason, IsRightState}
 
 -- ---- values by level
 keep-twice : (l p : ℕ) (o : Option Held) → p ≤ l → keep p (keep l o) ≡ keep p o
@@ -74,13 +74,13 @@ silent_same s t ev ep es silent =
     record { consistent = made3.consistent; forced = made3.forced }
 
 -- where nothing follows no row is pending
-no_pending : (columns : List ℕ) (s : State) → IsRight columns s → IsSilent s → (k : ℕ) (n : Named) → k < length columns → get_or s.named k None ≡ Some n
+no_pending : (columns : List ℕ) (s : State) → IsRightState columns s → IsSilent s → (k : ℕ) (n : Named) → k < length columns → get_or s.named k None ≡ Some n
     → IsReason s n (column_at columns k) → IsPending s n (column_at columns k) → ⊥
 no_pending columns s right silent k n lt is r pending =
     let x : ℕ = column_at columns k in
     let free : is_unassigned (get_or s.values x None) ≡ true = ap is_unassigned pending.1 in
     let inside : x < s.vars = r.within_vars in
-    let unit : IsUnit s (has_at n.form) x = record { within = inside; has_it = r.has; unassigned = free; others = pending.2 } in
+    let unit : IsOneOpen s (has_at n.form) x = record { within = inside; has_it = r.has; unassigned = free; others = pending.2 } in
     let implied = implied_by_sum s n.form n.sources x right.within right.wide r.summed.0 r.summed.1 unit in
     let l : Literal = implied.0 in
     let at = implied.1 in
@@ -89,7 +89,7 @@ no_pending columns s right silent k n lt is r pending =
     true≢false (sym free ∙ ap (λ i. is_unassigned (get_or s.values i None)) (sym place) ∙ held.1)
 
 -- ---- a new level
-pub right_pushed : (columns : List ℕ) (s : State) → IsRight columns s → s.mood ≡ Calm → IsRight columns (pushed s)
+pub right_pushed : (columns : List ℕ) (s : State) → IsRightState columns s → s.mood ≡ Calm → IsRightState columns (pushed s)
 right_pushed columns s right calm =
     let silent = right.calm calm in
     record {
@@ -121,8 +121,8 @@ right_pushed columns s right calm =
     }
 
 -- ---- an assignment
-pub right_assigned : (columns : List ℕ) (s : State) (v : ℕ) (b : Bool) → IsRight columns s → 1 ≤ v → v ≤ s.vars → get_or s.values (v - 1) None ≡ None → s.mood ≢ Broken
-    → IsRight columns (assigned s v b)
+pub right_assigned : (columns : List ℕ) (s : State) (v : ℕ) (b : Bool) → IsRightState columns s → 1 ≤ v → v ≤ s.vars → get_or s.values (v - 1) None ≡ None → s.mood ≢ Broken
+    → IsRightState columns (assigned s v b)
 right_assigned columns s v b right low high free whole =
     let x : ℕ = v - 1 in
     let h : Held = record { value = b; level = s.level } in
@@ -198,7 +198,7 @@ kept_held l (Some g) h is =
     let pick = chosen (nat_le g.level l) g h is in
     subst (λ (q : Held). q.level ≤ l) pick.1 (leb-true g.level l pick.0)
 
-pub right_back : (columns : List ℕ) (s : State) (l : ℕ) → IsRight columns s → l < s.level → IsRight columns (back l s)
+pub right_back : (columns : List ℕ) (s : State) (l : ℕ) → IsRightState columns s → l < s.level → IsRightState columns (back l s)
 right_back columns s l right lt = record {
   within = right.within;
   wide = length-map s.values (keep l) ∙ right.wide;
@@ -237,7 +237,7 @@ right_back columns s l right lt = record {
 }
 
 -- ---- events
-pub right_quiet : (columns : List ℕ) (s : State) → IsRight columns s → s.mood ≢ Broken → IsSilent s → IsRight columns (record s { mood = Calm })
+pub right_quiet : (columns : List ℕ) (s : State) → IsRightState columns s → s.mood ≢ Broken → IsSilent s → IsRightState columns (record s { mood = Calm })
 right_quiet columns s right whole silent = record {
   within = right.within;
   wide = right.wide;
@@ -253,12 +253,12 @@ right_quiet columns s right whole silent = record {
 }
 
 -- a row that is named, where the event leaves what its kind asks for
-right_named : (columns : List ℕ) (s : State) (row : ℕ) (n : Named) (mood : Mood) → IsRight columns s → row ≤ length columns
+right_named : (columns : List ℕ) (s : State) (row : ℕ) (n : Named) (mood : Mood) → IsRightState columns s → row ≤ length columns
     → (row < length columns → IsReason (names s row n mood) n (column_at columns row))
     → ((m : Named) → get_or (set s.named row (Some n)) (length columns) None ≡ Some m → mood ≡ Broken)
     → (mood ≡ Broken
     → (m : Named) × (get_or (set s.named row (Some n)) (length columns) None ≡ Some m) × (m.in_conflict ≡ true) × (m.level ≡ s.level) × IsSummed s m × IsBroken (names s row n mood) m.form)
-    → (mood ≡ Calm → ⊥) → IsRight columns (names s row n mood)
+    → (mood ≡ Calm → ⊥) → IsRightState columns (names s row n mood)
 right_named columns s row n mood right low own clash broken restless =
     let inside : row < length s.named = let r = right.rows in omega arith in
     record {
@@ -283,11 +283,11 @@ right_named columns s row n mood right low own clash broken restless =
     }
 
 -- a row that is named for its one unassigned variable
-pub right_implied : (columns : List ℕ) (s : State) (row : ℕ) (n : Named) → IsRight columns s → s.mood ≢ Broken → row < length columns
+pub right_implied : (columns : List ℕ) (s : State) (row : ℕ) (n : Named) → IsRightState columns s → s.mood ≢ Broken → row < length columns
     → IsNamedNow s n false → column_at columns row < s.vars → has_at n.form (column_at columns row) ≡ true
     → get_or s.values (column_at columns row) None ≡ None
     → ((y : ℕ) → y ≢ column_at columns row → has_at n.form y ≡ true → is_unassigned (get_or s.values y None) ≡ false)
-    → IsRight columns (names s row n Busy)
+    → IsRightState columns (names s row n Busy)
 right_implied columns s row n right whole in' now within has_x free others =
     right_named columns s row n Busy right (omega arith)
     (λ _. record {
@@ -303,8 +303,8 @@ right_implied columns s row n right whole in' now within has_x free others =
     (λ is. let e : Busy ≡ Calm = is in cc)
 
 -- a row that is named for a contradiction, in the last place
-pub right_broken : (columns : List ℕ) (s : State) (row : ℕ) (n : Named) → IsRight columns s → row ≡ length columns
-    → IsNamedNow s n true → IsBroken s n.form → IsRight columns (names s row n Broken)
+pub right_broken : (columns : List ℕ) (s : State) (row : ℕ) (n : Named) → IsRightState columns s → row ≡ length columns
+    → IsNamedNow s n true → IsBroken s n.form → IsRightState columns (names s row n Broken)
 right_broken columns s row n right at now clashes =
     let inside : row < length s.named = let r = right.rows in omega arith in
     right_named columns s row n Broken right (omega arith) (λ lt. absurd (omega arith)) (λ m is. refl)
@@ -327,7 +327,7 @@ lower_levels_stay s p = (
 )
 
 -- each named row is the sum of its sources
-pub summed : (columns : List ℕ) (s : State) (k : ℕ) (n : Named) → IsRight columns s → get_or s.named k None ≡ Some n → IsSummed s n
+pub summed : (columns : List ℕ) (s : State) (k : ℕ) (n : Named) → IsRightState columns s → get_or s.named k None ≡ Some n → IsSummed s n
 summed columns s k n right is =
     elim (cases_lt k (length columns)) [
       | inl lt ↦ let r = right.reasons k n lt is in r.summed
@@ -349,7 +349,7 @@ nothing_at zero k = refl
 nothing_at (suc n) zero = refl
 nothing_at {A = A} (suc n) (suc k) = nothing_at {A = A} n k
 
-pub right_fresh : (columns : List ℕ) (vars : ℕ) (parities : List (List Literal)) → AllByRecursion (AreWithin vars) parities → IsRight columns (fresh vars parities (length columns + 1))
+pub right_fresh : (columns : List ℕ) (vars : ℕ) (parities : List (List Literal)) → AllByRecursion (AreWithin vars) parities → IsRightState columns (fresh vars parities (length columns + 1))
 right_fresh columns vars parities within = record {
   within = within;
   wide = length-replicate vars (let o : Option Held = None in o);

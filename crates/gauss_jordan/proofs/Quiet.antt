@@ -6,7 +6,7 @@ use Rattle.std.proofs.lemmas.Bool.{cases_eq}
 use Rattle.cx_base.specs.Literals.{differ}
 use Rattle.cx_base.proofs.ParityLaws.{differ_false}
 use Rattle.cx_base.proofs.Differences.{differ_twice}
-use Rattle.gauss_jordan.specs.Rows.{value_at, part_at, Agrees, IsLinear, IsFinished, IsUnfinished, IsQuiet, IsSolution, IsOpen}
+use Rattle.gauss_jordan.specs.Rows.{value_at, part_at, Agrees, IsLinear, IsFinished, IsUnfinished, IsQuiet, IsSolution, TakesBothValues}
 
 -- two bits that differ
 unlike : (a b : Bool) → (a ≡ b → ⊥) → differ a true ≡ b
@@ -211,7 +211,7 @@ module _ (rows width : ℕ) (has : ℕ → ℕ → Bool) (total : ℕ → List B
               (solve rows w, solution w longw agreesw, (kept rows (omega arith) w longw agreesw x guards).0 ∙ turn-other t (other i) x apart ∙ turned)
         ]
 
-    pub open_from_quiet : IsOpen rows width total right part
+    pub open_from_quiet : TakesBothValues rows width total right part
     open_from_quiet =
         let s : List Bool = solve rows fill in
         let is = solution fill length-fill fill_agrees in (

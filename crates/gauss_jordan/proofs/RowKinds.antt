@@ -12,17 +12,17 @@ use Rattle.gf2_rows.specs.Bits.{bit_of, is_outside}
 use Rattle.parity_engine.specs.Equations.{Equation, has_term, form_of}
 use Rattle.gf2_matrix.specs.Totals.{total, MeetsEquation}
 use Rattle.gf2_matrix.specs.Content.{Content, no_row, row_at, equation, form, has, IsOpenAt, IsReducedRow, IsOfGiven, AreBitsOf}
-use Rattle.parity_engine.specs.Columns.{AreColumns}
+use Rattle.parity_engine.specs.Written.{AreRising}
 use Rattle.gf2_matrix.proofs.Reduce.{found_open, none_open}
 use Rattle.gauss_jordan.specs.declared.found.RowKind.TheVariants.{Met, Unmet, Unit, Open}
 use Rattle.gauss_jordan.specs.Rows.{IsFinished, IsUnfinished, part_at}
 use Rattle.parity_engine.specs.State.{State, is_unassigned, IsSilent, IsImplied, IsBroken}
-use Rattle.gauss_jordan.specs.System.{part, equation_at, has_term_at, total_at, right_at, IsSystemOf, filled, IsWhole, IsUnit}
+use Rattle.gauss_jordan.specs.System.{part, equation_at, has_term_at, total_at, right_at, IsSystemOf, filled, IsWhole, IsOneOpen}
 use Rattle.gauss_jordan.specs.Found.{IsClosed, IsClosedBut, SumsTo, IsKind, IsMasked}
 use Rattle.gauss_jordan.proofs.Events.{silent_from_quiet, implied_from_unit, broken_from_whole, finished_from_whole, part-at, none_from, length-filled}
 
 -- ---- columns
-columns-apart : (least vars : ℕ) (cols : List ℕ) (j k : ℕ) → AreColumns least vars cols → j < k → k < length cols → get_or cols j 0 < get_or cols k 0
+columns-apart : (least vars : ℕ) (cols : List ℕ) (j k : ℕ) → AreRising least vars cols → j < k → k < length cols → get_or cols j 0 < get_or cols k 0
 columns-apart least vars [] j k rise jk lt = absurd (omega arith)
 columns-apart least vars (c ∷ cs) zero zero rise jk lt = absurd (omega arith)
 columns-apart least vars (c ∷ cs) zero (suc k) rise jk lt = let h = column-low (c + 1) vars cs k rise.2 (omega arith) in omega arith
@@ -30,7 +30,7 @@ columns-apart least vars (c ∷ cs) (suc j) zero rise jk lt = absurd (omega arit
 columns-apart least vars (c ∷ cs) (suc j) (suc k) rise jk lt = columns-apart (c + 1) vars cs j k rise.2 (omega arith) (omega arith)
 
 -- different columns are different variables
-columns-differ : (vars : ℕ) (cols : List ℕ) (j k : ℕ) → AreColumns 1 vars cols → j < length cols → k < length cols → j ≢ k → get_or cols j 0 - 1 ≢ get_or cols k 0 - 1
+columns-differ : (vars : ℕ) (cols : List ℕ) (j k : ℕ) → AreRising 1 vars cols → j < length cols → k < length cols → j ≢ k → get_or cols j 0 - 1 ≢ get_or cols k 0 - 1
 columns-differ vars cols j k rise jl kl ne e =
     let lowj = column-low 1 vars cols j rise jl in
     let lowk = column-low 1 vars cols k rise kl in
@@ -201,8 +201,8 @@ module _ (c : Content) (of_given : IsOfGiven c) (assigned truths : List ℕ) (s 
       let o : IsOpenAt c assigned x = (k, kind.0, kind.1, refl) in
       let low = column-low 1 c.vars c.columns k of_given.columns_rise kind.0 in
       let at : x + 1 ≡ get_or c.columns k 0 = omega arith in
-      let unit : IsUnit s (has_term (equation_at rows r)) x =
-      subst (λ (e : Equation). IsUnit s (has_term e) x) (sym (row-is r lt))
+      let unit : IsOneOpen s (has_term (equation_at rows r)) x =
+      subst (λ (e : Equation). IsOneOpen s (has_term e) x) (sym (row-is r lt))
       (record {
         within = in_vars x o;
         has_it = kind.2;

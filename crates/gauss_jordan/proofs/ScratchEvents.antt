@@ -23,12 +23,14 @@ use Rattle.gauss_jordan.specs.declared.slot.Naming.{Naming}
 use Rattle.parity_engine.specs.declared.state.Held.{Held}
 use Rattle.parity_engine.specs.declared.state.Mood.{Mood}
 use Rattle.parity_engine.specs.declared.state.Mood.TheVariants.{Busy, Calm, Broken}
-use Rattle.parity_engine.specs.State.{State, Named, is_unassigned, IsSilent, IsImplied, IsBroken, IsNamedNow, IsSameNamed, AreRising, fresh, names, named_at}
+use Rattle.parity_engine.specs.State.{State, Named, is_unassigned, IsSilent, IsImplied, IsBroken, IsNamedNow, IsSameNamed, fresh, names, named_at}
+use Rattle.parity_engine.specs.Written.{AreRising}
 use Rattle.parity_engine.proofs.Known.{none_is}
-use Rattle.gauss_jordan.specs.System.{just_value, has_at, filled, IsUnit}
+use Rattle.parity_engine.proofs.Columns.{numbers_rise}
+use Rattle.gauss_jordan.specs.System.{just_value, has_at, filled, IsOneOpen}
 use Rattle.gauss_jordan.specs.declared.found.Found.TheVariants as found
-use Rattle.gauss_jordan.specs.Found.{IsMasked, Says}
-use Rattle.gauss_jordan.specs.Right.{IsRight, column_at}
+use Rattle.gauss_jordan.specs.Found.{IsMasked, Shows}
+use Rattle.gauss_jordan.specs.Right.{IsRightState, column_at}
 use Rattle.gauss_jordan.specs.Slots.{named_as, named_of, state_of, value_or_false, AreMasks, IsSlotOf, IsEmptySlot, IsCopy, IsNamedSlot, IsSlotSum, IsScratch}
 use Rattle.gauss_jordan.proofs.Events.{at_column, filled-at, part-at, length-filled, implied_by_equation}
 use Rattle.gauss_jordan.proofs.Kept.{summed, right_fresh, right_quiet, right_implied, right_broken}
@@ -38,15 +40,6 @@ same_shape c d shape =
     ap (λ (v : ℕ). let q : Content = record { vars = v; given = d.given; columns = d.columns; rows = d.rows } in q) shape.vars
     ∙ ap (λ g. let q : Content = record { vars = c.vars; given = g; columns = d.columns; rows = d.rows } in q) shape.given
     ∙ ap (λ k. let q : Content = record { vars = c.vars; given = c.given; columns = k; rows = d.rows } in q) shape.columns
-
-rising_more : (least next count : ℕ) (ks : List ℕ) → least ≤ next → AreRising next count ks → AreRising least count ks
-rising_more least next count [] le rise = tt
-rising_more least next count (k ∷ ks) le rise = let a = rise.0 in (omega arith, rise.1, rise.2)
-
-numbers_rise : (bs : List Bool) (k count : ℕ) → k + length bs ≤ count + 1 → AreRising k count (numbers_from k bs)
-numbers_rise [] k count le = tt
-numbers_rise (true ∷ bs) k count le = (omega arith, omega arith, numbers_rise bs (k + 1) count (omega arith))
-numbers_rise (false ∷ bs) k count le = rising_more k (k + 1) count (numbers_from (k + 1) bs) (omega arith) (numbers_rise bs (k + 1) count (omega arith))
 
 map-set : {A B : Type 0} (f : A → B) (xs : List A) (k : ℕ) (a : A) → map f (set xs k a) ≡ set (map f xs) k (f a)
 map-set f [] k a = refl
@@ -109,7 +102,7 @@ module _ (c : Content) (level : ℕ) (held : List (Option Held)) (on ts : List �
   named_now row lt b = record {
     level_is = refl;
     kind_is = refl;
-    numbers = numbers_rise (row_at c.rows row).sources 1 (length c.given) (let h = (is.of_given.long row lt).1 in omega arith);
+    numbers = numbers_rise 1 (length c.given) (row_at c.rows row).sources (let h = (is.of_given.long row lt).1 in omega arith);
     sums = is.of_given.sums row lt;
   }
 
@@ -123,7 +116,7 @@ module _ (c : Content) (level : ℕ) (held : List (Option Held)) (on ts : List �
         of_given = is.of_given;
         few = is.few;
         few_given = is.few_given;
-        right = subst (IsRight c.columns) (sym (state_named (length c.columns) slot n index Broken copy.named at))
+        right = subst (IsRightState c.columns) (sym (state_named (length c.columns) slot n index Broken copy.named at))
             (right_broken c.columns (state_of c level held slots mood) index n is.right at (named_now row lt true) broken);
         assigned_long = is.assigned_long;
         truths_long = is.truths_long;
@@ -228,7 +221,7 @@ module _ (c : Content) (level : ℕ) (held : List (Option Held)) (on ts : List �
     pub high : get_or c.columns k 0 ≤ c.vars
     pub free : get_or held (column_at c.columns k) None ≡ None
 
-  pub literal_told : (k row : ℕ) (b : Bool) (old new d : Slot) → Says c on ts (found.Literal row k b) → old ≡ get_or slots k d
+  pub literal_told : (k row : ℕ) (b : Bool) (old new d : Slot) → Shows c on ts (found.Literal row k b) → old ≡ get_or slots k d
       → IsNamedSlot c row (record { level = level; in_conflict = false }) old new old.naming → (n : Named) × IsTold k new n
   literal_told k row b old new d says read named =
       let ri = is.right in
@@ -253,7 +246,7 @@ module _ (c : Content) (level : ℕ) (held : List (Option Held)) (on ts : List �
         let low = told.low in
         let high = told.high in
         let back : x + 1 ≡ get_or c.columns k 0 = omega arith in
-        let unit : IsUnit s (has_at n.form) x = record { within = omega arith; has_it = fit.has; unassigned = ap is_unassigned told.free; others = fit.others } in
+        let unit : IsOneOpen s (has_at n.form) x = record { within = omega arith; has_it = fit.has; unassigned = ap is_unassigned told.free; others = fit.others } in
         let long : length (filled s) ≡ c.vars = length-filled s ∙ ri.wide in
         let f = fit.fits in
         let value : differ (total e (filled s)) e.right ≡ b =
@@ -264,7 +257,7 @@ module _ (c : Content) (level : ℕ) (held : List (Option Held)) (on ts : List �
         (subst (λ v. IsImplied s (record { variable = v; negative = not b }) (form_of e)) back
         (subst (λ q. IsImplied s (record { variable = x + 1; negative = not q }) (form_of e)) value
         (implied_by_equation s e n.sources x ri.within ri.wide long_e nw.numbers (sym fit.viewed_is ∙ nw.sums)
-        (subst (λ g. IsUnit s (has_at g) x) fit.viewed_is unit))))
+        (subst (λ g. IsOneOpen s (has_at g) x) fit.viewed_is unit))))
 
     pub fit_kept : (index : ℕ) → index ≡ k → IsScratch c level held on ts (set slots k slot) Busy
     fit_kept index at =
@@ -276,7 +269,7 @@ module _ (c : Content) (level : ℕ) (held : List (Option Held)) (on ts : List �
           of_given = is.of_given;
           few = is.few;
           few_given = is.few_given;
-          right = subst (IsRight c.columns) (sym (state_named k slot n index Busy fit.named at))
+          right = subst (IsRightState c.columns) (sym (state_named k slot n index Busy fit.named at))
               (right_implied c.columns s index n is.right whole (subst (λ i. i < length c.columns) (sym at) told.column_in) fit.now
               (subst (λ i. column_at c.columns i < c.vars) (sym at) (omega arith))
               (subst (λ i. has_at n.form (column_at c.columns i) ≡ true) (sym at) fit.has)
@@ -344,7 +337,7 @@ set_same (x ∷ xs) zero a d lt is = ap (λ y. y ∷ xs) (sym is)
 set_same (x ∷ xs) (suc k) a d lt is = ap (λ ys. x ∷ ys) (set_same xs k a d (omega arith) is)
 
 -- the same contradiction is answered again
-pub broken_again : (columns : List ℕ) (s : State) (row : ℕ) → IsRight columns s → s.mood ≡ Broken → row ≡ length columns
+pub broken_again : (columns : List ℕ) (s : State) (row : ℕ) → IsRightState columns s → s.mood ≡ Broken → row ≡ length columns
     → (n : Named) × (row < length s.named) × (s ≡ names s row n Broken) × IsSameNamed (named_at s row) n × IsNamedNow s n true × IsBroken s n.form
 broken_again columns s row right is at =
     let b = right.broken is in
@@ -405,7 +398,7 @@ scratch_fresh c vars parities held on ts slots of_given vars_is given_is few few
   few = few;
   few_given = few_given;
   right =
-      subst (IsRight c.columns) (sym (state_fresh c vars (length c.columns) parities held slots vars_is given_is held_is empty))
+      subst (IsRightState c.columns) (sym (state_fresh c vars (length c.columns) parities held slots vars_is given_is held_is empty))
       (right_fresh c.columns vars parities
       (subst (λ n. AllByRecursion (AreWithin n) parities) vars_is (subst (λ ps. AllByRecursion (AreWithin c.vars) ps) given_is of_given.within)));
   assigned_long = on_long;

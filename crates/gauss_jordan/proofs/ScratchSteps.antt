@@ -14,7 +14,7 @@ use Rattle.parity_engine.specs.declared.state.Mood.{Mood}
 use Rattle.parity_engine.specs.declared.state.Mood.TheVariants.{Busy, Calm, Broken}
 use Rattle.parity_engine.specs.State.{Named, keep, keep_named, is_unassigned}
 use Rattle.parity_engine.proofs.Known.{none_is}
-use Rattle.gauss_jordan.specs.Right.{IsRight}
+use Rattle.gauss_jordan.specs.Right.{IsRightState}
 use Rattle.gauss_jordan.specs.Slots.{keep_naming, named_as, named_of, state_of, IsKeptSlot, AreKept, IsScratch}
 use Rattle.gauss_jordan.proofs.Kept.{right_pushed, right_assigned, right_back}
 
@@ -125,7 +125,7 @@ module _ (c : Content) (level : ℕ) (held : List (Option Held)) (masks truths :
     few = is.few;
     few_given = is.few_given;
     right =
-        subst (λ named. IsRight c.columns (record { vars = c.vars; parities = c.given; level = l; values = map (keep l) held; named = named; mood = Calm }))
+        subst (λ named. IsRightState c.columns (record { vars = c.vars; parities = c.given; level = l; values = map (keep l) held; named = named; mood = Calm }))
         (sym (states_back c l level held slots new mood kept)) (right_back c.columns (state_of c level held slots mood) l is.right lt);
     assigned_long = is.assigned_long;
     truths_long = is.truths_long;

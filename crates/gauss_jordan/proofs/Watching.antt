@@ -6,7 +6,7 @@ use Rattle.std.proofs.lemmas.Bool.{cases_eq, cases_lt, le-leb, lt-leb}
 use Rattle.parity_engine.specs.Equations.{has_term}
 use Rattle.parity_engine.specs.declared.state.Held.{Held}
 use Rattle.parity_engine.specs.State.{State, keep, is_unassigned}
-use Rattle.gauss_jordan.specs.System.{equation_at, IsSystemOf, IsUnit}
+use Rattle.gauss_jordan.specs.System.{equation_at, IsSystemOf, IsOneOpen}
 use Rattle.gauss_jordan.specs.Levels.{at_level}
 use Rattle.gauss_jordan.specs.Watching.{rank_of, rank, IsHigh, back_rank, BackIsFree, AssignIsFree, PushIsFree, PivotKeepsBasic, NoLateUnit, SecondIsHigh}
 use Rattle.parity_engine.proofs.Known.{known_value}
@@ -109,7 +109,7 @@ no_late_unit s rows top i p x within wide system settled above lt below in' has_
     let t : State = at_level p s in
     let widet : length t.values ≡ t.vars = length-map s.values (keep p) ∙ wide in
     let systemt : IsSystemOf t rows = record { long = system.long; sound = system.sound; complete = system.complete } in
-    let unit : IsUnit t (has_term (equation_at rows i)) x = record {
+    let unit : IsOneOpen t (has_term (equation_at rows i)) x = record {
       within = in';
       has_it = has_x;
       unassigned = ap is_unassigned (kept-at p s x) ∙ freed top p (get_or s.values x None) high;

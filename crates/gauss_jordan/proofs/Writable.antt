@@ -17,7 +17,7 @@ use Rattle.parity_engine.proofs.Forms.{same_form}
 use Rattle.parity_engine.proofs.Literals.{contains_parity, right_parity}
 use Rattle.parity_engine.specs.State.{State, Named, IsBroken}
 use Rattle.gauss_jordan.specs.System.{filled}
-use Rattle.gauss_jordan.specs.Right.{IsRight, column_at}
+use Rattle.gauss_jordan.specs.Right.{IsRightState, column_at}
 use Rattle.gauss_jordan.proofs.Events.{known_agrees, filled_agrees}
 
 -- one variable with both signs: no variable is left, and the right side is 0
@@ -65,7 +65,7 @@ broken_writable s f broken =
         let same : normal_form both_signs ≡ f = same_form (normal_form both_signs) f (λ y. no_variable y ∙ sym (none y)) (right_zero ∙ sym is) in
         absurd (true≢false (sym (is_met (filled s)) ∙ broken.unmet (filled s) (known_agrees s (filled s) (filled_agrees s)) both_signs same))
 
-pub named_writable : (columns : List ℕ) (s : State) (k : ℕ) (n : Named) → IsRight columns s → get_or s.named k None ≡ Some n → IsWritable n.form
+pub named_writable : (columns : List ℕ) (s : State) (k : ℕ) (n : Named) → IsRightState columns s → get_or s.named k None ≡ Some n → IsWritable n.form
 named_writable columns s k n right is =
     elim (cases_lt k (length columns)) [
       | inl lt ↦ let r = right.reasons k n lt is in inl (column_at columns k + 1, r.has)

@@ -39,9 +39,9 @@ pub record IsMasked (s : State) (c : Content) (assigned truths : List ℕ) : Typ
   pub holds : HoldsValues c truths (filled s)
 
 -- what the rows say of each state with these masks
-abbrev pub Says : Content → List ℕ → List ℕ → Found → Type 0
-Says c assigned truths Nothing = (s : State) → IsMasked s c assigned truths → IsSilent s
-Says c assigned truths (Literal r k b) =
+abbrev pub Shows : Content → List ℕ → List ℕ → Found → Type 0
+Shows c assigned truths Nothing = (s : State) → IsMasked s c assigned truths → IsSilent s
+Shows c assigned truths (Literal r k b) =
     (r < length c.rows) × (k < length c.columns)
     × ((s : State) → IsMasked s c assigned truths → IsImplied s (record { variable = slice_index c.columns k; negative = not b }) (form (row_at c.rows r)))
-Says c assigned truths (Contradiction r) = (r < length c.rows) × ((s : State) → IsMasked s c assigned truths → IsBroken s (form (row_at c.rows r)))
+Shows c assigned truths (Contradiction r) = (r < length c.rows) × ((s : State) → IsMasked s c assigned truths → IsBroken s (form (row_at c.rows r)))

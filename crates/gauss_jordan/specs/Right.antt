@@ -5,7 +5,8 @@ use Rattle.cx_base.specs.Problem.{AreWithin}
 use Rattle.parity_engine.specs.Equations.{sum_of_numbers}
 use Rattle.parity_engine.specs.declared.state.Held.{Held}
 use Rattle.parity_engine.specs.declared.state.Mood.TheVariants.{Calm, Broken}
-use Rattle.parity_engine.specs.State.{State, Named, AreRising, is_unassigned, IsSilent, IsBroken}
+use Rattle.parity_engine.specs.State.{State, Named, is_unassigned, IsSilent, IsBroken}
+use Rattle.parity_engine.specs.Written.{AreRising}
 use Rattle.gauss_jordan.specs.System.{has_at}
 use Rattle.gauss_jordan.specs.Levels.{IsSettledBelow}
 
@@ -36,7 +37,7 @@ pub record IsReason (s : State) (n : Named) (x : ℕ) : Type 0 where
   pub summed : IsSummed s n
   pub stands : IsHeldBy s n.level x ⊎ IsPending s n x
 
-pub record IsRight (columns : List ℕ) (s : State) : Type 0 where
+pub record IsRightState (columns : List ℕ) (s : State) : Type 0 where
   pub within : AllByRecursion (AreWithin s.vars) s.parities
   pub wide : length s.values ≡ s.vars
   pub rows : length s.named ≡ length columns + 1

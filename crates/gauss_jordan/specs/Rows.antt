@@ -45,7 +45,7 @@ pub record IsSolution (rows width : ℕ) (total : ℕ → List Bool → Bool) (r
   pub meets : (i : ℕ) → i < rows → total i v ≡ right i
 
 -- each unassigned position takes both values in solutions, and there is a solution
-abbrev pub IsOpen : ℕ → ℕ → (ℕ → List Bool → Bool) → (ℕ → Bool) → List (Option Bool) → Type 0
-IsOpen rows width total right part =
+abbrev pub TakesBothValues : ℕ → ℕ → (ℕ → List Bool → Bool) → (ℕ → Bool) → List (Option Bool) → Type 0
+TakesBothValues rows width total right part =
     ((v : List Bool) × IsSolution rows width total right part v)
     × ((x : ℕ) (b : Bool) → x < width → part_at part x ≡ None → (v : List Bool) × IsSolution rows width total right part v × (value_at v x ≡ b))

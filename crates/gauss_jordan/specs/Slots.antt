@@ -3,7 +3,8 @@ use Rattle.std.specs.Prelude.{◌≡◌, ℕ, ◌<◌, ◌≤◌, ◌^◌, Bool,
 use Rattle.std.specs.Simd.Lanes.{zip2}
 use Rattle.cx_base.specs.Literals.{differ}
 use Rattle.cx_base.specs.declared.literal.TheConstants.{MAX_VARIABLE}
-use Rattle.gf2_rows.specs.Bits.{bit_of, bits_of, parity}
+use Rattle.cx_base.specs.Parity.{odd_sum}
+use Rattle.gf2_rows.specs.Bits.{bit_of, bits_of}
 use Rattle.parity_engine.specs.Equations.{numbers_from}
 use Rattle.gf2_matrix.specs.Content.{Content, IsOfGiven, sources_of, form, row_at, source_numbers}
 use Rattle.parity_engine.specs.Views.{words_for}
@@ -13,7 +14,7 @@ use Rattle.gauss_jordan.specs.declared.slot.Naming.{Naming}
 use Rattle.parity_engine.specs.declared.state.Held.{Held}
 use Rattle.parity_engine.specs.declared.state.Mood.{Mood}
 use Rattle.parity_engine.specs.State.{State, Named, is_unassigned}
-use Rattle.gauss_jordan.specs.Right.{IsRight, column_at}
+use Rattle.gauss_jordan.specs.Right.{IsRightState, column_at}
 
 abbrev pub keep_naming : ℕ → Option Naming → Option Naming
 keep_naming level None = None
@@ -76,13 +77,13 @@ IsNamedSlot c row naming old new None = IsCopy c row naming new
 
 -- the slot's sum over the true columns, and its right side
 abbrev pub IsSlotSum : Slot → List ℕ → Bool → Type 0
-IsSlotSum slot truths b = differ (parity (zip2 ◌&&◌ (bits_of slot.words.items) (bits_of truths))) slot.right ≡ b
+IsSlotSum slot truths b = differ (odd_sum (zip2 ◌&&◌ (bits_of slot.words.items) (bits_of truths))) slot.right ≡ b
 
 pub record IsScratch (c : Content) (level : ℕ) (held : List (Option Held)) (assigned truths : List ℕ) (slots : List Slot) (mood : Mood) : Type 0 where
   pub of_given : IsOfGiven c
   pub few : c.vars ≤ MAX_VARIABLE
   pub few_given : length c.given < 2 ^ 32
-  pub right : IsRight c.columns (state_of c level held slots mood)
+  pub right : IsRightState c.columns (state_of c level held slots mood)
   pub assigned_long : length assigned ≡ words_for (length c.columns)
   pub truths_long : length truths ≡ words_for (length c.columns)
   pub fits : (k : ℕ) (d : Slot) → k < length slots → IsSlotOf c (slice_index_or slots k d)

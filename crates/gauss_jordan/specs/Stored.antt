@@ -2,9 +2,8 @@
 use Rattle.std.specs.Prelude.{◌≡◌, ℕ, Bool, List, Option, cond, nat_eq, refl}
 use Rattle.std.specs.Coded.{Coded, code_by, coded×, coded_ℕ, coded_bool, coded_list, coded_option}
 use Rattle.cx_base.specs.Literals.{Literal}
-use Rattle.cx_base.specs.Parity.{NormalForm}
+use Rattle.cx_base.specs.Parity.{NormalForm, form_code}
 use Rattle.cx_semantics.specs.Tables.{literal_code}
-use Rattle.parity_engine.specs.Equations.{form_code}
 use Rattle.parity_engine.specs.declared.state.Held.{Held}
 use Rattle.parity_engine.specs.declared.state.Mood.{Mood}
 use Rattle.parity_engine.specs.declared.state.Mood.TheVariants.{Busy, Calm, Broken}

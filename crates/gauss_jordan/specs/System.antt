@@ -50,7 +50,7 @@ abbrev pub IsWhole : State → (ℕ → Bool) → Type 0
 IsWhole s has = (x : ℕ) → has x ≡ true → is_unassigned (slice_index_or s.values x None) ≡ false
 
 -- x is the one variable of the row that is not assigned
-pub record IsUnit (s : State) (has : ℕ → Bool) (x : ℕ) : Type 0 where
+pub record IsOneOpen (s : State) (has : ℕ → Bool) (x : ℕ) : Type 0 where
   pub within : x < s.vars
   pub has_it : has x ≡ true
   pub unassigned : is_unassigned (slice_index_or s.values x None) ≡ true
@@ -66,7 +66,7 @@ SilentFromQuiet =
 -- a row with one unassigned variable implies its literal
 abbrev pub ImpliedFromUnit : Type 0
 ImpliedFromUnit =
-    (s : State) (rows : List Equation) (i x : ℕ) → AllByRecursion (AreWithin s.vars) s.parities → length s.values ≡ s.vars → IsSystemOf s rows → i < length rows → IsUnit s (has_term (equation_at rows i)) x
+    (s : State) (rows : List Equation) (i x : ℕ) → AllByRecursion (AreWithin s.vars) s.parities → length s.values ≡ s.vars → IsSystemOf s rows → i < length rows → IsOneOpen s (has_term (equation_at rows i)) x
     → IsImplied s (record { variable = x + 1; negative = not (differ (total_at rows i (filled s)) (right_at rows i)) }) (form_of (equation_at rows i))
 
 -- a whole row that is not met is a contradiction

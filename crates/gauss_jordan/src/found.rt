@@ -2,7 +2,7 @@
 ghost use Rattle.std.specs.Prelude.{◌≡◌, ℕ, ◌<◌, length};
 ghost use Rattle.gf2_matrix.specs.Content.{IsOfGiven, IsReducedRow};
 ghost use Rattle.parity_engine.specs.Views.{words_for};
-ghost use Rattle.gauss_jordan.specs.Found.{IsKind, Says, SumsTo};
+ghost use Rattle.gauss_jordan.specs.Found.{IsKind, Shows, SumsTo};
 
 use gf2_matrix::Matrix;
 
@@ -60,7 +60,7 @@ pub(crate) fn find(matrix: &Matrix, assigned: &[u64], truths: &[u64]) -> Found
     requires long { length assigned.now ≡ words_for (length matrix.now.columns) }
     requires wide { length truths.now ≡ words_for (length matrix.now.columns) }
     requires reduced { (r : ℕ) → r < length matrix.now.rows → IsReducedRow matrix.now assigned.now r }
-    ensures { Says matrix.now assigned.now truths.now result }
+    ensures { Shows matrix.now assigned.now truths.now result }
 {
     for row in 0..matrix.rows() {
         match kind_of(matrix, row, assigned, truths) {

@@ -1,7 +1,7 @@
 //! An engine that eliminates anew at each event.
 ghost use Rattle.std.specs.Prelude.{◌≡◌, ◌≢◌, ℕ, ◌<◌, length, map, replicate, None, IfOk};
 ghost use Rattle.gf2_matrix.specs.Content.{IsReducedRow};
-ghost use Rattle.parity_engine.specs.State.{Answers, keep};
+ghost use Rattle.parity_engine.specs.State.{Reports, keep};
 ghost use Rattle.gauss_jordan.specs.Slots.{AreMasks, IsNamedSlot, IsScratch, IsSlotOf, state_of};
 ghost use Rattle.parity_engine.specs.declared.state.Mood.TheVariants.{Broken};
 
@@ -170,7 +170,7 @@ fn answer(
     requires whole { mood ≢ Broken }
     requires masks { AreMasks matrix.now.columns held.now assigned.now truths.now (length matrix.now.columns) }
     requires reduced { (r : ℕ) → r < length matrix.now.rows → IsReducedRow matrix.now assigned.now r }
-    ensures answers { Answers (state_of matrix.now level held.now slots.old mood) result.0 (state_of matrix.now level held.now slots.new result.1) }
+    ensures answers { Reports (state_of matrix.now level held.now slots.old mood) result.0 (state_of matrix.now level held.now slots.new result.1) }
     ensures scratch { IsScratch matrix.now level held.now assigned.now truths.now slots.new result.1 }
 {
     match find(matrix, assigned, truths) {

@@ -7,7 +7,7 @@ use Rattle.std.proofs.lemmas.Bool.{eq-eqb}
 use Rattle.std.specs.List.{list_all, AllByRecursion}
 use Rattle.std.specs.FinSet as set
 use Rattle.cx_base.specs.Problem.{AreWithin, parity_met}
-use Rattle.cx_base.specs.Parity.{NormalForm, normal_form}
+use Rattle.cx_base.specs.Parity.{NormalForm, normal_form, odd_sum}
 use Rattle.cx_base.proofs.ParityLaws.{Sums, differ_and, differ_swap}
 use Rattle.gf2_matrix.specs.Totals.{total, MeetsEquation}
 use Rattle.parity_engine.specs.Equations.{numbers_from, parity_number, sum_of_numbers}
@@ -16,7 +16,6 @@ use Rattle.parity_engine.proofs.Forms.{contains-form, contains-form_zero, same_f
 use Rattle.gf2_matrix.proofs.FormSums.{contains-sum_of_numbers, right-sum_of_numbers, meets_from_Sums, AreNumbers, sum_met}
 use Rattle.cx_base.specs.Literals.{Literal, differ}
 use Rattle.cx_base.proofs.Differences.{differ_twice}
-use Rattle.gf2_rows.specs.Bits.{parity}
 use Rattle.gf2_matrix.specs.Content.{SourcedRow, Content, no_row, row_at, equation, form, has, source_numbers, added, pivoted_row, pivoted, IsLong, IsOfGiven, IsInColumns}
 
 -- ---- sums over the set bits
@@ -25,7 +24,7 @@ weigh : (ℕ → Bool) → ℕ → List Bool → Bool
 weigh f k [] = false
 weigh f k (b ∷ bs) = differ (b && f k) (weigh f (k + 1) bs)
 
-weigh-numbers : (f : ℕ → Bool) (k : ℕ) (bs : List Bool) → parity (map f (numbers_from k bs)) ≡ weigh f k bs
+weigh-numbers : (f : ℕ → Bool) (k : ℕ) (bs : List Bool) → odd_sum (map f (numbers_from k bs)) ≡ weigh f k bs
 unfolding weigh
 weigh-numbers f k [] = refl
 weigh-numbers f k (true ∷ bs) = ap (differ (f k)) (weigh-numbers f (k + 1) bs)
@@ -41,10 +40,10 @@ weigh-differ f k (a ∷ as') (b ∷ bs) e =
     ∙ differ_swap (a && f k) (b && f k) (weigh f (k + 1) as') (weigh f (k + 1) bs)
 
 numbers-differ : (f : ℕ → Bool) (as' bs : List Bool) → length as' ≡ length bs
-    → parity (map f (numbers_from 1 (zip2 differ as' bs))) ≡ differ (parity (map f (numbers_from 1 as'))) (parity (map f (numbers_from 1 bs)))
+    → odd_sum (map f (numbers_from 1 (zip2 differ as' bs))) ≡ differ (odd_sum (map f (numbers_from 1 as'))) (odd_sum (map f (numbers_from 1 bs)))
 numbers-differ f as' bs e =
     weigh-numbers f 1 (zip2 differ as' bs) ∙ weigh-differ f 1 as' bs e ∙ ap (λ x. differ x (weigh f 1 bs)) (sym (weigh-numbers f 1 as'))
-    ∙ ap (differ (parity (map f (numbers_from 1 as')))) (sym (weigh-numbers f 1 bs))
+    ∙ ap (differ (odd_sum (map f (numbers_from 1 as')))) (sym (weigh-numbers f 1 bs))
 
 pub joined_read : (as' bs : List Bool) (y : ℕ) → length as' ≡ length bs → get_or (zip2 differ as' bs) y false ≡ differ (get_or as' y false) (get_or bs y false)
 joined_read [] [] y e = refl

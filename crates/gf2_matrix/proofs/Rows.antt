@@ -14,7 +14,8 @@ use Rattle.gf2_rows.specs.Bits.{bit_of, bits_of}
 use Rattle.gf2_rows.proofs.Words.{bit_of_sum}
 use Rattle.gf2_matrix.specs.declared.packed.PackedRow.{PackedRow}
 use Rattle.gf2_matrix.specs.Content.{SourcedRow, Content, no_row, row_at, added, pivoted, has, IsOfGiven, AreBitsOf, IsInColumns, sources_of}
-use Rattle.parity_engine.specs.Columns.{place, AreColumns}
+use Rattle.parity_engine.specs.Columns.{place}
+use Rattle.parity_engine.specs.Written.{AreRising}
 use Rattle.parity_engine.proofs.Columns.{columns_rise, column-low, column-high, place_found}
 use Rattle.gf2_matrix.proofs.Updates.{changed_more, left_more}
 use Rattle.gf2_matrix.specs.Packed.{IsSized, IsSumRow, IsSameRow, takes_pivot, IsPivotedRow, ArePivoted, unpacked, content, IsMatrix}
@@ -85,7 +86,7 @@ module _ (vars count : ℕ) (columns : List ℕ) where
       (ap (λ ws. map (λ x. bit_of ws (place columns (x + 1))) (range_with_len 0 vars)) same.bits) same.right
       (ap (λ ws. map (bit_of ws) (range_with_len 0 count)) same.sources)
 
-  has-column : (row : PackedRow) (k : ℕ) → AreColumns 1 vars columns → k < length columns
+  has-column : (row : PackedRow) (k : ℕ) → AreRising 1 vars columns → k < length columns
       → has (unpacked vars count columns row) (get_or columns k 0 - 1) ≡ bit_of row.bits.items k
   has-column row k rise lt =
       let low = column-low 1 vars columns k rise lt in
@@ -101,7 +102,7 @@ module _ (vars count : ℕ) (columns : List ℕ) where
   by_cases pivot old new sum is false true step = unpacked-sum new old pivot step ∙ ap (added (unpacked vars count columns old)) (sym is)
   by_cases pivot old new sum is false false step = ap (unpacked vars count columns) step
 
-  one_row : (row column : ℕ) (pivot old new : PackedRow) (j : ℕ) (sum : SourcedRow) → AreColumns 1 vars columns → column < length columns
+  one_row : (row column : ℕ) (pivot old new : PackedRow) (j : ℕ) (sum : SourcedRow) → AreRising 1 vars columns → column < length columns
       → sum ≡ unpacked vars count columns pivot → IsPivotedRow (takes_pivot row column j old) pivot old new
       → unpacked vars count columns new
       ≡ cond (eqb j row) (unpacked vars count columns old)
@@ -175,7 +176,7 @@ module _ (vars : ℕ) (given : List (List Literal)) (columns : List ℕ) (rows n
       }
 
 -- ---- columns
-length-columns : (least vars : ℕ) (columns : List ℕ) → AreColumns least vars columns → length columns + least ≤ vars + 1 ⊎ (length columns ≡ 0)
+length-columns : (least vars : ℕ) (columns : List ℕ) → AreRising least vars columns → length columns + least ≤ vars + 1 ⊎ (length columns ≡ 0)
 length-columns least vars [] rise = inr refl
 length-columns least vars (c ∷ cs) rise =
     elim (length-columns (c + 1) vars cs rise.2) [
@@ -183,7 +184,7 @@ length-columns least vars (c ∷ cs) rise =
       | inr h ↦ inl (let a = rise.0 in let b = rise.1 in omega arith)
     ]
 
-pub few_columns : (vars : ℕ) (columns : List ℕ) → AreColumns 1 vars columns → length columns ≤ vars
+pub few_columns : (vars : ℕ) (columns : List ℕ) → AreRising 1 vars columns → length columns ≤ vars
 few_columns vars columns rise = elim (length-columns 1 vars columns rise) [ inl h ↦ omega arith | inr h ↦ omega arith ]
 
 pub place-holds : (columns : List ℕ) (v : ℕ) → place columns v < length columns → get_or columns (place columns v) 0 ≡ v

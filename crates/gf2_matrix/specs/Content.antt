@@ -6,7 +6,7 @@ use Rattle.cx_base.specs.Literals.{Literal, differ}
 use Rattle.cx_base.specs.Problem.{AreWithin, parity_met}
 use Rattle.cx_base.specs.Parity.{NormalForm}
 use Rattle.gf2_rows.specs.Bits.{bit_of}
-use Rattle.parity_engine.specs.Columns.{AreColumns}
+use Rattle.parity_engine.specs.Written.{AreRising}
 use Rattle.parity_engine.specs.Views.{words_for, terms_of}
 use Rattle.parity_engine.specs.Equations.{Equation, numbers_from, form_of, sum_of_numbers}
 use Rattle.gf2_matrix.specs.Totals.{MeetsEquation}
@@ -67,7 +67,7 @@ IsInColumns columns row = (x : ℕ) → has row x ≡ true → (k : ℕ) × (k <
 -- the rows are sums of the given parities, and together say what these say
 pub record IsOfGiven (c : Content) : Type 0 where
   pub within : AllByRecursion (AreWithin c.vars) c.given
-  pub columns_rise : AreColumns 1 c.vars c.columns
+  pub columns_rise : AreRising 1 c.vars c.columns
   pub in_columns : (i : ℕ) → i < length c.rows → IsInColumns c.columns (row_at c.rows i)
   pub long : (i : ℕ) → i < length c.rows → IsLong c (row_at c.rows i)
   pub sums : (i : ℕ) → i < length c.rows → form (row_at c.rows i) ≡ sum_of_numbers c.given (source_numbers (row_at c.rows i))

@@ -6,7 +6,7 @@ use Rattle.gf2_rows.specs.Bits.{bit_of}
 use Rattle.gf2_matrix.specs.declared.packed.PackedRow.{PackedRow}
 use Rattle.gf2_matrix.specs.Content.{SourcedRow, Content, IsOfGiven, sources_of}
 use Rattle.parity_engine.specs.Views.{words_for, terms_of}
-use Rattle.parity_engine.specs.Columns.{AreColumns}
+use Rattle.parity_engine.specs.Written.{AreRising}
 
 -- the row has so many words of bits and of sources
 abbrev pub IsSized : ℕ → ℕ → PackedRow → Type 0
@@ -53,7 +53,7 @@ content vars given columns rows =
 
 pub record IsMatrix (vars : ℕ) (given : List (List Literal)) (columns : List ℕ) (rows : List PackedRow) (spare : PackedRow) (no_columns : List ℕ) : Type 0 where
   pub of_given : IsOfGiven (content vars given columns rows)
-  pub columns_rise : AreColumns 1 vars columns
+  pub columns_rise : AreRising 1 vars columns
   pub sized : (k : ℕ) (d : PackedRow) → k < length rows → IsSized (length spare.bits.items) (length spare.sources.items) (slice_index_or rows k d)
   pub words : length spare.bits.items ≡ words_for (length columns)
   pub source_words : length spare.sources.items ≡ words_for (length given)

@@ -13,7 +13,8 @@ use Rattle.std.proofs.lemmas.Bool.{cases_lt}
 use Rattle.std.proofs.lemmas.List.{get_or-map, length-map}
 use Rattle.std.proofs.lemmas.Simd.{length-zip2, length-chunk, get_or-zip2, get_or-chunk, get_or-put_chunk_below, get_or-put_chunk_at, get_or-put_chunk_above, fold-sum}
 use Rattle.cx_base.specs.Literals.{differ}
-use Rattle.gf2_rows.specs.Bits.{parity, word_bit, bit_of, is_outside, is_skipped}
+use Rattle.cx_base.specs.Parity.{odd_sum}
+use Rattle.gf2_rows.specs.Bits.{word_bit, bit_of, is_outside, is_skipped}
 use Rattle.cx_base.proofs.Differences.{differ_assoc}
 use Rattle.cx_base.proofs.ParityLaws.{differ_false, differ_swap}
 use Rattle.gf2_rows.proofs.Words.{IsAddedBelow, parity_of, parity_of-differ, products_upto, products_word, ones_more, word_bit-rest}
@@ -49,30 +50,30 @@ added_block old other new at n same alike room before =
     )
 
 -- ---- products
-pub parity-lanes : (xs ys : List ℕ) → length xs ≡ length ys → parity (map parity_of (zip2 bit_xor xs ys)) ≡ differ (parity (map parity_of xs)) (parity (map parity_of ys))
+pub parity-lanes : (xs ys : List ℕ) → length xs ≡ length ys → odd_sum (map parity_of (zip2 bit_xor xs ys)) ≡ differ (odd_sum (map parity_of xs)) (odd_sum (map parity_of ys))
 parity-lanes [] [] e = refl
 parity-lanes [] (y ∷ ys) e = absurd (omega arith)
 parity-lanes (x ∷ xs) [] e = absurd (omega arith)
 parity-lanes (x ∷ xs) (y ∷ ys) e =
-    ap (λ b. differ b (parity (map parity_of (zip2 bit_xor xs ys)))) (parity_of-differ x y)
+    ap (λ b. differ b (odd_sum (map parity_of (zip2 bit_xor xs ys)))) (parity_of-differ x y)
     ∙ ap (differ (differ (parity_of x) (parity_of y))) (parity-lanes xs ys (omega arith))
-    ∙ differ_swap (parity_of x) (parity_of y) (parity (map parity_of xs)) (parity (map parity_of ys))
+    ∙ differ_swap (parity_of x) (parity_of y) (odd_sum (map parity_of xs)) (odd_sum (map parity_of ys))
 
-pub parity-reduced : (s : ℕ) (xs : List ℕ) → parity_of (fold_l bit_xor s xs) ≡ differ (parity_of s) (parity (map parity_of xs))
+pub parity-reduced : (s : ℕ) (xs : List ℕ) → parity_of (fold_l bit_xor s xs) ≡ differ (parity_of s) (odd_sum (map parity_of xs))
 parity-reduced s [] = sym (differ_false (parity_of s))
 parity-reduced s (x ∷ xs) =
-    parity-reduced (bit_xor s x) xs ∙ ap (λ b. differ b (parity (map parity_of xs))) (parity_of-differ s x)
-    ∙ differ_assoc (parity_of s) (parity_of x) (parity (map parity_of xs))
+    parity-reduced (bit_xor s x) xs ∙ ap (λ b. differ b (odd_sum (map parity_of xs))) (parity_of-differ s x)
+    ∙ differ_assoc (parity_of s) (parity_of x) (odd_sum (map parity_of xs))
 
 pub products_block : (a b : List ℕ) (i n : ℕ) → i + n ≤ length a → length a ≡ length b
-    → products_upto a b (64 * (i + n)) ≡ differ (products_upto a b (64 * i)) (parity (map parity_of (zip2 bit_and (chunk i n a) (chunk i n b))))
+    → products_upto a b (64 * (i + n)) ≡ differ (products_upto a b (64 * i)) (odd_sum (map parity_of (zip2 bit_and (chunk i n a) (chunk i n b))))
 products_block a b i zero room alike = let e : i + 0 ≡ i = omega arith in rw e (sym (differ_false (products_upto a b (64 * i))))
 products_block a b i (suc n) room alike =
     let e : i + suc n ≡ i + 1 + n = omega arith in
     rw (e, chunk-cons a i n (omega arith), chunk-cons b i n (omega arith))
     (products_block a b (i + 1) n (omega arith) alike
-    ∙ ap (λ x. differ x (parity (map parity_of (zip2 bit_and (chunk (i + 1) n a) (chunk (i + 1) n b))))) (products_word a b i)
-    ∙ differ_assoc (products_upto a b (64 * i)) (parity_of (bit_and (get_or a i 0) (get_or b i 0))) (parity (map parity_of (zip2 bit_and (chunk (i + 1) n a) (chunk (i + 1) n b)))))
+    ∙ ap (λ x. differ x (odd_sum (map parity_of (zip2 bit_and (chunk (i + 1) n a) (chunk (i + 1) n b))))) (products_word a b i)
+    ∙ differ_assoc (products_upto a b (64 * i)) (parity_of (bit_and (get_or a i 0) (get_or b i 0))) (odd_sum (map parity_of (zip2 bit_and (chunk (i + 1) n a) (chunk (i + 1) n b)))))
 
 -- ---- ones
 pub ones_upto_block : (words : List ℕ) (i n : ℕ) → i + n ≤ length words → ((k : ℕ) → get_or words k 0 < 2 ^ 64)

@@ -19,7 +19,8 @@ use Rattle.std.proofs.lemmas.Bool.{eq-eqb, ne_eqb, cases_eq, cases_lt}
 use Rattle.cx_base.specs.Literals.{differ}
 use Rattle.cx_base.proofs.Differences.{differ_assoc, differ_turned}
 use Rattle.cx_base.proofs.ParityLaws.{differ_false, differ_swap}
-use Rattle.gf2_rows.specs.Bits.{parity, word_bit, bit_of, bits_of, is_skipped, is_outside}
+use Rattle.cx_base.specs.Parity.{odd_sum}
+use Rattle.gf2_rows.specs.Bits.{word_bit, bit_of, bits_of, is_skipped, is_outside}
 
 -- ---- digits
 -- what holds of 0 and of 1
@@ -69,15 +70,15 @@ range_shift f a b (suc n) =
 
 -- ---- sums modulo two
 
-pub parity-append : (xs ys : List Bool) → parity (xs ++ ys) ≡ differ (parity xs) (parity ys)
+pub parity-append : (xs ys : List Bool) → odd_sum (xs ++ ys) ≡ differ (odd_sum xs) (odd_sum ys)
 parity-append [] ys = refl
-parity-append (x ∷ xs) ys = ap (differ x) (parity-append xs ys) ∙ sym (differ_assoc x (parity xs) (parity ys))
+parity-append (x ∷ xs) ys = ap (differ x) (parity-append xs ys) ∙ sym (differ_assoc x (odd_sum xs) (odd_sum ys))
 
-pub parity-differ : {X : Type 0} (f g : X → Bool) (xs : List X) → parity (map (λ x. differ (f x) (g x)) xs) ≡ differ (parity (map f xs)) (parity (map g xs))
+pub parity-differ : {X : Type 0} (f g : X → Bool) (xs : List X) → odd_sum (map (λ x. differ (f x) (g x)) xs) ≡ differ (odd_sum (map f xs)) (odd_sum (map g xs))
 parity-differ f g [] = refl
-parity-differ f g (x ∷ xs) = ap (differ (differ (f x) (g x))) (parity-differ f g xs) ∙ differ_swap (f x) (g x) (parity (map f xs)) (parity (map g xs))
+parity-differ f g (x ∷ xs) = ap (differ (differ (f x) (g x))) (parity-differ f g xs) ∙ differ_swap (f x) (g x) (odd_sum (map f xs)) (odd_sum (map g xs))
 
-pub parity-none : {X : Type 0} (xs : List X) → parity (map (λ _. false) xs) ≡ false
+pub parity-none : {X : Type 0} (xs : List X) → odd_sum (map (λ _. false) xs) ≡ false
 parity-none [] = refl
 parity-none (x ∷ xs) = parity-none xs
 
@@ -91,7 +92,7 @@ odd-more true n = sym (odd-suc n)
 odd-more false n = let e : 0 + n ≡ n = omega arith in rw e refl
 
 -- the sum modulo two is whether the number of ones is odd
-pub parity-count : {X : Type 0} (p : X → Bool) (xs : List X) → parity (map p xs) ≡ eqb (count_by p xs % 2) 1
+pub parity-count : {X : Type 0} (p : X → Bool) (xs : List X) → odd_sum (map p xs) ≡ eqb (count_by p xs % 2) 1
 parity-count p [] = refl
 parity-count p (x ∷ xs) =
     ap (differ (p x)) (parity-count p xs) ∙ odd-more (p x) (count_by p xs)
@@ -117,7 +118,7 @@ word_of_bits w small =
 pub ones_of_word : (w : ℕ) → w < 2 ^ 64 → count_ones w ≡ count_by (word_bit w) (range_with_len 0 64)
 ones_of_word w small = ap count_ones (sym (word_of_bits w small)) ∙ ones-mask_l (word_bit w) (range_with_len 0 64)
 
-pub parity_of_word : (w : ℕ) → w < 2 ^ 64 → parity (map (word_bit w) (range_with_len 0 64)) ≡ eqb (count_ones w % 2) 1
+pub parity_of_word : (w : ℕ) → w < 2 ^ 64 → odd_sum (map (word_bit w) (range_with_len 0 64)) ≡ eqb (count_ones w % 2) 1
 parity_of_word w small = parity-count (word_bit w) (range_with_len 0 64) ∙ ap (λ n. eqb (n % 2) 1) (sym (ones_of_word w small))
 
 pub bit_of_word : (words : List ℕ) (i j : ℕ) → j < 64 → bit_of words (64 * i + j) ≡ word_bit (get_or words i 0) j
@@ -169,17 +170,17 @@ sum_of_rows new old other same alike each =
 
 -- the sum modulo two of a word's bits
 unfoldable pub parity_of : ℕ → Bool
-parity_of w = parity (map (word_bit w) (range_with_len 0 64))
+parity_of w = odd_sum (map (word_bit w) (range_with_len 0 64))
 
 pub parity_of-differ : (s w : ℕ) → parity_of (bit_xor s w) ≡ differ (parity_of s) (parity_of w)
 unfolding parity_of
 parity_of-differ s w =
-    ap parity (range_same (word_bit (bit_xor s w)) (λ j. differ (word_bit s j) (word_bit w j)) 0 64 (λ j low high. word_bit-differ s w j))
+    ap odd_sum (range_same (word_bit (bit_xor s w)) (λ j. differ (word_bit s j) (word_bit w j)) 0 64 (λ j low high. word_bit-differ s w j))
     ∙ parity-differ (word_bit s) (word_bit w) (range_with_len 0 64)
 
 -- the sum of the products of the first n bits
 abbrev pub products_upto : List ℕ → List ℕ → ℕ → Bool
-products_upto a b n = parity (map (λ k. bit_of a k && bit_of b k) (range_with_len 0 n))
+products_upto a b n = odd_sum (map (λ k. bit_of a k && bit_of b k) (range_with_len 0 n))
 
 -- one more word
 pub products_word : (a b : List ℕ) (i : ℕ)
@@ -187,9 +188,9 @@ pub products_word : (a b : List ℕ) (i : ℕ)
 unfolding parity_of
 products_word a b i =
     let w : ℕ = bit_and (get_or a i 0) (get_or b i 0) in
-    ap parity (range_word (λ k. bit_of a k && bit_of b k) i)
+    ap odd_sum (range_word (λ k. bit_of a k && bit_of b k) i)
     ∙ parity-append (map (λ k. bit_of a k && bit_of b k) (range_with_len 0 (64 * i))) (map (λ j. bit_of a (64 * i + j) && bit_of b (64 * i + j)) (range_with_len 0 64))
-    ∙ ap (λ x. differ (products_upto a b (64 * i)) (parity x))
+    ∙ ap (λ x. differ (products_upto a b (64 * i)) (odd_sum x))
     (range_same (λ j. bit_of a (64 * i + j) && bit_of b (64 * i + j)) (word_bit w) 0 64
     (λ j low high. rw (bit_of_word a i j (omega arith), bit_of_word b i j (omega arith)) (sym (word_bit-and (get_or a i 0) (get_or b i 0) j))))
 
@@ -208,12 +209,12 @@ unfolding parity_of
 parity_of-ones w small = parity_of_word w small
 
 pub products_of_rows : (a b : List ℕ) (n : ℕ) → n ≡ length a → length a ≡ length b
-    → parity (map (λ k. bit_of a k && bit_of b k) (range_with_len 0 (64 * n))) ≡ parity (zip2 ◌&&◌ (bits_of a) (bits_of b))
+    → odd_sum (map (λ k. bit_of a k && bit_of b k) (range_with_len 0 (64 * n))) ≡ odd_sum (zip2 ◌&&◌ (bits_of a) (bits_of b))
 unfolding bits_of
 products_of_rows a b n e alike =
-    ap (λ m. parity (map (λ k. bit_of a k && bit_of b k) (range_with_len 0 (64 * m)))) e
-    ∙ ap parity (sym (zip2-map ◌&&◌ (bit_of a) (bit_of b) (range_with_len 0 (64 * length a))))
-    ∙ ap (λ m. parity (zip2 ◌&&◌ (bits_of a) (map (bit_of b) (range_with_len 0 (64 * m))))) alike
+    ap (λ m. odd_sum (map (λ k. bit_of a k && bit_of b k) (range_with_len 0 (64 * m)))) e
+    ∙ ap odd_sum (sym (zip2-map ◌&&◌ (bit_of a) (bit_of b) (range_with_len 0 (64 * length a))))
+    ∙ ap (λ m. odd_sum (zip2 ◌&&◌ (bits_of a) (map (bit_of b) (range_with_len 0 (64 * m))))) alike
 
 -- ---- one bit
 digit_not : (m : ℕ) → m < 2 → eqb (1 - m) 1 ≡ not (eqb m 1)

@@ -4,11 +4,6 @@ use Rattle.std.specs.Int.{bit_at}
 use Rattle.std.specs.List.{range_with_len}
 use Rattle.cx_base.specs.Literals.{differ}
 
--- the sum of a list of bits modulo two
-abbrev pub parity : List Bool → Bool
-parity [] = false
-parity (b ∷ bs) = differ b (parity bs)
-
 -- bit i of a word
 abbrev pub word_bit : ℕ → ℕ → Bool
 word_bit word i = eqb (bit_at word i) 1

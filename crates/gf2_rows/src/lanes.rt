@@ -3,7 +3,8 @@ ghost use Rattle.std.specs.Prelude.{◌≡◌, ◌*◌, ◌<◌, ◌≤◌, ◌^
 ghost use Rattle.std.specs.Simd.Lanes.{zip2};
 ghost use Rattle.std.specs.Slice.Scan.{HoldsNowhere, IsFirstPlace};
 ghost use Rattle.cx_base.specs.Literals.{differ};
-ghost use Rattle.gf2_rows.specs.Bits.{parity, bits_of, is_outside};
+ghost use Rattle.cx_base.specs.Parity.{odd_sum};
+ghost use Rattle.gf2_rows.specs.Bits.{bits_of, is_outside};
 
 use crate::plain::open_bits;
 use std::simd::prelude::*;
@@ -27,7 +28,7 @@ pub fn add_into(row: &mut [u64], other: &[u64])
 /// The sum of the products of the two rows' bits, modulo two.
 pub fn parity_and(a: &[u64], b: &[u64]) -> bool
     requires { length a.now ≡ length b.now }
-    ensures { result ≡ parity (zip2 ◌&&◌ (bits_of a.now) (bits_of b.now)) }
+    ensures { result ≡ odd_sum (zip2 ◌&&◌ (bits_of a.now) (bits_of b.now)) }
 {
     let blocks = a.len() / 8;
     let mut sums = u64x8::splat(0);

@@ -3,7 +3,8 @@ ghost use Rattle.std.specs.Prelude.{◌≡◌, ℕ, ◌+◌, ◌*◌, ◌<◌, �
 ghost use Rattle.std.specs.Simd.Lanes.{zip2};
 ghost use Rattle.std.specs.Slice.Scan.{HoldsNowhere, IsFirstPlace};
 ghost use Rattle.cx_base.specs.Literals.{differ};
-ghost use Rattle.gf2_rows.specs.Bits.{parity, word_bit, bits_of, is_skipped, is_outside};
+ghost use Rattle.cx_base.specs.Parity.{odd_sum};
+ghost use Rattle.gf2_rows.specs.Bits.{word_bit, bits_of, is_skipped, is_outside};
 
 /// Adds `other` to `row`, position by position modulo two.
 pub fn add_into(row: &mut [u64], other: &[u64])
@@ -18,7 +19,7 @@ pub fn add_into(row: &mut [u64], other: &[u64])
 /// The sum of the products of the two rows' bits, modulo two.
 pub fn parity_and(a: &[u64], b: &[u64]) -> bool
     requires { length a.now ≡ length b.now }
-    ensures { result ≡ parity (zip2 ◌&&◌ (bits_of a.now) (bits_of b.now)) }
+    ensures { result ≡ odd_sum (zip2 ◌&&◌ (bits_of a.now) (bits_of b.now)) }
 {
     let mut sum = 0;
     for i in 0..a.len() {

@@ -14,8 +14,8 @@ use Rattle.proof_text.specs.declared.source.TextRefusal.{TextRefusal}
 use Rattle.proof_text.specs.declared.source.TextRefusal.TheVariants.{BadToken, Unterminated}
 use Rattle.proof_text.specs.declared.ahead.SeenWord.{SeenWord}
 use Rattle.proof_text.specs.Heads.{seen_head, is_head_letter}
-use Rattle.proof_text.specs.Taking.{Takes, HeadFails, IsOpen, RefusedIn}
-use Rattle.proof_text.specs.Reading.{Tells}
+use Rattle.proof_text.specs.Taking.{Takes, HeadFails, MayGoOn, RefusedIn}
+use Rattle.proof_text.specs.Reading.{IsRefusal}
 use Rattle.proof_text.proofs.TakingLaws.{takes_append, refused_then, head_refused, none_after}
 use Rattle.proof_text.proofs.Choices.{head_refuses, refused_beside}
 use Rattle.proof_text.proofs.ReadingLaws as reading
@@ -130,7 +130,7 @@ stops s ws [] h alone = tt
 stops s ws (p ∷ rest) h alone =
     begins_nowhere log_steps log_forms (ws ++ p.word ∷ []) (remaining-push log_rows ws p.word ∙ ap (flat_map (after_word p.word)) (behind_words s ws h) ∙ nothing_behind s p rest alone)
 
-not_open : (s : LogStep) → ¬ IsOpen (behind_step s)
+not_open : (s : LogStep) → ¬ MayGoOn (behind_step s)
 not_open (log.Clause n lits) h = h
 not_open _ h = h
 
@@ -142,8 +142,8 @@ no_empty_step s e = let f = first_of s [] in let k : [] ≡ f.0 ∷ f.1 = ap (λ
 pub step_spells : (s : LogStep) (a b : List Placed) → Takes (log_fields s) a b → StandsAlone s b → Spells log_steps s a b
 step_spells s a b t alone = reading.step_spells log_steps log_forms refl s a b t (stops s (words t.front) b (t.proper, t.spells) alone)
 
-whole : (s : LogStep) (ws : List Word) → IsStep log_steps ws s → ¬ IsOpen (remaining log_rows ws)
-whole s ws h open_ = not_open s (subst IsOpen (behind_words s ws h) open_)
+whole : (s : LogStep) (ws : List Word) → IsStep log_steps ws s → ¬ MayGoOn (remaining log_rows ws)
+whole s ws h open_ = not_open s (subst MayGoOn (behind_words s ws h) open_)
 
-pub refused_tells : (size : ℕ) (r : TextRefusal) (a : List Placed) → a ≢ [] → RefusedIn log_rows size r a → Tells log_steps size r a
+pub refused_tells : (size : ℕ) (r : TextRefusal) (a : List Placed) → a ≢ [] → RefusedIn log_rows size r a → IsRefusal log_steps size r a
 refused_tells size r a some h = reading.refused_tells log_steps log_forms refl whole size r a some h

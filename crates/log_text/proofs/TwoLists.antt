@@ -5,7 +5,7 @@ use Rattle.cx_semantics.proofs.Shapes.{Kind, some_integers, Move, closes, stays,
 use Rattle.cx_semantics.proofs.Remaining.{behind, after_word, remaining}
 use Rattle.proof_text.specs.declared.source.TextRefusal.{TextRefusal}
 use Rattle.proof_text.specs.declared.source.TextRefusal.TheVariants.{BadToken, Unterminated, TooBig, TooLong, Memory, Failed}
-use Rattle.proof_text.specs.Taking.{IsFit, IsOpen, RefusedIn}
+use Rattle.proof_text.specs.Taking.{IsFit, MayGoOn, RefusedIn}
 use Rattle.proof_text.proofs.TakingLaws.{none_after, some_behind}
 
 abbrev one : List (List Kind)
@@ -14,16 +14,16 @@ one = (some_integers ∷ []) ∷ []
 abbrev two : List Kind → List Kind → List (List Kind)
 two ks js = (some_integers ∷ ks) ∷ (some_integers ∷ js) ∷ []
 
-no_row : (ws : List Word) → IsOpen (remaining [] ws) → ⊥
+no_row : (ws : List Word) → MayGoOn (remaining [] ws) → ⊥
 no_row [] h = h
 no_row (w ∷ ws) h = no_row ws h
 
-closed_row : (ws : List Word) → IsOpen (remaining ([] ∷ []) ws) → ⊥
+closed_row : (ws : List Word) → MayGoOn (remaining ([] ∷ []) ws) → ⊥
 closed_row [] h = h
 closed_row (w ∷ ws) h = no_row ws h
 
 -- as long as the list is open, both go on with it
-pub both_open : (ks js : List Kind) (ws : List Word) → IsOpen (remaining one ws) → (remaining one ws ≡ one) × (remaining (two ks js) ws ≡ two ks js)
+pub both_open : (ks js : List Kind) (ws : List Word) → MayGoOn (remaining one ws) → (remaining one ws ≡ one) × (remaining (two ks js) ws ≡ two ks js)
 both_open ks js [] h = (refl, refl)
 both_open ks js (number (pos zero) ∷ ws) h = absurd (closed_row ws h)
 both_open ks js (number (pos (suc n)) ∷ ws) h = both_open ks js ws h
@@ -70,7 +70,7 @@ both_refused ks js size (BadToken place) a h =
       rest = h.rest;
       split = h.split;
       at = h.at;
-      unfinished = subst IsOpen (sym o.1) tt;
+      unfinished = subst MayGoOn (sym o.1) tt;
       within = h.within;
       fits_not = ap (flat_map (after_word h.bad.word)) o.1 ∙ none_after h.bad.word (two ks js) (bad, (bad, tt));
     }
@@ -88,7 +88,7 @@ both_refused ks js size (TooBig place) a h =
       fits = (b.0, b.1, ap (flat_map (after_word h.big.word)) o.1 ∙ b.2);
       above = h.above;
     }
-both_refused ks js size (Unterminated place) a h = (h.0, subst IsOpen (sym (both_open ks js (words a) h.1).1) tt, h.2)
+both_refused ks js size (Unterminated place) a h = (h.0, subst MayGoOn (sym (both_open ks js (words a) h.1).1) tt, h.2)
 both_refused ks js size TooLong a h = absurd h
 both_refused ks js size Memory a h = tt
 both_refused ks js size Failed a h = absurd h

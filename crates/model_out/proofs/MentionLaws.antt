@@ -8,7 +8,7 @@ use Rattle.cx_base.specs.declared.literal.TheConstants.{MAX_VARIABLE}
 use Rattle.cx_semantics.specs.Integers.{is_negative}
 use Rattle.cx_semantics.proofs.DigitLaws.{not_equal}
 use Rattle.model_out.specs.Answers.{written_of, as_literal, IsVariable, Gives, LeastVariable, IsMissing, IsRepeated}
-use Rattle.model_out.specs.Mentions.{mention_of, is_never, is_repeated, is_true_once, IsFirstOf, Tells}
+use Rattle.model_out.specs.Mentions.{mention_of, is_never, is_repeated, is_true_once, IsFirstOf, AreMentionsOf}
 use Rattle.model_out.specs.Settling.{NoneMissing}
 use Rattle.model_out.specs.declared.mentions.Mention.{Mention}
 use Rattle.model_out.specs.declared.mentions.Mention.TheVariants.{Never}
@@ -52,7 +52,7 @@ as_literal_is (negsuc n) x e = ap (λ y. neg_ℤ (pos y)) e
 
 -- ---- a whole table
 
-module _ (lits : List ℤ) (formula : Problem) (table : List Mention) (len : length table ≡ formula.variables) (tells : Tells lits table) where
+module _ (lits : List ℤ) (formula : Problem) (table : List Mention) (len : length table ≡ formula.variables) (tells : AreMentionsOf lits table) where
   at : (x : ℕ) → IsVariable formula x → get_or table (x - 1) Never ≡ mention_of (written_of lits x)
   at x v =
       let k : x - 1 < length table = omega (arith, len, v.0, v.1) in

@@ -3,7 +3,7 @@ use Rattle.std.proofs.Common.{◌≡◌, ◌≢◌, refl, ap, ◌∙◌, ℕ, ze
 use Rattle.cx_semantics.specs.Words.{integer}
 use Rattle.model_out.specs.LineTokens.{LineToken}
 use Rattle.model_out.specs.Answers.{Part, mark, number, strange, part_of, number_or_strange}
-use Rattle.model_out.specs.Mentions.{Tells}
+use Rattle.model_out.specs.Mentions.{AreMentionsOf}
 use Rattle.model_out.specs.Reading.{scan, at_part, seen, ahead, TakesTo, TurnsTo, EndsTo, ScansTo}
 use Rattle.model_out.specs.declared.line_tokens.LineTokenAt.{LineTokenAt}
 use Rattle.model_out.specs.declared.mentions.Mention.{Mention}
@@ -25,7 +25,7 @@ module _ (len : ℕ) (lits : List ℤ) (t : LineToken) (rest : List LineToken) w
   by_part : (p : Part) → part_of t ≡ p → scan len lits (t ∷ rest) ≡ at_part t.place lits rest (λ more. scan len more rest) p
   by_part p e = ap (at_part t.place lits rest (λ more. scan len more rest)) e
 
-  pub turn_mark : (table : List Mention) → t.begins ≡ true → bytes_eq t.text (codes "v") ≡ true → Tells lits table → TurnsTo len lits t rest (Ok GoesOn) table
+  pub turn_mark : (table : List Mention) → t.begins ≡ true → bytes_eq t.text (codes "v") ≡ true → AreMentionsOf lits table → TurnsTo len lits t rest (Ok GoesOn) table
   turn_mark table b v h = (lits, by_part mark (part_mark t b v), h)
 
   pub turn_no_mark : (table : List Mention) → t.begins ≡ true → bytes_eq t.text (codes "v") ≡ false → TurnsTo len lits t rest (Err (BadToken t.place)) table
@@ -61,7 +61,7 @@ module _ (len : ℕ) (body : List LineToken) (lits : List ℤ) (t : LineToken) (
   turn_refused (Unmet k) h = absurd h
   turn_refused Memory h = absurd h
 
-  pub turn_goes_on : (r : Turn) → r ≡ GoesOn → TurnsTo len lits t rest (Ok r) table → (more : List ℤ) × (scan len [] body ≡ scan len more rest) × Tells more table
+  pub turn_goes_on : (r : Turn) → r ≡ GoesOn → TurnsTo len lits t rest (Ok r) table → (more : List ℤ) × (scan len [] body ≡ scan len more rest) × AreMentionsOf more table
   turn_goes_on GoesOn e h = (h.0, so_far ∙ h.1, h.2)
   turn_goes_on Ends e h = cc
 

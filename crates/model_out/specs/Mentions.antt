@@ -32,8 +32,8 @@ is_true_once (Once positive) = positive
 is_true_once Repeated = false
 
 -- the table tells how each variable from 1 up to its length is mentioned
-abbrev pub Tells : List ℤ → List Mention → Type 0
-Tells lits table = (k : ℕ) → k < length table → get_or table k Never ≡ mention_of (written_of lits (k + 1))
+abbrev pub AreMentionsOf : List ℤ → List Mention → Type 0
+AreMentionsOf lits table = (k : ℕ) → k < length table → get_or table k Never ≡ mention_of (written_of lits (k + 1))
 
 -- the least variable whose mention passes the test, if there is one
 abbrev pub IsFirstOf : (Mention → Bool) → List Mention → Option ℕ → Type 0

@@ -2,7 +2,7 @@
 use Rattle.std.specs.Prelude.{◌≡◌, ◌≢◌, ℕ, zero, suc, ℤ, pos, negsuc, List, [], ◌∷◌, ◌++◌, Option, Some, None, Result, Ok, Err}
 use Rattle.model_out.specs.LineTokens.{LineToken}
 use Rattle.model_out.specs.Answers.{Part, mark, number, strange, part_of}
-use Rattle.model_out.specs.Mentions.{Tells}
+use Rattle.model_out.specs.Mentions.{AreMentionsOf}
 use Rattle.model_out.specs.declared.mentions.Mention.{Mention}
 use Rattle.model_out.specs.declared.read.Turn.{Turn}
 use Rattle.model_out.specs.declared.read.Turn.TheVariants.{GoesOn, Ends}
@@ -42,7 +42,7 @@ ahead (Some t) rest = seen t ∷ rest
 
 -- the body is scanned to integers that the table tells, or to a bad place
 abbrev pub ScansTo : {T : Type 0} → ℕ → List LineToken → Result T AnswerRefusal → List Mention → Type 0
-ScansTo len body (Ok done) table = (lits : List ℤ) × (scan len [] body ≡ whole lits) × Tells lits table
+ScansTo len body (Ok done) table = (lits : List ℤ) × (scan len [] body ≡ whole lits) × AreMentionsOf lits table
 ScansTo len body (Err NoStatusLine) table = ⊥
 ScansTo len body (Err (BadToken place)) table = scan len [] body ≡ bad place
 ScansTo len body (Err (Missing x)) table = ⊥
@@ -52,8 +52,8 @@ ScansTo len body (Err Memory) table = ⊥
 
 -- one token was taken: the scan goes on behind more integers that the table tells, or has ended with these, or is bad
 abbrev pub TurnsTo : ℕ → List ℤ → LineToken → List LineToken → Result Turn AnswerRefusal → List Mention → Type 0
-TurnsTo len lits t rest (Ok GoesOn) table = (more : List ℤ) × (scan len lits (t ∷ rest) ≡ scan len more rest) × Tells more table
-TurnsTo len lits t rest (Ok Ends) table = (scan len lits (t ∷ rest) ≡ scan_end lits rest) × Tells lits table
+TurnsTo len lits t rest (Ok GoesOn) table = (more : List ℤ) × (scan len lits (t ∷ rest) ≡ scan len more rest) × AreMentionsOf more table
+TurnsTo len lits t rest (Ok Ends) table = (scan len lits (t ∷ rest) ≡ scan_end lits rest) × AreMentionsOf lits table
 TurnsTo len lits t rest (Err NoStatusLine) table = ⊥
 TurnsTo len lits t rest (Err (BadToken place)) table = scan len lits (t ∷ rest) ≡ bad place
 TurnsTo len lits t rest (Err (Missing x)) table = ⊥
@@ -63,8 +63,8 @@ TurnsTo len lits t rest (Err Memory) table = ⊥
 
 -- one integer was taken: it stands behind the others, or it is the zero
 abbrev pub TakesTo : ℤ → List ℤ → Turn → List Mention → Type 0
-TakesTo z lits GoesOn table = (z ≢ pos 0) × Tells (lits ++ z ∷ []) table
-TakesTo z lits Ends table = (z ≡ pos 0) × Tells lits table
+TakesTo z lits GoesOn table = (z ≢ pos 0) × AreMentionsOf (lits ++ z ∷ []) table
+TakesTo z lits Ends table = (z ≡ pos 0) × AreMentionsOf lits table
 
 -- no token is left behind the zero
 abbrev pub EndsTo : {T : Type 0} → List ℤ → List LineToken → Result T AnswerRefusal → Type 0

@@ -2,7 +2,7 @@
 ghost use Rattle.std.specs.Prelude.{◌≡◌, ◌≤◌, ◌∷◌, [], ◌++◌, ℤ, List, length, map, IfOk};
 ghost use Rattle.cx_base.specs.declared.literal.TheConstants.{MAX_VARIABLE};
 ghost use Rattle.cx_semantics.specs.Integers.{integer_of};
-ghost use Rattle.model_out.specs.Mentions.{is_never, is_repeated, is_true_once, IsFirstOf, mentioned, Tells};
+ghost use Rattle.model_out.specs.Mentions.{is_never, is_repeated, is_true_once, IsFirstOf, mentioned, AreMentionsOf};
 
 use cx_base::{Lit, Values, Var};
 use std::alloc::{AllocError, Global};
@@ -76,7 +76,7 @@ impl Mentions {
     pub(crate) fn none(alloc: Global, vars: u32) -> Result<Mentions, AllocError>
         requires { vars ≤ MAX_VARIABLE }
         ensures length { IfOk result (λ m. length m ≡ vars) }
-        ensures tells { IfOk result (λ m. Tells [] m) }
+        ensures tells { IfOk result (λ m. AreMentionsOf [] m) }
     {
         let mentions = vec![in alloc; Mention::Never; vars as usize]?;
         Ok(Mentions { mentions })
@@ -85,7 +85,7 @@ impl Mentions {
     /// One more literal; one of a variable that is not in the table changes nothing.
     pub(crate) fn note(&mut self, lit: Lit)
         ensures length { length self.new ≡ length self.old }
-        ensures tells { (lits : List ℤ) → Tells lits self.old → Tells (lits ++ integer_of lit ∷ []) self.new }
+        ensures tells { (lits : List ℤ) → AreMentionsOf lits self.old → AreMentionsOf (lits ++ integer_of lit ∷ []) self.new }
     {
         let index = lit.var().number() as usize - 1;
         if index < self.mentions.len() {

@@ -6,7 +6,7 @@ ghost use Rattle.model_out.specs.declared.refusal.AnswerRefusal.TheVariants.{NoS
 ghost use Rattle.model_out.specs.Answers.{behind_status, AnswersAs};
 ghost use Rattle.cx_semantics.specs.LiteralTokens.{IsInteger};
 ghost use Rattle.model_out.specs.LineTokens.{LineToken};
-ghost use Rattle.model_out.specs.Mentions.{Tells};
+ghost use Rattle.model_out.specs.Mentions.{AreMentionsOf};
 ghost use Rattle.model_out.specs.Reading.{ahead, seen, EndsTo, ScansTo, TakesTo, TurnsTo};
 ghost use Rattle.model_out.specs.Settling.{SettlesAs, JudgesAs};
 
@@ -58,7 +58,7 @@ enum Turn {
 fn take_integer(mentions: &mut Mentions, integer: Integer) -> Turn
     requires { length mentions.old ≤ MAX_VARIABLE }
     ensures length { length mentions.new ≡ length mentions.old }
-    ensures turn { (z : ℤ) (lits : List ℤ) → IsInteger integer z → Tells lits mentions.old → TakesTo z lits result mentions.new }
+    ensures turn { (z : ℤ) (lits : List ℤ) → IsInteger integer z → AreMentionsOf lits mentions.old → TakesTo z lits result mentions.new }
 {
     match integer {
         Integer::Zero => Turn::Ends,
@@ -74,7 +74,7 @@ fn take_integer(mentions: &mut Mentions, integer: Integer) -> Turn
 fn take_token(mentions: &mut Mentions, token: LineTokenAt) -> Result<Turn, AnswerRefusal>
     requires { length mentions.old ≤ MAX_VARIABLE }
     ensures length { length mentions.new ≡ length mentions.old }
-    ensures turn { (len : ℕ) (lits : List ℤ) (rest : List LineToken) → Tells lits mentions.old → TurnsTo len lits (seen token.entry) rest result mentions.new }
+    ensures turn { (len : ℕ) (lits : List ℤ) (rest : List LineToken) → AreMentionsOf lits mentions.old → TurnsTo len lits (seen token.entry) rest result mentions.new }
 {
     if token.begins {
         return if token.text == b"v".as_slice() {
@@ -106,7 +106,7 @@ fn read_literals<'a>(
     len: u64,
     mentions: &mut Mentions,
 ) -> Result<(), AnswerRefusal>
-    requires tells { Tells [] mentions.old }
+    requires tells { AreMentionsOf [] mentions.old }
     requires few { length mentions.old ≤ MAX_VARIABLE }
     ensures length { length mentions.new ≡ length mentions.old }
     ensures scanned { ScansTo len (ahead first.entry tokens.old) result mentions.new }
@@ -124,7 +124,7 @@ fn read_literals<'a>(
 /// The values that are mentioned, where each variable is mentioned once.
 fn settle(alloc: Global, mentions: &Mentions) -> Result<Values, AnswerRefusal>
     ensures length { IfOk result (λ v. length v ≡ length mentions.now) }
-    ensures settled { (lits : List ℤ) (formula : Problem) → length mentions.now ≡ formula.variables → Tells lits mentions.now → SettlesAs lits formula result }
+    ensures settled { (lits : List ℤ) (formula : Problem) → length mentions.now ≡ formula.variables → AreMentionsOf lits mentions.now → SettlesAs lits formula result }
 {
     if let Some(missing) = mentions.first_missing() {
         return Err(AnswerRefusal::Missing(missing));
@@ -138,7 +138,7 @@ fn settle(alloc: Global, mentions: &Mentions) -> Result<Values, AnswerRefusal>
 /// The values that the text's answer gives, where they meet the formula.
 fn judge(alloc: Global, mentions: &Mentions, formula: &Formula) -> Result<Values, AnswerRefusal>
     requires { length mentions.now ≡ formula.now.variables }
-    ensures { (lits : List ℤ) → Tells lits mentions.now → JudgesAs lits formula.now result }
+    ensures { (lits : List ℤ) → AreMentionsOf lits mentions.now → JudgesAs lits formula.now result }
 {
     let values = settle(alloc, mentions)?;
     match formula.first_unmet(values.as_slice()) {

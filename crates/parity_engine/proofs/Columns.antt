@@ -11,19 +11,28 @@ use Rattle.std.proofs.lemmas.List.Sums.{position_or_len_is}
 use Rattle.cx_base.specs.declared.literal.TheConstants.{MAX_VARIABLE}
 use Rattle.gf2_rows.specs.Bits.{bit_of}
 use Rattle.parity_engine.specs.Equations.{has_term, numbers_from}
-use Rattle.parity_engine.specs.Columns.{AreColumns, place}
+use Rattle.parity_engine.specs.Columns.{place}
 use Rattle.parity_engine.specs.Views.{IsView, viewed, viewed_form}
-use Rattle.parity_engine.specs.Written.{Rises, picked}
+use Rattle.parity_engine.specs.Written.{Rises, picked, AreRising}
 use Rattle.parity_engine.proofs.Forms.{contains-form}
 
 -- ---- rising numbers
-pub columns_rise : (least vars : ℕ) (cs : List ℕ) → AreColumns least vars cs → Rises least cs
+pub columns_rise : (least vars : ℕ) (cs : List ℕ) → AreRising least vars cs → Rises least cs
 columns_rise least vars [] rise = tt
 columns_rise least vars (c ∷ cs) rise = (rise.0, columns_rise (c + 1) vars cs rise.2)
 
-pub columns_within : (least vars : ℕ) (cs : List ℕ) → AreColumns least vars cs → vars ≤ MAX_VARIABLE → AreColumns least MAX_VARIABLE cs
+pub columns_within : (least vars : ℕ) (cs : List ℕ) → AreRising least vars cs → vars ≤ MAX_VARIABLE → AreRising least MAX_VARIABLE cs
 columns_within least vars [] rise few = tt
 columns_within least vars (c ∷ cs) rise few = (rise.0, let h = rise.1 in omega arith, columns_within (c + 1) vars cs rise.2 few)
+
+lower_stays : (low high greatest : ℕ) (cs : List ℕ) → low ≤ high → AreRising high greatest cs → AreRising low greatest cs
+lower_stays low high greatest [] le rise = tt
+lower_stays low high greatest (c ∷ cs) le rise = (let h = rise.0 in omega arith, rise.1, rise.2)
+
+pub numbers_rise : (k greatest : ℕ) (marks : List Bool) → k + length marks ≤ greatest + 1 → AreRising k greatest (numbers_from k marks)
+numbers_rise k greatest [] le = tt
+numbers_rise k greatest (true ∷ marks) le = (omega arith, omega arith, numbers_rise (k + 1) greatest marks (omega arith))
+numbers_rise k greatest (false ∷ marks) le = lower_stays k (k + 1) greatest (numbers_from (k + 1) marks) (omega arith) (numbers_rise (k + 1) greatest marks (omega arith))
 
 pub rises-least : (least : ℕ) (cs : List ℕ) (k : ℕ) → Rises least cs → k < length cs → least ≤ get_or cs k 0
 rises-least least [] k rise lt = absurd (omega arith)
@@ -31,10 +40,10 @@ rises-least least (c ∷ cs) zero rise lt = rise.0
 rises-least least (c ∷ cs) (suc k) rise lt = let h = rises-least (c + 1) cs k rise.1 (omega arith) in let g = rise.0 in omega arith
 
 -- ---- the columns' numbers
-pub column-low : (least vars : ℕ) (columns : List ℕ) (k : ℕ) → AreColumns least vars columns → k < length columns → least ≤ get_or columns k 0
+pub column-low : (least vars : ℕ) (columns : List ℕ) (k : ℕ) → AreRising least vars columns → k < length columns → least ≤ get_or columns k 0
 column-low least vars columns k rise lt = rises-least least columns k (columns_rise least vars columns rise) lt
 
-pub column-high : (least vars : ℕ) (columns : List ℕ) (k : ℕ) → AreColumns least vars columns → k < length columns → get_or columns k 0 ≤ vars
+pub column-high : (least vars : ℕ) (columns : List ℕ) (k : ℕ) → AreRising least vars columns → k < length columns → get_or columns k 0 ≤ vars
 column-high least vars [] k rise lt = absurd (omega arith)
 column-high least vars (c ∷ cs) zero rise lt = rise.1
 column-high least vars (c ∷ cs) (suc k) rise lt = column-high (c + 1) vars cs k rise.2 (omega arith)
@@ -59,9 +68,7 @@ rises_lower low high [] le h = tt
 rises_lower low high (x ∷ xs) le h = (let g = h.0 in omega arith, h.1)
 
 pub numbers_are_rising : (k : ℕ) (bs : List Bool) → Rises k (numbers_from k bs)
-numbers_are_rising k [] = tt
-numbers_are_rising k (true ∷ bs) = (omega arith, numbers_are_rising (k + 1) bs)
-numbers_are_rising k (false ∷ bs) = rises_lower k (k + 1) (numbers_from (k + 1) bs) (omega arith) (numbers_are_rising (k + 1) bs)
+numbers_are_rising k bs = columns_rise k (k + length bs) (numbers_from k bs) (numbers_rise k (k + length bs) bs (omega arith))
 
 -- ---- the place of a variable
 pub place_found : (least : ℕ) (cs : List ℕ) (k : ℕ) → Rises least cs → k < length cs → place cs (get_or cs k 0) ≡ k
@@ -81,7 +88,7 @@ place_missing cs v i below above =
     ])
     (λ lt. absurd (omega arith))
 
-place-past : (least vars : ℕ) (cs : List ℕ) (v : ℕ) → AreColumns least vars cs → vars < v → place cs v ≡ length cs
+place-past : (least vars : ℕ) (cs : List ℕ) (v : ℕ) → AreRising least vars cs → vars < v → place cs v ≡ length cs
 place-past least vars [] v rise lt = refl
 place-past least vars (c ∷ cs) v rise lt =
     let high = rise.1 in
@@ -130,7 +137,7 @@ picked_more words cs k lt =
     ∙ picked-push 0 words (take k cs) (get_or cs k 0)
     ∙ ap (λ n. picked 0 words (take k cs) ++ cond (bit_of words n) (get_or cs k 0 ∷ []) []) long
 
-pub picked_rises : (k least vars : ℕ) (words cs : List ℕ) → AreColumns least vars cs → Rises least (picked k words cs)
+pub picked_rises : (k least vars : ℕ) (words cs : List ℕ) → AreRising least vars cs → Rises least (picked k words cs)
 picked_rises k least vars words [] rise = tt
 picked_rises k least vars words (c ∷ cs) rise = cases (bit_of words k) (picked_rises (k + 1) (c + 1) vars words cs rise.2)
   where
@@ -138,7 +145,7 @@ picked_rises k least vars words (c ∷ cs) rise = cases (bit_of words k) (picked
     cases true rest = (rise.0, rest)
     cases false rest = rises_lower least (c + 1) (picked (k + 1) words cs) (let g = rise.0 in omega arith) rest
 
-pub any_picked : (k least vars : ℕ) (words cs : List ℕ) (y : ℕ) → AreColumns least vars cs → bit_of words (k + length cs) ≡ false
+pub any_picked : (k least vars : ℕ) (words cs : List ℕ) (y : ℕ) → AreRising least vars cs → bit_of words (k + length cs) ≡ false
     → list_any (λ z. nat_eq z y) (picked k words cs) ≡ bit_of words (k + place cs y)
 any_picked k least vars words [] y rise none = let e : k + 0 ≡ k = omega arith in sym none
 any_picked k least vars words (c ∷ cs) y rise none =

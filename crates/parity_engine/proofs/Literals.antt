@@ -4,30 +4,30 @@ use Rattle.std.specs.List.{list_any}
 use Rattle.std.specs.FinSet as set
 use Rattle.std.proofs.lemmas.List.{map-append}
 use Rattle.std.proofs.lemmas.Bool.{cases_eq, eq-eqb, ne_eqb}
-use Rattle.cx_base.specs.Literals.{Literal, differ}
-use Rattle.cx_base.specs.Parity.{normal_form, occurs_odd}
+use Rattle.cx_base.specs.Literals.{Literal, differ, positive_of}
+use Rattle.cx_base.specs.Parity.{normal_form, occurs_odd, odd_sum}
 use Rattle.cx_base.proofs.ParityLaws.{contains-normal_form}
-use Rattle.gf2_rows.specs.Bits.{parity, bit_of}
+use Rattle.gf2_rows.specs.Bits.{bit_of}
 use Rattle.gf2_rows.proofs.Words.{parity-count, odd-suc}
 use Rattle.parity_engine.specs.Columns.{place}
 use Rattle.parity_engine.specs.Views.{IsView, viewed, viewed_form}
-use Rattle.parity_engine.specs.Written.{positive, literals_with, Rises, IsWritable, IsWritten, picked}
+use Rattle.parity_engine.specs.Written.{literals_with, Rises, IsWritable, IsWritten, picked}
 use Rattle.parity_engine.proofs.Forms.{same_from_one, contains-form_zero}
 use Rattle.parity_engine.proofs.Columns.{none_below, picked_rises, any_picked, contains_viewed}
 
 -- ---- normal forms as sums of bits
-pub occurs_parity : (lits : List Literal) (y : ℕ) → occurs_odd lits y ≡ parity (map (λ (l : Literal). eqb l.variable y) lits)
+pub occurs_parity : (lits : List Literal) (y : ℕ) → occurs_odd lits y ≡ odd_sum (map (λ (l : Literal). eqb l.variable y) lits)
 occurs_parity lits y = sym (parity-count (λ (l : Literal). eqb l.variable y) lits)
 
-pub contains_parity : (lits : List Literal) (y : ℕ) → set.contains (normal_form lits).variables y ≡ parity (map (λ (l : Literal). eqb l.variable y) lits)
+pub contains_parity : (lits : List Literal) (y : ℕ) → set.contains (normal_form lits).variables y ≡ odd_sum (map (λ (l : Literal). eqb l.variable y) lits)
 contains_parity lits y = contains-normal_form lits y ∙ occurs_parity lits y
 
-pub right_parity : (lits : List Literal) → (normal_form lits).right_side ≡ not (parity (map (λ (l : Literal). l.negative) lits))
+pub right_parity : (lits : List Literal) → (normal_form lits).right_side ≡ not (odd_sum (map (λ (l : Literal). l.negative) lits))
 unfolding normal_form
 right_parity lits = odd-suc (count_by (λ (l : Literal). l.negative) lits) ∙ ap not (sym (parity-count (λ (l : Literal). l.negative) lits))
 
 -- ---- written literals
-variables-positive : (vs : List ℕ) → map (λ (l : Literal). l.variable) (map positive vs) ≡ vs
+variables-positive : (vs : List ℕ) → map (λ (l : Literal). l.variable) (map positive_of vs) ≡ vs
 variables-positive [] = refl
 variables-positive (v ∷ vs) = ap (λ xs. v ∷ xs) (variables-positive vs)
 
@@ -36,23 +36,23 @@ variables_written right [] = refl
 variables_written true (v ∷ vs) = ap (λ xs. v ∷ xs) (variables-positive vs)
 variables_written false (v ∷ vs) = ap (λ xs. v ∷ xs) (variables-positive vs)
 
-negatives-positive : (vs : List ℕ) → parity (map (λ (l : Literal). l.negative) (map positive vs)) ≡ false
+negatives-positive : (vs : List ℕ) → odd_sum (map (λ (l : Literal). l.negative) (map positive_of vs)) ≡ false
 negatives-positive [] = refl
 negatives-positive (v ∷ vs) = negatives-positive vs
 
-negatives_written : (right : Bool) (v : ℕ) (vs : List ℕ) → parity (map (λ (l : Literal). l.negative) (literals_with right (v ∷ vs))) ≡ not right
+negatives_written : (right : Bool) (v : ℕ) (vs : List ℕ) → odd_sum (map (λ (l : Literal). l.negative) (literals_with right (v ∷ vs))) ≡ not right
 negatives_written true v vs = negatives-positive vs
 negatives_written false v vs = ap not (negatives-positive vs)
 
 pub written-push : (right : Bool) (vs : List ℕ) (v : ℕ)
     → literals_with right (vs ++ v ∷ []) ≡ literals_with right vs ++ record { variable = v; negative = not right && eqb (length (literals_with right vs)) 0 } ∷ []
 written-push true [] v = refl
-written-push true (x ∷ vs) v = ap (λ xs. positive x ∷ xs) (map-append positive vs (v ∷ []))
+written-push true (x ∷ vs) v = ap (λ xs. positive_of x ∷ xs) (map-append positive_of vs (v ∷ []))
 written-push false [] v = refl
 written-push false (x ∷ vs) v =
-    let later : eqb (suc (length (map positive vs))) 0 ≡ false = ne_eqb (suc (length (map positive vs))) 0 (λ e. omega arith) in
+    let later : eqb (suc (length (map positive_of vs))) 0 ≡ false = ne_eqb (suc (length (map positive_of vs))) 0 (λ e. omega arith) in
     ap (λ xs. record { variable = x; negative = true } ∷ xs)
-    (map-append positive vs (v ∷ []) ∙ ap (λ b. map positive vs ++ record { variable = v; negative = b } ∷ []) (sym later))
+    (map-append positive_of vs (v ∷ []) ∙ ap (λ b. map positive_of vs ++ record { variable = v; negative = b } ∷ []) (sym later))
 
 pub written_more : (right : Bool) (vs : List ℕ) (lits more : List Literal) (l : Literal) (v w n : ℕ) (b : Bool) → lits ≡ literals_with right vs → more ≡ lits ++ l ∷ []
     → l ≡ record { variable = w; negative = b } → w ≡ v → b ≡ (not right && eqb n 0) → n ≡ length lits → more ≡ literals_with right (vs ++ v ∷ [])
@@ -61,7 +61,7 @@ written_more right vs lits more l v w n b is pushed made at sign long =
     ∙ ap (λ ls. ls ++ record { variable = v; negative = not right && eqb (length ls) 0 } ∷ []) is ∙ sym (written-push right vs v)
 
 -- different variables: one is there an odd number of times where it is there
-occurs-rising : (least : ℕ) (vs : List ℕ) (y : ℕ) → Rises least vs → parity (map (λ v. eqb v y) vs) ≡ list_any (λ z. nat_eq z y) vs
+occurs-rising : (least : ℕ) (vs : List ℕ) (y : ℕ) → Rises least vs → odd_sum (map (λ v. eqb v y) vs) ≡ list_any (λ z. nat_eq z y) vs
 occurs-rising least [] y rise = refl
 occurs-rising least (v ∷ vs) y rise =
     elim (cases_eq v y) [
@@ -72,14 +72,14 @@ occurs-rising least (v ∷ vs) y rise =
           (λ i. differ (ne_eqb v y ne i) (occurs-rising (v + 1) vs y rise.1 i)) ∙ sym (ap (λ b. b || list_any (λ z. nat_eq z y) vs) (ne_eqb v y ne))
     ]
 
-through-variables : (lits : List Literal) (y : ℕ) → parity (map (λ (l : Literal). eqb l.variable y) lits) ≡ parity (map (λ v. eqb v y) (map (λ (l : Literal). l.variable) lits))
+through-variables : (lits : List Literal) (y : ℕ) → odd_sum (map (λ (l : Literal). eqb l.variable y) lits) ≡ odd_sum (map (λ v. eqb v y) (map (λ (l : Literal). l.variable) lits))
 through-variables [] y = refl
 through-variables (l ∷ lits) y = ap (differ (eqb l.variable y)) (through-variables lits y)
 
 contains_written : (right : Bool) (vs : List ℕ) (y : ℕ) → Rises 1 vs → set.contains (normal_form (literals_with right vs)).variables y ≡ list_any (λ z. nat_eq z y) vs
 contains_written right vs y rise =
     contains_parity (literals_with right vs) y ∙ through-variables (literals_with right vs) y
-    ∙ ap (λ xs. parity (map (λ v. eqb v y) xs)) (variables_written right vs) ∙ occurs-rising 1 vs y rise
+    ∙ ap (λ xs. odd_sum (map (λ v. eqb v y) xs)) (variables_written right vs) ∙ occurs-rising 1 vs y rise
 
 right_written : (right : Bool) (vs : List ℕ) → ((y : ℕ) × (list_any (λ z. nat_eq z y) vs ≡ true)) ⊎ (right ≡ true) → (normal_form (literals_with right vs)).right_side ≡ right
 right_written true [] some = right_parity []

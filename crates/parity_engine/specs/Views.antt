@@ -5,7 +5,8 @@ use Rattle.cx_base.specs.declared.literal.TheConstants.{MAX_VARIABLE}
 use Rattle.cx_base.specs.Parity.{NormalForm}
 use Rattle.gf2_rows.specs.Bits.{bit_of}
 use Rattle.parity_engine.specs.Equations.{Equation, form_of}
-use Rattle.parity_engine.specs.Columns.{AreColumns, place}
+use Rattle.parity_engine.specs.Columns.{place}
+use Rattle.parity_engine.specs.Written.{AreRising}
 
 -- the words that hold so many bits
 abbrev pub words_for : ℕ → ℕ
@@ -25,6 +26,6 @@ viewed_form vars columns words right = form_of (viewed vars columns words right)
 -- the words have a bit for each column, and none past them
 pub record IsView (vars : ℕ) (columns words : List ℕ) : Type 0 where
   pub few : vars ≤ MAX_VARIABLE
-  pub rise : AreColumns 1 vars columns
+  pub rise : AreRising 1 vars columns
   pub long : length words ≡ words_for (length columns)
   pub padded : (k : ℕ) → length columns ≤ k → bit_of words k ≡ false

@@ -2,9 +2,9 @@
 ghost use Rattle.std.specs.Prelude.{◌≡◌, ℕ, ◌≤◌, ◌*◌, ◌&&◌, length, IfOk, List, not, eqb};
 ghost use Rattle.std.specs.FinSet as set;
 ghost use Rattle.cx_base.specs.declared.literal.TheConstants.{MAX_VARIABLE};
-ghost use Rattle.parity_engine.specs.Columns.{AreColumns, place};
+ghost use Rattle.parity_engine.specs.Columns.{place};
 ghost use Rattle.parity_engine.specs.Views.{IsView, viewed_form};
-ghost use Rattle.parity_engine.specs.Written.{IsWritten, IsWritable, Rises, literals_with, picked};
+ghost use Rattle.parity_engine.specs.Written.{IsWritten, IsWritable, Rises, literals_with, picked, AreRising};
 
 use cx_base::{Lit, LitList, Var};
 use std::alloc::{AllocError, Global};
@@ -22,8 +22,7 @@ pub struct RowView<'a> {
 }
 
 impl<'a> Model for RowView<'a> {
-    ghost use Rattle.cx_base.specs.Parity.{NormalForm};
-    ghost use Rattle.parity_engine.specs.Equations.{form_code};
+    ghost use Rattle.cx_base.specs.Parity.{NormalForm, form_code};
 
     ghost Value = { NormalForm };
 
@@ -88,7 +87,7 @@ pub fn place_of(columns: &[u32], number: u32) -> usize
 
 /// The literals of the columns that the words have, with the signs of the right side.
 fn write(alloc: Global, columns: &[u32], words: &[u64], right: bool) -> Result<LitList, AllocError>
-    requires rise { AreColumns 1 MAX_VARIABLE columns.now }
+    requires rise { AreRising 1 MAX_VARIABLE columns.now }
     requires room { length columns.now ≤ 64 * length words.now }
     ensures { IfOk result (λ p. p ≡ literals_with right (picked 0 words.now columns.now)) }
 {

@@ -3,13 +3,12 @@ use Rattle.std.proofs.Common.{◌≡◌, refl, sym, ap, ◌∙◌, ℤ, nat_abs,
 use Rattle.std.specs.List.{cons_option}
 use Rattle.cx_base.specs.Literals.{Literal}
 use Rattle.cx_semantics.specs.declared.steps.Cause.TheVariants as causes
-use Rattle.cx_semantics.specs.Chain.{negations, left, one, count_left, right, not_unit, hints_end, go_on, chain}
+use Rattle.cx_semantics.specs.Chain.{negations, left, one, count_left, right, not_unit, hints_end, go_on, chain, HaveSame}
 use Rattle.cx_semantics.specs.Judging.{AllHold, FirstFailure}
 use Rattle.cx_semantics.specs.ProofRules.{is_not_unit, is_hints_end, chaining}
 use Rattle.cx_semantics.specs.Tables.{Table, get}
 use Rattle.cx_semantics.proofs.SameSets.{AllSame, chain_same}
 use Rattle.proof_rules.specs.Kinds.{hinted}
-use Rattle.proof_rules.specs.LiteralSets.{HaveSame}
 
 all_same : (clauses : List (List Literal)) → AllSame clauses clauses
 all_same [] = tt

@@ -2,16 +2,16 @@
 use Rattle.std.proofs.Common.{◌≡◌, ◌≢◌, refl, sym, ap, ◌∙◌, subst, ℕ, ◌+◌, ◌≤◌, Bool, true, false, cond, not, ◌&&◌, ◌||◌, nat_eq, eqb-true, eq-eqb, List, [], ◌∷◌, map, Option, Some, None, option_map, arith, ◌⊎◌, inl, inr, true≢false}
 use Rattle.std.specs.List.{list_any}
 use mathlib.Core.Bool.{beq}
-use Rattle.std.proofs.lemmas.Bool.{or_cases}
-use Rattle.cx_base.specs.Literals.{Literal, differ, negate, same_literal, literal_true, value_of}
+use Rattle.std.proofs.lemmas.Bool.{or_cases, or_right}
+use Rattle.cx_base.specs.Literals.{Literal, differ, negate, same_literal, literal_true, value_of, positive_of, negative_of}
 use Rattle.cx_base.specs.Problem.{clause_met, parity_met}
-use Rattle.cx_base.specs.Parity.{normal_form}
+use Rattle.cx_base.specs.Parity.{normal_form, odd_sum}
 use Rattle.cx_base.proofs.Differences.{not_differ-same, same-not_differ}
-use Rattle.cx_semantics.specs.Chain.{has_literal}
+use Rattle.cx_semantics.specs.Chain.{has_literal, HaveSame}
 use Rattle.cx_semantics.proofs.ChainLaws.{are_one, literal_true-negate}
 use Rattle.cx_semantics.proofs.Members.{has_at_head, has_behind}
-use Rattle.proof_rules.specs.LiteralSets.{HaveSame, ArePositive}
-use Rattle.proof_rules.specs.Assignments.{Lists, odd_sum, positive_of, negative_of, has_opposites, forced_sum, Decided}
+use Rattle.proof_rules.specs.LiteralSets.{ArePositive}
+use Rattle.proof_rules.specs.Assignments.{Lists, has_opposites, forced_sum, Decided}
 use Rattle.proof_rules.proofs.ParityValues.{values_by, value_of-values_by, values-values_by, AreWithin, top, within_top, parity_met-list, flip_at, odd_sum-flipped}
 
 -- ---- literals of a clause

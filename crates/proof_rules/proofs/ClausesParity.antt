@@ -8,15 +8,15 @@ use Rattle.std.proofs.Math.Pow.{pow_mono}
 use Rattle.std.proofs.lemmas.Bool.{or_cases, or_parts, and_parts, and_from}
 use Rattle.cx_base.specs.Literals.{Literal, differ, value_of}
 use Rattle.cx_base.specs.Problem.{clause_met, parity_met}
-use Rattle.cx_base.specs.Parity.{normal_form}
+use Rattle.cx_base.specs.Parity.{normal_form, odd_sum}
 use Rattle.cx_semantics.specs.Implied.{Implies, HasCounterexample}
 use Rattle.cx_semantics.specs.ProofRules.{all_met, parity_of_clauses}
 use Rattle.cx_semantics.specs.Judging.{AllHold, FirstFailure}
 use Rattle.cx_semantics.specs.declared.steps.Cause.TheVariants as causes
 use Rattle.cx_semantics.specs.Tables.{Table, get, named}
-use Rattle.proof_rules.specs.Assignments.{Lists, odd_sum}
-use Rattle.proof_rules.specs.LiteralSets.{HaveSame}
-use Rattle.proof_rules.specs.Exclusions.{Fits, excluded, is_hit, all_excluded, Excludes, is_outside}
+use Rattle.proof_rules.specs.Assignments.{Lists}
+use Rattle.cx_semantics.specs.Chain.{HaveSame}
+use Rattle.proof_rules.specs.Exclusions.{HasPlaces, excluded, is_hit, all_excluded, Excludes, is_outside}
 use Rattle.proof_rules.proofs.ParityValues.{values_by, values-values_by, top, within_top, parity_met-list}
 use Rattle.proof_rules.proofs.ExclusionLaws.{get_or-excluded, is_hit-same, place_of, place_of-below, ForEach, for_each-map, falsified, is_hit-place, falsified-unmet, not_falsified-met, inside_by_set, marked_by_all, escape, assigned, map-assigned}
 use Rattle.proof_rules.proofs.LiteralLaws.{or_swap}
@@ -84,7 +84,7 @@ module _ (target : List Literal) (clauses : List (List Literal)) (xs : List ℕ)
 
 -- ---- the table's length
 
-fits_power : (xs : List ℕ) (step n : ℕ) → step * 2 ^ length xs ≤ n → Fits xs step n
+fits_power : (xs : List ℕ) (step n : ℕ) → step * 2 ^ length xs ≤ n → HasPlaces xs step n
 fits_power [] step n h = let k : step * 2 ^ 0 ≡ step = omega arith in omega arith
 fits_power (x ∷ xs) step n h =
     let double : 2 ^ suc (length xs) ≡ 2 * 2 ^ length xs = pow-succ' 2 (length xs) in
@@ -102,7 +102,7 @@ small_power n h =
     one_times : (m : ℕ) → 1 * m ≡ m
     one_times m = omega arith
 
-pub reach_of_power : (xs : List ℕ) (n : ℕ) → n ≡ 2 ^ length xs → Fits xs 1 n
+pub reach_of_power : (xs : List ℕ) (n : ℕ) → n ≡ 2 ^ length xs → HasPlaces xs 1 n
 reach_of_power xs n h = fits_power xs 1 n (omega arith)
 
 -- ---- one hint at a time
@@ -121,7 +121,7 @@ pub one_more : (set clause : List Literal) → HaveSame set clause → (xs : Lis
     → (get_or new j false || rest) ≡ (get_or old j false || (is_hit clause xs 0 1 j || rest))
 one_more set clause same xs j old new rest e h =
     ap (λ t. get_or t j false || rest) e ∙ ap (λ b. b || rest) (get_or-excluded set xs 0 1 old j h ∙ ap (λ b. b || get_or old j false) (is_hit-same set clause same xs 0 1 j))
-    ∙ or_swap (is_hit clause xs 0 1 j) (get_or old j false) rest
+    ∙ or_swap (get_or old j false) (is_hit clause xs 0 1 j) rest
 
 -- ---- the rules in order
 

@@ -12,11 +12,10 @@ use Rattle.cx_base.specs.Codes.{code_of-literal_of_code, literal_of_code-code_of
 use Rattle.cx_base.specs.Parity.{NormalForm, normal_form}
 use Rattle.cx_base.proofs.Differences.{same_members}
 use Rattle.cx_base.specs.contracts.literal.LitOrd.TheImpl.{cmp-value}
-use Rattle.cx_semantics.specs.Chain.{has_literal, is_inside, same_literals}
+use Rattle.cx_semantics.specs.Chain.{has_literal, is_inside, same_literals, HaveSame}
 use Rattle.cx_semantics.proofs.ChainLaws.{same_literal-itself}
-use Rattle.cx_semantics.proofs.SameSets.{Same-by_test}
+use Rattle.cx_semantics.proofs.SameSets.{HaveSame-by_test}
 use Rattle.cx_semantics.proofs.SameSets.{inside_by}
-use Rattle.proof_rules.specs.LiteralSets.{HaveSame}
 use Rattle.proof_rules.specs.Contents.{RisesOver, IsClauseContent, IsFormContent, IsParityContent}
 use Rattle.proof_rules.proofs.LiteralLaws.{same_code}
 use Rattle.proof_rules.proofs.SumLaws.{has_key}
@@ -72,7 +71,7 @@ same_by_content a b q g h =
     and_from (is_inside a b) (is_inside b a) (inside_by a b (λ l k. sym (same l) ∙ k)) (inside_by b a (λ l k. same l ∙ k))
 
 pub content_of_same : (a b : List Literal) (q : List ℕ) → same_literals a b ≡ true → IsClauseContent a q → IsClauseContent b q
-content_of_same a b q h g = record { same = g.same ∙ codes_of_same a b (Same-by_test a b h); rising = g.rising }
+content_of_same a b q h g = record { same = g.same ∙ codes_of_same a b (HaveSame-by_test a b h); rising = g.rising }
 
 -- ---- parities
 

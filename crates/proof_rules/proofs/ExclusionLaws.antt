@@ -8,15 +8,15 @@ use Rattle.std.proofs.Math.ListN.{length-set}
 use Rattle.std.proofs.lemmas.List.{get_or-set_other}
 use Rattle.std.proofs.lemmas.Grind.{get_or-set_at}
 use Rattle.std.proofs.lemmas.Bool.{or_cases, false_from_ne_true, not-true, and_parts}
-use Rattle.std.proofs.lemmas.List.Folds.{or-false}
-use Rattle.cx_base.specs.Literals.{Literal, differ, same_literal, literal_true, value_of}
+use Rattle.std.proofs.Math.Bool.{and-false, or-false}
+use Rattle.cx_base.specs.Literals.{Literal, differ, same_literal, literal_true, value_of, positive_of, negative_of}
 use Rattle.cx_base.specs.Problem.{clause_met}
 use Rattle.cx_base.proofs.Differences.{own_sign}
-use Rattle.cx_semantics.specs.Chain.{has_literal}
+use Rattle.cx_semantics.specs.Chain.{has_literal, HaveSame}
 use Rattle.cx_semantics.proofs.ChainLaws.{are_one}
-use Rattle.proof_rules.specs.LiteralSets.{HaveSame}
-use Rattle.proof_rules.specs.Assignments.{AreDistinct, odd_sum, positive_of, negative_of}
-use Rattle.proof_rules.specs.Exclusions.{Fits, excluded, is_hit, all_excluded, is_outside}
+use Rattle.cx_base.specs.Parity.{odd_sum}
+use Rattle.proof_rules.specs.Assignments.{AreDistinct}
+use Rattle.proof_rules.specs.Exclusions.{HasPlaces, excluded, is_hit, all_excluded, is_outside}
 use Rattle.proof_rules.proofs.ClauseValues.{met_by, unmet_by}
 
 -- ---- what a clause marks
@@ -116,7 +116,7 @@ place_of-steps [] place step = (0, omega arith)
 place_of-steps (true ∷ bits) place step = steps-high place step _ (place_of-steps bits (place + step) (2 * step))
 place_of-steps (false ∷ bits) place step = steps-low place step _ (place_of-steps bits place (2 * step))
 
-pub place_of-below : (xs : List ℕ) (bits : List Bool) (place step n : ℕ) → ForEach xs bits → Fits xs step n → place < step → place_of place step bits < n
+pub place_of-below : (xs : List ℕ) (bits : List Bool) (place step n : ℕ) → ForEach xs bits → HasPlaces xs step n → place < step → place_of place step bits < n
 place_of-below [] [] place step n e f h = omega arith
 place_of-below [] (b ∷ bits) place step n e f h = absurd e
 place_of-below (x ∷ xs) [] place step n e f h = absurd e
@@ -150,10 +150,6 @@ falsified clause [] bits = true
 falsified clause (x ∷ xs) [] = true
 falsified clause (x ∷ xs) (b ∷ bits) = not (has_literal clause (record { variable = x; negative = not b })) && falsified clause xs bits
 
-and_false : (a : Bool) → (a && false) ≡ false
-and_false true = refl
-and_false false = refl
-
 pub is_hit-place : (clause : List Literal) (xs : List ℕ) (bits : List Bool) (place step : ℕ) → ForEach xs bits → place < step → is_hit clause xs place step (place_of place step bits) ≡ falsified clause xs bits
 is_hit-place clause [] [] place step e h = eq-eqb place place refl
 is_hit-place clause [] (b ∷ bits) place step e h = absurd e
@@ -162,12 +158,12 @@ is_hit-place clause (x ∷ xs) (false ∷ bits) place step e h =
     let j = place_of place (2 * step) bits in
     let apart : is_hit clause xs (place + step) (2 * step) j ≡ false = false_from_ne_true _ (λ k. halves_apart place step j h (place_of-steps bits place (2 * step)) (hit-steps clause xs (place + step) (2 * step) j k)) in
     (λ i. (not (has_literal clause (negative_of x)) && is_hit-place clause xs bits place (2 * step) e (omega arith) i) || (not (has_literal clause (positive_of x)) && apart i))
-    ∙ ap (λ b. (not (has_literal clause (negative_of x)) && falsified clause xs bits) || b) (and_false (not (has_literal clause (positive_of x)))) ∙ or-false _
+    ∙ ap (λ b. (not (has_literal clause (negative_of x)) && falsified clause xs bits) || b) (and-false (not (has_literal clause (positive_of x)))) ∙ or-false _
 is_hit-place clause (x ∷ xs) (true ∷ bits) place step e h =
     let j = place_of (place + step) (2 * step) bits in
     let apart : is_hit clause xs place (2 * step) j ≡ false = false_from_ne_true _ (λ k. halves_apart place step j h (hit-steps clause xs place (2 * step) j k) (place_of-steps bits (place + step) (2 * step))) in
     (λ i. (not (has_literal clause (negative_of x)) && apart i) || (not (has_literal clause (positive_of x)) && is_hit-place clause xs bits (place + step) (2 * step) e (omega arith) i))
-    ∙ ap (λ b. b || (not (has_literal clause (positive_of x)) && falsified clause xs bits)) (and_false (not (has_literal clause (negative_of x))))
+    ∙ ap (λ b. b || (not (has_literal clause (positive_of x)) && falsified clause xs bits)) (and-false (not (has_literal clause (negative_of x))))
 
 -- ---- a clause under values
 

@@ -39,7 +39,7 @@ has-inserted old new lit q h =
     chosen true b = refl
     chosen false b = refl
 
-or_swap : (a b c : Bool) → ((b || a) || c) ≡ (a || (b || c))
+pub or_swap : (a b c : Bool) → ((b || a) || c) ≡ (a || (b || c))
 or_swap true true c = refl
 or_swap true false c = refl
 or_swap false true c = refl

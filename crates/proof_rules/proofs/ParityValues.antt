@@ -6,12 +6,12 @@ use Rattle.std.specs.Cmp.{both_ways}
 use Rattle.std.specs.FinSet as set
 use Rattle.cx_base.specs.Literals.{Literal, differ, value_of}
 use Rattle.cx_base.specs.Problem.{parity_met}
-use Rattle.cx_base.specs.Parity.{normal_form}
+use Rattle.cx_base.specs.Parity.{normal_form, odd_sum}
 use Rattle.cx_base.proofs.ParityLaws.{sum_below, sum_below-differ, sum_below-one, differ_and, sum_of_members, no_members, Sums-from_met, met-from_Sums}
 use Rattle.cx_base.proofs.Differences.{differ_assoc, not_differ-same, same-not_differ, differ_move}
 use Rattle.cx_semantics.proofs.RecoveredLaws.{or_apart}
 use Rattle.cx_semantics.proofs.Soundness.{roof, below_roof}
-use Rattle.proof_rules.specs.Assignments.{AreDistinct, Lists, odd_sum}
+use Rattle.proof_rules.specs.Assignments.{AreDistinct, Lists}
 
 -- ---- values by a function
 

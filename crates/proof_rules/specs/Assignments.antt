@@ -3,7 +3,7 @@ use Rattle.std.specs.Prelude.{◌≡◌, ◌≤◌, ℕ, Bool, true, false, not,
 use Rattle.std.specs.List.{list_any, AllByRecursion}
 use Rattle.std.specs.Ordering.{nat_cmp}
 use Rattle.std.specs.FinSet as set
-use Rattle.cx_base.specs.Literals.{Literal, differ, negate}
+use Rattle.cx_base.specs.Literals.{Literal, differ, negate, positive_of, negative_of}
 use Rattle.cx_semantics.specs.Chain.{has_literal}
 use Rattle.cx_semantics.specs.Implied.{Implies, HasCounterexample}
 
@@ -17,17 +17,6 @@ pub record Lists (variables : set.FinSet nat_cmp) (xs : List ℕ) : Type 0 where
   pub same : set.from_list xs ≡ variables
   pub once : AreDistinct xs
   pub positive : AllByRecursion (λ x. 1 ≤ x) xs
-
--- the sum modulo two
-abbrev pub odd_sum : List Bool → Bool
-odd_sum [] = false
-odd_sum (b ∷ bits) = differ b (odd_sum bits)
-
-abbrev pub positive_of : ℕ → Literal
-positive_of x = record { variable = x; negative = false }
-
-abbrev pub negative_of : ℕ → Literal
-negative_of x = record { variable = x; negative = true }
 
 -- a literal of the list has its negation there
 abbrev pub has_opposites : List Literal → List Literal → Bool

@@ -4,14 +4,13 @@ use Rattle.std.specs.Prelude.{◌≡◌, ℕ, ◌+◌, ◌*◌, ◌<◌, ◌≤�
 use Rattle.std.specs.List.{list_any}
 use Rattle.std.specs.FinSet as set
 use Rattle.std.specs.Ordering.{nat_cmp}
-use Rattle.cx_base.specs.Literals.{Literal}
+use Rattle.cx_base.specs.Literals.{Literal, positive_of, negative_of}
 use Rattle.cx_semantics.specs.Chain.{has_literal}
-use Rattle.proof_rules.specs.Assignments.{positive_of, negative_of}
 
 -- a table of n places has the places of all assignments
-abbrev pub Fits : List ℕ → ℕ → ℕ → Type 0
-Fits [] step n = step ≤ n
-Fits (x ∷ xs) step n = (2 * step ≤ n) × Fits xs (2 * step) n
+abbrev pub HasPlaces : List ℕ → ℕ → ℕ → Type 0
+HasPlaces [] step n = step ≤ n
+HasPlaces (x ∷ xs) step n = (2 * step ≤ n) × HasPlaces xs (2 * step) n
 
 -- the places of the assignments under which the clause is not met are marked
 abbrev pub excluded : List Literal → List ℕ → ℕ → ℕ → List Bool → List Bool
@@ -33,7 +32,7 @@ all_excluded (x ∷ xs) place step wrong table = all_excluded xs place (2 * step
 
 -- the table marks just what some clause excludes
 pub record Excludes (variables : List ℕ) (clauses : List (List Literal)) (table : List Bool) : Type 0 where
-  pub reach : Fits variables 1 (length table)
+  pub reach : HasPlaces variables 1 (length table)
   pub marked : (j : ℕ) → j < length table → get_or table j false ≡ list_any (λ clause. is_hit clause variables 0 1 j) clauses
 
 -- a literal's variable is not in the set

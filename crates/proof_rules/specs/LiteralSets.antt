@@ -4,10 +4,6 @@ use Rattle.std.specs.List.{AllByRecursion}
 use Rattle.cx_base.specs.Literals.{Literal}
 use Rattle.cx_semantics.specs.Chain.{has_literal}
 
--- the two lists have the same literals
-abbrev pub HaveSame : List Literal → List Literal → Type 0
-HaveSame a b = (l : Literal) → has_literal a l ≡ has_literal b l
-
 -- no literal has the variable 0
 abbrev pub ArePositive : List Literal → Type 0
 ArePositive lits = AllByRecursion (λ l. 1 ≤ l.variable) lits

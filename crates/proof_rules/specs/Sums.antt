@@ -6,11 +6,6 @@ use Rattle.std.specs.Ordering.{nat_cmp}
 use Rattle.cx_base.specs.Literals.{Literal, differ}
 use Rattle.cx_base.specs.Parity.{NormalForm, normal_form, symmetric_difference, sum_of}
 
--- normal forms as stored values
-abbrev pub form_code : Coded NormalForm
-form_code =
-    code_by (set.FinSet nat_cmp × Bool) (coded× (set.code coded_ℕ) coded_bool) (λ p. (p.variables, p.right_side)) (λ p. record { variables = p.0; right_side = p.1 }) (λ _. refl)
-
 abbrev pub zero_sum : NormalForm
 zero_sum = record { variables = set.empty; right_side = false }
 

@@ -3,7 +3,7 @@ ghost use Rattle.std.specs.Prelude.{◌≡◌, ◌<◌, ◌≤◌, length, IfOk}
 ghost use Rattle.std.specs.List.{list_any};
 ghost use Rattle.cx_semantics.specs.ProofRules.{parity_of_clauses};
 ghost use Rattle.cx_semantics.specs.Tables.{named};
-ghost use Rattle.proof_rules.specs.Exclusions.{Fits, excluded, all_excluded, Excludes, is_outside};
+ghost use Rattle.proof_rules.specs.Exclusions.{HasPlaces, excluded, all_excluded, Excludes, is_outside};
 ghost use Rattle.proof_rules.specs.Judges.{JudgesBy};
 
 use crate::JudgeRefusal;
@@ -43,7 +43,7 @@ fn any_outside(sum: &ParitySum, live: &Live, ids: &[u64]) -> bool
 /// `place` is that of the assignment where all of them are false, and `step` how far the first of them moves it.
 fn exclude(table: &mut [bool], variables: &[Var], clause: &LiteralSet, place: usize, step: usize)
     requires place { place < step }
-    requires fits { Fits variables.now step (length table.old) }
+    requires fits { HasPlaces variables.now step (length table.old) }
     ensures { table.new ≡ excluded clause.now variables.now place step table.old }
 {
     match variables {
@@ -82,7 +82,7 @@ fn exclusions(
 /// Whether each assignment is excluded under which the sum of the variables is wrong.
 fn all_excluded(table: &[bool], variables: &[Var], place: usize, step: usize, wrong: bool) -> bool
     requires place { place < step }
-    requires fits { Fits variables.now step (length table.now) }
+    requires fits { HasPlaces variables.now step (length table.now) }
     ensures { result ≡ all_excluded variables.now place step wrong table.now }
 {
     match variables {

@@ -1,11 +1,11 @@
 //! Sets of literals.
 ghost use Rattle.std.specs.Prelude.{◌≡◌, [], ◌∷◌, OnOk, IfOk};
-ghost use Rattle.cx_semantics.specs.Chain.{has_literal, negations};
+ghost use Rattle.cx_semantics.specs.Chain.{has_literal, negations, HaveSame};
 ghost use Rattle.std.specs.Prelude.{map};
 ghost use Rattle.std.specs.List.Sorted.{IsStrictlySortedBy};
 ghost use Rattle.std.specs.Ordering.{nat_cmp};
 ghost use Rattle.cx_base.specs.Literals.{code_of};
-ghost use Rattle.proof_rules.specs.LiteralSets.{HaveSame, ArePositive};
+ghost use Rattle.proof_rules.specs.LiteralSets.{ArePositive};
 
 use cx_base::Lit;
 use std::alloc::{AllocError, Global};

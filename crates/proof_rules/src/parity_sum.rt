@@ -22,9 +22,8 @@ pub(crate) struct ParitySum {
 
 impl Model for ParitySum {
     ghost use Rattle.std.specs.FinSet as set;
-    ghost use Rattle.cx_base.specs.Parity.{NormalForm};
+    ghost use Rattle.cx_base.specs.Parity.{NormalForm, form_code};
     ghost use Rattle.proof_rules.specs.Contents.{IsFormContent};
-    ghost use Rattle.proof_rules.specs.Sums.{form_code};
 
     ghost Value = { NormalForm };
 

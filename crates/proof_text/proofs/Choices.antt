@@ -10,7 +10,7 @@ use Rattle.proof_text.specs.declared.source.TextRefusal.{TextRefusal}
 use Rattle.proof_text.specs.declared.source.TextRefusal.TheVariants.{BadToken, Unterminated, TooBig, TooLong, Memory, Failed}
 use Rattle.proof_text.specs.Seen.{limit}
 use Rattle.proof_text.specs.Heads.{is_letter, is_head_letter}
-use Rattle.proof_text.specs.Taking.{Takes, IsOpen, BadIn, BigIn, RefusedIn}
+use Rattle.proof_text.specs.Taking.{Takes, MayGoOn, BadIn, BigIn, RefusedIn}
 use Rattle.proof_text.proofs.TakingLaws.{Refuses, none_after}
 
 -- ---- letters
@@ -56,14 +56,14 @@ same_behind : (row : List Kind) (more : List (List Kind)) (p : Placed) (front : 
     → remaining (row ∷ []) (words (p ∷ front)) ≡ remaining (row ∷ more) (words (p ∷ front))
 same_behind row more p front h = ap (λ rows. remaining (after_word p.word row ++ rows) (words front)) (sym (none_after p.word more h))
 
-wider : (row : List Kind) (more : List (List Kind)) → IsOpen (row ∷ []) → IsOpen (row ∷ more)
+wider : (row : List Kind) (more : List (List Kind)) → MayGoOn (row ∷ []) → MayGoOn (row ∷ more)
 wider [] more h = h
 wider (k ∷ ks) more h = tt
 
 bad_beside : (row : List Kind) (more : List (List Kind)) (a : List Placed) (place : ℕ) → AllRefuse more a → (front : List Placed) (h : BadIn (row ∷ []) a place) → h.front ≡ front → BadIn (row ∷ more) a place
 bad_beside row more a place others [] h e =
     let s : a ≡ h.bad ∷ h.rest = h.split ∙ ap (λ x. x ++ h.bad ∷ h.rest) e in
-    let u : IsOpen (row ∷ []) = subst (λ x. IsOpen (remaining (row ∷ []) (words x))) e h.unfinished in
+    let u : MayGoOn (row ∷ []) = subst (λ x. MayGoOn (remaining (row ∷ []) (words x))) e h.unfinished in
     let f : after_word h.bad.word row ++ [] ≡ [] = ap (λ x. flat_map (after_word h.bad.word) (remaining (row ∷ []) (words x))) (sym e) ∙ h.fits_not in
     record {
       front = [];
@@ -84,7 +84,7 @@ bad_beside row more a place others (p ∷ front) h e =
       rest = h.rest;
       split = h.split;
       at = h.at;
-      unfinished = subst IsOpen k h.unfinished;
+      unfinished = subst MayGoOn k h.unfinished;
       within = h.within;
       fits_not = ap (flat_map (after_word h.bad.word)) (sym k) ∙ h.fits_not;
     }
@@ -117,9 +117,9 @@ big_beside row more a place others (p ∷ front) h e =
       above = h.above;
     }
 
-open_beside : (row : List Kind) (more : List (List Kind)) (a : List Placed) → AllRefuse more a → IsOpen (remaining (row ∷ []) (words a)) → IsOpen (remaining (row ∷ more) (words a))
+open_beside : (row : List Kind) (more : List (List Kind)) (a : List Placed) → AllRefuse more a → MayGoOn (remaining (row ∷ []) (words a)) → MayGoOn (remaining (row ∷ more) (words a))
 open_beside row more [] others h = wider row more h
-open_beside row more (p ∷ a) others h = subst IsOpen (same_behind row more p a (others p a refl)) h
+open_beside row more (p ∷ a) others h = subst MayGoOn (same_behind row more p a (others p a refl)) h
 
 pub refused_beside : (row : List Kind) (more : List (List Kind)) (size : ℕ) (r : TextRefusal) (a : List Placed) → AllRefuse more a → RefusedIn (row ∷ []) size r a → RefusedIn (row ∷ more) size r a
 refused_beside row more size (BadToken place) a others h = bad_beside row more a place others h.front h refl

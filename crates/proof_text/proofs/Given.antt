@@ -3,7 +3,7 @@ use Rattle.std.proofs.Common.{sym, subst, List, [], ◌∷◌, Option, Some, Non
 use Rattle.std.specs.List.{AllByRecursion}
 use Rattle.cx_semantics.specs.declared.steps.ProofStep.{ProofStep}
 use Rattle.cx_semantics.specs.Words.{Placed, words, IsWithin}
-use Rattle.cx_semantics.specs.Grammar.{Grammar, spelling, IsProper, AreWithin, Spells, Ending}
+use Rattle.cx_semantics.specs.Grammar.{Grammar, spelling, IsProper, AreInLimit, Spells, Ending}
 use Rattle.cx_semantics.specs.ProofText.{proof_steps}
 use Rattle.cx_semantics.specs.Printed.{HasProofText}
 use Rattle.cx_semantics.proofs.Forms.{Forms}
@@ -18,7 +18,7 @@ module _ {S : Type 0} (g : Grammar S) where
   abbrev pub IsPrintable : S → Type 0
   IsPrintable s = AllByRecursion IsProper (g.fields s) × AllByRecursion (IsWithin g.limit) (spelling g s)
 
-  words_within : (placed : List Placed) → AreWithin g placed → AllByRecursion (IsWithin g.limit) (words placed)
+  words_within : (placed : List Placed) → AreInLimit g placed → AllByRecursion (IsWithin g.limit) (words placed)
   words_within [] h = tt
   words_within (p ∷ placed) h = (h.0, words_within placed h.1)
 

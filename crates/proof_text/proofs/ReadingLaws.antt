@@ -3,15 +3,15 @@ use Rattle.std.proofs.Common.{◌≡◌, ◌≢◌, refl, sym, ap, ◌∙◌, su
 use Rattle.std.specs.List.{AllByRecursion}
 use Rattle.cx_semantics.specs.Tokens.{Token}
 use Rattle.cx_semantics.specs.Words.{Word, number, letter, conflict, Placed, words, placed_words, IsWithin}
-use Rattle.cx_semantics.specs.Grammar.{Grammar, mark, IsStep, Begins, IsUnfinished, Stops, AreWithin, Spells}
+use Rattle.cx_semantics.specs.Grammar.{Grammar, mark, IsStep, Begins, IsUnfinished, Stops, AreInLimit, Spells}
 use Rattle.cx_semantics.proofs.Shapes.{Kind, a_mark, a_conflict, an_id, an_integer, an_end, some_ids, some_integers, closes, refuses, move}
 use Rattle.cx_semantics.proofs.Forms.{Forms}
 use Rattle.cx_semantics.proofs.Remaining.{after_word, remaining, remaining-push, rows_of, begins_where, begins_nowhere}
 use Rattle.proof_text.specs.declared.source.TextRefusal.{TextRefusal}
 use Rattle.proof_text.specs.declared.source.TextRefusal.TheVariants.{BadToken, Unterminated, TooBig, TooLong, Memory, Failed}
 use Rattle.proof_text.specs.Seen.{limit}
-use Rattle.proof_text.specs.Taking.{AreSmall, Takes, IsFit, IsOpen, RefusedIn}
-use Rattle.proof_text.specs.Reading.{Tells}
+use Rattle.proof_text.specs.Taking.{AreSmall, Takes, IsFit, MayGoOn, RefusedIn}
+use Rattle.proof_text.specs.Reading.{IsRefusal}
 use Rattle.proof_text.proofs.TakingLaws.{some_behind}
 
 fit_by : (c : ℕ) (b : Bool) → b ≡ true → IsFit (cond b (closes (mark c)) refuses)
@@ -28,7 +28,7 @@ some_word some_integers = (number (pos 0), tt)
 
 -- A grammar that is given by forms, with the limit of the reader.
 module _ {S : Type 0} (g : Grammar S) (all : Forms g) (same : limit ≡ g.limit) where
-  within : (placed : List Placed) → AreSmall placed → AreWithin g placed
+  within : (placed : List Placed) → AreSmall placed → AreInLimit g placed
   within placed h = subst (λ n. AllByRecursion (λ p. IsWithin n p.word) placed) same h
 
   pub step_spells : (s : S) (a b : List Placed) (t : Takes (g.fields s) a b) → Stops g (words t.front) b → Spells g s a b
@@ -42,7 +42,7 @@ module _ {S : Type 0} (g : Grammar S) (all : Forms g) (same : limit ≡ g.limit)
 
   -- ---- where some kind may follow, the words begin a step and are none
 
-  pub goes_on : (ws : List Word) (rows : List (List Kind)) → remaining (rows_of g all.forms) ws ≡ rows → IsOpen rows → (w : Word) × Begins g (ws ++ w ∷ [])
+  pub goes_on : (ws : List Word) (rows : List (List Kind)) → remaining (rows_of g all.forms) ws ≡ rows → MayGoOn rows → (w : Word) × Begins g (ws ++ w ∷ [])
   goes_on ws [] e h = absurd h
   goes_on ws ([] ∷ rows) e h = absurd h
   goes_on ws ((k ∷ ks) ∷ rows) e h =
@@ -50,18 +50,18 @@ module _ {S : Type 0} (g : Grammar S) (all : Forms g) (same : limit ≡ g.limit)
       let b = some_behind k ks (move k w.0) (flat_map (after_word w.0) rows) w.1 in
       (w.0, begins_where g all (ws ++ w.0 ∷ []) b.0 b.1 (remaining-push (rows_of g all.forms) ws w.0 ∙ ap (flat_map (after_word w.0)) e ∙ b.2))
 
-  begun : (ws : List Word) (rows : List (List Kind)) → remaining (rows_of g all.forms) ws ≡ rows → IsOpen rows → Begins g ws
+  begun : (ws : List Word) (rows : List (List Kind)) → remaining (rows_of g all.forms) ws ≡ rows → MayGoOn rows → Begins g ws
   begun ws [] e h = absurd h
   begun ws (row ∷ rows) e h = begins_where g all ws row rows e
 
   -- behind a whole step nothing has to follow
   abbrev pub IsWholeAlone : Type 0
-  IsWholeAlone = (s : S) (ws : List Word) → IsStep g ws s → ¬ IsOpen (remaining (rows_of g all.forms) ws)
+  IsWholeAlone = (s : S) (ws : List Word) → IsStep g ws s → ¬ MayGoOn (remaining (rows_of g all.forms) ws)
 
-  unfinished : IsWholeAlone → (ws : List Word) → IsOpen (remaining (rows_of g all.forms) ws) → IsUnfinished g ws
+  unfinished : IsWholeAlone → (ws : List Word) → MayGoOn (remaining (rows_of g all.forms) ws) → IsUnfinished g ws
   unfinished whole ws h = (begun ws (remaining (rows_of g all.forms) ws) refl h, λ s step. whole s ws step h)
 
-  pub refused_tells : IsWholeAlone → (size : ℕ) (r : TextRefusal) (a : List Placed) → a ≢ [] → RefusedIn (rows_of g all.forms) size r a → Tells g size r a
+  pub refused_tells : IsWholeAlone → (size : ℕ) (r : TextRefusal) (a : List Placed) → a ≢ [] → RefusedIn (rows_of g all.forms) size r a → IsRefusal g size r a
   refused_tells whole size (BadToken place) a some h = record {
     front = h.front;
     bad = h.bad;

@@ -11,8 +11,8 @@ use Rattle.cx_semantics.proofs.Grammars.{proof_forms}
 use Rattle.cx_semantics.proofs.ProofSteps.{proof_rows, no_more, stops}
 use Rattle.proof_text.specs.declared.source.TextRefusal.{TextRefusal}
 use Rattle.proof_text.specs.Heads.{is_head_letter}
-use Rattle.proof_text.specs.Taking.{Takes, HeadFails, IsOpen, RefusedIn}
-use Rattle.proof_text.specs.Reading.{Tells}
+use Rattle.proof_text.specs.Taking.{Takes, HeadFails, MayGoOn, RefusedIn}
+use Rattle.proof_text.specs.Reading.{IsRefusal}
 use Rattle.proof_text.proofs.TakingLaws.{takes_append, refused_then, head_refused}
 use Rattle.proof_text.proofs.Choices.{head_refuses, refused_beside}
 use Rattle.proof_text.proofs.ReadingLaws as reading
@@ -94,8 +94,8 @@ no_empty_step (proof.ParityOfClauses n lits hints) e = cc
 pub step_spells : (s : ProofStep) (a b : List Placed) → Takes (proof_fields s) a b → Spells proof_steps s a b
 step_spells s a b t = reading.step_spells proof_steps proof_forms refl s a b t (stops s (words t.front) b (t.proper, t.spells))
 
-whole : (s : ProofStep) (ws : List Word) → IsStep proof_steps ws s → ¬ IsOpen (remaining proof_rows ws)
+whole : (s : ProofStep) (ws : List Word) → IsStep proof_steps ws s → ¬ MayGoOn (remaining proof_rows ws)
 whole s ws step h = let w = reading.goes_on proof_steps proof_forms refl ws (remaining proof_rows ws) refl h in no_more s ws w.0 step w.1
 
-pub refused_tells : (size : ℕ) (r : TextRefusal) (a : List Placed) → a ≢ [] → RefusedIn proof_rows size r a → Tells proof_steps size r a
+pub refused_tells : (size : ℕ) (r : TextRefusal) (a : List Placed) → a ≢ [] → RefusedIn proof_rows size r a → IsRefusal proof_steps size r a
 refused_tells size r a some h = reading.refused_tells proof_steps proof_forms refl whole size r a some h

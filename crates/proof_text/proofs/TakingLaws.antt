@@ -10,7 +10,7 @@ use Rattle.cx_semantics.proofs.Remaining.{behind, after_word, remaining, remaini
 use Rattle.cx_base.proofs.Elements.{all_append}
 use Rattle.proof_text.specs.declared.source.TextRefusal.{TextRefusal}
 use Rattle.proof_text.specs.declared.source.TextRefusal.TheVariants.{BadToken, Unterminated, TooBig, TooLong, Memory, Failed}
-use Rattle.proof_text.specs.Taking.{AreSmall, Takes, IsFit, HeadFails, IsOpen, RefusedIn}
+use Rattle.proof_text.specs.Taking.{AreSmall, Takes, IsFit, HeadFails, MayGoOn, RefusedIn}
 
 words-append : (a b : List Placed) → words (a ++ b) ≡ words a ++ words b
 words-append a b = map-append _ a b
@@ -87,7 +87,7 @@ refused_behind rows next size (BadToken place) front a b e w k h =
       rest = h.rest;
       split = e ∙ ap (λ x. front ++ x) h.split ∙ sym (append_assoc front h.front (h.bad ∷ h.rest));
       at = h.at;
-      unfinished = subst IsOpen (sym m) h.unfinished;
+      unfinished = subst MayGoOn (sym m) h.unfinished;
       within = all_append _ front h.front w h.within;
       fits_not = ap (flat_map (after_word h.bad.word)) m ∙ h.fits_not;
     }
@@ -105,7 +105,7 @@ refused_behind rows next size (TooBig place) front a b e w k h =
     }
 refused_behind rows next size (Unterminated place) front a b e w k h = (
   h.0,
-  subst IsOpen (sym (ap (λ x. remaining rows (words x)) e ∙ remaining-words rows front b next k)) h.1,
+  subst MayGoOn (sym (ap (λ x. remaining rows (words x)) e ∙ remaining-words rows front b next k)) h.1,
   subst (AreSmall) (sym e) (all_append _ front b w h.2),
 )
 refused_behind rows next size TooLong front a b e w k h = absurd h
@@ -157,7 +157,7 @@ head_refused k ks more size (TooBig place) a others (p, rest, split, at, fits, a
   fits = some_behind k ks (move k p.word) (flat_map (after_word p.word) more) fits;
   above = above;
 }
-head_refused k ks more size (Unterminated place) a others h = (h.1, subst (λ x. IsOpen (remaining ((k ∷ ks) ∷ more) (words x))) (sym h.0) tt, subst (AreSmall) (sym h.0) tt)
+head_refused k ks more size (Unterminated place) a others h = (h.1, subst (λ x. MayGoOn (remaining ((k ∷ ks) ∷ more) (words x))) (sym h.0) tt, subst (AreSmall) (sym h.0) tt)
 head_refused k ks more size TooLong a others h = absurd h
 head_refused k ks more size Memory a others h = absurd h
 head_refused k ks more size Failed a others h = absurd h

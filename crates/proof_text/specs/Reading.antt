@@ -7,15 +7,15 @@ use Rattle.proof_text.specs.declared.source.TextRefusal.TheVariants.{BadToken, U
 
 module _ {S : Type 0} (g : Grammar S) (size : ℕ) where
   -- no step is read of the words, for this reason; want of memory says nothing of them
-  abbrev pub Tells : TextRefusal → List Placed → Type 0
-  Tells (BadToken place) placed = EndsAs g size (bad_token place) placed
-  Tells (Unterminated place) placed = EndsAs g size (unterminated place) placed
-  Tells (TooBig place) placed = EndsAs g size (too_big place) placed
-  Tells TooLong placed = ⊥
-  Tells Memory placed = ⊤
-  Tells Failed placed = ⊥
+  abbrev pub IsRefusal : TextRefusal → List Placed → Type 0
+  IsRefusal (BadToken place) placed = EndsAs g size (bad_token place) placed
+  IsRefusal (Unterminated place) placed = EndsAs g size (unterminated place) placed
+  IsRefusal (TooBig place) placed = EndsAs g size (too_big place) placed
+  IsRefusal TooLong placed = ⊥
+  IsRefusal Memory placed = ⊤
+  IsRefusal Failed placed = ⊥
 
   abbrev pub ReadsStep : List Placed → Result (Option S) TextRefusal → List Placed → Type 0
   ReadsStep old (Ok (Some step)) new = Spells g step old new
   ReadsStep old (Ok None) new = (old ≡ []) × (new ≡ [])
-  ReadsStep old (Err refusal) new = Tells refusal old
+  ReadsStep old (Err refusal) new = IsRefusal refusal old

@@ -58,7 +58,7 @@ IsTooLongOnly Passes (Err Memory) = ⊤
 IsTooLongOnly Passes (Err Failed) = ⊤
 
 -- a step raises the place, and nothing lowers it
-abbrev pub Rises : {S : Type 0} → Result (Option S) TextRefusal → ℕ → ℕ → Type 0
-Rises (Ok (Some step)) before now = before < now
-Rises (Ok None) before now = before ≤ now
-Rises (Err refusal) before now = before ≤ now
+abbrev pub PlaceRises : {S : Type 0} → Result (Option S) TextRefusal → ℕ → ℕ → Type 0
+PlaceRises (Ok (Some step)) before now = before < now
+PlaceRises (Ok None) before now = before ≤ now
+PlaceRises (Err refusal) before now = before ≤ now

@@ -39,10 +39,10 @@ HeadFails k size Memory placed = ⊥
 HeadFails k size Failed placed = ⊥
 
 -- some kind of field may follow
-abbrev pub IsOpen : List (List Kind) → Type 0
-IsOpen [] = ⊥
-IsOpen ([] ∷ rows) = ⊥
-IsOpen ((k ∷ ks) ∷ rows) = ⊤
+abbrev pub MayGoOn : List (List Kind) → Type 0
+MayGoOn [] = ⊥
+MayGoOn ([] ∷ rows) = ⊥
+MayGoOn ((k ∷ ks) ∷ rows) = ⊤
 
 -- Before the words the lists of kinds `rows` may follow.
 module _ (rows : List (List Kind)) where
@@ -53,7 +53,7 @@ module _ (rows : List (List Kind)) where
     pub rest : List Placed
     pub split : placed ≡ front ++ bad ∷ rest
     pub at : place ≡ bad.place
-    pub unfinished : IsOpen (remaining rows (words front))
+    pub unfinished : MayGoOn (remaining rows (words front))
     pub within : AreSmall front
     pub fits_not : flat_map (after_word bad.word) (remaining rows (words front)) ≡ []
 
@@ -72,7 +72,7 @@ module _ (rows : List (List Kind)) where
   abbrev pub RefusedIn : ℕ → TextRefusal → List Placed → Type 0
   RefusedIn size (BadToken place) placed = BadIn placed place
   RefusedIn size (TooBig place) placed = BigIn placed place
-  RefusedIn size (Unterminated place) placed = (place ≡ size) × IsOpen (remaining rows (words placed)) × AreSmall placed
+  RefusedIn size (Unterminated place) placed = (place ≡ size) × MayGoOn (remaining rows (words placed)) × AreSmall placed
   RefusedIn size TooLong placed = ⊥
   RefusedIn size Memory placed = ⊤
   RefusedIn size Failed placed = ⊥

@@ -1,7 +1,7 @@
 //! Where steps come from, one after another.
 ghost use Rattle.std.specs.Prelude.{◌≡◌, ◌<◌, ◌≤◌, ◌^◌, ℕ, Bool, true, false, List};
 ghost use Rattle.cx_semantics.specs.Grammar.{Ending};
-ghost use Rattle.proof_text.specs.Sources.{Gives, Rises, FaultsAs, SpentAs, IsTooLongOnly};
+ghost use Rattle.proof_text.specs.Sources.{Gives, PlaceRises, FaultsAs, SpentAs, IsTooLongOnly};
 
 use std::alloc::AllocError;
 use thiserror::Error;
@@ -61,7 +61,7 @@ pub trait StepSource {
         ensures faults { FaultsAs result (faults self.old) (faults self.new) }
         ensures long { IsTooLongOnly (passes_limit self.old) result }
         ensures limit { (passes_limit self.new → passes_limit self.old) × (passes_limit self.old → passes_limit self.new) }
-        ensures rises { Rises result (place_of self.old) (place_of self.new) }
+        ensures rises { PlaceRises result (place_of self.old) (place_of self.new) }
         ensures far { place_of self.new < 2 ^ 62 }
         ensures frame { keeps self.old self.new };
 

@@ -7,10 +7,10 @@ pub record OrderState : Type 0 where
   pub scores : List ℕ
   pub standing : List Bool
 
-abbrev pub Stands : OrderState → ℕ → Type 0
-Stands o v = get_or o.standing (v - 1) false ≡ true
+abbrev pub StandsInHeap : OrderState → ℕ → Type 0
+StandsInHeap o v = get_or o.standing (v - 1) false ≡ true
 
 -- each unassigned variable of the trail stands in the heap
 pub record AllStand (o : OrderState) (t : TrailState) : Type 0 where
   pub variables : length o.scores ≡ t.variables
-  pub stand : (v : ℕ) → 1 ≤ v → v ≤ t.variables → IsOpenIn t.entries v → Stands o v
+  pub stand : (v : ℕ) → 1 ≤ v → v ≤ t.variables → IsOpenIn t.entries v → StandsInHeap o v

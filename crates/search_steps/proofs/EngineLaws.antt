@@ -16,7 +16,7 @@ use Rattle.cx_trail.specs.Sequence.{IsTrueIn, IsOpenIn, entry_at}
 use Rattle.parity_engine.specs.declared.event.ParityEvent.{ParityEvent}
 use Rattle.parity_engine.specs.declared.event.ParityEvent.TheVariants.{Quiet, Implied, Conflict}
 use Rattle.parity_engine.specs.declared.state.Held.{Held}
-use Rattle.parity_engine.specs.State.{State, IsSilent, Answers, assigned, back, fresh, pushed, keep, held_at, known, known_from}
+use Rattle.parity_engine.specs.State.{State, IsSilent, Reports, assigned, back, fresh, pushed, keep, held_at, known, known_from}
 use Rattle.search_steps.specs.Trail.{Entry, held, all_held, back_to, level_of, IsTrail, IsUnassigned}
 use Rattle.search_steps.specs.Quiet.{ParitiesQuiet}
 use Rattle.search_steps.specs.Engine.{HasValue, HoldsValues}
@@ -144,7 +144,7 @@ module _ (s : State) (es : List Entry) (v : HoldsValues es s.values) where
   pub push_holds : HoldsValues es (pushed s).values
   push_holds = v
 
-  pub answer_holds : (event : ParityEvent) (new : State) → Answers s event new → HoldsValues es new.values
+  pub answer_holds : (event : ParityEvent) (new : State) → Reports s event new → HoldsValues es new.values
   answer_holds Quiet new a = subst (HoldsValues es) (sym (ap (λ x. x.values) a.0)) v
   answer_holds (Implied l row) new a = subst (HoldsValues es) (sym (ap (λ x. x.values) a.2)) v
   answer_holds (Conflict row) new a = subst (HoldsValues es) (sym (ap (λ x. x.values) a.2)) v

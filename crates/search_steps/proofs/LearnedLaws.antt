@@ -9,7 +9,7 @@ use Rattle.cx_semantics.specs.LogRules.{AreLive, HasChain}
 use Rattle.cx_semantics.specs.Tables.{Table, named}
 use Rattle.cx_semantics.proofs.ChainLaws.{are_one, same_literal-itself}
 use Rattle.cx_semantics.proofs.Closure.{has_by_inside}
-use Rattle.cx_semantics.proofs.SameSets.{Same-by_test, AllSame, chain_stays_right}
+use Rattle.cx_semantics.proofs.SameSets.{HaveSame-by_test, AllSame, chain_stays_right}
 use Rattle.cx_semantics.proofs.Members.{has_at_head, has_behind, has_split}
 use Rattle.cx_trail.specs.Sequence.{TrailState, IsTrail as IsCodeTrail}
 use Rattle.conflict_learn.specs.Learning.{IsLearned, AreAntecedents, negated_at, level_at, literal_at, has_place, IsFalling}
@@ -37,7 +37,7 @@ all_named table (c ∷ cs) ((clause, (n, e), s), h) =
     record {
       ids = n ∷ r.ids;
       live = (ap is_some e, r.live);
-      same = subst (AllSame (c ∷ cs)) (sym (ap (λ o. cons_option o (named table r.ids)) e)) (Same-by_test c clause s, r.same);
+      same = subst (AllSame (c ∷ cs)) (sym (ap (λ o. cons_option o (named table r.ids)) e)) (HaveSame-by_test c clause s, r.same);
     }
 
 sources_live : (table : Table) (trail : TrailState) (conflict : List Literal) (holds : List Literal → Type 0) → IsLiveSet table conflict → ((c : List Literal) → holds c → IsLiveSet table c)

@@ -9,7 +9,7 @@ use Rattle.cx_semantics.specs.Fresh.{Fresh}
 use Rattle.cx_semantics.specs.Tables.{Table, Tables, get, put_clause, put_parity, drop_clauses, drop_parities}
 use Rattle.cx_semantics.proofs.Closure.{has_by_inside}
 use Rattle.cx_semantics.proofs.Lookups.{Looks-insert, Looks-remove}
-use Rattle.search_steps.specs.Trail.{Entry, Why, decided, by_clause, by_row, held, all_held, level_of, IsTrail, Stands, IsUnassigned}
+use Rattle.search_steps.specs.Trail.{Entry, Why, decided, by_clause, by_row, held, all_held, level_of, IsTrail, IsSetBy, IsUnassigned}
 use Rattle.search_steps.specs.Quiet.{Quiet, RestsOn, HasNoClash, IsOfParities}
 use Rattle.search_steps.specs.LogSteps.{IsNoReason}
 use Rattle.search_steps.specs.Search.{Search, Serves, IsSearch, decided_on, forced_on, jumped, IsLearnedOf}
@@ -25,7 +25,7 @@ module _ (IsRow : List Literal → Type 0) where
   trail_by table other [] h t = t
   trail_by table other (e ∷ es) h t = (t.0, stands e.why t.1, trail_by table other es h t.2)
     where
-      stands : (why : Why) → Stands table IsRow why e.literal e.level es → Stands other IsRow why e.literal e.level es
+      stands : (why : Why) → IsSetBy table IsRow why e.literal e.level es → IsSetBy other IsRow why e.literal e.level es
       stands decided s = s
       stands (by_clause n) (a, (clause, live, f)) = (a, (clause, h n clause live, f))
       stands (by_row c) s = s
@@ -34,7 +34,7 @@ module _ (IsRow : List Literal → Type 0) where
   trail_without table n [] h t = t
   trail_without table n (e ∷ es) h t = (t.0, stands e.why h.0 t.1, trail_without table n es h.1 t.2)
     where
-      stands : (why : Why) → (why ≡ by_clause n → ⊥) → Stands table IsRow why e.literal e.level es → Stands (map_.remove table n) IsRow why e.literal e.level es
+      stands : (why : Why) → (why ≡ by_clause n → ⊥) → IsSetBy table IsRow why e.literal e.level es → IsSetBy (map_.remove table n) IsRow why e.literal e.level es
       stands decided g s = s
       stands (by_clause k) g (a, (clause, live, f)) = (
         a,
@@ -124,7 +124,7 @@ module _ (formula : Problem) (parities : List (List Literal)) (s : Search) (ok :
 
   -- ---- a literal that a clause or a row forces
   pub force_keeps : (l : Literal) (why : Why) → s.quiet_levels ≤ level_of s.trail → IsUnassigned (all_held s.trail) l
-      → Stands s.moment.tables.clauses (IsOfParities formula.variables parities) why l (level_of s.trail) s.trail → IsSearch formula parities (forced_on s l why)
+      → IsSetBy s.moment.tables.clauses (IsOfParities formula.variables parities) why l (level_of s.trail) s.trail → IsSearch formula parities (forced_on s l why)
   force_keeps l why levels is_open stands = record {
     log = ok.log;
     serves = record {

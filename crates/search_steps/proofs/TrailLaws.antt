@@ -9,7 +9,7 @@ use Rattle.cx_semantics.proofs.ChainLaws.{are_one}
 use Rattle.cx_semantics.proofs.Closure.{has_by_inside, inside_more}
 use Rattle.cx_semantics.proofs.Members.{has_at_head, has_split}
 use Rattle.search_steps.specs.Quiet.{HasNoClash}
-use Rattle.search_steps.specs.Trail.{Why, decided, by_clause, by_row, Entry, all_held, held, back_to, level_of, Stands, IsTrail, IsUnassigned}
+use Rattle.search_steps.specs.Trail.{Why, decided, by_clause, by_row, Entry, all_held, held, back_to, level_of, IsSetBy, IsTrail, IsUnassigned}
 use Rattle.conflict_learn.proofs.ChainOfResolutions.{by_cases}
 use Rattle.search_steps.proofs.Sets.{not_both}
 
@@ -81,12 +81,12 @@ module _ (table : Table) (IsRow : List Literal → Type 0) where
   trail_no_clash [] t = λ l h. refl
   trail_no_clash (e ∷ es) t = one_more_no_clash (all_held es) e.literal (trail_no_clash es t.2) t.0
 
-  pub stands_low : (why : Why) (l : Literal) (level : ℕ) (es : List Entry) → Stands table IsRow why l level es → level_of es ≤ level
+  pub stands_low : (why : Why) (l : Literal) (level : ℕ) (es : List Entry) → IsSetBy table IsRow why l level es → level_of es ≤ level
   stands_low decided l level es s = omega (arith, s)
   stands_low (by_clause n) l level es s = omega (arith, s.0)
   stands_low (by_row c) l level es s = omega (arith, s.0)
 
-  stands_high : (why : Why) (l : Literal) (level : ℕ) (es : List Entry) → Stands table IsRow why l level es → level ≤ level_of es + 1
+  stands_high : (why : Why) (l : Literal) (level : ℕ) (es : List Entry) → IsSetBy table IsRow why l level es → level ≤ level_of es + 1
   stands_high decided l level es s = omega (arith, s)
   stands_high (by_clause n) l level es s = omega (arith, s.0)
   stands_high (by_row c) l level es s = omega (arith, s.0)

@@ -4,7 +4,7 @@ use Rattle.cx_base.specs.Literals.{Literal, same_literal}
 use Rattle.cx_semantics.specs.Tables.{Table, get}
 use Rattle.cx_semantics.proofs.ChainLaws.{same_literal-itself}
 use Rattle.cx_semantics.proofs.Members.{has_at_head, has_split}
-use Rattle.search_steps.specs.Trail.{Entry, rests_on, Why, decided, by_clause, by_row, held, all_held, level_of, IsTrail, Stands, Forces}
+use Rattle.search_steps.specs.Trail.{Entry, rests_on, Why, decided, by_clause, by_row, held, all_held, level_of, IsTrail, IsSetBy, Forces}
 use Rattle.search_steps.proofs.Sets.{not_both}
 
 all_same : (newer older : List Entry) (e : Entry) (n : ℕ) → all_held (newer ++ rests_on e n ∷ older) ≡ all_held (newer ++ e ∷ older)
@@ -20,7 +20,7 @@ level_same [] older e n = refl
 level_same (x ∷ newer) older e n = refl
 
 module _ (table : Table) (IsRow : List Literal → Type 0) where
-  level_zero : (why : Why) (l : Literal) (es : List Entry) → Stands table IsRow why l 0 es → 0 ≡ level_of es
+  level_zero : (why : Why) (l : Literal) (es : List Entry) → IsSetBy table IsRow why l 0 es → 0 ≡ level_of es
   level_zero decided l es s = absurd (omega (arith, s))
   level_zero (by_clause n) l es s = s.0
   level_zero (by_row c) l es s = s.0
@@ -36,12 +36,12 @@ module _ (table : Table) (IsRow : List Literal → Type 0) where
 
   pub trail_rests_on : (newer older : List Entry) (e : Entry) (n : ℕ) → e.level ≡ 0 → get table n ≡ Some (e.literal ∷ []) → IsTrail table IsRow (newer ++ e ∷ older) → IsTrail table IsRow (newer ++ rests_on e n ∷ older)
   trail_rests_on [] older e n low live t =
-      let zero_level : 0 ≡ level_of older = level_zero e.why e.literal older (subst (λ k. Stands table IsRow e.why e.literal k older) low t.1) in
+      let zero_level : 0 ≡ level_of older = level_zero e.why e.literal older (subst (λ k. IsSetBy table IsRow e.why e.literal k older) low t.1) in
       (t.0, (low ∙ zero_level, (e.literal ∷ [], live, unit_forces e.literal (all_held older))), t.2)
   trail_rests_on (x ∷ newer) older e n low live t =
       (subst (λ lits. Rattle.search_steps.specs.Trail.IsUnassigned lits x.literal) (sym (all_same newer older e n)) t.0, stands x.why t.1, trail_rests_on newer older e n low live t.2)
     where
-      stands : (why : Why) → Stands table IsRow why x.literal x.level (newer ++ e ∷ older) → Stands table IsRow why x.literal x.level (newer ++ rests_on e n ∷ older)
+      stands : (why : Why) → IsSetBy table IsRow why x.literal x.level (newer ++ e ∷ older) → IsSetBy table IsRow why x.literal x.level (newer ++ rests_on e n ∷ older)
       stands decided s = s ∙ ap suc (sym (level_same newer older e n))
       stands (by_clause k) (a, (c, l, f)) = (a ∙ sym (level_same newer older e n), (c, l, subst (λ lits. Forces c lits x.literal) (sym (all_same newer older e n)) f))
       stands (by_row c) (a, (r, f)) = (a ∙ sym (level_same newer older e n), (r, subst (λ lits. Forces c lits x.literal) (sym (all_same newer older e n)) f))

@@ -25,7 +25,7 @@ use Rattle.conflict_learn.specs.Learning.{IsAntecedent, IsLearned, IsOfLevel}
 use Rattle.conflict_learn.specs.Levels.{Teaches}
 use Rattle.parity_engine.specs.declared.event.ParityEvent.{ParityEvent}
 use Rattle.parity_engine.specs.declared.state.Held.{Held}
-use Rattle.parity_engine.specs.State.{State, IsSilent, Answers, assigned, back, fresh, known, held_at, pushed as opened}
+use Rattle.parity_engine.specs.State.{State, IsSilent, Reports, assigned, back, fresh, known, held_at, pushed as opened}
 use Rattle.search_steps.specs.Engine.{HoldsValues}
 use Rattle.search_steps.specs.Ids.{ReasonsBelow, AreRowIds, HasFreeSums, IsRanged}
 use Rattle.search_steps.specs.LogSteps.{IsAddition, RestOnClauses, IsRowOf, IsClauseOfRow, IsRowReason, IsNoReason, IsEnded, AreTemporary, row_events, all_told, deleted, unit_told, after_round}
@@ -327,7 +327,7 @@ NewLevelsHold = (s : State) (es : List Entry) → HoldsValues es s.values → Ho
 
 -- so does an engine that answers an event
 abbrev pub AnswersHold : Type 0
-AnswersHold = (s : State) (es : List Entry) → HoldsValues es s.values → (event : ParityEvent) (new : State) → Answers s event new → HoldsValues es new.values
+AnswersHold = (s : State) (es : List Entry) → HoldsValues es s.values → (event : ParityEvent) (new : State) → Reports s event new → HoldsValues es new.values
 
 -- an engine that takes levels back holds the values of the trail that is left
 abbrev pub ValuesTakenBackHold : Type 0

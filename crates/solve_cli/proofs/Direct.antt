@@ -22,7 +22,7 @@ use Rattle.solve_cli.specs.declared.ending.Status.TheVariants as status
 use Rattle.solve_cli.specs.Endings.{status_of, answer_text, message_text}
 use Rattle.solve_cli.specs.Seen.{Seen, says, creates, text_named}
 use Rattle.solve_cli.specs.Commands.{is_built, Stage, second_started, proof_created, asked_to}
-use Rattle.solve_cli.specs.Happens.{end_stage, Gains, Ends, Stops, Due, AsksForMore, Works, WorksFor, Tells, Runs, Comes, IsSound, IsElaborated}
+use Rattle.solve_cli.specs.Happens.{end_stage, Gains, Ends, Stops, Due, AsksForMore, Works, WorksFor, PutsMessage, Runs, Comes, IsSound, IsElaborated}
 use Rattle.solve_cli.proofs.Dues.{one_formula, judged_due, judged_of}
 use Rattle.solve_cli.proofs.Outcomes.{Done, verified, right, elaborated, unknown, outcome_of}
 use Rattle.solve_cli.proofs.Works.{if_some_both, faults_at}
@@ -58,7 +58,7 @@ record Kept (old new : Seen) : Type 0 where
 said : (text : Bytes) (s : Seen) → Kept s (says port.Message text s)
 said text s = record { faults_reads = refl; faults_writes = refl; proof = said_message text s }
 
-message_keeps : (text : Bytes) (old new : Seen) → Tells text old new → Kept old new
+message_keeps : (text : Bytes) (old new : Seen) → PutsMessage text old new → Kept old new
 message_keeps text old new (inl e) = subst (Kept old) (sym e) (said text old)
 message_keeps text old new (inr h) =
     let k = said (take h.0 text) old in

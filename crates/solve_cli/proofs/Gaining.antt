@@ -20,7 +20,7 @@ use Rattle.cx_desk.specs.Calls.{gained, WriteFaulted}
 use Rattle.cx_base.specs.Counts.{Rose}
 use Rattle.proof_text.specs.Told.{told_steps, steps_told, fault_of, is_none, begun_line, is_whole, step_line, TornOn, Prints, Tears, Goes}
 use Rattle.proof_text.proofs.ToldLaws.{told_front, told_proof, gained_proof, begun_proof, begun_front}
-use Rattle.fratx_elab.specs.Outcomes.{Gained, IsWritten, IsElaborated, IsCutOff, HasCause, WritesStand}
+use Rattle.fratx_elab.specs.Outcomes.{Gained, IsProofWritten, IsElaborated, IsCutOff, HasCause, WritesStand}
 use Rattle.fratx_elab.specs.declared.outcome.Elab.{Elab}
 use Rattle.fratx_elab.specs.declared.outcome.ElabFault.{ElabFault}
 use Rattle.fratx_elab.specs.declared.outcome.ElabFault.TheVariants as fault
@@ -78,9 +78,9 @@ left P Q o n h empty gains f = (
 )
 
 -- a right log: what it left is a proof that is accepted
-pub whole : (f : Problem) (log : List LogStep) (o n : Outside) (k : ℕ) → HasNoProof (seen o) → Prints o n → Gained (steps_told o) (steps_told n) (IsWritten f log (elab.Done k))
+pub whole : (f : Problem) (log : List LogStep) (o n : Outside) (k : ℕ) → HasNoProof (seen o) → Prints o n → Gained (steps_told o) (steps_told n) (IsProofWritten f log (elab.Done k))
     → (proof : Bytes) × (seen n ≡ says port.Proof proof (seen o)) × IfSome (seen o).files (λ _. IsWholeProof f proof)
-whole f log o n k empty h gains = left (IsWritten f log (elab.Done k)) (IsWholeProof f) o n h empty gains (λ right. record {
+whole f log o n k empty h gains = left (IsProofWritten f log (elab.Done k)) (IsWholeProof f) o n h empty gains (λ right. record {
   steps = h.steps;
   printed = refl;
   accepted = record { steps = h.steps; ending = finished; reads = printed_proof_reads h.steps h.texts; judged = right.1 };
@@ -88,9 +88,9 @@ whole f log o n k empty h gains = left (IsWritten f log (elab.Done k)) (IsWholeP
 
 -- a refused log: what it left is the proof of the steps before
 pub before : (f : Problem) (text : Bytes) (k : ℕ) (c : Cause) (o n : Outside) (log : List LogStep) (ending : Ending) → HasNoProof (seen o) → Prints o n
-    → Gained (steps_told o) (steps_told n) (IsWritten f log (elab.Refused k c)) → LogReads text log ending
+    → Gained (steps_told o) (steps_told n) (IsProofWritten f log (elab.Refused k c)) → LogReads text log ending
     → (proof : Bytes) × (seen n ≡ says port.Proof proof (seen o)) × IfSome (seen o).files (λ _. IsProofBefore f text k proof)
-before f text k c o n log ending empty h gains reads = left (IsWritten f log (elab.Refused k c)) (IsProofBefore f text k) o n h empty gains (λ right. record {
+before f text k c o n log ending empty h gains reads = left (IsProofWritten f log (elab.Refused k c)) (IsProofBefore f text k) o n h empty gains (λ right. record {
   log_steps = log;
   ending = ending;
   reads = reads;
@@ -225,12 +225,12 @@ pub settled : {X : Type 0} (leaves : X → List LogStep → Ending → Type 0) (
     → ElaboratedAs f log (seen o) r (seen n)
 settled leaves told torn f log a b first last o n (Ok (elab.Done k)) reads at_first at_last tears empty whole_before goes judged cut cause stand = (
   λ _ _ _. record { steps = judged.0; ending = judged.1; reads = reads judged.0 judged.1 judged.2; judged = judged.3 },
-  whole f judged.0 o n k empty (has_printed first last o n whole_before goes stand) (told_as (IsWritten f judged.0 (elab.Done k)) (told a) (steps_told o) (told b) (steps_told n) at_first at_last judged.4),
+  whole f judged.0 o n k empty (has_printed first last o n whole_before goes stand) (told_as (IsProofWritten f judged.0 (elab.Done k)) (told a) (steps_told o) (told b) (steps_told n) at_first at_last judged.4),
 )
 settled leaves told torn f log a b first last o n (Ok (elab.Refused k c)) reads at_first at_last tears empty whole_before goes judged cut cause stand = (
   λ _ _ _. record { steps = judged.0; ending = judged.1; reads = reads judged.0 judged.1 judged.2; judged = judged.3 },
   before f log k c o n judged.0 judged.1 empty (has_printed first last o n whole_before goes stand)
-      (told_as (IsWritten f judged.0 (elab.Refused k c)) (told a) (steps_told o) (told b) (steps_told n) at_first at_last judged.4) (reads judged.0 judged.1 judged.2),
+      (told_as (IsProofWritten f judged.0 (elab.Refused k c)) (told a) (steps_told o) (told b) (steps_told n) at_first at_last judged.4) (reads judged.0 judged.1 judged.2),
 )
 settled leaves told torn f log a b first last o n (Err fault.Memory) reads at_first at_last tears empty whole_before goes judged cut cause stand =
     so_far f o n empty (has_printed first last o n whole_before goes stand) (told_as (IsOpen (proof_calculus f)) (told a) (steps_told o) (told b) (steps_told n) at_first at_last cut)

@@ -23,7 +23,7 @@ use Rattle.solve_cli.specs.declared.ending.WrongAnswer.{WrongAnswer}
 use Rattle.solve_cli.specs.declared.ending.WrongAnswer.TheVariants as wrong
 use Rattle.solve_cli.specs.Seen.{text_named}
 use Rattle.solve_cli.specs.Commands.{formula_of, second_of, second_text}
-use Rattle.solve_cli.specs.Happens.{Named, FormulaRead, EarlyDue, refusal_of, Judged, LateDue, Due}
+use Rattle.solve_cli.specs.Happens.{IfNamed, FormulaRead, EarlyDue, refusal_of, Judged, LateDue, Due}
 use Rattle.solve_cli.proofs.Dues.{same_of_one, one_formula}
 
 reading : (text : Bytes) (a b : Result Problem Offence) → ReadsAs text a → ReadsAs text b → a ≡ b
@@ -56,18 +56,18 @@ not_early limit text f _ (bad o _ p) r = not_both_read text f o r.reads p
 not_early limit text f _ (long l) r = let fits : length text ≤ limit = r.fits in absurd (omega arith)
 
 -- the same of a command's formula, where it has one
-early_of : (name : Option Bytes) (limit : ℕ) (files : Files) (d e : Ending) → Named name (λ n. EarlyDue limit (text_named n files) d)
-    → Named name (λ n. EarlyDue limit (text_named n files) e) → d ≡ e
+early_of : (name : Option Bytes) (limit : ℕ) (files : Files) (d e : Ending) → IfNamed name (λ n. EarlyDue limit (text_named n files) d)
+    → IfNamed name (λ n. EarlyDue limit (text_named n files) e) → d ≡ e
 early_of None limit files d e h k = absurd h
 early_of (Some n) limit files d e h k = two_early limit (text_named n files) d e (early limit (text_named n files) d h) (early limit (text_named n files) e k)
 
-early_or_read : (name : Option Bytes) (limit : ℕ) (files : Files) (f : Problem) (e : Ending) → Named name (λ n. EarlyDue limit (text_named n files) e)
-    → Named name (λ n. FormulaRead limit (text_named n files) f) → ⊥
+early_or_read : (name : Option Bytes) (limit : ℕ) (files : Files) (f : Problem) (e : Ending) → IfNamed name (λ n. EarlyDue limit (text_named n files) e)
+    → IfNamed name (λ n. FormulaRead limit (text_named n files) f) → ⊥
 early_or_read None limit files f e h k = absurd h
 early_or_read (Some n) limit files f e h k = not_early limit (text_named n files) f e (early limit (text_named n files) e h) k
 
-formula_of_name : (name : Option Bytes) (limit : ℕ) (files : Files) (f g : Problem) → Named name (λ n. FormulaRead limit (text_named n files) f)
-    → Named name (λ n. FormulaRead limit (text_named n files) g) → f ≡ g
+formula_of_name : (name : Option Bytes) (limit : ℕ) (files : Files) (f g : Problem) → IfNamed name (λ n. FormulaRead limit (text_named n files) f)
+    → IfNamed name (λ n. FormulaRead limit (text_named n files) g) → f ≡ g
 formula_of_name None limit files f g h k = absurd h
 formula_of_name (Some n) limit files f g h k = one_formula (text_named n files) f g h.reads k.reads
 

@@ -22,8 +22,8 @@ use Rattle.solve_cli.specs.Seen.{Seen, seen, says, text_named}
 use Rattle.solve_cli.specs.Commands.{proof_created, asked_to}
 use Rattle.solve_cli.specs.Happens.{FormulaRead, IsFormula, Judged, Gains, Ends, Stops, Works}
 use Rattle.solve_cli.specs.Logs.{IsOpenLog, IsClosedLog, IsRefutation}
-use Rattle.solve_cli.specs.Solving.{Finds}
-use Rattle.solve_cli.specs.Steps.{Answers}
+use Rattle.solve_cli.specs.Solving.{ComesTo}
+use Rattle.solve_cli.specs.Steps.{PutsAnswer}
 use Rattle.solve_cli.proofs.Gaining.{write_fault}
 use Rattle.solve_cli.proofs.Logging.{open_log, refutation, budgeted, few_marks, front_so_far}
 use Rattle.solve_cli.proofs.Works.{seen-gained, formula_in, judged_late, answered}
@@ -31,21 +31,21 @@ use Rattle.solve_cli.proofs.Works.{seen-gained, formula_in, judged_late, answere
 -- ---- what the search answers
 
 pub finds_values : (f : Problem) (budget : ℕ) (events : List LogEvent) (v : _) → AllByRecursion HasText events → Satisfies f budget (Some events) v → (Settled f → filter_map mark_of events ≡ [])
-    → Finds f budget events (ending.Satisfiable v)
+    → ComesTo f budget events (ending.Satisfiable v)
 finds_values f budget events v texts h none = (
   h.meets,
   record { is_open = open_log f events texts h.log.2.0; marks = few_marks f budget events h.log.0 texts h.log.1 h.log.2.1 none },
 )
 
 pub finds_none : (f : Problem) (budget : ℕ) (events : List LogEvent) → AllByRecursion HasText events → Refutes f budget (Some events) → (Settled f → filter_map mark_of events ≡ [])
-    → Finds f budget events ending.Unsatisfiable
+    → ComesTo f budget events ending.Unsatisfiable
 finds_none f budget events texts h none = (
   h.unmet,
   record { refutes = refutation f events texts h.log.0; marks = few_marks f budget events h.log.1.0 texts h.log.1.1 h.log.1.2 none },
 )
 
 pub finds_nothing : (f : Problem) (budget : ℕ) (events : List LogEvent) (k : ℕ) → AllByRecursion HasText events → UsesUp f budget (Some events) k → (Settled f → (n : ℕ) → answer.Unknown k ≢ answer.Unknown n)
-    → Finds f budget events (ending.Unknown k)
+    → ComesTo f budget events (ending.Unknown k)
 finds_nothing f budget events k texts h never = (h.count, λ s. never s k refl, budgeted f events budget texts h.log.0 h.log.1)
 
 -- ---- the ending
@@ -55,7 +55,7 @@ data Found (f : Problem) (budget : ℕ) (log : Bytes) : Ending → Type 0 where
   none : Unmet f → IsClosedLog f budget log → Found f budget log ending.Unsatisfiable
   nothing : (k : ℕ) → k ≡ budget → ¬ Settled f → Budgeted f log budget → Found f budget log (ending.Unknown k)
 
-found : (f : Problem) (budget : ℕ) (events : List LogEvent) (e : Ending) → Finds f budget events e → Found f budget (printed_log events) e
+found : (f : Problem) (budget : ℕ) (events : List LogEvent) (e : Ending) → ComesTo f budget events e → Found f budget (printed_log events) e
 found f budget events (ending.Satisfiable v) h = values v h.0 h.1
 found f budget events ending.Unsatisfiable h = none h.0 h.1
 found f budget events (ending.Unknown k) h = nothing k h.0 h.1 h.2
@@ -80,7 +80,7 @@ is_right f budget log _ (nothing k spent open_ marked) = inl marked.is_open
 -- ---- the writes
 
 module _ (n : Bytes) (l : Option Bytes) (budget limit : ℕ) (old : Seen) (f : Problem) (events : List LogEvent) (e : Ending) (mid : Outside)
-    (begun : seen mid ≡ asked_to proof_created (plan.Solve n l budget) old) (read : IfSome old.files (λ files. IsFormula (plan.Solve n l budget) limit files f)) (finds : Finds f budget events e) where
+    (begun : seen mid ≡ asked_to proof_created (plan.Solve n l budget) old) (read : IfSome old.files (λ files. IsFormula (plan.Solve n l budget) limit files f)) (finds : ComesTo f budget events e) where
   searched : Ends (plan.Solve n l budget) limit old e (says port.Proof (printed_log events) (seen mid))
   searched =
       let have = found f budget events e finds in
@@ -95,7 +95,7 @@ module _ (n : Bytes) (l : Option Bytes) (budget limit : ℕ) (old : Seen) (f : P
       }
 
   -- the log was written, and the answer or a front of it
-  pub search_answered : (at : Outside) (o : Outcome) (new : Seen) → at ≡ gained port.Proof (printed_log events) mid → Answers e (seen at) o new → Works (plan.Solve n l budget) limit old o new
+  pub search_answered : (at : Outside) (o : Outcome) (new : Seen) → at ≡ gained port.Proof (printed_log events) mid → PutsAnswer e (seen at) o new → Works (plan.Solve n l budget) limit old o new
   search_answered at o new moved answers =
       answered (plan.Solve n l budget) limit old e (seen at) o new
       (subst (Ends (plan.Solve n l budget) limit old e) (sym (ap seen moved ∙ seen-gained port.Proof (printed_log events) mid)) searched) answers

@@ -24,7 +24,7 @@ use Rattle.solve_cli.specs.declared.ending.Status.TheVariants as status
 use Rattle.solve_cli.specs.Endings.{answer_text, message_text, joined}
 use Rattle.solve_cli.specs.Seen.{Seen, says, text_named}
 use Rattle.solve_cli.specs.Commands.{Stage, proof_created, asked_to, second_text}
-use Rattle.solve_cli.specs.Happens.{end_stage, Judged, Due, Gains, Works, WorksFor, Tells, Runs}
+use Rattle.solve_cli.specs.Happens.{end_stage, Judged, Due, Gains, Works, WorksFor, PutsMessage, Runs}
 use Rattle.solve_cli.specs.Solved.{solved, HasSolved, IsSatisfied, IsRefuted, IsSpent, IsSettled, IsUnsolvable}
 use Rattle.solve_cli.proofs.Direct.{ended}
 use Rattle.solve_cli.proofs.Dues.{is_judgement, judged_due, judged_of}
@@ -68,7 +68,7 @@ judges _ none = refl
 judges _ (spent k) = refl
 
 -- no text is no message
-quiet : (text : Bytes) (old new : Seen) → text ≡ [] → Tells text old new → new ≡ old
+quiet : (text : Bytes) (old new : Seen) → text ≡ [] → PutsMessage text old new → new ≡ old
 quiet text old new e (inl is) = is ∙ says-none port.Message text old e
 quiet text old new e (inr h) = let front : h.0 < length text = h.1 in let len = ap length e in absurd (omega (arith, front, len))
 

@@ -24,10 +24,10 @@ use Rattle.solve_cli.specs.declared.ending.Outcome.TheVariants as outcome
 use Rattle.solve_cli.specs.Endings.{answer_text}
 use Rattle.solve_cli.specs.Seen.{Seen, seen, asks, asks_proof, creates, says, append_to, ReadFault, WriteFault, MessageFault, text_named}
 use Rattle.solve_cli.specs.Commands.{formula_of, second_of, proof_of, Stage, formula_started, second_started, proof_created, starts, gives_file, asked_to, text_of}
-use Rattle.solve_cli.specs.Happens.{is_early, Named, FormulaRead, IsFormula, FormulaIn, Judged, Gains, SoFar, Reaches, Ends, Stops, Works, Tells}
+use Rattle.solve_cli.specs.Happens.{is_early, IfNamed, FormulaRead, IsFormula, FormulaIn, Judged, Gains, SoFar, Reaches, Ends, Stops, Works, PutsMessage}
 use Rattle.solve_cli.specs.Proofs.{IsRightSoFar}
 use Rattle.solve_cli.proofs.Logging.{nothing_logged}
-use Rattle.solve_cli.specs.Steps.{FormulaFails, ReadFails, Answers, Loaded, HasNoProof, LeftBy, Elaborated, refused_as}
+use Rattle.solve_cli.specs.Steps.{FormulaFails, ReadFails, PutsAnswer, Loaded, HasNoProof, LeftBy, Elaborated, refused_as}
 
 pub if_some_both : {X : Type 0} {P Q R : X → Type 0} (w : Option X) → IfSome w P → IfSome w Q → ((x : X) → P x → Q x → R x) → IfSome w R
 if_some_both None p q f = tt
@@ -212,7 +212,7 @@ start_failed p name limit old mid f o new named first read h =
 -- the Proof port was not given its file
 pub create_failed : (p : Plan) (proof : Option Bytes) (limit : ℕ) (old mid : Seen) (f : Problem) (o : Outcome) (new : Seen) → proof_of p ≡ proof
     → mid ≡ asked_to second_started p old → IfSome old.files (λ files. IsFormula p limit files f)
-    → (o ≡ outcome.WriteFault) × Named proof (λ name. WriteFault (asks_proof name mid) new) → Works p limit old o new
+    → (o ≡ outcome.WriteFault) × IfNamed proof (λ name. WriteFault (asks_proof name mid) new) → Works p limit old o new
 create_failed p None limit old mid f o new named second read h = absurd h.1
 create_failed p (Some name) limit old mid f o new named second read h =
     subst (λ (x : Outcome). Works p limit old x new) (sym h.0) (inr (inl (record {
@@ -261,7 +261,7 @@ loaded p name limit old f text mid new named is read h = record {
 
 -- an ending whose answer was written, or a front of it
 pub answered : (p : Plan) (limit : ℕ) (old : Seen) (e : Ending) (before : Seen) (o : Outcome) (new : Seen)
-    → Ends p limit old e before → Answers e before o new → Works p limit old o new
+    → Ends p limit old e before → PutsAnswer e before o new → Works p limit old o new
 answered p limit old e before (outcome.Ended d) new ends h = (
   before,
   subst (λ (x : Ending). Ends p limit old x before) (sym h.0) ends,
@@ -316,7 +316,7 @@ module _ {p : Plan} {limit : ℕ} {old : Seen} {f : Problem} {text : Bytes} {mid
   }
 
   -- the same with nothing on the Proof port, and the answer
-  pub concluded : (e : Ending) (o : Outcome) (new : Seen) → Judged e p f text → ((files : Files) → Gains p limit files e []) → Answers e mid o new → Works p limit old o new
+  pub concluded : (e : Ending) (o : Outcome) (new : Seen) → Judged e p f text → ((files : Files) → Gains p limit files e []) → PutsAnswer e mid o new → Works p limit old o new
   concluded e o new judged gains answers =
       answered p limit old e mid o new (subst (Ends p limit old e) (sym (bare mid)) (ends e [] judged (all_files old.files gains))) answers
 
@@ -332,7 +332,7 @@ module _ {n l q : Bytes} {limit : ℕ} {old : Seen} {f : Problem} {text : Bytes}
   none_created = subst HasNoProof (sym h.asked) (none_on_created q (asked_to second_started (plan.Elab n l q) old))
 
   -- the log was judged, its proof written, and the answer
-  pub elaborated : (e : Ending) (at : Seen) (o : Outcome) (new : Seen) → Elaborated f text mid (Ok e) at → Answers e at o new → Works (plan.Elab n l q) limit old o new
+  pub elaborated : (e : Ending) (at : Seen) (o : Outcome) (new : Seen) → Elaborated f text mid (Ok e) at → PutsAnswer e at o new → Works (plan.Elab n l q) limit old o new
   elaborated e at o new made answers =
       let left = subst (λ (w : Option Files). IfSome w (λ _. LeftBy e f text made.1.0)) (files_same h) made.1.2 in
       answered (plan.Elab n l q) limit old e at o new
@@ -362,6 +362,6 @@ module _ {n l q : Bytes} {limit : ℕ} {old : Seen} {f : Problem} {text : Bytes}
 -- ---- the message
 
 pub tells_of : {T E : Type 0} (text : Bytes) (o : Outside) (r : Result T E) (q : Outside)
-    → PutsAll port.Message text o r q → Tells text (seen o) (seen q)
+    → PutsAll port.Message text o r q → PutsMessage text (seen o) (seen q)
 tells_of text o (Ok v) q h = inl (ap seen h ∙ seen-gained port.Message text o)
 tells_of text o (Err e) q h = inr (h.0, h.1, faulted text o h.0 q h.2)

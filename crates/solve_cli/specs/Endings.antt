@@ -16,19 +16,19 @@ use Rattle.solve_cli.specs.declared.ending.Outcome.TheVariants as outcome
 use Rattle.solve_cli.specs.declared.ending.Status.{Status}
 use Rattle.solve_cli.specs.declared.ending.Status.TheVariants as status
 
-abbrev pub code_of : Status → ℕ
-code_of status.Done = 0
-code_of status.Usage = 2
-code_of status.FormulaRefused = 3
-code_of status.ReadFault = 4
-code_of status.WriteFault = 5
-code_of status.OutOfMemory = 6
-code_of status.ProofRefused = 7
-code_of status.LogRefused = 8
-code_of status.Limit = 9
-code_of status.AnswerRefused = 11
-code_of status.Satisfiable = 10
-code_of status.Unsatisfiable = 20
+abbrev pub status_code_of : Status → ℕ
+status_code_of status.Done = 0
+status_code_of status.Usage = 2
+status_code_of status.FormulaRefused = 3
+status_code_of status.ReadFault = 4
+status_code_of status.WriteFault = 5
+status_code_of status.OutOfMemory = 6
+status_code_of status.ProofRefused = 7
+status_code_of status.LogRefused = 8
+status_code_of status.Limit = 9
+status_code_of status.AnswerRefused = 11
+status_code_of status.Satisfiable = 10
+status_code_of status.Unsatisfiable = 20
 
 -- a variable above the limit is the limit's, and every other offence the formula's
 abbrev pub status_of_offence : Offence → Status

@@ -32,9 +32,9 @@ use Rattle.solve_cli.specs.Commands.{is_built, formula_of, proof_of, writes_proo
 -- ---- which ending is due
 
 -- there is a name, and this holds of it
-abbrev pub Named : Option Bytes → (Bytes → Type 0) → Type 0
-Named None P = ⊥
-Named (Some name) P = P name
+abbrev pub IfNamed : Option Bytes → (Bytes → Type 0) → Type 0
+IfNamed None P = ⊥
+IfNamed (Some name) P = P name
 
 -- the text is within the limit, and reads to the formula
 pub record FormulaRead (limit : ℕ) (text : Bytes) (f : Problem) : Type 0 where
@@ -43,7 +43,7 @@ pub record FormulaRead (limit : ℕ) (text : Bytes) (f : Problem) : Type 0 where
 
 -- the formula of a command
 abbrev pub IsFormula : Plan → ℕ → Files → Problem → Type 0
-IsFormula p limit files f = Named (formula_of p) (λ name. FormulaRead limit (text_named name files) f)
+IsFormula p limit files f = IfNamed (formula_of p) (λ name. FormulaRead limit (text_named name files) f)
 
 -- the endings of a formula's text that is not read
 abbrev pub EarlyDue : ℕ → Bytes → Ending → Type 0
@@ -84,7 +84,7 @@ pub record Late (p : Plan) (limit : ℕ) (files : Files) (e : Ending) : Type 0 w
   pub due : LateDue p limit formula (second_text p files) e
 
 abbrev pub Early : Plan → ℕ → Files → Ending → Type 0
-Early p limit files e = Named (formula_of p) (λ name. EarlyDue limit (text_named name files) e)
+Early p limit files e = IfNamed (formula_of p) (λ name. EarlyDue limit (text_named name files) e)
 
 abbrev pub Due : Plan → ℕ → Files → Ending → Type 0
 Due p limit files e = Early p limit files e ⊎ Late p limit files e
@@ -186,8 +186,8 @@ WorksFor words limit old outcome.Memory new = (new ≡ old) ⊎ ((p : Plan) × A
 WorksFor words limit old o new = (p : Plan) × Asks words p × Works p limit old o new
 
 -- the message of an outcome, or a front of it and a fault of the messages
-abbrev pub Tells : Bytes → Seen → Seen → Type 0
-Tells text old new = (new ≡ says port.Message text old)
+abbrev pub PutsMessage : Bytes → Seen → Seen → Type 0
+PutsMessage text old new = (new ≡ says port.Message text old)
     ⊎ ((k : ℕ) × (k < length text) × MessageFault (says port.Message (take k text) old) new)
 
 -- A run of the program: an outcome with its status, what it did, and then its message.
@@ -196,7 +196,7 @@ pub record Runs (words : List Bytes) (limit : ℕ) (old : Seen) (status : Status
   pub status_is : status ≡ status_of outcome
   pub done : Seen
   pub works : WorksFor words limit old outcome done
-  pub tells : Tells (message_text outcome) done new
+  pub tells : PutsMessage (message_text outcome) done new
 
 -- what is due, where neither reads nor writes failed
 pub record Comes (words : List Bytes) (limit : ℕ) (old : Seen) (s : Status) : Type 0 where

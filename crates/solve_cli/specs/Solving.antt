@@ -21,8 +21,8 @@ BeginsSearch p limit old result new = MatchResult result
     (λ o. Works p limit old o new)
 
 -- what a search came to, and the events of its log
-abbrev pub Finds : Problem → ℕ → List LogEvent → Ending → Type 0
-Finds f budget events (ending.Satisfiable v) = Meets f v × IsOpenLog f budget (printed_log events)
-Finds f budget events ending.Unsatisfiable = Unmet f × IsClosedLog f budget (printed_log events)
-Finds f budget events (ending.Unknown k) = (k ≡ budget) × (¬ Settled f) × Budgeted f (printed_log events) budget
-Finds f budget events e = ⊥
+abbrev pub ComesTo : Problem → ℕ → List LogEvent → Ending → Type 0
+ComesTo f budget events (ending.Satisfiable v) = Meets f v × IsOpenLog f budget (printed_log events)
+ComesTo f budget events ending.Unsatisfiable = Unmet f × IsClosedLog f budget (printed_log events)
+ComesTo f budget events (ending.Unknown k) = (k ≡ budget) × (¬ Settled f) × Budgeted f (printed_log events) budget
+ComesTo f budget events e = ⊥

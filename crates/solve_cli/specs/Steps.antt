@@ -23,7 +23,7 @@ use Rattle.solve_cli.specs.Endings.{answer_text}
 use Rattle.solve_cli.specs.Seen.{Seen, seen, asks, asks_proof, says, ReadFault, WriteFault, text_named}
 use Rattle.solve_cli.specs.Commands.{second_started, proof_created, asked_to, gives_file, second_text}
 use Rattle.solve_cli.specs.Proofs.{IsWholeProof, IsProofBefore, IsRightSoFar}
-use Rattle.solve_cli.specs.Happens.{is_early, Named, FormulaRead, IsFormula, EarlyDue, Judged, Works}
+use Rattle.solve_cli.specs.Happens.{is_early, IfNamed, FormulaRead, IsFormula, EarlyDue, Judged, Works}
 
 -- a slot that was started on this file, and of which nothing was read
 pub record Ready (slot : Slot) (name : Bytes) (o : Outside) : Type 0 where
@@ -62,15 +62,15 @@ ReadsFormula name limit old result new = MatchResult result
     (λ o. FormulaFails name limit old o new)
 
 -- an answer was written, or a front of it
-abbrev pub Answers : Ending → Seen → Outcome → Seen → Type 0
-Answers e old (outcome.Ended d) new = (d ≡ e) × (new ≡ says port.Answer (answer_text e) old)
-Answers e old outcome.WriteFault new =
+abbrev pub PutsAnswer : Ending → Seen → Outcome → Seen → Type 0
+PutsAnswer e old (outcome.Ended d) new = (d ≡ e) × (new ≡ says port.Answer (answer_text e) old)
+PutsAnswer e old outcome.WriteFault new =
     (k : ℕ) × (k < length (answer_text e)) × WriteFault (says port.Answer (take k (answer_text e)) old) new
-Answers e old o new = ⊥
+PutsAnswer e old o new = ⊥
 
 -- the formula was read, and the second slot was started
-abbrev pub Begins : Plan → Bytes → ℕ → Outside → Result Problem Outcome → Outside → Type 0
-Begins p second limit old result new = MatchResult result
+abbrev pub LoadsFormula : Plan → Bytes → ℕ → Outside → Result Problem Outcome → Outside → Type 0
+LoadsFormula p second limit old result new = MatchResult result
     (λ f. (seen new ≡ asked_to second_started p (seen old)) × Ready slot.Second second new
     × IfSome (seen old).files (λ files. IsFormula p limit files f))
     (λ o. Works p limit (seen old) o (seen new))
@@ -79,7 +79,7 @@ Begins p second limit old result new = MatchResult result
 abbrev pub GivesFile : {T : Type 0} → Option Bytes → Outside → Result T Outcome → Outside → Type 0
 GivesFile proof old result new = MatchResult result
     (λ _. (seen new ≡ gives_file proof (seen old)) × ((name : Bytes) → Ready slot.Second name old → Ready slot.Second name new))
-    (λ o. (o ≡ outcome.WriteFault) × Named proof (λ name. WriteFault (asks_proof name (seen old)) (seen new)))
+    (λ o. (o ≡ outcome.WriteFault) × IfNamed proof (λ name. WriteFault (asks_proof name (seen old)) (seen new)))
 
 -- both texts were read, and each name of the command was asked for
 pub record Loaded (p : Plan) (limit : ℕ) (old : Seen) (f : Problem) (text : Bytes) (at : Seen) : Type 0 where

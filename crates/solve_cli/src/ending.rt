@@ -1,6 +1,6 @@
 //! How a command ends, with its status.
 ghost use Rattle.std.specs.Prelude.{◌≡◌};
-ghost use Rattle.solve_cli.specs.Endings.{status_of, code_of};
+ghost use Rattle.solve_cli.specs.Endings.{status_of, status_code_of};
 
 use cx_base::Values;
 use cx_desk::Slot;
@@ -96,7 +96,7 @@ pub enum Status {
 impl Status {
     /// The number that the program exits with.
     pub fn code(self) -> u8
-        ensures { result ≡ code_of self }
+        ensures { result ≡ status_code_of self }
     {
         match self {
             Status::Done => 0,

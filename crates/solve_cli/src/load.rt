@@ -4,7 +4,7 @@ ghost use Rattle.cx_desk.specs.Outside.{asked_in, started_in};
 ghost use Rattle.cx_words.specs.declared.plans.Plan.{Plan as PlanOf};
 ghost use Rattle.solve_cli.specs.Seen.{seen};
 ghost use Rattle.solve_cli.specs.Commands.{Unasked, formula_of, second_of, proof_of};
-ghost use Rattle.solve_cli.specs.Steps.{Ready, StartsSlot, ReadsSlot, ReadsFormula, Begins, GivesFile, Loads, refused_as};
+ghost use Rattle.solve_cli.specs.Steps.{Ready, StartsSlot, ReadsSlot, ReadsFormula, LoadsFormula, GivesFile, Loads, refused_as};
 
 use crate::{Ending, Outcome};
 use cnfx_reader::{ReadRefusal, read_formula};
@@ -108,7 +108,7 @@ fn begin<D: Desk>(
 ) -> Result<Formula, Outcome>
     requires fresh { Unasked (D.outside desk.old).asked }
     requires limit { limit ≤ 4294967295 }
-    ensures { (p : PlanOf) → formula_of p ≡ Some formula → second_of p ≡ Some second → Begins p second limit (D.outside desk.old) result (D.outside desk.new) }
+    ensures { (p : PlanOf) → formula_of p ≡ Some formula → second_of p ≡ Some second → LoadsFormula p second limit (D.outside desk.old) result (D.outside desk.new) }
 {
     let formula = match read_formula_of(alloc, desk, formula, limit) {
         Ok(formula) => formula,

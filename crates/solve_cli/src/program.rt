@@ -7,7 +7,7 @@ ghost use Rattle.cx_words.specs.declared.plans.Plan.{Plan as PlanOf};
 ghost use Rattle.cx_words.specs.declared.plans.Plan.TheVariants as plan;
 ghost use Rattle.solve_cli.specs.Seen.{seen};
 ghost use Rattle.solve_cli.specs.Commands.{Unasked, is_built};
-ghost use Rattle.solve_cli.specs.Steps.{Answers};
+ghost use Rattle.solve_cli.specs.Steps.{PutsAnswer};
 ghost use Rattle.solve_cli.specs.Happens.{Works, WorksFor, AsksForMore, Runs, Comes, IsSound, IsElaborated};
 ghost use Rattle.solve_cli.specs.Solved.{IsSatisfied, IsRefuted, IsSpent, IsSettled, IsUnsolvable};
 
@@ -24,7 +24,7 @@ use std::alloc::{AllocError, Global};
 
 /// Writes the answer of an ending.
 fn answer<D: Desk>(desk: &mut D, ending: Ending) -> Outcome
-    ensures { Answers ending (seen (D.outside desk.old)) result (seen (D.outside desk.new)) }
+    ensures { PutsAnswer ending (seen (D.outside desk.old)) result (seen (D.outside desk.new)) }
 {
     match put_answer_text(desk, &ending) {
         Ok(()) => Outcome::Ended(ending),

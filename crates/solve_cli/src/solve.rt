@@ -3,7 +3,7 @@ ghost use Rattle.std.specs.Prelude.{◌≡◌, ◌≤◌, ◌^◌, ℕ, [], leng
 ghost use Rattle.cx_words.specs.declared.plans.Plan.TheVariants as plan;
 ghost use Rattle.solve_cli.specs.Seen.{seen};
 ghost use Rattle.solve_cli.specs.Commands.{Unasked};
-ghost use Rattle.solve_cli.specs.Solving.{BeginsSearch, Finds};
+ghost use Rattle.solve_cli.specs.Solving.{BeginsSearch, ComesTo};
 
 use crate::load::{create_proof, read_formula_of};
 use crate::{Ending, Outcome};
@@ -49,7 +49,7 @@ pub fn search(
     requires conflicts { (1 ≤ conflicts) × (conflicts ≤ 10 ^ 18) }
     requires few { length formula.now.constraints ≤ 4294967295 }
     requires fresh { log.old ≡ [] }
-    ensures { IfOk result (Finds formula.now conflicts log.new) }
+    ensures { IfOk result (ComesTo formula.now conflicts log.new) }
 {
     let answer = solve_core::<Scratch, ListLog>(alloc, formula, conflicts, log);
     let _with_texts = log.events();

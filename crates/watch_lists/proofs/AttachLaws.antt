@@ -4,7 +4,7 @@ use Rattle.std.specs.List.{Contains, All}
 use Rattle.std.proofs.lemmas.Bool.{cases_eq, false≢true}
 use Rattle.std.proofs.lemmas.List.{get_or-set_same, get_or-set_other, length-set, length-take, get_or-take}
 use Rattle.cx_base.specs.Literals.{code_of, Literal, negate}
-use Rattle.cx_base.proofs.Elements.{in_head}
+use Rattle.cx_base.proofs.Elements.{in_head, in_tail}
 use Rattle.cx_trail.specs.Sequence.{TrailState, entry_at, StandsAt, IsFalseIn, IsTrueBy}
 use Rattle.clause_arena.specs.Clauses.{ArenaState, literals_at, IsLive}
 use Rattle.watch_lists.specs.Watching.{clause_of, partner, held_at, no_literal, IsAttached, looked_at, AreNodes, AreGuarded, IsBehind, Fits}
@@ -14,7 +14,7 @@ use Rattle.watch_lists.specs.Attaching.{IsForgotten, AreKept, CanBeWatched, lite
 use Rattle.watch_lists.specs.Keeping.{AreWatches}
 use Rattle.std.proofs.lemmas.List.Elements.{Contains-get_or}
 use Rattle.watch_lists.proofs.NodeLaws.{node_in, partner_attached, partner_even, partner_odd, clause_of_partner}
-use Rattle.watch_lists.proofs.MemberLaws.{in_tail, in_cases, none_in}
+use Rattle.watch_lists.proofs.MemberLaws.{in_cases, none_in}
 
 pub clause_of_first : (r : ℕ) → clause_of (2 * r) ≡ r
 clause_of_first r = omega arith
@@ -58,10 +58,10 @@ entered held attached place first second b e =
 pub listed_entered : (held : List Literal) (attached : List Bool) (place : ℕ) (first second : Literal) (held' : List Literal) (attached' : List Bool) (l0 l1 l2 : List (List ℕ)) → IsEntered held attached place first second held' attached' → get_or attached place false ≡ false → AreListed held attached l0 → list_at l0 0 ≡ [] → IsLinked (2 * place) (code_of first) l0 l1 → IsLinked (2 * place + 1) (code_of second) l1 l2 → AreListed held' attached' l2
 listed_entered held attached place first second held' attached' l0 l1 l2 i new k none m1 m2 =
     let on1 : (l m : ℕ) → Contains (list_at l0 l) m → Contains (list_at l1 l) m = λ l m h. ⊎_elim
-    (λ (e : l ≡ code_of first). subst (λ x. Contains (list_at l1 x) m) (sym e) (subst (λ (xs : List ℕ). Contains xs m) (sym m1.gained) (in_tail (2 * place) m (list_at l0 (code_of first)) (subst (λ x. Contains (list_at l0 x) m) e h))))
+    (λ (e : l ≡ code_of first). subst (λ x. Contains (list_at l1 x) m) (sym e) (subst (λ (xs : List ℕ). Contains xs m) (sym m1.gained) (in_tail (2 * place) (list_at l0 (code_of first)) m (subst (λ x. Contains (list_at l0 x) m) e h))))
     (λ (ne : l ≢ code_of first). subst (λ (xs : List ℕ). Contains xs m) (sym (m1.others l ne)) h) (cases_eq l (code_of first)) in
     let on2 : (l m : ℕ) → Contains (list_at l1 l) m → Contains (list_at l2 l) m = λ l m h. ⊎_elim
-    (λ (e : l ≡ code_of second). subst (λ x. Contains (list_at l2 x) m) (sym e) (subst (λ (xs : List ℕ). Contains xs m) (sym m2.gained) (in_tail (2 * place + 1) m (list_at l1 (code_of second)) (subst (λ x. Contains (list_at l1 x) m) e h))))
+    (λ (e : l ≡ code_of second). subst (λ x. Contains (list_at l2 x) m) (sym e) (subst (λ (xs : List ℕ). Contains xs m) (sym m2.gained) (in_tail (2 * place + 1) (list_at l1 (code_of second)) m (subst (λ x. Contains (list_at l1 x) m) e h))))
     (λ (ne : l ≢ code_of second). subst (λ (xs : List ℕ). Contains xs m) (sym (m2.others l ne)) h) (cases_eq l (code_of second)) in
     let first_in : Contains (list_at l2 (code_of first)) (2 * place) = on2 (code_of first) (2 * place) (subst (λ (xs : List ℕ). Contains xs (2 * place)) (sym m1.gained) (in_head (2 * place) (list_at l0 (code_of first)))) in
     let second_in : Contains (list_at l2 (code_of second)) (2 * place + 1) = subst (λ (xs : List ℕ). Contains xs (2 * place + 1)) (sym m2.gained) (in_head (2 * place + 1) (list_at l1 (code_of second))) in

@@ -2,9 +2,6 @@
 use Rattle.std.proofs.Common.{◌≡◌, ℕ, zero, suc, List, [], ◌∷◌, length, ap, inl, inr, ◌⊎◌, arith}
 use Rattle.std.specs.List.{Contains}
 
-pub in_tail : (n x : ℕ) (rest : List ℕ) → Contains rest x → Contains (n ∷ rest) x
-in_tail n x rest (k, h, e) = (suc k, omega arith, e)
-
 pub in_cases : (n x : ℕ) (rest : List ℕ) → Contains (n ∷ rest) x → (n ≡ x) ⊎ Contains rest x
 in_cases n x rest (zero, h, e) = inl e
 in_cases n x rest (suc k, h, e) = inr (k, omega arith, e)

@@ -5,7 +5,7 @@ use Rattle.std.proofs.lemmas.Bool.{cases_eq}
 use Rattle.std.proofs.lemmas.List.{length-append}
 use Rattle.cx_base.specs.Literals.{code_of, Literal, negate}
 use Rattle.cx_base.proofs.LiteralLaws.{same_code, code_above}
-use Rattle.cx_base.proofs.Elements.{in_head}
+use Rattle.cx_base.proofs.Elements.{in_head, in_tail}
 use Rattle.cx_trail.specs.declared.entry.Entry.{Entry}
 use Rattle.cx_trail.specs.Sequence.{TrailState, IsTrueIn, IsFalseIn, entry_at}
 use Rattle.cx_trail.proofs.ValueLaws.{true_kept, entry_kept}
@@ -13,7 +13,7 @@ use Rattle.clause_arena.specs.Clauses.{ArenaState}
 use Rattle.watch_lists.specs.Watching.{clause_of, partner, held_at, IsAttached, AreNodes, IsBehind, Propagates}
 use Rattle.watch_lists.specs.Lists.{list_at, IsFirst, IsMoved, IsTaken, IsDrained}
 use Rattle.watch_lists.specs.Walking.{AreListed, IsWalk, IsRest, Goes, AllPassed}
-use Rattle.watch_lists.proofs.MemberLaws.{in_tail, in_cases, none_in}
+use Rattle.watch_lists.proofs.MemberLaws.{in_cases, none_in}
 use Rattle.watch_lists.proofs.NodeLaws.{propagates_both, propagates_none}
 
 pub moved_listed : (held new_held : List Literal) (attached : List Bool) (old new : List (List ℕ)) (node to : ℕ) → IsFirst old 0 node → IsMoved 0 to old new → to ≢ 0 → ((n : ℕ) → n ≢ node → held_at new_held n ≡ held_at held n) → code_of (held_at new_held node) ≡ to → IsAttached attached (clause_of node) → AreListed held attached old → AreListed new_held attached new
@@ -23,7 +23,7 @@ moved_listed held new_held attached old new node to f m nz same code_is at k =
     let qr : m.rest ≡ f.rest = cc in
     let left : list_at new 0 ≡ f.rest = m.left ∙ qr in
     let gained : list_at new to ≡ node ∷ list_at old to = m.gained ∙ ap (λ x. x ∷ list_at old to) qn in
-    let rest_in : (n : ℕ) → Contains f.rest n → Contains (list_at old 0) n = λ n h. subst (λ (xs : List ℕ). Contains xs n) (sym f.was) (in_tail node n f.rest h) in
+    let rest_in : (n : ℕ) → Contains f.rest n → Contains (list_at old 0) n = λ n h. subst (λ (xs : List ℕ). Contains xs n) (sym f.was) (in_tail node f.rest n h) in
     let waits : (n : ℕ) → n ≢ node → Contains (list_at old 0) n → Contains (list_at new 0) n = λ n ne h.
     subst (λ (xs : List ℕ). Contains xs n) (sym left) (⊎_elim (λ (e : node ≡ n). absurd (ne (sym e))) (λ (r : Contains f.rest n). r) (in_cases node n f.rest (subst (λ (xs : List ℕ). Contains xs n) f.was h))) in
     let apart : (l n : ℕ) → l ≢ 0 → Contains (list_at old l) n → n ≢ node = λ l n lz h e. f.alone l lz (subst (Contains (list_at old l)) e h) in
@@ -36,7 +36,7 @@ moved_listed held new_held attached old new node to f m nz same code_is at k =
           (λ (h : Contains (list_at old (code_of (held_at held n))) n). ⊎_elim
           (λ (z : code_of (held_at held n) ≡ 0). inr (waits n ne (subst (λ x. Contains (list_at old x) n) z h)))
           (λ (z : code_of (held_at held n) ≢ 0). inl (subst (λ x. Contains (list_at new x) n) code_kept (⊎_elim
-          (λ (e : code_of (held_at held n) ≡ to). subst (λ x. Contains (list_at new x) n) (sym e) (subst (λ (xs : List ℕ). Contains xs n) (sym gained) (in_tail node n (list_at old to) (subst (λ x. Contains (list_at old x) n) e h))))
+          (λ (e : code_of (held_at held n) ≡ to). subst (λ x. Contains (list_at new x) n) (sym e) (subst (λ (xs : List ℕ). Contains xs n) (sym gained) (in_tail node (list_at old to) n (subst (λ x. Contains (list_at old x) n) e h))))
           (λ (nt : code_of (held_at held n) ≢ to). subst (λ (xs : List ℕ). Contains xs n) (sym (m.others (code_of (held_at held n)) z nt)) h) (cases_eq (code_of (held_at held n)) to)))) (cases_eq (code_of (held_at held n)) 0))
           (λ (h : Contains (list_at old 0) n). inr (waits n ne h)) (k.covered n atn)) (cases_eq n node);
       of_attached = λ l n h. ⊎_elim
@@ -71,7 +71,7 @@ turn_walk vars held new_held attached old new a t u l node to k f m nz same code
       waiting = λ n h.
           let r = subst (λ (xs : List ℕ). Contains xs n) left h in
           let ne : n ≢ node = λ e. f.once (subst (Contains f.rest) e r) in
-          same n ne ∙ k.waiting n (subst (λ (xs : List ℕ). Contains xs n) (sym f.was) (in_tail node n f.rest r));
+          same n ne ∙ k.waiting n (subst (λ (xs : List ℕ). Contains xs n) (sym f.was) (in_tail node f.rest n r));
       done = λ n atn e. ⊎_elim
           (λ (i : n ≡ node). inr (subst (λ x. IsTrueIn u.entries (held_at new_held (partner x))) (sym i) (node_done (ap (held_at new_held) (sym i) ∙ e))))
           (λ (ne : n ≢ node).
@@ -180,7 +180,7 @@ pouring_none to old = record { gained = λ n h. h; came = λ n h. h; others = λ
 pub pouring_more : (to : ℕ) (old mid new : List (List ℕ)) → to ≢ 0 → IsPouring to old mid → IsMoved 0 to mid new → IsPouring to old new
 pouring_more to old mid new nz p m = record {
   gained = λ n h. ⊎_elim
-      (λ (a : Contains (list_at mid to) n). inl (subst (λ (xs : List ℕ). Contains xs n) (sym m.gained) (in_tail m.node n (list_at mid to) a)))
+      (λ (a : Contains (list_at mid to) n). inl (subst (λ (xs : List ℕ). Contains xs n) (sym m.gained) (in_tail m.node (list_at mid to) n a)))
       (λ (a : Contains (list_at mid 0) n). ⊎_elim
       (λ (e : m.node ≡ n). inl (subst (λ (xs : List ℕ). Contains xs n) (sym m.gained) (subst (λ x. Contains (m.node ∷ list_at mid to) x) e (in_head m.node (list_at mid to)))))
       (λ (r : Contains m.rest n). inr (subst (λ (xs : List ℕ). Contains xs n) (sym m.left) r)) (in_cases m.node n m.rest (subst (λ (xs : List ℕ). Contains xs n) m.was a)))
@@ -189,7 +189,7 @@ pouring_more to old mid new nz p m = record {
       (λ (a : Contains (list_at new to) n). ⊎_elim
       (λ (e : m.node ≡ n). inr (subst (λ (xs : List ℕ). Contains xs n) (sym m.was) (subst (λ x. Contains (m.node ∷ m.rest) x) e (in_head m.node m.rest))))
       (λ (r : Contains (list_at mid to) n). inl r) (in_cases m.node n (list_at mid to) (subst (λ (xs : List ℕ). Contains xs n) m.gained a)))
-      (λ (a : Contains (list_at new 0) n). inr (subst (λ (xs : List ℕ). Contains xs n) (sym m.was) (in_tail m.node n m.rest (subst (λ (xs : List ℕ). Contains xs n) m.left a))))
+      (λ (a : Contains (list_at new 0) n). inr (subst (λ (xs : List ℕ). Contains xs n) (sym m.was) (in_tail m.node m.rest n (subst (λ (xs : List ℕ). Contains xs n) m.left a))))
       h);
   others = λ l a b. m.others l a b ∙ p.others l a b;
   count = m.count ∙ p.count;

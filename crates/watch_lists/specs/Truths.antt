@@ -20,8 +20,8 @@ abbrev pub IsQuiet : List Entry → List Literal → Type 0
 IsQuiet entries lits = ((l : Literal) × Contains lits l × IsTrueIn entries l) ⊎ ((l : Literal) × (m : Literal) × Contains lits l × Contains lits m × (l ≢ m) × IsOpenIn entries l.variable × IsOpenIn entries m.variable)
 
 -- what a look at a clause finds, where other is its second watched literal
-abbrev pub Finds : List Entry → List Literal → Literal → Finding → Type 0
-Finds entries lits other Satisfied = IsTrueIn entries other
-Finds entries lits other (Free l) = Contains lits l × (l ≢ other) × (IsFalseIn entries l → ⊥)
-Finds entries lits other (Unit l) = (l ≡ other) × IsOpenIn entries other.variable × AreOthersFalse entries lits other
-Finds entries lits other Falsified = IsFalsified entries lits
+abbrev pub IsFinding : List Entry → List Literal → Literal → Finding → Type 0
+IsFinding entries lits other Satisfied = IsTrueIn entries other
+IsFinding entries lits other (Free l) = Contains lits l × (l ≢ other) × (IsFalseIn entries l → ⊥)
+IsFinding entries lits other (Unit l) = (l ≡ other) × IsOpenIn entries other.variable × AreOthersFalse entries lits other
+IsFinding entries lits other Falsified = IsFalsified entries lits

@@ -4,7 +4,7 @@ ghost use Rattle.std.specs.List.{All, Contains};
 ghost use Rattle.cx_base.specs.Literals.{Literal};
 ghost use Rattle.cx_trail.specs.Sequence.{IsTrail, IsFalseIn};
 ghost use Rattle.clause_arena.specs.Clauses.{IsLive, literals_at};
-ghost use Rattle.watch_lists.specs.Truths.{AreOthersFalse, Finds};
+ghost use Rattle.watch_lists.specs.Truths.{AreOthersFalse, IsFinding};
 
 use clause_arena::Arena;
 use cx_base::{ClauseRef, Lit};
@@ -53,7 +53,7 @@ pub(crate) fn look(arena: &Arena, reference: ClauseRef, trail: &Trail, other: Li
     requires live { IsLive arena.now reference }
     requires within { All (λ l. (1 ≤ l.variable) × (l.variable ≤ trail.now.variables)) (literals_at arena.now reference) }
     requires inside { Contains (literals_at arena.now reference) other }
-    ensures finds { Finds trail.now.entries (literals_at arena.now reference) other result }
+    ensures finds { IsFinding trail.now.entries (literals_at arena.now reference) other result }
     ensures sound { IsTrail trail.now }
 {
     match trail.truth(other) {

@@ -15,7 +15,7 @@ use Rattle.parity_engine.specs.declared.state.Held.{Held}
 use Rattle.parity_engine.specs.declared.state.Mood.{Mood}
 use Rattle.parity_engine.specs.declared.state.Mood.TheVariants.{Busy, Broken}
 use Rattle.parity_engine.specs.declared.event.ParityEvent.TheVariants.{Implied, Conflict}
-use Rattle.parity_engine.specs.State.{State, Named, Answers, names, named_at, known, held_at, is_unassigned, AgreesWith}
+use Rattle.parity_engine.specs.State.{State, Named, Reports, names, named_at, known, held_at, is_unassigned, AgreesWith}
 use Rattle.parity_engine.proofs.Known.{has_known}
 use Rattle.xor_reason.specs.ReasonClause.{AgreesWithTrail, AreAssigned, IsReasonFor}
 use Rattle.xor_reason.specs.Laws.{StandsOn, ImpliedIsMet, BrokenIsMissed}
@@ -66,7 +66,7 @@ named_is old new row m n mood lt left is =
     same_Some m n (sym (get_or-set_same old.named row (Some m) None lt) ∙ ap (λ (s : State). named_at s row) (sym left) ∙ is)
 
 -- an implied literal's row is a reason for it on the trail with the literal at its end
-pub implied_on_pushed : (old new : State) (row : ℕ) (l : Literal) (n : Named) (trail : TrailState) (level : ℕ) (reason : Reason) → StandsOn old trail → Answers old (Implied l row) new → named_at new row ≡ Some n
+pub implied_on_pushed : (old new : State) (row : ℕ) (l : Literal) (n : Named) (trail : TrailState) (level : ℕ) (reason : Reason) → StandsOn old trail → Reports old (Implied l row) new → named_at new row ≡ Some n
     → AreAssigned (pushed trail level l reason) n.form × IsReasonFor (pushed trail level l reason) (Some l) n.form
 implied_on_pushed old new row l n trail level reason stands answers is =
     let e : Entry = record { literal = l; level = level; reason = reason } in
@@ -74,7 +74,7 @@ implied_on_pushed old new row l n trail level reason stands answers is =
     subst (λ (m : Named). AreAssigned (pushed trail level l reason) m.form × IsReasonFor (pushed trail level l reason) (Some l) m.form) same
     (implied_is_met old (pushed trail level l reason) l answers.0.form (λ m h. true_kept trail.entries (e ∷ []) m (stands m h)) (true_pushed trail (pushed trail level l reason) level l reason refl) answers.5)
 
-pub conflict_on_trail : (old new : State) (row : ℕ) (n : Named) (trail : TrailState) → StandsOn old trail → Answers old (Conflict row) new → named_at new row ≡ Some n
+pub conflict_on_trail : (old new : State) (row : ℕ) (n : Named) (trail : TrailState) → StandsOn old trail → Reports old (Conflict row) new → named_at new row ≡ Some n
     → AreAssigned trail n.form × IsReasonFor trail None n.form
 conflict_on_trail old new row n trail stands answers is =
     subst (λ (m : Named). AreAssigned trail m.form × IsReasonFor trail None m.form) (named_is old new row answers.0 n Broken answers.1 answers.2 is)

@@ -3,7 +3,7 @@ use Rattle.std.proofs.Common.{◌≡◌, ℕ, ◌+◌, ◌-◌, ◌<◌, ◌≤�
 use Rattle.std.specs.List.{list_any, range_with_len}
 use Rattle.std.proofs.lemmas.List.FromFn.{get_or-map-range_with_len}
 use Rattle.std.proofs.lemmas.Bool.{not-true, or_right}
-use Rattle.cx_base.specs.Literals.{Literal, negate, same_literal, value_of, literal_true}
+use Rattle.cx_base.specs.Literals.{Literal, negate, same_literal, value_of, literal_true, positive_of}
 use Rattle.cx_base.proofs.ParityLaws.{to_differ}
 use Rattle.cx_semantics.proofs.ChainLaws.{are_one, same_literal-itself, literal_true-negate}
 use Rattle.cx_trail.specs.declared.entry.Entry.{Entry}
@@ -26,8 +26,6 @@ place_of_any p (x ∷ xs) d h = pick (p x) refl (place_of_any p xs d) h
     pick false e behind g = let r = behind g in (suc r.0, (let lt = r.1 in omega arith), r.2)
 
 -- ---- the values
-abbrev positive_of : ℕ → Literal
-positive_of v = record { variable = v; negative = false }
 
 -- the positive literal stands on the trail
 abbrev value_on : List Entry → ℕ → Bool

@@ -1,8 +1,8 @@
 //! Why a row implied a literal, or was missed.
 ghost use Rattle.std.specs.Prelude.{◌≡◌, length, IfOk, IsSome};
 ghost use Rattle.parity_engine.specs.Equations.{sum_of_numbers};
-ghost use Rattle.parity_engine.specs.Written.{IsWritten};
-ghost use Rattle.parity_engine.specs.State.{AreRising, OfNamed, named_at};
+ghost use Rattle.parity_engine.specs.Written.{IsWritten, AreRising};
+ghost use Rattle.parity_engine.specs.State.{OfNamed, named_at};
 ghost use Rattle.xor_reason.specs.ReasonClause.{AreAssigned, IsReasonClause, IsReasonFor};
 
 use crate::literals::literals_for;

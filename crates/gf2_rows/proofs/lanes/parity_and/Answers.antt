@@ -4,7 +4,7 @@ use Rattle.std.specs.Int.RustNames.{bit_xor}
 use Rattle.std.specs.Simd.Lanes.{zip2, chunk}
 use Rattle.std.proofs.lemmas.Simd.{length-zip2, length-chunk}
 use Rattle.cx_base.specs.Literals.{differ}
-use Rattle.gf2_rows.specs.Bits.{parity}
+use Rattle.cx_base.specs.Parity.{odd_sum}
 use Rattle.gf2_rows.proofs.Words.{parity_of, parity_of-zero, products_more, products_of_rows, parity_of-ones, products_upto}
 use Rattle.gf2_rows.proofs.Blocks.{parity-lanes, parity-reduced, products_block}
 use Rattle.gf2_rows.proofs.lanes.parity_and.Goals as goal
@@ -19,7 +19,7 @@ loop-block-preserved c =
     let long : length ws ≡ 8 = length-zip2 bit_and (chunk at 8 c.args.a.now) (chunk at 8 c.args.b.now) (longa ∙ sym longb) ∙ longa in (
       length-zip2 bit_xor c.loop-block.sums ws (c.loop-block.invariant.0 ∙ sym long) ∙ c.loop-block.invariant.0,
       parity-lanes c.loop-block.sums ws (c.loop-block.invariant.0 ∙ sym long)
-          ∙ ap (λ x. differ x (parity (map parity_of ws))) c.loop-block.invariant.1
+          ∙ ap (λ x. differ x (odd_sum (map parity_of ws))) c.loop-block.invariant.1
           ∙ sym (products_block c.args.a.now c.args.b.now at 8 (omega arith) c.requires)
           ∙ ap (λ n. products_upto c.args.a.now c.args.b.now (64 * n)) (sym e),
     )
@@ -27,7 +27,7 @@ loop-block-preserved c =
 pub loop-i-init : goal.loop-i-init
 loop-i-init c =
     let e : 8 * c.loop-block.block ≡ 8 * (length c.args.a.now / 8) = omega arith in
-    parity-reduced 0 c.loop-block.sums ∙ ap (λ x. differ x (parity (map parity_of c.loop-block.sums))) parity_of-zero ∙ c.loop-block.invariant.1
+    parity-reduced 0 c.loop-block.sums ∙ ap (λ x. differ x (odd_sum (map parity_of c.loop-block.sums))) parity_of-zero ∙ c.loop-block.invariant.1
     ∙ ap (λ n. products_upto c.args.a.now c.args.b.now (64 * n)) e
 
 pub loop-i-preserved : goal.loop-i-preserved

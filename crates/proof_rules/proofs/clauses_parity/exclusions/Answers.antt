@@ -1,7 +1,7 @@
 use Rattle.std.proofs.Common.{◌≡◌, sym, ap, ◌∙◌, subst, ◌+◌, ◌^◌, ◌<◌, ◌≤◌, ◌||◌, Bool, false, List, drop, length, get_or, replicate, arith}
 use Rattle.std.proofs.lemmas.List.{drop_more, get_or-replicate, length-replicate, with_items_is}
 use Rattle.cx_semantics.specs.Tables.{named}
-use Rattle.proof_rules.specs.Exclusions.{Fits, excluded}
+use Rattle.proof_rules.specs.Exclusions.{HasPlaces, excluded}
 use Rattle.proof_rules.proofs.ExclusionLaws.{length-excluded}
 use Rattle.proof_rules.proofs.ClausesParity.{small_power, reach_of_power, marks, marks-hint, marks-no_hint, one_more}
 use Rattle.proof_rules.proofs.clauses_parity.exclusions.Goals.{in-Some+in_ok-set, in_default}
@@ -37,7 +37,7 @@ loop-id-preserved c =
           let items : ◌≡◌ {A = List Bool} c.match-clause.table.items new = ap (λ t. t.items) w.table-is ∙ with_items_is c.loop-id.table new (same ∙ sym c.loop-id.table.ok.0) in
           let long : length c.match-clause.table.items ≡ length old = ap length items ∙ same in
           record {
-            reach = subst (Fits xs 1) (sym long) c.loop-id.invariant.reach;
+            reach = subst (HasPlaces xs 1) (sym long) c.loop-id.invariant.reach;
             marked = λ j h.
                 let k : j < length old = omega arith in
                 ap (λ t. get_or t j false || marks xs j (named clauses rest)) items
@@ -48,7 +48,7 @@ loop-id-preserved c =
       | in_default w ↦
           let items : ◌≡◌ {A = List Bool} c.match-clause.table.items old = ap (λ t. t.items) w.table-is in
           record {
-            reach = subst (Fits xs 1) (sym (ap length items)) c.loop-id.invariant.reach;
+            reach = subst (HasPlaces xs 1) (sym (ap length items)) c.loop-id.invariant.reach;
             marked = λ j h.
                 let k : j < length old = omega (arith, ap length items) in
                 ap (λ t. get_or t j false || marks xs j (named clauses rest)) items

@@ -2,7 +2,7 @@ use Rattle.std.proofs.Common.{◌≡◌, ◌<◌, ◌∙◌, ℕ, sym, ap, subst
 use Rattle.std.proofs.lemmas.List.{with_items_is}
 use Rattle.gf2_matrix.specs.Content.{IsReducedRow}
 use Rattle.gauss_jordan.specs.declared.slot.Slot.{Slot}
-use Rattle.parity_engine.specs.State.{State, Named, Answers, IsBroken, IsNamedNow, IsSameNamed, named_at, names}
+use Rattle.parity_engine.specs.State.{State, Named, Reports, IsBroken, IsNamedNow, IsSameNamed, named_at, names}
 use Rattle.gauss_jordan.specs.Slots.{AreMasks, state_of}
 use Rattle.gauss_jordan.proofs.ScratchEvents.{refreshed, state_shape, broken_again}
 use Rattle.parity_engine.specs.declared.state.Mood.TheVariants.{Broken}
@@ -48,6 +48,6 @@ returns c =
     ∙ ap (λ (ss : List Slot). state_of d m.level m.held.items ss m.mood) c.deref_mut-3.ensures.value
     ∙ state_shape m.matrix d m.level m.held.items m.slots.items m.mood c.reduce_outside.ensures.shape ∙ c.self.view_is in
     rw slots_is
-    (subst (λ (s : State). Answers s c.answer-event.result.0 (state_of d m.level m.held.items c.answer-event.new.slots c.answer-event.result.1)) before
-    (subst (λ hs. Answers (state_of d m.level c.deref-3.result.now c.deref_mut-3.result.now m.mood) c.answer-event.result.0 (state_of d m.level hs c.answer-event.new.slots c.answer-event.result.1))
+    (subst (λ (s : State). Reports s c.answer-event.result.0 (state_of d m.level m.held.items c.answer-event.new.slots c.answer-event.result.1)) before
+    (subst (λ hs. Reports (state_of d m.level c.deref-3.result.now c.deref_mut-3.result.now m.mood) c.answer-event.result.0 (state_of d m.level hs c.answer-event.new.slots c.answer-event.result.1))
     c.deref-3.ensures.value c.answer-event.ensures.answers))

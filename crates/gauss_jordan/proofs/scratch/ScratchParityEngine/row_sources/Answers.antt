@@ -3,7 +3,8 @@ use Rattle.std.proofs.lemmas.Result.{IfOk-weaker}
 use Rattle.parity_engine.specs.Equations.{numbers_from, sum_of_numbers}
 use Rattle.gf2_matrix.specs.Content.{sources_of}
 use Rattle.gauss_jordan.specs.declared.slot.Slot.{Slot}
-use Rattle.parity_engine.specs.State.{State, Named, OfNamed, AreRising}
+use Rattle.parity_engine.specs.State.{State, Named, OfNamed}
+use Rattle.parity_engine.specs.Written.{AreRising}
 use Rattle.gauss_jordan.proofs.ScratchEvents.{sources_listed}
 use Rattle.gauss_jordan.proofs.scratch.ScratchParityEngine.row_sources.Goals as goal
 

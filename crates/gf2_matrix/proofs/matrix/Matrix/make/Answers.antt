@@ -1,6 +1,6 @@
 use Rattle.std.proofs.Common.{◌≤◌, ◌∙◌, length, sym, ap, subst, arith}
 use Rattle.parity_engine.specs.Equations.{numbers_from}
-use Rattle.parity_engine.specs.Columns.{AreColumns}
+use Rattle.parity_engine.specs.Written.{AreRising}
 use Rattle.parity_engine.specs.Views.{words_for}
 use Rattle.gf2_matrix.specs.Packed.{content}
 use Rattle.gf2_matrix.specs.Made.{IsMadeOf}
@@ -10,7 +10,7 @@ use Rattle.gf2_matrix.proofs.Made.{AreMadeFrom, made_matrix, made_is, made_of_gi
 use Rattle.gf2_matrix.proofs.matrix.Matrix.make.Goals as goal
 use Rattle.gf2_matrix.proofs.matrix.Matrix.make.Goals.{After-deref-2, In_ok-given}
 
-rise : (c : After-deref-2) → AreColumns 1 c.args.vars c.deref-2.result.now
+rise : (c : After-deref-2) → AreRising 1 c.args.vars c.deref-2.result.now
 rise c =
     made_columns c.args.vars c.in_ok-occurring.occurring.items c.deref.result.now c.deref-2.result.now c.in_ok-columns.columns.items c.in_ok-occurring.ensures.long c.deref.ensures.value
     c.in_ok-columns.ensures c.deref-2.ensures.value
