@@ -1,5 +1,5 @@
 -- Going back from a conflict and implying what it taught.
-use Rattle.std.proofs.Common.{◌≡◌, sym, ap, ◌∙◌, subst, ℕ, zero, suc, ◌+◌, ◌-◌, ◌<◌, ◌≤◌, ℤ, false, List, [], ◌∷◌, length, get_or, ◌⊎◌, inl, inr, arith, length-append}
+use Rattle.std.proofs.Common.{◌≡◌, sym, ap, ◌∙◌, subst, ℕ, zero, suc, ◌+◌, ◌-◌, ◌<◌, ◌≤◌, ℤ, false, List, [], ◌∷◌, length, get_or, ◌⊎◌, inl, inr, arith, length-append, refl}
 use Rattle.cx_base.specs.Literals.{Literal, negate}
 use Rattle.cx_base.specs.Problem.{Problem, parities_of, AreWithin}
 use Rattle.cx_semantics.specs.Chain.{has_literal}
@@ -116,3 +116,8 @@ module _ (formula : Problem) (c : SearchState) (e : State) (lits : List Literal)
             | inl (one, unit) ↦ unit_ties formula c e lits back s taught hints c1 e1 t1 takes o stands_still D one (alone_at_zero one) (units (alone_at_zero one)) unit
             | inr (several, clause) ↦ clause_ties formula c e lits back s taught hints c1 e1 t1 takes o stands_still D lbd clause others_are_false
           ]
+
+-- the first of a list that is not empty
+pub first_any : (xs : List Literal) (d e : Literal) → 1 ≤ length xs → get_or xs 0 d ≡ get_or xs 0 e
+first_any [] d e h = absurd (omega (arith, h))
+first_any (x ∷ xs) d e h = refl

@@ -1,8 +1,7 @@
 -- Places of the code's trail, and the search's entries behind them.
-use Rattle.std.proofs.Common.{◌≡◌, refl, sym, ap, ◌∙◌, ℕ, zero, suc, ◌+◌, ◌-◌, ◌≤◌, nat_le, cond, List, [], ◌∷◌, ◌++◌, length, get_or, arith, length-append}
+use Rattle.std.proofs.Common.{◌≡◌, refl, sym, ap, ◌∙◌, ℕ, zero, suc, ◌+◌, ◌-◌, ◌≤◌, nat_le, cond, List, [], ◌∷◌, ◌++◌, length, arith, length-append}
 use Rattle.std.proofs.lemmas.Bool.{le-leb}
 use Rattle.std.proofs.lemmas.List.{length_push}
-use Rattle.cx_base.specs.Literals.{Literal}
 use Rattle.cx_trail.specs.declared.entry.Entry.{Entry as TrailEntry}
 use Rattle.cx_trail.specs.Sequence.{entry_at}
 use Rattle.cx_trail.proofs.ValueLaws.{entry_kept}
@@ -41,8 +40,3 @@ older_stay k [] (e ∷ older) low = ([], ap (λ b. cond b (e ∷ older) (back_to
 older_stay k (x ∷ newer) older low = by_cases (nat_le x.level k)
     (λ a. (x ∷ newer, ap (λ b. cond b (x ∷ newer ++ older) (back_to k (newer ++ older))) a))
     (λ a. let r = older_stay k newer older low in (r.0, ap (λ b. cond b (x ∷ newer ++ older) (back_to k (newer ++ older))) a ∙ r.1))
-
--- the first of a list that is not empty
-pub first_any : (xs : List Literal) (d e : Literal) → 1 ≤ length xs → get_or xs 0 d ≡ get_or xs 0 e
-first_any [] d e h = absurd (omega (arith, h))
-first_any (x ∷ xs) d e h = refl
