@@ -1,5 +1,5 @@
 -- What holds of the search between two conflicts.
-use Rattle.std.specs.Prelude.{◌≡◌, ◌≢◌, ℕ, ◌<◌, length}
+use Rattle.std.specs.Prelude.{◌≡◌, ◌≢◌, ◌<◌, length}
 use Rattle.cx_trail.specs.Sequence.{IsFull}
 use Rattle.parity_engine.specs.declared.state.Mood.TheVariants.{Broken}
 use Rattle.parity_engine.specs.State.{State}
