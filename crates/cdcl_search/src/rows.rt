@@ -30,7 +30,8 @@ use xor_reason::{ReasonOf, reason_clause};
 /// The first id of the clauses that rows give: all others are below.
 pub const FIRST_ROW_ID: u64 = 1_500_000_000_000_000_000;
 
-/// The most clauses of rows between two marks, and the most constraints of a formula.
+/// A formula has fewer constraints than this, and between two marks fewer clauses of rows are told, so that each of
+/// their ids is one that a step may have.
 pub(crate) const CONSTRAINT_AND_ROW_LIMIT: u64 = 500_000_000_000_000_000;
 
 /// The ids of a row's sum and of its clause.
