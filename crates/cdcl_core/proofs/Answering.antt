@@ -1,5 +1,5 @@
 -- What the logs of the search's answers are.
-use Rattle.std.proofs.Common.{◌≡◌, refl, sym, ap, ◌∙◌, subst, ℕ, ◌+◌, ◌<◌, false, List, length, Bool, Some, None, Option, Result, Ok, Err, IfOk, OnOk, inl, arith}
+use Rattle.std.proofs.Common.{◌≡◌, refl, sym, ap, ◌∙◌, subst, ℕ, ◌+◌, ◌<◌, false, List, Bool, Some, None, Option, Result, Ok, Err, IfOk, OnOk, inl, arith}
 use Rattle.std.specs.List.{range_with_len}
 use Rattle.cx_base.specs.Literals.{Literal}
 use Rattle.cx_base.specs.Problem.{Problem, parities_of}
@@ -12,18 +12,13 @@ use Rattle.search_steps.specs.Search.{Search, IsSearch}
 use Rattle.search_steps.specs.LogSteps.{after_round}
 use Rattle.search_steps.specs.Holding.{AreTold}
 use Rattle.search_steps.proofs.EndLaws.{is_marked, is_log_open}
-use Rattle.cdcl_core.specs.declared.kept.Kept.{Kept}
+use Rattle.cdcl_search.specs.declared.state.SearchState.{SearchState}
+use Rattle.cdcl_search.specs.Tells.{IsLeft}
+use Rattle.cdcl_search.specs.Ties.{SearchStands}
 use Rattle.cdcl_core.specs.declared.solving.Outcome.{Outcome}
 use Rattle.cdcl_core.specs.declared.solving.Outcome.TheVariants.{Sat, Unsat, Unknown}
 use Rattle.cdcl_core.specs.Learning.{Learns}
 use Rattle.cdcl_core.specs.Results.{IsOpenWith, HasNoMark, IsSettledBy}
-use Rattle.cdcl_core.specs.Tells.{IsLeft}
-use Rattle.cdcl_core.specs.Ties.{Stands}
-use Rattle.cx_trail.specs.Sequence.{TrailState}
-use Rattle.cdcl_core.specs.Finds.{Finds, HasAll}
-use Rattle.cdcl_core.specs.Units.{HasOther}
-use Rattle.cdcl_core.specs.declared.propagation.Found.{Found}
-use Rattle.cdcl_core.specs.declared.propagation.Found.TheVariants as found
 use Rattle.cdcl_core.proofs.Entering.{round_is_search, conflicts_then, tidy}
 
 -- ---- open logs
@@ -33,11 +28,11 @@ search_is_open formula s n (Some es) ok served count a = subst (λ xs. IsOpenWit
     (is_log_open formula (parities_of formula.constraints) s ok served, subst (Marked formula s.events) count (is_marked formula (parities_of formula.constraints) s ok served))
 
 -- between two conflicts the log is open, with a mark for each counted one
-pub log_is_open : (formula : Problem) (c : Kept) (e : State) (rows : List (List Literal)) (told : Option (List LogEvent)) → Stands formula c e rows told → IsOpenWith formula c.conflicts told
+pub log_is_open : (formula : Problem) (c : SearchState) (e : State) (rows : List (List Literal)) (told : Option (List LogEvent)) → SearchStands formula c e rows told → IsOpenWith formula c.conflicts told
 log_is_open formula c e rows told (s, ok, a, t) = search_is_open formula s c.conflicts told ok t.served.served t.conflicts a
 
 -- behind a learned clause it is open, with one mark more
-pub learned_log_is_open : (formula : Problem) (c : Kept) (e : State) (lits : List Literal) (back : ℕ) (told : Option (List LogEvent)) → Learns formula c e lits back told → IsOpenWith formula (c.conflicts + 1) told
+pub learned_log_is_open : (formula : Problem) (c : SearchState) (e : State) (lits : List Literal) (back : ℕ) (told : Option (List LogEvent)) → Learns formula c e lits back told → IsOpenWith formula (c.conflicts + 1) told
 learned_log_is_open formula c e lits back told l = search_is_open formula (after_round l.search c.next (integers_of lits) l.hints back l.taught.first) (c.conflicts + 1) told
     (round_is_search formula c e lits back l.search l.taught l.hints) (tidy formula c e lits back l.search l.taught l.hints).served (conflicts_then formula c e lits back l.search l.taught l.hints) l.told_is
 
@@ -45,10 +40,10 @@ open_is_left : (formula : Problem) (n : ℕ) (told : Option (List LogEvent)) →
 open_is_left formula n None h = tt
 open_is_left formula n (Some es) h = inl h.0
 
-pub stands_is_left : (formula : Problem) (c : Kept) (e : State) (rows : List (List Literal)) (told : Option (List LogEvent)) → Stands formula c e rows told → IsLeft formula told
+pub stands_is_left : (formula : Problem) (c : SearchState) (e : State) (rows : List (List Literal)) (told : Option (List LogEvent)) → SearchStands formula c e rows told → IsLeft formula told
 stands_is_left formula c e rows told st = open_is_left formula c.conflicts told (log_is_open formula c e rows told st)
 
-pub learned_is_left : (formula : Problem) (c : Kept) (e : State) (lits : List Literal) (back : ℕ) (told : Option (List LogEvent)) → Learns formula c e lits back told → IsLeft formula told
+pub learned_is_left : (formula : Problem) (c : SearchState) (e : State) (lits : List Literal) (back : ℕ) (told : Option (List LogEvent)) → Learns formula c e lits back told → IsLeft formula told
 learned_is_left formula c e lits back told l = open_is_left formula (c.conflicts + 1) told (learned_log_is_open formula c e lits back told l)
 
 -- ---- settled formulas
@@ -60,15 +55,6 @@ settled_has_no_mark formula None a h = tt
 settled_has_no_mark formula (Some es) (Sat values) h = let log = h.0.log in no_marks formula es log.0 log.1 log.2.1
 settled_has_no_mark formula (Some es) Unsat h = let log = h.0.log in no_marks formula es log.1.0 log.1.1 log.1.2
 settled_has_no_mark formula (Some es) (Unknown n) h = absurd (h.1 n refl)
-
--- ---- unit clauses change nothing that propagation found
-has_all_still : (old new : Kept) → HasOther old new → HasAll old → HasAll new
-has_all_still old new same h = same.given ∙ h ∙ ap (λ (t : TrailState). length t.entries) (sym same.trail)
-
-pub finds_still : (old new : Kept) (e : State) (f : Found) → HasOther old new → Finds old e f → Finds new e f
-finds_still old new e found.Quiet same h = (rw (same.watches, same.arena, same.trail) h.0, has_all_still old new same h.1, h.2, h.3)
-finds_still old new e (found.Clause r) same h = (rw same.watches h.0, rw (same.arena, same.trail) h.1, h.2)
-finds_still old new e (found.Row row) same h = (has_all_still old new same h.0, h.1)
 
 -- ---- settled answers
 pub values_are_known : (values : List Bool) (n : ℕ) → Sat values ≡ Unknown n → ⊥

@@ -1,10 +1,10 @@
 -- The row of a contradiction explains a conflict, and what a conflict comes to.
-use Rattle.std.proofs.Common.{◌≡◌, sym, ap, ◌∙◌, subst, ℕ, suc, ◌+◌, ◌<◌, Bool, true, eqb-true, List, [], ◌∷◌, length, take, Contains, Option, None, is_some, arith, inl, inr}
+use Rattle.std.proofs.Common.{◌≡◌, sym, ap, ◌∙◌, subst, ℕ, suc, ◌+◌, ◌<◌, Bool, true, eqb-true, List, [], ◌∷◌, length, take, Contains, Option, None, is_some, arith, inl, inr, zero, Some, ℤ}
 use Rattle.std.specs.Prelude.{IsSome, ◌==◌}
 use Rattle.std.specs.List.{AllByRecursion}
 use Rattle.std.proofs.lemmas.Option.{same_Some}
 use Rattle.cx_base.specs.Literals.{Literal}
-use Rattle.cx_base.specs.Problem.{Problem, parities_of}
+use Rattle.cx_base.specs.Problem.{Problem, parities_of, Unmet}
 use Rattle.cx_semantics.specs.Chain.{has_literal}
 use Rattle.cx_semantics.specs.Integers.{integers_of, literals}
 use Rattle.cx_semantics.specs.Printed.{HasText}
@@ -13,6 +13,7 @@ use Rattle.cx_semantics.specs.declared.steps.LogStep.{LogStep}
 use Rattle.cx_semantics.specs.declared.steps.LogStep.TheVariants.{Parity, ClauseOfParity}
 use Rattle.cx_semantics.specs.declared.steps.LogEvent.{LogEvent}
 use Rattle.cx_semantics.specs.declared.steps.LogEvent.TheVariants.{Step}
+use Rattle.cx_semantics.specs.Marked.{Marked}
 use Rattle.clause_arena.specs.Clauses.{IsLive, literals_at}
 use Rattle.parity_engine.specs.State.{State, named_at, OfNamed}
 use Rattle.parity_engine.specs.Equations.{sum_of_numbers}
@@ -25,19 +26,72 @@ use Rattle.xor_reason.proofs.EventLaws.{broken_is_missed}
 use Rattle.search_steps.specs.Tied.{IsTied}
 use Rattle.search_steps.proofs.EngineLaws.{known_is_true}
 use Rattle.search_steps.proofs.Stored.{of_has}
-use Rattle.cdcl_core.specs.declared.kept.Kept.{Kept}
+use Rattle.search_steps.specs.Search.{Search, IsSearch, told}
+use Rattle.search_steps.specs.LogSteps.{IsEnded, all_told}
+use Rattle.search_steps.specs.Holding.{AreTold}
+use Rattle.search_steps.proofs.Ends.{row_clause_ends, row_clause_is_marked, ended_is_unmet}
+use Rattle.cdcl_search.specs.declared.state.SearchState.{SearchState}
+use Rattle.cdcl_search.specs.Explaining.{Explains}
+use Rattle.cdcl_search.specs.declared.propagation.Found.{Found}
+use Rattle.cdcl_search.specs.declared.propagation.Found.TheVariants as found
+use Rattle.cdcl_search.specs.Finds.{PropagationFinds, IsClash}
+use Rattle.cdcl_search.specs.Tells.{IsLeft, as_events, with_events}
+use Rattle.cdcl_search.specs.Ties.{SearchStands, first_row_id, Ties}
+use Rattle.cdcl_search.proofs.RowSteps.{all_told_are, is_left, sum_told, sum_is, clause_added, clause_is}
 use Rattle.cdcl_core.specs.declared.conflicts.Conclusion.TheVariants.{Clause}
 use Rattle.cdcl_core.specs.declared.conflicts.Conflict.{Conflict}
 use Rattle.cdcl_core.specs.Concluding.{Concludes, EndsLog, IsEndedWith}
-use Rattle.cdcl_core.specs.Explaining.{Explains}
-use Rattle.cdcl_core.specs.declared.propagation.Found.{Found}
-use Rattle.cdcl_core.specs.declared.propagation.Found.TheVariants as found
-use Rattle.cdcl_core.specs.Finds.{Finds, IsClash}
-use Rattle.cdcl_core.specs.Tells.{IsLeft, as_events, with_events}
-use Rattle.cdcl_core.specs.Ties.{Stands, first_row_id}
-use Rattle.cdcl_core.proofs.RowSteps.{two_are_unmet, two_end, two_fronts}
 
-module _ (formula : Problem) (c : Kept) (e : State) (told : Option (List LogEvent)) (st : Stands formula c e [] told) where
+-- ---- a row without variables: its sum and its clause end the log
+module _ (formula : Problem) (c : SearchState) (e : State) (rows : List (List Literal)) (s : Search) (ok : IsSearch formula (parities_of formula.constraints) s) (t : Ties formula c e rows s)
+    (r : ReasonOf) (x : Explains (parities_of formula.constraints) c.trail r) (back_parity : literals (integers_of r.parity) ≡ r.parity) (back_clause : literals (integers_of r.clause) ≡ r.clause)
+    (none : is_empty (integers_of r.clause) ≡ true) where
+  abbrev parities : List (List Literal)
+  parities = parities_of formula.constraints
+
+  abbrev k : ℕ
+  k = length formula.constraints + 1
+
+  abbrev n : ℕ
+  n = first_row_id + length rows
+
+  abbrev rs : List ℤ
+  rs = integers_of r.parity
+
+  abbrev zs : List ℤ
+  zs = integers_of r.clause
+
+  abbrev two : List LogEvent
+  two = Step (Parity k rs r.sources) ∷ Step (ClauseOfParity n zs k) ∷ []
+
+  abbrev after_sum : Search
+  after_sum = told s (Step (Parity k rs r.sources))
+
+  after_sum_is : IsSearch formula parities after_sum
+  after_sum_is = sum_told formula c e rows s ok t r x back_parity back_clause
+
+  ended : IsEnded formula (all_told s two).events
+  ended = row_clause_ends formula parities after_sum after_sum_is n zs k (literals rs) (clause_added formula c e rows s ok t r x back_parity back_clause)
+      (sum_is formula c e rows s ok t r x back_parity back_clause) (clause_is formula c e rows s ok t r x back_parity back_clause) none
+
+  marked : Marked formula (all_told s two).events s.conflicts
+  marked = row_clause_is_marked formula parities after_sum after_sum_is n zs k (literals rs) t.served.served
+      (sum_is formula c e rows s ok t r x back_parity back_clause) (clause_is formula c e rows s ok t r x back_parity back_clause)
+
+  two_are_unmet : Unmet formula
+  two_are_unmet = ended_is_unmet formula (all_told s two).events ended
+
+  two_end : (told_ : Option (List LogEvent)) → AreTold told_ s.events → IsEndedWith formula c.conflicts (with_events two told_)
+  two_end None a = tt
+  two_end (Some es) a = subst (λ xs. IsEndedWith formula c.conflicts (Some xs)) (sym (all_told_are two s (Some es) a)) (ended, subst (Marked formula (all_told s two).events) t.conflicts marked)
+
+  two_fronts : (told_ : Option (List LogEvent)) → AreTold told_ s.events → (i : ℕ) → i < 2 → IsLeft formula (with_events (take i two) told_)
+  two_fronts told_ a zero less = is_left formula parities s (with_events [] told_) ok t.served.served (all_told_are [] s told_ a)
+  two_fronts told_ a (suc zero) less = is_left formula parities after_sum (with_events (take 1 two) told_) after_sum_is t.served.served (all_told_are (take 1 two) s told_ a)
+  two_fronts told_ a (suc (suc i)) less = absurd (omega (arith, less))
+
+-- ---- conflicts
+module _ (formula : Problem) (c : SearchState) (e : State) (told : Option (List LogEvent)) (st : SearchStands formula c e [] told) where
   stands_on : StandsOn e c.trail
   stands_on l h =
       let fed = st.3.fed in
@@ -46,7 +100,7 @@ module _ (formula : Problem) (c : Kept) (e : State) (told : Option (List LogEven
   -- a stored clause that is falsified
   pub stored_concludes : (r : ℕ) → IsLive c.arena r → IsFalsified c.trail.entries (literals_at c.arena r) → (k : Conflict) → k.lits ≡ literals_at c.arena r → k.rows.items ≡ [] → Concludes formula c e told (Clause k)
   stored_concludes r live falsified k are none = (
-    subst (λ rows. Stands formula c e rows told) (sym none) st,
+    subst (λ rows. SearchStands formula c e rows told) (sym none) st,
     record { sourced = inl (r, live, are); all_false = λ m h. falsified m (of_has (literals_at c.arena r) m (ap (λ ls. has_literal ls m) (sym are) ∙ h)) },
   )
 
@@ -82,9 +136,9 @@ module _ (formula : Problem) (c : Kept) (e : State) (told : Option (List LogEven
         assigned = clash_assigned clash.0 clash.1;
       }
 
-      pub row_concludes : (new : Option (List LogEvent)) (k : Conflict) → k.lits ≡ reason.clause → k.rows.items ≡ reason.clause ∷ [] → Stands formula c e (reason.clause ∷ []) new → Concludes formula c e new (Clause k)
+      pub row_concludes : (new : Option (List LogEvent)) (k : Conflict) → k.lits ≡ reason.clause → k.rows.items ≡ reason.clause ∷ [] → SearchStands formula c e (reason.clause ∷ []) new → Concludes formula c e new (Clause k)
       row_concludes new k are rows stands = (
-        subst (λ xs. Stands formula c e xs new) (sym rows) stands,
+        subst (λ xs. SearchStands formula c e xs new) (sym rows) stands,
         record {
           sourced = inr (inr (subst (λ xs. Contains xs k.lits) (sym rows) (0, omega arith, sym are)));
           all_false = λ m h. is_clause.are_false m (ap (λ ls. has_literal ls m) (sym are) ∙ h);
@@ -106,10 +160,10 @@ module _ (formula : Problem) (c : Kept) (e : State) (told : Option (List LogEven
                 (two_fronts formula c e [] st.0 st.1 st.3 reason clash_explains back_parity back_clause empty told st.2 i (subst (λ xs. i < length xs) are less));
           }
 
-pub found_concludes : (formula : Problem) (c : Kept) (e : State) (told : Option (List LogEvent)) → Stands formula c e [] told → (what : Found) (r : ℕ) → what ≡ found.Clause r → Finds c e what
+pub found_concludes : (formula : Problem) (c : SearchState) (e : State) (told : Option (List LogEvent)) → SearchStands formula c e [] told → (what : Found) (r : ℕ) → what ≡ found.Clause r → PropagationFinds c e what
     → (k : Conflict) → k.lits ≡ literals_at c.arena r → k.rows.items ≡ [] → Concludes formula c e told (Clause k)
 found_concludes formula c e told st what r is finds k are none =
-    let f = subst (Finds c e) is finds in
+    let f = subst (PropagationFinds c e) is finds in
     stored_concludes formula c e told st r (st.3.fits.nodes.live r f.0) f.1 k are none
 
 pub is_empty_list : (lits seen : List Literal) (b : Bool) → seen ≡ lits → b ≡ (length seen == 0) → b ≡ true → lits ≡ []

@@ -23,17 +23,16 @@ use Rattle.search_steps.proofs.LogLaws.{falsified_has_chain}
 use Rattle.search_steps.proofs.Stored.{has_of, stored_is_false}
 use Rattle.search_steps.specs.Search.{Search}
 use Rattle.search_steps.specs.Holding.{AreTold}
-use Rattle.cdcl_core.specs.declared.kept.Kept.{Kept}
-use Rattle.cdcl_core.specs.Concluding.{EndsLog, IsEndedWith, IsContradicted, IsRefutable}
+use Rattle.cdcl_search.specs.declared.state.SearchState.{SearchState}
+use Rattle.cdcl_search.specs.Tells.{TellsAll, GivesUp, IsLeft, as_events, with_events}
+use Rattle.cdcl_search.specs.Ties.{SearchStands, first_row_id}
+use Rattle.cdcl_search.proofs.Events.{no_more, gives_up}
+use Rattle.cdcl_search.proofs.SourceLaws.{sourced_is_live}
+use Rattle.cdcl_search.proofs.Places.{tied_length}
+use Rattle.cdcl_search.proofs.RowSteps.{is_left}
+use Rattle.cdcl_search.proofs.UnitLaws.{false_are_low}
+use Rattle.cdcl_core.specs.Concluding.{EndsLog, IsEndedWith, IsContradicted, IsRefutable, IsConflictClause}
 use Rattle.cdcl_core.specs.Results.{Refutes, IsEndedWithin}
-use Rattle.cdcl_core.specs.Sources.{IsConflict}
-use Rattle.cdcl_core.specs.Tells.{TellsAll, GivesUp, IsLeft, as_events, with_events}
-use Rattle.cdcl_core.specs.Ties.{Stands, first_row_id}
-use Rattle.cdcl_core.proofs.Events.{no_more, gives_up}
-use Rattle.cdcl_core.proofs.LearnLaws.{sourced_is_live}
-use Rattle.cdcl_core.proofs.Places.{tied_length}
-use Rattle.cdcl_core.proofs.RowSteps.{is_left}
-use Rattle.cdcl_core.proofs.UnitLaws.{false_are_low}
 
 -- ---- steps that end the log
 within : (formula : Problem) (marks : ℕ) (told : Option (List LogEvent)) → IsEndedWith formula marks told → IsEndedWithin formula (marks + 1) told
@@ -95,7 +94,7 @@ pub no_newer : (newer older es : List Entry) → es ≡ newer ++ older → lengt
 no_newer [] older es is long = sym is
 no_newer (x ∷ newer) older es is long = absurd (let a = ap length is in let b = length-append newer older in omega (arith, a, b, long))
 
-module _ (formula : Problem) (c : Kept) (e : State) (rows : List (List Literal)) (old : Option (List LogEvent)) (st : Stands formula c e rows old) (lits : List Literal) (conflict : IsConflict c rows lits) where
+module _ (formula : Problem) (c : SearchState) (e : State) (rows : List (List Literal)) (old : Option (List LogEvent)) (st : SearchStands formula c e rows old) (lits : List Literal) (conflict : IsConflictClause c rows lits) where
   pub conflict_is_low : All (λ m. m.variable ≤ c.trail.variables) lits
   conflict_is_low = false_are_low c.trail st.3.follows.sound lits conflict.all_false
 

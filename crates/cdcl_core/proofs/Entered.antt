@@ -28,8 +28,8 @@ use Rattle.search_steps.specs.Ids.{IsRanged}
 use Rattle.conflict_learn.proofs.ChainOfResolutions.{by_cases}
 use Rattle.search_steps.proofs.Bridge.{entry_last}
 use Rattle.parity_engine.specs.State.{State}
-use Rattle.cdcl_core.specs.declared.kept.Kept.{Kept}
-use Rattle.cdcl_core.specs.Ties.{first_row_id, IsNamedBy, AreClauses, AreNumbered, AreUnits, IsFed, HasReasonAt, HaveReasons, Ties}
+use Rattle.cdcl_search.specs.declared.state.SearchState.{SearchState}
+use Rattle.cdcl_search.specs.Ties.{first_row_id, IsNamedBy, AreClauses, AreNumbered, AreUnits, IsFed, HasReasonAt, HaveReasons, Ties}
 use Rattle.cdcl_core.specs.Entering.{IsPut}
 use Rattle.cdcl_core.specs.Learning.{IsTaught}
 use Rattle.cdcl_core.proofs.Entering.{tied_then, trail_is, ranged_then, parities_then, conflicts_then, tidy, named_then}
@@ -67,9 +67,9 @@ old_or_new [] x (suc r) h = absurd (true≢false (sym h))
 old_or_new (y ∷ xs) x zero h = inl h
 old_or_new (y ∷ xs) x (suc r) h = elim (old_or_new xs x r h) [ inl a ↦ inl a | inr b ↦ inr (ap suc b) ]
 
-module _ (formula : Problem) (c : Kept) (e : State) (lits : List Literal) (back : ℕ) (s : Search) (taught : IsTaught formula c e lits back s) (hints : List ℤ)
-    (c1 : Kept) (e1 : State) (t1 : Ties formula c1 e1 taught.rows (jumped s back)) (takes : TakesBack back c.trail c1.trail)
-    (o : OrderState) (stands : AllStand o c1.trail) (D : Kept) (reason : Reason)
+module _ (formula : Problem) (c : SearchState) (e : State) (lits : List Literal) (back : ℕ) (s : Search) (taught : IsTaught formula c e lits back s) (hints : List ℤ)
+    (c1 : SearchState) (e1 : State) (t1 : Ties formula c1 e1 taught.rows (jumped s back)) (takes : TakesBack back c.trail c1.trail)
+    (o : OrderState) (stands : AllStand o c1.trail) (D : SearchState) (reason : Reason)
     (put : IsPut (record c1 { order = o; next = c.next + 1; conflicts = c.conflicts + 1 }) D taught.first reason) where
   abbrev l : Literal
   l = taught.first

@@ -20,17 +20,17 @@ use Rattle.search_steps.specs.LogSteps.{after_round}
 use Rattle.conflict_learn.proofs.ChainOfResolutions.{by_cases}
 use Rattle.watch_lists.proofs.EventLaws.{fits_pushed}
 use Rattle.parity_engine.specs.State.{State}
-use Rattle.cdcl_core.specs.declared.kept.Kept.{Kept}
-use Rattle.cdcl_core.specs.Ties.{first_row_id, IsNamedBy, AreUnits, HasReasonAt, HaveReasons, Ties}
-use Rattle.cdcl_core.specs.Entering.{EntersUnit, EntersClause}
-use Rattle.cdcl_core.proofs.Places.{tied_length}
-use Rattle.cdcl_core.specs.Learning.{IsTaught}
-use Rattle.cdcl_core.proofs.Entering.{trail_is, get_new, named_then, was}
-use Rattle.cdcl_core.proofs.Entered.{true_more, kept_at, new_at, old_or_new, length_D, same_entry, same_take, last_entry, place, level_D, reason_stays, ties_entered, unit_stays}
 use Rattle.search_steps.specs.LogSteps.{RestOnClauses}
 use Rattle.cx_semantics.proofs.Closure.{inside_itself}
 use Rattle.cx_semantics.proofs.Members.{has_at_head}
-use Rattle.cdcl_core.specs.Ties.{IsStored, IsClauseReason, IsCovered}
+use Rattle.cdcl_search.specs.declared.state.SearchState.{SearchState}
+use Rattle.cdcl_search.specs.Ties.{first_row_id, IsNamedBy, AreUnits, HasReasonAt, HaveReasons, Ties}
+use Rattle.cdcl_search.proofs.Places.{tied_length}
+use Rattle.cdcl_search.specs.Ties.{IsStored, IsClauseReasonAt, IsCovered}
+use Rattle.cdcl_core.specs.Entering.{EntersUnit, EntersClause}
+use Rattle.cdcl_core.specs.Learning.{IsTaught}
+use Rattle.cdcl_core.proofs.Entering.{trail_is, get_new, named_then, was}
+use Rattle.cdcl_core.proofs.Entered.{true_more, kept_at, new_at, old_or_new, length_D, same_entry, same_take, last_entry, place, level_D, reason_stays, ties_entered, unit_stays}
 
 id_front : (xs : List ℕ) (y i : ℕ) → i < length xs → get_or (xs ++ y ∷ []) i 0 ≡ get_or xs i 0
 id_front [] y i h = absurd (omega (arith, h))
@@ -44,9 +44,9 @@ id_last (x ∷ xs) y = id_last xs y
 same_itself : (lits : List Literal) → same_literals lits lits ≡ true
 same_itself lits = and_from _ _ (inside_itself lits) (inside_itself lits)
 
-module _ (formula : Problem) (c : Kept) (e : State) (lits : List Literal) (back : ℕ) (s : Search) (taught : IsTaught formula c e lits back s) (hints : List ℤ)
-    (c1 : Kept) (e1 : State) (t1 : Ties formula c1 e1 taught.rows (jumped s back)) (takes : TakesBack back c.trail c1.trail)
-    (o : OrderState) (stands : AllStand o c1.trail) (D : Kept) where
+module _ (formula : Problem) (c : SearchState) (e : State) (lits : List Literal) (back : ℕ) (s : Search) (taught : IsTaught formula c e lits back s) (hints : List ℤ)
+    (c1 : SearchState) (e1 : State) (t1 : Ties formula c1 e1 taught.rows (jumped s back)) (takes : TakesBack back c.trail c1.trail)
+    (o : OrderState) (stands : AllStand o c1.trail) (D : SearchState) where
   abbrev l : Literal
   l = taught.first
 
@@ -135,7 +135,7 @@ module _ (formula : Problem) (c : Kept) (e : State) (lits : List Literal) (back 
           ];
         }
 
-    others_false : AreOthersFalse c1.trail.entries lits l → IsClauseReason D (length c1.trail.entries) (length c1.arena.clauses)
+    others_false : AreOthersFalse c1.trail.entries lits l → IsClauseReasonAt D (length c1.trail.entries) (length c1.arena.clauses)
     others_false others =
         let put = enters.put in
         let here : entry_at D.trail.entries (length c1.trail.entries) ≡ record { literal = l; level = back; reason = reason } = last_entry formula c e lits back s taught hints c1 e1 t1 takes o stands D reason put (length c1.trail.entries) refl in
@@ -158,7 +158,7 @@ module _ (formula : Problem) (c : Kept) (e : State) (lits : List Literal) (back 
               (subst (λ x. HasReasonAt c1 e1 i x.reason) (same_entry formula c e lits back s taught hints c1 e1 t1 takes o stands D reason put i less) (t1.reasons i (omega (arith, far, count)) less))
           | inr is ↦
               let here = last_entry formula c e lits back s taught hints c1 e1 t1 takes o stands D reason put i is in
-              subst (λ x. HasReasonAt D e1 i x.reason) (sym here) (subst (λ k. IsClauseReason D k (length c1.arena.clauses)) (sym is) (others_false others))
+              subst (λ x. HasReasonAt D e1 i x.reason) (sym here) (subst (λ k. IsClauseReasonAt D k (length c1.arena.clauses)) (sym is) (others_false others))
         ]
 
     pub clause_ties : AreOthersFalse c1.trail.entries lits l → Ties formula D e1 [] after

@@ -25,10 +25,10 @@ use Rattle.search_steps.proofs.StartLaws.{variables_are_within}
 use Rattle.conflict_learn.specs.Learning.{negated_at}
 use Rattle.conflict_learn.proofs.ChainOfResolutions.{by_cases}
 use Rattle.parity_engine.specs.State.{State}
-use Rattle.cdcl_core.specs.declared.kept.Kept.{Kept}
-use Rattle.cdcl_core.specs.Ties.{first_row_id, IsNamedBy}
+use Rattle.cdcl_search.specs.declared.state.SearchState.{SearchState}
+use Rattle.cdcl_search.specs.Ties.{first_row_id, IsNamedBy}
+use Rattle.cdcl_search.proofs.TableLaws.{no_clause}
 use Rattle.cdcl_core.specs.Learning.{IsTaught}
-use Rattle.cdcl_core.proofs.TableLaws.{no_clause}
 
 -- literals of the trail are within the variables
 negated_within : (formula : Problem) (t : TrailState) → t.variables ≡ formula.variables → Rattle.cx_trail.specs.Sequence.IsTrail t → (ps : List ℕ) → Rattle.std.specs.List.AllByRecursion (λ p. p < length t.entries) ps → AreWithin formula.variables (negated_at t ps)
@@ -42,7 +42,7 @@ below_first : (t : TrailState) (first : ℕ) (rest : List ℕ) → first < lengt
 below_first t first [] h a = tt
 below_first t first (q ∷ rest) h a = (let less = a.0 in omega (arith, less, h), below_first t first rest h a.1)
 
-module _ (formula : Problem) (c : Kept) (e : State) (lits : List Literal) (back : ℕ) (s : Search) (taught : IsTaught formula c e lits back s) (hints : List ℤ) where
+module _ (formula : Problem) (c : SearchState) (e : State) (lits : List Literal) (back : ℕ) (s : Search) (taught : IsTaught formula c e lits back s) (hints : List ℤ) where
   abbrev IsRow : List Literal → Type 0
   IsRow = IsOfParities formula.variables (parities_of formula.constraints)
 

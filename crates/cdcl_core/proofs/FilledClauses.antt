@@ -22,15 +22,15 @@ use Rattle.search_steps.proofs.QuietLaws.{within_member}
 use Rattle.watch_lists.specs.Watching.{Fits, IsAttached}
 use Rattle.watch_lists.specs.Attaching.{CanBeWatched, literal_at}
 use Rattle.search_policy.specs.Standing.{AllStand}
-use Rattle.cdcl_core.specs.declared.kept.Kept.{Kept}
+use Rattle.cdcl_search.specs.declared.state.SearchState.{SearchState}
+use Rattle.cdcl_search.proofs.RowSteps.{within_by}
+use Rattle.cdcl_search.proofs.Silence.{some_literal}
 use Rattle.cdcl_core.specs.declared.filling.Single.{Single}
 use Rattle.cdcl_core.specs.declared.filling.Filled.{Filled}
 use Rattle.cdcl_core.specs.Clauses.{AreDifferent}
-use Rattle.cdcl_core.specs.Filling.{IsEmpty, clause_number, IsUnitClause, IsTaken, IsFilledUpTo, IsNext, Attaches}
+use Rattle.cdcl_core.specs.Filling.{IsEmpty, clause_number, IsUnitClause, IsClauseTaken, IsFilledUpTo, IsNext, Attaches}
 use Rattle.cdcl_core.proofs.Entered.{kept_at, new_at, old_or_new}
 use Rattle.cdcl_core.proofs.OriginalLaws.{few_clauses}
-use Rattle.cdcl_core.proofs.RowSteps.{within_by}
-use Rattle.cdcl_core.proofs.Silence.{some_literal}
 
 -- ---- the numbers of clauses
 pub clause_counts : (cs : List Constraint) (i : ℕ) (d : Constraint) (lits : List Literal) → i < length cs → get_or cs i d ≡ constraint.Clause lits → length (clauses_of (take (i + 1) cs)) ≡ length (clauses_of (take i cs)) + 1
@@ -115,7 +115,7 @@ can_be_watched n t lits none long d h w =
     }
 
 -- ---- before the first clause
-pub nothing_is_filled : (formula : Problem) (c : Kept) → IsEmpty formula.variables c → IsFilledUpTo formula 0 c [] None
+pub nothing_is_filled : (formula : Problem) (c : SearchState) → IsEmpty formula.variables c → IsFilledUpTo formula 0 c [] None
 nothing_is_filled formula c e = record {
   trail = e.trail;
   fits = e.fits;
@@ -147,7 +147,7 @@ module _ (formula : Problem) (f : Filled) (lits : List Literal) (is : IsNext for
 
   -- where the arena stays
   module _ (units : List Single) (empty : Option ℕ) (more : (u : Single) → Contains f.units.items u → Contains units u) (still : IsSome f.empty → IsSome empty) where
-    pub taken_still : (k : ℕ) → IsTaken formula f.kept f.units.items f.empty k → IsTaken formula f.kept units empty k
+    pub taken_still : (k : ℕ) → IsClauseTaken formula f.kept f.units.items f.empty k → IsClauseTaken formula f.kept units empty k
     taken_still k (inl a) = inl a
     taken_still k (inr (inl a)) = inr (inl a)
     taken_still k (inr (inr (inl (u, has, number)))) = inr (inr (inl (u, more u has, number)))
@@ -155,7 +155,7 @@ module _ (formula : Problem) (f : Filled) (lits : List Literal) (is : IsNext for
 
     pub filled_then : AllByRecursion (λ u. IsUnitClause formula u.number u.literal × (1 ≤ u.literal.variable) × (u.literal.variable ≤ formula.variables)) units
         → IfSome empty (λ k. (1 ≤ k) × (k ≤ f.kept.next) × (clause_number formula k ≡ []))
-        → IsTaken formula f.kept units empty f.kept.next → IsFilledUpTo formula f.kept.next (record f.kept { next = f.kept.next + 1 }) units empty
+        → IsClauseTaken formula f.kept units empty f.kept.next → IsFilledUpTo formula f.kept.next (record f.kept { next = f.kept.next + 1 }) units empty
     filled_then units_are empty_is taken = record {
       trail = is.filled.trail;
       fits = is.filled.fits;
@@ -169,7 +169,7 @@ module _ (formula : Problem) (f : Filled) (lits : List Literal) (is : IsNext for
       units_are = units_are;
       covered = λ k small high. elim (before_or_next k high) [
         | inl old ↦ taken_still k (is.filled.covered k small old)
-        | inr new ↦ subst (IsTaken formula f.kept units empty) (sym new) taken
+        | inr new ↦ subst (IsClauseTaken formula f.kept units empty) (sym new) taken
       ];
       empty_is = empty_is;
     }
@@ -203,7 +203,7 @@ module _ (formula : Problem) (f : Filled) (lits : List Literal) (is : IsNext for
       (inr (inr (inl (u, Contains-push f.units.items u, refl)))))
 
   -- a clause of several literals is attached
-  module _ (D : Kept) (a : Attaches (record f.kept { next = f.kept.next + 1 }) D lits f.kept.next) where
+  module _ (D : SearchState) (a : Attaches (record f.kept { next = f.kept.next + 1 }) D lits f.kept.next) where
     abbrev stored : Stored
     stored = record { literals = lits; id = f.kept.next; lbd = 0; learned = false }
 
@@ -230,13 +230,13 @@ module _ (formula : Problem) (f : Filled) (lits : List Literal) (is : IsNext for
       | inr new ↦ subst (IsGood r) (sym (ap (clause_at D.arena) new ∙ clause_new)) (subst (IsAttached D.watches.attached) (sym new) a.attached, low, omega arith, is.same)
     ]
 
-    taken_then : (k : ℕ) → IsTaken formula f.kept f.units.items f.empty k → IsTaken formula D f.units.items f.empty k
+    taken_then : (k : ℕ) → IsClauseTaken formula f.kept f.units.items f.empty k → IsClauseTaken formula D f.units.items f.empty k
     taken_then k (inl (r, attached, same)) = inl (r, attached_still r attached, ap (λ x. same_literals (literals_in x) (clause_number formula k)) (clause_kept r (is.filled.fits.nodes.live r attached)) ∙ same)
     taken_then k (inr (inl h)) = inr (inl h)
     taken_then k (inr (inr (inl h))) = inr (inr (inl h))
     taken_then k (inr (inr (inr h))) = inr (inr (inr h))
 
-    new_taken : IsTaken formula D f.units.items f.empty f.kept.next
+    new_taken : IsClauseTaken formula D f.units.items f.empty f.kept.next
     new_taken = inl (length f.kept.arena.clauses, a.attached, ap (λ x. same_literals (literals_in x) (clause_number formula f.kept.next)) clause_new ∙ is.same)
 
     pub attached_taken : IsFilledUpTo formula f.kept.next D f.units.items f.empty
@@ -253,7 +253,7 @@ module _ (formula : Problem) (f : Filled) (lits : List Literal) (is : IsNext for
       units_are = is.filled.units_are;
       covered = λ k small high. elim (before_or_next k high) [
         | inl old ↦ taken_then k (is.filled.covered k small old)
-        | inr new ↦ subst (IsTaken formula D f.units.items f.empty) (sym new) new_taken
+        | inr new ↦ subst (IsClauseTaken formula D f.units.items f.empty) (sym new) new_taken
       ];
       empty_is = empty_before;
     }

@@ -27,16 +27,16 @@ use Rattle.search_steps.proofs.Bridge.{level_tied}
 use Rattle.search_steps.proofs.IdLaws.{jump_ranged}
 use Rattle.search_steps.proofs.EngineLaws.{back_holds_values, lagging_back}
 use Rattle.search_steps.proofs.OverSearch.{older_is_trail}
-use Rattle.cdcl_core.specs.declared.kept.Kept.{Kept}
-use Rattle.cdcl_core.specs.Ties.{first_row_id, IsNamedBy, AreClauses, AreUnits, HasReasonAt, IsEngineOf, IsFed, Ties}
-use Rattle.cdcl_core.proofs.Places.{entry_behind, tied_length, older_level, older_stay}
+use Rattle.cdcl_search.specs.declared.state.SearchState.{SearchState}
+use Rattle.cdcl_search.specs.Ties.{first_row_id, IsNamedBy, AreClauses, AreUnits, HasReasonAt, IsEngineOf, IsFed, Ties}
+use Rattle.cdcl_search.proofs.Places.{entry_behind, tied_length, older_level, older_stay}
 
 -- the engine is at the trail's level
-pub above_too : (formula : Problem) (k : ℕ) (c : Kept) (e : State) (rows : List (List Literal)) (s : Search) → Ties formula c e rows s → k < c.trail.level → k < e.level
+pub above_too : (formula : Problem) (k : ℕ) (c : SearchState) (e : State) (rows : List (List Literal)) (s : Search) → Ties formula c e rows s → k < c.trail.level → k < e.level
 above_too formula k c e rows s t low = let now = t.fed.level in let same = level_tied s.trail c.trail t.follows.tied t.follows.sound in omega (arith, now, same, low)
 
 -- what the code does
-pub record GoesBack (k : ℕ) (c d : Kept) (e f : State) : Type 0 where
+pub record GoesBack (k : ℕ) (c d : SearchState) (e f : State) : Type 0 where
   pub lower : k < c.trail.level
   pub takes : TakesBack k c.trail d.trail
   pub sound : IsCodeTrail d.trail
@@ -53,7 +53,7 @@ pub record GoesBack (k : ℕ) (c d : Kept) (e f : State) : Type 0 where
 named_kept : (k : ℕ) (o : Option Named) (n : Named) → o ≡ Some n → n.in_conflict ≡ false → n.level ≤ k → keep_named k o ≡ Some n
 named_kept k o n is calm low = ap (keep_named k) is ∙ ap (λ b. cond (not b && nat_le n.level k) (Some n) None) calm ∙ ap (λ b. cond b (Some n) None) (le-leb n.level k low)
 
-module _ (formula : Problem) (k : ℕ) (c d : Kept) (e f : State) (rows : List (List Literal)) (s : Search) (ok : IsSearch formula (parities_of formula.constraints) s) (t : Ties formula c e rows s) (g : GoesBack k c d e f) where
+module _ (formula : Problem) (k : ℕ) (c d : SearchState) (e f : State) (rows : List (List Literal)) (s : Search) (ok : IsSearch formula (parities_of formula.constraints) s) (t : Ties formula c e rows s) (g : GoesBack k c d e f) where
   abbrev IsRow : List Literal → Type 0
   IsRow = IsOfParities formula.variables (parities_of formula.constraints)
 

@@ -1,5 +1,5 @@
 -- Going back from a conflict and implying what it taught.
-use Rattle.std.proofs.Common.{◌≡◌, sym, ap, ◌∙◌, subst, ℕ, zero, suc, ◌+◌, ◌-◌, ◌<◌, ◌≤◌, ℤ, false, List, [], ◌∷◌, length, get_or, ◌⊎◌, inl, inr, arith, length-append}
+use Rattle.std.proofs.Common.{◌≡◌, sym, ap, ◌∙◌, subst, ℕ, zero, suc, ◌+◌, ◌-◌, ◌<◌, ◌≤◌, ℤ, false, List, [], ◌∷◌, length, get_or, ◌⊎◌, inl, inr, arith, length-append, refl}
 use Rattle.cx_base.specs.Literals.{Literal, negate}
 use Rattle.cx_base.specs.Problem.{Problem, parities_of, AreWithin}
 use Rattle.cx_semantics.specs.Chain.{has_literal}
@@ -15,14 +15,6 @@ use Rattle.search_steps.specs.Search.{Search, jumped}
 use Rattle.search_steps.specs.LogSteps.{after_round}
 use Rattle.conflict_learn.specs.Learning.{negated_at, literal_at}
 use Rattle.parity_engine.specs.State.{State}
-use Rattle.cdcl_core.specs.declared.kept.Kept.{Kept}
-use Rattle.cdcl_core.specs.Ties.{Ties}
-use Rattle.cdcl_core.specs.Entering.{EntersUnit, EntersClause}
-use Rattle.cdcl_core.specs.Learning.{IsTaught}
-use Rattle.cdcl_core.proofs.Entering.{within}
-use Rattle.cdcl_core.proofs.EnteredCases.{clause_ties, unit_ties}
-use Rattle.cdcl_core.proofs.Entering.{tied_then}
-use Rattle.cdcl_core.specs.Entering.{Enters}
 use Rattle.search_steps.proofs.TrailLaws.{back_holds}
 use Rattle.search_steps.proofs.Bridge.{held_is_true, level_tied}
 use Rattle.search_steps.proofs.Stored.{has_of}
@@ -32,13 +24,21 @@ use Rattle.watch_lists.specs.Attaching.{CanBeWatched, literal_at as nth}
 use Rattle.conflict_learn.specs.Learning.{IsFalling}
 use Rattle.conflict_learn.specs.Levels.{second, levels_at}
 use Rattle.conflict_learn.proofs.ChainOfResolutions.{by_cases}
+use Rattle.cdcl_search.specs.declared.state.SearchState.{SearchState}
+use Rattle.cdcl_search.specs.Ties.{Ties}
+use Rattle.cdcl_core.specs.Entering.{EntersUnit, EntersClause}
+use Rattle.cdcl_core.specs.Learning.{IsTaught}
+use Rattle.cdcl_core.proofs.Entering.{within}
+use Rattle.cdcl_core.proofs.EnteredCases.{clause_ties, unit_ties}
+use Rattle.cdcl_core.proofs.Entering.{tied_then}
+use Rattle.cdcl_core.specs.Entering.{Enters}
 
 all_within : (n : ℕ) (lits : List Literal) → AreWithin n lits → (k : ℕ) (d : Literal) → k < length lits → (1 ≤ (get_or lits k d).variable) × ((get_or lits k d).variable ≤ n)
 all_within n [] w k d h = absurd (omega (arith, h))
 all_within n (l ∷ lits) w zero d h = w.0
 all_within n (l ∷ lits) w (suc k) d h = all_within n lits w.1 k d (omega (arith, h))
 
-module _ (formula : Problem) (c : Kept) (e : State) (lits : List Literal) (back : ℕ) (s : Search) (taught : IsTaught formula c e lits back s) where
+module _ (formula : Problem) (c : SearchState) (e : State) (lits : List Literal) (back : ℕ) (s : Search) (taught : IsTaught formula c e lits back s) where
   pub lower_than_now : back < c.trail.level
   lower_than_now = let low = taught.learned.lower in let now = level_tied s.trail c.trail taught.ties.follows.tied taught.ties.follows.sound in omega (arith, low, now)
 
@@ -52,7 +52,7 @@ module _ (formula : Problem) (c : Kept) (e : State) (lits : List Literal) (back 
       go [] are b = b
       go (q ∷ qs) are b = absurd (let n = ap length are in omega (arith, n, one))
 
-  module _ (c1 : Kept) (e1 : State) (t1 : Ties formula c1 e1 taught.rows (jumped s back)) (takes : TakesBack back c.trail c1.trail) where
+  module _ (c1 : SearchState) (e1 : State) (t1 : Ties formula c1 e1 taught.rows (jumped s back)) (takes : TakesBack back c.trail c1.trail) where
     pub scores_within : (lits1 : List Literal) → lits1 ≡ lits → (k : ℕ) (d : Literal) → k < length lits1 → (1 ≤ (get_or lits1 k d).variable) × ((get_or lits1 k d).variable ≤ length c1.order.scores)
     scores_within lits1 same k d h =
         let w = all_within formula.variables lits (within formula c e lits back s taught []) k d (let n = ap length same in omega (arith, n, h)) in
@@ -108,7 +108,7 @@ module _ (formula : Problem) (c : Kept) (e : State) (lits : List Literal) (back 
       stands_still : AllStand o c1.trail
       stands_still = record { variables = scores ∙ t1.stand.variables; stand = λ v low high is_open. ap (λ b. get_or b (v - 1) false) standing ∙ t1.stand.stand v low high is_open }
 
-      pub enters_stands : (D : Kept) (lbd : ℕ) (hints : List ℤ) → c1.next ≡ c.next → c1.conflicts ≡ c.conflicts → (back ≡ 0 → length c1.units.items ≡ length c1.trail.entries)
+      pub enters_stands : (D : SearchState) (lbd : ℕ) (hints : List ℤ) → c1.next ≡ c.next → c1.conflicts ≡ c.conflicts → (back ≡ 0 → length c1.units.items ≡ length c1.trail.entries)
           → Enters (record c1 { order = o; next = c1.next + 1; conflicts = c1.conflicts + 1 }) D lits c1.next lbd → Ties formula D e1 [] (after_round s c.next (integers_of lits) hints back taught.first)
       enters_stands D lbd hints next conflicts units enters =
           let Law : ℕ → ℕ → Literal → Type 0 = λ m k x. ((length lits ≡ 1) × EntersUnit (record c1 { order = o; next = m + 1; conflicts = k + 1 }) D x m) ⊎ ((2 ≤ length lits) × EntersClause (record c1 { order = o; next = m + 1; conflicts = k + 1 }) D lits x m lbd) in
@@ -116,3 +116,8 @@ module _ (formula : Problem) (c : Kept) (e : State) (lits : List Literal) (back 
             | inl (one, unit) ↦ unit_ties formula c e lits back s taught hints c1 e1 t1 takes o stands_still D one (alone_at_zero one) (units (alone_at_zero one)) unit
             | inr (several, clause) ↦ clause_ties formula c e lits back s taught hints c1 e1 t1 takes o stands_still D lbd clause others_are_false
           ]
+
+-- the first of a list that is not empty
+pub first_any : (xs : List Literal) (d e : Literal) → 1 ≤ length xs → get_or xs 0 d ≡ get_or xs 0 e
+first_any [] d e h = absurd (omega (arith, h))
+first_any (x ∷ xs) d e h = refl

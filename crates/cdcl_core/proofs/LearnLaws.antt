@@ -1,5 +1,5 @@
 -- What a conflict teaches, and what the sink is told of it.
-use Rattle.std.proofs.Common.{◌≡◌, refl, sym, ap, ◌∙◌, subst, ℕ, zero, suc, ◌+◌, ◌<◌, ◌^◌, ℤ, true, List, [], ◌∷◌, ◌++◌, length, take, drop, get_or, Some, None, Option, Result, Ok, Err, IfOk, IfErr, ◌⊎◌, inl, inr, arith, Contains, append-nil, append_assoc}
+use Rattle.std.proofs.Common.{◌≡◌, refl, sym, ap, ◌∙◌, subst, ℕ, suc, ◌+◌, ◌<◌, ◌^◌, ℤ, true, List, [], ◌∷◌, ◌++◌, length, take, drop, Some, None, Option, Result, Ok, Err, IfOk, IfErr, ◌⊎◌, inl, inr, arith, append-nil, append_assoc}
 use Rattle.std.proofs.lemmas.List.{take-append-drop}
 use Rattle.std.proofs.lemmas.List.Elements.{filter_map-append}
 use Rattle.cx_base.specs.Literals.{Literal}
@@ -26,19 +26,19 @@ use Rattle.parity_engine.specs.State.{State}
 use Rattle.search_steps.specs.Search.{Search, told}
 use Rattle.search_steps.specs.LogSteps.{deleted, after_learned, after_round}
 use Rattle.search_steps.specs.Holding.{AreTold}
-use Rattle.search_steps.specs.Tied.{IsLiveSet}
 use Rattle.search_steps.proofs.LearnedLaws.{learned_has_chain}
 use Rattle.search_steps.proofs.OverSearch.{taught_by_search}
-use Rattle.search_steps.proofs.Reasons.{live_is_live_set}
-use Rattle.cdcl_core.specs.declared.kept.Kept.{Kept}
-use Rattle.cdcl_core.specs.Ties.{first_row_id, row_ids, Ties, Stands}
-use Rattle.cdcl_core.specs.Sources.{IsSourced, IsConflict}
-use Rattle.cdcl_core.specs.Tells.{TellsAll, IsLeft, GivesUp, as_events, with_events}
+use Rattle.cdcl_search.specs.declared.state.SearchState.{SearchState}
+use Rattle.cdcl_search.specs.Ties.{first_row_id, row_ids, SearchStands}
+use Rattle.cdcl_search.specs.Sources.{IsSourced}
+use Rattle.cdcl_search.specs.Tells.{TellsAll, IsLeft, GivesUp, as_events, with_events}
+use Rattle.cdcl_search.proofs.Events.{more_and_more, gives_up}
+use Rattle.cdcl_search.proofs.RowSteps.{is_left}
+use Rattle.cdcl_search.specs.Deleting.{deletions}
+use Rattle.cdcl_search.proofs.SourceLaws.{sourced_is_live}
 use Rattle.cdcl_core.specs.Learning.{IsTaught, Learns}
-use Rattle.cdcl_core.proofs.Events.{more_and_more, gives_up}
-use Rattle.cdcl_core.proofs.RowSteps.{is_left}
 use Rattle.cdcl_core.proofs.Entering.{round_is_search, tidy}
-use Rattle.cdcl_core.specs.Deleting.{deletions}
+use Rattle.cdcl_core.specs.Concluding.{IsConflictClause}
 
 -- ---- a mark and the steps behind it
 pub mark_is_told : (torn : LogEvent → Type 0) (event : LogEvent) (events : List LogEvent) (old between new : Option (List LogEvent)) (r : Result (Unit {0}) CoreFault)
@@ -75,25 +75,9 @@ deleted_events : (s : Search) (ids : List ℕ) → (deleted s ids).events ≡ s.
 deleted_events s [] = sym (append-nil s.events)
 deleted_events s (n ∷ ids) = deleted_events (told s (Step (Delete n []))) ids ∙ append_assoc s.events (Step (Delete n []) ∷ []) (deletions ids)
 
--- ---- the source's clauses are live
-row_at : (xs : List (List Literal)) (x : List Literal) (h : Contains xs x) → get_or xs h.0 [] ≡ x
-row_at [] x (n, less, is) = absurd (omega (arith, less))
-row_at (y ∷ xs) x (zero, less, is) = is
-row_at (y ∷ xs) x (suc n, less, is) = row_at xs x (n, omega (arith, less), is)
-
-pub sourced_is_live : (formula : Problem) (c : Kept) (e : State) (rows : List (List Literal)) (s : Search) → Ties formula c e rows s → (clause : List Literal) → IsSourced c rows clause → IsLiveSet s.moment.tables.clauses clause
-sourced_is_live formula c e rows s t clause (inl (r, live, is)) =
-    let named = (t.clauses.stored r live).named in
-    subst (IsLiveSet s.moment.tables.clauses) (sym is) (named.clause, (_, named.live), named.same)
-sourced_is_live formula c e rows s t clause (inr (inl (i, less, is))) =
-    let named = t.units.named i less in
-    subst (IsLiveSet s.moment.tables.clauses) (sym is) (named.clause, (_, named.live), named.same)
-sourced_is_live formula c e rows s t clause (inr (inr h)) =
-    live_is_live_set s.moment.tables.clauses clause (first_row_id + h.0, t.rows_told h.0 h.1 ∙ ap Some (row_at rows clause h))
-
-module _ (formula : Problem) (c : Kept) (e : State) (rows : List (List Literal)) (old : Option (List LogEvent)) (st : Stands formula c e rows old)
+module _ (formula : Problem) (c : SearchState) (e : State) (rows : List (List Literal)) (old : Option (List LogEvent)) (st : SearchStands formula c e rows old)
     (above : 0 < c.trail.level) (room : c.next < first_row_id) (few : c.conflicts < 10 ^ 18)
-    (conflict : List Literal) (is_conflict : IsConflict c rows conflict) (resolved lits : List Literal) (back lbd : ℕ) (teaches : Teaches c.trail conflict (IsSourced c rows) resolved lits back lbd) where
+    (conflict : List Literal) (is_conflict : IsConflictClause c rows conflict) (resolved lits : List Literal) (back lbd : ℕ) (teaches : Teaches c.trail conflict (IsSourced c rows) resolved lits back lbd) where
   abbrev s : Search
   s = st.0
 
@@ -149,30 +133,30 @@ module _ (formula : Problem) (c : Kept) (e : State) (rows : List (List Literal))
     gives_up_then torn new fault tells = gives_up formula torn (Conflict (c.conflicts + 1) ∷ as_events steps) old new fault tells (λ i less. front_is_left old st.2 i)
 
 -- the conflict has a literal of the current level
-pub conflict_is_now : (formula : Problem) (c : Kept) (e : State) (rows : List (List Literal)) (old : Option (List LogEvent)) → Stands formula c e rows old → 0 < c.trail.level → (conflict : List Literal) → IsConflict c rows conflict
+pub conflict_is_now : (formula : Problem) (c : SearchState) (e : State) (rows : List (List Literal)) (old : Option (List LogEvent)) → SearchStands formula c e rows old → 0 < c.trail.level → (conflict : List Literal) → IsConflictClause c rows conflict
     → (m : Literal) × (has_literal conflict m ≡ true) × IsOfLevel c.trail m c.trail.level
 conflict_is_now formula c e rows old st above conflict is =
     clause_conflict_is_now formula (parities_of formula.constraints) st.0 st.1 c.trail st.3.follows above (st.3.levels ∙ level_tied st.0.trail c.trail st.3.follows.tied st.3.follows.sound)
     conflict (sourced_is_live formula c e rows st.0 st.3 conflict is.sourced)
 
 -- ---- an analysis, by the values at which what it was lent ends
-module _ {T A : Type 0} (r : Result T CoreFault) (formula : Problem) (c : Kept) (events : A → Option (List LogEvent)) (rows last : List (List Literal)) (s end : A) where
-  pub stands_at : (e : State) → last ≡ rows → end ≡ s → IfOk r (λ x. Stands formula c e rows (events s)) → IfOk r (λ x. Stands formula c e last (events end))
-  stands_at e same ends h = subst (λ a. IfOk r (λ x. Stands formula c e last (events a))) (sym ends) (subst (λ rs. IfOk r (λ x. Stands formula c e rs (events s))) (sym same) h)
+module _ {T A : Type 0} (r : Result T CoreFault) (formula : Problem) (c : SearchState) (events : A → Option (List LogEvent)) (rows last : List (List Literal)) (s end : A) where
+  pub stands_at : (e : State) → last ≡ rows → end ≡ s → IfOk r (λ x. SearchStands formula c e rows (events s)) → IfOk r (λ x. SearchStands formula c e last (events end))
+  stands_at e same ends h = subst (λ a. IfOk r (λ x. SearchStands formula c e last (events a))) (sym ends) (subst (λ rs. IfOk r (λ x. SearchStands formula c e rs (events s))) (sym same) h)
 
   -- where it had no memory the search still stands
-  pub lesson_gave_up : (now : Problem) → now ≡ formula → (e : State) (torn : A → LogEvent → Type 0) → end ≡ s → IfErr r (λ f. ((f ≡ Memory) × Stands now c e rows (events s)) ⊎ GivesUp now (torn s) (events s) f)
+  pub lesson_gave_up : (now : Problem) → now ≡ formula → (e : State) (torn : A → LogEvent → Type 0) → end ≡ s → IfErr r (λ f. ((f ≡ Memory) × SearchStands now c e rows (events s)) ⊎ GivesUp now (torn s) (events s) f)
       → IfErr r (λ f. GivesUp formula (torn end) (events end) f)
   lesson_gave_up now same e torn ends h = subst (λ a. IfErr r (λ f. GivesUp formula (torn a) (events a) f)) (sym ends) (gave_up_at r h) where
-    gave_up_at : (o : Result T CoreFault) → IfErr o (λ f. ((f ≡ Memory) × Stands now c e rows (events s)) ⊎ GivesUp now (torn s) (events s) f) → IfErr o (λ f. GivesUp formula (torn s) (events s) f)
+    gave_up_at : (o : Result T CoreFault) → IfErr o (λ f. ((f ≡ Memory) × SearchStands now c e rows (events s)) ⊎ GivesUp now (torn s) (events s) f) → IfErr o (λ f. GivesUp formula (torn s) (events s) f)
     gave_up_at (Ok x) k = tt
     gave_up_at (Err f) (inl (memory, st)) =
         subst (λ g. GivesUp formula (torn s) (events s) g) (sym memory) (subst (λ p. IsLeft p (events s)) same (is_left now (parities_of now.constraints) st.0 (events s) st.1 st.3.served.served st.2))
     gave_up_at (Err f) (inr k) = subst (λ p. GivesUp p (torn s) (events s) f) same k
 
-pub conflict_at : (c : Kept) (conflict : List Literal) (rows last : List (List Literal)) → last ≡ rows → IsConflict c rows conflict → IsConflict c last conflict
-conflict_at c conflict rows last same h = subst (λ rs. IsConflict c rs conflict) (sym same) h
+pub conflict_at : (c : SearchState) (conflict : List Literal) (rows last : List (List Literal)) → last ≡ rows → IsConflictClause c rows conflict → IsConflictClause c last conflict
+conflict_at c conflict rows last same h = subst (λ rs. IsConflictClause c rs conflict) (sym same) h
 
-pub teaches_at : (r : Result Learned CoreFault) (c : Kept) (trail : TrailState) (conflict : List Literal) (rows last : List (List Literal)) → last ≡ rows
+pub teaches_at : (r : Result Learned CoreFault) (c : SearchState) (trail : TrailState) (conflict : List Literal) (rows last : List (List Literal)) → last ≡ rows
     → IfOk r (λ x. Teaches trail conflict (IsSourced c rows) x.resolved x.lits x.back_level x.lbd) → IfOk r (λ x. Teaches trail conflict (IsSourced c last) x.resolved x.lits x.back_level x.lbd)
 teaches_at r c trail conflict rows last same h = subst (λ rs. IfOk r (λ x. Teaches trail conflict (IsSourced c rs) x.resolved x.lits x.back_level x.lbd)) (sym same) h

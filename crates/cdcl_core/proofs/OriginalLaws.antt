@@ -26,12 +26,12 @@ use Rattle.search_steps.specs.Holding.{AreTold}
 use Rattle.search_steps.specs.Search.{Search, told}
 use Rattle.search_steps.specs.Start.{IsBegun, start}
 use Rattle.search_steps.proofs.StartLaws.{nothing_is_begun, clause_begins, parity_begins, literals_are}
-use Rattle.cdcl_core.specs.Originals.{AreListed, HasBegun, AreCounted}
+use Rattle.cdcl_search.specs.Tells.{TellsAll, GivesUp, IsLeft, with_events}
+use Rattle.cdcl_search.proofs.Events.{no_more, gives_up}
+use Rattle.cdcl_search.proofs.TableLaws.{put_same, put_other}
+use Rattle.cdcl_search.proofs.RowSteps.{few_parities}
+use Rattle.cdcl_core.specs.Originals.{AreListedFromOne, HasBegun, AreCounted}
 use Rattle.cdcl_core.specs.Results.{IsFresh}
-use Rattle.cdcl_core.specs.Tells.{TellsAll, GivesUp, IsLeft, with_events}
-use Rattle.cdcl_core.proofs.Events.{no_more, gives_up}
-use Rattle.cdcl_core.proofs.TableLaws.{put_same, put_other}
-use Rattle.cdcl_core.proofs.RowSteps.{few_parities}
 
 -- ---- constraints by their places
 clause_there : (cs : List Constraint) (i : ℕ) (lits : List Literal) (d : Constraint) → i < length cs → get_or cs i d ≡ constraint.Clause lits → Contains (clauses_of cs) lits
@@ -73,10 +73,10 @@ unfolding clauses_of parities_of
 none_counted = record { clauses = refl; parities = refl }
 
 -- ---- lists under their numbers
-nothing_listed : AreListed map_.empty []
+nothing_listed : AreListedFromOne map_.empty []
 nothing_listed = record { numbered = λ k low high. absurd (omega (arith, low, high)); none_before = Looks-empty 0 }
 
-listed_more : (table : Table) (lists : List (List Literal)) (lits : List Literal) → AreListed table lists → AreListed (map_.insert table (length lists + 1) lits) (lists ++ lits ∷ [])
+listed_more : (table : Table) (lists : List (List Literal)) (lits : List Literal) → AreListedFromOne table lists → AreListedFromOne (map_.insert table (length lists + 1) lits) (lists ++ lits ∷ [])
 listed_more table lists lits a = record {
   numbered = λ k low high.
       let long = length-append lists (lits ∷ []) in
@@ -111,13 +111,13 @@ module _ (n : ℕ) (taken : List Constraint) (lits : List Literal) where
   clauses_stay = filter_map-append clause_in taken (constraint.Parity lits ∷ []) ∙ append-nil (clauses_of taken)
 
   module _ (w : AreWithin n lits) (table : Table) where
-    clause_listed : AreListed table (clauses_of taken) → AreListed (map_.insert table (length (clauses_of taken) + 1) (literals (integers_of lits))) (clauses_of (taken ++ constraint.Clause lits ∷ []))
-    clause_listed a = subst (AreListed (map_.insert table (length (clauses_of taken) + 1) (literals (integers_of lits)))) (sym clause_joins)
-        (subst (λ xs. AreListed (map_.insert table (length (clauses_of taken) + 1) xs) (clauses_of taken ++ lits ∷ [])) (sym (literals_are n lits w)) (listed_more table (clauses_of taken) lits a))
+    clause_listed : AreListedFromOne table (clauses_of taken) → AreListedFromOne (map_.insert table (length (clauses_of taken) + 1) (literals (integers_of lits))) (clauses_of (taken ++ constraint.Clause lits ∷ []))
+    clause_listed a = subst (AreListedFromOne (map_.insert table (length (clauses_of taken) + 1) (literals (integers_of lits)))) (sym clause_joins)
+        (subst (λ xs. AreListedFromOne (map_.insert table (length (clauses_of taken) + 1) xs) (clauses_of taken ++ lits ∷ [])) (sym (literals_are n lits w)) (listed_more table (clauses_of taken) lits a))
 
-    parity_listed : AreListed table (parities_of taken) → AreListed (map_.insert table (length (parities_of taken) + 1) (literals (integers_of lits))) (parities_of (taken ++ constraint.Parity lits ∷ []))
-    parity_listed a = subst (AreListed (map_.insert table (length (parities_of taken) + 1) (literals (integers_of lits)))) (sym parity_joins)
-        (subst (λ xs. AreListed (map_.insert table (length (parities_of taken) + 1) xs) (parities_of taken ++ lits ∷ [])) (sym (literals_are n lits w)) (listed_more table (parities_of taken) lits a))
+    parity_listed : AreListedFromOne table (parities_of taken) → AreListedFromOne (map_.insert table (length (parities_of taken) + 1) (literals (integers_of lits))) (parities_of (taken ++ constraint.Parity lits ∷ []))
+    parity_listed a = subst (AreListedFromOne (map_.insert table (length (parities_of taken) + 1) (literals (integers_of lits)))) (sym parity_joins)
+        (subst (λ xs. AreListedFromOne (map_.insert table (length (parities_of taken) + 1) xs) (parities_of taken ++ lits ∷ [])) (sym (literals_are n lits w)) (listed_more table (parities_of taken) lits a))
 
 -- ---- the parities of the first constraints
 pub no_parity : (cs : List Constraint) → [] ≡ parities_of (take 0 cs)
@@ -139,13 +139,13 @@ parities_are_within n (constraint.Parity lits ∷ cs) w = (w.0, parities_are_wit
 
 -- the log has begun, with a constraint more
 module _ (formula : Problem) (taken : List Constraint) (s : Search) (lits : List Literal) (w : AreWithin formula.variables lits) (begun : IsBegun formula taken s)
-    (clauses : AreListed s.moment.tables.clauses (clauses_of taken)) (parities : AreListed s.moment.tables.parities (parities_of taken)) (o : Option (List LogEvent)) where
+    (clauses : AreListedFromOne s.moment.tables.clauses (clauses_of taken)) (parities : AreListedFromOne s.moment.tables.parities (parities_of taken)) (o : Option (List LogEvent)) where
   clause_has_begun : Contains (clauses_of formula.constraints) lits → AreTold o (s.events ++ Step (Original (length (clauses_of taken) + 1) (integers_of lits)) ∷ []) → HasBegun formula (taken ++ constraint.Clause lits ∷ []) o
   clause_has_begun has a = (
     told s (Step (Original (length (clauses_of taken) + 1) (integers_of lits))),
     clause_begins formula taken s begun lits w has,
     clause_listed formula.variables taken lits w s.moment.tables.clauses clauses,
-    subst (AreListed s.moment.tables.parities) (sym (parities_stay formula.variables taken lits)) parities,
+    subst (AreListedFromOne s.moment.tables.parities) (sym (parities_stay formula.variables taken lits)) parities,
     a,
   )
 
@@ -153,7 +153,7 @@ module _ (formula : Problem) (taken : List Constraint) (s : Search) (lits : List
   parity_has_begun has a = (
     told s (Step (OriginalParity (length (parities_of taken) + 1) (integers_of lits))),
     parity_begins formula taken s begun lits w has,
-    subst (AreListed s.moment.tables.clauses) (sym (clauses_stay formula.variables taken lits)) clauses,
+    subst (AreListedFromOne s.moment.tables.clauses) (sym (clauses_stay formula.variables taken lits)) clauses,
     parity_listed formula.variables taken lits w s.moment.tables.parities parities,
     a,
   )

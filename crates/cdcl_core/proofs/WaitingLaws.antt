@@ -38,22 +38,22 @@ use Rattle.conflict_learn.proofs.ChainOfResolutions.{by_cases}
 use Rattle.search_steps.proofs.Sets.{not_both}
 use Rattle.search_steps.proofs.StartLaws.{begun_is_search}
 use Rattle.search_steps.proofs.Stored.{stored_is_false}
-use Rattle.cdcl_core.specs.declared.kept.Kept.{Kept}
+use Rattle.cdcl_search.specs.declared.state.SearchState.{SearchState}
+use Rattle.cdcl_search.specs.Tells.{IsLeft}
+use Rattle.cdcl_search.specs.Ties.{IsNamedBy, IsCovered, AreClauses, AreUnits, IsFed, SearchStands, first_row_id}
+use Rattle.cdcl_search.proofs.Growing.{covered_grows, stand_grows}
+use Rattle.cdcl_search.proofs.Places.{tied_length}
+use Rattle.cdcl_search.proofs.RowSteps.{is_left}
+use Rattle.cdcl_search.proofs.TableLaws.{no_clause}
 use Rattle.cdcl_core.specs.declared.filling.Single.{Single}
 use Rattle.cdcl_core.specs.Filling.{IsFilled, clause_number}
 use Rattle.cdcl_core.specs.Originals.{HasBegun}
-use Rattle.cdcl_core.specs.Tells.{IsLeft}
-use Rattle.cdcl_core.specs.Ties.{IsNamedBy, IsCovered, AreClauses, AreUnits, IsFed, Stands, first_row_id}
-use Rattle.cdcl_core.specs.Waiting.{TiesBut, StandsBut, IsWaiting, IsSingle}
+use Rattle.cdcl_core.specs.Waiting.{TiesBut, SearchStandsBut, IsWaiting, IsSingle}
 use Rattle.cdcl_core.proofs.EndingLaws.{no_newer}
-use Rattle.cdcl_core.proofs.Growing.{covered_grows, stand_grows}
 use Rattle.cdcl_core.proofs.OriginalLaws.{few_clauses}
-use Rattle.cdcl_core.proofs.Places.{tied_length}
-use Rattle.cdcl_core.proofs.RowSteps.{is_left}
-use Rattle.cdcl_core.proofs.TableLaws.{no_clause}
 use Rattle.cdcl_core.specs.Concluding.{IsRefutable}
 
-pub waiting_is_left : (formula : Problem) (c : Kept) (waiting : List Single) (old : Option (List LogEvent)) → StandsBut formula c waiting old → IsLeft formula old
+pub waiting_is_left : (formula : Problem) (c : SearchState) (waiting : List Single) (old : Option (List LogEvent)) → SearchStandsBut formula c waiting old → IsLeft formula old
 waiting_is_left formula c waiting old st = is_left formula (parities_of formula.constraints) st.0 old st.1 st.3.served.served st.2
 
 -- ---- a clause of one literal
@@ -123,11 +123,11 @@ busy : Busy ≡ Broken → ⊥
 busy q = cc
 
 -- what the code holds with other units and another trail
-abbrev pub with_single : Kept → Vec ℕ → TrailState → Kept
+abbrev pub with_single : SearchState → Vec ℕ → TrailState → SearchState
 with_single c units trail = record c { trail = trail; units = units }
 
-pub next_waits : (formula : Problem) (c : Kept) (units : List Single) (place : ℕ) (u : Single) (told : Option (List LogEvent)) → place < length units → u ≡ get_or units place u → StandsBut formula c (drop place units) told → StandsBut formula c (u ∷ drop (place + 1) units) told
-next_waits formula c units place u told less is st = subst (λ us. StandsBut formula c us told) (drop-cons units place u less ∙ ap (λ j. get_or units place u ∷ drop j units) (let e : suc place ≡ place + 1 = omega arith in e) ∙ ap (λ x. x ∷ drop (place + 1) units) (sym is)) st
+pub next_waits : (formula : Problem) (c : SearchState) (units : List Single) (place : ℕ) (u : Single) (told : Option (List LogEvent)) → place < length units → u ≡ get_or units place u → SearchStandsBut formula c (drop place units) told → SearchStandsBut formula c (u ∷ drop (place + 1) units) told
+next_waits formula c units place u told less is st = subst (λ us. SearchStandsBut formula c us told) (drop-cons units place u less ∙ ap (λ j. get_or units place u ∷ drop j units) (let e : suc place ≡ place + 1 = omega arith in e) ∙ ap (λ x. x ∷ drop (place + 1) units) (sym is)) st
 
 pub none_left : (units : List Single) (place : ℕ) → length units ≤ place → drop place units ≡ []
 none_left [] zero far = refl
@@ -136,7 +136,7 @@ none_left (u ∷ units) zero far = absurd (omega (arith, far))
 none_left (u ∷ units) (suc place) far = none_left units place (omega (arith, far))
 
 -- ---- the next unit clause
-module _ (formula : Problem) (c : Kept) (u : Single) (more : List Single) (old : Option (List LogEvent)) (st : StandsBut formula c (u ∷ more) old) where
+module _ (formula : Problem) (c : SearchState) (u : Single) (more : List Single) (old : Option (List LogEvent)) (st : SearchStandsBut formula c (u ∷ more) old) where
   abbrev search : Search
   search = st.0
 
@@ -171,7 +171,7 @@ module _ (formula : Problem) (c : Kept) (u : Single) (more : List Single) (old :
         ∙ to_held 0 search.trail c.trail.entries ties.follows.tied i less (let low = ties.follows.sound.levels i less in let level = ties.level in omega (arith, low, level));
   }
 
-  pub true_is_put : IsTrueIn c.trail.entries u.literal → StandsBut formula c more old
+  pub true_is_put : IsTrueIn c.trail.entries u.literal → SearchStandsBut formula c more old
   true_is_put h = (
     search,
     st.1,
@@ -251,7 +251,7 @@ module _ (formula : Problem) (c : Kept) (u : Single) (more : List Single) (old :
         (record { clause = clause; live = live; same = single.0.same }) small
 
     module _ (units : Vec ℕ) (grown : units.items ≡ c.units.items ++ u.number ∷ []) where
-      pushed_is_put : IsTrail (pushed c.trail c.trail.level u.literal why) → StandsBut formula (with_single c units (pushed c.trail c.trail.level u.literal why)) more old
+      pushed_is_put : IsTrail (pushed c.trail c.trail.level u.literal why) → SearchStandsBut formula (with_single c units (pushed c.trail c.trail.level u.literal why)) more old
       pushed_is_put sound = (
         after,
         keeps.0,
@@ -289,11 +289,11 @@ module _ (formula : Problem) (c : Kept) (u : Single) (more : List Single) (old :
         },
       )
 
-      pub open_is_put : (trail : TrailState) → trail ≡ pushed c.trail c.trail.level u.literal why → IsTrail trail → StandsBut formula (with_single c units trail) more old
-      open_is_put trail is sound = subst (λ t. StandsBut formula (with_single c units t) more old) (sym is) (pushed_is_put (subst IsTrail is sound))
+      pub open_is_put : (trail : TrailState) → trail ≡ pushed c.trail c.trail.level u.literal why → IsTrail trail → SearchStandsBut formula (with_single c units trail) more old
+      open_is_put trail is sound = subst (λ t. SearchStandsBut formula (with_single c units t) more old) (sym is) (pushed_is_put (subst IsTrail is sound))
 
 -- ---- before the first unit clause
-module _ (formula : Problem) (few : length formula.constraints ≤ 4294967295) (known : IsWithinVariables formula.variables formula.constraints) (told : Option (List LogEvent)) (b : HasBegun formula formula.constraints told) (c : Kept) (units : List Single) where
+module _ (formula : Problem) (few : length formula.constraints ≤ 4294967295) (known : IsWithinVariables formula.variables formula.constraints) (told : Option (List LogEvent)) (b : HasBegun formula formula.constraints told) (c : SearchState) (units : List Single) where
   room_then : length (clauses_of formula.constraints) + 1 < first_row_id
   room_then = let a = few_clauses formula.constraints in omega (arith, a, few)
 
@@ -326,7 +326,7 @@ module _ (formula : Problem) (few : length formula.constraints ≤ 4294967295) (
     all = λ high i far less. absurd (omega (arith, high, level));
   }
 
-  pub filled_stands : IsFilled formula c units None → StandsBut formula c units told
+  pub filled_stands : IsFilled formula c units None → SearchStandsBut formula c units told
   filled_stands f = (
     b.0,
     begun_is_search formula b.0 b.1,
@@ -380,7 +380,7 @@ module _ (formula : Problem) (few : length formula.constraints ≤ 4294967295) (
   )
 
 -- ---- behind the last unit clause
-module _ (formula : Problem) (c : Kept) (told : Option (List LogEvent)) (st : StandsBut formula c [] told) where
+module _ (formula : Problem) (c : SearchState) (told : Option (List LogEvent)) (st : SearchStandsBut formula c [] told) where
   none_waits : (k : ℕ) → IsWaiting [] k → ⊥
   none_waits k (u, (i, less, is), number) = omega (arith, less)
 
@@ -442,7 +442,7 @@ module _ (formula : Problem) (c : Kept) (told : Option (List LogEvent)) (st : St
       level = ap (λ x. x.level) made ∙ sym level_is;
     }
 
-    pub begun_stands : Stands formula c e [] told
+    pub begun_stands : SearchStands formula c e [] told
     begun_stands = (
       st.0,
       st.1,

@@ -1,7 +1,8 @@
 -- What a conflict comes to.
-use Rattle.std.specs.Prelude.{◌≡◌, ℕ, ◌<◌, List, [], length, take, Option, Some, None, IsFalse}
+use Rattle.std.specs.Prelude.{◌≡◌, ℕ, ◌<◌, List, [], length, take, Option, Some, None, IsFalse, IsTrue, ◌≢◌}
 use Rattle.std.specs.List.{AllByRecursion}
 use Rattle.cx_base.specs.Problem.{Problem, Unmet, parities_of}
+use Rattle.cx_base.specs.Literals.{Literal}
 use Rattle.cx_semantics.specs.declared.steps.LogEvent.{LogEvent}
 use Rattle.cx_semantics.specs.declared.steps.LogEvent.TheVariants.{Step}
 use Rattle.cx_semantics.specs.declared.steps.LogStep.{LogStep}
@@ -9,16 +10,24 @@ use Rattle.cx_semantics.specs.LogRules.{HasChain}
 use Rattle.cx_semantics.specs.Marked.{Marked}
 use Rattle.cx_semantics.specs.Printed.{HasText}
 use Rattle.cx_semantics.specs.Tables.{get}
+use Rattle.cx_semantics.specs.Chain.{has_literal}
 use Rattle.parity_engine.specs.State.{State}
+use Rattle.parity_engine.specs.declared.state.Mood.TheVariants.{Broken}
 use Rattle.search_steps.specs.Holding.{AreTold}
 use Rattle.search_steps.specs.LogSteps.{IsEnded}
 use Rattle.search_steps.specs.Search.{Search, IsSearch}
-use Rattle.cdcl_core.specs.declared.kept.Kept.{Kept}
+use Rattle.cx_trail.specs.Sequence.{IsFalseIn}
+use Rattle.cdcl_search.specs.declared.state.SearchState.{SearchState}
+use Rattle.cdcl_search.specs.Tells.{IsId, IsLeft, as_events, with_events}
+use Rattle.cdcl_search.specs.Ties.{SearchStands}
+use Rattle.cdcl_search.specs.Sources.{IsSourced}
 use Rattle.cdcl_core.specs.declared.conflicts.Conclusion.{Conclusion}
 use Rattle.cdcl_core.specs.declared.conflicts.Conclusion.TheVariants.{Clause, Ending}
-use Rattle.cdcl_core.specs.Sources.{IsConflict}
-use Rattle.cdcl_core.specs.Tells.{IsId, IsLeft, as_events, with_events}
-use Rattle.cdcl_core.specs.Ties.{Stands}
+
+-- the clause of a conflict: it is held, and each of its literals is false
+pub record IsConflictClause (c : SearchState) (rows : List (List Literal)) (clause : List Literal) : Type 0 where
+  pub sourced : IsSourced c rows clause
+  pub all_false : (m : Literal) → IsTrue (has_literal clause m) → IsFalseIn c.trail.entries m
 
 -- the log is right to its end, and marked so often
 abbrev pub IsEndedWith : Problem → ℕ → Option (List LogEvent) → Type 0
@@ -33,9 +42,9 @@ pub record EndsLog (formula : Problem) (marks : ℕ) (told : Option (List LogEve
   pub fronts : (i : ℕ) → i < length steps → IsLeft formula (with_events (take i (as_events steps)) told)
 
 -- a clause whose literals are all false, or steps that end the log
-abbrev pub Concludes : Problem → Kept → State → Option (List LogEvent) → Conclusion → Type 0
-Concludes formula c e told (Clause k) = Stands formula c e k.rows.items told × IsConflict c k.rows.items k.lits
-Concludes formula c e told (Ending steps) = Stands formula c e [] told × EndsLog formula c.conflicts told steps.items
+abbrev pub Concludes : Problem → SearchState → State → Option (List LogEvent) → Conclusion → Type 0
+Concludes formula c e told (Clause k) = SearchStands formula c e k.rows.items told × IsConflictClause c k.rows.items k.lits
+Concludes formula c e told (Ending steps) = SearchStands formula c e [] told × EndsLog formula c.conflicts told steps.items
 
 -- the clauses of the search show the empty clause, which may have this id; so many conflicts are counted
 pub record IsContradicted (formula : Problem) (id marks : ℕ) (s : Search) : Type 0 where
@@ -48,3 +57,9 @@ pub record IsContradicted (formula : Problem) (id marks : ℕ) (s : Search) : Ty
 -- the clauses that were told show the empty clause, which may have this id
 abbrev pub IsRefutable : Problem → ℕ → ℕ → Option (List LogEvent) → Type 0
 IsRefutable formula id marks told = IsId id × ((s : Search) × AreTold told s.events × IsContradicted formula id marks s)
+
+-- the search stands before a propagation, with fewer counted conflicts than the budget
+pub record SearchGoesOn (formula : Problem) (budget : ℕ) (told : Option (List LogEvent)) (c : SearchState) (e : State) : Type 0 where
+  pub stands : SearchStands formula c e [] told
+  pub unbroken : e.mood ≢ Broken
+  pub fewer : c.conflicts < budget

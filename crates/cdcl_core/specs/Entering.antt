@@ -6,10 +6,10 @@ use Rattle.cx_trail.specs.declared.entry.Reason.TheVariants.{Decision, Clause}
 use Rattle.cx_trail.specs.Sequence.{pushed, IsTrail}
 use Rattle.watch_lists.specs.Attaching.{literal_at}
 use Rattle.watch_lists.specs.Watching.{Fits, IsAttached}
-use Rattle.cdcl_core.specs.declared.kept.Kept.{Kept}
+use Rattle.cdcl_search.specs.declared.state.SearchState.{SearchState}
 
 -- the literal stands on the trail, at the current level
-pub record IsPut (old new : Kept) (l : Literal) (reason : Reason) : Type 0 where
+pub record IsPut (old new : SearchState) (l : Literal) (reason : Reason) : Type 0 where
   pub trail : new.trail ≡ pushed old.trail old.trail.level l reason
   pub sound : IsTrail new.trail
   pub order : new.order ≡ old.order
@@ -19,14 +19,14 @@ pub record IsPut (old new : Kept) (l : Literal) (reason : Reason) : Type 0 where
   pub conflicts : new.conflicts ≡ old.conflicts
 
 -- the id is that of the literal's unit clause
-pub record EntersUnit (old new : Kept) (l : Literal) (id : ℕ) : Type 0 where
+pub record EntersUnit (old new : SearchState) (l : Literal) (id : ℕ) : Type 0 where
   pub put : IsPut old new l Decision
   pub arena : new.arena ≡ old.arena
   pub watches : new.watches ≡ old.watches
   pub units : new.units.items ≡ old.units.items ++ id ∷ []
 
 -- the clause stands in the arena, is attached, and is the literal's reason
-pub record EntersClause (old new : Kept) (lits : List Literal) (l : Literal) (id lbd : ℕ) : Type 0 where
+pub record EntersClause (old new : SearchState) (lits : List Literal) (l : Literal) (id lbd : ℕ) : Type 0 where
   pub put : IsPut old new l (Clause (length old.arena.clauses))
   pub added : new.arena.clauses ≡ old.arena.clauses ++ Some (record { literals = lits; id = id; lbd = lbd; learned = true }) ∷ []
   pub attached : IsAttached new.watches.attached (length old.arena.clauses)
@@ -35,5 +35,5 @@ pub record EntersClause (old new : Kept) (lits : List Literal) (l : Literal) (id
   pub units : new.units.items ≡ old.units.items
 
 -- as the clause has one literal or several
-abbrev pub Enters : Kept → Kept → List Literal → ℕ → ℕ → Type 0
+abbrev pub Enters : SearchState → SearchState → List Literal → ℕ → ℕ → Type 0
 Enters old new lits id lbd = ((length lits ≡ 1) × EntersUnit old new (literal_at lits 0) id) ⊎ ((2 ≤ length lits) × EntersClause old new lits (literal_at lits 0) id lbd)

@@ -8,13 +8,13 @@ use Rattle.cx_semantics.specs.Fresh.{is_tautology}
 use Rattle.clause_arena.specs.Clauses.{IsLive, literals_at, id_at}
 use Rattle.watch_lists.specs.Watching.{Fits, IsAttached}
 use Rattle.search_policy.specs.Standing.{AllStand}
-use Rattle.cdcl_core.specs.declared.kept.Kept.{Kept}
+use Rattle.cdcl_search.specs.declared.state.SearchState.{SearchState}
 use Rattle.cdcl_core.specs.declared.filling.Single.{Single}
 use Rattle.cdcl_core.specs.declared.filling.Filled.{Filled}
 use Rattle.cdcl_core.specs.Clauses.{AreDifferent}
 
 -- no literal and no clause; each variable may be decided
-pub record IsEmpty (variables : ℕ) (c : Kept) : Type 0 where
+pub record IsEmpty (variables : ℕ) (c : SearchState) : Type 0 where
   pub trail : c.trail ≡ record { variables = variables; level = 0; entries = [] }
   pub clauses : c.arena.clauses ≡ []
   pub attached : c.watches.attached ≡ []
@@ -37,15 +37,15 @@ pub record IsUnitClause (formula : Problem) (k : ℕ) (l : Literal) : Type 0 whe
   pub same : IsTrue (same_literals (l ∷ []) (clause_number formula k))
 
 -- The k-th clause is attached, or has a literal with its negation, or is one of these units; or some clause has no literal.
-abbrev pub IsTaken : Problem → Kept → List Single → Option ℕ → ℕ → Type 0
-IsTaken formula c units empty k =
+abbrev pub IsClauseTaken : Problem → SearchState → List Single → Option ℕ → ℕ → Type 0
+IsClauseTaken formula c units empty k =
     ((r : ℕ) × IsAttached c.watches.attached r × IsTrue (same_literals (literals_at c.arena r) (clause_number formula k)))
     ⊎ IsTrue (is_tautology (clause_number formula k))
     ⊎ ((u : Single) × Contains units u × (u.number ≡ k))
     ⊎ IsSome empty
 
 -- The first n clauses of the formula are taken: no literal is on the trail, and the arena has them and no others.
-pub record IsFilledUpTo (formula : Problem) (n : ℕ) (c : Kept) (units : List Single) (empty : Option ℕ) : Type 0 where
+pub record IsFilledUpTo (formula : Problem) (n : ℕ) (c : SearchState) (units : List Single) (empty : Option ℕ) : Type 0 where
   pub trail : c.trail ≡ record { variables = formula.variables; level = 0; entries = [] }
   pub fits : Fits c.watches c.arena c.trail
   pub stand : AllStand c.order c.trail
@@ -57,11 +57,11 @@ pub record IsFilledUpTo (formula : Problem) (n : ℕ) (c : Kept) (units : List S
   -- what the arena holds is attached, and has the literals of the clause of its number
   pub stored : (r : ℕ) → IsLive c.arena r → IsAttached c.watches.attached r × (1 ≤ id_at c.arena r) × (id_at c.arena r ≤ n) × IsTrue (same_literals (literals_at c.arena r) (clause_number formula (id_at c.arena r)))
   pub units_are : AllByRecursion (λ u. IsUnitClause formula u.number u.literal × (1 ≤ u.literal.variable) × (u.literal.variable ≤ formula.variables)) units
-  pub covered : (k : ℕ) → 1 ≤ k → k ≤ n → IsTaken formula c units empty k
+  pub covered : (k : ℕ) → 1 ≤ k → k ≤ n → IsClauseTaken formula c units empty k
   pub empty_is : IfSome empty (λ k. (1 ≤ k) × (k ≤ n) × (clause_number formula k ≡ []))
 
 -- so it is with all clauses of the formula
-abbrev pub IsFilled : Problem → Kept → List Single → Option ℕ → Type 0
+abbrev pub IsFilled : Problem → SearchState → List Single → Option ℕ → Type 0
 IsFilled formula c units empty = IsFilledUpTo formula (length (clauses_of formula.constraints)) c units empty
 
 -- these are the different literals of the formula's next clause
@@ -73,7 +73,7 @@ pub record IsNext (formula : Problem) (f : Filled) (lits : List Literal) : Type 
   pub within : AreWithin formula.variables lits
 
 -- the clause stands in the arena under its number, and is attached; nothing else changes
-pub record Attaches (old new : Kept) (lits : List Literal) (number : ℕ) : Type 0 where
+pub record Attaches (old new : SearchState) (lits : List Literal) (number : ℕ) : Type 0 where
   pub added : new.arena.clauses ≡ old.arena.clauses ++ Some (record { literals = lits; id = number; lbd = 0; learned = false }) ∷ []
   pub attached : IsAttached new.watches.attached (length old.arena.clauses)
   pub others : (r : ℕ) → r ≢ length old.arena.clauses → get_or new.watches.attached r false ≡ get_or old.watches.attached r false

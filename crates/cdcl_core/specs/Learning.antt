@@ -12,8 +12,8 @@ use Rattle.parity_engine.specs.State.{State}
 use Rattle.search_steps.specs.Search.{Search, IsSearch, IsLearnedOf}
 use Rattle.search_steps.specs.LogSteps.{after_round}
 use Rattle.search_steps.specs.Holding.{AreTold}
-use Rattle.cdcl_core.specs.declared.kept.Kept.{Kept}
-use Rattle.cdcl_core.specs.Ties.{Ties, first_row_id}
+use Rattle.cdcl_search.specs.declared.state.SearchState.{SearchState}
+use Rattle.cdcl_search.specs.Ties.{Ties, first_row_id}
 
 -- The literals are the negations of those at falling places of the trail. The back level is that of the second one, 0 where there is none.
 pub record ArePlaced (trail : TrailState) (lits : List Literal) (back : ℕ) : Type 0 where
@@ -25,7 +25,7 @@ pub record ArePlaced (trail : TrailState) (lits : List Literal) (back : ℕ) : T
   pub back_is : back ≡ second (levels_at trail (first ∷ rest))
 
 -- The search stands before the mark. The clause has a right chain and is asserting by its first literal, and there is an id for it and a number for its mark.
-pub record IsTaught (formula : Problem) (c : Kept) (e : State) (lits : List Literal) (back : ℕ) (s : Search) : Type 0 where
+pub record IsTaught (formula : Problem) (c : SearchState) (e : State) (lits : List Literal) (back : ℕ) (s : Search) : Type 0 where
   pub search : IsSearch formula (parities_of formula.constraints) s
   pub rows : List (List Literal)
   pub ties : Ties formula c e rows s
@@ -40,7 +40,7 @@ pub record IsTaught (formula : Problem) (c : Kept) (e : State) (lits : List Lite
   pub few : c.conflicts < 10 ^ 18
 
 -- What the sink tells ends with the mark, the learned clause with hints, and the deletions of the clauses of rows.
-pub record Learns (formula : Problem) (c : Kept) (e : State) (lits : List Literal) (back : ℕ) (told : Option (List LogEvent)) : Type 0 where
+pub record Learns (formula : Problem) (c : SearchState) (e : State) (lits : List Literal) (back : ℕ) (told : Option (List LogEvent)) : Type 0 where
   pub search : Search
   pub taught : IsTaught formula c e lits back search
   pub hints : List ℤ

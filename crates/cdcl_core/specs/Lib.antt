@@ -1,16 +1,8 @@
-pub mod Ties
-pub mod Tells
-pub mod Finds
 pub mod Results
-pub mod Sources
 pub mod Learning
 pub mod Entering
-pub mod Explaining
 pub mod Concluding
-pub mod Units
-pub mod Searching
 pub mod Beginning
-pub mod Deleting
 pub mod Originals
 pub mod Clauses
 pub mod Filling

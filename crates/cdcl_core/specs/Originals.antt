@@ -8,16 +8,16 @@ use Rattle.cx_semantics.specs.Tables.{Table, get}
 use Rattle.search_steps.specs.Holding.{AreTold}
 use Rattle.search_steps.specs.Search.{Search}
 use Rattle.search_steps.specs.Start.{IsBegun}
-use Rattle.cdcl_core.specs.Ties.{AreNumbered}
+use Rattle.cdcl_search.specs.Ties.{AreNumbered}
 
 -- the lists stand under their numbers, from 1
-pub record AreListed (table : Table) (lists : List (List Literal)) : Type 0 where
+pub record AreListedFromOne (table : Table) (lists : List (List Literal)) : Type 0 where
   pub numbered : AreNumbered table lists
   pub none_before : get table 0 ≡ None
 
 -- the log has a step for each of the constraints taken so far, in order, and nothing else
 abbrev pub HasBegun : Problem → List Constraint → Option (List LogEvent) → Type 0
-HasBegun formula taken told = (s : Search) × IsBegun formula taken s × AreListed s.moment.tables.clauses (clauses_of taken) × AreListed s.moment.tables.parities (parities_of taken) × AreTold told s.events
+HasBegun formula taken told = (s : Search) × IsBegun formula taken s × AreListedFromOne s.moment.tables.clauses (clauses_of taken) × AreListedFromOne s.moment.tables.parities (parities_of taken) × AreTold told s.events
 
 -- n of the constraints are clauses, and k are parities
 pub record AreCounted (taken : List Constraint) (n k : ℕ) : Type 0 where

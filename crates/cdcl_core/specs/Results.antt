@@ -45,10 +45,10 @@ pub record UsesUp (formula : Problem) (budget : ℕ) (told : Option (List LogEve
   pub log : IsOpenWith formula budget told
 
 -- what an answer says of the formula and of the log
-abbrev pub Answers : Problem → ℕ → Option (List LogEvent) → Outcome → Type 0
-Answers formula budget told (Sat values) = Satisfies formula budget told values
-Answers formula budget told Unsat = Refutes formula budget told
-Answers formula budget told (Unknown conflicts) = UsesUp formula budget told conflicts
+abbrev pub IsRightOutcome : Problem → ℕ → Option (List LogEvent) → Outcome → Type 0
+IsRightOutcome formula budget told (Sat values) = Satisfies formula budget told values
+IsRightOutcome formula budget told Unsat = Refutes formula budget told
+IsRightOutcome formula budget told (Unknown conflicts) = UsesUp formula budget told conflicts
 
 -- where the events are told, none is a mark
 abbrev pub HasNoMark : Option (List LogEvent) → Type 0
@@ -57,4 +57,4 @@ HasNoMark (Some events) = filter_map mark_of events ≡ []
 
 -- an answer that is not unknown, with fewer marks than this
 abbrev pub IsSettledBy : Problem → ℕ → Option (List LogEvent) → Outcome → Type 0
-IsSettledBy formula budget told outcome = Answers formula budget told outcome × ((conflicts : ℕ) → outcome ≢ Unknown conflicts)
+IsSettledBy formula budget told outcome = IsRightOutcome formula budget told outcome × ((conflicts : ℕ) → outcome ≢ Unknown conflicts)

@@ -11,15 +11,15 @@ use Rattle.search_steps.specs.Holding.{AreTold}
 use Rattle.search_steps.specs.Ids.{IsRanged, HasFreeSums}
 use Rattle.search_steps.specs.Search.{Search, IsSearch}
 use Rattle.search_steps.specs.Tied.{Mirrors}
-use Rattle.cdcl_core.specs.declared.kept.Kept.{Kept}
+use Rattle.cdcl_search.specs.declared.state.SearchState.{SearchState}
+use Rattle.cdcl_search.specs.Ties.{IsCovered, AreUnits, HasOnlyRowClauses, first_row_id}
 use Rattle.cdcl_core.specs.declared.filling.Single.{Single}
 use Rattle.cdcl_core.specs.Filling.{clause_number, IsUnitClause}
-use Rattle.cdcl_core.specs.Originals.{AreListed}
+use Rattle.cdcl_core.specs.Originals.{AreListedFromOne}
 use Rattle.cdcl_core.specs.Results.{Refutes}
-use Rattle.cdcl_core.specs.Ties.{IsCovered, AreUnits, IsServed, first_row_id}
 
 -- what the arena holds is attached, and has the literals of the formula's clause of its number
-pub record IsOfFormula (formula : Problem) (c : Kept) (r : ℕ) : Type 0 where
+pub record IsOfFormula (formula : Problem) (c : SearchState) (r : ℕ) : Type 0 where
   pub attached : IsAttached c.watches.attached r
   pub low : 1 ≤ id_at c.arena r
   pub high : id_at c.arena r ≤ length (clauses_of formula.constraints)
@@ -34,7 +34,7 @@ abbrev pub IsSingle : Problem → Single → Type 0
 IsSingle formula u = IsUnitClause formula u.number u.literal × (1 ≤ u.literal.variable) × (u.literal.variable ≤ formula.variables)
 
 -- What the code holds at level 0 is what the search of the calculus holds, but these unit clauses are not covered yet. Just the formula was told, and there is no engine.
-pub record TiesBut (formula : Problem) (c : Kept) (waiting : List Single) (s : Search) : Type 0 where
+pub record TiesBut (formula : Problem) (c : SearchState) (waiting : List Single) (s : Search) : Type 0 where
   pub follows : Mirrors s.trail c.trail
   pub variables : c.trail.variables ≡ formula.variables
   pub level : c.trail.level ≡ 0
@@ -42,8 +42,8 @@ pub record TiesBut (formula : Problem) (c : Kept) (waiting : List Single) (s : S
   pub next : c.next ≡ length (clauses_of formula.constraints) + 1
   pub room : c.next < first_row_id
   pub sums : HasFreeSums (length (parities_of formula.constraints)) s.moment
-  pub parities : AreListed s.moment.tables.parities (parities_of formula.constraints)
-  pub clauses : AreListed s.moment.tables.clauses (clauses_of formula.constraints)
+  pub parities : AreListedFromOne s.moment.tables.parities (parities_of formula.constraints)
+  pub clauses : AreListedFromOne s.moment.tables.clauses (clauses_of formula.constraints)
   pub stored : (r : ℕ) → IsLive c.arena r → IsOfFormula formula c r
   pub covered : (k : ℕ) → 1 ≤ k → k ≤ length (clauses_of formula.constraints) → IsCovered c s.trail (clause_number formula k) ⊎ IsWaiting waiting k
   pub singles : AllByRecursion (IsSingle formula) waiting
@@ -56,13 +56,13 @@ pub record TiesBut (formula : Problem) (c : Kept) (waiting : List Single) (s : S
   pub conflicts : c.conflicts ≡ 0
   pub no_conflict : s.conflicts ≡ 0
   pub no_level : s.quiet_levels ≡ 0
-  pub served : IsServed s 0
+  pub served : HasOnlyRowClauses s 0
 
 -- some search of the calculus stands behind the code but for these unit clauses, and its events are the sink's where that tells them
-abbrev pub StandsBut : Problem → Kept → List Single → Option (List LogEvent) → Type 0
-StandsBut formula c waiting told = (s : Search) × IsSearch formula (parities_of formula.constraints) s × AreTold told s.events × TiesBut formula c waiting s
+abbrev pub SearchStandsBut : Problem → SearchState → List Single → Option (List LogEvent) → Type 0
+SearchStandsBut formula c waiting told = (s : Search) × IsSearch formula (parities_of formula.constraints) s × AreTold told s.events × TiesBut formula c waiting s
 
 -- true: the search stands but for these unit clauses; false: the log is ended, with no mark
-abbrev pub Puts : Problem → Kept → List Single → Option (List LogEvent) → Bool → Type 0
-Puts formula c waiting told true = StandsBut formula c waiting told
-Puts formula c waiting told false = Refutes formula 1 told
+abbrev pub PutsUnits : Problem → SearchState → List Single → Option (List LogEvent) → Bool → Type 0
+PutsUnits formula c waiting told true = SearchStandsBut formula c waiting told
+PutsUnits formula c waiting told false = Refutes formula 1 told

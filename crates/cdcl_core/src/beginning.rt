@@ -5,18 +5,18 @@ ghost use Rattle.cx_base.specs.Problem.{parities_of};
 ghost use Rattle.parity_engine.specs.State.{fresh};
 ghost use Rattle.conflict_learn.specs.declared.fault.CoreFault.TheVariants.{Write};
 ghost use Rattle.cx_base.specs.Counts.{Rose};
-ghost use Rattle.cdcl_core.specs.Beginning.{Begins};
+ghost use Rattle.cdcl_search.specs.Tells.{GivesUp, FaultsAs};
+ghost use Rattle.cdcl_core.specs.Beginning.{SearchBegins};
 ghost use Rattle.cdcl_core.specs.Filling.{IsFilled};
 ghost use Rattle.cdcl_core.specs.Originals.{HasBegun};
 ghost use Rattle.cdcl_core.specs.Results.{IsFresh, Refutes};
-ghost use Rattle.cdcl_core.specs.Tells.{GivesUp, FaultsAs};
-ghost use Rattle.cdcl_core.specs.Waiting.{StandsBut, Puts};
+ghost use Rattle.cdcl_core.specs.Waiting.{SearchStandsBut, PutsUnits};
 
 use crate::ending::refute;
 use crate::filling::{Filled, Single, fill};
-use crate::kept::Kept;
 use crate::originals::tell_originals;
-use crate::rows::copy_of;
+use cdcl_search::SearchState;
+use cdcl_search::rows::copy_of;
 use conflict_learn::CoreFault;
 use cx_base::{ConstraintRef, Formula, Lit, LitList, ParityList};
 use cx_trail::{Reason, Truth};
@@ -28,7 +28,7 @@ use std::alloc::{AllocError, Global};
 #[derive(Drop)]
 pub(crate) enum Begun<P> {
     /// The search stands at level 0.
-    Search(Kept, P),
+    Search(SearchState, P),
     /// An empty clause, or two units that contradict each other, have ended the log.
     Ended,
 }
@@ -38,14 +38,14 @@ pub(crate) enum Begun<P> {
 fn put_unit<L: LogSink>(
     alloc: Global,
     formula: &Formula,
-    kept: &mut Kept,
+    kept: &mut SearchState,
     sink: &mut L,
     units: &[Single],
     place: usize,
 ) -> Result<bool, CoreFault>
     requires place { place < length units.now }
-    requires stands { StandsBut formula.now kept.old (drop place units.now) (L.events sink.old) }
-    ensures puts { IfOk result (λ going. Puts formula.now kept.new (drop (place + 1) units.now) (L.events sink.new) going) }
+    requires stands { SearchStandsBut formula.now kept.old (drop place units.now) (L.events sink.old) }
+    ensures puts { IfOk result (λ going. PutsUnits formula.now kept.new (drop (place + 1) units.now) (L.events sink.new) going) }
     ensures gave_up { IfErr result (λ e. GivesUp formula.now (L.torn sink.new) (L.events sink.new) e) }
     ensures write { IfErr result (λ e. e ≡ Write → Rose (L.faults sink.old) (L.faults sink.new)) }
     ensures faults { FaultsAs result (L.faults sink.old) (L.faults sink.new) }
@@ -70,12 +70,12 @@ fn put_unit<L: LogSink>(
 fn put_units<L: LogSink>(
     alloc: Global,
     formula: &Formula,
-    kept: &mut Kept,
+    kept: &mut SearchState,
     sink: &mut L,
     units: &[Single],
 ) -> Result<bool, CoreFault>
-    requires { StandsBut formula.now kept.old units.now (L.events sink.old) }
-    ensures puts { IfOk result (λ going. Puts formula.now kept.new [] (L.events sink.new) going) }
+    requires { SearchStandsBut formula.now kept.old units.now (L.events sink.old) }
+    ensures puts { IfOk result (λ going. PutsUnits formula.now kept.new [] (L.events sink.new) going) }
     ensures gave_up { IfErr result (λ e. GivesUp formula.now (L.torn sink.new) (L.events sink.new) e) }
     ensures write { IfErr result (λ e. e ≡ Write → Rose (L.faults sink.old) (L.faults sink.new)) }
     ensures faults { FaultsAs result (L.faults sink.old) (L.faults sink.new) }
@@ -138,7 +138,7 @@ fn start<P: ParityEngine, L: LogSink>(
     requires few { length formula.now.constraints ≤ 4294967295 }
     requires begun { HasBegun formula.now formula.now.constraints (L.events sink.old) }
     requires filled { IsFilled formula.now filled.kept filled.units.items filled.empty }
-    ensures begins { IfOk result (λ b. Begins P.state formula.now (L.events sink.new) b) }
+    ensures begins { IfOk result (λ b. SearchBegins P.state formula.now (L.events sink.new) b) }
     ensures gave_up { IfErr result (λ e. GivesUp formula.now (L.torn sink.new) (L.events sink.new) e) }
     ensures write { IfErr result (λ e. e ≡ Write → Rose (L.faults sink.old) (L.faults sink.new)) }
     ensures faults { FaultsAs result (L.faults sink.old) (L.faults sink.new) }
@@ -171,7 +171,7 @@ pub(crate) fn begin<P: ParityEngine, L: LogSink>(
 ) -> Result<Begun<P>, CoreFault>
     requires few { length formula.now.constraints ≤ 4294967295 }
     requires fresh { IsFresh (L.events sink.old) }
-    ensures begins { IfOk result (λ b. Begins P.state formula.now (L.events sink.new) b) }
+    ensures begins { IfOk result (λ b. SearchBegins P.state formula.now (L.events sink.new) b) }
     ensures gave_up { IfErr result (λ e. GivesUp formula.now (L.torn sink.new) (L.events sink.new) e) }
     ensures write { IfErr result (λ e. e ≡ Write → Rose (L.faults sink.old) (L.faults sink.new)) }
     ensures faults { FaultsAs result (L.faults sink.old) (L.faults sink.new) }

@@ -10,17 +10,16 @@ ghost use Rattle.clause_arena.specs.Clauses.{IsLive, literals_at};
 ghost use Rattle.cx_base.specs.Counts.{Rose};
 ghost use Rattle.conflict_learn.specs.declared.fault.CoreFault.TheVariants.{Write};
 ghost use Rattle.parity_engine.specs.Written.{AreRising};
+ghost use Rattle.cdcl_search.specs.Explaining.{Explains};
+ghost use Rattle.cdcl_search.specs.Finds.{PropagationFinds, IsClash};
+ghost use Rattle.cdcl_search.specs.Tells.{GivesUp, FaultsAs};
+ghost use Rattle.cdcl_search.specs.Ties.{SearchStands, first_row_id};
+ghost use Rattle.cdcl_search.specs.declared.propagation.Found.TheVariants.{Quiet};
 ghost use Rattle.cdcl_core.specs.Concluding.{Concludes};
-ghost use Rattle.cdcl_core.specs.Explaining.{Explains};
-ghost use Rattle.cdcl_core.specs.Finds.{Finds, IsClash};
-ghost use Rattle.cdcl_core.specs.Tells.{GivesUp, FaultsAs};
-ghost use Rattle.cdcl_core.specs.Ties.{Stands, first_row_id};
-ghost use Rattle.cdcl_core.specs.declared.propagation.Found.TheVariants.{Quiet};
 
-use crate::kept::Kept;
-use crate::propagation::Found;
-use crate::rows::{FIRST_ROW_ID, next_ids, sum_and_clause, tell_reason};
-use crate::source::stored;
+use cdcl_search::rows::{FIRST_ROW_ID, next_ids, sum_and_clause, tell_reason};
+use cdcl_search::source::stored;
+use cdcl_search::{Found, SearchState};
 use conflict_learn::CoreFault;
 use cx_base::{ClauseRef, Formula, LitList, Row};
 use cx_semantics::LogStep;
@@ -47,7 +46,11 @@ pub(crate) enum Conclusion {
 }
 
 /// The conflict of a clause of the arena.
-fn stored_conflict(alloc: Global, kept: &Kept, reference: ClauseRef) -> Result<Conflict, AllocError>
+fn stored_conflict(
+    alloc: Global,
+    kept: &SearchState,
+    reference: ClauseRef,
+) -> Result<Conflict, AllocError>
     requires { IsLive kept.now.arena reference }
     ensures clause { IfOk result (λ c. c.lits ≡ literals_at kept.now.arena reference) }
     ensures rows { IfOk result (λ c. c.rows.items ≡ []) }
@@ -64,17 +67,17 @@ fn stored_conflict(alloc: Global, kept: &Kept, reference: ClauseRef) -> Result<C
 fn told_conflict<P: ParityEngine, L: LogSink>(
     alloc: Global,
     formula: &Formula,
-    kept: &Kept,
+    kept: &SearchState,
     engine: &P,
     sink: &mut L,
     reason: ReasonOf,
 ) -> Result<Conflict, CoreFault>
-    requires stands { Stands formula.now kept.now (P.state engine.now) [] (L.events sink.old) }
+    requires stands { SearchStands formula.now kept.now (P.state engine.now) [] (L.events sink.old) }
     requires explains { Explains (parities_of formula.now.constraints) kept.now.trail reason }
     requires some { reason.clause ≢ [] }
     ensures clause { IfOk result (λ c. c.lits ≡ reason.clause) }
     ensures rows { IfOk result (λ c. c.rows.items ≡ reason.clause ∷ []) }
-    ensures stands { IfOk result (λ c. Stands formula.now kept.now (P.state engine.now) (reason.clause ∷ []) (L.events sink.new)) }
+    ensures stands { IfOk result (λ c. SearchStands formula.now kept.now (P.state engine.now) (reason.clause ∷ []) (L.events sink.new)) }
     ensures gave_up { IfErr result (λ e. GivesUp formula.now (L.torn sink.new) (L.events sink.new) e) }
     ensures write { IfErr result (λ e. e ≡ Write → Rose (L.faults sink.old) (L.faults sink.new)) }
     ensures faults { FaultsAs result (L.faults sink.old) (L.faults sink.new) }
@@ -113,12 +116,12 @@ fn ending(alloc: Global, formula: &Formula, reason: ReasonOf) -> Result<Vec<LogS
 fn row_conflict<P: ParityEngine, L: LogSink>(
     alloc: Global,
     formula: &Formula,
-    kept: &Kept,
+    kept: &SearchState,
     engine: &P,
     sink: &mut L,
     row: Row,
 ) -> Result<Conclusion, CoreFault>
-    requires stands { Stands formula.now kept.now (P.state engine.now) [] (L.events sink.old) }
+    requires stands { SearchStands formula.now kept.now (P.state engine.now) [] (L.events sink.old) }
     requires clash { IsClash (P.state engine.now) row }
     ensures concludes { IfOk result (λ c. Concludes formula.now kept.now (P.state engine.now) (L.events sink.new) c) }
     ensures gave_up { IfErr result (λ e. GivesUp formula.now (L.torn sink.new) (L.events sink.new) e) }
@@ -141,13 +144,13 @@ fn row_conflict<P: ParityEngine, L: LogSink>(
 pub(crate) fn conflict_clause<P: ParityEngine, L: LogSink>(
     alloc: Global,
     formula: &Formula,
-    kept: &Kept,
+    kept: &SearchState,
     engine: &P,
     sink: &mut L,
     found: Found,
 ) -> Result<Conclusion, CoreFault>
-    requires stands { Stands formula.now kept.now (P.state engine.now) [] (L.events sink.old) }
-    requires found { Finds kept.now (P.state engine.now) found }
+    requires stands { SearchStands formula.now kept.now (P.state engine.now) [] (L.events sink.old) }
+    requires found { PropagationFinds kept.now (P.state engine.now) found }
     requires conflict { found ≢ Quiet }
     ensures concludes { IfOk result (λ c. Concludes formula.now kept.now (P.state engine.now) (L.events sink.new) c) }
     ensures gave_up { IfErr result (λ e. GivesUp formula.now (L.torn sink.new) (L.events sink.new) e) }

@@ -3,20 +3,18 @@ ghost use Rattle.std.specs.Prelude.{◌≡◌, ◌≢◌, ◌+◌, ◌≤◌, []
 ghost use Rattle.std.specs.List.{All};
 ghost use Rattle.cx_base.specs.Counts.{Rose};
 ghost use Rattle.conflict_learn.specs.declared.fault.CoreFault.TheVariants.{Write};
-ghost use Rattle.cdcl_core.specs.Concluding.{EndsLog, IsRefutable};
-ghost use Rattle.cdcl_core.specs.Finds.{Finds};
+ghost use Rattle.cdcl_search.specs.Finds.{PropagationFinds};
+ghost use Rattle.cdcl_search.specs.Tells.{GivesUp, FaultsAs};
+ghost use Rattle.cdcl_search.specs.Ties.{SearchStands};
+ghost use Rattle.cdcl_search.specs.declared.propagation.Found.TheVariants.{Quiet};
+ghost use Rattle.cdcl_core.specs.Concluding.{EndsLog, IsConflictClause, IsRefutable};
 ghost use Rattle.cdcl_core.specs.Results.{Refutes};
-ghost use Rattle.cdcl_core.specs.Sources.{IsConflict};
-ghost use Rattle.cdcl_core.specs.Tells.{GivesUp, FaultsAs};
-ghost use Rattle.cdcl_core.specs.Ties.{Stands};
-ghost use Rattle.cdcl_core.specs.declared.propagation.Found.TheVariants.{Quiet};
 
-use crate::chains::{hints_of, tell_chained};
 use crate::conflicts::{Conclusion, Conflict, conflict_clause};
-use crate::kept::Kept;
-use crate::propagation::Found;
-use crate::rows::FIRST_ROW_ID;
-use crate::telling::tell_all;
+use cdcl_search::chains::{hints_of, tell_chained};
+use cdcl_search::rows::FIRST_ROW_ID;
+use cdcl_search::telling::tell_all;
+use cdcl_search::{Found, SearchState};
 use conflict_learn::CoreFault;
 use cx_base::{Formula, Lit};
 use cx_semantics::LogStep;
@@ -27,7 +25,7 @@ use std::alloc::Global;
 /// Tells the steps that end the log.
 pub(crate) fn tell_ending<L: LogSink>(
     formula: &Formula,
-    kept: &Kept,
+    kept: &SearchState,
     sink: &mut L,
     steps: &[LogStep],
 ) -> Result<(), CoreFault>
@@ -45,7 +43,7 @@ pub(crate) fn tell_ending<L: LogSink>(
 pub(crate) fn refute<L: LogSink>(
     alloc: Global,
     formula: &Formula,
-    kept: &Kept,
+    kept: &SearchState,
     sink: &mut L,
     lits: &[Lit],
     id: u64,
@@ -66,13 +64,13 @@ pub(crate) fn refute<L: LogSink>(
 fn end_by_clause<P: ParityEngine, L: LogSink>(
     alloc: Global,
     formula: &Formula,
-    kept: &Kept,
+    kept: &SearchState,
     engine: &P,
     sink: &mut L,
     conflict: &Conflict,
 ) -> Result<(), CoreFault>
-    requires stands { Stands formula.now kept.now (P.state engine.now) conflict.now.rows.items (L.events sink.old) }
-    requires conflict { IsConflict kept.now conflict.now.rows.items conflict.now.lits }
+    requires stands { SearchStands formula.now kept.now (P.state engine.now) conflict.now.rows.items (L.events sink.old) }
+    requires conflict { IsConflictClause kept.now conflict.now.rows.items conflict.now.lits }
     requires all { length kept.now.units.items ≡ length kept.now.trail.entries }
     ensures refutes { OnOk result (Refutes formula.now (kept.now.conflicts + 1) (L.events sink.new)) }
     ensures gave_up { IfErr result (λ e. GivesUp formula.now (L.torn sink.new) (L.events sink.new) e) }
@@ -97,13 +95,13 @@ fn end_by_clause<P: ParityEngine, L: LogSink>(
 pub(crate) fn end<P: ParityEngine, L: LogSink>(
     alloc: Global,
     formula: &Formula,
-    kept: &Kept,
+    kept: &SearchState,
     engine: &P,
     sink: &mut L,
     found: Found,
 ) -> Result<(), CoreFault>
-    requires stands { Stands formula.now kept.now (P.state engine.now) [] (L.events sink.old) }
-    requires found { Finds kept.now (P.state engine.now) found }
+    requires stands { SearchStands formula.now kept.now (P.state engine.now) [] (L.events sink.old) }
+    requires found { PropagationFinds kept.now (P.state engine.now) found }
     requires conflict { found ≢ Quiet }
     requires all { length kept.now.units.items ≡ length kept.now.trail.entries }
     ensures refutes { OnOk result (Refutes formula.now (kept.now.conflicts + 1) (L.events sink.new)) }

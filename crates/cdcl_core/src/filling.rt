@@ -7,7 +7,7 @@ ghost use Rattle.watch_lists.specs.Attaching.{CanBeWatched};
 ghost use Rattle.cdcl_core.specs.Filling.{IsEmpty, IsFilledUpTo, IsFilled, IsNext, Attaches};
 
 use crate::clauses::{different, has_both};
-use crate::kept::Kept;
+use cdcl_search::SearchState;
 use clause_arena::Arena;
 use cx_base::{ConstraintRef, Formula, Lit};
 use cx_trail::Trail;
@@ -25,7 +25,7 @@ pub(crate) struct Single {
 /// A search in which the clauses of several literals are attached, and the others wait.
 #[derive(Drop)]
 pub(crate) struct Filled {
-    pub kept: Kept,
+    pub kept: SearchState,
     /// The clauses of one literal.
     pub units: Vec<Single>,
     /// The number of a clause without a literal.
@@ -33,7 +33,7 @@ pub(crate) struct Filled {
 }
 
 /// A search over so many variables, before its first clause.
-fn empty_kept(alloc: Global, vars: u32) -> Result<Kept, AllocError>
+fn empty_kept(alloc: Global, vars: u32) -> Result<SearchState, AllocError>
     requires { vars ≤ MAX_VARIABLE }
     ensures { IfOk result (IsEmpty vars) }
 {
@@ -41,7 +41,7 @@ fn empty_kept(alloc: Global, vars: u32) -> Result<Kept, AllocError>
     let watches = Watches::make(alloc, vars)?;
     let order = Order::make(alloc, vars)?;
     let phases = vec![in alloc; false; vars as usize]?;
-    Ok(Kept {
+    Ok(SearchState {
         trail,
         arena: Arena::make(alloc),
         watches,
@@ -55,7 +55,7 @@ fn empty_kept(alloc: Global, vars: u32) -> Result<Kept, AllocError>
 }
 
 /// Attaches a clause of the formula.
-fn attach(kept: &mut Kept, lits: &[Lit], number: u64) -> Result<(), AllocError>
+fn attach(kept: &mut SearchState, lits: &[Lit], number: u64) -> Result<(), AllocError>
     requires fits { Fits kept.old.watches kept.old.arena kept.old.trail }
     requires watched { CanBeWatched kept.old.watches.variables kept.old.trail lits.now }
     ensures { OnOk result (Attaches kept.old kept.new lits.now number) }

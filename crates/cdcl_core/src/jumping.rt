@@ -9,11 +9,11 @@ ghost use Rattle.watch_lists.specs.Watching.{Fits};
 ghost use Rattle.watch_lists.specs.Attaching.{CanBeWatched, literal_at};
 ghost use Rattle.parity_engine.specs.declared.state.Mood.TheVariants.{Broken};
 ghost use Rattle.search_steps.specs.Search.{Search, IsSearch, jumped};
-ghost use Rattle.cdcl_core.specs.Ties.{Stands, Ties};
+ghost use Rattle.cdcl_search.specs.Ties.{SearchStands, Ties};
 ghost use Rattle.cdcl_core.specs.Learning.{Learns};
 ghost use Rattle.cdcl_core.specs.Entering.{EntersUnit, EntersClause, Enters};
 
-use crate::kept::Kept;
+use cdcl_search::SearchState;
 use conflict_learn::Learned;
 use cx_base::{Formula, Lit};
 use cx_trail::{Reason, Trail};
@@ -40,7 +40,7 @@ fn save_phases(phases: &mut Vec<bool>, trail: &Trail, level: u32)
 /// Goes back to a level below the current one.
 pub(crate) fn go_back<P: ParityEngine>(
     formula: &Formula,
-    kept: &mut Kept,
+    kept: &mut SearchState,
     engine: &mut P,
     level: u32,
 )
@@ -73,7 +73,7 @@ fn bump(order: &mut Order, lits: &[Lit])
 }
 
 /// Puts a literal on the trail at level 0, where each literal has a unit clause. That of this one has the id.
-fn enter_unit(kept: &mut Kept, first: Lit, id: u64) -> Result<(), AllocError>
+fn enter_unit(kept: &mut SearchState, first: Lit, id: u64) -> Result<(), AllocError>
     requires level { kept.old.trail.level ≡ 0 }
     requires high { first.variable ≤ kept.old.trail.variables }
     requires open { IsOpenIn kept.old.trail.entries first.variable }
@@ -85,7 +85,7 @@ fn enter_unit(kept: &mut Kept, first: Lit, id: u64) -> Result<(), AllocError>
 }
 
 /// Puts a learned clause among the others, and its first literal on the trail.
-fn enter_clause(kept: &mut Kept, lits: &[Lit], id: u64, lbd: u32) -> Result<(), AllocError>
+fn enter_clause(kept: &mut SearchState, lits: &[Lit], id: u64, lbd: u32) -> Result<(), AllocError>
     requires fits { Fits kept.old.watches kept.old.arena kept.old.trail }
     requires watched { CanBeWatched kept.old.watches.variables kept.old.trail lits.now }
     requires high { (literal_at lits.now 0).variable ≤ kept.old.trail.variables }
@@ -99,7 +99,7 @@ fn enter_clause(kept: &mut Kept, lits: &[Lit], id: u64, lbd: u32) -> Result<(), 
 }
 
 /// Puts a learned clause among the others, or its id among those of units, and its first literal on the trail.
-fn enter(kept: &mut Kept, lits: &[Lit], id: u64, lbd: u32) -> Result<(), AllocError>
+fn enter(kept: &mut SearchState, lits: &[Lit], id: u64, lbd: u32) -> Result<(), AllocError>
     requires some { 1 ≤ length lits.now }
     requires unit { length lits.now ≡ 1 → kept.old.trail.level ≡ 0 }
     requires fits { Fits kept.old.watches kept.old.arena kept.old.trail }
@@ -118,13 +118,13 @@ fn enter(kept: &mut Kept, lits: &[Lit], id: u64, lbd: u32) -> Result<(), AllocEr
 /// Goes back to the level of a learned clause and implies its first literal.
 pub(crate) fn jump<P: ParityEngine>(
     formula: &Formula,
-    kept: &mut Kept,
+    kept: &mut SearchState,
     engine: &mut P,
     learned: &Learned,
 ) -> Result<(), AllocError>
     requires learned { (told : Option (List LogEvent)) × Learns formula.now kept.old (P.state engine.old) learned.now.lits learned.now.back_level told }
     ensures stands { OnOk result ((told : Option (List LogEvent)) → Learns formula.now kept.old (P.state engine.old) learned.now.lits learned.now.back_level told
-        → Stands formula.now kept.new (P.state engine.new) [] told) }
+        → SearchStands formula.now kept.new (P.state engine.new) [] told) }
     ensures counted { OnOk result (kept.new.conflicts ≡ kept.old.conflicts + 1) }
     ensures level { OnOk result (kept.new.trail.level ≡ learned.now.back_level) }
     ensures unbroken { (P.state engine.new).mood ≢ Broken }

@@ -8,20 +8,21 @@ ghost use Rattle.cx_semantics.specs.declared.steps.LogStep.TheVariants as step;
 ghost use Rattle.cx_base.specs.Counts.{Rose};
 ghost use Rattle.conflict_learn.specs.Levels.{Teaches};
 ghost use Rattle.conflict_learn.specs.declared.fault.CoreFault.TheVariants.{Write};
-ghost use Rattle.cdcl_core.specs.Deleting.{deletions};
-ghost use Rattle.cdcl_core.specs.Tells.{GivesUp, FaultsAs, TellsAll, IsId, as_events};
-ghost use Rattle.cdcl_core.specs.Ties.{Stands, first_row_id, row_ids};
-ghost use Rattle.cdcl_core.specs.Sources.{IsSourced, IsConflict, counted};
+ghost use Rattle.cdcl_search.specs.Deleting.{deletions};
+ghost use Rattle.cdcl_search.specs.Tells.{GivesUp, FaultsAs, TellsAll, IsId, as_events};
+ghost use Rattle.cdcl_search.specs.Ties.{SearchStands, first_row_id, row_ids};
+ghost use Rattle.cdcl_search.specs.Sources.{IsSourced, counted};
+ghost use Rattle.cdcl_core.specs.Concluding.{IsConflictClause};
 ghost use Rattle.cdcl_core.specs.Learning.{Learns};
 
-use crate::chains::push_hint;
 use crate::conflicts::Conflict;
-use crate::deleting::put_deletions;
-use crate::integers::integers;
-use crate::kept::Kept;
-use crate::source::Source;
-use crate::steps::chained;
-use crate::telling::{tell_all, tell_mark};
+use cdcl_search::SearchState;
+use cdcl_search::chains::push_hint;
+use cdcl_search::deleting::put_deletions;
+use cdcl_search::integers::integers;
+use cdcl_search::source::Source;
+use cdcl_search::steps::chained;
+use cdcl_search::telling::{tell_all, tell_mark};
 use conflict_learn::{CoreFault, Learned, analyse};
 use cx_base::{Formula, IntList, Lit, LitList};
 use cx_semantics::LogStep;
@@ -67,7 +68,7 @@ fn tell_marked<L: LogSink>(sink: &mut L, number: u64, steps: &[LogStep]) -> Resu
 fn tell_learned<P: ParityEngine, L: LogSink>(
     alloc: Global,
     formula: &Formula,
-    kept: &Kept,
+    kept: &SearchState,
     engine: &P,
     sink: &mut L,
     conflict: &LitList,
@@ -75,8 +76,8 @@ fn tell_learned<P: ParityEngine, L: LogSink>(
     learned: &Learned,
     hints: IntList,
 ) -> Result<(), CoreFault>
-    requires stands { Stands formula.now kept.now (P.state engine.now) rows.now (L.events sink.old) }
-    requires conflict { IsConflict kept.now rows.now conflict.now }
+    requires stands { SearchStands formula.now kept.now (P.state engine.now) rows.now (L.events sink.old) }
+    requires conflict { IsConflictClause kept.now rows.now conflict.now }
     requires above { 0 < kept.now.trail.level }
     requires room { kept.now.next < first_row_id }
     requires few { kept.now.conflicts < 10 ^ 18 }
@@ -107,18 +108,18 @@ fn hints_of_lesson(alloc: Global, ids: &[u64], conflict: u64) -> Result<IntList,
 fn lesson_of<P: ParityEngine, L: LogSink>(
     alloc: Global,
     formula: &Formula,
-    kept: &Kept,
+    kept: &SearchState,
     engine: &P,
     sink: &mut L,
     conflict: &LitList,
     rows: &mut Vec<LitList>,
     ids: &mut Vec<u64>,
 ) -> Result<Learned, CoreFault>
-    requires stands { Stands formula.now kept.now (P.state engine.now) rows.old.items (L.events sink.old) }
-    requires conflict { IsConflict kept.now rows.old.items conflict.now }
+    requires stands { SearchStands formula.now kept.now (P.state engine.now) rows.old.items (L.events sink.old) }
+    requires conflict { IsConflictClause kept.now rows.old.items conflict.now }
     requires above { 0 < kept.now.trail.level }
-    ensures stands { IfOk result (λ r. Stands formula.now kept.now (P.state engine.now) rows.new.items (L.events sink.new)) }
-    ensures conflict { IsConflict kept.now rows.new.items conflict.now }
+    ensures stands { IfOk result (λ r. SearchStands formula.now kept.now (P.state engine.now) rows.new.items (L.events sink.new)) }
+    ensures conflict { IsConflictClause kept.now rows.new.items conflict.now }
     ensures teaches { IfOk result (λ r. Teaches kept.now.trail conflict.now (IsSourced kept.now rows.new.items) r.resolved r.lits r.back_level r.lbd) }
     ensures gave_up { IfErr result (λ e. GivesUp formula.now (L.torn sink.new) (L.events sink.new) e) }
     ensures write { IfErr result (λ e. e ≡ Write → Rose (L.faults sink.old) (L.faults sink.new)) }
@@ -143,13 +144,13 @@ fn lesson_of<P: ParityEngine, L: LogSink>(
 pub(crate) fn learn<P: ParityEngine, L: LogSink>(
     alloc: Global,
     formula: &Formula,
-    kept: &Kept,
+    kept: &SearchState,
     engine: &P,
     sink: &mut L,
     conflict: Conflict,
 ) -> Result<Learned, CoreFault>
-    requires stands { Stands formula.now kept.now (P.state engine.now) conflict.rows.items (L.events sink.old) }
-    requires conflict { IsConflict kept.now conflict.rows.items conflict.lits }
+    requires stands { SearchStands formula.now kept.now (P.state engine.now) conflict.rows.items (L.events sink.old) }
+    requires conflict { IsConflictClause kept.now conflict.rows.items conflict.lits }
     requires above { 0 < kept.now.trail.level }
     requires room { kept.now.next < first_row_id }
     requires few { kept.now.conflicts < 10 ^ 18 }

@@ -5,13 +5,13 @@ ghost use Rattle.cx_semantics.specs.declared.steps.LogEvent.TheVariants.{Step};
 ghost use Rattle.cx_semantics.specs.declared.steps.LogStep.TheVariants as step;
 ghost use Rattle.cx_base.specs.Counts.{Rose};
 ghost use Rattle.conflict_learn.specs.declared.fault.CoreFault.TheVariants.{Write};
+ghost use Rattle.cdcl_search.specs.Tells.{GivesUp, FaultsAs, TellsAll, IsId};
 ghost use Rattle.cdcl_core.specs.Originals.{HasBegun, AreCounted};
 ghost use Rattle.cdcl_core.specs.Results.{IsFresh};
-ghost use Rattle.cdcl_core.specs.Tells.{GivesUp, FaultsAs, TellsAll, IsId};
 
-use crate::integers::integers;
-use crate::steps::{original, original_parity};
-use crate::telling::tell;
+use cdcl_search::integers::integers;
+use cdcl_search::steps::{original, original_parity};
+use cdcl_search::telling::tell;
 use conflict_learn::CoreFault;
 use cx_base::{ConstraintRef, Formula, Lit};
 use log_text::LogSink;

@@ -3,13 +3,14 @@ ghost use Rattle.std.specs.Prelude.{◌≡◌, ◌≢◌, ℕ, ◌+◌, ◌<◌,
 ghost use Rattle.cx_semantics.specs.Settled.{Settled};
 ghost use Rattle.cx_base.specs.Counts.{Rose};
 ghost use Rattle.conflict_learn.specs.declared.fault.CoreFault.TheVariants.{Write};
-ghost use Rattle.cdcl_core.specs.Finds.{Finds};
-ghost use Rattle.cdcl_core.specs.Results.{Answers, IsFresh, IsSettledBy, HasNoMark};
-ghost use Rattle.cdcl_core.specs.Searching.{GoesOn, Reaches};
-ghost use Rattle.cdcl_core.specs.Sources.{IsConflict, counted};
-ghost use Rattle.cdcl_core.specs.Tells.{GivesUp};
-ghost use Rattle.cdcl_core.specs.Ties.{Stands};
-ghost use Rattle.cdcl_core.specs.declared.propagation.Found.TheVariants as finding;
+ghost use Rattle.cdcl_search.specs.Finds.{PropagationFinds};
+ghost use Rattle.cdcl_search.specs.Searching.{SearchReaches};
+ghost use Rattle.cdcl_search.specs.Sources.{counted};
+ghost use Rattle.cdcl_search.specs.Tells.{GivesUp};
+ghost use Rattle.cdcl_search.specs.Ties.{SearchStands};
+ghost use Rattle.cdcl_search.specs.declared.propagation.Found.TheVariants as finding;
+ghost use Rattle.cdcl_core.specs.Results.{IsRightOutcome, IsFresh, IsSettledBy, HasNoMark};
+ghost use Rattle.cdcl_core.specs.Concluding.{SearchGoesOn, IsConflictClause};
 ghost use Rattle.cdcl_core.specs.declared.solving.Outcome.{Outcome};
 ghost use Rattle.cdcl_core.specs.declared.solving.Outcome.TheVariants as outcome;
 
@@ -17,12 +18,9 @@ use crate::beginning::{Begun, begin};
 use crate::conflicts::{Conclusion, Conflict, conflict_clause};
 use crate::ending::{end, tell_ending};
 use crate::jumping::jump;
-use crate::kept::Kept;
 use crate::learning::learn;
-use crate::models::values_of;
-use crate::propagation::Found;
-use crate::rows::FIRST_ROW_ID;
-use crate::searching::search_on;
+use cdcl_search::rows::FIRST_ROW_ID;
+use cdcl_search::{Found, SearchState, search_on, values_of};
 use conflict_learn::CoreFault;
 use cx_base::{Formula, Values};
 use log_text::LogSink;
@@ -44,17 +42,17 @@ pub enum Outcome {
 fn learn_and_jump<P: ParityEngine, L: LogSink>(
     alloc: Global,
     formula: &Formula,
-    kept: &mut Kept,
+    kept: &mut SearchState,
     engine: &mut P,
     budget: u64,
     sink: &mut L,
     conflict: Conflict,
 ) -> Result<Option<Outcome>, CoreFault>
-    requires stands { Stands formula.now kept.old (P.state engine.old) conflict.rows.items (L.events sink.old) }
-    requires conflict { IsConflict kept.old conflict.rows.items conflict.lits }
+    requires stands { SearchStands formula.now kept.old (P.state engine.old) conflict.rows.items (L.events sink.old) }
+    requires conflict { IsConflictClause kept.old conflict.rows.items conflict.lits }
     requires above { 0 < kept.old.trail.level }
     requires few { (kept.old.conflicts < budget) × (budget ≤ 10 ^ 18) }
-    ensures goes_on { IfOk result (λ o. MatchOption o (GoesOn formula.now budget (L.events sink.new) kept.new (P.state engine.new)) (λ a. Answers formula.now budget (L.events sink.new) a)) }
+    ensures goes_on { IfOk result (λ o. MatchOption o (SearchGoesOn formula.now budget (L.events sink.new) kept.new (P.state engine.new)) (λ a. IsRightOutcome formula.now budget (L.events sink.new) a)) }
     ensures one_more { IfOk result (λ o. MatchOption o (kept.new.conflicts ≡ kept.old.conflicts + 1) (λ _. Unit {0})) }
     ensures gave_up { IfErr result (λ e. GivesUp formula.now (L.torn sink.new) (L.events sink.new) e) }
     ensures write { IfErr result (λ e. e ≡ Write → Rose (L.faults sink.old) (L.faults sink.new)) }
@@ -76,18 +74,18 @@ fn learn_and_jump<P: ParityEngine, L: LogSink>(
 fn meet_conflict<P: ParityEngine, L: LogSink>(
     alloc: Global,
     formula: &Formula,
-    kept: &mut Kept,
+    kept: &mut SearchState,
     engine: &mut P,
     budget: u64,
     sink: &mut L,
     found: Found,
 ) -> Result<Option<Outcome>, CoreFault>
-    requires stands { Stands formula.now kept.old (P.state engine.old) [] (L.events sink.old) }
-    requires found { Finds kept.old (P.state engine.old) found }
+    requires stands { SearchStands formula.now kept.old (P.state engine.old) [] (L.events sink.old) }
+    requires found { PropagationFinds kept.old (P.state engine.old) found }
     requires conflict { found ≢ finding.Quiet }
     requires above { 0 < kept.old.trail.level }
     requires few { (kept.old.conflicts < budget) × (budget ≤ 10 ^ 18) }
-    ensures goes_on { IfOk result (λ o. MatchOption o (GoesOn formula.now budget (L.events sink.new) kept.new (P.state engine.new)) (λ a. Answers formula.now budget (L.events sink.new) a)) }
+    ensures goes_on { IfOk result (λ o. MatchOption o (SearchGoesOn formula.now budget (L.events sink.new) kept.new (P.state engine.new)) (λ a. IsRightOutcome formula.now budget (L.events sink.new) a)) }
     ensures one_more { IfOk result (λ o. MatchOption o (kept.new.conflicts ≡ kept.old.conflicts + 1) (λ _. Unit {0})) }
     ensures gave_up { IfErr result (λ e. GivesUp formula.now (L.torn sink.new) (L.events sink.new) e) }
     ensures write { IfErr result (λ e. e ≡ Write → Rose (L.faults sink.old) (L.faults sink.new)) }
@@ -109,16 +107,16 @@ fn meet_conflict<P: ParityEngine, L: LogSink>(
 fn conclude<P: ParityEngine, L: LogSink>(
     alloc: Global,
     formula: &Formula,
-    kept: &mut Kept,
+    kept: &mut SearchState,
     engine: &mut P,
     budget: u64,
     sink: &mut L,
     found: Found,
 ) -> Result<Option<Outcome>, CoreFault>
-    requires stands { Stands formula.now kept.old (P.state engine.old) [] (L.events sink.old) }
-    requires reaches { Reaches kept.old (P.state engine.old) found }
+    requires stands { SearchStands formula.now kept.old (P.state engine.old) [] (L.events sink.old) }
+    requires reaches { SearchReaches kept.old (P.state engine.old) found }
     requires few { (kept.old.conflicts < budget) × (budget ≤ 10 ^ 18) }
-    ensures goes_on { IfOk result (λ o. MatchOption o (GoesOn formula.now budget (L.events sink.new) kept.new (P.state engine.new)) (λ a. Answers formula.now budget (L.events sink.new) a)) }
+    ensures goes_on { IfOk result (λ o. MatchOption o (SearchGoesOn formula.now budget (L.events sink.new) kept.new (P.state engine.new)) (λ a. IsRightOutcome formula.now budget (L.events sink.new) a)) }
     ensures one_more { IfOk result (λ o. MatchOption o (kept.new.conflicts ≡ kept.old.conflicts + 1) (λ _. Unit {0})) }
     ensures at_start { kept.old.trail.level ≡ 0 → IfOk result (λ o. MatchOption o ⊥ (λ a. IsSettledBy formula.now (kept.old.conflicts + 1) (L.events sink.new) a)) }
     ensures gave_up { IfErr result (λ e. GivesUp formula.now (L.torn sink.new) (L.events sink.new) e) }
@@ -141,14 +139,14 @@ fn conclude<P: ParityEngine, L: LogSink>(
 fn round<P: ParityEngine, L: LogSink>(
     alloc: Global,
     formula: &Formula,
-    kept: &mut Kept,
+    kept: &mut SearchState,
     engine: &mut P,
     budget: u64,
     sink: &mut L,
 ) -> Result<Option<Outcome>, CoreFault>
-    requires goes_on { GoesOn formula.now budget (L.events sink.old) kept.old (P.state engine.old) }
+    requires goes_on { SearchGoesOn formula.now budget (L.events sink.old) kept.old (P.state engine.old) }
     requires few { budget ≤ 10 ^ 18 }
-    ensures goes_on { IfOk result (λ o. MatchOption o (GoesOn formula.now budget (L.events sink.new) kept.new (P.state engine.new)) (λ a. Answers formula.now budget (L.events sink.new) a)) }
+    ensures goes_on { IfOk result (λ o. MatchOption o (SearchGoesOn formula.now budget (L.events sink.new) kept.new (P.state engine.new)) (λ a. IsRightOutcome formula.now budget (L.events sink.new) a)) }
     ensures one_more { IfOk result (λ o. MatchOption o (kept.new.conflicts ≡ kept.old.conflicts + 1) (λ _. Unit {0})) }
     ensures settled { Settled formula.now → kept.old.trail.level ≡ 0 → IfOk result (λ o. MatchOption o ⊥ (λ a. IsSettledBy formula.now (kept.old.conflicts + 1) (L.events sink.new) a)) }
     ensures gave_up { IfErr result (λ e. GivesUp formula.now (L.torn sink.new) (L.events sink.new) e) }
@@ -164,16 +162,16 @@ fn round<P: ParityEngine, L: LogSink>(
 fn search<P: ParityEngine, L: LogSink>(
     alloc: Global,
     formula: &Formula,
-    kept: &mut Kept,
+    kept: &mut SearchState,
     engine: &mut P,
     budget: u64,
     sink: &mut L,
 ) -> Result<Outcome, CoreFault>
-    requires goes_on { GoesOn formula.now budget (L.events sink.old) kept.old (P.state engine.old) }
+    requires goes_on { SearchGoesOn formula.now budget (L.events sink.old) kept.old (P.state engine.old) }
     requires few { budget ≤ 10 ^ 18 }
     requires level { kept.old.trail.level ≡ 0 }
     requires none { kept.old.conflicts ≡ 0 }
-    ensures answers { IfOk result (λ a. Answers formula.now budget (L.events sink.new) a) }
+    ensures answers { IfOk result (λ a. IsRightOutcome formula.now budget (L.events sink.new) a) }
     ensures settled { Settled formula.now → IfOk result (λ a. IsSettledBy formula.now 1 (L.events sink.new) a) }
     ensures gave_up { IfErr result (λ e. GivesUp formula.now (L.torn sink.new) (L.events sink.new) e) }
     ensures write { IfErr result (λ e. e ≡ Write → Rose (L.faults sink.old) (L.faults sink.new)) }
@@ -202,7 +200,7 @@ pub fn solve_core<P: ParityEngine + Drop, L: LogSink>(
     requires budget { (1 ≤ budget) × (budget ≤ 10 ^ 18) }
     requires few { length formula.now.constraints ≤ 4294967295 }
     requires fresh { IsFresh (L.events sink.old) }
-    ensures answers { IfOk result (λ a. Answers formula.now budget (L.events sink.new) a) }
+    ensures answers { IfOk result (λ a. IsRightOutcome formula.now budget (L.events sink.new) a) }
     ensures settled { Settled formula.now → IfOk result (λ a. (conflicts : ℕ) → a ≢ outcome.Unknown conflicts) }
     ensures unmarked { Settled formula.now → OnOk result (HasNoMark (L.events sink.new)) }
     ensures gave_up { IfErr result (λ e. GivesUp formula.now (L.torn sink.new) (L.events sink.new) e) }

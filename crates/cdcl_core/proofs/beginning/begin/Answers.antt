@@ -1,6 +1,6 @@
 use Rattle.std.proofs.lemmas.Result.{err_from_is_err_and}
+use Rattle.cdcl_search.proofs.RowSteps.{memory_is_left}
 use Rattle.cdcl_core.proofs.OriginalLaws.{begun_is_left}
-use Rattle.cdcl_core.proofs.RowSteps.{memory_is_left}
 use Rattle.cdcl_core.proofs.beginning.begin.Goals as goal
 
 pub returns-in_err-filled-clause-gave_up : goal.returns-in_err-filled-clause-gave_up

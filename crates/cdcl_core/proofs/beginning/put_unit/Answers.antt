@@ -1,8 +1,8 @@
 use Rattle.std.proofs.Common.{subst, ◌+◌, drop}
 use Rattle.std.proofs.lemmas.Result.{err_from_is_err_and}
 use Rattle.cx_trail.specs.declared.entry.Reason.TheVariants.{Decision}
+use Rattle.cdcl_search.proofs.RowSteps.{memory_is_left}
 use Rattle.cdcl_core.specs.Results.{Refutes}
-use Rattle.cdcl_core.proofs.RowSteps.{memory_is_left}
 use Rattle.cdcl_core.proofs.WaitingLaws.{waiting_is_left, next_waits, true_is_put, false_is_refutable, open_is_put}
 use Rattle.cdcl_core.proofs.beginning.put_unit.Goals as goal
 

@@ -1,7 +1,7 @@
 use Rattle.std.proofs.Common.{[]}
 use Rattle.std.proofs.lemmas.Result.{err_from_is_err_and}
+use Rattle.cdcl_search.proofs.RowSteps.{left_now, memory_is_left}
 use Rattle.cdcl_core.proofs.ConflictLaws.{found_concludes}
-use Rattle.cdcl_core.proofs.RowSteps.{left_now, memory_is_left}
 use Rattle.cdcl_core.proofs.conflicts.conflict_clause.Goals as goal
 
 pub returns-in_err-conflict-in-Clause-clause-gave_up : goal.returns-in_err-conflict-in-Clause-clause-gave_up

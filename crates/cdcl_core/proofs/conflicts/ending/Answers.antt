@@ -1,4 +1,4 @@
-use Rattle.cdcl_core.proofs.RowSteps.{sources_are_ids}
+use Rattle.cdcl_search.proofs.RowSteps.{sources_are_ids}
 use Rattle.cdcl_core.proofs.conflicts.ending.Goals as goal
 
 pub sum_and_clause-requires-clause-sources : goal.sum_and_clause-requires-clause-sources

@@ -1,7 +1,7 @@
 use Rattle.std.proofs.Common.{[]}
 use Rattle.std.proofs.lemmas.Result.{err_from_is_err_and}
+use Rattle.cdcl_search.proofs.RowSteps.{left_now, memory_is_left}
 use Rattle.cdcl_core.proofs.ConflictLaws.{clash_is_named, clash_assigned, clash_is_reason, clash_explains, clash_numbers, row_concludes, ends_log, is_empty_list}
-use Rattle.cdcl_core.proofs.RowSteps.{left_now, memory_is_left}
 use Rattle.cdcl_core.proofs.conflicts.row_conflict.Goals as goal
 
 pub reason_clause-requires-clause-named : goal.reason_clause-requires-clause-named

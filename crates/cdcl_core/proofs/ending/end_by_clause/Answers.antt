@@ -1,6 +1,6 @@
 use Rattle.std.proofs.Common.{sym, subst, ◌≤◌}
 use Rattle.std.specs.List.{All}
-use Rattle.cdcl_core.proofs.RowSteps.{left_now}
+use Rattle.cdcl_search.proofs.RowSteps.{left_now}
 use Rattle.cdcl_core.proofs.EndingLaws.{conflict_is_low, conflict_is_refutable}
 use Rattle.cdcl_core.proofs.ending.end_by_clause.Goals as goal
 

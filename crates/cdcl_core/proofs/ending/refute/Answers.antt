@@ -1,5 +1,5 @@
 use Rattle.std.proofs.lemmas.Result.{err_from_is_err_and}
-use Rattle.cdcl_core.proofs.RowSteps.{memory_is_left}
+use Rattle.cdcl_search.proofs.RowSteps.{memory_is_left}
 use Rattle.cdcl_core.proofs.EndingLaws.{refutable_is_left, told_refutes, told_gives_up}
 use Rattle.cdcl_core.proofs.ending.refute.Goals as goal
 

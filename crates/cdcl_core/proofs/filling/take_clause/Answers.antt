@@ -1,10 +1,10 @@
 use Rattle.std.proofs.Common.{◌≢◌, sym, ap, ◌∙◌, subst, eqb-true, ◌+◌, length, [], ◌∷◌}
 use Rattle.std.proofs.lemmas.Bool.{eqb-false}
 use Rattle.watch_lists.specs.Attaching.{CanBeWatched}
+use Rattle.cdcl_search.proofs.Outcomes.{on_ok}
 use Rattle.cdcl_core.specs.Filling.{IsNext}
 use Rattle.cdcl_core.proofs.FilledClauses.{tautology_taken, empty_taken, unit_taken, attached_taken, can_be_watched, only_one, none_at_all}
 use Rattle.cdcl_core.proofs.filling.take_clause.Goals as goal
-use Rattle.cdcl_core.proofs.Outcomes.{on_ok}
 
 pub attach-requires-clause-watched : goal.attach-requires-clause-watched
 attach-requires-clause-watched c =

@@ -1,9 +1,9 @@
 use Rattle.std.proofs.Common.{sym, subst, []}
 use Rattle.cx_base.specs.declared.constraint.Constraint.TheVariants as constraint
+use Rattle.cdcl_search.proofs.Outcomes.{on_ok}
 use Rattle.cdcl_core.specs.Filling.{IsNext}
 use Rattle.cdcl_core.proofs.FilledClauses.{next_is_few, next_clause, next_filled, parity_passed}
 use Rattle.cdcl_core.proofs.filling.take_item.Goals as goal
-use Rattle.cdcl_core.proofs.Outcomes.{on_ok}
 
 pub take_clause-requires-clause-few : goal.take_clause-requires-clause-few
 take_clause-requires-clause-few c = next_is_few c.args.formula.now c.args.place (constraint.Clause []) c.requires.place c.args.filled.now c.requires.filled c.requires.few c.in-Clause.lits.now (sym c.in-Clause.ensures.item)

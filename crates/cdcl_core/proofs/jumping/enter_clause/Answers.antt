@@ -4,8 +4,8 @@ use Rattle.cx_trail.specs.declared.entry.Reason.TheVariants as reason
 use Rattle.watch_lists.specs.Attaching.{literal_at}
 use Rattle.watch_lists.specs.Watching.{Fits, IsAttached, no_literal}
 use Rattle.watch_lists.proofs.EventLaws.{fits_arena, fits_pushed}
-use Rattle.cdcl_core.proofs.Places.{first_any}
 use Rattle.cdcl_core.proofs.jumping.enter_clause.Goals as goal
+use Rattle.cdcl_core.proofs.JumpLaws.{first_any}
 
 pub attach-requires-clause-fits : goal.attach-requires-clause-fits
 attach-requires-clause-fits c = fits_arena c.args.kept.now.watches c.args.kept.now.arena c.add.new.self c.args.kept.now.trail _ c.in_ok-reference.ensures.added c.requires.fits

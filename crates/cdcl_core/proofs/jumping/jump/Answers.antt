@@ -3,11 +3,11 @@ use Rattle.cx_semantics.specs.Integers.{integers_of}
 use Rattle.watch_lists.specs.Attaching.{CanBeWatched, literal_at}
 use Rattle.cx_trail.specs.Sequence.{IsOpenIn}
 use Rattle.search_steps.specs.LogSteps.{after_round}
+use Rattle.cdcl_search.proofs.Outcomes.{on_ok}
 use Rattle.cdcl_core.specs.Entering.{Enters}
 use Rattle.cdcl_core.proofs.Entering.{round_is_search}
 use Rattle.cdcl_core.proofs.JumpLaws.{lower_than_now, scores_within, first_is_open, can_be_watched, enters_stands}
 use Rattle.cdcl_core.proofs.jumping.jump.Goals as goal
-use Rattle.cdcl_core.proofs.Outcomes.{on_ok}
 
 pub go_back-requires-clause-lower : goal.go_back-requires-clause-lower
 go_back-requires-clause-lower g c =

@@ -1,7 +1,7 @@
 use Rattle.std.proofs.Common.{sym, subst}
 use Rattle.std.proofs.lemmas.Result.{err_from_is_err_and}
-use Rattle.cdcl_core.specs.Ties.{Stands}
-use Rattle.cdcl_core.proofs.RowSteps.{left_now, memory_is_left}
+use Rattle.cdcl_search.specs.Ties.{SearchStands}
+use Rattle.cdcl_search.proofs.RowSteps.{left_now, memory_is_left}
 use Rattle.cdcl_core.proofs.learning.learn.Goals as goal
 
 pub returns-in_err-hints-clause-gave_up : goal.returns-in_err-hints-clause-gave_up
@@ -14,4 +14,4 @@ returns-in_err-hints-clause-gave_up g c =
 
 pub tell_learned-requires-clause-stands : goal.tell_learned-requires-clause-stands
 tell_learned-requires-clause-stands g c =
-    subst (λ rs. Stands c.args.formula.now c.args.kept.now (g.P.ParityEngine.state c.args.engine.now) rs (g.L.LogSink.events c.lesson_of.new.sink)) (sym c.deref-2.ensures.value) c.in_ok-learned.ensures.stands
+    subst (λ rs. SearchStands c.args.formula.now c.args.kept.now (g.P.ParityEngine.state c.args.engine.now) rs (g.L.LogSink.events c.lesson_of.new.sink)) (sym c.deref-2.ensures.value) c.in_ok-learned.ensures.stands

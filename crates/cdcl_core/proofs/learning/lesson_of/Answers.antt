@@ -1,7 +1,7 @@
 use Rattle.std.proofs.Common.{subst, IfOk, rules}
 use Rattle.conflict_learn.specs.Levels.{Teaches}
-use Rattle.cdcl_core.specs.Ties.{Stands}
-use Rattle.cdcl_core.specs.Sources.{IsSourced}
+use Rattle.cdcl_search.specs.Ties.{SearchStands}
+use Rattle.cdcl_search.specs.Sources.{IsSourced}
 use Rattle.cdcl_core.proofs.LearnLaws.{conflict_is_now, stands_at, conflict_at, teaches_at, lesson_gave_up}
 use Rattle.cdcl_core.proofs.learning.lesson_of.Goals as goal
 
@@ -15,9 +15,9 @@ returns-clause-stands g c =
     let told = g.L.LogSink.events new.sink.now in
     let rows = new.rows.now.items in
     stands_at c.analyse.result c.args.formula.now c.args.kept.now g.L.LogSink.events rows _ new.sink.now _ (g.P.ParityEngine.state c.args.engine.now) (search rules) (search rules)
-    (subst (λ f. IfOk c.analyse.result (λ r. Stands f c.args.kept.now (g.P.ParityEngine.state c.args.engine.now) rows told)) frame.0
-    (subst (λ k. IfOk c.analyse.result (λ r. Stands new.formula.now k (g.P.ParityEngine.state c.args.engine.now) rows told)) frame.1
-    (subst (λ e. IfOk c.analyse.result (λ r. Stands new.formula.now new.kept.now e rows told)) frame.2 c.analyse.ensures.goes_on)))
+    (subst (λ f. IfOk c.analyse.result (λ r. SearchStands f c.args.kept.now (g.P.ParityEngine.state c.args.engine.now) rows told)) frame.0
+    (subst (λ k. IfOk c.analyse.result (λ r. SearchStands new.formula.now k (g.P.ParityEngine.state c.args.engine.now) rows told)) frame.1
+    (subst (λ e. IfOk c.analyse.result (λ r. SearchStands new.formula.now new.kept.now e rows told)) frame.2 c.analyse.ensures.goes_on)))
 
 pub returns-clause-conflict : goal.returns-clause-conflict
 returns-clause-conflict g c =

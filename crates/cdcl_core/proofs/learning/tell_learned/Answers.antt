@@ -3,10 +3,10 @@ use Rattle.std.proofs.lemmas.Result.{err_from_is_err_and}
 use Rattle.cx_semantics.specs.declared.steps.LogEvent.TheVariants.{Step, Conflict}
 use Rattle.cx_semantics.specs.declared.steps.LogStep.TheVariants as step
 use Rattle.cx_semantics.specs.Integers.{integers_of, literals}
-use Rattle.cdcl_core.specs.Ties.{row_ids}
-use Rattle.cdcl_core.specs.Deleting.{deletions}
-use Rattle.cdcl_core.specs.Tells.{as_events}
-use Rattle.cdcl_core.proofs.RowSteps.{left_now, memory_is_left}
+use Rattle.cdcl_search.specs.Ties.{row_ids}
+use Rattle.cdcl_search.specs.Deleting.{deletions}
+use Rattle.cdcl_search.specs.Tells.{as_events}
+use Rattle.cdcl_search.proofs.RowSteps.{left_now, memory_is_left}
 use Rattle.cdcl_core.proofs.LearnLaws.{learns_then, gives_up_then, ok_then, err_then}
 use Rattle.cdcl_core.proofs.learning.tell_learned.Goals as goal
 

@@ -1,5 +1,5 @@
 use Rattle.cx_semantics.specs.declared.steps.LogEvent.TheVariants.{Conflict}
-use Rattle.cdcl_core.specs.Tells.{as_events}
+use Rattle.cdcl_search.specs.Tells.{as_events}
 use Rattle.cdcl_core.proofs.LearnLaws.{mark_is_told}
 use Rattle.cdcl_core.proofs.learning.tell_marked.Goals as goal
 

@@ -1,7 +1,7 @@
 use Rattle.std.proofs.Common.{[], arith}
 use Rattle.std.proofs.lemmas.Result.{err_from_is_err_and}
+use Rattle.cdcl_search.proofs.RowSteps.{memory_is_left}
 use Rattle.cdcl_core.proofs.Answering.{stands_is_left, log_is_open, values_are_known}
-use Rattle.cdcl_core.proofs.RowSteps.{memory_is_left}
 use Rattle.cdcl_core.proofs.solving.conclude.Goals as goal
 
 pub returns-in_err-values-clause-gave_up : goal.returns-in_err-values-clause-gave_up

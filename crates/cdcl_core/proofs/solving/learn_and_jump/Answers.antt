@@ -1,8 +1,8 @@
 use Rattle.std.proofs.Common.{refl, subst, arith}
 use Rattle.std.proofs.lemmas.Result.{err_from_is_err_and}
+use Rattle.cdcl_search.proofs.RowSteps.{memory_is_left}
 use Rattle.cdcl_core.specs.Results.{IsOpenWith}
 use Rattle.cdcl_core.proofs.Answering.{stands_is_left, learned_log_is_open, learned_is_left}
-use Rattle.cdcl_core.proofs.RowSteps.{memory_is_left}
 use Rattle.cdcl_core.proofs.solving.learn_and_jump.Goals as goal
 
 pub returns-then-kept-ge-FIRST_ROW_ID-clause-gave_up :

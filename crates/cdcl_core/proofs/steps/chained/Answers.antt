@@ -1,5 +1,0 @@
-use Rattle.cdcl_core.proofs.StepTexts.{chained_text}
-use Rattle.cdcl_core.proofs.steps.chained.Goals as goal
-
-pub returns-clause-text : goal.returns-clause-text
-returns-clause-text c = chained_text c.args.id c.args.lits c.args.hints c.requires c.as_slice.ensures.proper c.as_slice-2.ensures.proper

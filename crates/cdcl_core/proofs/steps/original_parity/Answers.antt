@@ -1,5 +1,0 @@
-use Rattle.cdcl_core.proofs.StepTexts.{original_parity_text}
-use Rattle.cdcl_core.proofs.steps.original_parity.Goals as goal
-
-pub returns-clause-text : goal.returns-clause-text
-returns-clause-text c = original_parity_text c.args.id c.args.lits c.requires c.as_slice.ensures.proper

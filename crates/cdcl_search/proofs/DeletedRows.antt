@@ -1,0 +1,145 @@
+-- The clauses of rows are deleted: the ties of the search behind that.
+use Rattle.std.proofs.Common.{◌≡◌, refl, sym, ap, ◌∙◌, subst, ℕ, zero, suc, ◌+◌, ◌-◌, ◌<◌, true≢false, List, [], ◌∷◌, ◌++◌, length, take, fold, Option, arith, append_assoc}
+use Rattle.std.proofs.lemmas.List.{map_push, take-map}
+use Rattle.std.specs.List.{AllByRecursion}
+use Rattle.cx_base.specs.Literals.{Literal}
+use Rattle.cx_base.specs.Problem.{Problem, parities_of}
+use Rattle.cx_base.proofs.Elements.{all_append}
+use Rattle.cx_semantics.specs.declared.steps.LogStep.{LogStep}
+use Rattle.cx_semantics.specs.declared.steps.LogStep.TheVariants.{Delete}
+use Rattle.cx_semantics.specs.declared.steps.LogEvent.{LogEvent}
+use Rattle.cx_semantics.specs.declared.steps.LogEvent.TheVariants.{Step}
+use Rattle.cx_semantics.specs.Printed.{HasText}
+use Rattle.cx_semantics.specs.Marked.{without}
+use Rattle.cx_semantics.specs.Tables.{get}
+use Rattle.parity_engine.specs.State.{State}
+use Rattle.conflict_learn.specs.declared.fault.CoreFault.{CoreFault}
+use Rattle.std.specs.Prelude.{Result, Ok, Err, OnOk, IfErr}
+use Rattle.search_steps.specs.Trail.{level_of}
+use Rattle.search_steps.specs.Search.{Search, IsSearch, told}
+use Rattle.search_steps.specs.LogSteps.{AreTemporary, deleted, all_told}
+use Rattle.search_steps.specs.Holding.{AreTold}
+use Rattle.search_steps.specs.Ids.{IsRanged}
+use Rattle.search_steps.specs.Tied.{Mirrors}
+use Rattle.search_steps.proofs.Rounds.{deleted_keeps, deleted_trail, deleted_levels, deleted_conflicts, deleted_awaits, deleted_old_sums, deleted_new_sums, deleted_parities, deleted_old, deleted_get}
+use Rattle.search_steps.proofs.RowReasons.{all_deleted}
+use Rattle.search_steps.proofs.IdLaws.{row_ids_are_temporary, deletions_ranged, anew_ranged, low_is_no_row}
+use Rattle.cdcl_search.specs.declared.state.SearchState.{SearchState}
+use Rattle.cdcl_search.specs.Deleting.{deletions}
+use Rattle.cdcl_search.specs.Tells.{TellsAll, GivesUp, IsLeft, as_events, with_events}
+use Rattle.cdcl_search.specs.Ties.{Ties, SearchStands, AreUnits, IsFed, AreClauses, AreNumbered, first_row_id, row_ids}
+use Rattle.cdcl_search.proofs.Events.{gives_up}
+use Rattle.cdcl_search.proofs.RowSteps.{all_told_are, is_left}
+use Rattle.cdcl_search.proofs.TableLaws.{AnswersBelow, clauses_stay, units_stay}
+
+-- ---- the steps
+-- the newest of the rows that are left goes next
+pub one_deleted : (steps : List LogStep) (left : ℕ) (s : LogStep) (all : List LogEvent) → 0 < left → s ≡ Delete (first_row_id + (left - 1)) [] → as_events steps ++ deletions (row_ids left) ≡ all
+    → as_events (steps ++ s ∷ []) ++ deletions (row_ids (left - 1)) ≡ all
+one_deleted steps zero s all some is so_far = absurd (omega (arith, some))
+one_deleted steps (suc left) s all some is so_far = subst (λ k. as_events (steps ++ s ∷ []) ++ deletions (row_ids k) ≡ all) (sym one_less)
+    (ap (λ es. es ++ deletions (row_ids left)) (map_push Step steps s) ∙ append_assoc (as_events steps) (Step s ∷ []) (deletions (row_ids left)) ∙ ap (λ x. as_events steps ++ Step x ∷ deletions (row_ids left)) (is ∙ ap (λ k. Delete (first_row_id + k) []) one_less) ∙ so_far)
+  where
+    one_less : suc left - 1 ≡ left
+    one_less = omega arith
+
+pub one_more_text : (steps : List LogStep) (s : LogStep) (more : List LogStep) → more ≡ steps ++ s ∷ [] → AllByRecursion (λ t. HasText (Step t)) steps → HasText (Step s) → AllByRecursion (λ t. HasText (Step t)) more
+one_more_text steps s more are a h = subst (AllByRecursion (λ t. HasText (Step t))) (sym are) (all_append (λ t. HasText (Step t)) steps (s ∷ []) a (h, tt))
+
+-- ---- what deletions leave as it was
+deleted_new_clauses : (s : Search) (ids : List ℕ) → (deleted s ids).moment.new_clauses ≡ fold without s.moment.new_clauses ids
+deleted_new_clauses s [] = refl
+deleted_new_clauses s (n ∷ ids) = deleted_new_clauses (told s (Step (Delete n []))) ids
+
+deleted_is_told : (s : Search) (ids : List ℕ) → all_told s (deletions ids) ≡ deleted s ids
+deleted_is_told s [] = refl
+deleted_is_told s (n ∷ ids) = deleted_is_told (told s (Step (Delete n []))) ids
+
+first_temporary : (formula : Problem) (s : Search) (ids : List ℕ) (k : ℕ) → AreTemporary formula s ids → AreTemporary formula s (take k ids)
+first_temporary formula s ids zero t = tt
+first_temporary formula s [] (suc k) t = tt
+first_temporary formula s (n ∷ ids) (suc k) t = (t.0, first_temporary formula s ids k t.1)
+
+-- ---- the ties
+module _ (formula : Problem) (c : SearchState) (e : State) (rows : List (List Literal)) (s : Search) (ok : IsSearch formula (parities_of formula.constraints) s) (t : Ties formula c e rows s) where
+  abbrev ids : List ℕ
+  ids = s.moment.new_clauses
+
+  abbrev after : Search
+  after = deleted s s.moment.new_clauses
+
+  temporary : AreTemporary formula s ids
+  temporary = row_ids_are_temporary formula first_row_id c.next (first_row_id + length rows) s t.ranged ids t.ranged.new_rows
+
+  none_new : after.moment.new_clauses ≡ []
+  none_new = deleted_new_clauses s ids ∙ all_deleted ids ids (λ m h. h)
+
+  none_old : after.moment.old_clauses ≡ []
+  none_old = deleted_old s ids ∙ ap (λ xs. fold without xs ids) t.served.old_clauses ∙ all_deleted ids [] (λ m h. absurd (true≢false (sym h)))
+
+  answers : AnswersBelow first_row_id s.moment.tables.clauses after.moment.tables.clauses
+  answers m low = deleted_get s ids m (low_is_no_row formula first_row_id c.next (first_row_id + length rows) s t.ranged m low)
+
+  ranged_then : IsRanged formula first_row_id c.next (first_row_id + 0) after.trail after.moment
+  ranged_then = subst (λ r. IsRanged formula first_row_id c.next r after.trail after.moment) (let z : first_row_id ≡ first_row_id + 0 = omega arith in z)
+      (anew_ranged formula first_row_id c.next (first_row_id + length rows) after (deletions_ranged formula first_row_id c.next (first_row_id + length rows) s ids t.ranged) none_new none_old)
+
+  ties_then : Ties formula c e [] after
+  ties_then = record {
+    follows = subst (λ es. Mirrors es c.trail) (sym (deleted_trail s ids)) t.follows;
+    variables = t.variables;
+    ranged = ranged_then;
+    sums = λ n high. ap (λ table. get table n) (deleted_parities s ids) ∙ t.sums n high;
+    numbered = subst (λ table. AreNumbered table (parities_of formula.constraints)) (sym (deleted_parities s ids)) t.numbered;
+    clauses = subst (AreClauses after.moment.tables.clauses c) (sym (deleted_trail s ids)) (clauses_stay s.moment.tables.clauses after.moment.tables.clauses c s.trail answers t.clauses);
+    rows_told = λ i h. absurd (omega (arith, h));
+    units = subst (λ es. AreUnits after.moment.tables.clauses c.trail es c.units.items) (sym (deleted_trail s ids)) (units_stay s.moment.tables.clauses after.moment.tables.clauses c.trail s.trail c.units.items answers t.units);
+    engine = t.engine;
+    fed = subst (λ es. IsFed es c.given e) (sym (deleted_trail s ids)) t.fed;
+    reasons = t.reasons;
+    fits = t.fits;
+    stand = t.stand;
+    phases = t.phases;
+    conflicts = deleted_conflicts s ids ∙ t.conflicts;
+    levels = deleted_levels s ids ∙ t.levels ∙ ap level_of (sym (deleted_trail s ids));
+    served = record {
+      served = deleted_awaits s ids ∙ t.served.served;
+      old_clauses = none_old;
+      new_clauses = none_new;
+      old_sums = deleted_old_sums s ids ∙ t.served.old_sums;
+      new_sums = deleted_new_sums s ids ∙ t.served.new_sums;
+    };
+  }
+
+  is_search_then : (k : ℕ) → IsSearch formula (parities_of formula.constraints) (deleted s (take k ids))
+  is_search_then k = deleted_keeps formula (parities_of formula.constraints) s ok (take k ids) (first_temporary formula s ids k temporary)
+
+  told_then : (old : Option (List LogEvent)) → AreTold old s.events → (some : List ℕ) → AreTold (with_events (deletions some) old) (deleted s some).events
+  told_then old a some = subst (λ (u : Search). AreTold (with_events (deletions some) old) u.events) (deleted_is_told s some) (all_told_are (deletions some) s old a)
+
+  pub fronts_are_left : (old : Option (List LogEvent)) → AreTold old s.events → (k : ℕ) → IsLeft formula (with_events (take k (deletions ids)) old)
+  fronts_are_left old a k = subst (λ es. IsLeft formula (with_events es old)) (sym (take-map (λ n. Step (Delete n [])) k ids))
+      (is_left formula (parities_of formula.constraints) (deleted s (take k ids)) (with_events (deletions (take k ids)) old) (is_search_then k) (deleted_awaits s (take k ids) ∙ t.served.served) (told_then old a (take k ids)))
+
+  pub stands_then : (old : Option (List LogEvent)) → AreTold old s.events → SearchStands formula c e [] (with_events (deletions ids) old)
+  stands_then old a = (after, deleted_keeps formula (parities_of formula.constraints) s ok ids temporary, told_then old a ids, ties_then)
+
+-- ---- what telling the deletions leaves
+module _ (formula : Problem) (c : SearchState) (e : State) (rows : List (List Literal)) (old : Option (List LogEvent)) (st : SearchStands formula c e rows old) (events : List LogEvent) (count : ℕ) (many : count ≡ length rows) (are : events ≡ deletions (row_ids count)) where
+  same : events ≡ deletions st.0.moment.new_clauses
+  same = are ∙ ap (λ n. deletions (row_ids n)) many ∙ ap deletions (sym st.3.served.new_clauses)
+
+  pub stands_deleted : (new : Option (List LogEvent)) → new ≡ with_events events old → SearchStands formula c e [] new
+  stands_deleted new is = subst (SearchStands formula c e []) (sym (is ∙ ap (λ es. with_events es old) same)) (stands_then formula c e rows st.0 st.1 st.3 old st.2)
+
+  pub gives_up_deleting : (torn : LogEvent → Type 0) (new : Option (List LogEvent)) (fault : CoreFault) → TellsAll {T = Unit {0}} torn events old (Err fault) new → GivesUp formula torn new fault
+  gives_up_deleting torn new fault tells = gives_up formula torn events old new fault tells (λ i less.
+      subst (λ es. IsLeft formula (with_events (take i es) old)) (sym same) (fronts_are_left formula c e rows st.0 st.1 st.3 old st.2 i))
+
+  pub stands_after : (torn : LogEvent → Type 0) (r : Result (Unit {0}) CoreFault) (new : Option (List LogEvent)) → TellsAll torn events old r new → OnOk r (SearchStands formula c e [] new)
+  stands_after torn (Ok done) new tells = stands_deleted new tells
+  stands_after torn (Err fault) new tells = tt
+
+  pub gives_up_after : (torn : LogEvent → Type 0) (r : Result (Unit {0}) CoreFault) (new : Option (List LogEvent)) → TellsAll torn events old r new → IfErr r (λ f. GivesUp formula torn new f)
+  gives_up_after torn (Ok done) new tells = tt
+  gives_up_after torn (Err fault) new tells = gives_up_deleting torn new fault tells

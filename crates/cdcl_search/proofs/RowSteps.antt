@@ -1,0 +1,298 @@
+-- The three steps of a row that was told keep what stands behind the code.
+use Rattle.std.proofs.Common.{◌≡◌, ◌≢◌, refl, sym, ap, ◌∙◌, subst, ℕ, zero, suc, ◌+◌, ◌-◌, ◌<◌, ◌≤◌, ℤ, Bool, true, false, ◌||◌, List, [], ◌∷◌, ◌++◌, length, take, get_or, map, Option, Some, None, is_some, Contains, arith, inl, inr, length-append}
+use Rattle.std.specs.List.{AllByRecursion, cons_option}
+use Rattle.std.specs.FinMap as map_
+use Rattle.std.specs.FinSet as set
+use Rattle.std.proofs.Math.ListN.{get_or-append}
+use Rattle.std.proofs.Math.Seq.{get_or-append_seam}
+use Rattle.cx_base.specs.Literals.{Literal}
+use Rattle.cx_base.specs.Parity.{NormalForm, normal_form, sum_of, HasOneOfEach}
+use Rattle.cx_base.specs.Problem.{Problem, parities_of, AreWithin, parity_met, clause_met}
+use Rattle.cx_base.specs.declared.constraint.Constraint.{Constraint}
+use Rattle.cx_base.specs.declared.constraint.Constraint.TheVariants as constraint
+use Rattle.cx_semantics.specs.Chain.{has_literal}
+use Rattle.cx_semantics.specs.declared.steps.LogStep.TheVariants.{Parity, ClauseOfParity, DeleteParity}
+use Rattle.cx_semantics.specs.declared.steps.LogEvent.{LogEvent}
+use Rattle.cx_semantics.specs.declared.steps.LogEvent.TheVariants.{Step}
+use Rattle.cx_semantics.specs.Integers.{integers_of, literals}
+use Rattle.cx_semantics.specs.LogRules.{AreLive}
+use Rattle.cx_semantics.specs.ProofRules.{is_empty}
+use Rattle.cx_semantics.specs.Tables.{Table, get, named}
+use Rattle.cx_trail.specs.Sequence.{TrailState, IsTrail, IsAssignedIn}
+use Rattle.parity_engine.specs.State.{State}
+use Rattle.parity_engine.specs.Equations.{parity_number, numbered}
+use Rattle.parity_engine.specs.Written.{IsWritten, AreRising}
+use Rattle.parity_engine.proofs.Columns.{rising_low}
+use Rattle.xor_reason.specs.declared.reason.ReasonOf.{ReasonOf}
+use Rattle.xor_reason.proofs.ClauseLaws.{contains_written, has_written}
+use Rattle.search_steps.specs.Search.{Search, IsSearch, told}
+use Rattle.search_steps.specs.LogSteps.{IsAddition, IsRowOf, IsClauseOfRow, IsRowReason, row_events, all_told}
+use Rattle.search_steps.specs.Holding.{AreTold}
+use Rattle.search_steps.proofs.StartLaws.{variables_are_within}
+use Rattle.search_steps.proofs.LogLaws.{sum_keeps, row_clause_keeps}
+use Rattle.search_steps.proofs.RowLaws.{row_is_of_parities}
+use Rattle.search_steps.proofs.RowReasons.{row_reason_keeps, row_reason_sums, row_reason_old_sums}
+use Rattle.search_steps.proofs.IdLaws.{row_next_is_free, row_reason_ranged, row_reason_frees_sum}
+use Rattle.search_steps.proofs.EndLaws.{is_log_open}
+use Rattle.cx_semantics.proofs.Members.{has_at_head, has_behind}
+use Rattle.cx_semantics.proofs.Widths.{variable_in}
+use Rattle.cdcl_search.specs.declared.state.SearchState.{SearchState}
+use Rattle.cdcl_search.specs.Ties.{Ties, SearchStands, HasOnlyRowClauses, AreNumbered, AreRows, first_row_id, row_ids}
+use Rattle.std.specs.Prelude.{Result, Err, IfErr}
+use Rattle.conflict_learn.specs.declared.fault.CoreFault.{CoreFault}
+use Rattle.conflict_learn.specs.declared.fault.CoreFault.TheVariants.{Memory}
+use Rattle.cdcl_search.specs.Tells.{TellsAll, GivesUp, IsLeft, with_events}
+use Rattle.cdcl_search.specs.Explaining.{Explains}
+use Rattle.cdcl_search.proofs.Events.{no_more, more_and_more, gives_up}
+use Rattle.cdcl_search.proofs.TableLaws.{put_same, put_other, drop_other, put_answers_below, clauses_stay, units_stay}
+
+-- ---- variables
+pub within_by : (n : ℕ) (lits : List Literal) → ((l : Literal) → has_literal lits l ≡ true → (1 ≤ l.variable) × (l.variable ≤ n)) → AreWithin n lits
+within_by n [] h = tt
+within_by n (l ∷ lits) h = (h l (has_at_head l lits), within_by n lits (λ m k. h m (has_behind l lits m k)))
+
+-- a variable of a list of one literal for each is one of the set
+pub in_form : (form : NormalForm) (lits : List Literal) → HasOneOfEach form.variables lits → (l : Literal) → has_literal lits l ≡ true → set.contains form.variables l.variable ≡ true
+in_form form lits each l h = ap (λ s. set.contains s l.variable) (sym each.same) ∙ set.contains-from_list_nat (map (λ x. x.variable) lits) l.variable ∙ variable_in lits l h
+
+pub low_form : (form : NormalForm) (lits : List Literal) → IsWritten form lits → (v : ℕ) → set.contains form.variables v ≡ true → 1 ≤ v
+low_form form lits w v h = rising_low 1 (map (λ x. x.variable) lits) v w.rises (sym (contains_written form lits w v) ∙ h)
+
+assigned_within : (t : TrailState) (n v : ℕ) → IsTrail t → t.variables ≡ n → IsAssignedIn t.entries v → (1 ≤ v) × (v ≤ n)
+assigned_within t n v sound vars (i, less, is) = let low = sound.low i less in let high = sound.high i less in (omega (arith, low, is), omega (arith, high, is, vars))
+
+-- ---- parities under their numbers
+module _ (table : Table) (parities : List (List Literal)) (are : AreNumbered table parities) where
+  named_are : (least : ℕ) (ids : List ℕ) → 1 ≤ least → AreRising least (length parities) ids → named table ids ≡ numbered parities ids
+  named_are least [] low r = refl
+  named_are least (k ∷ ids) low r =
+      let first = r.0 in
+      ap (λ o. cons_option o (named table ids)) (are k (omega (arith, low, first)) r.1) ∙ ap (λ xs. parity_number parities k ∷ xs) (named_are (k + 1) ids (omega arith) r.2)
+
+  all_live : (least : ℕ) (ids : List ℕ) → 1 ≤ least → AreRising least (length parities) ids → AreLive table ids
+  all_live least [] low r = tt
+  all_live least (k ∷ ids) low r = let first = r.0 in (ap is_some (are k (omega (arith, low, first)) r.1), all_live (k + 1) ids (omega arith) r.2)
+
+  all_theirs : (least : ℕ) (ids : List ℕ) → 1 ≤ least → AreRising least (length parities) ids → AllByRecursion (Contains parities) (numbered parities ids)
+  all_theirs least [] low r = tt
+  all_theirs least (k ∷ ids) low r =
+      let first = r.0 in
+      let high = r.1 in
+      let less : k - 1 < length parities = omega (arith, low, first, high) in
+      ((k - 1, less, get_any parities (k - 1) less), all_theirs (k + 1) ids (omega arith) r.2)
+    where
+      get_any : (xs : List (List Literal)) (i : ℕ) → i < length xs → get_or xs i (get_or xs i []) ≡ get_or xs i []
+      get_any [] i less = absurd (omega (arith, less))
+      get_any (x ∷ xs) zero less = refl
+      get_any (x ∷ xs) (suc i) less = get_any xs i (omega (arith, less))
+
+pub few_parities : (constraints : List Constraint) → length (parities_of constraints) ≤ length constraints
+unfolding parities_of
+few_parities [] = omega arith
+few_parities (constraint.Clause lits ∷ cs) = let rec = few_parities cs in omega (arith, rec)
+few_parities (constraint.Parity lits ∷ cs) = let rec = few_parities cs in omega (arith, rec)
+
+-- ---- events
+take_none : (i : ℕ) → take i (let none : List LogEvent = [] in none) ≡ []
+take_none zero = refl
+take_none (suc i) = refl
+
+pub all_told_are : (more : List LogEvent) (s : Search) (told_ : Option (List LogEvent)) → AreTold told_ s.events → AreTold (with_events more told_) (all_told s more).events
+all_told_are [] s told_ a = subst (λ o. AreTold o s.events) (sym (no_more told_)) a
+all_told_are (event ∷ more) s told_ a =
+    subst (λ o. AreTold o (all_told s (event ∷ more)).events) (more_and_more (event ∷ []) more told_) (all_told_are more (told s event) (with_events (event ∷ []) told_) (one told_ a))
+  where
+    one : (o : Option (List LogEvent)) → AreTold o s.events → AreTold (with_events (event ∷ []) o) (s.events ++ event ∷ [])
+    one None h = tt
+    one (Some es) h = ap (λ xs. xs ++ event ∷ []) h
+
+pub is_left : (formula : Problem) (parities : List (List Literal)) (s : Search) (told_ : Option (List LogEvent)) → IsSearch formula parities s → s.moment.awaits ≡ false → AreTold told_ s.events → IsLeft formula told_
+is_left formula parities s None ok served a = tt
+is_left formula parities s (Some es) ok served a = subst (λ xs. IsLeft formula (Some xs)) (sym a) (inl (is_log_open formula parities s ok served))
+
+-- ---- a row is told
+module _ (formula : Problem) (c : SearchState) (e : State) (rows : List (List Literal)) (s : Search) (ok : IsSearch formula (parities_of formula.constraints) s) (t : Ties formula c e rows s)
+    (r : ReasonOf) (x : Explains (parities_of formula.constraints) c.trail r) (back_parity : literals (integers_of r.parity) ≡ r.parity) (back_clause : literals (integers_of r.clause) ≡ r.clause) where
+  abbrev theirs : List (List Literal)
+  theirs = parities_of formula.constraints
+
+  abbrev k : ℕ
+  k = length formula.constraints + 1
+
+  abbrev n : ℕ
+  n = first_row_id + length rows
+
+  abbrev rs : List ℤ
+  rs = integers_of r.parity
+
+  abbrev zs : List ℤ
+  zs = integers_of r.clause
+
+  abbrev steps : List LogEvent
+  steps = row_events k rs r.sources n zs
+
+  high : length theirs < k
+  high = let few = few_parities formula.constraints in omega (arith, few)
+
+  form_within : (v : ℕ) → set.contains x.form.variables v ≡ true → (1 ≤ v) × (v ≤ formula.variables)
+  form_within v h = assigned_within c.trail formula.variables v t.follows.sound t.variables (x.assigned v (low_form x.form r.parity x.written v h) h)
+
+  parity_within : AreWithin formula.variables r.parity
+  parity_within = within_by formula.variables r.parity (λ l h. form_within l.variable (has_written x.form r.parity x.written l h))
+
+  clause_within : AreWithin formula.variables r.clause
+  clause_within = within_by formula.variables r.clause (λ l h. form_within l.variable (in_form x.form r.clause x.one_of_each l h))
+
+  names_same : named s.moment.tables.parities r.sources ≡ numbered theirs r.sources
+  names_same = named_are s.moment.tables.parities theirs t.numbered 1 r.sources (omega arith) x.numbers
+
+  normal : normal_form (literals rs) ≡ x.form
+  normal = ap normal_form back_parity ∙ x.written.normal
+
+  row_added : IsAddition formula s.moment.tables.parities k rs
+  row_added = record { within = variables_are_within formula.variables r.parity parity_within; free = t.sums k high }
+
+  row_is : IsRowOf theirs s.moment.tables r.sources (literals rs)
+  row_is = record {
+    live = all_live s.moment.tables.parities theirs t.numbered 1 r.sources (omega arith) x.numbers;
+    theirs = subst (AllByRecursion (Contains theirs)) (sym names_same) (all_theirs s.moment.tables.parities theirs t.numbered 1 r.sources (omega arith) x.numbers);
+    sums = normal ∙ x.sums ∙ ap (λ ps. sum_of (map normal_form ps)) (sym names_same);
+  }
+
+  pub clause_added : IsAddition formula s.moment.tables.clauses n zs
+  clause_added = record {
+    within = variables_are_within formula.variables r.clause clause_within;
+    free = row_next_is_free formula first_row_id c.next (first_row_id + length rows) s t.ranged (omega arith);
+  }
+
+  pub clause_is : IsClauseOfRow formula.variables (literals rs) (literals zs)
+  clause_is = record {
+    within = subst (AreWithin formula.variables) (sym back_clause) clause_within;
+    one_of_each = subst (HasOneOfEach (normal_form (literals rs)).variables) (sym back_clause) (subst (λ f. HasOneOfEach f.variables r.clause) (sym normal) x.one_of_each);
+    implied = λ values h. ap (clause_met values) back_clause ∙ x.follows values (ap (parity_met values) (sym back_parity) ∙ h);
+  }
+
+  abbrev after_sum : Search
+  after_sum = told s (Step (Parity k rs r.sources))
+
+  pub sum_told : IsSearch formula theirs after_sum
+  sum_told = sum_keeps formula theirs s ok k rs r.sources row_added row_is
+
+  pub sum_is : get after_sum.moment.tables.parities k ≡ Some (literals rs)
+  sum_is = put_same s.moment.tables.parities k (literals rs)
+
+  module _ (some : is_empty zs ≡ false) where
+    reason_is : IsRowReason formula theirs s k rs r.sources n zs
+    reason_is = record { high = high; row_step = row_added; row = row_is; clause_step = clause_added; clause = clause_is; goes_on = some }
+
+    told_is_search : IsSearch formula theirs (all_told s steps)
+    told_is_search = row_reason_keeps formula theirs s k rs r.sources n zs reason_is ok
+
+    clause_told : IsSearch formula theirs (told after_sum (Step (ClauseOfParity n zs k)))
+    clause_told = row_clause_keeps formula theirs after_sum sum_told n zs k (literals rs) clause_added sum_is
+        (row_is_of_parities formula.variables theirs s.moment.tables r.sources (literals rs) (literals zs) row_is clause_is) clause_is some
+
+    -- each front of the steps leaves the log open
+    pub fronts_are_left : (told_ : Option (List LogEvent)) → AreTold told_ s.events → (i : ℕ) → IsLeft formula (with_events (take i steps) told_)
+    fronts_are_left told_ a zero = is_left formula theirs s (with_events [] told_) ok t.served.served (all_told_are [] s told_ a)
+    fronts_are_left told_ a (suc zero) =
+        is_left formula theirs after_sum (with_events (take 1 steps) told_) sum_told t.served.served (all_told_are (take 1 steps) s told_ a)
+    fronts_are_left told_ a (suc (suc zero)) =
+        is_left formula theirs (all_told s (take 2 steps)) (with_events (take 2 steps) told_) clause_told t.served.served (all_told_are (take 2 steps) s told_ a)
+    fronts_are_left told_ a (suc (suc (suc i))) = subst (λ more. IsLeft formula (with_events (Step (Parity k rs r.sources) ∷ Step (ClauseOfParity n zs k) ∷ Step (DeleteParity k []) ∷ more) told_)) (sym (take_none i))
+        (is_left formula theirs (all_told s steps) (with_events steps told_) told_is_search t.served.served (all_told_are steps s told_ a))
+
+    numbered_still : AreNumbered (all_told s steps).moment.tables.parities theirs
+    numbered_still m low few =
+        let above = high in
+        let other : m ≢ k = λ same. omega (arith, same, few, above) in
+        drop_other (map_.insert s.moment.tables.parities k (literals rs)) k m other ∙ put_other s.moment.tables.parities k m (literals rs) other ∙ t.numbered m low few
+
+    rows_more : AreRows (all_told s steps).moment.tables.clauses (rows ++ r.clause ∷ [])
+    rows_more i less = elim (Rattle.std.proofs.lemmas.Bool.cases_lt i (length rows)) [
+      | inl old ↦
+          put_other s.moment.tables.clauses n (first_row_id + i) (literals zs) (λ same. omega (arith, same, old)) ∙ t.rows_told i old ∙ ap Some (sym (get_or-append rows (r.clause ∷ []) [] i old))
+      | inr new ↦
+          let long = length-append rows (r.clause ∷ []) in
+          let last : i ≡ length rows = omega (arith, long, less, new) in
+          ap (λ j. get (map_.insert s.moment.tables.clauses n (literals zs)) (first_row_id + j)) last ∙ put_same s.moment.tables.clauses n (literals zs) ∙ ap Some (back_clause ∙ sym (get_or-append_seam rows r.clause [] []))
+          ∙ ap (λ j. Some (get_or (rows ++ r.clause ∷ []) j [])) (sym last)
+    ]
+
+    one_longer : length (rows ++ r.clause ∷ []) ≡ suc (length rows)
+    one_longer = let long = length-append rows (r.clause ∷ []) in omega (arith, long)
+
+    served_still : HasOnlyRowClauses (all_told s steps) (length (rows ++ r.clause ∷ []))
+    served_still = record {
+      served = t.served.served;
+      old_clauses = t.served.old_clauses;
+      new_clauses = ap (λ ids. n ∷ ids) t.served.new_clauses ∙ ap row_ids (sym one_longer);
+      old_sums = row_reason_old_sums formula theirs s k rs r.sources n zs reason_is t.served.old_sums;
+      new_sums = row_reason_sums formula theirs s k rs r.sources n zs reason_is t.served.new_sums;
+    }
+
+    ties_still : Ties formula c e (rows ++ r.clause ∷ []) (all_told s steps)
+    ties_still = record {
+      follows = t.follows;
+      variables = t.variables;
+      ranged = subst (λ m. Rattle.search_steps.specs.Ids.IsRanged formula first_row_id c.next m s.trail (all_told s steps).moment) (let long = one_longer in omega (arith, long))
+          (row_reason_ranged formula first_row_id c.next (first_row_id + length rows) s k rs r.sources n zs (omega arith) (omega arith) t.ranged);
+      sums = row_reason_frees_sum (length theirs) s k rs r.sources n zs t.sums;
+      numbered = numbered_still;
+      clauses = clauses_stay s.moment.tables.clauses (all_told s steps).moment.tables.clauses c s.trail (put_answers_below first_row_id n s.moment.tables.clauses (literals zs) (omega arith)) t.clauses;
+      rows_told = rows_more;
+      units = units_stay s.moment.tables.clauses (all_told s steps).moment.tables.clauses c.trail s.trail c.units.items (put_answers_below first_row_id n s.moment.tables.clauses (literals zs) (omega arith)) t.units;
+      engine = t.engine;
+      fed = t.fed;
+      reasons = t.reasons;
+      fits = t.fits;
+      stand = t.stand;
+      phases = t.phases;
+      conflicts = t.conflicts;
+      levels = t.levels;
+      served = served_still;
+    }
+
+    pub stands_still : (told_ : Option (List LogEvent)) → AreTold told_ s.events → SearchStands formula c e (rows ++ r.clause ∷ []) (with_events steps told_)
+    stands_still told_ a = (all_told s steps, told_is_search, all_told_are steps s told_ a, ties_still)
+
+-- ---- what a telling leaves
+rising_ids : (least few : ℕ) (ids : List ℕ) → 1 ≤ least → few ≤ 9223372036854775807 → AreRising least few ids → AllByRecursion Rattle.cdcl_search.specs.Tells.IsId ids
+rising_ids least few [] low top r = tt
+rising_ids least few (i ∷ ids) low top r =
+    let first = r.0 in
+    let last = r.1 in
+    ((omega (arith, low, first), omega (arith, top, last)), rising_ids (i + 1) few ids (omega arith) top r.2)
+
+pub sources_are_ids : (constraints : List Constraint) (ids : List ℕ) → length constraints < 500000000000000000 → AreRising 1 (length (parities_of constraints)) ids → AllByRecursion Rattle.cdcl_search.specs.Tells.IsId ids
+sources_are_ids constraints ids small r = let few = few_parities constraints in rising_ids 1 (length (parities_of constraints)) ids (omega arith) (omega (arith, few, small)) r
+
+not_empty : (lits : List Literal) → lits ≢ [] → is_empty (integers_of lits) ≡ false
+not_empty [] h = absurd (h refl)
+not_empty (l ∷ lits) h = refl
+
+module _ (formula : Problem) (c : SearchState) (e : State) (rows : List (List Literal)) (old : Option (List LogEvent)) (st : SearchStands formula c e rows old) where
+  pub left_now : IsLeft formula old
+  left_now = is_left formula (parities_of formula.constraints) st.0 old st.1 st.3.served.served st.2
+
+  module _ (r : ReasonOf) (x : Explains (parities_of formula.constraints) c.trail r) (back_parity : literals (integers_of r.parity) ≡ r.parity) (back_clause : literals (integers_of r.clause) ≡ r.clause) (some : r.clause ≢ [])
+      (events : List LogEvent) (seen : List (List Literal)) (same : seen ≡ rows) (are_ : events ≡ row_events (length formula.constraints + 1) (integers_of r.parity) r.sources (first_row_id + length seen) (integers_of r.clause)) where
+    are : events ≡ row_events (length formula.constraints + 1) (integers_of r.parity) r.sources (first_row_id + length rows) (integers_of r.clause)
+    are = subst (λ xs. events ≡ row_events (length formula.constraints + 1) (integers_of r.parity) r.sources (first_row_id + length xs) (integers_of r.clause)) same are_
+
+    pub stands_then : (new : Option (List LogEvent)) → new ≡ with_events events old → SearchStands formula c e (rows ++ r.clause ∷ []) new
+    stands_then new is = subst (SearchStands formula c e (rows ++ r.clause ∷ [])) (sym (is ∙ ap (λ es. with_events es old) are))
+        (stands_still formula c e rows st.0 st.1 st.3 r x back_parity back_clause (not_empty r.clause some) old st.2)
+
+    pub left_then : (new : Option (List LogEvent)) → new ≡ with_events events old → IsLeft formula new
+    left_then new is = subst (IsLeft formula) (sym (is ∙ ap (λ es. with_events es old) are)) (fronts_are_left formula c e rows st.0 st.1 st.3 r x back_parity back_clause (not_empty r.clause some) old st.2 3)
+
+    pub gives_up_then : (torn : LogEvent → Type 0) (new : Option (List LogEvent)) (fault : CoreFault) → TellsAll {T = Unit {0}} torn events old (Err fault) new → GivesUp formula torn new fault
+    gives_up_then torn new fault tells = gives_up formula torn events old new fault tells (λ i less.
+        subst (λ es. IsLeft formula (with_events (take i es) old)) (sym are) (fronts_are_left formula c e rows st.0 st.1 st.3 r x back_parity back_clause (not_empty r.clause some) old st.2 i))
+
+pub memory_is_left : {T : Type 0} (formula : Problem) (torn : LogEvent → Type 0) (told_ : Option (List LogEvent)) (r : Result T CoreFault) → (fault : CoreFault) → r ≡ Err fault → fault ≡ Memory → IsLeft formula told_ → IfErr r (λ e. GivesUp formula torn told_ e)
+memory_is_left formula torn told_ r fault is f left = subst (λ o. IfErr o (λ e. GivesUp formula torn told_ e)) (sym (is ∙ ap Err f)) left
+
+pub fault_is_left : {T : Type 0} (formula : Problem) (torn : LogEvent → Type 0) (told_ : Option (List LogEvent)) (r : Result T CoreFault) → (fault was : CoreFault) → r ≡ Err fault → fault ≡ was → GivesUp formula torn told_ was → IfErr r (λ e. GivesUp formula torn told_ e)
+fault_is_left formula torn told_ r fault was is f left = subst (λ o. IfErr o (λ e. GivesUp formula torn told_ e)) (sym (is ∙ ap Err f)) left

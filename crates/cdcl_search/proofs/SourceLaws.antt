@@ -1,0 +1,100 @@
+-- The clauses of a source implied the literals.
+use Rattle.std.proofs.Common.{◌≡◌, sym, ap, ◌∙◌, subst, ℕ, ◌+◌, ◌<◌, ◌≤◌, List, [], ◌∷◌, ◌++◌, length, Contains, arith, inl, inr, length-append, length-take, zero, suc, get_or, Some}
+use Rattle.std.proofs.Math.ListN.{get_or-append}
+use Rattle.cx_base.specs.Literals.{Literal, negate, same_literal}
+use Rattle.cx_base.proofs.LiteralLaws.{negate-negate}
+use Rattle.cx_base.specs.Problem.{Problem}
+use Rattle.cx_semantics.specs.Chain.{has_literal}
+use Rattle.cx_semantics.proofs.ChainLaws.{same_literal-itself}
+use Rattle.cx_trail.specs.declared.entry.Reason.{Reason}
+use Rattle.cx_trail.specs.declared.entry.Reason.TheVariants as reason
+use Rattle.cx_trail.specs.Sequence.{TrailState, IsTrail, entry_at}
+use Rattle.clause_arena.specs.Clauses.{IsLive, literals_at}
+use Rattle.conflict_learn.specs.Learning.{IsAntecedent, HasReason, literal_at}
+use Rattle.parity_engine.specs.State.{State}
+use Rattle.search_steps.proofs.Sets.{not_both}
+use Rattle.search_steps.proofs.Stored.{has_of, of_has}
+use Rattle.search_steps.specs.Search.{Search}
+use Rattle.search_steps.specs.Tied.{IsLiveSet}
+use Rattle.search_steps.proofs.Reasons.{live_is_live_set}
+use Rattle.cdcl_search.specs.declared.state.SearchState.{SearchState}
+use Rattle.cdcl_search.specs.Ties.{HaveReasons, HasReasonAt, IsClauseReasonAt, Ties, first_row_id}
+use Rattle.cdcl_search.specs.Explaining.{IsReasonOf}
+use Rattle.std.specs.Prelude.{Result, Ok, Err, IfOk, OnErr}
+use Rattle.cdcl_search.specs.Sources.{IsSourced}
+use Rattle.cdcl_search.proofs.RowReasons.{entry_taken}
+
+module _ (t : TrailState) (sound : IsTrail t) (l : Literal) (place : ℕ) (less : place < length t.entries) (at : (entry_at t.entries place).literal ≡ negate (negate l)) where
+  pub here : (entry_at t.entries place).literal ≡ l
+  here = at ∙ negate-negate l
+
+  pub only_place : (p : ℕ) → p < length t.entries → literal_at t p ≡ l → place ≡ p
+  only_place p low is = sound.distinct place p less low (ap (λ m. m.variable) (here ∙ sym is))
+
+  pub reason_is : (why : Reason) → HasReason t l why → (entry_at t.entries place).reason ≡ why
+  reason_is why h = ap (λ p. (entry_at t.entries p).reason) (only_place h.0 h.1 h.2) ∙ h.3
+
+module _ (c : SearchState) (e : State) (have : HaveReasons c e) (sound : IsTrail c.trail) (l : Literal) (place : ℕ) (less : place < length c.trail.entries) (at : (entry_at c.trail.entries place).literal ≡ negate (negate l)) (high : length c.units.items ≤ place) where
+  why_at : (why : Reason) → HasReason c.trail l why → HasReasonAt c e place why
+  why_at why h = subst (HasReasonAt c e place) (reason_is c.trail sound l place less at why h) (have place high less)
+
+  pub row_is_reason : (row : ℕ) → HasReason c.trail l (reason.Row row) → IsReasonOf e c.trail.entries l row
+  row_is_reason row h = (place, (less, here c.trail sound l place less at), why_at (reason.Row row) h)
+
+  pub clause_is_live : (r : ℕ) → HasReason c.trail l (reason.Clause r) → IsLive c.arena r
+  clause_is_live r h = let why : IsClauseReasonAt c place r = why_at (reason.Clause r) h in why.live
+
+  pub clause_is_antecedent : (r : ℕ) → HasReason c.trail l (reason.Clause r) → (clause : List Literal) → clause ≡ literals_at c.arena r → IsAntecedent c.trail l clause
+  clause_is_antecedent r h clause is = subst (IsAntecedent c.trail l) (sym is) (λ p low same.
+      let why : IsClauseReasonAt c place r = why_at (reason.Clause r) h in
+      let one = only_place c.trail sound l place less at p low same in
+      let is_l = here c.trail sound l place less at in
+      record {
+        has_it = ap (has_literal (literals_at c.arena r)) (same ∙ sym is_l) ∙ has_of (literals_at c.arena r) (entry_at c.trail.entries place).literal why.has;
+        others_false = λ m has apart.
+            let f = why.others m (of_has (literals_at c.arena r) m has) (λ e. not_both (same_literal l m) (ap (same_literal l) (e ∙ is_l) ∙ same_literal-itself l) (ap (λ x. same_literal x m) (sym same) ∙ apart)) in
+            let few = length-take place c.trail.entries in
+            let short = f.1.0 in
+            (f.0, omega (arith, few, short, one), ap (λ x. x.literal) (sym (entry_taken c.trail.entries place f.0 f.1.0)) ∙ f.1.1);
+      })
+
+-- ---- what is sourced
+pub stored_is_sourced : (c : SearchState) (r : ℕ) → IsLive c.arena r → (rows : List (List Literal)) (clause : List Literal) → clause ≡ literals_at c.arena r → IsSourced c rows clause
+stored_is_sourced c r live rows clause is = inl (r, live, is)
+
+pub stays_in : (xs : List (List Literal)) (y x : List Literal) → Contains xs x → Contains (xs ++ y ∷ []) x
+stays_in xs y x (k, less, e) = (k, let long = length-append xs (y ∷ []) in omega (arith, long, less), get_or-append xs (y ∷ []) x k less ∙ e)
+
+pub last_in : (xs : List (List Literal)) (y : List Literal) → Contains (xs ++ y ∷ []) y
+last_in xs y = (length xs, let long = length-append xs (y ∷ []) in omega (arith, long), Rattle.std.proofs.Math.Seq.get_or-append_seam xs y [] y)
+
+pub sourced_stays : (c : SearchState) (rows : List (List Literal)) (y clause : List Literal) → IsSourced c rows clause → IsSourced c (rows ++ y ∷ []) clause
+sourced_stays c rows y clause (inl a) = inl a
+sourced_stays c rows y clause (inr (inl u)) = inr (inl u)
+sourced_stays c rows y clause (inr (inr k)) = inr (inr (stays_in rows y clause k))
+
+-- ---- the source's clauses are live
+row_at : (xs : List (List Literal)) (x : List Literal) (h : Contains xs x) → get_or xs h.0 [] ≡ x
+row_at [] x (n, less, is) = absurd (omega (arith, less))
+row_at (y ∷ xs) x (zero, less, is) = is
+row_at (y ∷ xs) x (suc n, less, is) = row_at xs x (n, omega (arith, less), is)
+
+pub sourced_is_live : (formula : Problem) (c : SearchState) (e : State) (rows : List (List Literal)) (s : Search) → Ties formula c e rows s → (clause : List Literal) → IsSourced c rows clause → IsLiveSet s.moment.tables.clauses clause
+sourced_is_live formula c e rows s t clause (inl (r, live, is)) =
+    let named = (t.clauses.stored r live).named in
+    subst (IsLiveSet s.moment.tables.clauses) (sym is) (named.clause, (_, named.live), named.same)
+sourced_is_live formula c e rows s t clause (inr (inl (i, less, is))) =
+    let named = t.units.named i less in
+    subst (IsLiveSet s.moment.tables.clauses) (sym is) (named.clause, (_, named.live), named.same)
+sourced_is_live formula c e rows s t clause (inr (inr h)) =
+    live_is_live_set s.moment.tables.clauses clause (first_row_id + h.0, t.rows_told h.0 h.1 ∙ ap Some (row_at rows clause h))
+
+-- ---- rows that grew by one, or are as before
+module _ {T : Type 0} (c : SearchState) (old new : List (List Literal)) (lits : T → List Literal) where
+  pub last_is_sourced : {E : Type 0} (r : Result T E) → IfOk r (λ x. new ≡ old ++ lits x ∷ []) → IfOk r (λ x. IsSourced c new (lits x))
+  last_is_sourced (Ok x) h = inr (inr (subst (λ xs. Contains xs (lits x)) (sym h) (last_in old (lits x))))
+  last_is_sourced (Err e) h = tt
+
+  pub sourced_grows : {E : Type 0} (r : Result T E) → IfOk r (λ x. new ≡ old ++ lits x ∷ []) → OnErr r (new ≡ old) → (clause : List Literal) → IsSourced c old clause → IsSourced c new clause
+  sourced_grows (Ok x) h k clause is = subst (λ xs. IsSourced c xs clause) (sym h) (sourced_stays c old (lits x) clause is)
+  sourced_grows (Err e) h k clause is = subst (λ xs. IsSourced c xs clause) (sym k) is

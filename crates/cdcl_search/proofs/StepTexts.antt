@@ -1,0 +1,71 @@
+-- A text can have each step that the search tells.
+use Rattle.std.proofs.Common.{◌≢◌, ◌≤◌, ◌<◌, ℕ, ℤ, pos, nat_abs, List, [], ◌∷◌, map, flat_map, arith}
+use Rattle.std.specs.List.{AllByRecursion}
+use Rattle.cx_base.specs.Numbers.{AreStepIntegers}
+use Rattle.cx_base.proofs.Elements.{all_append, integers_are_proper}
+use Rattle.cx_semantics.specs.declared.steps.LogStep.{LogStep}
+use Rattle.cx_semantics.specs.declared.steps.LogStep.TheVariants as step
+use Rattle.cx_semantics.specs.declared.steps.LogEvent.TheVariants.{Step}
+use Rattle.cx_semantics.specs.Grammar.{Field, spelled, spelled_list, IsProper}
+use Rattle.cx_semantics.specs.LogText.{log_fields}
+use Rattle.cx_semantics.specs.Printed.{HasText}
+use Rattle.cx_semantics.specs.Words.{Word, number, IsWithin}
+use Rattle.cdcl_search.specs.Tells.{IsId}
+
+abbrev AreWords : List Word → Type 0
+AreWords ws = AllByRecursion (IsWithin 9223372036854775807) ws
+
+zero_within : nat_abs (pos 0) ≤ 9223372036854775807
+zero_within = omega arith
+
+-- ---- integers and ids
+
+integer_words : (zs : List ℤ) → AreStepIntegers zs → AreWords (map number zs)
+integer_words [] a = tt
+integer_words (z ∷ zs) a = (a.0.1, integer_words zs a.1)
+
+pub integers_within : (zs : List ℤ) → AreStepIntegers zs → AreWords (spelled_list zs)
+integers_within zs a = all_append (IsWithin 9223372036854775807) (map number zs) (number (pos 0) ∷ []) (integer_words zs a) (zero_within, tt)
+
+pub ids_are_proper : (ns : List ℕ) → AllByRecursion IsId ns → AllByRecursion (λ n. 0 < n) ns
+ids_are_proper [] a = tt
+ids_are_proper (n ∷ ns) a = (let low = a.0.0 in omega (arith, low), ids_are_proper ns a.1)
+
+id_words : (ns : List ℕ) → AllByRecursion IsId ns → AreWords (map number (map pos ns))
+id_words [] a = tt
+id_words (n ∷ ns) a = (a.0.1, id_words ns a.1)
+
+pub ids_within : (ns : List ℕ) → AllByRecursion IsId ns → AreWords (spelled_list (map pos ns))
+ids_within ns a = all_append (IsWithin 9223372036854775807) (map number (map pos ns)) (number (pos 0) ∷ []) (id_words ns a) (zero_within, tt)
+
+-- ---- steps
+fields_within : (fs : List Field) → AllByRecursion (λ f. AreWords (spelled f)) fs → AreWords (flat_map spelled fs)
+fields_within [] a = tt
+fields_within (f ∷ fs) a = all_append (IsWithin 9223372036854775807) (spelled f) (flat_map spelled fs) a.0 (fields_within fs a.1)
+
+has_text : (s : LogStep) → AllByRecursion IsProper (log_fields s) → AllByRecursion (λ f. AreWords (spelled f)) (log_fields s) → HasText (Step s)
+has_text s proper within = (proper, fields_within (log_fields s) within)
+
+positive : (n : ℕ) → IsId n → 0 < n
+positive n i = let low = i.0 in omega (arith, low)
+
+pub original_text : (n : ℕ) (zs : List ℤ) → IsId n → AreStepIntegers zs → HasText (Step (step.Original n zs))
+original_text n zs i a = has_text (step.Original n zs) (tt, (positive n i, (integers_are_proper zs a, tt))) ((tt, tt), ((i.1, tt), (integers_within zs a, tt)))
+
+pub original_parity_text : (n : ℕ) (zs : List ℤ) → IsId n → AreStepIntegers zs → HasText (Step (step.OriginalParity n zs))
+original_parity_text n zs i a = has_text (step.OriginalParity n zs) (tt, (tt, (positive n i, (integers_are_proper zs a, tt)))) ((tt, tt), ((tt, tt), ((i.1, tt), (integers_within zs a, tt))))
+
+pub chained_text : (n : ℕ) (zs hints : List ℤ) → IsId n → AreStepIntegers zs → AreStepIntegers hints → HasText (Step (step.ClauseWithHints n zs hints))
+chained_text n zs hints i a b = has_text (step.ClauseWithHints n zs hints)
+    (tt, (positive n i, (integers_are_proper zs a, (tt, (integers_are_proper hints b, tt)))))
+    ((tt, tt), ((i.1, tt), (integers_within zs a, ((tt, tt), (integers_within hints b, tt)))))
+
+pub sum_text : (n : ℕ) (zs : List ℤ) (ns : List ℕ) → IsId n → AreStepIntegers zs → AllByRecursion IsId ns → HasText (Step (step.Parity n zs ns))
+sum_text n zs ns i a b = has_text (step.Parity n zs ns)
+    (tt, (tt, (positive n i, (integers_are_proper zs a, (tt, (ids_are_proper ns b, tt))))))
+    ((tt, tt), ((tt, tt), ((i.1, tt), (integers_within zs a, ((tt, tt), (ids_within ns b, tt))))))
+
+pub clause_of_sum_text : (n : ℕ) (zs : List ℤ) (k : ℕ) → IsId n → AreStepIntegers zs → IsId k → HasText (Step (step.ClauseOfParity n zs k))
+clause_of_sum_text n zs k i a j = has_text (step.ClauseOfParity n zs k)
+    (tt, (positive n i, (integers_are_proper zs a, (tt, (positive k j, (tt, tt))))))
+    ((tt, tt), ((i.1, tt), (integers_within zs a, ((tt, tt), ((j.1, tt), ((zero_within, tt), tt))))))

@@ -1,0 +1,131 @@
+-- What implied the next literal of level 0, and what telling its unit clause leaves.
+use Rattle.std.proofs.Common.{◌≡◌, refl, sym, ap, ◌∙◌, subst, ℕ, zero, suc, ◌+◌, ◌<◌, ◌≤◌, ℤ, true, List, [], ◌∷◌, ◌++◌, length, take, get_or, Option, Some, None, Err, arith, length-take}
+use Rattle.std.specs.Prelude.{slice_index_or}
+use Rattle.std.specs.List.{All}
+use Rattle.std.specs.Global.{Vec}
+use Rattle.std.proofs.lemmas.Bool.{and_parts}
+use Rattle.cx_base.specs.Literals.{Literal, negate, same_literal}
+use Rattle.cx_base.specs.Problem.{Problem, parities_of}
+use Rattle.cx_semantics.specs.declared.steps.LogStep.{LogStep}
+use Rattle.cx_semantics.specs.declared.steps.LogStep.TheVariants.{ClauseWithHints}
+use Rattle.cx_semantics.specs.declared.steps.LogEvent.{LogEvent}
+use Rattle.cx_semantics.specs.declared.steps.LogEvent.TheVariants.{Step}
+use Rattle.cx_semantics.specs.Chain.{has_literal, is_inside, same_literals}
+use Rattle.cx_semantics.specs.Integers.{integers_of, literals}
+use Rattle.cx_semantics.proofs.Closure.{has_by_inside}
+use Rattle.cx_trail.specs.Sequence.{TrailState, IsTrail, IsTrueIn, entry_at}
+use Rattle.conflict_learn.specs.Learning.{IsAntecedent}
+use Rattle.conflict_learn.specs.declared.fault.CoreFault.{CoreFault}
+use Rattle.conflict_learn.proofs.ChainOfResolutions.{by_cases}
+use Rattle.parity_engine.specs.State.{State}
+use Rattle.search_steps.specs.Holding.{AreTold}
+use Rattle.search_steps.specs.Search.{Search, IsSearch}
+use Rattle.search_steps.specs.Tied.{IsLiveSet, ForcesOn}
+use Rattle.search_steps.proofs.StartLaws.{literals_are}
+use Rattle.cdcl_search.specs.declared.state.SearchState.{SearchState}
+use Rattle.cdcl_search.specs.Tells.{TellsAll, GivesUp, IsLeft, with_events}
+use Rattle.cdcl_search.specs.Ties.{SearchStands, first_row_id}
+use Rattle.cdcl_search.specs.Units.{IsNextUnit, HasOther}
+use Rattle.cdcl_search.proofs.Events.{no_more, gives_up}
+use Rattle.cdcl_search.proofs.RowReasons.{entry_taken}
+use Rattle.cdcl_search.proofs.RowSteps.{is_left}
+use Rattle.cdcl_search.proofs.UnitTies.{unit_is_search, unit_ties, after_unit, with_unit, l_within}
+use Rattle.cdcl_search.proofs.SourceLaws.{sourced_is_live}
+use Rattle.cdcl_search.specs.Finds.{PropagationFinds, HasAll}
+use Rattle.cdcl_search.specs.declared.propagation.Found.{Found}
+use Rattle.cdcl_search.specs.declared.propagation.Found.TheVariants as found
+
+-- ---- the clause that implied a literal forces it there
+pub implied_forces : (t : TrailState) (l : Literal) (lits clause : List Literal) (place : ℕ) → place < length t.entries → (entry_at t.entries place).literal ≡ l → IsAntecedent t l lits → same_literals lits clause ≡ true
+    → ForcesOn (take place t.entries) clause l
+implied_forces t l lits clause place less here implied same = record {
+  has_it = has_by_inside lits clause l inside.0 (ap (has_literal lits) (sym here) ∙ by.has_it);
+  others_false = λ m has apart.
+      let f = by.others_false m (has_by_inside clause lits m inside.1 has) (ap (λ x. same_literal x m) here ∙ apart) in
+      let low = f.1 in
+      let many = length-take place t.entries in
+      let long : f.0 < length (take place t.entries) = omega (arith, many, low, less) in
+      (f.0, (long, ap (λ x. x.literal) (entry_taken t.entries place f.0 long) ∙ f.2));
+}
+  where
+    by : Rattle.conflict_learn.specs.Learning.Implied t place lits
+    by = implied place less here
+
+    inside : (is_inside lits clause ≡ true) × (is_inside clause lits ≡ true)
+    inside = and_parts (is_inside lits clause) (is_inside clause lits) same
+
+all_have : (P : Literal → Type 0) (lits : List Literal) → ((m : Literal) → has_literal lits m ≡ true → P m) → All P lits
+all_have P lits h k d less = h (slice_index_or lits k d) (Rattle.search_steps.proofs.Stored.has_of lits (slice_index_or lits k d) (k, less, there lits k less))
+  where
+    there : (xs : List Literal) (i : ℕ) → i < length xs → get_or xs i (slice_index_or xs i d) ≡ slice_index_or xs i d
+    there [] i less = absurd (omega (arith, less))
+    there (x ∷ xs) zero less = refl
+    there (x ∷ xs) (suc i) less = there xs i (omega (arith, less))
+
+module _ (t : TrailState) (sound : IsTrail t) where
+  true_is_low : (m : Literal) → IsTrueIn t.entries m → m.variable ≤ t.variables
+  true_is_low m (i, (less, at)) = let high = sound.high i less in let same = ap (λ x. x.variable) at in omega (arith, high, same)
+
+  pub false_are_low : (lits : List Literal) → ((m : Literal) → has_literal lits m ≡ true → IsTrueIn t.entries (negate m)) → All (λ m. m.variable ≤ t.variables) lits
+  false_are_low lits f = all_have (λ m. m.variable ≤ t.variables) lits (λ m has. true_is_low (negate m) (f m has))
+
+  pub implying_are_low : (l : Literal) (lits : List Literal) (place : ℕ) → place < length t.entries → (entry_at t.entries place).literal ≡ l → IsAntecedent t l lits → All (λ m. m.variable ≤ t.variables) lits
+  implying_are_low l lits place less here implied = all_have (λ m. m.variable ≤ t.variables) lits (λ m has.
+      by_cases (same_literal (entry_at t.entries place).literal m)
+      (λ same. true_is_low m (place, (less, Rattle.cx_semantics.proofs.ChainLaws.are_one (entry_at t.entries place).literal m same)))
+      (λ apart.
+      let f = (implied place less here).others_false m has apart in
+      let low = f.1 in
+      true_is_low (negate m) (f.0, (omega (arith, low, less), f.2))))
+
+-- ---- the unit clause is told
+module _ (formula : Problem) (c : SearchState) (e : State) (rows : List (List Literal)) (old : Option (List LogEvent)) (st : SearchStands formula c e rows old) where
+  module _ (level : c.trail.level ≡ 0) (l : Literal) (lits : List Literal) (is_next : IsNextUnit c rows l lits) (room : c.next < first_row_id) (hints : List ℤ) where
+    abbrev step : LogStep
+    step = ClauseWithHints c.next (integers_of (l ∷ [])) hints
+
+    back : literals (integers_of (l ∷ [])) ≡ l ∷ []
+    back = literals_are formula.variables (l ∷ []) (l_within formula c e rows st.0 st.1 st.3 l is_next.next.0 is_next.next.1)
+
+    live : IsLiveSet st.0.moment.tables.clauses lits
+    live = sourced_is_live formula c e rows st.0 st.3 lits is_next.sourced
+
+    forces : ForcesOn (take (length c.units.items) c.trail.entries) live.0 l
+    forces = implied_forces c.trail l lits live.0 (length c.units.items) is_next.next.0 is_next.next.1 is_next.implied live.2
+
+    abbrev after : Search
+    after = after_unit formula c e rows st.0 st.1 st.3 l is_next.next.0 is_next.next.1 hints
+
+    is_search : IsSearch formula (parities_of formula.constraints) after
+    is_search = unit_is_search formula c e rows st.0 st.1 st.3 l is_next.next.0 is_next.next.1 level live.0 live.1 forces room back hints
+
+    told_then : (o : Option (List LogEvent)) → AreTold o st.0.events → AreTold (with_events (Step step ∷ []) o) after.events
+    told_then None a = tt
+    told_then (Some es) a = ap (λ xs. xs ++ Step step ∷ []) a
+
+    pub left_then : (new : Option (List LogEvent)) → new ≡ with_events (Step step ∷ []) old → IsLeft formula new
+    left_then new same = subst (IsLeft formula) (sym same) (is_left formula (parities_of formula.constraints) after (with_events (Step step ∷ []) old) is_search refl (told_then old st.2))
+
+    pub stands_then : (new : Option (List LogEvent)) → new ≡ with_events (Step step ∷ []) old → (units : Vec ℕ) → units.items ≡ c.units.items ++ c.next ∷ [] → (next : ℕ) → next ≡ c.next + 1 → SearchStands formula (with_unit c units next) e rows new
+    stands_then new same units grown next next_is = (
+      after,
+      is_search,
+      subst (λ o. AreTold o after.events) (sym same) (told_then old st.2),
+      unit_ties formula c e rows st.0 st.1 st.3 l is_next.next.0 is_next.next.1 level live.0 live.1 forces room back hints units grown next next_is,
+    )
+
+    pub gives_up_then : (torn : LogEvent → Type 0) (new : Option (List LogEvent)) (fault : CoreFault) → TellsAll {T = Unit {0}} torn (Step step ∷ []) old (Err fault) new → GivesUp formula torn new fault
+    gives_up_then torn new fault tells = gives_up formula torn (Step step ∷ []) old new fault tells (λ i less. front i less)
+      where
+        front : (i : ℕ) → i < 1 → IsLeft formula (with_events (take i (Step step ∷ [])) old)
+        front zero less = subst (IsLeft formula) (sym (no_more old)) (is_left formula (parities_of formula.constraints) st.0 old st.1 st.3.served.served st.2)
+        front (suc i) less = absurd (omega (arith, less))
+
+-- ---- unit clauses change nothing that propagation found
+has_all_still : (old new : SearchState) → HasOther old new → HasAll old → HasAll new
+has_all_still old new same h = same.given ∙ h ∙ ap (λ (t : TrailState). length t.entries) (sym same.trail)
+
+pub finds_still : (old new : SearchState) (e : State) (f : Found) → HasOther old new → PropagationFinds old e f → PropagationFinds new e f
+finds_still old new e found.Quiet same h = (rw (same.watches, same.arena, same.trail) h.0, has_all_still old new same h.1, h.2, h.3)
+finds_still old new e (found.Clause r) same h = (rw same.watches h.0, rw (same.arena, same.trail) h.1, h.2)
+finds_still old new e (found.Row row) same h = (has_all_still old new same h.0, h.1)

@@ -1,0 +1,119 @@
+use Rattle.std.proofs.Common.{◌≡◌, refl, sym, ap, ◌∙◌, subst, [], length, arith}
+use Rattle.watch_lists.specs.Events.{Happens}
+use Rattle.watch_lists.specs.declared.event.Event.TheVariants.{Quiet}
+use Rattle.cdcl_search.specs.declared.state.SearchState.{SearchState}
+use Rattle.cdcl_search.specs.Finds.{HasAll, HasSameCounts}
+use Rattle.cdcl_search.proofs.Feeding.{trail_is_short}
+use Rattle.cdcl_search.proofs.propagation.propagate.Goals as goal
+
+-- what neither the clauses nor the rows change, nor the values that the engine is given
+same_by_all : (start before followed fed now : SearchState) → HasSameCounts start before → HasSameCounts before followed → fed ≡ record followed { given = length followed.trail.entries } → HasSameCounts fed now → HasSameCounts start now
+same_by_all start before followed fed now so_far clauses given rows = (
+  rows.0 ∙ ap (λ (k : SearchState). k.trail.level) given ∙ clauses.0 ∙ so_far.0,
+  rows.1 ∙ ap (λ (k : SearchState). k.units.items) given ∙ clauses.1 ∙ so_far.1,
+  rows.2 ∙ ap (λ (k : SearchState). k.conflicts) given ∙ clauses.2 ∙ so_far.2,
+  rows.3 ∙ ap (λ (k : SearchState). k.next) given ∙ clauses.3 ∙ so_far.3,
+)
+
+pub loop-reference-init : goal.loop-reference-init
+loop-reference-init g c = record { stands = λ told stands. stands; unbroken = c.requires.unbroken; same = (refl, refl, refl, refl); grows = omega arith }
+
+pub follow_clauses-requires : goal.follow_clauses-requires
+follow_clauses-requires g c = (c.loop-reference.invariant.stands c.requires.stands.0 c.requires.stands.1).3.fits
+
+pub returns-in-Conflict-clause-stands : goal.returns-in-Conflict-clause-stands
+returns-in-Conflict-clause-stands g c told stands = c.follow_clauses.ensures.stands c.args.formula.now (g.P.ParityEngine.state c.loop-reference.engine) told (c.loop-reference.invariant.stands told stands)
+
+pub returns-in-Conflict-clause-finds : goal.returns-in-Conflict-clause-finds
+returns-in-Conflict-clause-finds g c = (c.in-Conflict.ensures.happens.0, c.in-Conflict.ensures.happens.1, c.loop-reference.invariant.unbroken)
+
+pub returns-in-Conflict-clause-same : goal.returns-in-Conflict-clause-same
+returns-in-Conflict-clause-same g c =
+    let same = c.follow_clauses.ensures.same in
+    let before = c.loop-reference.invariant.same in
+    (same.0 ∙ before.0, same.1 ∙ before.1, same.2 ∙ before.2, same.3 ∙ before.3)
+
+pub returns-in-Conflict-clause-grows : goal.returns-in-Conflict-clause-grows
+returns-in-Conflict-clause-grows g c = let a = c.follow_clauses.ensures.grows in let b = c.loop-reference.invariant.grows in omega (arith, a, b)
+
+pub feed-requires-clause-stands : goal.feed-requires-clause-stands
+feed-requires-clause-stands g c =
+    (c.requires.stands.0, c.follow_clauses.ensures.stands c.args.formula.now (g.P.ParityEngine.state c.loop-reference.engine) c.requires.stands.0 (c.loop-reference.invariant.stands c.requires.stands.0 c.requires.stands.1))
+
+pub feed-requires-clause-unbroken : goal.feed-requires-clause-unbroken
+feed-requires-clause-unbroken g c = c.loop-reference.invariant.unbroken
+
+pub follow_rows-requires-clause-stands : goal.follow_rows-requires-clause-stands
+follow_rows-requires-clause-stands g c =
+    (c.requires.stands.0, c.feed.ensures.stands c.requires.stands.0 (c.follow_clauses.ensures.stands c.args.formula.now (g.P.ParityEngine.state c.loop-reference.engine) c.requires.stands.0 (c.loop-reference.invariant.stands c.requires.stands.0 c.requires.stands.1)))
+
+pub returns-in-Quiet-follow_rows-clause-stands : goal.returns-in-Quiet-follow_rows-clause-stands
+returns-in-Quiet-follow_rows-clause-stands g c told stands =
+    c.follow_rows.ensures.stands told (c.feed.ensures.stands told (c.follow_clauses.ensures.stands c.args.formula.now (g.P.ParityEngine.state c.loop-reference.engine) told (c.loop-reference.invariant.stands told stands)))
+
+pub returns-in-Quiet-follow_rows-clause-finds : goal.returns-in-Quiet-follow_rows-clause-finds
+returns-in-Quiet-follow_rows-clause-finds g c =
+    let says = c.in-Quiet-follow_rows.ensures.says in
+    let is = says.0 ∙ c.feed.ensures.given in
+    let quiet : Happens c.follow_rows.new.kept.watches.attached c.follow_rows.new.kept.arena c.follow_rows.new.kept.trail Quiet = subst (λ (k : SearchState). Happens k.watches.attached k.arena k.trail Quiet) (sym is) c.in-Quiet.ensures.happens in
+    let all : HasAll c.follow_rows.new.kept = subst HasAll (sym is) refl in
+    (quiet, all, says.1, says.2)
+
+pub returns-in-Quiet-follow_rows-clause-same : goal.returns-in-Quiet-follow_rows-clause-same
+returns-in-Quiet-follow_rows-clause-same g c =
+    same_by_all c.args.kept.now c.loop-reference.kept c.follow_clauses.new.kept c.feed.new.kept c.follow_rows.new.kept c.loop-reference.invariant.same c.follow_clauses.ensures.same c.feed.ensures.given c.follow_rows.ensures.same
+
+pub returns-in-Quiet-follow_rows-clause-grows : goal.returns-in-Quiet-follow_rows-clause-grows
+returns-in-Quiet-follow_rows-clause-grows g c =
+    let is = c.in-Quiet-follow_rows.ensures.says.0 ∙ c.feed.ensures.given in
+    let n = ap (λ (k : SearchState). length k.trail.entries) is in
+    let a = c.follow_clauses.ensures.grows in
+    let b = c.loop-reference.invariant.grows in
+    omega (arith, n, a, b)
+
+pub loop-reference-smaller : goal.loop-reference-smaller
+loop-reference-smaller g c =
+    let told = c.requires.stands.0 in
+    let stands = c.follow_rows.ensures.stands told (c.feed.ensures.stands told (c.follow_clauses.ensures.stands c.args.formula.now (g.P.ParityEngine.state c.loop-reference.engine) told (c.loop-reference.invariant.stands told c.requires.stands.1))) in
+    let short = trail_is_short c.args.formula.now c.follow_rows.new.kept (g.P.ParityEngine.state c.follow_rows.new.engine) [] told stands in
+    let n = c.in-Implied.ensures.says.0 in
+    let m = ap (λ (k : SearchState). length k.trail.entries) c.feed.ensures.given in
+    let a = c.follow_clauses.ensures.grows in
+    omega (arith, short, n, m, a)
+
+pub loop-reference-preserved : goal.loop-reference-preserved
+loop-reference-preserved g c =
+    let n = c.in-Implied.ensures.says.0 in
+    let m = ap (λ (k : SearchState). length k.trail.entries) c.feed.ensures.given in
+    let a = c.follow_clauses.ensures.grows in
+    let b = c.loop-reference.invariant.grows in
+    record {
+      stands = λ told stands. c.follow_rows.ensures.stands told (c.feed.ensures.stands told (c.follow_clauses.ensures.stands c.args.formula.now (g.P.ParityEngine.state c.loop-reference.engine) told (c.loop-reference.invariant.stands told stands)));
+      unbroken = c.in-Implied.ensures.says.1;
+      same = same_by_all c.args.kept.now c.loop-reference.kept c.follow_clauses.new.kept c.feed.new.kept c.follow_rows.new.kept c.loop-reference.invariant.same c.follow_clauses.ensures.same c.feed.ensures.given c.follow_rows.ensures.same;
+      grows = omega (arith, n, m, a, b);
+    }
+
+pub returns-in-Conflict-follow_rows-clause-stands :
+    goal.returns-in-Conflict-follow_rows-clause-stands
+returns-in-Conflict-follow_rows-clause-stands g c told stands =
+    c.follow_rows.ensures.stands told (c.feed.ensures.stands told (c.follow_clauses.ensures.stands c.args.formula.now (g.P.ParityEngine.state c.loop-reference.engine) told (c.loop-reference.invariant.stands told stands)))
+
+pub returns-in-Conflict-follow_rows-clause-finds : goal.returns-in-Conflict-follow_rows-clause-finds
+returns-in-Conflict-follow_rows-clause-finds g c =
+    let says = c.in-Conflict-follow_rows.ensures.says in
+    let all : HasAll c.follow_rows.new.kept = subst HasAll (sym (says.0 ∙ c.feed.ensures.given)) refl in
+    (all, says.1)
+
+pub returns-in-Conflict-follow_rows-clause-same : goal.returns-in-Conflict-follow_rows-clause-same
+returns-in-Conflict-follow_rows-clause-same g c =
+    same_by_all c.args.kept.now c.loop-reference.kept c.follow_clauses.new.kept c.feed.new.kept c.follow_rows.new.kept c.loop-reference.invariant.same c.follow_clauses.ensures.same c.feed.ensures.given c.follow_rows.ensures.same
+
+pub returns-in-Conflict-follow_rows-clause-grows :
+    goal.returns-in-Conflict-follow_rows-clause-grows
+returns-in-Conflict-follow_rows-clause-grows g c =
+    let is = c.in-Conflict-follow_rows.ensures.says.0 ∙ c.feed.ensures.given in
+    let n = ap (λ (k : SearchState). length k.trail.entries) is in
+    let a = c.follow_clauses.ensures.grows in
+    let b = c.loop-reference.invariant.grows in
+    omega (arith, n, a, b)

@@ -1,0 +1,17 @@
+use Rattle.std.proofs.Common.{◌≢◌, ◌≤◌, ◌-◌, [], List, Option, length}
+use Rattle.cx_semantics.specs.declared.steps.LogEvent.{LogEvent}
+use Rattle.parity_engine.specs.declared.state.Mood.TheVariants.{Broken}
+use Rattle.cdcl_search.specs.Ties.{SearchStands}
+use Rattle.cdcl_search.specs.Finds.{HasSameCounts}
+use Rattle.cdcl_search.proofs.propagation.propagate.Given as goal
+
+abbrev pub invariant-loop-reference : goal.invariant-loop-reference
+invariant-loop-reference g l = record {
+  stands : (told : Option (List LogEvent)) → SearchStands l.fn.formula l.fn.kept (g.P.ParityEngine.state l.fn.engine) [] told → SearchStands l.fn.formula l.kept (g.P.ParityEngine.state l.engine) [] told;
+  unbroken : (g.P.ParityEngine.state l.engine).mood ≢ Broken;
+  same : HasSameCounts l.fn.kept l.kept;
+  grows : length l.fn.kept.trail.entries ≤ length l.kept.trail.entries;
+}
+
+abbrev pub decreases-loop-reference : goal.decreases-loop-reference
+decreases-loop-reference g l = l.fn.formula.variables - length l.kept.trail.entries

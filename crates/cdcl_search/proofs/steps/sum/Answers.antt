@@ -1,0 +1,5 @@
+use Rattle.cdcl_search.proofs.StepTexts.{sum_text}
+use Rattle.cdcl_search.proofs.steps.sum.Goals as goal
+
+pub returns-clause-text : goal.returns-clause-text
+returns-clause-text c = sum_text c.args.id c.args.lits c.args.sources c.requires.id c.as_slice.ensures.proper c.requires.sources

@@ -1,0 +1,23 @@
+-- How unit clauses of level 0 are told.
+use Rattle.std.specs.Prelude.{◌≡◌, List, length}
+use Rattle.cx_base.specs.Literals.{Literal}
+use Rattle.cx_trail.specs.Sequence.{StandsAt}
+use Rattle.conflict_learn.specs.Learning.{IsAntecedent}
+use Rattle.cdcl_search.specs.declared.state.SearchState.{SearchState}
+use Rattle.cdcl_search.specs.Sources.{IsSourced}
+
+-- only the unit clauses and the next id differ
+pub record HasOther (old new : SearchState) : Type 0 where
+  pub trail : new.trail ≡ old.trail
+  pub arena : new.arena ≡ old.arena
+  pub watches : new.watches ≡ old.watches
+  pub order : new.order ≡ old.order
+  pub given : new.given ≡ old.given
+  pub conflicts : new.conflicts ≡ old.conflicts
+  pub phases : new.phases ≡ old.phases
+
+-- the literal stands behind those that have unit clauses, and this clause of a source implied it
+pub record IsNextUnit (c : SearchState) (rows : List (List Literal)) (l : Literal) (clause : List Literal) : Type 0 where
+  pub next : StandsAt c.trail.entries l (length c.units.items)
+  pub sourced : IsSourced c rows clause
+  pub implied : IsAntecedent c.trail l clause

@@ -1,0 +1,72 @@
+//! Deleting the clauses of rows.
+ghost use Rattle.std.specs.Prelude.{◌≡◌, [], ◌++◌, OnOk, IfOk, IfErr};
+ghost use Rattle.std.specs.List.{AllByRecursion};
+ghost use Rattle.cx_semantics.specs.Printed.{HasText};
+ghost use Rattle.cx_semantics.specs.declared.steps.LogEvent.TheVariants.{Step};
+ghost use Rattle.conflict_learn.specs.declared.fault.CoreFault.TheVariants.{Write};
+ghost use Rattle.cx_base.specs.Counts.{Rose};
+ghost use Rattle.cdcl_search.specs.Deleting.{deletions};
+ghost use Rattle.cdcl_search.specs.Tells.{GivesUp, FaultsAs, as_events};
+ghost use Rattle.cdcl_search.specs.Ties.{SearchStands, row_ids};
+
+use crate::rows::{CONSTRAINT_AND_ROW_LIMIT, FIRST_ROW_ID};
+use crate::state::SearchState;
+use crate::steps::deletion;
+use crate::telling::tell_all;
+use conflict_learn::CoreFault;
+use cx_base::{Formula, LitList};
+use cx_semantics::LogStep;
+use log_text::LogSink;
+use parity_engine::ParityEngine;
+use std::alloc::{AllocError, Global};
+
+/// Puts the deletions of so many clauses of rows behind these steps, the newest first.
+pub fn put_deletions(
+    alloc: Global,
+    steps: &mut Vec<LogStep>,
+    count: usize,
+) -> Result<(), AllocError>
+    requires { AllByRecursion (λ t. HasText (Step t)) steps.old.items }
+    ensures steps { OnOk result (as_events steps.new.items ≡ as_events steps.old.items ++ deletions (row_ids count)) }
+    ensures texts { OnOk result (AllByRecursion (λ t. HasText (Step t)) steps.new.items) }
+{
+    if count as u64 >= CONSTRAINT_AND_ROW_LIMIT {
+        return Err(AllocError);
+    }
+    let mut left = count;
+    while left > 0 {
+        left -= 1;
+        steps.push(deletion(alloc, FIRST_ROW_ID + left as u64))?;
+    }
+    Ok(())
+}
+
+/// The deletions of so many clauses of rows, the newest first.
+fn deletions_of_rows(alloc: Global, count: usize) -> Result<Vec<LogStep>, AllocError>
+    ensures steps { IfOk result (λ s. as_events s.items ≡ deletions (row_ids count)) }
+    ensures texts { IfOk result (λ s. AllByRecursion (λ t. HasText (Step t)) s.items) }
+{
+    let mut steps = Vec::new(alloc);
+    put_deletions(alloc, &mut steps, count)?;
+    Ok(steps)
+}
+
+/// Deletes the clauses of rows that were told since the last mark.
+pub(crate) fn delete_rows<P: ParityEngine, L: LogSink>(
+    alloc: Global,
+    formula: &Formula,
+    kept: &SearchState,
+    engine: &P,
+    sink: &mut L,
+    rows: &[LitList],
+) -> Result<(), CoreFault>
+    requires { SearchStands formula.now kept.now (P.state engine.now) rows.now (L.events sink.old) }
+    ensures stands { OnOk result (SearchStands formula.now kept.now (P.state engine.now) [] (L.events sink.new)) }
+    ensures gave_up { IfErr result (λ e. GivesUp formula.now (L.torn sink.new) (L.events sink.new) e) }
+    ensures write { IfErr result (λ e. e ≡ Write → Rose (L.faults sink.old) (L.faults sink.new)) }
+    ensures faults { FaultsAs result (L.faults sink.old) (L.faults sink.new) }
+    ensures frame { L.keeps sink.old sink.new }
+{
+    let steps = deletions_of_rows(alloc, rows.len())?;
+    tell_all(sink, &steps)
+}

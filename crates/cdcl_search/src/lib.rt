@@ -1,0 +1,22 @@
+//! The search between two conflicts: what it holds and tells the log, unit propagation over clauses and rows, reasons,
+//! units of level 0, decisions, and the values at the end.
+#![tactic(auto)]
+
+pub mod chains;
+mod deciding;
+pub mod deleting;
+pub mod integers;
+mod models;
+mod propagation;
+pub mod rows;
+mod searching;
+pub mod source;
+mod state;
+pub mod steps;
+pub mod telling;
+mod units;
+
+pub use models::values_of;
+pub use propagation::Found;
+pub use searching::search_on;
+pub use state::SearchState;

@@ -1,0 +1,216 @@
+//! Rows as the log tells them.
+ghost use Rattle.std.specs.Prelude.{◌≡◌, ◌≢◌, ◌+◌, ◌<◌, [], ◌∷◌, ◌++◌, length, IfOk, IfErr, OnErr};
+ghost use Rattle.std.specs.List.{AllByRecursion};
+ghost use Rattle.cx_base.specs.Problem.{parities_of};
+ghost use Rattle.cx_semantics.specs.Integers.{integers_of, literals};
+ghost use Rattle.cx_semantics.specs.Printed.{HasText};
+ghost use Rattle.cx_semantics.specs.declared.steps.LogEvent.TheVariants.{Step};
+ghost use Rattle.cx_semantics.specs.declared.steps.LogStep.TheVariants as step;
+ghost use Rattle.conflict_learn.specs.declared.fault.CoreFault.TheVariants.{Write};
+ghost use Rattle.conflict_learn.specs.Learning.{IsAntecedent};
+ghost use Rattle.cx_base.specs.Counts.{Rose};
+ghost use Rattle.parity_engine.specs.Written.{AreRising};
+ghost use Rattle.search_steps.specs.LogSteps.{row_events};
+ghost use Rattle.cdcl_search.specs.Explaining.{Explains, IsReasonOf};
+ghost use Rattle.cdcl_search.specs.Tells.{GivesUp, FaultsAs, IsId, as_events};
+ghost use Rattle.cdcl_search.specs.Ties.{SearchStands, first_row_id};
+
+use crate::integers::integers;
+use crate::state::SearchState;
+use crate::steps::{clause_of_sum, deletion_of_sum, sum};
+use crate::telling::tell_all;
+use conflict_learn::CoreFault;
+use cx_base::{Formula, IdList, Lit, LitList, Row};
+use cx_semantics::LogStep;
+use log_text::LogSink;
+use parity_engine::ParityEngine;
+use std::alloc::{AllocError, Global};
+use xor_reason::{ReasonOf, reason_clause};
+
+/// The first id of the clauses that rows give: all others are below.
+pub const FIRST_ROW_ID: u64 = 1_500_000_000_000_000_000;
+
+/// A formula has fewer constraints than this, and between two marks fewer clauses of rows are told, so that each of
+/// their ids is one that a step may have.
+pub(crate) const CONSTRAINT_AND_ROW_LIMIT: u64 = 500_000_000_000_000_000;
+
+/// The ids of a row's sum and of its clause.
+#[derive(Clone, Copy, Debug, Drop)]
+pub struct RowIds {
+    pub sum: u64,
+    pub clause: u64,
+}
+
+/// The ids of the next row. Where there are no more, that is want of memory.
+pub fn next_ids(formula: &Formula, rows: &[LitList]) -> Result<RowIds, AllocError>
+    ensures sum { IfOk result (λ i. i.sum ≡ length formula.now.constraints + 1) }
+    ensures clause { IfOk result (λ i. i.clause ≡ first_row_id + length rows.now) }
+    ensures proper { IfOk result (λ i. IsId i.sum × IsId i.clause) }
+    ensures few { IfOk result (λ i. length formula.now.constraints < 500000000000000000) }
+{
+    let constraints = formula.len() as u64;
+    let told = rows.len() as u64;
+    if constraints >= CONSTRAINT_AND_ROW_LIMIT || told >= CONSTRAINT_AND_ROW_LIMIT {
+        return Err(AllocError);
+    }
+    Ok(RowIds {
+        sum: constraints + 1,
+        clause: FIRST_ROW_ID + told,
+    })
+}
+
+/// The steps of a row: its sum and its clause.
+pub fn sum_and_clause(
+    alloc: Global,
+    ids: RowIds,
+    parity: &LitList,
+    sources: IdList,
+    clause: &LitList,
+) -> Result<Vec<LogStep>, AllocError>
+    requires proper { IsId ids.sum × IsId ids.clause }
+    requires sources { AllByRecursion IsId sources }
+    ensures steps { IfOk result (λ s. s.items ≡ step.Parity ids.sum (integers_of parity.now) sources ∷ step.ClauseOfParity ids.clause (integers_of clause.now) ids.sum ∷ []) }
+    ensures texts { IfOk result (λ s. AllByRecursion (λ t. HasText (Step t)) s.items) }
+    ensures parity { IfOk result (λ s. literals (integers_of parity.now) ≡ parity.now) }
+    ensures clause { IfOk result (λ s. literals (integers_of clause.now) ≡ clause.now) }
+{
+    let sum = sum(ids.sum, integers(alloc, parity.as_slice())?, sources);
+    let clause = clause_of_sum(ids.clause, integers(alloc, clause.as_slice())?, ids.sum);
+    let mut steps = Vec::new(alloc);
+    steps.push(sum)?;
+    steps.push(clause)?;
+    Ok(steps)
+}
+
+/// A copy of these literals.
+pub fn copy_of(alloc: Global, lits: &[Lit]) -> Result<LitList, AllocError>
+    ensures { IfOk result (λ copy. copy ≡ lits.now) }
+{
+    Ok(LitList::from_vec(lits.to_vec(alloc)?))
+}
+
+/// The steps of the reason that a row gave: its sum, its clause, and the sum's deletion.
+fn reason_steps(
+    alloc: Global,
+    ids: RowIds,
+    parity: &LitList,
+    sources: IdList,
+    clause: &LitList,
+) -> Result<Vec<LogStep>, AllocError>
+    requires proper { IsId ids.sum × IsId ids.clause }
+    requires sources { AllByRecursion IsId sources }
+    ensures steps { IfOk result (λ s. as_events s.items ≡ row_events ids.sum (integers_of parity.now) sources ids.clause (integers_of clause.now)) }
+    ensures texts { IfOk result (λ s. AllByRecursion (λ t. HasText (Step t)) s.items) }
+    ensures parity { IfOk result (λ s. literals (integers_of parity.now) ≡ parity.now) }
+    ensures clause { IfOk result (λ s. literals (integers_of clause.now) ≡ clause.now) }
+{
+    let mut steps = sum_and_clause(alloc, ids, parity, sources, clause)?;
+    steps.push(deletion_of_sum(alloc, ids.sum))?;
+    Ok(steps)
+}
+
+/// What the telling of a row needs. It is made before anything is told.
+#[derive(Drop)]
+struct Prepared {
+    steps: Vec<LogStep>,
+    clause: LitList,
+    copy: LitList,
+}
+
+/// Makes ready for the telling of a row.
+fn prepare(alloc: Global, ids: RowIds, reason: ReasonOf) -> Result<Prepared, AllocError>
+    requires proper { IsId ids.sum × IsId ids.clause }
+    requires sources { AllByRecursion IsId reason.sources }
+    ensures steps { IfOk result (λ p. as_events p.steps.items ≡ row_events ids.sum (integers_of reason.parity) reason.sources ids.clause (integers_of reason.clause)) }
+    ensures texts { IfOk result (λ p. AllByRecursion (λ t. HasText (Step t)) p.steps.items) }
+    ensures parity { IfOk result (λ p. literals (integers_of reason.parity) ≡ reason.parity) }
+    ensures back { IfOk result (λ p. literals (integers_of reason.clause) ≡ reason.clause) }
+    ensures clause { IfOk result (λ p. (p.clause ≡ reason.clause) × (p.copy ≡ reason.clause)) }
+{
+    let ReasonOf {
+        parity,
+        sources,
+        clause,
+    } = reason;
+    let steps = reason_steps(alloc, ids, &parity, sources, &clause)?;
+    let copy = copy_of(alloc, clause.as_slice())?;
+    Ok(Prepared {
+        steps,
+        clause,
+        copy,
+    })
+}
+
+/// Makes ready for the telling of the next row.
+fn prepare_next(
+    alloc: Global,
+    formula: &Formula,
+    rows: &[LitList],
+    reason: ReasonOf,
+) -> Result<Prepared, AllocError>
+    requires { AreRising 1 (length (parities_of formula.now.constraints)) reason.sources }
+    ensures steps { IfOk result (λ p. as_events p.steps.items ≡ row_events (length formula.now.constraints + 1) (integers_of reason.parity) reason.sources (first_row_id + length rows.now) (integers_of reason.clause)) }
+    ensures texts { IfOk result (λ p. AllByRecursion (λ t. HasText (Step t)) p.steps.items) }
+    ensures parity { IfOk result (λ p. literals (integers_of reason.parity) ≡ reason.parity) }
+    ensures back { IfOk result (λ p. literals (integers_of reason.clause) ≡ reason.clause) }
+    ensures clause { IfOk result (λ p. (p.clause ≡ reason.clause) × (p.copy ≡ reason.clause)) }
+{
+    let ids = next_ids(formula, rows)?;
+    prepare(alloc, ids, reason)
+}
+
+/// Tells the clause of a row, which has a literal, and puts it behind those that were told.
+///
+/// `engine` is the engine that named the row.
+pub fn tell_reason<P: ParityEngine, L: LogSink>(
+    alloc: Global,
+    formula: &Formula,
+    kept: &SearchState,
+    engine: &P,
+    sink: &mut L,
+    reason: ReasonOf,
+    rows: &mut Vec<LitList>,
+) -> Result<LitList, CoreFault>
+    requires stands { SearchStands formula.now kept.now (P.state engine.now) rows.old.items (L.events sink.old) }
+    requires explains { Explains (parities_of formula.now.constraints) kept.now.trail reason }
+    requires some { reason.clause ≢ [] }
+    ensures clause { IfOk result (λ c. c ≡ reason.clause) }
+    ensures same { OnErr result (rows.new.items ≡ rows.old.items) }
+    ensures rows { IfOk result (λ c. rows.new.items ≡ rows.old.items ++ reason.clause ∷ []) }
+    ensures stands { IfOk result (λ c. SearchStands formula.now kept.now (P.state engine.now) (rows.old.items ++ reason.clause ∷ []) (L.events sink.new)) }
+    ensures gave_up { IfErr result (λ e. GivesUp formula.now (L.torn sink.new) (L.events sink.new) e) }
+    ensures write { IfErr result (λ e. e ≡ Write → Rose (L.faults sink.old) (L.faults sink.new)) }
+    ensures faults { FaultsAs result (L.faults sink.old) (L.faults sink.new) }
+    ensures frame { L.keeps sink.old sink.new }
+{
+    let prepared = prepare_next(alloc, formula, rows, reason)?;
+    tell_all(sink, &prepared.steps)?;
+    rows.push(prepared.copy)?;
+    Ok(prepared.clause)
+}
+
+/// Tells the clause of a row that implied a literal of the trail.
+pub(crate) fn tell_row<P: ParityEngine, L: LogSink>(
+    alloc: Global,
+    formula: &Formula,
+    kept: &SearchState,
+    engine: &P,
+    sink: &mut L,
+    row: Row,
+    implied: Lit,
+    rows: &mut Vec<LitList>,
+) -> Result<LitList, CoreFault>
+    requires stands { SearchStands formula.now kept.now (P.state engine.now) rows.old.items (L.events sink.old) }
+    requires reason { IsReasonOf (P.state engine.now) kept.now.trail.entries implied row }
+    ensures implied { IfOk result (IsAntecedent kept.now.trail implied) }
+    ensures same { OnErr result (rows.new.items ≡ rows.old.items) }
+    ensures rows { IfOk result (λ c. rows.new.items ≡ rows.old.items ++ c ∷ []) }
+    ensures stands { IfOk result (λ c. SearchStands formula.now kept.now (P.state engine.now) rows.new.items (L.events sink.new)) }
+    ensures gave_up { IfErr result (λ e. GivesUp formula.now (L.torn sink.new) (L.events sink.new) e) }
+    ensures write { IfErr result (λ e. e ≡ Write → Rose (L.faults sink.old) (L.faults sink.new)) }
+    ensures faults { FaultsAs result (L.faults sink.old) (L.faults sink.new) }
+    ensures frame { L.keeps sink.old sink.new }
+{
+    let reason = reason_clause(alloc, engine, row, Some(implied), &kept.trail)?;
+    tell_reason(alloc, formula, kept, engine, sink, reason, rows)
+}

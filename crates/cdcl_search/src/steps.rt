@@ -1,0 +1,84 @@
+//! The steps that the search tells. A text can have each of them.
+//!
+//! A call of `as_slice` whose answer is let go says to the proof what holds of each integer of a list.
+ghost use Rattle.std.specs.Prelude.{◌≡◌, []};
+ghost use Rattle.std.specs.List.{AllByRecursion};
+ghost use Rattle.cx_semantics.specs.Printed.{HasText};
+ghost use Rattle.cx_semantics.specs.declared.steps.LogEvent.TheVariants.{Step};
+ghost use Rattle.cx_semantics.specs.declared.steps.LogStep.TheVariants as step;
+ghost use Rattle.cdcl_search.specs.Tells.{IsId};
+
+use cx_base::{IdList, IntList};
+use cx_semantics::LogStep;
+use std::alloc::Global;
+
+/// A clause of the formula.
+pub fn original(id: u64, lits: IntList) -> LogStep
+    requires { IsId id }
+    ensures is { result ≡ step.Original id lits }
+    ensures text { HasText (Step result) }
+{
+    let _ = lits.as_slice();
+    LogStep::Original(id, lits)
+}
+
+/// A parity of the formula.
+pub fn original_parity(id: u64, lits: IntList) -> LogStep
+    requires { IsId id }
+    ensures is { result ≡ step.OriginalParity id lits }
+    ensures text { HasText (Step result) }
+{
+    let _ = lits.as_slice();
+    LogStep::OriginalParity(id, lits)
+}
+
+/// A clause that a chain of these clauses shows.
+pub fn chained(id: u64, lits: IntList, hints: IntList) -> LogStep
+    requires { IsId id }
+    ensures is { result ≡ step.ClauseWithHints id lits hints }
+    ensures text { HasText (Step result) }
+{
+    let _ = lits.as_slice();
+    let _ = hints.as_slice();
+    LogStep::ClauseWithHints(id, lits, hints)
+}
+
+/// A sum of parities.
+pub(crate) fn sum(id: u64, lits: IntList, sources: IdList) -> LogStep
+    requires id { IsId id }
+    requires sources { AllByRecursion IsId sources }
+    ensures is { result ≡ step.Parity id lits sources }
+    ensures text { HasText (Step result) }
+{
+    let _ = lits.as_slice();
+    LogStep::Parity(id, lits, sources)
+}
+
+/// A clause that a parity implies.
+pub(crate) fn clause_of_sum(id: u64, lits: IntList, source: u64) -> LogStep
+    requires id { IsId id }
+    requires source { IsId source }
+    ensures is { result ≡ step.ClauseOfParity id lits source }
+    ensures text { HasText (Step result) }
+{
+    let _ = lits.as_slice();
+    LogStep::ClauseOfParity(id, lits, source)
+}
+
+/// The deletion of a clause.
+pub(crate) fn deletion(alloc: Global, id: u64) -> LogStep
+    requires { IsId id }
+    ensures is { result ≡ step.Delete id [] }
+    ensures text { HasText (Step result) }
+{
+    LogStep::Delete(id, IntList::from_vec(Vec::new(alloc)))
+}
+
+/// The deletion of a sum.
+pub(crate) fn deletion_of_sum(alloc: Global, id: u64) -> LogStep
+    requires { IsId id }
+    ensures is { result ≡ step.DeleteParity id [] }
+    ensures text { HasText (Step result) }
+{
+    LogStep::DeleteParity(id, IntList::from_vec(Vec::new(alloc)))
+}
