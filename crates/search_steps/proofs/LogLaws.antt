@@ -80,7 +80,7 @@ pub takes_all : (table : Table) (IsRow : List Literal → Type 0) (u : List Lite
 takes_all table IsRow u units none [] t r = refl
 takes_all table IsRow u units none (e ∷ es) t r =
     let rest : is_inside (all_held es) u ≡ true = takes_all table IsRow u units none es t.2 r.1 in
-    let why : Rattle.search_steps.specs.Trail.IsSetBy table IsRow (by_clause r.0.0) e.literal e.level es = subst (λ w. Rattle.search_steps.specs.Trail.Stands table IsRow w e.literal e.level es) r.0.1 t.1 in
+    let why : Rattle.search_steps.specs.Trail.IsSetBy table IsRow (by_clause r.0.0) e.literal e.level es = subst (λ w. Rattle.search_steps.specs.Trail.IsSetBy table IsRow w e.literal e.level es) r.0.1 t.1 in
     let c = why.1 in
     and_from _ _ (takes_forced table u c.0 e.literal units none (r.0.0, c.1) (λ m h n. has_by_inside (all_held es) u (negate m) rest (c.2.others_false m h n))) rest
 
