@@ -4,6 +4,7 @@ ghost use Rattle.cx_base.specs.Numbers.{AreStepIntegers};
 
 use crate::literal::Lit;
 use crate::refs::ClauseRef;
+use std::alloc::AllocError;
 use std::marker::Model;
 
 /// A list of literals.
@@ -56,6 +57,17 @@ impl Model for IdList {
     ghost Value = { List ℕ };
 
     ghost view = { λ a. a.ids.items };
+}
+
+impl Clone for IdList {
+    ghost use Rattle.std.specs.Prelude.{◌≡◌};
+
+    ghost is_clone = { λ list copy. copy ≡ list };
+
+    fn clone(&self) -> Result<IdList, AllocError> {
+        let ids = self.ids.clone()?;
+        Ok(IdList { ids })
+    }
 }
 
 impl IdList {
@@ -134,6 +146,17 @@ impl Model for IntList {
     ghost view = { λ a. a.integers.items };
 
     ghost invariant = { λ a. AreStepIntegers a.integers.items };
+}
+
+impl Clone for IntList {
+    ghost use Rattle.std.specs.Prelude.{◌≡◌};
+
+    ghost is_clone = { λ list copy. copy ≡ list };
+
+    fn clone(&self) -> Result<IntList, AllocError> {
+        let integers = self.integers.clone()?;
+        Ok(IntList { integers })
+    }
 }
 
 impl IntList {

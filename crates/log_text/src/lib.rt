@@ -1,7 +1,6 @@
 //! Logs: where their events go, their printed form, and their steps from a text.
 #![tactic(auto)]
 
-mod copies;
 mod list_log;
 mod no_log;
 mod plain;

@@ -5,7 +5,6 @@ ghost use Rattle.cx_semantics.specs.declared.steps.LogEvent.TheVariants.{Step, C
 ghost use Rattle.cx_semantics.specs.Printed.{HasText};
 ghost use Rattle.proof_text.specs.declared.sink.SinkFault.TheVariants.{Memory};
 
-use crate::copies::copy_log_step;
 use crate::sink::LogSink;
 use cx_semantics::{LogEvent, LogStep};
 use proof_text::SinkFault;
@@ -15,7 +14,6 @@ use std::marker::Model;
 /// A sink that keeps the list of its events. It never fails but for want of memory.
 #[derive(Drop)]
 pub struct ListLog {
-    alloc: Global,
     events: Vec<LogEvent>,
 }
 
@@ -38,7 +36,6 @@ impl ListLog {
         ensures { result ≡ [] }
     {
         ListLog {
-            alloc,
             events: Vec::new(alloc),
         }
     }
@@ -85,7 +82,7 @@ impl LogSink for ListLog {
         ensures unchanged { OnErr result (self.new ≡ self.old) }
         ensures memory { IfErr result (λ e. e ≡ Memory) }
     {
-        match copy_log_step(self.alloc, step) {
+        match step.clone() {
             Ok(copy) => self.push(LogEvent::Step(copy)),
             Err(_) => Err(SinkFault::Memory),
         }

@@ -5,15 +5,14 @@ ghost use Rattle.cx_semantics.specs.Grammar.{mark};
 ghost use Rattle.cx_semantics.specs.LogText.{log_fields};
 ghost use Rattle.log_text.specs.Taking.{letter_of, listed_fields, StandsAlone};
 
-use cx_base::IntList;
 use cx_semantics::LogStep;
+use proof_text::fields::Named;
 
 /// An id and literals, and whether they are of a parity.
 #[derive(Drop)]
 pub struct Listed {
     pub of_parity: bool,
-    pub id: u64,
-    pub literals: IntList,
+    pub named: Named,
 }
 
 /// The steps that have literals alone, but for the added clause.
@@ -26,14 +25,11 @@ pub enum Plain {
 
 /// The step of an id and literals.
 pub fn plain_step(plain: Plain, listed: Listed) -> LogStep
-    ensures fields { log_fields result ≡ mark (letter_of plain) ∷ listed_fields listed.of_parity listed.id listed.literals }
+    ensures fields { log_fields result ≡ mark (letter_of plain) ∷ listed_fields listed.of_parity listed.named.id listed.named.literals }
     ensures alone { (rest : List Placed) → StandsAlone result rest }
 {
-    let Listed {
-        of_parity,
-        id,
-        literals,
-    } = listed;
+    let Listed { of_parity, named } = listed;
+    let Named { id, literals } = named;
     match plain {
         Plain::Original => {
             if of_parity {

@@ -79,22 +79,20 @@ fn take_implied(
 
 /// An id and literals, of a parity where the letter x stands in front.
 fn take_listed(alloc: Global, tokens: &mut TokensAhead, size: usize) -> Result<Listed, TextRefusal>
-    ensures { MatchResult result (λ l. Takes (listed_fields l.of_parity l.id l.literals) (placed_words tokens.old) (placed_words tokens.new)) (λ r. RefusedIn listed_rows size r (placed_words tokens.old)) }
+    ensures { MatchResult result (λ l. Takes (listed_fields l.of_parity l.named.id l.named.literals) (placed_words tokens.old) (placed_words tokens.new)) (λ r. RefusedIn listed_rows size r (placed_words tokens.old)) }
 {
     if tokens.is_letter(b'x') {
         tokens.pass();
         let named = take_named(alloc, tokens, size)?;
         Ok(Listed {
             of_parity: true,
-            id: named.id,
-            literals: named.literals,
+            named,
         })
     } else {
         let named = take_named(alloc, tokens, size)?;
         Ok(Listed {
             of_parity: false,
-            id: named.id,
-            literals: named.literals,
+            named,
         })
     }
 }

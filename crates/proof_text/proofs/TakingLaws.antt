@@ -34,42 +34,31 @@ spelled_ids : (ns : List ℕ) → flat_map spelled (map id ns) ≡ map number (m
 spelled_ids [] = refl
 spelled_ids (n ∷ ns) = ap (λ ws. number (pos n) ∷ ws) (spelled_ids ns)
 
-proper_integers : (zs : List ℤ) → AllByRecursion IsProper (map integer zs) → AllByRecursion (λ z. z ≢ pos 0) zs
-proper_integers [] h = tt
-proper_integers (z ∷ zs) h = (h.0, proper_integers zs h.1)
-
-proper_ids : (ns : List ℕ) → AllByRecursion IsProper (map id ns) → AllByRecursion (λ n. 0 < n) ns
-proper_ids [] h = tt
-proper_ids (n ∷ ns) h = (h.0, proper_ids ns h.1)
+all_proper : {T : Type 0} (field : T → Field) (ts : List T) → AllByRecursion IsProper (map field ts) → AllByRecursion (λ t. IsProper (field t)) ts
+all_proper field [] h = tt
+all_proper field (t ∷ ts) h = (h.0, all_proper field ts h.1)
 
 -- a list is its members and the zero
-pub closed_integers : (zs : List ℤ) (a b c : List Placed) → Takes (map integer zs) a b → Takes (end ∷ []) b c → Takes (integers zs ∷ []) a c
-closed_integers zs a b c x y =
-    let t = takes_append (map integer zs) (end ∷ []) a b c x y in
+closed : (list : Field) (members : List Field) → (AllByRecursion IsProper members → IsProper list) → spelled list ≡ flat_map spelled members ++ number (pos 0) ∷ []
+    → (a b c : List Placed) → Takes members a b → Takes (end ∷ []) b c → Takes (list ∷ []) a c
+closed list members proper is a b c x y =
+    let t = takes_append members (end ∷ []) a b c x y in
     record {
       front = t.front;
       split = t.split;
-      proper = (proper_integers zs x.proper, tt);
-      spells = append-nil (spelled_list zs) ∙ ap (λ ws. ws ++ number (pos 0) ∷ []) (sym (spelled_integers zs)) ∙ sym (flat_map-append spelled (map integer zs) (end ∷ [])) ∙ t.spells;
+      proper = (proper x.proper, tt);
+      spells = append-nil (spelled list) ∙ is ∙ sym (flat_map-append spelled members (end ∷ [])) ∙ t.spells;
       within = t.within;
     }
+
+pub closed_integers : (zs : List ℤ) (a b c : List Placed) → Takes (map integer zs) a b → Takes (end ∷ []) b c → Takes (integers zs ∷ []) a c
+closed_integers zs = closed (integers zs) (map integer zs) (all_proper integer zs) (ap (λ ws. ws ++ number (pos 0) ∷ []) (sym (spelled_integers zs)))
 
 pub closed_ids : (ns : List ℕ) (a b c : List Placed) → Takes (map id ns) a b → Takes (end ∷ []) b c → Takes (ids ns ∷ []) a c
-closed_ids ns a b c x y =
-    let t = takes_append (map id ns) (end ∷ []) a b c x y in
-    record {
-      front = t.front;
-      split = t.split;
-      proper = (proper_ids ns x.proper, tt);
-      spells = append-nil (spelled_list (map pos ns)) ∙ ap (λ ws. ws ++ number (pos 0) ∷ []) (sym (spelled_ids ns)) ∙ sym (flat_map-append spelled (map id ns) (end ∷ [])) ∙ t.spells;
-      within = t.within;
-    }
+closed_ids ns = closed (ids ns) (map id ns) (all_proper id ns) (ap (λ ws. ws ++ number (pos 0) ∷ []) (sym (spelled_ids ns)))
 
-pub one_integer : (zs : List ℤ) (z : ℤ) (a b c : List Placed) → Takes (map integer zs) a b → Takes (integer z ∷ []) b c → Takes (map integer (zs ++ z ∷ [])) a c
-one_integer zs z a b c x y = subst (λ fs. Takes fs a c) (sym (map-append integer zs (z ∷ []))) (takes_append (map integer zs) (integer z ∷ []) a b c x y)
-
-pub one_id : (ns : List ℕ) (n : ℕ) (a b c : List Placed) → Takes (map id ns) a b → Takes (id n ∷ []) b c → Takes (map id (ns ++ n ∷ [])) a c
-one_id ns n a b c x y = subst (λ fs. Takes fs a c) (sym (map-append id ns (n ∷ []))) (takes_append (map id ns) (id n ∷ []) a b c x y)
+pub one_more : {T : Type 0} (field : T → Field) (ts : List T) (t : T) (a b c : List Placed) → Takes (map field ts) a b → Takes (field t ∷ []) b c → Takes (map field (ts ++ t ∷ [])) a c
+one_more field ts t a b c x y = subst (λ fs. Takes fs a c) (sym (map-append field ts (t ∷ []))) (takes_append (map field ts) (field t ∷ []) a b c x y)
 
 -- ---- what may follow
 
@@ -168,10 +157,10 @@ one_refused k ks size r a h = head_refused k ks [] size r a (λ p rest e b. tt) 
 -- ---- lists
 
 pub ids_refused : (ns : List ℕ) (size : ℕ) (r : TextRefusal) (a b : List Placed) → Takes (map id ns) a b → HeadFails some_ids size r b → (ks : List Kind) → RefusedIn ((some_ids ∷ ks) ∷ []) size r a
-ids_refused ns size r a b t h ks = refused_then (map id ns) ((some_ids ∷ ks) ∷ []) ((some_ids ∷ ks) ∷ []) size r a b t (ap (remaining ((some_ids ∷ ks) ∷ [])) (spelled_ids ns) ∙ ids_stay ns ks (proper_ids ns t.proper)) (one_refused some_ids ks size r b h)
+ids_refused ns size r a b t h ks = refused_then (map id ns) ((some_ids ∷ ks) ∷ []) ((some_ids ∷ ks) ∷ []) size r a b t (ap (remaining ((some_ids ∷ ks) ∷ [])) (spelled_ids ns) ∙ ids_stay ns ks (all_proper id ns t.proper)) (one_refused some_ids ks size r b h)
 
 pub integers_refused : (zs : List ℤ) (size : ℕ) (r : TextRefusal) (a b : List Placed) → Takes (map integer zs) a b → HeadFails some_integers size r b → (ks : List Kind) → RefusedIn ((some_integers ∷ ks) ∷ []) size r a
-integers_refused zs size r a b t h ks = refused_then (map integer zs) ((some_integers ∷ ks) ∷ []) ((some_integers ∷ ks) ∷ []) size r a b t (ap (remaining ((some_integers ∷ ks) ∷ [])) (spelled_integers zs) ∙ integers_stay zs ks (proper_integers zs t.proper)) (one_refused some_integers ks size r b h)
+integers_refused zs size r a b t h ks = refused_then (map integer zs) ((some_integers ∷ ks) ∷ []) ((some_integers ∷ ks) ∷ []) size r a b t (ap (remaining ((some_integers ∷ ks) ∷ [])) (spelled_integers zs) ∙ integers_stay zs ks (all_proper integer zs t.proper)) (one_refused some_integers ks size r b h)
 
 -- ---- fields in a row
 

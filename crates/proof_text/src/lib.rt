@@ -2,7 +2,6 @@
 #![tactic(auto)]
 
 pub mod ahead;
-pub mod copies;
 mod desk_proof;
 pub mod fields;
 mod grammar;

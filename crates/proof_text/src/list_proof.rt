@@ -4,7 +4,6 @@ ghost use Rattle.std.specs.List.{AllByRecursion};
 ghost use Rattle.cx_semantics.specs.Printed.{HasProofText};
 ghost use Rattle.proof_text.specs.declared.sink.SinkFault.TheVariants.{Memory};
 
-use crate::copies::copy_proof_step;
 use crate::sink::{ProofSink, SinkFault};
 use cx_semantics::ProofStep;
 use std::alloc::Global;
@@ -13,7 +12,6 @@ use std::marker::Model;
 /// A sink that keeps the list of its steps. It never fails but for want of memory.
 #[derive(Drop)]
 pub struct ListProof {
-    alloc: Global,
     steps: Vec<ProofStep>,
 }
 
@@ -36,7 +34,6 @@ impl ListProof {
         ensures { result ≡ [] }
     {
         ListProof {
-            alloc,
             steps: Vec::new(alloc),
         }
     }
@@ -83,7 +80,7 @@ impl ProofSink for ListProof {
         ensures unchanged { OnErr result (self.new ≡ self.old) }
         ensures memory { IfErr result (λ e. e ≡ Memory) }
     {
-        match copy_proof_step(self.alloc, step) {
+        match step.clone() {
             Ok(copy) => self.push(copy),
             Err(_) => Err(SinkFault::Memory),
         }

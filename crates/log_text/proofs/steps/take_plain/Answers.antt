@@ -17,5 +17,5 @@ pub returns : goal.returns
 returns c =
     let first = letter_taken (letter_of c.args.plain) c.args.tokens.now c.pass.new.self c.requires c.pass.ensures in
     let l = c.in_ok-listed.listed in
-    let all = takes_append (mark (letter_of c.args.plain) ∷ []) (listed_fields l.of_parity l.id l.literals) _ _ _ first c.in_ok-listed.ensures in
+    let all = takes_append (mark (letter_of c.args.plain) ∷ []) (listed_fields l.of_parity l.named.id l.named.literals) _ _ _ first c.in_ok-listed.ensures in
     (rw c.plain_step.ensures.fields all, c.plain_step.ensures.alone _)

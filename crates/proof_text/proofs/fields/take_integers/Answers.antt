@@ -1,10 +1,11 @@
+use Rattle.cx_semantics.specs.Grammar.{integer}
 use Rattle.proof_text.proofs.StepIntegers.{step_integers}
 use Rattle.proof_text.proofs.Taken.{kept_integer}
-use Rattle.proof_text.proofs.TakingLaws.{one_integer, closed_integers, integers_refused}
+use Rattle.proof_text.proofs.TakingLaws.{one_more, closed_integers, integers_refused}
 use Rattle.proof_text.proofs.fields.take_integers.Goals as goal
 
 pub loop-integer-preserved : goal.loop-integer-preserved
-loop-integer-preserved c = rw c.in-Ok.ensures.items (one_integer _ _ _ _ _ c.loop-integer.invariant (kept_integer _ _ _ (rw c.in-Ok-Some.field-0-is at c.in-Ok-Some.ensures.taken)))
+loop-integer-preserved c = rw c.in-Ok.ensures.items (one_more integer _ _ _ _ _ c.loop-integer.invariant (kept_integer _ _ _ (rw c.in-Ok-Some.field-0-is at c.in-Ok-Some.ensures.taken)))
 
 pub returns-in-Ok-None : goal.returns-in-Ok-None
 returns-in-Ok-None c = rw c.from_vec.ensures (closed_integers _ _ _ _ c.loop-integer.invariant (rw c.in-Ok-None.field-0-is at c.in-Ok-None.ensures.taken))
