@@ -59,7 +59,7 @@ pub fn delete_clause(
 {
     let gone = deleted(&state.clauses, count, id);
     let last = state.clauses.last();
-    state.live.remove_clause(id);
+    state.live.remove(Kind::Clauses, id);
     state.clauses.remove(id);
     match gone {
         Some(gone) => Ok(Some(clause_deletion(alloc, front_of(last, gone), gone)?)),
@@ -80,7 +80,7 @@ pub fn delete_parity(
     ensures counts { OnOk result (CountsOneMore state.old state.new) }
 {
     let gone = deleted(&state.parities, count, id);
-    state.live.remove_parity(id);
+    state.live.remove(Kind::Parities, id);
     state.parities.remove(id);
     match gone {
         Some(gone) => Ok(Some(parity_deletion(alloc, gone)?)),

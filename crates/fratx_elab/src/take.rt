@@ -90,13 +90,13 @@ pub fn take_original(
     ensures text { IfOk result CanBePrinted }
     ensures counts { OnOk result (CountsOneMore state.old state.new) }
 {
-    let target = match admit(alloc, formula, lits, state.live.has_clause(id)) {
+    let target = match admit(alloc, formula, lits, state.live.has(Kind::Clauses, id)) {
         Ok(target) => target,
         Err(why) => return Err(why),
     };
     match originals.clause_number(alloc, target.as_slice())? {
         Some(number) => {
-            state.live.add_clause(id, target)?;
+            state.live.add(Kind::Clauses, id, target)?;
             state.clauses.put_original(id, number)?;
             Ok(None)
         }
@@ -118,13 +118,13 @@ pub fn take_original_parity(
     ensures text { IfOk result CanBePrinted }
     ensures counts { OnOk result (CountsOneMore state.old state.new) }
 {
-    let target = match admit(alloc, formula, lits, state.live.has_parity(id)) {
+    let target = match admit(alloc, formula, lits, state.live.has(Kind::Parities, id)) {
         Ok(target) => target,
         Err(why) => return Err(why),
     };
     match originals.parity_number(alloc, target.as_slice())? {
         Some(number) => {
-            state.live.add_parity(id, target)?;
+            state.live.add(Kind::Parities, id, target)?;
             state.parities.put_original(id, number)?;
             Ok(None)
         }
@@ -146,7 +146,7 @@ pub fn take_clause(
     ensures text { IfOk result CanBePrinted }
     ensures counts { OnOk result (CountsOneMore state.old state.new) }
 {
-    let target = match admit(alloc, formula, lits, state.live.has_clause(id)) {
+    let target = match admit(alloc, formula, lits, state.live.has(Kind::Clauses, id)) {
         Ok(target) => target,
         Err(why) => return Err(why),
     };
@@ -156,7 +156,7 @@ pub fn take_clause(
     };
     let hints = hints_of(alloc, &state.clauses, ids.as_slice())?;
     let copy = copy(alloc, lits)?;
-    state.live.add_clause(id, target)?;
+    state.live.add(Kind::Clauses, id, target)?;
     let next = state.clauses.put_next(id)?;
     Ok(Some(clause_step(next, copy, hints)))
 }
@@ -175,7 +175,7 @@ pub fn take_parity(
     ensures text { IfOk result CanBePrinted }
     ensures counts { OnOk result (CountsOneMore state.old state.new) }
 {
-    let target = match admit(alloc, formula, lits, state.live.has_parity(id)) {
+    let target = match admit(alloc, formula, lits, state.live.has(Kind::Parities, id)) {
         Ok(target) => target,
         Err(why) => return Err(why),
     };
@@ -185,7 +185,7 @@ pub fn take_parity(
     }
     let hints = hints_of(alloc, &state.parities, sources.as_slice())?;
     let copy = copy(alloc, lits)?;
-    state.live.add_parity(id, target)?;
+    state.live.add(Kind::Parities, id, target)?;
     let next = state.parities.put_next(id)?;
     Ok(Some(parity_step(next, copy, hints)))
 }
@@ -204,7 +204,7 @@ pub fn take_parity_of_clauses(
     ensures text { IfOk result CanBePrinted }
     ensures counts { OnOk result (CountsOneMore state.old state.new) }
 {
-    let target = match admit(alloc, formula, lits, state.live.has_parity(id)) {
+    let target = match admit(alloc, formula, lits, state.live.has(Kind::Parities, id)) {
         Ok(target) => target,
         Err(why) => return Err(why),
     };
@@ -214,7 +214,7 @@ pub fn take_parity_of_clauses(
     }
     let hints = hints_of(alloc, &state.clauses, sources.as_slice())?;
     let copy = copy(alloc, lits)?;
-    state.live.add_parity(id, target)?;
+    state.live.add(Kind::Parities, id, target)?;
     let next = state.parities.put_next(id)?;
     Ok(Some(parity_of_clauses_step(next, copy, hints)))
 }
@@ -233,7 +233,7 @@ pub fn take_clause_of_parity(
     ensures text { IfOk result CanBePrinted }
     ensures counts { OnOk result (CountsOneMore state.old state.new) }
 {
-    let target = match admit(alloc, formula, lits, state.live.has_clause(id)) {
+    let target = match admit(alloc, formula, lits, state.live.has(Kind::Clauses, id)) {
         Ok(target) => target,
         Err(why) => return Err(why),
     };
@@ -247,7 +247,7 @@ pub fn take_clause_of_parity(
         None => return Err(JudgeRefusal::Memory),
     };
     let copy = copy(alloc, lits)?;
-    state.live.add_clause(id, target)?;
+    state.live.add(Kind::Clauses, id, target)?;
     let next = state.clauses.put_next(id)?;
     Ok(Some(clause_of_parity_step(next, copy, named)))
 }
