@@ -13,7 +13,7 @@ use crate::state::State;
 use crate::steps::{clause_deletion, parity_deletion};
 use cx_base::IntList;
 use cx_semantics::ProofStep;
-use proof_rules::JudgeRefusal;
+use proof_rules::{JudgeRefusal, Kind};
 use std::alloc::Global;
 
 /// The proof id to delete where the log deletes an id: none for one of the formula's `count` constraints.
