@@ -13,7 +13,7 @@ use crate::state::State;
 use crate::steps::{clause_deletion, parity_deletion};
 use cx_base::IntList;
 use cx_semantics::ProofStep;
-use proof_rules::JudgeRefusal;
+use proof_rules::{JudgeRefusal, Kind};
 use std::alloc::Global;
 
 /// The proof id to delete where the log deletes an id: none for one of the formula's `count` constraints.
@@ -59,7 +59,7 @@ pub fn delete_clause(
 {
     let gone = deleted(&state.clauses, count, id);
     let last = state.clauses.last();
-    state.live.remove_clause(id);
+    state.live.remove(Kind::Clauses, id);
     state.clauses.remove(id);
     match gone {
         Some(gone) => Ok(Some(clause_deletion(alloc, front_of(last, gone), gone)?)),
@@ -80,7 +80,7 @@ pub fn delete_parity(
     ensures counts { OnOk result (CountsOneMore state.old state.new) }
 {
     let gone = deleted(&state.parities, count, id);
-    state.live.remove_parity(id);
+    state.live.remove(Kind::Parities, id);
     state.parities.remove(id);
     match gone {
         Some(gone) => Ok(Some(parity_deletion(alloc, gone)?)),

@@ -18,7 +18,7 @@ use crate::steps::{clause_of_parity_step, clause_step, parity_of_clauses_step, p
 use cx_base::{Formula, IdList, IntList, LitList};
 use cx_semantics::{Cause, ProofStep};
 use proof_rules::{
-    JudgeRefusal, ids_of, judge_chain, judge_clause_of_named_parity, judge_named_sum,
+    JudgeRefusal, Kind, ids_of, judge_chain, judge_clause_of_named_parity, judge_named_sum,
     judge_parity_of_named_clauses,
 };
 use rup_finder::IndexedClauses;
@@ -90,13 +90,10 @@ pub fn take_original(
     ensures text { IfOk result CanBePrinted }
     ensures counts { OnOk result (CountsOneMore state.old state.new) }
 {
-    let target = match admit(alloc, formula, lits, state.live.has_clause(id)) {
-        Ok(target) => target,
-        Err(why) => return Err(why),
-    };
+    let target = admit(alloc, formula, lits, state.live.has(Kind::Clauses, id))?;
     match originals.clause_number(alloc, target.as_slice())? {
         Some(number) => {
-            state.live.add_clause(id, target)?;
+            state.live.add(Kind::Clauses, id, target)?;
             state.clauses.put_original(id, number)?;
             Ok(None)
         }
@@ -118,13 +115,10 @@ pub fn take_original_parity(
     ensures text { IfOk result CanBePrinted }
     ensures counts { OnOk result (CountsOneMore state.old state.new) }
 {
-    let target = match admit(alloc, formula, lits, state.live.has_parity(id)) {
-        Ok(target) => target,
-        Err(why) => return Err(why),
-    };
+    let target = admit(alloc, formula, lits, state.live.has(Kind::Parities, id))?;
     match originals.parity_number(alloc, target.as_slice())? {
         Some(number) => {
-            state.live.add_parity(id, target)?;
+            state.live.add(Kind::Parities, id, target)?;
             state.parities.put_original(id, number)?;
             Ok(None)
         }
@@ -146,17 +140,11 @@ pub fn take_clause(
     ensures text { IfOk result CanBePrinted }
     ensures counts { OnOk result (CountsOneMore state.old state.new) }
 {
-    let target = match admit(alloc, formula, lits, state.live.has_clause(id)) {
-        Ok(target) => target,
-        Err(why) => return Err(why),
-    };
-    let ids = match chain_of(alloc, &state.live, &target, given) {
-        Ok(ids) => ids,
-        Err(why) => return Err(why),
-    };
+    let target = admit(alloc, formula, lits, state.live.has(Kind::Clauses, id))?;
+    let ids = chain_of(alloc, &state.live, &target, given)?;
     let hints = hints_of(alloc, &state.clauses, ids.as_slice())?;
     let copy = copy(alloc, lits)?;
-    state.live.add_clause(id, target)?;
+    state.live.add(Kind::Clauses, id, target)?;
     let next = state.clauses.put_next(id)?;
     Ok(Some(clause_step(next, copy, hints)))
 }
@@ -175,17 +163,11 @@ pub fn take_parity(
     ensures text { IfOk result CanBePrinted }
     ensures counts { OnOk result (CountsOneMore state.old state.new) }
 {
-    let target = match admit(alloc, formula, lits, state.live.has_parity(id)) {
-        Ok(target) => target,
-        Err(why) => return Err(why),
-    };
-    match judge_named_sum(alloc, state.live.live(), &target, sources.as_slice()) {
-        Ok(()) => {}
-        Err(why) => return Err(why),
-    }
+    let target = admit(alloc, formula, lits, state.live.has(Kind::Parities, id))?;
+    judge_named_sum(alloc, state.live.live(), &target, sources.as_slice())?;
     let hints = hints_of(alloc, &state.parities, sources.as_slice())?;
     let copy = copy(alloc, lits)?;
-    state.live.add_parity(id, target)?;
+    state.live.add(Kind::Parities, id, target)?;
     let next = state.parities.put_next(id)?;
     Ok(Some(parity_step(next, copy, hints)))
 }
@@ -204,17 +186,15 @@ pub fn take_parity_of_clauses(
     ensures text { IfOk result CanBePrinted }
     ensures counts { OnOk result (CountsOneMore state.old state.new) }
 {
-    let target = match admit(alloc, formula, lits, state.live.has_parity(id)) {
-        Ok(target) => target,
-        Err(why) => return Err(why),
-    };
+    let target = admit(alloc, formula, lits, state.live.has(Kind::Parities, id))?;
+    // By `?` the prover does not see the cause through.
     match judge_parity_of_named_clauses(alloc, state.live.live(), &target, sources.as_slice()) {
         Ok(()) => {}
         Err(why) => return Err(why),
     }
     let hints = hints_of(alloc, &state.clauses, sources.as_slice())?;
     let copy = copy(alloc, lits)?;
-    state.live.add_parity(id, target)?;
+    state.live.add(Kind::Parities, id, target)?;
     let next = state.parities.put_next(id)?;
     Ok(Some(parity_of_clauses_step(next, copy, hints)))
 }
@@ -233,21 +213,15 @@ pub fn take_clause_of_parity(
     ensures text { IfOk result CanBePrinted }
     ensures counts { OnOk result (CountsOneMore state.old state.new) }
 {
-    let target = match admit(alloc, formula, lits, state.live.has_clause(id)) {
-        Ok(target) => target,
-        Err(why) => return Err(why),
-    };
-    match judge_clause_of_named_parity(alloc, state.live.live(), &target, source) {
-        Ok(()) => {}
-        Err(why) => return Err(why),
-    }
+    let target = admit(alloc, formula, lits, state.live.has(Kind::Clauses, id))?;
+    judge_clause_of_named_parity(alloc, state.live.live(), &target, source)?;
     let named = match state.parities.get(source) {
         Some(named) => named,
         // Nothing that is live in the log is without a name in the proof.
         None => return Err(JudgeRefusal::Memory),
     };
     let copy = copy(alloc, lits)?;
-    state.live.add_clause(id, target)?;
+    state.live.add(Kind::Clauses, id, target)?;
     let next = state.clauses.put_next(id)?;
     Ok(Some(clause_of_parity_step(next, copy, named)))
 }

@@ -1,16 +1,28 @@
 -- The table of a kind of constraint, and the lists that hints name in it.
-use Rattle.std.specs.Prelude.{◌≡◌, ℕ, ℤ, List}
+use Rattle.std.specs.Prelude.{◌≡◌, ℕ, ℤ, Bool, true, false, List}
 use Rattle.std.specs.List.{list_any}
 use Rattle.std.specs.Ordering.{nat_cmp, eq_by_cmp}
 use Rattle.cx_base.specs.Literals.{Literal}
 use Rattle.cx_semantics.specs.Integers.{sizes}
-use Rattle.cx_semantics.specs.Tables.{Table, Tables, is_live, named}
+use Rattle.cx_semantics.specs.Tables.{Table, Tables, is_live, named, put_clause, put_parity, drop_clauses, drop_parities}
 use Rattle.proof_rules.specs.declared.live.Kind.{Kind}
 use Rattle.proof_rules.specs.declared.live.Kind.TheVariants.{Clauses, Parities}
 
 abbrev pub chosen : Kind → Tables → Table
 chosen Clauses tables = tables.clauses
 chosen Parities tables = tables.parities
+
+abbrev pub put_constraint : Kind → Tables → ℕ → List Literal → Tables
+put_constraint Clauses tables n lits = put_clause tables n lits
+put_constraint Parities tables n lits = put_parity tables n lits
+
+abbrev pub drop_constraints : Kind → Tables → List ℕ → Tables
+drop_constraints Clauses tables ids = drop_clauses tables ids
+drop_constraints Parities tables ids = drop_parities tables ids
+
+abbrev pub is_clauses : Kind → Bool
+is_clauses Clauses = true
+is_clauses Parities = false
 
 -- the lists that the hints name, in order and with repeats
 abbrev pub hinted : Table → List ℤ → List (List Literal)

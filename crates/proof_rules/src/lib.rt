@@ -14,6 +14,7 @@ mod parity_clause;
 mod parity_sum;
 mod refusal;
 mod sum;
+mod table;
 
 pub use added::admit;
 pub use chain::{LeftOf, left_of};
@@ -21,7 +22,7 @@ pub use content::{clause_content, parity_content};
 pub use hints::ids_of;
 pub use judge::{judge_chain, judge_clause_of_parity, judge_parity_of_clauses, judge_sum};
 pub use literal_set::LiteralSet;
-pub use live::Live;
+pub use live::{Kind, Live};
 pub use named::{judge_clause_of_named_parity, judge_named_sum, judge_parity_of_named_clauses};
 pub use refusal::JudgeRefusal;
 

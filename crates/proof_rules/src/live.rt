@@ -1,16 +1,16 @@
 //! The live clauses and parities of a proof, by their ids.
-ghost use Rattle.std.specs.Prelude.{◌≡◌, IfOk, OnOk, OnErr, [], ◌∷◌, option_map, MatchOption, None, Some};
-ghost use Rattle.cx_semantics.specs.Tables.{Tables, get, is_live, put_clause, put_parity, drop_clauses, drop_parities, no_tables};
-ghost use Rattle.proof_rules.specs.Kinds.{chosen, ListsLive};
+ghost use Rattle.std.specs.Prelude.{◌≡◌, IfOk, OnOk, OnErr, [], ◌∷◌, MatchOption, None, Some};
+ghost use Rattle.cx_semantics.specs.Tables.{get, is_live, no_tables};
+ghost use Rattle.proof_rules.specs.Kinds.{chosen, put_constraint, drop_constraints, ListsLive};
 
+use crate::table::LiveTable;
 use cx_base::{IdList, Lit, LitList};
 use std::alloc::{AllocError, Global};
-use std::collections::BTreeMap;
 use std::marker::Model;
 
 /// One of the two tables.
-#[derive(Clone, Copy, Drop)]
-pub(crate) enum Kind {
+#[derive(Clone, Copy, Debug, Drop)]
+pub enum Kind {
     Clauses,
     Parities,
 }
@@ -18,18 +18,18 @@ pub(crate) enum Kind {
 /// Two tables, of clauses and of parities, each from ids to literals. The two sets of ids are separate.
 #[derive(Drop)]
 pub struct Live {
-    clauses: BTreeMap<u64, LitList>,
-    parities: BTreeMap<u64, LitList>,
+    clauses: LiveTable,
+    parities: LiveTable,
 }
 
 impl Model for Live {
-    ghost use Rattle.cx_semantics.specs.Tables.{Tables, tables_code, table_of};
+    ghost use Rattle.cx_semantics.specs.Tables.{Tables, tables_code};
 
     ghost Value = { Tables };
 
     ghost coded = { tables_code };
 
-    ghost view = { λ a. record { clauses = table_of a.clauses.entries; parities = table_of a.parities.entries } };
+    ghost view = { λ a. record { clauses = a.clauses; parities = a.parities } };
 }
 
 impl Live {
@@ -38,32 +38,18 @@ impl Live {
         ensures { result ≡ no_tables }
     {
         Live {
-            clauses: BTreeMap::new(alloc),
-            parities: BTreeMap::new(alloc),
+            clauses: LiveTable::new(alloc),
+            parities: LiveTable::new(alloc),
         }
     }
 
-    /// Whether a clause of this id is live.
-    pub fn has_clause(&self, id: u64) -> bool
-        ensures { result ≡ is_live self.now.clauses id }
-    {
-        self.clauses.contains_key(&id)
-    }
-
-    /// Whether a parity of this id is live.
-    pub fn has_parity(&self, id: u64) -> bool
-        ensures { result ≡ is_live self.now.parities id }
-    {
-        self.parities.contains_key(&id)
-    }
-
     /// Whether a constraint of this kind and id is live.
-    pub(crate) fn has(&self, kind: Kind, id: u64) -> bool
+    pub fn has(&self, kind: Kind, id: u64) -> bool
         ensures { result ≡ is_live (chosen kind self.now) id }
     {
         match kind {
-            Kind::Clauses => self.has_clause(id),
-            Kind::Parities => self.has_parity(id),
+            Kind::Clauses => self.clauses.has(id),
+            Kind::Parities => self.parities.has(id),
         }
     }
 
@@ -71,62 +57,41 @@ impl Live {
     pub fn clause_ids(&self, alloc: Global) -> Result<IdList, AllocError>
         ensures { IfOk result (ListsLive self.now.clauses) }
     {
-        let mut ids = Vec::new(alloc);
-        for id in self.clauses.keys() {
-            ids.push(*id)?;
-        }
-        Ok(IdList::from_vec(ids))
+        self.clauses.ids(alloc)
     }
 
     /// The literals of the live clause of this id.
     pub fn clause(&self, id: u64) -> Option<&[Lit]>
         ensures { MatchOption result (get self.now.clauses id ≡ None) (λ lits. get self.now.clauses id ≡ Some lits.now) }
     {
-        match self.clauses.get(&id) {
-            Some(lits) => Some(lits.as_slice()),
-            None => None,
-        }
+        self.clauses.get(id)
     }
 
     /// The literals of the live parity of this id.
     pub fn parity(&self, id: u64) -> Option<&[Lit]>
         ensures { MatchOption result (get self.now.parities id ≡ None) (λ lits. get self.now.parities id ≡ Some lits.now) }
     {
-        match self.parities.get(&id) {
-            Some(lits) => Some(lits.as_slice()),
-            None => None,
+        self.parities.get(id)
+    }
+
+    /// Puts a constraint of this kind under this id. Without memory nothing changes.
+    pub fn add(&mut self, kind: Kind, id: u64, lits: LitList) -> Result<(), AllocError>
+        ensures ok { OnOk result (self.new ≡ put_constraint kind self.old id lits) }
+        ensures err { OnErr result (self.new ≡ self.old) }
+    {
+        match kind {
+            Kind::Clauses => self.clauses.insert(id, lits),
+            Kind::Parities => self.parities.insert(id, lits),
         }
     }
 
-    /// Puts a clause under this id. Without memory nothing changes.
-    pub fn add_clause(&mut self, id: u64, lits: LitList) -> Result<(), AllocError>
-        ensures ok { OnOk result (self.new ≡ put_clause self.old id lits) }
-        ensures err { OnErr result (self.new ≡ self.old) }
+    /// Takes the constraint of this kind and id out; where none is live nothing changes.
+    pub fn remove(&mut self, kind: Kind, id: u64)
+        ensures { self.new ≡ drop_constraints kind self.old (id ∷ []) }
     {
-        self.clauses.insert(id, lits)?;
-        Ok(())
-    }
-
-    /// Puts a parity under this id. Without memory nothing changes.
-    pub fn add_parity(&mut self, id: u64, lits: LitList) -> Result<(), AllocError>
-        ensures ok { OnOk result (self.new ≡ put_parity self.old id lits) }
-        ensures err { OnErr result (self.new ≡ self.old) }
-    {
-        self.parities.insert(id, lits)?;
-        Ok(())
-    }
-
-    /// Takes the clause of this id out; where none is live nothing changes.
-    pub fn remove_clause(&mut self, id: u64)
-        ensures { self.new ≡ drop_clauses self.old (id ∷ []) }
-    {
-        self.clauses.remove(&id);
-    }
-
-    /// Takes the parity of this id out; where none is live nothing changes.
-    pub fn remove_parity(&mut self, id: u64)
-        ensures { self.new ≡ drop_parities self.old (id ∷ []) }
-    {
-        self.parities.remove(&id);
+        match kind {
+            Kind::Clauses => self.clauses.remove(id),
+            Kind::Parities => self.parities.remove(id),
+        }
     }
 }

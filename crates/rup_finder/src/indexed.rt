@@ -2,12 +2,13 @@
 ghost use Rattle.std.specs.Prelude.{◌≡◌, IfOk, OnOk, OnErr, [], ◌∷◌, MatchOption, None, Some};
 ghost use Rattle.cx_semantics.specs.Chain.{IsChain};
 ghost use Rattle.cx_semantics.specs.LogRules.{AreLive, HasChain};
-ghost use Rattle.cx_semantics.specs.Tables.{get, is_live, named, put_clause, put_parity, drop_clauses, drop_parities, no_tables};
+ghost use Rattle.proof_rules.specs.Kinds.{chosen, put_constraint, drop_constraints};
+ghost use Rattle.cx_semantics.specs.Tables.{is_live, named, no_tables};
 
 use crate::occurrences::Occurrences;
 use crate::search::find_by;
 use cx_base::{IdList, Lit, LitList};
-use proof_rules::Live;
+use proof_rules::{Kind, Live};
 use std::alloc::{AllocError, Global};
 use std::marker::Model;
 
@@ -51,67 +52,41 @@ impl IndexedClauses {
         &self.live
     }
 
-    /// Whether a clause of this id is live.
-    pub fn has_clause(&self, id: u64) -> bool
-        ensures { result ≡ is_live self.now.clauses id }
+    /// Whether a constraint of this kind and id is live.
+    pub fn has(&self, kind: Kind, id: u64) -> bool
+        ensures { result ≡ is_live (chosen kind self.now) id }
     {
-        self.live.has_clause(id)
+        self.live.has(kind, id)
     }
 
-    /// Whether a parity of this id is live.
-    pub fn has_parity(&self, id: u64) -> bool
-        ensures { result ≡ is_live self.now.parities id }
-    {
-        self.live.has_parity(id)
-    }
-
-    /// The literals of the live clause of this id.
-    pub fn clause(&self, id: u64) -> Option<&[Lit]>
-        ensures { MatchOption result (get self.now.clauses id ≡ None) (λ lits. get self.now.clauses id ≡ Some lits.now) }
-    {
-        self.live.clause(id)
-    }
-
-    /// The literals of the live parity of this id.
-    pub fn parity(&self, id: u64) -> Option<&[Lit]>
-        ensures { MatchOption result (get self.now.parities id ≡ None) (λ lits. get self.now.parities id ≡ Some lits.now) }
-    {
-        self.live.parity(id)
-    }
-
-    /// Puts a clause under this id. Without memory no table changes.
+    /// Puts a constraint of this kind under this id. Without memory no table changes.
     ///
-    /// Take out first what is live under it: the index would go on listing the literals of that
-    /// clause too, at the cost of later calls.
-    pub fn add_clause(&mut self, id: u64, lits: LitList) -> Result<(), AllocError>
-        ensures ok { OnOk result (self.new ≡ put_clause self.old id lits) }
+    /// Take out first the clause that is live under it: the index would go on listing its literals
+    /// too, at the cost of later calls.
+    pub fn add(&mut self, kind: Kind, id: u64, lits: LitList) -> Result<(), AllocError>
+        ensures ok { OnOk result (self.new ≡ put_constraint kind self.old id lits) }
         ensures err { OnErr result (self.new ≡ self.old) }
     {
-        self.occurrences.add(id, lits.as_slice())?;
-        self.live.add_clause(id, lits)
+        match kind {
+            Kind::Clauses => {
+                self.occurrences.add(id, lits.as_slice())?;
+                self.live.add(Kind::Clauses, id, lits)
+            }
+            Kind::Parities => self.live.add(Kind::Parities, id, lits),
+        }
     }
 
-    /// Puts a parity under this id. Without memory no table changes.
-    pub fn add_parity(&mut self, id: u64, lits: LitList) -> Result<(), AllocError>
-        ensures ok { OnOk result (self.new ≡ put_parity self.old id lits) }
-        ensures err { OnErr result (self.new ≡ self.old) }
+    /// Takes the constraint of this kind and id out; where none is live nothing changes.
+    pub fn remove(&mut self, kind: Kind, id: u64)
+        ensures { self.new ≡ drop_constraints kind self.old (id ∷ []) }
     {
-        self.live.add_parity(id, lits)
-    }
-
-    /// Takes the clause of this id out; where none is live nothing changes.
-    pub fn remove_clause(&mut self, id: u64)
-        ensures { self.new ≡ drop_clauses self.old (id ∷ []) }
-    {
-        self.occurrences.forget(&self.live, id);
-        self.live.remove_clause(id);
-    }
-
-    /// Takes the parity of this id out; where none is live nothing changes.
-    pub fn remove_parity(&mut self, id: u64)
-        ensures { self.new ≡ drop_parities self.old (id ∷ []) }
-    {
-        self.live.remove_parity(id);
+        match kind {
+            Kind::Clauses => {
+                self.occurrences.forget(&self.live, id);
+                self.live.remove(Kind::Clauses, id);
+            }
+            Kind::Parities => self.live.remove(Kind::Parities, id),
+        }
     }
 
     /// A list of live hints that is a right chain for the clause; none where no list of live hints is one.

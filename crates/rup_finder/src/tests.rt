@@ -1,7 +1,7 @@
 //! Chains over the four clauses of two variables, and by them alone where others are live.
 use super::{IndexedClauses, find};
 use cx_base::{Lit, LitList, Var};
-use proof_rules::Live;
+use proof_rules::{Kind, Live};
 use std::alloc::{AllocError, Global};
 use std::test::Fail;
 
@@ -30,7 +30,7 @@ fn a_chain_where_there_is_one(rt: HostRuntime) -> Result<(), Fail> {
     let alloc = rt.alloc();
     let mut live = Live::make(alloc);
     for (id, lits) in square() {
-        live.add_clause(id, list(alloc, &lits)?)?;
+        live.add(Kind::Clauses, id, list(alloc, &lits)?)?;
     }
     let found = find(alloc, &live, &[lit(2, false)])?;
     let ids = match &found {
@@ -47,13 +47,13 @@ fn a_chain_where_there_is_one(rt: HostRuntime) -> Result<(), Fail> {
 fn needed_hints_alone(rt: HostRuntime) -> Result<(), Fail> {
     let alloc = rt.alloc();
     let mut clauses = IndexedClauses::make(alloc);
-    clauses.add_clause(8, list(alloc, &[lit(3, false)])?)?;
-    clauses.add_clause(
+    clauses.add(Kind::Clauses, 8, list(alloc, &[lit(3, false)])?)?;
+    clauses.add(Kind::Clauses, 
         9,
         list(alloc, &[lit(3, true), lit(4, false), lit(4, false)])?,
     )?;
     for (id, lits) in square() {
-        clauses.add_clause(id, list(alloc, &lits)?)?;
+        clauses.add(Kind::Clauses, id, list(alloc, &lits)?)?;
     }
     let found = clauses.find(alloc, &[lit(2, false)])?;
     let ids = match &found {
@@ -68,9 +68,9 @@ fn needed_hints_alone(rt: HostRuntime) -> Result<(), Fail> {
     };
     // Over 9 the negation of 4 gives that of 3, and 8 has nothing left then.
     assert_eq!(rt; ids, [9, 8].as_slice());
-    clauses.remove_clause(2);
+    clauses.remove(Kind::Clauses, 2);
     assert!(rt; clauses.find(alloc, &[lit(2, false)])?.is_none());
-    assert!(rt; !clauses.has_clause(2));
-    assert!(rt; clauses.live().has_clause(1));
+    assert!(rt; !clauses.has(Kind::Clauses, 2));
+    assert!(rt; clauses.live().has(Kind::Clauses, 1));
     Ok(())
 }

@@ -13,7 +13,7 @@ use Rattle.cx_semantics.specs.Judging.{Runs, FirstFailure, AcceptedAt, end_cause
 use Rattle.cx_semantics.specs.ProofRules.{proof_calculus, proof_rules}
 use Rattle.cx_semantics.proofs.JudgingLaws.{runs_push}
 use Rattle.cx_semantics.proofs.Soundness.{accepted_steps_are_unmet}
-use Rattle.xlrup_check.specs.Verdicts.{Kept, Goes, StepTaken, TakesStep, text_refused, what_follows_of}
+use Rattle.xlrup_check.specs.Verdicts.{Kept, Goes, TakesStep, text_refused, what_follows_of}
 use Rattle.proof_rules.specs.declared.refusal.JudgeRefusal.{JudgeRefusal}
 use Rattle.proof_rules.specs.declared.refusal.JudgeRefusal.TheVariants as refusal
 use Rattle.xlrup_check.specs.declared.verdict.Verdict.TheVariants.{Verified, Refused}
@@ -54,7 +54,7 @@ module _ {X : Type 0} (leaves : X → List ProofStep → Ending → Type 0) (for
       tt,
     )
 
-    accepted_here : (after : Tables) → StepTaken formula tables step true after → (later : List ProofStep) → AcceptedAt (proof_calculus formula) (kept.before ++ step ∷ later) (count + 1)
+    accepted_here : (after : Tables) → TakesStep formula tables step (Ok true) after → (later : List ProofStep) → AcceptedAt (proof_calculus formula) (kept.before ++ step ∷ later) (count + 1)
     accepted_here after t later = record {
       before = kept.before;
       step = step;
@@ -68,7 +68,7 @@ module _ {X : Type 0} (leaves : X → List ProofStep → Ending → Type 0) (for
     }
 
     -- the step is right and ends the proof
-    step_is_accepted : (after : Tables) → StepTaken formula tables step true after → (rest : (steps : List ProofStep) × (ending : Ending) × leaves new steps ending)
+    step_is_accepted : (after : Tables) → TakesStep formula tables step (Ok true) after → (rest : (steps : List ProofStep) × (ending : Ending) × leaves new steps ending)
         → Goes leaves formula first new after count (Some (Verified (count + 1)))
     step_is_accepted after t rest = (
       (kept.before ++ step ∷ rest.0, rest.1, kept.left (step ∷ rest.0) rest.1 (follows rest.0 rest.1 rest.2), accepted_here after t rest.0),
@@ -76,7 +76,7 @@ module _ {X : Type 0} (leaves : X → List ProofStep → Ending → Type 0) (for
     )
 
     -- the step is right, and the proof goes on
-    step_is_kept : (after : Tables) → StepTaken formula tables step false after → Goes leaves formula first new after count None
+    step_is_kept : (after : Tables) → TakesStep formula tables step (Ok false) after → Goes leaves formula first new after count None
     step_is_kept after t = record {
       before = kept.before ++ step ∷ [];
       runs = subst (λ (u : Tables). Runs (proof_calculus formula) (first_tables formula) (kept.before ++ step ∷ []) u) (sym t.1.0)

@@ -1,18 +1,23 @@
 -- What the checker answers.
-use Rattle.std.specs.Prelude.{◌≡◌, ℕ, Bool, true, false, List, length, ◌++◌, ◌+◌, Option, Some, None, Result, Ok, Err, ⊤}
+use Rattle.std.specs.Prelude.{◌≡◌, ℕ, ℤ, Bool, true, false, ◌&&◌, [], ◌∷◌, List, length, ◌++◌, ◌+◌, Option, Some, None, Result, Ok, Err, ⊤}
 use Rattle.cx_base.specs.Problem.{Problem, Unmet}
 use Rattle.cx_semantics.specs.declared.steps.ProofStep.{ProofStep}
+use Rattle.cx_base.specs.Literals.{Literal}
 use Rattle.cx_semantics.specs.Grammar.{Ending}
+use Rattle.cx_semantics.specs.Integers.{literals}
+use Rattle.cx_semantics.specs.declared.steps.ProofStep.TheVariants as proof
 use Rattle.cx_semantics.specs.Tables.{Tables, first_tables}
 use Rattle.cx_semantics.specs.declared.steps.Cause.TheVariants as causes
 use Rattle.proof_text.specs.declared.source.TextRefusal.{TextRefusal}
 use Rattle.proof_text.specs.declared.source.TextRefusal.TheVariants as text
-use Rattle.cx_semantics.specs.Judging.{Judgement, accepted, refused, IsRight, Runs, JudgedAs}
-use Rattle.cx_semantics.specs.ProofRules.{proof_calculus, proof_rules, after_step, adds_empty_clause}
+use Rattle.cx_semantics.specs.Judging.{Rule, AllHold, Judgement, accepted, refused, Runs, JudgedAs}
+use Rattle.cx_semantics.specs.ProofRules.{adding, is_empty, hinting, chaining, summing, clause_of_parity, parity_of_clauses, proof_calculus, proof_rules, after_step, adds_empty_clause}
 use Rattle.cx_base.specs.Counts.{Rose}
 use Rattle.proof_rules.specs.declared.refusal.JudgeRefusal.{JudgeRefusal}
 use Rattle.proof_rules.specs.declared.refusal.JudgeRefusal.TheVariants as refusal
 use Rattle.proof_rules.specs.Judges.{IsRefusedBy}
+use Rattle.proof_rules.specs.Kinds.{chosen, put_constraint, is_clauses, hinted}
+use Rattle.proof_rules.specs.declared.live.Kind.{Kind}
 use Rattle.xlrup_check.specs.declared.verdict.Verdict.{Verdict}
 use Rattle.xlrup_check.specs.declared.verdict.Verdict.TheVariants.{Verified, Refused}
 use Rattle.xlrup_check.specs.declared.verdict.Fault.{Fault}
@@ -66,12 +71,25 @@ abbrev pub Goes : {X : Type 0} → (X → List ProofStep → Ending → Type 0) 
 Goes leaves formula first now tables steps None = Kept leaves formula first now tables (steps + 1)
 Goes leaves formula first now tables steps (Some verdict) = IsJudgedBy leaves formula first verdict × IsSound formula verdict
 
--- the step is right, these tables stand after it, and whether it ends the proof
-abbrev pub StepTaken : Problem → Tables → ProofStep → Bool → Tables → Type 0
-StepTaken formula old step ends new =
-    IsRight (proof_calculus formula) old step × ((new ≡ after_step old step) × (ends ≡ adds_empty_clause step))
+-- all rules hold, these tables stand after and it is said whether the proof ends; or the first rule that fails is the cause
+abbrev pub Takes : List Rule → Tables → Bool → Result Bool JudgeRefusal → Tables → Type 0
+Takes rules after ends (Ok said) new = AllHold rules × ((new ≡ after) × (said ≡ ends))
+Takes rules after ends (Err why) new = IsRefusedBy rules why
 
 -- a step was taken, or has this first cause against it
 abbrev pub TakesStep : Problem → Tables → ProofStep → Result Bool JudgeRefusal → Tables → Type 0
-TakesStep formula old step (Ok ends) new = StepTaken formula old step ends new
-TakesStep formula old step (Err why) new = IsRefusedBy (proof_rules formula old step) why
+TakesStep formula old step result new = Takes (proof_rules formula old step) (after_step old step) (adds_empty_clause step) result new
+
+-- the hints of what a step adds, and what they show
+abbrev pub hint_rules : Tables → ProofStep → List Literal → List Rule
+hint_rules tables (proof.Clause n lits hints) target = hinting tables.clauses hints ++ chaining target (hinted tables.clauses hints)
+hint_rules tables (proof.Parity n lits hints) target = hinting tables.parities hints ++ summing target (hinted tables.parities hints)
+hint_rules tables (proof.ClauseOfParity n lits hint) target = hinting tables.parities (hint ∷ []) ++ clause_of_parity target (hinted tables.parities (hint ∷ []))
+hint_rules tables (proof.ParityOfClauses n lits hints) target = hinting tables.clauses hints ++ parity_of_clauses target (hinted tables.clauses hints)
+hint_rules tables (proof.DeleteClauses n ids) target = []
+hint_rules tables (proof.DeleteParities ids) target = []
+
+-- the literals that a step adds stand in the table, or have this first cause against them
+abbrev pub TakesAdded : Problem → Tables → Kind → ℕ → List ℤ → ProofStep → Result Bool JudgeRefusal → Tables → Type 0
+TakesAdded formula old kind n lits step result new =
+    Takes (adding formula (chosen kind old) n lits ++ hint_rules old step (literals lits)) (put_constraint kind old n (literals lits)) (is_clauses kind && is_empty lits) result new

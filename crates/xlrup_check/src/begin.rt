@@ -6,7 +6,7 @@ ghost use Rattle.cx_semantics.specs.Tables.{first_tables};
 ghost use Rattle.xlrup_check.specs.Begun.{Begun};
 
 use cx_base::{ConstraintRef, Formula, Lit, LitList};
-use proof_rules::Live;
+use proof_rules::{Kind, Live};
 use std::alloc::{AllocError, Global};
 
 /// How many clauses and how many parities are live.
@@ -38,12 +38,12 @@ fn put(
     match item {
         ConstraintRef::Clause(lits) => {
             counts.clauses += 1;
-            live.add_clause(counts.clauses, list_of(alloc, lits)?)?;
+            live.add(Kind::Clauses, counts.clauses, list_of(alloc, lits)?)?;
             Ok(())
         }
         ConstraintRef::Parity(lits) => {
             counts.parities += 1;
-            live.add_parity(counts.parities, list_of(alloc, lits)?)?;
+            live.add(Kind::Parities, counts.parities, list_of(alloc, lits)?)?;
             Ok(())
         }
     }

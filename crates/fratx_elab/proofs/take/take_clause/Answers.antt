@@ -14,11 +14,11 @@ returns-clause-taken c =
     let formula = c.args.formula.now in
     let state = c.args.state.now in
     let lits = c.args.lits.now in
-    let ids : List ℕ = c.in-Ok-chain_of.ids in
-    let added = subst (λ b. AllHold (added_rules formula b lits)) c.has_clause.ensures c.in-Ok.ensures.0 in
-    let target = c.in-Ok.ensures.1 in
-    let chain = subst (λ (l : List Literal). IsChain l (named state.live.clauses ids)) target c.in-Ok-chain_of.ensures.1 in
+    let ids : List ℕ = c.in_ok-ids.ids in
+    let added = subst (λ b. AllHold (added_rules formula b lits)) c.has.ensures c.in_ok-target.ensures.0 in
+    let target = c.in_ok-target.ensures.1 in
+    let chain = subst (λ (l : List Literal). IsChain l (named state.live.clauses ids)) target c.in_ok-ids.ensures.1 in
     let hints = c.in_ok-hints.ensures ∙ ap (hints_for state.clauses) c.as_slice.ensures in
-    takes_clause formula state _ c.args.id lits ids c.clause_step.result added c.in-Ok-chain_of.ensures.0 chain
-    (c.in_ok-add_clause.ensures.ok ∙ ap (put_clause state.live c.args.id) target) c.in_ok-next.ensures.named refl
+    takes_clause formula state _ c.args.id lits ids c.clause_step.result added c.in_ok-ids.ensures.0 chain
+    (c.in_ok-add.ensures.ok ∙ ap (put_clause state.live c.args.id) target) c.in_ok-next.ensures.named refl
     (c.clause_step.ensures.step ∙ (λ i. step.Clause (c.in_ok-next.ensures.next i) (c.in_ok-copy.ensures i) (hints i)))

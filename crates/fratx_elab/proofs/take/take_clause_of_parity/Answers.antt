@@ -16,10 +16,10 @@ returns-clause-taken c =
     let lits = c.args.lits.now in
     let ids = c.args.source ∷ [] in
     let p : ℕ = c.in-Some.named in
-    let added = subst (λ b. AllHold (added_rules formula b lits)) c.has_clause.ensures c.in-Ok.ensures.0 in
-    let target = c.in-Ok.ensures.1 in
+    let added = subst (λ b. AllHold (added_rules formula b lits)) c.has.ensures c.in_ok-target.ensures.0 in
+    let target = c.in_ok-target.ensures.1 in
     let judged = subst (λ (l : List Literal). AllHold (naming state.live.parities ids ++ clause_of_parity l (named state.live.parities ids))) target
-    (subst (λ (t : Tables). AllHold (naming t.parities ids ++ clause_of_parity c.in-Ok.target (named t.parities ids))) c.live.ensures c.in-Ok-judge_clause_of_named_parity.ensures) in
+    (subst (λ (t : Tables). AllHold (naming t.parities ids ++ clause_of_parity c.in_ok-target.target (named t.parities ids))) c.live.ensures c.in_ok-judge_clause_of_named_parity.ensures) in
     takes_clause_of_parity formula state _ c.args.id lits c.args.source p c.clause_of_parity_step.result added judged (sym (sym c.in-Some.is ∙ c.get.ensures))
-    (c.in_ok-add_clause.ensures.ok ∙ ap (put_clause state.live c.args.id) target) c.in_ok-next.ensures.named refl
+    (c.in_ok-add.ensures.ok ∙ ap (put_clause state.live c.args.id) target) c.in_ok-next.ensures.named refl
     (c.clause_of_parity_step.ensures.step ∙ (λ i. step.ClauseOfParity (c.in_ok-next.ensures.next i) (c.in_ok-copy.ensures i) (pos p)))

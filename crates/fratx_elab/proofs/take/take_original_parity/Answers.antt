@@ -13,10 +13,10 @@ returns-in_ok-put_original-in-Some-clause-taken c =
     let formula = c.args.formula.now in
     let lits = c.args.lits.now in
     let k = c.in-Some.number in
-    let added = subst (λ b. AllHold (added_rules formula b lits)) c.has_parity.ensures c.in-Ok.ensures.0 in
-    let target = c.in-Ok.ensures.1 in
+    let added = subst (λ b. AllHold (added_rules formula b lits)) c.has.ensures c.in_ok-target.ensures.0 in
+    let target = c.in_ok-target.ensures.1 in
     let seen = c.as_slice.result.now in
     let P : Option ℕ → Type 0 = λ o. MatchOption o (¬ IsOriginalParity formula seen) (IsParityNumber formula seen) in
     let number = subst P c.in-Some.is (c.in_ok-number.ensures formula c.requires.originals) in
     takes_original_parity formula c.args.state.now _ c.args.id k lits added (subst (λ (l : List Literal). IsParityNumber formula l k) (c.as_slice.ensures ∙ target) number)
-    (c.in_ok-add_parity-in-Some.ensures.ok ∙ ap (put_parity c.args.state.now.live c.args.id) target) refl c.in_ok-put_original-in-Some.ensures
+    (c.in_ok-add-in-Some.ensures.ok ∙ ap (put_parity c.args.state.now.live c.args.id) target) refl c.in_ok-put_original-in-Some.ensures

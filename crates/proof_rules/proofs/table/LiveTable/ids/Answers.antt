@@ -5,7 +5,7 @@ use Rattle.std.specs.Map.Iter.{deref}
 use Rattle.std.proofs.lemmas.Map.Iter.{rest_all}
 use Rattle.cx_semantics.specs.Tables.{is_live}
 use Rattle.cx_semantics.proofs.MapEntries.{get-from_entries}
-use Rattle.proof_rules.proofs.live.Live.clause_ids.Goals as goal
+use Rattle.proof_rules.proofs.table.LiveTable.ids.Goals as goal
 
 pub returns : goal.returns
 returns c n =
@@ -13,5 +13,5 @@ returns c n =
     let done = rest_all deref _ _ _ c.in-None.is c.next.ensures.steps in
     let all : items ≡ c.into_iter-id-iterator.result = sym (append-nil items) ∙ ap (λ rest. items ++ rest) (sym done) ∙ c.loop-id.invariant in
     ap (list_any (eq_by_cmp nat_cmp n)) (c.from_vec.ensures ∙ all ∙ c.into_iter-id-iterator.ensures.into_iter_gives) ∙ sym (c.keys-id-items.ensures.has n)
-    ∙ ap is_some (sym (get-from_entries c.self.inside.clauses.entries n))
-    ∙ ap (λ t. is_live t.clauses n) c.self.view_is
+    ∙ ap is_some (sym (get-from_entries c.self.inside.lists.entries n))
+    ∙ ap (λ t. is_live t n) c.self.view_is

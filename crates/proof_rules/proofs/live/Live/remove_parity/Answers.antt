@@ -1,9 +1,0 @@
-use Rattle.std.proofs.Common.{◌∙◌, ap, ◌∷◌, []}
-use Rattle.cx_semantics.specs.Tables.{drop_parities}
-use Rattle.cx_semantics.proofs.MapEntries.{from_entries-remove}
-use Rattle.proof_rules.proofs.live.Live.remove_parity.Goals as goal
-
-pub returns : goal.returns
-returns c =
-    let e = from_entries-remove c.self.inside.parities.entries c.remove.new.self.entries c.args.id c.remove.ensures.updates.0 in
-    (λ i. record { clauses = Rattle.cx_semantics.specs.Tables.table_of c.self.inside.clauses.entries; parities = e i }) ∙ ap (λ t. drop_parities t (c.args.id ∷ [])) c.self.view_is

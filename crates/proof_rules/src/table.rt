@@ -1,0 +1,81 @@
+//! One table of live constraints, by their ids.
+ghost use Rattle.std.specs.Prelude.{◌≡◌, OnOk, OnErr, IfOk, MatchOption, None, Some};
+ghost use Rattle.std.specs.FinMap as map;
+ghost use Rattle.cx_semantics.specs.Tables.{get, is_live};
+ghost use Rattle.proof_rules.specs.Kinds.{ListsLive};
+
+use cx_base::{IdList, Lit, LitList};
+use std::alloc::{AllocError, Global};
+use std::collections::BTreeMap;
+use std::marker::Model;
+
+/// From ids to literals.
+#[derive(Drop)]
+pub(crate) struct LiveTable {
+    lists: BTreeMap<u64, LitList>,
+}
+
+impl Model for LiveTable {
+    ghost use Rattle.cx_semantics.specs.Tables.{Table, table_code, table_of};
+
+    ghost Value = { Table };
+
+    ghost coded = { table_code };
+
+    ghost view = { λ a. table_of a.lists.entries };
+}
+
+impl LiveTable {
+    /// Nothing is live.
+    pub(crate) fn new(alloc: Global) -> LiveTable
+        ensures { result ≡ map.empty }
+    {
+        LiveTable {
+            lists: BTreeMap::new(alloc),
+        }
+    }
+
+    /// Whether a list of this id is live.
+    pub(crate) fn has(&self, id: u64) -> bool
+        ensures { result ≡ is_live self.now id }
+    {
+        self.lists.contains_key(&id)
+    }
+
+    /// The live list of this id.
+    pub(crate) fn get(&self, id: u64) -> Option<&[Lit]>
+        ensures { MatchOption result (get self.now id ≡ None) (λ lits. get self.now id ≡ Some lits.now) }
+    {
+        match self.lists.get(&id) {
+            Some(lits) => Some(lits.as_slice()),
+            None => None,
+        }
+    }
+
+    /// The ids of the live lists.
+    pub(crate) fn ids(&self, alloc: Global) -> Result<IdList, AllocError>
+        ensures { IfOk result (ListsLive self.now) }
+    {
+        let mut ids = Vec::new(alloc);
+        for id in self.lists.keys() {
+            ids.push(*id)?;
+        }
+        Ok(IdList::from_vec(ids))
+    }
+
+    /// Puts a list under this id. Without memory nothing changes.
+    pub(crate) fn insert(&mut self, id: u64, lits: LitList) -> Result<(), AllocError>
+        ensures ok { OnOk result (self.new ≡ map.insert self.old id lits) }
+        ensures err { OnErr result (self.new ≡ self.old) }
+    {
+        self.lists.insert(id, lits)?;
+        Ok(())
+    }
+
+    /// Takes the list of this id out; where none is live nothing changes.
+    pub(crate) fn remove(&mut self, id: u64)
+        ensures { self.new ≡ map.remove self.old id }
+    {
+        self.lists.remove(&id);
+    }
+}

@@ -1,0 +1,13 @@
+use Rattle.xlrup_check.proofs.step.take_step.Goals as goal
+
+pub returns-in-Clause : goal.returns-in-Clause
+returns-in-Clause c = λ formula e. rw c.in-Clause.is (rw c.in-Clause.is at (c.take_added.ensures formula e))
+
+pub returns-in-Parity : goal.returns-in-Parity
+returns-in-Parity c = λ formula e. rw c.in-Parity.is (rw c.in-Parity.is at (c.take_added-in-Parity.ensures formula e))
+
+pub returns-in-ClauseOfParity : goal.returns-in-ClauseOfParity
+returns-in-ClauseOfParity c = λ formula e. rw c.in-ClauseOfParity.is (rw c.in-ClauseOfParity.is at (c.take_added-in-ClauseOfParity.ensures formula e))
+
+pub returns-in-ParityOfClauses : goal.returns-in-ParityOfClauses
+returns-in-ParityOfClauses c = λ formula e. rw c.in-ParityOfClauses.is (rw c.in-ParityOfClauses.is at (c.take_added-in-ParityOfClauses.ensures formula e))
