@@ -8,6 +8,7 @@ use Rattle.cx_semantics.specs.Tables.{Table, Tables, is_live, named, put_clause,
 use Rattle.proof_rules.specs.declared.live.Kind.{Kind}
 use Rattle.proof_rules.specs.declared.live.Kind.TheVariants.{Clauses, Parities}
 
+-- the table of a kind, what it gains, and what goes out of it
 abbrev pub chosen : Kind → Tables → Table
 chosen Clauses tables = tables.clauses
 chosen Parities tables = tables.parities

@@ -2,8 +2,7 @@
 ghost use Rattle.std.specs.Prelude.{◌≡◌, length, IfOk};
 
 use crate::{
-    JudgeRefusal, Kind, Live, judge_chain, judge_clause_of_parity, judge_parity_of_clauses,
-    judge_sum,
+    JudgeRefusal, Live, judge_chain, judge_clause_of_parity, judge_parity_of_clauses, judge_sum,
 };
 use cx_base::{Lit, LitList, Var};
 use cx_semantics::Cause;
@@ -23,15 +22,15 @@ fn lits(alloc: Global, integers: &[i64]) -> Result<LitList, AllocError> {
 /// The four clauses over 1 and 2 and one over 3, and four parities over these.
 fn live(alloc: Global) -> Result<Live, AllocError> {
     let mut live = Live::make(alloc);
-    live.add(Kind::Clauses, 1, lits(alloc, &[1, 2])?)?;
-    live.add(Kind::Clauses, 2, lits(alloc, &[-1, 2])?)?;
-    live.add(Kind::Clauses, 3, lits(alloc, &[1, -2])?)?;
-    live.add(Kind::Clauses, 4, lits(alloc, &[-1, -2])?)?;
-    live.add(Kind::Clauses, 5, lits(alloc, &[3])?)?;
-    live.add(Kind::Parities, 1, lits(alloc, &[1, 2])?)?;
-    live.add(Kind::Parities, 2, lits(alloc, &[2, 3])?)?;
-    live.add(Kind::Parities, 3, lits(alloc, &[1, 3])?)?;
-    live.add(Kind::Parities, 4, lits(alloc, &[1, -1])?)?;
+    live.add_clause(1, lits(alloc, &[1, 2])?)?;
+    live.add_clause(2, lits(alloc, &[-1, 2])?)?;
+    live.add_clause(3, lits(alloc, &[1, -2])?)?;
+    live.add_clause(4, lits(alloc, &[-1, -2])?)?;
+    live.add_clause(5, lits(alloc, &[3])?)?;
+    live.add_parity(1, lits(alloc, &[1, 2])?)?;
+    live.add_parity(2, lits(alloc, &[2, 3])?)?;
+    live.add_parity(3, lits(alloc, &[1, 3])?)?;
+    live.add_parity(4, lits(alloc, &[1, -1])?)?;
     Ok(live)
 }
 
@@ -62,7 +61,7 @@ fn chains(rt: HostRuntime) -> Result<(), Fail> {
         let judged = judge_chain(alloc, &live, &lits(alloc, target)?, named);
         assert_eq!(rt; cause(judged)?, want, "{target:?} by {named:?}");
     }
-    live.remove(Kind::Clauses, 2);
+    live.remove_clause(2);
     let judged = judge_chain(alloc, &live, &lits(alloc, &[2])?, &[1, 2]);
     assert_eq!(rt; cause(judged)?, Some(Cause::HintNotLive));
     Ok(())
@@ -88,7 +87,7 @@ fn sums(rt: HostRuntime) -> Result<(), Fail> {
         let judged = judge_sum(alloc, &live, &lits(alloc, target)?, named);
         assert_eq!(rt; cause(judged)?, want, "{target:?} by {named:?}");
     }
-    live.remove(Kind::Parities, 1);
+    live.remove_parity(1);
     let judged = judge_sum(alloc, &live, &lits(alloc, &[1, 2])?, &[1]);
     assert_eq!(rt; cause(judged)?, Some(Cause::HintNotLive));
     Ok(())
