@@ -6,7 +6,6 @@ use Rattle.cx_semantics.specs.ProofRules.{parity_of_clauses}
 use Rattle.cx_semantics.specs.Tables.{Tables, named, put_parity}
 use Rattle.cx_semantics.specs.declared.steps.ProofStep.TheVariants as step
 use Rattle.fratx_elab.specs.Names.{hints_for}
-use Rattle.fratx_elab.specs.Takes.{added_rules}
 use Rattle.fratx_elab.proofs.Taking.{takes_parity_of_clauses}
 use Rattle.fratx_elab.proofs.take.take_parity_of_clauses.Goals as goal
 
@@ -16,7 +15,7 @@ returns-clause-taken c =
     let state = c.args.state.now in
     let lits = c.args.lits.now in
     let ids : List ℕ = c.args.sources.now in
-    let added = subst (λ b. AllHold (added_rules formula b lits)) c.has.ensures c.in_ok-target.ensures.0 in
+    let added = c.in_ok-target.ensures.0 in
     let target = c.in_ok-target.ensures.1 in
     let slice = c.as_slice.ensures in
     let judged = subst (λ (l : List Literal). AllHold (naming state.live.clauses ids ++ parity_of_clauses l (named state.live.clauses ids))) target
