@@ -158,7 +158,7 @@ pub fn take_parity(
     state: &mut State,
     id: u64,
     lits: &IntList,
-    sources: &IdList,
+    sources: &[u64],
 ) -> Result<Option<ProofStep>, JudgeRefusal>
     requires room { state.old.parities.last < MAX_ID }
     ensures taken { TakesLogStep formula.now state.old (step.Parity id lits.now sources.now) result state.new }
@@ -166,8 +166,8 @@ pub fn take_parity(
     ensures counts { OnOk result (CountsOneMore state.old state.new) }
 {
     let target = admit(alloc, formula, &state.live, Kind::Parities, id, lits)?;
-    judge_named_sum(alloc, state.live.live(), &target, sources.as_slice())?;
-    let hints = hints_of(alloc, &state.parities, sources.as_slice())?;
+    judge_named_sum(alloc, state.live.live(), &target, sources)?;
+    let hints = hints_of(alloc, &state.parities, sources)?;
     let copy = copy(alloc, lits)?;
     state.live.add(Kind::Parities, id, target)?;
     let next = state.parities.put_next(id)?;
@@ -181,7 +181,7 @@ pub fn take_parity_of_clauses(
     state: &mut State,
     id: u64,
     lits: &IntList,
-    sources: &IdList,
+    sources: &[u64],
 ) -> Result<Option<ProofStep>, JudgeRefusal>
     requires room { state.old.parities.last < MAX_ID }
     ensures taken { TakesLogStep formula.now state.old (step.ParityOfClauses id lits.now sources.now) result state.new }
@@ -190,11 +190,11 @@ pub fn take_parity_of_clauses(
 {
     let target = admit(alloc, formula, &state.live, Kind::Parities, id, lits)?;
     // By `?` the prover does not see the cause through.
-    match judge_parity_of_named_clauses(alloc, state.live.live(), &target, sources.as_slice()) {
+    match judge_parity_of_named_clauses(alloc, state.live.live(), &target, sources) {
         Ok(()) => {}
         Err(why) => return Err(why),
     }
-    let hints = hints_of(alloc, &state.clauses, sources.as_slice())?;
+    let hints = hints_of(alloc, &state.clauses, sources)?;
     let copy = copy(alloc, lits)?;
     state.live.add(Kind::Parities, id, target)?;
     let next = state.parities.put_next(id)?;
