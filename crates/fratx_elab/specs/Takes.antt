@@ -1,14 +1,12 @@
 -- One step of a log, judged and done.
-use Rattle.std.specs.Prelude.{◌≡◌, ◌≤◌, ◌+◌, ℕ, ℤ, nat_abs, nat_lt, ⊤, Bool, false, List, [], ◌∷◌, Option, Some, None, Result, Ok, Err}
-use Rattle.std.specs.List.{list_any}
+use Rattle.std.specs.Prelude.{◌≡◌, ◌≤◌, ◌+◌, ℕ, ℤ, ⊤, Bool, false, List, [], ◌∷◌, Option, Some, None, Result, Ok, Err}
 use Rattle.cx_base.specs.Literals.{Literal}
 use Rattle.cx_base.specs.Problem.{Problem}
 use Rattle.cx_semantics.specs.Chain.{IsChain}
 use Rattle.cx_semantics.specs.Integers.{literals}
-use Rattle.cx_semantics.specs.declared.steps.Cause.TheVariants as causes
-use Rattle.cx_semantics.specs.Judging.{Rule, refused_where, AllHold, IsRight}
+use Rattle.cx_semantics.specs.Judging.{AllHold, IsRight}
 use Rattle.cx_semantics.specs.LogRules.{AreLive, chained, log_calculus, log_rules, after_log_step, derives_empty_clause}
-use Rattle.cx_semantics.specs.ProofRules.{proof_calculus, after_step, adds_empty_clause}
+use Rattle.cx_semantics.specs.ProofRules.{adding, proof_calculus, after_step, adds_empty_clause}
 use Rattle.cx_semantics.specs.Printed.{HasProofText}
 use Rattle.cx_semantics.specs.Tables.{Table, Tables, named}
 use Rattle.cx_semantics.specs.declared.steps.LogStep.{LogStep}
@@ -49,13 +47,10 @@ CanBePrinted None = ⊤
 abbrev pub CountsOneMore : State → State → Type 0
 CountsOneMore old new = (new.clauses.last ≤ old.clauses.last + 1) × (new.parities.last ≤ old.parities.last + 1)
 
--- the literals of what is added, whose id is live or not
-abbrev pub added_rules : Problem → Bool → List ℤ → List Rule
-added_rules formula is_live lits = refused_where causes.VarUnknown (list_any (λ z. nat_lt formula.variables (nat_abs z)) lits) ∷ refused_where causes.IdInUse is_live ∷ []
-
-abbrev pub Admits : Problem → Bool → List ℤ → Result (List Literal) JudgeRefusal → Type 0
-Admits formula is_live lits (Ok target) = AllHold (added_rules formula is_live lits) × (target ≡ literals lits)
-Admits formula is_live lits (Err why) = IsRefusedBy (added_rules formula is_live lits) why
+-- the literals of what is added
+abbrev pub Admits : Problem → Table → ℕ → List ℤ → Result (List Literal) JudgeRefusal → Type 0
+Admits formula table n lits (Ok target) = AllHold (adding formula table n lits) × (target ≡ literals lits)
+Admits formula table n lits (Err why) = IsRefusedBy (adding formula table n lits) why
 
 -- live hints that are a right chain; else there is no such list
 abbrev pub GivesChain : Table → List Literal → Result (List ℕ) JudgeRefusal → Type 0

@@ -66,12 +66,14 @@ pub fn take_step(
         LogStep::ClauseWithHints(id, lits, hints) => {
             take_clause(alloc, formula, state, *id, lits, hints.as_slice())
         }
-        LogStep::Parity(id, lits, ids) => take_parity(alloc, formula, state, *id, lits, ids),
+        LogStep::Parity(id, lits, ids) => {
+            take_parity(alloc, formula, state, *id, lits, ids.as_slice())
+        }
         LogStep::ClauseOfParity(id, lits, source) => {
             take_clause_of_parity(alloc, formula, state, *id, lits, *source)
         }
         LogStep::ParityOfClauses(id, lits, ids) => {
-            take_parity_of_clauses(alloc, formula, state, *id, lits, ids)
+            take_parity_of_clauses(alloc, formula, state, *id, lits, ids.as_slice())
         }
         LogStep::Delete(id, lits) => delete_clause(alloc, counts.clauses, state, *id, lits),
         LogStep::DeleteParity(id, lits) => delete_parity(alloc, counts.parities, state, *id, lits),

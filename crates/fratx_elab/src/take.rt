@@ -5,7 +5,7 @@ ghost use Rattle.cx_semantics.specs.Chain.{IsChain};
 ghost use Rattle.cx_semantics.specs.LogRules.{AreLive, HasChain, chained, derives_empty_clause};
 ghost use Rattle.cx_semantics.specs.Tables.{named};
 ghost use Rattle.cx_semantics.specs.declared.steps.LogStep.TheVariants as step;
-ghost use Rattle.proof_rules.specs.Judges.{JudgesBy};
+ghost use Rattle.proof_rules.specs.Kinds.{chosen};
 ghost use Rattle.fratx_elab.specs.Contents.{StandsFor};
 ghost use Rattle.fratx_elab.specs.Names.{hints_for};
 ghost use Rattle.fratx_elab.specs.Takes.{TakesLogStep, Admits, GivesChain, CanBePrinted, CountsOneMore};
@@ -48,12 +48,14 @@ fn hints_of(alloc: Global, names: &Names, ids: &[u64]) -> Result<IntList, AllocE
 fn admit(
     alloc: Global,
     formula: &Formula,
+    live: &IndexedClauses,
+    kind: Kind,
+    id: u64,
     lits: &IntList,
-    is_live: bool,
 ) -> Result<LitList, JudgeRefusal>
-    ensures { Admits formula.now is_live lits.now result }
+    ensures { Admits formula.now (chosen kind live.now) id lits.now result }
 {
-    proof_rules::admit(alloc, formula.vars(), lits, is_live)
+    proof_rules::admit(alloc, formula.vars(), lits, live.has(kind, id))
 }
 
 /// Live hints that are a right chain for the clause: those that are given, where they are, or else any.
@@ -90,7 +92,7 @@ pub fn take_original(
     ensures text { IfOk result CanBePrinted }
     ensures counts { OnOk result (CountsOneMore state.old state.new) }
 {
-    let target = admit(alloc, formula, lits, state.live.has(Kind::Clauses, id))?;
+    let target = admit(alloc, formula, &state.live, Kind::Clauses, id, lits)?;
     match originals.clause_number(alloc, target.as_slice())? {
         Some(number) => {
             state.live.add(Kind::Clauses, id, target)?;
@@ -115,7 +117,7 @@ pub fn take_original_parity(
     ensures text { IfOk result CanBePrinted }
     ensures counts { OnOk result (CountsOneMore state.old state.new) }
 {
-    let target = admit(alloc, formula, lits, state.live.has(Kind::Parities, id))?;
+    let target = admit(alloc, formula, &state.live, Kind::Parities, id, lits)?;
     match originals.parity_number(alloc, target.as_slice())? {
         Some(number) => {
             state.live.add(Kind::Parities, id, target)?;
@@ -140,7 +142,7 @@ pub fn take_clause(
     ensures text { IfOk result CanBePrinted }
     ensures counts { OnOk result (CountsOneMore state.old state.new) }
 {
-    let target = admit(alloc, formula, lits, state.live.has(Kind::Clauses, id))?;
+    let target = admit(alloc, formula, &state.live, Kind::Clauses, id, lits)?;
     let ids = chain_of(alloc, &state.live, &target, given)?;
     let hints = hints_of(alloc, &state.clauses, ids.as_slice())?;
     let copy = copy(alloc, lits)?;
@@ -156,16 +158,16 @@ pub fn take_parity(
     state: &mut State,
     id: u64,
     lits: &IntList,
-    sources: &IdList,
+    sources: &[u64],
 ) -> Result<Option<ProofStep>, JudgeRefusal>
     requires room { state.old.parities.last < MAX_ID }
     ensures taken { TakesLogStep formula.now state.old (step.Parity id lits.now sources.now) result state.new }
     ensures text { IfOk result CanBePrinted }
     ensures counts { OnOk result (CountsOneMore state.old state.new) }
 {
-    let target = admit(alloc, formula, lits, state.live.has(Kind::Parities, id))?;
-    judge_named_sum(alloc, state.live.live(), &target, sources.as_slice())?;
-    let hints = hints_of(alloc, &state.parities, sources.as_slice())?;
+    let target = admit(alloc, formula, &state.live, Kind::Parities, id, lits)?;
+    judge_named_sum(alloc, state.live.live(), &target, sources)?;
+    let hints = hints_of(alloc, &state.parities, sources)?;
     let copy = copy(alloc, lits)?;
     state.live.add(Kind::Parities, id, target)?;
     let next = state.parities.put_next(id)?;
@@ -179,20 +181,20 @@ pub fn take_parity_of_clauses(
     state: &mut State,
     id: u64,
     lits: &IntList,
-    sources: &IdList,
+    sources: &[u64],
 ) -> Result<Option<ProofStep>, JudgeRefusal>
     requires room { state.old.parities.last < MAX_ID }
     ensures taken { TakesLogStep formula.now state.old (step.ParityOfClauses id lits.now sources.now) result state.new }
     ensures text { IfOk result CanBePrinted }
     ensures counts { OnOk result (CountsOneMore state.old state.new) }
 {
-    let target = admit(alloc, formula, lits, state.live.has(Kind::Parities, id))?;
+    let target = admit(alloc, formula, &state.live, Kind::Parities, id, lits)?;
     // By `?` the prover does not see the cause through.
-    match judge_parity_of_named_clauses(alloc, state.live.live(), &target, sources.as_slice()) {
+    match judge_parity_of_named_clauses(alloc, state.live.live(), &target, sources) {
         Ok(()) => {}
         Err(why) => return Err(why),
     }
-    let hints = hints_of(alloc, &state.clauses, sources.as_slice())?;
+    let hints = hints_of(alloc, &state.clauses, sources)?;
     let copy = copy(alloc, lits)?;
     state.live.add(Kind::Parities, id, target)?;
     let next = state.parities.put_next(id)?;
@@ -213,7 +215,7 @@ pub fn take_clause_of_parity(
     ensures text { IfOk result CanBePrinted }
     ensures counts { OnOk result (CountsOneMore state.old state.new) }
 {
-    let target = admit(alloc, formula, lits, state.live.has(Kind::Clauses, id))?;
+    let target = admit(alloc, formula, &state.live, Kind::Clauses, id, lits)?;
     judge_clause_of_named_parity(alloc, state.live.live(), &target, source)?;
     let named = match state.parities.get(source) {
         Some(named) => named,

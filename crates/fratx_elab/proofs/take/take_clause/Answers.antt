@@ -1,11 +1,9 @@
 use Rattle.std.proofs.Common.{refl, ap, ◌∙◌, subst, ℕ, List}
 use Rattle.cx_base.specs.Literals.{Literal}
 use Rattle.cx_semantics.specs.Chain.{IsChain}
-use Rattle.cx_semantics.specs.Judging.{AllHold}
 use Rattle.cx_semantics.specs.Tables.{named, put_clause}
 use Rattle.cx_semantics.specs.declared.steps.ProofStep.TheVariants as step
 use Rattle.fratx_elab.specs.Names.{hints_for}
-use Rattle.fratx_elab.specs.Takes.{added_rules}
 use Rattle.fratx_elab.proofs.Taking.{takes_clause}
 use Rattle.fratx_elab.proofs.take.take_clause.Goals as goal
 
@@ -15,7 +13,7 @@ returns-clause-taken c =
     let state = c.args.state.now in
     let lits = c.args.lits.now in
     let ids : List ℕ = c.in_ok-ids.ids in
-    let added = subst (λ b. AllHold (added_rules formula b lits)) c.has.ensures c.in_ok-target.ensures.0 in
+    let added = c.in_ok-target.ensures.0 in
     let target = c.in_ok-target.ensures.1 in
     let chain = subst (λ (l : List Literal). IsChain l (named state.live.clauses ids)) target c.in_ok-ids.ensures.1 in
     let hints = c.in_ok-hints.ensures ∙ ap (hints_for state.clauses) c.as_slice.ensures in

@@ -5,7 +5,6 @@ use Rattle.cx_semantics.specs.LogRules.{naming}
 use Rattle.cx_semantics.specs.ProofRules.{clause_of_parity}
 use Rattle.cx_semantics.specs.Tables.{Tables, named, put_clause}
 use Rattle.cx_semantics.specs.declared.steps.ProofStep.TheVariants as step
-use Rattle.fratx_elab.specs.Takes.{added_rules}
 use Rattle.fratx_elab.proofs.Taking.{takes_clause_of_parity}
 use Rattle.fratx_elab.proofs.take.take_clause_of_parity.Goals as goal
 
@@ -16,7 +15,7 @@ returns-clause-taken c =
     let lits = c.args.lits.now in
     let ids = c.args.source ∷ [] in
     let p : ℕ = c.in-Some.named in
-    let added = subst (λ b. AllHold (added_rules formula b lits)) c.has.ensures c.in_ok-target.ensures.0 in
+    let added = c.in_ok-target.ensures.0 in
     let target = c.in_ok-target.ensures.1 in
     let judged = subst (λ (l : List Literal). AllHold (naming state.live.parities ids ++ clause_of_parity l (named state.live.parities ids))) target
     (subst (λ (t : Tables). AllHold (naming t.parities ids ++ clause_of_parity c.in_ok-target.target (named t.parities ids))) c.live.ensures c.in_ok-judge_clause_of_named_parity.ensures) in

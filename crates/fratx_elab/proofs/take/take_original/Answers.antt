@@ -1,10 +1,8 @@
 use Rattle.std.proofs.Common.{refl, ap, ◌∙◌, subst, ℕ, List, Option, MatchOption, IsFalse}
 use Rattle.cx_base.specs.Literals.{Literal}
-use Rattle.cx_semantics.specs.Judging.{AllHold}
 use Rattle.cx_semantics.specs.LogRules.{is_original}
 use Rattle.cx_semantics.specs.Tables.{put_clause}
 use Rattle.fratx_elab.specs.Elaborates.{IsClauseNumber}
-use Rattle.fratx_elab.specs.Takes.{added_rules}
 use Rattle.fratx_elab.proofs.Taking.{takes_original}
 use Rattle.fratx_elab.proofs.take.take_original.Goals as goal
 
@@ -13,7 +11,7 @@ returns-in_ok-put_original-in-Some-clause-taken c =
     let formula = c.args.formula.now in
     let lits = c.args.lits.now in
     let k = c.in-Some.number in
-    let added = subst (λ b. AllHold (added_rules formula b lits)) c.has.ensures c.in_ok-target.ensures.0 in
+    let added = c.in_ok-target.ensures.0 in
     let target = c.in_ok-target.ensures.1 in
     let seen = c.as_slice.result.now in
     let P : Option ℕ → Type 0 = λ o. MatchOption o (IsFalse (is_original formula seen)) (IsClauseNumber formula seen) in

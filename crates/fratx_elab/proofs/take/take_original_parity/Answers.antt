@@ -1,10 +1,8 @@
 use Rattle.std.proofs.Common.{refl, ap, ◌∙◌, subst, ℕ, List, Option, MatchOption}
 use Rattle.cx_base.specs.Literals.{Literal}
-use Rattle.cx_semantics.specs.Judging.{AllHold}
 use Rattle.cx_semantics.specs.LogRules.{IsOriginalParity}
 use Rattle.cx_semantics.specs.Tables.{put_parity}
 use Rattle.fratx_elab.specs.Elaborates.{IsParityNumber}
-use Rattle.fratx_elab.specs.Takes.{added_rules}
 use Rattle.fratx_elab.proofs.Taking.{takes_original_parity}
 use Rattle.fratx_elab.proofs.take.take_original_parity.Goals as goal
 
@@ -13,7 +11,7 @@ returns-in_ok-put_original-in-Some-clause-taken c =
     let formula = c.args.formula.now in
     let lits = c.args.lits.now in
     let k = c.in-Some.number in
-    let added = subst (λ b. AllHold (added_rules formula b lits)) c.has.ensures c.in_ok-target.ensures.0 in
+    let added = c.in_ok-target.ensures.0 in
     let target = c.in_ok-target.ensures.1 in
     let seen = c.as_slice.result.now in
     let P : Option ℕ → Type 0 = λ o. MatchOption o (¬ IsOriginalParity formula seen) (IsParityNumber formula seen) in

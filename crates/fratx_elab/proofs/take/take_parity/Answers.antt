@@ -5,8 +5,6 @@ use Rattle.cx_semantics.specs.LogRules.{naming}
 use Rattle.cx_semantics.specs.ProofRules.{summing}
 use Rattle.cx_semantics.specs.Tables.{Tables, named, put_parity}
 use Rattle.cx_semantics.specs.declared.steps.ProofStep.TheVariants as step
-use Rattle.fratx_elab.specs.Names.{hints_for}
-use Rattle.fratx_elab.specs.Takes.{added_rules}
 use Rattle.fratx_elab.proofs.Taking.{takes_parity}
 use Rattle.fratx_elab.proofs.take.take_parity.Goals as goal
 
@@ -16,13 +14,10 @@ returns-clause-taken c =
     let state = c.args.state.now in
     let lits = c.args.lits.now in
     let ids : List ℕ = c.args.sources.now in
-    let added = subst (λ b. AllHold (added_rules formula b lits)) c.has.ensures c.in_ok-target.ensures.0 in
+    let added = c.in_ok-target.ensures.0 in
     let target = c.in_ok-target.ensures.1 in
-    let slice = c.as_slice.ensures in
     let judged = subst (λ (l : List Literal). AllHold (naming state.live.parities ids ++ summing l (named state.live.parities ids))) target
-    (subst (λ (ns : List ℕ). AllHold (naming state.live.parities ns ++ summing c.in_ok-target.target (named state.live.parities ns))) slice
-    (subst (λ (t : Tables). AllHold (naming t.parities c.as_slice.result.now ++ summing c.in_ok-target.target (named t.parities c.as_slice.result.now))) c.live.ensures c.in_ok-judge_named_sum.ensures)) in
-    let hints = c.in_ok-hints.ensures ∙ ap (hints_for state.parities) c.as_slice-2.ensures in
+    (subst (λ (t : Tables). AllHold (naming t.parities ids ++ summing c.in_ok-target.target (named t.parities ids))) c.live.ensures c.in_ok-judge_named_sum.ensures) in
     takes_parity formula state _ c.args.id lits ids c.parity_step.result added judged
     (c.in_ok-add.ensures.ok ∙ ap (put_parity state.live c.args.id) target) refl c.in_ok-next.ensures.named
-    (c.parity_step.ensures.step ∙ (λ i. step.Parity (c.in_ok-next.ensures.next i) (c.in_ok-copy.ensures i) (hints i)))
+    (c.parity_step.ensures.step ∙ (λ i. step.Parity (c.in_ok-next.ensures.next i) (c.in_ok-copy.ensures i) (c.in_ok-hints.ensures i)))
