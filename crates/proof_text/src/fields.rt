@@ -190,7 +190,11 @@ pub fn take_ids(alloc: Global, tokens: &mut TokensAhead, size: usize) -> Result<
 }
 
 /// An id and literals up to a zero.
-pub fn take_named(alloc: Global, tokens: &mut TokensAhead, size: usize) -> Result<Named, TextRefusal>
+pub fn take_named(
+    alloc: Global,
+    tokens: &mut TokensAhead,
+    size: usize,
+) -> Result<Named, TextRefusal>
     ensures { TakesAll (λ n. id n.id ∷ integers n.literals ∷ []) (an_id ∷ some_integers ∷ []) size (placed_words tokens.old) result (placed_words tokens.new) }
 {
     let id = take_id(tokens, size)?;
