@@ -24,13 +24,6 @@ use proof_rules::{
 use rup_finder::IndexedClauses;
 use std::alloc::{AllocError, Global};
 
-/// A copy of the integers.
-fn copy(alloc: Global, integers: &IntList) -> Result<IntList, AllocError>
-    ensures { IfOk result (λ copy. copy ≡ integers.now) }
-{
-    Ok(IntList::from_vec(Vec::from_slice(alloc, integers.as_slice())?))
-}
-
 /// The hints that name in the proof what the ids name in the log.
 fn hints_of(alloc: Global, names: &Names, ids: &[u64]) -> Result<IntList, AllocError>
     ensures { IfOk result (λ hints. hints ≡ hints_for names.now ids.now) }
@@ -145,7 +138,7 @@ pub fn take_clause(
     let target = admit(alloc, formula, &state.live, Kind::Clauses, id, lits)?;
     let ids = chain_of(alloc, &state.live, &target, given)?;
     let hints = hints_of(alloc, &state.clauses, ids.as_slice())?;
-    let copy = copy(alloc, lits)?;
+    let copy = lits.clone()?;
     state.live.add(Kind::Clauses, id, target)?;
     let next = state.clauses.put_next(id)?;
     Ok(Some(clause_step(next, copy, hints)))
@@ -168,7 +161,7 @@ pub fn take_parity(
     let target = admit(alloc, formula, &state.live, Kind::Parities, id, lits)?;
     judge_named_sum(alloc, state.live.live(), &target, sources)?;
     let hints = hints_of(alloc, &state.parities, sources)?;
-    let copy = copy(alloc, lits)?;
+    let copy = lits.clone()?;
     state.live.add(Kind::Parities, id, target)?;
     let next = state.parities.put_next(id)?;
     Ok(Some(parity_step(next, copy, hints)))
@@ -195,7 +188,7 @@ pub fn take_parity_of_clauses(
         Err(why) => return Err(why),
     }
     let hints = hints_of(alloc, &state.clauses, sources)?;
-    let copy = copy(alloc, lits)?;
+    let copy = lits.clone()?;
     state.live.add(Kind::Parities, id, target)?;
     let next = state.parities.put_next(id)?;
     Ok(Some(parity_of_clauses_step(next, copy, hints)))
@@ -222,7 +215,7 @@ pub fn take_clause_of_parity(
         // Nothing that is live in the log is without a name in the proof.
         None => return Err(JudgeRefusal::Memory),
     };
-    let copy = copy(alloc, lits)?;
+    let copy = lits.clone()?;
     state.live.add(Kind::Clauses, id, target)?;
     let next = state.clauses.put_next(id)?;
     Ok(Some(clause_of_parity_step(next, copy, named)))

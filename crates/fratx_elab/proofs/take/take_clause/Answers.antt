@@ -19,4 +19,4 @@ returns-clause-taken c =
     let hints = c.in_ok-hints.ensures ∙ ap (hints_for state.clauses) c.as_slice.ensures in
     takes_clause formula state _ c.args.id lits ids c.clause_step.result added c.in_ok-ids.ensures.0 chain
     (c.in_ok-add.ensures.ok ∙ ap (put_clause state.live c.args.id) target) c.in_ok-next.ensures.named refl
-    (c.clause_step.ensures.step ∙ (λ i. step.Clause (c.in_ok-next.ensures.next i) (c.in_ok-copy.ensures i) (hints i)))
+    (c.clause_step.ensures.step ∙ (λ i. step.Clause (c.in_ok-next.ensures.next i) (c.in_ok-copy.ensures.cases i) (hints i)))
