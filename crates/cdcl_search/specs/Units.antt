@@ -1,5 +1,6 @@
 -- How unit clauses of level 0 are told.
-use Rattle.std.specs.Prelude.{◌≡◌, List, length}
+use Rattle.std.specs.Prelude.{◌≡◌, ℕ, ℤ, pos, List, [], ◌∷◌, ◌++◌, length, map}
+use Rattle.std.specs.List.{AllByRecursion, Contains}
 use Rattle.cx_base.specs.Literals.{Literal}
 use Rattle.cx_trail.specs.Sequence.{StandsAt}
 use Rattle.conflict_learn.specs.Learning.{IsAntecedent}
@@ -21,3 +22,9 @@ pub record IsNextUnit (c : SearchState) (rows : List (List Literal)) (l : Litera
   pub next : StandsAt c.trail.entries l (length c.units.items)
   pub sourced : IsSourced c rows clause
   pub implied : IsAntecedent c.trail l clause
+
+-- the hints are ids of unit clauses that the search holds, and behind them this id
+pub record AreUnitsAnd (c : SearchState) (id : ℕ) (hints : List ℤ) : Type 0 where
+  pub units : List ℕ
+  pub held : AllByRecursion (Contains c.units.items) units
+  pub spelled : hints ≡ map pos (units ++ id ∷ [])

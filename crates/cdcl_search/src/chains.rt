@@ -1,6 +1,6 @@
 //! Clauses that chains of clauses show.
-ghost use Rattle.std.specs.Prelude.{◌≡◌, ◌≤◌, [], ◌∷◌, OnOk, IfErr};
-ghost use Rattle.std.specs.List.{All};
+ghost use Rattle.std.specs.Prelude.{◌≡◌, ◌≤◌, [], ◌∷◌, ◌++◌, pos, OnOk, IfOk, IfErr, IfSome};
+ghost use Rattle.std.specs.List.{All, Contains};
 ghost use Rattle.cx_base.specs.Numbers.{AreStepIntegers};
 ghost use Rattle.cx_semantics.specs.Integers.{integers_of};
 ghost use Rattle.cx_semantics.specs.declared.steps.LogEvent.TheVariants.{Step};
@@ -8,6 +8,7 @@ ghost use Rattle.cx_semantics.specs.declared.steps.LogStep.TheVariants as step;
 ghost use Rattle.cx_base.specs.Counts.{Rose};
 ghost use Rattle.conflict_learn.specs.declared.fault.CoreFault.TheVariants.{Write};
 ghost use Rattle.cdcl_search.specs.Tells.{TellsAll, FaultsAs, IsId};
+ghost use Rattle.cdcl_search.specs.Units.{AreUnitsAnd};
 
 use crate::integers::integers;
 use crate::state::SearchState;
@@ -22,7 +23,8 @@ use std::alloc::{AllocError, Global};
 /// Puts an id behind the hints of a step. One that no step can have counts as want of memory.
 pub fn push_hint(hints: &mut Vec<i64>, id: u64) -> Result<(), AllocError>
     requires { AreStepIntegers hints.old.items }
-    ensures { OnOk result (AreStepIntegers hints.new.items) }
+    ensures pushed { OnOk result (hints.new.items ≡ hints.old.items ++ pos id ∷ []) }
+    ensures integers { OnOk result (AreStepIntegers hints.new.items) }
 {
     if id == 0 || id > 9_223_372_036_854_775_807 {
         return Err(AllocError);
@@ -34,6 +36,7 @@ pub fn push_hint(hints: &mut Vec<i64>, id: u64) -> Result<(), AllocError>
 /// The id of the unit clause that makes a literal false, where there is one.
 fn id_against(kept: &SearchState, lit: Lit) -> Option<u64>
     requires { lit.variable ≤ kept.now.trail.variables }
+    ensures { IfSome result (Contains kept.now.units.items) }
 {
     match kept.trail.truth(lit) {
         Truth::False => kept.units.get(kept.trail.place_of(lit)).copied(),
@@ -49,6 +52,7 @@ pub fn hints_of(
     id: u64,
 ) -> Result<IntList, AllocError>
     requires { All (λ l. l.variable ≤ kept.now.trail.variables) lits.now }
+    ensures { IfOk result (AreUnitsAnd kept.now id) }
 {
     let mut hints = Vec::new(alloc);
     for lit in lits {

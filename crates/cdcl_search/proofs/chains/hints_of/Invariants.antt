@@ -1,6 +1,10 @@
+use Rattle.std.proofs.Common.{◌≡◌, ℕ, pos, List, map}
+use Rattle.std.specs.List.{AllByRecursion, Contains}
 use Rattle.cx_base.specs.Numbers.{AreStepIntegers}
 use Rattle.cdcl_search.proofs.chains.hints_of.Given as goal
 
--- the hints so far are integers of a step
+-- the hints so far are ids of unit clauses
 abbrev pub invariant-loop-lit : goal.invariant-loop-lit
-invariant-loop-lit l = AreStepIntegers l.hints.items
+invariant-loop-lit l =
+    AreStepIntegers l.hints.items
+    × ((units : List ℕ) × AllByRecursion (Contains l.kept.units.items) units × (l.hints.items ≡ map pos units))
