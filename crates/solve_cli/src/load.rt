@@ -60,14 +60,8 @@ pub(crate) fn read_formula_of<D: Desk>(
     ensures reads { ReadsFormula name limit (seen (D.outside desk.old)) result (seen (D.outside desk.new)) }
     ensures few { IfOk result (λ f. length f.constraints ≤ limit) }
 {
-    match start_slot(desk, Slot::Formula, name) {
-        Ok(()) => {}
-        Err(outcome) => return Err(outcome),
-    }
-    let text = match read_slot(alloc, desk, Slot::Formula, limit) {
-        Ok(text) => text,
-        Err(outcome) => return Err(outcome),
-    };
+    start_slot(desk, Slot::Formula, name)?;
+    let text = read_slot(alloc, desk, Slot::Formula, limit)?;
     match read_formula(alloc, text.as_slice()) {
         Ok(formula) => Ok(formula),
         Err(why) => Err(refused(why)),
@@ -110,14 +104,9 @@ fn begin<D: Desk>(
     requires limit { limit ≤ 4294967295 }
     ensures { (p : PlanOf) → formula_of p ≡ Some formula → second_of p ≡ Some second → LoadsFormula p second limit (D.outside desk.old) result (D.outside desk.new) }
 {
-    let formula = match read_formula_of(alloc, desk, formula, limit) {
-        Ok(formula) => formula,
-        Err(outcome) => return Err(outcome),
-    };
-    match start_slot(desk, Slot::Second, second) {
-        Ok(()) => Ok(formula),
-        Err(outcome) => Err(outcome),
-    }
+    let formula = read_formula_of(alloc, desk, formula, limit)?;
+    start_slot(desk, Slot::Second, second)?;
+    Ok(formula)
 }
 
 /// Gives the Proof port its file, where it is to have one.
@@ -149,16 +138,8 @@ pub fn load<D: Desk>(
     ensures { (p : PlanOf) → formula_of p ≡ Some formula → second_of p ≡ Some second → proof_of p ≡ proof
         → Loads p limit (seen (D.outside desk.old)) result (seen (D.outside desk.new)) }
 {
-    let formula = match begin(alloc, desk, formula, second, limit) {
-        Ok(formula) => formula,
-        Err(outcome) => return Err(outcome),
-    };
-    match create_proof(desk, proof) {
-        Ok(()) => {}
-        Err(outcome) => return Err(outcome),
-    }
-    match read_slot(alloc, desk, Slot::Second, limit) {
-        Ok(second) => Ok(Texts { formula, second }),
-        Err(outcome) => Err(outcome),
-    }
+    let formula = begin(alloc, desk, formula, second, limit)?;
+    create_proof(desk, proof)?;
+    let second = read_slot(alloc, desk, Slot::Second, limit)?;
+    Ok(Texts { formula, second })
 }

@@ -1,25 +1,29 @@
-use Rattle.std.proofs.Common.{refl, ap, ◌∙◌}
+use Rattle.std.proofs.Common.{refl, sym, ap, ◌∙◌, subst, Err}
+use Rattle.std.proofs.lemmas.Result.{err_from_is_err_and}
 use Rattle.solve_cli.proofs.Works.{second_failed, proof_call}
 use Rattle.solve_cli.specs.Seen.{Seen, seen}
 use Rattle.solve_cli.specs.Commands.{gives_file}
+use Rattle.solve_cli.specs.Steps.{Loads}
 use Rattle.cx_words.specs.declared.plans.Plan.TheVariants as plan
 use Rattle.solve_cli.proofs.load.load.Goals as goal
 
 pub create_proof-requires : goal.create_proof-requires
 create_proof-requires g c = record {
-  unasked = let begun = c.in-Ok.ensures (plan.Check c.args.formula c.args.second) refl refl in
+  unasked = let begun = c.in_ok-formula.ensures (plan.Check c.args.formula c.args.second) refl refl in
       ap (λ (s : Seen). s.asked.proof) begun.0 ∙ c.requires.fresh.proof;
 }
 
 pub read_slot-requires-clause-started : goal.read_slot-requires-clause-started
 read_slot-requires-clause-started g c =
-    let begun = c.in-Ok.ensures (plan.Check c.args.formula c.args.second) refl refl in
-    (c.in-Ok-create_proof.ensures.1 c.args.second begun.1).started
+    let begun = c.in_ok-formula.ensures (plan.Check c.args.formula c.args.second) refl refl in
+    (c.in_ok-create_proof.ensures.1 c.args.second begun.1).started
 
-pub returns-in-Err-read_slot : goal.returns-in-Err-read_slot
-returns-in-Err-read_slot g c = λ p is_formula is_second is_proof.
+pub returns-in_err-second : goal.returns-in_err-second
+returns-in_err-second g c = λ p is_formula is_second is_proof.
     let old = seen (g.D.Desk.outside c.args.desk.now) in
-    let begun = c.in-Ok.ensures p is_formula is_second in
-    let made = c.in-Ok-create_proof.ensures in
-    second_failed p c.args.second c.args.limit old c.in-Ok.formula (g.D.Desk.outside c.create_proof.new.desk) c.in-Err-read_slot.outcome (g.D.Desk.outside c.read_slot.new.desk) is_second
-    (made.0 ∙ (ap (gives_file c.args.proof) begun.0 ∙ proof_call p c.args.proof old is_proof)) begun.2 (c.in-Err-read_slot.ensures c.args.second (made.1 c.args.second begun.1))
+    let begun = c.in_ok-formula.ensures p is_formula is_second in
+    let made = c.in_ok-create_proof.ensures in
+    let is = err_from_is_err_and c.from_residual-in_err-second.result c.from_residual-in_err-second.ensures.1 in
+    subst (λ r. Loads p c.args.limit old r (seen (g.D.Desk.outside c.read_slot.new.desk))) (sym (is.1 ∙ ap Err is.2))
+    (second_failed p c.args.second c.args.limit old c.in_ok-formula.formula (g.D.Desk.outside c.create_proof.new.desk) c.in_err-second.field-0.0 (g.D.Desk.outside c.read_slot.new.desk) is_second
+    (made.0 ∙ (ap (gives_file c.args.proof) begun.0 ∙ proof_call p c.args.proof old is_proof)) begun.2 (c.in_err-second.ensures c.args.second (made.1 c.args.second begun.1)))

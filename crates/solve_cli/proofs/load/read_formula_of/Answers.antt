@@ -6,16 +6,16 @@ use Rattle.solve_cli.proofs.load.read_formula_of.Goals as goal
 
 pub returns-clause-reads : goal.returns-clause-reads
 returns-clause-reads g c =
-    let started = c.in-Ok.ensures in
-    let read = c.in-Ok-read_slot.ensures c.args.name started.1 in
+    let started = c.in_ok-start_slot.ensures in
+    let read = c.in_ok-text.ensures c.args.name started.1 in
     rw c.refused.ensures
-    (formula_refused c.args.name c.in-Ok-read_slot.text c.args.limit (seen (g.D.Desk.outside c.args.desk.now)) (seen (g.D.Desk.outside c.start_slot.new.desk)) (seen (g.D.Desk.outside c.read_slot.new.desk))
-    c.in-Err-read_formula.why started.0 read (rw c.as_slice.ensures at c.in-Err-read_formula.ensures))
+    (formula_refused c.args.name c.in_ok-text.text c.args.limit (seen (g.D.Desk.outside c.args.desk.now)) (seen (g.D.Desk.outside c.start_slot.new.desk)) (seen (g.D.Desk.outside c.read_slot.new.desk))
+    c.in-Err.why started.0 read (rw c.as_slice.ensures at c.in-Err.ensures))
 
-pub returns-in-Ok-read_formula-clause-few : goal.returns-in-Ok-read_formula-clause-few
-returns-in-Ok-read_formula-clause-few g c =
-    let read = c.in-Ok-read_slot.ensures c.args.name c.in-Ok.ensures.1 in
-    let fits : length c.in-Ok-read_slot.text ≤ c.args.limit = read.1 in
-    let few : length c.in-Ok-read_formula.formula.constraints ≤ length c.in-Ok-read_slot.text =
-    few_constraints c.in-Ok-read_slot.text c.in-Ok-read_formula.formula (rw c.as_slice.ensures at c.in-Ok-read_formula.ensures) in
+pub returns-in-Ok-clause-few : goal.returns-in-Ok-clause-few
+returns-in-Ok-clause-few g c =
+    let read = c.in_ok-text.ensures c.args.name c.in_ok-start_slot.ensures.1 in
+    let fits : length c.in_ok-text.text ≤ c.args.limit = read.1 in
+    let few : length c.in-Ok.formula.constraints ≤ length c.in_ok-text.text =
+    few_constraints c.in_ok-text.text c.in-Ok.formula (rw c.as_slice.ensures at c.in-Ok.ensures) in
     omega (arith, fits, few)
