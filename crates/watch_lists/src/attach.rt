@@ -28,6 +28,7 @@ pub(crate) fn make_room(
     ensures kept { AreKept nodes.old.held.items nodes.old.attached.items nodes.new.held.items nodes.new.attached.items }
     ensures room { OnOk result (place < length nodes.new.attached.items) }
     ensures unchanged { OnErr result ((nodes.new.held.items ≡ nodes.old.held.items) × (nodes.new.attached.items ≡ nodes.old.attached.items)) }
+    ensures enough { place < length nodes.old.attached.items → (nodes.new.held.items ≡ nodes.old.held.items) × (nodes.new.attached.items ≡ nodes.old.attached.items) }
 {
     let count = place as usize + 1;
     if count <= nodes.attached.len() {

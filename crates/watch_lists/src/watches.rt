@@ -113,6 +113,7 @@ impl Watches {
         ensures attached { OnOk result (IsAttached self.new.attached reference) }
         ensures others { (r : ℕ) → r ≢ reference → get_or self.new.attached r false ≡ get_or self.old.attached r false }
         ensures same { OnErr result (self.new ≡ self.old) }
+        ensures again { IsAttached self.old.attached reference → self.new ≡ self.old }
     {
         // references are few, which this call tells the proof
         let _count = arena.len();
