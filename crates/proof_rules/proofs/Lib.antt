@@ -7,3 +7,4 @@ pub mod ExclusionLaws
 pub mod ClausesParity
 pub mod StepIntegers
 pub mod ContentLaws
+pub mod PlaceLaws

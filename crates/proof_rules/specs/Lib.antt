@@ -6,3 +6,4 @@ pub mod Ends
 pub mod Assignments
 pub mod Exclusions
 pub mod Contents
+pub mod Places

@@ -1,5 +1,7 @@
 use Rattle.std.proofs.Common.{◌≡◌, ◌++◌}
+use Rattle.std.specs.Map.{keys_of}
+use Rattle.proof_rules.specs.Places.{entries_of}
 use Rattle.proof_rules.proofs.table.LiveTable.ids.Given as goal
 
 abbrev pub invariant-loop-id : goal.invariant-loop-id
-invariant-loop-id l = l.ids.items ++ l.id-iterator ≡ l.initial.id-iterator
+invariant-loop-id l = l.ids.items ++ l.id-iterator ≡ l.initial.ids.items ++ l.initial.id-iterator
