@@ -1,9 +1,8 @@
 -- Lists at their places, and entries behind them.
-use Rattle.std.proofs.Common.{◌≡◌, ◌≢◌, refl, sym, ap, ◌∙◌, ℕ, zero, suc, ◌+◌, ◌<◌, ◌≤◌, cond, Bool, true, false, List, [], ◌∷◌, ◌++◌, length, get_or, set, drop, Option, Some, None, nat_cmp, is_eq, eqb, is_some, arith, ◌||◌, inl, inr, append_assoc, append-nil}
+use Rattle.std.proofs.Common.{◌≡◌, ◌≢◌, refl, sym, ap, ◌∙◌, ℕ, zero, suc, ◌+◌, ◌<◌, ◌≤◌, cond, true, false, List, [], ◌∷◌, ◌++◌, length, get_or, set, Option, Some, None, nat_cmp, is_eq, is_some, arith, ◌||◌, inl, inr, append-nil}
 use Rattle.std.specs.Cmp.{unsigned_tied}
 use Rattle.std.specs.Option.{option_or}
 use Rattle.std.specs.Map.{keys_of}
-use Rattle.std.proofs.Math.Seq.{drop-cons}
 use Rattle.std.proofs.lemmas.Bool.{eq-eqb, ne_eqb}
 use Rattle.std.proofs.lemmas.Bool.Decides.{eqb_tells}
 use Rattle.std.proofs.lemmas.List.Folds.{list_any-append}
@@ -72,9 +71,9 @@ look-changed k o xs ys es fs here near far q =
 pub look-put : {V : Type 0} (k : ℕ) (v : V) (xs : List (Option V)) (es : List (ℕ × V)) → k < length xs → (q : ℕ) → look q (entries_of (set xs k (Some v)) ++ es) ≡ cond (is_eq (nat_cmp k q)) (Some v) (look q (entries_of xs ++ es))
 look-put k v xs es h =
     look-changed k (Some v) xs (set xs k (Some v)) es es
-      (ap (λ o. option_or o (look k es)) (get_or-set_same xs k (Some v) None h))
-      (λ q apart. get_or-set_other xs k q (Some v) None apart)
-      (λ q apart. refl)
+    (ap (λ o. option_or o (look k es)) (get_or-set_same xs k (Some v) None h))
+    (λ q apart. get_or-set_other xs k q (Some v) None apart)
+    (λ q apart. refl)
 
 other-answer : {V : Type 0} (k q : ℕ) (o : Option V) (es fs : List (ℕ × V)) → look q fs ≡ cond (is_eq (nat_cmp k q)) o (look q es) → q ≢ k → look q fs ≡ look q es
 other-answer k q o es fs h apart = h ∙ ap (λ b. cond b o (look q es)) (is_eq-other k q (λ e. apart (sym e)))
@@ -86,9 +85,9 @@ same-answer k o es fs h = h ∙ ap (λ b. cond b o (look k es)) (is_eq-same k)
 pub look-put_behind : {V : Type 0} (k : ℕ) (v : V) (xs : List (Option V)) (es fs : List (ℕ × V)) → length xs ≤ k → ((q : ℕ) → look q fs ≡ cond (is_eq (nat_cmp k q)) (Some v) (look q es)) → (q : ℕ) → look q (entries_of xs ++ fs) ≡ cond (is_eq (nat_cmp k q)) (Some v) (look q (entries_of xs ++ es))
 look-put_behind k v xs es fs past h =
     look-changed k (Some v) xs xs es fs
-      (ap (λ o. option_or o (look k fs)) (get_or_past xs k None past) ∙ same-answer k (Some v) es fs (h k))
-      (λ q apart. refl)
-      (λ q apart. other-answer k q (Some v) es fs (h q) apart)
+    (ap (λ o. option_or o (look k fs)) (get_or_past xs k None past) ∙ same-answer k (Some v) es fs (h k))
+    (λ q apart. refl)
+    (λ q apart. other-answer k q (Some v) es fs (h q) apart)
 
 -- nothing is left of an id once it is out of its place and out of what stands behind
 emptied : {V : Type 0} (xs : List (Option V)) (k : ℕ) → get_or (set xs k None) k None ≡ None
@@ -99,9 +98,9 @@ emptied (x ∷ xs) (suc k) = emptied xs k
 pub look-removed : {V : Type 0} (k : ℕ) (xs : List (Option V)) (es fs : List (ℕ × V)) → ((q : ℕ) → look q fs ≡ cond (is_eq (nat_cmp k q)) None (look q es)) → (q : ℕ) → look q (entries_of (set xs k None) ++ fs) ≡ cond (is_eq (nat_cmp k q)) None (look q (entries_of xs ++ es))
 look-removed k xs es fs h =
     look-changed k None xs (set xs k None) es fs
-      (ap (λ o. option_or o (look k fs)) (emptied xs k) ∙ same-answer k None es fs (h k))
-      (λ q apart. get_or-set_other xs k q None None apart)
-      (λ q apart. other-answer k q None es fs (h q) apart)
+    (ap (λ o. option_or o (look k fs)) (emptied xs k) ∙ same-answer k None es fs (h k))
+    (λ q apart. get_or-set_other xs k q None None apart)
+    (λ q apart. other-answer k q None es fs (h q) apart)
 
 either : {V : Type 0} (a b : Option V) → is_some (option_or a b) ≡ (is_some a || is_some b)
 either None b = refl

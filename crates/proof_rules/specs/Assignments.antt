@@ -3,7 +3,7 @@ use Rattle.std.specs.Prelude.{◌≡◌, ◌≤◌, ℕ, Bool, true, false, not,
 use Rattle.std.specs.List.{list_any, AllByRecursion}
 use Rattle.std.specs.Ordering.{nat_cmp}
 use Rattle.std.specs.FinSet as set
-use Rattle.cx_base.specs.Literals.{Literal, differ, negate, positive_of, negative_of}
+use Rattle.cx_base.specs.Literals.{Literal, negate, positive_of, negative_of}
 use Rattle.cx_semantics.specs.Chain.{has_literal}
 use Rattle.cx_semantics.specs.Implied.{Implies, HasCounterexample}
 

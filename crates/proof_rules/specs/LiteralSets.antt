@@ -1,8 +1,7 @@
 -- Lists of literals as sets.
-use Rattle.std.specs.Prelude.{◌≡◌, ◌≤◌, List}
+use Rattle.std.specs.Prelude.{◌≤◌, List}
 use Rattle.std.specs.List.{AllByRecursion}
 use Rattle.cx_base.specs.Literals.{Literal}
-use Rattle.cx_semantics.specs.Chain.{has_literal}
 
 -- no literal has the variable 0
 abbrev pub ArePositive : List Literal → Type 0

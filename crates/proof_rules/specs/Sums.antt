@@ -1,8 +1,6 @@
 -- Sums of normal forms, one more parity at a time.
-use Rattle.std.specs.Prelude.{ℕ, Bool, false, List, map, refl}
-use Rattle.std.specs.Coded.{Coded, code_by, coded×, coded_ℕ, coded_bool}
+use Rattle.std.specs.Prelude.{ℕ, Bool, false, List, map}
 use Rattle.std.specs.FinSet as set
-use Rattle.std.specs.Ordering.{nat_cmp}
 use Rattle.cx_base.specs.Literals.{Literal, differ}
 use Rattle.cx_base.specs.Parity.{NormalForm, normal_form, symmetric_difference, sum_of}
 

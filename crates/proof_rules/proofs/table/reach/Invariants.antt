@@ -1,4 +1,4 @@
-use Rattle.std.proofs.Common.{◌≡◌, ◌+◌, length}
+use Rattle.std.proofs.Common.{◌≡◌, length}
 use Rattle.proof_rules.specs.Places.{entries_of}
 use Rattle.proof_rules.proofs.table.reach.Given as goal
 

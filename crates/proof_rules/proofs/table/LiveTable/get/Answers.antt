@@ -1,6 +1,5 @@
-use Rattle.std.proofs.Common.{◌≡◌, ◌∙◌, ap, sym, get_or, Option, Some, None, List}
+use Rattle.std.proofs.Common.{◌∙◌, ap, sym, get_or, Some, None}
 use Rattle.std.specs.Option.{option_or}
-use Rattle.cx_base.specs.Literals.{Literal}
 use Rattle.cx_semantics.specs.Tables.{get}
 use Rattle.cx_semantics.proofs.MapEntries.{look}
 use Rattle.proof_rules.proofs.PlaceLaws.{get-places}

@@ -1,6 +1,4 @@
 use Rattle.std.proofs.Common.{◌≡◌, ◌++◌}
-use Rattle.std.specs.Map.{keys_of}
-use Rattle.proof_rules.specs.Places.{entries_of}
 use Rattle.proof_rules.proofs.table.LiveTable.ids.Given as goal
 
 abbrev pub invariant-loop-id : goal.invariant-loop-id
