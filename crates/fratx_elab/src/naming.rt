@@ -2,8 +2,8 @@
 ghost use Rattle.std.specs.Prelude.{◌≡◌, ◌≢◌, ◌≤◌, ◌<◌, ◌+◌, ℕ, ℤ, pos, nat_abs, IfOk, OnOk, MatchOption, None, Some};
 ghost use Rattle.fratx_elab.specs.Names.{Naming, stands_for, first_naming, name_original, name_next, drop_name};
 
+use proof_rules::IdMap;
 use std::alloc::{AllocError, Global};
-use std::collections::BTreeMap;
 use std::marker::Model;
 
 /// The greatest id of a proof.
@@ -60,19 +60,18 @@ impl ProofId {
 /// The proof id that stands for each live id of a log, and the last id given in the proof.
 #[derive(Drop)]
 pub struct Names {
-    ids: BTreeMap<u64, ProofId>,
+    ids: IdMap<ProofId>,
     last: u64,
 }
 
 impl Model for Names {
-    ghost use Rattle.std.specs.FinMap as map;
     ghost use Rattle.fratx_elab.specs.Names.{Naming, naming_code};
 
     ghost Value = { Naming };
 
     ghost coded = { naming_code };
 
-    ghost view = { λ a. record { ids = map.from_entries a.ids.entries; last = a.last } };
+    ghost view = { λ a. record { ids = a.ids; last = a.last } };
 }
 
 impl Names {
@@ -81,7 +80,7 @@ impl Names {
         ensures { result ≡ first_naming count }
     {
         Names {
-            ids: BTreeMap::new(alloc),
+            ids: IdMap::new(alloc),
             last: count,
         }
     }
@@ -97,7 +96,7 @@ impl Names {
     pub fn get(&self, id: u64) -> Option<ProofId>
         ensures { result ≡ stands_for self.now id }
     {
-        match self.ids.get(&id) {
+        match self.ids.get(id) {
             Some(found) => Some(*found),
             None => None,
         }
@@ -127,6 +126,6 @@ impl Names {
     pub fn remove(&mut self, id: u64)
         ensures { self.new ≡ drop_name self.old id }
     {
-        self.ids.remove(&id);
+        self.ids.remove(id);
     }
 }

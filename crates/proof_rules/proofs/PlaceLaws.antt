@@ -1,7 +1,8 @@
 -- Lists at their places, and entries behind them.
-use Rattle.std.proofs.Common.{◌≡◌, ◌≢◌, refl, sym, ap, ◌∙◌, ℕ, zero, suc, ◌+◌, ◌<◌, ◌≤◌, cond, true, false, List, [], ◌∷◌, ◌++◌, length, get_or, set, Option, Some, None, nat_cmp, is_eq, is_some, arith, ◌||◌, inl, inr, append-nil}
+use Rattle.std.proofs.Common.{◌≡◌, ◌≢◌, refl, sym, ap, ◌∙◌, ℕ, zero, suc, ◌+◌, ◌<◌, ◌≤◌, cond, Bool, true, false, List, [], ◌∷◌, ◌++◌, length, get_or, set, drop, Option, Some, None, nat_cmp, is_eq, is_some, eqb, arith, ◌||◌, inl, inr, append_assoc, append-nil}
 use Rattle.std.specs.Cmp.{unsigned_tied}
 use Rattle.std.specs.Option.{option_or}
+use Rattle.std.proofs.Math.Seq.{drop-cons}
 use Rattle.std.specs.Map.{keys_of}
 use Rattle.std.proofs.lemmas.Bool.{eq-eqb, ne_eqb}
 use Rattle.std.proofs.lemmas.Bool.Decides.{eqb_tells}
@@ -101,6 +102,19 @@ look-removed k xs es fs h =
     (ap (λ o. option_or o (look k fs)) (emptied xs k) ∙ same-answer k None es fs (h k))
     (λ q apart. get_or-set_other xs k q None None apart)
     (λ q apart. other-answer k q None es fs (h q) apart)
+
+-- the numbers of the places that are taken, as a loop gathers them
+pub keys_of-place : {V : Type 0} (b : Bool) (xs : List (Option V)) (n : ℕ) (ids all : List ℕ) → n < length xs → b ≡ is_some (get_or xs n None)
+    → ids ++ keys_of (entries_from n (drop n xs)) ≡ all
+    → cond b (ids ++ n ∷ []) ids ++ keys_of (entries_from (n + 1) (drop (n + 1) xs)) ≡ all
+keys_of-place {V} b xs n ids all h e before =
+    let next : n + 1 ≡ suc n = omega arith in
+    (λ i. cond (e i) (ids ++ n ∷ []) ids ++ keys_of (entries_from (next i) (drop (next i) xs)))
+    ∙ by (get_or xs n None) ∙ (λ i. ids ++ keys_of (entries_from n (sym (drop-cons xs n None h) i))) ∙ before
+  where
+    by : (o : Option V) → cond (is_some o) (ids ++ n ∷ []) ids ++ keys_of (entries_from (suc n) (drop (suc n) xs)) ≡ ids ++ keys_of (entries_from n (o ∷ drop (suc n) xs))
+    by None = refl
+    by (Some v) = append_assoc ids (n ∷ []) (keys_of (entries_from (suc n) (drop (suc n) xs)))
 
 either : {V : Type 0} (a b : Option V) → is_some (option_or a b) ≡ (is_some a || is_some b)
 either None b = refl

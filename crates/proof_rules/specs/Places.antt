@@ -1,5 +1,8 @@
 -- Small ids, as places of a list.
-use Rattle.std.specs.Prelude.{ℕ, suc, List, [], ◌∷◌, Option, None, Some}
+use Rattle.std.specs.Prelude.{◌≡◌, ℕ, suc, List, [], ◌∷◌, Option, None, Some}
+use Rattle.std.specs.List.{list_any}
+use Rattle.std.specs.Ordering.{nat_cmp, eq_by_cmp}
+use Rattle.std.specs.FinMap as map
 
 -- what stands in the places, each by its number, counted from n on; an empty place has no entry
 abbrev pub entries_from : {V : Type 0} → ℕ → List (Option V) → List (ℕ × V)
@@ -10,3 +13,7 @@ entries_from n (Some v ∷ places) = (n, v) ∷ entries_from (suc n) places
 -- the same with the places counted from 0 on, as those of a `Vec` are
 abbrev pub entries_of : {V : Type 0} → List (Option V) → List (ℕ × V)
 entries_of places = entries_from 0 places
+
+-- an id stands in the list exactly where it has a value
+abbrev pub HasKeys : {V : Type 0} → map.FinMap nat_cmp V → List ℕ → Type 0
+HasKeys values ids = (n : ℕ) → list_any (eq_by_cmp nat_cmp n) ids ≡ map.contains_key values n

@@ -4,14 +4,14 @@ use Rattle.std.specs.Ordering.{eq_by_cmp}
 use Rattle.std.specs.Map.Iter.{deref}
 use Rattle.std.specs.Map.{keys_of}
 use Rattle.std.proofs.lemmas.Map.Iter.{rest_all}
-use Rattle.cx_semantics.specs.Tables.{is_live}
+use Rattle.std.specs.FinMap as map
 use Rattle.cx_semantics.proofs.MapEntries.{get-from_entries}
 use Rattle.proof_rules.specs.Places.{entries_of}
 use Rattle.proof_rules.proofs.PlaceLaws.{keys-answer}
-use Rattle.proof_rules.proofs.table.LiveTable.ids.Goals as goal
+use Rattle.proof_rules.proofs.id_map.IdMap.ids.Goals as goal
 
 pub returns : goal.returns
-returns c n =
+returns g c n =
     let items = c.loop-id.ids.items in
     let far = c.into_iter-id-iterator.result in
     let near = c.self.inside.near.items in
@@ -19,7 +19,7 @@ returns c n =
     let all : items ≡ c.in_ok-ids.ids.items ++ far = sym (append-nil items) ∙ ap (λ rest. items ++ rest) (sym done) ∙ c.loop-id.invariant in
     let taken : c.in_ok-ids.ids.items ≡ keys_of (entries_of near) = c.in_ok-ids.ensures ∙ ap (λ places. keys_of (entries_of places)) c.deref.ensures.value in
     let behind = ap (list_any (eq_by_cmp nat_cmp n)) c.into_iter-id-iterator.ensures.into_iter_gives ∙ sym (c.keys-id-items.ensures.has n) in
-    ap (list_any (eq_by_cmp nat_cmp n)) (c.from_vec.ensures ∙ all ∙ ap (λ ids. ids ++ far) taken)
+    ap (list_any (eq_by_cmp nat_cmp n)) (all ∙ ap (λ ids. ids ++ far) taken)
     ∙ keys-answer n c.self.inside.far.entries far behind near
     ∙ ap is_some (sym (get-from_entries (entries_of near ++ c.self.inside.far.entries) n))
-    ∙ ap (λ t. is_live t n) c.self.view_is
+    ∙ ap (λ t. map.contains_key t n) c.self.view_is

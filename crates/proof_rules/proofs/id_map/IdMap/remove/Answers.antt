@@ -3,10 +3,10 @@ use Rattle.std.specs.FinMap as map
 use Rattle.cx_semantics.proofs.MapEntries.{from_entries-remove}
 use Rattle.proof_rules.specs.Places.{entries_of}
 use Rattle.proof_rules.proofs.PlaceLaws.{look-removed}
-use Rattle.proof_rules.proofs.table.LiveTable.remove.Goals as goal
+use Rattle.proof_rules.proofs.id_map.IdMap.remove.Goals as goal
 
 pub returns : goal.returns
-returns c =
+returns g c =
     let near = c.self.inside.near.items in
     let far = c.self.inside.far.entries in
     let gone = c.remove.new.self.entries in
