@@ -142,31 +142,3 @@ fn parities_of_clauses(rt: HostRuntime) -> Result<(), Fail> {
     }
     Ok(())
 }
-
-/// An id far above the number of constraints does not stand in a place, until there are as many.
-#[test]
-fn far_ids(rt: HostRuntime) -> Result<(), Fail> {
-    let alloc = rt.alloc();
-    let mut live = Live::make(alloc);
-    let greatest = 1_000_000_000_000_000_000;
-    let later = 1_500;
-    live.add_clause(greatest, lits(alloc, &[1])?)?;
-    live.add_clause(later, lits(alloc, &[2])?)?;
-    for id in 1..1_400 {
-        live.add_clause(id, lits(alloc, &[3])?)?;
-    }
-    live.add_clause(2_000, lits(alloc, &[4])?)?;
-    assert_eq!(rt; live.clause(greatest), Some(lits(alloc, &[1])?.as_slice()));
-    assert_eq!(rt; live.clause(later), Some(lits(alloc, &[2])?.as_slice()));
-    assert_eq!(rt; live.clause(2_000), Some(lits(alloc, &[4])?.as_slice()));
-    assert_eq!(rt; live.clause(1_999), None);
-    assert_eq!(rt; live.clause(u64::MAX), None);
-    live.add_clause(later, lits(alloc, &[5])?)?;
-    assert_eq!(rt; live.clause(later), Some(lits(alloc, &[5])?.as_slice()));
-    for id in [later, greatest, 2_000, u64::MAX] {
-        live.remove_clause(id);
-        assert_eq!(rt; live.clause(id), None);
-    }
-    assert_eq!(rt; live.clause(7), Some(lits(alloc, &[3])?.as_slice()));
-    Ok(())
-}
