@@ -77,12 +77,12 @@ left P Q o n h empty gains f = (
   on_files (Q (printed_proof h.steps)) o.told (on_told (P h.steps) (Q (printed_proof h.steps)) o.told (printed_gained P o n h empty gains) f),
 )
 
--- a right log: what it left is a proof that is accepted
-pub whole : (f : Problem) (log : List LogStep) (o n : Outside) (k : ℕ) → HasNoProof (seen o) → Prints o n → Gained (steps_told o) (steps_told n) (IsProofWritten f log (elab.Done k))
-    → (proof : Bytes) × (seen n ≡ says port.Proof proof (seen o)) × IfSome (seen o).files (λ _. IsWholeProof f proof)
-whole f log o n k empty h gains = left (IsProofWritten f log (elab.Done k)) (IsWholeProof f) o n h empty gains (λ right. record {
+-- a right log: what it left is its proof, which is accepted
+pub whole : (f : Problem) (text : Bytes) (k : ℕ) (o n : Outside) (log : List LogStep) (ending : Ending) → HasNoProof (seen o) → Prints o n → Gained (steps_told o) (steps_told n) (IsProofWritten f log (elab.Done k))
+    → LogReads text log ending → (proof : Bytes) × (seen n ≡ says port.Proof proof (seen o)) × IfSome (seen o).files (λ _. IsWholeProof f text k proof)
+whole f text k o n log ending empty h gains reads = left (IsProofWritten f log (elab.Done k)) (IsWholeProof f text k) o n h empty gains (λ right. record {
   steps = h.steps;
-  printed = refl;
+  proof = record { log_steps = log; ending = ending; reads = reads; is_proof = right.0; printed = refl };
   accepted = record { steps = h.steps; ending = finished; reads = printed_proof_reads h.steps h.texts; judged = right.1 };
 })
 
@@ -91,12 +91,9 @@ pub before : (f : Problem) (text : Bytes) (k : ℕ) (c : Cause) (o n : Outside) 
     → Gained (steps_told o) (steps_told n) (IsProofWritten f log (elab.Refused k c)) → LogReads text log ending
     → (proof : Bytes) × (seen n ≡ says port.Proof proof (seen o)) × IfSome (seen o).files (λ _. IsProofBefore f text k proof)
 before f text k c o n log ending empty h gains reads = left (IsProofWritten f log (elab.Refused k c)) (IsProofBefore f text k) o n h empty gains (λ right. record {
-  log_steps = log;
-  ending = ending;
-  reads = reads;
   steps = h.steps;
-  is_proof = right.0;
-  printed = refl;
+  proof = record { log_steps = log; ending = ending; reads = reads; is_proof = right.0; printed = refl };
+  right = right.1;
 })
 
 -- want of memory: what it left are right steps
@@ -225,7 +222,8 @@ pub settled : {X : Type 0} (leaves : X → List LogStep → Ending → Type 0) (
     → ElaboratedAs f log (seen o) r (seen n)
 settled leaves told torn f log a b first last o n (Ok (elab.Done k)) reads at_first at_last tears empty whole_before goes judged cut cause stand = (
   λ _ _ _. record { steps = judged.0; ending = judged.1; reads = reads judged.0 judged.1 judged.2; judged = judged.3 },
-  whole f judged.0 o n k empty (has_printed first last o n whole_before goes stand) (told_as (IsProofWritten f judged.0 (elab.Done k)) (told a) (steps_told o) (told b) (steps_told n) at_first at_last judged.4),
+  whole f log k o n judged.0 judged.1 empty (has_printed first last o n whole_before goes stand)
+      (told_as (IsProofWritten f judged.0 (elab.Done k)) (told a) (steps_told o) (told b) (steps_told n) at_first at_last judged.4) (reads judged.0 judged.1 judged.2),
 )
 settled leaves told torn f log a b first last o n (Ok (elab.Refused k c)) reads at_first at_last tears empty whole_before goes judged cut cause stand = (
   λ _ _ _. record { steps = judged.0; ending = judged.1; reads = reads judged.0 judged.1 judged.2; judged = judged.3 },

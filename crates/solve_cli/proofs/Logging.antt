@@ -1,5 +1,5 @@
 -- From the events of a search to the text of its log.
-use Rattle.std.proofs.Common.{◌≡◌, ◌<◌, ◌⊎◌, ℕ, zero, suc, List, [], filter_map, take, drop, inl, refl, sym, ◌∙◌}
+use Rattle.std.proofs.Common.{◌≡◌, ◌<◌, ◌⊎◌, ℕ, zero, suc, List, [], filter_map, take, drop, inl, refl, ap, sym, ◌∙◌}
 use Rattle.std.specs.List.{AllByRecursion, range_with_len}
 use Rattle.std.proofs.lemmas.List.{take-append-drop}
 use Rattle.cx_base.specs.Problem.{Problem}
@@ -16,7 +16,7 @@ use Rattle.cx_semantics.proofs.EventSteps.{events_give_steps}
 use Rattle.cx_semantics.proofs.PrintedLogs.{printed_log_reads}
 use Rattle.search_steps.specs.LogSteps.{IsEnded}
 use Rattle.cx_desk.specs.Outside.{Bytes}
-use Rattle.solve_cli.specs.Logs.{HasFewMarks, IsRefutation, IsLogSoFar}
+use Rattle.solve_cli.specs.Logs.{HasFewMarks, IsRefutation, HasNoMark, IsLogSoFar}
 
 steps_read : (events : List LogEvent) → AllByRecursion HasText events → LogReads (printed_log events) (steps_of events) finished
 steps_read events texts = events_give_steps (printed_log events) events (printed_log_reads events texts)
@@ -49,10 +49,20 @@ few_marks f budget events n texts low marked none = record {
   settled = λ s. no_marks n (sym marked.marks ∙ none s);
 }
 
+-- a log with as many marks as this has none where that is none
+pub unmarked : (f : Problem) (budget : ℕ) (log : Bytes) → HasFewMarks f budget log → Settled f → HasNoMark log
+unmarked f budget log h s = (h.events, h.read, h.marked.marks ∙ ap (range_with_len 1) (h.settled s))
+
 -- nothing is a front of a log
 pub nothing_logged : (f : Problem) → IsLogSoFar f []
-nothing_logged f = record { log = []; right = inl (open_log f [] tt (no_tables, refl)); rest = []; front = refl }
+nothing_logged f = record {
+  log = [];
+  right = inl (open_log f [] tt (no_tables, refl));
+  settled = λ s. ([], printed_log_reads [] tt, refl);
+  rest = [];
+  front = refl;
+}
 
 -- a front of a right log
-pub front_so_far : (f : Problem) (log : Bytes) (k : ℕ) → LogOpen f log ⊎ IsRefutation f log → IsLogSoFar f (take k log)
-front_so_far f log k right = record { log = log; right = right; rest = drop k log; front = take-append-drop k log }
+pub front_so_far : (f : Problem) (log : Bytes) (k : ℕ) → LogOpen f log ⊎ IsRefutation f log → (Settled f → HasNoMark log) → IsLogSoFar f (take k log)
+front_so_far f log k right settled = record { log = log; right = right; settled = settled; rest = drop k log; front = take-append-drop k log }

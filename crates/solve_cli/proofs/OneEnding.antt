@@ -1,5 +1,6 @@
 -- At most one ending is due for a command and its files.
-use Rattle.std.proofs.Common.{◌≡◌, ◌<◌, ◌≤◌, ℕ, Bool, List, length, Option, Some, None, Result, Ok, Err, inl, inr, refl, ap, sym, subst, ◌∙◌, arith}
+use Rattle.std.proofs.Common.{◌≡◌, ◌<◌, ◌≤◌, ◌⊎◌, ℕ, Bool, List, length, Option, Some, None, Result, Ok, Err, inl, inr, refl, ap, sym, subst, ◌∙◌, arith}
+use Rattle.std.proofs.lemmas.Bool.{cases_lt}
 use Rattle.cx_base.specs.Problem.{Problem}
 use Rattle.cx_semantics.specs.declared.offence.Offence.{Offence}
 use Rattle.cx_semantics.specs.FormulaText.{Reads, FirstOffence, ReadsAs}
@@ -23,7 +24,8 @@ use Rattle.solve_cli.specs.declared.ending.WrongAnswer.{WrongAnswer}
 use Rattle.solve_cli.specs.declared.ending.WrongAnswer.TheVariants as wrong
 use Rattle.solve_cli.specs.Seen.{text_named}
 use Rattle.solve_cli.specs.Commands.{formula_of, second_of, second_text}
-use Rattle.solve_cli.specs.Happens.{IfNamed, FormulaRead, EarlyDue, refusal_of, Judged, LateDue, Due}
+use Rattle.solve_cli.specs.Happens.{IfNamed, FormulaRead, IsFormula, EarlyDue, refusal_of, Judged, LateDue, Due, IsEarlyOrRead}
+use Rattle.solve_cli.specs.Happens.{Early as AreEarly}
 use Rattle.solve_cli.proofs.Dues.{same_of_one, one_formula}
 
 reading : (text : Bytes) (a b : Result Problem Offence) → ReadsAs text a → ReadsAs text b → a ≡ b
@@ -32,7 +34,7 @@ reading text a b p q = same_of_one {P = ReadsAs text} (one_formula_reading text)
 one_offence : (text : Bytes) (a b : Offence) → FirstOffence text a → FirstOffence text b → a ≡ b
 one_offence text a b p q = let e : ◌≡◌ {A = Result Problem Offence} (Err a) (Err b) = reading text (Err a) (Err b) p q in cc
 
-not_both_read : (text : Bytes) (f : Problem) (o : Offence) → Reads text f → FirstOffence text o → ⊥
+pub not_both_read : (text : Bytes) (f : Problem) (o : Offence) → Reads text f → FirstOffence text o → ⊥
 not_both_read text f o p q = let e : ◌≡◌ {A = Result Problem Offence} (Ok f) (Err o) = reading text (Ok f) (Err o) p q in cc
 
 -- the endings that may be due, so that two of them are few cases
@@ -165,3 +167,28 @@ one_ending p second limit files d e named (inr h) (inr k) =
     let same = formula_of_name (formula_of p) limit files h.formula k.formula h.is_formula k.is_formula in
     let due = subst (λ (f : Problem). LateDue p limit f (second_text p files) d) same h.due in
     two_late p second limit k.formula (second_text p files) d e named due k.due
+
+-- ---- the formula's refusals
+
+-- where the formula is refused, no other ending is due
+pub one_early : (p : Plan) (limit : ℕ) (files : Files) (d e : Ending) → AreEarly p limit files d → Due p limit files e → d ≡ e
+one_early p limit files d e h (inl k) = early_of (formula_of p) limit files d e h k
+one_early p limit files d e h (inr k) = absurd (early_or_read (formula_of p) limit files k.formula d h k.is_formula)
+
+-- a formula is refused, or it reads
+pub not_both : (p : Plan) (limit : ℕ) (files : Files) (f : Problem) (e : Ending) → AreEarly p limit files e → IsFormula p limit files f → ⊥
+not_both p limit files f e h k = early_or_read (formula_of p) limit files f e h k
+
+pub early_or_reads : (p : Plan) (name : Bytes) (limit : ℕ) (files : Files) → formula_of p ≡ Some name → IsEarlyOrRead p limit files name
+early_or_reads p name limit files named = by (cases_lt limit (length (text_named name files)))
+  where
+    early_as : (e : Ending) → EarlyDue limit (text_named name files) e → IsEarlyOrRead p limit files name
+    early_as e h = inr (e, subst (λ (n : Option Bytes). IfNamed n (λ m. EarlyDue limit (text_named m files) e)) (sym named) h)
+
+    of_reading : length (text_named name files) ≤ limit → (r : Result Problem Offence) → ReadsAs (text_named name files) r → IsEarlyOrRead p limit files name
+    of_reading fits (Ok f) reads = inl (f, record { fits = fits; reads = reads })
+    of_reading fits (Err o) offends = early_as (ending.FormulaRefused o) (fits, offends)
+
+    by : (limit < length (text_named name files)) ⊎ (length (text_named name files) ≤ limit) → IsEarlyOrRead p limit files name
+    by (inl over) = early_as (ending.TooLong slot.Formula) over
+    by (inr fits) = let one = one_formula_reading (text_named name files) in of_reading fits one.0 one.1

@@ -1,13 +1,17 @@
 -- Which outcomes end with a status.
 use Rattle.std.proofs.Common.{◌≡◌, ℕ, Bool, List, refl, sym, subst}
+use Rattle.cx_semantics.specs.declared.offence.Offence.{Offence}
 use Rattle.cx_semantics.specs.declared.offence.Offence.TheVariants as offence
+use Rattle.cx_semantics.specs.declared.steps.Cause.{Cause}
+use Rattle.cx_desk.specs.declared.desk.Slot.{Slot}
 use Rattle.solve_cli.specs.declared.ending.Ending.{Ending}
 use Rattle.solve_cli.specs.declared.ending.Ending.TheVariants as ending
+use Rattle.solve_cli.specs.declared.ending.WrongAnswer.{WrongAnswer}
 use Rattle.solve_cli.specs.declared.ending.Outcome.{Outcome}
 use Rattle.solve_cli.specs.declared.ending.Outcome.TheVariants as outcome
 use Rattle.solve_cli.specs.declared.ending.Status.{Status}
 use Rattle.solve_cli.specs.declared.ending.Status.TheVariants as status
-use Rattle.solve_cli.specs.Endings.{status_of, status_of_ending}
+use Rattle.solve_cli.specs.Endings.{status_of_offence, status_of_ending, status_of}
 
 -- the endings of status 0
 pub data Done : Ending → Type 0 where
@@ -16,26 +20,42 @@ pub data Done : Ending → Type 0 where
   elaborated : (k : ℕ) → Done (ending.Elaborated k)
   unknown : (k : ℕ) → Done (ending.Unknown k)
 
--- an outcome of this status, for the statuses of which the clauses of a run speak
+-- the endings of status 9
+pub data OverLimit : Ending → Type 0 where
+  far : (place : ℕ) → OverLimit (ending.FormulaRefused (offence.VarLimit place))
+  long : (which : Slot) → OverLimit (ending.TooLong which)
+
+-- an outcome of this status
 abbrev pub HasStatus : Status → Outcome → Type 0
 HasStatus status.Usage o = o ≡ outcome.Usage
 HasStatus status.ReadFault o = o ≡ outcome.ReadFault
 HasStatus status.WriteFault o = o ≡ outcome.WriteFault
+HasStatus status.OutOfMemory o = o ≡ outcome.Memory
 HasStatus status.Done o = (e : Ending) × (o ≡ outcome.Ended e) × Done e
 HasStatus status.Satisfiable o = (v : List Bool) × (o ≡ outcome.Ended (ending.Satisfiable v))
 HasStatus status.Unsatisfiable o = o ≡ outcome.Ended ending.Unsatisfiable
-HasStatus s o = Unit {0}
+HasStatus status.FormulaRefused o = (b : Offence) × (o ≡ outcome.Ended (ending.FormulaRefused b)) × (status_of_offence b ≡ status.FormulaRefused)
+HasStatus status.Limit o = (e : Ending) × (o ≡ outcome.Ended e) × OverLimit e
+HasStatus status.ProofRefused o = (k : ℕ) × (c : Cause) × (o ≡ outcome.Ended (ending.NotVerified k c))
+HasStatus status.LogRefused o = (k : ℕ) × (c : Cause) × (o ≡ outcome.Ended (ending.NotElaborated k c))
+HasStatus status.AnswerRefused o = (w : WrongAnswer) × (o ≡ outcome.Ended (ending.ModelWrong w))
+
+of_offence : (b : Offence) → HasStatus (status_of_offence b) (outcome.Ended (ending.FormulaRefused b))
+of_offence (offence.NoHeader b) = (offence.NoHeader b, refl, refl)
+of_offence (offence.BadHeader b) = (offence.BadHeader b, refl, refl)
+of_offence (offence.BadToken b) = (offence.BadToken b, refl, refl)
+of_offence (offence.Unterminated b) = (offence.Unterminated b, refl, refl)
+of_offence (offence.VarLimit b) = (ending.FormulaRefused (offence.VarLimit b), refl, far b)
 
 of_ending : (e : Ending) → HasStatus (status_of_ending e) (outcome.Ended e)
-of_ending (ending.FormulaRefused (offence.VarLimit b)) = tt
-of_ending (ending.FormulaRefused o) = tt
-of_ending (ending.TooLong s) = tt
+of_ending (ending.FormulaRefused b) = of_offence b
+of_ending (ending.TooLong which) = (ending.TooLong which, refl, long which)
 of_ending (ending.Verified k) = (ending.Verified k, refl, verified k)
-of_ending (ending.NotVerified k c) = tt
+of_ending (ending.NotVerified k c) = (k, c, refl)
 of_ending ending.ModelRight = (ending.ModelRight, refl, right)
-of_ending (ending.ModelWrong w) = tt
+of_ending (ending.ModelWrong w) = (w, refl)
 of_ending (ending.Elaborated k) = (ending.Elaborated k, refl, elaborated k)
-of_ending (ending.NotElaborated k c) = tt
+of_ending (ending.NotElaborated k c) = (k, c, refl)
 of_ending (ending.Satisfiable v) = (v, refl)
 of_ending ending.Unsatisfiable = refl
 of_ending (ending.Unknown k) = (ending.Unknown k, refl, unknown k)
@@ -45,7 +65,7 @@ of_outcome (outcome.Ended e) = of_ending e
 of_outcome outcome.Usage = refl
 of_outcome outcome.ReadFault = refl
 of_outcome outcome.WriteFault = refl
-of_outcome outcome.Memory = tt
+of_outcome outcome.Memory = refl
 
 pub outcome_of : (s : Status) (o : Outcome) → s ≡ status_of o → HasStatus s o
 outcome_of s o is = subst (λ (t : Status). HasStatus t o) (sym is) (of_outcome o)

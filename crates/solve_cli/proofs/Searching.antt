@@ -20,12 +20,12 @@ use Rattle.solve_cli.specs.declared.ending.Outcome.{Outcome}
 use Rattle.solve_cli.specs.declared.ending.Outcome.TheVariants as outcome
 use Rattle.solve_cli.specs.Seen.{Seen, seen, says, text_named}
 use Rattle.solve_cli.specs.Commands.{proof_created, asked_to}
-use Rattle.solve_cli.specs.Happens.{FormulaRead, IsFormula, Judged, Gains, Ends, Stops, Works}
-use Rattle.solve_cli.specs.Logs.{IsOpenLog, IsClosedLog, IsRefutation}
+use Rattle.solve_cli.specs.Happens.{FormulaRead, IsFormula, Judged, Gains, IsOf, Ends, Stops, Works}
+use Rattle.solve_cli.specs.Logs.{IsOpenLog, IsClosedLog, IsRefutation, HasNoMark}
 use Rattle.solve_cli.specs.Solving.{ComesTo}
 use Rattle.solve_cli.specs.Steps.{PutsAnswer}
 use Rattle.solve_cli.proofs.Gaining.{write_fault}
-use Rattle.solve_cli.proofs.Logging.{open_log, refutation, budgeted, few_marks, front_so_far}
+use Rattle.solve_cli.proofs.Logging.{open_log, refutation, budgeted, few_marks, unmarked, front_so_far}
 use Rattle.solve_cli.proofs.Works.{seen-gained, formula_in, judged_late, answered}
 
 -- ---- what the search answers
@@ -77,6 +77,16 @@ is_right f budget log _ (values v meets log_open) = inl log_open.is_open
 is_right f budget log _ (none unmet closed) = inr closed.refutes
 is_right f budget log _ (nothing k spent open_ marked) = inl marked.is_open
 
+has_no_mark : (f : Problem) (budget : ℕ) (log : Bytes) (e : Ending) → Found f budget log e → Settled f → HasNoMark log
+has_no_mark f budget log _ (values v meets log_open) s = unmarked f budget log log_open.marks s
+has_no_mark f budget log _ (none unmet closed) s = unmarked f budget log closed.marks s
+has_no_mark f budget log _ (nothing k spent open_ marked) s = absurd (open_ s)
+
+own : (n : Bytes) (l : Option Bytes) (budget : ℕ) (f : Problem) (log : Bytes) (e : Ending) → Found f budget log e → IsOf (plan.Solve n l budget) e
+own n l budget f log _ (values v meets log_open) = tt
+own n l budget f log _ (none unmet closed) = tt
+own n l budget f log _ (nothing k spent open_ marked) = tt
+
 -- ---- the writes
 
 module _ (n : Bytes) (l : Option Bytes) (budget limit : ℕ) (old : Seen) (f : Problem) (events : List LogEvent) (e : Ending) (mid : Outside)
@@ -87,6 +97,7 @@ module _ (n : Bytes) (l : Option Bytes) (budget limit : ℕ) (old : Seen) (f : P
       let is = judged n l budget f (printed_log events) e have in
       let none : 0 ≤ limit = omega arith in
       record {
+        own = own n l budget f (printed_log events) e have;
         reaches = rw (judged_late e (plan.Solve n l budget) f [] is) (formula_in (plan.Solve n l budget) limit old f read);
         due = IfSome_then old.files read (λ files r. inr (record { formula = f; is_formula = r; due = inr (none, is) }));
         proof = printed_log events;
@@ -105,11 +116,12 @@ module _ (n : Bytes) (l : Option Bytes) (budget limit : ℕ) (old : Seen) (f : P
       → Works (plan.Solve n l budget) limit old outcome.WriteFault (seen new)
   log_cut new h =
       let front = take h.0 (printed_log events) in
+      let have = found f budget events e finds in
       let stops : Stops (plan.Solve n l budget) limit old (says port.Proof front (seen mid)) = record {
         stage = proof_created;
         reaches = formula_in (plan.Solve n l budget) limit old f read;
         proof = front;
-        so_far = IfSome_then old.files read (λ files r. (f, r, front_so_far f (printed_log events) h.0 (is_right f budget (printed_log events) e (found f budget events e finds))));
+        so_far = IfSome_then old.files read (λ files r. (f, r, front_so_far f (printed_log events) h.0 (is_right f budget (printed_log events) e have) (has_no_mark f budget (printed_log events) e have)));
         at_is = ap (says port.Proof front) begun;
       } in
-      inr (inr (record { writes = refl; at = says port.Proof front (seen mid); stops = stops; fault = write_fault front mid new h.2 }))
+      inr (inr (record { writes = refl; at = says port.Proof front (seen mid); stops = stops; created = refl; fault = write_fault front mid new h.2 }))

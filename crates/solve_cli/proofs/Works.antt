@@ -1,5 +1,5 @@
 -- From the steps of a command to what it does.
-use Rattle.std.proofs.Common.{true, false, ◌≡◌, ◌<◌, ◌≤◌, ℕ, [], length, take, Option, Some, None, IfSome, Result, Ok, Err, inl, inr, refl, ap, sym, subst, ◌∙◌, append-nil}
+use Rattle.std.proofs.Common.{true, false, ◌≡◌, ◌<◌, ◌≤◌, ℕ, [], length, take, Option, Some, None, IfSome, IsSome, Result, Ok, Err, inl, inr, refl, ap, sym, subst, ◌∙◌, append-nil}
 use Rattle.std.proofs.lemmas.Option.{IfSome_then}
 use Rattle.cx_base.specs.Problem.{Problem}
 use Rattle.cx_semantics.specs.FormulaText.{FirstOffence}
@@ -24,7 +24,7 @@ use Rattle.solve_cli.specs.declared.ending.Outcome.TheVariants as outcome
 use Rattle.solve_cli.specs.Endings.{answer_text}
 use Rattle.solve_cli.specs.Seen.{Seen, seen, asks, asks_proof, creates, says, append_to, ReadFault, WriteFault, MessageFault, text_named}
 use Rattle.solve_cli.specs.Commands.{formula_of, second_of, proof_of, Stage, formula_started, second_started, proof_created, starts, gives_file, asked_to, text_of}
-use Rattle.solve_cli.specs.Happens.{is_early, IfNamed, FormulaRead, IsFormula, FormulaIn, Judged, Gains, SoFar, Reaches, Ends, Stops, Works, PutsMessage}
+use Rattle.solve_cli.specs.Happens.{is_early, IfNamed, FormulaRead, IsFormula, FormulaIn, Judged, IsOf, Gains, SoFar, Reaches, Ends, Stops, Works, PutsMessage}
 use Rattle.solve_cli.specs.Proofs.{IsRightSoFar}
 use Rattle.solve_cli.proofs.Logging.{nothing_logged}
 use Rattle.solve_cli.specs.Steps.{FormulaFails, ReadFails, PutsAnswer, Loaded, HasNoProof, LeftBy, Elaborated, refused_as}
@@ -51,7 +51,7 @@ seen-gained p text o = elim o.told as (λ w. seen (gained p text (record o { tol
   | Some t ↦ refl
 ]
 
-early_text : (e : Ending) → is_early e ≡ true → answer_text e ≡ []
+pub early_text : (e : Ending) → is_early e ≡ true → answer_text e ≡ []
 unfolding answer_text
 early_text (ending.FormulaRefused o) h = refl
 early_text (ending.TooLong s) h = refl
@@ -147,6 +147,28 @@ stopped stage p limit old at reaches is = record {
   at_is = is ∙ bare (asked_to stage p old);
 }
 
+-- ---- the endings of each command
+
+named_is_some : {A : Type 0} {o : Option A} {x : A} → o ≡ Some x → IsSome o
+named_is_some e = rw e refl
+
+early_own : (p : Plan) (name : Bytes) (e : Ending) → formula_of p ≡ Some name → is_early e ≡ true → IsOf p e
+early_own p name (ending.FormulaRefused o) named h = named_is_some named
+early_own p name (ending.TooLong slot.Formula) named h = named_is_some named
+early_own p name e named h = cc
+
+judged_own : (e : Ending) (p : Plan) (f : Problem) (text : Bytes) → Judged e p f text → IsOf p e
+judged_own (ending.Verified k) (plan.Check n q) f text h = tt
+judged_own (ending.NotVerified k c) (plan.Check n q) f text h = tt
+judged_own ending.ModelRight (plan.Model n a) f text h = tt
+judged_own (ending.ModelWrong w) (plan.Model n a) f text h = tt
+judged_own (ending.Elaborated k) (plan.Elab n l q) f text h = tt
+judged_own (ending.NotElaborated k c) (plan.Elab n l q) f text h = tt
+judged_own (ending.Satisfiable v) (plan.Solve n l c) f text h = tt
+judged_own ending.Unsatisfiable (plan.Solve n l c) f text h = tt
+judged_own (ending.Unknown k) (plan.Solve n l c) f text h = tt
+judged_own e p f text h = absurd h
+
 -- ---- the formula
 
 -- the formula was not read
@@ -155,6 +177,7 @@ pub formula_failed : (p : Plan) (name : Bytes) (limit : ℕ) (old : Seen) (o : O
 formula_failed p name limit old (outcome.Ended e) new named h = (
   asks slot.Formula name old,
   record {
+    own = early_own p name e named h.0;
     reaches = rw h.0 tt;
     due = IfSome_then old.files h.2 (λ files early. inl (rw named early));
     proof = [];
@@ -229,6 +252,7 @@ pub second_failed : (p : Plan) (name : Bytes) (limit : ℕ) (old : Seen) (f : Pr
 second_failed p name limit old f mid (outcome.Ended (ending.TooLong slot.Second)) new named is read h = (
   asked_to proof_created p old,
   record {
+    own = named_is_some named;
     reaches = formula_in p limit old f read;
     due = if_some_both old.files read (subst (λ (w : Option Files). IfSome w (λ files. limit < length (text_named name files))) (ap (λ (s : Seen). s.files) is ∙ files_at proof_created p old) h.2)
         (λ files r long. inr (record { formula = f; is_formula = r; due = inl (rw named long, refl) }));
@@ -307,6 +331,7 @@ module _ {p : Plan} {limit : ℕ} {old : Seen} {f : Problem} {text : Bytes} {mid
   -- what they come to
   ends : (e : Ending) (proof : Bytes) → Judged e p f text → IfSome old.files (λ files. Gains p limit files e proof) → Ends p limit old e (says port.Proof proof mid)
   ends e proof judged gains = record {
+    own = judged_own e p f text judged;
     reaches = rw (judged_late e p f text judged) reached;
     due = if_some_both old.files h.is_formula h.is_second
         (λ files r t. inr (record { formula = f; is_formula = r; due = inr (subst (λ (x : Bytes). (length x ≤ limit) × Judged e p f x) t (h.fits, judged)) }));
@@ -356,7 +381,7 @@ module _ {n l q : Bytes} {limit : ℕ} {old : Seen} {f : Problem} {text : Bytes}
 
       by : (o : Outcome) → Elaborated f text mid (Err o) new → Works (plan.Elab n l q) limit old o new
       by outcome.Memory m = subst (Stops (plan.Elab n l q) limit old) (sym m.1) (stops m.0 m.2)
-      by outcome.WriteFault m = inr (inr (record { writes = refl; at = says port.Proof m.0 mid; stops = stops m.0 m.2; fault = m.1 }))
+      by outcome.WriteFault m = inr (inr (record { writes = refl; at = says port.Proof m.0 mid; stops = stops m.0 m.2; created = refl; fault = m.1 }))
       by o m = absurd m
 
 -- ---- the message

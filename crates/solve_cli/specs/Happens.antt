@@ -1,5 +1,5 @@
 -- What a command may do: which ending is due for its files, and which outcome may come in its place.
-use Rattle.std.specs.Prelude.{◌≡◌, ◌<◌, ◌≤◌, ℕ, Bool, true, false, List, [], length, take, if◌then◌else◌, Option, Some, None, IfSome, IsTrue, IsFalse, ◌⊎◌}
+use Rattle.std.specs.Prelude.{◌≡◌, ◌<◌, ◌≤◌, ℕ, Bool, true, false, List, [], length, take, if◌then◌else◌, Option, Some, None, IfSome, IsSome, IsTrue, IsFalse, ⊤, ◌⊎◌}
 use Rattle.cx_base.specs.Problem.{Problem, Meets, Unmet}
 use Rattle.cx_semantics.specs.FormulaText.{Reads, FirstOffence}
 use Rattle.cx_semantics.specs.ProofRules.{Accepted, RefusedAt}
@@ -27,7 +27,7 @@ use Rattle.solve_cli.specs.Endings.{status_of, status_of_ending, answer_text, me
 use Rattle.solve_cli.specs.Seen.{Seen, asks_proof, says, ReadFault, WriteFault, MessageFault, text_named}
 use Rattle.solve_cli.specs.Proofs.{IsWholeProof, IsProofBefore, IsRightSoFar}
 use Rattle.solve_cli.specs.Logs.{IsOpenLog, IsClosedLog, IsLogSoFar}
-use Rattle.solve_cli.specs.Commands.{is_built, formula_of, proof_of, writes_proof, Stage, formula_started, second_started, proof_created, asked_to, second_text}
+use Rattle.solve_cli.specs.Commands.{is_built, formula_of, second_of, proof_of, writes_proof, Stage, formula_started, second_started, proof_created, asked_to, second_text}
 
 -- ---- which ending is due
 
@@ -89,11 +89,15 @@ Early p limit files e = IfNamed (formula_of p) (λ name. EarlyDue limit (text_na
 abbrev pub Due : Plan → ℕ → Files → Ending → Type 0
 Due p limit files e = Early p limit files e ⊎ Late p limit files e
 
+-- the text of a command's formula reads, or an ending refuses it
+abbrev pub IsEarlyOrRead : Plan → ℕ → Files → Bytes → Type 0
+IsEarlyOrRead p limit files name = ((f : Problem) × FormulaRead limit (text_named name files) f) ⊎ ((e : Ending) × Early p limit files e)
+
 -- ---- what stands on the Proof port
 
 -- what the Proof port gains before the answer of an ending
 abbrev pub Gains : Plan → ℕ → Files → Ending → Bytes → Type 0
-Gains (plan.Elab n l q) limit files (ending.Elaborated k) proof = (f : Problem) × FormulaRead limit (text_named n files) f × IsWholeProof f proof
+Gains (plan.Elab n l q) limit files (ending.Elaborated k) proof = (f : Problem) × FormulaRead limit (text_named n files) f × IsWholeProof f (text_named l files) k proof
 Gains (plan.Elab n l q) limit files (ending.NotElaborated k c) proof =
     (f : Problem) × FormulaRead limit (text_named n files) f × IsProofBefore f (text_named l files) k proof
 Gains (plan.Solve n l c) limit files (ending.Satisfiable v) log = (f : Problem) × FormulaRead limit (text_named n files) f × IsOpenLog f c log
@@ -128,8 +132,25 @@ is_early e = false
 abbrev pub end_stage : Ending → Stage
 end_stage e = if is_early e then formula_started else proof_created
 
+-- the endings of each command, whatever the desk tells
+abbrev pub IsOf : Plan → Ending → Type 0
+IsOf p (ending.FormulaRefused o) = IsSome (formula_of p)
+IsOf p (ending.TooLong slot.Formula) = IsSome (formula_of p)
+IsOf p (ending.TooLong slot.Second) = IsSome (second_of p)
+IsOf (plan.Check n q) (ending.Verified k) = ⊤
+IsOf (plan.Check n q) (ending.NotVerified k c) = ⊤
+IsOf (plan.Model n a) ending.ModelRight = ⊤
+IsOf (plan.Model n a) (ending.ModelWrong w) = ⊤
+IsOf (plan.Elab n l q) (ending.Elaborated k) = ⊤
+IsOf (plan.Elab n l q) (ending.NotElaborated k c) = ⊤
+IsOf (plan.Solve n l c) (ending.Satisfiable v) = ⊤
+IsOf (plan.Solve n l c) ending.Unsatisfiable = ⊤
+IsOf (plan.Solve n l c) (ending.Unknown k) = ⊤
+IsOf p e = ⊥
+
 -- an ending with all that was asked for and written before its answer
 pub record Ends (p : Plan) (limit : ℕ) (old : Seen) (e : Ending) (before : Seen) : Type 0 where
+  pub own : IsOf p e
   pub reaches : Reaches (end_stage e) p limit old
   pub due : IfSome old.files (λ files. Due p limit files e)
   pub proof : Bytes
@@ -160,11 +181,12 @@ pub record CreateFails (p : Plan) (limit : ℕ) (old new : Seen) : Type 0 where
   pub reaches : Reaches second_started p limit old
   pub fault : WriteFault (asks_proof name (asked_to second_started p old)) new
 
--- a write on the Proof port that failed
+-- a write on the Proof port that failed, once the port was given its file
 pub record ProofFails (p : Plan) (limit : ℕ) (old new : Seen) : Type 0 where
   pub writes : IsTrue (writes_proof p)
   pub at : Seen
   pub stops : Stops p limit old at
+  pub created : stops.stage ≡ proof_created
   pub fault : WriteFault at new
 
 -- What happened by an outcome, before its message.
@@ -205,13 +227,3 @@ pub record Comes (words : List Bytes) (limit : ℕ) (old : Seen) (s : Status) : 
   pub ending : Ending
   pub status_is : s ≡ status_of_ending ending
   pub due : IfSome old.files (λ files. Due plan limit files ending)
-
--- the proof of a formula was verified only where no values meet it
-abbrev pub IsSound : List Bytes → Seen → Status → Type 0
-IsSound words old s = (f p : Bytes) (formula : Problem) → Asks words (plan.Check f p) → s ≡ status.Done
-    → IfSome old.files (λ files. Reads (text_named f files) formula → Unmet formula)
-
--- a log was elaborated only where what stands on the Proof port is a proof that is accepted
-abbrev pub IsElaborated : List Bytes → Seen → Status → Seen → Type 0
-IsElaborated words old s new = (f l p : Bytes) (formula : Problem) → Asks words (plan.Elab f l p) → s ≡ status.Done
-    → IfSome old.files (λ files. Reads (text_named f files) formula → IfSome new.written (λ w. (k : ℕ) × Accepted formula w.proof k))

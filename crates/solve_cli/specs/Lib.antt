@@ -7,3 +7,6 @@ pub mod Happens
 pub mod Steps
 pub mod Solving
 pub mod Solved
+pub mod Causes
+pub mod Run
+pub mod WholeWay

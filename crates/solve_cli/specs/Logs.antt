@@ -1,12 +1,12 @@
 -- What `solve` leaves on the Proof port: the text of a log.
-use Rattle.std.specs.Prelude.{◌≡◌, ℕ, ◌<◌, List, ◌++◌, length, ◌⊎◌}
+use Rattle.std.specs.Prelude.{◌≡◌, ℕ, ◌<◌, List, [], ◌++◌, length, filter_map, ◌⊎◌}
 use Rattle.cx_base.specs.Problem.{Problem}
 use Rattle.cx_semantics.specs.declared.steps.LogStep.{LogStep}
 use Rattle.cx_semantics.specs.declared.steps.LogEvent.{LogEvent}
 use Rattle.cx_semantics.specs.Grammar.{finished}
 use Rattle.cx_semantics.specs.LogRules.{LogOpen, LogRight}
 use Rattle.cx_semantics.specs.LogText.{LogReads, EventsRead}
-use Rattle.cx_semantics.specs.Marked.{Marked}
+use Rattle.cx_semantics.specs.Marked.{Marked, mark_of}
 use Rattle.cx_semantics.specs.Settled.{Settled}
 use Rattle.cx_desk.specs.Outside.{Bytes}
 
@@ -35,9 +35,14 @@ pub record IsClosedLog (formula : Problem) (budget : ℕ) (log : Bytes) : Type 0
   pub refutes : IsRefutation formula log
   pub marks : HasFewMarks formula budget log
 
--- the bytes are a front of a log all of whose steps are right
+-- no event of the log is a mark
+abbrev pub HasNoMark : Bytes → Type 0
+HasNoMark log = (events : List LogEvent) × EventsRead log events finished × (filter_map mark_of events ≡ [])
+
+-- the bytes are a front of a log all of whose steps are right; where propagation settles the formula, it has no mark
 pub record IsLogSoFar (formula : Problem) (bytes : Bytes) : Type 0 where
   pub log : Bytes
   pub right : LogOpen formula log ⊎ IsRefutation formula log
+  pub settled : Settled formula → HasNoMark log
   pub rest : Bytes
   pub front : bytes ++ rest ≡ log

@@ -11,20 +11,25 @@ use Rattle.cx_semantics.specs.ProofRules.{Accepted, proof_calculus}
 use Rattle.cx_desk.specs.Outside.{Bytes}
 use Rattle.fratx_elab.specs.Elaborates.{IsProofOf}
 
--- the bytes are a proof that is accepted at its last step
-pub record IsWholeProof (formula : Problem) (bytes : Bytes) : Type 0 where
-  pub steps : List ProofStep
-  pub printed : bytes ≡ printed_proof steps
-  pub accepted : Accepted formula bytes (length steps)
-
--- the bytes are the proof of the log's steps before step k
-pub record IsProofBefore (formula : Problem) (log : Bytes) (k : ℕ) (bytes : Bytes) : Type 0 where
+-- the bytes are the printed proof of the log's first so many steps
+pub record IsPrintedProof (formula : Problem) (log : Bytes) (count : ℕ) (steps : List ProofStep) (bytes : Bytes) : Type 0 where
   pub log_steps : List LogStep
   pub ending : Ending
   pub reads : LogReads log log_steps ending
-  pub steps : List ProofStep
-  pub is_proof : IsProofOf formula (take (k - 1) log_steps) steps
+  pub is_proof : IsProofOf formula (take count log_steps) steps
   pub printed : bytes ≡ printed_proof steps
+
+-- the bytes are the proof of the log's first k steps, and it is accepted at its last step
+pub record IsWholeProof (formula : Problem) (log : Bytes) (k : ℕ) (bytes : Bytes) : Type 0 where
+  pub steps : List ProofStep
+  pub proof : IsPrintedProof formula log k steps bytes
+  pub accepted : Accepted formula bytes (length steps)
+
+-- the bytes are the proof of the log's steps before step k, each of its steps is right, and none ends it
+pub record IsProofBefore (formula : Problem) (log : Bytes) (k : ℕ) (bytes : Bytes) : Type 0 where
+  pub steps : List ProofStep
+  pub proof : IsPrintedProof formula log (k - 1) steps bytes
+  pub right : IsOpen (proof_calculus formula) steps
 
 -- each step is right, and none but the last ends the proof
 abbrev pub AreRight : Problem → List ProofStep → Type 0

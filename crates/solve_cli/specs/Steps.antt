@@ -99,7 +99,7 @@ HasNoProof s = IfSome s.written (λ w. w.proof ≡ [])
 
 -- what a log's ending leaves on the Proof port
 abbrev pub LeftBy : Ending → Problem → Bytes → Bytes → Type 0
-LeftBy (ending.Elaborated k) f log proof = IsWholeProof f proof
+LeftBy (ending.Elaborated k) f log proof = IsWholeProof f log k proof
 LeftBy (ending.NotElaborated k c) f log proof = IsProofBefore f log k proof
 LeftBy e f log proof = ⊥
 

@@ -13,5 +13,5 @@ mod solve;
 
 pub use cx_words::{Kind, Name, Plan, PlanRefusal, plan};
 pub use ending::{Ending, Outcome, Status, WrongAnswer};
-pub use laws::one_ending_is_due;
+pub use laws::{one_ending_is_due, refusals_of_formulas_are_due, refutations_are_verified};
 pub use program::{run, run_within};

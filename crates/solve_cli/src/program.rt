@@ -1,15 +1,12 @@
 //! The top call.
-ghost use Rattle.std.specs.Prelude.{◌≡◌, ◌≤◌, ◌^◌, ◌⊎◌, ℕ, Option, IsTrue};
-ghost use Rattle.cx_desk.specs.Outside.{Bytes};
-ghost use Rattle.cx_base.specs.Counts.{Rose};
-ghost use Rattle.cx_words.specs.Words.{texts, Asks, Refuses};
-ghost use Rattle.cx_words.specs.declared.plans.Plan.{Plan as PlanOf};
+ghost use Rattle.std.specs.Prelude.{◌≤◌, ◌^◌};
+ghost use Rattle.cx_words.specs.Words.{texts};
 ghost use Rattle.cx_words.specs.declared.plans.Plan.TheVariants as plan;
 ghost use Rattle.solve_cli.specs.Seen.{seen};
-ghost use Rattle.solve_cli.specs.Commands.{Unasked, is_built};
+ghost use Rattle.solve_cli.specs.Commands.{Unasked};
 ghost use Rattle.solve_cli.specs.Steps.{PutsAnswer};
-ghost use Rattle.solve_cli.specs.Happens.{Works, WorksFor, AsksForMore, Runs, Comes, IsSound, IsElaborated};
-ghost use Rattle.solve_cli.specs.Solved.{IsSatisfied, IsRefuted, IsSpent, IsSettled, IsUnsolvable};
+ghost use Rattle.solve_cli.specs.Happens.{Works, WorksFor};
+ghost use Rattle.solve_cli.specs.Run.{Run};
 
 use crate::elab::elaborate_text;
 use crate::judge::{judge_answer, judge_proof};
@@ -147,26 +144,12 @@ fn work<D: Desk>(alloc: Global, desk: &mut D, words: &[String], limit: u64) -> O
 
 /// All that the program does, with no text longer than the limit.
 ///
-/// `words[0]` is the program's name. A fault of reading or writing ends the command at once.
+/// `words[0]` is the program's name. A fault of reading or writing ends the command at once. What a run is, sentence by
+/// sentence, stands in the record `Run` of specs/.
 pub fn run_within<D: Desk>(alloc: Global, words: Vec<String>, limit: u64, desk: &mut D) -> Status
     requires fresh { Unasked (D.outside desk.old).asked }
     requires limit { limit ≤ 4294967295 }
-    ensures runs { Runs (texts words.items) limit (seen (D.outside desk.old)) result (seen (D.outside desk.new)) }
-    ensures sound { IsSound (texts words.items) (seen (D.outside desk.old)) result }
-    ensures elaborated { IsElaborated (texts words.items) (seen (D.outside desk.old)) result (seen (D.outside desk.new)) }
-    ensures satisfiable { result ≡ Status.Satisfiable → IsSatisfied (texts words.items) (seen (D.outside desk.old)) (seen (D.outside desk.new)) }
-    ensures unsatisfiable { result ≡ Status.Unsatisfiable → IsRefuted (texts words.items) (seen (D.outside desk.old)) (seen (D.outside desk.new)) }
-    ensures unknown { (f : Bytes) (log : Option Bytes) (n : ℕ) → Asks (texts words.items) (plan.Solve f log n) → result ≡ Status.Done
-        → IsSpent (texts words.items) (seen (D.outside desk.old)) (seen (D.outside desk.new)) }
-    ensures settled { IsSettled (texts words.items) (seen (D.outside desk.old)) result }
-    ensures unsolvable { IsUnsolvable (texts words.items) (seen (D.outside desk.old)) result }
-    ensures complete { (p : PlanOf) → Asks (texts words.items) p → IsTrue (is_built p)
-        → (Rose (D.outside desk.old).faults.reads (D.outside desk.new).faults.reads → ⊥)
-        → (Rose (D.outside desk.old).faults.writes (D.outside desk.new).faults.writes → ⊥)
-        → (result ≡ Status.OutOfMemory) ⊎ Comes (texts words.items) limit (seen (D.outside desk.old)) result }
-    ensures usage { result ≡ Status.Usage → Refuses (texts words.items) ⊎ AsksForMore (texts words.items) }
-    ensures read_fault { result ≡ Status.ReadFault → Rose (D.outside desk.old).faults.reads (D.outside desk.new).faults.reads }
-    ensures write_fault { result ≡ Status.WriteFault → Rose (D.outside desk.old).faults.writes (D.outside desk.new).faults.writes }
+    ensures { Run (texts words.items) limit (seen (D.outside desk.old)) result (seen (D.outside desk.new)) }
 {
     let outcome = work(alloc, desk, words.as_slice(), limit);
     let _told = put_message_text(desk, &outcome);
@@ -176,22 +159,7 @@ pub fn run_within<D: Desk>(alloc: Global, words: Vec<String>, limit: u64, desk: 
 /// All that the program does, with no text longer than 4,294,967,295 bytes.
 pub fn run<D: Desk>(alloc: Global, words: Vec<String>, desk: &mut D) -> Status
     requires { Unasked (D.outside desk.old).asked }
-    ensures runs { Runs (texts words.items) 4294967295 (seen (D.outside desk.old)) result (seen (D.outside desk.new)) }
-    ensures sound { IsSound (texts words.items) (seen (D.outside desk.old)) result }
-    ensures elaborated { IsElaborated (texts words.items) (seen (D.outside desk.old)) result (seen (D.outside desk.new)) }
-    ensures satisfiable { result ≡ Status.Satisfiable → IsSatisfied (texts words.items) (seen (D.outside desk.old)) (seen (D.outside desk.new)) }
-    ensures unsatisfiable { result ≡ Status.Unsatisfiable → IsRefuted (texts words.items) (seen (D.outside desk.old)) (seen (D.outside desk.new)) }
-    ensures unknown { (f : Bytes) (log : Option Bytes) (n : ℕ) → Asks (texts words.items) (plan.Solve f log n) → result ≡ Status.Done
-        → IsSpent (texts words.items) (seen (D.outside desk.old)) (seen (D.outside desk.new)) }
-    ensures settled { IsSettled (texts words.items) (seen (D.outside desk.old)) result }
-    ensures unsolvable { IsUnsolvable (texts words.items) (seen (D.outside desk.old)) result }
-    ensures complete { (p : PlanOf) → Asks (texts words.items) p → IsTrue (is_built p)
-        → (Rose (D.outside desk.old).faults.reads (D.outside desk.new).faults.reads → ⊥)
-        → (Rose (D.outside desk.old).faults.writes (D.outside desk.new).faults.writes → ⊥)
-        → (result ≡ Status.OutOfMemory) ⊎ Comes (texts words.items) 4294967295 (seen (D.outside desk.old)) result }
-    ensures usage { result ≡ Status.Usage → Refuses (texts words.items) ⊎ AsksForMore (texts words.items) }
-    ensures read_fault { result ≡ Status.ReadFault → Rose (D.outside desk.old).faults.reads (D.outside desk.new).faults.reads }
-    ensures write_fault { result ≡ Status.WriteFault → Rose (D.outside desk.old).faults.writes (D.outside desk.new).faults.writes }
+    ensures { Run (texts words.items) 4294967295 (seen (D.outside desk.old)) result (seen (D.outside desk.new)) }
 {
     run_within(alloc, words, 4_294_967_295, desk)
 }

@@ -1,6 +1,8 @@
 use Rattle.solve_cli.proofs.Works.{tells_of}
-use Rattle.solve_cli.proofs.Direct.{sound, elaborated_is_accepted, complete, usage, read_fault, write_fault}
+use Rattle.solve_cli.proofs.Direct.{complete, refused_words, usage, read_fault, write_fault}
+use Rattle.solve_cli.proofs.Messages.{need_no_write}
 use Rattle.solve_cli.proofs.Solved.{satisfied, unsatisfied, spent_budget, settled, unsolvable}
+use Rattle.solve_cli.proofs.Statuses.{only_solve_decides, proof_is_verified, log_is_elaborated, model_is_right, formula_is_refused, proof_is_refused, log_is_refused, answer_is_refused, limit_is_passed}
 use Rattle.solve_cli.specs.Seen.{seen}
 use Rattle.cx_words.specs.Words.{texts}
 use Rattle.solve_cli.specs.Happens.{Runs}
@@ -9,9 +11,12 @@ use Rattle.solve_cli.proofs.program.run_within.Goals as goal
 
 pub returns : goal.returns
 returns g c =
+    let words = texts c.args.words.items in
+    let limit = c.args.limit in
     let old = seen (g.D.Desk.outside c.args.desk.now) in
     let new = seen (g.D.Desk.outside c.put_message_text-told.new.desk) in
-    let runs : Runs (texts c.args.words.items) c.args.limit old c.status.result new = record {
+    let s = c.status.result in
+    let runs : Runs words limit old s new = record {
       outcome = c.work-outcome.result;
       status_is = c.status.ensures;
       done = seen (g.D.Desk.outside c.work-outcome.new.desk);
@@ -19,18 +24,26 @@ returns g c =
       tells = tells_of (message_text c.work-outcome.result) (g.D.Desk.outside c.work-outcome.new.desk) c.put_message_text-told.result
           (g.D.Desk.outside c.put_message_text-told.new.desk) c.put_message_text-told.ensures;
     } in
-    let words = texts c.args.words.items in
     record {
-      runs = runs;
-      sound = sound words c.args.limit old c.status.result new runs;
-      elaborated = elaborated_is_accepted words c.args.limit old c.status.result new runs;
-      satisfiable = satisfied words c.args.limit old c.status.result new runs;
-      unsatisfiable = unsatisfied words c.args.limit old c.status.result new runs;
-      unknown = λ f log n asks e. spent_budget words c.args.limit old c.status.result new runs f log n asks e;
-      settled = settled words c.args.limit old c.status.result new runs;
-      unsolvable = unsolvable words c.args.limit old c.status.result new runs;
-      complete = λ p asks built no_read no_write. complete words c.args.limit old c.status.result new runs p asks built no_read no_write;
-      usage = usage words c.args.limit old c.status.result new runs;
-      read_fault = read_fault words c.args.limit old c.status.result new runs;
-      write_fault = write_fault words c.args.limit old c.status.result new runs;
+      happens = runs;
+      values_meet = satisfied words limit old s new runs;
+      no_values_meet = unsatisfied words limit old s new runs;
+      only_solve_decides = only_solve_decides words limit old s new runs;
+      budget_is_spent = λ solve. spent_budget words limit old s new runs solve.0 solve.1 solve.2 solve.3;
+      proof_is_verified = proof_is_verified words limit old s new runs;
+      log_is_elaborated = log_is_elaborated words limit old s new runs;
+      model_is_right = model_is_right words limit old s new runs;
+      words_are_refused = usage words limit old s new runs;
+      formula_is_refused = formula_is_refused words limit old s new runs;
+      read_failed = read_fault words limit old s new runs;
+      write_failed = write_fault words limit old s new runs;
+      proof_is_refused = proof_is_refused words limit old s new runs;
+      log_is_refused = log_is_refused words limit old s new runs;
+      answer_is_refused = answer_is_refused words limit old s new runs;
+      limit_is_passed = limit_is_passed words limit old s new runs;
+      complete = complete words limit old s new runs;
+      refused_words_end = refused_words words limit old s new runs;
+      messages_need_no_write = need_no_write words limit old s new runs;
+      settled = settled words limit old s new runs;
+      unsolvable = unsolvable words limit old s new runs;
     }

@@ -1,0 +1,104 @@
+-- Endings that are told by a message alone: they come though writes fail.
+use Rattle.std.proofs.Common.{◌≡◌, ◌<◌, ◌⊎◌, ℕ, true, [], List, length, Option, Some, None, IfSome, IsTrue, inl, inr, refl, ap, sym, subst, ◌∙◌, arith}
+use Rattle.std.proofs.lemmas.Option.{IfSome_then}
+use Rattle.cx_base.specs.Counts.{Rose}
+use Rattle.cx_base.specs.Problem.{Problem}
+use Rattle.cx_desk.specs.declared.desk.Slot.TheVariants as slot
+use Rattle.cx_desk.specs.Outside.{Bytes, Files}
+use Rattle.cx_words.specs.Words.{Asks}
+use Rattle.cx_words.specs.declared.plans.Plan.{Plan}
+use Rattle.cx_words.specs.declared.plans.Plan.TheVariants as plan
+use Rattle.cx_words.proofs.PlanLaws.{one_plan}
+use Rattle.solve_cli.specs.declared.ending.Ending.{Ending}
+use Rattle.solve_cli.specs.declared.ending.Ending.TheVariants as ending
+use Rattle.solve_cli.specs.declared.ending.Outcome.{Outcome}
+use Rattle.solve_cli.specs.declared.ending.Outcome.TheVariants as outcome
+use Rattle.solve_cli.specs.declared.ending.Status.{Status}
+use Rattle.solve_cli.specs.declared.ending.Status.TheVariants as status
+use Rattle.solve_cli.specs.Endings.{status_of, status_of_ending, answer_text}
+use Rattle.solve_cli.specs.Seen.{Seen, text_named}
+use Rattle.solve_cli.specs.Commands.{Stage, proof_created, second_started, formula_of, proof_of, is_built, writes_proof}
+use Rattle.solve_cli.specs.Happens.{IfNamed, EarlyDue, is_early, Early, Due, IsFormula, FormulaIn, Reaches, AnswerFails, CreateFails, ProofFails, Works, WorksFor, Runs}
+use Rattle.solve_cli.specs.Run.{is_reader, IsToldByMessage}
+use Rattle.solve_cli.proofs.Direct.{read_rose, refused_or_more}
+use Rattle.solve_cli.proofs.OneEnding.{one_ending, one_early, not_both}
+use Rattle.solve_cli.proofs.Works.{early_text}
+
+-- such an ending is the only one that is due
+only_due : (p : Plan) (limit : ℕ) (files : Files) (d e : Ending) → IsToldByMessage p limit files e → Due p limit files d → d ≡ e
+only_due p limit files d e (inl early) due = sym (one_early p limit files e d early due)
+only_due (plan.Check n q) limit files d e (inr h) due = one_ending (plan.Check n q) q limit files d e refl due h.2
+only_due (plan.Model n a) limit files d e (inr h) due = one_ending (plan.Model n a) a limit files d e refl due h.2
+only_due (plan.Solve n l c) limit files d e (inr h) due = let never = h.0 in cc
+only_due (plan.Elab n l q) limit files d e (inr h) due = let never = h.0 in cc
+only_due (plan.Demo a b c) limit files d e (inr h) due = let never = h.0 in cc
+
+-- it puts nothing on the Answer port
+is_early_due : (name : Option Bytes) (limit : ℕ) (files : Files) (e : Ending) → IfNamed name (λ n. EarlyDue limit (text_named n files) e) → is_early e ≡ true
+is_early_due None limit files e h = absurd h
+is_early_due (Some n) limit files (ending.FormulaRefused o) h = refl
+is_early_due (Some n) limit files (ending.TooLong slot.Formula) h = refl
+is_early_due (Some n) limit files e h = absurd h
+
+too_long : answer_text (ending.TooLong slot.Second) ≡ []
+unfolding answer_text
+too_long = refl
+
+no_text : (p : Plan) (limit : ℕ) (files : Files) (e : Ending) → IsToldByMessage p limit files e → answer_text e ≡ []
+no_text p limit files e (inl h) = early_text e (is_early_due (formula_of p) limit files e h)
+no_text p limit files e (inr h) = ap answer_text h.1 ∙ too_long
+
+-- where it is due, the Proof port is not reached
+not_created : (p : Plan) (limit : ℕ) (files : Files) (e : Ending) → IsToldByMessage p limit files e → (name : Bytes) → proof_of p ≡ Some name → (f : Problem) → IsFormula p limit files f → ⊥
+not_created p limit files e (inl h) name named f reads = not_both p limit files f e h reads
+not_created (plan.Check n q) limit files e (inr h) name named f reads = cc
+not_created (plan.Model n a) limit files e (inr h) name named f reads = cc
+not_created (plan.Solve n l c) limit files e (inr h) name named f reads = let never = h.0 in cc
+not_created (plan.Elab n l q) limit files e (inr h) name named f reads = let never = h.0 in cc
+not_created (plan.Demo a b c) limit files e (inr h) name named f reads = let never = h.0 in cc
+
+not_written : (p : Plan) (limit : ℕ) (files : Files) (e : Ending) → IsToldByMessage p limit files e → IsTrue (writes_proof p) → (f : Problem) → IsFormula p limit files f → ⊥
+not_written p limit files e (inl h) writes f reads = not_both p limit files f e h reads
+not_written (plan.Check n q) limit files e (inr h) writes f reads = cc
+not_written (plan.Model n a) limit files e (inr h) writes f reads = cc
+not_written (plan.Solve n l c) limit files e (inr h) writes f reads = let never = h.0 in cc
+not_written (plan.Elab n l q) limit files e (inr h) writes f reads = let never = h.0 in cc
+not_written (plan.Demo a b c) limit files e (inr h) writes f reads = let never = h.0 in cc
+
+module _ (words : List Bytes) (limit : ℕ) (old : Seen) (s : Status) (new : Seen) (h : Runs words limit old s new) where
+  -- what such an ending leaves for the status
+  abbrev Comes : Plan → Ending → Files → Type 0
+  Comes p e files = IsToldByMessage p limit files e → (s ≡ status.OutOfMemory) ⊎ (s ≡ status_of_ending e)
+
+  told : (p : Plan) (e d : Ending) → s ≡ status_of_ending d → Works p limit old (outcome.Ended d) h.done → IfSome old.files (Comes p e)
+  told p e d is w = IfSome_then old.files w.1.due (λ files due. λ by. inr (is ∙ ap status_of_ending (only_due p limit files d e by due)))
+
+  unwritten : (p : Plan) (e : Ending) → Works p limit old outcome.WriteFault h.done → IfSome old.files (Comes p e)
+  unwritten p e (inl w) = IfSome_then old.files w.ends.due (λ files due. λ by.
+      let same = only_due p limit files w.ending e by due in
+      let none : length (answer_text w.ending) ≡ 0 = ap (λ (x : Ending). length (answer_text x)) same ∙ ap length (no_text p limit files e by) in
+      let low : w.count < length (answer_text w.ending) = w.front in
+      absurd (omega (arith, none, low)))
+  unwritten p e (inr (inl w)) = IfSome_then old.files w.reaches (λ files read. λ by. absurd (not_created p limit files e by w.name w.named read.0 read.1))
+  unwritten p e (inr (inr w)) =
+      let reaches = subst (λ (t : Stage). Reaches t p limit old) w.created w.stops.reaches in
+      IfSome_then old.files reaches (λ files read. λ by. absurd (not_written p limit files e by w.writes read.0 read.1))
+
+  all_come : (p : Plan) (e : Ending) → s ≡ status.OutOfMemory → IfSome old.files (Comes p e)
+  all_come p e is = by old.files
+    where
+      by : (w : Option Files) → IfSome w (Comes p e)
+      by None = tt
+      by (Some files) = λ _. inl is
+
+  go : (p : Plan) (e : Ending) (o : Outcome) → Asks words p → IsTrue (is_built p) → (Rose old.faults.reads new.faults.reads → ⊥) → s ≡ status_of o → WorksFor words limit old o h.done → IfSome old.files (Comes p e)
+  go p e outcome.Usage asks built no_read is works = absurd (refused_or_more words limit old s new h p asks built works.0)
+  go p e outcome.Memory asks built no_read is works = all_come p e is
+  go p e outcome.ReadFault asks built no_read is works = absurd (no_read (read_rose words limit old s new h works.0 works.2))
+  go p e outcome.WriteFault asks built no_read is works =
+      unwritten p e (subst (λ (x : Plan). Works x limit old outcome.WriteFault h.done) (one_plan words works.0 p works.1 asks) works.2)
+  go p e (outcome.Ended d) asks built no_read is works =
+      told p e d is (subst (λ (x : Plan). Works x limit old (outcome.Ended d) h.done) (one_plan words works.0 p works.1 asks) works.2)
+
+  pub need_no_write : (p : Plan) (e : Ending) → Asks words p → IsTrue (is_built p) → (Rose old.faults.reads new.faults.reads → ⊥) → IfSome old.files (Comes p e)
+  need_no_write p e asks built no_read = go p e h.outcome asks built no_read h.status_is h.works

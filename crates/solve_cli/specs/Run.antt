@@ -1,0 +1,74 @@
+-- The theorem of the program: what a run of it is, from what the desk shows before to a status and what it shows then. Each
+-- field is a sentence that a user may cite. A desk tells its files and ports, or it tells none (`IfSome old.files`);
+-- faults and the names that were asked for are always told.
+use Rattle.std.specs.Prelude.{◌≡◌, ℕ, Bool, true, false, List, IfSome, IsTrue, ◌⊎◌}
+use Rattle.cx_base.specs.Counts.{Rose}
+use Rattle.cx_desk.specs.declared.desk.Slot.TheVariants as slot
+use Rattle.cx_desk.specs.Outside.{Bytes, Files}
+use Rattle.cx_words.specs.Words.{Asks, Refuses}
+use Rattle.cx_words.specs.declared.plans.Plan.{Plan}
+use Rattle.cx_words.specs.declared.plans.Plan.TheVariants as plan
+use Rattle.solve_cli.specs.declared.ending.Ending.{Ending}
+use Rattle.solve_cli.specs.declared.ending.Ending.TheVariants as ending
+use Rattle.solve_cli.specs.declared.ending.Status.{Status}
+use Rattle.solve_cli.specs.declared.ending.Status.TheVariants as status
+use Rattle.solve_cli.specs.Endings.{status_of_ending}
+use Rattle.solve_cli.specs.Seen.{Seen}
+use Rattle.solve_cli.specs.Commands.{is_built}
+use Rattle.solve_cli.specs.Happens.{Due, Early, AsksForMore, Runs, Comes}
+use Rattle.solve_cli.specs.Causes.{IsFormulaRefused, IsOverLimit, IsProofRefused, IsLogRefused, IsAnswerRefused, IsOfSolve, IsVerified, IsElaborated, IsModelRight}
+use Rattle.solve_cli.specs.Solved.{IsSatisfied, IsRefuted, IsSpent, IsSettled, IsUnsolvable}
+
+-- `check` and `model` write on no port but the Answer port
+abbrev pub is_reader : Plan → Bool
+is_reader (plan.Check name proof) = true
+is_reader (plan.Model name answer) = true
+is_reader (plan.Solve name log budget) = false
+is_reader (plan.Elab name log proof) = false
+is_reader (plan.Demo kind size seed) = false
+
+-- The endings that are told by a message alone, so that they come though every write fails: the formula's, and a second text of
+-- `check` and `model` that is too long.
+abbrev pub IsToldByMessage : Plan → ℕ → Files → Ending → Type 0
+IsToldByMessage p limit files e = Early p limit files e ⊎ (IsTrue (is_reader p) × (e ≡ ending.TooLong slot.Second) × Due p limit files e)
+
+pub record Run (words : List Bytes) (limit : ℕ) (old : Seen) (s : Status) (new : Seen) : Type 0 where
+  -- everything that happened: the names that were asked for, what each port gained, the faults, the message
+  pub happens : Runs words limit old s new
+  -- 10: the printed values meet every clause and parity, and stand behind a log that is right and open
+  pub values_meet : s ≡ status.Satisfiable → IsSatisfied words old new
+  -- 20: no values meet the formula, and a log that is right to its end stands before the answer
+  pub no_values_meet : s ≡ status.Unsatisfiable → IsRefuted words old new
+  pub only_solve_decides : (s ≡ status.Satisfiable) ⊎ (s ≡ status.Unsatisfiable) → IsOfSolve words
+  -- 0 of `solve`: the budget of counted conflicts is spent, each with a fresh learned clause in the log
+  pub budget_is_spent : IsOfSolve words → s ≡ status.Done → IsSpent words old new
+  -- 0 of `check`: the proof is accepted, and no values meet the formula
+  pub proof_is_verified : s ≡ status.Done → IsVerified words limit old
+  -- 0 of `elab`: the log is right, and its proof, which `check` accepts, was written
+  pub log_is_elaborated : s ≡ status.Done → IsElaborated words limit old new
+  -- 0 of `model`: the printed values meet the formula
+  pub model_is_right : s ≡ status.Done → IsModelRight words limit old
+  -- 2: the words are refused
+  pub words_are_refused : s ≡ status.Usage → Refuses words ⊎ AsksForMore words
+  -- 3: the formula's text has a first offence
+  pub formula_is_refused : s ≡ status.FormulaRefused → IsFormulaRefused words limit old
+  -- 4 and 5: a fault of reading, or of writing, was counted in this call
+  pub read_failed : s ≡ status.ReadFault → Rose old.faults.reads new.faults.reads
+  pub write_failed : s ≡ status.WriteFault → Rose old.faults.writes new.faults.writes
+  -- 7, 8, 11: of `check`, `elab` and `model` alone, each for its first cause
+  pub proof_is_refused : s ≡ status.ProofRefused → IsProofRefused words limit old
+  pub log_is_refused : s ≡ status.LogRefused → IsLogRefused words limit old new
+  pub answer_is_refused : s ≡ status.AnswerRefused → IsAnswerRefused words limit old
+  -- 9: a variable or a text is over its limit
+  pub limit_is_passed : s ≡ status.Limit → IsOverLimit words limit old
+  -- what is due comes, where neither reads nor writes failed and memory was there
+  pub complete : (p : Plan) → Asks words p → IsTrue (is_built p) → ¬ Rose old.faults.reads new.faults.reads → ¬ Rose old.faults.writes new.faults.writes
+      → (s ≡ status.OutOfMemory) ⊎ Comes words limit old s
+  -- words that are refused get 2, whatever fails
+  pub refused_words_end : Refuses words → (s ≡ status.OutOfMemory) ⊎ (s ≡ status.Usage)
+  -- a message's ending comes though writes fail
+  pub messages_need_no_write : (p : Plan) (e : Ending) → Asks words p → IsTrue (is_built p) → ¬ Rose old.faults.reads new.faults.reads
+      → IfSome old.files (λ files. IsToldByMessage p limit files e → (s ≡ status.OutOfMemory) ⊎ (s ≡ status_of_ending e))
+  -- a formula that propagation settles is not left unknown; with parities that have no solution no values are printed either
+  pub settled : IsSettled words old s
+  pub unsolvable : IsUnsolvable words old s
