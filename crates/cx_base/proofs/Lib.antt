@@ -7,3 +7,4 @@ pub mod Parts
 pub mod Differences
 pub mod LiteralLaws
 pub mod Elements
+pub mod PlaceLaws

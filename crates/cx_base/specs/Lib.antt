@@ -4,6 +4,8 @@ pub mod Problem
 pub mod Parity
 pub mod Borrowed
 pub mod Heads
+pub mod Places
+pub mod Items
 pub mod Drafts
 pub mod Numbers
 pub mod Counts

@@ -8,16 +8,20 @@ ghost use Rattle.cx_base.specs.declared.constraint.Constraint.TheVariants as con
 
 use crate::formula::{Formula, Head, Kind};
 use crate::literal::Lit;
+use crate::places::Places;
 use std::alloc::{AllocError, Global};
 use std::marker::Model;
 
 /// Constraints of a formula to be, and the literals of one that is still open.
+///
+/// It has room for 4,294,967,296 constraints; at one more its methods answer as without memory.
 #[derive(Drop)]
 pub struct FormulaBuilder {
     greatest: u32,
     closed: usize,
     lits: Vec<Lit>,
     heads: Vec<Head>,
+    places: Places,
 }
 
 impl Model for FormulaBuilder {
@@ -27,10 +31,12 @@ impl Model for FormulaBuilder {
     ghost Value = { Draft };
 
     ghost use Rattle.cx_base.specs.Heads.{stored, IsDraft};
+    ghost use Rattle.cx_base.specs.Places.{ArePlaces};
 
     ghost view = { λ b. record { constraints = map (stored b.lits.items) b.heads.items; unfinished = drop b.closed b.lits.items } };
 
-    ghost invariant = { λ b. IsDraft b.greatest b.closed b.lits.items b.heads.items };
+    ghost invariant = { λ b. IsDraft b.greatest b.closed b.lits.items b.heads.items
+        × ArePlaces b.places.clauses.items b.places.parities.items (map (stored b.lits.items) b.heads.items) };
 }
 
 impl FormulaBuilder {
@@ -43,6 +49,7 @@ impl FormulaBuilder {
             closed: 0,
             lits: Vec::new(alloc),
             heads: Vec::new(alloc),
+            places: Places::new(alloc),
         }
     }
 
@@ -62,12 +69,18 @@ impl FormulaBuilder {
         ensures ok { OnOk result (self.new ≡ record { constraints = self.old.constraints ++ of_kind kind self.old.unfinished ∷ []; unfinished = [] }) }
         ensures err { OnErr result (self.new ≡ self.old) }
     {
+        let count = self.heads.len();
+        let Ok(place) = u32::try_from(count) else {
+            return Err(AllocError);
+        };
+        self.heads.reserve(1)?;
+        self.places.push(kind, place)?;
         let len = self.lits.len() - self.closed;
-        self.heads.push(Head {
+        self.heads.push_reserved(Head {
             kind,
             start: self.closed,
             len,
-        })?;
+        });
         self.closed = self.lits.len();
         Ok(())
     }
@@ -98,6 +111,7 @@ impl FormulaBuilder {
             vars: at_least.max(self.greatest),
             lits: self.lits,
             heads: self.heads,
+            places: self.places,
         }
     }
 }

@@ -1,10 +1,13 @@
 //! Formulas of clauses and parities.
-ghost use Rattle.std.specs.Prelude.{◌≡◌, ◌<◌, length, IsTrue, ◌↔◌, get_or};
-ghost use Rattle.cx_base.specs.Problem.{Problem, Meets, first_unmet, AreWithin, IsWithinVariables, literals_of};
+ghost use Rattle.std.specs.Prelude.{◌≡◌, ◌<◌, ◌≤◌, ◌-◌, length, IsTrue, ◌↔◌, slice_get};
+ghost use Rattle.cx_base.specs.Problem.{Problem, Meets, first_unmet, AreWithin, IsWithinVariables, literals_of, clauses_of, parities_of};
 ghost use Rattle.cx_base.specs.Borrowed.{constraint_of, constraint_at};
+ghost use Rattle.cx_base.specs.Items.{items_left};
 
 use crate::constraint::ConstraintRef;
+use crate::items::Items;
 use crate::literal::Lit;
+use crate::places::Places;
 use std::marker::Model;
 
 /// Whether a constraint is a clause or a parity.
@@ -30,6 +33,7 @@ pub struct Formula {
     pub(crate) vars: u32,
     pub(crate) lits: Vec<Lit>,
     pub(crate) heads: Vec<Head>,
+    pub(crate) places: Places,
 }
 
 impl Model for Formula {
@@ -39,10 +43,12 @@ impl Model for Formula {
     ghost Value = { Problem };
 
     ghost use Rattle.cx_base.specs.Heads.{stored, AreInside};
+    ghost use Rattle.cx_base.specs.Places.{ArePlaces};
 
     ghost view = { λ f. record { variables = f.vars; constraints = map (stored f.lits.items) f.heads.items } };
 
-    ghost invariant = { λ f. IsWithinVariables f.vars (map (stored f.lits.items) f.heads.items) × AreInside f.lits.items f.heads.items };
+    ghost invariant = { λ f. IsWithinVariables f.vars (map (stored f.lits.items) f.heads.items) × AreInside f.lits.items f.heads.items
+        × ArePlaces f.places.clauses.items f.places.parities.items (map (stored f.lits.items) f.heads.items) };
 }
 
 impl Formula {
@@ -78,6 +84,13 @@ impl Formula {
         self.stored(place)
     }
 
+    /// The constraints in order.
+    pub fn items(&self) -> Items<'_>
+        ensures { items_left result ≡ self.now.constraints }
+    {
+        Items::new(self)
+    }
+
     /// The constraint of the head at a place.
     fn stored(&self, place: usize) -> ConstraintRef<'_>
         requires { place < length self.now.constraints }
@@ -89,6 +102,53 @@ impl Formula {
             Kind::Clause => ConstraintRef::Clause(lits),
             Kind::Parity => ConstraintRef::Parity(lits),
         }
+    }
+
+    /// The literals of the constraint at a place.
+    fn lits_at(&self, place: usize) -> &[Lit]
+        requires { place < length self.now.constraints }
+        ensures { result.now ≡ literals_of (constraint_at self.now.constraints place) }
+    {
+        match self.stored(place) {
+            ConstraintRef::Clause(lits) => lits,
+            ConstraintRef::Parity(lits) => lits,
+        }
+    }
+
+    /// How many of its constraints are clauses.
+    pub fn clause_count(&self) -> usize
+        ensures { result ≡ length (clauses_of self.now.constraints) }
+    {
+        self.places.clauses.len()
+    }
+
+    /// How many of its constraints are parities.
+    pub fn parity_count(&self) -> usize
+        ensures { result ≡ length (parities_of self.now.constraints) }
+    {
+        self.places.parities.len()
+    }
+
+    /// The literals of a clause, by its number among the clauses, from 1.
+    pub fn clause(&self, number: usize) -> &[Lit]
+        requires low { 1 ≤ number }
+        requires high { number ≤ length (clauses_of self.now.constraints) }
+        ensures clause { slice_get (clauses_of self.now.constraints) (number - 1) ≡ Some result.now }
+        ensures within { AreWithin self.now.variables result.now }
+    {
+        let place = self.places.clauses[number - 1];
+        self.lits_at(place as usize)
+    }
+
+    /// The literals of a parity, by its number among the parities, from 1.
+    pub fn parity(&self, number: usize) -> &[Lit]
+        requires low { 1 ≤ number }
+        requires high { number ≤ length (parities_of self.now.constraints) }
+        ensures parity { slice_get (parities_of self.now.constraints) (number - 1) ≡ Some result.now }
+        ensures within { AreWithin self.now.variables result.now }
+    {
+        let place = self.places.parities[number - 1];
+        self.lits_at(place as usize)
     }
 
     /// The least number, from 1, of a constraint that the values do not meet.

@@ -4,13 +4,16 @@
 mod builder;
 mod constraint;
 mod formula;
+mod items;
 mod lists;
 mod literal;
+mod places;
 mod refs;
 
 pub use builder::FormulaBuilder;
 pub use constraint::{Constraint, ConstraintRef};
 pub use formula::Formula;
+pub use items::Items;
 pub use lists::{IdList, IntList, LitList, ParityList, RefList, Values};
 pub use literal::{Lit, MAX_VARIABLE, Var};
 pub use refs::{ClauseRef, Row};

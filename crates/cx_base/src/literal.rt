@@ -1,5 +1,5 @@
 //! Variables and literals.
-ghost use Rattle.std.specs.Prelude.{length, ◌≡◌, ◌≤◌, ◌*◌, ◌+◌, cond};
+ghost use Rattle.std.specs.Prelude.{length, ◌≡◌, ◌<◌, ◌≤◌, ◌*◌, ◌+◌, cond};
 ghost use Rattle.cx_base.specs.Literals.{Literal, negate, literal_true, code_of, literal_of_code};
 
 use std::marker::Model;
@@ -43,6 +43,14 @@ impl Var {
         ensures high { result ≤ MAX_VARIABLE }
     {
         self.number
+    }
+
+    /// Its number minus 1: its place in a table by variables.
+    pub fn index(self) -> usize
+        ensures index { result + 1 ≡ self }
+        ensures high { result < MAX_VARIABLE }
+    {
+        self.number as usize - 1
     }
 }
 
@@ -117,7 +125,6 @@ impl Lit {
         requires { self.variable ≤ length values.now }
         ensures { result ≡ literal_true values.now self }
     {
-        let index = self.var().number() as usize - 1;
-        values[index] != self.is_negative()
+        values[self.var().index()] != self.is_negative()
     }
 }

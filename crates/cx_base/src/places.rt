@@ -1,0 +1,40 @@
+//! Which constraints of a formula are clauses, and which are parities.
+ghost use Rattle.std.specs.Prelude.{◌≡◌, [], ◌++◌, OnOk, OnErr};
+ghost use Rattle.cx_base.specs.Places.{clause_place, parity_place};
+
+use crate::formula::Kind;
+use std::alloc::{AllocError, Global};
+
+/// The places of the clauses among the constraints, from 0 and in order, and those of the parities.
+#[derive(Drop)]
+pub(crate) struct Places {
+    pub clauses: Vec<u32>,
+    pub parities: Vec<u32>,
+}
+
+impl Places {
+    /// No place yet.
+    pub fn new(alloc: Global) -> Places
+        ensures clauses { result.clauses.items ≡ [] }
+        ensures parities { result.parities.items ≡ [] }
+    {
+        Places {
+            clauses: Vec::new(alloc),
+            parities: Vec::new(alloc),
+        }
+    }
+
+    /// One more place, for a constraint of this kind. Without memory the places stay.
+    pub fn push(&mut self, kind: Kind, place: u32) -> Result<(), AllocError>
+        ensures clauses { OnOk result (self.new.clauses.items ≡ self.old.clauses.items ++ clause_place kind place) }
+        ensures parities { OnOk result (self.new.parities.items ≡ self.old.parities.items ++ parity_place kind place) }
+        ensures same_clauses { OnErr result (self.new.clauses.items ≡ self.old.clauses.items) }
+        ensures same_parities { OnErr result (self.new.parities.items ≡ self.old.parities.items) }
+    {
+        match kind {
+            Kind::Clause => self.clauses.push(place)?,
+            Kind::Parity => self.parities.push(place)?,
+        }
+        Ok(())
+    }
+}
