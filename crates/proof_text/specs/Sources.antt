@@ -46,6 +46,25 @@ SpentAs (Err (Unterminated place)) spent = spent ≡ false
 SpentAs (Err (TooBig place)) spent = spent ≡ false
 SpentAs (Err TooLong) spent = spent ≡ false
 
+-- a refusal of the text lasts; want of memory and a fault of reading do not
+abbrev pub lasting : TextRefusal → Option TextRefusal
+lasting (BadToken place) = Some (BadToken place)
+lasting (Unterminated place) = Some (Unterminated place)
+lasting (TooBig place) = Some (TooBig place)
+lasting TooLong = Some TooLong
+lasting Memory = None
+lasting Failed = None
+
+-- the refusal that a source goes on giving behind an answer
+abbrev pub lasting_of : {T : Type 0} → Result T TextRefusal → Option TextRefusal
+lasting_of (Ok answer) = None
+lasting_of (Err refusal) = lasting refusal
+
+-- a source that is stuck answers its refusal again and stays stuck on it; another one is stuck on its answer, if that lasts
+abbrev pub StuckAs : {T : Type 0} → Option TextRefusal → Result T TextRefusal → Option TextRefusal → Type 0
+StuckAs (Some refusal) answer now = (answer ≡ Err refusal) × (now ≡ Some refusal)
+StuckAs None answer now = now ≡ lasting_of answer
+
 -- a text is too long only where the source tells so, and there its end never comes
 abbrev pub IsTooLongOnly : {S : Type 0} → Type 0 → Result (Option S) TextRefusal → Type 0
 IsTooLongOnly Passes (Ok (Some step)) = ⊤

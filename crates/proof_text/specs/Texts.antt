@@ -3,6 +3,7 @@ use Rattle.std.specs.Prelude.{◌≡◌, ◌≤◌, ◌+◌, ℕ, Bool, ⊤, tru
 use Rattle.cx_semantics.specs.Tokens.{Token}
 use Rattle.cx_semantics.specs.Words.{Placed, placed_words}
 use Rattle.cx_semantics.specs.Grammar.{Grammar, Ending, bad_token, too_big, unterminated, Reading}
+use Rattle.proof_text.specs.Sources.{lasting}
 use Rattle.proof_text.specs.declared.source.TextRefusal.{TextRefusal}
 use Rattle.proof_text.specs.declared.source.TextRefusal.TheVariants.{BadToken, Unterminated, TooBig, TooLong, Memory, Failed}
 
@@ -39,6 +40,11 @@ is_spent_by (Some (BadToken place)) = false
 is_spent_by (Some (Unterminated place)) = false
 is_spent_by (Some (TooBig place)) = false
 is_spent_by None = false
+
+-- the refusal that comes again, if one was answered and lasts
+abbrev pub stuck_by : Option TextRefusal → Option TextRefusal
+stuck_by None = None
+stuck_by (Some refusal) = lasting refusal
 
 -- the places rise from this one on and stay below the text's length
 abbrev pub RisesTo : ℕ → ℕ → List Placed → Type 0

@@ -1,7 +1,8 @@
 //! Where steps come from, one after another.
-ghost use Rattle.std.specs.Prelude.{◌≡◌, ◌<◌, ◌≤◌, ◌^◌, ℕ, Bool, true, false, List};
+ghost use Rattle.std.specs.Prelude.{◌≡◌, ◌<◌, ◌≤◌, ◌^◌, ℕ, Bool, true, false, List, Option};
 ghost use Rattle.cx_semantics.specs.Grammar.{Ending};
-ghost use Rattle.proof_text.specs.Sources.{Gives, PlaceRises, FaultsAs, SpentAs, IsTooLongOnly};
+ghost use Rattle.proof_text.specs.declared.source.TextRefusal.{TextRefusal};
+ghost use Rattle.proof_text.specs.Sources.{Gives, PlaceRises, FaultsAs, SpentAs, StuckAs, IsTooLongOnly};
 
 use std::alloc::AllocError;
 use thiserror::Error;
@@ -33,7 +34,7 @@ pub enum TextRefusal {
 ///
 /// What it has left is a list of steps and an ending, where it tells them. After `BadToken`,
 /// `Unterminated`, `TooBig` or `TooLong` the same answer comes again. It is not asked again after
-/// `Memory` or `Failed`. The place rises at each step, and stays below 2^62.
+/// `Memory` or `Failed`. The place rises at each step, up to a bound below 2^62 that never changes.
 pub trait StepSource {
     type Step;
 
@@ -46,9 +47,15 @@ pub trait StepSource {
     // it has answered `Memory` or `Failed`
     ghost is_spent: { Self → Bool };
 
+    // the refusal that it goes on giving
+    ghost stuck: { Self → Option TextRefusal };
+
     ghost faults: { Self → ℕ };
 
     ghost place_of: { Self → ℕ };
+
+    // no place is greater
+    ghost farthest: { Self → ℕ };
 
     // what a call leaves as it was
     ghost keeps: { Self → Self → Type 0 };
@@ -58,11 +65,14 @@ pub trait StepSource {
         requires { is_spent self.old ≡ false }
         ensures step { Gives leaves self.old result self.new }
         ensures spent { SpentAs result (is_spent self.new) }
+        ensures stuck { StuckAs (stuck self.old) result (stuck self.new) }
         ensures faults { FaultsAs result (faults self.old) (faults self.new) }
         ensures long { IsTooLongOnly (passes_limit self.old) result }
         ensures limit { (passes_limit self.new → passes_limit self.old) × (passes_limit self.old → passes_limit self.new) }
         ensures rises { PlaceRises result (place_of self.old) (place_of self.new) }
-        ensures far { place_of self.new < 2 ^ 62 }
+        ensures within { place_of self.new ≤ farthest self.new }
+        ensures far { farthest self.new < 2 ^ 62 }
+        ensures bound { farthest self.new ≡ farthest self.old }
         ensures frame { keeps self.old self.new };
 
     /// How far the source has come: it rises at each step.

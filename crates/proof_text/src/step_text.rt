@@ -57,7 +57,7 @@ impl<'a, G: StepGrammar> StepSource for StepText<'a, G> {
     ghost use Rattle.std.specs.Prelude.{refl, ◌≡◌};
     ghost use Rattle.std.proofs.Common.{◌∙◌};
     ghost use Rattle.proof_text.specs.Left.{text_is_left};
-    ghost use Rattle.proof_text.specs.Texts.{Leaves, is_spent_by};
+    ghost use Rattle.proof_text.specs.Texts.{Leaves, is_spent_by, stuck_by};
 
     ghost leaves = { Leaves G.steps };
 
@@ -65,9 +65,13 @@ impl<'a, G: StepGrammar> StepSource for StepText<'a, G> {
 
     ghost is_spent = { λ t. is_spent_by t.refused };
 
+    ghost stuck = { λ t. stuck_by t.refused };
+
     ghost faults = { λ _. 0 };
 
     ghost place_of = { λ t. t.place };
+
+    ghost farthest = { λ _. 4294967295 };
 
     ghost keeps = { λ a b. b.size ≡ a.size };
 

@@ -15,8 +15,8 @@ returns-in-Ok-clause-rises g c =
     let r = step_in_order g.G.StepGrammar.steps g.met.G.StepGrammar.forms t.size t.place c.place-self-inside.result c.in-Ok.step t.tokens c.read_step.new.tokens t.refused c.in_default.is c.self.invariant.0 c.in-Ok.ensures c.place-self-inside.ensures in
     subst (λ n. n < c.place-self-inside.result) (ap (λ (s : TextState). s.place) c.self.view_is) r.0
 
-pub returns-in-Ok-clause-far : goal.returns-in-Ok-clause-far
-returns-in-Ok-clause-far g c =
+pub returns-in-Ok-clause-within : goal.returns-in-Ok-clause-within
+returns-in-Ok-clause-within g c =
     let t = c.self.inside in
     let r = step_in_order g.G.StepGrammar.steps g.met.G.StepGrammar.forms t.size t.place c.place-self-inside.result c.in-Ok.step t.tokens c.read_step.new.tokens t.refused c.in_default.is c.self.invariant.0 c.in-Ok.ensures c.place-self-inside.ensures in
     let within : c.place-self-inside.result ≤ t.size = r.1 in
