@@ -148,39 +148,43 @@ next_rises scores cells k h = record {
   below = λ i low high p some. absurd (omega (arith, parent_below i low));
 }
 
--- ---- a score more
-raised_ahead : (scores : List ℕ) (v u w : ℕ) → v < length scores → w ≢ v → IsAhead scores u w → IsAhead (set scores v (item_at scores v + 1)) u w
-raised_ahead scores v u w h nw a =
-    let more = set scores v (item_at scores v + 1) in
-    let same_w : item_at (set scores v (item_at scores v + 1)) w ≡ item_at scores w = get_or-set_other scores v w (item_at scores v + 1) 0 nw in
+-- ---- a score that rises
+raised_ahead : (scores : List ℕ) (v times u w : ℕ) → v < length scores → w ≢ v → IsAhead scores u w → IsAhead (set scores v (item_at scores v + times)) u w
+raised_ahead scores v times u w h nw a =
+    let more = set scores v (item_at scores v + times) in
+    let same_w : item_at (set scores v (item_at scores v + times)) w ≡ item_at scores w = get_or-set_other scores v w (item_at scores v + times) 0 nw in
     ⊎_elim
     (λ (e : u ≡ v).
-    let mine : item_at (set scores v (item_at scores v + 1)) u ≡ item_at scores u + 1 = ap (item_at more) e ∙ get_or-set_same scores v (item_at scores v + 1) 0 h ∙ ap (λ x. item_at scores x + 1) (sym e) in
-    inl (⊎_elim (λ (b : item_at scores w < item_at scores u). omega arith) (λ (b : (item_at scores u ≡ item_at scores w) × (u ≤ w)). let q = b.0 in omega (arith, q)) a))
+    let mine : item_at (set scores v (item_at scores v + times)) u ≡ item_at scores u + times = ap (item_at more) e ∙ get_or-set_same scores v (item_at scores v + times) 0 h ∙ ap (λ x. item_at scores x + times) (sym e) in
+    ⊎_elim (λ (b : item_at scores w < item_at scores u). inl (omega arith))
+    (λ (b : (item_at scores u ≡ item_at scores w) × (u ≤ w)).
+    let q = b.0 in
+    let r = b.1 in
+    ⊎_elim (λ (z : times ≡ 0). inr (omega (arith, q), omega (arith, r))) (λ (nz : times ≢ 0). inl (omega (arith, q))) (cases_eq times 0)) a)
     (λ (ne : u ≢ v).
-    let same_u : item_at (set scores v (item_at scores v + 1)) u ≡ item_at scores u = get_or-set_other scores v u (item_at scores v + 1) 0 ne in
+    let same_u : item_at (set scores v (item_at scores v + times)) u ≡ item_at scores u = get_or-set_other scores v u (item_at scores v + times) 0 ne in
     ⊎_elim (λ (b : item_at scores w < item_at scores u). inl (omega arith)) (λ (b : (item_at scores u ≡ item_at scores w) × (u ≤ w)). inr (same_u ∙ b.0 ∙ sym same_w, b.1)) a) (cases_eq u v)
 
 apart_cells : (n : ℕ) (cells places : List ℕ) (i k : ℕ) → AreShuffled n cells places → i < n → k < n → i ≢ k → item_at cells i ≢ item_at cells k
 apart_cells n cells places i k s hi hk ne e = ne (sym (s.placed i hi) ∙ ap (item_at places) e ∙ s.placed k hk)
 
-pub raised_rises : (scores cells places : List ℕ) (count v k : ℕ) → AreShuffled (length scores) cells places → count ≤ length scores → v < length scores → item_at places v ≡ k → IsHeap scores cells count → IsRising (set scores v (item_at scores v + 1)) cells count k
-raised_rises scores cells places count v k s few hv at h =
+pub raised_rises : (scores cells places : List ℕ) (count v times k : ℕ) → AreShuffled (length scores) cells places → count ≤ length scores → v < length scores → item_at places v ≡ k → IsHeap scores cells count → IsRising (set scores v (item_at scores v + times)) cells count k
+raised_rises scores cells places count v times k s few hv at h =
     let kn : k < length scores = subst (λ x. x < length scores) at (s.in_cells v hv) in
     let here : item_at cells k ≡ v = ap (item_at cells) (sym at) ∙ s.has v hv in
     let other : (i : ℕ) → i < count → i ≢ k → item_at cells i ≢ v = λ i b ne e. apart_cells (length scores) cells places i k s (omega arith) kn ne (e ∙ sym here) in
     record {
-      others = λ i low high ne. raised_ahead scores v (item_at cells (parent i)) (item_at cells i) hv (other i high ne) (h i low high);
+      others = λ i low high ne. raised_ahead scores v times (item_at cells (parent i)) (item_at cells i) hv (other i high ne) (h i low high);
       below = λ i low high p some.
           let less : parent i < i = parent_below i low in
           let inside : k < count = omega arith in
-          raised_ahead scores v (item_at cells (parent k)) (item_at cells i) hv (other i high (λ e. omega arith))
+          raised_ahead scores v times (item_at cells (parent k)) (item_at cells i) hv (other i high (λ e. omega arith))
           (ahead_then scores (item_at cells (parent k)) (item_at cells k) (item_at cells i) (h k some inside)
           (subst (λ x. IsAhead scores (item_at cells x) (item_at cells i)) p (h i low high)));
     }
 
 -- a variable that does not stand in the heap
-pub raised_outside : (scores cells places : List ℕ) (count v k : ℕ) → AreShuffled (length scores) cells places → count ≤ length scores → v < length scores → item_at places v ≡ k → count ≤ k → IsHeap scores cells count → IsHeap (set scores v (item_at scores v + 1)) cells count
-raised_outside scores cells places count v k s few hv at far h =
-    let r = raised_rises scores cells places count v k s few hv at h in
+pub raised_outside : (scores cells places : List ℕ) (count v times k : ℕ) → AreShuffled (length scores) cells places → count ≤ length scores → v < length scores → item_at places v ≡ k → count ≤ k → IsHeap scores cells count → IsHeap (set scores v (item_at scores v + times)) cells count
+raised_outside scores cells places count v times k s few hv at far h =
+    let r = raised_rises scores cells places count v times k s few hv at h in
     λ i low high. r.others i low high (λ e. omega arith)

@@ -11,9 +11,9 @@ use Rattle.search_policy.specs.Heaps.{item_at, IsAhead, AreShuffled, IsHeap, Has
 use Rattle.search_policy.specs.Standing.{OrderState, AllStand}
 use Rattle.search_policy.proofs.HeapLaws.{top_ahead}
 
-pub same_state : (s s' : List ℕ) (b b' : List Bool) → s ≡ s' → b ≡ b' → ◌≡◌ {A = OrderState} (record { scores = s; standing = b }) (record { scores = s'; standing = b' })
-same_state s s' b b' e f =
-    let mk : List ℕ → List Bool → OrderState = λ x y. record { scores = x; standing = y } in
+pub same_state : (s s' : List ℕ) (b b' : List Bool) (weight : ℕ) → s ≡ s' → b ≡ b' → ◌≡◌ {A = OrderState} (record { scores = s; standing = b; weight = weight }) (record { scores = s'; standing = b'; weight = weight })
+same_state s s' b b' weight e f =
+    let mk : List ℕ → List Bool → OrderState = λ x y. record { scores = x; standing = y; weight = weight } in
     ap (λ x. mk x b) e ∙ ap (λ y. mk s' y) f
 
 pub new_standing : (n : ℕ) (places : List ℕ) → length places ≡ n → ((k : ℕ) → k < n → item_at places k ≡ k) → map (λ p. nat_lt p n) places ≡ replicate n true
@@ -26,15 +26,15 @@ new_standing n places e at =
     let b : k < n = omega arith in
     get_or-map f places k 0 false (omega arith) ∙ ap f (at k b) ∙ lt-ltb k n b ∙ sym (get_or-replicate n k true false b))
 
-pub open_ones : (scores places : List ℕ) (count : ℕ) (t : TrailState) → length places ≡ length scores → AllStand (record { scores = scores; standing = map (λ p. nat_lt p count) places }) t → HasOpenOnes (length scores) t.entries places count
-open_ones scores places count t e a = λ v h o.
+pub open_ones : (scores places : List ℕ) (count weight : ℕ) (t : TrailState) → length places ≡ length scores → AllStand (record { scores = scores; standing = map (λ p. nat_lt p count) places; weight = weight }) t → HasOpenOnes (length scores) t.entries places count
+open_ones scores places count weight t e a = λ v h o.
     let f : ℕ → Bool = λ p. nat_lt p count in
     let z : v + 1 - 1 ≡ v = omega arith in
     let s : get_or (map f places) (v + 1 - 1) false ≡ true = a.stand (v + 1) (omega arith) (omega (arith, a.variables)) o in
     ltb-true (item_at places v) count (sym (get_or-map f places v 0 false (omega arith)) ∙ ap (λ x. get_or (map f places) x false) (sym z) ∙ s)
 
-pub stand_of : (scores places : List ℕ) (count : ℕ) (t : TrailState) → length scores ≡ t.variables → length places ≡ length scores → HasOpenOnes (length scores) t.entries places count → AllStand (record { scores = scores; standing = map (λ p. nat_lt p count) places }) t
-stand_of scores places count t e p a = record {
+pub stand_of : (scores places : List ℕ) (count weight : ℕ) (t : TrailState) → length scores ≡ t.variables → length places ≡ length scores → HasOpenOnes (length scores) t.entries places count → AllStand (record { scores = scores; standing = map (λ p. nat_lt p count) places; weight = weight }) t
+stand_of scores places count weight t e p a = record {
   variables = e;
   stand = λ v low high o.
       let f : ℕ → Bool = λ q. nat_lt q count in

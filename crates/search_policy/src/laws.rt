@@ -1,15 +1,15 @@
 //! What keeps each unassigned variable in the heap.
-ghost use Rattle.std.specs.Prelude.{◌≡◌, ◌+◌, ◌++◌, ◌≤◌, ℕ, [], ◌∷◌, List, replicate, true, Option};
+ghost use Rattle.std.specs.Prelude.{◌≡◌, ◌+◌, ◌++◌, ◌≤◌, ℕ, [], ◌∷◌, List, Option};
 ghost use Rattle.cx_base.specs.Literals.{Literal};
 ghost use Rattle.cx_trail.specs.Sequence.{TrailState, pushed};
 ghost use Rattle.cx_trail.specs.declared.entry.Reason.{Reason};
 ghost use Rattle.cx_trail.specs.declared.entry.Entry.{Entry};
 ghost use Rattle.search_policy.specs.Scores.{Picks};
-ghost use Rattle.search_policy.specs.Standing.{OrderState, AllStand};
+ghost use Rattle.search_policy.specs.Standing.{OrderState, AllStand, new_order};
 
 /// All variables stand in a new order.
 pub fn new_order_stands()
-    ensures { (t : TrailState) → AllStand (record { scores = replicate t.variables 0; standing = replicate t.variables true }) t }
+    ensures { (t : TrailState) → AllStand (new_order t.variables) t }
 {}
 
 /// A literal more on the trail.

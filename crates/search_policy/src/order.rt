@@ -1,27 +1,35 @@
 //! Variables by their scores.
-ghost use Rattle.std.specs.Prelude.{◌≡◌, ◌<◌, ◌≤◌, ◌+◌, ◌-◌, ℕ, List, length, replicate, true, IfOk};
+ghost use Rattle.std.specs.Prelude.{◌≡◌, ◌<◌, ◌≤◌, ◌+◌, ◌-◌, ℕ, List, length, IfOk};
 ghost use Rattle.cx_base.specs.declared.literal.TheConstants.{MAX_VARIABLE};
 ghost use Rattle.cx_trail.specs.Sequence.{TrailState, TakesBack};
-ghost use Rattle.search_policy.specs.Scores.{Picks, bumped};
-ghost use Rattle.search_policy.specs.Standing.{OrderState, AllStand};
+ghost use Rattle.search_policy.specs.Scores.{Picks};
+ghost use Rattle.search_policy.specs.Standing.{OrderState, AllStand, new_order, bumped, bumped_times, grown};
 ghost use Rattle.search_policy.specs.Heaps.{item_at};
 
 use crate::heap::{Heap, put_back, rebuild, settle, sift_up};
 use crate::scan::scan;
-use crate::scores::raise;
+use crate::scores::{MAX_BUMPS, raise};
 use cx_base::Var;
 use cx_trail::Trail;
 use std::alloc::{AllocError, Global};
 use std::marker::Model;
 
-/// A score for each variable, and a heap of variables by score.
+/// The weight that an order begins with.
+const FIRST_WEIGHT: u32 = 1024;
+
+/// What part of the weight it grows by at a conflict.
+const GROWTH: u32 = 32;
+
+/// A score for each variable, a heap of variables by score, and the weight that bumps have by now.
 ///
+/// A weight that grows lets later conflicts count for more than earlier ones (VSIDS with whole numbers, `MiniSat` 2003).
 /// It takes its memory when it is made.
 #[derive(Drop)]
 pub struct Order {
     scores: Vec<u32>,
     heap: Heap,
     count: usize,
+    weight: u32,
 }
 
 impl Model for Order {
@@ -32,20 +40,20 @@ impl Model for Order {
 
     ghost Value = { OrderState };
 
-    ghost use Rattle.search_policy.specs.declared.scores.TheConstants.{SCORE_LIMIT};
+    ghost use Rattle.search_policy.specs.declared.scores.TheConstants.{SCORE_LIMIT, MAX_BUMPS};
     ghost use Rattle.search_policy.specs.Heaps.{IsOrder};
 
-    ghost view = { λ o. record { scores = o.scores.items; standing = map (λ p. nat_lt p o.count) o.heap.places.items } };
+    ghost view = { λ o. record { scores = o.scores.items; standing = map (λ p. nat_lt p o.count) o.heap.places.items; weight = o.weight } };
 
     ghost invariant = { λ o. (length o.scores.items ≤ MAX_VARIABLE) × All (λ s. s < SCORE_LIMIT) o.scores.items
-        × IsOrder o.scores.items o.heap.cells.items o.heap.places.items o.count };
+        × IsOrder o.scores.items o.heap.cells.items o.heap.places.items o.count × (o.weight ≤ MAX_BUMPS) };
 }
 
 impl Order {
     /// All scores 0, and all variables in the heap.
     pub fn make(alloc: Global, vars: u32) -> Result<Order, AllocError>
         requires { vars ≤ MAX_VARIABLE }
-        ensures { IfOk result (λ o. o ≡ record { scores = replicate vars 0; standing = replicate vars true }) }
+        ensures { IfOk result (λ o. o ≡ new_order vars) }
     {
         let scores = vec![in alloc; 0; vars as usize]?;
         let mut cells = Vec::with_capacity(alloc, vars as usize)?;
@@ -58,6 +66,7 @@ impl Order {
             scores,
             heap: Heap { cells, places },
             count: vars as usize,
+            weight: FIRST_WEIGHT,
         })
     }
 
@@ -74,6 +83,7 @@ impl Order {
         requires { AllStand self.old trail.now }
         ensures picks { Picks (length self.old.scores) self.old.scores trail.now.entries result }
         ensures scores { self.new.scores ≡ self.old.scores }
+        ensures weight { self.new.weight ≡ self.old.weight }
         ensures stand { AllStand self.new trail.now }
     {
         let count = settle(self.scores.as_slice(), &mut self.heap, self.count, trail);
@@ -91,6 +101,7 @@ impl Order {
     pub fn back_to(&mut self, trail: &Trail, level: u32)
         requires { AllStand self.old trail.now }
         ensures scores { self.new.scores ≡ self.old.scores }
+        ensures weight { self.new.weight ≡ self.old.weight }
         ensures stand { AllStand self.new trail.now }
         ensures back { (t : TrailState) → TakesBack level trail.now t → AllStand self.new t }
     {
@@ -103,14 +114,29 @@ impl Order {
         );
     }
 
-    /// Adds 1 to a score, and halves all scores where it reaches the limit.
+    /// Adds 1 to a score. Where it reaches 1,000,000,000 all scores and the weight are halved, rounded down.
     pub fn bump(&mut self, variable: Var)
         requires low { 1 ≤ variable }
         requires high { variable ≤ length self.old.scores }
-        ensures { self.new ≡ record self.old { scores = bumped self.old.scores variable } }
+        ensures { self.new ≡ bumped self.old variable }
+    {
+        self.bump_by(variable, 1);
+    }
+
+    /// Bumps a variable so many times, up to 250,000,000, as if one by one.
+    ///
+    /// Its time is that of one bump.
+    pub fn bump_by(&mut self, variable: Var, times: u32)
+        requires low { 1 ≤ variable }
+        requires high { variable ≤ length self.old.scores }
+        requires few { times ≤ MAX_BUMPS }
+        ensures bumped { self.new ≡ bumped_times self.old variable times }
+        ensures standing { self.new.standing ≡ self.old.standing }
+        ensures count { length self.new.scores ≡ length self.old.scores }
     {
         let index = variable.number() as usize - 1;
-        if raise(&mut self.scores, index) {
+        if raise(&mut self.scores, index, times) {
+            self.weight /= 2;
             rebuild(self.scores.as_slice(), &mut self.heap, self.count);
             return;
         }
@@ -118,5 +144,20 @@ impl Order {
         if place < self.count {
             sift_up(self.scores.as_slice(), &mut self.heap, self.count, place);
         }
+    }
+
+    /// How many bumps a variable of the next conflict is given: 1,024 at first, and at most 250,000,000.
+    pub fn weight(&self) -> u32
+        ensures weight { result ≡ self.now.weight }
+        ensures few { result ≤ MAX_BUMPS }
+    {
+        self.weight
+    }
+
+    /// The weight grows by a thirty-second, rounded down. It is called after each conflict.
+    pub fn grow(&mut self)
+        ensures { self.new ≡ record self.old { weight = grown self.old.weight } }
+    {
+        self.weight = (self.weight + self.weight / GROWTH).min(MAX_BUMPS);
     }
 }

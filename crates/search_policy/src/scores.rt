@@ -1,11 +1,14 @@
-//! Scores that rise by 1 and are halved before they grow too large.
-ghost use Rattle.std.specs.Prelude.{◌≡◌, ◌<◌, ◌≤◌, ◌+◌, ◌/◌, ℕ, List, length, map, get_or, set, true, MatchBool};
+//! Scores that rise and are halved before they grow too large.
+ghost use Rattle.std.specs.Prelude.{◌≡◌, ◌<◌, ◌≤◌, ◌/◌, ℕ, List, length, map, MatchBool};
 ghost use Rattle.std.specs.List.{All};
 ghost use Rattle.search_policy.specs.declared.scores.TheConstants.{SCORE_LIMIT};
-ghost use Rattle.search_policy.specs.Scores.{raised};
+ghost use Rattle.search_policy.specs.Bumps.{IsRaised, IsHalved};
 
 /// The score at which all scores are halved.
 pub(crate) const SCORE_LIMIT: u32 = 1_000_000_000;
+
+/// How many bumps are made at once at most, so that they halve the scores once at most.
+pub const MAX_BUMPS: u32 = 250_000_000;
 
 // Halves each score, rounded down.
 fn halve(scores: &mut Vec<u32>)
@@ -16,19 +19,20 @@ fn halve(scores: &mut Vec<u32>)
     }
 }
 
-// Adds 1 to the score at a place, and halves all where it reaches the limit. Whether they were halved.
-pub(crate) fn raise(scores: &mut Vec<u32>, at: usize) -> bool
+// Bumps the score at a place so many times. Whether all scores were halved on the way.
+pub(crate) fn raise(scores: &mut Vec<u32>, at: usize, times: u32) -> bool
     requires at { at < length scores.old.items }
     requires small { All (λ s. s < SCORE_LIMIT) scores.old.items }
-    ensures raised { scores.new.items ≡ raised scores.old.items at }
+    requires few { times ≤ MAX_BUMPS }
     ensures small { All (λ s. s < SCORE_LIMIT) scores.new.items }
-    ensures same { MatchBool result (length scores.new.items ≡ length scores.old.items) (scores.new.items ≡ set scores.old.items at (get_or scores.old.items at 0 + 1)) }
+    ensures raised { MatchBool result (IsHalved scores.old.items at times scores.new.items) (IsRaised scores.old.items at times scores.new.items) }
 {
-    let score = scores[at] + 1;
-    scores[at] = score;
-    if score == SCORE_LIMIT {
-        halve(scores);
-        return true;
+    let left = SCORE_LIMIT - scores[at];
+    if times < left {
+        scores[at] += times;
+        return false;
     }
-    false
+    halve(scores);
+    scores[at] = SCORE_LIMIT / 2 + (times - left);
+    true
 }

@@ -12,18 +12,18 @@ stays c = subst (λ (xs : List ℕ). (v : ℕ) → v < length xs → item_at c.s
 long : (c : After-put_back-self-inside) → length c.put_back-self-inside.new.heap.places.items ≡ length c.self.inside.scores.items
 long c = subst (λ (xs : List ℕ). length c.put_back-self-inside.new.heap.places.items ≡ length xs) c.as_slice.ensures.value c.put_back-self-inside.ensures.shuffled.place_count
 
-stood : (c : After-put_back-self-inside) → AllStand (record { scores = c.self.inside.scores.items; standing = map (λ p. nat_lt p c.self.inside.count) c.self.inside.heap.places.items }) c.args.trail.now
+stood : (c : After-put_back-self-inside) → AllStand (record { scores = c.self.inside.scores.items; standing = map (λ p. nat_lt p c.self.inside.count) c.self.inside.heap.places.items; weight = c.self.inside.weight }) c.args.trail.now
 stood c = subst (λ (o : OrderState). AllStand o c.args.trail.now) (sym c.self.view_is) c.requires
 
 open_stood : (c : After-put_back-self-inside) → HasOpenOnes (length c.self.inside.scores.items) c.args.trail.now.entries c.self.inside.heap.places.items c.self.inside.count
-open_stood c = open_ones _ _ _ _ c.self.invariant.2.shuffled.place_count (stood c)
+open_stood c = open_ones _ _ _ _ _ c.self.invariant.2.shuffled.place_count (stood c)
 
 pub returns-clause-stand : goal.returns-clause-stand
 returns-clause-stand c =
     let put = (goal.at.returns-clause-stand c).After-put_back-self-inside in
-    stand_of _ _ _ _ (stood put).variables (long put) (λ v h o. stays put v h (open_stood put v h o))
+    stand_of _ _ _ _ _ (stood put).variables (long put) (λ v h o. stays put v h (open_stood put v h o))
 
 pub returns-clause-back : goal.returns-clause-back
 returns-clause-back c = λ u b.
     let put = (goal.at.returns-clause-back c).After-put_back-self-inside in
-    stand_of _ _ _ u ((stood put).variables ∙ sym b.variables) (long put) (back_stand _ c.args.level _ _ _ _ c.args.trail.now u b (open_stood put) (stays put) c.put_back-self-inside.ensures.put)
+    stand_of _ _ _ _ u ((stood put).variables ∙ sym b.variables) (long put) (back_stand _ c.args.level _ _ _ _ c.args.trail.now u b (open_stood put) (stays put) c.put_back-self-inside.ensures.put)

@@ -12,7 +12,7 @@ settle-count-requires-clause-stand c =
     let k = c.self.invariant.2 in
     let a = subst (λ (o : OrderState). AllStand o c.args.trail.now) (sym c.self.view_is) c.requires in
     subst (λ (xs : List ℕ). HasOpenOnes (length xs) c.args.trail.now.entries c.self.inside.heap.places.items c.self.inside.count) (sym c.as_slice.ensures.value)
-    (open_ones _ _ _ _ k.shuffled.place_count a)
+    (open_ones _ _ _ _ _ k.shuffled.place_count a)
 
 pub returns-clause-picks : goal.returns-clause-picks
 returns-clause-picks c =
@@ -43,6 +43,6 @@ returns-clause-stand c =
     let a = subst (λ (o : OrderState). AllStand o c.args.trail.now) (sym c.self.view_is) c.requires in
     let e = c.settle-count.ensures in
     let same = c.as_slice.ensures.value in
-    stand_of _ _ _ _ a.variables
+    stand_of _ _ _ _ _ a.variables
     (subst (λ (xs : List ℕ). length c.settle-count.new.heap.places.items ≡ length xs) same e.shuffled.place_count)
     (subst (λ (xs : List ℕ). HasOpenOnes (length xs) c.args.trail.now.entries c.settle-count.new.heap.places.items c.settle-count.result) same e.stand)
