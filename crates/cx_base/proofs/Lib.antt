@@ -8,3 +8,4 @@ pub mod Differences
 pub mod LiteralLaws
 pub mod Elements
 pub mod PlaceLaws
+pub mod MovedLaws

@@ -9,3 +9,4 @@ pub mod Items
 pub mod Drafts
 pub mod Numbers
 pub mod Counts
+pub mod Moved

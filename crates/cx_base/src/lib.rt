@@ -7,6 +7,7 @@ mod formula;
 mod items;
 mod lists;
 mod literal;
+mod moved;
 mod places;
 mod refs;
 
@@ -16,6 +17,7 @@ pub use formula::Formula;
 pub use items::Items;
 pub use lists::{IdList, IntList, LitList, ParityList, RefList, Values};
 pub use literal::{Lit, MAX_VARIABLE, Var};
+pub use moved::{Move, Moved};
 pub use refs::{ClauseRef, Row};
 
 #[cfg(test)]
