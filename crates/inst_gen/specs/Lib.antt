@@ -1,0 +1,4 @@
+pub mod Words
+pub mod Planting
+pub mod Triples
+pub mod Laws

@@ -1,0 +1,10 @@
+//! The two kinds of planted instances.
+
+/// Whether a planted instance is met by its planted values or by none.
+#[derive(Clone, Copy, PartialEq, Eq, Debug, Drop)]
+pub enum Kind {
+    /// Met by the planted values.
+    Even,
+    /// Met by no values.
+    Odd,
+}

@@ -1,0 +1,12 @@
+//! Planted instances: formulas of parities and clauses that are met by chosen values, or by none.
+#![tactic(auto)]
+
+mod building;
+mod drawing;
+mod kind;
+mod laws;
+mod triple;
+
+pub use building::planted;
+pub use kind::Kind;
+pub use laws::{even_is_met, odd_is_unmet};
