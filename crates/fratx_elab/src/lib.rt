@@ -15,6 +15,3 @@ mod walk;
 pub use ends::{ElabEnds, Joined};
 pub use outcome::{Elab, ElabFault};
 pub use walk::elaborate;
-
-#[cfg(test)]
-mod tests;

@@ -1,9 +1,11 @@
 //! One step of a log of any kind.
 ghost use Rattle.std.specs.Prelude.{◌≡◌, ◌<◌, length, IfOk, OnOk};
 ghost use Rattle.cx_semantics.specs.LogRules.{derives_empty_clause};
+ghost use Rattle.cx_semantics.specs.Tables.{Tables};
 ghost use Rattle.fratx_elab.specs.Contents.{StandsFor};
 ghost use Rattle.fratx_elab.specs.Elaborates.{number_of_clauses, number_of_parities};
-ghost use Rattle.fratx_elab.specs.Takes.{TakesLogStep, CanBePrinted, CountsOneMore};
+ghost use Rattle.fratx_elab.specs.Takes.{TakesLogStep, CanBePrinted, CountsOneMore, names_of};
+ghost use Rattle.fratx_elab.specs.Ties.{AreTied};
 ghost use Rattle.fratx_elab.specs.declared.naming.TheConstants.{MAX_ID};
 
 use crate::delete::{delete_clause, delete_parity};
@@ -53,6 +55,7 @@ pub fn take_step(
     requires parities { counts.parities ≡ number_of_parities formula.now }
     requires clause_room { state.old.clauses.last < MAX_ID }
     requires parity_room { state.old.parities.last < MAX_ID }
+    requires tied { (proof : Tables) × AreTied formula.now state.old.live proof (names_of state.old) }
     ensures taken { TakesLogStep formula.now state.old step.now result state.new }
     ensures text { IfOk result CanBePrinted }
     ensures more { OnOk result (CountsOneMore state.old state.new) }

@@ -3,12 +3,13 @@ ghost use Rattle.std.specs.Prelude.{◌≡◌, ◌≤◌, ◌<◌, ◌+◌, pos,
 ghost use Rattle.cx_base.specs.Problem.{Problem};
 ghost use Rattle.cx_semantics.specs.Chain.{IsChain};
 ghost use Rattle.cx_semantics.specs.LogRules.{AreLive, HasChain, chained, derives_empty_clause};
-ghost use Rattle.cx_semantics.specs.Tables.{named};
+ghost use Rattle.cx_semantics.specs.Tables.{Tables, named};
 ghost use Rattle.cx_semantics.specs.declared.steps.LogStep.TheVariants as step;
 ghost use Rattle.proof_rules.specs.Kinds.{chosen};
 ghost use Rattle.fratx_elab.specs.Contents.{StandsFor};
 ghost use Rattle.fratx_elab.specs.Names.{hints_for};
-ghost use Rattle.fratx_elab.specs.Takes.{TakesLogStep, Admits, GivesChain, CanBePrinted, CountsOneMore};
+ghost use Rattle.fratx_elab.specs.Takes.{TakesLogStep, Admits, GivesChain, CanBePrinted, CountsOneMore, names_of};
+ghost use Rattle.fratx_elab.specs.Ties.{AreTied};
 ghost use Rattle.fratx_elab.specs.declared.naming.TheConstants.{MAX_ID};
 
 use crate::naming::Names;
@@ -18,7 +19,7 @@ use crate::steps::{clause_of_parity_step, clause_step, parity_of_clauses_step, p
 use cx_base::{Formula, IdList, IntList, LitList};
 use cx_semantics::{Cause, ProofStep};
 use proof_rules::{
-    JudgeRefusal, Kind, ids_of, judge_chain, judge_clause_of_named_parity, judge_named_sum,
+    JudgeRefusal, Kind, ids_of, judge_clause_of_named_parity, judge_named_sum,
     judge_parity_of_named_clauses,
 };
 use rup_finder::IndexedClauses;
@@ -54,13 +55,14 @@ fn admit(
 /// Live hints that are a right chain for the clause: those that are given, where they are, or else any.
 fn chain_of(
     alloc: Global,
-    live: &IndexedClauses,
+    live: &mut IndexedClauses,
     target: &LitList,
     given: &[i64],
 ) -> Result<IdList, JudgeRefusal>
-    ensures { GivesChain live.now.clauses target.now result }
+    ensures same { live.new ≡ live.old }
+    ensures chain { GivesChain live.old.clauses target.now result }
 {
-    match judge_chain(alloc, live.live(), target, given) {
+    match live.judge_chain(target, given) {
         Ok(()) => return Ok(IdList::from_vec(ids_of(alloc, given)?)),
         Err(JudgeRefusal::Memory) => return Err(JudgeRefusal::Memory),
         Err(JudgeRefusal::Wrong(_)) => {}
@@ -136,7 +138,7 @@ pub fn take_clause(
     ensures counts { OnOk result (CountsOneMore state.old state.new) }
 {
     let target = admit(alloc, formula, &state.live, Kind::Clauses, id, lits)?;
-    let ids = chain_of(alloc, &state.live, &target, given)?;
+    let ids = chain_of(alloc, &mut state.live, &target, given)?;
     let hints = hints_of(alloc, &state.clauses, ids.as_slice())?;
     let copy = lits.clone()?;
     state.live.add(Kind::Clauses, id, target)?;
@@ -204,6 +206,7 @@ pub fn take_clause_of_parity(
     source: u64,
 ) -> Result<Option<ProofStep>, JudgeRefusal>
     requires room { state.old.clauses.last < MAX_ID }
+    requires tied { (proof : Tables) × AreTied formula.now state.old.live proof (names_of state.old) }
     ensures taken { TakesLogStep formula.now state.old (step.ClauseOfParity id lits.now source) result state.new }
     ensures text { IfOk result CanBePrinted }
     ensures counts { OnOk result (CountsOneMore state.old state.new) }
@@ -213,7 +216,7 @@ pub fn take_clause_of_parity(
     let named = match state.parities.get(source) {
         Some(named) => named,
         // Nothing that is live in the log is without a name in the proof.
-        None => return Err(JudgeRefusal::Memory),
+        None => unreachable!(),
     };
     let copy = lits.clone()?;
     state.live.add(Kind::Clauses, id, target)?;

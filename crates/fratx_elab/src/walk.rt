@@ -1,12 +1,14 @@
 //! The elaborator: steps are taken one after another.
 ghost use Rattle.std.specs.Prelude.{◌≡◌, ◌<◌, ◌≤◌, ◌^◌, ◌+◌, false, None, length, IfOk, IfErr, OnOk, OnErr, List};
 ghost use Rattle.cx_semantics.specs.Grammar.{Ending};
+ghost use Rattle.cx_semantics.specs.Tables.{Tables};
 ghost use Rattle.cx_semantics.specs.declared.steps.LogStep.{LogStep};
 ghost use Rattle.cx_base.specs.Problem.{Problem};
 ghost use Rattle.fratx_elab.specs.Contents.{StandsFor};
 ghost use Rattle.fratx_elab.specs.Elaborates.{number_of_clauses, number_of_parities};
 ghost use Rattle.fratx_elab.specs.Outcomes.{IsElaborated, IsCutOff, HasCause, Kept, Turns, text_refused, step_refused, what_follows_of, WritesStand};
-ghost use Rattle.fratx_elab.specs.Takes.{CanBePrinted, CountsOneMore, TakesLogStep};
+ghost use Rattle.fratx_elab.specs.Takes.{CanBePrinted, CountsOneMore, TakesLogStep, names_of};
+ghost use Rattle.fratx_elab.specs.Ties.{AreTied};
 ghost use Rattle.fratx_elab.specs.Writing.{WritesDown};
 ghost use Rattle.proof_text.specs.Sinks.{SinkFaultsAs, HasFailedAs};
 
@@ -104,6 +106,7 @@ fn take_next<E: ElabEnds>(
     requires parities { counts.parities ≡ number_of_parities formula.now }
     requires clause_room { state.old.clauses.last ≤ 2 ^ 61 + steps }
     requires parity_room { state.old.parities.last ≤ 2 ^ 61 + steps }
+    requires tied { (proof : Tables) × AreTied formula.now state.old.live proof (names_of state.old) }
     requires fresh { E.is_spent ends.old ≡ false }
     requires count { steps ≤ 2 ^ 62 }
     ensures turns { (first : E) → Kept E.leaves E.steps E.torn formula.now first ends.old state.old steps → Turns E.leaves E.steps E.torn formula.now first ends.new state.new steps result }

@@ -8,3 +8,4 @@ pub mod ClausesParity
 pub mod StepIntegers
 pub mod ContentLaws
 pub mod PlaceLaws
+pub mod MarkLaws

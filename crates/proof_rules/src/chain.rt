@@ -12,7 +12,7 @@ use crate::literal_set::LiteralSet;
 use crate::live::Live;
 use cx_base::Lit;
 use cx_semantics::Cause;
-use std::alloc::{AllocError, Global};
+use std::alloc::AllocError;
 
 /// What is left of a clause.
 #[derive(Clone, Copy, Drop)]
@@ -83,15 +83,15 @@ fn chain_end(assumed: &mut LiteralSet, live: &Live, hints: &[i64]) -> Result<End
 
 /// Judges the target by the chain of the clauses that the hints name.
 pub(crate) fn judge_target(
-    alloc: Global,
+    assumed: &mut LiteralSet,
     live: &Live,
     target: &[Lit],
     hints: &[i64],
 ) -> Result<(), JudgeRefusal>
     ensures { JudgesBy (chaining target.now (hinted live.now.clauses hints.now)) result }
 {
-    let mut assumed = LiteralSet::of_negations(alloc, target)?;
-    match chain_end(&mut assumed, live, hints)? {
+    assumed.set_to_negations(target)?;
+    match chain_end(assumed, live, hints)? {
         End::Right => Ok(()),
         End::NotUnit => Err(JudgeRefusal::Wrong(Cause::HintNotUnit)),
         End::HintsEnd => Err(JudgeRefusal::Wrong(Cause::HintsEnd)),

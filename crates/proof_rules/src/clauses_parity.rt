@@ -7,9 +7,9 @@ ghost use Rattle.proof_rules.specs.Exclusions.{HasPlaces, excluded, all_excluded
 ghost use Rattle.proof_rules.specs.Judges.{JudgesBy};
 
 use crate::JudgeRefusal;
-use crate::literal_set::LiteralSet;
 use crate::live::Live;
 use crate::parity_sum::ParitySum;
+use crate::sorted_literals::SortedLiterals;
 use cx_base::{Lit, Var};
 use cx_semantics::Cause;
 use std::alloc::{AllocError, Global};
@@ -41,7 +41,13 @@ fn any_outside(sum: &ParitySum, live: &Live, ids: &[u64]) -> bool
 /// Marks the assignments of the variables under which the clause is not met.
 ///
 /// `place` is that of the assignment where all of them are false, and `step` how far the first of them moves it.
-fn exclude(table: &mut [bool], variables: &[Var], clause: &LiteralSet, place: usize, step: usize)
+fn exclude(
+    table: &mut [bool],
+    variables: &[Var],
+    clause: &SortedLiterals,
+    place: usize,
+    step: usize,
+)
     requires place { place < step }
     requires fits { HasPlaces variables.now step (length table.old) }
     ensures { table.new ≡ excluded clause.now variables.now place step table.old }
@@ -72,7 +78,7 @@ fn exclusions(
     let mut table = vec![in alloc; false; 1 << variables.len()]?;
     for id in ids {
         if let Some(clause) = live.clause(*id) {
-            let set = LiteralSet::of(alloc, clause)?;
+            let set = SortedLiterals::of(alloc, clause)?;
             exclude(&mut table, variables, &set, 0, 1);
         }
     }

@@ -2,8 +2,8 @@
 ghost use Rattle.std.specs.Prelude.{IfOk};
 ghost use Rattle.proof_rules.specs.Contents.{IsClauseContent, IsParityContent};
 
-use crate::literal_set::LiteralSet;
 use crate::parity_sum::ParitySum;
+use crate::sorted_literals::SortedLiterals;
 use cx_base::Lit;
 use std::alloc::{AllocError, Global};
 
@@ -11,7 +11,7 @@ use std::alloc::{AllocError, Global};
 pub fn clause_content(alloc: Global, lits: &[Lit]) -> Result<Vec<u32>, AllocError>
     ensures { IfOk result (λ content. IsClauseContent lits.now content.items) }
 {
-    let set = LiteralSet::of(alloc, lits)?;
+    let set = SortedLiterals::of(alloc, lits)?;
     set.codes(alloc)
 }
 

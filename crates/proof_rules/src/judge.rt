@@ -6,6 +6,7 @@ ghost use Rattle.cx_semantics.specs.ProofRules.{hinting, chaining, summing, clau
 ghost use Rattle.proof_rules.specs.Judges.{JudgesBy};
 
 use crate::hints::{id_of, ids_of, judge_hints};
+use crate::literal_set::LiteralSet;
 use crate::live::Kind;
 use crate::{JudgeRefusal, Live, chain, clauses_parity, parity_clause, sum};
 use cx_base::LitList;
@@ -15,9 +16,10 @@ use std::alloc::Global;
 ///
 /// The target's negations are assumed, and then what each hint has left, in order; hints behind the one with nothing
 /// left are not taken. The causes, in order: `RatHint`, `HintNotLive`, `HintNotUnit`, `HintsEnd`.
-/// It costs the literals of the target and of the hints that are taken, times a logarithm.
+/// It costs the literals of the target and of the hints that are taken. What `assumed` has before and after plays no
+/// part: only its memory is used again.
 pub fn judge_chain(
-    alloc: Global,
+    assumed: &mut LiteralSet,
     live: &Live,
     target: &LitList,
     hints: &[i64],
@@ -25,7 +27,7 @@ pub fn judge_chain(
     ensures { JudgesBy (hinting live.now.clauses hints.now ++ chaining target.now (named live.now.clauses (sizes hints.now))) result }
 {
     judge_hints(live, Kind::Clauses, hints)?;
-    chain::judge_target(alloc, live, target.as_slice(), hints)
+    chain::judge_target(assumed, live, target.as_slice(), hints)
 }
 
 /// Judges a parity as the sum of live parities, each counted as often as it is named.

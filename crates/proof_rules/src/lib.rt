@@ -14,6 +14,7 @@ mod named;
 mod parity_clause;
 mod parity_sum;
 mod refusal;
+mod sorted_literals;
 mod sum;
 mod table;
 
@@ -27,6 +28,3 @@ pub use literal_set::LiteralSet;
 pub use live::{Kind, Live};
 pub use named::{judge_clause_of_named_parity, judge_named_sum, judge_parity_of_named_clauses};
 pub use refusal::JudgeRefusal;
-
-#[cfg(test)]
-mod tests;

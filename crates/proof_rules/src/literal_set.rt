@@ -1,90 +1,120 @@
-//! Sets of literals.
-ghost use Rattle.std.specs.Prelude.{◌≡◌, [], ◌∷◌, OnOk, IfOk};
+//! Sets of literals that are cleared and used again.
+ghost use Rattle.std.specs.Prelude.{◌≡◌, ◌<◌, ℕ, false, [], ◌∷◌, OnOk, OnErr, get_or, set, length};
+ghost use Rattle.cx_base.specs.Literals.{Literal, code_of};
 ghost use Rattle.cx_semantics.specs.Chain.{has_literal, negations, HaveSame};
-ghost use Rattle.std.specs.Prelude.{map};
-ghost use Rattle.std.specs.List.Sorted.{IsStrictlySortedBy};
-ghost use Rattle.std.specs.Ordering.{nat_cmp};
-ghost use Rattle.cx_base.specs.Literals.{code_of};
-ghost use Rattle.proof_rules.specs.LiteralSets.{ArePositive};
+ghost use Rattle.proof_rules.specs.LiteralSets.{AreMarkedOnly};
 
 use cx_base::Lit;
 use std::alloc::{AllocError, Global};
-use std::collections::BTreeSet;
 use std::marker::Model;
 
 /// A set of literals, which a contract sees as a list of them in some order.
+///
+/// It has a mark for each code up to the greatest that stood in it so far: a look-up is one access, clearing it costs
+/// the literals that it has, and what is put in again takes no memory.
 #[derive(Drop)]
 pub struct LiteralSet {
-    lits: BTreeSet<Lit>,
+    /// Whether the literal of each code is in the set.
+    marks: Vec<bool>,
+    lits: Vec<Lit>,
 }
 
 impl Model for LiteralSet {
     ghost use Rattle.std.specs.Prelude.{List};
     ghost use Rattle.cx_base.specs.Literals.{Literal};
+    ghost use Rattle.proof_rules.specs.LiteralSets.{AreMarks};
 
     ghost Value = { List Literal };
 
-    ghost view = { λ a. a.lits.keys };
+    ghost view = { λ a. a.lits.items };
+
+    ghost invariant = { λ a. AreMarks a.marks.items a.lits.items };
+}
+
+/// Whether there is a mark at the place.
+fn is_marked(marks: &[bool], place: usize) -> bool
+    ensures { result ≡ get_or marks.now place false }
+{
+    place < marks.len() && marks[place]
+}
+
+/// Takes the mark at the place away, if there is one.
+fn clear_mark(marks: &mut Vec<bool>, place: usize)
+    ensures { marks.new.items ≡ set marks.old.items place false }
+{
+    if place < marks.len() {
+        marks[place] = false;
+    }
+}
+
+/// Adds places without a mark until there is this one. Without memory some may have been added.
+fn reach(marks: &mut Vec<bool>, place: usize) -> Result<(), AllocError>
+    ensures same { (p : ℕ) → get_or marks.new.items p false ≡ get_or marks.old.items p false }
+    ensures reached { OnOk result (place < length marks.new.items) }
+{
+    for _ in marks.len()..=place {
+        marks.push(false)?;
+    }
+    Ok(())
+}
+
+/// Takes the marks of literals away.
+fn unmark(marks: &mut Vec<bool>, lits: &[Lit])
+    ensures { AreMarkedOnly marks.old.items lits.now → (l : Literal) → get_or marks.new.items (code_of l) false ≡ false }
+{
+    for lit in lits {
+        clear_mark(marks, lit.code());
+    }
 }
 
 impl LiteralSet {
     /// The empty set.
-    fn new(alloc: Global) -> LiteralSet
+    pub fn new(alloc: Global) -> LiteralSet
         ensures { result ≡ [] }
     {
         LiteralSet {
-            lits: BTreeSet::new(alloc),
+            marks: Vec::new(alloc),
+            lits: Vec::new(alloc),
         }
-    }
-
-    /// The set of the literals.
-    pub fn of(alloc: Global, lits: &[Lit]) -> Result<LiteralSet, AllocError>
-        ensures same { IfOk result (λ set. HaveSame set lits.now) }
-        ensures positive { OnOk result (ArePositive lits.now) }
-    {
-        let mut set = LiteralSet::new(alloc);
-        for lit in lits {
-            // Its contract says that no variable is 0.
-            let _number = lit.var().number();
-            set.insert(*lit)?;
-        }
-        Ok(set)
-    }
-
-    /// The set of the negations of the literals.
-    pub fn of_negations(alloc: Global, lits: &[Lit]) -> Result<LiteralSet, AllocError>
-        ensures { IfOk result (λ set. HaveSame set (negations lits.now)) }
-    {
-        let mut set = LiteralSet::new(alloc);
-        for lit in lits {
-            set.insert(lit.negate())?;
-        }
-        Ok(set)
     }
 
     /// Whether it has the literal.
     pub fn contains(&self, lit: Lit) -> bool
         ensures { result ≡ has_literal self.now lit }
     {
-        self.lits.contains(&lit)
+        is_marked(&self.marks, lit.code())
     }
 
-    /// Puts a literal in.
+    /// Puts a literal in. Without memory nothing changes.
     pub fn insert(&mut self, lit: Lit) -> Result<(), AllocError>
-        ensures { OnOk result (HaveSame self.new (lit ∷ self.old)) }
+        ensures ok { OnOk result (HaveSame self.new (lit ∷ self.old)) }
+        ensures err { OnErr result (self.new ≡ self.old) }
     {
-        self.lits.insert(lit)?;
+        if self.contains(lit) {
+            return Ok(());
+        }
+        reach(&mut self.marks, lit.code())?;
+        self.lits.push(lit)?;
+        self.marks[lit.code()] = true;
         Ok(())
     }
-    /// The codes of its literals, rising.
-    pub(crate) fn codes(&self, alloc: Global) -> Result<Vec<u32>, AllocError>
-        ensures codes { IfOk result (λ codes. codes.items ≡ map code_of self.now) }
-        ensures rising { IfOk result (λ codes. IsStrictlySortedBy nat_cmp codes.items) }
+
+    /// Takes all literals out.
+    pub fn clear(&mut self)
+        ensures { self.new ≡ [] }
     {
-        let mut codes = Vec::new(alloc);
-        for lit in &self.lits {
-            codes.push(lit.code() as u32)?;
+        unmark(&mut self.marks, &self.lits);
+        self.lits.clear();
+    }
+
+    /// The negations of these literals come in the place of all that it has. Without memory some of them may be in it.
+    pub fn set_to_negations(&mut self, lits: &[Lit]) -> Result<(), AllocError>
+        ensures { OnOk result (HaveSame self.new (negations lits.now)) }
+    {
+        self.clear();
+        for lit in lits {
+            self.insert(lit.negate())?;
         }
-        Ok(codes)
+        Ok(())
     }
 }

@@ -6,21 +6,21 @@ ghost use Rattle.proof_rules.specs.Assignments.{has_opposites, forced_sum, Decid
 ghost use Rattle.proof_rules.specs.Judges.{JudgesBy};
 
 use crate::JudgeRefusal;
-use crate::literal_set::LiteralSet;
 use crate::parity_sum::ParitySum;
+use crate::sorted_literals::SortedLiterals;
 use cx_base::{Lit, Var};
 use cx_semantics::Cause;
 use std::alloc::{AllocError, Global};
 
 /// Whether the set has the negation of some literal.
-fn has_opposite(set: &LiteralSet, lits: &[Lit]) -> bool
+fn has_opposite(set: &SortedLiterals, lits: &[Lit]) -> bool
     ensures { result ≡ has_opposites set.now lits.now }
 {
     lits.iter().any(|lit| set.contains(lit.negate()))
 }
 
 /// The sum of the variables where all literals of the clause are false, if that gives each of them a value.
-fn sum_outside(clause: &LiteralSet, variables: &[Var]) -> Option<bool>
+fn sum_outside(clause: &SortedLiterals, variables: &[Var]) -> Option<bool>
     ensures { result ≡ forced_sum clause.now variables.now }
 {
     let mut sum = false;
@@ -41,7 +41,7 @@ fn sum_outside(clause: &LiteralSet, variables: &[Var]) -> Option<bool>
 fn is_implied(alloc: Global, parity: &[Lit], clause: &[Lit]) -> Result<bool, AllocError>
     ensures { IfOk result (Decided (all_met parity_met (parity.now ∷ [])) (λ values. clause_met values clause.now)) }
 {
-    let set = LiteralSet::of(alloc, clause)?;
+    let set = SortedLiterals::of(alloc, clause)?;
     if has_opposite(&set, clause) {
         return Ok(true);
     }

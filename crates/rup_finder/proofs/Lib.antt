@@ -1,3 +1,2 @@
 pub mod Propagation
-pub mod Listing
-pub mod PruningLaws
+pub mod ReadyLaws

@@ -1,3 +1,2 @@
-pub mod Occurrences
 pub mod Saturation
-pub mod Prunings
+pub mod Ready

@@ -1,29 +1,37 @@
-//! Live clauses with an index by their literals.
-ghost use Rattle.std.specs.Prelude.{◌≡◌, IfOk, OnOk, OnErr, [], ◌∷◌, MatchOption, None, Some};
+//! Live clauses, and chains over them.
+ghost use Rattle.std.specs.Prelude.{◌≡◌, ◌++◌, IfOk, OnOk, OnErr, [], ◌∷◌, MatchOption, None, Some};
 ghost use Rattle.cx_semantics.specs.Chain.{IsChain};
+ghost use Rattle.cx_semantics.specs.Integers.{sizes};
 ghost use Rattle.cx_semantics.specs.LogRules.{AreLive, HasChain};
 ghost use Rattle.proof_rules.specs.Kinds.{chosen, put_constraint, drop_constraints};
+ghost use Rattle.cx_semantics.specs.ProofRules.{hinting, chaining};
 ghost use Rattle.cx_semantics.specs.Tables.{is_live, named, no_tables};
+ghost use Rattle.proof_rules.specs.Judges.{JudgesBy};
+ghost use Rattle.rup_engine.specs.Finding.{Answers};
 
-use crate::occurrences::Occurrences;
-use crate::search::find_by;
+use crate::ready::{ready, with_clause, without_clause};
+use crate::search::find;
 use cx_base::{IdList, Lit, LitList};
-use proof_rules::{Kind, Live};
+use proof_rules::{JudgeRefusal, Kind, LiteralSet, Live, judge_chain};
+use rup_engine::{Answer, Engine};
 use std::alloc::{AllocError, Global};
 use std::marker::Model;
 
-/// The live clauses and parities of a log, where the clauses that have a literal are at hand.
+/// The live clauses and parities of a log, and where a chain was asked for the clauses by their watched literals.
 ///
-/// What is added or removed costs its own literals, each the logarithm of all literals there are.
+/// What is added or removed costs its own literals, and what was propagated from it.
 #[derive(Drop)]
 pub struct IndexedClauses {
     live: Live,
-    occurrences: Occurrences,
+    /// None before the first search, after want of memory, and where it is to be made anew.
+    engine: Option<Engine>,
+    /// What a judge assumes, for its memory alone.
+    assumed: LiteralSet,
 }
 
 impl Model for IndexedClauses {
     ghost use Rattle.cx_semantics.specs.Tables.{Tables, tables_code};
-    ghost use Rattle.rup_finder.specs.Occurrences.{Covers};
+    ghost use Rattle.rup_finder.specs.Ready.{IsReady};
 
     ghost Value = { Tables };
 
@@ -31,7 +39,24 @@ impl Model for IndexedClauses {
 
     ghost view = { λ a. a.live };
 
-    ghost invariant = { λ a. Covers a.live.clauses a.occurrences.pairs.keys };
+    ghost invariant = { λ a. IsReady a.live.clauses a.engine };
+}
+
+/// The answer of the engine; where it tells nothing, that of the plain search.
+fn told(
+    alloc: Global,
+    live: &Live,
+    target: &[Lit],
+    answer: Answer,
+) -> Result<Option<IdList>, AllocError>
+    requires { Answers live.now.clauses target.now answer }
+    ensures { IfOk result (λ found. MatchOption found (¬ HasChain live.now.clauses target.now) (λ ids. AreLive live.now.clauses ids × IsChain target.now (named live.now.clauses ids))) }
+{
+    match answer {
+        Answer::Chain(ids) => Ok(Some(ids)),
+        Answer::NoChain => Ok(None),
+        Answer::Untold => find(alloc, live, target),
+    }
 }
 
 impl IndexedClauses {
@@ -41,11 +66,12 @@ impl IndexedClauses {
     {
         IndexedClauses {
             live: Live::make(alloc),
-            occurrences: Occurrences::new(alloc),
+            engine: None,
+            assumed: LiteralSet::new(alloc),
         }
     }
 
-    /// The tables without the index.
+    /// The tables alone.
     pub fn live(&self) -> &Live
         ensures { result.now ≡ self.now }
     {
@@ -59,18 +85,18 @@ impl IndexedClauses {
         self.live.has(kind, id)
     }
 
-    /// Puts a constraint of this kind under this id. Without memory no table changes.
-    ///
-    /// Take out first the clause that is live under it: the index would go on listing its literals
-    /// too, at the cost of later calls.
+    /// Puts a constraint of this kind under this id, in the place of what is live under it. Without memory no table
+    /// changes.
     pub fn add(&mut self, kind: Kind, id: u64, lits: LitList) -> Result<(), AllocError>
         ensures ok { OnOk result (self.new ≡ put_constraint kind self.old id lits) }
         ensures err { OnErr result (self.new ≡ self.old) }
     {
         match kind {
             Kind::Clauses => {
-                self.occurrences.add(id, lits.as_slice())?;
-                self.live.add(Kind::Clauses, id, lits)
+                let engine = with_clause(self.engine.take(), id, lits.as_slice())?;
+                self.live.add(Kind::Clauses, id, lits)?;
+                self.engine = engine;
+                Ok(())
             }
             Kind::Parities => self.live.add(Kind::Parities, id, lits),
         }
@@ -82,20 +108,38 @@ impl IndexedClauses {
     {
         match kind {
             Kind::Clauses => {
-                self.occurrences.forget(&self.live, id);
+                let engine = without_clause(self.engine.take(), id);
                 self.live.remove(Kind::Clauses, id);
+                self.engine = engine;
             }
             Kind::Parities => self.live.remove(Kind::Parities, id),
         }
     }
 
+    /// Judges a clause by a chain of hints, as [`judge_chain`] does.
+    pub fn judge_chain(&mut self, target: &LitList, hints: &[i64]) -> Result<(), JudgeRefusal>
+        ensures same { self.new ≡ self.old }
+        ensures judged { JudgesBy (hinting self.old.clauses hints.now ++ chaining target.now (named self.old.clauses (sizes hints.now))) result }
+    {
+        judge_chain(&mut self.assumed, &self.live, target, hints)
+    }
+
     /// A list of live hints that is a right chain for the clause; none where no list of live hints is one.
     ///
-    /// A call costs what it propagates: the clauses that have the negation of a literal that it
-    /// assumes.
-    pub fn find(&self, alloc: Global, target: &[Lit]) -> Result<Option<IdList>, AllocError>
-        ensures { IfOk result (λ found. MatchOption found (¬ HasChain self.now.clauses target.now) (λ ids. AreLive self.now.clauses ids × IsChain target.now (named self.now.clauses ids))) }
+    /// A call costs what the negations of the target's literals propagate, and what the clauses by themselves do where
+    /// that is not known from the call before. The first call costs all live clauses, and so does one after as many
+    /// have gone as are live.
+    pub fn find(&mut self, alloc: Global, target: &[Lit]) -> Result<Option<IdList>, AllocError>
+        ensures same { self.new ≡ self.old }
+        ensures found { IfOk result (λ found. MatchOption found (¬ HasChain self.old.clauses target.now) (λ ids. AreLive self.old.clauses ids × IsChain target.now (named self.old.clauses ids))) }
     {
-        find_by(alloc, &self.live, &self.occurrences, target)
+        match ready(alloc, &self.live, self.engine.take(), target)? {
+            Some(mut engine) => {
+                let answer = engine.find(alloc, target)?;
+                self.engine = Some(engine);
+                told(alloc, &self.live, target, answer)
+            }
+            None => find(alloc, &self.live, target),
+        }
     }
 }

@@ -2,13 +2,8 @@
 #![tactic(auto)]
 
 mod indexed;
-mod occurrences;
-mod pruning;
-mod reached;
+mod ready;
 mod search;
 
 pub use indexed::IndexedClauses;
 pub use search::find;
-
-#[cfg(test)]
-mod tests;

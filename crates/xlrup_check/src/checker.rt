@@ -9,7 +9,7 @@ use crate::step::take_step;
 use crate::verdict::{Fault, Verdict};
 use cx_base::Formula;
 use cx_semantics::{Cause, ProofStep};
-use proof_rules::{JudgeRefusal, Live};
+use proof_rules::{JudgeRefusal, LiteralSet, Live};
 use proof_text::{StepSource, TextRefusal};
 use std::alloc::Global;
 
@@ -35,9 +35,10 @@ pub fn check<S: StepSource<Step = ProofStep>>(
         Ok(live) => live,
         Err(_) => return Err(Fault::Memory),
     };
+    let mut assumed = LiteralSet::new(alloc);
     let mut steps = 0;
     loop {
-        match take_next(alloc, vars, &mut live, source, steps) {
+        match take_next(alloc, &mut assumed, vars, &mut live, source, steps) {
             Ok(None) => steps += 1,
             Ok(Some(verdict)) => return Ok(verdict),
             Err(fault) => return Err(fault),
@@ -48,6 +49,7 @@ pub fn check<S: StepSource<Step = ProofStep>>(
 /// Takes the next step, behind so many; none where the proof goes on.
 fn take_next<S: StepSource<Step = ProofStep>>(
     alloc: Global,
+    assumed: &mut LiteralSet,
     vars: u32,
     live: &mut Live,
     source: &mut S,
@@ -73,7 +75,7 @@ fn take_next<S: StepSource<Step = ProofStep>>(
         }
         Err(why) => return refused_text(why, steps + 1),
     };
-    let taken = take_step(alloc, vars, live, &step);
+    let taken = take_step(alloc, assumed, vars, live, &step);
     what_follows(taken, steps + 1)
 }
 

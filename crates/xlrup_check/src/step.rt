@@ -9,14 +9,15 @@ ghost use Rattle.xlrup_check.specs.Verdicts.{hint_rules, TakesAdded, TakesStep};
 use cx_base::{IdList, IntList, LitList};
 use cx_semantics::ProofStep;
 use proof_rules::{
-    JudgeRefusal, Kind, Live, admit, judge_chain, judge_clause_of_parity, judge_parity_of_clauses,
-    judge_sum,
+    JudgeRefusal, Kind, LiteralSet, Live, admit, judge_chain, judge_clause_of_parity,
+    judge_parity_of_clauses, judge_sum,
 };
 use std::alloc::Global;
 
 /// Judges what a step adds by its hints.
 fn judge_added(
     alloc: Global,
+    assumed: &mut LiteralSet,
     live: &Live,
     step: &ProofStep,
     target: &LitList,
@@ -24,7 +25,7 @@ fn judge_added(
     ensures { JudgesBy (hint_rules live.now step.now target.now) result }
 {
     match step {
-        ProofStep::Clause(_, _, hints) => judge_chain(alloc, live, target, hints.as_slice()),
+        ProofStep::Clause(_, _, hints) => judge_chain(assumed, live, target, hints.as_slice()),
         ProofStep::Parity(_, _, hints) => judge_sum(alloc, live, target, hints.as_slice()),
         ProofStep::ClauseOfParity(_, _, hint) => {
             judge_clause_of_parity(alloc, live, target, *hint)
@@ -39,6 +40,7 @@ fn judge_added(
 /// Adds the literals of a step, if its hints show them, and says whether it is a clause without literals.
 fn take_added(
     alloc: Global,
+    assumed: &mut LiteralSet,
     vars: u32,
     live: &mut Live,
     kind: Kind,
@@ -50,7 +52,7 @@ fn take_added(
     ensures { (formula : Problem) → formula.variables ≡ vars → TakesAdded formula live.old kind id lits.now step.now result live.new }
 {
     let target = admit(alloc, vars, lits, live.has(kind, id))?;
-    judge_added(alloc, live, step, &target)?;
+    judge_added(alloc, assumed, live, step, &target)?;
     live.add(kind, id, target)?;
     Ok(matches!(kind, Kind::Clauses) && lits.as_slice().is_empty())
 }
@@ -64,9 +66,10 @@ fn delete(live: &mut Live, kind: Kind, ids: &IdList)
     }
 }
 
-/// Judges a step, and where it is right does it and says whether it ends the proof.
+/// Judges a step, and where it is right does it and says whether it ends the proof. `assumed` is for its memory alone.
 pub fn take_step(
     alloc: Global,
+    assumed: &mut LiteralSet,
     vars: u32,
     live: &mut Live,
     step: &ProofStep,
@@ -76,16 +79,16 @@ pub fn take_step(
 {
     match step {
         ProofStep::Clause(id, lits, _) => {
-            take_added(alloc, vars, live, Kind::Clauses, *id, lits, step)
+            take_added(alloc, assumed, vars, live, Kind::Clauses, *id, lits, step)
         }
         ProofStep::Parity(id, lits, _) => {
-            take_added(alloc, vars, live, Kind::Parities, *id, lits, step)
+            take_added(alloc, assumed, vars, live, Kind::Parities, *id, lits, step)
         }
         ProofStep::ClauseOfParity(id, lits, _) => {
-            take_added(alloc, vars, live, Kind::Clauses, *id, lits, step)
+            take_added(alloc, assumed, vars, live, Kind::Clauses, *id, lits, step)
         }
         ProofStep::ParityOfClauses(id, lits, _) => {
-            take_added(alloc, vars, live, Kind::Parities, *id, lits, step)
+            take_added(alloc, assumed, vars, live, Kind::Parities, *id, lits, step)
         }
         ProofStep::DeleteClauses(_, ids) => {
             delete(live, Kind::Clauses, ids);

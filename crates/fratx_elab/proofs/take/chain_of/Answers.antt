@@ -3,7 +3,7 @@ use Rattle.std.specs.List.{list_any}
 use Rattle.cx_semantics.specs.Chain.{chain, negations, IsChain}
 use Rattle.cx_semantics.specs.Integers.{sizes}
 use Rattle.cx_semantics.specs.LogRules.{AreLive}
-use Rattle.cx_semantics.specs.Tables.{Table, Tables, is_live, named}
+use Rattle.cx_semantics.specs.Tables.{Table, is_live, named}
 use Rattle.cx_semantics.proofs.Soundness.{chain_is_right}
 use Rattle.fratx_elab.proofs.take.chain_of.Goals as goal
 
@@ -17,12 +17,11 @@ live_sizes table (z ∷ zs) h = go (is_live table (nat_abs z)) refl (live_sizes 
 
 pub returns-in-Ok : goal.returns-in-Ok
 returns-in-Ok c =
-    let table = c.live.result.now.clauses in
+    let table = c.args.live.now.clauses in
     let target = c.args.target.now in
     let ns = sizes c.args.given.now in
-    let h = c.in-Ok.ensures in
+    let h = c.in-Ok.ensures.judged in
     let ids : c.from_vec.result ≡ ns = c.from_vec.ensures ∙ c.in_ok-ids_of-in-Ok.ensures in
     let found : AreLive table ns × IsChain target (named table ns) = (live_sizes table c.args.given.now h.1.0, chain_is_right (chain (negations target) (named table ns)) h.1.1.0 h.1.1.1.0) in
-    let here = subst (λ (t : Tables). AreLive t.clauses ns × IsChain target (named t.clauses ns)) c.live.ensures found in
-    let P : List ℕ → Type 0 = λ ks. AreLive c.args.live.now.clauses ks × IsChain target (named c.args.live.now.clauses ks) in
-    subst P (sym ids) here
+    let P : List ℕ → Type 0 = λ ks. AreLive table ks × IsChain target (named table ks) in
+    record { same = c.judge_chain.ensures.same; chain = subst P (sym ids) found }

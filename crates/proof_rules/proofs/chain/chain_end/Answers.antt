@@ -22,7 +22,7 @@ loop-hint-preserved c =
     elim c.match-clause.branch [
       | in-Some+in-One+in_ok-insert-in-One w ↦
           ap (λ a. chain a (hinted table rest)) w.assumed-is
-          ∙ chain-one c.loop-hint.assumed w.insert.new.self w.in-Some.clause.now (hinted table rest) w.in-One.lit (sym (ap left_seen w.in-One.is) ∙ w.left_of.ensures) w.in_ok-insert-in-One.ensures
+          ∙ chain-one c.loop-hint.assumed w.insert.new.self w.in-Some.clause.now (hinted table rest) w.in-One.lit (sym (ap left_seen w.in-One.is) ∙ w.left_of.ensures) w.in_ok-insert-in-One.ensures.ok
           ∙ chain-hint c.loop-hint.assumed table here rest w.in-Some.clause.now (known ∙ w.in-Some.ensures) ∙ back
       | in_default w ↦ ap (λ a. chain a (hinted table rest)) w.assumed-is ∙ chain-no_hint c.loop-hint.assumed table here rest (known ∙ w.in_default.ensures) ∙ back
     ]

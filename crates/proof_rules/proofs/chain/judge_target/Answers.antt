@@ -8,14 +8,14 @@ use Rattle.proof_rules.proofs.chain.judge_target.Goals as goal
 pub returns-in-Right : goal.returns-in-Right
 returns-in-Right c =
     let clauses = hinted c.args.live.now.clauses c.args.hints.now in
-    right_holds c.args.target.now clauses (sym (ap end_seen c.in-Right.is) ∙ c.in_ok-chain_end.ensures ∙ chain-same _ (negations c.args.target.now) clauses c.in_ok-assumed.ensures)
+    right_holds c.args.target.now clauses (sym (ap end_seen c.in-Right.is) ∙ c.in_ok-chain_end.ensures ∙ chain-same _ (negations c.args.target.now) clauses c.in_ok-set_to_negations.ensures)
 
 pub returns-in-NotUnit : goal.returns-in-NotUnit
 returns-in-NotUnit c =
     let clauses = hinted c.args.live.now.clauses c.args.hints.now in
-    not_unit_fails c.args.target.now clauses (sym (ap end_seen c.in-NotUnit.is) ∙ c.in_ok-chain_end.ensures ∙ chain-same _ (negations c.args.target.now) clauses c.in_ok-assumed.ensures)
+    not_unit_fails c.args.target.now clauses (sym (ap end_seen c.in-NotUnit.is) ∙ c.in_ok-chain_end.ensures ∙ chain-same _ (negations c.args.target.now) clauses c.in_ok-set_to_negations.ensures)
 
-pub returns : goal.returns
-returns c =
+pub returns-in-HintsEnd : goal.returns-in-HintsEnd
+returns-in-HintsEnd c =
     let clauses = hinted c.args.live.now.clauses c.args.hints.now in
-    hints_end_fails c.args.target.now clauses (sym (ap end_seen c.in-HintsEnd.is) ∙ c.in_ok-chain_end.ensures ∙ chain-same _ (negations c.args.target.now) clauses c.in_ok-assumed.ensures)
+    hints_end_fails c.args.target.now clauses (sym (ap end_seen c.in-HintsEnd.is) ∙ c.in_ok-chain_end.ensures ∙ chain-same _ (negations c.args.target.now) clauses c.in_ok-set_to_negations.ensures)
