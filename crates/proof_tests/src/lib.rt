@@ -1,0 +1,13 @@
+//! Tests of the judges, of the tables by ids, of the finder of chains and of the elaborator.
+#![tactic(auto)]
+
+#[cfg(test)]
+mod chains;
+#[cfg(test)]
+mod judges;
+#[cfg(test)]
+mod logs;
+#[cfg(test)]
+mod maps;
+#[cfg(test)]
+mod numbers;
