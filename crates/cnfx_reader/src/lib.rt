@@ -10,8 +10,6 @@ mod pending;
 mod places;
 mod read;
 mod refusal;
-#[cfg(test)]
-mod tests;
 mod tokens;
 
 pub use read::read_formula;

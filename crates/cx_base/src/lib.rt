@@ -19,6 +19,3 @@ pub use lists::{IdList, IntList, LitList, ParityList, RefList, Values};
 pub use literal::{Lit, MAX_VARIABLE, Var};
 pub use moved::{Move, Moved};
 pub use refs::{ClauseRef, Row};
-
-#[cfg(test)]
-mod tests;

@@ -18,6 +18,3 @@ pub use name::Name;
 pub use plans::{Kind, Plan};
 pub use refusal::PlanRefusal;
 pub use words::plan;
-
-#[cfg(test)]
-mod tests;

@@ -15,6 +15,3 @@ pub use print::{put_log, put_log_step};
 pub use proof_text::{SinkFault, StepSource, TextRefusal};
 pub use sink::LogSink;
 pub use steps::{LogGrammar, LogText};
-
-#[cfg(test)]
-mod tests;

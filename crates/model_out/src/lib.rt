@@ -7,8 +7,6 @@ mod mentions;
 mod put;
 mod read;
 mod refusal;
-#[cfg(test)]
-mod tests;
 
 pub use laws::{answers_are_judged_in_one_way, printed_answers_read, tokens_are_of_lines};
 pub use put::put_answer;

@@ -23,6 +23,3 @@ pub use sink::{ProofSink, SinkFault};
 pub use source::{StepSource, TextRefusal};
 pub use step_text::StepText;
 pub use steps::{ProofGrammar, ProofText};
-
-#[cfg(test)]
-mod tests;

@@ -4,7 +4,7 @@ ghost use Rattle.cx_desk.specs.Outside.{asked_in, started_in};
 ghost use Rattle.cx_desk.specs.Memory.{outside_of};
 ghost use Rattle.cx_desk.specs.declared.desk.Slot.TheVariants.{Formula};
 
-use crate::{Desk, Failed, MemDesk, NamedFile, Port, ReadErr, Rooms, Slot, read_whole};
+use cx_desk::{Desk, Failed, MemDesk, NamedFile, Port, ReadErr, Rooms, Slot, read_whole};
 use std::alloc::{AllocError, Global};
 use std::process::Abort;
 use std::test::Fail;
@@ -41,16 +41,16 @@ fn start(rt: &impl Abort, alloc: Global, desk: &mut MemDesk) -> Result<(), Alloc
 #[test]
 fn a_text_is_read_up_to_the_limit(rt: HostRuntime) -> Result<(), Fail> {
     let alloc = rt.alloc();
-    for limit in [5, 4] {
+    for limit in [u64::MAX, 5, 4, 0] {
         let mut desk = desk(alloc, WIDE, 2, &[])?;
         start(&rt, alloc, &mut desk)?;
         match read_whole(alloc, &mut desk, Slot::Formula, limit) {
             Ok(text) => {
-                assert_eq!(rt; limit, 5);
+                assert!(rt; limit >= 5);
                 assert_eq!(rt; text.as_slice(), b"abcde".as_slice());
             }
             Err(why) => {
-                assert_eq!(rt; limit, 4);
+                assert!(rt; limit < 5);
                 assert_eq!(rt; why, ReadErr::TooLong);
             }
         }

@@ -1,6 +1,6 @@
 use Rattle.std.proofs.Common.{◌≡◌, false}
 use Rattle.proof_text.specs.Texts.{is_spent_by}
-use Rattle.proof_text.proofs.tests.printed.Given as goal
+use Rattle.text_tests.proofs.proof_steps.give_all.Given as goal
 
 abbrev pub invariant-loop : goal.invariant-loop
-invariant-loop l = is_spent_by l.source.refused ≡ false
+invariant-loop g l = is_spent_by l.source.refused ≡ false

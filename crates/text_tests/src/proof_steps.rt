@@ -4,11 +4,11 @@ ghost use Rattle.cx_semantics.specs.Printed.{HasProofText};
 ghost use Rattle.proof_text.specs.Texts.{is_spent_by};
 ghost use Rattle.proof_text.specs.Told.{is_whole, Prints};
 
-use super::{
+use cx_desk::{Desk, MemDesk, Port, Rooms};
+use proof_text::{
     DeskProof, ListProof, ProofSink, ProofStep, ProofText, SinkFault, StepSource, TextRefusal,
     put_proof_step,
 };
-use cx_desk::{Desk, MemDesk, Port, Rooms};
 use std::test::Fail;
 
 /// The printed steps of a text of at most sixteen, and the refusal that it ends with.

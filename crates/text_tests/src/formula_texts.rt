@@ -1,5 +1,5 @@
 //! Worked texts: what is refused and where, and what is read.
-use super::{ReadRefusal, read_formula};
+use cnfx_reader::{ReadRefusal, read_formula};
 use cx_base::{ConstraintRef, Lit};
 use std::test::Fail;
 
@@ -21,8 +21,8 @@ fn shown(rt: &HostRuntime, text: &[u8]) -> Result<String, Fail> {
     let formula = read_formula(rt.alloc(), text)?;
     let vars = formula.vars();
     let mut out = format!(in rt.alloc(); "{vars}")?;
-    for place in 0..formula.len() {
-        match formula.item(place) {
+    for item in formula.items() {
+        match item {
             ConstraintRef::Clause(lits) => {
                 out.push_str(":")?;
                 show_lits(&mut out, lits)?;

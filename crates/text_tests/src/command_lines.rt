@@ -1,5 +1,5 @@
 //! Command lines, and what they ask for.
-use crate::{Kind, Plan, PlanRefusal, plan};
+use cx_words::{Kind, Plan, PlanRefusal, plan};
 use std::alloc::{AllocError, Global};
 use std::process::Abort;
 use std::test::Fail;

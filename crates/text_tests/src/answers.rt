@@ -1,7 +1,7 @@
 //! Worked answers: what is printed, and what is read or refused.
-use super::{AnswerRefusal, put_answer, read_answer};
 use cx_base::{Formula, FormulaBuilder, Lit, Var};
 use cx_desk::{MemDesk, Port, Rooms};
+use model_out::{AnswerRefusal, put_answer, read_answer};
 use std::alloc::{AllocError, Global};
 use std::test::Fail;
 

@@ -2,10 +2,10 @@
 ghost use Rattle.cx_semantics.specs.declared.steps.LogEvent.TheVariants.{Step};
 ghost use Rattle.cx_semantics.specs.Printed.{HasText};
 
-use super::{
+use cx_desk::{MemDesk, Port, Rooms};
+use log_text::{
     ListLog, LogSink, LogStep, LogText, NoLog, StepSource, TextRefusal, put_log, put_log_step,
 };
-use cx_desk::{MemDesk, Port, Rooms};
 use std::test::Fail;
 
 /// What was printed of a log, step by step and as a whole, and the refusal that it ends with.

@@ -1,0 +1,17 @@
+//! Worked examples of texts, as tests: formulas, command lines, proofs, logs and answers, and the desk that they pass.
+#![tactic(auto)]
+
+#[cfg(test)]
+mod answers;
+#[cfg(test)]
+mod command_lines;
+#[cfg(test)]
+mod desks;
+#[cfg(test)]
+mod formula_texts;
+#[cfg(test)]
+mod formulas;
+#[cfg(test)]
+mod log_steps;
+#[cfg(test)]
+mod proof_steps;
