@@ -3,3 +3,4 @@ pub mod LevelLaws
 pub mod TruthLaws
 pub mod KeptLaws
 pub mod ValueLaws
+pub mod RenamingLaws

@@ -2,6 +2,7 @@
 #![tactic(auto)]
 
 mod entry;
+mod renaming;
 mod trail;
 
 pub use entry::{Entry, Reason, Truth};

@@ -1,18 +1,20 @@
 //! The trail.
-ghost use Rattle.std.specs.Prelude.{◌≡◌, ◌+◌, ◌-◌, ◌<◌, ◌≤◌, ◌≢◌, ◌++◌, ◌∷◌, [], ◌↔◌, length, take, get_or, slice_set, slice_index, IfOk, MatchOption, IsTrue, MatchBool, not, ℕ};
+ghost use Rattle.std.specs.Prelude.{◌≡◌, ◌+◌, ◌-◌, ◌<◌, ◌≤◌, ◌≢◌, ◌++◌, ◌∷◌, [], ◌↔◌, length, map, take, get_or, slice_set, slice_index, IfOk, MatchOption, IsTrue, MatchBool, not, ℕ};
 ghost use Rattle.cx_base.specs.Literals.{Literal, negate, code_of};
 ghost use Rattle.cx_base.specs.declared.literal.TheConstants.{MAX_VARIABLE};
 ghost use Rattle.cx_trail.specs.Sequence.{TrailState, IsTrail, IsOpenIn, IsAssignedIn, IsTrueIn, IsFalseIn, Means, HasEntry, entry_at, pushed, TakesBack, IsFull, HasOpen};
 ghost use Rattle.cx_trail.specs.Cells.{ArePaired, AreApart, AreTruths, var_at};
+ghost use Rattle.cx_trail.specs.Renaming.{renamed};
 
 use crate::entry::{Entry, Reason, Truth};
-use cx_base::{Lit, Var};
+use crate::renaming::rename_entries;
+use cx_base::{Lit, Moved, Var};
 use std::alloc::{AllocError, Global};
 use std::marker::Model;
 
 /// Assigned literals in order, with levels and reasons.
 ///
-/// It takes its memory when it is made. Each call takes constant time but `back_to`, whose time is in what it takes back.
+/// It takes its memory when it is made. Each call takes constant time but `back_to`, whose time is in what it takes back, and `rename`.
 #[derive(Drop)]
 pub struct Trail {
     vars: u32,
@@ -286,5 +288,15 @@ impl Trail {
     {
         self.count = cut(&self.cells, &mut self.truths, self.count, level);
         self.depth = level;
+    }
+
+    /// Gives each reason that is a clause the clause's new reference. A reference that has not moved stays.
+    ///
+    /// Its time is in the assigned literals. It takes no memory.
+    pub fn rename(&mut self, moved: &Moved)
+        ensures renamed { self.new ≡ record self.old { entries = map (renamed moved.now) self.old.entries } }
+        ensures sound { IsTrail self.new }
+    {
+        rename_entries(&mut self.cells, self.count, moved);
     }
 }
