@@ -2,9 +2,11 @@
 ghost use Rattle.std.specs.Prelude.{◌≡◌, ◌+◌, ◌-◌, ◌<◌, ◌≤◌, ◌^◌, ◌++◌, ◌∷◌, [], ◌↔◌, length, map, None, Some, slice_set, MatchResult, IfOk, OnOk, OnErr, IsOk, IsTrue, min};
 ghost use Rattle.clause_arena.specs.Clauses.{Stored, ArenaState, clause_at, literals_at, id_at, lbd_at, learned_at, IsLive};
 ghost use Rattle.std.specs.Prelude.{vec_len, vec_capacity, take};
+ghost use Rattle.clause_arena.specs.Compact.{IsRenamed};
 
 use crate::head::Head;
-use cx_base::{ClauseRef, Lit};
+use crate::packing::pack;
+use cx_base::{ClauseRef, Lit, Moved};
 use std::alloc::{AllocError, Global};
 use std::marker::Model;
 
@@ -194,5 +196,27 @@ impl Arena {
     {
         let place = reference.place() as usize;
         self.heads[place].live = false;
+    }
+
+    /// Lets go of what was removed. The clauses that are left have new references, from 0 on and in the order of the old ones.
+    ///
+    /// Its time is in the clauses and literals. Without memory the arena stays as it is.
+    pub fn compact(&mut self) -> Result<Moved, AllocError>
+        ensures renamed { IfOk result (λ moved. IsRenamed self.old self.new moved) }
+        ensures room { (self.old.clause_room ≤ self.new.clause_room) × (self.old.literal_room ≤ self.new.literal_room) }
+        ensures same { OnErr result (self.new ≡ self.old) }
+    {
+        let alloc = *self.heads.allocator();
+        let most = self.heads.capacity().min(MAX_CLAUSES);
+        let mut packed = Arena::make(alloc);
+        packed.reserve(most, self.lits.capacity())?;
+        let mut moves = Vec::with_capacity(alloc, self.heads.len())?;
+        pack(self, &mut packed, &mut moves)?;
+        packed.reserve(
+            most - self.heads.len(),
+            self.lits.capacity() - self.lits.len(),
+        )?;
+        *self = packed;
+        Ok(Moved::from_vec(moves))
     }
 }
