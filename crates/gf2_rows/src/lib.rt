@@ -8,8 +8,6 @@
 mod lanes;
 pub mod plain;
 mod position;
-#[cfg(test)]
-mod tests;
 
 pub use lanes::{add_into, first_outside, parity_and};
 pub use plain::ones;
