@@ -22,7 +22,7 @@ use Rattle.cx_trail.specs.Sequence.{TrailState, IsTrail, IsAssignedIn}
 use Rattle.parity_engine.specs.State.{State}
 use Rattle.parity_engine.specs.Equations.{parity_number, numbered}
 use Rattle.parity_engine.specs.Written.{IsWritten, AreRising}
-use Rattle.parity_engine.proofs.Columns.{rising_low}
+use Rattle.parity_engine.proofs.Rising.{rising_low}
 use Rattle.xor_reason.specs.declared.reason.ReasonOf.{ReasonOf}
 use Rattle.xor_reason.proofs.ClauseLaws.{contains_written, has_written}
 use Rattle.search_steps.specs.Search.{Search, IsSearch, told}

@@ -3,7 +3,7 @@
 //! A [`Matrix`] is made of parities: a column for each variable that occurs in a normal form, and a row for each
 //! parity. Each row keeps a bit for each given parity that it is the sum of, through every pivot. Parities that
 //! share variables, directly or by others between them, make up a part, and a row has words for the columns and the
-//! parities of its part alone.
+//! parities of its part alone. A [`RowView`] looks at a row.
 #![tactic(auto)]
 
 mod labels;
@@ -11,6 +11,8 @@ mod make;
 mod matrix;
 mod packed;
 mod sources;
+mod view;
 
 pub use make::clear_words;
 pub use matrix::Matrix;
+pub use view::{RowView, place_of};

@@ -19,7 +19,7 @@ use Rattle.cx_semantics.proofs.Members.{has_at_head, has_behind, has_split}
 use Rattle.cx_semantics.proofs.Widths.{variable_in, length-variables, variables}
 use Rattle.cx_trail.specs.Sequence.{TrailState, IsTrail, IsTrueIn, IsFalseIn}
 use Rattle.parity_engine.specs.Written.{IsWritten, Rises}
-use Rattle.parity_engine.proofs.Columns.{none_below, rising_low}
+use Rattle.parity_engine.proofs.Rising.{none_below, rising_low}
 use Rattle.xor_reason.specs.LiteralChoice.{IsLiteralFor, AreLiteralsFor}
 use Rattle.xor_reason.specs.ReasonClause.{AgreesWithTrail, AreFalseBut, IsReasonFor, IsReasonClause}
 use Rattle.xor_reason.proofs.TrailValues.{trail_values, trail_values_agree, false_under}
