@@ -3,6 +3,7 @@ pub mod Resized
 pub mod Events
 pub mod Kept
 pub mod RowKinds
+pub mod Copies
 pub mod ScratchSteps
 pub mod ScratchEvents
 pub mod Writable

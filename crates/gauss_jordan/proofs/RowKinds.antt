@@ -1,19 +1,15 @@
 -- From the masks of columns to what follows from the parities.
-use Rattle.std.proofs.Common.{◌≡◌, ◌≢◌, ℕ, ◌+◌, ◌-◌, ◌*◌, ◌<◌, zero, suc, Bool, true, false, not, List, [], ◌∷◌, map, length, get_or, Some, None, ◌⊎◌, inl, inr, refl, sym, ap, ◌∙◌, subst, arith}
+use Rattle.std.proofs.Common.{◌≡◌, ◌≢◌, ℕ, ◌+◌, ◌-◌, ◌*◌, ◌<◌, zero, suc, Bool, true, false, not, List, [], ◌∷◌, map, length, get_or, Option, Some, None, ◌⊎◌, inl, inr, refl, sym, ap, ◌∙◌, subst, arith}
 use Rattle.std.specs.List.{list_all, AllByRecursion}
 use Rattle.std.proofs.lemmas.Bool.{cases_eq, cases_lt, ne_eqb, eqb-false, cases_Bool}
 use Rattle.std.proofs.lemmas.List.{length-map, get_or-map}
-use Rattle.std.specs.Slice.Scan.{HoldsNowhere}
 use Rattle.cx_base.specs.Literals.{differ}
 use Rattle.cx_base.specs.Problem.{AreWithin, parity_met}
 use Rattle.cx_base.proofs.Differences.{same-differ}
-use Rattle.parity_engine.proofs.Columns.{column-low, column-high}
-use Rattle.gf2_rows.specs.Bits.{bit_of, is_outside}
+use Rattle.gf2_rows.specs.Bits.{bit_of, is_skipped}
 use Rattle.parity_engine.specs.Equations.{Equation, has_term, form_of}
 use Rattle.gf2_matrix.specs.Totals.{total, MeetsEquation}
-use Rattle.gf2_matrix.specs.Content.{Content, no_row, row_at, equation, form, has, IsOpenAt, IsReducedRow, IsOfGiven, AreBitsOf}
-use Rattle.parity_engine.specs.Written.{AreRising}
-use Rattle.gf2_matrix.proofs.Reduce.{found_open, none_open}
+use Rattle.gf2_matrix.specs.Content.{Content, no_row, row_at, equation, form, has, IsOpenAt, IsReducedRow, IsOfGiven, AreColumns}
 use Rattle.gauss_jordan.specs.declared.found.RowKind.TheVariants.{Met, Unmet, Unit, Open}
 use Rattle.gauss_jordan.specs.Rows.{IsFinished, IsUnfinished, part_at}
 use Rattle.parity_engine.specs.State.{State, is_unassigned, IsSilent, IsImplied, IsBroken}
@@ -22,44 +18,40 @@ use Rattle.gauss_jordan.specs.Found.{IsClosed, IsClosedBut, SumsTo, IsKind, IsMa
 use Rattle.gauss_jordan.proofs.Events.{silent_from_quiet, implied_from_unit, broken_from_whole, finished_from_whole, part-at, none_from, length-filled}
 
 -- ---- columns
-columns-apart : (least vars : ℕ) (cols : List ℕ) (j k : ℕ) → AreRising least vars cols → j < k → k < length cols → get_or cols j 0 < get_or cols k 0
-columns-apart least vars [] j k rise jk lt = absurd (omega arith)
-columns-apart least vars (c ∷ cs) zero zero rise jk lt = absurd (omega arith)
-columns-apart least vars (c ∷ cs) zero (suc k) rise jk lt = let h = column-low (c + 1) vars cs k rise.2 (omega arith) in omega arith
-columns-apart least vars (c ∷ cs) (suc j) zero rise jk lt = absurd (omega arith)
-columns-apart least vars (c ∷ cs) (suc j) (suc k) rise jk lt = columns-apart (c + 1) vars cs j k rise.2 (omega arith) (omega arith)
-
 -- different columns are different variables
-columns-differ : (vars : ℕ) (cols : List ℕ) (j k : ℕ) → AreRising 1 vars cols → j < length cols → k < length cols → j ≢ k → get_or cols j 0 - 1 ≢ get_or cols k 0 - 1
-columns-differ vars cols j k rise jl kl ne e =
-    let lowj = column-low 1 vars cols j rise jl in
-    let lowk = column-low 1 vars cols k rise kl in
-    elim (cases_lt j k) [
-      | inl lt ↦ let h = columns-apart 1 vars cols j k rise lt kl in omega arith
-      | inr ge ↦ let h = columns-apart 1 vars cols k j rise (omega arith) jl in omega arith
-    ]
+columns-differ : (vars : ℕ) (cols : List ℕ) (j k : ℕ) → AreColumns vars cols → j < length cols → k < length cols → j ≢ k → get_or cols j 0 - 1 ≢ get_or cols k 0 - 1
+columns-differ vars cols j k are jl kl ne e =
+    let lowj = are.low j jl in
+    let lowk = are.low k kl in
+    ne (are.apart j k jl kl (omega arith))
 
 -- ---- one row
-pub closed_but : (c : Content) (assigned words : List ℕ) (r k : ℕ) → AreBitsOf c r words → HoldsNowhere (is_outside words assigned (Some k)) 0 (64 * length words)
-    → IsClosedBut c assigned r k
-closed_but c assigned words r k bits nowhere x o ne =
-    let j : ℕ = o.0 in
-    let other : k ≡ j → ⊥ = λ e. ne (sym o.3 ∙ ap (λ i. get_or c.columns i 0 - 1) (sym e)) in
-    subst (λ y. has (row_at c.rows r) y ≡ false) o.3 (none_open c assigned words r (Some k) bits nowhere j o.1 o.2 (ne_eqb k j other))
+-- a search that found no column
+pub closed_from : (c : Content) (assigned : List ℕ) (r : ℕ)
+    → ((k : ℕ) → k < length c.columns → bit_of assigned k ≡ false → is_skipped None k ≡ false → has (row_at c.rows r) (get_or c.columns k 0 - 1) ≡ false) → IsClosed c assigned r
+closed_from c assigned r none x o = subst (λ y. has (row_at c.rows r) y ≡ false) o.3 (none o.0 o.1 o.2 refl)
 
-pub two_open : (c : Content) (assigned words : List ℕ) (r j k : ℕ) → IsOfGiven c → AreBitsOf c r words → is_outside words assigned None j ≡ true
-    → is_outside words assigned (Some j) k ≡ true → IsKind c assigned [] r Open
-two_open c assigned words r j k of_given bits hit_j hit_k =
-    let a = found_open c assigned words r j None bits hit_j in
-    let b = found_open c assigned words r k (Some j) bits hit_k in (
-      get_or c.columns j 0 - 1,
-      get_or c.columns k 0 - 1,
-      (j, a.0, a.1, refl),
-      (k, b.0, b.1, refl),
-      (λ e. columns-differ c.vars c.columns j k of_given.columns_rise a.0 b.0 (eqb-false j k b.3) (sym e)),
-      a.2,
-      b.2,
-    )
+pub closed_but : (c : Content) (assigned : List ℕ) (r j : ℕ)
+    → ((k : ℕ) → k < length c.columns → bit_of assigned k ≡ false → is_skipped (Some j) k ≡ false → has (row_at c.rows r) (get_or c.columns k 0 - 1) ≡ false) → IsClosedBut c assigned r j
+closed_but c assigned r j none x o ne =
+    let k : ℕ = o.0 in
+    let other : j ≡ k → ⊥ = λ e. ne (sym o.3 ∙ ap (λ i. get_or c.columns i 0 - 1) (sym e)) in
+    subst (λ y. has (row_at c.rows r) y ≡ false) o.3 (none k o.1 o.2 (ne_eqb j k other))
+
+-- a column that a search found
+abbrev pub IsSeen : Content → List ℕ → ℕ → Option ℕ → ℕ → Type 0
+IsSeen c assigned r skip k = (k < length c.columns) × (bit_of assigned k ≡ false) × (is_skipped skip k ≡ false) × (has (row_at c.rows r) (get_or c.columns k 0 - 1) ≡ true)
+
+pub two_open : (c : Content) (assigned : List ℕ) (r j k : ℕ) → IsOfGiven c → IsSeen c assigned r None j → IsSeen c assigned r (Some j) k → IsKind c assigned [] r Open
+two_open c assigned r j k of_given a b = (
+  get_or c.columns j 0 - 1,
+  get_or c.columns k 0 - 1,
+  (j, a.0, a.1, refl),
+  (k, b.0, b.1, refl),
+  (λ e. columns-differ c.vars c.columns j k of_given.columns_are a.0 b.0 (eqb-false j k b.2) (sym e)),
+  a.3,
+  b.3,
+)
 
 -- ---- all rows
 module _ (c : Content) (of_given : IsOfGiven c) (assigned truths : List ℕ) (s : State) (masked : IsMasked s c assigned truths) where
@@ -138,8 +130,8 @@ module _ (c : Content) (of_given : IsOfGiven c) (assigned truths : List ℕ) (s 
 
   in_vars : (x : ℕ) → IsOpenAt c assigned x → x < s.vars
   in_vars x o =
-      let low = column-low 1 c.vars c.columns o.0 of_given.columns_rise o.1 in
-      let high = column-high 1 c.vars c.columns o.0 of_given.columns_rise o.1 in
+      let low = of_given.columns_are.low o.0 o.1 in
+      let high = of_given.columns_are.high o.0 o.1 in
       let at = o.3 in
       let v = masked.vars in
       omega arith
@@ -199,7 +191,7 @@ module _ (c : Content) (of_given : IsOfGiven c) (assigned truths : List ℕ) (s 
   implied r k b lt kind =
       let x : ℕ = get_or c.columns k 0 - 1 in
       let o : IsOpenAt c assigned x = (k, kind.0, kind.1, refl) in
-      let low = column-low 1 c.vars c.columns k of_given.columns_rise kind.0 in
+      let low = of_given.columns_are.low k kind.0 in
       let at : x + 1 ≡ get_or c.columns k 0 = omega arith in
       let unit : IsOneOpen s (has_term (equation_at rows r)) x =
       subst (λ (e : Equation). IsOneOpen s (has_term e) x) (sym (row-is r lt))

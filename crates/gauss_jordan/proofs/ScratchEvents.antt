@@ -1,9 +1,9 @@
 -- The events of an engine with copies of its named rows.
-use Rattle.std.proofs.Common.{◌≡◌, ◌≢◌, ℕ, ◌+◌, ◌-◌, ◌<◌, ◌≤◌, zero, suc, Bool, true, false, not, List, [], ◌∷◌, ◌++◌, map, length, length-append, get_or, set, Option, Some, None, unwrap_or, inl, inr, refl, sym, ap, ◌∙◌, subst, arith}
+use Rattle.std.proofs.Common.{◌≡◌, ◌≢◌, ℕ, ◌+◌, ◌-◌, ◌<◌, ◌≤◌, zero, suc, Bool, true, false, not, ◌&&◌, List, [], ◌∷◌, ◌++◌, map, length, length-append, get_or, set, Option, Some, None, unwrap_or, inl, inr, refl, sym, ap, ◌∙◌, subst, arith}
 use Rattle.std.specs.Prelude.{replicate, ◌^◌}
 use Rattle.std.proofs.Math.ListN.{length-set, get_or-eq_default}
 use Rattle.std.proofs.Math.Seq.{get_or-append_seam}
-use Rattle.std.specs.List.{AllByRecursion}
+use Rattle.std.specs.List.{AllByRecursion, range_with_len}
 use Rattle.std.proofs.lemmas.List.{length-map, get_or-set_same, get_or-set_other, get_or-map, get_or_append_left}
 use Rattle.std.proofs.lemmas.List.FromFn.{length-map-range_with_len}
 use Rattle.std.proofs.lemmas.Bool.{cases_eq, cases_lt}
@@ -11,13 +11,13 @@ use Rattle.cx_base.specs.Literals.{Literal, differ}
 use Rattle.cx_base.specs.declared.literal.TheConstants.{MAX_VARIABLE}
 use Rattle.cx_base.specs.Problem.{AreWithin}
 use Rattle.gf2_rows.specs.Bits.{bit_of}
-use Rattle.parity_engine.specs.Equations.{Equation, form_of, numbers_from, sum_of_numbers}
+use Rattle.parity_engine.specs.Equations.{Equation, form_of, sum_of_numbers}
 use Rattle.gf2_matrix.specs.Totals.{total}
-use Rattle.gf2_matrix.specs.Content.{Content, IsOfGiven, IsSameShape, row_at, form, source_numbers, sources_of}
-use Rattle.parity_engine.specs.Views.{words_for}
-use Rattle.parity_engine.specs.Columns.{place}
-use Rattle.parity_engine.specs.Views.{viewed, viewed_form}
-use Rattle.gf2_matrix.proofs.ColumnSums.{packed_sum}
+use Rattle.gf2_rows.proofs.Words.{range_same}
+use Rattle.gf2_matrix.specs.Content.{Content, SourcedRow, IsOfGiven, IsSameShape, row_at, equation, form, source_numbers}
+use Rattle.gf2_matrix.specs.Views.{words_for}
+use Rattle.gf2_matrix.proofs.Products.{total-over}
+use Rattle.cx_base.specs.Parity.{odd_sum}
 use Rattle.gauss_jordan.specs.declared.slot.Slot.{Slot}
 use Rattle.gauss_jordan.specs.declared.slot.Naming.{Naming}
 use Rattle.parity_engine.specs.declared.state.Held.{Held}
@@ -26,12 +26,12 @@ use Rattle.parity_engine.specs.declared.state.Mood.TheVariants.{Busy, Calm, Brok
 use Rattle.parity_engine.specs.State.{State, Named, is_unassigned, IsSilent, IsImplied, IsBroken, IsNamedNow, IsSameNamed, fresh, names, named_at}
 use Rattle.parity_engine.specs.Written.{AreRising}
 use Rattle.parity_engine.proofs.Known.{none_is}
-use Rattle.parity_engine.proofs.Columns.{numbers_rise}
+use Rattle.parity_engine.proofs.Rising.{numbers_rise}
 use Rattle.gauss_jordan.specs.System.{just_value, has_at, filled, IsOneOpen}
 use Rattle.gauss_jordan.specs.declared.found.Found.TheVariants as found
 use Rattle.gauss_jordan.specs.Found.{IsMasked, Shows}
 use Rattle.gauss_jordan.specs.Right.{IsRightState, column_at}
-use Rattle.gauss_jordan.specs.Slots.{named_as, named_of, state_of, value_or_false, AreMasks, IsSlotOf, IsEmptySlot, IsCopy, IsNamedSlot, IsSlotSum, IsScratch}
+use Rattle.gauss_jordan.specs.Slots.{first_bits, row_of, named_as, named_of, state_of, value_or_false, AreMasks, IsSlotOf, IsEmptySlot, IsCopy, IsNamedSlot, IsSlotSum, IsScratch}
 use Rattle.gauss_jordan.proofs.Events.{at_column, filled-at, part-at, length-filled, implied_by_equation}
 use Rattle.gauss_jordan.proofs.Kept.{summed, right_fresh, right_quiet, right_implied, right_broken}
 
@@ -50,12 +50,19 @@ value-is : (o : Option Held) → value_or_false o ≡ unwrap_or (just_value o) f
 value-is None = refl
 value-is (Some h) = refl
 
-refit : (c d : Content) (slot : Slot) → c.columns ≡ d.columns → c.given ≡ d.given → IsSlotOf c slot → IsSlotOf d slot
-refit c d slot ec eg f = record {
-  words = f.words ∙ ap (λ cs. words_for (length cs)) ec;
+refit : (c d : Content) (slot : Slot) → c.vars ≡ d.vars → c.given ≡ d.given → IsSlotOf c slot → IsSlotOf d slot
+refit c d slot ev eg f = record {
+  terms = f.terms ∙ ap words_for ev;
   sources = f.sources ∙ ap (λ gs. words_for (length gs)) eg;
-  padded = λ k ge. f.padded k (subst (λ cs. length cs ≤ k) (sym ec) ge);
+  padded = λ k ge. f.padded k (subst (λ n. n ≤ k) (sym ev) ge);
 }
+
+-- what the copy of a row is named for
+pub copy_named : (c : Content) (row : ℕ) (m : Naming) (slot : Slot) → IsCopy c row m slot
+    → named_of c slot ≡ Some (record { level = m.level; in_conflict = m.in_conflict; form = form (row_at c.rows row); sources = source_numbers (row_at c.rows row) })
+copy_named c row m slot copy =
+    ap (named_as c slot) copy.naming_is
+    ∙ ap (λ (r : SourcedRow). let o : Option Named = Some (record { level = m.level; in_conflict = m.in_conflict; form = form r; sources = source_numbers r }) in o) copy.row_is
 
 module _ (c : Content) (level : ℕ) (held : List (Option Held)) (on ts : List ℕ) (slots : List Slot) (mood : Mood)
     (is : IsScratch c level held on ts slots mood) (whole : mood ≢ Broken) (filled_in : AreMasks c.columns held on ts (length c.columns)) where
@@ -116,7 +123,7 @@ module _ (c : Content) (level : ℕ) (held : List (Option Held)) (on ts : List �
         of_given = is.of_given;
         few = is.few;
         few_given = is.few_given;
-        right = subst (IsRightState c.columns) (sym (state_named (length c.columns) slot n index Broken copy.named at))
+        right = subst (IsRightState c.columns) (sym (state_named (length c.columns) slot n index Broken (copy_named c row (record { level = level; in_conflict = true }) slot copy) at))
             (right_broken c.columns (state_of c level held slots mood) index n is.right at (named_now row lt true) broken);
         assigned_long = is.assigned_long;
         truths_long = is.truths_long;
@@ -141,7 +148,7 @@ module _ (c : Content) (level : ℕ) (held : List (Option Held)) (on ts : List �
     pub now : IsNamedNow (state_of c level held slots mood) n false
     pub has : has_at n.form (column_at c.columns k) ≡ true
     pub others : (y : ℕ) → y ≢ column_at c.columns k → has_at n.form y ≡ true → is_unassigned (get_or held y None) ≡ false
-    pub viewed_is : n.form ≡ viewed_form c.vars c.columns slot.words.items slot.right
+    pub kept_is : n.form ≡ form (row_of c slot)
 
   named-at : (k : ℕ) (d : Slot) → k < length slots → get_or (map (named_of c) slots) k None ≡ named_of c (get_or slots k d)
   named-at k d lt = get_or-map (named_of c) slots k d None lt
@@ -152,13 +159,10 @@ module _ (c : Content) (level : ℕ) (held : List (Option Held)) (on ts : List �
       → ((y : ℕ) → y ≢ column_at c.columns k → has_at (form (row_at c.rows row)) y ≡ true → is_unassigned (get_or held y None) ≡ false)
       → (n : Named) × IsFit k slot n
   fit_copy k row slot d in' lt copy none has_x others =
-      let n : Named = record { level = level; in_conflict = false; form = form (row_at c.rows row); sources = source_numbers (row_at c.rows row) } in
-      let made : named_of c slot ≡ Some (record { level = level; in_conflict = false; form = viewed_form c.vars c.columns slot.words.items slot.right; sources = numbers_from 1 (sources_of (length c.given) slot.sources.items) }) =
-      ap (named_as c slot) copy.naming_is in
-      let eq : form (row_at c.rows row) ≡ viewed_form c.vars c.columns slot.words.items slot.right = ap (λ (o : Option Named). (unwrap_or o n).form) (sym copy.named ∙ made) in (
+      let n : Named = record { level = level; in_conflict = false; form = form (row_at c.rows row); sources = source_numbers (row_at c.rows row) } in (
         n,
         record {
-          named = copy.named;
+          named = copy_named c row (record { level = level; in_conflict = false }) slot copy;
           fits = copy.fits;
           same = λ index at.
               subst (λ o. IsSameNamed o n)
@@ -166,7 +170,7 @@ module _ (c : Content) (level : ℕ) (held : List (Option Held)) (on ts : List �
           now = named_now row lt false;
           has = has_x;
           others = others;
-          viewed_is = eq;
+          kept_is = ap form (sym copy.row_is);
         },
       )
 
@@ -175,7 +179,7 @@ module _ (c : Content) (level : ℕ) (held : List (Option Held)) (on ts : List �
       → get_or held (column_at c.columns k) None ≡ None → (n : Named) × IsFit k (get_or slots k d) n
   fit_old k d m k_in in' naming free =
       let slot : Slot = get_or slots k d in
-      let n : Named = record { level = m.level; in_conflict = m.in_conflict; form = viewed_form c.vars c.columns slot.words.items slot.right; sources = numbers_from 1 (sources_of (length c.given) slot.sources.items) } in
+      let n : Named = record { level = m.level; in_conflict = m.in_conflict; form = form (row_of c slot); sources = source_numbers (row_of c slot) } in
       let made : named_of c slot ≡ Some n = ap (named_as c slot) naming in
       let at : get_or (map (named_of c) slots) k None ≡ Some n = named-at k d in' ∙ made in
       let ri = is.right in
@@ -192,7 +196,7 @@ module _ (c : Content) (level : ℕ) (held : List (Option Held)) (on ts : List �
             now = record { level_is = pending.0; kind_is = r.in_conflict; numbers = let u = r.summed in u.0; sums = let u = r.summed in u.1 };
             has = r.has;
             others = pending.2;
-            viewed_is = refl;
+            kept_is = refl;
           },
         )
       ]
@@ -235,11 +239,11 @@ module _ (c : Content) (level : ℕ) (held : List (Option Held)) (on ts : List �
 
   -- what the named row implies, and the engine that keeps it
   module _ (k : ℕ) (slot : Slot) (n : Named) (told : IsTold k slot n) where
-    pub fit_implied : (b : Bool) → IsSlotSum slot ts b
+    pub fit_implied : (b : Bool) → IsSlotSum slot held (length held) b
         → IsImplied (state_of c level held slots mood) (record { variable = get_or c.columns k 0; negative = not b }) n.form
     fit_implied b sums =
         let s : State = state_of c level held slots mood in
-        let e : Equation = viewed c.vars c.columns slot.words.items slot.right in
+        let e : Equation = equation (row_of c slot) in
         let ri = is.right in
         let x : ℕ = column_at c.columns k in
         let fit = told.fit in
@@ -248,16 +252,20 @@ module _ (c : Content) (level : ℕ) (held : List (Option Held)) (on ts : List �
         let back : x + 1 ≡ get_or c.columns k 0 = omega arith in
         let unit : IsOneOpen s (has_at n.form) x = record { within = omega arith; has_it = fit.has; unassigned = ap is_unassigned told.free; others = fit.others } in
         let long : length (filled s) ≡ c.vars = length-filled s ∙ ri.wide in
-        let f = fit.fits in
         let value : differ (total e (filled s)) e.right ≡ b =
-        ap (λ q. differ q slot.right) (sym (packed_sum c slot.words.items ts (filled s) is.of_given.columns_rise f.words f.padded (f.words ∙ sym is.truths_long) long masked.holds)) ∙ sums in
+        ap (λ q. differ q slot.right)
+        (total-over (filled s) c.vars (bit_of slot.terms.items) long
+        ∙ ap odd_sum (range_same (λ y. bit_of slot.terms.items y && get_or (filled s) y false) (λ y. bit_of slot.terms.items y && value_or_false (get_or held y None)) 0 c.vars
+        (λ y low' high'. ap (λ q. bit_of slot.terms.items y && q) (filled-at s y ∙ ap (λ o. unwrap_or o false) (part-at s y) ∙ sym (value-is (get_or held y None)))))
+        ∙ ap (λ n. odd_sum (map (λ y. bit_of slot.terms.items y && value_or_false (get_or held y None)) (range_with_len 0 n))) (sym ri.wide))
+        ∙ sums in
         let nw = fit.now in
-        let long_e : length e.terms ≡ c.vars = length-map-range_with_len (λ y. bit_of slot.words.items (place c.columns (y + 1))) 0 c.vars in
-        subst (λ g. IsImplied s (record { variable = get_or c.columns k 0; negative = not b }) g) (sym fit.viewed_is)
+        let long_e : length e.terms ≡ c.vars = length-map-range_with_len (bit_of slot.terms.items) 0 c.vars in
+        subst (λ g. IsImplied s (record { variable = get_or c.columns k 0; negative = not b }) g) (sym fit.kept_is)
         (subst (λ v. IsImplied s (record { variable = v; negative = not b }) (form_of e)) back
         (subst (λ q. IsImplied s (record { variable = x + 1; negative = not q }) (form_of e)) value
-        (implied_by_equation s e n.sources x ri.within ri.wide long_e nw.numbers (sym fit.viewed_is ∙ nw.sums)
-        (subst (λ g. IsOneOpen s (has_at g) x) fit.viewed_is unit))))
+        (implied_by_equation s e n.sources x ri.within ri.wide long_e nw.numbers (sym fit.kept_is ∙ nw.sums)
+        (subst (λ g. IsOneOpen s (has_at g) x) fit.kept_is unit))))
 
     pub fit_kept : (index : ℕ) → index ≡ k → IsScratch c level held on ts (set slots k slot) Busy
     fit_kept index at =
@@ -305,16 +313,16 @@ refreshed c d level held masks truths on ts slots mood is shape of_given on_long
     })
 
 -- ---- lists of sources
-named-sources : (c : Content) (slot : Slot) (o : Option Naming) (n : Named) → named_as c slot o ≡ Some n → numbers_from 1 (sources_of (length c.given) slot.sources.items) ≡ n.sources
+named-sources : (c : Content) (slot : Slot) (o : Option Naming) (n : Named) → named_as c slot o ≡ Some n → source_numbers (row_of c slot) ≡ n.sources
 named-sources c slot None n is = cc
 named-sources c slot (Some m) n is = ap (λ (p : Option Named). (unwrap_or p n).sources) is
 
-sources-are : (c : Content) (slot : Slot) (n : Named) → named_of c slot ≡ Some n → numbers_from 1 (sources_of (length c.given) slot.sources.items) ≡ n.sources
+sources-are : (c : Content) (slot : Slot) (n : Named) → named_of c slot ≡ Some n → source_numbers (row_of c slot) ≡ n.sources
 sources-are c slot n is = named-sources c slot slot.naming n is
 
 pub sources_listed : (c : Content) (level : ℕ) (held : List (Option Held)) (masks truths : List ℕ) (slots : List Slot) (mood : Mood)
     → IsScratch c level held masks truths slots mood → (index : ℕ) (d : Slot) (numbers : List ℕ)
-    → numbers ≡ numbers_from 1 (sources_of (length c.given) (let e : Slot = get_or slots index d in e.sources.items)) → (n : Named)
+    → numbers ≡ source_numbers (row_of c (get_or slots index d)) → (n : Named)
     → named_at (state_of c level held slots mood) index ≡ Some n
     → (numbers ≡ n.sources) × AreRising 1 (length c.given) numbers × (n.form ≡ sum_of_numbers c.given numbers)
 sources_listed c level held masks truths slots mood is index d numbers listed n named =
@@ -329,6 +337,22 @@ sources_listed c level held masks truths slots mood is index d numbers listed n 
     let at : named_of c (get_or slots k d) ≡ Some n = sym (get_or-map (named_of c) slots k d None inside) ∙ named in
     let same : numbers ≡ n.sources = listed ∙ sources-are c (get_or slots k d) n at in
     (same, subst (AreRising 1 (length c.given)) (sym same) sum.0, sum.1 ∙ ap (sum_of_numbers c.given) (sym same))
+
+-- ---- a look at a named row
+named-form : (c : Content) (slot : Slot) (o : Option Naming) (n : Named) → named_as c slot o ≡ Some n → form (row_of c slot) ≡ n.form
+named-form c slot None n is = cc
+named-form c slot (Some m) n is = ap (λ (p : Option Named). (unwrap_or p n).form) is
+
+pub slot_seen : (c : Content) (level : ℕ) (held : List (Option Held)) (masks truths : List ℕ) (slots : List Slot) (mood : Mood)
+    → IsScratch c level held masks truths slots mood → (index : ℕ) (d : Slot) (n : Named) → named_at (state_of c level held slots mood) index ≡ Some n
+    → IsSlotOf c (get_or slots index d) × (form (row_of c (get_or slots index d)) ≡ n.form)
+slot_seen c level held masks truths slots mood is index d n named =
+    let inside : index < length slots =
+    elim (cases_lt index (length slots)) [
+      | inl lt ↦ lt
+      | inr ge ↦ absurd (let clash : None ≡ Some n = sym (get_or-eq_default (map (named_of c) slots) None (omega (arith, length-map slots (named_of c)))) ∙ named in cc)
+    ] in
+    (is.fits index d inside, named-form c (get_or slots index d) (let e : Slot = get_or slots index d in e.naming) n (sym (get_or-map (named_of c) slots index d None inside) ∙ named))
 
 -- ---- an event after a contradiction
 set_same : {A : Type 0} (xs : List A) (k : ℕ) (a d : A) → k < length xs → get_or xs k d ≡ a → set xs k a ≡ xs
@@ -354,18 +378,18 @@ broken_again columns s row right is at =
     )
 
 -- ---- slots at the start
-pub record AreEmpty (columns count : ℕ) (slots : List Slot) (n : ℕ) : Type 0 where
+pub record AreEmpty (vars count : ℕ) (slots : List Slot) (n : ℕ) : Type 0 where
   pub long : length slots ≡ n
-  pub each : (k : ℕ) (d : Slot) → k < n → IsEmptySlot columns count (get_or slots k d)
+  pub each : (k : ℕ) (d : Slot) → k < n → IsEmptySlot vars count (get_or slots k d)
 
-pub empty_none : (columns count : ℕ) → AreEmpty columns count [] 0
-empty_none columns count = record { long = refl; each = λ k d lt. absurd (omega arith) }
+pub empty_none : (vars count : ℕ) → AreEmpty vars count [] 0
+empty_none vars count = record { long = refl; each = λ k d lt. absurd (omega arith) }
 
-pub empty_more : (columns count : ℕ) (slots more : List Slot) (n : ℕ) (slot : Slot) → AreEmpty columns count slots n → more ≡ slots ++ slot ∷ [] → IsEmptySlot columns count slot
-    → AreEmpty columns count more (n + 1)
-empty_more columns count slots more n slot before is one =
+pub empty_more : (vars count : ℕ) (slots more : List Slot) (n : ℕ) (slot : Slot) → AreEmpty vars count slots n → more ≡ slots ++ slot ∷ [] → IsEmptySlot vars count slot
+    → AreEmpty vars count more (n + 1)
+empty_more vars count slots more n slot before is one =
     let long = before.long in
-    subst (λ (ss : List Slot). AreEmpty columns count ss (n + 1)) (sym is)
+    subst (λ (ss : List Slot). AreEmpty vars count ss (n + 1)) (sym is)
     (record {
       long = omega (arith, length-append slots (slot ∷ []));
       each = λ k d lt.
@@ -375,23 +399,23 @@ empty_more columns count slots more n slot before is one =
           ];
     })
 
-none_named : (c : Content) (columns count : ℕ) (slots : List Slot) → ((k : ℕ) (d : Slot) → k < length slots → IsEmptySlot columns count (get_or slots k d))
+none_named : (c : Content) (vars count : ℕ) (slots : List Slot) → ((k : ℕ) (d : Slot) → k < length slots → IsEmptySlot vars count (get_or slots k d))
     → map (named_of c) slots ≡ replicate (length slots) None
-none_named c columns count [] empty = refl
-none_named c columns count (slot ∷ slots) empty =
-    (λ i. named_as c slot ((empty 0 slot (omega arith)).unnamed i) ∷ none_named c columns count slots (λ k d lt. empty (suc k) d (omega arith)) i)
+none_named c vars count [] empty = refl
+none_named c vars count (slot ∷ slots) empty =
+    (λ i. named_as c slot ((empty 0 slot (omega arith)).unnamed i) ∷ none_named c vars count slots (λ k d lt. empty (suc k) d (omega arith)) i)
 
 -- the engine as it is made
 pub state_fresh : (c : Content) (vars columns : ℕ) (parities : List (List Literal)) (held : List (Option Held)) (slots : List Slot) → c.vars ≡ vars → c.given ≡ parities
-    → held ≡ replicate vars None → AreEmpty columns (length c.given) slots (columns + 1)
+    → held ≡ replicate vars None → AreEmpty c.vars (length c.given) slots (columns + 1)
     → state_of c 0 held slots Busy ≡ fresh vars parities (columns + 1)
 state_fresh c vars columns parities held slots vars_is given_is held_is empty =
     let named : map (named_of c) slots ≡ replicate (columns + 1) None =
-    none_named c columns (length c.given) slots (λ k d lt. empty.each k d (let h = empty.long in omega arith)) ∙ ap (λ n. replicate n (let o : Option Named = None in o)) empty.long in
+    none_named c c.vars (length c.given) slots (λ k d lt. empty.each k d (let h = empty.long in omega arith)) ∙ ap (λ n. replicate n (let o : Option Named = None in o)) empty.long in
     λ i. record { vars = vars_is i; parities = given_is i; level = 0; values = held_is i; named = named i; mood = Busy }
 
 pub scratch_fresh : (c : Content) (vars : ℕ) (parities : List (List Literal)) (held : List (Option Held)) (on ts : List ℕ) (slots : List Slot) → IsOfGiven c → c.vars ≡ vars → c.given ≡ parities
-    → c.vars ≤ MAX_VARIABLE → length c.given < 2 ^ 32 → held ≡ replicate vars None → AreEmpty (length c.columns) (length c.given) slots (length c.columns + 1)
+    → c.vars ≤ MAX_VARIABLE → length c.given < 2 ^ 32 → held ≡ replicate vars None → AreEmpty c.vars (length c.given) slots (length c.columns + 1)
     → length on ≡ words_for (length c.columns) → length ts ≡ words_for (length c.columns) → IsScratch c 0 held on ts slots Busy
 scratch_fresh c vars parities held on ts slots of_given vars_is given_is few few_given held_is empty on_long ts_long = record {
   of_given = of_given;
@@ -405,10 +429,11 @@ scratch_fresh c vars parities held on ts slots of_given vars_is given_is few few
   truths_long = ts_long;
   fits = λ k d lt.
       let e = empty.each k d (let h = empty.long in omega arith) in
-      record { words = e.words; sources = e.sources; padded = λ j ge. e.clear j };
+      record { terms = e.terms; sources = e.sources; padded = λ j ge. e.clear j };
 }
 
-pub made_empty : (n m columns count : ℕ) (slots : List Slot) → n ≡ columns → m ≡ count → length slots ≡ n + 1
-    → ((k : ℕ) (d : Slot) → k < n + 1 → IsEmptySlot n m (get_or slots k d)) → AreEmpty columns count slots (columns + 1)
-made_empty n m columns count slots e f long each =
-    subst (λ k. AreEmpty k count slots (k + 1)) e (subst (λ k. AreEmpty n k slots (n + 1)) f (record { long = long; each = each }))
+pub made_empty : (n m k vars count columns : ℕ) (slots : List Slot) → n ≡ vars → m ≡ count → k ≡ columns → length slots ≡ k + 1
+    → ((j : ℕ) (d : Slot) → j < k + 1 → IsEmptySlot n m (get_or slots j d)) → AreEmpty vars count slots (columns + 1)
+made_empty n m k vars count columns slots e f g long each =
+    subst (λ j. AreEmpty vars count slots (j + 1)) g
+    (subst (λ v. AreEmpty v count slots (k + 1)) e (subst (λ j. AreEmpty n j slots (k + 1)) f (record { long = long; each = each })))

@@ -3,9 +3,7 @@ use Rattle.std.proofs.Common.{◌≡◌, ◌≢◌, ℕ, ◌+◌, ◌-◌, ◌<�
 use Rattle.std.proofs.Math.ListN.{length-set}
 use Rattle.std.proofs.lemmas.List.{length-map, ext_get_or, get_or-map}
 use Rattle.gf2_rows.specs.Bits.{bit_of}
-use Rattle.parity_engine.specs.Equations.{numbers_from}
-use Rattle.gf2_matrix.specs.Content.{Content, sources_of}
-use Rattle.parity_engine.specs.Views.{viewed_form}
+use Rattle.gf2_matrix.specs.Content.{Content, SourcedRow, form, source_numbers}
 use Rattle.gf2_matrix.proofs.Updates.{changed_more, left_more}
 use Rattle.gauss_jordan.specs.declared.slot.Slot.{Slot}
 use Rattle.gauss_jordan.specs.declared.slot.Naming.{Naming}
@@ -15,7 +13,7 @@ use Rattle.parity_engine.specs.declared.state.Mood.TheVariants.{Busy, Calm, Brok
 use Rattle.parity_engine.specs.State.{Named, keep, keep_named, is_unassigned}
 use Rattle.parity_engine.proofs.Known.{none_is}
 use Rattle.gauss_jordan.specs.Right.{IsRightState}
-use Rattle.gauss_jordan.specs.Slots.{keep_naming, named_as, named_of, state_of, IsKeptSlot, AreKept, IsScratch}
+use Rattle.gauss_jordan.specs.Slots.{keep_naming, first_bits, row_of, named_as, named_of, state_of, IsKeptSlot, AreKept, IsScratch}
 use Rattle.gauss_jordan.proofs.Kept.{right_pushed, right_assigned, right_back}
 
 -- ---- loops
@@ -56,12 +54,13 @@ slots_more level old new k e v before lt is =
 
 -- ---- the state
 -- the row of a slot rests on its words alone
+row-kept : (c : Content) (level : ℕ) (old new : Slot) → IsKeptSlot level old new → row_of c new ≡ row_of c old
+row-kept c level old new kept = λ i. record { terms = first_bits c.vars (kept.terms i); right = kept.right i; sources = first_bits (length c.given) (kept.sources i) }
+
 same_row : (c : Content) (level : ℕ) (old new : Slot) → IsKeptSlot level old new → (m : Option Naming) → named_as c new m ≡ named_as c old m
 same_row c level old new kept None = refl
 same_row c level old new kept (Some m) =
-    ap (λ (ws : List ℕ). let o : Option Named = Some (record { level = m.level; in_conflict = m.in_conflict; form = viewed_form c.vars c.columns ws new.right; sources = numbers_from 1 (sources_of (length c.given) new.sources.items) }) in o) kept.words
-    ∙ ap (λ (b : Bool). let o : Option Named = Some (record { level = m.level; in_conflict = m.in_conflict; form = viewed_form c.vars c.columns old.words.items b; sources = numbers_from 1 (sources_of (length c.given) new.sources.items) }) in o) kept.right
-    ∙ ap (λ (ws : List ℕ). let o : Option Named = Some (record { level = m.level; in_conflict = m.in_conflict; form = viewed_form c.vars c.columns old.words.items old.right; sources = numbers_from 1 (sources_of (length c.given) ws) }) in o) kept.sources
+    ap (λ (r : SourcedRow). let o : Option Named = Some (record { level = m.level; in_conflict = m.in_conflict; form = form r; sources = source_numbers r }) in o) (row-kept c level old new kept)
 
 naming-cases : (c : Content) (slot : Slot) (m : Naming) (b : Bool) → named_as c slot (cond b (Some m) None) ≡ cond b (named_as c slot (Some m)) None
 naming-cases c slot m true = refl
@@ -134,8 +133,8 @@ module _ (c : Content) (level : ℕ) (held : List (Option Held)) (masks truths :
         let f = is.fits k d old in
         let kk = kept.done k d old in
         record {
-          words = ap length kk.words ∙ f.words;
+          terms = ap length kk.terms ∙ f.terms;
           sources = ap length kk.sources ∙ f.sources;
-          padded = λ j ge. ap (λ ws. bit_of ws j) kk.words ∙ f.padded j ge;
+          padded = λ j ge. ap (λ ws. bit_of ws j) kk.terms ∙ f.padded j ge;
         };
   }

@@ -1,7 +1,7 @@
 //! What the rows of a reduced matrix say.
 ghost use Rattle.std.specs.Prelude.{◌≡◌, ℕ, ◌<◌, length};
 ghost use Rattle.gf2_matrix.specs.Content.{IsOfGiven, IsReducedRow};
-ghost use Rattle.parity_engine.specs.Views.{words_for};
+ghost use Rattle.gf2_matrix.specs.Views.{words_for};
 ghost use Rattle.gauss_jordan.specs.Found.{IsKind, Shows, SumsTo};
 
 use gf2_matrix::Matrix;
@@ -43,13 +43,12 @@ fn kind_of(matrix: &Matrix, row: usize, assigned: &[u64], truths: &[u64]) -> Row
     ensures { IsKind matrix.now assigned.now truths.now row result }
 {
     let _rows = matrix.rows();
-    let words = matrix.row_words(row);
     let differs = is_unmet(matrix, row, truths);
-    match gf2_rows::first_outside(words, assigned, None) {
+    match matrix.first_outside(row, assigned, None) {
         None if differs => RowKind::Unmet,
         None => RowKind::Met,
-        Some(first) => match gf2_rows::first_outside(words, assigned, Some(first)) {
-            None => RowKind::Unit(first as usize, differs),
+        Some(first) => match matrix.first_outside(row, assigned, Some(first)) {
+            None => RowKind::Unit(first, differs),
             Some(_) => RowKind::Open,
         },
     }

@@ -11,5 +11,6 @@ mod slot;
 #[cfg(test)]
 mod tests;
 
-pub use parity_engine::{Held, Mood, ParityEngine, ParityEvent, RowView};
+pub use gf2_matrix::RowView;
+pub use parity_engine::{Held, Mood, ParityEngine, ParityEvent};
 pub use scratch::Scratch;

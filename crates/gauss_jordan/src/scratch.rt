@@ -1,16 +1,18 @@
 //! An engine that eliminates anew at each event.
-ghost use Rattle.std.specs.Prelude.{◌≡◌, ◌≢◌, ℕ, ◌<◌, length, map, replicate, None, IfOk};
+ghost use Rattle.std.specs.Prelude.{◌≡◌, ◌≢◌, ℕ, ◌<◌, ◌≤◌, length, map, replicate, None, IfOk, IsSome};
+ghost use Rattle.std.specs.List.{range_with_len};
+ghost use Rattle.cx_base.specs.declared.literal.TheConstants.{MAX_VARIABLE};
 ghost use Rattle.gf2_matrix.specs.Content.{IsReducedRow};
-ghost use Rattle.parity_engine.specs.State.{Reports, keep};
+ghost use Rattle.parity_engine.specs.State.{OfNamed, Reports, keep, named_at};
 ghost use Rattle.gauss_jordan.specs.Slots.{AreMasks, IsNamedSlot, IsScratch, IsSlotOf, state_of};
 ghost use Rattle.parity_engine.specs.declared.state.Mood.TheVariants.{Broken};
 
 use crate::found::{Found, find};
 use crate::masks;
-use crate::slot::{Naming, Slot, copy_row, empty_slots, is_unmet, keep_slots};
+use crate::slot::{Naming, Slot, copy_row, empty_slots, is_unmet, keep_slots, source_list};
 use cx_base::{IdList, Lit, LitList, ParityList, Row, Var};
-use gf2_matrix::{Matrix, clear_words, source_list};
-use parity_engine::{Held, Mood, ParityEngine, ParityEvent, RowView};
+use gf2_matrix::{Matrix, RowView, clear_words};
+use parity_engine::{Held, Mood, ParityEngine, ParityEvent};
 use std::alloc::{AllocError, Global};
 use std::marker::Model;
 
@@ -20,6 +22,8 @@ use std::marker::Model;
 pub struct Scratch {
     alloc: Global,
     matrix: Matrix,
+    /// Each variable, rising: the columns of the copies.
+    variables: Vec<u32>,
     level: u32,
     held: Vec<Option<Held>>,
     assigned: Vec<u64>,
@@ -36,11 +40,28 @@ impl Model for Scratch {
 
     ghost coded = { state_code };
 
-    ghost use Rattle.gauss_jordan.specs.Slots.{IsScratch, state_of};
+    ghost use Rattle.gauss_jordan.specs.Slots.{IsEngine, state_of};
 
     ghost view = { λ s. state_of s.matrix s.level s.held.items s.slots.items s.mood };
 
-    ghost invariant = { λ s. IsScratch s.matrix s.level s.held.items s.assigned.items s.truths.items s.slots.items s.mood };
+    ghost invariant = { λ s. IsEngine s.matrix s.variables.items s.level s.held.items s.assigned.items s.truths.items s.slots.items s.mood };
+}
+
+impl Scratch {
+    /// A look at a named row.
+    pub fn row_view(&self, row: Row) -> RowView<'_>
+        requires { IsSome (named_at self.now row) }
+        ensures { OfNamed self.now row (λ n. result ≡ n.form) }
+    {
+        let slot = &self.slots[row.place() as usize];
+        RowView::new(
+            self.matrix.vars(),
+            &self.variables,
+            0,
+            &slot.terms,
+            slot.right,
+        )
+    }
 }
 
 impl ParityEngine for Scratch {
@@ -49,13 +70,15 @@ impl ParityEngine for Scratch {
     fn make(alloc: Global, vars: u32, parities: &ParityList) -> Result<Self, AllocError> {
         let matrix = Matrix::make(alloc, vars, parities)?;
         let columns = matrix.columns();
+        let variables = all_variables(alloc, vars)?;
         let held = nothing_held(alloc, vars as usize)?;
         let assigned = clear_words(alloc, columns)?;
         let truths = clear_words(alloc, columns)?;
-        let slots = empty_slots(alloc, columns, matrix.given())?;
+        let slots = empty_slots(alloc, columns + 1, vars as usize, matrix.given())?;
         Ok(Scratch {
             alloc,
             matrix,
+            variables,
             level: 0,
             held,
             assigned,
@@ -110,16 +133,6 @@ impl ParityEngine for Scratch {
         self.mood = Mood::Calm;
     }
 
-    fn row_view(&self, row: Row) -> RowView<'_> {
-        let slot = &self.slots[row.place() as usize];
-        RowView::new(
-            self.matrix.vars(),
-            self.matrix.variables(),
-            &slot.words,
-            slot.right,
-        )
-    }
-
     fn row_parity(&self, row: Row) -> Result<LitList, AllocError> {
         self.row_view(row).parity(self.alloc)
     }
@@ -128,6 +141,18 @@ impl ParityEngine for Scratch {
         let slot = &self.slots[row.place() as usize];
         source_list(self.alloc, &slot.sources, self.matrix.given())
     }
+}
+
+/// The numbers of the variables, rising.
+fn all_variables(alloc: Global, vars: u32) -> Result<Vec<u32>, AllocError>
+    requires { vars ≤ MAX_VARIABLE }
+    ensures { IfOk result (λ all. all.items ≡ range_with_len 1 vars) }
+{
+    let mut all = Vec::new(alloc);
+    for before in 0..vars {
+        all.push(before + 1)?;
+    }
+    Ok(all)
 }
 
 /// No value for each variable.
@@ -190,7 +215,7 @@ fn answer(
                 in_conflict: false,
             };
             name(&mut slots[column], matrix, row, naming);
-            let negative = !is_unmet(&slots[column], truths);
+            let negative = !is_unmet(&slots[column], held);
             let var = Var::new(matrix.column(column));
             (
                 ParityEvent::Implied(Lit::new(var, negative), Row::new(column as u32)),

@@ -1,9 +1,13 @@
 //! Copies of named rows.
-ghost use Rattle.std.specs.Prelude.{◌≡◌, ℕ, ◌+◌, ◌<◌, length, slice_index_or, IfOk};
-ghost use Rattle.parity_engine.specs.Views.{words_for};
-ghost use Rattle.gauss_jordan.specs.Slots.{AreKept, IsCopy, IsEmptySlot, IsSlotSum, IsSlotOf, keep_naming};
+ghost use Rattle.std.specs.Prelude.{◌≡◌, ℕ, ◌+◌, ◌*◌, ◌<◌, ◌≤◌, ◌^◌, length, slice_index_or, IfOk};
+ghost use Rattle.parity_engine.specs.Equations.{numbers_from};
+ghost use Rattle.gf2_matrix.specs.Views.{words_for};
+ghost use Rattle.gauss_jordan.specs.Slots.{AreKept, AreSources, AreTerms, IsCopy, IsEmptySlot, IsSlotSum, IsSlotOf, first_bits, keep_naming};
 
+use crate::masks::is_true;
+use cx_base::{IdList, Var};
 use gf2_matrix::{Matrix, clear_words};
+use parity_engine::Held;
 use std::alloc::{AllocError, Global};
 
 /// The level and the kind of the event that named a row.
@@ -13,10 +17,10 @@ pub(crate) struct Naming {
     pub(crate) in_conflict: bool,
 }
 
-/// A copy of a named row.
+/// A copy of a named row: a bit for each variable, the right side, and a bit for each given parity.
 #[derive(Drop)]
 pub(crate) struct Slot {
-    pub(crate) words: Vec<u64>,
+    pub(crate) terms: Vec<u64>,
     pub(crate) right: bool,
     pub(crate) sources: Vec<u64>,
     pub(crate) naming: Option<Naming>,
@@ -31,32 +35,33 @@ fn kept(naming: Option<Naming>, level: u32) -> Option<Naming>
     }
 }
 
-/// Unnamed slots with room for a row: one for each column, and one for contradictions.
+/// Unnamed slots with room for a row.
 pub(crate) fn empty_slots(
     alloc: Global,
-    columns: usize,
+    count: usize,
+    vars: usize,
     parities: usize,
 ) -> Result<Vec<Slot>, AllocError>
-    requires few_columns { columns < 4294967295 }
+    requires few_variables { vars < 4294967296 }
     requires few_parities { parities < 4294967296 }
-    ensures count { IfOk result (λ slots. length slots.items ≡ columns + 1) }
-    ensures empty { IfOk result (λ slots. (k : ℕ) (d : Slot) → k < columns + 1 → IsEmptySlot columns parities (slice_index_or slots.items k d)) }
+    ensures count { IfOk result (λ slots. length slots.items ≡ count) }
+    ensures empty { IfOk result (λ slots. (k : ℕ) (d : Slot) → k < count → IsEmptySlot vars parities (slice_index_or slots.items k d)) }
 {
     let mut slots = Vec::new(alloc);
-    for _ in 0..columns + 1 {
-        slots.push(empty_slot(alloc, columns, parities)?)?;
+    for _ in 0..count {
+        slots.push(empty_slot(alloc, vars, parities)?)?;
     }
     Ok(slots)
 }
 
 /// An unnamed slot with room for a row.
-fn empty_slot(alloc: Global, columns: usize, parities: usize) -> Result<Slot, AllocError>
-    requires few_columns { columns < 4294967296 }
+fn empty_slot(alloc: Global, vars: usize, parities: usize) -> Result<Slot, AllocError>
+    requires few_variables { vars < 4294967296 }
     requires few_parities { parities < 4294967296 }
-    ensures { IfOk result (IsEmptySlot columns parities) }
+    ensures { IfOk result (IsEmptySlot vars parities) }
 {
     Ok(Slot {
-        words: clear_words(alloc, columns)?,
+        terms: clear_words(alloc, vars)?,
         right: false,
         sources: clear_words(alloc, parities)?,
         naming: None,
@@ -72,22 +77,69 @@ pub(crate) fn keep_slots(slots: &mut [Slot], level: u32)
     }
 }
 
+/// Copies the bits of the row's variables.
+fn copy_terms(terms: &mut [u64], matrix: &Matrix, row: usize)
+    requires row_in { row < length matrix.now.rows }
+    requires room { matrix.now.vars ≤ 64 * length terms.old }
+    ensures { AreTerms matrix.now row terms.old terms.new matrix.now.vars }
+{
+    let view = matrix.row_view(row);
+    for before in 0..matrix.vars() {
+        gf2_rows::put(terms, u64::from(before), view.has(Var::new(before + 1)));
+    }
+}
+
+/// Copies the bits of the parities that the row is the sum of.
+fn copy_sources(sources: &mut [u64], matrix: &Matrix, row: usize)
+    requires row_in { row < length matrix.now.rows }
+    requires room { length matrix.now.given ≤ 64 * length sources.old }
+    ensures { AreSources matrix.now row sources.new (length matrix.now.given) }
+{
+    for at in 0..matrix.given() {
+        gf2_rows::put(sources, at as u64, matrix.has_source(row, at));
+    }
+}
+
 /// Copies a row of the matrix, under a name.
 pub(crate) fn copy_row(slot: &mut Slot, matrix: &Matrix, row: usize, naming: Naming)
     requires row_in { row < length matrix.now.rows }
     requires sized { IsSlotOf matrix.now slot.old }
     ensures { IsCopy matrix.now row naming slot.new }
 {
-    slot.words.copy_from_slice(matrix.row_words(row));
-    slot.sources.copy_from_slice(matrix.row_source_words(row));
+    let _rows = matrix.rows();
+    copy_terms(&mut slot.terms, matrix, row);
+    copy_sources(&mut slot.sources, matrix, row);
     slot.right = matrix.row_right(row);
     slot.naming = Some(naming);
 }
 
-/// Whether the true columns alone do not meet the row.
-pub(crate) fn is_unmet(slot: &Slot, truths: &[u64]) -> bool
-    requires { length slot.now.words.items ≡ length truths.now }
-    ensures { IsSlotSum slot.now truths.now result }
+/// Whether the assigned values alone do not meet the row.
+pub(crate) fn is_unmet(slot: &Slot, held: &[Option<Held>]) -> bool
+    requires { length held.now ≤ 64 * length slot.now.terms.items }
+    ensures { IsSlotSum slot.now held.now (length held.now) result }
 {
-    gf2_rows::parity_and(&slot.words, truths) ^ slot.right
+    let mut sum = slot.right;
+    for at in 0..held.len() {
+        sum ^= gf2_rows::bit(&slot.terms, at as u64) && is_true(held[at]);
+    }
+    sum
+}
+
+/// The numbers, from 1 and rising, of the bits that are set among the first `count`.
+pub(crate) fn source_list(
+    alloc: Global,
+    words: &[u64],
+    count: usize,
+) -> Result<IdList, AllocError>
+    requires room { count ≤ 64 * length words.now }
+    requires few { count < 2 ^ 32 }
+    ensures { IfOk result (λ s. s ≡ numbers_from 1 (first_bits count words.now)) }
+{
+    let mut numbers = Vec::new(alloc);
+    for k in 0..count {
+        if gf2_rows::bit(words, k as u64) {
+            numbers.push(k as u64 + 1)?;
+        }
+    }
+    Ok(IdList::from_vec(numbers))
 }

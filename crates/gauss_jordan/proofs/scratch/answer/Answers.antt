@@ -3,10 +3,9 @@ use Rattle.std.proofs.lemmas.List.{length-map, get_or-set_same}
 use Rattle.gf2_matrix.specs.Content.{row_at, form, source_numbers}
 use Rattle.parity_engine.specs.declared.state.Mood.TheVariants.{Busy, Broken}
 use Rattle.parity_engine.specs.State.{Named}
-use Rattle.gf2_matrix.proofs.Rows.{few_columns}
 use Rattle.gauss_jordan.specs.declared.slot.Slot.{Slot}
 use Rattle.gauss_jordan.specs.Slots.{named_of, IsSlotSum}
-use Rattle.gauss_jordan.proofs.ScratchEvents.{masked, quiet, contradiction, state_named, not_named, named_now, literal_told, fit_implied, fit_kept}
+use Rattle.gauss_jordan.proofs.ScratchEvents.{copy_named, masked, quiet, contradiction, state_named, not_named, named_now, literal_told, fit_implied, fit_kept}
 use Rattle.gauss_jordan.proofs.scratch.answer.Goals as goal
 
 pub overflow_cast-column : goal.overflow_cast-column
@@ -15,7 +14,7 @@ overflow_cast-column c =
     let r = c.requires.scratch in
     let og = r.of_given in
     let says = c.in-Literal.ensures in
-    let few = few_columns m.vars m.columns og.columns_rise in
+    let few = og.columns_are.few in
     let small = r.few in
     let lt = says.1 in
     record { fits = omega arith }
@@ -46,7 +45,7 @@ returns-in-Contradiction-clause-answers c =
       n,
       (let e = c.columns-last.ensures.count in let q = ri.rows in omega arith),
       state_named m c.args.level c.args.held.now c.args.assigned.now c.args.truths.now c.args.slots.now c.args.mood r c.requires.whole c.requires.masks
-          c.columns-last.result c.copy_row.new.slot n index Broken c.copy_row.ensures.named at,
+          c.columns-last.result c.copy_row.new.slot n index Broken (copy_named m row (record { level = c.args.level; in_conflict = true }) c.copy_row.new.slot c.copy_row.ensures) at,
       not_named m c.args.level c.args.held.now c.args.assigned.now c.args.truths.now c.args.slots.now c.args.mood r c.requires.whole c.requires.masks
           n index (at ∙ c.columns-last.ensures.count),
       named_now m c.args.level c.args.held.now c.args.assigned.now c.args.truths.now c.args.slots.now c.args.mood r c.requires.whole c.requires.masks
@@ -80,7 +79,7 @@ returns-in-Literal-clause-answers c =
     let in' : k < length c.args.slots.now = t.slot_in in
     let made = fit_implied m c.args.level c.args.held.now c.args.assigned.now c.args.truths.now c.args.slots.now c.args.mood r c.requires.whole c.requires.masks
     k slot told.0 t c.is_unmet-negative.result
-    (subst (λ (s : Slot). IsSlotSum s c.args.truths.now c.is_unmet-negative.result) (get_or-set_same c.args.slots.now k slot c.index-slots-column-in-Literal.result in') c.is_unmet-negative.ensures) in (
+    (subst (λ (s : Slot). IsSlotSum s c.args.held.now (length c.args.held.now) c.is_unmet-negative.result) (get_or-set_same c.args.slots.now k slot c.index-slots-column-in-Literal.result in') c.is_unmet-negative.ensures) in (
       told.0,
       omega (arith, length-map c.args.slots.now (named_of m)),
       state_named m c.args.level c.args.held.now c.args.assigned.now c.args.truths.now c.args.slots.now c.args.mood r c.requires.whole c.requires.masks

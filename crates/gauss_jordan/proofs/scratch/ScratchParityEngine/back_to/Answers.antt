@@ -23,8 +23,12 @@ invariant_of-self c =
       with_items_is m.held c.keep_held.new.held (ap length (held s) ∙ length-map m.held.items (keep c.args.level) ∙ sym m.held.ok.0),
       held s,
     )
-    (scratch_back m.matrix m.level m.held.items m.assigned.items m.truths.items m.slots.items m.mood c.self.invariant c.args.level c.keep_slots.new.slots
-    (subst (λ (s : State). c.args.level < s.level) (sym c.self.view_is) c.requires) (kept s))
+    (record {
+      is =
+          scratch_back m.matrix m.level m.held.items m.assigned.items m.truths.items m.slots.items m.mood c.self.invariant.is c.args.level c.keep_slots.new.slots
+          (subst (λ (s : State). c.args.level < s.level) (sym c.self.view_is) c.requires) (kept s);
+      variables_are = c.self.invariant.variables_are;
+    })
 
 pub returns : goal.returns
 returns c =

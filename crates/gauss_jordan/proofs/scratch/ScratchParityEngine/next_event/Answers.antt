@@ -14,12 +14,12 @@ returns-in-Broken c =
     let row = c.new.result in
     let P : State → Type 0 = λ t. (n : Named) × (row < length t.named) × (t ≡ names t row n Broken) × IsSameNamed (named_at t row) n × IsNamedNow t n true × IsBroken t n.form in
     subst P c.self.view_is
-    (broken_again m.matrix.columns (state_of m.matrix m.level m.held.items m.slots.items m.mood) row c.self.invariant.right c.in-Broken.is (c.new.ensures ∙ c.columns-last.ensures.count))
+    (broken_again m.matrix.columns (state_of m.matrix m.level m.held.items m.slots.items m.mood) row c.self.invariant.is.right c.in-Broken.is (c.new.ensures ∙ c.columns-last.ensures.count))
 
 pub answer-event-requires : goal.answer-event-requires
 answer-event-requires c =
     let m = c.self.inside in
-    let r = c.self.invariant in
+    let r = c.self.invariant.is in
     let d = c.reduce_outside.new.self in
     let shape = c.reduce_outside.ensures.shape in
     let on : List ℕ = c.fill.new.assigned in

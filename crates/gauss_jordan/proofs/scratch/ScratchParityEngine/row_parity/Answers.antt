@@ -11,5 +11,5 @@ parity-requires c =
     let some = named_row c.args.self.now c.args.row c.requires in
     let writable : (n : Named) → named_at c.args.self.now c.args.row ≡ Some n → IsWritable n.form =
     subst (λ (t : State). (n : Named) → named_at t c.args.row ≡ Some n → IsWritable n.form) c.self.view_is
-    (λ n is. named_writable m.matrix.columns _ c.args.row n c.self.invariant.right is) in
+    (λ n is. named_writable m.matrix.columns _ c.args.row n c.self.invariant.is.right is) in
     subst IsWritable (sym (c.row_view.ensures some.0 some.1)) (writable some.0 some.1)
