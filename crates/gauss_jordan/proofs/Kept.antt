@@ -66,7 +66,7 @@ kept-set p x h values lt free =
     ∙ sym (get_or-map (keep p) values y None))
 
 -- silence rests on the values alone
-silent_same : (s t : State) → s.vars ≡ t.vars → s.parities ≡ t.parities → s.values ≡ t.values → IsSilent s → IsSilent t
+pub silent_same : (s t : State) → s.vars ≡ t.vars → s.parities ≡ t.parities → s.values ≡ t.values → IsSilent s → IsSilent t
 silent_same s t ev ep es silent =
     let made : (v : ℕ) → s.vars ≡ v → IsSilent (record s { vars = v }) = λ v e. subst (λ w. IsSilent (record s { vars = w })) e silent in
     let made2 : IsSilent (record s { vars = t.vars; parities = t.parities }) = subst (λ q. IsSilent (record s { vars = t.vars; parities = q })) ep (made t.vars ev) in

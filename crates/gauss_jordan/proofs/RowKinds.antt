@@ -19,7 +19,7 @@ use Rattle.gauss_jordan.proofs.Events.{silent_from_quiet, implied_from_unit, bro
 
 -- ---- columns
 -- different columns are different variables
-columns-differ : (vars : ℕ) (cols : List ℕ) (j k : ℕ) → AreColumns vars cols → j < length cols → k < length cols → j ≢ k → get_or cols j 0 - 1 ≢ get_or cols k 0 - 1
+pub columns-differ : (vars : ℕ) (cols : List ℕ) (j k : ℕ) → AreColumns vars cols → j < length cols → k < length cols → j ≢ k → get_or cols j 0 - 1 ≢ get_or cols k 0 - 1
 columns-differ vars cols j k are jl kl ne e =
     let lowj = are.low j jl in
     let lowk = are.low k kl in
@@ -58,7 +58,7 @@ module _ (c : Content) (of_given : IsOfGiven c) (assigned truths : List ℕ) (s 
   pub rows : List Equation
   rows = map equation c.rows
 
-  length-rows : length rows ≡ length c.rows
+  pub length-rows : length rows ≡ length c.rows
   unfolding rows
   length-rows = length-map c.rows equation
 
@@ -77,7 +77,7 @@ module _ (c : Content) (of_given : IsOfGiven c) (assigned truths : List ℕ) (s 
         (of_given.complete v (long ∙ masked.vars) (λ i lt. subst (MeetsEquation v) (row-is i lt) (met i (omega (arith, length-rows)))));
   }
 
-  within : AllByRecursion (AreWithin s.vars) s.parities
+  pub within : AllByRecursion (AreWithin s.vars) s.parities
   within = subst (λ n. AllByRecursion (AreWithin n) s.parities) (sym masked.vars) (subst (AllByRecursion (AreWithin c.vars)) (sym masked.parities) of_given.within)
 
   not-flip : (b d : Bool) → b ≡ not d → b ≡ true → d ≡ false
@@ -95,7 +95,7 @@ module _ (c : Content) (of_given : IsOfGiven c) (assigned truths : List ℕ) (s 
       (not-back (bit_of assigned o.0) (is_unassigned (get_or s.values (get_or c.columns o.0 0 - 1) None)) (masked.masks o.0 o.1) o.2)
 
   -- a variable of a row that is not open is assigned
-  assigned_unless : (i : ℕ) → i < length c.rows → (x : ℕ) → has (row_at c.rows i) x ≡ true → (IsOpenAt c assigned x → ⊥) → is_unassigned (get_or s.values x None) ≡ false
+  pub assigned_unless : (i : ℕ) → i < length c.rows → (x : ℕ) → has (row_at c.rows i) x ≡ true → (IsOpenAt c assigned x → ⊥) → is_unassigned (get_or s.values x None) ≡ false
   assigned_unless i lt x has_x closed =
       let place = of_given.in_columns i lt x has_x in
       let k : ℕ = place.0 in
@@ -112,7 +112,7 @@ module _ (c : Content) (of_given : IsOfGiven c) (assigned truths : List ℕ) (s 
       subst (λ (e : Equation). IsWhole s (has_term e)) (sym (row-is i lt))
       (λ x has_x. assigned_unless i lt x has_x (λ o. let clash : true ≡ false = sym has_x ∙ closed x o in cc))
 
-  filled_sum : (i : ℕ) (b : Bool) → i < length c.rows → SumsTo c truths i b → differ (total_at rows i (filled s)) (right_at rows i) ≡ b
+  pub filled_sum : (i : ℕ) (b : Bool) → i < length c.rows → SumsTo c truths i b → differ (total_at rows i (filled s)) (right_at rows i) ≡ b
   filled_sum i b lt sums =
       subst (λ (e : Equation). differ (total e (filled s)) e.right ≡ b) (sym (row-is i lt))
       (sums (filled s) (length-filled s ∙ masked.wide ∙ masked.vars) masked.holds)
@@ -123,12 +123,12 @@ module _ (c : Content) (of_given : IsOfGiven c) (assigned truths : List ℕ) (s 
   differ-unlike false true h e = let clash : true ≡ false = sym e in cc
   differ-unlike false false h e = let clash : true ≡ false = sym h in cc
 
-  finished : (i : ℕ) → i < length c.rows → IsKind c assigned truths i Met → IsFinished s.vars (total_at rows) (right_at rows) (part s) i
+  pub finished : (i : ℕ) → i < length c.rows → IsKind c assigned truths i Met → IsFinished s.vars (total_at rows) (right_at rows) (part s) i
   finished i lt kind =
       finished_from_whole s rows within masked.wide system i (omega (arith, length-rows)) (whole i lt kind.0)
       (same-differ (total_at rows i (filled s)) (right_at rows i) (filled_sum i false lt kind.1))
 
-  in_vars : (x : ℕ) → IsOpenAt c assigned x → x < s.vars
+  pub in_vars : (x : ℕ) → IsOpenAt c assigned x → x < s.vars
   in_vars x o =
       let low = of_given.columns_are.low o.0 o.1 in
       let high = of_given.columns_are.high o.0 o.1 in
@@ -136,7 +136,7 @@ module _ (c : Content) (of_given : IsOfGiven c) (assigned truths : List ℕ) (s 
       let v = masked.vars in
       omega arith
 
-  none_at : (x : ℕ) → IsOpenAt c assigned x → part_at (part s) x ≡ None
+  pub none_at : (x : ℕ) → IsOpenAt c assigned x → part_at (part s) x ≡ None
   none_at x o = part-at s x ∙ none_from (get_or s.values x None) (open_unassigned x o)
 
   unfinished : (i : ℕ) → i < length c.rows → IsKind c assigned truths i Open → IsReducedRow c assigned i

@@ -46,7 +46,7 @@ map-set f [] k a = refl
 map-set f (x ∷ xs) zero a = refl
 map-set f (x ∷ xs) (suc k) a = ap (λ ys. f x ∷ ys) (map-set f xs k a)
 
-value-is : (o : Option Held) → value_or_false o ≡ unwrap_or (just_value o) false
+pub value-is : (o : Option Held) → value_or_false o ≡ unwrap_or (just_value o) false
 value-is None = refl
 value-is (Some h) = refl
 
@@ -355,7 +355,7 @@ slot_seen c level held masks truths slots mood is index d n named =
     (is.fits index d inside, named-form c (get_or slots index d) (let e : Slot = get_or slots index d in e.naming) n (sym (get_or-map (named_of c) slots index d None inside) ∙ named))
 
 -- ---- an event after a contradiction
-set_same : {A : Type 0} (xs : List A) (k : ℕ) (a d : A) → k < length xs → get_or xs k d ≡ a → set xs k a ≡ xs
+pub set_same : {A : Type 0} (xs : List A) (k : ℕ) (a d : A) → k < length xs → get_or xs k d ≡ a → set xs k a ≡ xs
 set_same [] k a d lt is = absurd (omega arith)
 set_same (x ∷ xs) zero a d lt is = ap (λ y. y ∷ xs) (sym is)
 set_same (x ∷ xs) (suc k) a d lt is = ap (λ ys. x ∷ ys) (set_same xs k a d (omega arith) is)

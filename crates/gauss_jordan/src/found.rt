@@ -28,7 +28,7 @@ pub enum Found {
 }
 
 /// Whether the row's sum over the true columns is not its right side.
-fn is_unmet(matrix: &Matrix, row: usize, truths: &[u64]) -> bool
+pub fn is_unmet(matrix: &Matrix, row: usize, truths: &[u64]) -> bool
     requires row_in { row < length matrix.now.rows }
     requires wide { length truths.now ≡ words_for (length matrix.now.columns) }
     ensures { SumsTo matrix.now truths.now row result }

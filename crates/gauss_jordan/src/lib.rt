@@ -1,7 +1,7 @@
 //! Gauss-Jordan elimination over parities.
 #![tactic(auto)]
 
-mod found;
+pub mod found;
 pub mod laws;
 mod masks;
 #[cfg(test)]
@@ -13,4 +13,4 @@ mod tests;
 
 pub use gf2_matrix::RowView;
 pub use parity_engine::{Held, Mood, ParityEngine, ParityEvent};
-pub use scratch::Scratch;
+pub use scratch::{Scratch, nothing_held};

@@ -156,7 +156,7 @@ fn all_variables(alloc: Global, vars: u32) -> Result<Vec<u32>, AllocError>
 }
 
 /// No value for each variable.
-fn nothing_held(alloc: Global, vars: usize) -> Result<Vec<Option<Held>>, AllocError>
+pub fn nothing_held(alloc: Global, vars: usize) -> Result<Vec<Option<Held>>, AllocError>
     ensures { IfOk result (λ held. held.items ≡ replicate vars None) }
 {
     Ok(vec![in alloc; None; vars]?)
