@@ -20,7 +20,7 @@ use Rattle.gf2_matrix.specs.Content.{Content, SourcedRow, IsOfGiven, has, row_at
 use Rattle.gf2_matrix.proofs.Columns.{place_found}
 use Rattle.gf2_matrix.proofs.Numbered.{numbers-append}
 use Rattle.gauss_jordan.specs.declared.slot.Slot.{Slot}
-use Rattle.gauss_jordan.specs.declared.slot.Naming.{Naming}
+use Rattle.parity_engine.specs.declared.state.Naming.{Naming}
 use Rattle.gauss_jordan.specs.Slots.{first_bits, row_of, value_or_false, IsSlotOf, AreTerms, AreSources, IsCopy, IsSlotSum}
 
 -- ---- the loops

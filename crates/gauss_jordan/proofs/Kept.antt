@@ -1,10 +1,10 @@
 -- Assignments, levels and backjumps keep what an engine keeps.
-use Rattle.std.proofs.Common.{zero, suc, ◌≡◌, ◌≢◌, ℕ, ◌-◌, ◌<◌, ◌≤◌, Bool, true, false, cond, not, ◌&&◌, nat_le, List, map, length, get_or, set, Option, Some, None, inl, inr, true≢false, refl, sym, ap, ◌∙◌, subst, arith}
+use Rattle.std.proofs.Common.{◌≡◌, ◌≢◌, ℕ, ◌-◌, ◌<◌, ◌≤◌, Bool, true, false, cond, not, ◌&&◌, nat_le, List, length, get_or, set, Option, Some, None, inl, inr, true≢false, refl, sym, ap, ◌∙◌, subst, arith}
 use Rattle.std.proofs.Math.ListN.{get_or-map, length-set, get_or-eq_default}
-use Rattle.std.proofs.lemmas.List.{length-map, get_or-set_same, get_or-set_other, ext_get_or}
+use Rattle.std.proofs.lemmas.List.{length-map, get_or-set_same, get_or-set_other}
 use Rattle.std.proofs.lemmas.Option.{same_Some}
-use Rattle.std.proofs.lemmas.Bool.{cases_eq, cases_lt, le-leb, lt-leb, leb-true, not-true, and_parts}
-use Rattle.std.specs.Prelude.{replicate, ◌+◌}
+use Rattle.std.proofs.lemmas.Bool.{cases_eq, cases_lt, le-leb, leb-true, not-true, and_parts}
+use Rattle.std.specs.Prelude.{◌+◌}
 use Rattle.std.proofs.lemmas.Simd.{length-replicate}
 use Rattle.std.specs.List.{AllByRecursion}
 use Rattle.cx_base.specs.Literals.{Literal}
@@ -17,61 +17,10 @@ use Rattle.parity_engine.specs.State.{State, Named, keep, keep_named, is_unassig
 use Rattle.gauss_jordan.specs.System.{has_at, IsOneOpen}
 use Rattle.parity_engine.proofs.Known.{known_value}
 use Rattle.gauss_jordan.proofs.Events.{implied_by_sum}
-use Rattle.gauss_jordan.specs.Levels.{at_level, LowerLevelsStay}
+use Rattle.parity_engine.specs.Settled.{at_level}
+use Rattle.parity_engine.proofs.Settled.{kept-set, kept-twice, kept-values, kept_held, nothing_at, silent_same}
 use Rattle.gauss_jordan.specs.Right.{IsSummed}
 use Rattle.gauss_jordan.specs.Right.{column_at, IsPending, IsReason, IsRightState}
-
--- ---- values by level
-keep-twice : (l p : ℕ) (o : Option Held) → p ≤ l → keep p (keep l o) ≡ keep p o
-keep-twice l p None le = refl
-keep-twice l p (Some h) le =
-    elim (cases_lt l h.level) [
-      | inl above ↦ ap (λ b. keep p (cond b (Some h) None)) (lt-leb h.level l above) ∙ sym (ap (λ b. cond b (Some h) None) (lt-leb h.level p (omega arith)))
-      | inr below ↦ ap (λ b. keep p (cond b (Some h) None)) (le-leb h.level l below)
-    ]
-
-keep-low : (l : ℕ) (o : Option Held) → ((h : Held) → o ≡ Some h → h.level ≤ l) → keep l o ≡ o
-keep-low l None low = refl
-keep-low l (Some h) low = ap (λ b. cond b (Some h) None) (le-leb h.level l (low h refl))
-
-kept-values : (l : ℕ) (s : State) → ((x : ℕ) (h : Held) → get_or s.values x None ≡ Some h → h.level ≤ l) → map (keep l) s.values ≡ s.values
-kept-values l s low =
-    ext_get_or None (map (keep l) s.values) s.values (length-map s.values (keep l))
-    (λ x lt. get_or-map (keep l) s.values x None ∙ keep-low l (get_or s.values x None) (low x))
-
-kept-twice : (l p : ℕ) (values : List (Option Held)) → p ≤ l → map (keep p) (map (keep l) values) ≡ map (keep p) values
-kept-twice l p values le =
-    ext_get_or None (map (keep p) (map (keep l) values)) (map (keep p) values)
-    (length-map (map (keep l) values) (keep p) ∙ length-map values (keep l) ∙ sym (length-map values (keep p)))
-    (λ x lt.
-    get_or-map (keep p) (map (keep l) values) x None ∙ ap (keep p) (get_or-map (keep l) values x None)
-    ∙ keep-twice l p (get_or values x None) le ∙ sym (get_or-map (keep p) values x None))
-
--- a value of a higher level is not seen from below
-kept-set : (p x : ℕ) (h : Held) (values : List (Option Held)) → p < h.level → get_or values x None ≡ None → map (keep p) (set values x (Some h)) ≡ map (keep p) values
-kept-set p x h values lt free =
-    ext_get_or None (map (keep p) (set values x (Some h))) (map (keep p) values)
-    (length-map (set values x (Some h)) (keep p) ∙ length-set values x (Some h) ∙ sym (length-map values (keep p)))
-    (λ y in'.
-    get_or-map (keep p) (set values x (Some h)) y None
-    ∙ elim (cases_eq y x) [
-      | inl e ↦
-          let inside : x < length values =
-          omega (arith, length-map (set values x (Some h)) (keep p), length-set values x (Some h)) in
-          ap (λ z. keep p (get_or (set values x (Some h)) z None)) e ∙ ap (keep p) (get_or-set_same values x (Some h) None inside)
-          ∙ ap (λ b. cond b (Some h) None) (lt-leb h.level p lt)
-          ∙ sym (ap (keep p) free) ∙ ap (λ z. keep p (get_or values z None)) (sym e)
-      | inr ne ↦ ap (keep p) (get_or-set_other values x y (Some h) None ne)
-    ]
-    ∙ sym (get_or-map (keep p) values y None))
-
--- silence rests on the values alone
-pub silent_same : (s t : State) → s.vars ≡ t.vars → s.parities ≡ t.parities → s.values ≡ t.values → IsSilent s → IsSilent t
-silent_same s t ev ep es silent =
-    let made : (v : ℕ) → s.vars ≡ v → IsSilent (record s { vars = v }) = λ v e. subst (λ w. IsSilent (record s { vars = w })) e silent in
-    let made2 : IsSilent (record s { vars = t.vars; parities = t.parities }) = subst (λ q. IsSilent (record s { vars = t.vars; parities = q })) ep (made t.vars ev) in
-    let made3 : IsSilent (record s { vars = t.vars; parities = t.parities; values = t.values }) = subst (λ q. IsSilent (record s { vars = t.vars; parities = t.parities; values = q })) es made2 in
-    record { consistent = made3.consistent; forced = made3.forced }
 
 -- where nothing follows no row is pending
 no_pending : (columns : List ℕ) (s : State) → IsRightState columns s → IsSilent s → (k : ℕ) (n : Named) → k < length columns → get_or s.named k None ≡ Some n
@@ -191,12 +140,6 @@ kept_some l (Some m) n is =
       subst (λ (q : Named). q.in_conflict ≡ false) pick.1 (not-true m.in_conflict parts.0),
       subst (λ (q : Named). q.level ≤ l) pick.1 (leb-true m.level l parts.1),
     )
-
-kept_held : (l : ℕ) (o : Option Held) (h : Held) → keep l o ≡ Some h → h.level ≤ l
-kept_held l None h is = cc
-kept_held l (Some g) h is =
-    let pick = chosen (nat_le g.level l) g h is in
-    subst (λ (q : Held). q.level ≤ l) pick.1 (leb-true g.level l pick.0)
 
 pub right_back : (columns : List ℕ) (s : State) (l : ℕ) → IsRightState columns s → l < s.level → IsRightState columns (back l s)
 right_back columns s l right lt = record {
@@ -318,14 +261,6 @@ right_broken columns s row n right at now clashes =
     ))
     (λ is. let e : Broken ≡ Calm = is in cc)
 
-pub lower_levels_stay : LowerLevelsStay
-lower_levels_stay s p = (
-  λ v b lt free. kept-set p (v - 1) (record { value = b; level = s.level }) s.values lt free,
-  refl,
-  λ l le. kept-twice l p s.values le,
-  λ low. kept-values p s low,
-)
-
 -- each named row is the sum of its sources
 pub summed : (columns : List ℕ) (s : State) (k : ℕ) (n : Named) → IsRightState columns s → get_or s.named k None ≡ Some n → IsSummed s n
 summed columns s k n right is =
@@ -344,11 +279,6 @@ summed columns s k n right is =
     ]
 
 -- ---- the start
-nothing_at : {A : Type 0} (n k : ℕ) → get_or (replicate n (let o : Option A = None in o)) k None ≡ None
-nothing_at zero k = refl
-nothing_at (suc n) zero = refl
-nothing_at {A = A} (suc n) (suc k) = nothing_at {A = A} n k
-
 pub right_fresh : (columns : List ℕ) (vars : ℕ) (parities : List (List Literal)) → AllByRecursion (AreWithin vars) parities → IsRightState columns (fresh vars parities (length columns + 1))
 right_fresh columns vars parities within = record {
   within = within;

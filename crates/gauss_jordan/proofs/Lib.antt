@@ -7,4 +7,3 @@ pub mod Copies
 pub mod ScratchSteps
 pub mod ScratchEvents
 pub mod Writable
-pub mod Watching

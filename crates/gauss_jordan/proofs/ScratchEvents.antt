@@ -19,7 +19,7 @@ use Rattle.gf2_matrix.specs.Views.{words_for}
 use Rattle.gf2_matrix.proofs.Products.{total-over}
 use Rattle.cx_base.specs.Parity.{odd_sum}
 use Rattle.gauss_jordan.specs.declared.slot.Slot.{Slot}
-use Rattle.gauss_jordan.specs.declared.slot.Naming.{Naming}
+use Rattle.parity_engine.specs.declared.state.Naming.{Naming}
 use Rattle.parity_engine.specs.declared.state.Held.{Held}
 use Rattle.parity_engine.specs.declared.state.Mood.{Mood}
 use Rattle.parity_engine.specs.declared.state.Mood.TheVariants.{Busy, Calm, Broken}

@@ -6,14 +6,15 @@ use Rattle.gf2_rows.specs.Bits.{bit_of}
 use Rattle.gf2_matrix.specs.Content.{Content, SourcedRow, form, source_numbers}
 use Rattle.gf2_matrix.proofs.Updates.{changed_more, left_more}
 use Rattle.gauss_jordan.specs.declared.slot.Slot.{Slot}
-use Rattle.gauss_jordan.specs.declared.slot.Naming.{Naming}
+use Rattle.parity_engine.specs.declared.state.Naming.{Naming}
 use Rattle.parity_engine.specs.declared.state.Held.{Held}
 use Rattle.parity_engine.specs.declared.state.Mood.{Mood}
 use Rattle.parity_engine.specs.declared.state.Mood.TheVariants.{Busy, Calm, Broken}
 use Rattle.parity_engine.specs.State.{Named, keep, keep_named, is_unassigned}
 use Rattle.parity_engine.proofs.Known.{none_is}
 use Rattle.gauss_jordan.specs.Right.{IsRightState}
-use Rattle.gauss_jordan.specs.Slots.{keep_naming, first_bits, row_of, named_as, named_of, state_of, IsKeptSlot, AreKept, IsScratch}
+use Rattle.parity_engine.specs.Namings.{keep_naming}
+use Rattle.gauss_jordan.specs.Slots.{first_bits, row_of, named_as, named_of, state_of, IsKeptSlot, AreKept, IsScratch}
 use Rattle.gauss_jordan.proofs.Kept.{right_pushed, right_assigned, right_back}
 
 -- ---- loops

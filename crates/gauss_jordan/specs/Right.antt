@@ -8,7 +8,7 @@ use Rattle.parity_engine.specs.declared.state.Mood.TheVariants.{Calm, Broken}
 use Rattle.parity_engine.specs.State.{State, Named, is_unassigned, IsSilent, IsBroken}
 use Rattle.parity_engine.specs.Written.{AreRising}
 use Rattle.gauss_jordan.specs.System.{has_at}
-use Rattle.gauss_jordan.specs.Levels.{IsSettledBelow}
+use Rattle.parity_engine.specs.Settled.{IsSettledBelow}
 
 -- row number k is kept for the variable of column k, and one more row for contradictions
 abbrev pub column_at : List ℕ → ℕ → ℕ

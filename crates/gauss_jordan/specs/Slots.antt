@@ -1,5 +1,5 @@
 -- What an engine with copies of its named rows holds, and what it stands for.
-use Rattle.std.specs.Prelude.{◌≡◌, ℕ, ◌<◌, ◌≤◌, ◌^◌, Bool, false, not, cond, ◌&&◌, nat_le, List, map, length, slice_index_or, Option, Some, None}
+use Rattle.std.specs.Prelude.{◌≡◌, ℕ, ◌<◌, ◌≤◌, ◌^◌, Bool, false, not, ◌&&◌, List, map, length, slice_index_or, Option, Some, None}
 use Rattle.std.specs.List.{range_with_len}
 use Rattle.cx_base.specs.Literals.{differ}
 use Rattle.cx_base.specs.declared.literal.TheConstants.{MAX_VARIABLE}
@@ -8,15 +8,12 @@ use Rattle.gf2_rows.specs.Bits.{bit_of}
 use Rattle.gf2_matrix.specs.Content.{Content, SourcedRow, IsOfGiven, form, has, row_at, source_numbers}
 use Rattle.gf2_matrix.specs.Views.{words_for}
 use Rattle.gauss_jordan.specs.declared.slot.Slot.{Slot}
-use Rattle.gauss_jordan.specs.declared.slot.Naming.{Naming}
+use Rattle.parity_engine.specs.declared.state.Naming.{Naming}
+use Rattle.parity_engine.specs.Namings.{keep_naming}
 use Rattle.parity_engine.specs.declared.state.Held.{Held}
 use Rattle.parity_engine.specs.declared.state.Mood.{Mood}
 use Rattle.parity_engine.specs.State.{State, Named, is_unassigned}
 use Rattle.gauss_jordan.specs.Right.{IsRightState, column_at}
-
-abbrev pub keep_naming : ℕ → Option Naming → Option Naming
-keep_naming level None = None
-keep_naming level (Some n) = cond (not n.in_conflict && nat_le n.level level) (Some n) None
 
 -- the first n bits of words
 abbrev pub first_bits : ℕ → List ℕ → List Bool

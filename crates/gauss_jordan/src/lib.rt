@@ -1,16 +1,13 @@
-//! Gauss-Jordan elimination over parities.
+//! Gauss-Jordan elimination over parities: an engine that eliminates anew at each event, and what the rows of a
+//! reduced matrix say, for every engine that keeps one.
 #![tactic(auto)]
 
 pub mod found;
 pub mod laws;
 mod masks;
-#[cfg(test)]
-mod reason_tests;
 mod scratch;
 mod slot;
-#[cfg(test)]
-mod tests;
 
 pub use gf2_matrix::RowView;
 pub use parity_engine::{Held, Mood, ParityEngine, ParityEvent};
-pub use scratch::{Scratch, nothing_held};
+pub use scratch::Scratch;

@@ -1,5 +1,5 @@
 //! An engine that eliminates anew at each event.
-ghost use Rattle.std.specs.Prelude.{◌≡◌, ◌≢◌, ℕ, ◌<◌, ◌≤◌, length, map, replicate, None, IfOk, IsSome};
+ghost use Rattle.std.specs.Prelude.{◌≡◌, ◌≢◌, ℕ, ◌<◌, ◌≤◌, length, map, IfOk, IsSome};
 ghost use Rattle.std.specs.List.{range_with_len};
 ghost use Rattle.cx_base.specs.declared.literal.TheConstants.{MAX_VARIABLE};
 ghost use Rattle.gf2_matrix.specs.Content.{IsReducedRow};
@@ -9,10 +9,10 @@ ghost use Rattle.parity_engine.specs.declared.state.Mood.TheVariants.{Broken};
 
 use crate::found::{Found, find};
 use crate::masks;
-use crate::slot::{Naming, Slot, copy_row, empty_slots, is_unmet, keep_slots, source_list};
+use crate::slot::{Slot, copy_row, empty_slots, is_unmet, keep_slots, source_list};
 use cx_base::{IdList, Lit, LitList, ParityList, Row, Var};
 use gf2_matrix::{Matrix, RowView, clear_words};
-use parity_engine::{Held, Mood, ParityEngine, ParityEvent};
+use parity_engine::{Held, Mood, Naming, ParityEngine, ParityEvent, nothing_held};
 use std::alloc::{AllocError, Global};
 use std::marker::Model;
 
@@ -153,13 +153,6 @@ fn all_variables(alloc: Global, vars: u32) -> Result<Vec<u32>, AllocError>
         all.push(before + 1)?;
     }
     Ok(all)
-}
-
-/// No value for each variable.
-pub fn nothing_held(alloc: Global, vars: usize) -> Result<Vec<Option<Held>>, AllocError>
-    ensures { IfOk result (λ held. held.items ≡ replicate vars None) }
-{
-    Ok(vec![in alloc; None; vars]?)
 }
 
 /// The value, if its level is not above this one.

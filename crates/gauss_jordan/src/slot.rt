@@ -1,21 +1,15 @@
 //! Copies of named rows.
 ghost use Rattle.std.specs.Prelude.{◌≡◌, ℕ, ◌+◌, ◌*◌, ◌<◌, ◌≤◌, ◌^◌, length, slice_index_or, IfOk};
 ghost use Rattle.parity_engine.specs.Equations.{numbers_from};
+ghost use Rattle.parity_engine.specs.Namings.{keep_naming};
 ghost use Rattle.gf2_matrix.specs.Views.{words_for};
-ghost use Rattle.gauss_jordan.specs.Slots.{AreKept, AreSources, AreTerms, IsCopy, IsEmptySlot, IsSlotSum, IsSlotOf, first_bits, keep_naming};
+ghost use Rattle.gauss_jordan.specs.Slots.{AreKept, AreSources, AreTerms, IsCopy, IsEmptySlot, IsSlotSum, IsSlotOf, first_bits};
 
 use crate::masks::is_true;
 use cx_base::{IdList, Var};
 use gf2_matrix::{Matrix, clear_words};
-use parity_engine::Held;
+use parity_engine::{Held, Naming};
 use std::alloc::{AllocError, Global};
-
-/// The level and the kind of the event that named a row.
-#[derive(Clone, Copy, Drop)]
-pub(crate) struct Naming {
-    pub(crate) level: u32,
-    pub(crate) in_conflict: bool,
-}
 
 /// A copy of a named row: a bit for each variable, the right side, and a bit for each given parity.
 #[derive(Drop)]
