@@ -19,4 +19,5 @@ mod trail;
 mod watching;
 
 pub use incremental::Incremental;
-pub use parity_engine::{Held, Mood, ParityEngine, ParityEvent, RowView};
+pub use gf2_matrix::RowView;
+pub use parity_engine::{Held, Mood, ParityEngine, ParityEvent};
