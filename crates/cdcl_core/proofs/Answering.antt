@@ -13,12 +13,19 @@ use Rattle.search_steps.specs.LogSteps.{after_round}
 use Rattle.search_steps.specs.Holding.{AreTold}
 use Rattle.search_steps.proofs.EndLaws.{is_marked, is_log_open}
 use Rattle.cdcl_search.specs.declared.state.SearchState.{SearchState}
-use Rattle.cdcl_search.specs.Tells.{IsLeft}
+use Rattle.std.specs.Prelude.{IfErr}
+use Rattle.cx_semantics.specs.LogRules.{log_calculus}
+use Rattle.conflict_learn.specs.declared.fault.CoreFault.TheVariants.{Memory, Write}
+use Rattle.conflict_learn.specs.Faults.{fault_in}
+use Rattle.log_text.specs.declared.sink.LogSink as sink
+use Rattle.cdcl_search.specs.declared.logs.SearchLog.{SearchLog}
+use Rattle.cdcl_search.specs.Logs.{GoesOn}
+use Rattle.cdcl_search.specs.Tells.{IsLeft, GivesUp}
 use Rattle.cdcl_search.specs.Ties.{SearchStands}
 use Rattle.cdcl_core.specs.declared.solving.Outcome.{Outcome}
 use Rattle.cdcl_core.specs.declared.solving.Outcome.TheVariants.{Sat, Unsat, Unknown}
 use Rattle.cdcl_core.specs.Learning.{Learns}
-use Rattle.cdcl_core.specs.Results.{IsOpenWith, HasNoMark, IsSettledBy}
+use Rattle.cdcl_core.specs.Results.{IsOpenWith, IsFresh, HasNoMark, IsSettledBy}
 use Rattle.cdcl_core.proofs.Entering.{round_is_search, conflicts_then, tidy}
 
 -- ---- open logs
@@ -35,16 +42,6 @@ log_is_open formula c e rows told (s, ok, a, t) = search_is_open formula s c.con
 pub learned_log_is_open : (formula : Problem) (c : SearchState) (e : State) (lits : List Literal) (back : ℕ) (told : Option (List LogEvent)) → Learns formula c e lits back told → IsOpenWith formula (c.conflicts + 1) told
 learned_log_is_open formula c e lits back told l = search_is_open formula (after_round l.search c.next (integers_of lits) l.hints back l.taught.first) (c.conflicts + 1) told
     (round_is_search formula c e lits back l.search l.taught l.hints) (tidy formula c e lits back l.search l.taught l.hints).served (conflicts_then formula c e lits back l.search l.taught l.hints) l.told_is
-
-open_is_left : (formula : Problem) (n : ℕ) (told : Option (List LogEvent)) → IsOpenWith formula n told → IsLeft formula told
-open_is_left formula n None h = tt
-open_is_left formula n (Some es) h = inl h.0
-
-pub stands_is_left : (formula : Problem) (c : SearchState) (e : State) (rows : List (List Literal)) (told : Option (List LogEvent)) → SearchStands formula c e rows told → IsLeft formula told
-stands_is_left formula c e rows told st = open_is_left formula c.conflicts told (log_is_open formula c e rows told st)
-
-pub learned_is_left : (formula : Problem) (c : SearchState) (e : State) (lits : List Literal) (back : ℕ) (told : Option (List LogEvent)) → Learns formula c e lits back told → IsLeft formula told
-learned_is_left formula c e lits back told l = open_is_left formula (c.conflicts + 1) told (learned_log_is_open formula c e lits back told l)
 
 -- ---- settled formulas
 no_marks : (formula : Problem) (es : List LogEvent) (n : ℕ) → n < 1 → Marked formula es n → HasNoMark (Some es)
@@ -63,3 +60,14 @@ values_are_known values n is = cc
 pub settled_answer_has_no_mark : (formula : Problem) (told : Option (List LogEvent)) (r : Result Outcome CoreFault) → IfOk r (λ a. IsSettledBy formula 1 told a) → OnOk r (HasNoMark told)
 settled_answer_has_no_mark formula told (Ok a) h = settled_has_no_mark formula told a h
 settled_answer_has_no_mark formula told (Err fault) h = tt
+
+-- ---- at the end
+-- where nothing is told, it is right so far
+pub fresh_is_left : (formula : Problem) (told : Option (List LogEvent)) → IsFresh told → IsLeft formula told
+fresh_is_left formula None fresh = tt
+fresh_is_left formula (Some es) fresh = subst (λ xs. IsLeft formula (Some xs)) (sym fresh) (inl ((log_calculus formula).start, refl))
+
+pub gives_up_by : {L T : Type 0} (m : sink.Ghosts L) (old new : SearchLog L) (r : Result T CoreFault) → GoesOn m old (fault_in r) new → IsLeft old.formula.now (m.events old.sink.now) → IfErr r (λ e. GivesUp new.formula.now (m.torn new.sink.now) (m.events new.sink.now) e)
+gives_up_by m old new (Ok x) on left = tt
+gives_up_by m old new (Err Memory) on left = on.right left
+gives_up_by m old new (Err Write) on left = (on.right left, on.tears refl)

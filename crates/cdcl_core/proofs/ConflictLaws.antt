@@ -1,5 +1,5 @@
 -- The row of a contradiction explains a conflict, and what a conflict comes to.
-use Rattle.std.proofs.Common.{◌≡◌, sym, ap, ◌∙◌, subst, ℕ, suc, ◌+◌, ◌<◌, Bool, true, eqb-true, List, [], ◌∷◌, length, take, Contains, Option, None, is_some, arith, inl, inr, zero, Some, ℤ}
+use Rattle.std.proofs.Common.{◌≡◌, sym, ap, ◌∙◌, subst, ℕ, suc, ◌+◌, Bool, true, eqb-true, List, [], ◌∷◌, length, Contains, Option, None, is_some, arith, inl, inr, Some, ℤ}
 use Rattle.std.specs.Prelude.{IsSome, ◌==◌}
 use Rattle.std.specs.List.{AllByRecursion}
 use Rattle.std.proofs.lemmas.Option.{same_Some}
@@ -35,9 +35,9 @@ use Rattle.cdcl_search.specs.Explaining.{Explains}
 use Rattle.cdcl_search.specs.declared.propagation.Found.{Found}
 use Rattle.cdcl_search.specs.declared.propagation.Found.TheVariants as found
 use Rattle.cdcl_search.specs.Finds.{PropagationFinds, IsClash}
-use Rattle.cdcl_search.specs.Tells.{IsLeft, as_events, with_events}
+use Rattle.cdcl_search.specs.Tells.{as_events, with_events}
 use Rattle.cdcl_search.specs.Ties.{SearchStands, first_row_id, Ties}
-use Rattle.cdcl_search.proofs.RowSteps.{all_told_are, is_left, sum_told, sum_is, clause_added, clause_is}
+use Rattle.cdcl_search.proofs.RowSteps.{all_told_are, sum_told, sum_is, clause_added, clause_is}
 use Rattle.cdcl_core.specs.declared.conflicts.Conclusion.TheVariants.{Clause}
 use Rattle.cdcl_core.specs.declared.conflicts.Conflict.{Conflict}
 use Rattle.cdcl_core.specs.Concluding.{Concludes, EndsLog, IsEndedWith}
@@ -84,11 +84,6 @@ module _ (formula : Problem) (c : SearchState) (e : State) (rows : List (List Li
   two_end : (told_ : Option (List LogEvent)) → AreTold told_ s.events → IsEndedWith formula c.conflicts (with_events two told_)
   two_end None a = tt
   two_end (Some es) a = subst (λ xs. IsEndedWith formula c.conflicts (Some xs)) (sym (all_told_are two s (Some es) a)) (ended, subst (Marked formula (all_told s two).events) t.conflicts marked)
-
-  two_fronts : (told_ : Option (List LogEvent)) → AreTold told_ s.events → (i : ℕ) → i < 2 → IsLeft formula (with_events (take i two) told_)
-  two_fronts told_ a zero less = is_left formula parities s (with_events [] told_) ok t.served.served (all_told_are [] s told_ a)
-  two_fronts told_ a (suc zero) less = is_left formula parities after_sum (with_events (take 1 two) told_) after_sum_is t.served.served (all_told_are (take 1 two) s told_ a)
-  two_fronts told_ a (suc (suc i)) less = absurd (omega (arith, less))
 
 -- ---- conflicts
 module _ (formula : Problem) (c : SearchState) (e : State) (told : Option (List LogEvent)) (st : SearchStands formula c e [] told) where
@@ -156,8 +151,6 @@ module _ (formula : Problem) (c : SearchState) (e : State) (told : Option (List 
             unmet = two_are_unmet formula c e [] st.0 st.1 st.3 reason clash_explains back_parity back_clause empty;
             log = subst (λ xs. IsEndedWith formula c.conflicts (with_events (as_events xs) told)) (sym are)
                 (two_end formula c e [] st.0 st.1 st.3 reason clash_explains back_parity back_clause empty told st.2);
-            fronts = λ i less. subst (λ xs. IsLeft formula (with_events (take i (as_events xs)) told)) (sym are)
-                (two_fronts formula c e [] st.0 st.1 st.3 reason clash_explains back_parity back_clause empty told st.2 i (subst (λ xs. i < length xs) are less));
           }
 
 pub found_concludes : (formula : Problem) (c : SearchState) (e : State) (told : Option (List LogEvent)) → SearchStands formula c e [] told → (what : Found) (r : ℕ) → what ≡ found.Clause r → PropagationFinds c e what

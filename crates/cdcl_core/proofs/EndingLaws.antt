@@ -1,9 +1,8 @@
 -- What is told last: the empty clause.
-use Rattle.std.proofs.Common.{◌≡◌, refl, sym, ap, subst, ℕ, zero, suc, ◌+◌, ◌<◌, ◌≤◌, ℤ, true, List, [], ◌∷◌, ◌++◌, length, take, Option, Some, None, Result, Ok, Err, IfErr, arith, length-append}
-use Rattle.std.specs.Prelude.{OnOk}
+use Rattle.std.proofs.Common.{◌≡◌, refl, sym, ap, subst, ℕ, ◌+◌, ◌<◌, ◌≤◌, ℤ, true, List, [], ◌∷◌, ◌++◌, length, Option, Some, None, inr, arith, length-append}
 use Rattle.std.specs.List.{All}
 use Rattle.cx_base.specs.Literals.{Literal}
-use Rattle.cx_base.specs.Problem.{Problem, parities_of}
+use Rattle.cx_base.specs.Problem.{Problem, Unmet, parities_of}
 use Rattle.cx_semantics.specs.declared.steps.LogStep.{LogStep}
 use Rattle.cx_semantics.specs.declared.steps.LogStep.TheVariants.{ClauseWithHints}
 use Rattle.cx_semantics.specs.declared.steps.LogEvent.{LogEvent}
@@ -11,7 +10,6 @@ use Rattle.cx_semantics.specs.declared.steps.LogEvent.TheVariants.{Step}
 use Rattle.cx_semantics.specs.Chain.{is_inside, negations}
 use Rattle.cx_semantics.specs.LogRules.{HasChain}
 use Rattle.cx_semantics.specs.Marked.{Marked}
-use Rattle.conflict_learn.specs.declared.fault.CoreFault.{CoreFault}
 use Rattle.parity_engine.specs.State.{State}
 use Rattle.search_steps.specs.LogSteps.{IsEnded, RestOnClauses}
 use Rattle.search_steps.specs.Quiet.{IsOfParities}
@@ -24,14 +22,12 @@ use Rattle.search_steps.proofs.Stored.{has_of, stored_is_false}
 use Rattle.search_steps.specs.Search.{Search}
 use Rattle.search_steps.specs.Holding.{AreTold}
 use Rattle.cdcl_search.specs.declared.state.SearchState.{SearchState}
-use Rattle.cdcl_search.specs.Tells.{TellsAll, GivesUp, IsLeft, as_events, with_events}
+use Rattle.cdcl_search.specs.Tells.{IsLeft, with_events}
 use Rattle.cdcl_search.specs.Ties.{SearchStands, first_row_id}
-use Rattle.cdcl_search.proofs.Events.{no_more, gives_up}
 use Rattle.cdcl_search.proofs.SourceLaws.{sourced_is_live}
 use Rattle.cdcl_search.proofs.Places.{tied_length}
-use Rattle.cdcl_search.proofs.RowSteps.{is_left}
 use Rattle.cdcl_search.proofs.UnitLaws.{false_are_low}
-use Rattle.cdcl_core.specs.Concluding.{EndsLog, IsEndedWith, IsContradicted, IsRefutable, IsConflictClause}
+use Rattle.cdcl_core.specs.Concluding.{IsEndedWith, IsContradicted, IsRefutable, IsConflictClause}
 use Rattle.cdcl_core.specs.Results.{Refutes, IsEndedWithin}
 
 -- ---- steps that end the log
@@ -39,18 +35,13 @@ within : (formula : Problem) (marks : ℕ) (told : Option (List LogEvent)) → I
 within formula marks None e = tt
 within formula marks (Some events) e = (e.0, (marks, omega arith, e.1))
 
-as_many : (steps : List LogStep) → length (as_events steps) ≡ length steps
-as_many [] = refl
-as_many (s ∷ steps) = ap suc (as_many steps)
+pub ends_refute : (formula : Problem) (marks : ℕ) (told : Option (List LogEvent)) → Unmet formula → IsEndedWith formula marks told → Refutes formula (marks + 1) told
+ends_refute formula marks told unmet ends = record { unmet = unmet; log = within formula marks told ends }
 
-module _ (formula : Problem) (marks : ℕ) (old : Option (List LogEvent)) (steps : List LogStep) (ends : EndsLog formula marks old steps) (torn : LogEvent → Type 0) (new : Option (List LogEvent)) where
-  pub ending_refutes : (r : Result (Unit {0}) CoreFault) → TellsAll torn (as_events steps) old r new → OnOk r (Refutes formula (marks + 1) new)
-  ending_refutes (Ok done) tells = record { unmet = ends.unmet; log = subst (IsEndedWithin formula (marks + 1)) (sym tells) (within formula marks (with_events (as_events steps) old) ends.log) }
-  ending_refutes (Err fault) tells = tt
-
-  pub ending_gives_up : (r : Result (Unit {0}) CoreFault) → TellsAll torn (as_events steps) old r new → IfErr r (λ f. GivesUp formula torn new f)
-  ending_gives_up (Ok done) tells = tt
-  ending_gives_up (Err fault) tells = gives_up formula torn (as_events steps) old new fault tells (λ i less. ends.fronts i (let long = as_many steps in omega (arith, long, less)))
+-- a log that is right to its end is right so far
+pub ended_is_left : (formula : Problem) (marks : ℕ) (told : Option (List LogEvent)) → IsEndedWith formula marks told → IsLeft formula told
+ended_is_left formula marks None e = tt
+ended_is_left formula marks (Some events) e = inr e.0
 
 -- ---- the empty clause is told
 module _ (formula : Problem) (id marks : ℕ) (old : Option (List LogEvent)) (shown : IsRefutable formula id marks old) (hints : List ℤ) where
@@ -69,25 +60,15 @@ module _ (formula : Problem) (id marks : ℕ) (old : Option (List LogEvent)) (sh
   is_marked : Marked formula (s.events ++ Step step ∷ []) marks
   is_marked = subst (Marked formula (s.events ++ Step step ∷ [])) k.conflicts (chained_clause_is_marked formula (parities_of formula.constraints) s k.search id [] hints k.served refl)
 
-  log_then : (o : Option (List LogEvent)) → AreTold o s.events → IsEndedWithin formula (marks + 1) (with_events (Step step ∷ []) o)
-  log_then None a = tt
-  log_then (Some es) a = subst (λ xs. IsEnded formula (xs ++ Step step ∷ []) × ((n : ℕ) × (n < marks + 1) × Marked formula (xs ++ Step step ∷ []) n)) (sym a) (ended, (marks, omega arith, is_marked))
+  ends_then : (o : Option (List LogEvent)) → AreTold o s.events → IsEndedWith formula marks (with_events (Step step ∷ []) o)
+  ends_then None a = tt
+  ends_then (Some es) a = subst (λ xs. IsEndedWith formula marks (Some (xs ++ Step step ∷ []))) (sym a) (ended, is_marked)
 
-  module _ (torn : LogEvent → Type 0) (new : Option (List LogEvent)) where
-    pub told_refutes : (r : Result (Unit {0}) CoreFault) → TellsAll torn (Step step ∷ []) old r new → OnOk r (Refutes formula (marks + 1) new)
-    told_refutes (Ok done) tells = record { unmet = ended_is_unmet formula (s.events ++ Step step ∷ []) ended; log = subst (IsEndedWithin formula (marks + 1)) (sym tells) (log_then old shown.1.1) }
-    told_refutes (Err fault) tells = tt
+  pub shown_ends : IsEndedWith formula marks (with_events (Step step ∷ []) old)
+  shown_ends = ends_then old shown.1.1
 
-    front : (i : ℕ) → i < 1 → IsLeft formula (with_events (take i (Step step ∷ [])) old)
-    front zero less = subst (IsLeft formula) (sym (no_more old)) (is_left formula (parities_of formula.constraints) s old k.search k.served shown.1.1)
-    front (suc i) less = absurd (omega (arith, less))
-
-    pub told_gives_up : (r : Result (Unit {0}) CoreFault) → TellsAll torn (Step step ∷ []) old r new → IfErr r (λ f. GivesUp formula torn new f)
-    told_gives_up (Ok done) tells = tt
-    told_gives_up (Err fault) tells = gives_up formula torn (Step step ∷ []) old new fault tells (λ i less. front i less)
-
-pub refutable_is_left : (formula : Problem) (id marks : ℕ) (old : Option (List LogEvent)) → IsRefutable formula id marks old → IsLeft formula old
-refutable_is_left formula id marks old shown = is_left formula (parities_of formula.constraints) shown.1.0 old shown.1.2.search shown.1.2.served shown.1.1
+  pub shown_is_unmet : Unmet formula
+  shown_is_unmet = ended_is_unmet formula (s.events ++ Step step ∷ []) ended
 
 -- ---- a conflict at level 0
 pub no_newer : (newer older es : List Entry) → es ≡ newer ++ older → length older ≡ length es → older ≡ es

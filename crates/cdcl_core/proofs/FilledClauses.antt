@@ -134,28 +134,28 @@ nothing_is_filled formula c e = record {
 -- ---- the next clause
 module _ (formula : Problem) (f : Filled) (lits : List Literal) (is : IsNext formula f lits) where
   abbrev n : ℕ
-  n = f.kept.next
+  n = f.state.next
 
   -- the number is one of those before, or the next
-  before_or_next : (k : ℕ) → k ≤ f.kept.next → (k ≤ f.kept.next - 1) ⊎ (k ≡ f.kept.next)
-  before_or_next k high = by_cases (nat_eq k f.kept.next)
-      (λ q. inr (eqb-true k f.kept.next q))
-      (λ q. inl (let apart : k ≢ f.kept.next = eqb-false k f.kept.next q in omega (arith, apart, high)))
+  before_or_next : (k : ℕ) → k ≤ f.state.next → (k ≤ f.state.next - 1) ⊎ (k ≡ f.state.next)
+  before_or_next k high = by_cases (nat_eq k f.state.next)
+      (λ q. inr (eqb-true k f.state.next q))
+      (λ q. inl (let apart : k ≢ f.state.next = eqb-false k f.state.next q in omega (arith, apart, high)))
 
-  low : 1 ≤ f.kept.next
+  low : 1 ≤ f.state.next
   low = let after = is.filled.next in omega (arith, after)
 
   -- where the arena stays
   module _ (units : List Single) (empty : Option ℕ) (more : (u : Single) → Contains f.units.items u → Contains units u) (still : IsSome f.empty → IsSome empty) where
-    pub taken_still : (k : ℕ) → IsClauseTaken formula f.kept f.units.items f.empty k → IsClauseTaken formula f.kept units empty k
+    pub taken_still : (k : ℕ) → IsClauseTaken formula f.state f.units.items f.empty k → IsClauseTaken formula f.state units empty k
     taken_still k (inl a) = inl a
     taken_still k (inr (inl a)) = inr (inl a)
     taken_still k (inr (inr (inl (u, has, number)))) = inr (inr (inl (u, more u has, number)))
     taken_still k (inr (inr (inr a))) = inr (inr (inr (still a)))
 
     pub filled_then : AllByRecursion (λ u. IsUnitClause formula u.number u.literal × (1 ≤ u.literal.variable) × (u.literal.variable ≤ formula.variables)) units
-        → IfSome empty (λ k. (1 ≤ k) × (k ≤ f.kept.next) × (clause_number formula k ≡ []))
-        → IsClauseTaken formula f.kept units empty f.kept.next → IsFilledUpTo formula f.kept.next (record f.kept { next = f.kept.next + 1 }) units empty
+        → IfSome empty (λ k. (1 ≤ k) × (k ≤ f.state.next) × (clause_number formula k ≡ []))
+        → IsClauseTaken formula f.state units empty f.state.next → IsFilledUpTo formula f.state.next (record f.state { next = f.state.next + 1 }) units empty
     filled_then units_are empty_is taken = record {
       trail = is.filled.trail;
       fits = is.filled.fits;
@@ -169,60 +169,60 @@ module _ (formula : Problem) (f : Filled) (lits : List Literal) (is : IsNext for
       units_are = units_are;
       covered = λ k small high. elim (before_or_next k high) [
         | inl old ↦ taken_still k (is.filled.covered k small old)
-        | inr new ↦ subst (IsClauseTaken formula f.kept units empty) (sym new) taken
+        | inr new ↦ subst (IsClauseTaken formula f.state units empty) (sym new) taken
       ];
       empty_is = empty_is;
     }
 
-  empty_before : IfSome f.empty (λ k. (1 ≤ k) × (k ≤ f.kept.next) × (clause_number formula k ≡ []))
+  empty_before : IfSome f.empty (λ k. (1 ≤ k) × (k ≤ f.state.next) × (clause_number formula k ≡ []))
   empty_before = go f.empty is.filled.empty_is
     where
-      go : (empty : Option ℕ) → IfSome empty (λ k. (1 ≤ k) × (k ≤ f.kept.next - 1) × (clause_number formula k ≡ [])) → IfSome empty (λ k. (1 ≤ k) × (k ≤ f.kept.next) × (clause_number formula k ≡ []))
+      go : (empty : Option ℕ) → IfSome empty (λ k. (1 ≤ k) × (k ≤ f.state.next - 1) × (clause_number formula k ≡ [])) → IfSome empty (λ k. (1 ≤ k) × (k ≤ f.state.next) × (clause_number formula k ≡ []))
       go None h = tt
       go (Some k) h = let high = h.1 in (h.0, omega (arith, high), h.2)
 
-  pub tautology_taken : is_tautology lits ≡ true → IsFilledUpTo formula f.kept.next (record f.kept { next = f.kept.next + 1 }) f.units.items f.empty
+  pub tautology_taken : is_tautology lits ≡ true → IsFilledUpTo formula f.state.next (record f.state { next = f.state.next + 1 }) f.units.items f.empty
   tautology_taken h = filled_then f.units.items f.empty (λ u has. has) (λ some. some) is.filled.units_are empty_before
-      (inr (inl (same_tautology lits (clause_number formula f.kept.next) is.same h)))
+      (inr (inl (same_tautology lits (clause_number formula f.state.next) is.same h)))
 
-  pub empty_taken : lits ≡ [] → IsFilledUpTo formula f.kept.next (record f.kept { next = f.kept.next + 1 }) f.units.items (Some f.kept.next)
-  empty_taken none = filled_then f.units.items (Some f.kept.next) (λ u has. has) (λ some. refl) is.filled.units_are
-      (low, omega arith, same_as_none (clause_number formula f.kept.next) (sym (ap (λ xs. same_literals xs (clause_number formula f.kept.next)) none) ∙ is.same))
+  pub empty_taken : lits ≡ [] → IsFilledUpTo formula f.state.next (record f.state { next = f.state.next + 1 }) f.units.items (Some f.state.next)
+  empty_taken none = filled_then f.units.items (Some f.state.next) (λ u has. has) (λ some. refl) is.filled.units_are
+      (low, omega arith, same_as_none (clause_number formula f.state.next) (sym (ap (λ xs. same_literals xs (clause_number formula f.state.next)) none) ∙ is.same))
       (inr (inr (inr refl)))
 
-  pub unit_taken : (l : Literal) → lits ≡ l ∷ [] → (units : List Single) → units ≡ f.units.items ++ (record { literal = l; number = f.kept.next }) ∷ []
-      → IsFilledUpTo formula f.kept.next (record f.kept { next = f.kept.next + 1 }) units f.empty
+  pub unit_taken : (l : Literal) → lits ≡ l ∷ [] → (units : List Single) → units ≡ f.units.items ++ (record { literal = l; number = f.state.next }) ∷ []
+      → IsFilledUpTo formula f.state.next (record f.state { next = f.state.next + 1 }) units f.empty
   unit_taken l one units more =
-      let u : Single = record { literal = l; number = f.kept.next } in
-      let same : same_literals (l ∷ []) (clause_number formula f.kept.next) ≡ true = sym (ap (λ xs. same_literals xs (clause_number formula f.kept.next)) one) ∙ is.same in
+      let u : Single = record { literal = l; number = f.state.next } in
+      let same : same_literals (l ∷ []) (clause_number formula f.state.next) ≡ true = sym (ap (λ xs. same_literals xs (clause_number formula f.state.next)) one) ∙ is.same in
       let w : AreWithin formula.variables (l ∷ []) = subst (AreWithin formula.variables) one is.within in
-      subst (λ us. IsFilledUpTo formula f.kept.next (record f.kept { next = f.kept.next + 1 }) us f.empty) (sym more)
+      subst (λ us. IsFilledUpTo formula f.state.next (record f.state { next = f.state.next + 1 }) us f.empty) (sym more)
       (filled_then (f.units.items ++ u ∷ []) f.empty (λ v has. Contains-append_left f.units.items (u ∷ []) v has) (λ some. some)
       (all_append (λ v. IsUnitClause formula v.number v.literal × (1 ≤ v.literal.variable) × (v.literal.variable ≤ formula.variables)) f.units.items (u ∷ []) is.filled.units_are ((record { low = low; high = is.high; same = same }, w.0.0, w.0.1), tt))
       empty_before
       (inr (inr (inl (u, Contains-push f.units.items u, refl)))))
 
   -- a clause of several literals is attached
-  module _ (D : SearchState) (a : Attaches (record f.kept { next = f.kept.next + 1 }) D lits f.kept.next) where
+  module _ (D : SearchState) (a : Attaches (record f.state { next = f.state.next + 1 }) D lits f.state.next) where
     abbrev stored : Stored
-    stored = record { literals = lits; id = f.kept.next; lbd = 0; learned = false }
+    stored = record { literals = lits; id = f.state.next; lbd = 0; learned = false }
 
-    clause_kept : (r : ℕ) → IsLive f.kept.arena r → clause_at D.arena r ≡ clause_at f.kept.arena r
-    clause_kept r live = ap (λ xs. get_or xs r None) a.added ∙ kept_at f.kept.arena.clauses (Some stored) r live
+    clause_kept : (r : ℕ) → IsLive f.state.arena r → clause_at D.arena r ≡ clause_at f.state.arena r
+    clause_kept r live = ap (λ xs. get_or xs r None) a.added ∙ kept_at f.state.arena.clauses (Some stored) r live
 
-    clause_new : clause_at D.arena (length f.kept.arena.clauses) ≡ Some stored
-    clause_new = ap (λ xs. get_or xs (length f.kept.arena.clauses) None) a.added ∙ new_at f.kept.arena.clauses (Some stored)
+    clause_new : clause_at D.arena (length f.state.arena.clauses) ≡ Some stored
+    clause_new = ap (λ xs. get_or xs (length f.state.arena.clauses) None) a.added ∙ new_at f.state.arena.clauses (Some stored)
 
-    attached_still : (r : ℕ) → IsAttached f.kept.watches.attached r → IsAttached D.watches.attached r
-    attached_still r h = by_cases (nat_eq r (length f.kept.arena.clauses))
-        (λ q. subst (IsAttached D.watches.attached) (sym (eqb-true r (length f.kept.arena.clauses) q)) a.attached)
-        (λ q. a.others r (eqb-false r (length f.kept.arena.clauses) q) ∙ h)
+    attached_still : (r : ℕ) → IsAttached f.state.watches.attached r → IsAttached D.watches.attached r
+    attached_still r h = by_cases (nat_eq r (length f.state.arena.clauses))
+        (λ q. subst (IsAttached D.watches.attached) (sym (eqb-true r (length f.state.arena.clauses) q)) a.attached)
+        (λ q. a.others r (eqb-false r (length f.state.arena.clauses) q) ∙ h)
 
     abbrev IsGood : ℕ → Option Stored → Type 0
-    IsGood r x = IsAttached D.watches.attached r × (1 ≤ id_in x) × (id_in x ≤ f.kept.next) × (same_literals (literals_in x) (clause_number formula (id_in x)) ≡ true)
+    IsGood r x = IsAttached D.watches.attached r × (1 ≤ id_in x) × (id_in x ≤ f.state.next) × (same_literals (literals_in x) (clause_number formula (id_in x)) ≡ true)
 
     stored_then : (r : ℕ) → IsLive D.arena r → IsGood r (clause_at D.arena r)
-    stored_then r live = elim (old_or_new f.kept.arena.clauses (Some stored) r (sym (ap (λ xs. is_some (get_or xs r None)) a.added) ∙ live)) [
+    stored_then r live = elim (old_or_new f.state.arena.clauses (Some stored) r (sym (ap (λ xs. is_some (get_or xs r None)) a.added) ∙ live)) [
       | inl old ↦
           let st = is.filled.stored r old in
           let high = st.2 in
@@ -230,20 +230,20 @@ module _ (formula : Problem) (f : Filled) (lits : List Literal) (is : IsNext for
       | inr new ↦ subst (IsGood r) (sym (ap (clause_at D.arena) new ∙ clause_new)) (subst (IsAttached D.watches.attached) (sym new) a.attached, low, omega arith, is.same)
     ]
 
-    taken_then : (k : ℕ) → IsClauseTaken formula f.kept f.units.items f.empty k → IsClauseTaken formula D f.units.items f.empty k
+    taken_then : (k : ℕ) → IsClauseTaken formula f.state f.units.items f.empty k → IsClauseTaken formula D f.units.items f.empty k
     taken_then k (inl (r, attached, same)) = inl (r, attached_still r attached, ap (λ x. same_literals (literals_in x) (clause_number formula k)) (clause_kept r (is.filled.fits.nodes.live r attached)) ∙ same)
     taken_then k (inr (inl h)) = inr (inl h)
     taken_then k (inr (inr (inl h))) = inr (inr (inl h))
     taken_then k (inr (inr (inr h))) = inr (inr (inr h))
 
-    new_taken : IsClauseTaken formula D f.units.items f.empty f.kept.next
-    new_taken = inl (length f.kept.arena.clauses, a.attached, ap (λ x. same_literals (literals_in x) (clause_number formula f.kept.next)) clause_new ∙ is.same)
+    new_taken : IsClauseTaken formula D f.units.items f.empty f.state.next
+    new_taken = inl (length f.state.arena.clauses, a.attached, ap (λ x. same_literals (literals_in x) (clause_number formula f.state.next)) clause_new ∙ is.same)
 
-    pub attached_taken : IsFilledUpTo formula f.kept.next D f.units.items f.empty
+    pub attached_taken : IsFilledUpTo formula f.state.next D f.units.items f.empty
     attached_taken = record {
       trail = a.trail ∙ is.filled.trail;
       fits = subst (Fits D.watches D.arena) (sym a.trail) a.fits;
-      stand = subst (λ o. AllStand o D.trail) (sym a.order) (subst (AllStand f.kept.order) (sym a.trail) is.filled.stand);
+      stand = subst (λ o. AllStand o D.trail) (sym a.order) (subst (AllStand f.state.order) (sym a.trail) is.filled.stand);
       phases = ap length a.phases ∙ is.filled.phases;
       no_units = a.units ∙ is.filled.no_units;
       next = a.next;
@@ -260,11 +260,11 @@ module _ (formula : Problem) (f : Filled) (lits : List Literal) (is : IsNext for
 
 -- ---- a place of the formula
 module _ (formula : Problem) (place : ℕ) (d : Constraint) (less : place < length formula.constraints) (f : Filled)
-    (filled : IsFilledUpTo formula (length (clauses_of (take place formula.constraints))) f.kept f.units.items f.empty) where
+    (filled : IsFilledUpTo formula (length (clauses_of (take place formula.constraints))) f.state f.units.items f.empty) where
   abbrev count : ℕ
   count = length (clauses_of (take place formula.constraints))
 
-  pub next_is_few : length formula.constraints ≤ 4294967295 → (lits : List Literal) → get_or formula.constraints place d ≡ constraint.Clause lits → f.kept.next ≤ 4294967295
+  pub next_is_few : length formula.constraints ≤ 4294967295 → (lits : List Literal) → get_or formula.constraints place d ≡ constraint.Clause lits → f.state.next ≤ 4294967295
   next_is_few few lits at =
       let there = (clause_is_at formula.constraints place d lits less at).0 in
       let all = few_clauses formula.constraints in
@@ -276,21 +276,21 @@ module _ (formula : Problem) (place : ℕ) (d : Constraint) (less : place < leng
       let there = clause_is_at formula.constraints place d given less at in
       let small = there.0 in
       let after = filled.next in
-      let back : f.kept.next - 1 ≡ count = omega (arith, after) in
+      let back : f.state.next - 1 ≡ count = omega (arith, after) in
       record {
-        filled = subst (λ n. IsFilledUpTo formula n f.kept f.units.items f.empty) (sym back) filled;
+        filled = subst (λ n. IsFilledUpTo formula n f.state f.units.items f.empty) (sym back) filled;
         high = omega (arith, small, after);
         same = ap (same_literals lits) (ap (λ k. get_or (clauses_of formula.constraints) k []) back ∙ there.1) ∙ same;
         different = once;
         within = different_within formula.variables lits given same w;
       }
 
-  pub next_filled : (lits : List Literal) → get_or formula.constraints place d ≡ constraint.Clause lits → (g : Filled) → IsFilledUpTo formula f.kept.next g.kept g.units.items g.empty
-      → IsFilledUpTo formula (length (clauses_of (take (place + 1) formula.constraints))) g.kept g.units.items g.empty
-  next_filled lits at g then = subst (λ n. IsFilledUpTo formula n g.kept g.units.items g.empty) (filled.next ∙ sym (clause_counts formula.constraints place d lits less at)) then
+  pub next_filled : (lits : List Literal) → get_or formula.constraints place d ≡ constraint.Clause lits → (g : Filled) → IsFilledUpTo formula f.state.next g.state g.units.items g.empty
+      → IsFilledUpTo formula (length (clauses_of (take (place + 1) formula.constraints))) g.state g.units.items g.empty
+  next_filled lits at g then = subst (λ n. IsFilledUpTo formula n g.state g.units.items g.empty) (filled.next ∙ sym (clause_counts formula.constraints place d lits less at)) then
 
-  pub parity_passed : (lits : List Literal) → get_or formula.constraints place d ≡ constraint.Parity lits → IsFilledUpTo formula (length (clauses_of (take (place + 1) formula.constraints))) f.kept f.units.items f.empty
-  parity_passed lits at = subst (λ n. IsFilledUpTo formula n f.kept f.units.items f.empty) (sym (parity_passes formula.constraints place d lits less at)) filled
+  pub parity_passed : (lits : List Literal) → get_or formula.constraints place d ≡ constraint.Parity lits → IsFilledUpTo formula (length (clauses_of (take (place + 1) formula.constraints))) f.state f.units.items f.empty
+  parity_passed lits at = subst (λ n. IsFilledUpTo formula n f.state f.units.items f.empty) (sym (parity_passes formula.constraints place d lits less at)) filled
 
 pub only_one : (xs : List Literal) (d : Literal) → length xs ≤ 1 → length xs ≢ 0 → xs ≡ get_or xs 0 d ∷ []
 only_one [] d few some = absurd (some refl)

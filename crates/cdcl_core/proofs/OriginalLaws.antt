@@ -1,6 +1,5 @@
 -- Telling the formula's constraints one after another.
-use Rattle.std.proofs.Common.{◌≡◌, ◌≢◌, refl, sym, ap, ◌∙◌, subst, ℕ, zero, suc, ◌+◌, ◌-◌, nat_eq, eqb-true, ◌<◌, ◌≤◌, List, [], ◌∷◌, ◌++◌, length, take, get_or, Option, Some, None, Result, Ok, Err, IfErr, Contains, arith, inl, length-append, append-nil, length-take}
-use Rattle.std.specs.Prelude.{OnOk}
+use Rattle.std.proofs.Common.{◌≡◌, ◌≢◌, refl, sym, ap, ◌∙◌, subst, ℕ, zero, suc, ◌+◌, ◌-◌, nat_eq, eqb-true, ◌<◌, ◌≤◌, List, [], ◌∷◌, ◌++◌, length, take, get_or, Option, Some, None, Result, Ok, Err, Contains, arith, inl, length-append, append-nil, length-take}
 use Rattle.std.proofs.lemmas.Bool.{eqb-false}
 use Rattle.std.proofs.lemmas.List.{take_more}
 use Rattle.std.proofs.lemmas.List.Elements.{filter_map-append}
@@ -20,14 +19,12 @@ use Rattle.cx_semantics.specs.Integers.{integers_of, literals}
 use Rattle.cx_semantics.specs.LogRules.{IsOriginalParity}
 use Rattle.cx_semantics.specs.Tables.{Table, get}
 use Rattle.cx_semantics.proofs.Lookups.{Looks-empty}
-use Rattle.conflict_learn.specs.declared.fault.CoreFault.{CoreFault}
 use Rattle.conflict_learn.proofs.ChainOfResolutions.{by_cases}
 use Rattle.search_steps.specs.Holding.{AreTold}
 use Rattle.search_steps.specs.Search.{Search, told}
 use Rattle.search_steps.specs.Start.{IsBegun, start}
 use Rattle.search_steps.proofs.StartLaws.{nothing_is_begun, clause_begins, parity_begins, literals_are}
-use Rattle.cdcl_search.specs.Tells.{TellsAll, GivesUp, IsLeft, with_events}
-use Rattle.cdcl_search.proofs.Events.{no_more, gives_up}
+use Rattle.cdcl_search.specs.Tells.{IsLeft, with_events}
 use Rattle.cdcl_search.proofs.TableLaws.{put_same, put_other}
 use Rattle.cdcl_search.proofs.RowSteps.{few_parities}
 use Rattle.cdcl_core.specs.Originals.{AreListedFromOne, HasBegun, AreCounted}
@@ -178,19 +175,11 @@ module _ (formula : Problem) (place : ℕ) (d : Constraint) (less : place < leng
   told_more step None a = tt
   told_more step (Some es) a = ap (λ xs. xs ++ Step step ∷ []) a
 
-  one_is_left : (step : LogStep) (i : ℕ) → i < 1 → IsLeft formula (with_events (take i (Step step ∷ [])) old)
-  one_is_left step zero small = subst (IsLeft formula) (sym (no_more old)) (begun_is_left formula taken old begun)
-  one_is_left step (suc i) small = absurd (omega (arith, small))
-
   pub clause_is_id : (1 ≤ clauses + 1) × (clauses + 1 ≤ 9223372036854775807)
   clause_is_id = let a = few_clauses taken in let b = length-take place formula.constraints in let was = counted.clauses in (omega arith, omega (arith, a, b, was, less, few))
 
   pub parity_is_id : (1 ≤ parities + 1) × (parities + 1 ≤ 9223372036854775807)
   parity_is_id = let a = few_parities taken in let b = length-take place formula.constraints in let was = counted.parities in (omega arith, omega (arith, a, b, was, less, few))
-
-  pub gives_up_original : (step : LogStep) (torn : LogEvent → Type 0) (r : Result (Unit {0}) CoreFault) (new : Option (List LogEvent)) → TellsAll torn (Step step ∷ []) old r new → IfErr r (λ f. GivesUp formula torn new f)
-  gives_up_original step torn (Ok done) new tells = tt
-  gives_up_original step torn (Err fault) new tells = gives_up formula torn (Step step ∷ []) old new fault tells (λ i small. one_is_left step i small)
 
   module _ (lits : List Literal) (w : AreWithin formula.variables lits) where
     pub clause_counted : get_or formula.constraints place d ≡ constraint.Clause lits → AreCounted (take (place + 1) formula.constraints) (clauses + 1) parities
@@ -199,27 +188,17 @@ module _ (formula : Problem) (place : ℕ) (d : Constraint) (less : place < leng
     pub parity_counted : get_or formula.constraints place d ≡ constraint.Parity lits → AreCounted (take (place + 1) formula.constraints) clauses (parities + 1)
     parity_counted is = subst (λ cs. AreCounted cs clauses (parities + 1)) (sym (take_more formula.constraints place d less ∙ ap (λ c. taken ++ c ∷ []) is)) (count_parity taken clauses parities lits counted)
 
-    pub clause_begun : get_or formula.constraints place d ≡ constraint.Clause lits → (torn : LogEvent → Type 0) (r : Result (Unit {0}) CoreFault) (new : Option (List LogEvent))
-        → TellsAll torn (Step (Original (clauses + 1) (integers_of lits)) ∷ []) old r new → OnOk r (HasBegun formula (take (place + 1) formula.constraints) new)
-    clause_begun is torn (Err fault) new tells = tt
-    clause_begun is torn (Ok done) new tells =
+    pub clause_begun : get_or formula.constraints place d ≡ constraint.Clause lits → HasBegun formula (take (place + 1) formula.constraints) (with_events (Step (Original (clauses + 1) (integers_of lits)) ∷ []) old)
+    clause_begun is =
         let step = Original (clauses + 1) (integers_of lits) in
-        subst (λ o. HasBegun formula (take (place + 1) formula.constraints) o) (sym tells)
-        (subst (λ cs. HasBegun formula cs (with_events (Step step ∷ []) old)) (sym (take_more formula.constraints place d less ∙ ap (λ c. taken ++ c ∷ []) is))
+        subst (λ cs. HasBegun formula cs (with_events (Step step ∷ []) old)) (sym (take_more formula.constraints place d less ∙ ap (λ c. taken ++ c ∷ []) is))
         (clause_has_begun formula taken begun.0 lits w begun.1 begun.2 begun.3 (with_events (Step step ∷ []) old) (clause_there formula.constraints place lits d less is)
-        (subst (λ n. AreTold (with_events (Step step ∷ []) old) (begun.0.events ++ Step (Original (n + 1) (integers_of lits)) ∷ [])) counted.clauses (told_more step old begun.4))))
+        (subst (λ n. AreTold (with_events (Step step ∷ []) old) (begun.0.events ++ Step (Original (n + 1) (integers_of lits)) ∷ [])) counted.clauses (told_more step old begun.4)))
 
-    pub parity_begun : get_or formula.constraints place d ≡ constraint.Parity lits → (torn : LogEvent → Type 0) (r : Result (Unit {0}) CoreFault) (new : Option (List LogEvent))
-        → TellsAll torn (Step (OriginalParity (parities + 1) (integers_of lits)) ∷ []) old r new → OnOk r (HasBegun formula (take (place + 1) formula.constraints) new)
-    parity_begun is torn (Err fault) new tells = tt
-    parity_begun is torn (Ok done) new tells =
+    pub parity_begun : get_or formula.constraints place d ≡ constraint.Parity lits → HasBegun formula (take (place + 1) formula.constraints) (with_events (Step (OriginalParity (parities + 1) (integers_of lits)) ∷ []) old)
+    parity_begun is =
         let step = OriginalParity (parities + 1) (integers_of lits) in
         let has = parity_there formula.constraints place lits d less is in
-        subst (λ o. HasBegun formula (take (place + 1) formula.constraints) o) (sym tells)
-        (subst (λ cs. HasBegun formula cs (with_events (Step step ∷ []) old)) (sym (take_more formula.constraints place d less ∙ ap (λ c. taken ++ c ∷ []) is))
+        subst (λ cs. HasBegun formula cs (with_events (Step step ∷ []) old)) (sym (take_more formula.constraints place d less ∙ ap (λ c. taken ++ c ∷ []) is))
         (parity_has_begun formula taken begun.0 lits w begun.1 begun.2 begun.3 (with_events (Step step ∷ []) old) (has.0, lits, has.1, has.2, refl)
-        (subst (λ n. AreTold (with_events (Step step ∷ []) old) (begun.0.events ++ Step (OriginalParity (n + 1) (integers_of lits)) ∷ [])) counted.parities (told_more step old begun.4))))
-
-pub in_any_case : {T E : Type 0} (r : Result T E) (P : Type 0) → P → OnOk r P
-in_any_case (Ok x) P p = p
-in_any_case (Err e) P p = tt
+        (subst (λ n. AreTold (with_events (Step step ∷ []) old) (begun.0.events ++ Step (OriginalParity (n + 1) (integers_of lits)) ∷ [])) counted.parities (told_more step old begun.4)))

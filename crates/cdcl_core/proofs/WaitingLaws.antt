@@ -39,7 +39,6 @@ use Rattle.search_steps.proofs.Sets.{not_both}
 use Rattle.search_steps.proofs.StartLaws.{begun_is_search}
 use Rattle.search_steps.proofs.Stored.{stored_is_false}
 use Rattle.cdcl_search.specs.declared.state.SearchState.{SearchState}
-use Rattle.cdcl_search.specs.Tells.{IsLeft}
 use Rattle.cdcl_search.specs.Ties.{IsNamedBy, IsCovered, AreClauses, AreUnits, IsFed, SearchStands, first_row_id}
 use Rattle.cdcl_search.proofs.Growing.{covered_grows, stand_grows}
 use Rattle.cdcl_search.proofs.Places.{tied_length}
@@ -52,9 +51,6 @@ use Rattle.cdcl_core.specs.Waiting.{TiesBut, SearchStandsBut, IsWaiting, IsSingl
 use Rattle.cdcl_core.proofs.EndingLaws.{no_newer}
 use Rattle.cdcl_core.proofs.OriginalLaws.{few_clauses}
 use Rattle.cdcl_core.specs.Concluding.{IsRefutable}
-
-pub waiting_is_left : (formula : Problem) (c : SearchState) (waiting : List Single) (old : Option (List LogEvent)) → SearchStandsBut formula c waiting old → IsLeft formula old
-waiting_is_left formula c waiting old st = is_left formula (parities_of formula.constraints) st.0 old st.1 st.3.served.served st.2
 
 -- ---- a clause of one literal
 only_one : (lits : List Literal) (l m : Literal) → same_literals (l ∷ []) lits ≡ true → has_literal lits m ≡ true → m ≡ l

@@ -1,5 +1,5 @@
 -- What a conflict comes to.
-use Rattle.std.specs.Prelude.{◌≡◌, ℕ, ◌<◌, List, [], length, take, Option, Some, None, IsFalse, IsTrue, ◌≢◌}
+use Rattle.std.specs.Prelude.{◌≡◌, ℕ, ◌<◌, List, [], Option, Some, None, IsFalse, IsTrue, ◌≢◌}
 use Rattle.std.specs.List.{AllByRecursion}
 use Rattle.cx_base.specs.Problem.{Problem, Unmet, parities_of}
 use Rattle.cx_base.specs.Literals.{Literal}
@@ -18,7 +18,7 @@ use Rattle.search_steps.specs.LogSteps.{IsEnded}
 use Rattle.search_steps.specs.Search.{Search, IsSearch}
 use Rattle.cx_trail.specs.Sequence.{IsFalseIn}
 use Rattle.cdcl_search.specs.declared.state.SearchState.{SearchState}
-use Rattle.cdcl_search.specs.Tells.{IsId, IsLeft, as_events, with_events}
+use Rattle.cdcl_search.specs.Tells.{IsId, as_events, with_events}
 use Rattle.cdcl_search.specs.Ties.{SearchStands}
 use Rattle.cdcl_search.specs.Sources.{IsSourced}
 use Rattle.cdcl_core.specs.declared.conflicts.Conclusion.{Conclusion}
@@ -34,12 +34,11 @@ abbrev pub IsEndedWith : Problem → ℕ → Option (List LogEvent) → Type 0
 IsEndedWith formula marks None = Unit {0}
 IsEndedWith formula marks (Some events) = IsEnded formula events × Marked formula events marks
 
--- telling these steps ends the log, and each front of them leaves it open; so no values meet the formula
+-- telling these steps ends the log; so no values meet the formula
 pub record EndsLog (formula : Problem) (marks : ℕ) (told : Option (List LogEvent)) (steps : List LogStep) : Type 0 where
   pub texts : AllByRecursion (λ s. HasText (Step s)) steps
   pub unmet : Unmet formula
   pub log : IsEndedWith formula marks (with_events (as_events steps) told)
-  pub fronts : (i : ℕ) → i < length steps → IsLeft formula (with_events (take i (as_events steps)) told)
 
 -- a clause whose literals are all false, or steps that end the log
 abbrev pub Concludes : Problem → SearchState → State → Option (List LogEvent) → Conclusion → Type 0

@@ -66,9 +66,9 @@ IsFilled formula c units empty = IsFilledUpTo formula (length (clauses_of formul
 
 -- these are the different literals of the formula's next clause
 pub record IsNext (formula : Problem) (f : Filled) (lits : List Literal) : Type 0 where
-  pub filled : IsFilledUpTo formula (f.kept.next - 1) f.kept f.units.items f.empty
-  pub high : f.kept.next ≤ length (clauses_of formula.constraints)
-  pub same : IsTrue (same_literals lits (clause_number formula f.kept.next))
+  pub filled : IsFilledUpTo formula (f.state.next - 1) f.state f.units.items f.empty
+  pub high : f.state.next ≤ length (clauses_of formula.constraints)
+  pub same : IsTrue (same_literals lits (clause_number formula f.state.next))
   pub different : AreDifferent lits
   pub within : AreWithin formula.variables lits
 

@@ -1,11 +1,10 @@
 //! The beginning of a search.
-ghost use Rattle.std.specs.Prelude.{◌≡◌, ◌+◌, ◌<◌, ◌≤◌, ℕ, [], length, drop, take, OnOk, IfOk, IfErr};
+ghost use Rattle.std.specs.Prelude.{◌≡◌, ◌+◌, ◌<◌, ◌≤◌, ℕ, [], length, drop, take, OnOk, IfOk};
 ghost use Rattle.std.specs.List.{All};
 ghost use Rattle.cx_base.specs.Problem.{parities_of};
 ghost use Rattle.parity_engine.specs.State.{fresh};
-ghost use Rattle.conflict_learn.specs.declared.fault.CoreFault.TheVariants.{Write};
-ghost use Rattle.cx_base.specs.Counts.{Rose};
-ghost use Rattle.cdcl_search.specs.Tells.{GivesUp, FaultsAs};
+ghost use Rattle.conflict_learn.specs.Faults.{fault_in};
+ghost use Rattle.cdcl_search.specs.Logs.{GoesOn, told_in};
 ghost use Rattle.cdcl_core.specs.Beginning.{SearchBegins};
 ghost use Rattle.cdcl_core.specs.Filling.{IsFilled};
 ghost use Rattle.cdcl_core.specs.Originals.{HasBegun};
@@ -16,6 +15,7 @@ use crate::ending::refute;
 use crate::filling::{Filled, Single, fill};
 use crate::originals::tell_originals;
 use cdcl_search::SearchState;
+use cdcl_search::logs::SearchLog;
 use cdcl_search::rows::copy_of;
 use conflict_learn::CoreFault;
 use cx_base::{ConstraintRef, Formula, Lit, LitList, ParityList};
@@ -36,31 +36,26 @@ pub(crate) enum Begun<P> {
 /// Puts the literal of the unit clause at a place on the trail. False where its negation stands there: then the log is
 /// ended.
 fn put_unit<L: LogSink>(
-    alloc: Global,
-    formula: &Formula,
-    kept: &mut SearchState,
-    sink: &mut L,
+    log: &mut SearchLog<L>,
+    state: &mut SearchState,
     units: &[Single],
     place: usize,
 ) -> Result<bool, CoreFault>
     requires place { place < length units.now }
-    requires stands { SearchStandsBut formula.now kept.old (drop place units.now) (L.events sink.old) }
-    ensures puts { IfOk result (λ going. PutsUnits formula.now kept.new (drop (place + 1) units.now) (L.events sink.new) going) }
-    ensures gave_up { IfErr result (λ e. GivesUp formula.now (L.torn sink.new) (L.events sink.new) e) }
-    ensures write { IfErr result (λ e. e ≡ Write → Rose (L.faults sink.old) (L.faults sink.new)) }
-    ensures faults { FaultsAs result (L.faults sink.old) (L.faults sink.new) }
-    ensures frame { L.keeps sink.old sink.new }
+    requires stands { SearchStandsBut log.old.formula.now state.old (drop place units.now) (told_in L.LogSink log.old) }
+    ensures puts { IfOk result (λ going. PutsUnits log.new.formula.now state.new (drop (place + 1) units.now) (told_in L.LogSink log.new) going) }
+    ensures log { GoesOn L.LogSink log.old (fault_in result) log.new }
 {
     let unit = units[place];
-    match kept.trail.truth(unit.literal) {
+    match state.trail.truth(unit.literal) {
         Truth::True => Ok(true),
         Truth::False => {
-            refute(alloc, formula, kept, sink, &[unit.literal], unit.number)?;
+            refute(log, state, &[unit.literal], unit.number)?;
             Ok(false)
         }
         Truth::Open => {
-            kept.units.push(unit.number)?;
-            kept.trail.imply(unit.literal, Reason::Decision);
+            state.units.push(unit.number)?;
+            state.trail.imply(unit.literal, Reason::Decision);
             Ok(true)
         }
     }
@@ -68,21 +63,16 @@ fn put_unit<L: LogSink>(
 
 /// Puts the literals of the unit clauses on the trail. False where two contradict each other: then the log is ended.
 fn put_units<L: LogSink>(
-    alloc: Global,
-    formula: &Formula,
-    kept: &mut SearchState,
-    sink: &mut L,
+    log: &mut SearchLog<L>,
+    state: &mut SearchState,
     units: &[Single],
 ) -> Result<bool, CoreFault>
-    requires { SearchStandsBut formula.now kept.old units.now (L.events sink.old) }
-    ensures puts { IfOk result (λ going. PutsUnits formula.now kept.new [] (L.events sink.new) going) }
-    ensures gave_up { IfErr result (λ e. GivesUp formula.now (L.torn sink.new) (L.events sink.new) e) }
-    ensures write { IfErr result (λ e. e ≡ Write → Rose (L.faults sink.old) (L.faults sink.new)) }
-    ensures faults { FaultsAs result (L.faults sink.old) (L.faults sink.new) }
-    ensures frame { L.keeps sink.old sink.new }
+    requires { SearchStandsBut log.old.formula.now state.old units.now (told_in L.LogSink log.old) }
+    ensures puts { IfOk result (λ going. PutsUnits log.new.formula.now state.new [] (told_in L.LogSink log.new) going) }
+    ensures log { GoesOn L.LogSink log.old (fault_in result) log.new }
 {
     for place in 0..units.len() {
-        if !put_unit(alloc, formula, kept, sink, units, place)? {
+        if !put_unit(log, state, units, place)? {
             return Ok(false);
         }
     }
@@ -130,54 +120,44 @@ fn engine<P: ParityEngine>(alloc: Global, formula: &Formula) -> Result<P, AllocE
 
 /// Puts the unit clauses on the trail and makes the engine.
 fn start<P: ParityEngine, L: LogSink>(
-    alloc: Global,
-    formula: &Formula,
-    sink: &mut L,
+    log: &mut SearchLog<L>,
     filled: Filled,
 ) -> Result<Begun<P>, CoreFault>
-    requires few { length formula.now.constraints ≤ 4294967295 }
-    requires begun { HasBegun formula.now formula.now.constraints (L.events sink.old) }
-    requires filled { IsFilled formula.now filled.kept filled.units.items filled.empty }
-    ensures begins { IfOk result (λ b. SearchBegins P.state formula.now (L.events sink.new) b) }
-    ensures gave_up { IfErr result (λ e. GivesUp formula.now (L.torn sink.new) (L.events sink.new) e) }
-    ensures write { IfErr result (λ e. e ≡ Write → Rose (L.faults sink.old) (L.faults sink.new)) }
-    ensures faults { FaultsAs result (L.faults sink.old) (L.faults sink.new) }
-    ensures frame { L.keeps sink.old sink.new }
+    requires few { length log.old.formula.now.constraints ≤ 4294967295 }
+    requires begun { HasBegun log.old.formula.now log.old.formula.now.constraints (told_in L.LogSink log.old) }
+    requires filled { IsFilled log.old.formula.now filled.state filled.units.items filled.empty }
+    ensures begins { IfOk result (λ b. SearchBegins P.state log.new.formula.now (told_in L.LogSink log.new) b) }
+    ensures log { GoesOn L.LogSink log.old (fault_in result) log.new }
 {
     // `vars` says to the proof that the literals of the formula are within its variables.
-    let _vars = formula.vars();
+    let _vars = log.formula.vars();
     let Filled {
-        mut kept,
+        mut state,
         units,
         empty,
     } = filled;
     if let Some(number) = empty {
-        refute(alloc, formula, &kept, sink, &[], number)?;
+        refute(log, &state, &[], number)?;
         return Ok(Begun::Ended);
     }
-    if !put_units(alloc, formula, &mut kept, sink, &units)? {
+    if !put_units(log, &mut state, &units)? {
         return Ok(Begun::Ended);
     }
-    let engine = engine(alloc, formula)?;
-    Ok(Begun::Search(kept, engine))
+    let engine = engine(log.alloc, log.formula)?;
+    Ok(Begun::Search(state, engine))
 }
 
 /// Tells the originals and makes the search: clauses of two or more different literals are attached, those of one
 /// stand on the trail at level 0, tautologies are left out.
 pub(crate) fn begin<P: ParityEngine, L: LogSink>(
-    alloc: Global,
-    formula: &Formula,
-    sink: &mut L,
+    log: &mut SearchLog<L>,
 ) -> Result<Begun<P>, CoreFault>
-    requires few { length formula.now.constraints ≤ 4294967295 }
-    requires fresh { IsFresh (L.events sink.old) }
-    ensures begins { IfOk result (λ b. SearchBegins P.state formula.now (L.events sink.new) b) }
-    ensures gave_up { IfErr result (λ e. GivesUp formula.now (L.torn sink.new) (L.events sink.new) e) }
-    ensures write { IfErr result (λ e. e ≡ Write → Rose (L.faults sink.old) (L.faults sink.new)) }
-    ensures faults { FaultsAs result (L.faults sink.old) (L.faults sink.new) }
-    ensures frame { L.keeps sink.old sink.new }
+    requires few { length log.old.formula.now.constraints ≤ 4294967295 }
+    requires fresh { IsFresh (told_in L.LogSink log.old) }
+    ensures begins { IfOk result (λ b. SearchBegins P.state log.new.formula.now (told_in L.LogSink log.new) b) }
+    ensures log { GoesOn L.LogSink log.old (fault_in result) log.new }
 {
-    tell_originals(alloc, formula, sink)?;
-    let filled = fill(alloc, formula)?;
-    start(alloc, formula, sink, filled)
+    tell_originals(log)?;
+    let filled = fill(log.alloc, log.formula)?;
+    start(log, filled)
 }

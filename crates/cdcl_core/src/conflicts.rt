@@ -1,5 +1,5 @@
 //! The clauses of conflicts.
-ghost use Rattle.std.specs.Prelude.{◌≡◌, ◌≢◌, ◌+◌, [], ◌∷◌, length, IfOk, IfErr, None};
+ghost use Rattle.std.specs.Prelude.{◌≡◌, ◌≢◌, ◌+◌, [], ◌∷◌, length, IfOk, OnOk};
 ghost use Rattle.std.specs.List.{AllByRecursion};
 ghost use Rattle.cx_base.specs.Problem.{parities_of};
 ghost use Rattle.cx_semantics.specs.Integers.{integers_of, literals};
@@ -7,16 +7,16 @@ ghost use Rattle.cx_semantics.specs.Printed.{HasText};
 ghost use Rattle.cx_semantics.specs.declared.steps.LogEvent.TheVariants.{Step};
 ghost use Rattle.cx_semantics.specs.declared.steps.LogStep.TheVariants as step;
 ghost use Rattle.clause_arena.specs.Clauses.{IsLive, literals_at};
-ghost use Rattle.cx_base.specs.Counts.{Rose};
-ghost use Rattle.conflict_learn.specs.declared.fault.CoreFault.TheVariants.{Write};
 ghost use Rattle.parity_engine.specs.Written.{AreRising};
 ghost use Rattle.cdcl_search.specs.Explaining.{Explains};
 ghost use Rattle.cdcl_search.specs.Finds.{PropagationFinds, IsClash};
-ghost use Rattle.cdcl_search.specs.Tells.{GivesUp, FaultsAs};
-ghost use Rattle.cdcl_search.specs.Ties.{SearchStands, first_row_id};
+ghost use Rattle.conflict_learn.specs.Faults.{fault_in};
+ghost use Rattle.cdcl_search.specs.Logs.{GoesOn, Stands, told_in};
+ghost use Rattle.cdcl_search.specs.Ties.{first_row_id};
 ghost use Rattle.cdcl_search.specs.declared.propagation.Found.TheVariants.{Quiet};
 ghost use Rattle.cdcl_core.specs.Concluding.{Concludes};
 
+use cdcl_search::logs::SearchLog;
 use cdcl_search::rows::{FIRST_ROW_ID, next_ids, sum_and_clause, tell_reason};
 use cdcl_search::source::stored;
 use cdcl_search::{Found, SearchState};
@@ -48,14 +48,14 @@ pub(crate) enum Conclusion {
 /// The conflict of a clause of the arena.
 fn stored_conflict(
     alloc: Global,
-    kept: &SearchState,
+    state: &SearchState,
     reference: ClauseRef,
 ) -> Result<Conflict, AllocError>
-    requires { IsLive kept.now.arena reference }
-    ensures clause { IfOk result (λ c. c.lits ≡ literals_at kept.now.arena reference) }
+    requires { IsLive state.now.arena reference }
+    ensures clause { IfOk result (λ c. c.lits ≡ literals_at state.now.arena reference) }
     ensures rows { IfOk result (λ c. c.rows.items ≡ []) }
 {
-    let hinted = stored(alloc, kept, reference)?;
+    let hinted = stored(alloc, state, reference)?;
     Ok(Conflict {
         lits: hinted.lits,
         id: hinted.id,
@@ -65,26 +65,21 @@ fn stored_conflict(
 
 /// The conflict of a row with a variable. Its clause is told.
 fn told_conflict<P: ParityEngine, L: LogSink>(
-    alloc: Global,
-    formula: &Formula,
-    kept: &SearchState,
+    log: &mut SearchLog<L>,
+    state: &SearchState,
     engine: &P,
-    sink: &mut L,
     reason: ReasonOf,
 ) -> Result<Conflict, CoreFault>
-    requires stands { SearchStands formula.now kept.now (P.state engine.now) [] (L.events sink.old) }
-    requires explains { Explains (parities_of formula.now.constraints) kept.now.trail reason }
+    requires stands { Stands P.ParityEngine L.LogSink log.old state.now engine.now [] }
+    requires explains { Explains (parities_of log.old.formula.now.constraints) state.now.trail reason }
     requires some { reason.clause ≢ [] }
     ensures clause { IfOk result (λ c. c.lits ≡ reason.clause) }
     ensures rows { IfOk result (λ c. c.rows.items ≡ reason.clause ∷ []) }
-    ensures stands { IfOk result (λ c. SearchStands formula.now kept.now (P.state engine.now) (reason.clause ∷ []) (L.events sink.new)) }
-    ensures gave_up { IfErr result (λ e. GivesUp formula.now (L.torn sink.new) (L.events sink.new) e) }
-    ensures write { IfErr result (λ e. e ≡ Write → Rose (L.faults sink.old) (L.faults sink.new)) }
-    ensures faults { FaultsAs result (L.faults sink.old) (L.faults sink.new) }
-    ensures frame { L.keeps sink.old sink.new }
+    ensures stands { OnOk result (Stands P.ParityEngine L.LogSink log.new state.now engine.now (reason.clause ∷ [])) }
+    ensures log { GoesOn L.LogSink log.old (fault_in result) log.new }
 {
-    let mut rows = Vec::new(alloc);
-    match tell_reason(alloc, formula, kept, engine, sink, reason, &mut rows) {
+    let mut rows = Vec::new(log.alloc);
+    match tell_reason(log, state, engine, reason, &mut rows) {
         Ok(lits) => Ok(Conflict {
             lits,
             id: FIRST_ROW_ID,
@@ -114,27 +109,22 @@ fn ending(alloc: Global, formula: &Formula, reason: ReasonOf) -> Result<Vec<LogS
 
 /// The conflict of a row.
 fn row_conflict<P: ParityEngine, L: LogSink>(
-    alloc: Global,
-    formula: &Formula,
-    kept: &SearchState,
+    log: &mut SearchLog<L>,
+    state: &SearchState,
     engine: &P,
-    sink: &mut L,
     row: Row,
 ) -> Result<Conclusion, CoreFault>
-    requires stands { SearchStands formula.now kept.now (P.state engine.now) [] (L.events sink.old) }
+    requires stands { Stands P.ParityEngine L.LogSink log.old state.now engine.now [] }
     requires clash { IsClash (P.state engine.now) row }
-    ensures concludes { IfOk result (λ c. Concludes formula.now kept.now (P.state engine.now) (L.events sink.new) c) }
-    ensures gave_up { IfErr result (λ e. GivesUp formula.now (L.torn sink.new) (L.events sink.new) e) }
-    ensures write { IfErr result (λ e. e ≡ Write → Rose (L.faults sink.old) (L.faults sink.new)) }
-    ensures faults { FaultsAs result (L.faults sink.old) (L.faults sink.new) }
-    ensures frame { L.keeps sink.old sink.new }
+    ensures concludes { IfOk result (λ c. Concludes log.new.formula.now state.now (P.state engine.now) (told_in L.LogSink log.new) c) }
+    ensures log { GoesOn L.LogSink log.old (fault_in result) log.new }
 {
-    let reason = reason_clause(alloc, engine, row, None, &kept.trail)?;
+    let reason = reason_clause(log.alloc, engine, row, None, &state.trail)?;
     if reason.clause.as_slice().is_empty() {
-        let steps = ending(alloc, formula, reason)?;
+        let steps = ending(log.alloc, log.formula, reason)?;
         return Ok(Conclusion::Ending(steps));
     }
-    match told_conflict(alloc, formula, kept, engine, sink, reason) {
+    match told_conflict(log, state, engine, reason) {
         Ok(conflict) => Ok(Conclusion::Clause(conflict)),
         Err(fault) => Err(fault),
     }
@@ -142,28 +132,23 @@ fn row_conflict<P: ParityEngine, L: LogSink>(
 
 /// What a conflict comes to. The clause of a row is told first.
 pub(crate) fn conflict_clause<P: ParityEngine, L: LogSink>(
-    alloc: Global,
-    formula: &Formula,
-    kept: &SearchState,
+    log: &mut SearchLog<L>,
+    state: &SearchState,
     engine: &P,
-    sink: &mut L,
     found: Found,
 ) -> Result<Conclusion, CoreFault>
-    requires stands { SearchStands formula.now kept.now (P.state engine.now) [] (L.events sink.old) }
-    requires found { PropagationFinds kept.now (P.state engine.now) found }
+    requires stands { Stands P.ParityEngine L.LogSink log.old state.now engine.now [] }
+    requires found { PropagationFinds state.now (P.state engine.now) found }
     requires conflict { found ≢ Quiet }
-    ensures concludes { IfOk result (λ c. Concludes formula.now kept.now (P.state engine.now) (L.events sink.new) c) }
-    ensures gave_up { IfErr result (λ e. GivesUp formula.now (L.torn sink.new) (L.events sink.new) e) }
-    ensures write { IfErr result (λ e. e ≡ Write → Rose (L.faults sink.old) (L.faults sink.new)) }
-    ensures faults { FaultsAs result (L.faults sink.old) (L.faults sink.new) }
-    ensures frame { L.keeps sink.old sink.new }
+    ensures concludes { IfOk result (λ c. Concludes log.new.formula.now state.now (P.state engine.now) (told_in L.LogSink log.new) c) }
+    ensures log { GoesOn L.LogSink log.old (fault_in result) log.new }
 {
     match found {
         Found::Clause(reference) => {
-            let conflict = stored_conflict(alloc, kept, reference)?;
+            let conflict = stored_conflict(log.alloc, state, reference)?;
             Ok(Conclusion::Clause(conflict))
         }
-        Found::Row(row) => row_conflict(alloc, formula, kept, engine, sink, row),
+        Found::Row(row) => row_conflict(log, state, engine, row),
         Found::Quiet => Err(CoreFault::Memory),
     }
 }

@@ -25,7 +25,7 @@ pub(crate) struct Single {
 /// A search in which the clauses of several literals are attached, and the others wait.
 #[derive(Drop)]
 pub(crate) struct Filled {
-    pub kept: SearchState,
+    pub state: SearchState,
     /// The clauses of one literal.
     pub units: Vec<Single>,
     /// The number of a clause without a literal.
@@ -33,7 +33,7 @@ pub(crate) struct Filled {
 }
 
 /// A search over so many variables, before its first clause.
-fn empty_kept(alloc: Global, vars: u32) -> Result<SearchState, AllocError>
+fn empty_state(alloc: Global, vars: u32) -> Result<SearchState, AllocError>
     requires { vars ≤ MAX_VARIABLE }
     ensures { IfOk result (IsEmpty vars) }
 {
@@ -55,29 +55,29 @@ fn empty_kept(alloc: Global, vars: u32) -> Result<SearchState, AllocError>
 }
 
 /// Attaches a clause of the formula.
-fn attach(kept: &mut SearchState, lits: &[Lit], number: u64) -> Result<(), AllocError>
-    requires fits { Fits kept.old.watches kept.old.arena kept.old.trail }
-    requires watched { CanBeWatched kept.old.watches.variables kept.old.trail lits.now }
-    ensures { OnOk result (Attaches kept.old kept.new lits.now number) }
+fn attach(state: &mut SearchState, lits: &[Lit], number: u64) -> Result<(), AllocError>
+    requires fits { Fits state.old.watches state.old.arena state.old.trail }
+    requires watched { CanBeWatched state.old.watches.variables state.old.trail lits.now }
+    ensures { OnOk result (Attaches state.old state.new lits.now number) }
 {
-    let reference = kept.arena.add(lits, number, 0, false)?;
-    kept.watches.attach(&kept.arena, &kept.trail, reference)
+    let reference = state.arena.add(lits, number, 0, false)?;
+    state.watches.attach(&state.arena, &state.trail, reference)
 }
 
 /// Takes the next clause of the formula, whose different literals these are.
 fn take_clause(filled: &mut Filled, lits: &[Lit]) -> Result<(), AllocError>
-    requires few { filled.old.kept.next ≤ 4294967295 }
+    requires few { filled.old.state.next ≤ 4294967295 }
     requires is_next { (formula : Problem) × IsNext formula filled.old lits.now }
     ensures { OnOk result ((formula : Problem) → IsNext formula filled.old lits.now
-        → IsFilledUpTo formula filled.old.kept.next filled.new.kept filled.new.units.items filled.new.empty) }
+        → IsFilledUpTo formula filled.old.state.next filled.new.state filled.new.units.items filled.new.empty) }
 {
-    let number = filled.kept.next;
-    filled.kept.next = number + 1;
+    let number = filled.state.next;
+    filled.state.next = number + 1;
     if has_both(lits) {
         return Ok(());
     }
     if lits.len() > 1 {
-        return attach(&mut filled.kept, lits, number);
+        return attach(&mut filled.state, lits, number);
     }
     if lits.is_empty() {
         filled.empty = Some(number);
@@ -99,8 +99,8 @@ fn take_item(
 ) -> Result<(), AllocError>
     requires few { length formula.now.constraints ≤ 4294967295 }
     requires place { place < length formula.now.constraints }
-    requires filled { IsFilledUpTo formula.now (length (clauses_of (take place formula.now.constraints))) filled.old.kept filled.old.units.items filled.old.empty }
-    ensures { OnOk result (IsFilledUpTo formula.now (length (clauses_of (take (place + 1) formula.now.constraints))) filled.new.kept filled.new.units.items filled.new.empty) }
+    requires filled { IsFilledUpTo formula.now (length (clauses_of (take place formula.now.constraints))) filled.old.state filled.old.units.items filled.old.empty }
+    ensures { OnOk result (IsFilledUpTo formula.now (length (clauses_of (take (place + 1) formula.now.constraints))) filled.new.state filled.new.units.items filled.new.empty) }
 {
     match formula.item(place) {
         ConstraintRef::Clause(lits) => {
@@ -116,10 +116,10 @@ fn take_item(
 /// It fails for want of memory, or where the clauses are more than an arena holds.
 pub(crate) fn fill(alloc: Global, formula: &Formula) -> Result<Filled, AllocError>
     requires { length formula.now.constraints ≤ 4294967295 }
-    ensures { IfOk result (λ f. IsFilled formula.now f.kept f.units.items f.empty) }
+    ensures { IfOk result (λ f. IsFilled formula.now f.state f.units.items f.empty) }
 {
     let mut filled = Filled {
-        kept: empty_kept(alloc, formula.vars())?,
+        state: empty_state(alloc, formula.vars())?,
         units: Vec::new(alloc),
         empty: None,
     };

@@ -40,25 +40,25 @@ fn save_phases(phases: &mut Vec<bool>, trail: &Trail, level: u32)
 /// Goes back to a level below the current one.
 pub(crate) fn go_back<P: ParityEngine>(
     formula: &Formula,
-    kept: &mut SearchState,
+    state: &mut SearchState,
     engine: &mut P,
     level: u32,
 )
-    requires stands { (rows : List (List Literal)) × (s : Search) × IsSearch formula.now (parities_of formula.now.constraints) s × Ties formula.now kept.old (P.state engine.old) rows s }
-    requires lower { level < kept.old.trail.level }
+    requires stands { (rows : List (List Literal)) × (s : Search) × IsSearch formula.now (parities_of formula.now.constraints) s × Ties formula.now state.old (P.state engine.old) rows s }
+    requires lower { level < state.old.trail.level }
     ensures ties { (rows : List (List Literal)) (s : Search) → IsSearch formula.now (parities_of formula.now.constraints) s
-        → Ties formula.now kept.old (P.state engine.old) rows s → Ties formula.now kept.new (P.state engine.new) rows (jumped s level) }
-    ensures back { TakesBack level kept.old.trail kept.new.trail }
-    ensures units { level ≡ 0 → length kept.new.units.items ≡ length kept.new.trail.entries }
-    ensures same { (kept.new.arena ≡ kept.old.arena) × (kept.new.units.items ≡ kept.old.units.items) × (kept.new.next ≡ kept.old.next) × (kept.new.conflicts ≡ kept.old.conflicts) }
+        → Ties formula.now state.old (P.state engine.old) rows s → Ties formula.now state.new (P.state engine.new) rows (jumped s level) }
+    ensures back { TakesBack level state.old.trail state.new.trail }
+    ensures units { level ≡ 0 → length state.new.units.items ≡ length state.new.trail.entries }
+    ensures same { (state.new.arena ≡ state.old.arena) × (state.new.units.items ≡ state.old.units.items) × (state.new.next ≡ state.old.next) × (state.new.conflicts ≡ state.old.conflicts) }
     ensures unbroken { (P.state engine.new).mood ≢ Broken }
 {
-    save_phases(&mut kept.phases, &kept.trail, level);
-    kept.order.back_to(&kept.trail, level);
-    kept.trail.back_to(level);
-    kept.watches.back_to(level);
+    save_phases(&mut state.phases, &state.trail, level);
+    state.order.back_to(&state.trail, level);
+    state.trail.back_to(level);
+    state.watches.back_to(level);
     engine.back_to(level);
-    kept.given = kept.trail.len();
+    state.given = state.trail.len();
 }
 
 /// Raises the scores of the variables of these literals.
@@ -73,66 +73,66 @@ fn bump(order: &mut Order, lits: &[Lit])
 }
 
 /// Puts a literal on the trail at level 0, where each literal has a unit clause. That of this one has the id.
-fn enter_unit(kept: &mut SearchState, first: Lit, id: u64) -> Result<(), AllocError>
-    requires level { kept.old.trail.level ≡ 0 }
-    requires high { first.variable ≤ kept.old.trail.variables }
-    requires open { IsOpenIn kept.old.trail.entries first.variable }
-    ensures { OnOk result (EntersUnit kept.old kept.new first id) }
+fn enter_unit(state: &mut SearchState, first: Lit, id: u64) -> Result<(), AllocError>
+    requires level { state.old.trail.level ≡ 0 }
+    requires high { first.variable ≤ state.old.trail.variables }
+    requires open { IsOpenIn state.old.trail.entries first.variable }
+    ensures { OnOk result (EntersUnit state.old state.new first id) }
 {
-    kept.units.push(id)?;
-    kept.trail.imply(first, Reason::Decision);
+    state.units.push(id)?;
+    state.trail.imply(first, Reason::Decision);
     Ok(())
 }
 
 /// Puts a learned clause among the others, and its first literal on the trail.
-fn enter_clause(kept: &mut SearchState, lits: &[Lit], id: u64, lbd: u32) -> Result<(), AllocError>
-    requires fits { Fits kept.old.watches kept.old.arena kept.old.trail }
-    requires watched { CanBeWatched kept.old.watches.variables kept.old.trail lits.now }
-    requires high { (literal_at lits.now 0).variable ≤ kept.old.trail.variables }
-    requires open { IsOpenIn kept.old.trail.entries (literal_at lits.now 0).variable }
-    ensures { OnOk result (EntersClause kept.old kept.new lits.now (literal_at lits.now 0) id lbd) }
+fn enter_clause(state: &mut SearchState, lits: &[Lit], id: u64, lbd: u32) -> Result<(), AllocError>
+    requires fits { Fits state.old.watches state.old.arena state.old.trail }
+    requires watched { CanBeWatched state.old.watches.variables state.old.trail lits.now }
+    requires high { (literal_at lits.now 0).variable ≤ state.old.trail.variables }
+    requires open { IsOpenIn state.old.trail.entries (literal_at lits.now 0).variable }
+    ensures { OnOk result (EntersClause state.old state.new lits.now (literal_at lits.now 0) id lbd) }
 {
-    let reference = kept.arena.add(lits, id, lbd, true)?;
-    kept.watches.attach(&kept.arena, &kept.trail, reference)?;
-    kept.trail.imply(lits[0], Reason::Clause(reference));
+    let reference = state.arena.add(lits, id, lbd, true)?;
+    state.watches.attach(&state.arena, &state.trail, reference)?;
+    state.trail.imply(lits[0], Reason::Clause(reference));
     Ok(())
 }
 
 /// Puts a learned clause among the others, or its id among those of units, and its first literal on the trail.
-fn enter(kept: &mut SearchState, lits: &[Lit], id: u64, lbd: u32) -> Result<(), AllocError>
+fn enter(state: &mut SearchState, lits: &[Lit], id: u64, lbd: u32) -> Result<(), AllocError>
     requires some { 1 ≤ length lits.now }
-    requires unit { length lits.now ≡ 1 → kept.old.trail.level ≡ 0 }
-    requires fits { Fits kept.old.watches kept.old.arena kept.old.trail }
-    requires watched { 2 ≤ length lits.now → CanBeWatched kept.old.watches.variables kept.old.trail lits.now }
-    requires high { (literal_at lits.now 0).variable ≤ kept.old.trail.variables }
-    requires open { IsOpenIn kept.old.trail.entries (literal_at lits.now 0).variable }
-    ensures { OnOk result (Enters kept.old kept.new lits.now id lbd) }
+    requires unit { length lits.now ≡ 1 → state.old.trail.level ≡ 0 }
+    requires fits { Fits state.old.watches state.old.arena state.old.trail }
+    requires watched { 2 ≤ length lits.now → CanBeWatched state.old.watches.variables state.old.trail lits.now }
+    requires high { (literal_at lits.now 0).variable ≤ state.old.trail.variables }
+    requires open { IsOpenIn state.old.trail.entries (literal_at lits.now 0).variable }
+    ensures { OnOk result (Enters state.old state.new lits.now id lbd) }
 {
     if lits.len() == 1 {
-        enter_unit(kept, lits[0], id)
+        enter_unit(state, lits[0], id)
     } else {
-        enter_clause(kept, lits, id, lbd)
+        enter_clause(state, lits, id, lbd)
     }
 }
 
 /// Goes back to the level of a learned clause and implies its first literal.
 pub(crate) fn jump<P: ParityEngine>(
     formula: &Formula,
-    kept: &mut SearchState,
+    state: &mut SearchState,
     engine: &mut P,
     learned: &Learned,
 ) -> Result<(), AllocError>
-    requires learned { (told : Option (List LogEvent)) × Learns formula.now kept.old (P.state engine.old) learned.now.lits learned.now.back_level told }
-    ensures stands { OnOk result ((told : Option (List LogEvent)) → Learns formula.now kept.old (P.state engine.old) learned.now.lits learned.now.back_level told
-        → SearchStands formula.now kept.new (P.state engine.new) [] told) }
-    ensures counted { OnOk result (kept.new.conflicts ≡ kept.old.conflicts + 1) }
-    ensures level { OnOk result (kept.new.trail.level ≡ learned.now.back_level) }
+    requires learned { (told : Option (List LogEvent)) × Learns formula.now state.old (P.state engine.old) learned.now.lits learned.now.back_level told }
+    ensures stands { OnOk result ((told : Option (List LogEvent)) → Learns formula.now state.old (P.state engine.old) learned.now.lits learned.now.back_level told
+        → SearchStands formula.now state.new (P.state engine.new) [] told) }
+    ensures counted { OnOk result (state.new.conflicts ≡ state.old.conflicts + 1) }
+    ensures level { OnOk result (state.new.trail.level ≡ learned.now.back_level) }
     ensures unbroken { (P.state engine.new).mood ≢ Broken }
 {
-    go_back(formula, kept, engine, learned.back_level);
-    bump(&mut kept.order, learned.lits.as_slice());
-    let id = kept.next;
-    kept.next = id + 1;
-    kept.conflicts += 1;
-    enter(kept, learned.lits.as_slice(), id, learned.lbd)
+    go_back(formula, state, engine, learned.back_level);
+    bump(&mut state.order, learned.lits.as_slice());
+    let id = state.next;
+    state.next = id + 1;
+    state.conflicts += 1;
+    enter(state, learned.lits.as_slice(), id, learned.lbd)
 }

@@ -1,21 +1,21 @@
 //! The formula's constraints, with which the log begins.
-ghost use Rattle.std.specs.Prelude.{◌≡◌, ◌+◌, ◌<◌, ◌≤◌, [], ◌∷◌, length, take, OnOk, IfErr};
+ghost use Rattle.std.specs.Prelude.{◌≡◌, ◌+◌, ◌<◌, ◌≤◌, [], ◌∷◌, length, take, OnOk};
 ghost use Rattle.cx_semantics.specs.Integers.{integers_of};
 ghost use Rattle.cx_semantics.specs.declared.steps.LogEvent.TheVariants.{Step};
 ghost use Rattle.cx_semantics.specs.declared.steps.LogStep.TheVariants as step;
-ghost use Rattle.cx_base.specs.Counts.{Rose};
-ghost use Rattle.conflict_learn.specs.declared.fault.CoreFault.TheVariants.{Write};
-ghost use Rattle.cdcl_search.specs.Tells.{GivesUp, FaultsAs, TellsAll, IsId};
+ghost use Rattle.conflict_learn.specs.Faults.{fault_in};
+ghost use Rattle.cdcl_search.specs.Logs.{GoesOn, IsRightBehind, AreToldNow, told_in};
+ghost use Rattle.cdcl_search.specs.Tells.{IsId};
 ghost use Rattle.cdcl_core.specs.Originals.{HasBegun, AreCounted};
 ghost use Rattle.cdcl_core.specs.Results.{IsFresh};
 
 use cdcl_search::integers::integers;
+use cdcl_search::logs::SearchLog;
 use cdcl_search::steps::{original, original_parity};
-use cdcl_search::telling::tell;
+use cdcl_search::telling::tell_step;
 use conflict_learn::CoreFault;
-use cx_base::{ConstraintRef, Formula, Lit};
+use cx_base::{ConstraintRef, Lit};
 use log_text::LogSink;
-use std::alloc::Global;
 
 /// How many clauses and how many parities were told.
 #[derive(Clone, Copy, Debug, Drop)]
@@ -26,91 +26,75 @@ struct Counts {
 
 /// Tells a clause of the formula.
 fn tell_clause<L: LogSink>(
-    alloc: Global,
-    sink: &mut L,
+    log: &mut SearchLog<L>,
     id: u64,
     lits: &[Lit],
 ) -> Result<(), CoreFault>
-    requires { IsId id }
-    ensures told { TellsAll (L.torn sink.new) (Step (step.Original id (integers_of lits.now)) ∷ []) (L.events sink.old) result (L.events sink.new) }
-    ensures write { IfErr result (λ e. e ≡ Write → Rose (L.faults sink.old) (L.faults sink.new)) }
-    ensures faults { FaultsAs result (L.faults sink.old) (L.faults sink.new) }
-    ensures frame { L.keeps sink.old sink.new }
+    requires id { IsId id }
+    requires right { IsRightBehind L.LogSink log.old (Step (step.Original id (integers_of lits.now)) ∷ []) }
+    ensures told { OnOk result (AreToldNow L.LogSink log.old (Step (step.Original id (integers_of lits.now)) ∷ []) log.new) }
+    ensures log { GoesOn L.LogSink log.old (fault_in result) log.new }
 {
-    let zs = integers(alloc, lits)?;
-    let step = original(id, zs);
-    tell(sink, &step)
+    let step = original(id, integers(log.alloc, lits)?);
+    tell_step(log, &step)
 }
 
 /// Tells a parity of the formula.
 fn tell_parity<L: LogSink>(
-    alloc: Global,
-    sink: &mut L,
+    log: &mut SearchLog<L>,
     id: u64,
     lits: &[Lit],
 ) -> Result<(), CoreFault>
-    requires { IsId id }
-    ensures told { TellsAll (L.torn sink.new) (Step (step.OriginalParity id (integers_of lits.now)) ∷ []) (L.events sink.old) result (L.events sink.new) }
-    ensures write { IfErr result (λ e. e ≡ Write → Rose (L.faults sink.old) (L.faults sink.new)) }
-    ensures faults { FaultsAs result (L.faults sink.old) (L.faults sink.new) }
-    ensures frame { L.keeps sink.old sink.new }
+    requires id { IsId id }
+    requires right { IsRightBehind L.LogSink log.old (Step (step.OriginalParity id (integers_of lits.now)) ∷ []) }
+    ensures told { OnOk result (AreToldNow L.LogSink log.old (Step (step.OriginalParity id (integers_of lits.now)) ∷ []) log.new) }
+    ensures log { GoesOn L.LogSink log.old (fault_in result) log.new }
 {
-    let zs = integers(alloc, lits)?;
-    let step = original_parity(id, zs);
-    tell(sink, &step)
+    let step = original_parity(id, integers(log.alloc, lits)?);
+    tell_step(log, &step)
 }
 
 /// Tells the constraint at a place of the formula.
 fn tell_original<L: LogSink>(
-    alloc: Global,
-    formula: &Formula,
-    sink: &mut L,
+    log: &mut SearchLog<L>,
     place: usize,
     counts: &mut Counts,
 ) -> Result<(), CoreFault>
-    requires few { length formula.now.constraints ≤ 4294967295 }
-    requires place { place < length formula.now.constraints }
-    requires counted { AreCounted (take place formula.now.constraints) counts.old.clauses counts.old.parities }
-    requires begun { HasBegun formula.now (take place formula.now.constraints) (L.events sink.old) }
-    ensures counted { OnOk result (AreCounted (take (place + 1) formula.now.constraints) counts.new.clauses counts.new.parities) }
-    ensures begun { OnOk result (HasBegun formula.now (take (place + 1) formula.now.constraints) (L.events sink.new)) }
-    ensures gave_up { IfErr result (λ e. GivesUp formula.now (L.torn sink.new) (L.events sink.new) e) }
-    ensures write { IfErr result (λ e. e ≡ Write → Rose (L.faults sink.old) (L.faults sink.new)) }
-    ensures faults { FaultsAs result (L.faults sink.old) (L.faults sink.new) }
-    ensures frame { L.keeps sink.old sink.new }
+    requires few { length log.old.formula.now.constraints ≤ 4294967295 }
+    requires place { place < length log.old.formula.now.constraints }
+    requires counted { AreCounted (take place log.old.formula.now.constraints) counts.old.clauses counts.old.parities }
+    requires begun { HasBegun log.old.formula.now (take place log.old.formula.now.constraints) (told_in L.LogSink log.old) }
+    ensures counted { OnOk result (AreCounted (take (place + 1) log.new.formula.now.constraints) counts.new.clauses counts.new.parities) }
+    ensures begun { OnOk result (HasBegun log.new.formula.now (take (place + 1) log.new.formula.now.constraints) (told_in L.LogSink log.new)) }
+    ensures log { GoesOn L.LogSink log.old (fault_in result) log.new }
 {
-    match formula.item(place) {
+    match log.formula.item(place) {
         ConstraintRef::Clause(lits) => {
             counts.clauses += 1;
-            tell_clause(alloc, sink, counts.clauses, lits)
+            tell_clause(log, counts.clauses, lits)
         }
         ConstraintRef::Parity(lits) => {
             counts.parities += 1;
-            tell_parity(alloc, sink, counts.parities, lits)
+            tell_parity(log, counts.parities, lits)
         }
     }
 }
 
 /// Tells the constraints of the formula, in order. Clauses have ids from 1 on, and parities have theirs from 1 on.
 pub(crate) fn tell_originals<L: LogSink>(
-    alloc: Global,
-    formula: &Formula,
-    sink: &mut L,
+    log: &mut SearchLog<L>,
 ) -> Result<(), CoreFault>
-    requires few { length formula.now.constraints ≤ 4294967295 }
-    requires fresh { IsFresh (L.events sink.old) }
-    ensures begun { OnOk result (HasBegun formula.now formula.now.constraints (L.events sink.new)) }
-    ensures gave_up { IfErr result (λ e. GivesUp formula.now (L.torn sink.new) (L.events sink.new) e) }
-    ensures write { IfErr result (λ e. e ≡ Write → Rose (L.faults sink.old) (L.faults sink.new)) }
-    ensures faults { FaultsAs result (L.faults sink.old) (L.faults sink.new) }
-    ensures frame { L.keeps sink.old sink.new }
+    requires few { length log.old.formula.now.constraints ≤ 4294967295 }
+    requires fresh { IsFresh (told_in L.LogSink log.old) }
+    ensures begun { OnOk result (HasBegun log.new.formula.now log.new.formula.now.constraints (told_in L.LogSink log.new)) }
+    ensures log { GoesOn L.LogSink log.old (fault_in result) log.new }
 {
     let mut counts = Counts {
         clauses: 0,
         parities: 0,
     };
-    for place in 0..formula.len() {
-        tell_original(alloc, formula, sink, place, &mut counts)?;
+    for place in 0..log.formula.len() {
+        tell_original(log, place, &mut counts)?;
     }
     Ok(())
 }

@@ -3,11 +3,11 @@ ghost use Rattle.std.specs.Prelude.{◌≡◌, ◌≢◌, ℕ, ◌+◌, ◌<◌,
 ghost use Rattle.cx_semantics.specs.Settled.{Settled};
 ghost use Rattle.cx_base.specs.Counts.{Rose};
 ghost use Rattle.conflict_learn.specs.declared.fault.CoreFault.TheVariants.{Write};
+ghost use Rattle.conflict_learn.specs.Faults.{fault_in};
 ghost use Rattle.cdcl_search.specs.Finds.{PropagationFinds};
 ghost use Rattle.cdcl_search.specs.Searching.{SearchReaches};
-ghost use Rattle.cdcl_search.specs.Sources.{counted};
+ghost use Rattle.cdcl_search.specs.Logs.{GoesOn, Stands, told_in};
 ghost use Rattle.cdcl_search.specs.Tells.{GivesUp};
-ghost use Rattle.cdcl_search.specs.Ties.{SearchStands};
 ghost use Rattle.cdcl_search.specs.declared.propagation.Found.TheVariants as finding;
 ghost use Rattle.cdcl_core.specs.Results.{IsRightOutcome, IsFresh, IsSettledBy, HasNoMark};
 ghost use Rattle.cdcl_core.specs.Concluding.{SearchGoesOn, IsConflictClause};
@@ -19,6 +19,7 @@ use crate::conflicts::{Conclusion, Conflict, conflict_clause};
 use crate::ending::{end, tell_ending};
 use crate::jumping::jump;
 use crate::learning::learn;
+use cdcl_search::logs::SearchLog;
 use cdcl_search::rows::FIRST_ROW_ID;
 use cdcl_search::{Found, SearchState, search_on, values_of};
 use conflict_learn::CoreFault;
@@ -40,64 +41,52 @@ pub enum Outcome {
 
 /// Learns from a conflict above level 0, and goes back. None: the search goes on.
 fn learn_and_jump<P: ParityEngine, L: LogSink>(
-    alloc: Global,
-    formula: &Formula,
-    kept: &mut SearchState,
+    log: &mut SearchLog<L>,
+    state: &mut SearchState,
     engine: &mut P,
     budget: u64,
-    sink: &mut L,
     conflict: Conflict,
 ) -> Result<Option<Outcome>, CoreFault>
-    requires stands { SearchStands formula.now kept.old (P.state engine.old) conflict.rows.items (L.events sink.old) }
-    requires conflict { IsConflictClause kept.old conflict.rows.items conflict.lits }
-    requires above { 0 < kept.old.trail.level }
-    requires few { (kept.old.conflicts < budget) × (budget ≤ 10 ^ 18) }
-    ensures goes_on { IfOk result (λ o. MatchOption o (SearchGoesOn formula.now budget (L.events sink.new) kept.new (P.state engine.new)) (λ a. IsRightOutcome formula.now budget (L.events sink.new) a)) }
-    ensures one_more { IfOk result (λ o. MatchOption o (kept.new.conflicts ≡ kept.old.conflicts + 1) (λ _. Unit {0})) }
-    ensures gave_up { IfErr result (λ e. GivesUp formula.now (L.torn sink.new) (L.events sink.new) e) }
-    ensures write { IfErr result (λ e. e ≡ Write → Rose (L.faults sink.old) (L.faults sink.new)) }
-    ensures faults { OnOk result (counted (L.faults sink.old) ≤ counted (L.faults sink.new)) }
-    ensures frame { L.keeps sink.old sink.new }
+    requires stands { Stands P.ParityEngine L.LogSink log.old state.old engine.old conflict.rows.items }
+    requires conflict { IsConflictClause state.old conflict.rows.items conflict.lits }
+    requires above { 0 < state.old.trail.level }
+    requires few { (state.old.conflicts < budget) × (budget ≤ 10 ^ 18) }
+    ensures goes_on { IfOk result (λ o. MatchOption o (SearchGoesOn log.new.formula.now budget (told_in L.LogSink log.new) state.new (P.state engine.new)) (λ a. IsRightOutcome log.new.formula.now budget (told_in L.LogSink log.new) a)) }
+    ensures one_more { IfOk result (λ o. MatchOption o (state.new.conflicts ≡ state.old.conflicts + 1) (λ _. Unit {0})) }
+    ensures log { GoesOn L.LogSink log.old (fault_in result) log.new }
 {
-    if kept.next >= FIRST_ROW_ID {
+    if state.next >= FIRST_ROW_ID {
         return Err(CoreFault::Memory);
     }
-    let learned = learn(alloc, formula, kept, engine, sink, conflict)?;
-    if kept.conflicts + 1 == budget {
+    let learned = learn(log, state, engine, conflict)?;
+    if state.conflicts + 1 == budget {
         return Ok(Some(Outcome::Unknown { conflicts: budget }));
     }
-    jump(formula, kept, engine, &learned)?;
+    jump(log.formula, state, engine, &learned)?;
     Ok(None)
 }
 
 /// What a conflict above level 0 brings. None: the search goes on.
 fn meet_conflict<P: ParityEngine, L: LogSink>(
-    alloc: Global,
-    formula: &Formula,
-    kept: &mut SearchState,
+    log: &mut SearchLog<L>,
+    state: &mut SearchState,
     engine: &mut P,
     budget: u64,
-    sink: &mut L,
     found: Found,
 ) -> Result<Option<Outcome>, CoreFault>
-    requires stands { SearchStands formula.now kept.old (P.state engine.old) [] (L.events sink.old) }
-    requires found { PropagationFinds kept.old (P.state engine.old) found }
+    requires stands { Stands P.ParityEngine L.LogSink log.old state.old engine.old [] }
+    requires found { PropagationFinds state.old (P.state engine.old) found }
     requires conflict { found ≢ finding.Quiet }
-    requires above { 0 < kept.old.trail.level }
-    requires few { (kept.old.conflicts < budget) × (budget ≤ 10 ^ 18) }
-    ensures goes_on { IfOk result (λ o. MatchOption o (SearchGoesOn formula.now budget (L.events sink.new) kept.new (P.state engine.new)) (λ a. IsRightOutcome formula.now budget (L.events sink.new) a)) }
-    ensures one_more { IfOk result (λ o. MatchOption o (kept.new.conflicts ≡ kept.old.conflicts + 1) (λ _. Unit {0})) }
-    ensures gave_up { IfErr result (λ e. GivesUp formula.now (L.torn sink.new) (L.events sink.new) e) }
-    ensures write { IfErr result (λ e. e ≡ Write → Rose (L.faults sink.old) (L.faults sink.new)) }
-    ensures faults { OnOk result (counted (L.faults sink.old) ≤ counted (L.faults sink.new)) }
-    ensures frame { L.keeps sink.old sink.new }
+    requires above { 0 < state.old.trail.level }
+    requires few { (state.old.conflicts < budget) × (budget ≤ 10 ^ 18) }
+    ensures goes_on { IfOk result (λ o. MatchOption o (SearchGoesOn log.new.formula.now budget (told_in L.LogSink log.new) state.new (P.state engine.new)) (λ a. IsRightOutcome log.new.formula.now budget (told_in L.LogSink log.new) a)) }
+    ensures one_more { IfOk result (λ o. MatchOption o (state.new.conflicts ≡ state.old.conflicts + 1) (λ _. Unit {0})) }
+    ensures log { GoesOn L.LogSink log.old (fault_in result) log.new }
 {
-    match conflict_clause(alloc, formula, kept, engine, sink, found)? {
-        Conclusion::Clause(conflict) => learn_and_jump(
-            alloc, formula, kept, engine, budget, sink, conflict,
-        ),
+    match conflict_clause(log, state, engine, found)? {
+        Conclusion::Clause(conflict) => learn_and_jump(log, state, engine, budget, conflict),
         Conclusion::Ending(steps) => {
-            tell_ending(formula, kept, sink, &steps)?;
+            tell_ending(log, state, &steps)?;
             Ok(Some(Outcome::Unsat))
         }
     }
@@ -105,80 +94,66 @@ fn meet_conflict<P: ParityEngine, L: LogSink>(
 
 /// What the search comes to where it stops: the values of a full trail, the end of the log at level 0, or what a conflict brings. None: the search goes on.
 fn conclude<P: ParityEngine, L: LogSink>(
-    alloc: Global,
-    formula: &Formula,
-    kept: &mut SearchState,
+    log: &mut SearchLog<L>,
+    state: &mut SearchState,
     engine: &mut P,
     budget: u64,
-    sink: &mut L,
     found: Found,
 ) -> Result<Option<Outcome>, CoreFault>
-    requires stands { SearchStands formula.now kept.old (P.state engine.old) [] (L.events sink.old) }
-    requires reaches { SearchReaches kept.old (P.state engine.old) found }
-    requires few { (kept.old.conflicts < budget) × (budget ≤ 10 ^ 18) }
-    ensures goes_on { IfOk result (λ o. MatchOption o (SearchGoesOn formula.now budget (L.events sink.new) kept.new (P.state engine.new)) (λ a. IsRightOutcome formula.now budget (L.events sink.new) a)) }
-    ensures one_more { IfOk result (λ o. MatchOption o (kept.new.conflicts ≡ kept.old.conflicts + 1) (λ _. Unit {0})) }
-    ensures at_start { kept.old.trail.level ≡ 0 → IfOk result (λ o. MatchOption o ⊥ (λ a. IsSettledBy formula.now (kept.old.conflicts + 1) (L.events sink.new) a)) }
-    ensures gave_up { IfErr result (λ e. GivesUp formula.now (L.torn sink.new) (L.events sink.new) e) }
-    ensures write { IfErr result (λ e. e ≡ Write → Rose (L.faults sink.old) (L.faults sink.new)) }
-    ensures faults { OnOk result (counted (L.faults sink.old) ≤ counted (L.faults sink.new)) }
-    ensures frame { L.keeps sink.old sink.new }
+    requires stands { Stands P.ParityEngine L.LogSink log.old state.old engine.old [] }
+    requires reaches { SearchReaches state.old (P.state engine.old) found }
+    requires few { (state.old.conflicts < budget) × (budget ≤ 10 ^ 18) }
+    ensures goes_on { IfOk result (λ o. MatchOption o (SearchGoesOn log.new.formula.now budget (told_in L.LogSink log.new) state.new (P.state engine.new)) (λ a. IsRightOutcome log.new.formula.now budget (told_in L.LogSink log.new) a)) }
+    ensures one_more { IfOk result (λ o. MatchOption o (state.new.conflicts ≡ state.old.conflicts + 1) (λ _. Unit {0})) }
+    ensures at_start { state.old.trail.level ≡ 0 → IfOk result (λ o. MatchOption o ⊥ (λ a. IsSettledBy log.new.formula.now (state.old.conflicts + 1) (told_in L.LogSink log.new) a)) }
+    ensures log { GoesOn L.LogSink log.old (fault_in result) log.new }
 {
     if let Found::Quiet = found {
-        let values = values_of(alloc, formula, kept, engine)?;
+        let values = values_of(log.alloc, log.formula, state, engine)?;
         return Ok(Some(Outcome::Sat(values)));
     }
-    if kept.trail.level() > 0 {
-        return meet_conflict(alloc, formula, kept, engine, budget, sink, found);
+    if state.trail.level() > 0 {
+        return meet_conflict(log, state, engine, budget, found);
     }
-    end(alloc, formula, kept, engine, sink, found)?;
+    end(log, state, engine, found)?;
     Ok(Some(Outcome::Unsat))
 }
 
 /// Searches up to the next conflict or a full trail, and acts on it. None: the search goes on.
 fn round<P: ParityEngine, L: LogSink>(
-    alloc: Global,
-    formula: &Formula,
-    kept: &mut SearchState,
+    log: &mut SearchLog<L>,
+    state: &mut SearchState,
     engine: &mut P,
     budget: u64,
-    sink: &mut L,
 ) -> Result<Option<Outcome>, CoreFault>
-    requires goes_on { SearchGoesOn formula.now budget (L.events sink.old) kept.old (P.state engine.old) }
+    requires goes_on { SearchGoesOn log.old.formula.now budget (told_in L.LogSink log.old) state.old (P.state engine.old) }
     requires few { budget ≤ 10 ^ 18 }
-    ensures goes_on { IfOk result (λ o. MatchOption o (SearchGoesOn formula.now budget (L.events sink.new) kept.new (P.state engine.new)) (λ a. IsRightOutcome formula.now budget (L.events sink.new) a)) }
-    ensures one_more { IfOk result (λ o. MatchOption o (kept.new.conflicts ≡ kept.old.conflicts + 1) (λ _. Unit {0})) }
-    ensures settled { Settled formula.now → kept.old.trail.level ≡ 0 → IfOk result (λ o. MatchOption o ⊥ (λ a. IsSettledBy formula.now (kept.old.conflicts + 1) (L.events sink.new) a)) }
-    ensures gave_up { IfErr result (λ e. GivesUp formula.now (L.torn sink.new) (L.events sink.new) e) }
-    ensures write { IfErr result (λ e. e ≡ Write → Rose (L.faults sink.old) (L.faults sink.new)) }
-    ensures faults { OnOk result (counted (L.faults sink.old) ≤ counted (L.faults sink.new)) }
-    ensures frame { L.keeps sink.old sink.new }
+    ensures goes_on { IfOk result (λ o. MatchOption o (SearchGoesOn log.new.formula.now budget (told_in L.LogSink log.new) state.new (P.state engine.new)) (λ a. IsRightOutcome log.new.formula.now budget (told_in L.LogSink log.new) a)) }
+    ensures one_more { IfOk result (λ o. MatchOption o (state.new.conflicts ≡ state.old.conflicts + 1) (λ _. Unit {0})) }
+    ensures settled { Settled log.new.formula.now → state.old.trail.level ≡ 0 → IfOk result (λ o. MatchOption o ⊥ (λ a. IsSettledBy log.new.formula.now (state.old.conflicts + 1) (told_in L.LogSink log.new) a)) }
+    ensures log { GoesOn L.LogSink log.old (fault_in result) log.new }
 {
-    let found = search_on(alloc, formula, kept, engine, sink)?;
-    conclude(alloc, formula, kept, engine, budget, sink, found)
+    let found = search_on(log, state, engine)?;
+    conclude(log, state, engine, budget, found)
 }
 
 /// Searches up to the budget.
 fn search<P: ParityEngine, L: LogSink>(
-    alloc: Global,
-    formula: &Formula,
-    kept: &mut SearchState,
+    log: &mut SearchLog<L>,
+    state: &mut SearchState,
     engine: &mut P,
     budget: u64,
-    sink: &mut L,
 ) -> Result<Outcome, CoreFault>
-    requires goes_on { SearchGoesOn formula.now budget (L.events sink.old) kept.old (P.state engine.old) }
+    requires goes_on { SearchGoesOn log.old.formula.now budget (told_in L.LogSink log.old) state.old (P.state engine.old) }
     requires few { budget ≤ 10 ^ 18 }
-    requires level { kept.old.trail.level ≡ 0 }
-    requires none { kept.old.conflicts ≡ 0 }
-    ensures answers { IfOk result (λ a. IsRightOutcome formula.now budget (L.events sink.new) a) }
-    ensures settled { Settled formula.now → IfOk result (λ a. IsSettledBy formula.now 1 (L.events sink.new) a) }
-    ensures gave_up { IfErr result (λ e. GivesUp formula.now (L.torn sink.new) (L.events sink.new) e) }
-    ensures write { IfErr result (λ e. e ≡ Write → Rose (L.faults sink.old) (L.faults sink.new)) }
-    ensures frame { L.keeps sink.old sink.new }
+    requires level { state.old.trail.level ≡ 0 }
+    requires none { state.old.conflicts ≡ 0 }
+    ensures answers { IfOk result (λ a. IsRightOutcome log.new.formula.now budget (told_in L.LogSink log.new) a) }
+    ensures settled { Settled log.new.formula.now → IfOk result (λ a. IsSettledBy log.new.formula.now 1 (told_in L.LogSink log.new) a) }
+    ensures log { GoesOn L.LogSink log.old (fault_in result) log.new }
 {
     loop {
-        if let Some(outcome) = round(alloc, formula, kept, engine, budget, sink)? {
+        if let Some(outcome) = round(log, state, engine, budget)? {
             return Ok(outcome);
         }
     }
@@ -207,15 +182,15 @@ pub fn solve_core<P: ParityEngine + Drop, L: LogSink>(
     ensures write { IfErr result (λ e. e ≡ Write → Rose (L.faults sink.old) (L.faults sink.new)) }
     ensures frame { L.keeps sink.old sink.new }
 {
-    match begin::<P, L>(alloc, formula, sink)? {
-        Begun::Search(mut kept, mut engine) => search(
-            alloc,
-            formula,
-            &mut kept,
-            &mut engine,
-            budget,
-            sink,
-        ),
+    let mut log = SearchLog {
+        alloc,
+        formula,
+        sink,
+    };
+    match begin::<P, L>(&mut log)? {
+        Begun::Search(mut state, mut engine) => {
+            search(&mut log, &mut state, &mut engine, budget)
+        }
         Begun::Ended => Ok(Outcome::Unsat),
     }
 }

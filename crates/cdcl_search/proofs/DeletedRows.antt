@@ -1,6 +1,6 @@
 -- The clauses of rows are deleted: the ties of the search behind that.
 use Rattle.std.proofs.Common.{◌≡◌, refl, sym, ap, ◌∙◌, subst, ℕ, zero, suc, ◌+◌, ◌-◌, ◌<◌, true≢false, List, [], ◌∷◌, ◌++◌, length, take, fold, Option, arith, append_assoc}
-use Rattle.std.proofs.lemmas.List.{map_push, take-map}
+use Rattle.std.proofs.lemmas.List.{map_push}
 use Rattle.std.specs.List.{AllByRecursion}
 use Rattle.cx_base.specs.Literals.{Literal}
 use Rattle.cx_base.specs.Problem.{Problem, parities_of}
@@ -13,8 +13,6 @@ use Rattle.cx_semantics.specs.Printed.{HasText}
 use Rattle.cx_semantics.specs.Marked.{without}
 use Rattle.cx_semantics.specs.Tables.{get}
 use Rattle.parity_engine.specs.State.{State}
-use Rattle.conflict_learn.specs.declared.fault.CoreFault.{CoreFault}
-use Rattle.std.specs.Prelude.{Result, Ok, Err, OnOk, IfErr}
 use Rattle.search_steps.specs.Trail.{level_of}
 use Rattle.search_steps.specs.Search.{Search, IsSearch, told}
 use Rattle.search_steps.specs.LogSteps.{AreTemporary, deleted, all_told}
@@ -26,10 +24,9 @@ use Rattle.search_steps.proofs.RowReasons.{all_deleted}
 use Rattle.search_steps.proofs.IdLaws.{row_ids_are_temporary, deletions_ranged, anew_ranged, low_is_no_row}
 use Rattle.cdcl_search.specs.declared.state.SearchState.{SearchState}
 use Rattle.cdcl_search.specs.Deleting.{deletions}
-use Rattle.cdcl_search.specs.Tells.{TellsAll, GivesUp, IsLeft, as_events, with_events}
+use Rattle.cdcl_search.specs.Tells.{as_events, with_events}
 use Rattle.cdcl_search.specs.Ties.{Ties, SearchStands, AreUnits, IsFed, AreClauses, AreNumbered, first_row_id, row_ids}
-use Rattle.cdcl_search.proofs.Events.{gives_up}
-use Rattle.cdcl_search.proofs.RowSteps.{all_told_are, is_left}
+use Rattle.cdcl_search.proofs.RowSteps.{all_told_are}
 use Rattle.cdcl_search.proofs.TableLaws.{AnswersBelow, clauses_stay, units_stay}
 
 -- ---- the steps
@@ -117,29 +114,12 @@ module _ (formula : Problem) (c : SearchState) (e : State) (rows : List (List Li
   told_then : (old : Option (List LogEvent)) → AreTold old s.events → (some : List ℕ) → AreTold (with_events (deletions some) old) (deleted s some).events
   told_then old a some = subst (λ (u : Search). AreTold (with_events (deletions some) old) u.events) (deleted_is_told s some) (all_told_are (deletions some) s old a)
 
-  pub fronts_are_left : (old : Option (List LogEvent)) → AreTold old s.events → (k : ℕ) → IsLeft formula (with_events (take k (deletions ids)) old)
-  fronts_are_left old a k = subst (λ es. IsLeft formula (with_events es old)) (sym (take-map (λ n. Step (Delete n [])) k ids))
-      (is_left formula (parities_of formula.constraints) (deleted s (take k ids)) (with_events (deletions (take k ids)) old) (is_search_then k) (deleted_awaits s (take k ids) ∙ t.served.served) (told_then old a (take k ids)))
-
   pub stands_then : (old : Option (List LogEvent)) → AreTold old s.events → SearchStands formula c e [] (with_events (deletions ids) old)
   stands_then old a = (after, deleted_keeps formula (parities_of formula.constraints) s ok ids temporary, told_then old a ids, ties_then)
 
 -- ---- what telling the deletions leaves
-module _ (formula : Problem) (c : SearchState) (e : State) (rows : List (List Literal)) (old : Option (List LogEvent)) (st : SearchStands formula c e rows old) (events : List LogEvent) (count : ℕ) (many : count ≡ length rows) (are : events ≡ deletions (row_ids count)) where
-  same : events ≡ deletions st.0.moment.new_clauses
-  same = are ∙ ap (λ n. deletions (row_ids n)) many ∙ ap deletions (sym st.3.served.new_clauses)
-
-  pub stands_deleted : (new : Option (List LogEvent)) → new ≡ with_events events old → SearchStands formula c e [] new
-  stands_deleted new is = subst (SearchStands formula c e []) (sym (is ∙ ap (λ es. with_events es old) same)) (stands_then formula c e rows st.0 st.1 st.3 old st.2)
-
-  pub gives_up_deleting : (torn : LogEvent → Type 0) (new : Option (List LogEvent)) (fault : CoreFault) → TellsAll {T = Unit {0}} torn events old (Err fault) new → GivesUp formula torn new fault
-  gives_up_deleting torn new fault tells = gives_up formula torn events old new fault tells (λ i less.
-      subst (λ es. IsLeft formula (with_events (take i es) old)) (sym same) (fronts_are_left formula c e rows st.0 st.1 st.3 old st.2 i))
-
-  pub stands_after : (torn : LogEvent → Type 0) (r : Result (Unit {0}) CoreFault) (new : Option (List LogEvent)) → TellsAll torn events old r new → OnOk r (SearchStands formula c e [] new)
-  stands_after torn (Ok done) new tells = stands_deleted new tells
-  stands_after torn (Err fault) new tells = tt
-
-  pub gives_up_after : (torn : LogEvent → Type 0) (r : Result (Unit {0}) CoreFault) (new : Option (List LogEvent)) → TellsAll torn events old r new → IfErr r (λ f. GivesUp formula torn new f)
-  gives_up_after torn (Ok done) new tells = tt
-  gives_up_after torn (Err fault) new tells = gives_up_deleting torn new fault tells
+-- the deletions of all clauses of rows leave the search standing
+pub rows_deleted : (formula : Problem) (c : SearchState) (e : State) (rows : List (List Literal)) (old : Option (List LogEvent)) → SearchStands formula c e rows old → (events : List LogEvent) → events ≡ deletions (row_ids (length rows))
+    → SearchStands formula c e [] (with_events events old)
+rows_deleted formula c e rows old st events are =
+    subst (SearchStands formula c e []) (sym (ap (λ es. with_events es old) (are ∙ ap deletions (sym st.3.served.new_clauses)))) (stands_then formula c e rows st.0 st.1 st.3 old st.2)

@@ -1,17 +1,15 @@
 -- What a sink was told, event by event.
-use Rattle.std.proofs.Common.{◌≡◌, refl, sym, ap, ◌∙◌, subst, ℕ, zero, suc, ◌<◌, List, [], ◌∷◌, ◌++◌, length, take, get_or, Option, Some, None, Err, arith, append_assoc, append-nil}
+use Rattle.std.proofs.Common.{◌≡◌, refl, sym, ap, ◌∙◌, subst, ℕ, zero, suc, ◌<◌, List, [], ◌∷◌, ◌++◌, length, take, get_or, Option, Some, None, Result, Ok, Err, arith, append_assoc, append-nil}
 use Rattle.std.proofs.lemmas.List.{length-map, take-map, get_or-map}
 use Rattle.cx_semantics.specs.declared.steps.LogStep.{LogStep}
 use Rattle.cx_semantics.specs.declared.steps.LogEvent.{LogEvent}
 use Rattle.cx_semantics.specs.declared.steps.LogEvent.TheVariants.{Step, Conflict}
-use Rattle.cx_base.specs.Counts.{Rose}
 use Rattle.conflict_learn.specs.declared.fault.CoreFault.{CoreFault}
 use Rattle.conflict_learn.specs.declared.fault.CoreFault.TheVariants.{Memory, Write}
 use Rattle.proof_text.specs.declared.sink.SinkFault.{SinkFault}
 use Rattle.proof_text.specs.declared.sink.SinkFault.TheVariants as sink
 use Rattle.proof_text.specs.Sinks.{SinkFaultsAs, OnFailed}
-use Rattle.cx_base.specs.Problem.{Problem}
-use Rattle.cdcl_search.specs.Tells.{TellsAll, FaultsAs, GivesUp, IsLeft, as_events, with_events, fault_as}
+use Rattle.cdcl_search.specs.Tells.{TellsAll, FaultsAs, as_events, with_events, fault_as}
 
 pub no_more : (told : Option (List LogEvent)) → with_events [] told ≡ told
 no_more None = refl
@@ -34,13 +32,6 @@ pub faults_as : (fault : SinkFault) (is : CoreFault) (before now : ℕ) → is �
 faults_as sink.Memory is before now e h = subst (λ f. FaultsAs {T = Unit {0}} (Err f) before now) (sym e) h
 faults_as sink.Failed is before now e h = subst (λ f. FaultsAs {T = Unit {0}} (Err f) before now) (sym e) h
 
-pub rose_where : (fault : CoreFault) (before now : ℕ) → FaultsAs {T = Unit {0}} (Err fault) before now → fault ≡ Write → Rose before now
-rose_where Memory before now h e = absurd (other e)
-  where
-    other : Memory ≡ Write → ⊥
-    other w = cc
-rose_where Write before now h e = h
-
 -- ---- steps one after another
 -- the step at a place is not told
 pub stops_there : (torn : LogEvent → Type 0) (steps : List LogStep) (i : ℕ) (s : LogStep) (first old new : Option (List LogEvent)) (fault : CoreFault) → i < length steps → s ≡ get_or steps i s
@@ -53,8 +44,13 @@ stops_there torn steps i s first old new fault less read was (zero, small, is, t
 )
 stops_there torn steps i s first old new fault less read was (suc k, small, is, t) = absurd (omega (arith, small))
 
--- where each front leaves the log right, so does what was told up to a fault
-pub gives_up : (formula : Problem) (torn : LogEvent → Type 0) (events : List LogEvent) (old new : Option (List LogEvent)) (fault : CoreFault) → TellsAll {T = Unit {0}} torn events old (Err fault) new
-    → ((i : ℕ) → i < length events → IsLeft formula (with_events (take i events) old)) → GivesUp formula torn new fault
-gives_up formula torn events old new Memory (i, less, is, t) left = subst (IsLeft formula) (sym is) (left i less)
-gives_up formula torn events old new Write (i, less, is, t) left = (subst (IsLeft formula) (sym is) (left i less), (get_or events i (Conflict 0), t refl))
+-- a mark and the steps behind it
+pub mark_is_told : (torn : LogEvent → Type 0) (event : LogEvent) (events : List LogEvent) (old between new : Option (List LogEvent)) (r : Result (Unit {0}) CoreFault)
+    → between ≡ with_events (event ∷ []) old → TellsAll torn events between r new → TellsAll torn (event ∷ events) old r new
+mark_is_told torn event events old between new (Ok u) first rest = rest ∙ ap (with_events events) first ∙ more_and_more (event ∷ []) events old
+mark_is_told torn event events old between new (Err fault) first (k, less, is, t) = (
+  suc k,
+  omega (arith, less),
+  is ∙ ap (with_events (take k events)) first ∙ more_and_more (event ∷ []) (take k events) old,
+  t,
+)

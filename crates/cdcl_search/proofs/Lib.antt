@@ -15,10 +15,12 @@ pub mod Following
 pub mod Engines
 pub mod Feeding
 pub mod Sums
+pub mod LogFronts
 pub mod Naming
 pub mod Silence
 pub mod Decisions
 pub mod FullTrails
 pub mod DeletedRows
+pub mod Tellings
 pub mod UnitTies
 pub mod UnitLaws

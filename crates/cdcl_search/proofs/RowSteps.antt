@@ -43,7 +43,7 @@ use Rattle.conflict_learn.specs.declared.fault.CoreFault.{CoreFault}
 use Rattle.conflict_learn.specs.declared.fault.CoreFault.TheVariants.{Memory}
 use Rattle.cdcl_search.specs.Tells.{TellsAll, GivesUp, IsLeft, with_events}
 use Rattle.cdcl_search.specs.Explaining.{Explains}
-use Rattle.cdcl_search.proofs.Events.{no_more, more_and_more, gives_up}
+use Rattle.cdcl_search.proofs.Events.{no_more, more_and_more}
 use Rattle.cdcl_search.proofs.TableLaws.{put_same, put_other, drop_other, put_answers_below, clauses_stay, units_stay}
 
 -- ---- variables
@@ -93,10 +93,6 @@ few_parities (constraint.Clause lits ∷ cs) = let rec = few_parities cs in omeg
 few_parities (constraint.Parity lits ∷ cs) = let rec = few_parities cs in omega (arith, rec)
 
 -- ---- events
-take_none : (i : ℕ) → take i (let none : List LogEvent = [] in none) ≡ []
-take_none zero = refl
-take_none (suc i) = refl
-
 pub all_told_are : (more : List LogEvent) (s : Search) (told_ : Option (List LogEvent)) → AreTold told_ s.events → AreTold (with_events more told_) (all_told s more).events
 all_told_are [] s told_ a = subst (λ o. AreTold o s.events) (sym (no_more told_)) a
 all_told_are (event ∷ more) s told_ a =
@@ -188,20 +184,6 @@ module _ (formula : Problem) (c : SearchState) (e : State) (rows : List (List Li
     told_is_search : IsSearch formula theirs (all_told s steps)
     told_is_search = row_reason_keeps formula theirs s k rs r.sources n zs reason_is ok
 
-    clause_told : IsSearch formula theirs (told after_sum (Step (ClauseOfParity n zs k)))
-    clause_told = row_clause_keeps formula theirs after_sum sum_told n zs k (literals rs) clause_added sum_is
-        (row_is_of_parities formula.variables theirs s.moment.tables r.sources (literals rs) (literals zs) row_is clause_is) clause_is some
-
-    -- each front of the steps leaves the log open
-    pub fronts_are_left : (told_ : Option (List LogEvent)) → AreTold told_ s.events → (i : ℕ) → IsLeft formula (with_events (take i steps) told_)
-    fronts_are_left told_ a zero = is_left formula theirs s (with_events [] told_) ok t.served.served (all_told_are [] s told_ a)
-    fronts_are_left told_ a (suc zero) =
-        is_left formula theirs after_sum (with_events (take 1 steps) told_) sum_told t.served.served (all_told_are (take 1 steps) s told_ a)
-    fronts_are_left told_ a (suc (suc zero)) =
-        is_left formula theirs (all_told s (take 2 steps)) (with_events (take 2 steps) told_) clause_told t.served.served (all_told_are (take 2 steps) s told_ a)
-    fronts_are_left told_ a (suc (suc (suc i))) = subst (λ more. IsLeft formula (with_events (Step (Parity k rs r.sources) ∷ Step (ClauseOfParity n zs k) ∷ Step (DeleteParity k []) ∷ more) told_)) (sym (take_none i))
-        (is_left formula theirs (all_told s steps) (with_events steps told_) told_is_search t.served.served (all_told_are steps s told_ a))
-
     numbered_still : AreNumbered (all_told s steps).moment.tables.parities theirs
     numbered_still m low few =
         let above = high in
@@ -283,16 +265,3 @@ module _ (formula : Problem) (c : SearchState) (e : State) (rows : List (List Li
     pub stands_then : (new : Option (List LogEvent)) → new ≡ with_events events old → SearchStands formula c e (rows ++ r.clause ∷ []) new
     stands_then new is = subst (SearchStands formula c e (rows ++ r.clause ∷ [])) (sym (is ∙ ap (λ es. with_events es old) are))
         (stands_still formula c e rows st.0 st.1 st.3 r x back_parity back_clause (not_empty r.clause some) old st.2)
-
-    pub left_then : (new : Option (List LogEvent)) → new ≡ with_events events old → IsLeft formula new
-    left_then new is = subst (IsLeft formula) (sym (is ∙ ap (λ es. with_events es old) are)) (fronts_are_left formula c e rows st.0 st.1 st.3 r x back_parity back_clause (not_empty r.clause some) old st.2 3)
-
-    pub gives_up_then : (torn : LogEvent → Type 0) (new : Option (List LogEvent)) (fault : CoreFault) → TellsAll {T = Unit {0}} torn events old (Err fault) new → GivesUp formula torn new fault
-    gives_up_then torn new fault tells = gives_up formula torn events old new fault tells (λ i less.
-        subst (λ es. IsLeft formula (with_events (take i es) old)) (sym are) (fronts_are_left formula c e rows st.0 st.1 st.3 r x back_parity back_clause (not_empty r.clause some) old st.2 i))
-
-pub memory_is_left : {T : Type 0} (formula : Problem) (torn : LogEvent → Type 0) (told_ : Option (List LogEvent)) (r : Result T CoreFault) → (fault : CoreFault) → r ≡ Err fault → fault ≡ Memory → IsLeft formula told_ → IfErr r (λ e. GivesUp formula torn told_ e)
-memory_is_left formula torn told_ r fault is f left = subst (λ o. IfErr o (λ e. GivesUp formula torn told_ e)) (sym (is ∙ ap Err f)) left
-
-pub fault_is_left : {T : Type 0} (formula : Problem) (torn : LogEvent → Type 0) (told_ : Option (List LogEvent)) (r : Result T CoreFault) → (fault was : CoreFault) → r ≡ Err fault → fault ≡ was → GivesUp formula torn told_ was → IfErr r (λ e. GivesUp formula torn told_ e)
-fault_is_left formula torn told_ r fault was is f left = subst (λ o. IfErr o (λ e. GivesUp formula torn told_ e)) (sym (is ∙ ap Err f)) left

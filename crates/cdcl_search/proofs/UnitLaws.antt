@@ -15,7 +15,6 @@ use Rattle.cx_semantics.specs.Integers.{integers_of, literals}
 use Rattle.cx_semantics.proofs.Closure.{has_by_inside}
 use Rattle.cx_trail.specs.Sequence.{TrailState, IsTrail, IsTrueIn, entry_at}
 use Rattle.conflict_learn.specs.Learning.{IsAntecedent}
-use Rattle.conflict_learn.specs.declared.fault.CoreFault.{CoreFault}
 use Rattle.conflict_learn.proofs.ChainOfResolutions.{by_cases}
 use Rattle.parity_engine.specs.State.{State}
 use Rattle.search_steps.specs.Holding.{AreTold}
@@ -23,10 +22,9 @@ use Rattle.search_steps.specs.Search.{Search, IsSearch}
 use Rattle.search_steps.specs.Tied.{IsLiveSet, ForcesOn}
 use Rattle.search_steps.proofs.StartLaws.{literals_are}
 use Rattle.cdcl_search.specs.declared.state.SearchState.{SearchState}
-use Rattle.cdcl_search.specs.Tells.{TellsAll, GivesUp, IsLeft, with_events}
+use Rattle.cdcl_search.specs.Tells.{IsLeft, with_events}
 use Rattle.cdcl_search.specs.Ties.{SearchStands, first_row_id}
 use Rattle.cdcl_search.specs.Units.{IsNextUnit, HasOther}
-use Rattle.cdcl_search.proofs.Events.{no_more, gives_up}
 use Rattle.cdcl_search.proofs.RowReasons.{entry_taken}
 use Rattle.cdcl_search.proofs.RowSteps.{is_left}
 use Rattle.cdcl_search.proofs.UnitTies.{unit_is_search, unit_ties, after_unit, with_unit, l_within}
@@ -103,8 +101,8 @@ module _ (formula : Problem) (c : SearchState) (e : State) (rows : List (List Li
     told_then None a = tt
     told_then (Some es) a = ap (λ xs. xs ++ Step step ∷ []) a
 
-    pub left_then : (new : Option (List LogEvent)) → new ≡ with_events (Step step ∷ []) old → IsLeft formula new
-    left_then new same = subst (IsLeft formula) (sym same) (is_left formula (parities_of formula.constraints) after (with_events (Step step ∷ []) old) is_search refl (told_then old st.2))
+    pub left_then : IsLeft formula (with_events (Step step ∷ []) old)
+    left_then = is_left formula (parities_of formula.constraints) after (with_events (Step step ∷ []) old) is_search refl (told_then old st.2)
 
     pub stands_then : (new : Option (List LogEvent)) → new ≡ with_events (Step step ∷ []) old → (units : Vec ℕ) → units.items ≡ c.units.items ++ c.next ∷ [] → (next : ℕ) → next ≡ c.next + 1 → SearchStands formula (with_unit c units next) e rows new
     stands_then new same units grown next next_is = (
@@ -113,13 +111,6 @@ module _ (formula : Problem) (c : SearchState) (e : State) (rows : List (List Li
       subst (λ o. AreTold o after.events) (sym same) (told_then old st.2),
       unit_ties formula c e rows st.0 st.1 st.3 l is_next.next.0 is_next.next.1 level live.0 live.1 forces room back hints units grown next next_is,
     )
-
-    pub gives_up_then : (torn : LogEvent → Type 0) (new : Option (List LogEvent)) (fault : CoreFault) → TellsAll {T = Unit {0}} torn (Step step ∷ []) old (Err fault) new → GivesUp formula torn new fault
-    gives_up_then torn new fault tells = gives_up formula torn (Step step ∷ []) old new fault tells (λ i less. front i less)
-      where
-        front : (i : ℕ) → i < 1 → IsLeft formula (with_events (take i (Step step ∷ [])) old)
-        front zero less = subst (IsLeft formula) (sym (no_more old)) (is_left formula (parities_of formula.constraints) st.0 old st.1 st.3.served.served st.2)
-        front (suc i) less = absurd (omega (arith, less))
 
 -- ---- unit clauses change nothing that propagation found
 has_all_still : (old new : SearchState) → HasOther old new → HasAll old → HasAll new

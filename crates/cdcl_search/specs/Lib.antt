@@ -1,5 +1,8 @@
 pub mod Ties
 pub mod Tells
+pub mod Logs
+pub mod GoingOn
+pub mod Loans
 pub mod Finds
 pub mod Sources
 pub mod Explaining

@@ -1,19 +1,20 @@
 //! Clauses that chains of clauses show.
-ghost use Rattle.std.specs.Prelude.{◌≡◌, ◌≤◌, [], ◌∷◌, ◌++◌, pos, OnOk, IfOk, IfErr, IfSome};
+ghost use Rattle.std.specs.Prelude.{◌≡◌, ◌≤◌, [], ◌∷◌, ◌++◌, pos, OnOk, IfOk, IfSome};
 ghost use Rattle.std.specs.List.{All, Contains};
 ghost use Rattle.cx_base.specs.Numbers.{AreStepIntegers};
 ghost use Rattle.cx_semantics.specs.Integers.{integers_of};
 ghost use Rattle.cx_semantics.specs.declared.steps.LogEvent.TheVariants.{Step};
 ghost use Rattle.cx_semantics.specs.declared.steps.LogStep.TheVariants as step;
-ghost use Rattle.cx_base.specs.Counts.{Rose};
-ghost use Rattle.conflict_learn.specs.declared.fault.CoreFault.TheVariants.{Write};
-ghost use Rattle.cdcl_search.specs.Tells.{TellsAll, FaultsAs, IsId};
+ghost use Rattle.conflict_learn.specs.Faults.{fault_in};
+ghost use Rattle.cdcl_search.specs.Logs.{GoesOn, IsRightBehind, AreToldNow};
+ghost use Rattle.cdcl_search.specs.Tells.{IsId};
 ghost use Rattle.cdcl_search.specs.Units.{AreUnitsAnd};
 
 use crate::integers::integers;
+use crate::logs::SearchLog;
 use crate::state::SearchState;
 use crate::steps::chained;
-use crate::telling::tell;
+use crate::telling::tell_step;
 use conflict_learn::CoreFault;
 use cx_base::{IntList, Lit};
 use cx_trail::Truth;
@@ -34,12 +35,12 @@ pub fn push_hint(hints: &mut Vec<i64>, id: u64) -> Result<(), AllocError>
 }
 
 /// The id of the unit clause that makes a literal false, where there is one.
-fn id_against(kept: &SearchState, lit: Lit) -> Option<u64>
-    requires { lit.variable ≤ kept.now.trail.variables }
-    ensures { IfSome result (Contains kept.now.units.items) }
+fn id_against(state: &SearchState, lit: Lit) -> Option<u64>
+    requires { lit.variable ≤ state.now.trail.variables }
+    ensures { IfSome result (Contains state.now.units.items) }
 {
-    match kept.trail.truth(lit) {
-        Truth::False => kept.units.get(kept.trail.place_of(lit)).copied(),
+    match state.trail.truth(lit) {
+        Truth::False => state.units.get(state.trail.place_of(lit)).copied(),
         _ => None,
     }
 }
@@ -47,16 +48,16 @@ fn id_against(kept: &SearchState, lit: Lit) -> Option<u64>
 /// The hints of a chain that ends with this clause: the unit clauses that make its literals false, and its id.
 pub fn hints_of(
     alloc: Global,
-    kept: &SearchState,
+    state: &SearchState,
     lits: &[Lit],
     id: u64,
 ) -> Result<IntList, AllocError>
-    requires { All (λ l. l.variable ≤ kept.now.trail.variables) lits.now }
-    ensures { IfOk result (AreUnitsAnd kept.now id) }
+    requires { All (λ l. l.variable ≤ state.now.trail.variables) lits.now }
+    ensures { IfOk result (AreUnitsAnd state.now id) }
 {
     let mut hints = Vec::new(alloc);
     for lit in lits {
-        if let Some(unit) = id_against(kept, *lit) {
+        if let Some(unit) = id_against(state, *lit) {
             push_hint(&mut hints, unit)?;
         }
     }
@@ -66,19 +67,17 @@ pub fn hints_of(
 
 /// Tells a clause that a chain of clauses with these ids shows.
 pub fn tell_chained<L: LogSink>(
-    alloc: Global,
-    sink: &mut L,
+    log: &mut SearchLog<L>,
     id: u64,
     lits: &[Lit],
     hints: IntList,
 ) -> Result<(), CoreFault>
-    requires { IsId id }
-    ensures told { TellsAll (L.torn sink.new) (Step (step.ClauseWithHints id (integers_of lits.now) hints) ∷ []) (L.events sink.old) result (L.events sink.new) }
-    ensures write { IfErr result (λ e. e ≡ Write → Rose (L.faults sink.old) (L.faults sink.new)) }
-    ensures faults { FaultsAs result (L.faults sink.old) (L.faults sink.new) }
-    ensures frame { L.keeps sink.old sink.new }
+    requires id { IsId id }
+    requires right { IsRightBehind L.LogSink log.old (Step (step.ClauseWithHints id (integers_of lits.now) hints) ∷ []) }
+    ensures told { OnOk result (AreToldNow L.LogSink log.old (Step (step.ClauseWithHints id (integers_of lits.now) hints) ∷ []) log.new) }
+    ensures log { GoesOn L.LogSink log.old (fault_in result) log.new }
 {
-    let zs = integers(alloc, lits)?;
+    let zs = integers(log.alloc, lits)?;
     let step = chained(id, zs, hints);
-    tell(sink, &step)
+    tell_step(log, &step)
 }

@@ -15,27 +15,27 @@ use parity_engine::ParityEngine;
 /// Opens a level by a decision, where both engines are quiet; false where each variable is assigned.
 pub(crate) fn decide<P: ParityEngine>(
     formula: &Formula,
-    kept: &mut SearchState,
+    state: &mut SearchState,
     engine: &mut P,
 ) -> bool
-    requires stands { (told : Option (List LogEvent)) × SearchStands formula.now kept.old (P.state engine.old) [] told }
-    requires quiet { PropagationFinds kept.old (P.state engine.old) found.Quiet }
-    requires units { kept.old.trail.level ≡ 0 → length kept.old.units.items ≡ length kept.old.trail.entries }
-    ensures stands { (told : Option (List LogEvent)) → SearchStands formula.now kept.old (P.state engine.old) [] told → SearchStands formula.now kept.new (P.state engine.new) [] told }
-    ensures decided { IsTrue result → (kept.new.trail.level ≡ kept.old.trail.level + 1) × (length kept.new.trail.entries ≡ length kept.old.trail.entries + 1) }
-    ensures full { IsFalse result → (kept.new.trail ≡ kept.old.trail) × IsFull kept.new.trail × PropagationFinds kept.new (P.state engine.new) found.Quiet }
+    requires stands { (told : Option (List LogEvent)) × SearchStands formula.now state.old (P.state engine.old) [] told }
+    requires quiet { PropagationFinds state.old (P.state engine.old) found.Quiet }
+    requires units { state.old.trail.level ≡ 0 → length state.old.units.items ≡ length state.old.trail.entries }
+    ensures stands { (told : Option (List LogEvent)) → SearchStands formula.now state.old (P.state engine.old) [] told → SearchStands formula.now state.new (P.state engine.new) [] told }
+    ensures decided { IsTrue result → (state.new.trail.level ≡ state.old.trail.level + 1) × (length state.new.trail.entries ≡ length state.old.trail.entries + 1) }
+    ensures full { IsFalse result → (state.new.trail ≡ state.old.trail) × IsFull state.new.trail × PropagationFinds state.new (P.state engine.new) found.Quiet }
     ensures settled { Settled formula.now → IsFalse result }
     ensures unbroken { (P.state engine.new).mood ≢ Broken }
-    ensures same { (kept.new.units.items ≡ kept.old.units.items) × (kept.new.conflicts ≡ kept.old.conflicts) × (kept.new.next ≡ kept.old.next) }
+    ensures same { (state.new.units.items ≡ state.old.units.items) × (state.new.conflicts ≡ state.old.conflicts) × (state.new.next ≡ state.old.next) }
 {
-    if kept.trail.is_full() {
+    if state.trail.is_full() {
         return false;
     }
-    let Some(variable) = kept.order.pick_from_heap(&kept.trail) else {
+    let Some(variable) = state.order.pick_from_heap(&state.trail) else {
         return false;
     };
-    let value = kept.phases[variable.number() as usize - 1];
+    let value = state.phases[variable.number() as usize - 1];
     engine.push_level();
-    kept.trail.decide(Lit::new(variable, !value));
+    state.trail.decide(Lit::new(variable, !value));
     true
 }

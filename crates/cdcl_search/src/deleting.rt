@@ -1,20 +1,21 @@
 //! Deleting the clauses of rows.
-ghost use Rattle.std.specs.Prelude.{◌≡◌, [], ◌++◌, OnOk, IfOk, IfErr};
+ghost use Rattle.std.specs.Prelude.{◌≡◌, [], ◌++◌, OnOk, IfOk};
 ghost use Rattle.std.specs.List.{AllByRecursion};
 ghost use Rattle.cx_semantics.specs.Printed.{HasText};
 ghost use Rattle.cx_semantics.specs.declared.steps.LogEvent.TheVariants.{Step};
-ghost use Rattle.conflict_learn.specs.declared.fault.CoreFault.TheVariants.{Write};
-ghost use Rattle.cx_base.specs.Counts.{Rose};
+ghost use Rattle.conflict_learn.specs.Faults.{fault_in};
 ghost use Rattle.cdcl_search.specs.Deleting.{deletions};
-ghost use Rattle.cdcl_search.specs.Tells.{GivesUp, FaultsAs, as_events};
-ghost use Rattle.cdcl_search.specs.Ties.{SearchStands, row_ids};
+ghost use Rattle.cdcl_search.specs.Logs.{GoesOn, Stands};
+ghost use Rattle.cdcl_search.specs.Tells.{as_events};
+ghost use Rattle.cdcl_search.specs.Ties.{row_ids};
 
+use crate::logs::SearchLog;
 use crate::rows::{CONSTRAINT_AND_ROW_LIMIT, FIRST_ROW_ID};
 use crate::state::SearchState;
 use crate::steps::deletion;
-use crate::telling::tell_all;
+use crate::telling::tell_steps;
 use conflict_learn::CoreFault;
-use cx_base::{Formula, LitList};
+use cx_base::LitList;
 use cx_semantics::LogStep;
 use log_text::LogSink;
 use parity_engine::ParityEngine;
@@ -53,20 +54,15 @@ fn deletions_of_rows(alloc: Global, count: usize) -> Result<Vec<LogStep>, AllocE
 
 /// Deletes the clauses of rows that were told since the last mark.
 pub(crate) fn delete_rows<P: ParityEngine, L: LogSink>(
-    alloc: Global,
-    formula: &Formula,
-    kept: &SearchState,
+    log: &mut SearchLog<L>,
+    state: &SearchState,
     engine: &P,
-    sink: &mut L,
     rows: &[LitList],
 ) -> Result<(), CoreFault>
-    requires { SearchStands formula.now kept.now (P.state engine.now) rows.now (L.events sink.old) }
-    ensures stands { OnOk result (SearchStands formula.now kept.now (P.state engine.now) [] (L.events sink.new)) }
-    ensures gave_up { IfErr result (λ e. GivesUp formula.now (L.torn sink.new) (L.events sink.new) e) }
-    ensures write { IfErr result (λ e. e ≡ Write → Rose (L.faults sink.old) (L.faults sink.new)) }
-    ensures faults { FaultsAs result (L.faults sink.old) (L.faults sink.new) }
-    ensures frame { L.keeps sink.old sink.new }
+    requires { Stands P.ParityEngine L.LogSink log.old state.now engine.now rows.now }
+    ensures stands { OnOk result (Stands P.ParityEngine L.LogSink log.new state.now engine.now []) }
+    ensures log { GoesOn L.LogSink log.old (fault_in result) log.new }
 {
-    let steps = deletions_of_rows(alloc, rows.len())?;
-    tell_all(sink, &steps)
+    let steps = deletions_of_rows(log.alloc, rows.len())?;
+    tell_steps(log, &steps)
 }

@@ -6,6 +6,7 @@ pub mod chains;
 mod deciding;
 pub mod deleting;
 pub mod integers;
+pub mod logs;
 mod models;
 mod propagation;
 pub mod rows;

@@ -29,18 +29,18 @@ fn value_on(trail: &Trail, variable: Var) -> bool
 pub fn values_of<P: ParityEngine>(
     alloc: Global,
     formula: &Formula,
-    kept: &SearchState,
+    state: &SearchState,
     engine: &P,
 ) -> Result<Values, AllocError>
-    requires stands { (told : Option (List LogEvent)) × SearchStands formula.now kept.now (P.state engine.now) [] told }
-    requires quiet { PropagationFinds kept.now (P.state engine.now) found.Quiet }
-    requires full { IsFull kept.now.trail }
+    requires stands { (told : Option (List LogEvent)) × SearchStands formula.now state.now (P.state engine.now) [] told }
+    requires quiet { PropagationFinds state.now (P.state engine.now) found.Quiet }
+    requires full { IsFull state.now.trail }
     ensures { IfOk result (Meets formula.now) }
 {
     let vars = formula.vars();
     let mut values = Vec::with_capacity(alloc, vars as usize)?;
     for index in 0..vars {
-        values.push(value_on(&kept.trail, Var::new(index + 1)))?;
+        values.push(value_on(&state.trail, Var::new(index + 1)))?;
     }
     Ok(Values::from_vec(values))
 }

@@ -36,52 +36,52 @@ pub(crate) enum RowFinding {
 }
 
 /// Implies what the clauses force, up to a conflict.
-fn follow_clauses(kept: &mut SearchState) -> Event
-    requires { Fits kept.old.watches kept.old.arena kept.old.trail }
-    ensures stands { (formula : Problem) (e : State) (told : Option (List LogEvent)) → SearchStands formula kept.old e [] told → SearchStands formula kept.new e [] told }
-    ensures happens { Happens kept.new.watches.attached kept.new.arena kept.new.trail result }
-    ensures grows { length kept.old.trail.entries ≤ length kept.new.trail.entries }
-    ensures given { kept.new.given ≡ kept.old.given }
-    ensures same { HasSameCounts kept.old kept.new }
+fn follow_clauses(state: &mut SearchState) -> Event
+    requires { Fits state.old.watches state.old.arena state.old.trail }
+    ensures stands { (formula : Problem) (e : State) (told : Option (List LogEvent)) → SearchStands formula state.old e [] told → SearchStands formula state.new e [] told }
+    ensures happens { Happens state.new.watches.attached state.new.arena state.new.trail result }
+    ensures grows { length state.old.trail.entries ≤ length state.new.trail.entries }
+    ensures given { state.new.given ≡ state.old.given }
+    ensures same { HasSameCounts state.old state.new }
 {
-    let event = kept.watches.next_event(&kept.arena, &mut kept.trail);
+    let event = state.watches.next_event(&state.arena, &mut state.trail);
     // `len` says to the proof that the trail is sound.
-    let _sound = kept.trail.len();
+    let _sound = state.trail.len();
     event
 }
 
 /// Gives the engine the literals of the trail that it does not have yet.
-fn feed<P: ParityEngine>(formula: &Formula, kept: &mut SearchState, engine: &mut P)
-    requires stands { (told : Option (List LogEvent)) × SearchStands formula.now kept.old (P.state engine.old) [] told }
+fn feed<P: ParityEngine>(formula: &Formula, state: &mut SearchState, engine: &mut P)
+    requires stands { (told : Option (List LogEvent)) × SearchStands formula.now state.old (P.state engine.old) [] told }
     requires unbroken { (P.state engine.old).mood ≢ Broken }
-    ensures stands { (told : Option (List LogEvent)) → SearchStands formula.now kept.old (P.state engine.old) [] told → SearchStands formula.now kept.new (P.state engine.new) [] told }
-    ensures given { kept.new ≡ record kept.old { given = length kept.old.trail.entries } }
+    ensures stands { (told : Option (List LogEvent)) → SearchStands formula.now state.old (P.state engine.old) [] told → SearchStands formula.now state.new (P.state engine.new) [] told }
+    ensures given { state.new ≡ record state.old { given = length state.old.trail.entries } }
     ensures unbroken { (P.state engine.new).mood ≢ Broken }
 {
-    for place in kept.given..kept.trail.len() {
-        let literal = kept.trail.entry(place).literal;
+    for place in state.given..state.trail.len() {
+        let literal = state.trail.entry(place).literal;
         engine.assign(literal.var(), !literal.is_negative());
     }
-    kept.given = kept.trail.len();
+    state.given = state.trail.len();
 }
 
 /// What follows from the parities. An implied literal goes on the trail.
 fn follow_rows<P: ParityEngine>(
     formula: &Formula,
-    kept: &mut SearchState,
+    state: &mut SearchState,
     engine: &mut P,
 ) -> RowFinding
-    requires stands { (told : Option (List LogEvent)) × SearchStands formula.now kept.old (P.state engine.old) [] told }
+    requires stands { (told : Option (List LogEvent)) × SearchStands formula.now state.old (P.state engine.old) [] told }
     requires unbroken { (P.state engine.old).mood ≢ Broken }
-    requires all { HasAll kept.old }
-    ensures stands { (told : Option (List LogEvent)) → SearchStands formula.now kept.old (P.state engine.old) [] told → SearchStands formula.now kept.new (P.state engine.new) [] told }
-    ensures says { RowsSay kept.old kept.new (P.state engine.new) result }
-    ensures same { HasSameCounts kept.old kept.new }
+    requires all { HasAll state.old }
+    ensures stands { (told : Option (List LogEvent)) → SearchStands formula.now state.old (P.state engine.old) [] told → SearchStands formula.now state.new (P.state engine.new) [] told }
+    ensures says { RowsSay state.old state.new (P.state engine.new) result }
+    ensures same { HasSameCounts state.old state.new }
 {
     match engine.next_event() {
         ParityEvent::Quiet => RowFinding::Quiet,
         ParityEvent::Implied(literal, row) => {
-            kept.trail.imply(literal, Reason::Row(row));
+            state.trail.imply(literal, Reason::Row(row));
             RowFinding::Implied
         }
         ParityEvent::Conflict(row) => RowFinding::Conflict(row),
@@ -91,23 +91,23 @@ fn follow_rows<P: ParityEngine>(
 /// Implies what the clauses and the parities force, until both are quiet or one is in conflict.
 pub(crate) fn propagate<P: ParityEngine>(
     formula: &Formula,
-    kept: &mut SearchState,
+    state: &mut SearchState,
     engine: &mut P,
 ) -> Found
-    requires stands { (told : Option (List LogEvent)) × SearchStands formula.now kept.old (P.state engine.old) [] told }
+    requires stands { (told : Option (List LogEvent)) × SearchStands formula.now state.old (P.state engine.old) [] told }
     requires unbroken { (P.state engine.old).mood ≢ Broken }
-    ensures stands { (told : Option (List LogEvent)) → SearchStands formula.now kept.old (P.state engine.old) [] told → SearchStands formula.now kept.new (P.state engine.new) [] told }
-    ensures finds { PropagationFinds kept.new (P.state engine.new) result }
-    ensures same { HasSameCounts kept.old kept.new }
-    ensures grows { length kept.old.trail.entries ≤ length kept.new.trail.entries }
+    ensures stands { (told : Option (List LogEvent)) → SearchStands formula.now state.old (P.state engine.old) [] told → SearchStands formula.now state.new (P.state engine.new) [] told }
+    ensures finds { PropagationFinds state.new (P.state engine.new) result }
+    ensures same { HasSameCounts state.old state.new }
+    ensures grows { length state.old.trail.entries ≤ length state.new.trail.entries }
 {
     loop {
-        match follow_clauses(kept) {
+        match follow_clauses(state) {
             Event::Conflict(reference) => return Found::Clause(reference),
             Event::Quiet => {}
         }
-        feed(formula, kept, engine);
-        match follow_rows(formula, kept, engine) {
+        feed(formula, state, engine);
+        match follow_rows(formula, state, engine) {
             RowFinding::Quiet => return Found::Quiet,
             RowFinding::Implied => {}
             RowFinding::Conflict(row) => return Found::Row(row),

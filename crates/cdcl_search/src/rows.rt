@@ -1,24 +1,25 @@
 //! Rows as the log tells them.
-ghost use Rattle.std.specs.Prelude.{◌≡◌, ◌≢◌, ◌+◌, ◌<◌, [], ◌∷◌, ◌++◌, length, IfOk, IfErr, OnErr};
+ghost use Rattle.std.specs.Prelude.{◌≡◌, ◌≢◌, ◌+◌, ◌<◌, [], ◌∷◌, ◌++◌, length, IfOk, OnOk, OnErr};
 ghost use Rattle.std.specs.List.{AllByRecursion};
 ghost use Rattle.cx_base.specs.Problem.{parities_of};
 ghost use Rattle.cx_semantics.specs.Integers.{integers_of, literals};
 ghost use Rattle.cx_semantics.specs.Printed.{HasText};
 ghost use Rattle.cx_semantics.specs.declared.steps.LogEvent.TheVariants.{Step};
 ghost use Rattle.cx_semantics.specs.declared.steps.LogStep.TheVariants as step;
-ghost use Rattle.conflict_learn.specs.declared.fault.CoreFault.TheVariants.{Write};
+ghost use Rattle.conflict_learn.specs.Faults.{fault_in};
 ghost use Rattle.conflict_learn.specs.Learning.{IsAntecedent};
-ghost use Rattle.cx_base.specs.Counts.{Rose};
 ghost use Rattle.parity_engine.specs.Written.{AreRising};
 ghost use Rattle.search_steps.specs.LogSteps.{row_events};
 ghost use Rattle.cdcl_search.specs.Explaining.{Explains, IsReasonOf};
-ghost use Rattle.cdcl_search.specs.Tells.{GivesUp, FaultsAs, IsId, as_events};
-ghost use Rattle.cdcl_search.specs.Ties.{SearchStands, first_row_id};
+ghost use Rattle.cdcl_search.specs.Logs.{GoesOn, Stands};
+ghost use Rattle.cdcl_search.specs.Tells.{IsId, as_events};
+ghost use Rattle.cdcl_search.specs.Ties.{first_row_id};
 
 use crate::integers::integers;
+use crate::logs::SearchLog;
 use crate::state::SearchState;
 use crate::steps::{clause_of_sum, deletion_of_sum, sum};
-use crate::telling::tell_all;
+use crate::telling::tell_steps;
 use conflict_learn::CoreFault;
 use cx_base::{Formula, IdList, Lit, LitList, Row};
 use cx_semantics::LogStep;
@@ -163,54 +164,44 @@ fn prepare_next(
 ///
 /// `engine` is the engine that named the row.
 pub fn tell_reason<P: ParityEngine, L: LogSink>(
-    alloc: Global,
-    formula: &Formula,
-    kept: &SearchState,
+    log: &mut SearchLog<L>,
+    state: &SearchState,
     engine: &P,
-    sink: &mut L,
     reason: ReasonOf,
     rows: &mut Vec<LitList>,
 ) -> Result<LitList, CoreFault>
-    requires stands { SearchStands formula.now kept.now (P.state engine.now) rows.old.items (L.events sink.old) }
-    requires explains { Explains (parities_of formula.now.constraints) kept.now.trail reason }
+    requires stands { Stands P.ParityEngine L.LogSink log.old state.now engine.now rows.old.items }
+    requires explains { Explains (parities_of log.old.formula.now.constraints) state.now.trail reason }
     requires some { reason.clause ≢ [] }
     ensures clause { IfOk result (λ c. c ≡ reason.clause) }
     ensures same { OnErr result (rows.new.items ≡ rows.old.items) }
-    ensures rows { IfOk result (λ c. rows.new.items ≡ rows.old.items ++ reason.clause ∷ []) }
-    ensures stands { IfOk result (λ c. SearchStands formula.now kept.now (P.state engine.now) (rows.old.items ++ reason.clause ∷ []) (L.events sink.new)) }
-    ensures gave_up { IfErr result (λ e. GivesUp formula.now (L.torn sink.new) (L.events sink.new) e) }
-    ensures write { IfErr result (λ e. e ≡ Write → Rose (L.faults sink.old) (L.faults sink.new)) }
-    ensures faults { FaultsAs result (L.faults sink.old) (L.faults sink.new) }
-    ensures frame { L.keeps sink.old sink.new }
+    ensures rows { OnOk result (rows.new.items ≡ rows.old.items ++ reason.clause ∷ []) }
+    ensures stands { OnOk result (Stands P.ParityEngine L.LogSink log.new state.now engine.now (rows.old.items ++ reason.clause ∷ [])) }
+    ensures log { GoesOn L.LogSink log.old (fault_in result) log.new }
 {
-    let prepared = prepare_next(alloc, formula, rows, reason)?;
-    tell_all(sink, &prepared.steps)?;
+    let prepared = prepare_next(log.alloc, log.formula, rows, reason)?;
+    tell_steps(log, &prepared.steps)?;
     rows.push(prepared.copy)?;
     Ok(prepared.clause)
 }
 
 /// Tells the clause of a row that implied a literal of the trail.
 pub(crate) fn tell_row<P: ParityEngine, L: LogSink>(
-    alloc: Global,
-    formula: &Formula,
-    kept: &SearchState,
+    log: &mut SearchLog<L>,
+    state: &SearchState,
     engine: &P,
-    sink: &mut L,
     row: Row,
     implied: Lit,
     rows: &mut Vec<LitList>,
 ) -> Result<LitList, CoreFault>
-    requires stands { SearchStands formula.now kept.now (P.state engine.now) rows.old.items (L.events sink.old) }
-    requires reason { IsReasonOf (P.state engine.now) kept.now.trail.entries implied row }
-    ensures implied { IfOk result (IsAntecedent kept.now.trail implied) }
+    requires stands { Stands P.ParityEngine L.LogSink log.old state.now engine.now rows.old.items }
+    requires reason { IsReasonOf (P.state engine.now) state.now.trail.entries implied row }
+    ensures implied { IfOk result (IsAntecedent state.now.trail implied) }
     ensures same { OnErr result (rows.new.items ≡ rows.old.items) }
     ensures rows { IfOk result (λ c. rows.new.items ≡ rows.old.items ++ c ∷ []) }
-    ensures stands { IfOk result (λ c. SearchStands formula.now kept.now (P.state engine.now) rows.new.items (L.events sink.new)) }
-    ensures gave_up { IfErr result (λ e. GivesUp formula.now (L.torn sink.new) (L.events sink.new) e) }
-    ensures write { IfErr result (λ e. e ≡ Write → Rose (L.faults sink.old) (L.faults sink.new)) }
-    ensures faults { FaultsAs result (L.faults sink.old) (L.faults sink.new) }
-    ensures frame { L.keeps sink.old sink.new }
+    ensures stands { OnOk result (Stands P.ParityEngine L.LogSink log.new state.now engine.now rows.new.items) }
+    ensures log { GoesOn L.LogSink log.old (fault_in result) log.new }
 {
-    let reason = reason_clause(alloc, engine, row, Some(implied), &kept.trail)?;
-    tell_reason(alloc, formula, kept, engine, sink, reason, rows)
+    let reason = reason_clause(log.alloc, engine, row, Some(implied), &state.trail)?;
+    tell_reason(log, state, engine, reason, rows)
 }

@@ -1,96 +1,78 @@
 //! The search between two conflicts.
-ghost use Rattle.std.specs.Prelude.{◌≡◌, ◌≢◌, ◌≤◌, [], length, OnOk, IfOk, IfErr, IsSome, MatchOption};
+ghost use Rattle.std.specs.Prelude.{◌≡◌, ◌≢◌, ◌≤◌, [], length, OnOk, IfOk, IsSome, MatchOption};
 ghost use Rattle.cx_semantics.specs.Settled.{Settled};
-ghost use Rattle.cx_base.specs.Counts.{Rose};
-ghost use Rattle.conflict_learn.specs.declared.fault.CoreFault.TheVariants.{Write};
+ghost use Rattle.conflict_learn.specs.Faults.{fault_in};
 ghost use Rattle.parity_engine.specs.declared.state.Mood.TheVariants.{Broken};
 ghost use Rattle.cdcl_search.specs.Finds.{PropagationFinds};
 ghost use Rattle.cdcl_search.specs.Searching.{HasUnits, OpensLevel, SearchReaches};
-ghost use Rattle.cdcl_search.specs.Tells.{GivesUp, FaultsAs};
-ghost use Rattle.cdcl_search.specs.Ties.{SearchStands};
+ghost use Rattle.cdcl_search.specs.Logs.{GoesOn, Stands};
 ghost use Rattle.cdcl_search.specs.Units.{HasOther};
 
 use crate::deciding::decide;
+use crate::logs::SearchLog;
 use crate::propagation::{Found, propagate};
 use crate::state::SearchState;
 use crate::units::tell_units;
 use conflict_learn::CoreFault;
-use cx_base::Formula;
 use log_text::LogSink;
 use parity_engine::ParityEngine;
-use std::alloc::Global;
 
 /// Tells the units that are not told yet, where the search is at level 0.
 fn tell_units_at_start<P: ParityEngine, L: LogSink>(
-    alloc: Global,
-    formula: &Formula,
-    kept: &mut SearchState,
+    log: &mut SearchLog<L>,
+    state: &mut SearchState,
     engine: &P,
-    sink: &mut L,
 ) -> Result<(), CoreFault>
-    requires { SearchStands formula.now kept.old (P.state engine.now) [] (L.events sink.old) }
-    ensures stands { OnOk result (SearchStands formula.now kept.new (P.state engine.now) [] (L.events sink.new)) }
-    ensures units { OnOk result (HasUnits kept.new) }
-    ensures same { HasOther kept.old kept.new }
-    ensures gave_up { IfErr result (λ e. GivesUp formula.now (L.torn sink.new) (L.events sink.new) e) }
-    ensures write { IfErr result (λ e. e ≡ Write → Rose (L.faults sink.old) (L.faults sink.new)) }
-    ensures faults { FaultsAs result (L.faults sink.old) (L.faults sink.new) }
-    ensures frame { L.keeps sink.old sink.new }
+    requires { Stands P.ParityEngine L.LogSink log.old state.old engine.now [] }
+    ensures stands { OnOk result (Stands P.ParityEngine L.LogSink log.new state.new engine.now []) }
+    ensures units { OnOk result (HasUnits state.new) }
+    ensures same { HasOther state.old state.new }
+    ensures log { GoesOn L.LogSink log.old (fault_in result) log.new }
 {
-    if kept.trail.level() > 0 {
+    if state.trail.level() > 0 {
         return Ok(());
     }
-    tell_units(alloc, formula, kept, engine, sink)
+    tell_units(log, state, engine)
 }
 
 /// Implies what the clauses and the parities force. At level 0 the units are told.
 fn settle<P: ParityEngine, L: LogSink>(
-    alloc: Global,
-    formula: &Formula,
-    kept: &mut SearchState,
+    log: &mut SearchLog<L>,
+    state: &mut SearchState,
     engine: &mut P,
-    sink: &mut L,
 ) -> Result<Found, CoreFault>
-    requires stands { SearchStands formula.now kept.old (P.state engine.old) [] (L.events sink.old) }
+    requires stands { Stands P.ParityEngine L.LogSink log.old state.old engine.old [] }
     requires unbroken { (P.state engine.old).mood ≢ Broken }
-    ensures stands { OnOk result (SearchStands formula.now kept.new (P.state engine.new) [] (L.events sink.new)) }
-    ensures finds { IfOk result (λ f. PropagationFinds kept.new (P.state engine.new) f) }
-    ensures units { OnOk result (HasUnits kept.new) }
-    ensures grows { length kept.old.trail.entries ≤ length kept.new.trail.entries }
-    ensures level { kept.new.trail.level ≡ kept.old.trail.level }
-    ensures conflicts { kept.new.conflicts ≡ kept.old.conflicts }
-    ensures gave_up { IfErr result (λ e. GivesUp formula.now (L.torn sink.new) (L.events sink.new) e) }
-    ensures write { IfErr result (λ e. e ≡ Write → Rose (L.faults sink.old) (L.faults sink.new)) }
-    ensures faults { FaultsAs result (L.faults sink.old) (L.faults sink.new) }
-    ensures frame { L.keeps sink.old sink.new }
+    ensures stands { OnOk result (Stands P.ParityEngine L.LogSink log.new state.new engine.new []) }
+    ensures finds { IfOk result (λ f. PropagationFinds state.new (P.state engine.new) f) }
+    ensures units { OnOk result (HasUnits state.new) }
+    ensures grows { length state.old.trail.entries ≤ length state.new.trail.entries }
+    ensures level { state.new.trail.level ≡ state.old.trail.level }
+    ensures conflicts { state.new.conflicts ≡ state.old.conflicts }
+    ensures log { GoesOn L.LogSink log.old (fault_in result) log.new }
 {
-    let found = propagate(formula, kept, engine);
-    tell_units_at_start(alloc, formula, kept, engine, sink)?;
+    let found = propagate(log.formula, state, engine);
+    tell_units_at_start(log, state, engine)?;
     Ok(found)
 }
 
 /// Propagates, and opens a level by a decision where nothing is in conflict and a variable is not assigned. Else it answers where the search is.
 fn turn<P: ParityEngine, L: LogSink>(
-    alloc: Global,
-    formula: &Formula,
-    kept: &mut SearchState,
+    log: &mut SearchLog<L>,
+    state: &mut SearchState,
     engine: &mut P,
-    sink: &mut L,
 ) -> Result<Option<Found>, CoreFault>
-    requires stands { SearchStands formula.now kept.old (P.state engine.old) [] (L.events sink.old) }
+    requires stands { Stands P.ParityEngine L.LogSink log.old state.old engine.old [] }
     requires unbroken { (P.state engine.old).mood ≢ Broken }
-    ensures stands { OnOk result (SearchStands formula.now kept.new (P.state engine.new) [] (L.events sink.new)) }
-    ensures reaches { IfOk result (λ o. MatchOption o (OpensLevel kept.old kept.new (P.state engine.new)) (λ f. SearchReaches kept.new (P.state engine.new) f)) }
-    ensures settled { Settled formula.now → IfOk result (λ o. IsSome o × (kept.new.trail.level ≡ kept.old.trail.level)) }
-    ensures conflicts { kept.new.conflicts ≡ kept.old.conflicts }
-    ensures gave_up { IfErr result (λ e. GivesUp formula.now (L.torn sink.new) (L.events sink.new) e) }
-    ensures write { IfErr result (λ e. e ≡ Write → Rose (L.faults sink.old) (L.faults sink.new)) }
-    ensures faults { FaultsAs result (L.faults sink.old) (L.faults sink.new) }
-    ensures frame { L.keeps sink.old sink.new }
+    ensures stands { OnOk result (Stands P.ParityEngine L.LogSink log.new state.new engine.new []) }
+    ensures reaches { IfOk result (λ o. MatchOption o (OpensLevel state.old state.new (P.state engine.new)) (λ f. SearchReaches state.new (P.state engine.new) f)) }
+    ensures settled { Settled log.new.formula.now → IfOk result (λ o. IsSome o × (state.new.trail.level ≡ state.old.trail.level)) }
+    ensures conflicts { state.new.conflicts ≡ state.old.conflicts }
+    ensures log { GoesOn L.LogSink log.old (fault_in result) log.new }
 {
-    match settle(alloc, formula, kept, engine, sink)? {
+    match settle(log, state, engine)? {
         Found::Quiet => {
-            if decide(formula, kept, engine) {
+            if decide(log.formula, state, engine) {
                 Ok(None)
             } else {
                 Ok(Some(Found::Quiet))
@@ -102,25 +84,20 @@ fn turn<P: ParityEngine, L: LogSink>(
 
 /// Searches up to the next conflict, or until each variable is assigned.
 pub fn search_on<P: ParityEngine, L: LogSink>(
-    alloc: Global,
-    formula: &Formula,
-    kept: &mut SearchState,
+    log: &mut SearchLog<L>,
+    state: &mut SearchState,
     engine: &mut P,
-    sink: &mut L,
 ) -> Result<Found, CoreFault>
-    requires stands { SearchStands formula.now kept.old (P.state engine.old) [] (L.events sink.old) }
+    requires stands { Stands P.ParityEngine L.LogSink log.old state.old engine.old [] }
     requires unbroken { (P.state engine.old).mood ≢ Broken }
-    ensures stands { OnOk result (SearchStands formula.now kept.new (P.state engine.new) [] (L.events sink.new)) }
-    ensures reaches { IfOk result (λ f. SearchReaches kept.new (P.state engine.new) f) }
-    ensures settled { Settled formula.now → OnOk result (kept.new.trail.level ≡ kept.old.trail.level) }
-    ensures conflicts { kept.new.conflicts ≡ kept.old.conflicts }
-    ensures gave_up { IfErr result (λ e. GivesUp formula.now (L.torn sink.new) (L.events sink.new) e) }
-    ensures write { IfErr result (λ e. e ≡ Write → Rose (L.faults sink.old) (L.faults sink.new)) }
-    ensures faults { FaultsAs result (L.faults sink.old) (L.faults sink.new) }
-    ensures frame { L.keeps sink.old sink.new }
+    ensures stands { OnOk result (Stands P.ParityEngine L.LogSink log.new state.new engine.new []) }
+    ensures reaches { IfOk result (λ f. SearchReaches state.new (P.state engine.new) f) }
+    ensures settled { Settled log.new.formula.now → OnOk result (state.new.trail.level ≡ state.old.trail.level) }
+    ensures conflicts { state.new.conflicts ≡ state.old.conflicts }
+    ensures log { GoesOn L.LogSink log.old (fault_in result) log.new }
 {
     loop {
-        if let Some(found) = turn(alloc, formula, kept, engine, sink)? {
+        if let Some(found) = turn(log, state, engine)? {
             return Ok(found);
         }
     }

@@ -1,31 +1,23 @@
 use Rattle.std.proofs.Common.{subst, ◌+◌, drop}
-use Rattle.std.proofs.lemmas.Result.{err_from_is_err_and}
 use Rattle.cx_trail.specs.declared.entry.Reason.TheVariants.{Decision}
-use Rattle.cdcl_search.proofs.RowSteps.{memory_is_left}
 use Rattle.cdcl_core.specs.Results.{Refutes}
-use Rattle.cdcl_core.proofs.WaitingLaws.{waiting_is_left, next_waits, true_is_put, false_is_refutable, open_is_put}
+use Rattle.cdcl_core.proofs.WaitingLaws.{next_waits, true_is_put, false_is_refutable, open_is_put}
 use Rattle.cdcl_core.proofs.beginning.put_unit.Goals as goal
 
 pub refute-requires-clause-shown : goal.refute-requires-clause-shown
-refute-requires-clause-shown g c = false_is_refutable c.args.formula.now c.args.kept.now c.index-units-place.result (drop (c.args.place + 1) c.args.units.now) (g.L.LogSink.events c.args.sink.now)
-    (next_waits c.args.formula.now c.args.kept.now c.args.units.now c.args.place c.index-units-place.result (g.L.LogSink.events c.args.sink.now) c.requires.place c.index-units-place.is c.requires.stands) c.in-False.ensures.means
-
-pub returns-in_err-push-in-Open-clause-gave_up : goal.returns-in_err-push-in-Open-clause-gave_up
-returns-in_err-push-in-Open-clause-gave_up g c =
-    let p = err_from_is_err_and c.from_residual-in_err-push-in-Open.result c.from_residual-in_err-push-in-Open.ensures.1 in
-    memory_is_left c.args.formula.now (g.L.LogSink.torn c.args.sink.now) (g.L.LogSink.events c.args.sink.now) c.from_residual-in_err-push-in-Open.result p.0 p.1 p.2
-    (waiting_is_left c.args.formula.now c.args.kept.now (drop c.args.place c.args.units.now) (g.L.LogSink.events c.args.sink.now) c.requires.stands)
+refute-requires-clause-shown g c = false_is_refutable c.args.log.now.formula.now c.args.state.now c.index-units-place.result (drop (c.args.place + 1) c.args.units.now) (g.L.LogSink.events c.args.log.now.sink.now)
+    (next_waits c.args.log.now.formula.now c.args.state.now c.args.units.now c.args.place c.index-units-place.result (g.L.LogSink.events c.args.log.now.sink.now) c.requires.place c.index-units-place.is c.requires.stands) c.in-False.ensures.means
 
 pub returns-in-True-clause-puts : goal.returns-in-True-clause-puts
-returns-in-True-clause-puts g c = true_is_put c.args.formula.now c.args.kept.now c.index-units-place.result (drop (c.args.place + 1) c.args.units.now) (g.L.LogSink.events c.args.sink.now)
-    (next_waits c.args.formula.now c.args.kept.now c.args.units.now c.args.place c.index-units-place.result (g.L.LogSink.events c.args.sink.now) c.requires.place c.index-units-place.is c.requires.stands) c.in-True.ensures.means
+returns-in-True-clause-puts g c = true_is_put c.args.log.now.formula.now c.args.state.now c.index-units-place.result (drop (c.args.place + 1) c.args.units.now) (g.L.LogSink.events c.args.log.now.sink.now)
+    (next_waits c.args.log.now.formula.now c.args.state.now c.args.units.now c.args.place c.index-units-place.result (g.L.LogSink.events c.args.log.now.sink.now) c.requires.place c.index-units-place.is c.requires.stands) c.in-True.ensures.means
 
 pub returns-in_ok-push-in-Open-clause-puts : goal.returns-in_ok-push-in-Open-clause-puts
 returns-in_ok-push-in-Open-clause-puts g c =
-    let st = open_is_put c.args.formula.now c.args.kept.now c.index-units-place.result (drop (c.args.place + 1) c.args.units.now) (g.L.LogSink.events c.args.sink.now)
-    (next_waits c.args.formula.now c.args.kept.now c.args.units.now c.args.place c.index-units-place.result (g.L.LogSink.events c.args.sink.now) c.requires.place c.index-units-place.is c.requires.stands)
+    let st = open_is_put c.args.log.now.formula.now c.args.state.now c.index-units-place.result (drop (c.args.place + 1) c.args.units.now) (g.L.LogSink.events c.args.log.now.sink.now)
+    (next_waits c.args.log.now.formula.now c.args.state.now c.args.units.now c.args.place c.index-units-place.result (g.L.LogSink.events c.args.log.now.sink.now) c.requires.place c.index-units-place.is c.requires.stands)
     c.in-Open.ensures.means Decision c.push.new.self c.in_ok-push-in-Open.ensures.items c.imply.new.self c.imply.ensures.pushed c.imply.ensures.sound in
     st
 
 pub returns-in_ok-refute-in-False-clause-puts : goal.returns-in_ok-refute-in-False-clause-puts
-returns-in_ok-refute-in-False-clause-puts g c = subst (λ n. Refutes c.args.formula.now (n + 1) (g.L.LogSink.events c.refute.new.sink)) c.requires.stands.3.conflicts c.in_ok-refute-in-False.ensures.refutes
+returns-in_ok-refute-in-False-clause-puts g c = subst (λ n. Refutes c.refute.new.log.formula.now (n + 1) (g.L.LogSink.events c.refute.new.log.sink.now)) c.requires.stands.3.conflicts c.in_ok-refute-in-False.ensures.refutes

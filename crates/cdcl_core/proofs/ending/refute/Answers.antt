@@ -1,18 +1,18 @@
-use Rattle.std.proofs.lemmas.Result.{err_from_is_err_and}
-use Rattle.cdcl_search.proofs.RowSteps.{memory_is_left}
-use Rattle.cdcl_core.proofs.EndingLaws.{refutable_is_left, told_refutes, told_gives_up}
+use Rattle.std.proofs.Common.{◌+◌, ◌∷◌, []}
+use Rattle.cx_semantics.specs.declared.steps.LogEvent.TheVariants.{Step}
+use Rattle.cx_semantics.specs.declared.steps.LogStep.TheVariants.{ClauseWithHints}
+use Rattle.cdcl_search.proofs.Tellings.{holds_where}
+use Rattle.cdcl_core.specs.Results.{Refutes}
+use Rattle.cdcl_core.proofs.EndingLaws.{ends_refute, ended_is_left, shown_ends, shown_is_unmet}
 use Rattle.cdcl_core.proofs.ending.refute.Goals as goal
 
-pub returns-in_err-hints-clause-gave_up : goal.returns-in_err-hints-clause-gave_up
-returns-in_err-hints-clause-gave_up g c =
-    let p = err_from_is_err_and c.from_residual.result c.from_residual.ensures.1 in
-    memory_is_left c.args.formula.now (g.L.LogSink.torn c.args.sink.now) (g.L.LogSink.events c.args.sink.now) c.from_residual.result p.0 p.1 p.2
-    (refutable_is_left c.args.formula.now c.args.kept.now.next c.args.kept.now.conflicts (g.L.LogSink.events c.args.sink.now) c.requires.shown)
+pub tell_chained-requires-clause-right : goal.tell_chained-requires-clause-right
+tell_chained-requires-clause-right g c =
+    ended_is_left c.args.log.now.formula.now c.args.state.now.conflicts _ (shown_ends c.args.log.now.formula.now c.args.state.now.next c.args.state.now.conflicts (g.L.LogSink.events c.args.log.now.sink.now) c.requires.shown c.in_ok-hints.hints)
 
 pub returns-clause-refutes : goal.returns-clause-refutes
-returns-clause-refutes g c = told_refutes c.args.formula.now c.args.kept.now.next c.args.kept.now.conflicts (g.L.LogSink.events c.args.sink.now) c.requires.shown c.in_ok-hints.hints
-    (g.L.LogSink.torn c.tell_chained.new.sink) (g.L.LogSink.events c.tell_chained.new.sink) c.tell_chained.result c.tell_chained.ensures.told
-
-pub returns-clause-gave_up : goal.returns-clause-gave_up
-returns-clause-gave_up g c = told_gives_up c.args.formula.now c.args.kept.now.next c.args.kept.now.conflicts (g.L.LogSink.events c.args.sink.now) c.requires.shown c.in_ok-hints.hints
-    (g.L.LogSink.torn c.tell_chained.new.sink) (g.L.LogSink.events c.tell_chained.new.sink) c.tell_chained.result c.tell_chained.ensures.told
+returns-clause-refutes g c =
+    holds_where (λ formula told. Refutes formula (c.args.state.now.conflicts + 1) told) (Step (ClauseWithHints c.args.state.now.next [] c.in_ok-hints.hints) ∷ []) g.L.LogSink c.args.log.now _ c.tell_chained.result c.tell_chained.new.log
+    c.tell_chained.ensures.log c.tell_chained.ensures.told
+    (ends_refute c.args.log.now.formula.now c.args.state.now.conflicts _ (shown_is_unmet c.args.log.now.formula.now c.args.state.now.next c.args.state.now.conflicts (g.L.LogSink.events c.args.log.now.sink.now) c.requires.shown c.in_ok-hints.hints)
+    (shown_ends c.args.log.now.formula.now c.args.state.now.next c.args.state.now.conflicts (g.L.LogSink.events c.args.log.now.sink.now) c.requires.shown c.in_ok-hints.hints))

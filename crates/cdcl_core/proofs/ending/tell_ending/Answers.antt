@@ -1,8 +1,14 @@
-use Rattle.cdcl_core.proofs.EndingLaws.{ending_refutes, ending_gives_up}
+use Rattle.std.proofs.Common.{◌+◌}
+use Rattle.cdcl_search.specs.Tells.{as_events}
+use Rattle.cdcl_search.proofs.Tellings.{holds_where}
+use Rattle.cdcl_core.specs.Results.{Refutes}
+use Rattle.cdcl_core.proofs.EndingLaws.{ends_refute, ended_is_left}
 use Rattle.cdcl_core.proofs.ending.tell_ending.Goals as goal
 
-pub returns-clause-refutes : goal.returns-clause-refutes
-returns-clause-refutes g c = ending_refutes c.args.formula.now c.args.kept.now.conflicts (g.L.LogSink.events c.args.sink.now) c.args.steps.now c.requires (g.L.LogSink.torn c.tell_all.new.sink) (g.L.LogSink.events c.tell_all.new.sink) c.tell_all.result c.tell_all.ensures.told
+pub tell_steps-requires-clause-right : goal.tell_steps-requires-clause-right
+tell_steps-requires-clause-right g c = ended_is_left c.args.log.now.formula.now c.args.state.now.conflicts _ c.requires.log
 
-pub returns-clause-gave_up : goal.returns-clause-gave_up
-returns-clause-gave_up g c = ending_gives_up c.args.formula.now c.args.kept.now.conflicts (g.L.LogSink.events c.args.sink.now) c.args.steps.now c.requires (g.L.LogSink.torn c.tell_all.new.sink) (g.L.LogSink.events c.tell_all.new.sink) c.tell_all.result c.tell_all.ensures.told
+pub returns-clause-refutes : goal.returns-clause-refutes
+returns-clause-refutes g c =
+    holds_where (λ formula told. Refutes formula (c.args.state.now.conflicts + 1) told) (as_events c.args.steps.now) g.L.LogSink c.args.log.now _ c.tell_steps.result c.tell_steps.new.log c.tell_steps.ensures.log c.tell_steps.ensures.told
+    (ends_refute c.args.log.now.formula.now c.args.state.now.conflicts _ c.requires.unmet c.requires.log)

@@ -7,14 +7,14 @@ use Rattle.cdcl_core.proofs.filling.fill.Goals as goal
 
 pub loop-place-init : goal.loop-place-init
 loop-place-init c =
-    let k = c.in_ok-empty_kept.field-0 in
+    let k = c.in_ok-empty_state.field-0 in
     subst (λ us. IsFilledUpTo c.args.formula.now (length (clauses_of [])) k us None) (sym c.new.ensures.items)
     (subst (λ n. IsFilledUpTo c.args.formula.now n k [] None) none_counted
-    (nothing_is_filled c.args.formula.now k (subst (λ n. IsEmpty n k) c.vars.ensures.variables c.in_ok-empty_kept.ensures)))
+    (nothing_is_filled c.args.formula.now k (subst (λ n. IsEmpty n k) c.vars.ensures.variables c.in_ok-empty_state.ensures)))
 
 pub returns : goal.returns
 returns c =
     let far = c.loop-place-test.false in
     let long = c.len-place-end.ensures in
-    subst (λ cs. IsFilledUpTo c.args.formula.now (length (clauses_of cs)) c.loop-place.filled.kept c.loop-place.filled.units.items c.loop-place.filled.empty)
+    subst (λ cs. IsFilledUpTo c.args.formula.now (length (clauses_of cs)) c.loop-place.filled.state c.loop-place.filled.units.items c.loop-place.filled.empty)
     (take_all c.loop-place.place c.args.formula.now.constraints (omega (arith, far, long))) c.loop-place.invariant

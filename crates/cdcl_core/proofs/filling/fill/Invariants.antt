@@ -5,4 +5,4 @@ use Rattle.cdcl_core.proofs.filling.fill.Given as goal
 
 -- the clauses among the constraints before this place are filled in
 abbrev pub invariant-loop-place : goal.invariant-loop-place
-invariant-loop-place l = IsFilledUpTo l.formula (length (clauses_of (take l.place l.formula.constraints))) l.filled.kept l.filled.units.items l.filled.empty
+invariant-loop-place l = IsFilledUpTo l.formula (length (clauses_of (take l.place l.formula.constraints))) l.filled.state l.filled.units.items l.filled.empty

@@ -11,15 +11,15 @@ attach-requires-clause-watched c =
     let formula = c.requires.is_next.0 in
     let is : IsNext formula c.args.filled.now c.args.lits.now = c.requires.is_next.1 in
     let variables = is.filled.fits.variables ∙ ap (λ t. t.variables) is.filled.trail in
-    subst (λ n. CanBeWatched n c.args.filled.now.kept.trail c.args.lits.now) (sym variables)
-    (can_be_watched formula.variables c.args.filled.now.kept.trail c.args.lits.now (ap (λ t. t.entries) is.filled.trail) c.if-lits-gt1.true is.different (sym c.has_both.ensures ∙ c.if-has_both.false) is.within)
+    subst (λ n. CanBeWatched n c.args.filled.now.state.trail c.args.lits.now) (sym variables)
+    (can_be_watched formula.variables c.args.filled.now.state.trail c.args.lits.now (ap (λ t. t.entries) is.filled.trail) c.if-lits-gt1.true is.different (sym c.has_both.ensures ∙ c.if-has_both.false) is.within)
 
 pub returns-then-has_both : goal.returns-then-has_both
 returns-then-has_both c = λ formula is. tautology_taken formula c.args.filled.now c.args.lits.now is (sym c.has_both.ensures ∙ c.if-has_both.true)
 
 pub returns-then-lits-gt1 : goal.returns-then-lits-gt1
 returns-then-lits-gt1 c = on_ok _ c.attach.result c.attach.ensures
-    (λ a formula is. attached_taken formula c.args.filled.now c.args.lits.now is c.attach.new.kept a)
+    (λ a formula is. attached_taken formula c.args.filled.now c.args.lits.now is c.attach.new.state a)
 
 pub returns-then-is_empty : goal.returns-then-is_empty
 returns-then-is_empty c = λ formula is. empty_taken formula c.args.filled.now c.args.lits.now is

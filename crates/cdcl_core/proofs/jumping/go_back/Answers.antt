@@ -3,10 +3,10 @@ use Rattle.cdcl_core.proofs.GoingBack.{ties_then, units_are_all, above_too}
 use Rattle.cdcl_core.proofs.jumping.go_back.Goals as goal
 
 pub back_to-requires-4 : goal.back_to-requires-4
-back_to-requires-4 g c = above_too c.args.formula.now c.args.level c.args.kept.now (g.P.ParityEngine.state c.args.engine.now) c.requires.stands.0 c.requires.stands.1 c.requires.stands.3 c.requires.lower
+back_to-requires-4 g c = above_too c.args.formula.now c.args.level c.args.state.now (g.P.ParityEngine.state c.args.engine.now) c.requires.stands.0 c.requires.stands.1 c.requires.stands.3 c.requires.lower
 
 pub returns-clause-ties : goal.returns-clause-ties
-returns-clause-ties g c = λ rows s ok t. ties_then c.args.formula.now c.args.level c.args.kept.now _ (g.P.ParityEngine.state c.args.engine.now) _ rows s ok t (record {
+returns-clause-ties g c = λ rows s ok t. ties_then c.args.formula.now c.args.level c.args.state.now _ (g.P.ParityEngine.state c.args.engine.now) _ rows s ok t (record {
   lower = c.requires.lower;
   takes = c.back_to-2.ensures.back;
   sound = c.back_to-2.ensures.sound;
@@ -16,13 +16,13 @@ returns-clause-ties g c = λ rows s ok t. ties_then c.args.formula.now c.args.le
   phases = c.save_phases.ensures;
   units = refl;
   next = refl;
-  given = c.len-kept.ensures.len;
+  given = c.len-state.ensures.len;
   conflicts = refl;
   engine = c.back_to-4.ensures;
 })
 
 pub returns-clause-units : goal.returns-clause-units
-returns-clause-units g c = units_are_all c.args.formula.now c.args.level c.args.kept.now (record c.args.kept.now { trail = c.back_to-2.new.self; watches = c.back_to-3.new.self; order = c.back_to.new.self; phases = c.save_phases.new.phases; given = c.len-kept.result }) (g.P.ParityEngine.state c.args.engine.now) (g.P.ParityEngine.state c.back_to-4.new.self) c.requires.stands.0 c.requires.stands.1 c.requires.stands.2 c.requires.stands.3 (record {
+returns-clause-units g c = units_are_all c.args.formula.now c.args.level c.args.state.now (record c.args.state.now { trail = c.back_to-2.new.self; watches = c.back_to-3.new.self; order = c.back_to.new.self; phases = c.save_phases.new.phases; given = c.len-state.result }) (g.P.ParityEngine.state c.args.engine.now) (g.P.ParityEngine.state c.back_to-4.new.self) c.requires.stands.0 c.requires.stands.1 c.requires.stands.2 c.requires.stands.3 (record {
   lower = c.requires.lower;
   takes = c.back_to-2.ensures.back;
   sound = c.back_to-2.ensures.sound;
@@ -32,7 +32,7 @@ returns-clause-units g c = units_are_all c.args.formula.now c.args.level c.args.
   phases = c.save_phases.ensures;
   units = refl;
   next = refl;
-  given = c.len-kept.ensures.len;
+  given = c.len-state.ensures.len;
   conflicts = refl;
   engine = c.back_to-4.ensures;
 })

@@ -12,14 +12,14 @@ use Rattle.cdcl_core.proofs.jumping.jump.Goals as goal
 pub go_back-requires-clause-lower : goal.go_back-requires-clause-lower
 go_back-requires-clause-lower g c =
     let l = c.requires.learned.1 in
-    lower_than_now c.args.formula.now c.args.kept.now (g.P.ParityEngine.state c.args.engine.now) c.args.learned.now.lits c.args.learned.now.back_level l.search l.taught
+    lower_than_now c.args.formula.now c.args.state.now (g.P.ParityEngine.state c.args.engine.now) c.args.learned.now.lits c.args.learned.now.back_level l.search l.taught
 
 pub bump-requires : goal.bump-requires
 bump-requires g c =
     let l = c.requires.learned.1 in
     record {
-      within = λ k d h. scores_within c.args.formula.now c.args.kept.now (g.P.ParityEngine.state c.args.engine.now) c.args.learned.now.lits c.args.learned.now.back_level l.search l.taught
-          c.go_back.new.kept (g.P.ParityEngine.state c.go_back.new.engine) (c.go_back.ensures.ties l.taught.rows l.search l.taught.search l.taught.ties) c.go_back.ensures.back
+      within = λ k d h. scores_within c.args.formula.now c.args.state.now (g.P.ParityEngine.state c.args.engine.now) c.args.learned.now.lits c.args.learned.now.back_level l.search l.taught
+          c.go_back.new.state (g.P.ParityEngine.state c.go_back.new.engine) (c.go_back.ensures.ties l.taught.rows l.search l.taught.search l.taught.ties) c.go_back.ensures.back
           c.as_slice.result.now c.as_slice.ensures k d h;
     }
 
@@ -31,24 +31,24 @@ enter-requires-clause-fits g c =
 pub enter-requires-clause-watched : goal.enter-requires-clause-watched
 enter-requires-clause-watched g c =
     let l = c.requires.learned.1 in
-    subst (λ xs. 2 ≤ length xs → CanBeWatched c.go_back.new.kept.watches.variables c.go_back.new.kept.trail xs) (sym c.as_slice-2.ensures)
-    (can_be_watched c.args.formula.now c.args.kept.now (g.P.ParityEngine.state c.args.engine.now) c.args.learned.now.lits c.args.learned.now.back_level l.search l.taught
-    c.go_back.new.kept (g.P.ParityEngine.state c.go_back.new.engine) (c.go_back.ensures.ties l.taught.rows l.search l.taught.search l.taught.ties) c.go_back.ensures.back)
+    subst (λ xs. 2 ≤ length xs → CanBeWatched c.go_back.new.state.watches.variables c.go_back.new.state.trail xs) (sym c.as_slice-2.ensures)
+    (can_be_watched c.args.formula.now c.args.state.now (g.P.ParityEngine.state c.args.engine.now) c.args.learned.now.lits c.args.learned.now.back_level l.search l.taught
+    c.go_back.new.state (g.P.ParityEngine.state c.go_back.new.engine) (c.go_back.ensures.ties l.taught.rows l.search l.taught.search l.taught.ties) c.go_back.ensures.back)
 
 pub enter-requires-clause-open : goal.enter-requires-clause-open
 enter-requires-clause-open g c =
     let l = c.requires.learned.1 in
-    subst (λ xs. IsOpenIn c.go_back.new.kept.trail.entries (literal_at xs 0).variable) (sym c.as_slice-2.ensures)
-    (first_is_open c.args.formula.now c.args.kept.now (g.P.ParityEngine.state c.args.engine.now) c.args.learned.now.lits c.args.learned.now.back_level l.search l.taught
-    c.go_back.new.kept (g.P.ParityEngine.state c.go_back.new.engine) (c.go_back.ensures.ties l.taught.rows l.search l.taught.search l.taught.ties) c.go_back.ensures.back)
+    subst (λ xs. IsOpenIn c.go_back.new.state.trail.entries (literal_at xs 0).variable) (sym c.as_slice-2.ensures)
+    (first_is_open c.args.formula.now c.args.state.now (g.P.ParityEngine.state c.args.engine.now) c.args.learned.now.lits c.args.learned.now.back_level l.search l.taught
+    c.go_back.new.state (g.P.ParityEngine.state c.go_back.new.engine) (c.go_back.ensures.ties l.taught.rows l.search l.taught.search l.taught.ties) c.go_back.ensures.back)
 
 pub returns-clause-stands : goal.returns-clause-stands
 returns-clause-stands g c = on_ok _ c.enter.result c.enter.ensures (λ enters told l. (
-  after_round l.search c.args.kept.now.next (integers_of c.args.learned.now.lits) l.hints c.args.learned.now.back_level l.taught.first,
-  round_is_search c.args.formula.now c.args.kept.now (g.P.ParityEngine.state c.args.engine.now) c.args.learned.now.lits c.args.learned.now.back_level l.search l.taught l.hints,
+  after_round l.search c.args.state.now.next (integers_of c.args.learned.now.lits) l.hints c.args.learned.now.back_level l.taught.first,
+  round_is_search c.args.formula.now c.args.state.now (g.P.ParityEngine.state c.args.engine.now) c.args.learned.now.lits c.args.learned.now.back_level l.search l.taught l.hints,
   l.told_is,
-  enters_stands c.args.formula.now c.args.kept.now (g.P.ParityEngine.state c.args.engine.now) c.args.learned.now.lits c.args.learned.now.back_level l.search l.taught
-      c.go_back.new.kept (g.P.ParityEngine.state c.go_back.new.engine) (c.go_back.ensures.ties l.taught.rows l.search l.taught.search l.taught.ties) c.go_back.ensures.back
-      c.bump.new.order c.bump.ensures.standing c.bump.ensures.scores c.enter.new.kept c.args.learned.now.lbd l.hints c.go_back.ensures.same.2 c.go_back.ensures.same.3 c.go_back.ensures.units
-      (subst (λ xs. Enters (record c.go_back.new.kept { order = c.bump.new.order; next = c.go_back.new.kept.next + 1; conflicts = c.go_back.new.kept.conflicts + 1 }) c.enter.new.kept xs c.go_back.new.kept.next c.args.learned.now.lbd) c.as_slice-2.ensures enters),
+  enters_stands c.args.formula.now c.args.state.now (g.P.ParityEngine.state c.args.engine.now) c.args.learned.now.lits c.args.learned.now.back_level l.search l.taught
+      c.go_back.new.state (g.P.ParityEngine.state c.go_back.new.engine) (c.go_back.ensures.ties l.taught.rows l.search l.taught.search l.taught.ties) c.go_back.ensures.back
+      c.bump.new.order c.bump.ensures.standing c.bump.ensures.scores c.enter.new.state c.args.learned.now.lbd l.hints c.go_back.ensures.same.2 c.go_back.ensures.same.3 c.go_back.ensures.units
+      (subst (λ xs. Enters (record c.go_back.new.state { order = c.bump.new.order; next = c.go_back.new.state.next + 1; conflicts = c.go_back.new.state.conflicts + 1 }) c.enter.new.state xs c.go_back.new.state.next c.args.learned.now.lbd) c.as_slice-2.ensures enters),
 ))

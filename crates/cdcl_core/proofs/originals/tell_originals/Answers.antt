@@ -1,14 +1,40 @@
-use Rattle.std.proofs.Common.{refl, subst, arith}
+use Rattle.std.proofs.Common.{subst, sym, ap, ◌∙◌, ◌+◌, take, length, arith}
 use Rattle.std.proofs.lemmas.List.{take_all}
-use Rattle.cdcl_core.specs.Originals.{HasBegun}
+use Rattle.cx_base.specs.Problem.{Problem}
+use Rattle.cdcl_search.specs.GoingOn.{log_rests, log_then}
+use Rattle.cdcl_core.specs.Originals.{HasBegun, AreCounted}
 use Rattle.cdcl_core.proofs.OriginalLaws.{none_counted, fresh_has_begun}
 use Rattle.cdcl_core.proofs.originals.tell_originals.Goals as goal
 
 pub loop-place-init : goal.loop-place-init
-loop-place-init g c = record { counted = none_counted; begun = fresh_has_begun c.args.formula.now (g.L.LogSink.events c.args.sink.now) c.requires.fresh; faults = refl; frame = g.met.L.LogSink.keeps_itself _ }
+loop-place-init g c = record { counted = none_counted; begun = fresh_has_begun c.args.log.now.formula.now (g.L.LogSink.events c.args.log.now.sink.now) c.requires.fresh; log = log_rests g.L.LogSink g.met.L.LogSink.keeps_itself _ }
+
+pub tell_original-requires : goal.tell_original-requires
+tell_original-requires g c =
+    let same = c.loop-place.invariant.log.formula in
+    let long = c.len-place-end.ensures in
+    let less = c.loop-place-test.true in
+    let n = ap (λ (f : Problem). length f.constraints) same in
+    let few = c.requires.few in
+    record {
+      few = omega (arith, n, few);
+      place = omega (arith, n, long, less);
+      counted = subst (λ (f : Problem). AreCounted (take c.loop-place.place f.constraints) c.loop-place.counts.clauses c.loop-place.counts.parities) (sym same) c.loop-place.invariant.counted;
+      begun = subst (λ (f : Problem). HasBegun f (take c.loop-place.place f.constraints) (g.L.LogSink.events c.loop-place.log.sink.now)) (sym same) c.loop-place.invariant.begun;
+    }
+
+pub loop-place-preserved : goal.loop-place-preserved
+loop-place-preserved g c =
+    let same = c.in_ok-tell_original.ensures.log.formula ∙ c.loop-place.invariant.log.formula in
+    record {
+      counted = subst (λ (f : Problem). AreCounted (take (c.loop-place.place + 1) f.constraints) c.tell_original.new.counts.clauses c.tell_original.new.counts.parities) same c.in_ok-tell_original.ensures.counted;
+      begun = subst (λ (f : Problem). HasBegun f (take (c.loop-place.place + 1) f.constraints) (g.L.LogSink.events c.tell_original.new.log.sink.now)) same c.in_ok-tell_original.ensures.begun;
+      log = log_then g.L.LogSink g.met.L.LogSink.keeps_on _ _ _ _ c.loop-place.invariant.log c.in_ok-tell_original.ensures.log;
+    }
 
 pub returns-clause-begun : goal.returns-clause-begun
 returns-clause-begun g c =
     let far = c.loop-place-test.false in
     let long = c.len-place-end.ensures in
-    subst (λ cs. HasBegun c.args.formula.now cs (g.L.LogSink.events c.loop-place.sink)) (take_all c.loop-place.place c.args.formula.now.constraints (omega (arith, far, long))) c.loop-place.invariant.begun
+    let begun = subst (λ cs. HasBegun c.args.log.now.formula.now cs (g.L.LogSink.events c.loop-place.log.sink.now)) (take_all c.loop-place.place c.args.log.now.formula.now.constraints (omega (arith, far, long))) c.loop-place.invariant.begun in
+    subst (λ (f : Problem). HasBegun f f.constraints (g.L.LogSink.events c.loop-place.log.sink.now)) (sym c.loop-place.invariant.log.formula) begun

@@ -1,14 +1,35 @@
-use Rattle.std.proofs.Common.{◌≡◌, subst, IfErr}
-use Rattle.cx_base.specs.Counts.{Rose}
-use Rattle.conflict_learn.specs.declared.fault.CoreFault.TheVariants.{Write}
-use Rattle.cdcl_core.proofs.Answering.{settled_answer_has_no_mark}
+use Rattle.std.proofs.Common.{◌≡◌, ◌∙◌, rules, sym, subst, IfErr, OnOk}
+use Rattle.cx_semantics.specs.Settled.{Settled}
+use Rattle.cdcl_search.specs.GoingOn.{log_then}
+use Rattle.cdcl_search.specs.Tells.{IsLeft, GivesUp}
+use Rattle.cdcl_search.proofs.Outcomes.{ok_maps}
+use Rattle.cdcl_core.specs.Results.{HasNoMark}
+use Rattle.cdcl_core.proofs.Answering.{settled_answer_has_no_mark, fresh_is_left, gives_up_by}
 use Rattle.cdcl_core.proofs.solving.solve_core.Goals as goal
 
-pub returns-in-Search-clause-unmarked : goal.returns-in-Search-clause-unmarked
-returns-in-Search-clause-unmarked g c s = settled_answer_has_no_mark c.args.formula.now (g.L.LogSink.events c.search.new.sink) c.search.result (c.search.ensures.settled s)
+pub returns-in_err-state-clause-gave_up : goal.returns-in_err-state-clause-gave_up
+returns-in_err-state-clause-gave_up g c =
+    let left : IsLeft c.args.formula.now (g.L.LogSink.events c.args.sink.now) = fresh_is_left c.args.formula.now (g.L.LogSink.events c.args.sink.now) c.requires.fresh in
+    search rules
 
-pub returns-in-Search-clause-write : goal.returns-in-Search-clause-write
-returns-in-Search-clause-write g c = subst (λ n. IfErr c.search.result (λ e. e ≡ Write → Rose n (g.L.LogSink.faults c.search.new.sink))) c.in_ok-kept.ensures.faults c.search.ensures.write
+pub returns-in-Search-clause-settled : goal.returns-in-Search-clause-settled
+returns-in-Search-clause-settled g c = λ s. ok_maps c.search.result (c.search.ensures.settled (subst Settled (sym (c.search.ensures.log.formula ∙ c.in_ok-state.ensures.log.formula)) s)) (λ a k. k.1)
+
+pub returns-in-Search-clause-unmarked : goal.returns-in-Search-clause-unmarked
+returns-in-Search-clause-unmarked g c = λ s.
+    let same : c.sink-in-Search-1.given.0 ≡ c.search.new.log.sink.now = search rules in
+    subst (λ x. OnOk c.search.result (HasNoMark (g.L.LogSink.events x))) (sym same) (settled_answer_has_no_mark c.search.new.log.formula.now (g.L.LogSink.events c.search.new.log.sink.now) c.search.result
+    (c.search.ensures.settled (subst Settled (sym (c.search.ensures.log.formula ∙ c.in_ok-state.ensures.log.formula)) s)))
+
+pub returns-in-Search-clause-gave_up : goal.returns-in-Search-clause-gave_up
+returns-in-Search-clause-gave_up g c =
+    let same : c.sink-in-Search-1.given.0 ≡ c.search.new.log.sink.now = search rules in
+    let on = log_then g.L.LogSink g.met.L.LogSink.keeps_on _ c.begin.new.log _ _ c.in_ok-state.ensures.log c.search.ensures.log in
+    subst (λ x. IfErr c.search.result (λ e. GivesUp c.args.formula.now (g.L.LogSink.torn x) (g.L.LogSink.events x) e)) (sym same)
+    (subst (λ f. IfErr c.search.result (λ e. GivesUp f (g.L.LogSink.torn c.search.new.log.sink.now) (g.L.LogSink.events c.search.new.log.sink.now) e)) on.formula
+    (gives_up_by g.L.LogSink _ c.search.new.log c.search.result on (fresh_is_left c.args.formula.now (g.L.LogSink.events c.args.sink.now) c.requires.fresh)))
 
 pub returns-in-Search-clause-frame : goal.returns-in-Search-clause-frame
-returns-in-Search-clause-frame g c = g.met.L.LogSink.keeps_on _ _ _ c.begin.ensures.frame c.search.ensures.frame
+returns-in-Search-clause-frame g c =
+    let same : c.sink-in-Search-1.given.0 ≡ c.search.new.log.sink.now = search rules in
+    subst (g.L.LogSink.keeps c.args.sink.now) (sym same) (log_then g.L.LogSink g.met.L.LogSink.keeps_on _ c.begin.new.log _ _ c.in_ok-state.ensures.log c.search.ensures.log).frame

@@ -1,4 +1,4 @@
-use Rattle.std.proofs.Common.{◌≡◌, sym, ap, ◌∙◌, subst, ℕ, pos, List, [], ◌∷◌, ◌++◌, map, IfSome}
+use Rattle.std.proofs.Common.{sym, ap, ◌∙◌, subst, pos, [], ◌∷◌, ◌++◌, IfSome}
 use Rattle.std.proofs.lemmas.List.{map-append}
 use Rattle.std.specs.List.{Contains}
 use Rattle.cx_base.specs.Numbers.{AreStepIntegers}
@@ -9,7 +9,7 @@ use Rattle.cdcl_search.proofs.chains.hints_of.Goals.{in-Some+in_ok-push_hint, in
 pub loop-lit-preserved : goal.loop-lit-preserved
 loop-lit-preserved c =
     let old = c.loop-lit.invariant in
-    let held_ids = c.args.kept.now.units.items in
+    let held_ids = c.args.state.now.units.items in
     elim c.match-id_against.branch [
       | in-Some+in_ok-push_hint w ↦
           let held : Contains held_ids w.in-Some.unit = subst (λ o. IfSome o (Contains held_ids)) w.in-Some.is c.id_against.ensures in

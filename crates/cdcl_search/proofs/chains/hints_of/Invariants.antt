@@ -7,4 +7,4 @@ use Rattle.cdcl_search.proofs.chains.hints_of.Given as goal
 abbrev pub invariant-loop-lit : goal.invariant-loop-lit
 invariant-loop-lit l =
     AreStepIntegers l.hints.items
-    × ((units : List ℕ) × AllByRecursion (Contains l.kept.units.items) units × (l.hints.items ≡ map pos units))
+    × ((units : List ℕ) × AllByRecursion (Contains l.state.units.items) units × (l.hints.items ≡ map pos units))

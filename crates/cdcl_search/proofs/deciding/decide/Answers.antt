@@ -6,22 +6,22 @@ use Rattle.cdcl_search.proofs.deciding.decide.Goals as goal
 
 pub returns-in_default-clause-stands : goal.returns-in_default-clause-stands
 returns-in_default-clause-stands g c told stands =
-    reordered_stands c.args.formula.now c.args.kept.now (g.P.ParityEngine.state c.args.engine.now) told c.requires.quiet c.pick_from_heap.new.self c.pick_from_heap.ensures.stand stands
+    reordered_stands c.args.formula.now c.args.state.now (g.P.ParityEngine.state c.args.engine.now) told c.requires.quiet c.pick_from_heap.new.self c.pick_from_heap.ensures.stand stands
 
 pub push_level-requires-clause-room : goal.push_level-requires-clause-room
 push_level-requires-clause-room g c =
-    has_room c.args.formula.now c.args.kept.now (g.P.ParityEngine.state c.args.engine.now) c.requires.stands.0 c.requires.quiet c.requires.stands.1
+    has_room c.args.formula.now c.args.state.now (g.P.ParityEngine.state c.args.engine.now) c.requires.stands.0 c.requires.quiet c.requires.stands.1
     (λ is. true≢false (sym (c.is_full.ensures.count.1 is) ∙ c.if-is_full.false))
 
 pub returns-clause-stands : goal.returns-clause-stands
 returns-clause-stands g c told stands =
-    decided_stands c.args.formula.now c.args.kept.now (g.P.ParityEngine.state c.args.engine.now) told c.requires.quiet c.requires.units c.pick_from_heap.new.self c.pick_from_heap.ensures.stand c.new.result
-    (subst (IsOpenIn c.args.kept.now.trail.entries) (ap (λ (l : Literal). l.variable) (sym c.new.ensures)) c.in-Some.ensures.picks.unassigned) c.decide.new.self c.decide.ensures.pushed c.decide.ensures.sound
+    decided_stands c.args.formula.now c.args.state.now (g.P.ParityEngine.state c.args.engine.now) told c.requires.quiet c.requires.units c.pick_from_heap.new.self c.pick_from_heap.ensures.stand c.new.result
+    (subst (IsOpenIn c.args.state.now.trail.entries) (ap (λ (l : Literal). l.variable) (sym c.new.ensures)) c.in-Some.ensures.picks.unassigned) c.decide.new.self c.decide.ensures.pushed c.decide.ensures.sound
     (g.P.ParityEngine.state c.push_level.new.self) c.push_level.ensures stands
 
 pub returns-clause-settled : goal.returns-clause-settled
 returns-clause-settled g c settled =
     let best = c.in-Some.ensures.picks in
     let high = best.high in
-    let n = variables_are_scored c.args.formula.now c.args.kept.now (g.P.ParityEngine.state c.args.engine.now) c.requires.stands.0 c.requires.quiet c.requires.stands.1 in
-    absurd (settled_has_no_open c.args.formula.now c.args.kept.now (g.P.ParityEngine.state c.args.engine.now) c.requires.stands.0 c.requires.quiet c.requires.stands.1 settled c.in-Some.variable best.low (omega (arith, high, n)) best.unassigned)
+    let n = variables_are_scored c.args.formula.now c.args.state.now (g.P.ParityEngine.state c.args.engine.now) c.requires.stands.0 c.requires.quiet c.requires.stands.1 in
+    absurd (settled_has_no_open c.args.formula.now c.args.state.now (g.P.ParityEngine.state c.args.engine.now) c.requires.stands.0 c.requires.quiet c.requires.stands.1 settled c.in-Some.variable best.low (omega (arith, high, n)) best.unassigned)

@@ -10,12 +10,12 @@ loop-index-init g c = record { long = ap length c.in_ok-values.ensures.items; ar
 pub loop-index-preserved : goal.loop-index-preserved
 loop-index-preserved g c =
     let before = c.loop-index.invariant in
-    let more = one_value_more c.args.kept.now.trail c.loop-index.index c.loop-index.values.items c.value_on.result before.long before.are
-    (subst (λ v. IsTrueIn c.args.kept.now.trail.entries (record { variable = v; negative = not c.value_on.result })) c.new.ensures c.value_on.ensures) in
+    let more = one_value_more c.args.state.now.trail c.loop-index.index c.loop-index.values.items c.value_on.result before.long before.are
+    (subst (λ v. IsTrueIn c.args.state.now.trail.entries (record { variable = v; negative = not c.value_on.result })) c.new.ensures c.value_on.ensures) in
     let n = length-append c.loop-index.values.items (c.value_on.result ∷ []) in
     record {
       long = ap length c.in_ok-push.ensures.items ∙ (let m = before.long in omega (arith, n, m));
-      are = subst (AreValues c.args.kept.now.trail (c.loop-index.index + 1)) (sym c.in_ok-push.ensures.items) more;
+      are = subst (AreValues c.args.state.now.trail (c.loop-index.index + 1)) (sym c.in_ok-push.ensures.items) more;
     }
 
 pub returns : goal.returns
@@ -25,13 +25,13 @@ returns g c =
     let n = c.vars-vars.ensures.variables in
     let all : c.loop-index.index ≡ c.args.formula.now.variables = omega (arith, high, past, n) in
     subst (Meets c.args.formula.now) (sym c.from_vec.ensures)
-    (full_trail_meets c.args.formula.now c.args.kept.now (g.P.ParityEngine.state c.args.engine.now) c.requires.stands.0 c.requires.stands.1 c.requires.quiet c.requires.full c.vars-vars.ensures.within
-    c.loop-index.values.items (c.loop-index.invariant.long ∙ all) (subst (λ k. AreValues c.args.kept.now.trail k c.loop-index.values.items) all c.loop-index.invariant.are))
+    (full_trail_meets c.args.formula.now c.args.state.now (g.P.ParityEngine.state c.args.engine.now) c.requires.stands.0 c.requires.stands.1 c.requires.quiet c.requires.full c.vars-vars.ensures.within
+    c.loop-index.values.items (c.loop-index.invariant.long ∙ all) (subst (λ k. AreValues c.args.state.now.trail k c.loop-index.values.items) all c.loop-index.invariant.are))
 
 pub value_on-requires-clause-within : goal.value_on-requires-clause-within
 value_on-requires-clause-within g c =
     let n = c.vars-vars.ensures.variables in
-    let m = as_many_variables c.args.formula.now c.args.kept.now (g.P.ParityEngine.state c.args.engine.now) c.requires.stands.0 c.requires.stands.1 in
+    let m = as_many_variables c.args.formula.now c.args.state.now (g.P.ParityEngine.state c.args.engine.now) c.requires.stands.0 c.requires.stands.1 in
     let less = c.loop-index-test.true in
     let is = c.new.ensures in
     omega (arith, n, m, less, is)
@@ -39,7 +39,7 @@ value_on-requires-clause-within g c =
 pub value_on-requires-clause-assigned : goal.value_on-requires-clause-assigned
 value_on-requires-clause-assigned g c =
     let n = c.vars-vars.ensures.variables in
-    let m = as_many_variables c.args.formula.now c.args.kept.now (g.P.ParityEngine.state c.args.engine.now) c.requires.stands.0 c.requires.stands.1 in
+    let m = as_many_variables c.args.formula.now c.args.state.now (g.P.ParityEngine.state c.args.engine.now) c.requires.stands.0 c.requires.stands.1 in
     let less = c.loop-index-test.true in
     let is = c.new.ensures in
     c.requires.full c.new.result (omega (arith, is)) (omega (arith, n, m, less, is))

@@ -5,5 +5,5 @@ use Rattle.cdcl_search.proofs.models.values_of.Given as goal
 abbrev pub invariant-loop-index : goal.invariant-loop-index
 invariant-loop-index g l = record {
   long : length l.values.items ≡ l.index;
-  are : AreValues l.fn.kept.trail l.index l.values.items;
+  are : AreValues l.fn.state.trail l.index l.values.items;
 }

@@ -13,14 +13,14 @@ assign-requires-clause-within g c =
     let t = c.loop-place-test.true in
     let n = c.len-place-end.ensures.len in
     subst (λ v. v ≤ (g.P.ParityEngine.state c.loop-place.engine).vars) (sym (c.var.ensures ∙ ap (λ x. x.literal.variable) c.entry-literal.ensures.is))
-    (next_within c.args.formula.now (record c.args.kept.now { given = c.loop-place.place }) (g.P.ParityEngine.state c.loop-place.engine) [] c.requires.stands.0 (omega (arith, t, n)) (c.loop-place.invariant.stands c.requires.stands.0 c.requires.stands.1))
+    (next_within c.args.formula.now (record c.args.state.now { given = c.loop-place.place }) (g.P.ParityEngine.state c.loop-place.engine) [] c.requires.stands.0 (omega (arith, t, n)) (c.loop-place.invariant.stands c.requires.stands.0 c.requires.stands.1))
 
 pub assign-requires-clause-unassigned : goal.assign-requires-clause-unassigned
 assign-requires-clause-unassigned g c =
     let t = c.loop-place-test.true in
     let n = c.len-place-end.ensures.len in
     subst (λ v. is_unassigned (held_at (g.P.ParityEngine.state c.loop-place.engine).values v) ≡ true) (sym (c.var.ensures ∙ ap (λ x. x.literal.variable) c.entry-literal.ensures.is))
-    (next_unassigned c.args.formula.now (record c.args.kept.now { given = c.loop-place.place }) (g.P.ParityEngine.state c.loop-place.engine) [] c.requires.stands.0 (omega (arith, t, n)) (c.loop-place.invariant.stands c.requires.stands.0 c.requires.stands.1))
+    (next_unassigned c.args.formula.now (record c.args.state.now { given = c.loop-place.place }) (g.P.ParityEngine.state c.loop-place.engine) [] c.requires.stands.0 (omega (arith, t, n)) (c.loop-place.invariant.stands c.requires.stands.0 c.requires.stands.1))
 
 pub assign-requires-clause-no_conflict : goal.assign-requires-clause-no_conflict
 assign-requires-clause-no_conflict g c = c.loop-place.invariant.unbroken
@@ -37,20 +37,20 @@ loop-place-preserved g c =
     let e = g.P.ParityEngine.state c.loop-place.engine in
     let is = c.assign.ensures ∙ (λ i. assigned e (variable i) (not (negative i))) in
     record {
-      stands = λ told stands. subst (λ u. SearchStands c.args.formula.now (record c.args.kept.now { given = c.loop-place.place + 1 }) u [] told) (sym is)
-          (given_stands c.args.formula.now (record c.args.kept.now { given = c.loop-place.place }) e [] told (omega (arith, t, n)) (c.loop-place.invariant.stands told stands));
+      stands = λ told stands. subst (λ u. SearchStands c.args.formula.now (record c.args.state.now { given = c.loop-place.place + 1 }) u [] told) (sym is)
+          (given_stands c.args.formula.now (record c.args.state.now { given = c.loop-place.place }) e [] told (omega (arith, t, n)) (c.loop-place.invariant.stands told stands));
       unbroken = λ b. busy_is_not_broken (sym (ap (λ (u : State). u.mood) is) ∙ b);
     }
 
 pub returns-clause-stands : goal.returns-clause-stands
 returns-clause-stands g c = λ told stands.
-    let few = few_given c.args.formula.now c.args.kept.now (g.P.ParityEngine.state c.args.engine.now) [] told stands in
+    let few = few_given c.args.formula.now c.args.state.now (g.P.ParityEngine.state c.args.engine.now) [] told stands in
     let n = c.len-place-end.ensures.len in
-    let m = c.len-kept.ensures.len in
+    let m = c.len-state.ensures.len in
     let up = c.loop-place.auto.place-end in
     let past = c.loop-place-test.false in
-    let all : c.loop-place.place ≡ c.len-kept.result = let high = up (omega (arith, few, n)) in omega (arith, n, m, high, past) in
-    subst (λ k. SearchStands c.args.formula.now (record c.args.kept.now { given = k }) (g.P.ParityEngine.state c.loop-place.engine) [] told) all (c.loop-place.invariant.stands told stands)
+    let all : c.loop-place.place ≡ c.len-state.result = let high = up (omega (arith, few, n)) in omega (arith, n, m, high, past) in
+    subst (λ k. SearchStands c.args.formula.now (record c.args.state.now { given = k }) (g.P.ParityEngine.state c.loop-place.engine) [] told) all (c.loop-place.invariant.stands told stands)
 
 pub returns-clause-unbroken : goal.returns-clause-unbroken
 returns-clause-unbroken g c = c.loop-place.invariant.unbroken

@@ -6,6 +6,6 @@ use Rattle.cdcl_search.proofs.propagation.feed.Given as goal
 
 abbrev pub invariant-loop-place : goal.invariant-loop-place
 invariant-loop-place g l = record {
-  stands : (told : Option (List LogEvent)) → SearchStands l.fn.formula l.fn.kept (g.P.ParityEngine.state l.fn.engine) [] told → SearchStands l.fn.formula (record l.fn.kept { given = l.place }) (g.P.ParityEngine.state l.engine) [] told;
+  stands : (told : Option (List LogEvent)) → SearchStands l.fn.formula l.fn.state (g.P.ParityEngine.state l.fn.engine) [] told → SearchStands l.fn.formula (record l.fn.state { given = l.place }) (g.P.ParityEngine.state l.engine) [] told;
   unbroken : (g.P.ParityEngine.state l.engine).mood ≢ Broken;
 }

@@ -3,4 +3,4 @@ use Rattle.cdcl_search.proofs.propagation.follow_clauses.Goals as goal
 
 pub returns-clause-stands : goal.returns-clause-stands
 returns-clause-stands c formula e told stands =
-    clauses_followed formula e told c.args.kept.now c.next_event-event.new.trail c.next_event-event.new.self c.len-sound.ensures.sound c.next_event-event.ensures.attached c.next_event-event.ensures.fits c.next_event-event.ensures.propagates stands
+    clauses_followed formula e told c.args.state.now c.next_event-event.new.trail c.next_event-event.new.self c.len-sound.ensures.sound c.next_event-event.ensures.attached c.next_event-event.ensures.fits c.next_event-event.ensures.propagates stands

@@ -55,13 +55,13 @@ pub returns-in-Quiet-follow_rows-clause-finds : goal.returns-in-Quiet-follow_row
 returns-in-Quiet-follow_rows-clause-finds g c =
     let says = c.in-Quiet-follow_rows.ensures.says in
     let is = says.0 ∙ c.feed.ensures.given in
-    let quiet : Happens c.follow_rows.new.kept.watches.attached c.follow_rows.new.kept.arena c.follow_rows.new.kept.trail Quiet = subst (λ (k : SearchState). Happens k.watches.attached k.arena k.trail Quiet) (sym is) c.in-Quiet.ensures.happens in
-    let all : HasAll c.follow_rows.new.kept = subst HasAll (sym is) refl in
+    let quiet : Happens c.follow_rows.new.state.watches.attached c.follow_rows.new.state.arena c.follow_rows.new.state.trail Quiet = subst (λ (k : SearchState). Happens k.watches.attached k.arena k.trail Quiet) (sym is) c.in-Quiet.ensures.happens in
+    let all : HasAll c.follow_rows.new.state = subst HasAll (sym is) refl in
     (quiet, all, says.1, says.2)
 
 pub returns-in-Quiet-follow_rows-clause-same : goal.returns-in-Quiet-follow_rows-clause-same
 returns-in-Quiet-follow_rows-clause-same g c =
-    same_by_all c.args.kept.now c.loop-reference.kept c.follow_clauses.new.kept c.feed.new.kept c.follow_rows.new.kept c.loop-reference.invariant.same c.follow_clauses.ensures.same c.feed.ensures.given c.follow_rows.ensures.same
+    same_by_all c.args.state.now c.loop-reference.state c.follow_clauses.new.state c.feed.new.state c.follow_rows.new.state c.loop-reference.invariant.same c.follow_clauses.ensures.same c.feed.ensures.given c.follow_rows.ensures.same
 
 pub returns-in-Quiet-follow_rows-clause-grows : goal.returns-in-Quiet-follow_rows-clause-grows
 returns-in-Quiet-follow_rows-clause-grows g c =
@@ -75,7 +75,7 @@ pub loop-reference-smaller : goal.loop-reference-smaller
 loop-reference-smaller g c =
     let told = c.requires.stands.0 in
     let stands = c.follow_rows.ensures.stands told (c.feed.ensures.stands told (c.follow_clauses.ensures.stands c.args.formula.now (g.P.ParityEngine.state c.loop-reference.engine) told (c.loop-reference.invariant.stands told c.requires.stands.1))) in
-    let short = trail_is_short c.args.formula.now c.follow_rows.new.kept (g.P.ParityEngine.state c.follow_rows.new.engine) [] told stands in
+    let short = trail_is_short c.args.formula.now c.follow_rows.new.state (g.P.ParityEngine.state c.follow_rows.new.engine) [] told stands in
     let n = c.in-Implied.ensures.says.0 in
     let m = ap (λ (k : SearchState). length k.trail.entries) c.feed.ensures.given in
     let a = c.follow_clauses.ensures.grows in
@@ -90,7 +90,7 @@ loop-reference-preserved g c =
     record {
       stands = λ told stands. c.follow_rows.ensures.stands told (c.feed.ensures.stands told (c.follow_clauses.ensures.stands c.args.formula.now (g.P.ParityEngine.state c.loop-reference.engine) told (c.loop-reference.invariant.stands told stands)));
       unbroken = c.in-Implied.ensures.says.1;
-      same = same_by_all c.args.kept.now c.loop-reference.kept c.follow_clauses.new.kept c.feed.new.kept c.follow_rows.new.kept c.loop-reference.invariant.same c.follow_clauses.ensures.same c.feed.ensures.given c.follow_rows.ensures.same;
+      same = same_by_all c.args.state.now c.loop-reference.state c.follow_clauses.new.state c.feed.new.state c.follow_rows.new.state c.loop-reference.invariant.same c.follow_clauses.ensures.same c.feed.ensures.given c.follow_rows.ensures.same;
       grows = omega (arith, n, m, a, b);
     }
 
@@ -102,12 +102,12 @@ returns-in-Conflict-follow_rows-clause-stands g c told stands =
 pub returns-in-Conflict-follow_rows-clause-finds : goal.returns-in-Conflict-follow_rows-clause-finds
 returns-in-Conflict-follow_rows-clause-finds g c =
     let says = c.in-Conflict-follow_rows.ensures.says in
-    let all : HasAll c.follow_rows.new.kept = subst HasAll (sym (says.0 ∙ c.feed.ensures.given)) refl in
+    let all : HasAll c.follow_rows.new.state = subst HasAll (sym (says.0 ∙ c.feed.ensures.given)) refl in
     (all, says.1)
 
 pub returns-in-Conflict-follow_rows-clause-same : goal.returns-in-Conflict-follow_rows-clause-same
 returns-in-Conflict-follow_rows-clause-same g c =
-    same_by_all c.args.kept.now c.loop-reference.kept c.follow_clauses.new.kept c.feed.new.kept c.follow_rows.new.kept c.loop-reference.invariant.same c.follow_clauses.ensures.same c.feed.ensures.given c.follow_rows.ensures.same
+    same_by_all c.args.state.now c.loop-reference.state c.follow_clauses.new.state c.feed.new.state c.follow_rows.new.state c.loop-reference.invariant.same c.follow_clauses.ensures.same c.feed.ensures.given c.follow_rows.ensures.same
 
 pub returns-in-Conflict-follow_rows-clause-grows :
     goal.returns-in-Conflict-follow_rows-clause-grows

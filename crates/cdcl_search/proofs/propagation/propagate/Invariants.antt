@@ -7,11 +7,11 @@ use Rattle.cdcl_search.proofs.propagation.propagate.Given as goal
 
 abbrev pub invariant-loop-reference : goal.invariant-loop-reference
 invariant-loop-reference g l = record {
-  stands : (told : Option (List LogEvent)) → SearchStands l.fn.formula l.fn.kept (g.P.ParityEngine.state l.fn.engine) [] told → SearchStands l.fn.formula l.kept (g.P.ParityEngine.state l.engine) [] told;
+  stands : (told : Option (List LogEvent)) → SearchStands l.fn.formula l.fn.state (g.P.ParityEngine.state l.fn.engine) [] told → SearchStands l.fn.formula l.state (g.P.ParityEngine.state l.engine) [] told;
   unbroken : (g.P.ParityEngine.state l.engine).mood ≢ Broken;
-  same : HasSameCounts l.fn.kept l.kept;
-  grows : length l.fn.kept.trail.entries ≤ length l.kept.trail.entries;
+  same : HasSameCounts l.fn.state l.state;
+  grows : length l.fn.state.trail.entries ≤ length l.state.trail.entries;
 }
 
 abbrev pub decreases-loop-reference : goal.decreases-loop-reference
-decreases-loop-reference g l = l.fn.formula.variables - length l.kept.trail.entries
+decreases-loop-reference g l = l.fn.formula.variables - length l.state.trail.entries

@@ -1,24 +1,30 @@
-use Rattle.std.proofs.Common.{◌∙◌, sym, [], true≢false, arith}
+use Rattle.std.proofs.Common.{◌∙◌, sym, ap, [], true≢false, subst, arith}
+use Rattle.cx_base.specs.Problem.{Problem}
+use Rattle.cx_semantics.specs.Settled.{Settled}
 use Rattle.cdcl_search.specs.Searching.{OpensLevel}
+use Rattle.cdcl_search.specs.GoingOn.{log_then}
 use Rattle.cdcl_search.proofs.Feeding.{trail_is_short}
 use Rattle.cdcl_search.proofs.searching.search_on.Goals as goal
 
 pub loop-found-preserved : goal.loop-found-preserved
 loop-found-preserved g c =
     let i = c.loop-found.invariant in
-    let d : OpensLevel c.loop-found.kept c.turn.new.kept (g.P.ParityEngine.state c.turn.new.engine) = rw c.in_default.is at c.in_ok-found.ensures.reaches in
+    let d : OpensLevel c.loop-found.state c.turn.new.state (g.P.ParityEngine.state c.turn.new.engine) = rw c.in_default.is at c.in_ok-found.ensures.reaches in
     record {
       stands = c.in_ok-found.ensures.stands;
       unbroken = d.unbroken;
       settled = λ s. absurd (true≢false (sym (rw c.in_default.is at (c.in_ok-found.ensures.settled s).0)));
       conflicts = c.turn.ensures.conflicts ∙ i.conflicts;
-      faults = c.in_ok-found.ensures.faults ∙ i.faults;
-      frame = g.met.L.LogSink.keeps_on _ _ _ i.frame c.turn.ensures.frame;
+      log = log_then g.L.LogSink g.met.L.LogSink.keeps_on _ _ _ _ i.log c.in_ok-found.ensures.log;
     }
 
 pub loop-found-smaller : goal.loop-found-smaller
 loop-found-smaller g c =
-    let d : OpensLevel c.loop-found.kept c.turn.new.kept (g.P.ParityEngine.state c.turn.new.engine) = rw c.in_default.is at c.in_ok-found.ensures.reaches in
+    let d : OpensLevel c.loop-found.state c.turn.new.state (g.P.ParityEngine.state c.turn.new.engine) = rw c.in_default.is at c.in_ok-found.ensures.reaches in
     let longer = d.longer in
-    let short = trail_is_short c.args.formula.now c.turn.new.kept (g.P.ParityEngine.state c.turn.new.engine) [] (g.L.LogSink.events c.turn.new.sink) c.in_ok-found.ensures.stands in
-    omega (arith, longer, short)
+    let short = trail_is_short c.turn.new.log.formula.now c.turn.new.state (g.P.ParityEngine.state c.turn.new.engine) [] (g.L.LogSink.events c.turn.new.log.sink.now) c.in_ok-found.ensures.stands in
+    let same = ap (λ (f : Problem). f.variables) c.in_ok-found.ensures.log.formula in
+    omega (arith, longer, short, same)
+
+pub returns-in-Some-clause-settled : goal.returns-in-Some-clause-settled
+returns-in-Some-clause-settled g c s = (c.in_ok-found.ensures.settled s).1 ∙ c.loop-found.invariant.settled (subst Settled c.in_ok-found.ensures.log.formula s)

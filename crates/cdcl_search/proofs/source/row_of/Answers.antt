@@ -7,5 +7,5 @@ pub returns-in-Row : goal.returns-in-Row
 returns-in-Row c e have =
     let low : c.len.result ≤ c.place_of-place.result = c.if-place-len.true in
     let is = c.len.ensures in
-    row_is_reason c.args.kept.now e have c.place_of-place.ensures.sound c.args.literal c.place_of-place.result c.place_of-place.ensures.within
-    (c.place_of-place.ensures.negated ∙ ap Rattle.cx_base.specs.Literals.negate c.negate.ensures) (omega (arith, low, is)) c.in-Row.row (subst (HasReason c.args.kept.now.trail c.args.literal) c.in-Row.is c.requires)
+    row_is_reason c.args.state.now e have c.place_of-place.ensures.sound c.args.literal c.place_of-place.result c.place_of-place.ensures.within
+    (c.place_of-place.ensures.negated ∙ ap Rattle.cx_base.specs.Literals.negate c.negate.ensures) (omega (arith, low, is)) c.in-Row.row (subst (HasReason c.args.state.now.trail c.args.literal) c.in-Row.is c.requires)

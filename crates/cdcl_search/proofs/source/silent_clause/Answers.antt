@@ -8,14 +8,14 @@ pub returns-in-Clause-clause-sourced : goal.returns-in-Clause-clause-sourced
 returns-in-Clause-clause-sourced c =
     let low : c.len.result ≤ c.place_of-place.result = c.if-place-len.false in
     let is = c.len.ensures in
-    let live = clause_is_live c.args.kept.now c.requires.reasons.0 c.requires.reasons.1 c.place_of-place.ensures.sound c.args.literal c.place_of-place.result c.place_of-place.ensures.within
-    (c.place_of-place.ensures.negated ∙ ap Rattle.cx_base.specs.Literals.negate c.negate.ensures) (omega (arith, low, is)) c.in-Clause.reference (subst (HasReason c.args.kept.now.trail c.args.literal) c.in-Clause.is c.requires.reason) in
-    ok_maps c.stored.result c.stored.ensures (λ h are. stored_is_sourced c.args.kept.now c.in-Clause.reference live [] h.lits are)
+    let live = clause_is_live c.args.state.now c.requires.reasons.0 c.requires.reasons.1 c.place_of-place.ensures.sound c.args.literal c.place_of-place.result c.place_of-place.ensures.within
+    (c.place_of-place.ensures.negated ∙ ap Rattle.cx_base.specs.Literals.negate c.negate.ensures) (omega (arith, low, is)) c.in-Clause.reference (subst (HasReason c.args.state.now.trail c.args.literal) c.in-Clause.is c.requires.reason) in
+    ok_maps c.stored.result c.stored.ensures (λ h are. stored_is_sourced c.args.state.now c.in-Clause.reference live [] h.lits are)
 
 pub returns-in-Clause-clause-implied : goal.returns-in-Clause-clause-implied
 returns-in-Clause-clause-implied c =
     let low : c.len.result ≤ c.place_of-place.result = c.if-place-len.false in
     let is = c.len.ensures in
     ok_maps c.stored.result c.stored.ensures (λ h are.
-    clause_is_antecedent c.args.kept.now c.requires.reasons.0 c.requires.reasons.1 c.place_of-place.ensures.sound c.args.literal c.place_of-place.result c.place_of-place.ensures.within
-    (c.place_of-place.ensures.negated ∙ ap Rattle.cx_base.specs.Literals.negate c.negate.ensures) (omega (arith, low, is)) c.in-Clause.reference (subst (HasReason c.args.kept.now.trail c.args.literal) c.in-Clause.is c.requires.reason) h.lits are)
+    clause_is_antecedent c.args.state.now c.requires.reasons.0 c.requires.reasons.1 c.place_of-place.ensures.sound c.args.literal c.place_of-place.result c.place_of-place.ensures.within
+    (c.place_of-place.ensures.negated ∙ ap Rattle.cx_base.specs.Literals.negate c.negate.ensures) (omega (arith, low, is)) c.in-Clause.reference (subst (HasReason c.args.state.now.trail c.args.literal) c.in-Clause.is c.requires.reason) h.lits are)

@@ -1,16 +1,15 @@
-use Rattle.std.proofs.Common.{◌≡◌, ◌-◌, ◌≤◌, [], length}
-use Rattle.cdcl_search.specs.Ties.{SearchStands}
+use Rattle.std.proofs.Common.{◌-◌, ◌≤◌, [], length, None}
+use Rattle.cdcl_search.specs.Logs.{GoesOn, Stands}
 use Rattle.cdcl_search.specs.Units.{HasOther}
 use Rattle.cdcl_search.proofs.units.tell_units.Given as goal
 
-abbrev pub invariant-loop-alloc : goal.invariant-loop-alloc
-invariant-loop-alloc g l = record {
-  stands : SearchStands l.fn.formula l.kept (g.P.ParityEngine.state l.fn.engine) [] (g.L.LogSink.events l.sink);
-  few : length l.kept.units.items ≤ length l.kept.trail.entries;
-  same : HasOther l.fn.kept l.kept;
-  faults : g.L.LogSink.faults l.sink ≡ g.L.LogSink.faults l.fn.sink;
-  frame : g.L.LogSink.keeps l.fn.sink l.sink;
+abbrev pub invariant-loop-log : goal.invariant-loop-log
+invariant-loop-log g l = record {
+  stands : Stands g.P.ParityEngine g.L.LogSink l.log l.state l.fn.engine [];
+  few : length l.state.units.items ≤ length l.state.trail.entries;
+  same : HasOther l.fn.state l.state;
+  log : GoesOn g.L.LogSink l.fn.log None l.log;
 }
 
-abbrev pub decreases-loop-alloc : goal.decreases-loop-alloc
-decreases-loop-alloc g l = length l.kept.trail.entries - length l.kept.units.items
+abbrev pub decreases-loop-log : goal.decreases-loop-log
+decreases-loop-log g l = length l.state.trail.entries - length l.state.units.items

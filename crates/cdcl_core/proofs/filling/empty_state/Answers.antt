@@ -1,6 +1,6 @@
 use Rattle.std.proofs.Common.{refl, ap, arith}
 use Rattle.cdcl_core.proofs.FillingLaws.{empty_fits, empty_stands}
-use Rattle.cdcl_core.proofs.filling.empty_kept.Goals as goal
+use Rattle.cdcl_core.proofs.filling.empty_state.Goals as goal
 
 pub returns : goal.returns
 returns c =

@@ -1,0 +1,84 @@
+-- A log that is right so far: each front of it is.
+use Rattle.std.proofs.Common.{◌≡◌, refl, sym, ap, ◌∙◌, subst, ℕ, ◌+◌, List, [], ◌∷◌, ◌++◌, length, take, drop, get_or, Option, Some, None, arith, inl, inr, ◌⊎◌, is_some, true≢false, length-append, append_assoc, append-nil}
+use Rattle.std.specs.Prelude.{Result, Ok, Err}
+use Rattle.std.proofs.lemmas.List.{take-append-drop}
+use Rattle.std.proofs.lemmas.List.Elements.{filter_map-append}
+use Rattle.cx_base.specs.Problem.{Problem}
+use Rattle.cx_semantics.specs.declared.steps.LogEvent.{LogEvent}
+use Rattle.cx_semantics.specs.declared.steps.LogEvent.TheVariants.{Conflict}
+use Rattle.cx_semantics.specs.Judging.{Calculus, Runs, IsOpen, AcceptedAt}
+use Rattle.cx_semantics.specs.LogRules.{log_calculus}
+use Rattle.cx_semantics.specs.LogText.{steps_of, step_of}
+use Rattle.cx_semantics.specs.Tables.{Tables}
+use Rattle.conflict_learn.specs.declared.fault.CoreFault.{CoreFault}
+use Rattle.conflict_learn.specs.declared.fault.CoreFault.TheVariants.{Memory, Write}
+use Rattle.conflict_learn.specs.Faults.{fault_in}
+use Rattle.log_text.specs.declared.sink.LogSink as sink
+use Rattle.cdcl_search.specs.declared.logs.SearchLog.{SearchLog}
+use Rattle.cdcl_search.specs.Logs.{GoesOn, IsRightBehind, CountsAs}
+use Rattle.cdcl_search.specs.Tells.{TellsAll, FaultsAs, IsLeft, with_events}
+
+-- ---- fronts
+runs_front : {S : Type 0} (c : Calculus S) (tables : Tables) (front more : List S) (last : Tables) → Runs c tables (front ++ more) last → (t : Tables) × Runs c tables front t
+runs_front c tables [] more last r = (tables, refl)
+runs_front c tables (s ∷ front) more last r =
+    let rec = runs_front c (c.after tables s) front more last r.2 in
+    (rec.0, (r.0, r.1, rec.1))
+
+begins_with : {S : Type 0} (front : List S) (b : S) (more before : List S) (step : S) → front ++ b ∷ more ≡ before ++ step ∷ [] → (rest : List S) × (before ≡ front ++ rest)
+begins_with [] b more before step e = (before, refl)
+begins_with (a ∷ front) b more [] step e = absurd (let long = ap length e in let parts = length-append front (b ∷ more) in omega (arith, long, parts))
+begins_with (a ∷ front) b more (x ∷ before) step e =
+    let rec = begins_with front b more before step (ap (drop 1) e) in
+    let head : x ≡ a = cc (e) in
+    (rec.0, ap (λ y. y ∷ before) head ∙ ap (λ xs. a ∷ xs) rec.1)
+
+ends_there : {S : Type 0} (before later : List S) (step : S) (steps : List S) → steps ≡ before ++ step ∷ later → length steps ≡ length before + 1 → steps ≡ before ++ step ∷ []
+ends_there before [] step steps split number = split
+ends_there before (x ∷ later) step steps split number = absurd (let long = ap length split in let parts = length-append before (step ∷ x ∷ later) in omega (arith, long, parts, number))
+
+accepted_front : {S : Type 0} (c : Calculus S) (front more : List S) → AcceptedAt c (front ++ more) (length (front ++ more)) → IsOpen c front ⊎ AcceptedAt c front (length front)
+accepted_front c front [] a = inr (subst (λ xs. AcceptedAt c xs (length xs)) (append-nil front) a)
+accepted_front c front (b ∷ more) a =
+    let parts = begins_with front b more a.before a.step (ends_there a.before a.later a.step (front ++ b ∷ more) a.split a.number) in
+    inl (runs_front c c.start front parts.0 a.tables (subst (λ xs. Runs c c.start xs a.tables) parts.1 a.runs))
+
+front_is_left : (formula : Problem) (front more : List LogEvent) → IsLeft formula (Some (front ++ more)) → IsLeft formula (Some front)
+front_is_left formula front more (inl runs) =
+    inl (runs_front (log_calculus formula) (log_calculus formula).start (steps_of front) (steps_of more) runs.0
+    (subst (λ xs. Runs (log_calculus formula) (log_calculus formula).start xs runs.0) (filter_map-append step_of front more) runs.1))
+front_is_left formula front more (inr ended) = accepted_front (log_calculus formula) (steps_of front) (steps_of more)
+    (subst (λ xs. AcceptedAt (log_calculus formula) xs (length xs)) (filter_map-append step_of front more) ended)
+
+fronts_are_left : (formula : Problem) (told : Option (List LogEvent)) (events : List LogEvent) (i : ℕ) → IsLeft formula (with_events events told) → IsLeft formula (with_events (take i events) told)
+fronts_are_left formula None events i left = tt
+fronts_are_left formula (Some es) events i left = front_is_left formula (es ++ take i events) (drop i events)
+    (subst (λ xs. IsLeft formula (Some xs)) (ap (λ xs. es ++ xs) (sym (take-append-drop i events)) ∙ sym (append_assoc es (take i events) (drop i events))) left)
+
+-- ---- what a telling leaves
+stays_right : {T : Type 0} (formula : Problem) (torn : LogEvent → Type 0) (events : List LogEvent) (old : Option (List LogEvent)) (r : Result T CoreFault) (new : Option (List LogEvent))
+    → TellsAll torn events old r new → IsLeft formula (with_events events old) → IsLeft formula new
+stays_right formula torn events old (Ok x) new tells left = subst (IsLeft formula) (sym tells) left
+stays_right formula torn events old (Err fault) new (i, less, is, t) left = subst (IsLeft formula) (sym is) (fronts_are_left formula old events i left)
+
+is_torn : {T : Type 0} (torn : LogEvent → Type 0) (events : List LogEvent) (old : Option (List LogEvent)) (r : Result T CoreFault) (new : Option (List LogEvent))
+    → TellsAll torn events old r new → fault_in r ≡ Some Write → (event : LogEvent) × torn event
+is_torn torn events old (Ok x) new tells w = absurd (true≢false (sym (ap is_some w)))
+is_torn torn events old (Err fault) new (i, less, is, t) w = (get_or events i (Conflict 0), t (let f : fault ≡ Write = cc (w) in f))
+
+counts_as : {T : Type 0} (r : Result T CoreFault) (before now : ℕ) → FaultsAs r before now → CountsAs (fault_in r) before now
+counts_as (Ok x) before now h = h
+counts_as (Err Memory) before now h = h
+counts_as (Err Write) before now h = h
+
+-- a log goes on by a telling of events behind which it is right
+pub goes_on_by : {L T : Type 0} (m : sink.Ghosts L) (old new : SearchLog L) (events : List LogEvent) (r : Result T CoreFault) → TellsAll (m.torn new.sink.now) events (m.events old.sink.now) r (m.events new.sink.now)
+    → FaultsAs r (m.faults old.sink.now) (m.faults new.sink.now) → m.keeps old.sink.now new.sink.now → IsRightBehind m old events → new.formula.now ≡ old.formula.now → new.sink.ghost_name ≡ old.sink.ghost_name → GoesOn m old (fault_in r) new
+goes_on_by m old new events r tells counts keeps right formula name = record {
+  right = λ _. subst (λ f. IsLeft f (m.events new.sink.now)) (sym formula) (stays_right old.formula.now (m.torn new.sink.now) events (m.events old.sink.now) r (m.events new.sink.now) tells right);
+  counts = counts_as r (m.faults old.sink.now) (m.faults new.sink.now) counts;
+  tears = is_torn (m.torn new.sink.now) events (m.events old.sink.now) r (m.events new.sink.now) tells;
+  formula = formula;
+  sink = name;
+  frame = keeps;
+}
