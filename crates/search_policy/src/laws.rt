@@ -1,10 +1,11 @@
-//! What keeps each unassigned variable in the heap.
+//! What keeps each unassigned variable in the heap, and what has one answer.
 ghost use Rattle.std.specs.Prelude.{◌≡◌, ◌+◌, ◌++◌, ◌≤◌, ℕ, [], ◌∷◌, List, Option};
 ghost use Rattle.cx_base.specs.Literals.{Literal};
 ghost use Rattle.cx_trail.specs.Sequence.{TrailState, pushed};
 ghost use Rattle.cx_trail.specs.declared.entry.Reason.{Reason};
 ghost use Rattle.cx_trail.specs.declared.entry.Entry.{Entry};
 ghost use Rattle.search_policy.specs.Scores.{Picks};
+ghost use Rattle.search_policy.specs.Restarts.{IsLuby};
 ghost use Rattle.search_policy.specs.Standing.{OrderState, AllStand, new_order};
 
 /// All variables stand in a new order.
@@ -22,4 +23,9 @@ pub fn longer_trail_stands()
 pub fn picks_are_one()
     ensures { (n : ℕ) (scores : List ℕ) (entries : List Entry) (a b : Option ℕ)
         → Picks n scores entries a → Picks n scores entries b → a ≡ b }
+{}
+
+/// Luby's sequence has one number at each place.
+pub fn luby_is_one()
+    ensures { (i a b : ℕ) → IsLuby i a → IsLuby i b → a ≡ b }
 {}
