@@ -18,6 +18,6 @@ mod sight;
 mod trail;
 mod watching;
 
-pub use incremental::Incremental;
 pub use gf2_matrix::RowView;
+pub use incremental::Incremental;
 pub use parity_engine::{Held, Mood, ParityEngine, ParityEvent};

@@ -1,12 +1,12 @@
 -- Rows copied bit by bit, and what the copies stand for.
-use Rattle.std.proofs.Common.{◌≡◌, ◌≢◌, ℕ, ◌+◌, ◌*◌, ◌<◌, ◌≤◌, zero, suc, Bool, true, false, cond, nat_eq, ◌&&◌, List, [], ◌∷◌, ◌++◌, map, length, get_or, Option, Some, None, inl, inr, refl, sym, ap, ◌∙◌, subst, arith}
+use Rattle.std.proofs.Common.{◌≡◌, ℕ, ◌+◌, ◌<◌, ◌≤◌, zero, suc, Bool, true, false, cond, nat_eq, ◌&&◌, List, [], ◌∷◌, ◌++◌, map, length, get_or, Option, Some, None, inl, inr, refl, sym, ap, ◌∙◌, arith}
 use Rattle.std.specs.List.{range_with_len}
 use Rattle.std.proofs.lemmas.List.{append-nil}
 use Rattle.std.proofs.lemmas.List.FromFn.{length-map-range_with_len, map-range_with_len_more, fill_by_all, length-range_with_len, get_or-range_with_len}
 use Rattle.std.proofs.lemmas.Bool.{cases_eq, eq-eqb, ne_eqb}
 use Rattle.cx_base.specs.Literals.{differ}
 use Rattle.cx_base.specs.declared.literal.TheConstants.{MAX_VARIABLE}
-use Rattle.cx_base.specs.Parity.{NormalForm, odd_sum}
+use Rattle.cx_base.specs.Parity.{odd_sum}
 use Rattle.cx_base.proofs.ParityLaws.{differ_false}
 use Rattle.gf2_rows.specs.Bits.{bit_of}
 use Rattle.gf2_rows.proofs.Words.{range_same, parity-append}
@@ -15,8 +15,8 @@ use Rattle.parity_engine.specs.Written.{AreRising}
 use Rattle.parity_engine.specs.declared.state.Held.{Held}
 use Rattle.parity_engine.proofs.Rising.{columns_rise}
 use Rattle.gf2_matrix.specs.Columns.{place}
-use Rattle.gf2_matrix.specs.Views.{IsView, viewed_form, words_for}
-use Rattle.gf2_matrix.specs.Content.{Content, SourcedRow, IsOfGiven, has, row_at, form}
+use Rattle.gf2_matrix.specs.Views.{IsView, viewed_form}
+use Rattle.gf2_matrix.specs.Content.{Content, IsOfGiven, has, row_at, form}
 use Rattle.gf2_matrix.proofs.Columns.{place_found}
 use Rattle.gf2_matrix.proofs.Numbered.{numbers-append}
 use Rattle.gauss_jordan.specs.declared.slot.Slot.{Slot}

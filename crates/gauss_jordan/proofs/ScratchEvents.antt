@@ -31,7 +31,7 @@ use Rattle.gauss_jordan.specs.System.{just_value, has_at, filled, IsOneOpen}
 use Rattle.gauss_jordan.specs.declared.found.Found.TheVariants as found
 use Rattle.gauss_jordan.specs.Found.{IsMasked, Shows}
 use Rattle.gauss_jordan.specs.Right.{IsRightState, column_at}
-use Rattle.gauss_jordan.specs.Slots.{first_bits, row_of, named_as, named_of, state_of, value_or_false, AreMasks, IsSlotOf, IsEmptySlot, IsCopy, IsNamedSlot, IsSlotSum, IsScratch}
+use Rattle.gauss_jordan.specs.Slots.{row_of, named_as, named_of, state_of, value_or_false, AreMasks, IsSlotOf, IsEmptySlot, IsCopy, IsNamedSlot, IsSlotSum, IsScratch}
 use Rattle.gauss_jordan.proofs.Events.{at_column, filled-at, part-at, length-filled, implied_by_equation}
 use Rattle.gauss_jordan.proofs.Kept.{summed, right_fresh, right_quiet, right_implied, right_broken}
 

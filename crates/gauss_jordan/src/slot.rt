@@ -120,11 +120,7 @@ pub(crate) fn is_unmet(slot: &Slot, held: &[Option<Held>]) -> bool
 }
 
 /// The numbers, from 1 and rising, of the bits that are set among the first `count`.
-pub(crate) fn source_list(
-    alloc: Global,
-    words: &[u64],
-    count: usize,
-) -> Result<IdList, AllocError>
+pub(crate) fn source_list(alloc: Global, words: &[u64], count: usize) -> Result<IdList, AllocError>
     requires room { count ≤ 64 * length words.now }
     requires few { count < 2 ^ 32 }
     ensures { IfOk result (λ s. s ≡ numbers_from 1 (first_bits count words.now)) }

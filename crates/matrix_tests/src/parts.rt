@@ -43,7 +43,12 @@ fn parity(alloc: Global, variables: &[u32]) -> Result<LitList, AllocError> {
 }
 
 /// The matrix of the parities.
-fn matrix_of(rt: &impl Abort, alloc: Global, vars: u32, parities: Vec<LitList>) -> Result<Matrix, Fail> {
+fn matrix_of(
+    rt: &impl Abort,
+    alloc: Global,
+    vars: u32,
+    parities: Vec<LitList>,
+) -> Result<Matrix, Fail> {
     let parities = ParityList::from_vec(parities);
     assert!(rt; vars <= 1000);
     assert!(rt; all_within(vars, parities.as_slice()));
@@ -63,7 +68,12 @@ fn span_of(rt: &impl Abort, matrix: &Matrix, row: usize) -> (usize, usize) {
 }
 
 /// The variables of a row, rising.
-fn variables_of(rt: &impl Abort, alloc: Global, matrix: &Matrix, row: usize) -> Result<Vec<u32>, Fail> {
+fn variables_of(
+    rt: &impl Abort,
+    alloc: Global,
+    matrix: &Matrix,
+    row: usize,
+) -> Result<Vec<u32>, Fail> {
     assert!(rt; row < matrix.rows());
     let view = matrix.row_view(row);
     let mut variables = Vec::new(alloc);

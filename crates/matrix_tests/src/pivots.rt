@@ -2,8 +2,8 @@
 ghost use Rattle.std.specs.Prelude.{◌≡◌, ◌≤◌, ◌∷◌, [], IfOk, false};
 ghost use Rattle.cx_base.specs.declared.literal.TheConstants.{MAX_VARIABLE};
 
-use gf2_matrix::Matrix;
 use cx_base::{Lit, LitList, ParityList, Var};
+use gf2_matrix::Matrix;
 use std::alloc::{AllocError, Global};
 use std::test::Fail;
 

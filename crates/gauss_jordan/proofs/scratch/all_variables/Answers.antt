@@ -1,4 +1,4 @@
-use Rattle.std.proofs.Common.{◌≡◌, ◌∙◌, ◌+◌, List, ℕ, [], ◌∷◌, ◌++◌, sym, ap, arith}
+use Rattle.std.proofs.Common.{◌≡◌, ◌∙◌, ◌+◌, ℕ, [], ◌∷◌, ◌++◌, sym, ap, arith}
 use Rattle.std.specs.List.{range_with_len}
 use Rattle.gf2_rows.proofs.Words.{range_split}
 use Rattle.gauss_jordan.proofs.scratch.all_variables.Goals as goal

@@ -1,8 +1,7 @@
-use Rattle.std.proofs.Common.{◌≡◌, ◌∙◌, Some, sym, ap, length, arith}
+use Rattle.std.proofs.Common.{◌∙◌, Some, sym, ap, length}
 use Rattle.std.specs.Vec.{with_items}
 use Rattle.std.proofs.lemmas.List.{with_items_is}
 use Rattle.gauss_jordan.specs.declared.slot.Slot.{Slot}
-use Rattle.gauss_jordan.specs.Slots.{AreTerms}
 use Rattle.gauss_jordan.proofs.Copies.{copied}
 use Rattle.gauss_jordan.proofs.slot.copy_row.Goals as goal
 

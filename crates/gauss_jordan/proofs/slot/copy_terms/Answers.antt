@@ -1,9 +1,9 @@
-use Rattle.std.proofs.Common.{◌≡◌, ◌∙◌, ◌+◌, ℕ, Bool, cond, nat_eq, sym, ap}
+use Rattle.std.proofs.Common.{◌∙◌, ◌+◌, ℕ, cond, nat_eq, ap}
 use Rattle.std.specs.FinSet as set
 use Rattle.cx_base.specs.Parity.{NormalForm}
 use Rattle.gf2_rows.specs.Bits.{bit_of}
 use Rattle.parity_engine.proofs.Forms.{contains-form}
-use Rattle.gf2_matrix.specs.Content.{row_at, equation, form}
+use Rattle.gf2_matrix.specs.Content.{row_at, equation}
 use Rattle.gauss_jordan.proofs.Copies.{terms_more}
 use Rattle.gauss_jordan.proofs.slot.copy_terms.Goals as goal
 

@@ -1,4 +1,3 @@
-use Rattle.std.proofs.Common.{ℕ}
 use Rattle.gauss_jordan.specs.Slots.{IsSlotSum}
 use Rattle.gauss_jordan.proofs.slot.is_unmet.Given as goal
 

@@ -1,10 +1,9 @@
-use Rattle.std.proofs.Common.{◌≡◌, ◌∙◌, ℕ, Bool, List, Some, sym, ap, subst, get_or}
-use Rattle.std.specs.List.{range_with_len}
-use Rattle.gf2_matrix.specs.Views.{IsView, viewed_form}
+use Rattle.std.proofs.Common.{◌≡◌, ◌∙◌, Some, sym, ap, subst, get_or}
+use Rattle.gf2_matrix.specs.Views.{viewed_form}
 use Rattle.gauss_jordan.specs.declared.slot.Slot.{Slot}
 use Rattle.gf2_matrix.specs.Content.{form}
 use Rattle.gauss_jordan.specs.Slots.{IsSlotOf, row_of}
-use Rattle.parity_engine.specs.State.{State, Named, named_at}
+use Rattle.parity_engine.specs.State.{State, named_at}
 use Rattle.parity_engine.proofs.Named.{named_row}
 use Rattle.gauss_jordan.proofs.Copies.{slot_form, slot_view}
 use Rattle.gauss_jordan.proofs.ScratchEvents.{slot_seen}

@@ -1,7 +1,7 @@
-use Rattle.std.proofs.Common.{◌≡◌, ◌∙◌, ◌+◌, sym, ap, length, arith}
+use Rattle.std.proofs.Common.{◌∙◌, ◌+◌, sym, ap, length, arith}
 use Rattle.std.specs.List.{range_with_len}
 use Rattle.gf2_matrix.specs.Views.{words_for}
-use Rattle.gauss_jordan.proofs.ScratchEvents.{AreEmpty, made_empty, state_fresh, scratch_fresh}
+use Rattle.gauss_jordan.proofs.ScratchEvents.{made_empty, state_fresh, scratch_fresh}
 use Rattle.gauss_jordan.proofs.scratch.ScratchParityEngine.make.Goals as goal
 
 pub invariant_of-result : goal.invariant_of-result

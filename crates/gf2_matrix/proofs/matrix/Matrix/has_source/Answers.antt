@@ -1,7 +1,6 @@
-use Rattle.std.proofs.Common.{◌≡◌, ◌∙◌, ◌+◌, ◌*◌, ◌<◌, ◌≤◌, sym, ap, subst, length, get_or, map, false, List, ℕ, arith}
+use Rattle.std.proofs.Common.{◌≡◌, ◌∙◌, ◌+◌, ◌<◌, sym, ap, subst, length, get_or, map, false, List, ℕ, arith}
 use Rattle.std.proofs.lemmas.Bool.{le-ltb}
 use Rattle.gf2_rows.specs.Bits.{bit_of}
-use Rattle.parity_engine.specs.Written.{Rises}
 use Rattle.gf2_matrix.specs.declared.packed.PackedRow.{PackedRow}
 use Rattle.gf2_matrix.specs.Columns.{place}
 use Rattle.gf2_matrix.specs.Content.{Content, row_at}
