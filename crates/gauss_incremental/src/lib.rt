@@ -13,7 +13,6 @@ mod line;
 mod lists;
 mod marks;
 mod names;
-mod places;
 mod sight;
 mod trail;
 mod watching;
