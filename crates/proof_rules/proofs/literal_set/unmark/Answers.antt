@@ -1,4 +1,4 @@
-use Rattle.std.proofs.Common.{◌≡◌, ◌∙◌, sym, subst, ap, ℕ, ◌+◌, Bool, List, ◌∷◌, drop, set, false}
+use Rattle.std.proofs.Common.{◌≡◌, ◌∙◌, sym, subst, ap, ◌+◌, Bool, List, drop, set, false}
 use Rattle.std.proofs.Math.ListN.{drop_of_length-le}
 use Rattle.cx_base.specs.Literals.{Literal, code_of}
 use Rattle.proof_rules.specs.LiteralSets.{AreMarkedOnly}
