@@ -4,7 +4,8 @@ ghost use Rattle.cx_semantics.specs.Grammar.{Ending};
 ghost use Rattle.cx_semantics.specs.Printed.{HasProofText};
 ghost use Rattle.cx_semantics.specs.declared.steps.LogStep.{LogStep};
 ghost use Rattle.cx_semantics.specs.declared.steps.ProofStep.{ProofStep};
-ghost use Rattle.proof_text.specs.Sources.{Gives, PlaceRises, FaultsAs, SpentAs, IsTooLongOnly};
+ghost use Rattle.proof_text.specs.declared.source.TextRefusal.{TextRefusal};
+ghost use Rattle.proof_text.specs.Sources.{Gives, PlaceRises, FaultsAs, SpentAs, StuckAs, IsTooLongOnly};
 ghost use Rattle.proof_text.specs.Sinks.{with_next, SinkFaultsAs, HasFailedAs, OnFailed};
 
 use cx_semantics::{LogStep, ProofStep};
@@ -23,9 +24,15 @@ pub trait ElabEnds {
     // its source has answered `Memory` or `Failed`
     ghost is_spent: { Self → Bool };
 
+    // the refusal that its source goes on giving
+    ghost stuck: { Self → Option TextRefusal };
+
     ghost read_faults: { Self → ℕ };
 
     ghost place_of: { Self → ℕ };
+
+    // no place is greater
+    ghost farthest: { Self → ℕ };
 
     // the steps of the proof, where it tells them
     ghost steps: { Self → Option (List ProofStep) };
@@ -46,11 +53,14 @@ pub trait ElabEnds {
         requires { is_spent self.old ≡ false }
         ensures step { Gives leaves self.old result self.new }
         ensures spent { SpentAs result (is_spent self.new) }
+        ensures stuck { StuckAs (stuck self.old) result (stuck self.new) }
         ensures faults { FaultsAs result (read_faults self.old) (read_faults self.new) }
         ensures long { IsTooLongOnly (passes_limit self.old) result }
         ensures limit { (passes_limit self.new → passes_limit self.old) × (passes_limit self.old → passes_limit self.new) }
         ensures rises { PlaceRises result (place_of self.old) (place_of self.new) }
-        ensures far { place_of self.new < 2 ^ 62 }
+        ensures within { place_of self.new ≤ farthest self.new }
+        ensures far { farthest self.new < 2 ^ 62 }
+        ensures bound { farthest self.new ≡ farthest self.old }
         ensures steps_stay { steps self.new ≡ steps self.old }
         ensures writes_stay { write_faults self.new ≡ write_faults self.old }
         ensures failed_stays { has_failed self.new ≡ has_failed self.old }
@@ -71,8 +81,10 @@ pub trait ElabEnds {
         ensures rest_stays { (left : List LogStep) (ending : Ending) → (leaves self.new left ending → leaves self.old left ending) × (leaves self.old left ending → leaves self.new left ending) }
         ensures limit_stays { (passes_limit self.new → passes_limit self.old) × (passes_limit self.old → passes_limit self.new) }
         ensures spent_stays { is_spent self.new ≡ is_spent self.old }
+        ensures stuck_stays { stuck self.new ≡ stuck self.old }
         ensures reads_stay { read_faults self.new ≡ read_faults self.old }
         ensures place_stays { place_of self.new ≡ place_of self.old }
+        ensures bound_stays { farthest self.new ≡ farthest self.old }
         ensures frame { keeps self.old self.new };
 
     // it always has some steps left and an ending
@@ -97,9 +109,13 @@ impl<A: StepSource<Step = LogStep>, B: ProofSink> ElabEnds for Joined<A, B> {
 
     ghost is_spent = { λ j. A.is_spent j.source };
 
+    ghost stuck = { λ j. A.stuck j.source };
+
     ghost read_faults = { λ j. A.faults j.source };
 
     ghost place_of = { λ j. A.place_of j.source };
+
+    ghost farthest = { λ j. A.farthest j.source };
 
     ghost steps = { λ j. B.steps j.sink };
 
