@@ -1,5 +1,5 @@
 //! The texts of a command, read whole.
-ghost use Rattle.std.specs.Prelude.{◌≡◌, ◌<◌, ◌≤◌, ◌^◌, List, ℕ, None, Some, true, length, IfOk};
+ghost use Rattle.std.specs.Prelude.{◌≡◌, ◌≤◌, List, ℕ, None, Some, true, length, IfOk};
 ghost use Rattle.cx_desk.specs.Outside.{asked_in, started_in};
 ghost use Rattle.cx_words.specs.declared.plans.Plan.{Plan as PlanOf};
 ghost use Rattle.solve_cli.specs.Seen.{seen};
@@ -37,7 +37,6 @@ fn start_slot<D: Desk>(desk: &mut D, slot: Slot, name: Name) -> Result<(), Outco
 /// Reads a started slot to its end.
 fn read_slot<D: Desk>(alloc: Global, desk: &mut D, slot: Slot, limit: u64) -> Result<Text, Outcome>
     requires started { started_in slot (D.outside desk.old).started ≡ true }
-    requires limit { limit < 2 ^ 62 }
     ensures { (name : List ℕ) → Ready slot name (D.outside desk.old) → ReadsSlot slot name limit (D.outside desk.old) result (D.outside desk.new) }
 {
     match read_whole(alloc, desk, slot, limit) {
@@ -56,7 +55,6 @@ pub(crate) fn read_formula_of<D: Desk>(
     limit: u64,
 ) -> Result<Formula, Outcome>
     requires unasked { (D.outside desk.old).asked.formula ≡ None }
-    requires limit { limit < 2 ^ 62 }
     ensures reads { ReadsFormula name limit (seen (D.outside desk.old)) result (seen (D.outside desk.new)) }
     ensures few { IfOk result (λ f. length f.constraints ≤ limit) }
 {

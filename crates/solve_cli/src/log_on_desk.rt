@@ -22,7 +22,7 @@ impl<D: Desk> ElabEnds for LogOnDesk<'_, '_, '_, D> {
     ghost use Rattle.cx_semantics.specs.LogText.{log_steps};
     ghost use Rattle.cx_semantics.proofs.Grammars.{log_forms};
     ghost use Rattle.proof_text.specs.Left.{text_is_left};
-    ghost use Rattle.proof_text.specs.Texts.{Leaves, is_spent_by};
+    ghost use Rattle.proof_text.specs.Texts.{Leaves, is_spent_by, stuck_by};
     ghost use Rattle.proof_text.specs.Told.{steps_told, fault_of, TornOn, Goes};
     ghost use Rattle.proof_text.specs.ToldSteps.{goes_itself, goes_on};
 
@@ -32,9 +32,13 @@ impl<D: Desk> ElabEnds for LogOnDesk<'_, '_, '_, D> {
 
     ghost is_spent = { λ j. is_spent_by j.source.now.refused };
 
+    ghost stuck = { λ j. stuck_by j.source.now.refused };
+
     ghost read_faults = { λ _. 0 };
 
     ghost place_of = { λ j. j.source.now.place };
+
+    ghost farthest = { λ _. 4294967295 };
 
     ghost steps = { λ j. steps_told (D.outside j.sink.desk.now) };
 
