@@ -2,7 +2,7 @@
 use Rattle.std.proofs.Common.{◌≡◌, refl, sym, ap, ◌∙◌, subst, ℕ, ◌+◌, ◌<◌, false, List, Bool, Some, None, Option, Result, Ok, Err, IfOk, OnOk, inl, arith}
 use Rattle.std.specs.List.{range_with_len}
 use Rattle.cx_base.specs.Literals.{Literal}
-use Rattle.cx_base.specs.Problem.{Problem, parities_of}
+use Rattle.cx_base.specs.Problem.{Problem}
 use Rattle.cx_semantics.specs.declared.steps.LogEvent.{LogEvent}
 use Rattle.cx_semantics.specs.Integers.{integers_of}
 use Rattle.cx_semantics.specs.Marked.{Marked}
@@ -29,18 +29,18 @@ use Rattle.cdcl_core.specs.Results.{IsOpenWith, IsFresh, HasNoMark, IsSettledBy}
 use Rattle.cdcl_core.proofs.Entering.{round_is_search, conflicts_then, tidy}
 
 -- ---- open logs
-search_is_open : (formula : Problem) (s : Search) (n : ℕ) (told : Option (List LogEvent)) → IsSearch formula (parities_of formula.constraints) s → s.moment.awaits ≡ false → s.conflicts ≡ n → AreTold told s.events → IsOpenWith formula n told
-search_is_open formula s n None ok served count a = tt
-search_is_open formula s n (Some es) ok served count a = subst (λ xs. IsOpenWith formula n (Some xs)) (sym a)
-    (is_log_open formula (parities_of formula.constraints) s ok served, subst (Marked formula s.events) count (is_marked formula (parities_of formula.constraints) s ok served))
+search_is_open : (formula : Problem) (parities : List (List Literal)) (s : Search) (n : ℕ) (told : Option (List LogEvent)) → IsSearch formula parities s → s.moment.awaits ≡ false → s.conflicts ≡ n → AreTold told s.events → IsOpenWith formula n told
+search_is_open formula parities s n None ok served count a = tt
+search_is_open formula parities s n (Some es) ok served count a = subst (λ xs. IsOpenWith formula n (Some xs)) (sym a)
+    (is_log_open formula parities s ok served, subst (Marked formula s.events) count (is_marked formula parities s ok served))
 
 -- between two conflicts the log is open, with a mark for each counted one
 pub log_is_open : (formula : Problem) (c : SearchState) (e : State) (rows : List (List Literal)) (told : Option (List LogEvent)) → SearchStands formula c e rows told → IsOpenWith formula c.conflicts told
-log_is_open formula c e rows told (s, ok, a, t) = search_is_open formula s c.conflicts told ok t.served.served t.conflicts a
+log_is_open formula c e rows told (s, ok, a, t, f) = search_is_open formula e.parities s c.conflicts told ok t.log.served.served t.counts.marked a
 
 -- behind a learned clause it is open, with one mark more
 pub learned_log_is_open : (formula : Problem) (c : SearchState) (e : State) (lits : List Literal) (back : ℕ) (told : Option (List LogEvent)) → Learns formula c e lits back told → IsOpenWith formula (c.conflicts + 1) told
-learned_log_is_open formula c e lits back told l = search_is_open formula (after_round l.search c.next (integers_of lits) l.hints back l.taught.first) (c.conflicts + 1) told
+learned_log_is_open formula c e lits back told l = search_is_open formula e.parities (after_round l.search c.next (integers_of lits) l.hints back l.taught.first) (c.conflicts + 1) told
     (round_is_search formula c e lits back l.search l.taught l.hints) (tidy formula c e lits back l.search l.taught l.hints).served (conflicts_then formula c e lits back l.search l.taught l.hints) l.told_is
 
 -- ---- settled formulas

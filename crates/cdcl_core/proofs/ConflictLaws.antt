@@ -4,7 +4,7 @@ use Rattle.std.specs.Prelude.{IsSome, ◌==◌}
 use Rattle.std.specs.List.{AllByRecursion}
 use Rattle.std.proofs.lemmas.Option.{same_Some}
 use Rattle.cx_base.specs.Literals.{Literal}
-use Rattle.cx_base.specs.Problem.{Problem, parities_of, Unmet}
+use Rattle.cx_base.specs.Problem.{Problem, Unmet}
 use Rattle.cx_semantics.specs.Chain.{has_literal}
 use Rattle.cx_semantics.specs.Integers.{integers_of, literals}
 use Rattle.cx_semantics.specs.Printed.{HasText}
@@ -43,11 +43,11 @@ use Rattle.cdcl_core.specs.declared.conflicts.Conflict.{Conflict}
 use Rattle.cdcl_core.specs.Concluding.{Concludes, EndsLog, IsEndedWith}
 
 -- ---- a row without variables: its sum and its clause end the log
-module _ (formula : Problem) (c : SearchState) (e : State) (rows : List (List Literal)) (s : Search) (ok : IsSearch formula (parities_of formula.constraints) s) (t : Ties formula c e rows s)
-    (r : ReasonOf) (x : Explains (parities_of formula.constraints) c.trail r) (back_parity : literals (integers_of r.parity) ≡ r.parity) (back_clause : literals (integers_of r.clause) ≡ r.clause)
+module _ (formula : Problem) (c : SearchState) (e : State) (rows : List (List Literal)) (s : Search) (ok : IsSearch formula e.parities s) (t : Ties formula c e rows s)
+    (r : ReasonOf) (x : Explains e.parities c.trail r) (back_parity : literals (integers_of r.parity) ≡ r.parity) (back_clause : literals (integers_of r.clause) ≡ r.clause)
     (none : is_empty (integers_of r.clause) ≡ true) where
   abbrev parities : List (List Literal)
-  parities = parities_of formula.constraints
+  parities = e.parities
 
   abbrev k : ℕ
   k = length formula.constraints + 1
@@ -75,7 +75,7 @@ module _ (formula : Problem) (c : SearchState) (e : State) (rows : List (List Li
       (sum_is formula c e rows s ok t r x back_parity back_clause) (clause_is formula c e rows s ok t r x back_parity back_clause) none
 
   marked : Marked formula (all_told s two).events s.conflicts
-  marked = row_clause_is_marked formula parities after_sum after_sum_is n zs k (literals rs) t.served.served
+  marked = row_clause_is_marked formula parities after_sum after_sum_is n zs k (literals rs) t.log.served.served
       (sum_is formula c e rows s ok t r x back_parity back_clause) (clause_is formula c e rows s ok t r x back_parity back_clause)
 
   two_are_unmet : Unmet formula
@@ -83,14 +83,14 @@ module _ (formula : Problem) (c : SearchState) (e : State) (rows : List (List Li
 
   two_end : (told_ : Option (List LogEvent)) → AreTold told_ s.events → IsEndedWith formula c.conflicts (with_events two told_)
   two_end None a = tt
-  two_end (Some es) a = subst (λ xs. IsEndedWith formula c.conflicts (Some xs)) (sym (all_told_are two s (Some es) a)) (ended, subst (Marked formula (all_told s two).events) t.conflicts marked)
+  two_end (Some es) a = subst (λ xs. IsEndedWith formula c.conflicts (Some xs)) (sym (all_told_are two s (Some es) a)) (ended, subst (Marked formula (all_told s two).events) t.counts.marked marked)
 
 -- ---- conflicts
 module _ (formula : Problem) (c : SearchState) (e : State) (told : Option (List LogEvent)) (st : SearchStands formula c e [] told) where
   stands_on : StandsOn e c.trail
   stands_on l h =
-      let fed = st.3.fed in
-      known_is_true e fed.older fed.values fed.newer c.trail.entries (subst (λ es. IsTied es c.trail.entries) fed.parts st.3.follows.tied) l h
+      let fed = st.3.engine.fed in
+      known_is_true e fed.older fed.values fed.newer c.trail.entries (subst (λ es. IsTied es c.trail.entries) fed.parts st.3.trail.follows.tied) l h
 
   -- a stored clause that is falsified
   pub stored_concludes : (r : ℕ) → IsLive c.arena r → IsFalsified c.trail.entries (literals_at c.arena r) → (k : Conflict) → k.lits ≡ literals_at c.arena r → k.rows.items ≡ [] → Concludes formula c e told (Clause k)
@@ -112,20 +112,20 @@ module _ (formula : Problem) (c : SearchState) (e : State) (told : Option (List 
     module _ (reason : ReasonOf) (written : OfNamed e row (λ n. IsWritten n.form reason.parity)) (numbers : AreRising 1 (length e.parities) reason.sources)
         (sums : OfNamed e row (λ n. n.form ≡ sum_of_numbers e.parities reason.sources)) (clause : OfNamed e row (λ n. IsReasonClause c.trail None n.form reason.parity reason.clause)) where
       abbrev theirs : List (List Literal)
-      theirs = parities_of formula.constraints
+      theirs = e.parities
 
       is_clause : IsReasonClause c.trail None clash.0.form reason.parity reason.clause
       is_clause = clause clash.0 clash.1
 
       pub clash_numbers : AreRising 1 (length theirs) reason.sources
-      clash_numbers = subst (λ ps. AreRising 1 (length ps) reason.sources) st.3.engine.parities numbers
+      clash_numbers = numbers
 
       pub clash_explains : Explains theirs c.trail reason
       clash_explains = record {
         form = clash.0.form;
         written = written clash.0 clash.1;
         numbers = clash_numbers;
-        sums = sums clash.0 clash.1 ∙ ap (λ ps. sum_of_numbers ps reason.sources) st.3.engine.parities;
+        sums = sums clash.0 clash.1;
         one_of_each = is_clause.one_of_each;
         follows = is_clause.follows;
         assigned = clash_assigned clash.0 clash.1;
@@ -157,7 +157,7 @@ pub found_concludes : (formula : Problem) (c : SearchState) (e : State) (told : 
     → (k : Conflict) → k.lits ≡ literals_at c.arena r → k.rows.items ≡ [] → Concludes formula c e told (Clause k)
 found_concludes formula c e told st what r is finds k are none =
     let f = subst (PropagationFinds c e) is finds in
-    stored_concludes formula c e told st r (st.3.fits.nodes.live r f.0) f.1 k are none
+    stored_concludes formula c e told st r (st.4.fits.nodes.live r f.0) f.1 k are none
 
 pub is_empty_list : (lits seen : List Literal) (b : Bool) → seen ≡ lits → b ≡ (length seen == 0) → b ≡ true → lits ≡ []
 is_empty_list lits [] b same is t = sym same

@@ -2,7 +2,7 @@
 use Rattle.std.proofs.Common.{◌≡◌, refl, sym, ap, subst, ℕ, ◌+◌, ◌<◌, ◌≤◌, ℤ, true, List, [], ◌∷◌, ◌++◌, length, Option, Some, None, inr, arith, length-append}
 use Rattle.std.specs.List.{All}
 use Rattle.cx_base.specs.Literals.{Literal}
-use Rattle.cx_base.specs.Problem.{Problem, Unmet, parities_of}
+use Rattle.cx_base.specs.Problem.{Problem, Unmet}
 use Rattle.cx_semantics.specs.declared.steps.LogStep.{LogStep}
 use Rattle.cx_semantics.specs.declared.steps.LogStep.TheVariants.{ClauseWithHints}
 use Rattle.cx_semantics.specs.declared.steps.LogEvent.{LogEvent}
@@ -26,6 +26,7 @@ use Rattle.cdcl_search.specs.Tells.{IsLeft, with_events}
 use Rattle.cdcl_search.specs.Ties.{SearchStands, first_row_id}
 use Rattle.cdcl_search.proofs.SourceLaws.{sourced_is_live}
 use Rattle.cdcl_search.proofs.Places.{tied_length}
+use Rattle.cdcl_search.proofs.UnitTies.{on_clauses}
 use Rattle.cdcl_search.proofs.UnitLaws.{false_are_low}
 use Rattle.cdcl_core.specs.Concluding.{IsEndedWith, IsContradicted, IsRefutable, IsConflictClause}
 use Rattle.cdcl_core.specs.Results.{Refutes, IsEndedWithin}
@@ -55,10 +56,10 @@ module _ (formula : Problem) (id marks : ℕ) (old : Option (List LogEvent)) (sh
   k = shown.1.2
 
   ended : IsEnded formula (s.events ++ Step step ∷ [])
-  ended = chained_clause_ends formula (parities_of formula.constraints) s k.search id [] hints (record { within = refl; free = k.free }) k.chain refl
+  ended = chained_clause_ends formula k.parities s k.search id [] hints (record { within = refl; free = k.free }) k.chain refl
 
   is_marked : Marked formula (s.events ++ Step step ∷ []) marks
-  is_marked = subst (Marked formula (s.events ++ Step step ∷ [])) k.conflicts (chained_clause_is_marked formula (parities_of formula.constraints) s k.search id [] hints k.served refl)
+  is_marked = subst (Marked formula (s.events ++ Step step ∷ [])) k.conflicts (chained_clause_is_marked formula k.parities s k.search id [] hints k.served refl)
 
   ends_then : (o : Option (List LogEvent)) → AreTold o s.events → IsEndedWith formula marks (with_events (Step step ∷ []) o)
   ends_then None a = tt
@@ -77,35 +78,36 @@ no_newer (x ∷ newer) older es is long = absurd (let a = ap length is in let b 
 
 module _ (formula : Problem) (c : SearchState) (e : State) (rows : List (List Literal)) (old : Option (List LogEvent)) (st : SearchStands formula c e rows old) (lits : List Literal) (conflict : IsConflictClause c rows lits) where
   pub conflict_is_low : All (λ m. m.variable ≤ c.trail.variables) lits
-  conflict_is_low = false_are_low c.trail st.3.follows.sound lits conflict.all_false
+  conflict_is_low = false_are_low c.trail st.3.trail.follows.sound lits conflict.all_false
 
   module _ (every : length c.units.items ≡ length c.trail.entries) (room : c.next < first_row_id) where
     rest : RestOnClauses st.0.trail
     rest = subst RestOnClauses (no_newer st.3.units.newer st.3.units.older st.0.trail st.3.units.parts
-        (let long = tied_length st.0.trail c.trail.entries st.3.follows.tied in let count = st.3.units.count in omega (arith, long, count, every))) st.3.units.rest
+        (let long = tied_length st.0.trail c.trail.entries st.3.trail.follows.tied in let count = st.3.units.count in omega (arith, long, count, every))) (on_clauses c.units.items st.3.units.older st.3.units.rest)
 
     live : IsLiveSet st.0.moment.tables.clauses lits
     live = sourced_is_live formula c e rows st.0 st.3 lits conflict.sourced
 
     all_false : is_inside (negations live.0) (all_held st.0.trail) ≡ true
-    all_false = stored_is_false lits live.0 live.2 st.0.trail c.trail.entries st.3.follows.tied (λ m has. conflict.all_false m (has_of lits m has))
+    all_false = stored_is_false lits live.0 live.2 st.0.trail c.trail.entries st.3.trail.follows.tied (λ m has. conflict.all_false m (has_of lits m has))
 
     chain : HasChain st.0.moment.tables.clauses []
-    chain = falsified_has_chain st.0.moment.tables.clauses (IsOfParities formula.variables (parities_of formula.constraints)) st.0.trail st.1.serves.stands rest live.0 live.1 all_false
+    chain = falsified_has_chain st.0.moment.tables.clauses (IsOfParities formula.variables e.parities) st.0.trail st.1.serves.stands rest live.0 live.1 all_false
 
     -- each literal of the conflict's clause is false at level 0
     pub conflict_is_refutable : IsRefutable formula c.next c.conflicts old
     conflict_is_refutable = (
-      (let low = st.3.ranged.originals in omega (arith, low), omega (arith, room)),
+      (let low = st.3.log.ranged.originals in omega (arith, low), omega (arith, room)),
       (
         st.0,
         st.2,
         record {
+          parities = e.parities;
           search = st.1;
           chain = chain;
-          free = next_is_free formula first_row_id c.next (first_row_id + length rows) st.0 st.3.ranged room;
-          served = st.3.served.served;
-          conflicts = st.3.conflicts;
+          free = next_is_free formula first_row_id c.next (first_row_id + length rows) st.0 st.3.log.ranged room;
+          served = st.3.log.served.served;
+          conflicts = st.3.counts.marked;
         },
       ),
     )

@@ -5,7 +5,7 @@ use Rattle.std.proofs.lemmas.List.{take-append-le}
 use Rattle.std.specs.Prelude.{IsTrue}
 use Rattle.std.specs.FinSet as set
 use Rattle.cx_base.specs.Literals.{Literal, literal_true}
-use Rattle.cx_base.specs.Problem.{Problem, parities_of}
+use Rattle.cx_base.specs.Problem.{Problem}
 use Rattle.cx_semantics.specs.Chain.{has_literal}
 use Rattle.cx_semantics.specs.Integers.{integers_of}
 use Rattle.cx_semantics.specs.Tables.{get}
@@ -17,7 +17,6 @@ use Rattle.cx_trail.specs.Sequence.{TrailState, TakesBack, entry_at, pushed, IsT
 use Rattle.cx_trail.proofs.ValueLaws.{entry_kept}
 use Rattle.clause_arena.specs.Clauses.{Stored, IsLive, clause_at, literals_in, literals_at}
 use Rattle.watch_lists.specs.Truths.{AreOthersFalse}
-use Rattle.watch_lists.specs.Watching.{Fits}
 use Rattle.search_policy.specs.Standing.{OrderState, AllStand}
 use Rattle.search_steps.specs.Trail.{Entry, by_clause, held, back_to, level_of}
 use Rattle.search_steps.specs.Quiet.{HasTrue}
@@ -29,10 +28,10 @@ use Rattle.conflict_learn.proofs.ChainOfResolutions.{by_cases}
 use Rattle.search_steps.proofs.Bridge.{entry_last}
 use Rattle.parity_engine.specs.State.{State}
 use Rattle.cdcl_search.specs.declared.state.SearchState.{SearchState}
-use Rattle.cdcl_search.specs.Ties.{first_row_id, IsNamedBy, AreClauses, AreNumbered, AreUnits, IsFed, HasReasonAt, HaveReasons, Ties}
-use Rattle.cdcl_core.specs.Entering.{IsPut}
+use Rattle.cdcl_search.specs.Ties.{first_row_id, IsNamedBy, ClauseTies, AreNumbered, AreUnits, IsFed, IsFallingFrom, HasReasonOf, HaveReasons, Ties}
+use Rattle.cdcl_core.specs.Entering.{IsPut, HasCounts}
 use Rattle.cdcl_core.specs.Learning.{IsTaught}
-use Rattle.cdcl_core.proofs.Entering.{tied_then, trail_is, ranged_then, parities_then, conflicts_then, tidy, named_then}
+use Rattle.cdcl_core.proofs.Entering.{tied_then, trail_is, ranged_then, parities_then, conflicts_then, learned_then, stretches_then, tidy, named_then}
 
 -- ---- a literal more on the code's trail
 stand_longer : (o : OrderState) (t : TrailState) (level : ℕ) (l : Literal) (reason : Reason) → AllStand o t → AllStand o (pushed t level l reason)
@@ -70,7 +69,8 @@ old_or_new (y ∷ xs) x (suc r) h = elim (old_or_new xs x r h) [ inl a ↦ inl a
 module _ (formula : Problem) (c : SearchState) (e : State) (lits : List Literal) (back : ℕ) (s : Search) (taught : IsTaught formula c e lits back s) (hints : List ℤ)
     (c1 : SearchState) (e1 : State) (t1 : Ties formula c1 e1 taught.rows (jumped s back)) (takes : TakesBack back c.trail c1.trail)
     (o : OrderState) (stands : AllStand o c1.trail) (D : SearchState) (reason : Reason)
-    (put : IsPut (record c1 { order = o; next = c.next + 1; conflicts = c.conflicts + 1 }) D taught.first reason) where
+    (counts : HasCounts c1 c)
+    (put : IsPut (record c1 { order = o; next = c.next + 1; conflicts = c.conflicts + 1; learned = c.learned + 1 }) D taught.first reason) where
   abbrev l : Literal
   l = taught.first
 
@@ -110,13 +110,13 @@ module _ (formula : Problem) (c : SearchState) (e : State) (lits : List Literal)
 
   fed_then : IsFed after.trail D.given e1
   fed_then = record {
-    newer = record { literal = taught.first; level = level_of (back_to back s.trail); why = by_clause c.next } ∷ t1.fed.newer;
-    older = t1.fed.older;
-    parts = (let then : List Entry → List Entry = λ es. record { literal = taught.first; level = level_of (back_to back s.trail); why = by_clause c.next } ∷ es in trail_is formula c e lits back s taught hints ∙ ap then t1.fed.parts);
-    count = t1.fed.count ∙ sym put.given;
-    now = (sym t1.fed.level, t1.fed.now);
-    values = t1.fed.values;
-    level = t1.fed.level ∙ sym (ap level_of (trail_is formula c e lits back s taught hints));
+    newer = record { literal = taught.first; level = level_of (back_to back s.trail); why = by_clause c.next } ∷ t1.engine.fed.newer;
+    older = t1.engine.fed.older;
+    parts = (let then : List Entry → List Entry = λ es. record { literal = taught.first; level = level_of (back_to back s.trail); why = by_clause c.next } ∷ es in trail_is formula c e lits back s taught hints ∙ ap then t1.engine.fed.parts);
+    count = t1.engine.fed.count ∙ sym put.given;
+    now = (sym t1.engine.fed.level, t1.engine.fed.now);
+    values = t1.engine.fed.values;
+    level = t1.engine.fed.level ∙ sym (ap level_of (trail_is formula c e lits back s taught hints));
   }
 
   -- a place's reason of before, where the clauses of before are kept
@@ -124,7 +124,7 @@ module _ (formula : Problem) (c : SearchState) (e : State) (lits : List Literal)
     kept_live : (r : ℕ) → IsLive c1.arena r → IsLive D.arena r
     kept_live r live = ap is_some (kept r live) ∙ live
 
-    pub reason_stays : (i : ℕ) → i < length c1.trail.entries → (r : Reason) → HasReasonAt c1 e1 i r → HasReasonAt D e1 i r
+    pub reason_stays : (i : ℕ) → i < length c1.trail.entries → (r : Reason) → HasReasonOf c1.arena c1.trail.entries e1 i r → HasReasonOf D.arena D.trail.entries e1 i r
     reason_stays i h why.Decision has = subst (λ x. 0 < x.level) (same_entry i h) has
     reason_stays i h (why.Clause r) has =
         let lits_same : literals_at c1.arena r ≡ literals_at D.arena r = sym (ap literals_in (kept r has.live)) in
@@ -150,33 +150,41 @@ module _ (formula : Problem) (c : SearchState) (e : State) (lits : List Literal)
         }
 
   -- the ties, but for what differs where the clause has one literal
-  pub ties_entered : Fits D.watches D.arena D.trail → AreClauses after.moment.tables.clauses D after.trail → AreUnits after.moment.tables.clauses D.trail after.trail D.units.items → HaveReasons D e1
+  pub ties_entered : ClauseTies formula after.moment.tables.clauses (c.next + 1) D.arena (held 0 after.trail) → AreUnits after.moment.tables.clauses D.trail after.trail D.units.items → HaveReasons D e1
       → Ties formula D e1 [] after
-  ties_entered fits clauses units reasons = record {
-    follows = follows_then;
-    variables = ap (λ t. t.variables) trail_D ∙ t1.variables;
-    ranged = subst (λ n. IsRanged formula first_row_id n (first_row_id + 0) after.trail after.moment) (sym put.next)
-        (subst (λ r. IsRanged formula first_row_id (c.next + 1) r after.trail after.moment) (let z : first_row_id ≡ first_row_id + 0 = omega arith in z) (ranged_then formula c e lits back s taught hints));
-    sums = λ n high. ap (λ table. get table n) (parities_then formula c e lits back s taught hints) ∙ t1.sums n high;
-    numbered = subst (λ table. AreNumbered table (parities_of formula.constraints)) (sym (parities_then formula c e lits back s taught hints)) t1.numbered;
-    clauses = clauses;
-    rows_told = λ i h. absurd (omega (arith, h));
-    units = units;
-    engine = t1.engine;
-    fed = fed_then;
-    reasons = reasons;
-    fits = fits;
-    stand = subst (λ q. AllStand q D.trail) (sym put.order) (subst (AllStand o) (sym trail_D) (stand_longer o c1.trail back l reason stands));
-    phases = ap length put.phases ∙ t1.phases;
-    conflicts = conflicts_then formula c e lits back s taught hints ∙ sym put.conflicts;
-    levels = (tidy formula c e lits back s taught hints).levels;
-    served = record {
-      served = (tidy formula c e lits back s taught hints).served;
-      old_clauses = (tidy formula c e lits back s taught hints).no_old_clauses;
-      new_clauses = (tidy formula c e lits back s taught hints).no_new_clauses;
-      old_sums = (tidy formula c e lits back s taught hints).no_old_sums;
-      new_sums = (tidy formula c e lits back s taught hints).no_new_sums;
+  ties_entered clauses units reasons = record {
+    log = record {
+      ranged = subst (λ n. IsRanged formula first_row_id n (first_row_id + 0) after.trail after.moment) (sym put.next)
+          (subst (λ r. IsRanged formula first_row_id (c.next + 1) r after.trail after.moment) (let z : first_row_id ≡ first_row_id + 0 = omega arith in z) (ranged_then formula c e lits back s taught hints));
+      sums = λ n high. ap (λ table. get table n) (parities_then formula c e lits back s taught hints) ∙ t1.log.sums n high;
+      numbered = subst (λ table. AreNumbered table e1.parities) (sym (parities_then formula c e lits back s taught hints)) t1.log.numbered;
+      rows_told = λ i h. absurd (omega (arith, h));
+      served = record {
+        served = (tidy formula c e lits back s taught hints).served;
+        old_clauses = (tidy formula c e lits back s taught hints).no_old_clauses;
+        new_clauses = (tidy formula c e lits back s taught hints).no_new_clauses;
+        old_sums = (tidy formula c e lits back s taught hints).no_old_sums;
+        new_sums = (tidy formula c e lits back s taught hints).no_new_sums;
+      };
     };
+    clauses = subst (λ n. ClauseTies formula after.moment.tables.clauses n D.arena (held 0 after.trail)) (sym put.next) clauses;
+    trail = record {
+      follows = follows_then;
+      variables = ap (λ t. t.variables) trail_D ∙ t1.trail.variables;
+      stand = subst (λ q. AllStand q D.trail) (sym put.order) (subst (AllStand o) (sym trail_D) (stand_longer o c1.trail back l reason stands));
+      phased = ap length put.phases ∙ t1.trail.phased;
+    };
+    units = units;
+    engine = record { vars = t1.engine.vars; wide = t1.engine.wide; theirs = t1.engine.theirs; few = t1.engine.few; fed = fed_then };
+    reasons = reasons;
+    counts = record {
+      marked = conflicts_then formula c e lits back s taught hints ∙ sym put.conflicts;
+      falling = subst (λ n. IsFallingFrom n after.moment.learned) (sym put.next)
+          (subst (IsFallingFrom (c.next + 1)) (sym (learned_then formula c e lits back s taught hints)) (omega arith, taught.ties.counts.falling));
+      many = let many = taught.ties.counts.many in let long = ap length (learned_then formula c e lits back s taught hints) in let is = put.learned in omega (arith, many, long, is);
+      few = let few = taught.ties.counts.few in let same = stretches_then formula c e lits back s taught hints in let a = put.reductions in let b = counts.reductions in omega (arith, few, same, a, b);
+    };
+    levels = (tidy formula c e lits back s taught hints).levels;
   }
 
   -- units of before stay

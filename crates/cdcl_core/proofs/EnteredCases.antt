@@ -2,32 +2,33 @@
 use Rattle.std.proofs.Common.{◌≡◌, refl, sym, ap, ◌∙◌, subst, ℕ, zero, suc, ◌+◌, ◌-◌, ◌<◌, ℤ, true, false, cond, nat_eq, nat_le, nat_lt, is_some, List, [], ◌∷◌, ◌++◌, length, take, get_or, Some, None, ◌⊎◌, inl, inr, arith, length-append, Contains}
 use Rattle.std.proofs.lemmas.Bool.{eqb-false, ltb-true, ltb-false, and_from}
 use Rattle.cx_base.specs.Literals.{Literal}
-use Rattle.cx_base.specs.Problem.{Problem}
+use Rattle.cx_base.specs.Problem.{Problem, clauses_of}
 use Rattle.cx_semantics.specs.Chain.{has_literal, same_literals}
 use Rattle.cx_semantics.specs.Integers.{literals, integers_of}
 use Rattle.cx_semantics.specs.Tables.{get}
 use Rattle.cx_trail.specs.declared.entry.Reason.{Reason}
 use Rattle.cx_trail.specs.declared.entry.Reason.TheVariants as why
 use Rattle.cx_trail.specs.Sequence.{TakesBack, entry_at}
-use Rattle.clause_arena.specs.Clauses.{Stored, IsLive, clause_at, literals_in, literals_at, id_in, id_at}
+use Rattle.clause_arena.specs.Clauses.{Stored, IsLive, clause_at, literals_in, literals_at, id_in, id_at, learned_in}
 use Rattle.watch_lists.specs.Truths.{AreOthersFalse}
-use Rattle.watch_lists.specs.Watching.{Fits, IsAttached}
+use Rattle.watch_lists.specs.Watching.{IsAttached}
 use Rattle.search_policy.specs.Standing.{OrderState, AllStand}
 use Rattle.search_steps.specs.Trail.{Entry, by_clause, held, back_to, level_of}
 use Rattle.search_steps.specs.Quiet.{HasTrue}
 use Rattle.search_steps.specs.Search.{Search, jumped}
 use Rattle.search_steps.specs.LogSteps.{after_round}
 use Rattle.conflict_learn.proofs.ChainOfResolutions.{by_cases}
-use Rattle.watch_lists.proofs.EventLaws.{fits_pushed}
 use Rattle.parity_engine.specs.State.{State}
-use Rattle.search_steps.specs.LogSteps.{RestOnClauses}
+use Rattle.cdcl_search.proofs.UnitTies.{on_last}
+use Rattle.cdcl_search.proofs.Growing.{watched_grows}
 use Rattle.cx_semantics.proofs.Closure.{inside_itself}
 use Rattle.cx_semantics.proofs.Members.{has_at_head}
+use Rattle.std.specs.Prelude.{IsTrue}
 use Rattle.cdcl_search.specs.declared.state.SearchState.{SearchState}
-use Rattle.cdcl_search.specs.Ties.{first_row_id, IsNamedBy, AreUnits, HasReasonAt, HaveReasons, Ties}
+use Rattle.cdcl_search.specs.Ties.{first_row_id, IsNamedBy, AreUnits, RestOnUnits, HasReasonOf, HaveReasons, Ties}
 use Rattle.cdcl_search.proofs.Places.{tied_length}
-use Rattle.cdcl_search.specs.Ties.{IsStored, IsClauseReasonAt, IsCovered}
-use Rattle.cdcl_core.specs.Entering.{EntersUnit, EntersClause}
+use Rattle.cdcl_search.specs.Ties.{IsKept, IsClauseReasonOf, IsHeld, IsWatched, HasTwo}
+use Rattle.cdcl_core.specs.Entering.{EntersUnit, EntersClause, HasCounts}
 use Rattle.cdcl_core.specs.Learning.{IsTaught}
 use Rattle.cdcl_core.proofs.Entering.{trail_is, get_new, named_then, was}
 use Rattle.cdcl_core.proofs.Entered.{true_more, kept_at, new_at, old_or_new, length_D, same_entry, same_take, last_entry, place, level_D, reason_stays, ties_entered, unit_stays}
@@ -46,7 +47,7 @@ same_itself lits = and_from _ _ (inside_itself lits) (inside_itself lits)
 
 module _ (formula : Problem) (c : SearchState) (e : State) (lits : List Literal) (back : ℕ) (s : Search) (taught : IsTaught formula c e lits back s) (hints : List ℤ)
     (c1 : SearchState) (e1 : State) (t1 : Ties formula c1 e1 taught.rows (jumped s back)) (takes : TakesBack back c.trail c1.trail)
-    (o : OrderState) (stands : AllStand o c1.trail) (D : SearchState) where
+    (o : OrderState) (stands : AllStand o c1.trail) (D : SearchState) (counts : HasCounts c1 c) where
   abbrev l : Literal
   l = taught.first
 
@@ -60,7 +61,7 @@ module _ (formula : Problem) (c : SearchState) (e : State) (lits : List Literal)
   true_then clause h = subst (λ es. HasTrue (held 0 es) clause) (sym (trail_is formula c e lits back s taught hints)) (true_more new (back_to back s.trail) clause h)
 
   -- ---- several literals
-  module _ (lbd : ℕ) (enters : EntersClause (record c1 { order = o; next = c.next + 1; conflicts = c.conflicts + 1 }) D lits taught.first c.next lbd) where
+  module _ (lbd : ℕ) (enters : EntersClause (record c1 { order = o; next = c.next + 1; conflicts = c.conflicts + 1; learned = c.learned + 1 }) D lits taught.first c.next lbd) where
     abbrev reason : Reason
     reason = why.Clause (length c1.arena.clauses)
 
@@ -78,69 +79,104 @@ module _ (formula : Problem) (c : SearchState) (e : State) (lits : List Literal)
         (λ q. subst (IsAttached D.watches.attached) (sym (Rattle.std.proofs.Common.eqb-true r (length c1.arena.clauses) q)) enters.attached)
         (λ q. enters.others r (eqb-false r (length c1.arena.clauses) q) ∙ a)
 
-    stored_then : (r : ℕ) → IsLive D.arena r → IsStored after.moment.tables.clauses D r
-    stored_then r live = elim (old_or_new c1.arena.clauses (Some stored) r (sym (ap (λ xs. is_some (get_or xs r None)) enters.added) ∙ live)) [
+    old_or_last : (r : ℕ) → IsLive D.arena r → IsLive c1.arena r ⊎ (r ≡ length c1.arena.clauses)
+    old_or_last r live = old_or_new c1.arena.clauses (Some stored) r (sym (ap (λ xs. is_some (get_or xs r None)) enters.added) ∙ live)
+
+    stored_then : HasTwo lits → (r : ℕ) → IsLive D.arena r → IsKept formula after.moment.tables.clauses (c.next + 1) D.arena r
+    stored_then two r live = elim (old_or_last r live) [
       | inl old ↦
           let st = t1.clauses.stored r old in
           let same = clause_kept r old in
+          let low = st.low in
+          let next = counts.next in
+          let room = taught.room in
           record {
-            attached = attached_still r st.attached;
-            named = subst (λ x. IsNamedBy after.moment.tables.clauses (literals_in x) (id_in x)) (sym same) (named_then formula c e lits back s taught hints (literals_at c1.arena r) (id_at c1.arena r) st.low st.named);
-            low = subst (λ x. id_in x < first_row_id) (sym same) st.low;
+            wide = subst (λ x. HasTwo (literals_in x)) (sym same) st.wide;
+            named = subst (λ x. IsNamedBy after.moment.tables.clauses (literals_in x) (id_in x)) (sym same) (named_then formula c e lits back s taught hints (literals_at c1.arena r) (id_at c1.arena r) (omega (arith, low, next, room)) st.named);
+            low = subst (λ x. id_in x < c.next + 1) (sym same) (omega (arith, low, next));
+            late = subst (λ x. IsTrue (learned_in x) → length (clauses_of formula.constraints) < id_in x) (sym same) st.late;
           }
       | inr is ↦
           let same : clause_at D.arena r ≡ Some stored = ap (clause_at D.arena) is ∙ clause_new in
           record {
-            attached = subst (IsAttached D.watches.attached) (sym is) enters.attached;
+            wide = subst (λ x. HasTwo (literals_in x)) (sym same) two;
             named = subst (λ x. IsNamedBy after.moment.tables.clauses (literals_in x) (id_in x)) (sym same) (record { clause = lits; live = get_new formula c e lits back s taught hints; same = same_itself lits });
-            low = subst (λ x. id_in x < first_row_id) (sym same) taught.room;
+            low = subst (λ x. id_in x < c.next + 1) (sym same) (omega arith);
+            late = subst (λ x. IsTrue (learned_in x) → length (clauses_of formula.constraints) < id_in x) (sym same) (λ _. taught.ties.log.ranged.originals);
           }
     ]
 
-    covered_then : (m : ℕ) (clause : List Literal) → m < first_row_id → get after.moment.tables.clauses m ≡ Some clause → IsCovered D after.trail clause
+    covered_then : (m : ℕ) (clause : List Literal) → m < first_row_id → get after.moment.tables.clauses m ≡ Some clause → IsHeld D.arena (held 0 after.trail) m clause
     covered_then m clause low live = elim (was formula c e lits back s taught hints m clause low live) [
-      | inl is ↦ inl (length c1.arena.clauses, enters.attached, ap (λ x. same_literals (literals_in x) clause) clause_new ∙ ap (same_literals lits) is ∙ same_itself lits)
+      | inl is ↦ inl (length c1.arena.clauses, ap is_some clause_new, ap id_in clause_new ∙ sym is.1)
       | inr old ↦ elim (t1.clauses.covered m clause low old) [
-        | inl (r, attached, same) ↦ inl (r, attached_still r attached, ap (λ x. same_literals (literals_in x) clause) (clause_kept r (t1.fits.nodes.live r attached)) ∙ same)
+        | inl (r, r_live, id) ↦ inl (r, ap is_some (clause_kept r r_live) ∙ r_live, ap id_in (clause_kept r r_live) ∙ id)
         | inr (inl taut) ↦ inr (inl taut)
         | inr (inr held_one) ↦ inr (inr (true_then clause held_one))
       ]
     ]
+
+    old_id : (r : ℕ) → IsLive c1.arena r → id_at D.arena r < c.next
+    old_id r old = let low = (t1.clauses.stored r old).low in let next = counts.next in let same = ap id_in (clause_kept r old) in omega (arith, low, next, same)
+
+    last_id : id_at D.arena (length c1.arena.clauses) ≡ c.next
+    last_id = ap id_in clause_new
+
+    apart_then : (r q : ℕ) → IsLive D.arena r → IsLive D.arena q → id_at D.arena r ≡ id_at D.arena q → r ≡ q
+    apart_then r q r_live q_live same = elim (old_or_last r r_live) [
+      | inl r_old ↦ elim (old_or_last q q_live) [
+        | inl q_old ↦ t1.clauses.apart r q r_old q_old (sym (ap id_in (clause_kept r r_old)) ∙ same ∙ ap id_in (clause_kept q q_old))
+        | inr q_is ↦ absurd (let low = old_id r r_old in let at = ap (id_at D.arena) q_is in let last = last_id in omega (arith, low, same, at, last))
+      ]
+      | inr r_is ↦ elim (old_or_last q q_live) [
+        | inl q_old ↦ absurd (let low = old_id q q_old in let at = ap (id_at D.arena) r_is in let last = last_id in omega (arith, low, same, at, last))
+        | inr q_is ↦ r_is ∙ sym q_is
+      ]
+    ]
+
+    pub clause_watched : IsWatched c1.watches c1.arena c1.trail → IsWatched D.watches D.arena D.trail
+    clause_watched w = record {
+      fits = enters.fits;
+      all = λ r live. elim (old_or_last r live) [
+        | inl old ↦ attached_still r (w.all r old)
+        | inr is ↦ subst (IsAttached D.watches.attached) (sym is) enters.attached
+      ];
+    }
 
     units_then : AreUnits after.moment.tables.clauses D.trail after.trail D.units.items
     units_then =
         let put = enters.put in
         let count = ap length enters.units in
         let few = t1.units.few in
-        let long = length_D formula c e lits back s taught hints c1 e1 t1 takes o stands D reason put in
+        let long = length_D formula c e lits back s taught hints c1 e1 t1 takes o stands D reason counts put in
         record {
           few = omega (arith, count, few, long);
-          level_0 = λ i h. (unit_stays formula c e lits back s taught hints c1 e1 t1 takes o stands D reason put D.units.items enters.units i h).0;
-          named = λ i h. (unit_stays formula c e lits back s taught hints c1 e1 t1 takes o stands D reason put D.units.items enters.units i h).1;
+          level_0 = λ i h. (unit_stays formula c e lits back s taught hints c1 e1 t1 takes o stands D reason counts put D.units.items enters.units i h).0;
+          named = λ i h. (unit_stays formula c e lits back s taught hints c1 e1 t1 takes o stands D reason counts put D.units.items enters.units i h).1;
           low = λ i h. subst (λ us. get_or us i 0 < first_row_id) (sym enters.units) (t1.units.low i (omega (arith, count, h)));
           newer = new ∷ t1.units.newer;
           older = t1.units.older;
           parts = (let then : List Entry → List Entry = λ es. new ∷ es in trail_is formula c e lits back s taught hints ∙ ap then t1.units.parts);
           count = t1.units.count ∙ sym count;
-          rest = t1.units.rest;
-          all = λ above i far h. elim (place formula c e lits back s taught hints c1 e1 t1 takes o stands D reason put i h) [
+          rest = subst (λ ids. RestOnUnits ids t1.units.older) (sym enters.units) t1.units.rest;
+          all = λ above i far h. elim (place formula c e lits back s taught hints c1 e1 t1 takes o stands D reason counts put i h) [
             | inl less ↦
-                let at : D.trail.level ≡ back = level_D formula c e lits back s taught hints c1 e1 t1 takes o stands D reason put in
+                let at : D.trail.level ≡ back = level_D formula c e lits back s taught hints c1 e1 t1 takes o stands D reason counts put in
                 let was_at = takes.level in
-                subst (λ x. 0 < x.level) (same_entry formula c e lits back s taught hints c1 e1 t1 takes o stands D reason put i less)
+                subst (λ x. 0 < x.level) (same_entry formula c e lits back s taught hints c1 e1 t1 takes o stands D reason counts put i less)
                 (t1.units.all (omega (arith, above, at, was_at)) i (omega (arith, far, count)) less)
             | inr is ↦
-                let at : D.trail.level ≡ back = level_D formula c e lits back s taught hints c1 e1 t1 takes o stands D reason put in
-                subst (λ x. 0 < x.level) (sym (last_entry formula c e lits back s taught hints c1 e1 t1 takes o stands D reason put i is)) (let high : 0 < back = omega (arith, above, at) in high)
+                let at : D.trail.level ≡ back = level_D formula c e lits back s taught hints c1 e1 t1 takes o stands D reason counts put in
+                subst (λ x. 0 < x.level) (sym (last_entry formula c e lits back s taught hints c1 e1 t1 takes o stands D reason counts put i is)) (let high : 0 < back = omega (arith, above, at) in high)
           ];
         }
 
-    others_false : AreOthersFalse c1.trail.entries lits l → IsClauseReasonAt D (length c1.trail.entries) (length c1.arena.clauses)
+    others_false : AreOthersFalse c1.trail.entries lits l → IsClauseReasonOf D.arena D.trail.entries (length c1.trail.entries) (length c1.arena.clauses)
     others_false others =
         let put = enters.put in
-        let here : entry_at D.trail.entries (length c1.trail.entries) ≡ record { literal = l; level = back; reason = reason } = last_entry formula c e lits back s taught hints c1 e1 t1 takes o stands D reason put (length c1.trail.entries) refl in
+        let here : entry_at D.trail.entries (length c1.trail.entries) ≡ record { literal = l; level = back; reason = reason } = last_entry formula c e lits back s taught hints c1 e1 t1 takes o stands D reason counts put (length c1.trail.entries) refl in
         let lits_are : lits ≡ literals_at D.arena (length c1.arena.clauses) = sym (ap literals_in clause_new) in
-        let all : c1.trail.entries ≡ take (length c1.trail.entries) D.trail.entries = sym (Rattle.std.proofs.Math.Seq.take-length c1.trail.entries) ∙ same_take formula c e lits back s taught hints c1 e1 t1 takes o stands D reason put (length c1.trail.entries) (omega arith) in
+        let all : c1.trail.entries ≡ take (length c1.trail.entries) D.trail.entries = sym (Rattle.std.proofs.Math.Seq.take-length c1.trail.entries) ∙ same_take formula c e lits back s taught hints c1 e1 t1 takes o stands D reason counts put (length c1.trail.entries) (omega arith) in
         record {
           live = ap is_some clause_new;
           has = subst (λ x. Contains (literals_at D.arena (length c1.arena.clauses)) x.literal) (sym here) (subst (λ xs. Contains xs l) lits_are (subst (λ xs. Contains xs l) (sym taught.parts) (0, omega arith, refl)));
@@ -152,21 +188,21 @@ module _ (formula : Problem) (c : SearchState) (e : State) (lits : List Literal)
     reasons_then others i far h =
         let put = enters.put in
         let count = ap length enters.units in
-        elim (place formula c e lits back s taught hints c1 e1 t1 takes o stands D reason put i h) [
+        elim (place formula c e lits back s taught hints c1 e1 t1 takes o stands D reason counts put i h) [
           | inl less ↦
-              reason_stays formula c e lits back s taught hints c1 e1 t1 takes o stands D reason put clause_kept i less (entry_at D.trail.entries i).reason
-              (subst (λ x. HasReasonAt c1 e1 i x.reason) (same_entry formula c e lits back s taught hints c1 e1 t1 takes o stands D reason put i less) (t1.reasons i (omega (arith, far, count)) less))
+              reason_stays formula c e lits back s taught hints c1 e1 t1 takes o stands D reason counts put clause_kept i less (entry_at D.trail.entries i).reason
+              (subst (λ x. HasReasonOf c1.arena c1.trail.entries e1 i x.reason) (same_entry formula c e lits back s taught hints c1 e1 t1 takes o stands D reason counts put i less) (t1.reasons i (omega (arith, far, count)) less))
           | inr is ↦
-              let here = last_entry formula c e lits back s taught hints c1 e1 t1 takes o stands D reason put i is in
-              subst (λ x. HasReasonAt D e1 i x.reason) (sym here) (subst (λ k. IsClauseReasonAt D k (length c1.arena.clauses)) (sym is) (others_false others))
+              let here = last_entry formula c e lits back s taught hints c1 e1 t1 takes o stands D reason counts put i is in
+              subst (λ x. HasReasonOf D.arena D.trail.entries e1 i x.reason) (sym here) (subst (λ k. IsClauseReasonOf D.arena D.trail.entries k (length c1.arena.clauses)) (sym is) (others_false others))
         ]
 
-    pub clause_ties : AreOthersFalse c1.trail.entries lits l → Ties formula D e1 [] after
-    clause_ties others = ties_entered formula c e lits back s taught hints c1 e1 t1 takes o stands D reason enters.put enters.fits (record { stored = stored_then; covered = covered_then }) units_then (reasons_then others)
+    pub clause_ties : HasTwo lits → AreOthersFalse c1.trail.entries lits l → Ties formula D e1 [] after
+    clause_ties two others = ties_entered formula c e lits back s taught hints c1 e1 t1 takes o stands D reason counts enters.put (record { stored = stored_then two; covered = covered_then; apart = apart_then }) units_then (reasons_then others)
 
   -- ---- one literal
   module _ (one : length lits ≡ 1) (none_above : back ≡ 0) (all_units : length c1.units.items ≡ length c1.trail.entries)
-      (enters : EntersUnit (record c1 { order = o; next = c.next + 1; conflicts = c.conflicts + 1 }) D taught.first c.next) where
+      (enters : EntersUnit (record c1 { order = o; next = c.next + 1; conflicts = c.conflicts + 1; learned = c.learned + 1 }) D taught.first c.next) where
     single : lits ≡ taught.first ∷ []
     single = taught.parts ∙ ap (λ ms. taught.first ∷ ms) (no_more taught.more (sym (ap length taught.parts) ∙ one))
       where
@@ -174,15 +210,21 @@ module _ (formula : Problem) (c : SearchState) (e : State) (lits : List Literal)
         no_more [] h = refl
         no_more (m ∷ ms) h = absurd (omega (arith, h))
 
-    unit_stored : (r : ℕ) → IsLive D.arena r → IsStored after.moment.tables.clauses D r
+    unit_stored : (r : ℕ) → IsLive D.arena r → IsKept formula after.moment.tables.clauses (c.next + 1) D.arena r
     unit_stored r live =
         let st = t1.clauses.stored r (subst (λ a. IsLive a r) enters.arena live) in
-        record {
-          attached = ap (λ w. get_or w.attached r false) enters.watches ∙ st.attached;
-          named = subst (λ a. IsNamedBy after.moment.tables.clauses (literals_at a r) (id_at a r)) (sym enters.arena)
-              (named_then formula c e lits back s taught hints (literals_at c1.arena r) (id_at c1.arena r) st.low st.named);
-          low = subst (λ a. id_at a r < first_row_id) (sym enters.arena) st.low;
-        }
+        let low = st.low in
+        let next = counts.next in
+        let room = taught.room in
+        subst (λ a. IsKept formula after.moment.tables.clauses (c.next + 1) a r) (sym enters.arena) (record {
+          wide = st.wide;
+          named = named_then formula c e lits back s taught hints (literals_at c1.arena r) (id_at c1.arena r) (omega (arith, low, next, room)) st.named;
+          low = omega (arith, low, next);
+          late = st.late;
+        })
+
+    unit_apart : (r q : ℕ) → IsLive D.arena r → IsLive D.arena q → id_at D.arena r ≡ id_at D.arena q → r ≡ q
+    unit_apart = subst (λ a. (r q : ℕ) → IsLive a r → IsLive a q → id_at a r ≡ id_at a q → r ≡ q) (sym enters.arena) t1.clauses.apart
 
     at_zero : level_of (back_to back s.trail) ≡ 0
     at_zero = Rattle.cdcl_core.proofs.Entering.level_then formula c e lits back s taught hints ∙ none_above
@@ -192,11 +234,11 @@ module _ (formula : Problem) (c : SearchState) (e : State) (lits : List Literal)
         ∙ ap (λ k. has_literal (cond (nat_le k 0) (taught.first ∷ held 0 (back_to back s.trail)) (held 0 (back_to back s.trail))) taught.first) at_zero
         ∙ has_at_head taught.first (held 0 (back_to back s.trail))
 
-    unit_covered : (m : ℕ) (clause : List Literal) → m < first_row_id → get after.moment.tables.clauses m ≡ Some clause → IsCovered D after.trail clause
+    unit_covered : (m : ℕ) (clause : List Literal) → m < first_row_id → get after.moment.tables.clauses m ≡ Some clause → IsHeld D.arena (held 0 after.trail) m clause
     unit_covered m clause low live = elim (was formula c e lits back s taught hints m clause low live) [
-      | inl is ↦ inr (inr (record { l = taught.first; has_it = ap (λ xs. has_literal xs taught.first) (is ∙ single) ∙ has_at_head taught.first []; is_held = held_now }))
+      | inl is ↦ inr (inr (record { l = taught.first; has_it = ap (λ xs. has_literal xs taught.first) (is.0 ∙ single) ∙ has_at_head taught.first []; is_held = held_now }))
       | inr old ↦ elim (t1.clauses.covered m clause low old) [
-        | inl (r, attached, same) ↦ inl (r, ap (λ w. get_or w.attached r false) enters.watches ∙ attached, ap (λ a. same_literals (literals_at a r) clause) enters.arena ∙ same)
+        | inl (r, r_live, id) ↦ inl (r, subst (λ a. IsLive a r) (sym enters.arena) r_live, ap (λ a. id_at a r) enters.arena ∙ id)
         | inr (inl taut) ↦ inr (inl taut)
         | inr (inr held_one) ↦ inr (inr (true_then clause held_one))
       ]
@@ -212,24 +254,24 @@ module _ (formula : Problem) (c : SearchState) (e : State) (lits : List Literal)
     front_id : (i : ℕ) → i < length c1.units.items → get_or D.units.items i 0 ≡ get_or c1.units.items i 0
     front_id i h = ap (λ us. get_or us i 0) enters.units ∙ id_front c1.units.items c.next i h
 
-    last_id : (i : ℕ) → i ≡ length c1.units.items → get_or D.units.items i 0 ≡ c.next
-    last_id i is = ap (λ us. get_or us i 0) enters.units ∙ ap (λ k. get_or (c1.units.items ++ c.next ∷ []) k 0) is ∙ id_last c1.units.items c.next
+    unit_id : (i : ℕ) → i ≡ length c1.units.items → get_or D.units.items i 0 ≡ c.next
+    unit_id i is = ap (λ us. get_or us i 0) enters.units ∙ ap (λ k. get_or (c1.units.items ++ c.next ∷ []) k 0) is ∙ id_last c1.units.items c.next
 
     unit_last : (i : ℕ) → i ≡ length c1.units.items → entry_at D.trail.entries i ≡ record { literal = taught.first; level = back; reason = why.Decision }
-    unit_last i is = last_entry formula c e lits back s taught hints c1 e1 t1 takes o stands D why.Decision enters.put i (is ∙ all_units)
+    unit_last i is = last_entry formula c e lits back s taught hints c1 e1 t1 takes o stands D why.Decision counts enters.put i (is ∙ all_units)
 
     unit_named : (i : ℕ) → i < length D.units.items → IsNamedBy after.moment.tables.clauses ((entry_at D.trail.entries i).literal ∷ []) (get_or D.units.items i 0)
     unit_named i h = elim (unit_place i h) [
       | inl less ↦ subst (λ m. IsNamedBy after.moment.tables.clauses ((entry_at D.trail.entries i).literal ∷ []) m) (sym (front_id i less))
-          (unit_stays formula c e lits back s taught hints c1 e1 t1 takes o stands D why.Decision enters.put c1.units.items refl i less).1
-      | inr is ↦ subst (λ m. IsNamedBy after.moment.tables.clauses ((entry_at D.trail.entries i).literal ∷ []) m) (sym (last_id i is))
+          (unit_stays formula c e lits back s taught hints c1 e1 t1 takes o stands D why.Decision counts enters.put c1.units.items refl i less).1
+      | inr is ↦ subst (λ m. IsNamedBy after.moment.tables.clauses ((entry_at D.trail.entries i).literal ∷ []) m) (sym (unit_id i is))
           (subst (λ x. IsNamedBy after.moment.tables.clauses (x.literal ∷ []) c.next) (sym (unit_last i is))
           (record { clause = lits; live = get_new formula c e lits back s taught hints; same = ap (same_literals (taught.first ∷ [])) single ∙ same_itself (taught.first ∷ []) }))
     ]
 
     older_are_all : back_to back s.trail ≡ t1.units.older
     older_are_all = t1.units.parts ∙ none_newer t1.units.newer (let n = ap length t1.units.parts in let m = length-append t1.units.newer t1.units.older in let k = t1.units.count in
-        let tied = tied_length (back_to back s.trail) c1.trail.entries t1.follows.tied in let a = all_units in omega (arith, n, m, k, tied, a))
+        let tied = tied_length (back_to back s.trail) c1.trail.entries t1.trail.follows.tied in let a = all_units in omega (arith, n, m, k, tied, a))
       where
         none_newer : (xs : List Entry) → length xs ≡ 0 → xs ++ t1.units.older ≡ t1.units.older
         none_newer [] h = refl
@@ -238,32 +280,33 @@ module _ (formula : Problem) (c : SearchState) (e : State) (lits : List Literal)
     unit_units : AreUnits after.moment.tables.clauses D.trail after.trail D.units.items
     unit_units =
         let long = units_long in
-        let trail_long = length_D formula c e lits back s taught hints c1 e1 t1 takes o stands D why.Decision enters.put in
+        let trail_long = length_D formula c e lits back s taught hints c1 e1 t1 takes o stands D why.Decision counts enters.put in
         let a = all_units in
         record {
           few = omega (arith, long, trail_long, a);
           level_0 = λ i h. elim (unit_place i h) [
-            | inl less ↦ (unit_stays formula c e lits back s taught hints c1 e1 t1 takes o stands D why.Decision enters.put c1.units.items refl i less).0
+            | inl less ↦ (unit_stays formula c e lits back s taught hints c1 e1 t1 takes o stands D why.Decision counts enters.put c1.units.items refl i less).0
             | inr is ↦ ap (λ x. x.level) (unit_last i is) ∙ none_above
           ];
           named = unit_named;
           low = λ i h. elim (unit_place i h) [
             | inl less ↦ subst (λ m. m < first_row_id) (sym (front_id i less)) (t1.units.low i less)
-            | inr is ↦ subst (λ m. m < first_row_id) (sym (last_id i is)) taught.room
+            | inr is ↦ subst (λ m. m < first_row_id) (sym (unit_id i is)) taught.room
           ];
           newer = [];
           older = new ∷ back_to back s.trail;
           parts = trail_is formula c e lits back s taught hints;
-          count = (let tied = tied_length (back_to back s.trail) c1.trail.entries t1.follows.tied in omega (arith, tied, long, a));
-          rest = ((c.next, refl), subst RestOnClauses (sym older_are_all) t1.units.rest);
-          all = λ above i far h. absurd (let at = level_D formula c e lits back s taught hints c1 e1 t1 takes o stands D why.Decision enters.put in let z = none_above in omega (arith, above, at, z));
+          count = (let tied = tied_length (back_to back s.trail) c1.trail.entries t1.trail.follows.tied in omega (arith, tied, long, a));
+          rest = subst (λ ids. RestOnUnits ids (new ∷ back_to back s.trail)) (sym enters.units) (on_last c1.units.items c.next new (back_to back s.trail) refl (subst (RestOnUnits c1.units.items) (sym older_are_all) t1.units.rest));
+          all = λ above i far h. absurd (let at = level_D formula c e lits back s taught hints c1 e1 t1 takes o stands D why.Decision counts enters.put in let z = none_above in omega (arith, above, at, z));
         }
 
     pub unit_ties : Ties formula D e1 [] after
     unit_ties =
-        let put = enters.put in
-        ties_entered formula c e lits back s taught hints c1 e1 t1 takes o stands D why.Decision put
-        (subst (λ w. Fits w D.arena D.trail) (sym enters.watches) (subst (λ a. Fits c1.watches a D.trail) (sym enters.arena)
-        (subst (Fits c1.watches c1.arena) (sym put.trail) (fits_pushed c1.watches c1.arena c1.trail c1.trail.level taught.first why.Decision (omega arith) t1.fits))))
-        (record { stored = unit_stored; covered = unit_covered }) unit_units
-        (λ i far h. absurd (let long = units_long in let trail_long = length_D formula c e lits back s taught hints c1 e1 t1 takes o stands D why.Decision put in let a = all_units in omega (arith, far, h, long, trail_long, a)))
+        ties_entered formula c e lits back s taught hints c1 e1 t1 takes o stands D why.Decision counts enters.put (record { stored = unit_stored; covered = unit_covered; apart = unit_apart }) unit_units
+        (λ i far h. absurd (let long = units_long in let trail_long = length_D formula c e lits back s taught hints c1 e1 t1 takes o stands D why.Decision counts enters.put in let a = all_units in omega (arith, far, h, long, trail_long, a)))
+
+    pub unit_watched : IsWatched c1.watches c1.arena c1.trail → IsWatched D.watches D.arena D.trail
+    unit_watched w =
+        subst (λ x. IsWatched x D.arena D.trail) (sym enters.watches) (subst (λ a. IsWatched c1.watches a D.trail) (sym enters.arena)
+        (subst (IsWatched c1.watches c1.arena) (sym enters.put.trail) (watched_grows c1 c1.trail.level taught.first why.Decision (omega arith) w)))

@@ -2,7 +2,7 @@
 use Rattle.std.proofs.Common.{◌≡◌, ◌≢◌, refl, sym, ap, ◌∙◌, subst, ℕ, ◌+◌, ◌-◌, ◌<◌, ℤ, false, cond, nat_eq, eq-eqb, List, [], ◌∷◌, length, Some, ◌⊎◌, inl, inr, arith}
 use Rattle.std.proofs.lemmas.Bool.{eqb-false}
 use Rattle.cx_base.specs.Literals.{Literal}
-use Rattle.cx_base.specs.Problem.{Problem, parities_of, AreWithin}
+use Rattle.cx_base.specs.Problem.{Problem, AreWithin}
 use Rattle.cx_semantics.specs.declared.steps.LogStep.TheVariants.{ClauseWithHints}
 use Rattle.cx_semantics.specs.Integers.{literals, integers_of}
 use Rattle.cx_semantics.specs.LogRules.{derives_empty_clause}
@@ -13,21 +13,22 @@ use Rattle.cx_trail.specs.declared.entry.Reason.TheVariants as why
 use Rattle.cx_trail.specs.Sequence.{TrailState, TakesBack, pushed, IsOpenIn}
 use Rattle.search_steps.specs.Trail.{Entry, by_clause, back_to, level_of}
 use Rattle.search_steps.specs.Quiet.{IsOfParities}
-use Rattle.search_steps.specs.Search.{Search, IsSearch, IsServed as Served, IsTidy, IsLearnedOf}
-use Rattle.search_steps.specs.LogSteps.{IsAddition, after_learned, after_round}
+use Rattle.search_steps.specs.Search.{Search, IsSearch, IsServed as Served, IsTidy, IsLearnedOf, marked}
+use Rattle.search_steps.specs.LogSteps.{IsAddition, AreTemporary, after_learned, after_round}
 use Rattle.search_steps.specs.Tied.{IsTied}
 use Rattle.search_steps.specs.Ids.{IsRanged}
 use Rattle.search_steps.proofs.TrailLaws.{back_level}
 use Rattle.search_steps.proofs.Rounds.{deleted_trail, deleted_get, deleted_parities, deleted_conflicts}
 use Rattle.search_steps.proofs.RoundEnds.{round_is_tidy, round_stays_tied}
-use Rattle.search_steps.proofs.IdLaws.{ranged_round_keeps, round_ranged, next_is_free, low_is_no_row}
+use Rattle.search_steps.proofs.IdLaws.{ranged_round_keeps, round_ranged, next_is_free, low_is_no_row, row_ids_are_temporary, clause_ranged, mark_ranged}
 use Rattle.search_steps.proofs.StartLaws.{variables_are_within}
 use Rattle.conflict_learn.specs.Learning.{negated_at}
 use Rattle.conflict_learn.proofs.ChainOfResolutions.{by_cases}
 use Rattle.parity_engine.specs.State.{State}
 use Rattle.cdcl_search.specs.declared.state.SearchState.{SearchState}
-use Rattle.cdcl_search.specs.Ties.{first_row_id, IsNamedBy}
+use Rattle.cdcl_search.specs.Ties.{first_row_id, IsNamedBy, stretches}
 use Rattle.cdcl_search.proofs.TableLaws.{no_clause}
+use Rattle.cdcl_search.proofs.DeletedRows.{temporary_learned, temporary_stretches}
 use Rattle.cdcl_core.specs.Learning.{IsTaught}
 
 -- literals of the trail are within the variables
@@ -44,7 +45,7 @@ below_first t first (q ∷ rest) h a = (let less = a.0 in omega (arith, less, h)
 
 module _ (formula : Problem) (c : SearchState) (e : State) (lits : List Literal) (back : ℕ) (s : Search) (taught : IsTaught formula c e lits back s) (hints : List ℤ) where
   abbrev IsRow : List Literal → Type 0
-  IsRow = IsOfParities formula.variables (parities_of formula.constraints)
+  IsRow = IsOfParities formula.variables e.parities
 
   abbrev n : ℕ
   n = c.next
@@ -60,11 +61,11 @@ module _ (formula : Problem) (c : SearchState) (e : State) (lits : List Literal)
 
   pub within : AreWithin formula.variables lits
   within = subst (AreWithin formula.variables) (sym taught.placed.are)
-      (negated_within formula c.trail taught.ties.variables taught.ties.follows.sound (taught.placed.first ∷ taught.placed.rest)
+      (negated_within formula c.trail taught.ties.trail.variables taught.ties.trail.follows.sound (taught.placed.first ∷ taught.placed.rest)
       (taught.placed.within, below_first c.trail taught.placed.first taught.placed.rest taught.placed.within taught.placed.falling.0))
 
   pub addition : IsAddition formula s.moment.tables.clauses n zs
-  addition = record { within = variables_are_within formula.variables lits within; free = next_is_free formula first_row_id c.next (first_row_id + length taught.rows) s taught.ties.ranged taught.room }
+  addition = record { within = variables_are_within formula.variables lits within; free = next_is_free formula first_row_id c.next (first_row_id + length taught.rows) s taught.ties.log.ranged taught.room }
 
   pub goes_on : derives_empty_clause (ClauseWithHints n zs hints) ≡ false
   goes_on = ap (λ xs. derives_empty_clause (ClauseWithHints n (integers_of xs) hints)) taught.parts
@@ -73,20 +74,20 @@ module _ (formula : Problem) (c : SearchState) (e : State) (lits : List Literal)
   learned = subst (λ xs. IsLearnedOf s.trail back xs l) (sym taught.integers) taught.learned
 
   served : Served s
-  served = record { served = taught.ties.served.served; no_old_clauses = taught.ties.served.old_clauses; no_old_sums = taught.ties.served.old_sums }
+  served = record { served = taught.ties.log.served.served; no_old_clauses = taught.ties.log.served.old_clauses; no_old_sums = taught.ties.log.served.old_sums }
 
-  pub round_is_search : IsSearch formula (parities_of formula.constraints) after
-  round_is_search = ranged_round_keeps formula first_row_id c.next (first_row_id + length taught.rows) s taught.ties.ranged n zs hints back (omega arith) taught.room (parities_of formula.constraints) taught.search l served taught.ties.levels
+  pub round_is_search : IsSearch formula e.parities after
+  round_is_search = ranged_round_keeps formula first_row_id c.next (first_row_id + length taught.rows) s taught.ties.log.ranged n zs hints back (omega arith) taught.room e.parities taught.search l served taught.ties.levels
       addition goes_on (subst (Rattle.cx_semantics.specs.LogRules.HasChain s.moment.tables.clauses) (sym taught.integers) taught.chain) learned
 
   pub tidy : IsTidy after
-  tidy = round_is_tidy formula (parities_of formula.constraints) s taught.search n zs hints back l learned served taught.ties.served.new_sums
+  tidy = round_is_tidy formula e.parities s taught.search n zs hints back l learned served taught.ties.log.served.new_sums
 
   pub ranged_then : IsRanged formula first_row_id (n + 1) first_row_id after.trail after.moment
-  ranged_then = round_ranged formula first_row_id c.next (first_row_id + length taught.rows) s taught.ties.ranged n zs hints back (omega arith) taught.room l taught.ties.served.old_clauses
+  ranged_then = round_ranged formula first_row_id c.next (first_row_id + length taught.rows) s taught.ties.log.ranged n zs hints back (omega arith) taught.room l taught.ties.log.served.old_clauses
 
   pub tied_then : (u : TrailState) → TakesBack back c.trail u → (reason : Reason) → IsOpenIn u.entries l.variable × IsTied after.trail (pushed u back l reason).entries
-  tied_then u takes reason = round_stays_tied formula (parities_of formula.constraints) s taught.search n zs hints back l learned c.trail u taught.ties.follows.tied takes reason
+  tied_then u takes reason = round_stays_tied formula e.parities s taught.search n zs hints back l learned c.trail u taught.ties.trail.follows.tied takes reason
 
   -- ---- the trail
   abbrev the_entry : Entry
@@ -104,11 +105,23 @@ module _ (formula : Problem) (c : SearchState) (e : State) (lits : List Literal)
   pub parities_then : after.moment.tables.parities ≡ s.moment.tables.parities
   parities_then = deleted_parities (after_learned s n zs hints back) s.moment.new_clauses
 
+  temporary : AreTemporary formula (after_learned s n zs hints back) s.moment.new_clauses
+  temporary = row_ids_are_temporary formula first_row_id (c.next + 1) (first_row_id + length taught.rows) (after_learned s n zs hints back)
+      (clause_ranged formula first_row_id c.next (first_row_id + length taught.rows) (marked s) (mark_ranged formula first_row_id c.next (first_row_id + length taught.rows) s taught.ties.log.ranged) n zs hints (omega arith) taught.room)
+      s.moment.new_clauses taught.ties.log.ranged.new_rows
+
+  -- the clause is one of the learned ones, and the mark ends a stretch
+  pub learned_then : after.moment.learned ≡ c.next ∷ s.moment.learned
+  learned_then = temporary_learned formula (after_learned s n zs hints back) s.moment.new_clauses temporary
+
+  pub stretches_then : stretches after.moment ≡ stretches s.moment
+  stretches_then = temporary_stretches formula (after_learned s n zs hints back) s.moment.new_clauses temporary
+
   pub conflicts_then : after.conflicts ≡ c.conflicts + 1
-  conflicts_then = deleted_conflicts (after_learned s n zs hints back) s.moment.new_clauses ∙ ap (λ k. k + 1) taught.ties.conflicts
+  conflicts_then = deleted_conflicts (after_learned s n zs hints back) s.moment.new_clauses ∙ ap (λ k. k + 1) taught.ties.counts.marked
 
   got : (m : ℕ) → m < first_row_id → get after.moment.tables.clauses m ≡ cond (nat_eq m n) (Some (literals zs)) (get s.moment.tables.clauses m)
-  got m low = deleted_get (after_learned s n zs hints back) s.moment.new_clauses m (low_is_no_row formula first_row_id c.next (first_row_id + length taught.rows) s taught.ties.ranged m low)
+  got m low = deleted_get (after_learned s n zs hints back) s.moment.new_clauses m (low_is_no_row formula first_row_id c.next (first_row_id + length taught.rows) s taught.ties.log.ranged m low)
       ∙ Looks-insert s.moment.tables.clauses (get s.moment.tables.clauses) n (literals zs) (λ _. refl) m
 
   pub get_new : get after.moment.tables.clauses n ≡ Some lits
@@ -128,7 +141,7 @@ module _ (formula : Problem) (c : SearchState) (e : State) (lits : List Literal)
   named_then lits m low named = record { clause = named.clause; live = stays m named.clause low named.live; same = named.same }
 
   -- and each other one was there
-  pub was : (m : ℕ) (clause : List Literal) → m < first_row_id → get after.moment.tables.clauses m ≡ Some clause → (clause ≡ lits) ⊎ (get s.moment.tables.clauses m ≡ Some clause)
+  pub was : (m : ℕ) (clause : List Literal) → m < first_row_id → get after.moment.tables.clauses m ≡ Some clause → ((clause ≡ lits) × (m ≡ c.next)) ⊎ (get s.moment.tables.clauses m ≡ Some clause)
   was m clause low live = by_cases (nat_eq m n)
-      (λ q. inl (let at : Some clause ≡ Some lits = sym live ∙ ap (get after.moment.tables.clauses) (Rattle.std.proofs.Common.eqb-true m n q) ∙ get_new in cc (at)))
+      (λ q. inl (let at : Some clause ≡ Some lits = sym live ∙ ap (get after.moment.tables.clauses) (Rattle.std.proofs.Common.eqb-true m n q) ∙ get_new in (let is : clause ≡ lits = cc (at) in is, Rattle.std.proofs.Common.eqb-true m n q)))
       (λ q. inr (sym (get_old m low (eqb-false m n q)) ∙ live))

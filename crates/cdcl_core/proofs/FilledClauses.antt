@@ -14,7 +14,7 @@ use Rattle.cx_semantics.specs.Chain.{has_literal, is_inside, same_literals}
 use Rattle.cx_semantics.specs.Fresh.{is_tautology}
 use Rattle.cx_semantics.proofs.Closure.{has_by_inside}
 use Rattle.cx_semantics.proofs.Members.{has_at_head, has_behind, has_split}
-use Rattle.clause_arena.specs.Clauses.{Stored, IsLive, clause_at, literals_in, id_in}
+use Rattle.clause_arena.specs.Clauses.{Stored, IsLive, clause_at, literals_in, id_in, learned_in, id_at}
 use Rattle.cx_trail.specs.Sequence.{TrailState}
 use Rattle.conflict_learn.proofs.ChainOfResolutions.{by_cases}
 use Rattle.search_steps.proofs.Sets.{not_both}
@@ -28,7 +28,8 @@ use Rattle.cdcl_search.proofs.Silence.{some_literal}
 use Rattle.cdcl_core.specs.declared.filling.Single.{Single}
 use Rattle.cdcl_core.specs.declared.filling.Filled.{Filled}
 use Rattle.cdcl_core.specs.Clauses.{AreDifferent}
-use Rattle.cdcl_core.specs.Filling.{IsEmpty, clause_number, IsUnitClause, IsClauseTaken, IsFilledUpTo, IsNext, Attaches}
+use Rattle.cdcl_core.specs.Filling.{IsEmpty, clause_number, IsUnitClause, IsClauseTaken, IsFilledUpTo, IsTakenAt, IsNext, Attaches}
+use Rattle.cdcl_search.specs.Ties.{HasTwo}
 use Rattle.cdcl_core.proofs.Entered.{kept_at, new_at, old_or_new}
 use Rattle.cdcl_core.proofs.OriginalLaws.{few_clauses}
 
@@ -118,17 +119,35 @@ can_be_watched n t lits none long d h w =
 pub nothing_is_filled : (formula : Problem) (c : SearchState) → IsEmpty formula.variables c → IsFilledUpTo formula 0 c [] None
 nothing_is_filled formula c e = record {
   trail = e.trail;
-  fits = e.fits;
+  watched = record { fits = e.fits; all = λ r live. absurd (no_clause r live) };
   stand = e.stand;
   phases = e.phases;
   no_units = e.units;
   next = e.next;
   given = e.given;
   conflicts = e.conflicts;
-  stored = λ r live. absurd (true≢false (sym (sym (ap (λ xs. is_some (get_or xs r None)) e.clauses) ∙ live)));
+  none_learned = e.none_learned;
+  not_reduced = e.not_reduced;
+  stored = λ r live. absurd (no_clause r live);
+  apart = λ r q live more same. absurd (no_clause r live);
   units_are = tt;
   covered = λ k low high. absurd (omega (arith, low, high));
   empty_is = tt;
+}
+  where
+    no_clause : (r : ℕ) → IsLive c.arena r → ⊥
+    no_clause r live = true≢false (sym (sym (ap (λ xs. is_some (get_or xs r None)) e.clauses) ∙ live))
+
+-- two different literals come first
+two_different : (lits : List Literal) → 2 ≤ length lits → AreDifferent lits → HasTwo lits
+two_different [] long d = absurd (omega (arith, long))
+two_different (l ∷ []) long d = absurd (omega (arith, long))
+two_different (l ∷ m ∷ lits) long d = record {
+  first = l;
+  second = m;
+  has_first = (0, omega arith, refl);
+  has_second = (1, omega arith, refl);
+  differ = λ same. not_both (has_literal (m ∷ lits) l) (ap (has_literal (m ∷ lits)) same ∙ has_at_head m lits) d.0;
 }
 
 -- ---- the next clause
@@ -158,14 +177,17 @@ module _ (formula : Problem) (f : Filled) (lits : List Literal) (is : IsNext for
         → IsClauseTaken formula f.state units empty f.state.next → IsFilledUpTo formula f.state.next (record f.state { next = f.state.next + 1 }) units empty
     filled_then units_are empty_is taken = record {
       trail = is.filled.trail;
-      fits = is.filled.fits;
+      watched = is.filled.watched;
       stand = is.filled.stand;
       phases = is.filled.phases;
       no_units = is.filled.no_units;
       next = refl;
       given = is.filled.given;
       conflicts = is.filled.conflicts;
-      stored = λ r live. let st = is.filled.stored r live in let high = st.2 in (st.0, st.1, omega (arith, high), st.3);
+      none_learned = is.filled.none_learned;
+      not_reduced = is.filled.not_reduced;
+      stored = λ r live. let st = is.filled.stored r live in let high = st.high in record { wide = st.wide; low = st.low; high = omega (arith, high); same = st.same; original = st.original };
+      apart = is.filled.apart;
       units_are = units_are;
       covered = λ k small high. elim (before_or_next k high) [
         | inl old ↦ taken_still k (is.filled.covered k small old)
@@ -218,38 +240,71 @@ module _ (formula : Problem) (f : Filled) (lits : List Literal) (is : IsNext for
         (λ q. subst (IsAttached D.watches.attached) (sym (eqb-true r (length f.state.arena.clauses) q)) a.attached)
         (λ q. a.others r (eqb-false r (length f.state.arena.clauses) q) ∙ h)
 
-    abbrev IsGood : ℕ → Option Stored → Type 0
-    IsGood r x = IsAttached D.watches.attached r × (1 ≤ id_in x) × (id_in x ≤ f.state.next) × (same_literals (literals_in x) (clause_number formula (id_in x)) ≡ true)
+    old_or_last : (r : ℕ) → IsLive D.arena r → IsLive f.state.arena r ⊎ (r ≡ length f.state.arena.clauses)
+    old_or_last r live = old_or_new f.state.arena.clauses (Some stored) r (sym (ap (λ xs. is_some (get_or xs r None)) a.added) ∙ live)
 
-    stored_then : (r : ℕ) → IsLive D.arena r → IsGood r (clause_at D.arena r)
-    stored_then r live = elim (old_or_new f.state.arena.clauses (Some stored) r (sym (ap (λ xs. is_some (get_or xs r None)) a.added) ∙ live)) [
+    abbrev IsGood : Option Stored → Type 0
+    IsGood x = HasTwo (literals_in x) × (1 ≤ id_in x) × (id_in x ≤ f.state.next) × (same_literals (literals_in x) (clause_number formula (id_in x)) ≡ true) × (learned_in x ≡ false)
+
+    good : 2 ≤ length lits → (r : ℕ) → IsLive D.arena r → IsGood (clause_at D.arena r)
+    good long r live = elim (old_or_last r live) [
       | inl old ↦
           let st = is.filled.stored r old in
-          let high = st.2 in
-          subst (IsGood r) (sym (clause_kept r old)) (attached_still r st.0, st.1, omega (arith, high), st.3)
-      | inr new ↦ subst (IsGood r) (sym (ap (clause_at D.arena) new ∙ clause_new)) (subst (IsAttached D.watches.attached) (sym new) a.attached, low, omega arith, is.same)
+          let high = st.high in
+          subst IsGood (sym (clause_kept r old)) (st.wide, st.low, omega (arith, high), st.same, st.original)
+      | inr new ↦ subst IsGood (sym (ap (clause_at D.arena) new ∙ clause_new)) (two_different lits long is.different, low, omega arith, is.same, refl)
+    ]
+
+    stored_then : 2 ≤ length lits → (r : ℕ) → IsLive D.arena r → IsTakenAt formula f.state.next D.arena r
+    stored_then long r live = let g = good long r live in record { wide = g.0; low = g.1; high = g.2; same = g.3; original = g.4 }
+
+    old_id : (r : ℕ) → IsLive f.state.arena r → id_at D.arena r < f.state.next
+    old_id r old = let high = (is.filled.stored r old).high in let same = ap id_in (clause_kept r old) in let first = low in omega (arith, high, same, first)
+
+    last_id : id_at D.arena (length f.state.arena.clauses) ≡ f.state.next
+    last_id = ap id_in clause_new
+
+    apart_then : (r q : ℕ) → IsLive D.arena r → IsLive D.arena q → id_at D.arena r ≡ id_at D.arena q → r ≡ q
+    apart_then r q r_live q_live same = elim (old_or_last r r_live) [
+      | inl r_old ↦ elim (old_or_last q q_live) [
+        | inl q_old ↦ is.filled.apart r q r_old q_old (sym (ap id_in (clause_kept r r_old)) ∙ same ∙ ap id_in (clause_kept q q_old))
+        | inr q_is ↦ absurd (let small = old_id r r_old in let at = ap (id_at D.arena) q_is in let last = last_id in omega (arith, small, same, at, last))
+      ]
+      | inr r_is ↦ elim (old_or_last q q_live) [
+        | inl q_old ↦ absurd (let small = old_id q q_old in let at = ap (id_at D.arena) r_is in let last = last_id in omega (arith, small, same, at, last))
+        | inr q_is ↦ r_is ∙ sym q_is
+      ]
     ]
 
     taken_then : (k : ℕ) → IsClauseTaken formula f.state f.units.items f.empty k → IsClauseTaken formula D f.units.items f.empty k
-    taken_then k (inl (r, attached, same)) = inl (r, attached_still r attached, ap (λ x. same_literals (literals_in x) (clause_number formula k)) (clause_kept r (is.filled.fits.nodes.live r attached)) ∙ same)
+    taken_then k (inl (r, r_live, id)) = inl (r, ap is_some (clause_kept r r_live) ∙ r_live, ap id_in (clause_kept r r_live) ∙ id)
     taken_then k (inr (inl h)) = inr (inl h)
     taken_then k (inr (inr (inl h))) = inr (inr (inl h))
     taken_then k (inr (inr (inr h))) = inr (inr (inr h))
 
     new_taken : IsClauseTaken formula D f.units.items f.empty f.state.next
-    new_taken = inl (length f.state.arena.clauses, a.attached, ap (λ x. same_literals (literals_in x) (clause_number formula f.state.next)) clause_new ∙ is.same)
+    new_taken = inl (length f.state.arena.clauses, ap is_some clause_new, ap id_in clause_new)
 
-    pub attached_taken : IsFilledUpTo formula f.state.next D f.units.items f.empty
-    attached_taken = record {
+    pub attached_taken : 2 ≤ length lits → IsFilledUpTo formula f.state.next D f.units.items f.empty
+    attached_taken long = record {
       trail = a.trail ∙ is.filled.trail;
-      fits = subst (Fits D.watches D.arena) (sym a.trail) a.fits;
+      watched = record {
+        fits = subst (Fits D.watches D.arena) (sym a.trail) a.fits;
+        all = λ r live. elim (old_or_last r live) [
+          | inl old ↦ attached_still r (is.filled.watched.all r old)
+          | inr new ↦ subst (IsAttached D.watches.attached) (sym new) a.attached
+        ];
+      };
       stand = subst (λ o. AllStand o D.trail) (sym a.order) (subst (AllStand f.state.order) (sym a.trail) is.filled.stand);
       phases = ap length a.phases ∙ is.filled.phases;
       no_units = a.units ∙ is.filled.no_units;
       next = a.next;
       given = a.given ∙ is.filled.given;
       conflicts = a.conflicts ∙ is.filled.conflicts;
-      stored = stored_then;
+      none_learned = a.learned ∙ is.filled.none_learned;
+      not_reduced = a.reductions ∙ is.filled.not_reduced;
+      stored = stored_then long;
+      apart = apart_then;
       units_are = is.filled.units_are;
       covered = λ k small high. elim (before_or_next k high) [
         | inl old ↦ taken_then k (is.filled.covered k small old)

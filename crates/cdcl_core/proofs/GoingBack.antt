@@ -5,18 +5,17 @@ use Rattle.std.proofs.lemmas.List.{take-append-le, length-map}
 use Rattle.std.proofs.Math.ListN.{get_or-map}
 use Rattle.std.specs.List.{AllByRecursion}
 use Rattle.cx_base.specs.Literals.{Literal}
-use Rattle.cx_base.specs.Problem.{Problem, parities_of}
-use Rattle.cx_semantics.specs.Chain.{same_literals}
+use Rattle.cx_base.specs.Problem.{Problem}
 use Rattle.cx_trail.specs.declared.entry.Reason.{Reason}
 use Rattle.cx_trail.specs.declared.entry.Reason.TheVariants as reason
 use Rattle.cx_trail.specs.Sequence.{TakesBack, entry_at, no_entry, IsTrail as IsCodeTrail}
 use Rattle.cx_trail.proofs.ValueLaws.{entry_kept}
-use Rattle.clause_arena.specs.Clauses.{IsLive, literals_at, id_at}
+use Rattle.clause_arena.specs.Clauses.{IsLive, literals_at}
 use Rattle.watch_lists.specs.Watching.{Fits}
 use Rattle.watch_lists.proofs.EventLaws.{fits_back}
 use Rattle.search_policy.specs.Standing.{AllStand}
 use Rattle.parity_engine.specs.State.{State, Named, named_at, keep, keep_named, back}
-use Rattle.search_steps.specs.Trail.{Entry, back_to, level_of}
+use Rattle.search_steps.specs.Trail.{Entry, back_to, level_of, held}
 use Rattle.search_steps.specs.Quiet.{IsOfParities}
 use Rattle.search_steps.specs.Search.{Search, IsSearch, jumped}
 use Rattle.search_steps.specs.Tied.{IsTied}
@@ -28,12 +27,12 @@ use Rattle.search_steps.proofs.IdLaws.{jump_ranged}
 use Rattle.search_steps.proofs.EngineLaws.{back_holds_values, lagging_back}
 use Rattle.search_steps.proofs.OverSearch.{older_is_trail}
 use Rattle.cdcl_search.specs.declared.state.SearchState.{SearchState}
-use Rattle.cdcl_search.specs.Ties.{first_row_id, IsNamedBy, AreClauses, AreUnits, HasReasonAt, IsEngineOf, IsFed, Ties}
+use Rattle.cdcl_search.specs.Ties.{Ties, IsWatched, ClauseTies, AreUnits, CountTies, HasReasonOf, stretches, first_row_id, IsNamedBy, IsFed}
 use Rattle.cdcl_search.proofs.Places.{entry_behind, tied_length, older_level, older_stay}
 
 -- the engine is at the trail's level
 pub above_too : (formula : Problem) (k : ℕ) (c : SearchState) (e : State) (rows : List (List Literal)) (s : Search) → Ties formula c e rows s → k < c.trail.level → k < e.level
-above_too formula k c e rows s t low = let now = t.fed.level in let same = level_tied s.trail c.trail t.follows.tied t.follows.sound in omega (arith, now, same, low)
+above_too formula k c e rows s t low = let now = t.engine.fed.level in let same = level_tied s.trail c.trail t.trail.follows.tied t.trail.follows.sound in omega (arith, now, same, low)
 
 -- what the code does
 pub record GoesBack (k : ℕ) (c d : SearchState) (e f : State) : Type 0 where
@@ -48,23 +47,25 @@ pub record GoesBack (k : ℕ) (c d : SearchState) (e f : State) : Type 0 where
   pub next : d.next ≡ c.next
   pub given : d.given ≡ length d.trail.entries
   pub conflicts : d.conflicts ≡ c.conflicts
+  pub learned : d.learned ≡ c.learned
+  pub reductions : d.reductions ≡ c.reductions
   pub engine : f ≡ back k e
 
 named_kept : (k : ℕ) (o : Option Named) (n : Named) → o ≡ Some n → n.in_conflict ≡ false → n.level ≤ k → keep_named k o ≡ Some n
 named_kept k o n is calm low = ap (keep_named k) is ∙ ap (λ b. cond (not b && nat_le n.level k) (Some n) None) calm ∙ ap (λ b. cond b (Some n) None) (le-leb n.level k low)
 
-module _ (formula : Problem) (k : ℕ) (c d : SearchState) (e f : State) (rows : List (List Literal)) (s : Search) (ok : IsSearch formula (parities_of formula.constraints) s) (t : Ties formula c e rows s) (g : GoesBack k c d e f) where
+module _ (formula : Problem) (k : ℕ) (c d : SearchState) (e f : State) (rows : List (List Literal)) (s : Search) (ok : IsSearch formula e.parities s) (t : Ties formula c e rows s) (g : GoesBack k c d e f) where
   abbrev IsRow : List Literal → Type 0
-  IsRow = IsOfParities formula.variables (parities_of formula.constraints)
+  IsRow = IsOfParities formula.variables e.parities
 
   level_now : level_of s.trail ≡ c.trail.level
-  level_now = level_tied s.trail c.trail t.follows.tied t.follows.sound
+  level_now = level_tied s.trail c.trail t.trail.follows.tied t.trail.follows.sound
 
   level_then : level_of (back_to k s.trail) ≡ k
   level_then = let low = g.lower in let now = level_now in back_level s.moment.tables.clauses IsRow k s.trail ok.serves.stands (omega (arith, low, now))
 
   tied_then : IsTied (back_to k s.trail) d.trail.entries
-  tied_then = tied_back k s.trail c.trail d.trail g.takes t.follows.tied
+  tied_then = tied_back k s.trail c.trail d.trail g.takes t.trail.follows.tied
 
   -- ---- places
   shorter : length d.trail.entries ≤ length c.trail.entries
@@ -92,21 +93,11 @@ module _ (formula : Problem) (k : ℕ) (c d : SearchState) (e f : State) (rows :
   ] refl
 
   -- ---- clauses
-  clauses_then : AreClauses s.moment.tables.clauses d (back_to k s.trail)
-  clauses_then = record {
-    stored = λ r live.
-        let st = t.clauses.stored r (subst (λ a. IsLive a r) g.arena live) in
-        record {
-          attached = ap (λ w. get_or w.attached r false) g.watches ∙ st.attached;
-          named = subst (λ a. IsNamedBy s.moment.tables.clauses (literals_at a r) (id_at a r)) (sym g.arena) st.named;
-          low = subst (λ a. id_at a r < first_row_id) (sym g.arena) st.low;
-        };
-    covered = λ n clause low live. elim (t.clauses.covered n clause low live) [
-      | inl (r, attached, same) ↦ inl (r, ap (λ w. get_or w.attached r false) g.watches ∙ attached, ap (λ a. same_literals (literals_at a r) clause) g.arena ∙ same)
-      | inr (inl taut) ↦ inr (inl taut)
-      | inr (inr held_one) ↦ inr (inr (subst (λ u. Rattle.search_steps.specs.Quiet.HasTrue u clause) (sym (held_back 0 k s.trail (omega arith))) held_one))
-    ];
-  }
+  -- level 0 stays, and so do the arena, what is attached, and the next id
+  clauses_then : ClauseTies formula s.moment.tables.clauses d.next d.arena (held 0 (back_to k s.trail))
+  clauses_then = subst (λ n. ClauseTies formula s.moment.tables.clauses n d.arena (held 0 (back_to k s.trail))) (sym g.next)
+      (subst (λ a. ClauseTies formula s.moment.tables.clauses c.next a (held 0 (back_to k s.trail))) (sym g.arena)
+      (subst (λ ls. ClauseTies formula s.moment.tables.clauses c.next c.arena ls) (sym (held_back 0 k s.trail (omega arith))) t.clauses))
 
   -- ---- units
   unit_places : (i : ℕ) → i < length c.units.items → i < length d.trail.entries
@@ -125,7 +116,7 @@ module _ (formula : Problem) (k : ℕ) (c d : SearchState) (e f : State) (rows :
   older_low : (x : Entry) (rest : List Entry) → t.units.older ≡ x ∷ rest → x.level ≤ k
   older_low x rest is =
       let many : length (x ∷ rest) ≡ length c.units.items = ap length (sym is) ∙ t.units.count in
-      let at = older_level t.units.newer rest x c.trail.entries (subst (λ es. IsTied es c.trail.entries) (t.units.parts ∙ ap (λ ys. t.units.newer ++ ys) is) t.follows.tied) in
+      let at = older_level t.units.newer rest x c.trail.entries (subst (λ es. IsTied es c.trail.entries) (t.units.parts ∙ ap (λ ys. t.units.newer ++ ys) is) t.trail.follows.tied) in
       let zero_level = t.units.level_0 (length rest) (omega (arith, many)) in
       omega (arith, at, zero_level)
 
@@ -147,13 +138,10 @@ module _ (formula : Problem) (k : ℕ) (c d : SearchState) (e f : State) (rows :
       }
 
   -- ---- the engine
-  engine_then : IsEngineOf formula (back k e)
-  engine_then = record { vars = t.engine.vars; parities = t.engine.parities; wide = length-map e.values (keep k) ∙ t.engine.wide }
-
   newer_are_now : (xs : List Entry) → AllByRecursion (λ x. x.level ≡ e.level) xs → (x : Entry) → Contains xs x → k < x.level
   newer_are_now xs all x has =
       let at : x.level ≡ e.level = member xs all x has in
-      let now = t.fed.level ∙ level_now in
+      let now = t.engine.fed.level ∙ level_now in
       let low = g.lower in
       omega (arith, at, now, low)
     where
@@ -162,11 +150,11 @@ module _ (formula : Problem) (k : ℕ) (c d : SearchState) (e f : State) (rows :
       member (y ∷ ys) all x (zero, h, is) = ap (λ z. z.level) (sym is) ∙ all.0
       member (y ∷ ys) all x (suc n, h, is) = member ys all.1 x (n, omega (arith, h), is)
 
-  fed_back : back_to k s.trail ≡ back_to k t.fed.older
-  fed_back = ap (back_to k) t.fed.parts ∙ lagging_back k t.fed.newer t.fed.older (newer_are_now t.fed.newer t.fed.now)
+  fed_back : back_to k s.trail ≡ back_to k t.engine.fed.older
+  fed_back = ap (back_to k) t.engine.fed.parts ∙ lagging_back k t.engine.fed.newer t.engine.fed.older (newer_are_now t.engine.fed.newer t.engine.fed.now)
 
-  older_stands : Rattle.search_steps.specs.Trail.IsTrail s.moment.tables.clauses IsRow t.fed.older
-  older_stands = older_is_trail s.moment.tables.clauses IsRow t.fed.newer t.fed.older (subst (Rattle.search_steps.specs.Trail.IsTrail s.moment.tables.clauses IsRow) t.fed.parts ok.serves.stands)
+  older_stands : Rattle.search_steps.specs.Trail.IsTrail s.moment.tables.clauses IsRow t.engine.fed.older
+  older_stands = older_is_trail s.moment.tables.clauses IsRow t.engine.fed.newer t.engine.fed.older (subst (Rattle.search_steps.specs.Trail.IsTrail s.moment.tables.clauses IsRow) t.engine.fed.parts ok.serves.stands)
 
   fed_then : IsFed (back_to k s.trail) (length d.trail.entries) (back k e)
   fed_then = record {
@@ -175,12 +163,12 @@ module _ (formula : Problem) (k : ℕ) (c d : SearchState) (e f : State) (rows :
     parts = refl;
     count = tied_length (back_to k s.trail) d.trail.entries tied_then;
     now = tt;
-    values = subst (λ es. Rattle.search_steps.specs.Engine.HoldsValues es (back k e).values) (sym fed_back) (back_holds_values e t.fed.older t.fed.values s.moment.tables.clauses IsRow older_stands k);
+    values = subst (λ es. Rattle.search_steps.specs.Engine.HoldsValues es (back k e).values) (sym fed_back) (back_holds_values e t.engine.fed.older t.engine.fed.values s.moment.tables.clauses IsRow older_stands k);
     level = sym level_then;
   }
 
   -- ---- reasons
-  reason_then : (i : ℕ) → i < length d.trail.entries → (r : Reason) → HasReasonAt c e i r → HasReasonAt d (back k e) i r
+  reason_then : (i : ℕ) → i < length d.trail.entries → (r : Reason) → HasReasonOf c.arena c.trail.entries e i r → HasReasonOf d.arena d.trail.entries (back k e) i r
   reason_then i h reason.Decision has = subst (λ x. 0 < x.level) (same_entry i h) has
   reason_then i h (reason.Clause r) has = record {
     live = subst (λ a. IsLive a r) (sym g.arena) has.live;
@@ -204,6 +192,11 @@ module _ (formula : Problem) (k : ℕ) (c d : SearchState) (e f : State) (rows :
         met = λ values agrees. has.met values (subst (λ es. (l : Literal) → Rattle.cx_trail.specs.Sequence.IsTrueIn es l → Rattle.std.specs.Prelude.IsTrue (Rattle.cx_base.specs.Literals.literal_true values l)) (sym (same_take (suc i) (omega (arith, h)))) agrees);
       }
 
+  -- ---- counts
+  counts_then : CountTies d.next d.conflicts d.learned d.reductions (jumped s k)
+  counts_then = subst (λ n. CountTies n d.conflicts d.learned d.reductions (jumped s k)) (sym g.next)
+      (record { marked = t.counts.marked ∙ sym g.conflicts; falling = t.counts.falling; many = subst (λ n. n ≤ length s.moment.learned) (sym g.learned) t.counts.many; few = subst (λ n. stretches s.moment ≤ n) (sym g.reductions) t.counts.few })
+
   -- ---- the whole
   pub units_are_all : k ≡ 0 → length c.units.items ≡ length d.trail.entries
   units_are_all low = elim (Rattle.std.proofs.Common.nat_lt (length c.units.items) (length d.trail.entries)) as (λ b. Rattle.std.proofs.Common.nat_lt (length c.units.items) (length d.trail.entries) ≡ b → length c.units.items ≡ length d.trail.entries) [
@@ -221,22 +214,25 @@ module _ (formula : Problem) (k : ℕ) (c d : SearchState) (e f : State) (rows :
 
   pub ties_then : Ties formula d f rows (jumped s k)
   ties_then = subst (λ x. Ties formula d x rows (jumped s k)) (sym g.engine) (record {
-    follows = record { tied = tied_then; sound = g.sound };
-    variables = g.takes.variables ∙ t.variables;
-    ranged = subst (λ n. IsRanged formula first_row_id n (first_row_id + length rows) (back_to k s.trail) s.moment) (sym g.next) (jump_ranged formula first_row_id c.next (first_row_id + length rows) s t.ranged k);
-    sums = t.sums;
-    numbered = t.numbered;
+    log = record {
+      ranged = subst (λ n. IsRanged formula first_row_id n (first_row_id + length rows) (back_to k s.trail) s.moment) (sym g.next) (jump_ranged formula first_row_id c.next (first_row_id + length rows) s t.log.ranged k);
+      sums = t.log.sums;
+      numbered = t.log.numbered;
+      rows_told = t.log.rows_told;
+      served = record { served = t.log.served.served; old_clauses = t.log.served.old_clauses; new_clauses = t.log.served.new_clauses; old_sums = t.log.served.old_sums; new_sums = t.log.served.new_sums };
+    };
     clauses = clauses_then;
-    rows_told = t.rows_told;
+    trail = record { follows = record { tied = tied_then; sound = g.sound }; variables = g.takes.variables ∙ t.trail.variables; stand = g.stand; phased = g.phases ∙ t.trail.phased };
     units = subst (AreUnits s.moment.tables.clauses d.trail (back_to k s.trail)) (sym g.units) units_then;
-    engine = engine_then;
-    fed = subst (λ n. IsFed (back_to k s.trail) n (back k e)) (sym g.given) fed_then;
+    engine = record { vars = t.engine.vars; wide = length-map e.values (keep k) ∙ t.engine.wide; theirs = t.engine.theirs; few = t.engine.few; fed = subst (λ n. IsFed (back_to k s.trail) n (back k e)) (sym g.given) fed_then };
     reasons = λ i far within. reason_then i within (entry_at d.trail.entries i).reason
-        (subst (λ x. HasReasonAt c e i x.reason) (same_entry i within) (let more = shorter in t.reasons i (subst (λ us. length us ≤ i) g.units far) (omega (arith, within, more))));
-    fits = subst (λ w. Fits w d.arena d.trail) (sym g.watches) (subst (λ a. Fits (record c.watches { looked = take (k + 1) c.watches.looked }) a d.trail) (sym g.arena) (fits_back c.watches c.arena c.trail d.trail k g.takes t.fits));
-    stand = g.stand;
-    phases = g.phases ∙ t.phases;
-    conflicts = t.conflicts ∙ sym g.conflicts;
+        (subst (λ x. HasReasonOf c.arena c.trail.entries e i x.reason) (same_entry i within) (let more = shorter in t.reasons i (subst (λ us. length us ≤ i) g.units far) (omega (arith, within, more))));
+    counts = counts_then;
     levels = sym level_then;
-    served = record { served = t.served.served; old_clauses = t.served.old_clauses; new_clauses = t.served.new_clauses; old_sums = t.served.old_sums; new_sums = t.served.new_sums };
   })
+
+  pub watched_then : IsWatched c.watches c.arena c.trail → IsWatched d.watches d.arena d.trail
+  watched_then is = record {
+    fits = subst (λ w. Fits w d.arena d.trail) (sym g.watches) (subst (λ a. Fits (record c.watches { looked = take (k + 1) c.watches.looked }) a d.trail) (sym g.arena) (fits_back c.watches c.arena c.trail d.trail k g.takes is.fits));
+    all = λ r live. ap (λ w. get_or w.attached r false) g.watches ∙ is.all r (subst (λ a. IsLive a r) g.arena live);
+  }

@@ -3,7 +3,7 @@ use Rattle.std.proofs.Common.{◌≡◌, refl, sym, ap, ◌∙◌, subst, ℕ, s
 use Rattle.std.proofs.lemmas.List.{take-append-drop}
 use Rattle.std.proofs.lemmas.List.Elements.{filter_map-append}
 use Rattle.cx_base.specs.Literals.{Literal}
-use Rattle.cx_base.specs.Problem.{Problem, parities_of}
+use Rattle.cx_base.specs.Problem.{Problem}
 use Rattle.cx_semantics.specs.declared.steps.LogStep.{LogStep}
 use Rattle.cx_semantics.specs.declared.steps.LogStep.TheVariants.{ClauseWithHints, Delete}
 use Rattle.cx_semantics.specs.declared.steps.LogEvent.{LogEvent}
@@ -57,11 +57,12 @@ module _ (formula : Problem) (c : SearchState) (e : State) (rows : List (List Li
   pub is_taught : literals (integers_of lits) ≡ lits → IsTaught formula c e lits back st.0
   is_taught integers =
       let live = sourced_is_live formula c e rows st.0 st.3 in
-      let first = taught_by_search formula (parities_of formula.constraints) st.0 st.1 c.trail st.3.follows above conflict (IsSourced c rows) resolved lits back lbd teaches in
+      let first = taught_by_search formula e.parities st.0 st.1 c.trail st.3.trail.follows above conflict (IsSourced c rows) resolved lits back lbd teaches in
       record {
         search = st.1;
         rows = rows;
         ties = st.3;
+        watched = st.4;
         chain = learned_has_chain st.0.moment.tables.clauses c.trail conflict (IsSourced c rows) resolved lits (live conflict is_conflict.sourced) live teaches.learned;
         first = first.0;
         more = first.1;
@@ -83,8 +84,8 @@ module _ (formula : Problem) (c : SearchState) (e : State) (rows : List (List Li
         deleted_events s1 st.0.moment.new_clauses
         ∙ append_assoc (st.0.events ++ Conflict (st.0.conflicts + 1) ∷ []) (Step (ClauseWithHints c.next (integers_of lits) hints) ∷ []) (deletions st.0.moment.new_clauses)
         ∙ append_assoc st.0.events (Conflict (st.0.conflicts + 1) ∷ []) (Step (ClauseWithHints c.next (integers_of lits) hints) ∷ deletions st.0.moment.new_clauses)
-        ∙ ap (λ k. st.0.events ++ Conflict (k + 1) ∷ Step (ClauseWithHints c.next (integers_of lits) hints) ∷ deletions st.0.moment.new_clauses) st.3.conflicts
-        ∙ ap (λ ids. st.0.events ++ Conflict (c.conflicts + 1) ∷ Step (ClauseWithHints c.next (integers_of lits) hints) ∷ deletions ids) st.3.served.new_clauses
+        ∙ ap (λ k. st.0.events ++ Conflict (k + 1) ∷ Step (ClauseWithHints c.next (integers_of lits) hints) ∷ deletions st.0.moment.new_clauses) st.3.counts.marked
+        ∙ ap (λ ids. st.0.events ++ Conflict (c.conflicts + 1) ∷ Step (ClauseWithHints c.next (integers_of lits) hints) ∷ deletions ids) st.3.log.served.new_clauses
         ∙ ap (λ es. st.0.events ++ Conflict (c.conflicts + 1) ∷ es) (sym are)
 
     told_then : (o : Option (List LogEvent)) → AreTold o st.0.events → AreTold (with_events (Conflict (c.conflicts + 1) ∷ as_events steps) o) then.events
@@ -97,14 +98,14 @@ module _ (formula : Problem) (c : SearchState) (e : State) (rows : List (List Li
 -- what a conflict taught leaves the log right
 pub learned_is_left : (formula : Problem) (c : SearchState) (e : State) (lits : List Literal) (back : ℕ) (told : Option (List LogEvent)) → Learns formula c e lits back told → IsLeft formula told
 learned_is_left formula c e lits back told h =
-    is_left formula (parities_of formula.constraints) (after_round h.search c.next (integers_of lits) h.hints back h.taught.first) told (round_is_search formula c e lits back h.search h.taught h.hints)
+    is_left formula e.parities (after_round h.search c.next (integers_of lits) h.hints back h.taught.first) told (round_is_search formula c e lits back h.search h.taught h.hints)
     (tidy formula c e lits back h.search h.taught h.hints).served h.told_is
 
 -- the conflict has a literal of the current level
 pub conflict_is_now : (formula : Problem) (c : SearchState) (e : State) (rows : List (List Literal)) (old : Option (List LogEvent)) → SearchStands formula c e rows old → 0 < c.trail.level → (conflict : List Literal) → IsConflictClause c rows conflict
     → (m : Literal) × (has_literal conflict m ≡ true) × IsOfLevel c.trail m c.trail.level
 conflict_is_now formula c e rows old st above conflict is =
-    clause_conflict_is_now formula (parities_of formula.constraints) st.0 st.1 c.trail st.3.follows above (st.3.levels ∙ level_tied st.0.trail c.trail st.3.follows.tied st.3.follows.sound)
+    clause_conflict_is_now formula e.parities st.0 st.1 c.trail st.3.trail.follows above (st.3.levels ∙ level_tied st.0.trail c.trail st.3.trail.follows.tied st.3.trail.follows.sound)
     conflict (sourced_is_live formula c e rows st.0 st.3 conflict is.sourced)
 
 -- ---- an analysis, by the values at which what it was lent ends

@@ -12,3 +12,4 @@ pub mod DifferentLiterals
 pub mod FillingLaws
 pub mod WaitingLaws
 pub mod FilledClauses
+pub mod LearnedLess

@@ -5,6 +5,7 @@ use Rattle.std.proofs.lemmas.List.{length-replicate, length_push}
 use Rattle.std.proofs.Math.ListN.{get_or-append}
 use Rattle.std.proofs.Math.Seq.{get_or-append_seam}
 use Rattle.std.specs.List.{AllByRecursion}
+use Rattle.std.specs.Prelude.{if◌then◌else◌}
 use Rattle.std.specs.Global.{Vec}
 use Rattle.std.proofs.lemmas.Option.{same_Some}
 use Rattle.cx_base.specs.Literals.{Literal, same_literal}
@@ -21,10 +22,8 @@ use Rattle.cx_trail.specs.Sequence.{TrailState, IsTrail, IsTrueIn, IsFalseIn, Is
 use Rattle.parity_engine.specs.declared.state.Mood.TheVariants.{Busy, Broken}
 use Rattle.parity_engine.specs.State.{State, fresh}
 use Rattle.clause_arena.specs.Clauses.{id_at}
-use Rattle.watch_lists.proofs.EventLaws.{fits_pushed}
 use Rattle.search_steps.specs.Engine.{HoldsValues}
 use Rattle.search_steps.specs.Ids.{IsRanged}
-use Rattle.search_steps.specs.LogSteps.{RestOnClauses}
 use Rattle.search_steps.specs.Quiet.{HasTrue, IsOfParities}
 use Rattle.search_steps.specs.Search.{Search, IsSearch, forced_on}
 use Rattle.search_steps.specs.Tied.{IsTied, ForcesOn}
@@ -39,10 +38,13 @@ use Rattle.search_steps.proofs.Sets.{not_both}
 use Rattle.search_steps.proofs.StartLaws.{begun_is_search}
 use Rattle.search_steps.proofs.Stored.{stored_is_false}
 use Rattle.cdcl_search.specs.declared.state.SearchState.{SearchState}
-use Rattle.cdcl_search.specs.Ties.{IsNamedBy, IsCovered, AreClauses, AreUnits, IsFed, SearchStands, first_row_id}
-use Rattle.cdcl_search.proofs.Growing.{covered_grows, stand_grows}
+use Rattle.cdcl_search.specs.Ties.{SearchStands, LogTies, ClauseTies, IsHeld, IsWatched, AreUnits, RestOnUnits, IsFallingFrom, IsFed, IsNamedBy, first_row_id}
+use Rattle.cdcl_search.proofs.Growing.{held_grows, watched_grows, stand_grows}
+use Rattle.cdcl_search.proofs.UnitTies.{on_clauses, on_last}
+use Rattle.cdcl_search.proofs.RowSteps.{few_parities}
+use Rattle.search_steps.specs.Laws.{HaveTheirs}
+use Rattle.search_steps.proofs.OverSearch.{theirs_are_had}
 use Rattle.cdcl_search.proofs.Places.{tied_length}
-use Rattle.cdcl_search.proofs.RowSteps.{is_left}
 use Rattle.cdcl_search.proofs.TableLaws.{no_clause}
 use Rattle.cdcl_core.specs.declared.filling.Single.{Single}
 use Rattle.cdcl_core.specs.Filling.{IsFilled, clause_number}
@@ -101,7 +103,7 @@ module _ (table : Table) (t : TrailState) (es : List Entry) (ids : List ℕ) (u 
   no_more_above : 0 < level → ⊥
   no_more_above high = omega (arith, high, low)
 
-  pub one_more_unit : (y : Entry) → y.why ≡ by_clause n → RestOnClauses es → length es ≡ length t.entries → IsNamedBy table (l ∷ []) n → n < first_row_id → AreUnits table (pushed t level l why) (y ∷ es) (ids ++ n ∷ [])
+  pub one_more_unit : (y : Entry) → y.why ≡ by_clause n → RestOnUnits ids es → length es ≡ length t.entries → IsNamedBy table (l ∷ []) n → n < first_row_id → AreUnits table (pushed t level l why) (y ∷ es) (ids ++ n ∷ [])
   one_more_unit y rests rest tied named small = record {
     few = let a = length-append ids (n ∷ []) in let b = length_push t.entries new in omega (arith, a, b, every);
     level_0 = places (λ x _. x.level ≡ 0) u.level_0 low;
@@ -111,7 +113,7 @@ module _ (table : Table) (t : TrailState) (es : List Entry) (ids : List ℕ) (u 
     older = y ∷ es;
     parts = refl;
     count = let a = length-append ids (n ∷ []) in omega (arith, a, every, tied);
-    rest = ((n, rests), rest);
+    rest = on_last ids n y es rests rest;
     all = λ high i far less. absurd (no_more_above high);
   }
 
@@ -154,8 +156,8 @@ module _ (formula : Problem) (c : SearchState) (u : Single) (more : List Single)
   long : length search.trail ≡ length c.trail.entries
   long = tied_length search.trail c.trail.entries ties.follows.tied
 
-  rest : RestOnClauses search.trail
-  rest = subst RestOnClauses (no_newer ties.units.newer ties.units.older search.trail ties.units.parts
+  rest : RestOnUnits c.units.items search.trail
+  rest = subst (RestOnUnits c.units.items) (no_newer ties.units.newer ties.units.older search.trail ties.units.parts
       (let a = long in let count = ties.units.count in let every = ties.every in omega (arith, a, count, every))) ties.units.rest
 
   -- its literal is true already
@@ -183,6 +185,7 @@ module _ (formula : Problem) (c : SearchState) (u : Single) (more : List Single)
       parities = ties.parities;
       clauses = ties.clauses;
       stored = ties.stored;
+      apart = ties.apart;
       covered = λ k low high. elim (ties.covered k low high) [
         | inl done ↦ inl done
         | inr waits ↦ elim (still_waits u more k waits) [
@@ -193,12 +196,16 @@ module _ (formula : Problem) (c : SearchState) (u : Single) (more : List Single)
       singles = ties.singles.1;
       units = ties.units;
       every = ties.every;
-      fits = ties.fits;
+      watched = ties.watched;
       stand = ties.stand;
       phases = ties.phases;
       given = ties.given;
       conflicts = ties.conflicts;
+      none_learned = ties.none_learned;
+      not_reduced = ties.not_reduced;
       no_conflict = ties.no_conflict;
+      no_learned = ties.no_learned;
+      no_reduction = ties.no_reduction;
       no_level = ties.no_level;
       served = ties.served;
     },
@@ -212,8 +219,9 @@ module _ (formula : Problem) (c : SearchState) (u : Single) (more : List Single)
       search,
       st.2,
       record {
+        parities = parities_of formula.constraints;
         search = st.1;
-        chain = falsified_has_chain search.moment.tables.clauses (IsOfParities formula.variables (parities_of formula.constraints)) search.trail st.1.serves.stands rest clause (u.number, live)
+        chain = falsified_has_chain search.moment.tables.clauses (IsOfParities formula.variables (parities_of formula.constraints)) search.trail st.1.serves.stands (on_clauses c.units.items search.trail rest) clause (u.number, live)
             (stored_is_false (u.literal ∷ []) clause single.0.same search.trail c.trail.entries ties.follows.tied (one_is_false c.trail.entries u.literal h));
         free = next_is_free formula first_row_id c.next first_row_id search ties.ranged ties.room;
         served = ties.served.served;
@@ -262,9 +270,10 @@ module _ (formula : Problem) (c : SearchState) (u : Single) (more : List Single)
           sums = ties.sums;
           parities = ties.parities;
           clauses = ties.clauses;
-          stored = λ r is_live. let s = ties.stored r is_live in record { attached = s.attached; low = s.low; high = s.high; same = s.same };
+          stored = ties.stored;
+          apart = ties.apart;
           covered = λ k low high. elim (ties.covered k low high) [
-            | inl done ↦ inl (covered_grows c search.trail entry (clause_number formula k) done)
+            | inl done ↦ inl (held_grows c.arena k search.trail entry (clause_number formula k) done)
             | inr waits ↦ elim (still_waits u more k waits) [
               | inl is ↦ inl (inr (inr (subst (λ j. HasTrue (held 0 after.trail) (clause_number formula j)) (sym is) head_covers)))
               | inr later ↦ inr later
@@ -274,12 +283,16 @@ module _ (formula : Problem) (c : SearchState) (u : Single) (more : List Single)
           units = subst (AreUnits search.moment.tables.clauses (pushed c.trail c.trail.level u.literal why) after.trail) (sym grown) units_then;
           every = let a = ap length grown in let b = length-append c.units.items (u.number ∷ []) in
               let l = length_push c.trail.entries (record { literal = u.literal; level = c.trail.level; reason = why }) in let every = ties.every in omega (arith, a, b, l, every);
-          fits = fits_pushed c.watches c.arena c.trail c.trail.level u.literal why (omega arith) ties.fits;
+          watched = watched_grows c c.trail.level u.literal why (omega arith) ties.watched;
           stand = stand_grows c c.trail.level u.literal why c.order ties.stand;
           phases = ties.phases;
           given = ties.given;
           conflicts = ties.conflicts;
+          none_learned = ties.none_learned;
+          not_reduced = ties.not_reduced;
           no_conflict = ties.no_conflict;
+          no_learned = ties.no_learned;
+          no_reduction = ties.no_reduction;
           no_level = ties.no_level;
           served = record { served = ties.served.served; old_clauses = ties.served.old_clauses; new_clauses = ties.served.new_clauses; old_sums = ties.served.old_sums; new_sums = ties.served.new_sums };
         },
@@ -337,7 +350,8 @@ module _ (formula : Problem) (few : length formula.constraints ≤ 4294967295) (
       sums = begun_has_free_sums formula b.0 b.1;
       parities = b.3;
       clauses = b.2;
-      stored = λ r live. let s = f.stored r live in record { attached = s.0; low = s.1; high = s.2; same = s.3 };
+      stored = f.stored;
+      apart = f.apart;
       covered = λ k low high. elim (f.covered k low high) [
         | inl stored ↦ inl (inl stored)
         | inr (inl both) ↦ inl (inr (inl both))
@@ -347,12 +361,16 @@ module _ (formula : Problem) (few : length formula.constraints ≤ 4294967295) (
       singles = f.units_are;
       units = no_unit b.0.moment.tables.clauses c.trail b.0.trail c.units.items b.1.no_trail f.no_units (ap (λ t. t.level) f.trail);
       every = ap length f.no_units ∙ sym (ap (λ t. length t.entries) f.trail);
-      fits = f.fits;
+      watched = f.watched;
       stand = f.stand;
       phases = f.phases;
       given = f.given;
       conflicts = f.conflicts;
+      none_learned = f.none_learned;
+      not_reduced = f.not_reduced;
       no_conflict = b.1.no_conflict;
+      no_learned = b.1.no_learned;
+      no_reduction = ap (λ r. if r then b.0.moment.reductions + 1 else b.0.moment.reductions) b.1.not_reducing ∙ b.1.no_reduction;
       no_level = b.1.no_level;
       served = record { served = b.1.tidy.served; old_clauses = b.1.tidy.no_old_clauses; new_clauses = b.1.tidy.no_new_clauses; old_sums = b.1.tidy.no_old_sums; new_sums = b.1.tidy.no_new_sums };
     },
@@ -366,6 +384,7 @@ module _ (formula : Problem) (few : length formula.constraints ≤ 4294967295) (
       b.0,
       b.4,
       record {
+        parities = parities_of formula.constraints;
         search = begun_is_search formula b.0 b.1;
         chain = falsified_has_chain b.0.moment.tables.clauses (IsOfParities formula.variables (parities_of formula.constraints)) [] tt tt [] (number, b.2.numbered number f.empty_is.0 f.empty_is.1 ∙ ap Some f.empty_is.2) refl;
         free = ap (get b.0.moment.tables.clauses) f.next ∙ b.1.clauses.free (length (clauses_of formula.constraints) + 1) (omega arith);
@@ -391,21 +410,23 @@ module _ (formula : Problem) (c : SearchState) (told : Option (List LogEvent)) (
         (λ q. let near = ltb-false (length (clauses_of formula.constraints)) (suc n) q in near),
   )
 
-  clauses_then : AreClauses st.0.moment.tables.clauses c st.0.trail
+  clauses_then : ClauseTies formula st.0.moment.tables.clauses c.next c.arena (held 0 st.0.trail)
   clauses_then = record {
     stored = λ r live.
         let s = st.3.stored r live in
         record {
-          attached = s.attached;
+          wide = s.wide;
           named = record { clause = clause_number formula (id_at c.arena r); live = st.3.clauses.numbered (id_at c.arena r) s.low s.high; same = s.same };
-          low = let high = s.high in let next = st.3.next in let room = st.3.room in omega (arith, high, next, room);
+          low = let high = s.high in let next = st.3.next in omega (arith, high, next);
+          late = λ learned. absurd (true≢false (sym learned ∙ s.original));
         };
     covered = λ n clause low live.
         let number = is_number n clause live low in
-        subst (IsCovered c st.0.trail) (same_Some (clause_number formula n) clause (sym (st.3.clauses.numbered n number.0 number.1) ∙ live)) (elim (st.3.covered n number.0 number.1) [
+        subst (IsHeld c.arena (held 0 st.0.trail) n) (same_Some (clause_number formula n) clause (sym (st.3.clauses.numbered n number.0 number.1) ∙ live)) (elim (st.3.covered n number.0 number.1) [
           | inl done ↦ done
           | inr waits ↦ absurd (none_waits n waits)
         ]);
+    apart = st.3.apart;
   }
 
   all_low : (es : List Entry) (entries : List TrailEntry) → IsTied es entries → ((i : ℕ) → i < length entries → (entry_at entries i).level ≤ 0) → AllByRecursion (λ (e : Entry). e.level ≡ 0) es
@@ -438,34 +459,42 @@ module _ (formula : Problem) (c : SearchState) (told : Option (List LogEvent)) (
       level = ap (λ x. x.level) made ∙ sym level_is;
     }
 
+    theirs : e.parities ≡ parities_of formula.constraints
+    theirs = ap (λ x. x.parities) made
+
     pub begun_stands : SearchStands formula c e [] told
     begun_stands = (
       st.0,
-      st.1,
+      subst (λ ps. IsSearch formula ps st.0) (sym theirs) st.1,
       st.2,
       record {
-        follows = st.3.follows;
-        variables = st.3.variables;
-        ranged = st.3.ranged;
-        sums = st.3.sums;
-        numbered = st.3.parities.numbered;
+        log = subst (λ ps. LogTies formula ps c.next [] st.0) (sym theirs) (record {
+          ranged = st.3.ranged;
+          sums = st.3.sums;
+          numbered = st.3.parities.numbered;
+          rows_told = λ i less. absurd (omega (arith, less));
+          served = st.3.served;
+        });
         clauses = clauses_then;
-        rows_told = λ i less. absurd (omega (arith, less));
+        trail = record { follows = st.3.follows; variables = st.3.variables; stand = st.3.stand; phased = st.3.phases };
         units = st.3.units;
         engine = record {
           vars = ap (λ x. x.vars) made;
-          parities = ap (λ x. x.parities) made;
           wide = subst (λ x. length x.values ≡ x.vars) (sym made) (length-replicate formula.variables None);
+          theirs = subst (HaveTheirs formula) (append-nil (parities_of formula.constraints) ∙ sym theirs) (theirs_are_had formula []);
+          few = subst (λ ps. length ps ≤ length formula.constraints) (sym theirs) (few_parities formula.constraints);
+          fed = fed_then;
         };
-        fed = fed_then;
         reasons = λ i far less. absurd (let every = st.3.every in omega (arith, far, less, every));
-        fits = st.3.fits;
-        stand = st.3.stand;
-        phases = st.3.phases;
-        conflicts = st.3.no_conflict ∙ sym st.3.conflicts;
+        counts = record {
+          marked = st.3.no_conflict ∙ sym st.3.conflicts;
+          falling = subst (IsFallingFrom c.next) (sym st.3.no_learned) tt;
+          many = let none = st.3.none_learned in omega (arith, none);
+          few = let none = st.3.no_reduction in omega (arith, none);
+        };
         levels = st.3.no_level ∙ sym level_is;
-        served = st.3.served;
       },
+      st.3.watched,
     )
 
     pub begun_is_calm : e.mood ≢ Broken

@@ -1,7 +1,7 @@
 -- What a conflict comes to.
 use Rattle.std.specs.Prelude.{◌≡◌, ℕ, ◌<◌, List, [], Option, Some, None, IsFalse, IsTrue, ◌≢◌}
 use Rattle.std.specs.List.{AllByRecursion}
-use Rattle.cx_base.specs.Problem.{Problem, Unmet, parities_of}
+use Rattle.cx_base.specs.Problem.{Problem, Unmet}
 use Rattle.cx_base.specs.Literals.{Literal}
 use Rattle.cx_semantics.specs.declared.steps.LogEvent.{LogEvent}
 use Rattle.cx_semantics.specs.declared.steps.LogEvent.TheVariants.{Step}
@@ -47,7 +47,8 @@ Concludes formula c e told (Ending steps) = SearchStands formula c e [] told × 
 
 -- the clauses of the search show the empty clause, which may have this id; so many conflicts are counted
 pub record IsContradicted (formula : Problem) (id marks : ℕ) (s : Search) : Type 0 where
-  pub search : IsSearch formula (parities_of formula.constraints) s
+  pub parities : List (List Literal)
+  pub search : IsSearch formula parities s
   pub chain : HasChain s.moment.tables.clauses []
   pub free : get s.moment.tables.clauses id ≡ None
   pub served : IsFalse s.moment.awaits

@@ -17,6 +17,8 @@ pub record IsPut (old new : SearchState) (l : Literal) (reason : Reason) : Type 
   pub given : new.given ≡ old.given
   pub next : new.next ≡ old.next
   pub conflicts : new.conflicts ≡ old.conflicts
+  pub learned : new.learned ≡ old.learned
+  pub reductions : new.reductions ≡ old.reductions
 
 -- the id is that of the literal's unit clause
 pub record EntersUnit (old new : SearchState) (l : Literal) (id : ℕ) : Type 0 where
@@ -37,3 +39,10 @@ pub record EntersClause (old new : SearchState) (lits : List Literal) (l : Liter
 -- as the clause has one literal or several
 abbrev pub Enters : SearchState → SearchState → List Literal → ℕ → ℕ → Type 0
 Enters old new lits id lbd = ((length lits ≡ 1) × EntersUnit old new (literal_at lits 0) id) ⊎ ((2 ≤ length lits) × EntersClause old new lits (literal_at lits 0) id lbd)
+
+-- the counts and the next id are the same
+pub record HasCounts (now was : SearchState) : Type 0 where
+  pub next : now.next ≡ was.next
+  pub conflicts : now.conflicts ≡ was.conflicts
+  pub learned : now.learned ≡ was.learned
+  pub reductions : now.reductions ≡ was.reductions

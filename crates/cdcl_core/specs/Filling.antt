@@ -5,10 +5,11 @@ use Rattle.cx_base.specs.Literals.{Literal}
 use Rattle.cx_base.specs.Problem.{Problem, clauses_of, AreWithin}
 use Rattle.cx_semantics.specs.Chain.{same_literals}
 use Rattle.cx_semantics.specs.Fresh.{is_tautology}
-use Rattle.clause_arena.specs.Clauses.{IsLive, literals_at, id_at}
+use Rattle.clause_arena.specs.Clauses.{ArenaState, IsLive, literals_at, id_at, learned_at}
 use Rattle.watch_lists.specs.Watching.{Fits, IsAttached}
 use Rattle.search_policy.specs.Standing.{AllStand}
 use Rattle.cdcl_search.specs.declared.state.SearchState.{SearchState}
+use Rattle.cdcl_search.specs.Ties.{HasTwo, IsWatched}
 use Rattle.cdcl_core.specs.declared.filling.Single.{Single}
 use Rattle.cdcl_core.specs.declared.filling.Filled.{Filled}
 use Rattle.cdcl_core.specs.Clauses.{AreDifferent}
@@ -25,6 +26,8 @@ pub record IsEmpty (variables : ℕ) (c : SearchState) : Type 0 where
   pub next : c.next ≡ 1
   pub given : c.given ≡ 0
   pub conflicts : c.conflicts ≡ 0
+  pub none_learned : c.learned ≡ 0
+  pub not_reduced : c.reductions ≡ 0
 
 -- the k-th clause of the formula, from 1
 abbrev pub clause_number : Problem → ℕ → List Literal
@@ -36,26 +39,36 @@ pub record IsUnitClause (formula : Problem) (k : ℕ) (l : Literal) : Type 0 whe
   pub high : k ≤ length (clauses_of formula.constraints)
   pub same : IsTrue (same_literals (l ∷ []) (clause_number formula k))
 
--- The k-th clause is attached, or has a literal with its negation, or is one of these units; or some clause has no literal.
+-- The k-th clause stands in the arena, or has a literal with its negation, or is one of these units; or some clause has no literal.
 abbrev pub IsClauseTaken : Problem → SearchState → List Single → Option ℕ → ℕ → Type 0
 IsClauseTaken formula c units empty k =
-    ((r : ℕ) × IsAttached c.watches.attached r × IsTrue (same_literals (literals_at c.arena r) (clause_number formula k)))
+    ((r : ℕ) × IsLive c.arena r × (id_at c.arena r ≡ k))
     ⊎ IsTrue (is_tautology (clause_number formula k))
     ⊎ ((u : Single) × Contains units u × (u.number ≡ k))
     ⊎ IsSome empty
 
+-- a clause of the arena has two different literals, those of the formula's clause of its number, which is up to n; it was not learned
+pub record IsTakenAt (formula : Problem) (n : ℕ) (arena : ArenaState) (r : ℕ) : Type 0 where
+  pub wide : HasTwo (literals_at arena r)
+  pub low : 1 ≤ id_at arena r
+  pub high : id_at arena r ≤ n
+  pub same : IsTrue (same_literals (literals_at arena r) (clause_number formula (id_at arena r)))
+  pub original : learned_at arena r ≡ false
+
 -- The first n clauses of the formula are taken: no literal is on the trail, and the arena has them and no others.
 pub record IsFilledUpTo (formula : Problem) (n : ℕ) (c : SearchState) (units : List Single) (empty : Option ℕ) : Type 0 where
   pub trail : c.trail ≡ record { variables = formula.variables; level = 0; entries = [] }
-  pub fits : Fits c.watches c.arena c.trail
+  pub watched : IsWatched c.watches c.arena c.trail
   pub stand : AllStand c.order c.trail
   pub phases : length c.phases.items ≡ formula.variables
   pub no_units : c.units.items ≡ []
   pub next : c.next ≡ n + 1
   pub given : c.given ≡ 0
   pub conflicts : c.conflicts ≡ 0
-  -- what the arena holds is attached, and has the literals of the clause of its number
-  pub stored : (r : ℕ) → IsLive c.arena r → IsAttached c.watches.attached r × (1 ≤ id_at c.arena r) × (id_at c.arena r ≤ n) × IsTrue (same_literals (literals_at c.arena r) (clause_number formula (id_at c.arena r)))
+  pub none_learned : c.learned ≡ 0
+  pub not_reduced : c.reductions ≡ 0
+  pub stored : (r : ℕ) → IsLive c.arena r → IsTakenAt formula n c.arena r
+  pub apart : (r q : ℕ) → IsLive c.arena r → IsLive c.arena q → id_at c.arena r ≡ id_at c.arena q → r ≡ q
   pub units_are : AllByRecursion (λ u. IsUnitClause formula u.number u.literal × (1 ≤ u.literal.variable) × (u.literal.variable ≤ formula.variables)) units
   pub covered : (k : ℕ) → 1 ≤ k → k ≤ n → IsClauseTaken formula c units empty k
   pub empty_is : IfSome empty (λ k. (1 ≤ k) × (k ≤ n) × (clause_number formula k ≡ []))
@@ -85,3 +98,5 @@ pub record Attaches (old new : SearchState) (lits : List Literal) (number : ℕ)
   pub next : new.next ≡ old.next
   pub given : new.given ≡ old.given
   pub conflicts : new.conflicts ≡ old.conflicts
+  pub learned : new.learned ≡ old.learned
+  pub reductions : new.reductions ≡ old.reductions

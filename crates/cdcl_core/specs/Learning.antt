@@ -1,7 +1,7 @@
 -- What a conflict teaches, and what the sink is told of it.
 use Rattle.std.specs.Prelude.{◌≡◌, ℕ, ◌<◌, ◌^◌, ℤ, List, ◌∷◌, length, Option}
 use Rattle.cx_base.specs.Literals.{Literal}
-use Rattle.cx_base.specs.Problem.{Problem, parities_of}
+use Rattle.cx_base.specs.Problem.{Problem}
 use Rattle.cx_semantics.specs.declared.steps.LogEvent.{LogEvent}
 use Rattle.cx_semantics.specs.Integers.{integers_of, literals}
 use Rattle.cx_semantics.specs.LogRules.{HasChain}
@@ -13,7 +13,7 @@ use Rattle.search_steps.specs.Search.{Search, IsSearch, IsLearnedOf}
 use Rattle.search_steps.specs.LogSteps.{after_round}
 use Rattle.search_steps.specs.Holding.{AreTold}
 use Rattle.cdcl_search.specs.declared.state.SearchState.{SearchState}
-use Rattle.cdcl_search.specs.Ties.{Ties, first_row_id}
+use Rattle.cdcl_search.specs.Ties.{Ties, IsWatched, first_row_id}
 
 -- The literals are the negations of those at falling places of the trail. The back level is that of the second one, 0 where there is none.
 pub record ArePlaced (trail : TrailState) (lits : List Literal) (back : ℕ) : Type 0 where
@@ -26,9 +26,10 @@ pub record ArePlaced (trail : TrailState) (lits : List Literal) (back : ℕ) : T
 
 -- The search stands before the mark. The clause has a right chain and is asserting by its first literal, and there is an id for it and a number for its mark.
 pub record IsTaught (formula : Problem) (c : SearchState) (e : State) (lits : List Literal) (back : ℕ) (s : Search) : Type 0 where
-  pub search : IsSearch formula (parities_of formula.constraints) s
+  pub search : IsSearch formula e.parities s
   pub rows : List (List Literal)
   pub ties : Ties formula c e rows s
+  pub watched : IsWatched c.watches c.arena c.trail
   pub chain : HasChain s.moment.tables.clauses lits
   pub first : Literal
   pub more : List Literal

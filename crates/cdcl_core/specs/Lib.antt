@@ -7,3 +7,4 @@ pub mod Originals
 pub mod Clauses
 pub mod Filling
 pub mod Waiting
+pub mod Reducing

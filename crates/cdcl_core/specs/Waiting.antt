@@ -1,29 +1,22 @@
 -- What a search holds while some unit clauses of the formula still wait.
-use Rattle.std.specs.Prelude.{◌≡◌, ◌⊎◌, ℕ, ◌+◌, ◌<◌, ◌≤◌, Bool, true, false, List, length, Option, IsTrue, Contains}
+use Rattle.std.specs.Prelude.{◌≡◌, ◌⊎◌, ℕ, ◌+◌, ◌<◌, ◌≤◌, Bool, true, false, List, [], length, Option, IsTrue, Contains}
 use Rattle.std.specs.List.{AllByRecursion}
 use Rattle.cx_base.specs.Problem.{Problem, clauses_of, parities_of}
 use Rattle.cx_semantics.specs.declared.steps.LogEvent.{LogEvent}
 use Rattle.cx_semantics.specs.Chain.{same_literals}
-use Rattle.clause_arena.specs.Clauses.{IsLive, literals_at, id_at}
-use Rattle.watch_lists.specs.Watching.{Fits, IsAttached}
+use Rattle.clause_arena.specs.Clauses.{IsLive, id_at}
 use Rattle.search_policy.specs.Standing.{AllStand}
 use Rattle.search_steps.specs.Holding.{AreTold}
 use Rattle.search_steps.specs.Ids.{IsRanged, HasFreeSums}
 use Rattle.search_steps.specs.Search.{Search, IsSearch}
 use Rattle.search_steps.specs.Tied.{Mirrors}
+use Rattle.search_steps.specs.Trail.{held}
 use Rattle.cdcl_search.specs.declared.state.SearchState.{SearchState}
-use Rattle.cdcl_search.specs.Ties.{IsCovered, AreUnits, HasOnlyRowClauses, first_row_id}
+use Rattle.cdcl_search.specs.Ties.{IsHeld, AreUnits, IsWatched, HasOnlyRowClauses, stretches, first_row_id}
 use Rattle.cdcl_core.specs.declared.filling.Single.{Single}
-use Rattle.cdcl_core.specs.Filling.{clause_number, IsUnitClause}
+use Rattle.cdcl_core.specs.Filling.{clause_number, IsUnitClause, IsTakenAt}
 use Rattle.cdcl_core.specs.Originals.{AreListedFromOne}
 use Rattle.cdcl_core.specs.Results.{Refutes}
-
--- what the arena holds is attached, and has the literals of the formula's clause of its number
-pub record IsOfFormula (formula : Problem) (c : SearchState) (r : ℕ) : Type 0 where
-  pub attached : IsAttached c.watches.attached r
-  pub low : 1 ≤ id_at c.arena r
-  pub high : id_at c.arena r ≤ length (clauses_of formula.constraints)
-  pub same : IsTrue (same_literals (literals_at c.arena r) (clause_number formula (id_at c.arena r)))
 
 -- one of these unit clauses has the number
 abbrev pub IsWaiting : List Single → ℕ → Type 0
@@ -44,17 +37,22 @@ pub record TiesBut (formula : Problem) (c : SearchState) (waiting : List Single)
   pub sums : HasFreeSums (length (parities_of formula.constraints)) s.moment
   pub parities : AreListedFromOne s.moment.tables.parities (parities_of formula.constraints)
   pub clauses : AreListedFromOne s.moment.tables.clauses (clauses_of formula.constraints)
-  pub stored : (r : ℕ) → IsLive c.arena r → IsOfFormula formula c r
-  pub covered : (k : ℕ) → 1 ≤ k → k ≤ length (clauses_of formula.constraints) → IsCovered c s.trail (clause_number formula k) ⊎ IsWaiting waiting k
+  pub stored : (r : ℕ) → IsLive c.arena r → IsTakenAt formula (length (clauses_of formula.constraints)) c.arena r
+  pub apart : (r q : ℕ) → IsLive c.arena r → IsLive c.arena q → id_at c.arena r ≡ id_at c.arena q → r ≡ q
+  pub covered : (k : ℕ) → 1 ≤ k → k ≤ length (clauses_of formula.constraints) → IsHeld c.arena (held 0 s.trail) k (clause_number formula k) ⊎ IsWaiting waiting k
   pub singles : AllByRecursion (IsSingle formula) waiting
   pub units : AreUnits s.moment.tables.clauses c.trail s.trail c.units.items
   pub every : length c.units.items ≡ length c.trail.entries
-  pub fits : Fits c.watches c.arena c.trail
+  pub watched : IsWatched c.watches c.arena c.trail
   pub stand : AllStand c.order c.trail
   pub phases : length c.phases.items ≡ formula.variables
   pub given : c.given ≡ 0
   pub conflicts : c.conflicts ≡ 0
+  pub none_learned : c.learned ≡ 0
+  pub not_reduced : c.reductions ≡ 0
   pub no_conflict : s.conflicts ≡ 0
+  pub no_learned : s.moment.learned ≡ []
+  pub no_reduction : stretches s.moment ≡ 0
   pub no_level : s.quiet_levels ≡ 0
   pub served : HasOnlyRowClauses s 0
 

@@ -1,7 +1,6 @@
 //! The clauses of conflicts.
-ghost use Rattle.std.specs.Prelude.{◌≡◌, ◌≢◌, ◌+◌, [], ◌∷◌, length, IfOk, OnOk};
+ghost use Rattle.std.specs.Prelude.{◌≡◌, ◌≢◌, ℕ, ◌+◌, ◌≤◌, [], ◌∷◌, length, IfOk, OnOk};
 ghost use Rattle.std.specs.List.{AllByRecursion};
-ghost use Rattle.cx_base.specs.Problem.{parities_of};
 ghost use Rattle.cx_semantics.specs.Integers.{integers_of, literals};
 ghost use Rattle.cx_semantics.specs.Printed.{HasText};
 ghost use Rattle.cx_semantics.specs.declared.steps.LogEvent.TheVariants.{Step};
@@ -71,7 +70,7 @@ fn told_conflict<P: ParityEngine, L: LogSink>(
     reason: ReasonOf,
 ) -> Result<Conflict, CoreFault>
     requires stands { Stands P.ParityEngine L.LogSink log.old state.now engine.now [] }
-    requires explains { Explains (parities_of log.old.formula.now.constraints) state.now.trail reason }
+    requires explains { Explains (P.state engine.now).parities state.now.trail reason }
     requires some { reason.clause ≢ [] }
     ensures clause { IfOk result (λ c. c.lits ≡ reason.clause) }
     ensures rows { IfOk result (λ c. c.rows.items ≡ reason.clause ∷ []) }
@@ -91,7 +90,7 @@ fn told_conflict<P: ParityEngine, L: LogSink>(
 
 /// The steps of a row: its sum and its clause.
 fn ending(alloc: Global, formula: &Formula, reason: ReasonOf) -> Result<Vec<LogStep>, AllocError>
-    requires { AreRising 1 (length (parities_of formula.now.constraints)) reason.sources }
+    requires { (parities : ℕ) × (parities ≤ length formula.now.constraints) × AreRising 1 parities reason.sources }
     ensures steps { IfOk result (λ s. s.items ≡ step.Parity (length formula.now.constraints + 1) (integers_of reason.parity) reason.sources
         ∷ step.ClauseOfParity first_row_id (integers_of reason.clause) (length formula.now.constraints + 1) ∷ []) }
     ensures texts { IfOk result (λ s. AllByRecursion (λ t. HasText (Step t)) s.items) }

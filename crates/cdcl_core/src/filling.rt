@@ -51,6 +51,8 @@ fn empty_state(alloc: Global, vars: u32) -> Result<SearchState, AllocError>
         next: 1,
         given: 0,
         conflicts: 0,
+        learned: 0,
+        reductions: 0,
     })
 }
 

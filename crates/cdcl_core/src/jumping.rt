@@ -2,16 +2,15 @@
 ghost use Rattle.std.specs.Prelude.{◌≡◌, ◌≢◌, ◌<◌, ◌≤◌, ◌+◌, List, [], length, Option, OnOk};
 ghost use Rattle.std.specs.List.{All};
 ghost use Rattle.cx_base.specs.Literals.{Literal};
-ghost use Rattle.cx_base.specs.Problem.{parities_of};
 ghost use Rattle.cx_semantics.specs.declared.steps.LogEvent.{LogEvent};
 ghost use Rattle.cx_trail.specs.Sequence.{TakesBack, IsOpenIn};
 ghost use Rattle.watch_lists.specs.Watching.{Fits};
 ghost use Rattle.watch_lists.specs.Attaching.{CanBeWatched, literal_at};
 ghost use Rattle.parity_engine.specs.declared.state.Mood.TheVariants.{Broken};
 ghost use Rattle.search_steps.specs.Search.{Search, IsSearch, jumped};
-ghost use Rattle.cdcl_search.specs.Ties.{SearchStands, Ties};
+ghost use Rattle.cdcl_search.specs.Ties.{SearchStands, Ties, IsWatched};
 ghost use Rattle.cdcl_core.specs.Learning.{Learns};
-ghost use Rattle.cdcl_core.specs.Entering.{EntersUnit, EntersClause, Enters};
+ghost use Rattle.cdcl_core.specs.Entering.{EntersUnit, EntersClause, Enters, HasCounts};
 
 use cdcl_search::SearchState;
 use conflict_learn::Learned;
@@ -44,13 +43,15 @@ pub(crate) fn go_back<P: ParityEngine>(
     engine: &mut P,
     level: u32,
 )
-    requires stands { (rows : List (List Literal)) × (s : Search) × IsSearch formula.now (parities_of formula.now.constraints) s × Ties formula.now state.old (P.state engine.old) rows s }
+    requires stands { (rows : List (List Literal)) × (s : Search) × IsSearch formula.now (P.state engine.old).parities s × Ties formula.now state.old (P.state engine.old) rows s × IsWatched state.old.watches state.old.arena state.old.trail }
     requires lower { level < state.old.trail.level }
-    ensures ties { (rows : List (List Literal)) (s : Search) → IsSearch formula.now (parities_of formula.now.constraints) s
+    ensures ties { (rows : List (List Literal)) (s : Search) → IsSearch formula.now (P.state engine.old).parities s
         → Ties formula.now state.old (P.state engine.old) rows s → Ties formula.now state.new (P.state engine.new) rows (jumped s level) }
+    ensures watched { IsWatched state.new.watches state.new.arena state.new.trail }
     ensures back { TakesBack level state.old.trail state.new.trail }
     ensures units { level ≡ 0 → length state.new.units.items ≡ length state.new.trail.entries }
-    ensures same { (state.new.arena ≡ state.old.arena) × (state.new.units.items ≡ state.old.units.items) × (state.new.next ≡ state.old.next) × (state.new.conflicts ≡ state.old.conflicts) }
+    ensures counts { HasCounts state.new state.old }
+    ensures parities { (P.state engine.new).parities ≡ (P.state engine.old).parities }
     ensures unbroken { (P.state engine.new).mood ≢ Broken }
 {
     save_phases(&mut state.phases, &state.trail, level);
@@ -134,5 +135,6 @@ pub(crate) fn jump<P: ParityEngine>(
     let id = state.next;
     state.next = id + 1;
     state.conflicts += 1;
+    state.learned += 1;
     enter(state, learned.lits.as_slice(), id, learned.lbd)
 }

@@ -9,7 +9,11 @@ mod filling;
 mod jumping;
 mod learning;
 mod originals;
+mod reducing;
+mod restarting;
 mod solving;
 
 pub use conflict_learn::CoreFault;
+pub use reducing::reduce;
+pub use restarting::restart;
 pub use solving::{Outcome, solve_core};

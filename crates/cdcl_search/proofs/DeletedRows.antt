@@ -1,5 +1,5 @@
 -- The clauses of rows are deleted: the ties of the search behind that.
-use Rattle.std.proofs.Common.{◌≡◌, refl, sym, ap, ◌∙◌, subst, ℕ, zero, suc, ◌+◌, ◌-◌, ◌<◌, true≢false, List, [], ◌∷◌, ◌++◌, length, take, fold, Option, arith, append_assoc}
+use Rattle.std.proofs.Common.{Bool, true, false, not, cond, nat_eq, ◌||◌, ◌&&◌, ◌≡◌, refl, sym, ap, ◌∙◌, subst, ℕ, zero, suc, ◌+◌, ◌-◌, ◌<◌, ◌≤◌, true≢false, List, [], ◌∷◌, ◌++◌, length, take, fold, Option, arith, append_assoc}
 use Rattle.std.proofs.lemmas.List.{map_push}
 use Rattle.std.specs.List.{AllByRecursion}
 use Rattle.cx_base.specs.Literals.{Literal}
@@ -10,22 +10,23 @@ use Rattle.cx_semantics.specs.declared.steps.LogStep.TheVariants.{Delete}
 use Rattle.cx_semantics.specs.declared.steps.LogEvent.{LogEvent}
 use Rattle.cx_semantics.specs.declared.steps.LogEvent.TheVariants.{Step}
 use Rattle.cx_semantics.specs.Printed.{HasText}
-use Rattle.cx_semantics.specs.Marked.{without}
+use Rattle.cx_semantics.specs.Marked.{without, is_among, is_covered_without, clause_at}
 use Rattle.cx_semantics.specs.Tables.{get}
 use Rattle.parity_engine.specs.State.{State}
-use Rattle.search_steps.specs.Trail.{level_of}
+use Rattle.search_steps.specs.Trail.{level_of, held}
 use Rattle.search_steps.specs.Search.{Search, IsSearch, told}
 use Rattle.search_steps.specs.LogSteps.{AreTemporary, deleted, all_told}
 use Rattle.search_steps.specs.Holding.{AreTold}
 use Rattle.search_steps.specs.Ids.{IsRanged}
 use Rattle.search_steps.specs.Tied.{Mirrors}
-use Rattle.search_steps.proofs.Rounds.{deleted_keeps, deleted_trail, deleted_levels, deleted_conflicts, deleted_awaits, deleted_old_sums, deleted_new_sums, deleted_parities, deleted_old, deleted_get}
+use Rattle.search_steps.proofs.Rounds.{deleted_keeps, temporary_still, deleted_trail, deleted_levels, deleted_conflicts, deleted_awaits, deleted_old_sums, deleted_new_sums, deleted_parities, deleted_old, deleted_get}
 use Rattle.search_steps.proofs.RowReasons.{all_deleted}
 use Rattle.search_steps.proofs.IdLaws.{row_ids_are_temporary, deletions_ranged, anew_ranged, low_is_no_row}
+use Rattle.std.specs.Prelude.{if◌then◌else◌}
 use Rattle.cdcl_search.specs.declared.state.SearchState.{SearchState}
 use Rattle.cdcl_search.specs.Deleting.{deletions}
 use Rattle.cdcl_search.specs.Tells.{as_events, with_events}
-use Rattle.cdcl_search.specs.Ties.{Ties, SearchStands, AreUnits, IsFed, AreClauses, AreNumbered, first_row_id, row_ids}
+use Rattle.cdcl_search.specs.Ties.{Ties, SearchStands, AreUnits, ClauseTies, TrailTies, EngineTies, IsWatched, IsFallingFrom, stretches, AreNumbered, first_row_id, row_ids}
 use Rattle.cdcl_search.proofs.RowSteps.{all_told_are}
 use Rattle.cdcl_search.proofs.TableLaws.{AnswersBelow, clauses_stay, units_stay}
 
@@ -57,8 +58,32 @@ first_temporary formula s ids zero t = tt
 first_temporary formula s [] (suc k) t = tt
 first_temporary formula s (n ∷ ids) (suc k) t = (t.0, first_temporary formula s ids k t.1)
 
+-- ids that are not among the learned ones leave these as they were, and are no reduction
+without_none : (ns : List ℕ) (n : ℕ) → is_among ns n ≡ false → without ns n ≡ ns
+without_none [] n h = refl
+without_none (x ∷ ns) n h = go (nat_eq n x) refl h (without_none ns n)
+  where
+    go : (b : Bool) → nat_eq n x ≡ b → (b || is_among ns n) ≡ false → (is_among ns n ≡ false → without ns n ≡ ns) → without (x ∷ ns) n ≡ x ∷ ns
+    go true e h rec = absurd (true≢false h)
+    go false e h rec = ap (λ b. cond (not b) (x ∷ without ns n) (without ns n)) e ∙ ap (λ xs. x ∷ xs) (rec h)
+
+or_none : (b : Bool) → (b || false) ≡ b
+or_none true = refl
+or_none false = refl
+
+pub temporary_learned : (formula : Problem) (s : Search) (ids : List ℕ) → AreTemporary formula s ids → (deleted s ids).moment.learned ≡ s.moment.learned
+temporary_learned formula s [] t = refl
+temporary_learned formula s (n ∷ ids) t = temporary_learned formula (told s (Step (Delete n []))) ids (temporary_still formula s n ids t.1) ∙ without_none s.moment.learned n t.0.1
+
+pub temporary_stretches : (formula : Problem) (s : Search) (ids : List ℕ) → AreTemporary formula s ids → stretches (deleted s ids).moment ≡ stretches s.moment
+temporary_stretches formula s [] t = refl
+temporary_stretches formula s (n ∷ ids) t =
+    let m = s.moment in
+    temporary_stretches formula (told s (Step (Delete n []))) ids (temporary_still formula s n ids t.1)
+    ∙ ap (λ b. if b then m.reductions + 1 else m.reductions) (ap (λ b. m.reduces || (b && not (is_covered_without m.tables.clauses n (clause_at m.tables.clauses n)))) t.0.1 ∙ or_none m.reduces)
+
 -- ---- the ties
-module _ (formula : Problem) (c : SearchState) (e : State) (rows : List (List Literal)) (s : Search) (ok : IsSearch formula (parities_of formula.constraints) s) (t : Ties formula c e rows s) where
+module _ (formula : Problem) (c : SearchState) (e : State) (rows : List (List Literal)) (s : Search) (ok : IsSearch formula e.parities s) (t : Ties formula c e rows s) where
   abbrev ids : List ℕ
   ids = s.moment.new_clauses
 
@@ -66,60 +91,62 @@ module _ (formula : Problem) (c : SearchState) (e : State) (rows : List (List Li
   after = deleted s s.moment.new_clauses
 
   temporary : AreTemporary formula s ids
-  temporary = row_ids_are_temporary formula first_row_id c.next (first_row_id + length rows) s t.ranged ids t.ranged.new_rows
+  temporary = row_ids_are_temporary formula first_row_id c.next (first_row_id + length rows) s t.log.ranged ids t.log.ranged.new_rows
 
   none_new : after.moment.new_clauses ≡ []
   none_new = deleted_new_clauses s ids ∙ all_deleted ids ids (λ m h. h)
 
   none_old : after.moment.old_clauses ≡ []
-  none_old = deleted_old s ids ∙ ap (λ xs. fold without xs ids) t.served.old_clauses ∙ all_deleted ids [] (λ m h. absurd (true≢false (sym h)))
+  none_old = deleted_old s ids ∙ ap (λ xs. fold without xs ids) t.log.served.old_clauses ∙ all_deleted ids [] (λ m h. absurd (true≢false (sym h)))
 
   answers : AnswersBelow first_row_id s.moment.tables.clauses after.moment.tables.clauses
-  answers m low = deleted_get s ids m (low_is_no_row formula first_row_id c.next (first_row_id + length rows) s t.ranged m low)
+  answers m low = deleted_get s ids m (low_is_no_row formula first_row_id c.next (first_row_id + length rows) s t.log.ranged m low)
 
   ranged_then : IsRanged formula first_row_id c.next (first_row_id + 0) after.trail after.moment
   ranged_then = subst (λ r. IsRanged formula first_row_id c.next r after.trail after.moment) (let z : first_row_id ≡ first_row_id + 0 = omega arith in z)
-      (anew_ranged formula first_row_id c.next (first_row_id + length rows) after (deletions_ranged formula first_row_id c.next (first_row_id + length rows) s ids t.ranged) none_new none_old)
+      (anew_ranged formula first_row_id c.next (first_row_id + length rows) after (deletions_ranged formula first_row_id c.next (first_row_id + length rows) s ids t.log.ranged) none_new none_old)
 
   ties_then : Ties formula c e [] after
   ties_then = record {
-    follows = subst (λ es. Mirrors es c.trail) (sym (deleted_trail s ids)) t.follows;
-    variables = t.variables;
-    ranged = ranged_then;
-    sums = λ n high. ap (λ table. get table n) (deleted_parities s ids) ∙ t.sums n high;
-    numbered = subst (λ table. AreNumbered table (parities_of formula.constraints)) (sym (deleted_parities s ids)) t.numbered;
-    clauses = subst (AreClauses after.moment.tables.clauses c) (sym (deleted_trail s ids)) (clauses_stay s.moment.tables.clauses after.moment.tables.clauses c s.trail answers t.clauses);
-    rows_told = λ i h. absurd (omega (arith, h));
-    units = subst (λ es. AreUnits after.moment.tables.clauses c.trail es c.units.items) (sym (deleted_trail s ids)) (units_stay s.moment.tables.clauses after.moment.tables.clauses c.trail s.trail c.units.items answers t.units);
-    engine = t.engine;
-    fed = subst (λ es. IsFed es c.given e) (sym (deleted_trail s ids)) t.fed;
-    reasons = t.reasons;
-    fits = t.fits;
-    stand = t.stand;
-    phases = t.phases;
-    conflicts = deleted_conflicts s ids ∙ t.conflicts;
-    levels = deleted_levels s ids ∙ t.levels ∙ ap level_of (sym (deleted_trail s ids));
-    served = record {
-      served = deleted_awaits s ids ∙ t.served.served;
-      old_clauses = none_old;
-      new_clauses = none_new;
-      old_sums = deleted_old_sums s ids ∙ t.served.old_sums;
-      new_sums = deleted_new_sums s ids ∙ t.served.new_sums;
+    log = record {
+      ranged = ranged_then;
+      sums = λ n high. ap (λ table. get table n) (deleted_parities s ids) ∙ t.log.sums n high;
+      numbered = subst (λ table. AreNumbered table e.parities) (sym (deleted_parities s ids)) t.log.numbered;
+      rows_told = λ i h. absurd (omega (arith, h));
+      served = record {
+        served = deleted_awaits s ids ∙ t.log.served.served;
+        old_clauses = none_old;
+        new_clauses = none_new;
+        old_sums = deleted_old_sums s ids ∙ t.log.served.old_sums;
+        new_sums = deleted_new_sums s ids ∙ t.log.served.new_sums;
+      };
     };
+    clauses = subst (λ es. ClauseTies formula after.moment.tables.clauses c.next c.arena (held 0 es)) (sym (deleted_trail s ids)) (clauses_stay formula s.moment.tables.clauses after.moment.tables.clauses c.next c.arena (held 0 s.trail) t.log.ranged.room answers t.clauses);
+    trail = subst (λ es. TrailTies formula es c.trail c.order c.phases.items) (sym (deleted_trail s ids)) t.trail;
+    units = subst (λ es. AreUnits after.moment.tables.clauses c.trail es c.units.items) (sym (deleted_trail s ids)) (units_stay s.moment.tables.clauses after.moment.tables.clauses c.trail s.trail c.units.items answers t.units);
+    engine = subst (λ es. EngineTies formula es c.given e) (sym (deleted_trail s ids)) t.engine;
+    reasons = t.reasons;
+    counts = record {
+      marked = deleted_conflicts s ids ∙ t.counts.marked;
+      falling = subst (IsFallingFrom c.next) (sym (temporary_learned formula s ids temporary)) t.counts.falling;
+      many = subst (λ ns. c.learned ≤ length ns) (sym (temporary_learned formula s ids temporary)) t.counts.many;
+      few = subst (λ n. n ≤ c.reductions) (sym (temporary_stretches formula s ids temporary)) t.counts.few;
+    };
+    levels = deleted_levels s ids ∙ t.levels ∙ ap level_of (sym (deleted_trail s ids));
   }
 
-  is_search_then : (k : ℕ) → IsSearch formula (parities_of formula.constraints) (deleted s (take k ids))
-  is_search_then k = deleted_keeps formula (parities_of formula.constraints) s ok (take k ids) (first_temporary formula s ids k temporary)
+  is_search_then : (k : ℕ) → IsSearch formula e.parities (deleted s (take k ids))
+  is_search_then k = deleted_keeps formula e.parities s ok (take k ids) (first_temporary formula s ids k temporary)
 
   told_then : (old : Option (List LogEvent)) → AreTold old s.events → (some : List ℕ) → AreTold (with_events (deletions some) old) (deleted s some).events
   told_then old a some = subst (λ (u : Search). AreTold (with_events (deletions some) old) u.events) (deleted_is_told s some) (all_told_are (deletions some) s old a)
 
-  pub stands_then : (old : Option (List LogEvent)) → AreTold old s.events → SearchStands formula c e [] (with_events (deletions ids) old)
-  stands_then old a = (after, deleted_keeps formula (parities_of formula.constraints) s ok ids temporary, told_then old a ids, ties_then)
+  pub stands_then : (old : Option (List LogEvent)) → AreTold old s.events → IsWatched c.watches c.arena c.trail → SearchStands formula c e [] (with_events (deletions ids) old)
+  stands_then old a f = (after, deleted_keeps formula e.parities s ok ids temporary, told_then old a ids, ties_then, f)
 
 -- ---- what telling the deletions leaves
 -- the deletions of all clauses of rows leave the search standing
 pub rows_deleted : (formula : Problem) (c : SearchState) (e : State) (rows : List (List Literal)) (old : Option (List LogEvent)) → SearchStands formula c e rows old → (events : List LogEvent) → events ≡ deletions (row_ids (length rows))
     → SearchStands formula c e [] (with_events events old)
 rows_deleted formula c e rows old st events are =
-    subst (SearchStands formula c e []) (sym (ap (λ es. with_events es old) (are ∙ ap deletions (sym st.3.served.new_clauses)))) (stands_then formula c e rows st.0 st.1 st.3 old st.2)
+    subst (SearchStands formula c e []) (sym (ap (λ es. with_events es old) (are ∙ ap deletions (sym st.3.log.served.new_clauses)))) (stands_then formula c e rows st.0 st.1 st.3 old st.2 st.4)

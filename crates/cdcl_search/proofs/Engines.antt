@@ -13,8 +13,9 @@ use Rattle.parity_engine.specs.State.{State, Named, named_at, MeetsForm}
 use Rattle.search_steps.specs.Trail.{Entry}
 use Rattle.search_steps.specs.Search.{Search}
 use Rattle.search_steps.specs.Engine.{HoldsValues}
+use Rattle.search_steps.specs.Laws.{HaveTheirs}
 use Rattle.cdcl_search.specs.declared.state.SearchState.{SearchState}
-use Rattle.cdcl_search.specs.Ties.{Ties, IsRowReasonAt, HasReasonAt, HaveReasons, IsFed}
+use Rattle.cdcl_search.specs.Ties.{Ties, LogTies, IsRowReasonAt, HasReasonOf, HaveReasons, IsFed}
 
 -- a row that is named anew, with the same form and level, is the reason that it was
 pub renamed_reason : (e u : State) (entries : List TrailEntry) (i row : ℕ) (h : IsRowReasonAt e entries i row) (n : Named) → named_at u row ≡ Some n → n.in_conflict ≡ false → n.form ≡ h.named.form → n.level ≡ h.named.level → IsRowReasonAt u entries i row
@@ -29,7 +30,7 @@ renamed_reason e u entries i row h n is calm form level = record {
 }
 
 module _ (c : SearchState) (e u : State) (rows_stay : (i row : ℕ) → i < length c.trail.entries → IsRowReasonAt e c.trail.entries i row → IsRowReasonAt u c.trail.entries i row) where
-  reason_stays : (i : ℕ) → i < length c.trail.entries → (r : Reason) → HasReasonAt c e i r → HasReasonAt c u i r
+  reason_stays : (i : ℕ) → i < length c.trail.entries → (r : Reason) → HasReasonOf c.arena c.trail.entries e i r → HasReasonOf c.arena c.trail.entries u i r
   reason_stays i less reason.Decision h = h
   reason_stays i less (reason.Clause r) h = h
   reason_stays i less (reason.Row row) h = rows_stay i row less h
@@ -52,21 +53,18 @@ fed_by es given e u values level f = record {
 pub other_engine : (formula : Problem) (c : SearchState) (rows : List (List Literal)) (s : Search) (e u : State) → u.vars ≡ e.vars → u.parities ≡ e.parities → u.values ≡ e.values → u.level ≡ e.level → HaveReasons c u
     → Ties formula c e rows s → Ties formula c u rows s
 other_engine formula c rows s e u vars parities values level reasons t = record {
-  follows = t.follows;
-  variables = t.variables;
-  ranged = t.ranged;
-  sums = t.sums;
-  numbered = t.numbered;
+  log = subst (λ ps. LogTies formula ps c.next rows s) (sym parities) t.log;
   clauses = t.clauses;
-  rows_told = t.rows_told;
+  trail = t.trail;
   units = t.units;
-  engine = record { vars = vars ∙ t.engine.vars; parities = parities ∙ t.engine.parities; wide = subst (λ vs. length vs ≡ u.vars) (sym values) (t.engine.wide ∙ sym vars) };
-  fed = fed_by s.trail c.given e u values level t.fed;
+  engine = record {
+    vars = vars ∙ t.engine.vars;
+    wide = subst (λ vs. length vs ≡ u.vars) (sym values) (t.engine.wide ∙ sym vars);
+    theirs = subst (HaveTheirs formula) (sym parities) t.engine.theirs;
+    few = subst (λ ps. length ps ≤ length formula.constraints) (sym parities) t.engine.few;
+    fed = fed_by s.trail c.given e u values level t.engine.fed;
+  };
   reasons = reasons;
-  fits = t.fits;
-  stand = t.stand;
-  phases = t.phases;
-  conflicts = t.conflicts;
+  counts = t.counts;
   levels = t.levels;
-  served = t.served;
 }

@@ -3,14 +3,14 @@ use Rattle.std.proofs.Common.{◌≡◌, sym, ap, ◌∙◌, subst, ℕ, zero, s
 use Rattle.std.proofs.Math.Seq.{take-suc, take-length, take-append_seam}
 use Rattle.std.proofs.Math.ListN.{get_or-append}
 use Rattle.cx_base.specs.Literals.{Literal}
-use Rattle.cx_base.specs.Problem.{Problem, parities_of}
+use Rattle.cx_base.specs.Problem.{Problem}
 use Rattle.cx_semantics.specs.declared.steps.LogEvent.{LogEvent}
 use Rattle.cx_trail.specs.declared.entry.Entry.{Entry as TrailEntry}
 use Rattle.cx_trail.specs.declared.entry.Reason.{Reason}
 use Rattle.cx_trail.specs.Sequence.{TrailState, IsTrail, entry_at, no_entry, pushed}
 use Rattle.clause_arena.specs.Clauses.{literals_at, id_at}
 use Rattle.watch_lists.specs.Truths.{AreOthersFalse}
-use Rattle.watch_lists.specs.Watching.{WatchState, Fits, IsForced, Propagates}
+use Rattle.watch_lists.specs.Watching.{WatchState, Fits, IsAttached, IsForced, Propagates}
 use Rattle.parity_engine.specs.State.{State}
 use Rattle.search_steps.specs.Trail.{by_clause}
 use Rattle.search_steps.specs.Search.{Search, forced_on}
@@ -19,38 +19,38 @@ use Rattle.search_steps.proofs.CodeSteps.{clause_step_keeps}
 use Rattle.search_steps.proofs.Stored.{stored_forces}
 use Rattle.search_steps.proofs.IdLaws.{force_ranged}
 use Rattle.cdcl_search.specs.declared.state.SearchState.{SearchState}
-use Rattle.cdcl_search.specs.Ties.{Ties, SearchStands, first_row_id, IsStored, IsClauseReasonAt, HasReasonAt}
-use Rattle.cdcl_search.proofs.Alike.{reasons_alike, clauses_alike}
+use Rattle.cdcl_search.specs.Ties.{Ties, SearchStands, first_row_id, IsKept, IsClauseReasonOf, HasReasonOf}
 use Rattle.cdcl_search.proofs.Fronts.{front, late_level, front_is_trail}
-use Rattle.cdcl_search.proofs.Growing.{put, grown, at_end, before, forced_ties}
+use Rattle.cdcl_search.proofs.Growing.{put, grown, at_end, before, forced_ties, watched_grows}
 
 -- each level of the search is known to be quiet but the current one
 pub levels_low : (formula : Problem) (c : SearchState) (e : State) (rows : List (List Literal)) (s : Search) → Ties formula c e rows s → s.quiet_levels ≡ c.trail.level
-levels_low formula c e rows s t = t.levels ∙ level_tied s.trail c.trail t.follows.tied t.follows.sound
+levels_low formula c e rows s t = t.levels ∙ level_tied s.trail c.trail t.trail.follows.tied t.trail.follows.sound
 
 module _ (formula : Problem) (e : State) (told : Option (List LogEvent)) where
   -- one literal more
   forced_more : (c : SearchState) (l : Literal) (why : Reason) → SearchStands formula c e [] told → IsTrail (pushed c.trail c.trail.level l why)
       → IsForced c.watches.attached c.arena c.trail.entries (record { literal = l; level = c.trail.level; reason = why }) → SearchStands formula (put c c.trail.level l why) e [] told
-  forced_more c l why (s, ok, told_is, t) sound f =
-      let stored : IsStored s.moment.tables.clauses c f.clause = t.clauses.stored f.clause (t.fits.nodes.live f.clause f.of_attached) in
+  forced_more c l why (s, ok, told_is, t, w) sound f =
+      let live = w.fits.nodes.live f.clause f.of_attached in
+      let stored : IsKept formula s.moment.tables.clauses c.next c.arena f.clause = t.clauses.stored f.clause live in
       let levels = levels_low formula c e [] s t in
       let n = id_at c.arena f.clause in
-      let kept = clause_step_keeps formula (parities_of formula.constraints) s ok c.trail t.follows l why f.unassigned n stored.named.clause (omega (arith, levels)) stored.named.live
+      let kept = clause_step_keeps formula e.parities s ok c.trail t.trail.follows l why f.unassigned n stored.named.clause (omega (arith, levels)) stored.named.live
       (stored_forces (literals_at c.arena f.clause) stored.named.clause stored.named.same c.trail.entries l f.inside f.others) in
-      let ranged = force_ranged formula first_row_id c.next (first_row_id + 0) s t.ranged l n stored.low in
-      (forced_on s l (by_clause n), kept.0, told_is, forced_ties formula c e [] s t l why (by_clause n) ranged kept.1 sound has)
+      let ranged = force_ranged formula first_row_id c.next (first_row_id + 0) s t.log.ranged l n (let low = stored.low in let room = t.log.ranged.room in omega (arith, low, room)) in
+      (forced_on s l (by_clause n), kept.0, told_is, forced_ties formula c e [] s t l why (by_clause n) ranged kept.1 sound has, watched_grows c c.trail.level l why (omega arith) w)
     where
-      is_reason : IsClauseReasonAt (put c c.trail.level l why) (length c.trail.entries) f.clause
+      is_reason : IsClauseReasonOf c.arena (grown c c.trail.level l why) (length c.trail.entries) f.clause
       is_reason = record {
-        live = t.fits.nodes.live f.clause f.of_attached;
+        live = w.fits.nodes.live f.clause f.of_attached;
         has = subst (λ (x : TrailEntry). Contains (literals_at c.arena f.clause) x.literal) (sym (at_end c c.trail.level l why)) f.inside;
         others = subst (λ (x : TrailEntry). AreOthersFalse (take (length c.trail.entries) (grown c c.trail.level l why)) (literals_at c.arena f.clause) x.literal) (sym (at_end c c.trail.level l why))
             (subst (λ ys. AreOthersFalse ys (literals_at c.arena f.clause) l) (sym (before c c.trail.level l why (length c.trail.entries) (omega arith) ∙ take-length c.trail.entries)) f.others);
       }
 
-      has : HasReasonAt (put c c.trail.level l why) e (length c.trail.entries) why
-      has = subst (HasReasonAt (put c c.trail.level l why) e (length c.trail.entries)) (sym f.reason) is_reason
+      has : HasReasonOf c.arena (grown c c.trail.level l why) e (length c.trail.entries) why
+      has = subst (HasReasonOf c.arena (grown c c.trail.level l why) e (length c.trail.entries)) (sym f.reason) is_reason
 
   module _ (c : SearchState) (u : TrailState) (sound : IsTrail c.trail) (new_sound : IsTrail u) (p : Propagates c.watches.attached c.arena c.trail u) where
     abbrev at_step : ℕ → SearchState
@@ -100,31 +100,14 @@ module _ (formula : Problem) (e : State) (told : Option (List LogEvent)) where
 
   -- other watches of the same clauses
   pub rewatched : (c : SearchState) (rows : List (List Literal)) (w : WatchState) → w.attached ≡ c.watches.attached → Fits w c.arena c.trail → SearchStands formula c e rows told → SearchStands formula (record c { watches = w }) e rows told
-  rewatched c rows w attached fits (s, ok, told_is, t) = (
+  rewatched c rows w attached fits (s, ok, told_is, t, f) = (
     s,
     ok,
     told_is,
-    record {
-      follows = t.follows;
-      variables = t.variables;
-      ranged = t.ranged;
-      sums = t.sums;
-      numbered = t.numbered;
-      clauses = clauses_alike c w c.order c.given s.moment.tables.clauses s.trail attached t.clauses;
-      rows_told = t.rows_told;
-      units = t.units;
-      engine = t.engine;
-      fed = t.fed;
-      reasons = reasons_alike c w c.order c.given e t.reasons;
-      fits = fits;
-      stand = t.stand;
-      phases = t.phases;
-      conflicts = t.conflicts;
-      levels = t.levels;
-      served = t.served;
-    },
+    record { log = t.log; clauses = t.clauses; trail = t.trail; units = t.units; engine = t.engine; reasons = t.reasons; counts = t.counts; levels = t.levels },
+    record { fits = fits; all = λ r live. subst (λ b. IsAttached b r) (sym attached) (f.all r live) },
   )
 
   pub clauses_followed : (c : SearchState) (u : TrailState) (w : WatchState) → IsTrail u → w.attached ≡ c.watches.attached → Fits w c.arena u → Propagates c.watches.attached c.arena c.trail u
       → SearchStands formula c e [] told → SearchStands formula (record c { trail = u; watches = w }) e [] told
-  clauses_followed c u w sound attached fits p stands = rewatched (record c { trail = u }) [] w attached fits (followed c u stands.3.follows.sound sound p stands)
+  clauses_followed c u w sound attached fits p stands = rewatched (record c { trail = u }) [] w attached fits (followed c u stands.3.trail.follows.sound sound p stands)

@@ -4,7 +4,7 @@ use Rattle.std.proofs.lemmas.Bool.{eqb-false, or_right}
 use Rattle.std.proofs.Math.ListN.{get_or-append}
 use Rattle.std.proofs.Math.Seq.{get_or-append_seam}
 use Rattle.cx_base.specs.Literals.{Literal, literal_true, value_of, differ}
-use Rattle.cx_base.specs.Problem.{Problem, Meets, IsWithinVariables, parities_of}
+use Rattle.cx_base.specs.Problem.{Problem, Meets, IsWithinVariables}
 use Rattle.cx_semantics.specs.Chain.{has_literal}
 use Rattle.cx_semantics.specs.declared.steps.LogEvent.{LogEvent}
 use Rattle.cx_semantics.specs.Settled.{Decides}
@@ -18,9 +18,9 @@ use Rattle.search_steps.proofs.Bridge.{true_is_held, held_is_true}
 use Rattle.search_steps.proofs.EndLaws.{full_is_met}
 use Rattle.cdcl_search.specs.declared.state.SearchState.{SearchState}
 use Rattle.cdcl_search.specs.declared.propagation.Found.TheVariants as found
-use Rattle.cdcl_search.specs.Ties.{Ties, SearchStands}
+use Rattle.cdcl_search.specs.Ties.{Ties, SearchStands, IsWatched}
 use Rattle.cdcl_search.specs.Finds.{PropagationFinds}
-use Rattle.cdcl_search.proofs.Decisions.{is_quiet, own_are_had}
+use Rattle.cdcl_search.proofs.Decisions.{is_quiet}
 
 -- the values are those of the first so many variables on the trail
 abbrev pub AreValues : TrailState → ℕ → List Bool → Type 0
@@ -46,10 +46,10 @@ true_under t sound values are l (i, (less, at)) =
     made_true l.negative (value_of values l.variable)
     (one_sign t sound l (record { variable = l.variable - 1 + 1; negative = not (get_or values (l.variable - 1) false) }) (i, (less, at)) (are (l.variable - 1) (omega (arith, low, high, variable))) back)
 
-module _ (formula : Problem) (c : SearchState) (e : State) (s : Search) (ok : IsSearch formula (parities_of formula.constraints) s) (t : Ties formula c e [] s) where
+module _ (formula : Problem) (c : SearchState) (e : State) (s : Search) (ok : IsSearch formula e.parities s) (t : Ties formula c e [] s) (f : IsWatched c.watches c.arena c.trail) where
   decides : IsFull c.trail → Decides formula.variables (all_held s.trail)
   decides full v low high =
-      let n = t.variables in
+      let n = t.trail.variables in
       let r = full v low (omega (arith, high, n)) in
       go r.0 r.1 (entry_at c.trail.entries r.0).literal.negative refl r.2
     where
@@ -57,23 +57,23 @@ module _ (formula : Problem) (c : SearchState) (e : State) (s : Search) (ok : Is
           → (has_literal (all_held s.trail) (record { variable = v; negative = false }) || has_literal (all_held s.trail) (record { variable = v; negative = true })) ≡ true
       go i less true sign same =
           or_right (has_literal (all_held s.trail) (record { variable = v; negative = false })) (has_literal (all_held s.trail) (record { variable = v; negative = true }))
-          (true_is_held s.trail c.trail.entries t.follows.tied (record { variable = v; negative = true }) (i, (less, λ k. record { variable = same k; negative = sign k })))
+          (true_is_held s.trail c.trail.entries t.trail.follows.tied (record { variable = v; negative = true }) (i, (less, λ k. record { variable = same k; negative = sign k })))
       go i less false sign same =
           ap (λ b. b || has_literal (all_held s.trail) (record { variable = v; negative = true }))
-          (true_is_held s.trail c.trail.entries t.follows.tied (record { variable = v; negative = false }) (i, (less, λ k. record { variable = same k; negative = sign k })))
+          (true_is_held s.trail c.trail.entries t.trail.follows.tied (record { variable = v; negative = false }) (i, (less, λ k. record { variable = same k; negative = sign k })))
 
   values_meet : PropagationFinds c e found.Quiet → IsFull c.trail → IsWithinVariables formula.variables formula.constraints → (values : List Bool) → length values ≡ formula.variables → AreValues c.trail c.trail.variables values → Meets formula values
   values_meet finds full within values long are =
-      full_is_met formula (parities_of formula.constraints) s ok (is_quiet formula c e s ok t finds) (own_are_had formula) values within.1 (decides full) long
-      (all_by (literal_true values) (all_held s.trail) (λ l h. true_under c.trail t.follows.sound values are l (held_is_true s.trail c.trail.entries t.follows.tied l h)))
+      full_is_met formula e.parities s ok (is_quiet formula c e s ok t f finds) t.engine.theirs values within.1 (decides full) long
+      (all_by (literal_true values) (all_held s.trail) (λ l h. true_under c.trail t.trail.follows.sound values are l (held_is_true s.trail c.trail.entries t.trail.follows.tied l h)))
 
 pub full_trail_meets : (formula : Problem) (c : SearchState) (e : State) (told : Option (List LogEvent)) → SearchStands formula c e [] told → PropagationFinds c e found.Quiet → IsFull c.trail → IsWithinVariables formula.variables formula.constraints
     → (values : List Bool) → length values ≡ formula.variables → AreValues c.trail formula.variables values → Meets formula values
-full_trail_meets formula c e told (s, ok, told_is, t) finds full within values long are =
-    values_meet formula c e s ok t finds full within values long (subst (λ n. AreValues c.trail n values) (sym t.variables) are)
+full_trail_meets formula c e told (s, ok, told_is, t, f) finds full within values long are =
+    values_meet formula c e s ok t f finds full within values long (subst (λ n. AreValues c.trail n values) (sym t.trail.variables) are)
 
 pub as_many_variables : (formula : Problem) (c : SearchState) (e : State) (told : Option (List LogEvent)) → SearchStands formula c e [] told → c.trail.variables ≡ formula.variables
-as_many_variables formula c e told (s, ok, told_is, t) = t.variables
+as_many_variables formula c e told (s, ok, told_is, t, f) = t.trail.variables
 
 -- one value more
 pub one_value_more : (t : TrailState) (n : ℕ) (values : List Bool) (b : Bool) → length values ≡ n → AreValues t n values → IsTrueIn t.entries (record { variable = n + 1; negative = not b }) → AreValues t (n + 1) (values ++ b ∷ [])

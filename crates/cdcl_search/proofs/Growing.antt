@@ -11,12 +11,12 @@ use Rattle.cx_trail.specs.declared.entry.Entry.{Entry as TrailEntry}
 use Rattle.cx_trail.specs.declared.entry.Reason.{Reason}
 use Rattle.cx_trail.specs.declared.entry.Reason.TheVariants as reason
 use Rattle.cx_trail.specs.Sequence.{IsTrail, entry_at, pushed, IsTrueIn, IsAssignedIn}
-use Rattle.clause_arena.specs.Clauses.{literals_at}
+use Rattle.clause_arena.specs.Clauses.{ArenaState, literals_at}
 use Rattle.watch_lists.specs.Truths.{AreOthersFalse}
 use Rattle.watch_lists.proofs.EventLaws.{fits_pushed}
 use Rattle.search_policy.specs.Standing.{OrderState, AllStand}
 use Rattle.parity_engine.specs.State.{State}
-use Rattle.search_steps.specs.Trail.{Entry, Why, level_of}
+use Rattle.search_steps.specs.Trail.{Entry, Why, level_of, held}
 use Rattle.search_steps.specs.Search.{Search, forced_on}
 use Rattle.search_steps.specs.Ids.{IsRanged}
 use Rattle.search_steps.specs.Tied.{IsTied}
@@ -24,22 +24,22 @@ use Rattle.conflict_learn.proofs.ChainOfResolutions.{by_cases}
 use Rattle.search_steps.proofs.Bridge.{entry_last, entry_before, put_held}
 use Rattle.cdcl_search.specs.declared.state.SearchState.{SearchState}
 use Rattle.cdcl_search.proofs.Alike.{served_alike}
-use Rattle.cdcl_search.specs.Ties.{Ties, first_row_id, IsNamedBy, IsCovered, AreClauses, AreUnits, IsRowReasonAt, HasReasonAt, HaveReasons, IsFed}
+use Rattle.cdcl_search.specs.Ties.{Ties, first_row_id, IsNamedBy, IsHeld, ClauseTies, IsWatched, AreUnits, IsRowReasonAt, HasReasonOf, HaveReasons, IsFed}
 
 abbrev pub put : SearchState → ℕ → Literal → Reason → SearchState
 put c level l why = record c { trail = pushed c.trail level l why }
 
 -- ---- clauses
+pub held_grows : (arena : ArenaState) (n : ℕ) (es : List Entry) (y : Entry) (clause : List Literal) → IsHeld arena (held 0 es) n clause → IsHeld arena (held 0 (y ∷ es)) n clause
+held_grows arena n es y clause (inl stored) = inl stored
+held_grows arena n es y clause (inr (inl both)) = inr (inl both)
+held_grows arena n es y clause (inr (inr t)) = inr (inr (record { l = t.l; has_it = t.has_it; is_held = put_held 0 y es t.l t.is_held }))
 
-pub covered_grows : (c : SearchState) (es : List Entry) (y : Entry) (clause : List Literal) → IsCovered c es clause → IsCovered c (y ∷ es) clause
-covered_grows c es y clause (inl stored) = inl stored
-covered_grows c es y clause (inr (inl both)) = inr (inl both)
-covered_grows c es y clause (inr (inr t)) = inr (inr (record { l = t.l; has_it = t.has_it; is_held = put_held 0 y es t.l t.is_held }))
-
-pub clauses_grow : (table : Table) (c : SearchState) (level : ℕ) (l : Literal) (why : Reason) (es : List Entry) (y : Entry) → AreClauses table c es → AreClauses table (put c level l why) (y ∷ es)
-clauses_grow table c level l why es y a = record {
-  stored = λ r live. let st = a.stored r live in record { attached = st.attached; named = st.named; low = st.low };
-  covered = λ n clause low live. covered_grows c es y clause (a.covered n clause low live);
+pub clauses_grow : (formula : Problem) (table : Table) (next : ℕ) (arena : ArenaState) (es : List Entry) (y : Entry) → ClauseTies formula table next arena (held 0 es) → ClauseTies formula table next arena (held 0 (y ∷ es))
+clauses_grow formula table next arena es y a = record {
+  stored = a.stored;
+  covered = λ n clause low live. held_grows arena n es y clause (a.covered n clause low live);
+  apart = a.apart;
 }
 
 -- ---- the engine
@@ -91,7 +91,7 @@ module _ (c : SearchState) (level : ℕ) (l : Literal) (why : Reason) where
       subst (P i) (sym (at i shorter)) (older i shorter))
 
   module _ (e : State) where
-    stays : (i : ℕ) → i < length c.trail.entries → (r : Reason) → HasReasonAt c e i r → HasReasonAt (put c level l why) e i r
+    stays : (i : ℕ) → i < length c.trail.entries → (r : Reason) → HasReasonOf c.arena c.trail.entries e i r → HasReasonOf c.arena grown e i r
     stays i less reason.Decision h = subst (λ y. 0 < y.level) (sym (at i less)) h
     stays i less (reason.Clause r) h = record {
       live = h.live;
@@ -102,9 +102,9 @@ module _ (c : SearchState) (level : ℕ) (l : Literal) (why : Reason) where
     stays i less (reason.Row row) h =
         same_row_reason e c.trail.entries grown i row (at i less) (before i (omega (arith, less))) (before (suc i) (omega (arith, less))) h
 
-    pub reasons_grow : HaveReasons c e → HasReasonAt (put c level l why) e (length c.trail.entries) why → HaveReasons (put c level l why) e
+    pub reasons_grow : HaveReasons c e → HasReasonOf c.arena grown e (length c.trail.entries) why → HaveReasons (put c level l why) e
     reasons_grow h last i low less =
-        at_places (λ i y. length c.units.items ≤ i → HasReasonAt (put c level l why) e i y.reason) (λ _. last) (λ i shorter low. stays i shorter _ (h i low shorter)) i less low
+        at_places (λ i y. length c.units.items ≤ i → HasReasonOf c.arena grown e i y.reason) (λ _. last) (λ i shorter low. stays i shorter _ (h i low shorter)) i less low
 
   -- ---- units
   pub units_grow : (table : Table) (es : List Entry) (y : Entry) (ids : List ℕ) → AreUnits table c.trail es ids
@@ -135,23 +135,18 @@ module _ (c : SearchState) (level : ℕ) (l : Literal) (why : Reason) where
 module _ (formula : Problem) (c : SearchState) (e : State) (rows : List (List Literal)) (s : Search) (t : Ties formula c e rows s) (l : Literal) (cause : Reason) (why : Why) where
   -- the ties stay, with the reason that the literal was put on the trail for
   pub forced_ties : IsRanged formula first_row_id c.next (first_row_id + length rows) (forced_on s l why).trail (forced_on s l why).moment → IsTied (forced_on s l why).trail (pushed c.trail c.trail.level l cause).entries
-      → IsTrail (pushed c.trail c.trail.level l cause) → HasReasonAt (put c c.trail.level l cause) e (length c.trail.entries) cause → Ties formula (put c c.trail.level l cause) e rows (forced_on s l why)
+      → IsTrail (pushed c.trail c.trail.level l cause) → HasReasonOf c.arena (grown c c.trail.level l cause) e (length c.trail.entries) cause → Ties formula (put c c.trail.level l cause) e rows (forced_on s l why)
   forced_ties ranged tied sound has = record {
-    follows = record { tied = tied; sound = sound };
-    variables = t.variables;
-    ranged = ranged;
-    sums = t.sums;
-    numbered = t.numbered;
-    clauses = clauses_grow s.moment.tables.clauses c c.trail.level l cause s.trail (record { literal = l; level = level_of s.trail; why = why }) t.clauses;
-    rows_told = t.rows_told;
+    log = record { ranged = ranged; sums = t.log.sums; numbered = t.log.numbered; rows_told = t.log.rows_told; served = served_alike s (forced_on s l why) (length rows) refl t.log.served };
+    clauses = clauses_grow formula s.moment.tables.clauses c.next c.arena s.trail (record { literal = l; level = level_of s.trail; why = why }) t.clauses;
+    trail = record { follows = record { tied = tied; sound = sound }; variables = t.trail.variables; stand = stand_grows c c.trail.level l cause c.order t.trail.stand; phased = t.trail.phased };
     units = units_grow c c.trail.level l cause s.moment.tables.clauses s.trail (record { literal = l; level = level_of s.trail; why = why }) c.units.items t.units t.units.all;
-    engine = t.engine;
-    fed = fed_grows s.trail (record { literal = l; level = level_of s.trail; why = why }) c.given e t.fed refl;
+    engine = record { vars = t.engine.vars; wide = t.engine.wide; theirs = t.engine.theirs; few = t.engine.few; fed = fed_grows s.trail (record { literal = l; level = level_of s.trail; why = why }) c.given e t.engine.fed refl };
     reasons = reasons_grow c c.trail.level l cause e t.reasons has;
-    fits = fits_pushed c.watches c.arena c.trail c.trail.level l cause (omega arith) t.fits;
-    stand = stand_grows c c.trail.level l cause c.order t.stand;
-    phases = t.phases;
-    conflicts = t.conflicts;
+    counts = record { marked = t.counts.marked; falling = t.counts.falling; many = t.counts.many; few = t.counts.few };
     levels = t.levels;
-    served = served_alike s (forced_on s l why) (length rows) refl t.served;
   }
+
+-- the watches of a trail still fit one with a literal more
+pub watched_grows : (c : SearchState) (level : ℕ) (l : Literal) (why : Reason) → c.trail.level ≤ level → IsWatched c.watches c.arena c.trail → IsWatched c.watches c.arena (pushed c.trail level l why)
+watched_grows c level l why high f = record { fits = fits_pushed c.watches c.arena c.trail level l why high f.fits; all = f.all }

@@ -8,7 +8,7 @@ use Rattle.std.proofs.lemmas.List.{get_or-set_same, get_or-set_other, length-tak
 use Rattle.std.proofs.Math.Seq.{take-length}
 use Rattle.cx_base.specs.Literals.{Literal, negate, literal_true, same_literal}
 use Rattle.cx_base.specs.Parity.{NormalForm, normal_form}
-use Rattle.cx_base.specs.Problem.{Problem, parities_of, parity_met, clause_met, AreWithin}
+use Rattle.cx_base.specs.Problem.{Problem, parity_met, clause_met, AreWithin}
 use Rattle.cx_semantics.specs.Chain.{has_literal, negations}
 use Rattle.cx_semantics.specs.declared.steps.LogEvent.{LogEvent}
 use Rattle.cx_semantics.proofs.ChainLaws.{literal_true-negate, same_literal-itself}
@@ -43,7 +43,7 @@ use Rattle.cdcl_search.specs.Finds.{HasAll, IsClash}
 use Rattle.cdcl_search.proofs.Engines.{renamed_reason, reasons_stay, other_engine}
 use Rattle.cdcl_search.proofs.Feeding.{tied_length}
 use Rattle.cdcl_search.proofs.Following.{levels_low}
-use Rattle.cdcl_search.proofs.Growing.{put, grown, at_end, before, forced_ties}
+use Rattle.cdcl_search.proofs.Growing.{put, grown, at_end, before, forced_ties, watched_grows}
 use Rattle.cdcl_search.proofs.Sums.{sum_is_written}
 
 -- ---- the clause of an implied literal: it, and the negations of what the engine knows
@@ -82,7 +82,7 @@ implied_of_parities e l f wide i = record {
 -- ---- what the engine knows stands on the trail
 module _ (formula : Problem) (c : SearchState) (e : State) (rows : List (List Literal)) (s : Search) (t : Ties formula c e rows s) where
   pub known_stands : (l : Literal) → has_literal (known e) l ≡ true → IsTrueIn c.trail.entries l
-  known_stands l h = known_is_true e t.fed.older t.fed.values t.fed.newer c.trail.entries (subst (λ es. IsTied es c.trail.entries) t.fed.parts t.follows.tied) l h
+  known_stands l h = known_is_true e t.engine.fed.older t.engine.fed.values t.engine.fed.newer c.trail.entries (subst (λ es. IsTied es c.trail.entries) t.engine.fed.parts t.trail.follows.tied) l h
 
   forces_on : (l : Literal) → ForcesOn c.trail.entries (clause_of e l) l
   forces_on l = record {
@@ -106,17 +106,17 @@ module _ (formula : Problem) (c : SearchState) (e : State) (rows : List (List Li
   -- where the engine has all literals, it has just the values of the trail
   pub all_fed : HasAll c → HoldsValues s.trail e.values
   all_fed all =
-      let n = tied_length s.trail c.trail.entries t.follows.tied in
-      let m : length s.trail ≡ length t.fed.newer + length t.fed.older = ap length t.fed.parts ∙ length-append t.fed.newer t.fed.older in
-      let k = t.fed.count in
-      subst (λ es. HoldsValues es e.values) (older_is t.fed.newer t.fed.parts (let a : c.given ≡ length c.trail.entries = all in omega (arith, n, m, k, a))) t.fed.values
+      let n = tied_length s.trail c.trail.entries t.trail.follows.tied in
+      let m : length s.trail ≡ length t.engine.fed.newer + length t.engine.fed.older = ap length t.engine.fed.parts ∙ length-append t.engine.fed.newer t.engine.fed.older in
+      let k = t.engine.fed.count in
+      subst (λ es. HoldsValues es e.values) (older_is t.engine.fed.newer t.engine.fed.parts (let a : c.given ≡ length c.trail.entries = all in omega (arith, n, m, k, a))) t.engine.fed.values
     where
-      older_is : (newer : List Entry) → s.trail ≡ newer ++ t.fed.older → length newer ≡ 0 → t.fed.older ≡ s.trail
+      older_is : (newer : List Entry) → s.trail ≡ newer ++ t.engine.fed.older → length newer ≡ 0 → t.engine.fed.older ≡ s.trail
       older_is [] parts none = sym parts
       older_is (x ∷ newer) parts none = absurd (omega (arith, none))
 
   pub implied_is_open : HasAll c → (l : Literal) → is_unassigned (held_at e.values l.variable) ≡ true → IsOpenIn c.trail.entries l.variable
-  implied_is_open all l none = no_value_is_open s.trail e.values (all_fed all) c.trail.entries t.follows.tied l.variable (none_is (held_at e.values l.variable) none)
+  implied_is_open all l none = no_value_is_open s.trail e.values (all_fed all) c.trail.entries t.trail.follows.tied l.variable (none_is (held_at e.values l.variable) none)
 
   -- ---- the rows that are named
   module _ (row : ℕ) (n : Named) (mood : Mood) (less : row < length e.named) (same : IsSameNamed (named_at e row) n) where
@@ -148,7 +148,7 @@ module _ (formula : Problem) (c : SearchState) (e : State) (rows : List (List Li
     pub missed_is_no_reason : IsNamedNow e n true → IsBroken e n.form → (i : ℕ) → i < length c.trail.entries → IsRowReasonAt e c.trail.entries i row → ⊥
     missed_is_no_reason now broken i within h =
         let v = trail_values c.trail in
-        let agrees = trail_values_agree c.trail t.follows.sound in
+        let agrees = trail_values_agree c.trail t.trail.follows.sound in
         let alike = same_as h.named h.is in
         let w = sum_is_written (numbered e.parities n.sources) in
         let is : normal_form w.0 ≡ n.form = w.1 ∙ sym now.sums in
@@ -184,7 +184,7 @@ module _ (formula : Problem) (c : SearchState) (e : State) (rows : List (List Li
         is = named_here;
         implied = now.kind_is;
         level = subst (λ (x : TrailEntry). n.level ≤ x.level) (sym (at_end c c.trail.level l (reason.Row row)))
-            (let a = now.level_is in let b = t.fed.level in let d = level_tied s.trail c.trail t.follows.tied t.follows.sound in omega (arith, a, b, d));
+            (let a = now.level_is in let b = t.engine.fed.level in let d = level_tied s.trail c.trail t.trail.follows.tied t.trail.follows.sound in omega (arith, a, b, d));
         has = subst (λ (x : TrailEntry). IsTrue (set.contains n.form.variables x.literal.variable)) (sym (at_end c c.trail.level l (reason.Row row))) implied.has;
         others = λ v low apart has. subst (λ es. IsAssignedIn es v) (sym (before c c.trail.level l (reason.Row row) (length c.trail.entries) (omega arith) ∙ take-length c.trail.entries))
             (assigned_stands v low (implied.others v (λ is. apart (is ∙ ap (λ (x : TrailEntry). x.literal.variable) (sym (at_end c c.trail.level l (reason.Row row))))) has));
@@ -193,39 +193,40 @@ module _ (formula : Problem) (c : SearchState) (e : State) (rows : List (List Li
             implied.met v (all_by (literal_true v) (known e) (λ m k. on m (stands_behind m (known_stands m k)))) (on l stands_last);
       }
 
-      pub implied_tied : IsSearch formula (parities_of formula.constraints) s → HasAll c → IsTrail (pushed c.trail c.trail.level l (reason.Row row))
-          → IsSearch formula (parities_of formula.constraints) (forced_on s l (by_row (clause_of e l))) × Ties formula (put c c.trail.level l (reason.Row row)) (names e row n mood) rows (forced_on s l (by_row (clause_of e l)))
+      pub implied_tied : IsSearch formula e.parities s → HasAll c → IsTrail (pushed c.trail c.trail.level l (reason.Row row))
+          → IsSearch formula e.parities (forced_on s l (by_row (clause_of e l))) × Ties formula (put c c.trail.level l (reason.Row row)) (names e row n mood) rows (forced_on s l (by_row (clause_of e l)))
       implied_tied ok all sound =
           let levels = levels_low formula c e rows s t in
-          let of_theirs : IsOfParities formula.variables (parities_of formula.constraints) (clause_of e l) =
-          subst (λ ps. IsOfParities formula.variables ps (clause_of e l)) t.engine.parities (subst (λ k. IsOfParities k e.parities (clause_of e l)) t.engine.vars (implied_of_parities e l n.form t.engine.wide implied)) in
-          let kept = row_step_keeps formula (parities_of formula.constraints) s ok c.trail t.follows l (reason.Row row) (implied_is_open all l implied.unassigned) (clause_of e l) (omega (arith, levels)) of_theirs (forces_on l) in (
+          let of_theirs : IsOfParities formula.variables e.parities (clause_of e l) =
+          subst (λ k. IsOfParities k e.parities (clause_of e l)) t.engine.vars (implied_of_parities e l n.form t.engine.wide implied) in
+          let kept = row_step_keeps formula e.parities s ok c.trail t.trail.follows l (reason.Row row) (implied_is_open all l implied.unassigned) (clause_of e l) (omega (arith, levels)) of_theirs (forces_on l) in (
             kept.0,
             forced_ties formula c (names e row n mood) rows s (names_tied (λ _ _ _. now.kind_is)) l (reason.Row row) (by_row (clause_of e l))
-                (row_ranged formula first_row_id c.next (first_row_id + length rows) s t.ranged l (clause_of e l)) kept.1 sound is_reason,
+                (row_ranged formula first_row_id c.next (first_row_id + length rows) s t.log.ranged l (clause_of e l)) kept.1 sound is_reason,
           )
 
 -- ---- the events, for the search behind the code
 module _ (formula : Problem) (c : SearchState) (e u : State) (rows : List (List Literal)) (told : Option (List LogEvent)) where
   pub quiet_stands : u ≡ record e { mood = Calm } → SearchStands formula c e rows told → SearchStands formula c u rows told
-  quiet_stands is (s, ok, told_is, t) =
+  quiet_stands is (s, ok, told_is, t, f) =
       subst (λ w. SearchStands formula c w rows told) (sym is) (
         s,
         ok,
         told_is,
         other_engine formula c rows s e (record e { mood = Calm }) refl refl refl refl
             (reasons_stay c e (record e { mood = Calm }) (λ i row _ h. renamed_reason e (record e { mood = Calm }) c.trail.entries i row h h.named h.is h.implied refl refl) t.reasons) t,
+        f,
       )
 
   pub implied_stands : (l : Literal) (row : ℕ) → Reports e (Implied l row) u → HasAll c → (trail : TrailState) → trail ≡ pushed c.trail c.trail.level l (reason.Row row) → IsTrail trail → SearchStands formula c e rows told → SearchStands formula (record c { trail = trail }) u rows told
-  implied_stands l row a all trail is sound (s, ok, told_is, t) =
+  implied_stands l row a all trail is sound (s, ok, told_is, t, f) =
       let r = implied_tied formula c e rows s t row a.0 Busy a.1 a.3 l a.4 a.5 ok all (subst IsTrail is sound) in
-      subst (λ (w : TrailState). SearchStands formula (record c { trail = w }) u rows told) (sym is) (subst (λ w. SearchStands formula (put c c.trail.level l (reason.Row row)) w rows told) (sym a.2) (forced_on s l (by_row (clause_of e l)), r.0, told_is, r.1))
+      subst (λ (w : TrailState). SearchStands formula (record c { trail = w }) u rows told) (sym is) (subst (λ w. SearchStands formula (put c c.trail.level l (reason.Row row)) w rows told) (sym a.2) (forced_on s l (by_row (clause_of e l)), r.0, told_is, r.1, watched_grows c c.trail.level l (reason.Row row) (omega arith) f))
 
   pub conflict_stands : (row : ℕ) → Reports e (Conflict row) u → SearchStands formula c e rows told → SearchStands formula c u rows told
-  conflict_stands row a (s, ok, told_is, t) =
+  conflict_stands row a (s, ok, told_is, t, f) =
       subst (λ w. SearchStands formula c w rows told) (sym a.2)
-      (s, ok, told_is, names_tied formula c e rows s t row a.0 Broken a.1 a.3 (λ i less h. absurd (missed_is_no_reason formula c e rows s t row a.0 Broken a.1 a.3 a.4 a.5 i less h)))
+      (s, ok, told_is, names_tied formula c e rows s t row a.0 Broken a.1 a.3 (λ i less h. absurd (missed_is_no_reason formula c e rows s t row a.0 Broken a.1 a.3 a.4 a.5 i less h)), f)
 
 pub conflict_is_clash : (e u : State) (row : ℕ) → Reports e (Conflict row) u → IsClash u row
 conflict_is_clash e u row a = subst (λ w. IsClash w row) (sym a.2)

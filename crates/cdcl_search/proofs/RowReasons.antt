@@ -63,7 +63,7 @@ module _ (t : TrailState) (e : State) (l : Literal) (row : ℕ) (r : IsReasonOf 
       in_trail : (m : Literal) → IsTrueIn (take (suc i) t.entries) m → IsTrueIn t.entries m
       in_trail m (j, (less, at)) = (j, (let short = length-take (suc i) t.entries in omega (arith, short, less), ap (λ x. x.literal) (sym (entry_taken t.entries (suc i) j less)) ∙ at))
 
-  module _ (reason : ReasonOf) (parities : List (List Literal)) (theirs : e.parities ≡ parities) (written : OfNamed e row (λ n. IsWritten n.form reason.parity)) (numbers : AreRising 1 (length e.parities) reason.sources)
+  module _ (reason : ReasonOf) (written : OfNamed e row (λ n. IsWritten n.form reason.parity)) (numbers : AreRising 1 (length e.parities) reason.sources)
       (sums : OfNamed e row (λ n. n.form ≡ sum_of_numbers e.parities reason.sources)) (clause : OfNamed e row (λ n. IsReasonClause t (Some l) n.form reason.parity reason.clause)) where
     abbrev form : NormalForm
     form = why.named.form
@@ -71,12 +71,12 @@ module _ (t : TrailState) (e : State) (l : Literal) (row : ℕ) (r : IsReasonOf 
     is_clause : IsReasonClause t (Some l) form reason.parity reason.clause
     is_clause = clause why.named why.is
 
-    pub explains : Explains parities t reason
+    pub explains : Explains e.parities t reason
     explains = record {
       form = form;
       written = written why.named why.is;
-      numbers = subst (λ ps. AreRising 1 (length ps) reason.sources) theirs numbers;
-      sums = sums why.named why.is ∙ ap (λ ps. sum_of_numbers ps reason.sources) theirs;
+      numbers = numbers;
+      sums = sums why.named why.is;
       one_of_each = is_clause.one_of_each;
       follows = is_clause.follows;
       assigned = all_assigned why.named why.is;

@@ -28,6 +28,7 @@ use Rattle.xor_reason.proofs.ClauseLaws.{contains_written, has_written}
 use Rattle.search_steps.specs.Search.{Search, IsSearch, told}
 use Rattle.search_steps.specs.LogSteps.{IsAddition, IsRowOf, IsClauseOfRow, IsRowReason, row_events, all_told}
 use Rattle.search_steps.specs.Holding.{AreTold}
+use Rattle.search_steps.specs.Trail.{held}
 use Rattle.search_steps.proofs.StartLaws.{variables_are_within}
 use Rattle.search_steps.proofs.LogLaws.{sum_keeps, row_clause_keeps}
 use Rattle.search_steps.proofs.RowLaws.{row_is_of_parities}
@@ -37,7 +38,7 @@ use Rattle.search_steps.proofs.EndLaws.{is_log_open}
 use Rattle.cx_semantics.proofs.Members.{has_at_head, has_behind}
 use Rattle.cx_semantics.proofs.Widths.{variable_in}
 use Rattle.cdcl_search.specs.declared.state.SearchState.{SearchState}
-use Rattle.cdcl_search.specs.Ties.{Ties, SearchStands, HasOnlyRowClauses, AreNumbered, AreRows, first_row_id, row_ids}
+use Rattle.cdcl_search.specs.Ties.{Ties, SearchStands, IsWatched, HasOnlyRowClauses, AreNumbered, AreRows, first_row_id, row_ids}
 use Rattle.std.specs.Prelude.{Result, Err, IfErr}
 use Rattle.conflict_learn.specs.declared.fault.CoreFault.{CoreFault}
 use Rattle.conflict_learn.specs.declared.fault.CoreFault.TheVariants.{Memory}
@@ -107,10 +108,10 @@ is_left formula parities s None ok served a = tt
 is_left formula parities s (Some es) ok served a = subst (λ xs. IsLeft formula (Some xs)) (sym a) (inl (is_log_open formula parities s ok served))
 
 -- ---- a row is told
-module _ (formula : Problem) (c : SearchState) (e : State) (rows : List (List Literal)) (s : Search) (ok : IsSearch formula (parities_of formula.constraints) s) (t : Ties formula c e rows s)
-    (r : ReasonOf) (x : Explains (parities_of formula.constraints) c.trail r) (back_parity : literals (integers_of r.parity) ≡ r.parity) (back_clause : literals (integers_of r.clause) ≡ r.clause) where
+module _ (formula : Problem) (c : SearchState) (e : State) (rows : List (List Literal)) (s : Search) (ok : IsSearch formula e.parities s) (t : Ties formula c e rows s)
+    (r : ReasonOf) (x : Explains e.parities c.trail r) (back_parity : literals (integers_of r.parity) ≡ r.parity) (back_clause : literals (integers_of r.clause) ≡ r.clause) where
   abbrev theirs : List (List Literal)
-  theirs = parities_of formula.constraints
+  theirs = e.parities
 
   abbrev k : ℕ
   k = length formula.constraints + 1
@@ -128,10 +129,10 @@ module _ (formula : Problem) (c : SearchState) (e : State) (rows : List (List Li
   steps = row_events k rs r.sources n zs
 
   high : length theirs < k
-  high = let few = few_parities formula.constraints in omega (arith, few)
+  high = let few = t.engine.few in omega (arith, few)
 
   form_within : (v : ℕ) → set.contains x.form.variables v ≡ true → (1 ≤ v) × (v ≤ formula.variables)
-  form_within v h = assigned_within c.trail formula.variables v t.follows.sound t.variables (x.assigned v (low_form x.form r.parity x.written v h) h)
+  form_within v h = assigned_within c.trail formula.variables v t.trail.follows.sound t.trail.variables (x.assigned v (low_form x.form r.parity x.written v h) h)
 
   parity_within : AreWithin formula.variables r.parity
   parity_within = within_by formula.variables r.parity (λ l h. form_within l.variable (has_written x.form r.parity x.written l h))
@@ -140,25 +141,25 @@ module _ (formula : Problem) (c : SearchState) (e : State) (rows : List (List Li
   clause_within = within_by formula.variables r.clause (λ l h. form_within l.variable (in_form x.form r.clause x.one_of_each l h))
 
   names_same : named s.moment.tables.parities r.sources ≡ numbered theirs r.sources
-  names_same = named_are s.moment.tables.parities theirs t.numbered 1 r.sources (omega arith) x.numbers
+  names_same = named_are s.moment.tables.parities theirs t.log.numbered 1 r.sources (omega arith) x.numbers
 
   normal : normal_form (literals rs) ≡ x.form
   normal = ap normal_form back_parity ∙ x.written.normal
 
   row_added : IsAddition formula s.moment.tables.parities k rs
-  row_added = record { within = variables_are_within formula.variables r.parity parity_within; free = t.sums k high }
+  row_added = record { within = variables_are_within formula.variables r.parity parity_within; free = t.log.sums k high }
 
   row_is : IsRowOf theirs s.moment.tables r.sources (literals rs)
   row_is = record {
-    live = all_live s.moment.tables.parities theirs t.numbered 1 r.sources (omega arith) x.numbers;
-    theirs = subst (AllByRecursion (Contains theirs)) (sym names_same) (all_theirs s.moment.tables.parities theirs t.numbered 1 r.sources (omega arith) x.numbers);
+    live = all_live s.moment.tables.parities theirs t.log.numbered 1 r.sources (omega arith) x.numbers;
+    theirs = subst (AllByRecursion (Contains theirs)) (sym names_same) (all_theirs s.moment.tables.parities theirs t.log.numbered 1 r.sources (omega arith) x.numbers);
     sums = normal ∙ x.sums ∙ ap (λ ps. sum_of (map normal_form ps)) (sym names_same);
   }
 
   pub clause_added : IsAddition formula s.moment.tables.clauses n zs
   clause_added = record {
     within = variables_are_within formula.variables r.clause clause_within;
-    free = row_next_is_free formula first_row_id c.next (first_row_id + length rows) s t.ranged (omega arith);
+    free = row_next_is_free formula first_row_id c.next (first_row_id + length rows) s t.log.ranged (omega arith);
   }
 
   pub clause_is : IsClauseOfRow formula.variables (literals rs) (literals zs)
@@ -188,12 +189,12 @@ module _ (formula : Problem) (c : SearchState) (e : State) (rows : List (List Li
     numbered_still m low few =
         let above = high in
         let other : m ≢ k = λ same. omega (arith, same, few, above) in
-        drop_other (map_.insert s.moment.tables.parities k (literals rs)) k m other ∙ put_other s.moment.tables.parities k m (literals rs) other ∙ t.numbered m low few
+        drop_other (map_.insert s.moment.tables.parities k (literals rs)) k m other ∙ put_other s.moment.tables.parities k m (literals rs) other ∙ t.log.numbered m low few
 
     rows_more : AreRows (all_told s steps).moment.tables.clauses (rows ++ r.clause ∷ [])
     rows_more i less = elim (Rattle.std.proofs.lemmas.Bool.cases_lt i (length rows)) [
       | inl old ↦
-          put_other s.moment.tables.clauses n (first_row_id + i) (literals zs) (λ same. omega (arith, same, old)) ∙ t.rows_told i old ∙ ap Some (sym (get_or-append rows (r.clause ∷ []) [] i old))
+          put_other s.moment.tables.clauses n (first_row_id + i) (literals zs) (λ same. omega (arith, same, old)) ∙ t.log.rows_told i old ∙ ap Some (sym (get_or-append rows (r.clause ∷ []) [] i old))
       | inr new ↦
           let long = length-append rows (r.clause ∷ []) in
           let last : i ≡ length rows = omega (arith, long, less, new) in
@@ -206,37 +207,34 @@ module _ (formula : Problem) (c : SearchState) (e : State) (rows : List (List Li
 
     served_still : HasOnlyRowClauses (all_told s steps) (length (rows ++ r.clause ∷ []))
     served_still = record {
-      served = t.served.served;
-      old_clauses = t.served.old_clauses;
-      new_clauses = ap (λ ids. n ∷ ids) t.served.new_clauses ∙ ap row_ids (sym one_longer);
-      old_sums = row_reason_old_sums formula theirs s k rs r.sources n zs reason_is t.served.old_sums;
-      new_sums = row_reason_sums formula theirs s k rs r.sources n zs reason_is t.served.new_sums;
+      served = t.log.served.served;
+      old_clauses = t.log.served.old_clauses;
+      new_clauses = ap (λ ids. n ∷ ids) t.log.served.new_clauses ∙ ap row_ids (sym one_longer);
+      old_sums = row_reason_old_sums formula theirs s k rs r.sources n zs reason_is t.log.served.old_sums;
+      new_sums = row_reason_sums formula theirs s k rs r.sources n zs reason_is t.log.served.new_sums;
     }
 
     ties_still : Ties formula c e (rows ++ r.clause ∷ []) (all_told s steps)
     ties_still = record {
-      follows = t.follows;
-      variables = t.variables;
-      ranged = subst (λ m. Rattle.search_steps.specs.Ids.IsRanged formula first_row_id c.next m s.trail (all_told s steps).moment) (let long = one_longer in omega (arith, long))
-          (row_reason_ranged formula first_row_id c.next (first_row_id + length rows) s k rs r.sources n zs (omega arith) (omega arith) t.ranged);
-      sums = row_reason_frees_sum (length theirs) s k rs r.sources n zs t.sums;
-      numbered = numbered_still;
-      clauses = clauses_stay s.moment.tables.clauses (all_told s steps).moment.tables.clauses c s.trail (put_answers_below first_row_id n s.moment.tables.clauses (literals zs) (omega arith)) t.clauses;
-      rows_told = rows_more;
+      log = record {
+        ranged = subst (λ m. Rattle.search_steps.specs.Ids.IsRanged formula first_row_id c.next m s.trail (all_told s steps).moment) (let long = one_longer in omega (arith, long))
+            (row_reason_ranged formula first_row_id c.next (first_row_id + length rows) s k rs r.sources n zs (omega arith) (omega arith) t.log.ranged);
+        sums = row_reason_frees_sum (length theirs) s k rs r.sources n zs t.log.sums;
+        numbered = numbered_still;
+        rows_told = rows_more;
+        served = served_still;
+      };
+      clauses = clauses_stay formula s.moment.tables.clauses (all_told s steps).moment.tables.clauses c.next c.arena (held 0 s.trail) t.log.ranged.room (put_answers_below first_row_id n s.moment.tables.clauses (literals zs) (omega arith)) t.clauses;
+      trail = t.trail;
       units = units_stay s.moment.tables.clauses (all_told s steps).moment.tables.clauses c.trail s.trail c.units.items (put_answers_below first_row_id n s.moment.tables.clauses (literals zs) (omega arith)) t.units;
       engine = t.engine;
-      fed = t.fed;
       reasons = t.reasons;
-      fits = t.fits;
-      stand = t.stand;
-      phases = t.phases;
-      conflicts = t.conflicts;
+      counts = record { marked = t.counts.marked; falling = t.counts.falling; many = t.counts.many; few = t.counts.few };
       levels = t.levels;
-      served = served_still;
     }
 
-    pub stands_still : (told_ : Option (List LogEvent)) → AreTold told_ s.events → SearchStands formula c e (rows ++ r.clause ∷ []) (with_events steps told_)
-    stands_still told_ a = (all_told s steps, told_is_search, all_told_are steps s told_ a, ties_still)
+    pub stands_still : (told_ : Option (List LogEvent)) → AreTold told_ s.events → IsWatched c.watches c.arena c.trail → SearchStands formula c e (rows ++ r.clause ∷ []) (with_events steps told_)
+    stands_still told_ a f = (all_told s steps, told_is_search, all_told_are steps s told_ a, ties_still, f)
 
 -- ---- what a telling leaves
 rising_ids : (least few : ℕ) (ids : List ℕ) → 1 ≤ least → few ≤ 9223372036854775807 → AreRising least few ids → AllByRecursion Rattle.cdcl_search.specs.Tells.IsId ids
@@ -246,8 +244,8 @@ rising_ids least few (i ∷ ids) low top r =
     let last = r.1 in
     ((omega (arith, low, first), omega (arith, top, last)), rising_ids (i + 1) few ids (omega arith) top r.2)
 
-pub sources_are_ids : (constraints : List Constraint) (ids : List ℕ) → length constraints < 500000000000000000 → AreRising 1 (length (parities_of constraints)) ids → AllByRecursion Rattle.cdcl_search.specs.Tells.IsId ids
-sources_are_ids constraints ids small r = let few = few_parities constraints in rising_ids 1 (length (parities_of constraints)) ids (omega arith) (omega (arith, few, small)) r
+pub sources_are_ids : (constraints parities : ℕ) (ids : List ℕ) → parities ≤ constraints → constraints < 500000000000000000 → AreRising 1 parities ids → AllByRecursion Rattle.cdcl_search.specs.Tells.IsId ids
+sources_are_ids constraints parities ids few small r = rising_ids 1 parities ids (omega arith) (omega (arith, few, small)) r
 
 not_empty : (lits : List Literal) → lits ≢ [] → is_empty (integers_of lits) ≡ false
 not_empty [] h = absurd (h refl)
@@ -255,13 +253,13 @@ not_empty (l ∷ lits) h = refl
 
 module _ (formula : Problem) (c : SearchState) (e : State) (rows : List (List Literal)) (old : Option (List LogEvent)) (st : SearchStands formula c e rows old) where
   pub left_now : IsLeft formula old
-  left_now = is_left formula (parities_of formula.constraints) st.0 old st.1 st.3.served.served st.2
+  left_now = is_left formula e.parities st.0 old st.1 st.3.log.served.served st.2
 
-  module _ (r : ReasonOf) (x : Explains (parities_of formula.constraints) c.trail r) (back_parity : literals (integers_of r.parity) ≡ r.parity) (back_clause : literals (integers_of r.clause) ≡ r.clause) (some : r.clause ≢ [])
+  module _ (r : ReasonOf) (x : Explains e.parities c.trail r) (back_parity : literals (integers_of r.parity) ≡ r.parity) (back_clause : literals (integers_of r.clause) ≡ r.clause) (some : r.clause ≢ [])
       (events : List LogEvent) (seen : List (List Literal)) (same : seen ≡ rows) (are_ : events ≡ row_events (length formula.constraints + 1) (integers_of r.parity) r.sources (first_row_id + length seen) (integers_of r.clause)) where
     are : events ≡ row_events (length formula.constraints + 1) (integers_of r.parity) r.sources (first_row_id + length rows) (integers_of r.clause)
     are = subst (λ xs. events ≡ row_events (length formula.constraints + 1) (integers_of r.parity) r.sources (first_row_id + length xs) (integers_of r.clause)) same are_
 
     pub stands_then : (new : Option (List LogEvent)) → new ≡ with_events events old → SearchStands formula c e (rows ++ r.clause ∷ []) new
     stands_then new is = subst (SearchStands formula c e (rows ++ r.clause ∷ [])) (sym (is ∙ ap (λ es. with_events es old) are))
-        (stands_still formula c e rows st.0 st.1 st.3 r x back_parity back_clause (not_empty r.clause some) old st.2)
+        (stands_still formula c e rows st.0 st.1 st.3 r x back_parity back_clause (not_empty r.clause some) old st.2 st.4)

@@ -18,7 +18,7 @@ use Rattle.search_steps.specs.Search.{Search}
 use Rattle.search_steps.specs.Tied.{IsLiveSet}
 use Rattle.search_steps.proofs.Reasons.{live_is_live_set}
 use Rattle.cdcl_search.specs.declared.state.SearchState.{SearchState}
-use Rattle.cdcl_search.specs.Ties.{HaveReasons, HasReasonAt, IsClauseReasonAt, Ties, first_row_id}
+use Rattle.cdcl_search.specs.Ties.{HaveReasons, HasReasonOf, IsClauseReasonOf, Ties, first_row_id}
 use Rattle.cdcl_search.specs.Explaining.{IsReasonOf}
 use Rattle.std.specs.Prelude.{Result, Ok, Err, IfOk, OnErr}
 use Rattle.cdcl_search.specs.Sources.{IsSourced}
@@ -35,18 +35,18 @@ module _ (t : TrailState) (sound : IsTrail t) (l : Literal) (place : ℕ) (less 
   reason_is why h = ap (λ p. (entry_at t.entries p).reason) (only_place h.0 h.1 h.2) ∙ h.3
 
 module _ (c : SearchState) (e : State) (have : HaveReasons c e) (sound : IsTrail c.trail) (l : Literal) (place : ℕ) (less : place < length c.trail.entries) (at : (entry_at c.trail.entries place).literal ≡ negate (negate l)) (high : length c.units.items ≤ place) where
-  why_at : (why : Reason) → HasReason c.trail l why → HasReasonAt c e place why
-  why_at why h = subst (HasReasonAt c e place) (reason_is c.trail sound l place less at why h) (have place high less)
+  why_at : (why : Reason) → HasReason c.trail l why → HasReasonOf c.arena c.trail.entries e place why
+  why_at why h = subst (HasReasonOf c.arena c.trail.entries e place) (reason_is c.trail sound l place less at why h) (have place high less)
 
   pub row_is_reason : (row : ℕ) → HasReason c.trail l (reason.Row row) → IsReasonOf e c.trail.entries l row
   row_is_reason row h = (place, (less, here c.trail sound l place less at), why_at (reason.Row row) h)
 
   pub clause_is_live : (r : ℕ) → HasReason c.trail l (reason.Clause r) → IsLive c.arena r
-  clause_is_live r h = let why : IsClauseReasonAt c place r = why_at (reason.Clause r) h in why.live
+  clause_is_live r h = let why : IsClauseReasonOf c.arena c.trail.entries place r = why_at (reason.Clause r) h in why.live
 
   pub clause_is_antecedent : (r : ℕ) → HasReason c.trail l (reason.Clause r) → (clause : List Literal) → clause ≡ literals_at c.arena r → IsAntecedent c.trail l clause
   clause_is_antecedent r h clause is = subst (IsAntecedent c.trail l) (sym is) (λ p low same.
-      let why : IsClauseReasonAt c place r = why_at (reason.Clause r) h in
+      let why : IsClauseReasonOf c.arena c.trail.entries place r = why_at (reason.Clause r) h in
       let one = only_place c.trail sound l place less at p low same in
       let is_l = here c.trail sound l place less at in
       record {
@@ -87,7 +87,7 @@ sourced_is_live formula c e rows s t clause (inr (inl (i, less, is))) =
     let named = t.units.named i less in
     subst (IsLiveSet s.moment.tables.clauses) (sym is) (named.clause, (_, named.live), named.same)
 sourced_is_live formula c e rows s t clause (inr (inr h)) =
-    live_is_live_set s.moment.tables.clauses clause (first_row_id + h.0, t.rows_told h.0 h.1 ∙ ap Some (row_at rows clause h))
+    live_is_live_set s.moment.tables.clauses clause (first_row_id + h.0, t.log.rows_told h.0 h.1 ∙ ap Some (row_at rows clause h))
 
 -- ---- rows that grew by one, or are as before
 module _ {T : Type 0} (c : SearchState) (old new : List (List Literal)) (lits : T → List Literal) where

@@ -5,7 +5,7 @@ use Rattle.std.specs.List.{All}
 use Rattle.std.specs.Global.{Vec}
 use Rattle.std.proofs.lemmas.Bool.{and_parts}
 use Rattle.cx_base.specs.Literals.{Literal, negate, same_literal}
-use Rattle.cx_base.specs.Problem.{Problem, parities_of}
+use Rattle.cx_base.specs.Problem.{Problem}
 use Rattle.cx_semantics.specs.declared.steps.LogStep.{LogStep}
 use Rattle.cx_semantics.specs.declared.steps.LogStep.TheVariants.{ClauseWithHints}
 use Rattle.cx_semantics.specs.declared.steps.LogEvent.{LogEvent}
@@ -94,7 +94,7 @@ module _ (formula : Problem) (c : SearchState) (e : State) (rows : List (List Li
     abbrev after : Search
     after = after_unit formula c e rows st.0 st.1 st.3 l is_next.next.0 is_next.next.1 hints
 
-    is_search : IsSearch formula (parities_of formula.constraints) after
+    is_search : IsSearch formula e.parities after
     is_search = unit_is_search formula c e rows st.0 st.1 st.3 l is_next.next.0 is_next.next.1 level live.0 live.1 forces room back hints
 
     told_then : (o : Option (List LogEvent)) → AreTold o st.0.events → AreTold (with_events (Step step ∷ []) o) after.events
@@ -102,7 +102,7 @@ module _ (formula : Problem) (c : SearchState) (e : State) (rows : List (List Li
     told_then (Some es) a = ap (λ xs. xs ++ Step step ∷ []) a
 
     pub left_then : IsLeft formula (with_events (Step step ∷ []) old)
-    left_then = is_left formula (parities_of formula.constraints) after (with_events (Step step ∷ []) old) is_search refl (told_then old st.2)
+    left_then = is_left formula e.parities after (with_events (Step step ∷ []) old) is_search refl (told_then old st.2)
 
     pub stands_then : (new : Option (List LogEvent)) → new ≡ with_events (Step step ∷ []) old → (units : Vec ℕ) → units.items ≡ c.units.items ++ c.next ∷ [] → (next : ℕ) → next ≡ c.next + 1 → SearchStands formula (with_unit c units next) e rows new
     stands_then new same units grown next next_is = (
@@ -110,6 +110,7 @@ module _ (formula : Problem) (c : SearchState) (e : State) (rows : List (List Li
       is_search,
       subst (λ o. AreTold o after.events) (sym same) (told_then old st.2),
       unit_ties formula c e rows st.0 st.1 st.3 l is_next.next.0 is_next.next.1 level live.0 live.1 forces room back hints units grown next next_is,
+      st.4,
     )
 
 -- ---- unit clauses change nothing that propagation found

@@ -1,14 +1,15 @@
 -- The unit clause of a literal of level 0 is told: the ties of the search behind that.
-use Rattle.std.proofs.Common.{◌≡◌, ◌≢◌, refl, sym, ap, ◌∙◌, subst, ℕ, suc, ◌+◌, ◌-◌, ◌<◌, ℤ, true, nat_eq, nat_lt, List, [], ◌∷◌, ◌++◌, length, take, get_or, Option, Some, ◌⊎◌, inl, inr, arith, length-append, append_assoc}
+use Rattle.std.proofs.Common.{◌≡◌, ◌≢◌, ◌≤◌, refl, sym, ap, ◌∙◌, subst, ℕ, suc, ◌+◌, ◌-◌, ◌<◌, ℤ, true, nat_eq, nat_lt, List, [], ◌∷◌, ◌++◌, length, take, get_or, Option, Some, ◌⊎◌, inl, inr, arith, length-append, append_assoc}
 use Rattle.std.proofs.lemmas.Bool.{eqb-false, ltb-true, ltb-false}
 use Rattle.std.proofs.lemmas.List.{take_all, take-append-le}
 use Rattle.std.proofs.Math.ListN.{get_or-append}
 use Rattle.std.proofs.Math.Seq.{get_or-append_seam}
 use Rattle.std.specs.FinMap as map_
 use Rattle.std.specs.List.{AllByRecursion}
+use Rattle.std.specs.Prelude.{if◌then◌else◌}
 use Rattle.std.specs.Global.{Vec}
 use Rattle.cx_base.specs.Literals.{Literal}
-use Rattle.cx_base.specs.Problem.{Problem, parities_of, AreWithin}
+use Rattle.cx_base.specs.Problem.{Problem, AreWithin}
 use Rattle.cx_base.proofs.Elements.{same_head, same_tail}
 use Rattle.cx_semantics.specs.declared.steps.LogStep.TheVariants.{ClauseWithHints}
 use Rattle.cx_semantics.specs.declared.steps.LogEvent.TheVariants.{Step}
@@ -18,8 +19,7 @@ use Rattle.cx_semantics.specs.Integers.{integer_of, literal, literals, integers_
 use Rattle.cx_semantics.specs.Tables.{Table, get}
 use Rattle.cx_semantics.proofs.Members.{has_at_head}
 use Rattle.cx_trail.specs.declared.entry.Entry.{Entry as TrailEntry}
-use Rattle.cx_trail.specs.declared.entry.Reason.{Reason}
-use Rattle.cx_trail.specs.declared.entry.Reason.TheVariants as reason
+use Rattle.clause_arena.specs.Clauses.{ArenaState}
 use Rattle.cx_trail.specs.Sequence.{TrailState, entry_at}
 use Rattle.cx_trail.proofs.ValueLaws.{entry_kept}
 use Rattle.parity_engine.specs.declared.state.Held.{Held}
@@ -29,7 +29,7 @@ use Rattle.search_steps.specs.Ids.{IsRanged}
 use Rattle.search_steps.specs.LogSteps.{IsAddition, RestOnClauses, unit_told}
 use Rattle.search_steps.specs.Search.{Search, IsSearch, told}
 use Rattle.search_steps.specs.Tied.{IsTied, ForcesOn}
-use Rattle.search_steps.specs.Trail.{Entry, rests_on, held, all_held, level_of}
+use Rattle.search_steps.specs.Trail.{Entry, rests_on, by_clause, held, all_held, level_of}
 use Rattle.search_steps.proofs.Bridge.{to_held}
 use Rattle.search_steps.proofs.CodeSteps.{forces_by}
 use Rattle.search_steps.proofs.IdLaws.{next_is_free, clause_ranged, rest_ranged}
@@ -38,7 +38,7 @@ use Rattle.search_steps.proofs.StartLaws.{variables_are_within}
 use Rattle.search_steps.proofs.UnitLaws.{held_same, level_same}
 use Rattle.search_steps.proofs.UnitSteps.{unit_rests_keeps}
 use Rattle.cdcl_search.specs.declared.state.SearchState.{SearchState}
-use Rattle.cdcl_search.specs.Ties.{Ties, IsNamedBy, IsCovered, AreClauses, AreUnits, IsFed, HasReasonAt, HaveReasons, first_row_id}
+use Rattle.cdcl_search.specs.Ties.{Ties, IsNamedBy, IsHeld, ClauseTies, AreUnits, RestOnUnits, IsFallingFrom, IsFed, HaveReasons, first_row_id}
 use Rattle.cdcl_search.proofs.Places.{tied_length, older_level}
 use Rattle.cdcl_search.proofs.TableLaws.{put_same, put_other, no_clause}
 
@@ -116,16 +116,30 @@ last_part [] h = absurd (omega (arith, h))
 last_part (x ∷ []) h = ([], x, refl)
 last_part (x ∷ y ∷ xs) h = let r = last_part (y ∷ xs) (omega arith) in (x ∷ r.0, r.1, ap (λ es. x ∷ es) r.2)
 
--- the entry of the first literal without a unit clause, between the newer ones and those that rest on clauses
-pub record IsNext (es : List Entry) (few : ℕ) : Type 0 where
+-- entries that rest on unit clauses rest on clauses
+pub on_clauses : (ids : List ℕ) (es : List Entry) → RestOnUnits ids es → RestOnClauses es
+on_clauses ids [] r = tt
+on_clauses ids (e ∷ es) ((i, less, is), r) = ((get_or ids i 0, is), on_clauses ids es r)
+
+-- and go on to do so with an id more
+pub on_more : (ids : List ℕ) (n : ℕ) (es : List Entry) → RestOnUnits ids es → RestOnUnits (ids ++ n ∷ []) es
+on_more ids n [] r = tt
+on_more ids n (e ∷ es) ((i, less, is), r) = ((i, let long = length-append ids (n ∷ []) in omega (arith, less, long), is ∙ ap by_clause (sym (get_or-append ids (n ∷ []) 0 i less))), on_more ids n es r)
+
+-- the newest rests on the last id
+pub on_last : (ids : List ℕ) (n : ℕ) (e : Entry) (es : List Entry) → e.why ≡ by_clause n → RestOnUnits ids es → RestOnUnits (ids ++ n ∷ []) (e ∷ es)
+on_last ids n e es is r = ((length ids, let long = length-append ids (n ∷ []) in omega (arith, long), is ∙ ap by_clause (sym (get_or-append_seam ids n [] 0))), on_more ids n es r)
+
+-- the entry of the first literal without a unit clause, between the newer ones and those that rest on unit clauses
+pub record IsNext (es : List Entry) (ids : List ℕ) (few : ℕ) : Type 0 where
   pub newer : List Entry
   pub entry : Entry
   pub older : List Entry
   pub parts : es ≡ newer ++ entry ∷ older
   pub count : length older ≡ few
-  pub rest : RestOnClauses older
+  pub rest : RestOnUnits ids older
 
-pub next_of : (table : Table) (t : TrailState) (es : List Entry) (ids : List ℕ) → AreUnits table t es ids → length ids < length es → IsNext es (length ids)
+pub next_of : (table : Table) (t : TrailState) (es : List Entry) (ids : List ℕ) → AreUnits table t es ids → length ids < length es → IsNext es ids (length ids)
 next_of table t es ids u more =
     let long = ap length u.parts in
     let both = length-append u.newer u.older in
@@ -140,38 +154,35 @@ next_of table t es ids u more =
       rest = u.rest;
     }
 
+-- ---- numbers that fall
+pub falls_lower : (low top : ℕ) (ns : List ℕ) → low ≤ top → IsFallingFrom low ns → IsFallingFrom top ns
+falls_lower low top [] l f = tt
+falls_lower low top (x ∷ ns) l f = let first = f.0 in (omega (arith, first, l), f.1)
+
 -- ---- what the code holds then
 abbrev pub with_unit : SearchState → Vec ℕ → ℕ → SearchState
 with_unit c units next = record c { units = units; next = next }
 
-module _ (c : SearchState) (units : Vec ℕ) (next : ℕ) where
-  reason_still : (e : State) (i : ℕ) (r : Reason) → HasReasonAt c e i r → HasReasonAt (with_unit c units next) e i r
-  reason_still e i reason.Decision h = h
-  reason_still e i (reason.Clause r) h = record { live = h.live; has = h.has; others = h.others }
-  reason_still e i (reason.Row row) h = h
+held_still : (arena : ArenaState) (n : ℕ) (es now : List Entry) (clause : List Literal) → held 0 now ≡ held 0 es → IsHeld arena (held 0 es) n clause → IsHeld arena (held 0 now) n clause
+held_still arena n es now clause same h = subst (λ ls. IsHeld arena ls n clause) (sym same) h
 
-  covered_still : (es now : List Entry) (clause : List Literal) → held 0 now ≡ held 0 es → IsCovered c es clause → IsCovered (with_unit c units next) now clause
-  covered_still es now clause same (inl stored) = inl stored
-  covered_still es now clause same (inr (inl both)) = inr (inl both)
-  covered_still es now clause same (inr (inr h)) = inr (inr (record { l = h.l; has_it = h.has_it; is_held = ap (λ ls. has_literal ls h.l) same ∙ h.is_held }))
-
-module _ (formula : Problem) (c : SearchState) (e : State) (rows : List (List Literal)) (s : Search) (ok : IsSearch formula (parities_of formula.constraints) s) (t : Ties formula c e rows s)
+module _ (formula : Problem) (c : SearchState) (e : State) (rows : List (List Literal)) (s : Search) (ok : IsSearch formula e.parities s) (t : Ties formula c e rows s)
     (l : Literal) (more : length c.units.items < length c.trail.entries) (here : (entry_at c.trail.entries (length c.units.items)).literal ≡ l) where
-  abbrev pub next_in : IsNext s.trail (length c.units.items)
-  next_in = next_of s.moment.tables.clauses c.trail s.trail c.units.items t.units (let long = tied_length s.trail c.trail.entries t.follows.tied in omega (arith, long, more))
+  abbrev pub next_in : IsNext s.trail c.units.items (length c.units.items)
+  next_in = next_of s.moment.tables.clauses c.trail s.trail c.units.items t.units (let long = tied_length s.trail c.trail.entries t.trail.follows.tied in omega (arith, long, more))
 
   pub l_within : AreWithin formula.variables (l ∷ [])
   l_within =
-      let low = t.follows.sound.low (length c.units.items) more in
-      let high = t.follows.sound.high (length c.units.items) more in
+      let low = t.trail.follows.sound.low (length c.units.items) more in
+      let high = t.trail.follows.sound.high (length c.units.items) more in
       let same = ap (λ m. m.variable) here in
-      let vars = t.variables in
+      let vars = t.trail.variables in
       ((omega (arith, low, same), omega (arith, high, same, vars)), tt)
 
   abbrev pub after_unit : List ℤ → Search
   after_unit hints = unit_told s c.next (integer_of l) hints next_in.newer next_in.entry next_in.older
 
-module _ (formula : Problem) (c : SearchState) (e : State) (rows : List (List Literal)) (s : Search) (ok : IsSearch formula (parities_of formula.constraints) s) (t : Ties formula c e rows s)
+module _ (formula : Problem) (c : SearchState) (e : State) (rows : List (List Literal)) (s : Search) (ok : IsSearch formula e.parities s) (t : Ties formula c e rows s)
     (l : Literal) (more : length c.units.items < length c.trail.entries) (here : (entry_at c.trail.entries (length c.units.items)).literal ≡ l) (level : c.trail.level ≡ 0)
     (clause : List Literal) (live : IsLive s.moment.tables.clauses clause) (forces : ForcesOn (take (length c.units.items) c.trail.entries) clause l)
     (room : c.next < first_row_id) (back : literals (integers_of (l ∷ [])) ≡ l ∷ []) (hints : List ℤ) where
@@ -181,14 +192,14 @@ module _ (formula : Problem) (c : SearchState) (e : State) (rows : List (List Li
   abbrev z : ℤ
   z = integer_of l
 
-  abbrev p : IsNext s.trail (length c.units.items)
+  abbrev p : IsNext s.trail c.units.items (length c.units.items)
   p = next_in formula c e rows s ok t l more here
 
   abbrev after : Search
   after = after_unit formula c e rows s ok t l more here hints
 
   tied : IsTied (p.newer ++ p.entry ∷ p.older) c.trail.entries
-  tied = subst (λ es. IsTied es c.trail.entries) p.parts t.follows.tied
+  tied = subst (λ es. IsTied es c.trail.entries) p.parts t.trail.follows.tied
 
   literal_is : p.entry.literal ≡ l
   literal_is = older_literal p.newer p.older p.entry c.trail.entries tied ∙ ap (λ i. (entry_at c.trail.entries i).literal) p.count ∙ here
@@ -196,7 +207,7 @@ module _ (formula : Problem) (c : SearchState) (e : State) (rows : List (List Li
   level_is : p.entry.level ≡ 0
   level_is =
       let at = older_level p.newer p.older p.entry c.trail.entries tied in
-      let low = t.follows.sound.levels (length c.units.items) more in
+      let low = t.trail.follows.sound.levels (length c.units.items) more in
       let same = ap (λ i. (entry_at c.trail.entries i).level) p.count in
       omega (arith, at, low, same, level)
 
@@ -207,10 +218,10 @@ module _ (formula : Problem) (c : SearchState) (e : State) (rows : List (List Li
   older_tied = subst (λ k. IsTied p.older (take k c.trail.entries)) p.count (tied_front (p.newer ++ p.entry ∷ []) p.older c.trail.entries (subst (λ es. IsTied es c.trail.entries) (sym (append_assoc p.newer (p.entry ∷ []) p.older)) tied))
 
   addition : IsAddition formula s.moment.tables.clauses n (z ∷ [])
-  addition = record { within = variables_are_within formula.variables (l ∷ []) (l_within formula c e rows s ok t l more here); free = next_is_free formula first_row_id c.next (first_row_id + length rows) s t.ranged room }
+  addition = record { within = variables_are_within formula.variables (l ∷ []) (l_within formula c e rows s ok t l more here); free = next_is_free formula first_row_id c.next (first_row_id + length rows) s t.log.ranged room }
 
-  pub unit_is_search : IsSearch formula (parities_of formula.constraints) after
-  unit_is_search = unit_rests_keeps formula (parities_of formula.constraints) s ok n z hints p.newer p.older p.entry p.parts level_is (integer_is ∙ sym literal_is) addition refl t.served.served p.rest clause live
+  pub unit_is_search : IsSearch formula e.parities after
+  unit_is_search = unit_rests_keeps formula e.parities s ok n z hints p.newer p.older p.entry p.parts level_is (integer_is ∙ sym literal_is) addition refl t.log.served.served (on_clauses c.units.items p.older p.rest) clause live
       (subst (Rattle.search_steps.specs.Trail.Forces clause (all_held p.older)) (sym literal_is) (forces_by p.older (take (length c.units.items) c.trail.entries) clause l older_tied forces))
 
   -- ---- the tables
@@ -231,7 +242,7 @@ module _ (formula : Problem) (c : SearchState) (e : State) (rows : List (List Li
 
   held_now : has_literal (held 0 after.trail) l ≡ true
   held_now = ap (λ ls. has_literal ls l) (still 0) ∙ ap (has_literal (held 0 s.trail)) (sym here)
-      ∙ to_held 0 s.trail c.trail.entries t.follows.tied (length c.units.items) more (let low = t.follows.sound.levels (length c.units.items) more in omega (arith, low, level))
+      ∙ to_held 0 s.trail c.trail.entries t.trail.follows.tied (length c.units.items) more (let low = t.trail.follows.sound.levels (length c.units.items) more in omega (arith, low, level))
 
   same_one : same_literals (l ∷ []) (l ∷ []) ≡ true
   same_one = Rattle.std.proofs.lemmas.Bool.and_from _ _ (Rattle.cx_semantics.proofs.Closure.inside_itself (l ∷ [])) (Rattle.cx_semantics.proofs.Closure.inside_itself (l ∷ []))
@@ -240,22 +251,23 @@ module _ (formula : Problem) (c : SearchState) (e : State) (rows : List (List Li
     abbrev d : SearchState
     d = record c { units = units; next = next }
 
-    covered_then : (m : ℕ) (x : List Literal) → m < first_row_id → get table m ≡ Some x → IsCovered d after.trail x
+    covered_then : (m : ℕ) (x : List Literal) → m < first_row_id → get table m ≡ Some x → IsHeld c.arena (held 0 after.trail) m x
     covered_then m x low is = by_cases (nat_eq m n)
         (λ q. inr (inr (record {
           l = l;
           has_it = ap (λ ls. has_literal ls l) (one_of (sym is ∙ ap (get table) (Rattle.std.proofs.Common.eqb-true m n q) ∙ put_here)) ∙ has_at_head l [];
           is_held = held_now;
         })))
-        (λ q. covered_still c units next s.trail after.trail x (still 0) (t.clauses.covered m x low (sym (put_other s.moment.tables.clauses n m (literal z ∷ []) (eqb-false m n q)) ∙ is)))
+        (λ q. held_still c.arena m s.trail after.trail x (still 0) (t.clauses.covered m x low (sym (put_other s.moment.tables.clauses n m (literal z ∷ []) (eqb-false m n q)) ∙ is)))
       where
         one_of : Some x ≡ Some (l ∷ []) → x ≡ l ∷ []
         one_of q = cc
 
-    clauses_then : AreClauses table d after.trail
+    clauses_then : ClauseTies formula table next c.arena (held 0 after.trail)
     clauses_then = record {
-      stored = λ r is_live. let st = t.clauses.stored r is_live in record { attached = st.attached; named = named_still _ _ st.named; low = st.low };
+      stored = λ r is_live. let st = t.clauses.stored r is_live in let low = st.low in record { wide = st.wide; named = named_still _ _ st.named; low = omega (arith, low, next_is); late = st.late };
       covered = covered_then;
+      apart = t.clauses.apart;
     }
 
     longer : length units.items ≡ length c.units.items + 1
@@ -274,7 +286,7 @@ module _ (formula : Problem) (c : SearchState) (e : State) (rows : List (List Li
     units_then : AreUnits table c.trail after.trail units.items
     units_then = record {
       few = let long = longer in omega (arith, long, more);
-      level_0 = λ i less. elim (id_at i less) [ inl (low, is) ↦ t.units.level_0 i low | inr (last, is) ↦ let at = t.follows.sound.levels i (omega (arith, last, more)) in omega (arith, at, level) ];
+      level_0 = λ i less. elim (id_at i less) [ inl (low, is) ↦ t.units.level_0 i low | inr (last, is) ↦ let at = t.trail.follows.sound.levels i (omega (arith, last, more)) in omega (arith, at, level) ];
       named = λ i less. elim (id_at i less) [
         | inl (low, is) ↦ subst (IsNamedBy table ((entry_at c.trail.entries i).literal ∷ [])) (sym is) (named_still _ _ (t.units.named i low))
         | inr (last, is) ↦ subst (IsNamedBy table ((entry_at c.trail.entries i).literal ∷ [])) (sym is)
@@ -285,48 +297,53 @@ module _ (formula : Problem) (c : SearchState) (e : State) (rows : List (List Li
       older = rests_on p.entry c.next ∷ p.older;
       parts = refl;
       count = let count = p.count in let long = longer in omega (arith, count, long);
-      rest = ((c.next, refl), p.rest);
+      rest = subst (λ ids. RestOnUnits ids (rests_on p.entry c.next ∷ p.older)) (sym grown) (on_last c.units.items c.next (rests_on p.entry c.next) p.older refl p.rest);
       all = λ high i far less. absurd (omega (arith, high, level));
     }
 
     fed_then : IsFed after.trail c.given e
     fed_then =
-        let r = split_rests e.level t.fed.newer t.fed.older p.newer p.older p.entry c.next (sym t.fed.parts ∙ p.parts) t.fed.now in
+        let r = split_rests e.level t.engine.fed.newer t.engine.fed.older p.newer p.older p.entry c.next (sym t.engine.fed.parts ∙ p.parts) t.engine.fed.now in
         record {
           newer = r.newer;
           older = r.older;
           parts = r.parts;
-          count = r.count ∙ t.fed.count;
+          count = r.count ∙ t.engine.fed.count;
           now = r.now;
-          values = values_still t.fed.older r.older e.values r.still t.fed.values;
-          level = t.fed.level ∙ ap level_of p.parts ∙ sym (level_same p.newer p.older p.entry c.next);
+          values = values_still t.engine.fed.older r.older e.values r.still t.engine.fed.values;
+          level = t.engine.fed.level ∙ ap level_of p.parts ∙ sym (level_same p.newer p.older p.entry c.next);
         }
 
     reasons_then : HaveReasons d e
-    reasons_then i far less = let long = longer in reason_still c units next e i _ (t.reasons i (omega (arith, far, long)) less)
+    reasons_then i far less = let long = longer in t.reasons i (omega (arith, far, long)) less
 
     ranged_then : IsRanged formula first_row_id next (first_row_id + length rows) after.trail after.moment
     ranged_then = subst (λ k. IsRanged formula first_row_id k (first_row_id + length rows) after.trail after.moment) (sym next_is)
         (rest_ranged formula first_row_id (c.next + 1) (first_row_id + length rows) (told s (Step (ClauseWithHints c.next (integer_of l ∷ []) hints)))
-        (clause_ranged formula first_row_id c.next (first_row_id + length rows) s t.ranged c.next (integer_of l ∷ []) hints (omega arith) room) c.next p.newer p.older p.entry p.parts room)
+        (clause_ranged formula first_row_id c.next (first_row_id + length rows) s t.log.ranged c.next (integer_of l ∷ []) hints (omega arith) room) c.next p.newer p.older p.entry p.parts room)
+
+    learned_still : after.moment.learned ≡ s.moment.learned
+    learned_still = ap (λ b. if b then c.next ∷ s.moment.learned else s.moment.learned) t.log.served.served
 
     pub unit_ties : Ties formula d e rows after
     unit_ties = record {
-      follows = record { tied = tied_rests p.newer p.older p.entry c.next c.trail.entries tied; sound = t.follows.sound };
-      variables = t.variables;
-      ranged = ranged_then;
-      sums = t.sums;
-      numbered = t.numbered;
+      log = record {
+        ranged = ranged_then;
+        sums = t.log.sums;
+        numbered = t.log.numbered;
+        rows_told = λ i less. put_other s.moment.tables.clauses c.next (first_row_id + i) (literal (integer_of l) ∷ []) (λ same. omega (arith, same, room)) ∙ t.log.rows_told i less;
+        served = record { served = refl; old_clauses = t.log.served.old_clauses; new_clauses = t.log.served.new_clauses; old_sums = t.log.served.old_sums; new_sums = t.log.served.new_sums };
+      };
       clauses = clauses_then;
-      rows_told = λ i less. put_other s.moment.tables.clauses c.next (first_row_id + i) (literal (integer_of l) ∷ []) (λ same. omega (arith, same, room)) ∙ t.rows_told i less;
+      trail = record { follows = record { tied = tied_rests p.newer p.older p.entry c.next c.trail.entries tied; sound = t.trail.follows.sound }; variables = t.trail.variables; stand = t.trail.stand; phased = t.trail.phased };
       units = units_then;
-      engine = t.engine;
-      fed = fed_then;
+      engine = record { vars = t.engine.vars; wide = t.engine.wide; theirs = t.engine.theirs; few = t.engine.few; fed = fed_then };
       reasons = reasons_then;
-      fits = t.fits;
-      stand = t.stand;
-      phases = t.phases;
-      conflicts = t.conflicts;
+      counts = record {
+        marked = t.counts.marked;
+        falling = falls_lower c.next next after.moment.learned (omega (arith, next_is)) (subst (IsFallingFrom c.next) (sym learned_still) t.counts.falling);
+        many = subst (λ ns. c.learned ≤ length ns) (sym learned_still) t.counts.many;
+        few = t.counts.few;
+      };
       levels = t.levels ∙ ap level_of p.parts ∙ sym (level_same p.newer p.older p.entry c.next);
-      served = record { served = refl; old_clauses = t.served.old_clauses; new_clauses = t.served.new_clauses; old_sums = t.served.old_sums; new_sums = t.served.new_sums };
     }

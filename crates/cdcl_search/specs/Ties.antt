@@ -1,9 +1,9 @@
--- What the code of a search holds, and how a search of the calculus stands behind it.
-use Rattle.std.specs.Prelude.{◌≡◌, ◌≢◌, ◌⊎◌, ℕ, zero, suc, ◌+◌, ◌-◌, ◌<◌, ◌≤◌, Bool, false, List, [], ◌∷◌, ◌++◌, length, take, get_or, Option, Some, IsTrue, IsFalse, Contains}
+-- What the code of a search holds, part by part, and how a search of the calculus stands behind it. Each part takes just what it speaks of, so that a step that leaves this as it was passes the part on.
+use Rattle.std.specs.Prelude.{◌≡◌, ◌≢◌, ◌⊎◌, ℕ, zero, suc, ◌+◌, ◌-◌, ◌<◌, ◌≤◌, Bool, false, List, [], ◌∷◌, ◌++◌, length, take, get_or, Option, Some, IsTrue, IsFalse, Contains, if◌then◌else◌, ⊤}
 use Rattle.std.specs.List.{AllByRecursion}
 use Rattle.std.specs.FinSet as set
 use Rattle.cx_base.specs.Literals.{Literal, literal_true}
-use Rattle.cx_base.specs.Problem.{Problem, parities_of}
+use Rattle.cx_base.specs.Problem.{Problem, clauses_of}
 use Rattle.cx_semantics.specs.declared.steps.LogEvent.{LogEvent}
 use Rattle.cx_semantics.specs.Chain.{same_literals}
 use Rattle.cx_semantics.specs.Fresh.{is_tautology}
@@ -12,20 +12,21 @@ use Rattle.cx_trail.specs.declared.entry.Entry.{Entry as TrailEntry}
 use Rattle.cx_trail.specs.declared.entry.Reason.{Reason}
 use Rattle.cx_trail.specs.declared.entry.Reason.TheVariants as reason
 use Rattle.cx_trail.specs.Sequence.{TrailState, entry_at, IsTrueIn, IsAssignedIn}
-use Rattle.clause_arena.specs.Clauses.{IsLive, literals_at, id_at}
+use Rattle.clause_arena.specs.Clauses.{IsLive, literals_at, id_at, ArenaState, learned_at}
 use Rattle.watch_lists.specs.Truths.{AreOthersFalse}
-use Rattle.watch_lists.specs.Watching.{Fits, IsAttached}
-use Rattle.search_policy.specs.Standing.{AllStand}
+use Rattle.watch_lists.specs.Watching.{Fits, IsAttached, WatchState}
+use Rattle.search_policy.specs.Standing.{AllStand, OrderState}
 use Rattle.parity_engine.specs.State.{State, Named, named_at, MeetsForm}
-use Rattle.search_steps.specs.Trail.{Entry, held, level_of}
+use Rattle.search_steps.specs.Trail.{Entry, held, level_of, by_clause}
 use Rattle.search_steps.specs.Quiet.{HasTrue}
 use Rattle.search_steps.specs.Search.{Search, IsSearch}
-use Rattle.search_steps.specs.LogSteps.{RestOnClauses}
 use Rattle.search_steps.specs.Ids.{IsRanged, HasFreeSums}
 use Rattle.search_steps.specs.Tied.{Mirrors}
 use Rattle.search_steps.specs.Engine.{HoldsValues}
 use Rattle.search_steps.specs.Holding.{AreTold}
 use Rattle.cdcl_search.specs.declared.state.SearchState.{SearchState}
+use Rattle.cx_semantics.specs.Marked.{Moment}
+use Rattle.search_steps.specs.Laws.{HaveTheirs}
 
 -- ids from this one on are those of clauses that rows give
 abbrev pub first_row_id : ℕ
@@ -36,27 +37,7 @@ abbrev pub row_ids : ℕ → List ℕ
 row_ids zero = []
 row_ids (suc n) = (first_row_id + n) ∷ row_ids n
 
--- ---- clauses
--- the live clause of this id has just these literals
-pub record IsNamedBy (table : Table) (lits : List Literal) (n : ℕ) : Type 0 where
-  pub clause : List Literal
-  pub live : get table n ≡ Some clause
-  pub same : IsTrue (same_literals lits clause)
-
--- a clause of the arena is attached, and has the literals of the live clause of its id
-pub record IsStored (table : Table) (c : SearchState) (r : ℕ) : Type 0 where
-  pub attached : IsAttached c.watches.attached r
-  pub named : IsNamedBy table (literals_at c.arena r) (id_at c.arena r)
-  pub low : id_at c.arena r < first_row_id
-
--- an attached clause has the clause's literals, or it has a literal with its negation, or one that level 0 makes true
-abbrev pub IsCovered : SearchState → List Entry → List Literal → Type 0
-IsCovered c es clause = ((r : ℕ) × IsAttached c.watches.attached r × IsTrue (same_literals (literals_at c.arena r) clause)) ⊎ IsTrue (is_tautology clause) ⊎ HasTrue (held 0 es) clause
-
-pub record AreClauses (table : Table) (c : SearchState) (es : List Entry) : Type 0 where
-  pub stored : (r : ℕ) → IsLive c.arena r → IsStored table c r
-  pub covered : (n : ℕ) (clause : List Literal) → n < first_row_id → get table n ≡ Some clause → IsCovered c es clause
-
+-- ---- the log
 -- the clauses of rows that were told since the last mark stand under their ids
 abbrev pub AreRows : Table → List (List Literal) → Type 0
 AreRows table rows = (i : ℕ) → i < length rows → get table (first_row_id + i) ≡ Some (get_or rows i [])
@@ -65,8 +46,73 @@ AreRows table rows = (i : ℕ) → i < length rows → get table (first_row_id +
 abbrev pub AreNumbered : Table → List (List Literal) → Type 0
 AreNumbered table parities = (k : ℕ) → 1 ≤ k → k ≤ length parities → get table k ≡ Some (get_or parities (k - 1) [])
 
+-- no clause is owed, and of what is temporary just the clauses of rows are left
+pub record HasOnlyRowClauses (s : Search) (rows : ℕ) : Type 0 where
+  pub served : IsFalse s.moment.awaits
+  pub old_clauses : s.moment.old_clauses ≡ []
+  pub new_clauses : s.moment.new_clauses ≡ row_ids rows
+  pub old_sums : s.moment.old_sums ≡ []
+  pub new_sums : s.moment.new_sums ≡ []
+
+-- The engine's parities stand under their numbers, and the clauses of rows under theirs; what else is told keeps to its ranges, and nothing temporary is left but these clauses.
+pub record LogTies (formula : Problem) (parities : List (List Literal)) (next : ℕ) (rows : List (List Literal)) (s : Search) : Type 0 where
+  pub ranged : IsRanged formula first_row_id next (first_row_id + length rows) s.trail s.moment
+  pub sums : HasFreeSums (length parities) s.moment
+  pub numbered : AreNumbered s.moment.tables.parities parities
+  pub rows_told : AreRows s.moment.tables.clauses rows
+  pub served : HasOnlyRowClauses s (length rows)
+
+-- ---- the clauses
+-- the live clause of this id has just these literals
+pub record IsNamedBy (table : Table) (lits : List Literal) (n : ℕ) : Type 0 where
+  pub clause : List Literal
+  pub live : get table n ≡ Some clause
+  pub same : IsTrue (same_literals lits clause)
+
+-- the list has two different literals
+pub record HasTwo (lits : List Literal) : Type 0 where
+  pub first : Literal
+  pub second : Literal
+  pub has_first : Contains lits first
+  pub has_second : Contains lits second
+  pub differ : first ≢ second
+
+-- a clause of the arena has two different literals, is the live clause of its id, and has an id above the formula's where it was learned
+pub record IsKept (formula : Problem) (table : Table) (next : ℕ) (arena : ArenaState) (r : ℕ) : Type 0 where
+  pub wide : HasTwo (literals_at arena r)
+  pub named : IsNamedBy table (literals_at arena r) (id_at arena r)
+  pub low : id_at arena r < next
+  pub late : IsTrue (learned_at arena r) → length (clauses_of formula.constraints) < id_at arena r
+
+-- a live clause stands in the arena under its id, or it has a literal with its negation, or one that level 0 makes true
+abbrev pub IsHeld : ArenaState → List Literal → ℕ → List Literal → Type 0
+IsHeld arena fixed n clause = ((r : ℕ) × IsLive arena r × (id_at arena r ≡ n)) ⊎ IsTrue (is_tautology clause) ⊎ HasTrue fixed clause
+
+-- the arena holds the live clauses, each under an id of its own; level 0 makes the fixed literals true
+pub record ClauseTies (formula : Problem) (table : Table) (next : ℕ) (arena : ArenaState) (fixed : List Literal) : Type 0 where
+  pub stored : (r : ℕ) → IsLive arena r → IsKept formula table next arena r
+  pub covered : (n : ℕ) (clause : List Literal) → n < first_row_id → get table n ≡ Some clause → IsHeld arena fixed n clause
+  pub apart : (r q : ℕ) → IsLive arena r → IsLive arena q → id_at arena r ≡ id_at arena q → r ≡ q
+
+-- ---- the watches
+-- they fit, and each clause of the arena is attached
+pub record IsWatched (w : WatchState) (a : ArenaState) (t : TrailState) : Type 0 where
+  pub fits : Fits w a t
+  pub all : (r : ℕ) → IsLive a r → IsAttached w.attached r
+
 -- ---- the trail
--- the first literals of level 0 have unit clauses under these ids, and rest on clauses; above level 0 all of level 0 have
+pub record TrailTies (formula : Problem) (es : List Entry) (trail : TrailState) (order : OrderState) (phases : List Bool) : Type 0 where
+  pub follows : Mirrors es trail
+  pub variables : trail.variables ≡ formula.variables
+  pub stand : AllStand order trail
+  pub phased : length phases ≡ formula.variables
+
+-- each entry rests on a unit clause of one of these ids
+abbrev pub RestOnUnits : List ℕ → List Entry → Type 0
+RestOnUnits ids [] = ⊤
+RestOnUnits ids (e ∷ es) = ((i : ℕ) × (i < length ids) × (e.why ≡ by_clause (get_or ids i 0))) × RestOnUnits ids es
+
+-- the first literals of level 0 have unit clauses under these ids and rest on them; above level 0 all of level 0 have
 pub record AreUnits (table : Table) (t : TrailState) (es : List Entry) (ids : List ℕ) : Type 0 where
   pub few : length ids ≤ length t.entries
   pub level_0 : (i : ℕ) → i < length ids → (entry_at t.entries i).level ≡ 0
@@ -76,9 +122,10 @@ pub record AreUnits (table : Table) (t : TrailState) (es : List Entry) (ids : Li
   pub older : List Entry
   pub parts : es ≡ newer ++ older
   pub count : length older ≡ length ids
-  pub rest : RestOnClauses older
+  pub rest : RestOnUnits ids older
   pub all : 0 < t.level → (i : ℕ) → length ids ≤ i → i < length t.entries → 0 < (entry_at t.entries i).level
 
+-- ---- reasons
 -- values that make each of the first n literals of the trail true
 abbrev pub AgreesUpTo : ℕ → List TrailEntry → List Bool → Type 0
 AgreesUpTo n entries values = (l : Literal) → IsTrueIn (take n entries) l → IsTrue (literal_true values l)
@@ -93,28 +140,26 @@ pub record IsRowReasonAt (e : State) (entries : List TrailEntry) (i row : ℕ) :
   pub others : (v : ℕ) → 1 ≤ v → v ≢ (entry_at entries i).literal.variable → IsTrue (set.contains named.form.variables v) → IsAssignedIn (take i entries) v
   pub met : (values : List Bool) → AgreesUpTo (suc i) entries values → MeetsForm values named.form
 
--- the clause has the literal at place i, and its others were false before
-pub record IsClauseReasonAt (c : SearchState) (i r : ℕ) : Type 0 where
-  pub live : IsLive c.arena r
-  pub has : Contains (literals_at c.arena r) (entry_at c.trail.entries i).literal
-  pub others : AreOthersFalse (take i c.trail.entries) (literals_at c.arena r) (entry_at c.trail.entries i).literal
+-- the clause of the arena has the literal at place i, and its others were false before
+pub record IsClauseReasonOf (arena : ArenaState) (entries : List TrailEntry) (i r : ℕ) : Type 0 where
+  pub live : IsLive arena r
+  pub has : Contains (literals_at arena r) (entry_at entries i).literal
+  pub others : AreOthersFalse (take i entries) (literals_at arena r) (entry_at entries i).literal
 
-abbrev pub HasReasonAt : SearchState → State → ℕ → Reason → Type 0
-HasReasonAt c e i reason.Decision = 0 < (entry_at c.trail.entries i).level
-HasReasonAt c e i (reason.Clause r) = IsClauseReasonAt c i r
-HasReasonAt c e i (reason.Row row) = IsRowReasonAt e c.trail.entries i row
+abbrev pub HasReasonOf : ArenaState → List TrailEntry → State → ℕ → Reason → Type 0
+HasReasonOf arena entries e i reason.Decision = 0 < (entry_at entries i).level
+HasReasonOf arena entries e i (reason.Clause r) = IsClauseReasonOf arena entries i r
+HasReasonOf arena entries e i (reason.Row row) = IsRowReasonAt e entries i row
 
--- each literal without a unit clause has a reason
+-- each literal behind the first so many has a reason
+abbrev pub ReasonTies : ArenaState → List TrailEntry → ℕ → State → Type 0
+ReasonTies arena entries units e = (i : ℕ) → units ≤ i → i < length entries → HasReasonOf arena entries e i (entry_at entries i).reason
+
+-- so it is with the literals behind those that have unit clauses
 abbrev pub HaveReasons : SearchState → State → Type 0
-HaveReasons c e = (i : ℕ) → length c.units.items ≤ i → i < length c.trail.entries → HasReasonAt c e i (entry_at c.trail.entries i).reason
+HaveReasons c e = ReasonTies c.arena c.trail.entries (length c.units.items) e
 
 -- ---- the engine
--- it was made of the formula's parities
-pub record IsEngineOf (formula : Problem) (e : State) : Type 0 where
-  pub vars : e.vars ≡ formula.variables
-  pub parities : e.parities ≡ parities_of formula.constraints
-  pub wide : length e.values ≡ e.vars
-
 -- it has the values of the oldest literals of the trail; the others are of the current level
 pub record IsFed (es : List Entry) (given : ℕ) (e : State) : Type 0 where
   pub newer : List Entry
@@ -125,35 +170,43 @@ pub record IsFed (es : List Entry) (given : ℕ) (e : State) : Type 0 where
   pub values : HoldsValues older e.values
   pub level : e.level ≡ level_of es
 
--- ---- the whole
--- no clause is owed, and of what is temporary just the clauses of rows are left
-pub record HasOnlyRowClauses (s : Search) (rows : ℕ) : Type 0 where
-  pub served : IsFalse s.moment.awaits
-  pub old_clauses : s.moment.old_clauses ≡ []
-  pub new_clauses : s.moment.new_clauses ≡ row_ids rows
-  pub old_sums : s.moment.old_sums ≡ []
-  pub new_sums : s.moment.new_sums ≡ []
+-- It has the formula's variables, and its parities say what the formula's do, with no more of them than constraints. It has the values of the oldest literals of the trail.
+pub record EngineTies (formula : Problem) (es : List Entry) (given : ℕ) (e : State) : Type 0 where
+  pub vars : e.vars ≡ formula.variables
+  pub wide : length e.values ≡ e.vars
+  pub theirs : HaveTheirs formula e.parities
+  pub few : length e.parities ≤ length formula.constraints
+  pub fed : IsFed es given e
 
--- what the code holds is what the search of the calculus holds; of rows these clauses were told since the last mark
+-- ---- what is counted
+-- the stretches between marks that hold a reduction, up to now
+abbrev pub stretches : Moment → ℕ
+stretches m = if m.reduces then m.reductions + 1 else m.reductions
+
+-- the numbers fall, from below this one on
+abbrev pub IsFallingFrom : ℕ → List ℕ → Type 0
+IsFallingFrom top [] = ⊤
+IsFallingFrom top (n ∷ ns) = (n < top) × IsFallingFrom n ns
+
+-- the learned clauses are at least as many as the code counts, each under an id of its own, and the stretches with a reduction at most as many
+pub record CountTies (next conflicts learned reductions : ℕ) (s : Search) : Type 0 where
+  pub marked : s.conflicts ≡ conflicts
+  pub falling : IsFallingFrom next s.moment.learned
+  pub many : learned ≤ length s.moment.learned
+  pub few : stretches s.moment ≤ reductions
+
+-- ---- the whole
+-- what the code holds, apart from the watches, is what the search of the calculus holds; of rows these clauses were told since the last mark
 pub record Ties (formula : Problem) (c : SearchState) (e : State) (rows : List (List Literal)) (s : Search) : Type 0 where
-  pub follows : Mirrors s.trail c.trail
-  pub variables : c.trail.variables ≡ formula.variables
-  pub ranged : IsRanged formula first_row_id c.next (first_row_id + length rows) s.trail s.moment
-  pub sums : HasFreeSums (length (parities_of formula.constraints)) s.moment
-  pub numbered : AreNumbered s.moment.tables.parities (parities_of formula.constraints)
-  pub clauses : AreClauses s.moment.tables.clauses c s.trail
-  pub rows_told : AreRows s.moment.tables.clauses rows
+  pub log : LogTies formula e.parities c.next rows s
+  pub clauses : ClauseTies formula s.moment.tables.clauses c.next c.arena (held 0 s.trail)
+  pub trail : TrailTies formula s.trail c.trail c.order c.phases.items
   pub units : AreUnits s.moment.tables.clauses c.trail s.trail c.units.items
-  pub engine : IsEngineOf formula e
-  pub fed : IsFed s.trail c.given e
-  pub reasons : HaveReasons c e
-  pub fits : Fits c.watches c.arena c.trail
-  pub stand : AllStand c.order c.trail
-  pub phases : length c.phases.items ≡ formula.variables
-  pub conflicts : s.conflicts ≡ c.conflicts
+  pub engine : EngineTies formula s.trail c.given e
+  pub reasons : ReasonTies c.arena c.trail.entries (length c.units.items) e
+  pub counts : CountTies c.next c.conflicts c.learned c.reductions s
   pub levels : s.quiet_levels ≡ level_of s.trail
-  pub served : HasOnlyRowClauses s (length rows)
 
 -- some search of the calculus stands behind the code, and its events are the sink's where that tells them
 abbrev pub SearchStands : Problem → SearchState → State → List (List Literal) → Option (List LogEvent) → Type 0
-SearchStands formula c e rows told = (s : Search) × IsSearch formula (parities_of formula.constraints) s × AreTold told s.events × Ties formula c e rows s
+SearchStands formula c e rows told = (s : Search) × IsSearch formula e.parities s × AreTold told s.events × Ties formula c e rows s × IsWatched c.watches c.arena c.trail

@@ -16,6 +16,8 @@ pub record HasOther (old new : SearchState) : Type 0 where
   pub given : new.given ≡ old.given
   pub conflicts : new.conflicts ≡ old.conflicts
   pub phases : new.phases ≡ old.phases
+  pub learned : new.learned ≡ old.learned
+  pub reductions : new.reductions ≡ old.reductions
 
 -- the literal stands behind those that have unit clauses, and this clause of a source implied it
 pub record IsNextUnit (c : SearchState) (rows : List (List Literal)) (l : Literal) (clause : List Literal) : Type 0 where

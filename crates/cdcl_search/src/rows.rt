@@ -1,7 +1,6 @@
 //! Rows as the log tells them.
-ghost use Rattle.std.specs.Prelude.{◌≡◌, ◌≢◌, ◌+◌, ◌<◌, [], ◌∷◌, ◌++◌, length, IfOk, OnOk, OnErr};
+ghost use Rattle.std.specs.Prelude.{◌≡◌, ◌≢◌, ℕ, ◌+◌, ◌<◌, ◌≤◌, [], ◌∷◌, ◌++◌, length, IfOk, OnOk, OnErr};
 ghost use Rattle.std.specs.List.{AllByRecursion};
-ghost use Rattle.cx_base.specs.Problem.{parities_of};
 ghost use Rattle.cx_semantics.specs.Integers.{integers_of, literals};
 ghost use Rattle.cx_semantics.specs.Printed.{HasText};
 ghost use Rattle.cx_semantics.specs.declared.steps.LogEvent.TheVariants.{Step};
@@ -149,7 +148,7 @@ fn prepare_next(
     rows: &[LitList],
     reason: ReasonOf,
 ) -> Result<Prepared, AllocError>
-    requires { AreRising 1 (length (parities_of formula.now.constraints)) reason.sources }
+    requires { (parities : ℕ) × (parities ≤ length formula.now.constraints) × AreRising 1 parities reason.sources }
     ensures steps { IfOk result (λ p. as_events p.steps.items ≡ row_events (length formula.now.constraints + 1) (integers_of reason.parity) reason.sources (first_row_id + length rows.now) (integers_of reason.clause)) }
     ensures texts { IfOk result (λ p. AllByRecursion (λ t. HasText (Step t)) p.steps.items) }
     ensures parity { IfOk result (λ p. literals (integers_of reason.parity) ≡ reason.parity) }
@@ -171,7 +170,7 @@ pub fn tell_reason<P: ParityEngine, L: LogSink>(
     rows: &mut Vec<LitList>,
 ) -> Result<LitList, CoreFault>
     requires stands { Stands P.ParityEngine L.LogSink log.old state.now engine.now rows.old.items }
-    requires explains { Explains (parities_of log.old.formula.now.constraints) state.now.trail reason }
+    requires explains { Explains (P.state engine.now).parities state.now.trail reason }
     requires some { reason.clause ≢ [] }
     ensures clause { IfOk result (λ c. c ≡ reason.clause) }
     ensures same { OnErr result (rows.new.items ≡ rows.old.items) }

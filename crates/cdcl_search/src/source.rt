@@ -45,7 +45,11 @@ fn unit(alloc: Global, state: &SearchState, place: usize) -> Result<Hinted, Allo
 }
 
 /// A clause of the arena.
-pub fn stored(alloc: Global, state: &SearchState, reference: ClauseRef) -> Result<Hinted, AllocError>
+pub fn stored(
+    alloc: Global,
+    state: &SearchState,
+    reference: ClauseRef,
+) -> Result<Hinted, AllocError>
     requires { IsLive state.now.arena reference }
     ensures { IfOk result (λ h. h.lits ≡ literals_at state.now.arena reference) }
 {

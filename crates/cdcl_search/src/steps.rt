@@ -66,7 +66,7 @@ pub(crate) fn clause_of_sum(id: u64, lits: IntList, source: u64) -> LogStep
 }
 
 /// The deletion of a clause.
-pub(crate) fn deletion(alloc: Global, id: u64) -> LogStep
+pub fn deletion(alloc: Global, id: u64) -> LogStep
     requires { IsId id }
     ensures is { result ≡ step.Delete id [] }
     ensures text { HasText (Step result) }

@@ -154,6 +154,8 @@ module _ (formula : Problem) (taken : List Constraint) (s : Search) (b : IsBegun
         no_level = b.no_level;
         no_conflict = b.no_conflict;
         no_learned = b.no_learned;
+        no_reduction = b.no_reduction;
+        not_reducing = b.not_reducing;
         tidy = record { served = b.tidy.served; no_old_clauses = b.tidy.no_old_clauses; no_new_clauses = b.tidy.no_new_clauses; no_old_sums = b.tidy.no_old_sums; no_new_sums = b.tidy.no_new_sums; levels = b.tidy.levels };
       }
 
@@ -179,6 +181,8 @@ module _ (formula : Problem) (taken : List Constraint) (s : Search) (b : IsBegun
         no_level = b.no_level;
         no_conflict = b.no_conflict;
         no_learned = b.no_learned;
+        no_reduction = b.no_reduction;
+        not_reducing = b.not_reducing;
         tidy = record { served = b.tidy.served; no_old_clauses = b.tidy.no_old_clauses; no_new_clauses = b.tidy.no_new_clauses; no_old_sums = b.tidy.no_old_sums; no_new_sums = b.tidy.no_new_sums; levels = b.tidy.levels };
       }
 
@@ -196,6 +200,8 @@ nothing_is_begun formula = record {
   no_level = refl;
   no_conflict = refl;
   no_learned = refl;
+  no_reduction = refl;
+  not_reducing = refl;
   tidy = record { served = refl; no_old_clauses = refl; no_new_clauses = refl; no_old_sums = refl; no_new_sums = refl; levels = refl };
 }
 

@@ -1,5 +1,5 @@
 -- The beginning of a log: a step for each constraint in order.
-use Rattle.std.specs.Prelude.{◌≡◌, ℕ, ◌≤◌, ◌<◌, List, [], length, None, Some, Contains, filter_map}
+use Rattle.std.specs.Prelude.{◌≡◌, ℕ, false, ◌≤◌, ◌<◌, List, [], length, None, Some, Contains, filter_map}
 use Rattle.cx_base.specs.Literals.{Literal}
 use Rattle.cx_base.specs.Problem.{Problem, clauses_of, parities_of}
 use Rattle.cx_base.specs.declared.constraint.Constraint.{Constraint}
@@ -31,4 +31,6 @@ pub record IsBegun (formula : Problem) (taken : List Constraint) (s : Search) : 
   pub no_level : s.quiet_levels ≡ 0
   pub no_conflict : s.conflicts ≡ 0
   pub no_learned : s.moment.learned ≡ []
+  pub no_reduction : s.moment.reductions ≡ 0
+  pub not_reducing : s.moment.reduces ≡ false
   pub tidy : IsTidy s

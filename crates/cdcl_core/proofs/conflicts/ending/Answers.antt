@@ -1,5 +1,6 @@
+use Rattle.std.proofs.Common.{length}
 use Rattle.cdcl_search.proofs.RowSteps.{sources_are_ids}
 use Rattle.cdcl_core.proofs.conflicts.ending.Goals as goal
 
 pub sum_and_clause-requires-clause-sources : goal.sum_and_clause-requires-clause-sources
-sum_and_clause-requires-clause-sources c = sources_are_ids c.args.formula.now.constraints c.args.reason.sources c.in_ok-ids.ensures.few c.requires
+sum_and_clause-requires-clause-sources c = sources_are_ids (length c.args.formula.now.constraints) c.requires.0 c.args.reason.sources c.requires.1 c.in_ok-ids.ensures.few c.requires.2

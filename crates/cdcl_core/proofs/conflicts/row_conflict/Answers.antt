@@ -1,4 +1,4 @@
-use Rattle.std.proofs.Common.{sym, subst, ◌∷◌, []}
+use Rattle.std.proofs.Common.{sym, subst, ◌∷◌, [], length}
 use Rattle.cdcl_search.specs.Ties.{SearchStands}
 use Rattle.cdcl_core.specs.Concluding.{Concludes}
 use Rattle.cdcl_core.specs.declared.conflicts.Conclusion.TheVariants.{Clause}
@@ -15,7 +15,7 @@ pub reason_clause-requires-clause-kind : goal.reason_clause-requires-clause-kind
 reason_clause-requires-clause-kind g c = clash_is_reason c.args.log.now.formula.now c.args.state.now (g.P.ParityEngine.state c.args.engine.now) (g.L.LogSink.events c.args.log.now.sink.now) c.requires.stands c.args.row c.requires.clash
 
 pub ending-requires : goal.ending-requires
-ending-requires g c = clash_numbers c.args.log.now.formula.now c.args.state.now (g.P.ParityEngine.state c.args.engine.now) (g.L.LogSink.events c.args.log.now.sink.now) c.requires.stands c.args.row c.requires.clash c.in_ok-reason.reason c.in_ok-reason.ensures.parity c.in_ok-reason.ensures.numbers c.in_ok-reason.ensures.sum c.in_ok-reason.ensures.clause
+ending-requires g c = (length (g.P.ParityEngine.state c.args.engine.now).parities, c.requires.stands.3.engine.few, clash_numbers c.args.log.now.formula.now c.args.state.now (g.P.ParityEngine.state c.args.engine.now) (g.L.LogSink.events c.args.log.now.sink.now) c.requires.stands c.args.row c.requires.clash c.in_ok-reason.reason c.in_ok-reason.ensures.parity c.in_ok-reason.ensures.numbers c.in_ok-reason.ensures.sum c.in_ok-reason.ensures.clause)
 
 pub told_conflict-requires-clause-explains : goal.told_conflict-requires-clause-explains
 told_conflict-requires-clause-explains g c = clash_explains c.args.log.now.formula.now c.args.state.now (g.P.ParityEngine.state c.args.engine.now) (g.L.LogSink.events c.args.log.now.sink.now) c.requires.stands c.args.row c.requires.clash c.in_ok-reason.reason c.in_ok-reason.ensures.parity c.in_ok-reason.ensures.numbers c.in_ok-reason.ensures.sum c.in_ok-reason.ensures.clause

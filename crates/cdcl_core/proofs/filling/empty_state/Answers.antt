@@ -17,4 +17,6 @@ returns c =
       next = refl;
       given = refl;
       conflicts = refl;
+      none_learned = refl;
+      not_reduced = refl;
     }

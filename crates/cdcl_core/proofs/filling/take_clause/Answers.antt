@@ -10,7 +10,7 @@ pub attach-requires-clause-watched : goal.attach-requires-clause-watched
 attach-requires-clause-watched c =
     let formula = c.requires.is_next.0 in
     let is : IsNext formula c.args.filled.now c.args.lits.now = c.requires.is_next.1 in
-    let variables = is.filled.fits.variables ∙ ap (λ t. t.variables) is.filled.trail in
+    let variables = is.filled.watched.fits.variables ∙ ap (λ t. t.variables) is.filled.trail in
     subst (λ n. CanBeWatched n c.args.filled.now.state.trail c.args.lits.now) (sym variables)
     (can_be_watched formula.variables c.args.filled.now.state.trail c.args.lits.now (ap (λ t. t.entries) is.filled.trail) c.if-lits-gt1.true is.different (sym c.has_both.ensures ∙ c.if-has_both.false) is.within)
 
@@ -19,7 +19,7 @@ returns-then-has_both c = λ formula is. tautology_taken formula c.args.filled.n
 
 pub returns-then-lits-gt1 : goal.returns-then-lits-gt1
 returns-then-lits-gt1 c = on_ok _ c.attach.result c.attach.ensures
-    (λ a formula is. attached_taken formula c.args.filled.now c.args.lits.now is c.attach.new.state a)
+    (λ a formula is. attached_taken formula c.args.filled.now c.args.lits.now is c.attach.new.state a c.if-lits-gt1.true)
 
 pub returns-then-is_empty : goal.returns-then-is_empty
 returns-then-is_empty c = λ formula is. empty_taken formula c.args.filled.now c.args.lits.now is

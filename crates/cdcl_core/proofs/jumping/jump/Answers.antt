@@ -1,12 +1,13 @@
-use Rattle.std.proofs.Common.{sym, subst, length, ◌≤◌, ◌+◌}
+use Rattle.std.proofs.Common.{sym, subst, length, ◌≤◌, ◌+◌, arith}
 use Rattle.cx_semantics.specs.Integers.{integers_of}
 use Rattle.watch_lists.specs.Attaching.{CanBeWatched, literal_at}
 use Rattle.cx_trail.specs.Sequence.{IsOpenIn}
 use Rattle.search_steps.specs.LogSteps.{after_round}
+use Rattle.search_steps.specs.Search.{IsSearch}
 use Rattle.cdcl_search.proofs.Outcomes.{on_ok}
 use Rattle.cdcl_core.specs.Entering.{Enters}
 use Rattle.cdcl_core.proofs.Entering.{round_is_search}
-use Rattle.cdcl_core.proofs.JumpLaws.{lower_than_now, scores_within, first_is_open, can_be_watched, enters_stands}
+use Rattle.cdcl_core.proofs.JumpLaws.{falling_short, lower_than_now, scores_within, first_is_open, can_be_watched, enters_stands}
 use Rattle.cdcl_core.proofs.jumping.jump.Goals as goal
 
 pub go_back-requires-clause-lower : goal.go_back-requires-clause-lower
@@ -19,36 +20,50 @@ bump-requires g c =
     let l = c.requires.learned.1 in
     record {
       within = λ k d h. scores_within c.args.formula.now c.args.state.now (g.P.ParityEngine.state c.args.engine.now) c.args.learned.now.lits c.args.learned.now.back_level l.search l.taught
-          c.go_back.new.state (g.P.ParityEngine.state c.go_back.new.engine) (c.go_back.ensures.ties l.taught.rows l.search l.taught.search l.taught.ties) c.go_back.ensures.back
+          c.go_back.new.state (g.P.ParityEngine.state c.go_back.new.engine) (c.go_back.ensures.ties l.taught.rows l.search l.taught.search l.taught.ties) c.go_back.ensures.watched c.go_back.ensures.back
           c.as_slice.result.now c.as_slice.ensures k d h;
     }
 
 pub enter-requires-clause-fits : goal.enter-requires-clause-fits
 enter-requires-clause-fits g c =
     let l = c.requires.learned.1 in
-    (c.go_back.ensures.ties l.taught.rows l.search l.taught.search l.taught.ties).fits
+    c.go_back.ensures.watched.fits
 
 pub enter-requires-clause-watched : goal.enter-requires-clause-watched
 enter-requires-clause-watched g c =
     let l = c.requires.learned.1 in
     subst (λ xs. 2 ≤ length xs → CanBeWatched c.go_back.new.state.watches.variables c.go_back.new.state.trail xs) (sym c.as_slice-2.ensures)
     (can_be_watched c.args.formula.now c.args.state.now (g.P.ParityEngine.state c.args.engine.now) c.args.learned.now.lits c.args.learned.now.back_level l.search l.taught
-    c.go_back.new.state (g.P.ParityEngine.state c.go_back.new.engine) (c.go_back.ensures.ties l.taught.rows l.search l.taught.search l.taught.ties) c.go_back.ensures.back)
+    c.go_back.new.state (g.P.ParityEngine.state c.go_back.new.engine) (c.go_back.ensures.ties l.taught.rows l.search l.taught.search l.taught.ties) c.go_back.ensures.watched c.go_back.ensures.back)
 
 pub enter-requires-clause-open : goal.enter-requires-clause-open
 enter-requires-clause-open g c =
     let l = c.requires.learned.1 in
     subst (λ xs. IsOpenIn c.go_back.new.state.trail.entries (literal_at xs 0).variable) (sym c.as_slice-2.ensures)
     (first_is_open c.args.formula.now c.args.state.now (g.P.ParityEngine.state c.args.engine.now) c.args.learned.now.lits c.args.learned.now.back_level l.search l.taught
-    c.go_back.new.state (g.P.ParityEngine.state c.go_back.new.engine) (c.go_back.ensures.ties l.taught.rows l.search l.taught.search l.taught.ties) c.go_back.ensures.back)
+    c.go_back.new.state (g.P.ParityEngine.state c.go_back.new.engine) (c.go_back.ensures.ties l.taught.rows l.search l.taught.search l.taught.ties) c.go_back.ensures.watched c.go_back.ensures.back)
 
 pub returns-clause-stands : goal.returns-clause-stands
-returns-clause-stands g c = on_ok _ c.enter.result c.enter.ensures (λ enters told l. (
-  after_round l.search c.args.state.now.next (integers_of c.args.learned.now.lits) l.hints c.args.learned.now.back_level l.taught.first,
-  round_is_search c.args.formula.now c.args.state.now (g.P.ParityEngine.state c.args.engine.now) c.args.learned.now.lits c.args.learned.now.back_level l.search l.taught l.hints,
-  l.told_is,
-  enters_stands c.args.formula.now c.args.state.now (g.P.ParityEngine.state c.args.engine.now) c.args.learned.now.lits c.args.learned.now.back_level l.search l.taught
-      c.go_back.new.state (g.P.ParityEngine.state c.go_back.new.engine) (c.go_back.ensures.ties l.taught.rows l.search l.taught.search l.taught.ties) c.go_back.ensures.back
-      c.bump.new.order c.bump.ensures.standing c.bump.ensures.scores c.enter.new.state c.args.learned.now.lbd l.hints c.go_back.ensures.same.2 c.go_back.ensures.same.3 c.go_back.ensures.units
-      (subst (λ xs. Enters (record c.go_back.new.state { order = c.bump.new.order; next = c.go_back.new.state.next + 1; conflicts = c.go_back.new.state.conflicts + 1 }) c.enter.new.state xs c.go_back.new.state.next c.args.learned.now.lbd) c.as_slice-2.ensures enters),
-))
+returns-clause-stands g c = on_ok _ c.enter.result c.enter.ensures (λ enters told l.
+    let f = c.args.formula.now in
+    let e = g.P.ParityEngine.state c.args.engine.now in
+    let learned = c.args.learned.now in
+    let now = enters_stands f c.args.state.now e learned.lits learned.back_level l.search l.taught
+    c.go_back.new.state (g.P.ParityEngine.state c.go_back.new.engine) (c.go_back.ensures.ties l.taught.rows l.search l.taught.search l.taught.ties) c.go_back.ensures.watched c.go_back.ensures.back
+    c.bump.new.order c.bump.ensures.standing c.bump.ensures.scores c.enter.new.state learned.lbd l.hints c.go_back.ensures.counts c.go_back.ensures.units
+    (subst (λ xs. Enters (record c.go_back.new.state { order = c.bump.new.order; next = c.go_back.new.state.next + 1; conflicts = c.go_back.new.state.conflicts + 1; learned = c.go_back.new.state.learned + 1 }) c.enter.new.state xs c.go_back.new.state.next learned.lbd) c.as_slice-2.ensures enters) in (
+      after_round l.search c.args.state.now.next (integers_of learned.lits) l.hints learned.back_level l.taught.first,
+      subst (λ ps. IsSearch f ps (after_round l.search c.args.state.now.next (integers_of learned.lits) l.hints learned.back_level l.taught.first)) (sym c.go_back.ensures.parities) (round_is_search f c.args.state.now e learned.lits learned.back_level l.search l.taught l.hints),
+      l.told_is,
+      now.0,
+      now.1,
+    ))
+
+pub overflow_add-state-3 : goal.overflow_add-state-3
+overflow_add-state-3 g c =
+    let counts = c.requires.learned.1.taught.ties.counts in
+    let many = counts.many in
+    let short = falling_short c.args.state.now.next c.requires.learned.1.search.moment.learned counts.falling in
+    let room = c.requires.learned.1.taught.room in
+    let same = c.go_back.ensures.counts.learned in
+    omega (arith, many, short, room, same)

@@ -25,3 +25,6 @@ returns-clause-settled g c settled =
     let high = best.high in
     let n = variables_are_scored c.args.formula.now c.args.state.now (g.P.ParityEngine.state c.args.engine.now) c.requires.stands.0 c.requires.quiet c.requires.stands.1 in
     absurd (settled_has_no_open c.args.formula.now c.args.state.now (g.P.ParityEngine.state c.args.engine.now) c.requires.stands.0 c.requires.quiet c.requires.stands.1 settled c.in-Some.variable best.low (omega (arith, high, n)) best.unassigned)
+
+pub decide-requires-clause-open : goal.decide-requires-clause-open
+decide-requires-clause-open g c = subst (IsOpenIn c.args.state.now.trail.entries) (ap (λ (l : Literal). l.variable) (sym c.new.ensures)) c.in-Some.ensures.picks.unassigned

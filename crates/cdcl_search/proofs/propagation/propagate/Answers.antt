@@ -19,7 +19,7 @@ pub loop-reference-init : goal.loop-reference-init
 loop-reference-init g c = record { stands = λ told stands. stands; unbroken = c.requires.unbroken; same = (refl, refl, refl, refl); grows = omega arith }
 
 pub follow_clauses-requires : goal.follow_clauses-requires
-follow_clauses-requires g c = (c.loop-reference.invariant.stands c.requires.stands.0 c.requires.stands.1).3.fits
+follow_clauses-requires g c = (c.loop-reference.invariant.stands c.requires.stands.0 c.requires.stands.1).4.fits
 
 pub returns-in-Conflict-clause-stands : goal.returns-in-Conflict-clause-stands
 returns-in-Conflict-clause-stands g c told stands = c.follow_clauses.ensures.stands c.args.formula.now (g.P.ParityEngine.state c.loop-reference.engine) told (c.loop-reference.invariant.stands told stands)

@@ -1,5 +1,6 @@
+use Rattle.std.proofs.Common.{length}
 use Rattle.cdcl_search.proofs.RowSteps.{sources_are_ids}
 use Rattle.cdcl_search.proofs.rows.prepare_next.Goals as goal
 
 pub prepare-requires-clause-sources : goal.prepare-requires-clause-sources
-prepare-requires-clause-sources c = sources_are_ids c.args.formula.now.constraints c.args.reason.sources c.in_ok-ids.ensures.few c.requires
+prepare-requires-clause-sources c = sources_are_ids (length c.args.formula.now.constraints) c.requires.0 c.args.reason.sources c.requires.1 c.in_ok-ids.ensures.few c.requires.2

@@ -1,5 +1,4 @@
 use Rattle.std.proofs.Common.{sym, subst}
-use Rattle.cx_base.specs.Problem.{parities_of}
 use Rattle.conflict_learn.specs.Learning.{IsAntecedent}
 use Rattle.cdcl_search.specs.Ties.{SearchStands}
 use Rattle.cdcl_search.proofs.Outcomes.{ok_maps, on_both}
@@ -16,17 +15,17 @@ pub reason_clause-requires-clause-kind : goal.reason_clause-requires-clause-kind
 reason_clause-requires-clause-kind g c = gives_literal c.args.state.now.trail (g.P.ParityEngine.state c.args.engine.now) c.args.implied c.args.row c.requires.reason
 
 pub tell_reason-requires-clause-explains : goal.tell_reason-requires-clause-explains
-tell_reason-requires-clause-explains g c = explains c.args.state.now.trail (g.P.ParityEngine.state c.args.engine.now) c.args.implied c.args.row c.requires.reason c.in_ok-reason.reason (parities_of c.args.log.now.formula.now.constraints) c.requires.stands.3.engine.parities
+tell_reason-requires-clause-explains g c = explains c.args.state.now.trail (g.P.ParityEngine.state c.args.engine.now) c.args.implied c.args.row c.requires.reason c.in_ok-reason.reason
     c.in_ok-reason.ensures.parity c.in_ok-reason.ensures.numbers c.in_ok-reason.ensures.sum c.in_ok-reason.ensures.clause
 
 pub tell_reason-requires-clause-some : goal.tell_reason-requires-clause-some
-tell_reason-requires-clause-some g c = has_some c.args.state.now.trail (g.P.ParityEngine.state c.args.engine.now) c.args.implied c.args.row c.requires.reason c.in_ok-reason.reason (parities_of c.args.log.now.formula.now.constraints) c.requires.stands.3.engine.parities
+tell_reason-requires-clause-some g c = has_some c.args.state.now.trail (g.P.ParityEngine.state c.args.engine.now) c.args.implied c.args.row c.requires.reason c.in_ok-reason.reason
     c.in_ok-reason.ensures.parity c.in_ok-reason.ensures.numbers c.in_ok-reason.ensures.sum c.in_ok-reason.ensures.clause
 
 pub returns-clause-implied : goal.returns-clause-implied
 returns-clause-implied g c = ok_maps c.tell_reason.result c.tell_reason.ensures.clause (λ x is. subst (IsAntecedent c.args.state.now.trail c.args.implied) (sym is)
-    (is_antecedent c.args.state.now.trail (g.P.ParityEngine.state c.args.engine.now) c.args.implied c.args.row c.requires.reason c.in_ok-reason.reason (parities_of c.args.log.now.formula.now.constraints) c.requires.stands.3.engine.parities
-    c.in_ok-reason.ensures.parity c.in_ok-reason.ensures.numbers c.in_ok-reason.ensures.sum c.in_ok-reason.ensures.clause c.requires.stands.3.follows.sound))
+    (is_antecedent c.args.state.now.trail (g.P.ParityEngine.state c.args.engine.now) c.args.implied c.args.row c.requires.reason c.in_ok-reason.reason
+    c.in_ok-reason.ensures.parity c.in_ok-reason.ensures.numbers c.in_ok-reason.ensures.sum c.in_ok-reason.ensures.clause c.requires.stands.3.trail.follows.sound))
 
 pub returns-clause-stands : goal.returns-clause-stands
 returns-clause-stands g c = on_both c.tell_reason.result c.tell_reason.ensures.rows c.tell_reason.ensures.stands

@@ -7,7 +7,7 @@ use Rattle.cdcl_search.proofs.units.tell_unit.Goals as goal
 
 pub hints_of-requires : goal.hints_of-requires
 hints_of-requires g c = subst (All (λ m. m.variable ≤ c.args.state.now.trail.variables)) (sym c.as_slice.ensures)
-    (implying_are_low c.args.state.now.trail c.requires.stands.3.follows.sound c.args.literal c.args.implying.now.lits _ c.requires.next.next.0 c.requires.next.next.1 c.requires.next.implied)
+    (implying_are_low c.args.state.now.trail c.requires.stands.3.trail.follows.sound c.args.literal c.args.implying.now.lits _ c.requires.next.next.0 c.requires.next.next.1 c.requires.next.implied)
 
 pub tell_chained-requires-clause-right : goal.tell_chained-requires-clause-right
 tell_chained-requires-clause-right g c =

@@ -1,0 +1,280 @@
+-- One learned clause less: in the arena, in the log, and behind both.
+use Rattle.std.proofs.Common.{◌≡◌, ◌≢◌, refl, sym, ap, ◌∙◌, subst, ℕ, zero, suc, ◌+◌, ◌-◌, ◌*◌, ◌<◌, ◌≤◌, Bool, true, false, true≢false, not, cond, nat_eq, eqb-true, List, [], ◌∷◌, ◌++◌, length, get_or, Option, Some, None, Contains, inl, inr, arith, length-append}
+use Rattle.std.specs.Prelude.{IsSome, IsTrue, slice_set, if◌then◌else◌}
+use Rattle.std.proofs.lemmas.List.{get_or-set_other}
+use Rattle.std.proofs.lemmas.Bool.{and_parts}
+use Rattle.std.specs.FinMap as map_
+use Rattle.cx_base.specs.Literals.{Literal}
+use Rattle.cx_base.specs.Problem.{Problem, clauses_of}
+use Rattle.cx_semantics.specs.declared.steps.LogStep.TheVariants.{Delete}
+use Rattle.cx_semantics.specs.declared.steps.LogEvent.{LogEvent}
+use Rattle.cx_semantics.specs.declared.steps.LogEvent.TheVariants.{Step}
+use Rattle.cx_semantics.specs.Chain.{has_literal, is_inside}
+use Rattle.cx_semantics.specs.Marked.{without}
+use Rattle.cx_semantics.specs.Tables.{get}
+use Rattle.cx_semantics.proofs.Closure.{has_by_inside}
+use Rattle.cx_trail.specs.Sequence.{entry_at}
+use Rattle.clause_arena.specs.Clauses.{ArenaState, Stored, IsLive, clause_at, literals_at, literals_in, id_at, id_in, learned_at, learned_in}
+use Rattle.watch_lists.specs.Watching.{WatchState}
+use Rattle.watch_lists.specs.Detaching.{IsDetached}
+use Rattle.watch_lists.proofs.DetachLaws.{detached_fits}
+use Rattle.conflict_learn.proofs.ChainOfResolutions.{by_cases}
+use Rattle.parity_engine.specs.State.{State}
+use Rattle.search_steps.specs.Trail.{Entry, by_clause, held}
+use Rattle.search_steps.specs.LogSteps.{IsNoReason}
+use Rattle.search_steps.specs.Search.{Search, IsSearch, told}
+use Rattle.search_steps.proofs.LogLaws.{delete_learned_keeps}
+use Rattle.search_steps.proofs.IdLaws.{deletion_ranged}
+use Rattle.search_steps.proofs.Stored.{has_of, of_has}
+use Rattle.cdcl_search.specs.declared.state.SearchState.{SearchState}
+use Rattle.conflict_learn.specs.declared.fault.CoreFault.{CoreFault}
+use Rattle.cdcl_search.specs.declared.logs.SearchLog.{SearchLog}
+use Rattle.log_text.specs.declared.sink.LogSink as sink
+use Rattle.cdcl_search.specs.Logs.{GoesOn}
+use Rattle.cdcl_search.specs.Tells.{IsLeft, with_events}
+use Rattle.cdcl_search.specs.Ties.{IsNamedBy, first_row_id}
+use Rattle.cdcl_search.specs.Ties.{Ties, SearchStands, ClauseTies, IsKept, IsHeld, RestOnUnits, IsFallingFrom, stretches, HasTwo}
+use Rattle.cdcl_core.specs.Reducing.{SearchLoses, WasWatched}
+use Rattle.cdcl_search.proofs.UnitTies.{falls_lower}
+use Rattle.cdcl_search.proofs.Places.{tied_length}
+use Rattle.cdcl_core.proofs.EndingLaws.{no_newer}
+use Rattle.cdcl_search.proofs.RowSteps.{all_told_are, is_left}
+use Rattle.cdcl_search.proofs.TableLaws.{apart, no_clause, drop_other, named_stays}
+
+-- ---- lists of ids
+below_stays : (top : ℕ) (ns : List ℕ) (n : ℕ) → IsFallingFrom top ns → top ≤ n → without ns n ≡ ns
+below_stays top [] n f low = refl
+below_stays top (x ∷ ns) n f low =
+    let first = f.0 in
+    ap (λ b. cond (not b) (x ∷ without ns n) (without ns n)) (apart n x (λ e. omega (arith, e, first, low))) ∙ ap (λ xs. x ∷ xs) (below_stays x ns n f.1 (omega (arith, first, low)))
+
+one_less : (top : ℕ) (ns : List ℕ) (n : ℕ) → IsFallingFrom top ns → length ns ≤ length (without ns n) + 1
+one_less top [] n f = omega arith
+one_less top (x ∷ ns) n f = by_cases (nat_eq n x)
+    (λ e. let long = ap length (ap (λ b. cond (not b) (x ∷ without ns n) (without ns n)) e ∙ below_stays x ns n f.1 (let same = eqb-true n x e in omega (arith, same))) in omega (arith, long))
+    (λ e. let long = ap length (ap (λ b. cond (not b) (x ∷ without ns n) (without ns n)) e) in let rec = one_less x ns n f.1 in omega (arith, long, rec))
+
+falls_without : (top : ℕ) (ns : List ℕ) (n : ℕ) → IsFallingFrom top ns → IsFallingFrom top (without ns n)
+falls_without top [] n f = tt
+falls_without top (x ∷ ns) n f =
+    let first = f.0 in
+    elim (not (nat_eq n x)) as (λ b. IsFallingFrom top (cond b (x ∷ without ns n) (without ns n))) [
+      | true ↦ (first, falls_without x ns n f.1)
+      | false ↦ falls_lower x top (without ns n) (omega (arith, first)) (falls_without x ns n f.1)
+    ]
+
+counted : (b : Bool) (k x : ℕ) → k < x → (if b then k + 1 else k) ≤ x
+counted true k x h = omega (arith, h)
+counted false k x h = omega (arith, h)
+
+-- ---- reasons
+no_reason : (ids : List ℕ) (n : ℕ) (es : List Entry) → RestOnUnits ids es → ((i : ℕ) → i < length ids → get_or ids i 0 ≢ n) → IsNoReason n es
+no_reason ids n [] r not = tt
+no_reason ids n (e ∷ es) ((i, less, is), r) not = (λ w. not i less (let k : by_clause (get_or ids i 0) ≡ by_clause n = sym is ∙ w in cc (k)), no_reason ids n es r not)
+
+-- ---- the arena
+gone : (xs : List (Option Stored)) (r : ℕ) → get_or (slice_set xs r None) r None ≡ None
+gone [] r = refl
+gone (x ∷ xs) zero = refl
+gone (x ∷ xs) (suc r) = gone xs r
+
+only_one : (l m : Literal) → Contains (l ∷ []) m → m ≡ l
+only_one l m (zero, less, is) = sym is
+only_one l m (suc i, less, is) = absurd (omega (arith, less))
+
+module _ (a : ArenaState) (r : ℕ) where
+  abbrev pub less : ArenaState
+  less = record a { clauses = slice_set a.clauses r None }
+
+  other_stays : (q : ℕ) → q ≢ r → clause_at less q ≡ clause_at a q
+  other_stays q h = get_or-set_other a.clauses r q None None h
+
+  is_other : (q : ℕ) → IsLive less q → q ≢ r
+  is_other q live same = true≢false (sym live ∙ ap Rattle.std.specs.Prelude.is_some (ap (clause_at less) same ∙ gone a.clauses r))
+
+  was_live : (q : ℕ) → IsLive less q → IsLive a q
+  was_live q live = subst IsSome (other_stays q (is_other q live)) live
+
+  still_live : (q : ℕ) → q ≢ r → IsLive a q → IsLive less q
+  still_live q h live = subst IsSome (sym (other_stays q h)) live
+
+module _ (formula : Problem) (c : SearchState) (e : State) (s : Search) (ok : IsSearch formula e.parities s) (p : Ties formula c e [] s) (r : ℕ) (live : IsLive c.arena r) (was_learned : IsTrue (learned_at c.arena r))
+    (all_units : length c.units.items ≡ length c.trail.entries) (fresh : s.moment.reductions < c.reductions) (enough : 751 + 250 * c.reductions ≤ c.learned) where
+  abbrev n : ℕ
+  n = id_at c.arena r
+
+  abbrev after : Search
+  after = told s (Step (Delete n []))
+
+  abbrev b : ArenaState
+  b = less c.arena r
+
+  here : IsKept formula s.moment.tables.clauses c.next c.arena r
+  here = p.clauses.stored r live
+
+  no_unit : (l : Literal) → IsNamedBy s.moment.tables.clauses (l ∷ []) n → ⊥
+  no_unit l u = here.wide.differ (is_l here.wide.first here.wide.has_first ∙ sym (is_l here.wide.second here.wide.has_second))
+    where
+      one : here.named.clause ≡ u.clause
+      one = let k : Some here.named.clause ≡ Some u.clause = sym here.named.live ∙ u.live in cc (k)
+
+      is_l : (m : Literal) → Contains (literals_at c.arena r) m → m ≡ l
+      is_l m has = only_one l m (of_has (l ∷ []) m (has_by_inside u.clause (l ∷ []) m (and_parts (is_inside (l ∷ []) u.clause) (is_inside u.clause (l ∷ [])) u.same).1
+          (ap (λ x. has_literal x m) (sym one) ∙ has_by_inside (literals_at c.arena r) here.named.clause m (and_parts (is_inside (literals_at c.arena r) here.named.clause) (is_inside here.named.clause (literals_at c.arena r)) here.named.same).0 (has_of (literals_at c.arena r) m has))))
+
+  not_unit : (i : ℕ) → i < length c.units.items → get_or c.units.items i 0 ≢ n
+  not_unit i h same = no_unit (entry_at c.trail.entries i).literal (subst (IsNamedBy s.moment.tables.clauses ((entry_at c.trail.entries i).literal ∷ [])) same (p.units.named i h))
+
+  is_no_reason : IsNoReason n s.trail
+  is_no_reason = no_reason c.units.items n s.trail
+      (subst (RestOnUnits c.units.items) (no_newer p.units.newer p.units.older s.trail p.units.parts (p.units.count ∙ all_units ∙ sym (tied_length s.trail c.trail.entries p.trail.follows.tied))) p.units.rest) not_unit
+
+  low : n < first_row_id
+  low = let below = here.low in let room = p.log.ranged.room in omega (arith, below, room)
+
+  left : length s.moment.learned ≤ length (without s.moment.learned n) + 1
+  left = one_less c.next s.moment.learned n p.counts.falling
+
+  pub is_search_then : IsSearch formula e.parities after
+  is_search_then = delete_learned_keeps formula e.parities s ok n [] (here.late was_learned) is_no_reason
+      (let many = p.counts.many in let one = left in omega (arith, fresh, enough, many, one))
+
+  kept_then : (q : ℕ) → IsLive b q → IsKept formula after.moment.tables.clauses c.next b q
+  kept_then q h =
+      let was = was_live c.arena r q h in
+      let k = p.clauses.stored q was in
+      let same = other_stays c.arena r q (is_other c.arena r q h) in
+      let other : id_at c.arena q ≢ n = λ i. is_other c.arena r q h (p.clauses.apart q r was live i) in
+      record {
+        wide = subst (λ o. HasTwo (literals_in o)) (sym same) k.wide;
+        named = subst (λ o. IsNamedBy after.moment.tables.clauses (literals_in o) (id_in o)) (sym same) (named_stays s.moment.tables.clauses after.moment.tables.clauses _ _ (drop_other s.moment.tables.clauses n (id_at c.arena q) other) k.named);
+        low = subst (λ o. id_in o < c.next) (sym same) k.low;
+        late = subst (λ o. IsTrue (learned_in o) → length (clauses_of formula.constraints) < id_in o) (sym same) k.late;
+      }
+
+  covered_then : (m : ℕ) (clause : List Literal) → m < first_row_id → get after.moment.tables.clauses m ≡ Some clause → IsHeld b (held 0 s.trail) m clause
+  covered_then m clause m_low is =
+      let other : m ≢ n = λ same. no_clause clause (sym is ∙ ap (get after.moment.tables.clauses) same ∙ Rattle.cdcl_search.proofs.TableLaws.drop_same s.moment.tables.clauses n) in
+      elim (p.clauses.covered m clause m_low (sym (drop_other s.moment.tables.clauses n m other) ∙ is)) [
+        | inl (q, q_live, id) ↦
+            let apart_q : q ≢ r = λ same. other (sym id ∙ ap (id_at c.arena) same) in
+            inl (q, still_live c.arena r q apart_q q_live, ap id_in (other_stays c.arena r q apart_q) ∙ id)
+        | inr more ↦ inr more
+      ]
+
+  abbrev d : SearchState
+  d = record c { arena = b; learned = c.learned - 1 }
+
+  pub ties_less : Ties formula d e [] after
+  ties_less = record {
+    log = record {
+      ranged = deletion_ranged formula first_row_id c.next (first_row_id + 0) s p.log.ranged n [];
+      sums = p.log.sums;
+      numbered = p.log.numbered;
+      rows_told = λ i h. absurd (omega (arith, h));
+      served = record {
+        served = p.log.served.served;
+        old_clauses = ap (λ xs. without xs n) p.log.served.old_clauses;
+        new_clauses = ap (λ xs. without xs n) p.log.served.new_clauses;
+        old_sums = p.log.served.old_sums;
+        new_sums = p.log.served.new_sums;
+      };
+    };
+    clauses = record {
+      stored = kept_then;
+      covered = covered_then;
+      apart = λ q k ql kl same. p.clauses.apart q k (was_live c.arena r q ql) (was_live c.arena r k kl)
+          (ap id_in (sym (other_stays c.arena r q (is_other c.arena r q ql))) ∙ same ∙ ap id_in (other_stays c.arena r k (is_other c.arena r k kl)));
+    };
+    trail = p.trail;
+    units = record {
+      few = p.units.few;
+      level_0 = p.units.level_0;
+      named = λ i h. named_stays s.moment.tables.clauses after.moment.tables.clauses _ _ (drop_other s.moment.tables.clauses n (get_or c.units.items i 0) (not_unit i h)) (p.units.named i h);
+      low = p.units.low;
+      newer = p.units.newer;
+      older = p.units.older;
+      parts = p.units.parts;
+      count = p.units.count;
+      rest = p.units.rest;
+      all = p.units.all;
+    };
+    engine = p.engine;
+    reasons = λ i far within. absurd (omega (arith, far, within, all_units));
+    counts = record {
+      marked = p.counts.marked;
+      falling = falls_without c.next s.moment.learned n p.counts.falling;
+      many = let m = p.counts.many in let one = left in omega (arith, m, one);
+      few = counted after.moment.reduces s.moment.reductions c.reductions fresh;
+    };
+    levels = p.levels;
+  }
+
+  pub watched_less : WasWatched c.watches c.arena c.trail → WasWatched c.watches b c.trail
+  watched_less f = record { before = f.before; part = λ q h. other_stays c.arena r q (is_other c.arena r q h) ∙ f.part q (was_live c.arena r q h); watched = f.watched }
+
+-- one deletion of a learned clause: the search stands behind the arena without it and the log with the deletion
+pub one_deletion_keeps : (formula : Problem) (c : SearchState) (e : State) (told_ : Option (List LogEvent)) (st : SearchLoses formula c e told_) (r : ℕ) → IsLive c.arena r → IsTrue (learned_at c.arena r)
+    → length c.units.items ≡ length c.trail.entries → 751 + 250 * c.reductions ≤ c.learned
+    → SearchLoses formula (record c { arena = less c.arena r; learned = c.learned - 1 }) e (with_events (Step (Delete (id_at c.arena r) []) ∷ []) told_)
+one_deletion_keeps formula c e told_ (s, ok, are, p, f, fresh) r live was_learned all_units enough = (
+  told s (Step (Delete (id_at c.arena r) [])),
+  is_search_then formula c e s ok p r live was_learned all_units fresh enough,
+  all_told_are (Step (Delete (id_at c.arena r) []) ∷ []) s told_ are,
+  ties_less formula c e s ok p r live was_learned all_units fresh enough,
+  watched_less formula c e s ok p r live was_learned all_units fresh enough f,
+  fresh,
+)
+
+-- ---- the ends of a reduction
+pub reduction_begins : (formula : Problem) (c : SearchState) (e : State) (told_ : Option (List LogEvent)) → SearchStands formula c e [] told_ → SearchLoses formula (record c { reductions = c.reductions + 1 }) e told_
+reduction_begins formula c e told_ (s, ok, are, p, fits) = (
+  s,
+  ok,
+  are,
+  record {
+    log = p.log;
+    clauses = p.clauses;
+    trail = p.trail;
+    units = p.units;
+    engine = p.engine;
+    reasons = p.reasons;
+    counts = record { marked = p.counts.marked; falling = p.counts.falling; many = p.counts.many; few = let f = p.counts.few in omega (arith, f) };
+    levels = p.levels;
+  },
+  record { before = c.arena; part = λ q h. refl; watched = fits },
+  (let f = p.counts.few in let l = at_least s.moment.reduces s.moment.reductions in omega (arith, f, l)),
+)
+  where
+    at_least : (b : Bool) (k : ℕ) → k ≤ (if b then k + 1 else k)
+    at_least true k = omega arith
+    at_least false k = omega arith
+
+pub reduction_ends : (formula : Problem) (c : SearchState) (e : State) (told_ : Option (List LogEvent)) (w : WatchState) → SearchLoses formula c e told_ → IsDetached c.arena c.watches w → SearchStands formula (record c { watches = w }) e [] told_
+reduction_ends formula c e told_ w (s, ok, are, p, f, fresh) cut = (
+  s,
+  ok,
+  are,
+  record {
+    log = p.log;
+    clauses = p.clauses;
+    trail = p.trail;
+    units = p.units;
+    engine = p.engine;
+    reasons = p.reasons;
+    counts = p.counts;
+    levels = p.levels;
+  },
+  record { fits = detached_fits c.watches w f.before c.arena c.trail f.part cut f.watched.fits; all = λ r h. cut.kept r (f.watched.all r (subst IsSome (f.part r h) h)) h },
+)
+
+-- ---- what is told within a reduction
+pub loses_is_left : (formula : Problem) (c : SearchState) (e : State) (told_ : Option (List LogEvent)) → SearchLoses formula c e told_ → IsLeft formula told_
+loses_is_left formula c e told_ (s, ok, are, p, f, fresh) = is_left formula e.parities s told_ ok p.log.served.served are
+
+pub loses_told : {L : Type 0} (m : sink.Ghosts L) (old new : SearchLog L) (why : Option CoreFault) → GoesOn m old why new
+    → (c d : SearchState) (e : State) (event is : LogEvent) → event ≡ is → m.events new.sink.now ≡ with_events (event ∷ []) (m.events old.sink.now) → d ≡ c → SearchLoses old.formula.now c e (with_events (is ∷ []) (m.events old.sink.now))
+    → SearchLoses new.formula.now d e (m.events new.sink.now)
+loses_told m old new why on c d e event is same told_ one st =
+    subst (λ p. SearchLoses p d e (m.events new.sink.now)) (sym on.formula) (subst (λ x. SearchLoses old.formula.now x e (m.events new.sink.now)) (sym one)
+    (subst (SearchLoses old.formula.now c e) (sym (told_ ∙ ap (λ x. with_events (x ∷ []) (m.events old.sink.now)) same)) st))
