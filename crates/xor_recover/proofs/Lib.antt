@@ -1,0 +1,12 @@
+pub mod Reading
+pub mod Grouping
+pub mod Firsts
+pub mod Normal
+pub mod Patterns
+pub mod Numbers
+pub mod Keys
+pub mod GroupLaws
+pub mod FindLaws
+pub mod Within
+pub mod Sound
+pub mod Least

@@ -1,0 +1,67 @@
+use Rattle.std.proofs.Common.{◌≡◌, ◌≤◌, ◌<◌, sym, ap, ◌∙◌, subst, map, length, List, arith, drop, ◌+◌}
+use Rattle.std.proofs.lemmas.List.{length-map}
+use Rattle.std.specs.List.{All}
+use Rattle.cx_base.specs.Problem.{clauses_of}
+use Rattle.xor_recover.specs.declared.entry.Entry.{Entry}
+use Rattle.xor_recover.specs.Entries.{row_of}
+use Rattle.xor_recover.specs.Rows.{Row, IsProper}
+use Rattle.xor_recover.specs.Groups.{AreFirsts, IsFoundAt}
+use Rattle.xor_recover.proofs.Within.{all_entries, kept_proper, formula_within}
+use Rattle.xor_recover.proofs.Sound.{found_all, all_sound, all_written, stays, grows, Progress}
+use Rattle.xor_recover.proofs.Least.{all_in_order, all_least}
+use Rattle.xor_recover.proofs.recovering.recover.Goals as goal
+use Rattle.xor_recover.proofs.recovering.recover.Goals.{in-Some+in_ok-push-in-Some, in-None}
+
+pub found_at-requires-clause-proper : goal.found_at-requires-clause-proper
+found_at-requires-clause-proper c =
+    let cs = c.args.formula.now.constraints in
+    let kept = map row_of c.sort_and_keep_first.new.entries.items in
+    let firsts = subst (λ (rs : List Row). AreFirsts rs kept) c.in_ok-entries.ensures c.sort_and_keep_first.ensures in
+    subst (λ (es : List Entry). All (λ (e : Entry). IsProper (row_of e)) es) (sym c.deref.ensures.value)
+    (all_entries c.sort_and_keep_first.new.entries.items (kept_proper (clauses_of cs) kept (formula_within _ cs c.vars-vars.ensures.within) firsts))
+
+pub returns-clause-sound : goal.returns-clause-sound
+returns-clause-sound c =
+    let rows = map row_of c.sort_and_keep_first.new.entries.items in
+    let long : length rows ≡ length c.sort_and_keep_first.new.entries.items = length-map c.sort_and_keep_first.new.entries.items row_of in
+    let le : length rows ≤ c.loop-start.start = omega arith in
+    all_sound c.args.formula.now c.from_vec.result (found_all c.args.formula.now _ rows c.loop-start.start _ c.from_vec.result c.vars-vars.ensures.within c.in_ok-entries.ensures c.sort_and_keep_first.ensures le c.loop-start.invariant c.from_vec.ensures)
+
+pub returns-clause-written : goal.returns-clause-written
+returns-clause-written c =
+    let rows = map row_of c.sort_and_keep_first.new.entries.items in
+    let long : length rows ≡ length c.sort_and_keep_first.new.entries.items = length-map c.sort_and_keep_first.new.entries.items row_of in
+    let le : length rows ≤ c.loop-start.start = omega arith in
+    all_written c.args.formula.now c.from_vec.result (found_all c.args.formula.now _ rows c.loop-start.start _ c.from_vec.result c.vars-vars.ensures.within c.in_ok-entries.ensures c.sort_and_keep_first.ensures le c.loop-start.invariant c.from_vec.ensures)
+
+pub loop-start-preserved : goal.loop-start-preserved
+loop-start-preserved c =
+    let items = c.sort_and_keep_first.new.entries.items in
+    let rows = map row_of items in
+    let start = c.loop-start.start in
+    let same : map row_of c.deref.result.now ≡ rows = ap (map row_of) c.deref.ensures.value in
+    let long : length rows ≡ length items = length-map items row_of in
+    let lt : start < length rows = omega arith in
+    let found = subst (λ (rs : List Row). IsFoundAt (drop start rs) c.in_ok-find.field-0) same c.in_ok-find.ensures in
+    elim c.match-branch-3.branch [
+      | in-Some+in_ok-push-in-Some w ↦
+          let f = subst (λ o. IsFoundAt (drop start rows) o) w.in-Some.is found in
+          grows rows start c.loop-start.finds.items _ f.0 w.in-Some.find lt f.1 f.2 (ap (λ v. v.items) w.finds-is ∙ w.in_ok-push-in-Some.ensures.items) c.loop-start.invariant
+      | in-None w ↦
+          let f = subst (λ o. IsFoundAt (drop start rows) o) w.in-None.is found in
+          subst (Progress rows (start + 1)) (sym (ap (λ v. v.items) w.finds-is)) (stays rows start c.loop-start.finds.items lt f c.loop-start.invariant)
+    ]
+
+pub returns-clause-in_order : goal.returns-clause-in_order
+returns-clause-in_order c =
+    let rows = map row_of c.sort_and_keep_first.new.entries.items in
+    let long : length rows ≡ length c.sort_and_keep_first.new.entries.items = length-map c.sort_and_keep_first.new.entries.items row_of in
+    let le : length rows ≤ c.loop-start.start = omega arith in
+    all_in_order c.args.formula.now c.from_vec.result (found_all c.args.formula.now _ rows c.loop-start.start _ c.from_vec.result c.vars-vars.ensures.within c.in_ok-entries.ensures c.sort_and_keep_first.ensures le c.loop-start.invariant c.from_vec.ensures)
+
+pub returns-clause-least : goal.returns-clause-least
+returns-clause-least c =
+    let rows = map row_of c.sort_and_keep_first.new.entries.items in
+    let long : length rows ≡ length c.sort_and_keep_first.new.entries.items = length-map c.sort_and_keep_first.new.entries.items row_of in
+    let le : length rows ≤ c.loop-start.start = omega arith in
+    all_least c.args.formula.now c.from_vec.result (found_all c.args.formula.now _ rows c.loop-start.start _ c.from_vec.result c.vars-vars.ensures.within c.in_ok-entries.ensures c.sort_and_keep_first.ensures le c.loop-start.invariant c.from_vec.ensures)

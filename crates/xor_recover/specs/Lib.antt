@@ -1,0 +1,4 @@
+pub mod Finds
+pub mod Rows
+pub mod Groups
+pub mod Entries
