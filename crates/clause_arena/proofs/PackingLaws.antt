@@ -84,7 +84,7 @@ packed_more old n new new' moves moves' p l e f =
     }
 
 -- ---- all clauses
-live_within : (old : ArenaState) (r : ℕ) → IsLive old r → r < length old.clauses
+pub live_within : (old : ArenaState) (r : ℕ) → IsLive old r → r < length old.clauses
 live_within old r l = ⊎_elim (λ (h : r < length old.clauses). h)
     (λ (h : length old.clauses ≤ r). let gone : is_some (clause_at old r) ≡ false = ap is_some (get_or_past old.clauses r None h) in cc) (cases_lt r (length old.clauses))
 

@@ -2,7 +2,12 @@
 use Rattle.std.specs.Prelude.{ℕ, ◌≡◌, ◌<◌, List, length, get_or, Option, None}
 use Rattle.cx_base.specs.declared.moved.Move.{Move}
 use Rattle.cx_base.specs.Moved.{move_at}
-use Rattle.clause_arena.specs.Clauses.{Stored, ArenaState, clause_at, IsLive}
+use Rattle.std.specs.List.{sum_by}
+use Rattle.clause_arena.specs.Clauses.{Stored, ArenaState, clause_at, IsLive, literals_in}
+
+-- how many literals the clauses have
+abbrev pub literal_count : List (Option Stored) → ℕ
+literal_count clauses = sum_by (λ c. length (literals_in c)) clauses
 
 -- new holds the live ones of the first n clauses of old, as moves say
 pub record IsPacked (old : ArenaState) (n : ℕ) (new : List (Option Stored)) (moves : List Move) : Type 0 where

@@ -209,13 +209,10 @@ impl Arena {
         let alloc = *self.heads.allocator();
         let most = self.heads.capacity().min(MAX_CLAUSES);
         let mut packed = Arena::make(alloc);
+        // so the room that is left is no less than before
         packed.reserve(most, self.lits.capacity())?;
         let mut moves = Vec::with_capacity(alloc, self.heads.len())?;
         pack(self, &mut packed, &mut moves)?;
-        packed.reserve(
-            most - self.heads.len(),
-            self.lits.capacity() - self.lits.len(),
-        )?;
         *self = packed;
         Ok(Moved::from_vec(moves))
     }
