@@ -1,10 +1,10 @@
 -- Parts of a step one after another.
-use Rattle.std.proofs.Common.{◌≡◌, ◌≢◌, refl, sym, ap, ◌∙◌, subst, ℕ, ◌<◌, ℤ, pos, List, [], ◌∷◌, ◌++◌, map, flat_map, append_assoc, append-nil}
+use Rattle.std.proofs.Common.{◌≡◌, refl, sym, ap, ◌∙◌, subst, ℕ, ℤ, pos, List, [], ◌∷◌, ◌++◌, map, flat_map, append_assoc, append-nil}
 use Rattle.std.specs.List.{AllByRecursion}
 use Rattle.std.proofs.lemmas.List.{map-append}
 use Rattle.std.proofs.lemmas.Grind.{flat_map-append}
 use Rattle.cx_semantics.specs.Words.{Word, number, Placed, words}
-use Rattle.cx_semantics.specs.Grammar.{Field, id, integer, end, ids, integers, spelled, spelled_list, IsProper}
+use Rattle.cx_semantics.specs.Grammar.{Field, id, integer, end, ids, integers, spelled, IsProper}
 use Rattle.cx_semantics.proofs.Shapes.{Kind, some_ids, some_integers, kind, Move, closes, stays, refuses, move}
 use Rattle.cx_semantics.proofs.Remaining.{behind, after_word, remaining, remaining-more, all_passed, ids_stay, integers_stay}
 use Rattle.cx_base.proofs.Elements.{all_append}
