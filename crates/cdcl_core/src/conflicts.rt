@@ -148,6 +148,6 @@ pub(crate) fn conflict_clause<P: ParityEngine, L: LogSink>(
             Ok(Conclusion::Clause(conflict))
         }
         Found::Row(row) => row_conflict(log, state, engine, row),
-        Found::Quiet => Err(CoreFault::Memory),
+        Found::Quiet => unreachable!(),
     }
 }

@@ -25,11 +25,7 @@ struct Counts {
 }
 
 /// Tells a clause of the formula.
-fn tell_clause<L: LogSink>(
-    log: &mut SearchLog<L>,
-    id: u64,
-    lits: &[Lit],
-) -> Result<(), CoreFault>
+fn tell_clause<L: LogSink>(log: &mut SearchLog<L>, id: u64, lits: &[Lit]) -> Result<(), CoreFault>
     requires id { IsId id }
     requires right { IsRightBehind L.LogSink log.old (Step (step.Original id (integers_of lits.now)) ∷ []) }
     ensures told { OnOk result (AreToldNow L.LogSink log.old (Step (step.Original id (integers_of lits.now)) ∷ []) log.new) }
@@ -40,11 +36,7 @@ fn tell_clause<L: LogSink>(
 }
 
 /// Tells a parity of the formula.
-fn tell_parity<L: LogSink>(
-    log: &mut SearchLog<L>,
-    id: u64,
-    lits: &[Lit],
-) -> Result<(), CoreFault>
+fn tell_parity<L: LogSink>(log: &mut SearchLog<L>, id: u64, lits: &[Lit]) -> Result<(), CoreFault>
     requires id { IsId id }
     requires right { IsRightBehind L.LogSink log.old (Step (step.OriginalParity id (integers_of lits.now)) ∷ []) }
     ensures told { OnOk result (AreToldNow L.LogSink log.old (Step (step.OriginalParity id (integers_of lits.now)) ∷ []) log.new) }
@@ -81,9 +73,7 @@ fn tell_original<L: LogSink>(
 }
 
 /// Tells the constraints of the formula, in order. Clauses have ids from 1 on, and parities have theirs from 1 on.
-pub(crate) fn tell_originals<L: LogSink>(
-    log: &mut SearchLog<L>,
-) -> Result<(), CoreFault>
+pub(crate) fn tell_originals<L: LogSink>(log: &mut SearchLog<L>) -> Result<(), CoreFault>
     requires few { length log.old.formula.now.constraints ≤ 4294967295 }
     requires fresh { IsFresh (told_in L.LogSink log.old) }
     ensures begun { OnOk result (HasBegun log.new.formula.now log.new.formula.now.constraints (told_in L.LogSink log.new)) }
