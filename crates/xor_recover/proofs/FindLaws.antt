@@ -43,7 +43,7 @@ positive_sum : (vs : List ℕ) → odd_sum (map (λ (l : Literal). l.negative) (
 positive_sum [] = refl
 positive_sum (v ∷ vs) = positive_sum vs
 
-sign_sum : (right : Bool) (v : ℕ) (vs : List ℕ) → odd_sum (map (λ (l : Literal). l.negative) (literals_with right (v ∷ vs))) ≡ not right
+pub sign_sum : (right : Bool) (v : ℕ) (vs : List ℕ) → odd_sum (map (λ (l : Literal). l.negative) (literals_with right (v ∷ vs))) ≡ not right
 sign_sum true v vs = positive_sum vs
 sign_sum false v vs = ap not (positive_sum vs)
 
@@ -159,7 +159,7 @@ within_set vs (l ∷ lits) rise h = (
   within_set vs lits rise (λ y m. h y (Rattle.std.proofs.lemmas.Bool.or_right (nat_eq l.variable y) _ m)),
 )
 
-abbrev set_of : List ℕ → set.FinSet nat_cmp
+abbrev pub set_of : List ℕ → set.FinSet nat_cmp
 set_of xs = set.from_list xs
 
 len_more : (x : ℕ) (xs : List ℕ) → set.len (set_of (x ∷ xs)) ≡ cond (list_any (λ y. nat_eq y x) xs) (set.len (set_of xs)) (set.len (set_of xs) + 1)
@@ -205,7 +205,7 @@ variable_of (x ∷ xs) y h = elim (or_cases (nat_eq x.variable y) (list_any (λ 
   | inr later ↦ let m = variable_of xs y later in (m.0, has_behind x xs m.0 m.1, m.2)
 ]
 
-same_variables : (a b : List Literal) → ((q : Literal) → has_literal a q ≡ has_literal b q) → (y : ℕ) → list_any (λ z. nat_eq z y) (variables a) ≡ true → list_any (λ z. nat_eq z y) (variables b) ≡ true
+pub same_variables : (a b : List Literal) → ((q : Literal) → has_literal a q ≡ has_literal b q) → (y : ℕ) → list_any (λ z. nat_eq z y) (variables a) ≡ true → list_any (λ z. nat_eq z y) (variables b) ≡ true
 same_variables a b same y h = let m = variable_of a y h in subst (λ (n : ℕ). list_any (λ z. nat_eq z n) (variables b) ≡ true) m.2 (variable_in b m.0 (sym (same m.0) ∙ m.1))
 
 both : (a b : Bool) → (a ≡ true → b ≡ true) → (b ≡ true → a ≡ true) → a ≡ b

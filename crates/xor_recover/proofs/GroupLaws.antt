@@ -73,6 +73,10 @@ run_of_key x y (z ∷ zs) (suc j) d s up lt e =
 pub count : Row → List Row → ℕ
 count x zs = length (filter (λ z. same_key z x) zs)
 
+pub count-is : (x : Row) (zs : List Row) → count x zs ≡ length (filter (λ z. same_key z x) zs)
+unfolding count
+count-is x zs = refl
+
 count-hit : (x y : Row) (ys : List Row) → same_key y x ≡ true → count x (y ∷ ys) ≡ suc (count x ys)
 unfolding count
 count-hit x y ys e = ap (λ b. length (cond b (y ∷ filter (λ z. same_key z x) ys) (filter (λ z. same_key z x) ys))) e

@@ -10,3 +10,4 @@ pub mod FindLaws
 pub mod Within
 pub mod Sound
 pub mod Least
+pub mod Complete

@@ -1,11 +1,12 @@
 //! Parities from the clauses of a formula.
 ghost use Rattle.std.specs.Prelude.{◌≡◌, ◌<◌, ◌≤◌, map, drop, length, Some, None, MatchOption, IfOk};
-ghost use Rattle.std.specs.List.{All};
+ghost use Rattle.std.specs.List.{All, Contains};
+ghost use Rattle.xor_recover.specs.declared.found.Found.{Found};
 ghost use Rattle.std.specs.List.Sorted.{IsPermutation, IsNonDecreasing, IsStrictlySortedBy};
 ghost use Rattle.xor_recover.specs.Finds.{HasLeastNumbers, find_cmp};
 ghost use Rattle.cx_base.specs.declared.literal.TheConstants.{MAX_VARIABLE};
 ghost use Rattle.parity_engine.specs.Written.{literals_with, AreRising, IsWritten};
-ghost use Rattle.cx_base.specs.Parity.{normal_form};
+ghost use Rattle.cx_base.specs.Parity.{NormalForm, normal_form};
 ghost use Rattle.cx_semantics.specs.Recovered.{Recovered};
 ghost use Rattle.xor_recover.specs.Rows.{IsProper};
 ghost use Rattle.xor_recover.specs.Entries.{row_of};
@@ -88,6 +89,7 @@ pub fn recover(alloc: Global, formula: &Formula) -> Result<FoundList, AllocError
     ensures sound { IfOk result (λ finds. All (λ find. Recovered formula.now (normal_form find.parity)) finds) }
     ensures written { IfOk result (λ finds. All (λ find. IsWritten (normal_form find.parity) find.parity) finds) }
     ensures in_order { IfOk result (λ finds. IsStrictlySortedBy find_cmp finds) }
+    ensures complete { IfOk result (λ finds. (form : NormalForm) → Recovered formula.now form → (find : Found) × Contains finds find × (normal_form find.parity ≡ form)) }
     ensures least { IfOk result (λ finds. All (HasLeastNumbers formula.now) finds) }
 {
     let _vars = formula.vars();

@@ -9,6 +9,7 @@ use Rattle.xor_recover.specs.Groups.{AreFirsts, IsFoundAt}
 use Rattle.xor_recover.proofs.Within.{all_entries, kept_proper, formula_within}
 use Rattle.xor_recover.proofs.Sound.{found_all, all_sound, all_written, stays, grows, Progress}
 use Rattle.xor_recover.proofs.Least.{all_in_order, all_least}
+use Rattle.xor_recover.proofs.Complete.{all_complete}
 use Rattle.xor_recover.proofs.recovering.recover.Goals as goal
 use Rattle.xor_recover.proofs.recovering.recover.Goals.{in-Some+in_ok-push-in-Some, in-None}
 
@@ -65,3 +66,10 @@ returns-clause-least c =
     let long : length rows ≡ length c.sort_and_keep_first.new.entries.items = length-map c.sort_and_keep_first.new.entries.items row_of in
     let le : length rows ≤ c.loop-start.start = omega arith in
     all_least c.args.formula.now c.from_vec.result (found_all c.args.formula.now _ rows c.loop-start.start _ c.from_vec.result c.vars-vars.ensures.within c.in_ok-entries.ensures c.sort_and_keep_first.ensures le c.loop-start.invariant c.from_vec.ensures)
+
+pub returns-clause-complete : goal.returns-clause-complete
+returns-clause-complete c =
+    let rows = map row_of c.sort_and_keep_first.new.entries.items in
+    let long : length rows ≡ length c.sort_and_keep_first.new.entries.items = length-map c.sort_and_keep_first.new.entries.items row_of in
+    let le : length rows ≤ c.loop-start.start = omega arith in
+    all_complete c.args.formula.now c.from_vec.result (found_all c.args.formula.now _ rows c.loop-start.start _ c.from_vec.result c.vars-vars.ensures.within c.in_ok-entries.ensures c.sort_and_keep_first.ensures le c.loop-start.invariant c.from_vec.ensures)
