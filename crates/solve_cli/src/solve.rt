@@ -11,7 +11,7 @@ use cdcl_core::{CoreFault, Outcome as Answer, solve_core};
 use cx_base::Formula;
 use cx_desk::Desk;
 use cx_words::Name;
-use gauss_jordan::Scratch;
+use gauss_incremental::Incremental;
 use log_text::ListLog;
 use std::alloc::{AllocError, Global};
 
@@ -51,7 +51,7 @@ pub fn search(
     requires fresh { log.old ≡ [] }
     ensures { IfOk result (ComesTo formula.now conflicts log.new) }
 {
-    let answer = solve_core::<Scratch, ListLog>(alloc, formula, conflicts, log);
+    let answer = solve_core::<Incremental, ListLog>(alloc, formula, conflicts, log);
     let _with_texts = log.events();
     match answer {
         Ok(Answer::Sat(values)) => Ok(Ending::Satisfiable(values)),
