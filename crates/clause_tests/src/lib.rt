@@ -1,7 +1,18 @@
-//! Worked examples of the clause half, as tests: arena, watches, order and analysis together.
+//! Worked examples of the clause half of the search, as tests: arena, watches, order and analysis together, what is
+//! planned of restarts and deletions, compaction, planted instances, and parities recovered from clauses.
 #![tactic(auto)]
 
 #[cfg(test)]
+mod compaction;
+#[cfg(test)]
+mod planting;
+#[cfg(test)]
+mod policy;
+#[cfg(test)]
+mod propagation;
+#[cfg(test)]
+mod recovering;
+#[cfg(test)]
 mod source;
 #[cfg(test)]
-mod tests;
+mod writing;

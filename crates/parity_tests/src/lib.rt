@@ -1,4 +1,5 @@
-//! Worked events and reasons of the engines over parities, through the trait, and the engines beside one another.
+//! Worked examples of the parity half of the search, as tests: rows and matrices, events and reasons of the engines
+//! through the trait, and the engines beside one another.
 #![tactic(auto)]
 
 #[cfg(test)]
@@ -8,4 +9,10 @@ mod events;
 #[cfg(test)]
 mod parities;
 #[cfg(test)]
+mod parts;
+#[cfg(test)]
+mod pivots;
+#[cfg(test)]
 mod reasons;
+#[cfg(test)]
+mod rows;

@@ -4,7 +4,7 @@ use Rattle.std.specs.FinSet as set
 use Rattle.cx_base.specs.Parity.{NormalForm}
 use Rattle.gf2_matrix.specs.Content.{row_at, form, equation}
 use Rattle.parity_engine.proofs.Forms.{contains-form}
-use Rattle.matrix_tests.proofs.pivots.pivots.Goals as goal
+use Rattle.parity_tests.proofs.pivots.pivots.Goals as goal
 
 pub pivot-requires-clause-has : goal.pivot-requires-clause-has
 pivot-requires-clause-has c =
