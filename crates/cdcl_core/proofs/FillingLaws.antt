@@ -3,7 +3,7 @@ use Rattle.std.proofs.Common.{◌≡◌, refl, sym, subst, ℕ, zero, suc, ◌<�
 use Rattle.std.proofs.lemmas.List.{get_or-replicate, length-replicate}
 use Rattle.clause_arena.specs.Clauses.{ArenaState}
 use Rattle.cx_trail.specs.Sequence.{TrailState, entry_at}
-use Rattle.search_policy.specs.Standing.{OrderState, AllStand}
+use Rattle.search_policy.specs.Standing.{OrderState, AllStand, new_order}
 use Rattle.watch_lists.specs.Watching.{WatchState, Fits, looked_at}
 
 abbrev pub no_literals : ℕ → TrailState
@@ -33,8 +33,8 @@ none_fit n a = record {
 pub empty_fits : (n : ℕ) (w : WatchState) (a : ArenaState) (t : TrailState) → w ≡ record { variables = n; looked = 0 ∷ []; held = []; attached = [] } → t ≡ no_literals n → Fits w a t
 empty_fits n w a t is empty = subst (λ x. Fits x a t) (sym is) (subst (Fits (record { variables = n; looked = 0 ∷ []; held = []; attached = [] }) a) (sym empty) (none_fit n a))
 
-all_stand : (n : ℕ) → AllStand (record { scores = replicate n 0; standing = replicate n true }) (no_literals n)
+all_stand : (n : ℕ) → AllStand (new_order n) (no_literals n)
 all_stand n = record { variables = length-replicate n 0; stand = λ v low high is_open. get_or-replicate n (v - 1) true false (omega (arith, low, high)) }
 
-pub empty_stands : (n : ℕ) (o : OrderState) (t : TrailState) → o ≡ record { scores = replicate n 0; standing = replicate n true } → t ≡ no_literals n → AllStand o t
-empty_stands n o t is empty = subst (λ x. AllStand x t) (sym is) (subst (AllStand (record { scores = replicate n 0; standing = replicate n true })) (sym empty) (all_stand n))
+pub empty_stands : (n : ℕ) (o : OrderState) (t : TrailState) → o ≡ new_order n → t ≡ no_literals n → AllStand o t
+empty_stands n o t is empty = subst (λ x. AllStand x t) (sym is) (subst (AllStand (new_order n)) (sym empty) (all_stand n))
