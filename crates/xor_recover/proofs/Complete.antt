@@ -1,12 +1,11 @@
 -- Each parity that stands in the formula is found.
-use Rattle.std.proofs.Common.{◌≡◌, ◌≢◌, refl, sym, ap, ◌∙◌, subst, ℕ, zero, suc, ◌+◌, ◌-◌, ◌^◌, ◌<◌, ◌≤◌, Bool, true, false, cond, not, ◌&&◌, ◌||◌, nat_eq, List, [], ◌∷◌, length, map, arith, true≢false, inl, inr, eqb-true, ◌⊎◌}
+use Rattle.std.proofs.Common.{◌≡◌, refl, sym, ap, ◌∙◌, subst, ℕ, zero, suc, ◌-◌, ◌≤◌, Bool, true, false, cond, not, ◌||◌, nat_eq, List, [], ◌∷◌, length, map, arith, true≢false, inl, inr, eqb-true, ◌⊎◌}
 use Rattle.std.specs.Prelude.{filter}
-use Rattle.std.specs.List.{AllByRecursion, AllZip, Contains, list_any}
+use Rattle.std.specs.List.{AllZip, Contains, list_any}
 use Rattle.std.specs.FinSet as set
 use Rattle.std.specs.Ordering.{nat_cmp, is_eq, eq_by_cmp}
 use Rattle.std.specs.Cmp.{nat_cmp_total, unsigned_tied, nat_eq_equiv}
-use Rattle.std.specs.declared.cmp.Ordering.TheVariants.{Equal}
-use Rattle.std.proofs.lemmas.Bool.{or_cases, or_left, or_right, and_parts, cases_Bool}
+use Rattle.std.proofs.lemmas.Bool.{or_cases, or_left, or_right, and_parts}
 use Rattle.std.proofs.lemmas.List.{length-map}
 use Rattle.cx_base.specs.Literals.{Literal}
 use Rattle.cx_base.specs.Problem.{Problem, AreWithin, clauses_of}
@@ -18,19 +17,19 @@ use Rattle.cx_semantics.specs.Recovered.{Recovered, excluded_sum}
 use Rattle.cx_semantics.proofs.SameSets.{HaveSame-by_test}
 use Rattle.cx_semantics.proofs.Members.{has_at_head, has_behind}
 use Rattle.cx_semantics.proofs.RecoveredLaws.{Distinct, len-distinct}
-use Rattle.cx_semantics.proofs.Widths.{variables, variable_in, length-variables}
+use Rattle.cx_semantics.proofs.Widths.{variables, length-variables}
 use Rattle.parity_engine.specs.Written.{literals_with, AreRising}
 use Rattle.parity_engine.proofs.Columns.{columns_rise}
 use Rattle.parity_engine.proofs.Literals.{variables_written}
 use Rattle.xor_recover.specs.declared.found.Found.{Found}
-use Rattle.xor_recover.specs.Rows.{Row, row, rows_of, IsProper, shape_cmp}
-use Rattle.xor_recover.specs.Groups.{AreFirsts, groups_of, needed, same_key}
+use Rattle.xor_recover.specs.Rows.{Row, row, rows_of}
+use Rattle.xor_recover.specs.Groups.{AreFirsts, groups_of, same_key}
 use Rattle.xor_recover.proofs.Firsts.{shape_ties}
 use Rattle.xor_recover.proofs.Numbers.{AllWithin, negatives, stands}
 use Rattle.xor_recover.proofs.Patterns.{same_signs, same_is, same_signs_equiv, many_patterns, pattern_says}
 use Rattle.xor_recover.proofs.Keys.{variables_same, right_same, variables_long}
 use Rattle.xor_recover.proofs.GroupLaws.{count, count-is, groups_complete, head_proper}
-use Rattle.xor_recover.proofs.FindLaws.{set_of, distinct_rising, set_is, right_is, rising_of, sign_sum, excluded_is, in_order, InOrder, same_variables}
+use Rattle.xor_recover.proofs.FindLaws.{set_of, distinct_rising, set_is, right_is, rising_of, sign_sum, excluded_is, in_order, same_variables}
 use Rattle.xor_recover.proofs.Within.{kept_proper}
 use Rattle.xor_recover.proofs.Sound.{Says, FoundAll}
 

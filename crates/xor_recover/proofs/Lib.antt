@@ -11,3 +11,4 @@ pub mod Within
 pub mod Sound
 pub mod Least
 pub mod Complete
+pub mod Judged

@@ -3,7 +3,7 @@ ghost use Rattle.std.specs.Prelude.{◌≡◌, ◌<◌, ◌≤◌, map, drop, le
 ghost use Rattle.std.specs.List.{All, Contains};
 ghost use Rattle.xor_recover.specs.declared.found.Found.{Found};
 ghost use Rattle.std.specs.List.Sorted.{IsPermutation, IsNonDecreasing, IsStrictlySortedBy};
-ghost use Rattle.xor_recover.specs.Finds.{HasLeastNumbers, find_cmp};
+ghost use Rattle.xor_recover.specs.Finds.{HasLeastNumbers, IsJudgedRight, find_cmp};
 ghost use Rattle.cx_base.specs.declared.literal.TheConstants.{MAX_VARIABLE};
 ghost use Rattle.parity_engine.specs.Written.{literals_with, AreRising, IsWritten};
 ghost use Rattle.cx_base.specs.Parity.{NormalForm, normal_form};
@@ -91,6 +91,7 @@ pub fn recover(alloc: Global, formula: &Formula) -> Result<FoundList, AllocError
     ensures in_order { IfOk result (λ finds. IsStrictlySortedBy find_cmp finds) }
     ensures complete { IfOk result (λ finds. (form : NormalForm) → Recovered formula.now form → (find : Found) × Contains finds find × (normal_form find.parity ≡ form)) }
     ensures least { IfOk result (λ finds. All (HasLeastNumbers formula.now) finds) }
+    ensures judged { IfOk result (λ finds. All (IsJudgedRight formula.now) finds) }
 {
     let _vars = formula.vars();
     let mut entries = entries(alloc, formula)?;

@@ -10,6 +10,7 @@ use Rattle.xor_recover.proofs.Within.{all_entries, kept_proper, formula_within}
 use Rattle.xor_recover.proofs.Sound.{found_all, all_sound, all_written, stays, grows, Progress}
 use Rattle.xor_recover.proofs.Least.{all_in_order, all_least}
 use Rattle.xor_recover.proofs.Complete.{all_complete}
+use Rattle.xor_recover.proofs.Judged.{all_judged}
 use Rattle.xor_recover.proofs.recovering.recover.Goals as goal
 use Rattle.xor_recover.proofs.recovering.recover.Goals.{in-Some+in_ok-push-in-Some, in-None}
 
@@ -73,3 +74,11 @@ returns-clause-complete c =
     let long : length rows ≡ length c.sort_and_keep_first.new.entries.items = length-map c.sort_and_keep_first.new.entries.items row_of in
     let le : length rows ≤ c.loop-start.start = omega arith in
     all_complete c.args.formula.now c.from_vec.result (found_all c.args.formula.now _ rows c.loop-start.start _ c.from_vec.result c.vars-vars.ensures.within c.in_ok-entries.ensures c.sort_and_keep_first.ensures le c.loop-start.invariant c.from_vec.ensures)
+
+pub returns-clause-judged : goal.returns-clause-judged
+returns-clause-judged c =
+    let rows = map row_of c.sort_and_keep_first.new.entries.items in
+    let long : length rows ≡ length c.sort_and_keep_first.new.entries.items = length-map c.sort_and_keep_first.new.entries.items row_of in
+    let le : length rows ≤ c.loop-start.start = omega arith in
+    let found = found_all c.args.formula.now _ rows c.loop-start.start _ c.from_vec.result c.vars-vars.ensures.within c.in_ok-entries.ensures c.sort_and_keep_first.ensures le c.loop-start.invariant c.from_vec.ensures in
+    all_judged c.args.formula.now c.from_vec.result (all_sound c.args.formula.now c.from_vec.result found) (all_least c.args.formula.now c.from_vec.result found)
