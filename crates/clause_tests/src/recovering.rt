@@ -28,3 +28,34 @@ fn two_parities_over_one_set(rt: HostRuntime) -> Result<(), Fail> {
     assert_eq!(rt; finds[1].clauses.as_slice(), [1u64, 4].as_slice());
     Ok(())
 }
+
+#[test]
+fn a_parity_of_three(rt: HostRuntime) -> Result<(), Fail> {
+    let mut builder = FormulaBuilder::new(rt.alloc());
+    add(&mut builder, &[yes(1), yes(2), yes(3)])?;
+    add(&mut builder, &[yes(1), no(2), no(3)])?;
+    add(&mut builder, &[no(1), yes(2), no(3)])?;
+    add(&mut builder, &[no(1), no(2), yes(3)])?;
+    let finds = recover(rt.alloc(), &builder.finish(3))?.into_vec();
+    assert_eq!(rt; finds.len(), 1);
+    assert_eq!(rt;
+        finds[0].parity.as_slice(),
+        [yes(1), yes(2), yes(3)].as_slice()
+    );
+    assert_eq!(rt; finds[0].clauses.as_slice(), [1u64, 2, 3, 4].as_slice());
+    Ok(())
+}
+
+#[test]
+fn repeats_and_copies(rt: HostRuntime) -> Result<(), Fail> {
+    let mut builder = FormulaBuilder::new(rt.alloc());
+    add(&mut builder, &[yes(2), no(1), yes(2)])?;
+    add(&mut builder, &[yes(1), no(1), yes(2)])?;
+    add(&mut builder, &[no(1), yes(2)])?;
+    add(&mut builder, &[no(2), yes(1)])?;
+    let finds = recover(rt.alloc(), &builder.finish(2))?.into_vec();
+    assert_eq!(rt; finds.len(), 1);
+    assert_eq!(rt; finds[0].parity.as_slice(), [no(1), yes(2)].as_slice());
+    assert_eq!(rt; finds[0].clauses.as_slice(), [1u64, 4].as_slice());
+    Ok(())
+}
