@@ -9,7 +9,6 @@ use Rattle.cx_semantics.specs.LogRules.{derives_empty_clause}
 use Rattle.cx_semantics.specs.Tables.{get}
 use Rattle.cx_semantics.proofs.Lookups.{Looks-insert}
 use Rattle.cx_trail.specs.declared.entry.Reason.{Reason}
-use Rattle.cx_trail.specs.declared.entry.Reason.TheVariants as why
 use Rattle.cx_trail.specs.Sequence.{TrailState, TakesBack, pushed, IsOpenIn}
 use Rattle.search_steps.specs.Trail.{Entry, by_clause, back_to, level_of}
 use Rattle.search_steps.specs.Quiet.{IsOfParities}

@@ -1,5 +1,5 @@
 -- A search before its first clause.
-use Rattle.std.proofs.Common.{◌≡◌, refl, sym, subst, ℕ, zero, suc, ◌<◌, ◌≤◌, true, false, true≢false, ◌-◌, [], ◌∷◌, replicate, arith}
+use Rattle.std.proofs.Common.{◌≡◌, refl, sym, subst, ℕ, zero, suc, ◌<◌, ◌≤◌, true, false, true≢false, ◌-◌, [], ◌∷◌, arith}
 use Rattle.std.proofs.lemmas.List.{get_or-replicate, length-replicate}
 use Rattle.clause_arena.specs.Clauses.{ArenaState}
 use Rattle.cx_trail.specs.Sequence.{TrailState, entry_at}

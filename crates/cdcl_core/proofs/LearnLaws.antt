@@ -1,7 +1,5 @@
 -- What a conflict teaches, and what the sink is told of it.
-use Rattle.std.proofs.Common.{◌≡◌, refl, sym, ap, ◌∙◌, subst, ℕ, suc, ◌+◌, ◌<◌, ◌^◌, ℤ, true, List, [], ◌∷◌, ◌++◌, length, take, drop, Some, None, Option, Result, Ok, Err, IfOk, IfErr, ◌⊎◌, inl, inr, arith, append-nil, append_assoc}
-use Rattle.std.proofs.lemmas.List.{take-append-drop}
-use Rattle.std.proofs.lemmas.List.Elements.{filter_map-append}
+use Rattle.std.proofs.Common.{◌≡◌, sym, ap, ◌∙◌, subst, ℕ, ◌+◌, ◌<◌, ◌^◌, ℤ, true, List, [], ◌∷◌, ◌++◌, length, Some, None, Option, Result, IfOk, append-nil, append_assoc}
 use Rattle.cx_base.specs.Literals.{Literal}
 use Rattle.cx_base.specs.Problem.{Problem}
 use Rattle.cx_semantics.specs.declared.steps.LogStep.{LogStep}
@@ -9,13 +7,8 @@ use Rattle.cx_semantics.specs.declared.steps.LogStep.TheVariants.{ClauseWithHint
 use Rattle.cx_semantics.specs.declared.steps.LogEvent.{LogEvent}
 use Rattle.cx_semantics.specs.declared.steps.LogEvent.TheVariants.{Step, Conflict}
 use Rattle.cx_semantics.specs.Integers.{integers_of, literals}
-use Rattle.cx_semantics.specs.Judging.{Calculus, Runs, IsOpen}
-use Rattle.cx_semantics.specs.LogRules.{log_calculus}
-use Rattle.cx_semantics.specs.LogText.{steps_of, step_of}
-use Rattle.cx_semantics.specs.Tables.{Tables}
 use Rattle.cx_trail.specs.Sequence.{TrailState}
 use Rattle.conflict_learn.specs.declared.fault.CoreFault.{CoreFault}
-use Rattle.conflict_learn.specs.declared.fault.CoreFault.TheVariants.{Memory}
 use Rattle.conflict_learn.specs.declared.learning.Learned.{Learned}
 use Rattle.conflict_learn.specs.Levels.{Teaches}
 use Rattle.conflict_learn.specs.Learning.{IsOfLevel}
@@ -33,8 +26,6 @@ use Rattle.cdcl_search.specs.Ties.{first_row_id, row_ids, SearchStands}
 use Rattle.cdcl_search.specs.Sources.{IsSourced}
 use Rattle.std.specs.Prelude.{OnOk}
 use Rattle.cdcl_search.specs.declared.logs.SearchLog.{SearchLog}
-use Rattle.log_text.specs.declared.sink.LogSink as sink
-use Rattle.cdcl_search.specs.Logs.{GoesOn}
 use Rattle.cdcl_search.specs.Tells.{IsLeft, as_events, with_events}
 use Rattle.cdcl_search.proofs.RowSteps.{is_left}
 use Rattle.cdcl_search.specs.Deleting.{deletions}

@@ -1,5 +1,5 @@
 -- One learned clause less: in the arena, in the log, and behind both.
-use Rattle.std.proofs.Common.{◌≡◌, ◌≢◌, refl, sym, ap, ◌∙◌, subst, ℕ, zero, suc, ◌+◌, ◌-◌, ◌*◌, ◌<◌, ◌≤◌, Bool, true, false, true≢false, not, cond, nat_eq, eqb-true, List, [], ◌∷◌, ◌++◌, length, get_or, Option, Some, None, Contains, inl, inr, arith, length-append}
+use Rattle.std.proofs.Common.{◌≡◌, ◌≢◌, refl, sym, ap, ◌∙◌, subst, ℕ, zero, suc, ◌+◌, ◌-◌, ◌*◌, ◌<◌, ◌≤◌, Bool, true, false, true≢false, not, cond, nat_eq, eqb-true, List, [], ◌∷◌, length, get_or, Option, Some, None, Contains, inl, inr, arith}
 use Rattle.std.specs.Prelude.{IsSome, IsTrue, slice_set, if◌then◌else◌}
 use Rattle.std.proofs.lemmas.List.{get_or-set_other}
 use Rattle.std.proofs.lemmas.Bool.{and_parts}
@@ -33,7 +33,7 @@ use Rattle.log_text.specs.declared.sink.LogSink as sink
 use Rattle.cdcl_search.specs.Logs.{GoesOn}
 use Rattle.cdcl_search.specs.Tells.{IsLeft, with_events}
 use Rattle.cdcl_search.specs.Ties.{IsNamedBy, first_row_id}
-use Rattle.cdcl_search.specs.Ties.{Ties, SearchStands, ClauseTies, IsKept, IsHeld, RestOnUnits, IsFallingFrom, stretches, HasTwo}
+use Rattle.cdcl_search.specs.Ties.{Ties, SearchStands, IsKept, IsHeld, RestOnUnits, IsFallingFrom, HasTwo}
 use Rattle.cdcl_core.specs.Reducing.{SearchLoses, WasWatched}
 use Rattle.cdcl_search.proofs.UnitTies.{falls_lower}
 use Rattle.cdcl_search.proofs.Places.{tied_length}

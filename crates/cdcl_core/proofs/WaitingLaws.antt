@@ -1,5 +1,5 @@
 -- Unit clauses of the formula come onto the trail, one after another, and what stands when none waits.
-use Rattle.std.proofs.Common.{◌≡◌, ◌≢◌, refl, sym, ap, ◌∙◌, subst, ℕ, zero, suc, ◌+◌, ◌-◌, ◌<◌, ◌≤◌, nat_lt, true, cond, List, [], ◌∷◌, ◌++◌, length, drop, drop-cons, get_or, Option, Some, None, ◌⊎◌, inl, inr, Contains, arith, length-append, true≢false, append-nil}
+use Rattle.std.proofs.Common.{◌≡◌, ◌≢◌, refl, sym, ap, ◌∙◌, subst, ℕ, zero, suc, ◌+◌, ◌<◌, ◌≤◌, nat_lt, true, cond, List, [], ◌∷◌, ◌++◌, length, drop, drop-cons, get_or, Option, Some, None, ◌⊎◌, inl, inr, Contains, arith, length-append, true≢false, append-nil}
 use Rattle.std.proofs.lemmas.Bool.{le-leb, ltb-true, ltb-false, and_parts}
 use Rattle.std.proofs.lemmas.List.{length-replicate, length_push}
 use Rattle.std.proofs.Math.ListN.{get_or-append}
@@ -38,7 +38,7 @@ use Rattle.search_steps.proofs.Sets.{not_both}
 use Rattle.search_steps.proofs.StartLaws.{begun_is_search}
 use Rattle.search_steps.proofs.Stored.{stored_is_false}
 use Rattle.cdcl_search.specs.declared.state.SearchState.{SearchState}
-use Rattle.cdcl_search.specs.Ties.{SearchStands, LogTies, ClauseTies, IsHeld, IsWatched, AreUnits, RestOnUnits, IsFallingFrom, IsFed, IsNamedBy, first_row_id}
+use Rattle.cdcl_search.specs.Ties.{SearchStands, LogTies, ClauseTies, IsHeld, AreUnits, RestOnUnits, IsFallingFrom, IsFed, IsNamedBy, first_row_id}
 use Rattle.cdcl_search.proofs.Growing.{held_grows, watched_grows, stand_grows}
 use Rattle.cdcl_search.proofs.UnitTies.{on_clauses, on_last}
 use Rattle.cdcl_search.proofs.RowSteps.{few_parities}

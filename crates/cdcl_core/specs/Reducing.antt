@@ -1,5 +1,5 @@
 -- What holds within a reduction.
-use Rattle.std.specs.Prelude.{ℕ, ◌<◌, List, [], Option}
+use Rattle.std.specs.Prelude.{◌<◌, List, [], Option}
 use Rattle.cx_base.specs.Problem.{Problem}
 use Rattle.cx_semantics.specs.declared.steps.LogEvent.{LogEvent}
 use Rattle.cx_trail.specs.Sequence.{TrailState}

@@ -1,9 +1,8 @@
 -- What a search holds while some unit clauses of the formula still wait.
-use Rattle.std.specs.Prelude.{◌≡◌, ◌⊎◌, ℕ, ◌+◌, ◌<◌, ◌≤◌, Bool, true, false, List, [], length, Option, IsTrue, Contains}
+use Rattle.std.specs.Prelude.{◌≡◌, ◌⊎◌, ℕ, ◌+◌, ◌<◌, ◌≤◌, Bool, true, false, List, [], length, Option, Contains}
 use Rattle.std.specs.List.{AllByRecursion}
 use Rattle.cx_base.specs.Problem.{Problem, clauses_of, parities_of}
 use Rattle.cx_semantics.specs.declared.steps.LogEvent.{LogEvent}
-use Rattle.cx_semantics.specs.Chain.{same_literals}
 use Rattle.clause_arena.specs.Clauses.{IsLive, id_at}
 use Rattle.search_policy.specs.Standing.{AllStand}
 use Rattle.search_steps.specs.Holding.{AreTold}

@@ -11,9 +11,8 @@ mod learning;
 mod originals;
 mod reducing;
 mod restarting;
+mod schedule;
 mod solving;
 
 pub use conflict_learn::CoreFault;
-pub use reducing::reduce;
-pub use restarting::restart;
 pub use solving::{Outcome, solve_core};

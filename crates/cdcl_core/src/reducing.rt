@@ -59,7 +59,7 @@ fn remove_where_may<P: ParityEngine, L: LogSink>(
     requires loses { Loses P.ParityEngine L.LogSink log.old state.old engine.now }
     requires units { length state.old.units.items ≡ length state.old.trail.entries }
     ensures loses { OnOk result (Loses P.ParityEngine L.LogSink log.new state.new engine.now) }
-    ensures same { OnOk result ((state.new.trail ≡ state.old.trail) × (state.new.units.items ≡ state.old.units.items)) }
+    ensures same { OnOk result ((state.new.trail ≡ state.old.trail) × (state.new.units.items ≡ state.old.units.items) × (state.new.conflicts ≡ state.old.conflicts)) }
     ensures log { GoesOn L.LogSink log.old (fault_in result) log.new }
 {
     if may_go(state, reference) {
@@ -79,6 +79,7 @@ pub fn reduce<P: ParityEngine, L: LogSink>(
     requires units { length state.old.units.items ≡ length state.old.trail.entries }
     ensures stands { OnOk result (Stands P.ParityEngine L.LogSink log.new state.new engine.now []) }
     ensures trail { OnOk result (state.new.trail ≡ state.old.trail) }
+    ensures conflicts { OnOk result (state.new.conflicts ≡ state.old.conflicts) }
     ensures log { GoesOn L.LogSink log.old (fault_in result) log.new }
 {
     if state.reductions >= 1_000_000_000_000_000_000 {

@@ -17,6 +17,7 @@ pub fn restart<P: ParityEngine>(formula: &Formula, state: &mut SearchState, engi
     ensures stands { (told : Option (List LogEvent)) → SearchStands formula.now state.old (P.state engine.old) [] told → SearchStands formula.now state.new (P.state engine.new) [] told }
     ensures level { state.new.trail.level ≡ 0 }
     ensures units { HasUnits state.new }
+    ensures conflicts { state.new.conflicts ≡ state.old.conflicts }
     ensures unbroken { (P.state engine.new).mood ≢ Broken }
 {
     go_back(formula, state, engine, 0);

@@ -19,6 +19,7 @@ use crate::conflicts::{Conclusion, Conflict, conflict_clause};
 use crate::ending::{end, tell_ending};
 use crate::jumping::jump;
 use crate::learning::learn;
+use crate::schedule::{Schedule, follow_schedule};
 use cdcl_search::logs::SearchLog;
 use cdcl_search::rows::FIRST_ROW_ID;
 use cdcl_search::{Found, SearchState, search_on, values_of};
@@ -152,10 +153,12 @@ fn search<P: ParityEngine, L: LogSink>(
     ensures settled { Settled log.new.formula.now → IfOk result (λ a. IsSettledBy log.new.formula.now 1 (told_in L.LogSink log.new) a) }
     ensures log { GoesOn L.LogSink log.old (fault_in result) log.new }
 {
+    let mut schedule = Schedule::new(log.alloc);
     loop {
         if let Some(outcome) = round(log, state, engine, budget)? {
             return Ok(outcome);
         }
+        follow_schedule(log, state, engine, &mut schedule)?;
     }
 }
 

@@ -1,4 +1,4 @@
-use Rattle.std.proofs.Common.{◌≢◌, sym, ap, ◌∙◌, subst, eqb-true, ◌+◌, length, [], ◌∷◌}
+use Rattle.std.proofs.Common.{◌≢◌, sym, ap, ◌∙◌, subst, eqb-true, length, [], ◌∷◌}
 use Rattle.std.proofs.lemmas.Bool.{eqb-false}
 use Rattle.watch_lists.specs.Attaching.{CanBeWatched}
 use Rattle.cdcl_search.proofs.Outcomes.{on_ok}

@@ -8,6 +8,7 @@ loop-reference-init g c = record {
   loses = reduction_begins c.args.log.now.formula.now c.args.state.now (g.P.ParityEngine.state c.args.engine.now) (g.L.LogSink.events c.args.log.now.sink.now) c.requires.stands;
   units = c.requires.units;
   trail = refl;
+  conflicts = refl;
   log = log_rests g.L.LogSink g.met.L.LogSink.keeps_itself c.args.log.now;
 }
 
@@ -18,6 +19,7 @@ loop-reference-preserved g c =
       loses = done.loses;
       units = ap Rattle.std.proofs.Common.length done.same.1 ∙ c.loop-reference.invariant.units ∙ sym (ap (λ t. Rattle.std.proofs.Common.length t.entries) done.same.0);
       trail = done.same.0 ∙ c.loop-reference.invariant.trail;
+      conflicts = done.same.2 ∙ c.loop-reference.invariant.conflicts;
       log = log_then g.L.LogSink g.met.L.LogSink.keeps_on _ _ _ _ c.loop-reference.invariant.log done.log;
     }
 

@@ -9,5 +9,6 @@ invariant-loop-reference g l = record {
   loses : SearchLoses l.log.formula.now l.state (g.P.ParityEngine.state l.engine) (g.L.LogSink.events l.log.sink.now);
   units : length l.state.units.items ≡ length l.state.trail.entries;
   trail : l.state.trail ≡ l.fn.state.trail;
+  conflicts : l.state.conflicts ≡ l.fn.state.conflicts;
   log : GoesOn g.L.LogSink l.fn.log None l.log;
 }

@@ -1,0 +1,186 @@
+//! When the search restarts, and which learned clauses it deletes then.
+ghost use Rattle.std.specs.Prelude.{◌≡◌, ◌≢◌, ◌<◌, ◌≤◌, List, [], Option, length, IsTrue, OnOk};
+ghost use Rattle.cx_semantics.specs.declared.steps.LogEvent.{LogEvent};
+ghost use Rattle.conflict_learn.specs.Faults.{fault_in};
+ghost use Rattle.parity_engine.specs.declared.state.Mood.TheVariants.{Broken};
+ghost use Rattle.cdcl_search.specs.Logs.{GoesOn, Stands};
+ghost use Rattle.cdcl_search.specs.Ties.{SearchStands};
+
+use crate::reducing::reduce;
+use crate::restarting::restart;
+use cdcl_search::SearchState;
+use cdcl_search::logs::SearchLog;
+use clause_arena::Arena;
+use conflict_learn::CoreFault;
+use cx_base::{ClauseRef, Formula, RefList};
+use cx_trail::Reason;
+use log_text::LogSink;
+use parity_engine::ParityEngine;
+use search_policy::{Card, choose_removed, restart_due};
+use std::alloc::{AllocError, Global};
+
+/// So many restarts are more than any search makes.
+const LAST_RESTART: u64 = 1 << 62;
+
+/// What decides when the search restarts and what it deletes: no answer rests on it.
+#[derive(Drop)]
+pub(crate) struct Schedule {
+    alloc: Global,
+    /// Counted conflicts since the last restart.
+    since: u64,
+    restarts: u64,
+    /// The learned clauses of two and more literals, but those that were found removed.
+    learned: Vec<ClauseRef>,
+}
+
+/// The clause that a reason names.
+fn clause_of(reason: Reason) -> Option<ClauseRef> {
+    match reason {
+        Reason::Clause(reference) => Some(reference),
+        Reason::Row(_) | Reason::Decision => None,
+    }
+}
+
+/// The clause that implied the newest literal of the trail: behind a jump, the learned one.
+fn newest_reason(state: &SearchState) -> Option<ClauseRef> {
+    let len = state.trail.len();
+    if len == 0 {
+        return None;
+    }
+    clause_of(state.trail.entry(len - 1).reason)
+}
+
+/// What a reduction looks at of a learned clause, where it is still there. At level 0 no clause is held as a reason.
+fn card_of(arena: &Arena, reference: ClauseRef) -> Option<Card> {
+    if !arena.is_live(reference) {
+        return None;
+    }
+    Some(Card {
+        reference,
+        id: arena.id(reference),
+        lbd: arena.lbd(reference),
+        learned: arena.learned(reference),
+        is_reason: false,
+    })
+}
+
+/// The cards of those that are still there.
+fn cards_of(
+    alloc: Global,
+    arena: &Arena,
+    references: &[ClauseRef],
+) -> Result<Vec<Card>, AllocError> {
+    let mut cards = Vec::new(alloc);
+    for reference in references {
+        if let Some(card) = card_of(arena, *reference) {
+            cards.push(card)?;
+        }
+    }
+    Ok(cards)
+}
+
+impl Schedule {
+    /// No restart yet.
+    pub fn new(alloc: Global) -> Schedule {
+        Schedule {
+            alloc,
+            since: 0,
+            restarts: 0,
+            learned: Vec::new(alloc),
+        }
+    }
+
+    /// Counts a conflict behind its jump.
+    fn count(&mut self, state: &SearchState) -> Result<(), AllocError> {
+        self.since = self.since.saturating_add(1);
+        if let Some(reference) = newest_reason(state) {
+            self.learned.push(reference)?;
+        }
+        Ok(())
+    }
+
+    /// Whether a restart is due.
+    fn is_due(&self) -> bool {
+        self.restarts < LAST_RESTART && restart_due(self.since, self.restarts + 1)
+    }
+
+    /// Counts a restart.
+    fn begin_again(&mut self) {
+        self.since = 0;
+        self.restarts = self.restarts.saturating_add(1);
+    }
+
+    /// The learned clauses that a reduction removes.
+    fn choose(&mut self, arena: &Arena) -> Result<RefList, AllocError> {
+        let cards = cards_of(self.alloc, arena, &self.learned)?;
+        self.learned = cards.iter().map(|card| card.reference).collect(self.alloc)?;
+        choose_removed(self.alloc, &cards)
+    }
+}
+
+/// Whether so many learned clauses are there that some go: 2000, and 500 more for each reduction before.
+fn are_many(state: &SearchState) -> bool {
+    state.learned / 500 >= state.reductions.saturating_add(4)
+}
+
+/// Whether each literal of the trail has a unit clause, as at level 0.
+fn has_units(state: &SearchState) -> bool
+    ensures { IsTrue result → length state.now.units.items ≡ length state.now.trail.entries }
+{
+    state.units.len() == state.trail.len()
+}
+
+/// Goes back to level 0, where the search is not there.
+fn go_to_start<P: ParityEngine>(formula: &Formula, state: &mut SearchState, engine: &mut P)
+    requires stands { (told : Option (List LogEvent)) × SearchStands formula.now state.old (P.state engine.old) [] told }
+    requires unbroken { (P.state engine.old).mood ≢ Broken }
+    ensures stands { (told : Option (List LogEvent)) → SearchStands formula.now state.old (P.state engine.old) [] told → SearchStands formula.now state.new (P.state engine.new) [] told }
+    ensures unbroken { (P.state engine.new).mood ≢ Broken }
+    ensures conflicts { state.new.conflicts ≡ state.old.conflicts }
+{
+    if state.trail.level() > 0 {
+        restart(formula, state, engine);
+    }
+}
+
+/// Deletes learned clauses where there are many.
+fn reduce_where_many<P: ParityEngine, L: LogSink>(
+    log: &mut SearchLog<L>,
+    state: &mut SearchState,
+    engine: &P,
+    schedule: &mut Schedule,
+) -> Result<(), CoreFault>
+    requires stands { Stands P.ParityEngine L.LogSink log.old state.old engine.now [] }
+    ensures stands { OnOk result (Stands P.ParityEngine L.LogSink log.new state.new engine.now []) }
+    ensures conflicts { OnOk result (state.new.conflicts ≡ state.old.conflicts) }
+    ensures log { GoesOn L.LogSink log.old (fault_in result) log.new }
+{
+    if !has_units(state) || !are_many(state) {
+        return Ok(());
+    }
+    let chosen = schedule.choose(&state.arena)?;
+    reduce(log, state, engine, chosen.as_slice())
+}
+
+/// Behind a counted conflict and its jump: restarts where that is due, and deletes learned clauses then.
+pub(crate) fn follow_schedule<P: ParityEngine, L: LogSink>(
+    log: &mut SearchLog<L>,
+    state: &mut SearchState,
+    engine: &mut P,
+    schedule: &mut Schedule,
+) -> Result<(), CoreFault>
+    requires stands { Stands P.ParityEngine L.LogSink log.old state.old engine.old [] }
+    requires unbroken { (P.state engine.old).mood ≢ Broken }
+    ensures stands { OnOk result (Stands P.ParityEngine L.LogSink log.new state.new engine.new []) }
+    ensures unbroken { (P.state engine.new).mood ≢ Broken }
+    ensures conflicts { OnOk result (state.new.conflicts ≡ state.old.conflicts) }
+    ensures log { GoesOn L.LogSink log.old (fault_in result) log.new }
+{
+    schedule.count(state)?;
+    if !schedule.is_due() {
+        return Ok(());
+    }
+    schedule.begin_again();
+    go_to_start(log.formula, state, engine);
+    reduce_where_many(log, state, engine, schedule)
+}
