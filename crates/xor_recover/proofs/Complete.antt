@@ -19,8 +19,8 @@ use Rattle.cx_semantics.proofs.Members.{has_at_head, has_behind}
 use Rattle.cx_semantics.proofs.RecoveredLaws.{Distinct, len-distinct}
 use Rattle.cx_semantics.proofs.Widths.{variables, length-variables}
 use Rattle.parity_engine.specs.Written.{literals_with, AreRising}
-use Rattle.parity_engine.proofs.Columns.{columns_rise}
-use Rattle.parity_engine.proofs.Literals.{variables_written}
+use Rattle.parity_engine.proofs.Rising.{columns_rise}
+use Rattle.gf2_matrix.proofs.Written.{variables_written}
 use Rattle.xor_recover.specs.declared.found.Found.{Found}
 use Rattle.xor_recover.specs.Rows.{Row, row, rows_of}
 use Rattle.xor_recover.specs.Groups.{AreFirsts, groups_of, same_key}

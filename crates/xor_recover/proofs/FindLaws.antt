@@ -20,8 +20,9 @@ use Rattle.cx_semantics.proofs.RecoveredLaws.{Distinct, len-distinct}
 use Rattle.cx_semantics.proofs.Widths.{variables, variable_in, variables-normal_form, len-normal_form, length-variables}
 use Rattle.gf2_rows.proofs.Words.{parity-count}
 use Rattle.parity_engine.specs.Written.{literals_with, Rises, AreRising, IsWritten}
-use Rattle.parity_engine.proofs.Columns.{columns_rise, none_below}
-use Rattle.parity_engine.proofs.Literals.{variables_written, right_parity}
+use Rattle.parity_engine.proofs.Rising.{columns_rise, none_below}
+use Rattle.parity_engine.proofs.Literals.{right_parity}
+use Rattle.gf2_matrix.proofs.Written.{variables_written}
 use Rattle.xor_recover.specs.Finds.{first_with}
 use Rattle.xor_recover.specs.Rows.{Row, row, rows_of, inserted, shape_cmp, IsProper}
 use Rattle.xor_recover.specs.Groups.{AreFirsts, needed, same_key}

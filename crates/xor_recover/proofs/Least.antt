@@ -17,7 +17,7 @@ use Rattle.cx_base.specs.Parity.{normal_form, HasOneOfEach}
 use Rattle.cx_base.proofs.Elements.{in_head, in_tail}
 use Rattle.cx_semantics.specs.Chain.{has_literal, same_literals}
 use Rattle.cx_semantics.proofs.SameSets.{HaveSame-by_test}
-use Rattle.parity_engine.proofs.Literals.{variables_written}
+use Rattle.gf2_matrix.proofs.Written.{variables_written}
 use Rattle.xor_recover.specs.declared.found.Found.{Found}
 use Rattle.xor_recover.specs.Finds.{first_with, IsExcluding, HasLeastNumbers, find_cmp}
 use Rattle.xor_recover.specs.Rows.{Row, row, rows_of, IsProper, key_cmp, shape_cmp}
