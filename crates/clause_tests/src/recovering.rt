@@ -1,4 +1,6 @@
 //! Parities recovered from clauses.
+ghost use Rattle.std.specs.Prelude.{◌≡◌, [], OnOk};
+
 use crate::writing::{no, yes};
 use cx_base::{FormulaBuilder, Lit};
 use std::alloc::AllocError;
@@ -6,7 +8,9 @@ use std::test::Fail;
 use xor_recover::recover;
 
 /// Adds a clause.
-fn add(builder: &mut FormulaBuilder, lits: &[Lit]) -> Result<(), AllocError> {
+fn add(builder: &mut FormulaBuilder, lits: &[Lit]) -> Result<(), AllocError>
+    ensures { OnOk result (builder.new.unfinished ≡ []) }
+{
     for lit in lits {
         builder.push(*lit)?;
     }
