@@ -1,23 +1,20 @@
 -- What a run says in single clauses: the causes of the faults and of a refusal of the words, completeness.
-use Rattle.std.proofs.Common.{◌≡◌, ◌⊎◌, ℕ, List, length, option_map, take, Option, Some, None, IfSome, IsTrue, inl, inr, refl, ap, sym, subst, ◌∙◌}
+use Rattle.std.proofs.Common.{◌≡◌, ◌⊎◌, ℕ, List, option_map, take, Option, Some, None, IfSome, IsTrue, inl, inr, refl, ap, sym, subst, ◌∙◌}
 use Rattle.std.proofs.lemmas.Bool.{false≢true}
-use Rattle.std.proofs.lemmas.Option.{IfSome_then}
 use Rattle.cx_desk.specs.declared.desk.Port.TheVariants as port
-use Rattle.cx_desk.specs.Outside.{Bytes, Files, Written}
+use Rattle.cx_desk.specs.Outside.{Bytes, Written}
 use Rattle.cx_base.specs.Counts.{Rose}
 use Rattle.cx_words.specs.Words.{Asks, Refuses}
 use Rattle.cx_words.specs.declared.plans.Plan.{Plan}
-use Rattle.cx_words.specs.declared.plans.Plan.TheVariants as plan
 use Rattle.cx_words.proofs.PlanLaws.{one_plan, not_refused}
 use Rattle.solve_cli.specs.declared.ending.Ending.{Ending}
-use Rattle.solve_cli.specs.declared.ending.Ending.TheVariants as ending
 use Rattle.solve_cli.specs.declared.ending.Outcome.{Outcome}
 use Rattle.solve_cli.specs.declared.ending.Outcome.TheVariants as outcome
 use Rattle.solve_cli.specs.declared.ending.Status.{Status}
 use Rattle.solve_cli.specs.declared.ending.Status.TheVariants as status
-use Rattle.solve_cli.specs.Endings.{status_of, answer_text, message_text}
-use Rattle.solve_cli.specs.Seen.{Seen, says, creates, text_named}
-use Rattle.solve_cli.specs.Commands.{is_built, Stage, second_started, proof_created, asked_to}
+use Rattle.solve_cli.specs.Endings.{status_of, message_text}
+use Rattle.solve_cli.specs.Seen.{Seen, says, creates}
+use Rattle.solve_cli.specs.Commands.{is_built, second_started, asked_to}
 use Rattle.solve_cli.specs.Happens.{end_stage, Ends, Stops, AsksForMore, Works, WorksFor, PutsMessage, Runs, Comes}
 use Rattle.solve_cli.proofs.Outcomes.{outcome_of}
 use Rattle.solve_cli.proofs.Works.{faults_at}

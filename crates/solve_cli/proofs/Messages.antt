@@ -17,9 +17,9 @@ use Rattle.solve_cli.specs.declared.ending.Status.{Status}
 use Rattle.solve_cli.specs.declared.ending.Status.TheVariants as status
 use Rattle.solve_cli.specs.Endings.{status_of, status_of_ending, answer_text}
 use Rattle.solve_cli.specs.Seen.{Seen, text_named}
-use Rattle.solve_cli.specs.Commands.{Stage, proof_created, second_started, formula_of, proof_of, is_built, writes_proof}
-use Rattle.solve_cli.specs.Happens.{IfNamed, EarlyDue, is_early, Early, Due, IsFormula, FormulaIn, Reaches, AnswerFails, CreateFails, ProofFails, Works, WorksFor, Runs}
-use Rattle.solve_cli.specs.Run.{is_reader, IsToldByMessage}
+use Rattle.solve_cli.specs.Commands.{Stage, formula_of, proof_of, is_built, writes_proof}
+use Rattle.solve_cli.specs.Happens.{IfNamed, EarlyDue, is_early, Due, IsFormula, Reaches, Works, WorksFor, Runs}
+use Rattle.solve_cli.specs.Run.{IsToldByMessage}
 use Rattle.solve_cli.proofs.Direct.{read_rose, refused_or_more}
 use Rattle.solve_cli.proofs.OneEnding.{one_ending, one_early, not_both}
 use Rattle.solve_cli.proofs.Works.{early_text}

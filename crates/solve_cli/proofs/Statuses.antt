@@ -1,5 +1,5 @@
 -- What a run says by its status, for the commands that judge a text.
-use Rattle.std.proofs.Common.{◌≡◌, ◌<◌, ◌≤◌, ◌⊎◌, ℕ, List, Bool, option_map, length, Option, Some, None, IfSome, inl, inr, refl, ap, sym, subst, ◌∙◌}
+use Rattle.std.proofs.Common.{◌≡◌, ◌⊎◌, ℕ, List, Bool, option_map, Option, Some, None, IfSome, inl, inr, refl, ap, sym, subst, ◌∙◌}
 use Rattle.std.proofs.lemmas.Option.{IfSome_then}
 use Rattle.cx_base.specs.Problem.{Problem, Meets, Unmet}
 use Rattle.cx_semantics.specs.ProofRules.{Accepted}
@@ -25,7 +25,7 @@ use Rattle.solve_cli.specs.Endings.{answer_text}
 use Rattle.solve_cli.specs.Seen.{Seen, says, text_named}
 use Rattle.solve_cli.specs.Commands.{Stage, formula_of, second_text, second_started, proof_created, asked_to}
 use Rattle.solve_cli.specs.Proofs.{IsWholeProof, IsProofBefore}
-use Rattle.solve_cli.specs.Happens.{IfNamed, FormulaRead, IsFormula, EarlyDue, Early, LateDue, Due, end_stage, Works, Runs}
+use Rattle.solve_cli.specs.Happens.{IfNamed, Early, LateDue, Due, end_stage, Works, Runs}
 use Rattle.solve_cli.specs.Causes.{OfFormula, OnProof, IsFormulaRefused, PassesLimit, IsOverLimit, IsProofRefused, IsLogRefused, IsAnswerRefused, IsOfSolve, IsVerified, IsElaborated, IsModelRight}
 use Rattle.solve_cli.proofs.Dues.{one_formula, judged_due}
 use Rattle.solve_cli.proofs.Outcomes.{Done, verified, right, elaborated, unknown, OverLimit, far, long, outcome_of}

@@ -1,8 +1,8 @@
 -- One command behind another: what `solve` logged is elaborated, and what `elab` wrote is verified.
-use Rattle.std.proofs.Common.{◌≡◌, ◌≢◌, ◌<◌, ◌⊎◌, ℕ, List, length, codes, option_map, Option, Some, None, IfSome, IsTrue, inl, inr, refl, ap, sym, subst, ◌∙◌}
+use Rattle.std.proofs.Common.{◌≡◌, ◌<◌, ◌⊎◌, ℕ, List, length, codes, option_map, Option, Some, None, IfSome, IsTrue, inl, inr, refl, ap, sym, subst, ◌∙◌}
 use Rattle.cx_base.specs.Problem.{Problem}
 use Rattle.cx_semantics.specs.FormulaText.{Reads}
-use Rattle.cx_semantics.specs.Judging.{Judgement, accepted, refused}
+use Rattle.cx_semantics.specs.Judging.{accepted, refused}
 use Rattle.cx_semantics.specs.LogRules.{LogRight, LogJudgedAs}
 use Rattle.cx_semantics.specs.ProofRules.{Accepted, ProofJudgedAs}
 use Rattle.cx_semantics.proofs.Deciding.{one_proof_judgement}
@@ -22,10 +22,10 @@ use Rattle.solve_cli.specs.declared.ending.Status.{Status}
 use Rattle.solve_cli.specs.declared.ending.Status.TheVariants as status
 use Rattle.solve_cli.specs.Endings.{status_of, status_of_ending}
 use Rattle.solve_cli.specs.Seen.{Seen, says, asks, creates, text_named}
-use Rattle.solve_cli.specs.Commands.{is_built, second_text}
+use Rattle.solve_cli.specs.Commands.{is_built}
 use Rattle.solve_cli.specs.Proofs.{IsWholeProof}
-use Rattle.solve_cli.specs.Solved.{HasSolved, solved}
-use Rattle.solve_cli.specs.Happens.{FormulaRead, EarlyDue, Judged, LateDue, Due, WorksFor, Runs}
+use Rattle.solve_cli.specs.Solved.{solved}
+use Rattle.solve_cli.specs.Happens.{EarlyDue, Judged, LateDue, Due, WorksFor, Runs}
 use Rattle.solve_cli.specs.WholeWay.{ToldRun, IsCutShort, LogsElaborate, ProofsVerify}
 use Rattle.solve_cli.proofs.Direct.{proof_in, said_answer, gained_proof, refused_or_more, ended}
 use Rattle.solve_cli.proofs.Dues.{same_of_one, one_formula}

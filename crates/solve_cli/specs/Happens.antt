@@ -22,7 +22,6 @@ use Rattle.solve_cli.specs.declared.ending.WrongAnswer.TheVariants as wrong
 use Rattle.solve_cli.specs.declared.ending.Outcome.{Outcome}
 use Rattle.solve_cli.specs.declared.ending.Outcome.TheVariants as outcome
 use Rattle.solve_cli.specs.declared.ending.Status.{Status}
-use Rattle.solve_cli.specs.declared.ending.Status.TheVariants as status
 use Rattle.solve_cli.specs.Endings.{status_of, status_of_ending, answer_text, message_text}
 use Rattle.solve_cli.specs.Seen.{Seen, asks_proof, says, ReadFault, WriteFault, MessageFault, text_named}
 use Rattle.solve_cli.specs.Proofs.{IsWholeProof, IsProofBefore, IsRightSoFar}

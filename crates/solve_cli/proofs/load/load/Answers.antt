@@ -1,6 +1,6 @@
 use Rattle.std.proofs.Common.{refl, sym, ap, ◌∙◌, subst, Err}
 use Rattle.std.proofs.lemmas.Result.{err_from_is_err_and}
-use Rattle.solve_cli.proofs.Works.{second_failed, proof_call}
+use Rattle.solve_cli.proofs.Works.{create_failed, second_failed, proof_call}
 use Rattle.solve_cli.specs.Seen.{Seen, seen}
 use Rattle.solve_cli.specs.Commands.{gives_file}
 use Rattle.solve_cli.specs.Steps.{Loads}
@@ -13,10 +13,20 @@ create_proof-requires g c = record {
       ap (λ (s : Seen). s.asked.proof) begun.0 ∙ c.requires.fresh.proof;
 }
 
-pub read_slot-requires-clause-started : goal.read_slot-requires-clause-started
-read_slot-requires-clause-started g c =
-    let begun = c.in_ok-formula.ensures (plan.Check c.args.formula c.args.second) refl refl in
-    (c.in_ok-create_proof.ensures.1 c.args.second begun.1).started
+pub read_slot-requires : goal.read_slot-requires
+read_slot-requires g c = record {
+  started = let begun = c.in_ok-formula.ensures (plan.Check c.args.formula c.args.second) refl refl in
+      (c.in_ok-create_proof.ensures.1 c.args.second begun.1).started;
+}
+
+pub returns-in_err-create_proof : goal.returns-in_err-create_proof
+returns-in_err-create_proof g c = λ p is_formula is_second is_proof.
+    let old = seen (g.D.Desk.outside c.args.desk.now) in
+    let new = seen (g.D.Desk.outside c.create_proof.new.desk) in
+    let begun = c.in_ok-formula.ensures p is_formula is_second in
+    let is = err_from_is_err_and c.from_residual-in_err-create_proof.result c.from_residual-in_err-create_proof.ensures.1 in
+    subst (λ r. Loads p c.args.limit old r new) (sym (is.1 ∙ ap Err is.2))
+    (create_failed p c.args.proof c.args.limit old (seen (g.D.Desk.outside c.begin.new.desk)) c.in_ok-formula.formula c.in_err-create_proof.field-0.0 new is_proof begun.0 begun.2 c.in_err-create_proof.ensures)
 
 pub returns-in_err-second : goal.returns-in_err-second
 returns-in_err-second g c = λ p is_formula is_second is_proof.
