@@ -24,18 +24,3 @@ pub fn lits(alloc: Global, integers: &[i64]) -> Result<LitList, AllocError> {
     }
     Ok(LitList::from_vec(list))
 }
-
-/// Up to four literals over the variables up to a number; rarely none. Literals may come twice, and with their negations.
-pub fn some_lits(alloc: Global, seed: &mut u64, vars: u64) -> Result<Vec<Lit>, AllocError> {
-    let len = match next(seed) % 16 {
-        0 => 0,
-        other => 1 + other % 4,
-    };
-    let mut list = Vec::new(alloc);
-    for _ in 0..len {
-        let number = 1 + next(seed) % vars.clamp(1, 1_000);
-        let sign = next(seed) % 2 == 0;
-        list.push(Lit::new(Var::new(number as u32), sign))?;
-    }
-    Ok(list)
-}
