@@ -108,7 +108,7 @@ keeps clause h = inl (kept_by table clause (map literals lists) ((1, looks 1), (
 marked : Marked formula events 1
 marked = record {
   marks = refl;
-  originals = ((1, refl), ((2, refl), ((3, refl), ((4, refl), tt))));
+  originals = (Conflict 1 ∷ Step (Clause 5 (negsuc 0 ∷ [])) ∷ [], refl);
   last = fold after_event first_moment events;
   fit = (tt, (tt, (tt, (tt, (record { served = refl; kept = keeps; no_old_clauses = refl; no_old_sums = refl }, ((lit≤ tt, fresh), refl))))));
   served = refl;

@@ -144,15 +144,15 @@ abbrev pub mark_of : LogEvent → Option ℕ
 mark_of (Step step) = None
 mark_of (Conflict k) = Some k
 
-abbrev pub IsOriginal : Constraint → LogEvent → Type 0
-IsOriginal (constraint.Clause lits) event = (n : ℕ) × (event ≡ Step (Original n (integers_of lits)))
-IsOriginal (constraint.Parity lits) event = (n : ℕ) × (event ≡ Step (OriginalParity n (integers_of lits)))
+-- the steps that tell these constraints in order: clauses have ids from n on, parities from k on
+abbrev pub original_events : ℕ → ℕ → List Constraint → List LogEvent
+original_events n k [] = []
+original_events n k (constraint.Clause lits ∷ cs) = Step (Original n (integers_of lits)) ∷ original_events (n + 1) k cs
+original_events n k (constraint.Parity lits ∷ cs) = Step (OriginalParity k (integers_of lits)) ∷ original_events n (k + 1) cs
 
--- the events begin with a step for each constraint in order
+-- the events begin with a step for each constraint in order, under the ids 1, 2, .. of clauses and 1, 2, .. of parities
 abbrev pub BeginsWithOriginals : List Constraint → List LogEvent → Type 0
-BeginsWithOriginals [] events = ⊤
-BeginsWithOriginals (c ∷ cs) [] = ⊥
-BeginsWithOriginals (c ∷ cs) (event ∷ events) = IsOriginal c event × BeginsWithOriginals cs events
+BeginsWithOriginals cs events = (rest : List LogEvent) × (events ≡ original_events 1 1 cs ++ rest)
 
 -- the marks are 1 to n, each with its learned clause, and all events fit
 pub record Marked (formula : Problem) (events : List LogEvent) (n : ℕ) : Type 0 where

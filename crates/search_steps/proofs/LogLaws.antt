@@ -1,5 +1,5 @@
 -- Each step that the search tells is right and fits, and keeps what holds of the search.
-use Rattle.std.proofs.Common.{◌≡◌, refl, sym, ap, ◌∙◌, subst, ℕ, zero, suc, ◌+◌, ◌*◌, ◌≤◌, ◌<◌, ℤ, true, false, not, ◌||◌, MatchBool, List, [], ◌∷◌, ◌++◌, length, Some, None, is_some, filter_map, Contains, arith, ◌⊎◌, inl, inr, true≢false, append-nil}
+use Rattle.std.proofs.Common.{◌≡◌, refl, sym, ap, ◌∙◌, subst, ℕ, zero, suc, ◌+◌, ◌*◌, ◌≤◌, ◌<◌, ℤ, true, false, not, ◌||◌, MatchBool, List, [], ◌∷◌, ◌++◌, length, Some, None, is_some, filter_map, Contains, arith, ◌⊎◌, inl, inr, true≢false, append-nil, append_assoc}
 use Rattle.std.proofs.lemmas.List.Elements.{filter_map-append}
 use Rattle.std.specs.List.{list_any, list_all, range_with_len}
 use Rattle.std.proofs.lemmas.Bool.{and_parts, and_from}
@@ -18,7 +18,7 @@ use Rattle.cx_semantics.specs.Integers.{literals}
 use Rattle.cx_semantics.specs.Judging.{IsRight, Runs}
 use Rattle.cx_semantics.specs.LogRules.{log_calculus, after_log_step, derives_empty_clause, HasChain, AreLive}
 use Rattle.cx_semantics.specs.LogText.{step_of}
-use Rattle.cx_semantics.specs.Marked.{Moment, first_moment, after_event, StepFits, MarkFits, KeepsFormula, mark_of, BeginsWithOriginals, IsLearned, IsKnown, is_among, without}
+use Rattle.cx_semantics.specs.Marked.{Moment, first_moment, after_event, StepFits, MarkFits, KeepsFormula, mark_of, BeginsWithOriginals, original_events, IsLearned, IsKnown, is_among, without}
 use Rattle.cx_semantics.specs.ProofRules.{all_met}
 use Rattle.cx_semantics.specs.Settled.{IsClauseOf}
 use Rattle.cx_semantics.specs.Tables.{Table, get, is_live, named}
@@ -40,9 +40,7 @@ use Rattle.search_steps.proofs.ServesLaws.{put_serves, drop_serves, put_parity_s
 
 -- ---- logs grow
 pub begins_still : (cs : List Constraint) (events : List LogEvent) (more : List LogEvent) → BeginsWithOriginals cs events → BeginsWithOriginals cs (events ++ more)
-begins_still [] events more h = tt
-begins_still (c ∷ cs) [] more h = absurd h
-begins_still (c ∷ cs) (e ∷ events) more h = (h.0, begins_still cs events more h.1)
+begins_still cs events more (rest, is) = (rest ++ more, ap (λ es. es ++ more) is ∙ append_assoc (original_events 1 1 cs) rest more)
 
 range_push : (a n : ℕ) → range_with_len a (suc n) ≡ range_with_len a n ++ (a + n) ∷ []
 range_push a zero = ap (λ x. x ∷ []) (omega arith)

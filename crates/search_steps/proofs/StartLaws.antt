@@ -15,7 +15,7 @@ use Rattle.cx_semantics.specs.Chain.{same_literals}
 use Rattle.cx_semantics.specs.Integers.{integer_of, literals, integers_of, is_negative}
 use Rattle.cx_semantics.specs.LogRules.{log_calculus, IsOriginalParity, is_original}
 use Rattle.cx_semantics.specs.LogText.{steps_of, step_of}
-use Rattle.cx_semantics.specs.Marked.{first_moment, mark_of, BeginsWithOriginals, IsOriginal}
+use Rattle.cx_semantics.specs.Marked.{first_moment, mark_of, original_events}
 use Rattle.cx_semantics.specs.Tables.{Table, get}
 use Rattle.cx_semantics.proofs.Closure.{inside_itself}
 use Rattle.cx_semantics.proofs.JudgingLaws.{runs_push}
@@ -90,11 +90,21 @@ first_more table lists lits f = record {
     at : (n : ℕ) → (nat_eq n (length lists + 1) ≡ true → ⊥) → get (map_.insert table (length lists + 1) lits) n ≡ get table n
     at n apart = Looks-insert table (get table) (length lists + 1) lits (λ _. refl) n ∙ ap (λ b. cond b (Some lits) (get table n)) (by_cases (nat_eq n (length lists + 1)) (λ e. absurd (apart e)) (λ e. e))
 
-begins_push : (taken : List Constraint) (events : List LogEvent) (c : Constraint) (e : LogEvent) → BeginsWithOriginals taken events → length events ≡ length taken → IsOriginal c e → BeginsWithOriginals (taken ++ c ∷ []) (events ++ e ∷ [])
-begins_push [] [] c e b long o = (o, tt)
-begins_push [] (x ∷ events) c e b long o = absurd (omega (arith, long))
-begins_push (t ∷ taken) [] c e b long o = absurd b
-begins_push (t ∷ taken) (x ∷ events) c e b long o = (b.0, begins_push taken events c e b.1 (omega (arith, long)) o)
+clause_told : (n k : ℕ) (taken : List Constraint) (lits : List Literal)
+    → original_events n k (taken ++ constraint.Clause lits ∷ []) ≡ original_events n k taken ++ Step (Original (n + length (clauses_of taken)) (integers_of lits)) ∷ []
+unfolding clauses_of
+clause_told n k [] lits = ap (λ id. Step (Original id (integers_of lits)) ∷ []) (let e : n ≡ n + 0 = omega arith in e)
+clause_told n k (constraint.Clause x ∷ taken) lits =
+    ap (λ es. Step (Original n (integers_of x)) ∷ es) (clause_told (n + 1) k taken lits ∙ ap (λ id. original_events (n + 1) k taken ++ Step (Original id (integers_of lits)) ∷ []) (let e : n + 1 + length (clauses_of taken) ≡ n + (suc (length (clauses_of taken))) = omega arith in e))
+clause_told n k (constraint.Parity x ∷ taken) lits = ap (λ es. Step (OriginalParity k (integers_of x)) ∷ es) (clause_told n (k + 1) taken lits)
+
+parity_told : (n k : ℕ) (taken : List Constraint) (lits : List Literal)
+    → original_events n k (taken ++ constraint.Parity lits ∷ []) ≡ original_events n k taken ++ Step (OriginalParity (k + length (parities_of taken)) (integers_of lits)) ∷ []
+unfolding parities_of
+parity_told n k [] lits = ap (λ id. Step (OriginalParity id (integers_of lits)) ∷ []) (let e : k ≡ k + 0 = omega arith in e)
+parity_told n k (constraint.Clause x ∷ taken) lits = ap (λ es. Step (Original n (integers_of x)) ∷ es) (parity_told (n + 1) k taken lits)
+parity_told n k (constraint.Parity x ∷ taken) lits =
+    ap (λ es. Step (OriginalParity k (integers_of x)) ∷ es) (parity_told n (k + 1) taken lits ∙ ap (λ id. original_events n (k + 1) taken ++ Step (OriginalParity id (integers_of lits)) ∷ []) (let e : k + 1 + length (parities_of taken) ≡ k + (suc (length (parities_of taken))) = omega arith in e))
 
 clauses_push : (taken : List Constraint) (lits : List Literal) → clauses_of (taken ++ constraint.Clause lits ∷ []) ≡ clauses_of taken ++ lits ∷ []
 unfolding clauses_of
@@ -128,9 +138,6 @@ same_one formula lits c = go (clauses_of formula.constraints) c
     go (x ∷ xs) (zero, less, e) = ap (λ y. same_literals lits y || list_any (same_literals lits) xs) e ∙ ap (λ b. b || list_any (same_literals lits) xs) (and_from _ _ (inside_itself lits) (inside_itself lits))
     go (x ∷ xs) (suc k, less, e) = or_right (same_literals lits x) _ (go xs (k, omega (arith, less), e))
 
-long_push : {X : Type 0} (xs : List X) (x : X) (n : ℕ) → length xs ≡ n → length (xs ++ x ∷ []) ≡ n + 1
-long_push xs x n h = length-append xs (x ∷ []) ∙ ap (λ m. m + 1) h
-
 module _ (formula : Problem) (taken : List Constraint) (s : Search) (b : IsBegun formula taken s) where
   -- a clause of the formula is told under the next id
   pub clause_begins : (lits : List Literal) → AreWithin formula.variables lits → Contains (clauses_of formula.constraints) lits
@@ -145,8 +152,7 @@ module _ (formula : Problem) (taken : List Constraint) (s : Search) (b : IsBegun
             (variables_are_within formula.variables lits w, (ap is_some (b.clauses.free n (omega arith)), (ap (λ xs. not (is_original formula xs)) is ∙ ap not (same_one formula lits c), tt))) refl);
         fits = events_go_on formula first_moment s.moment s.events (Step step) b.fits tt;
         marks = filter_map-append mark_of s.events (Step step ∷ []) ∙ append-nil (filter_map mark_of s.events) ∙ b.marks;
-        begins = begins_push taken s.events (constraint.Clause lits) (Step step) b.begins b.as_many (n, refl);
-        as_many = long_push s.events (Step step) (length taken) b.as_many ∙ sym (long_push taken (constraint.Clause lits) (length taken) refl);
+        originals = ap (λ es. es ++ Step step ∷ []) b.originals ∙ ap (λ id. original_events 1 1 taken ++ Step (Original id (integers_of lits)) ∷ []) (let e : n ≡ 1 + length (clauses_of taken) = omega arith in e) ∙ sym (clause_told 1 1 taken lits);
         clauses = subst (HasFirst (map_.insert s.moment.tables.clauses n (literals (integers_of lits)))) (sym (clauses_push taken lits))
             (subst (λ xs. HasFirst (map_.insert s.moment.tables.clauses n xs) (clauses_of taken ++ lits ∷ [])) (sym is) (first_more s.moment.tables.clauses (clauses_of taken) lits b.clauses));
         parities = subst (HasFirst s.moment.tables.parities) (sym (parities_same taken lits)) b.parities;
@@ -172,8 +178,7 @@ module _ (formula : Problem) (taken : List Constraint) (s : Search) (b : IsBegun
             (variables_are_within formula.variables lits w, (ap is_some (b.parities.free n (omega arith)), (subst (IsOriginalParity formula) (sym is) c, tt))) refl);
         fits = events_go_on formula first_moment s.moment s.events (Step step) b.fits tt;
         marks = filter_map-append mark_of s.events (Step step ∷ []) ∙ append-nil (filter_map mark_of s.events) ∙ b.marks;
-        begins = begins_push taken s.events (constraint.Parity lits) (Step step) b.begins b.as_many (n, refl);
-        as_many = long_push s.events (Step step) (length taken) b.as_many ∙ sym (long_push taken (constraint.Parity lits) (length taken) refl);
+        originals = ap (λ es. es ++ Step step ∷ []) b.originals ∙ ap (λ id. original_events 1 1 taken ++ Step (OriginalParity id (integers_of lits)) ∷ []) (let e : n ≡ 1 + length (parities_of taken) = omega arith in e) ∙ sym (parity_told 1 1 taken lits);
         clauses = subst (HasFirst s.moment.tables.clauses) (sym (clauses_same taken lits)) b.clauses;
         parities = subst (HasFirst (map_.insert s.moment.tables.parities n (literals (integers_of lits)))) (sym (parities_push taken lits))
             (subst (λ xs. HasFirst (map_.insert s.moment.tables.parities n xs) (parities_of taken ++ lits ∷ [])) (sym is) (first_more s.moment.tables.parities (parities_of taken) lits b.parities));
@@ -192,8 +197,7 @@ nothing_is_begun formula = record {
   runs = refl;
   fits = refl;
   marks = refl;
-  begins = tt;
-  as_many = refl;
+  originals = refl;
   clauses = record { live = λ lits c. absurd (let low = c.1 in omega (arith, low)); free = λ n h. Looks-empty n };
   parities = record { live = λ lits c. absurd (let low = c.1 in omega (arith, low)); free = λ n h. Looks-empty n };
   no_trail = refl;
@@ -208,7 +212,7 @@ nothing_is_begun formula = record {
 -- behind the last constraint the search holds
 pub begun_is_search : (formula : Problem) (s : Search) → IsBegun formula formula.constraints s → IsSearch formula (parities_of formula.constraints) s
 begun_is_search formula s b = record {
-  log = record { runs = b.runs; fits = b.fits; marks = b.marks ∙ ap (Rattle.std.specs.List.range_with_len 1) (sym b.no_conflict); originals = b.begins };
+  log = record { runs = b.runs; fits = b.fits; marks = b.marks ∙ ap (Rattle.std.specs.List.range_with_len 1) (sym b.no_conflict); originals = ([], b.originals ∙ sym (append-nil (original_events 1 1 formula.constraints))) };
   serves = record {
     stands = subst (Rattle.search_steps.specs.Trail.IsTrail s.moment.tables.clauses (Rattle.search_steps.specs.Quiet.IsOfParities formula.variables (parities_of formula.constraints))) (sym b.no_trail) tt;
     quiet = λ k h. let none = b.no_level in absurd (omega (arith, h, none));

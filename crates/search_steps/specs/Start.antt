@@ -6,7 +6,7 @@ use Rattle.cx_base.specs.declared.constraint.Constraint.{Constraint}
 use Rattle.cx_semantics.specs.Judging.{Runs}
 use Rattle.cx_semantics.specs.LogRules.{log_calculus}
 use Rattle.cx_semantics.specs.LogText.{steps_of}
-use Rattle.cx_semantics.specs.Marked.{first_moment, EventsFit, mark_of, BeginsWithOriginals}
+use Rattle.cx_semantics.specs.Marked.{first_moment, EventsFit, mark_of, original_events}
 use Rattle.cx_semantics.specs.Tables.{Table, get, no_tables}
 use Rattle.search_steps.specs.Search.{Search, IsTidy}
 
@@ -23,8 +23,7 @@ pub record IsBegun (formula : Problem) (taken : List Constraint) (s : Search) : 
   pub runs : Runs (log_calculus formula) no_tables (steps_of s.events) s.moment.tables
   pub fits : EventsFit formula first_moment s.events s.moment
   pub marks : filter_map mark_of s.events ≡ []
-  pub begins : BeginsWithOriginals taken s.events
-  pub as_many : length s.events ≡ length taken
+  pub originals : s.events ≡ original_events 1 1 taken
   pub clauses : HasFirst s.moment.tables.clauses (clauses_of taken)
   pub parities : HasFirst s.moment.tables.parities (parities_of taken)
   pub no_trail : s.trail ≡ []
