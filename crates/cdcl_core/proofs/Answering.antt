@@ -20,7 +20,7 @@ use Rattle.conflict_learn.specs.Faults.{fault_in}
 use Rattle.log_text.specs.declared.sink.LogSink as sink
 use Rattle.cdcl_search.specs.declared.logs.SearchLog.{SearchLog}
 use Rattle.cdcl_search.specs.Logs.{GoesOn}
-use Rattle.cdcl_search.specs.Tells.{IsLeft, GivesUp}
+use Rattle.cdcl_search.specs.Tells.{IsLeft, GivesUp, HaveLowIds}
 use Rattle.cdcl_search.specs.Ties.{SearchStands}
 use Rattle.cdcl_core.specs.declared.solving.Outcome.{Outcome}
 use Rattle.cdcl_core.specs.declared.solving.Outcome.TheVariants.{Sat, Unsat, Unknown}
@@ -66,6 +66,10 @@ settled_answer_has_no_mark formula told (Err fault) h = tt
 pub fresh_is_left : (formula : Problem) (told : Option (List LogEvent)) → IsFresh told → IsLeft formula told
 fresh_is_left formula None fresh = tt
 fresh_is_left formula (Some es) fresh = subst (λ xs. IsLeft formula (Some xs)) (sym fresh) (inl ((log_calculus formula).start, refl))
+
+pub fresh_is_low : (told : Option (List LogEvent)) → IsFresh told → HaveLowIds told
+fresh_is_low None fresh = tt
+fresh_is_low (Some es) fresh = subst (λ xs. HaveLowIds (Some xs)) (sym fresh) tt
 
 pub gives_up_by : {L T : Type 0} (m : sink.Ghosts L) (old new : SearchLog L) (r : Result T CoreFault) → GoesOn m old (fault_in r) new → IsLeft old.formula.now (m.events old.sink.now) → IfErr r (λ e. GivesUp new.formula.now (m.torn new.sink.now) (m.events new.sink.now) e)
 gives_up_by m old new (Ok x) on left = tt

@@ -7,7 +7,6 @@ use Rattle.cx_base.specs.Literals.{Literal}
 use Rattle.cx_base.specs.Problem.{Problem, Unmet}
 use Rattle.cx_semantics.specs.Chain.{has_literal}
 use Rattle.cx_semantics.specs.Integers.{integers_of, literals}
-use Rattle.cx_semantics.specs.Printed.{HasText}
 use Rattle.cx_semantics.specs.ProofRules.{is_empty}
 use Rattle.cx_semantics.specs.declared.steps.LogStep.{LogStep}
 use Rattle.cx_semantics.specs.declared.steps.LogStep.TheVariants.{Parity, ClauseOfParity}
@@ -35,7 +34,7 @@ use Rattle.cdcl_search.specs.Explaining.{Explains}
 use Rattle.cdcl_search.specs.declared.propagation.Found.{Found}
 use Rattle.cdcl_search.specs.declared.propagation.Found.TheVariants as found
 use Rattle.cdcl_search.specs.Finds.{PropagationFinds, IsClash}
-use Rattle.cdcl_search.specs.Tells.{as_events, with_events}
+use Rattle.cdcl_search.specs.Tells.{as_events, with_events, IsTellable}
 use Rattle.cdcl_search.specs.Ties.{SearchStands, first_row_id, Ties}
 use Rattle.cdcl_search.proofs.RowSteps.{all_told_are, sum_told, sum_is, clause_added, clause_is}
 use Rattle.cdcl_core.specs.declared.conflicts.Conclusion.TheVariants.{Clause}
@@ -143,7 +142,7 @@ module _ (formula : Problem) (c : SearchState) (e : State) (told : Option (List 
       -- the steps of a row without variables
       pub ends_log : literals (integers_of reason.parity) ≡ reason.parity → literals (integers_of reason.clause) ≡ reason.clause → reason.clause ≡ [] → (steps : List LogStep)
           → steps ≡ Parity (length formula.constraints + 1) (integers_of reason.parity) reason.sources ∷ ClauseOfParity first_row_id (integers_of reason.clause) (length formula.constraints + 1) ∷ []
-          → AllByRecursion (λ s. HasText (Step s)) steps → EndsLog formula c.conflicts told steps
+          → AllByRecursion IsTellable steps → EndsLog formula c.conflicts told steps
       ends_log back_parity back_clause none steps are texts =
           let empty : is_empty (integers_of reason.clause) ≡ true = ap (λ ls. is_empty (integers_of ls)) none in
           record {

@@ -175,10 +175,10 @@ module _ (formula : Problem) (place : ℕ) (d : Constraint) (less : place < leng
   told_more step None a = tt
   told_more step (Some es) a = ap (λ xs. xs ++ Step step ∷ []) a
 
-  pub clause_is_id : (1 ≤ clauses + 1) × (clauses + 1 ≤ 9223372036854775807)
+  pub clause_is_id : (1 ≤ clauses + 1) × (clauses + 1 ≤ 2000000000000000000)
   clause_is_id = let a = few_clauses taken in let b = length-take place formula.constraints in let was = counted.clauses in (omega arith, omega (arith, a, b, was, less, few))
 
-  pub parity_is_id : (1 ≤ parities + 1) × (parities + 1 ≤ 9223372036854775807)
+  pub parity_is_id : (1 ≤ parities + 1) × (parities + 1 ≤ 2000000000000000000)
   parity_is_id = let a = few_parities taken in let b = length-take place formula.constraints in let was = counted.parities in (omega arith, omega (arith, a, b, was, less, few))
 
   module _ (lits : List Literal) (w : AreWithin formula.variables lits) where

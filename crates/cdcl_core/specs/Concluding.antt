@@ -8,7 +8,6 @@ use Rattle.cx_semantics.specs.declared.steps.LogEvent.TheVariants.{Step}
 use Rattle.cx_semantics.specs.declared.steps.LogStep.{LogStep}
 use Rattle.cx_semantics.specs.LogRules.{HasChain}
 use Rattle.cx_semantics.specs.Marked.{Marked}
-use Rattle.cx_semantics.specs.Printed.{HasText}
 use Rattle.cx_semantics.specs.Tables.{get}
 use Rattle.cx_semantics.specs.Chain.{has_literal}
 use Rattle.parity_engine.specs.State.{State}
@@ -18,7 +17,7 @@ use Rattle.search_steps.specs.LogSteps.{IsEnded}
 use Rattle.search_steps.specs.Search.{Search, IsSearch}
 use Rattle.cx_trail.specs.Sequence.{IsFalseIn}
 use Rattle.cdcl_search.specs.declared.state.SearchState.{SearchState}
-use Rattle.cdcl_search.specs.Tells.{IsId, as_events, with_events}
+use Rattle.cdcl_search.specs.Tells.{IsId, as_events, with_events, IsTellable}
 use Rattle.cdcl_search.specs.Ties.{SearchStands}
 use Rattle.cdcl_search.specs.Sources.{IsSourced}
 use Rattle.cdcl_core.specs.declared.conflicts.Conclusion.{Conclusion}
@@ -36,7 +35,7 @@ IsEndedWith formula marks (Some events) = IsEnded formula events × Marked formu
 
 -- telling these steps ends the log; so no values meet the formula
 pub record EndsLog (formula : Problem) (marks : ℕ) (told : Option (List LogEvent)) (steps : List LogStep) : Type 0 where
-  pub texts : AllByRecursion (λ s. HasText (Step s)) steps
+  pub texts : AllByRecursion IsTellable steps
   pub unmet : Unmet formula
   pub log : IsEndedWith formula marks (with_events (as_events steps) told)
 

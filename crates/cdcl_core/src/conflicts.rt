@@ -2,14 +2,13 @@
 ghost use Rattle.std.specs.Prelude.{◌≡◌, ◌≢◌, ℕ, ◌+◌, ◌≤◌, [], ◌∷◌, length, IfOk, OnOk};
 ghost use Rattle.std.specs.List.{AllByRecursion};
 ghost use Rattle.cx_semantics.specs.Integers.{integers_of, literals};
-ghost use Rattle.cx_semantics.specs.Printed.{HasText};
-ghost use Rattle.cx_semantics.specs.declared.steps.LogEvent.TheVariants.{Step};
 ghost use Rattle.cx_semantics.specs.declared.steps.LogStep.TheVariants as step;
 ghost use Rattle.clause_arena.specs.Clauses.{IsLive, literals_at};
 ghost use Rattle.parity_engine.specs.Written.{AreRising};
 ghost use Rattle.cdcl_search.specs.Explaining.{Explains};
 ghost use Rattle.cdcl_search.specs.Finds.{PropagationFinds, IsClash};
 ghost use Rattle.conflict_learn.specs.Faults.{fault_in};
+ghost use Rattle.cdcl_search.specs.Tells.{IsTellable};
 ghost use Rattle.cdcl_search.specs.Logs.{GoesOn, Stands, told_in};
 ghost use Rattle.cdcl_search.specs.Ties.{first_row_id};
 ghost use Rattle.cdcl_search.specs.declared.propagation.Found.TheVariants.{Quiet};
@@ -93,7 +92,7 @@ fn ending(alloc: Global, formula: &Formula, reason: ReasonOf) -> Result<Vec<LogS
     requires { (parities : ℕ) × (parities ≤ length formula.now.constraints) × AreRising 1 parities reason.sources }
     ensures steps { IfOk result (λ s. s.items ≡ step.Parity (length formula.now.constraints + 1) (integers_of reason.parity) reason.sources
         ∷ step.ClauseOfParity first_row_id (integers_of reason.clause) (length formula.now.constraints + 1) ∷ []) }
-    ensures texts { IfOk result (λ s. AllByRecursion (λ t. HasText (Step t)) s.items) }
+    ensures texts { IfOk result (λ s. AllByRecursion IsTellable s.items) }
     ensures parity { IfOk result (λ s. literals (integers_of reason.parity) ≡ reason.parity) }
     ensures clause { IfOk result (λ s. literals (integers_of reason.clause) ≡ reason.clause) }
 {

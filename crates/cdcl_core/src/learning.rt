@@ -2,13 +2,12 @@
 ghost use Rattle.std.specs.Prelude.{◌≡◌, ◌<◌, ◌≤◌, ◌^◌, ◌∷◌, IfOk, OnOk};
 ghost use Rattle.std.specs.List.{AllByRecursion};
 ghost use Rattle.cx_semantics.specs.Integers.{integers_of, literals};
-ghost use Rattle.cx_semantics.specs.Printed.{HasText};
 ghost use Rattle.cx_semantics.specs.declared.steps.LogEvent.TheVariants as event;
 ghost use Rattle.cx_semantics.specs.declared.steps.LogStep.TheVariants as step;
 ghost use Rattle.conflict_learn.specs.Levels.{Teaches};
 ghost use Rattle.conflict_learn.specs.Faults.{fault_in};
 ghost use Rattle.cdcl_search.specs.Deleting.{deletions};
-ghost use Rattle.cdcl_search.specs.Tells.{IsId, as_events};
+ghost use Rattle.cdcl_search.specs.Tells.{IsId, as_events, IsTellable};
 ghost use Rattle.cdcl_search.specs.Logs.{GoesOn, Stands, told_in};
 ghost use Rattle.cdcl_search.specs.Ties.{first_row_id, row_ids};
 ghost use Rattle.cdcl_search.specs.Sources.{IsSourced};
@@ -41,7 +40,7 @@ fn steps_of_learned(
 ) -> Result<Vec<LogStep>, AllocError>
     requires { IsId id }
     ensures steps { IfOk result (λ s. as_events s.items ≡ event.Step (step.ClauseWithHints id (integers_of lits.now) hints) ∷ deletions (row_ids rows)) }
-    ensures texts { IfOk result (λ s. AllByRecursion (λ t. HasText (event.Step t)) s.items) }
+    ensures texts { IfOk result (λ s. AllByRecursion IsTellable s.items) }
     ensures literals { IfOk result (λ s. literals (integers_of lits.now) ≡ lits.now) }
 {
     let clause = chained(id, integers(alloc, lits)?, hints);

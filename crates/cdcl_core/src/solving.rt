@@ -7,7 +7,7 @@ ghost use Rattle.conflict_learn.specs.Faults.{fault_in};
 ghost use Rattle.cdcl_search.specs.Finds.{PropagationFinds};
 ghost use Rattle.cdcl_search.specs.Searching.{SearchReaches};
 ghost use Rattle.cdcl_search.specs.Logs.{GoesOn, Stands, told_in};
-ghost use Rattle.cdcl_search.specs.Tells.{GivesUp};
+ghost use Rattle.cdcl_search.specs.Tells.{GivesUp, HaveLowIds};
 ghost use Rattle.cdcl_search.specs.declared.propagation.Found.TheVariants as finding;
 ghost use Rattle.cdcl_core.specs.Results.{IsRightOutcome, IsFresh, IsSettledBy, HasNoMark};
 ghost use Rattle.cdcl_core.specs.Concluding.{SearchGoesOn, IsConflictClause};
@@ -181,6 +181,7 @@ pub fn solve_core<P: ParityEngine + Drop, L: LogSink>(
     ensures answers { IfOk result (λ a. IsRightOutcome formula.now budget (L.events sink.new) a) }
     ensures settled { Settled formula.now → IfOk result (λ a. (conflicts : ℕ) → a ≢ outcome.Unknown conflicts) }
     ensures unmarked { Settled formula.now → OnOk result (HasNoMark (L.events sink.new)) }
+    ensures ids { HaveLowIds (L.events sink.new) }
     ensures gave_up { IfErr result (λ e. GivesUp formula.now (L.torn sink.new) (L.events sink.new) e) }
     ensures write { IfErr result (λ e. e ≡ Write → Rose (L.faults sink.old) (L.faults sink.new)) }
     ensures frame { L.keeps sink.old sink.new }

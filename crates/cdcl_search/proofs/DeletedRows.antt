@@ -9,7 +9,6 @@ use Rattle.cx_semantics.specs.declared.steps.LogStep.{LogStep}
 use Rattle.cx_semantics.specs.declared.steps.LogStep.TheVariants.{Delete}
 use Rattle.cx_semantics.specs.declared.steps.LogEvent.{LogEvent}
 use Rattle.cx_semantics.specs.declared.steps.LogEvent.TheVariants.{Step}
-use Rattle.cx_semantics.specs.Printed.{HasText}
 use Rattle.cx_semantics.specs.Marked.{without, is_among, is_covered_without, clause_at}
 use Rattle.cx_semantics.specs.Tables.{get}
 use Rattle.parity_engine.specs.State.{State}
@@ -25,7 +24,7 @@ use Rattle.search_steps.proofs.IdLaws.{row_ids_are_temporary, deletions_ranged, 
 use Rattle.std.specs.Prelude.{if◌then◌else◌}
 use Rattle.cdcl_search.specs.declared.state.SearchState.{SearchState}
 use Rattle.cdcl_search.specs.Deleting.{deletions}
-use Rattle.cdcl_search.specs.Tells.{as_events, with_events}
+use Rattle.cdcl_search.specs.Tells.{as_events, with_events, IsTellable}
 use Rattle.cdcl_search.specs.Ties.{Ties, SearchStands, AreUnits, ClauseTies, TrailTies, EngineTies, IsWatched, IsFallingFrom, stretches, AreNumbered, first_row_id, row_ids}
 use Rattle.cdcl_search.proofs.RowSteps.{all_told_are}
 use Rattle.cdcl_search.proofs.TableLaws.{AnswersBelow, clauses_stay, units_stay}
@@ -41,8 +40,8 @@ one_deleted steps (suc left) s all some is so_far = subst (λ k. as_events (step
     one_less : suc left - 1 ≡ left
     one_less = omega arith
 
-pub one_more_text : (steps : List LogStep) (s : LogStep) (more : List LogStep) → more ≡ steps ++ s ∷ [] → AllByRecursion (λ t. HasText (Step t)) steps → HasText (Step s) → AllByRecursion (λ t. HasText (Step t)) more
-one_more_text steps s more are a h = subst (AllByRecursion (λ t. HasText (Step t))) (sym are) (all_append (λ t. HasText (Step t)) steps (s ∷ []) a (h, tt))
+pub one_more_text : (steps : List LogStep) (s : LogStep) (more : List LogStep) → more ≡ steps ++ s ∷ [] → AllByRecursion IsTellable steps → IsTellable s → AllByRecursion IsTellable more
+one_more_text steps s more are a h = subst (AllByRecursion IsTellable) (sym are) (all_append IsTellable steps (s ∷ []) a (h, tt))
 
 -- ---- what deletions leave as it was
 deleted_new_clauses : (s : Search) (ids : List ℕ) → (deleted s ids).moment.new_clauses ≡ fold without s.moment.new_clauses ids

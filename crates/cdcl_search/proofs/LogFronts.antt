@@ -1,9 +1,13 @@
 -- A log that is right so far: each front of it is.
-use Rattle.std.proofs.Common.{◌≡◌, refl, sym, ap, ◌∙◌, subst, ℕ, ◌+◌, List, [], ◌∷◌, ◌++◌, length, take, drop, get_or, Option, Some, None, arith, inl, inr, ◌⊎◌, is_some, true≢false, length-append, append_assoc, append-nil}
+use Rattle.std.proofs.Common.{◌≡◌, refl, sym, ap, ◌∙◌, subst, ℕ, zero, suc, ◌+◌, List, [], ◌∷◌, ◌++◌, length, take, drop, get_or, Option, Some, None, arith, inl, inr, ◌⊎◌, is_some, true≢false, length-append, append_assoc, append-nil}
 use Rattle.std.specs.Prelude.{Result, Ok, Err}
 use Rattle.std.proofs.lemmas.List.{take-append-drop}
 use Rattle.std.proofs.lemmas.List.Elements.{filter_map-append}
+use Rattle.std.specs.List.{AllByRecursion}
 use Rattle.cx_base.specs.Problem.{Problem}
+use Rattle.cx_base.proofs.Elements.{all_append}
+use Rattle.cx_semantics.specs.declared.steps.LogStep.{LogStep}
+use Rattle.cx_semantics.specs.Ids.{HasLowId}
 use Rattle.cx_semantics.specs.declared.steps.LogEvent.{LogEvent}
 use Rattle.cx_semantics.specs.declared.steps.LogEvent.TheVariants.{Conflict}
 use Rattle.cx_semantics.specs.Judging.{Calculus, Runs, IsOpen, AcceptedAt}
@@ -16,7 +20,7 @@ use Rattle.conflict_learn.specs.Faults.{fault_in}
 use Rattle.log_text.specs.declared.sink.LogSink as sink
 use Rattle.cdcl_search.specs.declared.logs.SearchLog.{SearchLog}
 use Rattle.cdcl_search.specs.Logs.{GoesOn, IsRightBehind, CountsAs}
-use Rattle.cdcl_search.specs.Tells.{TellsAll, FaultsAs, IsLeft, with_events}
+use Rattle.cdcl_search.specs.Tells.{TellsAll, FaultsAs, IsLeft, IsTellable, HaveLowIds, as_events, with_events}
 
 -- ---- fronts
 runs_front : {S : Type 0} (c : Calculus S) (tables : Tables) (front more : List S) (last : Tables) → Runs c tables (front ++ more) last → (t : Tables) × Runs c tables front t
@@ -71,11 +75,31 @@ counts_as (Ok x) before now h = h
 counts_as (Err Memory) before now h = h
 counts_as (Err Write) before now h = h
 
+all_front : {X : Type 0} (P : X → Type 0) (i : ℕ) (xs : List X) → AllByRecursion P xs → AllByRecursion P (take i xs)
+all_front P zero xs a = tt
+all_front P (suc i) [] a = tt
+all_front P (suc i) (x ∷ xs) a = (a.0, all_front P i xs a.1)
+
+with_low : (told : Option (List LogEvent)) (events : List LogEvent) → AllByRecursion HasLowId events → HaveLowIds told → HaveLowIds (with_events events told)
+with_low None events low h = tt
+with_low (Some es) events low h = all_append HasLowId es events h low
+
+stay_low : {T : Type 0} (torn : LogEvent → Type 0) (events : List LogEvent) (old : Option (List LogEvent)) (r : Result T CoreFault) (new : Option (List LogEvent))
+    → TellsAll torn events old r new → AllByRecursion HasLowId events → HaveLowIds old → HaveLowIds new
+stay_low torn events old (Ok x) new tells low h = subst HaveLowIds (sym tells) (with_low old events low h)
+stay_low torn events old (Err fault) new (i, less, is, t) low h = subst HaveLowIds (sym is) (with_low old (take i events) (all_front HasLowId i events low) h)
+
+-- steps that may be told have low ids
+pub tellable_are_low : (steps : List LogStep) → AllByRecursion IsTellable steps → AllByRecursion HasLowId (as_events steps)
+tellable_are_low [] a = tt
+tellable_are_low (s ∷ steps) a = (a.0.1, tellable_are_low steps a.1)
+
 -- a log goes on by a telling of events behind which it is right
 pub goes_on_by : {L T : Type 0} (m : sink.Ghosts L) (old new : SearchLog L) (events : List LogEvent) (r : Result T CoreFault) → TellsAll (m.torn new.sink.now) events (m.events old.sink.now) r (m.events new.sink.now)
-    → FaultsAs r (m.faults old.sink.now) (m.faults new.sink.now) → m.keeps old.sink.now new.sink.now → IsRightBehind m old events → new.formula.now ≡ old.formula.now → new.sink.ghost_name ≡ old.sink.ghost_name → GoesOn m old (fault_in r) new
-goes_on_by m old new events r tells counts keeps right formula name = record {
+    → FaultsAs r (m.faults old.sink.now) (m.faults new.sink.now) → m.keeps old.sink.now new.sink.now → IsRightBehind m old events → AllByRecursion HasLowId events → new.formula.now ≡ old.formula.now → new.sink.ghost_name ≡ old.sink.ghost_name → GoesOn m old (fault_in r) new
+goes_on_by m old new events r tells counts keeps right low formula name = record {
   right = λ _. subst (λ f. IsLeft f (m.events new.sink.now)) (sym formula) (stays_right old.formula.now (m.torn new.sink.now) events (m.events old.sink.now) r (m.events new.sink.now) tells right);
+  ids = stay_low (m.torn new.sink.now) events (m.events old.sink.now) r (m.events new.sink.now) tells low;
   counts = counts_as r (m.faults old.sink.now) (m.faults new.sink.now) counts;
   tears = is_torn (m.torn new.sink.now) events (m.events old.sink.now) r (m.events new.sink.now) tells;
   formula = formula;

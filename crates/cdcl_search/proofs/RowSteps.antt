@@ -237,7 +237,7 @@ module _ (formula : Problem) (c : SearchState) (e : State) (rows : List (List Li
     stands_still told_ a f = (all_told s steps, told_is_search, all_told_are steps s told_ a, ties_still, f)
 
 -- ---- what a telling leaves
-rising_ids : (least few : ℕ) (ids : List ℕ) → 1 ≤ least → few ≤ 9223372036854775807 → AreRising least few ids → AllByRecursion Rattle.cdcl_search.specs.Tells.IsId ids
+rising_ids : (least few : ℕ) (ids : List ℕ) → 1 ≤ least → few ≤ 2000000000000000000 → AreRising least few ids → AllByRecursion Rattle.cdcl_search.specs.Tells.IsId ids
 rising_ids least few [] low top r = tt
 rising_ids least few (i ∷ ids) low top r =
     let first = r.0 in

@@ -1,5 +1,5 @@
 -- A text can have each step that the search tells.
-use Rattle.std.proofs.Common.{◌≤◌, ◌<◌, ℕ, ℤ, pos, nat_abs, List, [], ◌∷◌, map, flat_map, arith}
+use Rattle.std.proofs.Common.{◌≡◌, sym, subst, ◌≤◌, ◌<◌, ℕ, ℤ, pos, nat_abs, List, [], ◌∷◌, map, flat_map, arith}
 use Rattle.std.specs.List.{AllByRecursion}
 use Rattle.cx_base.specs.Numbers.{AreStepIntegers}
 use Rattle.cx_base.proofs.Elements.{all_append, integers_are_proper}
@@ -10,7 +10,7 @@ use Rattle.cx_semantics.specs.Grammar.{Field, spelled, spelled_list, IsProper}
 use Rattle.cx_semantics.specs.LogText.{log_fields}
 use Rattle.cx_semantics.specs.Printed.{HasText}
 use Rattle.cx_semantics.specs.Words.{Word, number, IsWithin}
-use Rattle.cdcl_search.specs.Tells.{IsId}
+use Rattle.cdcl_search.specs.Tells.{IsId, IsTellable}
 
 abbrev AreWords : List Word → Type 0
 AreWords ws = AllByRecursion (IsWithin 9223372036854775807) ws
@@ -19,6 +19,8 @@ zero_within : nat_abs (pos 0) ≤ 9223372036854775807
 zero_within = omega arith
 
 -- ---- integers and ids
+below : (n : ℕ) → IsId n → n ≤ 9223372036854775807
+below n i = let high = i.1 in omega (arith, high)
 
 integer_words : (zs : List ℤ) → AreStepIntegers zs → AreWords (map number zs)
 integer_words [] a = tt
@@ -33,7 +35,7 @@ ids_are_proper (n ∷ ns) a = (let low = a.0.0 in omega (arith, low), ids_are_pr
 
 id_words : (ns : List ℕ) → AllByRecursion IsId ns → AreWords (map number (map pos ns))
 id_words [] a = tt
-id_words (n ∷ ns) a = (a.0.1, id_words ns a.1)
+id_words (n ∷ ns) a = (below n a.0, id_words ns a.1)
 
 pub ids_within : (ns : List ℕ) → AllByRecursion IsId ns → AreWords (spelled_list (map pos ns))
 ids_within ns a = all_append (IsWithin 9223372036854775807) (map number (map pos ns)) (number (pos 0) ∷ []) (id_words ns a) (zero_within, tt)
@@ -49,23 +51,35 @@ has_text s proper within = (proper, fields_within (log_fields s) within)
 positive : (n : ℕ) → IsId n → 0 < n
 positive n i = let low = i.0 in omega (arith, low)
 
-pub original_text : (n : ℕ) (zs : List ℤ) → IsId n → AreStepIntegers zs → HasText (Step (step.Original n zs))
-original_text n zs i a = has_text (step.Original n zs) (tt, (positive n i, (integers_are_proper zs a, tt))) ((tt, tt), ((i.1, tt), (integers_within zs a, tt)))
+pub original_text : (n : ℕ) (zs : List ℤ) → IsId n → AreStepIntegers zs → IsTellable (step.Original n zs)
+original_text n zs i a = (has_text (step.Original n zs) (tt, (positive n i, (integers_are_proper zs a, tt))) ((tt, tt), ((below n i, tt), (integers_within zs a, tt))), i.1)
 
-pub original_parity_text : (n : ℕ) (zs : List ℤ) → IsId n → AreStepIntegers zs → HasText (Step (step.OriginalParity n zs))
-original_parity_text n zs i a = has_text (step.OriginalParity n zs) (tt, (tt, (positive n i, (integers_are_proper zs a, tt)))) ((tt, tt), ((tt, tt), ((i.1, tt), (integers_within zs a, tt))))
+pub original_parity_text : (n : ℕ) (zs : List ℤ) → IsId n → AreStepIntegers zs → IsTellable (step.OriginalParity n zs)
+original_parity_text n zs i a = (has_text (step.OriginalParity n zs) (tt, (tt, (positive n i, (integers_are_proper zs a, tt)))) ((tt, tt), ((tt, tt), ((below n i, tt), (integers_within zs a, tt)))), i.1)
 
-pub chained_text : (n : ℕ) (zs hints : List ℤ) → IsId n → AreStepIntegers zs → AreStepIntegers hints → HasText (Step (step.ClauseWithHints n zs hints))
-chained_text n zs hints i a b = has_text (step.ClauseWithHints n zs hints)
+pub chained_text : (n : ℕ) (zs hints : List ℤ) → IsId n → AreStepIntegers zs → AreStepIntegers hints → IsTellable (step.ClauseWithHints n zs hints)
+chained_text n zs hints i a b = (has_text (step.ClauseWithHints n zs hints)
     (tt, (positive n i, (integers_are_proper zs a, (tt, (integers_are_proper hints b, tt)))))
-    ((tt, tt), ((i.1, tt), (integers_within zs a, ((tt, tt), (integers_within hints b, tt)))))
+    ((tt, tt), ((below n i, tt), (integers_within zs a, ((tt, tt), (integers_within hints b, tt))))), i.1)
 
-pub sum_text : (n : ℕ) (zs : List ℤ) (ns : List ℕ) → IsId n → AreStepIntegers zs → AllByRecursion IsId ns → HasText (Step (step.Parity n zs ns))
-sum_text n zs ns i a b = has_text (step.Parity n zs ns)
+pub sum_text : (n : ℕ) (zs : List ℤ) (ns : List ℕ) → IsId n → AreStepIntegers zs → AllByRecursion IsId ns → IsTellable (step.Parity n zs ns)
+sum_text n zs ns i a b = (has_text (step.Parity n zs ns)
     (tt, (tt, (positive n i, (integers_are_proper zs a, (tt, (ids_are_proper ns b, tt))))))
-    ((tt, tt), ((tt, tt), ((i.1, tt), (integers_within zs a, ((tt, tt), (ids_within ns b, tt))))))
+    ((tt, tt), ((tt, tt), ((below n i, tt), (integers_within zs a, ((tt, tt), (ids_within ns b, tt)))))), i.1)
 
-pub clause_of_sum_text : (n : ℕ) (zs : List ℤ) (k : ℕ) → IsId n → AreStepIntegers zs → IsId k → HasText (Step (step.ClauseOfParity n zs k))
-clause_of_sum_text n zs k i a j = has_text (step.ClauseOfParity n zs k)
+pub clause_of_sum_text : (n : ℕ) (zs : List ℤ) (k : ℕ) → IsId n → AreStepIntegers zs → IsId k → IsTellable (step.ClauseOfParity n zs k)
+clause_of_sum_text n zs k i a j = (has_text (step.ClauseOfParity n zs k)
     (tt, (positive n i, (integers_are_proper zs a, (tt, (positive k j, (tt, tt))))))
-    ((tt, tt), ((i.1, tt), (integers_within zs a, ((tt, tt), ((j.1, tt), ((zero_within, tt), tt))))))
+    ((tt, tt), ((below n i, tt), (integers_within zs a, ((tt, tt), ((below k j, tt), ((zero_within, tt), tt)))))), i.1)
+
+bare_deletion : (n : ℕ) → IsId n → IsTellable (step.Delete n [])
+bare_deletion n i = (has_text (step.Delete n []) (tt, (positive n i, (tt, tt))) ((tt, tt), ((below n i, tt), ((zero_within, tt), tt))), i.1)
+
+pub deletion_text : (n : ℕ) (zs : List ℤ) → IsId n → zs ≡ [] → IsTellable (step.Delete n zs)
+deletion_text n zs i none = subst (λ xs. IsTellable (step.Delete n xs)) (sym none) (bare_deletion n i)
+
+bare_deletion_of_sum : (n : ℕ) → IsId n → IsTellable (step.DeleteParity n [])
+bare_deletion_of_sum n i = (has_text (step.DeleteParity n []) (tt, (tt, (positive n i, (tt, tt)))) ((tt, tt), ((tt, tt), ((below n i, tt), ((zero_within, tt), tt)))), i.1)
+
+pub deletion_of_sum_text : (n : ℕ) (zs : List ℤ) → IsId n → zs ≡ [] → IsTellable (step.DeleteParity n zs)
+deletion_of_sum_text n zs i none = subst (λ xs. IsTellable (step.DeleteParity n xs)) (sym none) (bare_deletion_of_sum n i)

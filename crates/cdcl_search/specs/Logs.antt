@@ -9,7 +9,7 @@ use Rattle.log_text.specs.declared.sink.LogSink as sink
 use Rattle.parity_engine.specs.declared.engine.ParityEngine as engine
 use Rattle.cdcl_search.specs.declared.state.SearchState.{SearchState}
 use Rattle.cdcl_search.specs.Ties.{SearchStands}
-use Rattle.cdcl_search.specs.Tells.{IsLeft, with_events}
+use Rattle.cdcl_search.specs.Tells.{IsLeft, HaveLowIds, with_events}
 use Rattle.cdcl_search.specs.declared.logs.SearchLog.{SearchLog}
 
 -- the count of faults rose after a fault of writing, and else it stands
@@ -18,9 +18,10 @@ CountsAs None before now = now ≡ before
 CountsAs (Some Memory) before now = now ≡ before
 CountsAs (Some Write) before now = Rose before now
 
--- Calls up to an answer, or up to this fault. A log that was right so far is right so far. A write fault is counted and tears an event; else none is counted. The formula and the sink are the same, and what the sink keeps is kept.
+-- Calls up to an answer, or up to this fault. A log that was right so far is right so far, and ids stay low. A write fault is counted and tears an event; else none is counted. The formula and the sink are the same, and what the sink keeps is kept.
 pub record GoesOn {L : Type 0} (m : sink.Ghosts L) (old : SearchLog L) (why : Option CoreFault) (new : SearchLog L) : Type 0 where
   pub right : IsLeft old.formula.now (m.events old.sink.now) → IsLeft new.formula.now (m.events new.sink.now)
+  pub ids : HaveLowIds (m.events old.sink.now) → HaveLowIds (m.events new.sink.now)
   pub counts : CountsAs why (m.faults old.sink.now) (m.faults new.sink.now)
   pub tears : why ≡ Some Write → (event : LogEvent) × m.torn new.sink.now event
   pub formula : new.formula.now ≡ old.formula.now

@@ -1,10 +1,13 @@
 -- What a sink is told, and what its log is worth when the search gives up.
 use Rattle.std.specs.Prelude.{◌≡◌, ◌⊎◌, ℕ, ◌<◌, ◌≤◌, List, ◌++◌, length, take, map, get_or, Option, Some, None, option_map, Result, Ok, Err}
+use Rattle.std.specs.List.{AllByRecursion}
 use Rattle.cx_base.specs.Problem.{Problem}
 use Rattle.cx_semantics.specs.declared.steps.LogEvent.{LogEvent}
 use Rattle.cx_semantics.specs.declared.steps.LogEvent.TheVariants.{Step, Conflict}
 use Rattle.cx_semantics.specs.declared.steps.LogStep.{LogStep}
+use Rattle.cx_semantics.specs.Ids.{HasLowId, highest_id}
 use Rattle.cx_semantics.specs.Judging.{IsOpen}
+use Rattle.cx_semantics.specs.Printed.{HasText}
 use Rattle.cx_semantics.specs.LogRules.{log_calculus}
 use Rattle.cx_semantics.specs.LogText.{steps_of}
 use Rattle.conflict_learn.specs.declared.fault.CoreFault.{CoreFault}
@@ -48,6 +51,15 @@ abbrev pub GivesUp : Problem → (LogEvent → Type 0) → Option (List LogEvent
 GivesUp formula torn told Memory = IsLeft formula told
 GivesUp formula torn told Write = IsLeft formula told × ((event : LogEvent) × torn event)
 
--- an id that a step may have
+-- an id that a step of the search may have
 abbrev pub IsId : ℕ → Type 0
-IsId n = (1 ≤ n) × (n ≤ 9223372036854775807)
+IsId n = (1 ≤ n) × (n ≤ highest_id)
+
+-- a step that the search may tell: a text can have it, and its id is low
+abbrev pub IsTellable : LogStep → Type 0
+IsTellable step = HasText (Step step) × HasLowId (Step step)
+
+-- where the events are told, each has a low id
+abbrev pub HaveLowIds : Option (List LogEvent) → Type 0
+HaveLowIds None = Unit {0}
+HaveLowIds (Some events) = AllByRecursion HasLowId events

@@ -1,12 +1,10 @@
 //! Deleting the clauses of rows.
 ghost use Rattle.std.specs.Prelude.{◌≡◌, [], ◌++◌, OnOk, IfOk};
 ghost use Rattle.std.specs.List.{AllByRecursion};
-ghost use Rattle.cx_semantics.specs.Printed.{HasText};
-ghost use Rattle.cx_semantics.specs.declared.steps.LogEvent.TheVariants.{Step};
 ghost use Rattle.conflict_learn.specs.Faults.{fault_in};
 ghost use Rattle.cdcl_search.specs.Deleting.{deletions};
 ghost use Rattle.cdcl_search.specs.Logs.{GoesOn, Stands};
-ghost use Rattle.cdcl_search.specs.Tells.{as_events};
+ghost use Rattle.cdcl_search.specs.Tells.{as_events, IsTellable};
 ghost use Rattle.cdcl_search.specs.Ties.{row_ids};
 
 use crate::logs::SearchLog;
@@ -27,9 +25,9 @@ pub fn put_deletions(
     steps: &mut Vec<LogStep>,
     count: usize,
 ) -> Result<(), AllocError>
-    requires { AllByRecursion (λ t. HasText (Step t)) steps.old.items }
+    requires { AllByRecursion IsTellable steps.old.items }
     ensures steps { OnOk result (as_events steps.new.items ≡ as_events steps.old.items ++ deletions (row_ids count)) }
-    ensures texts { OnOk result (AllByRecursion (λ t. HasText (Step t)) steps.new.items) }
+    ensures texts { OnOk result (AllByRecursion IsTellable steps.new.items) }
 {
     if count as u64 >= CONSTRAINT_AND_ROW_LIMIT {
         return Err(AllocError);
@@ -45,7 +43,7 @@ pub fn put_deletions(
 /// The deletions of so many clauses of rows, the newest first.
 fn deletions_of_rows(alloc: Global, count: usize) -> Result<Vec<LogStep>, AllocError>
     ensures steps { IfOk result (λ s. as_events s.items ≡ deletions (row_ids count)) }
-    ensures texts { IfOk result (λ s. AllByRecursion (λ t. HasText (Step t)) s.items) }
+    ensures texts { IfOk result (λ s. AllByRecursion IsTellable s.items) }
 {
     let mut steps = Vec::new(alloc);
     put_deletions(alloc, &mut steps, count)?;

@@ -2,8 +2,6 @@
 ghost use Rattle.std.specs.Prelude.{◌≡◌, ◌≢◌, ℕ, ◌+◌, ◌<◌, ◌≤◌, [], ◌∷◌, ◌++◌, length, IfOk, OnOk, OnErr};
 ghost use Rattle.std.specs.List.{AllByRecursion};
 ghost use Rattle.cx_semantics.specs.Integers.{integers_of, literals};
-ghost use Rattle.cx_semantics.specs.Printed.{HasText};
-ghost use Rattle.cx_semantics.specs.declared.steps.LogEvent.TheVariants.{Step};
 ghost use Rattle.cx_semantics.specs.declared.steps.LogStep.TheVariants as step;
 ghost use Rattle.conflict_learn.specs.Faults.{fault_in};
 ghost use Rattle.conflict_learn.specs.Learning.{IsAntecedent};
@@ -11,7 +9,7 @@ ghost use Rattle.parity_engine.specs.Written.{AreRising};
 ghost use Rattle.search_steps.specs.LogSteps.{row_events};
 ghost use Rattle.cdcl_search.specs.Explaining.{Explains, IsReasonOf};
 ghost use Rattle.cdcl_search.specs.Logs.{GoesOn, Stands};
-ghost use Rattle.cdcl_search.specs.Tells.{IsId, as_events};
+ghost use Rattle.cdcl_search.specs.Tells.{IsId, as_events, IsTellable};
 ghost use Rattle.cdcl_search.specs.Ties.{first_row_id};
 
 use crate::integers::integers;
@@ -70,7 +68,7 @@ pub fn sum_and_clause(
     requires proper { IsId ids.sum × IsId ids.clause }
     requires sources { AllByRecursion IsId sources }
     ensures steps { IfOk result (λ s. s.items ≡ step.Parity ids.sum (integers_of parity.now) sources ∷ step.ClauseOfParity ids.clause (integers_of clause.now) ids.sum ∷ []) }
-    ensures texts { IfOk result (λ s. AllByRecursion (λ t. HasText (Step t)) s.items) }
+    ensures texts { IfOk result (λ s. AllByRecursion IsTellable s.items) }
     ensures parity { IfOk result (λ s. literals (integers_of parity.now) ≡ parity.now) }
     ensures clause { IfOk result (λ s. literals (integers_of clause.now) ≡ clause.now) }
 {
@@ -100,7 +98,7 @@ fn reason_steps(
     requires proper { IsId ids.sum × IsId ids.clause }
     requires sources { AllByRecursion IsId sources }
     ensures steps { IfOk result (λ s. as_events s.items ≡ row_events ids.sum (integers_of parity.now) sources ids.clause (integers_of clause.now)) }
-    ensures texts { IfOk result (λ s. AllByRecursion (λ t. HasText (Step t)) s.items) }
+    ensures texts { IfOk result (λ s. AllByRecursion IsTellable s.items) }
     ensures parity { IfOk result (λ s. literals (integers_of parity.now) ≡ parity.now) }
     ensures clause { IfOk result (λ s. literals (integers_of clause.now) ≡ clause.now) }
 {
@@ -122,7 +120,7 @@ fn prepare(alloc: Global, ids: RowIds, reason: ReasonOf) -> Result<Prepared, All
     requires proper { IsId ids.sum × IsId ids.clause }
     requires sources { AllByRecursion IsId reason.sources }
     ensures steps { IfOk result (λ p. as_events p.steps.items ≡ row_events ids.sum (integers_of reason.parity) reason.sources ids.clause (integers_of reason.clause)) }
-    ensures texts { IfOk result (λ p. AllByRecursion (λ t. HasText (Step t)) p.steps.items) }
+    ensures texts { IfOk result (λ p. AllByRecursion IsTellable p.steps.items) }
     ensures parity { IfOk result (λ p. literals (integers_of reason.parity) ≡ reason.parity) }
     ensures back { IfOk result (λ p. literals (integers_of reason.clause) ≡ reason.clause) }
     ensures clause { IfOk result (λ p. (p.clause ≡ reason.clause) × (p.copy ≡ reason.clause)) }
@@ -150,7 +148,7 @@ fn prepare_next(
 ) -> Result<Prepared, AllocError>
     requires { (parities : ℕ) × (parities ≤ length formula.now.constraints) × AreRising 1 parities reason.sources }
     ensures steps { IfOk result (λ p. as_events p.steps.items ≡ row_events (length formula.now.constraints + 1) (integers_of reason.parity) reason.sources (first_row_id + length rows.now) (integers_of reason.clause)) }
-    ensures texts { IfOk result (λ p. AllByRecursion (λ t. HasText (Step t)) p.steps.items) }
+    ensures texts { IfOk result (λ p. AllByRecursion IsTellable p.steps.items) }
     ensures parity { IfOk result (λ p. literals (integers_of reason.parity) ≡ reason.parity) }
     ensures back { IfOk result (λ p. literals (integers_of reason.clause) ≡ reason.clause) }
     ensures clause { IfOk result (λ p. (p.clause ≡ reason.clause) × (p.copy ≡ reason.clause)) }

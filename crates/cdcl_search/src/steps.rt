@@ -3,10 +3,9 @@
 //! A call of `as_slice` whose answer is let go says to the proof what holds of each integer of a list.
 ghost use Rattle.std.specs.Prelude.{◌≡◌, []};
 ghost use Rattle.std.specs.List.{AllByRecursion};
-ghost use Rattle.cx_semantics.specs.Printed.{HasText};
 ghost use Rattle.cx_semantics.specs.declared.steps.LogEvent.TheVariants.{Step};
 ghost use Rattle.cx_semantics.specs.declared.steps.LogStep.TheVariants as step;
-ghost use Rattle.cdcl_search.specs.Tells.{IsId};
+ghost use Rattle.cdcl_search.specs.Tells.{IsId, IsTellable};
 
 use cx_base::{IdList, IntList};
 use cx_semantics::LogStep;
@@ -16,7 +15,7 @@ use std::alloc::Global;
 pub fn original(id: u64, lits: IntList) -> LogStep
     requires { IsId id }
     ensures is { result ≡ step.Original id lits }
-    ensures text { HasText (Step result) }
+    ensures text { IsTellable result }
 {
     let _ = lits.as_slice();
     LogStep::Original(id, lits)
@@ -26,7 +25,7 @@ pub fn original(id: u64, lits: IntList) -> LogStep
 pub fn original_parity(id: u64, lits: IntList) -> LogStep
     requires { IsId id }
     ensures is { result ≡ step.OriginalParity id lits }
-    ensures text { HasText (Step result) }
+    ensures text { IsTellable result }
 {
     let _ = lits.as_slice();
     LogStep::OriginalParity(id, lits)
@@ -36,7 +35,7 @@ pub fn original_parity(id: u64, lits: IntList) -> LogStep
 pub fn chained(id: u64, lits: IntList, hints: IntList) -> LogStep
     requires { IsId id }
     ensures is { result ≡ step.ClauseWithHints id lits hints }
-    ensures text { HasText (Step result) }
+    ensures text { IsTellable result }
 {
     let _ = lits.as_slice();
     let _ = hints.as_slice();
@@ -48,7 +47,7 @@ pub(crate) fn sum(id: u64, lits: IntList, sources: IdList) -> LogStep
     requires id { IsId id }
     requires sources { AllByRecursion IsId sources }
     ensures is { result ≡ step.Parity id lits sources }
-    ensures text { HasText (Step result) }
+    ensures text { IsTellable result }
 {
     let _ = lits.as_slice();
     LogStep::Parity(id, lits, sources)
@@ -59,7 +58,7 @@ pub(crate) fn clause_of_sum(id: u64, lits: IntList, source: u64) -> LogStep
     requires id { IsId id }
     requires source { IsId source }
     ensures is { result ≡ step.ClauseOfParity id lits source }
-    ensures text { HasText (Step result) }
+    ensures text { IsTellable result }
 {
     let _ = lits.as_slice();
     LogStep::ClauseOfParity(id, lits, source)
@@ -69,7 +68,7 @@ pub(crate) fn clause_of_sum(id: u64, lits: IntList, source: u64) -> LogStep
 pub fn deletion(alloc: Global, id: u64) -> LogStep
     requires { IsId id }
     ensures is { result ≡ step.Delete id [] }
-    ensures text { HasText (Step result) }
+    ensures text { IsTellable result }
 {
     LogStep::Delete(id, IntList::from_vec(Vec::new(alloc)))
 }
@@ -78,7 +77,7 @@ pub fn deletion(alloc: Global, id: u64) -> LogStep
 pub(crate) fn deletion_of_sum(alloc: Global, id: u64) -> LogStep
     requires { IsId id }
     ensures is { result ≡ step.DeleteParity id [] }
-    ensures text { HasText (Step result) }
+    ensures text { IsTellable result }
 {
     LogStep::DeleteParity(id, IntList::from_vec(Vec::new(alloc)))
 }

@@ -1,11 +1,10 @@
 //! Telling the log. Nothing else of the search tells its sink anything.
 ghost use Rattle.std.specs.Prelude.{◌≡◌, [], ◌∷◌, OnOk};
 ghost use Rattle.std.specs.List.{AllByRecursion};
-ghost use Rattle.cx_semantics.specs.Printed.{HasText};
 ghost use Rattle.cx_semantics.specs.declared.steps.LogEvent.TheVariants.{Step, Conflict};
 ghost use Rattle.conflict_learn.specs.Faults.{fault_in};
 ghost use Rattle.cdcl_search.specs.Logs.{GoesOn, IsRightBehind, AreToldNow};
-ghost use Rattle.cdcl_search.specs.Tells.{TellsAll, FaultsAs, as_events, fault_as};
+ghost use Rattle.cdcl_search.specs.Tells.{TellsAll, FaultsAs, as_events, fault_as, IsTellable};
 
 use crate::logs::SearchLog;
 use conflict_learn::CoreFault;
@@ -24,7 +23,7 @@ fn fault_of(fault: SinkFault) -> CoreFault
 
 /// Tells one step.
 fn tell<L: LogSink>(sink: &mut L, step: &LogStep) -> Result<(), CoreFault>
-    requires text { HasText (Step step.now) }
+    requires text { IsTellable step.now }
     ensures told { TellsAll (L.torn sink.new) (Step step.now ∷ []) (L.events sink.old) result (L.events sink.new) }
     ensures faults { FaultsAs result (L.faults sink.old) (L.faults sink.new) }
     ensures frame { L.keeps sink.old sink.new }
@@ -37,7 +36,7 @@ fn tell<L: LogSink>(sink: &mut L, step: &LogStep) -> Result<(), CoreFault>
 
 /// Tells these steps, one after another, up to a fault.
 fn tell_all<L: LogSink>(sink: &mut L, steps: &[LogStep]) -> Result<(), CoreFault>
-    requires texts { AllByRecursion (λ s. HasText (Step s)) steps.now }
+    requires texts { AllByRecursion IsTellable steps.now }
     ensures told { TellsAll (L.torn sink.new) (as_events steps.now) (L.events sink.old) result (L.events sink.new) }
     ensures faults { FaultsAs result (L.faults sink.old) (L.faults sink.new) }
     ensures frame { L.keeps sink.old sink.new }
@@ -65,7 +64,7 @@ fn tell_mark<L: LogSink>(sink: &mut L, number: u64) -> Result<(), CoreFault>
 
 /// Tells a mark and the steps behind it, up to a fault.
 fn tell_marked<L: LogSink>(sink: &mut L, number: u64, steps: &[LogStep]) -> Result<(), CoreFault>
-    requires texts { AllByRecursion (λ s. HasText (Step s)) steps.now }
+    requires texts { AllByRecursion IsTellable steps.now }
     ensures told { TellsAll (L.torn sink.new) (Conflict number ∷ as_events steps.now) (L.events sink.old) result (L.events sink.new) }
     ensures faults { FaultsAs result (L.faults sink.old) (L.faults sink.new) }
     ensures frame { L.keeps sink.old sink.new }
@@ -78,7 +77,7 @@ fn tell_marked<L: LogSink>(sink: &mut L, number: u64, steps: &[LogStep]) -> Resu
 
 /// Tells this step, which leaves the log right.
 pub fn tell_step<L: LogSink>(log: &mut SearchLog<L>, step: &LogStep) -> Result<(), CoreFault>
-    requires text { HasText (Step step.now) }
+    requires text { IsTellable step.now }
     requires right { IsRightBehind L.LogSink log.old (Step step.now ∷ []) }
     ensures told { OnOk result (AreToldNow L.LogSink log.old (Step step.now ∷ []) log.new) }
     ensures log { GoesOn L.LogSink log.old (fault_in result) log.new }
@@ -88,7 +87,7 @@ pub fn tell_step<L: LogSink>(log: &mut SearchLog<L>, step: &LogStep) -> Result<(
 
 /// Tells these steps, which leave the log right.
 pub fn tell_steps<L: LogSink>(log: &mut SearchLog<L>, steps: &[LogStep]) -> Result<(), CoreFault>
-    requires texts { AllByRecursion (λ s. HasText (Step s)) steps.now }
+    requires texts { AllByRecursion IsTellable steps.now }
     requires right { IsRightBehind L.LogSink log.old (as_events steps.now) }
     ensures told { OnOk result (AreToldNow L.LogSink log.old (as_events steps.now) log.new) }
     ensures log { GoesOn L.LogSink log.old (fault_in result) log.new }
@@ -102,7 +101,7 @@ pub fn tell_round<L: LogSink>(
     number: u64,
     steps: &[LogStep],
 ) -> Result<(), CoreFault>
-    requires texts { AllByRecursion (λ s. HasText (Step s)) steps.now }
+    requires texts { AllByRecursion IsTellable steps.now }
     requires right { IsRightBehind L.LogSink log.old (Conflict number ∷ as_events steps.now) }
     ensures told { OnOk result (AreToldNow L.LogSink log.old (Conflict number ∷ as_events steps.now) log.new) }
     ensures log { GoesOn L.LogSink log.old (fault_in result) log.new }

@@ -5,10 +5,11 @@ use Rattle.std.proofs.lemmas.List.{take-append-drop}
 use Rattle.cx_base.specs.Problem.{Problem}
 use Rattle.cx_semantics.specs.declared.steps.LogEvent.{LogEvent}
 use Rattle.cx_semantics.specs.Grammar.{finished}
+use Rattle.cx_semantics.specs.Ids.{HasLowId}
 use Rattle.cx_semantics.specs.Judging.{IsOpen}
 use Rattle.cx_semantics.specs.LogRules.{log_calculus, LogOpen}
 use Rattle.cx_semantics.specs.LogText.{LogReads, steps_of}
-use Rattle.cx_semantics.specs.Marked.{Marked, Budgeted, mark_of}
+use Rattle.cx_semantics.specs.Marked.{Marked, mark_of}
 use Rattle.cx_semantics.specs.Printed.{HasText, printed_log}
 use Rattle.cx_semantics.specs.Settled.{Settled}
 use Rattle.cx_semantics.specs.Tables.{no_tables}
@@ -16,7 +17,7 @@ use Rattle.cx_semantics.proofs.EventSteps.{events_give_steps}
 use Rattle.cx_semantics.proofs.PrintedLogs.{printed_log_reads}
 use Rattle.search_steps.specs.LogSteps.{IsEnded}
 use Rattle.cx_desk.specs.Outside.{Bytes}
-use Rattle.solve_cli.specs.Logs.{HasFewMarks, IsRefutation, HasNoMark, IsLogSoFar}
+use Rattle.solve_cli.specs.Logs.{HasFewMarks, HasOnlyLowIds, IsRefutation, IsSpentLog, HasNoMark, IsLogSoFar}
 
 steps_read : (events : List LogEvent) → AllByRecursion HasText events → LogReads (printed_log events) (steps_of events) finished
 steps_read events texts = events_give_steps (printed_log events) events (printed_log_reads events texts)
@@ -31,20 +32,24 @@ refutation f events texts ended = record {
   right = record { steps = steps_of events; ending = finished; reads = steps_read events texts; judged = ended };
 }
 
-pub budgeted : (f : Problem) (events : List LogEvent) (n : ℕ) → AllByRecursion HasText events → IsOpen (log_calculus f) (steps_of events) → Marked f events n → Budgeted f (printed_log events) n
-budgeted f events n texts runs marked = record { is_open = open_log f events texts runs; events = events; read = printed_log_reads events texts; marked = marked }
+pub spent : (f : Problem) (events : List LogEvent) (n : ℕ) → AllByRecursion HasText events → AllByRecursion HasLowId events → IsOpen (log_calculus f) (steps_of events) → Marked f events n → IsSpentLog f n (printed_log events)
+spent f events n texts low runs marked = record {
+  marked = record { is_open = open_log f events texts runs; events = events; read = printed_log_reads events texts; marked = marked };
+  ids = (events, printed_log_reads events texts, low);
+}
 
 no_marks : (n : ℕ) → range_with_len 1 n ≡ [] → n ≡ 0
 no_marks zero e = refl
 no_marks (suc n) e = cc
 
-pub few_marks : (f : Problem) (budget : ℕ) (events : List LogEvent) (n : ℕ) → AllByRecursion HasText events → n < budget → Marked f events n → (Settled f → filter_map mark_of events ≡ [])
+pub few_marks : (f : Problem) (budget : ℕ) (events : List LogEvent) (n : ℕ) → AllByRecursion HasText events → AllByRecursion HasLowId events → n < budget → Marked f events n → (Settled f → filter_map mark_of events ≡ [])
     → HasFewMarks f budget (printed_log events)
-few_marks f budget events n texts low marked none = record {
+few_marks f budget events n texts ids low marked none = record {
   events = events;
   read = printed_log_reads events texts;
   count = n;
   marked = marked;
+  ids = ids;
   few = low;
   settled = λ s. no_marks n (sym marked.marks ∙ none s);
 }
@@ -58,11 +63,12 @@ pub nothing_logged : (f : Problem) → IsLogSoFar f []
 nothing_logged f = record {
   log = [];
   right = inl (open_log f [] tt (no_tables, refl));
+  ids = ([], printed_log_reads [] tt, tt);
   settled = λ s. ([], printed_log_reads [] tt, refl);
   rest = [];
   front = refl;
 }
 
 -- a front of a right log
-pub front_so_far : (f : Problem) (log : Bytes) (k : ℕ) → LogOpen f log ⊎ IsRefutation f log → (Settled f → HasNoMark log) → IsLogSoFar f (take k log)
-front_so_far f log k right settled = record { log = log; right = right; settled = settled; rest = drop k log; front = take-append-drop k log }
+pub front_so_far : (f : Problem) (log : Bytes) (k : ℕ) → LogOpen f log ⊎ IsRefutation f log → HasOnlyLowIds log → (Settled f → HasNoMark log) → IsLogSoFar f (take k log)
+front_so_far f log k right ids settled = record { log = log; right = right; ids = ids; settled = settled; rest = drop k log; front = take-append-drop k log }

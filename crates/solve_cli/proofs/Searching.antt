@@ -4,8 +4,9 @@ use Rattle.std.specs.List.{AllByRecursion}
 use Rattle.std.proofs.lemmas.Option.{IfSome_then}
 use Rattle.cx_base.specs.Problem.{Problem, Meets, Unmet}
 use Rattle.cx_semantics.specs.declared.steps.LogEvent.{LogEvent}
+use Rattle.cx_semantics.specs.Ids.{HasLowId}
 use Rattle.cx_semantics.specs.LogRules.{LogOpen}
-use Rattle.cx_semantics.specs.Marked.{Budgeted, mark_of}
+use Rattle.cx_semantics.specs.Marked.{mark_of}
 use Rattle.cx_semantics.specs.Printed.{HasText, printed_log}
 use Rattle.cx_semantics.specs.Settled.{Settled}
 use Rattle.cdcl_core.specs.Results.{Satisfies, Refutes, UsesUp}
@@ -21,39 +22,39 @@ use Rattle.solve_cli.specs.declared.ending.Outcome.TheVariants as outcome
 use Rattle.solve_cli.specs.Seen.{Seen, seen, says, text_named}
 use Rattle.solve_cli.specs.Commands.{proof_created, asked_to}
 use Rattle.solve_cli.specs.Happens.{FormulaRead, IsFormula, Judged, Gains, IsOf, Ends, Stops, Works}
-use Rattle.solve_cli.specs.Logs.{IsOpenLog, IsClosedLog, IsRefutation, HasNoMark}
+use Rattle.solve_cli.specs.Logs.{IsOpenLog, IsClosedLog, IsSpentLog, HasOnlyLowIds, IsRefutation, HasNoMark}
 use Rattle.solve_cli.specs.Solving.{ComesTo}
 use Rattle.solve_cli.specs.Steps.{PutsAnswer}
 use Rattle.solve_cli.proofs.Gaining.{write_fault}
-use Rattle.solve_cli.proofs.Logging.{open_log, refutation, budgeted, few_marks, unmarked, front_so_far}
+use Rattle.solve_cli.proofs.Logging.{open_log, refutation, spent, few_marks, unmarked, front_so_far}
 use Rattle.solve_cli.proofs.Works.{seen-gained, formula_in, judged_late, answered}
 
 -- ---- what the search answers
 
-pub finds_values : (f : Problem) (budget : ℕ) (events : List LogEvent) (v : _) → AllByRecursion HasText events → Satisfies f budget (Some events) v → (Settled f → filter_map mark_of events ≡ [])
+pub finds_values : (f : Problem) (budget : ℕ) (events : List LogEvent) (v : _) → AllByRecursion HasText events → AllByRecursion HasLowId events → Satisfies f budget (Some events) v → (Settled f → filter_map mark_of events ≡ [])
     → ComesTo f budget events (ending.Satisfiable v)
-finds_values f budget events v texts h none = (
+finds_values f budget events v texts ids h none = (
   h.meets,
-  record { is_open = open_log f events texts h.log.2.0; marks = few_marks f budget events h.log.0 texts h.log.1 h.log.2.1 none },
+  record { is_open = open_log f events texts h.log.2.0; marks = few_marks f budget events h.log.0 texts ids h.log.1 h.log.2.1 none },
 )
 
-pub finds_none : (f : Problem) (budget : ℕ) (events : List LogEvent) → AllByRecursion HasText events → Refutes f budget (Some events) → (Settled f → filter_map mark_of events ≡ [])
+pub finds_none : (f : Problem) (budget : ℕ) (events : List LogEvent) → AllByRecursion HasText events → AllByRecursion HasLowId events → Refutes f budget (Some events) → (Settled f → filter_map mark_of events ≡ [])
     → ComesTo f budget events ending.Unsatisfiable
-finds_none f budget events texts h none = (
+finds_none f budget events texts ids h none = (
   h.unmet,
-  record { refutes = refutation f events texts h.log.0; marks = few_marks f budget events h.log.1.0 texts h.log.1.1 h.log.1.2 none },
+  record { refutes = refutation f events texts h.log.0; marks = few_marks f budget events h.log.1.0 texts ids h.log.1.1 h.log.1.2 none },
 )
 
-pub finds_nothing : (f : Problem) (budget : ℕ) (events : List LogEvent) (k : ℕ) → AllByRecursion HasText events → UsesUp f budget (Some events) k → (Settled f → (n : ℕ) → answer.Unknown k ≢ answer.Unknown n)
+pub finds_nothing : (f : Problem) (budget : ℕ) (events : List LogEvent) (k : ℕ) → AllByRecursion HasText events → AllByRecursion HasLowId events → UsesUp f budget (Some events) k → (Settled f → (n : ℕ) → answer.Unknown k ≢ answer.Unknown n)
     → ComesTo f budget events (ending.Unknown k)
-finds_nothing f budget events k texts h never = (h.count, λ s. never s k refl, budgeted f events budget texts h.log.0 h.log.1)
+finds_nothing f budget events k texts ids h never = (h.count, λ s. never s k refl, spent f events budget texts ids h.log.0 h.log.1)
 
 -- ---- the ending
 
 data Found (f : Problem) (budget : ℕ) (log : Bytes) : Ending → Type 0 where
   values : (v : _) → Meets f v → IsOpenLog f budget log → Found f budget log (ending.Satisfiable v)
   none : Unmet f → IsClosedLog f budget log → Found f budget log ending.Unsatisfiable
-  nothing : (k : ℕ) → k ≡ budget → ¬ Settled f → Budgeted f log budget → Found f budget log (ending.Unknown k)
+  nothing : (k : ℕ) → k ≡ budget → ¬ Settled f → IsSpentLog f budget log → Found f budget log (ending.Unknown k)
 
 found : (f : Problem) (budget : ℕ) (events : List LogEvent) (e : Ending) → ComesTo f budget events e → Found f budget (printed_log events) e
 found f budget events (ending.Satisfiable v) h = values v h.0 h.1
@@ -75,12 +76,17 @@ gains n l budget limit files f log _ read (nothing k spent open_ marked) = (f, r
 is_right : (f : Problem) (budget : ℕ) (log : Bytes) (e : Ending) → Found f budget log e → LogOpen f log ⊎ IsRefutation f log
 is_right f budget log _ (values v meets log_open) = inl log_open.is_open
 is_right f budget log _ (none unmet closed) = inr closed.refutes
-is_right f budget log _ (nothing k spent open_ marked) = inl marked.is_open
+is_right f budget log _ (nothing k spent open_ marked) = inl marked.marked.is_open
 
 has_no_mark : (f : Problem) (budget : ℕ) (log : Bytes) (e : Ending) → Found f budget log e → Settled f → HasNoMark log
 has_no_mark f budget log _ (values v meets log_open) s = unmarked f budget log log_open.marks s
 has_no_mark f budget log _ (none unmet closed) s = unmarked f budget log closed.marks s
 has_no_mark f budget log _ (nothing k spent open_ marked) s = absurd (open_ s)
+
+has_low_ids : (f : Problem) (budget : ℕ) (log : Bytes) (e : Ending) → Found f budget log e → HasOnlyLowIds log
+has_low_ids f budget log _ (values v meets log_open) = (log_open.marks.events, log_open.marks.read, log_open.marks.ids)
+has_low_ids f budget log _ (none unmet closed) = (closed.marks.events, closed.marks.read, closed.marks.ids)
+has_low_ids f budget log _ (nothing k spent open_ marked) = marked.ids
 
 own : (n : Bytes) (l : Option Bytes) (budget : ℕ) (f : Problem) (log : Bytes) (e : Ending) → Found f budget log e → IsOf (plan.Solve n l budget) e
 own n l budget f log _ (values v meets log_open) = tt
@@ -121,7 +127,7 @@ module _ (n : Bytes) (l : Option Bytes) (budget limit : ℕ) (old : Seen) (f : P
         stage = proof_created;
         reaches = formula_in (plan.Solve n l budget) limit old f read;
         proof = front;
-        so_far = IfSome_then old.files read (λ files r. (f, r, front_so_far f (printed_log events) h.0 (is_right f budget (printed_log events) e have) (has_no_mark f budget (printed_log events) e have)));
+        so_far = IfSome_then old.files read (λ files r. (f, r, front_so_far f (printed_log events) h.0 (is_right f budget (printed_log events) e have) (has_low_ids f budget (printed_log events) e have) (has_no_mark f budget (printed_log events) e have)));
         at_is = ap (says port.Proof front) begun;
       } in
       inr (inr (record { writes = refl; at = says port.Proof front (seen mid); stops = stops; created = refl; fault = write_fault front mid new h.2 }))

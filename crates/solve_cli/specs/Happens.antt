@@ -4,7 +4,6 @@ use Rattle.cx_base.specs.Problem.{Problem, Meets, Unmet}
 use Rattle.cx_semantics.specs.FormulaText.{Reads, FirstOffence}
 use Rattle.cx_semantics.specs.ProofRules.{Accepted, RefusedAt}
 use Rattle.cx_semantics.specs.LogRules.{LogRight, LogRefusedAt}
-use Rattle.cx_semantics.specs.Marked.{Budgeted}
 use Rattle.cx_semantics.specs.Settled.{Settled}
 use Rattle.model_out.specs.Answers.{AnswerReads, AnswerRefusedFor}
 use Rattle.model_out.specs.declared.refusal.AnswerRefusal.{AnswerRefusal}
@@ -25,7 +24,7 @@ use Rattle.solve_cli.specs.declared.ending.Status.{Status}
 use Rattle.solve_cli.specs.Endings.{status_of, status_of_ending, answer_text, message_text}
 use Rattle.solve_cli.specs.Seen.{Seen, asks_proof, says, ReadFault, WriteFault, MessageFault, text_named}
 use Rattle.solve_cli.specs.Proofs.{IsWholeProof, IsProofBefore, IsRightSoFar}
-use Rattle.solve_cli.specs.Logs.{IsOpenLog, IsClosedLog, IsLogSoFar}
+use Rattle.solve_cli.specs.Logs.{IsOpenLog, IsClosedLog, IsSpentLog, IsLogSoFar}
 use Rattle.solve_cli.specs.Commands.{is_built, formula_of, second_of, proof_of, writes_proof, Stage, formula_started, second_started, proof_created, asked_to, second_text}
 
 -- ---- which ending is due
@@ -101,7 +100,7 @@ Gains (plan.Elab n l q) limit files (ending.NotElaborated k c) proof =
     (f : Problem) × FormulaRead limit (text_named n files) f × IsProofBefore f (text_named l files) k proof
 Gains (plan.Solve n l c) limit files (ending.Satisfiable v) log = (f : Problem) × FormulaRead limit (text_named n files) f × IsOpenLog f c log
 Gains (plan.Solve n l c) limit files ending.Unsatisfiable log = (f : Problem) × FormulaRead limit (text_named n files) f × IsClosedLog f c log
-Gains (plan.Solve n l c) limit files (ending.Unknown k) log = (f : Problem) × FormulaRead limit (text_named n files) f × Budgeted f log c
+Gains (plan.Solve n l c) limit files (ending.Unknown k) log = (f : Problem) × FormulaRead limit (text_named n files) f × IsSpentLog f c log
 Gains p limit files e proof = proof ≡ []
 
 -- what it may have gained where a command is cut off

@@ -1,21 +1,24 @@
 -- What `solve` leaves on the Proof port: the text of a log.
 use Rattle.std.specs.Prelude.{◌≡◌, ℕ, ◌<◌, List, [], ◌++◌, length, filter_map, ◌⊎◌}
+use Rattle.std.specs.List.{AllByRecursion}
 use Rattle.cx_base.specs.Problem.{Problem}
 use Rattle.cx_semantics.specs.declared.steps.LogStep.{LogStep}
 use Rattle.cx_semantics.specs.declared.steps.LogEvent.{LogEvent}
 use Rattle.cx_semantics.specs.Grammar.{finished}
+use Rattle.cx_semantics.specs.Ids.{HasLowId}
 use Rattle.cx_semantics.specs.LogRules.{LogOpen, LogRight}
 use Rattle.cx_semantics.specs.LogText.{LogReads, EventsRead}
-use Rattle.cx_semantics.specs.Marked.{Marked, mark_of}
+use Rattle.cx_semantics.specs.Marked.{Marked, Budgeted, mark_of}
 use Rattle.cx_semantics.specs.Settled.{Settled}
 use Rattle.cx_desk.specs.Outside.{Bytes}
 
--- The log is marked fewer times than the budget, and never where propagation settles the formula.
+-- The log is marked fewer times than the budget, and never where propagation settles the formula; its ids are low.
 pub record HasFewMarks (formula : Problem) (budget : ℕ) (log : Bytes) : Type 0 where
   pub events : List LogEvent
   pub read : EventsRead log events finished
   pub count : ℕ
   pub marked : Marked formula events count
+  pub ids : AllByRecursion HasLowId events
   pub few : count < budget
   pub settled : Settled formula → count ≡ 0
 
@@ -39,10 +42,20 @@ pub record IsClosedLog (formula : Problem) (budget : ℕ) (log : Bytes) : Type 0
 abbrev pub HasNoMark : Bytes → Type 0
 HasNoMark log = (events : List LogEvent) × EventsRead log events finished × (filter_map mark_of events ≡ [])
 
--- the bytes are a front of a log all of whose steps are right; where propagation settles the formula, it has no mark
+-- each step of the log has a low id
+abbrev pub HasOnlyLowIds : Bytes → Type 0
+HasOnlyLowIds log = (events : List LogEvent) × EventsRead log events finished × AllByRecursion HasLowId events
+
+-- behind the answer that the budget is spent
+pub record IsSpentLog (formula : Problem) (budget : ℕ) (log : Bytes) : Type 0 where
+  pub marked : Budgeted formula log budget
+  pub ids : HasOnlyLowIds log
+
+-- the bytes are a front of a log all of whose steps are right and have low ids; where propagation settles the formula, it has no mark
 pub record IsLogSoFar (formula : Problem) (bytes : Bytes) : Type 0 where
   pub log : Bytes
   pub right : LogOpen formula log ⊎ IsRefutation formula log
+  pub ids : HasOnlyLowIds log
   pub settled : Settled formula → HasNoMark log
   pub rest : Bytes
   pub front : bytes ++ rest ≡ log

@@ -4,7 +4,6 @@ use Rattle.cx_base.specs.Problem.{Problem, Meets, Unmet, parities_of}
 use Rattle.cx_semantics.specs.AnswerText as printed
 use Rattle.cx_semantics.specs.Forced.{Consistent}
 use Rattle.cx_semantics.specs.FormulaText.{Reads}
-use Rattle.cx_semantics.specs.Marked.{Budgeted}
 use Rattle.cx_semantics.specs.Settled.{Settled}
 use Rattle.cx_desk.specs.declared.desk.Slot.TheVariants as slot
 use Rattle.cx_desk.specs.declared.desk.Port.TheVariants as port
@@ -16,7 +15,7 @@ use Rattle.solve_cli.specs.declared.ending.Status.TheVariants as status
 use Rattle.solve_cli.specs.Endings.{joined}
 use Rattle.solve_cli.specs.Seen.{Seen, asks, says, text_named}
 use Rattle.solve_cli.specs.Commands.{gives_file}
-use Rattle.solve_cli.specs.Logs.{IsOpenLog, IsClosedLog}
+use Rattle.solve_cli.specs.Logs.{IsOpenLog, IsClosedLog, IsSpentLog}
 
 -- the formula's name was asked for, the Proof port was given its file, where there is a name for it, and gained
 -- the log, and then the Answer port gained the answer
@@ -46,7 +45,7 @@ IsRefuted words old new = IfSome old.files (λ files. HasSolved words old files 
 -- `solve` said that the budget is spent, behind an open log that is marked so many times
 abbrev pub IsSpent : List Bytes → Seen → Seen → Type 0
 IsSpent words old new = IfSome old.files (λ files. HasSolved words old files new
-    (λ budget. joined (codes "c conflicts " ∷ decimal budget ∷ codes "\ns UNKNOWN\n" ∷ [])) (λ f budget log. Budgeted f log budget))
+    (λ budget. joined (codes "c conflicts " ∷ decimal budget ∷ codes "\ns UNKNOWN\n" ∷ [])) (λ f budget log. IsSpentLog f budget log))
 
 -- the words ask for `solve` with any log and budget, and this holds of the formula
 abbrev pub OfSolve : List Bytes → Seen → (Problem → Type 0) → Type 0

@@ -2,7 +2,6 @@
 use Rattle.std.specs.Prelude.{◌≡◌, ℕ, List, IfSome, Result, MatchResult}
 use Rattle.cx_base.specs.Problem.{Problem, Meets, Unmet}
 use Rattle.cx_semantics.specs.declared.steps.LogEvent.{LogEvent}
-use Rattle.cx_semantics.specs.Marked.{Budgeted}
 use Rattle.cx_semantics.specs.Printed.{printed_log}
 use Rattle.cx_semantics.specs.Settled.{Settled}
 use Rattle.cx_words.specs.declared.plans.Plan.{Plan}
@@ -12,7 +11,7 @@ use Rattle.solve_cli.specs.declared.ending.Outcome.{Outcome}
 use Rattle.solve_cli.specs.Seen.{Seen}
 use Rattle.solve_cli.specs.Commands.{proof_created, asked_to}
 use Rattle.solve_cli.specs.Happens.{IsFormula, Works}
-use Rattle.solve_cli.specs.Logs.{IsOpenLog, IsClosedLog}
+use Rattle.solve_cli.specs.Logs.{IsOpenLog, IsClosedLog, IsSpentLog}
 
 -- the formula was read, and the Proof port was given its file, where there is a name for it
 abbrev pub BeginsSearch : Plan → ℕ → Seen → Result Problem Outcome → Seen → Type 0
@@ -24,5 +23,5 @@ BeginsSearch p limit old result new = MatchResult result
 abbrev pub ComesTo : Problem → ℕ → List LogEvent → Ending → Type 0
 ComesTo f budget events (ending.Satisfiable v) = Meets f v × IsOpenLog f budget (printed_log events)
 ComesTo f budget events ending.Unsatisfiable = Unmet f × IsClosedLog f budget (printed_log events)
-ComesTo f budget events (ending.Unknown k) = (k ≡ budget) × (¬ Settled f) × Budgeted f (printed_log events) budget
+ComesTo f budget events (ending.Unknown k) = (k ≡ budget) × (¬ Settled f) × IsSpentLog f budget (printed_log events)
 ComesTo f budget events e = ⊥

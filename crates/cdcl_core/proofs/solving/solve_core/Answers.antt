@@ -1,10 +1,10 @@
 use Rattle.std.proofs.Common.{◌≡◌, ◌∙◌, rules, sym, subst, IfErr, OnOk}
 use Rattle.cx_semantics.specs.Settled.{Settled}
 use Rattle.cdcl_search.specs.GoingOn.{log_then}
-use Rattle.cdcl_search.specs.Tells.{IsLeft, GivesUp}
+use Rattle.cdcl_search.specs.Tells.{IsLeft, GivesUp, HaveLowIds}
 use Rattle.cdcl_search.proofs.Outcomes.{ok_maps}
 use Rattle.cdcl_core.specs.Results.{HasNoMark}
-use Rattle.cdcl_core.proofs.Answering.{settled_answer_has_no_mark, fresh_is_left, gives_up_by}
+use Rattle.cdcl_core.proofs.Answering.{settled_answer_has_no_mark, fresh_is_left, fresh_is_low, gives_up_by}
 use Rattle.cdcl_core.proofs.solving.solve_core.Goals as goal
 
 pub returns-in_err-state-clause-gave_up : goal.returns-in_err-state-clause-gave_up
@@ -33,3 +33,9 @@ pub returns-in-Search-clause-frame : goal.returns-in-Search-clause-frame
 returns-in-Search-clause-frame g c =
     let same : c.sink-in-Search-1.given.0 ≡ c.search.new.log.sink.now = search rules in
     subst (g.L.LogSink.keeps c.args.sink.now) (sym same) (log_then g.L.LogSink g.met.L.LogSink.keeps_on _ c.begin.new.log _ _ c.in_ok-state.ensures.log c.search.ensures.log).frame
+
+pub returns-in-Search-clause-ids : goal.returns-in-Search-clause-ids
+returns-in-Search-clause-ids g c =
+    let same : c.sink-in-Search-1.given.0 ≡ c.search.new.log.sink.now = search rules in
+    let on = log_then g.L.LogSink g.met.L.LogSink.keeps_on _ c.begin.new.log _ _ c.in_ok-state.ensures.log c.search.ensures.log in
+    subst (λ x. HaveLowIds (g.L.LogSink.events x)) (sym same) (on.ids (fresh_is_low (g.L.LogSink.events c.args.sink.now) c.requires.fresh))

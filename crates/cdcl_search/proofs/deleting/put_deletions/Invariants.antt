@@ -1,9 +1,8 @@
 use Rattle.std.proofs.Common.{◌≡◌, ◌≤◌, ◌++◌}
 use Rattle.std.specs.List.{AllByRecursion}
-use Rattle.cx_semantics.specs.Printed.{HasText}
 use Rattle.cx_semantics.specs.declared.steps.LogEvent.TheVariants.{Step}
 use Rattle.cdcl_search.specs.Deleting.{deletions}
-use Rattle.cdcl_search.specs.Tells.{as_events}
+use Rattle.cdcl_search.specs.Tells.{as_events, IsTellable}
 use Rattle.cdcl_search.specs.Ties.{row_ids}
 use Rattle.cdcl_search.proofs.deleting.put_deletions.Given as goal
 
@@ -12,7 +11,7 @@ abbrev pub invariant-loop-left : goal.invariant-loop-left
 invariant-loop-left l = record {
   few : l.left ≤ l.count;
   steps : as_events l.steps.items ++ deletions (row_ids l.left) ≡ as_events l.initial.steps.items ++ deletions (row_ids l.count);
-  texts : AllByRecursion (λ t. HasText (Step t)) l.steps.items;
+  texts : AllByRecursion IsTellable l.steps.items;
 }
 
 abbrev pub decreases-loop-left : goal.decreases-loop-left

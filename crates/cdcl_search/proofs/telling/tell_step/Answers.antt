@@ -4,4 +4,4 @@ use Rattle.cdcl_search.proofs.LogFronts.{goes_on_by}
 use Rattle.cdcl_search.proofs.telling.tell_step.Goals as goal
 
 pub returns-clause-log : goal.returns-clause-log
-returns-clause-log g c = goes_on_by g.L.LogSink c.args.log.now _ (Step c.args.step.now ∷ []) c.tell.result c.tell.ensures.told c.tell.ensures.faults c.tell.ensures.frame c.requires.right refl refl
+returns-clause-log g c = goes_on_by g.L.LogSink c.args.log.now _ (Step c.args.step.now ∷ []) c.tell.result c.tell.ensures.told c.tell.ensures.faults c.tell.ensures.frame c.requires.right (c.requires.text.1, tt) refl refl

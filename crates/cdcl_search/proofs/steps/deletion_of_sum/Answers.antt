@@ -1,0 +1,8 @@
+use Rattle.std.proofs.Common.{◌≡◌, [], rules}
+use Rattle.cdcl_search.proofs.StepTexts.{deletion_of_sum_text}
+use Rattle.cdcl_search.proofs.steps.deletion_of_sum.Goals as goal
+
+pub returns-clause-text : goal.returns-clause-text
+returns-clause-text c =
+    let none : c.from_vec.result ≡ [] = search rules in
+    deletion_of_sum_text c.args.id c.from_vec.result c.requires none
