@@ -10,3 +10,5 @@ pub mod Texts
 pub mod Left
 pub mod Told
 pub mod ToldSteps
+pub mod Lists
+pub mod ListLaws

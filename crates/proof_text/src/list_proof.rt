@@ -1,9 +1,12 @@
 //! A proof that is kept as a list.
 ghost use Rattle.std.specs.Prelude.{◌≡◌, [], ◌∷◌, ◌++◌, OnOk, OnErr, IfErr};
 ghost use Rattle.std.specs.List.{AllByRecursion};
-ghost use Rattle.cx_semantics.specs.Printed.{HasProofText};
+ghost use Rattle.cx_semantics.specs.Grammar.{finished};
+ghost use Rattle.cx_semantics.specs.ProofText.{ProofReads};
+ghost use Rattle.cx_semantics.specs.Printed.{HasProofText, printed_proof};
 ghost use Rattle.proof_text.specs.declared.sink.SinkFault.TheVariants.{Memory};
 
+use crate::proof_list::ProofList;
 use crate::sink::{ProofSink, SinkFault};
 use cx_semantics::ProofStep;
 use std::alloc::Global;
@@ -44,6 +47,17 @@ impl ListProof {
         ensures texts { AllByRecursion HasProofText self.now }
     {
         &self.steps
+    }
+
+    /// The steps in order, by moves, as a source.
+    ///
+    /// It gives them as their printed text would.
+    pub fn into_steps(self) -> ProofList
+        ensures steps { result ≡ record { steps = self; given = 0 } }
+        ensures texts { AllByRecursion HasProofText self }
+        ensures printed { ProofReads (printed_proof self) self finished }
+    {
+        ProofList::of(self.steps)
     }
 
     /// Puts a step behind the others.
