@@ -1,3 +1,4 @@
 pub mod Lines
 pub mod TwoLists
 pub mod StepLaws
+pub mod EventLists

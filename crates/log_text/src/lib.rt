@@ -2,6 +2,7 @@
 #![tactic(auto)]
 
 mod list_log;
+mod log_list;
 mod no_log;
 mod plain;
 mod print;
@@ -10,6 +11,7 @@ mod steps;
 
 pub use cx_semantics::{LogEvent, LogStep};
 pub use list_log::ListLog;
+pub use log_list::LogList;
 pub use no_log::NoLog;
 pub use print::{put_log, put_log_step};
 pub use proof_text::{SinkFault, StepSource, TextRefusal};

@@ -2,9 +2,12 @@
 ghost use Rattle.std.specs.Prelude.{◌≡◌, [], ◌∷◌, ◌++◌, OnOk, OnErr, IfErr};
 ghost use Rattle.std.specs.List.{AllByRecursion};
 ghost use Rattle.cx_semantics.specs.declared.steps.LogEvent.TheVariants.{Step, Conflict};
-ghost use Rattle.cx_semantics.specs.Printed.{HasText};
+ghost use Rattle.cx_semantics.specs.Grammar.{finished};
+ghost use Rattle.cx_semantics.specs.LogText.{LogReads, steps_of};
+ghost use Rattle.cx_semantics.specs.Printed.{HasText, printed_log};
 ghost use Rattle.proof_text.specs.declared.sink.SinkFault.TheVariants.{Memory};
 
+use crate::log_list::LogList;
 use crate::sink::LogSink;
 use cx_semantics::{LogEvent, LogStep};
 use proof_text::SinkFault;
@@ -46,6 +49,17 @@ impl ListLog {
         ensures texts { AllByRecursion HasText self.now }
     {
         &self.events
+    }
+
+    /// The steps in order, by moves, as a source; the marks are passed over.
+    ///
+    /// It gives them as the log's printed text would.
+    pub fn into_steps(self) -> LogList
+        ensures steps { result ≡ record { steps = steps_of self; given = 0 } }
+        ensures texts { AllByRecursion HasText self }
+        ensures printed { LogReads (printed_log self) (steps_of self) finished }
+    {
+        LogList::of(self.events)
     }
 
     /// Puts an event behind the others.
