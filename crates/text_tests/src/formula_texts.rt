@@ -1,6 +1,7 @@
 //! Worked texts: what is refused and where, and what is read.
-use cnfx_reader::{ReadRefusal, read_formula};
+use cnfx_reader::read_formula;
 use cx_base::{ConstraintRef, Lit};
+use std::alloc::{AllocError, Global};
 use std::test::Fail;
 
 /// Writes the literals, each behind a space.
@@ -17,10 +18,10 @@ fn show_lits(out: &mut String, lits: &[Lit]) -> Result<(), Fail> {
 }
 
 /// The number of variables, and each constraint behind a colon; a parity has an `x` in front.
-fn shown(rt: &HostRuntime, text: &[u8]) -> Result<String, Fail> {
-    let formula = read_formula(rt.alloc(), text)?;
+fn shown(alloc: Global, text: &[u8]) -> Result<String, Fail> {
+    let formula = read_formula(alloc, text)?;
     let vars = formula.vars();
-    let mut out = format!(in rt.alloc(); "{vars}")?;
+    let mut out = format!(in alloc; "{vars}")?;
     for item in formula.items() {
         match item {
             ConstraintRef::Clause(lits) => {
@@ -36,63 +37,82 @@ fn shown(rt: &HostRuntime, text: &[u8]) -> Result<String, Fail> {
     Ok(out)
 }
 
-#[test]
-fn first_offences(rt: HostRuntime) {
-    for (text, want) in [
-        (b"".as_slice(), ReadRefusal::NoHeader(0)),
-        (b"1 0".as_slice(), ReadRefusal::NoHeader(0)),
-        (b"p cnf x 1".as_slice(), ReadRefusal::BadHeader(6)),
-        (b"p cnf 1\n".as_slice(), ReadRefusal::BadHeader(8)),
-        (b"p cnf 16777216 0".as_slice(), ReadRefusal::VarLimit(6)),
-        (b"p cnf 2 1\n1 2".as_slice(), ReadRefusal::Unterminated(13)),
-        (
-            b"p cnf 2 1\n1 2\n".as_slice(),
-            ReadRefusal::Unterminated(14),
-        ),
-        (b"p cnf 2 1\nx".as_slice(), ReadRefusal::Unterminated(11)),
-        (b"p cnf 2 1\n1 a 0".as_slice(), ReadRefusal::BadToken(12)),
-        (b"p cnf 2 1\n1 x2 0".as_slice(), ReadRefusal::BadToken(12)),
-        (b"p cnf 2 1\n\0 0".as_slice(), ReadRefusal::BadToken(10)),
-        (
-            b"p cnf 2 1\n1\xc3\xa9 0".as_slice(),
-            ReadRefusal::BadToken(10),
-        ),
-        (
-            b"p cnf 1 1\n16777216 0".as_slice(),
-            ReadRefusal::VarLimit(10),
-        ),
-        (
-            b"p cnf 1 1\n16777216 a 0".as_slice(),
-            ReadRefusal::VarLimit(10),
-        ),
-        (
-            b"p cnf 1 1\nx-16777216 0".as_slice(),
-            ReadRefusal::VarLimit(10),
-        ),
-    ] {
-        match read_formula(rt.alloc(), text) {
-            Ok(_) => assert!(rt; false, "{want}"),
-            Err(refusal) => assert_eq!(rt; refusal, want),
+/// What is wrong with each text, each behind a blank.
+fn offences(alloc: Global, texts: &[&[u8]]) -> Result<String, AllocError> {
+    let mut all = String::new(alloc);
+    for text in texts {
+        match read_formula(alloc, text) {
+            Ok(_) => all.push_str(" none")?,
+            Err(refusal) => all.push_str(format!(in alloc; " {refusal:?}")?.as_str())?,
         }
     }
+    Ok(all)
+}
+
+#[test]
+fn the_header_comes_first(rt: HostRuntime) -> Result<(), Fail> {
+    let texts: [&[u8]; 4] = [b"", b"1 0", b"p cnf x 1", b"p cnf 1\n"];
+    let wanted = " NoHeader(0) NoHeader(0) BadHeader(6) BadHeader(8)";
+    assert_eq!(rt; offences(rt.alloc(), &texts)?.as_str(), wanted);
+    Ok(())
+}
+
+#[test]
+fn an_open_constraint_is_refused(rt: HostRuntime) -> Result<(), Fail> {
+    let texts: [&[u8]; 3] = [b"p cnf 2 1\n1 2", b"p cnf 2 1\n1 2\n", b"p cnf 2 1\nx"];
+    let wanted = " Unterminated(13) Unterminated(14) Unterminated(11)";
+    assert_eq!(rt; offences(rt.alloc(), &texts)?.as_str(), wanted);
+    Ok(())
+}
+
+#[test]
+fn a_token_that_does_not_fit_is_refused(rt: HostRuntime) -> Result<(), Fail> {
+    let texts: [&[u8]; 4] = [
+        b"p cnf 2 1\n1 a 0",
+        b"p cnf 2 1\n1 x2 0",
+        b"p cnf 2 1\n\0 0",
+        b"p cnf 2 1\n1\xc3\xa9 0",
+    ];
+    let wanted = " BadToken(12) BadToken(12) BadToken(10) BadToken(10)";
+    assert_eq!(rt; offences(rt.alloc(), &texts)?.as_str(), wanted);
+    Ok(())
+}
+
+#[test]
+fn a_variable_above_the_limit_is_refused(rt: HostRuntime) -> Result<(), Fail> {
+    let texts: [&[u8]; 4] = [
+        b"p cnf 16777216 0",
+        b"p cnf 1 1\n16777216 0",
+        b"p cnf 1 1\n16777216 a 0",
+        b"p cnf 1 1\nx-16777216 0",
+    ];
+    let wanted = " VarLimit(6) VarLimit(10) VarLimit(10) VarLimit(10)";
+    assert_eq!(rt; offences(rt.alloc(), &texts)?.as_str(), wanted);
+    Ok(())
+}
+
+/// The formulas of the texts, each on a line.
+fn all_shown(alloc: Global, texts: &[&[u8]]) -> Result<String, Fail> {
+    let mut all = String::new(alloc);
+    for text in texts {
+        all.push_str(shown(alloc, text)?.as_str())?;
+        all.push('\n')?;
+    }
+    Ok(all)
 }
 
 #[test]
 fn formulas(rt: HostRuntime) -> Result<(), Fail> {
-    for (text, want) in [
-        (b"p cnf 0 0".as_slice(), "0"),
-        (b"c hi\r\np cnf 1 1\r\n1 0\r\n%\r\n0\r\n".as_slice(), "1: 1"),
-        (b"p cnf 1 2\nx1 1 2 0\n1 0\n".as_slice(), "2: x 1 1 2: 1"),
-        (b"p cnf 2 1\nx0".as_slice(), "2: x"),
-        (b"p cnf 2 1\nx -1 2 0".as_slice(), "2: x -1 2"),
-        (b"p cnf 2 1\nx-1 2 0".as_slice(), "2: x -1 2"),
-        (
-            b"p cnf\n0016777215 99999999999999999999\n00000000000000000001\n c 0\n-16777215 -00 0".as_slice(),
-            "16777215: 1 -16777215:",
-        ),
-    ] {
-        let found = shown(&rt, text)?;
-        assert_eq!(rt; found.as_str(), want);
-    }
+    let texts: [&[u8]; 7] = [
+        b"p cnf 0 0",
+        b"c hi\r\np cnf 1 1\r\n1 0\r\n%\r\n0\r\n",
+        b"p cnf 1 2\nx1 1 2 0\n1 0\n",
+        b"p cnf 2 1\nx0",
+        b"p cnf 2 1\nx -1 2 0",
+        b"p cnf 2 1\nx-1 2 0",
+        b"p cnf\n0016777215 99999999999999999999\n00000000000000000001\n c 0\n-16777215 -00 0",
+    ];
+    let wanted = "0\n1: 1\n2: x 1 1 2: 1\n2: x\n2: x -1 2\n2: x -1 2\n16777215: 1 -16777215:\n";
+    assert_eq!(rt; all_shown(rt.alloc(), &texts)?.as_str(), wanted);
     Ok(())
 }

@@ -6,6 +6,7 @@ use cx_desk::{MemDesk, Port, Rooms};
 use log_text::{
     ListLog, LogSink, LogStep, LogText, NoLog, StepSource, TextRefusal, put_log, put_log_step,
 };
+use std::alloc::Global;
 use std::test::Fail;
 
 /// What was printed of a log, step by step and as a whole, and the refusal that it ends with.
@@ -30,23 +31,17 @@ fn put(desk: &mut MemDesk, log: &mut ListLog, step: &LogStep, k: u64) -> Result<
 }
 
 /// At most sixteen steps of a text, each with a mark behind it in the whole log.
-fn printed(rt: &HostRuntime, text: &[u8]) -> Result<Written, Fail> {
+fn printed(alloc: Global, text: &[u8]) -> Result<Written, Fail> {
     let rooms = Rooms {
         answer: 4096,
         proof: 4096,
         message: 0,
     };
-    let mut desk = MemDesk::make(
-        rt.alloc(),
-        Vec::new(rt.alloc()),
-        rooms,
-        3,
-        Vec::new(rt.alloc()),
-    )?;
-    let mut log = ListLog::make(rt.alloc());
+    let mut desk = MemDesk::make(alloc, Vec::new(alloc), rooms, 3, Vec::new(alloc))?;
+    let mut log = ListLog::make(alloc);
     let mut ending = None;
     if text.len() <= 4096 {
-        let mut source = LogText::new(rt.alloc(), text);
+        let mut source = LogText::new(alloc, text);
         for k in 1..17 {
             match source.next_step() {
                 Ok(Some(step)) => {
@@ -62,37 +57,50 @@ fn printed(rt: &HostRuntime, text: &[u8]) -> Result<Written, Fail> {
     }
     put_log(&mut desk, Port::Answer, &log)?;
     Ok(Written {
-        steps: desk.written(Port::Proof).to_vec(rt.alloc())?,
-        log: desk.written(Port::Answer).to_vec(rt.alloc())?,
+        steps: desk.written(Port::Proof).to_vec(alloc)?,
+        log: desk.written(Port::Answer).to_vec(alloc)?,
         ending,
     })
 }
 
+/// Whether the line is the one step that it is read as.
+fn comes_back(alloc: Global, line: &[u8]) -> Result<bool, Fail> {
+    let log = printed(alloc, line)?;
+    Ok(log.steps.as_slice() == line && log.ending.is_none())
+}
+
+/// How many of the lines come back, from the first on.
+fn lines_come_back(alloc: Global, lines: &[&[u8]]) -> Result<usize, Fail> {
+    for place in 0..lines.len() {
+        if !comes_back(alloc, lines[place])? {
+            return Ok(place);
+        }
+    }
+    Ok(lines.len())
+}
+
 #[test]
 fn printed_steps_are_the_steps_read(rt: HostRuntime) -> Result<(), Fail> {
-    for line in [
-        b"o 1 1 -2 0\n".as_slice(),
-        b"o x 1 1 2 0\n".as_slice(),
-        b"a 3 0\n".as_slice(),
-        b"a 3 1 0 l 1 -2 0\n".as_slice(),
-        b"a x 2 -1 0 l 1 9223372036854775807 0\n".as_slice(),
-        b"i 4 1 0 l 2 0\n".as_slice(),
-        b"i x 3 1 2 0 l 1 4 0\n".as_slice(),
-        b"d 4 1 0\n".as_slice(),
-        b"d x 3 0\n".as_slice(),
-        b"f 1 1 -2 0\n".as_slice(),
-        b"f x 1 1 2 0\n".as_slice(),
-    ] {
-        let log = printed(&rt, line)?;
-        assert_eq!(rt; log.steps.as_slice(), line);
-        assert_eq!(rt; log.ending, None);
-    }
+    let lines: [&[u8]; 11] = [
+        b"o 1 1 -2 0\n",
+        b"o x 1 1 2 0\n",
+        b"a 3 0\n",
+        b"a 3 1 0 l 1 -2 0\n",
+        b"a x 2 -1 0 l 1 9223372036854775807 0\n",
+        b"i 4 1 0 l 2 0\n",
+        b"i x 3 1 2 0 l 1 4 0\n",
+        b"d 4 1 0\n",
+        b"d x 3 0\n",
+        b"f 1 1 -2 0\n",
+        b"f x 1 1 2 0\n",
+    ];
+    assert_eq!(rt; lines_come_back(rt.alloc(), &lines)?, 11);
     Ok(())
 }
 
 #[test]
 fn marks_are_lines_that_are_passed_over(rt: HostRuntime) -> Result<(), Fail> {
-    let log = printed(&rt, b"o 1 1 0\nc conflict 7\na 2 0\nl 1 0 d 1 0")?;
+    let log = printed(rt.alloc(), b"o 1 1 0\nc conflict 7\na 2 0\nl 1 0 d 1 0")?;
     assert_eq!(rt;
         log.steps.as_slice(),
         b"o 1 1 0\na 2 0 l 1 0\nd 1 0\n".as_slice()
@@ -105,35 +113,39 @@ fn marks_are_lines_that_are_passed_over(rt: HostRuntime) -> Result<(), Fail> {
     Ok(())
 }
 
-#[test]
-fn endings(rt: HostRuntime) -> Result<(), Fail> {
-    for (text, want, ending) in [
-        (
-            b"a 1 0 l 2".as_slice(),
-            b"".as_slice(),
-            Some(TextRefusal::Unterminated(9)),
-        ),
-        (b"a 1 0 a", b"a 1 0\n", Some(TextRefusal::Unterminated(7))),
-        (b"a x 1 2 0 3 0", b"", Some(TextRefusal::BadToken(10))),
-        (b"i 4 1 0 2 0", b"", Some(TextRefusal::BadToken(8))),
-        (b"i 4 1 0 l 2 3", b"", Some(TextRefusal::BadToken(12))),
-        (
-            b"o 1 1 0 l 2 0",
-            b"o 1 1 0\n",
-            Some(TextRefusal::BadToken(8)),
-        ),
-        (b"r 1 0", b"", Some(TextRefusal::BadToken(0))),
-        (b"o 0 1 0", b"", Some(TextRefusal::BadToken(2))),
-        (b"a 1 0 l x", b"", Some(TextRefusal::BadToken(8))),
-        (
-            b"d 9223372036854775808 0",
-            b"",
-            Some(TextRefusal::TooBig(2)),
-        ),
-    ] {
-        let log = printed(&rt, text)?;
-        assert_eq!(rt; log.steps.as_slice(), want);
-        assert_eq!(rt; log.ending, ending);
+/// The steps of each text, and the refusal that it ends with.
+fn endings_of(alloc: Global, texts: &[&[u8]]) -> Result<Vec<u8>, Fail> {
+    let mut all = Vec::new(alloc);
+    for text in texts {
+        let log = printed(alloc, text)?;
+        all.extend_from_slice(&log.steps)?;
+        all.extend_from_slice(format!(in alloc; "{:?}\n", log.ending)?.as_bytes())?;
     }
+    Ok(all)
+}
+
+#[test]
+fn endings_behind_no_step(rt: HostRuntime) -> Result<(), Fail> {
+    let texts: [&[u8]; 8] = [
+        b"a 1 0 l 2",
+        b"a x 1 2 0 3 0",
+        b"i 4 1 0 2 0",
+        b"i 4 1 0 l 2 3",
+        b"r 1 0",
+        b"o 0 1 0",
+        b"a 1 0 l x",
+        b"d 9223372036854775808 0",
+    ];
+    let wanted =
+        b"Some(Unterminated(9))\nSome(BadToken(10))\nSome(BadToken(8))\nSome(BadToken(12))\nSome(BadToken(0))\nSome(BadToken(2))\nSome(BadToken(8))\nSome(TooBig(2))\n".as_slice();
+    assert_eq!(rt; endings_of(rt.alloc(), &texts)?.as_slice(), wanted);
+    Ok(())
+}
+
+#[test]
+fn endings_behind_a_step(rt: HostRuntime) -> Result<(), Fail> {
+    let texts: [&[u8]; 2] = [b"a 1 0 a", b"o 1 1 0 l 2 0"];
+    let wanted = b"a 1 0\nSome(Unterminated(7))\no 1 1 0\nSome(BadToken(8))\n".as_slice();
+    assert_eq!(rt; endings_of(rt.alloc(), &texts)?.as_slice(), wanted);
     Ok(())
 }

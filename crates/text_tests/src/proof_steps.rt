@@ -9,94 +9,119 @@ use proof_text::{
     DeskProof, ListProof, ProofSink, ProofStep, ProofText, SinkFault, StepSource, TextRefusal,
     put_proof_step,
 };
+use std::alloc::Global;
 use std::test::Fail;
 
-/// The printed steps of a text of at most sixteen, and the refusal that it ends with.
-fn printed(rt: &HostRuntime, text: &[u8]) -> Result<(Vec<u8>, Option<TextRefusal>), Fail> {
+/// The printed steps of a text, and the refusal that it ends with.
+#[derive(Drop)]
+struct Written {
+    steps: Vec<u8>,
+    ending: Option<TextRefusal>,
+}
+
+/// At most sixteen steps of a text.
+fn printed(alloc: Global, text: &[u8]) -> Result<Written, Fail> {
     let rooms = Rooms {
         answer: 0,
         proof: 4096,
         message: 0,
     };
-    let mut desk = MemDesk::make(
-        rt.alloc(),
-        Vec::new(rt.alloc()),
-        rooms,
-        3,
-        Vec::new(rt.alloc()),
-    )?;
-    if text.len() > 4096 {
-        return Ok((Vec::new(rt.alloc()), None));
-    }
-    let mut source = ProofText::new(rt.alloc(), text);
+    let mut desk = MemDesk::make(alloc, Vec::new(alloc), rooms, 3, Vec::new(alloc))?;
     let mut ending = None;
-    for _ in 0..16 {
-        match source.next_step() {
-            Ok(Some(step)) => put_proof_step(&mut desk, Port::Proof, &step)?,
-            Ok(None) => break,
-            Err(refusal) => {
-                ending = Some(refusal);
-                break;
+    if text.len() <= 4096 {
+        let mut source = ProofText::new(alloc, text);
+        for _ in 0..16 {
+            match source.next_step() {
+                Ok(Some(step)) => put_proof_step(&mut desk, Port::Proof, &step)?,
+                Ok(None) => break,
+                Err(refusal) => {
+                    ending = Some(refusal);
+                    break;
+                }
             }
         }
     }
-    Ok((desk.written(Port::Proof).to_vec(rt.alloc())?, ending))
+    Ok(Written {
+        steps: desk.written(Port::Proof).to_vec(alloc)?,
+        ending,
+    })
+}
+
+/// Whether the line is the one step that it is read as.
+fn comes_back(alloc: Global, line: &[u8]) -> Result<bool, Fail> {
+    let proof = printed(alloc, line)?;
+    Ok(proof.steps.as_slice() == line && proof.ending.is_none())
+}
+
+/// How many of the lines come back, from the first on.
+fn lines_come_back(alloc: Global, lines: &[&[u8]]) -> Result<usize, Fail> {
+    for place in 0..lines.len() {
+        if !comes_back(alloc, lines[place])? {
+            return Ok(place);
+        }
+    }
+    Ok(lines.len())
 }
 
 #[test]
 fn printed_steps_are_the_steps_read(rt: HostRuntime) -> Result<(), Fail> {
-    for line in [
-        b"5 1 -2 0 3 -4 0\n".as_slice(),
-        b"6 0 0\n".as_slice(),
-        b"7 d 5 6 0\n".as_slice(),
-        b"x 4 1 -2 3 0 1 2 0\n".as_slice(),
-        b"x d 4 0\n".as_slice(),
-        b"i 8 -1 2 0 -9223372036854775807 0\n".as_slice(),
-        b"i x 9223372036854775807 1 2 0 7 8 0\n".as_slice(),
-    ] {
-        let (text, ending) = printed(&rt, line)?;
-        assert_eq!(rt; text.as_slice(), line);
-        assert_eq!(rt; ending, None);
+    let lines: [&[u8]; 7] = [
+        b"5 1 -2 0 3 -4 0\n",
+        b"6 0 0\n",
+        b"7 d 5 6 0\n",
+        b"x 4 1 -2 3 0 1 2 0\n",
+        b"x d 4 0\n",
+        b"i 8 -1 2 0 -9223372036854775807 0\n",
+        b"i x 9223372036854775807 1 2 0 7 8 0\n",
+    ];
+    assert_eq!(rt; lines_come_back(rt.alloc(), &lines)?, 7);
+    Ok(())
+}
+
+/// The steps of each text, and the refusal that it ends with.
+fn endings_of(alloc: Global, texts: &[&[u8]]) -> Result<Vec<u8>, Fail> {
+    let mut all = Vec::new(alloc);
+    for text in texts {
+        let proof = printed(alloc, text)?;
+        all.extend_from_slice(&proof.steps)?;
+        all.extend_from_slice(format!(in alloc; "{:?}\n", proof.ending)?.as_bytes())?;
     }
+    Ok(all)
+}
+
+#[test]
+fn endings_behind_no_step(rt: HostRuntime) -> Result<(), Fail> {
+    let texts: [&[u8]; 11] = [
+        b"5 a 0",
+        b"5 2 0 1\n",
+        b"9223372036854775808 0 1 0",
+        b"5 -9223372036854775808 0",
+        b"-9223372036854775808 0",
+        b"5 d -9 0",
+        b"i 5 1 0 2 3",
+        b"i 5 1 0 0",
+        b"0 1 0 1 0",
+        b"x i 1",
+        b"x5 0 1 0",
+    ];
+    let wanted =
+        b"Some(BadToken(2))\nSome(Unterminated(8))\nSome(TooBig(0))\nSome(TooBig(2))\nSome(BadToken(0))\nSome(BadToken(4))\nSome(BadToken(10))\nSome(BadToken(8))\nSome(BadToken(0))\nSome(BadToken(2))\nSome(BadToken(0))\n".as_slice();
+    assert_eq!(rt; endings_of(rt.alloc(), &texts)?.as_slice(), wanted);
     Ok(())
 }
 
 #[test]
-fn endings(rt: HostRuntime) -> Result<(), Fail> {
-    for (text, want, ending) in [
-        (b"".as_slice(), b"".as_slice(), None),
-        (b" \nc 1 a\n \t\n", b"", None),
-        (b"x 4 0 1 2 3 0", b"x 4 0 1 2 3 0\n", None),
-        (b"c first\n005 -0\nc 7\n -07 00\r\n", b"5 0 -7 0\n", None),
-        (b"5 a 0", b"", Some(TextRefusal::BadToken(2))),
-        (b"5 2 0 1\n", b"", Some(TextRefusal::Unterminated(8))),
-        (b"6 0 0\nx", b"6 0 0\n", Some(TextRefusal::Unterminated(7))),
-        (
-            b"9223372036854775808 0 1 0",
-            b"",
-            Some(TextRefusal::TooBig(0)),
-        ),
-        (
-            b"5 -9223372036854775808 0",
-            b"",
-            Some(TextRefusal::TooBig(2)),
-        ),
-        (
-            b"-9223372036854775808 0",
-            b"",
-            Some(TextRefusal::BadToken(0)),
-        ),
-        (b"5 d -9 0", b"", Some(TextRefusal::BadToken(4))),
-        (b"i 5 1 0 2 3", b"", Some(TextRefusal::BadToken(10))),
-        (b"i 5 1 0 0", b"", Some(TextRefusal::BadToken(8))),
-        (b"0 1 0 1 0", b"", Some(TextRefusal::BadToken(0))),
-        (b"x i 1", b"", Some(TextRefusal::BadToken(2))),
-        (b"x5 0 1 0", b"", Some(TextRefusal::BadToken(0))),
-    ] {
-        let (steps, end) = printed(&rt, text)?;
-        assert_eq!(rt; steps.as_slice(), want);
-        assert_eq!(rt; end, ending);
-    }
+fn endings_behind_steps(rt: HostRuntime) -> Result<(), Fail> {
+    let texts: [&[u8]; 5] = [
+        b"",
+        b" \nc 1 a\n \t\n",
+        b"x 4 0 1 2 3 0",
+        b"c first\n005 -0\nc 7\n -07 00\r\n",
+        b"6 0 0\nx",
+    ];
+    let wanted =
+        b"None\nNone\nx 4 0 1 2 3 0\nNone\n5 0 -7 0\nNone\n6 0 0\nSome(Unterminated(7))\n".as_slice();
+    assert_eq!(rt; endings_of(rt.alloc(), &texts)?.as_slice(), wanted);
     Ok(())
 }
 
