@@ -1,230 +1,126 @@
-//! Worked events, through the trait.
-ghost use Rattle.std.specs.Prelude.{◌≡◌, ◌≤◌, IfOk, IfSome, List, Option, not, true};
+//! Worked events: what is known act by act, and what followed, by which rows.
+ghost use Rattle.std.specs.Prelude.{◌≤◌};
 ghost use Rattle.std.specs.List.{AllByRecursion};
 ghost use Rattle.cx_base.specs.Problem.{AreWithin};
-ghost use Rattle.parity_engine.specs.declared.state.Mood.TheVariants.{Calm};
-ghost use Rattle.parity_engine.specs.State.{Named, assigned};
+ghost use Rattle.cx_base.specs.declared.literal.TheConstants.{MAX_VARIABLE};
 
-use crate::parities::{four_and_three, two_pairs};
-use cx_base::{IdList, LitList, ParityList, Var};
+use crate::driven::{Act, Told, trace_of};
+use crate::parities::{parities_of, yes};
+use cx_base::{Lit, ParityList};
 use gauss_incremental::Incremental;
 use gauss_jordan::Scratch;
-use parity_engine::{ParityEngine, ParityEvent};
+use parity_engine::ParityEngine;
 use std::alloc::{AllocError, Global};
+use std::process::Abort;
 use std::test::Fail;
 
-/// Whether nothing follows.
-fn is_quiet<P: ParityEngine>(engine: &mut P) -> bool
-    ensures { result ≡ true → P.state engine.new ≡ record (P.state engine.old) { mood = Calm } }
-{
-    matches!(engine.next_event(), ParityEvent::Quiet)
+/// The variable, with a minus for a negative literal.
+fn integer(lit: Lit) -> i64 {
+    let number = i64::from(lit.var().number());
+    if lit.is_negative() { -number } else { number }
 }
 
-/// Whether the next event implies the literal, which is then assigned.
-fn follows<P: ParityEngine>(engine: &mut P, variable: u32, negative: bool) -> bool
-    ensures { result ≡ true → (ns : List (Option Named)) × (P.state engine.new ≡ record (assigned (P.state engine.old) variable (not negative)) { named = ns }) }
-{
-    match engine.next_event() {
-        ParityEvent::Implied(lit, _) => {
-            let told = lit.var().number() == variable && lit.is_negative() == negative;
-            if told {
-                engine.assign(lit.var(), !negative);
-            }
-            told
-        }
-        ParityEvent::Quiet | ParityEvent::Conflict(_) => false,
+fn integers(alloc: Global, lits: &[Lit]) -> Result<Vec<i64>, AllocError> {
+    let mut integers = Vec::new(alloc);
+    for lit in lits {
+        integers.push(integer(*lit))?;
     }
+    Ok(integers)
 }
 
-/// Whether the literals of the two variables follow from variable 1 in this order, and nothing else, and
-/// nothing is left when the level is taken back.
-fn pairs_follow<P: ParityEngine + Drop>(
+/// A literal that followed, its row and the row's sources.
+fn line(alloc: Global, told: &Told) -> Result<String, AllocError> {
+    let parity = integers(alloc, told.parity.as_slice())?;
+    format!(in alloc;
+        "{} {:?} {:?}\n",
+        integer(told.literal),
+        parity.as_slice(),
+        told.sources.as_slice()
+    )
+}
+
+/// What is known before each act and behind the last one, and then what followed.
+fn story<P: ParityEngine + Drop>(
     alloc: Global,
+    vars: u32,
     parities: &ParityList,
-    first: u32,
-    second: u32,
-) -> Result<bool, AllocError>
-    requires { AllByRecursion (AreWithin 3) parities.now }
+    acts: &[Act],
+) -> Result<String, AllocError>
+    requires few { vars ≤ MAX_VARIABLE }
+    requires within { AllByRecursion (AreWithin vars) parities.now }
 {
-    let mut engine = P::make(alloc, 3, parities)?;
-    if !is_quiet(&mut engine) {
-        return Ok(false);
+    let mut told = Vec::new(alloc);
+    let mut text = trace_of::<P>(alloc, vars, parities, acts, &mut told)?;
+    for each in &told {
+        text.push_str(line(alloc, each)?.as_str())?;
     }
-    engine.push_level();
-    engine.assign(Var::new(1), true);
-    if !follows(&mut engine, first, first == 2) || !follows(&mut engine, second, second == 2) {
-        return Ok(false);
-    }
-    if !is_quiet(&mut engine) {
-        return Ok(false);
-    }
-    engine.back_to(0);
-    Ok(is_quiet(&mut engine))
+    Ok(text)
 }
 
-/// Whether variables 1 and 2 imply that 5 is false; above that 3 that 4 is false, and behind a backjump 4 that
-/// 3 is false.
-fn levels_follow<P: ParityEngine + Drop>(
+/// Both engines know this and tell this.
+fn assert_story(
+    rt: &impl Abort,
     alloc: Global,
+    vars: u32,
     parities: &ParityList,
-) -> Result<bool, AllocError>
-    requires { AllByRecursion (AreWithin 5) parities.now }
+    acts: &[Act],
+    wanted: &str,
+) -> Result<(), Fail>
+    requires few { vars ≤ MAX_VARIABLE }
+    requires within { AllByRecursion (AreWithin vars) parities.now }
 {
-    let mut engine = P::make(alloc, 5, parities)?;
-    if !is_quiet(&mut engine) {
-        return Ok(false);
-    }
-    engine.push_level();
-    engine.assign(Var::new(1), true);
-    if !is_quiet(&mut engine) {
-        return Ok(false);
-    }
-    engine.assign(Var::new(2), true);
-    if !follows(&mut engine, 5, true) || !is_quiet(&mut engine) {
-        return Ok(false);
-    }
-    engine.push_level();
-    engine.assign(Var::new(3), true);
-    if !follows(&mut engine, 4, true) {
-        return Ok(false);
-    }
-    engine.back_to(1);
-    if !is_quiet(&mut engine) {
-        return Ok(false);
-    }
-    engine.push_level();
-    engine.assign(Var::new(4), true);
-    Ok(follows(&mut engine, 3, true) && is_quiet(&mut engine))
-}
-
-/// The same up to variable 5, and then whether 5 and 4 imply 3, and with 1 that 2 is false.
-fn late_rows_follow<P: ParityEngine + Drop>(
-    alloc: Global,
-    parities: &ParityList,
-) -> Result<bool, AllocError>
-    requires { AllByRecursion (AreWithin 5) parities.now }
-{
-    let mut engine = P::make(alloc, 5, parities)?;
-    if !is_quiet(&mut engine) {
-        return Ok(false);
-    }
-    engine.push_level();
-    engine.assign(Var::new(1), true);
-    if !is_quiet(&mut engine) {
-        return Ok(false);
-    }
-    engine.assign(Var::new(2), true);
-    if !follows(&mut engine, 5, true) || !is_quiet(&mut engine) {
-        return Ok(false);
-    }
-    engine.back_to(0);
-    engine.push_level();
-    engine.assign(Var::new(5), true);
-    if !is_quiet(&mut engine) {
-        return Ok(false);
-    }
-    engine.assign(Var::new(4), true);
-    if !follows(&mut engine, 3, false) || !is_quiet(&mut engine) {
-        return Ok(false);
-    }
-    engine.assign(Var::new(1), true);
-    Ok(follows(&mut engine, 2, true) && is_quiet(&mut engine))
-}
-
-/// An implied literal, with its row.
-#[derive(Drop)]
-struct Told {
-    variable: u32,
-    negative: bool,
-    parity: LitList,
-    sources: IdList,
-}
-
-/// Takes one event, and assigns the literal that it implies.
-fn follow<P: ParityEngine>(engine: &mut P) -> Result<Option<Told>, AllocError>
-    ensures { IfOk result (λ o. IfSome o (λ _. (P.state engine.new).level ≡ (P.state engine.old).level)) }
-{
-    match engine.next_event() {
-        ParityEvent::Implied(lit, row) => {
-            let parity = engine.row_parity(row)?;
-            let sources = engine.row_sources(row)?;
-            engine.assign(lit.var(), !lit.is_negative());
-            Ok(Some(Told {
-                variable: lit.var().number(),
-                negative: lit.is_negative(),
-                parity,
-                sources,
-            }))
-        }
-        ParityEvent::Quiet | ParityEvent::Conflict(_) => Ok(None),
-    }
-}
-
-/// The rows of the two literals that follow from variable 1, and whether all is quiet before and behind a backjump.
-fn rows_from_one<P: ParityEngine + Drop>(
-    alloc: Global,
-    parities: &ParityList,
-    rows: &mut Vec<Told>,
-) -> Result<bool, AllocError>
-    requires { AllByRecursion (AreWithin 3) parities.now }
-{
-    let mut engine = P::make(alloc, 3, parities)?;
-    if !is_quiet(&mut engine) {
-        return Ok(false);
-    }
-    engine.push_level();
-    engine.assign(Var::new(1), true);
-    let Some(first) = follow(&mut engine)? else {
-        return Ok(false);
-    };
-    let Some(second) = follow(&mut engine)? else {
-        return Ok(false);
-    };
-    rows.push(first)?;
-    rows.push(second)?;
-    if !is_quiet(&mut engine) {
-        return Ok(false);
-    }
-    engine.back_to(0);
-    Ok(is_quiet(&mut engine))
+    let scratch = story::<Scratch>(alloc, vars, parities, acts)?;
+    assert_eq!(rt; scratch.as_str(), wanted);
+    let incremental = story::<Incremental>(alloc, vars, parities, acts)?;
+    assert_eq!(rt; incremental.as_str(), wanted);
+    Ok(())
 }
 
 #[test]
 fn literals_follow_as_they_come(rt: HostRuntime) -> Result<(), Fail> {
-    let parities = two_pairs(rt.alloc())?;
-    assert!(rt; pairs_follow::<Incremental>(rt.alloc(), &parities, 3, 2)?);
-    assert!(rt; pairs_follow::<Scratch>(rt.alloc(), &parities, 3, 2)?);
-    Ok(())
+    let alloc = rt.alloc();
+    let parities = parities_of(alloc, 3, &[&[1, 2], &[2, 3]])?;
+    let acts = [Act::Open, Act::Set(yes(1)), Act::Back(0)];
+    let wanted = "...\n...\n+-+\n...\n3 [-1, 3] [1, 2]\n-2 [1, 2] [1]\n";
+    assert_story(&rt, alloc, 3, &parities, &acts, wanted)
 }
 
 #[test]
 fn levels_come_and_go(rt: HostRuntime) -> Result<(), Fail> {
-    let parities = four_and_three(rt.alloc())?;
-    assert!(rt; levels_follow::<Incremental>(rt.alloc(), &parities)?);
-    assert!(rt; levels_follow::<Scratch>(rt.alloc(), &parities)?);
-    assert!(rt; late_rows_follow::<Incremental>(rt.alloc(), &parities)?);
-    assert!(rt; late_rows_follow::<Scratch>(rt.alloc(), &parities)?);
-    Ok(())
-}
-
-/// Whether the row implies the variable, is a parity of two literals, and is the sum of these parities.
-fn is_row(told: &Told, variable: u32, negative: bool, sources: &[u64]) -> bool {
-    told.variable == variable
-        && told.negative == negative
-        && told.sources.as_slice() == sources
-        && told.parity.as_slice().len() == 2
+    let alloc = rt.alloc();
+    let parities = parities_of(alloc, 5, &[&[1, 2, 3, 4], &[3, 4, 5]])?;
+    let acts = [
+        Act::Open,
+        Act::Set(yes(1)),
+        Act::Set(yes(2)),
+        Act::Open,
+        Act::Set(yes(3)),
+        Act::Back(1),
+        Act::Open,
+        Act::Set(yes(4)),
+    ];
+    let known = ".....\n.....\n+....\n++..-\n++..-\n+++--\n++..-\n++..-\n++-+-\n";
+    let rows = "-5 [-1, 2, 5] [1, 2]\n-4 [1, 2, 3, 4] [1]\n-3 [1, 2, 3, 4] [1]\n";
+    let wanted = format!(in alloc; "{known}{rows}")?;
+    assert_story(&rt, alloc, 5, &parities, &acts, &wanted)
 }
 
 #[test]
-fn rows_are_sums(rt: HostRuntime) -> Result<(), Fail> {
-    let parities = two_pairs(rt.alloc())?;
-    let mut rows = Vec::new(rt.alloc());
-    assert!(rt; rows_from_one::<Scratch>(rt.alloc(), &parities, &mut rows)?);
-    assert!(rt; rows_from_one::<Incremental>(rt.alloc(), &parities, &mut rows)?);
-    assert_eq!(rt; rows.len(), 4);
-    assert!(rt; is_row(&rows[0], 3, false, &[1, 2]));
-    assert!(rt; is_row(&rows[1], 2, true, &[1]));
-    assert!(rt; is_row(&rows[2], 3, false, &[1, 2]));
-    assert!(rt; is_row(&rows[3], 2, true, &[1]));
-    Ok(())
+fn rows_follow_late(rt: HostRuntime) -> Result<(), Fail> {
+    let alloc = rt.alloc();
+    let parities = parities_of(alloc, 5, &[&[1, 2, 3, 4], &[3, 4, 5]])?;
+    let acts = [
+        Act::Open,
+        Act::Set(yes(1)),
+        Act::Set(yes(2)),
+        Act::Back(0),
+        Act::Open,
+        Act::Set(yes(5)),
+        Act::Set(yes(4)),
+        Act::Set(yes(1)),
+    ];
+    let known = ".....\n.....\n+....\n++..-\n.....\n.....\n....+\n..+++\n+-+++\n";
+    let rows = "-5 [-1, 2, 5] [1, 2]\n3 [3, 4, 5] [2]\n-2 [-1, 2, 5] [1, 2]\n";
+    let wanted = format!(in alloc; "{known}{rows}")?;
+    assert_story(&rt, alloc, 5, &parities, &acts, &wanted)
 }

@@ -5,6 +5,8 @@
 #[cfg(test)]
 mod agreement;
 #[cfg(test)]
+mod driven;
+#[cfg(test)]
 mod events;
 #[cfg(test)]
 mod parities;

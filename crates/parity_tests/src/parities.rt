@@ -16,23 +16,42 @@ pub(crate) fn yes(number: u32) -> Lit
     Lit::new(Var::new(number), false)
 }
 
-/// The parities of variables 1 and 2, and 2 and 3.
-pub(crate) fn two_pairs(alloc: Global) -> Result<ParityList, AllocError>
-    ensures { IfOk result (AllByRecursion (AreWithin 3)) }
+/// The variable of this number, or the nearest one of so many.
+fn nearest(number: u32, vars: u32) -> u32
+    requires { 1 ≤ vars }
+    ensures low { 1 ≤ result }
+    ensures high { result ≤ vars }
 {
-    let first = vec![in alloc; yes(1), yes(2)]?;
-    let second = vec![in alloc; yes(2), yes(3)]?;
-    let lists = vec![in alloc; LitList::from_vec(first), LitList::from_vec(second)]?;
-    Ok(ParityList::from_vec(lists))
+    number.max(1).min(vars)
 }
 
-/// The parities of variables 1 to 4, and 3 to 5.
-pub(crate) fn four_and_three(alloc: Global) -> Result<ParityList, AllocError>
-    ensures { IfOk result (AllByRecursion (AreWithin 5)) }
+/// The parity of the positive literals of variables, each one of so many.
+pub(crate) fn parity_of(alloc: Global, vars: u32, variables: &[u32]) -> Result<LitList, AllocError>
+    requires low { 1 ≤ vars }
+    requires high { vars ≤ MAX_VARIABLE }
+    ensures { IfOk result (AreWithin vars) }
 {
-    let first = vec![in alloc; yes(1), yes(2), yes(3), yes(4)]?;
-    let second = vec![in alloc; yes(3), yes(4), yes(5)]?;
-    let lists = vec![in alloc; LitList::from_vec(first), LitList::from_vec(second)]?;
+    let mut lits = Vec::new(alloc);
+    for variable in variables {
+        lits.push(yes(nearest(*variable, vars)))?;
+    }
+    Ok(LitList::from_vec(lits))
+}
+
+/// The parities of the positive literals of variables, each one of so many.
+pub(crate) fn parities_of(
+    alloc: Global,
+    vars: u32,
+    parities: &[&[u32]],
+) -> Result<ParityList, AllocError>
+    requires low { 1 ≤ vars }
+    requires high { vars ≤ MAX_VARIABLE }
+    ensures { IfOk result (AllByRecursion (AreWithin vars)) }
+{
+    let mut lists = Vec::new(alloc);
+    for parity in parities {
+        lists.push(parity_of(alloc, vars, parity)?)?;
+    }
     Ok(ParityList::from_vec(lists))
 }
 

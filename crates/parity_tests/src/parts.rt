@@ -1,199 +1,185 @@
 //! Matrices with several parts, and where a part begins inside a word.
-ghost use Rattle.std.specs.Prelude.{◌≡◌, ◌<◌, ◌≤◌, ◌∷◌, [], IfOk, IsTrue, false, length};
-ghost use Rattle.std.specs.List.{AllByRecursion};
-ghost use Rattle.cx_base.specs.Problem.{AreWithin};
+ghost use Rattle.std.specs.Prelude.{◌<◌, length};
 
-use cx_base::{Lit, LitList, ParityList, Var};
+use crate::parities::parities_of;
+use cx_base::Var;
 use gf2_matrix::{Matrix, clear_words};
 use std::alloc::{AllocError, Global};
-use std::process::Abort;
 use std::test::Fail;
 
-/// Whether each literal is of one of the variables.
-fn are_within(vars: u32, lits: &[Lit]) -> bool
-    ensures { IsTrue result → AreWithin vars lits.now }
-{
-    for lit in lits {
-        if lit.var().number() > vars {
-            return false;
+/// The column of a variable, or the number of columns; none of what is no variable.
+fn place_of(matrix: &Matrix, variable: u32) -> Option<usize> {
+    if variable == 0 || variable > matrix.vars() {
+        return None;
+    }
+    Some(matrix.place_of(Var::new(variable)))
+}
+
+/// The column of each variable, or the number of columns, from the first one on.
+fn places(alloc: Global, matrix: &Matrix) -> Result<Vec<usize>, AllocError> {
+    let mut places = Vec::new(alloc);
+    for variable in 1..=matrix.vars() {
+        if let Some(place) = place_of(matrix, variable) {
+            places.push(place)?;
         }
     }
-    true
+    Ok(places)
 }
 
-/// Whether each parity has only these variables.
-fn all_within(vars: u32, parities: &[LitList]) -> bool
-    ensures { IsTrue result → AllByRecursion (AreWithin vars) parities.now }
-{
-    for parity in parities {
-        if !are_within(vars, parity.as_slice()) {
-            return false;
-        }
-    }
-    true
+/// The variables of the columns, and the column of each variable.
+fn columns(alloc: Global, matrix: &Matrix) -> Result<String, AllocError> {
+    let places = places(alloc, matrix)?;
+    format!(in alloc; "{:?} {:?}", matrix.variables(), places.as_slice())
 }
 
-/// The parity of the variables, all positive.
-fn parity(alloc: Global, variables: &[u32]) -> Result<LitList, AllocError> {
-    let mut lits = Vec::new(alloc);
-    for variable in variables {
-        lits.push(Lit::new(Var::new((*variable).max(1).min(1000)), false))?;
-    }
-    Ok(LitList::from_vec(lits))
-}
-
-/// The matrix of the parities.
-fn matrix_of(
-    rt: &impl Abort,
-    alloc: Global,
-    vars: u32,
-    parities: Vec<LitList>,
-) -> Result<Matrix, Fail> {
-    let parities = ParityList::from_vec(parities);
-    assert!(rt; vars <= 1000);
-    assert!(rt; all_within(vars, parities.as_slice()));
-    Ok(Matrix::make(alloc, vars, &parities)?)
-}
-
-/// The numbers of the rows of a row's part.
-fn peers_of<'a>(rt: &impl Abort, matrix: &'a Matrix, row: usize) -> &'a [u32] {
-    assert!(rt; row < matrix.rows());
-    matrix.peers(row)
-}
-
-/// The first column of a row's part, and how many it has.
-fn span_of(rt: &impl Abort, matrix: &Matrix, row: usize) -> (usize, usize) {
-    assert!(rt; row < matrix.rows());
-    matrix.span(row)
-}
-
-/// The variables of a row, rising.
-fn variables_of(
-    rt: &impl Abort,
+/// The first column of the row that is not the one to skip.
+fn first_but(
     alloc: Global,
     matrix: &Matrix,
     row: usize,
-) -> Result<Vec<u32>, Fail> {
-    assert!(rt; row < matrix.rows());
-    let view = matrix.row_view(row);
+    skip: Option<usize>,
+) -> Result<Option<usize>, AllocError>
+    requires { row < length matrix.now.rows }
+{
+    let nothing = clear_words(alloc, matrix.columns())?;
+    Ok(matrix.first_outside(row, &nothing, skip))
+}
+
+/// The row's peers, the columns of its part, and its first two columns.
+fn place_line(alloc: Global, matrix: &Matrix, row: usize) -> Result<String, AllocError>
+    requires { row < length matrix.now.rows }
+{
+    let first = first_but(alloc, matrix, row, None)?;
+    let second = first_but(alloc, matrix, row, first)?;
+    let (low, count) = matrix.span(row);
+    format!(in alloc;
+        "{:?} {low} {count} {:?} {:?}\n",
+        matrix.peers(row),
+        first,
+        second
+    )
+}
+
+/// Where each row has its place.
+fn layout(alloc: Global, matrix: &Matrix) -> Result<String, AllocError> {
+    let mut text = String::new(alloc);
+    for row in 0..matrix.rows() {
+        text.push_str(place_line(alloc, matrix, row)?.as_str())?;
+    }
+    Ok(text)
+}
+
+/// Whether the row has a variable of this number.
+fn has(matrix: &Matrix, row: usize, variable: u32) -> bool
+    requires { row < length matrix.now.rows }
+{
+    if variable == 0 || variable > matrix.vars() {
+        return false;
+    }
+    matrix.row_view(row).has(Var::new(variable))
+}
+
+/// The variables of a row, rising.
+fn variables_of(alloc: Global, matrix: &Matrix, row: usize) -> Result<Vec<u32>, AllocError>
+    requires { row < length matrix.now.rows }
+{
     let mut variables = Vec::new(alloc);
-    for before in 0..matrix.vars() {
-        if view.has(Var::new(before + 1)) {
-            variables.push(before + 1)?;
+    for variable in 1..=matrix.vars() {
+        if has(matrix, row, variable) {
+            variables.push(variable)?;
         }
     }
     Ok(variables)
 }
 
-/// The row has these variables, this right side and these sources.
-fn assert_row(
-    rt: &impl Abort,
-    alloc: Global,
-    matrix: &Matrix,
-    row: usize,
-    variables: &[u32],
-    right: bool,
-    sources: &[u64],
-) -> Result<(), Fail> {
-    assert!(rt; row < matrix.rows());
-    let found = variables_of(rt, alloc, matrix, row)?;
-    assert_eq!(rt; found.as_slice(), variables, "variables of row {row}");
-    assert_eq!(rt; matrix.row_right(row), right, "right side of row {row}");
-    let found = matrix.row_sources(alloc, row)?;
-    assert_eq!(rt; found.as_slice(), sources, "sources of row {row}");
-    Ok(())
+/// The row's variables, its right side and its sources.
+fn row_line(alloc: Global, matrix: &Matrix, row: usize) -> Result<String, AllocError>
+    requires { row < length matrix.now.rows }
+{
+    let variables = variables_of(alloc, matrix, row)?;
+    let sources = matrix.row_sources(alloc, row)?;
+    format!(in alloc;
+        "{:?} {} {:?}\n",
+        variables.as_slice(),
+        matrix.row_right(row),
+        sources.as_slice()
+    )
 }
 
-/// The first column of the row that is not the one to skip.
-fn first_but(
-    rt: &impl Abort,
-    alloc: Global,
-    matrix: &Matrix,
-    row: usize,
-    skip: Option<usize>,
-) -> Result<Option<usize>, Fail> {
-    assert!(rt; row < matrix.rows());
-    let mask = clear_words(alloc, matrix.columns())?;
-    Ok(matrix.first_outside(row, &mask, skip))
-}
-
-/// The column of a variable.
-fn place_of(rt: &impl Abort, matrix: &Matrix, variable: u32) -> usize {
-    assert!(rt; 1 <= variable && variable <= matrix.vars());
-    matrix.place_of(Var::new(variable))
+/// Each row of the matrix.
+pub(crate) fn rows(alloc: Global, matrix: &Matrix) -> Result<String, AllocError> {
+    let mut text = String::new(alloc);
+    for row in 0..matrix.rows() {
+        text.push_str(row_line(alloc, matrix, row)?.as_str())?;
+    }
+    Ok(text)
 }
 
 #[test]
 fn parts_that_share_no_variable_stand_apart(rt: HostRuntime) -> Result<(), Fail> {
     let alloc = rt.alloc();
-    let lists = vec![in alloc; parity(alloc, &[1, 3])?, parity(alloc, &[2, 4])?]?;
-    let mut matrix = matrix_of(&rt, alloc, 5, lists)?;
-    assert_eq!(rt; matrix.variables(), [1, 3, 2, 4].as_slice());
-    assert_eq!(rt; place_of(&rt, &matrix, 2), 2);
-    assert_eq!(rt; place_of(&rt, &matrix, 5), 4);
-    assert_eq!(rt; peers_of(&rt, &matrix, 0), [1].as_slice());
-    assert_eq!(rt; peers_of(&rt, &matrix, 1), [2].as_slice());
-    assert_eq!(rt; span_of(&rt, &matrix, 1), (2, 2));
-    assert_eq!(rt; first_but(&rt, alloc, &matrix, 1, None)?, Some(2));
-    assert_eq!(rt; first_but(&rt, alloc, &matrix, 1, Some(2))?, Some(3));
+    let parities = parities_of(alloc, 5, &[&[1, 3], &[2, 4]])?;
+    let mut matrix = Matrix::make(alloc, 5, &parities)?;
+    assert_eq!(rt;
+        columns(alloc, &matrix)?.as_str(),
+        "[1, 3, 2, 4] [0, 2, 1, 3, 4]"
+    );
+    let wanted = "[1] 0 2 Some(0) Some(1)\n[2] 2 2 Some(2) Some(3)\n";
+    assert_eq!(rt; layout(alloc, &matrix)?.as_str(), wanted);
     matrix.reduce();
-    assert_row(&rt, alloc, &matrix, 0, &[1, 3], true, &[1])?;
-    assert_row(&rt, alloc, &matrix, 1, &[2, 4], true, &[2])
+    assert_eq!(rt;
+        rows(alloc, &matrix)?.as_str(),
+        "[1, 3] true [1]\n[2, 4] true [2]\n"
+    );
+    Ok(())
 }
 
 #[test]
 fn a_parity_joins_two_parts(rt: HostRuntime) -> Result<(), Fail> {
     let alloc = rt.alloc();
-    let lists = vec![in alloc;
-        parity(alloc, &[1, 2])?,
-        parity(alloc, &[3, 4])?,
-        parity(alloc, &[2, 3])?,
-        parity(alloc, &[5, 6])?,
-    ]?;
-    let mut matrix = matrix_of(&rt, alloc, 6, lists)?;
-    assert_eq!(rt; peers_of(&rt, &matrix, 0), [1, 2, 3].as_slice());
-    assert_eq!(rt; peers_of(&rt, &matrix, 3), [4].as_slice());
-    assert_eq!(rt; span_of(&rt, &matrix, 2), (0, 4));
+    let parities = parities_of(alloc, 6, &[&[1, 2], &[3, 4], &[2, 3], &[5, 6]])?;
+    let mut matrix = Matrix::make(alloc, 6, &parities)?;
+    let joined =
+        "[1, 2, 3] 0 4 Some(0) Some(1)\n[1, 2, 3] 0 4 Some(2) Some(3)\n[1, 2, 3] 0 4 Some(1) Some(2)\n";
+    let wanted = format!(in alloc; "{joined}[4] 4 2 Some(4) Some(5)\n")?;
+    assert_eq!(rt; layout(alloc, &matrix)?.as_str(), wanted.as_str());
     matrix.reduce();
-    assert_row(&rt, alloc, &matrix, 0, &[1, 4], true, &[1, 2, 3])?;
-    assert_row(&rt, alloc, &matrix, 1, &[3, 4], true, &[2])?;
-    assert_row(&rt, alloc, &matrix, 2, &[2, 4], false, &[2, 3])?;
-    assert_row(&rt, alloc, &matrix, 3, &[5, 6], true, &[4])
+    let wanted = "[1, 4] true [1, 2, 3]\n[3, 4] true [2]\n[2, 4] false [2, 3]\n[5, 6] true [4]\n";
+    assert_eq!(rt; rows(alloc, &matrix)?.as_str(), wanted);
+    Ok(())
 }
 
 #[test]
 fn a_parity_whose_variables_cancel_has_no_column(rt: HostRuntime) -> Result<(), Fail> {
     let alloc = rt.alloc();
-    let lists = vec![in alloc;
-        parity(alloc, &[1, 2, 1, 2])?,
-        parity(alloc, &[2, 3])?,
-        parity(alloc, &[])?,
-    ]?;
-    let mut matrix = matrix_of(&rt, alloc, 3, lists)?;
-    assert_eq!(rt; matrix.variables(), [2, 3].as_slice());
-    assert_eq!(rt; place_of(&rt, &matrix, 1), 2);
+    let parities = parities_of(alloc, 3, &[&[1, 2, 1, 2], &[2, 3], &[]])?;
+    let mut matrix = Matrix::make(alloc, 3, &parities)?;
+    assert_eq!(rt; columns(alloc, &matrix)?.as_str(), "[2, 3] [2, 0, 1]");
     matrix.reduce();
-    assert_row(&rt, alloc, &matrix, 0, &[], true, &[1])?;
-    assert_row(&rt, alloc, &matrix, 1, &[2, 3], true, &[2])?;
-    assert_row(&rt, alloc, &matrix, 2, &[], true, &[3])?;
-    assert_eq!(rt; first_but(&rt, alloc, &matrix, 0, None)?, None);
+    assert_eq!(rt;
+        rows(alloc, &matrix)?.as_str(),
+        "[] true [1]\n[2, 3] true [2]\n[] true [3]\n"
+    );
+    let empty = "[1, 2, 3] 0 2 None None\n";
+    let wanted = format!(in alloc; "{empty}[1, 2, 3] 0 2 Some(0) Some(1)\n{empty}")?;
+    assert_eq!(rt; layout(alloc, &matrix)?.as_str(), wanted.as_str());
     Ok(())
 }
 
 #[test]
 fn a_matrix_without_a_column(rt: HostRuntime) -> Result<(), Fail> {
     let alloc = rt.alloc();
-    let lists = vec![in alloc; parity(alloc, &[])?]?;
-    let mut matrix = matrix_of(&rt, alloc, 2, lists)?;
+    let mut matrix = Matrix::make(alloc, 2, &parities_of(alloc, 2, &[&[]])?)?;
     matrix.reduce();
     assert_eq!(rt; matrix.columns(), 0);
-    assert_row(&rt, alloc, &matrix, 0, &[], true, &[1])
+    assert_eq!(rt; rows(alloc, &matrix)?.as_str(), "[] true [1]\n");
+    Ok(())
 }
 
-/// The numbers from `low` up to below `high`.
-fn numbers(alloc: Global, low: u32, high: u32) -> Result<Vec<u32>, AllocError> {
+/// The numbers from 1 up to 63.
+fn long_row(alloc: Global) -> Result<Vec<u32>, AllocError> {
     let mut numbers = Vec::new(alloc);
-    for number in low..high {
+    for number in 1..64 {
         numbers.push(number)?;
     }
     Ok(numbers)
@@ -202,20 +188,17 @@ fn numbers(alloc: Global, low: u32, high: u32) -> Result<Vec<u32>, AllocError> {
 #[test]
 fn a_part_lies_across_two_words(rt: HostRuntime) -> Result<(), Fail> {
     let alloc = rt.alloc();
-    let long = numbers(alloc, 1, 64)?;
-    let lists = vec![in alloc;
-        parity(alloc, &long)?,
-        parity(alloc, &[64, 65, 66])?,
-        parity(alloc, &[65, 66, 67])?,
-    ]?;
-    let mut matrix = matrix_of(&rt, alloc, 67, lists)?;
-    assert_eq!(rt; span_of(&rt, &matrix, 0), (0, 63));
-    assert_eq!(rt; span_of(&rt, &matrix, 1), (63, 4));
-    assert_eq!(rt; first_but(&rt, alloc, &matrix, 1, None)?, Some(63));
-    assert_eq!(rt; first_but(&rt, alloc, &matrix, 1, Some(63))?, Some(64));
-    assert_eq!(rt; first_but(&rt, alloc, &matrix, 2, Some(64))?, Some(65));
+    let long = long_row(alloc)?;
+    let parities = parities_of(alloc, 67, &[&long, &[64, 65, 66], &[65, 66, 67]])?;
+    let mut matrix = Matrix::make(alloc, 67, &parities)?;
+    let wanted =
+        "[1] 0 63 Some(0) Some(1)\n[2, 3] 63 4 Some(63) Some(64)\n[2, 3] 63 4 Some(64) Some(65)\n";
+    assert_eq!(rt; layout(alloc, &matrix)?.as_str(), wanted);
     matrix.reduce();
-    assert_row(&rt, alloc, &matrix, 0, &long, true, &[1])?;
-    assert_row(&rt, alloc, &matrix, 1, &[64, 67], false, &[2, 3])?;
-    assert_row(&rt, alloc, &matrix, 2, &[65, 66, 67], true, &[3])
+    let wanted = format!(in alloc;
+        "{:?} true [1]\n[64, 67] false [2, 3]\n[65, 66, 67] true [3]\n",
+        long.as_slice()
+    )?;
+    assert_eq!(rt; rows(alloc, &matrix)?.as_str(), wanted.as_str());
+    Ok(())
 }

@@ -1,12 +1,12 @@
 //! A worked reason, from an engine's event.
-ghost use Rattle.std.specs.Prelude.{◌≡◌, ◌≤◌, ◌∷◌, [], false, IfOk, IsTrue};
+ghost use Rattle.std.specs.Prelude.{◌≤◌, IsTrue};
 ghost use Rattle.std.specs.List.{AllByRecursion};
 ghost use Rattle.cx_base.specs.Problem.{AreWithin};
 ghost use Rattle.cx_trail.specs.Sequence.{IsOpenIn};
 ghost use Rattle.xor_reason.specs.Laws.{StandsOn};
 
-use crate::parities::yes;
-use cx_base::{Lit, LitList, ParityList, Row, Var};
+use crate::parities::{parities_of, yes};
+use cx_base::{Lit, ParityList, Row, Var};
 use cx_trail::{Reason, Trail};
 use gauss_incremental::Incremental;
 use gauss_jordan::Scratch;
@@ -14,14 +14,6 @@ use parity_engine::{ParityEngine, ParityEvent};
 use std::alloc::{AllocError, Global};
 use std::test::Fail;
 use xor_reason::{ReasonOf, reason_clause};
-
-/// The parity of the positive literals of variables 1 to 3.
-fn triple(alloc: Global) -> Result<LitList, AllocError>
-    ensures { IfOk result (AreWithin 3) }
-{
-    let lits = vec![in alloc; yes(1), yes(2), yes(3)]?;
-    Ok(LitList::from_vec(lits))
-}
 
 /// Whether the trail can take the variable.
 fn is_open(trail: &Trail, variable: Var) -> bool
@@ -95,7 +87,7 @@ fn is_triple(reason: &ReasonOf) -> bool {
 #[test]
 fn two_of_three_are_false(rt: HostRuntime) -> Result<(), Fail> {
     let alloc = rt.alloc();
-    let parities = ParityList::from_vec(vec![in alloc; triple(alloc)?]?);
+    let parities = parities_of(alloc, 3, &[&[1, 2, 3]])?;
     let reason = reason_from_two::<Scratch>(alloc, &parities)?.expect(&rt, "a reason");
     assert!(rt; is_triple(&reason));
     let reason = reason_from_two::<Incremental>(alloc, &parities)?.expect(&rt, "a reason");

@@ -1,10 +1,11 @@
 //! The kernels beside their plain loops, and worked rows.
 use gf2_rows::{add_into, first_outside, ones, parity_and, plain};
+use std::alloc::{AllocError, Global};
 use std::test::Fail;
 
 /// A row of words without a pattern.
-fn row_of(rt: &HostRuntime, len: usize, seed: u64) -> Result<Vec<u64>, Fail> {
-    let mut row = Vec::new(rt.alloc());
+fn row_of(alloc: Global, len: usize, seed: u64) -> Result<Vec<u64>, AllocError> {
+    let mut row = Vec::new(alloc);
     let mut word = seed;
     for _ in 0..len {
         word = word
@@ -15,31 +16,46 @@ fn row_of(rt: &HostRuntime, len: usize, seed: u64) -> Result<Vec<u64>, Fail> {
     Ok(row)
 }
 
+/// Whether both kernels find the same.
+fn find_the_same(row: &[u64], mask: &[u64], skip: Option<u64>) -> bool {
+    row.len() == mask.len()
+        && row.len() < 100
+        && first_outside(row, mask, skip) == plain::first_outside(row, mask, skip)
+}
+
+/// Whether both kernels give the same product.
+fn multiply_the_same(a: &[u64], b: &[u64]) -> bool {
+    a.len() == b.len() && parity_and(a, b) == plain::parity_and(a, b)
+}
+
+/// Whether both kernels give the same sum.
+fn add_the_same(alloc: Global, a: &[u64], b: &[u64]) -> Result<bool, AllocError> {
+    let mut sum = Vec::from_slice(alloc, a)?;
+    let mut plain_sum = Vec::from_slice(alloc, a)?;
+    if sum.len() != b.len() || plain_sum.len() != b.len() {
+        return Ok(false);
+    }
+    add_into(&mut sum, b);
+    plain::add_into(&mut plain_sum, b);
+    Ok(sum.as_slice() == plain_sum.as_slice())
+}
+
+/// Whether all kernels agree on rows of this many words.
+fn agree_at(alloc: Global, len: usize) -> Result<bool, AllocError> {
+    let a = row_of(alloc, len, 1)?;
+    let b = row_of(alloc, len, 2)?;
+    Ok(
+        multiply_the_same(&a, &b)
+            && find_the_same(&a, &a, None)
+            && find_the_same(&a, &b, Some(1))
+            && add_the_same(alloc, &a, &b)?,
+    )
+}
+
 #[test]
 fn lanes_give_what_plain_loops_give(rt: HostRuntime) -> Result<(), Fail> {
     for len in 0..34 {
-        let a = row_of(&rt, len, 1)?;
-        let b = row_of(&rt, len, 2)?;
-        assert_eq!(rt; a.len(), b.len());
-        assert!(rt; a.len() < 34);
-        assert_eq!(rt; parity_and(&a, &b), plain::parity_and(&a, &b), "at {len}");
-        assert_eq!(rt;
-            first_outside(&a, &a, None),
-            plain::first_outside(&a, &a, None),
-            "at {len}"
-        );
-        assert_eq!(rt;
-            first_outside(&a, &b, Some(1)),
-            plain::first_outside(&a, &b, Some(1)),
-            "at {len}"
-        );
-        let mut sum = a.clone()?;
-        let mut plain_sum = a.clone()?;
-        assert_eq!(rt; sum.len(), b.len());
-        assert_eq!(rt; plain_sum.len(), b.len());
-        add_into(&mut sum, &b);
-        plain::add_into(&mut plain_sum, &b);
-        assert_eq!(rt; sum, plain_sum, "at {len}");
+        assert!(rt; agree_at(rt.alloc(), len)?, "at {len}");
     }
     Ok(())
 }

@@ -1,5 +1,0 @@
-use Rattle.parity_tests.specs.Driven.{IsAt}
-use Rattle.parity_tests.proofs.agreement.settle.Given as goal
-
-abbrev pub invariant-loop : goal.invariant-loop
-invariant-loop g l = IsAt (g.P.ParityEngine.state l.engine) l.level l.held
