@@ -4,7 +4,7 @@ ghost use Rattle.cx_desk.specs.Outside.{asked_in, started_in};
 ghost use Rattle.cx_desk.specs.Memory.{outside_of};
 ghost use Rattle.cx_desk.specs.declared.desk.Slot.TheVariants.{Formula};
 
-use cx_desk::{Desk, Failed, MemDesk, NamedFile, Port, ReadErr, Rooms, Slot, read_whole};
+use cx_desk::{Desk, MemDesk, NamedFile, Port, Rooms, Slot, read_whole};
 use std::alloc::{AllocError, Global};
 use std::process::Abort;
 use std::test::Fail;
@@ -38,42 +38,53 @@ fn start(rt: &impl Abort, alloc: Global, desk: &mut MemDesk) -> Result<(), Alloc
     Ok(())
 }
 
+/// What is read of the file up to a limit, or why it is not, and the faults.
+fn read_up_to(rt: &impl Abort, alloc: Global, limit: u64) -> Result<String, AllocError> {
+    let mut desk = desk(alloc, WIDE, 2, &[])?;
+    start(rt, alloc, &mut desk)?;
+    match read_whole(alloc, &mut desk, Slot::Formula, limit) {
+        Ok(text) => format!(in alloc; "{:?} {}", text.as_slice(), desk.read_faults()),
+        Err(why) => format!(in alloc; "{why:?} {}", desk.read_faults()),
+    }
+}
+
 #[test]
 fn a_text_is_read_up_to_the_limit(rt: HostRuntime) -> Result<(), Fail> {
     let alloc = rt.alloc();
-    for limit in [u64::MAX, 5, 4, 0] {
-        let mut desk = desk(alloc, WIDE, 2, &[])?;
-        start(&rt, alloc, &mut desk)?;
-        match read_whole(alloc, &mut desk, Slot::Formula, limit) {
-            Ok(text) => {
-                assert!(rt; limit >= 5);
-                assert_eq!(rt; text.as_slice(), b"abcde".as_slice());
-            }
-            Err(why) => {
-                assert!(rt; limit < 5);
-                assert_eq!(rt; why, ReadErr::TooLong);
-            }
-        }
-        assert_eq!(rt; desk.read_faults(), 0);
+    for limit in [u64::MAX, 5] {
+        let read = read_up_to(&rt, alloc, limit)?;
+        assert!(rt; read.as_str() == "[97, 98, 99, 100, 101] 0", "{limit}");
+    }
+    for limit in [4, 0] {
+        assert!(rt;
+            read_up_to(&rt, alloc, limit)?.as_str() == "TooLong 0",
+            "{limit}"
+        );
     }
     Ok(())
 }
 
-#[test]
-fn a_full_port_takes_what_fits_and_then_fails(rt: HostRuntime) -> Result<(), Fail> {
-    let alloc = rt.alloc();
+/// What two calls that write on a port of little room answer, what it has then, and the faults.
+fn put_twice(alloc: Global, port: Port) -> Result<String, AllocError> {
     let rooms = Rooms {
         answer: 3,
         proof: 0,
         message: 2,
     };
-    for (port, room, faults) in [(Port::Answer, 3, (1, 0)), (Port::Message, 2, (0, 1))] {
-        let mut desk = desk(alloc, rooms, 8, &[])?;
-        assert_eq!(rt; desk.put(port, b"abcde"), Ok(room));
-        assert_eq!(rt; desk.put(port, b"de"), Err(Failed));
-        assert_eq!(rt; desk.written(port).len(), room);
-        assert_eq!(rt; (desk.write_faults(), desk.message_faults()), faults);
-    }
+    let mut desk = desk(alloc, rooms, 8, &[])?;
+    let first = desk.put(port, b"abcde");
+    let second = desk.put(port, b"de");
+    let len = desk.written(port).len();
+    let faults = (desk.write_faults(), desk.message_faults());
+    format!(in alloc; "{first:?} {second:?} {len} {} {}", faults.0, faults.1)
+}
+
+#[test]
+fn a_full_port_takes_what_fits_and_then_fails(rt: HostRuntime) -> Result<(), Fail> {
+    let answer = put_twice(rt.alloc(), Port::Answer)?;
+    assert_eq!(rt; answer.as_str(), "Ok(3) Err(Failed) 3 1 0");
+    let message = put_twice(rt.alloc(), Port::Message)?;
+    assert_eq!(rt; message.as_str(), "Ok(2) Err(Failed) 2 0 1");
     Ok(())
 }
 
@@ -83,9 +94,10 @@ fn a_failing_call_fails_once(rt: HostRuntime) -> Result<(), Fail> {
     let mut desk = desk(alloc, WIDE, 8, &[2])?;
     start(&rt, alloc, &mut desk)?;
     let mut buffer = [0; 8];
-    assert_eq!(rt; desk.read(Slot::Formula, &mut buffer), Err(Failed));
-    assert_eq!(rt; desk.read(Slot::Formula, &mut buffer), Ok(5));
-    assert_eq!(rt; desk.read_faults(), 1);
+    let first = desk.read(Slot::Formula, &mut buffer);
+    let second = desk.read(Slot::Formula, &mut buffer);
+    let found = format!(in alloc; "{first:?} {second:?} {}", desk.read_faults())?;
+    assert_eq!(rt; found.as_str(), "Err(Failed) Ok(5) 1");
     Ok(())
 }
 
@@ -94,21 +106,26 @@ fn a_missing_name_is_a_read_fault(rt: HostRuntime) -> Result<(), Fail> {
     let alloc = rt.alloc();
     let mut desk = desk(alloc, WIDE, 8, &[])?;
     let started = desk.start(Slot::Formula, String::from_str(alloc, "six")?);
-    assert_eq!(rt; started, Err(Failed));
-    assert_eq!(rt; desk.read_faults(), 1);
+    let found = format!(in alloc; "{started:?} {}", desk.read_faults())?;
+    assert_eq!(rt; found.as_str(), "Err(Failed) 1");
     Ok(())
+}
+
+/// What a read and a write of several bytes answer, and what is written then.
+fn moved(rt: &impl Abort, alloc: Global, piece: usize) -> Result<String, AllocError>
+    requires { 1 ≤ piece }
+{
+    let mut desk = desk(alloc, WIDE, piece, &[])?;
+    start(rt, alloc, &mut desk)?;
+    let read = desk.read(Slot::Formula, &mut [0; 8]);
+    let put = desk.put(Port::Proof, b"abcde");
+    let len = desk.written(Port::Proof).len();
+    format!(in alloc; "{read:?} {put:?} {len}")
 }
 
 #[test]
 fn a_call_moves_at_most_a_piece(rt: HostRuntime) -> Result<(), Fail> {
-    let alloc = rt.alloc();
-    for piece in [1, 2] {
-        let mut desk = desk(alloc, WIDE, piece, &[])?;
-        start(&rt, alloc, &mut desk)?;
-        let mut buffer = [0; 8];
-        assert_eq!(rt; desk.read(Slot::Formula, &mut buffer), Ok(piece));
-        assert_eq!(rt; desk.put(Port::Proof, b"abcde"), Ok(piece));
-        assert_eq!(rt; desk.written(Port::Proof).len(), piece);
-    }
+    assert_eq!(rt; moved(&rt, rt.alloc(), 1)?.as_str(), "Ok(1) Ok(1) 1");
+    assert_eq!(rt; moved(&rt, rt.alloc(), 2)?.as_str(), "Ok(2) Ok(2) 2");
     Ok(())
 }

@@ -17,40 +17,64 @@ fn small(alloc: Global) -> Result<Formula, AllocError> {
     Ok(builder.finish(1))
 }
 
+/// For each list of values the first constraint that it does not meet, and whether it meets all.
+fn unmet(alloc: Global, formula: &Formula, lists: &[&[bool]]) -> Result<String, AllocError> {
+    let mut text = String::new(alloc);
+    for values in lists {
+        if values.len() != formula.vars() as usize {
+            return String::from_str(alloc, "other variables");
+        }
+        let first = formula.first_unmet(values);
+        let all = formula.meets(values);
+        text.push_str(format!(in alloc; " {first:?} {all}")?.as_str())?;
+    }
+    Ok(text)
+}
+
 #[test]
 fn repeats_count_in_parities(rt: HostRuntime) -> Result<(), Fail> {
     let formula = small(rt.alloc())?;
-    assert_eq!(rt; formula.vars(), 2);
-    assert_eq!(rt; formula.len(), 2);
-    assert_eq!(rt; formula.first_unmet(&[true, true]), None);
-    assert_eq!(rt; formula.first_unmet(&[true, false]), Some(1));
-    assert_eq!(rt; formula.first_unmet(&[false, true]), Some(2));
-    assert!(rt; formula.meets(&[true, true]));
+    let lists: [&[bool]; 3] = [&[true, true], &[true, false], &[false, true]];
+    let found = unmet(rt.alloc(), &formula, &lists)?;
+    assert_eq!(rt; found.as_str(), " None true Some(1) false Some(2) false");
     Ok(())
+}
+
+/// The first clause and the first parity, where there is one of each.
+fn firsts(alloc: Global, formula: &Formula) -> Result<String, AllocError> {
+    if formula.clause_count() != 1 || formula.parity_count() != 1 {
+        return String::from_str(alloc, "other numbers");
+    }
+    format!(in alloc; "{:?} {:?}", formula.clause(1), formula.parity(1))
 }
 
 #[test]
 fn clauses_and_parities_are_numbered_apart(rt: HostRuntime) -> Result<(), Fail> {
-    let formula = small(rt.alloc())?;
-    let one = Lit::new(Var::new(1), false);
-    let two = Lit::new(Var::new(2), false);
-    assert_eq!(rt; formula.clause_count(), 1);
-    assert_eq!(rt; formula.parity_count(), 1);
-    assert_eq!(rt; formula.clause(1), [one].as_slice());
-    assert_eq!(rt; formula.parity(1), [one, one, two].as_slice());
+    let alloc = rt.alloc();
+    let found = firsts(alloc, &small(alloc)?)?;
+    let one = "Lit { code: 2 }";
+    let wanted = format!(in alloc; "[{one}] [{one}, {one}, Lit {{ code: 4 }}]")?;
+    assert_eq!(rt; found.as_str(), wanted.as_str());
     Ok(())
+}
+
+/// The constraints one by one, each by its kind and how many literals it has.
+fn items(alloc: Global, formula: &Formula) -> Result<String, AllocError> {
+    let mut text = String::new(alloc);
+    for item in formula.items() {
+        let line = match item {
+            ConstraintRef::Clause(lits) => format!(in alloc; " clause {}", lits.len())?,
+            ConstraintRef::Parity(lits) => format!(in alloc; " parity {}", lits.len())?,
+        };
+        text.push_str(line.as_str())?;
+    }
+    Ok(text)
 }
 
 #[test]
 fn items_come_in_order(rt: HostRuntime) -> Result<(), Fail> {
-    let formula = small(rt.alloc())?;
-    let mut lens = Vec::new(rt.alloc());
-    for item in formula.items() {
-        match item {
-            ConstraintRef::Clause(lits) => lens.push((false, lits.len()))?,
-            ConstraintRef::Parity(lits) => lens.push((true, lits.len()))?,
-        }
-    }
-    assert_eq!(rt; lens.as_slice(), [(true, 3), (false, 1)].as_slice());
+    let alloc = rt.alloc();
+    let found = items(alloc, &small(alloc)?)?;
+    assert_eq!(rt; found.as_str(), " parity 3 clause 1");
     Ok(())
 }
