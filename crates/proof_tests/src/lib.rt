@@ -1,6 +1,8 @@
-//! Tests of the judges, of the tables by ids and of the elaborator.
+//! Tests of the judges, of the tables by ids, of the finders of chains and of the elaborator.
 #![tactic(auto)]
 
+#[cfg(test)]
+mod chains;
 #[cfg(test)]
 mod judges;
 #[cfg(test)]

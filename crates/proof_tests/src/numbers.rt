@@ -24,3 +24,23 @@ pub fn lits(alloc: Global, integers: &[i64]) -> Result<LitList, AllocError> {
     }
     Ok(LitList::from_vec(list))
 }
+
+/// The literal of a variable up to a number, or its negation.
+fn some_lit(seed: &mut u64, vars: u32) -> Lit {
+    let before = next(seed) % u64::from(vars.clamp(1, 1_000));
+    let var = Var::new(1 + before as u32);
+    Lit::new(var, next(seed) % 2 == 0)
+}
+
+/// Up to four literals over the variables up to a number; rarely none. Literals may come twice, and with their negations.
+pub fn some_lits(alloc: Global, seed: &mut u64, vars: u32) -> Result<LitList, AllocError> {
+    let len = match next(seed) % 16 {
+        0 => 0,
+        other => 1 + other % 4,
+    };
+    let mut list = Vec::new(alloc);
+    for _ in 0..len {
+        list.push(some_lit(seed, vars))?;
+    }
+    Ok(LitList::from_vec(list))
+}

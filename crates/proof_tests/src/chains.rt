@@ -1,0 +1,153 @@
+//! The two searches for chains, beside each other over tables that a seed draws. Each chain is judged.
+use crate::numbers::{next, some_lits};
+use cx_base::{IdList, LitList};
+use proof_rules::{JudgeRefusal, Kind, LiteralSet, Live, judge_chain};
+use rup_finder::{IndexedClauses, find};
+use std::alloc::{AllocError, Global};
+use std::process::Abort;
+use std::test::Fail;
+
+/// What a search gave.
+#[derive(Clone, Copy, Drop)]
+enum Outcome {
+    /// A chain that the judge takes.
+    Right,
+    /// A chain that the judge refuses.
+    Wrong,
+    Nothing,
+}
+
+/// How many targets have a right chain from both searches, none from either, and anything else.
+#[derive(Drop)]
+struct Tally {
+    chains: u64,
+    nones: u64,
+    faults: u64,
+}
+
+/// The ids as hints.
+fn hints_of(alloc: Global, ids: &IdList) -> Result<Vec<i64>, AllocError> {
+    let mut hints = Vec::new(alloc);
+    for id in ids.as_slice() {
+        hints.push((*id).min(1_000) as i64)?;
+    }
+    Ok(hints)
+}
+
+/// What the judge says of a chain for the target.
+fn judged(
+    alloc: Global,
+    live: &Live,
+    target: &LitList,
+    ids: &IdList,
+) -> Result<Outcome, AllocError> {
+    let hints = hints_of(alloc, ids)?;
+    let mut assumed = LiteralSet::new(alloc);
+    match judge_chain(&mut assumed, live, target, &hints) {
+        Ok(()) => Ok(Outcome::Right),
+        Err(JudgeRefusal::Wrong(_)) => Ok(Outcome::Wrong),
+        Err(JudgeRefusal::Memory) => Err(AllocError),
+    }
+}
+
+/// What is to be said of what a search found.
+fn searched(
+    alloc: Global,
+    live: &Live,
+    target: &LitList,
+    found: Option<IdList>,
+) -> Result<Outcome, AllocError> {
+    match found {
+        Some(ids) => judged(alloc, live, target, &ids),
+        None => Ok(Outcome::Nothing),
+    }
+}
+
+/// What the search over all clauses gives.
+fn plainly(alloc: Global, live: &Live, target: &LitList) -> Result<Outcome, AllocError> {
+    let found = find(alloc, live, target.as_slice())?;
+    searched(alloc, live, target, found)
+}
+
+/// What the search by watched literals gives.
+fn watched(
+    alloc: Global,
+    clauses: &mut IndexedClauses,
+    target: &LitList,
+) -> Result<Outcome, AllocError> {
+    let found = clauses.find(alloc, target.as_slice())?;
+    searched(alloc, clauses.live(), target, found)
+}
+
+/// Counts a target.
+fn count(tally: &mut Tally, plain: Outcome, watched: Outcome) {
+    match (plain, watched) {
+        (Outcome::Right, Outcome::Right) => tally.chains = tally.chains.saturating_add(1),
+        (Outcome::Nothing, Outcome::Nothing) => tally.nones = tally.nones.saturating_add(1),
+        _ => tally.faults = tally.faults.saturating_add(1),
+    }
+}
+
+/// Puts a clause under an id, or takes the one under it out. An empty clause comes rarely, since all targets have
+/// chains then.
+fn change(
+    alloc: Global,
+    seed: &mut u64,
+    vars: u32,
+    clauses: &mut IndexedClauses,
+    id: u64,
+) -> Result<(), AllocError> {
+    let lits = some_lits(alloc, seed, vars)?;
+    let is_kept = !lits.as_slice().is_empty() || next(seed) % 8 == 0;
+    if is_kept && next(seed) % 3 > 0 {
+        return clauses.add(Kind::Clauses, id, lits);
+    }
+    clauses.remove(Kind::Clauses, id);
+    Ok(())
+}
+
+/// Changes one clause of so many, and searches a chain for one target.
+fn turn(
+    alloc: Global,
+    seed: &mut u64,
+    (vars, ids): (u32, u64),
+    clauses: &mut IndexedClauses,
+    tally: &mut Tally,
+) -> Result<(), AllocError> {
+    let id = next(seed) % ids.max(1);
+    change(alloc, seed, vars, clauses, id)?;
+    let target = some_lits(alloc, seed, vars)?;
+    let plain = plainly(alloc, clauses.live(), &target)?;
+    let watched = watched(alloc, clauses, &target)?;
+    count(tally, plain, watched);
+    Ok(())
+}
+
+/// So many turns that an engine is worn out more than once, over so many variables and ids.
+fn turns(alloc: Global, size: (u32, u64)) -> Result<Tally, AllocError> {
+    let mut seed = 7;
+    let mut clauses = IndexedClauses::make(alloc);
+    let mut tally = Tally {
+        chains: 0,
+        nones: 0,
+        faults: 0,
+    };
+    for _ in 0..6_000 {
+        turn(alloc, &mut seed, size, &mut clauses, &mut tally)?;
+    }
+    Ok(tally)
+}
+
+/// The searches agree, and both answers come often.
+fn assert_agreement(rt: &impl Abort, tally: &Tally) {
+    assert!(rt; tally.faults == 0);
+    assert!(rt; tally.chains > 500);
+    assert!(rt; tally.nones > 500);
+}
+
+#[test]
+fn both_searches_agree(rt: HostRuntime) -> Result<(), Fail> {
+    assert_agreement(&rt, &turns(rt.alloc(), (5, 12))?);
+    assert_agreement(&rt, &turns(rt.alloc(), (9, 40))?);
+    Ok(())
+}
