@@ -5,14 +5,17 @@ mod attach;
 mod detach;
 mod event;
 mod laws;
+mod linking;
 mod lists;
 mod look;
 mod nodes;
+mod renaming;
 mod walk;
 mod watches;
 
 pub use event::Event;
 pub use laws::{
-    detached_watches_fit, larger_arena_fits, longer_trail_fits, new_watches_fit, taken_back_fits,
+    compacted_references_fall, detached_watches_fit, larger_arena_fits, longer_trail_fits,
+    new_watches_fit, renamed_watches_fit, taken_back_fits,
 };
 pub use watches::Watches;
