@@ -13,3 +13,4 @@ pub mod FillingLaws
 pub mod WaitingLaws
 pub mod FilledClauses
 pub mod LearnedLess
+pub mod CompactedTies

@@ -8,3 +8,4 @@ pub mod Clauses
 pub mod Filling
 pub mod Waiting
 pub mod Reducing
+pub mod Compacting

@@ -3,6 +3,7 @@
 
 mod beginning;
 mod clauses;
+mod compacting;
 mod conflicts;
 mod ending;
 mod filling;

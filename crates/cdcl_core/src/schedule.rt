@@ -1,11 +1,12 @@
 //! When the search restarts, and which learned clauses it deletes then.
-ghost use Rattle.std.specs.Prelude.{◌≡◌, ◌≢◌, ◌<◌, ◌≤◌, List, [], Option, length, IsTrue, OnOk};
+ghost use Rattle.std.specs.Prelude.{◌≡◌, ◌≢◌, ◌<◌, List, [], Option, length, IsTrue, OnOk};
 ghost use Rattle.cx_semantics.specs.declared.steps.LogEvent.{LogEvent};
 ghost use Rattle.conflict_learn.specs.Faults.{fault_in};
 ghost use Rattle.parity_engine.specs.declared.state.Mood.TheVariants.{Broken};
 ghost use Rattle.cdcl_search.specs.Logs.{GoesOn, Stands};
 ghost use Rattle.cdcl_search.specs.Ties.{SearchStands};
 
+use crate::compacting::compact;
 use crate::reducing::reduce;
 use crate::restarting::restart;
 use cdcl_search::SearchState;
@@ -13,7 +14,6 @@ use cdcl_search::logs::SearchLog;
 use clause_arena::Arena;
 use conflict_learn::CoreFault;
 use cx_base::{ClauseRef, Formula, RefList};
-use cx_trail::Reason;
 use log_text::LogSink;
 use parity_engine::ParityEngine;
 use search_policy::{Card, choose_removed, restart_due};
@@ -25,54 +25,30 @@ const LAST_RESTART: u64 = 1 << 62;
 /// What decides when the search restarts and what it deletes: no answer rests on it.
 #[derive(Drop)]
 pub(crate) struct Schedule {
-    alloc: Global,
     /// Counted conflicts since the last restart.
     since: u64,
     restarts: u64,
-    /// The learned clauses of two and more literals, but those that were found removed.
-    learned: Vec<ClauseRef>,
 }
 
-/// The clause that a reason names.
-fn clause_of(reason: Reason) -> Option<ClauseRef> {
-    match reason {
-        Reason::Clause(reference) => Some(reference),
-        Reason::Row(_) | Reason::Decision => None,
-    }
-}
-
-/// The clause that implied the newest literal of the trail: behind a jump, the learned one.
-fn newest_reason(state: &SearchState) -> Option<ClauseRef> {
-    let len = state.trail.len();
-    if len == 0 {
-        return None;
-    }
-    clause_of(state.trail.entry(len - 1).reason)
-}
-
-/// What a reduction looks at of a learned clause, where it is still there. At level 0 no clause is held as a reason.
+/// What a reduction looks at of a clause, where it was learned. At level 0 no clause is held as a reason.
 fn card_of(arena: &Arena, reference: ClauseRef) -> Option<Card> {
-    if !arena.is_live(reference) {
+    if !arena.is_live(reference) || !arena.learned(reference) {
         return None;
     }
     Some(Card {
         reference,
         id: arena.id(reference),
         lbd: arena.lbd(reference),
-        learned: arena.learned(reference),
+        learned: true,
         is_reason: false,
     })
 }
 
-/// The cards of those that are still there.
-fn cards_of(
-    alloc: Global,
-    arena: &Arena,
-    references: &[ClauseRef],
-) -> Result<Vec<Card>, AllocError> {
+/// The cards of the learned clauses. They are made anew for each reduction, so none names a clause by an old reference.
+fn cards_of(alloc: Global, arena: &Arena) -> Result<Vec<Card>, AllocError> {
     let mut cards = Vec::new(alloc);
-    for reference in references {
-        if let Some(card) = card_of(arena, *reference) {
+    for place in 0..arena.len() {
+        if let Some(card) = card_of(arena, ClauseRef::new(place as u32)) {
             cards.push(card)?;
         }
     }
@@ -81,22 +57,16 @@ fn cards_of(
 
 impl Schedule {
     /// No restart yet.
-    pub fn new(alloc: Global) -> Schedule {
+    pub fn new() -> Schedule {
         Schedule {
-            alloc,
             since: 0,
             restarts: 0,
-            learned: Vec::new(alloc),
         }
     }
 
-    /// Counts a conflict behind its jump.
-    fn count(&mut self, state: &SearchState) -> Result<(), AllocError> {
+    /// Counts a conflict.
+    fn count(&mut self) {
         self.since = self.since.saturating_add(1);
-        if let Some(reference) = newest_reason(state) {
-            self.learned.push(reference)?;
-        }
-        Ok(())
     }
 
     /// Whether a restart is due.
@@ -109,13 +79,12 @@ impl Schedule {
         self.since = 0;
         self.restarts = self.restarts.saturating_add(1);
     }
+}
 
-    /// The learned clauses that a reduction removes.
-    fn choose(&mut self, arena: &Arena) -> Result<RefList, AllocError> {
-        let cards = cards_of(self.alloc, arena, &self.learned)?;
-        self.learned = cards.iter().map(|card| card.reference).collect(self.alloc)?;
-        choose_removed(self.alloc, &cards)
-    }
+/// The learned clauses that a reduction removes.
+fn choose(alloc: Global, arena: &Arena) -> Result<RefList, AllocError> {
+    let cards = cards_of(alloc, arena)?;
+    choose_removed(alloc, &cards)
 }
 
 /// Whether so many learned clauses are there that some go: 2000, and 500 more for each reduction before.
@@ -143,12 +112,11 @@ fn go_to_start<P: ParityEngine>(formula: &Formula, state: &mut SearchState, engi
     }
 }
 
-/// Deletes learned clauses where there are many.
+/// Deletes learned clauses where there are many, and closes the gaps that they leave.
 fn reduce_where_many<P: ParityEngine, L: LogSink>(
     log: &mut SearchLog<L>,
     state: &mut SearchState,
     engine: &P,
-    schedule: &mut Schedule,
 ) -> Result<(), CoreFault>
     requires stands { Stands P.ParityEngine L.LogSink log.old state.old engine.now [] }
     ensures stands { OnOk result (Stands P.ParityEngine L.LogSink log.new state.new engine.now []) }
@@ -158,8 +126,10 @@ fn reduce_where_many<P: ParityEngine, L: LogSink>(
     if !has_units(state) || !are_many(state) {
         return Ok(());
     }
-    let chosen = schedule.choose(&state.arena)?;
-    reduce(log, state, engine, chosen.as_slice())
+    let chosen = choose(log.alloc, &state.arena)?;
+    reduce(log, state, engine, chosen.as_slice())?;
+    compact(state)?;
+    Ok(())
 }
 
 /// Behind a counted conflict and its jump: restarts where that is due, and deletes learned clauses then.
@@ -176,11 +146,11 @@ pub(crate) fn follow_schedule<P: ParityEngine, L: LogSink>(
     ensures conflicts { OnOk result (state.new.conflicts ≡ state.old.conflicts) }
     ensures log { GoesOn L.LogSink log.old (fault_in result) log.new }
 {
-    schedule.count(state)?;
+    schedule.count();
     if !schedule.is_due() {
         return Ok(());
     }
     schedule.begin_again();
     go_to_start(log.formula, state, engine);
-    reduce_where_many(log, state, engine, schedule)
+    reduce_where_many(log, state, engine)
 }

@@ -153,7 +153,7 @@ fn search<P: ParityEngine, L: LogSink>(
     ensures settled { Settled log.new.formula.now → IfOk result (λ a. IsSettledBy log.new.formula.now 1 (told_in L.LogSink log.new) a) }
     ensures log { GoesOn L.LogSink log.old (fault_in result) log.new }
 {
-    let mut schedule = Schedule::new(log.alloc);
+    let mut schedule = Schedule::new();
     loop {
         if let Some(outcome) = round(log, state, engine, budget)? {
             return Ok(outcome);

@@ -1,0 +1,22 @@
+-- A search whose arena has no gaps any more.
+use Rattle.std.specs.Prelude.{◌≡◌, List, [], map, Option}
+use Rattle.cx_base.specs.declared.moved.Move.{Move}
+use Rattle.cx_base.specs.Literals.{Literal}
+use Rattle.cx_base.specs.Problem.{Problem}
+use Rattle.cx_semantics.specs.declared.steps.LogEvent.{LogEvent}
+use Rattle.cx_trail.specs.Renaming.{renamed}
+use Rattle.clause_arena.specs.Compact.{IsRenamed}
+use Rattle.watch_lists.specs.Renaming.{AreRenamed}
+use Rattle.parity_engine.specs.State.{State}
+use Rattle.cdcl_search.specs.declared.state.SearchState.{SearchState}
+use Rattle.cdcl_search.specs.Ties.{SearchStands}
+
+-- the arena's clauses have new references, by which the watches and the reasons of the trail name them; nothing else changes
+pub record IsCompacted (moves : List Move) (old new : SearchState) : Type 0 where
+  pub arena : IsRenamed old.arena new.arena moves
+  pub watches : AreRenamed moves old.watches new.watches
+  pub others : new ≡ record old { arena = new.arena; watches = new.watches; trail = record old.trail { entries = map (renamed moves) old.trail.entries } }
+
+-- whatever search stood behind the code stands behind it still
+abbrev pub StandsStill : SearchState → SearchState → Type 0
+StandsStill old new = (formula : Problem) (e : State) (rows : List (List Literal)) (told : Option (List LogEvent)) → SearchStands formula old e rows told → SearchStands formula new e rows told
