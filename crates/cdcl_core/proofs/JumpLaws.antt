@@ -23,6 +23,9 @@ use Rattle.cx_semantics.proofs.ChainLaws.{are_one}
 use Rattle.cx_base.specs.Literals.{same_literal}
 use Rattle.watch_lists.specs.Attaching.{CanBeWatched, literal_at as nth}
 use Rattle.conflict_learn.specs.Learning.{IsFalling}
+use Rattle.conflict_learn.specs.Touching.{AreTouched}
+use Rattle.std.specs.List.{AllByRecursion}
+use Rattle.std.proofs.lemmas.List.{length-map, get_or-map}
 use Rattle.conflict_learn.specs.Levels.{second, levels_at}
 use Rattle.conflict_learn.proofs.ChainOfResolutions.{by_cases}
 use Rattle.cdcl_search.specs.declared.state.SearchState.{SearchState}
@@ -38,6 +41,12 @@ all_within : (n : ℕ) (lits : List Literal) → AreWithin n lits → (k : ℕ) 
 all_within n [] w k d h = absurd (omega (arith, h))
 all_within n (l ∷ lits) w zero d h = w.0
 all_within n (l ∷ lits) w (suc k) d h = all_within n lits w.1 k d (omega (arith, h))
+
+-- what holds of the places holds of the one at an index
+at_index : (P : ℕ → Type 0) (places : List ℕ) (k : ℕ) → AllByRecursion P places → k < length places → P (get_or places k 0)
+at_index P [] k a h = absurd (omega (arith, h))
+at_index P (p ∷ ps) zero a h = a.0
+at_index P (p ∷ ps) (suc k) a h = at_index P ps k a.1 (omega (arith, h))
 
 own_default : (xs : List Literal) (k : ℕ) (d : Literal) → k < length xs → get_or xs k (get_or xs k d) ≡ get_or xs k d
 own_default [] k d h = absurd (omega (arith, h))
@@ -59,12 +68,19 @@ module _ (formula : Problem) (c : SearchState) (e : State) (lits : List Literal)
       go (q ∷ qs) are b = absurd (let n = ap length are in omega (arith, n, one))
 
   module _ (c1 : SearchState) (e1 : State) (t1 : Ties formula c1 e1 taught.rows (jumped s back)) (w1 : IsWatched c1.watches c1.arena c1.trail) (takes : TakesBack back c.trail c1.trail) where
-    pub scores_within : (lits1 : List Literal) → lits1 ≡ lits → (k : ℕ) (d : Literal) → k < length lits1 → (1 ≤ (get_or lits1 k d).variable) × ((get_or lits1 k d).variable ≤ length c1.order.scores)
-    scores_within lits1 same k d h =
-        let w = all_within formula.variables lits (within formula c e lits back s taught []) k d (let n = ap length same in omega (arith, n, h)) in
+    pub scores_within : (resolved learned : List Literal) (vars : List ℕ) → AreTouched c.trail resolved learned vars → (k d : ℕ) → k < length vars → (1 ≤ get_or vars k d) × (get_or vars k d ≤ length c1.order.scores)
+    scores_within resolved learned vars t k d h =
+        let f = λ (p : ℕ). (literal_at c.trail p).variable in
+        let inside : k < length t.places = (let n = ap length t.are in let m = length-map t.places f in omega (arith, h, n, m)) in
+        let less = at_index (λ p. p < length c.trail.entries) t.places k t.within inside in
+        let is : get_or vars k d ≡ f (get_or t.places k 0) = ap (λ xs. get_or xs k d) t.are ∙ get_or-map f t.places k 0 d inside in
+        let sound = taught.ties.trail.follows.sound in
+        let low = sound.low (get_or t.places k 0) less in
+        let high = sound.high (get_or t.places k 0) less in
+        let was = taught.ties.trail.variables in
         let a = t1.trail.stand.variables in
         let b = t1.trail.variables in
-        subst (λ xs. (1 ≤ (get_or xs k d).variable) × ((get_or xs k d).variable ≤ length c1.order.scores)) (sym same) (w.0, let high = w.1 in omega (arith, high, a, b))
+        (omega (arith, low, is), omega (arith, high, is, was, a, b))
 
     pub first_is_open : IsOpenIn c1.trail.entries (nth lits 0).variable
     first_is_open = subst (λ m. IsOpenIn c1.trail.entries m.variable) (sym first_is) (tied_then formula c e lits back s taught [] c1.trail takes why.Decision).0

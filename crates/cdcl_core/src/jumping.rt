@@ -4,6 +4,7 @@ ghost use Rattle.std.specs.List.{All};
 ghost use Rattle.cx_base.specs.Literals.{Literal};
 ghost use Rattle.cx_semantics.specs.declared.steps.LogEvent.{LogEvent};
 ghost use Rattle.cx_trail.specs.Sequence.{TakesBack, IsOpenIn};
+ghost use Rattle.conflict_learn.specs.Touching.{AreTouched};
 ghost use Rattle.watch_lists.specs.Watching.{Fits};
 ghost use Rattle.watch_lists.specs.Attaching.{CanBeWatched, literal_at};
 ghost use Rattle.parity_engine.specs.declared.state.Mood.TheVariants.{Broken};
@@ -14,7 +15,7 @@ ghost use Rattle.cdcl_core.specs.Entering.{EntersUnit, EntersClause, Enters, Has
 
 use cdcl_search::SearchState;
 use conflict_learn::Learned;
-use cx_base::{Formula, Lit};
+use cx_base::{Formula, Lit, Var};
 use cx_trail::{Reason, Trail};
 use parity_engine::ParityEngine;
 use search_policy::Order;
@@ -62,15 +63,17 @@ pub(crate) fn go_back<P: ParityEngine>(
     state.given = state.trail.len();
 }
 
-/// Raises the scores of the variables of these literals.
-fn bump(order: &mut Order, lits: &[Lit])
-    requires within { All (λ l. (1 ≤ l.variable) × (l.variable ≤ length order.old.scores)) lits.now }
+/// Raises the scores of these variables by the weight that bumps have by now, which then grows.
+fn bump(order: &mut Order, vars: &[Var])
+    requires within { All (λ v. (1 ≤ v) × (v ≤ length order.old.scores)) vars.now }
     ensures standing { order.new.standing ≡ order.old.standing }
     ensures scores { length order.new.scores ≡ length order.old.scores }
 {
-    for lit in lits {
-        order.bump(lit.var());
+    let weight = order.weight();
+    for var in vars {
+        order.bump_by(*var, weight);
     }
+    order.grow();
 }
 
 /// Puts a literal on the trail at level 0, where each literal has a unit clause. That of this one has the id.
@@ -124,6 +127,7 @@ pub(crate) fn jump<P: ParityEngine>(
     learned: &Learned,
 ) -> Result<(), AllocError>
     requires learned { (told : Option (List LogEvent)) × Learns formula.now state.old (P.state engine.old) learned.now.lits learned.now.back_level told }
+    requires touched { AreTouched state.old.trail learned.now.resolved learned.now.lits learned.now.touched.items }
     ensures stands { OnOk result ((told : Option (List LogEvent)) → Learns formula.now state.old (P.state engine.old) learned.now.lits learned.now.back_level told
         → SearchStands formula.now state.new (P.state engine.new) [] told) }
     ensures counted { OnOk result (state.new.conflicts ≡ state.old.conflicts + 1) }
@@ -131,7 +135,7 @@ pub(crate) fn jump<P: ParityEngine>(
     ensures unbroken { (P.state engine.new).mood ≢ Broken }
 {
     go_back(formula, state, engine, learned.back_level);
-    bump(&mut state.order, learned.lits.as_slice());
+    bump(&mut state.order, &learned.touched);
     let id = state.next;
     state.next = id + 1;
     state.conflicts += 1;

@@ -1,15 +1,21 @@
 //! Learning from a conflict.
-ghost use Rattle.std.specs.Prelude.{◌≡◌, ◌<◌, ◌≤◌, ◌^◌, ◌∷◌, IfOk, OnOk};
+ghost use Rattle.std.specs.Prelude.{◌≡◌, ◌<◌, ◌^◌, ◌∷◌, IfOk, OnOk, IsTrue};
+ghost use Rattle.cx_base.specs.Literals.{Literal};
+ghost use Rattle.cx_semantics.specs.Chain.{has_literal};
+ghost use Rattle.cx_trail.specs.Sequence.{IsTrueIn};
 ghost use Rattle.std.specs.List.{AllByRecursion};
 ghost use Rattle.cx_semantics.specs.Integers.{integers_of, literals};
 ghost use Rattle.cx_semantics.specs.declared.steps.LogEvent.TheVariants as event;
 ghost use Rattle.cx_semantics.specs.declared.steps.LogStep.TheVariants as step;
 ghost use Rattle.conflict_learn.specs.Levels.{Teaches};
 ghost use Rattle.conflict_learn.specs.Faults.{fault_in};
+ghost use Rattle.conflict_learn.specs.Marks.{AreClear};
+ghost use Rattle.conflict_learn.specs.Touching.{AreTouched};
+ghost use Rattle.parity_engine.specs.State.{State};
 ghost use Rattle.cdcl_search.specs.Deleting.{deletions};
 ghost use Rattle.cdcl_search.specs.Tells.{IsId, as_events, IsTellable};
 ghost use Rattle.cdcl_search.specs.Logs.{GoesOn, Stands, told_in};
-ghost use Rattle.cdcl_search.specs.Ties.{first_row_id, row_ids};
+ghost use Rattle.cdcl_search.specs.Ties.{first_row_id, row_ids, HaveReasons};
 ghost use Rattle.cdcl_search.specs.Sources.{IsSourced};
 ghost use Rattle.cdcl_core.specs.Concluding.{IsConflictClause};
 ghost use Rattle.cdcl_core.specs.Learning.{Learns};
@@ -20,10 +26,11 @@ use cdcl_search::chains::push_hint;
 use cdcl_search::deleting::put_deletions;
 use cdcl_search::integers::integers;
 use cdcl_search::logs::SearchLog;
-use cdcl_search::source::Source;
+use cdcl_search::rows::FIRST_ROW_ID;
+use cdcl_search::source::{Source, silent_id};
 use cdcl_search::steps::chained;
 use cdcl_search::telling::tell_round;
-use conflict_learn::{CoreFault, Learned, analyse};
+use conflict_learn::{CoreFault, Learned, Marks, analyse};
 use cx_base::{IntList, Lit, LitList};
 use cx_semantics::LogStep;
 use log_text::LogSink;
@@ -79,33 +86,53 @@ fn tell_learned<P: ParityEngine, L: LogSink>(
     tell_round(log, state.conflicts + 1, &steps)
 }
 
-/// The hints of a learned clause: the ids of the clauses that were asked for, the last first, and then the conflict's.
-fn hints_of_lesson(alloc: Global, ids: &[u64], conflict: u64) -> Result<IntList, AllocError> {
-    let mut hints = Vec::with_capacity(alloc, ids.len())?;
-    let mut left = ids.len();
+/// The hints of a learned clause: the ids of the clauses that implied the resolved literals, the last one's first, and then the conflict's.
+///
+/// The clauses of rows were told in the order of these literals, and so many stand in the log.
+fn hints_of_lesson(
+    alloc: Global,
+    state: &SearchState,
+    resolved: &[Lit],
+    rows: usize,
+    conflict: u64,
+) -> Result<IntList, AllocError>
+    requires stand { (l : Literal) → IsTrue (has_literal resolved.now l) → IsTrueIn state.now.trail.entries l }
+    requires reasons { (e : State) × HaveReasons state.now e }
+{
+    let mut hints = Vec::with_capacity(alloc, resolved.len())?;
+    let mut row_id = FIRST_ROW_ID.saturating_add(rows as u64);
+    let mut left = resolved.len();
     while left > 0 {
         left -= 1;
-        push_hint(&mut hints, ids[left])?;
+        let silent = silent_id(state, resolved[left]);
+        if silent.is_none() {
+            row_id = row_id.saturating_sub(1);
+        }
+        push_hint(&mut hints, silent.unwrap_or(row_id))?;
     }
     push_hint(&mut hints, conflict)?;
     Ok(IntList::from_vec(hints))
 }
 
-/// What a conflict above level 0 teaches. The clauses of rows that are told for it come behind these rows, and the ids of the clauses that it rests on behind these ids.
+/// What a conflict above level 0 teaches. The clauses of rows that are told for it come behind these rows.
 fn lesson_of<'x, P: ParityEngine, L: LogSink>(
     log: &'x mut SearchLog<L>,
     state: &'x SearchState,
     engine: &'x P,
     conflict: &LitList,
     rows: &'x mut Vec<LitList>,
-    ids: &'x mut Vec<u64>,
+    marks: &mut Marks,
 ) -> Result<Learned, CoreFault>
     requires stands { Stands P.ParityEngine L.LogSink log.old state.now engine.now rows.old.items }
     requires conflict { IsConflictClause state.now rows.old.items conflict.now }
     requires above { 0 < state.now.trail.level }
+    requires clear { AreClear marks.old }
     ensures stands { OnOk result (Stands P.ParityEngine L.LogSink log.new state.now engine.now rows.new.items) }
     ensures conflict { IsConflictClause state.now rows.new.items conflict.now }
     ensures teaches { IfOk result (λ r. Teaches state.now.trail conflict.now (IsSourced state.now rows.new.items) r.resolved r.lits r.back_level r.lbd) }
+    ensures stand { IfOk result (λ r. (l : Literal) → IsTrue (has_literal r.resolved l) → IsTrueIn state.now.trail.entries l) }
+    ensures touched { IfOk result (λ r. AreTouched state.now.trail r.resolved r.lits r.touched.items) }
+    ensures clear { OnOk result (AreClear marks.new) }
     ensures log { GoesOn L.LogSink log.old (fault_in result) log.new }
 {
     let alloc = log.alloc;
@@ -114,9 +141,8 @@ fn lesson_of<'x, P: ParityEngine, L: LogSink>(
         state,
         engine,
         rows,
-        ids,
     };
-    analyse(alloc, &state.trail, conflict, &mut source)
+    analyse(alloc, &state.trail, conflict, marks, &mut source)
 }
 
 /// What a conflict above level 0 teaches. Told are the mark, the learned clause with its hints, and the deletions of the clauses of rows.
@@ -124,6 +150,7 @@ pub(crate) fn learn<P: ParityEngine, L: LogSink>(
     log: &mut SearchLog<L>,
     state: &SearchState,
     engine: &P,
+    marks: &mut Marks,
     conflict: Conflict,
 ) -> Result<Learned, CoreFault>
     requires stands { Stands P.ParityEngine L.LogSink log.old state.now engine.now conflict.rows.items }
@@ -131,14 +158,17 @@ pub(crate) fn learn<P: ParityEngine, L: LogSink>(
     requires above { 0 < state.now.trail.level }
     requires room { state.now.next < first_row_id }
     requires few { state.now.conflicts < 10 ^ 18 }
+    requires clear { AreClear marks.old }
     ensures learned { IfOk result (λ r. Learns log.new.formula.now state.now (P.state engine.now) r.lits r.back_level (told_in L.LogSink log.new)) }
+    ensures touched { IfOk result (λ r. AreTouched state.now.trail r.resolved r.lits r.touched.items) }
+    ensures clear { OnOk result (AreClear marks.new) }
     ensures log { GoesOn L.LogSink log.old (fault_in result) log.new }
 {
     let Conflict { lits, id, rows } = conflict;
     let mut rows = rows;
-    let mut ids = Vec::new(log.alloc);
-    let learned = lesson_of(log, state, engine, &lits, &mut rows, &mut ids)?;
-    let hints = hints_of_lesson(log.alloc, &ids, id)?;
+    let learned = lesson_of(log, state, engine, &lits, &mut rows, marks)?;
+    let resolved = learned.resolved.as_slice();
+    let hints = hints_of_lesson(log.alloc, state, resolved, rows.len(), id)?;
     tell_learned(log, state, engine, &lits, &rows, &learned, hints)?;
     Ok(learned)
 }

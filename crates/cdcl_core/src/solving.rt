@@ -4,6 +4,7 @@ ghost use Rattle.cx_semantics.specs.Settled.{Settled};
 ghost use Rattle.cx_base.specs.Counts.{Rose};
 ghost use Rattle.conflict_learn.specs.declared.fault.CoreFault.TheVariants.{Write};
 ghost use Rattle.conflict_learn.specs.Faults.{fault_in};
+ghost use Rattle.conflict_learn.specs.Marks.{AreClear};
 ghost use Rattle.cdcl_search.specs.Finds.{PropagationFinds};
 ghost use Rattle.cdcl_search.specs.Searching.{SearchReaches};
 ghost use Rattle.cdcl_search.specs.Logs.{GoesOn, Stands, told_in};
@@ -23,7 +24,7 @@ use crate::schedule::{Schedule, follow_schedule};
 use cdcl_search::logs::SearchLog;
 use cdcl_search::rows::FIRST_ROW_ID;
 use cdcl_search::{Found, SearchState, search_on, values_of};
-use conflict_learn::CoreFault;
+use conflict_learn::{CoreFault, Marks};
 use cx_base::{Formula, Values};
 use log_text::LogSink;
 use parity_engine::ParityEngine;
@@ -45,6 +46,7 @@ fn learn_and_jump<P: ParityEngine, L: LogSink>(
     log: &mut SearchLog<L>,
     state: &mut SearchState,
     engine: &mut P,
+    marks: &mut Marks,
     budget: u64,
     conflict: Conflict,
 ) -> Result<Option<Outcome>, CoreFault>
@@ -52,14 +54,16 @@ fn learn_and_jump<P: ParityEngine, L: LogSink>(
     requires conflict { IsConflictClause state.old conflict.rows.items conflict.lits }
     requires above { 0 < state.old.trail.level }
     requires few { (state.old.conflicts < budget) × (budget ≤ 10 ^ 18) }
+    requires clear { AreClear marks.old }
     ensures goes_on { IfOk result (λ o. MatchOption o (SearchGoesOn log.new.formula.now budget (told_in L.LogSink log.new) state.new (P.state engine.new)) (λ a. IsRightOutcome log.new.formula.now budget (told_in L.LogSink log.new) a)) }
     ensures one_more { IfOk result (λ o. MatchOption o (state.new.conflicts ≡ state.old.conflicts + 1) (λ _. Unit {0})) }
+    ensures clear { OnOk result (AreClear marks.new) }
     ensures log { GoesOn L.LogSink log.old (fault_in result) log.new }
 {
     if state.next >= FIRST_ROW_ID {
         return Err(CoreFault::Memory);
     }
-    let learned = learn(log, state, engine, conflict)?;
+    let learned = learn(log, state, engine, marks, conflict)?;
     if state.conflicts + 1 == budget {
         return Ok(Some(Outcome::Unknown { conflicts: budget }));
     }
@@ -72,6 +76,7 @@ fn meet_conflict<P: ParityEngine, L: LogSink>(
     log: &mut SearchLog<L>,
     state: &mut SearchState,
     engine: &mut P,
+    marks: &mut Marks,
     budget: u64,
     found: Found,
 ) -> Result<Option<Outcome>, CoreFault>
@@ -80,12 +85,16 @@ fn meet_conflict<P: ParityEngine, L: LogSink>(
     requires conflict { found ≢ finding.Quiet }
     requires above { 0 < state.old.trail.level }
     requires few { (state.old.conflicts < budget) × (budget ≤ 10 ^ 18) }
+    requires clear { AreClear marks.old }
     ensures goes_on { IfOk result (λ o. MatchOption o (SearchGoesOn log.new.formula.now budget (told_in L.LogSink log.new) state.new (P.state engine.new)) (λ a. IsRightOutcome log.new.formula.now budget (told_in L.LogSink log.new) a)) }
     ensures one_more { IfOk result (λ o. MatchOption o (state.new.conflicts ≡ state.old.conflicts + 1) (λ _. Unit {0})) }
+    ensures clear { OnOk result (AreClear marks.new) }
     ensures log { GoesOn L.LogSink log.old (fault_in result) log.new }
 {
     match conflict_clause(log, state, engine, found)? {
-        Conclusion::Clause(conflict) => learn_and_jump(log, state, engine, budget, conflict),
+        Conclusion::Clause(conflict) => {
+            learn_and_jump(log, state, engine, marks, budget, conflict)
+        }
         Conclusion::Ending(steps) => {
             tell_ending(log, state, &steps)?;
             Ok(Some(Outcome::Unsat))
@@ -98,15 +107,18 @@ fn conclude<P: ParityEngine, L: LogSink>(
     log: &mut SearchLog<L>,
     state: &mut SearchState,
     engine: &mut P,
+    marks: &mut Marks,
     budget: u64,
     found: Found,
 ) -> Result<Option<Outcome>, CoreFault>
     requires stands { Stands P.ParityEngine L.LogSink log.old state.old engine.old [] }
     requires reaches { SearchReaches state.old (P.state engine.old) found }
     requires few { (state.old.conflicts < budget) × (budget ≤ 10 ^ 18) }
+    requires clear { AreClear marks.old }
     ensures goes_on { IfOk result (λ o. MatchOption o (SearchGoesOn log.new.formula.now budget (told_in L.LogSink log.new) state.new (P.state engine.new)) (λ a. IsRightOutcome log.new.formula.now budget (told_in L.LogSink log.new) a)) }
     ensures one_more { IfOk result (λ o. MatchOption o (state.new.conflicts ≡ state.old.conflicts + 1) (λ _. Unit {0})) }
     ensures at_start { state.old.trail.level ≡ 0 → IfOk result (λ o. MatchOption o ⊥ (λ a. IsSettledBy log.new.formula.now (state.old.conflicts + 1) (told_in L.LogSink log.new) a)) }
+    ensures clear { OnOk result (AreClear marks.new) }
     ensures log { GoesOn L.LogSink log.old (fault_in result) log.new }
 {
     if let Found::Quiet = found {
@@ -114,7 +126,7 @@ fn conclude<P: ParityEngine, L: LogSink>(
         return Ok(Some(Outcome::Sat(values)));
     }
     if state.trail.level() > 0 {
-        return meet_conflict(log, state, engine, budget, found);
+        return meet_conflict(log, state, engine, marks, budget, found);
     }
     end(log, state, engine, found)?;
     Ok(Some(Outcome::Unsat))
@@ -125,17 +137,20 @@ fn round<P: ParityEngine, L: LogSink>(
     log: &mut SearchLog<L>,
     state: &mut SearchState,
     engine: &mut P,
+    marks: &mut Marks,
     budget: u64,
 ) -> Result<Option<Outcome>, CoreFault>
     requires goes_on { SearchGoesOn log.old.formula.now budget (told_in L.LogSink log.old) state.old (P.state engine.old) }
     requires few { budget ≤ 10 ^ 18 }
+    requires clear { AreClear marks.old }
     ensures goes_on { IfOk result (λ o. MatchOption o (SearchGoesOn log.new.formula.now budget (told_in L.LogSink log.new) state.new (P.state engine.new)) (λ a. IsRightOutcome log.new.formula.now budget (told_in L.LogSink log.new) a)) }
     ensures one_more { IfOk result (λ o. MatchOption o (state.new.conflicts ≡ state.old.conflicts + 1) (λ _. Unit {0})) }
     ensures settled { Settled log.new.formula.now → state.old.trail.level ≡ 0 → IfOk result (λ o. MatchOption o ⊥ (λ a. IsSettledBy log.new.formula.now (state.old.conflicts + 1) (told_in L.LogSink log.new) a)) }
+    ensures clear { OnOk result (AreClear marks.new) }
     ensures log { GoesOn L.LogSink log.old (fault_in result) log.new }
 {
     let found = search_on(log, state, engine)?;
-    conclude(log, state, engine, budget, found)
+    conclude(log, state, engine, marks, budget, found)
 }
 
 /// Searches up to the budget.
@@ -154,8 +169,9 @@ fn search<P: ParityEngine, L: LogSink>(
     ensures log { GoesOn L.LogSink log.old (fault_in result) log.new }
 {
     let mut schedule = Schedule::new();
+    let mut marks = Marks::new(log.alloc);
     loop {
-        if let Some(outcome) = round(log, state, engine, budget)? {
+        if let Some(outcome) = round(log, state, engine, &mut marks, budget)? {
             return Ok(outcome);
         }
         follow_schedule(log, state, engine, &mut schedule)?;

@@ -1,7 +1,8 @@
 //! Where the clauses come from that implied the literals of the trail.
-ghost use Rattle.std.specs.Prelude.{◌≡◌, ◌<◌, ◌≤◌, [], ◌∷◌, ◌++◌, List, length, IfOk, IfSome, OnOk, OnErr};
+ghost use Rattle.std.specs.Prelude.{◌≡◌, ℕ, ◌<◌, [], ◌∷◌, ◌++◌, List, length, IfOk, IfSome, OnOk, OnErr};
 ghost use Rattle.cx_base.specs.Literals.{Literal};
-ghost use Rattle.cx_trail.specs.Sequence.{entry_at};
+ghost use Rattle.cx_trail.specs.declared.entry.Reason.TheVariants.{Clause};
+ghost use Rattle.cx_trail.specs.Sequence.{entry_at, IsTrueIn};
 ghost use Rattle.clause_arena.specs.Clauses.{IsLive, literals_at};
 ghost use Rattle.conflict_learn.specs.Learning.{HasReason, IsAntecedent};
 ghost use Rattle.conflict_learn.specs.Faults.{fault_in};
@@ -94,6 +95,45 @@ pub fn silent_clause(
     }
 }
 
+/// The literals of the clause of the arena that implied a literal.
+fn lent(state: &SearchState, reason: Reason, literal: Lit) -> Option<&[Lit]>
+    requires reason { HasReason state.now.trail literal reason }
+    requires reasons { (e : State) × HaveReasons state.now e }
+    ensures sourced { IfSome result (λ c. (rows : List (List Literal)) → IsSourced state.now rows c.now) }
+    ensures implied { IfSome result (λ c. IsAntecedent state.now.trail literal c.now) }
+{
+    let place = state.trail.place_of(literal.negate());
+    match reason {
+        Reason::Clause(reference) if place >= state.units.len() => {
+            Some(state.arena.lits(reference))
+        }
+        _ => None,
+    }
+}
+
+/// The id of a clause of the arena.
+fn id_of(state: &SearchState, reason: Reason) -> Option<u64>
+    requires { (r : ℕ) → reason ≡ Clause r → IsLive state.now.arena r }
+{
+    match reason {
+        Reason::Clause(reference) => Some(state.arena.id(reference)),
+        _ => None,
+    }
+}
+
+/// The id of the clause of the arena or of level 0 that implied a literal.
+pub fn silent_id(state: &SearchState, literal: Lit) -> Option<u64>
+    requires true_now { IsTrueIn state.now.trail.entries literal }
+    requires reasons { (e : State) × HaveReasons state.now e }
+{
+    let place = state.trail.place_of(literal.negate());
+    if place < state.units.len() {
+        return Some(state.units[place]);
+    }
+    let entry = state.trail.entry(place);
+    id_of(state, entry.reason)
+}
+
 /// The clause of a row, which is told.
 fn hinted_row<P: ParityEngine, L: LogSink>(
     log: &mut SearchLog<L>,
@@ -151,8 +191,6 @@ pub struct Source<'a, 'b, P, L> {
     pub engine: &'a P,
     /// The clauses of rows that were told since the last mark, in the order of their ids.
     pub rows: &'a mut Vec<LitList>,
-    /// The ids of the clauses that were asked for, in order.
-    pub ids: &'a mut Vec<u64>,
 }
 
 impl<P: ParityEngine, L: LogSink> Antecedents for Source<'_, '_, P, L> {
@@ -170,6 +208,10 @@ impl<P: ParityEngine, L: LogSink> Antecedents for Source<'_, '_, P, L> {
 
     ghost goes_on_then = { λ a b c why h k. (loans_then a b c h.0 k.0, log_then _ L.keeps_on a.log.now b.log.now c.log.now why h.1 k.1) };
 
+    fn look(&self, reason: Reason, literal: Lit) -> Option<&[Lit]> {
+        lent(self.state, reason, literal)
+    }
+
     fn clause_of(&mut self, reason: Reason, literal: Lit) -> Result<LitList, CoreFault> {
         let hinted = clause_of_reason(
             self.log,
@@ -179,7 +221,6 @@ impl<P: ParityEngine, L: LogSink> Antecedents for Source<'_, '_, P, L> {
             literal,
             self.rows,
         )?;
-        self.ids.push(hinted.id)?;
         Ok(hinted.lits)
     }
 }

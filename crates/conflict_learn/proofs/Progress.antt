@@ -1,5 +1,5 @@
 -- How far an analysis has come: the literals kept so far, and the places still to be looked at.
-use Rattle.std.specs.Prelude.{◌≡◌, ℕ, ◌<◌, ◌+◌, List, [], ◌∷◌, ◌++◌, length, IsTrue, max, ◌⊎◌}
+use Rattle.std.specs.Prelude.{◌≡◌, ℕ, ◌<◌, List, ◌∷◌, ◌++◌, length, IsTrue, ◌⊎◌, []}
 use Rattle.std.specs.List.{AllByRecursion}
 use Rattle.cx_base.specs.Literals.{Literal}
 use Rattle.cx_trail.specs.Sequence.{TrailState}
@@ -28,8 +28,3 @@ pub record Analysing (trail : TrailState) (conflict : List Literal) (holds : Lis
   pub within : (q : ℕ) → IsTrue (has_place keys q) → q < length trail.entries
   pub stage : IsSeeking trail places keys ⊎ HasFound trail places keys
   pub follows : Follows trail conflict holds resolved (lits ++ negated_at trail keys)
-
--- one more than the greatest key
-abbrev pub roof : List ℕ → ℕ
-roof [] = 0
-roof (k ∷ ks) = max (k + 1) (roof ks)

@@ -5,8 +5,11 @@ mod antecedents;
 mod fault;
 mod learning;
 mod levels;
+mod marks;
+mod shortening;
 mod touching;
 
 pub use antecedents::Antecedents;
 pub use fault::CoreFault;
 pub use learning::{Learned, analyse};
+pub use marks::Marks;

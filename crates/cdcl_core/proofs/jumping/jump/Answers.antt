@@ -2,6 +2,7 @@ use Rattle.std.proofs.Common.{sym, subst, length, ◌≤◌, ◌+◌, arith}
 use Rattle.cx_semantics.specs.Integers.{integers_of}
 use Rattle.watch_lists.specs.Attaching.{CanBeWatched, literal_at}
 use Rattle.cx_trail.specs.Sequence.{IsOpenIn}
+use Rattle.conflict_learn.specs.Touching.{AreTouched}
 use Rattle.search_steps.specs.LogSteps.{after_round}
 use Rattle.search_steps.specs.Search.{IsSearch}
 use Rattle.cdcl_search.proofs.Outcomes.{on_ok}
@@ -21,7 +22,7 @@ bump-requires g c =
     record {
       within = λ k d h. scores_within c.args.formula.now c.args.state.now (g.P.ParityEngine.state c.args.engine.now) c.args.learned.now.lits c.args.learned.now.back_level l.search l.taught
           c.go_back.new.state (g.P.ParityEngine.state c.go_back.new.engine) (c.go_back.ensures.ties l.taught.rows l.search l.taught.search l.taught.ties) c.go_back.ensures.watched c.go_back.ensures.back
-          c.as_slice.result.now c.as_slice.ensures k d h;
+          c.args.learned.now.resolved c.args.learned.now.lits c.deref.result.now (subst (AreTouched c.args.state.now.trail c.args.learned.now.resolved c.args.learned.now.lits) (sym c.deref.ensures.value) c.requires.touched) k d h;
     }
 
 pub enter-requires-clause-fits : goal.enter-requires-clause-fits
@@ -32,14 +33,14 @@ enter-requires-clause-fits g c =
 pub enter-requires-clause-watched : goal.enter-requires-clause-watched
 enter-requires-clause-watched g c =
     let l = c.requires.learned.1 in
-    subst (λ xs. 2 ≤ length xs → CanBeWatched c.go_back.new.state.watches.variables c.go_back.new.state.trail xs) (sym c.as_slice-2.ensures)
+    subst (λ xs. 2 ≤ length xs → CanBeWatched c.go_back.new.state.watches.variables c.go_back.new.state.trail xs) (sym c.as_slice.ensures)
     (can_be_watched c.args.formula.now c.args.state.now (g.P.ParityEngine.state c.args.engine.now) c.args.learned.now.lits c.args.learned.now.back_level l.search l.taught
     c.go_back.new.state (g.P.ParityEngine.state c.go_back.new.engine) (c.go_back.ensures.ties l.taught.rows l.search l.taught.search l.taught.ties) c.go_back.ensures.watched c.go_back.ensures.back)
 
 pub enter-requires-clause-open : goal.enter-requires-clause-open
 enter-requires-clause-open g c =
     let l = c.requires.learned.1 in
-    subst (λ xs. IsOpenIn c.go_back.new.state.trail.entries (literal_at xs 0).variable) (sym c.as_slice-2.ensures)
+    subst (λ xs. IsOpenIn c.go_back.new.state.trail.entries (literal_at xs 0).variable) (sym c.as_slice.ensures)
     (first_is_open c.args.formula.now c.args.state.now (g.P.ParityEngine.state c.args.engine.now) c.args.learned.now.lits c.args.learned.now.back_level l.search l.taught
     c.go_back.new.state (g.P.ParityEngine.state c.go_back.new.engine) (c.go_back.ensures.ties l.taught.rows l.search l.taught.search l.taught.ties) c.go_back.ensures.watched c.go_back.ensures.back)
 
@@ -51,7 +52,7 @@ returns-clause-stands g c = on_ok _ c.enter.result c.enter.ensures (λ enters to
     let now = enters_stands f c.args.state.now e learned.lits learned.back_level l.search l.taught
     c.go_back.new.state (g.P.ParityEngine.state c.go_back.new.engine) (c.go_back.ensures.ties l.taught.rows l.search l.taught.search l.taught.ties) c.go_back.ensures.watched c.go_back.ensures.back
     c.bump.new.order c.bump.ensures.standing c.bump.ensures.scores c.enter.new.state learned.lbd l.hints c.go_back.ensures.counts c.go_back.ensures.units
-    (subst (λ xs. Enters (record c.go_back.new.state { order = c.bump.new.order; next = c.go_back.new.state.next + 1; conflicts = c.go_back.new.state.conflicts + 1; learned = c.go_back.new.state.learned + 1 }) c.enter.new.state xs c.go_back.new.state.next learned.lbd) c.as_slice-2.ensures enters) in (
+    (subst (λ xs. Enters (record c.go_back.new.state { order = c.bump.new.order; next = c.go_back.new.state.next + 1; conflicts = c.go_back.new.state.conflicts + 1; learned = c.go_back.new.state.learned + 1 }) c.enter.new.state xs c.go_back.new.state.next learned.lbd) c.as_slice.ensures enters) in (
       after_round l.search c.args.state.now.next (integers_of learned.lits) l.hints learned.back_level l.taught.first,
       subst (λ ps. IsSearch f ps (after_round l.search c.args.state.now.next (integers_of learned.lits) l.hints learned.back_level l.taught.first)) (sym c.go_back.ensures.parities) (round_is_search f c.args.state.now e learned.lits learned.back_level l.search l.taught l.hints),
       l.told_is,

@@ -1,11 +1,18 @@
-use Rattle.std.proofs.Common.{sym, subst, rules}
+use Rattle.std.proofs.Common.{◌≡◌, sym, subst, rules, true}
+use Rattle.cx_semantics.specs.Chain.{has_literal}
 use Rattle.cdcl_search.specs.Ties.{SearchStands}
 use Rattle.cdcl_search.specs.GoingOn.{log_then}
 use Rattle.cdcl_core.proofs.learning.learn.Goals as goal
 
+pub hints_of_lesson-requires-clause-stand : goal.hints_of_lesson-requires-clause-stand
+hints_of_lesson-requires-clause-stand g c l h = c.in_ok-learned.ensures.stand l (subst (λ ls. has_literal ls l ≡ true) c.as_slice-resolved.ensures h)
+
+pub hints_of_lesson-requires-clause-reasons : goal.hints_of_lesson-requires-clause-reasons
+hints_of_lesson-requires-clause-reasons g c = (g.P.ParityEngine.state c.args.engine.now, c.in_ok-learned.ensures.stands.3.reasons)
+
 pub tell_learned-requires-clause-stands : goal.tell_learned-requires-clause-stands
 tell_learned-requires-clause-stands g c =
-    subst (λ rs. SearchStands c.lesson_of.new.log.formula.now c.args.state.now (g.P.ParityEngine.state c.args.engine.now) rs (g.L.LogSink.events c.lesson_of.new.log.sink.now)) (sym c.deref-2.ensures.value) c.in_ok-learned.ensures.stands
+    subst (λ rs. SearchStands c.lesson_of.new.log.formula.now c.args.state.now (g.P.ParityEngine.state c.args.engine.now) rs (g.L.LogSink.events c.lesson_of.new.log.sink.now)) (sym c.deref.ensures.value) c.in_ok-learned.ensures.stands
 
 pub returns-in_err-tell_learned-clause-log : goal.returns-in_err-tell_learned-clause-log
 returns-in_err-tell_learned-clause-log g c = log_then g.L.LogSink g.met.L.LogSink.keeps_on _ c.lesson_of.new.log _ _ c.in_ok-learned.ensures.log (search rules)

@@ -17,6 +17,7 @@ loop-schedule-preserved g c =
         fewer = subst (λ n. n < c.args.budget) (sym then.conflicts) goes_on.fewer;
       };
       settled = λ s. absurd (rw c.in_default.is at (c.in_ok-outcome.ensures.settled (subst Settled then.log.formula s) (i.settled (subst Settled (then.log.formula ∙ more.formula) s)).0));
+      clear = c.in_ok-outcome.ensures.clear;
       log = log_then g.L.LogSink g.met.L.LogSink.keeps_on _ c.round.new.log _ _ (log_then g.L.LogSink g.met.L.LogSink.keeps_on _ c.loop-schedule.log _ _ i.log more) then.log;
     }
 

@@ -1,32 +1,52 @@
-use Rattle.std.proofs.Common.{◌≡◌, sym, ap, ◌∙◌, subst, ◌+◌, true, false, [], ◌∷◌, ◌++◌, take, arith}
+use Rattle.std.proofs.Common.{◌≡◌, sym, ap, ◌∙◌, subst, ◌+◌, ◌<◌, false, true, [], ◌∷◌, ◌++◌, take, set, length, arith, true≢false}
 use Rattle.std.proofs.lemmas.List.{take_more}
 use Rattle.cx_base.specs.Literals.{Literal}
 use Rattle.cx_semantics.specs.Chain.{has_literal}
 use Rattle.cx_semantics.proofs.Members.{has_by_index}
 use Rattle.conflict_learn.specs.Learning.{skips}
+use Rattle.conflict_learn.specs.Marks.{StandBetween}
 use Rattle.conflict_learn.specs.Touching.{Touched}
-use Rattle.conflict_learn.proofs.TouchLaws.{touched_skipped, touched_put}
-use Rattle.conflict_learn.proofs.touching.touch.Goals.{then-not-is_skipped+in_ok-insert, else-not-is_skipped}
+use Rattle.conflict_learn.proofs.TouchLaws.{touched_more, touched_put, stand_put, false_within, before_is_in}
+use Rattle.conflict_learn.proofs.touching.touch.Goals.{then-not-is_skipped+then-not-has, else-not-is_skipped, else-not-is_skipped-via-then-not-is_skipped+else-not-has, else-not-is_skipped-via-else-not-is_skipped}
 use Rattle.conflict_learn.proofs.touching.touch.Goals as goal
 
 pub loop-literal-preserved : goal.loop-literal-preserved
 loop-literal-preserved c =
+    let trail = c.args.trail.now in
+    let skip = c.args.skip.now in
+    let lits = c.args.literals.now in
+    let old = c.args.marks.now in
+    let below = c.args.below in
     let i = c.loop-literal.literal-index in
     let x = c.literal-item.result in
-    let more : take (i + 1) c.args.literals.now ≡ take i c.args.literals.now ++ x ∷ [] =
-    take_more c.args.literals.now i x c.loop-literal-test.true ∙ ap (λ y. take i c.args.literals.now ++ y ∷ []) (sym c.literal-item.is) in
-    subst (λ done. Touched c.args.trail.now c.args.skip.now c.args.below c.args.touched.now c.if-not-is_skipped.touched done) (sym more) (elim c.if-not-is_skipped.branch [
-      | then-not-is_skipped+in_ok-insert w ↦
-          let has_it : has_literal c.args.literals.now x ≡ true = ap (has_literal c.args.literals.now) c.literal-item.is ∙ has_by_index c.args.literals.now i x c.loop-literal-test.true in
-          let taken : skips c.args.skip.now x ≡ false = sym c.is_skipped.ensures ∙ w.if-not-is_skipped.true in
-          let f = c.requires.negated x has_it taken in
-          let less = f.1 in
-          let bound = c.requires.bound in
-          let same : f.0 ≡ w.place_of.result = w.place_of.ensures.sound.distinct f.0 w.place_of.result (omega (arith, less, bound)) w.place_of.ensures.within (ap (λ (x : Literal). x.variable) (f.2 ∙ sym w.place_of.ensures.negated)) in
-          subst (λ s. Touched c.args.trail.now c.args.skip.now c.args.below c.args.touched.now s (take i c.args.literals.now ++ x ∷ [])) (sym w.touched-is)
-          (touched_put c.args.trail.now c.args.skip.now c.args.below c.args.touched.now c.loop-literal.touched w.insert.new.self (take i c.args.literals.now) x w.place_of.result
-          (omega (arith, less, same)) w.place_of.ensures.negated w.in_ok-insert.ensures.updates c.loop-literal.invariant)
+    let marks = c.loop-literal.marks in
+    let t = c.loop-literal.invariant.0 in
+    let stand = c.loop-literal.invariant.1 in
+    let more : take (i + 1) lits ≡ take i lits ++ x ∷ [] = take_more lits i x c.loop-literal-test.true ∙ ap (λ y. take i lits ++ y ∷ []) (sym c.literal-item.is) in
+    elim c.if-not-is_skipped.branch [
+      | then-not-is_skipped+then-not-has w ↦
+          let has_it : has_literal lits x ≡ true = ap (has_literal lits) c.literal-item.is ∙ has_by_index lits i x c.loop-literal-test.true in
+          let f = c.requires.negated x has_it (sym c.is_skipped.ensures ∙ w.if-not-is_skipped.true) in
+          let high = false_within trail c.vars-vars.ensures.sound x (before_is_in trail below x c.requires.bound f) in
+          let wide = c.requires.wide in
+          let size = t.size in
+          let inside : x.variable < length marks = omega (arith, high, wide, size) in
+          let marks_are : c.if-not-is_skipped.marks ≡ set marks x.variable true = w.marks-is ∙ w.mark.ensures ∙ ap (λ v. set marks v true) w.var-then-not-has.ensures in
+          let same : f.0 ≡ w.place_of.result = c.vars-vars.ensures.sound.distinct f.0 w.place_of.result (let less = f.1 in let bound = c.requires.bound in omega (arith, less, bound)) w.place_of.ensures.within (ap (λ (y : Literal). y.variable) (f.2 ∙ sym w.place_of.ensures.negated)) in
+          let min = w.min-low.ensures in
+          let low_is = w.low-is in
+          let less = f.1 in (
+            subst (Touched skip old c.if-not-is_skipped.marks) (sym more) (subst (λ ms. Touched skip old ms (take i lits ++ x ∷ [])) (sym marks_are) (touched_put skip old marks (take i lits) x t inside)),
+            subst (λ ms. StandBetween trail ms c.if-not-is_skipped.low below) (sym marks_are)
+                (stand_put trail marks c.loop-literal.low below x.variable w.place_of.result c.if-not-is_skipped.low (omega (arith, less, same)) (ap (λ (y : Literal). y.variable) w.place_of.ensures.negated)
+                (omega (arith, min, low_is)) (omega (arith, min, low_is)) stand),
+          )
       | else-not-is_skipped w ↦
-          subst (λ s. Touched c.args.trail.now c.args.skip.now c.args.below c.args.touched.now s (take i c.args.literals.now ++ x ∷ [])) (sym w.touched-is)
-          (touched_skipped c.args.trail.now c.args.skip.now c.args.below c.args.touched.now c.loop-literal.touched (take i c.args.literals.now) x (sym c.is_skipped.ensures ∙ w.if-not-is_skipped.false) c.loop-literal.invariant)
-    ])
+          let there : skips skip x ≡ false → Rattle.conflict_learn.specs.Marks.is_marked marks x.variable ≡ true = elim w.else-not-is_skipped.branch [
+            | else-not-is_skipped-via-then-not-is_skipped+else-not-has v ↦ λ n. sym (v.has.ensures ∙ ap (Rattle.conflict_learn.specs.Marks.is_marked marks) v.var.ensures) ∙ v.if-not-has.false
+            | else-not-is_skipped-via-else-not-is_skipped v ↦ λ n. absurd (true≢false (sym (sym c.is_skipped.ensures ∙ v.if-not-is_skipped.false) ∙ n))
+          ] in (
+            subst (Touched skip old c.if-not-is_skipped.marks) (sym more) (subst (λ ms. Touched skip old ms (take i lits ++ x ∷ [])) (sym w.marks-is) (touched_more skip old marks (take i lits) x t there)),
+            subst (λ ms. StandBetween trail ms c.if-not-is_skipped.low below) (sym w.marks-is) (subst (λ n. StandBetween trail marks n below) (sym w.low-is) stand),
+          )
+    ]

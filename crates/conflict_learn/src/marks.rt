@@ -1,0 +1,78 @@
+//! Marks of variables.
+ghost use Rattle.std.specs.Prelude.{◌≡◌, ◌<◌, ℕ, length, true, false, set, OnOk};
+ghost use Rattle.conflict_learn.specs.Marks.{is_marked, AreClear};
+
+use cx_base::Var;
+use std::alloc::{AllocError, Global};
+use std::marker::Model;
+
+/// Marks of variables.
+///
+/// One table serves all analyses of a search: each finds it clear and leaves it clear, in the time of what it marked.
+/// It grows to the number of variables once.
+#[derive(Drop)]
+pub struct Marks {
+    marks: Vec<bool>,
+}
+
+impl Model for Marks {
+    ghost use Rattle.std.specs.Prelude.{List, Bool};
+
+    ghost Value = { List Bool };
+
+    ghost view = { λ m. m.marks.items };
+}
+
+// Adds clear marks until there is one at this place.
+fn extend(marks: &mut Vec<bool>, place: usize) -> Result<(), AllocError>
+    ensures same { (v : ℕ) → is_marked marks.new.items v ≡ is_marked marks.old.items v }
+    ensures reached { OnOk result (place < length marks.new.items) }
+{
+    for _ in marks.len()..=place {
+        marks.push(false)?;
+    }
+    Ok(())
+}
+
+impl Marks {
+    /// No marks.
+    pub fn new(alloc: Global) -> Marks
+        ensures { AreClear result }
+    {
+        Marks {
+            marks: Vec::new(alloc),
+        }
+    }
+
+    // Adds clear marks until there is one for this variable.
+    pub(crate) fn reach(&mut self, vars: u32) -> Result<(), AllocError>
+        ensures same { (v : ℕ) → is_marked self.new v ≡ is_marked self.old v }
+        ensures reached { OnOk result (vars < length self.new) }
+    {
+        extend(&mut self.marks, vars as usize)
+    }
+
+    // Whether the variable is marked.
+    pub(crate) fn has(&self, variable: Var) -> bool
+        requires { variable < length self.now }
+        ensures { result ≡ is_marked self.now variable }
+    {
+        self.marks[variable.number() as usize]
+    }
+
+    // Marks the variable.
+    pub(crate) fn mark(&mut self, variable: Var)
+        requires { variable < length self.old }
+        ensures { self.new ≡ set self.old variable true }
+    {
+        self.marks[variable.number() as usize] = true;
+    }
+
+    // Takes the variable's mark away.
+    pub(crate) fn clear(&mut self, variable: Var)
+        requires { variable < length self.old }
+        ensures { self.new ≡ set self.old variable false }
+    {
+        self.marks[variable.number() as usize] = false;
+    }
+}
