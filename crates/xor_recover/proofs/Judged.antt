@@ -1,5 +1,5 @@
 -- The parity is judged right from the clauses of its find.
-use Rattle.std.proofs.Common.{◌≡◌, ◌≢◌, refl, sym, ap, ◌∙◌, subst, ℕ, zero, suc, ◌+◌, ◌<◌, ◌≤◌, Bool, true, false, cond, not, ◌&&◌, ◌||◌, nat_eq, List, [], ◌∷◌, length, map, arith, true≢false, inl, inr, ◌⊎◌, Option, Some, None}
+use Rattle.std.proofs.Common.{◌≡◌, ◌≢◌, refl, sym, ap, ◌∙◌, subst, ℕ, zero, suc, ◌+◌, ◌<◌, ◌≤◌, Bool, true, false, cond, not, ◌&&◌, ◌||◌, nat_eq, List, [], ◌∷◌, length, map, arith, true≢false, inl, inr, ◌⊎◌, Option, Some, None, is_some}
 use Rattle.std.specs.Prelude.{filter_map}
 use Rattle.std.specs.Ordering.{nat_cmp}
 use Rattle.std.specs.List.{AllByRecursion, Contains, list_any, list_all, All, cons_option}
@@ -13,7 +13,7 @@ use Rattle.cx_base.specs.declared.constraint.Constraint.TheVariants.{Clause}
 use Rattle.cx_semantics.specs.Chain.{has_literal, same_literals}
 use Rattle.cx_semantics.specs.Recovered.{Recovered}
 use Rattle.cx_semantics.specs.Tables.{get, named, first_tables}
-use Rattle.cx_semantics.proofs.Lookups.{lookup, Looks-numbered_from}
+use Rattle.cx_semantics.proofs.Lookups.{lookup, Looks-numbered_from, ids_by}
 use Rattle.cx_semantics.proofs.SameSets.{HaveSame-by_test}
 use Rattle.cx_semantics.proofs.Members.{has_at_head, has_behind}
 use Rattle.cx_semantics.proofs.Widths.{variables, variable_in}
@@ -72,6 +72,10 @@ named_has f lits (k ∷ ns) n c h e s = elim (cases k ns n h) [
     behind None g = g
     behind (Some d) g = or_right (same_literals lits d) _ g
 
+none_dead : (f : ℕ → Option (List Literal)) (P : List Literal → Type 0) (ns : List ℕ) → AllByRecursion (λ n. (c : List Literal) × (f n ≡ Some c) × P c) ns → list_any (λ n. not (is_some (f n))) ns ≡ false
+none_dead f P [] h = refl
+none_dead f P (n ∷ ns) h = or_from _ _ (ap (λ o. not (is_some o)) h.0.1) (none_dead f P ns h.1)
+
 outside : NormalForm → List Literal → Bool
 outside form c = list_any (λ (l : Literal). not (set.contains form.variables l.variable)) c
 
@@ -102,9 +106,10 @@ judged formula find least r =
     let table = (first_tables formula).clauses in
     let looks = Looks-numbered_from 1 C in
     let cs = named table find.clauses in
-    let from : AllByRecursion (IsFrom find) cs = named_all (get table) (IsFrom find) find.clauses (recursion_from_All (λ n. (c : List Literal) × (get table n ≡ Some c) × IsFrom find c) find.clauses (All-weaker (λ n. (lits : List Literal) × IsExcluding find lits × (first_with lits 1 C ≡ Some n)) (λ n. (c : List Literal) × (get table n ≡ Some c) × IsFrom find c) (λ n h.
+    let all : AllByRecursion (λ n. (c : List Literal) × (get table n ≡ Some c) × IsFrom find c) find.clauses = recursion_from_All (λ n. (c : List Literal) × (get table n ≡ Some c) × IsFrom find c) find.clauses (All-weaker (λ n. (lits : List Literal) × IsExcluding find lits × (first_with lits 1 C ≡ Some n)) (λ n. (c : List Literal) × (get table n ≡ Some c) × IsFrom find c) (λ n h.
     let c = clause_at h.0 1 n C h.2 in
-    (c.0, looks n ∙ c.1, record { lits = h.0; excluding = h.1; same = c.2 })) find.clauses least.only)) in
+    (c.0, looks n ∙ c.1, record { lits = h.0; excluding = h.1; same = c.2 })) find.clauses least.only) in
+    let from : AllByRecursion (IsFrom find) cs = named_all (get table) (IsFrom find) find.clauses all in
     let whole : Problem = record { variables = 0; constraints = map Clause cs } in
     let of_whole = as_clauses cs in
     let again : Recovered whole (normal_form find.parity) = record {
@@ -115,10 +120,13 @@ judged formula find least r =
           let c = clause_at lits 1 n.0 C n.2 in
           ap (list_any (same_literals lits)) of_whole ∙ named_has (get table) lits find.clauses n.0 c.0 n.1 (looks n.0 ∙ c.1) c.2;
     } in (
-      le-ltb 12 (set.len (normal_form find.parity).variables) (let six = r.six in omega arith),
+      ids_by table (get table) (λ k. refl) find.clauses ∙ none_dead (get table) (IsFrom find) find.clauses all,
       (
-        all_inside find cs from,
-        ((λ values met. recovered_is_implied whole find.parity values again (ap (list_all (clause_met values)) of_whole ∙ met)), tt),
+        le-ltb 12 (set.len (normal_form find.parity).variables) (let six = r.six in omega arith),
+        (
+          all_inside find cs from,
+          ((λ values met. recovered_is_implied whole find.parity values again (ap (list_all (clause_met values)) of_whole ∙ met)), tt),
+        ),
       ),
     )
 

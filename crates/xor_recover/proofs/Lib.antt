@@ -9,6 +9,7 @@ pub mod GroupLaws
 pub mod FindLaws
 pub mod Within
 pub mod Sound
+pub mod Bounds
 pub mod Least
 pub mod Complete
 pub mod Judged

@@ -39,7 +39,7 @@ from_parts (x ∷ a) (y ∷ b) e f =
 row_says : (a b : List Literal) (m n : ℕ) → row a m ≡ row b n → a ≡ b
 row_says a b m n e = from_parts a b (ap (λ (r : Row). r.variables) e) (ap (λ (r : Row). r.signs) e)
 
-in_rows_if : (o : Option (List Literal)) (n : ℕ) (x : Row) → Contains (rows_if o n) x → (ms : List Literal) × (o ≡ Some ms) × (2 ≤ length ms) × (row ms n ≡ x)
+pub in_rows_if : (o : Option (List Literal)) (n : ℕ) (x : Row) → Contains (rows_if o n) x → (ms : List Literal) × (o ≡ Some ms) × (2 ≤ length ms) × (row ms n ≡ x)
 in_rows_if None n x c = absurd (let lt = c.1 in omega arith)
 in_rows_if (Some ms) n x c = elim (nat_le 2 (length ms)) as (λ b. nat_le 2 (length ms) ≡ b → Contains (cond b (row ms n ∷ []) []) x → (ms' : List Literal) × (Some ms ≡ Some ms') × (2 ≤ length ms') × (row ms' n ≡ x)) [
   | true ↦ λ e c. (ms, refl, leb-true 2 (length ms) e, only (row ms n) x c)

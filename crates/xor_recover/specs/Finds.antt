@@ -1,5 +1,5 @@
 -- What is recovered from the clauses of a formula.
-use Rattle.std.specs.Prelude.{◌≡◌, ◌≢◌, ℕ, ◌+◌, List, [], ◌∷◌, map, Option, Some, None, if◌then◌else◌}
+use Rattle.std.specs.Prelude.{◌≡◌, ◌≢◌, ℕ, ◌+◌, List, [], ◌∷◌, ◌++◌, map, Option, Some, None, if◌then◌else◌}
 use Rattle.std.specs.List.{All, Contains}
 use Rattle.std.specs.List.Sorted.{IsStrictlyIncreasing}
 use Rattle.std.specs.Ordering.{ordering_then, nat_cmp, bool_cmp}
@@ -11,6 +11,7 @@ use Rattle.cx_base.specs.Problem.{Problem, clauses_of}
 use Rattle.cx_semantics.specs.Chain.{same_literals}
 use Rattle.cx_semantics.specs.Recovered.{excluded_sum}
 use Rattle.cx_semantics.specs.Tables.{named, first_tables}
+use Rattle.cx_semantics.specs.LogRules.{naming}
 use Rattle.cx_semantics.specs.ProofRules.{parity_of_clauses}
 use Rattle.cx_semantics.specs.Judging.{AllHold}
 use Rattle.parity_engine.specs.Written.{IsWritten}
@@ -32,9 +33,10 @@ pub record HasLeastNumbers (formula : Problem) (find : Found) : Type 0 where
   pub needed : (lits : List Literal) → IsExcluding find lits → (n : ℕ) × Contains find.clauses n × (first_with lits 1 (clauses_of formula.constraints) ≡ Some n)
   pub only : All (λ n. (lits : List Literal) × IsExcluding find lits × (first_with lits 1 (clauses_of formula.constraints) ≡ Some n)) find.clauses
 
--- The parity is judged right from these clauses.
+-- The clauses stand, and the parity is judged right from them.
 abbrev pub IsJudgedRight : Problem → Found → Type 0
-IsJudgedRight formula find = AllHold (parity_of_clauses find.parity (named (first_tables formula).clauses find.clauses))
+IsJudgedRight formula find =
+    let clauses = (first_tables formula).clauses in AllHold (naming clauses find.clauses ++ parity_of_clauses find.parity (named clauses find.clauses))
 
 -- Finds in order: by the variables, a shorter list before those that go on from it, then right side 0 before 1.
 abbrev pub find_cmp : Found → Found → Ordering

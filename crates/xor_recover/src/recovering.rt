@@ -7,6 +7,7 @@ ghost use Rattle.xor_recover.specs.Finds.{HasLeastNumbers, IsJudgedRight, find_c
 ghost use Rattle.cx_base.specs.declared.literal.TheConstants.{MAX_VARIABLE};
 ghost use Rattle.parity_engine.specs.Written.{literals_with, AreRising, IsWritten};
 ghost use Rattle.cx_base.specs.Parity.{NormalForm, normal_form};
+ghost use Rattle.cx_base.specs.Problem.{AreWithin, clauses_of};
 ghost use Rattle.cx_semantics.specs.Recovered.{Recovered};
 ghost use Rattle.xor_recover.specs.Rows.{IsProper};
 ghost use Rattle.xor_recover.specs.Entries.{row_of};
@@ -20,7 +21,8 @@ use std::alloc::{AllocError, Global};
 
 /// Sorts the entries, and keeps the least number of each clause.
 fn sort_and_keep_first(entries: &mut Vec<Entry>)
-    ensures { AreFirsts (map row_of entries.old.items) (map row_of entries.new.items) }
+    ensures firsts { AreFirsts (map row_of entries.old.items) (map row_of entries.new.items) }
+    ensures fewer { length entries.new.items ≤ length entries.old.items }
 {
     entries.sort_unstable();
     entries.dedup_by(|later, first| later.key == first.key && later.signs == first.signs);
@@ -92,6 +94,8 @@ pub fn recover(alloc: Global, formula: &Formula) -> Result<FoundList, AllocError
     ensures complete { IfOk result (λ finds. (form : NormalForm) → Recovered formula.now form → (find : Found) × Contains finds find × (normal_form find.parity ≡ form)) }
     ensures least { IfOk result (λ finds. All (HasLeastNumbers formula.now) finds) }
     ensures judged { IfOk result (λ finds. All (IsJudgedRight formula.now) finds) }
+    ensures within { IfOk result (λ finds. All (λ find. AreWithin formula.now.variables find.parity) finds) }
+    ensures few { IfOk result (λ finds. length finds ≤ length (clauses_of formula.now.constraints)) }
 {
     let _vars = formula.vars();
     let mut entries = entries(alloc, formula)?;
