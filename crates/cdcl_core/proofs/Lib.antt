@@ -8,6 +8,7 @@ pub mod ConflictLaws
 pub mod Answering
 pub mod EndingLaws
 pub mod OriginalLaws
+pub mod GivenLaws
 pub mod DifferentLiterals
 pub mod FillingLaws
 pub mod WaitingLaws

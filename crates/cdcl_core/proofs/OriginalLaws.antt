@@ -51,6 +51,12 @@ few_clauses [] = omega arith
 few_clauses (constraint.Clause lits ∷ cs) = let rec = few_clauses cs in omega (arith, rec)
 few_clauses (constraint.Parity lits ∷ cs) = let rec = few_clauses cs in omega (arith, rec)
 
+pub both_kinds : (cs : List Constraint) → length (clauses_of cs) + length (parities_of cs) ≡ length cs
+unfolding clauses_of parities_of
+both_kinds [] = refl
+both_kinds (constraint.Clause lits ∷ cs) = let rec = both_kinds cs in omega (arith, rec)
+both_kinds (constraint.Parity lits ∷ cs) = let rec = both_kinds cs in omega (arith, rec)
+
 count_clause : (cs : List Constraint) (clauses parities : ℕ) (lits : List Literal) → AreCounted cs clauses parities → AreCounted (cs ++ constraint.Clause lits ∷ []) (clauses + 1) parities
 unfolding clauses_of parities_of
 count_clause cs clauses parities lits a = record {
@@ -73,7 +79,7 @@ none_counted = record { clauses = refl; parities = refl }
 nothing_listed : AreListedFromOne map_.empty []
 nothing_listed = record { numbered = λ k low high. absurd (omega (arith, low, high)); none_before = Looks-empty 0 }
 
-listed_more : (table : Table) (lists : List (List Literal)) (lits : List Literal) → AreListedFromOne table lists → AreListedFromOne (map_.insert table (length lists + 1) lits) (lists ++ lits ∷ [])
+pub listed_more : (table : Table) (lists : List (List Literal)) (lits : List Literal) → AreListedFromOne table lists → AreListedFromOne (map_.insert table (length lists + 1) lits) (lists ++ lits ∷ [])
 listed_more table lists lits a = record {
   numbered = λ k low high.
       let long = length-append lists (lits ∷ []) in
@@ -155,6 +161,10 @@ module _ (formula : Problem) (taken : List Constraint) (s : Search) (lits : List
     a,
   )
 
+pub told_more : (events : List LogEvent) (step : LogStep) (o : Option (List LogEvent)) → AreTold o events → AreTold (with_events (Step step ∷ []) o) (events ++ Step step ∷ [])
+told_more events step None a = tt
+told_more events step (Some es) a = ap (λ xs. xs ++ Step step ∷ []) a
+
 -- ---- what stands before the first
 pub fresh_has_begun : (formula : Problem) (old : Option (List LogEvent)) → IsFresh old → HasBegun formula [] old
 unfolding clauses_of parities_of
@@ -170,10 +180,6 @@ module _ (formula : Problem) (place : ℕ) (d : Constraint) (less : place < leng
     (counted : AreCounted (take place formula.constraints) clauses parities) (old : Option (List LogEvent)) (begun : HasBegun formula (take place formula.constraints) old) where
   abbrev taken : List Constraint
   taken = take place formula.constraints
-
-  told_more : (step : LogStep) (o : Option (List LogEvent)) → AreTold o begun.0.events → AreTold (with_events (Step step ∷ []) o) (begun.0.events ++ Step step ∷ [])
-  told_more step None a = tt
-  told_more step (Some es) a = ap (λ xs. xs ++ Step step ∷ []) a
 
   pub clause_is_id : (1 ≤ clauses + 1) × (clauses + 1 ≤ 2000000000000000000)
   clause_is_id = let a = few_clauses taken in let b = length-take place formula.constraints in let was = counted.clauses in (omega arith, omega (arith, a, b, was, less, few))
@@ -193,7 +199,7 @@ module _ (formula : Problem) (place : ℕ) (d : Constraint) (less : place < leng
         let step = Original (clauses + 1) (integers_of lits) in
         subst (λ cs. HasBegun formula cs (with_events (Step step ∷ []) old)) (sym (take_more formula.constraints place d less ∙ ap (λ c. taken ++ c ∷ []) is))
         (clause_has_begun formula taken begun.0 lits w begun.1 begun.2 begun.3 (with_events (Step step ∷ []) old) (clause_there formula.constraints place lits d less is)
-        (subst (λ n. AreTold (with_events (Step step ∷ []) old) (begun.0.events ++ Step (Original (n + 1) (integers_of lits)) ∷ [])) counted.clauses (told_more step old begun.4)))
+        (subst (λ n. AreTold (with_events (Step step ∷ []) old) (begun.0.events ++ Step (Original (n + 1) (integers_of lits)) ∷ [])) counted.clauses (told_more begun.0.events step old begun.4)))
 
     pub parity_begun : get_or formula.constraints place d ≡ constraint.Parity lits → HasBegun formula (take (place + 1) formula.constraints) (with_events (Step (OriginalParity (parities + 1) (integers_of lits)) ∷ []) old)
     parity_begun is =
@@ -201,4 +207,4 @@ module _ (formula : Problem) (place : ℕ) (d : Constraint) (less : place < leng
         let has = parity_there formula.constraints place lits d less is in
         subst (λ cs. HasBegun formula cs (with_events (Step step ∷ []) old)) (sym (take_more formula.constraints place d less ∙ ap (λ c. taken ++ c ∷ []) is))
         (parity_has_begun formula taken begun.0 lits w begun.1 begun.2 begun.3 (with_events (Step step ∷ []) old) (has.0, lits, has.1, has.2, refl)
-        (subst (λ n. AreTold (with_events (Step step ∷ []) old) (begun.0.events ++ Step (OriginalParity (n + 1) (integers_of lits)) ∷ [])) counted.parities (told_more step old begun.4)))
+        (subst (λ n. AreTold (with_events (Step step ∷ []) old) (begun.0.events ++ Step (OriginalParity (n + 1) (integers_of lits)) ∷ [])) counted.parities (told_more begun.0.events step old begun.4)))

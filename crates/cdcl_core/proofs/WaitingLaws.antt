@@ -9,7 +9,7 @@ use Rattle.std.specs.Prelude.{if◌then◌else◌}
 use Rattle.std.specs.Global.{Vec}
 use Rattle.std.proofs.lemmas.Option.{same_Some}
 use Rattle.cx_base.specs.Literals.{Literal, same_literal}
-use Rattle.cx_base.specs.Problem.{Problem, clauses_of, parities_of, IsWithinVariables}
+use Rattle.cx_base.specs.Problem.{Problem, clauses_of, IsWithinVariables}
 use Rattle.cx_semantics.specs.declared.steps.LogEvent.{LogEvent}
 use Rattle.cx_semantics.specs.Chain.{has_literal, is_inside, same_literals}
 use Rattle.cx_semantics.specs.Tables.{Table, get}
@@ -23,7 +23,7 @@ use Rattle.parity_engine.specs.declared.state.Mood.TheVariants.{Busy, Broken}
 use Rattle.parity_engine.specs.State.{State, fresh}
 use Rattle.clause_arena.specs.Clauses.{id_at}
 use Rattle.search_steps.specs.Engine.{HoldsValues}
-use Rattle.search_steps.specs.Ids.{IsRanged}
+use Rattle.search_steps.specs.Ids.{IsRanged, ReasonsBelow, AreRowIds}
 use Rattle.search_steps.specs.Quiet.{HasTrue, IsOfParities}
 use Rattle.search_steps.specs.Search.{Search, IsSearch, forced_on}
 use Rattle.search_steps.specs.Tied.{IsTied, ForcesOn}
@@ -31,24 +31,21 @@ use Rattle.search_steps.specs.Trail.{Entry, by_clause, held, level_of}
 use Rattle.search_steps.proofs.Bridge.{entry_last, entry_before, to_held, level_tied}
 use Rattle.search_steps.proofs.CodeSteps.{clause_step_keeps}
 use Rattle.search_steps.proofs.EngineLaws.{fresh_holds}
-use Rattle.search_steps.proofs.IdLaws.{begun_is_ranged, begun_has_free_sums, force_ranged, next_is_free}
+use Rattle.search_steps.proofs.IdLaws.{force_ranged, next_is_free}
 use Rattle.search_steps.proofs.LogLaws.{falsified_has_chain}
 use Rattle.conflict_learn.proofs.ChainOfResolutions.{by_cases}
 use Rattle.search_steps.proofs.Sets.{not_both}
-use Rattle.search_steps.proofs.StartLaws.{begun_is_search}
 use Rattle.search_steps.proofs.Stored.{stored_is_false}
 use Rattle.cdcl_search.specs.declared.state.SearchState.{SearchState}
 use Rattle.cdcl_search.specs.Ties.{SearchStands, LogTies, ClauseTies, IsHeld, AreUnits, RestOnUnits, IsFallingFrom, IsFed, IsNamedBy, first_row_id}
 use Rattle.cdcl_search.proofs.Growing.{held_grows, watched_grows, stand_grows}
 use Rattle.cdcl_search.proofs.UnitTies.{on_clauses, on_last}
-use Rattle.cdcl_search.proofs.RowSteps.{few_parities}
 use Rattle.search_steps.specs.Laws.{HaveTheirs}
-use Rattle.search_steps.proofs.OverSearch.{theirs_are_had}
 use Rattle.cdcl_search.proofs.Places.{tied_length}
 use Rattle.cdcl_search.proofs.TableLaws.{no_clause}
 use Rattle.cdcl_core.specs.declared.filling.Single.{Single}
 use Rattle.cdcl_core.specs.Filling.{IsFilled, clause_number}
-use Rattle.cdcl_core.specs.Originals.{HasBegun}
+use Rattle.cdcl_core.specs.Given.{HasGiven, AreEngines}
 use Rattle.cdcl_core.specs.Waiting.{TiesBut, SearchStandsBut, IsWaiting, IsSingle}
 use Rattle.cdcl_core.proofs.EndingLaws.{no_newer}
 use Rattle.cdcl_core.proofs.OriginalLaws.{few_clauses}
@@ -124,8 +121,8 @@ busy q = cc
 abbrev pub with_single : SearchState → Vec ℕ → TrailState → SearchState
 with_single c units trail = record c { trail = trail; units = units }
 
-pub next_waits : (formula : Problem) (c : SearchState) (units : List Single) (place : ℕ) (u : Single) (told : Option (List LogEvent)) → place < length units → u ≡ get_or units place u → SearchStandsBut formula c (drop place units) told → SearchStandsBut formula c (u ∷ drop (place + 1) units) told
-next_waits formula c units place u told less is st = subst (λ us. SearchStandsBut formula c us told) (drop-cons units place u less ∙ ap (λ j. get_or units place u ∷ drop j units) (let e : suc place ≡ place + 1 = omega arith in e) ∙ ap (λ x. x ∷ drop (place + 1) units) (sym is)) st
+pub next_waits : (formula : Problem) (engines : List (List Literal)) (c : SearchState) (units : List Single) (place : ℕ) (u : Single) (told : Option (List LogEvent)) → place < length units → u ≡ get_or units place u → SearchStandsBut formula engines c (drop place units) told → SearchStandsBut formula engines c (u ∷ drop (place + 1) units) told
+next_waits formula engines c units place u told less is st = subst (λ us. SearchStandsBut formula engines c us told) (drop-cons units place u less ∙ ap (λ j. get_or units place u ∷ drop j units) (let e : suc place ≡ place + 1 = omega arith in e) ∙ ap (λ x. x ∷ drop (place + 1) units) (sym is)) st
 
 pub none_left : (units : List Single) (place : ℕ) → length units ≤ place → drop place units ≡ []
 none_left [] zero far = refl
@@ -134,11 +131,11 @@ none_left (u ∷ units) zero far = absurd (omega (arith, far))
 none_left (u ∷ units) (suc place) far = none_left units place (omega (arith, far))
 
 -- ---- the next unit clause
-module _ (formula : Problem) (c : SearchState) (u : Single) (more : List Single) (old : Option (List LogEvent)) (st : SearchStandsBut formula c (u ∷ more) old) where
+module _ (formula : Problem) (engines : List (List Literal)) (c : SearchState) (u : Single) (more : List Single) (old : Option (List LogEvent)) (st : SearchStandsBut formula engines c (u ∷ more) old) where
   abbrev search : Search
   search = st.0
 
-  abbrev ties : TiesBut formula c (u ∷ more) search
+  abbrev ties : TiesBut formula engines c (u ∷ more) search
   ties = st.3
 
   abbrev single : IsSingle formula u
@@ -169,7 +166,7 @@ module _ (formula : Problem) (c : SearchState) (u : Single) (more : List Single)
         ∙ to_held 0 search.trail c.trail.entries ties.follows.tied i less (let low = ties.follows.sound.levels i less in let level = ties.level in omega (arith, low, level));
   }
 
-  pub true_is_put : IsTrueIn c.trail.entries u.literal → SearchStandsBut formula c more old
+  pub true_is_put : IsTrueIn c.trail.entries u.literal → SearchStandsBut formula engines c more old
   true_is_put h = (
     search,
     st.1,
@@ -219,9 +216,9 @@ module _ (formula : Problem) (c : SearchState) (u : Single) (more : List Single)
       search,
       st.2,
       record {
-        parities = parities_of formula.constraints;
+        parities = engines;
         search = st.1;
-        chain = falsified_has_chain search.moment.tables.clauses (IsOfParities formula.variables (parities_of formula.constraints)) search.trail st.1.serves.stands (on_clauses c.units.items search.trail rest) clause (u.number, live)
+        chain = falsified_has_chain search.moment.tables.clauses (IsOfParities formula.variables engines) search.trail st.1.serves.stands (on_clauses c.units.items search.trail rest) clause (u.number, live)
             (stored_is_false (u.literal ∷ []) clause single.0.same search.trail c.trail.entries ties.follows.tied (one_is_false c.trail.entries u.literal h));
         free = next_is_free formula first_row_id c.next first_row_id search ties.ranged ties.room;
         served = ties.served.served;
@@ -238,8 +235,8 @@ module _ (formula : Problem) (c : SearchState) (u : Single) (more : List Single)
     abbrev after : Search
     after = forced_on search u.literal (by_clause u.number)
 
-    keeps : IsSearch formula (parities_of formula.constraints) after × IsTied after.trail (pushed c.trail c.trail.level u.literal why).entries
-    keeps = clause_step_keeps formula (parities_of formula.constraints) search st.1 c.trail ties.follows u.literal why is_open u.number clause (let none = ties.no_level in omega (arith, none)) live (one_forces c.trail.entries clause u.literal single.0.same)
+    keeps : IsSearch formula engines after × IsTied after.trail (pushed c.trail c.trail.level u.literal why).entries
+    keeps = clause_step_keeps formula engines search st.1 c.trail ties.follows u.literal why is_open u.number clause (let none = ties.no_level in omega (arith, none)) live (one_forces c.trail.entries clause u.literal single.0.same)
 
     head_covers : HasTrue (held 0 after.trail) clause
     head_covers = record {
@@ -255,7 +252,7 @@ module _ (formula : Problem) (c : SearchState) (u : Single) (more : List Single)
         (record { clause = clause; live = live; same = single.0.same }) small
 
     module _ (units : Vec ℕ) (grown : units.items ≡ c.units.items ++ u.number ∷ []) where
-      pushed_is_put : IsTrail (pushed c.trail c.trail.level u.literal why) → SearchStandsBut formula (with_single c units (pushed c.trail c.trail.level u.literal why)) more old
+      pushed_is_put : IsTrail (pushed c.trail c.trail.level u.literal why) → SearchStandsBut formula engines (with_single c units (pushed c.trail c.trail.level u.literal why)) more old
       pushed_is_put sound = (
         after,
         keeps.0,
@@ -298,11 +295,11 @@ module _ (formula : Problem) (c : SearchState) (u : Single) (more : List Single)
         },
       )
 
-      pub open_is_put : (trail : TrailState) → trail ≡ pushed c.trail c.trail.level u.literal why → IsTrail trail → SearchStandsBut formula (with_single c units trail) more old
-      open_is_put trail is sound = subst (λ t. SearchStandsBut formula (with_single c units t) more old) (sym is) (pushed_is_put (subst IsTrail is sound))
+      pub open_is_put : (trail : TrailState) → trail ≡ pushed c.trail c.trail.level u.literal why → IsTrail trail → SearchStandsBut formula engines (with_single c units trail) more old
+      open_is_put trail is sound = subst (λ t. SearchStandsBut formula engines (with_single c units t) more old) (sym is) (pushed_is_put (subst IsTrail is sound))
 
 -- ---- before the first unit clause
-module _ (formula : Problem) (few : length formula.constraints ≤ 4294967295) (known : IsWithinVariables formula.variables formula.constraints) (told : Option (List LogEvent)) (b : HasBegun formula formula.constraints told) (c : SearchState) (units : List Single) where
+module _ (formula : Problem) (few : length formula.constraints ≤ 4294967295) (known : IsWithinVariables formula.variables formula.constraints) (engines : List (List Literal)) (told : Option (List LogEvent)) (b : HasGiven formula engines told) (c : SearchState) (units : List Single) where
   room_then : length (clauses_of formula.constraints) + 1 < first_row_id
   room_then = let a = few_clauses formula.constraints in omega (arith, a, few)
 
@@ -335,21 +332,33 @@ module _ (formula : Problem) (few : length formula.constraints ≤ 4294967295) (
     all = λ high i far less. absurd (omega (arith, high, level));
   }
 
-  pub filled_stands : IsFilled formula c units None → SearchStandsBut formula c units told
+  given_is_ranged : length (clauses_of formula.constraints) < first_row_id → IsRanged formula first_row_id (length (clauses_of formula.constraints) + 1) first_row_id b.0.trail b.0.moment
+  given_is_ranged room = record {
+    originals = omega arith;
+    room = omega (arith, room);
+    reasons = subst (ReasonsBelow first_row_id) (sym b.1.no_trail) tt;
+    learned = subst (AllByRecursion (λ n. n < first_row_id)) (sym b.1.no_learned) tt;
+    new_rows = subst (AreRowIds first_row_id first_row_id) (sym b.1.tidy.no_new_clauses) tt;
+    old_rows = subst (AreRowIds first_row_id first_row_id) (sym b.1.tidy.no_old_clauses) tt;
+    free = λ n h k. b.1.no_more n (omega (arith, h));
+    rows_free = λ n h k l. b.1.no_more n (omega (arith, h, room));
+  }
+
+  pub filled_stands : IsFilled formula c units None → SearchStandsBut formula engines c units told
   filled_stands f = (
     b.0,
-    begun_is_search formula b.0 b.1,
-    b.4,
+    b.1.search,
+    b.2,
     record {
       follows = record { tied = subst (λ es. IsTied es c.trail.entries) (sym b.1.no_trail) (ap (λ t. t.entries) f.trail); sound = empty_is_sound c.trail f.trail };
       variables = ap (λ t. t.variables) f.trail;
       level = ap (λ t. t.level) f.trail;
-      ranged = subst (λ n. IsRanged formula first_row_id n first_row_id b.0.trail b.0.moment) (sym f.next) (begun_is_ranged formula first_row_id b.0 (let r = room_then in omega (arith, r)) b.1);
+      ranged = subst (λ n. IsRanged formula first_row_id n first_row_id b.0.trail b.0.moment) (sym f.next) (given_is_ranged (let r = room_then in omega (arith, r)));
       next = f.next;
       room = let r = room_then in let next = f.next in omega (arith, r, next);
-      sums = begun_has_free_sums formula b.0 b.1;
-      parities = b.3;
-      clauses = b.2;
+      sums = b.1.sums;
+      parities = b.1.listed;
+      clauses = b.1.clauses;
       stored = f.stored;
       apart = f.apart;
       covered = λ k low high. elim (f.covered k low high) [
@@ -382,12 +391,12 @@ module _ (formula : Problem) (few : length formula.constraints ≤ 4294967295) (
     (let next = f.next in omega (arith, next), let r = room_then in let next = f.next in omega (arith, next, r)),
     (
       b.0,
-      b.4,
+      b.2,
       record {
-        parities = parities_of formula.constraints;
-        search = begun_is_search formula b.0 b.1;
-        chain = falsified_has_chain b.0.moment.tables.clauses (IsOfParities formula.variables (parities_of formula.constraints)) [] tt tt [] (number, b.2.numbered number f.empty_is.0 f.empty_is.1 ∙ ap Some f.empty_is.2) refl;
-        free = ap (get b.0.moment.tables.clauses) f.next ∙ b.1.clauses.free (length (clauses_of formula.constraints) + 1) (omega arith);
+        parities = engines;
+        search = b.1.search;
+        chain = falsified_has_chain b.0.moment.tables.clauses (IsOfParities formula.variables engines) [] tt tt [] (number, b.1.clauses.numbered number f.empty_is.0 f.empty_is.1 ∙ ap Some f.empty_is.2) refl;
+        free = ap (get b.0.moment.tables.clauses) f.next ∙ b.1.no_more (length (clauses_of formula.constraints) + 1) (omega arith);
         served = b.1.tidy.served;
         conflicts = b.1.no_conflict ∙ sym f.conflicts;
       },
@@ -395,7 +404,7 @@ module _ (formula : Problem) (few : length formula.constraints ≤ 4294967295) (
   )
 
 -- ---- behind the last unit clause
-module _ (formula : Problem) (c : SearchState) (told : Option (List LogEvent)) (st : SearchStandsBut formula c [] told) where
+module _ (formula : Problem) (engines : List (List Literal)) (c : SearchState) (told : Option (List LogEvent)) (st : SearchStandsBut formula engines c [] told) where
   none_waits : (k : ℕ) → IsWaiting [] k → ⊥
   none_waits k (u, (i, less, is), number) = omega (arith, less)
 
@@ -446,7 +455,7 @@ module _ (formula : Problem) (c : SearchState) (told : Option (List LogEvent)) (
   level_is : level_of st.0.trail ≡ 0
   level_is = level_tied st.0.trail c.trail st.3.follows.tied st.3.follows.sound ∙ st.3.level
 
-  module _ (e : State) (rows : ℕ) (made : e ≡ fresh formula.variables (parities_of formula.constraints) rows) where
+  module _ (e : State) (rows : ℕ) (made : e ≡ fresh formula.variables engines rows) where
     fed_then : IsFed st.0.trail c.given e
     fed_then = record {
       newer = st.0.trail;
@@ -455,15 +464,15 @@ module _ (formula : Problem) (c : SearchState) (told : Option (List LogEvent)) (
       count = sym st.3.given;
       now = subst (λ k. AllByRecursion (λ (x : Entry). x.level ≡ k) st.0.trail) (sym (ap (λ x. x.level) made))
           (all_low st.0.trail c.trail.entries st.3.follows.tied (λ i less. let low = st.3.follows.sound.levels i less in let level = st.3.level in omega (arith, low, level)));
-      values = subst (λ x. HoldsValues [] x.values) (sym made) (fresh_holds formula.variables (parities_of formula.constraints) rows);
+      values = subst (λ x. HoldsValues [] x.values) (sym made) (fresh_holds formula.variables engines rows);
       level = ap (λ x. x.level) made ∙ sym level_is;
     }
 
-    theirs : e.parities ≡ parities_of formula.constraints
+    theirs : e.parities ≡ engines
     theirs = ap (λ x. x.parities) made
 
-    pub begun_stands : SearchStands formula c e [] told
-    begun_stands = (
+    pub begun_stands : AreEngines formula engines → SearchStands formula c e [] told
+    begun_stands are = (
       st.0,
       subst (λ ps. IsSearch formula ps st.0) (sym theirs) st.1,
       st.2,
@@ -481,8 +490,8 @@ module _ (formula : Problem) (c : SearchState) (told : Option (List LogEvent)) (
         engine = record {
           vars = ap (λ x. x.vars) made;
           wide = subst (λ x. length x.values ≡ x.vars) (sym made) (length-replicate formula.variables None);
-          theirs = subst (HaveTheirs formula) (append-nil (parities_of formula.constraints) ∙ sym theirs) (theirs_are_had formula []);
-          few = subst (λ ps. length ps ≤ length formula.constraints) (sym theirs) (few_parities formula.constraints);
+          theirs = subst (HaveTheirs formula) (sym theirs) are.theirs;
+          few = subst (λ ps. length ps ≤ length formula.constraints) (sym theirs) are.few;
           fed = fed_then;
         };
         reasons = λ i far less. absurd (let every = st.3.every in omega (arith, far, less, every));

@@ -4,6 +4,7 @@ pub mod Entering
 pub mod Concluding
 pub mod Beginning
 pub mod Originals
+pub mod Given
 pub mod Clauses
 pub mod Filling
 pub mod Waiting

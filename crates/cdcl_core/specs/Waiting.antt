@@ -1,7 +1,8 @@
 -- What a search holds while some unit clauses of the formula still wait.
 use Rattle.std.specs.Prelude.{◌≡◌, ◌⊎◌, ℕ, ◌+◌, ◌<◌, ◌≤◌, Bool, true, false, List, [], length, Option, Contains}
 use Rattle.std.specs.List.{AllByRecursion}
-use Rattle.cx_base.specs.Problem.{Problem, clauses_of, parities_of}
+use Rattle.cx_base.specs.Literals.{Literal}
+use Rattle.cx_base.specs.Problem.{Problem, clauses_of}
 use Rattle.cx_semantics.specs.declared.steps.LogEvent.{LogEvent}
 use Rattle.clause_arena.specs.Clauses.{IsLive, id_at}
 use Rattle.search_policy.specs.Standing.{AllStand}
@@ -25,16 +26,16 @@ IsWaiting units k = (u : Single) × Contains units u × (u.number ≡ k)
 abbrev pub IsSingle : Problem → Single → Type 0
 IsSingle formula u = IsUnitClause formula u.number u.literal × (1 ≤ u.literal.variable) × (u.literal.variable ≤ formula.variables)
 
--- What the code holds at level 0 is what the search of the calculus holds, but these unit clauses are not covered yet. Just the formula was told, and there is no engine.
-pub record TiesBut (formula : Problem) (c : SearchState) (waiting : List Single) (s : Search) : Type 0 where
+-- What the code holds at level 0 is what the search of the calculus holds, but these unit clauses are not covered yet. Just the formula and these parities were told, and there is no engine.
+pub record TiesBut (formula : Problem) (engines : List (List Literal)) (c : SearchState) (waiting : List Single) (s : Search) : Type 0 where
   pub follows : Mirrors s.trail c.trail
   pub variables : c.trail.variables ≡ formula.variables
   pub level : c.trail.level ≡ 0
   pub ranged : IsRanged formula first_row_id c.next first_row_id s.trail s.moment
   pub next : c.next ≡ length (clauses_of formula.constraints) + 1
   pub room : c.next < first_row_id
-  pub sums : HasFreeSums (length (parities_of formula.constraints)) s.moment
-  pub parities : AreListedFromOne s.moment.tables.parities (parities_of formula.constraints)
+  pub sums : HasFreeSums (length engines) s.moment
+  pub parities : AreListedFromOne s.moment.tables.parities engines
   pub clauses : AreListedFromOne s.moment.tables.clauses (clauses_of formula.constraints)
   pub stored : (r : ℕ) → IsLive c.arena r → IsTakenAt formula (length (clauses_of formula.constraints)) c.arena r
   pub apart : (r q : ℕ) → IsLive c.arena r → IsLive c.arena q → id_at c.arena r ≡ id_at c.arena q → r ≡ q
@@ -55,11 +56,11 @@ pub record TiesBut (formula : Problem) (c : SearchState) (waiting : List Single)
   pub no_level : s.quiet_levels ≡ 0
   pub served : HasOnlyRowClauses s 0
 
--- some search of the calculus stands behind the code but for these unit clauses, and its events are the sink's where that tells them
-abbrev pub SearchStandsBut : Problem → SearchState → List Single → Option (List LogEvent) → Type 0
-SearchStandsBut formula c waiting told = (s : Search) × IsSearch formula (parities_of formula.constraints) s × AreTold told s.events × TiesBut formula c waiting s
+-- some search of the calculus over these parities stands behind the code but for these unit clauses, and its events are the sink's where that tells them
+abbrev pub SearchStandsBut : Problem → List (List Literal) → SearchState → List Single → Option (List LogEvent) → Type 0
+SearchStandsBut formula engines c waiting told = (s : Search) × IsSearch formula engines s × AreTold told s.events × TiesBut formula engines c waiting s
 
 -- true: the search stands but for these unit clauses; false: the log is ended, with no mark
-abbrev pub PutsUnits : Problem → SearchState → List Single → Option (List LogEvent) → Bool → Type 0
-PutsUnits formula c waiting told true = SearchStandsBut formula c waiting told
-PutsUnits formula c waiting told false = Refutes formula 1 told
+abbrev pub PutsUnits : Problem → List (List Literal) → SearchState → List Single → Option (List LogEvent) → Bool → Type 0
+PutsUnits formula engines c waiting told true = SearchStandsBut formula engines c waiting told
+PutsUnits formula engines c waiting told false = Refutes formula 1 told

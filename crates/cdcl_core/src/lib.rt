@@ -10,6 +10,7 @@ mod filling;
 mod jumping;
 mod learning;
 mod originals;
+mod recovering;
 mod reducing;
 mod restarting;
 mod schedule;

@@ -5,6 +5,7 @@ ghost use Rattle.cx_base.specs.Counts.{Rose};
 ghost use Rattle.conflict_learn.specs.declared.fault.CoreFault.TheVariants.{Write};
 ghost use Rattle.conflict_learn.specs.Faults.{fault_in};
 ghost use Rattle.conflict_learn.specs.Marks.{AreClear};
+ghost use Rattle.search_steps.specs.Recovering.{SettledWithRecovered};
 ghost use Rattle.cdcl_search.specs.Finds.{PropagationFinds};
 ghost use Rattle.cdcl_search.specs.Searching.{SearchReaches};
 ghost use Rattle.cdcl_search.specs.Logs.{GoesOn, Stands, told_in};
@@ -145,7 +146,7 @@ fn round<P: ParityEngine, L: LogSink>(
     requires clear { AreClear marks.old }
     ensures goes_on { IfOk result (λ o. MatchOption o (SearchGoesOn log.new.formula.now budget (told_in L.LogSink log.new) state.new (P.state engine.new)) (λ a. IsRightOutcome log.new.formula.now budget (told_in L.LogSink log.new) a)) }
     ensures one_more { IfOk result (λ o. MatchOption o (state.new.conflicts ≡ state.old.conflicts + 1) (λ _. Unit {0})) }
-    ensures settled { Settled log.new.formula.now → state.old.trail.level ≡ 0 → IfOk result (λ o. MatchOption o ⊥ (λ a. IsSettledBy log.new.formula.now (state.old.conflicts + 1) (told_in L.LogSink log.new) a)) }
+    ensures settled { SettledWithRecovered log.new.formula.now → state.old.trail.level ≡ 0 → IfOk result (λ o. MatchOption o ⊥ (λ a. IsSettledBy log.new.formula.now (state.old.conflicts + 1) (told_in L.LogSink log.new) a)) }
     ensures clear { OnOk result (AreClear marks.new) }
     ensures log { GoesOn L.LogSink log.old (fault_in result) log.new }
 {
@@ -165,7 +166,7 @@ fn search<P: ParityEngine, L: LogSink>(
     requires level { state.old.trail.level ≡ 0 }
     requires none { state.old.conflicts ≡ 0 }
     ensures answers { IfOk result (λ a. IsRightOutcome log.new.formula.now budget (told_in L.LogSink log.new) a) }
-    ensures settled { Settled log.new.formula.now → IfOk result (λ a. IsSettledBy log.new.formula.now 1 (told_in L.LogSink log.new) a) }
+    ensures settled { SettledWithRecovered log.new.formula.now → IfOk result (λ a. IsSettledBy log.new.formula.now 1 (told_in L.LogSink log.new) a) }
     ensures log { GoesOn L.LogSink log.old (fault_in result) log.new }
 {
     let mut schedule = Schedule::new();
@@ -181,8 +182,9 @@ fn search<P: ParityEngine, L: LogSink>(
 /// Searches for values that meet the formula, up to a budget of counted conflicts, 1 to 10^18.
 ///
 /// Counted are the conflicts above level 0, where a decision was made. The sink is told the log: the
-/// originals, a mark and a learned clause for each counted conflict, and the unit clauses of level 0. Where the
-/// formula is settled by propagation alone, no conflict is counted and the answer is never unknown.
+/// originals, the parities that are recovered from clauses, a mark and a learned clause for each counted conflict, and
+/// the unit clauses of level 0. Where the formula is settled by propagation alone, the recovered parities taken as
+/// parities, no conflict is counted and the answer is never unknown.
 ///
 /// It gives up for want of memory, or where the sink failed to write; the log is right as far as it goes.
 pub fn solve_core<P: ParityEngine + Drop, L: LogSink>(
@@ -196,7 +198,8 @@ pub fn solve_core<P: ParityEngine + Drop, L: LogSink>(
     requires fresh { IsFresh (L.events sink.old) }
     ensures answers { IfOk result (λ a. IsRightOutcome formula.now budget (L.events sink.new) a) }
     ensures settled { Settled formula.now → IfOk result (λ a. (conflicts : ℕ) → a ≢ outcome.Unknown conflicts) }
-    ensures unmarked { Settled formula.now → OnOk result (HasNoMark (L.events sink.new)) }
+    ensures settled_with_recovered { SettledWithRecovered formula.now → IfOk result (λ a. (conflicts : ℕ) → a ≢ outcome.Unknown conflicts) }
+    ensures unmarked { SettledWithRecovered formula.now → OnOk result (HasNoMark (L.events sink.new)) }
     ensures ids { HaveLowIds (L.events sink.new) }
     ensures gave_up { IfErr result (λ e. GivesUp formula.now (L.torn sink.new) (L.events sink.new) e) }
     ensures write { IfErr result (λ e. e ≡ Write → Rose (L.faults sink.old) (L.faults sink.new)) }

@@ -4,7 +4,7 @@ use Rattle.cx_base.specs.Literals.{Literal}
 use Rattle.cx_base.specs.Problem.{Problem}
 use Rattle.cx_semantics.specs.Chain.{has_literal}
 use Rattle.cx_semantics.specs.declared.steps.LogEvent.{LogEvent}
-use Rattle.cx_semantics.specs.Settled.{Settled}
+use Rattle.search_steps.specs.Recovering.{SettledWithRecovered}
 use Rattle.cx_trail.specs.declared.entry.Entry.{Entry as TrailEntry}
 use Rattle.cx_trail.specs.declared.entry.Reason.TheVariants as reason
 use Rattle.cx_trail.specs.Sequence.{TrailState, IsTrail, IsOpenIn, entry_at, pushed}
@@ -94,8 +94,8 @@ module _ (formula : Problem) (c : SearchState) (e : State) (s : Search) (ok : Is
             go zero is = absurd (let n = units is in omega (arith, n, past, less))
             go (suc k) is = t.units.all (omega (arith, is)) i past less
 
-  -- over a settled formula no variable is open
-  pub settled_is_full : Settled formula → (v : ℕ) → 1 ≤ v → v ≤ formula.variables → IsOpenIn c.trail.entries v → ⊥
+  -- over a formula that is settled with the recovered parities no variable is open
+  pub settled_is_full : SettledWithRecovered formula → (v : ℕ) → 1 ≤ v → v ≤ formula.variables → IsOpenIn c.trail.entries v → ⊥
   settled_is_full settled v low high is_open = go (has_literal (all_held s.trail) (record { variable = v; negative = false })) refl
       (settled_wants_no_decision formula e.parities s ok is_quiet t.engine.theirs settled v low high)
     where
@@ -118,7 +118,7 @@ module _ (formula : Problem) (c : SearchState) (e : State) (told : Option (List 
       subst (λ (w : TrailState). SearchStands formula (record c { trail = w; order = o }) u [] told) (sym is)
       (subst (λ w. SearchStands formula (put (record c { order = o }) (c.trail.level + 1) l reason.Decision) w [] told) (sym engine_is) (decided_on s l, r.0, told_is, r.1, watched_grows c (c.trail.level + 1) l reason.Decision (omega arith) f))
 
-  pub settled_has_no_open : SearchStands formula c e [] told → Settled formula → (v : ℕ) → 1 ≤ v → v ≤ c.trail.variables → IsOpenIn c.trail.entries v → ⊥
+  pub settled_has_no_open : SearchStands formula c e [] told → SettledWithRecovered formula → (v : ℕ) → 1 ≤ v → v ≤ c.trail.variables → IsOpenIn c.trail.entries v → ⊥
   settled_has_no_open (s, ok, told_is, t, f) settled v low high is_open = let n = t.trail.variables in settled_is_full formula c e s ok t f finds settled v low (omega (arith, high, n)) is_open
 
   -- where some variable is open the engine can open a level

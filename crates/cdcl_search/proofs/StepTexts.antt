@@ -58,19 +58,36 @@ pub original_parity_text : (n : ℕ) (zs : List ℤ) → IsId n → AreStepInteg
 original_parity_text n zs i a = (has_text (step.OriginalParity n zs) (tt, (tt, (positive n i, (integers_are_proper zs a, tt)))) ((tt, tt), ((tt, tt), ((below n i, tt), (integers_within zs a, tt)))), i.1)
 
 pub chained_text : (n : ℕ) (zs hints : List ℤ) → IsId n → AreStepIntegers zs → AreStepIntegers hints → IsTellable (step.ClauseWithHints n zs hints)
-chained_text n zs hints i a b = (has_text (step.ClauseWithHints n zs hints)
-    (tt, (positive n i, (integers_are_proper zs a, (tt, (integers_are_proper hints b, tt)))))
-    ((tt, tt), ((below n i, tt), (integers_within zs a, ((tt, tt), (integers_within hints b, tt))))), i.1)
+chained_text n zs hints i a b = (
+  has_text (step.ClauseWithHints n zs hints)
+      (tt, (positive n i, (integers_are_proper zs a, (tt, (integers_are_proper hints b, tt)))))
+      ((tt, tt), ((below n i, tt), (integers_within zs a, ((tt, tt), (integers_within hints b, tt))))),
+  i.1,
+)
 
 pub sum_text : (n : ℕ) (zs : List ℤ) (ns : List ℕ) → IsId n → AreStepIntegers zs → AllByRecursion IsId ns → IsTellable (step.Parity n zs ns)
-sum_text n zs ns i a b = (has_text (step.Parity n zs ns)
-    (tt, (tt, (positive n i, (integers_are_proper zs a, (tt, (ids_are_proper ns b, tt))))))
-    ((tt, tt), ((tt, tt), ((below n i, tt), (integers_within zs a, ((tt, tt), (ids_within ns b, tt)))))), i.1)
+sum_text n zs ns i a b = (
+  has_text (step.Parity n zs ns)
+      (tt, (tt, (positive n i, (integers_are_proper zs a, (tt, (ids_are_proper ns b, tt))))))
+      ((tt, tt), ((tt, tt), ((below n i, tt), (integers_within zs a, ((tt, tt), (ids_within ns b, tt)))))),
+  i.1,
+)
+
+pub recovered_text : (n : ℕ) (zs : List ℤ) (ns : List ℕ) → IsId n → AreStepIntegers zs → AllByRecursion IsId ns → IsTellable (step.ParityOfClauses n zs ns)
+recovered_text n zs ns i a b = (
+  has_text (step.ParityOfClauses n zs ns)
+      (tt, (tt, (positive n i, (integers_are_proper zs a, (tt, (ids_are_proper ns b, tt))))))
+      ((tt, tt), ((tt, tt), ((below n i, tt), (integers_within zs a, ((tt, tt), (ids_within ns b, tt)))))),
+  i.1,
+)
 
 pub clause_of_sum_text : (n : ℕ) (zs : List ℤ) (k : ℕ) → IsId n → AreStepIntegers zs → IsId k → IsTellable (step.ClauseOfParity n zs k)
-clause_of_sum_text n zs k i a j = (has_text (step.ClauseOfParity n zs k)
-    (tt, (positive n i, (integers_are_proper zs a, (tt, (positive k j, (tt, tt))))))
-    ((tt, tt), ((below n i, tt), (integers_within zs a, ((tt, tt), ((below k j, tt), ((zero_within, tt), tt)))))), i.1)
+clause_of_sum_text n zs k i a j = (
+  has_text (step.ClauseOfParity n zs k)
+      (tt, (positive n i, (integers_are_proper zs a, (tt, (positive k j, (tt, tt))))))
+      ((tt, tt), ((below n i, tt), (integers_within zs a, ((tt, tt), ((below k j, tt), ((zero_within, tt), tt)))))),
+  i.1,
+)
 
 bare_deletion : (n : ℕ) → IsId n → IsTellable (step.Delete n [])
 bare_deletion n i = (has_text (step.Delete n []) (tt, (positive n i, (tt, tt))) ((tt, tt), ((below n i, tt), ((zero_within, tt), tt))), i.1)

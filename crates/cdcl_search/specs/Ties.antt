@@ -170,7 +170,7 @@ pub record IsFed (es : List Entry) (given : ℕ) (e : State) : Type 0 where
   pub values : HoldsValues older e.values
   pub level : e.level ≡ level_of es
 
--- It has the formula's variables, and its parities say what the formula's do, with no more of them than constraints. It has the values of the oldest literals of the trail.
+-- It has the formula's variables, and its parities say what the formula's and the recovered ones do, with no more of them than constraints. It has the values of the oldest literals of the trail.
 pub record EngineTies (formula : Problem) (es : List Entry) (given : ℕ) (e : State) : Type 0 where
   pub vars : e.vars ≡ formula.variables
   pub wide : length e.values ≡ e.vars

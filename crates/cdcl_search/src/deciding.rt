@@ -1,7 +1,7 @@
 //! Decisions.
 ghost use Rattle.std.specs.Prelude.{◌≡◌, ◌≢◌, ◌+◌, [], List, Option, length, IsTrue, IsFalse};
 ghost use Rattle.cx_semantics.specs.declared.steps.LogEvent.{LogEvent};
-ghost use Rattle.cx_semantics.specs.Settled.{Settled};
+ghost use Rattle.search_steps.specs.Recovering.{SettledWithRecovered};
 ghost use Rattle.cx_trail.specs.Sequence.{IsFull};
 ghost use Rattle.parity_engine.specs.declared.state.Mood.TheVariants.{Broken};
 ghost use Rattle.cdcl_search.specs.Ties.{SearchStands};
@@ -24,7 +24,7 @@ pub(crate) fn decide<P: ParityEngine>(
     ensures stands { (told : Option (List LogEvent)) → SearchStands formula.now state.old (P.state engine.old) [] told → SearchStands formula.now state.new (P.state engine.new) [] told }
     ensures decided { IsTrue result → (state.new.trail.level ≡ state.old.trail.level + 1) × (length state.new.trail.entries ≡ length state.old.trail.entries + 1) }
     ensures full { IsFalse result → (state.new.trail ≡ state.old.trail) × IsFull state.new.trail × PropagationFinds state.new (P.state engine.new) found.Quiet }
-    ensures settled { Settled formula.now → IsFalse result }
+    ensures settled { SettledWithRecovered formula.now → IsFalse result }
     ensures unbroken { (P.state engine.new).mood ≢ Broken }
     ensures same { (state.new.units.items ≡ state.old.units.items) × (state.new.conflicts ≡ state.old.conflicts) × (state.new.next ≡ state.old.next) }
 {

@@ -1,6 +1,6 @@
 //! The search between two conflicts.
 ghost use Rattle.std.specs.Prelude.{◌≡◌, ◌≢◌, ◌≤◌, [], length, OnOk, IfOk, IsSome, MatchOption};
-ghost use Rattle.cx_semantics.specs.Settled.{Settled};
+ghost use Rattle.search_steps.specs.Recovering.{SettledWithRecovered};
 ghost use Rattle.conflict_learn.specs.Faults.{fault_in};
 ghost use Rattle.parity_engine.specs.declared.state.Mood.TheVariants.{Broken};
 ghost use Rattle.cdcl_search.specs.Finds.{PropagationFinds};
@@ -66,7 +66,7 @@ fn turn<P: ParityEngine, L: LogSink>(
     requires unbroken { (P.state engine.old).mood ≢ Broken }
     ensures stands { OnOk result (Stands P.ParityEngine L.LogSink log.new state.new engine.new []) }
     ensures reaches { IfOk result (λ o. MatchOption o (OpensLevel state.old state.new (P.state engine.new)) (λ f. SearchReaches state.new (P.state engine.new) f)) }
-    ensures settled { Settled log.new.formula.now → IfOk result (λ o. IsSome o × (state.new.trail.level ≡ state.old.trail.level)) }
+    ensures settled { SettledWithRecovered log.new.formula.now → IfOk result (λ o. IsSome o × (state.new.trail.level ≡ state.old.trail.level)) }
     ensures conflicts { state.new.conflicts ≡ state.old.conflicts }
     ensures log { GoesOn L.LogSink log.old (fault_in result) log.new }
 {
@@ -92,7 +92,7 @@ pub fn search_on<P: ParityEngine, L: LogSink>(
     requires unbroken { (P.state engine.old).mood ≢ Broken }
     ensures stands { OnOk result (Stands P.ParityEngine L.LogSink log.new state.new engine.new []) }
     ensures reaches { IfOk result (λ f. SearchReaches state.new (P.state engine.new) f) }
-    ensures settled { Settled log.new.formula.now → OnOk result (state.new.trail.level ≡ state.old.trail.level) }
+    ensures settled { SettledWithRecovered log.new.formula.now → OnOk result (state.new.trail.level ≡ state.old.trail.level) }
     ensures conflicts { state.new.conflicts ≡ state.old.conflicts }
     ensures log { GoesOn L.LogSink log.old (fault_in result) log.new }
 {

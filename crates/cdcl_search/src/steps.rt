@@ -3,7 +3,6 @@
 //! A call of `as_slice` whose answer is let go says to the proof what holds of each integer of a list.
 ghost use Rattle.std.specs.Prelude.{◌≡◌, []};
 ghost use Rattle.std.specs.List.{AllByRecursion};
-ghost use Rattle.cx_semantics.specs.declared.steps.LogEvent.TheVariants.{Step};
 ghost use Rattle.cx_semantics.specs.declared.steps.LogStep.TheVariants as step;
 ghost use Rattle.cdcl_search.specs.Tells.{IsId, IsTellable};
 
@@ -29,6 +28,17 @@ pub fn original_parity(id: u64, lits: IntList) -> LogStep
 {
     let _ = lits.as_slice();
     LogStep::OriginalParity(id, lits)
+}
+
+/// A parity that these clauses imply.
+pub fn recovered_parity(id: u64, lits: IntList, clauses: IdList) -> LogStep
+    requires id { IsId id }
+    requires clauses { AllByRecursion IsId clauses }
+    ensures is { result ≡ step.ParityOfClauses id lits clauses }
+    ensures text { IsTellable result }
+{
+    let _ = lits.as_slice();
+    LogStep::ParityOfClauses(id, lits, clauses)
 }
 
 /// A clause that a chain of these clauses shows.

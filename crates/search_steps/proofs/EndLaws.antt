@@ -14,15 +14,21 @@ use Rattle.cx_semantics.specs.Judging.{IsOpen}
 use Rattle.cx_semantics.specs.LogRules.{log_calculus}
 use Rattle.cx_semantics.specs.LogText.{step_of}
 use Rattle.cx_semantics.specs.Marked.{Marked}
-use Rattle.cx_semantics.specs.Settled.{IsClauseOf, Decides, SettledBy}
+use Rattle.cx_semantics.specs.Settled.{IsClauseOf, Decides, SettledBy, Settled}
 use Rattle.cx_semantics.specs.Tables.{Table}
 use Rattle.cx_semantics.proofs.ChainLaws.{true_by_all, literal_true-negate}
+use Rattle.search_steps.specs.Laws.{HaveTheirs}
 use Rattle.search_steps.specs.Quiet.{Quiet}
+use Rattle.search_steps.specs.Recovering.{SettledWithRecovered}
 use Rattle.search_steps.specs.Trail.{all_held}
 use Rattle.search_steps.specs.Search.{Search, IsSearch}
 use Rattle.search_steps.proofs.Sets.{not_both}
 
 -- ---- a settled formula
+-- what its own parities settle is settled with the recovered ones
+pub settled_by_its_own : (formula : Problem) → Settled formula → SettledWithRecovered formula
+settled_by_its_own formula settled = record { parities = parities_of formula.constraints; are = λ parity c. inl c; settled = settled }
+
 -- Where both engines are quiet over a settled formula, each variable is decided; so no decision is made, and no conflict above level 0 comes.
 pub settled_is_decided : (formula : Problem) (theirs parities : List (List Literal)) (table : Table) (known : List Literal)
     → ((values : List Bool) → list_all (parity_met values) parities ≡ true → list_all (parity_met values) theirs ≡ true)
@@ -105,7 +111,7 @@ module _ (formula : Problem) (parities : List (List Literal)) (s : Search) (ok :
 
 -- ---- the search, where both engines are quiet
 module _ (formula : Problem) (parities : List (List Literal)) (s : Search) (ok : IsSearch formula parities s) (quiet : Quiet formula.variables parities s.moment.tables.clauses (all_held s.trail))
-    (theirs : (v : List Bool) → list_all (parity_met v) parities ≡ true → (parity : List Literal) → Contains (parities_of formula.constraints) parity → parity_met v parity ≡ true) where
+    (theirs : HaveTheirs formula parities) where
   formula_live : (clause : List Literal) → IsClauseOf formula clause → Rattle.cx_semantics.specs.Fresh.IsLive s.moment.tables.clauses clause
   formula_live clause c = let kept = ok.serves.keeps_clauses clause c in (kept.0, kept.2)
 
@@ -113,12 +119,12 @@ module _ (formula : Problem) (parities : List (List Literal)) (s : Search) (ok :
   all_theirs v [] h = refl
   all_theirs v (p ∷ ps) h = and_from _ _ (h p (in_head p ps)) (all_theirs v ps (λ x k. h x (in_tail p ps x k)))
 
-  -- no decision is made over a settled formula
-  pub settled_wants_no_decision : Rattle.cx_semantics.specs.Settled.Settled formula → Decides formula.variables (all_held s.trail)
-  settled_wants_no_decision settled = settled_is_decided formula (parities_of formula.constraints) parities s.moment.tables.clauses (all_held s.trail)
-      (λ v h. all_theirs v (parities_of formula.constraints) (theirs v h)) formula_live settled quiet
+  -- no decision is made over a formula that is settled with the recovered parities
+  pub settled_wants_no_decision : SettledWithRecovered formula → Decides formula.variables (all_held s.trail)
+  settled_wants_no_decision settled = settled_is_decided formula settled.parities parities s.moment.tables.clauses (all_held s.trail)
+      (λ v h. all_theirs v settled.parities (λ parity c. theirs v h parity (settled.are parity c))) formula_live settled.settled quiet
 
   -- a full trail meets the formula
   pub full_is_met : (values : List Bool) → AllByRecursion (λ c. AreWithin formula.variables (literals_of c)) formula.constraints → Decides formula.variables (all_held s.trail) → length values ≡ formula.variables
       → list_all (literal_true values) (all_held s.trail) ≡ true → Meets formula values
-  full_is_met values within decides long agrees = quiet_is_met formula parities s.moment.tables.clauses (all_held s.trail) values within theirs formula_live quiet decides long agrees
+  full_is_met values within decides long agrees = quiet_is_met formula parities s.moment.tables.clauses (all_held s.trail) values within (λ v h parity c. theirs v h parity (inl c)) formula_live quiet decides long agrees

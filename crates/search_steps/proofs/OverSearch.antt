@@ -1,18 +1,23 @@
 -- Laws of trails, said of a search's trail and of its older part.
-use Rattle.std.proofs.Common.{◌≡◌, sym, ◌∙◌, subst, ℕ, ◌≤◌, ◌<◌, Bool, true, List, [], ◌∷◌, ◌++◌, Contains}
+use Rattle.std.proofs.Common.{◌≡◌, sym, ◌∙◌, subst, ℕ, ◌+◌, ◌≤◌, ◌<◌, Bool, true, List, [], ◌∷◌, ◌++◌, Contains, inl, inr, arith}
 use Rattle.cx_base.specs.Literals.{Literal}
 use Rattle.std.proofs.lemmas.List.Folds.{list_all-append}
 use Rattle.std.specs.List.{list_all}
 use Rattle.std.proofs.lemmas.Bool.{and_parts}
+use Rattle.cx_base.specs.Parity.{normal_form}
 use Rattle.cx_base.specs.Problem.{Problem, parities_of, parity_met}
+use Rattle.cx_base.proofs.ParityLaws.{Sums, Sums-from_met, met-from_Sums}
 use Rattle.search_steps.proofs.RowLaws.{at_place}
 use Rattle.cx_semantics.specs.Chain.{is_inside, negations}
 use Rattle.cx_semantics.specs.Fresh.{IsLive}
 use Rattle.cx_semantics.specs.LogRules.{HasChain}
 use Rattle.cx_semantics.specs.Tables.{Table}
+use Rattle.cx_semantics.proofs.Soundness.{roof, below_roof}
 use Rattle.cx_trail.specs.Sequence.{TrailState}
 use Rattle.conflict_learn.specs.Levels.{Teaches}
 use Rattle.parity_engine.specs.State.{State, back}
+use Rattle.search_steps.specs.Laws.{HaveTheirs}
+use Rattle.search_steps.specs.Recovering.{HasRecovered}
 use Rattle.search_steps.specs.Trail.{Entry, all_held, back_to, IsTrail}
 use Rattle.search_steps.specs.Quiet.{IsOfParities}
 use Rattle.search_steps.specs.Search.{Search, IsSearch, IsLearnedOf}
@@ -28,11 +33,22 @@ use Rattle.search_steps.proofs.LearnedLaws.{taught_is_learned}
 use Rattle.search_steps.proofs.EngineLaws.{back_holds_values}
 use Rattle.search_steps.proofs.TrailLaws.{trail_no_clash}
 
--- the engine's parities say what the formula's do, where these stand first among them
-pub theirs_are_had : (formula : Problem) (more : List (List Literal)) (values : List Bool) → list_all (parity_met values) (parities_of formula.constraints ++ more) ≡ true
-    → (parity : List Literal) → Contains (parities_of formula.constraints) parity → parity_met values parity ≡ true
-theirs_are_had formula more values h parity c =
-    at_place (parity_met values) (parities_of formula.constraints) (and_parts _ _ (sym (list_all-append (parity_met values) (parities_of formula.constraints) more) ∙ h)).0 parity c
+-- what a parity says, its normal form says
+same_form_is_met : (v : List Bool) (a b : List Literal) → normal_form a ≡ normal_form b → parity_met v a ≡ true → parity_met v b ≡ true
+same_form_is_met v a b is met =
+    let n = roof a + roof b in
+    met-from_Sums n v b (below_roof n b (omega arith)) (subst (Sums n v) is (Sums-from_met n v a (below_roof n a (omega arith)) met))
+
+-- the engine's parities say what the formula's do, where these stand first among them and the recovered ones behind
+pub theirs_are_had : (formula : Problem) (more : List (List Literal)) → HasRecovered formula more → HaveTheirs formula (parities_of formula.constraints ++ more)
+theirs_are_had formula more recovered values h parity is =
+    let both = and_parts _ _ (sym (list_all-append (parity_met values) (parities_of formula.constraints) more) ∙ h) in
+    elim is [
+      | inl theirs ↦ at_place (parity_met values) (parities_of formula.constraints) both.0 parity theirs
+      | inr found ↦
+          let find = recovered (normal_form parity) found in
+          same_form_is_met values find.0 parity find.2 (at_place (parity_met values) more both.1 find.0 find.1)
+    ]
 
 pub older_is_trail : (table : Table) (IsRow : List Literal → Type 0) (newer older : List Entry) → IsTrail table IsRow (newer ++ older) → IsTrail table IsRow older
 older_is_trail table IsRow [] older t = t

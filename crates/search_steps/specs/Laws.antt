@@ -16,7 +16,7 @@ use Rattle.cx_semantics.specs.Judging.{IsRight, IsOpen}
 use Rattle.cx_semantics.specs.LogRules.{log_calculus, derives_empty_clause, HasChain, IsOriginalParity}
 use Rattle.cx_semantics.specs.LogText.{steps_of}
 use Rattle.cx_semantics.specs.Marked.{Marked, after_event, is_among, without}
-use Rattle.cx_semantics.specs.Settled.{Settled, Decides}
+use Rattle.cx_semantics.specs.Settled.{Decides}
 use Rattle.cx_semantics.specs.Tables.{Table, Tables, get}
 use Rattle.cx_trail.specs.declared.entry.Entry.{Entry as TrailEntry}
 use Rattle.cx_trail.specs.declared.entry.Reason.{Reason}
@@ -31,6 +31,7 @@ use Rattle.search_steps.specs.Ids.{ReasonsBelow, AreRowIds, HasFreeSums, IsRange
 use Rattle.search_steps.specs.LogSteps.{IsAddition, RestOnClauses, IsRowOf, IsClauseOfRow, IsRowReason, IsNoReason, IsEnded, AreTemporary, row_events, all_told, deleted, unit_told, after_round}
 use Rattle.search_steps.specs.Propagated.{IsPropagated}
 use Rattle.search_steps.specs.Quiet.{HasNoClash, RestsOn, IsOfParities, IsWatchedWell, ParitiesQuiet, ClausesQuiet, Quiet}
+use Rattle.search_steps.specs.Recovering.{IsParityOf, HasRecovered, SettledWithRecovered}
 use Rattle.search_steps.specs.Search.{Search, IsSearch, IsServed, IsTidy, IsLearnedOf, told, decided_on, forced_on, jumped, marked}
 use Rattle.search_steps.specs.Start.{IsBegun, start}
 use Rattle.search_steps.specs.Tied.{IsTied, AreForcedBehind, IsLiveSet, Mirrors, ForcesOn, IsQuietOn, AreOthersFalseOn, IsFalsifiedOn}
@@ -48,9 +49,9 @@ OfTrail Law = OfSearch (λ formula parities s. (t : TrailState) → Mirrors s.tr
 abbrev pub OfRanges : (Problem → ℕ → ℕ → ℕ → Search → Type 0) → Type 0
 OfRanges Law = (formula : Problem) (bound next row_next : ℕ) (s : Search) → IsRanged formula bound next row_next s.trail s.moment → Law formula bound next row_next s
 
--- the engine's parities say what the formula's do
+-- the engine's parities say what the formula's do, and what those that are recovered from its clauses do
 abbrev pub HaveTheirs : Problem → List (List Literal) → Type 0
-HaveTheirs formula parities = (values : List Bool) → IsTrue (list_all (parity_met values) parities) → (parity : List Literal) → Contains (parities_of formula.constraints) parity → IsTrue (parity_met values parity)
+HaveTheirs formula parities = (values : List Bool) → IsTrue (list_all (parity_met values) parities) → (parity : List Literal) → IsParityOf formula parity → IsTrue (parity_met values parity)
 
 -- ---- the beginning
 -- at the start nothing is told
@@ -263,14 +264,14 @@ FullIsMet = OfSearch (λ formula parities s.
     Quiet formula.variables parities s.moment.tables.clauses (all_held s.trail) → HaveTheirs formula parities → (values : List Bool) → AllByRecursion (λ c. AreWithin formula.variables (literals_of c)) formula.constraints
     → Decides formula.variables (all_held s.trail) → length values ≡ formula.variables → IsTrue (list_all (literal_true values) (all_held s.trail)) → Meets formula values)
 
--- the engine's parities say what the formula's do, where these stand first among them
+-- the engine's parities say what the formula's do, where these stand first among them and the recovered ones behind
 abbrev pub TheirsAreHad : Type 0
-TheirsAreHad = (formula : Problem) (more : List (List Literal)) → HaveTheirs formula (parities_of formula.constraints ++ more)
+TheirsAreHad = (formula : Problem) (more : List (List Literal)) → HasRecovered formula more → HaveTheirs formula (parities_of formula.constraints ++ more)
 
--- where both engines are quiet over a settled formula, all is decided
+-- where both engines are quiet over a formula that is settled with the recovered parities, all is decided
 abbrev pub SettledWantsNoDecision : Type 0
 SettledWantsNoDecision = OfSearch (λ formula parities s.
-    Quiet formula.variables parities s.moment.tables.clauses (all_held s.trail) → HaveTheirs formula parities → Settled formula → Decides formula.variables (all_held s.trail))
+    Quiet formula.variables parities s.moment.tables.clauses (all_held s.trail) → HaveTheirs formula parities → SettledWithRecovered formula → Decides formula.variables (all_held s.trail))
 
 -- ---- quiet, from what the watches and the engine answer
 -- live clauses that each have a true literal, two open ones or a literal with its negation are quiet

@@ -186,12 +186,12 @@ pub fn full_is_met()
     ensures { FullIsMet }
 {}
 
-/// The engine's parities say what the formula's do, where these stand first among them.
+/// The engine's parities say what the formula's do, where these stand first among them and the recovered ones behind.
 pub fn theirs_are_had()
     ensures { TheirsAreHad }
 {}
 
-/// Where both engines are quiet over a settled formula, all is decided.
+/// Where both engines are quiet over a formula that is settled with the recovered parities, all is decided.
 pub fn settled_wants_no_decision()
     ensures { SettledWantsNoDecision }
 {}

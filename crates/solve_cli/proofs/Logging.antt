@@ -11,7 +11,7 @@ use Rattle.cx_semantics.specs.LogRules.{log_calculus, LogOpen}
 use Rattle.cx_semantics.specs.LogText.{LogReads, steps_of}
 use Rattle.cx_semantics.specs.Marked.{Marked, mark_of}
 use Rattle.cx_semantics.specs.Printed.{HasText, printed_log}
-use Rattle.cx_semantics.specs.Settled.{Settled}
+use Rattle.search_steps.specs.Recovering.{SettledWithRecovered}
 use Rattle.cx_semantics.specs.Tables.{no_tables}
 use Rattle.cx_semantics.proofs.EventSteps.{events_give_steps}
 use Rattle.cx_semantics.proofs.PrintedLogs.{printed_log_reads}
@@ -42,7 +42,7 @@ no_marks : (n : ℕ) → range_with_len 1 n ≡ [] → n ≡ 0
 no_marks zero e = refl
 no_marks (suc n) e = cc
 
-pub few_marks : (f : Problem) (budget : ℕ) (events : List LogEvent) (n : ℕ) → AllByRecursion HasText events → AllByRecursion HasLowId events → n < budget → Marked f events n → (Settled f → filter_map mark_of events ≡ [])
+pub few_marks : (f : Problem) (budget : ℕ) (events : List LogEvent) (n : ℕ) → AllByRecursion HasText events → AllByRecursion HasLowId events → n < budget → Marked f events n → (SettledWithRecovered f → filter_map mark_of events ≡ [])
     → HasFewMarks f budget (printed_log events)
 few_marks f budget events n texts ids low marked none = record {
   events = events;
@@ -55,7 +55,7 @@ few_marks f budget events n texts ids low marked none = record {
 }
 
 -- a log with as many marks as this has none where that is none
-pub unmarked : (f : Problem) (budget : ℕ) (log : Bytes) → HasFewMarks f budget log → Settled f → HasNoMark log
+pub unmarked : (f : Problem) (budget : ℕ) (log : Bytes) → HasFewMarks f budget log → SettledWithRecovered f → HasNoMark log
 unmarked f budget log h s = (h.events, h.read, h.marked.marks ∙ ap (range_with_len 1) (h.settled s))
 
 -- nothing is a front of a log
@@ -70,5 +70,5 @@ nothing_logged f = record {
 }
 
 -- a front of a right log
-pub front_so_far : (f : Problem) (log : Bytes) (k : ℕ) → LogOpen f log ⊎ IsRefutation f log → HasOnlyLowIds log → (Settled f → HasNoMark log) → IsLogSoFar f (take k log)
+pub front_so_far : (f : Problem) (log : Bytes) (k : ℕ) → LogOpen f log ⊎ IsRefutation f log → HasOnlyLowIds log → (SettledWithRecovered f → HasNoMark log) → IsLogSoFar f (take k log)
 front_so_far f log k right ids settled = record { log = log; right = right; ids = ids; settled = settled; rest = drop k log; front = take-append-drop k log }

@@ -8,7 +8,7 @@ use Rattle.cx_semantics.specs.Ids.{HasLowId}
 use Rattle.cx_semantics.specs.LogRules.{LogOpen}
 use Rattle.cx_semantics.specs.Marked.{mark_of}
 use Rattle.cx_semantics.specs.Printed.{HasText, printed_log}
-use Rattle.cx_semantics.specs.Settled.{Settled}
+use Rattle.search_steps.specs.Recovering.{SettledWithRecovered}
 use Rattle.cdcl_core.specs.Results.{Satisfies, Refutes, UsesUp}
 use Rattle.cdcl_core.specs.declared.solving.Outcome.TheVariants as answer
 use Rattle.cx_desk.specs.declared.desk.Port.TheVariants as port
@@ -31,21 +31,21 @@ use Rattle.solve_cli.proofs.Works.{seen-gained, formula_in, judged_late, answere
 
 -- ---- what the search answers
 
-pub finds_values : (f : Problem) (budget : ℕ) (events : List LogEvent) (v : _) → AllByRecursion HasText events → AllByRecursion HasLowId events → Satisfies f budget (Some events) v → (Settled f → filter_map mark_of events ≡ [])
+pub finds_values : (f : Problem) (budget : ℕ) (events : List LogEvent) (v : _) → AllByRecursion HasText events → AllByRecursion HasLowId events → Satisfies f budget (Some events) v → (SettledWithRecovered f → filter_map mark_of events ≡ [])
     → ComesTo f budget events (ending.Satisfiable v)
 finds_values f budget events v texts ids h none = (
   h.meets,
   record { is_open = open_log f events texts h.log.2.0; marks = few_marks f budget events h.log.0 texts ids h.log.1 h.log.2.1 none },
 )
 
-pub finds_none : (f : Problem) (budget : ℕ) (events : List LogEvent) → AllByRecursion HasText events → AllByRecursion HasLowId events → Refutes f budget (Some events) → (Settled f → filter_map mark_of events ≡ [])
+pub finds_none : (f : Problem) (budget : ℕ) (events : List LogEvent) → AllByRecursion HasText events → AllByRecursion HasLowId events → Refutes f budget (Some events) → (SettledWithRecovered f → filter_map mark_of events ≡ [])
     → ComesTo f budget events ending.Unsatisfiable
 finds_none f budget events texts ids h none = (
   h.unmet,
   record { refutes = refutation f events texts h.log.0; marks = few_marks f budget events h.log.1.0 texts ids h.log.1.1 h.log.1.2 none },
 )
 
-pub finds_nothing : (f : Problem) (budget : ℕ) (events : List LogEvent) (k : ℕ) → AllByRecursion HasText events → AllByRecursion HasLowId events → UsesUp f budget (Some events) k → (Settled f → (n : ℕ) → answer.Unknown k ≢ answer.Unknown n)
+pub finds_nothing : (f : Problem) (budget : ℕ) (events : List LogEvent) (k : ℕ) → AllByRecursion HasText events → AllByRecursion HasLowId events → UsesUp f budget (Some events) k → (SettledWithRecovered f → (n : ℕ) → answer.Unknown k ≢ answer.Unknown n)
     → ComesTo f budget events (ending.Unknown k)
 finds_nothing f budget events k texts ids h never = (h.count, λ s. never s k refl, spent f events budget texts ids h.log.0 h.log.1)
 
@@ -54,7 +54,7 @@ finds_nothing f budget events k texts ids h never = (h.count, λ s. never s k re
 data Found (f : Problem) (budget : ℕ) (log : Bytes) : Ending → Type 0 where
   values : (v : _) → Meets f v → IsOpenLog f budget log → Found f budget log (ending.Satisfiable v)
   none : Unmet f → IsClosedLog f budget log → Found f budget log ending.Unsatisfiable
-  nothing : (k : ℕ) → k ≡ budget → ¬ Settled f → IsSpentLog f budget log → Found f budget log (ending.Unknown k)
+  nothing : (k : ℕ) → k ≡ budget → ¬ SettledWithRecovered f → IsSpentLog f budget log → Found f budget log (ending.Unknown k)
 
 found : (f : Problem) (budget : ℕ) (events : List LogEvent) (e : Ending) → ComesTo f budget events e → Found f budget (printed_log events) e
 found f budget events (ending.Satisfiable v) h = values v h.0 h.1
@@ -78,7 +78,7 @@ is_right f budget log _ (values v meets log_open) = inl log_open.is_open
 is_right f budget log _ (none unmet closed) = inr closed.refutes
 is_right f budget log _ (nothing k spent open_ marked) = inl marked.marked.is_open
 
-has_no_mark : (f : Problem) (budget : ℕ) (log : Bytes) (e : Ending) → Found f budget log e → Settled f → HasNoMark log
+has_no_mark : (f : Problem) (budget : ℕ) (log : Bytes) (e : Ending) → Found f budget log e → SettledWithRecovered f → HasNoMark log
 has_no_mark f budget log _ (values v meets log_open) s = unmarked f budget log log_open.marks s
 has_no_mark f budget log _ (none unmet closed) s = unmarked f budget log closed.marks s
 has_no_mark f budget log _ (nothing k spent open_ marked) s = absurd (open_ s)

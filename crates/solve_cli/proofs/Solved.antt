@@ -6,8 +6,9 @@ use Rattle.cx_base.specs.Problem.{Problem, Meets, parities_of}
 use Rattle.cx_semantics.specs.AnswerText as printed
 use Rattle.cx_semantics.specs.Forced.{Consistent}
 use Rattle.cx_semantics.specs.FormulaText.{Reads}
-use Rattle.cx_semantics.specs.Settled.{Settled}
 use Rattle.cx_semantics.proofs.SettledLaws.{unsolvable_is_settled}
+use Rattle.search_steps.specs.Recovering.{SettledWithRecovered}
+use Rattle.search_steps.proofs.EndLaws.{settled_by_its_own}
 use Rattle.cx_semantics.proofs.Soundness.{parities_met}
 use Rattle.cx_desk.specs.declared.desk.Port.TheVariants as port
 use Rattle.cx_desk.specs.Outside.{Bytes, Files}
@@ -24,7 +25,7 @@ use Rattle.solve_cli.specs.Endings.{answer_text, message_text, joined}
 use Rattle.solve_cli.specs.Seen.{Seen, says, text_named}
 use Rattle.solve_cli.specs.Commands.{Stage, proof_created, asked_to, second_text}
 use Rattle.solve_cli.specs.Happens.{end_stage, Judged, Due, Gains, Works, WorksFor, PutsMessage, Runs}
-use Rattle.solve_cli.specs.Solved.{solved, HasSolved, IsSatisfied, IsRefuted, IsSpent, IsSettled, IsUnsolvable}
+use Rattle.solve_cli.specs.Solved.{solved, HasSolved, IsSatisfied, IsRefuted, IsSpent, IsSettled, IsSettledWithRecovered, IsUnsolvable}
 use Rattle.solve_cli.proofs.Direct.{ended}
 use Rattle.solve_cli.proofs.Dues.{is_judgement, judged_due, judged_of}
 use Rattle.solve_cli.proofs.Outcomes.{Done, verified, right, elaborated, unknown, outcome_of}
@@ -178,10 +179,10 @@ module _ (words : List Bytes) (limit : ℕ) (old : Seen) (s : Status) (new : See
     done_is P _ right is f = IfSome_then old.files (search_ended ending.ModelRight is) (λ files due. absurd (judged_due (plan.Solve n l c) limit files ending.ModelRight refl due).2)
     done_is P _ (elaborated k) is f = IfSome_then old.files (search_ended (ending.Elaborated k) is) (λ files due. absurd (judged_due (plan.Solve n l c) limit files (ending.Elaborated k) refl due).2)
 
-    not_settled : s ≡ status.Done → IfSome old.files (λ files. (f : Problem) → Reads (text_named n files) f → ¬ Settled f)
+    not_settled : s ≡ status.Done → IfSome old.files (λ files. (f : Problem) → Reads (text_named n files) f → ¬ SettledWithRecovered f)
     not_settled e =
         let d = outcome_of status.Done h.outcome (sym e ∙ h.status_is) in
-        done_is (λ files. (f : Problem) → Reads (text_named n files) f → ¬ Settled f) d.0 d.2 d.1 (λ k is. IfSome_then old.files (search_ended (ending.Unknown k) is)
+        done_is (λ files. (f : Problem) → Reads (text_named n files) f → ¬ SettledWithRecovered f) d.0 d.2 d.1 (λ k is. IfSome_then old.files (search_ended (ending.Unknown k) is)
         (λ files due. λ f reads. (judged_of (plan.Solve n l c) n limit files f (ending.Unknown k) refl refl due reads).1))
 
     has_values : s ≡ status.Satisfiable → IfSome old.files (λ files. (f : Problem) → Reads (text_named n files) f → (v : List Bool) × Meets f v)
@@ -192,11 +193,14 @@ module _ (words : List Bytes) (limit : ℕ) (old : Seen) (s : Status) (new : See
   pub spent_budget : (n : Bytes) (l : Option Bytes) (c : ℕ) → Asks words (plan.Solve n l c) → s ≡ status.Done → IsSpent words old new
   spent_budget n l c asks e = let d = outcome_of status.Done h.outcome (sym e ∙ h.status_is) in done_is n l c asks _ d.0 d.2 d.1 (spent_end n l c asks)
 
+  pub settled_with_recovered : IsSettledWithRecovered words old s
+  settled_with_recovered n l c f asks = IfSome_then old.files (under (λ (files : Files). (f : Problem) → Reads (text_named n files) f → ¬ SettledWithRecovered f) old.files (not_settled n l c asks)) (λ files k. λ reads is_settled e. k e f reads is_settled)
+
   pub settled : IsSettled words old s
-  settled n l c f asks = IfSome_then old.files (under (λ (files : Files). (f : Problem) → Reads (text_named n files) f → ¬ Settled f) old.files (not_settled n l c asks)) (λ files k. λ reads is_settled e. k e f reads is_settled)
+  settled n l c f asks = IfSome_then old.files (under (λ (files : Files). (f : Problem) → Reads (text_named n files) f → ¬ SettledWithRecovered f) old.files (not_settled n l c asks)) (λ files k. λ reads is_settled e. k e f reads (settled_by_its_own f is_settled))
 
   pub unsolvable : IsUnsolvable words old s
-  unsolvable n l c f asks = if_some_both old.files (under (λ (files : Files). (f : Problem) → Reads (text_named n files) f → ¬ Settled f) old.files (not_settled n l c asks)) (under (λ (files : Files). (f : Problem) → Reads (text_named n files) f → (v : List Bool) × Meets f v) old.files (has_values n l c asks)) (λ files k m. λ reads no_solution. (
-    λ e. k e f reads (unsolvable_is_settled f no_solution),
+  unsolvable n l c f asks = if_some_both old.files (under (λ (files : Files). (f : Problem) → Reads (text_named n files) f → ¬ SettledWithRecovered f) old.files (not_settled n l c asks)) (under (λ (files : Files). (f : Problem) → Reads (text_named n files) f → (v : List Bool) × Meets f v) old.files (has_values n l c asks)) (λ files k m. λ reads no_solution. (
+    λ e. k e f reads (settled_by_its_own f (unsolvable_is_settled f no_solution)),
     λ e. let met = m e f reads in no_solution (solvable f met.0 met.1),
   ))

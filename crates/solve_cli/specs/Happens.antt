@@ -4,7 +4,7 @@ use Rattle.cx_base.specs.Problem.{Problem, Meets, Unmet}
 use Rattle.cx_semantics.specs.FormulaText.{Reads, FirstOffence}
 use Rattle.cx_semantics.specs.ProofRules.{Accepted, RefusedAt}
 use Rattle.cx_semantics.specs.LogRules.{LogRight, LogRefusedAt}
-use Rattle.cx_semantics.specs.Settled.{Settled}
+use Rattle.search_steps.specs.Recovering.{SettledWithRecovered}
 use Rattle.model_out.specs.Answers.{AnswerReads, AnswerRefusedFor}
 use Rattle.model_out.specs.declared.refusal.AnswerRefusal.{AnswerRefusal}
 use Rattle.model_out.specs.declared.refusal.AnswerRefusal.TheVariants as refusal
@@ -67,7 +67,7 @@ Judged (ending.Elaborated k) (plan.Elab n l q) f text = LogRight f text k
 Judged (ending.NotElaborated k c) (plan.Elab n l q) f text = LogRefusedAt f text k c
 Judged (ending.Satisfiable v) (plan.Solve n l c) f text = Meets f v
 Judged ending.Unsatisfiable (plan.Solve n l c) f text = Unmet f
-Judged (ending.Unknown k) (plan.Solve n l c) f text = (k ≡ c) × ¬ Settled f
+Judged (ending.Unknown k) (plan.Solve n l c) f text = (k ≡ c) × ¬ SettledWithRecovered f
 Judged e p f text = ⊥
 
 -- the endings where the formula is read: its second text's length is judged before what it says

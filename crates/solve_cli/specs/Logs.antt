@@ -9,7 +9,7 @@ use Rattle.cx_semantics.specs.Ids.{HasLowId}
 use Rattle.cx_semantics.specs.LogRules.{LogOpen, LogRight}
 use Rattle.cx_semantics.specs.LogText.{LogReads, EventsRead}
 use Rattle.cx_semantics.specs.Marked.{Marked, Budgeted, mark_of}
-use Rattle.cx_semantics.specs.Settled.{Settled}
+use Rattle.search_steps.specs.Recovering.{SettledWithRecovered}
 use Rattle.cx_desk.specs.Outside.{Bytes}
 
 -- The log is marked fewer times than the budget, and never where propagation settles the formula; its ids are low.
@@ -20,7 +20,7 @@ pub record HasFewMarks (formula : Problem) (budget : ℕ) (log : Bytes) : Type 0
   pub marked : Marked formula events count
   pub ids : AllByRecursion HasLowId events
   pub few : count < budget
-  pub settled : Settled formula → count ≡ 0
+  pub settled : SettledWithRecovered formula → count ≡ 0
 
 -- behind values: each step is right, and none ends the log
 pub record IsOpenLog (formula : Problem) (budget : ℕ) (log : Bytes) : Type 0 where
@@ -56,6 +56,6 @@ pub record IsLogSoFar (formula : Problem) (bytes : Bytes) : Type 0 where
   pub log : Bytes
   pub right : LogOpen formula log ⊎ IsRefutation formula log
   pub ids : HasOnlyLowIds log
-  pub settled : Settled formula → HasNoMark log
+  pub settled : SettledWithRecovered formula → HasNoMark log
   pub rest : Bytes
   pub front : bytes ++ rest ≡ log

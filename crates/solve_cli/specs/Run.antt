@@ -17,7 +17,7 @@ use Rattle.solve_cli.specs.Seen.{Seen}
 use Rattle.solve_cli.specs.Commands.{is_built}
 use Rattle.solve_cli.specs.Happens.{Due, Early, AsksForMore, Runs, Comes}
 use Rattle.solve_cli.specs.Causes.{IsFormulaRefused, IsOverLimit, IsProofRefused, IsLogRefused, IsAnswerRefused, IsOfSolve, IsVerified, IsElaborated, IsModelRight}
-use Rattle.solve_cli.specs.Solved.{IsSatisfied, IsRefuted, IsSpent, IsSettled, IsUnsolvable}
+use Rattle.solve_cli.specs.Solved.{IsSatisfied, IsRefuted, IsSpent, IsSettled, IsSettledWithRecovered, IsUnsolvable}
 
 -- `check` and `model` write on no port but the Answer port
 abbrev pub is_reader : Plan → Bool
@@ -72,3 +72,5 @@ pub record Run (words : List Bytes) (limit : ℕ) (old : Seen) (s : Status) (new
   -- a formula that propagation settles is not left unknown; with parities that have no solution no values are printed either
   pub settled : IsSettled words old s
   pub unsolvable : IsUnsolvable words old s
+  -- nor is one that it settles with the parities that stand in the formula as clauses
+  pub settled_with_recovered : IsSettledWithRecovered words old s

@@ -5,6 +5,7 @@ use Rattle.cx_semantics.specs.AnswerText as printed
 use Rattle.cx_semantics.specs.Forced.{Consistent}
 use Rattle.cx_semantics.specs.FormulaText.{Reads}
 use Rattle.cx_semantics.specs.Settled.{Settled}
+use Rattle.search_steps.specs.Recovering.{SettledWithRecovered}
 use Rattle.cx_desk.specs.declared.desk.Slot.TheVariants as slot
 use Rattle.cx_desk.specs.declared.desk.Port.TheVariants as port
 use Rattle.cx_desk.specs.Outside.{Bytes, Files}
@@ -55,6 +56,10 @@ OfSolve words old Holds = (name : Bytes) (log_name : Option Bytes) (budget : ℕ
 -- a formula that propagation settles is not left unknown
 abbrev pub IsSettled : List Bytes → Seen → Status → Type 0
 IsSettled words old s = OfSolve words old (λ f. Settled f → s ≢ status.Done)
+
+-- nor is one that it settles with the recovered parities taken as parities
+abbrev pub IsSettledWithRecovered : List Bytes → Seen → Status → Type 0
+IsSettledWithRecovered words old s = OfSolve words old (λ f. SettledWithRecovered f → s ≢ status.Done)
 
 -- a formula whose parities have no solution is not left unknown, and no values are printed
 abbrev pub IsUnsolvable : List Bytes → Seen → Status → Type 0

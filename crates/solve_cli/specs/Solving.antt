@@ -3,7 +3,7 @@ use Rattle.std.specs.Prelude.{◌≡◌, ℕ, List, IfSome, Result, MatchResult}
 use Rattle.cx_base.specs.Problem.{Problem, Meets, Unmet}
 use Rattle.cx_semantics.specs.declared.steps.LogEvent.{LogEvent}
 use Rattle.cx_semantics.specs.Printed.{printed_log}
-use Rattle.cx_semantics.specs.Settled.{Settled}
+use Rattle.search_steps.specs.Recovering.{SettledWithRecovered}
 use Rattle.cx_words.specs.declared.plans.Plan.{Plan}
 use Rattle.solve_cli.specs.declared.ending.Ending.{Ending}
 use Rattle.solve_cli.specs.declared.ending.Ending.TheVariants as ending
@@ -23,5 +23,5 @@ BeginsSearch p limit old result new = MatchResult result
 abbrev pub ComesTo : Problem → ℕ → List LogEvent → Ending → Type 0
 ComesTo f budget events (ending.Satisfiable v) = Meets f v × IsOpenLog f budget (printed_log events)
 ComesTo f budget events ending.Unsatisfiable = Unmet f × IsClosedLog f budget (printed_log events)
-ComesTo f budget events (ending.Unknown k) = (k ≡ budget) × (¬ Settled f) × IsSpentLog f budget (printed_log events)
+ComesTo f budget events (ending.Unknown k) = (k ≡ budget) × (¬ SettledWithRecovered f) × IsSpentLog f budget (printed_log events)
 ComesTo f budget events e = ⊥

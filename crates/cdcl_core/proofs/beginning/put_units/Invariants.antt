@@ -1,4 +1,5 @@
-use Rattle.std.proofs.Common.{drop, None}
+use Rattle.std.proofs.Common.{List, drop, None}
+use Rattle.cx_base.specs.Literals.{Literal}
 use Rattle.cdcl_search.specs.Logs.{GoesOn}
 use Rattle.cdcl_core.specs.Waiting.{SearchStandsBut}
 use Rattle.cdcl_core.proofs.beginning.put_units.Given as goal
@@ -6,6 +7,7 @@ use Rattle.cdcl_core.proofs.beginning.put_units.Given as goal
 -- the unit clauses from this place on wait
 abbrev pub invariant-loop-place : goal.invariant-loop-place
 invariant-loop-place g l = record {
-  stands : SearchStandsBut l.log.formula.now l.state (drop l.place l.units) (g.L.LogSink.events l.log.sink.now);
+  stands : (engines : List (List Literal)) → SearchStandsBut l.fn.log.formula.now engines l.fn.state l.units (g.L.LogSink.events l.fn.log.sink.now)
+      → SearchStandsBut l.log.formula.now engines l.state (drop l.place l.units) (g.L.LogSink.events l.log.sink.now);
   log : GoesOn g.L.LogSink l.fn.log None l.log;
 }

@@ -1,12 +1,12 @@
 use Rattle.std.proofs.Common.{◌+◌, ◌<◌, ◌∙◌, sym, subst, rules}
-use Rattle.cx_semantics.specs.Settled.{Settled}
+use Rattle.search_steps.specs.Recovering.{SettledWithRecovered}
 use Rattle.cdcl_search.specs.GoingOn.{log_then}
 use Rattle.cdcl_core.specs.Results.{IsSettledBy}
 use Rattle.cdcl_core.proofs.solving.search.Goals as goal
 
-pub loop-schedule-preserved : goal.loop-schedule-preserved
-loop-schedule-preserved g c =
-    let i = c.loop-schedule.invariant in
+pub loop-marks-preserved : goal.loop-marks-preserved
+loop-marks-preserved g c =
+    let i = c.loop-marks.invariant in
     let goes_on = rw c.in_default.is at c.in_ok-outcome.ensures.goes_on in
     let more = c.in_ok-outcome.ensures.log in
     let then = c.in_ok-follow_schedule.ensures in
@@ -16,19 +16,19 @@ loop-schedule-preserved g c =
         unbroken = then.unbroken;
         fewer = subst (λ n. n < c.args.budget) (sym then.conflicts) goes_on.fewer;
       };
-      settled = λ s. absurd (rw c.in_default.is at (c.in_ok-outcome.ensures.settled (subst Settled then.log.formula s) (i.settled (subst Settled (then.log.formula ∙ more.formula) s)).0));
+      settled = λ s. absurd (rw c.in_default.is at (c.in_ok-outcome.ensures.settled (subst SettledWithRecovered then.log.formula s) (i.settled (subst SettledWithRecovered (then.log.formula ∙ more.formula) s)).0));
       clear = c.in_ok-outcome.ensures.clear;
-      log = log_then g.L.LogSink g.met.L.LogSink.keeps_on _ c.round.new.log _ _ (log_then g.L.LogSink g.met.L.LogSink.keeps_on _ c.loop-schedule.log _ _ i.log more) then.log;
+      log = log_then g.L.LogSink g.met.L.LogSink.keeps_on _ c.round.new.log _ _ (log_then g.L.LogSink g.met.L.LogSink.keeps_on _ c.loop-marks.log _ _ i.log more) then.log;
     }
 
 pub returns-in-Some-clause-settled : goal.returns-in-Some-clause-settled
 returns-in-Some-clause-settled g c s =
-    let i = c.loop-schedule.invariant.settled (subst Settled c.in_ok-outcome.ensures.log.formula s) in
+    let i = c.loop-marks.invariant.settled (subst SettledWithRecovered c.in_ok-outcome.ensures.log.formula s) in
     let told = g.L.LogSink.events c.round.new.log.sink.now in
-    let h : IsSettledBy c.round.new.log.formula.now (c.loop-schedule.state.conflicts + 1) told c.in-Some.outcome = rw c.in-Some.is at (c.in_ok-outcome.ensures.settled s i.0) in
+    let h : IsSettledBy c.round.new.log.formula.now (c.loop-marks.state.conflicts + 1) told c.in-Some.outcome = rw c.in-Some.is at (c.in_ok-outcome.ensures.settled s i.0) in
     subst (λ n. IsSettledBy c.round.new.log.formula.now (n + 1) told c.in-Some.outcome) i.1 h
 
 pub returns-in_err-follow_schedule-clause-log : goal.returns-in_err-follow_schedule-clause-log
 returns-in_err-follow_schedule-clause-log g c =
-    let before = log_then g.L.LogSink g.met.L.LogSink.keeps_on _ c.loop-schedule.log _ _ c.loop-schedule.invariant.log c.in_ok-outcome.ensures.log in
+    let before = log_then g.L.LogSink g.met.L.LogSink.keeps_on _ c.loop-marks.log _ _ c.loop-marks.invariant.log c.in_ok-outcome.ensures.log in
     log_then g.L.LogSink g.met.L.LogSink.keeps_on _ c.round.new.log _ _ before (search rules)

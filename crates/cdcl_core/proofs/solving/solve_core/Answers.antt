@@ -1,5 +1,6 @@
 use Rattle.std.proofs.Common.{◌≡◌, ◌∙◌, rules, sym, subst, IfErr, OnOk}
-use Rattle.cx_semantics.specs.Settled.{Settled}
+use Rattle.search_steps.specs.Recovering.{SettledWithRecovered}
+use Rattle.search_steps.proofs.EndLaws.{settled_by_its_own}
 use Rattle.cdcl_search.specs.GoingOn.{log_then}
 use Rattle.cdcl_search.specs.Tells.{IsLeft, GivesUp, HaveLowIds}
 use Rattle.cdcl_search.proofs.Outcomes.{ok_maps}
@@ -12,14 +13,17 @@ returns-in_err-state-clause-gave_up g c =
     let left : IsLeft c.args.formula.now (g.L.LogSink.events c.args.sink.now) = fresh_is_left c.args.formula.now (g.L.LogSink.events c.args.sink.now) c.requires.fresh in
     search rules
 
+pub returns-in-Search-clause-settled_with_recovered : goal.returns-in-Search-clause-settled_with_recovered
+returns-in-Search-clause-settled_with_recovered g c = λ s. ok_maps c.search.result (c.search.ensures.settled (subst SettledWithRecovered (sym (c.search.ensures.log.formula ∙ c.in_ok-state.ensures.log.formula)) s)) (λ a k. k.1)
+
 pub returns-in-Search-clause-settled : goal.returns-in-Search-clause-settled
-returns-in-Search-clause-settled g c = λ s. ok_maps c.search.result (c.search.ensures.settled (subst Settled (sym (c.search.ensures.log.formula ∙ c.in_ok-state.ensures.log.formula)) s)) (λ a k. k.1)
+returns-in-Search-clause-settled g c = λ s. ok_maps c.search.result (c.search.ensures.settled (subst SettledWithRecovered (sym (c.search.ensures.log.formula ∙ c.in_ok-state.ensures.log.formula)) (settled_by_its_own c.args.formula.now s))) (λ a k. k.1)
 
 pub returns-in-Search-clause-unmarked : goal.returns-in-Search-clause-unmarked
 returns-in-Search-clause-unmarked g c = λ s.
     let same : c.sink-in-Search-1.given.0 ≡ c.search.new.log.sink.now = search rules in
     subst (λ x. OnOk c.search.result (HasNoMark (g.L.LogSink.events x))) (sym same) (settled_answer_has_no_mark c.search.new.log.formula.now (g.L.LogSink.events c.search.new.log.sink.now) c.search.result
-    (c.search.ensures.settled (subst Settled (sym (c.search.ensures.log.formula ∙ c.in_ok-state.ensures.log.formula)) s)))
+    (c.search.ensures.settled (subst SettledWithRecovered (sym (c.search.ensures.log.formula ∙ c.in_ok-state.ensures.log.formula)) s)))
 
 pub returns-in-Search-clause-gave_up : goal.returns-in-Search-clause-gave_up
 returns-in-Search-clause-gave_up g c =

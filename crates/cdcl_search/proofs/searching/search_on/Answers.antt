@@ -1,6 +1,6 @@
 use Rattle.std.proofs.Common.{◌∙◌, sym, ap, [], true≢false, subst, arith}
 use Rattle.cx_base.specs.Problem.{Problem}
-use Rattle.cx_semantics.specs.Settled.{Settled}
+use Rattle.search_steps.specs.Recovering.{SettledWithRecovered}
 use Rattle.cdcl_search.specs.Searching.{OpensLevel}
 use Rattle.cdcl_search.specs.GoingOn.{log_then}
 use Rattle.cdcl_search.proofs.Feeding.{trail_is_short}
@@ -27,4 +27,4 @@ loop-found-smaller g c =
     omega (arith, longer, short, same)
 
 pub returns-in-Some-clause-settled : goal.returns-in-Some-clause-settled
-returns-in-Some-clause-settled g c s = (c.in_ok-found.ensures.settled s).1 ∙ c.loop-found.invariant.settled (subst Settled c.in_ok-found.ensures.log.formula s)
+returns-in-Some-clause-settled g c s = (c.in_ok-found.ensures.settled s).1 ∙ c.loop-found.invariant.settled (subst SettledWithRecovered c.in_ok-found.ensures.log.formula s)

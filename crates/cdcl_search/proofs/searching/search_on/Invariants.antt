@@ -1,5 +1,5 @@
 use Rattle.std.proofs.Common.{◌≡◌, ◌≢◌, ◌-◌, [], length, None}
-use Rattle.cx_semantics.specs.Settled.{Settled}
+use Rattle.search_steps.specs.Recovering.{SettledWithRecovered}
 use Rattle.parity_engine.specs.declared.state.Mood.TheVariants.{Broken}
 use Rattle.cdcl_search.specs.Logs.{GoesOn, Stands}
 use Rattle.cdcl_search.proofs.searching.search_on.Given as goal
@@ -8,7 +8,7 @@ abbrev pub invariant-loop-found : goal.invariant-loop-found
 invariant-loop-found g l = record {
   stands : Stands g.P.ParityEngine g.L.LogSink l.log l.state l.engine [];
   unbroken : (g.P.ParityEngine.state l.engine).mood ≢ Broken;
-  settled : Settled l.log.formula.now → l.state.trail.level ≡ l.fn.state.trail.level;
+  settled : SettledWithRecovered l.log.formula.now → l.state.trail.level ≡ l.fn.state.trail.level;
   conflicts : l.state.conflicts ≡ l.fn.state.conflicts;
   log : GoesOn g.L.LogSink l.fn.log None l.log;
 }

@@ -1,7 +1,7 @@
 use Rattle.solve_cli.proofs.Works.{tells_of}
 use Rattle.solve_cli.proofs.Direct.{complete, refused_words, usage, read_fault, write_fault}
 use Rattle.solve_cli.proofs.Messages.{need_no_write}
-use Rattle.solve_cli.proofs.Solved.{satisfied, unsatisfied, spent_budget, settled, unsolvable}
+use Rattle.solve_cli.proofs.Solved.{satisfied, unsatisfied, spent_budget, settled, settled_with_recovered, unsolvable}
 use Rattle.solve_cli.proofs.Statuses.{only_solve_decides, proof_is_verified, log_is_elaborated, model_is_right, formula_is_refused, proof_is_refused, log_is_refused, answer_is_refused, limit_is_passed}
 use Rattle.solve_cli.specs.Seen.{seen}
 use Rattle.cx_words.specs.Words.{texts}
@@ -46,4 +46,5 @@ returns g c =
       messages_need_no_write = need_no_write words limit old s new runs;
       settled = settled words limit old s new runs;
       unsolvable = unsolvable words limit old s new runs;
+      settled_with_recovered = settled_with_recovered words limit old s new runs;
     }

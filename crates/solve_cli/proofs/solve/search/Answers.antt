@@ -1,5 +1,5 @@
 use Rattle.std.proofs.Common.{◌≢◌, ℕ, Some, subst}
-use Rattle.cx_semantics.specs.Settled.{Settled}
+use Rattle.search_steps.specs.Recovering.{SettledWithRecovered}
 use Rattle.cdcl_core.specs.Results.{IsRightOutcome}
 use Rattle.cdcl_core.specs.declared.solving.Outcome.{Outcome as Answer}
 use Rattle.cdcl_core.specs.declared.solving.Outcome.TheVariants as answer
@@ -26,4 +26,4 @@ returns-in-Ok-Unknown c =
     let events = c.solve_core-answer.new.sink in
     let found = subst (λ (a : Answer). IsRightOutcome f c.args.conflicts (Some events) a) c.in-Ok-Unknown.field-0-is c.in-Ok-Unknown.ensures.answers in
     finds_nothing f c.args.conflicts events c.in-Ok-Unknown.conflicts c.events-with_texts.ensures.texts c.solve_core-answer.ensures.ids found
-    (subst (λ (a : Answer). Settled f → (n : ℕ) → a ≢ answer.Unknown n) c.in-Ok-Unknown.field-0-is c.in-Ok-Unknown.ensures.settled)
+    (subst (λ (a : Answer). SettledWithRecovered f → (n : ℕ) → a ≢ answer.Unknown n) c.in-Ok-Unknown.field-0-is c.in-Ok-Unknown.ensures.settled_with_recovered)

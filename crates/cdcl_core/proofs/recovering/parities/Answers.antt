@@ -2,7 +2,7 @@ use Rattle.std.proofs.Common.{ap, ◌∙◌, arith}
 use Rattle.std.proofs.lemmas.List.{take_all}
 use Rattle.cx_base.specs.Problem.{parities_of}
 use Rattle.cdcl_core.proofs.OriginalLaws.{no_parity}
-use Rattle.cdcl_core.proofs.beginning.parities.Goals as goal
+use Rattle.cdcl_core.proofs.recovering.parities.Goals as goal
 
 pub loop-place-init : goal.loop-place-init
 loop-place-init c = c.new-parities.ensures.items ∙ no_parity c.args.formula.now.constraints
@@ -11,4 +11,4 @@ pub returns : goal.returns
 returns c =
     let far = c.loop-place-test.false in
     let long = c.len-place-end.ensures in
-    c.from_vec.ensures ∙ c.loop-place.invariant ∙ ap parities_of (take_all c.loop-place.place c.args.formula.now.constraints (omega (arith, far, long)))
+    c.loop-place.invariant ∙ ap parities_of (take_all c.loop-place.place c.args.formula.now.constraints (omega (arith, far, long)))

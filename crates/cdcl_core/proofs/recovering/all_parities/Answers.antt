@@ -1,0 +1,80 @@
+use Rattle.std.proofs.Common.{◌≡◌, sym, ap, ◌∙◌, ◌<◌, ◌∷◌, ◌++◌, [], subst, take, length, get_or, append-nil, length-append, length-take, arith, rules}
+use Rattle.std.proofs.lemmas.List.{take_all, length-map, get_or_read}
+use Rattle.std.proofs.lemmas.List.Elements.{recursion_from_All}
+use Rattle.cx_base.specs.Problem.{Problem, AreWithin, parities_of}
+use Rattle.xor_recover.specs.declared.found.Found.{Found}
+use Rattle.cdcl_search.specs.GoingOn.{log_rests, log_then}
+use Rattle.cdcl_core.specs.Given.{AreEngines, HasGiven}
+use Rattle.cdcl_core.proofs.GivenLaws.{begun_has_given, engines_are, one_find_more, parities_found}
+use Rattle.cdcl_core.proofs.OriginalLaws.{both_kinds}
+use Rattle.cdcl_core.proofs.recovering.all_parities.Goals as goal
+
+pub loop-place-init : goal.loop-place-init
+loop-place-init g c =
+    let formula = c.args.log.now.formula.now in
+    let told = g.L.LogSink.events c.args.log.now.sink.now in
+    record {
+      given = subst (λ ps. HasGiven formula ps told) (sym c.in_ok-parities.ensures) (begun_has_given formula told c.requires.begun);
+      are = c.in_ok-parities.ensures ∙ sym (append-nil (parities_of formula.constraints));
+      log = log_rests g.L.LogSink g.met.L.LogSink.keeps_itself _;
+    }
+
+pub tell_find-requires-clause-fewer : goal.tell_find-requires-clause-fewer
+tell_find-requires-clause-fewer g c =
+    let formula = c.args.log.now.formula.now in
+    let finds = c.into_vec-finds.result.items in
+    let place = c.loop-place.place in
+    let same = ap (λ (f : Problem). length f.constraints) c.loop-place.invariant.log.formula in
+    let are = ap length c.loop-place.invariant.are in
+    let both = length-append (parities_of formula.constraints) (parities_found (take place finds)) in
+    let mapped = length-map (take place finds) (λ (f : Found). f.parity) in
+    let taken = length-take place finds in
+    let less = c.loop-place-test.true in
+    let end = c.len-place-end.ensures in
+    let ok = c.into_vec-finds.result.ok.0 in
+    let found = ap length c.into_vec-finds.ensures in
+    let few = c.in_ok-recover.ensures.few in
+    let kinds = both_kinds formula.constraints in
+    omega (arith, same, are, both, mapped, taken, less, end, ok, found, few, kinds)
+
+pub tell_find-requires-clause-given : goal.tell_find-requires-clause-given
+tell_find-requires-clause-given g c = subst (λ f. HasGiven f c.loop-place.parities.items (g.L.LogSink.events c.loop-place.log.sink.now)) (sym c.loop-place.invariant.log.formula) c.loop-place.invariant.given
+
+pub returns-in_err-tell_find-clause-log : goal.returns-in_err-tell_find-clause-log
+returns-in_err-tell_find-clause-log g c = log_then g.L.LogSink g.met.L.LogSink.keeps_on _ c.loop-place.log _ _ c.loop-place.invariant.log (search rules)
+
+pub loop-place-preserved : goal.loop-place-preserved
+loop-place-preserved g c =
+    let formula = c.args.log.now.formula.now in
+    let finds = c.into_vec-finds.result.items in
+    let place = c.loop-place.place in
+    let own = parities_of formula.constraints in
+    let find = c.index.result.now in
+    let less : place < length finds = (let less = c.loop-place-test.true in let end = c.len-place-end.ensures in let ok = c.into_vec-finds.result.ok.0 in omega (arith, less, end, ok)) in
+    let read : find ≡ get_or finds place find = get_or_read finds place _ less c.index.ensures find in
+    record {
+      given = subst (λ f. HasGiven f c.tell_find.new.parities.items (g.L.LogSink.events c.tell_find.new.log.sink.now)) (c.in_ok-tell_find.ensures.log.formula ∙ c.loop-place.invariant.log.formula) c.in_ok-tell_find.ensures.given;
+      are = c.in_ok-tell_find.ensures.one_more ∙ ap (λ xs. xs ++ find.parity ∷ []) c.loop-place.invariant.are
+          ∙ ap (λ (f : Found). (own ++ parities_found (take place finds)) ++ f.parity ∷ []) read ∙ one_find_more own finds place find less;
+      log = log_then g.L.LogSink g.met.L.LogSink.keeps_on _ _ _ _ c.loop-place.invariant.log c.in_ok-tell_find.ensures.log;
+    }
+
+pub returns-clause-given : goal.returns-clause-given
+returns-clause-given g c =
+    let told = g.L.LogSink.events c.loop-place.log.sink.now in
+    subst (λ ps. HasGiven c.loop-place.log.formula.now ps told) (sym c.from_vec.ensures)
+    (subst (λ f. HasGiven f c.loop-place.parities.items told) (sym c.loop-place.invariant.log.formula) c.loop-place.invariant.given)
+
+pub returns-clause-engines : goal.returns-clause-engines
+returns-clause-engines g c =
+    let formula = c.args.log.now.formula.now in
+    let finds = c.into_vec-finds.result.items in
+    let found = c.in_ok-recover.field-0 in
+    let own = parities_of formula.constraints in
+    let far = c.loop-place-test.false in
+    let end = c.len-place-end.ensures in
+    let ok = c.into_vec-finds.result.ok.0 in
+    let all = take_all c.loop-place.place finds (omega (arith, far, end, ok)) in
+    let is = c.from_vec.ensures ∙ c.loop-place.invariant.are ∙ ap (λ fs. own ++ parities_found fs) (all ∙ c.into_vec-finds.ensures) in
+    let ours = engines_are formula found c.vars-vars.ensures.within (recursion_from_All (λ (f : Found). AreWithin formula.variables f.parity) found c.in_ok-recover.ensures.within) c.in_ok-recover.ensures.few c.in_ok-recover.ensures.complete in
+    subst (λ f. AreEngines f c.from_vec.result) (sym c.loop-place.invariant.log.formula) (subst (AreEngines formula) (sym is) ours)

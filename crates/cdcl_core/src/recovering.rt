@@ -1,0 +1,108 @@
+//! The engine's parities: the formula's, and those that stand in it as clauses.
+ghost use Rattle.std.specs.Prelude.{◌≡◌, ◌+◌, ◌<◌, ◌≤◌, ◌∷◌, [], ◌++◌, length, take, OnOk, IfOk};
+ghost use Rattle.std.specs.List.{AllByRecursion};
+ghost use Rattle.cx_base.specs.Problem.{AreWithin, parities_of};
+ghost use Rattle.cx_semantics.specs.Integers.{integers_of};
+ghost use Rattle.cx_semantics.specs.declared.steps.LogStep.TheVariants as step;
+ghost use Rattle.conflict_learn.specs.Faults.{fault_in};
+ghost use Rattle.xor_recover.specs.Finds.{IsJudgedRight};
+ghost use Rattle.cdcl_search.specs.Logs.{GoesOn, told_in};
+ghost use Rattle.cdcl_search.specs.Tells.{IsId, IsTellable};
+ghost use Rattle.cdcl_core.specs.Given.{AreEngines, HasGiven};
+ghost use Rattle.cdcl_core.specs.Originals.{HasBegun};
+
+use cdcl_search::integers::integers;
+use cdcl_search::logs::SearchLog;
+use cdcl_search::rows::copy_of;
+use cdcl_search::steps::recovered_parity;
+use cdcl_search::telling::tell_step;
+use conflict_learn::CoreFault;
+use cx_base::{ConstraintRef, Formula, IdList, Lit, LitList, ParityList};
+use cx_semantics::LogStep;
+use log_text::LogSink;
+use std::alloc::{AllocError, Global};
+use xor_recover::{Found, recover};
+
+/// Puts the parity at a place of the formula, where there is one, behind those of the places before.
+fn add_parity(
+    alloc: Global,
+    formula: &Formula,
+    place: usize,
+    parities: &mut Vec<LitList>,
+) -> Result<(), AllocError>
+    requires place { place < length formula.now.constraints }
+    requires before { parities.old.items ≡ parities_of (take place formula.now.constraints) }
+    ensures { OnOk result (parities.new.items ≡ parities_of (take (place + 1) formula.now.constraints)) }
+{
+    match formula.item(place) {
+        ConstraintRef::Clause(_) => Ok(()),
+        ConstraintRef::Parity(lits) => {
+            parities.push(copy_of(alloc, lits)?)?;
+            Ok(())
+        }
+    }
+}
+
+/// The formula's parities, in order.
+fn parities(alloc: Global, formula: &Formula) -> Result<Vec<LitList>, AllocError>
+    ensures { IfOk result (λ p. p.items ≡ parities_of formula.now.constraints) }
+{
+    let mut parities = Vec::new(alloc);
+    for place in 0..formula.len() {
+        add_parity(alloc, formula, place, &mut parities)?;
+    }
+    Ok(parities)
+}
+
+/// The step of a recovered parity.
+fn step_of(alloc: Global, id: u64, find: &Found) -> Result<LogStep, AllocError>
+    requires id { IsId id }
+    requires clauses { AllByRecursion IsId find.now.clauses }
+    ensures is { IfOk result (λ s. s ≡ step.ParityOfClauses id (integers_of find.now.parity) find.now.clauses) }
+    ensures text { IfOk result IsTellable }
+{
+    let lits = integers(alloc, find.parity.as_slice())?;
+    let clauses = IdList::from_vec(find.clauses.as_slice().to_vec(alloc)?);
+    Ok(recovered_parity(id, lits, clauses))
+}
+
+/// Tells a recovered parity under the next id, and puts it behind these.
+fn tell_find<L: LogSink>(
+    log: &mut SearchLog<L>,
+    find: &Found,
+    parities: &mut Vec<LitList>,
+) -> Result<(), CoreFault>
+    requires few { length log.old.formula.now.constraints ≤ 4294967295 }
+    requires fewer { length parities.old.items < length log.old.formula.now.constraints }
+    requires given { HasGiven log.old.formula.now parities.old.items (told_in L.LogSink log.old) }
+    requires within { AreWithin log.old.formula.now.variables find.now.parity }
+    requires judged { IsJudgedRight log.old.formula.now find.now }
+    ensures given { OnOk result (HasGiven log.new.formula.now parities.new.items (told_in L.LogSink log.new)) }
+    ensures one_more { OnOk result (parities.new.items ≡ parities.old.items ++ find.now.parity ∷ []) }
+    ensures log { GoesOn L.LogSink log.old (fault_in result) log.new }
+{
+    let id = parities.len() as u64 + 1;
+    let step = step_of(log.alloc, id, find)?;
+    let parity = copy_of(log.alloc, find.parity.as_slice())?;
+    tell_step(log, &step)?;
+    parities.push(parity)?;
+    Ok(())
+}
+
+/// Tells the parities that are recovered from the formula's clauses, and gives them behind the formula's own.
+pub(crate) fn all_parities<L: LogSink>(log: &mut SearchLog<L>) -> Result<ParityList, CoreFault>
+    requires few { length log.old.formula.now.constraints ≤ 4294967295 }
+    requires begun { HasBegun log.old.formula.now log.old.formula.now.constraints (told_in L.LogSink log.old) }
+    ensures given { IfOk result (λ p. HasGiven log.new.formula.now p (told_in L.LogSink log.new)) }
+    ensures engines { IfOk result (AreEngines log.new.formula.now) }
+    ensures log { GoesOn L.LogSink log.old (fault_in result) log.new }
+{
+    // `vars` says to the proof that the literals of the formula are within its variables.
+    let _vars = log.formula.vars();
+    let finds = recover(log.alloc, log.formula)?.into_vec();
+    let mut parities = parities(log.alloc, log.formula)?;
+    for place in 0..finds.len() {
+        tell_find(log, &finds[place], &mut parities)?;
+    }
+    Ok(ParityList::from_vec(parities))
+}
