@@ -1,7 +1,7 @@
 //! The commands one behind the other, each on a desk of its own.
 use crate::desk::{AMPLE, Ended, run};
 use crate::elab::SQUARE_LOG;
-use crate::formulas::{SQUARE, TRIANGLE};
+use crate::formulas::{SQUARE, TRIANGLE, TRIANGLE_OF_CLAUSES};
 use std::alloc::{AllocError, Global};
 use std::process::Abort;
 use std::test::Fail;
@@ -63,7 +63,14 @@ fn refutations_are_verified(rt: HostRuntime) -> Result<(), Fail> {
     let alloc = rt.alloc();
     let odd = format!(in alloc; "{PLANTED}{ODD}")?;
     let hidden = format!(in alloc; "{PLANTED}{HIDDEN}")?;
-    for formula in [TRIANGLE, CIRCLE, odd.as_str(), hidden.as_str()] {
+    for formula in [
+        TRIANGLE,
+        TRIANGLE_OF_CLAUSES,
+        SQUARE,
+        CIRCLE,
+        odd.as_str(),
+        hidden.as_str(),
+    ] {
         let refuted = solved(alloc, formula)?;
         assert!(rt; refuted.status == 20, "{formula}: solve {}", refuted.status);
         proved(&rt, alloc, formula, refuted.proof())?;

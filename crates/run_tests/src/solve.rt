@@ -1,6 +1,6 @@
 //! Searches for values: their answers, their budgets, and their logs.
 use crate::desk::{AMPLE, Bounds, run};
-use crate::formulas::{EMPTY, TRIANGLE};
+use crate::formulas::{EMPTY, SQUARE, TRIANGLE, TRIANGLE_OF_CLAUSES};
 use std::alloc::{AllocError, Global};
 use std::process::Abort;
 use std::test::Fail;
@@ -63,6 +63,8 @@ fn no_values_are_found(rt: HostRuntime) -> Result<(), Fail> {
         (EMPTY, "1", 20, "s UNSATISFIABLE\n"),
         ("p cnf 2 1\nx0\n", "1", 20, "s UNSATISFIABLE\n"),
         (TRIANGLE, "1", 20, "s UNSATISFIABLE\n"),
+        (TRIANGLE_OF_CLAUSES, "1", 20, "s UNSATISFIABLE\n"),
+        (SQUARE, "1", 20, "s UNSATISFIABLE\n"),
         (FOUR, "2", 20, "s UNSATISFIABLE\n"),
         (FOUR, "1", 0, "c conflicts 1\ns UNKNOWN\n"),
     ] {
@@ -84,6 +86,18 @@ fn conflicts_are_marked_behind_decisions_alone(rt: HostRuntime) -> Result<(), Fa
     assert!(rt; !has_mark(forced.proof()));
     let decided = run(rt.alloc(), FOUR, b"", line.as_slice(), AMPLE)?;
     assert!(rt; has_mark(decided.proof()));
+    Ok(())
+}
+
+#[test]
+fn recovered_parities_are_told_behind_the_originals(rt: HostRuntime) -> Result<(), Fail> {
+    let line = ["cxsat", "solve", "f"];
+    let refuted = run(rt.alloc(), TRIANGLE_OF_CLAUSES, b"", line.as_slice(), AMPLE)?;
+    let originals = "o 1 1 2 0\no 2 -1 -2 0\no 3 2 3 0\no 4 -2 -3 0\no 5 1 3 0\no 6 -1 -3 0\n";
+    let recovered = "i x 1 1 2 0 l 1 2 0\ni x 2 1 3 0 l 5 6 0\ni x 3 2 3 0 l 3 4 0\n";
+    let front = format!(in rt.alloc(); "{originals}{recovered}")?;
+    assert!(rt; refuted.proof().starts_with(front.as_bytes()));
+    assert!(rt; !has_mark(refuted.proof()));
     Ok(())
 }
 
