@@ -1,8 +1,8 @@
 -- Plain words of the commands without options are taken.
 use Rattle.std.proofs.Common.{◌≡◌, ℕ, List, [], ◌∷◌, Some, refl, sym, subst, codes}
 use Rattle.cx_desk.specs.Outside.{Bytes}
-use Rattle.cx_words.specs.declared.plans.Kind.{Kind}
-use Rattle.cx_words.specs.declared.plans.Kind.TheVariants.{Even, Odd}
+use Rattle.inst_gen.specs.declared.kind.Kind.{Kind}
+use Rattle.inst_gen.specs.declared.kind.Kind.TheVariants.{Even, Odd}
 use Rattle.cx_words.specs.declared.plans.Plan.TheVariants as plan
 use Rattle.cx_words.specs.Given.{kind_of}
 use Rattle.cx_words.specs.Words.{Asks}

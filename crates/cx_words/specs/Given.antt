@@ -7,8 +7,8 @@ use Rattle.std.specs.Char.{is_ascii_digit}
 use Rattle.std.specs.Str.Parse.{digits_value}
 use Rattle.clap.specs.Words.{Row, first_of}
 use Rattle.cx_desk.specs.Outside.{Bytes}
-use Rattle.cx_words.specs.declared.plans.Kind.{Kind}
-use Rattle.cx_words.specs.declared.plans.Kind.TheVariants.{Even, Odd}
+use Rattle.inst_gen.specs.declared.kind.Kind.{Kind}
+use Rattle.inst_gen.specs.declared.kind.Kind.TheVariants.{Even, Odd}
 use Rattle.cx_words.specs.declared.plans.Plan.{Plan}
 use Rattle.cx_words.specs.declared.plans.Plan.TheVariants as plan
 use Rattle.cx_words.specs.declared.refusal.PlanRefusal.{PlanRefusal}

@@ -13,8 +13,9 @@ mod refusal;
 mod values;
 mod words;
 
+pub use inst_gen::Kind;
 pub use laws::{plain_words_are_taken, words_ask_for_one_plan};
 pub use name::Name;
-pub use plans::{Kind, Plan};
+pub use plans::Plan;
 pub use refusal::PlanRefusal;
 pub use words::plan;

@@ -1,14 +1,6 @@
 //! What a command is to do.
 use crate::Name;
-
-/// Whether the instance of `demo` has an assignment that meets it.
-#[derive(Clone, Copy, Debug, PartialEq, Eq)]
-pub enum Kind {
-    /// The planted values meet it.
-    Even,
-    /// No values meet it.
-    Odd,
-}
+use inst_gen::Kind;
 
 /// What a command is to do, with its names and numbers.
 #[derive(Drop)]
