@@ -1,6 +1,5 @@
 -- What a run says in single clauses: the causes of the faults and of a refusal of the words, completeness.
-use Rattle.std.proofs.Common.{◌≡◌, ◌⊎◌, ℕ, List, option_map, take, Option, Some, None, IfSome, IsTrue, inl, inr, refl, ap, sym, subst, ◌∙◌}
-use Rattle.std.proofs.lemmas.Bool.{false≢true}
+use Rattle.std.proofs.Common.{◌≡◌, ◌⊎◌, ℕ, List, option_map, take, Option, Some, None, IfSome, inl, inr, refl, ap, sym, subst, ◌∙◌}
 use Rattle.cx_desk.specs.declared.desk.Port.TheVariants as port
 use Rattle.cx_desk.specs.Outside.{Bytes, Written}
 use Rattle.cx_base.specs.Counts.{Rose}
@@ -14,8 +13,8 @@ use Rattle.solve_cli.specs.declared.ending.Status.{Status}
 use Rattle.solve_cli.specs.declared.ending.Status.TheVariants as status
 use Rattle.solve_cli.specs.Endings.{status_of, message_text}
 use Rattle.solve_cli.specs.Seen.{Seen, says, creates}
-use Rattle.solve_cli.specs.Commands.{is_built, second_started, asked_to}
-use Rattle.solve_cli.specs.Happens.{end_stage, Ends, Stops, AsksForMore, Works, WorksFor, PutsMessage, Runs, Comes}
+use Rattle.solve_cli.specs.Commands.{second_started, asked_to}
+use Rattle.solve_cli.specs.Happens.{end_stage, Ends, Stops, Works, WorksFor, PutsMessage, Runs, Comes}
 use Rattle.solve_cli.proofs.Outcomes.{outcome_of}
 use Rattle.solve_cli.proofs.Works.{faults_at}
 
@@ -73,8 +72,8 @@ module _ (words : List Bytes) (limit : ℕ) (old : Seen) (s : Status) (new : See
   pub kept : Kept h.done new
   kept = message_keeps (message_text h.outcome) h.done new h.tells
 
-  -- words are refused only where they ask for nothing that is carried out
-  pub usage : s ≡ status.Usage → Refuses words ⊎ AsksForMore words
+  -- 2 comes only where the words are refused
+  pub usage : s ≡ status.Usage → Refuses words
   usage e = (subst (λ (x : Outcome). WorksFor words limit old x h.done) (outcome_of status.Usage h.outcome (sym e ∙ h.status_is)) h.works).0
 
   pub read_rose : (p : Plan) → Works p limit old outcome.ReadFault h.done → Rose old.faults.reads new.faults.reads
@@ -105,25 +104,19 @@ module _ (words : List Bytes) (limit : ℕ) (old : Seen) (s : Status) (new : See
       let works = subst (λ (x : Outcome). WorksFor words limit old x h.done) (outcome_of status.WriteFault h.outcome (sym e ∙ h.status_is)) h.works in
       write_rose works.0 works.2
 
-  pub refused_or_more : (p : Plan) → Asks words p → IsTrue (is_built p) → Refuses words ⊎ AsksForMore words → ⊥
-  refused_or_more p asks built (inl r) = not_refused words p asks r
-  refused_or_more p asks built (inr m) =
-      let same = one_plan words p m.0 asks m.1 in
-      false≢true (sym m.2 ∙ (ap is_built (sym same) ∙ built))
-
-  go : (p : Plan) (o : Outcome) → Asks words p → IsTrue (is_built p) → s ≡ status_of o → WorksFor words limit old o h.done
+  go : (p : Plan) (o : Outcome) → Asks words p → s ≡ status_of o → WorksFor words limit old o h.done
       → (Rose old.faults.reads new.faults.reads → ⊥) → (Rose old.faults.writes new.faults.writes → ⊥)
       → (s ≡ status.OutOfMemory) ⊎ Comes words limit old s
-  go p outcome.Usage asks built is works no_read no_write = absurd (refused_or_more p asks built works.0)
-  go p outcome.Memory asks built is works no_read no_write = inl is
-  go p outcome.ReadFault asks built is works no_read no_write = absurd (no_read (read_rose works.0 works.2))
-  go p outcome.WriteFault asks built is works no_read no_write = absurd (no_write (write_rose works.0 works.2))
-  go p (outcome.Ended e) asks built is works no_read no_write = inr (record { plan = works.0; asked = works.1; ending = e; status_is = is; due = works.2.1.due })
+  go p outcome.Usage asks is works no_read no_write = absurd (not_refused words p asks works.0)
+  go p outcome.Memory asks is works no_read no_write = inl is
+  go p outcome.ReadFault asks is works no_read no_write = absurd (no_read (read_rose works.0 works.2))
+  go p outcome.WriteFault asks is works no_read no_write = absurd (no_write (write_rose works.0 works.2))
+  go p (outcome.Ended e) asks is works no_read no_write = inr (record { plan = works.0; asked = works.1; ending = e; own = works.2.1.own; status_is = is; due = works.2.1.due })
 
   -- with no read or write fault in the call, words that ask for something end as is due, or memory is wanted
-  pub complete : (p : Plan) → Asks words p → IsTrue (is_built p) → (Rose old.faults.reads new.faults.reads → ⊥) → (Rose old.faults.writes new.faults.writes → ⊥)
+  pub complete : (p : Plan) → Asks words p → (Rose old.faults.reads new.faults.reads → ⊥) → (Rose old.faults.writes new.faults.writes → ⊥)
       → (s ≡ status.OutOfMemory) ⊎ Comes words limit old s
-  complete p asks built no_read no_write = go p h.outcome asks built h.status_is h.works no_read no_write
+  complete p asks no_read no_write = go p h.outcome asks h.status_is h.works no_read no_write
 
   -- words that are refused get no other status, but for want of memory
   pub refused_words : Refuses words → (s ≡ status.OutOfMemory) ⊎ (s ≡ status.Usage)

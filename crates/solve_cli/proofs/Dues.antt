@@ -12,7 +12,7 @@ use Rattle.solve_cli.specs.declared.ending.Ending.{Ending}
 use Rattle.solve_cli.specs.declared.ending.Ending.TheVariants as ending
 use Rattle.solve_cli.specs.Seen.{text_named}
 use Rattle.solve_cli.specs.Commands.{formula_of, second_text}
-use Rattle.solve_cli.specs.Happens.{IfNamed, FormulaRead, IsFormula, EarlyDue, Judged, LateDue, Due}
+use Rattle.solve_cli.specs.Happens.{IfNamed, IfNamedElse, FormulaRead, IsPlanted, IsFormula, EarlyDue, Judged, LateDue, Due}
 
 -- two of which there is exactly one
 pub same_of_one : {A : Type 0} {P : A → Type 0} → ExactlyOne P → (a b : A) → P a → P b → a ≡ b
@@ -51,5 +51,5 @@ pub judged_of : (p : Plan) (n : Bytes) (limit : ℕ) (files : Files) (f : Proble
     → Reads (text_named n files) f → Judged e p f (second_text p files)
 judged_of p n limit files f e named judges due reads =
     let d = judged_due p limit files e judges due in
-    let read : FormulaRead limit (text_named n files) d.0 = subst (λ (name : Option Bytes). IfNamed name (λ m. FormulaRead limit (text_named m files) d.0)) named d.1 in
+    let read : FormulaRead limit (text_named n files) d.0 = subst (λ (name : Option Bytes). IfNamedElse name (λ m. FormulaRead limit (text_named m files) d.0) (IsPlanted p d.0)) named d.1 in
     subst (λ (g : Problem). Judged e p g (second_text p files)) (one_formula (text_named n files) d.0 f read.reads reads) d.2

@@ -8,7 +8,7 @@ use Rattle.cx_desk.specs.Outside.{Bytes, Files}
 use Rattle.cx_words.specs.Words.{Asks}
 use Rattle.cx_words.specs.declared.plans.Plan.{Plan}
 use Rattle.cx_words.specs.declared.plans.Plan.TheVariants as plan
-use Rattle.cx_words.proofs.PlanLaws.{one_plan}
+use Rattle.cx_words.proofs.PlanLaws.{one_plan, not_refused}
 use Rattle.solve_cli.specs.declared.ending.Ending.{Ending}
 use Rattle.solve_cli.specs.declared.ending.Ending.TheVariants as ending
 use Rattle.solve_cli.specs.declared.ending.Outcome.{Outcome}
@@ -17,10 +17,10 @@ use Rattle.solve_cli.specs.declared.ending.Status.{Status}
 use Rattle.solve_cli.specs.declared.ending.Status.TheVariants as status
 use Rattle.solve_cli.specs.Endings.{status_of, status_of_ending, answer_text}
 use Rattle.solve_cli.specs.Seen.{Seen, text_named}
-use Rattle.solve_cli.specs.Commands.{Stage, formula_of, proof_of, is_built, writes_proof}
+use Rattle.solve_cli.specs.Commands.{Stage, formula_of, proof_of, writes_proof}
 use Rattle.solve_cli.specs.Happens.{IfNamed, EarlyDue, is_early, Due, IsFormula, Reaches, Works, WorksFor, Runs}
 use Rattle.solve_cli.specs.Run.{IsToldByMessage}
-use Rattle.solve_cli.proofs.Direct.{read_rose, refused_or_more}
+use Rattle.solve_cli.proofs.Direct.{read_rose}
 use Rattle.solve_cli.proofs.OneEnding.{one_ending, one_early, not_both}
 use Rattle.solve_cli.proofs.Works.{early_text}
 
@@ -91,14 +91,14 @@ module _ (words : List Bytes) (limit : ℕ) (old : Seen) (s : Status) (new : See
       by None = tt
       by (Some files) = λ _. inl is
 
-  go : (p : Plan) (e : Ending) (o : Outcome) → Asks words p → IsTrue (is_built p) → (Rose old.faults.reads new.faults.reads → ⊥) → s ≡ status_of o → WorksFor words limit old o h.done → IfSome old.files (Comes p e)
-  go p e outcome.Usage asks built no_read is works = absurd (refused_or_more words limit old s new h p asks built works.0)
-  go p e outcome.Memory asks built no_read is works = all_come p e is
-  go p e outcome.ReadFault asks built no_read is works = absurd (no_read (read_rose words limit old s new h works.0 works.2))
-  go p e outcome.WriteFault asks built no_read is works =
+  go : (p : Plan) (e : Ending) (o : Outcome) → Asks words p → (Rose old.faults.reads new.faults.reads → ⊥) → s ≡ status_of o → WorksFor words limit old o h.done → IfSome old.files (Comes p e)
+  go p e outcome.Usage asks no_read is works = absurd (not_refused words p asks works.0)
+  go p e outcome.Memory asks no_read is works = all_come p e is
+  go p e outcome.ReadFault asks no_read is works = absurd (no_read (read_rose words limit old s new h works.0 works.2))
+  go p e outcome.WriteFault asks no_read is works =
       unwritten p e (subst (λ (x : Plan). Works x limit old outcome.WriteFault h.done) (one_plan words works.0 p works.1 asks) works.2)
-  go p e (outcome.Ended d) asks built no_read is works =
+  go p e (outcome.Ended d) asks no_read is works =
       told p e d is (subst (λ (x : Plan). Works x limit old (outcome.Ended d) h.done) (one_plan words works.0 p works.1 asks) works.2)
 
-  pub need_no_write : (p : Plan) (e : Ending) → Asks words p → IsTrue (is_built p) → (Rose old.faults.reads new.faults.reads → ⊥) → IfSome old.files (Comes p e)
-  need_no_write p e asks built no_read = go p e h.outcome asks built no_read h.status_is h.works
+  pub need_no_write : (p : Plan) (e : Ending) → Asks words p → (Rose old.faults.reads new.faults.reads → ⊥) → IfSome old.files (Comes p e)
+  need_no_write p e asks no_read = go p e h.outcome asks no_read h.status_is h.works

@@ -24,7 +24,7 @@ use Rattle.solve_cli.specs.declared.ending.WrongAnswer.{WrongAnswer}
 use Rattle.solve_cli.specs.declared.ending.WrongAnswer.TheVariants as wrong
 use Rattle.solve_cli.specs.Seen.{text_named}
 use Rattle.solve_cli.specs.Commands.{formula_of, second_of, second_text}
-use Rattle.solve_cli.specs.Happens.{IfNamed, FormulaRead, IsFormula, EarlyDue, refusal_of, Judged, LateDue, Due, IsEarlyOrRead}
+use Rattle.solve_cli.specs.Happens.{IfNamed, IfNamedElse, FormulaRead, IsPlanted, IsFormula, EarlyDue, refusal_of, Judged, LateDue, Due, IsEarlyOrRead}
 use Rattle.solve_cli.specs.Happens.{Early as AreEarly}
 use Rattle.solve_cli.proofs.Dues.{same_of_one, one_formula}
 
@@ -64,14 +64,18 @@ early_of None limit files d e h k = absurd h
 early_of (Some n) limit files d e h k = two_early limit (text_named n files) d e (early limit (text_named n files) d h) (early limit (text_named n files) e k)
 
 early_or_read : (name : Option Bytes) (limit : ℕ) (files : Files) (f : Problem) (e : Ending) → IfNamed name (λ n. EarlyDue limit (text_named n files) e)
-    → IfNamed name (λ n. FormulaRead limit (text_named n files) f) → ⊥
-early_or_read None limit files f e h k = absurd h
-early_or_read (Some n) limit files f e h k = not_early limit (text_named n files) f e (early limit (text_named n files) e h) k
+    → (Q : Type 0) → IfNamedElse name (λ n. FormulaRead limit (text_named n files) f) Q → ⊥
+early_or_read None limit files f e h Q k = absurd h
+early_or_read (Some n) limit files f e h Q k = not_early limit (text_named n files) f e (early limit (text_named n files) e h) k
 
-formula_of_name : (name : Option Bytes) (limit : ℕ) (files : Files) (f g : Problem) → IfNamed name (λ n. FormulaRead limit (text_named n files) f)
-    → IfNamed name (λ n. FormulaRead limit (text_named n files) g) → f ≡ g
-formula_of_name None limit files f g h k = absurd h
-formula_of_name (Some n) limit files f g h k = one_formula (text_named n files) f g h.reads k.reads
+one_planted : (p : Plan) (f g : Problem) → IsPlanted p f → IsPlanted p g → f ≡ g
+one_planted (plan.Demo kind size seed) f g h k = h ∙ sym k
+one_planted p f g h k = absurd h
+
+formula_of_name : (p : Plan) (name : Option Bytes) (limit : ℕ) (files : Files) (f g : Problem) → IfNamedElse name (λ n. FormulaRead limit (text_named n files) f) (IsPlanted p f)
+    → IfNamedElse name (λ n. FormulaRead limit (text_named n files) g) (IsPlanted p g) → f ≡ g
+formula_of_name p None limit files f g h k = one_planted p f g h k
+formula_of_name p (Some n) limit files f g h k = one_formula (text_named n files) f g h.reads k.reads
 
 -- ---- the judgements
 
@@ -161,10 +165,10 @@ two_late p second limit f text d e named (inr h) (inr k) = one_judged p second f
 
 pub one_ending : (p : Plan) (second : Bytes) (limit : ℕ) (files : Files) (d e : Ending) → second_of p ≡ Some second → Due p limit files d → Due p limit files e → d ≡ e
 one_ending p second limit files d e named (inl h) (inl k) = early_of (formula_of p) limit files d e h k
-one_ending p second limit files d e named (inl h) (inr k) = absurd (early_or_read (formula_of p) limit files k.formula d h k.is_formula)
-one_ending p second limit files d e named (inr h) (inl k) = absurd (early_or_read (formula_of p) limit files h.formula e k h.is_formula)
+one_ending p second limit files d e named (inl h) (inr k) = absurd (early_or_read (formula_of p) limit files k.formula d h _ k.is_formula)
+one_ending p second limit files d e named (inr h) (inl k) = absurd (early_or_read (formula_of p) limit files h.formula e k _ h.is_formula)
 one_ending p second limit files d e named (inr h) (inr k) =
-    let same = formula_of_name (formula_of p) limit files h.formula k.formula h.is_formula k.is_formula in
+    let same = formula_of_name p (formula_of p) limit files h.formula k.formula h.is_formula k.is_formula in
     let due = subst (λ (f : Problem). LateDue p limit f (second_text p files) d) same h.due in
     two_late p second limit k.formula (second_text p files) d e named due k.due
 
@@ -173,11 +177,11 @@ one_ending p second limit files d e named (inr h) (inr k) =
 -- where the formula is refused, no other ending is due
 pub one_early : (p : Plan) (limit : ℕ) (files : Files) (d e : Ending) → AreEarly p limit files d → Due p limit files e → d ≡ e
 one_early p limit files d e h (inl k) = early_of (formula_of p) limit files d e h k
-one_early p limit files d e h (inr k) = absurd (early_or_read (formula_of p) limit files k.formula d h k.is_formula)
+one_early p limit files d e h (inr k) = absurd (early_or_read (formula_of p) limit files k.formula d h _ k.is_formula)
 
 -- a formula is refused, or it reads
 pub not_both : (p : Plan) (limit : ℕ) (files : Files) (f : Problem) (e : Ending) → AreEarly p limit files e → IsFormula p limit files f → ⊥
-not_both p limit files f e h k = early_or_read (formula_of p) limit files f e h k
+not_both p limit files f e h k = early_or_read (formula_of p) limit files f e h _ k
 
 pub early_or_reads : (p : Plan) (name : Bytes) (limit : ℕ) (files : Files) → formula_of p ≡ Some name → IsEarlyOrRead p limit files name
 early_or_reads p name limit files named = by (cases_lt limit (length (text_named name files)))

@@ -6,6 +6,8 @@ use Rattle.cx_semantics.specs.declared.steps.Cause.{Cause}
 use Rattle.cx_desk.specs.declared.desk.Slot.{Slot}
 use Rattle.solve_cli.specs.declared.ending.Ending.{Ending}
 use Rattle.solve_cli.specs.declared.ending.Ending.TheVariants as ending
+use Rattle.solve_cli.specs.declared.ending.Instance.{Instance}
+use Rattle.solve_cli.specs.declared.ending.Shown.{Shown}
 use Rattle.solve_cli.specs.declared.ending.WrongAnswer.{WrongAnswer}
 use Rattle.solve_cli.specs.declared.ending.Outcome.{Outcome}
 use Rattle.solve_cli.specs.declared.ending.Outcome.TheVariants as outcome
@@ -19,6 +21,7 @@ pub data Done : Ending → Type 0 where
   right : Done ending.ModelRight
   elaborated : (k : ℕ) → Done (ending.Elaborated k)
   unknown : (k : ℕ) → Done (ending.Unknown k)
+  demonstrated : (i : Instance) (x : Shown) → Done (ending.Demonstrated i x)
 
 -- the endings of status 9
 pub data OverLimit : Ending → Type 0 where
@@ -59,6 +62,7 @@ of_ending (ending.NotElaborated k c) = (k, c, refl)
 of_ending (ending.Satisfiable v) = (v, refl)
 of_ending ending.Unsatisfiable = refl
 of_ending (ending.Unknown k) = (ending.Unknown k, refl, unknown k)
+of_ending (ending.Demonstrated i x) = (ending.Demonstrated i x, refl, demonstrated i x)
 
 of_outcome : (o : Outcome) → HasStatus (status_of o) o
 of_outcome (outcome.Ended e) = of_ending e

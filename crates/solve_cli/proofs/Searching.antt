@@ -51,12 +51,12 @@ finds_nothing f budget events k texts ids h never = (h.count, λ s. never s k re
 
 -- ---- the ending
 
-data Found (f : Problem) (budget : ℕ) (log : Bytes) : Ending → Type 0 where
+pub data Found (f : Problem) (budget : ℕ) (log : Bytes) : Ending → Type 0 where
   values : (v : _) → Meets f v → IsOpenLog f budget log → Found f budget log (ending.Satisfiable v)
   none : Unmet f → IsClosedLog f budget log → Found f budget log ending.Unsatisfiable
   nothing : (k : ℕ) → k ≡ budget → ¬ SettledWithRecovered f → IsSpentLog f budget log → Found f budget log (ending.Unknown k)
 
-found : (f : Problem) (budget : ℕ) (events : List LogEvent) (e : Ending) → ComesTo f budget events e → Found f budget (printed_log events) e
+pub found : (f : Problem) (budget : ℕ) (events : List LogEvent) (e : Ending) → ComesTo f budget events e → Found f budget (printed_log events) e
 found f budget events (ending.Satisfiable v) h = values v h.0 h.1
 found f budget events ending.Unsatisfiable h = none h.0 h.1
 found f budget events (ending.Unknown k) h = nothing k h.0 h.1 h.2
@@ -73,17 +73,17 @@ gains n l budget limit files f log _ read (values v meets log_open) = (f, read, 
 gains n l budget limit files f log _ read (none unmet closed) = (f, read, closed)
 gains n l budget limit files f log _ read (nothing k spent open_ marked) = (f, read, marked)
 
-is_right : (f : Problem) (budget : ℕ) (log : Bytes) (e : Ending) → Found f budget log e → LogOpen f log ⊎ IsRefutation f log
+pub is_right : (f : Problem) (budget : ℕ) (log : Bytes) (e : Ending) → Found f budget log e → LogOpen f log ⊎ IsRefutation f log
 is_right f budget log _ (values v meets log_open) = inl log_open.is_open
 is_right f budget log _ (none unmet closed) = inr closed.refutes
 is_right f budget log _ (nothing k spent open_ marked) = inl marked.marked.is_open
 
-has_no_mark : (f : Problem) (budget : ℕ) (log : Bytes) (e : Ending) → Found f budget log e → SettledWithRecovered f → HasNoMark log
+pub has_no_mark : (f : Problem) (budget : ℕ) (log : Bytes) (e : Ending) → Found f budget log e → SettledWithRecovered f → HasNoMark log
 has_no_mark f budget log _ (values v meets log_open) s = unmarked f budget log log_open.marks s
 has_no_mark f budget log _ (none unmet closed) s = unmarked f budget log closed.marks s
 has_no_mark f budget log _ (nothing k spent open_ marked) s = absurd (open_ s)
 
-has_low_ids : (f : Problem) (budget : ℕ) (log : Bytes) (e : Ending) → Found f budget log e → HasOnlyLowIds log
+pub has_low_ids : (f : Problem) (budget : ℕ) (log : Bytes) (e : Ending) → Found f budget log e → HasOnlyLowIds log
 has_low_ids f budget log _ (values v meets log_open) = (log_open.marks.events, log_open.marks.read, log_open.marks.ids)
 has_low_ids f budget log _ (none unmet closed) = (closed.marks.events, closed.marks.read, closed.marks.ids)
 has_low_ids f budget log _ (nothing k spent open_ marked) = marked.ids

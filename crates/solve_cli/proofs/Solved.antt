@@ -28,7 +28,7 @@ use Rattle.solve_cli.specs.Happens.{end_stage, Judged, Due, Gains, Works, WorksF
 use Rattle.solve_cli.specs.Solved.{solved, HasSolved, IsSatisfied, IsRefuted, IsSpent, IsSettled, IsSettledWithRecovered, IsUnsolvable}
 use Rattle.solve_cli.proofs.Direct.{ended}
 use Rattle.solve_cli.proofs.Dues.{is_judgement, judged_due, judged_of}
-use Rattle.solve_cli.proofs.Outcomes.{Done, verified, right, elaborated, unknown, outcome_of}
+use Rattle.solve_cli.proofs.Outcomes.{Done, verified, right, elaborated, unknown, demonstrated, outcome_of}
 use Rattle.solve_cli.proofs.Works.{if_some_both, says-none}
 
 -- ---- the texts
@@ -68,7 +68,7 @@ judges _ none = refl
 judges _ (spent k) = refl
 
 -- no text is no message
-quiet : (text : Bytes) (old new : Seen) → text ≡ [] → PutsMessage text old new → new ≡ old
+pub quiet : (text : Bytes) (old new : Seen) → text ≡ [] → PutsMessage text old new → new ≡ old
 quiet text old new e (inl is) = is ∙ says-none port.Message text old e
 quiet text old new e (inr h) = let front : h.0 < length text = h.1 in let len = ap length e in absurd (omega (arith, front, len))
 
@@ -178,6 +178,7 @@ module _ (words : List Bytes) (limit : ℕ) (old : Seen) (s : Status) (new : See
     done_is P _ (verified k) is f = IfSome_then old.files (search_ended (ending.Verified k) is) (λ files due. absurd (judged_due (plan.Solve n l c) limit files (ending.Verified k) refl due).2)
     done_is P _ right is f = IfSome_then old.files (search_ended ending.ModelRight is) (λ files due. absurd (judged_due (plan.Solve n l c) limit files ending.ModelRight refl due).2)
     done_is P _ (elaborated k) is f = IfSome_then old.files (search_ended (ending.Elaborated k) is) (λ files due. absurd (judged_due (plan.Solve n l c) limit files (ending.Elaborated k) refl due).2)
+    done_is P _ (demonstrated i x) is f = IfSome_then old.files (search_ended (ending.Demonstrated i x) is) (λ files due. absurd (judged_due (plan.Solve n l c) limit files (ending.Demonstrated i x) refl due).2)
 
     not_settled : s ≡ status.Done → IfSome old.files (λ files. (f : Problem) → Reads (text_named n files) f → ¬ SettledWithRecovered f)
     not_settled e =

@@ -1,5 +1,5 @@
 -- What a run says by its status, for the commands that judge a text.
-use Rattle.std.proofs.Common.{◌≡◌, ◌⊎◌, ℕ, List, Bool, option_map, Option, Some, None, IfSome, inl, inr, refl, ap, sym, subst, ◌∙◌}
+use Rattle.std.proofs.Common.{◌≡◌, ◌<◌, ◌⊎◌, ℕ, List, Bool, length, option_map, Option, Some, None, IfSome, inl, inr, refl, ap, sym, subst, ◌∙◌, arith}
 use Rattle.std.proofs.lemmas.Option.{IfSome_then}
 use Rattle.cx_base.specs.Problem.{Problem, Meets, Unmet}
 use Rattle.cx_semantics.specs.ProofRules.{Accepted}
@@ -25,10 +25,10 @@ use Rattle.solve_cli.specs.Endings.{answer_text}
 use Rattle.solve_cli.specs.Seen.{Seen, says, text_named}
 use Rattle.solve_cli.specs.Commands.{Stage, formula_of, second_text, second_started, proof_created, asked_to}
 use Rattle.solve_cli.specs.Proofs.{IsWholeProof, IsProofBefore}
-use Rattle.solve_cli.specs.Happens.{IfNamed, Early, LateDue, Due, end_stage, Works, Runs}
+use Rattle.solve_cli.specs.Happens.{IfNamed, IsFormula, Early, LateDue, Due, end_stage, Works, Runs}
 use Rattle.solve_cli.specs.Causes.{OfFormula, OnProof, IsFormulaRefused, PassesLimit, IsOverLimit, IsProofRefused, IsLogRefused, IsAnswerRefused, IsOfSolve, IsVerified, IsElaborated, IsModelRight}
 use Rattle.solve_cli.proofs.Dues.{one_formula, judged_due}
-use Rattle.solve_cli.proofs.Outcomes.{Done, verified, right, elaborated, unknown, OverLimit, far, long, outcome_of}
+use Rattle.solve_cli.proofs.Outcomes.{Done, verified, right, elaborated, unknown, demonstrated, OverLimit, far, long, outcome_of}
 use Rattle.solve_cli.proofs.Works.{if_some_both}
 use Rattle.solve_cli.proofs.Direct.{proof_in, said_answer, gained_proof, if_proof, if_written, kept, ended, ended_by}
 
@@ -46,6 +46,14 @@ refused_early p limit files o (inr d) = absurd (not_late d.due)
     not_late (inl h) = let e = h.1 in cc
     not_late (inr h) = h.1
 
+-- a second text that is too long is that of a command whose formula was read
+second_over : (p : Plan) (limit : ℕ) (files : Files) (f : Problem) → limit < length (second_text p files) → IsFormula p limit files f → IfNamed (formula_of p) (PassesLimit p limit files)
+second_over (plan.Solve n l c) limit files f over read = inr (inr (f, read, over))
+second_over (plan.Check n q) limit files f over read = inr (inr (f, read, over))
+second_over (plan.Elab n l q) limit files f over read = inr (inr (f, read, over))
+second_over (plan.Model n a) limit files f over read = inr (inr (f, read, over))
+second_over (plan.Demo a b c) limit files f over read = absurd (omega (arith, over))
+
 over_limit : (p : Plan) (limit : ℕ) (files : Files) (e : Ending) → OverLimit e → Due p limit files e → IfNamed (formula_of p) (PassesLimit p limit files)
 over_limit p limit files _ (far b) due = if_named (formula_of p) (λ n h. inl (b, h.0, h.1)) (refused_early p limit files (offence.VarLimit b) due)
 over_limit p limit files _ (long slot.Formula) (inl h) = if_named (formula_of p) (λ n over. inr (inl over)) h
@@ -58,7 +66,7 @@ over_limit p limit files _ (long slot.Formula) (inr d) = absurd (not_late d.due)
 over_limit p limit files _ (long slot.Second) (inr d) = by d.due
   where
     by : LateDue p limit d.formula (second_text p files) (ending.TooLong slot.Second) → IfNamed (formula_of p) (PassesLimit p limit files)
-    by (inl h) = if_named (formula_of p) (λ n read. inr (inr (d.formula, read, h.0))) d.is_formula
+    by (inl h) = second_over p limit files d.formula h.0 d.is_formula
     by (inr h) = absurd h.1
 
 -- ---- a run
@@ -157,6 +165,7 @@ module _ (words : List Bytes) (limit : ℕ) (old : Seen) (s : Status) (new : See
   verified_of n q _ right w = absurd w.1.own
   verified_of n q _ (elaborated k) w = absurd w.1.own
   verified_of n q _ (unknown k) w = absurd w.1.own
+  verified_of n q _ (demonstrated i x) w = absurd w.1.own
 
   pub proof_is_verified : s ≡ status.Done → IsVerified words limit old
   proof_is_verified e n q asks =
@@ -171,6 +180,7 @@ module _ (words : List Bytes) (limit : ℕ) (old : Seen) (s : Status) (new : See
   right_of n a _ (verified k) w = absurd w.1.own
   right_of n a _ (elaborated k) w = absurd w.1.own
   right_of n a _ (unknown k) w = absurd w.1.own
+  right_of n a _ (demonstrated i x) w = absurd w.1.own
 
   pub model_is_right : s ≡ status.Done → IsModelRight words limit old
   model_is_right e n a asks =
@@ -186,6 +196,7 @@ module _ (words : List Bytes) (limit : ℕ) (old : Seen) (s : Status) (new : See
   elaborated_of n l q _ right w = absurd w.1.own
   elaborated_of n l q _ (verified k) w = absurd w.1.own
   elaborated_of n l q _ (unknown k) w = absurd w.1.own
+  elaborated_of n l q _ (demonstrated i x) w = absurd w.1.own
 
   pub log_is_elaborated : s ≡ status.Done → IsElaborated words limit old new
   log_is_elaborated e n l q asks =

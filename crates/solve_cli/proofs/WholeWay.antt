@@ -1,5 +1,5 @@
 -- One command behind another: what `solve` logged is elaborated, and what `elab` wrote is verified.
-use Rattle.std.proofs.Common.{◌≡◌, ◌<◌, ◌⊎◌, ℕ, List, length, codes, option_map, Option, Some, None, IfSome, IsTrue, inl, inr, refl, ap, sym, subst, ◌∙◌}
+use Rattle.std.proofs.Common.{◌≡◌, ◌<◌, ◌⊎◌, ℕ, List, length, codes, option_map, Option, Some, None, IfSome, inl, inr, refl, ap, sym, subst, ◌∙◌}
 use Rattle.cx_base.specs.Problem.{Problem}
 use Rattle.cx_semantics.specs.FormulaText.{Reads}
 use Rattle.cx_semantics.specs.Judging.{accepted, refused}
@@ -13,7 +13,7 @@ use Rattle.cx_desk.specs.Outside.{Bytes, Files, Written}
 use Rattle.cx_words.specs.Words.{Asks}
 use Rattle.cx_words.specs.declared.plans.Plan.{Plan}
 use Rattle.cx_words.specs.declared.plans.Plan.TheVariants as plan
-use Rattle.cx_words.proofs.PlanLaws.{one_plan}
+use Rattle.cx_words.proofs.PlanLaws.{one_plan, not_refused}
 use Rattle.solve_cli.specs.declared.ending.Ending.{Ending}
 use Rattle.solve_cli.specs.declared.ending.Ending.TheVariants as ending
 use Rattle.solve_cli.specs.declared.ending.Outcome.{Outcome}
@@ -22,12 +22,11 @@ use Rattle.solve_cli.specs.declared.ending.Status.{Status}
 use Rattle.solve_cli.specs.declared.ending.Status.TheVariants as status
 use Rattle.solve_cli.specs.Endings.{status_of, status_of_ending}
 use Rattle.solve_cli.specs.Seen.{Seen, says, asks, creates, text_named}
-use Rattle.solve_cli.specs.Commands.{is_built}
 use Rattle.solve_cli.specs.Proofs.{IsWholeProof}
 use Rattle.solve_cli.specs.Solved.{solved}
 use Rattle.solve_cli.specs.Happens.{EarlyDue, Judged, LateDue, Due, WorksFor, Runs}
 use Rattle.solve_cli.specs.WholeWay.{ToldRun, IsCutShort, LogsElaborate, ProofsVerify}
-use Rattle.solve_cli.proofs.Direct.{proof_in, said_answer, gained_proof, refused_or_more, ended}
+use Rattle.solve_cli.proofs.Direct.{proof_in, said_answer, gained_proof, ended}
 use Rattle.solve_cli.proofs.Dues.{same_of_one, one_formula}
 use Rattle.solve_cli.proofs.OneEnding.{not_both_read}
 
@@ -43,15 +42,15 @@ EndsAsDue p limit files s = (e : Ending) × (s ≡ status_of_ending e) × Due p 
 of_told : (P : Files → Type 0) (w : Option Files) (files : Files) → w ≡ Some files → IfSome w P → P files
 of_told P w files e h = subst (λ (x : Option Files). IfSome x P) e h
 
-ends_or_stops : (words : List Bytes) (limit : ℕ) (files : Files) (s : Status) (written : Written) (p : Plan) → ToldRun words limit files s written → Asks words p → IsTrue (is_built p)
+ends_or_stops : (words : List Bytes) (limit : ℕ) (files : Files) (s : Status) (written : Written) (p : Plan) → ToldRun words limit files s written → Asks words p
     → IsStopped s ⊎ EndsAsDue p limit files s
-ends_or_stops words limit files s written p t asks built = by h.outcome refl h.status_is h.works
+ends_or_stops words limit files s written p t asks = by h.outcome refl h.status_is h.works
   where
     h : Runs words limit t.old s t.new
     h = t.run.happens
 
     by : (o : Outcome) → h.outcome ≡ o → s ≡ status_of o → WorksFor words limit t.old o h.done → IsStopped s ⊎ EndsAsDue p limit files s
-    by outcome.Usage same is works = absurd (refused_or_more words limit t.old s t.new h p asks built works.0)
+    by outcome.Usage same is works = absurd (not_refused words p asks works.0)
     by outcome.Memory same is works = inl (inr (inr is))
     by outcome.ReadFault same is works = inl (inl is)
     by outcome.WriteFault same is works = inl (inr (inl is))
@@ -149,7 +148,7 @@ logs_elaborate words more limit bound files others s written last f log g l q n 
     let right = subst (λ (x : Bytes). LogRight r.formula x (length r.holds.1.refutes.steps)) (sym (same_log ∙ is)) r.holds.1.refutes.right in
     subst (λ (x : Bytes). (s ≡ status.Done) ⊎ IsCutShort bound (text_named g others) x s) same_log
     (either bound (text_named g others) (text_named l others) s (plan.Elab g l q) others (λ e due. log_due g l q bound others r.formula (length r.holds.1.refutes.steps) e reads right due)
-    (ends_or_stops more bound others s last (plan.Elab g l q) u elab_asked refl))
+    (ends_or_stops more bound others s last (plan.Elab g l q) u elab_asked))
 
 of_left : (P : Bytes → Type 0) (v : Option Written) (written : Written) → v ≡ Some written → IfSome v (λ w. P w.proof) → P written.proof
 of_left P v written e h = subst (λ (x : Option Written). IfSome x (λ w. P w.proof)) e h
@@ -162,4 +161,4 @@ proofs_verify words more limit bound files others s written last f l q g p t ask
     let right = subst (λ (x : Bytes). Accepted r.0 x (length whole.steps)) (sym same_proof) whole.accepted in
     subst (λ (x : Bytes). (s ≡ status.Done) ⊎ IsCutShort bound (text_named g others) x s) same_proof
     (either bound (text_named g others) (text_named p others) s (plan.Check g p) others (λ e due. proof_due g p bound others r.0 (length whole.steps) e reads right due)
-    (ends_or_stops more bound others s last (plan.Check g p) u check_asked refl))
+    (ends_or_stops more bound others s last (plan.Check g p) u check_asked))

@@ -17,6 +17,7 @@ use Rattle.cx_desk.specs.Outside.{Bytes, Files, Written, Outside}
 use Rattle.cx_desk.specs.Calls.{gained, PutsAll, MessageFaulted}
 use Rattle.cx_words.specs.declared.plans.Plan.{Plan}
 use Rattle.cx_words.specs.declared.plans.Plan.TheVariants as plan
+use Rattle.inst_gen.specs.Planting.{planted_formula}
 use Rattle.solve_cli.specs.declared.ending.Ending.{Ending}
 use Rattle.solve_cli.specs.declared.ending.Ending.TheVariants as ending
 use Rattle.solve_cli.specs.declared.ending.Outcome.{Outcome}
@@ -112,7 +113,7 @@ proof_call p name s e = ap (λ (n : Option Bytes). gives_file n (asked_to second
 bare : (s : Seen) → s ≡ says port.Proof [] s
 bare s = sym (says-none port.Proof [] s refl)
 
-all_files : {P : Files → Type 0} (w : Option Files) → ((files : Files) → P files) → IfSome w P
+pub all_files : {P : Files → Type 0} (w : Option Files) → ((files : Files) → P files) → IfSome w P
 all_files None h = tt
 all_files (Some files) h = h files
 
@@ -122,11 +123,13 @@ early_gains (plan.Elab n l q) limit files (ending.NotElaborated k c) h = cc
 early_gains (plan.Solve n l c) limit files (ending.Satisfiable v) h = cc
 early_gains (plan.Solve n l c) limit files ending.Unsatisfiable h = cc
 early_gains (plan.Solve n l c) limit files (ending.Unknown k) h = cc
+early_gains (plan.Demo a b c) limit files (ending.Demonstrated i x) h = cc
 early_gains p limit files e h = refl
 
 too_long_gains : (p : Plan) (limit : ℕ) (files : Files) (s : Slot) → Gains p limit files (ending.TooLong s) []
 too_long_gains (plan.Elab n l q) limit files s = refl
 too_long_gains (plan.Solve n l c) limit files s = refl
+too_long_gains (plan.Demo a b c) limit files s = refl
 too_long_gains p limit files s = refl
 
 -- nothing is a front of a proof
@@ -136,6 +139,7 @@ none_so_far f = record { steps = []; right = inl (first_tables f, refl); rest = 
 nothing_yet : (stage : Stage) (p : Plan) (limit : ℕ) (old : Seen) → Reaches stage p limit old → IfSome old.files (λ files. SoFar stage p limit files [])
 nothing_yet proof_created (plan.Elab n l q) limit old h = IfSome_then old.files h (λ files r. (r.0, r.1, none_so_far r.0))
 nothing_yet proof_created (plan.Solve n l c) limit old h = IfSome_then old.files h (λ files r. (r.0, r.1, nothing_logged r.0))
+nothing_yet proof_created (plan.Demo kind size seed) limit old h = all_files old.files (λ files. nothing_logged (planted_formula kind size seed))
 nothing_yet stage p limit old h = all_files old.files (λ files. refl)
 
 pub stopped : (stage : Stage) (p : Plan) (limit : ℕ) (old at : Seen) → Reaches stage p limit old → at ≡ asked_to stage p old → Stops p limit old at
@@ -167,6 +171,7 @@ judged_own (ending.NotElaborated k c) (plan.Elab n l q) f text h = tt
 judged_own (ending.Satisfiable v) (plan.Solve n l c) f text h = tt
 judged_own ending.Unsatisfiable (plan.Solve n l c) f text h = tt
 judged_own (ending.Unknown k) (plan.Solve n l c) f text h = tt
+judged_own (ending.Demonstrated i x) (plan.Demo kind size seed) f text h = (h.0, h.1)
 judged_own e p f text h = absurd h
 
 -- ---- the formula

@@ -7,14 +7,6 @@ use Rattle.cx_words.specs.declared.plans.Plan.{Plan}
 use Rattle.cx_words.specs.declared.plans.Plan.TheVariants as plan
 use Rattle.solve_cli.specs.Seen.{Seen, asks, creates, text_named}
 
--- the commands that this version carries out
-abbrev pub is_built : Plan → Bool
-is_built (plan.Solve formula log conflicts) = true
-is_built (plan.Check formula proof) = true
-is_built (plan.Elab formula log proof) = true
-is_built (plan.Model formula answer) = true
-is_built (plan.Demo kind size seed) = false
-
 -- ---- the names
 
 -- the formula's file

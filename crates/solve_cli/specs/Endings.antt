@@ -7,8 +7,12 @@ use Rattle.cx_semantics.specs.declared.offence.Offence.TheVariants as offence
 use Rattle.cx_semantics.specs.declared.steps.Cause.{Cause}
 use Rattle.cx_semantics.specs.declared.steps.Cause.TheVariants as cause
 use Rattle.cx_semantics.specs.AnswerText as printed
+use Rattle.cx_words.specs.PlainWords.{kind_word}
 use Rattle.solve_cli.specs.declared.ending.Ending.{Ending}
 use Rattle.solve_cli.specs.declared.ending.Ending.TheVariants as ending
+use Rattle.solve_cli.specs.declared.ending.Instance.{Instance}
+use Rattle.solve_cli.specs.declared.ending.Shown.{Shown}
+use Rattle.solve_cli.specs.declared.ending.Shown.TheVariants as shown
 use Rattle.solve_cli.specs.declared.ending.WrongAnswer.{WrongAnswer}
 use Rattle.solve_cli.specs.declared.ending.WrongAnswer.TheVariants as wrong
 use Rattle.solve_cli.specs.declared.ending.Outcome.{Outcome}
@@ -50,6 +54,7 @@ status_of_ending (ending.NotElaborated k c) = status.LogRefused
 status_of_ending (ending.Satisfiable v) = status.Satisfiable
 status_of_ending ending.Unsatisfiable = status.Unsatisfiable
 status_of_ending (ending.Unknown k) = status.Done
+status_of_ending (ending.Demonstrated i x) = status.Done
 
 abbrev pub status_of : Outcome → Status
 status_of (outcome.Ended e) = status_of_ending e
@@ -107,6 +112,17 @@ wrong_text (wrong.Missing v) = joined (codes "c A3 variable " ∷ decimal v ∷ 
 wrong_text (wrong.Twice v) = joined (codes "c A4 variable " ∷ decimal v ∷ codes "\ns MODEL WRONG\n" ∷ [])
 wrong_text (wrong.Unmet n) = joined (codes "c A5 constraint " ∷ decimal n ∷ codes "\ns MODEL WRONG\n" ∷ [])
 
+-- the last lines of a demonstration
+abbrev pub shown_text : Shown → List ℕ
+shown_text shown.Meet = codes "s SATISFIABLE\nc values MEET\n"
+shown_text shown.Verified = codes "s UNSATISFIABLE\nc proof VERIFIED\n"
+shown_text shown.Unknown = codes "c conflicts 1000000000000000000\ns UNKNOWN\n"
+
+-- the lines of a demonstration
+abbrev pub demo_text : Instance → Shown → List ℕ
+demo_text i x = joined (codes "c demo " ∷ kind_word i.kind ∷ codes " " ∷ decimal i.size ∷ codes " " ∷ decimal i.seed
+    ∷ codes "\nc variables " ∷ decimal i.variables ∷ codes "\nc clauses " ∷ decimal i.clauses ∷ codes "\nc parities " ∷ decimal i.parities ∷ codes "\n" ∷ shown_text x ∷ [])
+
 -- what an ending puts on the Answer port; none where the formula or a text's length was refused
 unfoldable pub answer_text : Ending → List ℕ
 answer_text (ending.FormulaRefused o) = []
@@ -120,6 +136,7 @@ answer_text (ending.NotElaborated k c) = joined (codes "c step " ∷ decimal k �
 answer_text (ending.Satisfiable v) = printed.answer_text v
 answer_text ending.Unsatisfiable = codes "s UNSATISFIABLE\n"
 answer_text (ending.Unknown k) = joined (codes "c conflicts " ∷ decimal k ∷ codes "\ns UNKNOWN\n" ∷ [])
+answer_text (ending.Demonstrated i x) = demo_text i x
 
 abbrev pub slot_text : Slot → List ℕ
 slot_text slot.Formula = codes "formula"
@@ -146,6 +163,7 @@ message_text (outcome.Ended (ending.NotElaborated k c)) = []
 message_text (outcome.Ended (ending.Satisfiable v)) = []
 message_text (outcome.Ended ending.Unsatisfiable) = []
 message_text (outcome.Ended (ending.Unknown k)) = []
+message_text (outcome.Ended (ending.Demonstrated i x)) = []
 message_text outcome.Usage = codes "error: usage\nusage: cxsat solve FORMULA [--proof LOG] [--conflicts N]\nusage: cxsat check FORMULA PROOF\nusage: cxsat elab FORMULA LOG PROOF\nusage: cxsat model FORMULA ANSWER\nusage: cxsat demo KIND SIZE SEED\n"
 message_text outcome.ReadFault = codes "error: read fault\n"
 message_text outcome.WriteFault = codes "error: write fault\n"

@@ -1,5 +1,5 @@
 -- What a command may do: which ending is due for its files, and which outcome may come in its place.
-use Rattle.std.specs.Prelude.{◌≡◌, ◌<◌, ◌≤◌, ℕ, Bool, true, false, List, [], length, take, if◌then◌else◌, Option, Some, None, IfSome, IsSome, IsTrue, IsFalse, ⊤, ◌⊎◌}
+use Rattle.std.specs.Prelude.{◌≡◌, ◌<◌, ◌≤◌, ℕ, Bool, true, false, List, [], length, take, if◌then◌else◌, Option, Some, None, IfSome, IsSome, IsTrue, ⊤, ◌⊎◌}
 use Rattle.cx_base.specs.Problem.{Problem, Meets, Unmet}
 use Rattle.cx_semantics.specs.FormulaText.{Reads, FirstOffence}
 use Rattle.cx_semantics.specs.ProofRules.{Accepted, RefusedAt}
@@ -14,6 +14,7 @@ use Rattle.cx_desk.specs.Outside.{Bytes, Files}
 use Rattle.cx_words.specs.Words.{Asks, Refuses}
 use Rattle.cx_words.specs.declared.plans.Plan.{Plan}
 use Rattle.cx_words.specs.declared.plans.Plan.TheVariants as plan
+use Rattle.inst_gen.specs.Planting.{planted_formula}
 use Rattle.solve_cli.specs.declared.ending.Ending.{Ending}
 use Rattle.solve_cli.specs.declared.ending.Ending.TheVariants as ending
 use Rattle.solve_cli.specs.declared.ending.WrongAnswer.{WrongAnswer}
@@ -25,7 +26,8 @@ use Rattle.solve_cli.specs.Endings.{status_of, status_of_ending, answer_text, me
 use Rattle.solve_cli.specs.Seen.{Seen, asks_proof, says, ReadFault, WriteFault, MessageFault, text_named}
 use Rattle.solve_cli.specs.Proofs.{IsWholeProof, IsProofBefore, IsRightSoFar}
 use Rattle.solve_cli.specs.Logs.{IsOpenLog, IsClosedLog, IsSpentLog, IsLogSoFar}
-use Rattle.solve_cli.specs.Commands.{is_built, formula_of, second_of, proof_of, writes_proof, Stage, formula_started, second_started, proof_created, asked_to, second_text}
+use Rattle.solve_cli.specs.Demo.{instance_of, MayShow, Shows, StandsBehind}
+use Rattle.solve_cli.specs.Commands.{formula_of, second_of, proof_of, writes_proof, Stage, formula_started, second_started, proof_created, asked_to, second_text}
 
 -- ---- which ending is due
 
@@ -39,9 +41,19 @@ pub record FormulaRead (limit : ℕ) (text : Bytes) (f : Problem) : Type 0 where
   pub fits : length text ≤ limit
   pub reads : Reads text f
 
+-- the formula that a command makes itself
+abbrev pub IsPlanted : Plan → Problem → Type 0
+IsPlanted (plan.Demo kind size seed) f = f ≡ planted_formula kind size seed
+IsPlanted p f = ⊥
+
+-- there is a name, and this holds of it; or there is none, and that holds
+abbrev pub IfNamedElse : Option Bytes → (Bytes → Type 0) → Type 0 → Type 0
+IfNamedElse None P Q = Q
+IfNamedElse (Some name) P Q = P name
+
 -- the formula of a command
 abbrev pub IsFormula : Plan → ℕ → Files → Problem → Type 0
-IsFormula p limit files f = IfNamed (formula_of p) (λ name. FormulaRead limit (text_named name files) f)
+IsFormula p limit files f = IfNamedElse (formula_of p) (λ name. FormulaRead limit (text_named name files) f) (IsPlanted p f)
 
 -- the endings of a formula's text that is not read
 abbrev pub EarlyDue : ℕ → Bytes → Ending → Type 0
@@ -68,6 +80,7 @@ Judged (ending.NotElaborated k c) (plan.Elab n l q) f text = LogRefusedAt f text
 Judged (ending.Satisfiable v) (plan.Solve n l c) f text = Meets f v
 Judged ending.Unsatisfiable (plan.Solve n l c) f text = Unmet f
 Judged (ending.Unknown k) (plan.Solve n l c) f text = (k ≡ c) × ¬ SettledWithRecovered f
+Judged (ending.Demonstrated i x) (plan.Demo kind size seed) f text = (i ≡ instance_of kind size seed) × MayShow kind x × Shows f x
 Judged e p f text = ⊥
 
 -- the endings where the formula is read: its second text's length is judged before what it says
@@ -101,12 +114,14 @@ Gains (plan.Elab n l q) limit files (ending.NotElaborated k c) proof =
 Gains (plan.Solve n l c) limit files (ending.Satisfiable v) log = (f : Problem) × FormulaRead limit (text_named n files) f × IsOpenLog f c log
 Gains (plan.Solve n l c) limit files ending.Unsatisfiable log = (f : Problem) × FormulaRead limit (text_named n files) f × IsClosedLog f c log
 Gains (plan.Solve n l c) limit files (ending.Unknown k) log = (f : Problem) × FormulaRead limit (text_named n files) f × IsSpentLog f c log
+Gains (plan.Demo kind size seed) limit files (ending.Demonstrated i x) log = StandsBehind (planted_formula kind size seed) log x
 Gains p limit files e proof = proof ≡ []
 
 -- what it may have gained where a command is cut off
 abbrev pub SoFar : Stage → Plan → ℕ → Files → Bytes → Type 0
 SoFar proof_created (plan.Elab n l q) limit files proof = (f : Problem) × FormulaRead limit (text_named n files) f × IsRightSoFar f proof
 SoFar proof_created (plan.Solve n l c) limit files log = (f : Problem) × FormulaRead limit (text_named n files) f × IsLogSoFar f log
+SoFar proof_created (plan.Demo kind size seed) limit files log = IsLogSoFar (planted_formula kind size seed) log
 SoFar stage p limit files proof = proof ≡ []
 
 -- ---- which outcome may come
@@ -114,7 +129,7 @@ SoFar stage p limit files proof = proof ≡ []
 abbrev pub FormulaIn : Plan → ℕ → Seen → Type 0
 FormulaIn p limit s = IfSome s.files (λ files. (f : Problem) × IsFormula p limit files f)
 
--- names but the formula's are asked for only where the formula reads
+-- names but the formula's are asked for only where the formula reads, if it has a name
 abbrev pub Reaches : Stage → Plan → ℕ → Seen → Type 0
 Reaches formula_started p limit s = Unit {0}
 Reaches second_started p limit s = FormulaIn p limit s
@@ -144,6 +159,7 @@ IsOf (plan.Elab n l q) (ending.NotElaborated k c) = ⊤
 IsOf (plan.Solve n l c) (ending.Satisfiable v) = ⊤
 IsOf (plan.Solve n l c) ending.Unsatisfiable = ⊤
 IsOf (plan.Solve n l c) (ending.Unknown k) = ⊤
+IsOf (plan.Demo kind size seed) (ending.Demonstrated i x) = (i ≡ instance_of kind size seed) × MayShow kind x
 IsOf p e = ⊥
 
 -- an ending with all that was asked for and written before its answer
@@ -195,13 +211,9 @@ Works p limit old outcome.WriteFault new = AnswerFails p limit old new ⊎ (Crea
 Works p limit old outcome.Memory new = Stops p limit old new
 Works p limit old outcome.Usage new = ⊥
 
--- the words ask for a command that this version does not carry out
-abbrev pub AsksForMore : List Bytes → Type 0
-AsksForMore words = (p : Plan) × Asks words p × IsFalse (is_built p)
-
 -- The same from the words. Want of memory may come while the words are read.
 abbrev pub WorksFor : List Bytes → ℕ → Seen → Outcome → Seen → Type 0
-WorksFor words limit old outcome.Usage new = (Refuses words ⊎ AsksForMore words) × (new ≡ old)
+WorksFor words limit old outcome.Usage new = Refuses words × (new ≡ old)
 WorksFor words limit old outcome.Memory new = (new ≡ old) ⊎ ((p : Plan) × Asks words p × Works p limit old outcome.Memory new)
 WorksFor words limit old o new = (p : Plan) × Asks words p × Works p limit old o new
 
@@ -223,5 +235,6 @@ pub record Comes (words : List Bytes) (limit : ℕ) (old : Seen) (s : Status) : 
   pub plan : Plan
   pub asked : Asks words plan
   pub ending : Ending
+  pub own : IsOf plan ending
   pub status_is : s ≡ status_of_ending ending
   pub due : IfSome old.files (λ files. Due plan limit files ending)

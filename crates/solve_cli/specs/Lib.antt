@@ -1,4 +1,5 @@
 pub mod Endings
+pub mod Demo
 pub mod Seen
 pub mod Commands
 pub mod Proofs

@@ -14,9 +14,9 @@ use Rattle.solve_cli.specs.declared.ending.Status.{Status}
 use Rattle.solve_cli.specs.declared.ending.Status.TheVariants as status
 use Rattle.solve_cli.specs.Endings.{status_of_ending}
 use Rattle.solve_cli.specs.Seen.{Seen}
-use Rattle.solve_cli.specs.Commands.{is_built}
-use Rattle.solve_cli.specs.Happens.{Due, Early, AsksForMore, Runs, Comes}
+use Rattle.solve_cli.specs.Happens.{Due, Early, Runs, Comes}
 use Rattle.solve_cli.specs.Causes.{IsFormulaRefused, IsOverLimit, IsProofRefused, IsLogRefused, IsAnswerRefused, IsOfSolve, IsVerified, IsElaborated, IsModelRight}
+use Rattle.solve_cli.specs.Demo.{IsDemonstrated}
 use Rattle.solve_cli.specs.Solved.{IsSatisfied, IsRefuted, IsSpent, IsSettled, IsSettledWithRecovered, IsUnsolvable}
 
 -- `check` and `model` write on no port but the Answer port
@@ -48,8 +48,10 @@ pub record Run (words : List Bytes) (limit : ℕ) (old : Seen) (s : Status) (new
   pub log_is_elaborated : s ≡ status.Done → IsElaborated words limit old new
   -- 0 of `model`: the printed values meet the formula
   pub model_is_right : s ≡ status.Done → IsModelRight words limit old
+  -- 0 of `demo`: what was printed of the planted instance is so, and stands behind the log of its search
+  pub instance_is_shown : s ≡ status.Done → IsDemonstrated words old new
   -- 2: the words are refused
-  pub words_are_refused : s ≡ status.Usage → Refuses words ⊎ AsksForMore words
+  pub words_are_refused : s ≡ status.Usage → Refuses words
   -- 3: the formula's text has a first offence
   pub formula_is_refused : s ≡ status.FormulaRefused → IsFormulaRefused words limit old
   -- 4 and 5: a fault of reading, or of writing, was counted in this call
@@ -62,12 +64,12 @@ pub record Run (words : List Bytes) (limit : ℕ) (old : Seen) (s : Status) (new
   -- 9: a variable or a text is over its limit
   pub limit_is_passed : s ≡ status.Limit → IsOverLimit words limit old
   -- what is due comes, where neither reads nor writes failed and memory was there
-  pub complete : (p : Plan) → Asks words p → IsTrue (is_built p) → ¬ Rose old.faults.reads new.faults.reads → ¬ Rose old.faults.writes new.faults.writes
+  pub complete : (p : Plan) → Asks words p → ¬ Rose old.faults.reads new.faults.reads → ¬ Rose old.faults.writes new.faults.writes
       → (s ≡ status.OutOfMemory) ⊎ Comes words limit old s
   -- words that are refused get 2, whatever fails
   pub refused_words_end : Refuses words → (s ≡ status.OutOfMemory) ⊎ (s ≡ status.Usage)
   -- a message's ending comes though writes fail
-  pub messages_need_no_write : (p : Plan) (e : Ending) → Asks words p → IsTrue (is_built p) → ¬ Rose old.faults.reads new.faults.reads
+  pub messages_need_no_write : (p : Plan) (e : Ending) → Asks words p → ¬ Rose old.faults.reads new.faults.reads
       → IfSome old.files (λ files. IsToldByMessage p limit files e → (s ≡ status.OutOfMemory) ⊎ (s ≡ status_of_ending e))
   -- a formula that propagation settles is not left unknown; with parities that have no solution no values are printed either
   pub settled : IsSettled words old s

@@ -5,6 +5,7 @@ ghost use Rattle.solve_cli.specs.Endings.{status_of, status_code_of};
 use cx_base::Values;
 use cx_desk::Slot;
 use cx_semantics::{Cause, Offence};
+use cx_words::Kind;
 
 /// Why printed values are refused: the first cause in this order.
 #[derive(Clone, Copy, Debug, PartialEq, Eq, Drop)]
@@ -19,6 +20,34 @@ pub enum WrongAnswer {
     Twice(u32),
     /// A5: the values do not meet the constraint of this number, from 1.
     Unmet(u64),
+}
+
+/// A planted instance, as `demo` prints it.
+#[derive(Clone, Copy, Debug, PartialEq, Eq, Drop)]
+pub struct Instance {
+    /// Whether the planted values meet it, or none do.
+    pub kind: Kind,
+    /// The number of its planted variables.
+    pub size: u32,
+    /// The seed of its words.
+    pub seed: u64,
+    /// How many variables its formula has.
+    pub variables: u32,
+    /// How many clauses.
+    pub clauses: u64,
+    /// How many parities.
+    pub parities: u64,
+}
+
+/// What was shown of a planted instance.
+#[derive(Clone, Copy, Debug, PartialEq, Eq, Drop)]
+pub enum Shown {
+    /// The values that the search found meet it.
+    Meet,
+    /// No values meet it: the proof that the log of the search gives is accepted.
+    Verified,
+    /// Nothing: the budget of conflicts is spent.
+    Unknown,
 }
 
 /// What a command found, where nothing failed.
@@ -46,6 +75,8 @@ pub enum Ending {
     Unsatisfiable,
     /// So many conflicts were counted, as many as the search may count.
     Unknown(u64),
+    /// This was shown of the planted instance.
+    Demonstrated(Instance, Shown),
 }
 
 /// How a command ended.
@@ -66,8 +97,8 @@ pub enum Outcome {
 /// The exit status.
 #[derive(Clone, Copy, Debug, PartialEq, Eq, Drop)]
 pub enum Status {
-    /// 0: the proof is verified, the values are right, the log is elaborated, or the search has
-    /// counted as many conflicts as it may.
+    /// 0: the proof is verified, the values are right, the log is elaborated, the search has counted
+    /// as many conflicts as it may, or the demonstration is done.
     Done,
     /// 2: the words are refused.
     Usage,
@@ -133,6 +164,7 @@ impl Outcome {
             Outcome::Ended(Ending::Satisfiable(_)) => Status::Satisfiable,
             Outcome::Ended(Ending::Unsatisfiable) => Status::Unsatisfiable,
             Outcome::Ended(Ending::Unknown(_)) => Status::Done,
+            Outcome::Ended(Ending::Demonstrated(_, _)) => Status::Done,
             Outcome::Usage => Status::Usage,
             Outcome::ReadFault => Status::ReadFault,
             Outcome::WriteFault => Status::WriteFault,

@@ -1,6 +1,7 @@
 //! The program as one call over its words and its desk.
 #![tactic(auto)]
 
+mod demo;
 mod elab;
 mod ending;
 mod judge;
@@ -12,6 +13,6 @@ mod program;
 mod solve;
 
 pub use cx_words::{Kind, Name, Plan, PlanRefusal, plan};
-pub use ending::{Ending, Outcome, Status, WrongAnswer};
+pub use ending::{Ending, Instance, Outcome, Shown, Status, WrongAnswer};
 pub use laws::{one_ending_is_due, refusals_of_formulas_are_due, refutations_are_verified};
 pub use program::{run, run_within};

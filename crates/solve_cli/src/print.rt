@@ -1,12 +1,14 @@
 //! The lines of the endings.
 ghost use Rattle.cx_desk.specs.declared.desk.Port.TheVariants as port;
-ghost use Rattle.std.specs.Prelude.{[], ◌∷◌, codes, decimal};
+ghost use Rattle.std.specs.Prelude.{◌≡◌, [], ◌∷◌, codes, decimal};
 ghost use Rattle.cx_desk.specs.Calls.{PutsAll};
-ghost use Rattle.solve_cli.specs.Endings.{answer_text, message_text, cause_text, log_cause_text, wrong_text, offence_text, joined};
+ghost use Rattle.cx_words.specs.PlainWords.{kind_word};
+ghost use Rattle.solve_cli.specs.Endings.{answer_text, message_text, cause_text, log_cause_text, wrong_text, offence_text, shown_text, demo_text, joined};
 
-use crate::{Ending, Outcome, WrongAnswer};
+use crate::{Ending, Instance, Outcome, Shown, WrongAnswer};
 use cx_desk::{Desk, Failed, Port, Slot, put_all, put_pieces};
 use cx_semantics::{Cause, Offence};
+use cx_words::Kind;
 use itoa::Buffer;
 use model_out::put_answer;
 
@@ -126,6 +128,55 @@ fn put_unknown<D: Desk>(desk: &mut D, conflicts: u64) -> Result<(), Failed>
     )
 }
 
+/// The word for a kind of instance.
+fn kind_word(kind: Kind) -> &'static [u8]
+    ensures { result.now ≡ kind_word kind }
+{
+    match kind {
+        Kind::Even => b"even",
+        Kind::Odd => b"odd",
+    }
+}
+
+/// The last lines of a demonstration.
+fn shown_text(shown: Shown) -> &'static [u8]
+    ensures { result.now ≡ shown_text shown }
+{
+    match shown {
+        Shown::Meet => b"s SATISFIABLE\nc values MEET\n",
+        Shown::Verified => b"s UNSATISFIABLE\nc proof VERIFIED\n",
+        Shown::Unknown => b"c conflicts 1000000000000000000\ns UNKNOWN\n",
+    }
+}
+
+/// The lines of a demonstration.
+fn put_demo<D: Desk>(desk: &mut D, instance: Instance, shown: Shown) -> Result<(), Failed>
+    ensures { PutsAll port.Answer (demo_text instance shown) (D.outside desk.old) result (D.outside desk.new) }
+{
+    let (mut size, mut seed) = (Buffer::new(), Buffer::new());
+    let (mut variables, mut clauses, mut parities) = (Buffer::new(), Buffer::new(), Buffer::new());
+    put_pieces(
+        desk,
+        Port::Answer,
+        &[
+            b"c demo ",
+            kind_word(instance.kind),
+            b" ",
+            size.format(instance.size).as_bytes(),
+            b" ",
+            seed.format(instance.seed).as_bytes(),
+            b"\nc variables ",
+            variables.format(instance.variables).as_bytes(),
+            b"\nc clauses ",
+            clauses.format(instance.clauses).as_bytes(),
+            b"\nc parities ",
+            parities.format(instance.parities).as_bytes(),
+            b"\n",
+            shown_text(shown),
+        ],
+    )
+}
+
 /// Writes what an ending puts on the Answer port. It takes no memory.
 #[tactic(auto, unfolding(crate::specs::Endings::answer_text))]
 pub fn put_answer_text<D: Desk>(desk: &mut D, ending: &Ending) -> Result<(), Failed>
@@ -145,6 +196,7 @@ pub fn put_answer_text<D: Desk>(desk: &mut D, ending: &Ending) -> Result<(), Fai
         Ending::Satisfiable(values) => put_answer(desk, values.as_slice()),
         Ending::Unsatisfiable => put_all(desk, Port::Answer, b"s UNSATISFIABLE\n"),
         Ending::Unknown(conflicts) => put_unknown(desk, *conflicts),
+        Ending::Demonstrated(instance, shown) => put_demo(desk, *instance, *shown),
         Ending::FormulaRefused(_) => put_all(desk, Port::Answer, b""),
         Ending::TooLong(_) => put_all(desk, Port::Answer, b""),
     }
@@ -198,6 +250,7 @@ pub fn put_message_text<D: Desk>(desk: &mut D, outcome: &Outcome) -> Result<(), 
         Outcome::Ended(Ending::Satisfiable(_)) => put_all(desk, Port::Message, b""),
         Outcome::Ended(Ending::Unsatisfiable) => put_all(desk, Port::Message, b""),
         Outcome::Ended(Ending::Unknown(_)) => put_all(desk, Port::Message, b""),
+        Outcome::Ended(Ending::Demonstrated(_, _)) => put_all(desk, Port::Message, b""),
         Outcome::Usage => put_all(desk, Port::Message, USAGE),
         Outcome::ReadFault => put_all(desk, Port::Message, b"error: read fault\n"),
         Outcome::WriteFault => put_all(desk, Port::Message, b"error: write fault\n"),

@@ -1,5 +1,5 @@
 //! The top call.
-ghost use Rattle.std.specs.Prelude.{◌≤◌, ◌^◌};
+ghost use Rattle.std.specs.Prelude.{◌≤◌, ◌^◌, ℕ};
 ghost use Rattle.cx_words.specs.Words.{texts};
 ghost use Rattle.cx_words.specs.declared.plans.Plan.TheVariants as plan;
 ghost use Rattle.solve_cli.specs.Seen.{seen};
@@ -8,6 +8,7 @@ ghost use Rattle.solve_cli.specs.Steps.{PutsAnswer};
 ghost use Rattle.solve_cli.specs.Happens.{Works, WorksFor};
 ghost use Rattle.solve_cli.specs.Run.{Run};
 
+use crate::demo::{BUDGET, instance_of, show};
 use crate::elab::elaborate_text;
 use crate::judge::{judge_answer, judge_proof};
 use crate::load::load;
@@ -15,7 +16,8 @@ use crate::print::{put_answer_text, put_message_text};
 use crate::solve::{begin_search, search};
 use crate::{Ending, Outcome, Status};
 use cx_desk::{Desk, Failed, Port};
-use cx_words::{Name, Plan, PlanRefusal, plan};
+use cx_words::{Kind, Name, Plan, PlanRefusal, plan};
+use inst_gen::planted;
 use log_text::{ListLog, put_log};
 use std::alloc::{AllocError, Global};
 
@@ -113,6 +115,34 @@ fn solve<D: Desk>(
     }
 }
 
+/// `demo`: solves a planted instance, and shows that the answer is so. The log is written whole before
+/// its steps are elaborated, and the lines are written after all work.
+fn demo<D: Desk>(alloc: Global, desk: &mut D, kind: Kind, size: u32, seed: u64) -> Outcome
+    requires low { 4 ≤ size }
+    requires high { size ≤ 2000 }
+    ensures { (limit : ℕ) → Works (plan.Demo kind size seed) limit (seen (D.outside desk.old)) result (seen (D.outside desk.new)) }
+{
+    let formula = match planted(alloc, kind, size, seed) {
+        Ok(formula) => formula,
+        Err(AllocError) => return Outcome::Memory,
+    };
+    let mut log = ListLog::make(alloc);
+    let found = match search(alloc, &formula, BUDGET, &mut log) {
+        Ok(found) => found,
+        Err(AllocError) => return Outcome::Memory,
+    };
+    let instance = instance_of(&formula, kind, size, seed);
+    match put_log(desk, Port::Proof, &log) {
+        Ok(()) => {}
+        Err(Failed) => return Outcome::WriteFault,
+    }
+    let shown = match show(alloc, &formula, found, log) {
+        Ok(shown) => shown,
+        Err(AllocError) => return Outcome::Memory,
+    };
+    answer(desk, Ending::Demonstrated(instance, shown))
+}
+
 /// Reads the words, and carries out what they ask for.
 fn work<D: Desk>(alloc: Global, desk: &mut D, words: &[String], limit: u64) -> Outcome
     requires fresh { Unasked (D.outside desk.old).asked }
@@ -136,7 +166,7 @@ fn work<D: Desk>(alloc: Global, desk: &mut D, words: &[String], limit: u64) -> O
                 conflicts,
             },
         ) => solve(alloc, desk, formula, log, conflicts, limit),
-        Ok(Plan::Demo { .. }) => Outcome::Usage,
+        Ok(Plan::Demo { kind, size, seed }) => demo(alloc, desk, kind, size, seed),
         Err(PlanRefusal::Usage) => Outcome::Usage,
         Err(PlanRefusal::Memory) => Outcome::Memory,
     }

@@ -1,6 +1,7 @@
 use Rattle.solve_cli.proofs.Works.{tells_of}
 use Rattle.solve_cli.proofs.Direct.{complete, refused_words, usage, read_fault, write_fault}
 use Rattle.solve_cli.proofs.Messages.{need_no_write}
+use Rattle.solve_cli.proofs.Demonstrated.{instance_is_shown}
 use Rattle.solve_cli.proofs.Solved.{satisfied, unsatisfied, spent_budget, settled, settled_with_recovered, unsolvable}
 use Rattle.solve_cli.proofs.Statuses.{only_solve_decides, proof_is_verified, log_is_elaborated, model_is_right, formula_is_refused, proof_is_refused, log_is_refused, answer_is_refused, limit_is_passed}
 use Rattle.solve_cli.specs.Seen.{seen}
@@ -33,6 +34,7 @@ returns g c =
       proof_is_verified = proof_is_verified words limit old s new runs;
       log_is_elaborated = log_is_elaborated words limit old s new runs;
       model_is_right = model_is_right words limit old s new runs;
+      instance_is_shown = instance_is_shown words limit old s new runs;
       words_are_refused = usage words limit old s new runs;
       formula_is_refused = formula_is_refused words limit old s new runs;
       read_failed = read_fault words limit old s new runs;
