@@ -1,9 +1,11 @@
-# Writes a formula: awk -v kind=KIND -v size=N -v seed=S -f make_instance.awk
+# Writes a formula: awk -v kind=KIND -v size=N -v seed=S [-v form=x] -f make_instance.awk
+# form=x writes the parities of ladders and systems as x-lines; else they are written as clauses.
 # random:  N variables, 4.26 N clauses of three different variables.
 # holes:   N + 1 pigeons and N holes.
 # parity:  N parities of three variables over N variables, and their sum turned round: inconsistent.
 # ladder:  a circular ladder of N rungs, a variable for each edge, and at each vertex the clauses of a parity of its three edges;
 #          one vertex alone is odd, so no values meet them (a formula of Urquhart's kind).
+# system:  6 N / 5 parities of three variables over N variables, with any right sides: almost always inconsistent.
 # planted: N variables, N parities of three variables and 2 N clauses of three, met by hidden values.
 # mixed:   N variables, N / 3 parities of three variables and 3 N clauses of three: some have values that meet them, some have none.
 function word() { state = (state * 16807) % 2147483647; return state }
@@ -37,18 +39,24 @@ function parity(  k, x) {
     for (x = 1; x <= size; x++) if (odd[x]) line = line (line == "" && right % 2 == 1 ? -x : x) " "
     print "x " line "0"
 }
-# the clauses that exclude the values of a, b and c whose sum modulo two is not this one
+# the parity of a, b and c with this sum modulo two: as an x-line, or as the clauses that exclude the other values
 function vertex(a, b, c, sum,  i, j, k) {
+    if (form == "x") { print "x" (sum ? a : -a), b, c, 0; return }
     for (i = 0; i < 2; i++) for (j = 0; j < 2; j++) for (k = 0; k < 2; k++)
         if ((i + j + k) % 2 != sum) print (i ? -a : a), (j ? -b : b), (k ? -c : c), 0
 }
 function ladder(  i, before) {
-    printf "p cnf %d %d\n", 3 * size, 8 * size
+    printf "p cnf %d %d\n", 3 * size, (form == "x" ? 2 : 8) * size
     for (i = 1; i <= size; i++) {
         before = i > 1 ? i - 1 : size
         vertex(i, size + i, size + before, i == 1)
         vertex(i, 2 * size + i, 2 * size + before, 0)
     }
+}
+function system_of(  k, count) {
+    count = int(6 * size / 5)
+    printf "p cnf %d %d\n", size, (form == "x" ? 1 : 4) * count
+    for (k = 0; k < count; k++) { three(); vertex(v[1], v[2], v[3], word() % 2) }
 }
 function planted(  k, x, sum, met) {
     printf "p cnf %d %d\n", size, 3 * size
@@ -78,6 +86,7 @@ BEGIN {
     if (kind == "holes") holes()
     if (kind == "parity") parity()
     if (kind == "ladder") ladder()
+    if (kind == "system") system_of()
     if (kind == "planted") planted()
     if (kind == "mixed") mixed()
 }

@@ -33,14 +33,20 @@ beside() {
 
 measure() {
     local family=$1 kind=$2 size=$3 formula=$work/formula what own own_memory own_conflicts status taken memory peer
-    awk -v kind="$kind" -v size="$size" -v seed="$size" -f "$here/make_instance.awk" > "$formula"
+    case $kind in
+        even | odd) "$here/planted.py" "$kind" "$size" "$size" > "$formula" ;;
+        *) awk -v kind="$kind" -v size="$size" -v seed="$size" -f "$here/make_instance.awk" > "$formula" ;;
+    esac
     read -r own own_memory status <<< "$(run "$program" solve "$formula" --proof "$work/log" --conflicts 1000000000)"
     own_conflicts=$(grep -c '^c conflict' "$work/log" || true)
     what="$family $size (status $status)"
-    if [ "$kind" != parity ] && [ "$kind" != planted ]; then
-        read -r taken memory peer <<< "$(run minisat "$formula")"
-        beside minisat "$taken" "$memory" "$peer" "$(awk '/^conflicts/ { print $3 }' "$work/answer")"
-    fi
+    case $kind in
+        parity | even | odd | mixed) ;;
+        *)
+            read -r taken memory peer <<< "$(run minisat "$formula")"
+            beside minisat "$taken" "$memory" "$peer" "$(awk '/^conflicts/ { print $3 }' "$work/answer")"
+            ;;
+    esac
     read -r taken memory peer <<< "$(run cryptominisat5 --verb 1 "$formula")"
     beside cryptominisat5 "$taken" "$memory" "$peer" "$(awk '/^c conflicts/ { print $4; exit }' "$work/answer")"
     if [ "$status" = 20 ]; then
@@ -53,8 +59,25 @@ measure() {
     fi
 }
 
-for size in 100 150 200; do measure 'random 3-clauses, variables:' random "$size"; done
+# Parities that stand as clauses beside the same ones as x-lines.
+hidden() {
+    local family=$1 kind=$2 size=$3 own own_memory status shown shown_memory shown_status own_conflicts
+    awk -v kind="$kind" -v size="$size" -v seed="$size" -f "$here/make_instance.awk" > "$work/formula"
+    read -r own own_memory status <<< "$(run "$program" solve "$work/formula" --proof "$work/log" --conflicts 1000000000)"
+    own_conflicts=$(grep -c '^c conflict' "$work/log" || true)
+    awk -v kind="$kind" -v size="$size" -v seed="$size" -v form=x -f "$here/make_instance.awk" > "$work/formula"
+    read -r shown shown_memory shown_status <<< "$(run "$program" solve "$work/formula" --proof "$work/log" --conflicts 1000000000)"
+    [ "$status" = "$shown_status" ] || { echo "solve.sh: $family $size: status $status as clauses, $shown_status as x-lines" >&2; exit 1; }
+    row 'parities found in clauses' "$family $size (status $status)" "$(took "$own" "$own_memory" "$status" "$own_conflicts")" \
+        "as x-lines: $(took "$shown" "$shown_memory" "$shown_status" "$(grep -c '^c conflict' "$work/log" || true)")" "$(ratio "$own" "$shown")"
+}
+
+for size in 150 200 250; do measure 'random 3-clauses, variables:' random "$size"; done
 for size in 7 8 9; do measure 'pigeonholes, holes:' holes "$size"; done
-for size in 8 10 12; do measure 'ladder (Urquhart), rungs:' ladder "$size"; done
+for size in 8 50 100 200 400; do measure 'ladder (Urquhart), rungs:' ladder "$size"; done
+for size in 100 200; do measure 'parities as clauses, variables:' system "$size"; done
 for size in 200 400 800; do measure 'inconsistent parities:' parity "$size"; done
-for size in 200 400 800; do measure 'planted, variables:' planted "$size"; done
+for size in 500 1000 2000; do measure 'planted (`demo even`), size:' even "$size"; measure 'planted (`demo odd`), size:' odd "$size"; done
+for size in 200 250; do measure 'parities and clauses, variables:' mixed "$size"; done
+for size in 1000 10000; do hidden 'ladder (Urquhart), rungs:' ladder "$size"; done
+for size in 400 1600; do hidden 'system, variables:' system "$size"; done
