@@ -1,7 +1,12 @@
 //! Demonstrations: their lines, their logs, and desks that are too small for these.
-ghost use Rattle.std.specs.Prelude.{◌≤◌};
+ghost use Rattle.std.specs.Prelude.{◌≤◌, ◌^◌};
 
 use crate::desk::{AMPLE, Bounds, Ended, run};
+use cdcl_core::{Outcome, solve_core};
+use cx_base::Formula;
+use gauss_incremental::Incremental;
+use inst_gen::{Kind, planted};
+use log_text::NoLog;
 use std::alloc::{AllocError, Global};
 use std::test::Fail;
 
@@ -17,12 +22,7 @@ const KINDS: [(&str, &str); 2] = [
     ),
 ];
 
-fn demonstrated(
-    alloc: Global,
-    kind: &str,
-    size: &str,
-    bounds: Bounds,
-) -> Result<Ended, AllocError>
+fn demonstrated(alloc: Global, kind: &str, size: &str, bounds: Bounds) -> Result<Ended, AllocError>
     requires { 1 ≤ bounds.piece }
 {
     let line = ["cxsat", "demo", kind, size, "0"];
@@ -78,5 +78,26 @@ fn kinds_and_sizes_are_within_their_bounds(rt: HostRuntime) -> Result<(), Fail> 
         assert!(rt; refused.answer().is_empty(), "{kind} {size}: answer");
         assert!(rt; refused.proof().is_empty(), "{kind} {size}: log");
     }
+    Ok(())
+}
+
+/// Whether the search finds values that meet the formula within so many conflicts.
+fn finds_values(alloc: Global, formula: &Formula, conflicts: u64) -> bool
+    requires { (1 ≤ conflicts) × (conflicts ≤ 10 ^ 18) }
+{
+    if formula.len() > u32::MAX as usize {
+        return false;
+    }
+    let mut log = NoLog;
+    match solve_core::<Incremental, NoLog>(alloc, formula, conflicts, &mut log) {
+        Ok(Outcome::Sat(values)) => formula.meets(values.as_slice()),
+        _ => false,
+    }
+}
+
+#[test]
+fn planted_values_are_found_within_twenty_thousand_conflicts(rt: HostRuntime) -> Result<(), Fail> {
+    let formula = planted(rt.alloc(), Kind::Even, 200, 7)?;
+    assert!(rt; finds_values(rt.alloc(), &formula, 20_000));
     Ok(())
 }
