@@ -26,7 +26,7 @@ fi
 program=$work/crates/propagate_times
 mkdir -p "$program/src" "$program"/proofs/tables/{are_within,attach_all}
 mkdir -p "$program"/proofs/rounds/{start_again,decide_all,run_round,run_rounds}
-for crate in cx_base cx_semantics cnfx_reader cx_trail clause_arena watch_lists; do
+for crate in cx_base cx_texts cnfx_reader cx_trail clause_arena watch_lists; do
     mkdir "$work/crates/$crate"
     cp -r "$here/../crates/$crate"/{src,specs,proofs} "$work/crates/$crate/"
     grep "^$crate:" "$here/../crates.txt" >> "$work/crates.txt"

@@ -3,8 +3,8 @@ use Rattle.std.proofs.Common.{◌≡◌, refl, sym, ap, ◌∙◌, subst, ℕ, �
 use Rattle.std.specs.List.{range_with_len}
 use Rattle.cx_base.specs.Literals.{Literal}
 use Rattle.cx_base.specs.Problem.{Problem}
-use Rattle.cx_semantics.specs.declared.steps.LogEvent.{LogEvent}
-use Rattle.cx_semantics.specs.Integers.{integers_of}
+use Rattle.cx_base.specs.declared.steps.LogEvent.{LogEvent}
+use Rattle.cx_base.specs.Integers.{integers_of}
 use Rattle.cx_semantics.specs.Marked.{Marked}
 use Rattle.conflict_learn.specs.declared.fault.CoreFault.{CoreFault}
 use Rattle.parity_engine.specs.State.{State}
@@ -17,7 +17,7 @@ use Rattle.std.specs.Prelude.{IfErr}
 use Rattle.cx_semantics.specs.LogRules.{log_calculus}
 use Rattle.conflict_learn.specs.declared.fault.CoreFault.TheVariants.{Memory, Write}
 use Rattle.conflict_learn.specs.Faults.{fault_in}
-use Rattle.log_text.specs.declared.sink.LogSink as sink
+use Rattle.step_text.specs.declared.sink.Sink as sink
 use Rattle.cdcl_search.specs.declared.logs.SearchLog.{SearchLog}
 use Rattle.cdcl_search.specs.Logs.{GoesOn}
 use Rattle.cdcl_search.specs.Tells.{IsLeft, GivesUp, HaveLowIds}
@@ -71,7 +71,7 @@ pub fresh_is_low : (told : Option (List LogEvent)) → IsFresh told → HaveLowI
 fresh_is_low None fresh = tt
 fresh_is_low (Some es) fresh = subst (λ xs. HaveLowIds (Some xs)) (sym fresh) tt
 
-pub gives_up_by : {L T : Type 0} (m : sink.Ghosts L) (old new : SearchLog L) (r : Result T CoreFault) → GoesOn m old (fault_in r) new → IsLeft old.formula.now (m.events old.sink.now) → IfErr r (λ e. GivesUp new.formula.now (m.torn new.sink.now) (m.events new.sink.now) e)
+pub gives_up_by : {L T : Type 0} (m : sink.Ghosts L LogEvent) (old new : SearchLog L) (r : Result T CoreFault) → GoesOn m old (fault_in r) new → IsLeft old.formula.now (m.items old.sink.now) → IfErr r (λ e. GivesUp new.formula.now (m.torn new.sink.now) (m.items new.sink.now) e)
 gives_up_by m old new (Ok x) on left = tt
 gives_up_by m old new (Err Memory) on left = on.right left
 gives_up_by m old new (Err Write) on left = (on.right left, on.tears refl)

@@ -6,12 +6,12 @@ use Rattle.std.proofs.lemmas.Option.{same_Some}
 use Rattle.cx_base.specs.Literals.{Literal}
 use Rattle.cx_base.specs.Problem.{Problem, Unmet}
 use Rattle.cx_semantics.specs.Chain.{has_literal}
-use Rattle.cx_semantics.specs.Integers.{integers_of, literals}
+use Rattle.cx_base.specs.Integers.{integers_of, literals}
 use Rattle.cx_semantics.specs.ProofRules.{is_empty}
-use Rattle.cx_semantics.specs.declared.steps.LogStep.{LogStep}
-use Rattle.cx_semantics.specs.declared.steps.LogStep.TheVariants.{Parity, ClauseOfParity}
-use Rattle.cx_semantics.specs.declared.steps.LogEvent.{LogEvent}
-use Rattle.cx_semantics.specs.declared.steps.LogEvent.TheVariants.{Step}
+use Rattle.cx_base.specs.declared.steps.LogStep.{LogStep}
+use Rattle.cx_base.specs.declared.steps.LogStep.TheVariants.{Parity, ClauseOfParity}
+use Rattle.cx_base.specs.declared.steps.LogEvent.{LogEvent}
+use Rattle.cx_base.specs.declared.steps.LogEvent.TheVariants.{Step}
 use Rattle.cx_semantics.specs.Marked.{Marked}
 use Rattle.clause_arena.specs.Clauses.{IsLive, literals_at}
 use Rattle.parity_engine.specs.State.{State, named_at, OfNamed}

@@ -7,7 +7,7 @@ use Rattle.std.specs.FinSet as set
 use Rattle.cx_base.specs.Literals.{Literal, literal_true}
 use Rattle.cx_base.specs.Problem.{Problem}
 use Rattle.cx_semantics.specs.Chain.{has_literal}
-use Rattle.cx_semantics.specs.Integers.{integers_of}
+use Rattle.cx_base.specs.Integers.{integers_of}
 use Rattle.cx_semantics.specs.Tables.{get}
 use Rattle.cx_semantics.proofs.Members.{has_behind}
 use Rattle.cx_trail.specs.declared.entry.Entry.{Entry as TrailEntry}

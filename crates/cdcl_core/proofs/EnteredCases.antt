@@ -4,7 +4,7 @@ use Rattle.std.proofs.lemmas.Bool.{eqb-false, ltb-true, ltb-false, and_from}
 use Rattle.cx_base.specs.Literals.{Literal}
 use Rattle.cx_base.specs.Problem.{Problem, clauses_of}
 use Rattle.cx_semantics.specs.Chain.{has_literal, same_literals}
-use Rattle.cx_semantics.specs.Integers.{integers_of}
+use Rattle.cx_base.specs.Integers.{integers_of}
 use Rattle.cx_semantics.specs.Tables.{get}
 use Rattle.cx_trail.specs.declared.entry.Reason.{Reason}
 use Rattle.cx_trail.specs.declared.entry.Reason.TheVariants as why

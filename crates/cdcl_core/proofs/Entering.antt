@@ -3,8 +3,8 @@ use Rattle.std.proofs.Common.{◌≡◌, ◌≢◌, refl, sym, ap, ◌∙◌, su
 use Rattle.std.proofs.lemmas.Bool.{eqb-false}
 use Rattle.cx_base.specs.Literals.{Literal}
 use Rattle.cx_base.specs.Problem.{Problem, AreWithin}
-use Rattle.cx_semantics.specs.declared.steps.LogStep.TheVariants.{ClauseWithHints}
-use Rattle.cx_semantics.specs.Integers.{literals, integers_of}
+use Rattle.cx_base.specs.declared.steps.LogStep.TheVariants.{ClauseWithHints}
+use Rattle.cx_base.specs.Integers.{literals, integers_of}
 use Rattle.cx_semantics.specs.LogRules.{derives_empty_clause}
 use Rattle.cx_semantics.specs.Tables.{get}
 use Rattle.cx_semantics.proofs.Lookups.{Looks-insert}

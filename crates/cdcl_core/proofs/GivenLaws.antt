@@ -9,10 +9,10 @@ use Rattle.cx_base.specs.Literals.{Literal}
 use Rattle.cx_base.specs.Parity.{NormalForm, normal_form}
 use Rattle.cx_base.specs.Problem.{Problem, clauses_of, parities_of, AreWithin, IsWithinVariables}
 use Rattle.cx_base.proofs.Elements.{all_append, in_head, in_tail}
-use Rattle.cx_semantics.specs.declared.steps.LogStep.TheVariants.{ParityOfClauses}
-use Rattle.cx_semantics.specs.declared.steps.LogEvent.{LogEvent}
-use Rattle.cx_semantics.specs.declared.steps.LogEvent.TheVariants.{Step}
-use Rattle.cx_semantics.specs.Integers.{integers_of, literals}
+use Rattle.cx_base.specs.declared.steps.LogStep.TheVariants.{ParityOfClauses}
+use Rattle.cx_base.specs.declared.steps.LogEvent.{LogEvent}
+use Rattle.cx_base.specs.declared.steps.LogEvent.TheVariants.{Step}
+use Rattle.cx_base.specs.Integers.{integers_of, literals}
 use Rattle.cx_semantics.specs.Judging.{AllHold, IsRight}
 use Rattle.cx_semantics.specs.LogRules.{log_calculus, naming}
 use Rattle.cx_semantics.specs.ProofRules.{parity_of_clauses}

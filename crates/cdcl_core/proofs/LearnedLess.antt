@@ -6,9 +6,9 @@ use Rattle.std.proofs.lemmas.Bool.{and_parts}
 use Rattle.std.specs.FinMap as map_
 use Rattle.cx_base.specs.Literals.{Literal}
 use Rattle.cx_base.specs.Problem.{Problem, clauses_of}
-use Rattle.cx_semantics.specs.declared.steps.LogStep.TheVariants.{Delete}
-use Rattle.cx_semantics.specs.declared.steps.LogEvent.{LogEvent}
-use Rattle.cx_semantics.specs.declared.steps.LogEvent.TheVariants.{Step}
+use Rattle.cx_base.specs.declared.steps.LogStep.TheVariants.{Delete}
+use Rattle.cx_base.specs.declared.steps.LogEvent.{LogEvent}
+use Rattle.cx_base.specs.declared.steps.LogEvent.TheVariants.{Step}
 use Rattle.cx_semantics.specs.Chain.{has_literal, is_inside}
 use Rattle.cx_semantics.specs.Marked.{without}
 use Rattle.cx_semantics.specs.Tables.{get}
@@ -29,7 +29,7 @@ use Rattle.search_steps.proofs.Stored.{has_of, of_has}
 use Rattle.cdcl_search.specs.declared.state.SearchState.{SearchState}
 use Rattle.conflict_learn.specs.declared.fault.CoreFault.{CoreFault}
 use Rattle.cdcl_search.specs.declared.logs.SearchLog.{SearchLog}
-use Rattle.log_text.specs.declared.sink.LogSink as sink
+use Rattle.step_text.specs.declared.sink.Sink as sink
 use Rattle.cdcl_search.specs.Logs.{GoesOn}
 use Rattle.cdcl_search.specs.Tells.{IsLeft, with_events}
 use Rattle.cdcl_search.specs.Ties.{IsNamedBy, first_row_id}
@@ -272,9 +272,9 @@ reduction_ends formula c e told_ w (s, ok, are, p, f, fresh) cut = (
 pub loses_is_left : (formula : Problem) (c : SearchState) (e : State) (told_ : Option (List LogEvent)) → SearchLoses formula c e told_ → IsLeft formula told_
 loses_is_left formula c e told_ (s, ok, are, p, f, fresh) = is_left formula e.parities s told_ ok p.log.served.served are
 
-pub loses_told : {L : Type 0} (m : sink.Ghosts L) (old new : SearchLog L) (why : Option CoreFault) → GoesOn m old why new
-    → (c d : SearchState) (e : State) (event is : LogEvent) → event ≡ is → m.events new.sink.now ≡ with_events (event ∷ []) (m.events old.sink.now) → d ≡ c → SearchLoses old.formula.now c e (with_events (is ∷ []) (m.events old.sink.now))
-    → SearchLoses new.formula.now d e (m.events new.sink.now)
+pub loses_told : {L : Type 0} (m : sink.Ghosts L LogEvent) (old new : SearchLog L) (why : Option CoreFault) → GoesOn m old why new
+    → (c d : SearchState) (e : State) (event is : LogEvent) → event ≡ is → m.items new.sink.now ≡ with_events (event ∷ []) (m.items old.sink.now) → d ≡ c → SearchLoses old.formula.now c e (with_events (is ∷ []) (m.items old.sink.now))
+    → SearchLoses new.formula.now d e (m.items new.sink.now)
 loses_told m old new why on c d e event is same told_ one st =
-    subst (λ p. SearchLoses p d e (m.events new.sink.now)) (sym on.formula) (subst (λ x. SearchLoses old.formula.now x e (m.events new.sink.now)) (sym one)
-    (subst (SearchLoses old.formula.now c e) (sym (told_ ∙ ap (λ x. with_events (x ∷ []) (m.events old.sink.now)) same)) st))
+    subst (λ p. SearchLoses p d e (m.items new.sink.now)) (sym on.formula) (subst (λ x. SearchLoses old.formula.now x e (m.items new.sink.now)) (sym one)
+    (subst (SearchLoses old.formula.now c e) (sym (told_ ∙ ap (λ x. with_events (x ∷ []) (m.items old.sink.now)) same)) st))

@@ -11,11 +11,11 @@ use Rattle.cx_base.specs.Literals.{Literal}
 use Rattle.cx_base.specs.Problem.{Problem, clauses_of, parities_of, clause_in, parity_in, AreWithin, literals_of}
 use Rattle.cx_base.specs.declared.constraint.Constraint.{Constraint}
 use Rattle.cx_base.specs.declared.constraint.Constraint.TheVariants as constraint
-use Rattle.cx_semantics.specs.declared.steps.LogStep.{LogStep}
-use Rattle.cx_semantics.specs.declared.steps.LogStep.TheVariants.{Original, OriginalParity}
-use Rattle.cx_semantics.specs.declared.steps.LogEvent.{LogEvent}
-use Rattle.cx_semantics.specs.declared.steps.LogEvent.TheVariants.{Step}
-use Rattle.cx_semantics.specs.Integers.{integers_of, literals}
+use Rattle.cx_base.specs.declared.steps.LogStep.{LogStep}
+use Rattle.cx_base.specs.declared.steps.LogStep.TheVariants.{Original, OriginalParity}
+use Rattle.cx_base.specs.declared.steps.LogEvent.{LogEvent}
+use Rattle.cx_base.specs.declared.steps.LogEvent.TheVariants.{Step}
+use Rattle.cx_base.specs.Integers.{integers_of, literals}
 use Rattle.cx_semantics.specs.LogRules.{IsOriginalParity}
 use Rattle.cx_semantics.specs.Tables.{Table, get}
 use Rattle.cx_semantics.proofs.Lookups.{Looks-empty}

@@ -10,7 +10,7 @@ use Rattle.std.specs.Global.{Vec}
 use Rattle.std.proofs.lemmas.Option.{same_Some}
 use Rattle.cx_base.specs.Literals.{Literal, same_literal}
 use Rattle.cx_base.specs.Problem.{Problem, clauses_of, IsWithinVariables}
-use Rattle.cx_semantics.specs.declared.steps.LogEvent.{LogEvent}
+use Rattle.cx_base.specs.declared.steps.LogEvent.{LogEvent}
 use Rattle.cx_semantics.specs.Chain.{has_literal, is_inside, same_literals}
 use Rattle.cx_semantics.specs.Tables.{Table, get}
 use Rattle.cx_semantics.proofs.ChainLaws.{same_literal-itself}

@@ -1,7 +1,7 @@
 -- How a search begins.
 use Rattle.std.specs.Prelude.{◌≡◌, ◌≢◌, [], List, Option}
 use Rattle.cx_base.specs.Problem.{Problem}
-use Rattle.cx_semantics.specs.declared.steps.LogEvent.{LogEvent}
+use Rattle.cx_base.specs.declared.steps.LogEvent.{LogEvent}
 use Rattle.parity_engine.specs.State.{State}
 use Rattle.parity_engine.specs.declared.state.Mood.TheVariants.{Broken}
 use Rattle.cdcl_search.specs.Ties.{SearchStands}

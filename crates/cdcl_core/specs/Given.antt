@@ -3,7 +3,7 @@ use Rattle.std.specs.Prelude.{◌≡◌, ℕ, ◌<◌, ◌≤◌, false, List, [
 use Rattle.std.specs.List.{AllByRecursion}
 use Rattle.cx_base.specs.Literals.{Literal}
 use Rattle.cx_base.specs.Problem.{Problem, AreWithin, clauses_of}
-use Rattle.cx_semantics.specs.declared.steps.LogEvent.{LogEvent}
+use Rattle.cx_base.specs.declared.steps.LogEvent.{LogEvent}
 use Rattle.cx_semantics.specs.Tables.{get}
 use Rattle.search_steps.specs.Holding.{AreTold}
 use Rattle.search_steps.specs.Ids.{HasFreeSums}

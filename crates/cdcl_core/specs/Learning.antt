@@ -2,8 +2,8 @@
 use Rattle.std.specs.Prelude.{◌≡◌, ℕ, ◌<◌, ◌^◌, ℤ, List, ◌∷◌, length, Option}
 use Rattle.cx_base.specs.Literals.{Literal}
 use Rattle.cx_base.specs.Problem.{Problem}
-use Rattle.cx_semantics.specs.declared.steps.LogEvent.{LogEvent}
-use Rattle.cx_semantics.specs.Integers.{integers_of, literals}
+use Rattle.cx_base.specs.declared.steps.LogEvent.{LogEvent}
+use Rattle.cx_base.specs.Integers.{integers_of, literals}
 use Rattle.cx_semantics.specs.LogRules.{HasChain}
 use Rattle.cx_trail.specs.Sequence.{TrailState}
 use Rattle.conflict_learn.specs.Learning.{negated_at, IsFalling}

@@ -1,12 +1,12 @@
 -- What holds within a reduction.
 use Rattle.std.specs.Prelude.{◌<◌, List, [], Option}
 use Rattle.cx_base.specs.Problem.{Problem}
-use Rattle.cx_semantics.specs.declared.steps.LogEvent.{LogEvent}
+use Rattle.cx_base.specs.declared.steps.LogEvent.{LogEvent}
 use Rattle.cx_trail.specs.Sequence.{TrailState}
 use Rattle.clause_arena.specs.Clauses.{ArenaState}
 use Rattle.watch_lists.specs.Watching.{WatchState}
 use Rattle.watch_lists.specs.Detaching.{IsPartOf}
-use Rattle.log_text.specs.declared.sink.LogSink as sink
+use Rattle.step_text.specs.declared.sink.Sink as sink
 use Rattle.parity_engine.specs.State.{State}
 use Rattle.parity_engine.specs.declared.engine.ParityEngine as engine
 use Rattle.search_steps.specs.Search.{Search, IsSearch}
@@ -26,5 +26,5 @@ abbrev pub SearchLoses : Problem → SearchState → State → Option (List LogE
 SearchLoses formula c e told = (s : Search) × IsSearch formula e.parities s × AreTold told s.events × Ties formula c e [] s × WasWatched c.watches c.arena c.trail × (s.moment.reductions < c.reductions)
 
 -- so it is behind what the log was told
-abbrev pub Loses : {P L : Type 0} → engine.Ghosts P → sink.Ghosts L → SearchLog L → SearchState → P → Type 0
-Loses p m log c e = SearchLoses log.formula.now c (p.state e) (m.events log.sink.now)
+abbrev pub Loses : {P L : Type 0} → engine.Ghosts P → sink.Ghosts L LogEvent → SearchLog L → SearchState → P → Type 0
+Loses p m log c e = SearchLoses log.formula.now c (p.state e) (m.items log.sink.now)

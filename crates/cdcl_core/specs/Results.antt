@@ -1,10 +1,10 @@
 -- What the search answers.
 use Rattle.std.specs.Prelude.{◌≡◌, ◌≢◌, ℕ, ◌<◌, Bool, [], List, Option, Some, None, filter_map}
 use Rattle.cx_base.specs.Problem.{Problem, Meets, Unmet}
-use Rattle.cx_semantics.specs.declared.steps.LogEvent.{LogEvent}
+use Rattle.cx_base.specs.declared.steps.LogEvent.{LogEvent}
 use Rattle.cx_semantics.specs.Judging.{IsOpen}
 use Rattle.cx_semantics.specs.LogRules.{log_calculus}
-use Rattle.cx_semantics.specs.LogText.{steps_of}
+use Rattle.cx_base.specs.Events.{steps_of}
 use Rattle.cx_semantics.specs.Marked.{Marked, mark_of}
 use Rattle.search_steps.specs.LogSteps.{IsEnded}
 use Rattle.cdcl_core.specs.declared.solving.Outcome.{Outcome}

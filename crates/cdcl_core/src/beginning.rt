@@ -16,10 +16,10 @@ use crate::recovering::all_parities;
 use cdcl_search::SearchState;
 use cdcl_search::logs::SearchLog;
 use conflict_learn::CoreFault;
-use cx_base::{Lit, ParityList};
+use cx_base::{Lit, LogEvent, ParityList};
 use cx_trail::{Reason, Truth};
-use log_text::LogSink;
 use parity_engine::ParityEngine;
+use step_text::Sink;
 
 /// What the beginning of a search comes to.
 #[derive(Drop)]
@@ -32,17 +32,17 @@ pub(crate) enum Begun<P> {
 
 /// Puts the literal of the unit clause at a place on the trail. False where its negation stands there: then the log is
 /// ended.
-fn put_unit<L: LogSink>(
+fn put_unit<L: Sink<Item = LogEvent>>(
     log: &mut SearchLog<L>,
     state: &mut SearchState,
     units: &[Single],
     place: usize,
 ) -> Result<bool, CoreFault>
     requires place { place < length units.now }
-    requires stands { (engines : List (List Literal)) × SearchStandsBut log.old.formula.now engines state.old (drop place units.now) (told_in L.LogSink log.old) }
-    ensures puts { IfOk result (λ going. (engines : List (List Literal)) → SearchStandsBut log.old.formula.now engines state.old (drop place units.now) (told_in L.LogSink log.old)
-        → PutsUnits log.new.formula.now engines state.new (drop (place + 1) units.now) (told_in L.LogSink log.new) going) }
-    ensures log { GoesOn L.LogSink log.old (fault_in result) log.new }
+    requires stands { (engines : List (List Literal)) × SearchStandsBut log.old.formula.now engines state.old (drop place units.now) (told_in L.Sink log.old) }
+    ensures puts { IfOk result (λ going. (engines : List (List Literal)) → SearchStandsBut log.old.formula.now engines state.old (drop place units.now) (told_in L.Sink log.old)
+        → PutsUnits log.new.formula.now engines state.new (drop (place + 1) units.now) (told_in L.Sink log.new) going) }
+    ensures log { GoesOn L.Sink log.old (fault_in result) log.new }
 {
     let unit = units[place];
     match state.trail.truth(unit.literal) {
@@ -60,15 +60,15 @@ fn put_unit<L: LogSink>(
 }
 
 /// Puts the literals of the unit clauses on the trail. False where two contradict each other: then the log is ended.
-fn put_units<L: LogSink>(
+fn put_units<L: Sink<Item = LogEvent>>(
     log: &mut SearchLog<L>,
     state: &mut SearchState,
     units: &[Single],
 ) -> Result<bool, CoreFault>
-    requires { (engines : List (List Literal)) × SearchStandsBut log.old.formula.now engines state.old units.now (told_in L.LogSink log.old) }
-    ensures puts { IfOk result (λ going. (engines : List (List Literal)) → SearchStandsBut log.old.formula.now engines state.old units.now (told_in L.LogSink log.old)
-        → PutsUnits log.new.formula.now engines state.new [] (told_in L.LogSink log.new) going) }
-    ensures log { GoesOn L.LogSink log.old (fault_in result) log.new }
+    requires { (engines : List (List Literal)) × SearchStandsBut log.old.formula.now engines state.old units.now (told_in L.Sink log.old) }
+    ensures puts { IfOk result (λ going. (engines : List (List Literal)) → SearchStandsBut log.old.formula.now engines state.old units.now (told_in L.Sink log.old)
+        → PutsUnits log.new.formula.now engines state.new [] (told_in L.Sink log.new) going) }
+    ensures log { GoesOn L.Sink log.old (fault_in result) log.new }
 {
     for place in 0..units.len() {
         if !put_unit(log, state, units, place)? {
@@ -79,17 +79,17 @@ fn put_units<L: LogSink>(
 }
 
 /// Puts the unit clauses on the trail and makes the engine over these parities.
-fn start<P: ParityEngine, L: LogSink>(
+fn start<P: ParityEngine, L: Sink<Item = LogEvent>>(
     log: &mut SearchLog<L>,
     filled: Filled,
     parities: &ParityList,
 ) -> Result<Begun<P>, CoreFault>
     requires few { length log.old.formula.now.constraints ≤ 4294967295 }
-    requires given { HasGiven log.old.formula.now parities.now (told_in L.LogSink log.old) }
+    requires given { HasGiven log.old.formula.now parities.now (told_in L.Sink log.old) }
     requires engines { AreEngines log.old.formula.now parities.now }
     requires filled { IsFilled log.old.formula.now filled.state filled.units.items filled.empty }
-    ensures begins { IfOk result (λ b. SearchBegins P.state log.new.formula.now (told_in L.LogSink log.new) b) }
-    ensures log { GoesOn L.LogSink log.old (fault_in result) log.new }
+    ensures begins { IfOk result (λ b. SearchBegins P.state log.new.formula.now (told_in L.Sink log.new) b) }
+    ensures log { GoesOn L.Sink log.old (fault_in result) log.new }
 {
     // `vars` says to the proof that the literals of the formula are within its variables.
     let vars = log.formula.vars();
@@ -111,13 +111,13 @@ fn start<P: ParityEngine, L: LogSink>(
 
 /// Tells the originals and the recovered parities, and makes the search: clauses of two or more different literals are attached, those of one
 /// stand on the trail at level 0, tautologies are left out.
-pub(crate) fn begin<P: ParityEngine, L: LogSink>(
+pub(crate) fn begin<P: ParityEngine, L: Sink<Item = LogEvent>>(
     log: &mut SearchLog<L>,
 ) -> Result<Begun<P>, CoreFault>
     requires few { length log.old.formula.now.constraints ≤ 4294967295 }
-    requires fresh { IsFresh (told_in L.LogSink log.old) }
-    ensures begins { IfOk result (λ b. SearchBegins P.state log.new.formula.now (told_in L.LogSink log.new) b) }
-    ensures log { GoesOn L.LogSink log.old (fault_in result) log.new }
+    requires fresh { IsFresh (told_in L.Sink log.old) }
+    ensures begins { IfOk result (λ b. SearchBegins P.state log.new.formula.now (told_in L.Sink log.new) b) }
+    ensures log { GoesOn L.Sink log.old (fault_in result) log.new }
 {
     tell_originals(log)?;
     let parities = all_parities(log)?;

@@ -1,8 +1,8 @@
 //! The clauses of conflicts.
 ghost use Rattle.std.specs.Prelude.{◌≡◌, ◌≢◌, ℕ, ◌+◌, ◌≤◌, [], ◌∷◌, length, IfOk, OnOk};
 ghost use Rattle.std.specs.List.{AllByRecursion};
-ghost use Rattle.cx_semantics.specs.Integers.{integers_of, literals};
-ghost use Rattle.cx_semantics.specs.declared.steps.LogStep.TheVariants as step;
+ghost use Rattle.cx_base.specs.Integers.{integers_of, literals};
+ghost use Rattle.cx_base.specs.declared.steps.LogStep.TheVariants as step;
 ghost use Rattle.clause_arena.specs.Clauses.{IsLive, literals_at};
 ghost use Rattle.parity_engine.specs.Written.{AreRising};
 ghost use Rattle.cdcl_search.specs.Explaining.{Explains};
@@ -19,11 +19,10 @@ use cdcl_search::rows::{FIRST_ROW_ID, next_ids, sum_and_clause, tell_reason};
 use cdcl_search::source::stored;
 use cdcl_search::{Found, SearchState};
 use conflict_learn::CoreFault;
-use cx_base::{ClauseRef, Formula, LitList, Row};
-use cx_semantics::LogStep;
-use log_text::LogSink;
+use cx_base::{ClauseRef, Formula, LitList, LogEvent, LogStep, Row};
 use parity_engine::ParityEngine;
 use std::alloc::{AllocError, Global};
+use step_text::Sink;
 use xor_reason::{ReasonOf, reason_clause};
 
 /// A conflict's clause, with its id in the log, and the clauses of rows that were told for it.
@@ -62,19 +61,19 @@ fn stored_conflict(
 }
 
 /// The conflict of a row with a variable. Its clause is told.
-fn told_conflict<P: ParityEngine, L: LogSink>(
+fn told_conflict<P: ParityEngine, L: Sink<Item = LogEvent>>(
     log: &mut SearchLog<L>,
     state: &SearchState,
     engine: &P,
     reason: ReasonOf,
 ) -> Result<Conflict, CoreFault>
-    requires stands { Stands P.ParityEngine L.LogSink log.old state.now engine.now [] }
+    requires stands { Stands P.ParityEngine L.Sink log.old state.now engine.now [] }
     requires explains { Explains (P.state engine.now).parities state.now.trail reason }
     requires some { reason.clause ≢ [] }
     ensures clause { IfOk result (λ c. c.lits ≡ reason.clause) }
     ensures rows { IfOk result (λ c. c.rows.items ≡ reason.clause ∷ []) }
-    ensures stands { OnOk result (Stands P.ParityEngine L.LogSink log.new state.now engine.now (reason.clause ∷ [])) }
-    ensures log { GoesOn L.LogSink log.old (fault_in result) log.new }
+    ensures stands { OnOk result (Stands P.ParityEngine L.Sink log.new state.now engine.now (reason.clause ∷ [])) }
+    ensures log { GoesOn L.Sink log.old (fault_in result) log.new }
 {
     let mut rows = Vec::new(log.alloc);
     match tell_reason(log, state, engine, reason, &mut rows) {
@@ -106,16 +105,16 @@ fn ending(alloc: Global, formula: &Formula, reason: ReasonOf) -> Result<Vec<LogS
 }
 
 /// The conflict of a row.
-fn row_conflict<P: ParityEngine, L: LogSink>(
+fn row_conflict<P: ParityEngine, L: Sink<Item = LogEvent>>(
     log: &mut SearchLog<L>,
     state: &SearchState,
     engine: &P,
     row: Row,
 ) -> Result<Conclusion, CoreFault>
-    requires stands { Stands P.ParityEngine L.LogSink log.old state.now engine.now [] }
+    requires stands { Stands P.ParityEngine L.Sink log.old state.now engine.now [] }
     requires clash { IsClash (P.state engine.now) row }
-    ensures concludes { IfOk result (λ c. Concludes log.new.formula.now state.now (P.state engine.now) (told_in L.LogSink log.new) c) }
-    ensures log { GoesOn L.LogSink log.old (fault_in result) log.new }
+    ensures concludes { IfOk result (λ c. Concludes log.new.formula.now state.now (P.state engine.now) (told_in L.Sink log.new) c) }
+    ensures log { GoesOn L.Sink log.old (fault_in result) log.new }
 {
     let reason = reason_clause(log.alloc, engine, row, None, &state.trail)?;
     if reason.clause.as_slice().is_empty() {
@@ -129,17 +128,17 @@ fn row_conflict<P: ParityEngine, L: LogSink>(
 }
 
 /// What a conflict comes to. The clause of a row is told first.
-pub(crate) fn conflict_clause<P: ParityEngine, L: LogSink>(
+pub(crate) fn conflict_clause<P: ParityEngine, L: Sink<Item = LogEvent>>(
     log: &mut SearchLog<L>,
     state: &SearchState,
     engine: &P,
     found: Found,
 ) -> Result<Conclusion, CoreFault>
-    requires stands { Stands P.ParityEngine L.LogSink log.old state.now engine.now [] }
+    requires stands { Stands P.ParityEngine L.Sink log.old state.now engine.now [] }
     requires found { PropagationFinds state.now (P.state engine.now) found }
     requires conflict { found ≢ Quiet }
-    ensures concludes { IfOk result (λ c. Concludes log.new.formula.now state.now (P.state engine.now) (told_in L.LogSink log.new) c) }
-    ensures log { GoesOn L.LogSink log.old (fault_in result) log.new }
+    ensures concludes { IfOk result (λ c. Concludes log.new.formula.now state.now (P.state engine.now) (told_in L.Sink log.new) c) }
+    ensures log { GoesOn L.Sink log.old (fault_in result) log.new }
 {
     match found {
         Found::Clause(reference) => {

@@ -2,7 +2,7 @@
 ghost use Rattle.std.specs.Prelude.{◌≡◌, ◌≢◌, ◌<◌, ◌≤◌, ◌+◌, List, [], length, Option, OnOk};
 ghost use Rattle.std.specs.List.{All};
 ghost use Rattle.cx_base.specs.Literals.{Literal};
-ghost use Rattle.cx_semantics.specs.declared.steps.LogEvent.{LogEvent};
+ghost use Rattle.cx_base.specs.declared.steps.LogEvent.{LogEvent};
 ghost use Rattle.cx_trail.specs.Sequence.{TakesBack, IsOpenIn};
 ghost use Rattle.conflict_learn.specs.Touching.{AreTouched};
 ghost use Rattle.watch_lists.specs.Watching.{Fits};

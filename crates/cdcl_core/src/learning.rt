@@ -4,9 +4,9 @@ ghost use Rattle.cx_base.specs.Literals.{Literal};
 ghost use Rattle.cx_semantics.specs.Chain.{has_literal};
 ghost use Rattle.cx_trail.specs.Sequence.{IsTrueIn};
 ghost use Rattle.std.specs.List.{AllByRecursion};
-ghost use Rattle.cx_semantics.specs.Integers.{integers_of, literals};
-ghost use Rattle.cx_semantics.specs.declared.steps.LogEvent.TheVariants as event;
-ghost use Rattle.cx_semantics.specs.declared.steps.LogStep.TheVariants as step;
+ghost use Rattle.cx_base.specs.Integers.{integers_of, literals};
+ghost use Rattle.cx_base.specs.declared.steps.LogEvent.TheVariants as event;
+ghost use Rattle.cx_base.specs.declared.steps.LogStep.TheVariants as step;
 ghost use Rattle.conflict_learn.specs.Levels.{Teaches};
 ghost use Rattle.conflict_learn.specs.Faults.{fault_in};
 ghost use Rattle.conflict_learn.specs.Marks.{AreClear};
@@ -31,11 +31,10 @@ use cdcl_search::source::{Source, silent_id};
 use cdcl_search::steps::chained;
 use cdcl_search::telling::tell_round;
 use conflict_learn::{CoreFault, Learned, Marks, analyse};
-use cx_base::{IntList, Lit, LitList};
-use cx_semantics::LogStep;
-use log_text::LogSink;
+use cx_base::{IntList, Lit, LitList, LogEvent, LogStep};
 use parity_engine::ParityEngine;
 use std::alloc::{AllocError, Global};
+use step_text::Sink;
 
 /// The steps behind the mark of a conflict: the learned clause with its hints, and the deletions of the clauses of rows.
 fn steps_of_learned(
@@ -58,7 +57,7 @@ fn steps_of_learned(
 }
 
 /// Tells what a conflict taught: the mark, the learned clause with its hints, and the deletions of the clauses of rows.
-fn tell_learned<P: ParityEngine, L: LogSink>(
+fn tell_learned<P: ParityEngine, L: Sink<Item = LogEvent>>(
     log: &mut SearchLog<L>,
     state: &SearchState,
     engine: &P,
@@ -67,14 +66,14 @@ fn tell_learned<P: ParityEngine, L: LogSink>(
     learned: &Learned,
     hints: IntList,
 ) -> Result<(), CoreFault>
-    requires stands { Stands P.ParityEngine L.LogSink log.old state.now engine.now rows.now }
+    requires stands { Stands P.ParityEngine L.Sink log.old state.now engine.now rows.now }
     requires conflict { IsConflictClause state.now rows.now conflict.now }
     requires above { 0 < state.now.trail.level }
     requires room { state.now.next < first_row_id }
     requires few { state.now.conflicts < 10 ^ 18 }
     requires teaches { Teaches state.now.trail conflict.now (IsSourced state.now rows.now) learned.now.resolved learned.now.lits learned.now.back_level learned.now.lbd }
-    ensures learned { OnOk result (Learns log.new.formula.now state.now (P.state engine.now) learned.now.lits learned.now.back_level (told_in L.LogSink log.new)) }
-    ensures log { GoesOn L.LogSink log.old (fault_in result) log.new }
+    ensures learned { OnOk result (Learns log.new.formula.now state.now (P.state engine.now) learned.now.lits learned.now.back_level (told_in L.Sink log.new)) }
+    ensures log { GoesOn L.Sink log.old (fault_in result) log.new }
 {
     let steps = steps_of_learned(
         log.alloc,
@@ -83,7 +82,7 @@ fn tell_learned<P: ParityEngine, L: LogSink>(
         hints,
         rows.len(),
     )?;
-    tell_round(log, state.conflicts + 1, &steps)
+    tell_round(log, state.conflicts + 1, steps)
 }
 
 /// The hints of a learned clause: the ids of the clauses that implied the resolved literals, the last one's first, and then the conflict's.
@@ -115,7 +114,7 @@ fn hints_of_lesson(
 }
 
 /// What a conflict above level 0 teaches. The clauses of rows that are told for it come behind these rows.
-fn lesson_of<'x, P: ParityEngine, L: LogSink>(
+fn lesson_of<'x, P: ParityEngine, L: Sink<Item = LogEvent>>(
     log: &'x mut SearchLog<L>,
     state: &'x SearchState,
     engine: &'x P,
@@ -123,17 +122,17 @@ fn lesson_of<'x, P: ParityEngine, L: LogSink>(
     rows: &'x mut Vec<LitList>,
     marks: &mut Marks,
 ) -> Result<Learned, CoreFault>
-    requires stands { Stands P.ParityEngine L.LogSink log.old state.now engine.now rows.old.items }
+    requires stands { Stands P.ParityEngine L.Sink log.old state.now engine.now rows.old.items }
     requires conflict { IsConflictClause state.now rows.old.items conflict.now }
     requires above { 0 < state.now.trail.level }
     requires clear { AreClear marks.old }
-    ensures stands { OnOk result (Stands P.ParityEngine L.LogSink log.new state.now engine.now rows.new.items) }
+    ensures stands { OnOk result (Stands P.ParityEngine L.Sink log.new state.now engine.now rows.new.items) }
     ensures conflict { IsConflictClause state.now rows.new.items conflict.now }
     ensures teaches { IfOk result (λ r. Teaches state.now.trail conflict.now (IsSourced state.now rows.new.items) r.resolved r.lits r.back_level r.lbd) }
     ensures stand { IfOk result (λ r. (l : Literal) → IsTrue (has_literal r.resolved l) → IsTrueIn state.now.trail.entries l) }
     ensures touched { IfOk result (λ r. AreTouched state.now.trail r.resolved r.lits r.touched.items) }
     ensures clear { OnOk result (AreClear marks.new) }
-    ensures log { GoesOn L.LogSink log.old (fault_in result) log.new }
+    ensures log { GoesOn L.Sink log.old (fault_in result) log.new }
 {
     let alloc = log.alloc;
     let mut source = Source {
@@ -146,23 +145,23 @@ fn lesson_of<'x, P: ParityEngine, L: LogSink>(
 }
 
 /// What a conflict above level 0 teaches. Told are the mark, the learned clause with its hints, and the deletions of the clauses of rows.
-pub(crate) fn learn<P: ParityEngine, L: LogSink>(
+pub(crate) fn learn<P: ParityEngine, L: Sink<Item = LogEvent>>(
     log: &mut SearchLog<L>,
     state: &SearchState,
     engine: &P,
     marks: &mut Marks,
     conflict: Conflict,
 ) -> Result<Learned, CoreFault>
-    requires stands { Stands P.ParityEngine L.LogSink log.old state.now engine.now conflict.rows.items }
+    requires stands { Stands P.ParityEngine L.Sink log.old state.now engine.now conflict.rows.items }
     requires conflict { IsConflictClause state.now conflict.rows.items conflict.lits }
     requires above { 0 < state.now.trail.level }
     requires room { state.now.next < first_row_id }
     requires few { state.now.conflicts < 10 ^ 18 }
     requires clear { AreClear marks.old }
-    ensures learned { IfOk result (λ r. Learns log.new.formula.now state.now (P.state engine.now) r.lits r.back_level (told_in L.LogSink log.new)) }
+    ensures learned { IfOk result (λ r. Learns log.new.formula.now state.now (P.state engine.now) r.lits r.back_level (told_in L.Sink log.new)) }
     ensures touched { IfOk result (λ r. AreTouched state.now.trail r.resolved r.lits r.touched.items) }
     ensures clear { OnOk result (AreClear marks.new) }
-    ensures log { GoesOn L.LogSink log.old (fault_in result) log.new }
+    ensures log { GoesOn L.Sink log.old (fault_in result) log.new }
 {
     let Conflict { lits, id, rows } = conflict;
     let mut rows = rows;

@@ -2,8 +2,8 @@
 ghost use Rattle.std.specs.Prelude.{◌≡◌, ◌+◌, ◌<◌, ◌≤◌, ◌∷◌, [], ◌++◌, length, take, OnOk, IfOk};
 ghost use Rattle.std.specs.List.{AllByRecursion};
 ghost use Rattle.cx_base.specs.Problem.{AreWithin, parities_of};
-ghost use Rattle.cx_semantics.specs.Integers.{integers_of};
-ghost use Rattle.cx_semantics.specs.declared.steps.LogStep.TheVariants as step;
+ghost use Rattle.cx_base.specs.Integers.{integers_of};
+ghost use Rattle.cx_base.specs.declared.steps.LogStep.TheVariants as step;
 ghost use Rattle.conflict_learn.specs.Faults.{fault_in};
 ghost use Rattle.xor_recover.specs.Finds.{IsJudgedRight};
 ghost use Rattle.cdcl_search.specs.Logs.{GoesOn, told_in};
@@ -17,10 +17,9 @@ use cdcl_search::rows::copy_of;
 use cdcl_search::steps::recovered_parity;
 use cdcl_search::telling::tell_step;
 use conflict_learn::CoreFault;
-use cx_base::{ConstraintRef, Formula, IdList, Lit, LitList, ParityList};
-use cx_semantics::LogStep;
-use log_text::LogSink;
+use cx_base::{ConstraintRef, Formula, IdList, Lit, LitList, LogEvent, LogStep, ParityList};
 use std::alloc::{AllocError, Global};
+use step_text::Sink;
 use xor_recover::{Found, recover};
 
 /// Puts the parity at a place of the formula, where there is one, behind those of the places before.
@@ -67,35 +66,37 @@ fn step_of(alloc: Global, id: u64, find: &Found) -> Result<LogStep, AllocError>
 }
 
 /// Tells a recovered parity under the next id, and puts it behind these.
-fn tell_find<L: LogSink>(
+fn tell_find<L: Sink<Item = LogEvent>>(
     log: &mut SearchLog<L>,
     find: &Found,
     parities: &mut Vec<LitList>,
 ) -> Result<(), CoreFault>
     requires few { length log.old.formula.now.constraints ≤ 4294967295 }
     requires fewer { length parities.old.items < length log.old.formula.now.constraints }
-    requires given { HasGiven log.old.formula.now parities.old.items (told_in L.LogSink log.old) }
+    requires given { HasGiven log.old.formula.now parities.old.items (told_in L.Sink log.old) }
     requires within { AreWithin log.old.formula.now.variables find.now.parity }
     requires judged { IsJudgedRight log.old.formula.now find.now }
-    ensures given { OnOk result (HasGiven log.new.formula.now parities.new.items (told_in L.LogSink log.new)) }
+    ensures given { OnOk result (HasGiven log.new.formula.now parities.new.items (told_in L.Sink log.new)) }
     ensures one_more { OnOk result (parities.new.items ≡ parities.old.items ++ find.now.parity ∷ []) }
-    ensures log { GoesOn L.LogSink log.old (fault_in result) log.new }
+    ensures log { GoesOn L.Sink log.old (fault_in result) log.new }
 {
     let id = parities.len() as u64 + 1;
     let step = step_of(log.alloc, id, find)?;
     let parity = copy_of(log.alloc, find.parity.as_slice())?;
-    tell_step(log, &step)?;
+    tell_step(log, step)?;
     parities.push(parity)?;
     Ok(())
 }
 
 /// Tells the parities that are recovered from the formula's clauses, and gives them behind the formula's own.
-pub(crate) fn all_parities<L: LogSink>(log: &mut SearchLog<L>) -> Result<ParityList, CoreFault>
+pub(crate) fn all_parities<L: Sink<Item = LogEvent>>(
+    log: &mut SearchLog<L>,
+) -> Result<ParityList, CoreFault>
     requires few { length log.old.formula.now.constraints ≤ 4294967295 }
-    requires begun { HasBegun log.old.formula.now log.old.formula.now.constraints (told_in L.LogSink log.old) }
-    ensures given { IfOk result (λ p. HasGiven log.new.formula.now p (told_in L.LogSink log.new)) }
+    requires begun { HasBegun log.old.formula.now log.old.formula.now.constraints (told_in L.Sink log.old) }
+    ensures given { IfOk result (λ p. HasGiven log.new.formula.now p (told_in L.Sink log.new)) }
     ensures engines { IfOk result (AreEngines log.new.formula.now) }
-    ensures log { GoesOn L.LogSink log.old (fault_in result) log.new }
+    ensures log { GoesOn L.Sink log.old (fault_in result) log.new }
 {
     // `vars` says to the proof that the literals of the formula are within its variables.
     let _vars = log.formula.vars();

@@ -1,6 +1,6 @@
 //! When the search restarts, and which learned clauses it deletes then.
 ghost use Rattle.std.specs.Prelude.{◌≡◌, ◌≢◌, ◌<◌, List, [], Option, length, IsTrue, OnOk};
-ghost use Rattle.cx_semantics.specs.declared.steps.LogEvent.{LogEvent};
+ghost use Rattle.cx_base.specs.declared.steps.LogEvent.{LogEvent};
 ghost use Rattle.conflict_learn.specs.Faults.{fault_in};
 ghost use Rattle.parity_engine.specs.declared.state.Mood.TheVariants.{Broken};
 ghost use Rattle.cdcl_search.specs.Logs.{GoesOn, Stands};
@@ -13,11 +13,11 @@ use cdcl_search::SearchState;
 use cdcl_search::logs::SearchLog;
 use clause_arena::Arena;
 use conflict_learn::CoreFault;
-use cx_base::{ClauseRef, Formula, RefList};
-use log_text::LogSink;
+use cx_base::{ClauseRef, Formula, LogEvent, RefList};
 use parity_engine::ParityEngine;
 use search_policy::{Card, choose_removed, restart_due};
 use std::alloc::{AllocError, Global};
+use step_text::Sink;
 
 /// So many restarts are more than any search makes.
 const LAST_RESTART: u64 = 1 << 62;
@@ -113,15 +113,15 @@ fn go_to_start<P: ParityEngine>(formula: &Formula, state: &mut SearchState, engi
 }
 
 /// Deletes learned clauses where there are many, and closes the gaps that they leave.
-fn reduce_where_many<P: ParityEngine, L: LogSink>(
+fn reduce_where_many<P: ParityEngine, L: Sink<Item = LogEvent>>(
     log: &mut SearchLog<L>,
     state: &mut SearchState,
     engine: &P,
 ) -> Result<(), CoreFault>
-    requires stands { Stands P.ParityEngine L.LogSink log.old state.old engine.now [] }
-    ensures stands { OnOk result (Stands P.ParityEngine L.LogSink log.new state.new engine.now []) }
+    requires stands { Stands P.ParityEngine L.Sink log.old state.old engine.now [] }
+    ensures stands { OnOk result (Stands P.ParityEngine L.Sink log.new state.new engine.now []) }
     ensures conflicts { OnOk result (state.new.conflicts ≡ state.old.conflicts) }
-    ensures log { GoesOn L.LogSink log.old (fault_in result) log.new }
+    ensures log { GoesOn L.Sink log.old (fault_in result) log.new }
 {
     if !has_units(state) || !are_many(state) {
         return Ok(());
@@ -133,18 +133,18 @@ fn reduce_where_many<P: ParityEngine, L: LogSink>(
 }
 
 /// Behind a counted conflict and its jump: restarts where that is due, and deletes learned clauses then.
-pub(crate) fn follow_schedule<P: ParityEngine, L: LogSink>(
+pub(crate) fn follow_schedule<P: ParityEngine, L: Sink<Item = LogEvent>>(
     log: &mut SearchLog<L>,
     state: &mut SearchState,
     engine: &mut P,
     schedule: &mut Schedule,
 ) -> Result<(), CoreFault>
-    requires stands { Stands P.ParityEngine L.LogSink log.old state.old engine.old [] }
+    requires stands { Stands P.ParityEngine L.Sink log.old state.old engine.old [] }
     requires unbroken { (P.state engine.old).mood ≢ Broken }
-    ensures stands { OnOk result (Stands P.ParityEngine L.LogSink log.new state.new engine.new []) }
+    ensures stands { OnOk result (Stands P.ParityEngine L.Sink log.new state.new engine.new []) }
     ensures unbroken { (P.state engine.new).mood ≢ Broken }
     ensures conflicts { OnOk result (state.new.conflicts ≡ state.old.conflicts) }
-    ensures log { GoesOn L.LogSink log.old (fault_in result) log.new }
+    ensures log { GoesOn L.Sink log.old (fault_in result) log.new }
 {
     schedule.count();
     if !schedule.is_due() {

@@ -26,10 +26,10 @@ use cdcl_search::logs::SearchLog;
 use cdcl_search::rows::FIRST_ROW_ID;
 use cdcl_search::{Found, SearchState, search_on, values_of};
 use conflict_learn::{CoreFault, Marks};
-use cx_base::{Formula, Values};
-use log_text::LogSink;
+use cx_base::{Formula, LogEvent, Values};
 use parity_engine::ParityEngine;
 use std::alloc::Global;
+use step_text::Sink;
 
 /// What a search comes to.
 #[derive(Debug, Drop)]
@@ -43,7 +43,7 @@ pub enum Outcome {
 }
 
 /// Learns from a conflict above level 0, and goes back. None: the search goes on.
-fn learn_and_jump<P: ParityEngine, L: LogSink>(
+fn learn_and_jump<P: ParityEngine, L: Sink<Item = LogEvent>>(
     log: &mut SearchLog<L>,
     state: &mut SearchState,
     engine: &mut P,
@@ -51,15 +51,15 @@ fn learn_and_jump<P: ParityEngine, L: LogSink>(
     budget: u64,
     conflict: Conflict,
 ) -> Result<Option<Outcome>, CoreFault>
-    requires stands { Stands P.ParityEngine L.LogSink log.old state.old engine.old conflict.rows.items }
+    requires stands { Stands P.ParityEngine L.Sink log.old state.old engine.old conflict.rows.items }
     requires conflict { IsConflictClause state.old conflict.rows.items conflict.lits }
     requires above { 0 < state.old.trail.level }
     requires few { (state.old.conflicts < budget) × (budget ≤ 10 ^ 18) }
     requires clear { AreClear marks.old }
-    ensures goes_on { IfOk result (λ o. MatchOption o (SearchGoesOn log.new.formula.now budget (told_in L.LogSink log.new) state.new (P.state engine.new)) (λ a. IsRightOutcome log.new.formula.now budget (told_in L.LogSink log.new) a)) }
+    ensures goes_on { IfOk result (λ o. MatchOption o (SearchGoesOn log.new.formula.now budget (told_in L.Sink log.new) state.new (P.state engine.new)) (λ a. IsRightOutcome log.new.formula.now budget (told_in L.Sink log.new) a)) }
     ensures one_more { IfOk result (λ o. MatchOption o (state.new.conflicts ≡ state.old.conflicts + 1) (λ _. Unit {0})) }
     ensures clear { OnOk result (AreClear marks.new) }
-    ensures log { GoesOn L.LogSink log.old (fault_in result) log.new }
+    ensures log { GoesOn L.Sink log.old (fault_in result) log.new }
 {
     if state.next >= FIRST_ROW_ID {
         return Err(CoreFault::Memory);
@@ -73,7 +73,7 @@ fn learn_and_jump<P: ParityEngine, L: LogSink>(
 }
 
 /// What a conflict above level 0 brings. None: the search goes on.
-fn meet_conflict<P: ParityEngine, L: LogSink>(
+fn meet_conflict<P: ParityEngine, L: Sink<Item = LogEvent>>(
     log: &mut SearchLog<L>,
     state: &mut SearchState,
     engine: &mut P,
@@ -81,30 +81,30 @@ fn meet_conflict<P: ParityEngine, L: LogSink>(
     budget: u64,
     found: Found,
 ) -> Result<Option<Outcome>, CoreFault>
-    requires stands { Stands P.ParityEngine L.LogSink log.old state.old engine.old [] }
+    requires stands { Stands P.ParityEngine L.Sink log.old state.old engine.old [] }
     requires found { PropagationFinds state.old (P.state engine.old) found }
     requires conflict { found ≢ finding.Quiet }
     requires above { 0 < state.old.trail.level }
     requires few { (state.old.conflicts < budget) × (budget ≤ 10 ^ 18) }
     requires clear { AreClear marks.old }
-    ensures goes_on { IfOk result (λ o. MatchOption o (SearchGoesOn log.new.formula.now budget (told_in L.LogSink log.new) state.new (P.state engine.new)) (λ a. IsRightOutcome log.new.formula.now budget (told_in L.LogSink log.new) a)) }
+    ensures goes_on { IfOk result (λ o. MatchOption o (SearchGoesOn log.new.formula.now budget (told_in L.Sink log.new) state.new (P.state engine.new)) (λ a. IsRightOutcome log.new.formula.now budget (told_in L.Sink log.new) a)) }
     ensures one_more { IfOk result (λ o. MatchOption o (state.new.conflicts ≡ state.old.conflicts + 1) (λ _. Unit {0})) }
     ensures clear { OnOk result (AreClear marks.new) }
-    ensures log { GoesOn L.LogSink log.old (fault_in result) log.new }
+    ensures log { GoesOn L.Sink log.old (fault_in result) log.new }
 {
     match conflict_clause(log, state, engine, found)? {
         Conclusion::Clause(conflict) => {
             learn_and_jump(log, state, engine, marks, budget, conflict)
         }
         Conclusion::Ending(steps) => {
-            tell_ending(log, state, &steps)?;
+            tell_ending(log, state, steps)?;
             Ok(Some(Outcome::Unsat))
         }
     }
 }
 
 /// What the search comes to where it stops: the values of a full trail, the end of the log at level 0, or what a conflict brings. None: the search goes on.
-fn conclude<P: ParityEngine, L: LogSink>(
+fn conclude<P: ParityEngine, L: Sink<Item = LogEvent>>(
     log: &mut SearchLog<L>,
     state: &mut SearchState,
     engine: &mut P,
@@ -112,15 +112,15 @@ fn conclude<P: ParityEngine, L: LogSink>(
     budget: u64,
     found: Found,
 ) -> Result<Option<Outcome>, CoreFault>
-    requires stands { Stands P.ParityEngine L.LogSink log.old state.old engine.old [] }
+    requires stands { Stands P.ParityEngine L.Sink log.old state.old engine.old [] }
     requires reaches { SearchReaches state.old (P.state engine.old) found }
     requires few { (state.old.conflicts < budget) × (budget ≤ 10 ^ 18) }
     requires clear { AreClear marks.old }
-    ensures goes_on { IfOk result (λ o. MatchOption o (SearchGoesOn log.new.formula.now budget (told_in L.LogSink log.new) state.new (P.state engine.new)) (λ a. IsRightOutcome log.new.formula.now budget (told_in L.LogSink log.new) a)) }
+    ensures goes_on { IfOk result (λ o. MatchOption o (SearchGoesOn log.new.formula.now budget (told_in L.Sink log.new) state.new (P.state engine.new)) (λ a. IsRightOutcome log.new.formula.now budget (told_in L.Sink log.new) a)) }
     ensures one_more { IfOk result (λ o. MatchOption o (state.new.conflicts ≡ state.old.conflicts + 1) (λ _. Unit {0})) }
-    ensures at_start { state.old.trail.level ≡ 0 → IfOk result (λ o. MatchOption o ⊥ (λ a. IsSettledBy log.new.formula.now (state.old.conflicts + 1) (told_in L.LogSink log.new) a)) }
+    ensures at_start { state.old.trail.level ≡ 0 → IfOk result (λ o. MatchOption o ⊥ (λ a. IsSettledBy log.new.formula.now (state.old.conflicts + 1) (told_in L.Sink log.new) a)) }
     ensures clear { OnOk result (AreClear marks.new) }
-    ensures log { GoesOn L.LogSink log.old (fault_in result) log.new }
+    ensures log { GoesOn L.Sink log.old (fault_in result) log.new }
 {
     if let Found::Quiet = found {
         let values = values_of(log.alloc, log.formula, state, engine)?;
@@ -134,40 +134,40 @@ fn conclude<P: ParityEngine, L: LogSink>(
 }
 
 /// Searches up to the next conflict or a full trail, and acts on it. None: the search goes on.
-fn round<P: ParityEngine, L: LogSink>(
+fn round<P: ParityEngine, L: Sink<Item = LogEvent>>(
     log: &mut SearchLog<L>,
     state: &mut SearchState,
     engine: &mut P,
     marks: &mut Marks,
     budget: u64,
 ) -> Result<Option<Outcome>, CoreFault>
-    requires goes_on { SearchGoesOn log.old.formula.now budget (told_in L.LogSink log.old) state.old (P.state engine.old) }
+    requires goes_on { SearchGoesOn log.old.formula.now budget (told_in L.Sink log.old) state.old (P.state engine.old) }
     requires few { budget ≤ 10 ^ 18 }
     requires clear { AreClear marks.old }
-    ensures goes_on { IfOk result (λ o. MatchOption o (SearchGoesOn log.new.formula.now budget (told_in L.LogSink log.new) state.new (P.state engine.new)) (λ a. IsRightOutcome log.new.formula.now budget (told_in L.LogSink log.new) a)) }
+    ensures goes_on { IfOk result (λ o. MatchOption o (SearchGoesOn log.new.formula.now budget (told_in L.Sink log.new) state.new (P.state engine.new)) (λ a. IsRightOutcome log.new.formula.now budget (told_in L.Sink log.new) a)) }
     ensures one_more { IfOk result (λ o. MatchOption o (state.new.conflicts ≡ state.old.conflicts + 1) (λ _. Unit {0})) }
-    ensures settled { SettledWithRecovered log.new.formula.now → state.old.trail.level ≡ 0 → IfOk result (λ o. MatchOption o ⊥ (λ a. IsSettledBy log.new.formula.now (state.old.conflicts + 1) (told_in L.LogSink log.new) a)) }
+    ensures settled { SettledWithRecovered log.new.formula.now → state.old.trail.level ≡ 0 → IfOk result (λ o. MatchOption o ⊥ (λ a. IsSettledBy log.new.formula.now (state.old.conflicts + 1) (told_in L.Sink log.new) a)) }
     ensures clear { OnOk result (AreClear marks.new) }
-    ensures log { GoesOn L.LogSink log.old (fault_in result) log.new }
+    ensures log { GoesOn L.Sink log.old (fault_in result) log.new }
 {
     let found = search_on(log, state, engine)?;
     conclude(log, state, engine, marks, budget, found)
 }
 
 /// Searches up to the budget.
-fn search<P: ParityEngine, L: LogSink>(
+fn search<P: ParityEngine, L: Sink<Item = LogEvent>>(
     log: &mut SearchLog<L>,
     state: &mut SearchState,
     engine: &mut P,
     budget: u64,
 ) -> Result<Outcome, CoreFault>
-    requires goes_on { SearchGoesOn log.old.formula.now budget (told_in L.LogSink log.old) state.old (P.state engine.old) }
+    requires goes_on { SearchGoesOn log.old.formula.now budget (told_in L.Sink log.old) state.old (P.state engine.old) }
     requires few { budget ≤ 10 ^ 18 }
     requires level { state.old.trail.level ≡ 0 }
     requires none { state.old.conflicts ≡ 0 }
-    ensures answers { IfOk result (λ a. IsRightOutcome log.new.formula.now budget (told_in L.LogSink log.new) a) }
-    ensures settled { SettledWithRecovered log.new.formula.now → IfOk result (λ a. IsSettledBy log.new.formula.now 1 (told_in L.LogSink log.new) a) }
-    ensures log { GoesOn L.LogSink log.old (fault_in result) log.new }
+    ensures answers { IfOk result (λ a. IsRightOutcome log.new.formula.now budget (told_in L.Sink log.new) a) }
+    ensures settled { SettledWithRecovered log.new.formula.now → IfOk result (λ a. IsSettledBy log.new.formula.now 1 (told_in L.Sink log.new) a) }
+    ensures log { GoesOn L.Sink log.old (fault_in result) log.new }
 {
     let mut schedule = Schedule::new();
     let mut marks = Marks::new(log.alloc);
@@ -187,7 +187,7 @@ fn search<P: ParityEngine, L: LogSink>(
 /// parities, no conflict is counted and the answer is never unknown.
 ///
 /// It gives up for want of memory, or where the sink failed to write; the log is right as far as it goes.
-pub fn solve_core<P: ParityEngine + Drop, L: LogSink>(
+pub fn solve_core<P: ParityEngine + Drop, L: Sink<Item = LogEvent>>(
     alloc: Global,
     formula: &Formula,
     budget: u64,
@@ -195,13 +195,13 @@ pub fn solve_core<P: ParityEngine + Drop, L: LogSink>(
 ) -> Result<Outcome, CoreFault>
     requires budget { (1 ≤ budget) × (budget ≤ 10 ^ 18) }
     requires few { length formula.now.constraints ≤ 4294967295 }
-    requires fresh { IsFresh (L.events sink.old) }
-    ensures answers { IfOk result (λ a. IsRightOutcome formula.now budget (L.events sink.new) a) }
+    requires fresh { IsFresh (L.items sink.old) }
+    ensures answers { IfOk result (λ a. IsRightOutcome formula.now budget (L.items sink.new) a) }
     ensures settled { Settled formula.now → IfOk result (λ a. (conflicts : ℕ) → a ≢ outcome.Unknown conflicts) }
     ensures settled_with_recovered { SettledWithRecovered formula.now → IfOk result (λ a. (conflicts : ℕ) → a ≢ outcome.Unknown conflicts) }
-    ensures unmarked { SettledWithRecovered formula.now → OnOk result (HasNoMark (L.events sink.new)) }
-    ensures ids { HaveLowIds (L.events sink.new) }
-    ensures gave_up { IfErr result (λ e. GivesUp formula.now (L.torn sink.new) (L.events sink.new) e) }
+    ensures unmarked { SettledWithRecovered formula.now → OnOk result (HasNoMark (L.items sink.new)) }
+    ensures ids { HaveLowIds (L.items sink.new) }
+    ensures gave_up { IfErr result (λ e. GivesUp formula.now (L.torn sink.new) (L.items sink.new) e) }
     ensures write { IfErr result (λ e. e ≡ Write → Rose (L.faults sink.old) (L.faults sink.new)) }
     ensures frame { L.keeps sink.old sink.new }
 {

@@ -1,14 +1,14 @@
 -- What a sink was told, event by event.
 use Rattle.std.proofs.Common.{◌≡◌, refl, sym, ap, ◌∙◌, subst, ℕ, zero, suc, ◌<◌, List, [], ◌∷◌, ◌++◌, length, take, get_or, Option, Some, None, Result, Ok, Err, arith, append_assoc, append-nil}
 use Rattle.std.proofs.lemmas.List.{length-map, take-map, get_or-map}
-use Rattle.cx_semantics.specs.declared.steps.LogStep.{LogStep}
-use Rattle.cx_semantics.specs.declared.steps.LogEvent.{LogEvent}
-use Rattle.cx_semantics.specs.declared.steps.LogEvent.TheVariants.{Step, Conflict}
+use Rattle.cx_base.specs.declared.steps.LogStep.{LogStep}
+use Rattle.cx_base.specs.declared.steps.LogEvent.{LogEvent}
+use Rattle.cx_base.specs.declared.steps.LogEvent.TheVariants.{Step, Conflict}
 use Rattle.conflict_learn.specs.declared.fault.CoreFault.{CoreFault}
 use Rattle.conflict_learn.specs.declared.fault.CoreFault.TheVariants.{Memory, Write}
-use Rattle.proof_text.specs.declared.sink.SinkFault.{SinkFault}
-use Rattle.proof_text.specs.declared.sink.SinkFault.TheVariants as sink
-use Rattle.proof_text.specs.Sinks.{SinkFaultsAs, OnFailed}
+use Rattle.step_text.specs.declared.sink.SinkFault.{SinkFault}
+use Rattle.step_text.specs.declared.sink.SinkFault.TheVariants as sink
+use Rattle.step_text.specs.Sinks.{SinkFaultsAs, OnFailed}
 use Rattle.cdcl_search.specs.Tells.{TellsAll, FaultsAs, as_events, with_events, fault_as}
 
 pub no_more : (told : Option (List LogEvent)) → with_events [] told ≡ told

@@ -6,7 +6,7 @@ use Rattle.std.proofs.Math.Seq.{get_or-append_seam}
 use Rattle.cx_base.specs.Literals.{Literal, literal_true, value_of, differ}
 use Rattle.cx_base.specs.Problem.{Problem, Meets, IsWithinVariables}
 use Rattle.cx_semantics.specs.Chain.{has_literal}
-use Rattle.cx_semantics.specs.declared.steps.LogEvent.{LogEvent}
+use Rattle.cx_base.specs.declared.steps.LogEvent.{LogEvent}
 use Rattle.cx_semantics.specs.Settled.{Decides}
 use Rattle.cx_semantics.proofs.Members.{all_by}
 use Rattle.cx_trail.specs.Sequence.{TrailState, IsTrail, IsFull, IsTrueIn, entry_at}

@@ -2,7 +2,7 @@
 use Rattle.std.proofs.Common.{◌≡◌, ℤ, List}
 use Rattle.cx_base.specs.Literals.{Literal}
 use Rattle.cx_base.specs.Numbers.{AreStepIntegers}
-use Rattle.cx_semantics.specs.Integers.{integers_of, literals}
+use Rattle.cx_base.specs.Integers.{integers_of, literals}
 
 -- what a loop has made of the first literals
 pub record AreMade (done : List Literal) (made : List ℤ) : Type 0 where

@@ -6,18 +6,18 @@ use Rattle.std.proofs.lemmas.List.Elements.{filter_map-append}
 use Rattle.std.specs.List.{AllByRecursion}
 use Rattle.cx_base.specs.Problem.{Problem}
 use Rattle.cx_base.proofs.Elements.{all_append}
-use Rattle.cx_semantics.specs.declared.steps.LogStep.{LogStep}
+use Rattle.cx_base.specs.declared.steps.LogStep.{LogStep}
 use Rattle.cx_semantics.specs.Ids.{HasLowId}
-use Rattle.cx_semantics.specs.declared.steps.LogEvent.{LogEvent}
-use Rattle.cx_semantics.specs.declared.steps.LogEvent.TheVariants.{Conflict}
+use Rattle.cx_base.specs.declared.steps.LogEvent.{LogEvent}
+use Rattle.cx_base.specs.declared.steps.LogEvent.TheVariants.{Conflict}
 use Rattle.cx_semantics.specs.Judging.{Calculus, Runs, IsOpen, AcceptedAt}
 use Rattle.cx_semantics.specs.LogRules.{log_calculus}
-use Rattle.cx_semantics.specs.LogText.{steps_of, step_of}
+use Rattle.cx_base.specs.Events.{steps_of, step_of}
 use Rattle.cx_semantics.specs.Tables.{Tables}
 use Rattle.conflict_learn.specs.declared.fault.CoreFault.{CoreFault}
 use Rattle.conflict_learn.specs.declared.fault.CoreFault.TheVariants.{Memory, Write}
 use Rattle.conflict_learn.specs.Faults.{fault_in}
-use Rattle.log_text.specs.declared.sink.LogSink as sink
+use Rattle.step_text.specs.declared.sink.Sink as sink
 use Rattle.cdcl_search.specs.declared.logs.SearchLog.{SearchLog}
 use Rattle.cdcl_search.specs.Logs.{GoesOn, IsRightBehind, CountsAs}
 use Rattle.cdcl_search.specs.Tells.{TellsAll, FaultsAs, IsLeft, IsTellable, HaveLowIds, as_events, with_events}
@@ -95,13 +95,13 @@ tellable_are_low [] a = tt
 tellable_are_low (s ∷ steps) a = (a.0.1, tellable_are_low steps a.1)
 
 -- a log goes on by a telling of events behind which it is right
-pub goes_on_by : {L T : Type 0} (m : sink.Ghosts L) (old new : SearchLog L) (events : List LogEvent) (r : Result T CoreFault) → TellsAll (m.torn new.sink.now) events (m.events old.sink.now) r (m.events new.sink.now)
+pub goes_on_by : {L T : Type 0} (m : sink.Ghosts L LogEvent) (old new : SearchLog L) (events : List LogEvent) (r : Result T CoreFault) → TellsAll (m.torn new.sink.now) events (m.items old.sink.now) r (m.items new.sink.now)
     → FaultsAs r (m.faults old.sink.now) (m.faults new.sink.now) → m.keeps old.sink.now new.sink.now → IsRightBehind m old events → AllByRecursion HasLowId events → new.formula.now ≡ old.formula.now → new.sink.ghost_name ≡ old.sink.ghost_name → GoesOn m old (fault_in r) new
 goes_on_by m old new events r tells counts keeps right low formula name = record {
-  right = λ _. subst (λ f. IsLeft f (m.events new.sink.now)) (sym formula) (stays_right old.formula.now (m.torn new.sink.now) events (m.events old.sink.now) r (m.events new.sink.now) tells right);
-  ids = stay_low (m.torn new.sink.now) events (m.events old.sink.now) r (m.events new.sink.now) tells low;
+  right = λ _. subst (λ f. IsLeft f (m.items new.sink.now)) (sym formula) (stays_right old.formula.now (m.torn new.sink.now) events (m.items old.sink.now) r (m.items new.sink.now) tells right);
+  ids = stay_low (m.torn new.sink.now) events (m.items old.sink.now) r (m.items new.sink.now) tells low;
   counts = counts_as r (m.faults old.sink.now) (m.faults new.sink.now) counts;
-  tears = is_torn (m.torn new.sink.now) events (m.events old.sink.now) r (m.events new.sink.now) tells;
+  tears = is_torn (m.torn new.sink.now) events (m.items old.sink.now) r (m.items new.sink.now) tells;
   formula = formula;
   sink = name;
   frame = keeps;

@@ -10,7 +10,7 @@ use Rattle.cx_base.specs.Literals.{Literal, negate, literal_true, same_literal}
 use Rattle.cx_base.specs.Parity.{NormalForm, normal_form}
 use Rattle.cx_base.specs.Problem.{Problem, parity_met, clause_met, AreWithin}
 use Rattle.cx_semantics.specs.Chain.{has_literal, negations}
-use Rattle.cx_semantics.specs.declared.steps.LogEvent.{LogEvent}
+use Rattle.cx_base.specs.declared.steps.LogEvent.{LogEvent}
 use Rattle.cx_semantics.proofs.ChainLaws.{literal_true-negate, same_literal-itself}
 use Rattle.cx_semantics.proofs.Members.{has_at_head, has_behind, has_split, all_by}
 use Rattle.cx_trail.specs.declared.entry.Entry.{Entry as TrailEntry}

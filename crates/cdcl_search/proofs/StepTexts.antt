@@ -3,13 +3,13 @@ use Rattle.std.proofs.Common.{◌≡◌, sym, subst, ◌≤◌, ◌<◌, ℕ, �
 use Rattle.std.specs.List.{AllByRecursion}
 use Rattle.cx_base.specs.Numbers.{AreStepIntegers}
 use Rattle.cx_base.proofs.Elements.{all_append, integers_are_proper}
-use Rattle.cx_semantics.specs.declared.steps.LogStep.{LogStep}
-use Rattle.cx_semantics.specs.declared.steps.LogStep.TheVariants as step
-use Rattle.cx_semantics.specs.declared.steps.LogEvent.TheVariants.{Step}
-use Rattle.cx_semantics.specs.Grammar.{Field, spelled, spelled_list, IsProper}
-use Rattle.cx_semantics.specs.LogText.{log_fields}
-use Rattle.cx_semantics.specs.Printed.{HasText}
-use Rattle.cx_semantics.specs.Words.{Word, number, IsWithin}
+use Rattle.cx_base.specs.declared.steps.LogStep.{LogStep}
+use Rattle.cx_base.specs.declared.steps.LogStep.TheVariants as step
+use Rattle.cx_base.specs.declared.steps.LogEvent.TheVariants.{Step}
+use Rattle.cx_texts.specs.Grammar.{Field, spelled, spelled_list, IsProper}
+use Rattle.cx_texts.specs.LogText.{log_fields}
+use Rattle.cx_texts.specs.Printed.{HasText}
+use Rattle.cx_texts.specs.Words.{Word, number, IsWithin}
 use Rattle.cdcl_search.specs.Tells.{IsId, IsTellable}
 
 abbrev AreWords : List Word → Type 0

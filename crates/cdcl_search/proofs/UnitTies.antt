@@ -11,11 +11,11 @@ use Rattle.std.specs.Global.{Vec}
 use Rattle.cx_base.specs.Literals.{Literal}
 use Rattle.cx_base.specs.Problem.{Problem, AreWithin}
 use Rattle.cx_base.proofs.Elements.{same_head, same_tail}
-use Rattle.cx_semantics.specs.declared.steps.LogStep.TheVariants.{ClauseWithHints}
-use Rattle.cx_semantics.specs.declared.steps.LogEvent.TheVariants.{Step}
+use Rattle.cx_base.specs.declared.steps.LogStep.TheVariants.{ClauseWithHints}
+use Rattle.cx_base.specs.declared.steps.LogEvent.TheVariants.{Step}
 use Rattle.cx_semantics.specs.Chain.{has_literal, same_literals}
 use Rattle.cx_semantics.specs.Fresh.{IsLive}
-use Rattle.cx_semantics.specs.Integers.{integer_of, literal, literals, integers_of}
+use Rattle.cx_base.specs.Integers.{integer_of, literal, literals, integers_of}
 use Rattle.cx_semantics.specs.Tables.{Table, get}
 use Rattle.cx_semantics.proofs.Members.{has_at_head}
 use Rattle.cx_trail.specs.declared.entry.Entry.{Entry as TrailEntry}

@@ -1,11 +1,11 @@
 -- What calls leave of the log of a search.
 use Rattle.std.specs.Prelude.{◌≡◌, ℕ, List, Option, None, Some}
 use Rattle.cx_base.specs.Counts.{Rose}
-use Rattle.cx_semantics.specs.declared.steps.LogEvent.{LogEvent}
+use Rattle.cx_base.specs.declared.steps.LogEvent.{LogEvent}
 use Rattle.conflict_learn.specs.declared.fault.CoreFault.{CoreFault}
 use Rattle.conflict_learn.specs.declared.fault.CoreFault.TheVariants.{Memory, Write}
 use Rattle.cx_base.specs.Literals.{Literal}
-use Rattle.log_text.specs.declared.sink.LogSink as sink
+use Rattle.step_text.specs.declared.sink.Sink as sink
 use Rattle.parity_engine.specs.declared.engine.ParityEngine as engine
 use Rattle.cdcl_search.specs.declared.state.SearchState.{SearchState}
 use Rattle.cdcl_search.specs.Ties.{SearchStands}
@@ -19,9 +19,9 @@ CountsAs (Some Memory) before now = now ≡ before
 CountsAs (Some Write) before now = Rose before now
 
 -- Calls up to an answer, or up to this fault. A log that was right so far is right so far, and ids stay low. A write fault is counted and tears an event; else none is counted. The formula and the sink are the same, and what the sink keeps is kept.
-pub record GoesOn {L : Type 0} (m : sink.Ghosts L) (old : SearchLog L) (why : Option CoreFault) (new : SearchLog L) : Type 0 where
-  pub right : IsLeft old.formula.now (m.events old.sink.now) → IsLeft new.formula.now (m.events new.sink.now)
-  pub ids : HaveLowIds (m.events old.sink.now) → HaveLowIds (m.events new.sink.now)
+pub record GoesOn {L : Type 0} (m : sink.Ghosts L LogEvent) (old : SearchLog L) (why : Option CoreFault) (new : SearchLog L) : Type 0 where
+  pub right : IsLeft old.formula.now (m.items old.sink.now) → IsLeft new.formula.now (m.items new.sink.now)
+  pub ids : HaveLowIds (m.items old.sink.now) → HaveLowIds (m.items new.sink.now)
   pub counts : CountsAs why (m.faults old.sink.now) (m.faults new.sink.now)
   pub tears : why ≡ Some Write → (event : LogEvent) × m.torn new.sink.now event
   pub formula : new.formula.now ≡ old.formula.now
@@ -29,17 +29,17 @@ pub record GoesOn {L : Type 0} (m : sink.Ghosts L) (old : SearchLog L) (why : Op
   pub frame : m.keeps old.sink.now new.sink.now
 
 -- the events that the sink was told, where it tells them
-abbrev pub told_in : {L : Type 0} → sink.Ghosts L → SearchLog L → Option (List LogEvent)
-told_in m log = m.events log.sink.now
+abbrev pub told_in : {L : Type 0} → sink.Ghosts L LogEvent → SearchLog L → Option (List LogEvent)
+told_in m log = m.items log.sink.now
 
 -- these events may be told next: the log is right behind them
-abbrev pub IsRightBehind : {L : Type 0} → sink.Ghosts L → SearchLog L → List LogEvent → Type 0
-IsRightBehind m log more = IsLeft log.formula.now (with_events more (m.events log.sink.now))
+abbrev pub IsRightBehind : {L : Type 0} → sink.Ghosts L LogEvent → SearchLog L → List LogEvent → Type 0
+IsRightBehind m log more = IsLeft log.formula.now (with_events more (m.items log.sink.now))
 
 -- these events were told
-abbrev pub AreToldNow : {L : Type 0} → sink.Ghosts L → SearchLog L → List LogEvent → SearchLog L → Type 0
-AreToldNow m old more new = m.events new.sink.now ≡ with_events more (m.events old.sink.now)
+abbrev pub AreToldNow : {L : Type 0} → sink.Ghosts L LogEvent → SearchLog L → List LogEvent → SearchLog L → Type 0
+AreToldNow m old more new = m.items new.sink.now ≡ with_events more (m.items old.sink.now)
 
 -- the search stands behind what the code holds and what the log was told; of rows these clauses were told since the last mark
-abbrev pub Stands : {P L : Type 0} → engine.Ghosts P → sink.Ghosts L → SearchLog L → SearchState → P → List (List Literal) → Type 0
-Stands p m log c e rows = SearchStands log.formula.now c (p.state e) rows (m.events log.sink.now)
+abbrev pub Stands : {P L : Type 0} → engine.Ghosts P → sink.Ghosts L LogEvent → SearchLog L → SearchState → P → List (List Literal) → Type 0
+Stands p m log c e rows = SearchStands log.formula.now c (p.state e) rows (m.items log.sink.now)

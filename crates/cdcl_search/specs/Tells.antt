@@ -2,19 +2,19 @@
 use Rattle.std.specs.Prelude.{◌≡◌, ◌⊎◌, ℕ, ◌<◌, ◌≤◌, List, ◌++◌, length, take, map, get_or, Option, Some, None, option_map, Result, Ok, Err}
 use Rattle.std.specs.List.{AllByRecursion}
 use Rattle.cx_base.specs.Problem.{Problem}
-use Rattle.cx_semantics.specs.declared.steps.LogEvent.{LogEvent}
-use Rattle.cx_semantics.specs.declared.steps.LogEvent.TheVariants.{Step, Conflict}
-use Rattle.cx_semantics.specs.declared.steps.LogStep.{LogStep}
+use Rattle.cx_base.specs.declared.steps.LogEvent.{LogEvent}
+use Rattle.cx_base.specs.declared.steps.LogEvent.TheVariants.{Step, Conflict}
+use Rattle.cx_base.specs.declared.steps.LogStep.{LogStep}
 use Rattle.cx_semantics.specs.Ids.{HasLowId, highest_id}
 use Rattle.cx_semantics.specs.Judging.{IsOpen}
-use Rattle.cx_semantics.specs.Printed.{HasText}
+use Rattle.cx_texts.specs.Printed.{HasText}
 use Rattle.cx_semantics.specs.LogRules.{log_calculus}
-use Rattle.cx_semantics.specs.LogText.{steps_of}
+use Rattle.cx_base.specs.Events.{steps_of}
 use Rattle.conflict_learn.specs.declared.fault.CoreFault.{CoreFault}
 use Rattle.conflict_learn.specs.declared.fault.CoreFault.TheVariants.{Memory, Write}
 use Rattle.cx_base.specs.Counts.{Rose}
-use Rattle.proof_text.specs.declared.sink.SinkFault.{SinkFault}
-use Rattle.proof_text.specs.declared.sink.SinkFault.TheVariants as sink
+use Rattle.step_text.specs.declared.sink.SinkFault.{SinkFault}
+use Rattle.step_text.specs.declared.sink.SinkFault.TheVariants as sink
 use Rattle.search_steps.specs.LogSteps.{IsEnded}
 
 abbrev pub as_events : List LogStep → List LogEvent

@@ -2,9 +2,9 @@
 ghost use Rattle.std.specs.Prelude.{◌≡◌, ◌≤◌, [], ◌∷◌, ◌++◌, pos, OnOk, IfOk, IfSome};
 ghost use Rattle.std.specs.List.{All, Contains};
 ghost use Rattle.cx_base.specs.Numbers.{AreStepIntegers};
-ghost use Rattle.cx_semantics.specs.Integers.{integers_of};
-ghost use Rattle.cx_semantics.specs.declared.steps.LogEvent.TheVariants.{Step};
-ghost use Rattle.cx_semantics.specs.declared.steps.LogStep.TheVariants as step;
+ghost use Rattle.cx_base.specs.Integers.{integers_of};
+ghost use Rattle.cx_base.specs.declared.steps.LogEvent.TheVariants.{Step};
+ghost use Rattle.cx_base.specs.declared.steps.LogStep.TheVariants as step;
 ghost use Rattle.conflict_learn.specs.Faults.{fault_in};
 ghost use Rattle.cdcl_search.specs.Logs.{GoesOn, IsRightBehind, AreToldNow};
 ghost use Rattle.cdcl_search.specs.Tells.{IsId};
@@ -16,10 +16,10 @@ use crate::state::SearchState;
 use crate::steps::chained;
 use crate::telling::tell_step;
 use conflict_learn::CoreFault;
-use cx_base::{IntList, Lit};
+use cx_base::{IntList, Lit, LogEvent};
 use cx_trail::Truth;
-use log_text::LogSink;
 use std::alloc::{AllocError, Global};
+use step_text::Sink;
 
 /// Puts an id behind the hints of a step. One that no step can have counts as want of memory.
 pub fn push_hint(hints: &mut Vec<i64>, id: u64) -> Result<(), AllocError>
@@ -66,18 +66,18 @@ pub fn hints_of(
 }
 
 /// Tells a clause that a chain of clauses with these ids shows.
-pub fn tell_chained<L: LogSink>(
+pub fn tell_chained<L: Sink<Item = LogEvent>>(
     log: &mut SearchLog<L>,
     id: u64,
     lits: &[Lit],
     hints: IntList,
 ) -> Result<(), CoreFault>
     requires id { IsId id }
-    requires right { IsRightBehind L.LogSink log.old (Step (step.ClauseWithHints id (integers_of lits.now) hints) ∷ []) }
-    ensures told { OnOk result (AreToldNow L.LogSink log.old (Step (step.ClauseWithHints id (integers_of lits.now) hints) ∷ []) log.new) }
-    ensures log { GoesOn L.LogSink log.old (fault_in result) log.new }
+    requires right { IsRightBehind L.Sink log.old (Step (step.ClauseWithHints id (integers_of lits.now) hints) ∷ []) }
+    ensures told { OnOk result (AreToldNow L.Sink log.old (Step (step.ClauseWithHints id (integers_of lits.now) hints) ∷ []) log.new) }
+    ensures log { GoesOn L.Sink log.old (fault_in result) log.new }
 {
     let zs = integers(log.alloc, lits)?;
     let step = chained(id, zs, hints);
-    tell_step(log, &step)
+    tell_step(log, step)
 }

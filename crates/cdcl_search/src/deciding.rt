@@ -1,6 +1,6 @@
 //! Decisions.
 ghost use Rattle.std.specs.Prelude.{◌≡◌, ◌≢◌, ◌+◌, [], List, Option, length, IsTrue, IsFalse};
-ghost use Rattle.cx_semantics.specs.declared.steps.LogEvent.{LogEvent};
+ghost use Rattle.cx_base.specs.declared.steps.LogEvent.{LogEvent};
 ghost use Rattle.search_steps.specs.Recovering.{SettledWithRecovered};
 ghost use Rattle.cx_trail.specs.Sequence.{IsFull};
 ghost use Rattle.parity_engine.specs.declared.state.Mood.TheVariants.{Broken};

@@ -13,11 +13,10 @@ use crate::state::SearchState;
 use crate::steps::deletion;
 use crate::telling::tell_steps;
 use conflict_learn::CoreFault;
-use cx_base::LitList;
-use cx_semantics::LogStep;
-use log_text::LogSink;
+use cx_base::{LitList, LogEvent, LogStep};
 use parity_engine::ParityEngine;
 use std::alloc::{AllocError, Global};
+use step_text::Sink;
 
 /// Puts the deletions of so many clauses of rows behind these steps, the newest first.
 pub fn put_deletions(
@@ -51,16 +50,16 @@ fn deletions_of_rows(alloc: Global, count: usize) -> Result<Vec<LogStep>, AllocE
 }
 
 /// Deletes the clauses of rows that were told since the last mark.
-pub(crate) fn delete_rows<P: ParityEngine, L: LogSink>(
+pub(crate) fn delete_rows<P: ParityEngine, L: Sink<Item = LogEvent>>(
     log: &mut SearchLog<L>,
     state: &SearchState,
     engine: &P,
     rows: &[LitList],
 ) -> Result<(), CoreFault>
-    requires { Stands P.ParityEngine L.LogSink log.old state.now engine.now rows.now }
-    ensures stands { OnOk result (Stands P.ParityEngine L.LogSink log.new state.now engine.now []) }
-    ensures log { GoesOn L.LogSink log.old (fault_in result) log.new }
+    requires { Stands P.ParityEngine L.Sink log.old state.now engine.now rows.now }
+    ensures stands { OnOk result (Stands P.ParityEngine L.Sink log.new state.now engine.now []) }
+    ensures log { GoesOn L.Sink log.old (fault_in result) log.new }
 {
     let steps = deletions_of_rows(log.alloc, rows.len())?;
-    tell_steps(log, &steps)
+    tell_steps(log, steps)
 }

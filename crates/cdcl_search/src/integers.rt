@@ -1,6 +1,6 @@
 //! Literals as the integers of a step.
 ghost use Rattle.std.specs.Prelude.{◌≡◌, ◌≢◌, ◌≤◌, IfOk, pos, nat_abs};
-ghost use Rattle.cx_semantics.specs.Integers.{integer_of, integers_of, literal, literals};
+ghost use Rattle.cx_base.specs.Integers.{integer_of, integers_of, literal, literals};
 
 use cx_base::{IntList, Lit};
 use std::alloc::{AllocError, Global};

@@ -1,7 +1,7 @@
 //! The values of a full trail.
 ghost use Rattle.std.specs.Prelude.{◌+◌, ◌≤◌, not, [], List, Option, IfOk};
 ghost use Rattle.cx_base.specs.Problem.{Meets};
-ghost use Rattle.cx_semantics.specs.declared.steps.LogEvent.{LogEvent};
+ghost use Rattle.cx_base.specs.declared.steps.LogEvent.{LogEvent};
 ghost use Rattle.cx_trail.specs.Sequence.{IsFull, IsTrueIn, IsAssignedIn};
 ghost use Rattle.cdcl_search.specs.Ties.{SearchStands};
 ghost use Rattle.cdcl_search.specs.Finds.{PropagationFinds};

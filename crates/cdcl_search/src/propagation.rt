@@ -1,7 +1,7 @@
 //! What the clauses and the parities force.
 ghost use Rattle.std.specs.Prelude.{◌≡◌, ◌≢◌, ◌≤◌, [], List, Option, length};
 ghost use Rattle.cx_base.specs.Problem.{Problem};
-ghost use Rattle.cx_semantics.specs.declared.steps.LogEvent.{LogEvent};
+ghost use Rattle.cx_base.specs.declared.steps.LogEvent.{LogEvent};
 ghost use Rattle.watch_lists.specs.Watching.{Fits};
 ghost use Rattle.watch_lists.specs.Events.{Happens};
 ghost use Rattle.parity_engine.specs.State.{State};

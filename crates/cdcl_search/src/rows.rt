@@ -1,8 +1,8 @@
 //! Rows as the log tells them.
 ghost use Rattle.std.specs.Prelude.{◌≡◌, ◌≢◌, ℕ, ◌+◌, ◌<◌, ◌≤◌, [], ◌∷◌, ◌++◌, length, IfOk, OnOk, OnErr};
 ghost use Rattle.std.specs.List.{AllByRecursion};
-ghost use Rattle.cx_semantics.specs.Integers.{integers_of, literals};
-ghost use Rattle.cx_semantics.specs.declared.steps.LogStep.TheVariants as step;
+ghost use Rattle.cx_base.specs.Integers.{integers_of, literals};
+ghost use Rattle.cx_base.specs.declared.steps.LogStep.TheVariants as step;
 ghost use Rattle.conflict_learn.specs.Faults.{fault_in};
 ghost use Rattle.conflict_learn.specs.Learning.{IsAntecedent};
 ghost use Rattle.parity_engine.specs.Written.{AreRising};
@@ -18,11 +18,10 @@ use crate::state::SearchState;
 use crate::steps::{clause_of_sum, deletion_of_sum, sum};
 use crate::telling::tell_steps;
 use conflict_learn::CoreFault;
-use cx_base::{Formula, IdList, Lit, LitList, Row};
-use cx_semantics::LogStep;
-use log_text::LogSink;
+use cx_base::{Formula, IdList, Lit, LitList, LogEvent, LogStep, Row};
 use parity_engine::ParityEngine;
 use std::alloc::{AllocError, Global};
+use step_text::Sink;
 use xor_reason::{ReasonOf, reason_clause};
 
 /// The first id of the clauses that rows give: all others are below.
@@ -160,30 +159,30 @@ fn prepare_next(
 /// Tells the clause of a row, which has a literal, and puts it behind those that were told.
 ///
 /// `engine` is the engine that named the row.
-pub fn tell_reason<P: ParityEngine, L: LogSink>(
+pub fn tell_reason<P: ParityEngine, L: Sink<Item = LogEvent>>(
     log: &mut SearchLog<L>,
     state: &SearchState,
     engine: &P,
     reason: ReasonOf,
     rows: &mut Vec<LitList>,
 ) -> Result<LitList, CoreFault>
-    requires stands { Stands P.ParityEngine L.LogSink log.old state.now engine.now rows.old.items }
+    requires stands { Stands P.ParityEngine L.Sink log.old state.now engine.now rows.old.items }
     requires explains { Explains (P.state engine.now).parities state.now.trail reason }
     requires some { reason.clause ≢ [] }
     ensures clause { IfOk result (λ c. c ≡ reason.clause) }
     ensures same { OnErr result (rows.new.items ≡ rows.old.items) }
     ensures rows { OnOk result (rows.new.items ≡ rows.old.items ++ reason.clause ∷ []) }
-    ensures stands { OnOk result (Stands P.ParityEngine L.LogSink log.new state.now engine.now (rows.old.items ++ reason.clause ∷ [])) }
-    ensures log { GoesOn L.LogSink log.old (fault_in result) log.new }
+    ensures stands { OnOk result (Stands P.ParityEngine L.Sink log.new state.now engine.now (rows.old.items ++ reason.clause ∷ [])) }
+    ensures log { GoesOn L.Sink log.old (fault_in result) log.new }
 {
     let prepared = prepare_next(log.alloc, log.formula, rows, reason)?;
-    tell_steps(log, &prepared.steps)?;
+    tell_steps(log, prepared.steps)?;
     rows.push(prepared.copy)?;
     Ok(prepared.clause)
 }
 
 /// Tells the clause of a row that implied a literal of the trail.
-pub(crate) fn tell_row<P: ParityEngine, L: LogSink>(
+pub(crate) fn tell_row<P: ParityEngine, L: Sink<Item = LogEvent>>(
     log: &mut SearchLog<L>,
     state: &SearchState,
     engine: &P,
@@ -191,13 +190,13 @@ pub(crate) fn tell_row<P: ParityEngine, L: LogSink>(
     implied: Lit,
     rows: &mut Vec<LitList>,
 ) -> Result<LitList, CoreFault>
-    requires stands { Stands P.ParityEngine L.LogSink log.old state.now engine.now rows.old.items }
+    requires stands { Stands P.ParityEngine L.Sink log.old state.now engine.now rows.old.items }
     requires reason { IsReasonOf (P.state engine.now) state.now.trail.entries implied row }
     ensures implied { IfOk result (IsAntecedent state.now.trail implied) }
     ensures same { OnErr result (rows.new.items ≡ rows.old.items) }
     ensures rows { IfOk result (λ c. rows.new.items ≡ rows.old.items ++ c ∷ []) }
-    ensures stands { OnOk result (Stands P.ParityEngine L.LogSink log.new state.now engine.now rows.new.items) }
-    ensures log { GoesOn L.LogSink log.old (fault_in result) log.new }
+    ensures stands { OnOk result (Stands P.ParityEngine L.Sink log.new state.now engine.now rows.new.items) }
+    ensures log { GoesOn L.Sink log.old (fault_in result) log.new }
 {
     let reason = reason_clause(log.alloc, engine, row, Some(implied), &state.trail)?;
     tell_reason(log, state, engine, reason, rows)

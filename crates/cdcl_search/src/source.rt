@@ -18,11 +18,11 @@ use crate::logs::SearchLog;
 use crate::rows::{FIRST_ROW_ID, copy_of, tell_row};
 use crate::state::SearchState;
 use conflict_learn::{Antecedents, CoreFault};
-use cx_base::{ClauseRef, Lit, LitList, Row};
+use cx_base::{ClauseRef, Lit, LitList, LogEvent, Row};
 use cx_trail::Reason;
-use log_text::LogSink;
 use parity_engine::ParityEngine;
 use std::alloc::{AllocError, Global};
+use step_text::Sink;
 
 /// A clause with its id in the log.
 #[derive(Drop)]
@@ -135,7 +135,7 @@ pub fn silent_id(state: &SearchState, literal: Lit) -> Option<u64>
 }
 
 /// The clause of a row, which is told.
-fn hinted_row<P: ParityEngine, L: LogSink>(
+fn hinted_row<P: ParityEngine, L: Sink<Item = LogEvent>>(
     log: &mut SearchLog<L>,
     state: &SearchState,
     engine: &P,
@@ -143,13 +143,13 @@ fn hinted_row<P: ParityEngine, L: LogSink>(
     literal: Lit,
     rows: &mut Vec<LitList>,
 ) -> Result<Hinted, CoreFault>
-    requires stands { Stands P.ParityEngine L.LogSink log.old state.now engine.now rows.old.items }
+    requires stands { Stands P.ParityEngine L.Sink log.old state.now engine.now rows.old.items }
     requires reason { IsReasonOf (P.state engine.now) state.now.trail.entries literal row }
     ensures implied { IfOk result (λ h. IsAntecedent state.now.trail literal h.lits) }
     ensures same { OnErr result (rows.new.items ≡ rows.old.items) }
     ensures rows { IfOk result (λ h. rows.new.items ≡ rows.old.items ++ h.lits ∷ []) }
-    ensures stands { OnOk result (Stands P.ParityEngine L.LogSink log.new state.now engine.now rows.new.items) }
-    ensures log { GoesOn L.LogSink log.old (fault_in result) log.new }
+    ensures stands { OnOk result (Stands P.ParityEngine L.Sink log.new state.now engine.now rows.new.items) }
+    ensures log { GoesOn L.Sink log.old (fault_in result) log.new }
 {
     let id = FIRST_ROW_ID.saturating_add(rows.len() as u64);
     match tell_row(log, state, engine, row, literal, rows) {
@@ -159,7 +159,7 @@ fn hinted_row<P: ParityEngine, L: LogSink>(
 }
 
 /// The clause that implied a literal of the trail. A row's is told.
-pub(crate) fn clause_of_reason<P: ParityEngine, L: LogSink>(
+pub(crate) fn clause_of_reason<P: ParityEngine, L: Sink<Item = LogEvent>>(
     log: &mut SearchLog<L>,
     state: &SearchState,
     engine: &P,
@@ -167,13 +167,13 @@ pub(crate) fn clause_of_reason<P: ParityEngine, L: LogSink>(
     literal: Lit,
     rows: &mut Vec<LitList>,
 ) -> Result<Hinted, CoreFault>
-    requires stands { Stands P.ParityEngine L.LogSink log.old state.now engine.now rows.old.items }
+    requires stands { Stands P.ParityEngine L.Sink log.old state.now engine.now rows.old.items }
     requires reason { HasReason state.now.trail literal reason }
     ensures sourced { IfOk result (λ h. IsSourced state.now rows.new.items h.lits) }
     ensures implied { IfOk result (λ h. IsAntecedent state.now.trail literal h.lits) }
     ensures grows { (clause : List Literal) → IsSourced state.now rows.old.items clause → IsSourced state.now rows.new.items clause }
-    ensures stands { OnOk result (Stands P.ParityEngine L.LogSink log.new state.now engine.now rows.new.items) }
-    ensures log { GoesOn L.LogSink log.old (fault_in result) log.new }
+    ensures stands { OnOk result (Stands P.ParityEngine L.Sink log.new state.now engine.now rows.new.items) }
+    ensures log { GoesOn L.Sink log.old (fault_in result) log.new }
 {
     match row_of(state, reason, literal) {
         Some(row) => hinted_row(log, state, engine, row, literal, rows),
@@ -193,14 +193,14 @@ pub struct Source<'a, 'b, P, L> {
     pub rows: &'a mut Vec<LitList>,
 }
 
-impl<P: ParityEngine, L: LogSink> Antecedents for Source<'_, '_, P, L> {
+impl<P: ParityEngine, L: Sink<Item = LogEvent>> Antecedents for Source<'_, '_, P, L> {
     ghost trail = { λ a. a.state.now.trail };
 
     ghost holds = { λ a c. IsSourced a.state.now a.rows.now.items c };
 
     ghost ready = { λ a. SearchStands a.log.now.formula.now a.state.now (P.state a.engine.now) a.rows.now.items (L.events a.log.now.sink.now) };
 
-    ghost goes_on = { λ a why b. HasSameLoans a b × GoesOn L.LogSink a.log.now why b.log.now };
+    ghost goes_on = { λ a why b. HasSameLoans a b × GoesOn L.Sink a.log.now why b.log.now };
 
     ghost rests = { λ a. (loans_rest a, log_rests _ L.keeps_itself a.log.now) };
 

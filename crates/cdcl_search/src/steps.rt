@@ -3,11 +3,10 @@
 //! A call of `as_slice` whose answer is let go says to the proof what holds of each integer of a list.
 ghost use Rattle.std.specs.Prelude.{◌≡◌, []};
 ghost use Rattle.std.specs.List.{AllByRecursion};
-ghost use Rattle.cx_semantics.specs.declared.steps.LogStep.TheVariants as step;
+ghost use Rattle.cx_base.specs.declared.steps.LogStep.TheVariants as step;
 ghost use Rattle.cdcl_search.specs.Tells.{IsId, IsTellable};
 
-use cx_base::{IdList, IntList};
-use cx_semantics::LogStep;
+use cx_base::{IdList, IntList, LogStep};
 use std::alloc::Global;
 
 /// A clause of the formula.

@@ -1,15 +1,16 @@
 //! Telling the log. Nothing else of the search tells its sink anything.
 ghost use Rattle.std.specs.Prelude.{◌≡◌, [], ◌∷◌, OnOk};
 ghost use Rattle.std.specs.List.{AllByRecursion};
-ghost use Rattle.cx_semantics.specs.declared.steps.LogEvent.TheVariants.{Step, Conflict};
+ghost use Rattle.cx_base.specs.declared.steps.LogEvent.TheVariants.{Step, Conflict};
 ghost use Rattle.conflict_learn.specs.Faults.{fault_in};
 ghost use Rattle.cdcl_search.specs.Logs.{GoesOn, IsRightBehind, AreToldNow};
+ghost use Rattle.cx_texts.specs.Printed.{HasText};
 ghost use Rattle.cdcl_search.specs.Tells.{TellsAll, FaultsAs, as_events, fault_as, IsTellable};
 
 use crate::logs::SearchLog;
 use conflict_learn::CoreFault;
-use cx_semantics::LogStep;
-use log_text::{LogSink, SinkFault};
+use cx_base::{LogEvent, LogStep};
+use step_text::{Sink, SinkFault};
 
 /// The search's word for a sink's fault.
 fn fault_of(fault: SinkFault) -> CoreFault
@@ -21,28 +22,28 @@ fn fault_of(fault: SinkFault) -> CoreFault
     }
 }
 
-/// Tells one step.
-fn tell<L: LogSink>(sink: &mut L, step: &LogStep) -> Result<(), CoreFault>
-    requires text { IsTellable step.now }
-    ensures told { TellsAll (L.torn sink.new) (Step step.now ∷ []) (L.events sink.old) result (L.events sink.new) }
+/// Tells one event.
+fn tell<L: Sink<Item = LogEvent>>(sink: &mut L, event: &LogEvent) -> Result<(), CoreFault>
+    requires text { HasText event.now }
+    ensures told { TellsAll (L.torn sink.new) (event.now ∷ []) (L.items sink.old) result (L.items sink.new) }
     ensures faults { FaultsAs result (L.faults sink.old) (L.faults sink.new) }
     ensures frame { L.keeps sink.old sink.new }
 {
-    match sink.step(step) {
+    match sink.put(event) {
         Ok(()) => Ok(()),
         Err(fault) => Err(fault_of(fault)),
     }
 }
 
 /// Tells these steps, one after another, up to a fault.
-fn tell_all<L: LogSink>(sink: &mut L, steps: &[LogStep]) -> Result<(), CoreFault>
-    requires texts { AllByRecursion IsTellable steps.now }
-    ensures told { TellsAll (L.torn sink.new) (as_events steps.now) (L.events sink.old) result (L.events sink.new) }
+fn tell_all<L: Sink<Item = LogEvent>>(sink: &mut L, steps: Vec<LogStep>) -> Result<(), CoreFault>
+    requires texts { AllByRecursion IsTellable steps.items }
+    ensures told { TellsAll (L.torn sink.new) (as_events steps.items) (L.items sink.old) result (L.items sink.new) }
     ensures faults { FaultsAs result (L.faults sink.old) (L.faults sink.new) }
     ensures frame { L.keeps sink.old sink.new }
 {
     for step in steps {
-        match tell(sink, step) {
+        match tell(sink, &LogEvent::Step(step)) {
             Ok(()) => {}
             Err(fault) => return Err(fault),
         }
@@ -50,61 +51,59 @@ fn tell_all<L: LogSink>(sink: &mut L, steps: &[LogStep]) -> Result<(), CoreFault
     Ok(())
 }
 
-/// Tells the mark of a counted conflict.
-fn tell_mark<L: LogSink>(sink: &mut L, number: u64) -> Result<(), CoreFault>
-    ensures told { TellsAll (L.torn sink.new) (Conflict number ∷ []) (L.events sink.old) result (L.events sink.new) }
-    ensures faults { FaultsAs result (L.faults sink.old) (L.faults sink.new) }
-    ensures frame { L.keeps sink.old sink.new }
-{
-    match sink.conflict(number) {
-        Ok(()) => Ok(()),
-        Err(fault) => Err(fault_of(fault)),
-    }
-}
-
 /// Tells a mark and the steps behind it, up to a fault.
-fn tell_marked<L: LogSink>(sink: &mut L, number: u64, steps: &[LogStep]) -> Result<(), CoreFault>
-    requires texts { AllByRecursion IsTellable steps.now }
-    ensures told { TellsAll (L.torn sink.new) (Conflict number ∷ as_events steps.now) (L.events sink.old) result (L.events sink.new) }
+fn tell_marked<L: Sink<Item = LogEvent>>(
+    sink: &mut L,
+    number: u64,
+    steps: Vec<LogStep>,
+) -> Result<(), CoreFault>
+    requires texts { AllByRecursion IsTellable steps.items }
+    ensures told { TellsAll (L.torn sink.new) (Conflict number ∷ as_events steps.items) (L.items sink.old) result (L.items sink.new) }
     ensures faults { FaultsAs result (L.faults sink.old) (L.faults sink.new) }
     ensures frame { L.keeps sink.old sink.new }
 {
-    match tell_mark(sink, number) {
+    match tell(sink, &LogEvent::Conflict(number)) {
         Ok(()) => tell_all(sink, steps),
         Err(fault) => Err(fault),
     }
 }
 
 /// Tells this step, which leaves the log right.
-pub fn tell_step<L: LogSink>(log: &mut SearchLog<L>, step: &LogStep) -> Result<(), CoreFault>
-    requires text { IsTellable step.now }
-    requires right { IsRightBehind L.LogSink log.old (Step step.now ∷ []) }
-    ensures told { OnOk result (AreToldNow L.LogSink log.old (Step step.now ∷ []) log.new) }
-    ensures log { GoesOn L.LogSink log.old (fault_in result) log.new }
+pub fn tell_step<L: Sink<Item = LogEvent>>(
+    log: &mut SearchLog<L>,
+    step: LogStep,
+) -> Result<(), CoreFault>
+    requires text { IsTellable step }
+    requires right { IsRightBehind L.Sink log.old (Step step ∷ []) }
+    ensures told { OnOk result (AreToldNow L.Sink log.old (Step step ∷ []) log.new) }
+    ensures log { GoesOn L.Sink log.old (fault_in result) log.new }
 {
-    tell(log.sink, step)
+    tell(log.sink, &LogEvent::Step(step))
 }
 
 /// Tells these steps, which leave the log right.
-pub fn tell_steps<L: LogSink>(log: &mut SearchLog<L>, steps: &[LogStep]) -> Result<(), CoreFault>
-    requires texts { AllByRecursion IsTellable steps.now }
-    requires right { IsRightBehind L.LogSink log.old (as_events steps.now) }
-    ensures told { OnOk result (AreToldNow L.LogSink log.old (as_events steps.now) log.new) }
-    ensures log { GoesOn L.LogSink log.old (fault_in result) log.new }
+pub fn tell_steps<L: Sink<Item = LogEvent>>(
+    log: &mut SearchLog<L>,
+    steps: Vec<LogStep>,
+) -> Result<(), CoreFault>
+    requires texts { AllByRecursion IsTellable steps.items }
+    requires right { IsRightBehind L.Sink log.old (as_events steps.items) }
+    ensures told { OnOk result (AreToldNow L.Sink log.old (as_events steps.items) log.new) }
+    ensures log { GoesOn L.Sink log.old (fault_in result) log.new }
 {
     tell_all(log.sink, steps)
 }
 
 /// Tells the mark of a counted conflict and the steps behind it, which leave the log right.
-pub fn tell_round<L: LogSink>(
+pub fn tell_round<L: Sink<Item = LogEvent>>(
     log: &mut SearchLog<L>,
     number: u64,
-    steps: &[LogStep],
+    steps: Vec<LogStep>,
 ) -> Result<(), CoreFault>
-    requires texts { AllByRecursion IsTellable steps.now }
-    requires right { IsRightBehind L.LogSink log.old (Conflict number ∷ as_events steps.now) }
-    ensures told { OnOk result (AreToldNow L.LogSink log.old (Conflict number ∷ as_events steps.now) log.new) }
-    ensures log { GoesOn L.LogSink log.old (fault_in result) log.new }
+    requires texts { AllByRecursion IsTellable steps.items }
+    requires right { IsRightBehind L.Sink log.old (Conflict number ∷ as_events steps.items) }
+    ensures told { OnOk result (AreToldNow L.Sink log.old (Conflict number ∷ as_events steps.items) log.new) }
+    ensures log { GoesOn L.Sink log.old (fault_in result) log.new }
 {
     tell_marked(log.sink, number, steps)
 }

@@ -11,12 +11,12 @@ use crate::rows::FIRST_ROW_ID;
 use crate::source::{Hinted, clause_of_reason};
 use crate::state::SearchState;
 use conflict_learn::CoreFault;
-use cx_base::{Lit, LitList};
-use log_text::LogSink;
+use cx_base::{Lit, LitList, LogEvent};
 use parity_engine::ParityEngine;
+use step_text::Sink;
 
 /// Tells the unit clause of the next literal, which this clause implied.
-fn tell_unit<P: ParityEngine, L: LogSink>(
+fn tell_unit<P: ParityEngine, L: Sink<Item = LogEvent>>(
     log: &mut SearchLog<L>,
     state: &mut SearchState,
     engine: &P,
@@ -24,13 +24,13 @@ fn tell_unit<P: ParityEngine, L: LogSink>(
     implying: &Hinted,
     rows: &[LitList],
 ) -> Result<(), CoreFault>
-    requires stands { Stands P.ParityEngine L.LogSink log.old state.old engine.now rows.now }
+    requires stands { Stands P.ParityEngine L.Sink log.old state.old engine.now rows.now }
     requires level { state.old.trail.level ≡ 0 }
     requires next { IsNextUnit state.old rows.now literal implying.now.lits }
-    ensures stands { OnOk result (Stands P.ParityEngine L.LogSink log.new state.new engine.now rows.now) }
+    ensures stands { OnOk result (Stands P.ParityEngine L.Sink log.new state.new engine.now rows.now) }
     ensures units { OnOk result (length state.new.units.items ≡ length state.old.units.items + 1) }
     ensures same { HasOther state.old state.new }
-    ensures log { GoesOn L.LogSink log.old (fault_in result) log.new }
+    ensures log { GoesOn L.Sink log.old (fault_in result) log.new }
 {
     let id = state.next;
     if id >= FIRST_ROW_ID {
@@ -44,18 +44,18 @@ fn tell_unit<P: ParityEngine, L: LogSink>(
 }
 
 /// Tells the unit clause of the first literal that has none. Where a row implied it, the row's clause is told before it and deleted behind it.
-fn tell_next_unit<P: ParityEngine, L: LogSink>(
+fn tell_next_unit<P: ParityEngine, L: Sink<Item = LogEvent>>(
     log: &mut SearchLog<L>,
     state: &mut SearchState,
     engine: &P,
 ) -> Result<(), CoreFault>
-    requires stands { Stands P.ParityEngine L.LogSink log.old state.old engine.now [] }
+    requires stands { Stands P.ParityEngine L.Sink log.old state.old engine.now [] }
     requires level { state.old.trail.level ≡ 0 }
     requires more { length state.old.units.items < length state.old.trail.entries }
-    ensures stands { OnOk result (Stands P.ParityEngine L.LogSink log.new state.new engine.now []) }
+    ensures stands { OnOk result (Stands P.ParityEngine L.Sink log.new state.new engine.now []) }
     ensures units { OnOk result (length state.new.units.items ≡ length state.old.units.items + 1) }
     ensures same { HasOther state.old state.new }
-    ensures log { GoesOn L.LogSink log.old (fault_in result) log.new }
+    ensures log { GoesOn L.Sink log.old (fault_in result) log.new }
 {
     let entry = state.trail.entry(state.units.len());
     let mut rows = Vec::new(log.alloc);
@@ -65,17 +65,17 @@ fn tell_next_unit<P: ParityEngine, L: LogSink>(
 }
 
 /// Tells the unit clauses, with hints, of the literals of level 0 that have none yet.
-pub(crate) fn tell_units<P: ParityEngine, L: LogSink>(
+pub(crate) fn tell_units<P: ParityEngine, L: Sink<Item = LogEvent>>(
     log: &mut SearchLog<L>,
     state: &mut SearchState,
     engine: &P,
 ) -> Result<(), CoreFault>
-    requires stands { Stands P.ParityEngine L.LogSink log.old state.old engine.now [] }
+    requires stands { Stands P.ParityEngine L.Sink log.old state.old engine.now [] }
     requires level { state.old.trail.level ≡ 0 }
-    ensures stands { OnOk result (Stands P.ParityEngine L.LogSink log.new state.new engine.now []) }
+    ensures stands { OnOk result (Stands P.ParityEngine L.Sink log.new state.new engine.now []) }
     ensures all { OnOk result (length state.new.units.items ≡ length state.new.trail.entries) }
     ensures same { HasOther state.old state.new }
-    ensures log { GoesOn L.LogSink log.old (fault_in result) log.new }
+    ensures log { GoesOn L.Sink log.old (fault_in result) log.new }
 {
     while state.units.len() < state.trail.len() {
         tell_next_unit(log, state, engine)?;

@@ -8,14 +8,15 @@ use Rattle.cx_base.specs.Literals.{Literal}
 use Rattle.cx_base.specs.declared.literal.TheConstants.{MAX_VARIABLE}
 use Rattle.cx_base.specs.declared.constraint.Constraint.{Constraint}
 use Rattle.cx_base.specs.declared.constraint.Constraint.TheVariants as constraint
-use Rattle.cx_semantics.specs.Integers.{integer_of, integers_of, literal}
-use Rattle.cx_semantics.specs.Words.{Word, number, letter, conflict, other, Placed, words, IsWithin}
-use Rattle.cx_semantics.specs.Grammar.{Field, IsProper, spelled, IsStep, Begins, IsUnfinished, Stops, AreInLimit, Spells, FirstBad, FirstBig, Ending, bad_token, too_big, unterminated, Reading}
-use Rattle.cx_semantics.specs.FormulaText.{constraints}
-use Rattle.cx_semantics.proofs.Shapes.{Kind, kind, a_mark, some_integers, Parsed, whole, partial, bad, parse, push}
-use Rattle.cx_semantics.proofs.Forms.{step_parses}
-use Rattle.cx_semantics.proofs.Remaining.{remaining, remaining-push, after_word, rows_of, begins_where, begins_nowhere}
-use Rattle.cx_semantics.proofs.Grammars.{constraint_forms}
+use Rattle.cx_base.specs.Integers.{integer_of, integers_of, literal}
+use Rattle.cx_texts.specs.Words.{Word, number, letter, conflict, other, Placed, words, IsWithin}
+use Rattle.cx_texts.specs.Grammar.{Field, IsProper, spelled, IsStep, Begins, IsUnfinished, Stops, AreInLimit, Spells, FirstBad, FirstBig, Reading}
+use Rattle.cx_base.specs.Endings.{Ending, bad_token, too_big, unterminated}
+use Rattle.cx_texts.specs.FormulaText.{constraints}
+use Rattle.cx_texts.proofs.Shapes.{Kind, kind, a_mark, some_integers, Parsed, whole, partial, bad, parse, push}
+use Rattle.cx_texts.proofs.Forms.{step_parses}
+use Rattle.cx_texts.proofs.Remaining.{remaining, remaining-push, after_word, rows_of, begins_where, begins_nowhere}
+use Rattle.cx_texts.proofs.Grammars.{constraint_forms}
 use Rattle.cnfx_reader.specs.declared.pending.Pending.{Pending}
 use Rattle.cnfx_reader.specs.declared.pending.Pending.TheVariants.{Nothing, Clause, Parity}
 use Rattle.cnfx_reader.specs.Body.{Outcome, goes_on, stops, closed_as, closed, with_literal, opened, outcome}
@@ -106,7 +107,7 @@ no_step Clause (z ∷ zs) h k (constraint.Clause lits) p = not_partial _ (sym (p
 no_step Clause (z ∷ zs) h k (constraint.Parity lits) p = not_bad _ (step_parses constraints (said Clause (z ∷ zs)) (constraint.Parity lits) p)
 no_step Parity zs h k (constraint.Clause lits) p = not_bad _ (step_parses constraints (said Parity zs) (constraint.Clause lits) p)
 no_step Parity zs h k (constraint.Parity lits) p =
-    not_partial _ (sym (ap (Rattle.cx_semantics.proofs.Shapes.with_field (Rattle.cx_semantics.specs.Grammar.mark 120)) (partial_stays zs h)) ∙ step_parses constraints (said Parity zs) (constraint.Parity lits) p)
+    not_partial _ (sym (ap (Rattle.cx_texts.proofs.Shapes.with_field (Rattle.cx_texts.specs.Grammar.mark 120)) (partial_stays zs h)) ∙ step_parses constraints (said Parity zs) (constraint.Parity lits) p)
 
 unfinished_so_far : (state : Pending) (zs : List ℤ) → AreNonzero zs → HasShape state zs → IsUnfinished constraints (said state zs)
 unfinished_so_far state zs h s = (begun state zs h s, no_step state zs h s)
@@ -272,10 +273,10 @@ module _ (len : ℕ) where
       (r.0, r.1, subst (λ x. Reading constraints len x r.0 (outcome len Parity d ps).ending) (append_assoc front (p ∷ []) ps) r.2)
   mark_word d front place c ps go a false e =
       bad_word Nothing d front (placed place (letter c)) ps a
-      (ap (λ b. flat_map (λ ks. ks) ([] ∷ elim (cond b (Rattle.cx_semantics.proofs.Shapes.closes (Rattle.cx_semantics.specs.Grammar.mark 120)) Rattle.cx_semantics.proofs.Shapes.refuses) as (λ x. List (List Kind)) [
-        | Rattle.cx_semantics.proofs.Shapes.closes f ↦ (some_integers ∷ []) ∷ []
-        | Rattle.cx_semantics.proofs.Shapes.stays z ↦ (a_mark 120 ∷ some_integers ∷ []) ∷ []
-        | Rattle.cx_semantics.proofs.Shapes.refuses ↦ []
+      (ap (λ b. flat_map (λ ks. ks) ([] ∷ elim (cond b (Rattle.cx_texts.proofs.Shapes.closes (Rattle.cx_texts.specs.Grammar.mark 120)) Rattle.cx_texts.proofs.Shapes.refuses) as (λ x. List (List Kind)) [
+        | Rattle.cx_texts.proofs.Shapes.closes f ↦ (some_integers ∷ []) ∷ []
+        | Rattle.cx_texts.proofs.Shapes.stays z ↦ (a_mark 120 ∷ some_integers ∷ []) ∷ []
+        | Rattle.cx_texts.proofs.Shapes.refuses ↦ []
       ] ∷ [])) (other_letter c e))
     where
       other_letter : (c : ℕ) → (c == 120) ≡ false → eqb 120 c ≡ false

@@ -2,10 +2,10 @@
 use Rattle.std.proofs.Common.{◌≡◌, refl, sym, ap, ◌∙◌, subst, ℕ, suc, ◌+◌, ◌-◌, ◌<◌, ◌≤◌, Bool, true, false, cond, not, List, [], ◌∷◌, ◌++◌, length, take, drop, get_or, filter, flat_map, arith, length-drop, drop-drop, inl, inr}
 use Rattle.std.specs.List.{onto_first, enumerate_from, before_first, position_or_len}
 use Rattle.std.proofs.lemmas.List.{drop_more}
-use Rattle.cx_semantics.specs.Tokens.{is_blank, is_comment, is_end_line, lines_from, tokens_of_line, tokens_of_lines, formula_tokens, NoBlank, EndsRun, SkipsLine}
-use Rattle.cx_semantics.proofs.Lines.{Line, some_lines, ahead, lines-run, rest_blank, lines-line, lines-last}
-use Rattle.cx_semantics.proofs.TokenLaws.{token_at, run_line}
-use Rattle.cx_semantics.proofs.Slices.{part_length, split_at}
+use Rattle.cx_texts.specs.Tokens.{is_blank, is_comment, is_end_line, lines_from, tokens_of_line, tokens_of_lines, formula_tokens, NoBlank, EndsRun, SkipsLine}
+use Rattle.cx_texts.proofs.Lines.{Line, some_lines, ahead, lines-run, rest_blank, lines-line, lines-last}
+use Rattle.cx_texts.proofs.TokenLaws.{token_at, run_line}
+use Rattle.cx_texts.proofs.Slices.{part_length, split_at}
 use Rattle.cnfx_reader.proofs.FrontLaws.{part_behind}
 use Rattle.cnfx_reader.proofs.WordLaws.{run_begins}
 use Rattle.cnfx_reader.specs.TokensLeft.{kept_tokens, kept_with_first, formula_tokens_from, formula_tokens_within}

@@ -5,11 +5,11 @@ use Rattle.std.specs.Str.Parse.{digits_value}
 use Rattle.std.proofs.lemmas.List.{take_all}
 use Rattle.std.proofs.lemmas.Int.Digits.{digits_value-lt}
 use Rattle.std.proofs.Math.Nat.{pow-le-pow_right}
-use Rattle.cx_semantics.specs.Integers.{signed}
-use Rattle.cx_semantics.specs.Tokens.{is_blank, NoBlank}
-use Rattle.cx_semantics.specs.Words.{integer, is_digit}
-use Rattle.cx_semantics.specs.LiteralTokens.{begins_with_minus}
-use Rattle.cx_semantics.proofs.DigitLaws.{digits_no_blank, all_digits_of, integer_digits, integer_minus}
+use Rattle.cx_base.specs.Integers.{signed}
+use Rattle.cx_texts.specs.Tokens.{is_blank, NoBlank}
+use Rattle.cx_texts.specs.Words.{integer, is_digit}
+use Rattle.cx_texts.specs.LiteralTokens.{begins_with_minus}
+use Rattle.cx_texts.proofs.DigitLaws.{digits_no_blank, all_digits_of, integer_digits, integer_minus}
 use mir.Val.{bool_byte}
 
 pub short_value : (text : List ℕ) (len value : ℕ) → len < 9 → len ≤ length text → list_all is_digit (take len text) ≡ true → value ≡ digits_value 10 (take len text) → value < 100000000

@@ -2,12 +2,12 @@
 use Rattle.std.proofs.Common.{◌≡◌, refl, ap, ◌∙◌, subst, ℕ, List, [], length, Ok, Err, Some, inl, inr}
 use Rattle.cx_base.specs.Problem.{greatest_variable}
 use Rattle.cx_base.specs.declared.constraint.Constraint.{Constraint}
-use Rattle.cx_semantics.specs.Tokens.{Token, formula_tokens}
-use Rattle.cx_semantics.specs.Words.{placed_formula_words}
-use Rattle.cx_semantics.specs.Grammar.{Ending, finished}
-use Rattle.cx_semantics.specs.FormulaText.{header, HasBody, Reads, FirstOffence, offence_of}
-use Rattle.cx_semantics.specs.declared.offence.Offence.{Offence}
-use Rattle.cx_semantics.specs.declared.offence.Offence.TheVariants as offence
+use Rattle.cx_texts.specs.Tokens.{Token, formula_tokens}
+use Rattle.cx_texts.specs.Words.{placed_formula_words}
+use Rattle.cx_base.specs.Endings.{Ending, finished}
+use Rattle.cx_texts.specs.FormulaText.{header, HasBody, Reads, FirstOffence, offence_of}
+use Rattle.cx_texts.specs.declared.offence.Offence.{Offence}
+use Rattle.cx_texts.specs.declared.offence.Offence.TheVariants as offence
 use Rattle.cnfx_reader.specs.declared.pending.Pending.TheVariants as pending
 use Rattle.cnfx_reader.specs.declared.refusal.ReadRefusal.{ReadRefusal}
 use Rattle.cnfx_reader.specs.declared.refusal.ReadRefusal.TheVariants.{NoHeader, BadHeader, BadToken, Unterminated, VarLimit, Memory}

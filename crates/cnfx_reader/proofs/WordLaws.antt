@@ -1,9 +1,9 @@
 -- Tokens of the body as words.
 use Rattle.std.proofs.Common.{◌≡◌, sym, ap, ◌∙◌, subst, ℕ, zero, suc, ◌+◌, ◌<◌, ◌≤◌, ℤ, true, false, cond, List, [], ◌∷◌, length, take, drop, get_or, Some, None, arith, true≢false}
 use Rattle.std.proofs.lemmas.List.{drop_more}
-use Rattle.cx_semantics.specs.Tokens.{is_blank, NoBlank, EndsRun}
-use Rattle.cx_semantics.specs.Words.{Word, letter, other, number, number_or, integer, word_of, joined_words, formula_words_of}
-use Rattle.cx_semantics.proofs.DigitLaws.{not_equal}
+use Rattle.cx_texts.specs.Tokens.{is_blank, NoBlank, EndsRun}
+use Rattle.cx_texts.specs.Words.{Word, letter, other, number, number_or, integer, word_of, joined_words, formula_words_of}
+use Rattle.cx_texts.proofs.DigitLaws.{not_equal}
 use Rattle.cnfx_reader.specs.Meanings.{IsStrange}
 
 -- a token that is no integer and does not begin with `x`

@@ -5,9 +5,9 @@ use Rattle.cx_base.specs.Literals.{Literal}
 use Rattle.cx_base.specs.declared.literal.TheConstants.{MAX_VARIABLE}
 use Rattle.cx_base.specs.declared.constraint.Constraint.{Constraint}
 use Rattle.cx_base.specs.declared.constraint.Constraint.TheVariants as constraint
-use Rattle.cx_semantics.specs.Integers.{literal}
-use Rattle.cx_semantics.specs.Words.{Word, number, letter, conflict, other, Placed}
-use Rattle.cx_semantics.specs.Grammar.{Ending, finished, bad_token, too_big, unterminated}
+use Rattle.cx_base.specs.Integers.{literal}
+use Rattle.cx_texts.specs.Words.{Word, number, letter, conflict, other, Placed}
+use Rattle.cx_base.specs.Endings.{Ending, finished, bad_token, too_big, unterminated}
 use Rattle.cnfx_reader.specs.declared.pending.Pending.{Pending}
 use Rattle.cnfx_reader.specs.declared.pending.Pending.TheVariants.{Nothing, Clause, Parity}
 use Rattle.cnfx_reader.specs.declared.refusal.ReadRefusal.{ReadRefusal}

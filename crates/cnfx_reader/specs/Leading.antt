@@ -1,7 +1,7 @@
 -- The token at the front of a text.
 use Rattle.std.specs.Prelude.{◌≡◌, ℕ, ◌<◌, ◌≤◌, true, IsTrue, List, length, take, drop, slice_index}
-use Rattle.cx_semantics.specs.Tokens.{is_blank, NoBlank, EndsRun}
-use Rattle.cx_semantics.specs.Words.{formula_words_of}
+use Rattle.cx_texts.specs.Tokens.{is_blank, NoBlank, EndsRun}
+use Rattle.cx_texts.specs.Words.{formula_words_of}
 use Rattle.cnfx_reader.specs.declared.body_token.LeadingToken.{LeadingToken}
 use Rattle.cnfx_reader.specs.Meanings.{Says}
 

@@ -1,7 +1,7 @@
 -- What the reader says of a token, against the words of the grammar.
 use Rattle.std.specs.Prelude.{◌≡◌, ◌≢◌, ℕ, ℤ, List, [], ◌∷◌, map, ⊤}
-use Rattle.cx_semantics.specs.Words.{Word, number, letter, conflict, other, Placed}
-use Rattle.cx_semantics.specs.LiteralTokens.{IsInteger}
+use Rattle.cx_texts.specs.Words.{Word, number, letter, conflict, other, Placed}
+use Rattle.cx_texts.specs.LiteralTokens.{IsInteger}
 use Rattle.cnfx_reader.specs.declared.body_token.BodyToken.{BodyToken}
 use Rattle.cnfx_reader.specs.declared.body_token.BodyToken.TheVariants as body
 

@@ -1,6 +1,6 @@
 -- What stands at a place of a formula's text.
 use Rattle.std.specs.Prelude.{◌≡◌, ℕ, ◌<◌, ◌≤◌, false, List, [], length, drop, slice_index}
-use Rattle.cx_semantics.specs.Tokens.{Token, is_blank}
+use Rattle.cx_texts.specs.Tokens.{Token, is_blank}
 use Rattle.cnfx_reader.specs.TokensLeft.{formula_tokens_left, formula_tokens_within}
 use Rattle.cnfx_reader.specs.declared.places.Place.{Place}
 use Rattle.cnfx_reader.specs.declared.places.Passed.{Passed}

@@ -1,8 +1,8 @@
 -- What the reader of formulas answers.
 use Rattle.std.specs.Prelude.{ℕ, List, Result, Ok, Err, ⊤}
 use Rattle.cx_base.specs.Problem.{Problem}
-use Rattle.cx_semantics.specs.FormulaText.{Reads, FirstOffence}
-use Rattle.cx_semantics.specs.declared.offence.Offence.TheVariants as offence
+use Rattle.cx_texts.specs.FormulaText.{Reads, FirstOffence}
+use Rattle.cx_texts.specs.declared.offence.Offence.TheVariants as offence
 use Rattle.cnfx_reader.specs.declared.refusal.ReadRefusal.{ReadRefusal}
 use Rattle.cnfx_reader.specs.declared.refusal.ReadRefusal.TheVariants.{NoHeader, BadHeader, BadToken, Unterminated, VarLimit, Memory}
 

@@ -1,6 +1,6 @@
 -- What is left of a formula's tokens behind a place of its text. A `%` line ends the text.
 use Rattle.std.specs.Prelude.{ℕ, Bool, true, false, List, [], ◌∷◌, ◌++◌, if◌then◌else◌}
-use Rattle.cx_semantics.specs.Tokens.{Token, is_comment, is_end_line, lines_from, tokens_of_line}
+use Rattle.cx_texts.specs.Tokens.{Token, is_comment, is_end_line, lines_from, tokens_of_line}
 
 -- the tokens of the lines before the first `%` line, without those of comment lines
 abbrev pub kept_tokens : List (List (ℕ × ℕ)) → List Token

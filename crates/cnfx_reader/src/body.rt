@@ -1,8 +1,8 @@
 //! The constraints of a formula.
 ghost use Rattle.std.specs.Prelude.{◌≡◌, ℕ, ℤ, List, [], ◌∷◌, ◌++◌, IfOk, IfErr, MatchResult};
-ghost use Rattle.cx_semantics.specs.Words.{Word, number, Placed, placed_formula_words};
-ghost use Rattle.cx_semantics.specs.Grammar.{finished};
-ghost use Rattle.cx_semantics.specs.LiteralTokens.{IsInteger};
+ghost use Rattle.cx_texts.specs.Words.{Word, number, Placed, placed_formula_words};
+ghost use Rattle.cx_base.specs.Endings.{finished};
+ghost use Rattle.cx_texts.specs.LiteralTokens.{IsInteger};
 ghost use Rattle.cnfx_reader.specs.Meanings.{Says, placed_at};
 ghost use Rattle.cnfx_reader.specs.declared.pending.Pending.TheVariants as pending;
 ghost use Rattle.cnfx_reader.specs.Body.{outcome, IsPendingIn, IsEndedBy};
@@ -12,7 +12,7 @@ use crate::pending::Pending;
 use crate::refusal::ReadRefusal;
 use crate::tokens::{BodyTokenAt, FormulaTokens};
 use cx_base::FormulaBuilder;
-use cx_semantics::Integer;
+use cx_texts::Integer;
 
 /// Takes an integer into the constraint that is pending, or ends it.
 #[inline(always)]

@@ -1,13 +1,13 @@
 //! Tokens of the body.
 ghost use Rattle.std.specs.Prelude.{◌≡◌, ◌<◌, false, length, slice_index};
-ghost use Rattle.cx_semantics.specs.Tokens.{is_blank};
-ghost use Rattle.cx_semantics.specs.Words.{formula_words_of};
+ghost use Rattle.cx_texts.specs.Tokens.{is_blank};
+ghost use Rattle.cx_texts.specs.Words.{formula_words_of};
 ghost use Rattle.cnfx_reader.specs.Meanings.{Says};
 ghost use Rattle.cnfx_reader.specs.Leading.{IsLeading};
 
 use crate::leading_integer::leading_integer;
 use crate::places::run_len;
-use cx_semantics::{Integer, read_integer};
+use cx_texts::{Integer, read_integer};
 
 /// What a token of the body says.
 #[derive(Clone, Copy, Drop)]

@@ -2,9 +2,9 @@
 ghost use Rattle.std.specs.Prelude.{◌≡◌, ◌≤◌, length, take, true};
 ghost use Rattle.std.specs.List.{list_all};
 ghost use Rattle.std.specs.Str.Parse.{digits_value};
-ghost use Rattle.cx_semantics.specs.Words.{is_digit};
+ghost use Rattle.cx_texts.specs.Words.{is_digit};
 
-use cx_semantics::is_digit_byte;
+use cx_texts::is_digit_byte;
 
 /// How many digits are converted without a test of their number: the greatest such number fits 32 bits.
 pub(crate) const SHORT: usize = 9;

@@ -1,11 +1,11 @@
 //! The header of a formula.
 ghost use Rattle.std.specs.Prelude.{◌≡◌, ◌≤◌, IfOk, MatchResult, Ok, Err};
 ghost use Rattle.cx_base.specs.declared.literal.TheConstants.{MAX_VARIABLE};
-ghost use Rattle.cx_semantics.specs.FormulaText.{header, behind_p, behind_cnf, behind_count};
+ghost use Rattle.cx_texts.specs.FormulaText.{header, behind_p, behind_cnf, behind_count};
 
 use crate::tokens::FormulaTokens;
 use cx_base::MAX_VARIABLE;
-use cx_semantics::{Offence, read_natural};
+use cx_texts::{Offence, read_natural};
 
 /// Reads the header, and gives its number of variables. `len` is the text's length.
 #[inline(never)]

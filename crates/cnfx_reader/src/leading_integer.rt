@@ -1,12 +1,12 @@
 //! Integers at the front of a text.
 ghost use Rattle.std.specs.Prelude.{◌≡◌, ◌<◌, length, take, Some, true, slice_index, IfSome, ℤ};
-ghost use Rattle.cx_semantics.specs.Tokens.{is_blank, NoBlank};
-ghost use Rattle.cx_semantics.specs.Words.{integer};
-ghost use Rattle.cx_semantics.specs.LiteralTokens.{IsInteger};
+ghost use Rattle.cx_texts.specs.Tokens.{is_blank, NoBlank};
+ghost use Rattle.cx_texts.specs.Words.{integer};
+ghost use Rattle.cx_texts.specs.LiteralTokens.{IsInteger};
 
 use crate::digits::{SHORT, short_digits};
 use cx_base::MAX_VARIABLE;
-use cx_semantics::{Integer, has_minus, is_blank_byte, small_integer};
+use cx_texts::{Integer, has_minus, is_blank_byte, small_integer};
 
 /// An integer at the front of some bytes, and how many of them are its token.
 #[derive(Clone, Copy, Drop)]

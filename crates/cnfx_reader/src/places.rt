@@ -1,10 +1,10 @@
 //! Where the tokens of a formula begin and end.
 ghost use Rattle.std.specs.Prelude.{◌≡◌, ◌≤◌, ◌<◌, ◌+◌, true, false, IsTrue, length, drop, take, slice_index, IfSome, IfNone, []};
-ghost use Rattle.cx_semantics.specs.Tokens.{is_blank, NoBlank, EndsRun};
+ghost use Rattle.cx_texts.specs.Tokens.{is_blank, NoBlank, EndsRun};
 ghost use Rattle.cnfx_reader.specs.TokensLeft.{formula_tokens_left, formula_tokens_within};
 ghost use Rattle.cnfx_reader.specs.Passed.{IsPassed, left_at};
 
-use cx_semantics::{is_blank_byte, line_end};
+use cx_texts::{is_blank_byte, line_end};
 
 /// A place in a text, and whether it lies within a kept line.
 ///

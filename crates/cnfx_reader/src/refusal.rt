@@ -3,7 +3,7 @@ ghost use Rattle.std.specs.Prelude.{◌≡◌};
 ghost use Rattle.cnfx_reader.specs.Refusals.{refusal_of};
 ghost use Rattle.cnfx_reader.specs.declared.refusal.ReadRefusal.TheVariants.{Memory};
 
-use cx_semantics::Offence;
+use cx_texts::Offence;
 use std::alloc::AllocError;
 use thiserror::Error;
 

@@ -2,12 +2,12 @@
 ghost use Rattle.std.specs.Prelude.{◌≡◌, ℕ, List, [], ◌∷◌, MatchOption};
 ghost use Rattle.cnfx_reader.specs.TokensLeft.{formula_tokens_from};
 ghost use Rattle.cnfx_reader.specs.Meanings.{Says};
-ghost use Rattle.cx_semantics.specs.Tokens.{Token};
-ghost use Rattle.cx_semantics.specs.Words.{formula_words_of};
+ghost use Rattle.cx_texts.specs.Tokens.{Token};
+ghost use Rattle.cx_texts.specs.Words.{formula_words_of};
 
 use crate::body_token::{BodyToken, leading_token};
 use crate::places::{Place, behind_token, next_begin, run_len};
-use cx_semantics::TokenAt;
+use cx_texts::TokenAt;
 use std::marker::Model;
 
 /// What is left of a formula's text.
@@ -19,7 +19,7 @@ pub(crate) struct FormulaTokens<'a> {
 
 impl<'a> Model for FormulaTokens<'a> {
     ghost use Rattle.std.specs.Prelude.{List, length, ◌≤◌};
-    ghost use Rattle.cx_semantics.specs.Tokens.{Token};
+    ghost use Rattle.cx_texts.specs.Tokens.{Token};
     ghost use Rattle.cnfx_reader.specs.Passed.{left_at};
 
     ghost Value = { List Token };

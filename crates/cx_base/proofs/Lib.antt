@@ -9,3 +9,4 @@ pub mod LiteralLaws
 pub mod Elements
 pub mod PlaceLaws
 pub mod MovedLaws
+pub mod Fronts

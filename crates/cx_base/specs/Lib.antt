@@ -10,3 +10,7 @@ pub mod Drafts
 pub mod Numbers
 pub mod Counts
 pub mod Moved
+pub mod Endings
+pub mod Events
+pub mod ExactlyOne
+pub mod Integers

@@ -10,6 +10,7 @@ mod literal;
 mod moved;
 mod places;
 mod refs;
+mod steps;
 
 pub use builder::FormulaBuilder;
 pub use constraint::{Constraint, ConstraintRef};
@@ -19,3 +20,4 @@ pub use lists::{IdList, IntList, LitList, ParityList, RefList, Values};
 pub use literal::{Lit, MAX_VARIABLE, Var};
 pub use moved::{Move, Moved};
 pub use refs::{ClauseRef, Row};
+pub use steps::{LogEvent, LogStep, ProofStep};

@@ -6,12 +6,12 @@ use Rattle.std.proofs.lemmas.Bool.{and_parts}
 use Rattle.cx_base.specs.Literals.{Literal}
 use Rattle.cx_base.specs.Problem.{Problem, clauses_of}
 use Rattle.cx_base.specs.declared.constraint.Constraint.TheVariants as constraint
-use Rattle.cx_semantics.specs.declared.steps.LogStep.TheVariants.{Original, Clause}
-use Rattle.cx_semantics.specs.declared.steps.LogEvent.{LogEvent}
-use Rattle.cx_semantics.specs.declared.steps.LogEvent.TheVariants.{Step, Conflict}
+use Rattle.cx_base.specs.declared.steps.LogStep.TheVariants.{Original, Clause}
+use Rattle.cx_base.specs.declared.steps.LogEvent.{LogEvent}
+use Rattle.cx_base.specs.declared.steps.LogEvent.TheVariants.{Step, Conflict}
 use Rattle.cx_semantics.specs.Chain.{is_inside, same_literals, left, Left, none, one, more, count_left}
 use Rattle.cx_semantics.specs.Fresh.{Fresh, IsLive, is_falsified}
-use Rattle.cx_semantics.specs.Integers.{literals}
+use Rattle.cx_base.specs.Integers.{literals}
 use Rattle.cx_semantics.specs.Tables.{Table}
 use Rattle.cx_semantics.specs.Marked.{Marked, Moment, first_moment, after_event, KeepsFormula}
 use Rattle.cx_semantics.proofs.Lookups.{Looks, put_at, Looks-empty, Looks-insert}

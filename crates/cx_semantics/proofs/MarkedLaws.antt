@@ -2,7 +2,7 @@
 use Rattle.std.proofs.Common.{◌≡◌, sym, ap, ◌∙◌, subst, ℕ, List, [], ◌∷◌, ◌++◌, length}
 use Rattle.std.proofs.lemmas.List.FromFn.{length-range_with_len}
 use Rattle.cx_base.specs.Problem.{Problem}
-use Rattle.cx_semantics.specs.declared.steps.LogEvent.{LogEvent}
+use Rattle.cx_base.specs.declared.steps.LogEvent.{LogEvent}
 use Rattle.cx_semantics.specs.Marked.{Marked, Moment, EventsFit, EventFits, after_event}
 
 pub marks_are_counted : (formula : Problem) (events : List LogEvent) (m n : ℕ) → Marked formula events m → Marked formula events n → m ≡ n

@@ -9,15 +9,15 @@ use Rattle.cx_base.specs.Problem.{Problem, clauses_of, clause_met, parity_met}
 use Rattle.cx_base.specs.Parity.{normal_form, sum_of, occurs_odd}
 use Rattle.cx_base.specs.declared.constraint.Constraint.TheVariants as constraint
 use Rattle.cx_base.proofs.ParityLaws.{contains-normal_form, contains-symmetric_difference}
-use Rattle.cx_semantics.specs.declared.steps.Cause.TheVariants as causes
-use Rattle.cx_semantics.specs.declared.steps.ProofStep.{ProofStep}
-use Rattle.cx_semantics.specs.declared.steps.ProofStep.TheVariants as proof
+use Rattle.cx_semantics.specs.declared.cause.Cause.TheVariants as causes
+use Rattle.cx_base.specs.declared.steps.ProofStep.{ProofStep}
+use Rattle.cx_base.specs.declared.steps.ProofStep.TheVariants as proof
 use Rattle.cx_semantics.specs.Chain.{chain, negations}
-use Rattle.cx_semantics.specs.Integers.{literals, sizes}
+use Rattle.cx_base.specs.Integers.{literals, sizes}
 use Rattle.cx_semantics.specs.Judging.{FirstFailure, IsRight, JudgedAs, accepted}
 use Rattle.cx_semantics.specs.Tables.{Table, Tables, first_tables, named, put_clause}
 use Rattle.cx_semantics.specs.ProofRules.{proof_rules, proof_calculus, is_not_unit, is_hints_end, after_step, IsSum, all_met}
-use Rattle.cx_semantics.specs.Grammar.{bad_token}
+use Rattle.cx_base.specs.Endings.{bad_token}
 use Rattle.cx_semantics.proofs.Lookups.{Looks, lookup, put_at, Looks-numbered_from, Looks-insert, is_live_by, hints_by, named_by, implies_by}
 use Rattle.cx_semantics.proofs.Deciding.{clause-clip, parity-clip, all-clip}
 
@@ -38,7 +38,7 @@ looks_q = Looks-numbered_from 1 (map literals q_lists)
 module _ (formula : Problem) (tables : Tables) (f : ℕ → Option (List Literal)) (h : Looks tables.clauses f) where
   -- a right chain, by computation on what the ids name
   chain_right : (n : ℕ) (lits hints : List ℤ) → list_any (λ z. Rattle.std.proofs.Common.ltb formula.variables (Rattle.std.proofs.Common.nat_abs z)) lits ≡ false → is_some (f n) ≡ false
-      → list_any Rattle.cx_semantics.specs.Integers.is_negative hints ≡ false → list_any (λ z. not (is_some (f (Rattle.std.proofs.Common.nat_abs z)))) hints ≡ false
+      → list_any Rattle.cx_base.specs.Integers.is_negative hints ≡ false → list_any (λ z. not (is_some (f (Rattle.std.proofs.Common.nat_abs z)))) hints ≡ false
       → is_not_unit (chain (negations (literals lits)) (filter_map f (sizes hints))) ≡ false → is_hints_end (chain (negations (literals lits)) (filter_map f (sizes hints))) ≡ false
       → IsRight (proof_calculus formula) tables (proof.Clause n lits hints)
   chain_right n lits hints a b c d e g = (
@@ -58,7 +58,7 @@ module _ (formula : Problem) (tables : Tables) (f : ℕ → Option (List Literal
     ),
   )
 
-  abbrev Refused : ProofStep → Rattle.cx_semantics.specs.declared.steps.Cause.Cause → Type 0
+  abbrev Refused : ProofStep → Rattle.cx_semantics.specs.declared.cause.Cause.Cause → Type 0
   Refused s cause = FirstFailure (proof_rules formula tables s) cause
 
 -- ---- all four clauses: a refutation in two steps

@@ -12,16 +12,16 @@ use Rattle.cx_base.specs.Parity.{normal_form}
 use Rattle.cx_base.specs.declared.constraint.Constraint.{Constraint}
 use Rattle.cx_base.specs.declared.constraint.Constraint.TheVariants as constraint
 use Rattle.cx_base.proofs.ParityLaws.{AreBelow, AllSum, Sums, Sums-from_met, met-from_Sums, Sums-sum_of}
-use Rattle.cx_semantics.specs.declared.steps.ProofStep.{ProofStep}
-use Rattle.cx_semantics.specs.declared.steps.ProofStep.TheVariants as proof
-use Rattle.cx_semantics.specs.declared.steps.LogStep.{LogStep}
-use Rattle.cx_semantics.specs.declared.steps.LogStep.TheVariants as log
+use Rattle.cx_base.specs.declared.steps.ProofStep.{ProofStep}
+use Rattle.cx_base.specs.declared.steps.ProofStep.TheVariants as proof
+use Rattle.cx_base.specs.declared.steps.LogStep.{LogStep}
+use Rattle.cx_base.specs.declared.steps.LogStep.TheVariants as log
 use Rattle.cx_semantics.specs.Chain.{ChainEnd, right, not_unit, hints_end, same_literals, is_inside, has_literal}
-use Rattle.cx_semantics.specs.Integers.{literals, sizes}
+use Rattle.cx_base.specs.Integers.{literals, sizes}
 use Rattle.cx_semantics.specs.Tables.{Table, Tables, get, named, numbered_from, first_tables, no_tables}
 use Rattle.cx_semantics.specs.Judging.{IsRight, Runs, Calculus, AcceptedAt}
-use Rattle.cx_semantics.specs.ProofRules.{is_not_unit, is_hints_end, IsSum, proof_calculus, after_step, adds_empty_clause, is_empty, Accepted}
-use Rattle.cx_semantics.specs.LogRules.{is_original, log_calculus, after_log_step, derives_empty_clause, LogRight}
+use Rattle.cx_semantics.specs.ProofRules.{is_not_unit, is_hints_end, IsSum, proof_calculus, after_step, adds_empty_clause, is_empty}
+use Rattle.cx_semantics.specs.LogRules.{is_original, log_calculus, after_log_step, derives_empty_clause}
 use Rattle.cx_semantics.proofs.ChainLaws.{chained_is_met, are_one}
 
 -- ---- tables whose lists are met
@@ -270,14 +270,8 @@ accepted_steps_are_unmet formula steps k j v meets =
     let m = runs_keep (proof_calculus formula) v (right_proof_step formula v) (first_tables formula) j.before j.tables j.runs (first_tables_met formula v meets) in
     no_empty_proof v j.tables j.step j.ends (right_proof_step formula v j.tables j.step m j.right)
 
-pub accepted_is_unmet : (formula : Problem) (text : List ℕ) (k : ℕ) → Accepted formula text k → Unmet formula
-accepted_is_unmet formula text k a = accepted_steps_are_unmet formula a.steps k a.judged
-
 pub right_steps_are_unmet : (formula : Problem) (steps : List LogStep) (k : ℕ) → AcceptedAt (log_calculus formula) steps k → Unmet formula
 right_steps_are_unmet formula steps k j v meets =
     let start : TablesMet v no_tables = record { clauses = met_empty (clause_met v); parities = met_empty (parity_met v) } in
     let m = runs_keep (log_calculus formula) v (right_log_step formula v meets) no_tables j.before j.tables j.runs start in
     no_empty_log v j.tables j.step j.ends (right_log_step formula v meets j.tables j.step m j.right)
-
-pub right_log_is_unmet : (formula : Problem) (text : List ℕ) (k : ℕ) → LogRight formula text k → Unmet formula
-right_log_is_unmet formula text k a = right_steps_are_unmet formula a.steps k a.judged

@@ -7,16 +7,14 @@ use Rattle.cx_base.specs.Problem.{Problem, clauses_of}
 use Rattle.cx_base.specs.Parity.{normal_form, HasOneOfEach}
 use Rattle.cx_base.specs.declared.constraint.Constraint.{Constraint}
 use Rattle.cx_base.specs.declared.constraint.Constraint.TheVariants as constraint
-use Rattle.cx_semantics.specs.declared.steps.LogStep.{LogStep}
-use Rattle.cx_semantics.specs.declared.steps.LogStep.TheVariants.{Original, OriginalParity, Clause, ClauseWithHints, Parity, ClauseOfParity, ParityOfClauses, Delete, DeleteParity, Final, FinalParity}
-use Rattle.cx_semantics.specs.declared.steps.LogEvent.{LogEvent}
-use Rattle.cx_semantics.specs.declared.steps.LogEvent.TheVariants.{Step, Conflict}
+use Rattle.cx_base.specs.declared.steps.LogStep.{LogStep}
+use Rattle.cx_base.specs.declared.steps.LogStep.TheVariants.{Original, OriginalParity, Clause, ClauseWithHints, Parity, ClauseOfParity, ParityOfClauses, Delete, DeleteParity, Final, FinalParity}
+use Rattle.cx_base.specs.declared.steps.LogEvent.{LogEvent}
+use Rattle.cx_base.specs.declared.steps.LogEvent.TheVariants.{Step, Conflict}
 use Rattle.cx_semantics.specs.Chain.{is_inside, same_literals}
 use Rattle.cx_semantics.specs.Fresh.{Fresh, IsLive, is_tautology}
-use Rattle.cx_semantics.specs.Integers.{integers_of, literals}
-use Rattle.cx_semantics.specs.Grammar.{finished}
-use Rattle.cx_semantics.specs.LogText.{EventsRead}
-use Rattle.cx_semantics.specs.LogRules.{after_log_step, derives_empty_clause, LogOpen}
+use Rattle.cx_base.specs.Integers.{integers_of, literals}
+use Rattle.cx_semantics.specs.LogRules.{after_log_step, derives_empty_clause}
 use Rattle.cx_semantics.specs.Tables.{Table, Tables, get, no_tables}
 
 -- what an event finds: the tables; whether the clause of the last mark is still to come; the ids of learned clauses;
@@ -161,10 +159,3 @@ pub record Marked (formula : Problem) (events : List LogEvent) (n : ℕ) : Type 
   pub last : Moment
   pub fit : EventsFit formula first_moment events last
   pub served : IsFalse last.awaits
-
--- the log is open, and its events are marked n times
-pub record Budgeted (formula : Problem) (log : List ℕ) (n : ℕ) : Type 0 where
-  pub is_open : LogOpen formula log
-  pub events : List LogEvent
-  pub read : EventsRead log events finished
-  pub marked : Marked formula events n

@@ -6,14 +6,14 @@ use Rattle.cx_base.specs.Literals.{Literal}
 use Rattle.cx_base.specs.Parity.{normal_form}
 use Rattle.cx_base.specs.Problem.{Problem, clauses_of, parities_of}
 use Rattle.cx_semantics.specs.Chain.{same_literals, IsChain, HaveSame}
-use Rattle.cx_semantics.specs.Integers.{literals}
+use Rattle.cx_base.specs.Integers.{literals}
 use Rattle.cx_semantics.specs.Judging.{AllHold}
 use Rattle.cx_semantics.specs.LogRules.{AreLive, naming}
 use Rattle.cx_semantics.specs.ProofRules.{adding, chaining, summing, clause_of_parity, parity_of_clauses}
 use Rattle.cx_semantics.specs.Tables.{Table, Tables, is_live, named, put_clause, put_parity, drop_clauses, drop_parities}
-use Rattle.cx_semantics.specs.declared.steps.LogStep.TheVariants as log
-use Rattle.cx_semantics.specs.declared.steps.ProofStep.{ProofStep}
-use Rattle.cx_semantics.specs.declared.steps.ProofStep.TheVariants as proof
+use Rattle.cx_base.specs.declared.steps.LogStep.TheVariants as log
+use Rattle.cx_base.specs.declared.steps.ProofStep.{ProofStep}
+use Rattle.cx_base.specs.declared.steps.ProofStep.TheVariants as proof
 use Rattle.cx_semantics.proofs.SameSets.{HaveSame-by_test}
 use Rattle.proof_rules.specs.declared.refusal.JudgeRefusal.{JudgeRefusal}
 use Rattle.proof_rules.proofs.ChainSteps.{right_holds}

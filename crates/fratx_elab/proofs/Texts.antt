@@ -3,10 +3,10 @@ use Rattle.std.proofs.Common.{◌≢◌, ◌≤◌, ℕ, ℤ, pos, nat_abs, List
 use Rattle.std.specs.List.{AllByRecursion}
 use Rattle.cx_base.specs.Numbers.{AreStepIntegers}
 use Rattle.cx_base.proofs.Elements.{integers_are_proper}
-use Rattle.cx_semantics.specs.Grammar.{spelled_list}
-use Rattle.cx_semantics.specs.Printed.{HasProofText}
-use Rattle.cx_semantics.specs.Words.{Word, IsWithin}
-use Rattle.cx_semantics.specs.declared.steps.ProofStep.TheVariants as step
+use Rattle.cx_texts.specs.Grammar.{spelled_list}
+use Rattle.cx_texts.specs.Printed.{HasProofText}
+use Rattle.cx_texts.specs.Words.{Word, IsWithin}
+use Rattle.cx_base.specs.declared.steps.ProofStep.TheVariants as step
 
 abbrev Limit : ℕ
 Limit = 9223372036854775807

@@ -9,7 +9,7 @@ use Rattle.cx_base.specs.Problem.{clause_met, parity_met}
 use Rattle.cx_base.specs.Parity.{normal_form, sum_of}
 use Rattle.cx_base.proofs.ParityLaws.{Sums, Sums-from_met, met-from_Sums}
 use Rattle.cx_semantics.specs.Chain.{has_literal, is_inside, IsChain, HaveSame}
-use Rattle.cx_semantics.specs.Integers.{is_negative, sizes}
+use Rattle.cx_base.specs.Integers.{is_negative, sizes}
 use Rattle.cx_semantics.specs.Judging.{AllHold}
 use Rattle.cx_semantics.specs.LogRules.{AreLive}
 use Rattle.cx_semantics.specs.ProofRules.{hinting, summing, all_met, clause_of_parity, parity_of_clauses}

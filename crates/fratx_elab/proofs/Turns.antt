@@ -1,22 +1,22 @@
 -- One turn of the elaborator: from what is known before a step to what is known behind it, or to the answer.
 use Rattle.std.proofs.Common.{◌≡◌, refl, sym, ap, ◌∙◌, subst, ℕ, ◌+◌, ◌-◌, Bool, true, false, List, [], ◌∷◌, ◌++◌, length, length-append, take, append-nil, append_assoc, Option, Some, None, Result, Ok, Err, inl, inr, arith, true≢false}
 use Rattle.cx_base.specs.Problem.{Problem, clauses_of, parities_of}
-use Rattle.cx_semantics.specs.declared.steps.LogStep.{LogStep}
-use Rattle.cx_semantics.specs.declared.steps.ProofStep.{ProofStep}
-use Rattle.cx_semantics.specs.declared.steps.Cause.{Cause}
-use Rattle.cx_semantics.specs.declared.steps.Cause.TheVariants as causes
-use Rattle.cx_semantics.specs.Grammar.{Ending, bad_token, too_big, unterminated}
+use Rattle.cx_base.specs.declared.steps.LogStep.{LogStep}
+use Rattle.cx_base.specs.declared.steps.ProofStep.{ProofStep}
+use Rattle.cx_semantics.specs.declared.cause.Cause.{Cause}
+use Rattle.cx_semantics.specs.declared.cause.Cause.TheVariants as causes
+use Rattle.cx_base.specs.Endings.{Ending, bad_token, too_big, unterminated}
 use Rattle.cx_semantics.specs.Judging.{FirstFailure, IsRight, Runs, AcceptedAt, IsOpen, end_cause}
 use Rattle.cx_semantics.specs.LogRules.{log_calculus, log_rules, derives_empty_clause}
 use Rattle.cx_semantics.specs.ProofRules.{proof_calculus, after_step}
 use Rattle.cx_semantics.specs.Tables.{Tables, first_tables, no_tables}
 use Rattle.cx_semantics.proofs.JudgingLaws.{runs_push}
-use Rattle.proof_text.specs.Sources.{GivesNone}
-use Rattle.proof_text.specs.Sinks.{with_next, SinkFaultsAs}
-use Rattle.proof_text.specs.declared.source.TextRefusal.{TextRefusal}
-use Rattle.proof_text.specs.declared.source.TextRefusal.TheVariants as text
-use Rattle.proof_text.specs.declared.sink.SinkFault.{SinkFault}
-use Rattle.proof_text.specs.declared.sink.SinkFault.TheVariants as sink
+use Rattle.step_text.specs.Sources.{GivesNone}
+use Rattle.step_text.specs.Sinks.{with_next, SinkFaultsAs}
+use Rattle.step_text.specs.declared.source.TextRefusal.{TextRefusal}
+use Rattle.step_text.specs.declared.source.TextRefusal.TheVariants as text
+use Rattle.step_text.specs.declared.sink.SinkFault.{SinkFault}
+use Rattle.step_text.specs.declared.sink.SinkFault.TheVariants as sink
 use Rattle.proof_rules.specs.declared.refusal.JudgeRefusal.{JudgeRefusal}
 use Rattle.proof_rules.specs.declared.refusal.JudgeRefusal.TheVariants as refusal
 use Rattle.cx_semantics.specs.Chain.{HaveSame}

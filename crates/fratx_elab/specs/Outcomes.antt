@@ -1,19 +1,19 @@
 -- What the elaborator answers, and what it wrote.
 use Rattle.std.specs.Prelude.{◌≡◌, ℕ, ◌+◌, ◌-◌, Bool, true, false, List, ◌++◌, length, take, Option, Some, None, Result, Ok, Err, ⊤}
 use Rattle.cx_base.specs.Problem.{Problem}
-use Rattle.cx_semantics.specs.declared.steps.LogStep.{LogStep}
-use Rattle.cx_semantics.specs.declared.steps.ProofStep.{ProofStep}
-use Rattle.cx_semantics.specs.declared.steps.Cause.TheVariants as causes
-use Rattle.cx_semantics.specs.Grammar.{Ending}
+use Rattle.cx_base.specs.declared.steps.LogStep.{LogStep}
+use Rattle.cx_base.specs.declared.steps.ProofStep.{ProofStep}
+use Rattle.cx_semantics.specs.declared.cause.Cause.TheVariants as causes
+use Rattle.cx_base.specs.Endings.{Ending}
 use Rattle.cx_semantics.specs.Judging.{Judgement, accepted, refused, IsRight, Runs, AcceptedAt, IsOpen, JudgedAs}
 use Rattle.cx_semantics.specs.LogRules.{log_calculus}
 use Rattle.cx_semantics.specs.ProofRules.{proof_calculus}
 use Rattle.cx_semantics.specs.Tables.{Tables, first_tables, no_tables}
 use Rattle.cx_base.specs.Counts.{Rose}
-use Rattle.proof_text.specs.declared.source.TextRefusal.{TextRefusal}
-use Rattle.proof_text.specs.declared.source.TextRefusal.TheVariants as text
-use Rattle.proof_text.specs.declared.sink.SinkFault.{SinkFault}
-use Rattle.proof_text.specs.declared.sink.SinkFault.TheVariants as sink
+use Rattle.step_text.specs.declared.source.TextRefusal.{TextRefusal}
+use Rattle.step_text.specs.declared.source.TextRefusal.TheVariants as text
+use Rattle.step_text.specs.declared.sink.SinkFault.{SinkFault}
+use Rattle.step_text.specs.declared.sink.SinkFault.TheVariants as sink
 use Rattle.proof_rules.specs.declared.refusal.JudgeRefusal.{JudgeRefusal}
 use Rattle.proof_rules.specs.declared.refusal.JudgeRefusal.TheVariants as refusal
 use Rattle.fratx_elab.specs.Names.{first_names}

@@ -3,14 +3,14 @@ use Rattle.std.specs.Prelude.{◌≡◌, ◌≤◌, ◌+◌, ℕ, ℤ, ⊤, Bool
 use Rattle.cx_base.specs.Literals.{Literal}
 use Rattle.cx_base.specs.Problem.{Problem}
 use Rattle.cx_semantics.specs.Chain.{IsChain}
-use Rattle.cx_semantics.specs.Integers.{literals}
+use Rattle.cx_base.specs.Integers.{literals}
 use Rattle.cx_semantics.specs.Judging.{AllHold, IsRight}
 use Rattle.cx_semantics.specs.LogRules.{AreLive, chained, log_calculus, log_rules, after_log_step, derives_empty_clause}
 use Rattle.cx_semantics.specs.ProofRules.{adding, proof_calculus, after_step, adds_empty_clause}
-use Rattle.cx_semantics.specs.Printed.{HasProofText}
+use Rattle.cx_texts.specs.Printed.{HasProofText}
 use Rattle.cx_semantics.specs.Tables.{Table, Tables, named}
-use Rattle.cx_semantics.specs.declared.steps.LogStep.{LogStep}
-use Rattle.cx_semantics.specs.declared.steps.ProofStep.{ProofStep}
+use Rattle.cx_base.specs.declared.steps.LogStep.{LogStep}
+use Rattle.cx_base.specs.declared.steps.ProofStep.{ProofStep}
 use Rattle.proof_rules.specs.declared.refusal.JudgeRefusal.{JudgeRefusal}
 use Rattle.proof_rules.specs.Judges.{IsRefusedBy}
 use Rattle.fratx_elab.specs.Names.{Names}

@@ -1,6 +1,6 @@
 //! Deletions: what was added is deleted in the proof too.
 ghost use Rattle.std.specs.Prelude.{◌≡◌, ◌≤◌, ◌<◌, IfOk, OnOk, max};
-ghost use Rattle.cx_semantics.specs.declared.steps.LogStep.TheVariants as step;
+ghost use Rattle.cx_base.specs.declared.steps.LogStep.TheVariants as step;
 ghost use Rattle.cx_base.specs.Problem.{Problem};
 ghost use Rattle.cx_base.specs.Numbers.{AreStepIntegers};
 ghost use Rattle.fratx_elab.specs.Elaborates.{deleted_id, number_of_clauses, number_of_parities};
@@ -11,8 +11,7 @@ ghost use Rattle.fratx_elab.specs.declared.naming.TheConstants.{MAX_ID};
 use crate::naming::{Names, ProofId};
 use crate::state::State;
 use crate::steps::{clause_deletion, parity_deletion};
-use cx_base::IntList;
-use cx_semantics::ProofStep;
+use cx_base::{IntList, ProofStep};
 use proof_rules::{JudgeRefusal, Kind};
 use std::alloc::Global;
 

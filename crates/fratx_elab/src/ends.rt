@@ -1,15 +1,15 @@
 //! Where steps come from and go to.
 ghost use Rattle.std.specs.Prelude.{◌≡◌, ◌<◌, ◌≤◌, ◌^◌, ℕ, Bool, true, false, List, Option, OnOk, OnErr};
-ghost use Rattle.cx_semantics.specs.Grammar.{Ending};
-ghost use Rattle.cx_semantics.specs.Printed.{HasProofText};
-ghost use Rattle.cx_semantics.specs.declared.steps.LogStep.{LogStep};
-ghost use Rattle.cx_semantics.specs.declared.steps.ProofStep.{ProofStep};
-ghost use Rattle.proof_text.specs.declared.source.TextRefusal.{TextRefusal};
-ghost use Rattle.proof_text.specs.Sources.{Gives, PlaceRises, FaultsAs, SpentAs, StuckAs, IsTooLongOnly};
-ghost use Rattle.proof_text.specs.Sinks.{with_next, SinkFaultsAs, HasFailedAs, OnFailed};
+ghost use Rattle.cx_base.specs.Endings.{Ending};
+ghost use Rattle.cx_texts.specs.Printed.{HasProofText};
+ghost use Rattle.cx_base.specs.declared.steps.LogStep.{LogStep};
+ghost use Rattle.cx_base.specs.declared.steps.ProofStep.{ProofStep};
+ghost use Rattle.step_text.specs.declared.source.TextRefusal.{TextRefusal};
+ghost use Rattle.step_text.specs.Sources.{Gives, PlaceRises, FaultsAs, SpentAs, StuckAs, IsTooLongOnly};
+ghost use Rattle.step_text.specs.Sinks.{with_next, SinkFaultsAs, HasFailedAs, OnFailed};
 
-use cx_semantics::{LogStep, ProofStep};
-use proof_text::{ProofSink, SinkFault, StepSource, TextRefusal};
+use cx_base::{LogStep, ProofStep};
+use step_text::{Sink, SinkFault, StepSource, TextRefusal};
 
 /// A source of the steps of a log and a sink of the steps of a proof, in one object.
 ///
@@ -102,7 +102,7 @@ pub struct Joined<A, B> {
     pub sink: B,
 }
 
-impl<A: StepSource<Step = LogStep>, B: ProofSink> ElabEnds for Joined<A, B> {
+impl<A: StepSource<Step = LogStep>, B: Sink<Item = ProofStep>> ElabEnds for Joined<A, B> {
     ghost leaves = { λ j. A.leaves j.source };
 
     ghost passes_limit = { λ j. A.passes_limit j.source };
@@ -117,7 +117,7 @@ impl<A: StepSource<Step = LogStep>, B: ProofSink> ElabEnds for Joined<A, B> {
 
     ghost farthest = { λ j. A.farthest j.source };
 
-    ghost steps = { λ j. B.steps j.sink };
+    ghost steps = { λ j. B.items j.sink };
 
     ghost write_faults = { λ j. B.faults j.sink };
 
@@ -136,7 +136,7 @@ impl<A: StepSource<Step = LogStep>, B: ProofSink> ElabEnds for Joined<A, B> {
     }
 
     fn step(&mut self, step: &ProofStep) -> Result<(), SinkFault> {
-        self.sink.step(step)
+        self.sink.put(step)
     }
 
     ghost leaves_some = { λ j. A.leaves_some j.source };

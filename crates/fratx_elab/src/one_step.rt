@@ -15,8 +15,7 @@ use crate::take::{
     take_clause, take_clause_of_parity, take_original, take_original_parity, take_parity,
     take_parity_of_clauses,
 };
-use cx_base::Formula;
-use cx_semantics::{LogStep, ProofStep};
+use cx_base::{Formula, LogStep, ProofStep};
 use proof_rules::JudgeRefusal;
 use std::alloc::Global;
 

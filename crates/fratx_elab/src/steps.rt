@@ -1,11 +1,10 @@
 //! The steps of the proof that is written.
 ghost use Rattle.std.specs.Prelude.{◌≡◌, ◌≤◌, pos, [], ◌∷◌, IfOk};
-ghost use Rattle.cx_semantics.specs.Printed.{HasProofText};
-ghost use Rattle.cx_semantics.specs.declared.steps.ProofStep.TheVariants as step;
+ghost use Rattle.cx_texts.specs.Printed.{HasProofText};
+ghost use Rattle.cx_base.specs.declared.steps.ProofStep.TheVariants as step;
 
 use crate::naming::ProofId;
-use cx_base::{IdList, IntList};
-use cx_semantics::ProofStep;
+use cx_base::{IdList, IntList, ProofStep};
 use std::alloc::{AllocError, Global};
 
 /// A clause by a chain.

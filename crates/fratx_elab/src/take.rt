@@ -4,7 +4,7 @@ ghost use Rattle.cx_base.specs.Problem.{Problem};
 ghost use Rattle.cx_semantics.specs.Chain.{IsChain};
 ghost use Rattle.cx_semantics.specs.LogRules.{AreLive, HasChain, chained, derives_empty_clause};
 ghost use Rattle.cx_semantics.specs.Tables.{Tables, named};
-ghost use Rattle.cx_semantics.specs.declared.steps.LogStep.TheVariants as step;
+ghost use Rattle.cx_base.specs.declared.steps.LogStep.TheVariants as step;
 ghost use Rattle.proof_rules.specs.Kinds.{chosen};
 ghost use Rattle.fratx_elab.specs.Contents.{StandsFor};
 ghost use Rattle.fratx_elab.specs.Names.{hints_for};
@@ -16,8 +16,8 @@ use crate::naming::Names;
 use crate::originals::Originals;
 use crate::state::State;
 use crate::steps::{clause_of_parity_step, clause_step, parity_of_clauses_step, parity_step};
-use cx_base::{Formula, IdList, IntList, LitList};
-use cx_semantics::{Cause, ProofStep};
+use cx_base::{Formula, IdList, IntList, LitList, ProofStep};
+use cx_semantics::Cause;
 use proof_rules::{
     JudgeRefusal, Kind, ids_of, judge_clause_of_named_parity, judge_named_sum,
     judge_parity_of_named_clauses,

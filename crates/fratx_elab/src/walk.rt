@@ -1,8 +1,8 @@
 //! The elaborator: steps are taken one after another.
 ghost use Rattle.std.specs.Prelude.{◌≡◌, ◌<◌, ◌≤◌, ◌^◌, ◌+◌, false, None, length, IfOk, IfErr, OnOk, OnErr, List};
-ghost use Rattle.cx_semantics.specs.Grammar.{Ending};
+ghost use Rattle.cx_base.specs.Endings.{Ending};
 ghost use Rattle.cx_semantics.specs.Tables.{Tables};
-ghost use Rattle.cx_semantics.specs.declared.steps.LogStep.{LogStep};
+ghost use Rattle.cx_base.specs.declared.steps.LogStep.{LogStep};
 ghost use Rattle.cx_base.specs.Problem.{Problem};
 ghost use Rattle.fratx_elab.specs.Contents.{StandsFor};
 ghost use Rattle.fratx_elab.specs.Elaborates.{number_of_clauses, number_of_parities};
@@ -10,7 +10,7 @@ ghost use Rattle.fratx_elab.specs.Outcomes.{IsElaborated, IsCutOff, HasCause, Ke
 ghost use Rattle.fratx_elab.specs.Takes.{CanBePrinted, CountsOneMore, TakesLogStep, names_of};
 ghost use Rattle.fratx_elab.specs.Ties.{AreTied};
 ghost use Rattle.fratx_elab.specs.Writing.{WritesDown};
-ghost use Rattle.proof_text.specs.Sinks.{SinkFaultsAs, HasFailedAs};
+ghost use Rattle.step_text.specs.Sinks.{SinkFaultsAs, HasFailedAs};
 
 use crate::ends::ElabEnds;
 use crate::naming::Names;
@@ -18,12 +18,12 @@ use crate::one_step::{ends_log, take_step};
 use crate::originals::{Counts, Originals, count_kinds};
 use crate::outcome::{Elab, ElabFault};
 use crate::state::State;
-use cx_base::Formula;
-use cx_semantics::{Cause, LogStep, ProofStep};
+use cx_base::{Formula, LogStep, ProofStep};
+use cx_semantics::Cause;
 use proof_rules::JudgeRefusal;
-use proof_text::{SinkFault, TextRefusal};
 use rup_finder::IndexedClauses;
 use std::alloc::Global;
+use step_text::{SinkFault, TextRefusal};
 
 /// Hands a step to the sink, if there is one.
 fn write<E: ElabEnds>(ends: &mut E, written: &Option<ProofStep>) -> Result<(), SinkFault>

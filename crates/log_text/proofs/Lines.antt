@@ -1,11 +1,11 @@
 -- Lines of a log in their pieces.
 use Rattle.std.proofs.Common.{◌≡◌, sym, ap, ◌∙◌, ℕ, ℤ, pos, List, [], ◌∷◌, ◌++◌, decimal, codes, append_assoc, append-nil}
 use Rattle.cx_desk.specs.Outside.{Bytes}
-use Rattle.cx_semantics.specs.Words.{number, conflict}
-use Rattle.cx_semantics.specs.Grammar.{spelled_list}
-use Rattle.cx_semantics.specs.Printed.{printed_line}
-use Rattle.proof_text.specs.Spaced.{spaced}
-use Rattle.proof_text.proofs.Puts.{line_spaced}
+use Rattle.cx_texts.specs.Words.{number, conflict}
+use Rattle.cx_texts.specs.Grammar.{spelled_list}
+use Rattle.cx_texts.specs.Printed.{printed_line}
+use Rattle.step_text.specs.Spaced.{spaced}
+use Rattle.step_text.proofs.Puts.{line_spaced}
 
 pub plain_line : (before : Bytes) (n : ℕ) (ls : List ℤ) → before ++ (decimal n ++ (spaced (spelled_list ls) ++ 10 ∷ [])) ≡ before ++ printed_line (number (pos n) ∷ (spelled_list ls ++ []))
 plain_line before n ls =

@@ -1,24 +1,24 @@
 -- The steps of logs from their parts, and what was taken and refused in the grammar of logs.
 use Rattle.std.proofs.Common.{◌≡◌, ◌≢◌, refl, ap, ◌∙◌, subst, ℕ, ◌<◌, ℤ, pos, false, List, [], ◌∷◌, ◌++◌, flat_map, Some, None, Result, Ok, Err}
 use Rattle.std.specs.List.{AllByRecursion}
-use Rattle.cx_semantics.specs.declared.steps.LogStep.{LogStep}
-use Rattle.cx_semantics.specs.declared.steps.LogStep.TheVariants as log
-use Rattle.cx_semantics.specs.Words.{Word, number, letter, Placed, words}
-use Rattle.cx_semantics.specs.Grammar.{mark, id, integers, spelled_list, IsStep, Stops, Spells}
-use Rattle.cx_semantics.specs.LogText.{log_steps, log_fields}
-use Rattle.cx_semantics.proofs.Shapes.{Kind, a_mark, an_id, an_end, some_ids, some_integers}
-use Rattle.cx_semantics.proofs.Remaining.{after_word, remaining, remaining-push, begins_nowhere, both_passed, positive}
-use Rattle.cx_semantics.proofs.LogSteps.{log_rows, maybe_hinted, behind_step, behind_words}
-use Rattle.cx_semantics.proofs.Grammars.{log_forms}
-use Rattle.proof_text.specs.declared.source.TextRefusal.{TextRefusal}
-use Rattle.proof_text.specs.declared.source.TextRefusal.TheVariants.{BadToken, Unterminated}
-use Rattle.proof_text.specs.declared.ahead.SeenWord.{SeenWord}
-use Rattle.proof_text.specs.Heads.{seen_head, is_head_letter}
-use Rattle.proof_text.specs.Taking.{Takes, HeadFails, MayGoOn, RefusedIn}
-use Rattle.proof_text.specs.Reading.{ReadsStep}
-use Rattle.proof_text.proofs.TakingLaws.{takes_append, refused_then, head_refused, none_after}
-use Rattle.proof_text.proofs.Choices.{head_refuses, refused_beside}
-use Rattle.proof_text.proofs.ReadingLaws as reading
+use Rattle.cx_base.specs.declared.steps.LogStep.{LogStep}
+use Rattle.cx_base.specs.declared.steps.LogStep.TheVariants as log
+use Rattle.cx_texts.specs.Words.{Word, number, letter, Placed, words}
+use Rattle.cx_texts.specs.Grammar.{mark, id, integers, spelled_list, IsStep, Stops, Spells}
+use Rattle.cx_texts.specs.LogText.{log_steps, log_fields}
+use Rattle.cx_texts.proofs.Shapes.{Kind, a_mark, an_id, an_end, some_ids, some_integers}
+use Rattle.cx_texts.proofs.Remaining.{after_word, remaining, remaining-push, begins_nowhere, both_passed, positive}
+use Rattle.cx_texts.proofs.LogSteps.{log_rows, maybe_hinted, behind_step, behind_words}
+use Rattle.cx_texts.proofs.Grammars.{log_forms}
+use Rattle.step_text.specs.declared.source.TextRefusal.{TextRefusal}
+use Rattle.step_text.specs.declared.source.TextRefusal.TheVariants.{BadToken, Unterminated}
+use Rattle.step_text.specs.declared.ahead.SeenWord.{SeenWord}
+use Rattle.step_text.specs.Heads.{seen_head, is_head_letter}
+use Rattle.step_text.specs.Taking.{Takes, HeadFails, MayGoOn, RefusedIn}
+use Rattle.step_text.specs.Reading.{ReadsStep}
+use Rattle.step_text.proofs.TakingLaws.{takes_append, refused_then, head_refused, none_after}
+use Rattle.step_text.proofs.Choices.{head_refuses, refused_beside}
+use Rattle.step_text.proofs.ReadingLaws as reading
 use Rattle.log_text.specs.declared.plain.Plain.{Plain}
 use Rattle.log_text.specs.declared.plain.Plain.TheVariants as plain
 use Rattle.log_text.specs.Taking.{letter_of, listed_rows, StandsAlone, TakesLogStep}

@@ -1,12 +1,12 @@
 -- Integers that may be the last field of one list of kinds and not the last of another.
 use Rattle.std.proofs.Common.{◌≡◌, refl, sym, ap, ◌∙◌, subst, ℕ, zero, suc, pos, negsuc, List, [], ◌∷◌, ◌++◌, flat_map}
-use Rattle.cx_semantics.specs.Words.{Word, number, letter, conflict, other, Placed, words}
-use Rattle.cx_semantics.proofs.Shapes.{Kind, some_integers, Move, closes, stays, refuses, move}
-use Rattle.cx_semantics.proofs.Remaining.{behind, after_word, remaining}
-use Rattle.proof_text.specs.declared.source.TextRefusal.{TextRefusal}
-use Rattle.proof_text.specs.declared.source.TextRefusal.TheVariants.{BadToken, Unterminated, TooBig, TooLong, Memory, Failed}
-use Rattle.proof_text.specs.Taking.{IsFit, MayGoOn, RefusedIn}
-use Rattle.proof_text.proofs.TakingLaws.{none_after, some_behind}
+use Rattle.cx_texts.specs.Words.{Word, number, letter, conflict, other, Placed, words}
+use Rattle.cx_texts.proofs.Shapes.{Kind, some_integers, Move, closes, stays, refuses, move}
+use Rattle.cx_texts.proofs.Remaining.{behind, after_word, remaining}
+use Rattle.step_text.specs.declared.source.TextRefusal.{TextRefusal}
+use Rattle.step_text.specs.declared.source.TextRefusal.TheVariants.{BadToken, Unterminated, TooBig, TooLong, Memory, Failed}
+use Rattle.step_text.specs.Taking.{IsFit, MayGoOn, RefusedIn}
+use Rattle.step_text.proofs.TakingLaws.{none_after, some_behind}
 
 abbrev one : List (List Kind)
 one = (some_integers ∷ []) ∷ []

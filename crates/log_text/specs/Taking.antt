@@ -1,15 +1,15 @@
 -- Parts of a log step that are taken from a text's words, and how the words refuse what must follow.
 use Rattle.std.specs.Prelude.{◌≡◌, ℕ, ℤ, Bool, false, List, [], ◌∷◌, cond, ⊤, Result, MatchResult}
-use Rattle.cx_semantics.specs.declared.steps.LogStep.{LogStep}
-use Rattle.cx_semantics.specs.declared.steps.LogStep.TheVariants.{Clause}
-use Rattle.cx_semantics.specs.Words.{Placed}
-use Rattle.cx_semantics.specs.Grammar.{Field, mark, id, integers}
-use Rattle.cx_semantics.specs.LogText.{log_fields}
-use Rattle.cx_semantics.proofs.Shapes.{Kind, a_mark, an_id, some_integers}
-use Rattle.cx_semantics.proofs.LogSteps.{log_rows}
-use Rattle.proof_text.specs.declared.source.TextRefusal.{TextRefusal}
-use Rattle.proof_text.specs.Heads.{is_head_letter}
-use Rattle.proof_text.specs.Taking.{Takes, RefusedIn}
+use Rattle.cx_base.specs.declared.steps.LogStep.{LogStep}
+use Rattle.cx_base.specs.declared.steps.LogStep.TheVariants.{Clause}
+use Rattle.cx_texts.specs.Words.{Placed}
+use Rattle.cx_texts.specs.Grammar.{Field, mark, id, integers}
+use Rattle.cx_texts.specs.LogText.{log_fields}
+use Rattle.cx_texts.proofs.Shapes.{Kind, a_mark, an_id, some_integers}
+use Rattle.cx_texts.proofs.LogSteps.{log_rows}
+use Rattle.step_text.specs.declared.source.TextRefusal.{TextRefusal}
+use Rattle.step_text.specs.Heads.{is_head_letter}
+use Rattle.step_text.specs.Taking.{Takes, RefusedIn}
 use Rattle.log_text.specs.declared.plain.Plain.{Plain}
 use Rattle.log_text.specs.declared.plain.Plain.TheVariants as plain
 

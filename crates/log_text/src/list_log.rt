@@ -1,18 +1,18 @@
 //! A log that is kept as a list.
 ghost use Rattle.std.specs.Prelude.{◌≡◌, [], ◌∷◌, ◌++◌, OnOk, OnErr, IfErr};
 ghost use Rattle.std.specs.List.{AllByRecursion};
-ghost use Rattle.cx_semantics.specs.declared.steps.LogEvent.TheVariants.{Step, Conflict};
-ghost use Rattle.cx_semantics.specs.Grammar.{finished};
-ghost use Rattle.cx_semantics.specs.LogText.{LogReads, steps_of};
-ghost use Rattle.cx_semantics.specs.Printed.{HasText, printed_log};
-ghost use Rattle.proof_text.specs.declared.sink.SinkFault.TheVariants.{Memory};
+ghost use Rattle.cx_base.specs.declared.steps.LogEvent.TheVariants.{Step, Conflict};
+ghost use Rattle.cx_base.specs.Endings.{finished};
+ghost use Rattle.cx_texts.specs.LogText.{LogReads};
+ghost use Rattle.cx_base.specs.Events.{steps_of};
+ghost use Rattle.cx_texts.specs.Printed.{HasText, printed_log};
+ghost use Rattle.step_text.specs.declared.sink.SinkFault.TheVariants.{Memory};
 
 use crate::log_list::LogList;
-use crate::sink::LogSink;
-use cx_semantics::{LogEvent, LogStep};
-use proof_text::SinkFault;
+use cx_base::LogEvent;
 use std::alloc::Global;
 use std::marker::Model;
+use step_text::{Sink, SinkFault};
 
 /// A sink that keeps the list of its events. It never fails but for want of memory.
 #[derive(Drop)]
@@ -23,8 +23,8 @@ pub struct ListLog {
 impl Model for ListLog {
     ghost use Rattle.std.specs.Prelude.{List};
     ghost use Rattle.std.specs.List.{AllByRecursion};
-    ghost use Rattle.cx_semantics.specs.declared.steps.LogEvent.{LogEvent};
-    ghost use Rattle.cx_semantics.specs.Printed.{HasText};
+    ghost use Rattle.cx_base.specs.declared.steps.LogEvent.{LogEvent};
+    ghost use Rattle.cx_texts.specs.Printed.{HasText};
 
     ghost Value = { List LogEvent };
 
@@ -76,10 +76,12 @@ impl ListLog {
     }
 }
 
-impl LogSink for ListLog {
+impl Sink for ListLog {
+    type Item = LogEvent;
+
     ghost use Rattle.std.specs.Prelude.{Some, false};
 
-    ghost events = { λ a. Some a };
+    ghost items = { λ a. Some a };
 
     ghost faults = { λ _. 0 };
 
@@ -89,26 +91,17 @@ impl LogSink for ListLog {
 
     ghost keeps = { λ _ _. Unit {0} };
 
-    /// Keeps a copy of the step.
-    fn step(&mut self, step: &LogStep) -> Result<(), SinkFault>
-        requires text { HasText (Step step.now) }
-        ensures kept { OnOk result (self.new ≡ self.old ++ Step step.now ∷ []) }
+    /// Keeps a copy of the event.
+    fn put(&mut self, event: &LogEvent) -> Result<(), SinkFault>
+        requires text { HasText event.now }
+        ensures kept { OnOk result (self.new ≡ self.old ++ event.now ∷ []) }
         ensures unchanged { OnErr result (self.new ≡ self.old) }
         ensures memory { IfErr result (λ e. e ≡ Memory) }
     {
-        match step.clone() {
-            Ok(copy) => self.push(LogEvent::Step(copy)),
+        match event.clone() {
+            Ok(copy) => self.push(copy),
             Err(_) => Err(SinkFault::Memory),
         }
-    }
-
-    /// Keeps the mark.
-    fn conflict(&mut self, k: u64) -> Result<(), SinkFault>
-        ensures kept { OnOk result (self.new ≡ self.old ++ Conflict k ∷ []) }
-        ensures unchanged { OnErr result (self.new ≡ self.old) }
-        ensures memory { IfErr result (λ e. e ≡ Memory) }
-    {
-        self.push(LogEvent::Conflict(k))
     }
 
     ghost keeps_itself = { λ _. tt };

@@ -2,13 +2,13 @@
 ghost use Rattle.std.specs.Prelude.{◌≡◌, ◌<◌, ◌^◌, [], ◌++◌, length, None};
 ghost use Rattle.std.specs.Option.{option_to_list};
 ghost use Rattle.std.specs.Vec.Iter.{into_iter_items, into_iter_len};
-ghost use Rattle.cx_semantics.specs.LogText.{steps_of};
-ghost use Rattle.proof_text.specs.Lists.{StepsLeft};
+ghost use Rattle.cx_base.specs.Events.{steps_of};
+ghost use Rattle.step_text.specs.Lists.{StepsLeft};
 
-use cx_semantics::{LogEvent, LogStep};
-use proof_text::{StepSource, TextRefusal};
+use cx_base::{LogEvent, LogStep};
 use std::marker::Model;
 use std::vec::IntoIter;
+use step_text::{StepSource, TextRefusal};
 
 /// The steps of a list of events, by moves, in order. Marks are passed over. It has no limit and never refuses.
 ///
@@ -22,9 +22,9 @@ pub struct LogList {
 impl Model for LogList {
     ghost use Rattle.std.specs.Prelude.{◌≡◌, ◌+◌, ◌^◌, ◌<◌, length};
     ghost use Rattle.std.specs.Vec.Iter.{into_iter_items, into_iter_len};
-    ghost use Rattle.cx_semantics.specs.declared.steps.LogStep.{LogStep};
-    ghost use Rattle.cx_semantics.specs.LogText.{steps_of};
-    ghost use Rattle.proof_text.specs.Lists.{StepsLeft};
+    ghost use Rattle.cx_base.specs.declared.steps.LogStep.{LogStep};
+    ghost use Rattle.cx_base.specs.Events.{steps_of};
+    ghost use Rattle.step_text.specs.Lists.{StepsLeft};
 
     ghost Value = { StepsLeft LogStep };
 
@@ -66,9 +66,9 @@ impl StepSource for LogList {
     type Step = LogStep;
 
     ghost use Rattle.std.specs.Prelude.{None, false, refl};
-    ghost use Rattle.cx_semantics.specs.Grammar.{finished};
-    ghost use Rattle.proof_text.specs.Lists.{LeavesList, last_place, GaveFront};
-    ghost use Rattle.proof_text.specs.ListLaws.{gave_nothing, gave_on};
+    ghost use Rattle.cx_base.specs.Endings.{finished};
+    ghost use Rattle.step_text.specs.Lists.{LeavesList, last_place, GaveFront};
+    ghost use Rattle.step_text.specs.ListLaws.{gave_nothing, gave_on};
 
     ghost leaves = { LeavesList };
 

@@ -1,20 +1,20 @@
 //! A log that is not kept.
 ghost use Rattle.std.specs.Prelude.{IsOk};
-ghost use Rattle.cx_semantics.specs.declared.steps.LogEvent.TheVariants.{Step};
-ghost use Rattle.cx_semantics.specs.Printed.{HasText};
+ghost use Rattle.cx_texts.specs.Printed.{HasText};
 
-use crate::sink::LogSink;
-use cx_semantics::LogStep;
-use proof_text::SinkFault;
+use cx_base::LogEvent;
+use step_text::{Sink, SinkFault};
 
 /// A sink that forgets what it is given, and tells nothing. It takes no memory and never fails.
 #[derive(Clone, Copy, Debug, Drop)]
 pub struct NoLog;
 
-impl LogSink for NoLog {
+impl Sink for NoLog {
+    type Item = LogEvent;
+
     ghost use Rattle.std.specs.Prelude.{None, false};
 
-    ghost events = { λ _. None };
+    ghost items = { λ _. None };
 
     ghost faults = { λ _. 0 };
 
@@ -24,16 +24,9 @@ impl LogSink for NoLog {
 
     ghost keeps = { λ _ _. Unit {0} };
 
-    /// Forgets the step.
-    fn step(&mut self, _step: &LogStep) -> Result<(), SinkFault>
-        requires text { HasText (Step _step.now) }
-        ensures never_fails { IsOk result }
-    {
-        Ok(())
-    }
-
-    /// Forgets the mark.
-    fn conflict(&mut self, _k: u64) -> Result<(), SinkFault>
+    /// Forgets the event.
+    fn put(&mut self, _event: &LogEvent) -> Result<(), SinkFault>
+        requires text { HasText _event.now }
         ensures never_fails { IsOk result }
     {
         Ok(())

@@ -1,12 +1,12 @@
 //! The steps that have literals alone.
 ghost use Rattle.std.specs.Prelude.{◌≡◌, ◌∷◌, List};
-ghost use Rattle.cx_semantics.specs.Words.{Placed};
-ghost use Rattle.cx_semantics.specs.Grammar.{mark};
-ghost use Rattle.cx_semantics.specs.LogText.{log_fields};
+ghost use Rattle.cx_texts.specs.Words.{Placed};
+ghost use Rattle.cx_texts.specs.Grammar.{mark};
+ghost use Rattle.cx_texts.specs.LogText.{log_fields};
 ghost use Rattle.log_text.specs.Taking.{letter_of, listed_fields, StandsAlone};
 
-use cx_semantics::LogStep;
-use proof_text::fields::Named;
+use cx_base::LogStep;
+use step_text::fields::Named;
 
 /// An id and literals, and whether they are of a parity.
 #[derive(Drop)]

@@ -1,17 +1,17 @@
 //! The printed form of logs.
 ghost use Rattle.std.specs.Prelude.{[], ◌∷◌, ◌++◌, flat_map, decimal};
 ghost use Rattle.cx_desk.specs.Calls.{PutsAll};
-ghost use Rattle.cx_semantics.specs.declared.steps.LogEvent.TheVariants.{Step};
-ghost use Rattle.cx_semantics.specs.Words.{conflict};
-ghost use Rattle.cx_semantics.specs.Grammar.{spelling, spelled, mark, id, ids, integers, end};
-ghost use Rattle.cx_semantics.specs.LogText.{log_steps, log_events};
-ghost use Rattle.cx_semantics.specs.Printed.{printed_line, printed_log, HasText};
-ghost use Rattle.proof_text.specs.Spaced.{spaced};
+ghost use Rattle.cx_base.specs.declared.steps.LogEvent.TheVariants.{Step};
+ghost use Rattle.cx_texts.specs.Words.{conflict};
+ghost use Rattle.cx_texts.specs.Grammar.{spelling, spelled, mark, id, ids, integers, end};
+ghost use Rattle.cx_texts.specs.LogText.{log_steps, log_events};
+ghost use Rattle.cx_texts.specs.Printed.{printed_line, printed_log, HasText};
+ghost use Rattle.step_text.specs.Spaced.{spaced};
 
 use crate::list_log::ListLog;
+use cx_base::{LogEvent, LogStep};
 use cx_desk::{Desk, Failed, Port};
-use cx_semantics::{LogEvent, LogStep};
-use proof_text::pieces::{put_head, put_id, put_ids, put_integers};
+use step_text::pieces::{put_head, put_id, put_ids, put_integers};
 
 /// An id and literals behind a text, as the end of a line.
 fn put_plain<D: Desk>(

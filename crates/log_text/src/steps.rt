@@ -1,20 +1,19 @@
 //! The steps of a log, taken from a text's tokens.
 ghost use Rattle.std.specs.Prelude.{◌≡◌, true, false, [], ◌∷◌, MatchResult};
-ghost use Rattle.cx_semantics.specs.Words.{placed_words};
-ghost use Rattle.cx_semantics.specs.Grammar.{mark, id, end, ids, integers};
-ghost use Rattle.cx_semantics.proofs.LogSteps.{log_rows};
-ghost use Rattle.cx_semantics.proofs.Shapes.{a_mark, an_id, an_end, some_ids, some_integers};
-ghost use Rattle.proof_text.specs.Heads.{is_head_letter};
-ghost use Rattle.proof_text.specs.Taking.{Takes, RefusedIn, TakesAll};
+ghost use Rattle.cx_texts.specs.Words.{placed_words};
+ghost use Rattle.cx_texts.specs.Grammar.{mark, id, end, ids, integers};
+ghost use Rattle.cx_texts.proofs.LogSteps.{log_rows};
+ghost use Rattle.cx_texts.proofs.Shapes.{a_mark, an_id, an_end, some_ids, some_integers};
+ghost use Rattle.step_text.specs.Heads.{is_head_letter};
+ghost use Rattle.step_text.specs.Taking.{Takes, RefusedIn, TakesAll};
 ghost use Rattle.log_text.specs.Taking.{letter_of, listed_fields, listed_rows, TakesLogStep};
 
 use crate::plain::{Listed, Plain, plain_step};
-use cx_base::{IdList, IntList};
-use cx_semantics::LogStep;
-use proof_text::ahead::TokensAhead;
-use proof_text::fields::{take_end, take_id, take_ids, take_integers, take_letter, take_named};
-use proof_text::{StepGrammar, StepText, TextRefusal};
+use cx_base::{IdList, IntList, LogStep};
 use std::alloc::Global;
+use step_text::ahead::TokensAhead;
+use step_text::fields::{take_end, take_id, take_ids, take_integers, take_letter, take_named};
+use step_text::{StepGrammar, StepText, TextRefusal};
 
 /// The grammar of logs.
 #[derive(Drop)]
@@ -190,8 +189,8 @@ fn take_step(alloc: Global, tokens: &mut TokensAhead, size: usize) -> Result<Log
 impl StepGrammar for LogGrammar {
     type Step = LogStep;
 
-    ghost use Rattle.cx_semantics.specs.LogText.{log_steps};
-    ghost use Rattle.cx_semantics.proofs.Grammars.{log_forms};
+    ghost use Rattle.cx_texts.specs.LogText.{log_steps};
+    ghost use Rattle.cx_texts.proofs.Grammars.{log_forms};
 
     ghost steps = { log_steps };
 

@@ -3,9 +3,9 @@ use Rattle.std.proofs.Common.{◌≡◌, refl, sym, ap, ◌∙◌, subst, ℕ, z
 use Rattle.std.specs.List.{enumerate_from, onto_first}
 use Rattle.std.proofs.lemmas.List.{map-append}
 use Rattle.std.proofs.lemmas.List.Sums.{fold-append}
-use Rattle.cx_semantics.specs.Tokens.{Token, is_blank, is_comment, lines_from, tokens_of_line, tokens_of_lines, tokens, NoBlank, EndsRun}
-use Rattle.cx_semantics.proofs.Lines.{Line, StartsBlank, NoFeed, lines-line, lines-last, enumerate-append}
-use Rattle.cx_semantics.proofs.TokenLaws.{token_at, blank_tokens, run_line}
+use Rattle.cx_texts.specs.Tokens.{Token, is_blank, is_comment, lines_from, tokens_of_line, tokens_of_lines, tokens, NoBlank, EndsRun}
+use Rattle.cx_texts.proofs.Lines.{Line, StartsBlank, NoFeed, lines-line, lines-last, enumerate-append}
+use Rattle.cx_texts.proofs.TokenLaws.{token_at, blank_tokens, run_line}
 use Rattle.model_out.specs.LineTokens.{LineToken, step_in_line, at_line_begin, line_token}
 use Rattle.model_out.specs.Laws.{begin_with_first, LineTokensAreOfLines}
 use Rattle.model_out.proofs.PrintedLaws.{front_of, piece_inside}

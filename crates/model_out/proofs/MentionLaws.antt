@@ -5,8 +5,8 @@ use Rattle.std.proofs.lemmas.List.Elements.{filter-append}
 use Rattle.cx_base.specs.Literals.{value_of}
 use Rattle.cx_base.specs.Problem.{Problem}
 use Rattle.cx_base.specs.declared.literal.TheConstants.{MAX_VARIABLE}
-use Rattle.cx_semantics.specs.Integers.{is_negative}
-use Rattle.cx_semantics.proofs.DigitLaws.{not_equal}
+use Rattle.cx_base.specs.Integers.{is_negative}
+use Rattle.cx_texts.proofs.DigitLaws.{not_equal}
 use Rattle.model_out.specs.Answers.{written_of, as_literal, IsVariable, Gives, LeastVariable, IsMissing, IsRepeated}
 use Rattle.model_out.specs.Mentions.{mention_of, is_never, is_repeated, is_true_once, IsFirstOf, AreMentionsOf}
 use Rattle.model_out.specs.Settling.{NoneMissing}

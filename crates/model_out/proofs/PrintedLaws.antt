@@ -7,13 +7,13 @@ use Rattle.std.proofs.lemmas.List.{take-append-le, take_all}
 use Rattle.std.proofs.lemmas.List.Sums.{fold-append}
 use Rattle.cx_base.specs.Problem.{Problem}
 use Rattle.cx_base.specs.declared.literal.TheConstants.{MAX_VARIABLE}
-use Rattle.cx_semantics.specs.AnswerText.{break_before, printed_value, answer_text}
-use Rattle.cx_semantics.specs.Printed.{printed_integer}
-use Rattle.cx_semantics.specs.Tokens.{Token, is_blank, tokens, tokens_from, tokens_within, NoBlank, EndsRun}
-use Rattle.cx_semantics.proofs.DigitLaws.{digit_is, digits_are, digit_bounds, not_equal, digits_no_blank}
-use Rattle.cx_semantics.proofs.PrintedWords.{IsPiece, integer-printed}
-use Rattle.cx_semantics.proofs.Lines.{not_feed}
-use Rattle.cx_semantics.proofs.TokenLaws.{token_at, tokens_from-kept, tokens_within-blank, tokens_within-feed, tokens_within-run}
+use Rattle.cx_texts.specs.AnswerText.{break_before, printed_value, answer_text}
+use Rattle.cx_texts.specs.Printed.{printed_integer}
+use Rattle.cx_texts.specs.Tokens.{Token, is_blank, tokens, tokens_from, tokens_within, NoBlank, EndsRun}
+use Rattle.cx_texts.proofs.DigitLaws.{digit_is, digits_are, digit_bounds, not_equal, digits_no_blank}
+use Rattle.cx_texts.proofs.PrintedWords.{IsPiece, integer-printed}
+use Rattle.cx_texts.proofs.Lines.{not_feed}
+use Rattle.cx_texts.proofs.TokenLaws.{token_at, tokens_from-kept, tokens_within-blank, tokens_within-feed, tokens_within-run}
 use Rattle.model_out.specs.LineTokens.{LineToken, step_in_line, at_line_begin, line_token, line_tokens}
 use Rattle.model_out.specs.Answers.{behind_status, written_of, as_literal, Gives, AnswerReads}
 use Rattle.model_out.specs.Laws.{PrintedAnswersRead}

@@ -8,7 +8,7 @@ use Rattle.cx_desk.specs.declared.desk.Port.TheVariants.{Answer}
 use Rattle.cx_desk.specs.Outside.{Bytes, Outside}
 use Rattle.cx_desk.specs.Calls.{gained, PutsAll}
 use Rattle.cx_desk.proofs.Moves.{gained-twice, gained-none, fails-within}
-use Rattle.cx_semantics.specs.AnswerText.{printed_value, answer_text}
+use Rattle.cx_texts.specs.AnswerText.{printed_value, answer_text}
 use Rattle.model_out.specs.Waiting.{Takes, Fails, Adds}
 
 first_fails : (a b : Bytes) (old new : Outside) → Fails a old new → Fails (a ++ b) old new

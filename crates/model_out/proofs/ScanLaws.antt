@@ -1,6 +1,6 @@
 -- The scan of the `v` lines gives what the form of answers says.
 use Rattle.std.proofs.Common.{◌≡◌, ◌≢◌, refl, sym, ap, ◌∙◌, subst, ℕ, zero, suc, ℤ, pos, negsuc, List, [], ◌∷◌, ◌++◌, append_assoc, append-nil}
-use Rattle.cx_semantics.proofs.Shapes.{pos_not_zero, neg_not_zero}
+use Rattle.cx_texts.proofs.Shapes.{pos_not_zero, neg_not_zero}
 use Rattle.model_out.specs.LineTokens.{LineToken}
 use Rattle.model_out.specs.Answers.{Part, mark, number, strange, part_of, GoesOn, AllGoOn, onto_numbers, numbers, FirstBad, at_strange, behind_zero, at_end}
 use Rattle.model_out.specs.Reading.{whole, bad, scan_end, at_part, scan}

@@ -1,6 +1,6 @@
 -- One token of the `v` lines.
 use Rattle.std.proofs.Common.{◌≡◌, ◌≢◌, refl, ap, ◌∙◌, ℕ, zero, suc, ℤ, pos, negsuc, true, false, cond, List, [], ◌∷◌, ◌++◌, Option, Some, None, MatchOption, Result, Ok, Err, codes, bytes_eq}
-use Rattle.cx_semantics.specs.Words.{integer}
+use Rattle.cx_texts.specs.Words.{integer}
 use Rattle.model_out.specs.LineTokens.{LineToken}
 use Rattle.model_out.specs.Answers.{Part, mark, number, strange, part_of, number_or_strange}
 use Rattle.model_out.specs.Mentions.{AreMentionsOf}

@@ -4,7 +4,7 @@ use Rattle.std.specs.List.{AllByRecursion}
 use Rattle.std.specs.Str.{bytes_eq}
 use Rattle.cx_base.specs.Literals.{value_of}
 use Rattle.cx_base.specs.Problem.{Problem, Meets, first_unmet}
-use Rattle.cx_semantics.specs.Words.{integer}
+use Rattle.cx_texts.specs.Words.{integer}
 use Rattle.model_out.specs.LineTokens.{LineToken, line_tokens, begins_line}
 use Rattle.model_out.specs.declared.refusal.AnswerRefusal.{AnswerRefusal}
 use Rattle.model_out.specs.declared.refusal.AnswerRefusal.TheVariants.{NoStatusLine, BadToken, Missing, Twice, Unmet, Memory}

@@ -2,9 +2,9 @@
 use Rattle.std.specs.Prelude.{◌≡◌, ◌≢◌, ℕ, ◌≤◌, Bool, true, false, not, List, [], ◌∷◌, map, filter, flat_map, Result, Err}
 use Rattle.cx_base.specs.Problem.{Problem, Meets}
 use Rattle.cx_base.specs.declared.literal.TheConstants.{MAX_VARIABLE}
-use Rattle.cx_semantics.specs.AnswerText.{answer_text}
-use Rattle.cx_semantics.specs.ExactlyOne.{ExactlyOne}
-use Rattle.cx_semantics.specs.Tokens.{Token, is_comment, lines_from, tokens_of_line}
+use Rattle.cx_texts.specs.AnswerText.{answer_text}
+use Rattle.cx_base.specs.ExactlyOne.{ExactlyOne}
+use Rattle.cx_texts.specs.Tokens.{Token, is_comment, lines_from, tokens_of_line}
 use Rattle.model_out.specs.LineTokens.{LineToken, line_tokens}
 use Rattle.model_out.specs.Answers.{AnswerReads, AnswersAs}
 use Rattle.model_out.specs.declared.refusal.AnswerRefusal.{AnswerRefusal}

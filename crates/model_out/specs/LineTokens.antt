@@ -1,6 +1,6 @@
 -- The tokens of an answer, and which of them are the first of their line.
 use Rattle.std.specs.Prelude.{ℕ, Bool, true, ◌||◌, ◌&&◌, ◌==◌, List, [], ◌∷◌, map, take, fold}
-use Rattle.cx_semantics.specs.Tokens.{Token, is_blank, tokens}
+use Rattle.cx_texts.specs.Tokens.{Token, is_blank, tokens}
 
 -- a token of the text, with the place of its first byte
 pub record LineToken : Type 0 where

@@ -1,6 +1,6 @@
 -- How each variable is mentioned by an answer's integers.
 use Rattle.std.specs.Prelude.{◌≡◌, ℕ, ◌+◌, ◌-◌, ◌<◌, ◌≤◌, ℤ, Bool, true, false, not, List, [], ◌∷◌, length, get_or, Option, Some, None}
-use Rattle.cx_semantics.specs.Integers.{is_negative}
+use Rattle.cx_base.specs.Integers.{is_negative}
 use Rattle.model_out.specs.Answers.{written_of}
 use Rattle.model_out.specs.declared.mentions.Mention.{Mention}
 use Rattle.model_out.specs.declared.mentions.Mention.TheVariants.{Never, Once, Repeated}

@@ -1,7 +1,7 @@
 //! How each variable is mentioned.
 ghost use Rattle.std.specs.Prelude.{◌≡◌, ◌≤◌, ◌∷◌, [], ◌++◌, ℤ, List, length, map, IfOk};
 ghost use Rattle.cx_base.specs.declared.literal.TheConstants.{MAX_VARIABLE};
-ghost use Rattle.cx_semantics.specs.Integers.{integer_of};
+ghost use Rattle.cx_base.specs.Integers.{integer_of};
 ghost use Rattle.model_out.specs.Mentions.{is_never, is_repeated, is_true_once, IsFirstOf, mentioned, AreMentionsOf};
 
 use cx_base::{Lit, Values, Var};

@@ -3,7 +3,7 @@ ghost use Rattle.std.specs.Prelude.{◌≡◌, ◌<◌, ◌++◌, [], if◌then�
 ghost use Rattle.std.specs.List.{enumerate_from};
 ghost use Rattle.cx_desk.specs.Calls.{PutsAll};
 ghost use Rattle.cx_desk.specs.declared.desk.Port.TheVariants.{Answer};
-ghost use Rattle.cx_semantics.specs.AnswerText.{break_before, printed_value, answer_text};
+ghost use Rattle.cx_texts.specs.AnswerText.{break_before, printed_value, answer_text};
 ghost use Rattle.model_out.specs.Waiting.{Adds};
 
 use arrayvec::ArrayVec;

@@ -4,7 +4,7 @@ ghost use Rattle.cx_base.specs.Problem.{Problem};
 ghost use Rattle.cx_base.specs.declared.literal.TheConstants.{MAX_VARIABLE};
 ghost use Rattle.model_out.specs.declared.refusal.AnswerRefusal.TheVariants.{NoStatusLine};
 ghost use Rattle.model_out.specs.Answers.{behind_status, AnswersAs};
-ghost use Rattle.cx_semantics.specs.LiteralTokens.{IsInteger};
+ghost use Rattle.cx_texts.specs.LiteralTokens.{IsInteger};
 ghost use Rattle.model_out.specs.LineTokens.{LineToken};
 ghost use Rattle.model_out.specs.Mentions.{AreMentionsOf};
 ghost use Rattle.model_out.specs.Reading.{ahead, seen, EndsTo, ScansTo, TakesTo, TurnsTo};
@@ -14,7 +14,7 @@ use crate::line_tokens::{LineTokenAt, LineTokens};
 use crate::mentions::Mentions;
 use crate::refusal::AnswerRefusal;
 use cx_base::{Formula, Values};
-use cx_semantics::{Integer, read_integer};
+use cx_texts::{Integer, read_integer};
 use std::alloc::Global;
 
 /// Passes over the status line, and gives the token behind it, if there is one.

@@ -2,7 +2,7 @@
 use Rattle.std.proofs.Common.{◌≡◌, refl, sym, ap, ◌∙◌, ℤ, nat_abs, List, [], ◌∷◌, Some, None, inl, inr}
 use Rattle.std.specs.List.{cons_option}
 use Rattle.cx_base.specs.Literals.{Literal}
-use Rattle.cx_semantics.specs.declared.steps.Cause.TheVariants as causes
+use Rattle.cx_semantics.specs.declared.cause.Cause.TheVariants as causes
 use Rattle.cx_semantics.specs.Chain.{negations, left, one, count_left, right, not_unit, hints_end, go_on, chain, HaveSame}
 use Rattle.cx_semantics.specs.Judging.{AllHold, FirstFailure}
 use Rattle.cx_semantics.specs.ProofRules.{is_not_unit, is_hints_end, chaining}

@@ -12,7 +12,7 @@ use Rattle.cx_base.specs.Parity.{normal_form, odd_sum}
 use Rattle.cx_semantics.specs.Implied.{Implies, HasCounterexample}
 use Rattle.cx_semantics.specs.ProofRules.{all_met, parity_of_clauses}
 use Rattle.cx_semantics.specs.Judging.{AllHold, FirstFailure}
-use Rattle.cx_semantics.specs.declared.steps.Cause.TheVariants as causes
+use Rattle.cx_semantics.specs.declared.cause.Cause.TheVariants as causes
 use Rattle.cx_semantics.specs.Tables.{Table, get, named}
 use Rattle.proof_rules.specs.Assignments.{Lists}
 use Rattle.cx_semantics.specs.Chain.{HaveSame}

@@ -2,8 +2,8 @@
 ghost use Rattle.std.specs.Prelude.{◌≡◌, ◌≤◌, false, [], ◌∷◌, IfOk, nat_lt, nat_abs};
 ghost use Rattle.std.specs.List.{list_any};
 ghost use Rattle.cx_base.specs.declared.literal.TheConstants.{MAX_VARIABLE};
-ghost use Rattle.cx_semantics.specs.declared.steps.Cause.TheVariants as causes;
-ghost use Rattle.cx_semantics.specs.Integers.{literal, literals};
+ghost use Rattle.cx_semantics.specs.declared.cause.Cause.TheVariants as causes;
+ghost use Rattle.cx_base.specs.Integers.{literal, literals};
 ghost use Rattle.cx_semantics.specs.Judging.{refused_where};
 ghost use Rattle.proof_rules.specs.Judges.{JudgesBy};
 

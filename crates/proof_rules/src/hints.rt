@@ -1,7 +1,7 @@
 //! The rules that all hints of a step meet.
 ghost use Rattle.std.specs.Prelude.{◌≡◌, nat_abs, not, IfOk, ℤ};
 ghost use Rattle.std.specs.List.{list_any};
-ghost use Rattle.cx_semantics.specs.Integers.{is_negative, sizes};
+ghost use Rattle.cx_base.specs.Integers.{is_negative, sizes};
 ghost use Rattle.cx_semantics.specs.Tables.{is_live};
 ghost use Rattle.cx_semantics.specs.LogRules.{naming};
 ghost use Rattle.cx_semantics.specs.ProofRules.{hinting};

@@ -1,6 +1,6 @@
 //! The four judges: one for each kind of step that adds something.
 ghost use Rattle.std.specs.Prelude.{◌++◌, ◌∷◌, []};
-ghost use Rattle.cx_semantics.specs.Integers.{sizes};
+ghost use Rattle.cx_base.specs.Integers.{sizes};
 ghost use Rattle.cx_semantics.specs.Tables.{named};
 ghost use Rattle.cx_semantics.specs.ProofRules.{hinting, chaining, summing, clause_of_parity, parity_of_clauses};
 ghost use Rattle.proof_rules.specs.Judges.{JudgesBy};

@@ -1,20 +1,21 @@
 -- The six steps of proofs from their parts, and what was taken and refused in the grammar of proofs.
 use Rattle.std.proofs.Common.{◌≡◌, ◌≢◌, refl, ℕ, ◌<◌, pos, false, List, [], ◌∷◌, Result, Ok, Err}
-use Rattle.cx_semantics.specs.declared.steps.ProofStep.{ProofStep}
-use Rattle.cx_semantics.specs.Words.{Word, number, letter, Placed, words}
-use Rattle.cx_semantics.specs.Grammar.{mark, id, IsStep, Spells}
-use Rattle.cx_semantics.specs.ProofText.{proof_steps, proof_fields}
-use Rattle.cx_semantics.proofs.Shapes.{Kind, a_mark, an_id, an_integer, an_end, some_ids, some_integers}
-use Rattle.cx_semantics.proofs.Remaining.{remaining, positive}
-use Rattle.cx_semantics.proofs.Grammars.{proof_forms}
-use Rattle.cx_semantics.proofs.ProofSteps.{proof_rows, no_more, stops}
-use Rattle.proof_text.specs.declared.source.TextRefusal.{TextRefusal}
-use Rattle.proof_text.specs.Heads.{is_head_letter}
-use Rattle.proof_text.specs.Taking.{Takes, HeadFails, MayGoOn, RefusedIn, TakesStep}
-use Rattle.proof_text.specs.Reading.{ReadsStep}
-use Rattle.proof_text.proofs.TakingLaws.{takes_append, refused_then, head_refused}
-use Rattle.proof_text.proofs.Choices.{head_refuses, refused_beside}
-use Rattle.proof_text.proofs.ReadingLaws as reading
+use Rattle.cx_base.specs.declared.steps.ProofStep.{ProofStep}
+use Rattle.cx_texts.specs.Words.{Word, number, letter, Placed, words}
+use Rattle.cx_texts.specs.Grammar.{mark, id, IsStep, Spells}
+use Rattle.cx_texts.specs.ProofText.{proof_steps, proof_fields}
+use Rattle.cx_texts.proofs.Shapes.{Kind, a_mark, an_id, an_integer, an_end, some_ids, some_integers}
+use Rattle.cx_texts.proofs.Remaining.{remaining, positive}
+use Rattle.cx_texts.proofs.Grammars.{proof_forms}
+use Rattle.cx_texts.proofs.ProofSteps.{proof_rows, no_more, stops}
+use Rattle.step_text.specs.declared.source.TextRefusal.{TextRefusal}
+use Rattle.step_text.specs.Heads.{is_head_letter}
+use Rattle.step_text.specs.Taking.{Takes, HeadFails, MayGoOn, RefusedIn}
+use Rattle.proof_text.specs.ProofTaking.{TakesStep}
+use Rattle.step_text.specs.Reading.{ReadsStep}
+use Rattle.step_text.proofs.TakingLaws.{takes_append, refused_then, head_refused}
+use Rattle.step_text.proofs.Choices.{head_refuses, refused_beside}
+use Rattle.step_text.proofs.ReadingLaws as reading
 
 abbrev lists : List Kind
 lists = some_integers ∷ some_integers ∷ []

@@ -6,21 +6,22 @@ use Rattle.std.proofs.lemmas.List.{take-append-le}
 use Rattle.cx_desk.specs.declared.desk.Port.TheVariants.{Proof}
 use Rattle.cx_desk.specs.Outside.{Bytes, Outside}
 use Rattle.cx_desk.specs.Calls.{gained, append_on}
-use Rattle.cx_semantics.specs.declared.steps.ProofStep.{ProofStep}
-use Rattle.cx_semantics.specs.Tokens.{tokens}
-use Rattle.cx_semantics.specs.Words.{placed_words}
-use Rattle.cx_semantics.specs.Grammar.{spelling, Ending, finished}
-use Rattle.cx_semantics.specs.ProofText.{proof_steps, ProofReads}
-use Rattle.cx_semantics.specs.Printed.{printed_word, printed_proof, HasProofText}
-use Rattle.cx_semantics.proofs.Grammars.{proof_forms}
-use Rattle.cx_semantics.proofs.Readings.{one_reading}
-use Rattle.cx_semantics.proofs.Lines.{NoFeed}
-use Rattle.cx_semantics.proofs.SpokenWords.{spoken_proof_step}
-use Rattle.cx_semantics.proofs.PrintedWords.{joined, no_feed_joined, plain_pieces, plain_all}
-use Rattle.cx_semantics.proofs.PrintedProofs.{printed_proof_reads}
+use Rattle.cx_base.specs.declared.steps.ProofStep.{ProofStep}
+use Rattle.cx_texts.specs.Tokens.{tokens}
+use Rattle.cx_texts.specs.Words.{placed_words}
+use Rattle.cx_texts.specs.Grammar.{spelling}
+use Rattle.cx_base.specs.Endings.{Ending, finished}
+use Rattle.cx_texts.specs.ProofText.{proof_steps, ProofReads}
+use Rattle.cx_texts.specs.Printed.{printed_word, printed_proof, HasProofText}
+use Rattle.cx_texts.proofs.Grammars.{proof_forms}
+use Rattle.cx_texts.proofs.Readings.{one_reading}
+use Rattle.cx_texts.proofs.Lines.{NoFeed}
+use Rattle.cx_texts.proofs.SpokenWords.{spoken_proof_step}
+use Rattle.cx_texts.proofs.PrintedWords.{joined, no_feed_joined, plain_pieces, plain_all}
+use Rattle.cx_texts.proofs.PrintedProofs.{printed_proof_reads}
 use Rattle.proof_text.specs.Told.{whole_lines, begun_line, steps_read, told_steps, steps_told, is_none, is_whole, step_line}
-use Rattle.proof_text.specs.Sinks.{with_next}
-use Rattle.proof_text.proofs.Puts.{Fails}
+use Rattle.step_text.specs.Sinks.{with_next}
+use Rattle.step_text.proofs.Puts.{Fails}
 
 -- ---- a printed step has one line feed, at its end
 

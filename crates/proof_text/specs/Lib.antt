@@ -1,14 +1,3 @@
-pub mod Seen
-pub mod Ahead
-pub mod Heads
-pub mod Taking
-pub mod Reading
-pub mod Spaced
-pub mod Sources
-pub mod Sinks
-pub mod Texts
-pub mod Left
+pub mod ProofTaking
 pub mod Told
 pub mod ToldSteps
-pub mod Lists
-pub mod ListLaws

@@ -4,14 +4,14 @@ use Rattle.std.specs.List.{AllByRecursion}
 use Rattle.cx_desk.specs.declared.desk.Port.TheVariants.{Proof}
 use Rattle.cx_desk.specs.Outside.{Bytes, Told, Outside}
 use Rattle.cx_desk.specs.Calls.{gained, WriteFaulted}
-use Rattle.cx_semantics.specs.declared.steps.ProofStep.{ProofStep}
-use Rattle.cx_semantics.specs.Tokens.{tokens}
-use Rattle.cx_semantics.specs.Words.{placed_words}
-use Rattle.cx_semantics.specs.Grammar.{spelling}
-use Rattle.cx_semantics.specs.ProofText.{proof_steps}
-use Rattle.cx_semantics.specs.Printed.{printed_line, printed_proof, HasProofText}
-use Rattle.cx_semantics.proofs.Grammars.{proof_forms}
-use Rattle.cx_semantics.proofs.Readings.{one_reading}
+use Rattle.cx_base.specs.declared.steps.ProofStep.{ProofStep}
+use Rattle.cx_texts.specs.Tokens.{tokens}
+use Rattle.cx_texts.specs.Words.{placed_words}
+use Rattle.cx_texts.specs.Grammar.{spelling}
+use Rattle.cx_texts.specs.ProofText.{proof_steps}
+use Rattle.cx_texts.specs.Printed.{printed_line, printed_proof, HasProofText}
+use Rattle.cx_texts.proofs.Grammars.{proof_forms}
+use Rattle.cx_texts.proofs.Readings.{one_reading}
 
 -- the whole lines of a text, each with its line feed, where a line begins with these bytes; and what stands behind them
 abbrev pub whole_lines : Bytes → Bytes → List Bytes

@@ -6,8 +6,8 @@ use Rattle.cx_desk.specs.declared.desk.Port.TheVariants.{Proof}
 use Rattle.cx_desk.specs.Outside.{Bytes, Outside}
 use Rattle.cx_desk.specs.Calls.{gained, WriteFaulted}
 use Rattle.cx_desk.proofs.Moves.{gained-twice, gained-none}
-use Rattle.cx_semantics.specs.declared.steps.ProofStep.{ProofStep}
-use Rattle.cx_semantics.specs.Printed.{printed_proof, HasProofText}
+use Rattle.cx_base.specs.declared.steps.ProofStep.{ProofStep}
+use Rattle.cx_texts.specs.Printed.{printed_proof, HasProofText}
 use Rattle.cx_base.proofs.Elements.{all_append}
 use Rattle.proof_text.specs.Told.{step_line, Prints, Tears, Goes}
 

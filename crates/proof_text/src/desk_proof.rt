@@ -3,9 +3,9 @@ ghost use Rattle.std.specs.Prelude.{◌≡◌, true, false};
 ghost use Rattle.proof_text.specs.Told.{is_whole};
 
 use crate::print::put_proof_step;
-use crate::sink::{ProofSink, SinkFault};
+use cx_base::ProofStep;
 use cx_desk::{Desk, Failed, Port};
-use cx_semantics::ProofStep;
+use step_text::{Sink, SinkFault};
 
 /// A sink that prints each step on the proof port of a lent desk at once. It takes no memory.
 ///
@@ -34,13 +34,15 @@ impl<'a, D: Desk> DeskProof<'a, D> {
     }
 }
 
-impl<D: Desk> ProofSink for DeskProof<'_, D> {
+impl<D: Desk> Sink for DeskProof<'_, D> {
+    type Item = ProofStep;
+
     ghost use Rattle.std.specs.Prelude.{◌≡◌, refl};
     ghost use Rattle.std.proofs.Common.{◌∙◌};
     ghost use Rattle.proof_text.specs.Told.{steps_told, fault_of, TornOn, Goes};
     ghost use Rattle.proof_text.specs.ToldSteps.{goes_itself, goes_on};
 
-    ghost steps = { λ s. steps_told (D.outside s.desk.now) };
+    ghost items = { λ s. steps_told (D.outside s.desk.now) };
 
     ghost faults = { λ s. fault_of s.failed };
 
@@ -50,7 +52,7 @@ impl<D: Desk> ProofSink for DeskProof<'_, D> {
 
     ghost keeps = { λ a b. (b.desk.ghost_name ≡ a.desk.ghost_name) × Goes a.failed (D.outside a.desk.now) b.failed (D.outside b.desk.now) };
 
-    fn step(&mut self, step: &ProofStep) -> Result<(), SinkFault> {
+    fn put(&mut self, step: &ProofStep) -> Result<(), SinkFault> {
         if self.failed {
             return Err(SinkFault::Memory);
         }

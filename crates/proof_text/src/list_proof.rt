@@ -1,16 +1,16 @@
 //! A proof that is kept as a list.
 ghost use Rattle.std.specs.Prelude.{◌≡◌, [], ◌∷◌, ◌++◌, OnOk, OnErr, IfErr};
 ghost use Rattle.std.specs.List.{AllByRecursion};
-ghost use Rattle.cx_semantics.specs.Grammar.{finished};
-ghost use Rattle.cx_semantics.specs.ProofText.{ProofReads};
-ghost use Rattle.cx_semantics.specs.Printed.{HasProofText, printed_proof};
-ghost use Rattle.proof_text.specs.declared.sink.SinkFault.TheVariants.{Memory};
+ghost use Rattle.cx_base.specs.Endings.{finished};
+ghost use Rattle.cx_texts.specs.ProofText.{ProofReads};
+ghost use Rattle.cx_texts.specs.Printed.{HasProofText, printed_proof};
+ghost use Rattle.step_text.specs.declared.sink.SinkFault.TheVariants.{Memory};
 
 use crate::proof_list::ProofList;
-use crate::sink::{ProofSink, SinkFault};
-use cx_semantics::ProofStep;
+use cx_base::ProofStep;
 use std::alloc::Global;
 use std::marker::Model;
+use step_text::{Sink, SinkFault};
 
 /// A sink that keeps the list of its steps. It never fails but for want of memory.
 #[derive(Drop)]
@@ -21,8 +21,8 @@ pub struct ListProof {
 impl Model for ListProof {
     ghost use Rattle.std.specs.Prelude.{List};
     ghost use Rattle.std.specs.List.{AllByRecursion};
-    ghost use Rattle.cx_semantics.specs.declared.steps.ProofStep.{ProofStep};
-    ghost use Rattle.cx_semantics.specs.Printed.{HasProofText};
+    ghost use Rattle.cx_base.specs.declared.steps.ProofStep.{ProofStep};
+    ghost use Rattle.cx_texts.specs.Printed.{HasProofText};
 
     ghost Value = { List ProofStep };
 
@@ -74,10 +74,12 @@ impl ListProof {
     }
 }
 
-impl ProofSink for ListProof {
+impl Sink for ListProof {
+    type Item = ProofStep;
+
     ghost use Rattle.std.specs.Prelude.{Some, false};
 
-    ghost steps = { λ a. Some a };
+    ghost items = { λ a. Some a };
 
     ghost faults = { λ _. 0 };
 
@@ -88,7 +90,7 @@ impl ProofSink for ListProof {
     ghost keeps = { λ _ _. Unit {0} };
 
     /// Keeps a copy of the step.
-    fn step(&mut self, step: &ProofStep) -> Result<(), SinkFault>
+    fn put(&mut self, step: &ProofStep) -> Result<(), SinkFault>
         requires text { HasProofText step.now }
         ensures kept { OnOk result (self.new ≡ self.old ++ step.now ∷ []) }
         ensures unchanged { OnErr result (self.new ≡ self.old) }

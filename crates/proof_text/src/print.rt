@@ -1,13 +1,13 @@
 //! The printed form of proof steps.
 ghost use Rattle.std.specs.Prelude.{[], ◌∷◌, ◌++◌, flat_map};
 ghost use Rattle.cx_desk.specs.Calls.{PutsAll};
-ghost use Rattle.cx_semantics.specs.Grammar.{spelling, spelled, mark, id, ids, integer, integers, end};
-ghost use Rattle.cx_semantics.specs.ProofText.{proof_steps};
-ghost use Rattle.cx_semantics.specs.Printed.{printed_line, HasProofText};
+ghost use Rattle.cx_texts.specs.Grammar.{spelling, spelled, mark, id, ids, integer, integers, end};
+ghost use Rattle.cx_texts.specs.ProofText.{proof_steps};
+ghost use Rattle.cx_texts.specs.Printed.{printed_line, HasProofText};
 
-use crate::pieces::{put_head, put_id, put_ids, put_integer, put_integers};
+use cx_base::ProofStep;
 use cx_desk::{Desk, Failed, Port, put_all};
-use cx_semantics::ProofStep;
+use step_text::pieces::{put_head, put_id, put_ids, put_integer, put_integers};
 
 /// An id, literals and hints behind a text, as the end of a line.
 fn put_hinted<D: Desk>(

@@ -1,11 +1,11 @@
 //! The steps of a kept proof, given one after another.
 ghost use Rattle.std.specs.Prelude.{◌≡◌, ◌<◌, ◌^◌, length};
-ghost use Rattle.proof_text.specs.Lists.{StepsLeft};
+ghost use Rattle.step_text.specs.Lists.{StepsLeft};
 
-use crate::source::{StepSource, TextRefusal};
-use cx_semantics::ProofStep;
+use cx_base::ProofStep;
 use std::marker::Model;
 use std::vec::IntoIter;
+use step_text::{StepSource, TextRefusal};
 
 /// The steps of a list, by moves, in order. It has no limit and never refuses.
 ///
@@ -19,8 +19,8 @@ pub struct ProofList {
 impl Model for ProofList {
     ghost use Rattle.std.specs.Prelude.{◌≡◌, ◌+◌, ◌^◌, ◌<◌, length};
     ghost use Rattle.std.specs.Vec.Iter.{into_iter_items, into_iter_len};
-    ghost use Rattle.cx_semantics.specs.declared.steps.ProofStep.{ProofStep};
-    ghost use Rattle.proof_text.specs.Lists.{StepsLeft};
+    ghost use Rattle.cx_base.specs.declared.steps.ProofStep.{ProofStep};
+    ghost use Rattle.step_text.specs.Lists.{StepsLeft};
 
     ghost Value = { StepsLeft ProofStep };
 
@@ -46,9 +46,9 @@ impl StepSource for ProofList {
     type Step = ProofStep;
 
     ghost use Rattle.std.specs.Prelude.{None, false, refl};
-    ghost use Rattle.cx_semantics.specs.Grammar.{finished};
-    ghost use Rattle.proof_text.specs.Lists.{LeavesList, last_place, GaveFront};
-    ghost use Rattle.proof_text.specs.ListLaws.{gave_nothing, gave_on};
+    ghost use Rattle.cx_base.specs.Endings.{finished};
+    ghost use Rattle.step_text.specs.Lists.{LeavesList, last_place, GaveFront};
+    ghost use Rattle.step_text.specs.ListLaws.{gave_nothing, gave_on};
 
     ghost leaves = { LeavesList };
 

@@ -1,19 +1,17 @@
 //! The steps of a proof, taken from a text's tokens.
 ghost use Rattle.std.specs.Prelude.{◌≡◌, true, false, [], ◌∷◌};
-ghost use Rattle.cx_semantics.specs.Words.{placed_words};
-ghost use Rattle.cx_semantics.specs.Grammar.{id, integer, end, integers};
-ghost use Rattle.cx_semantics.proofs.Shapes.{an_id, an_integer, an_end, some_integers};
-ghost use Rattle.proof_text.specs.Heads.{is_head_letter};
-ghost use Rattle.proof_text.specs.Taking.{TakesAll, TakesStep};
+ghost use Rattle.cx_texts.specs.Words.{placed_words};
+ghost use Rattle.cx_texts.specs.Grammar.{id, integer, end, integers};
+ghost use Rattle.cx_texts.proofs.Shapes.{an_id, an_integer, an_end, some_integers};
+ghost use Rattle.step_text.specs.Heads.{is_head_letter};
+ghost use Rattle.step_text.specs.Taking.{TakesAll};
+ghost use Rattle.proof_text.specs.ProofTaking.{TakesStep};
 
-use crate::ahead::TokensAhead;
-use crate::fields::{take_end, take_id, take_ids, take_integer, take_integers, take_named};
-use crate::grammar::StepGrammar;
-use crate::source::TextRefusal;
-use crate::step_text::StepText;
-use cx_base::IntList;
-use cx_semantics::ProofStep;
+use cx_base::{IntList, ProofStep};
 use std::alloc::Global;
+use step_text::ahead::TokensAhead;
+use step_text::fields::{take_end, take_id, take_ids, take_integer, take_integers, take_named};
+use step_text::{StepGrammar, StepText, TextRefusal};
 
 /// The grammar of proofs.
 #[derive(Drop)]
@@ -147,8 +145,8 @@ fn take_step(alloc: Global, tokens: &mut TokensAhead, size: usize) -> Result<Pro
 impl StepGrammar for ProofGrammar {
     type Step = ProofStep;
 
-    ghost use Rattle.cx_semantics.specs.ProofText.{proof_steps};
-    ghost use Rattle.cx_semantics.proofs.Grammars.{proof_forms};
+    ghost use Rattle.cx_texts.specs.ProofText.{proof_steps};
+    ghost use Rattle.cx_texts.proofs.Grammars.{proof_forms};
 
     ghost steps = { proof_steps };
 

@@ -1,7 +1,7 @@
 //! Live clauses, and chains over them.
 ghost use Rattle.std.specs.Prelude.{◌≡◌, ◌++◌, IfOk, OnOk, OnErr, [], ◌∷◌, MatchOption, None, Some};
 ghost use Rattle.cx_semantics.specs.Chain.{IsChain};
-ghost use Rattle.cx_semantics.specs.Integers.{sizes};
+ghost use Rattle.cx_base.specs.Integers.{sizes};
 ghost use Rattle.cx_semantics.specs.LogRules.{AreLive, HasChain};
 ghost use Rattle.proof_rules.specs.Kinds.{chosen, put_constraint, drop_constraints};
 ghost use Rattle.cx_semantics.specs.ProofRules.{hinting, chaining};

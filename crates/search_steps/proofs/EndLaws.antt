@@ -12,7 +12,7 @@ use Rattle.cx_semantics.specs.Chain.{has_literal}
 use Rattle.cx_semantics.specs.Fresh.{is_falsified}
 use Rattle.cx_semantics.specs.Judging.{IsOpen}
 use Rattle.cx_semantics.specs.LogRules.{log_calculus}
-use Rattle.cx_semantics.specs.LogText.{step_of}
+use Rattle.cx_base.specs.Events.{step_of}
 use Rattle.cx_semantics.specs.Marked.{Marked}
 use Rattle.cx_semantics.specs.Settled.{IsClauseOf, Decides, SettledBy, Settled}
 use Rattle.cx_semantics.specs.Tables.{Table}

@@ -5,15 +5,15 @@ use Rattle.std.specs.List.{list_all, cons_option}
 use Rattle.std.proofs.lemmas.Bool.{and_parts}
 use Rattle.cx_base.specs.Literals.{Literal}
 use Rattle.cx_base.specs.Problem.{Problem, Unmet, clause_met, parity_met}
-use Rattle.cx_semantics.specs.declared.steps.LogStep.{LogStep}
-use Rattle.cx_semantics.specs.declared.steps.LogStep.TheVariants.{ClauseWithHints, ClauseOfParity}
-use Rattle.cx_semantics.specs.declared.steps.LogEvent.{LogEvent}
-use Rattle.cx_semantics.specs.declared.steps.LogEvent.TheVariants.{Step}
+use Rattle.cx_base.specs.declared.steps.LogStep.{LogStep}
+use Rattle.cx_base.specs.declared.steps.LogStep.TheVariants.{ClauseWithHints, ClauseOfParity}
+use Rattle.cx_base.specs.declared.steps.LogEvent.{LogEvent}
+use Rattle.cx_base.specs.declared.steps.LogEvent.TheVariants.{Step}
 use Rattle.cx_semantics.specs.Implied.{Implies}
-use Rattle.cx_semantics.specs.Integers.{literals}
+use Rattle.cx_base.specs.Integers.{literals}
 use Rattle.cx_semantics.specs.Judging.{IsRight}
 use Rattle.cx_semantics.specs.LogRules.{log_calculus, HasChain, derives_empty_clause}
-use Rattle.cx_semantics.specs.LogText.{steps_of, step_of}
+use Rattle.cx_base.specs.Events.{steps_of, step_of}
 use Rattle.cx_semantics.specs.Marked.{Marked, StepFits, IsLearned, IsKnown, first_moment, after_event, mark_of}
 use Rattle.cx_semantics.specs.ProofRules.{all_met}
 use Rattle.cx_semantics.specs.Tables.{get, named}

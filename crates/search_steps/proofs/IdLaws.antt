@@ -6,9 +6,9 @@ use Rattle.std.proofs.lemmas.Bool.{or_parts}
 use Rattle.cx_base.specs.Literals.{Literal}
 use Rattle.cx_base.specs.Problem.{Problem, clauses_of, parities_of}
 use Rattle.cx_base.proofs.Elements.{all_append}
-use Rattle.cx_semantics.specs.declared.steps.LogStep.TheVariants.{ClauseWithHints, Parity, ClauseOfParity, ParityOfClauses, Delete}
-use Rattle.cx_semantics.specs.declared.steps.LogEvent.TheVariants.{Step}
-use Rattle.cx_semantics.specs.Integers.{literals}
+use Rattle.cx_base.specs.declared.steps.LogStep.TheVariants.{ClauseWithHints, Parity, ClauseOfParity, ParityOfClauses, Delete}
+use Rattle.cx_base.specs.declared.steps.LogEvent.TheVariants.{Step}
+use Rattle.cx_base.specs.Integers.{literals}
 use Rattle.cx_semantics.specs.LogRules.{HasChain, derives_empty_clause}
 use Rattle.cx_semantics.specs.Marked.{Moment, after_event, is_among, without}
 use Rattle.cx_semantics.specs.Tables.{Table, get}

@@ -7,17 +7,17 @@ use Rattle.cx_base.specs.Literals.{Literal, negate, same_literal}
 use Rattle.cx_base.specs.Problem.{Problem, clauses_of, clause_met, parity_met}
 use Rattle.cx_base.specs.declared.constraint.Constraint.{Constraint}
 use Rattle.cx_base.proofs.Elements.{in_head, in_tail}
-use Rattle.cx_semantics.specs.declared.steps.LogStep.{LogStep}
-use Rattle.cx_semantics.specs.declared.steps.LogStep.TheVariants.{ClauseWithHints, Parity, ClauseOfParity, Delete, DeleteParity}
-use Rattle.cx_semantics.specs.declared.steps.LogEvent.{LogEvent}
-use Rattle.cx_semantics.specs.declared.steps.LogEvent.TheVariants.{Step, Conflict}
+use Rattle.cx_base.specs.declared.steps.LogStep.{LogStep}
+use Rattle.cx_base.specs.declared.steps.LogStep.TheVariants.{ClauseWithHints, Parity, ClauseOfParity, Delete, DeleteParity}
+use Rattle.cx_base.specs.declared.steps.LogEvent.{LogEvent}
+use Rattle.cx_base.specs.declared.steps.LogEvent.TheVariants.{Step, Conflict}
 use Rattle.cx_semantics.specs.Chain.{has_literal, is_inside, negations, same_literals}
 use Rattle.cx_semantics.specs.Fresh.{Fresh, IsLive, KeepsUnits, FalsifiesNone, is_falsified}
 use Rattle.cx_semantics.specs.Implied.{Implies}
-use Rattle.cx_semantics.specs.Integers.{literals}
+use Rattle.cx_base.specs.Integers.{literals}
 use Rattle.cx_semantics.specs.Judging.{IsRight, Runs}
 use Rattle.cx_semantics.specs.LogRules.{log_calculus, after_log_step, derives_empty_clause, HasChain, AreLive}
-use Rattle.cx_semantics.specs.LogText.{step_of}
+use Rattle.cx_base.specs.Events.{step_of}
 use Rattle.cx_semantics.specs.Marked.{Moment, first_moment, after_event, StepFits, MarkFits, KeepsFormula, mark_of, BeginsWithOriginals, original_events, IsLearned, IsKnown, is_among, without}
 use Rattle.cx_semantics.specs.ProofRules.{all_met}
 use Rattle.cx_semantics.specs.Settled.{IsClauseOf}
@@ -126,9 +126,9 @@ module _ (formula : Problem) (parities : List (List Literal)) (s : Search) (ok :
   -- a unit clause of level 0
   pub unit_keeps : (n : ℕ) (z : ℤ) (hints : List ℤ) (older : List Entry) (clause : List Literal) → IsAddition formula s.moment.tables.clauses n (z ∷ []) → derives_empty_clause (ClauseWithHints n (z ∷ []) hints) ≡ false → s.moment.awaits ≡ false
       → IsTrail s.moment.tables.clauses (IsOfParities formula.variables parities) older
-      → IsUnitOf s (Rattle.cx_semantics.specs.Integers.literal z) older clause → IsSearch formula parities (told s (Step (ClauseWithHints n (z ∷ []) hints)))
+      → IsUnitOf s (Rattle.cx_base.specs.Integers.literal z) older clause → IsSearch formula parities (told s (Step (ClauseWithHints n (z ∷ []) hints)))
   unit_keeps n z hints older clause a goes served t u =
-      let l = Rattle.cx_semantics.specs.Integers.literal z in
+      let l = Rattle.cx_base.specs.Integers.literal z in
       let IsRow = IsOfParities formula.variables parities in
       tell (ClauseWithHints n (z ∷ []) hints)
       (a.within, (not_live s.moment.tables.clauses n a.free, (forced_has_chain s.moment.tables.clauses IsRow older t u.on_clauses clause u.live l u.forces, tt)))

@@ -18,7 +18,7 @@ use Rattle.search_steps.proofs.Bridge.{unassigned_is_open}
 both_empty : (xs ys : List ℕ) → xs ≡ [] → ys ≡ [] → xs ++ ys ≡ []
 both_empty xs ys a b = ap (λ zs. zs ++ ys) a ∙ b
 
-module _ (formula : Problem) (parities : List (List Literal)) (s : Search) (ok : IsSearch formula parities s) (n : ℕ) (zs hints : List ℤ) (back : ℕ) (l : Literal) (learned : IsLearnedOf s.trail back (Rattle.cx_semantics.specs.Integers.literals zs) l) where
+module _ (formula : Problem) (parities : List (List Literal)) (s : Search) (ok : IsSearch formula parities s) (n : ℕ) (zs hints : List ℤ) (back : ℕ) (l : Literal) (learned : IsLearnedOf s.trail back (Rattle.cx_base.specs.Integers.literals zs) l) where
   abbrev IsRow : List Literal → Type 0
   IsRow = IsOfParities formula.variables parities
 
@@ -43,7 +43,7 @@ module _ (formula : Problem) (parities : List (List Literal)) (s : Search) (ok :
       → IsOpenIn u.entries l.variable × IsTied (after_round s n zs hints back l).trail (pushed u back l reason).entries
   round_stays_tied t u tied takes reason =
       let rest : IsTied (back_to back s.trail) u.entries = tied_back back s.trail t u takes tied in (
-        unassigned_is_open (back_to back s.trail) u.entries rest l (unassigned_then s.moment.tables.clauses IsRow s ok.serves.stands back (Rattle.cx_semantics.specs.Integers.literals zs) l learned),
+        unassigned_is_open (back_to back s.trail) u.entries rest l (unassigned_then s.moment.tables.clauses IsRow s ok.serves.stands back (Rattle.cx_base.specs.Integers.literals zs) l learned),
         (
           u.entries,
           record { literal = l; level = back; reason = reason },

@@ -3,10 +3,10 @@ use Rattle.std.proofs.Common.{◌≡◌, refl, sym, ap, ◌∙◌, subst, ℕ, �
 use Rattle.std.specs.FinMap as map_
 use Rattle.cx_base.specs.Literals.{Literal, negate}
 use Rattle.cx_base.specs.Problem.{Problem}
-use Rattle.cx_semantics.specs.declared.steps.LogStep.TheVariants.{ClauseWithHints, Delete}
-use Rattle.cx_semantics.specs.declared.steps.LogEvent.TheVariants.{Step}
+use Rattle.cx_base.specs.declared.steps.LogStep.TheVariants.{ClauseWithHints, Delete}
+use Rattle.cx_base.specs.declared.steps.LogEvent.TheVariants.{Step}
 use Rattle.cx_semantics.specs.Chain.{has_literal}
-use Rattle.cx_semantics.specs.Integers.{literals}
+use Rattle.cx_base.specs.Integers.{literals}
 use Rattle.cx_semantics.specs.LogRules.{HasChain, derives_empty_clause}
 use Rattle.cx_semantics.specs.Marked.{without, is_among}
 use Rattle.cx_semantics.specs.Tables.{Table, get}

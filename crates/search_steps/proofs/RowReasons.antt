@@ -2,9 +2,9 @@
 use Rattle.std.proofs.Common.{◌≡◌, refl, sym, ap, ◌∙◌, ℕ, ℤ, Bool, true, false, cond, not, ◌||◌, nat_eq, eq-eqb, eqb-true, List, [], ◌∷◌, Some, fold}
 use Rattle.cx_base.specs.Literals.{Literal}
 use Rattle.cx_base.specs.Problem.{Problem}
-use Rattle.cx_semantics.specs.declared.steps.LogStep.TheVariants.{Parity, ClauseOfParity}
-use Rattle.cx_semantics.specs.declared.steps.LogEvent.TheVariants.{Step}
-use Rattle.cx_semantics.specs.Integers.{literals}
+use Rattle.cx_base.specs.declared.steps.LogStep.TheVariants.{Parity, ClauseOfParity}
+use Rattle.cx_base.specs.declared.steps.LogEvent.TheVariants.{Step}
+use Rattle.cx_base.specs.Integers.{literals}
 use Rattle.cx_semantics.specs.Marked.{without, is_among}
 use Rattle.cx_semantics.specs.Tables.{get}
 use Rattle.cx_semantics.proofs.Lookups.{Looks-insert}

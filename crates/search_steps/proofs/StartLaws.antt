@@ -8,13 +8,13 @@ use Rattle.cx_base.specs.Literals.{Literal}
 use Rattle.cx_base.specs.Problem.{Problem, clauses_of, parities_of, AreWithin}
 use Rattle.cx_base.specs.declared.constraint.Constraint.{Constraint}
 use Rattle.cx_base.specs.declared.constraint.Constraint.TheVariants as constraint
-use Rattle.cx_semantics.specs.declared.steps.LogStep.TheVariants.{Original, OriginalParity, ParityOfClauses}
-use Rattle.cx_semantics.specs.declared.steps.LogEvent.{LogEvent}
-use Rattle.cx_semantics.specs.declared.steps.LogEvent.TheVariants.{Step}
+use Rattle.cx_base.specs.declared.steps.LogStep.TheVariants.{Original, OriginalParity, ParityOfClauses}
+use Rattle.cx_base.specs.declared.steps.LogEvent.{LogEvent}
+use Rattle.cx_base.specs.declared.steps.LogEvent.TheVariants.{Step}
 use Rattle.cx_semantics.specs.Chain.{same_literals}
-use Rattle.cx_semantics.specs.Integers.{integer_of, literals, integers_of, is_negative}
+use Rattle.cx_base.specs.Integers.{integer_of, literals, integers_of, is_negative}
 use Rattle.cx_semantics.specs.LogRules.{log_calculus, IsOriginalParity, is_original}
-use Rattle.cx_semantics.specs.LogText.{steps_of, step_of}
+use Rattle.cx_base.specs.Events.{steps_of, step_of}
 use Rattle.cx_semantics.specs.Marked.{first_moment, mark_of, original_events}
 use Rattle.cx_semantics.specs.Tables.{Table, get}
 use Rattle.cx_semantics.proofs.Closure.{inside_itself}

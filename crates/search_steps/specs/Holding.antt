@@ -1,6 +1,6 @@
 -- The calculus as a clause of the code: some search stands behind what the sink tells.
 use Rattle.std.specs.Prelude.{◌≡◌, List, Option, Some, None, ⊤}
-use Rattle.cx_semantics.specs.declared.steps.LogEvent.{LogEvent}
+use Rattle.cx_base.specs.declared.steps.LogEvent.{LogEvent}
 
 -- where the sink tells its events, they are these
 abbrev pub AreTold : Option (List LogEvent) → List LogEvent → Type 0

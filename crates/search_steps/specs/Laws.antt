@@ -5,16 +5,16 @@ use Rattle.cx_base.specs.Literals.{Literal, literal_true}
 use Rattle.cx_base.specs.Problem.{Problem, Meets, Unmet, clauses_of, parities_of, literals_of, parity_met, AreWithin}
 use Rattle.cx_base.specs.declared.constraint.Constraint.{Constraint}
 use Rattle.cx_base.specs.declared.constraint.Constraint.TheVariants as constraint
-use Rattle.cx_semantics.specs.declared.steps.LogStep.{LogStep}
-use Rattle.cx_semantics.specs.declared.steps.LogStep.TheVariants.{Original, OriginalParity, ClauseWithHints, Parity, ClauseOfParity, ParityOfClauses, Delete, DeleteParity}
-use Rattle.cx_semantics.specs.declared.steps.LogEvent.{LogEvent}
-use Rattle.cx_semantics.specs.declared.steps.LogEvent.TheVariants.{Step}
+use Rattle.cx_base.specs.declared.steps.LogStep.{LogStep}
+use Rattle.cx_base.specs.declared.steps.LogStep.TheVariants.{Original, OriginalParity, ClauseWithHints, Parity, ClauseOfParity, ParityOfClauses, Delete, DeleteParity}
+use Rattle.cx_base.specs.declared.steps.LogEvent.{LogEvent}
+use Rattle.cx_base.specs.declared.steps.LogEvent.TheVariants.{Step}
 use Rattle.cx_semantics.specs.Chain.{has_literal, is_inside, negations, same_literals}
 use Rattle.cx_semantics.specs.Fresh.{IsLive}
-use Rattle.cx_semantics.specs.Integers.{literal, literals, integers_of}
+use Rattle.cx_base.specs.Integers.{literal, literals, integers_of}
 use Rattle.cx_semantics.specs.Judging.{IsRight, IsOpen}
 use Rattle.cx_semantics.specs.LogRules.{log_calculus, derives_empty_clause, HasChain, IsOriginalParity}
-use Rattle.cx_semantics.specs.LogText.{steps_of}
+use Rattle.cx_base.specs.Events.{steps_of}
 use Rattle.cx_semantics.specs.Marked.{Marked, after_event, is_among, without}
 use Rattle.cx_semantics.specs.Settled.{Decides}
 use Rattle.cx_semantics.specs.Tables.{Table, Tables, get}

@@ -7,15 +7,15 @@ use Rattle.cx_base.specs.Problem.{Problem, clauses_of, clause_met, parity_met, A
 use Rattle.cx_semantics.specs.Chain.{has_literal}
 use Rattle.cx_semantics.specs.Fresh.{IsLive}
 use Rattle.cx_semantics.specs.Implied.{Implies}
-use Rattle.cx_semantics.specs.Integers.{literals}
+use Rattle.cx_base.specs.Integers.{literals}
 use Rattle.cx_semantics.specs.LogRules.{AreLive, derives_empty_clause, log_calculus}
-use Rattle.cx_semantics.specs.LogText.{steps_of}
+use Rattle.cx_base.specs.Events.{steps_of}
 use Rattle.cx_semantics.specs.Judging.{AcceptedAt}
 use Rattle.cx_semantics.specs.Marked.{is_among}
 use Rattle.cx_semantics.specs.ProofRules.{IsSum}
-use Rattle.cx_semantics.specs.declared.steps.LogEvent.{LogEvent}
-use Rattle.cx_semantics.specs.declared.steps.LogEvent.TheVariants.{Step}
-use Rattle.cx_semantics.specs.declared.steps.LogStep.TheVariants.{ClauseWithHints, Parity, ClauseOfParity, DeleteParity, Delete}
+use Rattle.cx_base.specs.declared.steps.LogEvent.{LogEvent}
+use Rattle.cx_base.specs.declared.steps.LogEvent.TheVariants.{Step}
+use Rattle.cx_base.specs.declared.steps.LogStep.TheVariants.{ClauseWithHints, Parity, ClauseOfParity, DeleteParity, Delete}
 use Rattle.cx_semantics.specs.Tables.{Table, Tables, get, named}
 use Rattle.search_steps.specs.Trail.{Entry, rests_on, by_clause, held, all_held, Forces}
 use Rattle.search_steps.specs.Search.{Search, told, marked, jumped, forced_on}

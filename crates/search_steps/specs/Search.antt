@@ -3,13 +3,13 @@ use Rattle.std.specs.Prelude.{◌≡◌, ℕ, suc, ◌+◌, ◌≤◌, ◌<◌, 
 use Rattle.std.specs.List.{range_with_len}
 use Rattle.cx_base.specs.Literals.{Literal, negate, same_literal}
 use Rattle.cx_base.specs.Problem.{Problem, clauses_of}
-use Rattle.cx_semantics.specs.declared.steps.LogEvent.{LogEvent}
-use Rattle.cx_semantics.specs.declared.steps.LogEvent.TheVariants.{Conflict}
+use Rattle.cx_base.specs.declared.steps.LogEvent.{LogEvent}
+use Rattle.cx_base.specs.declared.steps.LogEvent.TheVariants.{Conflict}
 use Rattle.cx_semantics.specs.Chain.{has_literal}
 use Rattle.cx_semantics.specs.Fresh.{IsLive, KeepsUnits, FalsifiesNone}
 use Rattle.cx_semantics.specs.Judging.{Runs}
 use Rattle.cx_semantics.specs.LogRules.{log_calculus}
-use Rattle.cx_semantics.specs.LogText.{steps_of}
+use Rattle.cx_base.specs.Events.{steps_of}
 use Rattle.cx_semantics.specs.Marked.{Moment, first_moment, after_event, EventsFit, mark_of, BeginsWithOriginals}
 use Rattle.cx_semantics.specs.Settled.{IsClauseOf}
 use Rattle.cx_semantics.specs.Tables.{Table, Tables, get, no_tables}

@@ -5,7 +5,7 @@ use Rattle.cx_base.specs.Problem.{Problem, clauses_of, parities_of}
 use Rattle.cx_base.specs.declared.constraint.Constraint.{Constraint}
 use Rattle.cx_semantics.specs.Judging.{Runs}
 use Rattle.cx_semantics.specs.LogRules.{log_calculus}
-use Rattle.cx_semantics.specs.LogText.{steps_of}
+use Rattle.cx_base.specs.Events.{steps_of}
 use Rattle.cx_semantics.specs.Marked.{first_moment, EventsFit, mark_of, original_events}
 use Rattle.cx_semantics.specs.Tables.{Table, get, no_tables}
 use Rattle.search_steps.specs.Search.{Search, IsTidy}

@@ -1,24 +1,24 @@
 -- From the search of a planted instance to what `demo` does.
 use Rattle.std.proofs.Common.{◌≡◌, ◌<◌, ◌≤◌, ℕ, Bool, true, false, cond, List, [], ◌++◌, length, take, Option, Some, inr, refl, sym, subst, ap, ◌∙◌, append-nil, arith}
 use Rattle.cx_base.specs.Problem.{Problem}
-use Rattle.cx_semantics.specs.declared.steps.Cause.{Cause}
-use Rattle.cx_semantics.specs.declared.steps.LogEvent.{LogEvent}
-use Rattle.cx_semantics.specs.declared.steps.LogStep.{LogStep}
-use Rattle.cx_semantics.specs.declared.steps.ProofStep.{ProofStep}
-use Rattle.cx_semantics.specs.Grammar.{Ending as TextEnding, finished}
+use Rattle.cx_semantics.specs.declared.cause.Cause.{Cause}
+use Rattle.cx_base.specs.declared.steps.LogEvent.{LogEvent}
+use Rattle.cx_base.specs.declared.steps.LogStep.{LogStep}
+use Rattle.cx_base.specs.declared.steps.ProofStep.{ProofStep}
+use Rattle.cx_base.specs.Endings.{Ending as TextEnding, finished}
 use Rattle.cx_semantics.specs.Judging.{accepted, refused, AcceptedAt, JudgedAs}
-use Rattle.cx_semantics.specs.LogRules.{LogJudgedAs}
-use Rattle.cx_semantics.specs.LogText.{LogReads}
-use Rattle.cx_semantics.specs.Printed.{printed_log, printed_proof}
+use Rattle.cx_judgements.specs.LogTexts.{LogJudgedAs}
+use Rattle.cx_texts.specs.LogText.{LogReads}
+use Rattle.cx_texts.specs.Printed.{printed_log, printed_proof}
 use Rattle.cx_semantics.specs.ProofRules.{proof_calculus}
-use Rattle.cx_semantics.specs.ProofText.{ProofReads}
+use Rattle.cx_texts.specs.ProofText.{ProofReads}
 use Rattle.cx_semantics.proofs.Deciding.{proof_rules_decided}
-use Rattle.cx_semantics.proofs.DecidingLogs.{one_log_judgement}
+use Rattle.cx_judgements.proofs.OneJudgement.{one_log_judgement}
 use Rattle.cx_semantics.proofs.JudgingLaws.{one_judgement}
 use Rattle.fratx_elab.specs.Outcomes.{IsElaborated, IsProofWritten}
 use Rattle.fratx_elab.specs.declared.outcome.Elab.{Elab}
 use Rattle.fratx_elab.specs.declared.outcome.Elab.TheVariants as elab
-use Rattle.proof_text.specs.Lists.{StepsLeft, LeavesList}
+use Rattle.step_text.specs.Lists.{StepsLeft, LeavesList}
 use Rattle.inst_gen.specs.declared.kind.Kind.{Kind}
 use Rattle.inst_gen.specs.Planting.{planted_formula}
 use Rattle.cx_desk.specs.declared.desk.Port.TheVariants as port

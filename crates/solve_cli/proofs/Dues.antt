@@ -2,10 +2,10 @@
 use Rattle.std.proofs.Common.{◌≡◌, ℕ, Bool, true, false, Option, Some, None, Result, Ok, inl, inr, refl, ap, sym, subst, ◌∙◌}
 use Rattle.std.proofs.lemmas.Bool.{both_ways}
 use Rattle.cx_base.specs.Problem.{Problem}
-use Rattle.cx_semantics.specs.ExactlyOne.{ExactlyOne}
-use Rattle.cx_semantics.specs.FormulaText.{Reads, ReadsAs}
-use Rattle.cx_semantics.specs.declared.offence.Offence.{Offence}
-use Rattle.cx_semantics.proofs.TextLaws.{one_formula_reading}
+use Rattle.cx_base.specs.ExactlyOne.{ExactlyOne}
+use Rattle.cx_texts.specs.FormulaText.{Reads, ReadsAs}
+use Rattle.cx_texts.specs.declared.offence.Offence.{Offence}
+use Rattle.cx_texts.proofs.TextLaws.{one_formula_reading}
 use Rattle.cx_desk.specs.Outside.{Bytes, Files}
 use Rattle.cx_words.specs.declared.plans.Plan.{Plan}
 use Rattle.solve_cli.specs.declared.ending.Ending.{Ending}

@@ -7,12 +7,13 @@ use Rattle.cx_base.specs.Problem.{Problem}
 use Rattle.cx_base.specs.declared.literal.TheConstants.{MAX_VARIABLE}
 use Rattle.cx_base.specs.declared.constraint.Constraint.{Constraint}
 use Rattle.cx_base.specs.declared.constraint.Constraint.TheVariants.{Clause, Parity}
-use Rattle.cx_semantics.specs.declared.offence.Offence.{Offence}
-use Rattle.cx_semantics.specs.declared.offence.Offence.TheVariants.{NoHeader, BadHeader, VarLimit}
-use Rattle.cx_semantics.specs.FormulaText.{constraints, behind_count, behind_cnf, behind_p, header, Reads}
-use Rattle.cx_semantics.specs.Grammar.{spelling, finished, Reading}
-use Rattle.cx_semantics.specs.Tokens.{Token, is_blank, is_comment, is_end_line, lines_from, token_of, tokens_of_line, tokens_of_lines, formula_tokens}
-use Rattle.cx_semantics.specs.Words.{Word, Placed, words, integer, natural, word_of, joined_words, formula_words_of, placed_formula_words}
+use Rattle.cx_texts.specs.declared.offence.Offence.{Offence}
+use Rattle.cx_texts.specs.declared.offence.Offence.TheVariants.{NoHeader, BadHeader, VarLimit}
+use Rattle.cx_texts.specs.FormulaText.{constraints, behind_count, behind_cnf, behind_p, header, Reads}
+use Rattle.cx_texts.specs.Grammar.{spelling, Reading}
+use Rattle.cx_base.specs.Endings.{finished}
+use Rattle.cx_texts.specs.Tokens.{Token, is_blank, is_comment, is_end_line, lines_from, token_of, tokens_of_line, tokens_of_lines, formula_tokens}
+use Rattle.cx_texts.specs.Words.{Word, Placed, words, integer, natural, word_of, joined_words, formula_words_of, placed_formula_words}
 
 abbrev Line : Type 0
 Line = List (ℕ × ℕ)

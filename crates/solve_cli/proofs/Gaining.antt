@@ -4,16 +4,16 @@ use Rattle.std.proofs.lemmas.Grind.{flat_map-append}
 use Rattle.std.proofs.lemmas.List.{take-append-drop}
 use Rattle.std.specs.List.{AllByRecursion}
 use Rattle.cx_base.specs.Problem.{Problem}
-use Rattle.cx_semantics.specs.declared.steps.LogStep.{LogStep}
-use Rattle.cx_semantics.specs.declared.steps.ProofStep.{ProofStep}
-use Rattle.cx_semantics.specs.Grammar.{Ending, finished}
-use Rattle.cx_semantics.specs.declared.steps.Cause.{Cause}
+use Rattle.cx_base.specs.declared.steps.LogStep.{LogStep}
+use Rattle.cx_base.specs.declared.steps.ProofStep.{ProofStep}
+use Rattle.cx_base.specs.Endings.{Ending, finished}
+use Rattle.cx_semantics.specs.declared.cause.Cause.{Cause}
 use Rattle.cx_semantics.specs.Judging.{IsRight, Runs, IsOpen}
 use Rattle.cx_semantics.specs.Tables.{Tables, first_tables}
-use Rattle.cx_semantics.specs.LogText.{LogReads}
-use Rattle.cx_semantics.specs.Printed.{HasProofText, printed_proof}
+use Rattle.cx_texts.specs.LogText.{LogReads}
+use Rattle.cx_texts.specs.Printed.{HasProofText, printed_proof}
 use Rattle.cx_semantics.specs.ProofRules.{proof_calculus, after_step, adds_empty_clause}
-use Rattle.cx_semantics.proofs.PrintedProofs.{printed_proof_reads}
+use Rattle.cx_texts.proofs.PrintedProofs.{printed_proof_reads}
 use Rattle.cx_desk.specs.declared.desk.Port.TheVariants as port
 use Rattle.cx_desk.specs.Outside.{Bytes, Told, Outside}
 use Rattle.cx_desk.specs.Calls.{gained, WriteFaulted}

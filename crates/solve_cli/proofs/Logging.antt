@@ -3,18 +3,20 @@ use Rattle.std.proofs.Common.{◌≡◌, ◌<◌, ◌⊎◌, ℕ, zero, suc, Lis
 use Rattle.std.specs.List.{AllByRecursion, range_with_len}
 use Rattle.std.proofs.lemmas.List.{take-append-drop}
 use Rattle.cx_base.specs.Problem.{Problem}
-use Rattle.cx_semantics.specs.declared.steps.LogEvent.{LogEvent}
-use Rattle.cx_semantics.specs.Grammar.{finished}
+use Rattle.cx_base.specs.declared.steps.LogEvent.{LogEvent}
+use Rattle.cx_base.specs.Endings.{finished}
 use Rattle.cx_semantics.specs.Ids.{HasLowId}
 use Rattle.cx_semantics.specs.Judging.{IsOpen}
-use Rattle.cx_semantics.specs.LogRules.{log_calculus, LogOpen}
-use Rattle.cx_semantics.specs.LogText.{LogReads, steps_of}
+use Rattle.cx_semantics.specs.LogRules.{log_calculus}
+use Rattle.cx_judgements.specs.LogTexts.{LogOpen}
+use Rattle.cx_texts.specs.LogText.{LogReads}
+use Rattle.cx_base.specs.Events.{steps_of}
 use Rattle.cx_semantics.specs.Marked.{Marked, mark_of}
-use Rattle.cx_semantics.specs.Printed.{HasText, printed_log}
+use Rattle.cx_texts.specs.Printed.{HasText, printed_log}
 use Rattle.search_steps.specs.Recovering.{SettledWithRecovered}
 use Rattle.cx_semantics.specs.Tables.{no_tables}
-use Rattle.cx_semantics.proofs.EventSteps.{events_give_steps}
-use Rattle.cx_semantics.proofs.PrintedLogs.{printed_log_reads}
+use Rattle.cx_texts.proofs.EventSteps.{events_give_steps}
+use Rattle.cx_texts.proofs.PrintedLogs.{printed_log_reads}
 use Rattle.search_steps.specs.LogSteps.{IsEnded}
 use Rattle.cx_desk.specs.Outside.{Bytes}
 use Rattle.solve_cli.specs.Logs.{HasFewMarks, HasOnlyLowIds, IsRefutation, IsSpentLog, HasNoMark, IsLogSoFar}

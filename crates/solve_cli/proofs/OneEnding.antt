@@ -2,18 +2,17 @@
 use Rattle.std.proofs.Common.{◌≡◌, ◌<◌, ◌≤◌, ◌⊎◌, ℕ, Bool, List, length, Option, Some, None, Result, Ok, Err, inl, inr, refl, ap, sym, subst, ◌∙◌, arith}
 use Rattle.std.proofs.lemmas.Bool.{cases_lt}
 use Rattle.cx_base.specs.Problem.{Problem}
-use Rattle.cx_semantics.specs.declared.offence.Offence.{Offence}
-use Rattle.cx_semantics.specs.FormulaText.{Reads, FirstOffence, ReadsAs}
+use Rattle.cx_texts.specs.declared.offence.Offence.{Offence}
+use Rattle.cx_texts.specs.FormulaText.{Reads, FirstOffence, ReadsAs}
 use Rattle.cx_semantics.specs.Judging.{Judgement, accepted, refused}
-use Rattle.cx_semantics.specs.ProofRules.{ProofJudgedAs}
-use Rattle.cx_semantics.specs.LogRules.{LogJudgedAs}
+use Rattle.cx_judgements.specs.ProofTexts.{ProofJudgedAs}
+use Rattle.cx_judgements.specs.LogTexts.{LogJudgedAs}
 use Rattle.model_out.proofs.JudgingLaws.{same_answer}
 use Rattle.model_out.specs.Answers.{AnswerRefusedFor, AnswersAs}
 use Rattle.model_out.specs.declared.refusal.AnswerRefusal.{AnswerRefusal}
 use Rattle.model_out.specs.declared.refusal.AnswerRefusal.TheVariants as refusal
-use Rattle.cx_semantics.proofs.Deciding.{one_proof_judgement}
-use Rattle.cx_semantics.proofs.DecidingLogs.{one_log_judgement}
-use Rattle.cx_semantics.proofs.TextLaws.{one_formula_reading}
+use Rattle.cx_judgements.proofs.OneJudgement.{one_proof_judgement, one_log_judgement}
+use Rattle.cx_texts.proofs.TextLaws.{one_formula_reading}
 use Rattle.cx_desk.specs.declared.desk.Slot.TheVariants as slot
 use Rattle.cx_desk.specs.Outside.{Bytes, Files}
 use Rattle.cx_words.specs.declared.plans.Plan.{Plan}

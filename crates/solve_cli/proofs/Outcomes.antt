@@ -1,8 +1,8 @@
 -- Which outcomes end with a status.
 use Rattle.std.proofs.Common.{◌≡◌, ℕ, Bool, List, refl, sym, subst}
-use Rattle.cx_semantics.specs.declared.offence.Offence.{Offence}
-use Rattle.cx_semantics.specs.declared.offence.Offence.TheVariants as offence
-use Rattle.cx_semantics.specs.declared.steps.Cause.{Cause}
+use Rattle.cx_texts.specs.declared.offence.Offence.{Offence}
+use Rattle.cx_texts.specs.declared.offence.Offence.TheVariants as offence
+use Rattle.cx_semantics.specs.declared.cause.Cause.{Cause}
 use Rattle.cx_desk.specs.declared.desk.Slot.{Slot}
 use Rattle.solve_cli.specs.declared.ending.Ending.{Ending}
 use Rattle.solve_cli.specs.declared.ending.Ending.TheVariants as ending

@@ -3,11 +3,11 @@ use Rattle.std.proofs.Common.{◌≡◌, ◌<◌, ◌≤◌, ◌⊎◌, ◌≢�
 use Rattle.std.specs.List.{AllByRecursion}
 use Rattle.std.proofs.lemmas.Option.{IfSome_then}
 use Rattle.cx_base.specs.Problem.{Problem, Meets, Unmet}
-use Rattle.cx_semantics.specs.declared.steps.LogEvent.{LogEvent}
+use Rattle.cx_base.specs.declared.steps.LogEvent.{LogEvent}
 use Rattle.cx_semantics.specs.Ids.{HasLowId}
-use Rattle.cx_semantics.specs.LogRules.{LogOpen}
+use Rattle.cx_judgements.specs.LogTexts.{LogOpen}
 use Rattle.cx_semantics.specs.Marked.{mark_of}
-use Rattle.cx_semantics.specs.Printed.{HasText, printed_log}
+use Rattle.cx_texts.specs.Printed.{HasText, printed_log}
 use Rattle.search_steps.specs.Recovering.{SettledWithRecovered}
 use Rattle.cdcl_core.specs.Results.{Satisfies, Refutes, UsesUp}
 use Rattle.cdcl_core.specs.declared.solving.Outcome.TheVariants as answer

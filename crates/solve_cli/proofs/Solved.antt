@@ -3,9 +3,9 @@ use Rattle.std.proofs.Common.{◌≡◌, ◌<◌, ℕ, Bool, true, false, List, 
 use Rattle.std.proofs.lemmas.Bool.{both_ways}
 use Rattle.std.proofs.lemmas.Option.{IfSome_then}
 use Rattle.cx_base.specs.Problem.{Problem, Meets, parities_of}
-use Rattle.cx_semantics.specs.AnswerText as printed
+use Rattle.cx_texts.specs.AnswerText as printed
 use Rattle.cx_semantics.specs.Forced.{Consistent}
-use Rattle.cx_semantics.specs.FormulaText.{Reads}
+use Rattle.cx_texts.specs.FormulaText.{Reads}
 use Rattle.cx_semantics.proofs.SettledLaws.{unsolvable_is_settled}
 use Rattle.search_steps.specs.Recovering.{SettledWithRecovered}
 use Rattle.search_steps.proofs.EndLaws.{settled_by_its_own}

@@ -2,13 +2,13 @@
 use Rattle.std.proofs.Common.{◌≡◌, ◌<◌, ◌⊎◌, ℕ, List, Bool, length, option_map, Option, Some, None, IfSome, inl, inr, refl, ap, sym, subst, ◌∙◌, arith}
 use Rattle.std.proofs.lemmas.Option.{IfSome_then}
 use Rattle.cx_base.specs.Problem.{Problem, Meets, Unmet}
-use Rattle.cx_semantics.specs.ProofRules.{Accepted}
-use Rattle.cx_semantics.specs.LogRules.{LogRight}
+use Rattle.cx_judgements.specs.ProofTexts.{Accepted}
+use Rattle.cx_judgements.specs.LogTexts.{LogRight}
 use Rattle.model_out.specs.Answers.{AnswerReads}
-use Rattle.cx_semantics.specs.declared.offence.Offence.{Offence}
-use Rattle.cx_semantics.specs.declared.offence.Offence.TheVariants as offence
-use Rattle.cx_semantics.specs.declared.steps.Cause.{Cause}
-use Rattle.cx_semantics.proofs.Soundness.{accepted_is_unmet}
+use Rattle.cx_texts.specs.declared.offence.Offence.{Offence}
+use Rattle.cx_texts.specs.declared.offence.Offence.TheVariants as offence
+use Rattle.cx_semantics.specs.declared.cause.Cause.{Cause}
+use Rattle.cx_judgements.proofs.TextSoundness.{accepted_is_unmet}
 use Rattle.cx_desk.specs.declared.desk.Slot.TheVariants as slot
 use Rattle.cx_desk.specs.declared.desk.Port.TheVariants as port
 use Rattle.cx_desk.specs.Outside.{Bytes, Files, Written}

@@ -1,12 +1,11 @@
 -- One command behind another: what `solve` logged is elaborated, and what `elab` wrote is verified.
 use Rattle.std.proofs.Common.{◌≡◌, ◌<◌, ◌⊎◌, ℕ, List, length, codes, option_map, Option, Some, None, IfSome, inl, inr, refl, ap, sym, subst, ◌∙◌}
 use Rattle.cx_base.specs.Problem.{Problem}
-use Rattle.cx_semantics.specs.FormulaText.{Reads}
+use Rattle.cx_texts.specs.FormulaText.{Reads}
 use Rattle.cx_semantics.specs.Judging.{accepted, refused}
-use Rattle.cx_semantics.specs.LogRules.{LogRight, LogJudgedAs}
-use Rattle.cx_semantics.specs.ProofRules.{Accepted, ProofJudgedAs}
-use Rattle.cx_semantics.proofs.Deciding.{one_proof_judgement}
-use Rattle.cx_semantics.proofs.DecidingLogs.{one_log_judgement}
+use Rattle.cx_judgements.specs.LogTexts.{LogRight, LogJudgedAs}
+use Rattle.cx_judgements.specs.ProofTexts.{Accepted, ProofJudgedAs}
+use Rattle.cx_judgements.proofs.OneJudgement.{one_proof_judgement, one_log_judgement}
 use Rattle.cx_desk.specs.declared.desk.Slot.TheVariants as slot
 use Rattle.cx_desk.specs.declared.desk.Port.TheVariants as port
 use Rattle.cx_desk.specs.Outside.{Bytes, Files, Written}

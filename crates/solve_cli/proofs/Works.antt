@@ -2,10 +2,10 @@
 use Rattle.std.proofs.Common.{true, false, ◌≡◌, ◌<◌, ◌≤◌, ℕ, [], length, take, Option, Some, None, IfSome, IsSome, Result, Ok, Err, inl, inr, refl, ap, sym, subst, ◌∙◌, append-nil}
 use Rattle.std.proofs.lemmas.Option.{IfSome_then}
 use Rattle.cx_base.specs.Problem.{Problem}
-use Rattle.cx_semantics.specs.FormulaText.{FirstOffence}
+use Rattle.cx_texts.specs.FormulaText.{FirstOffence}
 use Rattle.cx_semantics.specs.Tables.{first_tables}
-use Rattle.cx_semantics.specs.declared.offence.Offence.{Offence}
-use Rattle.cx_semantics.specs.declared.offence.Offence.TheVariants as offence
+use Rattle.cx_texts.specs.declared.offence.Offence.{Offence}
+use Rattle.cx_texts.specs.declared.offence.Offence.TheVariants as offence
 use Rattle.cnfx_reader.specs.ReadsTo.{IsRefusedAs}
 use Rattle.cnfx_reader.specs.declared.refusal.ReadRefusal.{ReadRefusal}
 use Rattle.cnfx_reader.specs.declared.refusal.ReadRefusal.TheVariants as refusal

@@ -1,12 +1,12 @@
 -- What each status says of the words and the files: the causes of the answers.
 use Rattle.std.specs.Prelude.{◌≡◌, ◌<◌, ◌≤◌, ℕ, Bool, List, length, Option, IfSome, ◌⊎◌}
 use Rattle.cx_base.specs.Problem.{Problem, Meets, Unmet}
-use Rattle.cx_semantics.specs.declared.offence.Offence.{Offence}
-use Rattle.cx_semantics.specs.declared.offence.Offence.TheVariants as offence
-use Rattle.cx_semantics.specs.declared.steps.Cause.{Cause}
-use Rattle.cx_semantics.specs.FormulaText.{FirstOffence}
-use Rattle.cx_semantics.specs.ProofRules.{Accepted, RefusedAt}
-use Rattle.cx_semantics.specs.LogRules.{LogRight, LogRefusedAt}
+use Rattle.cx_texts.specs.declared.offence.Offence.{Offence}
+use Rattle.cx_texts.specs.declared.offence.Offence.TheVariants as offence
+use Rattle.cx_semantics.specs.declared.cause.Cause.{Cause}
+use Rattle.cx_texts.specs.FormulaText.{FirstOffence}
+use Rattle.cx_judgements.specs.ProofTexts.{Accepted, RefusedAt}
+use Rattle.cx_judgements.specs.LogTexts.{LogRight, LogRefusedAt}
 use Rattle.model_out.specs.Answers.{AnswerReads, AnswerRefusedFor}
 use Rattle.cx_desk.specs.Outside.{Bytes, Files}
 use Rattle.cx_words.specs.Words.{Asks}

@@ -1,8 +1,8 @@
 -- The demonstration: what it prints of a planted instance, and the log that stands behind it.
 use Rattle.std.specs.Prelude.{◌≡◌, ℕ, ◌^◌, Bool, List, length, IfSome, ⊤}
 use Rattle.cx_base.specs.Problem.{Problem, Meets, Unmet, clauses_of, parities_of}
-use Rattle.cx_semantics.specs.declared.steps.LogStep.{LogStep}
-use Rattle.cx_semantics.specs.declared.steps.ProofStep.{ProofStep}
+use Rattle.cx_base.specs.declared.steps.LogStep.{LogStep}
+use Rattle.cx_base.specs.declared.steps.ProofStep.{ProofStep}
 use Rattle.search_steps.specs.Recovering.{SettledWithRecovered}
 use Rattle.fratx_elab.specs.Outcomes.{IsProofWritten}
 use Rattle.fratx_elab.specs.declared.outcome.Elab.TheVariants as elab

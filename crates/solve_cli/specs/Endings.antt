@@ -2,11 +2,11 @@
 use Rattle.std.specs.Prelude.{ℕ, List, [], ◌∷◌, ◌++◌, codes, decimal}
 use Rattle.cx_desk.specs.declared.desk.Slot.{Slot}
 use Rattle.cx_desk.specs.declared.desk.Slot.TheVariants as slot
-use Rattle.cx_semantics.specs.declared.offence.Offence.{Offence}
-use Rattle.cx_semantics.specs.declared.offence.Offence.TheVariants as offence
-use Rattle.cx_semantics.specs.declared.steps.Cause.{Cause}
-use Rattle.cx_semantics.specs.declared.steps.Cause.TheVariants as cause
-use Rattle.cx_semantics.specs.AnswerText as printed
+use Rattle.cx_texts.specs.declared.offence.Offence.{Offence}
+use Rattle.cx_texts.specs.declared.offence.Offence.TheVariants as offence
+use Rattle.cx_semantics.specs.declared.cause.Cause.{Cause}
+use Rattle.cx_semantics.specs.declared.cause.Cause.TheVariants as cause
+use Rattle.cx_texts.specs.AnswerText as printed
 use Rattle.cx_words.specs.PlainWords.{kind_word}
 use Rattle.solve_cli.specs.declared.ending.Ending.{Ending}
 use Rattle.solve_cli.specs.declared.ending.Ending.TheVariants as ending

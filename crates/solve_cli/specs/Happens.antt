@@ -1,9 +1,9 @@
 -- What a command may do: which ending is due for its files, and which outcome may come in its place.
 use Rattle.std.specs.Prelude.{◌≡◌, ◌<◌, ◌≤◌, ℕ, Bool, true, false, List, [], length, take, if◌then◌else◌, Option, Some, None, IfSome, IsSome, IsTrue, ⊤, ◌⊎◌}
 use Rattle.cx_base.specs.Problem.{Problem, Meets, Unmet}
-use Rattle.cx_semantics.specs.FormulaText.{Reads, FirstOffence}
-use Rattle.cx_semantics.specs.ProofRules.{Accepted, RefusedAt}
-use Rattle.cx_semantics.specs.LogRules.{LogRight, LogRefusedAt}
+use Rattle.cx_texts.specs.FormulaText.{Reads, FirstOffence}
+use Rattle.cx_judgements.specs.ProofTexts.{Accepted, RefusedAt}
+use Rattle.cx_judgements.specs.LogTexts.{LogRight, LogRefusedAt}
 use Rattle.search_steps.specs.Recovering.{SettledWithRecovered}
 use Rattle.model_out.specs.Answers.{AnswerReads, AnswerRefusedFor}
 use Rattle.model_out.specs.declared.refusal.AnswerRefusal.{AnswerRefusal}

@@ -2,13 +2,13 @@
 use Rattle.std.specs.Prelude.{◌≡◌, ℕ, ◌<◌, List, [], ◌++◌, length, filter_map, ◌⊎◌}
 use Rattle.std.specs.List.{AllByRecursion}
 use Rattle.cx_base.specs.Problem.{Problem}
-use Rattle.cx_semantics.specs.declared.steps.LogStep.{LogStep}
-use Rattle.cx_semantics.specs.declared.steps.LogEvent.{LogEvent}
-use Rattle.cx_semantics.specs.Grammar.{finished}
+use Rattle.cx_base.specs.declared.steps.LogStep.{LogStep}
+use Rattle.cx_base.specs.declared.steps.LogEvent.{LogEvent}
+use Rattle.cx_base.specs.Endings.{finished}
 use Rattle.cx_semantics.specs.Ids.{HasLowId}
-use Rattle.cx_semantics.specs.LogRules.{LogOpen, LogRight}
-use Rattle.cx_semantics.specs.LogText.{LogReads, EventsRead}
-use Rattle.cx_semantics.specs.Marked.{Marked, Budgeted, mark_of}
+use Rattle.cx_judgements.specs.LogTexts.{LogOpen, LogRight, Budgeted}
+use Rattle.cx_texts.specs.LogText.{LogReads, EventsRead}
+use Rattle.cx_semantics.specs.Marked.{Marked, mark_of}
 use Rattle.search_steps.specs.Recovering.{SettledWithRecovered}
 use Rattle.cx_desk.specs.Outside.{Bytes}
 

@@ -1,13 +1,14 @@
 -- What `elab` leaves on the Proof port: the printed steps of a proof.
 use Rattle.std.specs.Prelude.{◌≡◌, ℕ, ◌-◌, List, ◌++◌, length, take, ◌⊎◌}
 use Rattle.cx_base.specs.Problem.{Problem}
-use Rattle.cx_semantics.specs.declared.steps.LogStep.{LogStep}
-use Rattle.cx_semantics.specs.declared.steps.ProofStep.{ProofStep}
-use Rattle.cx_semantics.specs.Grammar.{Ending}
+use Rattle.cx_base.specs.declared.steps.LogStep.{LogStep}
+use Rattle.cx_base.specs.declared.steps.ProofStep.{ProofStep}
+use Rattle.cx_base.specs.Endings.{Ending}
 use Rattle.cx_semantics.specs.Judging.{AcceptedAt, IsOpen}
-use Rattle.cx_semantics.specs.LogText.{LogReads}
-use Rattle.cx_semantics.specs.Printed.{printed_proof}
-use Rattle.cx_semantics.specs.ProofRules.{Accepted, proof_calculus}
+use Rattle.cx_texts.specs.LogText.{LogReads}
+use Rattle.cx_texts.specs.Printed.{printed_proof}
+use Rattle.cx_judgements.specs.ProofTexts.{Accepted}
+use Rattle.cx_semantics.specs.ProofRules.{proof_calculus}
 use Rattle.cx_desk.specs.Outside.{Bytes}
 use Rattle.fratx_elab.specs.Elaborates.{IsProofOf}
 

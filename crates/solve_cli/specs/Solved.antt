@@ -1,9 +1,9 @@
 -- What the answers of `solve` say.
 use Rattle.std.specs.Prelude.{◌≡◌, ◌≢◌, ℕ, Bool, List, [], ◌∷◌, Option, IfSome, codes, decimal}
 use Rattle.cx_base.specs.Problem.{Problem, Meets, Unmet, parities_of}
-use Rattle.cx_semantics.specs.AnswerText as printed
+use Rattle.cx_texts.specs.AnswerText as printed
 use Rattle.cx_semantics.specs.Forced.{Consistent}
-use Rattle.cx_semantics.specs.FormulaText.{Reads}
+use Rattle.cx_texts.specs.FormulaText.{Reads}
 use Rattle.cx_semantics.specs.Settled.{Settled}
 use Rattle.search_steps.specs.Recovering.{SettledWithRecovered}
 use Rattle.cx_desk.specs.declared.desk.Slot.TheVariants as slot

@@ -1,8 +1,8 @@
 -- The steps of `solve`: the formula is read, the Proof port is given the log's file, and the search is made.
 use Rattle.std.specs.Prelude.{◌≡◌, ℕ, List, IfSome, Result, MatchResult}
 use Rattle.cx_base.specs.Problem.{Problem, Meets, Unmet}
-use Rattle.cx_semantics.specs.declared.steps.LogEvent.{LogEvent}
-use Rattle.cx_semantics.specs.Printed.{printed_log}
+use Rattle.cx_base.specs.declared.steps.LogEvent.{LogEvent}
+use Rattle.cx_texts.specs.Printed.{printed_log}
 use Rattle.search_steps.specs.Recovering.{SettledWithRecovered}
 use Rattle.cx_words.specs.declared.plans.Plan.{Plan}
 use Rattle.solve_cli.specs.declared.ending.Ending.{Ending}

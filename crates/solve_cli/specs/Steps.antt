@@ -5,7 +5,7 @@ use Rattle.cx_desk.specs.declared.desk.Slot.TheVariants as slot
 use Rattle.cx_desk.specs.declared.desk.Port.TheVariants as port
 use Rattle.cx_desk.specs.Outside.{Bytes, Outside, left_in, started_in}
 use Rattle.cx_base.specs.Problem.{Problem}
-use Rattle.cx_semantics.specs.declared.offence.Offence.TheVariants as offence
+use Rattle.cx_texts.specs.declared.offence.Offence.TheVariants as offence
 use Rattle.cnfx_reader.specs.declared.refusal.ReadRefusal.{ReadRefusal}
 use Rattle.cnfx_reader.specs.declared.refusal.ReadRefusal.TheVariants as refusal
 use Rattle.cx_words.specs.declared.plans.Plan.{Plan}

@@ -1,10 +1,11 @@
 //! The demonstration: a planted instance is solved, and what the search answers is shown to be so.
 ghost use Rattle.std.specs.Prelude.{◌≡◌, IfOk};
-ghost use Rattle.cx_semantics.specs.Grammar.{finished};
+ghost use Rattle.cx_base.specs.Endings.{finished};
 ghost use Rattle.cx_semantics.specs.Judging.{JudgedAs};
-ghost use Rattle.cx_semantics.specs.LogText.{LogReads, steps_of};
-ghost use Rattle.cx_semantics.specs.Printed.{printed_log, printed_proof};
-ghost use Rattle.cx_semantics.specs.ProofText.{ProofReads};
+ghost use Rattle.cx_texts.specs.LogText.{LogReads};
+ghost use Rattle.cx_base.specs.Events.{steps_of};
+ghost use Rattle.cx_texts.specs.Printed.{printed_log, printed_proof};
+ghost use Rattle.cx_texts.specs.ProofText.{ProofReads};
 ghost use Rattle.cx_semantics.specs.ProofRules.{proof_calculus};
 ghost use Rattle.inst_gen.specs.Planting.{planted_formula};
 ghost use Rattle.xlrup_check.specs.Verdicts.{judgement_of};

@@ -4,7 +4,8 @@ ghost use Rattle.solve_cli.specs.Endings.{status_of, status_code_of};
 
 use cx_base::Values;
 use cx_desk::Slot;
-use cx_semantics::{Cause, Offence};
+use cx_semantics::Cause;
+use cx_texts::Offence;
 use cx_words::Kind;
 
 /// Why printed values are refused: the first cause in this order.

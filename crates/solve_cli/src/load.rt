@@ -10,7 +10,7 @@ use crate::{Ending, Outcome};
 use cnfx_reader::{ReadRefusal, read_formula};
 use cx_base::Formula;
 use cx_desk::{Desk, Failed, ReadErr, Slot, Text, read_whole};
-use cx_semantics::Offence;
+use cx_texts::Offence;
 use cx_words::Name;
 use std::alloc::Global;
 

@@ -7,7 +7,8 @@ ghost use Rattle.solve_cli.specs.Endings.{answer_text, message_text, cause_text,
 
 use crate::{Ending, Instance, Outcome, Shown, WrongAnswer};
 use cx_desk::{Desk, Failed, Port, Slot, put_all, put_pieces};
-use cx_semantics::{Cause, Offence};
+use cx_semantics::Cause;
+use cx_texts::Offence;
 use cx_words::Kind;
 use itoa::Buffer;
 use model_out::put_answer;

@@ -1,13 +1,13 @@
 //! Worked logs: what is read, kept and printed again, and what is refused and where.
-ghost use Rattle.cx_semantics.specs.declared.steps.LogEvent.TheVariants.{Step};
-ghost use Rattle.cx_semantics.specs.Printed.{HasText};
+ghost use Rattle.cx_base.specs.declared.steps.LogEvent.TheVariants.{Step};
+ghost use Rattle.cx_texts.specs.Printed.{HasText};
 
+use cx_base::LogEvent;
 use cx_desk::{MemDesk, Port, Rooms};
-use log_text::{
-    ListLog, LogSink, LogStep, LogText, NoLog, StepSource, TextRefusal, put_log, put_log_step,
-};
+use log_text::{ListLog, LogStep, LogText, NoLog, put_log, put_log_step};
 use std::alloc::Global;
 use std::test::Fail;
+use step_text::{Sink, StepSource, TextRefusal};
 
 /// What was printed of a log, step by step and as a whole, and the refusal that it ends with.
 #[derive(Drop)]
@@ -18,15 +18,17 @@ struct Written {
 }
 
 /// Prints a step, and keeps it with a mark behind it.
-fn put(desk: &mut MemDesk, log: &mut ListLog, step: &LogStep, k: u64) -> Result<(), Fail>
-    requires { HasText (Step step.now) }
+fn put(desk: &mut MemDesk, log: &mut ListLog, step: LogStep, k: u64) -> Result<(), Fail>
+    requires { HasText (Step step) }
 {
-    put_log_step(desk, Port::Proof, step)?;
-    log.step(step)?;
-    log.conflict(k)?;
+    put_log_step(desk, Port::Proof, &step)?;
+    let told = LogEvent::Step(step);
+    let mark = LogEvent::Conflict(k);
+    log.put(&told)?;
+    log.put(&mark)?;
     let mut nothing = NoLog;
-    nothing.step(step)?;
-    nothing.conflict(k)?;
+    nothing.put(&told)?;
+    nothing.put(&mark)?;
     Ok(())
 }
 
@@ -45,7 +47,7 @@ fn printed(alloc: Global, text: &[u8]) -> Result<Written, Fail> {
         for k in 1..17 {
             match source.next_step() {
                 Ok(Some(step)) => {
-                    put(&mut desk, &mut log, &step, k)?;
+                    put(&mut desk, &mut log, step, k)?;
                 }
                 Ok(None) => break,
                 Err(refusal) => {

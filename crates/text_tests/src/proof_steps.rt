@@ -1,16 +1,14 @@
 //! Worked texts: the steps that are read and printed again, and what is refused and where.
 ghost use Rattle.std.specs.Prelude.{◌≡◌, true, false, OnOk};
-ghost use Rattle.cx_semantics.specs.Printed.{HasProofText};
-ghost use Rattle.proof_text.specs.Texts.{is_spent_by};
+ghost use Rattle.cx_texts.specs.Printed.{HasProofText};
+ghost use Rattle.step_text.specs.Texts.{is_spent_by};
 ghost use Rattle.proof_text.specs.Told.{is_whole, Prints};
 
 use cx_desk::{Desk, MemDesk, Port, Rooms};
-use proof_text::{
-    DeskProof, ListProof, ProofSink, ProofStep, ProofText, SinkFault, StepSource, TextRefusal,
-    put_proof_step,
-};
+use proof_text::{DeskProof, ListProof, ProofStep, ProofText, put_proof_step};
 use std::alloc::Global;
 use std::test::Fail;
+use step_text::{Sink, SinkFault, StepSource, TextRefusal};
 
 /// The printed steps of a text, and the refusal that it ends with.
 #[derive(Drop)]
@@ -142,12 +140,12 @@ fn a_refusal_comes_again(rt: HostRuntime) {
 }
 
 /// Gives a step to any sink.
-fn give<S: ProofSink>(sink: &mut S, step: &ProofStep) -> Result<(), SinkFault>
+fn give<S: Sink<Item = ProofStep>>(sink: &mut S, step: &ProofStep) -> Result<(), SinkFault>
     requires { HasProofText step.now }
     ensures failed { OnOk result (S.has_failed sink.new ≡ S.has_failed sink.old) }
     ensures frame { S.keeps sink.old sink.new }
 {
-    sink.step(step)
+    sink.put(step)
 }
 
 /// Prints a step through a sink over a lent desk.
@@ -161,7 +159,7 @@ fn print_through<D: Desk>(desk: &mut D, step: &ProofStep) -> Result<(), SinkFaul
 }
 
 /// Gives the steps that a text has left, at most eight, to a sink; how many it refused.
-fn give_all<S: ProofSink>(source: &mut ProofText, sink: &mut S) -> u64
+fn give_all<S: Sink<Item = ProofStep>>(source: &mut ProofText, sink: &mut S) -> u64
     requires { is_spent_by source.old.refused ≡ false }
 {
     let mut refused = 0u64;

@@ -1,13 +1,13 @@
 -- One step more of a proof that is judged.
 use Rattle.std.proofs.Common.{◌≡◌, refl, sym, ap, subst, ℕ, ◌+◌, Bool, true, false, List, [], ◌∷◌, ◌++◌, length-append, append-nil, append_assoc, inl, inr, arith, IfOk, Some, None, Result, Ok, Err}
 use Rattle.cx_base.specs.Problem.{Problem}
-use Rattle.cx_semantics.specs.declared.steps.ProofStep.{ProofStep}
-use Rattle.cx_semantics.specs.declared.steps.Cause.{Cause}
-use Rattle.cx_semantics.specs.declared.steps.Cause.TheVariants as causes
-use Rattle.cx_semantics.specs.Grammar.{Ending, bad_token, too_big, unterminated}
-use Rattle.proof_text.specs.Sources.{GivesNone}
-use Rattle.proof_text.specs.declared.source.TextRefusal.{TextRefusal}
-use Rattle.proof_text.specs.declared.source.TextRefusal.TheVariants as text
+use Rattle.cx_base.specs.declared.steps.ProofStep.{ProofStep}
+use Rattle.cx_semantics.specs.declared.cause.Cause.{Cause}
+use Rattle.cx_semantics.specs.declared.cause.Cause.TheVariants as causes
+use Rattle.cx_base.specs.Endings.{Ending, bad_token, too_big, unterminated}
+use Rattle.step_text.specs.Sources.{GivesNone}
+use Rattle.step_text.specs.declared.source.TextRefusal.{TextRefusal}
+use Rattle.step_text.specs.declared.source.TextRefusal.TheVariants as text
 use Rattle.cx_semantics.specs.Tables.{Tables, first_tables}
 use Rattle.cx_semantics.specs.Judging.{Runs, FirstFailure, AcceptedAt, end_cause}
 use Rattle.cx_semantics.specs.ProofRules.{proof_calculus, proof_rules}

@@ -1,15 +1,15 @@
 -- What the checker answers.
 use Rattle.std.specs.Prelude.{◌≡◌, ℕ, ℤ, Bool, true, false, ◌&&◌, [], ◌∷◌, List, length, ◌++◌, ◌+◌, Option, Some, None, Result, Ok, Err, ⊤}
 use Rattle.cx_base.specs.Problem.{Problem, Unmet}
-use Rattle.cx_semantics.specs.declared.steps.ProofStep.{ProofStep}
+use Rattle.cx_base.specs.declared.steps.ProofStep.{ProofStep}
 use Rattle.cx_base.specs.Literals.{Literal}
-use Rattle.cx_semantics.specs.Grammar.{Ending}
-use Rattle.cx_semantics.specs.Integers.{literals}
-use Rattle.cx_semantics.specs.declared.steps.ProofStep.TheVariants as proof
+use Rattle.cx_base.specs.Endings.{Ending}
+use Rattle.cx_base.specs.Integers.{literals}
+use Rattle.cx_base.specs.declared.steps.ProofStep.TheVariants as proof
 use Rattle.cx_semantics.specs.Tables.{Tables, first_tables}
-use Rattle.cx_semantics.specs.declared.steps.Cause.TheVariants as causes
-use Rattle.proof_text.specs.declared.source.TextRefusal.{TextRefusal}
-use Rattle.proof_text.specs.declared.source.TextRefusal.TheVariants as text
+use Rattle.cx_semantics.specs.declared.cause.Cause.TheVariants as causes
+use Rattle.step_text.specs.declared.source.TextRefusal.{TextRefusal}
+use Rattle.step_text.specs.declared.source.TextRefusal.TheVariants as text
 use Rattle.cx_semantics.specs.Judging.{Rule, AllHold, Judgement, accepted, refused, Runs, JudgedAs}
 use Rattle.cx_semantics.specs.ProofRules.{adding, is_empty, hinting, chaining, summing, clause_of_parity, parity_of_clauses, proof_calculus, proof_rules, after_step, adds_empty_clause}
 use Rattle.cx_base.specs.Counts.{Rose}

@@ -7,11 +7,11 @@ ghost use Rattle.xlrup_check.specs.Verdicts.{IsJudgedBy, IsSound, HasCause, Kept
 use crate::begin::first_live;
 use crate::step::take_step;
 use crate::verdict::{Fault, Verdict};
-use cx_base::Formula;
-use cx_semantics::{Cause, ProofStep};
+use cx_base::{Formula, ProofStep};
+use cx_semantics::Cause;
 use proof_rules::{JudgeRefusal, LiteralSet, Live};
-use proof_text::{StepSource, TextRefusal};
 use std::alloc::Global;
+use step_text::{StepSource, TextRefusal};
 
 /// Judges a proof of the formula, from a source of steps.
 ///

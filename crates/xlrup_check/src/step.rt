@@ -6,8 +6,7 @@ ghost use Rattle.proof_rules.specs.Judges.{JudgesBy};
 ghost use Rattle.proof_rules.specs.Kinds.{drop_constraints};
 ghost use Rattle.xlrup_check.specs.Verdicts.{hint_rules, TakesAdded, TakesStep};
 
-use cx_base::{IdList, IntList, LitList};
-use cx_semantics::ProofStep;
+use cx_base::{IdList, IntList, LitList, ProofStep};
 use proof_rules::{
     JudgeRefusal, Kind, LiteralSet, Live, admit, judge_chain, judge_clause_of_parity,
     judge_parity_of_clauses, judge_sum,

@@ -7,19 +7,19 @@ use Rattle.cdcl_core.proofs.beginning.put_unit.Goals as goal
 pub refute-requires-clause-shown : goal.refute-requires-clause-shown
 refute-requires-clause-shown g c =
     let (engines, stands) = c.requires.stands in
-    false_is_refutable c.args.log.now.formula.now engines c.args.state.now c.index-units-place.result (drop (c.args.place + 1) c.args.units.now) (g.L.LogSink.events c.args.log.now.sink.now)
-    (next_waits c.args.log.now.formula.now engines c.args.state.now c.args.units.now c.args.place c.index-units-place.result (g.L.LogSink.events c.args.log.now.sink.now) c.requires.place c.index-units-place.is stands) c.in-False.ensures.means
+    false_is_refutable c.args.log.now.formula.now engines c.args.state.now c.index-units-place.result (drop (c.args.place + 1) c.args.units.now) (g.L.Sink.items c.args.log.now.sink.now)
+    (next_waits c.args.log.now.formula.now engines c.args.state.now c.args.units.now c.args.place c.index-units-place.result (g.L.Sink.items c.args.log.now.sink.now) c.requires.place c.index-units-place.is stands) c.in-False.ensures.means
 
 pub returns-in-True-clause-puts : goal.returns-in-True-clause-puts
-returns-in-True-clause-puts g c = λ engines stands. true_is_put c.args.log.now.formula.now engines c.args.state.now c.index-units-place.result (drop (c.args.place + 1) c.args.units.now) (g.L.LogSink.events c.args.log.now.sink.now)
-    (next_waits c.args.log.now.formula.now engines c.args.state.now c.args.units.now c.args.place c.index-units-place.result (g.L.LogSink.events c.args.log.now.sink.now) c.requires.place c.index-units-place.is stands) c.in-True.ensures.means
+returns-in-True-clause-puts g c = λ engines stands. true_is_put c.args.log.now.formula.now engines c.args.state.now c.index-units-place.result (drop (c.args.place + 1) c.args.units.now) (g.L.Sink.items c.args.log.now.sink.now)
+    (next_waits c.args.log.now.formula.now engines c.args.state.now c.args.units.now c.args.place c.index-units-place.result (g.L.Sink.items c.args.log.now.sink.now) c.requires.place c.index-units-place.is stands) c.in-True.ensures.means
 
 pub returns-in_ok-push-in-Open-clause-puts : goal.returns-in_ok-push-in-Open-clause-puts
 returns-in_ok-push-in-Open-clause-puts g c = λ engines stands.
-    let st = open_is_put c.args.log.now.formula.now engines c.args.state.now c.index-units-place.result (drop (c.args.place + 1) c.args.units.now) (g.L.LogSink.events c.args.log.now.sink.now)
-    (next_waits c.args.log.now.formula.now engines c.args.state.now c.args.units.now c.args.place c.index-units-place.result (g.L.LogSink.events c.args.log.now.sink.now) c.requires.place c.index-units-place.is stands)
+    let st = open_is_put c.args.log.now.formula.now engines c.args.state.now c.index-units-place.result (drop (c.args.place + 1) c.args.units.now) (g.L.Sink.items c.args.log.now.sink.now)
+    (next_waits c.args.log.now.formula.now engines c.args.state.now c.args.units.now c.args.place c.index-units-place.result (g.L.Sink.items c.args.log.now.sink.now) c.requires.place c.index-units-place.is stands)
     c.in-Open.ensures.means Decision c.push.new.self c.in_ok-push-in-Open.ensures.items c.imply.new.self c.imply.ensures.pushed c.imply.ensures.sound in
     st
 
 pub returns-in_ok-refute-in-False-clause-puts : goal.returns-in_ok-refute-in-False-clause-puts
-returns-in_ok-refute-in-False-clause-puts g c = λ engines stands. subst (λ n. Refutes c.refute.new.log.formula.now (n + 1) (g.L.LogSink.events c.refute.new.log.sink.now)) stands.3.conflicts c.in_ok-refute-in-False.ensures.refutes
+returns-in_ok-refute-in-False-clause-puts g c = λ engines stands. subst (λ n. Refutes c.refute.new.log.formula.now (n + 1) (g.L.Sink.items c.refute.new.log.sink.now)) stands.3.conflicts c.in_ok-refute-in-False.ensures.refutes

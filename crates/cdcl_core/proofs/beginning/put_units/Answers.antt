@@ -5,7 +5,7 @@ use Rattle.cdcl_core.proofs.WaitingLaws.{none_left}
 use Rattle.cdcl_core.proofs.beginning.put_units.Goals as goal
 
 pub loop-place-init : goal.loop-place-init
-loop-place-init g c = record { stands = λ engines stands. stands; log = log_rests g.L.LogSink g.met.L.LogSink.keeps_itself _ }
+loop-place-init g c = record { stands = λ engines stands. stands; log = log_rests g.L.Sink g.met.L.Sink.keeps_itself _ }
 
 pub put_unit-requires-clause-stands : goal.put_unit-requires-clause-stands
 put_unit-requires-clause-stands g c = (c.requires.0, c.loop-place.invariant.stands c.requires.0 c.requires.1)
@@ -13,18 +13,18 @@ put_unit-requires-clause-stands g c = (c.requires.0, c.loop-place.invariant.stan
 pub returns-clause-puts : goal.returns-clause-puts
 returns-clause-puts g c =
     let far = c.loop-place-test.false in
-    λ engines stands. subst (λ us. SearchStandsBut c.loop-place.log.formula.now engines c.loop-place.state us (g.L.LogSink.events c.loop-place.log.sink.now)) (none_left c.args.units.now c.loop-place.place (omega (arith, far)))
+    λ engines stands. subst (λ us. SearchStandsBut c.loop-place.log.formula.now engines c.loop-place.state us (g.L.Sink.items c.loop-place.log.sink.now)) (none_left c.args.units.now c.loop-place.place (omega (arith, far)))
     (c.loop-place.invariant.stands engines stands)
 
 pub returns-then-not-branch-clause-puts : goal.returns-then-not-branch-clause-puts
 returns-then-not-branch-clause-puts g c = λ engines stands.
-    subst (PutsUnits c.put_unit.new.log.formula.now engines c.put_unit.new.state (drop (c.loop-place.place + 1) c.args.units.now) (g.L.LogSink.events c.put_unit.new.log.sink.now)) c.if-not-branch.true
+    subst (PutsUnits c.put_unit.new.log.formula.now engines c.put_unit.new.state (drop (c.loop-place.place + 1) c.args.units.now) (g.L.Sink.items c.put_unit.new.log.sink.now)) c.if-not-branch.true
     (c.in_ok-put_unit.ensures.puts engines (c.loop-place.invariant.stands engines stands))
 
 pub loop-place-preserved : goal.loop-place-preserved
 loop-place-preserved g c = record {
   stands = λ engines stands.
-      subst (PutsUnits c.put_unit.new.log.formula.now engines c.put_unit.new.state (drop (c.loop-place.place + 1) c.args.units.now) (g.L.LogSink.events c.put_unit.new.log.sink.now)) c.if-not-branch.false
+      subst (PutsUnits c.put_unit.new.log.formula.now engines c.put_unit.new.state (drop (c.loop-place.place + 1) c.args.units.now) (g.L.Sink.items c.put_unit.new.log.sink.now)) c.if-not-branch.false
       (c.in_ok-put_unit.ensures.puts engines (c.loop-place.invariant.stands engines stands));
-  log = log_then g.L.LogSink g.met.L.LogSink.keeps_on _ _ _ _ c.loop-place.invariant.log c.in_ok-put_unit.ensures.log;
+  log = log_then g.L.Sink g.met.L.Sink.keeps_on _ _ _ _ c.loop-place.invariant.log c.in_ok-put_unit.ensures.log;
 }

@@ -7,7 +7,7 @@ use Rattle.cdcl_core.proofs.beginning.put_units.Given as goal
 -- the unit clauses from this place on wait
 abbrev pub invariant-loop-place : goal.invariant-loop-place
 invariant-loop-place g l = record {
-  stands : (engines : List (List Literal)) → SearchStandsBut l.fn.log.formula.now engines l.fn.state l.units (g.L.LogSink.events l.fn.log.sink.now)
-      → SearchStandsBut l.log.formula.now engines l.state (drop l.place l.units) (g.L.LogSink.events l.log.sink.now);
-  log : GoesOn g.L.LogSink l.fn.log None l.log;
+  stands : (engines : List (List Literal)) → SearchStandsBut l.fn.log.formula.now engines l.fn.state l.units (g.L.Sink.items l.fn.log.sink.now)
+      → SearchStandsBut l.log.formula.now engines l.state (drop l.place l.units) (g.L.Sink.items l.log.sink.now);
+  log : GoesOn g.L.Sink l.fn.log None l.log;
 }

@@ -11,14 +11,14 @@ use Rattle.cdcl_core.proofs.beginning.start.Goals as goal
 
 pub refute-requires-clause-shown : goal.refute-requires-clause-shown
 refute-requires-clause-shown g c =
-    empty_is_refutable c.args.log.now.formula.now c.requires.few c.vars-vars.ensures.within c.args.parities.now (g.L.LogSink.events c.args.log.now.sink.now) c.requires.given c.args.filled.state c.args.filled.units.items c.in-Some.number
+    empty_is_refutable c.args.log.now.formula.now c.requires.few c.vars-vars.ensures.within c.args.parities.now (g.L.Sink.items c.args.log.now.sink.now) c.requires.given c.args.filled.state c.args.filled.units.items c.in-Some.number
     (subst (IsFilled c.args.log.now.formula.now c.args.filled.state c.args.filled.units.items) c.in-Some.is c.requires.filled)
 
 pub put_units-requires : goal.put_units-requires
 put_units-requires g c = (
   c.args.parities.now,
-  subst (λ us. SearchStandsBut c.args.log.now.formula.now c.args.parities.now c.args.filled.state us (g.L.LogSink.events c.args.log.now.sink.now)) (sym c.deref.ensures.value)
-      (filled_stands c.args.log.now.formula.now c.requires.few c.vars-vars.ensures.within c.args.parities.now (g.L.LogSink.events c.args.log.now.sink.now) c.requires.given c.args.filled.state c.args.filled.units.items
+  subst (λ us. SearchStandsBut c.args.log.now.formula.now c.args.parities.now c.args.filled.state us (g.L.Sink.items c.args.log.now.sink.now)) (sym c.deref.ensures.value)
+      (filled_stands c.args.log.now.formula.now c.requires.few c.vars-vars.ensures.within c.args.parities.now (g.L.Sink.items c.args.log.now.sink.now) c.requires.given c.args.filled.state c.args.filled.units.items
       (subst (IsFilled c.args.log.now.formula.now c.args.filled.state c.args.filled.units.items) c.in_default.is c.requires.filled)),
 )
 
@@ -32,14 +32,14 @@ returns-clause-begins g c =
     let same : c.put_units.new.log.formula.now ≡ c.args.log.now.formula.now = c.in_ok-put_units.ensures.log.formula in
     let made : g.P.ParityEngine.state c.in_ok-engine.engine ≡ fresh c.put_units.new.log.formula.now.variables engines rows =
     c.in_ok-engine.ensures.1 ∙ ap (λ n. fresh n engines rows) (c.vars-vars.ensures.variables ∙ sym (ap (λ (f : Problem). f.variables) same)) in
-    let before : SearchStandsBut c.args.log.now.formula.now engines c.args.filled.state c.deref.result.now (g.L.LogSink.events c.args.log.now.sink.now) =
-    subst (λ us. SearchStandsBut c.args.log.now.formula.now engines c.args.filled.state us (g.L.LogSink.events c.args.log.now.sink.now)) (sym c.deref.ensures.value)
-    (filled_stands c.args.log.now.formula.now c.requires.few c.vars-vars.ensures.within engines (g.L.LogSink.events c.args.log.now.sink.now) c.requires.given c.args.filled.state c.args.filled.units.items
+    let before : SearchStandsBut c.args.log.now.formula.now engines c.args.filled.state c.deref.result.now (g.L.Sink.items c.args.log.now.sink.now) =
+    subst (λ us. SearchStandsBut c.args.log.now.formula.now engines c.args.filled.state us (g.L.Sink.items c.args.log.now.sink.now)) (sym c.deref.ensures.value)
+    (filled_stands c.args.log.now.formula.now c.requires.few c.vars-vars.ensures.within engines (g.L.Sink.items c.args.log.now.sink.now) c.requires.given c.args.filled.state c.args.filled.units.items
     (subst (IsFilled c.args.log.now.formula.now c.args.filled.state c.args.filled.units.items) c.in_default.is c.requires.filled)) in
-    let stands = subst (PutsUnits c.put_units.new.log.formula.now engines c.put_units.new.state [] (g.L.LogSink.events c.put_units.new.log.sink.now)) c.if-not-branch.false (c.in_ok-put_units.ensures.puts engines before) in (
-      begun_stands c.put_units.new.log.formula.now engines c.put_units.new.state (g.L.LogSink.events c.put_units.new.log.sink.now) stands (g.P.ParityEngine.state c.in_ok-engine.engine) rows made
+    let stands = subst (PutsUnits c.put_units.new.log.formula.now engines c.put_units.new.state [] (g.L.Sink.items c.put_units.new.log.sink.now)) c.if-not-branch.false (c.in_ok-put_units.ensures.puts engines before) in (
+      begun_stands c.put_units.new.log.formula.now engines c.put_units.new.state (g.L.Sink.items c.put_units.new.log.sink.now) stands (g.P.ParityEngine.state c.in_ok-engine.engine) rows made
           (subst (λ f. AreEngines f engines) (sym same) c.requires.engines),
-      begun_is_calm c.put_units.new.log.formula.now engines c.put_units.new.state (g.L.LogSink.events c.put_units.new.log.sink.now) stands (g.P.ParityEngine.state c.in_ok-engine.engine) rows made,
+      begun_is_calm c.put_units.new.log.formula.now engines c.put_units.new.state (g.L.Sink.items c.put_units.new.log.sink.now) stands (g.P.ParityEngine.state c.in_ok-engine.engine) rows made,
       stands.3.level,
       stands.3.conflicts,
     )
@@ -47,11 +47,11 @@ returns-clause-begins g c =
 pub returns-then-not-branch-clause-begins : goal.returns-then-not-branch-clause-begins
 returns-then-not-branch-clause-begins g c =
     let engines = c.args.parities.now in
-    let before : SearchStandsBut c.args.log.now.formula.now engines c.args.filled.state c.deref.result.now (g.L.LogSink.events c.args.log.now.sink.now) =
-    subst (λ us. SearchStandsBut c.args.log.now.formula.now engines c.args.filled.state us (g.L.LogSink.events c.args.log.now.sink.now)) (sym c.deref.ensures.value)
-    (filled_stands c.args.log.now.formula.now c.requires.few c.vars-vars.ensures.within engines (g.L.LogSink.events c.args.log.now.sink.now) c.requires.given c.args.filled.state c.args.filled.units.items
+    let before : SearchStandsBut c.args.log.now.formula.now engines c.args.filled.state c.deref.result.now (g.L.Sink.items c.args.log.now.sink.now) =
+    subst (λ us. SearchStandsBut c.args.log.now.formula.now engines c.args.filled.state us (g.L.Sink.items c.args.log.now.sink.now)) (sym c.deref.ensures.value)
+    (filled_stands c.args.log.now.formula.now c.requires.few c.vars-vars.ensures.within engines (g.L.Sink.items c.args.log.now.sink.now) c.requires.given c.args.filled.state c.args.filled.units.items
     (subst (IsFilled c.args.log.now.formula.now c.args.filled.state c.args.filled.units.items) c.in_default.is c.requires.filled)) in
-    subst (PutsUnits c.put_units.new.log.formula.now engines c.put_units.new.state [] (g.L.LogSink.events c.put_units.new.log.sink.now)) c.if-not-branch.true (c.in_ok-put_units.ensures.puts engines before)
+    subst (PutsUnits c.put_units.new.log.formula.now engines c.put_units.new.state [] (g.L.Sink.items c.put_units.new.log.sink.now)) c.if-not-branch.true (c.in_ok-put_units.ensures.puts engines before)
 
 pub returns-in-Some-clause-begins : goal.returns-in-Some-clause-begins
-returns-in-Some-clause-begins g c = subst (λ n. Refutes c.refute.new.log.formula.now (n + 1) (g.L.LogSink.events c.refute.new.log.sink.now)) c.requires.filled.conflicts c.in_ok-refute.ensures.refutes
+returns-in-Some-clause-begins g c = subst (λ n. Refutes c.refute.new.log.formula.now (n + 1) (g.L.Sink.items c.refute.new.log.sink.now)) c.requires.filled.conflicts c.in_ok-refute.ensures.refutes

@@ -5,7 +5,7 @@ use Rattle.cdcl_core.proofs.ending.end_by_clause.Goals as goal
 
 pub refute-requires-clause-known : goal.refute-requires-clause-known
 refute-requires-clause-known g c = subst (All (λ m. m.variable ≤ c.args.state.now.trail.variables)) (sym c.as_slice.ensures)
-    (conflict_is_low c.args.log.now.formula.now c.args.state.now (g.P.ParityEngine.state c.args.engine.now) c.args.conflict.now.rows.items (g.L.LogSink.events c.args.log.now.sink.now) c.requires.stands c.args.conflict.now.lits c.requires.conflict)
+    (conflict_is_low c.args.log.now.formula.now c.args.state.now (g.P.ParityEngine.state c.args.engine.now) c.args.conflict.now.rows.items (g.L.Sink.items c.args.log.now.sink.now) c.requires.stands c.args.conflict.now.lits c.requires.conflict)
 
 pub refute-requires-clause-shown : goal.refute-requires-clause-shown
-refute-requires-clause-shown g c = conflict_is_refutable c.args.log.now.formula.now c.args.state.now (g.P.ParityEngine.state c.args.engine.now) c.args.conflict.now.rows.items (g.L.LogSink.events c.args.log.now.sink.now) c.requires.stands c.args.conflict.now.lits c.requires.conflict c.requires.all c.if-state-ge-FIRST_ROW_ID.false
+refute-requires-clause-shown g c = conflict_is_refutable c.args.log.now.formula.now c.args.state.now (g.P.ParityEngine.state c.args.engine.now) c.args.conflict.now.rows.items (g.L.Sink.items c.args.log.now.sink.now) c.requires.stands c.args.conflict.now.lits c.requires.conflict c.requires.all c.if-state-ge-FIRST_ROW_ID.false

@@ -10,5 +10,5 @@ tell_steps-requires-clause-right g c = ended_is_left c.args.log.now.formula.now 
 
 pub returns-clause-refutes : goal.returns-clause-refutes
 returns-clause-refutes g c =
-    holds_where (λ formula told. Refutes formula (c.args.state.now.conflicts + 1) told) (as_events c.args.steps.now) g.L.LogSink c.args.log.now _ c.tell_steps.result c.tell_steps.new.log c.tell_steps.ensures.log c.tell_steps.ensures.told
+    holds_where (λ formula told. Refutes formula (c.args.state.now.conflicts + 1) told) (as_events c.args.steps.items) g.L.Sink c.args.log.now _ c.tell_steps.result c.tell_steps.new.log c.tell_steps.ensures.log c.tell_steps.ensures.told
     (ends_refute c.args.log.now.formula.now c.args.state.now.conflicts _ c.requires.unmet c.requires.log)

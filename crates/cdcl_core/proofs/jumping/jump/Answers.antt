@@ -1,5 +1,5 @@
 use Rattle.std.proofs.Common.{sym, subst, length, ◌≤◌, ◌+◌, arith}
-use Rattle.cx_semantics.specs.Integers.{integers_of}
+use Rattle.cx_base.specs.Integers.{integers_of}
 use Rattle.watch_lists.specs.Attaching.{CanBeWatched, literal_at}
 use Rattle.cx_trail.specs.Sequence.{IsOpenIn}
 use Rattle.conflict_learn.specs.Touching.{AreTouched}

@@ -12,10 +12,10 @@ hints_of_lesson-requires-clause-reasons g c = (g.P.ParityEngine.state c.args.eng
 
 pub tell_learned-requires-clause-stands : goal.tell_learned-requires-clause-stands
 tell_learned-requires-clause-stands g c =
-    subst (λ rs. SearchStands c.lesson_of.new.log.formula.now c.args.state.now (g.P.ParityEngine.state c.args.engine.now) rs (g.L.LogSink.events c.lesson_of.new.log.sink.now)) (sym c.deref.ensures.value) c.in_ok-learned.ensures.stands
+    subst (λ rs. SearchStands c.lesson_of.new.log.formula.now c.args.state.now (g.P.ParityEngine.state c.args.engine.now) rs (g.L.Sink.items c.lesson_of.new.log.sink.now)) (sym c.deref.ensures.value) c.in_ok-learned.ensures.stands
 
 pub returns-in_err-tell_learned-clause-log : goal.returns-in_err-tell_learned-clause-log
-returns-in_err-tell_learned-clause-log g c = log_then g.L.LogSink g.met.L.LogSink.keeps_on _ c.lesson_of.new.log _ _ c.in_ok-learned.ensures.log (search rules)
+returns-in_err-tell_learned-clause-log g c = log_then g.L.Sink g.met.L.Sink.keeps_on _ c.lesson_of.new.log _ _ c.in_ok-learned.ensures.log (search rules)
 
 pub returns-clause-log : goal.returns-clause-log
-returns-clause-log g c = log_then g.L.LogSink g.met.L.LogSink.keeps_on _ c.lesson_of.new.log _ _ c.in_ok-learned.ensures.log c.in_ok-tell_learned.ensures.log
+returns-clause-log g c = log_then g.L.Sink g.met.L.Sink.keeps_on _ c.lesson_of.new.log _ _ c.in_ok-learned.ensures.log c.in_ok-tell_learned.ensures.log

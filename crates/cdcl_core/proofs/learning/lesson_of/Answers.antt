@@ -5,13 +5,13 @@ use Rattle.cdcl_core.proofs.LearnLaws.{conflict_is_now, stands_at, conflict_at, 
 use Rattle.cdcl_core.proofs.learning.lesson_of.Goals as goal
 
 pub analyse-requires-clause-one_now : goal.analyse-requires-clause-one_now
-analyse-requires-clause-one_now g c = conflict_is_now c.args.log.now.formula.now c.args.state.now (g.P.ParityEngine.state c.args.engine.now) c.args.rows.now.items (g.L.LogSink.events c.args.log.now.sink.now) c.requires.stands c.requires.above c.args.conflict.now c.requires.conflict
+analyse-requires-clause-one_now g c = conflict_is_now c.args.log.now.formula.now c.args.state.now (g.P.ParityEngine.state c.args.engine.now) c.args.rows.now.items (g.L.Sink.items c.args.log.now.sink.now) c.requires.stands c.requires.above c.args.conflict.now c.requires.conflict
 
 pub returns-clause-stands : goal.returns-clause-stands
 returns-clause-stands g c =
     let new = c.analyse.new.source in
     let loans = c.analyse.ensures.goes_on.0 in
-    stands_at g.L.LogSink.events c.analyse.result c.args.state.now new.state.now (g.P.ParityEngine.state c.args.engine.now) (g.P.ParityEngine.state new.engine.now) new.rows.now.items c.rows-1.given.0.items new.log.now c.log-1.given.0 loans.state
+    stands_at g.L.Sink.items c.analyse.result c.args.state.now new.state.now (g.P.ParityEngine.state c.args.engine.now) (g.P.ParityEngine.state new.engine.now) new.rows.now.items c.rows-1.given.0.items new.log.now c.log-1.given.0 loans.state
     (ap g.P.ParityEngine.state loans.engine) (search rules) (search rules) c.analyse.ensures.ready
 
 pub returns-clause-conflict : goal.returns-clause-conflict

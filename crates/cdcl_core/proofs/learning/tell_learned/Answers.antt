@@ -1,7 +1,7 @@
 use Rattle.std.proofs.Common.{refl, ◌≡◌, ap, ◌∙◌, subst, ◌+◌, ◌∷◌, length}
-use Rattle.cx_semantics.specs.declared.steps.LogEvent.TheVariants.{Step, Conflict}
-use Rattle.cx_semantics.specs.declared.steps.LogStep.TheVariants as step
-use Rattle.cx_semantics.specs.Integers.{integers_of, literals}
+use Rattle.cx_base.specs.declared.steps.LogEvent.TheVariants.{Step, Conflict}
+use Rattle.cx_base.specs.declared.steps.LogStep.TheVariants as step
+use Rattle.cx_base.specs.Integers.{integers_of, literals}
 use Rattle.cdcl_search.specs.Ties.{row_ids}
 use Rattle.cdcl_search.specs.Deleting.{deletions}
 use Rattle.cdcl_search.specs.Tells.{as_events}
@@ -12,18 +12,18 @@ use Rattle.cdcl_core.proofs.learning.tell_learned.Goals as goal
 
 pub tell_round-requires-clause-right : goal.tell_round-requires-clause-right
 tell_round-requires-clause-right g c = learned_is_left _ c.args.state.now (g.P.ParityEngine.state c.args.engine.now) c.args.learned.now.lits c.args.learned.now.back_level _
-    (learns_then c.args.log.now.formula.now c.args.state.now (g.P.ParityEngine.state c.args.engine.now) c.args.rows.now (g.L.LogSink.events c.args.log.now.sink.now) c.requires.stands
+    (learns_then c.args.log.now.formula.now c.args.state.now (g.P.ParityEngine.state c.args.engine.now) c.args.rows.now (g.L.Sink.items c.args.log.now.sink.now) c.requires.stands
     c.requires.above c.requires.room c.requires.few c.args.conflict.now c.requires.conflict c.args.learned.now.resolved c.args.learned.now.lits c.args.learned.now.back_level c.args.learned.now.lbd c.requires.teaches
-    (subst (λ xs. literals (integers_of xs) ≡ xs) c.as_slice.ensures c.in_ok-steps.ensures.literals) c.args.hints c.deref.result.now
-    (ap as_events c.deref.ensures.value ∙ c.in_ok-steps.ensures.steps ∙ ap (λ xs. Step (step.ClauseWithHints c.args.state.now.next (integers_of xs) c.args.hints) ∷ deletions (row_ids (length c.args.rows.now))) c.as_slice.ensures)
+    (subst (λ xs. literals (integers_of xs) ≡ xs) c.as_slice.ensures c.in_ok-steps.ensures.literals) c.args.hints c.in_ok-steps.steps.items
+    (c.in_ok-steps.ensures.steps ∙ ap (λ xs. Step (step.ClauseWithHints c.args.state.now.next (integers_of xs) c.args.hints) ∷ deletions (row_ids (length c.args.rows.now))) c.as_slice.ensures)
     _ refl)
 
 pub returns-clause-learned : goal.returns-clause-learned
 returns-clause-learned g c =
-    holds_where (λ formula told. Learns formula c.args.state.now (g.P.ParityEngine.state c.args.engine.now) c.args.learned.now.lits c.args.learned.now.back_level told) (Conflict (c.args.state.now.conflicts + 1) ∷ as_events c.deref.result.now)
-    g.L.LogSink c.args.log.now _ c.tell_round.result c.tell_round.new.log c.tell_round.ensures.log c.tell_round.ensures.told
-    (learns_then c.args.log.now.formula.now c.args.state.now (g.P.ParityEngine.state c.args.engine.now) c.args.rows.now (g.L.LogSink.events c.args.log.now.sink.now) c.requires.stands
+    holds_where (λ formula told. Learns formula c.args.state.now (g.P.ParityEngine.state c.args.engine.now) c.args.learned.now.lits c.args.learned.now.back_level told) (Conflict (c.args.state.now.conflicts + 1) ∷ as_events c.in_ok-steps.steps.items)
+    g.L.Sink c.args.log.now _ c.tell_round.result c.tell_round.new.log c.tell_round.ensures.log c.tell_round.ensures.told
+    (learns_then c.args.log.now.formula.now c.args.state.now (g.P.ParityEngine.state c.args.engine.now) c.args.rows.now (g.L.Sink.items c.args.log.now.sink.now) c.requires.stands
     c.requires.above c.requires.room c.requires.few c.args.conflict.now c.requires.conflict c.args.learned.now.resolved c.args.learned.now.lits c.args.learned.now.back_level c.args.learned.now.lbd c.requires.teaches
-    (subst (λ xs. literals (integers_of xs) ≡ xs) c.as_slice.ensures c.in_ok-steps.ensures.literals) c.args.hints c.deref.result.now
-    (ap as_events c.deref.ensures.value ∙ c.in_ok-steps.ensures.steps ∙ ap (λ xs. Step (step.ClauseWithHints c.args.state.now.next (integers_of xs) c.args.hints) ∷ deletions (row_ids (length c.args.rows.now))) c.as_slice.ensures)
+    (subst (λ xs. literals (integers_of xs) ≡ xs) c.as_slice.ensures c.in_ok-steps.ensures.literals) c.args.hints c.in_ok-steps.steps.items
+    (c.in_ok-steps.ensures.steps ∙ ap (λ xs. Step (step.ClauseWithHints c.args.state.now.next (integers_of xs) c.args.hints) ∷ deletions (row_ids (length c.args.rows.now))) c.as_slice.ensures)
     _ refl)

@@ -7,7 +7,7 @@ use Rattle.cdcl_core.proofs.OriginalLaws.{none_counted, fresh_has_begun}
 use Rattle.cdcl_core.proofs.originals.tell_originals.Goals as goal
 
 pub loop-place-init : goal.loop-place-init
-loop-place-init g c = record { counted = none_counted; begun = fresh_has_begun c.args.log.now.formula.now (g.L.LogSink.events c.args.log.now.sink.now) c.requires.fresh; log = log_rests g.L.LogSink g.met.L.LogSink.keeps_itself _ }
+loop-place-init g c = record { counted = none_counted; begun = fresh_has_begun c.args.log.now.formula.now (g.L.Sink.items c.args.log.now.sink.now) c.requires.fresh; log = log_rests g.L.Sink g.met.L.Sink.keeps_itself _ }
 
 pub tell_original-requires : goal.tell_original-requires
 tell_original-requires g c =
@@ -20,7 +20,7 @@ tell_original-requires g c =
       few = omega (arith, n, few);
       place = omega (arith, n, long, less);
       counted = subst (λ (f : Problem). AreCounted (take c.loop-place.place f.constraints) c.loop-place.counts.clauses c.loop-place.counts.parities) (sym same) c.loop-place.invariant.counted;
-      begun = subst (λ (f : Problem). HasBegun f (take c.loop-place.place f.constraints) (g.L.LogSink.events c.loop-place.log.sink.now)) (sym same) c.loop-place.invariant.begun;
+      begun = subst (λ (f : Problem). HasBegun f (take c.loop-place.place f.constraints) (g.L.Sink.items c.loop-place.log.sink.now)) (sym same) c.loop-place.invariant.begun;
     }
 
 pub loop-place-preserved : goal.loop-place-preserved
@@ -28,13 +28,13 @@ loop-place-preserved g c =
     let same = c.in_ok-tell_original.ensures.log.formula ∙ c.loop-place.invariant.log.formula in
     record {
       counted = subst (λ (f : Problem). AreCounted (take (c.loop-place.place + 1) f.constraints) c.tell_original.new.counts.clauses c.tell_original.new.counts.parities) same c.in_ok-tell_original.ensures.counted;
-      begun = subst (λ (f : Problem). HasBegun f (take (c.loop-place.place + 1) f.constraints) (g.L.LogSink.events c.tell_original.new.log.sink.now)) same c.in_ok-tell_original.ensures.begun;
-      log = log_then g.L.LogSink g.met.L.LogSink.keeps_on _ _ _ _ c.loop-place.invariant.log c.in_ok-tell_original.ensures.log;
+      begun = subst (λ (f : Problem). HasBegun f (take (c.loop-place.place + 1) f.constraints) (g.L.Sink.items c.tell_original.new.log.sink.now)) same c.in_ok-tell_original.ensures.begun;
+      log = log_then g.L.Sink g.met.L.Sink.keeps_on _ _ _ _ c.loop-place.invariant.log c.in_ok-tell_original.ensures.log;
     }
 
 pub returns-clause-begun : goal.returns-clause-begun
 returns-clause-begun g c =
     let far = c.loop-place-test.false in
     let long = c.len-place-end.ensures in
-    let begun = subst (λ cs. HasBegun c.args.log.now.formula.now cs (g.L.LogSink.events c.loop-place.log.sink.now)) (take_all c.loop-place.place c.args.log.now.formula.now.constraints (omega (arith, far, long))) c.loop-place.invariant.begun in
-    subst (λ (f : Problem). HasBegun f f.constraints (g.L.LogSink.events c.loop-place.log.sink.now)) (sym c.loop-place.invariant.log.formula) begun
+    let begun = subst (λ cs. HasBegun c.args.log.now.formula.now cs (g.L.Sink.items c.loop-place.log.sink.now)) (take_all c.loop-place.place c.args.log.now.formula.now.constraints (omega (arith, far, long))) c.loop-place.invariant.begun in
+    subst (λ (f : Problem). HasBegun f f.constraints (g.L.Sink.items c.loop-place.log.sink.now)) (sym c.loop-place.invariant.log.formula) begun

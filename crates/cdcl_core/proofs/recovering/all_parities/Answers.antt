@@ -12,11 +12,11 @@ use Rattle.cdcl_core.proofs.recovering.all_parities.Goals as goal
 pub loop-place-init : goal.loop-place-init
 loop-place-init g c =
     let formula = c.args.log.now.formula.now in
-    let told = g.L.LogSink.events c.args.log.now.sink.now in
+    let told = g.L.Sink.items c.args.log.now.sink.now in
     record {
       given = subst (λ ps. HasGiven formula ps told) (sym c.in_ok-parities.ensures) (begun_has_given formula told c.requires.begun);
       are = c.in_ok-parities.ensures ∙ sym (append-nil (parities_of formula.constraints));
-      log = log_rests g.L.LogSink g.met.L.LogSink.keeps_itself _;
+      log = log_rests g.L.Sink g.met.L.Sink.keeps_itself _;
     }
 
 pub tell_find-requires-clause-fewer : goal.tell_find-requires-clause-fewer
@@ -38,10 +38,10 @@ tell_find-requires-clause-fewer g c =
     omega (arith, same, are, both, mapped, taken, less, end, ok, found, few, kinds)
 
 pub tell_find-requires-clause-given : goal.tell_find-requires-clause-given
-tell_find-requires-clause-given g c = subst (λ f. HasGiven f c.loop-place.parities.items (g.L.LogSink.events c.loop-place.log.sink.now)) (sym c.loop-place.invariant.log.formula) c.loop-place.invariant.given
+tell_find-requires-clause-given g c = subst (λ f. HasGiven f c.loop-place.parities.items (g.L.Sink.items c.loop-place.log.sink.now)) (sym c.loop-place.invariant.log.formula) c.loop-place.invariant.given
 
 pub returns-in_err-tell_find-clause-log : goal.returns-in_err-tell_find-clause-log
-returns-in_err-tell_find-clause-log g c = log_then g.L.LogSink g.met.L.LogSink.keeps_on _ c.loop-place.log _ _ c.loop-place.invariant.log (search rules)
+returns-in_err-tell_find-clause-log g c = log_then g.L.Sink g.met.L.Sink.keeps_on _ c.loop-place.log _ _ c.loop-place.invariant.log (search rules)
 
 pub loop-place-preserved : goal.loop-place-preserved
 loop-place-preserved g c =
@@ -53,15 +53,15 @@ loop-place-preserved g c =
     let less : place < length finds = (let less = c.loop-place-test.true in let end = c.len-place-end.ensures in let ok = c.into_vec-finds.result.ok.0 in omega (arith, less, end, ok)) in
     let read : find ≡ get_or finds place find = get_or_read finds place _ less c.index.ensures find in
     record {
-      given = subst (λ f. HasGiven f c.tell_find.new.parities.items (g.L.LogSink.events c.tell_find.new.log.sink.now)) (c.in_ok-tell_find.ensures.log.formula ∙ c.loop-place.invariant.log.formula) c.in_ok-tell_find.ensures.given;
+      given = subst (λ f. HasGiven f c.tell_find.new.parities.items (g.L.Sink.items c.tell_find.new.log.sink.now)) (c.in_ok-tell_find.ensures.log.formula ∙ c.loop-place.invariant.log.formula) c.in_ok-tell_find.ensures.given;
       are = c.in_ok-tell_find.ensures.one_more ∙ ap (λ xs. xs ++ find.parity ∷ []) c.loop-place.invariant.are
           ∙ ap (λ (f : Found). (own ++ parities_found (take place finds)) ++ f.parity ∷ []) read ∙ one_find_more own finds place find less;
-      log = log_then g.L.LogSink g.met.L.LogSink.keeps_on _ _ _ _ c.loop-place.invariant.log c.in_ok-tell_find.ensures.log;
+      log = log_then g.L.Sink g.met.L.Sink.keeps_on _ _ _ _ c.loop-place.invariant.log c.in_ok-tell_find.ensures.log;
     }
 
 pub returns-clause-given : goal.returns-clause-given
 returns-clause-given g c =
-    let told = g.L.LogSink.events c.loop-place.log.sink.now in
+    let told = g.L.Sink.items c.loop-place.log.sink.now in
     subst (λ ps. HasGiven c.loop-place.log.formula.now ps told) (sym c.from_vec.ensures)
     (subst (λ f. HasGiven f c.loop-place.parities.items told) (sym c.loop-place.invariant.log.formula) c.loop-place.invariant.given)
 

@@ -8,7 +8,7 @@ use Rattle.cdcl_core.proofs.recovering.all_parities.Given as goal
 -- the finds before this place are told
 abbrev pub invariant-loop-place : goal.invariant-loop-place
 invariant-loop-place g l = record {
-  given : HasGiven l.fn.log.formula.now l.parities.items (g.L.LogSink.events l.log.sink.now);
+  given : HasGiven l.fn.log.formula.now l.parities.items (g.L.Sink.items l.log.sink.now);
   are : l.parities.items ≡ parities_of l.fn.log.formula.now.constraints ++ parities_found (take l.place l.finds.items);
-  log : GoesOn g.L.LogSink l.fn.log None l.log;
+  log : GoesOn g.L.Sink l.fn.log None l.log;
 }

@@ -1,7 +1,7 @@
 use Rattle.std.proofs.Common.{◌≡◌, sym, ap, ◌∙◌, ◌+◌, ◌∷◌, ◌++◌, [], subst, length, arith}
-use Rattle.cx_semantics.specs.Integers.{integers_of}
-use Rattle.cx_semantics.specs.declared.steps.LogEvent.TheVariants.{Step}
-use Rattle.cx_semantics.specs.declared.steps.LogStep.TheVariants.{ParityOfClauses}
+use Rattle.cx_base.specs.Integers.{integers_of}
+use Rattle.cx_base.specs.declared.steps.LogEvent.TheVariants.{Step}
+use Rattle.cx_base.specs.declared.steps.LogStep.TheVariants.{ParityOfClauses}
 use Rattle.cdcl_search.specs.Tells.{IsLeft, with_events}
 use Rattle.cdcl_search.proofs.Tellings.{holds_told}
 use Rattle.cdcl_core.specs.Given.{HasGiven}
@@ -16,7 +16,7 @@ tell_step-requires-clause-right g c =
     let formula = c.args.log.now.formula.now in
     let own = c.args.parities.now.items in
     let find = c.args.find.now in
-    let told = g.L.LogSink.events c.args.log.now.sink.now in
+    let told = g.L.Sink.items c.args.log.now.sink.now in
     let step = ParityOfClauses (length own + 1) (integers_of find.parity) find.clauses in
     let is : c.in_ok-step.step ≡ step = c.in_ok-step.ensures.is ∙ ap (λ n. ParityOfClauses (n + 1) (integers_of find.parity) find.clauses) (let is = c.len.ensures in let ok = c.args.parities.now.ok.0 in let count : c.len.result ≡ length own = omega (arith, is, ok) in count) in
     subst (λ st. IsLeft formula (with_events (Step st ∷ []) told)) (sym is)
@@ -27,10 +27,10 @@ returns-clause-given g c =
     let formula = c.args.log.now.formula.now in
     let own = c.args.parities.now.items in
     let find = c.args.find.now in
-    let told = g.L.LogSink.events c.args.log.now.sink.now in
+    let told = g.L.Sink.items c.args.log.now.sink.now in
     let step = ParityOfClauses (length own + 1) (integers_of find.parity) find.clauses in
     let is : c.in_ok-step.step ≡ step = c.in_ok-step.ensures.is ∙ ap (λ n. ParityOfClauses (n + 1) (integers_of find.parity) find.clauses) (let is = c.len.ensures in let ok = c.args.parities.now.ok.0 in let count : c.len.result ≡ length own = omega (arith, is, ok) in count) in
     let more : c.push.new.self.items ≡ own ++ find.parity ∷ [] = c.in_ok-push.ensures.items ∙ ap (λ x. own ++ x ∷ []) (c.in_ok-parity.ensures ∙ c.as_slice.ensures) in
-    let has = holds_told (λ f t. HasGiven f (own ++ find.parity ∷ []) t) (Step step ∷ []) g.L.LogSink c.args.log.now _ c.tell_step.new.log c.in_ok-tell_step.ensures.log
+    let has = holds_told (λ f t. HasGiven f (own ++ find.parity ∷ []) t) (Step step ∷ []) g.L.Sink c.args.log.now _ c.tell_step.new.log c.in_ok-tell_step.ensures.log
     (c.in_ok-tell_step.ensures.told ∙ ap (λ st. with_events (Step st ∷ []) told) is) (find_has_given formula own told c.requires.given find c.requires.within c.requires.judged) in
-    subst (λ ps. HasGiven c.tell_step.new.log.formula.now ps (g.L.LogSink.events c.tell_step.new.log.sink.now)) (sym more) has
+    subst (λ ps. HasGiven c.tell_step.new.log.formula.now ps (g.L.Sink.items c.tell_step.new.log.sink.now)) (sym more) has

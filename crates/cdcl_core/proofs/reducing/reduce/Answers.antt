@@ -5,11 +5,11 @@ use Rattle.cdcl_core.proofs.reducing.reduce.Goals as goal
 
 pub loop-reference-init : goal.loop-reference-init
 loop-reference-init g c = record {
-  loses = reduction_begins c.args.log.now.formula.now c.args.state.now (g.P.ParityEngine.state c.args.engine.now) (g.L.LogSink.events c.args.log.now.sink.now) c.requires.stands;
+  loses = reduction_begins c.args.log.now.formula.now c.args.state.now (g.P.ParityEngine.state c.args.engine.now) (g.L.Sink.items c.args.log.now.sink.now) c.requires.stands;
   units = c.requires.units;
   trail = refl;
   conflicts = refl;
-  log = log_rests g.L.LogSink g.met.L.LogSink.keeps_itself c.args.log.now;
+  log = log_rests g.L.Sink g.met.L.Sink.keeps_itself c.args.log.now;
 }
 
 pub loop-reference-preserved : goal.loop-reference-preserved
@@ -20,8 +20,8 @@ loop-reference-preserved g c =
       units = ap Rattle.std.proofs.Common.length done.same.1 ∙ c.loop-reference.invariant.units ∙ sym (ap (λ t. Rattle.std.proofs.Common.length t.entries) done.same.0);
       trail = done.same.0 ∙ c.loop-reference.invariant.trail;
       conflicts = done.same.2 ∙ c.loop-reference.invariant.conflicts;
-      log = log_then g.L.LogSink g.met.L.LogSink.keeps_on _ _ _ _ c.loop-reference.invariant.log done.log;
+      log = log_then g.L.Sink g.met.L.Sink.keeps_on _ _ _ _ c.loop-reference.invariant.log done.log;
     }
 
 pub returns-clause-stands : goal.returns-clause-stands
-returns-clause-stands g c = reduction_ends c.loop-reference.log.formula.now c.loop-reference.state (g.P.ParityEngine.state c.args.engine.now) (g.L.LogSink.events c.loop-reference.log.sink.now) c.detach_all_removed.new.self c.loop-reference.invariant.loses c.detach_all_removed.ensures
+returns-clause-stands g c = reduction_ends c.loop-reference.log.formula.now c.loop-reference.state (g.P.ParityEngine.state c.args.engine.now) (g.L.Sink.items c.loop-reference.log.sink.now) c.detach_all_removed.new.self c.loop-reference.invariant.loses c.detach_all_removed.ensures

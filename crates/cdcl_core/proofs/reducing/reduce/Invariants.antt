@@ -6,9 +6,9 @@ use Rattle.cdcl_core.proofs.reducing.reduce.Given as goal
 -- some of the clauses are removed and told
 abbrev pub invariant-loop-reference : goal.invariant-loop-reference
 invariant-loop-reference g l = record {
-  loses : SearchLoses l.log.formula.now l.state (g.P.ParityEngine.state l.engine) (g.L.LogSink.events l.log.sink.now);
+  loses : SearchLoses l.log.formula.now l.state (g.P.ParityEngine.state l.engine) (g.L.Sink.items l.log.sink.now);
   units : length l.state.units.items ≡ length l.state.trail.entries;
   trail : l.state.trail ≡ l.fn.state.trail;
   conflicts : l.state.conflicts ≡ l.fn.state.conflicts;
-  log : GoesOn g.L.LogSink l.fn.log None l.log;
+  log : GoesOn g.L.Sink l.fn.log None l.log;
 }

@@ -7,7 +7,7 @@ pub returns-then-state-budget-clause-goes_on : goal.returns-then-state-budget-cl
 returns-then-state-budget-clause-goes_on g c =
     let r = c.in_ok-learned.learned in
     let formula = c.learn.new.log.formula.now in
-    let told = g.L.LogSink.events c.learn.new.log.sink.now in
+    let told = g.L.Sink.items c.learn.new.log.sink.now in
     record {
       count = refl;
       log = subst (λ n. IsOpenWith formula n told) c.if-state-budget.true
@@ -20,7 +20,7 @@ returns-clause-goes_on g c =
     let fewer = c.requires.few.0 in
     let other = c.if-state-budget.false in
     record {
-      stands = c.in_ok-jump.ensures.stands (g.L.LogSink.events c.learn.new.log.sink.now) c.in_ok-learned.ensures.learned;
+      stands = c.in_ok-jump.ensures.stands (g.L.Sink.items c.learn.new.log.sink.now) c.in_ok-learned.ensures.learned;
       unbroken = c.in_ok-jump.ensures.unbroken;
       fewer = omega (arith, one_more, fewer, other);
     }

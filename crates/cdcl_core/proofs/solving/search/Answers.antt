@@ -18,17 +18,17 @@ loop-marks-preserved g c =
       };
       settled = λ s. absurd (rw c.in_default.is at (c.in_ok-outcome.ensures.settled (subst SettledWithRecovered then.log.formula s) (i.settled (subst SettledWithRecovered (then.log.formula ∙ more.formula) s)).0));
       clear = c.in_ok-outcome.ensures.clear;
-      log = log_then g.L.LogSink g.met.L.LogSink.keeps_on _ c.round.new.log _ _ (log_then g.L.LogSink g.met.L.LogSink.keeps_on _ c.loop-marks.log _ _ i.log more) then.log;
+      log = log_then g.L.Sink g.met.L.Sink.keeps_on _ c.round.new.log _ _ (log_then g.L.Sink g.met.L.Sink.keeps_on _ c.loop-marks.log _ _ i.log more) then.log;
     }
 
 pub returns-in-Some-clause-settled : goal.returns-in-Some-clause-settled
 returns-in-Some-clause-settled g c s =
     let i = c.loop-marks.invariant.settled (subst SettledWithRecovered c.in_ok-outcome.ensures.log.formula s) in
-    let told = g.L.LogSink.events c.round.new.log.sink.now in
+    let told = g.L.Sink.items c.round.new.log.sink.now in
     let h : IsSettledBy c.round.new.log.formula.now (c.loop-marks.state.conflicts + 1) told c.in-Some.outcome = rw c.in-Some.is at (c.in_ok-outcome.ensures.settled s i.0) in
     subst (λ n. IsSettledBy c.round.new.log.formula.now (n + 1) told c.in-Some.outcome) i.1 h
 
 pub returns-in_err-follow_schedule-clause-log : goal.returns-in_err-follow_schedule-clause-log
 returns-in_err-follow_schedule-clause-log g c =
-    let before = log_then g.L.LogSink g.met.L.LogSink.keeps_on _ c.loop-marks.log _ _ c.loop-marks.invariant.log c.in_ok-outcome.ensures.log in
-    log_then g.L.LogSink g.met.L.LogSink.keeps_on _ c.round.new.log _ _ before (search rules)
+    let before = log_then g.L.Sink g.met.L.Sink.keeps_on _ c.loop-marks.log _ _ c.loop-marks.invariant.log c.in_ok-outcome.ensures.log in
+    log_then g.L.Sink g.met.L.Sink.keeps_on _ c.round.new.log _ _ before (search rules)

@@ -7,10 +7,10 @@ use Rattle.cdcl_core.proofs.solving.search.Given as goal
 
 abbrev pub invariant-loop-marks : goal.invariant-loop-marks
 invariant-loop-marks g l = record {
-  goes_on : SearchGoesOn l.log.formula.now l.fn.budget (g.L.LogSink.events l.log.sink.now) l.state (g.P.ParityEngine.state l.engine);
+  goes_on : SearchGoesOn l.log.formula.now l.fn.budget (g.L.Sink.items l.log.sink.now) l.state (g.P.ParityEngine.state l.engine);
   settled : SettledWithRecovered l.log.formula.now → (l.state.trail.level ≡ 0) × (l.state.conflicts ≡ 0);
   clear : AreClear l.marks;
-  log : GoesOn g.L.LogSink l.fn.log None l.log;
+  log : GoesOn g.L.Sink l.fn.log None l.log;
 }
 
 abbrev pub decreases-loop-marks : goal.decreases-loop-marks

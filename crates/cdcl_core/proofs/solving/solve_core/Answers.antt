@@ -10,7 +10,7 @@ use Rattle.cdcl_core.proofs.solving.solve_core.Goals as goal
 
 pub returns-in_err-state-clause-gave_up : goal.returns-in_err-state-clause-gave_up
 returns-in_err-state-clause-gave_up g c =
-    let left : IsLeft c.args.formula.now (g.L.LogSink.events c.args.sink.now) = fresh_is_left c.args.formula.now (g.L.LogSink.events c.args.sink.now) c.requires.fresh in
+    let left : IsLeft c.args.formula.now (g.L.Sink.items c.args.sink.now) = fresh_is_left c.args.formula.now (g.L.Sink.items c.args.sink.now) c.requires.fresh in
     search rules
 
 pub returns-in-Search-clause-settled_with_recovered : goal.returns-in-Search-clause-settled_with_recovered
@@ -22,24 +22,24 @@ returns-in-Search-clause-settled g c = λ s. ok_maps c.search.result (c.search.e
 pub returns-in-Search-clause-unmarked : goal.returns-in-Search-clause-unmarked
 returns-in-Search-clause-unmarked g c = λ s.
     let same : c.sink-in-Search-1.given.0 ≡ c.search.new.log.sink.now = search rules in
-    subst (λ x. OnOk c.search.result (HasNoMark (g.L.LogSink.events x))) (sym same) (settled_answer_has_no_mark c.search.new.log.formula.now (g.L.LogSink.events c.search.new.log.sink.now) c.search.result
+    subst (λ x. OnOk c.search.result (HasNoMark (g.L.Sink.items x))) (sym same) (settled_answer_has_no_mark c.search.new.log.formula.now (g.L.Sink.items c.search.new.log.sink.now) c.search.result
     (c.search.ensures.settled (subst SettledWithRecovered (sym (c.search.ensures.log.formula ∙ c.in_ok-state.ensures.log.formula)) s)))
 
 pub returns-in-Search-clause-gave_up : goal.returns-in-Search-clause-gave_up
 returns-in-Search-clause-gave_up g c =
     let same : c.sink-in-Search-1.given.0 ≡ c.search.new.log.sink.now = search rules in
-    let on = log_then g.L.LogSink g.met.L.LogSink.keeps_on _ c.begin.new.log _ _ c.in_ok-state.ensures.log c.search.ensures.log in
-    subst (λ x. IfErr c.search.result (λ e. GivesUp c.args.formula.now (g.L.LogSink.torn x) (g.L.LogSink.events x) e)) (sym same)
-    (subst (λ f. IfErr c.search.result (λ e. GivesUp f (g.L.LogSink.torn c.search.new.log.sink.now) (g.L.LogSink.events c.search.new.log.sink.now) e)) on.formula
-    (gives_up_by g.L.LogSink _ c.search.new.log c.search.result on (fresh_is_left c.args.formula.now (g.L.LogSink.events c.args.sink.now) c.requires.fresh)))
+    let on = log_then g.L.Sink g.met.L.Sink.keeps_on _ c.begin.new.log _ _ c.in_ok-state.ensures.log c.search.ensures.log in
+    subst (λ x. IfErr c.search.result (λ e. GivesUp c.args.formula.now (g.L.Sink.torn x) (g.L.Sink.items x) e)) (sym same)
+    (subst (λ f. IfErr c.search.result (λ e. GivesUp f (g.L.Sink.torn c.search.new.log.sink.now) (g.L.Sink.items c.search.new.log.sink.now) e)) on.formula
+    (gives_up_by g.L.Sink _ c.search.new.log c.search.result on (fresh_is_left c.args.formula.now (g.L.Sink.items c.args.sink.now) c.requires.fresh)))
 
 pub returns-in-Search-clause-frame : goal.returns-in-Search-clause-frame
 returns-in-Search-clause-frame g c =
     let same : c.sink-in-Search-1.given.0 ≡ c.search.new.log.sink.now = search rules in
-    subst (g.L.LogSink.keeps c.args.sink.now) (sym same) (log_then g.L.LogSink g.met.L.LogSink.keeps_on _ c.begin.new.log _ _ c.in_ok-state.ensures.log c.search.ensures.log).frame
+    subst (g.L.Sink.keeps c.args.sink.now) (sym same) (log_then g.L.Sink g.met.L.Sink.keeps_on _ c.begin.new.log _ _ c.in_ok-state.ensures.log c.search.ensures.log).frame
 
 pub returns-in-Search-clause-ids : goal.returns-in-Search-clause-ids
 returns-in-Search-clause-ids g c =
     let same : c.sink-in-Search-1.given.0 ≡ c.search.new.log.sink.now = search rules in
-    let on = log_then g.L.LogSink g.met.L.LogSink.keeps_on _ c.begin.new.log _ _ c.in_ok-state.ensures.log c.search.ensures.log in
-    subst (λ x. HaveLowIds (g.L.LogSink.events x)) (sym same) (on.ids (fresh_is_low (g.L.LogSink.events c.args.sink.now) c.requires.fresh))
+    let on = log_then g.L.Sink g.met.L.Sink.keeps_on _ c.begin.new.log _ _ c.in_ok-state.ensures.log c.search.ensures.log in
+    subst (λ x. HaveLowIds (g.L.Sink.items x)) (sym same) (on.ids (fresh_is_low (g.L.Sink.items c.args.sink.now) c.requires.fresh))

@@ -1,4 +1,4 @@
-use Rattle.std.proofs.Common.{ap, ◌∙◌, []}
+use Rattle.std.proofs.Common.{[]}
 use Rattle.cdcl_search.specs.Ties.{SearchStands}
 use Rattle.cdcl_search.specs.Tells.{as_events}
 use Rattle.cdcl_search.proofs.Tellings.{holds_where}
@@ -8,8 +8,8 @@ use Rattle.cdcl_search.proofs.deleting.delete_rows.Goals as goal
 
 pub tell_steps-requires-clause-right : goal.tell_steps-requires-clause-right
 tell_steps-requires-clause-right g c = left_now _ c.args.state.now (g.P.ParityEngine.state c.args.engine.now) _ _
-    (rows_deleted c.args.log.now.formula.now c.args.state.now (g.P.ParityEngine.state c.args.engine.now) c.args.rows.now _ c.requires (as_events c.deref.result.now) (ap as_events c.deref.ensures.value ∙ c.in_ok-steps.ensures.steps))
+    (rows_deleted c.args.log.now.formula.now c.args.state.now (g.P.ParityEngine.state c.args.engine.now) c.args.rows.now _ c.requires (as_events c.in_ok-steps.steps.items) (c.in_ok-steps.ensures.steps))
 
 pub returns-clause-stands : goal.returns-clause-stands
-returns-clause-stands g c = holds_where (λ formula told. SearchStands formula c.args.state.now (g.P.ParityEngine.state c.args.engine.now) [] told) (as_events c.deref.result.now) g.L.LogSink c.args.log.now _ c.tell_steps.result c.tell_steps.new.log c.tell_steps.ensures.log c.tell_steps.ensures.told
-    (rows_deleted c.args.log.now.formula.now c.args.state.now (g.P.ParityEngine.state c.args.engine.now) c.args.rows.now _ c.requires (as_events c.deref.result.now) (ap as_events c.deref.ensures.value ∙ c.in_ok-steps.ensures.steps))
+returns-clause-stands g c = holds_where (λ formula told. SearchStands formula c.args.state.now (g.P.ParityEngine.state c.args.engine.now) [] told) (as_events c.in_ok-steps.steps.items) g.L.Sink c.args.log.now _ c.tell_steps.result c.tell_steps.new.log c.tell_steps.ensures.log c.tell_steps.ensures.told
+    (rows_deleted c.args.log.now.formula.now c.args.state.now (g.P.ParityEngine.state c.args.engine.now) c.args.rows.now _ c.requires (as_events c.in_ok-steps.steps.items) (c.in_ok-steps.ensures.steps))

@@ -1,5 +1,5 @@
 use Rattle.std.proofs.Common.{◌≢◌, ◌≤◌, ◌-◌, [], List, Option, length}
-use Rattle.cx_semantics.specs.declared.steps.LogEvent.{LogEvent}
+use Rattle.cx_base.specs.declared.steps.LogEvent.{LogEvent}
 use Rattle.parity_engine.specs.declared.state.Mood.TheVariants.{Broken}
 use Rattle.cdcl_search.specs.Ties.{SearchStands}
 use Rattle.cdcl_search.specs.Finds.{HasSameCounts}

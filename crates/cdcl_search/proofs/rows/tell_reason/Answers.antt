@@ -1,4 +1,4 @@
-use Rattle.std.proofs.Common.{refl, ap, ◌∙◌, ◌++◌, ◌∷◌, [], length}
+use Rattle.std.proofs.Common.{refl, ◌++◌, ◌∷◌, [], length}
 use Rattle.cdcl_search.specs.Ties.{SearchStands}
 use Rattle.cdcl_search.specs.Tells.{as_events}
 use Rattle.cdcl_search.proofs.RowSteps.{left_now, stands_then}
@@ -7,13 +7,13 @@ use Rattle.cdcl_search.proofs.rows.tell_reason.Goals as goal
 
 pub tell_steps-requires-clause-right : goal.tell_steps-requires-clause-right
 tell_steps-requires-clause-right g c = left_now c.args.log.now.formula.now c.args.state.now (g.P.ParityEngine.state c.args.engine.now) _ _
-    (stands_then c.args.log.now.formula.now c.args.state.now (g.P.ParityEngine.state c.args.engine.now) c.args.rows.now.items (g.L.LogSink.events c.args.log.now.sink.now) c.requires.stands
-    c.args.reason c.requires.explains c.in_ok-prepared.ensures.parity c.in_ok-prepared.ensures.back c.requires.some (as_events c.deref-2.result.now) c.deref.result.now c.deref.ensures.value (ap as_events c.deref-2.ensures.value ∙ c.in_ok-prepared.ensures.steps) _ refl)
+    (stands_then c.args.log.now.formula.now c.args.state.now (g.P.ParityEngine.state c.args.engine.now) c.args.rows.now.items (g.L.Sink.items c.args.log.now.sink.now) c.requires.stands
+    c.args.reason c.requires.explains c.in_ok-prepared.ensures.parity c.in_ok-prepared.ensures.back c.requires.some (as_events c.in_ok-prepared.prepared.steps.items) c.deref.result.now c.deref.ensures.value c.in_ok-prepared.ensures.steps _ refl)
 
 pub returns-clause-stands : goal.returns-clause-stands
-returns-clause-stands g c = holds_told (λ formula told. SearchStands formula c.args.state.now (g.P.ParityEngine.state c.args.engine.now) (c.args.rows.now.items ++ c.args.reason.clause ∷ []) told) (as_events c.deref-2.result.now) g.L.LogSink c.args.log.now _ c.tell_steps.new.log c.tell_steps.ensures.log c.in_ok-tell_steps.ensures.told
-    (stands_then c.args.log.now.formula.now c.args.state.now (g.P.ParityEngine.state c.args.engine.now) c.args.rows.now.items (g.L.LogSink.events c.args.log.now.sink.now) c.requires.stands
-    c.args.reason c.requires.explains c.in_ok-prepared.ensures.parity c.in_ok-prepared.ensures.back c.requires.some (as_events c.deref-2.result.now) c.deref.result.now c.deref.ensures.value (ap as_events c.deref-2.ensures.value ∙ c.in_ok-prepared.ensures.steps) _ refl)
+returns-clause-stands g c = holds_told (λ formula told. SearchStands formula c.args.state.now (g.P.ParityEngine.state c.args.engine.now) (c.args.rows.now.items ++ c.args.reason.clause ∷ []) told) (as_events c.in_ok-prepared.prepared.steps.items) g.L.Sink c.args.log.now _ c.tell_steps.new.log c.tell_steps.ensures.log c.in_ok-tell_steps.ensures.told
+    (stands_then c.args.log.now.formula.now c.args.state.now (g.P.ParityEngine.state c.args.engine.now) c.args.rows.now.items (g.L.Sink.items c.args.log.now.sink.now) c.requires.stands
+    c.args.reason c.requires.explains c.in_ok-prepared.ensures.parity c.in_ok-prepared.ensures.back c.requires.some (as_events c.in_ok-prepared.prepared.steps.items) c.deref.result.now c.deref.ensures.value c.in_ok-prepared.ensures.steps _ refl)
 
 pub prepare_next-requires : goal.prepare_next-requires
 prepare_next-requires g c = (length (g.P.ParityEngine.state c.args.engine.now).parities, c.requires.stands.3.engine.few, c.requires.explains.numbers)

@@ -29,4 +29,4 @@ returns-clause-implied g c = ok_maps c.tell_reason.result c.tell_reason.ensures.
 
 pub returns-clause-stands : goal.returns-clause-stands
 returns-clause-stands g c = on_both c.tell_reason.result c.tell_reason.ensures.rows c.tell_reason.ensures.stands
-    (λ is stands. subst (λ rows. SearchStands c.tell_reason.new.log.formula.now c.args.state.now (g.P.ParityEngine.state c.args.engine.now) rows (g.L.LogSink.events c.tell_reason.new.log.sink.now)) (sym is) stands)
+    (λ is stands. subst (λ rows. SearchStands c.tell_reason.new.log.formula.now c.args.state.now (g.P.ParityEngine.state c.args.engine.now) rows (g.L.Sink.items c.tell_reason.new.log.sink.now)) (sym is) stands)

@@ -1,8 +1,8 @@
-use Rattle.std.proofs.Common.{◌≡◌, take}
+use Rattle.std.proofs.Common.{◌≡◌}
 use Rattle.cdcl_search.specs.Tells.{as_events, with_events}
 use Rattle.cdcl_search.proofs.telling.tell_all.Given as goal
 
 -- the steps so far are told, and no fault was counted
 abbrev pub invariant-loop-step : goal.invariant-loop-step
 invariant-loop-step g l =
-    (g.L.LogSink.events l.sink ≡ with_events (as_events (take l.step-index l.steps)) (g.L.LogSink.events l.fn.sink)) × (g.L.LogSink.faults l.sink ≡ g.L.LogSink.faults l.fn.sink) × g.L.LogSink.keeps l.fn.sink l.sink
+    (g.L.Sink.items l.sink ≡ with_events (as_events l.yielded) (g.L.Sink.items l.fn.sink)) × (g.L.Sink.faults l.sink ≡ g.L.Sink.faults l.fn.sink) × g.L.Sink.keeps l.fn.sink l.sink

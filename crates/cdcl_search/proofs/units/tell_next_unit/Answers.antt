@@ -7,11 +7,11 @@ use Rattle.cdcl_search.proofs.units.tell_next_unit.Goals as goal
 
 pub clause_of_reason-requires-clause-stands : goal.clause_of_reason-requires-clause-stands
 clause_of_reason-requires-clause-stands g c =
-    subst (λ rows. SearchStands c.args.log.now.formula.now c.args.state.now (g.P.ParityEngine.state c.args.engine.now) rows (g.L.LogSink.events c.args.log.now.sink.now)) (sym c.new-rows.ensures.items) c.requires.stands
+    subst (λ rows. SearchStands c.args.log.now.formula.now c.args.state.now (g.P.ParityEngine.state c.args.engine.now) rows (g.L.Sink.items c.args.log.now.sink.now)) (sym c.new-rows.ensures.items) c.requires.stands
 
 pub tell_unit-requires-clause-stands : goal.tell_unit-requires-clause-stands
 tell_unit-requires-clause-stands g c =
-    subst (λ rows. SearchStands c.clause_of_reason.new.log.formula.now c.args.state.now (g.P.ParityEngine.state c.args.engine.now) rows (g.L.LogSink.events c.clause_of_reason.new.log.sink.now)) (sym c.deref.ensures.value) c.in_ok-implying.ensures.stands
+    subst (λ rows. SearchStands c.clause_of_reason.new.log.formula.now c.args.state.now (g.P.ParityEngine.state c.args.engine.now) rows (g.L.Sink.items c.clause_of_reason.new.log.sink.now)) (sym c.deref.ensures.value) c.in_ok-implying.ensures.stands
 
 pub tell_unit-requires-clause-next : goal.tell_unit-requires-clause-next
 tell_unit-requires-clause-next g c =
@@ -26,11 +26,11 @@ tell_unit-requires-clause-next g c =
 
 pub delete_rows-requires : goal.delete_rows-requires
 delete_rows-requires g c =
-    subst (λ rows. SearchStands c.tell_unit.new.log.formula.now c.tell_unit.new.state (g.P.ParityEngine.state c.args.engine.now) rows (g.L.LogSink.events c.tell_unit.new.log.sink.now)) (c.deref.ensures.value ∙ sym c.deref-2.ensures.value) c.in_ok-tell_unit.ensures.stands
+    subst (λ rows. SearchStands c.tell_unit.new.log.formula.now c.tell_unit.new.state (g.P.ParityEngine.state c.args.engine.now) rows (g.L.Sink.items c.tell_unit.new.log.sink.now)) (c.deref.ensures.value ∙ sym c.deref-2.ensures.value) c.in_ok-tell_unit.ensures.stands
 
 pub returns-in_err-tell_unit-clause-log : goal.returns-in_err-tell_unit-clause-log
-returns-in_err-tell_unit-clause-log g c = log_then g.L.LogSink g.met.L.LogSink.keeps_on _ c.clause_of_reason.new.log _ _ c.in_ok-implying.ensures.log (search rules)
+returns-in_err-tell_unit-clause-log g c = log_then g.L.Sink g.met.L.Sink.keeps_on _ c.clause_of_reason.new.log _ _ c.in_ok-implying.ensures.log (search rules)
 
 pub returns-clause-log : goal.returns-clause-log
 returns-clause-log g c =
-    log_then g.L.LogSink g.met.L.LogSink.keeps_on _ c.tell_unit.new.log _ _ (log_then g.L.LogSink g.met.L.LogSink.keeps_on _ c.clause_of_reason.new.log _ _ c.in_ok-implying.ensures.log c.in_ok-tell_unit.ensures.log) c.delete_rows.ensures.log
+    log_then g.L.Sink g.met.L.Sink.keeps_on _ c.tell_unit.new.log _ _ (log_then g.L.Sink g.met.L.Sink.keeps_on _ c.clause_of_reason.new.log _ _ c.in_ok-implying.ensures.log c.in_ok-tell_unit.ensures.log) c.delete_rows.ensures.log

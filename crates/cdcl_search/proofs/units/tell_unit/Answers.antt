@@ -11,12 +11,12 @@ hints_of-requires g c = subst (All (λ m. m.variable ≤ c.args.state.now.trail.
 
 pub tell_chained-requires-clause-right : goal.tell_chained-requires-clause-right
 tell_chained-requires-clause-right g c =
-    left_then c.args.log.now.formula.now c.args.state.now (g.P.ParityEngine.state c.args.engine.now) c.args.rows.now (g.L.LogSink.events c.args.log.now.sink.now) c.requires.stands
+    left_then c.args.log.now.formula.now c.args.state.now (g.P.ParityEngine.state c.args.engine.now) c.args.rows.now (g.L.Sink.items c.args.log.now.sink.now) c.requires.stands
     c.requires.level c.args.literal c.args.implying.now.lits c.requires.next c.if-id-ge-FIRST_ROW_ID.false c.in_ok-hints.hints
 
 pub returns-clause-stands : goal.returns-clause-stands
 returns-clause-stands g c =
-    subst (λ f. SearchStands f (with_unit c.args.state.now c.push.new.self (c.args.state.now.next + 1)) (g.P.ParityEngine.state c.args.engine.now) c.args.rows.now (g.L.LogSink.events c.tell_chained.new.log.sink.now)) (sym c.tell_chained.ensures.log.formula)
-    (stands_then c.args.log.now.formula.now c.args.state.now (g.P.ParityEngine.state c.args.engine.now) c.args.rows.now (g.L.LogSink.events c.args.log.now.sink.now) c.requires.stands
+    subst (λ f. SearchStands f (with_unit c.args.state.now c.push.new.self (c.args.state.now.next + 1)) (g.P.ParityEngine.state c.args.engine.now) c.args.rows.now (g.L.Sink.items c.tell_chained.new.log.sink.now)) (sym c.tell_chained.ensures.log.formula)
+    (stands_then c.args.log.now.formula.now c.args.state.now (g.P.ParityEngine.state c.args.engine.now) c.args.rows.now (g.L.Sink.items c.args.log.now.sink.now) c.requires.stands
     c.requires.level c.args.literal c.args.implying.now.lits c.requires.next c.if-id-ge-FIRST_ROW_ID.false c.in_ok-hints.hints
-    (g.L.LogSink.events c.tell_chained.new.log.sink.now) c.in_ok-tell_chained.ensures.told c.push.new.self c.in_ok-push.ensures.items (c.args.state.now.next + 1) refl)
+    (g.L.Sink.items c.tell_chained.new.log.sink.now) c.in_ok-tell_chained.ensures.told c.push.new.self c.in_ok-push.ensures.items (c.args.state.now.next + 1) refl)

@@ -5,10 +5,10 @@ use Rattle.cdcl_search.proofs.units.tell_units.Given as goal
 
 abbrev pub invariant-loop-log : goal.invariant-loop-log
 invariant-loop-log g l = record {
-  stands : Stands g.P.ParityEngine g.L.LogSink l.log l.state l.fn.engine [];
+  stands : Stands g.P.ParityEngine g.L.Sink l.log l.state l.fn.engine [];
   few : length l.state.units.items ≤ length l.state.trail.entries;
   same : HasOther l.fn.state l.state;
-  log : GoesOn g.L.LogSink l.fn.log None l.log;
+  log : GoesOn g.L.Sink l.fn.log None l.log;
 }
 
 abbrev pub decreases-loop-log : goal.decreases-loop-log

@@ -1,6 +1,6 @@
 use Rattle.std.proofs.Common.{◌∙◌, sym, ap, subst}
 use Rattle.std.proofs.lemmas.Result.{err_from_is_err_and}
-use Rattle.cx_semantics.specs.Words.{placed_formula_words, formula_words_of}
+use Rattle.cx_texts.specs.Words.{placed_formula_words, formula_words_of}
 use Rattle.cnfx_reader.specs.Body.{outcome, Outcome, IsEndedBy}
 use Rattle.cnfx_reader.proofs.body.read_body.Goals as goal
 

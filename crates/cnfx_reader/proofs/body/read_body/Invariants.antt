@@ -1,5 +1,5 @@
 use Rattle.std.proofs.Common.{◌≡◌, length}
-use Rattle.cx_semantics.specs.Words.{placed_formula_words}
+use Rattle.cx_texts.specs.Words.{placed_formula_words}
 use Rattle.cnfx_reader.specs.Body.{outcome, IsPendingIn}
 use Rattle.cnfx_reader.specs.declared.pending.Pending.TheVariants as pending
 use Rattle.cnfx_reader.proofs.body.read_body.Given as goal

@@ -1,5 +1,5 @@
 use Rattle.std.proofs.Common.{sym, ◌∙◌, arith, ◌+◌, ◌*◌, ◌<◌, length}
-use Rattle.cx_semantics.proofs.DigitLaws.{one_more_digit}
+use Rattle.cx_texts.proofs.DigitLaws.{one_more_digit}
 use Rattle.cnfx_reader.proofs.FrontLaws.{short_value}
 use Rattle.cnfx_reader.proofs.digits.short_digits.Goals as goal
 

@@ -1,7 +1,7 @@
 use Rattle.std.proofs.Common.{◌-◌, ◌≡◌, ◌≤◌, take, true}
 use Rattle.std.specs.List.{list_all}
 use Rattle.std.specs.Str.Parse.{digits_value}
-use Rattle.cx_semantics.specs.Words.{is_digit}
+use Rattle.cx_texts.specs.Words.{is_digit}
 use Rattle.cnfx_reader.specs.declared.digits.TheConstants.{SHORT}
 use Rattle.cnfx_reader.proofs.digits.short_digits.Given as goal
 

@@ -1,7 +1,7 @@
 use Rattle.std.proofs.Common.{◌∙◌, sym, ap, ◌≤◌, length, drop, take, arith, length-drop}
 use Rattle.std.specs.List.{list_all}
 use Rattle.std.specs.Str.Parse.{digits_value}
-use Rattle.cx_semantics.specs.Words.{is_digit}
+use Rattle.cx_texts.specs.Words.{is_digit}
 use Rattle.cnfx_reader.proofs.FrontLaws.{bool_byte_small, part_behind, signed_front}
 use Rattle.cnfx_reader.proofs.leading_integer.leading_integer.Goals as goal
 

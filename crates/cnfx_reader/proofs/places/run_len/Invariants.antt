@@ -1,5 +1,5 @@
 use Rattle.std.proofs.Common.{◌≡◌, ℕ, ◌-◌, ◌≤◌, ◌<◌, false, length, get_or}
-use Rattle.cx_semantics.specs.Tokens.{is_blank}
+use Rattle.cx_texts.specs.Tokens.{is_blank}
 use Rattle.cnfx_reader.proofs.places.run_len.Given as goal
 
 abbrev pub invariant-loop-len : goal.invariant-loop-len

@@ -1,8 +1,8 @@
 use Rattle.std.proofs.Common.{◌≡◌, ◌∙◌, sym, ap, subst, [], length}
 use Rattle.std.proofs.lemmas.Result.{err_from_is_err_and}
 use Rattle.cx_base.specs.Drafts.{Draft}
-use Rattle.cx_semantics.specs.FormulaText.{header}
-use Rattle.cx_semantics.specs.Words.{placed_formula_words}
+use Rattle.cx_texts.specs.FormulaText.{header}
+use Rattle.cx_texts.specs.Words.{placed_formula_words}
 use Rattle.cnfx_reader.specs.declared.pending.Pending.TheVariants as pending
 use Rattle.cnfx_reader.specs.Body.{outcome, IsEndedBy}
 use Rattle.cnfx_reader.proofs.TextReading.{refused_header, refused_body, read_formula_is}

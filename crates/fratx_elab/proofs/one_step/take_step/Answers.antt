@@ -1,5 +1,5 @@
 use Rattle.std.proofs.Common.{sym, subst}
-use Rattle.cx_semantics.specs.declared.steps.LogStep.{LogStep}
+use Rattle.cx_base.specs.declared.steps.LogStep.{LogStep}
 use Rattle.fratx_elab.specs.Takes.{TakesLogStep}
 use Rattle.fratx_elab.proofs.Taking.{taken_with_hints}
 use Rattle.fratx_elab.proofs.one_step.take_step.Goals as goal

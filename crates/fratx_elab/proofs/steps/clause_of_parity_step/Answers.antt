@@ -1,8 +1,8 @@
 use Rattle.std.proofs.Common.{[], sym, subst, ℤ, w64, rules}
 use Rattle.std.proofs.lemmas.Int.{to_z-of_z}
 use mir.Val.{SFits}
-use Rattle.cx_semantics.specs.Printed.{HasProofText}
-use Rattle.cx_semantics.specs.declared.steps.ProofStep.TheVariants as step
+use Rattle.cx_texts.specs.Printed.{HasProofText}
+use Rattle.cx_base.specs.declared.steps.ProofStep.TheVariants as step
 use Rattle.fratx_elab.proofs.Texts.{clause_of_parity_text}
 use Rattle.fratx_elab.proofs.steps.clause_of_parity_step.Goals as goal
 

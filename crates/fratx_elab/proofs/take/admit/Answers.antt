@@ -2,11 +2,11 @@ use Rattle.std.proofs.Common.{◌≡◌, subst, ℕ, ℤ, nat_abs, nat_lt, Bool,
 use Rattle.std.specs.List.{list_any}
 use Rattle.cx_base.specs.Literals.{Literal}
 use Rattle.cx_base.specs.Problem.{Problem}
-use Rattle.cx_semantics.specs.Integers.{literals}
+use Rattle.cx_base.specs.Integers.{literals}
 use Rattle.cx_semantics.specs.Judging.{refused_where}
 use Rattle.cx_semantics.specs.ProofRules.{adding}
 use Rattle.cx_semantics.specs.Tables.{Table}
-use Rattle.cx_semantics.specs.declared.steps.Cause.TheVariants as causes
+use Rattle.cx_semantics.specs.declared.cause.Cause.TheVariants as causes
 use Rattle.proof_rules.specs.Judges.{JudgesBy}
 use Rattle.proof_rules.specs.declared.refusal.JudgeRefusal.{JudgeRefusal}
 use Rattle.fratx_elab.specs.Takes.{Admits}

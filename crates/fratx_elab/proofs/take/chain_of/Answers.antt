@@ -1,7 +1,7 @@
 use Rattle.std.proofs.Common.{◌≡◌, refl, sym, ap, ◌∙◌, subst, ℕ, ℤ, nat_abs, Bool, true, false, not, ◌||◌, List, [], ◌∷◌, true≢false}
 use Rattle.std.specs.List.{list_any}
 use Rattle.cx_semantics.specs.Chain.{chain, negations, IsChain}
-use Rattle.cx_semantics.specs.Integers.{sizes}
+use Rattle.cx_base.specs.Integers.{sizes}
 use Rattle.cx_semantics.specs.LogRules.{AreLive}
 use Rattle.cx_semantics.specs.Tables.{Table, is_live, named}
 use Rattle.cx_semantics.proofs.Soundness.{chain_is_right}

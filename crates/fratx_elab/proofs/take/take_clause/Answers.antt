@@ -2,7 +2,7 @@ use Rattle.std.proofs.Common.{refl, ap, ◌∙◌, subst, ℕ, List}
 use Rattle.cx_base.specs.Literals.{Literal}
 use Rattle.cx_semantics.specs.Chain.{IsChain}
 use Rattle.cx_semantics.specs.Tables.{Tables, named, put_clause}
-use Rattle.cx_semantics.specs.declared.steps.ProofStep.TheVariants as step
+use Rattle.cx_base.specs.declared.steps.ProofStep.TheVariants as step
 use Rattle.fratx_elab.specs.Names.{hints_for}
 use Rattle.fratx_elab.proofs.Taking.{takes_clause}
 use Rattle.fratx_elab.proofs.take.take_clause.Goals as goal

@@ -4,7 +4,7 @@ use Rattle.cx_semantics.specs.Judging.{AllHold}
 use Rattle.cx_semantics.specs.LogRules.{naming}
 use Rattle.cx_semantics.specs.ProofRules.{parity_of_clauses}
 use Rattle.cx_semantics.specs.Tables.{Tables, named, put_parity}
-use Rattle.cx_semantics.specs.declared.steps.ProofStep.TheVariants as step
+use Rattle.cx_base.specs.declared.steps.ProofStep.TheVariants as step
 use Rattle.fratx_elab.proofs.Taking.{takes_parity_of_clauses}
 use Rattle.fratx_elab.proofs.take.take_parity_of_clauses.Goals as goal
 

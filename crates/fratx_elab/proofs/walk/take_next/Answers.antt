@@ -1,8 +1,8 @@
 use Rattle.std.proofs.Common.{refl, subst, Option, Ok}
-use Rattle.cx_semantics.specs.Grammar.{finished}
-use Rattle.cx_semantics.specs.declared.steps.LogStep.{LogStep}
-use Rattle.proof_text.specs.Sources.{Gives}
-use Rattle.proof_text.specs.Sinks.{SinkFaultsAs}
+use Rattle.cx_base.specs.Endings.{finished}
+use Rattle.cx_base.specs.declared.steps.LogStep.{LogStep}
+use Rattle.step_text.specs.Sources.{Gives}
+use Rattle.step_text.specs.Sinks.{SinkFaultsAs}
 use Rattle.fratx_elab.specs.Writing.{WritesDown}
 use Rattle.fratx_elab.proofs.Turns.{end_is_refused, text_is_refused, refusal_turns, write_turns, text_stands, step_stands, write_stands}
 use Rattle.fratx_elab.proofs.walk.take_next.Goals as goal

@@ -1,11 +1,11 @@
 use Rattle.std.proofs.Common.{subst}
 use Rattle.std.proofs.lemmas.Result.{err_from_is_err_and}
 use Rattle.cx_desk.proofs.Moves.{pieces-fail}
-use Rattle.cx_semantics.specs.declared.steps.LogEvent.{LogEvent}
-use Rattle.cx_semantics.specs.Grammar.{spelling}
-use Rattle.cx_semantics.specs.LogText.{log_events}
-use Rattle.cx_semantics.specs.Printed.{printed_line}
-use Rattle.proof_text.proofs.Puts.{Fails}
+use Rattle.cx_base.specs.declared.steps.LogEvent.{LogEvent}
+use Rattle.cx_texts.specs.Grammar.{spelling}
+use Rattle.cx_texts.specs.LogText.{log_events}
+use Rattle.cx_texts.specs.Printed.{printed_line}
+use Rattle.step_text.proofs.Puts.{Fails}
 use Rattle.log_text.proofs.print.put_log.Goals as goal
 
 pub returns-in_err-put_event : goal.returns-in_err-put_event

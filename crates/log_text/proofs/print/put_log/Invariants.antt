@@ -1,6 +1,6 @@
 use Rattle.std.proofs.Common.{◌≡◌, take}
 use Rattle.cx_desk.specs.Calls.{gained}
-use Rattle.cx_semantics.specs.Printed.{printed_log}
+use Rattle.cx_texts.specs.Printed.{printed_log}
 use Rattle.log_text.proofs.print.put_log.Given as goal
 
 abbrev pub invariant-loop-event : goal.invariant-loop-event

@@ -1,9 +1,9 @@
 use Rattle.std.proofs.lemmas.Result.{err_from_is_err_and}
 use Rattle.std.proofs.Common.{ap, decimal, map, pos, ◌∷◌, ◌++◌, []}
-use Rattle.cx_semantics.specs.Words.{letter}
-use Rattle.cx_semantics.specs.Grammar.{spelled_list}
-use Rattle.proof_text.specs.Spaced.{spaced}
-use Rattle.proof_text.proofs.Puts.{first_fails, two_puts, line_on, list_tail}
+use Rattle.cx_texts.specs.Words.{letter}
+use Rattle.cx_texts.specs.Grammar.{spelled_list}
+use Rattle.step_text.specs.Spaced.{spaced}
+use Rattle.step_text.proofs.Puts.{first_fails, two_puts, line_on, list_tail}
 use Rattle.log_text.proofs.print.put_with_sources.Goals as goal
 
 pub returns-in_err-put_head : goal.returns-in_err-put_head

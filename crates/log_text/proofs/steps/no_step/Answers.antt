@@ -1,6 +1,6 @@
 use Rattle.std.proofs.Common.{sym, ◌∙◌}
-use Rattle.cx_semantics.specs.Words.{placed_words}
-use Rattle.proof_text.specs.declared.source.TextRefusal.TheVariants.{BadToken, Unterminated}
+use Rattle.cx_texts.specs.Words.{placed_words}
+use Rattle.step_text.specs.declared.source.TextRefusal.TheVariants.{BadToken, Unterminated}
 use Rattle.log_text.proofs.StepLaws.{no_start, other_letter, no_letter}
 use Rattle.log_text.proofs.steps.no_step.Goals as goal
 

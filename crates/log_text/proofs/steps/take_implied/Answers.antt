@@ -1,8 +1,8 @@
 use Rattle.std.proofs.Common.{[], ◌∷◌}
 use Rattle.std.proofs.lemmas.Result.{err_from_is_err_and}
-use Rattle.cx_semantics.specs.Grammar.{mark, id, end, integers}
-use Rattle.cx_semantics.proofs.Shapes.{a_mark, an_id, an_end}
-use Rattle.proof_text.proofs.TakingLaws.{takes_append, refused_after, one_refused}
+use Rattle.cx_texts.specs.Grammar.{mark, id, end, integers}
+use Rattle.cx_texts.proofs.Shapes.{a_mark, an_id, an_end}
+use Rattle.step_text.proofs.TakingLaws.{takes_append, refused_after, one_refused}
 use Rattle.log_text.proofs.steps.take_implied.Goals as goal
 
 pub returns-in_err-take_letter : goal.returns-in_err-take_letter

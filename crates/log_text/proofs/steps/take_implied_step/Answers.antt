@@ -1,8 +1,8 @@
 use Rattle.std.proofs.Common.{[], ◌∷◌, sym, ◌∙◌}
 use Rattle.std.proofs.lemmas.Result.{err_from_is_err_and}
-use Rattle.cx_semantics.specs.Grammar.{mark, id, ids, integers, end}
-use Rattle.proof_text.proofs.TakingLaws.{takes_append}
-use Rattle.proof_text.proofs.Choices.{letter_taken}
+use Rattle.cx_texts.specs.Grammar.{mark, id, ids, integers, end}
+use Rattle.step_text.proofs.TakingLaws.{takes_append}
+use Rattle.step_text.proofs.Choices.{letter_taken}
 use Rattle.log_text.proofs.StepLaws.{implied_clause_refused, implied_parity_refused}
 use Rattle.log_text.proofs.steps.take_implied_step.Goals as goal
 

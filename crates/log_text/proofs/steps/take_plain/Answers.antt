@@ -1,8 +1,8 @@
 use Rattle.std.proofs.Common.{[], ◌∷◌}
 use Rattle.std.proofs.lemmas.Result.{err_from_is_err_and}
-use Rattle.cx_semantics.specs.Grammar.{mark}
-use Rattle.proof_text.proofs.TakingLaws.{takes_append}
-use Rattle.proof_text.proofs.Choices.{letter_taken}
+use Rattle.cx_texts.specs.Grammar.{mark}
+use Rattle.step_text.proofs.TakingLaws.{takes_append}
+use Rattle.step_text.proofs.Choices.{letter_taken}
 use Rattle.log_text.specs.Taking.{letter_of, listed_fields}
 use Rattle.log_text.proofs.StepLaws.{plain_refused}
 use Rattle.log_text.proofs.steps.take_plain.Goals as goal

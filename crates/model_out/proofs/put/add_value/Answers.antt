@@ -1,7 +1,7 @@
 use Rattle.std.proofs.Common.{◌≡◌, ◌∙◌, ◌+◌, ◌++◌, subst, decimal}
 use Rattle.std.proofs.lemmas.Result.{err_from_is_err_and}
 use Rattle.cx_desk.specs.Outside.{Bytes}
-use Rattle.cx_semantics.specs.AnswerText.{printed_value}
+use Rattle.cx_texts.specs.AnswerText.{printed_value}
 use Rattle.model_out.specs.Waiting.{Fails, Adds}
 use Rattle.model_out.proofs.Puts.{takes_more, takes_then_fails, fails_before, adds_more}
 use Rattle.model_out.proofs.put.add_value.Goals as goal

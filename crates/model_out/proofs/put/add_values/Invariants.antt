@@ -1,6 +1,6 @@
 use Rattle.std.proofs.Common.{take}
 use Rattle.std.specs.List.{flat_map, enumerate_from}
-use Rattle.cx_semantics.specs.AnswerText.{printed_value}
+use Rattle.cx_texts.specs.AnswerText.{printed_value}
 use Rattle.model_out.specs.Waiting.{Takes}
 use Rattle.model_out.proofs.put.add_values.Given as goal
 

@@ -4,7 +4,7 @@ use Rattle.std.proofs.lemmas.Result.{err_from_is_err_and}
 use Rattle.cx_desk.specs.Outside.{Bytes}
 use Rattle.cx_desk.specs.Calls.{PutsAll}
 use Rattle.cx_desk.specs.declared.desk.Port.TheVariants.{Answer}
-use Rattle.cx_semantics.specs.AnswerText.{printed_value, answer_text}
+use Rattle.cx_texts.specs.AnswerText.{printed_value, answer_text}
 use Rattle.model_out.specs.Waiting.{Takes, Fails}
 use Rattle.model_out.proofs.Puts.{takes_more, takes_then_fails, fails_before, writes_all, text_is}
 use Rattle.model_out.proofs.put.put_answer.Goals as goal

@@ -1,5 +1,5 @@
 use Rattle.std.proofs.Common.{◌≡◌, take}
-use Rattle.cx_semantics.specs.Integers.{literals}
+use Rattle.cx_base.specs.Integers.{literals}
 use Rattle.proof_rules.proofs.added.literals_of.Given as goal
 
 abbrev pub invariant-loop-integer : goal.invariant-loop-integer

@@ -1,5 +1,5 @@
 use Rattle.std.proofs.Common.{◌≡◌, take}
-use Rattle.cx_semantics.specs.Integers.{sizes}
+use Rattle.cx_base.specs.Integers.{sizes}
 use Rattle.proof_rules.proofs.hints.ids_of.Given as goal
 
 abbrev pub invariant-loop-hint : goal.invariant-loop-hint

@@ -1,8 +1,8 @@
 use Rattle.std.proofs.lemmas.Result.{err_from_is_err_and}
 use Rattle.std.proofs.Common.{map, pos, decimal, ◌∷◌, ◌++◌, []}
-use Rattle.cx_semantics.specs.Grammar.{spelled_list}
-use Rattle.proof_text.specs.Spaced.{spaced}
-use Rattle.proof_text.proofs.Puts.{first_fails, two_puts, clause_names_line}
+use Rattle.cx_texts.specs.Grammar.{spelled_list}
+use Rattle.step_text.specs.Spaced.{spaced}
+use Rattle.step_text.proofs.Puts.{first_fails, two_puts, clause_names_line}
 use Rattle.proof_text.proofs.print.put_clause_deletion.Goals as goal
 
 pub returns-in_err-put_id : goal.returns-in_err-put_id

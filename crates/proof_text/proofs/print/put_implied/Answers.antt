@@ -2,10 +2,10 @@ use Rattle.std.proofs.lemmas.Result.{err_from_is_err_and}
 use Rattle.std.proofs.Common.{subst, decimal, pos, ◌∷◌, ◌++◌, [], w64}
 use Rattle.std.proofs.lemmas.Int.{to_z-of_z}
 use Rattle.cx_desk.specs.Calls.{PutsAll}
-use Rattle.cx_semantics.specs.Words.{number}
-use Rattle.cx_semantics.specs.Grammar.{spelled_list}
-use Rattle.proof_text.specs.Spaced.{spaced, spaced_integer}
-use Rattle.proof_text.proofs.Puts.{first_fails, two_puts, line_on, number_tail}
+use Rattle.cx_texts.specs.Words.{number}
+use Rattle.cx_texts.specs.Grammar.{spelled_list}
+use Rattle.step_text.specs.Spaced.{spaced, spaced_integer}
+use Rattle.step_text.proofs.Puts.{first_fails, two_puts, line_on, number_tail}
 use Rattle.proof_text.proofs.print.put_implied.Goals as goal
 
 pub returns-in_err-put_head : goal.returns-in_err-put_head

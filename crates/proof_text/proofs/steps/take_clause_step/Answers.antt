@@ -1,9 +1,9 @@
 use Rattle.std.proofs.Common.{[], ◌∷◌, sym, ◌∙◌}
 use Rattle.std.proofs.lemmas.Result.{err_from_is_err_and}
-use Rattle.cx_semantics.specs.Grammar.{mark, id, ids, integers}
-use Rattle.cx_semantics.proofs.Shapes.{some_integers}
-use Rattle.proof_text.proofs.TakingLaws.{takes_append, refused_after}
-use Rattle.proof_text.proofs.Choices.{letter_taken}
+use Rattle.cx_texts.specs.Grammar.{mark, id, ids, integers}
+use Rattle.cx_texts.proofs.Shapes.{some_integers}
+use Rattle.step_text.proofs.TakingLaws.{takes_append, refused_after}
+use Rattle.step_text.proofs.Choices.{letter_taken}
 use Rattle.proof_text.proofs.StepLaws.{no_start, clause_lists_refused, clause_names_refused}
 use Rattle.proof_text.proofs.steps.take_clause_step.Goals as goal
 

@@ -1,8 +1,8 @@
 use Rattle.std.proofs.Common.{[], ◌∷◌}
 use Rattle.std.proofs.lemmas.Result.{err_from_is_err_and}
-use Rattle.cx_semantics.specs.Grammar.{id, integers}
-use Rattle.cx_semantics.proofs.Shapes.{some_integers}
-use Rattle.proof_text.proofs.TakingLaws.{takes_append, refused_after}
+use Rattle.cx_texts.specs.Grammar.{id, integers}
+use Rattle.cx_texts.proofs.Shapes.{some_integers}
+use Rattle.step_text.proofs.TakingLaws.{takes_append, refused_after}
 use Rattle.proof_text.proofs.steps.take_hinted.Goals as goal
 
 pub returns-in_err-hints : goal.returns-in_err-hints

@@ -1,9 +1,9 @@
 use Rattle.std.proofs.Common.{[], ◌∷◌}
 use Rattle.std.proofs.lemmas.Result.{err_from_is_err_and}
-use Rattle.cx_semantics.specs.Grammar.{id, integer, end, integers}
-use Rattle.cx_semantics.proofs.Shapes.{an_integer, an_end}
-use Rattle.proof_text.proofs.TakingLaws.{takes_append, refused_after, one_refused}
-use Rattle.proof_text.proofs.Taken.{kept_hint}
+use Rattle.cx_texts.specs.Grammar.{id, integer, end, integers}
+use Rattle.cx_texts.proofs.Shapes.{an_integer, an_end}
+use Rattle.step_text.proofs.TakingLaws.{takes_append, refused_after, one_refused}
+use Rattle.step_text.proofs.Taken.{kept_hint}
 use Rattle.proof_text.proofs.steps.take_implied.Goals as goal
 
 pub returns-in_err-hint : goal.returns-in_err-hint

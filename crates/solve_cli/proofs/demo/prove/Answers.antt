@@ -1,6 +1,6 @@
 use Rattle.std.proofs.Common.{subst}
-use Rattle.cx_semantics.specs.LogText.{steps_of}
-use Rattle.cx_semantics.specs.Printed.{printed_log}
+use Rattle.cx_base.specs.Events.{steps_of}
+use Rattle.cx_texts.specs.Printed.{printed_log}
 use Rattle.fratx_elab.specs.declared.outcome.Elab.{Elab}
 use Rattle.solve_cli.proofs.Demonstrating.{Elaborates, proof_of_log, refutation_stands}
 use Rattle.solve_cli.proofs.demo.prove.Goals as goal

@@ -1,8 +1,8 @@
 use Rattle.std.proofs.Common.{length, subst}
-use Rattle.cx_semantics.specs.Grammar.{finished}
+use Rattle.cx_base.specs.Endings.{finished}
 use Rattle.cx_semantics.specs.Judging.{JudgedAs}
-use Rattle.cx_semantics.specs.LogText.{steps_of}
-use Rattle.cx_semantics.specs.Printed.{printed_log}
+use Rattle.cx_base.specs.Events.{steps_of}
+use Rattle.cx_texts.specs.Printed.{printed_log}
 use Rattle.cx_semantics.specs.ProofRules.{proof_calculus}
 use Rattle.xlrup_check.specs.Verdicts.{judgement_of}
 use Rattle.xlrup_check.specs.declared.verdict.Verdict.{Verdict}

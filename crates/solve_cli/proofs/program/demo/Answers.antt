@@ -1,6 +1,6 @@
 use Rattle.std.proofs.Common.{◌≤◌, length, sym, subst}
 use Rattle.cx_base.specs.Problem.{Problem}
-use Rattle.cx_semantics.specs.Printed.{printed_log}
+use Rattle.cx_texts.specs.Printed.{printed_log}
 use Rattle.solve_cli.specs.declared.ending.Ending.TheVariants as ending
 use Rattle.solve_cli.specs.declared.ending.Instance.{Instance}
 use Rattle.solve_cli.specs.Demo.{demo_budget, Stands}

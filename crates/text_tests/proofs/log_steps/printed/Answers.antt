@@ -1,6 +1,6 @@
-use Rattle.cx_semantics.specs.LogText.{log_steps}
-use Rattle.cx_semantics.proofs.Grammars.{log_forms}
-use Rattle.proof_text.proofs.Given.{given_is_printable}
+use Rattle.cx_texts.specs.LogText.{log_steps}
+use Rattle.cx_texts.proofs.Grammars.{log_forms}
+use Rattle.step_text.proofs.Given.{given_is_printable}
 use Rattle.text_tests.proofs.log_steps.printed.Goals as goal
 
 pub put-requires : goal.put-requires

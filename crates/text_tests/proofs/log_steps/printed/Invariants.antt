@@ -1,5 +1,5 @@
 use Rattle.std.proofs.Common.{◌≡◌, false}
-use Rattle.proof_text.specs.Texts.{is_spent_by}
+use Rattle.step_text.specs.Texts.{is_spent_by}
 use Rattle.text_tests.proofs.log_steps.printed.Given as goal
 
 abbrev pub invariant-loop-k : goal.invariant-loop-k

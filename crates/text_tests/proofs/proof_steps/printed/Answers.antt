@@ -1,6 +1,6 @@
-use Rattle.cx_semantics.specs.ProofText.{proof_steps}
-use Rattle.cx_semantics.proofs.Grammars.{proof_forms}
-use Rattle.proof_text.proofs.Given.{given_is_printable}
+use Rattle.cx_texts.specs.ProofText.{proof_steps}
+use Rattle.cx_texts.proofs.Grammars.{proof_forms}
+use Rattle.step_text.proofs.Given.{given_is_printable}
 use Rattle.text_tests.proofs.proof_steps.printed.Goals as goal
 
 pub put_proof_step-requires : goal.put_proof_step-requires

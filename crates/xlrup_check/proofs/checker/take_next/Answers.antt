@@ -1,7 +1,7 @@
 use Rattle.std.proofs.Common.{refl, subst, Option, Ok}
-use Rattle.cx_semantics.specs.Grammar.{finished}
-use Rattle.cx_semantics.specs.declared.steps.ProofStep.{ProofStep}
-use Rattle.proof_text.specs.Sources.{Gives}
+use Rattle.cx_base.specs.Endings.{finished}
+use Rattle.cx_base.specs.declared.steps.ProofStep.{ProofStep}
+use Rattle.step_text.specs.Sources.{Gives}
 use Rattle.xlrup_check.proofs.Turns.{end_is_refused, text_is_refused, step_goes}
 use Rattle.xlrup_check.proofs.checker.take_next.Goals as goal
 

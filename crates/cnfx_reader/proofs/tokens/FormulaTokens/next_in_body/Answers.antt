@@ -1,5 +1,5 @@
 use Rattle.std.proofs.Common.{◌∷◌, ◌∙◌, sym, ap, subst, drop, take}
-use Rattle.cx_semantics.specs.Words.{formula_words_of}
+use Rattle.cx_texts.specs.Words.{formula_words_of}
 use Rattle.cnfx_reader.specs.Meanings.{Says}
 use Rattle.cnfx_reader.proofs.FrontLaws.{part_behind}
 use Rattle.cnfx_reader.proofs.FormulaTokens.{next_part}

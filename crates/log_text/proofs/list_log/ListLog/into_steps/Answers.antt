@@ -1,8 +1,8 @@
 use Rattle.std.proofs.Common.{subst}
 use Rattle.std.specs.List.{AllByRecursion}
-use Rattle.cx_semantics.specs.Printed.{printed_log, HasText}
-use Rattle.cx_semantics.proofs.EventSteps.{events_give_steps}
-use Rattle.cx_semantics.proofs.PrintedLogs.{printed_log_reads}
+use Rattle.cx_texts.specs.Printed.{printed_log, HasText}
+use Rattle.cx_texts.proofs.EventSteps.{events_give_steps}
+use Rattle.cx_texts.proofs.PrintedLogs.{printed_log_reads}
 use Rattle.log_text.proofs.list_log.ListLog.into_steps.Goals as goal
 
 pub returns-clause-printed : goal.returns-clause-printed

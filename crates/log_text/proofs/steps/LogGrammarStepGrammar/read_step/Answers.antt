@@ -1,4 +1,4 @@
-use Rattle.proof_text.proofs.ReadingLaws.{some_words}
+use Rattle.step_text.proofs.ReadingLaws.{some_words}
 use Rattle.log_text.proofs.StepLaws.{taken_is_read}
 use Rattle.log_text.proofs.steps.LogGrammarStepGrammar.read_step.Goals as goal
 

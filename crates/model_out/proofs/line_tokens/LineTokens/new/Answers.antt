@@ -1,5 +1,5 @@
 use Rattle.std.proofs.Common.{ap, map}
-use Rattle.cx_semantics.specs.Tokens.{tokens}
+use Rattle.cx_texts.specs.Tokens.{tokens}
 use Rattle.model_out.specs.LineTokens.{line_token}
 use Rattle.model_out.proofs.line_tokens.LineTokens.new.Goals as goal
 

@@ -1,7 +1,7 @@
 use Rattle.std.proofs.Common.{subst}
 use Rattle.std.specs.List.{AllByRecursion}
-use Rattle.cx_semantics.specs.Printed.{HasProofText}
-use Rattle.cx_semantics.proofs.PrintedProofs.{printed_proof_reads}
+use Rattle.cx_texts.specs.Printed.{HasProofText}
+use Rattle.cx_texts.proofs.PrintedProofs.{printed_proof_reads}
 use Rattle.proof_text.proofs.list_proof.ListProof.into_steps.Goals as goal
 
 pub returns-clause-printed : goal.returns-clause-printed

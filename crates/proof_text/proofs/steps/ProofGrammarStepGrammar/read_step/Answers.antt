@@ -1,4 +1,4 @@
-use Rattle.proof_text.proofs.ReadingLaws.{some_words}
+use Rattle.step_text.proofs.ReadingLaws.{some_words}
 use Rattle.proof_text.proofs.StepLaws.{taken_is_read}
 use Rattle.proof_text.proofs.steps.ProofGrammarStepGrammar.read_step.Goals as goal
 

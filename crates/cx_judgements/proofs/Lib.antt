@@ -1,0 +1,3 @@
+pub mod OneJudgement
+pub mod TextSoundness
+mod TextCase

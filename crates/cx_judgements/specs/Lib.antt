@@ -1,0 +1,3 @@
+pub mod ProofTexts
+pub mod LogTexts
+pub mod Laws

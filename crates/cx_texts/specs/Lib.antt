@@ -1,0 +1,10 @@
+pub mod AnswerText
+pub mod FormulaText
+pub mod Grammar
+pub mod LiteralTokens
+pub mod LogText
+pub mod Printed
+pub mod ProofText
+pub mod Tokens
+pub mod Words
+pub mod Laws

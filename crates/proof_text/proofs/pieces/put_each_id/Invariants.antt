@@ -1,8 +1,0 @@
-use Rattle.std.proofs.Common.{◌≡◌, take}
-use Rattle.std.specs.List.{flat_map}
-use Rattle.cx_desk.specs.Calls.{gained}
-use Rattle.proof_text.specs.Spaced.{spaced_id}
-use Rattle.proof_text.proofs.pieces.put_each_id.Given as goal
-
-abbrev pub invariant-loop-member : goal.invariant-loop-member
-invariant-loop-member g l = g.D.Desk.outside l.desk ≡ gained l.port (flat_map spaced_id (take l.member-index l.members)) (g.D.Desk.outside l.initial.desk)

@@ -1,0 +1,169 @@
+-- Parts of a step one after another.
+use Rattle.std.proofs.Common.{◌≡◌, refl, sym, ap, ◌∙◌, subst, ℕ, ℤ, pos, List, [], ◌∷◌, ◌++◌, map, flat_map, append_assoc, append-nil}
+use Rattle.std.specs.List.{AllByRecursion}
+use Rattle.std.proofs.lemmas.List.{map-append}
+use Rattle.std.proofs.lemmas.Grind.{flat_map-append}
+use Rattle.cx_texts.specs.Words.{Word, number, Placed, words}
+use Rattle.cx_texts.specs.Grammar.{Field, id, integer, end, ids, integers, spelled, IsProper}
+use Rattle.cx_texts.proofs.Shapes.{Kind, some_ids, some_integers, kind, Move, closes, stays, refuses, move}
+use Rattle.cx_texts.proofs.Remaining.{behind, after_word, remaining, remaining-more, all_passed, ids_stay, integers_stay}
+use Rattle.cx_base.proofs.Elements.{all_append}
+use Rattle.step_text.specs.declared.source.TextRefusal.{TextRefusal}
+use Rattle.step_text.specs.declared.source.TextRefusal.TheVariants.{BadToken, Unterminated, TooBig, TooLong, Memory, Failed}
+use Rattle.step_text.specs.Taking.{AreSmall, Takes, IsFit, HeadFails, MayGoOn, RefusedIn}
+
+words-append : (a b : List Placed) → words (a ++ b) ≡ words a ++ words b
+words-append a b = map-append _ a b
+
+-- ---- what was taken in a row
+
+pub takes_append : (fs gs : List Field) (a b c : List Placed) → Takes fs a b → Takes gs b c → Takes (fs ++ gs) a c
+takes_append fs gs a b c x y = record {
+  front = x.front ++ y.front;
+  split = x.split ∙ ap (λ r. x.front ++ r) y.split ∙ sym (append_assoc x.front y.front c);
+  proper = all_append IsProper fs gs x.proper y.proper;
+  spells = flat_map-append spelled fs gs ∙ (λ i. x.spells i ++ y.spells i) ∙ sym (words-append x.front y.front);
+  within = all_append _ x.front y.front x.within y.within;
+}
+
+spelled_integers : (zs : List ℤ) → flat_map spelled (map integer zs) ≡ map number zs
+spelled_integers [] = refl
+spelled_integers (z ∷ zs) = ap (λ ws. number z ∷ ws) (spelled_integers zs)
+
+spelled_ids : (ns : List ℕ) → flat_map spelled (map id ns) ≡ map number (map pos ns)
+spelled_ids [] = refl
+spelled_ids (n ∷ ns) = ap (λ ws. number (pos n) ∷ ws) (spelled_ids ns)
+
+all_proper : {T : Type 0} (field : T → Field) (ts : List T) → AllByRecursion IsProper (map field ts) → AllByRecursion (λ t. IsProper (field t)) ts
+all_proper field [] h = tt
+all_proper field (t ∷ ts) h = (h.0, all_proper field ts h.1)
+
+-- a list is its members and the zero
+closed : (list : Field) (members : List Field) → (AllByRecursion IsProper members → IsProper list) → spelled list ≡ flat_map spelled members ++ number (pos 0) ∷ []
+    → (a b c : List Placed) → Takes members a b → Takes (end ∷ []) b c → Takes (list ∷ []) a c
+closed list members proper is a b c x y =
+    let t = takes_append members (end ∷ []) a b c x y in
+    record {
+      front = t.front;
+      split = t.split;
+      proper = (proper x.proper, tt);
+      spells = append-nil (spelled list) ∙ is ∙ sym (flat_map-append spelled members (end ∷ [])) ∙ t.spells;
+      within = t.within;
+    }
+
+pub closed_integers : (zs : List ℤ) (a b c : List Placed) → Takes (map integer zs) a b → Takes (end ∷ []) b c → Takes (integers zs ∷ []) a c
+closed_integers zs = closed (integers zs) (map integer zs) (all_proper integer zs) (ap (λ ws. ws ++ number (pos 0) ∷ []) (sym (spelled_integers zs)))
+
+pub closed_ids : (ns : List ℕ) (a b c : List Placed) → Takes (map id ns) a b → Takes (end ∷ []) b c → Takes (ids ns ∷ []) a c
+closed_ids ns = closed (ids ns) (map id ns) (all_proper id ns) (ap (λ ws. ws ++ number (pos 0) ∷ []) (sym (spelled_ids ns)))
+
+pub one_more : {T : Type 0} (field : T → Field) (ts : List T) (t : T) (a b c : List Placed) → Takes (map field ts) a b → Takes (field t ∷ []) b c → Takes (map field (ts ++ t ∷ [])) a c
+one_more field ts t a b c x y = subst (λ fs. Takes fs a c) (sym (map-append field ts (t ∷ []))) (takes_append (map field ts) (field t ∷ []) a b c x y)
+
+-- ---- what may follow
+
+remaining-words : (rows : List (List Kind)) (a b : List Placed) (next : List (List Kind)) → remaining rows (words a) ≡ next → remaining rows (words (a ++ b)) ≡ remaining next (words b)
+remaining-words rows a b next e = ap (remaining rows) (words-append a b) ∙ remaining-more rows (words a) (words b) ∙ ap (λ r. remaining r (words b)) e
+
+-- behind words that fit, what is refused there is refused
+pub refused_behind : (rows next : List (List Kind)) (size : ℕ) (r : TextRefusal) (front a b : List Placed) → a ≡ front ++ b → AreSmall front → remaining rows (words front) ≡ next
+    → RefusedIn next size r b → RefusedIn rows size r a
+refused_behind rows next size (BadToken place) front a b e w k h =
+    let m = remaining-words rows front h.front next k in
+    record {
+      front = front ++ h.front;
+      bad = h.bad;
+      rest = h.rest;
+      split = e ∙ ap (λ x. front ++ x) h.split ∙ sym (append_assoc front h.front (h.bad ∷ h.rest));
+      at = h.at;
+      unfinished = subst MayGoOn (sym m) h.unfinished;
+      within = all_append _ front h.front w h.within;
+      fits_not = ap (flat_map (after_word h.bad.word)) m ∙ h.fits_not;
+    }
+refused_behind rows next size (TooBig place) front a b e w k h =
+    let m = remaining-words rows front h.front next k in
+    record {
+      front = front ++ h.front;
+      big = h.big;
+      rest = h.rest;
+      split = e ∙ ap (λ x. front ++ x) h.split ∙ sym (append_assoc front h.front (h.big ∷ h.rest));
+      at = h.at;
+      within = all_append _ front h.front w h.within;
+      fits = (h.fits.0, h.fits.1, ap (flat_map (after_word h.big.word)) m ∙ h.fits.2);
+      above = h.above;
+    }
+refused_behind rows next size (Unterminated place) front a b e w k h = (
+  h.0,
+  subst MayGoOn (sym (ap (λ x. remaining rows (words x)) e ∙ remaining-words rows front b next k)) h.1,
+  subst (AreSmall) (sym e) (all_append _ front b w h.2),
+)
+refused_behind rows next size TooLong front a b e w k h = absurd h
+refused_behind rows next size Memory front a b e w k h = tt
+refused_behind rows next size Failed front a b e w k h = absurd h
+
+pub refused_then : (fs : List Field) (rows next : List (List Kind)) (size : ℕ) (r : TextRefusal) (a b : List Placed) → Takes fs a b → remaining rows (flat_map spelled fs) ≡ next
+    → RefusedIn next size r b → RefusedIn rows size r a
+refused_then fs rows next size r a b t k h = refused_behind rows next size r t.front a b t.split t.within (ap (remaining rows) (sym t.spells) ∙ k) h
+
+-- ---- the first word
+
+abbrev pub Refuses : Word → List Kind → Type 0
+Refuses w [] = Unit {0}
+Refuses w (k ∷ ks) = move k w ≡ refuses
+
+pub none_after : (w : Word) (rows : List (List Kind)) → AllByRecursion (Refuses w) rows → flat_map (after_word w) rows ≡ []
+none_after w [] h = refl
+none_after w ([] ∷ rows) h = none_after w rows h.1
+none_after w ((k ∷ ks) ∷ rows) h = ap (λ m. behind k ks m ++ flat_map (after_word w) rows) h.0 ∙ none_after w rows h.1
+
+pub some_behind : (k : Kind) (ks : List Kind) (m : Move) (more : List (List Kind)) → IsFit m → (row : List Kind) × (rows : List (List Kind)) × (behind k ks m ++ more ≡ row ∷ rows)
+some_behind k ks (closes f) more h = (ks, more, refl)
+some_behind k ks (stays z) more h = (k ∷ ks, more, refl)
+some_behind k ks refuses more h = absurd h
+
+-- other lists of kinds refuse the first word where the kind does
+abbrev pub Others : Kind → List (List Kind) → List Placed → Type 0
+Others k more a = (p : Placed) (rest : List Placed) → a ≡ p ∷ rest → move k p.word ≡ refuses → AllByRecursion (Refuses p.word) more
+
+pub head_refused : (k : Kind) (ks : List Kind) (more : List (List Kind)) (size : ℕ) (r : TextRefusal) (a : List Placed) → Others k more a → HeadFails k size r a → RefusedIn ((k ∷ ks) ∷ more) size r a
+head_refused k ks more size (BadToken place) a others (p, rest, split, at, bad) = record {
+  front = [];
+  bad = p;
+  rest = rest;
+  split = split;
+  at = at;
+  unfinished = tt;
+  within = tt;
+  fits_not = none_after p.word ((k ∷ ks) ∷ more) (bad, others p rest split bad);
+}
+head_refused k ks more size (TooBig place) a others (p, rest, split, at, fits, above) = record {
+  front = [];
+  big = p;
+  rest = rest;
+  split = split;
+  at = at;
+  within = tt;
+  fits = some_behind k ks (move k p.word) (flat_map (after_word p.word) more) fits;
+  above = above;
+}
+head_refused k ks more size (Unterminated place) a others h = (h.1, subst (λ x. MayGoOn (remaining ((k ∷ ks) ∷ more) (words x))) (sym h.0) tt, subst (AreSmall) (sym h.0) tt)
+head_refused k ks more size TooLong a others h = absurd h
+head_refused k ks more size Memory a others h = absurd h
+head_refused k ks more size Failed a others h = absurd h
+
+pub one_refused : (k : Kind) (ks : List Kind) (size : ℕ) (r : TextRefusal) (a : List Placed) → HeadFails k size r a → RefusedIn ((k ∷ ks) ∷ []) size r a
+one_refused k ks size r a h = head_refused k ks [] size r a (λ p rest e b. tt) h
+
+-- ---- lists
+
+pub ids_refused : (ns : List ℕ) (size : ℕ) (r : TextRefusal) (a b : List Placed) → Takes (map id ns) a b → HeadFails some_ids size r b → (ks : List Kind) → RefusedIn ((some_ids ∷ ks) ∷ []) size r a
+ids_refused ns size r a b t h ks = refused_then (map id ns) ((some_ids ∷ ks) ∷ []) ((some_ids ∷ ks) ∷ []) size r a b t (ap (remaining ((some_ids ∷ ks) ∷ [])) (spelled_ids ns) ∙ ids_stay ns ks (all_proper id ns t.proper)) (one_refused some_ids ks size r b h)
+
+pub integers_refused : (zs : List ℤ) (size : ℕ) (r : TextRefusal) (a b : List Placed) → Takes (map integer zs) a b → HeadFails some_integers size r b → (ks : List Kind) → RefusedIn ((some_integers ∷ ks) ∷ []) size r a
+integers_refused zs size r a b t h ks = refused_then (map integer zs) ((some_integers ∷ ks) ∷ []) ((some_integers ∷ ks) ∷ []) size r a b t (ap (remaining ((some_integers ∷ ks) ∷ [])) (spelled_integers zs) ∙ integers_stay zs ks (all_proper integer zs t.proper)) (one_refused some_integers ks size r b h)
+
+-- ---- fields in a row
+
+-- behind fields that were taken, what is refused there is refused
+pub refused_after : (fs : List Field) (ks : List Kind) (size : ℕ) (r : TextRefusal) (a b : List Placed) → Takes fs a b → RefusedIn (ks ∷ []) size r b → RefusedIn ((map kind fs ++ ks) ∷ []) size r a
+refused_after fs ks size r a b t h = refused_then fs ((map kind fs ++ ks) ∷ []) (ks ∷ []) size r a b t (all_passed fs ks t.proper) h

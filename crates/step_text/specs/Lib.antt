@@ -1,0 +1,12 @@
+pub mod Ahead
+pub mod Heads
+pub mod Left
+pub mod Reading
+pub mod Seen
+pub mod Sinks
+pub mod Sources
+pub mod Spaced
+pub mod Taking
+pub mod Texts
+pub mod Lists
+pub mod ListLaws

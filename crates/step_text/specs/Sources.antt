@@ -1,0 +1,83 @@
+-- What a source of steps answers.
+use Rattle.std.specs.Prelude.{◌≡◌, ◌<◌, ◌≤◌, ℕ, Bool, true, false, List, [], ◌∷◌, Option, Some, None, Result, Ok, Err, ⊤}
+use Rattle.cx_base.specs.Counts.{Rose}
+use Rattle.cx_base.specs.Endings.{Ending, finished, bad_token, too_big, unterminated}
+use Rattle.step_text.specs.declared.source.TextRefusal.{TextRefusal}
+use Rattle.step_text.specs.declared.source.TextRefusal.TheVariants.{BadToken, Unterminated, TooBig, TooLong, Memory, Failed}
+
+-- The relation `leaves` says which steps and which ending a state of the source has left.
+module _ {X S : Type 0} (leaves : X → List S → Ending → Type 0) where
+  -- nothing is left but this ending, before the call and after it
+  abbrev pub EndsAs : Ending → X → X → Type 0
+  EndsAs ending old new = leaves old [] ending × leaves new [] ending
+
+  -- no step, since the text ends so; a text that is too long, want of memory and a fault say nothing of the text
+  abbrev pub GivesNone : TextRefusal → X → X → Type 0
+  GivesNone (BadToken place) old new = EndsAs (bad_token place) old new
+  GivesNone (Unterminated place) old new = EndsAs (unterminated place) old new
+  GivesNone (TooBig place) old new = EndsAs (too_big place) old new
+  GivesNone TooLong old new = ⊤
+  GivesNone Memory old new = ⊤
+  GivesNone Failed old new = ⊤
+
+  -- what was left is the step and what is left now, or nothing but the ending
+  abbrev pub Gives : X → Result (Option S) TextRefusal → X → Type 0
+  Gives old (Ok (Some step)) new = (steps : List S) (ending : Ending) → leaves new steps ending → leaves old (step ∷ steps) ending
+  Gives old (Ok None) new = EndsAs finished old new
+  Gives old (Err refusal) new = GivesNone refusal old new
+
+-- the faults rose where the answer is a fault, and else stand
+abbrev pub FaultsAs : {T : Type 0} → Result T TextRefusal → ℕ → ℕ → Type 0
+FaultsAs (Ok answer) before now = now ≡ before
+FaultsAs (Err Failed) before now = Rose before now
+FaultsAs (Err (BadToken place)) before now = now ≡ before
+FaultsAs (Err (Unterminated place)) before now = now ≡ before
+FaultsAs (Err (TooBig place)) before now = now ≡ before
+FaultsAs (Err TooLong) before now = now ≡ before
+FaultsAs (Err Memory) before now = now ≡ before
+
+-- after want of memory and after a fault the source is not asked again
+abbrev pub SpentAs : {T : Type 0} → Result T TextRefusal → Bool → Type 0
+SpentAs (Ok answer) spent = spent ≡ false
+SpentAs (Err Failed) spent = spent ≡ true
+SpentAs (Err Memory) spent = spent ≡ true
+SpentAs (Err (BadToken place)) spent = spent ≡ false
+SpentAs (Err (Unterminated place)) spent = spent ≡ false
+SpentAs (Err (TooBig place)) spent = spent ≡ false
+SpentAs (Err TooLong) spent = spent ≡ false
+
+-- a refusal of the text lasts; want of memory and a fault of reading do not
+abbrev pub lasting : TextRefusal → Option TextRefusal
+lasting (BadToken place) = Some (BadToken place)
+lasting (Unterminated place) = Some (Unterminated place)
+lasting (TooBig place) = Some (TooBig place)
+lasting TooLong = Some TooLong
+lasting Memory = None
+lasting Failed = None
+
+-- the refusal that a source goes on giving behind an answer
+abbrev pub lasting_of : {T : Type 0} → Result T TextRefusal → Option TextRefusal
+lasting_of (Ok answer) = None
+lasting_of (Err refusal) = lasting refusal
+
+-- a source that is stuck answers its refusal again and stays stuck on it; another one is stuck on its answer, if that lasts
+abbrev pub StuckAs : {T : Type 0} → Option TextRefusal → Result T TextRefusal → Option TextRefusal → Type 0
+StuckAs (Some refusal) answer now = (answer ≡ Err refusal) × (now ≡ Some refusal)
+StuckAs None answer now = now ≡ lasting_of answer
+
+-- a text is too long only where the source tells so, and there its end never comes
+abbrev pub IsTooLongOnly : {S : Type 0} → Type 0 → Result (Option S) TextRefusal → Type 0
+IsTooLongOnly Passes (Ok (Some step)) = ⊤
+IsTooLongOnly Passes (Ok None) = ¬ Passes
+IsTooLongOnly Passes (Err TooLong) = Passes
+IsTooLongOnly Passes (Err (BadToken place)) = ⊤
+IsTooLongOnly Passes (Err (Unterminated place)) = ⊤
+IsTooLongOnly Passes (Err (TooBig place)) = ⊤
+IsTooLongOnly Passes (Err Memory) = ⊤
+IsTooLongOnly Passes (Err Failed) = ⊤
+
+-- a step raises the place, and nothing lowers it
+abbrev pub PlaceRises : {S : Type 0} → Result (Option S) TextRefusal → ℕ → ℕ → Type 0
+PlaceRises (Ok (Some step)) before now = before < now
+PlaceRises (Ok None) before now = before ≤ now
+PlaceRises (Err refusal) before now = before ≤ now

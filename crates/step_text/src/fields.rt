@@ -1,0 +1,203 @@
+//! The fields of a step, taken from a text's tokens.
+ghost use Rattle.std.specs.Prelude.{◌≡◌, ◌<◌, false, length, [], ◌∷◌, pos, IfOk, MatchResult};
+ghost use Rattle.step_text.specs.declared.source.TextRefusal.TheVariants.{Memory};
+ghost use Rattle.cx_texts.specs.Words.{is_digit, placed_words};
+ghost use Rattle.cx_texts.specs.Grammar.{mark, id, integer, end, ids, integers};
+ghost use Rattle.cx_texts.proofs.Shapes.{a_mark, an_id, an_integer, an_end, some_ids, some_integers};
+ghost use Rattle.step_text.specs.Taking.{TakesOne, TakesMember, TakesAll};
+
+use crate::ahead::TokensAhead;
+use crate::source::TextRefusal;
+use crate::token_word::TokenWord;
+use cx_base::{IdList, IntList};
+use std::alloc::Global;
+
+/// An id and literals.
+#[derive(Drop)]
+pub struct Named {
+    pub id: u64,
+    pub literals: IntList,
+}
+
+/// An id.
+pub fn take_id(tokens: &mut TokensAhead, size: usize) -> Result<u64, TextRefusal>
+    ensures { TakesOne id an_id size (placed_words tokens.old) result (placed_words tokens.new) }
+{
+    match tokens.word() {
+        None => Err(TextRefusal::Unterminated(size as u64)),
+        Some(seen) => match seen.word {
+            TokenWord::Positive(number) => {
+                tokens.pass();
+                Ok(number as u64)
+            }
+            TokenWord::BigPositive => Err(TextRefusal::TooBig(seen.place)),
+            _ => Err(TextRefusal::BadToken(seen.place)),
+        },
+    }
+}
+
+/// An integer that is not zero.
+pub fn take_integer(tokens: &mut TokensAhead, size: usize) -> Result<i64, TextRefusal>
+    ensures { TakesOne integer an_integer size (placed_words tokens.old) result (placed_words tokens.new) }
+{
+    match tokens.word() {
+        None => Err(TextRefusal::Unterminated(size as u64)),
+        Some(seen) => match seen.word {
+            TokenWord::Positive(number) => {
+                tokens.pass();
+                Ok(number)
+            }
+            TokenWord::Negative(number) => {
+                tokens.pass();
+                Ok(number)
+            }
+            TokenWord::BigPositive => Err(TextRefusal::TooBig(seen.place)),
+            TokenWord::BigNegative => Err(TextRefusal::TooBig(seen.place)),
+            _ => Err(TextRefusal::BadToken(seen.place)),
+        },
+    }
+}
+
+/// A letter, which is no digit.
+pub fn take_letter(tokens: &mut TokensAhead, size: usize, letter: u8) -> Result<(), TextRefusal>
+    requires { is_digit letter ≡ false }
+    ensures { TakesOne (λ _. mark letter) (a_mark letter) size (placed_words tokens.old) result (placed_words tokens.new) }
+{
+    if tokens.is_letter(letter) {
+        tokens.pass();
+        return Ok(());
+    }
+    match tokens.word() {
+        None => Err(TextRefusal::Unterminated(size as u64)),
+        Some(seen) => Err(TextRefusal::BadToken(seen.place)),
+    }
+}
+
+/// The zero that ends a list.
+pub fn take_end(tokens: &mut TokensAhead, size: usize) -> Result<(), TextRefusal>
+    ensures { TakesOne (λ _. end) an_end size (placed_words tokens.old) result (placed_words tokens.new) }
+{
+    match tokens.word() {
+        None => Err(TextRefusal::Unterminated(size as u64)),
+        Some(seen) => match seen.word {
+            TokenWord::Zero => {
+                tokens.pass();
+                Ok(())
+            }
+            _ => Err(TextRefusal::BadToken(seen.place)),
+        },
+    }
+}
+
+/// A member of a list of integers, or none at the zero that ends it.
+fn take_listed_integer(tokens: &mut TokensAhead, size: usize) -> Result<Option<i64>, TextRefusal>
+    ensures taken { TakesMember integer some_integers size (placed_words tokens.old) result (placed_words tokens.new) }
+    ensures falls { IfOk result (λ _. length tokens.new < length tokens.old) }
+{
+    match tokens.word() {
+        None => Err(TextRefusal::Unterminated(size as u64)),
+        Some(seen) => match seen.word {
+            TokenWord::Zero => {
+                tokens.pass();
+                Ok(None)
+            }
+            TokenWord::Positive(number) => {
+                tokens.pass();
+                Ok(Some(number))
+            }
+            TokenWord::Negative(number) => {
+                tokens.pass();
+                Ok(Some(number))
+            }
+            TokenWord::BigPositive => Err(TextRefusal::TooBig(seen.place)),
+            TokenWord::BigNegative => Err(TextRefusal::TooBig(seen.place)),
+            _ => Err(TextRefusal::BadToken(seen.place)),
+        },
+    }
+}
+
+/// A member of a list of ids, or none at the zero that ends it.
+fn take_listed_id(tokens: &mut TokensAhead, size: usize) -> Result<Option<u64>, TextRefusal>
+    ensures taken { TakesMember id some_ids size (placed_words tokens.old) result (placed_words tokens.new) }
+    ensures falls { IfOk result (λ _. length tokens.new < length tokens.old) }
+{
+    match tokens.word() {
+        None => Err(TextRefusal::Unterminated(size as u64)),
+        Some(seen) => match seen.word {
+            TokenWord::Zero => {
+                tokens.pass();
+                Ok(None)
+            }
+            TokenWord::Positive(number) => {
+                tokens.pass();
+                Ok(Some(number as u64))
+            }
+            TokenWord::BigPositive => Err(TextRefusal::TooBig(seen.place)),
+            _ => Err(TextRefusal::BadToken(seen.place)),
+        },
+    }
+}
+
+/// The members that a list has room for at first.
+const FEW: usize = 16;
+
+/// An empty list with room for a few members.
+fn few<T>(alloc: Global) -> Result<Vec<T>, TextRefusal>
+    ensures { MatchResult result (λ v. v.items ≡ []) (λ r. r ≡ Memory) }
+{
+    match Vec::with_capacity(alloc, FEW) {
+        Ok(members) => Ok(members),
+        Err(_) => Err(TextRefusal::Memory),
+    }
+}
+
+/// Integers that are not zero, up to a zero.
+pub fn take_integers(
+    alloc: Global,
+    tokens: &mut TokensAhead,
+    size: usize,
+) -> Result<IntList, TextRefusal>
+    ensures { TakesAll (λ zs. integers zs ∷ []) (some_integers ∷ []) size (placed_words tokens.old) result (placed_words tokens.new) }
+{
+    let mut members = few(alloc)?;
+    loop {
+        match take_listed_integer(tokens, size) {
+            Ok(Some(integer)) => match members.push(integer) {
+                Ok(()) => {}
+                Err(_) => return Err(TextRefusal::Memory),
+            },
+            Ok(None) => return Ok(IntList::from_vec(members)),
+            Err(refusal) => return Err(refusal),
+        }
+    }
+}
+
+/// Ids up to a zero.
+pub fn take_ids(alloc: Global, tokens: &mut TokensAhead, size: usize) -> Result<IdList, TextRefusal>
+    ensures { TakesAll (λ ns. ids ns ∷ []) (some_ids ∷ []) size (placed_words tokens.old) result (placed_words tokens.new) }
+{
+    let mut members = few(alloc)?;
+    loop {
+        match take_listed_id(tokens, size) {
+            Ok(Some(name)) => match members.push(name) {
+                Ok(()) => {}
+                Err(_) => return Err(TextRefusal::Memory),
+            },
+            Ok(None) => return Ok(IdList::from_vec(members)),
+            Err(refusal) => return Err(refusal),
+        }
+    }
+}
+
+/// An id and literals up to a zero.
+pub fn take_named(
+    alloc: Global,
+    tokens: &mut TokensAhead,
+    size: usize,
+) -> Result<Named, TextRefusal>
+    ensures { TakesAll (λ n. id n.id ∷ integers n.literals ∷ []) (an_id ∷ some_integers ∷ []) size (placed_words tokens.old) result (placed_words tokens.new) }
+{
+    let id = take_id(tokens, size)?;
+    let literals = take_integers(alloc, tokens, size)?;
+    Ok(Named { id, literals })
+}

@@ -1,0 +1,30 @@
+//! Grammars of steps that are read from texts.
+ghost use Rattle.std.specs.Prelude.{◌≢◌, []};
+ghost use Rattle.cx_texts.specs.Words.{placed_words};
+ghost use Rattle.cx_texts.specs.Grammar.{Grammar};
+ghost use Rattle.cx_texts.proofs.Forms.{Forms};
+ghost use Rattle.step_text.specs.Reading.{ReadsStep};
+
+use crate::ahead::TokensAhead;
+use crate::source::TextRefusal;
+use std::alloc::Global;
+
+/// A grammar of steps, and the reader of one step.
+pub trait StepGrammar {
+    type Step;
+
+    // the fields of each step, and the greatest magnitude of a number
+    ghost steps: { Grammar Self.Step };
+
+    /// The step at the head of a text of this size.
+    fn read_step(
+        alloc: Global,
+        tokens: &mut TokensAhead,
+        size: usize,
+    ) -> Result<Self::Step, TextRefusal>
+        requires some { tokens.old ≢ [] }
+        ensures { ReadsStep steps size (placed_words tokens.old) result (placed_words tokens.new) };
+
+    // each step is of one of a few forms, so that all words have one reading
+    ghost forms: { Forms steps };
+}

@@ -1,0 +1,16 @@
+//! Steps from a text, by any grammar; where steps come from and where they go; the pieces of their printed form.
+#![tactic(auto)]
+
+pub mod ahead;
+pub mod fields;
+mod grammar;
+pub mod pieces;
+mod sink;
+mod source;
+mod step_text;
+pub mod token_word;
+
+pub use grammar::StepGrammar;
+pub use sink::{Sink, SinkFault};
+pub use source::{StepSource, TextRefusal};
+pub use step_text::StepText;

@@ -1,0 +1,93 @@
+//! Pieces of a printed line, which printers of steps are made of.
+ghost use Rattle.std.specs.Prelude.{◌≡◌, [], ◌∷◌, ◌++◌, flat_map, decimal};
+ghost use Rattle.cx_desk.specs.Calls.{PutsAll};
+ghost use Rattle.cx_texts.specs.Grammar.{spelled, ids, integers};
+ghost use Rattle.step_text.specs.Spaced.{spaced, spaced_integer, spaced_id};
+
+use cx_desk::{Desk, Failed, Port, put_all, put_pieces};
+use itoa::Buffer;
+
+/// An id between two texts.
+pub fn put_id<D: Desk>(
+    desk: &mut D,
+    port: Port,
+    before: &[u8],
+    name: u64,
+    after: &[u8],
+) -> Result<(), Failed>
+    ensures { PutsAll port (before.now ++ (decimal name ++ after.now)) (D.outside desk.old) result (D.outside desk.new) }
+{
+    let mut buffer = Buffer::new();
+    let text = buffer.format(name);
+    put_pieces(desk, port, &[before, text.as_bytes(), after])
+}
+
+/// An integer behind a space, and a text.
+pub fn put_integer<D: Desk>(
+    desk: &mut D,
+    port: Port,
+    integer: i64,
+    after: &[u8],
+) -> Result<(), Failed>
+    ensures { PutsAll port (spaced_integer integer ++ after.now) (D.outside desk.old) result (D.outside desk.new) }
+{
+    let mut buffer = Buffer::new();
+    let text = buffer.format(integer);
+    put_pieces(desk, port, &[b" ", text.as_bytes(), after])
+}
+
+/// Integers, each behind a space.
+fn put_each_integer<D: Desk>(desk: &mut D, port: Port, members: &[i64]) -> Result<(), Failed>
+    ensures { PutsAll port (flat_map spaced_integer members.now) (D.outside desk.old) result (D.outside desk.new) }
+{
+    for member in members {
+        put_integer(desk, port, *member, b"")?;
+    }
+    Ok(())
+}
+
+/// Ids, each behind a space.
+fn put_each_id<D: Desk>(desk: &mut D, port: Port, members: &[u64]) -> Result<(), Failed>
+    ensures { PutsAll port (flat_map spaced_id members.now) (D.outside desk.old) result (D.outside desk.new) }
+{
+    for member in members {
+        put_id(desk, port, b" ", *member, b"")?;
+    }
+    Ok(())
+}
+
+/// Integers with the zero that ends them, and a text.
+pub fn put_integers<D: Desk>(
+    desk: &mut D,
+    port: Port,
+    members: &[i64],
+    after: &[u8],
+) -> Result<(), Failed>
+    ensures { PutsAll port (spaced (spelled (integers members.now)) ++ after.now) (D.outside desk.old) result (D.outside desk.new) }
+{
+    put_each_integer(desk, port, members)?;
+    put_pieces(desk, port, &[b" 0", after])
+}
+
+/// Ids with the zero that ends them, and a line feed.
+pub fn put_ids<D: Desk>(desk: &mut D, port: Port, members: &[u64]) -> Result<(), Failed>
+    ensures { PutsAll port (spaced (spelled (ids members.now)) ++ 10 ∷ []) (D.outside desk.old) result (D.outside desk.new) }
+{
+    put_each_id(desk, port, members)?;
+    put_all(desk, port, b" 0\n")
+}
+
+/// An id behind a text, its literals, and a text: the head of a step's line.
+pub fn put_head<D: Desk>(
+    desk: &mut D,
+    port: Port,
+    before: &[u8],
+    name: u64,
+    literals: &[i64],
+    after: &[u8],
+) -> Result<(), Failed>
+    ensures { PutsAll port (before.now ++ (decimal name ++ (spaced (spelled (integers literals.now)) ++ after.now))) (D.outside desk.old) result (D.outside desk.new) }
+{
+    put_id(desk, port, before, name, b"")?;
+    put_integers(desk, port, literals, after)
+}

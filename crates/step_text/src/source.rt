@@ -1,0 +1,123 @@
+//! Where steps come from, one after another.
+ghost use Rattle.std.specs.Prelude.{◌≡◌, ◌<◌, ◌≤◌, ◌^◌, ℕ, Bool, true, false, List, Option};
+ghost use Rattle.cx_base.specs.Endings.{Ending};
+ghost use Rattle.step_text.specs.declared.source.TextRefusal.{TextRefusal};
+ghost use Rattle.step_text.specs.Sources.{Gives, PlaceRises, FaultsAs, SpentAs, StuckAs, IsTooLongOnly};
+
+use std::alloc::AllocError;
+use thiserror::Error;
+
+/// Why no step was given.
+#[derive(Clone, Copy, Debug, PartialEq, Eq, Drop, Error)]
+pub enum TextRefusal {
+    /// A token that fits no step; its byte place.
+    #[error("bad token at byte {0}")]
+    BadToken(u64),
+    /// The text ends inside a step; the place is the text's length.
+    #[error("unterminated at byte {0}")]
+    Unterminated(u64),
+    /// A number whose magnitude alone does not fit; its byte place.
+    #[error("too big at byte {0}")]
+    TooBig(u64),
+    /// The text is longer than the source's limit.
+    #[error("the text is too long")]
+    TooLong,
+    /// Want of memory, which says nothing of the text.
+    #[error("out of memory")]
+    Memory,
+    /// A fault of reading, which the source counted.
+    #[error("the read failed")]
+    Failed,
+}
+
+/// A source of steps.
+///
+/// What it has left is a list of steps and an ending, where it tells them. After `BadToken`,
+/// `Unterminated`, `TooBig` or `TooLong` the same answer comes again. It is not asked again after
+/// `Memory` or `Failed`. The place rises at each step, up to a bound below 2^62 that never changes.
+pub trait StepSource {
+    type Step;
+
+    // it has these steps left and then this ending
+    ghost leaves: { Self → List Self.Step → Ending → Type 0 };
+
+    // it tells that its text passes its limit
+    ghost passes_limit: { Self → Type 0 };
+
+    // it has answered `Memory` or `Failed`
+    ghost is_spent: { Self → Bool };
+
+    // the refusal that it goes on giving
+    ghost stuck: { Self → Option TextRefusal };
+
+    ghost faults: { Self → ℕ };
+
+    ghost place_of: { Self → ℕ };
+
+    // no place is greater
+    ghost farthest: { Self → ℕ };
+
+    // what a call leaves as it was
+    ghost keeps: { Self → Self → Type 0 };
+
+    /// The next step, or none at the end of the text between two steps.
+    fn next_step(&mut self) -> Result<Option<Self::Step>, TextRefusal>
+        requires { is_spent self.old ≡ false }
+        ensures step { Gives leaves self.old result self.new }
+        ensures spent { SpentAs result (is_spent self.new) }
+        ensures stuck { StuckAs (stuck self.old) result (stuck self.new) }
+        ensures faults { FaultsAs result (faults self.old) (faults self.new) }
+        ensures long { IsTooLongOnly (passes_limit self.old) result }
+        ensures limit { (passes_limit self.new → passes_limit self.old) × (passes_limit self.old → passes_limit self.new) }
+        ensures rises { PlaceRises result (place_of self.old) (place_of self.new) }
+        ensures within { place_of self.new ≤ farthest self.new }
+        ensures far { farthest self.new < 2 ^ 62 }
+        ensures bound { farthest self.new ≡ farthest self.old }
+        ensures frame { keeps self.old self.new };
+
+    /// How far the source has come: it rises at each step.
+    fn place(&self) -> u64
+        ensures { result ≡ place_of self.now };
+
+    // it always has some steps left and an ending
+    ghost leaves_some: { (a : Self) → (steps : List Self.Step) × (ending : Ending) × leaves a steps ending };
+
+    ghost keeps_itself: { (a : Self) → keeps a a };
+
+    ghost keeps_on: { (a b c : Self) → keeps a b → keeps b c → keeps a c };
+}
+
+/// A lent source is a source.
+impl<S: StepSource> StepSource for &mut S {
+    type Step = S::Step;
+
+    ghost leaves = { λ s. S.leaves s.now };
+
+    ghost passes_limit = { λ s. S.passes_limit s.now };
+
+    ghost is_spent = { λ s. S.is_spent s.now };
+
+    ghost stuck = { λ s. S.stuck s.now };
+
+    ghost faults = { λ s. S.faults s.now };
+
+    ghost place_of = { λ s. S.place_of s.now };
+
+    ghost farthest = { λ s. S.farthest s.now };
+
+    ghost keeps = { λ a b. S.keeps a.now b.now };
+
+    fn next_step(&mut self) -> Result<Option<S::Step>, TextRefusal> {
+        (**self).next_step()
+    }
+
+    fn place(&self) -> u64 {
+        (**self).place()
+    }
+
+    ghost leaves_some = { λ a. S.leaves_some a.now };
+
+    ghost keeps_itself = { λ a. S.keeps_itself a.now };
+
+    ghost keeps_on = { λ a b c h k. S.keeps_on a.now b.now c.now h k };
+}
