@@ -1,0 +1,60 @@
+//! A slot read to its end, with nothing kept.
+ghost use Rattle.std.specs.Prelude.{◌≡◌, ◌<◌, true};
+ghost use Rattle.cx_desk.specs.Outside.{started_in};
+ghost use Rattle.cx_desk.specs.Calls.{PassesOver, Drains};
+ghost use Rattle.cx_desk.specs.declared.draining.DrainErr.TheVariants as drained;
+
+use crate::{Desk, Failed, Slot};
+use thiserror::Error;
+
+/// Why a slot was not read to its end.
+#[derive(Clone, Copy, Debug, PartialEq, Eq, Drop, Error)]
+pub enum DrainErr {
+    /// A read failed, and was counted.
+    #[error("the read failed")]
+    Failed,
+    /// More bytes stand there than were allowed: one more was read. No fault was counted.
+    #[error("the text is too long")]
+    TooLong,
+}
+
+impl From<Failed> for DrainErr {
+    ghost from_gives = { λ _ e. e ≡ drained.Failed };
+
+    fn from(_: Failed) -> Self {
+        DrainErr::Failed
+    }
+}
+
+/// The most bytes that are asked for at once.
+const PIECE: usize = 65_536;
+
+/// Reads at most so many bytes and does not keep them. It says how many came.
+fn pass_over<D: Desk>(desk: &mut D, slot: Slot, most: u64) -> Result<u64, Failed>
+    requires started { started_in slot (D.outside desk.old).started ≡ true }
+    requires some { 0 < most }
+    ensures { PassesOver slot most (D.outside desk.old) result (D.outside desk.new) }
+{
+    let mut piece = [0; PIECE];
+    let room = most.min(PIECE as u64) as usize;
+    let count = desk.read(slot, &mut piece[..room])?;
+    Ok(count as u64)
+}
+
+/// Reads a started slot to its end, where no more than `left` bytes stand, and keeps none. It takes no memory.
+pub fn drain<D: Desk>(desk: &mut D, slot: Slot, left: u64) -> Result<(), DrainErr>
+    requires { started_in slot (D.outside desk.old).started ≡ true }
+    ensures { Drains slot left (D.outside desk.old) result (D.outside desk.new) }
+{
+    let mut room = left;
+    loop {
+        let count = pass_over(desk, slot, room.saturating_add(1))?;
+        if count == 0 {
+            return Ok(());
+        }
+        if count > room {
+            return Err(DrainErr::TooLong);
+        }
+        room -= count;
+    }
+}
