@@ -14,6 +14,10 @@ fn proofs_are_verified(rt: HostRuntime) -> Result<(), Fail> {
         (SQUARE, "5 2 0 1 2 0\n5 d 5 0\n5 2 0 1 2 0\n6 0 5 3 4 0\n"),
         (SQUARE, "9 d 77 0\n5 2 0 1 2 0\n6 0 5 3 4 0\n"),
         (SQUARE, "5 2 0 1 1 2 3 0\n6 0 5 3 4 0\n"),
+        (
+            SQUARE,
+            "9223372036854775807 2 0 1 2 0\n6 0 9223372036854775807 3 4 0\n",
+        ),
         (SQUARE, both),
         (EMPTY, "2 0 1 0\n"),
     ] {
@@ -33,6 +37,7 @@ fn proofs_are_refused_at_a_step(rt: HostRuntime) -> Result<(), Fail> {
         (SQUARE, "", "1 P11"),
         (SQUARE, "5 d 1 0\n5 2 0 1 2 0\n", "2 P4"),
         (SQUARE, "5 2 0 5 0\n", "1 P4"),
+        (SQUARE, "5 2 0 6 0\n6 0 5 0\n", "1 P4"),
         (SQUARE, "5 3 0 1 2 0\n", "1 P1"),
         (SQUARE, "4 2 0 1 2 0\n", "1 P2"),
         (SQUARE, "5 2 0 1 -2 0\n", "1 P3"),
@@ -49,5 +54,31 @@ fn proofs_are_refused_at_a_step(rt: HostRuntime) -> Result<(), Fail> {
         let answer = format!(in rt.alloc(); "c step {step}\ns NOT VERIFIED\n")?;
         expect(&rt, rt.alloc(), "check", formula, proof, 7, answer.as_str())?;
     }
+    Ok(())
+}
+
+#[test]
+fn a_front_of_a_proof_is_refused_where_it_ends(rt: HostRuntime) -> Result<(), Fail> {
+    let proof = "5 2 0 1 2 0\n6 0 5 3 4 0\n";
+    for len in 0..23 {
+        let step = match len {
+            0 => format!(in rt.alloc(); "1 P11")?,
+            11 | 12 => format!(in rt.alloc(); "2 P11")?,
+            1..=10 => format!(in rt.alloc(); "1 P0 at byte {len}")?,
+            _ => format!(in rt.alloc(); "2 P0 at byte {len}")?,
+        };
+        let answer = format!(in rt.alloc(); "c step {step}\ns NOT VERIFIED\n")?;
+        let front = &proof[..len];
+        expect(&rt, rt.alloc(), "check", SQUARE, front, 7, answer.as_str())?;
+    }
+    expect(
+        &rt,
+        rt.alloc(),
+        "check",
+        SQUARE,
+        &proof[..23],
+        0,
+        "s VERIFIED\n",
+    )?;
     Ok(())
 }

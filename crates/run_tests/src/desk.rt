@@ -1,7 +1,8 @@
 //! Runs of the program, each over a desk of its own with two files.
 ghost use Rattle.std.specs.Prelude.{◌≤◌};
+ghost use Rattle.solve_cli.specs.Commands.{Unasked};
 
-use cx_desk::{MemDesk, NamedFile, Port, Rooms};
+use cx_desk::{Desk, MemDesk, NamedFile, Port, Rooms};
 use solve_cli::run_within;
 use std::alloc::{AllocError, Global};
 use std::process::Abort;
@@ -45,6 +46,36 @@ impl Ended {
     pub fn message(&self) -> &[u8] {
         self.desk.written(Port::Message)
     }
+
+    /// Whether a read failed.
+    pub fn failed_to_read(&self) -> bool {
+        self.desk.read_faults() > 0
+    }
+
+    /// Whether a write failed on the Answer or the Proof port.
+    pub fn failed_to_write(&self) -> bool {
+        self.desk.write_faults() > 0
+    }
+
+    /// Whether a write failed on the Message port.
+    pub fn failed_to_tell(&self) -> bool {
+        self.desk.message_faults() > 0
+    }
+}
+
+/// A command line from the program's name on, and the texts of the files `f` and `s`.
+#[derive(Clone, Copy, Drop)]
+pub struct Task<'a> {
+    pub line: &'a [&'a str],
+    pub formula: &'a str,
+    pub second: &'a str,
+}
+
+/// Which calls of the desk fail, by their numbers from 1.
+#[derive(Clone, Copy, Debug, Drop)]
+pub enum Failing {
+    Once(u64),
+    FromThereOn(u64),
 }
 
 /// A file of this text.
@@ -64,6 +95,36 @@ fn words_of(alloc: Global, line: &[&str]) -> Result<Vec<String>, AllocError> {
     Ok(words)
 }
 
+/// The files `f` and `s`.
+fn files_of(alloc: Global, formula: &str, second: &[u8]) -> Result<Vec<NamedFile>, AllocError> {
+    let mut files = Vec::new(alloc);
+    files.push(file(alloc, "f", formula.as_bytes())?)?;
+    files.push(file(alloc, "s", second)?)?;
+    Ok(files)
+}
+
+/// The room of the ports.
+fn rooms_of(bounds: Bounds) -> Rooms {
+    Rooms {
+        answer: bounds.answer,
+        proof: bounds.proof,
+        message: 1000,
+    }
+}
+
+/// The status of a command line over a new desk.
+pub fn status_over<D: Desk>(
+    alloc: Global,
+    line: &[&str],
+    limit: u32,
+    desk: &mut D,
+) -> Result<u8, AllocError>
+    requires { Unasked (D.outside desk.old).asked }
+{
+    let words = words_of(alloc, line)?;
+    Ok(run_within(alloc, words, u64::from(limit), desk).code())
+}
+
 /// Runs a command line, from the program's name on, over the files `f` and `s`.
 pub fn run(
     alloc: Global,
@@ -74,17 +135,28 @@ pub fn run(
 ) -> Result<Ended, AllocError>
     requires { 1 ≤ bounds.piece }
 {
-    let mut files = Vec::new(alloc);
-    files.push(file(alloc, "f", formula.as_bytes())?)?;
-    files.push(file(alloc, "s", second)?)?;
-    let rooms = Rooms {
-        answer: bounds.answer,
-        proof: bounds.proof,
-        message: 1000,
+    let files = files_of(alloc, formula, second)?;
+    let none = Vec::new(alloc);
+    let mut desk = MemDesk::make(alloc, files, rooms_of(bounds), bounds.piece, none)?;
+    let status = status_over(alloc, line, bounds.limit, &mut desk)?;
+    Ok(Ended { status, desk })
+}
+
+/// Runs a task over a desk whose calls fail so.
+pub fn run_failing(alloc: Global, task: Task, failing: Failing) -> Result<Ended, AllocError> {
+    let files = files_of(alloc, task.formula, task.second.as_bytes())?;
+    let rooms = rooms_of(AMPLE);
+    let mut desk = match failing {
+        Failing::Once(call) => {
+            let calls = Vec::from_slice(alloc, &[call])?;
+            MemDesk::make(alloc, files, rooms, AMPLE.piece, calls)?
+        }
+        Failing::FromThereOn(call) => {
+            let passes = call.saturating_sub(1);
+            MemDesk::make_fused(alloc, files, rooms, AMPLE.piece, passes)?
+        }
     };
-    let mut desk = MemDesk::make(alloc, files, rooms, bounds.piece, Vec::new(alloc))?;
-    let words = words_of(alloc, line)?;
-    let status = run_within(alloc, words, u64::from(bounds.limit), &mut desk).code();
+    let status = status_over(alloc, task.line, AMPLE.limit, &mut desk)?;
     Ok(Ended { status, desk })
 }
 

@@ -20,6 +20,7 @@ fn logs_are_refused_at_a_step(rt: HostRuntime) -> Result<(), Fail> {
         (clause, "o 1 1 0\n", "1 E3"),
         (clause, "i 5 1 0 l 9 0\n", "1 E4"),
         (clause, "o 1 1 2 0\na 5 1 0\n", "2 E5"),
+        (clause, "o 1 1 2 0\na 5 1 -1 0\n", "2 E5"),
         (parity, "o x 1 1 2 0\na x 2 1 0 l 1 0\n", "2 E7"),
         (parity, "o x 1 1 2 0\ni 5 1 0 l 1 0\n", "2 E8"),
         ("p cnf 13 0\n", wide, "1 E9"),
@@ -33,6 +34,23 @@ fn logs_are_refused_at_a_step(rt: HostRuntime) -> Result<(), Fail> {
         assert!(rt; refused.answer() == answer.as_bytes(), "{log}: answer");
         assert!(rt; refused.proof().is_empty(), "{log}: proof");
     }
+    Ok(())
+}
+
+#[test]
+fn a_log_may_end_behind_a_tautology(rt: HostRuntime) -> Result<(), Fail> {
+    let line = ["cxsat", "elab", "f", "s", "p"];
+    let log = b"o 1 1 2 0\na 5 1 2 -2 0\n";
+    let open = run(
+        rt.alloc(),
+        "p cnf 2 1\n1 2 0\n",
+        log,
+        line.as_slice(),
+        AMPLE,
+    )?;
+    assert_eq!(rt; open.status, 8);
+    let answer = b"c step 3 E11\ns NOT ELABORATED\n";
+    assert_eq!(rt; open.answer(), answer.as_slice());
     Ok(())
 }
 

@@ -10,6 +10,8 @@ mod desk;
 #[cfg(test)]
 mod elab;
 #[cfg(test)]
+mod faults;
+#[cfg(test)]
 mod flow;
 #[cfg(test)]
 mod formulas;

@@ -4,7 +4,7 @@ ghost use Rattle.cx_desk.specs.Outside.{asked_in, started_in};
 ghost use Rattle.cx_desk.specs.Memory.{outside_of};
 ghost use Rattle.cx_desk.specs.declared.desk.Slot.TheVariants.{Formula};
 
-use cx_desk::{Desk, MemDesk, NamedFile, Port, Rooms, Slot, read_whole};
+use cx_desk::{Desk, MemDesk, NamedFile, Port, RepeatDesk, Rooms, Slot, drain, read_whole};
 use std::alloc::{AllocError, Global};
 use std::process::Abort;
 use std::test::Fail;
@@ -61,6 +61,47 @@ fn a_text_is_read_up_to_the_limit(rt: HostRuntime) -> Result<(), Fail> {
             "{limit}"
         );
     }
+    Ok(())
+}
+
+/// What the draining of the file answers, and the faults.
+fn drained(
+    rt: &impl Abort,
+    alloc: Global,
+    left: u64,
+    failing: &[u64],
+) -> Result<String, AllocError> {
+    let mut desk = desk(alloc, WIDE, 2, failing)?;
+    start(rt, alloc, &mut desk)?;
+    let answer = drain(&mut desk, Slot::Formula, left);
+    format!(in alloc; "{answer:?} {}", desk.read_faults())
+}
+
+#[test]
+fn a_text_is_drained_up_to_the_limit(rt: HostRuntime) -> Result<(), Fail> {
+    let none = [].as_slice();
+    for (left, failing, answer) in [
+        (u64::MAX, none, "Ok(()) 0"),
+        (5, none, "Ok(()) 0"),
+        (4, none, "Err(TooLong) 0"),
+        (0, none, "Err(TooLong) 0"),
+        (5, [3].as_slice(), "Err(Failed) 1"),
+    ] {
+        let drained = drained(&rt, rt.alloc(), left, failing)?;
+        assert!(rt; drained.as_str() == answer, "{left}: {drained}");
+    }
+    Ok(())
+}
+
+#[test]
+fn a_text_without_an_end_is_too_long(rt: HostRuntime) -> Result<(), Fail> {
+    let alloc = rt.alloc();
+    let mut desk = RepeatDesk::make(b'a');
+    let started = desk.start(Slot::Second, String::from_str(alloc, "any")?);
+    assert!(rt; started.is_ok());
+    let read = read_whole(alloc, &mut desk, Slot::Second, 4);
+    assert!(rt; read.is_err());
+    assert_eq!(rt; desk.taken(), 5);
     Ok(())
 }
 
