@@ -198,7 +198,7 @@ impl<P: ParityEngine, L: Sink<Item = LogEvent>> Antecedents for Source<'_, '_, P
 
     ghost holds = { λ a c. IsSourced a.state.now a.rows.now.items c };
 
-    ghost ready = { λ a. SearchStands a.log.now.formula.now a.state.now (P.state a.engine.now) a.rows.now.items (L.events a.log.now.sink.now) };
+    ghost ready = { λ a. SearchStands a.log.now.formula.now a.state.now (P.state a.engine.now) a.rows.now.items (L.items a.log.now.sink.now) };
 
     ghost goes_on = { λ a why b. HasSameLoans a b × GoesOn L.Sink a.log.now why b.log.now };
 
