@@ -13,8 +13,6 @@ use std::alloc::{AllocError, Global};
 use std::marker::Model;
 
 /// Constraints of a formula to be, and the literals of one that is still open.
-///
-/// It has room for 4,294,967,296 constraints; at one more its methods answer as without memory.
 #[derive(Drop)]
 pub struct FormulaBuilder {
     greatest: u32,
@@ -69,10 +67,7 @@ impl FormulaBuilder {
         ensures ok { OnOk result (self.new ≡ record { constraints = self.old.constraints ++ of_kind kind self.old.unfinished ∷ []; unfinished = [] }) }
         ensures err { OnErr result (self.new ≡ self.old) }
     {
-        let count = self.heads.len();
-        let Ok(place) = u32::try_from(count) else {
-            return Err(AllocError);
-        };
+        let place = self.heads.len();
         self.heads.reserve(1)?;
         self.places.push(kind, place)?;
         let len = self.lits.len() - self.closed;

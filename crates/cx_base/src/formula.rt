@@ -137,7 +137,7 @@ impl Formula {
         ensures within { AreWithin self.now.variables result.now }
     {
         let place = self.places.clauses[number - 1];
-        self.lits_at(place as usize)
+        self.lits_at(place)
     }
 
     /// The literals of a parity, by its number among the parities, from 1.
@@ -148,7 +148,7 @@ impl Formula {
         ensures within { AreWithin self.now.variables result.now }
     {
         let place = self.places.parities[number - 1];
-        self.lits_at(place as usize)
+        self.lits_at(place)
     }
 
     /// The least number, from 1, of a constraint that the values do not meet.

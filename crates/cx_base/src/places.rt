@@ -8,8 +8,8 @@ use std::alloc::{AllocError, Global};
 /// The places of the clauses among the constraints, from 0 and in order, and those of the parities.
 #[derive(Drop)]
 pub(crate) struct Places {
-    pub clauses: Vec<u32>,
-    pub parities: Vec<u32>,
+    pub clauses: Vec<usize>,
+    pub parities: Vec<usize>,
 }
 
 impl Places {
@@ -25,7 +25,7 @@ impl Places {
     }
 
     /// One more place, for a constraint of this kind. Without memory the places stay.
-    pub fn push(&mut self, kind: Kind, place: u32) -> Result<(), AllocError>
+    pub fn push(&mut self, kind: Kind, place: usize) -> Result<(), AllocError>
         ensures clauses { OnOk result (self.new.clauses.items ≡ self.old.clauses.items ++ clause_place kind place) }
         ensures parities { OnOk result (self.new.parities.items ≡ self.old.parities.items ++ parity_place kind place) }
         ensures same_clauses { OnErr result (self.new.clauses.items ≡ self.old.clauses.items) }

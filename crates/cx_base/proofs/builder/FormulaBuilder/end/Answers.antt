@@ -16,10 +16,10 @@ invariant_of-self-2 c =
     let after : c.len-self-inside.result ≡ length lits = omega arith in
     let open_len : c.len.result - c.self.inside.closed ≡ length lits - c.self.inside.closed = omega arith in
     let grown : c.push_reserved.new.self.items ≡ heads ++ head ∷ [] = c.push_reserved.ensures.items ∙ ap (λ hs. hs ++ head ∷ []) c.in_ok-reserve.ensures.items in
-    let count : c.len-count.result ≡ length heads = omega arith in (
+    let place : c.len-place.result ≡ length heads = omega arith in (
       ended _ _ (c.len.result - c.self.inside.closed) _ _ _ _ c.args.kind c.self.invariant.0 open_len after grown,
-      places_pushed _ _ _ _ _ _ c.args.kind _ c.in-Ok.place c.self.invariant.1
+      places_pushed _ _ _ _ _ _ c.args.kind _ c.len-place.result c.self.invariant.1
           (ap (λ (d : Draft). d.constraints) (ended_view _ _ (c.len.result - c.self.inside.closed) _ _ _ _ c.args.kind c.self.invariant.0 open_len after grown))
-          (omega (arith, c.in-Ok.ensures, count, length-map heads (stored lits)))
+          (omega (arith, place, length-map heads (stored lits)))
           c.in_ok-push.ensures.clauses c.in_ok-push.ensures.parities,
     )
