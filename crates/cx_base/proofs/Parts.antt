@@ -1,5 +1,6 @@
 -- The clauses and the parities of one constraint more.
-use Rattle.std.proofs.Common.{◌≡◌, ◌∙◌, List, [], ◌∷◌, ◌++◌, append-nil}
+use Rattle.std.proofs.Common.{◌≡◌, refl, ap, ◌∙◌, ℕ, zero, suc, ◌+◌, ◌-◌, ◌≤◌, List, [], ◌∷◌, ◌++◌, length, take, append-nil, Some, arith}
+use Rattle.std.specs.Prelude.{slice_get}
 use Rattle.std.proofs.lemmas.List.Elements.{filter_map-append}
 use Rattle.cx_base.specs.Literals.{Literal}
 use Rattle.cx_base.specs.Problem.{clause_in, parity_in, clauses_of, parities_of}
@@ -21,3 +22,20 @@ parities_of-clause cs lits = filter_map-append parity_in cs (Clause lits ∷ [])
 pub parities_of-parity : (cs : List Constraint) (lits : List Literal) → parities_of (cs ++ Parity lits ∷ []) ≡ parities_of cs ++ lits ∷ []
 unfolding parities_of
 parities_of-parity cs lits = filter_map-append parity_in cs (Parity lits ∷ [])
+
+-- ---- the constraints of a kind by their numbers, from 1
+
+taken_at : {X : Type 0} (xs : List X) (k : ℕ) (x : X) → slice_get xs k ≡ Some x → take (suc k) xs ≡ take k xs ++ x ∷ []
+taken_at [] k x e = cc
+taken_at (y ∷ xs) zero x e = let same : y ≡ x = cc in ap (λ z. z ∷ []) same
+taken_at (y ∷ xs) (suc k) x e = ap (λ zs. y ∷ zs) (taken_at xs k x e)
+
+pub one_numbered_more : {X : Type 0} (xs : List X) (number : ℕ) (x : X) → 1 ≤ number → slice_get xs (number - 1) ≡ Some x → take number xs ≡ take (number - 1) xs ++ x ∷ []
+one_numbered_more xs number x low e = (let next : number ≡ suc (number - 1) = omega arith in ap (λ n. take n xs) next) ∙ taken_at xs (number - 1) x e
+
+-- none is of both kinds
+pub both_kinds : (cs : List Constraint) → length (clauses_of cs) + length (parities_of cs) ≡ length cs
+unfolding clauses_of parities_of
+both_kinds [] = refl
+both_kinds (Clause lits ∷ cs) = let rest = both_kinds cs in omega (arith, rest)
+both_kinds (Parity lits ∷ cs) = let rest = both_kinds cs in omega (arith, rest)
