@@ -15,7 +15,7 @@ use Rattle.xor_recover.specs.Rows.{Row, rows_if, rows_of, gathered, row}
 use Rattle.xor_recover.specs.Groups.{SaysGroup, group_of, groups_of, and_more}
 use Rattle.xor_recover.proofs.Normal.{gathered_is_normal}
 use Rattle.xor_recover.proofs.Numbers.{AllWithin, in_rows_if}
-use Rattle.xor_recover.proofs.Sound.{Says, FoundAll, each_find}
+use Rattle.xor_recover.proofs.Sound.{FoundAll, each_find}
 
 -- ---- at most as many finds as clauses
 

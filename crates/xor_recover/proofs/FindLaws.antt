@@ -1,11 +1,10 @@
 -- What a find says, from its group.
 use Rattle.std.proofs.Common.{◌≡◌, ◌≢◌, refl, sym, ap, ◌∙◌, subst, ℕ, ◌+◌, ◌≤◌, Bool, true, false, cond, not, ◌&&◌, ◌||◌, nat_eq, List, [], ◌∷◌, length, map, arith, true≢false, inl, inr, Some}
-use Rattle.std.specs.List.{AllByRecursion, Contains, list_any}
+use Rattle.std.specs.List.{Contains, list_any}
 use Rattle.std.specs.Ordering.{nat_cmp}
 use Rattle.std.specs.Cmp.{nat_cmp_total, tied_itself, nat_eq_equiv}
 use Rattle.std.specs.FinSet as set
-use Rattle.std.specs.declared.cmp.Ordering.{Ordering}
-use Rattle.std.specs.declared.cmp.Ordering.TheVariants.{Less, Equal}
+use Rattle.std.specs.declared.cmp.Ordering.TheVariants.{Equal}
 use Rattle.std.proofs.lemmas.Bool.{or_parts, or_cases, and_from, and_parts, cases_Bool, eq-eqb}
 use Rattle.std.proofs.lemmas.List.{length-map}
 use Rattle.cx_base.specs.Literals.{Literal, differ, positive_of, same_literal}
@@ -25,12 +24,13 @@ use Rattle.parity_engine.proofs.Literals.{right_parity}
 use Rattle.gf2_matrix.proofs.Written.{variables_written}
 use Rattle.xor_recover.specs.Finds.{first_with}
 use Rattle.xor_recover.specs.Rows.{Row, row, rows_of, inserted, shape_cmp, IsProper}
-use Rattle.xor_recover.specs.Groups.{AreFirsts, needed, same_key}
+use Rattle.xor_recover.specs.Groups.{needed, same_key}
 use Rattle.xor_recover.proofs.Normal.{Rising, by_insertion, rises_on, has_inserted, unique, fits_in}
 use Rattle.cx_semantics.proofs.SameSets.{HaveSame-by_test}
-use Rattle.xor_recover.proofs.Firsts.{shape_total, contains_cases}
-use Rattle.xor_recover.proofs.Keys.{Sorted, AllProper, sorted_head, sorted_tail, variables_same, right_same, signs_sum, whole_of_key}
+use Rattle.xor_recover.proofs.Firsts.{shape_total}
+use Rattle.xor_recover.proofs.Keys.{AllProper, variables_same, right_same, signs_sum, whole_of_key}
 use Rattle.xor_recover.proofs.GroupLaws.{IsGroup, contained, head_proper}
+use Rattle.xor_recover.proofs.Kept.{AreKept}
 use Rattle.xor_recover.proofs.Patterns.{same_signs, same_is}
 use Rattle.xor_recover.proofs.Numbers.{AllWithin, negatives, from_parts, first_is, test_same}
 
@@ -238,33 +238,11 @@ first_same a b n (d ∷ C) same = (λ i. cond (same_tests i) (Some n) (first_sam
     same_tests : same_literals a d ≡ same_literals b d
     same_tests = both _ _ (along a b same) (along b a (λ q. sym (same q)))
 
-strict_one : (zs : List Row) (a b : Row) → Sorted zs → Contains zs a → Contains zs b → shape_cmp a b ≡ Equal → a ≡ b
-strict_one [] a b s ca cb e = absurd (let lt = ca.1 in omega arith)
-strict_one (z ∷ zs) a b s ca cb e = elim (contains_cases z zs a ca) [
-  | inl za ↦ elim (contains_cases z zs b cb) [
-    | inl zb ↦ sym za ∙ zb
-    | inr inb ↦ absurd (clash (shape_cmp z b) (contained (λ y. shape_cmp z y ≡ Less) zs b (sorted_head z zs s) inb) (ap (λ (x : Row). shape_cmp x b) za ∙ e))
-  ]
-  | inr ina ↦ elim (contains_cases z zs b cb) [
-    | inl zb ↦ absurd (clash (shape_cmp z a) (contained (λ y. shape_cmp z y ≡ Less) zs a (sorted_head z zs s) ina) (ap (λ (x : Row). shape_cmp x a) zb ∙ Rattle.std.specs.Cmp.tied_back shape_total a b e))
-    | inr inb ↦ strict_one zs a b (sorted_tail z zs s) ina inb e
-  ]
-]
-  where
-    clash : (o : Ordering) → o ≡ Less → o ≡ Equal → ⊥
-    clash o h g = true≢false (sym (ap Rattle.std.specs.Ordering.is_lt h) ∙ ap Rattle.std.specs.Ordering.is_lt g)
-
-shape_at : (y : Row) (lits : List Literal) (k n : ℕ) → shape_cmp y (row lits k) ≡ Equal → shape_cmp y (row lits n) ≡ Equal
-shape_at y lits k n e = e
-
 -- a kept row has the least number of its literals
-pub least_is : (C : List (List Literal)) (kept : List Row) → AllWithin C → AreFirsts (rows_of 1 C) kept → (z : Row) → Contains kept z → (p : IsProper z) → first_with p.lits 1 C ≡ Some z.number
+pub least_is : (C : List (List Literal)) (kept : List Row) → AllWithin C → AreKept (rows_of 1 C) kept → (z : Row) → Contains kept z → (p : IsProper z) → first_with p.lits 1 C ≡ Some z.number
 least_is C kept within firsts z c p =
     first_is C 1 p.lits z.number within p.rises p.two p.six (subst (Contains (rows_of 1 C)) (sym p.is) (firsts.from z c))
-    (λ k h.
-    let y = firsts.each (row p.lits k) h in
-    let same : y.0 ≡ z = strict_one kept y.0 z firsts.sorted y.1 c (subst (λ (x : Row). shape_cmp y.0 x ≡ Equal) p.is (shape_at y.0 p.lits k z.number y.2)) in
-    (let low = y.3 in let e = ap (λ (r : Row). r.number) same in omega arith))
+    (λ k h. firsts.least z (row p.lits k) c h (subst (λ (x : Row). shape_cmp x (row p.lits k) ≡ Equal) p.is (tied_itself shape_total (row p.lits k))))
 
 in_signs : (g : List Row) (p : List Bool) → list_any (same_signs p) (map (λ (z : Row). z.signs) g) ≡ true → (z : Row) × Contains g z × (z.signs ≡ p)
 in_signs [] p h = absurd (true≢false (sym h))
@@ -280,7 +258,7 @@ pub rising_of : (z : Row) → IsProper z → AreRising 1 MAX_VARIABLE z.variable
 rising_of z p = subst (λ (vs : List ℕ). AreRising 1 MAX_VARIABLE vs) (lits_of z p).0 p.rises
 
 -- each set of literals that excludes a wrong assignment has a row in the group
-pub row_for : (C : List (List Literal)) (kept g : List Row) → AllWithin C → AreFirsts (rows_of 1 C) kept → AllProper kept → (h : IsGroup kept g) → (lits : List Literal)
+pub row_for : (C : List (List Literal)) (kept g : List Row) → AllWithin C → AreKept (rows_of 1 C) kept → AllProper kept → (h : IsGroup kept g) → (lits : List Literal)
     → HasOneOfEach (set_of h.head.variables) lits → excluded_sum lits ≢ h.head.right → (z : Row) × Contains g z × (first_with lits 1 C ≡ Some z.number)
 row_for C kept g within firsts all h lits each wrong =
     let x = h.head in

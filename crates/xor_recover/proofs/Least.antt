@@ -21,7 +21,8 @@ use Rattle.gf2_matrix.proofs.Written.{variables_written}
 use Rattle.xor_recover.specs.declared.found.Found.{Found}
 use Rattle.xor_recover.specs.Finds.{first_with, IsExcluding, HasLeastNumbers, find_cmp}
 use Rattle.xor_recover.specs.Rows.{Row, row, rows_of, IsProper, key_cmp, shape_cmp}
-use Rattle.xor_recover.specs.Groups.{AreFirsts, groups_of}
+use Rattle.xor_recover.specs.Groups.{groups_of}
+use Rattle.xor_recover.proofs.Kept.{AreKept}
 use Rattle.xor_recover.proofs.Normal.{unique}
 use Rattle.xor_recover.proofs.Numbers.{AllWithin}
 use Rattle.xor_recover.proofs.Firsts.{shape_total}
@@ -93,7 +94,7 @@ one_set a b n m (d ∷ C) e f = go (same_literals a d) (same_literals b d) refl 
     go false true s t rest e f = absurd (let x : n ≡ m = some_is f in let y = first_low a (n + 1) m C e in omega arith)
     go false false s t rest e f = rest e f
 
-apart_numbers : (C : List (List Literal)) (kept : List Row) → AllWithin C → AreFirsts (rows_of 1 C) kept → AllProper kept → (z w : Row) → Contains kept z → Contains kept w → shape_cmp z w ≡ Less → z.number ≡ w.number → ⊥
+apart_numbers : (C : List (List Literal)) (kept : List Row) → AllWithin C → AreKept (rows_of 1 C) kept → AllProper kept → (z w : Row) → Contains kept z → Contains kept w → shape_cmp z w ≡ Less → z.number ≡ w.number → ⊥
 apart_numbers C kept within firsts all z w cz cw less same =
     let pz = contained IsProper kept z all cz in
     let pw = contained IsProper kept w all cw in
@@ -102,7 +103,7 @@ apart_numbers C kept within firsts all z w cz cw less same =
     let rows : z ≡ w = sym pz.is ∙ (λ i. row (lits i) (same i)) ∙ pw.is in
     true≢false (sym (ap is_lt less) ∙ ap is_lt (ap (λ (x : Row). shape_cmp z x) (sym rows) ∙ tied_itself shape_total z))
 
-numbers_apart : (C : List (List Literal)) (kept : List Row) → AllWithin C → AreFirsts (rows_of 1 C) kept → AllProper kept → (g : List Row) → Sorted g → AllByRecursion (Contains kept) g → IsDistinct eqb (map (λ (x : Row). x.number) g)
+numbers_apart : (C : List (List Literal)) (kept : List Row) → AllWithin C → AreKept (rows_of 1 C) kept → AllProper kept → (g : List Row) → Sorted g → AllByRecursion (Contains kept) g → IsDistinct eqb (map (λ (x : Row). x.number) g)
 unfolding IsDistinct
 numbers_apart C kept within firsts all [] s inside = tt
 numbers_apart C kept within firsts all (z ∷ g) s inside = (each g (sorted_head z g s) inside.1, numbers_apart C kept within firsts all g (sorted_tail z g s) inside.1)
@@ -122,7 +123,7 @@ all_numbers : (P : ℕ → Type 0) (g : List Row) → ((z : Row) → Contains g 
 all_numbers P [] h = tt
 all_numbers P (x ∷ g) h = (h x (in_head x g), all_numbers P g (λ z c. h z (in_tail x g z c)))
 
-pub least : (formula : Problem) (kept g : List Row) (find : Found) → AllWithin (clauses_of formula.constraints) → AreFirsts (rows_of 1 (clauses_of formula.constraints)) kept → Says kept g find → HasLeastNumbers formula find
+pub least : (formula : Problem) (kept g : List Row) (find : Found) → AllWithin (clauses_of formula.constraints) → AreKept (rows_of 1 (clauses_of formula.constraints)) kept → Says kept g find → HasLeastNumbers formula find
 least formula kept g find within firsts s =
     let C = clauses_of formula.constraints in
     let all = kept_proper C kept within firsts in

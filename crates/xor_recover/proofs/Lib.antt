@@ -7,6 +7,9 @@ pub mod Numbers
 pub mod Keys
 pub mod GroupLaws
 pub mod FindLaws
+pub mod EndsLaws
+pub mod Marked
+pub mod Kept
 pub mod Within
 pub mod Sound
 pub mod Bounds

@@ -36,7 +36,7 @@ from_parts (x ∷ a) (y ∷ b) e f =
     let same_sign : x.negative ≡ y.negative = same_head x.negative y.negative (negatives a) (negatives b) f in
     (λ i. record { variable = same_variable i; negative = same_sign i } ∷ from_parts a b (same_tail x.variable y.variable (variables a) (variables b) e) (same_tail x.negative y.negative (negatives a) (negatives b) f) i)
 
-row_says : (a b : List Literal) (m n : ℕ) → row a m ≡ row b n → a ≡ b
+pub row_says : (a b : List Literal) (m n : ℕ) → row a m ≡ row b n → a ≡ b
 row_says a b m n e = from_parts a b (ap (λ (r : Row). r.variables) e) (ap (λ (r : Row). r.signs) e)
 
 pub in_rows_if : (o : Option (List Literal)) (n : ℕ) (x : Row) → Contains (rows_if o n) x → (ms : List Literal) × (o ≡ Some ms) × (2 ≤ length ms) × (row ms n ≡ x)

@@ -16,11 +16,12 @@ use Rattle.parity_engine.specs.Written.{literals_with, IsWritten}
 use Rattle.xor_recover.specs.declared.found.Found.{Found}
 use Rattle.xor_recover.specs.Finds.{first_with}
 use Rattle.xor_recover.specs.Rows.{Row, rows_of}
-use Rattle.xor_recover.specs.Groups.{AreFirsts, SaysGroup, group_of, groups_of, and_more}
+use Rattle.xor_recover.specs.Groups.{SaysGroup, group_of, groups_of, and_more}
 use Rattle.xor_recover.proofs.Numbers.{AllWithin}
 use Rattle.xor_recover.proofs.Keys.{variables_long}
 use Rattle.xor_recover.proofs.GroupLaws.{IsGroup, groups_are, head_proper}
 use Rattle.xor_recover.proofs.FindLaws.{row_for, written, right_is, set_is, len_is, rising_of}
+use Rattle.xor_recover.proofs.Kept.{AreKept}
 use Rattle.xor_recover.proofs.Within.{kept_proper, formula_within}
 
 any_first : (lits : List Literal) (n m : ℕ) (C : List (List Literal)) → first_with lits n C ≡ Some m → list_any (same_literals lits) C ≡ true
@@ -51,7 +52,7 @@ says_head kept g find h s = record {
   rising = s.rising;
 }
 
-pub recovered : (formula : Problem) (kept g : List Row) (find : Found) → AllWithin (clauses_of formula.constraints) → AreFirsts (rows_of 1 (clauses_of formula.constraints)) kept → Says kept g find → Recovered formula (normal_form find.parity)
+pub recovered : (formula : Problem) (kept g : List Row) (find : Found) → AllWithin (clauses_of formula.constraints) → AreKept (rows_of 1 (clauses_of formula.constraints)) kept → Says kept g find → Recovered formula (normal_form find.parity)
 recovered formula kept g find within firsts s =
     let all = kept_proper (clauses_of formula.constraints) kept within firsts in
     let x = s.group.head in
@@ -140,20 +141,19 @@ each_find kept P gs finds each h = All-from_recursion P finds (go gs finds h)
 pub record FoundAll (formula : Problem) (finds : List Found) : Type 0 where
   pub kept : List Row
   pub within : AllWithin (clauses_of formula.constraints)
-  pub firsts : AreFirsts (rows_of 1 (clauses_of formula.constraints)) kept
+  pub firsts : AreKept (rows_of 1 (clauses_of formula.constraints)) kept
   pub says : AllZip (Says kept) (groups_of kept) finds
 
-pub found_all : (formula : Problem) (old kept : List Row) (start : ℕ) (finds result : List Found) → IsWithinVariables formula.variables formula.constraints → old ≡ rows_of 1 (clauses_of formula.constraints) → AreFirsts old kept
+pub found_all : (formula : Problem) (kept : List Row) (start : ℕ) (finds result : List Found) → IsWithinVariables formula.variables formula.constraints → AreKept (rows_of 1 (clauses_of formula.constraints)) kept
     → length kept ≤ start → Progress kept start finds → result ≡ finds → FoundAll formula result
-found_all formula old kept start finds result within read firsts le progress is =
+found_all formula kept start finds result within firsts le progress is =
     let inside = formula_within formula.variables formula.constraints within in
-    let firsts' = subst (λ (rs : List Row). AreFirsts rs kept) read firsts in
-    let all = kept_proper (clauses_of formula.constraints) kept inside firsts' in
+    let all = kept_proper (clauses_of formula.constraints) kept inside firsts in
     subst (FoundAll formula) (sym is) (record {
       kept = kept;
       within = inside;
-      firsts = firsts';
-      says = all_say kept (groups_of kept) finds (groups_are kept firsts'.sorted all) (ends kept start finds le progress);
+      firsts = firsts;
+      says = all_say kept (groups_of kept) finds (groups_are kept firsts.sorted all) (ends kept start finds le progress);
     })
 
 pub all_sound : (formula : Problem) (finds : List Found) → FoundAll formula finds → All (λ (f : Found). Recovered formula (normal_form f.parity)) finds

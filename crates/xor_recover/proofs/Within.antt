@@ -13,7 +13,8 @@ use Rattle.std.proofs.lemmas.List.{drop-map}
 use Rattle.std.proofs.lemmas.List.Elements.{All-from_recursion}
 use Rattle.xor_recover.specs.declared.entry.Entry.{Entry}
 use Rattle.xor_recover.specs.Entries.{row_of}
-use Rattle.xor_recover.specs.Groups.{AreFirsts, group_of, needed}
+use Rattle.xor_recover.specs.Groups.{group_of, needed}
+use Rattle.xor_recover.proofs.Kept.{AreKept}
 use Rattle.xor_recover.proofs.GroupLaws.{group_first}
 use Rattle.xor_recover.proofs.Numbers.{AllWithin, proper}
 
@@ -34,7 +35,7 @@ pub all_by_contains : (P : Row → Type 0) (xs : List Row) → ((x : Row) → Co
 all_by_contains P [] h = tt
 all_by_contains P (x ∷ xs) h = (h x (in_head x xs), all_by_contains P xs (λ y c. h y (in_tail x xs y c)))
 
-pub kept_proper : (C : List (List Literal)) (kept : List Row) → AllWithin C → AreFirsts (rows_of 1 C) kept → AllByRecursion IsProper kept
+pub kept_proper : (C : List (List Literal)) (kept : List Row) → AllWithin C → AreKept (rows_of 1 C) kept → AllByRecursion IsProper kept
 kept_proper C kept within firsts = all_by_contains IsProper kept (λ x c. (proper C 1 within x (firsts.from x c)).0)
 
 pub all_entries : (es : List Entry) → AllByRecursion IsProper (map row_of es) → All (λ (e : Entry). IsProper (row_of e)) es

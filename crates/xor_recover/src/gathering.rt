@@ -1,10 +1,12 @@
-//! The entries of a formula's clauses.
+//! The entries of those clauses of a formula that a parity may need.
 ghost use Rattle.std.specs.Prelude.{◌≡◌, ◌≤◌, Some, None, map, IfOk, OnOk, length, ◌++◌, []};
 ghost use Rattle.std.specs.Bool.{MatchBool, OnTrue};
 ghost use Rattle.cx_base.specs.Problem.{clauses_of};
 ghost use Rattle.xor_recover.specs.Rows.{placed, gathered, rows_if, rows_of};
 ghost use Rattle.xor_recover.specs.Entries.{row_of, IsPosition};
+ghost use Rattle.xor_recover.specs.Ends.{AreCandidates};
 
+use crate::ends::{has_opposite, marks};
 use crate::entry::{Entry, WIDEST};
 use cx_base::{ConstraintRef, Formula, Lit};
 use std::alloc::{AllocError, Global};
@@ -87,10 +89,13 @@ fn add(
     Ok(())
 }
 
-/// The entries of the formula's clauses of two to six variables.
+/// The entries of the formula's clauses of two to six variables that a parity may need.
 pub(crate) fn entries(alloc: Global, formula: &Formula) -> Result<Vec<Entry>, AllocError>
-    ensures { IfOk result (λ v. map row_of v.items ≡ rows_of 1 (clauses_of formula.now.constraints)) }
+    ensures { IfOk result (λ v. AreCandidates (rows_of 1 (clauses_of formula.now.constraints)) (map row_of v.items)) }
 {
+    // that variables are within the range, which this call tells the proof
+    let _vars = formula.vars();
+    let marks = marks(alloc, formula)?;
     let mut entries = Vec::new(alloc);
     let mut normal = Vec::with_capacity(alloc, WIDEST)?;
     let mut number = 0;
@@ -98,7 +103,9 @@ pub(crate) fn entries(alloc: Global, formula: &Formula) -> Result<Vec<Entry>, Al
         match formula.item(place) {
             ConstraintRef::Clause(lits) => {
                 number += 1;
-                add(&mut entries, &mut normal, lits, number)?;
+                if has_opposite(&marks, lits) {
+                    add(&mut entries, &mut normal, lits, number)?;
+                }
             }
             ConstraintRef::Parity(_) => {}
         }

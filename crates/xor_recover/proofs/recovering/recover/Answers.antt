@@ -5,7 +5,8 @@ use Rattle.cx_base.specs.Problem.{clauses_of}
 use Rattle.xor_recover.specs.declared.entry.Entry.{Entry}
 use Rattle.xor_recover.specs.Entries.{row_of}
 use Rattle.xor_recover.specs.Rows.{Row, IsProper}
-use Rattle.xor_recover.specs.Groups.{AreFirsts, IsFoundAt}
+use Rattle.xor_recover.specs.Groups.{IsFoundAt}
+use Rattle.xor_recover.proofs.Kept.{are_kept}
 use Rattle.xor_recover.proofs.Within.{all_entries, kept_proper, formula_within}
 use Rattle.xor_recover.proofs.Sound.{found_all, all_sound, all_written, stays, grows, ends, Progress}
 use Rattle.xor_recover.proofs.Least.{all_in_order, all_least}
@@ -19,7 +20,7 @@ pub found_at-requires-clause-proper : goal.found_at-requires-clause-proper
 found_at-requires-clause-proper c =
     let cs = c.args.formula.now.constraints in
     let kept = map row_of c.sort_and_keep_first.new.entries.items in
-    let firsts = subst (λ (rs : List Row). AreFirsts rs kept) c.in_ok-entries.ensures c.sort_and_keep_first.ensures.firsts in
+    let firsts = are_kept _ _ kept c.in_ok-entries.ensures c.sort_and_keep_first.ensures.firsts in
     subst (λ (es : List Entry). All (λ (e : Entry). IsProper (row_of e)) es) (sym c.deref.ensures.value)
     (all_entries c.sort_and_keep_first.new.entries.items (kept_proper (clauses_of cs) kept (formula_within _ cs c.vars-vars.ensures.within) firsts))
 
@@ -28,14 +29,14 @@ returns-clause-sound c =
     let rows = map row_of c.sort_and_keep_first.new.entries.items in
     let long : length rows ≡ length c.sort_and_keep_first.new.entries.items = length-map c.sort_and_keep_first.new.entries.items row_of in
     let le : length rows ≤ c.loop-start.start = omega arith in
-    all_sound c.args.formula.now c.from_vec.result (found_all c.args.formula.now _ rows c.loop-start.start _ c.from_vec.result c.vars-vars.ensures.within c.in_ok-entries.ensures c.sort_and_keep_first.ensures.firsts le c.loop-start.invariant c.from_vec.ensures)
+    all_sound c.args.formula.now c.from_vec.result (found_all c.args.formula.now rows c.loop-start.start _ c.from_vec.result c.vars-vars.ensures.within (are_kept _ _ rows c.in_ok-entries.ensures c.sort_and_keep_first.ensures.firsts) le c.loop-start.invariant c.from_vec.ensures)
 
 pub returns-clause-written : goal.returns-clause-written
 returns-clause-written c =
     let rows = map row_of c.sort_and_keep_first.new.entries.items in
     let long : length rows ≡ length c.sort_and_keep_first.new.entries.items = length-map c.sort_and_keep_first.new.entries.items row_of in
     let le : length rows ≤ c.loop-start.start = omega arith in
-    all_written c.args.formula.now c.from_vec.result (found_all c.args.formula.now _ rows c.loop-start.start _ c.from_vec.result c.vars-vars.ensures.within c.in_ok-entries.ensures c.sort_and_keep_first.ensures.firsts le c.loop-start.invariant c.from_vec.ensures)
+    all_written c.args.formula.now c.from_vec.result (found_all c.args.formula.now rows c.loop-start.start _ c.from_vec.result c.vars-vars.ensures.within (are_kept _ _ rows c.in_ok-entries.ensures c.sort_and_keep_first.ensures.firsts) le c.loop-start.invariant c.from_vec.ensures)
 
 pub loop-start-preserved : goal.loop-start-preserved
 loop-start-preserved c =
@@ -60,28 +61,28 @@ returns-clause-in_order c =
     let rows = map row_of c.sort_and_keep_first.new.entries.items in
     let long : length rows ≡ length c.sort_and_keep_first.new.entries.items = length-map c.sort_and_keep_first.new.entries.items row_of in
     let le : length rows ≤ c.loop-start.start = omega arith in
-    all_in_order c.args.formula.now c.from_vec.result (found_all c.args.formula.now _ rows c.loop-start.start _ c.from_vec.result c.vars-vars.ensures.within c.in_ok-entries.ensures c.sort_and_keep_first.ensures.firsts le c.loop-start.invariant c.from_vec.ensures)
+    all_in_order c.args.formula.now c.from_vec.result (found_all c.args.formula.now rows c.loop-start.start _ c.from_vec.result c.vars-vars.ensures.within (are_kept _ _ rows c.in_ok-entries.ensures c.sort_and_keep_first.ensures.firsts) le c.loop-start.invariant c.from_vec.ensures)
 
 pub returns-clause-least : goal.returns-clause-least
 returns-clause-least c =
     let rows = map row_of c.sort_and_keep_first.new.entries.items in
     let long : length rows ≡ length c.sort_and_keep_first.new.entries.items = length-map c.sort_and_keep_first.new.entries.items row_of in
     let le : length rows ≤ c.loop-start.start = omega arith in
-    all_least c.args.formula.now c.from_vec.result (found_all c.args.formula.now _ rows c.loop-start.start _ c.from_vec.result c.vars-vars.ensures.within c.in_ok-entries.ensures c.sort_and_keep_first.ensures.firsts le c.loop-start.invariant c.from_vec.ensures)
+    all_least c.args.formula.now c.from_vec.result (found_all c.args.formula.now rows c.loop-start.start _ c.from_vec.result c.vars-vars.ensures.within (are_kept _ _ rows c.in_ok-entries.ensures c.sort_and_keep_first.ensures.firsts) le c.loop-start.invariant c.from_vec.ensures)
 
 pub returns-clause-complete : goal.returns-clause-complete
 returns-clause-complete c =
     let rows = map row_of c.sort_and_keep_first.new.entries.items in
     let long : length rows ≡ length c.sort_and_keep_first.new.entries.items = length-map c.sort_and_keep_first.new.entries.items row_of in
     let le : length rows ≤ c.loop-start.start = omega arith in
-    all_complete c.args.formula.now c.from_vec.result (found_all c.args.formula.now _ rows c.loop-start.start _ c.from_vec.result c.vars-vars.ensures.within c.in_ok-entries.ensures c.sort_and_keep_first.ensures.firsts le c.loop-start.invariant c.from_vec.ensures)
+    all_complete c.args.formula.now c.from_vec.result (found_all c.args.formula.now rows c.loop-start.start _ c.from_vec.result c.vars-vars.ensures.within (are_kept _ _ rows c.in_ok-entries.ensures c.sort_and_keep_first.ensures.firsts) le c.loop-start.invariant c.from_vec.ensures)
 
 pub returns-clause-judged : goal.returns-clause-judged
 returns-clause-judged c =
     let rows = map row_of c.sort_and_keep_first.new.entries.items in
     let long : length rows ≡ length c.sort_and_keep_first.new.entries.items = length-map c.sort_and_keep_first.new.entries.items row_of in
     let le : length rows ≤ c.loop-start.start = omega arith in
-    let found = found_all c.args.formula.now _ rows c.loop-start.start _ c.from_vec.result c.vars-vars.ensures.within c.in_ok-entries.ensures c.sort_and_keep_first.ensures.firsts le c.loop-start.invariant c.from_vec.ensures in
+    let found = found_all c.args.formula.now rows c.loop-start.start _ c.from_vec.result c.vars-vars.ensures.within (are_kept _ _ rows c.in_ok-entries.ensures c.sort_and_keep_first.ensures.firsts) le c.loop-start.invariant c.from_vec.ensures in
     all_judged c.args.formula.now c.from_vec.result (all_sound c.args.formula.now c.from_vec.result found) (all_least c.args.formula.now c.from_vec.result found)
 
 pub returns-clause-within : goal.returns-clause-within
@@ -89,7 +90,7 @@ returns-clause-within c =
     let rows = map row_of c.sort_and_keep_first.new.entries.items in
     let long : length rows ≡ length c.sort_and_keep_first.new.entries.items = length-map c.sort_and_keep_first.new.entries.items row_of in
     let le : length rows ≤ c.loop-start.start = omega arith in
-    all_within c.args.formula.now c.from_vec.result c.vars-vars.ensures.within (found_all c.args.formula.now _ rows c.loop-start.start _ c.from_vec.result c.vars-vars.ensures.within c.in_ok-entries.ensures c.sort_and_keep_first.ensures.firsts le c.loop-start.invariant c.from_vec.ensures)
+    all_within c.args.formula.now c.from_vec.result c.vars-vars.ensures.within (found_all c.args.formula.now rows c.loop-start.start _ c.from_vec.result c.vars-vars.ensures.within (are_kept _ _ rows c.in_ok-entries.ensures c.sort_and_keep_first.ensures.firsts) le c.loop-start.invariant c.from_vec.ensures)
 
 pub returns-clause-few : goal.returns-clause-few
 returns-clause-few c =
@@ -101,7 +102,7 @@ returns-clause-few c =
     let finds = few_finds rows c.loop-start.finds.items says in
     let fewer = c.sort_and_keep_first.ensures.fewer in
     let old = length-map c.in_ok-entries.entries.items row_of in
-    let read = ap length c.in_ok-entries.ensures in
+    let read = c.in_ok-entries.ensures.few in
     let clauses = few_rows 1 (clauses_of c.args.formula.now.constraints) in
     let is = ap length c.from_vec.ensures in
     omega (arith, long, finds, fewer, old, read, clauses, is)
