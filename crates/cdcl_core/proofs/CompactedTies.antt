@@ -1,7 +1,8 @@
 -- New references keep what ties a search to its code.
-use Rattle.std.proofs.Common.{◌≡◌, refl, sym, ap, ◌∙◌, subst, ℕ, suc, ◌<◌, ◌≤◌, Bool, List, [], ◌∷◌, ◌++◌, length, map, take, get_or, Option, Some, None, is_some, Contains, inl, inr, arith}
+use Rattle.std.proofs.Common.{◌≡◌, refl, sym, ap, ◌∙◌, subst, ℕ, suc, ◌<◌, ◌≤◌, Bool, List, [], ◌∷◌, ◌++◌, length, map, take, get_or, Option, Some, None, is_some, Contains, inl, inr, ⊎_elim, arith}
 use Rattle.std.specs.Prelude.{IsSome, IsTrue}
 use Rattle.std.specs.FinSet as set
+use Rattle.std.proofs.lemmas.Bool.{cases_lt}
 use Rattle.std.proofs.lemmas.List.{length-map, map-append, take-map}
 use Rattle.cx_base.specs.declared.moved.Move.{Move}
 use Rattle.cx_base.specs.Moved.{moved_to}
@@ -12,7 +13,7 @@ use Rattle.cx_trail.specs.declared.entry.Entry.{Entry as TrailEntry}
 use Rattle.cx_trail.specs.declared.entry.Reason.{Reason}
 use Rattle.cx_trail.specs.declared.entry.Reason.TheVariants as reason
 use Rattle.cx_trail.specs.Sequence.{TrailState, entry_at, IsTrail as IsCodeTrail, IsTrueIn, IsAssignedIn, IsOpenIn}
-use Rattle.cx_trail.specs.Renaming.{renamed, renamed_reason, new_or}
+use Rattle.cx_trail.specs.Renaming.{renamed, renamed_reason, clause_under}
 use Rattle.clause_arena.specs.Clauses.{ArenaState, IsLive, clause_at, literals_at, literals_in, id_at, id_in, learned_in}
 use Rattle.clause_arena.specs.Compact.{IsRenamed}
 use Rattle.clause_arena.proofs.PackingLaws.{live_within}
@@ -27,8 +28,8 @@ use Rattle.search_steps.specs.Search.{Search}
 use Rattle.search_steps.specs.Tied.{IsTied}
 use Rattle.cx_semantics.specs.Tables.{Table, get}
 use Rattle.cdcl_search.specs.declared.state.SearchState.{SearchState}
-use Rattle.cdcl_search.specs.Ties.{Ties, SearchStands, IsWatched, ClauseTies, IsKept, IsNamedBy, IsHeld, HasTwo, AreUnits, HasReasonOf, ReasonTies, AgreesUpTo, first_row_id}
-use Rattle.cdcl_core.specs.Compacting.{IsCompacted, StandsStill}
+use Rattle.cdcl_search.specs.Ties.{Ties, SearchStands, IsClauseReasonOf, IsWatched, ClauseTies, IsKept, IsNamedBy, IsHeld, HasTwo, AreUnits, HasReasonOf, ReasonTies, AgreesUpTo, first_row_id}
+use Rattle.cdcl_core.specs.Compacting.{IsCompacted, StandsStill, LeavesNoOldName}
 
 -- ---- the trail
 module _ (moves : List Move) where
@@ -120,12 +121,12 @@ module _ (a b : ArenaState) (moves : List Move) (f : IsRenamed a b moves) where
   }
 
   -- ---- the reasons
-  reason_moved : (entries : List TrailEntry) (e : State) (i : ℕ) (r : Reason) → HasReasonOf a entries e i r → HasReasonOf b (moved_entries moves entries) e i (renamed_reason moves r)
+  reason_moved : (entries : List TrailEntry) (e : State) (i : ℕ) (r : Reason) → HasReasonOf a entries e i r → HasReasonOf b (moved_entries moves entries) e i (renamed_reason moves (entry_at entries i).level r)
   reason_moved entries e i reason.Decision has = subst (λ n. 0 < n) (sym (level_stays moves entries i)) has
   reason_moved entries e i (reason.Clause r) has =
       let w = f.kept r has.live in
       let same : literals_at b w.0 ≡ literals_at a r = ap literals_in w.2 in
-      subst (λ o. HasReasonOf b (moved_entries moves entries) e i (reason.Clause (new_or o r))) (sym w.1) (record {
+      subst (λ o. HasReasonOf b (moved_entries moves entries) e i (clause_under o (entry_at entries i).level r)) (sym w.1) (record {
         live = ap is_some w.2 ∙ has.live;
         has = subst (λ l. Contains (literals_at b w.0) l) (sym (literal_stays moves entries i)) (subst (λ ls. Contains ls (entry_at entries i).literal) (sym same) has.has);
         others = subst (λ l. AreOthersFalse (take i (moved_entries moves entries)) (literals_at b w.0) l) (sym (literal_stays moves entries i))
@@ -149,6 +150,17 @@ module _ (a b : ArenaState) (moves : List Move) (f : IsRenamed a b moves) where
       let long = size moves entries in
       subst (λ x. HasReasonOf b (moved_entries moves entries) e i x.reason) (sym (entry_renamed moves entries i))
       (reason_moved entries e i (entry_at entries i).reason (t i far (omega (arith, less, long))))
+
+  -- ---- the names
+  -- at level 0 a clause that is gone is no reason any more
+  under_live : (r s : ℕ) (o : Option ℕ) → moved_to moves r ≡ o → clause_under o 0 r ≡ reason.Clause s → IsLive b s
+  under_live r s (Some t) goes is = let same : t ≡ s = cc in let moved = clause_moved a b moves r t f goes in subst (IsLive b) same (ap is_some moved.1 ∙ moved.0)
+  under_live r s None goes is = cc
+
+  named_live : (old : Reason) (s : ℕ) → renamed_reason moves 0 old ≡ reason.Clause s → IsLive b s
+  named_live reason.Decision s is = cc
+  named_live (reason.Clause r) s is = under_live r s (moved_to moves r) refl is
+  named_live (reason.Row row) s is = cc
 
 -- ---- the whole
 module _ (formula : Problem) (c : SearchState) (e : State) (rows : List (List Literal)) (s : Search) (moves : List Move) (b : ArenaState) (w : WatchState)
@@ -188,4 +200,20 @@ stands_moved moves c new is sound formula e rows told (s, ok, are, ties, watched
       are,
       ties_moved formula c e rows s moves new.arena new.watches is.arena is.watches sound_then ties,
       watched_moved formula c e rows s moves new.arena new.watches is.arena is.watches sound_then watched,
+    )
+
+pub names_live : (moves : List Move) (c new : SearchState) → IsCompacted moves c new → IsCodeTrail new.trail → LeavesNoOldName c new
+names_live moves c new is sound formula e rows told stands =
+    let now = stands_moved moves c new is sound formula e rows told stands in
+    let units = ap (λ (x : SearchState). length x.units.items) is.others in
+    let trail = ap (λ (x : SearchState). x.trail.entries) is.others in (
+      λ i r less named. ⊎_elim
+          (λ (low : i < length c.units.items).
+          let level_0 = stands.3.units.level_0 i low in
+          let was = ap (λ es. (entry_at es i).reason) trail ∙ ap (λ x. x.reason) (entry_renamed moves c.trail.entries i) in
+          named_live c.arena new.arena moves is.arena (entry_at c.trail.entries i).reason r (ap (λ k. renamed_reason moves k (entry_at c.trail.entries i).reason) (sym level_0) ∙ sym was ∙ named))
+          (λ (far : length c.units.items ≤ i).
+          let has : IsClauseReasonOf new.arena new.trail.entries i r = subst (HasReasonOf new.arena new.trail.entries e i) named (now.3.reasons i (omega (arith, units, far)) less) in
+          has.live) (cases_lt i (length c.units.items)),
+      now.4.fits.nodes.live,
     )

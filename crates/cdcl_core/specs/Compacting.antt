@@ -1,11 +1,15 @@
 -- A search whose arena has no gaps any more.
-use Rattle.std.specs.Prelude.{◌≡◌, List, [], map, Option}
+use Rattle.std.specs.Prelude.{ℕ, ◌≡◌, ◌<◌, List, [], length, map, Option}
 use Rattle.cx_base.specs.declared.moved.Move.{Move}
 use Rattle.cx_base.specs.Literals.{Literal}
 use Rattle.cx_base.specs.Problem.{Problem}
 use Rattle.cx_base.specs.declared.steps.LogEvent.{LogEvent}
+use Rattle.cx_trail.specs.declared.entry.Reason.TheVariants.{Clause}
+use Rattle.cx_trail.specs.Sequence.{entry_at}
 use Rattle.cx_trail.specs.Renaming.{renamed}
+use Rattle.clause_arena.specs.Clauses.{IsLive}
 use Rattle.clause_arena.specs.Compact.{IsRenamed}
+use Rattle.watch_lists.specs.Watching.{IsAttached}
 use Rattle.watch_lists.specs.Renaming.{AreRenamed}
 use Rattle.parity_engine.specs.State.{State}
 use Rattle.cdcl_search.specs.declared.state.SearchState.{SearchState}
@@ -20,3 +24,12 @@ pub record IsCompacted (moves : List Move) (old new : SearchState) : Type 0 wher
 -- whatever search stood behind the code stands behind it still
 abbrev pub StandsStill : SearchState → SearchState → Type 0
 StandsStill old new = (formula : Problem) (e : State) (rows : List (List Literal)) (told : Option (List LogEvent)) → SearchStands formula old e rows told → SearchStands formula new e rows told
+
+-- each clause that stands as a reason on the trail, or is watched, is one of the arena
+abbrev pub NamesLiveClauses : SearchState → Type 0
+NamesLiveClauses c = ((i r : ℕ) → i < length c.trail.entries → (entry_at c.trail.entries i).reason ≡ Clause r → IsLive c.arena r)
+    × ((r : ℕ) → IsAttached c.watches.attached r → IsLive c.arena r)
+
+-- where a search stood behind the old, the new names no clause that is gone
+abbrev pub LeavesNoOldName : SearchState → SearchState → Type 0
+LeavesNoOldName old new = (formula : Problem) (e : State) (rows : List (List Literal)) (told : Option (List LogEvent)) → SearchStands formula old e rows told → NamesLiveClauses new

@@ -1,7 +1,7 @@
 //! Closing the gaps that removed clauses leave.
 ghost use Rattle.std.specs.Prelude.{◌≡◌, List, OnErr, OnOk};
 ghost use Rattle.cx_base.specs.declared.moved.Move.{Move};
-ghost use Rattle.cdcl_core.specs.Compacting.{IsCompacted, StandsStill};
+ghost use Rattle.cdcl_core.specs.Compacting.{IsCompacted, StandsStill, LeavesNoOldName};
 
 use cdcl_search::SearchState;
 use std::alloc::AllocError;
@@ -10,6 +10,7 @@ use std::alloc::AllocError;
 pub(crate) fn compact(state: &mut SearchState) -> Result<(), AllocError>
     ensures compacted { OnOk result ((moves : List Move) × IsCompacted moves state.old state.new) }
     ensures stands { OnOk result (StandsStill state.old state.new) }
+    ensures names { OnOk result (LeavesNoOldName state.old state.new) }
     ensures same { OnErr result (state.new ≡ state.old) }
 {
     let moved = state.arena.compact()?;

@@ -1,5 +1,5 @@
 -- What a trail keeps, with other references to clauses.
-use Rattle.std.proofs.Common.{◌≡◌, ℕ, ◌+◌, ◌-◌, ◌<◌, ◌≤◌, List, ◌++◌, length, get_or, map, take, drop, sym, ap, ◌∙◌, subst, refl, ⊎_elim, arith}
+use Rattle.std.proofs.Common.{◌≡◌, ℕ, zero, suc, Option, None, Some, ◌+◌, ◌-◌, ◌<◌, ◌≤◌, List, ◌++◌, length, get_or, map, take, drop, sym, ap, ◌∙◌, subst, refl, ⊎_elim, arith}
 use Rattle.std.proofs.lemmas.Bool.{cases_lt}
 use Rattle.std.proofs.lemmas.List.{get_or_append_left, get_or-append_right, get_or-map, get_or-drop, length-map, length-append, length-drop, length-take-le, take-append-le, take_all}
 use Rattle.cx_base.specs.declared.moved.Move.{Move}
@@ -10,21 +10,28 @@ use Rattle.cx_trail.specs.declared.entry.Reason.TheVariants.{Decision, Clause, R
 use Rattle.cx_trail.specs.declared.entry.Truth.{Truth}
 use Rattle.cx_trail.specs.Sequence.{entry_at, no_entry}
 use Rattle.cx_trail.specs.Cells.{IsKept, var_at, truth_at}
-use Rattle.cx_trail.specs.Renaming.{renamed, renamed_reason}
+use Rattle.cx_base.specs.Moved.{moved_to}
+use Rattle.cx_trail.specs.Renaming.{renamed, renamed_reason, clause_under}
 use Rattle.cx_trail.proofs.CellLaws.{at_take}
 
-still_decided : (moves : List Move) (r : Reason) → renamed_reason moves r ≡ Decision → r ≡ Decision
-still_decided moves Decision e = refl
-still_decided moves (Clause r) e = cc
-still_decided moves (Row row) e = cc
+-- above level 0 no clause becomes a decision
+under_undecided : (o : Option ℕ) (level r : ℕ) → 0 < level → clause_under o level r ≡ Decision → Clause r ≡ Decision
+under_undecided (Some s) level r some e = cc
+under_undecided None zero r some e = absurd (omega arith)
+under_undecided None (suc level) r some e = e
 
--- the same literals and levels, and the same decisions
+still_decided : (moves : List Move) (level : ℕ) (r : Reason) → 0 < level → renamed_reason moves level r ≡ Decision → r ≡ Decision
+still_decided moves level Decision some e = refl
+still_decided moves level (Clause r) some e = under_undecided (moved_to moves r) level r some e
+still_decided moves level (Row row) some e = cc
+
+-- the same literals and levels, and above level 0 the same decisions
 record AreAlike (old new : List Entry) : Type 0 where
   size : length new ≡ length old
   literals : (i : ℕ) → (entry_at new i).literal ≡ (entry_at old i).literal
   levels : (i : ℕ) → (entry_at new i).level ≡ (entry_at old i).level
   decided : (i : ℕ) → (entry_at old i).reason ≡ Decision → (entry_at new i).reason ≡ Decision
-  undecided : (i : ℕ) → (entry_at new i).reason ≡ Decision → (entry_at old i).reason ≡ Decision
+  undecided : (i : ℕ) → 0 < (entry_at old i).level → (entry_at new i).reason ≡ Decision → (entry_at old i).reason ≡ Decision
 
 alike_kept : (vars level len : ℕ) (cells new : List Entry) (places : List ℕ) (truths : List Truth) → AreAlike cells new → IsKept vars level len cells places truths → IsKept vars level len new places truths
 alike_kept vars level len cells new places truths a k =
@@ -45,7 +52,7 @@ alike_kept vars level len cells new places truths a k =
         top = λ i h. subst (λ v. v ≤ level) (sym (a.levels i)) (k.levels.top i h);
         rising = λ i j le h. omega (arith, a.levels i, a.levels j, k.levels.rising i j le h);
         low = λ i h. subst (λ v. v ≤ i + 1) (sym (a.levels i)) (k.levels.low i h);
-        opens = λ i j less h some d. omega (arith, a.levels i, a.levels j, k.levels.opens i j less h (omega (arith, a.levels j)) (a.undecided j d));
+        opens = λ i j less h some d. omega (arith, a.levels i, a.levels j, k.levels.opens i j less h (omega (arith, a.levels j)) (a.undecided j (omega (arith, a.levels j)) d));
         decided = λ n some few. let w = k.levels.decided n some few in (w.0, w.1, a.levels w.0 ∙ w.2, a.decided w.0 w.3);
       };
       valued = record {
@@ -88,10 +95,10 @@ are_alike moves n cells few = record {
   literals = λ i. ⊎_elim (λ (h : i < n). ap (λ (x : Entry). x.literal) (within moves n cells i few h)) (λ (h : n ≤ i). ap (λ (x : Entry). x.literal) (past moves n cells i few h)) (cases_lt i n);
   levels = λ i. ⊎_elim (λ (h : i < n). ap (λ (x : Entry). x.level) (within moves n cells i few h)) (λ (h : n ≤ i). ap (λ (x : Entry). x.level) (past moves n cells i few h)) (cases_lt i n);
   decided = λ i d. ⊎_elim
-      (λ (h : i < n). ap (λ (x : Entry). x.reason) (within moves n cells i few h) ∙ ap (renamed_reason moves) d)
+      (λ (h : i < n). ap (λ (x : Entry). x.reason) (within moves n cells i few h) ∙ ap (renamed_reason moves (entry_at cells i).level) d)
       (λ (h : n ≤ i). ap (λ (x : Entry). x.reason) (past moves n cells i few h) ∙ d) (cases_lt i n);
-  undecided = λ i d. ⊎_elim
-      (λ (h : i < n). still_decided moves (entry_at cells i).reason (sym (ap (λ (x : Entry). x.reason) (within moves n cells i few h)) ∙ d))
+  undecided = λ i some d. ⊎_elim
+      (λ (h : i < n). still_decided moves (entry_at cells i).level (entry_at cells i).reason some (sym (ap (λ (x : Entry). x.reason) (within moves n cells i few h)) ∙ d))
       (λ (h : n ≤ i). sym (ap (λ (x : Entry). x.reason) (past moves n cells i few h)) ∙ d) (cases_lt i n);
 }
 

@@ -1,24 +1,28 @@
 //! Reasons whose clauses have new references.
 ghost use Rattle.std.specs.Prelude.{◌≡◌, ◌≤◌, ◌++◌, length, map, take, drop};
 ghost use Rattle.cx_base.specs.Moved.{moved_to};
-ghost use Rattle.cx_trail.specs.Renaming.{new_or, renamed_reason, renamed};
+ghost use Rattle.cx_trail.specs.Renaming.{clause_under, renamed_reason, renamed};
 
 use crate::entry::{Entry, Reason};
 use cx_base::{ClauseRef, Moved};
 
-// The new reference, where there is one.
-fn new_reference(old: ClauseRef, moved: &Moved) -> ClauseRef
-    ensures { result ≡ new_or (moved_to moved.now old) old }
+// The clause as a reason under its new reference. At level 0 one that has none is no reason any more.
+fn rename_clause(old: ClauseRef, level: u32, moved: &Moved) -> Reason
+    ensures { result ≡ clause_under (moved_to moved.now old) level old }
 {
-    moved.to(old).unwrap_or(old)
+    match moved.to(old) {
+        Some(new) => Reason::Clause(new),
+        None if level == 0 => Reason::Decision,
+        None => Reason::Clause(old),
+    }
 }
 
-// The reason with the new reference of its clause.
-fn rename_reason(reason: Reason, moved: &Moved) -> Reason
-    ensures { result ≡ renamed_reason moved.now reason }
+// The reason of a literal of this level with the new reference of its clause.
+fn rename_reason(reason: Reason, level: u32, moved: &Moved) -> Reason
+    ensures { result ≡ renamed_reason moved.now level reason }
 {
     match reason {
-        Reason::Clause(old) => Reason::Clause(new_reference(old, moved)),
+        Reason::Clause(old) => rename_clause(old, level, moved),
         Reason::Decision | Reason::Row(_) => reason,
     }
 }
@@ -27,7 +31,7 @@ fn rename_reason(reason: Reason, moved: &Moved) -> Reason
 fn rename_entry(entry: Entry, moved: &Moved) -> Entry
     ensures { result ≡ renamed moved.now entry }
 {
-    let reason = rename_reason(entry.reason, moved);
+    let reason = rename_reason(entry.reason, entry.level, moved);
     Entry { reason, ..entry }
 }
 

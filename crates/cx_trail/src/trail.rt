@@ -290,8 +290,9 @@ impl Trail {
         self.depth = level;
     }
 
-    /// Gives each reason that is a clause the clause's new reference. A reference that has not moved stays.
+    /// Gives each reason that is a clause the clause's new reference.
     ///
+    /// A clause that has none is no reason of a literal of level 0 any more; above level 0 its reference stays.
     /// Its time is in the assigned literals. It takes no memory.
     pub fn rename(&mut self, moved: &Moved)
         ensures renamed { self.new ≡ record self.old { entries = map (renamed moved.now) self.old.entries } }
