@@ -1,5 +1,5 @@
 //! What the clauses and the parities force.
-ghost use Rattle.std.specs.Prelude.{◌≡◌, ◌≢◌, ◌≤◌, [], List, Option, length};
+ghost use Rattle.std.specs.Prelude.{◌≡◌, ◌≢◌, ◌≤◌, [], List, Option, MatchOption, length};
 ghost use Rattle.cx_base.specs.Problem.{Problem};
 ghost use Rattle.cx_base.specs.declared.steps.LogEvent.{LogEvent};
 ghost use Rattle.watch_lists.specs.Watching.{Fits};
@@ -7,7 +7,7 @@ ghost use Rattle.watch_lists.specs.Events.{Happens};
 ghost use Rattle.parity_engine.specs.State.{State};
 ghost use Rattle.parity_engine.specs.declared.state.Mood.TheVariants.{Broken};
 ghost use Rattle.cdcl_search.specs.Ties.{SearchStands};
-ghost use Rattle.cdcl_search.specs.Finds.{PropagationFinds, RowsSay, HasAll, HasSameCounts};
+ghost use Rattle.cdcl_search.specs.Finds.{PropagationFinds, RowsSay, HasAll, HasSameCounts, IsClash};
 
 use crate::state::SearchState;
 use cx_base::{ClauseRef, Formula, Row};
@@ -88,6 +88,29 @@ fn follow_rows<P: ParityEngine>(
     }
 }
 
+/// Puts each literal that the parities imply on the trail, until they imply nothing more. The row that the values miss, if any.
+fn empty_rows<P: ParityEngine>(
+    formula: &Formula,
+    state: &mut SearchState,
+    engine: &mut P,
+) -> Option<Row>
+    requires stands { (told : Option (List LogEvent)) × SearchStands formula.now state.old (P.state engine.old) [] told }
+    requires unbroken { (P.state engine.old).mood ≢ Broken }
+    ensures stands { (told : Option (List LogEvent)) → SearchStands formula.now state.old (P.state engine.old) [] told → SearchStands formula.now state.new (P.state engine.new) [] told }
+    ensures ends { MatchOption result ((P.state engine.new).mood ≢ Broken) (λ row. HasAll state.new × IsClash (P.state engine.new) row) }
+    ensures same { HasSameCounts state.old state.new }
+    ensures grows { length state.old.trail.entries ≤ length state.new.trail.entries }
+{
+    'rows: loop {
+        feed(formula, state, engine);
+        match follow_rows(formula, state, engine) {
+            RowFinding::Quiet => return None,
+            RowFinding::Implied => {}
+            RowFinding::Conflict(row) => return Some(row),
+        }
+    }
+}
+
 /// Implies what the clauses and the parities force, until both are quiet or one is in conflict.
 pub(crate) fn propagate<P: ParityEngine>(
     formula: &Formula,
@@ -109,7 +132,11 @@ pub(crate) fn propagate<P: ParityEngine>(
         feed(formula, state, engine);
         match follow_rows(formula, state, engine) {
             RowFinding::Quiet => return Found::Quiet,
-            RowFinding::Implied => {}
+            // all that the rows imply goes on the trail before the clauses go on: else reasons become long
+            RowFinding::Implied => match empty_rows(formula, state, engine) {
+                None => {}
+                Some(row) => return Found::Row(row),
+            },
             RowFinding::Conflict(row) => return Found::Row(row),
         }
     }

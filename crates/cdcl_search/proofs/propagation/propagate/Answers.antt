@@ -15,6 +15,9 @@ same_by_all start before followed fed now so_far clauses given rows = (
   rows.3 ∙ ap (λ (k : SearchState). k.next) given ∙ clauses.3 ∙ so_far.3,
 )
 
+same_then : (a b k : SearchState) → HasSameCounts a b → HasSameCounts b k → HasSameCounts a k
+same_then a b k h i = (i.0 ∙ h.0, i.1 ∙ h.1, i.2 ∙ h.2, i.3 ∙ h.3)
+
 pub loop-reference-init : goal.loop-reference-init
 loop-reference-init g c = record { stands = λ told stands. stands; unbroken = c.requires.unbroken; same = (refl, refl, refl, refl); grows = omega arith }
 
@@ -71,15 +74,25 @@ returns-in-Quiet-follow_rows-clause-grows g c =
     let b = c.loop-reference.invariant.grows in
     omega (arith, n, a, b)
 
+-- the trail is longer once the rows have implied something
+pub empty_rows-requires-clause-stands : goal.empty_rows-requires-clause-stands
+empty_rows-requires-clause-stands g c =
+    let told = c.requires.stands.0 in
+    (told, c.follow_rows.ensures.stands told (c.feed.ensures.stands told (c.follow_clauses.ensures.stands c.args.formula.now (g.P.ParityEngine.state c.loop-reference.engine) told (c.loop-reference.invariant.stands told c.requires.stands.1))))
+
+pub empty_rows-requires-clause-unbroken : goal.empty_rows-requires-clause-unbroken
+empty_rows-requires-clause-unbroken g c = c.in-Implied.ensures.says.1
+
 pub loop-reference-smaller : goal.loop-reference-smaller
 loop-reference-smaller g c =
     let told = c.requires.stands.0 in
-    let stands = c.follow_rows.ensures.stands told (c.feed.ensures.stands told (c.follow_clauses.ensures.stands c.args.formula.now (g.P.ParityEngine.state c.loop-reference.engine) told (c.loop-reference.invariant.stands told c.requires.stands.1))) in
-    let short = trail_is_short c.args.formula.now c.follow_rows.new.state (g.P.ParityEngine.state c.follow_rows.new.engine) [] told stands in
+    let stands = c.empty_rows.ensures.stands told (c.follow_rows.ensures.stands told (c.feed.ensures.stands told (c.follow_clauses.ensures.stands c.args.formula.now (g.P.ParityEngine.state c.loop-reference.engine) told (c.loop-reference.invariant.stands told c.requires.stands.1)))) in
+    let short = trail_is_short c.args.formula.now c.empty_rows.new.state (g.P.ParityEngine.state c.empty_rows.new.engine) [] told stands in
     let n = c.in-Implied.ensures.says.0 in
     let m = ap (λ (k : SearchState). length k.trail.entries) c.feed.ensures.given in
     let a = c.follow_clauses.ensures.grows in
-    omega (arith, short, n, m, a)
+    let r = c.empty_rows.ensures.grows in
+    omega (arith, short, n, m, a, r)
 
 pub loop-reference-preserved : goal.loop-reference-preserved
 loop-reference-preserved g c =
@@ -87,12 +100,33 @@ loop-reference-preserved g c =
     let m = ap (λ (k : SearchState). length k.trail.entries) c.feed.ensures.given in
     let a = c.follow_clauses.ensures.grows in
     let b = c.loop-reference.invariant.grows in
+    let r = c.empty_rows.ensures.grows in
     record {
-      stands = λ told stands. c.follow_rows.ensures.stands told (c.feed.ensures.stands told (c.follow_clauses.ensures.stands c.args.formula.now (g.P.ParityEngine.state c.loop-reference.engine) told (c.loop-reference.invariant.stands told stands)));
-      unbroken = c.in-Implied.ensures.says.1;
-      same = same_by_all c.args.state.now c.loop-reference.state c.follow_clauses.new.state c.feed.new.state c.follow_rows.new.state c.loop-reference.invariant.same c.follow_clauses.ensures.same c.feed.ensures.given c.follow_rows.ensures.same;
-      grows = omega (arith, n, m, a, b);
+      stands = λ told stands. c.empty_rows.ensures.stands told (c.follow_rows.ensures.stands told (c.feed.ensures.stands told (c.follow_clauses.ensures.stands c.args.formula.now (g.P.ParityEngine.state c.loop-reference.engine) told (c.loop-reference.invariant.stands told stands))));
+      unbroken = c.in-None.ensures.ends;
+      same = same_then c.args.state.now c.follow_rows.new.state c.empty_rows.new.state (same_by_all c.args.state.now c.loop-reference.state c.follow_clauses.new.state c.feed.new.state c.follow_rows.new.state c.loop-reference.invariant.same c.follow_clauses.ensures.same c.feed.ensures.given c.follow_rows.ensures.same) c.empty_rows.ensures.same;
+      grows = omega (arith, n, m, a, b, r);
     }
+
+pub returns-in-Some-clause-stands : goal.returns-in-Some-clause-stands
+returns-in-Some-clause-stands g c told stands =
+    c.empty_rows.ensures.stands told (c.follow_rows.ensures.stands told (c.feed.ensures.stands told (c.follow_clauses.ensures.stands c.args.formula.now (g.P.ParityEngine.state c.loop-reference.engine) told (c.loop-reference.invariant.stands told stands))))
+
+pub returns-in-Some-clause-finds : goal.returns-in-Some-clause-finds
+returns-in-Some-clause-finds g c = c.in-Some.ensures.ends
+
+pub returns-in-Some-clause-same : goal.returns-in-Some-clause-same
+returns-in-Some-clause-same g c =
+    same_then c.args.state.now c.follow_rows.new.state c.empty_rows.new.state (same_by_all c.args.state.now c.loop-reference.state c.follow_clauses.new.state c.feed.new.state c.follow_rows.new.state c.loop-reference.invariant.same c.follow_clauses.ensures.same c.feed.ensures.given c.follow_rows.ensures.same) c.empty_rows.ensures.same
+
+pub returns-in-Some-clause-grows : goal.returns-in-Some-clause-grows
+returns-in-Some-clause-grows g c =
+    let n = c.in-Implied.ensures.says.0 in
+    let m = ap (λ (k : SearchState). length k.trail.entries) c.feed.ensures.given in
+    let a = c.follow_clauses.ensures.grows in
+    let b = c.loop-reference.invariant.grows in
+    let r = c.empty_rows.ensures.grows in
+    omega (arith, n, m, a, b, r)
 
 pub returns-in-Conflict-follow_rows-clause-stands :
     goal.returns-in-Conflict-follow_rows-clause-stands
