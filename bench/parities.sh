@@ -1,0 +1,268 @@
+#!/usr/bin/env bash
+# Measures the engines of parities and the search over parities alone, as ratios in one run:
+# - assignments and backjumps a second of `Incremental` beside `Scratch`, over 200 parities of 300 variables;
+# - `cxsat solve` beside `cryptominisat5`, which runs as it comes and with its bounds on matrices lifted: inconsistent parities,
+#   planted instances, ladders as x-lines, and 20,000 parities that share no variable or stand in one chain.
+# usage: bench/parities.sh [LIMIT [ACTS]]
+# LIMIT: seconds after which a run of a solver is cut off (60). ACTS: acts of `Incremental` (1,000,000); `Scratch` does a
+# hundredth of them. The program that drives the engines is proved, built and run in a folder of its own.
+set -euo pipefail
+source "$(dirname "$0")/common.sh"
+need cryptominisat5 /usr/bin/time
+limit=${1:-60}
+acts=${2:-1000000}
+
+# The small program: parities and values as the tests have them, and a loop of acts that tells no reason.
+write_program() {
+    local tests=$here/../crates/parity_tests crate=$work/crates/parity_times name
+    mkdir -p "$crate/src" "$crate/specs" "$crate/proofs/driven"
+    for name in cx_base cx_semantics gf2_rows parity_engine gf2_matrix gauss_jordan gauss_incremental; do
+        cp -r "$here/../crates/$name" "$work/crates/"
+    done
+    rm -rf "$work"/crates/*/must-fail "$work"/crates/*/out
+    grep -E '^(cx_base|cx_semantics|gf2_rows|parity_engine|gf2_matrix|gauss_jordan|gauss_incremental):' "$here/../crates.txt" > "$work/crates.txt"
+    echo 'parity_times: cx_base parity_engine gauss_jordan gauss_incremental' >> "$work/crates.txt"
+    cp "$tests/src/parities.rt" "$crate/src/"
+    cp "$tests"/specs/*.antt "$crate/specs/"
+    cp -r "$tests/proofs/parities" "$crate/proofs/"
+    sed -i 's/Rattle\.parity_tests\./Rattle.parity_times./' "$crate"/proofs/parities/*/*.antt
+    : > "$crate/proofs/Lib.antt"
+    mkdir -p "$crate/proofs/driven/settle" "$crate/proofs/driven/drive"
+    cat > "$crate/proofs/driven/settle/Invariants.antt" <<'RATTLE'
+use Rattle.parity_times.specs.Driven.{IsAt}
+use Rattle.parity_times.proofs.driven.settle.Given as goal
+
+abbrev pub invariant-loop : goal.invariant-loop
+invariant-loop g l = IsAt (g.P.ParityEngine.state l.engine) l.level l.held
+RATTLE
+    cat > "$crate/proofs/driven/drive/Invariants.antt" <<'RATTLE'
+use Rattle.parity_times.specs.Driven.{IsAt}
+use Rattle.parity_times.proofs.driven.drive.Given as goal
+
+abbrev pub invariant-loop : goal.invariant-loop
+invariant-loop g l = IsAt (g.P.ParityEngine.state l.engine) l.level l.held.items
+RATTLE
+    # The functions of the tests that keep the values beside the engine, as they stand there.
+    {
+        cat <<'RATTLE'
+//! An engine that is driven by random acts.
+ghost use Rattle.std.specs.Prelude.{◌≡◌, ◌≢◌, ◌≤◌, IfOk, length, map, true};
+ghost use Rattle.std.specs.List.{AllByRecursion};
+ghost use Rattle.cx_base.specs.Problem.{AreWithin};
+ghost use Rattle.cx_base.specs.declared.literal.TheConstants.{MAX_VARIABLE};
+ghost use Rattle.parity_engine.specs.declared.state.Mood.TheVariants.{Broken, Calm};
+ghost use Rattle.parity_engine.specs.State.{held_at, is_unassigned, keep};
+ghost use Rattle.parity_times.specs.Driven.{IsAt};
+
+use crate::parities::Numbers;
+use cx_base::{Lit, MAX_VARIABLE, ParityList};
+use parity_engine::{Held, ParityEngine, ParityEvent, nothing_held};
+use std::alloc::{AllocError, Global};
+
+/// What one event left.
+#[derive(Clone, Copy, Drop)]
+enum Outcome {
+    Quiet,
+    Assigned,
+    Broken,
+}
+
+RATTLE
+        awk '/^\/\/\/ Assigns the literal, in the engine/ { on = 1 } on { print } /^}/ { if (on) print ""; on = 0 }' "$tests/src/driven.rt"
+        cat <<'RATTLE'
+/// Takes one event, and assigns the literal that it implies.
+fn take_event<P: ParityEngine>(engine: &mut P, held: &mut [Option<Held>], level: u32) -> Outcome
+    requires at { IsAt (P.state engine.old) level held.old }
+    ensures at { IsAt (P.state engine.new) level held.new }
+    ensures quiet { result ≡ Outcome.Quiet → (P.state engine.new).mood ≡ Calm }
+{
+    match engine.next_event() {
+        ParityEvent::Quiet => Outcome::Quiet,
+        ParityEvent::Conflict(_) => Outcome::Broken,
+        ParityEvent::Implied(literal, _) => {
+            assign(engine, held, level, literal);
+            Outcome::Assigned
+        }
+    }
+}
+
+/// Takes events until nothing follows, and counts the values. Whether there was no contradiction.
+fn settle<P: ParityEngine>(
+    engine: &mut P,
+    held: &mut [Option<Held>],
+    level: u32,
+    count: &mut u64,
+) -> bool
+    requires { IsAt (P.state engine.old) level held.old }
+    ensures at { IsAt (P.state engine.new) level held.new }
+    ensures quiet { result ≡ true → (P.state engine.new).mood ≡ Calm }
+{
+    for _ in 0..held.len() + 1 {
+        match take_event(engine, held, level) {
+            Outcome::Quiet => return true,
+            Outcome::Broken => return false,
+            Outcome::Assigned => *count = count.wrapping_add(1),
+        }
+    }
+    false
+}
+
+RATTLE
+        awk '/^\/\/\/ (The value, if its level|The values whose levels|Takes back the levels above a lower|Opens a level, if there|Assigns the literal, if its variable)/ { on = 1 } on { print } /^}/ { if (on) print ""; on = 0 }' "$tests/src/driven.rt"
+        cat <<'RATTLE'
+/// Opens a level, assigns a literal, or takes half of the levels back: one time in eight, and behind a contradiction. The level then.
+fn act<P: ParityEngine>(
+    alloc: Global,
+    engine: &mut P,
+    held: &mut Vec<Option<Held>>,
+    level: u32,
+    quiet: bool,
+    literal: Lit,
+    turn: u32,
+) -> Result<u32, AllocError>
+    requires at { IsAt (P.state engine.old) level held.old.items }
+    requires calm { quiet ≡ true → (P.state engine.old).mood ≡ Calm }
+    ensures { IfOk result (λ l. IsAt (P.state engine.new) l held.new.items) }
+{
+    if !quiet || turn % 8 == 0 {
+        return back_to(alloc, engine, held, level, level / 2);
+    }
+    if turn % 2 == 0 || level == 0 {
+        return Ok(open(engine, held, level));
+    }
+    set(engine, held, level, literal);
+    Ok(level)
+}
+
+/// Makes the engine and does so many acts. How many acts and implied values there were.
+pub(crate) fn drive<P: ParityEngine + Drop>(
+    alloc: Global,
+    vars: u32,
+    parities: &ParityList,
+    numbers: &mut Numbers,
+    acts: u64,
+) -> Result<u64, AllocError>
+    requires some { 1 ≤ vars }
+    requires few { vars ≤ MAX_VARIABLE }
+    requires within { AllByRecursion (AreWithin vars) parities.now }
+{
+    let mut engine = P::make(alloc, vars, parities)?;
+    let mut held = nothing_held(alloc, vars as usize)?;
+    let mut level = 0;
+    let mut count = 0;
+    for _ in 0..acts {
+        let quiet = settle(&mut engine, &mut held, level, &mut count);
+        count = count.wrapping_add(1);
+        let literal = numbers.literal(vars);
+        let turn = numbers.below(1 << 20);
+        level = act(alloc, &mut engine, &mut held, level, quiet, literal, turn)?;
+    }
+    Ok(count)
+}
+RATTLE
+    } > "$crate/src/driven.rt"
+    cat > "$crate/src/main.rt" <<'RATTLE'
+//! Times of the engines of parities.
+#![tactic(auto)]
+
+mod driven;
+mod parities;
+
+use crate::driven::drive;
+use crate::parities::{Numbers, any_parities};
+use gauss_incremental::Incremental;
+use gauss_jordan::Scratch;
+use std::env;
+use std::io;
+use std::time::Instant;
+
+fn main(rt: HostRuntime) -> io::Result<()> {
+    let mut acts = 1_000_000u64;
+    for arg in env::args(&rt)? {
+        if let Ok(number) = arg.as_str().parse::<u64>() {
+            acts = number;
+        }
+    }
+    let mut numbers = Numbers::from_seed(1);
+    let parities = any_parities(rt.alloc(), &mut numbers, 300, 200)?;
+    let start = Instant::now(&rt)?;
+    let events = drive::<Incremental>(rt.alloc(), 300, &parities, &mut numbers, acts)?;
+    let millis = start.elapsed(&rt)?.as_millis();
+    println!(rt; "engine Incremental {events} {millis}")?;
+    let start = Instant::now(&rt)?;
+    let events = drive::<Scratch>(rt.alloc(), 300, &parities, &mut numbers, acts / 100)?;
+    let millis = start.elapsed(&rt)?.as_millis();
+    println!(rt; "engine Scratch {events} {millis}")?;
+    Ok(())
+}
+RATTLE
+}
+
+engines() {
+    write_program
+    if ! (cd "$work/crates/parity_times" && rt run -- "$acts" > "$work/run.log" 2>&1); then
+        cat "$work/run.log" >&2
+        exit 1
+    fi
+    awk -v bar='|' '
+        $1 == "engine" { events[$2] = $3; millis[$2] = $4 > 0 ? $4 : 1 }
+        END {
+            fast = events["Incremental"] / millis["Incremental"] * 1000
+            slow = events["Scratch"] / millis["Scratch"] * 1000
+            printf "| events of parities | 200 rows, 300 columns | Incremental: %d in %d ms, %d a second | Scratch: %d in %d ms, %d a second | %.1f |\n",
+                events["Incremental"], millis["Incremental"], fast, events["Scratch"], millis["Scratch"], slow, fast / slow
+        }' "$work/run.log"
+}
+
+# Seconds, megabytes and status of a command; one that was cut off has taken the limit at the least.
+run() {
+    local status=0 taken TIMEFORMAT=%U
+    taken=$({ time timeout "$limit" /usr/bin/time -f %M -o "$work/time" "$@" > "$work/answer" 2>&1; } 2>&1) || status=$?
+    if [ "$status" = 124 ]; then
+        echo "$limit - $status"
+    else
+        tail -n 1 "$work/time" | awk -v taken="$taken" -v status="$status" '{ printf "%s %.0f %s\n", taken, $1 / 1000, status }'
+    fi
+}
+
+# The sum of so many runs, and the memory and the status of the last one: short runs are below what one of them can tell.
+repeated() {
+    local times=$1 sum=0 taken memory=- status=124 round
+    shift
+    for ((round = 0; round < times; round++)); do
+        read -r taken memory status <<< "$(run "$@")"
+        sum=$(awk -v a="$sum" -v b="$taken" 'BEGIN { print a + b }')
+        [ "$status" != 124 ] || break
+    done
+    echo "$sum $memory $status"
+}
+
+# A formula of this kind and size.
+formula() {
+    case $1 in
+        even | odd) "$here/planted.py" "$1" "$2" "$2" ;;
+        chain) awk -v n="$2" 'BEGIN { print "p cnf", 2 * n + 1, n; for (i = 0; i < n; i++) print "x" 2 * i + 1, 2 * i + 2, 2 * i + 3, 0 }' ;;
+        apart) awk -v n="$2" 'BEGIN { print "p cnf", 3 * n, n; for (i = 0; i < n; i++) print "x" 3 * i + 1, 3 * i + 2, 3 * i + 3, 0 }' ;;
+        *) awk -v kind="$1" -v size="$2" -v seed="$2" -v form=x -f "$here/make_instance.awk" ;;
+    esac
+}
+
+measure() {
+    local family=$1 kind=$2 size=$3 times=$4 own memory status peer peer_memory peer_status
+    formula "$kind" "$size" > "$work/formula"
+    read -r own memory status <<< "$(repeated "$times" "$program" solve "$work/formula" --proof "$work/log")"
+    read -r peer peer_memory peer_status <<< "$(repeated "$times" cryptominisat5 --verb 0 "$work/formula")"
+    row 'solving parities' "$family $size (status $status), $times runs" "$own s, $memory MB" "cryptominisat5: $peer s, $peer_memory MB" "$(ratio "$own" "$peer")"
+    read -r peer peer_memory peer_status <<< "$(repeated "$times" cryptominisat5 --verb 0 --maxmatrixrows 100000 --maxmatrixcols 100000 --maxnummatrices 100000 "$work/formula")"
+    row 'solving parities' "$family $size (status $status), $times runs" "$own s, $memory MB" "cryptominisat5, bounds lifted: $peer s, $peer_memory MB" "$(ratio "$own" "$peer")"
+}
+
+engines
+build
+for size in 200 400 800; do measure 'inconsistent parities:' parity "$size" 10; done
+measure 'inconsistent parities:' parity 3200 1
+for size in 200 400 800; do measure 'planted (`demo even`), size:' even "$size" 10; measure 'planted (`demo odd`), size:' odd "$size" 10; done
+for size in 8 50 100 200 400; do measure 'ladder as x-lines, rungs:' ladder "$size" 10; done
+measure 'ladder as x-lines, rungs:' ladder 10000 1
+measure 'parities that share no variable:' apart 20000 1
+measure 'parities in one chain:' chain 20000 1
