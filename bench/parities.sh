@@ -204,7 +204,7 @@ engines() {
         cat "$work/run.log" >&2
         exit 1
     fi
-    awk -v bar='|' '
+    awk '
         $1 == "engine" { events[$2] = $3; millis[$2] = $4 > 0 ? $4 : 1 }
         END {
             fast = events["Incremental"] / millis["Incremental"] * 1000

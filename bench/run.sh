@@ -31,7 +31,7 @@ day and machine.
 | what | on what | cxsat | beside it | ratio |
 | --- | --- | --- | --- | --- |
 TEXT
-    for script in reader check elab solve propagate rows; do
+    for script in reader check elab solve parities propagate rows; do
         "$here/$script.sh"
     done
 } > "$work/results"
