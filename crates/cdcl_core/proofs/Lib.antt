@@ -15,3 +15,5 @@ pub mod WaitingLaws
 pub mod FilledClauses
 pub mod LearnedLess
 pub mod CompactedTies
+pub mod RisingCodes
+pub mod SortedLiterals

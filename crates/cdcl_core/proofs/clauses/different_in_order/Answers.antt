@@ -2,8 +2,8 @@ use Rattle.std.proofs.Common.{sym, ap, ◌∙◌, subst, ◌+◌, take}
 use Rattle.std.proofs.lemmas.List.{take_all}
 use Rattle.cx_semantics.specs.Chain.{has_literal}
 use Rattle.cdcl_core.proofs.DifferentLiterals.{AreFound, same_found, found_more, found_already}
-use Rattle.cdcl_core.proofs.clauses.different.Goals.{then-not-has+in_ok-push, else-not-has}
-use Rattle.cdcl_core.proofs.clauses.different.Goals as goal
+use Rattle.cdcl_core.proofs.clauses.different_in_order.Goals.{then-not-has+in_ok-push, else-not-has}
+use Rattle.cdcl_core.proofs.clauses.different_in_order.Goals as goal
 
 pub loop-lit-preserved : goal.loop-lit-preserved
 loop-lit-preserved c = elim c.if-not-has.branch [
