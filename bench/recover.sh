@@ -1,0 +1,86 @@
+#!/usr/bin/env bash
+# Times the recovery of parities beside the reading of the same formula: random 3-clauses, where nothing is recovered, and
+# ladders and systems of parities as clauses, where each clause is needed. Both are timed in one process, the best of ROUNDS.
+# usage: bench/recover.sh [ROUNDS]
+# The program is proved, built and run in a folder of its own; it takes a few minutes where nothing was proved before.
+set -euo pipefail
+source "$(dirname "$0")/common.sh"
+rounds=${1:-5}
+mkdir -p "$work/crates/recover_times/src"
+crates='cx_base cx_texts cx_semantics cnfx_reader gf2_rows parity_engine gf2_matrix xor_recover'
+for crate in $crates; do
+    mkdir "$work/crates/$crate"
+    cp -r "$here/../crates/$crate/"{src,specs,proofs} "$work/crates/$crate/"
+    grep "^$crate:" "$here/../crates.txt" | head -n 1 >> "$work/crates.txt"
+done
+echo 'recover_times: cx_base cnfx_reader xor_recover' >> "$work/crates.txt"
+cat > "$work/crates/recover_times/src/main.rt" <<'RATTLE'
+//! Times of reading a formula and of recovering its parities.
+#![tactic(auto)]
+
+use cnfx_reader::read_formula;
+use std::env;
+use std::fs::File;
+use std::io::{self, Read};
+use std::time::Instant;
+use xor_recover::recover;
+
+/// Reads the text as a formula and recovers its parities, and prints the microseconds of both and the number of parities.
+fn measure(rt: &HostRuntime, text: &[u8]) -> io::Result<()> {
+    let start = Instant::now(rt)?;
+    match read_formula(rt.alloc(), text) {
+        Ok(formula) => {
+            let read = start.elapsed(rt)?.as_micros();
+            let start = Instant::now(rt)?;
+            let finds = recover(rt.alloc(), &formula)?;
+            let recovered = start.elapsed(rt)?.as_micros();
+            let count = finds.as_slice().len();
+            println!(rt; "round {read} {recovered} {count}")
+        }
+        Err(_) => println!(rt; "no formula"),
+    }
+}
+
+fn main(rt: HostRuntime) -> io::Result<()> {
+    let mut words = env::args(&rt)?;
+    let _program = words.next();
+    match words.next() {
+        Some(name) => {
+            let mut text: Vec<u8> = Vec::new(rt.alloc());
+            let mut file = File::open(&rt, name.as_str())?;
+            file.read_to_end(&mut text)?;
+            measure(&rt, &text)
+        }
+        None => println!(rt; "no file"),
+    }
+}
+RATTLE
+cd "$work/crates/recover_times"
+if ! rt run > "$work/run.log" 2>&1; then
+    cat "$work/run.log" >&2
+    exit 1
+fi
+
+# The least microseconds of reading and of recovery, and the number of parities, of so many runs on a formula.
+least() {
+    for _ in $(seq "$rounds"); do
+        out/recover_times "$1"
+    done | awk '$1 == "round" { if (!n++ || $2 < read) read = $2; if (n == 1 || $3 < own) own = $3; count = $4 } END { print read, own, count }'
+}
+
+measure() {
+    local what=$1 read own count
+    read -r read own count <<< "$(least "$work/formula")"
+    row 'recovering parities' "$what, $(megabytes "$work/formula"): $count found" "$(awk -v t="$own" 'BEGIN { printf "%.1f ms", t / 1000 }')" "reading: $(awk -v t="$read" 'BEGIN { printf "%.1f ms", t / 1000 }')" "$(ratio "$own" "$read")"
+}
+
+for clauses in 10000 100000 1000000; do
+    awk -v seed=1 -v clauses="$clauses" -v vars=$((clauses * 3 / 10)) -f "$here/make_clauses.awk" > "$work/formula"
+    measure "$clauses random 3-clauses"
+done
+for size in 1250 12500 125000; do
+    awk -v kind=ladder -v size="$size" -v seed=1 -f "$here/make_instance.awk" > "$work/formula"
+    measure "$((size * 8)) clauses of a ladder"
+done
+awk -v kind=system -v size=208333 -v seed=1 -f "$here/make_instance.awk" > "$work/formula"
+measure '999996 clauses of a system of parities'
