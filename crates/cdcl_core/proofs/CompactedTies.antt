@@ -182,6 +182,7 @@ module _ (formula : Problem) (c : SearchState) (e : State) (rows : List (List Li
     engine = t.engine;
     reasons = reasons_moved c.arena b moves f c.trail.entries (length c.units.items) e t.reasons;
     counts = t.counts;
+    ids = t.ids;
     levels = t.levels;
   }
 

@@ -34,7 +34,7 @@ use Rattle.cdcl_search.specs.Explaining.{Explains}
 use Rattle.cdcl_search.specs.declared.propagation.Found.{Found}
 use Rattle.cdcl_search.specs.declared.propagation.Found.TheVariants as found
 use Rattle.cdcl_search.specs.Finds.{PropagationFinds, IsClash}
-use Rattle.cdcl_search.specs.Tells.{as_events, with_events, IsTellable}
+use Rattle.cdcl_search.specs.Tells.{as_events, with_events, IsTellable, IsId}
 use Rattle.cdcl_search.specs.Ties.{SearchStands, first_row_id, Ties}
 use Rattle.cdcl_search.proofs.RowSteps.{all_told_are, sum_told, sum_is, clause_added, clause_is}
 use Rattle.cdcl_core.specs.declared.conflicts.Conclusion.TheVariants.{Clause}
@@ -92,10 +92,11 @@ module _ (formula : Problem) (c : SearchState) (e : State) (told : Option (List 
       known_is_true e fed.older fed.values fed.newer c.trail.entries (subst (λ es. IsTied es c.trail.entries) fed.parts st.3.trail.follows.tied) l h
 
   -- a stored clause that is falsified
-  pub stored_concludes : (r : ℕ) → IsLive c.arena r → IsFalsified c.trail.entries (literals_at c.arena r) → (k : Conflict) → k.lits ≡ literals_at c.arena r → k.rows.items ≡ [] → Concludes formula c e told (Clause k)
-  stored_concludes r live falsified k are none = (
+  pub stored_concludes : (r : ℕ) → IsLive c.arena r → IsFalsified c.trail.entries (literals_at c.arena r) → (k : Conflict) → k.lits ≡ literals_at c.arena r → k.rows.items ≡ [] → IsId k.id → Concludes formula c e told (Clause k)
+  stored_concludes r live falsified k are none is_id = (
     subst (λ rows. SearchStands formula c e rows told) (sym none) st,
     record { sourced = inl (r, live, are); all_false = λ m h. falsified m (of_has (literals_at c.arena r) m (ap (λ ls. has_literal ls m) (sym are) ∙ h)) },
+    (is_id, let long = ap length none in omega (arith, long)),
   )
 
   module _ (row : ℕ) (clash : IsClash e row) where
@@ -130,13 +131,14 @@ module _ (formula : Problem) (c : SearchState) (e : State) (told : Option (List 
         assigned = clash_assigned clash.0 clash.1;
       }
 
-      pub row_concludes : (new : Option (List LogEvent)) (k : Conflict) → k.lits ≡ reason.clause → k.rows.items ≡ reason.clause ∷ [] → SearchStands formula c e (reason.clause ∷ []) new → Concludes formula c e new (Clause k)
-      row_concludes new k are rows stands = (
+      pub row_concludes : (new : Option (List LogEvent)) (k : Conflict) → k.lits ≡ reason.clause → k.rows.items ≡ reason.clause ∷ [] → IsId k.id → SearchStands formula c e (reason.clause ∷ []) new → Concludes formula c e new (Clause k)
+      row_concludes new k are rows is_id stands = (
         subst (λ xs. SearchStands formula c e xs new) (sym rows) stands,
         record {
           sourced = inr (inr (subst (λ xs. Contains xs k.lits) (sym rows) (0, omega arith, sym are)));
           all_false = λ m h. is_clause.are_false m (ap (λ ls. has_literal ls m) (sym are) ∙ h);
         },
+        (is_id, let long = ap length rows in omega (arith, long)),
       )
 
       -- the steps of a row without variables
@@ -153,10 +155,10 @@ module _ (formula : Problem) (c : SearchState) (e : State) (told : Option (List 
           }
 
 pub found_concludes : (formula : Problem) (c : SearchState) (e : State) (told : Option (List LogEvent)) → SearchStands formula c e [] told → (what : Found) (r : ℕ) → what ≡ found.Clause r → PropagationFinds c e what
-    → (k : Conflict) → k.lits ≡ literals_at c.arena r → k.rows.items ≡ [] → Concludes formula c e told (Clause k)
-found_concludes formula c e told st what r is finds k are none =
+    → (k : Conflict) → k.lits ≡ literals_at c.arena r → k.rows.items ≡ [] → IsId k.id → Concludes formula c e told (Clause k)
+found_concludes formula c e told st what r is finds k are none is_id =
     let f = subst (PropagationFinds c e) is finds in
-    stored_concludes formula c e told st r (st.4.fits.nodes.live r f.0) f.1 k are none
+    stored_concludes formula c e told st r (st.4.fits.nodes.live r f.0) f.1 k are none is_id
 
 pub is_empty_list : (lits seen : List Literal) (b : Bool) → seen ≡ lits → b ≡ (length seen == 0) → b ≡ true → lits ≡ []
 is_empty_list lits [] b same is t = sym same

@@ -1,5 +1,5 @@
 -- A learned clause is entered: the code's trail and what stands on it.
-use Rattle.std.proofs.Common.{◌≡◌, refl, sym, ap, ◌∙◌, subst, ℕ, zero, suc, ◌+◌, ◌<◌, ◌≤◌, ℤ, true, false, cond, nat_le, nat_lt, is_some, List, [], ◌∷◌, ◌++◌, length, take, get_or, None, Option, ◌⊎◌, inl, inr, arith, length-append, Contains, true≢false}
+use Rattle.std.proofs.Common.{◌≡◌, refl, sym, ap, ◌∙◌, subst, ℕ, zero, suc, ◌+◌, ◌<◌, ◌≤◌, ◌^◌, ℤ, true, false, cond, nat_le, nat_lt, is_some, List, [], ◌∷◌, ◌++◌, length, take, get_or, None, Option, ◌⊎◌, inl, inr, arith, length-append, Contains, true≢false}
 use Rattle.std.proofs.lemmas.Bool.{ltb-true, ltb-false}
 use Rattle.std.proofs.lemmas.List.{take-append-le}
 use Rattle.std.specs.Prelude.{IsTrue}
@@ -31,7 +31,7 @@ use Rattle.cdcl_search.specs.declared.state.SearchState.{SearchState}
 use Rattle.cdcl_search.specs.Ties.{first_row_id, IsNamedBy, ClauseTies, AreNumbered, AreUnits, IsFed, IsFallingFrom, HasReasonOf, HaveReasons, Ties}
 use Rattle.cdcl_core.specs.Entering.{IsPut, HasCounts}
 use Rattle.cdcl_core.specs.Learning.{IsTaught}
-use Rattle.cdcl_core.proofs.Entering.{tied_then, trail_is, ranged_then, parities_then, conflicts_then, learned_then, stretches_then, tidy, named_then}
+use Rattle.cdcl_core.proofs.Entering.{tied_then, trail_is, ranged_then, parities_then, conflicts_then, learned_then, stretches_then, tidy, named_then, get_old}
 
 -- ---- a literal more on the code's trail
 stand_longer : (o : OrderState) (t : TrailState) (level : ℕ) (l : Literal) (reason : Reason) → AllStand o t → AllStand o (pushed t level l reason)
@@ -151,14 +151,16 @@ module _ (formula : Problem) (c : SearchState) (e : State) (lits : List Literal)
 
   -- the ties, but for what differs where the clause has one literal
   pub ties_entered : ClauseTies formula after.moment.tables.clauses (c.next + 1) D.arena (held 0 after.trail) → AreUnits after.moment.tables.clauses D.trail after.trail D.units.items → HaveReasons D e1
-      → Ties formula D e1 [] after
-  ties_entered clauses units reasons = record {
+      → length c1.units.items ≤ length D.units.items → Ties formula D e1 [] after
+  ties_entered clauses units reasons more = record {
     log = record {
       ranged = subst (λ n. IsRanged formula first_row_id n (first_row_id + 0) after.trail after.moment) (sym put.next)
           (subst (λ r. IsRanged formula first_row_id (c.next + 1) r after.trail after.moment) (let z : first_row_id ≡ first_row_id + 0 = omega arith in z) (ranged_then formula c e lits back s taught hints));
       sums = λ n high. ap (λ table. get table n) (parities_then formula c e lits back s taught hints) ∙ t1.log.sums n high;
       numbered = subst (λ table. AreNumbered table e1.parities) (sym (parities_then formula c e lits back s taught hints)) t1.log.numbered;
       rows_told = λ i h. absurd (omega (arith, h));
+      few_rows = omega arith;
+      none_at_0 = get_old formula c e lits back s taught hints 0 (omega arith) (λ same. let some = taught.ties.log.ranged.originals in omega (arith, same, some)) ∙ taught.ties.log.none_at_0;
       served = record {
         served = (tidy formula c e lits back s taught hints).served;
         old_clauses = (tidy formula c e lits back s taught hints).no_old_clauses;
@@ -183,6 +185,11 @@ module _ (formula : Problem) (c : SearchState) (e : State) (lits : List Literal)
           (subst (IsFallingFrom (c.next + 1)) (sym (learned_then formula c e lits back s taught hints)) (omega arith, taught.ties.counts.falling));
       many = let many = taught.ties.counts.many in let long = ap length (learned_then formula c e lits back s taught hints) in let is = put.learned in omega (arith, many, long, is);
       few = let few = taught.ties.counts.few in let same = stretches_then formula c e lits back s taught hints in let a = put.reductions in let b = counts.reductions in omega (arith, few, same, a, b);
+    };
+    ids = record {
+      taken = let was = t1.ids.taken in let a = counts.next in let b = counts.conflicts in let next = put.next in let conflicts = put.conflicts in omega (arith, was, a, b, next, conflicts, more);
+      counted = subst (λ n. n ≤ 10 ^ 18) (sym put.conflicts) (let few = taught.few in omega (arith, few));
+      few = t1.ids.few;
     };
     levels = (tidy formula c e lits back s taught hints).levels;
   }

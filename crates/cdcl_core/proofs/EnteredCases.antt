@@ -198,7 +198,7 @@ module _ (formula : Problem) (c : SearchState) (e : State) (lits : List Literal)
         ]
 
     pub clause_ties : HasTwo lits → AreOthersFalse c1.trail.entries lits l → Ties formula D e1 [] after
-    clause_ties two others = ties_entered formula c e lits back s taught hints c1 e1 t1 takes o stands D reason counts enters.put (record { stored = stored_then two; covered = covered_then; apart = apart_then }) units_then (reasons_then others)
+    clause_ties two others = ties_entered formula c e lits back s taught hints c1 e1 t1 takes o stands D reason counts enters.put (record { stored = stored_then two; covered = covered_then; apart = apart_then }) units_then (reasons_then others) (let count = ap length enters.units in omega (arith, count))
 
   -- ---- one literal
   module _ (one : length lits ≡ 1) (none_above : back ≡ 0) (all_units : length c1.units.items ≡ length c1.trail.entries)
@@ -305,6 +305,7 @@ module _ (formula : Problem) (c : SearchState) (e : State) (lits : List Literal)
     unit_ties =
         ties_entered formula c e lits back s taught hints c1 e1 t1 takes o stands D why.Decision counts enters.put (record { stored = unit_stored; covered = unit_covered; apart = unit_apart }) unit_units
         (λ i far h. absurd (let long = units_long in let trail_long = length_D formula c e lits back s taught hints c1 e1 t1 takes o stands D why.Decision counts enters.put in let a = all_units in omega (arith, far, h, long, trail_long, a)))
+        (let long = units_long in omega (arith, long))
 
     pub unit_watched : IsWatched c1.watches c1.arena c1.trail → IsWatched D.watches D.arena D.trail
     unit_watched w =

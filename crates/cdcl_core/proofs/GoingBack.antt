@@ -1,5 +1,5 @@
 -- Going back to a lower level keeps the ties.
-use Rattle.std.proofs.Common.{◌≡◌, refl, sym, ap, ◌∙◌, subst, ℕ, zero, suc, ◌+◌, ◌-◌, ◌<◌, ◌≤◌, Bool, true, false, not, cond, ◌&&◌, nat_le, List, [], ◌∷◌, ◌++◌, length, take, get_or, Some, None, Option, inl, inr, arith, length-append, Contains}
+use Rattle.std.proofs.Common.{◌≡◌, refl, sym, ap, ◌∙◌, subst, ℕ, zero, suc, ◌+◌, ◌-◌, ◌<◌, ◌≤◌, ◌^◌, Bool, true, false, not, cond, ◌&&◌, nat_le, List, [], ◌∷◌, ◌++◌, length, take, get_or, Some, None, Option, inl, inr, arith, length-append, Contains}
 use Rattle.std.proofs.lemmas.Bool.{le-leb}
 use Rattle.std.proofs.lemmas.List.{take-append-le, length-map}
 use Rattle.std.proofs.Math.ListN.{get_or-map}
@@ -219,6 +219,8 @@ module _ (formula : Problem) (k : ℕ) (c d : SearchState) (e f : State) (rows :
       sums = t.log.sums;
       numbered = t.log.numbered;
       rows_told = t.log.rows_told;
+      few_rows = t.log.few_rows;
+      none_at_0 = t.log.none_at_0;
       served = record { served = t.log.served.served; old_clauses = t.log.served.old_clauses; new_clauses = t.log.served.new_clauses; old_sums = t.log.served.old_sums; new_sums = t.log.served.new_sums };
     };
     clauses = clauses_then;
@@ -228,6 +230,7 @@ module _ (formula : Problem) (k : ℕ) (c d : SearchState) (e f : State) (rows :
     reasons = λ i far within. reason_then i within (entry_at d.trail.entries i).reason
         (subst (λ x. HasReasonOf c.arena c.trail.entries e i x.reason) (same_entry i within) (let more = shorter in t.reasons i (subst (λ us. length us ≤ i) g.units far) (omega (arith, within, more))));
     counts = counts_then;
+    ids = record { taken = let was = t.ids.taken in let next = g.next in let conflicts = g.conflicts in let units = ap length g.units in omega (arith, was, next, conflicts, units); counted = subst (λ n. n ≤ 10 ^ 18) (sym g.conflicts) t.ids.counted; few = t.ids.few };
     levels = sym level_then;
   })
 

@@ -172,6 +172,8 @@ module _ (formula : Problem) (c : SearchState) (e : State) (s : Search) (ok : Is
       sums = p.log.sums;
       numbered = p.log.numbered;
       rows_told = λ i h. absurd (omega (arith, h));
+      few_rows = omega arith;
+      none_at_0 = drop_other s.moment.tables.clauses n 0 (λ same. let late = here.late was_learned in omega (arith, same, late)) ∙ p.log.none_at_0;
       served = record {
         served = p.log.served.served;
         old_clauses = ap (λ xs. without xs n) p.log.served.old_clauses;
@@ -207,6 +209,7 @@ module _ (formula : Problem) (c : SearchState) (e : State) (s : Search) (ok : Is
       many = let m = p.counts.many in let one = left in omega (arith, m, one);
       few = counted after.moment.reduces s.moment.reductions c.reductions fresh;
     };
+    ids = p.ids;
     levels = p.levels;
   }
 
@@ -240,6 +243,7 @@ reduction_begins formula c e told_ (s, ok, are, p, fits) = (
     engine = p.engine;
     reasons = p.reasons;
     counts = record { marked = p.counts.marked; falling = p.counts.falling; many = p.counts.many; few = let f = p.counts.few in omega (arith, f) };
+    ids = p.ids;
     levels = p.levels;
   },
   record { before = c.arena; part = λ q h. refl; watched = fits },
@@ -263,6 +267,7 @@ reduction_ends formula c e told_ w (s, ok, are, p, f, fresh) cut = (
     engine = p.engine;
     reasons = p.reasons;
     counts = p.counts;
+    ids = p.ids;
     levels = p.levels;
   },
   record { fits = detached_fits c.watches w f.before c.arena c.trail f.part cut f.watched.fits; all = λ r h. cut.kept r (f.watched.all r (subst IsSome (f.part r h) h)) h },

@@ -4,7 +4,7 @@ use Rattle.std.proofs.lemmas.Bool.{le-leb, ltb-true, ltb-false, and_parts}
 use Rattle.std.proofs.lemmas.List.{length-replicate, length_push}
 use Rattle.std.proofs.Math.ListN.{get_or-append}
 use Rattle.std.proofs.Math.Seq.{get_or-append_seam}
-use Rattle.std.specs.List.{AllByRecursion}
+use Rattle.std.specs.List.{All, AllByRecursion}
 use Rattle.std.specs.Prelude.{if◌then◌else◌}
 use Rattle.std.specs.Global.{Vec}
 use Rattle.std.proofs.lemmas.Option.{same_Some}
@@ -43,6 +43,8 @@ use Rattle.cdcl_search.proofs.UnitTies.{on_clauses, on_last}
 use Rattle.search_steps.specs.Laws.{HaveTheirs}
 use Rattle.cdcl_search.proofs.Places.{tied_length}
 use Rattle.cdcl_search.proofs.TableLaws.{no_clause}
+use Rattle.cdcl_search.specs.Tells.{IsId}
+use Rattle.cdcl_search.proofs.LowIds.{units_are_ids}
 use Rattle.cdcl_core.specs.declared.filling.Single.{Single}
 use Rattle.cdcl_core.specs.Filling.{IsFilled, clause_number}
 use Rattle.cdcl_core.specs.Given.{HasGiven, AreEngines}
@@ -149,6 +151,13 @@ module _ (formula : Problem) (engines : List (List Literal)) (c : SearchState) (
 
   small : u.number < first_row_id
   small = let high = single.0.high in let next = ties.next in let room = ties.room in omega (arith, high, next, room)
+
+  -- its number, and the ids of the units so far, are such as a step may have
+  pub waiting_is_id : IsId u.number
+  waiting_is_id = let low = single.0.low in let high = small in (omega (arith, low), omega (arith, high))
+
+  pub waiting_units_are_ids : All IsId c.units.items
+  waiting_units_are_ids = units_are_ids search.moment.tables.clauses c.trail search.trail c.units.items ties.clauses.none_before ties.units
 
   long : length search.trail ≡ length c.trail.entries
   long = tied_length search.trail c.trail.entries ties.follows.tied
@@ -299,6 +308,16 @@ module _ (formula : Problem) (engines : List (List Literal)) (c : SearchState) (
       open_is_put trail is sound = subst (λ t. SearchStandsBut formula engines (with_single c units t) more old) (sym is) (pushed_is_put (subst IsTrail is sound))
 
 -- ---- before the first unit clause
+pub no_ids : (ids : List ℕ) → ids ≡ [] → All IsId ids
+no_ids ids none k d less = absurd (let long = ap length none in omega (arith, long, less))
+
+pub empty_is_id : (formula : Problem) → length formula.constraints ≤ 4294967295 → (c : SearchState) (units : List Single) (number : ℕ) → IsFilled formula c units (Some number) → IsId number
+empty_is_id formula few c units number f =
+    let low = f.empty_is.0 in
+    let high = f.empty_is.1 in
+    let all = few_clauses formula.constraints in
+    (omega (arith, low), omega (arith, high, all, few))
+
 module _ (formula : Problem) (few : length formula.constraints ≤ 4294967295) (known : IsWithinVariables formula.variables formula.constraints) (engines : List (List Literal)) (told : Option (List LogEvent)) (b : HasGiven formula engines told) (c : SearchState) (units : List Single) where
   room_then : length (clauses_of formula.constraints) + 1 < first_row_id
   room_then = let a = few_clauses formula.constraints in omega (arith, a, few)
@@ -471,8 +490,8 @@ module _ (formula : Problem) (engines : List (List Literal)) (c : SearchState) (
     theirs : e.parities ≡ engines
     theirs = ap (λ x. x.parities) made
 
-    pub begun_stands : AreEngines formula engines → SearchStands formula c e [] told
-    begun_stands are = (
+    pub begun_stands : length formula.constraints ≤ 4294967295 → AreEngines formula engines → SearchStands formula c e [] told
+    begun_stands few are = (
       st.0,
       subst (λ ps. IsSearch formula ps st.0) (sym theirs) st.1,
       st.2,
@@ -482,6 +501,8 @@ module _ (formula : Problem) (engines : List (List Literal)) (c : SearchState) (
           sums = st.3.sums;
           numbered = st.3.parities.numbered;
           rows_told = λ i less. absurd (omega (arith, less));
+          few_rows = omega arith;
+          none_at_0 = st.3.clauses.none_before;
           served = st.3.served;
         });
         clauses = clauses_then;
@@ -500,6 +521,11 @@ module _ (formula : Problem) (engines : List (List Literal)) (c : SearchState) (
           falling = subst (IsFallingFrom c.next) (sym st.3.no_learned) tt;
           many = let none = st.3.none_learned in omega (arith, none);
           few = let none = st.3.no_reduction in omega (arith, none);
+        };
+        ids = record {
+          taken = let next = st.3.next in let all = few_clauses formula.constraints in omega (arith, next, all);
+          counted = let none = st.3.conflicts in omega (arith, none);
+          few = few;
         };
         levels = st.3.no_level ∙ sym level_is;
       },

@@ -1,5 +1,5 @@
 -- What a conflict comes to.
-use Rattle.std.specs.Prelude.{◌≡◌, ℕ, ◌<◌, List, [], Option, Some, None, IsFalse, IsTrue, ◌≢◌}
+use Rattle.std.specs.Prelude.{◌≡◌, ℕ, ◌<◌, ◌≤◌, List, [], length, Option, Some, None, IsFalse, IsTrue, ◌≢◌}
 use Rattle.std.specs.List.{AllByRecursion}
 use Rattle.cx_base.specs.Problem.{Problem, Unmet}
 use Rattle.cx_base.specs.Literals.{Literal}
@@ -21,6 +21,7 @@ use Rattle.cdcl_search.specs.Tells.{IsId, as_events, with_events, IsTellable}
 use Rattle.cdcl_search.specs.Ties.{SearchStands}
 use Rattle.cdcl_search.specs.Sources.{IsSourced}
 use Rattle.cdcl_core.specs.declared.conflicts.Conclusion.{Conclusion}
+use Rattle.cdcl_core.specs.declared.conflicts.Conflict.{Conflict}
 use Rattle.cdcl_core.specs.declared.conflicts.Conclusion.TheVariants.{Clause, Ending}
 
 -- the clause of a conflict: it is held, and each of its literals is false
@@ -39,9 +40,13 @@ pub record EndsLog (formula : Problem) (marks : ℕ) (told : Option (List LogEve
   pub unmet : Unmet formula
   pub log : IsEndedWith formula marks (with_events (as_events steps) told)
 
+-- the clause of a conflict has an id that a step may have, and at most one clause of a row was told for it
+abbrev pub IsTold : Conflict → Type 0
+IsTold k = IsId k.id × (length k.rows.items ≤ 1)
+
 -- a clause whose literals are all false, or steps that end the log
 abbrev pub Concludes : Problem → SearchState → State → Option (List LogEvent) → Conclusion → Type 0
-Concludes formula c e told (Clause k) = SearchStands formula c e k.rows.items told × IsConflictClause c k.rows.items k.lits
+Concludes formula c e told (Clause k) = SearchStands formula c e k.rows.items told × IsConflictClause c k.rows.items k.lits × IsTold k
 Concludes formula c e told (Ending steps) = SearchStands formula c e [] told × EndsLog formula c.conflicts told steps.items
 
 -- the clauses of the search show the empty clause, which may have this id; so many conflicts are counted

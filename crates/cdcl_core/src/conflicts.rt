@@ -8,7 +8,8 @@ ghost use Rattle.parity_engine.specs.Written.{AreRising};
 ghost use Rattle.cdcl_search.specs.Explaining.{Explains};
 ghost use Rattle.cdcl_search.specs.Finds.{PropagationFinds, IsClash};
 ghost use Rattle.conflict_learn.specs.Faults.{fault_in};
-ghost use Rattle.cdcl_search.specs.Tells.{IsTellable};
+ghost use Rattle.cdcl_search.specs.Sources.{HasIds};
+ghost use Rattle.cdcl_search.specs.Tells.{IsId, IsTellable};
 ghost use Rattle.cdcl_search.specs.Logs.{GoesOn, Stands, told_in};
 ghost use Rattle.cdcl_search.specs.Ties.{first_row_id};
 ghost use Rattle.cdcl_search.specs.declared.propagation.Found.TheVariants.{Quiet};
@@ -48,8 +49,10 @@ fn stored_conflict(
     state: &SearchState,
     reference: ClauseRef,
 ) -> Result<Conflict, AllocError>
-    requires { IsLive state.now.arena reference }
+    requires live { IsLive state.now.arena reference }
+    requires ids { HasIds state.now }
     ensures clause { IfOk result (λ c. c.lits ≡ literals_at state.now.arena reference) }
+    ensures id { IfOk result (λ c. IsId c.id) }
     ensures rows { IfOk result (λ c. c.rows.items ≡ []) }
 {
     let hinted = stored(alloc, state, reference)?;
@@ -71,6 +74,7 @@ fn told_conflict<P: ParityEngine, L: Sink<Item = LogEvent>>(
     requires explains { Explains (P.state engine.now).parities state.now.trail reason }
     requires some { reason.clause ≢ [] }
     ensures clause { IfOk result (λ c. c.lits ≡ reason.clause) }
+    ensures id { IfOk result (λ c. IsId c.id) }
     ensures rows { IfOk result (λ c. c.rows.items ≡ reason.clause ∷ []) }
     ensures stands { OnOk result (Stands P.ParityEngine L.Sink log.new state.now engine.now (reason.clause ∷ [])) }
     ensures log { GoesOn L.Sink log.old (fault_in result) log.new }
@@ -88,14 +92,15 @@ fn told_conflict<P: ParityEngine, L: Sink<Item = LogEvent>>(
 
 /// The steps of a row: its sum and its clause.
 fn ending(alloc: Global, formula: &Formula, reason: ReasonOf) -> Result<Vec<LogStep>, AllocError>
-    requires { (parities : ℕ) × (parities ≤ length formula.now.constraints) × AreRising 1 parities reason.sources }
+    requires constraints { length formula.now.constraints ≤ 4294967295 }
+    requires sources { (parities : ℕ) × (parities ≤ length formula.now.constraints) × AreRising 1 parities reason.sources }
     ensures steps { IfOk result (λ s. s.items ≡ step.Parity (length formula.now.constraints + 1) (integers_of reason.parity) reason.sources
         ∷ step.ClauseOfParity first_row_id (integers_of reason.clause) (length formula.now.constraints + 1) ∷ []) }
     ensures texts { IfOk result (λ s. AllByRecursion IsTellable s.items) }
     ensures parity { IfOk result (λ s. literals (integers_of reason.parity) ≡ reason.parity) }
     ensures clause { IfOk result (λ s. literals (integers_of reason.clause) ≡ reason.clause) }
 {
-    let ids = next_ids(formula, &[])?;
+    let ids = next_ids(formula, &[]);
     let ReasonOf {
         parity,
         sources,

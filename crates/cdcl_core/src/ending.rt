@@ -4,6 +4,7 @@ ghost use Rattle.std.specs.List.{All};
 ghost use Rattle.conflict_learn.specs.Faults.{fault_in};
 ghost use Rattle.cdcl_search.specs.Finds.{PropagationFinds};
 ghost use Rattle.cdcl_search.specs.Logs.{GoesOn, Stands, told_in};
+ghost use Rattle.cdcl_search.specs.Tells.{IsId};
 ghost use Rattle.cdcl_search.specs.declared.propagation.Found.TheVariants.{Quiet};
 ghost use Rattle.cdcl_core.specs.Concluding.{EndsLog, IsConflictClause, IsRefutable};
 ghost use Rattle.cdcl_core.specs.Results.{Refutes};
@@ -11,7 +12,6 @@ ghost use Rattle.cdcl_core.specs.Results.{Refutes};
 use crate::conflicts::{Conclusion, Conflict, conflict_clause};
 use cdcl_search::chains::{hints_of, tell_chained};
 use cdcl_search::logs::SearchLog;
-use cdcl_search::rows::FIRST_ROW_ID;
 use cdcl_search::telling::tell_steps;
 use cdcl_search::{Found, SearchState};
 use conflict_learn::CoreFault;
@@ -40,6 +40,8 @@ pub(crate) fn refute<L: Sink<Item = LogEvent>>(
     id: u64,
 ) -> Result<(), CoreFault>
     requires known { All (λ l. l.variable ≤ state.now.trail.variables) lits.now }
+    requires units { All IsId state.now.units.items }
+    requires id { IsId id }
     requires shown { IsRefutable log.old.formula.now state.now.next state.now.conflicts (told_in L.Sink log.old) }
     ensures refutes { OnOk result (Refutes log.new.formula.now (state.now.conflicts + 1) (told_in L.Sink log.new)) }
     ensures log { GoesOn L.Sink log.old (fault_in result) log.new }
@@ -58,12 +60,10 @@ fn end_by_clause<P: ParityEngine, L: Sink<Item = LogEvent>>(
     requires stands { Stands P.ParityEngine L.Sink log.old state.now engine.now conflict.now.rows.items }
     requires conflict { IsConflictClause state.now conflict.now.rows.items conflict.now.lits }
     requires all { length state.now.units.items ≡ length state.now.trail.entries }
+    requires id { IsId conflict.now.id }
     ensures refutes { OnOk result (Refutes log.new.formula.now (state.now.conflicts + 1) (told_in L.Sink log.new)) }
     ensures log { GoesOn L.Sink log.old (fault_in result) log.new }
 {
-    if state.next >= FIRST_ROW_ID {
-        return Err(CoreFault::Memory);
-    }
     refute(log, state, conflict.lits.as_slice(), conflict.id)
 }
 

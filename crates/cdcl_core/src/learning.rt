@@ -1,5 +1,5 @@
 //! Learning from a conflict.
-ghost use Rattle.std.specs.Prelude.{◌≡◌, ◌<◌, ◌^◌, ◌∷◌, IfOk, OnOk, IsTrue};
+ghost use Rattle.std.specs.Prelude.{◌≡◌, ◌<◌, ◌≤◌, ◌^◌, ◌∷◌, length, IfOk, OnOk, IsTrue};
 ghost use Rattle.cx_base.specs.Literals.{Literal};
 ghost use Rattle.cx_semantics.specs.Chain.{has_literal};
 ghost use Rattle.cx_trail.specs.Sequence.{IsTrueIn};
@@ -15,9 +15,9 @@ ghost use Rattle.parity_engine.specs.State.{State};
 ghost use Rattle.cdcl_search.specs.Deleting.{deletions};
 ghost use Rattle.cdcl_search.specs.Tells.{IsId, as_events, IsTellable};
 ghost use Rattle.cdcl_search.specs.Logs.{GoesOn, Stands, told_in};
-ghost use Rattle.cdcl_search.specs.Ties.{first_row_id, row_ids, HaveReasons};
-ghost use Rattle.cdcl_search.specs.Sources.{IsSourced};
-ghost use Rattle.cdcl_core.specs.Concluding.{IsConflictClause};
+ghost use Rattle.cdcl_search.specs.Ties.{row_ids, HaveReasons};
+ghost use Rattle.cdcl_search.specs.Sources.{IsSourced, HasIds};
+ghost use Rattle.cdcl_core.specs.Concluding.{IsConflictClause, IsTold};
 ghost use Rattle.cdcl_core.specs.Learning.{Learns};
 
 use crate::conflicts::Conflict;
@@ -44,7 +44,8 @@ fn steps_of_learned(
     hints: IntList,
     rows: usize,
 ) -> Result<Vec<LogStep>, AllocError>
-    requires { IsId id }
+    requires id { IsId id }
+    requires few { rows ≤ 16777216 }
     ensures steps { IfOk result (λ s. as_events s.items ≡ event.Step (step.ClauseWithHints id (integers_of lits.now) hints) ∷ deletions (row_ids rows)) }
     ensures texts { IfOk result (λ s. AllByRecursion IsTellable s.items) }
     ensures literals { IfOk result (λ s. literals (integers_of lits.now) ≡ lits.now) }
@@ -69,7 +70,6 @@ fn tell_learned<P: ParityEngine, L: Sink<Item = LogEvent>>(
     requires stands { Stands P.ParityEngine L.Sink log.old state.now engine.now rows.now }
     requires conflict { IsConflictClause state.now rows.now conflict.now }
     requires above { 0 < state.now.trail.level }
-    requires room { state.now.next < first_row_id }
     requires few { state.now.conflicts < 10 ^ 18 }
     requires teaches { Teaches state.now.trail conflict.now (IsSourced state.now rows.now) learned.now.resolved learned.now.lits learned.now.back_level learned.now.lbd }
     ensures learned { OnOk result (Learns log.new.formula.now state.now (P.state engine.now) learned.now.lits learned.now.back_level (told_in L.Sink log.new)) }
@@ -95,19 +95,22 @@ fn hints_of_lesson(
     rows: usize,
     conflict: u64,
 ) -> Result<IntList, AllocError>
+    requires ids { HasIds state.now }
+    requires few { rows ≤ 16777216 }
+    requires conflict { IsId conflict }
     requires stand { (l : Literal) → IsTrue (has_literal resolved.now l) → IsTrueIn state.now.trail.entries l }
     requires reasons { (e : State) × HaveReasons state.now e }
 {
     let mut hints = Vec::with_capacity(alloc, resolved.len())?;
-    let mut row_id = FIRST_ROW_ID.saturating_add(rows as u64);
+    let mut behind = rows;
     let mut left = resolved.len();
     while left > 0 {
         left -= 1;
         let silent = silent_id(state, resolved[left]);
         if silent.is_none() {
-            row_id = row_id.saturating_sub(1);
+            behind = behind.saturating_sub(1);
         }
-        push_hint(&mut hints, silent.unwrap_or(row_id))?;
+        push_hint(&mut hints, silent.unwrap_or(FIRST_ROW_ID + behind as u64))?;
     }
     push_hint(&mut hints, conflict)?;
     Ok(IntList::from_vec(hints))
@@ -125,6 +128,7 @@ fn lesson_of<'x, P: ParityEngine, L: Sink<Item = LogEvent>>(
     requires stands { Stands P.ParityEngine L.Sink log.old state.now engine.now rows.old.items }
     requires conflict { IsConflictClause state.now rows.old.items conflict.now }
     requires above { 0 < state.now.trail.level }
+    requires few_rows { length rows.old.items ≤ 1 }
     requires clear { AreClear marks.old }
     ensures stands { OnOk result (Stands P.ParityEngine L.Sink log.new state.now engine.now rows.new.items) }
     ensures conflict { IsConflictClause state.now rows.new.items conflict.now }
@@ -155,8 +159,8 @@ pub(crate) fn learn<P: ParityEngine, L: Sink<Item = LogEvent>>(
     requires stands { Stands P.ParityEngine L.Sink log.old state.now engine.now conflict.rows.items }
     requires conflict { IsConflictClause state.now conflict.rows.items conflict.lits }
     requires above { 0 < state.now.trail.level }
-    requires room { state.now.next < first_row_id }
     requires few { state.now.conflicts < 10 ^ 18 }
+    requires told { IsTold conflict }
     requires clear { AreClear marks.old }
     ensures learned { IfOk result (λ r. Learns log.new.formula.now state.now (P.state engine.now) r.lits r.back_level (told_in L.Sink log.new)) }
     ensures touched { IfOk result (λ r. AreTouched state.now.trail r.resolved r.lits r.touched.items) }

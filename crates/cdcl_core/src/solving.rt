@@ -12,7 +12,7 @@ ghost use Rattle.cdcl_search.specs.Logs.{GoesOn, Stands, told_in};
 ghost use Rattle.cdcl_search.specs.Tells.{GivesUp, HaveLowIds};
 ghost use Rattle.cdcl_search.specs.declared.propagation.Found.TheVariants as finding;
 ghost use Rattle.cdcl_core.specs.Results.{IsRightOutcome, IsFresh, IsSettledBy, HasNoMark};
-ghost use Rattle.cdcl_core.specs.Concluding.{SearchGoesOn, IsConflictClause};
+ghost use Rattle.cdcl_core.specs.Concluding.{SearchGoesOn, IsConflictClause, IsTold};
 ghost use Rattle.cdcl_core.specs.declared.solving.Outcome.{Outcome};
 ghost use Rattle.cdcl_core.specs.declared.solving.Outcome.TheVariants as outcome;
 
@@ -23,7 +23,6 @@ use crate::jumping::jump;
 use crate::learning::learn;
 use crate::schedule::{Schedule, follow_schedule};
 use cdcl_search::logs::SearchLog;
-use cdcl_search::rows::FIRST_ROW_ID;
 use cdcl_search::{Found, SearchState, search_on, values_of};
 use conflict_learn::{CoreFault, Marks};
 use cx_base::{Formula, LogEvent, Values};
@@ -53,6 +52,7 @@ fn learn_and_jump<P: ParityEngine, L: Sink<Item = LogEvent>>(
 ) -> Result<Option<Outcome>, CoreFault>
     requires stands { Stands P.ParityEngine L.Sink log.old state.old engine.old conflict.rows.items }
     requires conflict { IsConflictClause state.old conflict.rows.items conflict.lits }
+    requires told { IsTold conflict }
     requires above { 0 < state.old.trail.level }
     requires few { (state.old.conflicts < budget) × (budget ≤ 10 ^ 18) }
     requires clear { AreClear marks.old }
@@ -61,9 +61,6 @@ fn learn_and_jump<P: ParityEngine, L: Sink<Item = LogEvent>>(
     ensures clear { OnOk result (AreClear marks.new) }
     ensures log { GoesOn L.Sink log.old (fault_in result) log.new }
 {
-    if state.next >= FIRST_ROW_ID {
-        return Err(CoreFault::Memory);
-    }
     let learned = learn(log, state, engine, marks, conflict)?;
     if state.conflicts + 1 == budget {
         return Ok(Some(Outcome::Unknown { conflicts: budget }));

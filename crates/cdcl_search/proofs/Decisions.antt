@@ -44,6 +44,7 @@ module _ (formula : Problem) (c : SearchState) (e : State) (s : Search) (ok : Is
     engine = t.engine;
     reasons = t.reasons;
     counts = t.counts;
+    ids = t.ids;
     levels = t.levels;
   }
 
@@ -73,6 +74,8 @@ module _ (formula : Problem) (c : SearchState) (e : State) (s : Search) (ok : Is
               sums = t.log.sums;
               numbered = t.log.numbered;
               rows_told = t.log.rows_told;
+              few_rows = t.log.few_rows;
+              none_at_0 = t.log.none_at_0;
               served = served_alike s (decided_on s l) 0 refl t.log.served;
             };
             clauses = clauses_grow formula s.moment.tables.clauses c.next c.arena s.trail (record { literal = l; level = suc (level_of s.trail); why = decided }) t.clauses;
@@ -83,6 +86,7 @@ module _ (formula : Problem) (c : SearchState) (e : State) (s : Search) (ok : Is
                 (reasons_stay (record c { order = o }) e (opened e) (λ i row _ h. renamed_reason e (opened e) c.trail.entries i row h h.named h.is h.implied refl refl) t.reasons)
                 (subst (λ (x : TrailEntry). 0 < x.level) (sym (at_end (record c { order = o }) (c.trail.level + 1) l reason.Decision)) (omega arith));
             counts = record { marked = t.counts.marked; falling = t.counts.falling; many = t.counts.many; few = t.counts.few };
+            ids = t.ids;
             levels = refl;
           },
         )

@@ -112,6 +112,8 @@ module _ (formula : Problem) (c : SearchState) (e : State) (rows : List (List Li
       sums = λ n high. ap (λ table. get table n) (deleted_parities s ids) ∙ t.log.sums n high;
       numbered = subst (λ table. AreNumbered table e.parities) (sym (deleted_parities s ids)) t.log.numbered;
       rows_told = λ i h. absurd (omega (arith, h));
+      few_rows = omega arith;
+      none_at_0 = answers 0 (omega arith) ∙ t.log.none_at_0;
       served = record {
         served = deleted_awaits s ids ∙ t.log.served.served;
         old_clauses = none_old;
@@ -131,6 +133,7 @@ module _ (formula : Problem) (c : SearchState) (e : State) (rows : List (List Li
       many = subst (λ ns. c.learned ≤ length ns) (sym (temporary_learned formula s ids temporary)) t.counts.many;
       few = subst (λ n. n ≤ c.reductions) (sym (temporary_stretches formula s ids temporary)) t.counts.few;
     };
+    ids = t.ids;
     levels = deleted_levels s ids ∙ t.levels ∙ ap level_of (sym (deleted_trail s ids));
   }
 

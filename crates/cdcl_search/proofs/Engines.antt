@@ -66,5 +66,6 @@ other_engine formula c rows s e u vars parities values level reasons t = record 
   };
   reasons = reasons;
   counts = t.counts;
+  ids = t.ids;
   levels = t.levels;
 }

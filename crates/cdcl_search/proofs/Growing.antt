@@ -137,13 +137,14 @@ module _ (formula : Problem) (c : SearchState) (e : State) (rows : List (List Li
   pub forced_ties : IsRanged formula first_row_id c.next (first_row_id + length rows) (forced_on s l why).trail (forced_on s l why).moment → IsTied (forced_on s l why).trail (pushed c.trail c.trail.level l cause).entries
       → IsTrail (pushed c.trail c.trail.level l cause) → HasReasonOf c.arena (grown c c.trail.level l cause) e (length c.trail.entries) cause → Ties formula (put c c.trail.level l cause) e rows (forced_on s l why)
   forced_ties ranged tied sound has = record {
-    log = record { ranged = ranged; sums = t.log.sums; numbered = t.log.numbered; rows_told = t.log.rows_told; served = served_alike s (forced_on s l why) (length rows) refl t.log.served };
+    log = record { ranged = ranged; sums = t.log.sums; numbered = t.log.numbered; rows_told = t.log.rows_told; few_rows = t.log.few_rows; none_at_0 = t.log.none_at_0; served = served_alike s (forced_on s l why) (length rows) refl t.log.served };
     clauses = clauses_grow formula s.moment.tables.clauses c.next c.arena s.trail (record { literal = l; level = level_of s.trail; why = why }) t.clauses;
     trail = record { follows = record { tied = tied; sound = sound }; variables = t.trail.variables; stand = stand_grows c c.trail.level l cause c.order t.trail.stand; phased = t.trail.phased };
     units = units_grow c c.trail.level l cause s.moment.tables.clauses s.trail (record { literal = l; level = level_of s.trail; why = why }) c.units.items t.units t.units.all;
     engine = record { vars = t.engine.vars; wide = t.engine.wide; theirs = t.engine.theirs; few = t.engine.few; fed = fed_grows s.trail (record { literal = l; level = level_of s.trail; why = why }) c.given e t.engine.fed refl };
     reasons = reasons_grow c c.trail.level l cause e t.reasons has;
     counts = record { marked = t.counts.marked; falling = t.counts.falling; many = t.counts.many; few = t.counts.few };
+    ids = t.ids;
     levels = t.levels;
   }
 

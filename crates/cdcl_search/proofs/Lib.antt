@@ -24,3 +24,4 @@ pub mod DeletedRows
 pub mod Tellings
 pub mod UnitTies
 pub mod UnitLaws
+pub mod LowIds

@@ -178,7 +178,7 @@ module _ (formula : Problem) (c : SearchState) (e : State) (rows : List (List Li
   pub sum_is : get after_sum.moment.tables.parities k ≡ Some (literals rs)
   sum_is = put_same s.moment.tables.parities k (literals rs)
 
-  module _ (some : is_empty zs ≡ false) where
+  module _ (some : is_empty zs ≡ false) (room : length rows ≤ formula.variables) where
     reason_is : IsRowReason formula theirs s k rs r.sources n zs
     reason_is = record { high = high; row_step = row_added; row = row_is; clause_step = clause_added; clause = clause_is; goes_on = some }
 
@@ -222,6 +222,8 @@ module _ (formula : Problem) (c : SearchState) (e : State) (rows : List (List Li
         sums = row_reason_frees_sum (length theirs) s k rs r.sources n zs t.log.sums;
         numbered = numbered_still;
         rows_told = rows_more;
+        few_rows = let long = one_longer in omega (arith, long, room);
+        none_at_0 = put_other s.moment.tables.clauses n 0 (literals zs) (λ same. omega (arith, same)) ∙ t.log.none_at_0;
         served = served_still;
       };
       clauses = clauses_stay formula s.moment.tables.clauses (all_told s steps).moment.tables.clauses c.next c.arena (held 0 s.trail) t.log.ranged.room (put_answers_below first_row_id n s.moment.tables.clauses (literals zs) (omega arith)) t.clauses;
@@ -230,6 +232,7 @@ module _ (formula : Problem) (c : SearchState) (e : State) (rows : List (List Li
       engine = t.engine;
       reasons = t.reasons;
       counts = record { marked = t.counts.marked; falling = t.counts.falling; many = t.counts.many; few = t.counts.few };
+      ids = t.ids;
       levels = t.levels;
     }
 
@@ -244,7 +247,7 @@ rising_ids least few (i ∷ ids) low top r =
     let last = r.1 in
     ((omega (arith, low, first), omega (arith, top, last)), rising_ids (i + 1) few ids (omega arith) top r.2)
 
-pub sources_are_ids : (constraints parities : ℕ) (ids : List ℕ) → parities ≤ constraints → constraints < 500000000000000000 → AreRising 1 parities ids → AllByRecursion Rattle.cdcl_search.specs.Tells.IsId ids
+pub sources_are_ids : (constraints parities : ℕ) (ids : List ℕ) → parities ≤ constraints → constraints ≤ 4294967295 → AreRising 1 parities ids → AllByRecursion Rattle.cdcl_search.specs.Tells.IsId ids
 sources_are_ids constraints parities ids few small r = rising_ids 1 parities ids (omega arith) (omega (arith, few, small)) r
 
 not_empty : (lits : List Literal) → lits ≢ [] → is_empty (integers_of lits) ≡ false
@@ -255,11 +258,11 @@ module _ (formula : Problem) (c : SearchState) (e : State) (rows : List (List Li
   pub left_now : IsLeft formula old
   left_now = is_left formula e.parities st.0 old st.1 st.3.log.served.served st.2
 
-  module _ (r : ReasonOf) (x : Explains e.parities c.trail r) (back_parity : literals (integers_of r.parity) ≡ r.parity) (back_clause : literals (integers_of r.clause) ≡ r.clause) (some : r.clause ≢ [])
+  module _ (r : ReasonOf) (x : Explains e.parities c.trail r) (back_parity : literals (integers_of r.parity) ≡ r.parity) (back_clause : literals (integers_of r.clause) ≡ r.clause) (some : r.clause ≢ []) (room : length rows ≤ formula.variables)
       (events : List LogEvent) (seen : List (List Literal)) (same : seen ≡ rows) (are_ : events ≡ row_events (length formula.constraints + 1) (integers_of r.parity) r.sources (first_row_id + length seen) (integers_of r.clause)) where
     are : events ≡ row_events (length formula.constraints + 1) (integers_of r.parity) r.sources (first_row_id + length rows) (integers_of r.clause)
     are = subst (λ xs. events ≡ row_events (length formula.constraints + 1) (integers_of r.parity) r.sources (first_row_id + length xs) (integers_of r.clause)) same are_
 
     pub stands_then : (new : Option (List LogEvent)) → new ≡ with_events events old → SearchStands formula c e (rows ++ r.clause ∷ []) new
     stands_then new is = subst (SearchStands formula c e (rows ++ r.clause ∷ [])) (sym (is ∙ ap (λ es. with_events es old) are))
-        (stands_still formula c e rows st.0 st.1 st.3 r x back_parity back_clause (not_empty r.clause some) old st.2 st.4)
+        (stands_still formula c e rows st.0 st.1 st.3 r x back_parity back_clause (not_empty r.clause some) room old st.2 st.4)

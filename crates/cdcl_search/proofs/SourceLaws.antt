@@ -20,7 +20,7 @@ use Rattle.search_steps.proofs.Reasons.{live_is_live_set}
 use Rattle.cdcl_search.specs.declared.state.SearchState.{SearchState}
 use Rattle.cdcl_search.specs.Ties.{HaveReasons, HasReasonOf, IsClauseReasonOf, Ties, first_row_id}
 use Rattle.cdcl_search.specs.Explaining.{IsReasonOf}
-use Rattle.std.specs.Prelude.{Result, Ok, Err, IfOk, OnErr}
+use Rattle.std.specs.Prelude.{Result, Ok, Err, IfOk, OnOk, OnErr}
 use Rattle.cdcl_search.specs.Sources.{IsSourced}
 use Rattle.cdcl_search.proofs.RowReasons.{entry_taken}
 
@@ -98,3 +98,7 @@ module _ {T : Type 0} (c : SearchState) (old new : List (List Literal)) (lits : 
   pub sourced_grows : {E : Type 0} (r : Result T E) → IfOk r (λ x. new ≡ old ++ lits x ∷ []) → OnErr r (new ≡ old) → (clause : List Literal) → IsSourced c old clause → IsSourced c new clause
   sourced_grows (Ok x) h k clause is = subst (λ xs. IsSourced c xs clause) (sym h) (sourced_stays c old (lits x) clause is)
   sourced_grows (Err e) h k clause is = subst (λ xs. IsSourced c xs clause) (sym k) is
+
+  pub one_more : {E : Type 0} (r : Result T E) → IfOk r (λ x. new ≡ old ++ lits x ∷ []) → OnOk r (length new ≤ length old + 1)
+  one_more (Ok x) h = let long = ap length h in let both = length-append old (lits x ∷ []) in omega (arith, long, both)
+  one_more (Err e) h = tt

@@ -332,6 +332,8 @@ module _ (formula : Problem) (c : SearchState) (e : State) (rows : List (List Li
         sums = t.log.sums;
         numbered = t.log.numbered;
         rows_told = λ i less. put_other s.moment.tables.clauses c.next (first_row_id + i) (literal (integer_of l) ∷ []) (λ same. omega (arith, same, room)) ∙ t.log.rows_told i less;
+        few_rows = t.log.few_rows;
+        none_at_0 = put_other s.moment.tables.clauses c.next 0 (literal (integer_of l) ∷ []) (λ same. let some = t.log.ranged.originals in omega (arith, same, some)) ∙ t.log.none_at_0;
         served = record { served = refl; old_clauses = t.log.served.old_clauses; new_clauses = t.log.served.new_clauses; old_sums = t.log.served.old_sums; new_sums = t.log.served.new_sums };
       };
       clauses = clauses_then;
@@ -345,5 +347,6 @@ module _ (formula : Problem) (c : SearchState) (e : State) (rows : List (List Li
         many = subst (λ ns. c.learned ≤ length ns) (sym learned_still) t.counts.many;
         few = t.counts.few;
       };
+      ids = record { taken = let was = t.ids.taken in let long = longer in omega (arith, was, long, next_is); counted = t.ids.counted; few = t.ids.few };
       levels = t.levels ∙ ap level_of p.parts ∙ sym (level_same p.newer p.older p.entry c.next);
     }

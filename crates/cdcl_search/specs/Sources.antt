@@ -2,14 +2,22 @@
 use Rattle.std.specs.Prelude.{◌≡◌, ◌⊎◌, ℕ, ◌<◌, ◌-◌, ◌^◌, min, List, [], ◌∷◌, length, Contains}
 use Rattle.cx_base.specs.Literals.{Literal}
 use Rattle.cx_trail.specs.Sequence.{entry_at}
-use Rattle.clause_arena.specs.Clauses.{IsLive, literals_at}
+use Rattle.std.specs.List.{All}
+use Rattle.clause_arena.specs.Clauses.{IsLive, literals_at, id_at}
 use Rattle.cdcl_search.specs.declared.state.SearchState.{SearchState}
+use Rattle.cdcl_search.specs.Tells.{IsId}
 
 -- a clause of the arena, a unit clause of level 0, or a clause of a row that was told
 abbrev pub IsSourced : SearchState → List (List Literal) → List Literal → Type 0
 IsSourced c rows clause = ((r : ℕ) × IsLive c.arena r × (clause ≡ literals_at c.arena r))
     ⊎ ((i : ℕ) × (i < length c.units.items) × (clause ≡ (entry_at c.trail.entries i).literal ∷ []))
     ⊎ Contains rows clause
+
+-- each id that the search holds is one that a step may have
+pub record HasIds (c : SearchState) : Type 0 where
+  pub next : IsId c.next
+  pub units : All IsId c.units.items
+  pub stored : (r : ℕ) → IsLive c.arena r → IsId (id_at c.arena r)
 
 -- a count of 64 bits stays at its last value
 abbrev pub counted : ℕ → ℕ

@@ -1,5 +1,5 @@
 -- What the code of a search holds, part by part, and how a search of the calculus stands behind it. Each part takes just what it speaks of, so that a step that leaves this as it was passes the part on.
-use Rattle.std.specs.Prelude.{◌≡◌, ◌≢◌, ◌⊎◌, ℕ, zero, suc, ◌+◌, ◌-◌, ◌<◌, ◌≤◌, Bool, false, List, [], ◌∷◌, ◌++◌, length, take, get_or, Option, Some, IsTrue, IsFalse, Contains, if◌then◌else◌, ⊤}
+use Rattle.std.specs.Prelude.{◌≡◌, ◌≢◌, ◌⊎◌, ℕ, zero, suc, ◌+◌, ◌-◌, ◌<◌, ◌≤◌, ◌^◌, Bool, false, List, [], ◌∷◌, ◌++◌, length, take, get_or, Option, Some, None, IsTrue, IsFalse, Contains, if◌then◌else◌, ⊤}
 use Rattle.std.specs.List.{AllByRecursion}
 use Rattle.std.specs.FinSet as set
 use Rattle.cx_base.specs.Literals.{Literal, literal_true}
@@ -54,12 +54,14 @@ pub record HasOnlyRowClauses (s : Search) (rows : ℕ) : Type 0 where
   pub old_sums : s.moment.old_sums ≡ []
   pub new_sums : s.moment.new_sums ≡ []
 
--- The engine's parities stand under their numbers, and the clauses of rows under theirs; what else is told keeps to its ranges, and nothing temporary is left but these clauses.
+-- The engine's parities stand under their numbers, and the clauses of rows, of which there are few, under theirs; what else is told keeps to its ranges, and nothing temporary is left but these clauses.
 pub record LogTies (formula : Problem) (parities : List (List Literal)) (next : ℕ) (rows : List (List Literal)) (s : Search) : Type 0 where
   pub ranged : IsRanged formula first_row_id next (first_row_id + length rows) s.trail s.moment
   pub sums : HasFreeSums (length parities) s.moment
   pub numbered : AreNumbered s.moment.tables.parities parities
   pub rows_told : AreRows s.moment.tables.clauses rows
+  pub few_rows : length rows ≤ formula.variables + 1
+  pub none_at_0 : get s.moment.tables.clauses 0 ≡ None
   pub served : HasOnlyRowClauses s (length rows)
 
 -- ---- the clauses
@@ -195,6 +197,12 @@ pub record CountTies (next conflicts learned reductions : ℕ) (s : Search) : Ty
   pub many : learned ≤ length s.moment.learned
   pub few : stretches s.moment ≤ reductions
 
+-- Each id below the next one is that of a clause of the formula, of a learned clause or of a unit clause of level 0; and the sums of rows have the id behind the number of the constraints.
+pub record HasFewIds (formula : Problem) (next conflicts units : ℕ) : Type 0 where
+  pub taken : next ≤ length formula.constraints + conflicts + units + 1
+  pub counted : conflicts ≤ 10 ^ 18
+  pub few : length formula.constraints ≤ 4294967295
+
 -- ---- the whole
 -- what the code holds, apart from the watches, is what the search of the calculus holds; of rows these clauses were told since the last mark
 pub record Ties (formula : Problem) (c : SearchState) (e : State) (rows : List (List Literal)) (s : Search) : Type 0 where
@@ -205,6 +213,7 @@ pub record Ties (formula : Problem) (c : SearchState) (e : State) (rows : List (
   pub engine : EngineTies formula s.trail c.given e
   pub reasons : ReasonTies c.arena c.trail.entries (length c.units.items) e
   pub counts : CountTies c.next c.conflicts c.learned c.reductions s
+  pub ids : HasFewIds formula c.next c.conflicts (length c.units.items)
   pub levels : s.quiet_levels ≡ level_of s.trail
 
 -- some search of the calculus stands behind the code, and its events are the sink's where that tells them

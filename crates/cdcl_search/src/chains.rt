@@ -21,15 +21,13 @@ use cx_trail::Truth;
 use std::alloc::{AllocError, Global};
 use step_text::Sink;
 
-/// Puts an id behind the hints of a step. One that no step can have counts as want of memory.
+/// Puts an id behind the hints of a step.
 pub fn push_hint(hints: &mut Vec<i64>, id: u64) -> Result<(), AllocError>
-    requires { AreStepIntegers hints.old.items }
+    requires integers { AreStepIntegers hints.old.items }
+    requires id { IsId id }
     ensures pushed { OnOk result (hints.new.items ≡ hints.old.items ++ pos id ∷ []) }
     ensures integers { OnOk result (AreStepIntegers hints.new.items) }
 {
-    if id == 0 || id > 9_223_372_036_854_775_807 {
-        return Err(AllocError);
-    }
     hints.push(id as i64)?;
     Ok(())
 }
@@ -52,7 +50,9 @@ pub fn hints_of(
     lits: &[Lit],
     id: u64,
 ) -> Result<IntList, AllocError>
-    requires { All (λ l. l.variable ≤ state.now.trail.variables) lits.now }
+    requires known { All (λ l. l.variable ≤ state.now.trail.variables) lits.now }
+    requires ids { All IsId state.now.units.items }
+    requires id { IsId id }
     ensures { IfOk result (AreUnitsAnd state.now id) }
 {
     let mut hints = Vec::new(alloc);

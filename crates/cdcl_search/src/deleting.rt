@@ -1,5 +1,5 @@
 //! Deleting the clauses of rows.
-ghost use Rattle.std.specs.Prelude.{◌≡◌, [], ◌++◌, OnOk, IfOk};
+ghost use Rattle.std.specs.Prelude.{◌≡◌, ◌≤◌, [], ◌++◌, OnOk, IfOk};
 ghost use Rattle.std.specs.List.{AllByRecursion};
 ghost use Rattle.conflict_learn.specs.Faults.{fault_in};
 ghost use Rattle.cdcl_search.specs.Deleting.{deletions};
@@ -8,7 +8,7 @@ ghost use Rattle.cdcl_search.specs.Tells.{as_events, IsTellable};
 ghost use Rattle.cdcl_search.specs.Ties.{row_ids};
 
 use crate::logs::SearchLog;
-use crate::rows::{CONSTRAINT_AND_ROW_LIMIT, FIRST_ROW_ID};
+use crate::rows::FIRST_ROW_ID;
 use crate::state::SearchState;
 use crate::steps::deletion;
 use crate::telling::tell_steps;
@@ -24,13 +24,11 @@ pub fn put_deletions(
     steps: &mut Vec<LogStep>,
     count: usize,
 ) -> Result<(), AllocError>
-    requires { AllByRecursion IsTellable steps.old.items }
+    requires texts { AllByRecursion IsTellable steps.old.items }
+    requires few { count ≤ 16777216 }
     ensures steps { OnOk result (as_events steps.new.items ≡ as_events steps.old.items ++ deletions (row_ids count)) }
     ensures texts { OnOk result (AllByRecursion IsTellable steps.new.items) }
 {
-    if count as u64 >= CONSTRAINT_AND_ROW_LIMIT {
-        return Err(AllocError);
-    }
     let mut left = count;
     while left > 0 {
         left -= 1;
@@ -41,6 +39,7 @@ pub fn put_deletions(
 
 /// The deletions of so many clauses of rows, the newest first.
 fn deletions_of_rows(alloc: Global, count: usize) -> Result<Vec<LogStep>, AllocError>
+    requires { count ≤ 16777216 }
     ensures steps { IfOk result (λ s. as_events s.items ≡ deletions (row_ids count)) }
     ensures texts { IfOk result (λ s. AllByRecursion IsTellable s.items) }
 {

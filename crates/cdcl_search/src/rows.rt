@@ -27,10 +27,6 @@ use xor_reason::{ReasonOf, reason_clause};
 /// The first id of the clauses that rows give: all others are below.
 pub const FIRST_ROW_ID: u64 = 1_500_000_000_000_000_000;
 
-/// A formula has fewer constraints than this, and between two marks fewer clauses of rows are told, so that each of
-/// their ids is one that a step may have.
-pub(crate) const CONSTRAINT_AND_ROW_LIMIT: u64 = 500_000_000_000_000_000;
-
 /// The ids of a row's sum and of its clause.
 #[derive(Clone, Copy, Debug, Drop)]
 pub struct RowIds {
@@ -38,22 +34,18 @@ pub struct RowIds {
     pub clause: u64,
 }
 
-/// The ids of the next row. Where there are no more, that is want of memory.
-pub fn next_ids(formula: &Formula, rows: &[LitList]) -> Result<RowIds, AllocError>
-    ensures sum { IfOk result (λ i. i.sum ≡ length formula.now.constraints + 1) }
-    ensures clause { IfOk result (λ i. i.clause ≡ first_row_id + length rows.now) }
-    ensures proper { IfOk result (λ i. IsId i.sum × IsId i.clause) }
-    ensures few { IfOk result (λ i. length formula.now.constraints < 500000000000000000) }
+/// The ids of the next row.
+pub fn next_ids(formula: &Formula, rows: &[LitList]) -> RowIds
+    requires constraints { length formula.now.constraints ≤ 4294967295 }
+    requires rows { length rows.now ≤ 16777215 }
+    ensures sum { result.sum ≡ length formula.now.constraints + 1 }
+    ensures clause { result.clause ≡ first_row_id + length rows.now }
+    ensures proper { IsId result.sum × IsId result.clause }
 {
-    let constraints = formula.len() as u64;
-    let told = rows.len() as u64;
-    if constraints >= CONSTRAINT_AND_ROW_LIMIT || told >= CONSTRAINT_AND_ROW_LIMIT {
-        return Err(AllocError);
+    RowIds {
+        sum: formula.len() as u64 + 1,
+        clause: FIRST_ROW_ID + rows.len() as u64,
     }
-    Ok(RowIds {
-        sum: constraints + 1,
-        clause: FIRST_ROW_ID + told,
-    })
 }
 
 /// The steps of a row: its sum and its clause.
@@ -145,14 +137,16 @@ fn prepare_next(
     rows: &[LitList],
     reason: ReasonOf,
 ) -> Result<Prepared, AllocError>
-    requires { (parities : ℕ) × (parities ≤ length formula.now.constraints) × AreRising 1 parities reason.sources }
+    requires constraints { length formula.now.constraints ≤ 4294967295 }
+    requires rows { length rows.now ≤ 16777215 }
+    requires sources { (parities : ℕ) × (parities ≤ length formula.now.constraints) × AreRising 1 parities reason.sources }
     ensures steps { IfOk result (λ p. as_events p.steps.items ≡ row_events (length formula.now.constraints + 1) (integers_of reason.parity) reason.sources (first_row_id + length rows.now) (integers_of reason.clause)) }
     ensures texts { IfOk result (λ p. AllByRecursion IsTellable p.steps.items) }
     ensures parity { IfOk result (λ p. literals (integers_of reason.parity) ≡ reason.parity) }
     ensures back { IfOk result (λ p. literals (integers_of reason.clause) ≡ reason.clause) }
     ensures clause { IfOk result (λ p. (p.clause ≡ reason.clause) × (p.copy ≡ reason.clause)) }
 {
-    let ids = next_ids(formula, rows)?;
+    let ids = next_ids(formula, rows);
     prepare(alloc, ids, reason)
 }
 
@@ -169,6 +163,7 @@ pub fn tell_reason<P: ParityEngine, L: Sink<Item = LogEvent>>(
     requires stands { Stands P.ParityEngine L.Sink log.old state.now engine.now rows.old.items }
     requires explains { Explains (P.state engine.now).parities state.now.trail reason }
     requires some { reason.clause ≢ [] }
+    requires room { length rows.old.items ≤ log.old.formula.now.variables }
     ensures clause { IfOk result (λ c. c ≡ reason.clause) }
     ensures same { OnErr result (rows.new.items ≡ rows.old.items) }
     ensures rows { OnOk result (rows.new.items ≡ rows.old.items ++ reason.clause ∷ []) }
@@ -192,6 +187,7 @@ pub(crate) fn tell_row<P: ParityEngine, L: Sink<Item = LogEvent>>(
 ) -> Result<LitList, CoreFault>
     requires stands { Stands P.ParityEngine L.Sink log.old state.now engine.now rows.old.items }
     requires reason { IsReasonOf (P.state engine.now) state.now.trail.entries implied row }
+    requires room { length rows.old.items ≤ log.old.formula.now.variables }
     ensures implied { IfOk result (IsAntecedent state.now.trail implied) }
     ensures same { OnErr result (rows.new.items ≡ rows.old.items) }
     ensures rows { IfOk result (λ c. rows.new.items ≡ rows.old.items ++ c ∷ []) }

@@ -1,5 +1,5 @@
 //! Where the clauses come from that implied the literals of the trail.
-ghost use Rattle.std.specs.Prelude.{◌≡◌, ℕ, ◌<◌, [], ◌∷◌, ◌++◌, List, length, IfOk, IfSome, OnOk, OnErr};
+ghost use Rattle.std.specs.Prelude.{◌≡◌, ℕ, ◌+◌, ◌-◌, ◌<◌, ◌≤◌, [], ◌∷◌, ◌++◌, List, length, IfOk, IfSome, OnOk, OnErr};
 ghost use Rattle.cx_base.specs.Literals.{Literal};
 ghost use Rattle.cx_trail.specs.declared.entry.Reason.TheVariants.{Clause};
 ghost use Rattle.cx_trail.specs.Sequence.{entry_at, IsTrueIn};
@@ -8,14 +8,15 @@ ghost use Rattle.conflict_learn.specs.Learning.{HasReason, IsAntecedent};
 ghost use Rattle.conflict_learn.specs.Faults.{fault_in};
 ghost use Rattle.parity_engine.specs.State.{State};
 ghost use Rattle.cdcl_search.specs.Explaining.{IsReasonOf};
-ghost use Rattle.cdcl_search.specs.Sources.{IsSourced};
+ghost use Rattle.cdcl_search.specs.Sources.{IsSourced, HasIds};
+ghost use Rattle.cdcl_search.specs.Tells.{IsId};
 ghost use Rattle.cdcl_search.specs.Ties.{SearchStands, HaveReasons};
 ghost use Rattle.cdcl_search.specs.Logs.{GoesOn, Stands};
 ghost use Rattle.cdcl_search.specs.Loans.{HasSameLoans, loans_rest, loans_then};
 ghost use Rattle.cdcl_search.specs.GoingOn.{log_rests, log_stops, log_then};
 
 use crate::logs::SearchLog;
-use crate::rows::{FIRST_ROW_ID, copy_of, tell_row};
+use crate::rows::{copy_of, next_ids, tell_row};
 use crate::state::SearchState;
 use conflict_learn::{Antecedents, CoreFault};
 use cx_base::{ClauseRef, Lit, LitList, LogEvent, Row};
@@ -35,7 +36,9 @@ pub struct Hinted {
 fn unit(alloc: Global, state: &SearchState, place: usize) -> Result<Hinted, AllocError>
     requires unit { place < length state.now.units.items }
     requires place { place < length state.now.trail.entries }
-    ensures { IfOk result (λ h. h.lits ≡ (entry_at state.now.trail.entries place).literal ∷ []) }
+    requires ids { HasIds state.now }
+    ensures lits { IfOk result (λ h. h.lits ≡ (entry_at state.now.trail.entries place).literal ∷ []) }
+    ensures id { IfOk result (λ h. IsId h.id) }
 {
     let mut lits = Vec::new(alloc);
     lits.push(state.trail.entry(place).literal)?;
@@ -51,48 +54,16 @@ pub fn stored(
     state: &SearchState,
     reference: ClauseRef,
 ) -> Result<Hinted, AllocError>
-    requires { IsLive state.now.arena reference }
-    ensures { IfOk result (λ h. h.lits ≡ literals_at state.now.arena reference) }
+    requires live { IsLive state.now.arena reference }
+    requires ids { HasIds state.now }
+    ensures lits { IfOk result (λ h. h.lits ≡ literals_at state.now.arena reference) }
+    ensures id { IfOk result (λ h. IsId h.id) }
 {
     let lits = copy_of(alloc, state.arena.lits(reference))?;
     Ok(Hinted {
         lits,
         id: state.arena.id(reference),
     })
-}
-
-/// The row that implied a literal which has no unit clause.
-pub fn row_of(state: &SearchState, reason: Reason, literal: Lit) -> Option<Row>
-    requires { HasReason state.now.trail literal reason }
-    ensures { IfSome result (λ row. (e : State) → HaveReasons state.now e → IsReasonOf e state.now.trail.entries literal row) }
-{
-    let place = state.trail.place_of(literal.negate());
-    match reason {
-        Reason::Row(row) if place >= state.units.len() => Some(row),
-        _ => None,
-    }
-}
-
-/// The clause of the arena or of level 0 that implied a literal. Other reasons are refused as want of memory.
-pub fn silent_clause(
-    alloc: Global,
-    state: &SearchState,
-    reason: Reason,
-    literal: Lit,
-) -> Result<Hinted, AllocError>
-    requires reason { HasReason state.now.trail literal reason }
-    requires reasons { (e : State) × HaveReasons state.now e }
-    ensures sourced { IfOk result (λ h. IsSourced state.now [] h.lits) }
-    ensures implied { IfOk result (λ h. IsAntecedent state.now.trail literal h.lits) }
-{
-    let place = state.trail.place_of(literal.negate());
-    if place < state.units.len() {
-        return unit(alloc, state, place);
-    }
-    match reason {
-        Reason::Clause(reference) => stored(alloc, state, reference),
-        _ => Err(AllocError),
-    }
 }
 
 /// The literals of the clause of the arena that implied a literal.
@@ -113,7 +84,9 @@ fn lent(state: &SearchState, reason: Reason, literal: Lit) -> Option<&[Lit]>
 
 /// The id of a clause of the arena.
 fn id_of(state: &SearchState, reason: Reason) -> Option<u64>
-    requires { (r : ℕ) → reason ≡ Clause r → IsLive state.now.arena r }
+    requires live { (r : ℕ) → reason ≡ Clause r → IsLive state.now.arena r }
+    requires ids { HasIds state.now }
+    ensures { IfSome result IsId }
 {
     match reason {
         Reason::Clause(reference) => Some(state.arena.id(reference)),
@@ -125,6 +98,8 @@ fn id_of(state: &SearchState, reason: Reason) -> Option<u64>
 pub fn silent_id(state: &SearchState, literal: Lit) -> Option<u64>
     requires true_now { IsTrueIn state.now.trail.entries literal }
     requires reasons { (e : State) × HaveReasons state.now e }
+    requires ids { HasIds state.now }
+    ensures { IfSome result IsId }
 {
     let place = state.trail.place_of(literal.negate());
     if place < state.units.len() {
@@ -145,13 +120,15 @@ fn hinted_row<P: ParityEngine, L: Sink<Item = LogEvent>>(
 ) -> Result<Hinted, CoreFault>
     requires stands { Stands P.ParityEngine L.Sink log.old state.now engine.now rows.old.items }
     requires reason { IsReasonOf (P.state engine.now) state.now.trail.entries literal row }
+    requires room { length rows.old.items ≤ log.old.formula.now.variables }
     ensures implied { IfOk result (λ h. IsAntecedent state.now.trail literal h.lits) }
+    ensures id { IfOk result (λ h. IsId h.id) }
     ensures same { OnErr result (rows.new.items ≡ rows.old.items) }
     ensures rows { IfOk result (λ h. rows.new.items ≡ rows.old.items ++ h.lits ∷ []) }
     ensures stands { OnOk result (Stands P.ParityEngine L.Sink log.new state.now engine.now rows.new.items) }
     ensures log { GoesOn L.Sink log.old (fault_in result) log.new }
 {
-    let id = FIRST_ROW_ID.saturating_add(rows.len() as u64);
+    let id = next_ids(log.formula, rows).clause;
     match tell_row(log, state, engine, row, literal, rows) {
         Ok(lits) => Ok(Hinted { lits, id }),
         Err(fault) => Err(fault),
@@ -169,15 +146,23 @@ pub(crate) fn clause_of_reason<P: ParityEngine, L: Sink<Item = LogEvent>>(
 ) -> Result<Hinted, CoreFault>
     requires stands { Stands P.ParityEngine L.Sink log.old state.now engine.now rows.old.items }
     requires reason { HasReason state.now.trail literal reason }
+    requires room { length rows.old.items ≤ log.old.formula.now.variables }
     ensures sourced { IfOk result (λ h. IsSourced state.now rows.new.items h.lits) }
     ensures implied { IfOk result (λ h. IsAntecedent state.now.trail literal h.lits) }
+    ensures id { IfOk result (λ h. IsId h.id) }
     ensures grows { (clause : List Literal) → IsSourced state.now rows.old.items clause → IsSourced state.now rows.new.items clause }
+    ensures one { OnOk result (length rows.new.items ≤ length rows.old.items + 1) }
     ensures stands { OnOk result (Stands P.ParityEngine L.Sink log.new state.now engine.now rows.new.items) }
     ensures log { GoesOn L.Sink log.old (fault_in result) log.new }
 {
-    match row_of(state, reason, literal) {
-        Some(row) => hinted_row(log, state, engine, row, literal, rows),
-        None => Ok(silent_clause(log.alloc, state, reason, literal)?),
+    let place = state.trail.place_of(literal.negate());
+    if place < state.units.len() {
+        return Ok(unit(log.alloc, state, place)?);
+    }
+    match reason {
+        Reason::Clause(reference) => Ok(stored(log.alloc, state, reference)?),
+        Reason::Row(row) => hinted_row(log, state, engine, row, literal, rows),
+        Reason::Decision => unreachable!(),
     }
 }
 
@@ -199,6 +184,8 @@ impl<P: ParityEngine, L: Sink<Item = LogEvent>> Antecedents for Source<'_, '_, P
     ghost holds = { λ a c. IsSourced a.state.now a.rows.now.items c };
 
     ghost ready = { λ a. SearchStands a.log.now.formula.now a.state.now (P.state a.engine.now) a.rows.now.items (L.items a.log.now.sink.now) };
+
+    ghost room = { λ a. a.log.now.formula.now.variables + 1 - length a.rows.now.items };
 
     ghost goes_on = { λ a why b. HasSameLoans a b × GoesOn L.Sink a.log.now why b.log.now };
 

@@ -2,12 +2,12 @@
 ghost use Rattle.std.specs.Prelude.{◌≡◌, ◌+◌, ◌<◌, [], length, OnOk};
 ghost use Rattle.conflict_learn.specs.Faults.{fault_in};
 ghost use Rattle.cdcl_search.specs.Logs.{GoesOn, Stands};
+ghost use Rattle.cdcl_search.specs.Tells.{IsId};
 ghost use Rattle.cdcl_search.specs.Units.{HasOther, IsNextUnit};
 
 use crate::chains::{hints_of, tell_chained};
 use crate::deleting::delete_rows;
 use crate::logs::SearchLog;
-use crate::rows::FIRST_ROW_ID;
 use crate::source::{Hinted, clause_of_reason};
 use crate::state::SearchState;
 use conflict_learn::CoreFault;
@@ -27,15 +27,13 @@ fn tell_unit<P: ParityEngine, L: Sink<Item = LogEvent>>(
     requires stands { Stands P.ParityEngine L.Sink log.old state.old engine.now rows.now }
     requires level { state.old.trail.level ≡ 0 }
     requires next { IsNextUnit state.old rows.now literal implying.now.lits }
+    requires id { IsId implying.now.id }
     ensures stands { OnOk result (Stands P.ParityEngine L.Sink log.new state.new engine.now rows.now) }
     ensures units { OnOk result (length state.new.units.items ≡ length state.old.units.items + 1) }
     ensures same { HasOther state.old state.new }
     ensures log { GoesOn L.Sink log.old (fault_in result) log.new }
 {
     let id = state.next;
-    if id >= FIRST_ROW_ID {
-        return Err(CoreFault::Memory);
-    }
     let hints = hints_of(log.alloc, state, implying.lits.as_slice(), implying.id)?;
     tell_chained(log, id, &[literal], hints)?;
     state.units.push(id)?;

@@ -1,7 +1,7 @@
 use Rattle.std.proofs.Common.{subst, ◌+◌, drop}
 use Rattle.cx_trail.specs.declared.entry.Reason.TheVariants.{Decision}
 use Rattle.cdcl_core.specs.Results.{Refutes}
-use Rattle.cdcl_core.proofs.WaitingLaws.{next_waits, true_is_put, false_is_refutable, open_is_put}
+use Rattle.cdcl_core.proofs.WaitingLaws.{waiting_units_are_ids, waiting_is_id, next_waits, true_is_put, false_is_refutable, open_is_put}
 use Rattle.cdcl_core.proofs.beginning.put_unit.Goals as goal
 
 pub refute-requires-clause-shown : goal.refute-requires-clause-shown
@@ -9,6 +9,18 @@ refute-requires-clause-shown g c =
     let (engines, stands) = c.requires.stands in
     false_is_refutable c.args.log.now.formula.now engines c.args.state.now c.index-units-place.result (drop (c.args.place + 1) c.args.units.now) (g.L.Sink.items c.args.log.now.sink.now)
     (next_waits c.args.log.now.formula.now engines c.args.state.now c.args.units.now c.args.place c.index-units-place.result (g.L.Sink.items c.args.log.now.sink.now) c.requires.place c.index-units-place.is stands) c.in-False.ensures.means
+
+pub refute-requires-clause-units : goal.refute-requires-clause-units
+refute-requires-clause-units g c =
+    let (engines, stands) = c.requires.stands in
+    waiting_units_are_ids c.args.log.now.formula.now engines c.args.state.now c.index-units-place.result (drop (c.args.place + 1) c.args.units.now) (g.L.Sink.items c.args.log.now.sink.now)
+    (next_waits c.args.log.now.formula.now engines c.args.state.now c.args.units.now c.args.place c.index-units-place.result (g.L.Sink.items c.args.log.now.sink.now) c.requires.place c.index-units-place.is stands)
+
+pub refute-requires-clause-id : goal.refute-requires-clause-id
+refute-requires-clause-id g c =
+    let (engines, stands) = c.requires.stands in
+    waiting_is_id c.args.log.now.formula.now engines c.args.state.now c.index-units-place.result (drop (c.args.place + 1) c.args.units.now) (g.L.Sink.items c.args.log.now.sink.now)
+    (next_waits c.args.log.now.formula.now engines c.args.state.now c.args.units.now c.args.place c.index-units-place.result (g.L.Sink.items c.args.log.now.sink.now) c.requires.place c.index-units-place.is stands)
 
 pub returns-in-True-clause-puts : goal.returns-in-True-clause-puts
 returns-in-True-clause-puts g c = λ engines stands. true_is_put c.args.log.now.formula.now engines c.args.state.now c.index-units-place.result (drop (c.args.place + 1) c.args.units.now) (g.L.Sink.items c.args.log.now.sink.now)

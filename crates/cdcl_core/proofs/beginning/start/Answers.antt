@@ -1,4 +1,4 @@
-use Rattle.std.proofs.Common.{◌≡◌, sym, ap, ◌∙◌, subst, ◌+◌, []}
+use Rattle.std.proofs.Common.{◌≡◌, sym, ap, ◌∙◌, subst, ◌+◌, ◌≤◌, length, []}
 use Rattle.std.specs.List.{AllByRecursion}
 use Rattle.cx_base.specs.Problem.{Problem, AreWithin}
 use Rattle.parity_engine.specs.State.{fresh}
@@ -6,12 +6,19 @@ use Rattle.cdcl_core.specs.Filling.{IsFilled}
 use Rattle.cdcl_core.specs.Given.{AreEngines}
 use Rattle.cdcl_core.specs.Results.{Refutes}
 use Rattle.cdcl_core.specs.Waiting.{SearchStandsBut, PutsUnits}
-use Rattle.cdcl_core.proofs.WaitingLaws.{filled_stands, empty_is_refutable, begun_stands, begun_is_calm}
+use Rattle.cdcl_core.proofs.WaitingLaws.{no_ids, empty_is_id, filled_stands, empty_is_refutable, begun_stands, begun_is_calm}
 use Rattle.cdcl_core.proofs.beginning.start.Goals as goal
 
 pub refute-requires-clause-shown : goal.refute-requires-clause-shown
 refute-requires-clause-shown g c =
     empty_is_refutable c.args.log.now.formula.now c.requires.few c.vars-vars.ensures.within c.args.parities.now (g.L.Sink.items c.args.log.now.sink.now) c.requires.given c.args.filled.state c.args.filled.units.items c.in-Some.number
+    (subst (IsFilled c.args.log.now.formula.now c.args.filled.state c.args.filled.units.items) c.in-Some.is c.requires.filled)
+
+pub refute-requires-clause-units : goal.refute-requires-clause-units
+refute-requires-clause-units g c = no_ids c.args.filled.state.units.items c.requires.filled.no_units
+
+pub refute-requires-clause-id : goal.refute-requires-clause-id
+refute-requires-clause-id g c = empty_is_id c.args.log.now.formula.now c.requires.few c.args.filled.state c.args.filled.units.items c.in-Some.number
     (subst (IsFilled c.args.log.now.formula.now c.args.filled.state c.args.filled.units.items) c.in-Some.is c.requires.filled)
 
 pub put_units-requires : goal.put_units-requires
@@ -38,7 +45,7 @@ returns-clause-begins g c =
     (subst (IsFilled c.args.log.now.formula.now c.args.filled.state c.args.filled.units.items) c.in_default.is c.requires.filled)) in
     let stands = subst (PutsUnits c.put_units.new.log.formula.now engines c.put_units.new.state [] (g.L.Sink.items c.put_units.new.log.sink.now)) c.if-not-branch.false (c.in_ok-put_units.ensures.puts engines before) in (
       begun_stands c.put_units.new.log.formula.now engines c.put_units.new.state (g.L.Sink.items c.put_units.new.log.sink.now) stands (g.P.ParityEngine.state c.in_ok-engine.engine) rows made
-          (subst (λ f. AreEngines f engines) (sym same) c.requires.engines),
+          (subst (λ (f : Problem). length f.constraints ≤ 4294967295) (sym same) c.requires.few) (subst (λ f. AreEngines f engines) (sym same) c.requires.engines),
       begun_is_calm c.put_units.new.log.formula.now engines c.put_units.new.state (g.L.Sink.items c.put_units.new.log.sink.now) stands (g.P.ParityEngine.state c.in_ok-engine.engine) rows made,
       stands.3.level,
       stands.3.conflicts,

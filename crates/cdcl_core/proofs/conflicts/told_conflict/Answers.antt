@@ -1,4 +1,4 @@
-use Rattle.std.proofs.Common.{sym, subst, ◌++◌, ◌∷◌, []}
+use Rattle.std.proofs.Common.{sym, subst, ap, arith, length, ◌++◌, ◌∷◌, []}
 use Rattle.cdcl_search.specs.Ties.{SearchStands}
 use Rattle.cdcl_core.proofs.conflicts.told_conflict.Goals as goal
 
@@ -9,3 +9,6 @@ tell_reason-requires-clause-stands g c =
 pub returns-in-Ok-clause-stands : goal.returns-in-Ok-clause-stands
 returns-in-Ok-clause-stands g c =
     subst (λ rows. SearchStands c.tell_reason.new.log.formula.now c.args.state.now (g.P.ParityEngine.state c.args.engine.now) (rows ++ c.args.reason.clause ∷ []) (g.L.Sink.items c.tell_reason.new.log.sink.now)) c.new-rows.ensures.items c.in-Ok.ensures.stands
+
+pub tell_reason-requires-clause-room : goal.tell_reason-requires-clause-room
+tell_reason-requires-clause-room g c = let none = ap length c.new-rows.ensures.items in omega (arith, none)

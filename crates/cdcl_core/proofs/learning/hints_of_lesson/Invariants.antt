@@ -3,7 +3,11 @@ use Rattle.cx_base.specs.Numbers.{AreStepIntegers}
 use Rattle.cdcl_core.proofs.learning.hints_of_lesson.Given as goal
 
 abbrev pub invariant-loop-left : goal.invariant-loop-left
-invariant-loop-left l = (l.left ≤ length l.resolved) × AreStepIntegers l.hints.items
+invariant-loop-left l = record {
+  left : l.left ≤ length l.resolved;
+  behind : l.behind ≤ 16777216;
+  integers : AreStepIntegers l.hints.items;
+}
 
 abbrev pub decreases-loop-left : goal.decreases-loop-left
 decreases-loop-left l = l.left

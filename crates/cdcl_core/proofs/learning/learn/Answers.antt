@@ -1,7 +1,8 @@
-use Rattle.std.proofs.Common.{◌≡◌, sym, subst, rules, true}
+use Rattle.std.proofs.Common.{◌≡◌, ◌≤◌, sym, subst, rules, true, arith}
 use Rattle.cx_semantics.specs.Chain.{has_literal}
 use Rattle.cdcl_search.specs.Ties.{SearchStands}
 use Rattle.cdcl_search.specs.GoingOn.{log_then}
+use Rattle.cdcl_search.proofs.LowIds.{has_ids, rows_are_few}
 use Rattle.cdcl_core.proofs.learning.learn.Goals as goal
 
 pub hints_of_lesson-requires-clause-stand : goal.hints_of_lesson-requires-clause-stand
@@ -19,3 +20,13 @@ returns-in_err-tell_learned-clause-log g c = log_then g.L.Sink g.met.L.Sink.keep
 
 pub returns-clause-log : goal.returns-clause-log
 returns-clause-log g c = log_then g.L.Sink g.met.L.Sink.keeps_on _ c.lesson_of.new.log _ _ c.in_ok-learned.ensures.log c.in_ok-tell_learned.ensures.log
+
+pub hints_of_lesson-requires-clause-ids : goal.hints_of_lesson-requires-clause-ids
+hints_of_lesson-requires-clause-ids g c = has_ids c.lesson_of.new.log.formula.now c.args.state.now (g.P.ParityEngine.state c.args.engine.now) _ (g.L.Sink.items c.lesson_of.new.log.sink.now) c.in_ok-learned.ensures.stands
+
+pub hints_of_lesson-requires-clause-few : goal.hints_of_lesson-requires-clause-few
+hints_of_lesson-requires-clause-few g c =
+    let long = c.len.ensures in
+    let same = c.lesson_of.new.rows.ok in
+    let few = rows_are_few c.lesson_of.new.log.formula.now c.args.state.now (g.P.ParityEngine.state c.args.engine.now) _ c.in_ok-learned.ensures.stands.0 c.in_ok-learned.ensures.stands.3 in
+    omega (arith, long, same, few)

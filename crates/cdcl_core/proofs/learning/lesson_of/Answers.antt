@@ -1,6 +1,7 @@
-use Rattle.std.proofs.Common.{ap, subst, IfOk, rules}
+use Rattle.std.proofs.Common.{ap, subst, IfOk, rules, arith}
 use Rattle.conflict_learn.specs.Levels.{Teaches}
 use Rattle.cdcl_search.specs.Sources.{IsSourced}
+use Rattle.cdcl_search.proofs.Feeding.{trail_is_short}
 use Rattle.cdcl_core.proofs.LearnLaws.{conflict_is_now, stands_at, conflict_at, teaches_at}
 use Rattle.cdcl_core.proofs.learning.lesson_of.Goals as goal
 
@@ -27,3 +28,9 @@ returns-clause-teaches g c =
     let new = c.analyse.new.source in
     teaches_at c.analyse.result c.args.state.now c.args.state.now.trail c.args.conflict.now new.rows.now.items _ (search rules)
     (subst (λ k. IfOk c.analyse.result (λ r. Teaches c.args.state.now.trail c.args.conflict.now (IsSourced k new.rows.now.items) r.resolved r.lits r.back_level r.lbd)) c.analyse.ensures.goes_on.0.state c.analyse.ensures.learned)
+
+pub analyse-requires-clause-room : goal.analyse-requires-clause-room
+analyse-requires-clause-room g c =
+    let few = c.requires.few_rows in
+    let short = trail_is_short c.args.log.now.formula.now c.args.state.now (g.P.ParityEngine.state c.args.engine.now) c.args.rows.now.items (g.L.Sink.items c.args.log.now.sink.now) c.requires.stands in
+    omega (arith, few, short)

@@ -3,6 +3,7 @@ use Rattle.std.proofs.lemmas.List.{map-append}
 use Rattle.std.specs.List.{Contains}
 use Rattle.cx_base.specs.Numbers.{AreStepIntegers}
 use Rattle.cx_base.proofs.Elements.{all_push}
+use Rattle.cdcl_search.proofs.LowIds.{is_one}
 use Rattle.cdcl_search.proofs.chains.hints_of.Goals as goal
 use Rattle.cdcl_search.proofs.chains.hints_of.Goals.{in-Some+in_ok-push_hint, in_default}
 
@@ -17,3 +18,8 @@ loop-lit-preserved c =
           (subst (λ v. AreStepIntegers v.items) (sym w.hints-is) w.in_ok-push_hint.ensures.integers, (old.1.0 ++ w.in-Some.unit ∷ [], all_push (Contains held_ids) old.1.0 w.in-Some.unit old.1.1 held, grown))
       | in_default w ↦ (subst (λ v. AreStepIntegers v.items) (sym w.hints-is) old.0, (old.1.0, old.1.1, ap (λ v. v.items) w.hints-is ∙ old.1.2))
     ]
+
+pub push_hint-requires-clause-id : goal.push_hint-requires-clause-id
+push_hint-requires-clause-id c =
+    let held_ids = c.args.state.now.units.items in
+    is_one held_ids c.in-Some.unit c.requires.ids (subst (λ o. IfSome o (Contains held_ids)) c.in-Some.is c.id_against.ensures)

@@ -1,6 +1,7 @@
-use Rattle.std.proofs.Common.{[]}
+use Rattle.std.proofs.Common.{[], ◌≤◌, ap, arith, length}
 use Rattle.cdcl_search.specs.Ties.{SearchStands}
 use Rattle.cdcl_search.specs.Tells.{as_events}
+use Rattle.cdcl_search.proofs.LowIds.{rows_are_few}
 use Rattle.cdcl_search.proofs.Tellings.{holds_where}
 use Rattle.cdcl_search.proofs.RowSteps.{left_now}
 use Rattle.cdcl_search.proofs.DeletedRows.{rows_deleted}
@@ -13,3 +14,8 @@ tell_steps-requires-clause-right g c = left_now _ c.args.state.now (g.P.ParityEn
 pub returns-clause-stands : goal.returns-clause-stands
 returns-clause-stands g c = holds_where (λ formula told. SearchStands formula c.args.state.now (g.P.ParityEngine.state c.args.engine.now) [] told) (as_events c.in_ok-steps.steps.items) g.L.Sink c.args.log.now _ c.tell_steps.result c.tell_steps.new.log c.tell_steps.ensures.log c.tell_steps.ensures.told
     (rows_deleted c.args.log.now.formula.now c.args.state.now (g.P.ParityEngine.state c.args.engine.now) c.args.rows.now _ c.requires (as_events c.in_ok-steps.steps.items) (c.in_ok-steps.ensures.steps))
+
+pub deletions_of_rows-requires : goal.deletions_of_rows-requires
+deletions_of_rows-requires g c =
+    let few = rows_are_few c.args.log.now.formula.now c.args.state.now (g.P.ParityEngine.state c.args.engine.now) c.args.rows.now c.requires.0 c.requires.3 in
+    omega (arith, few)

@@ -3,4 +3,4 @@ use Rattle.cdcl_search.proofs.RowSteps.{sources_are_ids}
 use Rattle.cdcl_search.proofs.rows.prepare_next.Goals as goal
 
 pub prepare-requires-clause-sources : goal.prepare-requires-clause-sources
-prepare-requires-clause-sources c = sources_are_ids (length c.args.formula.now.constraints) c.requires.0 c.args.reason.sources c.requires.1 c.in_ok-ids.ensures.few c.requires.2
+prepare-requires-clause-sources c = sources_are_ids (length c.args.formula.now.constraints) c.requires.sources.0 c.args.reason.sources c.requires.sources.1 c.requires.constraints c.requires.sources.2

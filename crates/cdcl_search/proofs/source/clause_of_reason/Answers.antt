@@ -1,9 +1,43 @@
+use Rattle.std.proofs.Common.{◌≤◌, subst, ap, ◌∙◌, arith}
+use Rattle.conflict_learn.specs.Learning.{HasReason}
 use Rattle.cdcl_search.specs.declared.source.Hinted.{Hinted}
-use Rattle.cdcl_search.proofs.SourceLaws.{last_is_sourced, sourced_grows}
+use Rattle.cdcl_search.proofs.LowIds.{has_ids}
+use Rattle.cdcl_search.proofs.SourceLaws.{clause_is_live, clause_is_antecedent, stored_is_sourced, row_is_reason, last_is_sourced, sourced_grows, one_more}
 use Rattle.cdcl_search.proofs.source.clause_of_reason.Goals as goal
 
-pub returns-in-Some-clause-sourced : goal.returns-in-Some-clause-sourced
-returns-in-Some-clause-sourced g c = last_is_sourced c.args.state.now c.args.rows.now.items c.hinted_row.new.rows.items (λ (h : Hinted). h.lits) c.hinted_row.result c.hinted_row.ensures.rows
+pub unit-requires-clause-ids : goal.unit-requires-clause-ids
+unit-requires-clause-ids g c = has_ids c.args.log.now.formula.now c.args.state.now (g.P.ParityEngine.state c.args.engine.now) c.args.rows.now.items (g.L.Sink.items c.args.log.now.sink.now) c.requires.stands
 
-pub returns-in-Some-clause-grows : goal.returns-in-Some-clause-grows
-returns-in-Some-clause-grows g c = sourced_grows c.args.state.now c.args.rows.now.items c.hinted_row.new.rows.items (λ (h : Hinted). h.lits) c.hinted_row.result c.hinted_row.ensures.rows c.hinted_row.ensures.same
+pub stored-requires-clause-ids : goal.stored-requires-clause-ids
+stored-requires-clause-ids g c = has_ids c.args.log.now.formula.now c.args.state.now (g.P.ParityEngine.state c.args.engine.now) c.args.rows.now.items (g.L.Sink.items c.args.log.now.sink.now) c.requires.stands
+
+pub hinted_row-requires-clause-reason : goal.hinted_row-requires-clause-reason
+hinted_row-requires-clause-reason g c =
+    let low : c.len.result ≤ c.place_of-place.result = c.if-place-len.false in
+    let is = c.len.ensures in
+    row_is_reason c.args.state.now (g.P.ParityEngine.state c.args.engine.now) c.requires.stands.3.reasons c.place_of-place.ensures.sound c.args.literal c.place_of-place.result c.place_of-place.ensures.within
+    (c.place_of-place.ensures.negated ∙ ap Rattle.cx_base.specs.Literals.negate c.negate.ensures) (omega (arith, low, is)) c.in-Row.row (subst (HasReason c.args.state.now.trail c.args.literal) c.in-Row.is c.requires.reason)
+
+pub returns-in_ok-stored-in-Clause-clause-sourced : goal.returns-in_ok-stored-in-Clause-clause-sourced
+returns-in_ok-stored-in-Clause-clause-sourced g c =
+    let low : c.len.result ≤ c.place_of-place.result = c.if-place-len.false in
+    let is = c.len.ensures in
+    let live = clause_is_live c.args.state.now (g.P.ParityEngine.state c.args.engine.now) c.requires.stands.3.reasons c.place_of-place.ensures.sound c.args.literal c.place_of-place.result c.place_of-place.ensures.within
+    (c.place_of-place.ensures.negated ∙ ap Rattle.cx_base.specs.Literals.negate c.negate.ensures) (omega (arith, low, is)) c.in-Clause.reference (subst (HasReason c.args.state.now.trail c.args.literal) c.in-Clause.is c.requires.reason) in
+    stored_is_sourced c.args.state.now c.in-Clause.reference live _ _ c.in_ok-stored-in-Clause.ensures.lits
+
+pub returns-in_ok-stored-in-Clause-clause-implied : goal.returns-in_ok-stored-in-Clause-clause-implied
+returns-in_ok-stored-in-Clause-clause-implied g c =
+    let low : c.len.result ≤ c.place_of-place.result = c.if-place-len.false in
+    let is = c.len.ensures in
+    clause_is_antecedent c.args.state.now (g.P.ParityEngine.state c.args.engine.now) c.requires.stands.3.reasons c.place_of-place.ensures.sound c.args.literal c.place_of-place.result c.place_of-place.ensures.within
+    (c.place_of-place.ensures.negated ∙ ap Rattle.cx_base.specs.Literals.negate c.negate.ensures) (omega (arith, low, is)) c.in-Clause.reference (subst (HasReason c.args.state.now.trail c.args.literal) c.in-Clause.is c.requires.reason) _ c.in_ok-stored-in-Clause.ensures.lits
+
+pub returns-in-Row-clause-sourced : goal.returns-in-Row-clause-sourced
+returns-in-Row-clause-sourced g c = last_is_sourced c.args.state.now c.args.rows.now.items c.hinted_row.new.rows.items (λ (h : Hinted). h.lits) c.hinted_row.result c.hinted_row.ensures.rows
+
+pub returns-in-Row-clause-grows : goal.returns-in-Row-clause-grows
+returns-in-Row-clause-grows g c = sourced_grows c.args.state.now c.args.rows.now.items c.hinted_row.new.rows.items (λ (h : Hinted). h.lits) c.hinted_row.result c.hinted_row.ensures.rows c.hinted_row.ensures.same
+
+pub returns-in-Row-clause-one : goal.returns-in-Row-clause-one
+returns-in-Row-clause-one g c = one_more c.args.state.now c.args.rows.now.items c.hinted_row.new.rows.items (λ (h : Hinted). h.lits) c.hinted_row.result c.hinted_row.ensures.rows

@@ -2,8 +2,8 @@ use Rattle.std.proofs.Common.{◌≤◌, subst, ap, ◌∙◌, arith, sym}
 use Rattle.cdcl_search.specs.Ties.{HasReasonOf, IsClauseReasonOf}
 use Rattle.cdcl_search.proofs.source.silent_id.Goals as goal
 
-pub id_of-requires : goal.id_of-requires
-id_of-requires c r is_clause =
+pub id_of-requires-clause-live : goal.id_of-requires-clause-live
+id_of-requires-clause-live c r is_clause =
     let low : c.len.result ≤ c.place_of-place.result = c.if-place-len.false in
     let is = c.len.ensures in
     let state = c.args.state.now in

@@ -9,6 +9,9 @@ pub clause_of_reason-requires-clause-stands : goal.clause_of_reason-requires-cla
 clause_of_reason-requires-clause-stands g c =
     subst (λ rows. SearchStands c.args.log.now.formula.now c.args.state.now (g.P.ParityEngine.state c.args.engine.now) rows (g.L.Sink.items c.args.log.now.sink.now)) (sym c.new-rows.ensures.items) c.requires.stands
 
+pub clause_of_reason-requires-clause-room : goal.clause_of_reason-requires-clause-room
+clause_of_reason-requires-clause-room g c = let none = ap length c.new-rows.ensures.items in omega (arith, none)
+
 pub tell_unit-requires-clause-stands : goal.tell_unit-requires-clause-stands
 tell_unit-requires-clause-stands g c =
     subst (λ rows. SearchStands c.clause_of_reason.new.log.formula.now c.args.state.now (g.P.ParityEngine.state c.args.engine.now) rows (g.L.Sink.items c.clause_of_reason.new.log.sink.now)) (sym c.deref.ensures.value) c.in_ok-implying.ensures.stands
