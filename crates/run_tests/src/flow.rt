@@ -1,5 +1,7 @@
 //! The commands one behind the other, each on a desk of its own.
-use crate::desk::{AMPLE, Ended, run};
+ghost use Rattle.std.specs.Prelude.{◌≤◌};
+
+use crate::desk::{AMPLE, Bounds, Ended, run};
 use crate::elab::SQUARE_LOG;
 use crate::formulas::{SQUARE, TRIANGLE, TRIANGLE_OF_CLAUSES};
 use std::alloc::{AllocError, Global};
@@ -25,9 +27,17 @@ const HIDDEN: &str = "1 6 7 0\n1 -6 -7 0\n-1 6 -7 0\n-1 -6 7 0\n";
 const CIRCLE: &str = "p cnf 5 6\nx1 2 0\nx2 3 0\nx3 4 0\nx4 5 0\n1 5 0\n-1 -5 0\n";
 
 /// Elaborates a log, and checks the proof that was made of it.
-fn proved(rt: &impl Abort, alloc: Global, formula: &str, log: &[u8]) -> Result<(), AllocError> {
+pub fn proved_within(
+    rt: &impl Abort,
+    alloc: Global,
+    formula: &str,
+    log: &[u8],
+    bounds: Bounds,
+) -> Result<(), AllocError>
+    requires { 1 ≤ bounds.piece }
+{
     let line = ["cxsat", "elab", "f", "s", "p"];
-    let elaborated = run(alloc, formula, log, line.as_slice(), AMPLE)?;
+    let elaborated = run(alloc, formula, log, line.as_slice(), bounds)?;
     assert!(rt;
         elaborated.status == 0,
         "{formula}: elab {}",
@@ -38,13 +48,18 @@ fn proved(rt: &impl Abort, alloc: Global, formula: &str, log: &[u8]) -> Result<(
         "{formula}: elab"
     );
     let line = ["cxsat", "check", "f", "s"];
-    let checked = run(alloc, formula, elaborated.proof(), line.as_slice(), AMPLE)?;
+    let checked = run(alloc, formula, elaborated.proof(), line.as_slice(), bounds)?;
     assert!(rt; checked.status == 0, "{formula}: check {}", checked.status);
     assert!(rt;
         checked.answer() == b"s VERIFIED\n".as_slice(),
         "{formula}: check"
     );
     Ok(())
+}
+
+/// The same of small texts.
+fn proved(rt: &impl Abort, alloc: Global, formula: &str, log: &[u8]) -> Result<(), AllocError> {
+    proved_within(rt, alloc, formula, log, AMPLE)
 }
 
 fn solved(alloc: Global, formula: &str) -> Result<Ended, AllocError> {

@@ -1,0 +1,99 @@
+//! Pigeons that have one hole too few: formulas that no values meet, and that take many conflicts.
+use crate::desk::{AMPLE, Bounds, run};
+use crate::flow::proved_within;
+use std::alloc::{AllocError, Global};
+use std::test::Fail;
+
+/// Room for a log of some thousand conflicts, in large pieces.
+const WIDE: Bounds = Bounds {
+    proof: 20_000_000,
+    piece: 65_536,
+    ..AMPLE
+};
+
+/// The variable that says that a pigeon is in a hole, both from 1.
+fn variable(holes: u8, pigeon: u8, hole: u8) -> u32 {
+    u32::from(holes) * u32::from(pigeon.saturating_sub(1)) + u32::from(hole)
+}
+
+/// The clause that a pigeon is in some hole.
+fn put_pigeon(alloc: Global, text: &mut String, holes: u8, pigeon: u8) -> Result<(), AllocError> {
+    for hole in 1..=holes {
+        let variable = variable(holes, pigeon, hole);
+        text.push_str(format!(in alloc; "{variable} ")?.as_str())?;
+    }
+    text.push_str("0\n")
+}
+
+/// The clauses that a pigeon and each one before it are not in the same hole.
+fn put_hole(
+    alloc: Global,
+    text: &mut String,
+    holes: u8,
+    pigeon: u8,
+    hole: u8,
+) -> Result<(), AllocError> {
+    let mine = variable(holes, pigeon, hole);
+    for other in 1..pigeon {
+        let other = variable(holes, other, hole);
+        text.push_str(format!(in alloc; "-{other} -{mine} 0\n")?.as_str())?;
+    }
+    Ok(())
+}
+
+/// The clauses of a pigeon and those before it in all holes.
+fn put_holes(alloc: Global, text: &mut String, holes: u8, pigeon: u8) -> Result<(), AllocError> {
+    for hole in 1..=holes {
+        put_hole(alloc, text, holes, pigeon, hole)?;
+    }
+    Ok(())
+}
+
+/// Each of the pigeons in some hole, and no two in one: a pigeon more than holes.
+fn pigeonholes(alloc: Global, holes: u8) -> Result<String, AllocError> {
+    let many = u32::from(holes);
+    let (pigeons, pairs) = (many + 1, many * (many + 1) / 2);
+    let (variables, clauses) = (many * pigeons, pigeons + many * pairs);
+    let mut text = format!(in alloc; "p cnf {variables} {clauses}\n")?;
+    for pigeon in 1..=holes.saturating_add(1) {
+        put_pigeon(alloc, &mut text, holes, pigeon)?;
+        put_holes(alloc, &mut text, holes, pigeon)?;
+    }
+    Ok(text)
+}
+
+/// The number of the last conflict that the log marks.
+fn ends_with_mark(log: &[u8], conflicts: &str) -> bool {
+    let mut marks = log
+        .windows(11)
+        .enumerate()
+        .filter(|at| at.1 == b"c conflict ".as_slice());
+    match marks.next_back() {
+        Some((place, _)) => log[place..].starts_with(conflicts.as_bytes()),
+        None => false,
+    }
+}
+
+#[test]
+fn eight_pigeons_are_refuted_or_the_budget_is_spent(rt: HostRuntime) -> Result<(), Fail> {
+    let alloc = rt.alloc();
+    let formula = pigeonholes(alloc, 7)?;
+    let line = ["cxsat", "solve", "f", "--proof", "l", "--conflicts", "6000"];
+    let solved = run(alloc, formula.as_str(), b"", line.as_slice(), WIDE)?;
+    if solved.status == 20 {
+        proved_within(&rt, alloc, formula.as_str(), solved.proof(), WIDE)?;
+    } else {
+        assert_eq!(rt; solved.status, 0);
+        assert!(rt; ends_with_mark(solved.proof(), "c conflict 6000\n"));
+    }
+    Ok(())
+}
+
+#[test]
+fn six_pigeons_are_refuted(rt: HostRuntime) -> Result<(), Fail> {
+    let formula = pigeonholes(rt.alloc(), 5)?;
+    let line = ["cxsat", "solve", "f", "--conflicts", "100000"];
+    let solved = run(rt.alloc(), formula.as_str(), b"", line.as_slice(), WIDE)?;
+    assert_eq!(rt; solved.status, 20);
+    Ok(())
+}
