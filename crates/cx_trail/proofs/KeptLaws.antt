@@ -1,16 +1,16 @@
--- What a trail keeps, and what its readers see of it.
+-- An order of all variables, and what it says of the trail that it begins with.
 use Rattle.std.proofs.Common.{◌≡◌, ◌≢◌, ℕ, ◌+◌, ◌*◌, ◌-◌, ◌<◌, ◌≤◌, List, ◌++◌, length, get_or, take, drop, set, sym, ap, ◌∙◌, subst, refl, ⊎_elim, arith}
-use Rattle.std.proofs.lemmas.List.{get_or_read, length-take-le, get_or-drop, take-append-drop, length-drop, take-take}
+use Rattle.std.proofs.lemmas.List.{length-take-le, get_or-drop, take-append-drop, length-drop, take-take}
 use Rattle.std.proofs.lemmas.List.Elements.{All-from_get_or}
 use Rattle.std.proofs.lemmas.Bool.{cases_lt}
-use Rattle.cx_base.specs.Literals.{Literal, negate, code_of}
+use Rattle.cx_base.specs.Literals.{negate, code_of}
 use Rattle.cx_base.specs.declared.literal.TheConstants.{MAX_VARIABLE}
 use Rattle.cx_trail.specs.declared.entry.Entry.{Entry}
 use Rattle.cx_trail.specs.declared.entry.Reason.TheVariants.{Decision}
 use Rattle.cx_trail.specs.declared.entry.Truth.{Truth}
 use Rattle.cx_trail.specs.declared.entry.Truth.TheVariants.{True, False, Open}
-use Rattle.cx_trail.specs.Sequence.{TrailState, IsTrail, IsFalseIn, IsAssignedIn, HasEntry, entry_at, no_entry, TakesBack, IsFull, HasOpen}
-use Rattle.cx_trail.specs.Cells.{ArePaired, AreLevels, IsKept, var_at, truth_at}
+use Rattle.cx_trail.specs.Sequence.{IsTrail, entry_at, no_entry, TakesBack, IsFull, HasOpen}
+use Rattle.cx_trail.specs.Cells.{ArePaired, AreLevels, IsWhole, var_at, truth_at}
 use Rattle.cx_trail.proofs.CellLaws.{at_take}
 use Rattle.cx_trail.proofs.LevelLaws.{level_count, last_level, push_levels, cut_levels}
 use Rattle.cx_trail.proofs.TruthLaws.{put_truths}
@@ -21,7 +21,7 @@ newest_of_none level len cells k z =
     let zero : level ≡ 0 = omega (arith, level_count level len cells k) in
     subst (λ n. (entry_at (take n cells) (length (take n cells) - 1)).level ≡ level) (sym none) (sym zero)
 
-pub sound_from_kept : (vars level len : ℕ) (cells : List Entry) (places : List ℕ) (truths : List Truth) → IsKept vars level len cells places truths → IsTrail (record { variables = vars; level = level; entries = take len cells })
+pub sound_from_kept : (vars level len : ℕ) (cells : List Entry) (places : List ℕ) (truths : List Truth) → IsWhole vars level len cells places truths → IsTrail (record { variables = vars; level = level; entries = take len cells })
 sound_from_kept vars level len cells places truths k =
     let n : length (take len cells) ≡ len = length-take-le len cells (omega (arith, k.short, k.paired.cell_count)) in
     record {
@@ -58,10 +58,7 @@ sound_from_kept vars level len cells places truths k =
           (w.0, omega (arith, w.1), ap (λ (x : Entry). x.level) e ∙ w.2, ap (λ (x : Entry). x.reason) e ∙ w.3);
     }
 
-pub sound_shown : (vars level len : ℕ) (cells : List Entry) (places : List ℕ) (truths : List Truth) (shown : TrailState) → IsKept vars level len cells places truths → record { variables = vars; level = level; entries = take len cells } ≡ shown → IsTrail shown
-sound_shown vars level len cells places truths shown k view = subst IsTrail view (sound_from_kept vars level len cells places truths k)
-
-pub takes_back : (vars level new_level count m : ℕ) (cells : List Entry) (places : List ℕ) (truths : List Truth) → IsKept vars level count cells places truths → m ≤ count → new_level ≤ level → (0 < m → (entry_at cells (m - 1)).level ≤ new_level) → ((i : ℕ) → m ≤ i → i < count → new_level < (entry_at cells i).level) → TakesBack new_level (record { variables = vars; level = level; entries = take count cells }) (record { variables = vars; level = new_level; entries = take m cells })
+pub takes_back : (vars level new_level count m : ℕ) (cells : List Entry) (places : List ℕ) (truths : List Truth) → IsWhole vars level count cells places truths → m ≤ count → new_level ≤ level → (0 < m → (entry_at cells (m - 1)).level ≤ new_level) → ((i : ℕ) → m ≤ i → i < count → new_level < (entry_at cells i).level) → TakesBack new_level (record { variables = vars; level = level; entries = take count cells }) (record { variables = vars; level = new_level; entries = take m cells })
 takes_back vars level new_level count m cells places truths k few low last_low above =
     let lv = cut_levels level new_level count m cells k.levels few low last_low above in
     let e : take m (take count cells) ≡ take m cells = take-take m count cells few in
@@ -79,9 +76,9 @@ takes_back vars level new_level count m cells places truths k few low last_low a
           subst (λ (x : Entry). new_level < x.level) (sym (get_or-drop m (take count cells) i no_entry ∙ at_take count (m + i) cells a)) (above (m + i) (omega arith) a));
     }
 
-pub push_kept : (vars level new_level count : ℕ) (cells new_cells : List Entry) (places new_places : List ℕ) (truths : List Truth) (entry : Entry) → IsKept vars level count cells places truths → ArePaired (length cells) new_cells new_places → take count new_cells ≡ take count cells → entry_at new_cells count ≡ entry → count < length cells
+pub push_kept : (vars level new_level count : ℕ) (cells new_cells : List Entry) (places new_places : List ℕ) (truths : List Truth) (entry : Entry) → IsWhole vars level count cells places truths → ArePaired (length cells) new_cells new_places → take count new_cells ≡ take count cells → entry_at new_cells count ≡ entry → count < length cells
     → count ≤ get_or places entry.literal.variable 0 → entry.literal.variable ≤ vars → entry.level ≡ new_level → level ≤ new_level → new_level ≤ level + 1 → (level < new_level → entry.reason ≡ Decision) → (0 < new_level → new_level ≡ level → entry.reason ≢ Decision)
-    → IsKept vars new_level (count + 1) new_cells new_places (set (set truths (code_of entry.literal) True) (code_of (negate entry.literal)) False)
+    → IsWhole vars new_level (count + 1) new_cells new_places (set (set truths (code_of entry.literal) True) (code_of (negate entry.literal)) False)
 push_kept vars level new_level count cells new_cells places new_places truths entry k paired same put room free high is_level up step opens stays =
     let paired' : ArePaired vars new_cells new_places = subst (λ n. ArePaired n new_cells new_places) k.paired.cell_count paired in
     record {
@@ -92,7 +89,7 @@ push_kept vars level new_level count cells new_cells places new_places truths en
       valued = put_truths vars count cells new_cells places new_places truths entry.literal k.paired paired' k.valued same (ap (λ (x : Entry). x.literal) put) (omega (arith, k.paired.cell_count)) free high;
     }
 
-pub fresh : (vars : ℕ) (cells : List Entry) (places : List ℕ) (truths : List Truth) → vars ≤ MAX_VARIABLE → length cells ≡ vars → length places ≡ vars + 1 → ((k : ℕ) → k < vars → var_at cells k ≡ k + 1) → ((k : ℕ) → k < vars → get_or places (k + 1) 0 ≡ k) → length truths ≡ 2 * vars + 2 → ((k : ℕ) → truth_at truths k ≡ Open) → IsKept vars 0 0 cells places truths
+pub fresh : (vars : ℕ) (cells : List Entry) (places : List ℕ) (truths : List Truth) → vars ≤ MAX_VARIABLE → length cells ≡ vars → length places ≡ vars + 1 → ((k : ℕ) → k < vars → var_at cells k ≡ k + 1) → ((k : ℕ) → k < vars → get_or places (k + 1) 0 ≡ k) → length truths ≡ 2 * vars + 2 → ((k : ℕ) → truth_at truths k ≡ Open) → IsWhole vars 0 0 cells places truths
 fresh vars cells places truths few cn pn var place size unset =
     record {
       few = few;
@@ -123,13 +120,13 @@ fresh vars cells places truths few cn pn var place size unset =
       };
     }
 
-pub full_from_kept : (vars level count : ℕ) (cells : List Entry) (places : List ℕ) (truths : List Truth) → IsKept vars level count cells places truths → count ≡ vars → IsFull (record { variables = vars; level = level; entries = take count cells })
+pub full_from_kept : (vars level count : ℕ) (cells : List Entry) (places : List ℕ) (truths : List Truth) → IsWhole vars level count cells places truths → count ≡ vars → IsFull (record { variables = vars; level = level; entries = take count cells })
 full_from_kept vars level count cells places truths k e v low high =
     let n : length (take count cells) ≡ count = length-take-le count cells (omega (arith, k.short, k.paired.cell_count)) in
     let here : get_or places v 0 < count = omega (arith, k.paired.in_cells v low high) in
     (get_or places v 0, omega arith, ap (λ (x : Entry). x.literal.variable) (at_take count (get_or places v 0) cells here) ∙ k.paired.has v low high)
 
-pub open_from_kept : (vars level count : ℕ) (cells : List Entry) (places : List ℕ) (truths : List Truth) → IsKept vars level count cells places truths → count ≢ vars → HasOpen (record { variables = vars; level = level; entries = take count cells })
+pub open_from_kept : (vars level count : ℕ) (cells : List Entry) (places : List ℕ) (truths : List Truth) → IsWhole vars level count cells places truths → count ≢ vars → HasOpen (record { variables = vars; level = level; entries = take count cells })
 open_from_kept vars level count cells places truths k ne =
     let n : length (take count cells) ≡ count = length-take-le count cells (omega (arith, k.short, k.paired.cell_count)) in
     let c : count < vars = omega (arith, k.short) in (
@@ -142,40 +139,3 @@ open_from_kept vars level count cells places truths k ne =
           let z : i ≡ count = sym (k.paired.placed i (omega arith)) ∙ ap (λ x. get_or places x 0) same ∙ k.paired.placed count c in
           omega arith,
     )
-
--- a false literal's negation stands at its variable's place
-pub false_place : (vars level count : ℕ) (cells : List Entry) (places : List ℕ) (truths : List Truth) (l : Literal) → IsKept vars level count cells places truths → IsFalseIn (take count cells) l
-    → (get_or places l.variable 0 < count) × ((entry_at (take count cells) (get_or places l.variable 0)).literal ≡ negate l)
-false_place vars level count cells places truths l k w =
-    let n : length (take count cells) ≡ count = length-take-le count cells (omega (arith, k.short, k.paired.cell_count)) in
-    let i = w.0 in
-    let a : i < count = omega (arith, w.1.0) in
-    let e : (entry_at (take count cells) i).literal ≡ negate l = w.1.1 in
-    let z : get_or places l.variable 0 ≡ i = ap (λ x. get_or places x 0) (sym (ap (λ (x : Literal). x.variable) e) ∙ ap (λ (x : Entry). x.literal.variable) (at_take count i cells a)) ∙ k.paired.placed i (omega (arith, k.short)) in
-    (subst (λ x. x < count) (sym z) a, subst (λ x. (entry_at (take count cells) x).literal ≡ negate l) (sym z) e)
-
--- the cell at a variable's place is the variable's entry
-pub entry_of : (vars level count v place : ℕ) (cells : List Entry) (places : List ℕ) (truths : List Truth) (found e : Entry) → IsKept vars level count cells places truths → place ≡ get_or places v 0 → found ≡ entry_at cells place → HasEntry (take count cells) v e → found ≡ e
-entry_of vars level count v place cells places truths found e k at is w =
-    let n : length (take count cells) ≡ count = length-take-le count cells (omega (arith, k.short, k.paired.cell_count)) in
-    let i = w.0 in
-    let a : i < count = omega (arith, w.1) in
-    let here : entry_at (take count cells) i ≡ e = w.2 in
-    let z : get_or places v 0 ≡ i = ap (λ x. get_or places x 0) (sym w.3 ∙ ap (λ (x : Entry). x.literal.variable) (sym here ∙ at_take count i cells a)) ∙ k.paired.placed i (omega (arith, k.short)) in
-    is ∙ ap (entry_at cells) (at ∙ z) ∙ sym (at_take count i cells a) ∙ here
-
--- what is read at a false literal's variable is its place
-pub place_read : (vars level count v : ℕ) (cells : List Entry) (places : List ℕ) (truths : List Truth) (l : Literal) (x : ℕ) → IsKept vars level count cells places truths → x ≡ get_or places v x → v ≡ l.variable → 1 ≤ v → IsFalseIn (take count cells) l → x ≡ get_or places l.variable 0
-place_read vars level count v cells places truths l x k read is low w =
-    let n : length (take count cells) ≡ count = length-take-le count cells (omega (arith, k.short, k.paired.cell_count)) in
-    let a : w.0 < count = omega (arith, w.1.0) in
-    let e : var_at cells w.0 ≡ l.variable = sym (ap (λ (y : Entry). y.literal.variable) (at_take count w.0 cells a)) ∙ ap (λ (y : Literal). y.variable) w.1.1 in
-    let high : v ≤ vars = omega (arith, k.paired.high w.0 (omega (arith, k.short))) in
-    get_or_read places v x (omega (arith, k.paired.place_count)) read 0 ∙ ap (λ u. get_or places u 0) is
-
--- an assigned variable is within the number of variables
-pub assigned_high : (vars level count v : ℕ) (cells : List Entry) (places : List ℕ) (truths : List Truth) → IsKept vars level count cells places truths → IsAssignedIn (take count cells) v → v ≤ vars
-assigned_high vars level count v cells places truths k w =
-    let n : length (take count cells) ≡ count = length-take-le count cells (omega (arith, k.short, k.paired.cell_count)) in
-    let a : w.0 < count = omega (arith, w.1) in
-    subst (λ x. x ≤ vars) (sym (ap (λ (y : Entry). y.literal.variable) (at_take count w.0 cells a)) ∙ w.2) (k.paired.high w.0 (omega (arith, k.short)))

@@ -9,7 +9,7 @@ use Rattle.cx_trail.specs.declared.entry.Reason.{Reason}
 use Rattle.cx_trail.specs.declared.entry.Reason.TheVariants.{Decision, Clause, Row}
 use Rattle.cx_trail.specs.declared.entry.Truth.{Truth}
 use Rattle.cx_trail.specs.Sequence.{entry_at, no_entry}
-use Rattle.cx_trail.specs.Cells.{IsKept, var_at, truth_at}
+use Rattle.cx_trail.specs.Cells.{IsWhole, var_at, truth_at}
 use Rattle.cx_base.specs.Moved.{moved_to}
 use Rattle.cx_trail.specs.Renaming.{renamed, renamed_reason, clause_under}
 use Rattle.cx_trail.proofs.CellLaws.{at_take}
@@ -33,7 +33,7 @@ record AreAlike (old new : List Entry) : Type 0 where
   decided : (i : ℕ) → (entry_at old i).reason ≡ Decision → (entry_at new i).reason ≡ Decision
   undecided : (i : ℕ) → 0 < (entry_at old i).level → (entry_at new i).reason ≡ Decision → (entry_at old i).reason ≡ Decision
 
-alike_kept : (vars level len : ℕ) (cells new : List Entry) (places : List ℕ) (truths : List Truth) → AreAlike cells new → IsKept vars level len cells places truths → IsKept vars level len new places truths
+alike_kept : (vars level len : ℕ) (cells new : List Entry) (places : List ℕ) (truths : List Truth) → AreAlike cells new → IsWhole vars level len cells places truths → IsWhole vars level len new places truths
 alike_kept vars level len cells new places truths a k =
     let var : (i : ℕ) → var_at new i ≡ var_at cells i = λ i. ap (λ (l : Literal). l.variable) (a.literals i) in
     record {
@@ -102,10 +102,13 @@ are_alike moves n cells few = record {
       (λ (h : n ≤ i). sym (ap (λ (x : Entry). x.reason) (past moves n cells i few h)) ∙ d) (cases_lt i n);
 }
 
-pub renamed_kept : (moves : List Move) (vars level len : ℕ) (cells new : List Entry) (places : List ℕ) (truths : List Truth) → IsKept vars level len cells places truths → new ≡ renamed_up_to moves len cells → IsKept vars level len new places truths
+pub variables_stay : (moves : List Move) (n : ℕ) (cells : List Entry) (i : ℕ) → n ≤ length cells → var_at (renamed_up_to moves n cells) i ≡ var_at cells i
+variables_stay moves n cells i few = ap (λ (l : Literal). l.variable) ((are_alike moves n cells few).literals i)
+
+pub renamed_kept : (moves : List Move) (vars level len : ℕ) (cells new : List Entry) (places : List ℕ) (truths : List Truth) → IsWhole vars level len cells places truths → new ≡ renamed_up_to moves len cells → IsWhole vars level len new places truths
 renamed_kept moves vars level len cells new places truths k e =
     let few : len ≤ length cells = omega (arith, k.short, k.paired.cell_count) in
-    subst (λ (xs : List Entry). IsKept vars level len xs places truths) (sym e) (alike_kept vars level len cells (renamed_up_to moves len cells) places truths (are_alike moves len cells few) k)
+    subst (λ (xs : List Entry). IsWhole vars level len xs places truths) (sym e) (alike_kept vars level len cells (renamed_up_to moves len cells) places truths (are_alike moves len cells few) k)
 
 pub renamed_front : (moves : List Move) (len : ℕ) (cells new : List Entry) → len ≤ length cells → new ≡ renamed_up_to moves len cells → take len new ≡ map (renamed moves) (take len cells)
 renamed_front moves len cells new few e =

@@ -1,5 +1,5 @@
--- What a trail keeps: a cell for each variable, those of the assigned ones first and in order, each variable's place, and each literal's value.
-use Rattle.std.specs.Prelude.{ℕ, ◌+◌, ◌*◌, ◌<◌, ◌≤◌, ◌≡◌, List, length, get_or}
+-- What a trail keeps: a cell for each variable, of which those of the assigned ones come first and in order, the places of these, and each literal's value.
+use Rattle.std.specs.Prelude.{ℕ, ◌+◌, ◌*◌, ◌<◌, ◌≤◌, ◌≡◌, List, length, get_or, take}
 use Rattle.cx_base.specs.Literals.{Literal, negate, code_of}
 use Rattle.cx_base.specs.declared.literal.TheConstants.{MAX_VARIABLE}
 use Rattle.cx_trail.specs.declared.entry.Entry.{Entry}
@@ -44,9 +44,20 @@ pub record AreLevels (level len : ℕ) (cells : List Entry) : Type 0 where
   pub opens : (i j : ℕ) → i < j → j < len → 0 < (entry_at cells j).level → (entry_at cells j).reason ≡ Decision → (entry_at cells i).level < (entry_at cells j).level
   pub decided : (k : ℕ) → 1 ≤ k → k ≤ level → (i : ℕ) × (i < len) × ((entry_at cells i).level ≡ k) × ((entry_at cells i).reason ≡ Decision)
 
-pub record IsKept (vars level len : ℕ) (cells : List Entry) (places : List ℕ) (truths : List Truth) : Type 0 where
+-- an order of all variables, the assigned ones first, with the place of each
+pub record IsWhole (vars level len : ℕ) (cells : List Entry) (places : List ℕ) (truths : List Truth) : Type 0 where
   pub few : vars ≤ MAX_VARIABLE
   pub short : len ≤ vars
   pub paired : ArePaired vars cells places
   pub levels : AreLevels level len cells
   pub valued : AreTruths vars len cells truths
+
+-- The cells begin with the assigned literals, whose places are known. What stands behind these says nothing: it is enough that some order of all variables begins so.
+pub record IsKept (vars level len : ℕ) (cells : List Entry) (places : List ℕ) (truths : List Truth) : Type 0 where
+  pub whole : List Entry
+  pub spots : List ℕ
+  pub is_whole : IsWhole vars level len whole spots truths
+  pub begins : take len whole ≡ take len cells
+  pub room : length cells ≡ vars
+  pub slots : length places ≡ vars + 1
+  pub placed : (i : ℕ) → i < len → get_or places (var_at cells i) 0 ≡ i

@@ -1,9 +1,9 @@
 //! The trail.
-ghost use Rattle.std.specs.Prelude.{◌≡◌, ◌+◌, ◌-◌, ◌<◌, ◌≤◌, ◌≢◌, ◌++◌, ◌∷◌, [], ◌↔◌, length, map, take, get_or, slice_set, slice_index, IfOk, MatchOption, IsTrue, MatchBool, not, ℕ};
+ghost use Rattle.std.specs.Prelude.{◌≡◌, ◌+◌, ◌-◌, ◌*◌, List, ◌<◌, ◌≤◌, ◌≢◌, ◌++◌, ◌∷◌, [], ◌↔◌, length, map, take, get_or, slice_set, slice_index, IfOk, MatchOption, IsTrue, MatchBool, not, ℕ};
 ghost use Rattle.cx_base.specs.Literals.{Literal, negate, code_of};
 ghost use Rattle.cx_base.specs.declared.literal.TheConstants.{MAX_VARIABLE};
 ghost use Rattle.cx_trail.specs.Sequence.{TrailState, IsTrail, IsOpenIn, IsAssignedIn, IsTrueIn, IsFalseIn, Means, HasEntry, entry_at, pushed, TakesBack, IsFull, HasOpen};
-ghost use Rattle.cx_trail.specs.Cells.{ArePaired, AreApart, AreTruths, var_at};
+ghost use Rattle.cx_trail.specs.Cells.{AreApart, AreTruths, var_at};
 ghost use Rattle.cx_trail.specs.Renaming.{renamed};
 
 use crate::entry::{Entry, Reason, Truth};
@@ -38,27 +38,6 @@ impl Model for Trail {
     ghost invariant = { λ t. IsKept t.vars t.depth t.count t.cells.items t.places.items t.truths.items };
 }
 
-// Moves the entry's variable to place `count`.
-fn put(cells: &mut Vec<Entry>, places: &mut Vec<u32>, count: usize, entry: Entry)
-    requires paired { ArePaired (length cells.old.items) cells.old.items places.old.items }
-    requires low { 1 ≤ entry.literal.variable }
-    requires high { entry.literal.variable ≤ length cells.old.items }
-    requires open { count ≤ get_or places.old.items entry.literal.variable 0 }
-    ensures paired { ArePaired (length cells.old.items) cells.new.items places.new.items }
-    ensures kept { take count cells.new.items ≡ take count cells.old.items }
-    ensures put { entry_at cells.new.items count ≡ entry }
-    ensures room { count < length cells.old.items }
-{
-    let variable = entry.literal.var().number() as usize;
-    let from = places[variable] as usize;
-    let other = cells[count];
-    let moved = other.literal.var().number() as usize;
-    cells[from] = other;
-    places[moved] = from as u32;
-    cells[count] = entry;
-    places[variable] = count as u32;
-}
-
 // Gives a literal and its negation their values.
 fn set_truths(truths: &mut Vec<Truth>, literal: Lit, of_literal: Truth, of_negation: Truth)
     requires own { code_of literal < length truths.old.items }
@@ -72,12 +51,13 @@ fn set_truths(truths: &mut Vec<Truth>, literal: Lit, of_literal: Truth, of_negat
 // How many of the first `count` cells have levels up to `level`. The literals of the others become unassigned.
 fn cut(cells: &[Entry], truths: &mut Vec<Truth>, count: usize, level: u32) -> usize
     requires count { count ≤ length cells.now }
-    requires apart { AreApart cells.now }
-    requires truths { AreTruths (length cells.now) count cells.now truths.old.items }
+    requires size { length truths.old.items ≡ 2 * length cells.now + 2 }
+    requires high { (i : ℕ) → i < count → var_at cells.now i ≤ length cells.now }
     ensures few { result ≤ count }
     ensures last { 0 < result → (entry_at cells.now (result - 1)).level ≤ level }
     ensures above { (i : ℕ) → result ≤ i → i < count → level < (entry_at cells.now i).level }
-    ensures truths { AreTruths (length cells.now) result cells.now truths.new.items }
+    ensures truths { (whole : List Entry) → AreApart whole → length whole ≡ length cells.now → take count whole ≡ take count cells.now
+        → AreTruths (length whole) count whole truths.old.items → AreTruths (length whole) result whole truths.new.items }
 {
     let mut left = count;
     while left > 0 && cells[left - 1].level > level {
@@ -242,18 +222,13 @@ impl Trail {
         ensures pushed { self.new ≡ pushed self.old level literal reason }
         ensures sound { IsTrail self.new }
     {
-        // a variable is at least 1, which this call tells the proof
-        let _variable = literal.var().number();
-        put(
-            &mut self.cells,
-            &mut self.places,
-            self.count,
-            Entry {
-                literal,
-                level,
-                reason,
-            },
-        );
+        let variable = literal.var().number() as usize;
+        self.cells[self.count] = Entry {
+            literal,
+            level,
+            reason,
+        };
+        self.places[variable] = self.count as u32;
         set_truths(&mut self.truths, literal, Truth::True, Truth::False);
         self.count += 1;
         self.depth = level;

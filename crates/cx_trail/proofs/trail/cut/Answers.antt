@@ -1,6 +1,6 @@
 use Rattle.std.proofs.Common.{◌≡◌, ◌≢◌, ◌<◌, ◌+◌, ◌-◌, ◌∙◌, List, length, get_or, set, ap, arith, subst, sym, ⊎_elim}
 use Rattle.std.proofs.lemmas.Bool.{cases_eq}
-use Rattle.std.proofs.lemmas.List.{get_or_default}
+use Rattle.std.proofs.lemmas.List.{get_or_default, length-set}
 use Rattle.cx_base.specs.Literals.{negate, code_of}
 use Rattle.cx_trail.specs.declared.entry.Entry.{Entry}
 use Rattle.cx_trail.specs.declared.entry.Truth.{Truth}
@@ -8,6 +8,7 @@ use Rattle.cx_trail.specs.declared.entry.Truth.TheVariants.{Open}
 use Rattle.cx_trail.specs.Sequence.{entry_at, no_entry}
 use Rattle.cx_trail.specs.Cells.{AreTruths}
 use Rattle.cx_trail.proofs.TruthLaws.{cut_truths}
+use Rattle.cx_trail.proofs.FrontLaws.{same_at}
 use Rattle.cx_trail.proofs.trail.cut.Goals as goal
 
 pub loop-left-preserved : goal.loop-left-preserved
@@ -20,10 +21,15 @@ loop-left-preserved c =
     let inside : n < length cells = omega (arith, i.few, c.requires.count) in
     let seen : get_or cells n c.index-cells-left-in-loop-left.result ≡ entry_at cells n = get_or_default cells n _ no_entry inside in
     let high : c.args.level < (entry_at cells n).level = subst (λ (x : Entry). c.args.level < x.level) (get_or_default cells n _ no_entry inside) c.if-cells-left.true in
-    let before : AreTruths (length cells) (n + 1) cells old = subst (λ x. AreTruths (length cells) x cells old) (sym back) i.truths in
     let written = c.set_truths.ensures ∙ ap (λ (x : Entry). set (set old (code_of x.literal) Open) (code_of (negate x.literal)) Open) seen in
     record {
       few = omega (arith, i.few);
       above = λ k from h. ⊎_elim (λ (e : k ≡ n). subst (λ x. c.args.level < (entry_at cells x).level) (sym e) high) (λ (ne : k ≢ n). i.above k (omega arith) h) (cases_eq k n);
-      truths = subst (λ (ts : List Truth). AreTruths (length cells) n cells ts) (sym written) (cut_truths n cells old c.requires.apart before inside);
+      size = ap length written ∙ length-set (set old (code_of (entry_at cells n).literal) Open) (code_of (negate (entry_at cells n).literal)) Open ∙ length-set old (code_of (entry_at cells n).literal) Open ∙ i.size;
+      truths = λ whole apart long begins before.
+          let same : entry_at whole n ≡ entry_at cells n = same_at c.args.count n whole cells begins (omega (arith, i.few)) in
+          let so_far : AreTruths (length whole) (n + 1) whole old = subst (λ x. AreTruths (length whole) x whole old) (sym back) (i.truths whole apart long begins before) in
+          subst (λ (ts : List Truth). AreTruths (length whole) n whole ts)
+          (sym (written ∙ ap (λ (x : Entry). set (set old (code_of x.literal) Open) (code_of (negate x.literal)) Open) (sym same)))
+          (cut_truths n whole old apart so_far (omega (arith, long, inside)));
     }

@@ -5,4 +5,4 @@ use Rattle.cx_trail.proofs.trail.Trail.decide.Goals as goal
 pub overflow_add-self : goal.overflow_add-self
 overflow_add-self c =
     let k = c.push.invariant in
-    omega (arith, level_count _ _ _ k.levels, k.short, k.few)
+    omega (arith, level_count _ _ _ k.is_whole.levels, k.is_whole.short, k.is_whole.few)

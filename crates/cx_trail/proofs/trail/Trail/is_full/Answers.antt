@@ -1,7 +1,7 @@
 use Rattle.std.proofs.Common.{◌≡◌, ◌≢◌, ℕ, true, false, MatchBool, eqb, ⊎_elim, sym, subst}
 use Rattle.std.proofs.lemmas.Bool.Decides.{eqb_tells}
 use Rattle.cx_trail.specs.Sequence.{TrailState, IsFull, HasOpen}
-use Rattle.cx_trail.proofs.KeptLaws.{sound_shown, full_from_kept, open_from_kept}
+use Rattle.cx_trail.proofs.FrontLaws.{sound_shown, front_full, front_open}
 use Rattle.cx_trail.proofs.trail.Trail.is_full.Goals as goal
 
 by_test : (a b : ℕ) (t : TrailState) → (a ≡ b → IsFull t) → (a ≢ b → HasOpen t) → MatchBool (eqb a b) (IsFull t) (HasOpen t)
@@ -13,8 +13,8 @@ pub returns-clause-full : goal.returns-clause-full
 returns-clause-full c =
     let k = c.self.invariant in
     by_test c.self.inside.count c.self.inside.vars c.args.self.now
-    (λ e. subst (λ (t : TrailState). IsFull t) c.self.view_is (full_from_kept _ _ _ _ _ _ k e))
-    (λ ne. subst (λ (t : TrailState). HasOpen t) c.self.view_is (open_from_kept _ _ _ _ _ _ k ne))
+    (λ e. subst (λ (t : TrailState). IsFull t) c.self.view_is (front_full _ _ _ _ _ _ k e))
+    (λ ne. subst (λ (t : TrailState). HasOpen t) c.self.view_is (front_open _ _ _ _ _ _ k ne))
 
 pub returns-clause-sound : goal.returns-clause-sound
-returns-clause-sound c = sound_shown _ _ _ _ _ _ _ c.self.invariant c.self.view_is
+returns-clause-sound c = sound_shown _ _ _ _ _ _ c.self.invariant _ c.self.view_is

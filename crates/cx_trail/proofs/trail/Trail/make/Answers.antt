@@ -4,6 +4,7 @@ use Rattle.std.proofs.lemmas.Bool.{cases_lt}
 use Rattle.cx_trail.specs.declared.entry.Truth.TheVariants.{Open}
 use Rattle.cx_trail.specs.Cells.{truth_at}
 use Rattle.cx_trail.proofs.KeptLaws.{fresh}
+use Rattle.cx_trail.proofs.FrontLaws.{begins}
 use Rattle.cx_trail.proofs.trail.Trail.make.Goals as goal
 
 pub invariant_of-result : goal.invariant_of-result
@@ -15,4 +16,4 @@ invariant_of-result c =
     let unset : (k : ℕ) → truth_at truths k ≡ Open = λ k. ⊎_elim
     (λ (h : k < 2 * c.args.vars + 2). e.by_index.1 k Open refl (omega (arith, c.new-truths.ensures.len)) h)
     (λ (h : 2 * c.args.vars + 2 ≤ k). get_or_past truths k Open (omega arith)) (cases_lt k (2 * c.args.vars + 2)) in
-    fresh _ _ _ _ c.requires (omega arith) (omega arith) (λ k h. i.vars k (omega arith)) (λ k h. i.at k (omega arith)) size unset
+    begins _ _ _ _ (fresh _ _ _ _ c.requires (omega arith) (omega arith) (λ k h. i.vars k (omega arith)) (λ k h. i.at k (omega arith)) size unset)
