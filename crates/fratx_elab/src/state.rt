@@ -1,5 +1,6 @@
 //! What stands between two steps.
 use crate::naming::Names;
+use proof_rules::JudgeMarks;
 use rup_finder::IndexedClauses;
 
 /// The live constraints of the log, and what stands for them in the proof.
@@ -8,4 +9,6 @@ pub struct State {
     pub live: IndexedClauses,
     pub clauses: Names,
     pub parities: Names,
+    /// For its memory alone.
+    pub marks: JudgeMarks,
 }

@@ -161,7 +161,7 @@ pub fn take_parity(
     ensures counts { OnOk result (CountsOneMore state.old state.new) }
 {
     let target = admit(alloc, formula, &state.live, Kind::Parities, id, lits)?;
-    judge_named_sum(alloc, state.live.live(), &target, sources)?;
+    judge_named_sum(&mut state.marks, state.live.live(), &target, sources)?;
     let hints = hints_of(alloc, &state.parities, sources)?;
     let copy = lits.clone()?;
     state.live.add(Kind::Parities, id, target)?;
@@ -185,7 +185,13 @@ pub fn take_parity_of_clauses(
 {
     let target = admit(alloc, formula, &state.live, Kind::Parities, id, lits)?;
     // By `?` the prover does not see the cause through.
-    match judge_parity_of_named_clauses(alloc, state.live.live(), &target, sources) {
+    match judge_parity_of_named_clauses(
+        alloc,
+        &mut state.marks,
+        state.live.live(),
+        &target,
+        sources,
+    ) {
         Ok(()) => {}
         Err(why) => return Err(why),
     }
@@ -212,7 +218,7 @@ pub fn take_clause_of_parity(
     ensures counts { OnOk result (CountsOneMore state.old state.new) }
 {
     let target = admit(alloc, formula, &state.live, Kind::Clauses, id, lits)?;
-    judge_clause_of_named_parity(alloc, state.live.live(), &target, source)?;
+    judge_clause_of_named_parity(&mut state.marks, state.live.live(), &target, source)?;
     let named = match state.parities.get(source) {
         Some(named) => named,
         // Nothing that is live in the log is without a name in the proof.

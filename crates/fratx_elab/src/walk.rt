@@ -20,7 +20,7 @@ use crate::outcome::{Elab, ElabFault};
 use crate::state::State;
 use cx_base::{Formula, LogStep, ProofStep};
 use cx_semantics::Cause;
-use proof_rules::JudgeRefusal;
+use proof_rules::{JudgeMarks, JudgeRefusal};
 use rup_finder::IndexedClauses;
 use std::alloc::Global;
 use step_text::{SinkFault, TextRefusal};
@@ -169,6 +169,7 @@ pub fn elaborate<E: ElabEnds>(
         live: IndexedClauses::make(alloc),
         clauses: Names::new(alloc, counts.clauses),
         parities: Names::new(alloc, counts.parities),
+        marks: JudgeMarks::new(alloc),
     };
     let mut steps = 0;
     loop {

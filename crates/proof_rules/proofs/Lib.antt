@@ -9,3 +9,4 @@ pub mod StepIntegers
 pub mod ContentLaws
 pub mod PlaceLaws
 pub mod MarkLaws
+pub mod VariableLaws

@@ -7,3 +7,4 @@ pub mod Assignments
 pub mod Exclusions
 pub mod Contents
 pub mod Places
+pub mod VariableMarks

@@ -7,9 +7,10 @@ ghost use Rattle.proof_rules.specs.Exclusions.{HasPlaces, excluded, all_excluded
 ghost use Rattle.proof_rules.specs.Judges.{JudgesBy};
 
 use crate::JudgeRefusal;
+use crate::literal_set::LiteralSet;
 use crate::live::Live;
+use crate::marks::JudgeMarks;
 use crate::parity_sum::ParitySum;
-use crate::sorted_literals::SortedLiterals;
 use cx_base::{Lit, Var};
 use cx_semantics::Cause;
 use std::alloc::{AllocError, Global};
@@ -41,13 +42,7 @@ fn any_outside(sum: &ParitySum, live: &Live, ids: &[u64]) -> bool
 /// Marks the assignments of the variables under which the clause is not met.
 ///
 /// `place` is that of the assignment where all of them are false, and `step` how far the first of them moves it.
-fn exclude(
-    table: &mut [bool],
-    variables: &[Var],
-    clause: &SortedLiterals,
-    place: usize,
-    step: usize,
-)
+fn exclude(table: &mut [bool], variables: &[Var], clause: &LiteralSet, place: usize, step: usize)
     requires place { place < step }
     requires fits { HasPlaces variables.now step (length table.old) }
     ensures { table.new ≡ excluded clause.now variables.now place step table.old }
@@ -68,6 +63,7 @@ fn exclude(
 /// The table of the assignments that the named clauses exclude.
 fn exclusions(
     alloc: Global,
+    set: &mut LiteralSet,
     variables: &[Var],
     live: &Live,
     ids: &[u64],
@@ -78,8 +74,8 @@ fn exclusions(
     let mut table = vec![in alloc; false; 1 << variables.len()]?;
     for id in ids {
         if let Some(clause) = live.clause(*id) {
-            let set = SortedLiterals::of(alloc, clause)?;
-            exclude(&mut table, variables, &set, 0, 1);
+            set.set_to(clause)?;
+            exclude(&mut table, variables, set, 0, 1);
         }
     }
     Ok(table)
@@ -103,22 +99,23 @@ fn all_excluded(table: &[bool], variables: &[Var], place: usize, step: usize, wr
 /// Judges the target as implied by the clauses that the ids name.
 pub(crate) fn judge_target(
     alloc: Global,
+    marks: &mut JudgeMarks,
     live: &Live,
     target: &[Lit],
     ids: &[u64],
 ) -> Result<(), JudgeRefusal>
     ensures { JudgesBy (parity_of_clauses target.now (named live.now.clauses ids.now)) result }
 {
-    let sum = ParitySum::of(alloc, target)?;
-    if sum.width() > WIDEST {
+    marks.sum.set_to(target)?;
+    marks.sum.variables(&mut marks.variables)?;
+    if marks.variables.len() > WIDEST {
         return Err(JudgeRefusal::Wrong(Cause::TooWide));
     }
-    if any_outside(&sum, live, ids) {
+    if any_outside(&marks.sum, live, ids) {
         return Err(JudgeRefusal::Wrong(Cause::ClauseOutside));
     }
-    let variables = sum.variables(alloc)?;
-    let table = exclusions(alloc, &variables, live, ids)?;
-    if all_excluded(&table, &variables, 0, 1, sum.right_side()) {
+    let table = exclusions(alloc, &mut marks.assumed, &marks.variables, live, ids)?;
+    if all_excluded(&table, &marks.variables, 0, 1, marks.sum.right_side()) {
         Ok(())
     } else {
         Err(JudgeRefusal::Wrong(Cause::NotImplied))

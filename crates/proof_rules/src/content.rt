@@ -2,8 +2,8 @@
 ghost use Rattle.std.specs.Prelude.{IfOk};
 ghost use Rattle.proof_rules.specs.Contents.{IsClauseContent, IsParityContent};
 
-use crate::parity_sum::ParitySum;
 use crate::sorted_literals::SortedLiterals;
+use crate::sorted_parity::SortedParity;
 use cx_base::Lit;
 use std::alloc::{AllocError, Global};
 
@@ -19,6 +19,6 @@ pub fn clause_content(alloc: Global, lits: &[Lit]) -> Result<Vec<u32>, AllocErro
 pub fn parity_content(alloc: Global, lits: &[Lit]) -> Result<Vec<u32>, AllocError>
     ensures { IfOk result (λ content. IsParityContent lits.now content.items) }
 {
-    let sum = ParitySum::of(alloc, lits)?;
+    let sum = SortedParity::of(alloc, lits)?;
     sum.content(alloc)
 }

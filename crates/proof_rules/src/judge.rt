@@ -8,7 +8,7 @@ ghost use Rattle.proof_rules.specs.Judges.{JudgesBy};
 use crate::hints::{id_of, ids_of, judge_hints};
 use crate::literal_set::LiteralSet;
 use crate::live::Kind;
-use crate::{JudgeRefusal, Live, chain, clauses_parity, parity_clause, sum};
+use crate::{JudgeMarks, JudgeRefusal, Live, chain, clauses_parity, parity_clause, sum};
 use cx_base::LitList;
 use std::alloc::Global;
 
@@ -33,9 +33,10 @@ pub fn judge_chain(
 /// Judges a parity as the sum of live parities, each counted as often as it is named.
 ///
 /// The causes, in order: `RatHint`, `HintNotLive`, `SumDiffers`.
-/// It costs the literals of the target and of the hints, times a logarithm.
+/// It costs the literals of the target and of the hints.
 pub fn judge_sum(
     alloc: Global,
+    marks: &mut JudgeMarks,
     live: &Live,
     target: &LitList,
     hints: &[i64],
@@ -44,15 +45,15 @@ pub fn judge_sum(
 {
     judge_hints(live, Kind::Parities, hints)?;
     let ids = ids_of(alloc, hints)?;
-    sum::judge_target(alloc, live, target.as_slice(), &ids)
+    sum::judge_target(&mut marks.sum, live, target.as_slice(), &ids)
 }
 
 /// Judges a clause as implied by the one live parity that the hint names.
 ///
 /// The causes, in order: `RatHint`, `HintNotLive`, `NotImplied`.
-/// It costs the literals of both, times a logarithm.
+/// It costs the literals of both.
 pub fn judge_clause_of_parity(
-    alloc: Global,
+    marks: &mut JudgeMarks,
     live: &Live,
     target: &LitList,
     hint: i64,
@@ -61,7 +62,7 @@ pub fn judge_clause_of_parity(
 {
     judge_hints(live, Kind::Parities, &[hint])?;
     let parity = live.parity(id_of(hint)).unwrap();
-    parity_clause::judge_target(alloc, parity, target.as_slice())
+    parity_clause::judge_target(marks, parity, target.as_slice())
 }
 
 /// Judges a parity of at most 12 variables as implied by live clauses over these variables.
@@ -70,6 +71,7 @@ pub fn judge_clause_of_parity(
 /// It costs the literals of the hints, at most 4,096 assignments, and the assignments that each clause excludes.
 pub fn judge_parity_of_clauses(
     alloc: Global,
+    marks: &mut JudgeMarks,
     live: &Live,
     target: &LitList,
     hints: &[i64],
@@ -78,5 +80,5 @@ pub fn judge_parity_of_clauses(
 {
     judge_hints(live, Kind::Clauses, hints)?;
     let ids = ids_of(alloc, hints)?;
-    clauses_parity::judge_target(alloc, live, target.as_slice(), &ids)
+    clauses_parity::judge_target(alloc, marks, live, target.as_slice(), &ids)
 }

@@ -2,7 +2,7 @@
 ghost use Rattle.std.specs.Prelude.{◌≡◌, ◌<◌, ℕ, false, [], ◌∷◌, OnOk, OnErr, get_or, set, length};
 ghost use Rattle.cx_base.specs.Literals.{Literal, code_of};
 ghost use Rattle.cx_semantics.specs.Chain.{has_literal, negations, HaveSame};
-ghost use Rattle.proof_rules.specs.LiteralSets.{AreMarkedOnly};
+ghost use Rattle.proof_rules.specs.LiteralSets.{AreMarkedOnly, ArePositive};
 
 use cx_base::Lit;
 use std::alloc::{AllocError, Global};
@@ -114,6 +114,20 @@ impl LiteralSet {
         self.clear();
         for lit in lits {
             self.insert(lit.negate())?;
+        }
+        Ok(())
+    }
+
+    /// These literals come in the place of all that it has. Without memory some of them may be in it.
+    pub(crate) fn set_to(&mut self, lits: &[Lit]) -> Result<(), AllocError>
+        ensures same { OnOk result (HaveSame self.new lits.now) }
+        ensures positive { OnOk result (ArePositive lits.now) }
+    {
+        self.clear();
+        for lit in lits {
+            // Its contract says that no variable is 0.
+            let _number = lit.var().number();
+            self.insert(*lit)?;
         }
         Ok(())
     }

@@ -7,7 +7,7 @@ ghost use Rattle.proof_rules.specs.Judges.{JudgesBy};
 
 use crate::hints::judge_names;
 use crate::live::Kind;
-use crate::{JudgeRefusal, Live, clauses_parity, parity_clause, sum};
+use crate::{JudgeMarks, JudgeRefusal, Live, clauses_parity, parity_clause, sum};
 use cx_base::LitList;
 use std::alloc::Global;
 
@@ -15,7 +15,7 @@ use std::alloc::Global;
 ///
 /// The causes, in order: `NotLive`, `SumDiffers`.
 pub fn judge_named_sum(
-    alloc: Global,
+    marks: &mut JudgeMarks,
     live: &Live,
     target: &LitList,
     ids: &[u64],
@@ -23,14 +23,14 @@ pub fn judge_named_sum(
     ensures { JudgesBy (naming live.now.parities ids.now ++ summing target.now (named live.now.parities ids.now)) result }
 {
     judge_names(live, Kind::Parities, ids)?;
-    sum::judge_target(alloc, live, target.as_slice(), ids)
+    sum::judge_target(&mut marks.sum, live, target.as_slice(), ids)
 }
 
 /// Judges a clause as implied by the parity of this id.
 ///
 /// The causes, in order: `NotLive`, `NotImplied`.
 pub fn judge_clause_of_named_parity(
-    alloc: Global,
+    marks: &mut JudgeMarks,
     live: &Live,
     target: &LitList,
     id: u64,
@@ -39,7 +39,7 @@ pub fn judge_clause_of_named_parity(
 {
     judge_names(live, Kind::Parities, &[id])?;
     let parity = live.parity(id).unwrap();
-    parity_clause::judge_target(alloc, parity, target.as_slice())
+    parity_clause::judge_target(marks, parity, target.as_slice())
 }
 
 /// Judges a parity of at most 12 variables as implied by the clauses of these ids, over these variables.
@@ -47,6 +47,7 @@ pub fn judge_clause_of_named_parity(
 /// The causes, in order: `NotLive`, `TooWide`, `ClauseOutside`, `NotImplied`.
 pub fn judge_parity_of_named_clauses(
     alloc: Global,
+    marks: &mut JudgeMarks,
     live: &Live,
     target: &LitList,
     ids: &[u64],
@@ -54,5 +55,5 @@ pub fn judge_parity_of_named_clauses(
     ensures { JudgesBy (naming live.now.clauses ids.now ++ parity_of_clauses target.now (named live.now.clauses ids.now)) result }
 {
     judge_names(live, Kind::Clauses, ids)?;
-    clauses_parity::judge_target(alloc, live, target.as_slice(), ids)
+    clauses_parity::judge_target(alloc, marks, live, target.as_slice(), ids)
 }

@@ -6,21 +6,21 @@ ghost use Rattle.proof_rules.specs.Assignments.{has_opposites, forced_sum, Decid
 ghost use Rattle.proof_rules.specs.Judges.{JudgesBy};
 
 use crate::JudgeRefusal;
-use crate::parity_sum::ParitySum;
-use crate::sorted_literals::SortedLiterals;
+use crate::literal_set::LiteralSet;
+use crate::marks::JudgeMarks;
 use cx_base::{Lit, Var};
 use cx_semantics::Cause;
-use std::alloc::{AllocError, Global};
+use std::alloc::AllocError;
 
 /// Whether the set has the negation of some literal.
-fn has_opposite(set: &SortedLiterals, lits: &[Lit]) -> bool
+fn has_opposite(set: &LiteralSet, lits: &[Lit]) -> bool
     ensures { result ≡ has_opposites set.now lits.now }
 {
     lits.iter().any(|lit| set.contains(lit.negate()))
 }
 
 /// The sum of the variables where all literals of the clause are false, if that gives each of them a value.
-fn sum_outside(clause: &SortedLiterals, variables: &[Var]) -> Option<bool>
+fn sum_outside(clause: &LiteralSet, variables: &[Var]) -> Option<bool>
     ensures { result ≡ forced_sum clause.now variables.now }
 {
     let mut sum = false;
@@ -38,30 +38,30 @@ fn sum_outside(clause: &SortedLiterals, variables: &[Var]) -> Option<bool>
 ///
 /// Where all literals of the clause can be false at once, these give the variables of the parity a sum, or leave one of
 /// them free.
-fn is_implied(alloc: Global, parity: &[Lit], clause: &[Lit]) -> Result<bool, AllocError>
+fn is_implied(marks: &mut JudgeMarks, parity: &[Lit], clause: &[Lit]) -> Result<bool, AllocError>
     ensures { IfOk result (Decided (all_met parity_met (parity.now ∷ [])) (λ values. clause_met values clause.now)) }
 {
-    let set = SortedLiterals::of(alloc, clause)?;
-    if has_opposite(&set, clause) {
+    marks.assumed.set_to(clause)?;
+    if has_opposite(&marks.assumed, clause) {
         return Ok(true);
     }
-    let sum = ParitySum::of(alloc, parity)?;
-    let variables = sum.variables(alloc)?;
-    match sum_outside(&set, &variables) {
-        Some(outside) => Ok(outside != sum.right_side()),
+    marks.sum.set_to(parity)?;
+    marks.sum.variables(&mut marks.variables)?;
+    match sum_outside(&marks.assumed, &marks.variables) {
+        Some(outside) => Ok(outside != marks.sum.right_side()),
         None => Ok(false),
     }
 }
 
 /// Judges the target as implied by the parity.
 pub(crate) fn judge_target(
-    alloc: Global,
+    marks: &mut JudgeMarks,
     parity: &[Lit],
     target: &[Lit],
 ) -> Result<(), JudgeRefusal>
     ensures { JudgesBy (clause_of_parity target.now (parity.now ∷ [])) result }
 {
-    if is_implied(alloc, parity, target)? {
+    if is_implied(marks, parity, target)? {
         Ok(())
     } else {
         Err(JudgeRefusal::Wrong(Cause::NotImplied))

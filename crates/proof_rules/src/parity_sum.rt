@@ -1,65 +1,191 @@
-//! Sums of parities.
-ghost use Rattle.std.specs.Prelude.{◌≡◌, OnOk, IfOk, IsTrue, ◌↔◌};
-ghost use Rattle.std.specs.FinSet as set;
+//! Sums of parities, over marks that are cleared and used again.
+ghost use Rattle.std.specs.Prelude.{◌≡◌, ◌≤◌, ◌<◌, ◌++◌, ℕ, OnOk, IsTrue, ◌↔◌, false, nat_eq, set, length};
+ghost use Rattle.std.specs.List.{list_any, AllByRecursion};
+ghost use Rattle.std.specs.FinSet.{contains};
+ghost use Rattle.cx_base.specs.Literals.{differ};
 ghost use Rattle.cx_base.specs.Parity.{normal_form};
 ghost use Rattle.proof_rules.specs.Assignments.{Lists};
-ghost use Rattle.proof_rules.specs.Contents.{IsFormContent};
 ghost use Rattle.proof_rules.specs.Sums.{zero_sum, plus, flipped, turned};
+ghost use Rattle.proof_rules.specs.VariableMarks.{mark_at, is_met, is_odd, left_over, AreMarked, AreMetOnly};
 
 use cx_base::{Lit, Var};
 use std::alloc::{AllocError, Global};
-use std::collections::BTreeSet;
 use std::marker::Model;
+
+/// What became of a variable since the sum was zero.
+#[derive(Clone, Copy, Debug, Drop)]
+pub enum Mark {
+    /// It was not met.
+    Unmet,
+    /// It was met an even number of times, and is not left.
+    Even,
+    /// It was met an odd number of times, and is left.
+    Odd,
+}
 
 /// A sum of parities: the variables that are left, and what the sum of their values is to be.
 ///
-/// It takes the place of these variables alone, whatever the number of variables of a formula.
+/// It has a mark for each number up to the greatest variable that it met so far: a literal more is one access, to make
+/// it zero costs the variables that it met since it was, and what it meets again takes no memory.
 #[derive(Drop)]
-pub(crate) struct ParitySum {
-    variables: BTreeSet<Var>,
+pub struct ParitySum {
+    /// What became of the variable of each number.
+    marks: Vec<Mark>,
+    /// The variables that were met.
+    met: Vec<Var>,
     right_side: bool,
 }
 
 impl Model for ParitySum {
     ghost use Rattle.std.specs.FinSet as set;
     ghost use Rattle.cx_base.specs.Parity.{NormalForm, form_code};
-    ghost use Rattle.proof_rules.specs.Contents.{IsFormContent};
+    ghost use Rattle.proof_rules.specs.VariableMarks.{left_over, AreMarked};
 
     ghost Value = { NormalForm };
 
     ghost coded = { form_code };
 
-    ghost view = { λ p. record { variables = set.from_list p.variables.keys; right_side = p.right_side } };
+    ghost view = { λ p. record { variables = set.from_list (left_over p.marks.items p.met.items); right_side = p.right_side } };
+
+    ghost invariant = { λ p. AreMarked p.marks.items p.met.items };
+}
+
+/// The mark at a place; past the end there is none.
+fn mark_at(marks: &[Mark], place: usize) -> Mark
+    ensures { result ≡ mark_at marks.now place }
+{
+    if place < marks.len() {
+        marks[place]
+    } else {
+        Mark::Unmet
+    }
+}
+
+/// Whether the variable is left.
+fn is_odd(mark: Mark) -> bool
+    ensures { result ≡ is_odd mark }
+{
+    match mark {
+        Mark::Unmet => false,
+        Mark::Even => false,
+        Mark::Odd => true,
+    }
+}
+
+/// Takes the mark at the place away, if there is one.
+fn clear_mark(marks: &mut Vec<Mark>, place: usize)
+    ensures { marks.new.items ≡ set marks.old.items place Mark.Unmet }
+{
+    if place < marks.len() {
+        marks[place] = Mark::Unmet;
+    }
+}
+
+/// Adds places without a mark until there is this one. Without memory some may have been added.
+fn reach(marks: &mut Vec<Mark>, place: usize) -> Result<(), AllocError>
+    ensures same { (x : ℕ) → mark_at marks.new.items x ≡ mark_at marks.old.items x }
+    ensures reached { OnOk result (place < length marks.new.items) }
+{
+    for _ in marks.len()..=place {
+        marks.push(Mark::Unmet)?;
+    }
+    Ok(())
+}
+
+/// Takes the marks of variables away.
+fn unmark(marks: &mut Vec<Mark>, variables: &[Var])
+    ensures { AreMetOnly marks.old.items variables.now → (x : ℕ) → is_met (mark_at marks.new.items x) ≡ false }
+{
+    for variable in variables {
+        clear_mark(marks, variable.number() as usize);
+    }
+}
+
+/// Meets a variable once more.
+fn meet(marks: &mut Vec<Mark>, met: &mut Vec<Var>, variable: Var) -> Result<(), AllocError>
+    requires { AreMarked marks.old.items met.old.items }
+    ensures marked { AreMarked marks.new.items met.new.items }
+    ensures flipped { OnOk result ((x : ℕ) → is_odd (mark_at marks.new.items x) ≡ differ (is_odd (mark_at marks.old.items x)) (nat_eq variable x)) }
+{
+    let place = variable.number() as usize;
+    match mark_at(marks, place) {
+        Mark::Unmet => {
+            reach(marks, place)?;
+            met.push(variable)?;
+            marks[place] = Mark::Odd;
+            Ok(())
+        }
+        Mark::Even => {
+            marks[place] = Mark::Odd;
+            Ok(())
+        }
+        Mark::Odd => {
+            marks[place] = Mark::Even;
+            Ok(())
+        }
+    }
+}
+
+/// Whether some variable is left.
+fn any_left(marks: &[Mark], met: &[Var]) -> bool
+    ensures { result ≡ list_any (λ x. is_odd (mark_at marks.now x)) met.now }
+{
+    for variable in met {
+        if is_odd(mark_at(marks, variable.number() as usize)) {
+            return true;
+        }
+    }
+    false
+}
+
+/// Puts the variables that are left behind those of a list.
+fn list_left(marks: &[Mark], met: &[Var], list: &mut Vec<Var>) -> Result<(), AllocError>
+    requires { AllByRecursion (λ x. 1 ≤ x) list.old.items }
+    ensures left { OnOk result (list.new.items ≡ list.old.items ++ left_over marks.now met.now) }
+    ensures positive { AllByRecursion (λ x. 1 ≤ x) list.new.items }
+{
+    for variable in met {
+        if is_odd(mark_at(marks, variable.number() as usize)) {
+            list.push(*variable)?;
+        }
+    }
+    Ok(())
 }
 
 impl ParitySum {
     /// The sum of no parities.
-    fn new(alloc: Global) -> ParitySum
+    pub fn new(alloc: Global) -> ParitySum
         ensures { result ≡ zero_sum }
     {
         ParitySum {
-            variables: BTreeSet::new(alloc),
+            marks: Vec::new(alloc),
+            met: Vec::new(alloc),
             right_side: false,
         }
     }
 
-    /// The sum of one parity: its normal form.
-    pub(crate) fn of(alloc: Global, lits: &[Lit]) -> Result<ParitySum, AllocError>
-        ensures { IfOk result (λ sum. sum ≡ normal_form lits.now) }
+    /// Makes it the sum of no parities.
+    fn clear(&mut self)
+        ensures { self.new ≡ zero_sum }
     {
-        let mut sum = ParitySum::new(alloc);
-        sum.add(lits)?;
-        Ok(sum)
+        unmark(&mut self.marks, &self.met);
+        self.met.clear();
+        self.right_side = false;
+    }
+
+    /// Makes it the sum of one parity: its normal form. Without memory the sum is spoilt.
+    pub(crate) fn set_to(&mut self, lits: &[Lit]) -> Result<(), AllocError>
+        ensures { OnOk result (self.new ≡ normal_form lits.now) }
+    {
+        self.clear();
+        self.add(lits)
     }
 
     /// Adds one variable.
     fn flip(&mut self, variable: Var) -> Result<(), AllocError>
         ensures { OnOk result (self.new ≡ flipped self.old variable) }
     {
-        if !self.variables.remove(&variable) {
-            self.variables.insert(variable)?;
-        }
-        Ok(())
+        meet(&mut self.marks, &mut self.met, variable)
     }
 
     /// Adds a bit to the right side.
@@ -88,49 +214,25 @@ impl ParitySum {
         self.right_side
     }
 
-    /// How many variables are left.
-    pub(crate) fn width(&self) -> usize
-        ensures { result ≡ set.len self.now.variables }
-    {
-        self.variables.len()
-    }
-
     /// Whether the variable is left.
     pub(crate) fn has(&self, variable: Var) -> bool
-        ensures { result ≡ set.contains self.now.variables variable }
+        ensures { result ≡ contains self.now.variables variable }
     {
-        self.variables.contains(&variable)
+        is_odd(mark_at(&self.marks, variable.number() as usize))
     }
 
-    /// The variables that are left, in order.
-    pub(crate) fn variables(&self, alloc: Global) -> Result<Vec<Var>, AllocError>
-        ensures { IfOk result (λ list. Lists self.now.variables list.items) }
+    /// The variables that are left come in the place of all that the list has.
+    pub(crate) fn variables(&self, list: &mut Vec<Var>) -> Result<(), AllocError>
+        ensures { OnOk result (Lists self.now.variables list.new.items) }
     {
-        let mut list = Vec::new(alloc);
-        for variable in &self.variables {
-            // Its contract says that no variable is 0.
-            let _number = variable.number();
-            list.push(*variable)?;
-        }
-        Ok(list)
-    }
-
-    /// The right side, 1 or 0, and then the numbers of the variables that are left, rising.
-    pub(crate) fn content(&self, alloc: Global) -> Result<Vec<u32>, AllocError>
-        ensures { IfOk result (λ content. IsFormContent self.now content.items) }
-    {
-        let mut content = Vec::new(alloc);
-        content.push(self.right_side as u32)?;
-        for variable in &self.variables {
-            content.push(variable.number())?;
-        }
-        Ok(content)
+        list.clear();
+        list_left(&self.marks, &self.met, list)
     }
 
     /// Whether nothing is left: no variable, and the right side 0.
     pub(crate) fn is_zero(&self) -> bool
         ensures { IsTrue result ↔ (self.now ≡ zero_sum) }
     {
-        self.variables.is_empty() && !self.right_side
+        !any_left(&self.marks, &self.met) && !self.right_side
     }
 }

@@ -1,11 +1,10 @@
 //! Sets of literals in the order of their codes, for what is looked up by its content.
 ghost use Rattle.std.specs.Prelude.{◌≡◌, [], ◌∷◌, OnOk, IfOk};
-ghost use Rattle.cx_semantics.specs.Chain.{has_literal, HaveSame};
+ghost use Rattle.cx_semantics.specs.Chain.{HaveSame};
 ghost use Rattle.std.specs.Prelude.{map};
 ghost use Rattle.std.specs.List.Sorted.{IsStrictlySortedBy};
 ghost use Rattle.std.specs.Ordering.{nat_cmp};
 ghost use Rattle.cx_base.specs.Literals.{code_of};
-ghost use Rattle.proof_rules.specs.LiteralSets.{ArePositive};
 
 use cx_base::Lit;
 use std::alloc::{AllocError, Global};
@@ -39,23 +38,13 @@ impl SortedLiterals {
 
     /// The set of the literals.
     pub fn of(alloc: Global, lits: &[Lit]) -> Result<SortedLiterals, AllocError>
-        ensures same { IfOk result (λ set. HaveSame set lits.now) }
-        ensures positive { OnOk result (ArePositive lits.now) }
+        ensures { IfOk result (λ set. HaveSame set lits.now) }
     {
         let mut set = SortedLiterals::new(alloc);
         for lit in lits {
-            // Its contract says that no variable is 0.
-            let _number = lit.var().number();
             set.insert(*lit)?;
         }
         Ok(set)
-    }
-
-    /// Whether it has the literal.
-    pub fn contains(&self, lit: Lit) -> bool
-        ensures { result ≡ has_literal self.now lit }
-    {
-        self.lits.contains(&lit)
     }
 
     /// Puts a literal in.

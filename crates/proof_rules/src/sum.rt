@@ -10,7 +10,7 @@ use crate::live::Live;
 use crate::parity_sum::ParitySum;
 use cx_base::Lit;
 use cx_semantics::Cause;
-use std::alloc::{AllocError, Global};
+use std::alloc::AllocError;
 
 /// Adds each parity that the ids name, as often as they name it.
 fn add_named(sum: &mut ParitySum, live: &Live, ids: &[u64]) -> Result<(), AllocError>
@@ -26,15 +26,15 @@ fn add_named(sum: &mut ParitySum, live: &Live, ids: &[u64]) -> Result<(), AllocE
 
 /// Judges the target as the sum of the parities that the ids name.
 pub(crate) fn judge_target(
-    alloc: Global,
+    sum: &mut ParitySum,
     live: &Live,
     target: &[Lit],
     ids: &[u64],
 ) -> Result<(), JudgeRefusal>
     ensures { JudgesBy (summing target.now (named live.now.parities ids.now)) result }
 {
-    let mut sum = ParitySum::of(alloc, target)?;
-    add_named(&mut sum, live, ids)?;
+    sum.set_to(target)?;
+    add_named(sum, live, ids)?;
     if sum.is_zero() {
         Ok(())
     } else {

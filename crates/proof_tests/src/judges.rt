@@ -2,8 +2,8 @@
 use crate::numbers::lits;
 use cx_semantics::Cause;
 use proof_rules::{
-    JudgeRefusal, LiteralSet, Live, judge_chain, judge_clause_of_parity, judge_parity_of_clauses,
-    judge_sum,
+    JudgeMarks, JudgeRefusal, LiteralSet, Live, judge_chain, judge_clause_of_parity,
+    judge_parity_of_clauses, judge_sum,
 };
 use std::alloc::{AllocError, Global};
 use std::test::Fail;
@@ -61,6 +61,7 @@ fn chains(rt: HostRuntime) -> Result<(), Fail> {
 fn sums(rt: HostRuntime) -> Result<(), Fail> {
     let alloc = rt.alloc();
     let mut live = live(alloc)?;
+    let mut marks = JudgeMarks::new(alloc);
     let cases: [(&[i64], &[i64], Option<Cause>); 10] = [
         (&[1, -3], &[1, 2], None),
         (&[1, 3], &[1, 2], Some(Cause::SumDiffers)),
@@ -74,11 +75,11 @@ fn sums(rt: HostRuntime) -> Result<(), Fail> {
         (&[1, 2], &[5], Some(Cause::HintNotLive)),
     ];
     for (target, named, want) in cases {
-        let judged = judge_sum(alloc, &live, &lits(alloc, target)?, named);
+        let judged = judge_sum(alloc, &mut marks, &live, &lits(alloc, target)?, named);
         assert_eq!(rt; cause(judged)?, want, "{target:?} by {named:?}");
     }
     live.remove_parity(1);
-    let judged = judge_sum(alloc, &live, &lits(alloc, &[1, 2])?, &[1]);
+    let judged = judge_sum(alloc, &mut marks, &live, &lits(alloc, &[1, 2])?, &[1]);
     assert_eq!(rt; cause(judged)?, Some(Cause::HintNotLive));
     Ok(())
 }
@@ -87,6 +88,7 @@ fn sums(rt: HostRuntime) -> Result<(), Fail> {
 fn clauses_of_a_parity(rt: HostRuntime) -> Result<(), Fail> {
     let alloc = rt.alloc();
     let live = live(alloc)?;
+    let mut marks = JudgeMarks::new(alloc);
     let cases: [(&[i64], i64, Option<Cause>); 8] = [
         (&[-1, -2], 1, None),
         (&[1, 2], 1, None),
@@ -98,7 +100,7 @@ fn clauses_of_a_parity(rt: HostRuntime) -> Result<(), Fail> {
         (&[1, 2], 7, Some(Cause::HintNotLive)),
     ];
     for (target, named, want) in cases {
-        let judged = judge_clause_of_parity(alloc, &live, &lits(alloc, target)?, named);
+        let judged = judge_clause_of_parity(&mut marks, &live, &lits(alloc, target)?, named);
         assert_eq!(rt; cause(judged)?, want, "{target:?} by {named}");
     }
     Ok(())
@@ -108,6 +110,7 @@ fn clauses_of_a_parity(rt: HostRuntime) -> Result<(), Fail> {
 fn parities_of_clauses(rt: HostRuntime) -> Result<(), Fail> {
     let alloc = rt.alloc();
     let live = live(alloc)?;
+    let mut marks = JudgeMarks::new(alloc);
     let cases: [(&[i64], &[i64], Option<Cause>); 8] = [
         (&[1, 2], &[1, 4], None),
         (&[1, -2], &[2, 3], None),
@@ -127,7 +130,13 @@ fn parities_of_clauses(rt: HostRuntime) -> Result<(), Fail> {
         (&[1, 2], &[1, 4, 9], Some(Cause::HintNotLive)),
     ];
     for (target, named, want) in cases {
-        let judged = judge_parity_of_clauses(alloc, &live, &lits(alloc, target)?, named);
+        let judged = judge_parity_of_clauses(
+            alloc,
+            &mut marks,
+            &live,
+            &lits(alloc, target)?,
+            named,
+        );
         assert_eq!(rt; cause(judged)?, want, "{target:?} by {named:?}");
     }
     Ok(())

@@ -9,7 +9,7 @@ use crate::step::take_step;
 use crate::verdict::{Fault, Verdict};
 use cx_base::{Formula, ProofStep};
 use cx_semantics::Cause;
-use proof_rules::{JudgeRefusal, LiteralSet, Live};
+use proof_rules::{JudgeMarks, JudgeRefusal, Live};
 use std::alloc::Global;
 use step_text::{StepSource, TextRefusal};
 
@@ -35,10 +35,10 @@ pub fn check<S: StepSource<Step = ProofStep>>(
         Ok(live) => live,
         Err(_) => return Err(Fault::Memory),
     };
-    let mut assumed = LiteralSet::new(alloc);
+    let mut marks = JudgeMarks::new(alloc);
     let mut steps = 0;
     loop {
-        match take_next(alloc, &mut assumed, vars, &mut live, source, steps) {
+        match take_next(alloc, &mut marks, vars, &mut live, source, steps) {
             Ok(None) => steps += 1,
             Ok(Some(verdict)) => return Ok(verdict),
             Err(fault) => return Err(fault),
@@ -49,7 +49,7 @@ pub fn check<S: StepSource<Step = ProofStep>>(
 /// Takes the next step, behind so many; none where the proof goes on.
 fn take_next<S: StepSource<Step = ProofStep>>(
     alloc: Global,
-    assumed: &mut LiteralSet,
+    marks: &mut JudgeMarks,
     vars: u32,
     live: &mut Live,
     source: &mut S,
@@ -75,7 +75,7 @@ fn take_next<S: StepSource<Step = ProofStep>>(
         }
         Err(why) => return refused_text(why, steps + 1),
     };
-    let taken = take_step(alloc, assumed, vars, live, &step);
+    let taken = take_step(alloc, marks, vars, live, &step);
     what_follows(taken, steps + 1)
 }
 

@@ -8,7 +8,7 @@ ghost use Rattle.xlrup_check.specs.Verdicts.{hint_rules, TakesAdded, TakesStep};
 
 use cx_base::{IdList, IntList, LitList, ProofStep};
 use proof_rules::{
-    JudgeRefusal, Kind, LiteralSet, Live, admit, judge_chain, judge_clause_of_parity,
+    JudgeMarks, JudgeRefusal, Kind, Live, admit, judge_chain, judge_clause_of_parity,
     judge_parity_of_clauses, judge_sum,
 };
 use std::alloc::Global;
@@ -16,7 +16,7 @@ use std::alloc::Global;
 /// Judges what a step adds by its hints.
 fn judge_added(
     alloc: Global,
-    assumed: &mut LiteralSet,
+    marks: &mut JudgeMarks,
     live: &Live,
     step: &ProofStep,
     target: &LitList,
@@ -24,13 +24,18 @@ fn judge_added(
     ensures { JudgesBy (hint_rules live.now step.now target.now) result }
 {
     match step {
-        ProofStep::Clause(_, _, hints) => judge_chain(assumed, live, target, hints.as_slice()),
-        ProofStep::Parity(_, _, hints) => judge_sum(alloc, live, target, hints.as_slice()),
+        ProofStep::Clause(_, _, hints) => judge_chain(
+            &mut marks.assumed,
+            live,
+            target,
+            hints.as_slice(),
+        ),
+        ProofStep::Parity(_, _, hints) => judge_sum(alloc, marks, live, target, hints.as_slice()),
         ProofStep::ClauseOfParity(_, _, hint) => {
-            judge_clause_of_parity(alloc, live, target, *hint)
+            judge_clause_of_parity(marks, live, target, *hint)
         }
         ProofStep::ParityOfClauses(_, _, hints) => {
-            judge_parity_of_clauses(alloc, live, target, hints.as_slice())
+            judge_parity_of_clauses(alloc, marks, live, target, hints.as_slice())
         }
         ProofStep::DeleteClauses(_, _) | ProofStep::DeleteParities(_) => Ok(()),
     }
@@ -39,7 +44,7 @@ fn judge_added(
 /// Adds the literals of a step, if its hints show them, and says whether it is a clause without literals.
 fn take_added(
     alloc: Global,
-    assumed: &mut LiteralSet,
+    marks: &mut JudgeMarks,
     vars: u32,
     live: &mut Live,
     kind: Kind,
@@ -51,7 +56,7 @@ fn take_added(
     ensures { (formula : Problem) → formula.variables ≡ vars → TakesAdded formula live.old kind id lits.now step.now result live.new }
 {
     let target = admit(alloc, vars, lits, live.has(kind, id))?;
-    judge_added(alloc, assumed, live, step, &target)?;
+    judge_added(alloc, marks, live, step, &target)?;
     live.add(kind, id, target)?;
     Ok(matches!(kind, Kind::Clauses) && lits.as_slice().is_empty())
 }
@@ -65,10 +70,10 @@ fn delete(live: &mut Live, kind: Kind, ids: &IdList)
     }
 }
 
-/// Judges a step, and where it is right does it and says whether it ends the proof. `assumed` is for its memory alone.
+/// Judges a step, and where it is right does it and says whether it ends the proof. `marks` are for their memory alone.
 pub fn take_step(
     alloc: Global,
-    assumed: &mut LiteralSet,
+    marks: &mut JudgeMarks,
     vars: u32,
     live: &mut Live,
     step: &ProofStep,
@@ -78,16 +83,16 @@ pub fn take_step(
 {
     match step {
         ProofStep::Clause(id, lits, _) => {
-            take_added(alloc, assumed, vars, live, Kind::Clauses, *id, lits, step)
+            take_added(alloc, marks, vars, live, Kind::Clauses, *id, lits, step)
         }
         ProofStep::Parity(id, lits, _) => {
-            take_added(alloc, assumed, vars, live, Kind::Parities, *id, lits, step)
+            take_added(alloc, marks, vars, live, Kind::Parities, *id, lits, step)
         }
         ProofStep::ClauseOfParity(id, lits, _) => {
-            take_added(alloc, assumed, vars, live, Kind::Clauses, *id, lits, step)
+            take_added(alloc, marks, vars, live, Kind::Clauses, *id, lits, step)
         }
         ProofStep::ParityOfClauses(id, lits, _) => {
-            take_added(alloc, assumed, vars, live, Kind::Parities, *id, lits, step)
+            take_added(alloc, marks, vars, live, Kind::Parities, *id, lits, step)
         }
         ProofStep::DeleteClauses(_, ids) => {
             delete(live, Kind::Clauses, ids);

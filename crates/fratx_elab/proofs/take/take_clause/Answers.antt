@@ -17,6 +17,6 @@ returns-clause-taken c =
     let target = c.in_ok-target.ensures.1 in
     let chain = subst (λ (l : List Literal). IsChain l (named state.live.clauses ids)) target c.in_ok-ids.ensures.chain.1 in
     let hints = c.in_ok-hints.ensures ∙ ap (hints_for state.clauses) c.as_slice.ensures in
-    takes_clause formula state _ c.args.id lits ids c.clause_step.result added c.in_ok-ids.ensures.chain.0 chain
+    takes_clause formula state (record { live = _; clauses = _; parities = _; marks = state.marks }) c.args.id lits ids c.clause_step.result added c.in_ok-ids.ensures.chain.0 chain
     (c.in_ok-add.ensures.ok ∙ ap (λ (t : Tables). put_clause t c.args.id c.in_ok-target.target) c.chain_of.ensures.same ∙ ap (put_clause state.live c.args.id) target) c.in_ok-next.ensures.named refl
     (c.clause_step.ensures.step ∙ (λ i. step.Clause (c.in_ok-next.ensures.next i) (c.in_ok-copy.ensures.cases i) (hints i)))

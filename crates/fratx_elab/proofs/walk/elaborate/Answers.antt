@@ -41,3 +41,6 @@ returns-in-Err-take_next-clause-writes g c =
   where
     failed : ElabFault → Result Elab ElabFault
     failed fault = Err fault
+
+pub returns-in-Err-take_next-clause-cut_off : goal.returns-in-Err-take_next-clause-cut_off
+returns-in-Err-take_next-clause-cut_off g c = c.in-Err-take_next.ensures.turns c.args.ends.now c.loop-steps.invariant.kept

@@ -4,7 +4,7 @@ use Rattle.cx_semantics.specs.Tables.{named}
 use Rattle.proof_rules.specs.Exclusions.{HasPlaces, excluded}
 use Rattle.proof_rules.proofs.ExclusionLaws.{length-excluded}
 use Rattle.proof_rules.proofs.ClausesParity.{small_power, reach_of_power, marks, marks-hint, marks-no_hint, one_more}
-use Rattle.proof_rules.proofs.clauses_parity.exclusions.Goals.{in-Some+in_ok-set, in_default}
+use Rattle.proof_rules.proofs.clauses_parity.exclusions.Goals.{in-Some+in_ok-set_to, in_default}
 use Rattle.proof_rules.proofs.clauses_parity.exclusions.Goals as goal
 
 pub loop-id-init : goal.loop-id-init
@@ -30,10 +30,10 @@ loop-id-preserved c =
     let old = c.loop-id.table.items in
     let next = sym (drop_more ids c.loop-id.id-index 0 c.loop-id-test.true) in
     elim c.match-clause.branch [
-      | in-Some+in_ok-set w ↦
+      | in-Some+in_ok-set_to w ↦
           let new = w.exclude.new.table in
-          let marked = w.exclude.ensures ∙ ap (excluded w.in_ok-set.set xs 0 1) w.deref_mut.ensures.value in
-          let same : length new ≡ length old = ap length marked ∙ length-excluded w.in_ok-set.set xs 0 1 old in
+          let marked = w.exclude.ensures ∙ ap (excluded w.set_to.new.self xs 0 1) w.deref_mut.ensures.value in
+          let same : length new ≡ length old = ap length marked ∙ length-excluded w.set_to.new.self xs 0 1 old in
           let items : ◌≡◌ {A = List Bool} c.match-clause.table.items new = ap (λ t. t.items) w.table-is ∙ with_items_is c.loop-id.table new (same ∙ sym c.loop-id.table.ok.0) in
           let long : length c.match-clause.table.items ≡ length old = ap length items ∙ same in
           record {
@@ -41,7 +41,7 @@ loop-id-preserved c =
             marked = λ j h.
                 let k : j < length old = omega arith in
                 ap (λ t. get_or t j false || marks xs j (named clauses rest)) items
-                ∙ one_more w.in_ok-set.set w.in-Some.clause.now w.in_ok-set.ensures.same xs j old new (marks xs j (named clauses rest)) marked k
+                ∙ one_more w.set_to.new.self w.in-Some.clause.now w.in_ok-set_to.ensures.same xs j old new (marks xs j (named clauses rest)) marked k
                 ∙ ap (λ b. get_or old j false || b) (marks-hint xs j clauses here rest w.in-Some.clause.now w.in-Some.ensures)
                 ∙ ap (λ zs. get_or old j false || marks xs j (named clauses zs)) next ∙ c.loop-id.invariant.marked j k;
           }

@@ -9,38 +9,43 @@ use Rattle.cx_semantics.specs.Tables.{named}
 use Rattle.proof_rules.proofs.ClausesParity.{too_wide_fails, outside_fails, refused_fails, implied_holds}
 use Rattle.proof_rules.proofs.clauses_parity.judge_target.Goals as goal
 
-pub returns-then-width-gt-WIDEST : goal.returns-then-width-gt-WIDEST
-returns-then-width-gt-WIDEST c =
+pub returns-then-len-gt-WIDEST : goal.returns-then-len-gt-WIDEST
+returns-then-len-gt-WIDEST c =
     let target = c.args.target.now in
-    let form = c.in_ok-sum.ensures in
-    let wide : 12 < set.len (normal_form target).variables = omega (arith, c.width.ensures ∙ ap (λ p. set.len p.variables) form) in
+    let xs = c.variables.new.list.items in
+    let P : NormalForm → Type 0 = λ p. Lists p.variables xs in
+    let lists = subst P c.in_ok-set_to.ensures c.in_ok-variables.ensures in
+    let long : set.len (normal_form target).variables ≡ length xs = sym (ap set.len lists.same) ∙ len-distinct xs lists.once in
+    let wide : 12 < set.len (normal_form target).variables = omega (arith, long) in
     too_wide_fails target (named c.args.live.now.clauses c.args.ids.now) wide
 
 pub returns-then-any_outside : goal.returns-then-any_outside
 returns-then-any_outside c =
     let target = c.args.target.now in
     let clauses = named c.args.live.now.clauses c.args.ids.now in
-    let form = c.in_ok-sum.ensures in
-    let narrow : set.len (normal_form target).variables ≤ 12 = omega (arith, c.width.ensures ∙ ap (λ p. set.len p.variables) form) in
+    let form = c.in_ok-set_to.ensures in
+    let xs = c.variables.new.list.items in
+    let P : NormalForm → Type 0 = λ p. Lists p.variables xs in
+    let lists = subst P form c.in_ok-variables.ensures in
+    let long : set.len (normal_form target).variables ≡ length xs = sym (ap set.len lists.same) ∙ len-distinct xs lists.once in
+    let narrow : set.len (normal_form target).variables ≤ 12 = omega (arith, long) in
     outside_fails target clauses narrow (ap (λ p. list_any (is_outside p.variables) clauses) (sym form) ∙ sym c.any_outside.ensures ∙ c.if-any_outside.true)
 
 pub exclusions-requires : goal.exclusions-requires
-exclusions-requires c =
-    let xs = c.in_ok-variables.variables.items in
-    let lists = c.in_ok-variables.ensures in
-    let long : set.len c.in_ok-sum.sum.variables ≡ length xs = sym (ap set.len lists.same) ∙ len-distinct xs lists.once in
-    omega (arith, ap length c.deref.ensures.value, long, c.width.ensures)
+exclusions-requires c = omega (arith, ap length c.deref.ensures.value)
 
 pub returns-then-all_excluded : goal.returns-then-all_excluded
 returns-then-all_excluded c =
     let target = c.args.target.now in
     let clauses = named c.args.live.now.clauses c.args.ids.now in
-    let xs = c.in_ok-variables.variables.items in
+    let form = c.in_ok-set_to.ensures in
+    let xs = c.variables.new.list.items in
     let table = c.in_ok-table.table.items in
-    let form = c.in_ok-sum.ensures in
-    let narrow : set.len (normal_form target).variables ≤ 12 = omega (arith, c.width.ensures ∙ ap (λ p. set.len p.variables) form) in
     let P : NormalForm → Type 0 = λ p. Lists p.variables xs in
-    implied_holds target clauses xs table (subst P form c.in_ok-variables.ensures) (subst (λ ys. Excludes ys clauses table) c.deref.ensures.value c.in_ok-table.ensures) narrow
+    let lists = subst P form c.in_ok-variables.ensures in
+    let long : set.len (normal_form target).variables ≡ length xs = sym (ap set.len lists.same) ∙ len-distinct xs lists.once in
+    let narrow : set.len (normal_form target).variables ≤ 12 = omega (arith, long) in
+    implied_holds target clauses xs table lists (subst (λ ys. Excludes ys clauses table) c.deref.ensures.value c.in_ok-table.ensures) narrow
     (ap (λ p. list_any (is_outside p.variables) clauses) (sym form) ∙ sym c.any_outside.ensures ∙ c.if-any_outside.false)
     ((λ i. all_excluded (sym c.deref-3.ensures.value i) 0 1 ((ap (λ p. p.right_side) (sym form) ∙ sym c.right_side.ensures) i) (sym c.deref-2.ensures.value i)) ∙ sym c.all_excluded.ensures ∙ c.if-all_excluded.true)
 
@@ -48,11 +53,13 @@ pub returns : goal.returns
 returns c =
     let target = c.args.target.now in
     let clauses = named c.args.live.now.clauses c.args.ids.now in
-    let xs = c.in_ok-variables.variables.items in
+    let form = c.in_ok-set_to.ensures in
+    let xs = c.variables.new.list.items in
     let table = c.in_ok-table.table.items in
-    let form = c.in_ok-sum.ensures in
-    let narrow : set.len (normal_form target).variables ≤ 12 = omega (arith, c.width.ensures ∙ ap (λ p. set.len p.variables) form) in
     let P : NormalForm → Type 0 = λ p. Lists p.variables xs in
-    refused_fails target clauses xs table (subst P form c.in_ok-variables.ensures) (subst (λ ys. Excludes ys clauses table) c.deref.ensures.value c.in_ok-table.ensures) narrow
+    let lists = subst P form c.in_ok-variables.ensures in
+    let long : set.len (normal_form target).variables ≡ length xs = sym (ap set.len lists.same) ∙ len-distinct xs lists.once in
+    let narrow : set.len (normal_form target).variables ≤ 12 = omega (arith, long) in
+    refused_fails target clauses xs table lists (subst (λ ys. Excludes ys clauses table) c.deref.ensures.value c.in_ok-table.ensures) narrow
     (ap (λ p. list_any (is_outside p.variables) clauses) (sym form) ∙ sym c.any_outside.ensures ∙ c.if-any_outside.false)
     ((λ i. all_excluded (sym c.deref-3.ensures.value i) 0 1 ((ap (λ p. p.right_side) (sym form) ∙ sym c.right_side.ensures) i) (sym c.deref-2.ensures.value i)) ∙ sym c.all_excluded.ensures ∙ c.if-all_excluded.false)

@@ -1,20 +1,22 @@
-use Rattle.std.proofs.Common.{◌++◌, ◌∙◌, ap, sym, subst, ℕ, append-nil, nat_cmp, List}
+use Rattle.std.proofs.Common.{◌≡◌, ◌∙◌, ap, sym, subst, List, ℕ, ◌++◌}
 use Rattle.std.specs.FinSet as set
-use Rattle.std.specs.Map.Iter.{deref}
-use Rattle.std.specs.List.Sorted.{IsStrictlySortedBy}
-use Rattle.std.proofs.lemmas.Map.Iter.{rest_all}
-use Rattle.proof_rules.proofs.SumLaws.{distinct-sorted}
+use Rattle.std.proofs.lemmas.Result.{on_ok_weaker}
+use Rattle.proof_rules.specs.Assignments.{AreDistinct}
+use Rattle.proof_rules.specs.VariableMarks.{left_over}
+use Rattle.proof_rules.proofs.VariableLaws.{distinct-left}
 use Rattle.proof_rules.proofs.parity_sum.ParitySum.variables.Goals as goal
 
 pub returns : goal.returns
 returns c =
-    let gives = c.into_iter-variable-iterator.ensures.into_iter_gives in
-    let items = c.loop-variable.list.items in
-    let done = rest_all deref _ _ _ c.in-None.is c.next.ensures.steps in
-    let keys = sym (append-nil items) ∙ ap (λ rest. items ++ rest) (sym done) ∙ c.loop-variable.invariant.whole ∙ gives.0 in
-    let P : List ℕ → Type 0 = λ ks. IsStrictlySortedBy nat_cmp ks in
+    let marks = c.self.inside.marks.items in
+    let met = c.self.inside.met.items in
+    on_ok_weaker c.list_left.result
+    (λ h.
+    let is : ◌≡◌ {A = List ℕ} c.list_left.new.list.items (left_over marks met) =
+    h ∙ (λ i. c.clear.ensures.items i ++ left_over (c.deref.ensures.value i) (c.deref-2.ensures.value i)) in
     record {
-      same = ap set.from_list keys ∙ ap (λ p. p.variables) c.self.view_is;
-      once = distinct-sorted items (subst P (sym keys) gives.4);
-      positive = c.loop-variable.invariant.positive;
-    }
+      same = ap set.from_list is ∙ ap (λ p. p.variables) c.self.view_is;
+      once = subst AreDistinct (sym is) (distinct-left marks met c.self.invariant);
+      positive = c.list_left.ensures.positive;
+    })
+    c.list_left.ensures.left

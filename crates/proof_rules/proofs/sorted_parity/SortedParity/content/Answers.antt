@@ -1,7 +1,7 @@
 use Rattle.std.proofs.Common.{◌++◌, ◌∷◌, ◌∙◌, ap, sym, ℕ, List, cond, append-nil}
 use Rattle.std.specs.Map.Iter.{deref}
 use Rattle.std.proofs.lemmas.Map.Iter.{rest_all}
-use Rattle.proof_rules.proofs.parity_sum.ParitySum.content.Goals as goal
+use Rattle.proof_rules.proofs.sorted_parity.SortedParity.content.Goals as goal
 
 pub returns : goal.returns
 returns c =
