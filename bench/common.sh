@@ -43,3 +43,13 @@ megabytes() {
 row() {
     printf '| %s | %s | %s | %s | %s |\n' "$@"
 }
+
+# The files of a program that `programs/` holds, into a folder, each under its name without `.in`: a Rattle file may stand
+# nowhere in the repository but in a crate that the gate proves.
+lay_out() {
+    local name
+    (cd "$here/programs/$1" && find . -name '*.in') | while read -r name; do
+        mkdir -p "$2/$(dirname "$name")"
+        cp "$here/programs/$1/$name" "$2/${name%.in}"
+    done
+}

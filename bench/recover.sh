@@ -14,47 +14,7 @@ for crate in $crates; do
     grep "^$crate:" "$here/../crates.txt" | head -n 1 >> "$work/crates.txt"
 done
 echo 'recover_times: cx_base cnfx_reader xor_recover' >> "$work/crates.txt"
-cat > "$work/crates/recover_times/src/main.rt" <<'RATTLE'
-//! Times of reading a formula and of recovering its parities.
-#![tactic(auto)]
-
-use cnfx_reader::read_formula;
-use std::env;
-use std::fs::File;
-use std::io::{self, Read};
-use std::time::Instant;
-use xor_recover::recover;
-
-/// Reads the text as a formula and recovers its parities, and prints the microseconds of both and the number of parities.
-fn measure(rt: &HostRuntime, text: &[u8]) -> io::Result<()> {
-    let start = Instant::now(rt)?;
-    match read_formula(rt.alloc(), text) {
-        Ok(formula) => {
-            let read = start.elapsed(rt)?.as_micros();
-            let start = Instant::now(rt)?;
-            let finds = recover(rt.alloc(), &formula)?;
-            let recovered = start.elapsed(rt)?.as_micros();
-            let count = finds.as_slice().len();
-            println!(rt; "round {read} {recovered} {count}")
-        }
-        Err(_) => println!(rt; "no formula"),
-    }
-}
-
-fn main(rt: HostRuntime) -> io::Result<()> {
-    let mut words = env::args(&rt)?;
-    let _program = words.next();
-    match words.next() {
-        Some(name) => {
-            let mut text: Vec<u8> = Vec::new(rt.alloc());
-            let mut file = File::open(&rt, name.as_str())?;
-            file.read_to_end(&mut text)?;
-            measure(&rt, &text)
-        }
-        None => println!(rt; "no file"),
-    }
-}
-RATTLE
+lay_out recover_times "$work/crates/recover_times"
 cd "$work/crates/recover_times"
 if ! rt run > "$work/run.log" 2>&1; then
     cat "$work/run.log" >&2
