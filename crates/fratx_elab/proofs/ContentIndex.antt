@@ -1,6 +1,8 @@
 -- The numbers of lists of literals by what these say.
-use Rattle.std.proofs.Common.{◌≡◌, refl, sym, ap, ◌∙◌, subst, ℕ, ◌+◌, Bool, true, false, cond, List, [], ◌∷◌, ◌++◌, length, length-append, arith, Option, Some, None, MatchOption, IsTrue, IsFalse, is_some, Vec, Global, true≢false, is_eq, nat_cmp}
+use Rattle.std.proofs.Common.{◌≡◌, refl, sym, ap, ◌∙◌, subst, ℕ, ◌+◌, ◌-◌, ◌≤◌, Bool, true, false, cond, List, [], ◌∷◌, ◌++◌, length, take, arith, Option, Some, None, MatchOption, IsTrue, IsFalse, is_some, Vec, Global, true≢false, is_eq, nat_cmp}
+use Rattle.std.specs.Prelude.{slice_get}
 use Rattle.std.specs.List.{AllByRecursion}
+use Rattle.std.proofs.lemmas.List.{length-take-le}
 use Rattle.std.specs.Option.{unwrap_or}
 use Rattle.std.specs.Cmp.{Equal-is, tied_itself}
 use Rattle.std.specs.Cmp.Lexicographic.{slice_cmp, nat_list_cmp_total}
@@ -12,6 +14,7 @@ use Rattle.cx_base.specs.Problem.{Problem, clauses_of, parities_of}
 use Rattle.cx_semantics.specs.LogRules.{is_original, IsOriginalParity}
 use Rattle.cx_base.specs.Parity.{normal_form}
 use Rattle.cx_base.proofs.Elements.{all_push}
+use Rattle.cx_base.proofs.Parts.{one_numbered_more}
 use Rattle.cx_semantics.specs.Chain.{same_literals}
 use Rattle.proof_rules.specs.Contents.{IsClauseContent, IsParityContent}
 use Rattle.proof_rules.proofs.ContentLaws.{same_by_content, content_of_same, form_by_parity_content, content_of_same_form}
@@ -74,8 +77,17 @@ module _ {K : Type 0} (list_of : K → List ℕ) (Has : List Literal → List �
           true≢false (sym (same_list (list_of key)) ∙ ap (λ l. is_eq (slice_cmp nat_cmp (list_of key) l)) (once lits (list_of key) (list_of q) has g) ∙ t)))
       cases false t (Some k) h = later_too Here old new lits k e h
 
-pub grown : (old new : List (List Literal)) (lits : List Literal) → new ≡ old ++ lits ∷ [] → length new ≡ length old + 1
-grown old new lits e = omega (arith, ap length e, length-append old (lits ∷ []))
+-- the list of a number is one more behind those before it
+module _ {K : Type 0} (list_of : K → List ℕ) (Has : List Literal → List ℕ → Type 0) where
+  pub index_more : ((lits : List Literal) (q k : List ℕ) → Has lits q → Has lits k → q ≡ k)
+      → (lists : List (List Literal)) (number : ℕ) (lits : List Literal) (key : K) (id : ℕ) (before after : tree.BTreeMap K ℕ)
+      → 1 ≤ number → number ≤ length lists → slice_get lists (number - 1) ≡ Some lits → id ≡ number → Has lits (list_of key) → PutsFirst list_of before after key id
+      → IsIndexOf list_of Has (take (number - 1) lists) before → IsIndexOf list_of Has (take ((number + 1) - 1) lists) after
+  index_more once lists number lits key id before after low high at same has puts is =
+      let next : (number + 1) - 1 ≡ number = omega arith in
+      let long : length (take (number - 1) lists) ≡ number - 1 = length-take-le (number - 1) lists (omega arith) in
+      index_push list_of Has once (take (number - 1) lists) (take ((number + 1) - 1) lists) lits key id before after
+      (ap (λ n. take n lists) next ∙ one_numbered_more lists number lits low at) (omega (arith, same, long)) has puts is
 
 -- ---- one more key
 

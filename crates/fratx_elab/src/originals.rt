@@ -5,16 +5,17 @@ ghost use Rattle.cx_semantics.specs.LogRules.{is_original, IsOriginalParity};
 ghost use Rattle.fratx_elab.specs.Elaborates.{IsClauseNumber, IsParityNumber, number_of_clauses, number_of_parities};
 ghost use Rattle.std.specs.Prelude.{OnOk};
 ghost use Rattle.cx_base.specs.Problem.{Problem};
-ghost use Rattle.fratx_elab.specs.Contents.{PutsFirst, StandsFor};
+ghost use Rattle.fratx_elab.specs.Contents.{PutsFirst, IsIndexOf, StandsFor};
+ghost use Rattle.proof_rules.specs.Contents.{IsClauseContent, IsParityContent};
 ghost use Rattle.fratx_elab.specs.declared.naming.TheConstants.{MAX_ID};
 
 use crate::naming::{MAX_ID, ProofId};
-use cx_base::{ConstraintRef, Formula, Lit};
+use cx_base::{Formula, Lit};
 use proof_rules::{clause_content, parity_content};
 use std::alloc::{AllocError, Global};
 use std::collections::BTreeMap;
 
-/// How many clauses and how many parities were seen.
+/// How many clauses and how many parities a formula has.
 #[derive(Clone, Copy, Drop)]
 pub struct Counts {
     pub clauses: u64,
@@ -23,22 +24,14 @@ pub struct Counts {
 
 /// The formula's numbers of clauses and of parities.
 pub fn count_kinds(formula: &Formula) -> Counts
-    requires { length formula.now.constraints < MAX_ID }
     ensures clauses { result.clauses ≡ number_of_clauses formula.now }
     ensures parities { result.parities ≡ number_of_parities formula.now }
     ensures few { result.clauses + result.parities ≤ length formula.now.constraints }
 {
-    let mut counts = Counts {
-        clauses: 0,
-        parities: 0,
-    };
-    for place in 0..formula.len() {
-        match formula.item(place) {
-            ConstraintRef::Clause(_) => counts.clauses += 1,
-            ConstraintRef::Parity(_) => counts.parities += 1,
-        }
+    Counts {
+        clauses: formula.clause_count() as u64,
+        parities: formula.parity_count() as u64,
     }
-    counts
 }
 
 /// The numbers of the formula's clauses and parities by what they say, each with the least where several say the same.
@@ -62,33 +55,42 @@ fn put_first(
     Ok(())
 }
 
+/// The least number of a clause of the formula at each content.
+fn clause_index(alloc: Global, formula: &Formula) -> Result<BTreeMap<Vec<u32>, ProofId>, AllocError>
+    requires { length formula.now.constraints < MAX_ID }
+    ensures { IfOk result (IsIndexOf (λ k. k.items) IsClauseContent (clauses_of formula.now.constraints)) }
+{
+    let mut index = BTreeMap::new(alloc);
+    for number in 1..=formula.clause_count() {
+        let content = clause_content(alloc, formula.clause(number))?;
+        put_first(&mut index, content, ProofId::new(number as u64))?;
+    }
+    Ok(index)
+}
+
+/// The least number of a parity of the formula at each content.
+fn parity_index(alloc: Global, formula: &Formula) -> Result<BTreeMap<Vec<u32>, ProofId>, AllocError>
+    requires { length formula.now.constraints < MAX_ID }
+    ensures { IfOk result (IsIndexOf (λ k. k.items) IsParityContent (parities_of formula.now.constraints)) }
+{
+    let mut index = BTreeMap::new(alloc);
+    for number in 1..=formula.parity_count() {
+        let content = parity_content(alloc, formula.parity(number))?;
+        put_first(&mut index, content, ProofId::new(number as u64))?;
+    }
+    Ok(index)
+}
+
 impl Originals {
     /// Those of the formula.
     pub fn of(alloc: Global, formula: &Formula) -> Result<Originals, AllocError>
         requires { length formula.now.constraints < MAX_ID }
         ensures { IfOk result (λ originals. StandsFor originals formula.now) }
     {
-        let mut clauses = BTreeMap::new(alloc);
-        let mut parities = BTreeMap::new(alloc);
-        let mut counts = Counts {
-            clauses: 0,
-            parities: 0,
-        };
-        for place in 0..formula.len() {
-            match formula.item(place) {
-                ConstraintRef::Clause(clause) => {
-                    counts.clauses += 1;
-                    let content = clause_content(alloc, clause)?;
-                    put_first(&mut clauses, content, ProofId::new(counts.clauses))?;
-                }
-                ConstraintRef::Parity(parity) => {
-                    counts.parities += 1;
-                    let content = parity_content(alloc, parity)?;
-                    put_first(&mut parities, content, ProofId::new(counts.parities))?;
-                }
-            }
-        }
-        Ok(Originals { clauses, parities })
+        Ok(Originals {
+            clauses: clause_index(alloc, formula)?,
+            parities: parity_index(alloc, formula)?,
+        })
     }
 
     /// The least number of a clause of the formula with the same set of literals; none where it has no such clause.
