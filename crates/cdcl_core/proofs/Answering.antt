@@ -1,5 +1,5 @@
 -- What the logs of the search's answers are.
-use Rattle.std.proofs.Common.{◌≡◌, refl, sym, ap, ◌∙◌, subst, ℕ, ◌+◌, ◌<◌, false, List, Bool, Some, None, Option, Result, Ok, Err, IfOk, OnOk, inl, arith}
+use Rattle.std.proofs.Common.{◌≡◌, refl, sym, ap, ◌∙◌, subst, ℕ, ◌+◌, ◌<◌, ◌≤◌, false, List, Bool, Some, None, Option, Result, Ok, Err, IfOk, OnOk, inl, arith}
 use Rattle.std.specs.List.{range_with_len}
 use Rattle.cx_base.specs.Literals.{Literal}
 use Rattle.cx_base.specs.Problem.{Problem}
@@ -25,7 +25,7 @@ use Rattle.cdcl_search.specs.Ties.{SearchStands}
 use Rattle.cdcl_core.specs.declared.solving.Outcome.{Outcome}
 use Rattle.cdcl_core.specs.declared.solving.Outcome.TheVariants.{Sat, Unsat, Unknown}
 use Rattle.cdcl_core.specs.Learning.{Learns}
-use Rattle.cdcl_core.specs.Results.{IsOpenWith, IsFresh, HasNoMark, IsSettledBy}
+use Rattle.cdcl_core.specs.Results.{IsOpenWith, IsFresh, HasNoMark, IsSettledBy, Refutes}
 use Rattle.cdcl_core.proofs.Entering.{round_is_search, conflicts_then, tidy}
 
 -- ---- open logs
@@ -56,6 +56,14 @@ settled_has_no_mark formula (Some es) (Unknown n) h = absurd (h.1 n refl)
 -- ---- settled answers
 pub values_are_known : (values : List Bool) (n : ℕ) → Sat values ≡ Unknown n → ⊥
 values_are_known values n is = cc
+
+pub unsat_is_known : (n : ℕ) → Unsat ≡ Unknown n → ⊥
+unsat_is_known n is = cc
+
+-- fewer marks than one number are fewer than a greater one
+pub refutes_within : (formula : Problem) (n budget : ℕ) (told : Option (List LogEvent)) → n ≤ budget → Refutes formula n told → Refutes formula budget told
+refutes_within formula n budget None few r = record { unmet = r.unmet; log = tt }
+refutes_within formula n budget (Some events) few r = let less = r.log.1.1 in record { unmet = r.unmet; log = (r.log.0, (r.log.1.0, omega (arith, less, few), r.log.1.2)) }
 
 pub settled_answer_has_no_mark : (formula : Problem) (told : Option (List LogEvent)) (r : Result Outcome CoreFault) → IfOk r (λ a. IsSettledBy formula 1 told a) → OnOk r (HasNoMark told)
 settled_answer_has_no_mark formula told (Ok a) h = settled_has_no_mark formula told a h

@@ -35,6 +35,7 @@ use Rattle.cdcl_search.specs.declared.propagation.Found.{Found}
 use Rattle.cdcl_search.specs.declared.propagation.Found.TheVariants as found
 use Rattle.cdcl_search.specs.Finds.{PropagationFinds, IsClash}
 use Rattle.cdcl_search.specs.Tells.{as_events, with_events, IsTellable, IsId}
+use Rattle.cdcl_search.specs.Rows.{sum_and_clause_events}
 use Rattle.cdcl_search.specs.Ties.{SearchStands, first_row_id, Ties}
 use Rattle.cdcl_search.proofs.RowSteps.{all_told_are, sum_told, sum_is, clause_added, clause_is}
 use Rattle.cdcl_core.specs.declared.conflicts.Conclusion.TheVariants.{Clause}
@@ -143,14 +144,14 @@ module _ (formula : Problem) (c : SearchState) (e : State) (told : Option (List 
 
       -- the steps of a row without variables
       pub ends_log : literals (integers_of reason.parity) ≡ reason.parity → literals (integers_of reason.clause) ≡ reason.clause → reason.clause ≡ [] → (steps : List LogStep)
-          → steps ≡ Parity (length formula.constraints + 1) (integers_of reason.parity) reason.sources ∷ ClauseOfParity first_row_id (integers_of reason.clause) (length formula.constraints + 1) ∷ []
+          → as_events steps ≡ sum_and_clause_events (length formula.constraints + 1) (integers_of reason.parity) reason.sources first_row_id (integers_of reason.clause)
           → AllByRecursion IsTellable steps → EndsLog formula c.conflicts told steps
       ends_log back_parity back_clause none steps are texts =
           let empty : is_empty (integers_of reason.clause) ≡ true = ap (λ ls. is_empty (integers_of ls)) none in
           record {
             texts = texts;
             unmet = two_are_unmet formula c e [] st.0 st.1 st.3 reason clash_explains back_parity back_clause empty;
-            log = subst (λ xs. IsEndedWith formula c.conflicts (with_events (as_events xs) told)) (sym are)
+            log = subst (λ xs. IsEndedWith formula c.conflicts (with_events xs told)) (sym are)
                 (two_end formula c e [] st.0 st.1 st.3 reason clash_explains back_parity back_clause empty told st.2);
           }
 

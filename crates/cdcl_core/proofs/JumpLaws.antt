@@ -85,6 +85,13 @@ module _ (formula : Problem) (c : SearchState) (e : State) (lits : List Literal)
     pub first_is_open : IsOpenIn c1.trail.entries (nth lits 0).variable
     first_is_open = subst (λ m. IsOpenIn c1.trail.entries m.variable) (sym first_is) (tied_then formula c e lits back s taught [] c1.trail takes why.Decision).0
 
+    pub first_is_high : (nth lits 0).variable ≤ c1.trail.variables
+    first_is_high =
+        let long = ap length taught.parts in
+        let high = (all_within formula.variables lits (within formula c e lits back s taught []) 0 no_literal (omega (arith, long))).1 in
+        let same = t1.trail.variables in
+        omega (arith, high, same)
+
     pub others_are_false : AreOthersFalse c1.trail.entries lits taught.first
     others_are_false m has apart =
         let low = taught.learned.lower in

@@ -7,11 +7,12 @@ use Rattle.cx_base.specs.declared.steps.LogStep.TheVariants.{ClauseWithHints, De
 use Rattle.cx_base.specs.declared.steps.LogEvent.{LogEvent}
 use Rattle.cx_base.specs.declared.steps.LogEvent.TheVariants.{Step, Conflict}
 use Rattle.cx_base.specs.Integers.{integers_of, literals}
-use Rattle.cx_trail.specs.Sequence.{TrailState}
+use Rattle.cx_trail.specs.Sequence.{TrailState, IsTrueIn}
 use Rattle.conflict_learn.specs.declared.fault.CoreFault.{CoreFault}
 use Rattle.conflict_learn.specs.declared.learning.Learned.{Learned}
 use Rattle.conflict_learn.specs.Levels.{Teaches}
 use Rattle.conflict_learn.specs.Learning.{IsOfLevel}
+use Rattle.conflict_learn.specs.Touching.{AreTouched}
 use Rattle.cx_semantics.specs.Chain.{has_literal}
 use Rattle.search_steps.proofs.CodeSteps.{clause_conflict_is_now}
 use Rattle.search_steps.proofs.Bridge.{level_tied}
@@ -24,13 +25,13 @@ use Rattle.search_steps.proofs.OverSearch.{taught_by_search}
 use Rattle.cdcl_search.specs.declared.state.SearchState.{SearchState}
 use Rattle.cdcl_search.specs.Ties.{first_row_id, row_ids, SearchStands}
 use Rattle.cdcl_search.specs.Sources.{IsSourced}
-use Rattle.std.specs.Prelude.{OnOk}
+use Rattle.std.specs.Prelude.{Ok, Err, OnOk, IsTrue}
 use Rattle.cdcl_search.specs.declared.logs.SearchLog.{SearchLog}
 use Rattle.cdcl_search.specs.Tells.{IsLeft, as_events, with_events}
 use Rattle.cdcl_search.proofs.RowSteps.{is_left}
 use Rattle.cdcl_search.specs.Deleting.{deletions}
 use Rattle.cdcl_search.proofs.SourceLaws.{sourced_is_live}
-use Rattle.cdcl_core.specs.Learning.{IsTaught, Learns}
+use Rattle.cdcl_core.specs.Learning.{IsTaught, Learns, IsLesson}
 use Rattle.cdcl_core.proofs.Entering.{round_is_search, tidy}
 use Rattle.cdcl_core.specs.Concluding.{IsConflictClause}
 
@@ -113,3 +114,8 @@ conflict_at c conflict rows last same h = subst (λ rs. IsConflictClause c rs co
 pub teaches_at : (r : Result Learned CoreFault) (c : SearchState) (trail : TrailState) (conflict : List Literal) (rows last : List (List Literal)) → last ≡ rows
     → IfOk r (λ x. Teaches trail conflict (IsSourced c rows) x.resolved x.lits x.back_level x.lbd) → IfOk r (λ x. Teaches trail conflict (IsSourced c last) x.resolved x.lits x.back_level x.lbd)
 teaches_at r c trail conflict rows last same h = subst (λ rs. IfOk r (λ x. Teaches trail conflict (IsSourced c rs) x.resolved x.lits x.back_level x.lbd)) (sym same) h
+
+pub lesson_by : (r : Result Learned CoreFault) (c : SearchState) (conflict : List Literal) (rows : List (List Literal)) → IfOk r (λ x. Teaches c.trail conflict (IsSourced c rows) x.resolved x.lits x.back_level x.lbd)
+    → IfOk r (λ x. (l : Literal) → IsTrue (has_literal x.resolved l) → IsTrueIn c.trail.entries l) → IfOk r (λ x. AreTouched c.trail x.resolved x.lits x.touched.items) → IfOk r (IsLesson c rows conflict)
+lesson_by (Ok x) c conflict rows teaches stand touched = record { teaches = teaches; stand = stand; touched = touched }
+lesson_by (Err fault) c conflict rows teaches stand touched = tt

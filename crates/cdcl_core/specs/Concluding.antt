@@ -1,5 +1,5 @@
 -- What a conflict comes to.
-use Rattle.std.specs.Prelude.{◌≡◌, ℕ, ◌<◌, ◌≤◌, List, [], length, Option, Some, None, IsFalse, IsTrue, ◌≢◌}
+use Rattle.std.specs.Prelude.{◌≡◌, ℕ, ◌+◌, ◌<◌, ◌≤◌, List, [], length, Option, Some, None, Result, OnOk, IfOk, IsFalse, IsTrue, ◌≢◌}
 use Rattle.std.specs.List.{AllByRecursion}
 use Rattle.cx_base.specs.Problem.{Problem, Unmet}
 use Rattle.cx_base.specs.Literals.{Literal}
@@ -10,16 +10,23 @@ use Rattle.cx_semantics.specs.LogRules.{HasChain}
 use Rattle.cx_semantics.specs.Marked.{Marked}
 use Rattle.cx_semantics.specs.Tables.{get}
 use Rattle.cx_semantics.specs.Chain.{has_literal}
+use Rattle.conflict_learn.specs.declared.fault.CoreFault.{CoreFault}
+use Rattle.conflict_learn.specs.Faults.{fault_in}
 use Rattle.parity_engine.specs.State.{State}
 use Rattle.parity_engine.specs.declared.state.Mood.TheVariants.{Broken}
 use Rattle.search_steps.specs.Holding.{AreTold}
 use Rattle.search_steps.specs.LogSteps.{IsEnded}
 use Rattle.search_steps.specs.Search.{Search, IsSearch}
 use Rattle.cx_trail.specs.Sequence.{IsFalseIn}
+use Rattle.step_text.specs.declared.sink.Sink as sink
+use Rattle.parity_engine.specs.declared.engine.ParityEngine as engine
 use Rattle.cdcl_search.specs.declared.state.SearchState.{SearchState}
+use Rattle.cdcl_search.specs.declared.logs.SearchLog.{SearchLog}
+use Rattle.cdcl_search.specs.Logs.{GoesOn, Stands, told_in}
 use Rattle.cdcl_search.specs.Tells.{IsId, as_events, with_events, IsTellable}
 use Rattle.cdcl_search.specs.Ties.{SearchStands}
 use Rattle.cdcl_search.specs.Sources.{IsSourced}
+use Rattle.cdcl_core.specs.Results.{Refutes}
 use Rattle.cdcl_core.specs.declared.conflicts.Conclusion.{Conclusion}
 use Rattle.cdcl_core.specs.declared.conflicts.Conflict.{Conflict}
 use Rattle.cdcl_core.specs.declared.conflicts.Conclusion.TheVariants.{Clause, Ending}
@@ -28,6 +35,12 @@ use Rattle.cdcl_core.specs.declared.conflicts.Conclusion.TheVariants.{Clause, En
 pub record IsConflictClause (c : SearchState) (rows : List (List Literal)) (clause : List Literal) : Type 0 where
   pub sourced : IsSourced c rows clause
   pub all_false : (m : Literal) → IsTrue (has_literal clause m) → IsFalseIn c.trail.entries m
+
+-- the search stands above level 0 at a conflict with this clause; of rows these clauses were told since the last mark
+pub record IsAtConflict {P L : Type 0} (p : engine.Ghosts P) (m : sink.Ghosts L LogEvent) (log : SearchLog L) (c : SearchState) (e : P) (rows : List (List Literal)) (clause : List Literal) : Type 0 where
+  pub stands : Stands p m log c e rows
+  pub conflict : IsConflictClause c rows clause
+  pub above : 0 < c.trail.level
 
 -- the log is right to its end, and marked so often
 abbrev pub IsEndedWith : Problem → ℕ → Option (List LogEvent) → Type 0
@@ -44,10 +57,20 @@ pub record EndsLog (formula : Problem) (marks : ℕ) (told : Option (List LogEve
 abbrev pub IsTold : Conflict → Type 0
 IsTold k = IsId k.id × (length k.rows.items ≤ 1)
 
+-- Up to an answer the end is told: no values meet the formula, and the log shows it, marked no more often than before. The log goes on.
+pub record TellsEnd {L T : Type 0} (m : sink.Ghosts L LogEvent) (old : SearchLog L) (marks : ℕ) (new : SearchLog L) (result : Result T CoreFault) : Type 0 where
+  pub refutes : OnOk result (Refutes new.formula.now (marks + 1) (told_in m new))
+  pub log : GoesOn m old (fault_in result) new
+
 -- a clause whose literals are all false, or steps that end the log
 abbrev pub Concludes : Problem → SearchState → State → Option (List LogEvent) → Conclusion → Type 0
 Concludes formula c e told (Clause k) = SearchStands formula c e k.rows.items told × IsConflictClause c k.rows.items k.lits × IsTold k
 Concludes formula c e told (Ending steps) = SearchStands formula c e [] told × EndsLog formula c.conflicts told steps.items
+
+-- Up to an answer the search stands at what the conflict comes to; the log goes on.
+pub record ConcludesOn {P L : Type 0} (p : engine.Ghosts P) (m : sink.Ghosts L LogEvent) (old new : SearchLog L) (c : SearchState) (e : P) (result : Result Conclusion CoreFault) : Type 0 where
+  pub concludes : IfOk result (λ k. Concludes new.formula.now c (p.state e) (told_in m new) k)
+  pub log : GoesOn m old (fault_in result) new
 
 -- the clauses of the search show the empty clause, which may have this id; so many conflicts are counted
 pub record IsContradicted (formula : Problem) (id marks : ℕ) (s : Search) : Type 0 where

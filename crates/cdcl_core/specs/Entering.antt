@@ -3,10 +3,23 @@ use Rattle.std.specs.Prelude.{◌≡◌, ◌≢◌, ◌≤◌, ◌⊎◌, ℕ, t
 use Rattle.cx_base.specs.Literals.{Literal}
 use Rattle.cx_trail.specs.declared.entry.Reason.{Reason}
 use Rattle.cx_trail.specs.declared.entry.Reason.TheVariants.{Decision, Clause}
-use Rattle.cx_trail.specs.Sequence.{pushed, IsTrail}
-use Rattle.watch_lists.specs.Attaching.{literal_at}
+use Rattle.cx_trail.specs.Sequence.{TrailState, pushed, IsTrail, IsOpenIn}
+use Rattle.watch_lists.specs.Attaching.{CanBeWatched, literal_at}
 use Rattle.watch_lists.specs.Watching.{Fits, IsAttached}
 use Rattle.cdcl_search.specs.declared.state.SearchState.{SearchState}
+
+-- the literal's variable is one of the trail's, and has no value
+pub record CanBePut (t : TrailState) (l : Literal) : Type 0 where
+  pub high : l.variable ≤ t.variables
+  pub free : IsOpenIn t.entries l.variable
+
+-- a clause that may be put among the others, and its first literal on the trail; one of one literal at level 0
+pub record MayEnter (c : SearchState) (lits : List Literal) : Type 0 where
+  pub some : 1 ≤ length lits
+  pub unit : length lits ≡ 1 → c.trail.level ≡ 0
+  pub fits : Fits c.watches c.arena c.trail
+  pub watched : 2 ≤ length lits → CanBeWatched c.watches.variables c.trail lits
+  pub put : CanBePut c.trail (literal_at lits 0)
 
 -- the literal stands on the trail, at the current level
 pub record IsPut (old new : SearchState) (l : Literal) (reason : Reason) : Type 0 where

@@ -85,6 +85,10 @@ pub record IsNext (formula : Problem) (f : Filled) (lits : List Literal) : Type 
   pub different : AreDifferent lits
   pub within : AreWithin formula.variables lits
 
+-- where they are, one clause more of the formula is taken
+abbrev pub TakesNext : Filled → List Literal → Filled → Type 0
+TakesNext f lits now = (formula : Problem) → IsNext formula f lits → IsFilledUpTo formula f.state.next now.state now.units.items now.empty
+
 -- the clause stands in the arena under its number, and is attached; nothing else changes
 pub record Attaches (old new : SearchState) (lits : List Literal) (number : ℕ) : Type 0 where
   pub added : new.arena.clauses ≡ old.arena.clauses ++ Some (record { literals = lits; id = number; lbd = 0; learned = false }) ∷ []

@@ -1,19 +1,23 @@
 -- What a conflict teaches, and what the sink is told of it.
-use Rattle.std.specs.Prelude.{◌≡◌, ℕ, ◌<◌, ◌^◌, ℤ, List, ◌∷◌, length, Option}
+use Rattle.std.specs.Prelude.{◌≡◌, ℕ, ◌<◌, ◌^◌, ℤ, List, [], ◌∷◌, length, Option, IsTrue}
 use Rattle.cx_base.specs.Literals.{Literal}
 use Rattle.cx_base.specs.Problem.{Problem}
 use Rattle.cx_base.specs.declared.steps.LogEvent.{LogEvent}
 use Rattle.cx_base.specs.Integers.{integers_of, literals}
+use Rattle.cx_semantics.specs.Chain.{has_literal}
 use Rattle.cx_semantics.specs.LogRules.{HasChain}
-use Rattle.cx_trail.specs.Sequence.{TrailState}
+use Rattle.cx_trail.specs.Sequence.{TrailState, IsTrueIn}
 use Rattle.conflict_learn.specs.Learning.{negated_at, IsFalling}
-use Rattle.conflict_learn.specs.Levels.{levels_at, second}
+use Rattle.conflict_learn.specs.Levels.{levels_at, second, Teaches}
+use Rattle.conflict_learn.specs.Touching.{AreTouched}
+use Rattle.conflict_learn.specs.declared.learning.Learned.{Learned}
 use Rattle.parity_engine.specs.State.{State}
 use Rattle.search_steps.specs.Search.{Search, IsSearch, IsLearnedOf}
 use Rattle.search_steps.specs.LogSteps.{after_round}
 use Rattle.search_steps.specs.Holding.{AreTold}
 use Rattle.cdcl_search.specs.declared.state.SearchState.{SearchState}
-use Rattle.cdcl_search.specs.Ties.{Ties, IsWatched, first_row_id}
+use Rattle.cdcl_search.specs.Sources.{IsSourced}
+use Rattle.cdcl_search.specs.Ties.{SearchStands, Ties, IsWatched, first_row_id}
 
 -- The literals are the negations of those at falling places of the trail. The back level is that of the second one, 0 where there is none.
 pub record ArePlaced (trail : TrailState) (lits : List Literal) (back : ℕ) : Type 0 where
@@ -46,3 +50,13 @@ pub record Learns (formula : Problem) (c : SearchState) (e : State) (lits : List
   pub taught : IsTaught formula c e lits back search
   pub hints : List ℤ
   pub told_is : AreTold told (after_round search c.next (integers_of lits) hints back taught.first).events
+
+-- The clause that a conflict teaches: resolved from that and the clauses that the search holds, on literals that stand on the trail, which are touched with its own.
+pub record IsLesson (c : SearchState) (rows : List (List Literal)) (conflict : List Literal) (learned : Learned) : Type 0 where
+  pub teaches : Teaches c.trail conflict (IsSourced c rows) learned.resolved learned.lits learned.back_level learned.lbd
+  pub stand : (l : Literal) → IsTrue (has_literal learned.resolved l) → IsTrueIn c.trail.entries l
+  pub touched : AreTouched c.trail learned.resolved learned.lits learned.touched.items
+
+-- where the sink was told what this clause was learned from, the search stands behind that
+abbrev pub StandsBehind : Problem → SearchState → State → Learned → SearchState → State → Type 0
+StandsBehind formula c e learned now e_now = (told : Option (List LogEvent)) → Learns formula c e learned.lits learned.back_level told → SearchStands formula now e_now [] told

@@ -10,3 +10,5 @@ pub mod Filling
 pub mod Waiting
 pub mod Reducing
 pub mod Compacting
+pub mod Rounds
+pub mod GoingBack

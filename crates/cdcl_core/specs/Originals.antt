@@ -1,5 +1,5 @@
 -- The log begins with the formula's constraints.
-use Rattle.std.specs.Prelude.{◌≡◌, ℕ, List, length, Option, None}
+use Rattle.std.specs.Prelude.{◌≡◌, ℕ, List, length, take, Option, None}
 use Rattle.cx_base.specs.Literals.{Literal}
 use Rattle.cx_base.specs.Problem.{Problem, clauses_of, parities_of}
 use Rattle.cx_base.specs.declared.constraint.Constraint.{Constraint}
@@ -8,7 +8,11 @@ use Rattle.cx_semantics.specs.Tables.{Table, get}
 use Rattle.search_steps.specs.Holding.{AreTold}
 use Rattle.search_steps.specs.Search.{Search}
 use Rattle.search_steps.specs.Start.{IsBegun}
+use Rattle.step_text.specs.declared.sink.Sink as sink
+use Rattle.cdcl_search.specs.declared.logs.SearchLog.{SearchLog}
+use Rattle.cdcl_search.specs.Logs.{told_in}
 use Rattle.cdcl_search.specs.Ties.{AreNumbered}
+use Rattle.cdcl_core.specs.declared.originals.Counts.{Counts}
 
 -- the lists stand under their numbers, from 1
 pub record AreListedFromOne (table : Table) (lists : List (List Literal)) : Type 0 where
@@ -23,3 +27,8 @@ HasBegun formula taken told = (s : Search) × IsBegun formula taken s × AreList
 pub record AreCounted (taken : List Constraint) (n k : ℕ) : Type 0 where
   pub clauses : n ≡ length (clauses_of taken)
   pub parities : k ≡ length (parities_of taken)
+
+-- the constraints before this place are told and counted
+pub record HasTaken {L : Type 0} (m : sink.Ghosts L LogEvent) (log : SearchLog L) (place : ℕ) (counts : Counts) : Type 0 where
+  pub counted : AreCounted (take place log.formula.now.constraints) counts.clauses counts.parities
+  pub begun : HasBegun log.formula.now (take place log.formula.now.constraints) (told_in m log)

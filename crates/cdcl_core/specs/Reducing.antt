@@ -1,9 +1,11 @@
 -- What holds within a reduction.
-use Rattle.std.specs.Prelude.{◌<◌, List, [], Option}
+use Rattle.std.specs.Prelude.{◌≡◌, ℕ, ◌+◌, ◌*◌, ◌<◌, ◌≤◌, List, [], length, Option, Result, OnOk, IsTrue}
 use Rattle.cx_base.specs.Problem.{Problem}
 use Rattle.cx_base.specs.declared.steps.LogEvent.{LogEvent}
 use Rattle.cx_trail.specs.Sequence.{TrailState}
-use Rattle.clause_arena.specs.Clauses.{ArenaState}
+use Rattle.clause_arena.specs.Clauses.{ArenaState, IsLive, learned_at}
+use Rattle.conflict_learn.specs.declared.fault.CoreFault.{CoreFault}
+use Rattle.conflict_learn.specs.Faults.{fault_in}
 use Rattle.watch_lists.specs.Watching.{WatchState}
 use Rattle.watch_lists.specs.Detaching.{IsPartOf}
 use Rattle.step_text.specs.declared.sink.Sink as sink
@@ -13,6 +15,7 @@ use Rattle.search_steps.specs.Search.{Search, IsSearch}
 use Rattle.search_steps.specs.Holding.{AreTold}
 use Rattle.cdcl_search.specs.declared.state.SearchState.{SearchState}
 use Rattle.cdcl_search.specs.declared.logs.SearchLog.{SearchLog}
+use Rattle.cdcl_search.specs.Logs.{GoesOn}
 use Rattle.cdcl_search.specs.Ties.{Ties, IsWatched}
 
 -- the watches fitted before some clauses of the arena were removed
@@ -25,6 +28,19 @@ pub record WasWatched (w : WatchState) (a : ArenaState) (t : TrailState) : Type 
 abbrev pub SearchLoses : Problem → SearchState → State → Option (List LogEvent) → Type 0
 SearchLoses formula c e told = (s : Search) × IsSearch formula e.parities s × AreTold told s.events × Ties formula c e [] s × WasWatched c.watches c.arena c.trail × (s.moment.reductions < c.reductions)
 
--- so it is behind what the log was told
-abbrev pub Loses : {P L : Type 0} → engine.Ghosts P → sink.Ghosts L LogEvent → SearchLog L → SearchState → P → Type 0
-Loses p m log c e = SearchLoses log.formula.now c (p.state e) (m.items log.sink.now)
+-- so it is behind what the log was told; each literal of the trail has a unit clause
+pub record IsReducing {P L : Type 0} (p : engine.Ghosts P) (m : sink.Ghosts L LogEvent) (log : SearchLog L) (c : SearchState) (e : P) : Type 0 where
+  pub loses : SearchLoses log.formula.now c (p.state e) (m.items log.sink.now)
+  pub units : length c.units.items ≡ length c.trail.entries
+
+-- Up to an answer the reduction goes on, with as many counted conflicts; the log goes on.
+pub record ReducesOn {P L T : Type 0} (p : engine.Ghosts P) (m : sink.Ghosts L LogEvent) (old : SearchLog L) (c : SearchState) (new : SearchLog L) (now : SearchState) (e : P) (result : Result T CoreFault) : Type 0 where
+  pub reducing : OnOk result (IsReducing p m new now e)
+  pub conflicts : now.conflicts ≡ c.conflicts
+  pub log : GoesOn m old (fault_in result) new
+
+-- the clause was learned, and so many learned ones are left that it may go
+pub record MayGo (c : SearchState) (r : ℕ) : Type 0 where
+  pub live : IsLive c.arena r
+  pub learned : IsTrue (learned_at c.arena r)
+  pub enough : 751 + 250 * c.reductions ≤ c.learned

@@ -11,7 +11,10 @@ use Rattle.search_steps.specs.Ids.{IsRanged, HasFreeSums}
 use Rattle.search_steps.specs.Search.{Search, IsSearch}
 use Rattle.search_steps.specs.Tied.{Mirrors}
 use Rattle.search_steps.specs.Trail.{held}
+use Rattle.step_text.specs.declared.sink.Sink as sink
 use Rattle.cdcl_search.specs.declared.state.SearchState.{SearchState}
+use Rattle.cdcl_search.specs.declared.logs.SearchLog.{SearchLog}
+use Rattle.cdcl_search.specs.Logs.{told_in}
 use Rattle.cdcl_search.specs.Ties.{IsHeld, AreUnits, IsWatched, HasOnlyRowClauses, stretches, first_row_id}
 use Rattle.cdcl_core.specs.declared.filling.Single.{Single}
 use Rattle.cdcl_core.specs.Filling.{clause_number, IsUnitClause, IsTakenAt}
@@ -64,3 +67,7 @@ SearchStandsBut formula engines c waiting told = (s : Search) × IsSearch formul
 abbrev pub PutsUnits : Problem → List (List Literal) → SearchState → List Single → Option (List LogEvent) → Bool → Type 0
 PutsUnits formula engines c waiting told true = SearchStandsBut formula engines c waiting told
 PutsUnits formula engines c waiting told false = Refutes formula 1 told
+
+-- so it is over whatever parities the search stood
+abbrev pub Puts : {L : Type 0} → sink.Ghosts L LogEvent → SearchLog L → SearchState → List Single → SearchLog L → SearchState → List Single → Bool → Type 0
+Puts m log c waiting log_now now rest going = (engines : List (List Literal)) → SearchStandsBut log.formula.now engines c waiting (told_in m log) → PutsUnits log_now.formula.now engines now rest (told_in m log_now) going

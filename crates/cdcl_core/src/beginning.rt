@@ -7,7 +7,7 @@ ghost use Rattle.cdcl_core.specs.Beginning.{SearchBegins};
 ghost use Rattle.cdcl_core.specs.Filling.{IsFilled};
 ghost use Rattle.cdcl_core.specs.Given.{AreEngines, HasGiven};
 ghost use Rattle.cdcl_core.specs.Results.{IsFresh};
-ghost use Rattle.cdcl_core.specs.Waiting.{SearchStandsBut, PutsUnits};
+ghost use Rattle.cdcl_core.specs.Waiting.{SearchStandsBut, Puts};
 
 use crate::ending::refute;
 use crate::filling::{Filled, Single, fill};
@@ -40,8 +40,7 @@ fn put_unit<L: Sink<Item = LogEvent>>(
 ) -> Result<bool, CoreFault>
     requires place { place < length units.now }
     requires stands { (engines : List (List Literal)) × SearchStandsBut log.old.formula.now engines state.old (drop place units.now) (told_in L.Sink log.old) }
-    ensures puts { IfOk result (λ going. (engines : List (List Literal)) → SearchStandsBut log.old.formula.now engines state.old (drop place units.now) (told_in L.Sink log.old)
-        → PutsUnits log.new.formula.now engines state.new (drop (place + 1) units.now) (told_in L.Sink log.new) going) }
+    ensures puts { IfOk result (Puts L.Sink log.old state.old (drop place units.now) log.new state.new (drop (place + 1) units.now)) }
     ensures log { GoesOn L.Sink log.old (fault_in result) log.new }
 {
     let unit = units[place];
@@ -66,8 +65,7 @@ fn put_units<L: Sink<Item = LogEvent>>(
     units: &[Single],
 ) -> Result<bool, CoreFault>
     requires { (engines : List (List Literal)) × SearchStandsBut log.old.formula.now engines state.old units.now (told_in L.Sink log.old) }
-    ensures puts { IfOk result (λ going. (engines : List (List Literal)) → SearchStandsBut log.old.formula.now engines state.old units.now (told_in L.Sink log.old)
-        → PutsUnits log.new.formula.now engines state.new [] (told_in L.Sink log.new) going) }
+    ensures puts { IfOk result (Puts L.Sink log.old state.old units.now log.new state.new []) }
     ensures log { GoesOn L.Sink log.old (fault_in result) log.new }
 {
     for place in 0..units.len() {

@@ -4,7 +4,7 @@ ghost use Rattle.cx_base.specs.Problem.{Problem, clauses_of};
 ghost use Rattle.cx_base.specs.declared.literal.TheConstants.{MAX_VARIABLE};
 ghost use Rattle.watch_lists.specs.Watching.{Fits};
 ghost use Rattle.watch_lists.specs.Attaching.{CanBeWatched};
-ghost use Rattle.cdcl_core.specs.Filling.{IsEmpty, IsFilledUpTo, IsFilled, IsNext, Attaches};
+ghost use Rattle.cdcl_core.specs.Filling.{IsEmpty, IsFilledUpTo, IsFilled, IsNext, TakesNext, Attaches};
 
 use crate::clauses::{different, has_both};
 use cdcl_search::SearchState;
@@ -70,8 +70,7 @@ fn attach(state: &mut SearchState, lits: &[Lit], number: u64) -> Result<(), Allo
 fn take_clause(filled: &mut Filled, lits: &[Lit]) -> Result<(), AllocError>
     requires few { filled.old.state.next ≤ 4294967295 }
     requires is_next { (formula : Problem) × IsNext formula filled.old lits.now }
-    ensures { OnOk result ((formula : Problem) → IsNext formula filled.old lits.now
-        → IsFilledUpTo formula filled.old.state.next filled.new.state filled.new.units.items filled.new.empty) }
+    ensures { OnOk result (TakesNext filled.old lits.now filled.new) }
 {
     let number = filled.state.next;
     filled.state.next = number + 1;

@@ -3,15 +3,15 @@ ghost use Rattle.std.specs.Prelude.{◌≡◌, ◌≢◌, ◌<◌, ◌≤◌, �
 ghost use Rattle.std.specs.List.{All};
 ghost use Rattle.cx_base.specs.Literals.{Literal};
 ghost use Rattle.cx_base.specs.declared.steps.LogEvent.{LogEvent};
-ghost use Rattle.cx_trail.specs.Sequence.{TakesBack, IsOpenIn};
 ghost use Rattle.conflict_learn.specs.Touching.{AreTouched};
 ghost use Rattle.watch_lists.specs.Watching.{Fits};
 ghost use Rattle.watch_lists.specs.Attaching.{CanBeWatched, literal_at};
 ghost use Rattle.parity_engine.specs.declared.state.Mood.TheVariants.{Broken};
-ghost use Rattle.search_steps.specs.Search.{Search, IsSearch, jumped};
-ghost use Rattle.cdcl_search.specs.Ties.{SearchStands, Ties, IsWatched};
-ghost use Rattle.cdcl_core.specs.Learning.{Learns};
-ghost use Rattle.cdcl_core.specs.Entering.{EntersUnit, EntersClause, Enters, HasCounts};
+ghost use Rattle.search_steps.specs.Search.{Search, IsSearch};
+ghost use Rattle.cdcl_search.specs.Ties.{Ties, IsWatched};
+ghost use Rattle.cdcl_core.specs.Learning.{Learns, StandsBehind};
+ghost use Rattle.cdcl_core.specs.Entering.{CanBePut, MayEnter, EntersUnit, EntersClause, Enters};
+ghost use Rattle.cdcl_core.specs.GoingBack.{IsBackAt};
 
 use cdcl_search::SearchState;
 use conflict_learn::Learned;
@@ -46,14 +46,7 @@ pub(crate) fn go_back<P: ParityEngine>(
 )
     requires stands { (rows : List (List Literal)) × (s : Search) × IsSearch formula.now (P.state engine.old).parities s × Ties formula.now state.old (P.state engine.old) rows s × IsWatched state.old.watches state.old.arena state.old.trail }
     requires lower { level < state.old.trail.level }
-    ensures ties { (rows : List (List Literal)) (s : Search) → IsSearch formula.now (P.state engine.old).parities s
-        → Ties formula.now state.old (P.state engine.old) rows s → Ties formula.now state.new (P.state engine.new) rows (jumped s level) }
-    ensures watched { IsWatched state.new.watches state.new.arena state.new.trail }
-    ensures back { TakesBack level state.old.trail state.new.trail }
-    ensures units { level ≡ 0 → length state.new.units.items ≡ length state.new.trail.entries }
-    ensures counts { HasCounts state.new state.old }
-    ensures parities { (P.state engine.new).parities ≡ (P.state engine.old).parities }
-    ensures unbroken { (P.state engine.new).mood ≢ Broken }
+    ensures { IsBackAt formula.now level state.old (P.state engine.old) state.new (P.state engine.new) }
 {
     save_phases(&mut state.phases, &state.trail, level);
     state.order.back_to(&state.trail, level);
@@ -79,8 +72,7 @@ fn bump(order: &mut Order, vars: &[Var])
 /// Puts a literal on the trail at level 0, where each literal has a unit clause. That of this one has the id.
 fn enter_unit(state: &mut SearchState, first: Lit, id: u64) -> Result<(), AllocError>
     requires level { state.old.trail.level ≡ 0 }
-    requires high { first.variable ≤ state.old.trail.variables }
-    requires open { IsOpenIn state.old.trail.entries first.variable }
+    requires put { CanBePut state.old.trail first }
     ensures { OnOk result (EntersUnit state.old state.new first id) }
 {
     state.units.push(id)?;
@@ -92,8 +84,7 @@ fn enter_unit(state: &mut SearchState, first: Lit, id: u64) -> Result<(), AllocE
 fn enter_clause(state: &mut SearchState, lits: &[Lit], id: u64, lbd: u32) -> Result<(), AllocError>
     requires fits { Fits state.old.watches state.old.arena state.old.trail }
     requires watched { CanBeWatched state.old.watches.variables state.old.trail lits.now }
-    requires high { (literal_at lits.now 0).variable ≤ state.old.trail.variables }
-    requires open { IsOpenIn state.old.trail.entries (literal_at lits.now 0).variable }
+    requires put { CanBePut state.old.trail (literal_at lits.now 0) }
     ensures { OnOk result (EntersClause state.old state.new lits.now (literal_at lits.now 0) id lbd) }
 {
     let reference = state.arena.add(lits, id, lbd, true)?;
@@ -104,12 +95,7 @@ fn enter_clause(state: &mut SearchState, lits: &[Lit], id: u64, lbd: u32) -> Res
 
 /// Puts a learned clause among the others, or its id among those of units, and its first literal on the trail.
 fn enter(state: &mut SearchState, lits: &[Lit], id: u64, lbd: u32) -> Result<(), AllocError>
-    requires some { 1 ≤ length lits.now }
-    requires unit { length lits.now ≡ 1 → state.old.trail.level ≡ 0 }
-    requires fits { Fits state.old.watches state.old.arena state.old.trail }
-    requires watched { 2 ≤ length lits.now → CanBeWatched state.old.watches.variables state.old.trail lits.now }
-    requires high { (literal_at lits.now 0).variable ≤ state.old.trail.variables }
-    requires open { IsOpenIn state.old.trail.entries (literal_at lits.now 0).variable }
+    requires { MayEnter state.old lits.now }
     ensures { OnOk result (Enters state.old state.new lits.now id lbd) }
 {
     if lits.len() == 1 {
@@ -128,8 +114,7 @@ pub(crate) fn jump<P: ParityEngine>(
 ) -> Result<(), AllocError>
     requires learned { (told : Option (List LogEvent)) × Learns formula.now state.old (P.state engine.old) learned.now.lits learned.now.back_level told }
     requires touched { AreTouched state.old.trail learned.now.resolved learned.now.lits learned.now.touched.items }
-    ensures stands { OnOk result ((told : Option (List LogEvent)) → Learns formula.now state.old (P.state engine.old) learned.now.lits learned.now.back_level told
-        → SearchStands formula.now state.new (P.state engine.new) [] told) }
+    ensures stands { OnOk result (StandsBehind formula.now state.old (P.state engine.old) learned.now state.new (P.state engine.new)) }
     ensures counted { OnOk result (state.new.conflicts ≡ state.old.conflicts + 1) }
     ensures level { OnOk result (state.new.trail.level ≡ learned.now.back_level) }
     ensures unbroken { (P.state engine.new).mood ≢ Broken }

@@ -3,7 +3,6 @@ ghost use Rattle.std.specs.Prelude.{◌≡◌, ◌<◌, ◌≤◌, ◌^◌, ◌�
 ghost use Rattle.cx_base.specs.Literals.{Literal};
 ghost use Rattle.cx_semantics.specs.Chain.{has_literal};
 ghost use Rattle.cx_trail.specs.Sequence.{IsTrueIn};
-ghost use Rattle.std.specs.List.{AllByRecursion};
 ghost use Rattle.cx_base.specs.Integers.{integers_of, literals};
 ghost use Rattle.cx_base.specs.declared.steps.LogEvent.TheVariants as event;
 ghost use Rattle.cx_base.specs.declared.steps.LogStep.TheVariants as step;
@@ -13,12 +12,12 @@ ghost use Rattle.conflict_learn.specs.Marks.{AreClear};
 ghost use Rattle.conflict_learn.specs.Touching.{AreTouched};
 ghost use Rattle.parity_engine.specs.State.{State};
 ghost use Rattle.cdcl_search.specs.Deleting.{deletions};
-ghost use Rattle.cdcl_search.specs.Tells.{IsId, as_events, IsTellable};
-ghost use Rattle.cdcl_search.specs.Logs.{GoesOn, Stands, told_in};
+ghost use Rattle.cdcl_search.specs.Tells.{IsId, AreStepsOf};
+ghost use Rattle.cdcl_search.specs.Logs.{GoesOn, told_in};
 ghost use Rattle.cdcl_search.specs.Ties.{row_ids, HaveReasons};
 ghost use Rattle.cdcl_search.specs.Sources.{IsSourced, HasIds};
-ghost use Rattle.cdcl_core.specs.Concluding.{IsConflictClause, IsTold};
-ghost use Rattle.cdcl_core.specs.Learning.{Learns};
+ghost use Rattle.cdcl_core.specs.Concluding.{IsAtConflict, IsTold};
+ghost use Rattle.cdcl_core.specs.Learning.{Learns, IsLesson};
 
 use crate::conflicts::Conflict;
 use cdcl_search::SearchState;
@@ -46,8 +45,7 @@ fn steps_of_learned(
 ) -> Result<Vec<LogStep>, AllocError>
     requires id { IsId id }
     requires few { rows ≤ 16777216 }
-    ensures steps { IfOk result (λ s. as_events s.items ≡ event.Step (step.ClauseWithHints id (integers_of lits.now) hints) ∷ deletions (row_ids rows)) }
-    ensures texts { IfOk result (λ s. AllByRecursion IsTellable s.items) }
+    ensures steps { IfOk result (λ s. AreStepsOf (event.Step (step.ClauseWithHints id (integers_of lits.now) hints) ∷ deletions (row_ids rows)) s.items) }
     ensures literals { IfOk result (λ s. literals (integers_of lits.now) ≡ lits.now) }
 {
     let clause = chained(id, integers(alloc, lits)?, hints);
@@ -67,9 +65,7 @@ fn tell_learned<P: ParityEngine, L: Sink<Item = LogEvent>>(
     learned: &Learned,
     hints: IntList,
 ) -> Result<(), CoreFault>
-    requires stands { Stands P.ParityEngine L.Sink log.old state.now engine.now rows.now }
-    requires conflict { IsConflictClause state.now rows.now conflict.now }
-    requires above { 0 < state.now.trail.level }
+    requires at { IsAtConflict P.ParityEngine L.Sink log.old state.now engine.now rows.now conflict.now }
     requires few { state.now.conflicts < 10 ^ 18 }
     requires teaches { Teaches state.now.trail conflict.now (IsSourced state.now rows.now) learned.now.resolved learned.now.lits learned.now.back_level learned.now.lbd }
     ensures learned { OnOk result (Learns log.new.formula.now state.now (P.state engine.now) learned.now.lits learned.now.back_level (told_in L.Sink log.new)) }
@@ -125,16 +121,11 @@ fn lesson_of<'x, P: ParityEngine, L: Sink<Item = LogEvent>>(
     rows: &'x mut Vec<LitList>,
     marks: &mut Marks,
 ) -> Result<Learned, CoreFault>
-    requires stands { Stands P.ParityEngine L.Sink log.old state.now engine.now rows.old.items }
-    requires conflict { IsConflictClause state.now rows.old.items conflict.now }
-    requires above { 0 < state.now.trail.level }
+    requires at { IsAtConflict P.ParityEngine L.Sink log.old state.now engine.now rows.old.items conflict.now }
     requires few_rows { length rows.old.items ≤ 1 }
     requires clear { AreClear marks.old }
-    ensures stands { OnOk result (Stands P.ParityEngine L.Sink log.new state.now engine.now rows.new.items) }
-    ensures conflict { IsConflictClause state.now rows.new.items conflict.now }
-    ensures teaches { IfOk result (λ r. Teaches state.now.trail conflict.now (IsSourced state.now rows.new.items) r.resolved r.lits r.back_level r.lbd) }
-    ensures stand { IfOk result (λ r. (l : Literal) → IsTrue (has_literal r.resolved l) → IsTrueIn state.now.trail.entries l) }
-    ensures touched { IfOk result (λ r. AreTouched state.now.trail r.resolved r.lits r.touched.items) }
+    ensures at { OnOk result (IsAtConflict P.ParityEngine L.Sink log.new state.now engine.now rows.new.items conflict.now) }
+    ensures lesson { IfOk result (IsLesson state.now rows.new.items conflict.now) }
     ensures clear { OnOk result (AreClear marks.new) }
     ensures log { GoesOn L.Sink log.old (fault_in result) log.new }
 {
@@ -156,9 +147,7 @@ pub(crate) fn learn<P: ParityEngine, L: Sink<Item = LogEvent>>(
     marks: &mut Marks,
     conflict: Conflict,
 ) -> Result<Learned, CoreFault>
-    requires stands { Stands P.ParityEngine L.Sink log.old state.now engine.now conflict.rows.items }
-    requires conflict { IsConflictClause state.now conflict.rows.items conflict.lits }
-    requires above { 0 < state.now.trail.level }
+    requires at { IsAtConflict P.ParityEngine L.Sink log.old state.now engine.now conflict.rows.items conflict.lits }
     requires few { state.now.conflicts < 10 ^ 18 }
     requires told { IsTold conflict }
     requires clear { AreClear marks.old }

@@ -1,12 +1,8 @@
 //! The formula's constraints, with which the log begins.
-ghost use Rattle.std.specs.Prelude.{◌+◌, ◌<◌, ◌≤◌, [], ◌∷◌, length, take, OnOk};
-ghost use Rattle.cx_base.specs.Integers.{integers_of};
-ghost use Rattle.cx_base.specs.declared.steps.LogEvent.TheVariants.{Step};
-ghost use Rattle.cx_base.specs.declared.steps.LogStep.TheVariants as step;
+ghost use Rattle.std.specs.Prelude.{◌+◌, ◌<◌, ◌≤◌, length, OnOk};
 ghost use Rattle.conflict_learn.specs.Faults.{fault_in};
-ghost use Rattle.cdcl_search.specs.Logs.{GoesOn, IsRightBehind, AreToldNow, told_in};
-ghost use Rattle.cdcl_search.specs.Tells.{IsId};
-ghost use Rattle.cdcl_core.specs.Originals.{HasBegun, AreCounted};
+ghost use Rattle.cdcl_search.specs.Logs.{GoesOn, told_in};
+ghost use Rattle.cdcl_core.specs.Originals.{HasBegun, HasTaken};
 ghost use Rattle.cdcl_core.specs.Results.{IsFresh};
 
 use cdcl_search::integers::integers;
@@ -14,7 +10,7 @@ use cdcl_search::logs::SearchLog;
 use cdcl_search::steps::{original, original_parity};
 use cdcl_search::telling::tell_step;
 use conflict_learn::CoreFault;
-use cx_base::{ConstraintRef, Lit, LogEvent};
+use cx_base::{ConstraintRef, LogEvent};
 use step_text::Sink;
 
 /// How many clauses and how many parities were told.
@@ -22,36 +18,6 @@ use step_text::Sink;
 struct Counts {
     clauses: u64,
     parities: u64,
-}
-
-/// Tells a clause of the formula.
-fn tell_clause<L: Sink<Item = LogEvent>>(
-    log: &mut SearchLog<L>,
-    id: u64,
-    lits: &[Lit],
-) -> Result<(), CoreFault>
-    requires id { IsId id }
-    requires right { IsRightBehind L.Sink log.old (Step (step.Original id (integers_of lits.now)) ∷ []) }
-    ensures told { OnOk result (AreToldNow L.Sink log.old (Step (step.Original id (integers_of lits.now)) ∷ []) log.new) }
-    ensures log { GoesOn L.Sink log.old (fault_in result) log.new }
-{
-    let step = original(id, integers(log.alloc, lits)?);
-    tell_step(log, step)
-}
-
-/// Tells a parity of the formula.
-fn tell_parity<L: Sink<Item = LogEvent>>(
-    log: &mut SearchLog<L>,
-    id: u64,
-    lits: &[Lit],
-) -> Result<(), CoreFault>
-    requires id { IsId id }
-    requires right { IsRightBehind L.Sink log.old (Step (step.OriginalParity id (integers_of lits.now)) ∷ []) }
-    ensures told { OnOk result (AreToldNow L.Sink log.old (Step (step.OriginalParity id (integers_of lits.now)) ∷ []) log.new) }
-    ensures log { GoesOn L.Sink log.old (fault_in result) log.new }
-{
-    let step = original_parity(id, integers(log.alloc, lits)?);
-    tell_step(log, step)
 }
 
 /// Tells the constraint at a place of the formula.
@@ -62,20 +28,22 @@ fn tell_original<L: Sink<Item = LogEvent>>(
 ) -> Result<(), CoreFault>
     requires few { length log.old.formula.now.constraints ≤ 4294967295 }
     requires place { place < length log.old.formula.now.constraints }
-    requires counted { AreCounted (take place log.old.formula.now.constraints) counts.old.clauses counts.old.parities }
-    requires begun { HasBegun log.old.formula.now (take place log.old.formula.now.constraints) (told_in L.Sink log.old) }
-    ensures counted { OnOk result (AreCounted (take (place + 1) log.new.formula.now.constraints) counts.new.clauses counts.new.parities) }
-    ensures begun { OnOk result (HasBegun log.new.formula.now (take (place + 1) log.new.formula.now.constraints) (told_in L.Sink log.new)) }
+    requires taken { HasTaken L.Sink log.old place counts.old }
+    ensures taken { OnOk result (HasTaken L.Sink log.new (place + 1) counts.new) }
     ensures log { GoesOn L.Sink log.old (fault_in result) log.new }
 {
     match log.formula.item(place) {
         ConstraintRef::Clause(lits) => {
             counts.clauses += 1;
-            tell_clause(log, counts.clauses, lits)
+            let zs = integers(log.alloc, lits)?;
+            let step = original(counts.clauses, zs);
+            tell_step(log, step)
         }
         ConstraintRef::Parity(lits) => {
             counts.parities += 1;
-            tell_parity(log, counts.parities, lits)
+            let zs = integers(log.alloc, lits)?;
+            let step = original_parity(counts.parities, zs);
+            tell_step(log, step)
         }
     }
 }

@@ -7,7 +7,7 @@ ghost use Rattle.cx_base.specs.declared.steps.LogStep.TheVariants as step;
 ghost use Rattle.conflict_learn.specs.Faults.{fault_in};
 ghost use Rattle.xor_recover.specs.Finds.{IsJudgedRight};
 ghost use Rattle.cdcl_search.specs.Logs.{GoesOn, told_in};
-ghost use Rattle.cdcl_search.specs.Tells.{IsId, IsTellable};
+ghost use Rattle.cdcl_search.specs.Tells.{IsId, IsStep};
 ghost use Rattle.cdcl_core.specs.Given.{AreEngines, HasGiven};
 ghost use Rattle.cdcl_core.specs.Originals.{HasBegun};
 
@@ -57,8 +57,7 @@ fn parities(alloc: Global, formula: &Formula) -> Result<Vec<LitList>, AllocError
 fn step_of(alloc: Global, id: u64, find: &Found) -> Result<LogStep, AllocError>
     requires id { IsId id }
     requires clauses { AllByRecursion IsId find.now.clauses }
-    ensures is { IfOk result (λ s. s ≡ step.ParityOfClauses id (integers_of find.now.parity) find.now.clauses) }
-    ensures text { IfOk result IsTellable }
+    ensures { IfOk result (IsStep (step.ParityOfClauses id (integers_of find.now.parity) find.now.clauses)) }
 {
     let lits = integers(alloc, find.parity.as_slice())?;
     let clauses = IdList::from_vec(find.clauses.as_slice().to_vec(alloc)?);

@@ -1,10 +1,8 @@
 //! When the search restarts, and which learned clauses it deletes then.
-ghost use Rattle.std.specs.Prelude.{◌≡◌, ◌≢◌, ◌<◌, List, [], Option, length, IsTrue, OnOk};
-ghost use Rattle.cx_base.specs.declared.steps.LogEvent.{LogEvent};
-ghost use Rattle.conflict_learn.specs.Faults.{fault_in};
+ghost use Rattle.std.specs.Prelude.{◌≡◌, ◌≢◌, [], length, IsTrue};
 ghost use Rattle.parity_engine.specs.declared.state.Mood.TheVariants.{Broken};
-ghost use Rattle.cdcl_search.specs.Logs.{GoesOn, Stands};
-ghost use Rattle.cdcl_search.specs.Ties.{SearchStands};
+ghost use Rattle.cdcl_search.specs.Calls.{IsReady, SearchesOn};
+ghost use Rattle.cdcl_search.specs.Logs.{Stands};
 
 use crate::compacting::compact;
 use crate::reducing::reduce;
@@ -13,7 +11,7 @@ use cdcl_search::SearchState;
 use cdcl_search::logs::SearchLog;
 use clause_arena::Arena;
 use conflict_learn::CoreFault;
-use cx_base::{ClauseRef, Formula, LogEvent, RefList};
+use cx_base::{ClauseRef, LogEvent, RefList};
 use parity_engine::ParityEngine;
 use search_policy::{Card, choose_removed, restart_due};
 use std::alloc::{AllocError, Global};
@@ -99,29 +97,14 @@ fn has_units(state: &SearchState) -> bool
     state.units.len() == state.trail.len()
 }
 
-/// Goes back to level 0, where the search is not there.
-fn go_to_start<P: ParityEngine>(formula: &Formula, state: &mut SearchState, engine: &mut P)
-    requires stands { (told : Option (List LogEvent)) × SearchStands formula.now state.old (P.state engine.old) [] told }
-    requires unbroken { (P.state engine.old).mood ≢ Broken }
-    ensures stands { (told : Option (List LogEvent)) → SearchStands formula.now state.old (P.state engine.old) [] told → SearchStands formula.now state.new (P.state engine.new) [] told }
-    ensures unbroken { (P.state engine.new).mood ≢ Broken }
-    ensures conflicts { state.new.conflicts ≡ state.old.conflicts }
-{
-    if state.trail.level() > 0 {
-        restart(formula, state, engine);
-    }
-}
-
 /// Deletes learned clauses where there are many, and closes the gaps that they leave.
 fn reduce_where_many<P: ParityEngine, L: Sink<Item = LogEvent>>(
     log: &mut SearchLog<L>,
     state: &mut SearchState,
     engine: &P,
 ) -> Result<(), CoreFault>
-    requires stands { Stands P.ParityEngine L.Sink log.old state.old engine.now [] }
-    ensures stands { OnOk result (Stands P.ParityEngine L.Sink log.new state.new engine.now []) }
-    ensures conflicts { OnOk result (state.new.conflicts ≡ state.old.conflicts) }
-    ensures log { GoesOn L.Sink log.old (fault_in result) log.new }
+    requires { Stands P.ParityEngine L.Sink log.old state.old engine.now [] }
+    ensures { SearchesOn P.ParityEngine L.Sink log.old state.old log.new state.new engine.now result }
 {
     if !has_units(state) || !are_many(state) {
         return Ok(());
@@ -139,18 +122,15 @@ pub(crate) fn follow_schedule<P: ParityEngine, L: Sink<Item = LogEvent>>(
     engine: &mut P,
     schedule: &mut Schedule,
 ) -> Result<(), CoreFault>
-    requires stands { Stands P.ParityEngine L.Sink log.old state.old engine.old [] }
-    requires unbroken { (P.state engine.old).mood ≢ Broken }
-    ensures stands { OnOk result (Stands P.ParityEngine L.Sink log.new state.new engine.new []) }
+    requires { IsReady P.ParityEngine L.Sink log.old state.old engine.old }
+    ensures searches_on { SearchesOn P.ParityEngine L.Sink log.old state.old log.new state.new engine.new result }
     ensures unbroken { (P.state engine.new).mood ≢ Broken }
-    ensures conflicts { OnOk result (state.new.conflicts ≡ state.old.conflicts) }
-    ensures log { GoesOn L.Sink log.old (fault_in result) log.new }
 {
     schedule.count();
     if !schedule.is_due() {
         return Ok(());
     }
     schedule.begin_again();
-    go_to_start(log.formula, state, engine);
+    restart(log.formula, state, engine);
     reduce_where_many(log, state, engine)
 }

@@ -1,19 +1,19 @@
 //! The search as a whole.
-ghost use Rattle.std.specs.Prelude.{◌≡◌, ◌≢◌, ℕ, ◌+◌, ◌<◌, ◌≤◌, ◌^◌, [], length, OnOk, IfOk, IfErr, MatchOption};
+ghost use Rattle.std.specs.Prelude.{◌≡◌, ◌≢◌, ℕ, ◌<◌, ◌≤◌, ◌^◌, [], length, OnOk, IfOk, IfErr};
 ghost use Rattle.cx_semantics.specs.Settled.{Settled};
 ghost use Rattle.cx_base.specs.Counts.{Rose};
 ghost use Rattle.conflict_learn.specs.declared.fault.CoreFault.TheVariants.{Write};
 ghost use Rattle.conflict_learn.specs.Faults.{fault_in};
 ghost use Rattle.conflict_learn.specs.Marks.{AreClear};
+ghost use Rattle.parity_engine.specs.declared.state.Mood.TheVariants.{Broken};
 ghost use Rattle.search_steps.specs.Recovering.{SettledWithRecovered};
-ghost use Rattle.cdcl_search.specs.Finds.{PropagationFinds};
 ghost use Rattle.cdcl_search.specs.Searching.{SearchReaches};
-ghost use Rattle.cdcl_search.specs.Logs.{GoesOn, Stands, told_in};
+ghost use Rattle.cdcl_search.specs.Logs.{GoesOn, told_in};
 ghost use Rattle.cdcl_search.specs.Tells.{GivesUp, HaveLowIds};
-ghost use Rattle.cdcl_search.specs.declared.propagation.Found.TheVariants as finding;
+ghost use Rattle.cdcl_core.specs.Beginning.{IsAtStart};
+ghost use Rattle.cdcl_core.specs.Concluding.{IsAtConflict, IsTold};
 ghost use Rattle.cdcl_core.specs.Results.{IsRightOutcome, IsFresh, IsSettledBy, HasNoMark};
-ghost use Rattle.cdcl_core.specs.Concluding.{SearchGoesOn, IsConflictClause, IsTold};
-ghost use Rattle.cdcl_core.specs.declared.solving.Outcome.{Outcome};
+ghost use Rattle.cdcl_core.specs.Rounds.{IsSearching, LeavesRound, IsSettledIn};
 ghost use Rattle.cdcl_core.specs.declared.solving.Outcome.TheVariants as outcome;
 
 use crate::beginning::{Begun, begin};
@@ -50,16 +50,11 @@ fn learn_and_jump<P: ParityEngine, L: Sink<Item = LogEvent>>(
     budget: u64,
     conflict: Conflict,
 ) -> Result<Option<Outcome>, CoreFault>
-    requires stands { Stands P.ParityEngine L.Sink log.old state.old engine.old conflict.rows.items }
-    requires conflict { IsConflictClause state.old conflict.rows.items conflict.lits }
+    requires at { IsAtConflict P.ParityEngine L.Sink log.old state.old engine.old conflict.rows.items conflict.lits }
     requires told { IsTold conflict }
-    requires above { 0 < state.old.trail.level }
     requires few { (state.old.conflicts < budget) × (budget ≤ 10 ^ 18) }
     requires clear { AreClear marks.old }
-    ensures goes_on { IfOk result (λ o. MatchOption o (SearchGoesOn log.new.formula.now budget (told_in L.Sink log.new) state.new (P.state engine.new)) (λ a. IsRightOutcome log.new.formula.now budget (told_in L.Sink log.new) a)) }
-    ensures one_more { IfOk result (λ o. MatchOption o (state.new.conflicts ≡ state.old.conflicts + 1) (λ _. Unit {0})) }
-    ensures clear { OnOk result (AreClear marks.new) }
-    ensures log { GoesOn L.Sink log.old (fault_in result) log.new }
+    ensures { LeavesRound P.ParityEngine L.Sink budget log.old state.old log.new state.new engine.new marks.new result }
 {
     let learned = learn(log, state, engine, marks, conflict)?;
     if state.conflicts + 1 == budget {
@@ -69,38 +64,7 @@ fn learn_and_jump<P: ParityEngine, L: Sink<Item = LogEvent>>(
     Ok(None)
 }
 
-/// What a conflict above level 0 brings. None: the search goes on.
-fn meet_conflict<P: ParityEngine, L: Sink<Item = LogEvent>>(
-    log: &mut SearchLog<L>,
-    state: &mut SearchState,
-    engine: &mut P,
-    marks: &mut Marks,
-    budget: u64,
-    found: Found,
-) -> Result<Option<Outcome>, CoreFault>
-    requires stands { Stands P.ParityEngine L.Sink log.old state.old engine.old [] }
-    requires found { PropagationFinds state.old (P.state engine.old) found }
-    requires conflict { found ≢ finding.Quiet }
-    requires above { 0 < state.old.trail.level }
-    requires few { (state.old.conflicts < budget) × (budget ≤ 10 ^ 18) }
-    requires clear { AreClear marks.old }
-    ensures goes_on { IfOk result (λ o. MatchOption o (SearchGoesOn log.new.formula.now budget (told_in L.Sink log.new) state.new (P.state engine.new)) (λ a. IsRightOutcome log.new.formula.now budget (told_in L.Sink log.new) a)) }
-    ensures one_more { IfOk result (λ o. MatchOption o (state.new.conflicts ≡ state.old.conflicts + 1) (λ _. Unit {0})) }
-    ensures clear { OnOk result (AreClear marks.new) }
-    ensures log { GoesOn L.Sink log.old (fault_in result) log.new }
-{
-    match conflict_clause(log, state, engine, found)? {
-        Conclusion::Clause(conflict) => {
-            learn_and_jump(log, state, engine, marks, budget, conflict)
-        }
-        Conclusion::Ending(steps) => {
-            tell_ending(log, state, steps)?;
-            Ok(Some(Outcome::Unsat))
-        }
-    }
-}
-
-/// What the search comes to where it stops: the values of a full trail, the end of the log at level 0, or what a conflict brings. None: the search goes on.
+/// What the search comes to where it stops: the values of a full trail, what a conflict teaches, or at level 0 the end of the log. None: the search goes on.
 fn conclude<P: ParityEngine, L: Sink<Item = LogEvent>>(
     log: &mut SearchLog<L>,
     state: &mut SearchState,
@@ -109,25 +73,28 @@ fn conclude<P: ParityEngine, L: Sink<Item = LogEvent>>(
     budget: u64,
     found: Found,
 ) -> Result<Option<Outcome>, CoreFault>
-    requires stands { Stands P.ParityEngine L.Sink log.old state.old engine.old [] }
+    requires searches { IsSearching P.ParityEngine L.Sink log.old state.old engine.old budget marks.old }
     requires reaches { SearchReaches state.old (P.state engine.old) found }
-    requires few { (state.old.conflicts < budget) × (budget ≤ 10 ^ 18) }
-    requires clear { AreClear marks.old }
-    ensures goes_on { IfOk result (λ o. MatchOption o (SearchGoesOn log.new.formula.now budget (told_in L.Sink log.new) state.new (P.state engine.new)) (λ a. IsRightOutcome log.new.formula.now budget (told_in L.Sink log.new) a)) }
-    ensures one_more { IfOk result (λ o. MatchOption o (state.new.conflicts ≡ state.old.conflicts + 1) (λ _. Unit {0})) }
-    ensures at_start { state.old.trail.level ≡ 0 → IfOk result (λ o. MatchOption o ⊥ (λ a. IsSettledBy log.new.formula.now (state.old.conflicts + 1) (told_in L.Sink log.new) a)) }
-    ensures clear { OnOk result (AreClear marks.new) }
-    ensures log { GoesOn L.Sink log.old (fault_in result) log.new }
+    ensures leaves { LeavesRound P.ParityEngine L.Sink budget log.old state.old log.new state.new engine.new marks.new result }
+    ensures at_start { state.old.trail.level ≡ 0 → IsSettledIn log.new.formula.now state.old.conflicts (told_in L.Sink log.new) result }
 {
     if let Found::Quiet = found {
         let values = values_of(log.alloc, log.formula, state, engine)?;
         return Ok(Some(Outcome::Sat(values)));
     }
-    if state.trail.level() > 0 {
-        return meet_conflict(log, state, engine, marks, budget, found);
+    match conflict_clause(log, state, engine, found)? {
+        Conclusion::Clause(conflict) => {
+            if state.trail.level() > 0 {
+                return learn_and_jump(log, state, engine, marks, budget, conflict);
+            }
+            end(log, state, engine, &conflict)?;
+            Ok(Some(Outcome::Unsat))
+        }
+        Conclusion::Ending(steps) => {
+            tell_ending(log, state, steps)?;
+            Ok(Some(Outcome::Unsat))
+        }
     }
-    end(log, state, engine, found)?;
-    Ok(Some(Outcome::Unsat))
 }
 
 /// Searches up to the next conflict or a full trail, and acts on it. None: the search goes on.
@@ -138,30 +105,24 @@ fn round<P: ParityEngine, L: Sink<Item = LogEvent>>(
     marks: &mut Marks,
     budget: u64,
 ) -> Result<Option<Outcome>, CoreFault>
-    requires goes_on { SearchGoesOn log.old.formula.now budget (told_in L.Sink log.old) state.old (P.state engine.old) }
-    requires few { budget ≤ 10 ^ 18 }
-    requires clear { AreClear marks.old }
-    ensures goes_on { IfOk result (λ o. MatchOption o (SearchGoesOn log.new.formula.now budget (told_in L.Sink log.new) state.new (P.state engine.new)) (λ a. IsRightOutcome log.new.formula.now budget (told_in L.Sink log.new) a)) }
-    ensures one_more { IfOk result (λ o. MatchOption o (state.new.conflicts ≡ state.old.conflicts + 1) (λ _. Unit {0})) }
-    ensures settled { SettledWithRecovered log.new.formula.now → state.old.trail.level ≡ 0 → IfOk result (λ o. MatchOption o ⊥ (λ a. IsSettledBy log.new.formula.now (state.old.conflicts + 1) (told_in L.Sink log.new) a)) }
-    ensures clear { OnOk result (AreClear marks.new) }
-    ensures log { GoesOn L.Sink log.old (fault_in result) log.new }
+    requires searches { IsSearching P.ParityEngine L.Sink log.old state.old engine.old budget marks.old }
+    requires unbroken { (P.state engine.old).mood ≢ Broken }
+    ensures leaves { LeavesRound P.ParityEngine L.Sink budget log.old state.old log.new state.new engine.new marks.new result }
+    ensures settled { SettledWithRecovered log.new.formula.now → state.old.trail.level ≡ 0 → IsSettledIn log.new.formula.now state.old.conflicts (told_in L.Sink log.new) result }
 {
     let found = search_on(log, state, engine)?;
     conclude(log, state, engine, marks, budget, found)
 }
 
-/// Searches up to the budget.
+/// Searches up to the budget, from the beginning on.
 fn search<P: ParityEngine, L: Sink<Item = LogEvent>>(
     log: &mut SearchLog<L>,
     state: &mut SearchState,
     engine: &mut P,
     budget: u64,
 ) -> Result<Outcome, CoreFault>
-    requires goes_on { SearchGoesOn log.old.formula.now budget (told_in L.Sink log.old) state.old (P.state engine.old) }
-    requires few { budget ≤ 10 ^ 18 }
-    requires level { state.old.trail.level ≡ 0 }
-    requires none { state.old.conflicts ≡ 0 }
+    requires begins { IsAtStart log.old.formula.now (told_in L.Sink log.old) state.old (P.state engine.old) }
+    requires budget { (1 ≤ budget) × (budget ≤ 10 ^ 18) }
     ensures answers { IfOk result (λ a. IsRightOutcome log.new.formula.now budget (told_in L.Sink log.new) a) }
     ensures settled { SettledWithRecovered log.new.formula.now → IfOk result (λ a. IsSettledBy log.new.formula.now 1 (told_in L.Sink log.new) a) }
     ensures log { GoesOn L.Sink log.old (fault_in result) log.new }

@@ -1,6 +1,6 @@
 -- A log that is right so far: each front of it is.
 use Rattle.std.proofs.Common.{◌≡◌, refl, sym, ap, ◌∙◌, subst, ℕ, zero, suc, ◌+◌, List, [], ◌∷◌, ◌++◌, length, take, drop, get_or, Option, Some, None, arith, inl, inr, ◌⊎◌, is_some, true≢false, length-append, append_assoc, append-nil}
-use Rattle.std.specs.Prelude.{Result, Ok, Err}
+use Rattle.std.specs.Prelude.{Result, Ok, Err, OnOk}
 use Rattle.std.proofs.lemmas.List.{take-append-drop}
 use Rattle.std.proofs.lemmas.List.Elements.{filter_map-append}
 use Rattle.std.specs.List.{AllByRecursion}
@@ -19,6 +19,7 @@ use Rattle.conflict_learn.specs.declared.fault.CoreFault.TheVariants.{Memory, Wr
 use Rattle.conflict_learn.specs.Faults.{fault_in}
 use Rattle.step_text.specs.declared.sink.Sink as sink
 use Rattle.cdcl_search.specs.declared.logs.SearchLog.{SearchLog}
+use Rattle.cdcl_search.specs.Calls.{TellsIn, Tells}
 use Rattle.cdcl_search.specs.Logs.{GoesOn, IsRightBehind, CountsAs}
 use Rattle.cdcl_search.specs.Tells.{TellsAll, FaultsAs, IsLeft, IsTellable, HaveLowIds, as_events, with_events}
 
@@ -95,7 +96,7 @@ tellable_are_low [] a = tt
 tellable_are_low (s ∷ steps) a = (a.0.1, tellable_are_low steps a.1)
 
 -- a log goes on by a telling of events behind which it is right
-pub goes_on_by : {L T : Type 0} (m : sink.Ghosts L LogEvent) (old new : SearchLog L) (events : List LogEvent) (r : Result T CoreFault) → TellsAll (m.torn new.sink.now) events (m.items old.sink.now) r (m.items new.sink.now)
+goes_on_by : {L T : Type 0} (m : sink.Ghosts L LogEvent) (old new : SearchLog L) (events : List LogEvent) (r : Result T CoreFault) → TellsAll (m.torn new.sink.now) events (m.items old.sink.now) r (m.items new.sink.now)
     → FaultsAs r (m.faults old.sink.now) (m.faults new.sink.now) → m.keeps old.sink.now new.sink.now → IsRightBehind m old events → AllByRecursion HasLowId events → new.formula.now ≡ old.formula.now → new.sink.ghost_name ≡ old.sink.ghost_name → GoesOn m old (fault_in r) new
 goes_on_by m old new events r tells counts keeps right low formula name = record {
   right = λ _. subst (λ f. IsLeft f (m.items new.sink.now)) (sym formula) (stays_right old.formula.now (m.torn new.sink.now) events (m.items old.sink.now) r (m.items new.sink.now) tells right);
@@ -105,4 +106,16 @@ goes_on_by m old new events r tells counts keeps right low formula name = record
   formula = formula;
   sink = name;
   frame = keeps;
+}
+
+-- what is told up to an answer
+told_where : {T : Type 0} (torn : LogEvent → Type 0) (events : List LogEvent) (old : Option (List LogEvent)) (r : Result T CoreFault) (new : Option (List LogEvent)) → TellsAll torn events old r new → OnOk r (new ≡ with_events events old)
+told_where torn events old (Ok x) new tells = tells
+told_where torn events old (Err fault) new tells = tt
+
+pub tells_by : {L T : Type 0} (m : sink.Ghosts L LogEvent) (old new : SearchLog L) (events : List LogEvent) (r : Result T CoreFault) → TellsIn m events old.sink.now r new.sink.now
+    → IsRightBehind m old events → AllByRecursion HasLowId events → new.formula.now ≡ old.formula.now → new.sink.ghost_name ≡ old.sink.ghost_name → Tells m old events r new
+tells_by m old new events r tells right low formula name = record {
+  told = told_where (m.torn new.sink.now) events (m.items old.sink.now) r (m.items new.sink.now) tells.told;
+  log = goes_on_by m old new events r tells.told tells.faults tells.frame right low formula name;
 }

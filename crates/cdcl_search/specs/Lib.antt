@@ -9,3 +9,5 @@ pub mod Explaining
 pub mod Units
 pub mod Searching
 pub mod Deleting
+pub mod Calls
+pub mod Rows

@@ -5,6 +5,7 @@ use Rattle.cx_trail.specs.Sequence.{entry_at}
 use Rattle.std.specs.List.{All}
 use Rattle.clause_arena.specs.Clauses.{IsLive, literals_at, id_at}
 use Rattle.cdcl_search.specs.declared.state.SearchState.{SearchState}
+use Rattle.cdcl_search.specs.declared.source.Hinted.{Hinted}
 use Rattle.cdcl_search.specs.Tells.{IsId}
 
 -- a clause of the arena, a unit clause of level 0, or a clause of a row that was told
@@ -18,6 +19,11 @@ pub record HasIds (c : SearchState) : Type 0 where
   pub next : IsId c.next
   pub units : All IsId c.units.items
   pub stored : (r : ℕ) → IsLive c.arena r → IsId (id_at c.arena r)
+
+-- these literals, under an id that a step may have
+pub record IsHinted (clause : List Literal) (h : Hinted) : Type 0 where
+  pub lits : h.lits ≡ clause
+  pub id : IsId h.id
 
 -- a count of 64 bits stays at its last value
 abbrev pub counted : ℕ → ℕ

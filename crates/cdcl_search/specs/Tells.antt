@@ -59,6 +59,16 @@ IsId n = (1 ≤ n) × (n ≤ highest_id)
 abbrev pub IsTellable : LogStep → Type 0
 IsTellable step = HasText (Step step) × HasLowId (Step step)
 
+-- the step is this one, and the search may tell it
+pub record IsStep (this step : LogStep) : Type 0 where
+  pub is : step ≡ this
+  pub text : IsTellable step
+
+-- the steps of these events, each of which the search may tell
+pub record AreStepsOf (events : List LogEvent) (steps : List LogStep) : Type 0 where
+  pub are : as_events steps ≡ events
+  pub texts : AllByRecursion IsTellable steps
+
 -- where the events are told, each has a low id
 abbrev pub HaveLowIds : Option (List LogEvent) → Type 0
 HaveLowIds None = Unit {0}

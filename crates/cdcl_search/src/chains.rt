@@ -5,8 +5,8 @@ ghost use Rattle.cx_base.specs.Numbers.{AreStepIntegers};
 ghost use Rattle.cx_base.specs.Integers.{integers_of};
 ghost use Rattle.cx_base.specs.declared.steps.LogEvent.TheVariants.{Step};
 ghost use Rattle.cx_base.specs.declared.steps.LogStep.TheVariants as step;
-ghost use Rattle.conflict_learn.specs.Faults.{fault_in};
-ghost use Rattle.cdcl_search.specs.Logs.{GoesOn, IsRightBehind, AreToldNow};
+ghost use Rattle.cdcl_search.specs.Calls.{Tells};
+ghost use Rattle.cdcl_search.specs.Logs.{IsRightBehind};
 ghost use Rattle.cdcl_search.specs.Tells.{IsId};
 ghost use Rattle.cdcl_search.specs.Units.{AreUnitsAnd};
 
@@ -74,8 +74,7 @@ pub fn tell_chained<L: Sink<Item = LogEvent>>(
 ) -> Result<(), CoreFault>
     requires id { IsId id }
     requires right { IsRightBehind L.Sink log.old (Step (step.ClauseWithHints id (integers_of lits.now) hints) ∷ []) }
-    ensures told { OnOk result (AreToldNow L.Sink log.old (Step (step.ClauseWithHints id (integers_of lits.now) hints) ∷ []) log.new) }
-    ensures log { GoesOn L.Sink log.old (fault_in result) log.new }
+    ensures { Tells L.Sink log.old (Step (step.ClauseWithHints id (integers_of lits.now) hints) ∷ []) result log.new }
 {
     let zs = integers(log.alloc, lits)?;
     let step = chained(id, zs, hints);

@@ -1,9 +1,9 @@
 //! Decisions.
-ghost use Rattle.std.specs.Prelude.{◌≡◌, ◌≢◌, ◌+◌, [], List, Option, length, IsTrue, IsFalse};
+ghost use Rattle.std.specs.Prelude.{◌≡◌, ◌+◌, [], List, Option, length, IsTrue, IsFalse};
 ghost use Rattle.cx_base.specs.declared.steps.LogEvent.{LogEvent};
 ghost use Rattle.search_steps.specs.Recovering.{SettledWithRecovered};
 ghost use Rattle.cx_trail.specs.Sequence.{IsFull};
-ghost use Rattle.parity_engine.specs.declared.state.Mood.TheVariants.{Broken};
+ghost use Rattle.cdcl_search.specs.Calls.{MayDecide, StaysUnbroken};
 ghost use Rattle.cdcl_search.specs.Ties.{SearchStands};
 ghost use Rattle.cdcl_search.specs.Finds.{PropagationFinds};
 ghost use Rattle.cdcl_search.specs.declared.propagation.Found.TheVariants as found;
@@ -18,14 +18,11 @@ pub(crate) fn decide<P: ParityEngine>(
     state: &mut SearchState,
     engine: &mut P,
 ) -> bool
-    requires stands { (told : Option (List LogEvent)) × SearchStands formula.now state.old (P.state engine.old) [] told }
-    requires quiet { PropagationFinds state.old (P.state engine.old) found.Quiet }
-    requires units { state.old.trail.level ≡ 0 → length state.old.units.items ≡ length state.old.trail.entries }
-    ensures stands { (told : Option (List LogEvent)) → SearchStands formula.now state.old (P.state engine.old) [] told → SearchStands formula.now state.new (P.state engine.new) [] told }
+    requires { MayDecide formula.now state.old (P.state engine.old) }
+    ensures stays { StaysUnbroken formula.now state.old (P.state engine.old) state.new (P.state engine.new) }
     ensures decided { IsTrue result → (state.new.trail.level ≡ state.old.trail.level + 1) × (length state.new.trail.entries ≡ length state.old.trail.entries + 1) }
     ensures full { IsFalse result → (state.new.trail ≡ state.old.trail) × IsFull state.new.trail × PropagationFinds state.new (P.state engine.new) found.Quiet }
     ensures settled { SettledWithRecovered formula.now → IsFalse result }
-    ensures unbroken { (P.state engine.new).mood ≢ Broken }
     ensures same { (state.new.units.items ≡ state.old.units.items) × (state.new.conflicts ≡ state.old.conflicts) × (state.new.next ≡ state.old.next) }
 {
     if state.trail.is_full() {

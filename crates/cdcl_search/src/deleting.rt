@@ -1,10 +1,10 @@
 //! Deleting the clauses of rows.
 ghost use Rattle.std.specs.Prelude.{◌≡◌, ◌≤◌, [], ◌++◌, OnOk, IfOk};
 ghost use Rattle.std.specs.List.{AllByRecursion};
-ghost use Rattle.conflict_learn.specs.Faults.{fault_in};
+ghost use Rattle.cdcl_search.specs.Calls.{StandsOn};
 ghost use Rattle.cdcl_search.specs.Deleting.{deletions};
-ghost use Rattle.cdcl_search.specs.Logs.{GoesOn, Stands};
-ghost use Rattle.cdcl_search.specs.Tells.{as_events, IsTellable};
+ghost use Rattle.cdcl_search.specs.Logs.{Stands};
+ghost use Rattle.cdcl_search.specs.Tells.{as_events, IsTellable, AreStepsOf};
 ghost use Rattle.cdcl_search.specs.Ties.{row_ids};
 
 use crate::logs::SearchLog;
@@ -26,8 +26,7 @@ pub fn put_deletions(
 ) -> Result<(), AllocError>
     requires texts { AllByRecursion IsTellable steps.old.items }
     requires few { count ≤ 16777216 }
-    ensures steps { OnOk result (as_events steps.new.items ≡ as_events steps.old.items ++ deletions (row_ids count)) }
-    ensures texts { OnOk result (AllByRecursion IsTellable steps.new.items) }
+    ensures { OnOk result (AreStepsOf (as_events steps.old.items ++ deletions (row_ids count)) steps.new.items) }
 {
     let mut left = count;
     while left > 0 {
@@ -40,8 +39,7 @@ pub fn put_deletions(
 /// The deletions of so many clauses of rows, the newest first.
 fn deletions_of_rows(alloc: Global, count: usize) -> Result<Vec<LogStep>, AllocError>
     requires { count ≤ 16777216 }
-    ensures steps { IfOk result (λ s. as_events s.items ≡ deletions (row_ids count)) }
-    ensures texts { IfOk result (λ s. AllByRecursion IsTellable s.items) }
+    ensures { IfOk result (λ s. AreStepsOf (deletions (row_ids count)) s.items) }
 {
     let mut steps = Vec::new(alloc);
     put_deletions(alloc, &mut steps, count)?;
@@ -56,8 +54,7 @@ pub(crate) fn delete_rows<P: ParityEngine, L: Sink<Item = LogEvent>>(
     rows: &[LitList],
 ) -> Result<(), CoreFault>
     requires { Stands P.ParityEngine L.Sink log.old state.now engine.now rows.now }
-    ensures stands { OnOk result (Stands P.ParityEngine L.Sink log.new state.now engine.now []) }
-    ensures log { GoesOn L.Sink log.old (fault_in result) log.new }
+    ensures { StandsOn P.ParityEngine L.Sink log.old log.new state.now engine.now [] result }
 {
     let steps = deletions_of_rows(log.alloc, rows.len())?;
     tell_steps(log, steps)

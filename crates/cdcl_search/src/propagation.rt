@@ -6,6 +6,7 @@ ghost use Rattle.watch_lists.specs.Watching.{Fits};
 ghost use Rattle.watch_lists.specs.Events.{Happens};
 ghost use Rattle.parity_engine.specs.State.{State};
 ghost use Rattle.parity_engine.specs.declared.state.Mood.TheVariants.{Broken};
+ghost use Rattle.cdcl_search.specs.Calls.{IsUnbroken, StaysUnbroken};
 ghost use Rattle.cdcl_search.specs.Ties.{SearchStands};
 ghost use Rattle.cdcl_search.specs.Finds.{PropagationFinds, RowsSay, HasAll, HasSameCounts, IsClash};
 
@@ -52,11 +53,9 @@ fn follow_clauses(state: &mut SearchState) -> Event
 
 /// Gives the engine the literals of the trail that it does not have yet.
 fn feed<P: ParityEngine>(formula: &Formula, state: &mut SearchState, engine: &mut P)
-    requires stands { (told : Option (List LogEvent)) × SearchStands formula.now state.old (P.state engine.old) [] told }
-    requires unbroken { (P.state engine.old).mood ≢ Broken }
-    ensures stands { (told : Option (List LogEvent)) → SearchStands formula.now state.old (P.state engine.old) [] told → SearchStands formula.now state.new (P.state engine.new) [] told }
+    requires { IsUnbroken formula.now state.old (P.state engine.old) }
+    ensures stays { StaysUnbroken formula.now state.old (P.state engine.old) state.new (P.state engine.new) }
     ensures given { state.new ≡ record state.old { given = length state.old.trail.entries } }
-    ensures unbroken { (P.state engine.new).mood ≢ Broken }
 {
     for place in state.given..state.trail.len() {
         let literal = state.trail.entry(place).literal;
@@ -94,8 +93,7 @@ fn empty_rows<P: ParityEngine>(
     state: &mut SearchState,
     engine: &mut P,
 ) -> Option<Row>
-    requires stands { (told : Option (List LogEvent)) × SearchStands formula.now state.old (P.state engine.old) [] told }
-    requires unbroken { (P.state engine.old).mood ≢ Broken }
+    requires { IsUnbroken formula.now state.old (P.state engine.old) }
     ensures stands { (told : Option (List LogEvent)) → SearchStands formula.now state.old (P.state engine.old) [] told → SearchStands formula.now state.new (P.state engine.new) [] told }
     ensures ends { MatchOption result ((P.state engine.new).mood ≢ Broken) (λ row. HasAll state.new × IsClash (P.state engine.new) row) }
     ensures same { HasSameCounts state.old state.new }
@@ -117,8 +115,7 @@ pub(crate) fn propagate<P: ParityEngine>(
     state: &mut SearchState,
     engine: &mut P,
 ) -> Found
-    requires stands { (told : Option (List LogEvent)) × SearchStands formula.now state.old (P.state engine.old) [] told }
-    requires unbroken { (P.state engine.old).mood ≢ Broken }
+    requires { IsUnbroken formula.now state.old (P.state engine.old) }
     ensures stands { (told : Option (List LogEvent)) → SearchStands formula.now state.old (P.state engine.old) [] told → SearchStands formula.now state.new (P.state engine.new) [] told }
     ensures finds { PropagationFinds state.new (P.state engine.new) result }
     ensures same { HasSameCounts state.old state.new }

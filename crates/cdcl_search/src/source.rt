@@ -5,10 +5,10 @@ ghost use Rattle.cx_trail.specs.declared.entry.Reason.TheVariants.{Clause};
 ghost use Rattle.cx_trail.specs.Sequence.{entry_at, IsTrueIn};
 ghost use Rattle.clause_arena.specs.Clauses.{IsLive, literals_at};
 ghost use Rattle.conflict_learn.specs.Learning.{HasReason, IsAntecedent};
-ghost use Rattle.conflict_learn.specs.Faults.{fault_in};
 ghost use Rattle.parity_engine.specs.State.{State};
+ghost use Rattle.cdcl_search.specs.Calls.{StandsOn};
 ghost use Rattle.cdcl_search.specs.Explaining.{IsReasonOf};
-ghost use Rattle.cdcl_search.specs.Sources.{IsSourced, HasIds};
+ghost use Rattle.cdcl_search.specs.Sources.{IsSourced, HasIds, IsHinted};
 ghost use Rattle.cdcl_search.specs.Tells.{IsId};
 ghost use Rattle.cdcl_search.specs.Ties.{SearchStands, HaveReasons};
 ghost use Rattle.cdcl_search.specs.Logs.{GoesOn, Stands};
@@ -16,7 +16,7 @@ ghost use Rattle.cdcl_search.specs.Loans.{HasSameLoans, loans_rest, loans_then};
 ghost use Rattle.cdcl_search.specs.GoingOn.{log_rests, log_stops, log_then};
 
 use crate::logs::SearchLog;
-use crate::rows::{copy_of, next_ids, tell_row};
+use crate::rows::{copy_of, next_ids, tell_reason};
 use crate::state::SearchState;
 use conflict_learn::{Antecedents, CoreFault};
 use cx_base::{ClauseRef, Lit, LitList, LogEvent, Row};
@@ -24,6 +24,7 @@ use cx_trail::Reason;
 use parity_engine::ParityEngine;
 use std::alloc::{AllocError, Global};
 use step_text::Sink;
+use xor_reason::reason_clause;
 
 /// A clause with its id in the log.
 #[derive(Drop)]
@@ -37,8 +38,7 @@ fn unit(alloc: Global, state: &SearchState, place: usize) -> Result<Hinted, Allo
     requires unit { place < length state.now.units.items }
     requires place { place < length state.now.trail.entries }
     requires ids { HasIds state.now }
-    ensures lits { IfOk result (λ h. h.lits ≡ (entry_at state.now.trail.entries place).literal ∷ []) }
-    ensures id { IfOk result (λ h. IsId h.id) }
+    ensures { IfOk result (IsHinted ((entry_at state.now.trail.entries place).literal ∷ [])) }
 {
     let mut lits = Vec::new(alloc);
     lits.push(state.trail.entry(place).literal)?;
@@ -56,8 +56,7 @@ pub fn stored(
 ) -> Result<Hinted, AllocError>
     requires live { IsLive state.now.arena reference }
     requires ids { HasIds state.now }
-    ensures lits { IfOk result (λ h. h.lits ≡ literals_at state.now.arena reference) }
-    ensures id { IfOk result (λ h. IsId h.id) }
+    ensures { IfOk result (IsHinted (literals_at state.now.arena reference)) }
 {
     let lits = copy_of(alloc, state.arena.lits(reference))?;
     Ok(Hinted {
@@ -109,7 +108,7 @@ pub fn silent_id(state: &SearchState, literal: Lit) -> Option<u64>
     id_of(state, entry.reason)
 }
 
-/// The clause of a row, which is told.
+/// The clause of the row that implied a literal of the trail. It is told.
 fn hinted_row<P: ParityEngine, L: Sink<Item = LogEvent>>(
     log: &mut SearchLog<L>,
     state: &SearchState,
@@ -125,11 +124,11 @@ fn hinted_row<P: ParityEngine, L: Sink<Item = LogEvent>>(
     ensures id { IfOk result (λ h. IsId h.id) }
     ensures same { OnErr result (rows.new.items ≡ rows.old.items) }
     ensures rows { IfOk result (λ h. rows.new.items ≡ rows.old.items ++ h.lits ∷ []) }
-    ensures stands { OnOk result (Stands P.ParityEngine L.Sink log.new state.now engine.now rows.new.items) }
-    ensures log { GoesOn L.Sink log.old (fault_in result) log.new }
+    ensures stands_on { StandsOn P.ParityEngine L.Sink log.old log.new state.now engine.now rows.new.items result }
 {
+    let reason = reason_clause(log.alloc, engine, row, Some(literal), &state.trail)?;
     let id = next_ids(log.formula, rows).clause;
-    match tell_row(log, state, engine, row, literal, rows) {
+    match tell_reason(log, state, engine, reason, rows) {
         Ok(lits) => Ok(Hinted { lits, id }),
         Err(fault) => Err(fault),
     }
@@ -152,8 +151,7 @@ pub(crate) fn clause_of_reason<P: ParityEngine, L: Sink<Item = LogEvent>>(
     ensures id { IfOk result (λ h. IsId h.id) }
     ensures grows { (clause : List Literal) → IsSourced state.now rows.old.items clause → IsSourced state.now rows.new.items clause }
     ensures one { OnOk result (length rows.new.items ≤ length rows.old.items + 1) }
-    ensures stands { OnOk result (Stands P.ParityEngine L.Sink log.new state.now engine.now rows.new.items) }
-    ensures log { GoesOn L.Sink log.old (fault_in result) log.new }
+    ensures stands_on { StandsOn P.ParityEngine L.Sink log.old log.new state.now engine.now rows.new.items result }
 {
     let place = state.trail.place_of(literal.negate());
     if place < state.units.len() {

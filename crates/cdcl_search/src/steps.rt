@@ -1,10 +1,10 @@
 //! The steps that the search tells. A text can have each of them.
 //!
 //! A call of `as_slice` whose answer is let go says to the proof what holds of each integer of a list.
-ghost use Rattle.std.specs.Prelude.{◌≡◌, []};
+ghost use Rattle.std.specs.Prelude.{[]};
 ghost use Rattle.std.specs.List.{AllByRecursion};
 ghost use Rattle.cx_base.specs.declared.steps.LogStep.TheVariants as step;
-ghost use Rattle.cdcl_search.specs.Tells.{IsId, IsTellable};
+ghost use Rattle.cdcl_search.specs.Tells.{IsId, IsStep};
 
 use cx_base::{IdList, IntList, LogStep};
 use std::alloc::Global;
@@ -12,8 +12,7 @@ use std::alloc::Global;
 /// A clause of the formula.
 pub fn original(id: u64, lits: IntList) -> LogStep
     requires { IsId id }
-    ensures is { result ≡ step.Original id lits }
-    ensures text { IsTellable result }
+    ensures { IsStep (step.Original id lits) result }
 {
     let _ = lits.as_slice();
     LogStep::Original(id, lits)
@@ -22,8 +21,7 @@ pub fn original(id: u64, lits: IntList) -> LogStep
 /// A parity of the formula.
 pub fn original_parity(id: u64, lits: IntList) -> LogStep
     requires { IsId id }
-    ensures is { result ≡ step.OriginalParity id lits }
-    ensures text { IsTellable result }
+    ensures { IsStep (step.OriginalParity id lits) result }
 {
     let _ = lits.as_slice();
     LogStep::OriginalParity(id, lits)
@@ -33,8 +31,7 @@ pub fn original_parity(id: u64, lits: IntList) -> LogStep
 pub fn recovered_parity(id: u64, lits: IntList, clauses: IdList) -> LogStep
     requires id { IsId id }
     requires clauses { AllByRecursion IsId clauses }
-    ensures is { result ≡ step.ParityOfClauses id lits clauses }
-    ensures text { IsTellable result }
+    ensures { IsStep (step.ParityOfClauses id lits clauses) result }
 {
     let _ = lits.as_slice();
     LogStep::ParityOfClauses(id, lits, clauses)
@@ -43,8 +40,7 @@ pub fn recovered_parity(id: u64, lits: IntList, clauses: IdList) -> LogStep
 /// A clause that a chain of these clauses shows.
 pub fn chained(id: u64, lits: IntList, hints: IntList) -> LogStep
     requires { IsId id }
-    ensures is { result ≡ step.ClauseWithHints id lits hints }
-    ensures text { IsTellable result }
+    ensures { IsStep (step.ClauseWithHints id lits hints) result }
 {
     let _ = lits.as_slice();
     let _ = hints.as_slice();
@@ -55,8 +51,7 @@ pub fn chained(id: u64, lits: IntList, hints: IntList) -> LogStep
 pub(crate) fn sum(id: u64, lits: IntList, sources: IdList) -> LogStep
     requires id { IsId id }
     requires sources { AllByRecursion IsId sources }
-    ensures is { result ≡ step.Parity id lits sources }
-    ensures text { IsTellable result }
+    ensures { IsStep (step.Parity id lits sources) result }
 {
     let _ = lits.as_slice();
     LogStep::Parity(id, lits, sources)
@@ -66,8 +61,7 @@ pub(crate) fn sum(id: u64, lits: IntList, sources: IdList) -> LogStep
 pub(crate) fn clause_of_sum(id: u64, lits: IntList, source: u64) -> LogStep
     requires id { IsId id }
     requires source { IsId source }
-    ensures is { result ≡ step.ClauseOfParity id lits source }
-    ensures text { IsTellable result }
+    ensures { IsStep (step.ClauseOfParity id lits source) result }
 {
     let _ = lits.as_slice();
     LogStep::ClauseOfParity(id, lits, source)
@@ -76,8 +70,7 @@ pub(crate) fn clause_of_sum(id: u64, lits: IntList, source: u64) -> LogStep
 /// The deletion of a clause.
 pub fn deletion(alloc: Global, id: u64) -> LogStep
     requires { IsId id }
-    ensures is { result ≡ step.Delete id [] }
-    ensures text { IsTellable result }
+    ensures { IsStep (step.Delete id []) result }
 {
     LogStep::Delete(id, IntList::from_vec(Vec::new(alloc)))
 }
@@ -85,8 +78,7 @@ pub fn deletion(alloc: Global, id: u64) -> LogStep
 /// The deletion of a sum.
 pub(crate) fn deletion_of_sum(alloc: Global, id: u64) -> LogStep
     requires { IsId id }
-    ensures is { result ≡ step.DeleteParity id [] }
-    ensures text { IsTellable result }
+    ensures { IsStep (step.DeleteParity id []) result }
 {
     LogStep::DeleteParity(id, IntList::from_vec(Vec::new(alloc)))
 }

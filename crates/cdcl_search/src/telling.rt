@@ -1,11 +1,11 @@
 //! Telling the log. Nothing else of the search tells its sink anything.
-ghost use Rattle.std.specs.Prelude.{◌≡◌, [], ◌∷◌, OnOk};
+ghost use Rattle.std.specs.Prelude.{◌≡◌, [], ◌∷◌};
 ghost use Rattle.std.specs.List.{AllByRecursion};
 ghost use Rattle.cx_base.specs.declared.steps.LogEvent.TheVariants.{Step, Conflict};
-ghost use Rattle.conflict_learn.specs.Faults.{fault_in};
-ghost use Rattle.cdcl_search.specs.Logs.{GoesOn, IsRightBehind, AreToldNow};
+ghost use Rattle.cdcl_search.specs.Calls.{TellsIn, Tells};
+ghost use Rattle.cdcl_search.specs.Logs.{IsRightBehind};
 ghost use Rattle.cx_texts.specs.Printed.{HasText};
-ghost use Rattle.cdcl_search.specs.Tells.{TellsAll, FaultsAs, as_events, fault_as, IsTellable};
+ghost use Rattle.cdcl_search.specs.Tells.{as_events, fault_as, IsTellable};
 
 use crate::logs::SearchLog;
 use conflict_learn::CoreFault;
@@ -25,9 +25,7 @@ fn fault_of(fault: SinkFault) -> CoreFault
 /// Tells one event.
 fn tell<L: Sink<Item = LogEvent>>(sink: &mut L, event: &LogEvent) -> Result<(), CoreFault>
     requires text { HasText event.now }
-    ensures told { TellsAll (L.torn sink.new) (event.now ∷ []) (L.items sink.old) result (L.items sink.new) }
-    ensures faults { FaultsAs result (L.faults sink.old) (L.faults sink.new) }
-    ensures frame { L.keeps sink.old sink.new }
+    ensures { TellsIn L.Sink (event.now ∷ []) sink.old result sink.new }
 {
     match sink.put(event) {
         Ok(()) => Ok(()),
@@ -38,9 +36,7 @@ fn tell<L: Sink<Item = LogEvent>>(sink: &mut L, event: &LogEvent) -> Result<(), 
 /// Tells these steps, one after another, up to a fault.
 fn tell_all<L: Sink<Item = LogEvent>>(sink: &mut L, steps: Vec<LogStep>) -> Result<(), CoreFault>
     requires texts { AllByRecursion IsTellable steps.items }
-    ensures told { TellsAll (L.torn sink.new) (as_events steps.items) (L.items sink.old) result (L.items sink.new) }
-    ensures faults { FaultsAs result (L.faults sink.old) (L.faults sink.new) }
-    ensures frame { L.keeps sink.old sink.new }
+    ensures { TellsIn L.Sink (as_events steps.items) sink.old result sink.new }
 {
     for step in steps {
         match tell(sink, &LogEvent::Step(step)) {
@@ -58,9 +54,7 @@ fn tell_marked<L: Sink<Item = LogEvent>>(
     steps: Vec<LogStep>,
 ) -> Result<(), CoreFault>
     requires texts { AllByRecursion IsTellable steps.items }
-    ensures told { TellsAll (L.torn sink.new) (Conflict number ∷ as_events steps.items) (L.items sink.old) result (L.items sink.new) }
-    ensures faults { FaultsAs result (L.faults sink.old) (L.faults sink.new) }
-    ensures frame { L.keeps sink.old sink.new }
+    ensures { TellsIn L.Sink (Conflict number ∷ as_events steps.items) sink.old result sink.new }
 {
     match tell(sink, &LogEvent::Conflict(number)) {
         Ok(()) => tell_all(sink, steps),
@@ -75,8 +69,7 @@ pub fn tell_step<L: Sink<Item = LogEvent>>(
 ) -> Result<(), CoreFault>
     requires text { IsTellable step }
     requires right { IsRightBehind L.Sink log.old (Step step ∷ []) }
-    ensures told { OnOk result (AreToldNow L.Sink log.old (Step step ∷ []) log.new) }
-    ensures log { GoesOn L.Sink log.old (fault_in result) log.new }
+    ensures { Tells L.Sink log.old (Step step ∷ []) result log.new }
 {
     tell(log.sink, &LogEvent::Step(step))
 }
@@ -88,8 +81,7 @@ pub fn tell_steps<L: Sink<Item = LogEvent>>(
 ) -> Result<(), CoreFault>
     requires texts { AllByRecursion IsTellable steps.items }
     requires right { IsRightBehind L.Sink log.old (as_events steps.items) }
-    ensures told { OnOk result (AreToldNow L.Sink log.old (as_events steps.items) log.new) }
-    ensures log { GoesOn L.Sink log.old (fault_in result) log.new }
+    ensures { Tells L.Sink log.old (as_events steps.items) result log.new }
 {
     tell_all(log.sink, steps)
 }
@@ -102,8 +94,7 @@ pub fn tell_round<L: Sink<Item = LogEvent>>(
 ) -> Result<(), CoreFault>
     requires texts { AllByRecursion IsTellable steps.items }
     requires right { IsRightBehind L.Sink log.old (Conflict number ∷ as_events steps.items) }
-    ensures told { OnOk result (AreToldNow L.Sink log.old (Conflict number ∷ as_events steps.items) log.new) }
-    ensures log { GoesOn L.Sink log.old (fault_in result) log.new }
+    ensures { Tells L.Sink log.old (Conflict number ∷ as_events steps.items) result log.new }
 {
     tell_marked(log.sink, number, steps)
 }

@@ -1,8 +1,9 @@
 //! Unit clauses of the literals of level 0.
 ghost use Rattle.std.specs.Prelude.{◌≡◌, ◌+◌, ◌<◌, [], length, OnOk};
-ghost use Rattle.conflict_learn.specs.Faults.{fault_in};
-ghost use Rattle.cdcl_search.specs.Logs.{GoesOn, Stands};
+ghost use Rattle.cdcl_search.specs.Calls.{StandsOn};
+ghost use Rattle.cdcl_search.specs.Logs.{Stands};
 ghost use Rattle.cdcl_search.specs.Tells.{IsId};
+ghost use Rattle.cdcl_search.specs.Searching.{HasUnits};
 ghost use Rattle.cdcl_search.specs.Units.{HasOther, IsNextUnit};
 
 use crate::chains::{hints_of, tell_chained};
@@ -28,10 +29,9 @@ fn tell_unit<P: ParityEngine, L: Sink<Item = LogEvent>>(
     requires level { state.old.trail.level ≡ 0 }
     requires next { IsNextUnit state.old rows.now literal implying.now.lits }
     requires id { IsId implying.now.id }
-    ensures stands { OnOk result (Stands P.ParityEngine L.Sink log.new state.new engine.now rows.now) }
+    ensures stands_on { StandsOn P.ParityEngine L.Sink log.old log.new state.new engine.now rows.now result }
     ensures units { OnOk result (length state.new.units.items ≡ length state.old.units.items + 1) }
     ensures same { HasOther state.old state.new }
-    ensures log { GoesOn L.Sink log.old (fault_in result) log.new }
 {
     let id = state.next;
     let hints = hints_of(log.alloc, state, implying.lits.as_slice(), implying.id)?;
@@ -50,10 +50,9 @@ fn tell_next_unit<P: ParityEngine, L: Sink<Item = LogEvent>>(
     requires stands { Stands P.ParityEngine L.Sink log.old state.old engine.now [] }
     requires level { state.old.trail.level ≡ 0 }
     requires more { length state.old.units.items < length state.old.trail.entries }
-    ensures stands { OnOk result (Stands P.ParityEngine L.Sink log.new state.new engine.now []) }
+    ensures stands_on { StandsOn P.ParityEngine L.Sink log.old log.new state.new engine.now [] result }
     ensures units { OnOk result (length state.new.units.items ≡ length state.old.units.items + 1) }
     ensures same { HasOther state.old state.new }
-    ensures log { GoesOn L.Sink log.old (fault_in result) log.new }
 {
     let entry = state.trail.entry(state.units.len());
     let mut rows = Vec::new(log.alloc);
@@ -62,19 +61,20 @@ fn tell_next_unit<P: ParityEngine, L: Sink<Item = LogEvent>>(
     delete_rows(log, state, engine, &rows)
 }
 
-/// Tells the unit clauses, with hints, of the literals of level 0 that have none yet.
+/// Tells the unit clauses, with hints, of the literals of level 0 that have none yet, where the search is at level 0.
 pub(crate) fn tell_units<P: ParityEngine, L: Sink<Item = LogEvent>>(
     log: &mut SearchLog<L>,
     state: &mut SearchState,
     engine: &P,
 ) -> Result<(), CoreFault>
-    requires stands { Stands P.ParityEngine L.Sink log.old state.old engine.now [] }
-    requires level { state.old.trail.level ≡ 0 }
-    ensures stands { OnOk result (Stands P.ParityEngine L.Sink log.new state.new engine.now []) }
-    ensures all { OnOk result (length state.new.units.items ≡ length state.new.trail.entries) }
+    requires { Stands P.ParityEngine L.Sink log.old state.old engine.now [] }
+    ensures stands_on { StandsOn P.ParityEngine L.Sink log.old log.new state.new engine.now [] result }
+    ensures units { OnOk result (HasUnits state.new) }
     ensures same { HasOther state.old state.new }
-    ensures log { GoesOn L.Sink log.old (fault_in result) log.new }
 {
+    if state.trail.level() > 0 {
+        return Ok(());
+    }
     while state.units.len() < state.trail.len() {
         tell_next_unit(log, state, engine)?;
     }

@@ -43,13 +43,14 @@ returns-clause-begins g c =
     subst (λ us. SearchStandsBut c.args.log.now.formula.now engines c.args.filled.state us (g.L.Sink.items c.args.log.now.sink.now)) (sym c.deref.ensures.value)
     (filled_stands c.args.log.now.formula.now c.requires.few c.vars-vars.ensures.within engines (g.L.Sink.items c.args.log.now.sink.now) c.requires.given c.args.filled.state c.args.filled.units.items
     (subst (IsFilled c.args.log.now.formula.now c.args.filled.state c.args.filled.units.items) c.in_default.is c.requires.filled)) in
-    let stands = subst (PutsUnits c.put_units.new.log.formula.now engines c.put_units.new.state [] (g.L.Sink.items c.put_units.new.log.sink.now)) c.if-not-branch.false (c.in_ok-put_units.ensures.puts engines before) in (
-      begun_stands c.put_units.new.log.formula.now engines c.put_units.new.state (g.L.Sink.items c.put_units.new.log.sink.now) stands (g.P.ParityEngine.state c.in_ok-engine.engine) rows made
-          (subst (λ (f : Problem). length f.constraints ≤ 4294967295) (sym same) c.requires.few) (subst (λ f. AreEngines f engines) (sym same) c.requires.engines),
-      begun_is_calm c.put_units.new.log.formula.now engines c.put_units.new.state (g.L.Sink.items c.put_units.new.log.sink.now) stands (g.P.ParityEngine.state c.in_ok-engine.engine) rows made,
-      stands.3.level,
-      stands.3.conflicts,
-    )
+    let stands = subst (PutsUnits c.put_units.new.log.formula.now engines c.put_units.new.state [] (g.L.Sink.items c.put_units.new.log.sink.now)) c.if-not-branch.false (c.in_ok-put_units.ensures.puts engines before) in
+    record {
+      stands = begun_stands c.put_units.new.log.formula.now engines c.put_units.new.state (g.L.Sink.items c.put_units.new.log.sink.now) stands (g.P.ParityEngine.state c.in_ok-engine.engine) rows made
+          (subst (λ (f : Problem). length f.constraints ≤ 4294967295) (sym same) c.requires.few) (subst (λ f. AreEngines f engines) (sym same) c.requires.engines);
+      unbroken = begun_is_calm c.put_units.new.log.formula.now engines c.put_units.new.state (g.L.Sink.items c.put_units.new.log.sink.now) stands (g.P.ParityEngine.state c.in_ok-engine.engine) rows made;
+      level = stands.3.level;
+      none = stands.3.conflicts;
+    }
 
 pub returns-then-not-branch-clause-begins : goal.returns-then-not-branch-clause-begins
 returns-then-not-branch-clause-begins g c =

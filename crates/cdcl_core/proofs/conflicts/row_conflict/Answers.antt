@@ -1,7 +1,8 @@
-use Rattle.std.proofs.Common.{sym, subst, ◌∷◌, [], length}
+use Rattle.std.proofs.Common.{rules, arith, sym, ap, ◌∙◌, subst, ◌++◌, ◌∷◌, [], length}
 use Rattle.cdcl_search.specs.Ties.{SearchStands}
 use Rattle.cdcl_core.specs.Concluding.{Concludes}
 use Rattle.cdcl_core.specs.declared.conflicts.Conclusion.TheVariants.{Clause}
+use Rattle.cdcl_core.specs.declared.conflicts.Conflict.{Conflict}
 use Rattle.cdcl_core.proofs.ConflictLaws.{clash_is_named, clash_assigned, clash_is_reason, clash_explains, clash_numbers, row_concludes, ends_log, is_empty_list}
 use Rattle.cdcl_core.proofs.conflicts.row_conflict.Goals as goal
 
@@ -20,21 +21,36 @@ ending-requires-clause-constraints g c = c.requires.stands.3.ids.few
 pub ending-requires-clause-sources : goal.ending-requires-clause-sources
 ending-requires-clause-sources g c = (length (g.P.ParityEngine.state c.args.engine.now).parities, c.requires.stands.3.engine.few, clash_numbers c.args.log.now.formula.now c.args.state.now (g.P.ParityEngine.state c.args.engine.now) (g.L.Sink.items c.args.log.now.sink.now) c.requires.stands c.args.row c.requires.clash c.in_ok-reason.reason c.in_ok-reason.ensures.parity c.in_ok-reason.ensures.numbers c.in_ok-reason.ensures.sum c.in_ok-reason.ensures.clause)
 
-pub told_conflict-requires-clause-explains : goal.told_conflict-requires-clause-explains
-told_conflict-requires-clause-explains g c = clash_explains c.args.log.now.formula.now c.args.state.now (g.P.ParityEngine.state c.args.engine.now) (g.L.Sink.items c.args.log.now.sink.now) c.requires.stands c.args.row c.requires.clash c.in_ok-reason.reason c.in_ok-reason.ensures.parity c.in_ok-reason.ensures.numbers c.in_ok-reason.ensures.sum c.in_ok-reason.ensures.clause
+pub tell_reason-requires-clause-explains : goal.tell_reason-requires-clause-explains
+tell_reason-requires-clause-explains g c = clash_explains c.args.log.now.formula.now c.args.state.now (g.P.ParityEngine.state c.args.engine.now) (g.L.Sink.items c.args.log.now.sink.now) c.requires.stands c.args.row c.requires.clash c.in_ok-reason.reason c.in_ok-reason.ensures.parity c.in_ok-reason.ensures.numbers c.in_ok-reason.ensures.sum c.in_ok-reason.ensures.clause
 
-pub returns-then-is_empty-clause-concludes : goal.returns-then-is_empty-clause-concludes
-returns-then-is_empty-clause-concludes g c = (
-  c.requires.stands,
-  ends_log c.args.log.now.formula.now c.args.state.now (g.P.ParityEngine.state c.args.engine.now) (g.L.Sink.items c.args.log.now.sink.now) c.requires.stands c.args.row c.requires.clash c.in_ok-reason.reason c.in_ok-reason.ensures.parity c.in_ok-reason.ensures.numbers c.in_ok-reason.ensures.sum c.in_ok-reason.ensures.clause
-      c.in_ok-steps.ensures.parity c.in_ok-steps.ensures.clause (is_empty_list c.in_ok-reason.reason.clause c.as_slice.result.now c.is_empty.result c.as_slice.ensures c.is_empty.ensures c.if-is_empty.true)
-      c.in_ok-steps.steps.items c.in_ok-steps.ensures.steps c.in_ok-steps.ensures.texts,
-)
+pub returns-then-is_empty : goal.returns-then-is_empty
+returns-then-is_empty g c = record {
+  concludes = (
+    c.requires.stands,
+    ends_log c.args.log.now.formula.now c.args.state.now (g.P.ParityEngine.state c.args.engine.now) (g.L.Sink.items c.args.log.now.sink.now) c.requires.stands c.args.row c.requires.clash c.in_ok-reason.reason c.in_ok-reason.ensures.parity c.in_ok-reason.ensures.numbers c.in_ok-reason.ensures.sum c.in_ok-reason.ensures.clause
+        c.in_ok-steps.ensures.parity c.in_ok-steps.ensures.clause (is_empty_list c.in_ok-reason.reason.clause c.as_slice.result.now c.is_empty.result c.as_slice.ensures c.is_empty.ensures c.if-is_empty.true)
+        c.in_ok-steps.steps.items c.in_ok-steps.ensures.are.are c.in_ok-steps.ensures.are.texts,
+  );
+  log = search rules;
+}
 
-pub returns-in-Ok-clause-concludes : goal.returns-in-Ok-clause-concludes
-returns-in-Ok-clause-concludes g c =
-    let same = c.in-Ok.ensures.log.formula in
-    subst (λ f. Concludes f c.args.state.now (g.P.ParityEngine.state c.args.engine.now) (g.L.Sink.items c.told_conflict.new.log.sink.now) (Clause c.in-Ok.conflict)) (sym same)
+pub tell_reason-requires-clause-stands : goal.tell_reason-requires-clause-stands
+tell_reason-requires-clause-stands g c =
+    subst (λ rows. SearchStands c.args.log.now.formula.now c.args.state.now (g.P.ParityEngine.state c.args.engine.now) rows (g.L.Sink.items c.args.log.now.sink.now)) (sym c.new-rows.ensures.items) c.requires.stands
+
+pub returns-in-Ok : goal.returns-in-Ok
+returns-in-Ok g c =
+    let same = c.in-Ok.ensures.stands_on.log.formula in
+    let clause = c.in_ok-reason.reason.clause in
+    let none = ap (λ rows. rows ++ clause ∷ []) c.new-rows.ensures.items in
+    let k : Conflict = record { lits = c.in-Ok.lits; id = 1500000000000000000; rows = c.tell_reason.new.rows } in
+    let concludes = subst (λ f. Concludes f c.args.state.now (g.P.ParityEngine.state c.args.engine.now) (g.L.Sink.items c.tell_reason.new.log.sink.now) (Clause k)) (sym same)
     (row_concludes c.args.log.now.formula.now c.args.state.now (g.P.ParityEngine.state c.args.engine.now) (g.L.Sink.items c.args.log.now.sink.now) c.requires.stands c.args.row c.requires.clash c.in_ok-reason.reason c.in_ok-reason.ensures.parity c.in_ok-reason.ensures.numbers c.in_ok-reason.ensures.sum c.in_ok-reason.ensures.clause
-    (g.L.Sink.items c.told_conflict.new.log.sink.now) c.in-Ok.conflict c.in-Ok.ensures.clause c.in-Ok.ensures.rows c.in-Ok.ensures.id
-    (subst (λ f. SearchStands f c.args.state.now (g.P.ParityEngine.state c.args.engine.now) (c.in_ok-reason.reason.clause ∷ []) (g.L.Sink.items c.told_conflict.new.log.sink.now)) same c.in-Ok.ensures.stands))
+    (g.L.Sink.items c.tell_reason.new.log.sink.now) k c.in-Ok.ensures.clause (c.in-Ok.ensures.rows ∙ none) (omega arith, omega arith)
+    (subst (λ rows. SearchStands c.args.log.now.formula.now c.args.state.now (g.P.ParityEngine.state c.args.engine.now) rows (g.L.Sink.items c.tell_reason.new.log.sink.now)) none
+    (subst (λ f. SearchStands f c.args.state.now (g.P.ParityEngine.state c.args.engine.now) (c.new-rows.result.items ++ clause ∷ []) (g.L.Sink.items c.tell_reason.new.log.sink.now)) same c.in-Ok.ensures.stands_on.stands))) in
+    record { concludes = concludes; log = c.in-Ok.ensures.stands_on.log }
+
+pub tell_reason-requires-clause-room : goal.tell_reason-requires-clause-room
+tell_reason-requires-clause-room g c = let none = ap length c.new-rows.ensures.items in omega (arith, none)

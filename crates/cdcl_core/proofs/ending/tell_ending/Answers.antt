@@ -8,7 +8,9 @@ use Rattle.cdcl_core.proofs.ending.tell_ending.Goals as goal
 pub tell_steps-requires-clause-right : goal.tell_steps-requires-clause-right
 tell_steps-requires-clause-right g c = ended_is_left c.args.log.now.formula.now c.args.state.now.conflicts _ c.requires.log
 
-pub returns-clause-refutes : goal.returns-clause-refutes
-returns-clause-refutes g c =
-    holds_where (λ formula told. Refutes formula (c.args.state.now.conflicts + 1) told) (as_events c.args.steps.items) g.L.Sink c.args.log.now _ c.tell_steps.result c.tell_steps.new.log c.tell_steps.ensures.log c.tell_steps.ensures.told
-    (ends_refute c.args.log.now.formula.now c.args.state.now.conflicts _ c.requires.unmet c.requires.log)
+pub returns : goal.returns
+returns g c = record {
+  refutes = holds_where (λ formula told. Refutes formula (c.args.state.now.conflicts + 1) told) (as_events c.args.steps.items) g.L.Sink c.args.log.now _ c.tell_steps.result c.tell_steps.new.log c.tell_steps.ensures.log c.tell_steps.ensures.told
+      (ends_refute c.args.log.now.formula.now c.args.state.now.conflicts _ c.requires.unmet c.requires.log);
+  log = c.tell_steps.ensures.log;
+}

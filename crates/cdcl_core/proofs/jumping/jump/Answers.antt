@@ -1,14 +1,14 @@
-use Rattle.std.proofs.Common.{sym, subst, length, ◌≤◌, ◌+◌, arith}
+use Rattle.std.proofs.Common.{sym, ap, ◌∙◌, subst, length, ◌≤◌, ◌+◌, inl, inr, arith}
 use Rattle.cx_base.specs.Integers.{integers_of}
 use Rattle.watch_lists.specs.Attaching.{CanBeWatched, literal_at}
-use Rattle.cx_trail.specs.Sequence.{IsOpenIn}
+use Rattle.cx_trail.specs.Sequence.{TrailState, IsOpenIn}
 use Rattle.conflict_learn.specs.Touching.{AreTouched}
 use Rattle.search_steps.specs.LogSteps.{after_round}
 use Rattle.search_steps.specs.Search.{IsSearch}
 use Rattle.cdcl_search.proofs.Outcomes.{on_ok}
 use Rattle.cdcl_core.specs.Entering.{Enters}
 use Rattle.cdcl_core.proofs.Entering.{round_is_search}
-use Rattle.cdcl_core.proofs.JumpLaws.{falling_short, lower_than_now, scores_within, first_is_open, can_be_watched, enters_stands}
+use Rattle.cdcl_core.proofs.JumpLaws.{falling_short, lower_than_now, scores_within, alone_at_zero, first_is_high, first_is_open, can_be_watched, enters_stands}
 use Rattle.cdcl_core.proofs.jumping.jump.Goals as goal
 
 pub go_back-requires-clause-lower : goal.go_back-requires-clause-lower
@@ -25,24 +25,29 @@ bump-requires g c =
           c.args.learned.now.resolved c.args.learned.now.lits c.deref.result.now (subst (AreTouched c.args.state.now.trail c.args.learned.now.resolved c.args.learned.now.lits) (sym c.deref.ensures.value) c.requires.touched) k d h;
     }
 
-pub enter-requires-clause-fits : goal.enter-requires-clause-fits
-enter-requires-clause-fits g c =
+pub enter-requires : goal.enter-requires
+enter-requires g c =
     let l = c.requires.learned.1 in
-    c.go_back.ensures.watched.fits
-
-pub enter-requires-clause-watched : goal.enter-requires-clause-watched
-enter-requires-clause-watched g c =
-    let l = c.requires.learned.1 in
-    subst (λ xs. 2 ≤ length xs → CanBeWatched c.go_back.new.state.watches.variables c.go_back.new.state.trail xs) (sym c.as_slice.ensures)
-    (can_be_watched c.args.formula.now c.args.state.now (g.P.ParityEngine.state c.args.engine.now) c.args.learned.now.lits c.args.learned.now.back_level l.search l.taught
-    c.go_back.new.state (g.P.ParityEngine.state c.go_back.new.engine) (c.go_back.ensures.ties l.taught.rows l.search l.taught.search l.taught.ties) c.go_back.ensures.watched c.go_back.ensures.back)
-
-pub enter-requires-clause-open : goal.enter-requires-clause-open
-enter-requires-clause-open g c =
-    let l = c.requires.learned.1 in
-    subst (λ xs. IsOpenIn c.go_back.new.state.trail.entries (literal_at xs 0).variable) (sym c.as_slice.ensures)
-    (first_is_open c.args.formula.now c.args.state.now (g.P.ParityEngine.state c.args.engine.now) c.args.learned.now.lits c.args.learned.now.back_level l.search l.taught
-    c.go_back.new.state (g.P.ParityEngine.state c.go_back.new.engine) (c.go_back.ensures.ties l.taught.rows l.search l.taught.search l.taught.ties) c.go_back.ensures.watched c.go_back.ensures.back)
+    let ties = c.go_back.ensures.ties l.taught.rows l.search l.taught.search l.taught.ties in
+    let back = c.go_back.new.state in
+    let e = g.P.ParityEngine.state c.args.engine.now in
+    let e_back = g.P.ParityEngine.state c.go_back.new.engine in
+    let n = ap length c.as_slice.ensures in
+    record {
+      some = let m = ap length l.taught.parts in omega (arith, n, m);
+      unit = λ one.
+          let zero = alone_at_zero c.args.formula.now c.args.state.now e c.args.learned.now.lits c.args.learned.now.back_level l.search l.taught (omega (arith, n, one)) in
+          c.go_back.ensures.back.level ∙ zero;
+      fits = c.go_back.ensures.watched.fits;
+      watched = subst (λ xs. 2 ≤ length xs → CanBeWatched back.watches.variables back.trail xs) (sym c.as_slice.ensures)
+          (can_be_watched c.args.formula.now c.args.state.now e c.args.learned.now.lits c.args.learned.now.back_level l.search l.taught back e_back ties c.go_back.ensures.watched c.go_back.ensures.back);
+      put = record {
+        high = subst (λ xs. (literal_at xs 0).variable ≤ back.trail.variables) (sym c.as_slice.ensures)
+            (first_is_high c.args.formula.now c.args.state.now e c.args.learned.now.lits c.args.learned.now.back_level l.search l.taught back e_back ties c.go_back.ensures.watched c.go_back.ensures.back);
+        free = subst (λ xs. IsOpenIn back.trail.entries (literal_at xs 0).variable) (sym c.as_slice.ensures)
+            (first_is_open c.args.formula.now c.args.state.now e c.args.learned.now.lits c.args.learned.now.back_level l.search l.taught back e_back ties c.go_back.ensures.watched c.go_back.ensures.back);
+      };
+    }
 
 pub returns-clause-stands : goal.returns-clause-stands
 returns-clause-stands g c = on_ok _ c.enter.result c.enter.ensures (λ enters told l.
@@ -59,6 +64,12 @@ returns-clause-stands g c = on_ok _ c.enter.result c.enter.ensures (λ enters to
       now.0,
       now.1,
     ))
+
+pub returns-clause-level : goal.returns-clause-level
+returns-clause-level g c = on_ok _ c.enter.result c.enter.ensures (λ enters. elim enters [
+  | inl (one, unit) ↦ ap (λ (t : TrailState). t.level) unit.put.trail ∙ c.go_back.ensures.back.level
+  | inr (several, clause) ↦ ap (λ (t : TrailState). t.level) clause.put.trail ∙ c.go_back.ensures.back.level
+])
 
 pub overflow_add-state-3 : goal.overflow_add-state-3
 overflow_add-state-3 g c =

@@ -1,19 +1,26 @@
 use Rattle.std.proofs.Common.{◌≡◌, ◌≤◌, sym, subst, rules, true, arith}
 use Rattle.cx_semantics.specs.Chain.{has_literal}
-use Rattle.cdcl_search.specs.Ties.{SearchStands}
+use Rattle.conflict_learn.specs.Levels.{Teaches}
+use Rattle.cdcl_search.specs.Sources.{IsSourced}
 use Rattle.cdcl_search.specs.GoingOn.{log_then}
+use Rattle.cdcl_core.specs.Concluding.{IsAtConflict}
 use Rattle.cdcl_search.proofs.LowIds.{has_ids, rows_are_few}
 use Rattle.cdcl_core.proofs.learning.learn.Goals as goal
 
 pub hints_of_lesson-requires-clause-stand : goal.hints_of_lesson-requires-clause-stand
-hints_of_lesson-requires-clause-stand g c l h = c.in_ok-learned.ensures.stand l (subst (λ ls. has_literal ls l ≡ true) c.as_slice-resolved.ensures h)
+hints_of_lesson-requires-clause-stand g c l h = c.in_ok-learned.ensures.lesson.stand l (subst (λ ls. has_literal ls l ≡ true) c.as_slice-resolved.ensures h)
 
 pub hints_of_lesson-requires-clause-reasons : goal.hints_of_lesson-requires-clause-reasons
-hints_of_lesson-requires-clause-reasons g c = (g.P.ParityEngine.state c.args.engine.now, c.in_ok-learned.ensures.stands.3.reasons)
+hints_of_lesson-requires-clause-reasons g c = (g.P.ParityEngine.state c.args.engine.now, c.in_ok-learned.ensures.at.stands.3.reasons)
 
-pub tell_learned-requires-clause-stands : goal.tell_learned-requires-clause-stands
-tell_learned-requires-clause-stands g c =
-    subst (λ rs. SearchStands c.lesson_of.new.log.formula.now c.args.state.now (g.P.ParityEngine.state c.args.engine.now) rs (g.L.Sink.items c.lesson_of.new.log.sink.now)) (sym c.deref.ensures.value) c.in_ok-learned.ensures.stands
+pub tell_learned-requires-clause-at : goal.tell_learned-requires-clause-at
+tell_learned-requires-clause-at g c =
+    subst (λ rs. IsAtConflict g.P.ParityEngine g.L.Sink c.lesson_of.new.log c.args.state.now c.args.engine.now rs c.args.conflict.lits) (sym c.deref.ensures.value) c.in_ok-learned.ensures.at
+
+pub tell_learned-requires-clause-teaches : goal.tell_learned-requires-clause-teaches
+tell_learned-requires-clause-teaches g c =
+    let r = c.in_ok-learned.learned in
+    subst (λ rs. Teaches c.args.state.now.trail c.args.conflict.lits (IsSourced c.args.state.now rs) r.resolved r.lits r.back_level r.lbd) (sym c.deref.ensures.value) c.in_ok-learned.ensures.lesson.teaches
 
 pub returns-in_err-tell_learned-clause-log : goal.returns-in_err-tell_learned-clause-log
 returns-in_err-tell_learned-clause-log g c = log_then g.L.Sink g.met.L.Sink.keeps_on _ c.lesson_of.new.log _ _ c.in_ok-learned.ensures.log (search rules)
@@ -22,11 +29,11 @@ pub returns-clause-log : goal.returns-clause-log
 returns-clause-log g c = log_then g.L.Sink g.met.L.Sink.keeps_on _ c.lesson_of.new.log _ _ c.in_ok-learned.ensures.log c.in_ok-tell_learned.ensures.log
 
 pub hints_of_lesson-requires-clause-ids : goal.hints_of_lesson-requires-clause-ids
-hints_of_lesson-requires-clause-ids g c = has_ids c.lesson_of.new.log.formula.now c.args.state.now (g.P.ParityEngine.state c.args.engine.now) _ (g.L.Sink.items c.lesson_of.new.log.sink.now) c.in_ok-learned.ensures.stands
+hints_of_lesson-requires-clause-ids g c = has_ids c.lesson_of.new.log.formula.now c.args.state.now (g.P.ParityEngine.state c.args.engine.now) _ (g.L.Sink.items c.lesson_of.new.log.sink.now) c.in_ok-learned.ensures.at.stands
 
 pub hints_of_lesson-requires-clause-few : goal.hints_of_lesson-requires-clause-few
 hints_of_lesson-requires-clause-few g c =
     let long = c.len.ensures in
     let same = c.lesson_of.new.rows.ok in
-    let few = rows_are_few c.lesson_of.new.log.formula.now c.args.state.now (g.P.ParityEngine.state c.args.engine.now) _ c.in_ok-learned.ensures.stands.0 c.in_ok-learned.ensures.stands.3 in
+    let few = rows_are_few c.lesson_of.new.log.formula.now c.args.state.now (g.P.ParityEngine.state c.args.engine.now) _ c.in_ok-learned.ensures.at.stands.0 c.in_ok-learned.ensures.at.stands.3 in
     omega (arith, long, same, few)

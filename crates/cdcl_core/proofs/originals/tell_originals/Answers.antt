@@ -19,16 +19,18 @@ tell_original-requires g c =
     record {
       few = omega (arith, n, few);
       place = omega (arith, n, long, less);
-      counted = subst (λ (f : Problem). AreCounted (take c.loop-place.place f.constraints) c.loop-place.counts.clauses c.loop-place.counts.parities) (sym same) c.loop-place.invariant.counted;
-      begun = subst (λ (f : Problem). HasBegun f (take c.loop-place.place f.constraints) (g.L.Sink.items c.loop-place.log.sink.now)) (sym same) c.loop-place.invariant.begun;
+      taken = record {
+        counted = subst (λ (f : Problem). AreCounted (take c.loop-place.place f.constraints) c.loop-place.counts.clauses c.loop-place.counts.parities) (sym same) c.loop-place.invariant.counted;
+        begun = subst (λ (f : Problem). HasBegun f (take c.loop-place.place f.constraints) (g.L.Sink.items c.loop-place.log.sink.now)) (sym same) c.loop-place.invariant.begun;
+      };
     }
 
 pub loop-place-preserved : goal.loop-place-preserved
 loop-place-preserved g c =
     let same = c.in_ok-tell_original.ensures.log.formula ∙ c.loop-place.invariant.log.formula in
     record {
-      counted = subst (λ (f : Problem). AreCounted (take (c.loop-place.place + 1) f.constraints) c.tell_original.new.counts.clauses c.tell_original.new.counts.parities) same c.in_ok-tell_original.ensures.counted;
-      begun = subst (λ (f : Problem). HasBegun f (take (c.loop-place.place + 1) f.constraints) (g.L.Sink.items c.tell_original.new.log.sink.now)) same c.in_ok-tell_original.ensures.begun;
+      counted = subst (λ (f : Problem). AreCounted (take (c.loop-place.place + 1) f.constraints) c.tell_original.new.counts.clauses c.tell_original.new.counts.parities) same c.in_ok-tell_original.ensures.taken.counted;
+      begun = subst (λ (f : Problem). HasBegun f (take (c.loop-place.place + 1) f.constraints) (g.L.Sink.items c.tell_original.new.log.sink.now)) same c.in_ok-tell_original.ensures.taken.begun;
       log = log_then g.L.Sink g.met.L.Sink.keeps_on _ _ _ _ c.loop-place.invariant.log c.in_ok-tell_original.ensures.log;
     }
 

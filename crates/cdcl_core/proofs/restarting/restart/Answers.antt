@@ -1,13 +1,19 @@
-use Rattle.std.proofs.Common.{sym, subst, arith}
+use Rattle.std.proofs.Common.{sym, subst, [], arith}
 use Rattle.search_steps.specs.Search.{IsSearch, jumped}
 use Rattle.search_steps.proofs.ServesLaws.{jump_keeps}
 use Rattle.cdcl_core.proofs.restarting.restart.Goals as goal
 
-pub returns-clause-stands : goal.returns-clause-stands
-returns-clause-stands g c = λ told st. (
-  jumped st.0 0,
-  subst (λ ps. IsSearch c.args.formula.now ps (jumped st.0 0)) (sym c.go_back.ensures.parities) (jump_keeps c.args.formula.now _ st.0 st.1 0 (omega arith)),
-  st.2,
-  c.go_back.ensures.ties _ st.0 st.1 st.3,
-  c.go_back.ensures.watched,
-)
+pub go_back-requires-clause-stands : goal.go_back-requires-clause-stands
+go_back-requires-clause-stands g c = let st = c.requires.stands.1 in ([], st.0, st.1, st.3, st.4)
+
+pub returns-clause-stays : goal.returns-clause-stays
+returns-clause-stays g c = record {
+  stands = λ told st. (
+    jumped st.0 0,
+    subst (λ ps. IsSearch c.args.formula.now ps (jumped st.0 0)) (sym c.go_back.ensures.parities) (jump_keeps c.args.formula.now _ st.0 st.1 0 (omega arith)),
+    st.2,
+    c.go_back.ensures.ties _ st.0 st.1 st.3,
+    c.go_back.ensures.watched,
+  );
+  unbroken = c.go_back.ensures.unbroken;
+}

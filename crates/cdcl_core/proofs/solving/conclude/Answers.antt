@@ -1,18 +1,60 @@
-use Rattle.std.proofs.Common.{[], arith}
-use Rattle.cdcl_core.proofs.Answering.{log_is_open, values_are_known}
+use Rattle.std.proofs.Common.{◌+◌, [], arith, rules}
+use Rattle.cdcl_search.specs.GoingOn.{log_then}
+use Rattle.cdcl_core.proofs.Answering.{log_is_open, values_are_known, unsat_is_known, refutes_within}
 use Rattle.cdcl_core.proofs.solving.conclude.Goals as goal
 
-pub returns-in-Quiet-clause-goes_on : goal.returns-in-Quiet-clause-goes_on
-returns-in-Quiet-clause-goes_on g c = record {
-  meets = c.in_ok-values.ensures;
-  log = (c.args.state.now.conflicts, c.requires.few.0, log_is_open c.args.log.now.formula.now c.args.state.now (g.P.ParityEngine.state c.args.engine.now) [] (g.L.Sink.items c.args.log.now.sink.now) c.requires.stands);
+pub returns-in-Quiet-clause-leaves : goal.returns-in-Quiet-clause-leaves
+returns-in-Quiet-clause-leaves g c = record {
+  goes_on = record {
+    meets = c.in_ok-values.ensures;
+    log = (c.args.state.now.conflicts, c.requires.searches.few.0, log_is_open c.args.log.now.formula.now c.args.state.now (g.P.ParityEngine.state c.args.engine.now) [] (g.L.Sink.items c.args.log.now.sink.now) c.requires.searches.stands);
+  };
+  one_more = tt;
+  clear = c.requires.searches.clear;
+  log = search rules;
 }
 
 pub returns-in-Quiet-clause-at_start : goal.returns-in-Quiet-clause-at_start
 returns-in-Quiet-clause-at_start g c level = (
   record {
     meets = c.in_ok-values.ensures;
-    log = (c.args.state.now.conflicts, omega arith, log_is_open c.args.log.now.formula.now c.args.state.now (g.P.ParityEngine.state c.args.engine.now) [] (g.L.Sink.items c.args.log.now.sink.now) c.requires.stands);
+    log = (c.args.state.now.conflicts, omega arith, log_is_open c.args.log.now.formula.now c.args.state.now (g.P.ParityEngine.state c.args.engine.now) [] (g.L.Sink.items c.args.log.now.sink.now) c.requires.searches.stands);
   },
   values_are_known c.in_ok-values.values,
 )
+
+pub returns-then-level-gt0 : goal.returns-then-level-gt0
+returns-then-level-gt0 g c = record {
+  leaves = record {
+    goes_on = c.learn_and_jump.ensures.goes_on;
+    one_more = c.learn_and_jump.ensures.one_more;
+    clear = c.learn_and_jump.ensures.clear;
+    log = log_then g.L.Sink g.met.L.Sink.keeps_on _ c.conflict_clause.new.log _ _ c.in_ok-conflict.ensures.log c.learn_and_jump.ensures.log;
+  };
+  at_start = λ zero. let above = c.if-level-gt0.true in let level = c.level.ensures.level in absurd (omega (arith, above, level, zero));
+}
+
+pub returns-in_err-end-in-Clause : goal.returns-in_err-end-in-Clause
+returns-in_err-end-in-Clause g c = record {
+  leaves = record {
+    goes_on = search rules;
+    one_more = search rules;
+    clear = search rules;
+    log = log_then g.L.Sink g.met.L.Sink.keeps_on _ c.conflict_clause.new.log _ _ c.in_ok-conflict.ensures.log (search rules);
+  };
+  at_start = λ zero. search rules;
+}
+
+pub returns-in_ok-end-in-Clause : goal.returns-in_ok-end-in-Clause
+returns-in_ok-end-in-Clause g c =
+    let few = c.requires.searches.few.0 in
+    let refutes = c.in_ok-end-in-Clause.ensures.refutes in
+    record {
+      leaves = record {
+        goes_on = refutes_within c.end.new.log.formula.now (c.args.state.now.conflicts + 1) c.args.budget (g.L.Sink.items c.end.new.log.sink.now) (omega (arith, few)) refutes;
+        one_more = tt;
+        clear = c.requires.searches.clear;
+        log = log_then g.L.Sink g.met.L.Sink.keeps_on _ c.conflict_clause.new.log _ _ c.in_ok-conflict.ensures.log c.in_ok-end-in-Clause.ensures.log;
+      };
+      at_start = λ level. (refutes, unsat_is_known);
+    }

@@ -1,26 +1,36 @@
-use Rattle.std.proofs.Common.{refl, subst, arith}
+use Rattle.std.proofs.Common.{refl, subst, arith, rules}
 use Rattle.cdcl_core.specs.Results.{IsOpenWith}
 use Rattle.cdcl_core.proofs.Answering.{learned_log_is_open}
 use Rattle.cdcl_core.proofs.solving.learn_and_jump.Goals as goal
 
-pub returns-then-state-budget-clause-goes_on : goal.returns-then-state-budget-clause-goes_on
-returns-then-state-budget-clause-goes_on g c =
+pub returns-then-state-budget : goal.returns-then-state-budget
+returns-then-state-budget g c =
     let r = c.in_ok-learned.learned in
     let formula = c.learn.new.log.formula.now in
     let told = g.L.Sink.items c.learn.new.log.sink.now in
     record {
-      count = refl;
-      log = subst (λ n. IsOpenWith formula n told) c.if-state-budget.true
-          (learned_log_is_open formula c.args.state.now (g.P.ParityEngine.state c.args.engine.now) r.lits r.back_level told c.in_ok-learned.ensures.learned);
+      goes_on = record {
+        count = refl;
+        log = subst (λ n. IsOpenWith formula n told) c.if-state-budget.true
+            (learned_log_is_open formula c.args.state.now (g.P.ParityEngine.state c.args.engine.now) r.lits r.back_level told c.in_ok-learned.ensures.learned);
+      };
+      one_more = tt;
+      clear = c.in_ok-learned.ensures.clear;
+      log = c.in_ok-learned.ensures.log;
     }
 
-pub returns-clause-goes_on : goal.returns-clause-goes_on
-returns-clause-goes_on g c =
+pub returns : goal.returns
+returns g c =
     let one_more = c.in_ok-jump.ensures.counted in
     let fewer = c.requires.few.0 in
     let other = c.if-state-budget.false in
     record {
-      stands = c.in_ok-jump.ensures.stands (g.L.Sink.items c.learn.new.log.sink.now) c.in_ok-learned.ensures.learned;
-      unbroken = c.in_ok-jump.ensures.unbroken;
-      fewer = omega (arith, one_more, fewer, other);
+      goes_on = record {
+        stands = c.in_ok-jump.ensures.stands (g.L.Sink.items c.learn.new.log.sink.now) c.in_ok-learned.ensures.learned;
+        unbroken = c.in_ok-jump.ensures.unbroken;
+        fewer = omega (arith, one_more, fewer, other);
+      };
+      one_more = one_more;
+      clear = c.in_ok-learned.ensures.clear;
+      log = c.in_ok-learned.ensures.log;
     }

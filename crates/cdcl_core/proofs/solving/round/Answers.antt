@@ -1,11 +1,22 @@
-use Rattle.std.proofs.Common.{◌∙◌, ◌+◌, subst, IfOk}
+use Rattle.std.proofs.Common.{◌≡◌, ◌∙◌, ◌+◌, subst, IfOk}
 use Rattle.std.specs.Prelude.{MatchOption}
 use Rattle.search_steps.specs.Recovering.{SettledWithRecovered}
-use Rattle.cdcl_core.specs.Results.{IsSettledBy}
+use Rattle.cdcl_search.specs.GoingOn.{log_then}
+use Rattle.cdcl_core.specs.Rounds.{IsSettledIn}
 use Rattle.cdcl_core.proofs.solving.round.Goals as goal
+
+pub returns-clause-leaves : goal.returns-clause-leaves
+returns-clause-leaves g c =
+    let leaves = c.conclude.ensures.leaves in
+    record {
+      goes_on = leaves.goes_on;
+      one_more = subst (λ n. IfOk c.conclude.result (λ o. MatchOption o (c.conclude.new.state.conflicts ≡ n + 1) (λ _. Unit {0}))) c.search_on.ensures.searches_on.conflicts leaves.one_more;
+      clear = leaves.clear;
+      log = log_then g.L.Sink g.met.L.Sink.keeps_on _ c.search_on.new.log _ _ c.in_ok-found.ensures.searches_on.log leaves.log;
+    }
 
 pub returns-clause-settled : goal.returns-clause-settled
 returns-clause-settled g c = λ s level.
     let told = g.L.Sink.items c.conclude.new.log.sink.now in
-    subst (λ n. IfOk c.conclude.result (λ o. MatchOption o ⊥ (λ a. IsSettledBy c.conclude.new.log.formula.now (n + 1) told a))) c.search_on.ensures.conflicts
-    (c.conclude.ensures.at_start (c.in_ok-found.ensures.settled (subst SettledWithRecovered c.conclude.ensures.log.formula s) ∙ level))
+    subst (λ n. IsSettledIn c.conclude.new.log.formula.now n told c.conclude.result) c.search_on.ensures.searches_on.conflicts
+    (c.conclude.ensures.at_start (c.in_ok-found.ensures.settled (subst SettledWithRecovered c.conclude.ensures.leaves.log.formula s) ∙ level))

@@ -7,28 +7,28 @@ use Rattle.cdcl_core.proofs.solving.search.Goals as goal
 pub loop-marks-preserved : goal.loop-marks-preserved
 loop-marks-preserved g c =
     let i = c.loop-marks.invariant in
-    let goes_on = rw c.in_default.is at c.in_ok-outcome.ensures.goes_on in
-    let more = c.in_ok-outcome.ensures.log in
+    let leaves = c.in_ok-outcome.ensures.leaves in
+    let goes_on = rw c.in_default.is at leaves.goes_on in
     let then = c.in_ok-follow_schedule.ensures in
     record {
       goes_on = record {
-        stands = then.stands;
+        stands = then.searches_on.stands;
         unbroken = then.unbroken;
-        fewer = subst (λ n. n < c.args.budget) (sym then.conflicts) goes_on.fewer;
+        fewer = subst (λ n. n < c.args.budget) (sym then.searches_on.conflicts) goes_on.fewer;
       };
-      settled = λ s. absurd (rw c.in_default.is at (c.in_ok-outcome.ensures.settled (subst SettledWithRecovered then.log.formula s) (i.settled (subst SettledWithRecovered (then.log.formula ∙ more.formula) s)).0));
-      clear = c.in_ok-outcome.ensures.clear;
-      log = log_then g.L.Sink g.met.L.Sink.keeps_on _ c.round.new.log _ _ (log_then g.L.Sink g.met.L.Sink.keeps_on _ c.loop-marks.log _ _ i.log more) then.log;
+      settled = λ s. absurd (rw c.in_default.is at (c.in_ok-outcome.ensures.settled (subst SettledWithRecovered then.searches_on.log.formula s) (i.settled (subst SettledWithRecovered (then.searches_on.log.formula ∙ leaves.log.formula) s)).0));
+      clear = leaves.clear;
+      log = log_then g.L.Sink g.met.L.Sink.keeps_on _ c.round.new.log _ _ (log_then g.L.Sink g.met.L.Sink.keeps_on _ c.loop-marks.log _ _ i.log leaves.log) then.searches_on.log;
     }
 
 pub returns-in-Some-clause-settled : goal.returns-in-Some-clause-settled
 returns-in-Some-clause-settled g c s =
-    let i = c.loop-marks.invariant.settled (subst SettledWithRecovered c.in_ok-outcome.ensures.log.formula s) in
+    let i = c.loop-marks.invariant.settled (subst SettledWithRecovered c.in_ok-outcome.ensures.leaves.log.formula s) in
     let told = g.L.Sink.items c.round.new.log.sink.now in
     let h : IsSettledBy c.round.new.log.formula.now (c.loop-marks.state.conflicts + 1) told c.in-Some.outcome = rw c.in-Some.is at (c.in_ok-outcome.ensures.settled s i.0) in
     subst (λ n. IsSettledBy c.round.new.log.formula.now (n + 1) told c.in-Some.outcome) i.1 h
 
 pub returns-in_err-follow_schedule-clause-log : goal.returns-in_err-follow_schedule-clause-log
 returns-in_err-follow_schedule-clause-log g c =
-    let before = log_then g.L.Sink g.met.L.Sink.keeps_on _ c.loop-marks.log _ _ c.loop-marks.invariant.log c.in_ok-outcome.ensures.log in
+    let before = log_then g.L.Sink g.met.L.Sink.keeps_on _ c.loop-marks.log _ _ c.loop-marks.invariant.log c.in_ok-outcome.ensures.leaves.log in
     log_then g.L.Sink g.met.L.Sink.keeps_on _ c.round.new.log _ _ before (search rules)

@@ -1,23 +1,29 @@
-use Rattle.std.proofs.Common.{sym, ap, ◌∙◌, subst, true≢false, arith}
+use Rattle.std.proofs.Common.{List, [], Option, rules, sym, ap, ◌∙◌, subst, true≢false, arith}
 use Rattle.cx_base.specs.Literals.{Literal}
+use Rattle.cx_base.specs.declared.steps.LogEvent.{LogEvent}
 use Rattle.cx_trail.specs.Sequence.{IsOpenIn}
+use Rattle.cdcl_search.specs.Ties.{SearchStands}
 use Rattle.cdcl_search.proofs.Decisions.{reordered_stands, decided_stands, settled_has_no_open, has_room, variables_are_scored}
 use Rattle.cdcl_search.proofs.deciding.decide.Goals as goal
 
-pub returns-in_default-clause-stands : goal.returns-in_default-clause-stands
-returns-in_default-clause-stands g c told stands =
-    reordered_stands c.args.formula.now c.args.state.now (g.P.ParityEngine.state c.args.engine.now) told c.requires.quiet c.pick_from_heap.new.self c.pick_from_heap.ensures.stand stands
+pub returns-in_default-clause-stays : goal.returns-in_default-clause-stays
+returns-in_default-clause-stays g c =
+    let stays = λ (told : Option (List LogEvent)) (stands : SearchStands c.args.formula.now c.args.state.now (g.P.ParityEngine.state c.args.engine.now) [] told).
+    reordered_stands c.args.formula.now c.args.state.now (g.P.ParityEngine.state c.args.engine.now) told c.requires.quiet c.pick_from_heap.new.self c.pick_from_heap.ensures.stand stands in
+    record { stands = stays; unbroken = search rules }
 
 pub push_level-requires-clause-room : goal.push_level-requires-clause-room
 push_level-requires-clause-room g c =
     has_room c.args.formula.now c.args.state.now (g.P.ParityEngine.state c.args.engine.now) c.requires.stands.0 c.requires.quiet c.requires.stands.1
     (λ is. true≢false (sym (c.is_full.ensures.count.1 is) ∙ c.if-is_full.false))
 
-pub returns-clause-stands : goal.returns-clause-stands
-returns-clause-stands g c told stands =
+pub returns-clause-stays : goal.returns-clause-stays
+returns-clause-stays g c =
+    let stays = λ (told : Option (List LogEvent)) (stands : SearchStands c.args.formula.now c.args.state.now (g.P.ParityEngine.state c.args.engine.now) [] told).
     decided_stands c.args.formula.now c.args.state.now (g.P.ParityEngine.state c.args.engine.now) told c.requires.quiet c.requires.units c.pick_from_heap.new.self c.pick_from_heap.ensures.stand c.new.result
     (subst (IsOpenIn c.args.state.now.trail.entries) (ap (λ (l : Literal). l.variable) (sym c.new.ensures)) c.in-Some.ensures.picks.unassigned) c.decide.new.self c.decide.ensures.pushed c.decide.ensures.sound
-    (g.P.ParityEngine.state c.push_level.new.self) c.push_level.ensures stands
+    (g.P.ParityEngine.state c.push_level.new.self) c.push_level.ensures stands in
+    record { stands = stays; unbroken = search rules }
 
 pub returns-clause-settled : goal.returns-clause-settled
 returns-clause-settled g c settled =

@@ -21,17 +21,17 @@ calm_is_not_broken mood is b = cc
 pub rows-init : goal.rows-init
 rows-init g c = record { stands = λ told stands. stands; unbroken = c.requires.unbroken; same = (refl, refl, refl, refl); grows = omega arith }
 
-pub feed-requires-clause-stands : goal.feed-requires-clause-stands
-feed-requires-clause-stands g c = (c.requires.stands.0, c.rows.invariant.stands c.requires.stands.0 c.requires.stands.1)
-
-pub feed-requires-clause-unbroken : goal.feed-requires-clause-unbroken
-feed-requires-clause-unbroken g c = c.rows.invariant.unbroken
+pub feed-requires : goal.feed-requires
+feed-requires g c = record {
+  stands = (c.requires.stands.0, c.rows.invariant.stands c.requires.stands.0 c.requires.stands.1);
+  unbroken = c.rows.invariant.unbroken;
+}
 
 pub follow_rows-requires-clause-stands : goal.follow_rows-requires-clause-stands
-follow_rows-requires-clause-stands g c = (c.requires.stands.0, c.feed.ensures.stands c.requires.stands.0 (c.rows.invariant.stands c.requires.stands.0 c.requires.stands.1))
+follow_rows-requires-clause-stands g c = (c.requires.stands.0, c.feed.ensures.stays.stands c.requires.stands.0 (c.rows.invariant.stands c.requires.stands.0 c.requires.stands.1))
 
 pub returns-in-Quiet-clause-stands : goal.returns-in-Quiet-clause-stands
-returns-in-Quiet-clause-stands g c told stands = c.follow_rows.ensures.stands told (c.feed.ensures.stands told (c.rows.invariant.stands told stands))
+returns-in-Quiet-clause-stands g c told stands = c.follow_rows.ensures.stands told (c.feed.ensures.stays.stands told (c.rows.invariant.stands told stands))
 
 pub returns-in-Quiet-clause-ends : goal.returns-in-Quiet-clause-ends
 returns-in-Quiet-clause-ends g c = calm_is_not_broken _ c.in-Quiet.ensures.says.2
@@ -47,7 +47,7 @@ returns-in-Quiet-clause-grows g c =
     omega (arith, n, b)
 
 pub returns-in-Conflict-clause-stands : goal.returns-in-Conflict-clause-stands
-returns-in-Conflict-clause-stands g c told stands = c.follow_rows.ensures.stands told (c.feed.ensures.stands told (c.rows.invariant.stands told stands))
+returns-in-Conflict-clause-stands g c told stands = c.follow_rows.ensures.stands told (c.feed.ensures.stays.stands told (c.rows.invariant.stands told stands))
 
 pub returns-in-Conflict-clause-ends : goal.returns-in-Conflict-clause-ends
 returns-in-Conflict-clause-ends g c =
@@ -68,7 +68,7 @@ returns-in-Conflict-clause-grows g c =
 pub rows-smaller : goal.rows-smaller
 rows-smaller g c =
     let told = c.requires.stands.0 in
-    let stands = c.follow_rows.ensures.stands told (c.feed.ensures.stands told (c.rows.invariant.stands told c.requires.stands.1)) in
+    let stands = c.follow_rows.ensures.stands told (c.feed.ensures.stays.stands told (c.rows.invariant.stands told c.requires.stands.1)) in
     let short = trail_is_short c.args.formula.now c.follow_rows.new.state (g.P.ParityEngine.state c.follow_rows.new.engine) [] told stands in
     let n = c.in-Implied.ensures.says.0 in
     let m = ap (λ (k : SearchState). length k.trail.entries) c.feed.ensures.given in
@@ -80,7 +80,7 @@ rows-preserved g c =
     let m = ap (λ (k : SearchState). length k.trail.entries) c.feed.ensures.given in
     let b = c.rows.invariant.grows in
     record {
-      stands = λ told stands. c.follow_rows.ensures.stands told (c.feed.ensures.stands told (c.rows.invariant.stands told stands));
+      stands = λ told stands. c.follow_rows.ensures.stands told (c.feed.ensures.stays.stands told (c.rows.invariant.stands told stands));
       unbroken = c.in-Implied.ensures.says.1;
       same = same_by_rows c.args.state.now c.rows.state c.feed.new.state c.follow_rows.new.state c.rows.invariant.same c.feed.ensures.given c.follow_rows.ensures.same;
       grows = omega (arith, n, m, b);

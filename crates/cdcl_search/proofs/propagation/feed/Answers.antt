@@ -1,4 +1,5 @@
-use Rattle.std.proofs.Common.{◌≡◌, ◌≤◌, ◌+◌, sym, ap, ◌∙◌, subst, true, not, [], arith}
+use Rattle.std.proofs.Common.{◌≡◌, ◌≤◌, ◌+◌, sym, ap, ◌∙◌, subst, true, not, List, [], Option, arith}
+use Rattle.cx_base.specs.declared.steps.LogEvent.{LogEvent}
 use Rattle.parity_engine.specs.declared.state.Mood.TheVariants.{Busy, Broken}
 use Rattle.parity_engine.specs.State.{State, assigned, held_at, is_unassigned}
 use Rattle.cdcl_search.specs.Ties.{SearchStands}
@@ -42,15 +43,14 @@ loop-place-preserved g c =
       unbroken = λ b. busy_is_not_broken (sym (ap (λ (u : State). u.mood) is) ∙ b);
     }
 
-pub returns-clause-stands : goal.returns-clause-stands
-returns-clause-stands g c = λ told stands.
+pub returns-clause-stays : goal.returns-clause-stays
+returns-clause-stays g c =
+    let stays = λ (told : Option (List LogEvent)) (stands : SearchStands c.args.formula.now c.args.state.now (g.P.ParityEngine.state c.args.engine.now) [] told).
     let few = few_given c.args.formula.now c.args.state.now (g.P.ParityEngine.state c.args.engine.now) [] told stands in
     let n = c.len-place-end.ensures.len in
     let m = c.len-state.ensures.len in
     let up = c.loop-place.auto.place-end in
     let past = c.loop-place-test.false in
     let all : c.loop-place.place ≡ c.len-state.result = let high = up (omega (arith, few, n)) in omega (arith, n, m, high, past) in
-    subst (λ k. SearchStands c.args.formula.now (record c.args.state.now { given = k }) (g.P.ParityEngine.state c.loop-place.engine) [] told) all (c.loop-place.invariant.stands told stands)
-
-pub returns-clause-unbroken : goal.returns-clause-unbroken
-returns-clause-unbroken g c = c.loop-place.invariant.unbroken
+    subst (λ k. SearchStands c.args.formula.now (record c.args.state.now { given = k }) (g.P.ParityEngine.state c.loop-place.engine) [] told) all (c.loop-place.invariant.stands told stands) in
+    record { stands = stays; unbroken = c.loop-place.invariant.unbroken }

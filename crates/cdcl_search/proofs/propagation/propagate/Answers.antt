@@ -39,20 +39,19 @@ returns-in-Conflict-clause-same g c =
 pub returns-in-Conflict-clause-grows : goal.returns-in-Conflict-clause-grows
 returns-in-Conflict-clause-grows g c = let a = c.follow_clauses.ensures.grows in let b = c.loop-reference.invariant.grows in omega (arith, a, b)
 
-pub feed-requires-clause-stands : goal.feed-requires-clause-stands
-feed-requires-clause-stands g c =
-    (c.requires.stands.0, c.follow_clauses.ensures.stands c.args.formula.now (g.P.ParityEngine.state c.loop-reference.engine) c.requires.stands.0 (c.loop-reference.invariant.stands c.requires.stands.0 c.requires.stands.1))
-
-pub feed-requires-clause-unbroken : goal.feed-requires-clause-unbroken
-feed-requires-clause-unbroken g c = c.loop-reference.invariant.unbroken
+pub feed-requires : goal.feed-requires
+feed-requires g c = record {
+  stands = (c.requires.stands.0, c.follow_clauses.ensures.stands c.args.formula.now (g.P.ParityEngine.state c.loop-reference.engine) c.requires.stands.0 (c.loop-reference.invariant.stands c.requires.stands.0 c.requires.stands.1));
+  unbroken = c.loop-reference.invariant.unbroken;
+}
 
 pub follow_rows-requires-clause-stands : goal.follow_rows-requires-clause-stands
 follow_rows-requires-clause-stands g c =
-    (c.requires.stands.0, c.feed.ensures.stands c.requires.stands.0 (c.follow_clauses.ensures.stands c.args.formula.now (g.P.ParityEngine.state c.loop-reference.engine) c.requires.stands.0 (c.loop-reference.invariant.stands c.requires.stands.0 c.requires.stands.1)))
+    (c.requires.stands.0, c.feed.ensures.stays.stands c.requires.stands.0 (c.follow_clauses.ensures.stands c.args.formula.now (g.P.ParityEngine.state c.loop-reference.engine) c.requires.stands.0 (c.loop-reference.invariant.stands c.requires.stands.0 c.requires.stands.1)))
 
 pub returns-in-Quiet-follow_rows-clause-stands : goal.returns-in-Quiet-follow_rows-clause-stands
 returns-in-Quiet-follow_rows-clause-stands g c told stands =
-    c.follow_rows.ensures.stands told (c.feed.ensures.stands told (c.follow_clauses.ensures.stands c.args.formula.now (g.P.ParityEngine.state c.loop-reference.engine) told (c.loop-reference.invariant.stands told stands)))
+    c.follow_rows.ensures.stands told (c.feed.ensures.stays.stands told (c.follow_clauses.ensures.stands c.args.formula.now (g.P.ParityEngine.state c.loop-reference.engine) told (c.loop-reference.invariant.stands told stands)))
 
 pub returns-in-Quiet-follow_rows-clause-finds : goal.returns-in-Quiet-follow_rows-clause-finds
 returns-in-Quiet-follow_rows-clause-finds g c =
@@ -75,18 +74,18 @@ returns-in-Quiet-follow_rows-clause-grows g c =
     omega (arith, n, a, b)
 
 -- the trail is longer once the rows have implied something
-pub empty_rows-requires-clause-stands : goal.empty_rows-requires-clause-stands
-empty_rows-requires-clause-stands g c =
+pub empty_rows-requires : goal.empty_rows-requires
+empty_rows-requires g c =
     let told = c.requires.stands.0 in
-    (told, c.follow_rows.ensures.stands told (c.feed.ensures.stands told (c.follow_clauses.ensures.stands c.args.formula.now (g.P.ParityEngine.state c.loop-reference.engine) told (c.loop-reference.invariant.stands told c.requires.stands.1))))
-
-pub empty_rows-requires-clause-unbroken : goal.empty_rows-requires-clause-unbroken
-empty_rows-requires-clause-unbroken g c = c.in-Implied.ensures.says.1
+    record {
+      stands = (told, c.follow_rows.ensures.stands told (c.feed.ensures.stays.stands told (c.follow_clauses.ensures.stands c.args.formula.now (g.P.ParityEngine.state c.loop-reference.engine) told (c.loop-reference.invariant.stands told c.requires.stands.1))));
+      unbroken = c.in-Implied.ensures.says.1;
+    }
 
 pub loop-reference-smaller : goal.loop-reference-smaller
 loop-reference-smaller g c =
     let told = c.requires.stands.0 in
-    let stands = c.empty_rows.ensures.stands told (c.follow_rows.ensures.stands told (c.feed.ensures.stands told (c.follow_clauses.ensures.stands c.args.formula.now (g.P.ParityEngine.state c.loop-reference.engine) told (c.loop-reference.invariant.stands told c.requires.stands.1)))) in
+    let stands = c.empty_rows.ensures.stands told (c.follow_rows.ensures.stands told (c.feed.ensures.stays.stands told (c.follow_clauses.ensures.stands c.args.formula.now (g.P.ParityEngine.state c.loop-reference.engine) told (c.loop-reference.invariant.stands told c.requires.stands.1)))) in
     let short = trail_is_short c.args.formula.now c.empty_rows.new.state (g.P.ParityEngine.state c.empty_rows.new.engine) [] told stands in
     let n = c.in-Implied.ensures.says.0 in
     let m = ap (λ (k : SearchState). length k.trail.entries) c.feed.ensures.given in
@@ -102,7 +101,7 @@ loop-reference-preserved g c =
     let b = c.loop-reference.invariant.grows in
     let r = c.empty_rows.ensures.grows in
     record {
-      stands = λ told stands. c.empty_rows.ensures.stands told (c.follow_rows.ensures.stands told (c.feed.ensures.stands told (c.follow_clauses.ensures.stands c.args.formula.now (g.P.ParityEngine.state c.loop-reference.engine) told (c.loop-reference.invariant.stands told stands))));
+      stands = λ told stands. c.empty_rows.ensures.stands told (c.follow_rows.ensures.stands told (c.feed.ensures.stays.stands told (c.follow_clauses.ensures.stands c.args.formula.now (g.P.ParityEngine.state c.loop-reference.engine) told (c.loop-reference.invariant.stands told stands))));
       unbroken = c.in-None.ensures.ends;
       same = same_then c.args.state.now c.follow_rows.new.state c.empty_rows.new.state (same_by_all c.args.state.now c.loop-reference.state c.follow_clauses.new.state c.feed.new.state c.follow_rows.new.state c.loop-reference.invariant.same c.follow_clauses.ensures.same c.feed.ensures.given c.follow_rows.ensures.same) c.empty_rows.ensures.same;
       grows = omega (arith, n, m, a, b, r);
@@ -110,7 +109,7 @@ loop-reference-preserved g c =
 
 pub returns-in-Some-clause-stands : goal.returns-in-Some-clause-stands
 returns-in-Some-clause-stands g c told stands =
-    c.empty_rows.ensures.stands told (c.follow_rows.ensures.stands told (c.feed.ensures.stands told (c.follow_clauses.ensures.stands c.args.formula.now (g.P.ParityEngine.state c.loop-reference.engine) told (c.loop-reference.invariant.stands told stands))))
+    c.empty_rows.ensures.stands told (c.follow_rows.ensures.stands told (c.feed.ensures.stays.stands told (c.follow_clauses.ensures.stands c.args.formula.now (g.P.ParityEngine.state c.loop-reference.engine) told (c.loop-reference.invariant.stands told stands))))
 
 pub returns-in-Some-clause-finds : goal.returns-in-Some-clause-finds
 returns-in-Some-clause-finds g c = c.in-Some.ensures.ends
@@ -131,7 +130,7 @@ returns-in-Some-clause-grows g c =
 pub returns-in-Conflict-follow_rows-clause-stands :
     goal.returns-in-Conflict-follow_rows-clause-stands
 returns-in-Conflict-follow_rows-clause-stands g c told stands =
-    c.follow_rows.ensures.stands told (c.feed.ensures.stands told (c.follow_clauses.ensures.stands c.args.formula.now (g.P.ParityEngine.state c.loop-reference.engine) told (c.loop-reference.invariant.stands told stands)))
+    c.follow_rows.ensures.stands told (c.feed.ensures.stays.stands told (c.follow_clauses.ensures.stands c.args.formula.now (g.P.ParityEngine.state c.loop-reference.engine) told (c.loop-reference.invariant.stands told stands)))
 
 pub returns-in-Conflict-follow_rows-clause-finds : goal.returns-in-Conflict-follow_rows-clause-finds
 returns-in-Conflict-follow_rows-clause-finds g c =

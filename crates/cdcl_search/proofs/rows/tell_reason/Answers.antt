@@ -9,22 +9,21 @@ use Rattle.cdcl_search.proofs.rows.tell_reason.Goals as goal
 pub tell_steps-requires-clause-right : goal.tell_steps-requires-clause-right
 tell_steps-requires-clause-right g c = left_now c.args.log.now.formula.now c.args.state.now (g.P.ParityEngine.state c.args.engine.now) _ _
     (stands_then c.args.log.now.formula.now c.args.state.now (g.P.ParityEngine.state c.args.engine.now) c.args.rows.now.items (g.L.Sink.items c.args.log.now.sink.now) c.requires.stands
-    c.args.reason c.requires.explains c.in_ok-prepared.ensures.parity c.in_ok-prepared.ensures.back c.requires.some c.requires.room (as_events c.in_ok-prepared.prepared.steps.items) c.deref.result.now c.deref.ensures.value c.in_ok-prepared.ensures.steps _ refl)
+    c.args.reason c.requires.explains c.in_ok-prepared.ensures.row.parity c.in_ok-prepared.ensures.row.clause c.requires.some c.requires.room (as_events c.in_ok-prepared.prepared.steps.items) c.deref.result.now c.deref.ensures.value c.in_ok-prepared.ensures.row.are.are _ refl)
 
-pub returns-clause-stands : goal.returns-clause-stands
-returns-clause-stands g c = holds_told (λ formula told. SearchStands formula c.args.state.now (g.P.ParityEngine.state c.args.engine.now) (c.args.rows.now.items ++ c.args.reason.clause ∷ []) told) (as_events c.in_ok-prepared.prepared.steps.items) g.L.Sink c.args.log.now _ c.tell_steps.new.log c.tell_steps.ensures.log c.in_ok-tell_steps.ensures.told
+pub returns-clause-stands_on : goal.returns-clause-stands_on
+returns-clause-stands_on g c =
+    let stands = holds_told (λ formula told. SearchStands formula c.args.state.now (g.P.ParityEngine.state c.args.engine.now) (c.args.rows.now.items ++ c.args.reason.clause ∷ []) told) (as_events c.in_ok-prepared.prepared.steps.items) g.L.Sink c.args.log.now _ c.tell_steps.new.log c.tell_steps.ensures.log c.in_ok-tell_steps.ensures.told
     (stands_then c.args.log.now.formula.now c.args.state.now (g.P.ParityEngine.state c.args.engine.now) c.args.rows.now.items (g.L.Sink.items c.args.log.now.sink.now) c.requires.stands
-    c.args.reason c.requires.explains c.in_ok-prepared.ensures.parity c.in_ok-prepared.ensures.back c.requires.some c.requires.room (as_events c.in_ok-prepared.prepared.steps.items) c.deref.result.now c.deref.ensures.value c.in_ok-prepared.ensures.steps _ refl)
+    c.args.reason c.requires.explains c.in_ok-prepared.ensures.row.parity c.in_ok-prepared.ensures.row.clause c.requires.some c.requires.room (as_events c.in_ok-prepared.prepared.steps.items) c.deref.result.now c.deref.ensures.value c.in_ok-prepared.ensures.row.are.are _ refl) in
+    record { stands = stands; log = c.in_ok-tell_steps.ensures.log }
 
-pub prepare_next-requires-clause-constraints : goal.prepare_next-requires-clause-constraints
-prepare_next-requires-clause-constraints g c = c.requires.stands.3.ids.few
-
-pub prepare_next-requires-clause-rows : goal.prepare_next-requires-clause-rows
-prepare_next-requires-clause-rows g c =
+pub prepare-requires-clause-few : goal.prepare-requires-clause-few
+prepare-requires-clause-few g c =
     let same = ap length c.deref.ensures.value in
     let room = c.requires.room in
     let few = variables_are_few c.args.log.now.formula.now c.args.state.now (g.P.ParityEngine.state c.args.engine.now) c.args.rows.now.items c.requires.stands.0 c.requires.stands.3 in
-    omega (arith, same, room, few)
+    record { constraints_few = c.requires.stands.3.ids.few; rows_few = omega (arith, same, room, few) }
 
-pub prepare_next-requires-clause-sources : goal.prepare_next-requires-clause-sources
-prepare_next-requires-clause-sources g c = (length (g.P.ParityEngine.state c.args.engine.now).parities, c.requires.stands.3.engine.few, c.requires.explains.numbers)
+pub prepare-requires-clause-sources : goal.prepare-requires-clause-sources
+prepare-requires-clause-sources g c = (length (g.P.ParityEngine.state c.args.engine.now).parities, c.requires.stands.3.engine.few, c.requires.explains.numbers)

@@ -1,5 +1,6 @@
+use Rattle.std.proofs.Common.{refl}
 use Rattle.cdcl_search.proofs.StepTexts.{chained_text}
 use Rattle.cdcl_search.proofs.steps.chained.Goals as goal
 
-pub returns-clause-text : goal.returns-clause-text
-returns-clause-text c = chained_text c.args.id c.args.lits c.args.hints c.requires c.as_slice.ensures.proper c.as_slice-2.ensures.proper
+pub returns : goal.returns
+returns c = record { is = refl; text = chained_text c.args.id c.args.lits c.args.hints c.requires c.as_slice.ensures.proper c.as_slice-2.ensures.proper }

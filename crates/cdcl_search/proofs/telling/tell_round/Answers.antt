@@ -1,8 +1,8 @@
 use Rattle.std.proofs.Common.{refl, ◌∷◌}
 use Rattle.cx_base.specs.declared.steps.LogEvent.TheVariants.{Conflict}
 use Rattle.cdcl_search.specs.Tells.{as_events}
-use Rattle.cdcl_search.proofs.LogFronts.{goes_on_by, tellable_are_low}
+use Rattle.cdcl_search.proofs.LogFronts.{tells_by, tellable_are_low}
 use Rattle.cdcl_search.proofs.telling.tell_round.Goals as goal
 
-pub returns-clause-log : goal.returns-clause-log
-returns-clause-log g c = goes_on_by g.L.Sink c.args.log.now _ (Conflict c.args.number ∷ as_events c.args.steps.items) c.tell_marked.result c.tell_marked.ensures.told c.tell_marked.ensures.faults c.tell_marked.ensures.frame c.requires.right (tt, tellable_are_low c.args.steps.items c.requires.texts) refl refl
+pub returns : goal.returns
+returns g c = tells_by g.L.Sink c.args.log.now _ (Conflict c.args.number ∷ as_events c.args.steps.items) c.tell_marked.result c.tell_marked.ensures c.requires.right (tt, tellable_are_low c.args.steps.items c.requires.texts) refl refl

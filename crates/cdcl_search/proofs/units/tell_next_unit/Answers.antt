@@ -14,7 +14,7 @@ clause_of_reason-requires-clause-room g c = let none = ap length c.new-rows.ensu
 
 pub tell_unit-requires-clause-stands : goal.tell_unit-requires-clause-stands
 tell_unit-requires-clause-stands g c =
-    subst (λ rows. SearchStands c.clause_of_reason.new.log.formula.now c.args.state.now (g.P.ParityEngine.state c.args.engine.now) rows (g.L.Sink.items c.clause_of_reason.new.log.sink.now)) (sym c.deref.ensures.value) c.in_ok-implying.ensures.stands
+    subst (λ rows. SearchStands c.clause_of_reason.new.log.formula.now c.args.state.now (g.P.ParityEngine.state c.args.engine.now) rows (g.L.Sink.items c.clause_of_reason.new.log.sink.now)) (sym c.deref.ensures.value) c.in_ok-implying.ensures.stands_on.stands
 
 pub tell_unit-requires-clause-next : goal.tell_unit-requires-clause-next
 tell_unit-requires-clause-next g c =
@@ -29,11 +29,13 @@ tell_unit-requires-clause-next g c =
 
 pub delete_rows-requires : goal.delete_rows-requires
 delete_rows-requires g c =
-    subst (λ rows. SearchStands c.tell_unit.new.log.formula.now c.tell_unit.new.state (g.P.ParityEngine.state c.args.engine.now) rows (g.L.Sink.items c.tell_unit.new.log.sink.now)) (c.deref.ensures.value ∙ sym c.deref-2.ensures.value) c.in_ok-tell_unit.ensures.stands
+    subst (λ rows. SearchStands c.tell_unit.new.log.formula.now c.tell_unit.new.state (g.P.ParityEngine.state c.args.engine.now) rows (g.L.Sink.items c.tell_unit.new.log.sink.now)) (c.deref.ensures.value ∙ sym c.deref-2.ensures.value) c.in_ok-tell_unit.ensures.stands_on.stands
 
-pub returns-in_err-tell_unit-clause-log : goal.returns-in_err-tell_unit-clause-log
-returns-in_err-tell_unit-clause-log g c = log_then g.L.Sink g.met.L.Sink.keeps_on _ c.clause_of_reason.new.log _ _ c.in_ok-implying.ensures.log (search rules)
+pub returns-in_err-tell_unit-clause-stands_on : goal.returns-in_err-tell_unit-clause-stands_on
+returns-in_err-tell_unit-clause-stands_on g c = record { stands = search rules; log = log_then g.L.Sink g.met.L.Sink.keeps_on _ c.clause_of_reason.new.log _ _ c.in_ok-implying.ensures.stands_on.log (search rules) }
 
-pub returns-clause-log : goal.returns-clause-log
-returns-clause-log g c =
-    log_then g.L.Sink g.met.L.Sink.keeps_on _ c.tell_unit.new.log _ _ (log_then g.L.Sink g.met.L.Sink.keeps_on _ c.clause_of_reason.new.log _ _ c.in_ok-implying.ensures.log c.in_ok-tell_unit.ensures.log) c.delete_rows.ensures.log
+pub returns-clause-stands_on : goal.returns-clause-stands_on
+returns-clause-stands_on g c = record {
+  stands = c.delete_rows.ensures.stands;
+  log = log_then g.L.Sink g.met.L.Sink.keeps_on _ c.tell_unit.new.log _ _ (log_then g.L.Sink g.met.L.Sink.keeps_on _ c.clause_of_reason.new.log _ _ c.in_ok-implying.ensures.stands_on.log c.in_ok-tell_unit.ensures.stands_on.log) c.delete_rows.ensures.log;
+}

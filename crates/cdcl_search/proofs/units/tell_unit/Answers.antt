@@ -21,9 +21,10 @@ tell_chained-requires-clause-right g c =
     left_then c.args.log.now.formula.now c.args.state.now (g.P.ParityEngine.state c.args.engine.now) c.args.rows.now (g.L.Sink.items c.args.log.now.sink.now) c.requires.stands
     c.requires.level c.args.literal c.args.implying.now.lits c.requires.next (next_is_low c.args.log.now.formula.now c.args.state.now (g.P.ParityEngine.state c.args.engine.now) c.args.rows.now c.requires.stands.0 c.requires.stands.3) c.in_ok-hints.hints
 
-pub returns-clause-stands : goal.returns-clause-stands
-returns-clause-stands g c =
-    subst (λ f. SearchStands f (with_unit c.args.state.now c.push.new.self (c.args.state.now.next + 1)) (g.P.ParityEngine.state c.args.engine.now) c.args.rows.now (g.L.Sink.items c.tell_chained.new.log.sink.now)) (sym c.tell_chained.ensures.log.formula)
+pub returns-clause-stands_on : goal.returns-clause-stands_on
+returns-clause-stands_on g c =
+    let stands = subst (λ f. SearchStands f (with_unit c.args.state.now c.push.new.self (c.args.state.now.next + 1)) (g.P.ParityEngine.state c.args.engine.now) c.args.rows.now (g.L.Sink.items c.tell_chained.new.log.sink.now)) (sym c.tell_chained.ensures.log.formula)
     (stands_then c.args.log.now.formula.now c.args.state.now (g.P.ParityEngine.state c.args.engine.now) c.args.rows.now (g.L.Sink.items c.args.log.now.sink.now) c.requires.stands
     c.requires.level c.args.literal c.args.implying.now.lits c.requires.next (next_is_low c.args.log.now.formula.now c.args.state.now (g.P.ParityEngine.state c.args.engine.now) c.args.rows.now c.requires.stands.0 c.requires.stands.3) c.in_ok-hints.hints
-    (g.L.Sink.items c.tell_chained.new.log.sink.now) c.in_ok-tell_chained.ensures.told c.push.new.self c.in_ok-push.ensures.items (c.args.state.now.next + 1) refl)
+    (g.L.Sink.items c.tell_chained.new.log.sink.now) c.in_ok-tell_chained.ensures.told c.push.new.self c.in_ok-push.ensures.items (c.args.state.now.next + 1) refl) in
+    record { stands = stands; log = c.in_ok-tell_chained.ensures.log }

@@ -2,7 +2,7 @@ use Rattle.std.proofs.Common.{sym, subst, ◌≤◌}
 use Rattle.std.specs.List.{All}
 use Rattle.cdcl_search.proofs.LowIds.{has_ids, next_is_low}
 use Rattle.cdcl_core.proofs.EndingLaws.{conflict_is_low, conflict_is_refutable}
-use Rattle.cdcl_core.proofs.ending.end_by_clause.Goals as goal
+use Rattle.cdcl_core.proofs.ending.end.Goals as goal
 
 pub refute-requires-clause-known : goal.refute-requires-clause-known
 refute-requires-clause-known g c = subst (All (λ m. m.variable ≤ c.args.state.now.trail.variables)) (sym c.as_slice.ensures)

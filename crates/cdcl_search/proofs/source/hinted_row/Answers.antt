@@ -1,0 +1,32 @@
+use Rattle.std.proofs.Common.{sym, subst}
+use Rattle.conflict_learn.specs.Learning.{IsAntecedent}
+use Rattle.cdcl_search.specs.Ties.{SearchStands}
+use Rattle.cdcl_search.proofs.RowReasons.{is_named, all_assigned, gives_literal, explains, has_some, is_antecedent}
+use Rattle.cdcl_search.proofs.source.hinted_row.Goals as goal
+
+pub reason_clause-requires-clause-named : goal.reason_clause-requires-clause-named
+reason_clause-requires-clause-named g c = is_named c.args.state.now.trail (g.P.ParityEngine.state c.args.engine.now) c.args.literal c.args.row c.requires.reason
+
+pub reason_clause-requires-clause-assigned : goal.reason_clause-requires-clause-assigned
+reason_clause-requires-clause-assigned g c = all_assigned c.args.state.now.trail (g.P.ParityEngine.state c.args.engine.now) c.args.literal c.args.row c.requires.reason
+
+pub reason_clause-requires-clause-kind : goal.reason_clause-requires-clause-kind
+reason_clause-requires-clause-kind g c = gives_literal c.args.state.now.trail (g.P.ParityEngine.state c.args.engine.now) c.args.literal c.args.row c.requires.reason
+
+pub tell_reason-requires-clause-explains : goal.tell_reason-requires-clause-explains
+tell_reason-requires-clause-explains g c = explains c.args.state.now.trail (g.P.ParityEngine.state c.args.engine.now) c.args.literal c.args.row c.requires.reason c.in_ok-reason.reason
+    c.in_ok-reason.ensures.parity c.in_ok-reason.ensures.numbers c.in_ok-reason.ensures.sum c.in_ok-reason.ensures.clause
+
+pub tell_reason-requires-clause-some : goal.tell_reason-requires-clause-some
+tell_reason-requires-clause-some g c = has_some c.args.state.now.trail (g.P.ParityEngine.state c.args.engine.now) c.args.literal c.args.row c.requires.reason c.in_ok-reason.reason
+    c.in_ok-reason.ensures.parity c.in_ok-reason.ensures.numbers c.in_ok-reason.ensures.sum c.in_ok-reason.ensures.clause
+
+pub returns-in-Ok-clause-implied : goal.returns-in-Ok-clause-implied
+returns-in-Ok-clause-implied g c = subst (IsAntecedent c.args.state.now.trail c.args.literal) (sym c.in-Ok.ensures.clause)
+    (is_antecedent c.args.state.now.trail (g.P.ParityEngine.state c.args.engine.now) c.args.literal c.args.row c.requires.reason c.in_ok-reason.reason
+    c.in_ok-reason.ensures.parity c.in_ok-reason.ensures.numbers c.in_ok-reason.ensures.sum c.in_ok-reason.ensures.clause c.requires.stands.3.trail.follows.sound)
+
+pub returns-in-Ok-clause-stands_on : goal.returns-in-Ok-clause-stands_on
+returns-in-Ok-clause-stands_on g c =
+    let stands = subst (λ rows. SearchStands c.tell_reason.new.log.formula.now c.args.state.now (g.P.ParityEngine.state c.args.engine.now) rows (g.L.Sink.items c.tell_reason.new.log.sink.now)) (sym c.in-Ok.ensures.rows) c.in-Ok.ensures.stands_on.stands in
+    record { stands = stands; log = c.in-Ok.ensures.stands_on.log }

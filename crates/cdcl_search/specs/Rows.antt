@@ -1,0 +1,42 @@
+-- The steps of a row.
+use Rattle.std.specs.Prelude.{◌≡◌, ℕ, ◌+◌, ◌≤◌, ℤ, List, [], ◌∷◌, length}
+use Rattle.cx_base.specs.Literals.{Literal}
+use Rattle.cx_base.specs.declared.constraint.Constraint.{Constraint}
+use Rattle.cx_base.specs.Integers.{integers_of, literals}
+use Rattle.cx_base.specs.declared.steps.LogEvent.{LogEvent}
+use Rattle.cx_base.specs.declared.steps.LogEvent.TheVariants.{Step}
+use Rattle.cx_base.specs.declared.steps.LogStep.{LogStep}
+use Rattle.cx_base.specs.declared.steps.LogStep.TheVariants.{Parity, ClauseOfParity}
+use Rattle.xor_reason.specs.declared.reason.ReasonOf.{ReasonOf}
+use Rattle.search_steps.specs.LogSteps.{row_events}
+use Rattle.cdcl_search.specs.Tells.{IsId, AreStepsOf}
+use Rattle.cdcl_search.specs.Ties.{first_row_id}
+use Rattle.cdcl_search.specs.declared.rows.RowIds.{RowIds}
+use Rattle.cdcl_search.specs.declared.rows.Prepared.{Prepared}
+
+-- so few constraints, and clauses of rows since the last mark, that the next row has ids
+pub record AreFew (constraints : List Constraint) (rows : List (List Literal)) : Type 0 where
+  pub constraints_few : length constraints ≤ 4294967295
+  pub rows_few : length rows ≤ 16777215
+
+-- the ids of the next row, behind so many constraints and so many clauses of rows
+pub record AreNextIds (constraints rows : ℕ) (ids : RowIds) : Type 0 where
+  pub sum : ids.sum ≡ constraints + 1
+  pub clause : ids.clause ≡ first_row_id + rows
+  pub proper : IsId ids.sum × IsId ids.clause
+
+-- the sum of a row and its clause, under these ids
+abbrev pub sum_and_clause_events : ℕ → List ℤ → List ℕ → ℕ → List ℤ → List LogEvent
+sum_and_clause_events k parity sources n clause = Step (Parity k parity sources) ∷ Step (ClauseOfParity n clause k) ∷ []
+
+-- the steps of these events; the integers of the row's parity and of its clause stand for their literals
+pub record AreRowSteps (events : List LogEvent) (parity_lits clause_lits : List Literal) (steps : List LogStep) : Type 0 where
+  pub are : AreStepsOf events steps
+  pub parity : literals (integers_of parity_lits) ≡ parity_lits
+  pub clause : literals (integers_of clause_lits) ≡ clause_lits
+
+-- the steps of the next row and its clause, twice
+pub record IsPrepared (constraints rows : ℕ) (reason : ReasonOf) (p : Prepared) : Type 0 where
+  pub row : AreRowSteps (row_events (constraints + 1) (integers_of reason.parity) reason.sources (first_row_id + rows) (integers_of reason.clause)) reason.parity reason.clause p.steps.items
+  pub clause : p.clause ≡ reason.clause
+  pub copy : p.copy ≡ reason.clause
