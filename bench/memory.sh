@@ -1,0 +1,55 @@
+#!/usr/bin/env bash
+# Measures the memory of a search beside that of its live clauses, on one random formula of clauses of three literals.
+# usage: bench/memory.sh [CONFLICTS [VARIABLES [SEED]]]     (1,000,000 conflicts, 300 variables, seed 1)
+# A small program searches without keeping its log; how many clauses and literals are live at the end is told by the log that
+# `cxsat solve` writes of the same search. A live clause takes 4 bytes a literal and CLAUSE_BYTES beside: its head in the
+# arena (24), its id among them, and its two nodes in the watch lists (19).
+# The program is proved, built and run in a folder of its own; it takes long where nothing was proved before.
+set -euo pipefail
+source "$(dirname "$0")/common.sh"
+need /usr/bin/time
+build
+conflicts=${1:-1000000} vars=${2:-300} seed=${3:-1}
+clause_bytes=43
+mkdir -p "$work/crates"
+crates=$(cd "$here/../crates" && for crate in */; do case $crate in *_tests/ | cxsat/ | solve_cli/) ;; *) echo "${crate%/}" ;; esac; done)
+for crate in $crates; do
+    mkdir "$work/crates/$crate"
+    cp -r "$here/../crates/$crate/"{src,specs,proofs} "$work/crates/$crate/"
+    grep "^$crate:" "$here/../crates.txt" | head -n 1 >> "$work/crates.txt"
+done
+echo 'search_memory: cx_base cnfx_reader log_text gauss_incremental cdcl_core' >> "$work/crates.txt"
+lay_out search_memory "$work/crates/search_memory"
+clauses=$((vars * 426 / 100))
+awk -v seed="$seed" -v clauses="$clauses" -v vars="$vars" -f "$here/make_clauses.awk" > "$work/formula"
+cd "$work/crates/search_memory"
+if ! rt run -- "$work/formula" 1 > "$work/run.log" 2>&1; then
+    cat "$work/run.log" >&2
+    exit 1
+fi
+
+# The live clauses and their literals behind the first so many conflicts, by the log.
+live() {
+    "$program" solve "$work/formula" --conflicts "$1" --proof "$work/log" > "$work/answer" || true
+    awk '
+        $1 == "o" || $1 == "a" {
+            n = 0
+            for (i = 3; $i != 0; i++) n++
+            if (!($2 in length_of)) clauses++
+            else literals -= length_of[$2]
+            length_of[$2] = n
+            literals += n
+        }
+        $1 == "d" && ($2 in length_of) { clauses--; literals -= length_of[$2]; delete length_of[$2] }
+        END { print clauses, literals }' "$work/log"
+}
+
+for count in $((conflicts / 10)) "$conflicts"; do
+    /usr/bin/time -f '%M %U' -o "$work/time" out/search_memory "$work/formula" "$count" > "$work/answer"
+    read -r memory taken < <(tail -n 1 "$work/time")
+    read -r alive literals < <(live "$count")
+    own=$(awk -v c="$alive" -v l="$literals" -v b="$clause_bytes" 'BEGIN { printf "%.1f", (c * b + l * 4) / 1e6 }')
+    row 'memory of a search' "$vars variables, $count conflicts: $(cat "$work/answer"), $taken s" \
+        "$(awk -v m="$memory" 'BEGIN { printf "%.1f MB", m / 1000 }')" "$alive live clauses of $literals literals: $own MB" \
+        "$(awk -v m="$memory" -v own="$own" 'BEGIN { printf "%.2f", m / 1000 / own }')"
+done
