@@ -4,8 +4,10 @@ pub mod Evaluate
 pub mod EventSteps
 pub mod Forms
 pub mod Grammars
+pub mod LaterPlaces
 pub mod Lines
 pub mod LogSteps
+pub mod PieceLaws
 pub mod PrintedLogs
 pub mod PrintedProofs
 pub mod PrintedWords

@@ -15,7 +15,7 @@ blank_comment n b line h = ap (λ x. cond x (begins_with 99 line) (b == 99)) h
 pub blank_tokens : (n b : ℕ) (line : Line) → is_blank b ≡ true → tokens_of_line ((n, b) ∷ line) ≡ tokens_of_line line
 blank_tokens n b line h = ap (λ x. filter_map token_of (cond x ([] ∷ slice_split (λ c. is_blank c.1) line) (onto_first (n, b) (slice_split (λ c. is_blank c.1) line)))) h
 
-blank_first : (n b : ℕ) (lines : List Line) → is_blank b ≡ true → tokens_of_lines (onto_first (n, b) lines) ≡ tokens_of_lines lines
+pub blank_first : (n b : ℕ) (lines : List Line) → is_blank b ≡ true → tokens_of_lines (onto_first (n, b) lines) ≡ tokens_of_lines lines
 blank_first n b [] h = ap (λ x. flat_map tokens_of_line (cond (not x) (((n, b) ∷ []) ∷ []) [])) (blank_comment n b [] h) ∙ ap (λ x. x ++ []) (blank_tokens n b [] h)
 blank_first n b (line ∷ lines) h =
     ap (λ x. flat_map tokens_of_line (cond (not x) (((n, b) ∷ line) ∷ filter (λ l. not (is_comment l)) lines) (filter (λ l. not (is_comment l)) lines))) (blank_comment n b line h)

@@ -8,3 +8,4 @@ pub mod ProofText
 pub mod Tokens
 pub mod Words
 pub mod Laws
+pub mod Pieces

@@ -4,8 +4,10 @@
 
 mod integer;
 mod laws;
+mod line_state;
 mod natural;
 mod offence;
+mod pieces;
 mod textual;
 mod token_reader;
 
@@ -14,7 +16,9 @@ pub use laws::{
     events_give_steps, events_read_in_one_way, formulas_read_in_one_way, logs_read_in_one_way,
     printed_logs_read, printed_proofs_read, proofs_read_in_one_way,
 };
+pub use line_state::LineState;
 pub use natural::{is_digit_byte, read_natural};
 pub use offence::Offence;
+pub use pieces::{PlaceIn, pass_blanks, whole_front};
 pub use textual::Textual;
 pub use token_reader::{TokenAt, TokenReader, is_blank_byte, line_end};

@@ -1,5 +1,5 @@
 //! The tokens of a text, one after another: the plain program of their definition.
-ghost use Rattle.std.specs.Prelude.{false, IfSome, IfNone, slice_index, ◌≡◌, ◌≤◌, ◌<◌, ◌+◌, ◌-◌, List, [], ◌∷◌, length, drop, take, MatchOption, IsTrue, IsFalse, ◌↔◌};
+ghost use Rattle.std.specs.Prelude.{false, IfSome, IfNone, slice_index, ◌≡◌, ◌≤◌, ◌<◌, ◌+◌, ◌-◌, ◌^◌, List, [], ◌∷◌, length, drop, take, MatchOption, IsTrue, IsFalse, ◌↔◌};
 ghost use Rattle.cx_texts.specs.Tokens.{Token, is_blank, tokens_from, tokens_within, tokens_left, NoBlank, EndsRun, SkipsLine};
 
 use memchr::memchr;
@@ -16,19 +16,21 @@ pub struct TokenAt<'a> {
 #[derive(Drop)]
 pub struct TokenReader<'a> {
     text: &'a [u8],
+    // the place of the first byte in the whole text
+    from: usize,
     at: usize,
     in_line: bool,
 }
 
 impl<'a> Model for TokenReader<'a> {
-    ghost use Rattle.std.specs.Prelude.{List, length, drop, ◌≤◌};
+    ghost use Rattle.std.specs.Prelude.{List, length, drop, ◌≤◌, ◌<◌, ◌+◌, ◌^◌};
     ghost use Rattle.cx_texts.specs.Tokens.{Token, tokens_left};
 
     ghost Value = { List Token };
 
-    ghost view = { λ r. tokens_left r.in_line r.at (drop r.at r.text.now) };
+    ghost view = { λ r. tokens_left r.in_line (r.from + r.at) (drop r.at r.text.now) };
 
-    ghost invariant = { λ r. r.at ≤ length r.text.now };
+    ghost invariant = { λ r. (r.at ≤ length r.text.now) × (r.from + length r.text.now < 2 ^ 64) };
 }
 
 /// Whether the byte is a space, a tab, CR or LF.
@@ -123,8 +125,22 @@ impl<'a> TokenReader<'a> {
     {
         TokenReader {
             text,
+            from: 0,
             at: 0,
             in_line: false,
+        }
+    }
+
+    /// The tokens of a part of a text that begins at this place, within a kept line.
+    pub fn within(text: &'a [u8], place: usize) -> TokenReader<'a>
+        requires { place + length text.now < 2 ^ 64 }
+        ensures { result ≡ tokens_within place text.now }
+    {
+        TokenReader {
+            text,
+            from: place,
+            at: 0,
+            in_line: true,
         }
     }
 
@@ -145,7 +161,7 @@ impl<'a> TokenReader<'a> {
         self.in_line = true;
         if place < end {
             Some(TokenAt {
-                place,
+                place: self.from + place,
                 text: &text[place..end],
             })
         } else {
