@@ -1,8 +1,11 @@
+pub mod AnswerLaws
 pub mod Choices
 pub mod Given
 pub mod Places
 pub mod Puts
 pub mod ReadingLaws
+pub mod SlotLaws
+pub mod SlotSteps
 pub mod StepIntegers
 pub mod Taken
 pub mod TakingLaws

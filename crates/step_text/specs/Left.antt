@@ -18,7 +18,7 @@ some_ending TooLong = (finished, tt)
 some_ending Memory = (finished, tt)
 some_ending Failed = (finished, tt)
 
-left_of : {S : Type 0} (g : Grammar S) (all : Forms g) (tokens : List Token) (size : ℕ) (refused : Option TextRefusal) → (steps : List S) × (ending : Ending) × LeftOf g tokens size refused steps ending
+pub left_of : {S : Type 0} (g : Grammar S) (all : Forms g) (tokens : List Token) (size : ℕ) (refused : Option TextRefusal) → (steps : List S) × (ending : Ending) × LeftOf g tokens size refused steps ending
 left_of g all tokens size None = reading_of g all size (placed_words tokens)
 left_of g all tokens size (Some refusal) = let e = some_ending refusal in ([], e.0, (refl, e.1))
 

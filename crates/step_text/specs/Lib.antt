@@ -1,9 +1,14 @@
 pub mod Ahead
+pub mod AheadRefusals
+pub mod Found
 pub mod Heads
 pub mod Left
 pub mod Reading
 pub mod Seen
 pub mod Sinks
+pub mod SlotAnswers
+pub mod SlotLeft
+pub mod Slots
 pub mod Sources
 pub mod Spaced
 pub mod Taking

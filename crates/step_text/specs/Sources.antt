@@ -65,16 +65,17 @@ abbrev pub StuckAs : {T : Type 0} → Option TextRefusal → Result T TextRefusa
 StuckAs (Some refusal) answer now = (answer ≡ Err refusal) × (now ≡ Some refusal)
 StuckAs None answer now = now ≡ lasting_of answer
 
--- a text is too long only where the source tells so, and there its end never comes
-abbrev pub IsTooLongOnly : {S : Type 0} → Type 0 → Result (Option S) TextRefusal → Type 0
-IsTooLongOnly Passes (Ok (Some step)) = ⊤
-IsTooLongOnly Passes (Ok None) = ¬ Passes
-IsTooLongOnly Passes (Err TooLong) = Passes
-IsTooLongOnly Passes (Err (BadToken place)) = ⊤
-IsTooLongOnly Passes (Err (Unterminated place)) = ⊤
-IsTooLongOnly Passes (Err (TooBig place)) = ⊤
-IsTooLongOnly Passes (Err Memory) = ⊤
-IsTooLongOnly Passes (Err Failed) = ⊤
+-- a text is too long only where the source does not tell that it keeps within its limit, and its end comes only where the
+-- source does not tell that it passes it
+abbrev pub IsTooLongOnly : {S : Type 0} → Option Bool → Result (Option S) TextRefusal → Type 0
+IsTooLongOnly passes (Ok (Some step)) = ⊤
+IsTooLongOnly passes (Ok None) = ¬ (passes ≡ Some true)
+IsTooLongOnly passes (Err TooLong) = ¬ (passes ≡ Some false)
+IsTooLongOnly passes (Err (BadToken place)) = ⊤
+IsTooLongOnly passes (Err (Unterminated place)) = ⊤
+IsTooLongOnly passes (Err (TooBig place)) = ⊤
+IsTooLongOnly passes (Err Memory) = ⊤
+IsTooLongOnly passes (Err Failed) = ⊤
 
 -- a step raises the place, and nothing lowers it
 abbrev pub PlaceRises : {S : Type 0} → Result (Option S) TextRefusal → ℕ → ℕ → Type 0

@@ -1,6 +1,6 @@
 //! A text's tokens with the next one at hand.
-ghost use Rattle.std.specs.Prelude.{◌≡◌, ◌↔◌, IsTrue, false, [], drop};
-ghost use Rattle.cx_texts.specs.Tokens.{tokens};
+ghost use Rattle.std.specs.Prelude.{◌≡◌, ◌<◌, ◌+◌, ◌^◌, ◌↔◌, IsTrue, false, [], drop, length};
+ghost use Rattle.cx_texts.specs.Tokens.{tokens, tokens_within};
 ghost use Rattle.cx_texts.specs.Words.{is_digit, placed_words};
 ghost use Rattle.step_text.specs.Heads.{seen_head, is_head_letter, head_place};
 
@@ -41,6 +41,16 @@ impl<'a> TokensAhead<'a> {
         ensures { result ≡ tokens text.now }
     {
         let mut reader = TokenReader::new(text);
+        let token = reader.next_token();
+        TokensAhead { token, reader }
+    }
+
+    /// The tokens of a part of a text that begins at this place, within a kept line.
+    pub fn within(text: &'a [u8], place: usize) -> TokensAhead<'a>
+        requires { place + length text.now < 2 ^ 64 }
+        ensures { result ≡ tokens_within place text.now }
+    {
+        let mut reader = TokenReader::within(text, place);
         let token = reader.next_token();
         TokensAhead { token, reader }
     }

@@ -6,11 +6,15 @@ pub mod fields;
 mod grammar;
 pub mod pieces;
 mod sink;
+mod slot_reader;
+mod slot_text;
 mod source;
 mod step_text;
 pub mod token_word;
 
 pub use grammar::StepGrammar;
 pub use sink::{Sink, SinkFault};
+pub use slot_reader::SlotReader;
+pub use slot_text::SlotText;
 pub use source::{StepSource, TextRefusal};
 pub use step_text::StepText;

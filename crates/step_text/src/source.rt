@@ -2,9 +2,10 @@
 ghost use Rattle.std.specs.Prelude.{◌≡◌, ◌<◌, ◌≤◌, ◌^◌, ℕ, Bool, true, false, List, Option};
 ghost use Rattle.cx_base.specs.Endings.{Ending};
 ghost use Rattle.step_text.specs.declared.source.TextRefusal.{TextRefusal};
+ghost use Rattle.step_text.specs.AheadRefusals.{refusal_of_ahead};
 ghost use Rattle.step_text.specs.Sources.{Gives, PlaceRises, FaultsAs, SpentAs, StuckAs, IsTooLongOnly};
 
-use std::alloc::AllocError;
+use cx_desk::AheadErr;
 use thiserror::Error;
 
 /// Why no step was given.
@@ -30,6 +31,17 @@ pub enum TextRefusal {
     Failed,
 }
 
+impl From<AheadErr> for TextRefusal {
+    ghost from_gives = { λ a r. r ≡ refusal_of_ahead a };
+
+    fn from(err: AheadErr) -> Self {
+        match err {
+            AheadErr::Memory => TextRefusal::Memory,
+            AheadErr::Failed => TextRefusal::Failed,
+        }
+    }
+}
+
 /// A source of steps.
 ///
 /// What it has left is a list of steps and an ending, where it tells them. After `BadToken`,
@@ -41,8 +53,8 @@ pub trait StepSource {
     // it has these steps left and then this ending
     ghost leaves: { Self → List Self.Step → Ending → Type 0 };
 
-    // it tells that its text passes its limit
-    ghost passes_limit: { Self → Type 0 };
+    // whether its text passes its limit, where it tells that
+    ghost passes_limit: { Self → Option Bool };
 
     // it has answered `Memory` or `Failed`
     ghost is_spent: { Self → Bool };
@@ -68,7 +80,7 @@ pub trait StepSource {
         ensures stuck { StuckAs (stuck self.old) result (stuck self.new) }
         ensures faults { FaultsAs result (faults self.old) (faults self.new) }
         ensures long { IsTooLongOnly (passes_limit self.old) result }
-        ensures limit { (passes_limit self.new → passes_limit self.old) × (passes_limit self.old → passes_limit self.new) }
+        ensures limit { passes_limit self.new ≡ passes_limit self.old }
         ensures rises { PlaceRises result (place_of self.old) (place_of self.new) }
         ensures within { place_of self.new ≤ farthest self.new }
         ensures far { farthest self.new < 2 ^ 62 }

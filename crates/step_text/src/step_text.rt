@@ -54,14 +54,14 @@ impl<'a, G: StepGrammar> StepText<'a, G> {
 impl<'a, G: StepGrammar> StepSource for StepText<'a, G> {
     type Step = G::Step;
 
-    ghost use Rattle.std.specs.Prelude.{refl, ◌≡◌};
+    ghost use Rattle.std.specs.Prelude.{refl, ◌≡◌, Some, false};
     ghost use Rattle.std.proofs.Common.{◌∙◌};
     ghost use Rattle.step_text.specs.Left.{text_is_left};
     ghost use Rattle.step_text.specs.Texts.{Leaves, is_spent_by, stuck_by};
 
     ghost leaves = { Leaves G.steps };
 
-    ghost passes_limit = { λ _. ⊥ };
+    ghost passes_limit = { λ _. Some false };
 
     ghost is_spent = { λ t. is_spent_by t.refused };
 

@@ -1,0 +1,222 @@
+-- A step that stands in whole tokens of the bytes at hand is the next step of the text, whatever follows.
+use Rattle.std.proofs.Common.{◌≡◌, ◌≢◌, refl, sym, ap, ◌∙◌, subst, ℕ, zero, suc, ◌+◌, ◌-◌, ◌<◌, ◌≤◌, Bool, true, false, List, [], ◌∷◌, ◌++◌, map, length, take, drop, Option, Some, None, arith, true≢false, append_assoc, append-nil, length-append, length-take, length-drop, take-append-drop}
+use Rattle.std.proofs.lemmas.List.{map-append, drop-append-le, drop_all}
+use Rattle.cx_texts.specs.Tokens.{Token, tokens_within}
+use Rattle.cx_texts.specs.Pieces.{tokens_in, EndsBlank}
+use Rattle.cx_texts.specs.declared.line_state.LineState.TheVariants.{Kept}
+use Rattle.cx_texts.specs.Words.{Placed, words, placed_words, word_of}
+use Rattle.cx_texts.specs.Grammar.{Grammar, IsStep, Begins, Stops, Spells, FirstBad, FirstBig}
+use Rattle.cx_texts.proofs.Forms.{Forms}
+use Rattle.cx_texts.proofs.Readings.{no_step_of_nothing}
+use Rattle.cx_texts.proofs.PieceLaws.{cut_behind_blank, StandsAt, left_from_token}
+use Rattle.step_text.specs.declared.source.TextRefusal.{TextRefusal}
+use Rattle.step_text.specs.declared.source.TextRefusal.TheVariants.{BadToken, Unterminated, TooBig, TooLong, Memory, Failed}
+use Rattle.step_text.specs.Heads.{head_place}
+use Rattle.step_text.specs.Reading.{IsRefusal}
+use Rattle.step_text.specs.Found.{FoundStep}
+
+-- ---- words that are followed by others
+
+abbrev placed_of : Token → Placed
+placed_of t = record { place = t.place; word = word_of t.text }
+
+pub placed-append : (a b : List Token) → placed_words (a ++ b) ≡ placed_words a ++ placed_words b
+placed-append a b = map-append placed_of a b
+
+module _ {S : Type 0} (g : Grammar S) where
+  spells_more : (s : S) (old : List Placed) (next : Placed) (new more : List Placed) → Spells g s old (next ∷ new) → Spells g s (old ++ more) ((next ∷ new) ++ more)
+  spells_more s old next new more h = record {
+    front = h.front;
+    split = ap (λ ps. ps ++ more) h.split ∙ append_assoc h.front (next ∷ new) more;
+    step = h.step;
+    within = h.within;
+    stops = h.stops;
+  }
+
+  bad_more : (old more : List Placed) (place : ℕ) → FirstBad g old place → FirstBad g (old ++ more) place
+  bad_more old more place h = record {
+    front = h.front;
+    bad = h.bad;
+    rest = h.rest ++ more;
+    split = ap (λ ps. ps ++ more) h.split ∙ append_assoc h.front (h.bad ∷ h.rest) more;
+    at = h.at;
+    unfinished = h.unfinished;
+    within = h.within;
+    fits_not = h.fits_not;
+  }
+
+  big_more : (old more : List Placed) (place : ℕ) → FirstBig g old place → FirstBig g (old ++ more) place
+  big_more old more place h = record {
+    front = h.front;
+    big = h.big;
+    rest = h.rest ++ more;
+    split = ap (λ ps. ps ++ more) h.split ∙ append_assoc h.front (h.big ∷ h.rest) more;
+    at = h.at;
+    within = h.within;
+    fits = h.fits;
+    above = h.above;
+  }
+
+-- ---- tokens by their words
+
+-- the token of a word, with those before it and behind it
+record TokenOf (tokens : List Token) (front : List Placed) (word : Placed) (rest : List Placed) : Type 0 where
+  before : List Token
+  token : Token
+  others : List Token
+  split : tokens ≡ before ++ token ∷ others
+  words_before : placed_words before ≡ front
+  word_at : placed_of token ≡ word
+  words_behind : placed_words others ≡ rest
+
+token_of_word : (tokens : List Token) (front : List Placed) (word : Placed) (rest : List Placed) → placed_words tokens ≡ front ++ word ∷ rest → TokenOf tokens front word rest
+token_of_word [] [] word rest h = cc
+token_of_word [] (p ∷ front) word rest h = cc
+token_of_word (t ∷ tokens) [] word rest h = record {
+  before = [];
+  token = t;
+  others = tokens;
+  split = refl;
+  words_before = refl;
+  word_at = (let e : placed_of t ≡ word = cc (h) in e);
+  words_behind = (let e : placed_words tokens ≡ rest = cc (h) in e);
+}
+token_of_word (t ∷ tokens) (p ∷ front) word rest h =
+    let first : placed_of t ≡ p = cc (h) in
+    let m = token_of_word tokens front word rest (let e : placed_words tokens ≡ front ++ word ∷ rest = cc (h) in e) in
+    record {
+      before = t ∷ m.before;
+      token = m.token;
+      others = m.others;
+      split = ap (λ ts. t ∷ ts) m.split;
+      words_before = (λ i. first i ∷ m.words_before i);
+      word_at = m.word_at;
+      words_behind = m.words_behind;
+    }
+
+none_before : (before : List Token) (token : Token) (others : List Token) → token ∷ others ≡ before ++ token ∷ others → before ≡ []
+none_before [] token others e = refl
+none_before (b ∷ before) token others e = absurd (omega (arith, ap length e, length-append (b ∷ before) (token ∷ others)))
+
+-- ---- the bytes at hand and what may follow them
+
+-- only whole tokens are looked at
+pub record LooksAt (ended : Bool) (place len : ℕ) (bytes : List ℕ) (tokens : List Token) : Type 0 where
+  pub within : len ≤ length bytes
+  pub all : ended ≡ true → len ≡ length bytes
+  pub blank : ended ≡ false → EndsBlank (take len bytes)
+  pub are : tokens ≡ tokens_within place (take len bytes)
+
+take_whole : (len : ℕ) (bytes : List ℕ) → len ≡ length bytes → take len bytes ≡ bytes
+take_whole len bytes e = sym (append-nil (take len bytes)) ∙ ap (λ b. take len bytes ++ b) (sym (drop_all len bytes (omega (arith, e)))) ∙ take-append-drop len bytes
+
+module _ (ended : Bool) (place len : ℕ) (bytes : List ℕ) (tokens : List Token) (look : LooksAt ended place len bytes tokens) where
+  abbrev More : List ℕ → Type 0
+  More more = (behind : List Token) × (tokens_within place (bytes ++ more) ≡ tokens ++ behind)
+
+  pub followed : (more : List ℕ) → (ended ≡ true → more ≡ []) → More more
+  followed more none = go ended refl
+    where
+      go : (x : Bool) → ended ≡ x → More more
+      go true e = ([], ap (tokens_within place) (ap (λ m. bytes ++ m) (none e) ∙ append-nil bytes ∙ sym (take_whole len bytes (look.all e))) ∙ sym look.are ∙ sym (append-nil tokens))
+      go false e =
+          let cut = cut_behind_blank Kept place (take len bytes) (drop len bytes ++ more) (look.blank e) in
+          (cut.0, ap (tokens_within place) (ap (λ b. b ++ more) (sym (take-append-drop len bytes)) ∙ append_assoc (take len bytes) (drop len bytes) more) ∙ cut.1 ∙ ap (λ ts. ts ++ cut.0) (sym look.are))
+
+  module _ {S : Type 0} (g : Grammar S) (all : Forms g) where
+    -- a refusal that rests on whole tokens
+    pub refusal_stays : (size : ℕ) (refusal : TextRefusal) → IsRefusal g size refusal (placed_words tokens) → (ended ≡ false → (at : ℕ) → refusal ≢ Unterminated at) → size ≡ place + len
+        → (more : List ℕ) → (ended ≡ true → more ≡ []) → IsRefusal g ((place + length bytes) + length more) refusal (placed_words (tokens_within place (bytes ++ more)))
+    refusal_stays size (BadToken at) h open_ends whole more none =
+        let f = followed more none in
+        subst (λ ps. FirstBad g ps at) (sym (ap placed_words f.1 ∙ placed-append tokens f.0)) (bad_more g (placed_words tokens) (placed_words f.0) at h)
+    refusal_stays size (TooBig at) h open_ends whole more none =
+        let f = followed more none in
+        subst (λ ps. FirstBig g ps at) (sym (ap placed_words f.1 ∙ placed-append tokens f.0)) (big_more g (placed_words tokens) (placed_words f.0) at h)
+    refusal_stays size (Unterminated at) h open_ends whole more none = go ended refl
+      where
+        go : (x : Bool) → ended ≡ x → IsRefusal g ((place + length bytes) + length more) (Unterminated at) (placed_words (tokens_within place (bytes ++ more)))
+        go false e = absurd (open_ends e at refl)
+        go true e =
+            let same : tokens ≡ tokens_within place (bytes ++ more) = look.are ∙ ap (tokens_within place) (take_whole len bytes (look.all e) ∙ sym (ap (λ m. bytes ++ m) (none e) ∙ append-nil bytes)) in
+            let long : size ≡ (place + length bytes) + length more = omega (arith, whole, look.all e, ap length (none e)) in
+            subst (λ ts. IsRefusal g ((place + length bytes) + length more) (Unterminated at) (placed_words ts)) same (subst (λ n. IsRefusal g n (Unterminated at) (placed_words tokens)) long h)
+    refusal_stays size TooLong h open_ends whole more none = absurd h
+    refusal_stays size Memory h open_ends whole more none = tt
+    refusal_stays size Failed h open_ends whole more none = absurd h
+
+    no_step_at_front : (s : S) (old new : List Placed) (h : Spells g s old new) → h.front ≡ [] → ⊥
+    no_step_at_front s old new h e = no_step_of_nothing g all s (subst (λ f. IsStep g (words f) s) e h.step)
+
+    starts_later : (s : S) (next : Token) (rest : List Token) (h : Spells g s (placed_words tokens) (placed_words (next ∷ rest))) (t : TokenOf tokens h.front (placed_of next) (placed_words rest))
+        (here : StandsAt place (take len bytes) t.token t.others) → (k : ℕ) → here.behind ≡ k → 0 < k
+    starts_later s next rest h t here (suc k) e = omega arith
+    starts_later s next rest h t here zero e =
+        let at : place ≡ t.token.place = omega (arith, here.at, e) in
+        let left : tokens_within place (take len bytes) ≡ t.token ∷ t.others = (λ i. tokens_within (at i) (drop (sym e i) (take len bytes))) ∙ here.left in
+        let front : h.front ≡ [] = sym t.words_before ∙ ap placed_words (none_before t.before t.token t.others (sym left ∙ sym look.are ∙ t.split)) in
+        absurd (no_step_at_front s (placed_words tokens) (placed_words (next ∷ rest)) h front)
+
+    -- a step behind which a token stands
+    step_before_token : (s : S) (next : Token) (rest : List Token) → Spells g s (placed_words tokens) (placed_words (next ∷ rest)) → FoundStep g ended place bytes s next.place
+    step_before_token s next rest h =
+        let t = token_of_word tokens h.front (placed_of next) (placed_words rest) h.split in
+        let at : t.token.place ≡ next.place = ap (λ (p : Placed). p.place) t.word_at in
+        let here = left_from_token Kept place (take len bytes) t.before t.token t.others (sym look.are ∙ t.split) in
+        let behind : next.place ≡ place + here.behind = sym at ∙ here.at in
+        let high : here.behind < len = omega (arith, here.inside, length-take len bytes) in
+        let inside : here.behind ≤ length bytes = omega (arith, high, look.within) in
+        record {
+          behind = here.behind;
+          at = behind;
+          some = starts_later s next rest h t here here.behind refl;
+          inside = inside;
+          spells = λ more none.
+              let f = followed more none in
+              let there = left_from_token Kept place (bytes ++ more) t.before t.token (t.others ++ f.0) (f.1 ∙ ap (λ ts. ts ++ f.0) t.split ∙ append_assoc t.before (t.token ∷ t.others) f.0) in
+              let same : there.behind ≡ here.behind = omega (arith, there.at, here.at) in
+              let bytes_left : drop there.behind (bytes ++ more) ≡ drop here.behind bytes ++ more = ap (λ n. drop n (bytes ++ more)) same ∙ drop-append-le here.behind bytes more inside in
+              let left : tokens_within next.place (drop here.behind bytes ++ more) ≡ t.token ∷ (t.others ++ f.0) = (λ i. tokens_within (sym at i) (sym bytes_left i)) ∙ there.left in
+              let old : placed_words (tokens_within place (bytes ++ more)) ≡ placed_words tokens ++ placed_words f.0 = ap placed_words f.1 ∙ placed-append tokens f.0 in
+              let new : placed_words (tokens_within next.place (drop here.behind bytes ++ more)) ≡ placed_words (next ∷ rest) ++ placed_words f.0 =
+              ap placed_words left ∙ placed-append (t.token ∷ t.others) f.0 ∙ (λ i. (t.word_at i ∷ t.words_behind i) ++ placed_words f.0) in
+              let spells : Spells g s (placed_words tokens ++ placed_words f.0) (placed_words (next ∷ rest) ++ placed_words f.0) = spells_more g s (placed_words tokens) (placed_of next) (placed_words rest) (placed_words f.0) h in
+              subst (λ ps. Spells g s (placed_words (tokens_within place (bytes ++ more))) ps) (sym new) (subst (λ ps. Spells g s ps (placed_words (next ∷ rest) ++ placed_words f.0)) (sym old) spells);
+        }
+
+    -- the last step of a text
+    last_step : (s : S) → ended ≡ true → Spells g s (placed_words tokens) [] → FoundStep g ended place bytes s (place + len)
+    last_step s end h =
+        let whole : take len bytes ≡ bytes = take_whole len bytes (look.all end) in
+        let are : tokens ≡ tokens_within place bytes = look.are ∙ ap (tokens_within place) whole in
+        record {
+          behind = len;
+          at = refl;
+          some = some_bytes bytes refl;
+          inside = look.within;
+          spells = λ more none.
+              let old : tokens ≡ tokens_within place (bytes ++ more) = are ∙ ap (tokens_within place) (sym (ap (λ m. bytes ++ m) (none end) ∙ append-nil bytes)) in
+              let new : drop len bytes ++ more ≡ [] = (λ i. drop_all len bytes (omega (arith, look.all end)) i ++ none end i) in
+              subst (λ bs. Spells g s (placed_words (tokens_within place (bytes ++ more))) (placed_words (tokens_within (place + len) bs))) (sym new) (subst (λ ts. Spells g s (placed_words ts) []) old h);
+        }
+      where
+        some_bytes : (bs : List ℕ) → bytes ≡ bs → 0 < len
+        some_bytes [] e = absurd (no_step_at_front s (placed_words tokens) [] h (sym (h.split ∙ append-nil h.front) ∙ ap placed_words (look.are ∙ ap (tokens_within place) (take_whole len bytes (look.all end)) ∙ ap (tokens_within place) e)))
+        some_bytes (b ∷ bs) e = omega (arith, look.all end, ap length e)
+
+    -- a step is found where a token stands behind it, or the text ends there
+    pub found_step : (s : S) (new : List Token) (next : ℕ) → Spells g s (placed_words tokens) (placed_words new) → (new ≡ [] → ended ≡ true) → next ≡ head_place (place + len) new → FoundStep g ended place bytes s next
+    found_step s [] next h end at = subst (FoundStep g ended place bytes s) (sym at) (last_step s (end refl) h)
+    found_step s (n ∷ new) next h end at = subst (FoundStep g ended place bytes s) (sym at) (step_before_token s n new h)
+
+  -- tokens stand in some bytes
+  pub some_bytes : tokens ≢ [] → 0 < length bytes
+  some_bytes some = go bytes refl
+    where
+      go : (bs : List ℕ) → bytes ≡ bs → 0 < length bs
+      go [] e = absurd (some (look.are ∙ ap (λ b. tokens_within place (take len b)) e ∙ nothing len))
+        where
+          nothing : (n : ℕ) → tokens_within place (take n []) ≡ []
+          nothing zero = refl
+          nothing (suc n) = refl
+      go (b ∷ bs) e = omega arith

@@ -1,0 +1,56 @@
+use Rattle.std.proofs.Common.{◌≡◌, ◌∙◌, sym, ap, subst, ◌≤◌, Err, arith}
+use Rattle.step_text.specs.Slots.{SlotState, ReadsOn, ReadingFails, taken_by}
+use Rattle.step_text.specs.SlotAnswers.{IsAnswer}
+use Rattle.step_text.proofs.AnswerLaws.{answer_then, failed_answer}
+use Rattle.step_text.proofs.SlotLaws.{reads_itself, reads_then, fails_then, started_still}
+use Rattle.step_text.proofs.slot_reader.SlotReader.find.Goals as goal
+
+pub loop-answer-init : goal.loop-answer-init
+loop-answer-init g c = record {
+  on = reads_itself c.args.self.now (g.D.Desk.outside c.args.desk.now);
+  started = c.requires.started;
+  fresh = c.requires.fresh;
+  within = c.requires.within;
+}
+
+pub returns-in-Some : goal.returns-in-Some
+returns-in-Some g c =
+    let steps = g.G.StepGrammar.steps in
+    let old = g.D.Desk.outside c.args.desk.now in
+    let mid = g.D.Desk.outside c.loop-answer.desk in
+    let before = reads_then c.args.self.now old c.loop-answer.self mid c.pass_blanks.new.self mid c.loop-answer.invariant.on (c.pass_blanks.ensures.on mid) in
+    answer_then steps c.args.self.now old c.pass_blanks.new.self mid c.in-Some.answer c.take_found.new.self mid before (c.in-Some.ensures.answer mid)
+
+pub read_twice-requires-clause-within : goal.read_twice-requires-clause-within
+read_twice-requires-clause-within g c =
+    let mid = g.D.Desk.outside c.loop-answer.desk in
+    let on = c.pass_blanks.ensures.on mid in
+    let now : taken_by c.pass_blanks.new.self ≤ c.pass_blanks.new.self.limit = omega (arith, c.pass_blanks.ensures.taken, on.kept.limit, c.loop-answer.invariant.within) in
+    subst (λ (x : SlotState). taken_by x ≤ x.limit) (sym c.in-None.ensures.answer.0) now
+
+pub loop-answer-preserved : goal.loop-answer-preserved
+loop-answer-preserved g c =
+    let old = g.D.Desk.outside c.args.desk.now in
+    let mid = g.D.Desk.outside c.loop-answer.desk in
+    let new = g.D.Desk.outside c.read_twice.new.desk in
+    let before = reads_then c.args.self.now old c.loop-answer.self mid c.pass_blanks.new.self mid c.loop-answer.invariant.on (c.pass_blanks.ensures.on mid) in
+    let more = subst (λ (x : SlotState). ReadsOn x mid c.read_twice.new.self new) c.in-None.ensures.answer.0 c.in_ok-read_twice-in-None.ensures.read in
+    let on = reads_then c.args.self.now old c.pass_blanks.new.self mid c.read_twice.new.self new before more in
+    record {
+      on = on;
+      started = started_still c.args.self.now old c.read_twice.new.self new on c.requires.started;
+      fresh = on.refused ∙ c.requires.fresh;
+      within = c.in_ok-read_twice-in-None.ensures.within;
+    }
+
+pub returns-in_err-read_twice-in-None : goal.returns-in_err-read_twice-in-None
+returns-in_err-read_twice-in-None g c =
+    let steps = g.G.StepGrammar.steps in
+    let old = g.D.Desk.outside c.args.desk.now in
+    let mid = g.D.Desk.outside c.loop-answer.desk in
+    let new = g.D.Desk.outside c.read_twice.new.desk in
+    let refusal = c.in_err-read_twice-in-None.field-0.0 in
+    let before = reads_then c.args.self.now old c.loop-answer.self mid c.pass_blanks.new.self mid c.loop-answer.invariant.on (c.pass_blanks.ensures.on mid) in
+    let stops = subst (λ (x : SlotState). ReadingFails x mid refusal c.read_twice.new.self new) c.in-None.ensures.answer.0 c.in_err-read_twice-in-None.ensures.read in
+    let fails = failed_answer steps c.args.self.now old refusal c.read_twice.new.self new (fails_then c.args.self.now old c.pass_blanks.new.self mid refusal c.read_twice.new.self new before stops) in
+    search Rattle.std.proofs.Common.rules

@@ -1,0 +1,20 @@
+use Rattle.std.proofs.Common.{◌≡◌, ◌≢◌, ◌∙◌, refl, sym, ap, subst, ℕ, ◌-◌, ◌≤◌, List, [], length, Ok, Err, None, Some, arith}
+use Rattle.cx_texts.specs.declared.line_state.LineState.TheVariants.{Kept}
+use Rattle.step_text.specs.Slots.{SlotState, taken_by}
+use Rattle.step_text.specs.SlotAnswers.{IsAnswer}
+use Rattle.step_text.specs.Found.{IsFound}
+use Rattle.step_text.specs.declared.slot_reader.Found.TheVariants.{Refused}
+use Rattle.step_text.proofs.AnswerLaws.{step_answer, end_answer, refusal_answer}
+use Rattle.step_text.proofs.slot_reader.SlotReader.take_found.Goals as goal
+
+pub returns-in-Refused : goal.returns-in-Refused
+returns-in-Refused g c =
+    let i = c.self.inside in
+    let steps = g.G.StepGrammar.steps in
+    let s : SlotState = record { slot = i.slot; limit = i.limit; bytes = i.ahead; place = i.place; line = i.line; ended = i.ended; refused = i.refused } in
+    let is : s ≡ c.args.self.now = c.self.view_is in
+    let fresh : s.refused ≡ None = ap (λ (x : SlotState). x.refused) is ∙ c.requires.fresh in
+    let line : s.bytes ≢ [] → s.line ≡ Kept = subst (λ (x : SlotState). x.bytes ≢ [] → x.line ≡ Kept) (sym is) c.requires.line in
+    let refusal = c.in-Refused.refusal in
+    let found : IsFound steps s.ended s.place s.bytes (Refused refusal) = subst (λ (b : List ℕ). IsFound steps i.ended i.place b (Refused refusal)) c.bytes.ensures c.in-Refused.ensures in
+    record { answer = λ o. subst (λ (x : SlotState). IsAnswer steps x o (Err refusal) x o) is (refusal_answer steps s fresh line o refusal found) }

@@ -1,0 +1,275 @@
+//! The steps of a text that is read from a desk's slot, by any grammar.
+ghost use Rattle.std.specs.Prelude.{◌≡◌, ◌≢◌, ◌<◌, ◌≤◌, ◌+◌, ◌^◌, ℕ, [], None, true, false, length, IfOk, IfErr, MatchResult, MatchOption, take};
+ghost use Rattle.cx_texts.specs.Pieces.{EndsBlank};
+ghost use Rattle.step_text.specs.declared.source.TextRefusal.TheVariants.{Unterminated};
+ghost use Rattle.cx_desk.specs.Outside.{Outside, started_in};
+ghost use Rattle.cx_texts.specs.declared.line_state.LineState.TheVariants.{Start, Kept};
+ghost use Rattle.step_text.specs.Found.{IsFound};
+ghost use Rattle.step_text.specs.Slots.{SlotKept, ReadsOn, ReadingFails, Took, is_too_long, taken_by, to_read};
+ghost use Rattle.step_text.specs.Sources.{Gives, SpentAs, StuckAs, IsTooLongOnly, PlaceRises};
+ghost use Rattle.step_text.specs.Texts.{is_spent_by, stuck_by};
+ghost use Rattle.step_text.specs.SlotAnswers.{PairLeaves, IsAnswer};
+
+use crate::ahead::TokensAhead;
+use crate::grammar::StepGrammar;
+use crate::source::TextRefusal;
+use cx_desk::{Desk, ReadAhead, Slot};
+use cx_texts::{LineState, pass_blanks, whole_front};
+use std::alloc::Global;
+use std::marker::{Model, PhantomData};
+
+/// What the bytes of a text that were read so far say of the next step.
+#[derive(Drop)]
+enum Found<S> {
+    /// The step, and the place of the token behind it, or of the end.
+    Step(S, usize),
+    /// The text ends between two steps.
+    End,
+    /// The text ends so, or there is no memory for the step.
+    Refused(TextRefusal),
+    /// More has to be read.
+    Unknown,
+}
+
+/// How many of the bytes are whole tokens: all where the text ends.
+fn whole_len(bytes: &[u8], ended: bool) -> usize
+    ensures within { result ≤ length bytes.now }
+    ensures all { ended ≡ true → result ≡ length bytes.now }
+    ensures blank { ended ≡ false → EndsBlank (take result bytes.now) }
+{
+    if ended {
+        bytes.len()
+    } else {
+        whole_front(bytes)
+    }
+}
+
+/// Whether a step counts before these tokens: nothing behind it can belong to it.
+fn is_whole(tokens: &TokensAhead, ended: bool) -> bool
+    ensures yes { result ≡ true → tokens.now ≡ [] → ended ≡ true }
+    ensures no { result ≡ false → ended ≡ false }
+{
+    ended || !tokens.is_empty()
+}
+
+/// Whether a refusal counts, whatever may follow.
+fn counts(refusal: TextRefusal, ended: bool) -> bool
+    ensures yes { result ≡ true → ended ≡ false → (at : ℕ) → refusal ≢ Unterminated at }
+    ensures no { result ≡ false → ended ≡ false }
+{
+    match refusal {
+        TextRefusal::Unterminated(_) => ended,
+        _ => true,
+    }
+}
+
+/// Looks for a step at the front of the bytes that begin at this place within a kept line.
+///
+/// Where the text may go on, only whole tokens count, and a step only where a token stands behind it.
+fn find_step<G: StepGrammar>(
+    alloc: Global,
+    bytes: &[u8],
+    place: usize,
+    ended: bool,
+) -> Found<G::Step>
+where
+    G::Step: Drop,
+    requires { place + length bytes.now < 2 ^ 63 }
+    ensures { IsFound G.steps ended place bytes.now result }
+{
+    let len = whole_len(bytes, ended);
+    let mut tokens = TokensAhead::within(&bytes[..len], place);
+    if tokens.is_empty() {
+        return if ended { Found::End } else { Found::Unknown };
+    }
+    match G::read_step(alloc, &mut tokens, place + len) {
+        Ok(step) => {
+            if !is_whole(&tokens, ended) {
+                return Found::Unknown;
+            }
+            Found::Step(step, tokens.place(place + len))
+        }
+        Err(refusal) => {
+            if !counts(refusal, ended) {
+                return Found::Unknown;
+            }
+            Found::Refused(refusal)
+        }
+    }
+}
+
+/// The steps of a grammar that are read from a slot of a desk, which is lent at each call.
+///
+/// The text is read piece by piece; only the bytes behind the last step are kept, so it takes memory for one step and a
+/// constant. Its place is the place of the first byte that was not passed.
+#[derive(Drop)]
+pub struct SlotReader<G> {
+    alloc: Global,
+    slot: Slot,
+    limit: u64,
+    ahead: ReadAhead,
+    place: usize,
+    line: LineState,
+    ended: bool,
+    refused: Option<TextRefusal>,
+    grammar: PhantomData<G>,
+}
+
+impl<G> Model for SlotReader<G> {
+    ghost use Rattle.std.specs.Prelude.{◌≡◌, ◌<◌, ◌≤◌, ◌+◌, None, Some, length};
+    ghost use Rattle.step_text.specs.declared.source.TextRefusal.TheVariants.{TooLong};
+    ghost use Rattle.step_text.specs.Slots.{SlotState};
+
+    ghost Value = { SlotState };
+
+    ghost view = { λ r. record { slot = r.slot; limit = r.limit; bytes = r.ahead; place = r.place; line = r.line; ended = r.ended; refused = r.refused } };
+
+    ghost invariant = { λ r. (r.limit ≤ 4294967295) × (r.place ≤ r.limit) × (r.place + length r.ahead ≤ r.limit + 1) × (r.refused ≡ None → r.place + length r.ahead ≤ r.limit) × (r.refused ≡ Some TooLong → r.limit < r.place + length r.ahead) };
+}
+
+impl<G: StepGrammar> SlotReader<G>
+where
+    G::Step: Drop,
+{
+    /// The steps of the text that the slot will give, of at most `limit` bytes.
+    pub fn new(alloc: Global, slot: Slot, limit: u64) -> SlotReader<G>
+        requires { limit ≤ 4294967295 }
+        ensures { result ≡ record { slot = slot; limit = limit; bytes = []; place = 0; line = Start; ended = false; refused = None } }
+    {
+        SlotReader {
+            alloc,
+            slot,
+            limit,
+            ahead: ReadAhead::new(alloc),
+            place: 0,
+            line: LineState::Start,
+            ended: false,
+            refused: None,
+            grammar: PhantomData,
+        }
+    }
+
+    /// How many bytes were read: at most the limit, until `TooLong` is answered.
+    pub fn taken(&self) -> u64
+        ensures { result ≡ taken_by self.now }
+    {
+        (self.place + self.ahead.bytes().len()) as u64
+    }
+
+    /// The place of the first byte that was not passed.
+    pub fn place(&self) -> u64
+        ensures { result ≡ self.now.place }
+    {
+        self.place as u64
+    }
+
+    /// Passes the blanks and comments at hand.
+    fn pass_blanks(&mut self)
+        requires { self.old.refused ≡ None }
+        ensures on { (o : Outside) → ReadsOn self.old o self.new o }
+        ensures line { self.new.bytes ≢ [] → self.new.line ≡ Kept }
+        ensures taken { taken_by self.new ≡ taken_by self.old }
+        ensures ended { self.new.ended ≡ self.old.ended }
+    {
+        let stop = pass_blanks(self.ahead.bytes(), self.line);
+        self.ahead.pass(stop.at);
+        self.place += stop.at;
+        self.line = stop.line;
+    }
+
+    /// Reads one more piece.
+    fn read_more<D: Desk>(&mut self, desk: &mut D) -> Result<(), TextRefusal>
+        requires started { started_in self.old.slot (D.outside desk.old).started ≡ true }
+        requires within { taken_by self.old ≤ self.old.limit }
+        requires open { self.old.ended ≡ false }
+        ensures read { MatchResult result (λ _. ReadsOn self.old (D.outside desk.old) self.new (D.outside desk.new)) (λ e. ReadingFails self.old (D.outside desk.old) e self.new (D.outside desk.new)) }
+        ensures within { IfOk result (λ _. taken_by self.new ≤ self.new.limit) }
+        ensures falls { IfOk result (λ _. to_read self.new < to_read self.old) }
+    {
+        let left = (self.limit - self.taken()) as usize;
+        let count = self.ahead.read(desk, self.slot, left + 1)?;
+        self.ended = count == 0;
+        if count > left {
+            self.refused = Some(TextRefusal::TooLong);
+            return Err(TextRefusal::TooLong);
+        }
+        Ok(())
+    }
+
+    /// Reads as much again as is at hand, or to the end.
+    fn read_twice<D: Desk>(&mut self, desk: &mut D) -> Result<(), TextRefusal>
+        requires started { started_in self.old.slot (D.outside desk.old).started ≡ true }
+        requires within { taken_by self.old ≤ self.old.limit }
+        requires open { self.old.ended ≡ false }
+        ensures read { MatchResult result (λ _. ReadsOn self.old (D.outside desk.old) self.new (D.outside desk.new)) (λ e. ReadingFails self.old (D.outside desk.old) e self.new (D.outside desk.new)) }
+        ensures within { IfOk result (λ _. taken_by self.new ≤ self.new.limit) }
+        ensures falls { IfOk result (λ _. to_read self.new < to_read self.old) }
+    {
+        let enough = self.ahead.bytes().len().saturating_mul(2);
+        self.read_more(desk)?;
+        while !self.ended && self.ahead.bytes().len() < enough {
+            self.read_more(desk)?;
+        }
+        Ok(())
+    }
+
+    /// The next step of the bytes at hand, or the end, or a refusal, if they tell it.
+    fn take_found(&mut self) -> Option<Result<Option<G::Step>, TextRefusal>>
+        requires line { self.old.bytes ≢ [] → self.old.line ≡ Kept }
+        requires fresh { self.old.refused ≡ None }
+        ensures answer { MatchOption result ((self.new ≡ self.old) × (self.old.ended ≡ false)) (λ r. (o : Outside) → IsAnswer G.steps self.old o r self.new o) }
+    {
+        match find_step::<G>(self.alloc, self.ahead.bytes(), self.place, self.ended) {
+            Found::Step(step, next) => {
+                self.ahead.pass(next - self.place);
+                self.place = next;
+                Some(Ok(Some(step)))
+            }
+            Found::End => Some(Ok(None)),
+            Found::Refused(refusal) => Some(Err(refusal)),
+            Found::Unknown => None,
+        }
+    }
+
+    /// Finds the next step, or the end.
+    fn find<D: Desk>(&mut self, desk: &mut D) -> Result<Option<G::Step>, TextRefusal>
+        requires started { started_in self.old.slot (D.outside desk.old).started ≡ true }
+        requires fresh { self.old.refused ≡ None }
+        requires within { taken_by self.old ≤ self.old.limit }
+        ensures { IsAnswer G.steps self.old (D.outside desk.old) result self.new (D.outside desk.new) }
+    {
+        loop {
+            self.pass_blanks();
+            match self.take_found() {
+                Some(answer) => return answer,
+                None => self.read_twice(desk)?,
+            }
+        }
+    }
+
+    /// The next step, or none at the end of the text between two steps, as a source of steps gives it.
+    pub fn next_from<D: Desk>(&mut self, desk: &mut D) -> Result<Option<G::Step>, TextRefusal>
+        requires started { started_in self.old.slot (D.outside desk.old).started ≡ true }
+        requires fresh { is_spent_by self.old.refused ≡ false }
+        ensures step { Gives (PairLeaves G.steps) (self.old, D.outside desk.old) result (self.new, D.outside desk.new) }
+        ensures spent { SpentAs result (is_spent_by self.new.refused) }
+        ensures stuck { StuckAs (stuck_by self.old.refused) result (stuck_by self.new.refused) }
+        ensures long { IsTooLongOnly (is_too_long self.old (D.outside desk.old)) result }
+        ensures rises { PlaceRises result self.old.place self.new.place }
+        ensures kept { SlotKept self.old (D.outside desk.old) self.new (D.outside desk.new) }
+        ensures took { Took self.old.slot result (D.outside desk.old) (D.outside desk.new) }
+        ensures within { self.new.place ≤ self.new.limit }
+        ensures few { self.new.limit ≤ 4294967295 }
+    {
+        if let Some(refusal) = self.refused {
+            return Err(refusal);
+        }
+        match self.find(desk) {
+            Ok(step) => Ok(step),
+            Err(refusal) => {
+                self.refused = Some(refusal);
+                Err(refusal)
+            }
+        }
+    }
+}

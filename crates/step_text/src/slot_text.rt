@@ -1,0 +1,92 @@
+//! The steps of a text that is read from a slot of a lent desk.
+ghost use Rattle.std.specs.Prelude.{◌≡◌, ◌≤◌, [], None, true, false};
+ghost use Rattle.cx_desk.specs.Outside.{started_in};
+ghost use Rattle.cx_texts.specs.declared.line_state.LineState.TheVariants.{Start};
+ghost use Rattle.step_text.specs.Slots.{taken_by};
+
+use crate::grammar::StepGrammar;
+use crate::slot_reader::SlotReader;
+use crate::source::{StepSource, TextRefusal};
+use cx_desk::{Desk, Slot};
+use std::alloc::Global;
+
+/// A source of the steps that stand in a slot of a lent desk, read piece by piece.
+///
+/// It answers `TooLong` as soon as it has read a byte behind its limit, also where steps stand before it. Its place is
+/// that of the first byte that was not passed: that of the token behind the last step, as long as nothing else was asked.
+#[derive(Drop)]
+pub struct SlotText<'d, D: Desk, G> {
+    desk: &'d mut D,
+    reader: SlotReader<G>,
+    // the slot that it reads was started
+    ghost started: { started_in reader.slot (D.outside desk.now).started ≡ true },
+}
+
+impl<'d, D: Desk, G: StepGrammar> SlotText<'d, D, G>
+where
+    G::Step: Drop,
+{
+    /// The steps of the text that a started slot has, of at most `limit` bytes.
+    pub fn new(alloc: Global, desk: &'d mut D, slot: Slot, limit: u64) -> SlotText<'d, D, G>
+        requires started { started_in slot (D.outside desk.old).started ≡ true }
+        requires few { limit ≤ 4294967295 }
+        ensures same_desk { result.desk.ghost_name ≡ desk.entry.ghost_name }
+        ensures outside { D.outside result.desk.now ≡ D.outside desk.entry.now }
+        ensures reader { result.reader ≡ record { slot = slot; limit = limit; bytes = []; place = 0; line = Start; ended = false; refused = None } }
+    {
+        SlotText {
+            desk,
+            reader: SlotReader::new(alloc, slot, limit),
+        }
+    }
+
+    /// How many bytes were read: at most the limit, until `TooLong` is answered.
+    pub fn taken(&self) -> u64
+        ensures { result ≡ taken_by self.now.reader }
+    {
+        self.reader.taken()
+    }
+}
+
+impl<'d, D: Desk, G: StepGrammar> StepSource for SlotText<'d, D, G>
+where
+    G::Step: Drop,
+{
+    type Step = G::Step;
+
+    ghost use Rattle.std.specs.Prelude.{◌≡◌, refl};
+    ghost use Rattle.std.proofs.Common.{◌∙◌};
+    ghost use Rattle.step_text.specs.Texts.{is_spent_by, stuck_by};
+    ghost use Rattle.step_text.specs.Slots.{SlotLeaves, SlotFrame, is_too_long};
+    ghost use Rattle.step_text.specs.SlotLeft.{slot_is_left, frame_itself, frame_on};
+
+    ghost leaves = { λ s. SlotLeaves G.steps s.reader (D.outside s.desk.now) };
+
+    ghost passes_limit = { λ s. is_too_long s.reader (D.outside s.desk.now) };
+
+    ghost is_spent = { λ s. is_spent_by s.reader.refused };
+
+    ghost stuck = { λ s. stuck_by s.reader.refused };
+
+    ghost faults = { λ s. (D.outside s.desk.now).faults.reads };
+
+    ghost place_of = { λ s. s.reader.place };
+
+    ghost farthest = { λ s. s.reader.limit };
+
+    ghost keeps = { λ a b. (b.desk.ghost_name ≡ a.desk.ghost_name) × SlotFrame a.reader (D.outside a.desk.now) b.reader (D.outside b.desk.now) };
+
+    fn next_step(&mut self) -> Result<Option<G::Step>, TextRefusal> {
+        self.reader.next_from(self.desk)
+    }
+
+    fn place(&self) -> u64 {
+        self.reader.place()
+    }
+
+    ghost leaves_some = { λ s. slot_is_left G.steps G.forms s.reader (D.outside s.desk.now) };
+
+    ghost keeps_itself = { λ a. (refl, frame_itself a.reader (D.outside a.desk.now)) };
+
+    ghost keeps_on = { λ a b c h k. (k.0 ∙ h.0, frame_on a.reader (D.outside a.desk.now) b.reader (D.outside b.desk.now) c.reader (D.outside c.desk.now) h.1 k.1) };
+}
