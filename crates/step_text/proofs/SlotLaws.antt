@@ -3,14 +3,16 @@ use Rattle.std.proofs.Common.{◌≡◌, ◌≢◌, refl, sym, ap, ◌∙◌, su
 use Rattle.cx_desk.specs.declared.desk.Slot.{Slot}
 use Rattle.cx_desk.specs.declared.desk.Slot.TheVariants.{Formula, Second}
 use Rattle.cx_desk.specs.Outside.{Told, Outside, left_in, started_in}
-use Rattle.cx_desk.specs.Calls.{taken, without_front, ReadFaulted, Came, AtEnd}
+use Rattle.cx_desk.specs.Calls.{taken, without_front, ReadFaulted, Came, AtEnd, Passes, Drained, Drains}
 use Rattle.cx_desk.specs.Ahead.{CameBehind}
+use Rattle.cx_desk.specs.declared.draining.DrainErr.{DrainErr}
+use Rattle.cx_desk.specs.declared.draining.DrainErr.TheVariants as drained
 use Rattle.cx_desk.proofs.Moves.{taken-twice, taken-none}
 use Rattle.cx_texts.specs.Pieces.{tokens_in}
 use Rattle.cx_texts.specs.declared.line_state.LineState.{LineState}
 use Rattle.step_text.specs.declared.source.TextRefusal.{TextRefusal}
 use Rattle.step_text.specs.declared.source.TextRefusal.TheVariants.{BadToken, Unterminated, TooBig, TooLong, Memory, Failed}
-use Rattle.step_text.specs.Slots.{SlotState, taken_by, to_come, IsToCome, is_too_long, EndSeen, Took, SlotKept, ReadsOn, StopsReading, ReadingFails}
+use Rattle.step_text.specs.Slots.{SlotState, taken_by, to_come, IsToCome, is_too_long, EndSeen, Took, SlotKept, ReadsOn, StopsReading, ReadingFails, DrainsRest}
 
 -- ---- one call behind another
 
@@ -208,3 +210,60 @@ read_failed s o p h =
 
 pub started_still : (a : SlotState) (o : Outside) (b : SlotState) (p : Outside) → ReadsOn a o b p → started_in a.slot o.started ≡ true → started_in b.slot p.started ≡ true
 started_still a o b p h e = (λ i. started_in (h.kept.slot i) ((ap (λ (x : Outside). x.started) h.took.1) i)) ∙ e
+
+-- ---- the rest is drained
+
+module _ (s : SlotState) (o : Outside) where
+  over_by : (w : Option Told) → s.limit < taken_by s → ¬ (option_map (λ t. nat_lt s.limit (taken_by s + length (to_come s t))) w ≡ Some false)
+  over_by None h e = cc
+  over_by (Some t) h e =
+      let k : nat_lt s.limit (taken_by s + length (to_come s t)) ≡ false = cc (e) in
+      let l = Rattle.std.proofs.Common.ltb-false s.limit (taken_by s + length (to_come s t)) k in
+      omega (arith, l)
+
+  pub over_already : s.limit < taken_by s → DrainsRest {T = ℕ} s o (Err drained.TooLong) o
+  over_already h = (over_by o.told h, (0, sym (taken-none s.slot o)))
+
+  under_by : (w : Option Told) → taken_by s ≤ s.limit → IfSome w (λ t. taken_by s + length (to_come s t) ≤ s.limit) → ¬ (option_map (λ t. nat_lt s.limit (taken_by s + length (to_come s t))) w ≡ Some true)
+  under_by None h m e = cc
+  under_by (Some t) h m e =
+      let k : nat_lt s.limit (taken_by s + length (to_come s t)) ≡ true = cc (e) in
+      let l = Rattle.std.proofs.Common.ltb-true s.limit (taken_by s + length (to_come s t)) k in
+      omega (arith, l, m)
+
+  pub ended_already : (r : ℕ) → taken_by s ≤ s.limit → s.ended ≡ true → DrainsRest s o (Ok r) o
+  ended_already r h end = (under_by o.told h (none o.told), (λ seen. seen end), (0, sym (taken-none s.slot o)))
+    where
+      none : (w : Option Told) → IfSome w (λ t. taken_by s + length (to_come s t) ≤ s.limit)
+      none None = tt
+      none (Some t) = let z : length (to_come s t) ≡ 0 = ap (λ x. length (cond x [] (left_in s.slot t.left))) end in omega (arith, z, h)
+
+  pub all_drained : (p : Outside) → s.ended ≡ false → taken_by s ≤ s.limit → Drained s.slot (s.limit - taken_by s) o p → DrainsRest {T = ℕ} s o (Ok 0) p
+  all_drained p open_still h (n, few, passes, end) = (
+    under_by o.told h (short o.told passes.stood (subst (λ (w : Option Told). IfSome w (λ t. left_in s.slot t.left ≡ [])) (ap (λ (x : Outside). x.told) passes.moved) end)),
+    (λ seen. end),
+    (n, passes.moved),
+  )
+    where
+      short : (w : Option Told) → IfSome w (λ t. n ≤ length (left_in s.slot t.left)) → IfSome (option_map (without_front s.slot n) w) (λ t. left_in s.slot t.left ≡ []) → IfSome w (λ t. taken_by s + length (to_come s t) ≤ s.limit)
+      short None stood none = tt
+      short (Some t) stood none =
+          let left : length (to_come s t) ≡ length (left_in s.slot t.left) = ap (λ x. length (cond x [] (left_in s.slot t.left))) open_still in
+          let z : length (drop n (left_in s.slot t.left)) ≡ 0 = ap length (sym (left-behind s.slot n t) ∙ none) in
+          omega (arith, left, z, length-drop n (left_in s.slot t.left), few, h)
+
+  pub too_much : (p : Outside) → s.ended ≡ false → taken_by s ≤ s.limit → Passes s.slot ((s.limit - taken_by s) + 1) o p → DrainsRest {T = ℕ} s o (Err drained.TooLong) p
+  too_much p open_still h passes = (long o.told passes.stood, ((s.limit - taken_by s) + 1, passes.moved))
+    where
+      long : (w : Option Told) → IfSome w (λ t. (s.limit - taken_by s) + 1 ≤ length (left_in s.slot t.left)) → ¬ (option_map (λ t. nat_lt s.limit (taken_by s + length (to_come s t))) w ≡ Some false)
+      long None stood e = cc
+      long (Some t) stood e =
+          let k : nat_lt s.limit (taken_by s + length (to_come s t)) ≡ false = cc (e) in
+          let l = Rattle.std.proofs.Common.ltb-false s.limit (taken_by s + length (to_come s t)) k in
+          let left : length (to_come s t) ≡ length (left_in s.slot t.left) = ap (λ x. length (cond x [] (left_in s.slot t.left))) open_still in
+          omega (arith, l, left, stood, h)
+
+pub rest_drained : {T : Type 0} (s : SlotState) (o p : Outside) (r : Result T DrainErr) → s.ended ≡ false → taken_by s ≤ s.limit → Drains s.slot (s.limit - taken_by s) o r p → DrainsRest s o r p
+rest_drained s o p (Ok answer) open_still h d = all_drained s o p open_still h d
+rest_drained s o p (Err drained.TooLong) open_still h d = too_much s o p open_still h d
+rest_drained s o p (Err drained.Failed) open_still h d = d

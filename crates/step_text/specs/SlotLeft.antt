@@ -27,11 +27,11 @@ slot_is_left g all s o =
     (left.0, left.1, (c.0, c.1, left.2))
 
 pub frame_itself : (s : SlotState) (o : Outside) → SlotFrame s o s o
-frame_itself s o = record { slot = refl; limit = refl; seen = λ e. e; read = (0, o.faults.reads, sym (taken-none s.slot o)) }
+frame_itself s o = record { slot = refl; limit = refl; long = refl; seen = λ e. e; read = (0, o.faults.reads, sym (taken-none s.slot o)) }
 
 read_on : (slot other : Slot) (o p q : Outside) → other ≡ slot → OnlyReads slot o p → OnlyReads other p q → OnlyReads slot o q
 read_on slot other o p q same (n, a, h) (m, b, k) =
     (n + m, b, k ∙ (λ i. record (taken (same i) m (h i)) { faults = record (h i).faults { reads = b } }) ∙ ap (λ (x : Outside). record x { faults = record o.faults { reads = b } }) (taken-twice slot n m o))
 
 pub frame_on : (a : SlotState) (o : Outside) (b : SlotState) (p : Outside) (c : SlotState) (q : Outside) → SlotFrame a o b p → SlotFrame b p c q → SlotFrame a o c q
-frame_on a o b p c q h k = record { slot = k.slot ∙ h.slot; limit = k.limit ∙ h.limit; seen = λ e. k.seen (h.seen e); read = read_on a.slot b.slot o p q h.slot h.read k.read }
+frame_on a o b p c q h k = record { slot = k.slot ∙ h.slot; limit = k.limit ∙ h.limit; long = k.long ∙ h.long; seen = λ e. k.seen (h.seen e); read = read_on a.slot b.slot o p q h.slot h.read k.read }

@@ -3,6 +3,8 @@ use Rattle.std.specs.Prelude.{◌≡◌, ◌≤◌, ◌<◌, ◌+◌, ◌-◌, �
 use Rattle.cx_desk.specs.declared.desk.Slot.{Slot}
 use Rattle.cx_desk.specs.Outside.{Told, Outside, left_in}
 use Rattle.cx_desk.specs.Calls.{taken, ReadFaulted, AtEnd}
+use Rattle.cx_desk.specs.declared.draining.DrainErr.{DrainErr}
+use Rattle.cx_desk.specs.declared.draining.DrainErr.TheVariants as drained
 use Rattle.cx_texts.specs.Pieces.{tokens_in}
 use Rattle.cx_texts.specs.declared.line_state.LineState.{LineState}
 use Rattle.cx_texts.specs.Grammar.{Grammar}
@@ -94,9 +96,16 @@ pub record ReadingFails (s : SlotState) (o : Outside) (refusal : TextRefusal) (t
 abbrev pub OnlyReads : Slot → Outside → Outside → Type 0
 OnlyReads slot o p = (n : ℕ) × (reads : ℕ) × (p ≡ record (taken slot n o) { faults = record o.faults { reads = reads } })
 
+-- the rest of the text was read, and tells whether it passes its limit
+abbrev pub DrainsRest : {T : Type 0} → SlotState → Outside → Result T DrainErr → Outside → Type 0
+DrainsRest s o (Ok answer) p = (¬ (is_too_long s o ≡ Some true)) × (EndSeen s o → AtEnd s.slot p) × ((n : ℕ) × (p ≡ taken s.slot n o))
+DrainsRest s o (Err drained.TooLong) p = (¬ (is_too_long s o ≡ Some false)) × ((n : ℕ) × (p ≡ taken s.slot n o))
+DrainsRest s o (Err drained.Failed) p = (n : ℕ) × ReadFaulted (taken s.slot n o) p
+
 -- what a source that reads a slot keeps
 pub record SlotFrame (s : SlotState) (o : Outside) (t : SlotState) (p : Outside) : Type 0 where
   pub slot : t.slot ≡ s.slot
   pub limit : t.limit ≡ s.limit
+  pub long : is_too_long t p ≡ is_too_long s o
   pub seen : EndSeen s o → EndSeen t p
   pub read : OnlyReads s.slot o p

@@ -5,7 +5,7 @@ ghost use Rattle.step_text.specs.declared.source.TextRefusal.TheVariants.{Unterm
 ghost use Rattle.cx_desk.specs.Outside.{Outside, started_in};
 ghost use Rattle.cx_texts.specs.declared.line_state.LineState.TheVariants.{Start, Kept};
 ghost use Rattle.step_text.specs.Found.{IsFound};
-ghost use Rattle.step_text.specs.Slots.{SlotKept, ReadsOn, ReadingFails, Took, is_too_long, taken_by, to_read};
+ghost use Rattle.step_text.specs.Slots.{DrainsRest, SlotKept, ReadsOn, ReadingFails, Took, is_too_long, taken_by, to_read};
 ghost use Rattle.step_text.specs.Sources.{Gives, SpentAs, StuckAs, IsTooLongOnly, PlaceRises};
 ghost use Rattle.step_text.specs.Texts.{is_spent_by, stuck_by};
 ghost use Rattle.step_text.specs.SlotAnswers.{PairLeaves, IsAnswer};
@@ -13,7 +13,7 @@ ghost use Rattle.step_text.specs.SlotAnswers.{PairLeaves, IsAnswer};
 use crate::ahead::TokensAhead;
 use crate::grammar::StepGrammar;
 use crate::source::TextRefusal;
-use cx_desk::{Desk, ReadAhead, Slot};
+use cx_desk::{Desk, DrainErr, ReadAhead, Slot, drain};
 use cx_texts::{LineState, pass_blanks, whole_front};
 use std::alloc::Global;
 use std::marker::{Model, PhantomData};
@@ -245,6 +245,22 @@ where
                 None => self.read_twice(desk)?,
             }
         }
+    }
+
+    /// Reads the rest of the text without keeping it, and says whether the whole text was within the limit.
+    ///
+    /// No step is asked for behind this.
+    pub fn drain_from<D: Desk>(&self, desk: &mut D) -> Result<(), DrainErr>
+        requires { started_in self.now.slot (D.outside desk.old).started ≡ true }
+        ensures { DrainsRest self.now (D.outside desk.old) result (D.outside desk.new) }
+    {
+        if self.taken() > self.limit {
+            return Err(DrainErr::TooLong);
+        }
+        if self.ended {
+            return Ok(());
+        }
+        drain(desk, self.slot, self.limit - self.taken())
     }
 
     /// The next step, or none at the end of the text between two steps, as a source of steps gives it.

@@ -2,12 +2,12 @@
 ghost use Rattle.std.specs.Prelude.{◌≡◌, ◌≤◌, [], None, true, false};
 ghost use Rattle.cx_desk.specs.Outside.{started_in};
 ghost use Rattle.cx_texts.specs.declared.line_state.LineState.TheVariants.{Start};
-ghost use Rattle.step_text.specs.Slots.{taken_by};
+ghost use Rattle.step_text.specs.Slots.{DrainsRest, taken_by};
 
 use crate::grammar::StepGrammar;
 use crate::slot_reader::SlotReader;
 use crate::source::{StepSource, TextRefusal};
-use cx_desk::{Desk, Slot};
+use cx_desk::{Desk, DrainErr, Slot};
 use std::alloc::Global;
 
 /// A source of the steps that stand in a slot of a lent desk, read piece by piece.
@@ -45,6 +45,14 @@ where
         ensures { result ≡ taken_by self.now.reader }
     {
         self.reader.taken()
+    }
+
+    /// Reads the rest of the text without keeping it, and says whether the whole text was within the limit.
+    pub fn drain(&mut self) -> Result<(), DrainErr>
+        ensures drains { DrainsRest self.old.reader (D.outside self.old.desk.now) result (D.outside self.new.desk.now) }
+        ensures same_desk { self.new.desk.ghost_name ≡ self.old.desk.ghost_name }
+    {
+        self.reader.drain_from(self.desk)
     }
 }
 
