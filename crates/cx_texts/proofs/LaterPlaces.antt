@@ -8,7 +8,7 @@ use Rattle.cx_texts.proofs.Lines.{Line}
 abbrev pub later : ℕ → Token → Token
 later m t = record { place = m + t.place; text = t.text }
 
-abbrev moved : ℕ → ℕ × ℕ → ℕ × ℕ
+abbrev pub moved : ℕ → ℕ × ℕ → ℕ × ℕ
 moved m b = (m + b.0, b.1)
 
 bytes-moved : (m n : ℕ) (text : List ℕ) → enumerate_from (m + n) text ≡ map (moved m) (enumerate_from n text)
@@ -28,7 +28,7 @@ split-moved test m [] = refl
 split-moved test m (b ∷ line) =
     ap (λ ls. cond (test b.1) ([] ∷ ls) (onto_first (moved m b) ls)) (split-moved test m line) ∙ cut-moved m b (slice_split (λ c. test c.1) line) (test b.1)
 
-begins-moved : (c m : ℕ) (line : Line) → begins_with c (map (moved m) line) ≡ begins_with c line
+pub begins-moved : (c m : ℕ) (line : Line) → begins_with c (map (moved m) line) ≡ begins_with c line
 begins-moved c m [] = refl
 begins-moved c m (b ∷ line) = ap (λ x. cond (is_blank b.1) x (b.1 == c)) (begins-moved c m line)
 
@@ -41,7 +41,7 @@ pieces-moved m [] = refl
 pieces-moved m ([] ∷ ls) = pieces-moved m ls
 pieces-moved m ((b ∷ run) ∷ ls) = (λ i. record { place = m + b.0; text = b.1 ∷ text-moved m run i } ∷ pieces-moved m ls i)
 
-line-moved : (m : ℕ) (line : Line) → tokens_of_line (map (moved m) line) ≡ map (later m) (tokens_of_line line)
+pub line-moved : (m : ℕ) (line : Line) → tokens_of_line (map (moved m) line) ≡ map (later m) (tokens_of_line line)
 line-moved m line = ap (filter_map token_of) (split-moved is_blank m line) ∙ pieces-moved m (slice_split (λ b. is_blank b.1) line)
 
 kept-moved : (m : ℕ) (l : Line) (ls : List Line) (x : Bool) → tokens_of_lines (map (map (moved m)) ls) ≡ map (later m) (tokens_of_lines ls)
@@ -60,7 +60,7 @@ first-moved : (m : ℕ) (ls : List Line) → tokens_with_first (map (map (moved 
 first-moved m [] = refl
 first-moved m (l ∷ ls) = (λ i. line-moved m l i ++ lines-moved m ls i) ∙ sym (map-append (later m) (tokens_of_line l) (tokens_of_lines ls))
 
-text-lines : (m n : ℕ) (text : List ℕ) → lines_from (m + n) text ≡ map (map (moved m)) (lines_from n text)
+pub text-lines : (m n : ℕ) (text : List ℕ) → lines_from (m + n) text ≡ map (map (moved m)) (lines_from n text)
 text-lines m n text = ap (slice_split (λ b. b.1 == 10)) (bytes-moved m n text) ∙ split-moved (λ c. c == 10) m (enumerate_from n text)
 
 pub tokens_left-later : (b : Bool) (m n : ℕ) (text : List ℕ) → tokens_left b (m + n) text ≡ map (later m) (tokens_left b n text)
