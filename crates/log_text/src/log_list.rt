@@ -65,14 +65,14 @@ impl LogList {
 impl StepSource for LogList {
     type Step = LogStep;
 
-    ghost use Rattle.std.specs.Prelude.{None, false, refl};
+    ghost use Rattle.std.specs.Prelude.{None, Some, false, refl};
     ghost use Rattle.cx_base.specs.Endings.{finished};
     ghost use Rattle.step_text.specs.Lists.{LeavesList, last_place, GaveFront};
     ghost use Rattle.step_text.specs.ListLaws.{gave_nothing, gave_on};
 
     ghost leaves = { LeavesList };
 
-    ghost passes_limit = { λ _. ⊥ };
+    ghost passes_limit = { λ _. Some false };
 
     ghost is_spent = { λ _. false };
 

@@ -45,14 +45,14 @@ impl ProofList {
 impl StepSource for ProofList {
     type Step = ProofStep;
 
-    ghost use Rattle.std.specs.Prelude.{None, false, refl};
+    ghost use Rattle.std.specs.Prelude.{None, Some, false, refl};
     ghost use Rattle.cx_base.specs.Endings.{finished};
     ghost use Rattle.step_text.specs.Lists.{LeavesList, last_place, GaveFront};
     ghost use Rattle.step_text.specs.ListLaws.{gave_nothing, gave_on};
 
     ghost leaves = { LeavesList };
 
-    ghost passes_limit = { λ _. ⊥ };
+    ghost passes_limit = { λ _. Some false };
 
     ghost is_spent = { λ _. false };
 
