@@ -76,12 +76,13 @@ module _ {X : Type 0} (leaves : X → List LogStep → Ending → Type 0) (told 
   Turns formula first now state count (Ok elab) = Goes formula first now state count elab
   Turns formula first now state count (Err fault) = IsCutOff formula first now fault
 
--- a fault of reading or of writing is one that was counted, and a text is too long only where the source tells so
-abbrev pub HasCause : Type 0 → ℕ → ℕ → ℕ → ℕ → ElabFault → Type 0
-HasCause Passes reads_before reads_now writes_before writes_now Memory = ⊤
-HasCause Passes reads_before reads_now writes_before writes_now Read = Rose reads_before reads_now
-HasCause Passes reads_before reads_now writes_before writes_now Write = Rose writes_before writes_now
-HasCause Passes reads_before reads_now writes_before writes_now TooLong = Passes
+-- a fault of reading or of writing is one that was counted, and a text is too long only where the source does not tell
+-- that it keeps within its limit
+abbrev pub HasCause : Option Bool → ℕ → ℕ → ℕ → ℕ → ElabFault → Type 0
+HasCause passes reads_before reads_now writes_before writes_now Memory = ⊤
+HasCause passes reads_before reads_now writes_before writes_now Read = Rose reads_before reads_now
+HasCause passes reads_before reads_now writes_before writes_now Write = Rose writes_before writes_now
+HasCause passes reads_before reads_now writes_before writes_now TooLong = ¬ (passes ≡ Some false)
 
 -- what stands where no step comes: a text that does not fit is refused at this number, the rest is a fault
 abbrev pub text_refused : TextRefusal → ℕ → Result (Option Elab) ElabFault

@@ -18,8 +18,8 @@ pub trait ElabEnds {
     // it has these steps left and then this ending
     ghost leaves: { Self → List LogStep → Ending → Type 0 };
 
-    // it tells that its text passes its limit
-    ghost passes_limit: { Self → Type 0 };
+    // whether its text passes its limit, where it tells that
+    ghost passes_limit: { Self → Option Bool };
 
     // its source has answered `Memory` or `Failed`
     ghost is_spent: { Self → Bool };
@@ -56,7 +56,7 @@ pub trait ElabEnds {
         ensures stuck { StuckAs (stuck self.old) result (stuck self.new) }
         ensures faults { FaultsAs result (read_faults self.old) (read_faults self.new) }
         ensures long { IsTooLongOnly (passes_limit self.old) result }
-        ensures limit { (passes_limit self.new → passes_limit self.old) × (passes_limit self.old → passes_limit self.new) }
+        ensures limit { passes_limit self.new ≡ passes_limit self.old }
         ensures rises { PlaceRises result (place_of self.old) (place_of self.new) }
         ensures within { place_of self.new ≤ farthest self.new }
         ensures far { farthest self.new < 2 ^ 62 }
@@ -79,7 +79,7 @@ pub trait ElabEnds {
         ensures faults { SinkFaultsAs result (write_faults self.old) (write_faults self.new) }
         ensures failed { HasFailedAs result (has_failed self.old) (has_failed self.new) }
         ensures rest_stays { (left : List LogStep) (ending : Ending) → (leaves self.new left ending → leaves self.old left ending) × (leaves self.old left ending → leaves self.new left ending) }
-        ensures limit_stays { (passes_limit self.new → passes_limit self.old) × (passes_limit self.old → passes_limit self.new) }
+        ensures limit_stays { passes_limit self.new ≡ passes_limit self.old }
         ensures spent_stays { is_spent self.new ≡ is_spent self.old }
         ensures stuck_stays { stuck self.new ≡ stuck self.old }
         ensures reads_stay { read_faults self.new ≡ read_faults self.old }

@@ -32,7 +32,7 @@ fn write<E: ElabEnds>(ends: &mut E, written: &Option<ProofStep>) -> Result<(), S
     ensures faults { SinkFaultsAs result (E.write_faults ends.old) (E.write_faults ends.new) }
     ensures failed { HasFailedAs result (E.has_failed ends.old) (E.has_failed ends.new) }
     ensures rest { (left : List LogStep) (ending : Ending) → (E.leaves ends.new left ending → E.leaves ends.old left ending) × (E.leaves ends.old left ending → E.leaves ends.new left ending) }
-    ensures limit { (E.passes_limit ends.new → E.passes_limit ends.old) × (E.passes_limit ends.old → E.passes_limit ends.new) }
+    ensures limit { E.passes_limit ends.new ≡ E.passes_limit ends.old }
     ensures spent { E.is_spent ends.new ≡ E.is_spent ends.old }
     ensures reads { E.read_faults ends.new ≡ E.read_faults ends.old }
     ensures place { E.place_of ends.new ≡ E.place_of ends.old }
@@ -118,7 +118,7 @@ fn take_next<E: ElabEnds>(
     ensures failed { IfOk result (λ _. E.has_failed ends.new ≡ E.has_failed ends.old) }
     ensures rises { IfOk result (λ elab. elab ≡ None → E.place_of ends.old < E.place_of ends.new) }
     ensures far { E.place_of ends.new < 2 ^ 62 }
-    ensures limit { E.passes_limit ends.new → E.passes_limit ends.old }
+    ensures limit { E.passes_limit ends.new ≡ E.passes_limit ends.old }
     ensures cause { IfErr result (HasCause (E.passes_limit ends.old) (E.read_faults ends.old) (E.read_faults ends.new) (E.write_faults ends.old) (E.write_faults ends.new)) }
     ensures frame { E.keeps ends.old ends.new }
 {

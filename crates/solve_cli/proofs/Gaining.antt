@@ -218,7 +218,7 @@ pub settled : {X : Type 0} (leaves : X → List LogStep → Ending → Type 0) (
     → told a ≡ steps_told o → told b ≡ steps_told n → ((step : ProofStep) → torn b step → TornOn step n)
     → HasNoProof (seen o) → first ≡ false → Goes first o last n
     → IfOk r (IsElaborated leaves told torn f a b) → IfErr r (IsCutOff leaves told torn f a b)
-    → IfErr r (HasCause ⊥ 0 0 (fault_of first) (fault_of last)) → WritesStand r (fault_of first) (fault_of last)
+    → IfErr r (HasCause (Some false) 0 0 (fault_of first) (fault_of last)) → WritesStand r (fault_of first) (fault_of last)
     → ElaboratedAs f log (seen o) r (seen n)
 settled leaves told torn f log a b first last o n (Ok (elab.Done k)) reads at_first at_last tears empty whole_before goes judged cut cause stand = (
   λ _ _ _. record { steps = judged.0; ending = judged.1; reads = reads judged.0 judged.1 judged.2; judged = judged.3 },
@@ -235,4 +235,4 @@ settled leaves told torn f log a b first last o n (Err fault.Memory) reads at_fi
 settled leaves told torn f log a b first last o n (Err fault.Write) reads at_first at_last tears empty whole_before goes judged cut cause stand =
     torn_so_far f o n cut.0 empty (has_torn first last o n whole_before goes cause) (tears cut.0 cut.1) (told_as (Torn f cut.0) (told a) (steps_told o) (told b) (steps_told n) at_first at_last cut.2)
 settled leaves told torn f log a b first last o n (Err fault.Read) reads at_first at_last tears empty whole_before goes judged cut cause stand = absurd (omega (arith, cause))
-settled leaves told torn f log a b first last o n (Err fault.TooLong) reads at_first at_last tears empty whole_before goes judged cut cause stand = absurd cause
+settled leaves told torn f log a b first last o n (Err fault.TooLong) reads at_first at_last tears empty whole_before goes judged cut cause stand = absurd (cause refl)

@@ -37,11 +37,12 @@ abbrev pub IsSound : Problem → Verdict → Type 0
 IsSound formula (Verified k) = Unmet formula
 IsSound formula (Refused k cause) = ⊤
 
--- a fault of reading is one that was counted, and a text is too long only where the source tells so
-abbrev pub HasCause : Type 0 → ℕ → ℕ → Fault → Type 0
-HasCause Passes before now Memory = ⊤
-HasCause Passes before now Read = Rose before now
-HasCause Passes before now TooLong = Passes
+-- a fault of reading is one that was counted, and a text is too long only where the source does not tell that it keeps
+-- within its limit
+abbrev pub HasCause : Option Bool → ℕ → ℕ → Fault → Type 0
+HasCause passes before now Memory = ⊤
+HasCause passes before now Read = Rose before now
+HasCause passes before now TooLong = ¬ (passes ≡ Some false)
 
 -- what stands where no step comes: a text that does not fit is refused at this number, the rest is a fault
 abbrev pub text_refused : TextRefusal → ℕ → Result (Option Verdict) Fault

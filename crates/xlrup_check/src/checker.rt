@@ -64,7 +64,7 @@ fn take_next<S: StepSource<Step = ProofStep>>(
     ensures faults { IfOk result (λ _. S.faults source.new ≡ S.faults source.old) }
     ensures rises { IfOk result (λ verdict. verdict ≡ None → S.place_of source.old < S.place_of source.new) }
     ensures far { S.place_of source.new < 2 ^ 62 }
-    ensures limit { S.passes_limit source.new → S.passes_limit source.old }
+    ensures limit { S.passes_limit source.new ≡ S.passes_limit source.old }
     ensures cause { IfErr result (HasCause (S.passes_limit source.old) (S.faults source.old) (S.faults source.new)) }
     ensures frame { S.keeps source.old source.new }
 {

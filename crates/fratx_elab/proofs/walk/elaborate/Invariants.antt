@@ -13,7 +13,7 @@ invariant-loop-steps g l = record {
   failed : g.E.ElabEnds.has_failed l.ends ≡ g.E.ElabEnds.has_failed l.initial.ends;
   few : l.steps ≤ g.E.ElabEnds.place_of l.ends;
   far : l.steps ≤ 2 ^ 62;
-  limit : g.E.ElabEnds.passes_limit l.ends → g.E.ElabEnds.passes_limit l.initial.ends;
+  limit : g.E.ElabEnds.passes_limit l.ends ≡ g.E.ElabEnds.passes_limit l.initial.ends;
   frame : g.E.ElabEnds.keeps l.initial.ends l.ends;
 }
 

@@ -9,7 +9,7 @@ invariant-loop-steps g l = record {
   faults : g.S.StepSource.faults l.source ≡ g.S.StepSource.faults l.initial.source;
   few : l.steps ≤ g.S.StepSource.place_of l.source;
   far : l.steps ≤ 2 ^ 62;
-  limit : g.S.StepSource.passes_limit l.source → g.S.StepSource.passes_limit l.initial.source;
+  limit : g.S.StepSource.passes_limit l.source ≡ g.S.StepSource.passes_limit l.initial.source;
   frame : g.S.StepSource.keeps l.initial.source l.source;
 }
 
