@@ -15,3 +15,5 @@ mod formulas;
 mod log_steps;
 #[cfg(test)]
 mod proof_steps;
+#[cfg(test)]
+mod slots;
