@@ -48,7 +48,7 @@ from-skip n text next rest (line, h, inr (e, f)) =
 -- ---- a run
 
 -- within a line a run up to a blank or the end is the next token
-within-run : (n b : ℕ) (run rest : List ℕ) → NoBlank (b ∷ run) → EndsRun rest → formula_tokens_within n ((b ∷ run) ++ rest) ≡ token_at n (b ∷ run) ∷ formula_tokens_within (n + length (b ∷ run)) rest
+pub within-run : (n b : ℕ) (run rest : List ℕ) → NoBlank (b ∷ run) → EndsRun rest → formula_tokens_within n ((b ∷ run) ++ rest) ≡ token_at n (b ∷ run) ∷ formula_tokens_within (n + length (b ∷ run)) rest
 within-run n b run rest h e = ap kept_with_first (lines-run n (b ∷ run) rest h) ∙ go (lines_from (n + length (b ∷ run)) rest) refl
   where
     go : (ls : List Line) → lines_from (n + length (b ∷ run)) rest ≡ ls → kept_with_first (ahead (enumerate_from n (b ∷ run)) ls) ≡ token_at n (b ∷ run) ∷ kept_with_first ls

@@ -1,3 +1,4 @@
+pub mod FormulaPieces
 pub mod FormulaTokens
 pub mod FrontLaws
 pub mod WordLaws

@@ -5,3 +5,6 @@ pub mod Body
 pub mod Refusals
 pub mod Leading
 pub mod Passed
+pub mod HeaderParts
+pub mod Pieces
+pub mod PieceReading

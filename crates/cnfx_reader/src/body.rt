@@ -6,6 +6,7 @@ ghost use Rattle.cx_texts.specs.LiteralTokens.{IsInteger};
 ghost use Rattle.cnfx_reader.specs.Meanings.{Says, placed_at};
 ghost use Rattle.cnfx_reader.specs.declared.pending.Pending.TheVariants as pending;
 ghost use Rattle.cnfx_reader.specs.Body.{outcome, IsPendingIn, IsEndedBy};
+ghost use Rattle.cnfx_reader.specs.PieceReading.{PieceTaken, PieceRefused};
 
 use crate::body_token::BodyToken;
 use crate::pending::Pending;
@@ -75,6 +76,51 @@ fn take_token(
         },
         BodyToken::Other => Err(ReadRefusal::BadToken(place)),
     }
+}
+
+/// What was read of a piece: what is pending behind it, and the place of the token that was kept back, if one was.
+#[derive(Clone, Copy, Drop)]
+pub(crate) struct PieceRead {
+    pub pending: Pending,
+    pub kept: Option<u64>,
+}
+
+/// Reads the whole tokens of a piece of the body. Where the text may go on, the last of them is kept back: its place tells where
+/// the next piece begins.
+pub(crate) fn read_piece(
+    tokens: &mut FormulaTokens,
+    builder: &mut FormulaBuilder,
+    pending: Pending,
+    ended: bool,
+) -> Result<PieceRead, ReadRefusal>
+    requires { IsPendingIn pending builder.old }
+    ensures { MatchResult result (λ r. PieceTaken pending builder.old tokens.old ended r builder.new) (λ e. PieceRefused pending builder.old tokens.old e) }
+{
+    let mut state = pending;
+    let mut last = match tokens.next_in_body() {
+        Some(at) => at,
+        None => {
+            return Ok(PieceRead {
+                pending,
+                kept: None,
+            });
+        }
+    };
+    while let Some(next) = tokens.next_in_body() {
+        state = take_token(builder, state, last)?;
+        last = next;
+    }
+    if !ended {
+        return Ok(PieceRead {
+            pending: state,
+            kept: Some(last.place),
+        });
+    }
+    let pending = take_token(builder, state, last)?;
+    Ok(PieceRead {
+        pending,
+        kept: None,
+    })
 }
 
 /// Reads the constraints behind the header. `len` is the text's length.

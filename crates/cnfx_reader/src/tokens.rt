@@ -1,6 +1,6 @@
 //! The tokens of a formula's text, one after another.
-ghost use Rattle.std.specs.Prelude.{◌≡◌, ℕ, List, [], ◌∷◌, MatchOption};
-ghost use Rattle.cnfx_reader.specs.TokensLeft.{formula_tokens_from};
+ghost use Rattle.std.specs.Prelude.{◌≡◌, ◌<◌, ◌+◌, ◌^◌, ℕ, List, [], ◌∷◌, length, MatchOption};
+ghost use Rattle.cnfx_reader.specs.TokensLeft.{formula_tokens_from, formula_tokens_within};
 ghost use Rattle.cnfx_reader.specs.Meanings.{Says};
 ghost use Rattle.cx_texts.specs.Tokens.{Token};
 ghost use Rattle.cx_texts.specs.Words.{formula_words_of};
@@ -14,19 +14,21 @@ use std::marker::Model;
 #[derive(Drop)]
 pub(crate) struct FormulaTokens<'a> {
     text: &'a [u8],
+    // the place of the first byte in the whole text
+    from: usize,
     place: Place,
 }
 
 impl<'a> Model for FormulaTokens<'a> {
-    ghost use Rattle.std.specs.Prelude.{List, length, ◌≤◌};
+    ghost use Rattle.std.specs.Prelude.{List, length, drop, ◌≤◌, ◌<◌, ◌+◌, ◌^◌};
     ghost use Rattle.cx_texts.specs.Tokens.{Token};
-    ghost use Rattle.cnfx_reader.specs.Passed.{left_at};
+    ghost use Rattle.cnfx_reader.specs.TokensLeft.{formula_tokens_left};
 
     ghost Value = { List Token };
 
-    ghost view = { λ r. left_at r.text.now r.place };
+    ghost view = { λ r. formula_tokens_left r.place.in_line (r.from + r.place.at) (drop r.place.at r.text.now) };
 
-    ghost invariant = { λ r. r.place.at ≤ length r.text.now };
+    ghost invariant = { λ r. (r.place.at ≤ length r.text.now) × (r.from + length r.text.now < 2 ^ 64) };
 }
 
 /// A token of the body, and the place of its first byte.
@@ -43,9 +45,25 @@ impl<'a> FormulaTokens<'a> {
     {
         FormulaTokens {
             text,
+            from: 0,
             place: Place {
                 at: 0,
                 in_line: false,
+            },
+        }
+    }
+
+    /// The tokens of a part of a text that begins at this place, within a kept line.
+    pub(crate) fn within(text: &'a [u8], place: usize) -> FormulaTokens<'a>
+        requires { place + length text.now < 2 ^ 64 }
+        ensures { result ≡ formula_tokens_within place text.now }
+    {
+        FormulaTokens {
+            text,
+            from: place,
+            place: Place {
+                at: 0,
+                in_line: true,
             },
         }
     }
@@ -62,7 +80,7 @@ impl<'a> FormulaTokens<'a> {
             in_line: true,
         };
         Some(TokenAt {
-            place: at,
+            place: self.from + at,
             text: &text[at..at + len],
         })
     }
@@ -77,7 +95,7 @@ impl<'a> FormulaTokens<'a> {
         let leading = leading_token(&text[at..]);
         self.place = behind_token(text, at + leading.len, leading.blank_follows);
         Some(BodyTokenAt {
-            place: at as u64,
+            place: (self.from + at) as u64,
             token: leading.token,
         })
     }

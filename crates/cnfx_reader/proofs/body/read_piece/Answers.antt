@@ -1,0 +1,70 @@
+use Rattle.std.proofs.Common.{◌≡◌, ◌∙◌, refl, sym, ap, subst, List, [], ◌∷◌, ◌++◌, append_assoc, append-nil}
+use Rattle.std.proofs.lemmas.Result.{err_from_is_err_and}
+use Rattle.cx_texts.specs.Tokens.{Token}
+use Rattle.cx_texts.specs.Words.{Placed, placed_formula_words, formula_words_of}
+use Rattle.cnfx_reader.specs.Body.{outcome, Outcome, IsEndedBy}
+use Rattle.cnfx_reader.specs.Meanings.{placed_at}
+use Rattle.cnfx_reader.specs.PieceReading.{PieceRefused}
+use Rattle.cnfx_reader.proofs.body.read_piece.Goals as goal
+
+pub loop-next-preserved : goal.loop-next-preserved
+loop-next-preserved c =
+    let inv = c.loop-next.invariant in
+    let next = c.in-Some-next_in_body.ensures in
+    let token : Token = record { place = c.loop-next.last.place; text = inv.text } in
+    let here = placed_at c.loop-next.last.place (formula_words_of inv.text) in
+    let tokens = c.next_in_body-in-loop-next.new.self in
+    let other : Token = record { place = c.in-Some-next_in_body.next.place; text = next.0 } in
+    record {
+      text = next.0;
+      before = inv.before ++ token ∷ [];
+      split = inv.split ∙ ap (λ ts. inv.before ++ token ∷ ts) next.1 ∙ sym (append_assoc inv.before (token ∷ []) (other ∷ tokens));
+      says = next.2;
+      fits = c.in_ok-state.ensures.fits;
+      same = λ len more.
+        let behind = placed_formula_words c.loop-next.tokens in
+        inv.same len more ∙ ap (outcome len c.loop-next.state c.loop-next.builder) (append_assoc here behind more)
+            ∙ c.in_ok-state.ensures.ok len (formula_words_of inv.text) (behind ++ more) inv.says
+            ∙ ap (λ ts. outcome len c.in_ok-state.state c.take_token.new.builder (placed_formula_words ts ++ more)) next.1;
+    }
+
+pub returns-in_err-state : goal.returns-in_err-state
+returns-in_err-state c =
+    let inv = c.loop-next.invariant in
+    let here = placed_at c.loop-next.last.place (formula_words_of inv.text) in
+    let behind = placed_formula_words c.loop-next.tokens in
+    let p = err_from_is_err_and c.from_residual.result c.from_residual.ensures.1 in
+    let refused : PieceRefused c.args.pending c.args.builder.now c.args.tokens.now c.in_err-state.field-0.0 = λ len more.
+    subst (λ (o : Outcome). IsEndedBy c.in_err-state.field-0.0 o.ending) (sym (inv.same len more ∙ ap (outcome len c.loop-next.state c.loop-next.builder) (append_assoc here behind more)))
+        (c.in_err-state.ensures.err len (formula_words_of inv.text) (behind ++ more) inv.says) in
+    rw (p.1, p.2) refused
+
+pub returns-in_err-pending : goal.returns-in_err-pending
+returns-in_err-pending c =
+    let inv = c.loop-next.invariant in
+    let here = placed_at c.loop-next.last.place (formula_words_of inv.text) in
+    let behind = placed_formula_words c.loop-next.tokens in
+    let p = err_from_is_err_and c.from_residual-in_err-pending.result c.from_residual-in_err-pending.ensures.1 in
+    let refused : PieceRefused c.args.pending c.args.builder.now c.args.tokens.now c.in_err-pending.field-0.0 = λ len more.
+    subst (λ (o : Outcome). IsEndedBy c.in_err-pending.field-0.0 o.ending) (sym (inv.same len more ∙ ap (outcome len c.loop-next.state c.loop-next.builder) (append_assoc here behind more)))
+        (c.in_err-pending.ensures.err len (formula_words_of inv.text) (behind ++ more) inv.says) in
+    rw (p.1, p.2) refused
+
+pub returns : goal.returns
+returns c =
+    let inv = c.loop-next.invariant in
+    let token : Token = record { place = c.loop-next.last.place; text = inv.text } in
+    let here = placed_at c.loop-next.last.place (formula_words_of inv.text) in
+    let none : c.loop-next.tokens ≡ [] = c.in_default.ensures.0 in
+    record {
+      before = inv.before ++ token ∷ [];
+      rest = [];
+      split = inv.split ∙ ap (λ ts. inv.before ++ token ∷ ts) none ∙ sym (append-nil (inv.before ++ token ∷ []));
+      kept = refl;
+      fits = c.in_ok-pending.ensures.fits;
+      same = λ len more.
+        let behind = placed_formula_words c.loop-next.tokens in
+        inv.same len more ∙ ap (outcome len c.loop-next.state c.loop-next.builder) (append_assoc here behind more)
+            ∙ c.in_ok-pending.ensures.ok len (formula_words_of inv.text) (behind ++ more) inv.says
+            ∙ ap (λ ts. outcome len c.in_ok-pending.pending c.take_token-2.new.builder (placed_formula_words ts ++ more)) none;
+    }
