@@ -23,7 +23,7 @@ loop-steps-init g c =
       failed = refl;
       few = omega arith;
       far = omega arith;
-      limit = λ h. h;
+      limit = refl;
       frame = g.met.E.ElabEnds.keeps_itself c.args.ends.now;
     }
 
