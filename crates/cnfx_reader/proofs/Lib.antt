@@ -1,5 +1,6 @@
 pub mod FormulaPieces
 pub mod FormulaTokens
+pub mod PieceSteps
 pub mod FrontLaws
 pub mod WordLaws
 pub mod BodyReading

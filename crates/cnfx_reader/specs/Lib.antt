@@ -8,3 +8,4 @@ pub mod Passed
 pub mod HeaderParts
 pub mod Pieces
 pub mod PieceReading
+pub mod PieceSteps

@@ -1,5 +1,5 @@
 -- What is read of a piece of a formula's body.
-use Rattle.std.specs.Prelude.{◌≡◌, ℕ, Bool, true, List, [], ◌∷◌, ◌++◌, Option, Some, None}
+use Rattle.std.specs.Prelude.{◌≡◌, ℕ, Bool, true, false, List, [], ◌∷◌, ◌++◌, Option, Some, None}
 use Rattle.cx_base.specs.Drafts.{Draft}
 use Rattle.cx_texts.specs.Tokens.{Token}
 use Rattle.cx_texts.specs.Words.{Placed, placed_formula_words}
@@ -20,6 +20,7 @@ pub record PieceTaken (pending : Pending) (old : Draft) (tokens : List Token) (e
   pub split : tokens ≡ before ++ rest
   pub kept : IsKeptBack ended read.kept rest
   pub fits : IsPendingIn read.pending new
+  pub idle : ended ≡ false → read.kept ≡ None → (tokens ≡ []) × (new ≡ old)
   pub same : (len : ℕ) (more : List Placed) → outcome len pending old (placed_formula_words tokens ++ more) ≡ outcome len read.pending new (placed_formula_words rest ++ more)
 
 -- a token is the first that does not fit, whatever follows

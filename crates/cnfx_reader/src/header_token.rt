@@ -76,6 +76,7 @@ pub(crate) fn take_header_token(part: HeaderPart, token: TokenAt) -> Result<Head
 /// Reads the header of a text of which these are the first tokens: its number of variables, or none where they are too few.
 pub(crate) fn read_head(tokens: &mut FormulaTokens) -> Result<Option<u32>, Offence>
     ensures within { IfOk result (λ o. IfSome o (λ v. v ≤ MAX_VARIABLE)) }
+    ensures front { IfOk result (λ o. IfSome o (λ _. (front : List Token) × (tokens.old ≡ front ++ tokens.new))) }
     ensures read { MatchResult result
         (λ o. IfSome o (λ v. (len : ℕ) (more : List Token) → header len (tokens.old ++ more) ≡ Ok (v, tokens.new ++ more)))
         (λ e. (len : ℕ) (more : List Token) → header len (tokens.old ++ more) ≡ Err e) }

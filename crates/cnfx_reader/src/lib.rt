@@ -8,6 +8,7 @@ mod header;
 mod header_token;
 mod leading_integer;
 mod pending;
+mod piece;
 mod pieces;
 mod places;
 mod read;

@@ -1,4 +1,4 @@
-use Rattle.std.proofs.Common.{◌≡◌, ◌∙◌, refl, sym, ap, subst, List, [], ◌∷◌, ◌++◌, append_assoc, append-nil}
+use Rattle.std.proofs.Common.{◌≡◌, ◌∙◌, refl, sym, ap, subst, List, [], ◌∷◌, ◌++◌, append_assoc, append-nil, true≢false}
 use Rattle.std.proofs.lemmas.Result.{err_from_is_err_and}
 use Rattle.cx_texts.specs.Tokens.{Token}
 use Rattle.cx_texts.specs.Words.{Placed, placed_formula_words, formula_words_of}
@@ -62,6 +62,7 @@ returns c =
       split = inv.split ∙ ap (λ ts. inv.before ++ token ∷ ts) none ∙ sym (append-nil (inv.before ++ token ∷ []));
       kept = refl;
       fits = c.in_ok-pending.ensures.fits;
+      idle = λ open_still none. absurd (true≢false (sym c.if-not-ended.false ∙ open_still));
       same = λ len more.
         let behind = placed_formula_words c.loop-next.tokens in
         inv.same len more ∙ ap (outcome len c.loop-next.state c.loop-next.builder) (append_assoc here behind more)
