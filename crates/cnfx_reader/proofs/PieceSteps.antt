@@ -41,8 +41,8 @@ kept_token v pending old tokens next read new p e =
       k.3,
       p.fits,
       λ len more.
-        ap (λ ws. Ok (v, outcome len pending old ws)) (words-append tokens more) ∙ ap (λ o. Ok (v, o)) (p.same len (placed_formula_words more))
-            ∙ ap (λ ws. Ok (v, outcome len read.pending new ws)) (ap (λ ts. placed_formula_words ts ++ placed_formula_words more) k.2 ∙ ap (λ ws. ws ++ placed_formula_words more) (append-nil here)),
+          ap (λ ws. Ok (v, outcome len pending old ws)) (words-append tokens more) ∙ ap (λ o. Ok (v, o)) (p.same len (placed_formula_words more))
+          ∙ ap (λ ws. Ok (v, outcome len read.pending new ws)) (ap (λ ts. placed_formula_words ts ++ placed_formula_words more) k.2 ∙ ap (λ ws. ws ++ placed_formula_words more) (append-nil here)),
     )
 
 pub body_step : (v : ℕ) (pending : Pending) (old : Draft) (tokens : List Token) (next : ℕ) (read : PieceRead) (new : Draft) (p : PieceTaken pending old tokens false read new) → read.kept ≡ Some next
@@ -72,12 +72,12 @@ module _ (place len : ℕ) (bytes : List ℕ) (tokens : List Token) (blank : End
         inside,
         fits,
         λ size more.
-          let f = followed more in
-          let there = formula_left Kept place (bytes ++ more) before token f.0 (f.1 ∙ ap (λ ts. ts ++ f.0) split ∙ append_assoc before (token ∷ []) f.0) in
-          let k : there.behind ≡ here.behind = omega (arith, there.at, here.at) in
-          let bytes_left : drop there.behind (bytes ++ more) ≡ drop here.behind bytes ++ more = ap (λ n. drop n (bytes ++ more)) k ∙ drop-append-le here.behind bytes more inside in
-          let left : formula_tokens_within t.next (drop here.behind bytes ++ more) ≡ token ∷ f.0 = (λ i. formula_tokens_within (at i) (sym bytes_left i)) ∙ there.left in
-          ap (answer_from phase size old) f.1 ∙ same size f.0 ∙ ap (answer_from t.phase size new) (sym left),
+            let f = followed more in
+            let there = formula_left Kept place (bytes ++ more) before token f.0 (f.1 ∙ ap (λ ts. ts ++ f.0) split ∙ append_assoc before (token ∷ []) f.0) in
+            let k : there.behind ≡ here.behind = omega (arith, there.at, here.at) in
+            let bytes_left : drop there.behind (bytes ++ more) ≡ drop here.behind bytes ++ more = ap (λ n. drop n (bytes ++ more)) k ∙ drop-append-le here.behind bytes more inside in
+            let left : formula_tokens_within t.next (drop here.behind bytes ++ more) ≡ token ∷ f.0 = (λ i. formula_tokens_within (at i) (sym bytes_left i)) ∙ there.left in
+            ap (answer_from phase size old) f.1 ∙ same size f.0 ∙ ap (answer_from t.phase size new) (sym left),
       )
 
 -- ---- behind a header

@@ -69,8 +69,12 @@ fn told_of(
 {
     let mut desk = desk(alloc, text, piece)?;
     start(rt, alloc, &mut desk)?;
-    let mut source: SlotText<MemDesk, ProofGrammar> =
-        SlotText::new(alloc, &mut desk, Slot::Second, limit);
+    let mut source: SlotText<MemDesk, ProofGrammar> = SlotText::new(
+        alloc,
+        &mut desk,
+        Slot::Second,
+        limit,
+    );
     told(alloc, &mut source)
 }
 
@@ -98,7 +102,8 @@ fn pieces_of_any_length_tell_the_same(rt: HostRuntime) -> Result<(), Fail> {
         b"5 2\nc 7 0\n 0 1 0",
         b"12 0 34 0 \r\n\tc",
     ];
-    let wanted = b"0 end 0\n2 end 27\n2 end 28\n2 BadToken(24) 24\n0 Unterminated(8) 0\n1 TooBig(6) 6\n1 end 16\n1 end 14\n".as_slice();
+    let wanted =
+        b"0 end 0\n2 end 27\n2 end 28\n2 BadToken(24) 24\n0 Unterminated(8) 0\n1 TooBig(6) 6\n1 end 16\n1 end 14\n".as_slice();
     for piece in [1, 2, 3, 4096] {
         assert!(rt;
             all_told(&rt, rt.alloc(), &texts, piece)?.as_slice() == wanted,

@@ -22,10 +22,10 @@ loop-next-preserved c =
       says = next.2;
       fits = c.in_ok-state.ensures.fits;
       same = λ len more.
-        let behind = placed_formula_words c.loop-next.tokens in
-        inv.same len more ∙ ap (outcome len c.loop-next.state c.loop-next.builder) (append_assoc here behind more)
-            ∙ c.in_ok-state.ensures.ok len (formula_words_of inv.text) (behind ++ more) inv.says
-            ∙ ap (λ ts. outcome len c.in_ok-state.state c.take_token.new.builder (placed_formula_words ts ++ more)) next.1;
+          let behind = placed_formula_words c.loop-next.tokens in
+          inv.same len more ∙ ap (outcome len c.loop-next.state c.loop-next.builder) (append_assoc here behind more)
+          ∙ c.in_ok-state.ensures.ok len (formula_words_of inv.text) (behind ++ more) inv.says
+          ∙ ap (λ ts. outcome len c.in_ok-state.state c.take_token.new.builder (placed_formula_words ts ++ more)) next.1;
     }
 
 pub returns-in_err-state : goal.returns-in_err-state
@@ -36,7 +36,7 @@ returns-in_err-state c =
     let p = err_from_is_err_and c.from_residual.result c.from_residual.ensures.1 in
     let refused : PieceRefused c.args.pending c.args.builder.now c.args.tokens.now c.in_err-state.field-0.0 = λ len more.
     subst (λ (o : Outcome). IsEndedBy c.in_err-state.field-0.0 o.ending) (sym (inv.same len more ∙ ap (outcome len c.loop-next.state c.loop-next.builder) (append_assoc here behind more)))
-        (c.in_err-state.ensures.err len (formula_words_of inv.text) (behind ++ more) inv.says) in
+    (c.in_err-state.ensures.err len (formula_words_of inv.text) (behind ++ more) inv.says) in
     rw (p.1, p.2) refused
 
 pub returns-in_err-pending : goal.returns-in_err-pending
@@ -47,7 +47,7 @@ returns-in_err-pending c =
     let p = err_from_is_err_and c.from_residual-in_err-pending.result c.from_residual-in_err-pending.ensures.1 in
     let refused : PieceRefused c.args.pending c.args.builder.now c.args.tokens.now c.in_err-pending.field-0.0 = λ len more.
     subst (λ (o : Outcome). IsEndedBy c.in_err-pending.field-0.0 o.ending) (sym (inv.same len more ∙ ap (outcome len c.loop-next.state c.loop-next.builder) (append_assoc here behind more)))
-        (c.in_err-pending.ensures.err len (formula_words_of inv.text) (behind ++ more) inv.says) in
+    (c.in_err-pending.ensures.err len (formula_words_of inv.text) (behind ++ more) inv.says) in
     rw (p.1, p.2) refused
 
 pub returns : goal.returns
@@ -64,8 +64,8 @@ returns c =
       fits = c.in_ok-pending.ensures.fits;
       idle = λ open_still none. absurd (true≢false (sym c.if-not-ended.false ∙ open_still));
       same = λ len more.
-        let behind = placed_formula_words c.loop-next.tokens in
-        inv.same len more ∙ ap (outcome len c.loop-next.state c.loop-next.builder) (append_assoc here behind more)
-            ∙ c.in_ok-pending.ensures.ok len (formula_words_of inv.text) (behind ++ more) inv.says
-            ∙ ap (λ ts. outcome len c.in_ok-pending.pending c.take_token-2.new.builder (placed_formula_words ts ++ more)) none;
+          let behind = placed_formula_words c.loop-next.tokens in
+          inv.same len more ∙ ap (outcome len c.loop-next.state c.loop-next.builder) (append_assoc here behind more)
+          ∙ c.in_ok-pending.ensures.ok len (formula_words_of inv.text) (behind ++ more) inv.says
+          ∙ ap (λ ts. outcome len c.in_ok-pending.pending c.take_token-2.new.builder (placed_formula_words ts ++ more)) none;
     }
