@@ -3,10 +3,11 @@ ghost use Rattle.std.specs.Prelude.{◌≤◌, length};
 ghost use Rattle.solve_cli.specs.Seen.{seen};
 ghost use Rattle.solve_cli.specs.Steps.{HasNoProof, Elaborated, ElaboratedAs};
 
+use crate::log_on_desk::LogOnDesk;
 use crate::{Ending, Outcome};
 use cx_base::Formula;
 use cx_desk::Desk;
-use fratx_elab::{Elab, ElabFault, Joined, elaborate};
+use fratx_elab::{Elab, ElabFault, elaborate};
 use log_text::LogText;
 use proof_text::DeskProof;
 use std::alloc::Global;
@@ -23,7 +24,7 @@ fn elaborate_on<D: Desk>(
     ensures { ElaboratedAs formula.now text.now (seen (D.outside desk.old)) result (seen (D.outside desk.new)) }
 {
     let mut source = LogText::new(alloc, text);
-    let mut ends = Joined {
+    let mut ends = LogOnDesk {
         source: &mut source,
         sink: DeskProof::new(desk),
     };

@@ -7,6 +7,7 @@ mod ending;
 mod judge;
 mod laws;
 mod load;
+mod log_on_desk;
 mod print;
 mod program;
 mod solve;

@@ -21,7 +21,7 @@ returns g c =
     settled {X = Bool} (λ _. Leaves log_steps c.new-source.result) (λ x. cond x (steps_told n) (steps_told m)) (λ _ step. TornOn step n)
     c.args.formula.now c.args.text.now false true first last o n c.elaborate.result
     (λ steps ending h. subst (λ (t : TextState). Leaves log_steps t steps ending) c.new-source.ensures h)
-    (ap steps_told begun) refl (λ step h. h) c.requires.empty c.new.ensures.whole (subst (λ (x : Outside). Goes first x last n) begun e.frame.1.1)
+    (ap steps_told begun) refl (λ step h. h) c.requires.empty c.new.ensures.whole (subst (λ (x : Outside). Goes first x last n) begun e.frame.1)
     e.judged e.cut_off e.cause e.writes in
     let same : ◌≡◌ {A = Outside} n (g.D.Desk.outside c.desk-1.given.0) = search rules in
     subst (λ (x : Outside). ElaboratedAs c.args.formula.now c.args.text.now (seen o) c.elaborate.result (seen x)) same done
