@@ -56,29 +56,3 @@ fn proofs_are_refused_at_a_step(rt: HostRuntime) -> Result<(), Fail> {
     }
     Ok(())
 }
-
-#[test]
-fn a_front_of_a_proof_is_refused_where_it_ends(rt: HostRuntime) -> Result<(), Fail> {
-    let proof = "5 2 0 1 2 0\n6 0 5 3 4 0\n";
-    for len in 0..23 {
-        let step = match len {
-            0 => format!(in rt.alloc(); "1 P11")?,
-            11 | 12 => format!(in rt.alloc(); "2 P11")?,
-            1..=10 => format!(in rt.alloc(); "1 P0 at byte {len}")?,
-            _ => format!(in rt.alloc(); "2 P0 at byte {len}")?,
-        };
-        let answer = format!(in rt.alloc(); "c step {step}\ns NOT VERIFIED\n")?;
-        let front = &proof[..len];
-        expect(&rt, rt.alloc(), "check", SQUARE, front, 7, answer.as_str())?;
-    }
-    expect(
-        &rt,
-        rt.alloc(),
-        "check",
-        SQUARE,
-        &proof[..23],
-        0,
-        "s VERIFIED\n",
-    )?;
-    Ok(())
-}
