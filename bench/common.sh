@@ -53,3 +53,25 @@ lay_out() {
         cp "$here/programs/$1/$name" "$2/${name%.in}"
     done
 }
+
+# Seconds, megabytes and status of a command, as "S MB STATUS"; its output stands in $work/answer. One that was cut off at
+# $limit seconds has taken them at the least.
+run() {
+    local status=0 taken TIMEFORMAT=%U
+    taken=$({ time timeout "$limit" /usr/bin/time -f %M -o "$work/time" "$@" > "$work/answer" 2>&1; } 2>&1) || status=$?
+    if [ "$status" = 124 ]; then
+        echo "$limit - $status"
+    else
+        tail -n 1 "$work/time" | awk -v taken="$taken" -v status="$status" '{ printf "%s %.0f %s\n", taken, $1 / 1000, status }'
+    fi
+}
+
+# Copies of these crates, without their wrong bodies, and their lines of crates.txt: a program of `programs/` stands on them.
+bring() {
+    local crate
+    for crate in "$@"; do
+        mkdir -p "$work/crates/$crate"
+        cp -r "$here/../crates/$crate/"{src,specs,proofs} "$work/crates/$crate/"
+        grep "^$crate:" "$here/../crates.txt" | head -n 1 >> "$work/crates.txt"
+    done
+}

@@ -13,11 +13,7 @@ conflicts=${1:-1000000} vars=${2:-300} seed=${3:-1}
 clause_bytes=43
 mkdir -p "$work/crates"
 crates=$(cd "$here/../crates" && for crate in */; do case $crate in *_tests/ | cxsat/ | solve_cli/) ;; *) echo "${crate%/}" ;; esac; done)
-for crate in $crates; do
-    mkdir "$work/crates/$crate"
-    cp -r "$here/../crates/$crate/"{src,specs,proofs} "$work/crates/$crate/"
-    grep "^$crate:" "$here/../crates.txt" | head -n 1 >> "$work/crates.txt"
-done
+bring $crates
 echo 'search_memory: cx_base cnfx_reader log_text gauss_incremental cdcl_core' >> "$work/crates.txt"
 lay_out search_memory "$work/crates/search_memory"
 clauses=$((vars * 426 / 100))

@@ -54,17 +54,6 @@ engines() {
         }' "$work/run.log"
 }
 
-# Seconds, megabytes and status of a command; one that was cut off has taken the limit at the least.
-run() {
-    local status=0 taken TIMEFORMAT=%U
-    taken=$({ time timeout "$limit" /usr/bin/time -f %M -o "$work/time" "$@" > "$work/answer" 2>&1; } 2>&1) || status=$?
-    if [ "$status" = 124 ]; then
-        echo "$limit - $status"
-    else
-        tail -n 1 "$work/time" | awk -v taken="$taken" -v status="$status" '{ printf "%s %.0f %s\n", taken, $1 / 1000, status }'
-    fi
-}
-
 # The sum of so many runs, and the memory and the status of the last one: short runs are below what one of them can tell.
 repeated() {
     local times=$1 sum=0 taken memory=- status=124 round

@@ -8,11 +8,7 @@ source "$(dirname "$0")/common.sh"
 rounds=${1:-5}
 mkdir -p "$work/crates/recover_times/src"
 crates='cx_base cx_texts cx_semantics cnfx_reader gf2_rows parity_engine gf2_matrix xor_recover'
-for crate in $crates; do
-    mkdir "$work/crates/$crate"
-    cp -r "$here/../crates/$crate/"{src,specs,proofs} "$work/crates/$crate/"
-    grep "^$crate:" "$here/../crates.txt" | head -n 1 >> "$work/crates.txt"
-done
+bring $crates
 echo 'recover_times: cx_base cnfx_reader xor_recover' >> "$work/crates.txt"
 lay_out recover_times "$work/crates/recover_times"
 cd "$work/crates/recover_times"

@@ -9,18 +9,6 @@ need minisat cryptominisat5 /usr/bin/time
 build
 limit=${1:-60}
 
-# Seconds and megabytes of a command, as "S MB STATUS"; its output stands in $work/answer. One that was cut off has taken
-# the limit at the least.
-run() {
-    local status=0 taken TIMEFORMAT=%U
-    taken=$({ time timeout "$limit" /usr/bin/time -f %M -o "$work/time" "$@" > "$work/answer" 2>&1; } 2>&1) || status=$?
-    if [ "$status" = 124 ]; then
-        echo "$limit - $status"
-    else
-        tail -n 1 "$work/time" | awk -v taken="$taken" -v status="$status" '{ printf "%s %.0f %s\n", taken, $1 / 1000, status }'
-    fi
-}
-
 # What a run took, in words: its seconds, megabytes, status and conflicts.
 took() {
     if [ "$3" = 124 ]; then echo "cut off at $1 s"; else echo "$1 s, $2 MB, $4 conflicts"; fi
