@@ -6,6 +6,7 @@
 //! parities of its part alone. A [`RowView`] looks at a row.
 #![tactic(auto)]
 
+mod by_column;
 mod labels;
 mod make;
 mod matrix;

@@ -8,7 +8,9 @@
 mod lanes;
 pub mod plain;
 mod position;
+mod scan;
 
 pub use lanes::{add_into, first_outside, parity_and};
 pub use plain::ones;
 pub use position::{bit, flip, put};
+pub use scan::next_one;

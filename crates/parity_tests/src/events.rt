@@ -79,9 +79,9 @@ fn assert_story(
 #[test]
 fn literals_follow_as_they_come(rt: HostRuntime) -> Result<(), Fail> {
     let alloc = rt.alloc();
-    let parities = parities_of(alloc, 3, &[&[1, 2], &[2, 3]])?;
+    let parities = parities_of(alloc, 3, &[&[1, 3], &[2, 3]])?;
     let acts = [Act::Open, Act::Set(yes(1)), Act::Back(0)];
-    let wanted = "...\n...\n+-+\n...\n3 [-1, 3] [1, 2]\n-2 [1, 2] [1]\n";
+    let wanted = "...\n...\n++-\n...\n-3 [1, 3] [1]\n2 [-1, 2] [1, 2]\n";
     assert_story(&rt, alloc, 3, &parities, &acts, wanted)
 }
 

@@ -16,7 +16,7 @@ row_in c = let m = c.self.inside in row_within m.vars m.given m.columns.items (m
 here : (c : After-deref) → window_at (map window c.self.inside.parts.items) (get_or c.self.inside.rows.items c.args.row c.index-words.result.now).part ≡ window c.index.result.now
 here c =
     let m = c.self.inside in
-    row_window m.vars m.given m.columns.items m.places.items m.parts.items m.rows.items m.spares.items m.no_columns.items c.self.invariant c.args.row c.index-words.result.now c.index.result.now
+    row_window m.vars m.given m.columns.items m.places.items m.parts.items m.rows.items m.spares.items m.no_columns.items c.self.invariant.matrix c.args.row c.index-words.result.now c.index.result.now
     (row_in c) c.index-words.ensures c.index.ensures
 
 at_in : (c : After-deref) → c.args.at < length c.self.inside.given
@@ -29,7 +29,7 @@ bit_is c words p words_are p_is =
     let m = c.self.inside in
     ap (λ ws. bit_of ws p) (words_are ∙ ap (λ (r : PackedRow). r.sources.items) c.index-words.ensures)
     ∙ ap (bit_of (get_or m.rows.items c.args.row c.index-words.result.now).sources.items) (p_is ∙ ap (λ ns. place ns (c.args.at + 1)) c.deref.ensures.value)
-    ∙ source_of_row m.vars m.given m.columns.items m.places.items (map window m.parts.items) m.rows.items m.spares.items m.no_columns.items c.self.invariant c.args.row c.index-words.result.now (row_in c)
+    ∙ source_of_row m.vars m.given m.columns.items m.places.items (map window m.parts.items) m.rows.items m.spares.items m.no_columns.items c.self.invariant.matrix c.args.row c.index-words.result.now (row_in c)
     (window c.index.result.now) (here c) c.args.at (at_in c)
     ∙ ap (λ (t : Content). get_or (row_at t.rows c.args.row).sources c.args.at false) c.self.view_is
 
@@ -38,7 +38,7 @@ place_of-place-requires c =
     let m = c.self.inside in
     let s = (goal.at.place_of-place-requires c).After-deref in
     rw c.deref.ensures.value
-    (numbers_of_row m.vars m.given m.columns.items m.places.items (map window m.parts.items) m.rows.items m.spares.items m.no_columns.items c.self.invariant c.args.row c.index-words.result.now (row_in s)
+    (numbers_of_row m.vars m.given m.columns.items m.places.items (map window m.parts.items) m.rows.items m.spares.items m.no_columns.items c.self.invariant.matrix c.args.row c.index-words.result.now (row_in s)
     (window c.index.result.now) (here s))
 
 pub bit-requires : goal.bit-requires
@@ -46,7 +46,7 @@ bit-requires c =
     let m = c.self.inside in
     let s = (goal.at.bit-requires c).After-deref in
     let room =
-    room_for_sources m.vars m.given m.columns.items m.places.items (map window m.parts.items) m.rows.items m.spares.items m.no_columns.items c.self.invariant c.args.row c.index-words.result.now (row_in s)
+    room_for_sources m.vars m.given m.columns.items m.places.items (map window m.parts.items) m.rows.items m.spares.items m.no_columns.items c.self.invariant.matrix c.args.row c.index-words.result.now (row_in s)
     (window c.index.result.now) (here s) in
     let rows : length c.deref-then-place-len.result.now ≡ length (get_or m.rows.items c.args.row c.index-words.result.now).sources.items =
     ap length c.deref-then-place-len.ensures.value ∙ ap (λ (r : PackedRow). length r.sources.items) c.index-words.ensures in
@@ -67,7 +67,7 @@ returns-else-place-len c =
     let words : List ℕ = c.index-words.result.now.sources.items in
     let past : bit_of words c.place_of-place.result ≡ false =
     ap (λ (r : PackedRow). bit_of r.sources.items c.place_of-place.result) c.index-words.ensures
-    ∙ source_past_row m.vars m.given m.columns.items m.places.items (map window m.parts.items) m.rows.items m.spares.items m.no_columns.items c.self.invariant c.args.row c.index-words.result.now (row_in s)
+    ∙ source_past_row m.vars m.given m.columns.items m.places.items (map window m.parts.items) m.rows.items m.spares.items m.no_columns.items c.self.invariant.matrix c.args.row c.index-words.result.now (row_in s)
     (window c.index.result.now) (here s) c.place_of-place.result
     (let small = c.if-place-len.false in let len = c.len.ensures in let size = ap length c.deref.ensures.value in omega (arith, c.deref.ensures.len)) in
     le-ltb c.place_of-place.result c.len.result (let small = c.if-place-len.false in omega arith)

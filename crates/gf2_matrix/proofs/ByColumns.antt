@@ -1,0 +1,269 @@
+-- Sets of rows by column.
+use Rattle.std.proofs.Common.{◌≡◌, ◌≢◌, ℕ, ◌+◌, ◌-◌, ◌*◌, ◌<◌, ◌≤◌, Bool, true, false, ◌&&◌, cond, nat_eq, List, [], ◌∷◌, ◌++◌, Option, Some, None, length, length-append, get_or, set, refl, sym, ap, ◌∙◌, subst, arith, inl, inr}
+use Rattle.std.specs.Slice.Scan.{HoldsNowhere, IsFirstPlace}
+use Rattle.std.proofs.Math.Seq.{get_or-append_seam}
+use Rattle.std.proofs.Math.ListN.{length-set, get_or-eq_default}
+use Rattle.std.proofs.lemmas.List.{get_or-set_same, get_or-set_other, get_or_append_left}
+use Rattle.std.proofs.lemmas.Bool.{cases_eq, cases_lt, eq-eqb, ne_eqb}
+use Rattle.cx_base.specs.Literals.{differ}
+use Rattle.gf2_rows.specs.Bits.{bit_of}
+use Rattle.gf2_rows.proofs.Words.{bit_past_end}
+use Rattle.gf2_matrix.specs.declared.packed.PackedRow.{PackedRow}
+use Rattle.gf2_matrix.specs.declared.by_column.RowSet.{RowSet}
+use Rattle.gf2_matrix.specs.declared.by_column.ByColumn.{ByColumn}
+use Rattle.gf2_matrix.specs.Views.{words_for}
+use Rattle.gf2_matrix.specs.Packed.{Window, window_at, start, takes_pivot, ArePlacesIn, ArePivoted, IsPivotedRow}
+use Rattle.gf2_matrix.specs.ByColumn.{AreTurned, AreSized, AreClear, IsByColumn, AreByColumn}
+use Rattle.gf2_matrix.proofs.Updates.{same_read}
+use Rattle.gf2_matrix.proofs.Rows.{pivoted_more}
+
+differ_none : (a : Bool) → a ≡ differ a false
+differ_none true = refl
+differ_none false = refl
+
+pub turned_none : (chosen bits : List ℕ) (first : ℕ) (sets : List RowSet) → AreSized (length chosen) sets → AreTurned chosen bits first sets sets 0
+turned_none chosen bits first sets sized = record { long = refl; sized = sized; done = λ i m d lt in'. absurd (omega arith); left = λ i d ge. refl }
+
+-- columns that the bits lack
+pub turned_gap : (chosen bits : List ℕ) (first : ℕ) (old new : List RowSet) (n next : ℕ) → AreTurned chosen bits first old new n → n ≤ next
+    → ((i : ℕ) → n ≤ i → i < next → i < length old → bit_of bits (first + i) ≡ false) → AreTurned chosen bits first old new next
+turned_gap chosen bits first old new n next so le lacks = record {
+  long = so.long;
+  sized = so.sized;
+  done = λ i m d lt in'.
+      elim (cases_lt i n) [
+        | inl small ↦ so.done i m d small in'
+        | inr ge ↦
+            ap (λ (s : RowSet). bit_of s.words.items m) (so.left i d ge)
+            ∙ differ_none (bit_of (get_or old i d).words.items m)
+            ∙ ap (λ b. differ (bit_of (get_or old i d).words.items m) (b && bit_of chosen m)) (sym (lacks i ge lt in'))
+      ];
+  left = λ i d ge. so.left i d (omega arith);
+}
+
+-- a column that the bits have
+pub turned_more : (chosen bits : List ℕ) (first : ℕ) (old new : List RowSet) (n : ℕ) (v d : RowSet) → AreTurned chosen bits first old new n → n < length old
+    → bit_of bits (first + n) ≡ true → length v.words.items ≡ length chosen
+    → ((m : ℕ) → bit_of v.words.items m ≡ differ (bit_of (get_or new n d).words.items m) (bit_of chosen m))
+    → AreTurned chosen bits first old (set new n v) (n + 1)
+turned_more chosen bits first old new n v d so within on long sum =
+    let n_in : n < length new = let l = so.long in omega arith in
+    record {
+      long = length-set new n v ∙ so.long;
+      sized = λ i e lt.
+          elim (cases_eq i n) [
+            | inl same ↦ subst (λ k. length (get_or (set new n v) k e).words.items ≡ length chosen) (sym same) (rw (get_or-set_same new n v e n_in) long)
+            | inr ne ↦ rw (get_or-set_other new n i v e ne) (so.sized i e (let l = length-set new n v in omega arith))
+          ];
+      done = λ i m e lt in'.
+          elim (cases_eq i n) [
+            | inl same ↦
+                let was : bit_of (get_or new n d).words.items m ≡ bit_of (get_or old n e).words.items m =
+                ap (λ (s : RowSet). bit_of s.words.items m) (same_read new n d e n_in ∙ so.left n e (omega arith)) in
+                subst (λ k. bit_of (get_or (set new n v) k e).words.items m ≡ differ (bit_of (get_or old k e).words.items m) (bit_of bits (first + k) && bit_of chosen m)) (sym same)
+                (rw (get_or-set_same new n v e n_in, on) (sum m ∙ ap (λ b. differ b (bit_of chosen m)) was))
+            | inr ne ↦ rw (get_or-set_other new n i v e ne) (so.done i m e (omega arith) in')
+          ];
+      left = λ i e ge. get_or-set_other new n i v e (λ same. omega arith) ∙ so.left i e (omega arith);
+    }
+
+-- past the last set there is none to turn
+turned_cut : (chosen bits : List ℕ) (first : ℕ) (old new : List RowSet) (n : ℕ) → AreTurned chosen bits first old new n → length old ≤ n → AreTurned chosen bits first old new (length old)
+turned_cut chosen bits first old new n so le = record {
+  long = so.long;
+  sized = so.sized;
+  done = λ i m d lt in'. so.done i m d (omega arith) in';
+  left = λ i d ge. get_or-eq_default new d (let l = so.long in omega arith) ∙ sym (get_or-eq_default old d ge);
+}
+
+-- the next column that the bits have is past the last set
+pub turned_past : (chosen bits : List ℕ) (first : ℕ) (old new : List RowSet) (from to bit : ℕ) → AreTurned chosen bits first old new (from - first) → first ≤ from
+    → IsFirstPlace (bit_of bits) from to bit → length new ≤ bit - first → AreTurned chosen bits first old new (length old)
+turned_past chosen bits first old new from to bit so low is past =
+    let at = is.low in
+    turned_cut chosen bits first old new (bit - first)
+    (turned_gap chosen bits first old new (from - first) (bit - first) so (omega arith) (λ i ge lt in'. is.before (first + i) (omega arith) (omega arith)))
+    (let l = so.long in omega arith)
+
+-- the bits have no further column
+pub turned_all : (chosen bits : List ℕ) (first : ℕ) (old new : List RowSet) (from : ℕ) → AreTurned chosen bits first old new (from - first) → first ≤ from
+    → HoldsNowhere (bit_of bits) from (64 * length bits) → AreTurned chosen bits first old new (length old)
+turned_all chosen bits first old new from so low none =
+    turned_cut chosen bits first old new (from - first + length old)
+    (turned_gap chosen bits first old new (from - first) (from - first + length old) so (omega arith)
+    (λ i ge lt in'.
+    elim (cases_lt (first + i) (64 * length bits)) [
+      | inl small ↦ none (first + i) (omega arith) small
+      | inr past ↦ bit_past_end bits (first + i) past
+    ]))
+    (omega arith)
+
+-- the set of the next column that the bits have is turned
+pub turned_next : (chosen bits : List ℕ) (first : ℕ) (old new : List RowSet) (from to bit : ℕ) (v d : RowSet) → AreTurned chosen bits first old new (from - first) → first ≤ from
+    → IsFirstPlace (bit_of bits) from to bit → bit < to → bit - first < length new → length v.words.items ≡ length chosen
+    → ((m : ℕ) → bit_of v.words.items m ≡ differ (bit_of (get_or new (bit - first) d).words.items m) (bit_of chosen m))
+    → AreTurned chosen bits first old (set new (bit - first) v) (bit + 1 - first)
+turned_next chosen bits first old new from to bit v d so low is within in' long sum =
+    let at = is.low in
+    let n : ℕ = bit - first in
+    let back : first + n ≡ bit = omega arith in
+    let next : n + 1 ≡ bit + 1 - first = omega arith in
+    subst (AreTurned chosen bits first old (set new n v)) next
+    (turned_more chosen bits first old new n v d
+    (turned_gap chosen bits first old new (from - first) n so (omega arith) (λ i ge lt in'. is.before (first + i) (omega arith) (omega arith)))
+    (let l = so.long in omega arith) (ap (bit_of bits) back ∙ is.hit within) long sum)
+
+-- ---- the part by columns, a row at a time
+-- the sets have the rows of the first n numbers
+pub record AreEntered (w : Window) (rows : List PackedRow) (sets : List RowSet) (chosen : List ℕ) (n : ℕ) : Type 0 where
+  pub count : length sets ≡ length w.columns
+  pub sized : AreSized (words_for (length w.numbers)) sets
+  pub room : length chosen ≡ words_for (length w.numbers)
+  pub free : (m : ℕ) → bit_of chosen m ≡ false
+  pub done : (i m k : ℕ) (d : RowSet) (e : PackedRow) → i < length w.columns → m < n → get_or w.numbers m 0 ≡ k + 1
+      → bit_of (get_or sets i d).words.items m ≡ bit_of (get_or rows k e).bits.items (start w + i)
+  pub ahead : (i m : ℕ) (d : RowSet) → i < length w.columns → n ≤ m → bit_of (get_or sets i d).words.items m ≡ false
+
+pub entered_none : (w : Window) (rows : List PackedRow) (sets : List RowSet) (chosen : List ℕ) → length sets ≡ length w.columns → AreSized (words_for (length w.numbers)) sets → AreClear sets
+    → length chosen ≡ words_for (length w.numbers) → ((m : ℕ) → bit_of chosen m ≡ false) → AreEntered w rows sets chosen 0
+entered_none w rows sets chosen count sized clear room free = record {
+  count = count;
+  sized = sized;
+  room = room;
+  free = free;
+  done = λ i m k d e i_in lt at. absurd (omega arith);
+  ahead = λ i m d i_in ge. clear i m d (omega arith);
+}
+
+pub differ_kept : (a b : Bool) → differ a (b && false) ≡ a
+differ_kept true true = refl
+differ_kept true false = refl
+differ_kept false true = refl
+differ_kept false false = refl
+
+differ_put : (b : Bool) → differ false (b && true) ≡ b
+differ_put true = refl
+differ_put false = refl
+
+pub entered_more : (w : Window) (rows : List PackedRow) (sets : List RowSet) (chosen : List ℕ) (n : ℕ) (row e' : PackedRow) (one freed : List ℕ) (new : List RowSet)
+    → AreEntered w rows sets chosen n → n < length w.numbers → 1 ≤ get_or w.numbers n 0 → get_or w.numbers n 0 ≤ length rows → row ≡ get_or rows (get_or w.numbers n 0 - 1) e'
+    → ((m : ℕ) → bit_of one m ≡ cond (nat_eq m n) true (bit_of chosen m))
+    → AreTurned one row.bits.items (start w) sets new (length sets)
+    → length one ≡ length chosen → length freed ≡ length one → ((m : ℕ) → bit_of freed m ≡ cond (nat_eq m n) false (bit_of one m))
+    → AreEntered w rows new freed (n + 1)
+entered_more w rows sets chosen n row e' one freed new so within low high is ones turned long longer frees =
+    let other : (m : ℕ) → m ≢ n → bit_of one m ≡ false = λ m ne. ones m ∙ rw (ne_eqb m n ne) (so.free m) in
+    let here : bit_of one n ≡ true = ones n ∙ rw (eq-eqb n n refl) refl in
+    record {
+      count = turned.long ∙ so.count;
+      sized = λ i d lt. turned.sized i d lt ∙ long ∙ so.room;
+      room = longer ∙ long ∙ so.room;
+      free = λ m.
+          frees m
+          ∙ elim (cases_eq m n) [
+            | inl same ↦ rw (eq-eqb m n same) refl
+            | inr ne ↦ rw (ne_eqb m n ne) (other m ne)
+          ];
+      done = λ i m k d e i_in lt at.
+          turned.done i m d (let c = so.count in omega arith) (let c = so.count in omega arith)
+          ∙ elim (cases_eq m n) [
+            | inl same ↦
+                let read : row ≡ get_or rows k e =
+                is ∙ ap (λ j. get_or rows j e') (let g = ap (λ j. get_or w.numbers j 0) same in omega arith) ∙ same_read rows k e' e (let g = ap (λ j. get_or w.numbers j 0) same in omega arith) in
+                let on : bit_of one m ≡ true = ap (bit_of one) same ∙ here in
+                rw (so.ahead i m d i_in (omega arith), on) (differ_put (bit_of row.bits.items (start w + i)) ∙ ap (λ (r : PackedRow). bit_of r.bits.items (start w + i)) read)
+            | inr ne ↦ rw (other m ne) (differ_kept (bit_of (get_or sets i d).words.items m) (bit_of row.bits.items (start w + i)) ∙ so.done i m k d e i_in (omega arith) at)
+          ];
+      ahead = λ i m d i_in ge.
+          turned.done i m d (let c = so.count in omega arith) (let c = so.count in omega arith)
+          ∙ rw (other m (λ same. omega arith)) (differ_kept (bit_of (get_or sets i d).words.items m) (bit_of row.bits.items (start w + i)) ∙ so.ahead i m d i_in (omega arith));
+    }
+
+pub entered_all : (w : Window) (rows : List PackedRow) (c : ByColumn) → AreEntered w rows c.sets.items c.chosen.items (length w.numbers) → IsByColumn w rows c
+entered_all w rows c so = record { count = so.count; sized = so.sized; room = so.room; bits = so.done }
+
+pub by_column_more : (windows : List Window) (rows : List PackedRow) (all new : List ByColumn) (n : ℕ) (c : ByColumn) → AreByColumn windows rows all n → new ≡ all ++ c ∷ []
+    → IsByColumn (window_at windows n) rows c → AreByColumn windows rows new (n + 1)
+by_column_more windows rows all new n c so is step =
+    let count = so.count in
+    subst (λ (cs : List ByColumn). AreByColumn windows rows cs (n + 1)) (sym is)
+    (record {
+      count = omega (arith, length-append all (c ∷ []));
+      each = λ p d lt.
+          elim (cases_eq p n) [
+            | inl e ↦
+                subst (λ q. IsByColumn (window_at windows q) rows (get_or (all ++ c ∷ []) q d)) (sym e)
+                (rw (ap (λ q. get_or (all ++ c ∷ []) q d) (sym count) ∙ get_or-append_seam all c [] d) step)
+            | inr ne ↦ rw (get_or_append_left all (c ∷ []) d p (omega arith)) (so.each p d (omega arith))
+          ];
+    })
+
+-- ---- the rows that are chosen
+-- numbers that are not chosen
+chosen_gap : (row bit : ℕ) (pivot : PackedRow) (numbers : List ℕ) (old new : List PackedRow) (n next : ℕ) → ArePlacesIn old numbers → ArePivoted row bit pivot numbers old new n → n ≤ next
+    → ((i j : ℕ) (d : PackedRow) → n ≤ i → i < next → i < length numbers → get_or numbers i 0 ≡ j + 1 → takes_pivot row bit j (get_or old j d) ≡ false)
+    → ArePivoted row bit pivot numbers old new next
+chosen_gap row bit pivot numbers old new n next places so le lacks = record {
+  long = so.long;
+  done = λ i j d lt at.
+      elim (cases_lt i n) [
+        | inl small ↦ so.done i j d small at
+        | inr ge ↦
+            elim (cases_lt i (length numbers)) [
+              | inl in' ↦
+                  subst (λ b. IsPivotedRow b pivot (get_or old j d) (get_or new j d)) (sym (lacks i j d ge lt in' at))
+                  (so.left j d (λ k small same. absurd (let q = places.apart k i (omega arith) in' (same ∙ sym at) in omega arith)))
+              | inr out ↦ absurd (let z = get_or-eq_default numbers 0 out in omega arith)
+            ]
+      ];
+  left = λ j d none. so.left j d (λ i lt. none i (omega arith));
+}
+
+chosen_cut : (row bit : ℕ) (pivot : PackedRow) (numbers : List ℕ) (old new : List PackedRow) (n : ℕ) → ArePivoted row bit pivot numbers old new n → length numbers ≤ n
+    → ArePivoted row bit pivot numbers old new (length numbers)
+chosen_cut row bit pivot numbers old new n so le = record {
+  long = so.long;
+  done = λ i j d lt at. so.done i j d (omega arith) at;
+  left = λ j d none.
+      so.left j d
+      (λ i lt same.
+      elim (cases_lt i (length numbers)) [
+        | inl in' ↦ none i in' same
+        | inr out ↦ absurd (let z = get_or-eq_default numbers 0 out in omega arith)
+      ]);
+}
+
+module _ (row bit : ℕ) (pivot : PackedRow) (numbers chosen : List ℕ) (old new : List PackedRow) (from : ℕ) (places : ArePlacesIn old numbers)
+    (are : (i j : ℕ) (d : PackedRow) → i < length numbers → get_or numbers i 0 ≡ j + 1 → bit_of chosen i ≡ takes_pivot row bit j (get_or old j d))
+    (so : ArePivoted row bit pivot numbers old new from) where
+  pub chosen_past : (to place : ℕ) → IsFirstPlace (bit_of chosen) from to place → length numbers ≤ place → ArePivoted row bit pivot numbers old new (length numbers)
+  chosen_past to place is past =
+      chosen_cut row bit pivot numbers old new place
+      (chosen_gap row bit pivot numbers old new from place places so is.low (λ i j d ge lt in' at. sym (are i j d in' at) ∙ is.before i ge lt)) past
+
+  pub chosen_all : HoldsNowhere (bit_of chosen) from (64 * length chosen) → ArePivoted row bit pivot numbers old new (length numbers)
+  chosen_all none =
+      chosen_cut row bit pivot numbers old new (from + length numbers)
+      (chosen_gap row bit pivot numbers old new from (from + length numbers) places so (omega arith)
+      (λ i j d ge lt in' at.
+      sym (are i j d in' at)
+      ∙ elim (cases_lt i (64 * length chosen)) [
+        | inl small ↦ none i ge small
+        | inr past ↦ bit_past_end chosen i past
+      ]))
+      (omega arith)
+
+  pub chosen_next : (to place j : ℕ) (e n : PackedRow) → IsFirstPlace (bit_of chosen) from to place → place < to → place < length numbers → get_or numbers place 0 ≡ j + 1
+      → IsPivotedRow true pivot (get_or new j e) n → ArePivoted row bit pivot numbers old (set new j n) (place + 1)
+  chosen_next to place j e n is within in' at step =
+      let here = chosen_gap row bit pivot numbers old new from place places so is.low (λ i j d ge lt in' at. sym (are i j d in' at) ∙ is.before i ge lt) in
+      let same : get_or new j e ≡ get_or old j e =
+      here.left j e (λ k small same. absurd (let q = places.apart k place (omega arith) in' (same ∙ sym at) in omega arith)) in
+      pivoted_more row bit pivot numbers old new place j e n true places here in' at
+      (sym (is.hit within) ∙ are place j e in' at ∙ ap (takes_pivot row bit j) (sym same)) step
+
+-- ---- a column of the bits
+-- the same of the bits before a position
+abbrev pub IsColumnBefore : List ℕ → ℕ → ℕ → ℕ → Option ℕ → Type 0
+IsColumnBefore bits first n from None = HoldsNowhere (bit_of bits) first from
+IsColumnBefore bits first n from (Some i) = (i < n) × (bit_of bits (first + i) ≡ true)

@@ -1,0 +1,73 @@
+use Rattle.std.proofs.Common.{◌≡◌, ◌∙◌, ℕ, ◌+◌, ◌-◌, ◌<◌, sym, ap, subst, arith, length, get_or, map, true, false}
+use Rattle.gf2_rows.specs.Bits.{bit_of}
+use Rattle.gf2_matrix.specs.declared.packed.PackedRow.{PackedRow}
+use Rattle.gf2_matrix.specs.Content.{Content, has, row_at}
+use Rattle.gf2_matrix.specs.Packed.{window, window_at}
+use Rattle.gf2_matrix.specs.ByColumn.{IsByColumn}
+use Rattle.gf2_matrix.proofs.Rows.{row_within, row_window}
+use Rattle.gf2_matrix.proofs.PivotSets.{row_by_column, numbers_few, columns_high, column_found, column_none}
+use Rattle.gf2_matrix.proofs.matrix.Matrix.rarest_column.Goals as goal
+use Rattle.gf2_matrix.proofs.matrix.Matrix.rarest_column.Goals.{After-start}
+
+row_in : (c : After-start) → c.args.row < length c.self.inside.rows.items
+row_in c = let m = c.self.inside in row_within m.vars m.given m.columns.items (map window m.parts.items) m.rows.items c.args.row _ c.self.view_is c.requires
+
+here : (c : After-start) → window_at (map window c.self.inside.parts.items) (get_or c.self.inside.rows.items c.args.row c.index-words.result.now).part ≡ window c.index-part.result.now
+here c =
+    let m = c.self.inside in
+    row_window m.vars m.given m.columns.items m.places.items m.parts.items m.rows.items m.spares.items m.no_columns.items c.self.invariant.matrix c.args.row c.index-words.result.now c.index-part.result.now
+    (row_in c) c.index-words.ensures c.index-part.ensures
+
+by_here : (c : After-start) → IsByColumn (window c.index-part.result.now) c.self.inside.rows.items c.index.result.now
+by_here c =
+    let m = c.self.inside in
+    row_by_column m.vars m.given m.columns.items m.places.items (map window m.parts.items) m.rows.items m.spares.items m.no_columns.items c.self.invariant.matrix c.args.row c.index-words.result.now (row_in c) (window c.index-part.result.now) (here c) m.by_columns.items c.index.result.now
+    c.self.invariant.by_column (c.index.ensures ∙ ap (λ (r : PackedRow). get_or m.by_columns.items r.part c.index.result.now) c.index-words.ensures)
+
+bits_are : (c : After-start) → c.deref.result.now ≡ (get_or c.self.inside.rows.items c.args.row c.index-words.result.now).bits.items
+bits_are c = c.deref.ensures.value ∙ ap (λ (r : PackedRow). r.bits.items) c.index-words.ensures
+
+pub rarest-requires-clause-room : goal.rarest-requires-clause-room
+rarest-requires-clause-room c =
+    let m = c.self.inside in
+    let s = (goal.at.rarest-requires-clause-room c).After-start in
+    let room = (by_here s).room in
+    let few = numbers_few m.vars m.given m.columns.items m.places.items (map window m.parts.items) m.rows.items m.spares.items m.no_columns.items c.self.invariant.matrix c.args.row c.index-words.result.now (row_in s) (window c.index-part.result.now) (here s) in
+    let small = c.self.invariant.matrix.few_given in
+    omega arith
+
+pub rarest-requires-clause-sized : goal.rarest-requires-clause-sized
+rarest-requires-clause-sized c =
+    let by = by_here (goal.at.rarest-requires-clause-sized c).After-start in
+    λ i d lt. by.sized i d lt ∙ sym by.room
+
+pub overflow_add-result : goal.overflow_add-result
+overflow_add-result c =
+    let m = c.self.inside in
+    let s = (goal.at.overflow_add-result c).After-start in
+    let count = (by_here s).count in
+    let lt = c.in-Some.ensures.0 in
+    let high = columns_high m.vars m.given m.columns.items m.places.items (map window m.parts.items) m.rows.items m.spares.items m.no_columns.items c.self.invariant.matrix c.args.row c.index-words.result.now (row_in s) (window c.index-part.result.now) (here s) in
+    omega arith
+
+pub returns-in-Some : goal.returns-in-Some
+returns-in-Some c =
+    let m = c.self.inside in
+    let s = (goal.at.returns-in-Some c).After-start in
+    let e = c.index-part.result.now in
+    let i = c.in-Some.column in
+    let count = (by_here s).count in
+    let lt = c.in-Some.ensures.0 in
+    subst (λ (t : Content). (e.base + i < length t.columns) × (has (row_at t.rows c.args.row) (get_or t.columns (e.base + i) 0 - 1) ≡ true)) c.self.view_is
+    (column_found m.vars m.given m.columns.items m.places.items (map window m.parts.items) m.rows.items m.spares.items m.no_columns.items c.self.invariant.matrix c.args.row c.index-words.result.now (row_in s) (window e) (here s) c.deref.result.now (bits_are s) i (omega arith)
+    (ap (λ f. bit_of c.deref.result.now (f + i)) (sym c.start.ensures) ∙ c.in-Some.ensures.1))
+
+pub returns-in-None : goal.returns-in-None
+returns-in-None c =
+    let m = c.self.inside in
+    let s = (goal.at.returns-in-None c).After-start in
+    let e = c.index-part.result.now in
+    let count = (by_here s).count in
+    subst (λ (t : Content). (k : ℕ) → k < length t.columns → has (row_at t.rows c.args.row) (get_or t.columns k 0 - 1) ≡ false) c.self.view_is
+    (column_none m.vars m.given m.columns.items m.places.items (map window m.parts.items) m.rows.items m.spares.items m.no_columns.items c.self.invariant.matrix c.args.row c.index-words.result.now (row_in s) (window e) (here s) c.deref.result.now (bits_are s)
+    (λ i lt. ap (λ f. bit_of c.deref.result.now (f + i)) (sym c.start.ensures) ∙ c.in-None.ensures i (omega arith)))
