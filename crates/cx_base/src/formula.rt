@@ -1,5 +1,5 @@
 //! Formulas of clauses and parities.
-ghost use Rattle.std.specs.Prelude.{◌≡◌, ◌<◌, ◌≤◌, ◌-◌, length, IsTrue, ◌↔◌, slice_get};
+ghost use Rattle.std.specs.Prelude.{◌≡◌, ◌<◌, ◌≤◌, ◌-◌, ◌^◌, length, IsTrue, ◌↔◌, slice_get};
 ghost use Rattle.cx_base.specs.Problem.{Problem, Meets, first_unmet, AreWithin, IsWithinVariables, literals_of, clauses_of, parities_of};
 ghost use Rattle.cx_base.specs.Borrowed.{constraint_of, constraint_at};
 ghost use Rattle.cx_base.specs.Items.{items_left};
@@ -9,6 +9,7 @@ use crate::items::Items;
 use crate::literal::Lit;
 use crate::places::Places;
 use std::marker::Model;
+use std::mem::size_of_val;
 
 /// Whether a constraint is a clause or a parity.
 #[derive(Clone, Copy, PartialEq, Eq, Debug, Drop)]
@@ -60,10 +61,12 @@ impl Formula {
         self.vars
     }
 
-    /// How many constraints it has.
+    /// How many constraints it has: fewer than 2^60, since what it keeps of each takes 24 bytes.
     pub fn len(&self) -> usize
-        ensures { result ≡ length self.now.constraints }
+        ensures len { result ≡ length self.now.constraints }
+        ensures few { length self.now.constraints < 2 ^ 60 }
     {
+        let _bytes = size_of_val(&self.heads[..]);
         self.heads.len()
     }
 

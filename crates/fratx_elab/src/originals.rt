@@ -1,5 +1,5 @@
 //! The constraints of the formula by their content.
-ghost use Rattle.std.specs.Prelude.{◌≡◌, ◌≤◌, ◌<◌, ◌+◌, length, IfOk, MatchOption, IsFalse};
+ghost use Rattle.std.specs.Prelude.{◌≡◌, ◌≤◌, ◌<◌, ◌+◌, ◌^◌, length, IfOk, MatchOption, IsFalse};
 ghost use Rattle.cx_base.specs.Problem.{clauses_of, parities_of};
 ghost use Rattle.cx_semantics.specs.LogRules.{is_original, IsOriginalParity};
 ghost use Rattle.fratx_elab.specs.Elaborates.{IsClauseNumber, IsParityNumber, number_of_clauses, number_of_parities};
@@ -26,8 +26,10 @@ pub struct Counts {
 pub fn count_kinds(formula: &Formula) -> Counts
     ensures clauses { result.clauses ≡ number_of_clauses formula.now }
     ensures parities { result.parities ≡ number_of_parities formula.now }
-    ensures few { result.clauses + result.parities ≤ length formula.now.constraints }
+    ensures kinds { result.clauses + result.parities ≤ length formula.now.constraints }
+    ensures few { length formula.now.constraints < 2 ^ 60 }
 {
+    let _constraints = formula.len();
     Counts {
         clauses: formula.clause_count() as u64,
         parities: formula.parity_count() as u64,

@@ -104,14 +104,14 @@ fn take_next<E: ElabEnds>(
     requires originals { StandsFor originals.now formula.now }
     requires clauses { counts.clauses ≡ number_of_clauses formula.now }
     requires parities { counts.parities ≡ number_of_parities formula.now }
-    requires clause_room { state.old.clauses.last ≤ 2 ^ 61 + steps }
-    requires parity_room { state.old.parities.last ≤ 2 ^ 61 + steps }
+    requires clause_room { state.old.clauses.last ≤ 2 ^ 60 + steps }
+    requires parity_room { state.old.parities.last ≤ 2 ^ 60 + steps }
     requires tied { (proof : Tables) × AreTied formula.now state.old.live proof (names_of state.old) }
     requires fresh { E.is_spent ends.old ≡ false }
     requires count { steps ≤ 2 ^ 62 }
     ensures turns { (first : E) → Kept E.leaves E.steps E.torn formula.now first ends.old state.old steps → Turns E.leaves E.steps E.torn formula.now first ends.new state.new steps result }
-    ensures clause_room { IfOk result (λ elab. elab ≡ None → state.new.clauses.last ≤ 2 ^ 61 + (steps + 1)) }
-    ensures parity_room { IfOk result (λ elab. elab ≡ None → state.new.parities.last ≤ 2 ^ 61 + (steps + 1)) }
+    ensures clause_room { IfOk result (λ elab. elab ≡ None → state.new.clauses.last ≤ 2 ^ 60 + (steps + 1)) }
+    ensures parity_room { IfOk result (λ elab. elab ≡ None → state.new.parities.last ≤ 2 ^ 60 + (steps + 1)) }
     ensures fresh { IfOk result (λ elab. elab ≡ None → E.is_spent ends.new ≡ false) }
     ensures reads { IfOk result (λ _. E.read_faults ends.new ≡ E.read_faults ends.old) }
     ensures writes { WritesStand result (E.write_faults ends.old) (E.write_faults ends.new) }
@@ -156,10 +156,6 @@ pub fn elaborate<E: ElabEnds>(
     ensures failed { IfOk result (λ _. E.has_failed ends.new ≡ E.has_failed ends.old) }
     ensures frame { E.keeps ends.old ends.new }
 {
-    // So many constraints are more than any memory holds.
-    if formula.len() >= 1 << 61 {
-        return Err(ElabFault::Memory);
-    }
     let counts = count_kinds(formula);
     let originals = match Originals::of(alloc, formula) {
         Ok(originals) => originals,

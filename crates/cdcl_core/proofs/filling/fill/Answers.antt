@@ -15,6 +15,6 @@ loop-place-init c =
 pub returns : goal.returns
 returns c =
     let far = c.loop-place-test.false in
-    let long = c.len-place-end.ensures in
+    let long = c.len-place-end.ensures.len in
     subst (λ cs. IsFilledUpTo c.args.formula.now (length (clauses_of cs)) c.loop-place.filled.state c.loop-place.filled.units.items c.loop-place.filled.empty)
     (take_all c.loop-place.place c.args.formula.now.constraints (omega (arith, far, long))) c.loop-place.invariant

@@ -12,7 +12,7 @@ loop-place-init g c = record { counted = none_counted; begun = fresh_has_begun c
 pub tell_original-requires : goal.tell_original-requires
 tell_original-requires g c =
     let same = c.loop-place.invariant.log.formula in
-    let long = c.len-place-end.ensures in
+    let long = c.len-place-end.ensures.len in
     let less = c.loop-place-test.true in
     let n = ap (λ (f : Problem). length f.constraints) same in
     let few = c.requires.few in
@@ -37,6 +37,6 @@ loop-place-preserved g c =
 pub returns-clause-begun : goal.returns-clause-begun
 returns-clause-begun g c =
     let far = c.loop-place-test.false in
-    let long = c.len-place-end.ensures in
+    let long = c.len-place-end.ensures.len in
     let begun = subst (λ cs. HasBegun c.args.log.now.formula.now cs (g.L.Sink.items c.loop-place.log.sink.now)) (take_all c.loop-place.place c.args.log.now.formula.now.constraints (omega (arith, far, long))) c.loop-place.invariant.begun in
     subst (λ (f : Problem). HasBegun f f.constraints (g.L.Sink.items c.loop-place.log.sink.now)) (sym c.loop-place.invariant.log.formula) begun

@@ -10,5 +10,5 @@ loop-place-init c = c.new-parities.ensures.items ∙ no_parity c.args.formula.no
 pub returns : goal.returns
 returns c =
     let far = c.loop-place-test.false in
-    let long = c.len-place-end.ensures in
+    let long = c.len-place-end.ensures.len in
     c.loop-place.invariant ∙ ap parities_of (take_all c.loop-place.place c.args.formula.now.constraints (omega (arith, far, long)))

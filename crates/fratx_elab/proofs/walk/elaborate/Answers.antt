@@ -6,17 +6,14 @@ use Rattle.fratx_elab.specs.declared.outcome.ElabFault.{ElabFault}
 use Rattle.fratx_elab.proofs.Turns.{kept_first, nothing_gained}
 use Rattle.fratx_elab.proofs.walk.elaborate.Goals as goal
 
-pub returns-then-len-clause-cut_off : goal.returns-then-len-clause-cut_off
-returns-then-len-clause-cut_off g c = nothing_gained c.args.formula.now (g.E.ElabEnds.steps c.args.ends.now)
-
 pub loop-steps-init : goal.loop-steps-init
 loop-steps-init g c =
     let clauses = c.new.ensures ∙ ap first_naming c.count_kinds-counts.ensures.clauses in
     let parities = c.new-2.ensures ∙ ap first_naming c.count_kinds-counts.ensures.parities in
     record {
       kept = kept_first _ _ _ c.args.formula.now c.args.ends.now _ c.make.ensures clauses parities;
-      clause_room = omega (arith, ap (λ (n : Naming). n.last) c.new.ensures, c.count_kinds-counts.ensures.few, c.if-len.false, c.len.ensures);
-      parity_room = omega (arith, ap (λ (n : Naming). n.last) c.new-2.ensures, c.count_kinds-counts.ensures.few, c.if-len.false, c.len.ensures);
+      clause_room = omega (arith, ap (λ (n : Naming). n.last) c.new.ensures, c.count_kinds-counts.ensures.kinds, c.count_kinds-counts.ensures.few);
+      parity_room = omega (arith, ap (λ (n : Naming). n.last) c.new-2.ensures, c.count_kinds-counts.ensures.kinds, c.count_kinds-counts.ensures.few);
       fresh = c.requires;
       reads = refl;
       writes = refl;

@@ -5,8 +5,8 @@ use Rattle.fratx_elab.proofs.walk.elaborate.Given as goal
 abbrev pub invariant-loop-steps : goal.invariant-loop-steps
 invariant-loop-steps g l = record {
   kept : Kept g.E.ElabEnds.leaves g.E.ElabEnds.steps g.E.ElabEnds.torn l.formula l.initial.ends l.ends l.state l.steps;
-  clause_room : l.state.clauses.last ≤ 2 ^ 61 + l.steps;
-  parity_room : l.state.parities.last ≤ 2 ^ 61 + l.steps;
+  clause_room : l.state.clauses.last ≤ 2 ^ 60 + l.steps;
+  parity_room : l.state.parities.last ≤ 2 ^ 60 + l.steps;
   fresh : g.E.ElabEnds.is_spent l.ends ≡ false;
   reads : g.E.ElabEnds.read_faults l.ends ≡ g.E.ElabEnds.read_faults l.initial.ends;
   writes : g.E.ElabEnds.write_faults l.ends ≡ g.E.ElabEnds.write_faults l.initial.ends;
