@@ -66,12 +66,14 @@ run() {
     fi
 }
 
-# Copies of these crates, without their wrong bodies, and their lines of crates.txt: a program of `programs/` stands on them.
+# Copies of these crates, without their wrong bodies, and their lines of crates.txt: a program of `programs/` stands on them. What
+# a check of them kept goes along, so that only what changed since is proved again.
 bring() {
     local crate
     for crate in "$@"; do
-        mkdir -p "$work/crates/$crate"
-        cp -r "$here/../crates/$crate/"{src,specs,proofs} "$work/crates/$crate/"
+        mkdir -p "$work/crates"
+        cp -a "$here/../crates/$crate" "$work/crates/"
+        rm -rf "$work/crates/$crate/must-fail"
         grep "^$crate:" "$here/../crates.txt" | head -n 1 >> "$work/crates.txt"
     done
 }

@@ -1,15 +1,16 @@
 #!/usr/bin/env bash
 # Measures the memory of a search beside that of its live clauses, on one random formula of clauses of three literals.
-# usage: bench/memory.sh [CONFLICTS [VARIABLES [SEED]]]     (1,000,000 conflicts, 300 variables, seed 1)
+# usage: bench/memory.sh [CONFLICTS [VARIABLES [SEED]]]     (1,000,000 conflicts, 400 variables, seed 1)
 # A small program searches without keeping its log; how many clauses and literals are live at the end is told by the log that
 # `cxsat solve` writes of the same search. A live clause takes 4 bytes a literal and CLAUSE_BYTES beside: its head in the
-# arena (24), its id among them, and its two nodes in the watch lists (19).
+# arena (24), its id among them, and its two nodes in the watch lists (19). What a search of one conflict takes is left out on both
+# sides: the program, and the clauses of the formula.
 # The program is proved, built and run in a folder of its own; it takes long where nothing was proved before.
 set -euo pipefail
 source "$(dirname "$0")/common.sh"
 need /usr/bin/time
 build
-conflicts=${1:-1000000} vars=${2:-300} seed=${3:-1}
+conflicts=${1:-1000000} vars=${2:-400} seed=${3:-1}
 clause_bytes=43
 mkdir -p "$work/crates"
 crates=$(cd "$here/../crates" && for crate in */; do case $crate in *_tests/ | cxsat/ | solve_cli/) ;; *) echo "${crate%/}" ;; esac; done)
@@ -40,12 +41,20 @@ live() {
         END { print clauses, literals }' "$work/log"
 }
 
-for count in $((conflicts / 10)) "$conflicts"; do
-    /usr/bin/time -f '%M %U' -o "$work/time" out/search_memory "$work/formula" "$count" > "$work/answer"
+# The memory of a search of so many conflicts in kilobytes, its seconds, and its live clauses, their literals and their bytes.
+search() {
+    local memory taken alive literals
+    /usr/bin/time -f '%M %U' -o "$work/time" out/search_memory "$work/formula" "$1" > "$work/answer"
     read -r memory taken < <(tail -n 1 "$work/time")
-    read -r alive literals < <(live "$count")
-    own=$(awk -v c="$alive" -v l="$literals" -v b="$clause_bytes" 'BEGIN { printf "%.1f", (c * b + l * 4) / 1e6 }')
-    row 'memory of a search' "$vars variables, $count conflicts: $(cat "$work/answer"), $taken s" \
-        "$(awk -v m="$memory" 'BEGIN { printf "%.1f MB", m / 1000 }')" "$alive live clauses of $literals literals: $own MB" \
-        "$(awk -v m="$memory" -v own="$own" 'BEGIN { printf "%.2f", m / 1000 / own }')"
+    read -r alive literals < <(live "$1")
+    echo "$memory $taken $alive $literals $((alive * clause_bytes + literals * 4))"
+}
+
+read -r first_memory _ _ _ first_own <<< "$(search 1)"
+for count in $((conflicts / 10)) "$conflicts"; do
+    read -r memory taken alive literals own <<< "$(search "$count")"
+    row 'memory of a search' "$vars variables, $count conflicts: $(head -n 1 "$work/answer"), $taken s" \
+        "$(awk -v m="$((memory - first_memory))" 'BEGIN { printf "%.1f MB", m / 1000 }')" \
+        "$alive live clauses of $literals literals: $(awk -v b="$((own - first_own))" 'BEGIN { printf "%.1f MB", b / 1e6 }')" \
+        "$(awk -v m="$((memory - first_memory))" -v own="$((own - first_own))" 'BEGIN { printf "%.2f", m * 1000 / own }')"
 done

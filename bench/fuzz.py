@@ -1,0 +1,208 @@
+#!/usr/bin/env python3
+"""Runs the program on small random formulas and holds each answer against all values.
+
+usage: bench/fuzz.py [COUNT [SEED [WORKERS]]]     (1,000 formulas, seed 1, as many workers as processors)
+
+A formula has up to 14 variables, clauses and parities with repeated and opposite literals now and then, and empty ones. `solve` must
+say 10 exactly where some values meet it, 20 exactly where none do, and UNKNOWN only behind as many marks of conflicts in the log as
+its budget has. Values are judged by `model` and by the truth table, and again with one of them turned. A log of a refutation is
+elaborated and its proof checked; the proof is then held against another formula and with one number changed: `check` may verify it
+only where no values meet the formula. What differs is printed with the number of its formula, and the exit status is 1.
+"""
+import os
+import random
+import subprocess
+import sys
+import tempfile
+from concurrent.futures import ProcessPoolExecutor
+
+PROGRAM = os.path.join(os.path.dirname(os.path.abspath(__file__)), "..", "crates", "cxsat", "out", "cxsat")
+
+
+class Wrong(Exception):
+    """The program said what it must not."""
+
+
+def formula(rng):
+    """A number of variables and constraints: whether each is a parity, and its literals."""
+    count = rng.choice((1, 2, 3, 5, 8, 10, 12, 14))
+    hardness = rng.uniform(0.2, 1.3)
+    clauses = int(count * 4.3 * hardness * rng.random())
+    parities = int(count * hardness * rng.random()) if rng.random() < 0.8 else 0
+    whole = []
+    for parity in [False] * clauses + [True] * parities:
+        size = rng.choice((2, 3, 3, 3, 3, 4, 5)) if rng.random() < 0.97 else rng.choice((0, 1, 1, 1, 6))
+        if rng.random() < 0.1:
+            names = [rng.randint(1, count) for _ in range(size)]
+        else:
+            names = rng.sample(range(1, count + 1), min(size, count))
+        whole.append((parity, [name if rng.random() < 0.5 else -name for name in names]))
+    if rng.random() < 0.3:
+        hidden = rng.sample(range(1, count + 1), min(count, rng.randint(2, 4)))
+        right = rng.random() < 0.5
+        for signs in range(1 << len(hidden)):
+            if (bin(signs).count("1") % 2 == 1) != right:
+                whole.append((False, [-name if signs >> k & 1 else name for k, name in enumerate(hidden)]))
+    rng.shuffle(whole)
+    return count, whole
+
+
+def text(count, whole):
+    lines = [f"p cnf {count} {len(whole)}"]
+    for parity, literals in whole:
+        lines.append(("x" if parity else "") + " ".join(map(str, literals + [0])))
+    return "\n".join(lines) + "\n"
+
+
+def tables(count):
+    """For each variable the set of the assignments where it is true, as bits."""
+    full = (1 << (1 << count)) - 1
+    true = [None]
+    for name in range(count):
+        block = ((1 << (1 << name)) - 1) << (1 << name)
+        width, rows = 2 << name, 1 << count
+        while width < rows:
+            block |= block << width
+            width *= 2
+        true.append(block)
+    return full, true
+
+
+def models(count, whole):
+    """The set of the assignments that meet the formula, as bits."""
+    full, true = tables(count)
+    left = full
+    for parity, literals in whole:
+        sides = [true[abs(k)] if k > 0 else full ^ true[abs(k)] for k in literals]
+        met = 0
+        for side in sides:
+            met = met ^ side if parity else met | side
+        left &= met
+    return left
+
+
+def run(*words):
+    done = subprocess.run([PROGRAM, *words], capture_output=True, text=True, timeout=120)
+    return done.returncode, done.stdout, done.stderr
+
+
+def want(told, what):
+    if not told:
+        raise Wrong(what)
+
+
+def number_of(values):
+    return sum(1 << (abs(k) - 1) for k in values if k > 0)
+
+
+def values_of(answer):
+    return [int(k) for line in answer.splitlines() if line.startswith("v") for k in line.split()[1:] if k != "0"]
+
+
+def judge_values(rng, folder, count, left, answer):
+    values = values_of(answer)
+    want(sorted(map(abs, values)) == list(range(1, count + 1)), "values of other variables")
+    want(left >> number_of(values) & 1, "values that do not meet the formula")
+    status, out, _ = run("model", f"{folder}/f", f"{folder}/answer")
+    want((status, out) == (0, "s MODEL RIGHT\n"), f"model of its own answer: {status} {out!r}")
+    if values:
+        turned = values[:]
+        at = rng.randrange(len(turned))
+        turned[at] = -turned[at]
+        with open(f"{folder}/turned", "w") as file:
+            file.write("s SATISFIABLE\nv " + " ".join(map(str, turned + [0])) + "\n")
+        status, _, _ = run("model", f"{folder}/f", f"{folder}/turned")
+        want((status == 0) == bool(left >> number_of(turned) & 1), f"model of turned values: {status}")
+
+
+def judge_refutation(rng, folder, earlier):
+    status, out, _ = run("elab", f"{folder}/f", f"{folder}/log", f"{folder}/proof")
+    want((status, out) == (0, "s ELABORATED\n"), f"elab of its own log: {status} {out!r}")
+    status, out, _ = run("check", f"{folder}/f", f"{folder}/proof")
+    want((status, out) == (0, "s VERIFIED\n"), f"check of its own proof: {status} {out!r}")
+    proof = open(f"{folder}/proof").read()
+    if len(earlier) < 50:
+        earlier.append(proof)
+    else:
+        earlier[rng.randrange(50)] = proof
+
+
+def judge_foreign_proof(rng, folder, left, earlier):
+    """A proof of another formula, or one with a changed number, is verified only where no values meet this formula."""
+    if not earlier:
+        return
+    tokens = rng.choice(earlier).split(" ")
+    at = rng.randrange(len(tokens))
+    tokens[at] = rng.choice((tokens[at], "0", "1", "2", "-1", "7", tokens[rng.randrange(len(tokens))]))
+    with open(f"{folder}/other", "w") as file:
+        file.write(" ".join(tokens))
+    status, out, _ = run("check", f"{folder}/f", f"{folder}/other")
+    want(status in (0, 7), f"check of another proof: {status}")
+    want(status != 0 or left == 0, "a proof was verified of a formula that has values")
+    status, out, _ = run("elab", f"{folder}/f", f"{folder}/other", f"{folder}/made")
+    want(status in (0, 8), f"elab of a proof in place of a log: {status}")
+    want(status != 0 or left == 0, "a log was elaborated of a formula that has values")
+
+
+def one(number, folder, earlier):
+    """What was found out of formula `number`: its status."""
+    rng = random.Random(number)
+    count, whole = formula(rng)
+    left = models(count, whole)
+    with open(f"{folder}/f", "w") as file:
+        file.write(text(count, whole))
+    budget = rng.choice((1, 2, 5, 1000000, 1000000, 1000000))
+    status, out, err = run("solve", f"{folder}/f", "--proof", f"{folder}/log", "--conflicts", str(budget))
+    log = open(f"{folder}/log").read()
+    marks = sum(line.startswith("c conflict ") for line in log.splitlines())
+    if status == 10:
+        want(left != 0, "10 where no values meet the formula")
+        with open(f"{folder}/answer", "w") as file:
+            file.write(out)
+        judge_values(rng, folder, count, left, out)
+    elif status == 20:
+        want(left == 0, "20 where values meet the formula")
+        judge_refutation(rng, folder, earlier)
+    else:
+        want((status, out) == (0, f"c conflicts {budget}\ns UNKNOWN\n"), f"solve: {status} {out!r} {err!r}")
+        want(marks == budget, f"UNKNOWN behind {marks} marks of {budget}")
+    want(marks <= budget, f"{marks} conflicts of {budget}")
+    judge_foreign_proof(rng, folder, left, earlier)
+    return status
+
+
+def worker(numbers):
+    tally, faults, earlier = {}, [], []
+    with tempfile.TemporaryDirectory() as folder:
+        for number in numbers:
+            try:
+                status = one(number, folder, earlier)
+            except Wrong as wrong:
+                faults.append(f"formula {number}: {wrong}")
+                status = "wrong"
+            tally[status] = tally.get(status, 0) + 1
+    return tally, faults
+
+
+def main():
+    words = [int(word) for word in sys.argv[1:]]
+    count = words[0] if words else 1000
+    seed = words[1] if len(words) > 1 else 1
+    workers = words[2] if len(words) > 2 else os.cpu_count()
+    first = seed * 1_000_000_000
+    chunks = [range(first + at, min(first + at + 250, first + count)) for at in range(0, count, 250)]
+    tally, faults = {}, []
+    with ProcessPoolExecutor(workers) as pool:
+        for part, wrong in pool.map(worker, chunks):
+            faults += wrong
+            for status, many in part.items():
+                tally[status] = tally.get(status, 0) + many
+            for line in wrong:
+                print(line, flush=True)
+    told = ", ".join(f"{tally[k]} with {k}" for k in sorted(tally, key=str))
+    print(f"fuzz: {count} formulas of seed {seed}: {told}; {len(faults)} differences")
+    return 1 if faults else 0
+
+
+if __name__ == "__main__":
+    sys.exit(main())
