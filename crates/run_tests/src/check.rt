@@ -1,6 +1,7 @@
 //! Proofs that are verified, and proofs that are refused at a step for a cause.
 use crate::desk::expect;
 use crate::formulas::{EMPTY, SQUARE, TRIANGLE};
+use std::alloc::{AllocError, Global};
 use std::test::Fail;
 
 #[test]
@@ -54,5 +55,29 @@ fn proofs_are_refused_at_a_step(rt: HostRuntime) -> Result<(), Fail> {
         let answer = format!(in rt.alloc(); "c step {step}\ns NOT VERIFIED\n")?;
         expect(&rt, rt.alloc(), "check", formula, proof, 7, answer.as_str())?;
     }
+    Ok(())
+}
+
+/// What `check` answers on a front of the proof of so many bytes.
+fn answer_on_front(alloc: Global, len: usize) -> Result<String, AllocError> {
+    let step = match len {
+        0 => format!(in alloc; "1 P11")?,
+        11 | 12 => format!(in alloc; "2 P11")?,
+        1..=10 => format!(in alloc; "1 P0 at byte {len}")?,
+        _ => format!(in alloc; "2 P0 at byte {len}")?,
+    };
+    format!(in alloc; "c step {step}\ns NOT VERIFIED\n")
+}
+
+#[test]
+fn a_front_of_a_proof_is_refused_where_it_ends(rt: HostRuntime) -> Result<(), Fail> {
+    let proof = "5 2 0 1 2 0\n6 0 5 3 4 0\n";
+    for len in 0..23 {
+        let front = proof.get(..len).unwrap_or(proof);
+        let answer = answer_on_front(rt.alloc(), len)?;
+        expect(&rt, rt.alloc(), "check", SQUARE, front, 7, answer.as_str())?;
+    }
+    let all = "5 2 0 1 2 0\n6 0 5 3 4 0";
+    expect(&rt, rt.alloc(), "check", SQUARE, all, 0, "s VERIFIED\n")?;
     Ok(())
 }

@@ -1,5 +1,6 @@
 //! Pigeons that have one hole too few: formulas that no values meet, and that take many conflicts.
 use crate::desk::{AMPLE, Bounds, run};
+use crate::flow::proved_within;
 use std::alloc::{AllocError, Global};
 use std::test::Fail;
 
@@ -59,6 +60,35 @@ fn pigeonholes(alloc: Global, holes: u8) -> Result<String, AllocError> {
         put_holes(alloc, &mut text, holes, pigeon)?;
     }
     Ok(text)
+}
+
+/// Whether the last mark of a conflict in the log is this line.
+fn ends_with_mark(log: &[u8], conflicts: &str) -> bool {
+    let mut marks = log
+        .windows(11)
+        .enumerate()
+        .filter(|at| at.1 == b"c conflict ".as_slice());
+    match marks.next_back() {
+        Some((place, _)) => log
+            .get(place..)
+            .is_some_and(|mark| mark.starts_with(conflicts.as_bytes())),
+        None => false,
+    }
+}
+
+#[test]
+fn eight_pigeons_are_refuted_or_the_budget_is_spent(rt: HostRuntime) -> Result<(), Fail> {
+    let alloc = rt.alloc();
+    let formula = pigeonholes(alloc, 7)?;
+    let line = ["cxsat", "solve", "f", "--proof", "l", "--conflicts", "6000"];
+    let solved = run(alloc, formula.as_str(), b"", line.as_slice(), WIDE)?;
+    if solved.status == 20 {
+        proved_within(&rt, alloc, formula.as_str(), solved.proof(), WIDE)?;
+    } else {
+        assert_eq!(rt; solved.status, 0);
+        assert!(rt; ends_with_mark(solved.proof(), "c conflict 6000\n"));
+    }
+    Ok(())
 }
 
 #[test]
