@@ -68,8 +68,11 @@ up_map R f (x ∷ xs) h = (all_map xs h.0, up_map R f xs h.1)
     all_map [] g = tt
     all_map (y ∷ ys) g = (g.0, all_map ys g.1)
 
+pub up_sorted : {X : Type 0} (f : X → Row) (xs : List X) → IsSortedBy (λ x y. is_lt (row_cmp (f x) (f y))) xs → Up (λ x y. row_cmp (f x) (f y)) xs
+up_sorted f xs h = up_far (λ x y. row_cmp (f x) (f y)) xs (λ i j d le lt. sorted_far (λ x y. is_lt (row_cmp (f x) (f y))) (ranks_by row_total f) xs h i j d le lt)
+
 pub up_rows : {X : Type 0} (f : X → Row) (xs : List X) → IsSortedBy (λ x y. is_lt (row_cmp (f x) (f y))) xs → Up row_cmp (map f xs)
-up_rows f xs h = up_map row_cmp f xs (up_far (λ x y. row_cmp (f x) (f y)) xs (λ i j d le lt. sorted_far (λ x y. is_lt (row_cmp (f x) (f y))) (ranks_by row_total f) xs h i j d le lt))
+up_rows f xs h = up_map row_cmp f xs (up_sorted f xs h)
 
 first_not_less : (a b : Ordering) → is_lt (ordering_then a b) ≡ false → is_lt a ≡ false
 first_not_less Less b h = h

@@ -1,6 +1,7 @@
 pub mod Reading
 pub mod Grouping
 pub mod Firsts
+pub mod Dealt
 pub mod Normal
 pub mod Patterns
 pub mod Numbers

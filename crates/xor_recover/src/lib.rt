@@ -10,6 +10,7 @@ mod entry;
 mod found;
 mod gathering;
 mod recovering;
+mod sorting;
 
 pub use found::{Found, FoundList};
 pub use recovering::recover;

@@ -16,16 +16,18 @@ ghost use Rattle.xor_recover.specs.Groups.{AreFirsts, group_of, IsFoundAt};
 use crate::entry::{Entry, Key};
 use crate::found::{Found, FoundList};
 use crate::gathering::entries;
+use crate::sorting::in_order;
 use cx_base::{Formula, IdList, Lit, LitList, Var};
 use std::alloc::{AllocError, Global};
 
-/// Sorts the entries, and keeps the least number of each clause.
-fn sort_and_keep_first(entries: &mut Vec<Entry>)
-    ensures firsts { AreFirsts (map row_of entries.old.items) (map row_of entries.new.items) }
-    ensures fewer { length entries.new.items ≤ length entries.old.items }
+/// The entries in order, with the least number of each clause.
+fn firsts(alloc: Global, entries: Vec<Entry>, vars: u32) -> Result<Vec<Entry>, AllocError>
+    ensures firsts { IfOk result (λ v. AreFirsts (map row_of entries.items) (map row_of v.items)) }
+    ensures fewer { IfOk result (λ v. length v.items ≤ length entries.items) }
 {
-    entries.sort_unstable();
-    entries.dedup_by(|later, first| later.key == first.key && later.signs == first.signs);
+    let mut sorted = in_order(alloc, entries, vars)?;
+    sorted.dedup_by(|later, first| later.key == first.key && later.signs == first.signs);
+    Ok(sorted)
 }
 
 /// The parity's literals.
@@ -97,9 +99,9 @@ pub fn recover(alloc: Global, formula: &Formula) -> Result<FoundList, AllocError
     ensures within { IfOk result (λ finds. All (λ find. AreWithin formula.now.variables find.parity) finds) }
     ensures few { IfOk result (λ finds. length finds ≤ length (clauses_of formula.now.constraints)) }
 {
-    let _vars = formula.vars();
-    let mut entries = entries(alloc, formula)?;
-    sort_and_keep_first(&mut entries);
+    let vars = formula.vars();
+    let candidates = entries(alloc, formula)?;
+    let entries = firsts(alloc, candidates, vars)?;
     let mut finds = Vec::new(alloc);
     for start in 0..entries.len() {
         match found_at(alloc, &entries, start)? {
