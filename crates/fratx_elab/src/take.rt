@@ -185,13 +185,7 @@ pub fn take_parity_of_clauses(
 {
     let target = admit(alloc, formula, &state.live, Kind::Parities, id, lits)?;
     // By `?` the prover does not see the cause through.
-    match judge_parity_of_named_clauses(
-        alloc,
-        &mut state.marks,
-        state.live.live(),
-        &target,
-        sources,
-    ) {
+    match judge_parity_of_named_clauses(&mut state.marks, state.live.live(), &target, sources) {
         Ok(()) => {}
         Err(why) => return Err(why),
     }

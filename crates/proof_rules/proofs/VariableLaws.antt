@@ -1,14 +1,14 @@
 -- Marks by variable: what is left, and one meeting more.
-use Rattle.std.proofs.Common.{◌≡◌, ◌≢◌, refl, sym, ap, ◌∙◌, subst, ℕ, zero, suc, ◌+◌, ◌<◌, ◌≤◌, Bool, true, false, cond, not, ◌&&◌, ◌||◌, nat_eq, eqb-true, List, [], ◌∷◌, ◌++◌, length, get_or, set, filter, inl, inr, arith, true≢false, nat_cmp, append_assoc, append-nil}
+use Rattle.std.proofs.Common.{◌≡◌, refl, sym, ap, ◌∙◌, ℕ, zero, suc, ◌<◌, Bool, true, false, cond, not, ◌&&◌, ◌||◌, nat_eq, eqb-true, List, [], ◌∷◌, ◌++◌, length, set, filter, inl, inr, arith, true≢false, nat_cmp}
 use Rattle.std.proofs.lemmas.Bool.{cases_eq, cases_lt, ne_eqb}
 use Rattle.std.proofs.lemmas.List.{get_or-set_same, get_or-set_other, get_or_past, length-set}
 use Rattle.std.proofs.lemmas.List.Folds.{list_any-append}
-use Rattle.std.specs.List.{list_any, AllByRecursion}
+use Rattle.std.specs.List.{list_any}
 use Rattle.std.specs.Cmp.{nat_eq_equiv}
 use Rattle.std.specs.FinSet as set_
 use Rattle.cx_base.specs.Literals.{differ}
-use Rattle.cx_base.specs.Parity.{NormalForm, symmetric_difference}
-use Rattle.cx_base.proofs.ParityLaws.{contains-symmetric_difference, differ_false}
+use Rattle.cx_base.specs.Parity.{symmetric_difference}
+use Rattle.cx_base.proofs.ParityLaws.{contains-symmetric_difference}
 use Rattle.cx_base.proofs.Differences.{same_members, contains-one}
 use Rattle.proof_rules.specs.Assignments.{AreDistinct}
 use Rattle.proof_rules.specs.VariableMarks.{mark_at, is_met, is_odd, left_over, has_variable, AreMarked, AreMetOnly}

@@ -1,5 +1,5 @@
 //! Parities that clauses imply.
-ghost use Rattle.std.specs.Prelude.{◌≡◌, ◌<◌, ◌≤◌, length, IfOk};
+ghost use Rattle.std.specs.Prelude.{◌≡◌, ◌<◌, ◌≤◌, ◌^◌, false, length, replicate, OnOk};
 ghost use Rattle.std.specs.List.{list_any};
 ghost use Rattle.cx_semantics.specs.ProofRules.{parity_of_clauses};
 ghost use Rattle.cx_semantics.specs.Tables.{named};
@@ -13,7 +13,7 @@ use crate::marks::JudgeMarks;
 use crate::parity_sum::ParitySum;
 use cx_base::{Lit, Var};
 use cx_semantics::Cause;
-use std::alloc::{AllocError, Global};
+use std::alloc::AllocError;
 
 /// The greatest number of variables of a parity that is judged by clauses.
 const WIDEST: usize = 12;
@@ -60,25 +60,34 @@ fn exclude(table: &mut [bool], variables: &[Var], clause: &LiteralSet, place: us
     }
 }
 
-/// The table of the assignments that the named clauses exclude.
-fn exclusions(
-    alloc: Global,
+/// Makes the table that of the assignments of so many variables, none of them marked.
+fn clear_table(table: &mut Vec<bool>, variables: usize) -> Result<(), AllocError>
+    requires { variables ≤ WIDEST }
+    ensures { OnOk result (table.new.items ≡ replicate (2 ^ variables) false) }
+{
+    table.clear();
+    table.resize(1 << variables, false)
+}
+
+/// Makes the table that of the assignments that the named clauses exclude.
+fn exclude_all(
+    table: &mut Vec<bool>,
     set: &mut LiteralSet,
     variables: &[Var],
     live: &Live,
     ids: &[u64],
-) -> Result<Vec<bool>, AllocError>
+) -> Result<(), AllocError>
     requires { length variables.now ≤ WIDEST }
-    ensures { IfOk result (λ table. Excludes variables.now (named live.now.clauses ids.now) table.items) }
+    ensures { OnOk result (Excludes variables.now (named live.now.clauses ids.now) table.new.items) }
 {
-    let mut table = vec![in alloc; false; 1 << variables.len()]?;
+    clear_table(table, variables.len())?;
     for id in ids {
         if let Some(clause) = live.clause(*id) {
             set.set_to(clause)?;
-            exclude(&mut table, variables, set, 0, 1);
+            exclude(table, variables, set, 0, 1);
         }
     }
-    Ok(table)
+    Ok(())
 }
 
 /// Whether each assignment is excluded under which the sum of the variables is wrong.
@@ -98,7 +107,6 @@ fn all_excluded(table: &[bool], variables: &[Var], place: usize, step: usize, wr
 
 /// Judges the target as implied by the clauses that the ids name.
 pub(crate) fn judge_target(
-    alloc: Global,
     marks: &mut JudgeMarks,
     live: &Live,
     target: &[Lit],
@@ -114,8 +122,14 @@ pub(crate) fn judge_target(
     if any_outside(&marks.sum, live, ids) {
         return Err(JudgeRefusal::Wrong(Cause::ClauseOutside));
     }
-    let table = exclusions(alloc, &mut marks.assumed, &marks.variables, live, ids)?;
-    if all_excluded(&table, &marks.variables, 0, 1, marks.sum.right_side()) {
+    exclude_all(
+        &mut marks.table,
+        &mut marks.assumed,
+        &marks.variables,
+        live,
+        ids,
+    )?;
+    if all_excluded(&marks.table, &marks.variables, 0, 1, marks.sum.right_side()) {
         Ok(())
     } else {
         Err(JudgeRefusal::Wrong(Cause::NotImplied))

@@ -80,5 +80,5 @@ pub fn judge_parity_of_clauses(
 {
     judge_hints(live, Kind::Clauses, hints)?;
     let ids = ids_of(alloc, hints)?;
-    clauses_parity::judge_target(alloc, marks, live, target.as_slice(), &ids)
+    clauses_parity::judge_target(marks, live, target.as_slice(), &ids)
 }

@@ -14,6 +14,8 @@ pub struct JudgeMarks {
     pub(crate) sum: ParitySum,
     /// The variables of a parity.
     pub(crate) variables: Vec<Var>,
+    /// The assignments of a parity's variables, and whether each is excluded.
+    pub(crate) table: Vec<bool>,
 }
 
 impl JudgeMarks {
@@ -23,6 +25,7 @@ impl JudgeMarks {
             assumed: LiteralSet::new(alloc),
             sum: ParitySum::new(alloc),
             variables: Vec::new(alloc),
+            table: Vec::new(alloc),
         }
     }
 }

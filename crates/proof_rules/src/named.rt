@@ -9,7 +9,6 @@ use crate::hints::judge_names;
 use crate::live::Kind;
 use crate::{JudgeMarks, JudgeRefusal, Live, clauses_parity, parity_clause, sum};
 use cx_base::LitList;
-use std::alloc::Global;
 
 /// Judges a parity as the sum of the parities of these ids, each counted as often as it is named.
 ///
@@ -46,7 +45,6 @@ pub fn judge_clause_of_named_parity(
 ///
 /// The causes, in order: `NotLive`, `TooWide`, `ClauseOutside`, `NotImplied`.
 pub fn judge_parity_of_named_clauses(
-    alloc: Global,
     marks: &mut JudgeMarks,
     live: &Live,
     target: &LitList,
@@ -55,5 +53,5 @@ pub fn judge_parity_of_named_clauses(
     ensures { JudgesBy (naming live.now.clauses ids.now ++ parity_of_clauses target.now (named live.now.clauses ids.now)) result }
 {
     judge_names(live, Kind::Clauses, ids)?;
-    clauses_parity::judge_target(alloc, marks, live, target.as_slice(), ids)
+    clauses_parity::judge_target(marks, live, target.as_slice(), ids)
 }

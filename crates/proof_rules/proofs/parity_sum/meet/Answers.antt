@@ -1,6 +1,5 @@
-use Rattle.std.proofs.Common.{◌≡◌, refl, sym, ap, ◌∙◌, subst, List, ℕ, [], ◌∷◌, ◌++◌, set}
+use Rattle.std.proofs.Common.{refl, sym, ap, ◌∙◌, subst, List, ℕ, [], ◌∷◌, ◌++◌, set}
 use Rattle.proof_rules.specs.VariableMarks.{mark_at, is_met, AreMarked}
-use Rattle.proof_rules.specs.declared.parity_sum.Mark.{Mark}
 use Rattle.proof_rules.specs.declared.parity_sum.Mark.TheVariants.{Odd}
 use Rattle.proof_rules.proofs.VariableLaws.{kept_marked, met_first}
 use Rattle.proof_rules.proofs.parity_sum.meet.Goals as goal

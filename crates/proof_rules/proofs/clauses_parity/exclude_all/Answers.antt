@@ -1,20 +1,19 @@
-use Rattle.std.proofs.Common.{◌≡◌, sym, ap, ◌∙◌, subst, ◌+◌, ◌^◌, ◌<◌, ◌≤◌, ◌||◌, Bool, false, List, drop, length, get_or, replicate, arith}
+use Rattle.std.proofs.Common.{◌≡◌, sym, ap, ◌∙◌, subst, ◌+◌, ◌^◌, ◌<◌, ◌||◌, Bool, false, List, drop, length, get_or, arith}
 use Rattle.std.proofs.lemmas.List.{drop_more, get_or-replicate, length-replicate, with_items_is}
 use Rattle.cx_semantics.specs.Tables.{named}
 use Rattle.proof_rules.specs.Exclusions.{HasPlaces, excluded}
 use Rattle.proof_rules.proofs.ExclusionLaws.{length-excluded}
-use Rattle.proof_rules.proofs.ClausesParity.{small_power, reach_of_power, marks, marks-hint, marks-no_hint, one_more}
-use Rattle.proof_rules.proofs.clauses_parity.exclusions.Goals.{in-Some+in_ok-set_to, in_default}
-use Rattle.proof_rules.proofs.clauses_parity.exclusions.Goals as goal
+use Rattle.proof_rules.proofs.ClausesParity.{reach_of_power, marks, marks-hint, marks-no_hint, one_more}
+use Rattle.proof_rules.proofs.clauses_parity.exclude_all.Goals.{in-Some+in_ok-set_to, in_default}
+use Rattle.proof_rules.proofs.clauses_parity.exclude_all.Goals as goal
 
 pub loop-id-init : goal.loop-id-init
 loop-id-init c =
     let xs = c.args.variables.now in
-    let few : length xs ≤ 60 = omega arith in
-    let items = c.in_ok-table.ensures.items_if_clones_equal (λ y h. h) ∙ ap (λ n. replicate n false) (small_power (length xs) few) in
-    let long : length c.in_ok-table.table.items ≡ 2 ^ length xs = ap length items ∙ length-replicate (2 ^ length xs) false in
+    let items = c.in_ok-clear_table.ensures in
+    let long : length c.clear_table.new.table.items ≡ 2 ^ length xs = ap length items ∙ length-replicate (2 ^ length xs) false in
     record {
-      reach = reach_of_power xs (length c.in_ok-table.table.items) long;
+      reach = reach_of_power xs (length c.clear_table.new.table.items) long;
       marked = λ j h.
           let k : j < 2 ^ length xs = omega arith in
           ap (λ b. b || marks xs j (named c.args.live.now.clauses c.args.ids.now)) (ap (λ t. get_or t j false) items ∙ get_or-replicate (2 ^ length xs) j false false k);

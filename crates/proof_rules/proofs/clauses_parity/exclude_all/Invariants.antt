@@ -2,7 +2,7 @@ use Rattle.std.proofs.Common.{◌≡◌, ℕ, ◌<◌, ◌||◌, false, drop, le
 use Rattle.std.specs.List.{list_any}
 use Rattle.proof_rules.specs.Exclusions.{HasPlaces, is_hit}
 use Rattle.cx_semantics.specs.Tables.{named}
-use Rattle.proof_rules.proofs.clauses_parity.exclusions.Given as goal
+use Rattle.proof_rules.proofs.clauses_parity.exclude_all.Given as goal
 
 abbrev pub invariant-loop-id : goal.invariant-loop-id
 invariant-loop-id l = record {
