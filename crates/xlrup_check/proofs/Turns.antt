@@ -5,7 +5,7 @@ use Rattle.cx_base.specs.declared.steps.ProofStep.{ProofStep}
 use Rattle.cx_semantics.specs.declared.cause.Cause.{Cause}
 use Rattle.cx_semantics.specs.declared.cause.Cause.TheVariants as causes
 use Rattle.cx_base.specs.Endings.{Ending, bad_token, too_big, unterminated}
-use Rattle.step_text.specs.Sources.{GivesNone}
+use Rattle.step_text.specs.Sources.{GivesNone, FaultsAs}
 use Rattle.step_text.specs.declared.source.TextRefusal.{TextRefusal}
 use Rattle.step_text.specs.declared.source.TextRefusal.TheVariants as text
 use Rattle.cx_semantics.specs.Tables.{Tables, first_tables}
@@ -13,7 +13,7 @@ use Rattle.cx_semantics.specs.Judging.{Runs, FirstFailure, AcceptedAt, end_cause
 use Rattle.cx_semantics.specs.ProofRules.{proof_calculus, proof_rules}
 use Rattle.cx_semantics.proofs.JudgingLaws.{runs_push}
 use Rattle.cx_semantics.proofs.Soundness.{accepted_steps_are_unmet}
-use Rattle.xlrup_check.specs.Verdicts.{Kept, Goes, TakesStep, text_refused, what_follows_of}
+use Rattle.xlrup_check.specs.Verdicts.{Kept, Goes, TakesStep, text_refused, what_follows_of, ReadsStand}
 use Rattle.proof_rules.specs.declared.refusal.JudgeRefusal.{JudgeRefusal}
 use Rattle.proof_rules.specs.declared.refusal.JudgeRefusal.TheVariants as refusal
 use Rattle.xlrup_check.specs.declared.verdict.Verdict.TheVariants.{Verified, Refused}
@@ -92,3 +92,23 @@ module _ {X : Type 0} (leaves : X → List ProofStep → Ending → Type 0) (for
     step_goes after (Ok false) t rest = step_is_kept after t
     step_goes after (Err (refusal.Wrong cause)) f rest = step_is_refused cause f rest after
     step_goes after (Err refusal.Memory) f rest = tt
+
+-- ---- the source's faults
+
+abbrev unread : TextRefusal → Result (Unit {0}) TextRefusal
+unread why = Err why
+
+module _ (before now : ℕ) where
+  pub text_stands : (why : TextRefusal) (k : ℕ) → FaultsAs (unread why) before now → ReadsStand (text_refused why k) before now
+  text_stands (text.BadToken place) k e = e
+  text_stands (text.Unterminated place) k e = e
+  text_stands (text.TooBig place) k e = e
+  text_stands text.TooLong k e = e
+  text_stands text.Memory k e = e
+  text_stands text.Failed k e = tt
+
+  pub step_stands : (taken : Result Bool JudgeRefusal) (k : ℕ) → now ≡ before → ReadsStand (what_follows_of taken k) before now
+  step_stands (Ok true) k e = e
+  step_stands (Ok false) k e = e
+  step_stands (Err (refusal.Wrong cause)) k e = e
+  step_stands (Err refusal.Memory) k e = e

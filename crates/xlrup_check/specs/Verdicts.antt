@@ -44,6 +44,13 @@ HasCause passes before now Memory = ⊤
 HasCause passes before now Read = Rose before now
 HasCause passes before now TooLong = ¬ (passes ≡ Some false)
 
+-- the source's faults stand but where a fault of reading is answered
+abbrev pub ReadsStand : {T : Type 0} → Result T Fault → ℕ → ℕ → Type 0
+ReadsStand (Ok verdict) before now = now ≡ before
+ReadsStand (Err Memory) before now = now ≡ before
+ReadsStand (Err TooLong) before now = now ≡ before
+ReadsStand (Err Read) before now = ⊤
+
 -- what stands where no step comes: a text that does not fit is refused at this number, the rest is a fault
 abbrev pub text_refused : TextRefusal → ℕ → Result (Option Verdict) Fault
 text_refused (text.BadToken place) k = Ok (Some (Refused k (causes.TextRefused place)))

@@ -2,7 +2,7 @@
 ghost use Rattle.std.specs.Prelude.{◌≡◌, ◌<◌, ◌≤◌, ◌^◌, ◌+◌, false, None, IfOk, IfErr};
 ghost use Rattle.cx_base.specs.Problem.{Problem};
 ghost use Rattle.cx_base.specs.declared.literal.TheConstants.{MAX_VARIABLE};
-ghost use Rattle.xlrup_check.specs.Verdicts.{IsJudgedBy, IsSound, HasCause, Kept, Goes, text_refused, what_follows_of};
+ghost use Rattle.xlrup_check.specs.Verdicts.{IsJudgedBy, IsSound, HasCause, ReadsStand, Kept, Goes, text_refused, what_follows_of};
 
 use crate::begin::first_live;
 use crate::step::take_step;
@@ -28,6 +28,7 @@ pub fn check<S: StepSource<Step = ProofStep>>(
     ensures judged { IfOk result (IsJudgedBy S.leaves formula.now source.old) }
     ensures sound { IfOk result (IsSound formula.now) }
     ensures cause { IfErr result (HasCause (S.passes_limit source.old) (S.faults source.old) (S.faults source.new)) }
+    ensures reads { ReadsStand result (S.faults source.old) (S.faults source.new) }
     ensures frame { S.keeps source.old source.new }
 {
     let vars = formula.vars();
@@ -61,7 +62,7 @@ fn take_next<S: StepSource<Step = ProofStep>>(
     ensures goes { (formula : Problem) (first : S) → formula.variables ≡ vars → Kept S.leaves formula first source.old live.old steps
         → IfOk result (Goes S.leaves formula first source.new live.new steps) }
     ensures fresh { IfOk result (λ verdict. verdict ≡ None → S.is_spent source.new ≡ false) }
-    ensures faults { IfOk result (λ _. S.faults source.new ≡ S.faults source.old) }
+    ensures reads { ReadsStand result (S.faults source.old) (S.faults source.new) }
     ensures rises { IfOk result (λ verdict. verdict ≡ None → S.place_of source.old < S.place_of source.new) }
     ensures far { S.place_of source.new < 2 ^ 62 }
     ensures limit { S.passes_limit source.new ≡ S.passes_limit source.old }

@@ -2,7 +2,7 @@ use Rattle.std.proofs.Common.{refl, subst, Option, Ok}
 use Rattle.cx_base.specs.Endings.{finished}
 use Rattle.cx_base.specs.declared.steps.ProofStep.{ProofStep}
 use Rattle.step_text.specs.Sources.{Gives}
-use Rattle.xlrup_check.proofs.Turns.{end_is_refused, text_is_refused, step_goes}
+use Rattle.xlrup_check.proofs.Turns.{end_is_refused, text_is_refused, step_goes, text_stands, step_stands}
 use Rattle.xlrup_check.proofs.checker.take_next.Goals as goal
 
 pub returns-in-Ok-None-clause-goes : goal.returns-in-Ok-None-clause-goes
@@ -18,3 +18,9 @@ returns-clause-goes g c = λ formula first e kept.
     let h = subst (λ (o : Option ProofStep). Gives g.S.StepSource.leaves c.args.source.now (Ok o) c.next_step.new.self) c.in-Ok-Some.field-0-is c.in-Ok-Some.ensures.step in
     rw c.what_follows.ensures
     (step_goes _ formula first c.args.source.now c.next_step.new.self _ _ kept c.in-Ok-Some.step h _ c.take_step-taken.result (c.take_step-taken.ensures formula e) (g.met.S.StepSource.leaves_some c.next_step.new.self))
+
+pub returns-in-Err-clause-reads : goal.returns-in-Err-clause-reads
+returns-in-Err-clause-reads g c = rw c.refused_text.ensures (text_stands _ _ c.in-Err.why _ c.in-Err.ensures.faults)
+
+pub returns-clause-reads : goal.returns-clause-reads
+returns-clause-reads g c = rw c.what_follows.ensures (step_stands _ _ c.take_step-taken.result _ c.in-Ok-Some.ensures.faults)
