@@ -18,6 +18,8 @@ mod formulas;
 #[cfg(test)]
 mod model;
 #[cfg(test)]
+mod pieces;
+#[cfg(test)]
 mod pigeons;
 #[cfg(test)]
 mod refusals;

@@ -24,11 +24,12 @@ use Rattle.solve_cli.specs.declared.ending.Outcome.{Outcome}
 use Rattle.solve_cli.specs.declared.ending.Outcome.TheVariants as outcome
 use Rattle.solve_cli.specs.Endings.{answer_text}
 use Rattle.solve_cli.specs.Seen.{Seen, seen, asks, asks_proof, creates, says, append_to, ReadFault, WriteFault, MessageFault, text_named}
-use Rattle.solve_cli.specs.Commands.{formula_of, second_of, proof_of, Stage, formula_started, second_started, proof_created, starts, gives_file, asked_to, text_of}
+use Rattle.solve_cli.specs.Commands.{formula_of, second_of, proof_of, Stage, formula_started, second_started, proof_created, starts, gives_file, asked_to, text_of, second_text}
 use Rattle.solve_cli.specs.Happens.{is_early, IfNamed, FormulaRead, IsFormula, FormulaIn, Judged, IsOf, Gains, SoFar, Reaches, Ends, Stops, Works, PutsMessage}
 use Rattle.solve_cli.specs.Proofs.{IsRightSoFar}
 use Rattle.solve_cli.proofs.Logging.{nothing_logged}
 use Rattle.solve_cli.specs.Steps.{FormulaFails, ReadFails, PutsAnswer, Loaded, HasNoProof, LeftBy, Elaborated, refused_as}
+use Rattle.solve_cli.specs.SlotTexts.{IsJudgedWithin, JudgesProof}
 
 pub if_some_both : {X : Type 0} {P Q R : X → Type 0} (w : Option X) → IfSome w P → IfSome w Q → ((x : X) → P x → Q x → R x) → IfSome w R
 if_some_both None p q f = tt
@@ -325,6 +326,20 @@ if_some_three : {X : Type 0} {P Q R S : X → Type 0} (w : Option X) → IfSome 
 if_some_three None p q r f = tt
 if_some_three (Some x) p q r f = f x p q r
 
+-- a second text that was judged: its ending, and what stands before the answer
+pub judged_ends : (p : Plan) (limit : ℕ) (old : Seen) (f : Problem) (mid : Seen) (e : Ending) (proof : Bytes) → mid ≡ asked_to proof_created p old
+    → IfSome old.files (λ files. IsFormula p limit files f) → IsOf p e → is_early e ≡ false
+    → IfSome old.files (λ files. (length (second_text p files) ≤ limit) × Judged e p f (second_text p files))
+    → IfSome old.files (λ files. Gains p limit files e proof) → Ends p limit old e (says port.Proof proof mid)
+judged_ends p limit old f mid e proof is read own late judged gains = record {
+  own = own;
+  reaches = rw late (formula_in p limit old f read);
+  due = if_some_both old.files read judged (λ files r j. inr (record { formula = f; is_formula = r; due = inr j }));
+  proof = proof;
+  gains = gains;
+  before_is = rw late (ap (says port.Proof proof) is);
+}
+
 -- where both texts were read
 module _ {p : Plan} {limit : ℕ} {old : Seen} {f : Problem} {text : Bytes} {mid : Seen} (h : Loaded p limit old f text mid) where
   reached : FormulaIn p limit old
@@ -335,15 +350,9 @@ module _ {p : Plan} {limit : ℕ} {old : Seen} {f : Problem} {text : Bytes} {mid
 
   -- what they come to
   ends : (e : Ending) (proof : Bytes) → Judged e p f text → IfSome old.files (λ files. Gains p limit files e proof) → Ends p limit old e (says port.Proof proof mid)
-  ends e proof judged gains = record {
-    own = judged_own e p f text judged;
-    reaches = rw (judged_late e p f text judged) reached;
-    due = if_some_both old.files h.is_formula h.is_second
-        (λ files r t. inr (record { formula = f; is_formula = r; due = inr (subst (λ (x : Bytes). (length x ≤ limit) × Judged e p f x) t (h.fits, judged)) }));
-    proof = proof;
-    gains = gains;
-    before_is = rw (judged_late e p f text judged) (ap (says port.Proof proof) h.asked);
-  }
+  ends e proof judged gains =
+      judged_ends p limit old f mid e proof h.asked h.is_formula (judged_own e p f text judged) (judged_late e p f text judged)
+      (IfSome_then old.files h.is_second (λ files t. subst (λ (x : Bytes). (length x ≤ limit) × Judged e p f x) t (h.fits, judged))) gains
 
   -- the same with nothing on the Proof port, and the answer
   pub concluded : (e : Ending) (o : Outcome) (new : Seen) → Judged e p f text → ((files : Files) → Gains p limit files e []) → PutsAnswer e mid o new → Works p limit old o new
@@ -353,6 +362,23 @@ module _ {p : Plan} {limit : ℕ} {old : Seen} {f : Problem} {text : Bytes} {mid
   -- want of memory for the judgement
   pub wanted : Stops p limit old mid
   wanted = stopped proof_created p limit old mid reached h.asked
+
+-- ---- a proof
+
+-- the proof in the second slot was judged, and the answer written
+pub check_answered : (n q : Bytes) (limit : ℕ) (old : Seen) (f : Problem) (mid : Outside) (e : Ending) (at : Outside) (o : Outcome) (new : Seen)
+    → seen mid ≡ asked_to proof_created (plan.Check n q) old → IfSome old.files (λ files. IsFormula (plan.Check n q) limit files f)
+    → JudgesProof f q limit mid (Ok e) at → PutsAnswer e (seen at) o new → Works (plan.Check n q) limit old o new
+check_answered n q limit old f mid e at o new is read judged answers =
+    let p = plan.Check n q in
+    let here : seen at ≡ asked_to proof_created p old = judged.1 ∙ is in
+    let files : (seen mid).files ≡ old.files = ap (λ (s : Seen). s.files) is ∙ files_at proof_created p old in
+    let due = subst (λ (w : Option Files). IfSome w (λ files. (n : Bytes) → IsJudgedWithin (plan.Check n q) limit f (text_named q files) e)) files judged.2 in
+    let own = judged.0 n in
+    answered p limit old e (seen at) o new
+    (subst (Ends p limit old e) (sym (bare (seen at)))
+    (judged_ends p limit old f (seen at) e [] here read own.0 own.1 (IfSome_then old.files due (λ files j. j n)) (all_files old.files (λ files. refl))))
+    answers
 
 -- ---- a log
 

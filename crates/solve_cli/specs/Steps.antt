@@ -81,6 +81,13 @@ GivesFile proof old result new = MatchResult result
     (λ _. (seen new ≡ gives_file proof (seen old)) × ((name : Bytes) → Ready slot.Second name old → Ready slot.Second name new))
     (λ o. (o ≡ outcome.WriteFault) × IfNamed proof (λ name. WriteFault (asks_proof name (seen old)) (seen new)))
 
+-- the formula was read, the second slot started, and the Proof port given its file, where there is a name for it
+abbrev pub Prepares : Plan → Bytes → ℕ → Outside → Result Problem Outcome → Outside → Type 0
+Prepares p second limit old result new = MatchResult result
+    (λ f. (seen new ≡ asked_to proof_created p (seen old)) × Ready slot.Second second new
+    × IfSome (seen old).files (λ files. IsFormula p limit files f))
+    (λ o. Works p limit (seen old) o (seen new))
+
 -- both texts were read, and each name of the command was asked for
 pub record Loaded (p : Plan) (limit : ℕ) (old : Seen) (f : Problem) (text : Bytes) (at : Seen) : Type 0 where
   pub asked : at ≡ asked_to proof_created p old

@@ -1,28 +1,87 @@
 //! The endings of the commands that judge a text.
-ghost use Rattle.std.specs.Prelude.{◌≡◌, ◌≤◌, List, ℕ, IfOk, MatchOption, length};
+ghost use Rattle.std.specs.Prelude.{◌≡◌, ◌≤◌, List, ℕ, true, false, IfOk, IfErr, MatchOption};
+ghost use Rattle.cx_desk.specs.Outside.{started_in};
+ghost use Rattle.cx_desk.specs.declared.desk.Slot.TheVariants.{Second};
+ghost use Rattle.cx_texts.specs.ProofText.{proof_steps};
 ghost use Rattle.cx_words.specs.declared.plans.Plan.TheVariants as plan;
+ghost use Rattle.step_text.specs.Slots.{SlotFrame, is_too_long};
+ghost use Rattle.step_text.specs.SlotAnswers.{PairLeaves};
+ghost use Rattle.step_text.specs.Texts.{is_spent_by};
+ghost use Rattle.xlrup_check.specs.Verdicts.{IsJudgedBy, HasCause, ReadsStand};
 ghost use Rattle.solve_cli.specs.Happens.{refusal_of, Judged};
+ghost use Rattle.solve_cli.specs.Steps.{Ready};
+ghost use Rattle.solve_cli.specs.SlotTexts.{JudgesProof, checked_as, drained_as};
 
-use crate::{Ending, WrongAnswer};
+use crate::proof_on_desk::ProofOnDesk;
+use crate::{Ending, Outcome, WrongAnswer};
 use cx_base::Formula;
+use cx_desk::{Desk, DrainErr, Slot};
 use model_out::{AnswerRefusal, read_answer};
-use proof_text::ProofText;
+use proof_text::ProofGrammar;
 use std::alloc::{AllocError, Global};
+use step_text::SlotReader;
 use xlrup_check::{Fault, Verdict, check};
 
-/// `check`: judges the text of a proof.
-pub fn judge_proof(alloc: Global, formula: &Formula, text: &[u8]) -> Result<Ending, AllocError>
-    requires { length text.now ≤ 4294967295 }
-    ensures { (n q : List ℕ) → IfOk result (λ e. Judged e (plan.Check n q) formula.now text.now) }
+/// Judges the proof that a reader takes from a desk.
+fn check_on<D: Desk>(
+    alloc: Global,
+    desk: &mut D,
+    formula: &Formula,
+    reader: &mut SlotReader<ProofGrammar>,
+) -> Result<Verdict, Fault>
+    requires started { started_in reader.old.slot (D.outside desk.old).started ≡ true }
+    requires fresh { is_spent_by reader.old.refused ≡ false }
+    ensures judged { IfOk result (IsJudgedBy (PairLeaves proof_steps) formula.now (reader.old, D.outside desk.old)) }
+    ensures cause { IfErr result (HasCause (is_too_long reader.old (D.outside desk.old)) (D.outside desk.old).faults.reads (D.outside desk.new).faults.reads) }
+    ensures reads { ReadsStand result (D.outside desk.old).faults.reads (D.outside desk.new).faults.reads }
+    ensures frame { SlotFrame reader.old (D.outside desk.old) reader.new (D.outside desk.new) }
 {
-    let mut source = ProofText::new(alloc, text);
-    match check(alloc, formula, &mut source) {
+    let mut source = ProofOnDesk { reader, desk };
+    check(alloc, formula, &mut source)
+}
+
+/// What a judgement of a proof ends in.
+fn checked(judged: Result<Verdict, Fault>) -> Result<Ending, Outcome>
+    ensures { result ≡ checked_as judged }
+{
+    match judged {
         Ok(Verdict::Verified(step)) => Ok(Ending::Verified(step)),
         Ok(Verdict::Refused(step, cause)) => Ok(Ending::NotVerified(step, cause)),
-        Err(Fault::Memory) => Err(AllocError),
-        Err(Fault::Read) => unreachable!(),
-        Err(Fault::TooLong) => unreachable!(),
+        Err(Fault::Memory) => Err(Outcome::Memory),
+        Err(Fault::Read) => Err(Outcome::ReadFault),
+        Err(Fault::TooLong) => Err(Outcome::Ended(Ending::TooLong(Slot::Second))),
     }
+}
+
+/// What follows where the rest of the second text was read.
+pub(crate) fn drained(rest: Result<(), DrainErr>) -> Result<(), Outcome>
+    ensures { result ≡ drained_as rest }
+{
+    match rest {
+        Ok(()) => Ok(()),
+        Err(DrainErr::Failed) => Err(Outcome::ReadFault),
+        Err(DrainErr::TooLong) => Err(Outcome::Ended(Ending::TooLong(Slot::Second))),
+    }
+}
+
+/// `check`: judges the proof in the second slot, and reads that slot to its end. What stands behind the step that decides
+/// is not judged, but its length counts.
+pub fn judge_proof<D: Desk>(
+    alloc: Global,
+    desk: &mut D,
+    formula: &Formula,
+    limit: u64,
+) -> Result<Ending, Outcome>
+    requires started { started_in Second (D.outside desk.old).started ≡ true }
+    requires limit { limit ≤ 4294967295 }
+    ensures { (name : List ℕ) → Ready Second name (D.outside desk.old) → JudgesProof formula.now name limit (D.outside desk.old) result (D.outside desk.new) }
+{
+    let mut reader = SlotReader::new(alloc, Slot::Second, limit);
+    let judged = check_on(alloc, desk, formula, &mut reader);
+    let ending = checked(judged)?;
+    let rest = reader.drain_from(desk);
+    drained(rest)?;
+    Ok(ending)
 }
 
 /// The cause for which printed values are refused; none for want of memory.

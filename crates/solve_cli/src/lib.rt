@@ -10,6 +10,7 @@ mod load;
 mod log_on_desk;
 mod print;
 mod program;
+mod proof_on_desk;
 mod solve;
 
 pub use cx_words::{Kind, Name, Plan, PlanRefusal, plan};

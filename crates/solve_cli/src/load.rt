@@ -4,7 +4,7 @@ ghost use Rattle.cx_desk.specs.Outside.{asked_in, started_in};
 ghost use Rattle.cx_words.specs.declared.plans.Plan.{Plan as PlanOf};
 ghost use Rattle.solve_cli.specs.Seen.{seen};
 ghost use Rattle.solve_cli.specs.Commands.{Unasked, formula_of, second_of, proof_of};
-ghost use Rattle.solve_cli.specs.Steps.{Ready, StartsSlot, ReadsSlot, ReadsFormula, LoadsFormula, GivesFile, Loads, refused_as};
+ghost use Rattle.solve_cli.specs.Steps.{Ready, StartsSlot, ReadsSlot, ReadsFormula, LoadsFormula, GivesFile, Loads, Prepares, refused_as};
 
 use crate::{Ending, Outcome};
 use cnfx_reader::{ReadRefusal, read_formula};
@@ -121,6 +121,25 @@ pub(crate) fn create_proof<D: Desk>(desk: &mut D, proof: Option<Name>) -> Result
     }
 }
 
+/// Reads the formula, starts the second slot, and gives the Proof port its file, where the command names one.
+pub fn prepare<D: Desk>(
+    alloc: Global,
+    desk: &mut D,
+    formula: Name,
+    second: Name,
+    proof: Option<Name>,
+    limit: u64,
+) -> Result<Formula, Outcome>
+    requires fresh { Unasked (D.outside desk.old).asked }
+    requires limit { limit ≤ 4294967295 }
+    ensures { (p : PlanOf) → formula_of p ≡ Some formula → second_of p ≡ Some second → proof_of p ≡ proof
+        → Prepares p second limit (D.outside desk.old) result (D.outside desk.new) }
+{
+    let formula = begin(alloc, desk, formula, second, limit)?;
+    create_proof(desk, proof)?;
+    Ok(formula)
+}
+
 /// Reads the formula and the second text of a command. Between the two the Proof port is given its
 /// file, where the command names one.
 pub fn load<D: Desk>(
@@ -136,8 +155,7 @@ pub fn load<D: Desk>(
     ensures { (p : PlanOf) → formula_of p ≡ Some formula → second_of p ≡ Some second → proof_of p ≡ proof
         → Loads p limit (seen (D.outside desk.old)) result (seen (D.outside desk.new)) }
 {
-    let formula = begin(alloc, desk, formula, second, limit)?;
-    create_proof(desk, proof)?;
+    let formula = prepare(alloc, desk, formula, second, proof, limit)?;
     let second = read_slot(alloc, desk, Slot::Second, limit)?;
     Ok(Texts { formula, second })
 }

@@ -11,7 +11,7 @@ ghost use Rattle.solve_cli.specs.Run.{Run};
 use crate::demo::{BUDGET, instance_of, show};
 use crate::elab::elaborate_text;
 use crate::judge::{judge_answer, judge_proof};
-use crate::load::load;
+use crate::load::{load, prepare};
 use crate::print::{put_answer_text, put_message_text};
 use crate::solve::{begin_search, search};
 use crate::{Ending, Outcome, Status};
@@ -37,13 +37,13 @@ fn check<D: Desk>(alloc: Global, desk: &mut D, formula: Name, proof: Name, limit
     requires limit { limit ≤ 4294967295 }
     ensures { Works (plan.Check formula proof) limit (seen (D.outside desk.old)) result (seen (D.outside desk.new)) }
 {
-    let texts = match load(alloc, desk, formula, proof, None, limit) {
-        Ok(texts) => texts,
+    let formula = match prepare(alloc, desk, formula, proof, None, limit) {
+        Ok(formula) => formula,
         Err(outcome) => return outcome,
     };
-    match judge_proof(alloc, &texts.formula, texts.second.as_slice()) {
+    match judge_proof(alloc, desk, &formula, limit) {
         Ok(ending) => answer(desk, ending),
-        Err(AllocError) => Outcome::Memory,
+        Err(outcome) => outcome,
     }
 }
 

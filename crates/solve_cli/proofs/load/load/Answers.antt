@@ -1,39 +1,29 @@
-use Rattle.std.proofs.Common.{refl, sym, ap, ◌∙◌, subst, Err}
+use Rattle.std.proofs.Common.{◌≡◌, refl, sym, ap, ◌∙◌, subst, Option, Some, None, Err}
 use Rattle.std.proofs.lemmas.Result.{err_from_is_err_and}
-use Rattle.solve_cli.proofs.Works.{create_failed, second_failed, proof_call}
-use Rattle.solve_cli.specs.Seen.{Seen, seen}
-use Rattle.solve_cli.specs.Commands.{gives_file}
+use Rattle.solve_cli.proofs.Works.{second_failed}
+use Rattle.solve_cli.specs.Seen.{seen}
 use Rattle.solve_cli.specs.Steps.{Loads}
+use Rattle.cx_desk.specs.Outside.{Bytes}
+use Rattle.cx_words.specs.declared.plans.Plan.{Plan}
 use Rattle.cx_words.specs.declared.plans.Plan.TheVariants as plan
+use Rattle.solve_cli.specs.Commands.{formula_of, second_of, proof_of}
 use Rattle.solve_cli.proofs.load.load.Goals as goal
 
-pub create_proof-requires : goal.create_proof-requires
-create_proof-requires g c = record {
-  unasked = let begun = c.in_ok-formula.ensures (plan.Check c.args.formula c.args.second) refl refl in
-      ap (λ (s : Seen). s.asked.proof) begun.0 ∙ c.requires.fresh.proof;
-}
+-- some command has these names
+a_plan : (formula second : Bytes) (proof : Option Bytes) → (p : Plan) × (formula_of p ≡ Some formula) × (second_of p ≡ Some second) × (proof_of p ≡ proof)
+a_plan formula second None = (plan.Check formula second, refl, refl, refl)
+a_plan formula second (Some proof) = (plan.Elab formula second proof, refl, refl, refl)
 
 pub read_slot-requires : goal.read_slot-requires
 read_slot-requires g c = record {
-  started = let begun = c.in_ok-formula.ensures (plan.Check c.args.formula c.args.second) refl refl in
-      (c.in_ok-create_proof.ensures.1 c.args.second begun.1).started;
+  started = let p = a_plan c.args.formula c.args.second c.args.proof in (c.in_ok-formula.ensures p.0 p.1 p.2 p.3).1.started;
 }
-
-pub returns-in_err-create_proof : goal.returns-in_err-create_proof
-returns-in_err-create_proof g c = λ p is_formula is_second is_proof.
-    let old = seen (g.D.Desk.outside c.args.desk.now) in
-    let new = seen (g.D.Desk.outside c.create_proof.new.desk) in
-    let begun = c.in_ok-formula.ensures p is_formula is_second in
-    let is = err_from_is_err_and c.from_residual-in_err-create_proof.result c.from_residual-in_err-create_proof.ensures.1 in
-    subst (λ r. Loads p c.args.limit old r new) (sym (is.1 ∙ ap Err is.2))
-    (create_failed p c.args.proof c.args.limit old (seen (g.D.Desk.outside c.begin.new.desk)) c.in_ok-formula.formula c.in_err-create_proof.field-0.0 new is_proof begun.0 begun.2 c.in_err-create_proof.ensures)
 
 pub returns-in_err-second : goal.returns-in_err-second
 returns-in_err-second g c = λ p is_formula is_second is_proof.
     let old = seen (g.D.Desk.outside c.args.desk.now) in
-    let begun = c.in_ok-formula.ensures p is_formula is_second in
-    let made = c.in_ok-create_proof.ensures in
+    let opened = c.in_ok-formula.ensures p is_formula is_second is_proof in
     let is = err_from_is_err_and c.from_residual-in_err-second.result c.from_residual-in_err-second.ensures.1 in
     subst (λ r. Loads p c.args.limit old r (seen (g.D.Desk.outside c.read_slot.new.desk))) (sym (is.1 ∙ ap Err is.2))
-    (second_failed p c.args.second c.args.limit old c.in_ok-formula.formula (g.D.Desk.outside c.create_proof.new.desk) c.in_err-second.field-0.0 (g.D.Desk.outside c.read_slot.new.desk) is_second
-    (made.0 ∙ (ap (gives_file c.args.proof) begun.0 ∙ proof_call p c.args.proof old is_proof)) begun.2 (c.in_err-second.ensures c.args.second (made.1 c.args.second begun.1)))
+    (second_failed p c.args.second c.args.limit old c.in_ok-formula.formula (g.D.Desk.outside c.prepare.new.desk) c.in_err-second.field-0.0 (g.D.Desk.outside c.read_slot.new.desk) is_second
+    opened.0 opened.2 (c.in_err-second.ensures c.args.second opened.1))
