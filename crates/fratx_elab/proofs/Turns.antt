@@ -11,7 +11,7 @@ use Rattle.cx_semantics.specs.LogRules.{log_calculus, log_rules, derives_empty_c
 use Rattle.cx_semantics.specs.ProofRules.{proof_calculus, after_step}
 use Rattle.cx_semantics.specs.Tables.{Tables, first_tables, no_tables}
 use Rattle.cx_semantics.proofs.JudgingLaws.{runs_push}
-use Rattle.step_text.specs.Sources.{GivesNone}
+use Rattle.step_text.specs.Sources.{GivesNone, FaultsAs}
 use Rattle.step_text.specs.Sinks.{with_next, SinkFaultsAs}
 use Rattle.step_text.specs.declared.source.TextRefusal.{TextRefusal}
 use Rattle.step_text.specs.declared.source.TextRefusal.TheVariants as text
@@ -26,7 +26,7 @@ use Rattle.fratx_elab.specs.Ties.{AreTied, HaveSameForm}
 use Rattle.fratx_elab.proofs.TieLaws.{tied_first}
 use Rattle.fratx_elab.specs.Takes.{TakesLogStep, KeepsTie, listed, names_of}
 use Rattle.fratx_elab.specs.Writing.{WritesDown}
-use Rattle.fratx_elab.specs.Outcomes.{Gained, IsProofWritten, IsElaborated, IsCutOff, Kept, Turns, text_refused, step_refused, what_follows_of, WritesStand}
+use Rattle.fratx_elab.specs.Outcomes.{Gained, IsProofWritten, IsElaborated, IsCutOff, Kept, Turns, text_refused, step_refused, what_follows_of, ReadsStand, WritesStand}
 use Rattle.fratx_elab.specs.declared.state.State.{State}
 use Rattle.fratx_elab.specs.declared.outcome.Elab.TheVariants.{Done, Refused}
 use Rattle.fratx_elab.specs.declared.outcome.ElabFault.TheVariants.{Memory, Write}
@@ -234,3 +234,27 @@ module _ (before now : ℕ) where
   write_stands (Ok u) false k e = e
   write_stands (Err sink.Memory) ends k e = e
   write_stands (Err sink.Failed) ends k e = tt
+
+-- ---- the source's faults
+
+abbrev unread : TextRefusal → Result (Unit {0}) TextRefusal
+unread why = Err why
+
+module _ (before now : ℕ) where
+  pub text_reads : (why : TextRefusal) (k : ℕ) → FaultsAs (unread why) before now → ReadsStand (text_refused why k) before now
+  text_reads (text.BadToken place) k e = e
+  text_reads (text.Unterminated place) k e = e
+  text_reads (text.TooBig place) k e = e
+  text_reads text.TooLong k e = e
+  text_reads text.Memory k e = e
+  text_reads text.Failed k e = tt
+
+  pub step_reads : (why : JudgeRefusal) (k : ℕ) → now ≡ before → ReadsStand (step_refused why k) before now
+  step_reads (refusal.Wrong cause) k e = e
+  step_reads refusal.Memory k e = e
+
+  pub write_reads : (wrote : Result (Unit {0}) SinkFault) (ends : Bool) (k : ℕ) → now ≡ before → ReadsStand (what_follows_of wrote ends k) before now
+  write_reads (Ok u) true k e = e
+  write_reads (Ok u) false k e = e
+  write_reads (Err sink.Memory) ends k e = e
+  write_reads (Err sink.Failed) ends k e = e

@@ -105,6 +105,14 @@ what_follows_of (Ok done) false k = Ok None
 what_follows_of (Err sink.Memory) ends k = Err Memory
 what_follows_of (Err sink.Failed) ends k = Err Write
 
+-- the source's faults stand but where a fault of reading is answered
+abbrev pub ReadsStand : {T : Type 0} → Result T ElabFault → ℕ → ℕ → Type 0
+ReadsStand (Ok elab) before now = now ≡ before
+ReadsStand (Err Memory) before now = now ≡ before
+ReadsStand (Err Write) before now = now ≡ before
+ReadsStand (Err TooLong) before now = now ≡ before
+ReadsStand (Err Read) before now = ⊤
+
 -- the sink's faults stand but where a fault of writing is answered
 abbrev pub WritesStand : {T : Type 0} → Result T ElabFault → ℕ → ℕ → Type 0
 WritesStand (Ok elab) before now = now ≡ before

@@ -6,7 +6,7 @@ ghost use Rattle.cx_base.specs.declared.steps.LogStep.{LogStep};
 ghost use Rattle.cx_base.specs.Problem.{Problem};
 ghost use Rattle.fratx_elab.specs.Contents.{StandsFor};
 ghost use Rattle.fratx_elab.specs.Elaborates.{number_of_clauses, number_of_parities};
-ghost use Rattle.fratx_elab.specs.Outcomes.{IsElaborated, IsCutOff, HasCause, Kept, Turns, text_refused, step_refused, what_follows_of, WritesStand};
+ghost use Rattle.fratx_elab.specs.Outcomes.{IsElaborated, IsCutOff, HasCause, Kept, Turns, text_refused, step_refused, what_follows_of, ReadsStand, WritesStand};
 ghost use Rattle.fratx_elab.specs.Takes.{CanBePrinted, CountsOneMore, TakesLogStep, names_of};
 ghost use Rattle.fratx_elab.specs.Ties.{AreTied};
 ghost use Rattle.fratx_elab.specs.Writing.{WritesDown};
@@ -113,7 +113,7 @@ fn take_next<E: ElabEnds>(
     ensures clause_room { IfOk result (λ elab. elab ≡ None → state.new.clauses.last ≤ 2 ^ 60 + (steps + 1)) }
     ensures parity_room { IfOk result (λ elab. elab ≡ None → state.new.parities.last ≤ 2 ^ 60 + (steps + 1)) }
     ensures fresh { IfOk result (λ elab. elab ≡ None → E.is_spent ends.new ≡ false) }
-    ensures reads { IfOk result (λ _. E.read_faults ends.new ≡ E.read_faults ends.old) }
+    ensures reads { ReadsStand result (E.read_faults ends.old) (E.read_faults ends.new) }
     ensures writes { WritesStand result (E.write_faults ends.old) (E.write_faults ends.new) }
     ensures failed { IfOk result (λ _. E.has_failed ends.new ≡ E.has_failed ends.old) }
     ensures rises { IfOk result (λ elab. elab ≡ None → E.place_of ends.old < E.place_of ends.new) }
@@ -151,7 +151,7 @@ pub fn elaborate<E: ElabEnds>(
     ensures judged { IfOk result (IsElaborated E.leaves E.steps E.torn formula.now ends.old ends.new) }
     ensures cut_off { IfErr result (IsCutOff E.leaves E.steps E.torn formula.now ends.old ends.new) }
     ensures cause { IfErr result (HasCause (E.passes_limit ends.old) (E.read_faults ends.old) (E.read_faults ends.new) (E.write_faults ends.old) (E.write_faults ends.new)) }
-    ensures reads { IfOk result (λ _. E.read_faults ends.new ≡ E.read_faults ends.old) }
+    ensures reads { ReadsStand result (E.read_faults ends.old) (E.read_faults ends.new) }
     ensures writes { WritesStand result (E.write_faults ends.old) (E.write_faults ends.new) }
     ensures failed { IfOk result (λ _. E.has_failed ends.new ≡ E.has_failed ends.old) }
     ensures frame { E.keeps ends.old ends.new }

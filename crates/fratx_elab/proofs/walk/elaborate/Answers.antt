@@ -1,6 +1,6 @@
 use Rattle.std.proofs.Common.{refl, ap, ◌∙◌, subst, Option, Result, Err, arith}
 use Rattle.fratx_elab.specs.Names.{Naming, first_naming}
-use Rattle.fratx_elab.specs.Outcomes.{Goes, WritesStand}
+use Rattle.fratx_elab.specs.Outcomes.{Goes, ReadsStand, WritesStand}
 use Rattle.fratx_elab.specs.declared.outcome.Elab.{Elab}
 use Rattle.fratx_elab.specs.declared.outcome.ElabFault.{ElabFault}
 use Rattle.fratx_elab.proofs.Turns.{kept_first, nothing_gained}
@@ -35,6 +35,13 @@ returns-in-Err-clause-cut_off g c = nothing_gained c.args.formula.now (g.E.ElabE
 pub returns-in-Err-take_next-clause-writes : goal.returns-in-Err-take_next-clause-writes
 returns-in-Err-take_next-clause-writes g c =
     subst (λ n. WritesStand (failed c.in-Err-take_next.fault) n (g.E.ElabEnds.write_faults c.take_next.new.ends)) c.loop-steps.invariant.writes c.in-Err-take_next.ensures.writes
+  where
+    failed : ElabFault → Result Elab ElabFault
+    failed fault = Err fault
+
+pub returns-in-Err-take_next-clause-reads : goal.returns-in-Err-take_next-clause-reads
+returns-in-Err-take_next-clause-reads g c =
+    subst (λ n. ReadsStand (failed c.in-Err-take_next.fault) n (g.E.ElabEnds.read_faults c.take_next.new.ends)) c.loop-steps.invariant.reads c.in-Err-take_next.ensures.reads
   where
     failed : ElabFault → Result Elab ElabFault
     failed fault = Err fault

@@ -1,10 +1,10 @@
-use Rattle.std.proofs.Common.{refl, subst, Option, Ok}
+use Rattle.std.proofs.Common.{refl, ◌∙◌, subst, Option, Ok}
 use Rattle.cx_base.specs.Endings.{finished}
 use Rattle.cx_base.specs.declared.steps.LogStep.{LogStep}
 use Rattle.step_text.specs.Sources.{Gives}
 use Rattle.step_text.specs.Sinks.{SinkFaultsAs}
 use Rattle.fratx_elab.specs.Writing.{WritesDown}
-use Rattle.fratx_elab.proofs.Turns.{end_is_refused, text_is_refused, refusal_turns, write_turns, text_stands, step_stands, write_stands}
+use Rattle.fratx_elab.proofs.Turns.{end_is_refused, text_is_refused, refusal_turns, write_turns, text_stands, step_stands, write_stands, text_reads, step_reads, write_reads}
 use Rattle.fratx_elab.proofs.walk.take_next.Goals as goal
 
 pub returns-in-Ok-None-clause-turns : goal.returns-in-Ok-None-clause-turns
@@ -44,3 +44,12 @@ returns-clause-writes g c =
     let new = g.E.ElabEnds.write_faults c.write-wrote.new.ends in
     let faults = subst (λ n. SinkFaultsAs c.write-wrote.result n new) c.in-Ok-Some.ensures.writes_stay c.write-wrote.ensures.faults in
     rw c.what_follows.ensures (write_stands _ _ c.write-wrote.result c.ends_log.result _ faults)
+
+pub returns-in-Err-clause-reads : goal.returns-in-Err-clause-reads
+returns-in-Err-clause-reads g c = rw c.refused_text.ensures (text_reads _ _ c.in-Err.why _ c.in-Err.ensures.faults)
+
+pub returns-in-Err-take_step-clause-reads : goal.returns-in-Err-take_step-clause-reads
+returns-in-Err-take_step-clause-reads g c = rw c.refused_step.ensures (step_reads _ _ c.in-Err-take_step.why _ c.in-Ok-Some.ensures.faults)
+
+pub returns-clause-reads : goal.returns-clause-reads
+returns-clause-reads g c = rw c.what_follows.ensures (write_reads _ _ c.write-wrote.result c.ends_log.result _ (c.write-wrote.ensures.reads ∙ c.in-Ok-Some.ensures.faults))
