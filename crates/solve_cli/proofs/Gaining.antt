@@ -1,6 +1,7 @@
 -- What the elaborator leaves on the Proof port, in the words of the top call.
 use Rattle.std.proofs.Common.{◌≡◌, ◌<◌, ℕ, List, [], ◌∷◌, ◌++◌, Bool, true, false, length, take, drop, option_map, Option, Some, None, IfSome, Result, Ok, Err, IfOk, IfErr, inl, inr, refl, ap, sym, subst, ◌∙◌, append-nil, append_assoc, length-append, arith}
 use Rattle.std.proofs.lemmas.Grind.{flat_map-append}
+use Rattle.std.proofs.lemmas.Option.{IfSome_then}
 use Rattle.std.proofs.lemmas.List.{take-append-drop}
 use Rattle.std.specs.List.{AllByRecursion}
 use Rattle.cx_base.specs.Problem.{Problem}
@@ -8,27 +9,40 @@ use Rattle.cx_base.specs.declared.steps.LogStep.{LogStep}
 use Rattle.cx_base.specs.declared.steps.ProofStep.{ProofStep}
 use Rattle.cx_base.specs.Endings.{Ending, finished}
 use Rattle.cx_semantics.specs.declared.cause.Cause.{Cause}
-use Rattle.cx_semantics.specs.Judging.{IsRight, Runs, IsOpen}
+use Rattle.cx_semantics.specs.Judging.{IsRight, Runs, IsOpen, JudgedAs, accepted, refused}
+use Rattle.cx_semantics.specs.LogRules.{log_calculus}
 use Rattle.cx_semantics.specs.Tables.{Tables, first_tables}
 use Rattle.cx_texts.specs.LogText.{LogReads}
 use Rattle.cx_texts.specs.Printed.{HasProofText, printed_proof}
 use Rattle.cx_semantics.specs.ProofRules.{proof_calculus, after_step, adds_empty_clause}
 use Rattle.cx_texts.proofs.PrintedProofs.{printed_proof_reads}
 use Rattle.cx_desk.specs.declared.desk.Port.TheVariants as port
-use Rattle.cx_desk.specs.Outside.{Bytes, Told, Outside}
+use Rattle.cx_desk.specs.declared.desk.Slot.{Slot}
+use Rattle.cx_desk.specs.declared.desk.Slot.TheVariants as slot
+use Rattle.cx_desk.specs.declared.draining.DrainErr.{DrainErr}
+use Rattle.cx_desk.specs.declared.draining.DrainErr.TheVariants as drained
+use Rattle.cx_desk.specs.Outside.{Bytes, Files, Told, Outside}
+use Rattle.step_text.specs.Slots.{SlotState, DrainsRest, is_too_long}
+use Rattle.cx_words.specs.declared.plans.Plan.TheVariants as plan
 use Rattle.cx_desk.specs.Calls.{gained, WriteFaulted}
 use Rattle.cx_base.specs.Counts.{Rose}
 use Rattle.proof_text.specs.Told.{told_steps, steps_told, fault_of, is_none, begun_line, is_whole, step_line, TornOn, Prints, Tears, Goes}
 use Rattle.proof_text.proofs.ToldLaws.{told_front, told_proof, gained_proof, begun_proof, begun_front}
-use Rattle.fratx_elab.specs.Outcomes.{Gained, IsProofWritten, IsElaborated, IsCutOff, HasCause, WritesStand}
+use Rattle.fratx_elab.specs.Outcomes.{Gained, IsProofWritten, IsElaborated, IsCutOff, HasCause, ReadsStand, WritesStand}
 use Rattle.fratx_elab.specs.declared.outcome.Elab.{Elab}
 use Rattle.fratx_elab.specs.declared.outcome.ElabFault.{ElabFault}
 use Rattle.fratx_elab.specs.declared.outcome.ElabFault.TheVariants as fault
 use Rattle.fratx_elab.specs.declared.outcome.Elab.TheVariants as elab
-use Rattle.solve_cli.specs.Seen.{Seen, seen, says, WriteFault}
-use Rattle.solve_cli.specs.Proofs.{IsWholeProof, IsProofBefore, AreRight, IsRightSoFar}
-use Rattle.solve_cli.specs.Steps.{HasNoProof, ElaboratedAs}
-use Rattle.solve_cli.proofs.Works.{seen-gained}
+use Rattle.solve_cli.specs.declared.ending.Ending.{Ending as Ended}
+use Rattle.solve_cli.specs.Seen.{Seen, seen, says, ReadFault, WriteFault, text_named}
+use Rattle.solve_cli.specs.Happens.{Judged}
+use Rattle.solve_cli.specs.TwoEnds.{read_by}
+use Rattle.solve_cli.specs.SlotTexts.{IsLateOf, ProvedAs, ElaboratedAs, Elaborates, elaborated_as, drained_as, first_state}
+use Rattle.solve_cli.specs.Proofs.{AreRight, IsRightSoFar}
+use Rattle.solve_cli.specs.Steps.{Ready, HasNoProof, LeftBy}
+use Rattle.solve_cli.proofs.Works.{seen-gained, if_some_both}
+use Rattle.solve_cli.proofs.TwoEnds.{steps_read}
+use Rattle.solve_cli.proofs.SlotTexts.{seen-taken, drain_fault, is_long, is_short}
 
 empty_told : (o : Outside) → HasNoProof (seen o) → IfSome o.told (λ t. t.written.proof ≡ [])
 empty_told o h = elim o.told as (λ w. HasNoProof (seen (record o { told = w })) → IfSome w (λ t. t.written.proof ≡ [])) [ None ↦ λ k. tt | Some t ↦ λ k. k ] h
@@ -77,24 +91,53 @@ left P Q o n h empty gains f = (
   on_files (Q (printed_proof h.steps)) o.told (on_told (P h.steps) (Q (printed_proof h.steps)) o.told (printed_gained P o n h empty gains) f),
 )
 
+flat : (P : Files → Type 0) (w : Option Files) → IfSome w (λ _. IfSome w P) → IfSome w P
+flat P None h = tt
+flat P (Some files) h = h
+
+-- what the port gained, by what the log's text reads as
+judged_left : (name : Bytes) (P : List ProofStep → Type 0) (Q : Bytes → Bytes → Type 0) (o n : Outside) (log : List LogStep) (ending : Ending) (h : Prints o n) → HasNoProof (seen o)
+    → Gained (steps_told o) (steps_told n) P → IfSome (seen o).files (λ files. LogReads (text_named name files) log ending)
+    → ((text : Bytes) → LogReads text log ending → P h.steps → Q text (printed_proof h.steps))
+    → (proof : Bytes) × (seen n ≡ says port.Proof proof (seen o)) × IfSome (seen o).files (λ files. Q (text_named name files) proof)
+judged_left name P Q o n log ending h empty gains reads f =
+    let l = left P (λ proof. IfSome (seen o).files (λ files. Q (text_named name files) proof)) o n h empty gains (λ right. IfSome_then (seen o).files reads (λ files r. f (text_named name files) r right)) in
+    (l.0, l.1, flat (λ files. Q (text_named name files) l.0) (seen o).files l.2)
+
 -- a right log: what it left is its proof, which is accepted
-pub whole : (f : Problem) (text : Bytes) (k : ℕ) (o n : Outside) (log : List LogStep) (ending : Ending) → HasNoProof (seen o) → Prints o n → Gained (steps_told o) (steps_told n) (IsProofWritten f log (elab.Done k))
-    → LogReads text log ending → (proof : Bytes) × (seen n ≡ says port.Proof proof (seen o)) × IfSome (seen o).files (λ _. IsWholeProof f text k proof)
-whole f text k o n log ending empty h gains reads = left (IsProofWritten f log (elab.Done k)) (IsWholeProof f text k) o n h empty gains (λ right. record {
-  steps = h.steps;
-  proof = record { log_steps = log; ending = ending; reads = reads; is_proof = right.0; printed = refl };
-  accepted = record { steps = h.steps; ending = finished; reads = printed_proof_reads h.steps h.texts; judged = right.1 };
-})
+pub whole : (f : Problem) (name : Bytes) (k : ℕ) (o n : Outside) (log : List LogStep) (ending : Ending) → HasNoProof (seen o) → Prints o n → Gained (steps_told o) (steps_told n) (IsProofWritten f log (elab.Done k))
+    → IfSome (seen o).files (λ files. LogReads (text_named name files) log ending) → JudgedAs (log_calculus f) log ending (accepted k)
+    → (proof : Bytes) × (seen n ≡ says port.Proof proof (seen o)) × IfSome (seen o).files (λ files. ProvedAs f (text_named name files) (elab.Done k) proof × IsRightSoFar f proof)
+whole f name k o n log ending empty h gains reads judged =
+    judged_left name (IsProofWritten f log (elab.Done k)) (λ text proof. ProvedAs f text (elab.Done k) proof × IsRightSoFar f proof) o n log ending h empty gains reads (λ text read right. (
+      (
+        record { steps = log; ending = ending; reads = read; judged = judged },
+        record {
+          steps = h.steps;
+          proof = record { log_steps = log; ending = ending; reads = read; is_proof = right.0; printed = refl };
+          accepted = record { steps = h.steps; ending = finished; reads = printed_proof_reads h.steps h.texts; judged = right.1 };
+        },
+      ),
+      record { steps = h.steps; right = inr right.1; rest = []; front = append-nil (printed_proof h.steps) },
+    ))
 
 -- a refused log: what it left is the proof of the steps before
-pub before : (f : Problem) (text : Bytes) (k : ℕ) (c : Cause) (o n : Outside) (log : List LogStep) (ending : Ending) → HasNoProof (seen o) → Prints o n
-    → Gained (steps_told o) (steps_told n) (IsProofWritten f log (elab.Refused k c)) → LogReads text log ending
-    → (proof : Bytes) × (seen n ≡ says port.Proof proof (seen o)) × IfSome (seen o).files (λ _. IsProofBefore f text k proof)
-before f text k c o n log ending empty h gains reads = left (IsProofWritten f log (elab.Refused k c)) (IsProofBefore f text k) o n h empty gains (λ right. record {
-  steps = h.steps;
-  proof = record { log_steps = log; ending = ending; reads = reads; is_proof = right.0; printed = refl };
-  right = right.1;
-})
+pub before : (f : Problem) (name : Bytes) (k : ℕ) (c : Cause) (o n : Outside) (log : List LogStep) (ending : Ending) → HasNoProof (seen o) → Prints o n
+    → Gained (steps_told o) (steps_told n) (IsProofWritten f log (elab.Refused k c)) → IfSome (seen o).files (λ files. LogReads (text_named name files) log ending)
+    → JudgedAs (log_calculus f) log ending (refused k c)
+    → (proof : Bytes) × (seen n ≡ says port.Proof proof (seen o)) × IfSome (seen o).files (λ files. ProvedAs f (text_named name files) (elab.Refused k c) proof × IsRightSoFar f proof)
+before f name k c o n log ending empty h gains reads judged =
+    judged_left name (IsProofWritten f log (elab.Refused k c)) (λ text proof. ProvedAs f text (elab.Refused k c) proof × IsRightSoFar f proof) o n log ending h empty gains reads (λ text read right. (
+      (
+        record { steps = log; ending = ending; reads = read; judged = judged },
+        record {
+          steps = h.steps;
+          proof = record { log_steps = log; ending = ending; reads = read; is_proof = right.0; printed = refl };
+          right = right.1;
+        },
+      ),
+      record { steps = h.steps; right = inl right.1; rest = []; front = append-nil (printed_proof h.steps) },
+    ))
 
 -- want of memory: what it left are right steps
 pub so_far : (f : Problem) (o n : Outside) → HasNoProof (seen o) → Prints o n → Gained (steps_told o) (steps_told n) (IsOpen (proof_calculus f))
@@ -212,27 +255,120 @@ has_torn false false o n e h rose = absurd (omega (arith, rose))
 
 -- ---- the whole run of the elaborator
 
-pub settled : {X : Type 0} (leaves : X → List LogStep → Ending → Type 0) (told : X → Option (List ProofStep)) (torn : X → ProofStep → Type 0)
-    (f : Problem) (log : Bytes) (a b : X) (first last : Bool) (o n : Outside) (r : Result Elab ElabFault)
-    → ((steps : List LogStep) (ending : Ending) → leaves a steps ending → LogReads log steps ending)
-    → told a ≡ steps_told o → told b ≡ steps_told n → ((step : ProofStep) → torn b step → TornOn step n)
-    → HasNoProof (seen o) → first ≡ false → Goes first o last n
-    → IfOk r (IsElaborated leaves told torn f a b) → IfErr r (IsCutOff leaves told torn f a b)
-    → IfErr r (HasCause (Some false) 0 0 (fault_of first) (fault_of last)) → WritesStand r (fault_of first) (fault_of last)
-    → ElaboratedAs f log (seen o) r (seen n)
-settled leaves told torn f log a b first last o n (Ok (elab.Done k)) reads at_first at_last tears empty whole_before goes judged cut cause stand = (
-  λ _ _ _. record { steps = judged.0; ending = judged.1; reads = reads judged.0 judged.1 judged.2; judged = judged.3 },
-  whole f log k o n judged.0 judged.1 empty (has_printed first last o n whole_before goes stand)
-      (told_as (IsProofWritten f judged.0 (elab.Done k)) (told a) (steps_told o) (told b) (steps_told n) at_first at_last judged.4) (reads judged.0 judged.1 judged.2),
-)
-settled leaves told torn f log a b first last o n (Ok (elab.Refused k c)) reads at_first at_last tears empty whole_before goes judged cut cause stand = (
-  λ _ _ _. record { steps = judged.0; ending = judged.1; reads = reads judged.0 judged.1 judged.2; judged = judged.3 },
-  before f log k c o n judged.0 judged.1 empty (has_printed first last o n whole_before goes stand)
-      (told_as (IsProofWritten f judged.0 (elab.Refused k c)) (told a) (steps_told o) (told b) (steps_told n) at_first at_last judged.4) (reads judged.0 judged.1 judged.2),
-)
-settled leaves told torn f log a b first last o n (Err fault.Memory) reads at_first at_last tears empty whole_before goes judged cut cause stand =
-    so_far f o n empty (has_printed first last o n whole_before goes stand) (told_as (IsOpen (proof_calculus f)) (told a) (steps_told o) (told b) (steps_told n) at_first at_last cut)
-settled leaves told torn f log a b first last o n (Err fault.Write) reads at_first at_last tears empty whole_before goes judged cut cause stand =
-    torn_so_far f o n cut.0 empty (has_torn first last o n whole_before goes cause) (tears cut.0 cut.1) (told_as (Torn f cut.0) (told a) (steps_told o) (told b) (steps_told n) at_first at_last cut.2)
-settled leaves told torn f log a b first last o n (Err fault.Read) reads at_first at_last tears empty whole_before goes judged cut cause stand = absurd (omega (arith, cause))
-settled leaves told torn f log a b first last o n (Err fault.TooLong) reads at_first at_last tears empty whole_before goes judged cut cause stand = absurd (cause refl)
+module _ (s : Slot) (k : ℕ) (o n : Outside) where
+  -- where all that was read stands before all that was printed
+  abbrev read_first : Outside
+  read_first = read_by s k n.faults.reads o
+
+  seen_first : seen read_first ≡ record (seen o) { faults = record (seen o).faults { reads = n.faults.reads } }
+  seen_first = ap (λ (x : Seen). record x { faults = record o.faults { reads = n.faults.reads } }) (seen-taken s k o)
+
+  seen_same : n.faults.reads ≡ o.faults.reads → seen read_first ≡ seen o
+  seen_same e = seen_first ∙ ap (λ r. record (seen o) { faults = record o.faults { reads = r } }) e
+
+  -- nothing of it changes a file or a port
+  still : (P : Seen → Type 0) → ((x : Seen) (reads : ℕ) → P x → P (record x { faults = record x.faults { reads = reads } })) → P (seen o) → P (seen read_first)
+  still P f h = subst P (sym seen_first) (f (seen o) n.faults.reads h)
+
+  module _ (f : Problem) (name : Bytes) (limit : ℕ) (empty : HasNoProof (seen o)) where
+    pub settled : {X : Type 0} (leaves : X → List LogStep → Ending → Type 0) (told : X → Option (List ProofStep)) (torn : X → ProofStep → Type 0)
+        (a b : X) (last : Bool) (long : Option Bool) (r : Result Elab ElabFault)
+        → ((steps : List LogStep) (ending : Ending) → leaves a steps ending → IfSome (seen o).files (λ files. LogReads (text_named name files) steps ending))
+        → (¬ (long ≡ Some false) → IfSome (seen o).files (λ files. limit < length (text_named name files)))
+        → told a ≡ steps_told o → told b ≡ steps_told n → ((step : ProofStep) → torn b step → TornOn step n) → Goes false read_first last n
+        → IfOk r (IsElaborated leaves told torn f a b) → IfErr r (IsCutOff leaves told torn f a b)
+        → IfErr r (HasCause long o.faults.reads n.faults.reads (fault_of false) (fault_of last)) → ReadsStand r o.faults.reads n.faults.reads → WritesStand r (fault_of false) (fault_of last)
+        → ElaboratedAs f name limit (seen o) r (seen n)
+    settled leaves told torn a b last long r reads too_long at_first at_last tears goes judged cut cause reads_stand stand = by r judged cut cause reads_stand stand
+      where
+        none : HasNoProof (seen read_first)
+        none = still HasNoProof (λ x reads h. h) empty
+
+        first : told a ≡ steps_told read_first
+        first = at_first ∙ sym (steps_read s k n.faults.reads o)
+
+        read_as : (steps : List LogStep) (ending : Ending) → leaves a steps ending → IfSome (seen read_first).files (λ files. LogReads (text_named name files) steps ending)
+        read_as steps ending h = still (λ x. IfSome x.files (λ files. LogReads (text_named name files) steps ending)) (λ x reads g. g) (reads steps ending h)
+
+        prints : fault_of last ≡ fault_of false → Prints read_first n
+        prints e = has_printed false last read_first n refl goes e
+
+        gained_as : (P : List ProofStep → Type 0) → Gained (told a) (told b) P → Gained (steps_told read_first) (steps_told n) P
+        gained_as P h = told_as P (told a) (steps_told read_first) (told b) (steps_told n) first at_last h
+
+        as_seen : (r : Result Elab ElabFault) → n.faults.reads ≡ o.faults.reads → ElaboratedAs f name limit (seen read_first) r (seen n) → ElaboratedAs f name limit (seen o) r (seen n)
+        as_seen r e h = subst (λ (x : Seen). ElaboratedAs f name limit x r (seen n)) (seen_same e) h
+
+        on_files_of : (P : Files → Type 0) → IfSome (seen read_first).files P → IfSome (seen o).files P
+        on_files_of P h = subst (λ (x : Seen). IfSome x.files P) seen_first h
+
+        by : (r : Result Elab ElabFault) → IfOk r (IsElaborated leaves told torn f a b) → IfErr r (IsCutOff leaves told torn f a b)
+            → IfErr r (HasCause long o.faults.reads n.faults.reads (fault_of false) (fault_of last)) → ReadsStand r o.faults.reads n.faults.reads → WritesStand r (fault_of false) (fault_of last)
+            → ElaboratedAs f name limit (seen o) r (seen n)
+        by (Ok (elab.Done k)) judged cut cause same stand =
+            as_seen (Ok (elab.Done k)) same
+            (whole f name k read_first n judged.0 judged.1 none (prints stand) (gained_as (IsProofWritten f judged.0 (elab.Done k)) judged.4) (read_as judged.0 judged.1 judged.2) judged.3)
+        by (Ok (elab.Refused k c)) judged cut cause same stand =
+            as_seen (Ok (elab.Refused k c)) same
+            (before f name k c read_first n judged.0 judged.1 none (prints stand) (gained_as (IsProofWritten f judged.0 (elab.Refused k c)) judged.4) (read_as judged.0 judged.1 judged.2) judged.3)
+        by (Err fault.Memory) judged cut cause same stand = as_seen (Err fault.Memory) same (so_far f read_first n none (prints stand) (gained_as (IsOpen (proof_calculus f)) cut))
+        by (Err fault.Write) judged cut cause same stand =
+            as_seen (Err fault.Write) same (torn_so_far f read_first n cut.0 none (has_torn false last read_first n refl goes cause) (tears cut.0 cut.1) (gained_as (Torn f cut.0) cut.2))
+        by (Err fault.TooLong) judged cut cause same stand =
+            let open_run = so_far f read_first n none (prints stand) (gained_as (IsOpen (proof_calculus f)) cut) in
+            (open_run.0, open_run.1 ∙ ap (says port.Proof open_run.0) (seen_same same), if_some_both (seen o).files (too_long cause) (on_files_of (λ _. IsRightSoFar f open_run.0) open_run.2) (λ files l right. (l, right)))
+        by (Err fault.Read) judged cut cause same stand =
+            let open_run = so_far f read_first n none (prints stand) (gained_as (IsOpen (proof_calculus f)) cut) in
+            (open_run.0, record { else_same = open_run.1 ∙ ap (says port.Proof open_run.0) seen_first; rose = cause }, on_files_of (λ _. IsRightSoFar f open_run.0) open_run.2)
+
+-- ---- the rest of the slot
+
+module _ (f : Problem) (name : Bytes) (limit : ℕ) (o : Outside) (ready : Ready slot.Second name o) (s : SlotState) (m : Outside)
+    (long : is_too_long s m ≡ is_too_long (first_state slot.Second limit) o) where
+  -- the elaboration failed
+  pub elaboration_failed : (r : Result Elab ElabFault) → ElaboratedAs f name limit (seen o) r (seen m) → IfErr (elaborated_as r) (λ e. Elaborates f name limit (seen o) (Err e) (seen m))
+  elaboration_failed (Ok (elab.Done k)) h = tt
+  elaboration_failed (Ok (elab.Refused k c)) h = tt
+  elaboration_failed (Err fault.Memory) h = h
+  elaboration_failed (Err fault.Read) h = h
+  elaboration_failed (Err fault.Write) h = h
+  elaboration_failed (Err fault.TooLong) h = h
+
+  -- what it left, if the text is not too long
+  abbrev pub LeftWith : Ended → Type 0
+  LeftWith e = ((n q : Bytes) → IsLateOf (plan.Elab n name q) e)
+      × ((proof : Bytes) × (seen m ≡ says port.Proof proof (seen o))
+      × IfSome (seen o).files (λ files. ((n q : Bytes) → Judged e (plan.Elab n name q) f (text_named name files)) × LeftBy e f (text_named name files) proof × IsRightSoFar f proof))
+
+  pub elaboration_left : (r : Result Elab ElabFault) → ElaboratedAs f name limit (seen o) r (seen m) → IfOk (elaborated_as r) LeftWith
+  elaboration_left (Ok (elab.Done k)) h = ((λ n q. (tt, refl)), (h.0, h.1, IfSome_then (seen o).files h.2 (λ files x. ((λ n q. x.0.0), x.0.1, x.1))))
+  elaboration_left (Ok (elab.Refused k c)) h = ((λ n q. (tt, refl)), (h.0, h.1, IfSome_then (seen o).files h.2 (λ files x. ((λ n q. x.0.0), x.0.1, x.1))))
+  elaboration_left (Err fault.Memory) h = tt
+  elaboration_left (Err fault.Read) h = tt
+  elaboration_left (Err fault.Write) h = tt
+  elaboration_left (Err fault.TooLong) h = tt
+
+  pub log_rest_failed : {T : Type 0} (r : Result T DrainErr) (p : Outside) (e : Ended) → LeftWith e → DrainsRest s m r p → IfErr (drained_as r) (λ x. Elaborates f name limit (seen o) (Err x) (seen p))
+  log_rest_failed (Ok v) p e h drains = tt
+  log_rest_failed (Err drained.TooLong) p e h drains = (
+    h.1.0,
+    ap seen drains.1.1 ∙ (seen-taken s.slot drains.1.0 m ∙ h.1.1),
+    if_some_both (seen o).files (is_long slot.Second limit o name ready (λ k. drains.0 (long ∙ k))) h.1.2 (λ files l x. (l, x.2)),
+  )
+  log_rest_failed (Err drained.Failed) p e h drains = (
+    h.1.0,
+    subst (λ x. ReadFault x (seen p)) h.1.1 (drain_fault s.slot drains.0 m p drains.1),
+    IfSome_then (seen o).files h.1.2 (λ files x. x.2),
+  )
+
+  pub log_rest_drained : {T : Type 0} (r : Result T DrainErr) (p : Outside) (e : Ended) → LeftWith e → DrainsRest s m r p → IfOk (drained_as r) (λ _. Elaborates f name limit (seen o) (Ok e) (seen p))
+  log_rest_drained (Err drained.TooLong) p e h drains = tt
+  log_rest_drained (Err drained.Failed) p e h drains = tt
+  log_rest_drained (Ok v) p e h drains = (
+    h.0,
+    (
+      h.1.0,
+      ap seen drains.2.1 ∙ (seen-taken s.slot drains.2.0 m ∙ h.1.1),
+      if_some_both (seen o).files (is_short slot.Second limit o name ready (λ k. drains.0 (long ∙ k))) h.1.2 (λ files short x. ((λ n q. (short, x.0 n q)), x.1)),
+    ),
+  )

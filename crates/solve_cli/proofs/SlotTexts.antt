@@ -1,5 +1,5 @@
 -- The second text of a command, judged as it is read from its slot.
-use Rattle.std.proofs.Common.{◌≡◌, refl, sym, ap, ◌∙◌, subst, ℕ, ◌+◌, ◌<◌, ◌≤◌, zero-add, Bool, true, false, nat_lt, ltb-true, ltb-false, List, [], length, Option, Some, None, option_map, IfSome, Result, Ok, Err, IfOk, IfErr}
+use Rattle.std.proofs.Common.{◌≡◌, refl, sym, ap, ◌∙◌, subst, ℕ, ◌+◌, ◌<◌, ◌≤◌, zero-add, Bool, true, false, nat_lt, ltb-true, ltb-false, List, length, Option, Some, None, option_map, IfSome, Result, Ok, Err, IfOk, IfErr}
 use Rattle.std.proofs.lemmas.Option.{IfSome_then}
 use Rattle.cx_base.specs.Counts.{Rose}
 use Rattle.cx_base.specs.Problem.{Problem}
@@ -14,7 +14,6 @@ use Rattle.cx_texts.specs.Tokens.{tokens, tokens_from}
 use Rattle.cx_texts.specs.Words.{placed_words}
 use Rattle.cx_texts.specs.Grammar.{Grammar, Reading}
 use Rattle.cx_texts.specs.ProofText.{proof_steps}
-use Rattle.cx_texts.specs.declared.line_state.LineState.TheVariants.{Start}
 use Rattle.step_text.specs.Slots.{SlotState, SlotLeaves, SlotFrame, OnlyReads, DrainsRest, is_too_long}
 use Rattle.step_text.specs.SlotAnswers.{PairLeaves}
 use Rattle.xlrup_check.specs.Verdicts.{IsJudgedBy, HasCause, ReadsStand}
@@ -28,12 +27,8 @@ use Rattle.solve_cli.specs.declared.ending.Ending.TheVariants as ending
 use Rattle.solve_cli.specs.Seen.{Seen, seen, ReadFault, text_named}
 use Rattle.solve_cli.specs.Happens.{Judged}
 use Rattle.solve_cli.specs.Steps.{Ready, ReadFails}
-use Rattle.solve_cli.specs.SlotTexts.{IsLateOf, JudgesProof, checked_as, drained_as}
+use Rattle.solve_cli.specs.SlotTexts.{IsLateOf, JudgesProof, checked_as, drained_as, first_state}
 use Rattle.solve_cli.proofs.Works.{if_some_both}
-
--- a reader of which nothing was asked
-abbrev pub first_state : Slot → ℕ → SlotState
-first_state s limit = record { slot = s; limit = limit; bytes = []; place = 0; line = Start; ended = false; refused = None }
 
 -- ---- the text
 

@@ -28,8 +28,8 @@ use Rattle.solve_cli.specs.Commands.{formula_of, second_of, proof_of, Stage, for
 use Rattle.solve_cli.specs.Happens.{is_early, IfNamed, FormulaRead, IsFormula, FormulaIn, Judged, IsOf, Gains, SoFar, Reaches, Ends, Stops, Works, PutsMessage}
 use Rattle.solve_cli.specs.Proofs.{IsRightSoFar}
 use Rattle.solve_cli.proofs.Logging.{nothing_logged}
-use Rattle.solve_cli.specs.Steps.{FormulaFails, ReadFails, PutsAnswer, Loaded, HasNoProof, LeftBy, Elaborated, refused_as}
-use Rattle.solve_cli.specs.SlotTexts.{IsJudgedWithin, JudgesProof}
+use Rattle.solve_cli.specs.Steps.{FormulaFails, ReadFails, PutsAnswer, Loaded, HasNoProof, LeftBy, refused_as}
+use Rattle.solve_cli.specs.SlotTexts.{IsJudgedWithin, JudgesProof, Elaborates}
 
 pub if_some_both : {X : Type 0} {P Q R : X → Type 0} (w : Option X) → IfSome w P → IfSome w Q → ((x : X) → P x → Q x → R x) → IfSome w R
 if_some_both None p q f = tt
@@ -121,21 +121,22 @@ all_files (Some files) h = h files
 early_gains : (p : Plan) (limit : ℕ) (files : Files) (e : Ending) → is_early e ≡ true → Gains p limit files e []
 early_gains (plan.Elab n l q) limit files (ending.Elaborated k) h = cc
 early_gains (plan.Elab n l q) limit files (ending.NotElaborated k c) h = cc
+early_gains (plan.Elab n l q) limit files (ending.TooLong slot.Second) h = cc
 early_gains (plan.Solve n l c) limit files (ending.Satisfiable v) h = cc
 early_gains (plan.Solve n l c) limit files ending.Unsatisfiable h = cc
 early_gains (plan.Solve n l c) limit files (ending.Unknown k) h = cc
 early_gains (plan.Demo a b c) limit files (ending.Demonstrated i x) h = cc
 early_gains p limit files e h = refl
 
-too_long_gains : (p : Plan) (limit : ℕ) (files : Files) (s : Slot) → Gains p limit files (ending.TooLong s) []
-too_long_gains (plan.Elab n l q) limit files s = refl
-too_long_gains (plan.Solve n l c) limit files s = refl
-too_long_gains (plan.Demo a b c) limit files s = refl
-too_long_gains p limit files s = refl
-
 -- nothing is a front of a proof
 none_so_far : (f : Problem) → IsRightSoFar f []
 none_so_far f = record { steps = []; right = inl (first_tables f, refl); rest = []; front = refl }
+
+too_long_gains : (p : Plan) (limit : ℕ) (files : Files) (f : Problem) → IsFormula p limit files f → Gains p limit files (ending.TooLong slot.Second) []
+too_long_gains (plan.Elab n l q) limit files f r = (f, r, none_so_far f)
+too_long_gains (plan.Solve n l c) limit files f r = refl
+too_long_gains (plan.Demo a b c) limit files f r = refl
+too_long_gains p limit files f r = refl
 
 nothing_yet : (stage : Stage) (p : Plan) (limit : ℕ) (old : Seen) → Reaches stage p limit old → IfSome old.files (λ files. SoFar stage p limit files [])
 nothing_yet proof_created (plan.Elab n l q) limit old h = IfSome_then old.files h (λ files r. (r.0, r.1, none_so_far r.0))
@@ -263,7 +264,7 @@ second_failed p name limit old f mid (outcome.Ended (ending.TooLong slot.Second)
     due = if_some_both old.files read (subst (λ (w : Option Files). IfSome w (λ files. limit < length (text_named name files))) (ap (λ (s : Seen). s.files) is ∙ files_at proof_created p old) h.2)
         (λ files r long. inr (record { formula = f; is_formula = r; due = inl (rw named long, refl) }));
     proof = [];
-    gains = all_files old.files (λ files. too_long_gains p limit files slot.Second);
+    gains = IfSome_then old.files read (λ files r. too_long_gains p limit files f r);
     before_is = bare (asked_to proof_created p old);
   },
   h.1 ∙ (is ∙ sym (says-none port.Answer (answer_text (ending.TooLong slot.Second)) _ (too_long_text slot.Second))),
@@ -322,10 +323,6 @@ left_gains n l q limit files f (ending.Elaborated k) proof read left = (f, read,
 left_gains n l q limit files f (ending.NotElaborated k c) proof read left = (f, read, left)
 left_gains n l q limit files f e proof read left = absurd left
 
-if_some_three : {X : Type 0} {P Q R S : X → Type 0} (w : Option X) → IfSome w P → IfSome w Q → IfSome w R → ((x : X) → P x → Q x → R x → S x) → IfSome w S
-if_some_three None p q r f = tt
-if_some_three (Some x) p q r f = f x p q r
-
 -- a second text that was judged: its ending, and what stands before the answer
 pub judged_ends : (p : Plan) (limit : ℕ) (old : Seen) (f : Problem) (mid : Seen) (e : Ending) (proof : Bytes) → mid ≡ asked_to proof_created p old
     → IfSome old.files (λ files. IsFormula p limit files f) → IsOf p e → is_early e ≡ false
@@ -382,38 +379,60 @@ check_answered n q limit old f mid e at o new is read judged answers =
 
 -- ---- a log
 
-module _ {n l q : Bytes} {limit : ℕ} {old : Seen} {f : Problem} {text : Bytes} {mid : Seen} (h : Loaded (plan.Elab n l q) limit old f text mid) where
+module _ (n l q : Bytes) (limit : ℕ) (old : Seen) (f : Problem) (mid : Seen) (is : mid ≡ asked_to proof_created (plan.Elab n l q) old)
+    (read : IfSome old.files (λ files. IsFormula (plan.Elab n l q) limit files f)) where
   -- nothing stands on a Proof port that was given its file
   pub none_created : HasNoProof mid
-  none_created = subst HasNoProof (sym h.asked) (none_on_created q (asked_to second_started (plan.Elab n l q) old))
+  none_created = subst HasNoProof (sym is) (none_on_created q (asked_to second_started (plan.Elab n l q) old))
+
+  of_old : (P : Files → Type 0) → IfSome mid.files P → IfSome old.files P
+  of_old P h = subst (λ (w : Option Files). IfSome w P) (ap (λ (s : Seen). s.files) is ∙ files_at proof_created (plan.Elab n l q) old) h
 
   -- the log was judged, its proof written, and the answer
-  pub elaborated : (e : Ending) (at : Seen) (o : Outcome) (new : Seen) → Elaborated f text mid (Ok e) at → PutsAnswer e at o new → Works (plan.Elab n l q) limit old o new
-  elaborated e at o new made answers =
-      let left = subst (λ (w : Option Files). IfSome w (λ _. LeftBy e f text made.1.0)) (files_same h) made.1.2 in
-      answered (plan.Elab n l q) limit old e at o new
-      (subst (Ends (plan.Elab n l q) limit old e) (sym made.1.1) (ends h e made.1.0 (made.0 n l q)
-      (if_some_three old.files h.is_formula h.is_second left
-      (λ files read is by. left_gains n l q limit files f e made.1.0 read (subst (λ (x : Bytes). LeftBy e f x made.1.0) is by)))))
+  pub elab_answered : (e : Ending) (at : Seen) (o : Outcome) (new : Seen) → Elaborates f l limit mid (Ok e) at → PutsAnswer e at o new → Works (plan.Elab n l q) limit old o new
+  elab_answered e at o new made answers =
+      let p = plan.Elab n l q in
+      let own = made.0 n q in
+      let proof = made.1.0 in
+      let left = of_old (λ files. ((n q : Bytes) → IsJudgedWithin (plan.Elab n l q) limit f (text_named l files) e) × LeftBy e f (text_named l files) proof) made.1.2 in
+      answered p limit old e at o new
+      (subst (Ends p limit old e) (sym made.1.1)
+      (judged_ends p limit old f mid e proof is read own.0 own.1 (IfSome_then old.files left (λ files x. x.0 n q))
+      (if_some_both old.files read left (λ files r x. left_gains n l q limit files f e proof r x.1))))
       answers
 
-  -- the log was not judged to its end, or its proof not written
-  pub not_elaborated : (o : Outcome) (new : Seen) → Elaborated f text mid (Err o) new → Works (plan.Elab n l q) limit old o new
-  not_elaborated o new made = by o made
-    where
-      stops : (proof : Bytes) → IfSome mid.files (λ _. IsRightSoFar f proof) → Stops (plan.Elab n l q) limit old (says port.Proof proof mid)
-      stops proof right = record {
-        stage = proof_created;
-        reaches = reached h;
-        proof = proof;
-        so_far = if_some_both old.files h.is_formula (subst (λ (w : Option Files). IfSome w (λ _. IsRightSoFar f proof)) (files_same h) right) (λ files read r. (f, read, r));
-        at_is = ap (says port.Proof proof) h.asked;
-      }
+  stops : (proof : Bytes) → IfSome mid.files (λ _. IsRightSoFar f proof) → Stops (plan.Elab n l q) limit old (says port.Proof proof mid)
+  stops proof right = record {
+    stage = proof_created;
+    reaches = formula_in (plan.Elab n l q) limit old f read;
+    proof = proof;
+    so_far = if_some_both old.files read (of_old (λ _. IsRightSoFar f proof) right) (λ files r x. (f, r, x));
+    at_is = ap (says port.Proof proof) is;
+  }
 
-      by : (o : Outcome) → Elaborated f text mid (Err o) new → Works (plan.Elab n l q) limit old o new
-      by outcome.Memory m = subst (Stops (plan.Elab n l q) limit old) (sym m.1) (stops m.0 m.2)
-      by outcome.WriteFault m = inr (inr (record { writes = refl; at = says port.Proof m.0 mid; stops = stops m.0 m.2; created = refl; fault = m.1 }))
-      by o m = absurd m
+  -- the log is too long; what stands on the Proof port are right steps
+  log_too_long : (proof : Bytes) → IfSome mid.files (λ files. (limit < length (text_named l files)) × IsRightSoFar f proof) → Ends (plan.Elab n l q) limit old (ending.TooLong slot.Second) (says port.Proof proof mid)
+  log_too_long proof h = record {
+    own = refl;
+    reaches = formula_in (plan.Elab n l q) limit old f read;
+    due = if_some_both old.files read (of_old (λ files. (limit < length (text_named l files)) × IsRightSoFar f proof) h) (λ files r x. inr (record { formula = f; is_formula = r; due = inl (x.0, refl) }));
+    proof = proof;
+    gains = if_some_both old.files read (of_old (λ files. (limit < length (text_named l files)) × IsRightSoFar f proof) h) (λ files r x. (f, r, x.1));
+    before_is = ap (says port.Proof proof) is;
+  }
+
+  -- the log was not judged to its end, its proof not written, or the rest of the log not read
+  pub elab_failed : (o : Outcome) (new : Seen) → Elaborates f l limit mid (Err o) new → Works (plan.Elab n l q) limit old o new
+  unfolding stops
+  elab_failed outcome.Memory new m = subst (Stops (plan.Elab n l q) limit old) (sym m.1) (stops m.0 m.2)
+  elab_failed outcome.ReadFault new m = (says port.Proof m.0 mid, stops m.0 m.2, m.1)
+  elab_failed outcome.WriteFault new m = inr (inr (record { writes = refl; at = says port.Proof m.0 mid; stops = stops m.0 m.2; created = refl; fault = m.1 }))
+  elab_failed (outcome.Ended (ending.TooLong slot.Second)) new m = (
+    says port.Proof m.0 mid,
+    log_too_long m.0 m.2,
+    m.1 ∙ sym (says-none port.Answer (answer_text (ending.TooLong slot.Second)) _ (too_long_text slot.Second)),
+  )
+  elab_failed o new m = absurd m
 
 -- ---- the message
 

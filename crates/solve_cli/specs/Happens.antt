@@ -111,6 +111,7 @@ abbrev pub Gains : Plan → ℕ → Files → Ending → Bytes → Type 0
 Gains (plan.Elab n l q) limit files (ending.Elaborated k) proof = (f : Problem) × FormulaRead limit (text_named n files) f × IsWholeProof f (text_named l files) k proof
 Gains (plan.Elab n l q) limit files (ending.NotElaborated k c) proof =
     (f : Problem) × FormulaRead limit (text_named n files) f × IsProofBefore f (text_named l files) k proof
+Gains (plan.Elab n l q) limit files (ending.TooLong slot.Second) proof = (f : Problem) × FormulaRead limit (text_named n files) f × IsRightSoFar f proof
 Gains (plan.Solve n l c) limit files (ending.Satisfiable v) log = (f : Problem) × FormulaRead limit (text_named n files) f × IsOpenLog f c log
 Gains (plan.Solve n l c) limit files ending.Unsatisfiable log = (f : Problem) × FormulaRead limit (text_named n files) f × IsClosedLog f c log
 Gains (plan.Solve n l c) limit files (ending.Unknown k) log = (f : Problem) × FormulaRead limit (text_named n files) f × IsSpentLog f c log

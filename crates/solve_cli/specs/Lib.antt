@@ -6,6 +6,7 @@ pub mod Proofs
 pub mod Logs
 pub mod Happens
 pub mod Steps
+pub mod TwoEnds
 pub mod SlotTexts
 pub mod Solving
 pub mod Solved

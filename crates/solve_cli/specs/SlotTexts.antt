@@ -1,9 +1,18 @@
 -- The second text of a command, judged as it is read from its slot.
-use Rattle.std.specs.Prelude.{◌≡◌, ◌≤◌, ℕ, false, length, IfSome, Result, Ok, Err, MatchResult}
+use Rattle.std.specs.Prelude.{◌≡◌, ◌<◌, ◌≤◌, ℕ, false, [], length, None, IfSome, Result, Ok, Err, MatchResult}
+use Rattle.cx_desk.specs.declared.desk.Slot.{Slot}
 use Rattle.cx_desk.specs.declared.desk.Slot.TheVariants as slot
 use Rattle.cx_desk.specs.declared.draining.DrainErr.{DrainErr}
 use Rattle.cx_desk.specs.declared.draining.DrainErr.TheVariants as drained
+use Rattle.cx_desk.specs.declared.desk.Port.TheVariants as port
 use Rattle.cx_desk.specs.Outside.{Bytes, Outside}
+use Rattle.cx_texts.specs.declared.line_state.LineState.TheVariants.{Start}
+use Rattle.cx_judgements.specs.LogTexts.{LogRight, LogRefusedAt}
+use Rattle.step_text.specs.Slots.{SlotState}
+use Rattle.fratx_elab.specs.declared.outcome.Elab.{Elab}
+use Rattle.fratx_elab.specs.declared.outcome.Elab.TheVariants as elab
+use Rattle.fratx_elab.specs.declared.outcome.ElabFault.{ElabFault}
+use Rattle.fratx_elab.specs.declared.outcome.ElabFault.TheVariants as cut
 use Rattle.cx_base.specs.Problem.{Problem}
 use Rattle.cx_words.specs.declared.plans.Plan.{Plan}
 use Rattle.cx_words.specs.declared.plans.Plan.TheVariants as plan
@@ -15,9 +24,14 @@ use Rattle.solve_cli.specs.declared.ending.Ending.{Ending}
 use Rattle.solve_cli.specs.declared.ending.Ending.TheVariants as ending
 use Rattle.solve_cli.specs.declared.ending.Outcome.{Outcome}
 use Rattle.solve_cli.specs.declared.ending.Outcome.TheVariants as outcome
-use Rattle.solve_cli.specs.Seen.{seen, text_named}
+use Rattle.solve_cli.specs.Seen.{Seen, seen, says, ReadFault, WriteFault, text_named}
+use Rattle.solve_cli.specs.Proofs.{IsWholeProof, IsProofBefore, IsRightSoFar}
 use Rattle.solve_cli.specs.Happens.{is_early, IsOf, Judged}
-use Rattle.solve_cli.specs.Steps.{ReadFails}
+use Rattle.solve_cli.specs.Steps.{ReadFails, LeftBy}
+
+-- a reader of which nothing was asked
+abbrev pub first_state : Slot → ℕ → SlotState
+first_state s limit = record { slot = s; limit = limit; bytes = []; place = 0; line = Start; ended = false; refused = None }
 
 -- an ending of the command, and none of its formula's
 abbrev pub IsLateOf : Plan → Ending → Type 0
@@ -47,3 +61,40 @@ abbrev pub drained_as : {T : Type 0} → Result T DrainErr → Result T Outcome
 drained_as (Ok v) = Ok v
 drained_as (Err drained.Failed) = Err outcome.ReadFault
 drained_as (Err drained.TooLong) = Err (outcome.Ended (ending.TooLong slot.Second))
+
+-- ---- a log
+
+-- what the elaborator says of a log, and what it left on the Proof port
+abbrev pub ProvedAs : Problem → Bytes → Elab → Bytes → Type 0
+ProvedAs f log (elab.Done k) proof = LogRight f log k × IsWholeProof f log k proof
+ProvedAs f log (elab.Refused k c) proof = LogRefusedAt f log k c × IsProofBefore f log k proof
+
+-- the log in a slot was judged as it was read, and its proof written on the Proof port, or a front of it; the rest of the slot was not read
+abbrev pub ElaboratedAs : Problem → Bytes → ℕ → Seen → Result Elab ElabFault → Seen → Type 0
+ElaboratedAs f name limit old (Ok e) new = (proof : Bytes) × (new ≡ says port.Proof proof old) × IfSome old.files (λ files. ProvedAs f (text_named name files) e proof × IsRightSoFar f proof)
+ElaboratedAs f name limit old (Err cut.Memory) new = (proof : Bytes) × (new ≡ says port.Proof proof old) × IfSome old.files (λ _. IsRightSoFar f proof)
+ElaboratedAs f name limit old (Err cut.Read) new = (proof : Bytes) × ReadFault (says port.Proof proof old) new × IfSome old.files (λ _. IsRightSoFar f proof)
+ElaboratedAs f name limit old (Err cut.Write) new = (proof : Bytes) × WriteFault (says port.Proof proof old) new × IfSome old.files (λ _. IsRightSoFar f proof)
+ElaboratedAs f name limit old (Err cut.TooLong) new =
+    (proof : Bytes) × (new ≡ says port.Proof proof old) × IfSome old.files (λ files. (limit < length (text_named name files)) × IsRightSoFar f proof)
+
+-- what an elaboration ends in
+abbrev pub elaborated_as : Result Elab ElabFault → Result Ending Outcome
+elaborated_as (Ok (elab.Done k)) = Ok (ending.Elaborated k)
+elaborated_as (Ok (elab.Refused k c)) = Ok (ending.NotElaborated k c)
+elaborated_as (Err cut.Memory) = Err outcome.Memory
+elaborated_as (Err cut.Read) = Err outcome.ReadFault
+elaborated_as (Err cut.Write) = Err outcome.WriteFault
+elaborated_as (Err cut.TooLong) = Err (outcome.Ended (ending.TooLong slot.Second))
+
+-- the same where the slot was read to its end
+abbrev pub Elaborates : Problem → Bytes → ℕ → Seen → Result Ending Outcome → Seen → Type 0
+Elaborates f name limit old (Ok e) new = ((n q : Bytes) → IsLateOf (plan.Elab n name q) e)
+    × ((proof : Bytes) × (new ≡ says port.Proof proof old)
+    × IfSome old.files (λ files. ((n q : Bytes) → IsJudgedWithin (plan.Elab n name q) limit f (text_named name files) e) × LeftBy e f (text_named name files) proof))
+Elaborates f name limit old (Err (outcome.Ended (ending.TooLong slot.Second))) new =
+    (proof : Bytes) × (new ≡ says port.Proof proof old) × IfSome old.files (λ files. (limit < length (text_named name files)) × IsRightSoFar f proof)
+Elaborates f name limit old (Err outcome.Memory) new = (proof : Bytes) × (new ≡ says port.Proof proof old) × IfSome old.files (λ _. IsRightSoFar f proof)
+Elaborates f name limit old (Err outcome.ReadFault) new = (proof : Bytes) × ReadFault (says port.Proof proof old) new × IfSome old.files (λ _. IsRightSoFar f proof)
+Elaborates f name limit old (Err outcome.WriteFault) new = (proof : Bytes) × WriteFault (says port.Proof proof old) new × IfSome old.files (λ _. IsRightSoFar f proof)
+Elaborates f name limit old (Err o) new = ⊥

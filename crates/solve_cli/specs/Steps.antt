@@ -1,5 +1,5 @@
 -- The steps of a command: its texts are read whole, the Proof port is given its file, the answer is written.
-use Rattle.std.specs.Prelude.{true, ◌≡◌, ◌<◌, ◌≤◌, ℕ, [], length, take, Option, IfSome, Result, Ok, Err, MatchResult}
+use Rattle.std.specs.Prelude.{true, ◌≡◌, ◌<◌, ◌≤◌, ℕ, [], length, take, Option, IfSome, Result, MatchResult}
 use Rattle.cx_desk.specs.declared.desk.Slot.{Slot}
 use Rattle.cx_desk.specs.declared.desk.Slot.TheVariants as slot
 use Rattle.cx_desk.specs.declared.desk.Port.TheVariants as port
@@ -9,11 +9,6 @@ use Rattle.cx_texts.specs.declared.offence.Offence.TheVariants as offence
 use Rattle.cnfx_reader.specs.declared.refusal.ReadRefusal.{ReadRefusal}
 use Rattle.cnfx_reader.specs.declared.refusal.ReadRefusal.TheVariants as refusal
 use Rattle.cx_words.specs.declared.plans.Plan.{Plan}
-use Rattle.cx_words.specs.declared.plans.Plan.TheVariants as plan
-use Rattle.fratx_elab.specs.declared.outcome.Elab.{Elab}
-use Rattle.fratx_elab.specs.declared.outcome.Elab.TheVariants as elab
-use Rattle.fratx_elab.specs.declared.outcome.ElabFault.{ElabFault}
-use Rattle.fratx_elab.specs.declared.outcome.ElabFault.TheVariants as fault
 use Rattle.solve_cli.specs.declared.load.Texts.{Texts}
 use Rattle.solve_cli.specs.declared.ending.Ending.{Ending}
 use Rattle.solve_cli.specs.declared.ending.Ending.TheVariants as ending
@@ -22,8 +17,8 @@ use Rattle.solve_cli.specs.declared.ending.Outcome.TheVariants as outcome
 use Rattle.solve_cli.specs.Endings.{answer_text}
 use Rattle.solve_cli.specs.Seen.{Seen, seen, asks, asks_proof, says, ReadFault, WriteFault, text_named}
 use Rattle.solve_cli.specs.Commands.{second_started, proof_created, asked_to, gives_file, second_text}
-use Rattle.solve_cli.specs.Proofs.{IsWholeProof, IsProofBefore, IsRightSoFar}
-use Rattle.solve_cli.specs.Happens.{is_early, IfNamed, FormulaRead, IsFormula, EarlyDue, Judged, Works}
+use Rattle.solve_cli.specs.Proofs.{IsWholeProof, IsProofBefore}
+use Rattle.solve_cli.specs.Happens.{is_early, IfNamed, FormulaRead, IsFormula, EarlyDue, Works}
 
 -- a slot that was started on this file, and of which nothing was read
 pub record Ready (slot : Slot) (name : Bytes) (o : Outside) : Type 0 where
@@ -109,23 +104,6 @@ abbrev pub LeftBy : Ending → Problem → Bytes → Bytes → Type 0
 LeftBy (ending.Elaborated k) f log proof = IsWholeProof f log k proof
 LeftBy (ending.NotElaborated k c) f log proof = IsProofBefore f log k proof
 LeftBy e f log proof = ⊥
-
--- a log was judged, and its proof written on the Proof port, or a front of it
-abbrev pub Elaborated : Problem → Bytes → Seen → Result Ending Outcome → Seen → Type 0
-Elaborated f log old (Ok e) new =
-    ((n l q : Bytes) → Judged e (plan.Elab n l q) f log) × ((proof : Bytes) × (new ≡ says port.Proof proof old) × IfSome old.files (λ _. LeftBy e f log proof))
-Elaborated f log old (Err outcome.Memory) new = (proof : Bytes) × (new ≡ says port.Proof proof old) × IfSome old.files (λ _. IsRightSoFar f proof)
-Elaborated f log old (Err outcome.WriteFault) new = (proof : Bytes) × WriteFault (says port.Proof proof old) new × IfSome old.files (λ _. IsRightSoFar f proof)
-Elaborated f log old (Err o) new = ⊥
-
--- the same in the elaborator's words: its source is a text, which counts no fault and has no limit
-abbrev pub ElaboratedAs : Problem → Bytes → Seen → Result Elab ElabFault → Seen → Type 0
-ElaboratedAs f log old (Ok (elab.Done k)) new = Elaborated f log old (Ok (ending.Elaborated k)) new
-ElaboratedAs f log old (Ok (elab.Refused k c)) new = Elaborated f log old (Ok (ending.NotElaborated k c)) new
-ElaboratedAs f log old (Err fault.Memory) new = Elaborated f log old (Err outcome.Memory) new
-ElaboratedAs f log old (Err fault.Write) new = Elaborated f log old (Err outcome.WriteFault) new
-ElaboratedAs f log old (Err fault.Read) new = ⊥
-ElaboratedAs f log old (Err fault.TooLong) new = ⊥
 
 -- where a formula's text is refused
 abbrev pub refused_as : ReadRefusal → Outcome

@@ -1,54 +1,77 @@
 //! A log, elaborated onto the Proof port.
-ghost use Rattle.std.specs.Prelude.{◌≤◌, length};
+ghost use Rattle.std.specs.Prelude.{◌≡◌, ◌≤◌, List, ℕ, true, false};
+ghost use Rattle.cx_desk.specs.Outside.{started_in};
+ghost use Rattle.cx_desk.specs.declared.desk.Slot.TheVariants.{Second};
+ghost use Rattle.step_text.specs.Slots.{is_too_long};
+ghost use Rattle.step_text.specs.Texts.{is_spent_by};
 ghost use Rattle.solve_cli.specs.Seen.{seen};
-ghost use Rattle.solve_cli.specs.Steps.{HasNoProof, Elaborated, ElaboratedAs};
+ghost use Rattle.solve_cli.specs.Steps.{Ready, HasNoProof};
+ghost use Rattle.solve_cli.specs.SlotTexts.{Elaborates, ElaboratedAs, elaborated_as, first_state};
 
-use crate::log_on_desk::LogOnDesk;
+use crate::elab_desk::ElabDesk;
+use crate::judge::drained;
 use crate::{Ending, Outcome};
 use cx_base::Formula;
-use cx_desk::Desk;
+use cx_desk::{Desk, Slot};
 use fratx_elab::{Elab, ElabFault, elaborate};
-use log_text::LogText;
-use proof_text::DeskProof;
+use log_text::LogGrammar;
 use std::alloc::Global;
+use step_text::SlotReader;
 
-/// Elaborates the text of a log onto the Proof port of a desk.
+/// Elaborates the log that a reader takes from a desk onto the Proof port of that desk.
 fn elaborate_on<D: Desk>(
     alloc: Global,
     desk: &mut D,
     formula: &Formula,
-    text: &[u8],
+    reader: &mut SlotReader<LogGrammar>,
 ) -> Result<Elab, ElabFault>
-    requires text { length text.now ≤ 4294967295 }
+    requires started { started_in reader.old.slot (D.outside desk.old).started ≡ true }
+    requires fresh { is_spent_by reader.old.refused ≡ false }
     requires empty { HasNoProof (seen (D.outside desk.old)) }
-    ensures { ElaboratedAs formula.now text.now (seen (D.outside desk.old)) result (seen (D.outside desk.new)) }
+    ensures elaborated { (name : List ℕ) (limit : ℕ) → reader.old ≡ first_state Second limit → Ready Second name (D.outside desk.old) → ElaboratedAs formula.now name limit (seen (D.outside desk.old)) result (seen (D.outside desk.new)) }
+    ensures slot { reader.new.slot ≡ reader.old.slot }
+    ensures long { is_too_long reader.new (D.outside desk.new) ≡ is_too_long reader.old (D.outside desk.old) }
+    ensures started { started_in reader.new.slot (D.outside desk.new).started ≡ true }
 {
-    let mut source = LogText::new(alloc, text);
-    let mut ends = LogOnDesk {
-        source: &mut source,
-        sink: DeskProof::new(desk),
+    let mut ends = ElabDesk {
+        reader,
+        desk,
+        failed: false,
     };
     elaborate(alloc, formula, &mut ends)
 }
 
-/// `elab`: judges the text of a log, and writes its proof on the Proof port, each step as soon as
-/// it is found.
-pub fn elaborate_text<D: Desk>(
-    alloc: Global,
-    desk: &mut D,
-    formula: &Formula,
-    text: &[u8],
-) -> Result<Ending, Outcome>
-    requires text { length text.now ≤ 4294967295 }
-    requires empty { HasNoProof (seen (D.outside desk.old)) }
-    ensures { Elaborated formula.now text.now (seen (D.outside desk.old)) result (seen (D.outside desk.new)) }
+/// What an elaboration ends in.
+fn elaborated(judged: Result<Elab, ElabFault>) -> Result<Ending, Outcome>
+    ensures { result ≡ elaborated_as judged }
 {
-    match elaborate_on(alloc, desk, formula, text) {
+    match judged {
         Ok(Elab::Done(step)) => Ok(Ending::Elaborated(step)),
         Ok(Elab::Refused(step, cause)) => Ok(Ending::NotElaborated(step, cause)),
         Err(ElabFault::Memory) => Err(Outcome::Memory),
+        Err(ElabFault::Read) => Err(Outcome::ReadFault),
         Err(ElabFault::Write) => Err(Outcome::WriteFault),
-        Err(ElabFault::Read) => unreachable!(),
-        Err(ElabFault::TooLong) => unreachable!(),
+        Err(ElabFault::TooLong) => Err(Outcome::Ended(Ending::TooLong(Slot::Second))),
     }
+}
+
+/// `elab`: judges the log in the second slot as it is read, and writes its proof on the Proof port, each step as soon as it
+/// is found; then reads the slot to its end.
+pub fn elaborate_log<D: Desk>(
+    alloc: Global,
+    desk: &mut D,
+    formula: &Formula,
+    limit: u64,
+) -> Result<Ending, Outcome>
+    requires started { started_in Second (D.outside desk.old).started ≡ true }
+    requires limit { limit ≤ 4294967295 }
+    requires empty { HasNoProof (seen (D.outside desk.old)) }
+    ensures { (name : List ℕ) → Ready Second name (D.outside desk.old) → Elaborates formula.now name limit (seen (D.outside desk.old)) result (seen (D.outside desk.new)) }
+{
+    let mut reader = SlotReader::new(alloc, Slot::Second, limit);
+    let judged = elaborate_on(alloc, desk, formula, &mut reader);
+    let ending = elaborated(judged)?;
+    let rest = reader.drain_from(desk);
+    drained(rest)?;
+    Ok(ending)
 }

@@ -3,11 +3,11 @@
 
 mod demo;
 mod elab;
+mod elab_desk;
 mod ending;
 mod judge;
 mod laws;
 mod load;
-mod log_on_desk;
 mod print;
 mod program;
 mod proof_on_desk;

@@ -140,22 +140,20 @@ pub fn prepare<D: Desk>(
     Ok(formula)
 }
 
-/// Reads the formula and the second text of a command. Between the two the Proof port is given its
-/// file, where the command names one.
+/// Reads the formula and the second text of a command that gives the Proof port no file.
 pub fn load<D: Desk>(
     alloc: Global,
     desk: &mut D,
     formula: Name,
     second: Name,
-    proof: Option<Name>,
     limit: u64,
 ) -> Result<Texts, Outcome>
     requires fresh { Unasked (D.outside desk.old).asked }
     requires limit { limit ≤ 4294967295 }
-    ensures { (p : PlanOf) → formula_of p ≡ Some formula → second_of p ≡ Some second → proof_of p ≡ proof
+    ensures { (p : PlanOf) → formula_of p ≡ Some formula → second_of p ≡ Some second → proof_of p ≡ None
         → Loads p limit (seen (D.outside desk.old)) result (seen (D.outside desk.new)) }
 {
-    let formula = prepare(alloc, desk, formula, second, proof, limit)?;
+    let formula = prepare(alloc, desk, formula, second, None, limit)?;
     let second = read_slot(alloc, desk, Slot::Second, limit)?;
     Ok(Texts { formula, second })
 }

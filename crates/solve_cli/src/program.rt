@@ -9,7 +9,7 @@ ghost use Rattle.solve_cli.specs.Happens.{Works, WorksFor};
 ghost use Rattle.solve_cli.specs.Run.{Run};
 
 use crate::demo::{BUDGET, instance_of, show};
-use crate::elab::elaborate_text;
+use crate::elab::elaborate_log;
 use crate::judge::{judge_answer, judge_proof};
 use crate::load::{load, prepare};
 use crate::print::{put_answer_text, put_message_text};
@@ -53,7 +53,7 @@ fn model<D: Desk>(alloc: Global, desk: &mut D, formula: Name, values: Name, limi
     requires limit { limit ≤ 4294967295 }
     ensures { Works (plan.Model formula values) limit (seen (D.outside desk.old)) result (seen (D.outside desk.new)) }
 {
-    let texts = match load(alloc, desk, formula, values, None, limit) {
+    let texts = match load(alloc, desk, formula, values, limit) {
         Ok(texts) => texts,
         Err(outcome) => return outcome,
     };
@@ -76,11 +76,11 @@ fn elab<D: Desk>(
     requires limit { limit ≤ 4294967295 }
     ensures { Works (plan.Elab formula log proof) limit (seen (D.outside desk.old)) result (seen (D.outside desk.new)) }
 {
-    let texts = match load(alloc, desk, formula, log, Some(proof), limit) {
-        Ok(texts) => texts,
+    let formula = match prepare(alloc, desk, formula, log, Some(proof), limit) {
+        Ok(formula) => formula,
         Err(outcome) => return outcome,
     };
-    match elaborate_text(alloc, desk, &texts.formula, texts.second.as_slice()) {
+    match elaborate_log(alloc, desk, &formula, limit) {
         Ok(ending) => answer(desk, ending),
         Err(outcome) => outcome,
     }

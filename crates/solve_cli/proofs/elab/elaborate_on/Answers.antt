@@ -1,27 +1,33 @@
-use Rattle.std.proofs.Common.{◌≡◌, Bool, true, false, cond, subst, ap, refl, rules}
-use Rattle.cx_texts.specs.LogText.{log_steps}
+use Rattle.std.proofs.Common.{◌≡◌, Bool, true, false, cond, subst, ap, ◌∙◌, refl, rules}
+use Rattle.cx_desk.specs.declared.desk.Slot.{Slot}
+use Rattle.cx_desk.specs.declared.desk.Slot.TheVariants.{Second}
 use Rattle.cx_desk.specs.Outside.{Outside}
-use Rattle.step_text.specs.Texts.{TextState, Leaves}
+use Rattle.cx_texts.specs.LogText.{log_steps}
+use Rattle.step_text.specs.Slots.{SlotState, SlotLeaves, is_too_long}
 use Rattle.proof_text.specs.Told.{steps_told, TornOn, Goes}
 use Rattle.solve_cli.specs.Seen.{seen}
-use Rattle.solve_cli.specs.Steps.{ElaboratedAs}
-use Rattle.solve_cli.proofs.Gaining.{settled}
+use Rattle.solve_cli.specs.TwoEnds.{read_by}
+use Rattle.solve_cli.specs.SlotTexts.{ElaboratedAs}
+use Rattle.solve_cli.proofs.Gaining.{settled, whole_port}
+use Rattle.solve_cli.proofs.SlotTexts.{whole_text, is_long}
 use Rattle.solve_cli.proofs.elab.elaborate_on.Goals as goal
 
-pub returns : goal.returns
-returns g c =
+pub invariant_of-ends : goal.invariant_of-ends
+invariant_of-ends g c = record { started = c.requires.started; whole = λ _. whole_port (g.D.Desk.outside c.args.desk.now) c.requires.empty }
+
+pub returns-clause-elaborated : goal.returns-clause-elaborated
+returns-clause-elaborated g c = λ name limit first ready.
+    let s = c.args.reader.now in
     let o = g.D.Desk.outside c.args.desk.now in
-    let m = g.D.Desk.outside c.new.result.desk.now in
-    let n = g.D.Desk.outside c.elaborate.new.ends.sink.desk.now in
-    let first = c.new.result.failed in
-    let last = c.elaborate.new.ends.sink.failed in
-    let begun = c.new.ensures.outside in
+    let n = g.D.Desk.outside c.elaborate.new.ends.desk.now in
     let e = c.elaborate.ensures in
-    let done : ElaboratedAs c.args.formula.now c.args.text.now (seen o) c.elaborate.result (seen n) =
-    settled {X = Bool} (λ _. Leaves log_steps c.new-source.result) (λ x. cond x (steps_told n) (steps_told m)) (λ _ step. TornOn step n)
-    c.args.formula.now c.args.text.now false true first last o n c.elaborate.result
-    (λ steps ending h. subst (λ (t : TextState). Leaves log_steps t steps ending) c.new-source.ensures h)
-    (ap steps_told begun) refl (λ step h. h) c.requires.empty c.new.ensures.whole (subst (λ (x : Outside). Goes first x last n) begun e.frame.1)
-    e.judged e.cut_off e.cause e.writes in
+    let between = e.frame.2 in
+    let goes = subst (λ (x : Slot). Goes false (read_by x between.goes.0 n.faults.reads o) c.elaborate.new.ends.failed n) (ap (λ (x : SlotState). x.slot) first) between.goes.1 in
+    let done : ElaboratedAs c.args.formula.now name limit (seen o) c.elaborate.result (seen n) =
+    settled Second between.goes.0 o n c.args.formula.now name limit c.requires.empty {X = Bool} (λ _. SlotLeaves log_steps s o) (λ x. cond x (steps_told n) (steps_told o)) (λ _ step. TornOn step n)
+    false true c.elaborate.new.ends.failed (is_too_long s o) c.elaborate.result
+    (λ steps ending h. whole_text log_steps Second limit o name ready steps ending (subst (λ (x : SlotState). SlotLeaves log_steps x o steps ending) first h))
+    (λ h. is_long Second limit o name ready (λ k. h (ap (λ (x : SlotState). is_too_long x o) first ∙ k)))
+    refl refl (λ step h. h) goes e.judged e.cut_off e.cause e.reads e.writes in
     let same : ◌≡◌ {A = Outside} n (g.D.Desk.outside c.desk-1.given.0) = search rules in
-    subst (λ (x : Outside). ElaboratedAs c.args.formula.now c.args.text.now (seen o) c.elaborate.result (seen x)) same done
+    subst (λ (x : Outside). ElaboratedAs c.args.formula.now name limit (seen o) c.elaborate.result (seen x)) same done

@@ -8,8 +8,8 @@ use Rattle.xlrup_check.specs.Verdicts.{IsJudgedBy, HasCause}
 use Rattle.solve_cli.specs.declared.ending.Ending.{Ending}
 use Rattle.solve_cli.specs.declared.ending.Outcome.{Outcome}
 use Rattle.solve_cli.specs.Steps.{ReadFails}
-use Rattle.solve_cli.specs.SlotTexts.{JudgesProof}
-use Rattle.solve_cli.proofs.SlotTexts.{CheckedTo, check_failed, check_judged, rest_failed, rest_drained, first_state, still_started}
+use Rattle.solve_cli.specs.SlotTexts.{JudgesProof, first_state}
+use Rattle.solve_cli.proofs.SlotTexts.{CheckedTo, check_failed, check_judged, rest_failed, rest_drained, still_started}
 use Rattle.solve_cli.proofs.judge.judge_proof.Goals as goal
 
 pub drain_from-rest-requires : goal.drain_from-rest-requires

@@ -1,22 +1,14 @@
-use Rattle.std.proofs.Common.{◌≡◌, refl, sym, ap, ◌∙◌, subst, Option, Some, None, Err}
+use Rattle.std.proofs.Common.{refl, sym, ap, ◌∙◌, subst, Err}
 use Rattle.std.proofs.lemmas.Result.{err_from_is_err_and}
 use Rattle.solve_cli.proofs.Works.{second_failed}
 use Rattle.solve_cli.specs.Seen.{seen}
 use Rattle.solve_cli.specs.Steps.{Loads}
-use Rattle.cx_desk.specs.Outside.{Bytes}
-use Rattle.cx_words.specs.declared.plans.Plan.{Plan}
 use Rattle.cx_words.specs.declared.plans.Plan.TheVariants as plan
-use Rattle.solve_cli.specs.Commands.{formula_of, second_of, proof_of}
 use Rattle.solve_cli.proofs.load.load.Goals as goal
-
--- some command has these names
-a_plan : (formula second : Bytes) (proof : Option Bytes) → (p : Plan) × (formula_of p ≡ Some formula) × (second_of p ≡ Some second) × (proof_of p ≡ proof)
-a_plan formula second None = (plan.Check formula second, refl, refl, refl)
-a_plan formula second (Some proof) = (plan.Elab formula second proof, refl, refl, refl)
 
 pub read_slot-requires : goal.read_slot-requires
 read_slot-requires g c = record {
-  started = let p = a_plan c.args.formula c.args.second c.args.proof in (c.in_ok-formula.ensures p.0 p.1 p.2 p.3).1.started;
+  started = (c.in_ok-formula.ensures (plan.Model c.args.formula c.args.second) refl refl refl).1.started;
 }
 
 pub returns-in_err-second : goal.returns-in_err-second

@@ -1,0 +1,93 @@
+//! A log that is read from a slot of a desk, and its proof that is printed on the desk's Proof port.
+ghost use Rattle.std.specs.Prelude.{◌≡◌, true, false};
+ghost use Rattle.cx_desk.specs.Outside.{started_in};
+ghost use Rattle.proof_text.specs.Told.{is_whole};
+
+use cx_base::{LogStep, ProofStep};
+use cx_desk::{Desk, Failed, Port};
+use fratx_elab::ElabEnds;
+use log_text::LogGrammar;
+use proof_text::put_proof_step;
+use step_text::{SinkFault, SlotReader, TextRefusal};
+
+/// The elaborator's two ends on one lent desk: the steps that a lent reader takes from it, and the Proof port.
+///
+/// It is made of references alone, so that the owner of both knows what was done to them. It counts one fault of
+/// writing at most: after that it takes nothing more, and answers `Memory`.
+#[derive(Drop)]
+pub struct ElabDesk<'r, 'd, D: Desk> {
+    /// The reader of the log's slot.
+    pub reader: &'r mut SlotReader<LogGrammar>,
+    /// The desk that has the slot and the port.
+    pub desk: &'d mut D,
+    /// Whether a write failed.
+    pub failed: bool,
+    // the slot was started
+    ghost started: { started_in reader.now.slot (D.outside desk.now).started ≡ true },
+    // between two steps no line is begun
+    ghost whole: { failed ≡ false → is_whole (D.outside desk.now).told ≡ true },
+}
+
+impl<D: Desk> ElabEnds for ElabDesk<'_, '_, D> {
+    ghost use Rattle.std.specs.Prelude.{◌≡◌, refl};
+    ghost use Rattle.std.proofs.Common.{◌∙◌};
+    ghost use Rattle.cx_texts.specs.LogText.{log_steps};
+    ghost use Rattle.cx_texts.proofs.Grammars.{log_forms};
+    ghost use Rattle.step_text.specs.Texts.{is_spent_by, stuck_by};
+    ghost use Rattle.step_text.specs.Slots.{SlotLeaves, is_too_long};
+    ghost use Rattle.step_text.specs.SlotLeft.{slot_is_left};
+    ghost use Rattle.proof_text.specs.Told.{steps_told, fault_of, TornOn};
+    ghost use Rattle.solve_cli.specs.TwoEnds.{ReadsAndPrints, between_itself, between_on};
+
+    ghost leaves = { λ e. SlotLeaves log_steps e.reader.now (D.outside e.desk.now) };
+
+    ghost passes_limit = { λ e. is_too_long e.reader.now (D.outside e.desk.now) };
+
+    ghost is_spent = { λ e. is_spent_by e.reader.now.refused };
+
+    ghost stuck = { λ e. stuck_by e.reader.now.refused };
+
+    ghost read_faults = { λ e. (D.outside e.desk.now).faults.reads };
+
+    ghost place_of = { λ e. e.reader.now.place };
+
+    ghost farthest = { λ e. e.reader.now.limit };
+
+    ghost steps = { λ e. steps_told (D.outside e.desk.now) };
+
+    ghost write_faults = { λ e. fault_of e.failed };
+
+    ghost has_failed = { λ e. e.failed };
+
+    ghost torn = { λ e step. TornOn step (D.outside e.desk.now) };
+
+    ghost keeps = { λ a b. (b.reader.ghost_name ≡ a.reader.ghost_name) × (b.desk.ghost_name ≡ a.desk.ghost_name) × ReadsAndPrints a.reader.now a.failed (D.outside a.desk.now) b.reader.now b.failed (D.outside b.desk.now) };
+
+    fn next_step(&mut self) -> Result<Option<LogStep>, TextRefusal> {
+        self.reader.next_from(self.desk)
+    }
+
+    fn place(&self) -> u64 {
+        self.reader.place()
+    }
+
+    fn step(&mut self, step: &ProofStep) -> Result<(), SinkFault> {
+        if self.failed {
+            return Err(SinkFault::Memory);
+        }
+        self.failed = true;
+        match put_proof_step(self.desk, Port::Proof, step) {
+            Ok(()) => {
+                self.failed = false;
+                Ok(())
+            }
+            Err(Failed) => Err(SinkFault::Failed),
+        }
+    }
+
+    ghost leaves_some = { λ e. slot_is_left log_steps log_forms e.reader.now (D.outside e.desk.now) };
+
+    ghost keeps_itself = { λ a. (refl, refl, between_itself a.reader.now a.failed (D.outside a.desk.now)) };
+
+    ghost keeps_on = { λ a b c h k. (k.0 ∙ h.0, k.1 ∙ h.1, between_on a.reader.now a.failed (D.outside a.desk.now) b.reader.now b.failed (D.outside b.desk.now) c.reader.now c.failed (D.outside c.desk.now) h.2 k.2) };
+}
