@@ -1,8 +1,8 @@
 -- Each step keeps the ranges of ids.
-use Rattle.std.proofs.Common.{◌≡◌, refl, sym, ap, ◌∙◌, subst, ℕ, ◌+◌, ◌≤◌, ◌<◌, ℤ, Bool, true, false, cond, not, ◌||◌, nat_eq, nat_le, eqb-true, List, [], ◌∷◌, ◌++◌, length, Some, None, arith}
+use Rattle.std.proofs.Common.{◌≡◌, refl, sym, ap, ◌∙◌, subst, ℕ, ◌+◌, ◌≤◌, ◌<◌, ℤ, Bool, true, false, cond, not, ◌||◌, nat_eq, nat_le, nat_lt, eqb-true, List, [], ◌∷◌, ◌++◌, length, Some, None, arith}
 use Rattle.std.specs.List.{AllByRecursion}
 use Rattle.std.specs.FinMap as map_
-use Rattle.std.proofs.lemmas.Bool.{or_parts}
+use Rattle.std.proofs.lemmas.Bool.{or_parts, ltb-true, ltb-false}
 use Rattle.cx_base.specs.Literals.{Literal}
 use Rattle.cx_base.specs.Problem.{Problem, clauses_of, parities_of}
 use Rattle.cx_base.proofs.Elements.{all_append}
@@ -69,6 +69,10 @@ not_before (x ∷ xs) n m d h = go (nat_eq n x) refl h (not_before xs n m d)
     go true e g rec = ap (λ b. b || is_among xs m) (ap (nat_eq m) (sym (eqb-true n x e)) ∙ d) ∙ rec g
     go false e g rec = let p = or_parts (nat_eq m x) (is_among (without xs n) m) g in ap (λ b. b || is_among xs m) p.0 ∙ rec p.1
 
+lower_all : (low high : ℕ) (ids : List ℕ) → low ≤ high → AllByRecursion (λ n. n < low) ids → AllByRecursion (λ n. n < high) ids
+lower_all low high [] h a = tt
+lower_all low high (i ∷ ids) h a = (let less = a.0 in omega (arith, less, h), lower_all low high ids h a.1)
+
 -- ---- tables
 get_other : (table : Table) (n m : ℕ) (lits : List Literal) → nat_eq m n ≡ false → get table m ≡ None → get (map_.insert table n lits) m ≡ None
 get_other table n m lits apart free = Looks-insert table (get table) n lits (λ _. refl) m ∙ ap (λ b. cond b (Some lits) (get table m)) apart ∙ free
@@ -90,6 +94,10 @@ low_reason bound n h k e = let same : n ≡ k = same_number n k e in omega (arit
 reasons_rest : (bound n : ℕ) (newer older : List Entry) (e : Entry) → n < bound → ReasonsBelow bound (newer ++ e ∷ older) → ReasonsBelow bound (newer ++ rests_on e n ∷ older)
 reasons_rest bound n [] older e h r = (low_reason bound n h, r.1)
 reasons_rest bound n (x ∷ newer) older e h r = (r.0, reasons_rest bound n newer older e h r.1)
+
+reasons_up : (low high : ℕ) (es : List Entry) → low ≤ high → ReasonsBelow low es → ReasonsBelow high es
+reasons_up low high [] h r = tt
+reasons_up low high (e ∷ es) h r = (λ n is. let less = r.0 n is in omega (arith, less, h), reasons_up low high es h r.1)
 
 module _ (formula : Problem) (bound next row_next : ℕ) where
   pub with_trail : (old new : List Entry) (m : Moment) → ReasonsBelow bound new → IsRanged formula bound next row_next old m → IsRanged formula bound next row_next new m
@@ -193,6 +201,21 @@ module _ (formula : Problem) (bound next row_next : ℕ) where
       old_rows = subst (AreRowIds bound bound) (sym no_old) tt;
       free = i.free;
       rows_free = i.rows_free;
+    }
+
+    -- and the bound may rise
+    pub risen_ranged : (high : ℕ) → bound ≤ high → s.moment.new_clauses ≡ [] → s.moment.old_clauses ≡ [] → IsRanged formula high next high s.trail s.moment
+    risen_ranged high up no_new no_old = record {
+      originals = i.originals;
+      room = let room = i.room in omega (arith, room, up);
+      reasons = reasons_up bound high s.trail up i.reasons;
+      learned = lower_all bound high s.moment.learned up i.learned;
+      new_rows = subst (AreRowIds high high) (sym no_new) tt;
+      old_rows = subst (AreRowIds high high) (sym no_old) tt;
+      free = λ n h _. by_cases (nat_lt n bound)
+          (λ q. i.free n h (ltb-true n bound q))
+          (λ q. i.rows_free n (ltb-false n bound q) (ap (λ ids. is_among ids n) no_new) (ap (λ ids. is_among ids n) no_old));
+      rows_free = λ n h k l. i.rows_free n (omega (arith, h, up)) k l;
     }
 
     -- ---- what the ranges give

@@ -387,6 +387,10 @@ abbrev pub RoundsKeepRanges : Type 0
 RoundsKeepRanges = OfRanges (λ formula bound next row_next s.
     (n : ℕ) (zs hints : List ℤ) (back : ℕ) → next ≤ n → n < bound → (l : Literal) → s.moment.old_clauses ≡ [] → IsRanged formula bound (n + 1) bound (after_round s n zs hints back l).trail (after_round s n zs hints back l).moment)
 
+-- once no clause of a row is left, the bound may rise, and their ids begin there
+abbrev pub BoundsRise : Type 0
+BoundsRise = OfRanges (λ formula bound next row_next s. (high : ℕ) → bound ≤ high → s.moment.new_clauses ≡ [] → s.moment.old_clauses ≡ [] → IsRanged formula high next high s.trail s.moment)
+
 -- the next ids are free
 abbrev pub NextIdsAreFree : Type 0
 NextIdsAreFree = OfRanges (λ formula bound next row_next s.

@@ -1,5 +1,5 @@
 //! The laws of the search's steps. Each function's contract is the law, and its body is empty.
-ghost use Rattle.search_steps.specs.Laws.{AnswersHold, AssignedValuesHold, BegunIsRanged, BegunIsSearch, ChainedClausesEnd, ClauseConflictsAreNow, ClauseStepsKeep, DecisionsKeep, DeletionsKeep, EndedIsUnmet, FalsifiedHasChain, ForcedIsImplied, FreshEnginesHold, FullIsMet, HighIsNoReason, HighIsNotAmong, ImpliedClausesRest, JumpsKeep, JumpsStayTied, KnownIsTrue, LargerClausesRest, LastStepsEnd, LaterEntriesGo, LearnedClausesKeep, LearnedDeletionsKeep, LearnedHasChain, MarksKeep, NewLevelsHold, NextIdsAreFree, NoValueIsOpen, NothingIsBegun, OpenHasNoValue, OriginalClausesAreTold, OriginalParitiesAreTold, OtherTrailsKeepRanges, PropagationsKeep, RecoveredParitiesJoin, RecoveredTakesOne, RoundsAreTidy, RoundsKeep, RoundsKeepRanges, RoundsStayTied, RowClausesEnd, RowClausesKeep, RowConflictsAreNow, RowIdsAreTemporary, RowReasonsKeep, RowReasonsServe, RowStepsKeep, RowsAreOfParities, SearchesAreOpen, SettledWantsNoDecision, SilentIsQuiet, StoredForces, StoredIsFalse, StoredRests, SumDeletionsKeep, SumsAreFreeAgain, SumsAreFreeAtFirst, SumsKeep, TaughtIsLearned, TheirsAreHad, ToldStepsKeepRanges, TrailStepsKeepRanges, TrailsHaveNoClash, UnitsKeep, ValuesTakenBackHold, WatchedIsQuiet};
+ghost use Rattle.search_steps.specs.Laws.{AnswersHold, AssignedValuesHold, BegunIsRanged, BegunIsSearch, BoundsRise, ChainedClausesEnd, ClauseConflictsAreNow, ClauseStepsKeep, DecisionsKeep, DeletionsKeep, EndedIsUnmet, FalsifiedHasChain, ForcedIsImplied, FreshEnginesHold, FullIsMet, HighIsNoReason, HighIsNotAmong, ImpliedClausesRest, JumpsKeep, JumpsStayTied, KnownIsTrue, LargerClausesRest, LastStepsEnd, LaterEntriesGo, LearnedClausesKeep, LearnedDeletionsKeep, LearnedHasChain, MarksKeep, NewLevelsHold, NextIdsAreFree, NoValueIsOpen, NothingIsBegun, OpenHasNoValue, OriginalClausesAreTold, OriginalParitiesAreTold, OtherTrailsKeepRanges, PropagationsKeep, RecoveredParitiesJoin, RecoveredTakesOne, RoundsAreTidy, RoundsKeep, RoundsKeepRanges, RoundsStayTied, RowClausesEnd, RowClausesKeep, RowConflictsAreNow, RowIdsAreTemporary, RowReasonsKeep, RowReasonsServe, RowStepsKeep, RowsAreOfParities, SearchesAreOpen, SettledWantsNoDecision, SilentIsQuiet, StoredForces, StoredIsFalse, StoredRests, SumDeletionsKeep, SumsAreFreeAgain, SumsAreFreeAtFirst, SumsKeep, TaughtIsLearned, TheirsAreHad, ToldStepsKeepRanges, TrailStepsKeepRanges, TrailsHaveNoClash, UnitsKeep, ValuesTakenBackHold, WatchedIsQuiet};
 
 /// At the start nothing is told.
 pub fn nothing_is_begun()
@@ -304,6 +304,11 @@ pub fn other_trails_keep_ranges()
 /// A whole conflict keeps the ranges, and the ids of rows begin anew.
 pub fn rounds_keep_ranges()
     ensures { RoundsKeepRanges }
+{}
+
+/// Once no clause of a row is left, the bound may rise, and their ids begin there.
+pub fn bounds_rise()
+    ensures { BoundsRise }
 {}
 
 /// The next ids are free.
