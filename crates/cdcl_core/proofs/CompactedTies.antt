@@ -28,7 +28,7 @@ use Rattle.search_steps.specs.Search.{Search}
 use Rattle.search_steps.specs.Tied.{IsTied}
 use Rattle.cx_semantics.specs.Tables.{Table, get}
 use Rattle.cdcl_search.specs.declared.state.SearchState.{SearchState}
-use Rattle.cdcl_search.specs.Ties.{Ties, SearchStands, IsClauseReasonOf, IsWatched, ClauseTies, IsKept, IsNamedBy, IsHeld, HasTwo, AreUnits, HasReasonOf, ReasonTies, AgreesUpTo, first_row_id}
+use Rattle.cdcl_search.specs.Ties.{Ties, SearchStands, IsClauseReasonOf, IsWatched, ClauseTies, IsKept, IsNamedBy, IsHeld, HasTwo, AreUnits, HasReasonOf, ReasonTies, AgreesUpTo}
 use Rattle.cdcl_core.specs.Compacting.{IsCompacted, StandsStill, LeavesNoOldName}
 
 -- ---- the trail
@@ -63,8 +63,8 @@ module _ (moves : List Move) where
   agree_before : (n : ℕ) (entries : List TrailEntry) (values : List Bool) → AgreesUpTo n (moved_entries entries) values → AgreesUpTo n entries values
   agree_before n entries values agrees l is = agrees l (subst (λ xs. IsTrueIn xs l) (sym (front n entries)) (true_moved (take n entries) l is))
 
-  units_moved : (table : Table) (t : TrailState) (es : List Entry) (ids : List ℕ) → AreUnits table t es ids → AreUnits table (record t { entries = moved_entries t.entries }) es ids
-  units_moved table t es ids u =
+  units_moved : (table : Table) (next : ℕ) (t : TrailState) (es : List Entry) (ids : List ℕ) → AreUnits table next t es ids → AreUnits table next (record t { entries = moved_entries t.entries }) es ids
+  units_moved table next t es ids u =
       let long = size t.entries in
       record {
         few = let h = u.few in omega (arith, h, long);
@@ -178,7 +178,7 @@ module _ (formula : Problem) (c : SearchState) (e : State) (rows : List (List Li
       stand = record { variables = t.trail.stand.variables; stand = λ v low high free. t.trail.stand.stand v low high (open_before moves c.trail.entries v free) };
       phased = t.trail.phased;
     };
-    units = units_moved moves s.moment.tables.clauses c.trail s.trail c.units.items t.units;
+    units = units_moved moves s.moment.tables.clauses c.next c.trail s.trail c.units.items t.units;
     engine = t.engine;
     reasons = reasons_moved c.arena b moves f c.trail.entries (length c.units.items) e t.reasons;
     counts = t.counts;

@@ -53,7 +53,7 @@ module _ (formula : Problem) (c : SearchState) (e : State) (rows : List (List Li
   k = length formula.constraints + 1
 
   abbrev n : ℕ
-  n = first_row_id + length rows
+  n = first_row_id c.next + length rows
 
   abbrev rs : List ℤ
   rs = integers_of r.parity
@@ -144,7 +144,7 @@ module _ (formula : Problem) (c : SearchState) (e : State) (told : Option (List 
 
       -- the steps of a row without variables
       pub ends_log : literals (integers_of reason.parity) ≡ reason.parity → literals (integers_of reason.clause) ≡ reason.clause → reason.clause ≡ [] → (steps : List LogStep)
-          → as_events steps ≡ sum_and_clause_events (length formula.constraints + 1) (integers_of reason.parity) reason.sources first_row_id (integers_of reason.clause)
+          → as_events steps ≡ sum_and_clause_events (length formula.constraints + 1) (integers_of reason.parity) reason.sources (first_row_id c.next) (integers_of reason.clause)
           → AllByRecursion IsTellable steps → EndsLog formula c.conflicts told steps
       ends_log back_parity back_clause none steps are texts =
           let empty : is_empty (integers_of reason.clause) ≡ true = ap (λ ls. is_empty (integers_of ls)) none in
@@ -152,7 +152,9 @@ module _ (formula : Problem) (c : SearchState) (e : State) (told : Option (List 
             texts = texts;
             unmet = two_are_unmet formula c e [] st.0 st.1 st.3 reason clash_explains back_parity back_clause empty;
             log = subst (λ xs. IsEndedWith formula c.conflicts (with_events xs told)) (sym are)
-                (two_end formula c e [] st.0 st.1 st.3 reason clash_explains back_parity back_clause empty told st.2);
+                (subst (λ n. IsEndedWith formula c.conflicts (with_events (sum_and_clause_events (length formula.constraints + 1) (integers_of reason.parity) reason.sources n (integers_of reason.clause)) told))
+                (let z : first_row_id c.next + 0 ≡ first_row_id c.next = omega arith in z)
+                (two_end formula c e [] st.0 st.1 st.3 reason clash_explains back_parity back_clause empty told st.2));
           }
 
 pub found_concludes : (formula : Problem) (c : SearchState) (e : State) (told : Option (List LogEvent)) → SearchStands formula c e [] told → (what : Found) (r : ℕ) → what ≡ found.Clause r → PropagationFinds c e what

@@ -1,9 +1,10 @@
 -- What is told last: the empty clause.
-use Rattle.std.proofs.Common.{◌≡◌, refl, sym, ap, subst, ℕ, ◌+◌, ◌<◌, ◌≤◌, ℤ, true, List, [], ◌∷◌, ◌++◌, length, Option, Some, None, inr, arith, length-append}
+use Rattle.std.proofs.Common.{◌≡◌, refl, sym, ap, subst, ℕ, ◌+◌, ◌≤◌, ℤ, true, List, [], ◌∷◌, ◌++◌, length, Option, Some, None, inr, arith, length-append}
 use Rattle.std.specs.List.{All}
 use Rattle.cx_base.specs.Literals.{Literal}
 use Rattle.cx_base.specs.Problem.{Problem, Unmet}
 use Rattle.cx_base.specs.declared.steps.LogStep.{LogStep}
+use Rattle.cx_semantics.specs.Ids.{highest_id}
 use Rattle.cx_base.specs.declared.steps.LogStep.TheVariants.{ClauseWithHints}
 use Rattle.cx_base.specs.declared.steps.LogEvent.{LogEvent}
 use Rattle.cx_base.specs.declared.steps.LogEvent.TheVariants.{Step}
@@ -80,7 +81,7 @@ module _ (formula : Problem) (c : SearchState) (e : State) (rows : List (List Li
   pub conflict_is_low : All (λ m. m.variable ≤ c.trail.variables) lits
   conflict_is_low = false_are_low c.trail st.3.trail.follows.sound lits conflict.all_false
 
-  module _ (every : length c.units.items ≡ length c.trail.entries) (room : c.next < first_row_id) where
+  module _ (every : length c.units.items ≡ length c.trail.entries) (room : c.next ≤ highest_id) where
     rest : RestOnClauses st.0.trail
     rest = subst RestOnClauses (no_newer st.3.units.newer st.3.units.older st.0.trail st.3.units.parts
         (let long = tied_length st.0.trail c.trail.entries st.3.trail.follows.tied in let count = st.3.units.count in omega (arith, long, count, every))) (on_clauses c.units.items st.3.units.older st.3.units.rest)
@@ -105,7 +106,7 @@ module _ (formula : Problem) (c : SearchState) (e : State) (rows : List (List Li
           parities = e.parities;
           search = st.1;
           chain = chain;
-          free = next_is_free formula first_row_id c.next (first_row_id + length rows) st.0 st.3.log.ranged room;
+          free = next_is_free formula (first_row_id c.next) c.next (first_row_id c.next + length rows) st.0 st.3.log.ranged (omega arith);
           served = st.3.log.served.served;
           conflicts = st.3.counts.marked;
         },

@@ -150,12 +150,12 @@ module _ (formula : Problem) (c : SearchState) (e : State) (lits : List Literal)
         }
 
   -- the ties, but for what differs where the clause has one literal
-  pub ties_entered : ClauseTies formula after.moment.tables.clauses (c.next + 1) D.arena (held 0 after.trail) → AreUnits after.moment.tables.clauses D.trail after.trail D.units.items → HaveReasons D e1
+  pub ties_entered : ClauseTies formula after.moment.tables.clauses (c.next + 1) D.arena (held 0 after.trail) → AreUnits after.moment.tables.clauses (c.next + 1) D.trail after.trail D.units.items → HaveReasons D e1
       → length c1.units.items ≤ length D.units.items → Ties formula D e1 [] after
   ties_entered clauses units reasons more = record {
     log = record {
-      ranged = subst (λ n. IsRanged formula first_row_id n (first_row_id + 0) after.trail after.moment) (sym put.next)
-          (subst (λ r. IsRanged formula first_row_id (c.next + 1) r after.trail after.moment) (let z : first_row_id ≡ first_row_id + 0 = omega arith in z) (ranged_then formula c e lits back s taught hints));
+      ranged = subst (λ n. IsRanged formula (first_row_id n) n (first_row_id n + 0) after.trail after.moment) (sym put.next)
+          (subst (λ r. IsRanged formula (first_row_id (c.next + 1)) (c.next + 1) r after.trail after.moment) (let z : first_row_id (c.next + 1) ≡ first_row_id (c.next + 1) + 0 = omega arith in z) (ranged_then formula c e lits back s taught hints));
       sums = λ n high. ap (λ table. get table n) (parities_then formula c e lits back s taught hints) ∙ t1.log.sums n high;
       numbered = subst (λ table. AreNumbered table e1.parities) (sym (parities_then formula c e lits back s taught hints)) t1.log.numbered;
       rows_told = λ i h. absurd (omega (arith, h));
@@ -176,7 +176,7 @@ module _ (formula : Problem) (c : SearchState) (e : State) (lits : List Literal)
       stand = subst (λ q. AllStand q D.trail) (sym put.order) (subst (AllStand o) (sym trail_D) (stand_longer o c1.trail back l reason stands));
       phased = ap length put.phases ∙ t1.trail.phased;
     };
-    units = units;
+    units = subst (λ n. AreUnits after.moment.tables.clauses n D.trail after.trail D.units.items) (sym put.next) units;
     engine = record { vars = t1.engine.vars; wide = t1.engine.wide; theirs = t1.engine.theirs; few = t1.engine.few; fed = fed_then };
     reasons = reasons;
     counts = record {
@@ -205,5 +205,5 @@ module _ (formula : Problem) (c : SearchState) (e : State) (lits : List Literal)
         ap (λ x. x.level) (sym (same_entry i within)) ∙ t1.units.level_0 i less,
         subst (λ x. IsNamedBy after.moment.tables.clauses (x.literal ∷ []) (get_or us i 0)) (same_entry i within)
             (subst (λ m. IsNamedBy after.moment.tables.clauses ((entry_at c1.trail.entries i).literal ∷ []) (get_or m i 0)) (sym same)
-            (named_then formula c e lits back s taught hints _ (get_or c1.units.items i 0) (t1.units.low i less) (t1.units.named i less))),
+            (named_then formula c e lits back s taught hints _ (get_or c1.units.items i 0) (let low = t1.units.low i less in let next = counts.next in omega (arith, low, next)) (t1.units.named i less))),
       )

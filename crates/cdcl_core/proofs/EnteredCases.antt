@@ -25,7 +25,7 @@ use Rattle.cx_semantics.proofs.Closure.{inside_itself}
 use Rattle.cx_semantics.proofs.Members.{has_at_head}
 use Rattle.std.specs.Prelude.{IsTrue}
 use Rattle.cdcl_search.specs.declared.state.SearchState.{SearchState}
-use Rattle.cdcl_search.specs.Ties.{first_row_id, IsNamedBy, AreUnits, RestOnUnits, HasReasonOf, HaveReasons, Ties}
+use Rattle.cdcl_search.specs.Ties.{IsNamedBy, AreUnits, RestOnUnits, HasReasonOf, HaveReasons, Ties}
 use Rattle.cdcl_search.proofs.Places.{tied_length}
 use Rattle.cdcl_search.specs.Ties.{IsKept, IsClauseReasonOf, IsHeld, IsWatched, HasTwo}
 use Rattle.cdcl_core.specs.Entering.{EntersUnit, EntersClause, HasCounts}
@@ -89,10 +89,9 @@ module _ (formula : Problem) (c : SearchState) (e : State) (lits : List Literal)
           let same = clause_kept r old in
           let low = st.low in
           let next = counts.next in
-          let room = taught.room in
           record {
             wide = subst (λ x. HasTwo (literals_in x)) (sym same) st.wide;
-            named = subst (λ x. IsNamedBy after.moment.tables.clauses (literals_in x) (id_in x)) (sym same) (named_then formula c e lits back s taught hints (literals_at c1.arena r) (id_at c1.arena r) (omega (arith, low, next, room)) st.named);
+            named = subst (λ x. IsNamedBy after.moment.tables.clauses (literals_in x) (id_in x)) (sym same) (named_then formula c e lits back s taught hints (literals_at c1.arena r) (id_at c1.arena r) (omega (arith, low, next)) st.named);
             low = subst (λ x. id_in x < c.next + 1) (sym same) (omega (arith, low, next));
             late = subst (λ x. IsTrue (learned_in x) → length (clauses_of formula.constraints) < id_in x) (sym same) st.late;
           }
@@ -106,10 +105,10 @@ module _ (formula : Problem) (c : SearchState) (e : State) (lits : List Literal)
           }
     ]
 
-    covered_then : (m : ℕ) (clause : List Literal) → m < first_row_id → get after.moment.tables.clauses m ≡ Some clause → IsHeld D.arena (held 0 after.trail) m clause
+    covered_then : (m : ℕ) (clause : List Literal) → m < c.next + 1 → get after.moment.tables.clauses m ≡ Some clause → IsHeld D.arena (held 0 after.trail) m clause
     covered_then m clause low live = elim (was formula c e lits back s taught hints m clause low live) [
       | inl is ↦ inl (length c1.arena.clauses, ap is_some clause_new, ap id_in clause_new ∙ sym is.1)
-      | inr old ↦ elim (t1.clauses.covered m clause low old) [
+      | inr old ↦ elim (t1.clauses.covered m clause (let less = old.0 in let next = counts.next in omega (arith, less, next)) old.1) [
         | inl (r, r_live, id) ↦ inl (r, ap is_some (clause_kept r r_live) ∙ r_live, ap id_in (clause_kept r r_live) ∙ id)
         | inr (inl taut) ↦ inr (inl taut)
         | inr (inr held_one) ↦ inr (inr (true_then clause held_one))
@@ -143,7 +142,7 @@ module _ (formula : Problem) (c : SearchState) (e : State) (lits : List Literal)
       ];
     }
 
-    units_then : AreUnits after.moment.tables.clauses D.trail after.trail D.units.items
+    units_then : AreUnits after.moment.tables.clauses (c.next + 1) D.trail after.trail D.units.items
     units_then =
         let put = enters.put in
         let count = ap length enters.units in
@@ -153,7 +152,7 @@ module _ (formula : Problem) (c : SearchState) (e : State) (lits : List Literal)
           few = omega (arith, count, few, long);
           level_0 = λ i h. (unit_stays formula c e lits back s taught hints c1 e1 t1 takes o stands D reason counts put D.units.items enters.units i h).0;
           named = λ i h. (unit_stays formula c e lits back s taught hints c1 e1 t1 takes o stands D reason counts put D.units.items enters.units i h).1;
-          low = λ i h. subst (λ us. get_or us i 0 < first_row_id) (sym enters.units) (t1.units.low i (omega (arith, count, h)));
+          low = λ i h. subst (λ us. get_or us i 0 < c.next + 1) (sym enters.units) (let low = t1.units.low i (omega (arith, count, h)) in let next = counts.next in omega (arith, low, next));
           newer = new ∷ t1.units.newer;
           older = t1.units.older;
           parts = (let then : List Entry → List Entry = λ es. new ∷ es in trail_is formula c e lits back s taught hints ∙ ap then t1.units.parts);
@@ -215,10 +214,9 @@ module _ (formula : Problem) (c : SearchState) (e : State) (lits : List Literal)
         let st = t1.clauses.stored r (subst (λ a. IsLive a r) enters.arena live) in
         let low = st.low in
         let next = counts.next in
-        let room = taught.room in
         subst (λ a. IsKept formula after.moment.tables.clauses (c.next + 1) a r) (sym enters.arena) (record {
           wide = st.wide;
-          named = named_then formula c e lits back s taught hints (literals_at c1.arena r) (id_at c1.arena r) (omega (arith, low, next, room)) st.named;
+          named = named_then formula c e lits back s taught hints (literals_at c1.arena r) (id_at c1.arena r) (omega (arith, low, next)) st.named;
           low = omega (arith, low, next);
           late = st.late;
         })
@@ -234,10 +232,10 @@ module _ (formula : Problem) (c : SearchState) (e : State) (lits : List Literal)
         ∙ ap (λ k. has_literal (cond (nat_le k 0) (taught.first ∷ held 0 (back_to back s.trail)) (held 0 (back_to back s.trail))) taught.first) at_zero
         ∙ has_at_head taught.first (held 0 (back_to back s.trail))
 
-    unit_covered : (m : ℕ) (clause : List Literal) → m < first_row_id → get after.moment.tables.clauses m ≡ Some clause → IsHeld D.arena (held 0 after.trail) m clause
+    unit_covered : (m : ℕ) (clause : List Literal) → m < c.next + 1 → get after.moment.tables.clauses m ≡ Some clause → IsHeld D.arena (held 0 after.trail) m clause
     unit_covered m clause low live = elim (was formula c e lits back s taught hints m clause low live) [
       | inl is ↦ inr (inr (record { l = taught.first; has_it = ap (λ xs. has_literal xs taught.first) (is.0 ∙ single) ∙ has_at_head taught.first []; is_held = held_now }))
-      | inr old ↦ elim (t1.clauses.covered m clause low old) [
+      | inr old ↦ elim (t1.clauses.covered m clause (let less = old.0 in let next = counts.next in omega (arith, less, next)) old.1) [
         | inl (r, r_live, id) ↦ inl (r, subst (λ a. IsLive a r) (sym enters.arena) r_live, ap (λ a. id_at a r) enters.arena ∙ id)
         | inr (inl taut) ↦ inr (inl taut)
         | inr (inr held_one) ↦ inr (inr (true_then clause held_one))
@@ -277,7 +275,7 @@ module _ (formula : Problem) (c : SearchState) (e : State) (lits : List Literal)
         none_newer [] h = refl
         none_newer (x ∷ xs) h = absurd (omega (arith, h))
 
-    unit_units : AreUnits after.moment.tables.clauses D.trail after.trail D.units.items
+    unit_units : AreUnits after.moment.tables.clauses (c.next + 1) D.trail after.trail D.units.items
     unit_units =
         let long = units_long in
         let trail_long = length_D formula c e lits back s taught hints c1 e1 t1 takes o stands D why.Decision counts enters.put in
@@ -290,8 +288,8 @@ module _ (formula : Problem) (c : SearchState) (e : State) (lits : List Literal)
           ];
           named = unit_named;
           low = λ i h. elim (unit_place i h) [
-            | inl less ↦ subst (λ m. m < first_row_id) (sym (front_id i less)) (t1.units.low i less)
-            | inr is ↦ subst (λ m. m < first_row_id) (sym (unit_id i is)) taught.room
+            | inl less ↦ subst (λ m. m < c.next + 1) (sym (front_id i less)) (let low = t1.units.low i less in let next = counts.next in omega (arith, low, next))
+            | inr is ↦ subst (λ m. m < c.next + 1) (sym (unit_id i is)) (omega arith)
           ];
           newer = [];
           older = new ∷ back_to back s.trail;

@@ -19,7 +19,7 @@ use Rattle.search_steps.specs.Ids.{IsRanged}
 use Rattle.search_steps.proofs.TrailLaws.{back_level}
 use Rattle.search_steps.proofs.Rounds.{deleted_trail, deleted_get, deleted_parities, deleted_conflicts}
 use Rattle.search_steps.proofs.RoundEnds.{round_is_tidy, round_stays_tied}
-use Rattle.search_steps.proofs.IdLaws.{ranged_round_keeps, round_ranged, next_is_free, low_is_no_row, row_ids_are_temporary, clause_ranged, mark_ranged}
+use Rattle.search_steps.proofs.IdLaws.{ranged_round_keeps, round_ranged, risen_ranged, next_is_free, low_is_no_row, row_ids_are_temporary, clause_ranged, mark_ranged}
 use Rattle.search_steps.proofs.StartLaws.{variables_are_within}
 use Rattle.conflict_learn.specs.Learning.{negated_at}
 use Rattle.conflict_learn.proofs.ChainOfResolutions.{by_cases}
@@ -64,7 +64,7 @@ module _ (formula : Problem) (c : SearchState) (e : State) (lits : List Literal)
       (taught.placed.within, below_first c.trail taught.placed.first taught.placed.rest taught.placed.within taught.placed.falling.0))
 
   pub addition : IsAddition formula s.moment.tables.clauses n zs
-  addition = record { within = variables_are_within formula.variables lits within; free = next_is_free formula first_row_id c.next (first_row_id + length taught.rows) s taught.ties.log.ranged taught.room }
+  addition = record { within = variables_are_within formula.variables lits within; free = next_is_free formula (first_row_id c.next) c.next (first_row_id c.next + length taught.rows) s taught.ties.log.ranged (omega arith) }
 
   pub goes_on : derives_empty_clause (ClauseWithHints n zs hints) ≡ false
   goes_on = ap (λ xs. derives_empty_clause (ClauseWithHints n (integers_of xs) hints)) taught.parts
@@ -76,14 +76,18 @@ module _ (formula : Problem) (c : SearchState) (e : State) (lits : List Literal)
   served = record { served = taught.ties.log.served.served; no_old_clauses = taught.ties.log.served.old_clauses; no_old_sums = taught.ties.log.served.old_sums }
 
   pub round_is_search : IsSearch formula e.parities after
-  round_is_search = ranged_round_keeps formula first_row_id c.next (first_row_id + length taught.rows) s taught.ties.log.ranged n zs hints back (omega arith) taught.room e.parities taught.search l served taught.ties.levels
+  round_is_search = ranged_round_keeps formula (first_row_id c.next) c.next (first_row_id c.next + length taught.rows) s taught.ties.log.ranged n zs hints back (omega arith) (omega arith) e.parities taught.search l served taught.ties.levels
       addition goes_on (subst (Rattle.cx_semantics.specs.LogRules.HasChain s.moment.tables.clauses) (sym taught.integers) taught.chain) learned
 
   pub tidy : IsTidy after
   tidy = round_is_tidy formula e.parities s taught.search n zs hints back l learned served taught.ties.log.served.new_sums
 
-  pub ranged_then : IsRanged formula first_row_id (n + 1) first_row_id after.trail after.moment
-  ranged_then = round_ranged formula first_row_id c.next (first_row_id + length taught.rows) s taught.ties.log.ranged n zs hints back (omega arith) taught.room l taught.ties.log.served.old_clauses
+  round_leaves : IsRanged formula (first_row_id c.next) (n + 1) (first_row_id c.next) after.trail after.moment
+  round_leaves = round_ranged formula (first_row_id c.next) c.next (first_row_id c.next + length taught.rows) s taught.ties.log.ranged n zs hints back (omega arith) (omega arith) l taught.ties.log.served.old_clauses
+
+  -- no clause of a row is left, so their ids begin behind the next one
+  pub ranged_then : IsRanged formula (first_row_id (n + 1)) (n + 1) (first_row_id (n + 1)) after.trail after.moment
+  ranged_then = risen_ranged formula (first_row_id c.next) (n + 1) (first_row_id c.next) after round_leaves (first_row_id (n + 1)) (omega arith) tidy.no_new_clauses tidy.no_old_clauses
 
   pub tied_then : (u : TrailState) → TakesBack back c.trail u → (reason : Reason) → IsOpenIn u.entries l.variable × IsTied after.trail (pushed u back l reason).entries
   tied_then u takes reason = round_stays_tied formula e.parities s taught.search n zs hints back l learned c.trail u taught.ties.trail.follows.tied takes reason
@@ -105,8 +109,8 @@ module _ (formula : Problem) (c : SearchState) (e : State) (lits : List Literal)
   parities_then = deleted_parities (after_learned s n zs hints back) s.moment.new_clauses
 
   temporary : AreTemporary formula (after_learned s n zs hints back) s.moment.new_clauses
-  temporary = row_ids_are_temporary formula first_row_id (c.next + 1) (first_row_id + length taught.rows) (after_learned s n zs hints back)
-      (clause_ranged formula first_row_id c.next (first_row_id + length taught.rows) (marked s) (mark_ranged formula first_row_id c.next (first_row_id + length taught.rows) s taught.ties.log.ranged) n zs hints (omega arith) taught.room)
+  temporary = row_ids_are_temporary formula (first_row_id c.next) (c.next + 1) (first_row_id c.next + length taught.rows) (after_learned s n zs hints back)
+      (clause_ranged formula (first_row_id c.next) c.next (first_row_id c.next + length taught.rows) (marked s) (mark_ranged formula (first_row_id c.next) c.next (first_row_id c.next + length taught.rows) s taught.ties.log.ranged) n zs hints (omega arith) (omega arith))
       s.moment.new_clauses taught.ties.log.ranged.new_rows
 
   -- the clause is one of the learned ones, and the mark ends a stretch
@@ -119,28 +123,28 @@ module _ (formula : Problem) (c : SearchState) (e : State) (lits : List Literal)
   pub conflicts_then : after.conflicts ≡ c.conflicts + 1
   conflicts_then = deleted_conflicts (after_learned s n zs hints back) s.moment.new_clauses ∙ ap (λ k. k + 1) taught.ties.counts.marked
 
-  got : (m : ℕ) → m < first_row_id → get after.moment.tables.clauses m ≡ cond (nat_eq m n) (Some (literals zs)) (get s.moment.tables.clauses m)
-  got m low = deleted_get (after_learned s n zs hints back) s.moment.new_clauses m (low_is_no_row formula first_row_id c.next (first_row_id + length taught.rows) s taught.ties.log.ranged m low)
+  got : (m : ℕ) → m < first_row_id c.next → get after.moment.tables.clauses m ≡ cond (nat_eq m n) (Some (literals zs)) (get s.moment.tables.clauses m)
+  got m low = deleted_get (after_learned s n zs hints back) s.moment.new_clauses m (low_is_no_row formula (first_row_id c.next) c.next (first_row_id c.next + length taught.rows) s taught.ties.log.ranged m low)
       ∙ Looks-insert s.moment.tables.clauses (get s.moment.tables.clauses) n (literals zs) (λ _. refl) m
 
   pub get_new : get after.moment.tables.clauses n ≡ Some lits
-  get_new = got n taught.room ∙ ap (λ b. cond b (Some (literals zs)) (get s.moment.tables.clauses n)) (eq-eqb n n refl) ∙ ap Some taught.integers
+  get_new = got n (omega arith) ∙ ap (λ b. cond b (Some (literals zs)) (get s.moment.tables.clauses n)) (eq-eqb n n refl) ∙ ap Some taught.integers
 
-  pub get_old : (m : ℕ) → m < first_row_id → m ≢ n → get after.moment.tables.clauses m ≡ get s.moment.tables.clauses m
+  pub get_old : (m : ℕ) → m < first_row_id c.next → m ≢ n → get after.moment.tables.clauses m ≡ get s.moment.tables.clauses m
   get_old m low apart = got m low ∙ ap (λ b. cond b (Some (literals zs)) (get s.moment.tables.clauses m)) (apart_is m n apart)
     where
       apart_is : (a b : ℕ) → a ≢ b → nat_eq a b ≡ false
       apart_is a b apart = by_cases (nat_eq a b) (λ q. absurd (apart (Rattle.std.proofs.Common.eqb-true a b q))) (λ q. q)
 
   -- a live clause with a low id has another id, and stays
-  pub stays : (m : ℕ) (clause : List Literal) → m < first_row_id → get s.moment.tables.clauses m ≡ Some clause → get after.moment.tables.clauses m ≡ Some clause
+  pub stays : (m : ℕ) (clause : List Literal) → m < first_row_id c.next → get s.moment.tables.clauses m ≡ Some clause → get after.moment.tables.clauses m ≡ Some clause
   stays m clause low live = get_old m low (λ same. no_clause clause (sym live ∙ ap (get s.moment.tables.clauses) same ∙ addition.free)) ∙ live
 
-  pub named_then : (lits : List Literal) (m : ℕ) → m < first_row_id → IsNamedBy s.moment.tables.clauses lits m → IsNamedBy after.moment.tables.clauses lits m
+  pub named_then : (lits : List Literal) (m : ℕ) → m < first_row_id c.next → IsNamedBy s.moment.tables.clauses lits m → IsNamedBy after.moment.tables.clauses lits m
   named_then lits m low named = record { clause = named.clause; live = stays m named.clause low named.live; same = named.same }
 
   -- and each other one was there
-  pub was : (m : ℕ) (clause : List Literal) → m < first_row_id → get after.moment.tables.clauses m ≡ Some clause → ((clause ≡ lits) × (m ≡ c.next)) ⊎ (get s.moment.tables.clauses m ≡ Some clause)
+  pub was : (m : ℕ) (clause : List Literal) → m < first_row_id c.next → get after.moment.tables.clauses m ≡ Some clause → ((clause ≡ lits) × (m ≡ c.next)) ⊎ ((m < c.next) × (get s.moment.tables.clauses m ≡ Some clause))
   was m clause low live = by_cases (nat_eq m n)
       (λ q. inl (let at : Some clause ≡ Some lits = sym live ∙ ap (get after.moment.tables.clauses) (Rattle.std.proofs.Common.eqb-true m n q) ∙ get_new in (let is : clause ≡ lits = cc (at) in is, Rattle.std.proofs.Common.eqb-true m n q)))
-      (λ q. inr (sym (get_old m low (eqb-false m n q)) ∙ live))
+      (λ q. let apart = eqb-false m n q in inr (omega (arith, low, apart), sym (get_old m low (eqb-false m n q)) ∙ live))

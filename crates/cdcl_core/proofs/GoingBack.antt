@@ -27,7 +27,7 @@ use Rattle.search_steps.proofs.IdLaws.{jump_ranged}
 use Rattle.search_steps.proofs.EngineLaws.{back_holds_values, lagging_back}
 use Rattle.search_steps.proofs.OverSearch.{older_is_trail}
 use Rattle.cdcl_search.specs.declared.state.SearchState.{SearchState}
-use Rattle.cdcl_search.specs.Ties.{Ties, IsWatched, ClauseTies, AreUnits, CountTies, HasReasonOf, stretches, first_row_id, IsNamedBy, IsFed}
+use Rattle.cdcl_search.specs.Ties.{Ties, IsWatched, ClauseTies, AreRows, AreUnits, CountTies, HasReasonOf, stretches, first_row_id, row_ids, IsNamedBy, IsFed}
 use Rattle.cdcl_search.proofs.Places.{entry_behind, tied_length, older_level, older_stay}
 
 -- the engine is at the trail's level
@@ -120,7 +120,7 @@ module _ (formula : Problem) (k : ℕ) (c d : SearchState) (e f : State) (rows :
       let zero_level = t.units.level_0 (length rest) (omega (arith, many)) in
       omega (arith, at, zero_level)
 
-  units_then : AreUnits s.moment.tables.clauses d.trail (back_to k s.trail) c.units.items
+  units_then : AreUnits s.moment.tables.clauses c.next d.trail (back_to k s.trail) c.units.items
   units_then =
       let r = older_stay k t.units.newer t.units.older older_low in
       record {
@@ -215,17 +215,17 @@ module _ (formula : Problem) (k : ℕ) (c d : SearchState) (e f : State) (rows :
   pub ties_then : Ties formula d f rows (jumped s k)
   ties_then = subst (λ x. Ties formula d x rows (jumped s k)) (sym g.engine) (record {
     log = record {
-      ranged = subst (λ n. IsRanged formula first_row_id n (first_row_id + length rows) (back_to k s.trail) s.moment) (sym g.next) (jump_ranged formula first_row_id c.next (first_row_id + length rows) s t.log.ranged k);
+      ranged = subst (λ n. IsRanged formula (first_row_id n) n (first_row_id n + length rows) (back_to k s.trail) s.moment) (sym g.next) (jump_ranged formula (first_row_id c.next) c.next (first_row_id c.next + length rows) s t.log.ranged k);
       sums = t.log.sums;
       numbered = t.log.numbered;
-      rows_told = t.log.rows_told;
+      rows_told = subst (λ n. AreRows s.moment.tables.clauses (first_row_id n) rows) (sym g.next) t.log.rows_told;
       few_rows = t.log.few_rows;
       none_at_0 = t.log.none_at_0;
-      served = record { served = t.log.served.served; old_clauses = t.log.served.old_clauses; new_clauses = t.log.served.new_clauses; old_sums = t.log.served.old_sums; new_sums = t.log.served.new_sums };
+      served = record { served = t.log.served.served; old_clauses = t.log.served.old_clauses; new_clauses = t.log.served.new_clauses ∙ ap (λ n. row_ids (first_row_id n) (length rows)) (sym g.next); old_sums = t.log.served.old_sums; new_sums = t.log.served.new_sums };
     };
     clauses = clauses_then;
     trail = record { follows = record { tied = tied_then; sound = g.sound }; variables = g.takes.variables ∙ t.trail.variables; stand = g.stand; phased = g.phases ∙ t.trail.phased };
-    units = subst (AreUnits s.moment.tables.clauses d.trail (back_to k s.trail)) (sym g.units) units_then;
+    units = subst (λ n. AreUnits s.moment.tables.clauses n d.trail (back_to k s.trail) d.units.items) (sym g.next) (subst (AreUnits s.moment.tables.clauses c.next d.trail (back_to k s.trail)) (sym g.units) units_then);
     engine = record { vars = t.engine.vars; wide = length-map e.values (keep k) ∙ t.engine.wide; theirs = t.engine.theirs; few = t.engine.few; fed = subst (λ n. IsFed (back_to k s.trail) n (back k e)) (sym g.given) fed_then };
     reasons = λ i far within. reason_then i within (entry_at d.trail.entries i).reason
         (subst (λ x. HasReasonOf c.arena c.trail.entries e i x.reason) (same_entry i within) (let more = shorter in t.reasons i (subst (λ us. length us ≤ i) g.units far) (omega (arith, within, more))));

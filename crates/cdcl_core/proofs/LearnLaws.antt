@@ -1,8 +1,9 @@
 -- What a conflict teaches, and what the sink is told of it.
-use Rattle.std.proofs.Common.{◌≡◌, sym, ap, ◌∙◌, subst, ℕ, ◌+◌, ◌<◌, ◌^◌, ℤ, true, List, [], ◌∷◌, ◌++◌, length, Some, None, Option, Result, IfOk, append-nil, append_assoc}
+use Rattle.std.proofs.Common.{◌≡◌, sym, ap, ◌∙◌, subst, ℕ, ◌+◌, ◌<◌, ◌≤◌, ◌^◌, ℤ, true, List, [], ◌∷◌, ◌++◌, length, Some, None, Option, Result, IfOk, append-nil, append_assoc}
 use Rattle.cx_base.specs.Literals.{Literal}
 use Rattle.cx_base.specs.Problem.{Problem}
 use Rattle.cx_base.specs.declared.steps.LogStep.{LogStep}
+use Rattle.cx_semantics.specs.Ids.{highest_id}
 use Rattle.cx_base.specs.declared.steps.LogStep.TheVariants.{ClauseWithHints, Delete}
 use Rattle.cx_base.specs.declared.steps.LogEvent.{LogEvent}
 use Rattle.cx_base.specs.declared.steps.LogEvent.TheVariants.{Step, Conflict}
@@ -41,7 +42,7 @@ deleted_events s [] = sym (append-nil s.events)
 deleted_events s (n ∷ ids) = deleted_events (told s (Step (Delete n []))) ids ∙ append_assoc s.events (Step (Delete n []) ∷ []) (deletions ids)
 
 module _ (formula : Problem) (c : SearchState) (e : State) (rows : List (List Literal)) (old : Option (List LogEvent)) (st : SearchStands formula c e rows old)
-    (above : 0 < c.trail.level) (room : c.next < first_row_id) (few : c.conflicts < 10 ^ 18)
+    (above : 0 < c.trail.level) (room : c.next ≤ highest_id) (few : c.conflicts < 10 ^ 18)
     (conflict : List Literal) (is_conflict : IsConflictClause c rows conflict) (resolved lits : List Literal) (back lbd : ℕ) (teaches : Teaches c.trail conflict (IsSourced c rows) resolved lits back lbd) where
   abbrev s : Search
   s = st.0
@@ -66,7 +67,7 @@ module _ (formula : Problem) (c : SearchState) (e : State) (rows : List (List Li
         few = few;
       }
 
-  module _ (integers : literals (integers_of lits) ≡ lits) (hints : List ℤ) (steps : List LogStep) (are : as_events steps ≡ Step (ClauseWithHints c.next (integers_of lits) hints) ∷ deletions (row_ids (length rows))) where
+  module _ (integers : literals (integers_of lits) ≡ lits) (hints : List ℤ) (steps : List LogStep) (are : as_events steps ≡ Step (ClauseWithHints c.next (integers_of lits) hints) ∷ deletions (row_ids (first_row_id c.next) (length rows))) where
     abbrev then : Search
     then = after_round st.0 c.next (integers_of lits) hints back (is_taught integers).first
 

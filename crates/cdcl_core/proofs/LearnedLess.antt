@@ -129,9 +129,6 @@ module _ (formula : Problem) (c : SearchState) (e : State) (s : Search) (ok : Is
   is_no_reason = no_reason c.units.items n s.trail
       (subst (RestOnUnits c.units.items) (no_newer p.units.newer p.units.older s.trail p.units.parts (p.units.count ∙ all_units ∙ sym (tied_length s.trail c.trail.entries p.trail.follows.tied))) p.units.rest) not_unit
 
-  low : n < first_row_id
-  low = let below = here.low in let room = p.log.ranged.room in omega (arith, below, room)
-
   left : length s.moment.learned ≤ length (without s.moment.learned n) + 1
   left = one_less c.next s.moment.learned n p.counts.falling
 
@@ -152,7 +149,7 @@ module _ (formula : Problem) (c : SearchState) (e : State) (s : Search) (ok : Is
         late = subst (λ o. IsTrue (learned_in o) → length (clauses_of formula.constraints) < id_in o) (sym same) k.late;
       }
 
-  covered_then : (m : ℕ) (clause : List Literal) → m < first_row_id → get after.moment.tables.clauses m ≡ Some clause → IsHeld b (held 0 s.trail) m clause
+  covered_then : (m : ℕ) (clause : List Literal) → m < c.next → get after.moment.tables.clauses m ≡ Some clause → IsHeld b (held 0 s.trail) m clause
   covered_then m clause m_low is =
       let other : m ≢ n = λ same. no_clause clause (sym is ∙ ap (get after.moment.tables.clauses) same ∙ Rattle.cdcl_search.proofs.TableLaws.drop_same s.moment.tables.clauses n) in
       elim (p.clauses.covered m clause m_low (sym (drop_other s.moment.tables.clauses n m other) ∙ is)) [
@@ -168,7 +165,7 @@ module _ (formula : Problem) (c : SearchState) (e : State) (s : Search) (ok : Is
   pub ties_less : Ties formula d e [] after
   ties_less = record {
     log = record {
-      ranged = deletion_ranged formula first_row_id c.next (first_row_id + 0) s p.log.ranged n [];
+      ranged = deletion_ranged formula (first_row_id c.next) c.next (first_row_id c.next + 0) s p.log.ranged n [];
       sums = p.log.sums;
       numbered = p.log.numbered;
       rows_told = λ i h. absurd (omega (arith, h));

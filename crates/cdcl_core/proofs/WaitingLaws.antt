@@ -23,6 +23,7 @@ use Rattle.parity_engine.specs.declared.state.Mood.TheVariants.{Busy, Broken}
 use Rattle.parity_engine.specs.State.{State, fresh}
 use Rattle.clause_arena.specs.Clauses.{id_at}
 use Rattle.search_steps.specs.Engine.{HoldsValues}
+use Rattle.cx_semantics.specs.Ids.{highest_id}
 use Rattle.search_steps.specs.Ids.{IsRanged, ReasonsBelow, AreRowIds}
 use Rattle.search_steps.specs.Quiet.{HasTrue, IsOfParities}
 use Rattle.search_steps.specs.Search.{Search, IsSearch, forced_on}
@@ -79,7 +80,7 @@ still_waits u more k (v, (zero, less, is), number) = inl (sym number ∙ ap (λ 
 still_waits u more k (v, (suc i, less, is), number) = inr (v, (i, omega (arith, less), is), number)
 
 -- ---- the units of a longer trail
-module _ (table : Table) (t : TrailState) (es : List Entry) (ids : List ℕ) (u : AreUnits table t es ids) (every : length ids ≡ length t.entries) (level : ℕ) (low : level ≡ 0) (l : Literal) (why : Reason) (n : ℕ) where
+module _ (table : Table) (t : TrailState) (es : List Entry) (ids : List ℕ) (next : ℕ) (u : AreUnits table next t es ids) (every : length ids ≡ length t.entries) (level : ℕ) (low : level ≡ 0) (l : Literal) (why : Reason) (n : ℕ) where
   abbrev new : TrailEntry
   new = record { literal = l; level = level; reason = why }
 
@@ -102,12 +103,12 @@ module _ (table : Table) (t : TrailState) (es : List Entry) (ids : List ℕ) (u 
   no_more_above : 0 < level → ⊥
   no_more_above high = omega (arith, high, low)
 
-  pub one_more_unit : (y : Entry) → y.why ≡ by_clause n → RestOnUnits ids es → length es ≡ length t.entries → IsNamedBy table (l ∷ []) n → n < first_row_id → AreUnits table (pushed t level l why) (y ∷ es) (ids ++ n ∷ [])
+  pub one_more_unit : (y : Entry) → y.why ≡ by_clause n → RestOnUnits ids es → length es ≡ length t.entries → IsNamedBy table (l ∷ []) n → n < next → AreUnits table next (pushed t level l why) (y ∷ es) (ids ++ n ∷ [])
   one_more_unit y rests rest tied named small = record {
     few = let a = length-append ids (n ∷ []) in let b = length_push t.entries new in omega (arith, a, b, every);
     level_0 = places (λ x _. x.level ≡ 0) u.level_0 low;
     named = places (λ x i. IsNamedBy table (x.literal ∷ []) i) u.named named;
-    low = places (λ _ i. i < first_row_id) u.low small;
+    low = places (λ _ i. i < next) u.low small;
     newer = [];
     older = y ∷ es;
     parts = refl;
@@ -149,15 +150,15 @@ module _ (formula : Problem) (engines : List (List Literal)) (c : SearchState) (
   live : get search.moment.tables.clauses u.number ≡ Some clause
   live = ties.clauses.numbered u.number single.0.low single.0.high
 
-  small : u.number < first_row_id
-  small = let high = single.0.high in let next = ties.next in let room = ties.room in omega (arith, high, next, room)
+  small : u.number < c.next
+  small = let high = single.0.high in let next = ties.next in omega (arith, high, next)
 
   -- its number, and the ids of the units so far, are such as a step may have
   pub waiting_is_id : IsId u.number
-  waiting_is_id = let low = single.0.low in let high = small in (omega (arith, low), omega (arith, high))
+  waiting_is_id = let low = single.0.low in let high = small in let room = ties.room in (omega (arith, low), omega (arith, high, room))
 
   pub waiting_units_are_ids : All IsId c.units.items
-  waiting_units_are_ids = units_are_ids search.moment.tables.clauses c.trail search.trail c.units.items ties.clauses.none_before ties.units
+  waiting_units_are_ids = units_are_ids search.moment.tables.clauses c.next c.trail search.trail c.units.items ties.clauses.none_before ties.room ties.units
 
   long : length search.trail ≡ length c.trail.entries
   long = tied_length search.trail c.trail.entries ties.follows.tied
@@ -229,7 +230,7 @@ module _ (formula : Problem) (engines : List (List Literal)) (c : SearchState) (
         search = st.1;
         chain = falsified_has_chain search.moment.tables.clauses (IsOfParities formula.variables engines) search.trail st.1.serves.stands (on_clauses c.units.items search.trail rest) clause (u.number, live)
             (stored_is_false (u.literal ∷ []) clause single.0.same search.trail c.trail.entries ties.follows.tied (one_is_false c.trail.entries u.literal h));
-        free = next_is_free formula first_row_id c.next first_row_id search ties.ranged ties.room;
+        free = next_is_free formula (first_row_id c.next) c.next (first_row_id c.next) search ties.ranged (omega arith);
         served = ties.served.served;
         conflicts = ties.no_conflict ∙ sym ties.conflicts;
       },
@@ -256,8 +257,8 @@ module _ (formula : Problem) (engines : List (List Literal)) (c : SearchState) (
           ∙ has_at_head u.literal (held 0 search.trail);
     }
 
-    units_then : AreUnits search.moment.tables.clauses (pushed c.trail c.trail.level u.literal why) after.trail (c.units.items ++ u.number ∷ [])
-    units_then = one_more_unit search.moment.tables.clauses c.trail search.trail c.units.items ties.units ties.every c.trail.level ties.level u.literal why u.number entry refl rest long
+    units_then : AreUnits search.moment.tables.clauses c.next (pushed c.trail c.trail.level u.literal why) after.trail (c.units.items ++ u.number ∷ [])
+    units_then = one_more_unit search.moment.tables.clauses c.trail search.trail c.units.items c.next ties.units ties.every c.trail.level ties.level u.literal why u.number entry refl rest long
         (record { clause = clause; live = live; same = single.0.same }) small
 
     module _ (units : Vec ℕ) (grown : units.items ≡ c.units.items ++ u.number ∷ []) where
@@ -270,7 +271,7 @@ module _ (formula : Problem) (engines : List (List Literal)) (c : SearchState) (
           follows = record { tied = keeps.1; sound = sound };
           variables = ties.variables;
           level = ties.level;
-          ranged = force_ranged formula first_row_id c.next first_row_id search ties.ranged u.literal u.number small;
+          ranged = force_ranged formula (first_row_id c.next) c.next (first_row_id c.next) search ties.ranged u.literal u.number (let low = small in omega (arith, low));
           next = ties.next;
           room = ties.room;
           sums = ties.sums;
@@ -286,7 +287,7 @@ module _ (formula : Problem) (engines : List (List Literal)) (c : SearchState) (
             ]
           ];
           singles = ties.singles.1;
-          units = subst (AreUnits search.moment.tables.clauses (pushed c.trail c.trail.level u.literal why) after.trail) (sym grown) units_then;
+          units = subst (AreUnits search.moment.tables.clauses c.next (pushed c.trail c.trail.level u.literal why) after.trail) (sym grown) units_then;
           every = let a = ap length grown in let b = length-append c.units.items (u.number ∷ []) in
               let l = length_push c.trail.entries (record { literal = u.literal; level = c.trail.level; reason = why }) in let every = ties.every in omega (arith, a, b, l, every);
           watched = watched_grows c c.trail.level u.literal why (omega arith) ties.watched;
@@ -319,7 +320,7 @@ empty_is_id formula few c units number f =
     (omega (arith, low), omega (arith, high, all, few))
 
 module _ (formula : Problem) (few : length formula.constraints ≤ 4294967295) (known : IsWithinVariables formula.variables formula.constraints) (engines : List (List Literal)) (told : Option (List LogEvent)) (b : HasGiven formula engines told) (c : SearchState) (units : List Single) where
-  room_then : length (clauses_of formula.constraints) + 1 < first_row_id
+  room_then : length (clauses_of formula.constraints) + 1 ≤ highest_id
   room_then = let a = few_clauses formula.constraints in omega (arith, a, few)
 
   empty_is_sound : (t : TrailState) → t ≡ record { variables = formula.variables; level = 0; entries = [] } → IsTrail t
@@ -337,8 +338,8 @@ module _ (formula : Problem) (few : length formula.constraints ≤ 4294967295) (
     decided = λ k low high. absurd (omega (arith, low, high));
   })
 
-  no_unit : (table : Table) (t : TrailState) (es : List Entry) (ids : List ℕ) → es ≡ [] → ids ≡ [] → t.level ≡ 0 → AreUnits table t es ids
-  no_unit table t es ids none no_id level = record {
+  no_unit : (table : Table) (next : ℕ) (t : TrailState) (es : List Entry) (ids : List ℕ) → es ≡ [] → ids ≡ [] → t.level ≡ 0 → AreUnits table next t es ids
+  no_unit table next t es ids none no_id level = record {
     few = let l = ap length no_id in omega (arith, l);
     level_0 = λ i less. absurd (let l = ap length no_id in omega (arith, l, less));
     named = λ i less. absurd (let l = ap length no_id in omega (arith, l, less));
@@ -351,16 +352,16 @@ module _ (formula : Problem) (few : length formula.constraints ≤ 4294967295) (
     all = λ high i far less. absurd (omega (arith, high, level));
   }
 
-  given_is_ranged : length (clauses_of formula.constraints) < first_row_id → IsRanged formula first_row_id (length (clauses_of formula.constraints) + 1) first_row_id b.0.trail b.0.moment
-  given_is_ranged room = record {
+  given_is_ranged : IsRanged formula (first_row_id (length (clauses_of formula.constraints) + 1)) (length (clauses_of formula.constraints) + 1) (first_row_id (length (clauses_of formula.constraints) + 1)) b.0.trail b.0.moment
+  given_is_ranged = record {
     originals = omega arith;
-    room = omega (arith, room);
-    reasons = subst (ReasonsBelow first_row_id) (sym b.1.no_trail) tt;
-    learned = subst (AllByRecursion (λ n. n < first_row_id)) (sym b.1.no_learned) tt;
-    new_rows = subst (AreRowIds first_row_id first_row_id) (sym b.1.tidy.no_new_clauses) tt;
-    old_rows = subst (AreRowIds first_row_id first_row_id) (sym b.1.tidy.no_old_clauses) tt;
+    room = omega arith;
+    reasons = subst (ReasonsBelow (first_row_id (length (clauses_of formula.constraints) + 1))) (sym b.1.no_trail) tt;
+    learned = subst (AllByRecursion (λ n. n < first_row_id (length (clauses_of formula.constraints) + 1))) (sym b.1.no_learned) tt;
+    new_rows = subst (AreRowIds (first_row_id (length (clauses_of formula.constraints) + 1)) (first_row_id (length (clauses_of formula.constraints) + 1))) (sym b.1.tidy.no_new_clauses) tt;
+    old_rows = subst (AreRowIds (first_row_id (length (clauses_of formula.constraints) + 1)) (first_row_id (length (clauses_of formula.constraints) + 1))) (sym b.1.tidy.no_old_clauses) tt;
     free = λ n h k. b.1.no_more n (omega (arith, h));
-    rows_free = λ n h k l. b.1.no_more n (omega (arith, h, room));
+    rows_free = λ n h k l. b.1.no_more n (omega (arith, h));
   }
 
   pub filled_stands : IsFilled formula c units None → SearchStandsBut formula engines c units told
@@ -372,7 +373,7 @@ module _ (formula : Problem) (few : length formula.constraints ≤ 4294967295) (
       follows = record { tied = subst (λ es. IsTied es c.trail.entries) (sym b.1.no_trail) (ap (λ t. t.entries) f.trail); sound = empty_is_sound c.trail f.trail };
       variables = ap (λ t. t.variables) f.trail;
       level = ap (λ t. t.level) f.trail;
-      ranged = subst (λ n. IsRanged formula first_row_id n first_row_id b.0.trail b.0.moment) (sym f.next) (given_is_ranged (let r = room_then in omega (arith, r)));
+      ranged = subst (λ n. IsRanged formula (first_row_id n) n (first_row_id n) b.0.trail b.0.moment) (sym f.next) given_is_ranged;
       next = f.next;
       room = let r = room_then in let next = f.next in omega (arith, r, next);
       sums = b.1.sums;
@@ -387,7 +388,7 @@ module _ (formula : Problem) (few : length formula.constraints ≤ 4294967295) (
         | inr (inr (inr none)) ↦ absurd (true≢false (sym none))
       ];
       singles = f.units_are;
-      units = no_unit b.0.moment.tables.clauses c.trail b.0.trail c.units.items b.1.no_trail f.no_units (ap (λ t. t.level) f.trail);
+      units = no_unit b.0.moment.tables.clauses c.next c.trail b.0.trail c.units.items b.1.no_trail f.no_units (ap (λ t. t.level) f.trail);
       every = ap length f.no_units ∙ sym (ap (λ t. length t.entries) f.trail);
       watched = f.watched;
       stand = f.stand;
@@ -427,15 +428,11 @@ module _ (formula : Problem) (engines : List (List Literal)) (c : SearchState) (
   none_waits : (k : ℕ) → IsWaiting [] k → ⊥
   none_waits k (u, (i, less, is), number) = omega (arith, less)
 
-  is_number : (n : ℕ) (clause : List Literal) → get st.0.moment.tables.clauses n ≡ Some clause → n < first_row_id → (1 ≤ n) × (n ≤ length (clauses_of formula.constraints))
+  is_number : (n : ℕ) (clause : List Literal) → get st.0.moment.tables.clauses n ≡ Some clause → n < c.next → (1 ≤ n) × (n ≤ length (clauses_of formula.constraints))
   is_number zero clause live low = absurd (no_clause clause (sym live ∙ st.3.clauses.none_before))
   is_number (suc n) clause live low = (
     omega arith,
-    by_cases (nat_lt (length (clauses_of formula.constraints)) (suc n))
-        (λ q.
-        let far = ltb-true (length (clauses_of formula.constraints)) (suc n) q in
-        absurd (no_clause clause (sym live ∙ st.3.ranged.free (suc n) (let next = st.3.next in omega (arith, far, next)) low)))
-        (λ q. let near = ltb-false (length (clauses_of formula.constraints)) (suc n) q in near),
+    (let next = st.3.next in omega (arith, low, next)),
   )
 
   clauses_then : ClauseTies formula st.0.moment.tables.clauses c.next c.arena (held 0 st.0.trail)
@@ -496,8 +493,8 @@ module _ (formula : Problem) (engines : List (List Literal)) (c : SearchState) (
       subst (λ ps. IsSearch formula ps st.0) (sym theirs) st.1,
       st.2,
       record {
-        log = subst (λ ps. LogTies formula ps c.next [] st.0) (sym theirs) (record {
-          ranged = st.3.ranged;
+        log = subst (λ ps. LogTies formula ps c.next (first_row_id c.next) [] st.0) (sym theirs) (record {
+          ranged = subst (λ r. IsRanged formula (first_row_id c.next) c.next r st.0.trail st.0.moment) (let z : first_row_id c.next ≡ first_row_id c.next + 0 = omega arith in z) st.3.ranged;
           sums = st.3.sums;
           numbered = st.3.parities.numbered;
           rows_told = λ i less. absurd (omega (arith, less));

@@ -1,10 +1,11 @@
 -- What a conflict teaches, and what the sink is told of it.
-use Rattle.std.specs.Prelude.{◌≡◌, ℕ, ◌<◌, ◌^◌, ℤ, List, [], ◌∷◌, length, Option, IsTrue}
+use Rattle.std.specs.Prelude.{◌≡◌, ℕ, ◌<◌, ◌≤◌, ◌^◌, ℤ, List, [], ◌∷◌, length, Option, IsTrue}
 use Rattle.cx_base.specs.Literals.{Literal}
 use Rattle.cx_base.specs.Problem.{Problem}
 use Rattle.cx_base.specs.declared.steps.LogEvent.{LogEvent}
 use Rattle.cx_base.specs.Integers.{integers_of, literals}
 use Rattle.cx_semantics.specs.Chain.{has_literal}
+use Rattle.cx_semantics.specs.Ids.{highest_id}
 use Rattle.cx_semantics.specs.LogRules.{HasChain}
 use Rattle.cx_trail.specs.Sequence.{TrailState, IsTrueIn}
 use Rattle.conflict_learn.specs.Learning.{negated_at, IsFalling}
@@ -17,7 +18,7 @@ use Rattle.search_steps.specs.LogSteps.{after_round}
 use Rattle.search_steps.specs.Holding.{AreTold}
 use Rattle.cdcl_search.specs.declared.state.SearchState.{SearchState}
 use Rattle.cdcl_search.specs.Sources.{IsSourced}
-use Rattle.cdcl_search.specs.Ties.{SearchStands, Ties, IsWatched, first_row_id}
+use Rattle.cdcl_search.specs.Ties.{SearchStands, Ties, IsWatched}
 
 -- The literals are the negations of those at falling places of the trail. The back level is that of the second one, 0 where there is none.
 pub record ArePlaced (trail : TrailState) (lits : List Literal) (back : ℕ) : Type 0 where
@@ -41,7 +42,7 @@ pub record IsTaught (formula : Problem) (c : SearchState) (e : State) (lits : Li
   pub learned : IsLearnedOf s.trail back lits first
   pub placed : ArePlaced c.trail lits back
   pub integers : literals (integers_of lits) ≡ lits
-  pub room : c.next < first_row_id
+  pub room : c.next ≤ highest_id
   pub few : c.conflicts < 10 ^ 18
 
 -- What the sink tells ends with the mark, the learned clause with hints, and the deletions of the clauses of rows.

@@ -1,9 +1,10 @@
 -- What a search holds while some unit clauses of the formula still wait.
-use Rattle.std.specs.Prelude.{◌≡◌, ◌⊎◌, ℕ, ◌+◌, ◌<◌, ◌≤◌, Bool, true, false, List, [], length, Option, Contains}
+use Rattle.std.specs.Prelude.{◌≡◌, ◌⊎◌, ℕ, ◌+◌, ◌≤◌, Bool, true, false, List, [], length, Option, Contains}
 use Rattle.std.specs.List.{AllByRecursion}
 use Rattle.cx_base.specs.Literals.{Literal}
 use Rattle.cx_base.specs.Problem.{Problem, clauses_of}
 use Rattle.cx_base.specs.declared.steps.LogEvent.{LogEvent}
+use Rattle.cx_semantics.specs.Ids.{highest_id}
 use Rattle.clause_arena.specs.Clauses.{IsLive, id_at}
 use Rattle.search_policy.specs.Standing.{AllStand}
 use Rattle.search_steps.specs.Holding.{AreTold}
@@ -34,9 +35,9 @@ pub record TiesBut (formula : Problem) (engines : List (List Literal)) (c : Sear
   pub follows : Mirrors s.trail c.trail
   pub variables : c.trail.variables ≡ formula.variables
   pub level : c.trail.level ≡ 0
-  pub ranged : IsRanged formula first_row_id c.next first_row_id s.trail s.moment
+  pub ranged : IsRanged formula (first_row_id c.next) c.next (first_row_id c.next) s.trail s.moment
   pub next : c.next ≡ length (clauses_of formula.constraints) + 1
-  pub room : c.next < first_row_id
+  pub room : c.next ≤ highest_id
   pub sums : HasFreeSums (length engines) s.moment
   pub parities : AreListedFromOne s.moment.tables.parities engines
   pub clauses : AreListedFromOne s.moment.tables.clauses (clauses_of formula.constraints)
@@ -44,7 +45,7 @@ pub record TiesBut (formula : Problem) (engines : List (List Literal)) (c : Sear
   pub apart : (r q : ℕ) → IsLive c.arena r → IsLive c.arena q → id_at c.arena r ≡ id_at c.arena q → r ≡ q
   pub covered : (k : ℕ) → 1 ≤ k → k ≤ length (clauses_of formula.constraints) → IsHeld c.arena (held 0 s.trail) k (clause_number formula k) ⊎ IsWaiting waiting k
   pub singles : AllByRecursion (IsSingle formula) waiting
-  pub units : AreUnits s.moment.tables.clauses c.trail s.trail c.units.items
+  pub units : AreUnits s.moment.tables.clauses c.next c.trail s.trail c.units.items
   pub every : length c.units.items ≡ length c.trail.entries
   pub watched : IsWatched c.watches c.arena c.trail
   pub stand : AllStand c.order c.trail
@@ -57,7 +58,7 @@ pub record TiesBut (formula : Problem) (engines : List (List Literal)) (c : Sear
   pub no_learned : s.moment.learned ≡ []
   pub no_reduction : stretches s.moment ≡ 0
   pub no_level : s.quiet_levels ≡ 0
-  pub served : HasOnlyRowClauses s 0
+  pub served : HasOnlyRowClauses s (first_row_id c.next) 0
 
 -- some search of the calculus over these parities stands behind the code but for these unit clauses, and its events are the sink's where that tells them
 abbrev pub SearchStandsBut : Problem → List (List Literal) → SearchState → List Single → Option (List LogEvent) → Type 0

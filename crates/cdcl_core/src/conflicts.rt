@@ -4,13 +4,14 @@ ghost use Rattle.cx_base.specs.Integers.{integers_of};
 ghost use Rattle.parity_engine.specs.Written.{AreRising};
 ghost use Rattle.cdcl_search.specs.Finds.{PropagationFinds, IsClash};
 ghost use Rattle.cdcl_search.specs.Logs.{Stands};
-ghost use Rattle.cdcl_search.specs.Rows.{AreRowSteps, sum_and_clause_events};
+ghost use Rattle.cdcl_search.specs.Rows.{AreFew, AreRowSteps, sum_and_clause_events};
+ghost use Rattle.cdcl_search.specs.Tells.{IsId};
 ghost use Rattle.cdcl_search.specs.Ties.{first_row_id};
 ghost use Rattle.cdcl_search.specs.declared.propagation.Found.TheVariants.{Quiet};
 ghost use Rattle.cdcl_core.specs.Concluding.{ConcludesOn};
 
 use cdcl_search::logs::SearchLog;
-use cdcl_search::rows::{FIRST_ROW_ID, next_ids, sum_and_clause, tell_reason};
+use cdcl_search::rows::{first_id_of_rows, next_ids, sum_and_clause, tell_reason};
 use cdcl_search::source::stored;
 use cdcl_search::{Found, SearchState};
 use conflict_learn::CoreFault;
@@ -38,12 +39,18 @@ pub(crate) enum Conclusion {
 }
 
 /// The steps of a row: its sum and its clause.
-fn ending(alloc: Global, formula: &Formula, reason: ReasonOf) -> Result<Vec<LogStep>, AllocError>
-    requires constraints { length formula.now.constraints ≤ 4294967295 }
+fn ending(
+    alloc: Global,
+    formula: &Formula,
+    next: u64,
+    reason: ReasonOf,
+) -> Result<Vec<LogStep>, AllocError>
+    requires next { IsId next }
+    requires few { AreFew formula.now.constraints next [] }
     requires sources { (parities : ℕ) × (parities ≤ length formula.now.constraints) × AreRising 1 parities reason.sources }
-    ensures { IfOk result (λ s. AreRowSteps (sum_and_clause_events (length formula.now.constraints + 1) (integers_of reason.parity) reason.sources first_row_id (integers_of reason.clause)) reason.parity reason.clause s.items) }
+    ensures { IfOk result (λ s. AreRowSteps (sum_and_clause_events (length formula.now.constraints + 1) (integers_of reason.parity) reason.sources (first_row_id next) (integers_of reason.clause)) reason.parity reason.clause s.items) }
 {
-    let ids = next_ids(formula, &[]);
+    let ids = next_ids(formula, next, &[]);
     let ReasonOf {
         parity,
         sources,
@@ -65,14 +72,14 @@ fn row_conflict<P: ParityEngine, L: Sink<Item = LogEvent>>(
 {
     let reason = reason_clause(log.alloc, engine, row, None, &state.trail)?;
     if reason.clause.as_slice().is_empty() {
-        let steps = ending(log.alloc, log.formula, reason)?;
+        let steps = ending(log.alloc, log.formula, state.next, reason)?;
         return Ok(Conclusion::Ending(steps));
     }
     let mut rows = Vec::new(log.alloc);
     match tell_reason(log, state, engine, reason, &mut rows) {
         Ok(lits) => Ok(Conclusion::Clause(Conflict {
             lits,
-            id: FIRST_ROW_ID,
+            id: first_id_of_rows(state.next),
             rows,
         })),
         Err(fault) => Err(fault),

@@ -12,9 +12,9 @@ ghost use Rattle.conflict_learn.specs.Marks.{AreClear};
 ghost use Rattle.conflict_learn.specs.Touching.{AreTouched};
 ghost use Rattle.parity_engine.specs.State.{State};
 ghost use Rattle.cdcl_search.specs.Deleting.{deletions};
-ghost use Rattle.cdcl_search.specs.Tells.{IsId, AreStepsOf};
+ghost use Rattle.cdcl_search.specs.Tells.{IsId, AreIdsFrom, AreStepsOf};
 ghost use Rattle.cdcl_search.specs.Logs.{GoesOn, told_in};
-ghost use Rattle.cdcl_search.specs.Ties.{row_ids, HaveReasons};
+ghost use Rattle.cdcl_search.specs.Ties.{first_row_id, row_ids, HaveReasons};
 ghost use Rattle.cdcl_search.specs.Sources.{IsSourced, HasIds};
 ghost use Rattle.cdcl_core.specs.Concluding.{IsAtConflict, IsTold};
 ghost use Rattle.cdcl_core.specs.Learning.{Learns, IsLesson};
@@ -25,7 +25,7 @@ use cdcl_search::chains::push_hint;
 use cdcl_search::deleting::put_deletions;
 use cdcl_search::integers::integers;
 use cdcl_search::logs::SearchLog;
-use cdcl_search::rows::FIRST_ROW_ID;
+use cdcl_search::rows::first_id_of_rows;
 use cdcl_search::source::{Source, silent_id};
 use cdcl_search::steps::chained;
 use cdcl_search::telling::tell_round;
@@ -44,14 +44,14 @@ fn steps_of_learned(
     rows: usize,
 ) -> Result<Vec<LogStep>, AllocError>
     requires id { IsId id }
-    requires few { rows ≤ 16777216 }
-    ensures steps { IfOk result (λ s. AreStepsOf (event.Step (step.ClauseWithHints id (integers_of lits.now) hints) ∷ deletions (row_ids rows)) s.items) }
+    requires rows { AreIdsFrom (first_row_id id) rows }
+    ensures steps { IfOk result (λ s. AreStepsOf (event.Step (step.ClauseWithHints id (integers_of lits.now) hints) ∷ deletions (row_ids (first_row_id id) rows)) s.items) }
     ensures literals { IfOk result (λ s. literals (integers_of lits.now) ≡ lits.now) }
 {
     let clause = chained(id, integers(alloc, lits)?, hints);
     let mut steps = Vec::new(alloc);
     steps.push(clause)?;
-    put_deletions(alloc, &mut steps, rows)?;
+    put_deletions(alloc, &mut steps, first_id_of_rows(id), rows)?;
     Ok(steps)
 }
 
@@ -92,12 +92,13 @@ fn hints_of_lesson(
     conflict: u64,
 ) -> Result<IntList, AllocError>
     requires ids { HasIds state.now }
-    requires few { rows ≤ 16777216 }
+    requires rows { AreIdsFrom (first_row_id state.now.next) rows }
     requires conflict { IsId conflict }
     requires stand { (l : Literal) → IsTrue (has_literal resolved.now l) → IsTrueIn state.now.trail.entries l }
     requires reasons { (e : State) × HaveReasons state.now e }
 {
     let mut hints = Vec::with_capacity(alloc, resolved.len())?;
+    let first = first_id_of_rows(state.next);
     let mut behind = rows;
     let mut left = resolved.len();
     while left > 0 {
@@ -106,7 +107,7 @@ fn hints_of_lesson(
         if silent.is_none() {
             behind = behind.saturating_sub(1);
         }
-        push_hint(&mut hints, silent.unwrap_or(FIRST_ROW_ID + behind as u64))?;
+        push_hint(&mut hints, silent.unwrap_or(first + behind as u64))?;
     }
     push_hint(&mut hints, conflict)?;
     Ok(IntList::from_vec(hints))

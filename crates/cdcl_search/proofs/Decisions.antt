@@ -70,17 +70,17 @@ module _ (formula : Problem) (c : SearchState) (e : State) (s : Search) (ok : Is
           kept.0,
           record {
             log = record {
-              ranged = decision_ranged formula first_row_id c.next (first_row_id + 0) s t.log.ranged l;
+              ranged = decision_ranged formula (first_row_id c.next) c.next (first_row_id c.next + 0) s t.log.ranged l;
               sums = t.log.sums;
               numbered = t.log.numbered;
               rows_told = t.log.rows_told;
               few_rows = t.log.few_rows;
               none_at_0 = t.log.none_at_0;
-              served = served_alike s (decided_on s l) 0 refl t.log.served;
+              served = served_alike s (decided_on s l) (first_row_id c.next) 0 refl t.log.served;
             };
             clauses = clauses_grow formula s.moment.tables.clauses c.next c.arena s.trail (record { literal = l; level = suc (level_of s.trail); why = decided }) t.clauses;
             trail = record { follows = record { tied = kept.1; sound = sound }; variables = t.trail.variables; stand = stand_grows (record c { order = o }) (c.trail.level + 1) l reason.Decision o stand; phased = t.trail.phased };
-            units = units_grow (record c { order = o }) (c.trail.level + 1) l reason.Decision s.moment.tables.clauses s.trail (record { literal = l; level = suc (level_of s.trail); why = decided }) c.units.items t.units (λ _ i past less. above i past less);
+            units = units_grow (record c { order = o }) (c.trail.level + 1) l reason.Decision s.moment.tables.clauses c.next s.trail (record { literal = l; level = suc (level_of s.trail); why = decided }) c.units.items t.units (λ _ i past less. above i past less);
             engine = record { vars = t.engine.vars; wide = t.engine.wide; theirs = t.engine.theirs; few = t.engine.few; fed = fed_now };
             reasons = reasons_grow (record c { order = o }) (c.trail.level + 1) l reason.Decision (opened e)
                 (reasons_stay (record c { order = o }) e (opened e) (λ i row _ h. renamed_reason e (opened e) c.trail.entries i row h h.named h.is h.implied refl refl) t.reasons)

@@ -20,22 +20,22 @@ use Rattle.search_steps.specs.Ids.{IsRanged}
 use Rattle.search_steps.specs.Tied.{Mirrors}
 use Rattle.search_steps.proofs.Rounds.{deleted_keeps, temporary_still, deleted_trail, deleted_levels, deleted_conflicts, deleted_awaits, deleted_old_sums, deleted_new_sums, deleted_parities, deleted_old, deleted_get}
 use Rattle.search_steps.proofs.RowReasons.{all_deleted}
-use Rattle.search_steps.proofs.IdLaws.{row_ids_are_temporary, deletions_ranged, anew_ranged, low_is_no_row}
+use Rattle.search_steps.proofs.IdLaws.{row_ids_are_temporary, deletions_ranged, risen_ranged, low_is_no_row}
 use Rattle.std.specs.Prelude.{if◌then◌else◌}
 use Rattle.cdcl_search.specs.declared.state.SearchState.{SearchState}
 use Rattle.cdcl_search.specs.Deleting.{deletions}
 use Rattle.cdcl_search.specs.Tells.{as_events, with_events, IsTellable}
-use Rattle.cdcl_search.specs.Ties.{Ties, SearchStands, AreUnits, ClauseTies, TrailTies, EngineTies, IsWatched, IsFallingFrom, stretches, AreNumbered, first_row_id, row_ids}
+use Rattle.cdcl_search.specs.Ties.{Ties, TiesFrom, SearchStands, SearchStandsFrom, AreUnits, ClauseTies, TrailTies, EngineTies, IsWatched, IsFallingFrom, stretches, AreNumbered, first_row_id, row_ids}
 use Rattle.cdcl_search.proofs.RowSteps.{all_told_are}
 use Rattle.cdcl_search.proofs.TableLaws.{AnswersBelow, clauses_stay, units_stay}
 
 -- ---- the steps
 -- the newest of the rows that are left goes next
-pub one_deleted : (steps : List LogStep) (left : ℕ) (s : LogStep) (all : List LogEvent) → 0 < left → s ≡ Delete (first_row_id + (left - 1)) [] → as_events steps ++ deletions (row_ids left) ≡ all
-    → as_events (steps ++ s ∷ []) ++ deletions (row_ids (left - 1)) ≡ all
-one_deleted steps zero s all some is so_far = absurd (omega (arith, some))
-one_deleted steps (suc left) s all some is so_far = subst (λ k. as_events (steps ++ s ∷ []) ++ deletions (row_ids k) ≡ all) (sym one_less)
-    (ap (λ es. es ++ deletions (row_ids left)) (map_push Step steps s) ∙ append_assoc (as_events steps) (Step s ∷ []) (deletions (row_ids left)) ∙ ap (λ x. as_events steps ++ Step x ∷ deletions (row_ids left)) (is ∙ ap (λ k. Delete (first_row_id + k) []) one_less) ∙ so_far)
+pub one_deleted : (steps : List LogStep) (first left : ℕ) (s : LogStep) (all : List LogEvent) → 0 < left → s ≡ Delete (first + (left - 1)) [] → as_events steps ++ deletions (row_ids first left) ≡ all
+    → as_events (steps ++ s ∷ []) ++ deletions (row_ids first (left - 1)) ≡ all
+one_deleted steps first zero s all some is so_far = absurd (omega (arith, some))
+one_deleted steps first (suc left) s all some is so_far = subst (λ k. as_events (steps ++ s ∷ []) ++ deletions (row_ids first k) ≡ all) (sym one_less)
+    (ap (λ es. es ++ deletions (row_ids first left)) (map_push Step steps s) ∙ append_assoc (as_events steps) (Step s ∷ []) (deletions (row_ids first left)) ∙ ap (λ x. as_events steps ++ Step x ∷ deletions (row_ids first left)) (is ∙ ap (λ k. Delete (first + k) []) one_less) ∙ so_far)
   where
     one_less : suc left - 1 ≡ left
     one_less = omega arith
@@ -82,7 +82,7 @@ temporary_stretches formula s (n ∷ ids) t =
     ∙ ap (λ b. if b then m.reductions + 1 else m.reductions) (ap (λ b. m.reduces || (b && not (is_covered_without m.tables.clauses n (clause_at m.tables.clauses n)))) t.0.1 ∙ or_none m.reduces)
 
 -- ---- the ties
-module _ (formula : Problem) (c : SearchState) (e : State) (rows : List (List Literal)) (s : Search) (ok : IsSearch formula e.parities s) (t : Ties formula c e rows s) where
+module _ (formula : Problem) (c : SearchState) (e : State) (first : ℕ) (near : first ≤ first_row_id c.next) (rows : List (List Literal)) (s : Search) (ok : IsSearch formula e.parities s) (t : TiesFrom formula c e first rows s) where
   abbrev ids : List ℕ
   ids = s.moment.new_clauses
 
@@ -90,7 +90,7 @@ module _ (formula : Problem) (c : SearchState) (e : State) (rows : List (List Li
   after = deleted s s.moment.new_clauses
 
   temporary : AreTemporary formula s ids
-  temporary = row_ids_are_temporary formula first_row_id c.next (first_row_id + length rows) s t.log.ranged ids t.log.ranged.new_rows
+  temporary = row_ids_are_temporary formula first c.next (first + length rows) s t.log.ranged ids t.log.ranged.new_rows
 
   none_new : after.moment.new_clauses ≡ []
   none_new = deleted_new_clauses s ids ∙ all_deleted ids ids (λ m h. h)
@@ -98,12 +98,15 @@ module _ (formula : Problem) (c : SearchState) (e : State) (rows : List (List Li
   none_old : after.moment.old_clauses ≡ []
   none_old = deleted_old s ids ∙ ap (λ xs. fold without xs ids) t.log.served.old_clauses ∙ all_deleted ids [] (λ m h. absurd (true≢false (sym h)))
 
-  answers : AnswersBelow first_row_id s.moment.tables.clauses after.moment.tables.clauses
-  answers m low = deleted_get s ids m (low_is_no_row formula first_row_id c.next (first_row_id + length rows) s t.log.ranged m low)
+  answers : AnswersBelow first s.moment.tables.clauses after.moment.tables.clauses
+  answers m low = deleted_get s ids m (low_is_no_row formula first c.next (first + length rows) s t.log.ranged m low)
 
-  ranged_then : IsRanged formula first_row_id c.next (first_row_id + 0) after.trail after.moment
-  ranged_then = subst (λ r. IsRanged formula first_row_id c.next r after.trail after.moment) (let z : first_row_id ≡ first_row_id + 0 = omega arith in z)
-      (anew_ranged formula first_row_id c.next (first_row_id + length rows) after (deletions_ranged formula first_row_id c.next (first_row_id + length rows) s ids t.log.ranged) none_new none_old)
+  ranged_then : IsRanged formula (first_row_id c.next) c.next (first_row_id c.next + 0) after.trail after.moment
+  ranged_then = subst (λ r. IsRanged formula (first_row_id c.next) c.next r after.trail after.moment) (let z : first_row_id c.next ≡ first_row_id c.next + 0 = omega arith in z)
+      (risen_ranged formula first c.next (first + length rows) after (deletions_ranged formula first c.next (first + length rows) s ids t.log.ranged) (first_row_id c.next) near none_new none_old)
+
+  answers_below_next : AnswersBelow c.next s.moment.tables.clauses after.moment.tables.clauses
+  answers_below_next m low = answers m (let room = t.log.ranged.room in omega (arith, low, room))
 
   ties_then : Ties formula c e [] after
   ties_then = record {
@@ -113,7 +116,7 @@ module _ (formula : Problem) (c : SearchState) (e : State) (rows : List (List Li
       numbered = subst (λ table. AreNumbered table e.parities) (sym (deleted_parities s ids)) t.log.numbered;
       rows_told = λ i h. absurd (omega (arith, h));
       few_rows = omega arith;
-      none_at_0 = answers 0 (omega arith) ∙ t.log.none_at_0;
+      none_at_0 = answers_below_next 0 (let some = t.log.ranged.originals in omega (arith, some)) ∙ t.log.none_at_0;
       served = record {
         served = deleted_awaits s ids ∙ t.log.served.served;
         old_clauses = none_old;
@@ -122,9 +125,9 @@ module _ (formula : Problem) (c : SearchState) (e : State) (rows : List (List Li
         new_sums = deleted_new_sums s ids ∙ t.log.served.new_sums;
       };
     };
-    clauses = subst (λ es. ClauseTies formula after.moment.tables.clauses c.next c.arena (held 0 es)) (sym (deleted_trail s ids)) (clauses_stay formula s.moment.tables.clauses after.moment.tables.clauses c.next c.arena (held 0 s.trail) t.log.ranged.room answers t.clauses);
+    clauses = subst (λ es. ClauseTies formula after.moment.tables.clauses c.next c.arena (held 0 es)) (sym (deleted_trail s ids)) (clauses_stay formula s.moment.tables.clauses after.moment.tables.clauses c.next c.arena (held 0 s.trail) answers_below_next t.clauses);
     trail = subst (λ es. TrailTies formula es c.trail c.order c.phases.items) (sym (deleted_trail s ids)) t.trail;
-    units = subst (λ es. AreUnits after.moment.tables.clauses c.trail es c.units.items) (sym (deleted_trail s ids)) (units_stay s.moment.tables.clauses after.moment.tables.clauses c.trail s.trail c.units.items answers t.units);
+    units = subst (λ es. AreUnits after.moment.tables.clauses c.next c.trail es c.units.items) (sym (deleted_trail s ids)) (units_stay s.moment.tables.clauses after.moment.tables.clauses c.next c.trail s.trail c.units.items answers_below_next t.units);
     engine = subst (λ es. EngineTies formula es c.given e) (sym (deleted_trail s ids)) t.engine;
     reasons = t.reasons;
     counts = record {
@@ -148,7 +151,7 @@ module _ (formula : Problem) (c : SearchState) (e : State) (rows : List (List Li
 
 -- ---- what telling the deletions leaves
 -- the deletions of all clauses of rows leave the search standing
-pub rows_deleted : (formula : Problem) (c : SearchState) (e : State) (rows : List (List Literal)) (old : Option (List LogEvent)) → SearchStands formula c e rows old → (events : List LogEvent) → events ≡ deletions (row_ids (length rows))
+pub rows_deleted : (formula : Problem) (c : SearchState) (e : State) (rows : List (List Literal)) (old : Option (List LogEvent)) → SearchStandsFrom formula c e c.next rows old → (events : List LogEvent) → events ≡ deletions (row_ids c.next (length rows))
     → SearchStands formula c e [] (with_events events old)
 rows_deleted formula c e rows old st events are =
-    subst (SearchStands formula c e []) (sym (ap (λ es. with_events es old) (are ∙ ap deletions (sym st.3.log.served.new_clauses)))) (stands_then formula c e rows st.0 st.1 st.3 old st.2 st.4)
+    subst (SearchStands formula c e []) (sym (ap (λ es. with_events es old) (are ∙ ap deletions (sym st.3.log.served.new_clauses)))) (stands_then formula c e c.next (omega arith) rows st.0 st.1 st.3 old st.2 st.4)

@@ -15,7 +15,7 @@ use Rattle.search_steps.specs.Search.{Search}
 use Rattle.search_steps.specs.Engine.{HoldsValues}
 use Rattle.search_steps.specs.Laws.{HaveTheirs}
 use Rattle.cdcl_search.specs.declared.state.SearchState.{SearchState}
-use Rattle.cdcl_search.specs.Ties.{Ties, LogTies, IsRowReasonAt, HasReasonOf, HaveReasons, IsFed}
+use Rattle.cdcl_search.specs.Ties.{Ties, LogTies, IsRowReasonAt, HasReasonOf, HaveReasons, IsFed, first_row_id}
 
 -- a row that is named anew, with the same form and level, is the reason that it was
 pub renamed_reason : (e u : State) (entries : List TrailEntry) (i row : ℕ) (h : IsRowReasonAt e entries i row) (n : Named) → named_at u row ≡ Some n → n.in_conflict ≡ false → n.form ≡ h.named.form → n.level ≡ h.named.level → IsRowReasonAt u entries i row
@@ -53,7 +53,7 @@ fed_by es given e u values level f = record {
 pub other_engine : (formula : Problem) (c : SearchState) (rows : List (List Literal)) (s : Search) (e u : State) → u.vars ≡ e.vars → u.parities ≡ e.parities → u.values ≡ e.values → u.level ≡ e.level → HaveReasons c u
     → Ties formula c e rows s → Ties formula c u rows s
 other_engine formula c rows s e u vars parities values level reasons t = record {
-  log = subst (λ ps. LogTies formula ps c.next rows s) (sym parities) t.log;
+  log = subst (λ ps. LogTies formula ps c.next (first_row_id c.next) rows s) (sym parities) t.log;
   clauses = t.clauses;
   trail = t.trail;
   units = t.units;

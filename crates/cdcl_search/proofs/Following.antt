@@ -38,7 +38,7 @@ module _ (formula : Problem) (e : State) (told : Option (List LogEvent)) where
       let n = id_at c.arena f.clause in
       let kept = clause_step_keeps formula e.parities s ok c.trail t.trail.follows l why f.unassigned n stored.named.clause (omega (arith, levels)) stored.named.live
       (stored_forces (literals_at c.arena f.clause) stored.named.clause stored.named.same c.trail.entries l f.inside f.others) in
-      let ranged = force_ranged formula first_row_id c.next (first_row_id + 0) s t.log.ranged l n (let low = stored.low in let room = t.log.ranged.room in omega (arith, low, room)) in
+      let ranged = force_ranged formula (first_row_id c.next) c.next (first_row_id c.next + 0) s t.log.ranged l n (let low = stored.low in omega (arith, low)) in
       (forced_on s l (by_clause n), kept.0, told_is, forced_ties formula c e [] s t l why (by_clause n) ranged kept.1 sound has, watched_grows c c.trail.level l why (omega arith) w)
     where
       is_reason : IsClauseReasonOf c.arena (grown c c.trail.level l why) (length c.trail.entries) f.clause

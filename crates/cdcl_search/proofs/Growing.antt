@@ -107,9 +107,9 @@ module _ (c : SearchState) (level : ℕ) (l : Literal) (why : Reason) where
         at_places (λ i y. length c.units.items ≤ i → HasReasonOf c.arena grown e i y.reason) (λ _. last) (λ i shorter low. stays i shorter _ (h i low shorter)) i less low
 
   -- ---- units
-  pub units_grow : (table : Table) (es : List Entry) (y : Entry) (ids : List ℕ) → AreUnits table c.trail es ids
-      → (0 < level → (i : ℕ) → length ids ≤ i → i < length c.trail.entries → 0 < (entry_at c.trail.entries i).level) → AreUnits table (pushed c.trail level l why) (y ∷ es) ids
-  units_grow table es y ids u all = record {
+  pub units_grow : (table : Table) (next : ℕ) (es : List Entry) (y : Entry) (ids : List ℕ) → AreUnits table next c.trail es ids
+      → (0 < level → (i : ℕ) → length ids ≤ i → i < length c.trail.entries → 0 < (entry_at c.trail.entries i).level) → AreUnits table next (pushed c.trail level l why) (y ∷ es) ids
+  units_grow table next es y ids u all = record {
     few = let few = u.few in let long = length_push c.trail.entries (record { literal = l; level = level; reason = why }) in omega (arith, few, long);
     level_0 = λ i less. subst (λ x. x.level ≡ 0) (sym (at i (let few = u.few in omega (arith, less, few)))) (u.level_0 i less);
     named = λ i less. subst (λ x. IsNamedBy table (x.literal ∷ []) (get_or ids i 0)) (sym (at i (let few = u.few in omega (arith, less, few)))) (u.named i less);
@@ -134,13 +134,13 @@ module _ (c : SearchState) (level : ℕ) (l : Literal) (why : Reason) where
 -- ---- a literal that is forced
 module _ (formula : Problem) (c : SearchState) (e : State) (rows : List (List Literal)) (s : Search) (t : Ties formula c e rows s) (l : Literal) (cause : Reason) (why : Why) where
   -- the ties stay, with the reason that the literal was put on the trail for
-  pub forced_ties : IsRanged formula first_row_id c.next (first_row_id + length rows) (forced_on s l why).trail (forced_on s l why).moment → IsTied (forced_on s l why).trail (pushed c.trail c.trail.level l cause).entries
+  pub forced_ties : IsRanged formula (first_row_id c.next) c.next (first_row_id c.next + length rows) (forced_on s l why).trail (forced_on s l why).moment → IsTied (forced_on s l why).trail (pushed c.trail c.trail.level l cause).entries
       → IsTrail (pushed c.trail c.trail.level l cause) → HasReasonOf c.arena (grown c c.trail.level l cause) e (length c.trail.entries) cause → Ties formula (put c c.trail.level l cause) e rows (forced_on s l why)
   forced_ties ranged tied sound has = record {
-    log = record { ranged = ranged; sums = t.log.sums; numbered = t.log.numbered; rows_told = t.log.rows_told; few_rows = t.log.few_rows; none_at_0 = t.log.none_at_0; served = served_alike s (forced_on s l why) (length rows) refl t.log.served };
+    log = record { ranged = ranged; sums = t.log.sums; numbered = t.log.numbered; rows_told = t.log.rows_told; few_rows = t.log.few_rows; none_at_0 = t.log.none_at_0; served = served_alike s (forced_on s l why) (first_row_id c.next) (length rows) refl t.log.served };
     clauses = clauses_grow formula s.moment.tables.clauses c.next c.arena s.trail (record { literal = l; level = level_of s.trail; why = why }) t.clauses;
     trail = record { follows = record { tied = tied; sound = sound }; variables = t.trail.variables; stand = stand_grows c c.trail.level l cause c.order t.trail.stand; phased = t.trail.phased };
-    units = units_grow c c.trail.level l cause s.moment.tables.clauses s.trail (record { literal = l; level = level_of s.trail; why = why }) c.units.items t.units t.units.all;
+    units = units_grow c c.trail.level l cause s.moment.tables.clauses c.next s.trail (record { literal = l; level = level_of s.trail; why = why }) c.units.items t.units t.units.all;
     engine = record { vars = t.engine.vars; wide = t.engine.wide; theirs = t.engine.theirs; few = t.engine.few; fed = fed_grows s.trail (record { literal = l; level = level_of s.trail; why = why }) c.given e t.engine.fed refl };
     reasons = reasons_grow c c.trail.level l cause e t.reasons has;
     counts = record { marked = t.counts.marked; falling = t.counts.falling; many = t.counts.many; few = t.counts.few };

@@ -202,7 +202,7 @@ module _ (formula : Problem) (c : SearchState) (e : State) (rows : List (List Li
           let kept = row_step_keeps formula e.parities s ok c.trail t.trail.follows l (reason.Row row) (implied_is_open all l implied.unassigned) (clause_of e l) (omega (arith, levels)) of_theirs (forces_on l) in (
             kept.0,
             forced_ties formula c (names e row n mood) rows s (names_tied (λ _ _ _. now.kind_is)) l (reason.Row row) (by_row (clause_of e l))
-                (row_ranged formula first_row_id c.next (first_row_id + length rows) s t.log.ranged l (clause_of e l)) kept.1 sound is_reason,
+                (row_ranged formula (first_row_id c.next) c.next (first_row_id c.next + length rows) s t.log.ranged l (clause_of e l)) kept.1 sound is_reason,
           )
 
 -- ---- the events, for the search behind the code

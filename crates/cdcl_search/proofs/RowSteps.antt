@@ -117,7 +117,7 @@ module _ (formula : Problem) (c : SearchState) (e : State) (rows : List (List Li
   k = length formula.constraints + 1
 
   abbrev n : ℕ
-  n = first_row_id + length rows
+  n = first_row_id c.next + length rows
 
   abbrev rs : List ℤ
   rs = integers_of r.parity
@@ -159,7 +159,7 @@ module _ (formula : Problem) (c : SearchState) (e : State) (rows : List (List Li
   pub clause_added : IsAddition formula s.moment.tables.clauses n zs
   clause_added = record {
     within = variables_are_within formula.variables r.clause clause_within;
-    free = row_next_is_free formula first_row_id c.next (first_row_id + length rows) s t.log.ranged (omega arith);
+    free = row_next_is_free formula (first_row_id c.next) c.next (first_row_id c.next + length rows) s t.log.ranged (omega arith);
   }
 
   pub clause_is : IsClauseOfRow formula.variables (literals rs) (literals zs)
@@ -191,25 +191,25 @@ module _ (formula : Problem) (c : SearchState) (e : State) (rows : List (List Li
         let other : m ≢ k = λ same. omega (arith, same, few, above) in
         drop_other (map_.insert s.moment.tables.parities k (literals rs)) k m other ∙ put_other s.moment.tables.parities k m (literals rs) other ∙ t.log.numbered m low few
 
-    rows_more : AreRows (all_told s steps).moment.tables.clauses (rows ++ r.clause ∷ [])
+    rows_more : AreRows (all_told s steps).moment.tables.clauses (first_row_id c.next) (rows ++ r.clause ∷ [])
     rows_more i less = elim (Rattle.std.proofs.lemmas.Bool.cases_lt i (length rows)) [
       | inl old ↦
-          put_other s.moment.tables.clauses n (first_row_id + i) (literals zs) (λ same. omega (arith, same, old)) ∙ t.log.rows_told i old ∙ ap Some (sym (get_or-append rows (r.clause ∷ []) [] i old))
+          put_other s.moment.tables.clauses n (first_row_id c.next + i) (literals zs) (λ same. omega (arith, same, old)) ∙ t.log.rows_told i old ∙ ap Some (sym (get_or-append rows (r.clause ∷ []) [] i old))
       | inr new ↦
           let long = length-append rows (r.clause ∷ []) in
           let last : i ≡ length rows = omega (arith, long, less, new) in
-          ap (λ j. get (map_.insert s.moment.tables.clauses n (literals zs)) (first_row_id + j)) last ∙ put_same s.moment.tables.clauses n (literals zs) ∙ ap Some (back_clause ∙ sym (get_or-append_seam rows r.clause [] []))
+          ap (λ j. get (map_.insert s.moment.tables.clauses n (literals zs)) (first_row_id c.next + j)) last ∙ put_same s.moment.tables.clauses n (literals zs) ∙ ap Some (back_clause ∙ sym (get_or-append_seam rows r.clause [] []))
           ∙ ap (λ j. Some (get_or (rows ++ r.clause ∷ []) j [])) (sym last)
     ]
 
     one_longer : length (rows ++ r.clause ∷ []) ≡ suc (length rows)
     one_longer = let long = length-append rows (r.clause ∷ []) in omega (arith, long)
 
-    served_still : HasOnlyRowClauses (all_told s steps) (length (rows ++ r.clause ∷ []))
+    served_still : HasOnlyRowClauses (all_told s steps) (first_row_id c.next) (length (rows ++ r.clause ∷ []))
     served_still = record {
       served = t.log.served.served;
       old_clauses = t.log.served.old_clauses;
-      new_clauses = ap (λ ids. n ∷ ids) t.log.served.new_clauses ∙ ap row_ids (sym one_longer);
+      new_clauses = ap (λ ids. n ∷ ids) t.log.served.new_clauses ∙ ap (row_ids (first_row_id c.next)) (sym one_longer);
       old_sums = row_reason_old_sums formula theirs s k rs r.sources n zs reason_is t.log.served.old_sums;
       new_sums = row_reason_sums formula theirs s k rs r.sources n zs reason_is t.log.served.new_sums;
     }
@@ -217,8 +217,8 @@ module _ (formula : Problem) (c : SearchState) (e : State) (rows : List (List Li
     ties_still : Ties formula c e (rows ++ r.clause ∷ []) (all_told s steps)
     ties_still = record {
       log = record {
-        ranged = subst (λ m. Rattle.search_steps.specs.Ids.IsRanged formula first_row_id c.next m s.trail (all_told s steps).moment) (let long = one_longer in omega (arith, long))
-            (row_reason_ranged formula first_row_id c.next (first_row_id + length rows) s k rs r.sources n zs (omega arith) (omega arith) t.log.ranged);
+        ranged = subst (λ m. Rattle.search_steps.specs.Ids.IsRanged formula (first_row_id c.next) c.next m s.trail (all_told s steps).moment) (let long = one_longer in omega (arith, long))
+            (row_reason_ranged formula (first_row_id c.next) c.next (first_row_id c.next + length rows) s k rs r.sources n zs (omega arith) (omega arith) t.log.ranged);
         sums = row_reason_frees_sum (length theirs) s k rs r.sources n zs t.log.sums;
         numbered = numbered_still;
         rows_told = rows_more;
@@ -226,9 +226,9 @@ module _ (formula : Problem) (c : SearchState) (e : State) (rows : List (List Li
         none_at_0 = put_other s.moment.tables.clauses n 0 (literals zs) (λ same. omega (arith, same)) ∙ t.log.none_at_0;
         served = served_still;
       };
-      clauses = clauses_stay formula s.moment.tables.clauses (all_told s steps).moment.tables.clauses c.next c.arena (held 0 s.trail) t.log.ranged.room (put_answers_below first_row_id n s.moment.tables.clauses (literals zs) (omega arith)) t.clauses;
+      clauses = clauses_stay formula s.moment.tables.clauses (all_told s steps).moment.tables.clauses c.next c.arena (held 0 s.trail) (put_answers_below c.next n s.moment.tables.clauses (literals zs) (omega arith)) t.clauses;
       trail = t.trail;
-      units = units_stay s.moment.tables.clauses (all_told s steps).moment.tables.clauses c.trail s.trail c.units.items (put_answers_below first_row_id n s.moment.tables.clauses (literals zs) (omega arith)) t.units;
+      units = units_stay s.moment.tables.clauses (all_told s steps).moment.tables.clauses c.next c.trail s.trail c.units.items (put_answers_below c.next n s.moment.tables.clauses (literals zs) (omega arith)) t.units;
       engine = t.engine;
       reasons = t.reasons;
       counts = record { marked = t.counts.marked; falling = t.counts.falling; many = t.counts.many; few = t.counts.few };
@@ -259,9 +259,9 @@ module _ (formula : Problem) (c : SearchState) (e : State) (rows : List (List Li
   left_now = is_left formula e.parities st.0 old st.1 st.3.log.served.served st.2
 
   module _ (r : ReasonOf) (x : Explains e.parities c.trail r) (back_parity : literals (integers_of r.parity) ≡ r.parity) (back_clause : literals (integers_of r.clause) ≡ r.clause) (some : r.clause ≢ []) (room : length rows ≤ formula.variables)
-      (events : List LogEvent) (seen : List (List Literal)) (same : seen ≡ rows) (are_ : events ≡ row_events (length formula.constraints + 1) (integers_of r.parity) r.sources (first_row_id + length seen) (integers_of r.clause)) where
-    are : events ≡ row_events (length formula.constraints + 1) (integers_of r.parity) r.sources (first_row_id + length rows) (integers_of r.clause)
-    are = subst (λ xs. events ≡ row_events (length formula.constraints + 1) (integers_of r.parity) r.sources (first_row_id + length xs) (integers_of r.clause)) same are_
+      (events : List LogEvent) (seen : List (List Literal)) (same : seen ≡ rows) (are_ : events ≡ row_events (length formula.constraints + 1) (integers_of r.parity) r.sources (first_row_id c.next + length seen) (integers_of r.clause)) where
+    are : events ≡ row_events (length formula.constraints + 1) (integers_of r.parity) r.sources (first_row_id c.next + length rows) (integers_of r.clause)
+    are = subst (λ xs. events ≡ row_events (length formula.constraints + 1) (integers_of r.parity) r.sources (first_row_id c.next + length xs) (integers_of r.clause)) same are_
 
     pub stands_then : (new : Option (List LogEvent)) → new ≡ with_events events old → SearchStands formula c e (rows ++ r.clause ∷ []) new
     stands_then new is = subst (SearchStands formula c e (rows ++ r.clause ∷ [])) (sym (is ∙ ap (λ es. with_events es old) are))

@@ -1,5 +1,5 @@
 -- Where propagation comes to quiet, the clauses and the parities of the search are quiet.
-use Rattle.std.proofs.Common.{ℕ, Bool, ◌||◌, ap, ◌≡◌, sym, ◌∙◌, subst, nat_lt, true, false, List, [], ◌∷◌, Option, Some, None, refl, inl, inr}
+use Rattle.std.proofs.Common.{ℕ, ◌≤◌, Bool, ◌||◌, ap, ◌≡◌, sym, ◌∙◌, subst, nat_lt, true, false, List, [], ◌∷◌, Option, Some, None, refl, inl, inr}
 use Rattle.std.proofs.lemmas.Bool.{ltb-true, ltb-false}
 use Rattle.std.specs.List.{list_any}
 use Rattle.cx_base.specs.Literals.{Literal, negate}
@@ -58,12 +58,17 @@ module _ (formula : Problem) (c : SearchState) (e : State) (s : Search) (ok : Is
   held_rests quiet n clause is (inr (inr h)) = true_rests (all_held s.trail) clause clash
       (record { l = h.l; has_it = h.has_it; is_held = has_by_inside (held 0 s.trail) (all_held s.trail) h.l (held_inside 0 s.trail) h.is_held })
 
-  -- with no clause of a row told since the last mark, the ids of those are free
+  -- with no clause of a row told since the last mark, the ids from the next one on are free
+  free_from_next : (n : ℕ) → c.next ≤ n → get s.moment.tables.clauses n ≡ None
+  free_from_next n high = by_cases (nat_lt n (first_row_id c.next))
+      (λ q. t.log.ranged.free n high (ltb-true n (first_row_id c.next) q))
+      (λ q. t.log.ranged.rows_free n (ltb-false n (first_row_id c.next) q)
+      (subst (λ ids. is_among ids n ≡ false) (sym t.log.served.new_clauses) refl) (subst (λ ids. is_among ids n ≡ false) (sym t.log.served.old_clauses) refl))
+
   pub clauses_quiet : Happens c.watches.attached c.arena c.trail event.Quiet → ClausesQuiet s.moment.tables.clauses (all_held s.trail)
-  clauses_quiet quiet clause (n, live) = by_cases (nat_lt n first_row_id)
-      (λ low. held_rests quiet n clause live (t.clauses.covered n clause (ltb-true n first_row_id low) live))
-      (λ high. absurd (some_not_none clause (sym live ∙ t.log.ranged.rows_free n (ltb-false n first_row_id high)
-      (subst (λ ids. is_among ids n ≡ false) (sym t.log.served.new_clauses) refl) (subst (λ ids. is_among ids n ≡ false) (sym t.log.served.old_clauses) refl))))
+  clauses_quiet quiet clause (n, live) = by_cases (nat_lt n c.next)
+      (λ low. held_rests quiet n clause live (t.clauses.covered n clause (ltb-true n c.next low) live))
+      (λ high. absurd (some_not_none clause (sym live ∙ free_from_next n (ltb-false n c.next high))))
 
   pub rows_quiet : HasAll c → IsSilent e → ParitiesQuiet formula.variables e.parities (all_held s.trail)
   rows_quiet all silent =

@@ -87,7 +87,7 @@ sourced_is_live formula c e rows s t clause (inr (inl (i, less, is))) =
     let named = t.units.named i less in
     subst (IsLiveSet s.moment.tables.clauses) (sym is) (named.clause, (_, named.live), named.same)
 sourced_is_live formula c e rows s t clause (inr (inr h)) =
-    live_is_live_set s.moment.tables.clauses clause (first_row_id + h.0, t.log.rows_told h.0 h.1 ∙ ap Some (row_at rows clause h))
+    live_is_live_set s.moment.tables.clauses clause (first_row_id c.next + h.0, t.log.rows_told h.0 h.1 ∙ ap Some (row_at rows clause h))
 
 -- ---- rows that grew by one, or are as before
 module _ {T : Type 0} (c : SearchState) (old new : List (List Literal)) (lits : T → List Literal) where

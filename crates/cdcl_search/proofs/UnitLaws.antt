@@ -23,7 +23,7 @@ use Rattle.search_steps.specs.Tied.{IsLiveSet, ForcesOn}
 use Rattle.search_steps.proofs.StartLaws.{literals_are}
 use Rattle.cdcl_search.specs.declared.state.SearchState.{SearchState}
 use Rattle.cdcl_search.specs.Tells.{IsLeft, with_events}
-use Rattle.cdcl_search.specs.Ties.{SearchStands, first_row_id}
+use Rattle.cdcl_search.specs.Ties.{SearchStands, SearchStandsFrom}
 use Rattle.cdcl_search.specs.Units.{IsNextUnit, HasOther}
 use Rattle.cdcl_search.proofs.RowReasons.{entry_taken}
 use Rattle.cdcl_search.proofs.RowSteps.{is_left}
@@ -78,7 +78,7 @@ module _ (t : TrailState) (sound : IsTrail t) where
 
 -- ---- the unit clause is told
 module _ (formula : Problem) (c : SearchState) (e : State) (rows : List (List Literal)) (old : Option (List LogEvent)) (st : SearchStands formula c e rows old) where
-  module _ (level : c.trail.level ≡ 0) (l : Literal) (lits : List Literal) (is_next : IsNextUnit c rows l lits) (room : c.next < first_row_id) (hints : List ℤ) where
+  module _ (level : c.trail.level ≡ 0) (l : Literal) (lits : List Literal) (is_next : IsNextUnit c rows l lits) (hints : List ℤ) where
     abbrev step : LogStep
     step = ClauseWithHints c.next (integers_of (l ∷ [])) hints
 
@@ -95,7 +95,7 @@ module _ (formula : Problem) (c : SearchState) (e : State) (rows : List (List Li
     after = after_unit formula c e rows st.0 st.1 st.3 l is_next.next.0 is_next.next.1 hints
 
     is_search : IsSearch formula e.parities after
-    is_search = unit_is_search formula c e rows st.0 st.1 st.3 l is_next.next.0 is_next.next.1 level live.0 live.1 forces room back hints
+    is_search = unit_is_search formula c e rows st.0 st.1 st.3 l is_next.next.0 is_next.next.1 level live.0 live.1 forces back hints
 
     told_then : (o : Option (List LogEvent)) → AreTold o st.0.events → AreTold (with_events (Step step ∷ []) o) after.events
     told_then None a = tt
@@ -104,12 +104,12 @@ module _ (formula : Problem) (c : SearchState) (e : State) (rows : List (List Li
     pub left_then : IsLeft formula (with_events (Step step ∷ []) old)
     left_then = is_left formula e.parities after (with_events (Step step ∷ []) old) is_search refl (told_then old st.2)
 
-    pub stands_then : (new : Option (List LogEvent)) → new ≡ with_events (Step step ∷ []) old → (units : Vec ℕ) → units.items ≡ c.units.items ++ c.next ∷ [] → (next : ℕ) → next ≡ c.next + 1 → SearchStands formula (with_unit c units next) e rows new
+    pub stands_then : (new : Option (List LogEvent)) → new ≡ with_events (Step step ∷ []) old → (units : Vec ℕ) → units.items ≡ c.units.items ++ c.next ∷ [] → (next : ℕ) → next ≡ c.next + 1 → SearchStandsFrom formula (with_unit c units next) e next rows new
     stands_then new same units grown next next_is = (
       after,
       is_search,
       subst (λ o. AreTold o after.events) (sym same) (told_then old st.2),
-      unit_ties formula c e rows st.0 st.1 st.3 l is_next.next.0 is_next.next.1 level live.0 live.1 forces room back hints units grown next next_is,
+      unit_ties formula c e rows st.0 st.1 st.3 l is_next.next.0 is_next.next.1 level live.0 live.1 forces back hints units grown next next_is,
       st.4,
     )
 

@@ -38,7 +38,7 @@ use Rattle.search_steps.proofs.StartLaws.{variables_are_within}
 use Rattle.search_steps.proofs.UnitLaws.{held_same, level_same}
 use Rattle.search_steps.proofs.UnitSteps.{unit_rests_keeps}
 use Rattle.cdcl_search.specs.declared.state.SearchState.{SearchState}
-use Rattle.cdcl_search.specs.Ties.{Ties, IsNamedBy, IsHeld, ClauseTies, AreUnits, RestOnUnits, IsFallingFrom, IsFed, HaveReasons, first_row_id}
+use Rattle.cdcl_search.specs.Ties.{Ties, TiesFrom, IsNamedBy, IsHeld, ClauseTies, AreRows, AreUnits, RestOnUnits, IsFallingFrom, IsFed, HaveReasons, first_row_id, row_ids}
 use Rattle.cdcl_search.proofs.Places.{tied_length, older_level}
 use Rattle.cdcl_search.proofs.TableLaws.{put_same, put_other, no_clause}
 
@@ -139,8 +139,8 @@ pub record IsNext (es : List Entry) (ids : List ℕ) (few : ℕ) : Type 0 where
   pub count : length older ≡ few
   pub rest : RestOnUnits ids older
 
-pub next_of : (table : Table) (t : TrailState) (es : List Entry) (ids : List ℕ) → AreUnits table t es ids → length ids < length es → IsNext es ids (length ids)
-next_of table t es ids u more =
+pub next_of : (table : Table) (next : ℕ) (t : TrailState) (es : List Entry) (ids : List ℕ) → AreUnits table next t es ids → length ids < length es → IsNext es ids (length ids)
+next_of table next t es ids u more =
     let long = ap length u.parts in
     let both = length-append u.newer u.older in
     let count = u.count in
@@ -169,7 +169,7 @@ held_still arena n es now clause same h = subst (λ ls. IsHeld arena ls n clause
 module _ (formula : Problem) (c : SearchState) (e : State) (rows : List (List Literal)) (s : Search) (ok : IsSearch formula e.parities s) (t : Ties formula c e rows s)
     (l : Literal) (more : length c.units.items < length c.trail.entries) (here : (entry_at c.trail.entries (length c.units.items)).literal ≡ l) where
   abbrev pub next_in : IsNext s.trail c.units.items (length c.units.items)
-  next_in = next_of s.moment.tables.clauses c.trail s.trail c.units.items t.units (let long = tied_length s.trail c.trail.entries t.trail.follows.tied in omega (arith, long, more))
+  next_in = next_of s.moment.tables.clauses c.next c.trail s.trail c.units.items t.units (let long = tied_length s.trail c.trail.entries t.trail.follows.tied in omega (arith, long, more))
 
   pub l_within : AreWithin formula.variables (l ∷ [])
   l_within =
@@ -185,7 +185,7 @@ module _ (formula : Problem) (c : SearchState) (e : State) (rows : List (List Li
 module _ (formula : Problem) (c : SearchState) (e : State) (rows : List (List Literal)) (s : Search) (ok : IsSearch formula e.parities s) (t : Ties formula c e rows s)
     (l : Literal) (more : length c.units.items < length c.trail.entries) (here : (entry_at c.trail.entries (length c.units.items)).literal ≡ l) (level : c.trail.level ≡ 0)
     (clause : List Literal) (live : IsLive s.moment.tables.clauses clause) (forces : ForcesOn (take (length c.units.items) c.trail.entries) clause l)
-    (room : c.next < first_row_id) (back : literals (integers_of (l ∷ [])) ≡ l ∷ []) (hints : List ℤ) where
+    (back : literals (integers_of (l ∷ [])) ≡ l ∷ []) (hints : List ℤ) where
   abbrev n : ℕ
   n = c.next
 
@@ -218,7 +218,7 @@ module _ (formula : Problem) (c : SearchState) (e : State) (rows : List (List Li
   older_tied = subst (λ k. IsTied p.older (take k c.trail.entries)) p.count (tied_front (p.newer ++ p.entry ∷ []) p.older c.trail.entries (subst (λ es. IsTied es c.trail.entries) (sym (append_assoc p.newer (p.entry ∷ []) p.older)) tied))
 
   addition : IsAddition formula s.moment.tables.clauses n (z ∷ [])
-  addition = record { within = variables_are_within formula.variables (l ∷ []) (l_within formula c e rows s ok t l more here); free = next_is_free formula first_row_id c.next (first_row_id + length rows) s t.log.ranged room }
+  addition = record { within = variables_are_within formula.variables (l ∷ []) (l_within formula c e rows s ok t l more here); free = next_is_free formula (first_row_id c.next) c.next (first_row_id c.next + length rows) s t.log.ranged (omega arith) }
 
   pub unit_is_search : IsSearch formula e.parities after
   unit_is_search = unit_rests_keeps formula e.parities s ok n z hints p.newer p.older p.entry p.parts level_is (integer_is ∙ sym literal_is) addition refl t.log.served.served (on_clauses c.units.items p.older p.rest) clause live
@@ -251,14 +251,14 @@ module _ (formula : Problem) (c : SearchState) (e : State) (rows : List (List Li
     abbrev d : SearchState
     d = record c { units = units; next = next }
 
-    covered_then : (m : ℕ) (x : List Literal) → m < first_row_id → get table m ≡ Some x → IsHeld c.arena (held 0 after.trail) m x
+    covered_then : (m : ℕ) (x : List Literal) → m < next → get table m ≡ Some x → IsHeld c.arena (held 0 after.trail) m x
     covered_then m x low is = by_cases (nat_eq m n)
         (λ q. inr (inr (record {
           l = l;
           has_it = ap (λ ls. has_literal ls l) (one_of (sym is ∙ ap (get table) (Rattle.std.proofs.Common.eqb-true m n q) ∙ put_here)) ∙ has_at_head l [];
           is_held = held_now;
         })))
-        (λ q. held_still c.arena m s.trail after.trail x (still 0) (t.clauses.covered m x low (sym (put_other s.moment.tables.clauses n m (literal z ∷ []) (eqb-false m n q)) ∙ is)))
+        (λ q. held_still c.arena m s.trail after.trail x (still 0) (t.clauses.covered m x (let apart = eqb-false m n q in omega (arith, low, next_is, apart)) (sym (put_other s.moment.tables.clauses n m (literal z ∷ []) (eqb-false m n q)) ∙ is)))
       where
         one_of : Some x ≡ Some (l ∷ []) → x ≡ l ∷ []
         one_of q = cc
@@ -283,7 +283,7 @@ module _ (formula : Problem) (c : SearchState) (e : State) (rows : List (List Li
         let last : i ≡ length c.units.items = omega (arith, far, less, long) in
         inr (last, ap (λ xs. get_or xs i 0) grown ∙ ap (λ j. get_or (c.units.items ++ c.next ∷ []) j 0) last ∙ get_or-append_seam c.units.items c.next [] 0))
 
-    units_then : AreUnits table c.trail after.trail units.items
+    units_then : AreUnits table next c.trail after.trail units.items
     units_then = record {
       few = let long = longer in omega (arith, long, more);
       level_0 = λ i less. elim (id_at i less) [ inl (low, is) ↦ t.units.level_0 i low | inr (last, is) ↦ let at = t.trail.follows.sound.levels i (omega (arith, last, more)) in omega (arith, at, level) ];
@@ -292,7 +292,7 @@ module _ (formula : Problem) (c : SearchState) (e : State) (rows : List (List Li
         | inr (last, is) ↦ subst (IsNamedBy table ((entry_at c.trail.entries i).literal ∷ [])) (sym is)
             (subst (λ m. IsNamedBy table (m ∷ []) n) (sym (ap (λ j. (entry_at c.trail.entries j).literal) last ∙ here)) (record { clause = l ∷ []; live = put_here; same = same_one }))
       ];
-      low = λ i less. elim (id_at i less) [ inl (low, is) ↦ let small = t.units.low i low in omega (arith, small, is) | inr (last, is) ↦ omega (arith, room, is) ];
+      low = λ i less. elim (id_at i less) [ inl (low, is) ↦ let small = t.units.low i low in omega (arith, small, is, next_is) | inr (last, is) ↦ omega (arith, is, next_is) ];
       newer = p.newer;
       older = rests_on p.entry c.next ∷ p.older;
       parts = refl;
@@ -317,24 +317,28 @@ module _ (formula : Problem) (c : SearchState) (e : State) (rows : List (List Li
     reasons_then : HaveReasons d e
     reasons_then i far less = let long = longer in t.reasons i (omega (arith, far, long)) less
 
-    ranged_then : IsRanged formula first_row_id next (first_row_id + length rows) after.trail after.moment
-    ranged_then = subst (λ k. IsRanged formula first_row_id k (first_row_id + length rows) after.trail after.moment) (sym next_is)
-        (rest_ranged formula first_row_id (c.next + 1) (first_row_id + length rows) (told s (Step (ClauseWithHints c.next (integer_of l ∷ []) hints)))
-        (clause_ranged formula first_row_id c.next (first_row_id + length rows) s t.log.ranged c.next (integer_of l ∷ []) hints (omega arith) room) c.next p.newer p.older p.entry p.parts room)
+    ranged_then : IsRanged formula next next (next + length rows) after.trail after.moment
+    ranged_then = subst (λ k. IsRanged formula k k (k + length rows) after.trail after.moment) (sym next_is)
+        (rest_ranged formula (first_row_id c.next) (c.next + 1) (first_row_id c.next + length rows) (told s (Step (ClauseWithHints c.next (integer_of l ∷ []) hints)))
+        (clause_ranged formula (first_row_id c.next) c.next (first_row_id c.next + length rows) s t.log.ranged c.next (integer_of l ∷ []) hints (omega arith) (omega arith)) c.next p.newer p.older p.entry p.parts (omega arith))
 
     learned_still : after.moment.learned ≡ s.moment.learned
     learned_still = ap (λ b. if b then c.next ∷ s.moment.learned else s.moment.learned) t.log.served.served
 
-    pub unit_ties : Ties formula d e rows after
+    rows_still : AreRows table next rows
+    rows_still i less = put_other s.moment.tables.clauses c.next (next + i) (literal (integer_of l) ∷ []) (λ same. omega (arith, same, next_is)) ∙ ap (λ k. get s.moment.tables.clauses (k + i)) next_is ∙ t.log.rows_told i less
+
+    -- the ids of the clauses of rows begin at the next one now
+    pub unit_ties : TiesFrom formula d e next rows after
     unit_ties = record {
       log = record {
         ranged = ranged_then;
         sums = t.log.sums;
         numbered = t.log.numbered;
-        rows_told = λ i less. put_other s.moment.tables.clauses c.next (first_row_id + i) (literal (integer_of l) ∷ []) (λ same. omega (arith, same, room)) ∙ t.log.rows_told i less;
+        rows_told = rows_still;
         few_rows = t.log.few_rows;
         none_at_0 = put_other s.moment.tables.clauses c.next 0 (literal (integer_of l) ∷ []) (λ same. let some = t.log.ranged.originals in omega (arith, same, some)) ∙ t.log.none_at_0;
-        served = record { served = refl; old_clauses = t.log.served.old_clauses; new_clauses = t.log.served.new_clauses; old_sums = t.log.served.old_sums; new_sums = t.log.served.new_sums };
+        served = record { served = refl; old_clauses = t.log.served.old_clauses; new_clauses = t.log.served.new_clauses ∙ ap (λ k. row_ids k (length rows)) (sym next_is); old_sums = t.log.served.old_sums; new_sums = t.log.served.new_sums };
       };
       clauses = clauses_then;
       trail = record { follows = record { tied = tied_rests p.newer p.older p.entry c.next c.trail.entries tied; sound = t.trail.follows.sound }; variables = t.trail.variables; stand = t.trail.stand; phased = t.trail.phased };

@@ -14,7 +14,7 @@ use Rattle.cdcl_search.specs.declared.logs.SearchLog.{SearchLog}
 use Rattle.cdcl_search.specs.Finds.{PropagationFinds}
 use Rattle.cdcl_search.specs.Searching.{HasUnits}
 use Rattle.cdcl_search.specs.declared.propagation.Found.TheVariants as found
-use Rattle.cdcl_search.specs.Logs.{GoesOn, AreToldNow, Stands}
+use Rattle.cdcl_search.specs.Logs.{GoesOn, AreToldNow, Stands, StandsBeforeDeletion}
 use Rattle.cdcl_search.specs.Tells.{TellsAll, FaultsAs}
 use Rattle.cdcl_search.specs.Ties.{SearchStands}
 
@@ -39,6 +39,11 @@ pub record IsReady {P L : Type 0} (p : engine.Ghosts P) (m : sink.Ghosts L LogEv
 -- Up to an answer the search stands again, with these clauses of rows; the log goes on.
 pub record StandsOn {P L T : Type 0} (p : engine.Ghosts P) (m : sink.Ghosts L LogEvent) (old new : SearchLog L) (now : SearchState) (e : P) (rows : List (List Literal)) (result : Result T CoreFault) : Type 0 where
   pub stands : OnOk result (Stands p m new now e rows)
+  pub log : GoesOn m old (fault_in result) new
+
+-- Up to an answer the search stands before these clauses of rows are deleted; the log goes on.
+pub record HasRowsToDelete {P L T : Type 0} (p : engine.Ghosts P) (m : sink.Ghosts L LogEvent) (old new : SearchLog L) (now : SearchState) (e : P) (rows : List (List Literal)) (result : Result T CoreFault) : Type 0 where
+  pub stands : OnOk result (StandsBeforeDeletion p m new now e rows)
   pub log : GoesOn m old (fault_in result) new
 
 -- Up to an answer the search stands again. No conflict is counted, and the log goes on.

@@ -8,7 +8,7 @@ use Rattle.cx_base.specs.Literals.{Literal}
 use Rattle.step_text.specs.declared.sink.Sink as sink
 use Rattle.parity_engine.specs.declared.engine.ParityEngine as engine
 use Rattle.cdcl_search.specs.declared.state.SearchState.{SearchState}
-use Rattle.cdcl_search.specs.Ties.{SearchStands}
+use Rattle.cdcl_search.specs.Ties.{SearchStands, SearchStandsFrom}
 use Rattle.cdcl_search.specs.Tells.{IsLeft, HaveLowIds, with_events}
 use Rattle.cdcl_search.specs.declared.logs.SearchLog.{SearchLog}
 
@@ -43,3 +43,7 @@ AreToldNow m old more new = m.items new.sink.now ≡ with_events more (m.items o
 -- the search stands behind what the code holds and what the log was told; of rows these clauses were told since the last mark
 abbrev pub Stands : {P L : Type 0} → engine.Ghosts P → sink.Ghosts L LogEvent → SearchLog L → SearchState → P → List (List Literal) → Type 0
 Stands p m log c e rows = SearchStands log.formula.now c (p.state e) rows (m.items log.sink.now)
+
+-- So it is once the clause that those rows are told for has its id: theirs begin at the next one, until they are deleted.
+abbrev pub StandsBeforeDeletion : {P L : Type 0} → engine.Ghosts P → sink.Ghosts L LogEvent → SearchLog L → SearchState → P → List (List Literal) → Type 0
+StandsBeforeDeletion p m log c e rows = SearchStandsFrom log.formula.now c (p.state e) c.next rows (m.items log.sink.now)

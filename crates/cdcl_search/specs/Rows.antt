@@ -9,20 +9,20 @@ use Rattle.cx_base.specs.declared.steps.LogStep.{LogStep}
 use Rattle.cx_base.specs.declared.steps.LogStep.TheVariants.{Parity, ClauseOfParity}
 use Rattle.xor_reason.specs.declared.reason.ReasonOf.{ReasonOf}
 use Rattle.search_steps.specs.LogSteps.{row_events}
-use Rattle.cdcl_search.specs.Tells.{IsId, AreStepsOf}
+use Rattle.cdcl_search.specs.Tells.{IsId, AreIdsFrom, AreStepsOf}
 use Rattle.cdcl_search.specs.Ties.{first_row_id}
 use Rattle.cdcl_search.specs.declared.rows.RowIds.{RowIds}
 use Rattle.cdcl_search.specs.declared.rows.Prepared.{Prepared}
 
--- so few constraints, and clauses of rows since the last mark, that the next row has ids
-pub record AreFew (constraints : List Constraint) (rows : List (List Literal)) : Type 0 where
+-- so few constraints, and ids so low, that the next row behind these has ids
+pub record AreFew (constraints : List Constraint) (next : ℕ) (rows : List (List Literal)) : Type 0 where
   pub constraints_few : length constraints ≤ 4294967295
-  pub rows_few : length rows ≤ 16777215
+  pub room : AreIdsFrom (first_row_id next) (length rows)
 
--- the ids of the next row, behind so many constraints and so many clauses of rows
-pub record AreNextIds (constraints rows : ℕ) (ids : RowIds) : Type 0 where
+-- the ids of the next row: there are so many constraints, and so many clauses of rows behind the next id of a clause that stays
+pub record AreNextIds (constraints next rows : ℕ) (ids : RowIds) : Type 0 where
   pub sum : ids.sum ≡ constraints + 1
-  pub clause : ids.clause ≡ first_row_id + rows
+  pub clause : ids.clause ≡ first_row_id next + rows
   pub proper : IsId ids.sum × IsId ids.clause
 
 -- the sum of a row and its clause, under these ids
@@ -36,7 +36,7 @@ pub record AreRowSteps (events : List LogEvent) (parity_lits clause_lits : List 
   pub clause : literals (integers_of clause_lits) ≡ clause_lits
 
 -- the steps of the next row and its clause, twice
-pub record IsPrepared (constraints rows : ℕ) (reason : ReasonOf) (p : Prepared) : Type 0 where
-  pub row : AreRowSteps (row_events (constraints + 1) (integers_of reason.parity) reason.sources (first_row_id + rows) (integers_of reason.clause)) reason.parity reason.clause p.steps.items
+pub record IsPrepared (constraints next rows : ℕ) (reason : ReasonOf) (p : Prepared) : Type 0 where
+  pub row : AreRowSteps (row_events (constraints + 1) (integers_of reason.parity) reason.sources (first_row_id next + rows) (integers_of reason.clause)) reason.parity reason.clause p.steps.items
   pub clause : p.clause ≡ reason.clause
   pub copy : p.copy ≡ reason.clause

@@ -1,5 +1,5 @@
 -- What a sink is told, and what its log is worth when the search gives up.
-use Rattle.std.specs.Prelude.{◌≡◌, ◌⊎◌, ℕ, ◌<◌, ◌≤◌, List, ◌++◌, length, take, map, get_or, Option, Some, None, option_map, Result, Ok, Err}
+use Rattle.std.specs.Prelude.{◌≡◌, ◌⊎◌, ℕ, ◌+◌, ◌<◌, ◌≤◌, List, ◌++◌, length, take, map, get_or, Option, Some, None, option_map, Result, Ok, Err}
 use Rattle.std.specs.List.{AllByRecursion}
 use Rattle.cx_base.specs.Problem.{Problem}
 use Rattle.cx_base.specs.declared.steps.LogEvent.{LogEvent}
@@ -54,6 +54,10 @@ GivesUp formula torn told Write = IsLeft formula told × ((event : LogEvent) × 
 -- an id that a step of the search may have
 abbrev pub IsId : ℕ → Type 0
 IsId n = (1 ≤ n) × (n ≤ highest_id)
+
+-- so are the ids from this one on, up to the one behind so many
+abbrev pub AreIdsFrom : ℕ → ℕ → Type 0
+AreIdsFrom first count = (1 ≤ first) × (first + count ≤ highest_id)
 
 -- a step that the search may tell: a text can have it, and its id is low
 abbrev pub IsTellable : LogStep → Type 0

@@ -28,41 +28,41 @@ use Rattle.cdcl_search.specs.declared.state.SearchState.{SearchState}
 use Rattle.cx_semantics.specs.Marked.{Moment}
 use Rattle.search_steps.specs.Laws.{HaveTheirs}
 
--- ids from this one on are those of clauses that rows give
-abbrev pub first_row_id : ℕ
-first_row_id = 1500000000000000000
+-- where the next clause that stays gets this id, the clauses of rows have the ids behind it
+abbrev pub first_row_id : ℕ → ℕ
+first_row_id next = next + 1
 
--- the ids of so many clauses of rows, the newest first
-abbrev pub row_ids : ℕ → List ℕ
-row_ids zero = []
-row_ids (suc n) = (first_row_id + n) ∷ row_ids n
+-- the ids of so many clauses of rows from the first one on, the newest first
+abbrev pub row_ids : ℕ → ℕ → List ℕ
+row_ids first zero = []
+row_ids first (suc n) = (first + n) ∷ row_ids first n
 
 -- ---- the log
--- the clauses of rows that were told since the last mark stand under their ids
-abbrev pub AreRows : Table → List (List Literal) → Type 0
-AreRows table rows = (i : ℕ) → i < length rows → get table (first_row_id + i) ≡ Some (get_or rows i [])
+-- the clauses of rows that were told since the last mark stand under their ids, from the first one on
+abbrev pub AreRows : Table → ℕ → List (List Literal) → Type 0
+AreRows table first rows = (i : ℕ) → i < length rows → get table (first + i) ≡ Some (get_or rows i [])
 
 -- the engine's parities stand under their numbers
 abbrev pub AreNumbered : Table → List (List Literal) → Type 0
 AreNumbered table parities = (k : ℕ) → 1 ≤ k → k ≤ length parities → get table k ≡ Some (get_or parities (k - 1) [])
 
 -- no clause is owed, and of what is temporary just the clauses of rows are left
-pub record HasOnlyRowClauses (s : Search) (rows : ℕ) : Type 0 where
+pub record HasOnlyRowClauses (s : Search) (first rows : ℕ) : Type 0 where
   pub served : IsFalse s.moment.awaits
   pub old_clauses : s.moment.old_clauses ≡ []
-  pub new_clauses : s.moment.new_clauses ≡ row_ids rows
+  pub new_clauses : s.moment.new_clauses ≡ row_ids first rows
   pub old_sums : s.moment.old_sums ≡ []
   pub new_sums : s.moment.new_sums ≡ []
 
 -- The engine's parities stand under their numbers, and the clauses of rows, of which there are few, under theirs; what else is told keeps to its ranges, and nothing temporary is left but these clauses.
-pub record LogTies (formula : Problem) (parities : List (List Literal)) (next : ℕ) (rows : List (List Literal)) (s : Search) : Type 0 where
-  pub ranged : IsRanged formula first_row_id next (first_row_id + length rows) s.trail s.moment
+pub record LogTies (formula : Problem) (parities : List (List Literal)) (next first : ℕ) (rows : List (List Literal)) (s : Search) : Type 0 where
+  pub ranged : IsRanged formula first next (first + length rows) s.trail s.moment
   pub sums : HasFreeSums (length parities) s.moment
   pub numbered : AreNumbered s.moment.tables.parities parities
-  pub rows_told : AreRows s.moment.tables.clauses rows
+  pub rows_told : AreRows s.moment.tables.clauses first rows
   pub few_rows : length rows ≤ formula.variables + 1
   pub none_at_0 : get s.moment.tables.clauses 0 ≡ None
-  pub served : HasOnlyRowClauses s (length rows)
+  pub served : HasOnlyRowClauses s first (length rows)
 
 -- ---- the clauses
 -- the live clause of this id has just these literals
@@ -90,10 +90,10 @@ pub record IsKept (formula : Problem) (table : Table) (next : ℕ) (arena : Aren
 abbrev pub IsHeld : ArenaState → List Literal → ℕ → List Literal → Type 0
 IsHeld arena fixed n clause = ((r : ℕ) × IsLive arena r × (id_at arena r ≡ n)) ⊎ IsTrue (is_tautology clause) ⊎ HasTrue fixed clause
 
--- the arena holds the live clauses, each under an id of its own; level 0 makes the fixed literals true
+-- the arena holds the live clauses that stay, each under an id of its own; level 0 makes the fixed literals true
 pub record ClauseTies (formula : Problem) (table : Table) (next : ℕ) (arena : ArenaState) (fixed : List Literal) : Type 0 where
   pub stored : (r : ℕ) → IsLive arena r → IsKept formula table next arena r
-  pub covered : (n : ℕ) (clause : List Literal) → n < first_row_id → get table n ≡ Some clause → IsHeld arena fixed n clause
+  pub covered : (n : ℕ) (clause : List Literal) → n < next → get table n ≡ Some clause → IsHeld arena fixed n clause
   pub apart : (r q : ℕ) → IsLive arena r → IsLive arena q → id_at arena r ≡ id_at arena q → r ≡ q
 
 -- ---- the watches
@@ -115,11 +115,11 @@ RestOnUnits ids [] = ⊤
 RestOnUnits ids (e ∷ es) = ((i : ℕ) × (i < length ids) × (e.why ≡ by_clause (get_or ids i 0))) × RestOnUnits ids es
 
 -- the first literals of level 0 have unit clauses under these ids and rest on them; above level 0 all of level 0 have
-pub record AreUnits (table : Table) (t : TrailState) (es : List Entry) (ids : List ℕ) : Type 0 where
+pub record AreUnits (table : Table) (next : ℕ) (t : TrailState) (es : List Entry) (ids : List ℕ) : Type 0 where
   pub few : length ids ≤ length t.entries
   pub level_0 : (i : ℕ) → i < length ids → (entry_at t.entries i).level ≡ 0
   pub named : (i : ℕ) → i < length ids → IsNamedBy table ((entry_at t.entries i).literal ∷ []) (get_or ids i 0)
-  pub low : (i : ℕ) → i < length ids → get_or ids i 0 < first_row_id
+  pub low : (i : ℕ) → i < length ids → get_or ids i 0 < next
   pub newer : List Entry
   pub older : List Entry
   pub parts : es ≡ newer ++ older
@@ -204,18 +204,25 @@ pub record HasFewIds (formula : Problem) (next conflicts units : ℕ) : Type 0 w
   pub few : length formula.constraints ≤ 4294967295
 
 -- ---- the whole
--- what the code holds, apart from the watches, is what the search of the calculus holds; of rows these clauses were told since the last mark
-pub record Ties (formula : Problem) (c : SearchState) (e : State) (rows : List (List Literal)) (s : Search) : Type 0 where
-  pub log : LogTies formula e.parities c.next rows s
+-- what the code holds, apart from the watches, is what the search of the calculus holds; of rows these clauses were told since the last mark, under the ids from this one on
+pub record TiesFrom (formula : Problem) (c : SearchState) (e : State) (first : ℕ) (rows : List (List Literal)) (s : Search) : Type 0 where
+  pub log : LogTies formula e.parities c.next first rows s
   pub clauses : ClauseTies formula s.moment.tables.clauses c.next c.arena (held 0 s.trail)
   pub trail : TrailTies formula s.trail c.trail c.order c.phases.items
-  pub units : AreUnits s.moment.tables.clauses c.trail s.trail c.units.items
+  pub units : AreUnits s.moment.tables.clauses c.next c.trail s.trail c.units.items
   pub engine : EngineTies formula s.trail c.given e
   pub reasons : ReasonTies c.arena c.trail.entries (length c.units.items) e
   pub counts : CountTies c.next c.conflicts c.learned c.reductions s
   pub ids : HasFewIds formula c.next c.conflicts (length c.units.items)
   pub levels : s.quiet_levels ≡ level_of s.trail
 
+-- so it is with the ids behind the next one
+abbrev pub Ties : Problem → SearchState → State → List (List Literal) → Search → Type 0
+Ties formula c e rows s = TiesFrom formula c e (first_row_id c.next) rows s
+
 -- some search of the calculus stands behind the code, and its events are the sink's where that tells them
+abbrev pub SearchStandsFrom : Problem → SearchState → State → ℕ → List (List Literal) → Option (List LogEvent) → Type 0
+SearchStandsFrom formula c e first rows told = (s : Search) × IsSearch formula e.parities s × AreTold told s.events × TiesFrom formula c e first rows s × IsWatched c.watches c.arena c.trail
+
 abbrev pub SearchStands : Problem → SearchState → State → List (List Literal) → Option (List LogEvent) → Type 0
-SearchStands formula c e rows told = (s : Search) × IsSearch formula e.parities s × AreTold told s.events × Ties formula c e rows s × IsWatched c.watches c.arena c.trail
+SearchStands formula c e rows told = SearchStandsFrom formula c e (first_row_id c.next) rows told

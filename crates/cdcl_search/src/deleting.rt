@@ -3,12 +3,11 @@ ghost use Rattle.std.specs.Prelude.{◌≡◌, ◌≤◌, [], ◌++◌, OnOk, If
 ghost use Rattle.std.specs.List.{AllByRecursion};
 ghost use Rattle.cdcl_search.specs.Calls.{StandsOn};
 ghost use Rattle.cdcl_search.specs.Deleting.{deletions};
-ghost use Rattle.cdcl_search.specs.Logs.{Stands};
-ghost use Rattle.cdcl_search.specs.Tells.{as_events, IsTellable, AreStepsOf};
+ghost use Rattle.cdcl_search.specs.Logs.{StandsBeforeDeletion};
+ghost use Rattle.cdcl_search.specs.Tells.{as_events, AreIdsFrom, IsTellable, AreStepsOf};
 ghost use Rattle.cdcl_search.specs.Ties.{row_ids};
 
 use crate::logs::SearchLog;
-use crate::rows::FIRST_ROW_ID;
 use crate::state::SearchState;
 use crate::steps::deletion;
 use crate::telling::tell_steps;
@@ -18,44 +17,45 @@ use parity_engine::ParityEngine;
 use std::alloc::{AllocError, Global};
 use step_text::Sink;
 
-/// Puts the deletions of so many clauses of rows behind these steps, the newest first.
+/// Puts the deletions of so many clauses of rows, from this id on, behind these steps, the newest first.
 pub fn put_deletions(
     alloc: Global,
     steps: &mut Vec<LogStep>,
+    first: u64,
     count: usize,
 ) -> Result<(), AllocError>
     requires texts { AllByRecursion IsTellable steps.old.items }
-    requires few { count ≤ 16777216 }
-    ensures { OnOk result (AreStepsOf (as_events steps.old.items ++ deletions (row_ids count)) steps.new.items) }
+    requires ids { AreIdsFrom first count }
+    ensures { OnOk result (AreStepsOf (as_events steps.old.items ++ deletions (row_ids first count)) steps.new.items) }
 {
     let mut left = count;
     while left > 0 {
         left -= 1;
-        steps.push(deletion(alloc, FIRST_ROW_ID + left as u64))?;
+        steps.push(deletion(alloc, first + left as u64))?;
     }
     Ok(())
 }
 
-/// The deletions of so many clauses of rows, the newest first.
-fn deletions_of_rows(alloc: Global, count: usize) -> Result<Vec<LogStep>, AllocError>
-    requires { count ≤ 16777216 }
-    ensures { IfOk result (λ s. AreStepsOf (deletions (row_ids count)) s.items) }
+/// The deletions of so many clauses of rows from this id on, the newest first.
+fn deletions_of_rows(alloc: Global, first: u64, count: usize) -> Result<Vec<LogStep>, AllocError>
+    requires { AreIdsFrom first count }
+    ensures { IfOk result (λ s. AreStepsOf (deletions (row_ids first count)) s.items) }
 {
     let mut steps = Vec::new(alloc);
-    put_deletions(alloc, &mut steps, count)?;
+    put_deletions(alloc, &mut steps, first, count)?;
     Ok(steps)
 }
 
-/// Deletes the clauses of rows that were told since the last mark.
+/// Deletes the clauses of rows that were told for the last clause that stays: theirs are the ids behind its own.
 pub(crate) fn delete_rows<P: ParityEngine, L: Sink<Item = LogEvent>>(
     log: &mut SearchLog<L>,
     state: &SearchState,
     engine: &P,
     rows: &[LitList],
 ) -> Result<(), CoreFault>
-    requires { Stands P.ParityEngine L.Sink log.old state.now engine.now rows.now }
+    requires { StandsBeforeDeletion P.ParityEngine L.Sink log.old state.now engine.now rows.now }
     ensures { StandsOn P.ParityEngine L.Sink log.old log.new state.now engine.now [] result }
 {
-    let steps = deletions_of_rows(log.alloc, rows.len())?;
+    let steps = deletions_of_rows(log.alloc, state.next, rows.len())?;
     tell_steps(log, steps)
 }

@@ -8,6 +8,7 @@ ghost use Rattle.cdcl_search.specs.Explaining.{Explains};
 ghost use Rattle.cdcl_search.specs.Logs.{Stands};
 ghost use Rattle.cdcl_search.specs.Rows.{AreFew, AreNextIds, AreRowSteps, IsPrepared, sum_and_clause_events};
 ghost use Rattle.cdcl_search.specs.Tells.{IsId};
+ghost use Rattle.cdcl_search.specs.Ties.{first_row_id};
 
 use crate::integers::integers;
 use crate::logs::SearchLog;
@@ -21,8 +22,15 @@ use std::alloc::{AllocError, Global};
 use step_text::Sink;
 use xor_reason::ReasonOf;
 
-/// The first id of the clauses that rows give: all others are below.
-pub const FIRST_ROW_ID: u64 = 1_500_000_000_000_000_000;
+/// The first id of the clauses of rows that are told for a clause that stays, which gets this next id.
+///
+/// They are deleted behind that clause, so their ids are free again then.
+pub fn first_id_of_rows(next: u64) -> u64
+    requires { IsId next }
+    ensures { result ≡ first_row_id next }
+{
+    next + 1
+}
 
 /// The ids of a row's sum and of its clause.
 #[derive(Clone, Copy, Debug, Drop)]
@@ -31,14 +39,15 @@ pub struct RowIds {
     pub clause: u64,
 }
 
-/// The ids of the next row.
-pub fn next_ids(formula: &Formula, rows: &[LitList]) -> RowIds
-    requires { AreFew formula.now.constraints rows.now }
-    ensures { AreNextIds (length formula.now.constraints) (length rows.now) result }
+/// The ids of the next row, behind these and the next id of a clause that stays.
+pub fn next_ids(formula: &Formula, next: u64, rows: &[LitList]) -> RowIds
+    requires next { IsId next }
+    requires few { AreFew formula.now.constraints next rows.now }
+    ensures { AreNextIds (length formula.now.constraints) next (length rows.now) result }
 {
     RowIds {
         sum: formula.len() as u64 + 1,
-        clause: FIRST_ROW_ID + rows.len() as u64,
+        clause: first_id_of_rows(next) + rows.len() as u64,
     }
 }
 
@@ -81,14 +90,16 @@ struct Prepared {
 fn prepare(
     alloc: Global,
     formula: &Formula,
+    next: u64,
     rows: &[LitList],
     reason: ReasonOf,
 ) -> Result<Prepared, AllocError>
-    requires few { AreFew formula.now.constraints rows.now }
+    requires next { IsId next }
+    requires few { AreFew formula.now.constraints next rows.now }
     requires sources { (parities : ℕ) × (parities ≤ length formula.now.constraints) × AreRising 1 parities reason.sources }
-    ensures { IfOk result (IsPrepared (length formula.now.constraints) (length rows.now) reason) }
+    ensures { IfOk result (IsPrepared (length formula.now.constraints) next (length rows.now) reason) }
 {
-    let ids = next_ids(formula, rows);
+    let ids = next_ids(formula, next, rows);
     let ReasonOf {
         parity,
         sources,
@@ -123,7 +134,7 @@ pub fn tell_reason<P: ParityEngine, L: Sink<Item = LogEvent>>(
     ensures rows { OnOk result (rows.new.items ≡ rows.old.items ++ reason.clause ∷ []) }
     ensures stands_on { StandsOn P.ParityEngine L.Sink log.old log.new state.now engine.now (rows.old.items ++ reason.clause ∷ []) result }
 {
-    let prepared = prepare(log.alloc, log.formula, rows, reason)?;
+    let prepared = prepare(log.alloc, log.formula, state.next, rows, reason)?;
     tell_steps(log, prepared.steps)?;
     rows.push(prepared.copy)?;
     Ok(prepared.clause)

@@ -127,7 +127,7 @@ fn hinted_row<P: ParityEngine, L: Sink<Item = LogEvent>>(
     ensures stands_on { StandsOn P.ParityEngine L.Sink log.old log.new state.now engine.now rows.new.items result }
 {
     let reason = reason_clause(log.alloc, engine, row, Some(literal), &state.trail)?;
-    let id = next_ids(log.formula, rows).clause;
+    let id = next_ids(log.formula, state.next, rows).clause;
     match tell_reason(log, state, engine, reason, rows) {
         Ok(lits) => Ok(Hinted { lits, id }),
         Err(fault) => Err(fault),

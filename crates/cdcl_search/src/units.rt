@@ -1,6 +1,6 @@
 //! Unit clauses of the literals of level 0.
 ghost use Rattle.std.specs.Prelude.{◌≡◌, ◌+◌, ◌<◌, [], length, OnOk};
-ghost use Rattle.cdcl_search.specs.Calls.{StandsOn};
+ghost use Rattle.cdcl_search.specs.Calls.{HasRowsToDelete, StandsOn};
 ghost use Rattle.cdcl_search.specs.Logs.{Stands};
 ghost use Rattle.cdcl_search.specs.Tells.{IsId};
 ghost use Rattle.cdcl_search.specs.Searching.{HasUnits};
@@ -29,7 +29,7 @@ fn tell_unit<P: ParityEngine, L: Sink<Item = LogEvent>>(
     requires level { state.old.trail.level ≡ 0 }
     requires next { IsNextUnit state.old rows.now literal implying.now.lits }
     requires id { IsId implying.now.id }
-    ensures stands_on { StandsOn P.ParityEngine L.Sink log.old log.new state.new engine.now rows.now result }
+    ensures to_delete { HasRowsToDelete P.ParityEngine L.Sink log.old log.new state.new engine.now rows.now result }
     ensures units { OnOk result (length state.new.units.items ≡ length state.old.units.items + 1) }
     ensures same { HasOther state.old state.new }
 {

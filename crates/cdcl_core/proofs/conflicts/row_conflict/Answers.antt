@@ -1,5 +1,6 @@
 use Rattle.std.proofs.Common.{rules, arith, sym, ap, ◌∙◌, subst, ◌++◌, ◌∷◌, [], length}
 use Rattle.cdcl_search.specs.Ties.{SearchStands}
+use Rattle.cdcl_search.proofs.LowIds.{next_is_id, next_is_low, row_ids_are_ids}
 use Rattle.cdcl_core.specs.Concluding.{Concludes}
 use Rattle.cdcl_core.specs.declared.conflicts.Conclusion.TheVariants.{Clause}
 use Rattle.cdcl_core.specs.declared.conflicts.Conflict.{Conflict}
@@ -15,8 +16,17 @@ reason_clause-requires-clause-assigned g c = clash_assigned c.args.log.now.formu
 pub reason_clause-requires-clause-kind : goal.reason_clause-requires-clause-kind
 reason_clause-requires-clause-kind g c = clash_is_reason c.args.log.now.formula.now c.args.state.now (g.P.ParityEngine.state c.args.engine.now) (g.L.Sink.items c.args.log.now.sink.now) c.requires.stands c.args.row c.requires.clash
 
-pub ending-requires-clause-constraints : goal.ending-requires-clause-constraints
-ending-requires-clause-constraints g c = c.requires.stands.3.ids.few
+pub ending-requires-clause-next : goal.ending-requires-clause-next
+ending-requires-clause-next g c = next_is_id c.args.log.now.formula.now c.args.state.now (g.P.ParityEngine.state c.args.engine.now) _ [] c.requires.stands.0 c.requires.stands.3
+
+pub ending-requires-clause-few : goal.ending-requires-clause-few
+ending-requires-clause-few g c = record {
+  constraints_few = c.requires.stands.3.ids.few;
+  room = row_ids_are_ids c.args.log.now.formula.now c.args.state.now (g.P.ParityEngine.state c.args.engine.now) _ [] c.requires.stands.0 c.requires.stands.3 (omega arith);
+}
+
+pub first_id_of_rows-requires : goal.first_id_of_rows-requires
+first_id_of_rows-requires g c = next_is_id c.args.log.now.formula.now c.args.state.now (g.P.ParityEngine.state c.args.engine.now) _ [] c.requires.stands.0 c.requires.stands.3
 
 pub ending-requires-clause-sources : goal.ending-requires-clause-sources
 ending-requires-clause-sources g c = (length (g.P.ParityEngine.state c.args.engine.now).parities, c.requires.stands.3.engine.few, clash_numbers c.args.log.now.formula.now c.args.state.now (g.P.ParityEngine.state c.args.engine.now) (g.L.Sink.items c.args.log.now.sink.now) c.requires.stands c.args.row c.requires.clash c.in_ok-reason.reason c.in_ok-reason.ensures.parity c.in_ok-reason.ensures.numbers c.in_ok-reason.ensures.sum c.in_ok-reason.ensures.clause)
@@ -44,10 +54,11 @@ returns-in-Ok g c =
     let same = c.in-Ok.ensures.stands_on.log.formula in
     let clause = c.in_ok-reason.reason.clause in
     let none = ap (λ rows. rows ++ clause ∷ []) c.new-rows.ensures.items in
-    let k : Conflict = record { lits = c.in-Ok.lits; id = 1500000000000000000; rows = c.tell_reason.new.rows } in
+    let k : Conflict = record { lits = c.in-Ok.lits; id = c.first_id_of_rows.result; rows = c.tell_reason.new.rows } in
     let concludes = subst (λ f. Concludes f c.args.state.now (g.P.ParityEngine.state c.args.engine.now) (g.L.Sink.items c.tell_reason.new.log.sink.now) (Clause k)) (sym same)
     (row_concludes c.args.log.now.formula.now c.args.state.now (g.P.ParityEngine.state c.args.engine.now) (g.L.Sink.items c.args.log.now.sink.now) c.requires.stands c.args.row c.requires.clash c.in_ok-reason.reason c.in_ok-reason.ensures.parity c.in_ok-reason.ensures.numbers c.in_ok-reason.ensures.sum c.in_ok-reason.ensures.clause
-    (g.L.Sink.items c.tell_reason.new.log.sink.now) k c.in-Ok.ensures.clause (c.in-Ok.ensures.rows ∙ none) (omega arith, omega arith)
+    (g.L.Sink.items c.tell_reason.new.log.sink.now) k c.in-Ok.ensures.clause (c.in-Ok.ensures.rows ∙ none)
+    (let low = next_is_low c.args.log.now.formula.now c.args.state.now (g.P.ParityEngine.state c.args.engine.now) _ [] c.requires.stands.0 c.requires.stands.3 in let is = c.first_id_of_rows.ensures in (omega (arith, is), omega (arith, is, low)))
     (subst (λ rows. SearchStands c.args.log.now.formula.now c.args.state.now (g.P.ParityEngine.state c.args.engine.now) rows (g.L.Sink.items c.tell_reason.new.log.sink.now)) none
     (subst (λ f. SearchStands f c.args.state.now (g.P.ParityEngine.state c.args.engine.now) (c.new-rows.result.items ++ clause ∷ []) (g.L.Sink.items c.tell_reason.new.log.sink.now)) same c.in-Ok.ensures.stands_on.stands))) in
     record { concludes = concludes; log = c.in-Ok.ensures.stands_on.log }

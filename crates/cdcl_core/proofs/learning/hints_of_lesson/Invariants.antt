@@ -5,7 +5,7 @@ use Rattle.cdcl_core.proofs.learning.hints_of_lesson.Given as goal
 abbrev pub invariant-loop-left : goal.invariant-loop-left
 invariant-loop-left l = record {
   left : l.left ≤ length l.resolved;
-  behind : l.behind ≤ 16777216;
+  behind : l.behind ≤ l.rows;
   integers : AreStepIntegers l.hints.items;
 }
 

@@ -4,7 +4,7 @@ use Rattle.conflict_learn.specs.Levels.{Teaches}
 use Rattle.cdcl_search.specs.Sources.{IsSourced}
 use Rattle.cdcl_search.specs.GoingOn.{log_then}
 use Rattle.cdcl_core.specs.Concluding.{IsAtConflict}
-use Rattle.cdcl_search.proofs.LowIds.{has_ids, rows_are_few}
+use Rattle.cdcl_search.proofs.LowIds.{has_ids, row_ids_are_ids}
 use Rattle.cdcl_core.proofs.learning.learn.Goals as goal
 
 pub hints_of_lesson-requires-clause-stand : goal.hints_of_lesson-requires-clause-stand
@@ -31,9 +31,10 @@ returns-clause-log g c = log_then g.L.Sink g.met.L.Sink.keeps_on _ c.lesson_of.n
 pub hints_of_lesson-requires-clause-ids : goal.hints_of_lesson-requires-clause-ids
 hints_of_lesson-requires-clause-ids g c = has_ids c.lesson_of.new.log.formula.now c.args.state.now (g.P.ParityEngine.state c.args.engine.now) _ (g.L.Sink.items c.lesson_of.new.log.sink.now) c.in_ok-learned.ensures.at.stands
 
-pub hints_of_lesson-requires-clause-few : goal.hints_of_lesson-requires-clause-few
-hints_of_lesson-requires-clause-few g c =
+pub hints_of_lesson-requires-clause-rows : goal.hints_of_lesson-requires-clause-rows
+hints_of_lesson-requires-clause-rows g c =
     let long = c.len.ensures in
     let same = c.lesson_of.new.rows.ok in
-    let few = rows_are_few c.lesson_of.new.log.formula.now c.args.state.now (g.P.ParityEngine.state c.args.engine.now) _ c.in_ok-learned.ensures.at.stands.0 c.in_ok-learned.ensures.at.stands.3 in
-    omega (arith, long, same, few)
+    let ids = row_ids_are_ids c.lesson_of.new.log.formula.now c.args.state.now (g.P.ParityEngine.state c.args.engine.now) _ _ c.in_ok-learned.ensures.at.stands.0 c.in_ok-learned.ensures.at.stands.3 (omega arith) in
+    let high = ids.1 in
+    (omega arith, omega (arith, long, same, high))

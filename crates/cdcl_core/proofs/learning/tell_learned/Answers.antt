@@ -2,10 +2,10 @@ use Rattle.std.proofs.Common.{refl, ◌≡◌, ap, ◌∙◌, subst, ◌+◌, �
 use Rattle.cx_base.specs.declared.steps.LogEvent.TheVariants.{Step, Conflict}
 use Rattle.cx_base.specs.declared.steps.LogStep.TheVariants as step
 use Rattle.cx_base.specs.Integers.{integers_of, literals}
-use Rattle.cdcl_search.specs.Ties.{row_ids}
+use Rattle.cdcl_search.specs.Ties.{first_row_id, row_ids}
 use Rattle.cdcl_search.specs.Deleting.{deletions}
 use Rattle.cdcl_search.specs.Tells.{as_events}
-use Rattle.cdcl_search.proofs.LowIds.{has_ids, next_is_low, rows_are_few}
+use Rattle.cdcl_search.proofs.LowIds.{has_ids, next_is_id, row_ids_are_ids}
 use Rattle.cdcl_search.proofs.Tellings.{holds_where}
 use Rattle.cdcl_core.specs.Learning.{Learns}
 use Rattle.cdcl_core.proofs.LearnLaws.{learns_then, learned_is_left}
@@ -14,9 +14,9 @@ use Rattle.cdcl_core.proofs.learning.tell_learned.Goals as goal
 pub tell_round-requires-clause-right : goal.tell_round-requires-clause-right
 tell_round-requires-clause-right g c = learned_is_left _ c.args.state.now (g.P.ParityEngine.state c.args.engine.now) c.args.learned.now.lits c.args.learned.now.back_level _
     (learns_then c.args.log.now.formula.now c.args.state.now (g.P.ParityEngine.state c.args.engine.now) c.args.rows.now (g.L.Sink.items c.args.log.now.sink.now) c.requires.at.stands
-    c.requires.at.above (next_is_low c.args.log.now.formula.now c.args.state.now (g.P.ParityEngine.state c.args.engine.now) c.args.rows.now c.requires.at.stands.0 c.requires.at.stands.3) c.requires.few c.args.conflict.now c.requires.at.conflict c.args.learned.now.resolved c.args.learned.now.lits c.args.learned.now.back_level c.args.learned.now.lbd c.requires.teaches
+    c.requires.at.above (next_is_id c.args.log.now.formula.now c.args.state.now (g.P.ParityEngine.state c.args.engine.now) _ c.args.rows.now c.requires.at.stands.0 c.requires.at.stands.3).1 c.requires.few c.args.conflict.now c.requires.at.conflict c.args.learned.now.resolved c.args.learned.now.lits c.args.learned.now.back_level c.args.learned.now.lbd c.requires.teaches
     (subst (λ xs. literals (integers_of xs) ≡ xs) c.as_slice.ensures c.in_ok-steps.ensures.literals) c.args.hints c.in_ok-steps.steps.items
-    (c.in_ok-steps.ensures.steps.are ∙ ap (λ xs. Step (step.ClauseWithHints c.args.state.now.next (integers_of xs) c.args.hints) ∷ deletions (row_ids (length c.args.rows.now))) c.as_slice.ensures)
+    (c.in_ok-steps.ensures.steps.are ∙ ap (λ xs. Step (step.ClauseWithHints c.args.state.now.next (integers_of xs) c.args.hints) ∷ deletions (row_ids (first_row_id c.args.state.now.next) (length c.args.rows.now))) c.as_slice.ensures)
     _ refl)
 
 pub returns-clause-learned : goal.returns-clause-learned
@@ -24,15 +24,13 @@ returns-clause-learned g c =
     holds_where (λ formula told. Learns formula c.args.state.now (g.P.ParityEngine.state c.args.engine.now) c.args.learned.now.lits c.args.learned.now.back_level told) (Conflict (c.args.state.now.conflicts + 1) ∷ as_events c.in_ok-steps.steps.items)
     g.L.Sink c.args.log.now _ c.tell_round.result c.tell_round.new.log c.tell_round.ensures.log c.tell_round.ensures.told
     (learns_then c.args.log.now.formula.now c.args.state.now (g.P.ParityEngine.state c.args.engine.now) c.args.rows.now (g.L.Sink.items c.args.log.now.sink.now) c.requires.at.stands
-    c.requires.at.above (next_is_low c.args.log.now.formula.now c.args.state.now (g.P.ParityEngine.state c.args.engine.now) c.args.rows.now c.requires.at.stands.0 c.requires.at.stands.3) c.requires.few c.args.conflict.now c.requires.at.conflict c.args.learned.now.resolved c.args.learned.now.lits c.args.learned.now.back_level c.args.learned.now.lbd c.requires.teaches
+    c.requires.at.above (next_is_id c.args.log.now.formula.now c.args.state.now (g.P.ParityEngine.state c.args.engine.now) _ c.args.rows.now c.requires.at.stands.0 c.requires.at.stands.3).1 c.requires.few c.args.conflict.now c.requires.at.conflict c.args.learned.now.resolved c.args.learned.now.lits c.args.learned.now.back_level c.args.learned.now.lbd c.requires.teaches
     (subst (λ xs. literals (integers_of xs) ≡ xs) c.as_slice.ensures c.in_ok-steps.ensures.literals) c.args.hints c.in_ok-steps.steps.items
-    (c.in_ok-steps.ensures.steps.are ∙ ap (λ xs. Step (step.ClauseWithHints c.args.state.now.next (integers_of xs) c.args.hints) ∷ deletions (row_ids (length c.args.rows.now))) c.as_slice.ensures)
+    (c.in_ok-steps.ensures.steps.are ∙ ap (λ xs. Step (step.ClauseWithHints c.args.state.now.next (integers_of xs) c.args.hints) ∷ deletions (row_ids (first_row_id c.args.state.now.next) (length c.args.rows.now))) c.as_slice.ensures)
     _ refl)
 
 pub steps_of_learned-requires-clause-id : goal.steps_of_learned-requires-clause-id
 steps_of_learned-requires-clause-id g c = (has_ids c.args.log.now.formula.now c.args.state.now (g.P.ParityEngine.state c.args.engine.now) c.args.rows.now (g.L.Sink.items c.args.log.now.sink.now) c.requires.at.stands).next
 
-pub steps_of_learned-requires-clause-few : goal.steps_of_learned-requires-clause-few
-steps_of_learned-requires-clause-few g c =
-    let few = rows_are_few c.args.log.now.formula.now c.args.state.now (g.P.ParityEngine.state c.args.engine.now) c.args.rows.now c.requires.at.stands.0 c.requires.at.stands.3 in
-    omega (arith, few)
+pub steps_of_learned-requires-clause-rows : goal.steps_of_learned-requires-clause-rows
+steps_of_learned-requires-clause-rows g c = row_ids_are_ids c.args.log.now.formula.now c.args.state.now (g.P.ParityEngine.state c.args.engine.now) _ c.args.rows.now c.requires.at.stands.0 c.requires.at.stands.3 (omega arith)

@@ -1,7 +1,7 @@
 use Rattle.std.proofs.Common.{[], ◌≤◌, ap, arith, length}
 use Rattle.cdcl_search.specs.Ties.{SearchStands}
 use Rattle.cdcl_search.specs.Tells.{as_events}
-use Rattle.cdcl_search.proofs.LowIds.{rows_are_few}
+use Rattle.cdcl_search.proofs.LowIds.{row_ids_are_ids}
 use Rattle.cdcl_search.proofs.Tellings.{holds_where}
 use Rattle.cdcl_search.proofs.RowSteps.{left_now}
 use Rattle.cdcl_search.proofs.DeletedRows.{rows_deleted}
@@ -18,6 +18,4 @@ returns g c =
     record { stands = stands; log = c.tell_steps.ensures.log }
 
 pub deletions_of_rows-requires : goal.deletions_of_rows-requires
-deletions_of_rows-requires g c =
-    let few = rows_are_few c.args.log.now.formula.now c.args.state.now (g.P.ParityEngine.state c.args.engine.now) c.args.rows.now c.requires.0 c.requires.3 in
-    omega (arith, few)
+deletions_of_rows-requires g c = row_ids_are_ids c.args.log.now.formula.now c.args.state.now (g.P.ParityEngine.state c.args.engine.now) c.args.state.now.next c.args.rows.now c.requires.0 c.requires.3 (omega arith)

@@ -10,7 +10,7 @@ loop-left-preserved c =
     let few = c.loop-left.invariant.few in
     record {
       few = omega (arith, few);
-      steps = ap (λ xs. as_events xs ++ deletions (row_ids (c.loop-left.left - 1))) c.in_ok-push.ensures.items
-          ∙ one_deleted c.loop-left.steps.items c.loop-left.left c.deletion.result _ c.loop-left-test.true c.deletion.ensures.is c.loop-left.invariant.steps;
+      steps = ap (λ xs. as_events xs ++ deletions (row_ids c.args.first (c.loop-left.left - 1))) c.in_ok-push.ensures.items
+          ∙ one_deleted c.loop-left.steps.items c.args.first c.loop-left.left c.deletion.result _ c.loop-left-test.true c.deletion.ensures.is c.loop-left.invariant.steps;
       texts = one_more_text c.loop-left.steps.items c.deletion.result _ c.in_ok-push.ensures.items c.loop-left.invariant.texts c.deletion.ensures.text;
     }

@@ -10,7 +10,7 @@ use Rattle.cdcl_search.proofs.deleting.put_deletions.Given as goal
 abbrev pub invariant-loop-left : goal.invariant-loop-left
 invariant-loop-left l = record {
   few : l.left ≤ l.count;
-  steps : as_events l.steps.items ++ deletions (row_ids l.left) ≡ as_events l.initial.steps.items ++ deletions (row_ids l.count);
+  steps : as_events l.steps.items ++ deletions (row_ids l.first l.left) ≡ as_events l.initial.steps.items ++ deletions (row_ids l.first l.count);
   texts : AllByRecursion IsTellable l.steps.items;
 }
 

@@ -1,7 +1,7 @@
-use Rattle.std.proofs.Common.{refl, ap, arith, ◌++◌, ◌∷◌, [], length}
-use Rattle.cdcl_search.specs.Ties.{SearchStands}
-use Rattle.cdcl_search.specs.Tells.{as_events}
-use Rattle.cdcl_search.proofs.LowIds.{variables_are_few}
+use Rattle.std.proofs.Common.{refl, sym, subst, arith, ◌++◌, ◌∷◌, [], length}
+use Rattle.cdcl_search.specs.Ties.{SearchStands, first_row_id}
+use Rattle.cdcl_search.specs.Tells.{as_events, AreIdsFrom}
+use Rattle.cdcl_search.proofs.LowIds.{next_is_id, row_ids_are_ids}
 use Rattle.cdcl_search.proofs.RowSteps.{left_now, stands_then}
 use Rattle.cdcl_search.proofs.Tellings.{holds_told}
 use Rattle.cdcl_search.proofs.rows.tell_reason.Goals as goal
@@ -19,11 +19,14 @@ returns-clause-stands_on g c =
     record { stands = stands; log = c.in_ok-tell_steps.ensures.log }
 
 pub prepare-requires-clause-few : goal.prepare-requires-clause-few
-prepare-requires-clause-few g c =
-    let same = ap length c.deref.ensures.value in
-    let room = c.requires.room in
-    let few = variables_are_few c.args.log.now.formula.now c.args.state.now (g.P.ParityEngine.state c.args.engine.now) c.args.rows.now.items c.requires.stands.0 c.requires.stands.3 in
-    record { constraints_few = c.requires.stands.3.ids.few; rows_few = omega (arith, same, room, few) }
+prepare-requires-clause-few g c = record {
+  constraints_few = c.requires.stands.3.ids.few;
+  room = subst (λ rows. AreIdsFrom (first_row_id c.args.state.now.next) (length rows)) (sym c.deref.ensures.value)
+      (row_ids_are_ids c.args.log.now.formula.now c.args.state.now (g.P.ParityEngine.state c.args.engine.now) _ c.args.rows.now.items c.requires.stands.0 c.requires.stands.3 (omega arith));
+}
+
+pub prepare-requires-clause-next : goal.prepare-requires-clause-next
+prepare-requires-clause-next g c = next_is_id c.args.log.now.formula.now c.args.state.now (g.P.ParityEngine.state c.args.engine.now) _ c.args.rows.now.items c.requires.stands.0 c.requires.stands.3
 
 pub prepare-requires-clause-sources : goal.prepare-requires-clause-sources
 prepare-requires-clause-sources g c = (length (g.P.ParityEngine.state c.args.engine.now).parities, c.requires.stands.3.engine.few, c.requires.explains.numbers)

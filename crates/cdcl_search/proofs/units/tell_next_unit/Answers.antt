@@ -1,6 +1,6 @@
 use Rattle.std.proofs.Common.{◌≡◌, sym, ap, ◌∙◌, subst, length, arith, rules}
 use Rattle.cx_trail.specs.Sequence.{entry_at}
-use Rattle.cdcl_search.specs.Ties.{SearchStands}
+use Rattle.cdcl_search.specs.Ties.{SearchStands, SearchStandsFrom}
 use Rattle.cdcl_search.specs.Sources.{IsSourced}
 use Rattle.cdcl_search.specs.GoingOn.{log_then}
 use Rattle.cdcl_search.proofs.units.tell_next_unit.Goals as goal
@@ -29,7 +29,7 @@ tell_unit-requires-clause-next g c =
 
 pub delete_rows-requires : goal.delete_rows-requires
 delete_rows-requires g c =
-    subst (λ rows. SearchStands c.tell_unit.new.log.formula.now c.tell_unit.new.state (g.P.ParityEngine.state c.args.engine.now) rows (g.L.Sink.items c.tell_unit.new.log.sink.now)) (c.deref.ensures.value ∙ sym c.deref-2.ensures.value) c.in_ok-tell_unit.ensures.stands_on.stands
+    subst (λ rows. SearchStandsFrom c.tell_unit.new.log.formula.now c.tell_unit.new.state (g.P.ParityEngine.state c.args.engine.now) c.tell_unit.new.state.next rows (g.L.Sink.items c.tell_unit.new.log.sink.now)) (c.deref.ensures.value ∙ sym c.deref-2.ensures.value) c.in_ok-tell_unit.ensures.to_delete.stands
 
 pub returns-in_err-tell_unit-clause-stands_on : goal.returns-in_err-tell_unit-clause-stands_on
 returns-in_err-tell_unit-clause-stands_on g c = record { stands = search rules; log = log_then g.L.Sink g.met.L.Sink.keeps_on _ c.clause_of_reason.new.log _ _ c.in_ok-implying.ensures.stands_on.log (search rules) }
@@ -37,5 +37,5 @@ returns-in_err-tell_unit-clause-stands_on g c = record { stands = search rules; 
 pub returns-clause-stands_on : goal.returns-clause-stands_on
 returns-clause-stands_on g c = record {
   stands = c.delete_rows.ensures.stands;
-  log = log_then g.L.Sink g.met.L.Sink.keeps_on _ c.tell_unit.new.log _ _ (log_then g.L.Sink g.met.L.Sink.keeps_on _ c.clause_of_reason.new.log _ _ c.in_ok-implying.ensures.stands_on.log c.in_ok-tell_unit.ensures.stands_on.log) c.delete_rows.ensures.log;
+  log = log_then g.L.Sink g.met.L.Sink.keeps_on _ c.tell_unit.new.log _ _ (log_then g.L.Sink g.met.L.Sink.keeps_on _ c.clause_of_reason.new.log _ _ c.in_ok-implying.ensures.stands_on.log c.in_ok-tell_unit.ensures.to_delete.log) c.delete_rows.ensures.log;
 }
