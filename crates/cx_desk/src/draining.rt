@@ -1,7 +1,7 @@
 //! A slot read to its end, with nothing kept.
 ghost use Rattle.std.specs.Prelude.{◌≡◌, ◌<◌, true};
 ghost use Rattle.cx_desk.specs.Outside.{started_in};
-ghost use Rattle.cx_desk.specs.Calls.{PassesOver, Drains};
+ghost use Rattle.cx_desk.specs.Calls.{PassesOver, CountsRest, Drains};
 ghost use Rattle.cx_desk.specs.declared.draining.DrainErr.TheVariants as drained;
 
 use crate::{Desk, Failed, Slot};
@@ -41,20 +41,31 @@ fn pass_over<D: Desk>(desk: &mut D, slot: Slot, most: u64) -> Result<u64, Failed
     Ok(count as u64)
 }
 
-/// Reads a started slot to its end, where no more than `left` bytes stand, and keeps none. It takes no memory.
-pub fn drain<D: Desk>(desk: &mut D, slot: Slot, left: u64) -> Result<(), DrainErr>
+/// Reads a started slot to its end, where no more than `left` bytes stand, and says how many stood.
+pub(crate) fn count_rest<D: Desk>(desk: &mut D, slot: Slot, left: u64) -> Result<u64, DrainErr>
     requires { started_in slot (D.outside desk.old).started ≡ true }
-    ensures { Drains slot left (D.outside desk.old) result (D.outside desk.new) }
+    ensures { CountsRest slot left (D.outside desk.old) result (D.outside desk.new) }
 {
     let mut room = left;
     loop {
         let count = pass_over(desk, slot, room.saturating_add(1))?;
         if count == 0 {
-            return Ok(());
+            return Ok(left - room);
         }
         if count > room {
             return Err(DrainErr::TooLong);
         }
         room -= count;
+    }
+}
+
+/// Reads a started slot to its end, where no more than `left` bytes stand, and keeps none. It takes no memory.
+pub fn drain<D: Desk>(desk: &mut D, slot: Slot, left: u64) -> Result<(), DrainErr>
+    requires { started_in slot (D.outside desk.old).started ≡ true }
+    ensures { Drains slot left (D.outside desk.old) result (D.outside desk.new) }
+{
+    match count_rest(desk, slot, left) {
+        Ok(_) => Ok(()),
+        Err(err) => Err(err),
     }
 }

@@ -1,4 +1,4 @@
-use Rattle.std.proofs.Common.{◌≡◌, ◌∙◌, sym, ap, ◌+◌, ◌-◌, ◌≤◌, length, take, drop, arith, length-take, length-drop}
+use Rattle.std.proofs.Common.{◌≡◌, ◌∙◌, sym, ap, ◌+◌, ◌-◌, ◌≤◌, length, take, drop, arith, length-take}
 use Rattle.std.proofs.lemmas.List.{drop-take, drop-drop}
 use Rattle.cx_desk.proofs.ahead.ReadAhead.pass.Goals as goal
 

@@ -1,6 +1,6 @@
 use Rattle.std.proofs.Common.{◌-◌, ◌≤◌}
 use Rattle.cx_desk.specs.Calls.{Passes}
-use Rattle.cx_desk.proofs.draining.drain.Given as goal
+use Rattle.cx_desk.proofs.draining.count_rest.Given as goal
 
 -- what is allowed still has lost what was passed over
 abbrev pub invariant-loop-count : goal.invariant-loop-count
