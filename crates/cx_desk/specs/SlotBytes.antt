@@ -80,7 +80,7 @@ pub record RestRead (s : BytesState) (o : Outside) (len : ℕ) (p : Outside) : T
 
 -- the rest of the text was read, or a byte behind the limit, or there was a fault
 abbrev pub ReadsRest : BytesState → Outside → Result ℕ DrainErr → Outside → Type 0
-ReadsRest s o result p = MatchResult result (λ len. RestRead s o len p) (λ e. DrainFails s.slot (s.limit - taken_by s) o e p)
+ReadsRest s o result p = MatchResult result (λ len. RestRead s o len p) (λ e. (s.ended ≡ false) × DrainFails s.slot (s.limit - taken_by s) o e p)
 
 -- the same of bytes that are kept
 abbrev pub read_err_of : AheadErr → ReadErr

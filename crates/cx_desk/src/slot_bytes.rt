@@ -1,5 +1,5 @@
 //! The text of a slot, read piece by piece.
-ghost use Rattle.std.specs.Prelude.{◌≡◌, ◌<◌, ◌≤◌, ◌+◌, [], true, false, length, drop, IfOk};
+ghost use Rattle.std.specs.Prelude.{◌≡◌, ◌<◌, ◌≤◌, ◌+◌, ◌↔◌, [], true, false, length, drop, IfOk, IsTrue};
 ghost use Rattle.cx_desk.specs.Outside.{started_in};
 ghost use Rattle.cx_desk.specs.SlotBytes.{ReadsBytes, ReadsRest, taken_by, to_read};
 
@@ -74,6 +74,13 @@ impl SlotBytes {
         ensures { result ≡ taken_by self.now }
     {
         (self.place + self.ahead.bytes().len()) as u64
+    }
+
+    /// Whether a byte behind the limit was read.
+    pub fn is_past_limit(&self) -> bool
+        ensures { IsTrue result ↔ self.now.limit < taken_by self.now }
+    {
+        self.taken() > self.limit
     }
 
     /// Passes the first bytes.
