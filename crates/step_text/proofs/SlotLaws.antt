@@ -4,15 +4,18 @@ use Rattle.cx_desk.specs.declared.desk.Slot.{Slot}
 use Rattle.cx_desk.specs.declared.desk.Slot.TheVariants.{Formula, Second}
 use Rattle.cx_desk.specs.Outside.{Told, Outside, left_in, started_in}
 use Rattle.cx_desk.specs.Calls.{taken, without_front, ReadFaulted, Came, AtEnd, Passes, Drained, Drains}
-use Rattle.cx_desk.specs.Ahead.{CameBehind}
+use Rattle.cx_desk.specs.SlotBytes.{BytesState, BytesKept, BytesRead, ReadingStops, RestRead}
+use Rattle.cx_desk.specs.declared.calls.ReadErr.{ReadErr}
+use Rattle.cx_desk.specs.declared.calls.ReadErr.TheVariants as why
 use Rattle.cx_desk.specs.declared.draining.DrainErr.{DrainErr}
 use Rattle.cx_desk.specs.declared.draining.DrainErr.TheVariants as drained
 use Rattle.cx_desk.proofs.Moves.{taken-twice, taken-none}
 use Rattle.cx_texts.specs.Pieces.{tokens_in}
 use Rattle.cx_texts.specs.declared.line_state.LineState.{LineState}
+use Rattle.step_text.specs.ReadRefusals.{refusal_of_read}
 use Rattle.step_text.specs.declared.source.TextRefusal.{TextRefusal}
 use Rattle.step_text.specs.declared.source.TextRefusal.TheVariants.{BadToken, Unterminated, TooBig, TooLong, Memory, Failed}
-use Rattle.step_text.specs.Slots.{SlotState, taken_by, to_come, IsToCome, is_too_long, EndSeen, Took, SlotKept, ReadsOn, StopsReading, ReadingFails, DrainsRest}
+use Rattle.step_text.specs.Slots.{SlotState, of_bytes, taken_by, to_come, IsToCome, is_too_long, EndSeen, Took, SlotKept, ReadsOn, StopsReading, ReadingFails, DrainsRest}
 
 -- ---- one call behind another
 
@@ -89,124 +92,36 @@ passes_on s at line high left o =
       text = λ more come. (more, come, left s.place more, ap (λ k. k + length more) (sym same));
     }
 
--- ---- a piece is read
+-- ---- more is read
 
-abbrev Behind : ℕ → Slot → Told → List ℕ
-Behind n slot t = cond (n == 0) [] (left_in slot t.left)
+module _ (b : BytesState) (line : LineState) (refused : Option TextRefusal) (o : Outside) (c : BytesState) (p : Outside) where
+  kept_by : (r : Option TextRefusal) → BytesKept b o c p → SlotKept (of_bytes b line refused) o (of_bytes c line r) p
+  kept_by r k = record { slot = k.slot; limit = k.limit; long = k.long; seen = k.seen; rises = omega (arith, k.place) }
 
-left-behind : (slot : Slot) (n : ℕ) (t : Told) → left_in slot (without_front slot n t).left ≡ drop n (left_in slot t.left)
-left-behind Formula n t = refl
-left-behind Second n t = refl
-
-no_bytes : (came : List ℕ) → length came ≡ 0 → came ≡ []
-no_bytes [] h = refl
-no_bytes (b ∷ came) h = absurd (omega (arith, h))
-
--- what the slot had left is what came and what it has left now
-came_and_more : (slot : Slot) (came : List ℕ) (n : ℕ) (t : Told) → length came ≡ n → take (length came) (left_in slot t.left) ≡ came → (n ≡ 0 → left_in slot t.left ≡ [])
-    → left_in slot t.left ≡ came ++ Behind n slot (without_front slot (length came) t)
-came_and_more slot came n t count front none = go (n == 0) refl
-  where
-    go : (x : Bool) → (n == 0) ≡ x → left_in slot t.left ≡ came ++ cond x [] (left_in slot (without_front slot (length came) t).left)
-    go true e = let z : n ≡ 0 = eqb-true n 0 e in none z ∙ sym (ap (λ c. c ++ []) (no_bytes came (count ∙ z)))
-    go false e = sym (take-append-drop (length came) (left_in slot t.left)) ∙ (λ i. front i ++ sym (left-behind slot (length came) t) i)
-
-module _ (s : SlotState) (o p : Outside) (most n : ℕ) (after : List ℕ) (refused : Option TextRefusal) (open_still : s.ended ≡ false) (m : CameBehind s.slot most s.bytes o n after p) where
-  abbrev now : SlotState
-  now = record s { bytes = after; ended = n == 0; refused = refused }
-
-  told_now : p.told ≡ option_map (without_front s.slot (length m.came)) o.told
-  told_now = ap (λ (x : Outside). x.told) m.from.moved
-
-  long_by : (w : Option Told) → IfSome w (λ t. take (length m.came) (left_in s.slot t.left) ≡ m.came) → (n ≡ 0 → IfSome w (λ t. left_in s.slot t.left ≡ []))
-      → option_map (λ t. nat_lt s.limit ((s.place + length after) + length (Behind n s.slot t))) (option_map (without_front s.slot (length m.came)) w)
-      ≡ option_map (λ t. nat_lt s.limit ((s.place + length s.bytes) + length (cond s.ended [] (left_in s.slot t.left)))) w
-  long_by None front none = refl
-  long_by (Some t) front none =
-      let rest = Behind n s.slot (without_front s.slot (length m.came) t) in
-      let whole : left_in s.slot t.left ≡ m.came ++ rest = came_and_more s.slot m.came n t m.count front none in
-      let bytes : length after ≡ length s.bytes + length m.came = ap length m.behind ∙ length-append s.bytes m.came in
-      let old : length (cond s.ended [] (left_in s.slot t.left)) ≡ length m.came + length rest = ap (λ e. length (cond e [] (left_in s.slot t.left))) open_still ∙ ap length whole ∙ length-append m.came rest in
-      let same : (s.place + length after) + length rest ≡ (s.place + length s.bytes) + length (cond s.ended [] (left_in s.slot t.left)) = omega (arith, bytes, old) in
-      ap (λ k. Some (nat_lt s.limit k)) same
-
-  pub long_still : is_too_long now p ≡ is_too_long s o
-  long_still = ap (option_map (λ t. nat_lt s.limit ((s.place + length after) + length (Behind n s.slot t)))) told_now ∙ long_by o.told m.from.front m.none
-
-  seen_by : (w : Option Told) → (n ≡ 0) → IfSome w (λ t. left_in s.slot t.left ≡ []) → IfSome (option_map (without_front s.slot (length m.came)) w) (λ t. left_in s.slot t.left ≡ [])
-  seen_by None z h = tt
-  seen_by (Some t) z h = left-behind s.slot (length m.came) t ∙ ap (λ k. drop k (left_in s.slot t.left)) (m.count ∙ z) ∙ h
-
-  pub seen_now : EndSeen now p
-  seen_now e = let z : n ≡ 0 = eqb-true n 0 e in
-      subst (λ (w : Option Told). IfSome w (λ t. left_in s.slot t.left ≡ [])) (sym told_now) (seen_by o.told z (m.none z))
-
-  come_by : (w : Option Told) (more : List ℕ) → IfSome w (λ t. take (length m.came) (left_in s.slot t.left) ≡ m.came) → (n ≡ 0 → IfSome w (λ t. left_in s.slot t.left ≡ []))
-      → IfSome (option_map (without_front s.slot (length m.came)) w) (λ t. Behind n s.slot t ≡ more) → IfSome w (λ t. cond s.ended [] (left_in s.slot t.left) ≡ m.came ++ more)
-  come_by None more front none h = tt
-  come_by (Some t) more front none h = ap (λ e. cond e [] (left_in s.slot t.left)) open_still ∙ came_and_more s.slot m.came n t m.count front none ∙ ap (λ bs. m.came ++ bs) h
-
-  pub come_before : (more : List ℕ) → IsToCome now p more → IsToCome s o (m.came ++ more)
-  come_before more (empty, come) = (
-    (λ e. absurd (true≢false (sym e ∙ open_still))),
-    come_by o.told more m.from.front m.none (subst (λ (w : Option Told). IfSome w (λ t. Behind n s.slot t ≡ more)) told_now come),
-  )
-
-  pub kept_read : SlotKept s o now p
-  kept_read = record { slot = refl; limit = refl; long = long_still; seen = λ e. seen_now; rises = omega arith }
-
-  pub took_read : (k : ℕ) × (p ≡ taken s.slot k o)
-  took_read = (length m.came, m.from.moved)
-
-  bytes_read : (more : List ℕ) → s.bytes ++ (m.came ++ more) ≡ after ++ more
-  bytes_read more = sym (append_assoc s.bytes m.came more) ∙ ap (λ bs. bs ++ more) (sym m.behind)
-
-  pub piece_read : refused ≡ s.refused → ReadsOn s o now p
-  piece_read same = record {
-    kept = kept_read;
-    refused = same;
-    took = took_read;
-    text = λ more come. (
-      m.came ++ more,
-      come_before more come,
-      ap (tokens_in s.line s.place) (bytes_read more),
-      (let e : (s.place + length s.bytes) + length (m.came ++ more) ≡ (s.place + length after) + length more =
-          omega (arith, length-append m.came more, ap length m.behind, length-append s.bytes m.came) in e),
-    );
+  pub reads_on : BytesRead b o c p → ReadsOn (of_bytes b line refused) o (of_bytes c line refused) p
+  reads_on r = record {
+    kept = kept_by refused r.kept;
+    refused = refl;
+    took = (r.took.0, r.took.2);
+    text = λ more come.
+        let y = r.text more come in (
+          y.0,
+          y.1,
+          (λ i. tokens_in line (sym r.kept.place i) (y.2 i)),
+          (let e : (b.place + length b.bytes) + length y.0 ≡ (c.place + length c.bytes) + length more =
+              omega (arith, ap length y.2, length-append b.bytes y.0, length-append c.bytes more, r.kept.place) in e),
+        );
   }
 
-  -- a byte behind the limit
-  past_by : (w : Option Told) → s.limit < s.place + length after → ¬ (option_map (λ t. nat_lt s.limit ((s.place + length after) + length (Behind n s.slot t))) w ≡ Some false)
-  past_by None h e = cc
-  past_by (Some t) h e =
-      let k : nat_lt s.limit ((s.place + length after) + length (Behind n s.slot t)) ≡ false = cc (e) in
-      let l = Rattle.std.proofs.Common.ltb-false s.limit ((s.place + length after) + length (Behind n s.slot t)) k in
-      omega (arith, l)
+  pub reading_fails : (e : ReadErr) (r : Option TextRefusal) → ReadingStops b o e c p → ReadingFails (of_bytes b line refused) o (refusal_of_read e) (of_bytes c line r) p
+  reading_fails why.Memory r k = record { kept = kept_by r k.kept; took = k.why.1; why = tt }
+  reading_fails why.Failed r k = record { kept = kept_by r k.kept; took = k.why.1; why = tt }
+  reading_fails why.TooLong r k = record { kept = kept_by r k.kept; took = (k.why.2.0, k.why.2.2); why = (k.why.1, omega (arith, k.why.0)) }
 
-  pub piece_too_long : s.limit < s.place + length after → ReadingFails s o TooLong now p
-  piece_too_long h = record { kept = kept_read; took = took_read; why = ((λ e. past_by p.told h (long_still ∙ e)), h) }
-
-pub nothing_read : (s : SlotState) (o p : Outside) → p ≡ o → ReadingFails s o Memory s p
-nothing_read s o p h = record {
-  kept = record { slot = refl; limit = refl; long = ap (is_too_long s) h; seen = λ e. subst (EndSeen s) (sym h) e; rises = omega arith };
-  took = (0, h ∙ sym (taken-none s.slot o));
-  why = tt;
-}
-
-pub read_failed : (s : SlotState) (o p : Outside) → ReadFaulted o p → ReadingFails s o Failed s p
-read_failed s o p h =
-    let told : p.told ≡ o.told = ap (λ (x : Outside). x.told) h.else_same in
-    record {
-      kept = record {
-        slot = refl;
-        limit = refl;
-        long = ap (option_map (λ t. nat_lt s.limit (taken_by s + length (to_come s t)))) told;
-        seen = λ e ended. subst (λ (w : Option Told). IfSome w (λ t. left_in s.slot t.left ≡ [])) (sym told) (e ended);
-        rises = omega arith;
-      };
-      took = (0, subst (λ x. ReadFaulted x p) (sym (taken-none s.slot o)) h);
-      why = tt;
-    }
+  pub past_limit : (e : ReadErr) → ReadingStops b o e c p → Some (refusal_of_read e) ≡ Some TooLong → c.limit < c.place + length c.bytes
+  past_limit why.Memory k same = cc
+  past_limit why.Failed k same = cc
+  past_limit why.TooLong k same = omega (arith, k.why.0)
 
 pub started_still : (a : SlotState) (o : Outside) (b : SlotState) (p : Outside) → ReadsOn a o b p → started_in a.slot o.started ≡ true → started_in b.slot p.started ≡ true
 started_still a o b p h e = (λ i. started_in (h.kept.slot i) ((ap (λ (x : Outside). x.started) h.took.1) i)) ∙ e
@@ -231,26 +146,16 @@ module _ (s : SlotState) (o : Outside) where
       let l = Rattle.std.proofs.Common.ltb-true s.limit (taken_by s + length (to_come s t)) k in
       omega (arith, l, m)
 
-  pub ended_already : (r : ℕ) → taken_by s ≤ s.limit → s.ended ≡ true → DrainsRest s o (Ok r) o
-  ended_already r h end = (under_by o.told h (none o.told), (λ seen. seen end), (0, sym (taken-none s.slot o)))
+  pub rest_drained : (len : ℕ) (p : Outside) (b : BytesState) (line : LineState) (refused : Option TextRefusal) → of_bytes b line refused ≡ s → RestRead b o len p → DrainsRest s o (Ok len) p
+  rest_drained len p b line refused is r =
+      subst (λ (x : SlotState). DrainsRest x o (Ok len) p) is ((λ e. within o.told r.come.1 e), r.end, (length r.more, r.moved))
     where
-      none : (w : Option Told) → IfSome w (λ t. taken_by s + length (to_come s t) ≤ s.limit)
-      none None = tt
-      none (Some t) = let z : length (to_come s t) ≡ 0 = ap (λ x. length (cond x [] (left_in s.slot t.left))) end in omega (arith, z, h)
-
-  pub all_drained : (p : Outside) → s.ended ≡ false → taken_by s ≤ s.limit → Drained s.slot (s.limit - taken_by s) o p → DrainsRest {T = ℕ} s o (Ok 0) p
-  all_drained p open_still h (n, few, passes, end) = (
-    under_by o.told h (short o.told passes.stood (subst (λ (w : Option Told). IfSome w (λ t. left_in s.slot t.left ≡ [])) (ap (λ (x : Outside). x.told) passes.moved) end)),
-    (λ seen. end),
-    (n, passes.moved),
-  )
-    where
-      short : (w : Option Told) → IfSome w (λ t. n ≤ length (left_in s.slot t.left)) → IfSome (option_map (without_front s.slot n) w) (λ t. left_in s.slot t.left ≡ []) → IfSome w (λ t. taken_by s + length (to_come s t) ≤ s.limit)
-      short None stood none = tt
-      short (Some t) stood none =
-          let left : length (to_come s t) ≡ length (left_in s.slot t.left) = ap (λ x. length (cond x [] (left_in s.slot t.left))) open_still in
-          let z : length (drop n (left_in s.slot t.left)) ≡ 0 = ap length (sym (left-behind s.slot n t) ∙ none) in
-          omega (arith, left, z, length-drop n (left_in s.slot t.left), few, h)
+      within : (w : Option Told) → IfSome w (λ t. cond b.ended [] (left_in b.slot t.left) ≡ r.more) → ¬ (option_map (λ t. nat_lt b.limit ((b.place + length b.bytes) + length (cond b.ended [] (left_in b.slot t.left)))) w ≡ Some true)
+      within None come e = cc
+      within (Some t) come e =
+          let k : nat_lt b.limit ((b.place + length b.bytes) + length (cond b.ended [] (left_in b.slot t.left))) ≡ true = cc (e) in
+          let l = Rattle.std.proofs.Common.ltb-true b.limit ((b.place + length b.bytes) + length (cond b.ended [] (left_in b.slot t.left))) k in
+          omega (arith, l, ap length come, r.whole, r.fits)
 
   pub too_much : (p : Outside) → s.ended ≡ false → taken_by s ≤ s.limit → Passes s.slot ((s.limit - taken_by s) + 1) o p → DrainsRest {T = ℕ} s o (Err drained.TooLong) p
   too_much p open_still h passes = (long o.told passes.stood, ((s.limit - taken_by s) + 1, passes.moved))
@@ -262,8 +167,3 @@ module _ (s : SlotState) (o : Outside) where
           let l = Rattle.std.proofs.Common.ltb-false s.limit (taken_by s + length (to_come s t)) k in
           let left : length (to_come s t) ≡ length (left_in s.slot t.left) = ap (λ x. length (cond x [] (left_in s.slot t.left))) open_still in
           omega (arith, l, left, stood, h)
-
-pub rest_drained : {T : Type 0} (s : SlotState) (o p : Outside) (r : Result T DrainErr) → s.ended ≡ false → taken_by s ≤ s.limit → Drains s.slot (s.limit - taken_by s) o r p → DrainsRest s o r p
-rest_drained s o p (Ok answer) open_still h d = all_drained s o p open_still h d
-rest_drained s o p (Err drained.TooLong) open_still h d = too_much s o p open_still h d
-rest_drained s o p (Err drained.Failed) open_still h d = d

@@ -1,5 +1,5 @@
 pub mod Ahead
-pub mod AheadRefusals
+pub mod ReadRefusals
 pub mod Found
 pub mod Heads
 pub mod Left

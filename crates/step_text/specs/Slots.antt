@@ -3,6 +3,7 @@ use Rattle.std.specs.Prelude.{◌≡◌, ◌≤◌, ◌<◌, ◌+◌, ◌-◌, �
 use Rattle.cx_desk.specs.declared.desk.Slot.{Slot}
 use Rattle.cx_desk.specs.Outside.{Told, Outside, left_in}
 use Rattle.cx_desk.specs.Calls.{taken, ReadFaulted, AtEnd}
+use Rattle.cx_desk.specs.SlotBytes.{BytesState}
 use Rattle.cx_desk.specs.declared.draining.DrainErr.{DrainErr}
 use Rattle.cx_desk.specs.declared.draining.DrainErr.TheVariants as drained
 use Rattle.cx_texts.specs.Pieces.{tokens_in}
@@ -23,6 +24,10 @@ pub record SlotState : Type 0 where
   pub line : LineState
   pub ended : Bool
   pub refused : Option TextRefusal
+
+-- what is read of these bytes, by what their reader stands in and what it refused
+abbrev pub of_bytes : BytesState → LineState → Option TextRefusal → SlotState
+of_bytes b line refused = record { slot = b.slot; limit = b.limit; bytes = b.bytes; place = b.place; line = line; ended = b.ended; refused = refused }
 
 -- how many bytes were read
 abbrev pub taken_by : SlotState → ℕ

@@ -13,7 +13,7 @@ ghost use Rattle.step_text.specs.SlotAnswers.{PairLeaves, IsAnswer};
 use crate::ahead::TokensAhead;
 use crate::grammar::StepGrammar;
 use crate::source::TextRefusal;
-use cx_desk::{Desk, DrainErr, ReadAhead, Slot, drain};
+use cx_desk::{Desk, DrainErr, Slot, SlotBytes};
 use cx_texts::{LineState, pass_blanks, whole_front};
 use std::alloc::Global;
 use std::marker::{Model, PhantomData};
@@ -105,12 +105,8 @@ where
 #[derive(Drop)]
 pub struct SlotReader<G> {
     alloc: Global,
-    slot: Slot,
-    limit: u64,
-    ahead: ReadAhead,
-    place: usize,
+    bytes: SlotBytes,
     line: LineState,
-    ended: bool,
     refused: Option<TextRefusal>,
     grammar: PhantomData<G>,
 }
@@ -122,9 +118,9 @@ impl<G> Model for SlotReader<G> {
 
     ghost Value = { SlotState };
 
-    ghost view = { λ r. record { slot = r.slot; limit = r.limit; bytes = r.ahead; place = r.place; line = r.line; ended = r.ended; refused = r.refused } };
+    ghost view = { λ r. record { slot = r.bytes.slot; limit = r.bytes.limit; bytes = r.bytes.bytes; place = r.bytes.place; line = r.line; ended = r.bytes.ended; refused = r.refused } };
 
-    ghost invariant = { λ r. (r.limit ≤ 4294967295) × (r.place ≤ r.limit) × (r.place + length r.ahead ≤ r.limit + 1) × (r.refused ≡ None → r.place + length r.ahead ≤ r.limit) × (r.refused ≡ Some TooLong → r.limit < r.place + length r.ahead) };
+    ghost invariant = { λ r. (r.bytes.limit ≤ 4294967295) × (r.bytes.place ≤ r.bytes.limit) × (r.bytes.place + length r.bytes.bytes ≤ r.bytes.limit + 1) × (r.refused ≡ None → r.bytes.place + length r.bytes.bytes ≤ r.bytes.limit) × (r.refused ≡ Some TooLong → r.bytes.limit < r.bytes.place + length r.bytes.bytes) };
 }
 
 impl<G: StepGrammar> SlotReader<G>
@@ -138,12 +134,8 @@ where
     {
         SlotReader {
             alloc,
-            slot,
-            limit,
-            ahead: ReadAhead::new(alloc),
-            place: 0,
+            bytes: SlotBytes::new(alloc, slot, limit),
             line: LineState::Start,
-            ended: false,
             refused: None,
             grammar: PhantomData,
         }
@@ -153,14 +145,14 @@ where
     pub fn taken(&self) -> u64
         ensures { result ≡ taken_by self.now }
     {
-        (self.place + self.ahead.bytes().len()) as u64
+        self.bytes.taken()
     }
 
     /// The place of the first byte that was not passed.
     pub fn place(&self) -> u64
         ensures { result ≡ self.now.place }
     {
-        self.place as u64
+        self.bytes.place() as u64
     }
 
     /// Passes the blanks and comments at hand.
@@ -171,29 +163,9 @@ where
         ensures taken { taken_by self.new ≡ taken_by self.old }
         ensures ended { self.new.ended ≡ self.old.ended }
     {
-        let stop = pass_blanks(self.ahead.bytes(), self.line);
-        self.ahead.pass(stop.at);
-        self.place += stop.at;
+        let stop = pass_blanks(self.bytes.bytes(), self.line);
+        self.bytes.pass(stop.at);
         self.line = stop.line;
-    }
-
-    /// Reads one more piece.
-    fn read_more<D: Desk>(&mut self, desk: &mut D) -> Result<(), TextRefusal>
-        requires started { started_in self.old.slot (D.outside desk.old).started ≡ true }
-        requires within { taken_by self.old ≤ self.old.limit }
-        requires open { self.old.ended ≡ false }
-        ensures read { MatchResult result (λ _. ReadsOn self.old (D.outside desk.old) self.new (D.outside desk.new)) (λ e. ReadingFails self.old (D.outside desk.old) e self.new (D.outside desk.new)) }
-        ensures within { IfOk result (λ _. taken_by self.new ≤ self.new.limit) }
-        ensures falls { IfOk result (λ _. to_read self.new < to_read self.old) }
-    {
-        let left = (self.limit - self.taken()) as usize;
-        let count = self.ahead.read(desk, self.slot, left + 1)?;
-        self.ended = count == 0;
-        if count > left {
-            self.refused = Some(TextRefusal::TooLong);
-            return Err(TextRefusal::TooLong);
-        }
-        Ok(())
     }
 
     /// Reads as much again as is at hand, or to the end.
@@ -205,12 +177,14 @@ where
         ensures within { IfOk result (λ _. taken_by self.new ≤ self.new.limit) }
         ensures falls { IfOk result (λ _. to_read self.new < to_read self.old) }
     {
-        let enough = self.ahead.bytes().len().saturating_mul(2);
-        self.read_more(desk)?;
-        while !self.ended && self.ahead.bytes().len() < enough {
-            self.read_more(desk)?;
+        match self.bytes.read_twice(desk) {
+            Ok(()) => Ok(()),
+            Err(err) => {
+                let refusal = TextRefusal::from(err);
+                self.refused = Some(refusal);
+                Err(refusal)
+            }
         }
-        Ok(())
     }
 
     /// The next step of the bytes at hand, or the end, or a refusal, if they tell it.
@@ -219,10 +193,15 @@ where
         requires fresh { self.old.refused ≡ None }
         ensures answer { MatchOption result ((self.new ≡ self.old) × (self.old.ended ≡ false)) (λ r. (o : Outside) → IsAnswer G.steps self.old o r self.new o) }
     {
-        match find_step::<G>(self.alloc, self.ahead.bytes(), self.place, self.ended) {
+        let place = self.bytes.place();
+        match find_step::<G>(
+            self.alloc,
+            self.bytes.bytes(),
+            place,
+            self.bytes.has_ended(),
+        ) {
             Found::Step(step, next) => {
-                self.ahead.pass(next - self.place);
-                self.place = next;
+                self.bytes.pass(next - place);
                 Some(Ok(Some(step)))
             }
             Found::End => Some(Ok(None)),
@@ -254,13 +233,13 @@ where
         requires { started_in self.now.slot (D.outside desk.old).started ≡ true }
         ensures { DrainsRest self.now (D.outside desk.old) result (D.outside desk.new) }
     {
-        if self.taken() > self.limit {
+        if self.bytes.is_past_limit() {
             return Err(DrainErr::TooLong);
         }
-        if self.ended {
-            return Ok(());
+        match self.bytes.read_rest(desk) {
+            Ok(_) => Ok(()),
+            Err(err) => Err(err),
         }
-        drain(desk, self.slot, self.limit - self.taken())
     }
 
     /// The next step, or none at the end of the text between two steps, as a source of steps gives it.

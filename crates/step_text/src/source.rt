@@ -2,10 +2,10 @@
 ghost use Rattle.std.specs.Prelude.{◌≡◌, ◌<◌, ◌≤◌, ◌^◌, ℕ, Bool, true, false, List, Option};
 ghost use Rattle.cx_base.specs.Endings.{Ending};
 ghost use Rattle.step_text.specs.declared.source.TextRefusal.{TextRefusal};
-ghost use Rattle.step_text.specs.AheadRefusals.{refusal_of_ahead};
+ghost use Rattle.step_text.specs.ReadRefusals.{refusal_of_read};
 ghost use Rattle.step_text.specs.Sources.{Gives, PlaceRises, FaultsAs, SpentAs, StuckAs, IsTooLongOnly};
 
-use cx_desk::AheadErr;
+use cx_desk::ReadErr;
 use thiserror::Error;
 
 /// Why no step was given.
@@ -31,13 +31,14 @@ pub enum TextRefusal {
     Failed,
 }
 
-impl From<AheadErr> for TextRefusal {
-    ghost from_gives = { λ a r. r ≡ refusal_of_ahead a };
+impl From<ReadErr> for TextRefusal {
+    ghost from_gives = { λ a r. r ≡ refusal_of_read a };
 
-    fn from(err: AheadErr) -> Self {
+    fn from(err: ReadErr) -> Self {
         match err {
-            AheadErr::Memory => TextRefusal::Memory,
-            AheadErr::Failed => TextRefusal::Failed,
+            ReadErr::Memory => TextRefusal::Memory,
+            ReadErr::Failed => TextRefusal::Failed,
+            ReadErr::TooLong => TextRefusal::TooLong,
         }
     }
 }
