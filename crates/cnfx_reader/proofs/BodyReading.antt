@@ -11,7 +11,7 @@ use Rattle.cx_base.specs.declared.constraint.Constraint.TheVariants as constrain
 use Rattle.cx_base.specs.Integers.{integer_of, integers_of, literal}
 use Rattle.cx_texts.specs.Words.{Word, number, letter, conflict, other, Placed, words, IsWithin}
 use Rattle.cx_texts.specs.Grammar.{Field, IsProper, spelled, IsStep, Begins, IsUnfinished, Stops, AreInLimit, Spells, FirstBad, FirstBig, Reading}
-use Rattle.cx_base.specs.Endings.{Ending, bad_token, too_big, unterminated}
+use Rattle.cx_base.specs.Endings.{bad_token, too_big, unterminated}
 use Rattle.cx_texts.specs.FormulaText.{constraints}
 use Rattle.cx_texts.proofs.Shapes.{Kind, kind, a_mark, some_integers, Parsed, whole, partial, bad, parse, push}
 use Rattle.cx_texts.proofs.Forms.{step_parses}

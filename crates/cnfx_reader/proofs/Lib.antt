@@ -5,3 +5,4 @@ pub mod FrontLaws
 pub mod WordLaws
 pub mod BodyReading
 pub mod TextReading
+pub mod SlotFormulaLaws

@@ -1,19 +1,22 @@
 -- What the whole tokens of a piece tell, whatever follows the piece.
-use Rattle.std.proofs.Common.{◌≡◌, refl, sym, ap, ◌∙◌, subst, ℕ, ◌+◌, ◌<◌, ◌≤◌, false, List, [], ◌∷◌, ◌++◌, length, take, drop, Option, Some, None, Result, Ok, Err, MatchResult, arith, append_assoc, append-nil, length-take, take-append-drop}
+use Rattle.std.proofs.Common.{◌≡◌, refl, sym, ap, ◌∙◌, subst, ℕ, ◌+◌, ◌<◌, ◌≤◌, false, List, [], ◌∷◌, ◌++◌, length, take, drop, Option, Some, None, Result, Ok, Err, IfOk, MatchResult, arith, append_assoc, append-nil, length-take, length-drop, take-append-drop}
 use Rattle.std.proofs.lemmas.Grind.{flat_map-append}
 use Rattle.std.proofs.lemmas.List.{drop-append-le}
-use Rattle.std.specs.List.{flat_map}
 use Rattle.cx_base.specs.Drafts.{Draft}
-use Rattle.cx_texts.specs.FormulaText.{header}
+use Rattle.cx_base.specs.declared.literal.TheConstants.{MAX_VARIABLE}
 use Rattle.cx_texts.specs.Pieces.{EndsBlank}
-use Rattle.cx_texts.specs.Tokens.{Token}
-use Rattle.cx_texts.specs.Words.{Placed, placed_formula_words, formula_words_of}
+use Rattle.cx_texts.specs.Tokens.{Token, NoBlank, EndsRun}
+use Rattle.cx_texts.specs.Words.{placed_formula_words, formula_words_of}
 use Rattle.cx_texts.specs.declared.line_state.LineState.TheVariants.{Kept}
 use Rattle.cx_texts.specs.declared.offence.Offence.{Offence}
-use Rattle.cnfx_reader.specs.Body.{Outcome, outcome, IsPendingIn, IsEndedBy}
+use Rattle.cnfx_reader.specs.Body.{outcome, IsEndedBy}
 use Rattle.cnfx_reader.specs.Meanings.{placed_at}
 use Rattle.cnfx_reader.specs.PieceReading.{PieceTaken, PieceRefused}
-use Rattle.cnfx_reader.specs.PieceSteps.{answer_from, behind_header, IsPhaseIn, IsRefusedBy, BodyTaken, StepTaken, StepRefused}
+use Rattle.cnfx_reader.specs.PieceSteps.{answer_from, behind_header, IsPhaseIn, IsRefusedBy, IsRun, BodyTaken, StepTaken, StepRefused, TokenTaken, TokenRefused}
+use Rattle.cnfx_reader.specs.HeaderParts.{header_from, header_behind, IsStepWithin}
+use Rattle.cnfx_reader.specs.declared.header_token.HeaderPart.{HeaderPart}
+use Rattle.cnfx_reader.specs.declared.header_token.HeaderStep.{HeaderStep}
+use Rattle.cnfx_reader.specs.declared.header_token.HeaderStep.TheVariants.{Lacks, Whole}
 use Rattle.cnfx_reader.specs.Refusals.{refusal_of}
 use Rattle.cnfx_reader.specs.TokensLeft.{formula_tokens_within}
 use Rattle.cnfx_reader.specs.declared.body.PieceRead.{PieceRead}
@@ -24,30 +27,27 @@ use Rattle.cnfx_reader.specs.declared.piece.Phase.TheVariants.{Head, Body}
 use Rattle.cnfx_reader.specs.declared.piece.Taken.{Taken}
 use Rattle.cnfx_reader.specs.declared.refusal.ReadRefusal.{ReadRefusal}
 use Rattle.cnfx_reader.proofs.FormulaPieces.{formula_cut, formula_left}
+use Rattle.cnfx_reader.proofs.FormulaTokens.{within-run}
 
 words-append : (a b : List Token) → placed_formula_words (a ++ b) ≡ placed_formula_words a ++ placed_formula_words b
 words-append a b = flat_map-append (λ (t : Token). placed_at t.place (formula_words_of t.text)) a b
 
 -- ---- the body of a piece
 
-kept_token : (v : ℕ) (pending : Pending) (old : Draft) (tokens : List Token) (next : ℕ) (read : PieceRead) (new : Draft) (p : PieceTaken pending old tokens false read new) → read.kept ≡ Some next
+pub body_step : (v : ℕ) (pending : Pending) (old : Draft) (tokens : List Token) (next : ℕ) (read : PieceRead) (new : Draft) (p : PieceTaken pending old tokens false read new) → read.kept ≡ Some next → v ≤ MAX_VARIABLE
     → BodyTaken v pending old tokens (Some (record { phase = Body v read.pending; next = next })) new
-kept_token v pending old tokens next read new p e =
+body_step v pending old tokens next read new p e small =
     let k : (false ≡ Rattle.std.proofs.Common.true → ⊥) × (token : Token) × (p.rest ≡ token ∷ []) × (next ≡ token.place) = subst (λ (o : Option ℕ). Rattle.cnfx_reader.specs.PieceReading.IsKeptBack false o p.rest) e p.kept in
     let here = placed_at k.1.place (formula_words_of k.1.text) in (
       p.before,
       k.1,
       p.split ∙ ap (λ ts. p.before ++ ts) k.2,
       k.3,
-      p.fits,
+      (small, p.fits),
       λ len more.
           ap (λ ws. Ok (v, outcome len pending old ws)) (words-append tokens more) ∙ ap (λ o. Ok (v, o)) (p.same len (placed_formula_words more))
           ∙ ap (λ ws. Ok (v, outcome len read.pending new ws)) (ap (λ ts. placed_formula_words ts ++ placed_formula_words more) k.2 ∙ ap (λ ws. ws ++ placed_formula_words more) (append-nil here)),
     )
-
-pub body_step : (v : ℕ) (pending : Pending) (old : Draft) (tokens : List Token) (next : ℕ) (read : PieceRead) (new : Draft) (p : PieceTaken pending old tokens false read new) → read.kept ≡ Some next
-    → BodyTaken v pending old tokens (Some (record { phase = Body v read.pending; next = next })) new
-body_step v pending old tokens next read new p e = kept_token v pending old tokens next read new p e
 
 -- ---- a piece in its text
 
@@ -63,7 +63,7 @@ module _ (place len : ℕ) (bytes : List ℕ) (tokens : List Token) (blank : End
       subst (λ ts. IsRefusedBy e (answer_from phase size old ts)) (sym f.1) (refused size f.0)
 
   pub piece_step : (phase : Phase) (old : Draft) (t : Taken) (new : Draft) (before : List Token) (token : Token) → tokens ≡ before ++ token ∷ [] → t.next ≡ token.place → IsPhaseIn t.phase new
-      → ((size : ℕ) (more : List Token) → answer_from phase size old (tokens ++ more) ≡ answer_from t.phase size new (token ∷ more)) → StepTaken phase old place bytes (Some t) new
+      → ((size : ℕ) (more : List Token) → answer_from phase size old (tokens ++ more) ≡ answer_from t.phase size new (token ∷ more)) → StepTaken phase old place bytes t new
   piece_step phase old t new before token split at fits same =
       let here = formula_left Kept place (take len bytes) before token [] (sym are ∙ split) in
       let inside : here.behind ≤ length bytes = omega (arith, here.inside, length-take len bytes, within) in (
@@ -80,37 +80,104 @@ module _ (place len : ℕ) (bytes : List ℕ) (tokens : List Token) (blank : End
             ap (answer_from phase size old) f.1 ∙ same size f.0 ∙ ap (answer_from t.phase size new) (sym left),
       )
 
--- ---- behind a header
-
-module _ (old : Draft) (v : ℕ) (tokens body : List Token) (head : (size : ℕ) (more : List Token) → header size (tokens ++ more) ≡ Ok (v, body ++ more)) where
-  pub head_same : (t : Taken) (new : Draft) (token : Token) → ((size : ℕ) (more : List Token) → Ok (v, outcome size Nothing old (placed_formula_words (body ++ more))) ≡ answer_from t.phase size new (token ∷ more))
-      → (size : ℕ) (more : List Token) → answer_from Head size old (tokens ++ more) ≡ answer_from t.phase size new (token ∷ more)
-  head_same t new token same size more = ap (behind_header size old) (head size more) ∙ same size more
-
-  pub head_refused : (e : ReadRefusal) → PieceRefused Nothing old body e → (size : ℕ) (more : List Token) → IsRefusedBy e (answer_from Head size old (tokens ++ more))
-  head_refused e refused size more =
-      subst (IsRefusedBy e) (sym (ap (behind_header size old) (head size more))) (subst (λ ws. IsEndedBy e (outcome size Nothing old ws).ending) (sym (words-append body more)) (refused size (placed_formula_words more)))
+-- ---- what a piece is taken as
 
 pub body_refused : (v : ℕ) (pending : Pending) (old : Draft) (tokens : List Token) (e : ReadRefusal) → PieceRefused pending old tokens e → (size : ℕ) (more : List Token) → IsRefusedBy e (answer_from (Body v pending) size old (tokens ++ more))
 body_refused v pending old tokens e refused size more = subst (λ ws. IsEndedBy e (outcome size pending old ws).ending) (sym (words-append tokens more)) (refused size (placed_formula_words more))
 
-pub header_refused : (old : Draft) (tokens : List Token) (o : Offence) → ((size : ℕ) (more : List Token) → header size (tokens ++ more) ≡ Err o) → (size : ℕ) (more : List Token) → IsRefusedBy (refusal_of o) (answer_from Head size old (tokens ++ more))
-header_refused old tokens o refused size more = subst (IsRefusedBy (refusal_of o)) (sym (ap (behind_header size old) (refused size more))) refl
+pub none_taken : (place : ℕ) (bytes : List ℕ) (phase : Phase) (old new : Draft) → IsPhaseIn phase old → new ≡ old → StepTaken phase old place bytes (record { phase = phase; next = place }) new
+none_taken place bytes phase old new fits same =
+    (0, omega arith, omega arith, subst (IsPhaseIn phase) (sym same) fits, λ size more. ap (λ d. answer_from phase size d (formula_tokens_within place (bytes ++ more))) (sym same))
 
--- ---- what a piece is taken as
+-- none were taken, and then some
+module _ (place : ℕ) (bytes : List ℕ) (phase mid : Phase) (next : ℕ) (old d : Draft) (first : StepTaken phase old place bytes (record { phase = mid; next = next }) d) (none : next ≡ place) where
+  same_there : (size : ℕ) (more : List ℕ) → answer_from phase size old (formula_tokens_within place (bytes ++ more)) ≡ answer_from mid size d (formula_tokens_within place (bytes ++ more))
+  same_there size more =
+      let z : first.0 ≡ 0 = omega (arith, first.1, none) in
+      first.4 size more ∙ (λ i. answer_from mid size d (formula_tokens_within (none i) (drop (z i) bytes ++ more)))
 
-module _ (place len : ℕ) (bytes : List ℕ) (tokens : List Token) (blank : EndsBlank (take len bytes)) (within : len ≤ length bytes) (are : tokens ≡ formula_tokens_within place (take len bytes)) (old new : Draft) where
-  pub body_result : (v : ℕ) (pending : Pending) (r : Result (Option Taken) ReadRefusal) → MatchResult r (λ o. BodyTaken v pending old tokens o new) (λ e. PieceRefused pending old tokens e)
-      → MatchResult r (λ o. StepTaken (Body v pending) old place bytes o new) (λ e. StepRefused (Body v pending) old place bytes e)
-  body_result v pending (Ok None) h = h
-  body_result v pending (Ok (Some t)) (before, token, split, at, fits, same) = piece_step place len bytes tokens blank within are (Body v pending) old t new before token split at fits same
-  body_result v pending (Err e) h = piece_refused place len bytes tokens blank within are (Body v pending) old e (body_refused v pending old tokens e h)
+  pub then_taken : (t : Taken) (new : Draft) → StepTaken mid d place bytes t new → StepTaken phase old place bytes t new
+  then_taken t new (k, at, few, fits, same) = (k, at, few, fits, λ size more. same_there size more ∙ same size more)
 
-  pub head_result : (v : ℕ) (front body : List Token) → tokens ≡ front ++ body → ((size : ℕ) (more : List Token) → header size (tokens ++ more) ≡ Ok (v, body ++ more))
-      → (r : Result (Option Taken) ReadRefusal) → MatchResult r (λ o. BodyTaken v Nothing old body o new) (λ e. PieceRefused Nothing old body e)
-      → MatchResult r (λ o. StepTaken Head old place bytes o new) (λ e. StepRefused Head old place bytes e)
-  head_result v front body split head (Ok None) h = h
-  head_result v front body split head (Ok (Some t)) (before, token, rest, at, fits, same) =
-      piece_step place len bytes tokens blank within are Head old t new (front ++ before) token
-      (split ∙ ap (λ ts. front ++ ts) rest ∙ sym (append_assoc front before (token ∷ []))) at fits (head_same old v tokens body head t new token same)
-  head_result v front body split head (Err e) h = piece_refused place len bytes tokens blank within are Head old e (head_refused old v tokens body head e h)
+  pub then_refused : (e : ReadRefusal) → StepRefused mid d place bytes e → StepRefused phase old place bytes e
+  then_refused e refused size more = subst (IsRefusedBy e) (sym (same_there size more)) (refused size more)
+
+  pub then_result : (r : Result Taken ReadRefusal) (new : Draft) → MatchResult r (λ t. StepTaken mid d place bytes t new) (λ e. StepRefused mid d place bytes e) → MatchResult r (λ t. StepTaken phase old place bytes t new) (λ e. StepRefused phase old place bytes e)
+  then_result (Ok t) new h = then_taken t new h
+  then_result (Err e) new h = then_refused e h
+
+-- ---- one token
+
+ends_more : (rest more : List ℕ) → 0 < length rest → EndsRun rest → EndsRun (rest ++ more)
+ends_more [] more h e = absurd (omega (arith, h))
+ends_more (b ∷ rest) more h e = e
+
+module _ (place len : ℕ) (bytes : List ℕ) (some : 0 < len) (few : len < length bytes) (run : NoBlank (take len bytes)) (ends : EndsRun (drop len bytes)) where
+  abbrev first : Token
+  first = record { place = place; text = take len bytes }
+
+  first_run : (more : List ℕ) → formula_tokens_within place (bytes ++ more) ≡ first ∷ formula_tokens_within (place + len) (drop len bytes ++ more)
+  first_run more = ap (formula_tokens_within place) (ap (λ b. b ++ more) (sym (take-append-drop len bytes)) ∙ append_assoc (take len bytes) (drop len bytes) more) ∙ go (take len bytes) refl
+    where
+      behind : EndsRun (drop len bytes ++ more)
+      behind = ends_more (drop len bytes) more (omega (arith, length-drop len bytes, few)) ends
+
+      go : (t : List ℕ) → take len bytes ≡ t → formula_tokens_within place (take len bytes ++ (drop len bytes ++ more)) ≡ first ∷ formula_tokens_within (place + len) (drop len bytes ++ more)
+      go [] e = let k : length (take len bytes) ≡ 0 = ap length e in absurd (omega (arith, k, length-take len bytes, some, few))
+      go (b ∷ t) e =
+          let k : length (b ∷ t) ≡ len = ap length (sym e) ∙ (let f : length (take len bytes) ≡ len = omega (arith, length-take len bytes, few) in f) in
+          ap (λ x. formula_tokens_within place (x ++ (drop len bytes ++ more))) e ∙ within-run place b t (drop len bytes ++ more) (subst NoBlank e run) behind
+          ∙ (λ i. record { place = place; text = sym e i } ∷ formula_tokens_within (place + k i) (drop len bytes ++ more))
+
+  pub first_step : (phase next : Phase) (old new : Draft) → TokenTaken phase old first next new → StepTaken phase old place bytes (record { phase = next; next = place + len }) new
+  first_step phase next old new (fits, same) = (len, refl, omega (arith, few), fits, λ size more. ap (answer_from phase size old) (first_run more) ∙ same size (formula_tokens_within (place + len) (drop len bytes ++ more)))
+
+  pub first_refused : (phase : Phase) (old : Draft) (e : ReadRefusal) → TokenRefused phase old first e → StepRefused phase old place bytes e
+  first_refused phase old e refused = λ size more. subst (λ ts. IsRefusedBy e (answer_from phase size old ts)) (sym (first_run more)) (refused size (formula_tokens_within (place + len) (drop len bytes ++ more)))
+
+whole_token : (place : ℕ) (token : List ℕ) → IsRun token → formula_tokens_within place token ≡ record { place = place; text = token } ∷ []
+whole_token place [] (some, run) = absurd (omega (arith, some))
+whole_token place (b ∷ t) (some, run) = ap (formula_tokens_within place) (sym (append-nil (b ∷ t))) ∙ within-run place b t [] run tt
+
+module _ (place : ℕ) (token : List ℕ) (run : IsRun token) (tokens : List Token) (are : tokens ≡ formula_tokens_within place token) (v : ℕ) (pending : Pending) (old : Draft) where
+  one : tokens ≡ record { place = place; text = token } ∷ []
+  one = are ∙ whole_token place token run
+
+  words_one : (more : List Token) → placed_formula_words (record { place = place; text = token } ∷ more) ≡ placed_formula_words tokens ++ placed_formula_words more
+  words_one more = words-append (record { place = place; text = token } ∷ []) more ∙ ap (λ ts. placed_formula_words ts ++ placed_formula_words more) (sym one)
+
+  nothing_kept : (o : Option ℕ) (rest : List Token) → Rattle.cnfx_reader.specs.PieceReading.IsKeptBack Rattle.std.proofs.Common.true o rest → rest ≡ []
+  nothing_kept None rest h = h
+  nothing_kept (Some p) rest h = absurd (h.0 refl)
+
+  pub body_token : (read : PieceRead) (new : Draft) → v ≤ MAX_VARIABLE → PieceTaken pending old tokens Rattle.std.proofs.Common.true read new → TokenTaken (Body v pending) old (record { place = place; text = token }) (Body v read.pending) new
+  body_token read new small p = (
+    (small, p.fits),
+    λ len more.
+        ap (λ ws. Ok (v, outcome len pending old ws)) (words_one more) ∙ ap (λ o. Ok (v, o)) (p.same len (placed_formula_words more))
+        ∙ ap (λ ts. Ok (v, outcome len read.pending new (placed_formula_words ts ++ placed_formula_words more))) (nothing_kept read.kept p.rest p.kept),
+  )
+
+  pub body_token_refused : (e : ReadRefusal) → PieceRefused pending old tokens e → TokenRefused (Body v pending) old (record { place = place; text = token }) e
+  body_token_refused e refused len more = subst (λ ws. IsEndedBy e (outcome len pending old ws).ending) (sym (words_one more)) (refused len (placed_formula_words more))
+
+-- ---- a token of the header
+
+abbrev HeadTaken : HeaderPart → Token → Draft → Result HeaderStep Offence → Type 0
+HeadTaken part t d (Ok (Lacks next)) = TokenTaken (Head part) d t (Head next) d
+HeadTaken part t d (Ok (Whole v)) = TokenTaken (Head part) d t (Body v Nothing) d
+HeadTaken part t d (Err o) = TokenRefused (Head part) d t (refusal_of o)
+
+pub head_taken : (part : HeaderPart) (t : Token) (r : Result HeaderStep Offence) → IfOk r IsStepWithin → ((len : ℕ) (rest : List Token) → header_from part len (t ∷ rest) ≡ header_behind r len rest) → (d : Draft) → d.unfinished ≡ [] → HeadTaken part t d r
+head_taken part t (Ok (Lacks next)) within read d empty = ((within, empty), λ len more. ap (behind_header len d) (read len more))
+head_taken part t (Ok (Whole v)) within read d empty = ((within, empty), λ len more. ap (behind_header len d) (read len more))
+head_taken part t (Err o) within read d empty = λ len more. subst (IsRefusedBy (refusal_of o)) (sym (ap (behind_header len d) (read len more))) refl
+
+-- ---- the rest
+
+module _ (part : HeaderPart) (len : ℕ) (d : Draft) (tokens : List Token) where
+  pub head_refused : (o : Offence) → header_from part len tokens ≡ Err o → IsRefusedBy (refusal_of o) (answer_from (Head part) len d tokens)
+  head_refused o e = subst (IsRefusedBy (refusal_of o)) (sym (ap (behind_header len d) e)) refl
+
+  pub behind_head : (v : ℕ) (body : List Token) → header_from part len tokens ≡ Ok (v, body) → answer_from (Head part) len d tokens ≡ answer_from (Body v Nothing) len d body
+  behind_head v body e = ap (behind_header len d) e

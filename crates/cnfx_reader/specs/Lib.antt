@@ -9,3 +9,5 @@ pub mod HeaderParts
 pub mod Pieces
 pub mod PieceReading
 pub mod PieceSteps
+pub mod FromSlot
+pub mod SlotFormula

@@ -1,11 +1,13 @@
 -- What is made of a piece of a formula's text, whatever follows it.
-use Rattle.std.specs.Prelude.{◌≡◌, ◌≤◌, ◌+◌, ℕ, List, [], ◌∷◌, ◌++◌, length, drop, Option, Some, None, Result, Ok, Err}
+use Rattle.std.specs.Prelude.{◌≡◌, ◌<◌, ◌≤◌, ◌+◌, ℕ, List, [], ◌∷◌, ◌++◌, length, drop, Option, Some, None, Result, Ok, Err}
 use Rattle.cx_base.specs.Drafts.{Draft}
-use Rattle.cx_texts.specs.FormulaText.{header}
-use Rattle.cx_texts.specs.Tokens.{Token}
-use Rattle.cx_texts.specs.Words.{Placed, placed_formula_words}
+use Rattle.cx_base.specs.Endings.{finished}
+use Rattle.cx_base.specs.declared.literal.TheConstants.{MAX_VARIABLE}
+use Rattle.cx_texts.specs.Tokens.{Token, NoBlank}
+use Rattle.cx_texts.specs.Words.{placed_formula_words}
 use Rattle.cx_texts.specs.declared.offence.Offence.{Offence}
 use Rattle.cnfx_reader.specs.Body.{Outcome, outcome, IsPendingIn, IsEndedBy}
+use Rattle.cnfx_reader.specs.HeaderParts.{header_from, IsPartWithin}
 use Rattle.cnfx_reader.specs.Refusals.{refusal_of}
 use Rattle.cnfx_reader.specs.TokensLeft.{formula_tokens_within}
 use Rattle.cnfx_reader.specs.declared.pending.Pending.{Pending}
@@ -15,10 +17,10 @@ use Rattle.cnfx_reader.specs.declared.piece.Phase.TheVariants.{Head, Body}
 use Rattle.cnfx_reader.specs.declared.piece.Taken.{Taken}
 use Rattle.cnfx_reader.specs.declared.refusal.ReadRefusal.{ReadRefusal}
 
--- before the body nothing was made
+-- before the body no constraint is open; the number of variables is within the limit
 abbrev pub IsPhaseIn : Phase → Draft → Type 0
-IsPhaseIn Head d = d.unfinished ≡ []
-IsPhaseIn (Body v pending) d = IsPendingIn pending d
+IsPhaseIn (Head part) d = IsPartWithin part × (d.unfinished ≡ [])
+IsPhaseIn (Body v pending) d = (v ≤ MAX_VARIABLE) × IsPendingIn pending d
 
 -- behind a header: its number of variables, and what is read of the body
 abbrev pub behind_header : ℕ → Draft → Result (ℕ × List Token) Offence → Result (ℕ × Outcome) Offence
@@ -27,7 +29,7 @@ behind_header len d (Err offence) = Err offence
 
 -- what is read of the tokens from here on
 abbrev pub answer_from : Phase → ℕ → Draft → List Token → Result (ℕ × Outcome) Offence
-answer_from Head len d tokens = behind_header len d (header len tokens)
+answer_from (Head part) len d tokens = behind_header len d (header_from part len tokens)
 answer_from (Body v pending) len d tokens = Ok (v, outcome len pending d (placed_formula_words tokens))
 
 -- the refusal is that of the header, or it ends the body
@@ -41,11 +43,25 @@ BodyTaken vars pending old tokens None new = new ≡ old
 BodyTaken vars pending old tokens (Some t) new = (before : List Token) × (token : Token) × (tokens ≡ before ++ token ∷ []) × (t.next ≡ token.place) × IsPhaseIn t.phase new
     × ((len : ℕ) (more : List Token) → Ok (vars, outcome len pending old (placed_formula_words (tokens ++ more))) ≡ answer_from t.phase len new (token ∷ more))
 
--- so many bytes were taken, or none
-abbrev pub StepTaken : Phase → Draft → ℕ → List ℕ → Option Taken → Draft → Type 0
-StepTaken phase old place bytes None new = new ≡ old
-StepTaken phase old place bytes (Some t) new = (k : ℕ) × (t.next ≡ place + k) × (k ≤ length bytes) × IsPhaseIn t.phase new
+-- so many bytes were taken, whatever follows
+abbrev pub StepTaken : Phase → Draft → ℕ → List ℕ → Taken → Draft → Type 0
+StepTaken phase old place bytes t new = (k : ℕ) × (t.next ≡ place + k) × (k ≤ length bytes) × IsPhaseIn t.phase new
     × ((len : ℕ) (more : List ℕ) → answer_from phase len old (formula_tokens_within place (bytes ++ more)) ≡ answer_from t.phase len new (formula_tokens_within t.next (drop k bytes ++ more)))
 
 abbrev pub StepRefused : Phase → Draft → ℕ → List ℕ → ReadRefusal → Type 0
 StepRefused phase old place bytes e = (len : ℕ) (more : List ℕ) → IsRefusedBy e (answer_from phase len old (formula_tokens_within place (bytes ++ more)))
+
+-- a byte or more, and none of them a blank
+abbrev pub IsRun : List ℕ → Type 0
+IsRun bytes = (0 < length bytes) × NoBlank bytes
+
+-- one token was taken, whatever follows
+abbrev pub TokenTaken : Phase → Draft → Token → Phase → Draft → Type 0
+TokenTaken phase old token next new = IsPhaseIn next new × ((len : ℕ) (more : List Token) → answer_from phase len old (token ∷ more) ≡ answer_from next len new more)
+
+abbrev pub TokenRefused : Phase → Draft → Token → ReadRefusal → Type 0
+TokenRefused phase old token e = (len : ℕ) (more : List Token) → IsRefusedBy e (answer_from phase len old (token ∷ more))
+
+-- the whole text was read as this number of variables and these constraints
+abbrev pub IsWhole : ℕ → Draft → Result (ℕ × Outcome) Offence → Type 0
+IsWhole v d read = (d.unfinished ≡ []) × (read ≡ Ok (v, record { constraints = d.constraints; ending = finished }))

@@ -1,5 +1,5 @@
 -- A formula's text that is read in pieces: what its reader stands in between two bytes, and the tokens from there on.
-use Rattle.std.specs.Prelude.{ℕ, Bool, List, [], ◌∷◌, if◌then◌else◌, ◌==◌}
+use Rattle.std.specs.Prelude.{ℕ, List, [], ◌∷◌, if◌then◌else◌, ◌==◌}
 use Rattle.cx_texts.specs.Tokens.{Token, is_blank, lines_from}
 use Rattle.cx_texts.specs.declared.line_state.LineState.{LineState}
 use Rattle.cx_texts.specs.declared.line_state.LineState.TheVariants.{Start, Kept, Comment}

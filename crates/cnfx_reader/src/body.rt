@@ -4,7 +4,6 @@ ghost use Rattle.cx_texts.specs.Words.{Word, number, Placed, placed_formula_word
 ghost use Rattle.cx_base.specs.Endings.{finished};
 ghost use Rattle.cx_texts.specs.LiteralTokens.{IsInteger};
 ghost use Rattle.cnfx_reader.specs.Meanings.{Says, placed_at};
-ghost use Rattle.cnfx_reader.specs.declared.pending.Pending.TheVariants as pending;
 ghost use Rattle.cnfx_reader.specs.Body.{outcome, IsPendingIn, IsEndedBy};
 ghost use Rattle.cnfx_reader.specs.PieceReading.{PieceTaken, PieceRefused};
 
@@ -123,22 +122,23 @@ pub(crate) fn read_piece(
     })
 }
 
-/// Reads the constraints behind the header. `len` is the text's length.
+/// Reads the constraints to the end of the text. `len` is the text's length.
 pub(crate) fn read_body(
     tokens: &mut FormulaTokens,
     builder: &mut FormulaBuilder,
+    pending: Pending,
     len: u64,
 ) -> Result<(), ReadRefusal>
-    requires { builder.old.unfinished ≡ [] }
+    requires { IsPendingIn pending builder.old }
     ensures { MatchResult result
-        (λ _. (builder.new.unfinished ≡ []) × (outcome len pending.Nothing builder.old (placed_formula_words tokens.old) ≡ record { constraints = builder.new.constraints; ending = finished }))
-        (λ e. IsEndedBy e (outcome len pending.Nothing builder.old (placed_formula_words tokens.old)).ending) }
+        (λ _. (builder.new.unfinished ≡ []) × (outcome len pending builder.old (placed_formula_words tokens.old) ≡ record { constraints = builder.new.constraints; ending = finished }))
+        (λ e. IsEndedBy e (outcome len pending builder.old (placed_formula_words tokens.old)).ending) }
 {
-    let mut pending = Pending::Nothing;
+    let mut state = pending;
     while let Some(at) = tokens.next_in_body() {
-        pending = take_token(builder, pending, at)?;
+        state = take_token(builder, state, at)?;
     }
-    match pending {
+    match state {
         Pending::Nothing => Ok(()),
         _ => Err(ReadRefusal::Unterminated(len)),
     }

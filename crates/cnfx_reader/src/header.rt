@@ -2,7 +2,9 @@
 ghost use Rattle.std.specs.Prelude.{◌≡◌, ◌≤◌, IfOk, MatchResult, Ok, Err};
 ghost use Rattle.cx_base.specs.declared.literal.TheConstants.{MAX_VARIABLE};
 ghost use Rattle.cx_texts.specs.FormulaText.{header, behind_p, behind_cnf, behind_count};
+ghost use Rattle.cnfx_reader.specs.HeaderParts.{header_from, IsPartWithin};
 
+use crate::header_token::HeaderPart;
 use crate::tokens::FormulaTokens;
 use cx_base::MAX_VARIABLE;
 use cx_texts::{Offence, read_natural};
@@ -73,5 +75,23 @@ fn read_count(tokens: &mut FormulaTokens, len: u64, vars: u32) -> Result<u32, Of
             Some(_) => Ok(vars),
             None => Err(Offence::BadHeader(token.place as u64)),
         },
+    }
+}
+
+/// Reads the header from one of its tokens on.
+pub(crate) fn read_header_from(
+    tokens: &mut FormulaTokens,
+    part: HeaderPart,
+    len: u64,
+) -> Result<u32, Offence>
+    requires { IsPartWithin part }
+    ensures within { IfOk result (λ v. v ≤ MAX_VARIABLE) }
+    ensures read { MatchResult result (λ v. header_from part len tokens.old ≡ Ok (v, tokens.new)) (λ o. header_from part len tokens.old ≡ Err o) }
+{
+    match part {
+        HeaderPart::P => read_header(tokens, len),
+        HeaderPart::Cnf => read_cnf(tokens, len),
+        HeaderPart::Vars => read_numbers(tokens, len),
+        HeaderPart::Count(vars) => read_count(tokens, len, vars),
     }
 }

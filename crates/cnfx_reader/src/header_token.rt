@@ -1,11 +1,8 @@
 //! The header of a formula, token by token.
-ghost use Rattle.std.specs.Prelude.{◌≡◌, ◌≤◌, ◌∷◌, ◌++◌, ℕ, List, IfOk, IfSome, MatchResult, Ok, Err};
-ghost use Rattle.cx_base.specs.declared.literal.TheConstants.{MAX_VARIABLE};
+ghost use Rattle.std.specs.Prelude.{◌≡◌, ◌≤◌, ◌∷◌, ℕ, List, IfOk};
 ghost use Rattle.cx_texts.specs.Tokens.{Token};
-ghost use Rattle.cx_texts.specs.FormulaText.{header};
 ghost use Rattle.cnfx_reader.specs.HeaderParts.{header_from, header_behind, IsPartWithin, IsStepWithin};
 
-use crate::tokens::FormulaTokens;
 use cx_base::MAX_VARIABLE;
 use cx_texts::{Offence, TokenAt, read_natural};
 
@@ -71,23 +68,4 @@ pub(crate) fn take_header_token(part: HeaderPart, token: TokenAt) -> Result<Head
             None => Err(Offence::BadHeader(place)),
         },
     }
-}
-
-/// Reads the header of a text of which these are the first tokens: its number of variables, or none where they are too few.
-pub(crate) fn read_head(tokens: &mut FormulaTokens) -> Result<Option<u32>, Offence>
-    ensures within { IfOk result (λ o. IfSome o (λ v. v ≤ MAX_VARIABLE)) }
-    ensures front { IfOk result (λ o. IfSome o (λ _. (front : List Token) × (tokens.old ≡ front ++ tokens.new))) }
-    ensures read { MatchResult result
-        (λ o. IfSome o (λ v. (len : ℕ) (more : List Token) → header len (tokens.old ++ more) ≡ Ok (v, tokens.new ++ more)))
-        (λ e. (len : ℕ) (more : List Token) → header len (tokens.old ++ more) ≡ Err e) }
-{
-    let mut part = HeaderPart::P;
-    while let Some(token) = tokens.next_token() {
-        match take_header_token(part, token) {
-            Ok(HeaderStep::Lacks(next)) => part = next,
-            Ok(HeaderStep::Whole(vars)) => return Ok(Some(vars)),
-            Err(offence) => return Err(offence),
-        }
-    }
-    Ok(None)
 }

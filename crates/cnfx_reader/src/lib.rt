@@ -1,9 +1,10 @@
-//! The reader of formulas: DIMACS CNF with x-lines.
+//! The readers of formulas, DIMACS CNF with x-lines: over a slice, and over a slot of a desk piece by piece.
 #![tactic(auto)]
 
 mod body;
 mod body_token;
 mod digits;
+mod from_refusal;
 mod header;
 mod header_token;
 mod leading_integer;
@@ -13,7 +14,10 @@ mod pieces;
 mod places;
 mod read;
 mod refusal;
+mod slot_formula;
 mod tokens;
 
+pub use from_refusal::FromRefusal;
 pub use read::read_formula;
 pub use refusal::ReadRefusal;
+pub use slot_formula::read_formula_from;

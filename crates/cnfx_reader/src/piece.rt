@@ -1,27 +1,34 @@
 //! A piece of a formula's text, taken into the formula that is made of it.
-ghost use Rattle.std.specs.Prelude.{◌≡◌, ◌<◌, ◌≤◌, ◌+◌, ◌^◌, length, MatchResult};
+ghost use Rattle.std.specs.Prelude.{◌≡◌, ◌<◌, ◌≤◌, ◌+◌, ◌^◌, [], length, IfOk, IsTrue, MatchResult};
+ghost use Rattle.cx_base.specs.declared.literal.TheConstants.{MAX_VARIABLE};
+ghost use Rattle.cx_base.specs.Drafts.{Draft};
 ghost use Rattle.cnfx_reader.specs.Body.{IsPendingIn};
+ghost use Rattle.cnfx_reader.specs.HeaderParts.{IsPartWithin};
 ghost use Rattle.cnfx_reader.specs.PieceReading.{PieceRefused};
-ghost use Rattle.cnfx_reader.specs.PieceSteps.{BodyTaken, IsPhaseIn, StepTaken, StepRefused};
+ghost use Rattle.cnfx_reader.specs.PieceSteps.{answer_from, BodyTaken, IsPhaseIn, IsRefusedBy, IsRun, IsWhole, StepTaken, StepRefused, TokenTaken, TokenRefused};
+ghost use Rattle.cnfx_reader.specs.TokensLeft.{formula_tokens_within};
+ghost use Rattle.cnfx_reader.specs.declared.piece.Phase.TheVariants.{Head};
 
-use crate::body::read_piece;
-use crate::header_token::read_head;
+use crate::body::{read_body, read_piece};
+use crate::header::read_header_from;
+use crate::header_token::{HeaderPart, HeaderStep, take_header_token};
 use crate::pending::Pending;
+use crate::places::run_len;
 use crate::refusal::ReadRefusal;
 use crate::tokens::FormulaTokens;
 use cx_base::FormulaBuilder;
-use cx_texts::whole_front;
+use cx_texts::{TokenAt, whole_front};
 
 /// How far the reading of a formula has come.
 #[derive(Clone, Copy, Drop)]
 pub(crate) enum Phase {
-    /// The header is not whole.
-    Head,
+    /// The header, of which this token comes next.
+    Head(HeaderPart),
     /// The body, behind a header with this number of variables.
     Body(u32, Pending),
 }
 
-/// What was taken of a piece: how far the reading has come, and the place of the token that comes next.
+/// What was taken of a piece: how far the reading has come, and the place behind it.
 #[derive(Clone, Copy, Drop)]
 pub(crate) struct Taken {
     pub phase: Phase,
@@ -35,7 +42,8 @@ fn take_body(
     vars: u32,
     pending: Pending,
 ) -> Result<Option<Taken>, ReadRefusal>
-    requires { IsPendingIn pending builder.old }
+    requires small { vars ≤ MAX_VARIABLE }
+    requires fits { IsPendingIn pending builder.old }
     ensures { MatchResult result (λ o. BodyTaken vars pending builder.old tokens.old o builder.new) (λ e. PieceRefused pending builder.old tokens.old e) }
 {
     match read_piece(tokens, builder, pending, false) {
@@ -50,26 +58,160 @@ fn take_body(
     }
 }
 
-/// Takes the whole tokens at the front of the bytes but the last, or nothing where they are too few. The bytes begin at this place,
-/// within a kept line, and more may follow.
-pub(crate) fn take_piece(
+/// Takes the whole tokens of the body at the front of the bytes but the last. The bytes begin at this place, within a kept line, and
+/// more may follow.
+fn take_piece(
     builder: &mut FormulaBuilder,
     bytes: &[u8],
     place: usize,
     phase: Phase,
-) -> Result<Option<Taken>, ReadRefusal>
+) -> Result<Taken, ReadRefusal>
     requires small { place + length bytes.now < 2 ^ 63 }
     requires fits { IsPhaseIn phase builder.old }
-    ensures { MatchResult result (λ o. StepTaken phase builder.old place bytes.now o builder.new) (λ e. StepRefused phase builder.old place bytes.now e) }
+    ensures { MatchResult result (λ t. StepTaken phase builder.old place bytes.now t builder.new) (λ e. StepRefused phase builder.old place bytes.now e) }
 {
-    let len = whole_front(bytes);
-    let mut tokens = FormulaTokens::within(&bytes[..len], place);
+    let none = Taken {
+        phase,
+        next: place as u64,
+    };
     match phase {
-        Phase::Head => match read_head(&mut tokens) {
-            Ok(Some(vars)) => take_body(&mut tokens, builder, vars, Pending::Nothing),
-            Ok(None) => Ok(None),
-            Err(offence) => Err(ReadRefusal::from(offence)),
-        },
-        Phase::Body(vars, pending) => take_body(&mut tokens, builder, vars, pending),
+        Phase::Head(_) => Ok(none),
+        Phase::Body(vars, pending) => {
+            let len = whole_front(bytes);
+            let mut tokens = FormulaTokens::within(&bytes[..len], place);
+            match take_body(&mut tokens, builder, vars, pending) {
+                Ok(Some(taken)) => Ok(taken),
+                Ok(None) => Ok(none),
+                Err(refusal) => Err(refusal),
+            }
+        }
+    }
+}
+
+/// Takes a token of the header.
+fn take_head(part: HeaderPart, token: TokenAt) -> Result<Phase, ReadRefusal>
+    requires { IsPartWithin part }
+    ensures { (d : Draft) → d.unfinished ≡ [] → MatchResult result
+        (λ phase. TokenTaken (Head part) d (record { place = token.entry.place; text = token.entry.text.now }) phase d)
+        (λ e. TokenRefused (Head part) d (record { place = token.entry.place; text = token.entry.text.now }) e) }
+{
+    match take_header_token(part, token) {
+        Ok(HeaderStep::Lacks(next)) => Ok(Phase::Head(next)),
+        Ok(HeaderStep::Whole(vars)) => Ok(Phase::Body(vars, Pending::Nothing)),
+        Err(offence) => Err(ReadRefusal::from(offence)),
+    }
+}
+
+/// Takes the token of these bytes, which are one and begin at this place.
+fn take_token(
+    builder: &mut FormulaBuilder,
+    token: &[u8],
+    place: usize,
+    phase: Phase,
+) -> Result<Phase, ReadRefusal>
+    requires small { place + length token.now < 2 ^ 63 }
+    requires run { IsRun token.now }
+    requires fits { IsPhaseIn phase builder.old }
+    ensures { MatchResult result
+        (λ next. TokenTaken phase builder.old (record { place = place; text = token.now }) next builder.new)
+        (λ e. TokenRefused phase builder.old (record { place = place; text = token.now }) e) }
+{
+    match phase {
+        Phase::Head(part) => take_head(part, TokenAt { place, text: token }),
+        Phase::Body(vars, pending) => {
+            let mut tokens = FormulaTokens::within(token, place);
+            match read_piece(&mut tokens, builder, pending, true) {
+                Ok(read) => Ok(Phase::Body(vars, read.pending)),
+                Err(refusal) => Err(refusal),
+            }
+        }
+    }
+}
+
+/// Whether a byte stands behind the first `len`. A run that all the bytes are may go on in the next piece.
+fn is_followed(bytes: &[u8], len: usize) -> bool
+    ensures { IsTrue result → len < length bytes.now }
+{
+    len < bytes.len()
+}
+
+/// Takes the token at the front of the bytes, or nothing where no blank stands behind it.
+fn take_first(
+    builder: &mut FormulaBuilder,
+    bytes: &[u8],
+    place: usize,
+    phase: Phase,
+) -> Result<Taken, ReadRefusal>
+    requires small { place + length bytes.now < 2 ^ 63 }
+    requires fits { IsPhaseIn phase builder.old }
+    ensures { MatchResult result (λ t. StepTaken phase builder.old place bytes.now t builder.new) (λ e. StepRefused phase builder.old place bytes.now e) }
+{
+    let len = run_len(bytes);
+    if len == 0 || !is_followed(bytes, len) {
+        return Ok(Taken {
+            phase,
+            next: place as u64,
+        });
+    }
+    match take_token(builder, &bytes[..len], place, phase) {
+        Ok(next) => Ok(Taken {
+            phase: next,
+            next: (place + len) as u64,
+        }),
+        Err(refusal) => Err(refusal),
+    }
+}
+
+/// Takes whole tokens at the front of the bytes, one or more where one stands there. The bytes begin at this place, within a kept line,
+/// and more may follow.
+///
+/// The last whole token is taken alone: where the place behind it lies, only its bytes tell.
+pub(crate) fn take_some(
+    builder: &mut FormulaBuilder,
+    bytes: &[u8],
+    place: usize,
+    phase: Phase,
+) -> Result<Taken, ReadRefusal>
+    requires small { place + length bytes.now < 2 ^ 63 }
+    requires fits { IsPhaseIn phase builder.old }
+    ensures { MatchResult result (λ t. StepTaken phase builder.old place bytes.now t builder.new) (λ e. StepRefused phase builder.old place bytes.now e) }
+{
+    match take_piece(builder, bytes, place, phase) {
+        Ok(taken) => {
+            if taken.next > place as u64 {
+                return Ok(taken);
+            }
+            take_first(builder, bytes, place, taken.phase)
+        }
+        Err(refusal) => Err(refusal),
+    }
+}
+
+/// Reads the tokens to the end of the text, which is as long as `len` says, and gives the header's number of variables.
+pub(crate) fn take_rest(
+    builder: &mut FormulaBuilder,
+    bytes: &[u8],
+    place: usize,
+    phase: Phase,
+    len: u64,
+) -> Result<u32, ReadRefusal>
+    requires small { place + length bytes.now < 2 ^ 63 }
+    requires fits { IsPhaseIn phase builder.old }
+    ensures within { IfOk result (λ v. v ≤ MAX_VARIABLE) }
+    ensures rest { MatchResult result
+        (λ v. IsWhole v builder.new (answer_from phase len builder.old (formula_tokens_within place bytes.now)))
+        (λ e. IsRefusedBy e (answer_from phase len builder.old (formula_tokens_within place bytes.now))) }
+{
+    let mut tokens = FormulaTokens::within(bytes, place);
+    match phase {
+        Phase::Head(part) => {
+            let vars = read_header_from(&mut tokens, part, len)?;
+            read_body(&mut tokens, builder, Pending::Nothing, len)?;
+            Ok(vars)
+        }
+        Phase::Body(vars, pending) => {
+            read_body(&mut tokens, builder, pending, len)?;
+            Ok(vars)
+        }
     }
 }

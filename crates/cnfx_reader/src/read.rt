@@ -3,6 +3,7 @@ ghost use Rattle.cnfx_reader.specs.ReadsTo.{ReadsTo};
 
 use crate::body::read_body;
 use crate::header::read_header;
+use crate::pending::Pending;
 use crate::refusal::ReadRefusal;
 use crate::tokens::FormulaTokens;
 use cx_base::{Formula, FormulaBuilder};
@@ -21,6 +22,6 @@ pub fn read_formula(alloc: Global, text: &[u8]) -> Result<Formula, ReadRefusal>
     let mut tokens = FormulaTokens::new(text);
     let vars = read_header(&mut tokens, len)?;
     let mut builder = FormulaBuilder::new(alloc);
-    read_body(&mut tokens, &mut builder, len)?;
+    read_body(&mut tokens, &mut builder, Pending::Nothing, len)?;
     Ok(builder.finish(vars))
 }

@@ -1,7 +1,7 @@
-use Rattle.std.proofs.Common.{◌≡◌, ◌∙◌, refl, sym, ap, subst, List, [], ◌∷◌, ◌++◌, append_assoc, append-nil, true≢false}
+use Rattle.std.proofs.Common.{◌≡◌, ◌∙◌, refl, sym, ap, subst, [], ◌∷◌, ◌++◌, append_assoc, append-nil, true≢false}
 use Rattle.std.proofs.lemmas.Result.{err_from_is_err_and}
 use Rattle.cx_texts.specs.Tokens.{Token}
-use Rattle.cx_texts.specs.Words.{Placed, placed_formula_words, formula_words_of}
+use Rattle.cx_texts.specs.Words.{placed_formula_words, formula_words_of}
 use Rattle.cnfx_reader.specs.Body.{outcome, Outcome, IsEndedBy}
 use Rattle.cnfx_reader.specs.Meanings.{placed_at}
 use Rattle.cnfx_reader.specs.PieceReading.{PieceRefused}
