@@ -32,7 +32,7 @@ use Rattle.solve_cli.proofs.Works.{if_some_both}
 
 -- ---- the text
 
-of_files : (P : Files → Type 0) (w : Option Told) → IfSome w (λ t. P t.files) → IfSome (option_map (λ (t : Told). t.files) w) P
+pub of_files : (P : Files → Type 0) (w : Option Told) → IfSome w (λ t. P t.files) → IfSome (option_map (λ (t : Told). t.files) w) P
 of_files P None h = tt
 of_files P (Some t) h = h
 

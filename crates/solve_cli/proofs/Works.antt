@@ -6,9 +6,6 @@ use Rattle.cx_texts.specs.FormulaText.{FirstOffence}
 use Rattle.cx_semantics.specs.Tables.{first_tables}
 use Rattle.cx_texts.specs.declared.offence.Offence.{Offence}
 use Rattle.cx_texts.specs.declared.offence.Offence.TheVariants as offence
-use Rattle.cnfx_reader.specs.ReadsTo.{IsRefusedAs}
-use Rattle.cnfx_reader.specs.declared.refusal.ReadRefusal.{ReadRefusal}
-use Rattle.cnfx_reader.specs.declared.refusal.ReadRefusal.TheVariants as refusal
 use Rattle.cx_desk.specs.declared.desk.Slot.{Slot}
 use Rattle.cx_desk.specs.declared.desk.Slot.TheVariants as slot
 use Rattle.cx_desk.specs.declared.desk.Port.{Port}
@@ -28,7 +25,7 @@ use Rattle.solve_cli.specs.Commands.{formula_of, second_of, proof_of, Stage, for
 use Rattle.solve_cli.specs.Happens.{is_early, IfNamed, FormulaRead, IsFormula, FormulaIn, Judged, IsOf, Gains, SoFar, Reaches, Ends, Stops, Works, PutsMessage}
 use Rattle.solve_cli.specs.Proofs.{IsRightSoFar}
 use Rattle.solve_cli.proofs.Logging.{nothing_logged}
-use Rattle.solve_cli.specs.Steps.{FormulaFails, ReadFails, PutsAnswer, Loaded, HasNoProof, LeftBy, refused_as}
+use Rattle.solve_cli.specs.Steps.{FormulaFails, ReadFails, PutsAnswer, Loaded, HasNoProof, LeftBy}
 use Rattle.solve_cli.specs.SlotTexts.{IsJudgedWithin, JudgesProof, Elaborates}
 
 pub if_some_both : {X : Type 0} {P Q R : X → Type 0} (w : Option X) → IfSome w P → IfSome w Q → ((x : X) → P x → Q x → R x) → IfSome w R
@@ -199,24 +196,10 @@ formula_failed p name limit old outcome.Memory new named h = stopped formula_sta
 formula_failed p name limit old o new named h = absurd h
 
 -- the offence of a text that was read whole
-offence_due : (name text : Bytes) (limit : ℕ) (old mid : Seen) (o : Offence) → mid ≡ asks slot.Formula name old → length text ≤ limit
+pub offence_due : (name text : Bytes) (limit : ℕ) (old mid : Seen) (o : Offence) → mid ≡ asks slot.Formula name old → length text ≤ limit
     → IfSome old.files (λ files. text ≡ text_named name files) → FirstOffence text o → FormulaFails name limit old (outcome.Ended (ending.FormulaRefused o)) mid
 offence_due name text limit old mid o is fits named bad =
     (refl, is, IfSome_then old.files named (λ files t. (subst (λ (x : Bytes). length x ≤ limit) t fits, subst (λ (x : Bytes). FirstOffence x o) t bad)))
-
-pub formula_refused : (name text : Bytes) (limit : ℕ) (old mid new : Seen) (why : ReadRefusal)
-    → mid ≡ asks slot.Formula name old → (new ≡ mid) × (length text ≤ limit) × IfSome mid.files (λ files. text ≡ text_named name files)
-    → IsRefusedAs text why → FormulaFails name limit old (refused_as why) new
-formula_refused name text limit old mid new why is read bad =
-    by why (read.0 ∙ is) (subst (λ (m : Seen). IfSome m.files (λ files. text ≡ text_named name files)) is read.2) bad
-  where
-    by : (w : ReadRefusal) → new ≡ asks slot.Formula name old → IfSome old.files (λ files. text ≡ text_named name files) → IsRefusedAs text w → FormulaFails name limit old (refused_as w) new
-    by (refusal.NoHeader b) e t h = offence_due name text limit old new (offence.NoHeader b) e read.1 t h
-    by (refusal.BadHeader b) e t h = offence_due name text limit old new (offence.BadHeader b) e read.1 t h
-    by (refusal.BadToken b) e t h = offence_due name text limit old new (offence.BadToken b) e read.1 t h
-    by (refusal.Unterminated b) e t h = offence_due name text limit old new (offence.Unterminated b) e read.1 t h
-    by (refusal.VarLimit b) e t h = offence_due name text limit old new (offence.VarLimit b) e read.1 t h
-    by refusal.Memory e t h = e
 
 pub formula_read : (p : Plan) (name : Bytes) (limit : ℕ) (old : Seen) (f : Problem) → formula_of p ≡ Some name
     → IfSome old.files (λ files. FormulaRead limit (text_named name files) f) → IfSome old.files (λ files. IsFormula p limit files f)

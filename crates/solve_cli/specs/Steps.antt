@@ -6,8 +6,8 @@ use Rattle.cx_desk.specs.declared.desk.Port.TheVariants as port
 use Rattle.cx_desk.specs.Outside.{Bytes, Outside, left_in, started_in}
 use Rattle.cx_base.specs.Problem.{Problem}
 use Rattle.cx_texts.specs.declared.offence.Offence.TheVariants as offence
-use Rattle.cnfx_reader.specs.declared.refusal.ReadRefusal.{ReadRefusal}
-use Rattle.cnfx_reader.specs.declared.refusal.ReadRefusal.TheVariants as refusal
+use Rattle.cnfx_reader.specs.declared.from_refusal.FromRefusal.{FromRefusal}
+use Rattle.cnfx_reader.specs.declared.from_refusal.FromRefusal.TheVariants as refusal
 use Rattle.cx_words.specs.declared.plans.Plan.{Plan}
 use Rattle.solve_cli.specs.declared.load.Texts.{Texts}
 use Rattle.solve_cli.specs.declared.ending.Ending.{Ending}
@@ -105,11 +105,13 @@ LeftBy (ending.Elaborated k) f log proof = IsWholeProof f log k proof
 LeftBy (ending.NotElaborated k c) f log proof = IsProofBefore f log k proof
 LeftBy e f log proof = ⊥
 
--- where a formula's text is refused
-abbrev pub refused_as : ReadRefusal → Outcome
+-- where a formula is not read
+abbrev pub refused_as : FromRefusal → Outcome
 refused_as (refusal.NoHeader place) = outcome.Ended (ending.FormulaRefused (offence.NoHeader place))
 refused_as (refusal.BadHeader place) = outcome.Ended (ending.FormulaRefused (offence.BadHeader place))
 refused_as (refusal.BadToken place) = outcome.Ended (ending.FormulaRefused (offence.BadToken place))
 refused_as (refusal.Unterminated place) = outcome.Ended (ending.FormulaRefused (offence.Unterminated place))
 refused_as (refusal.VarLimit place) = outcome.Ended (ending.FormulaRefused (offence.VarLimit place))
 refused_as refusal.Memory = outcome.Memory
+refused_as refusal.Failed = outcome.ReadFault
+refused_as refusal.TooLong = outcome.Ended (ending.TooLong slot.Formula)

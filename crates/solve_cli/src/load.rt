@@ -1,4 +1,4 @@
-//! The texts of a command, read whole.
+//! The formula of a command, read from its slot piece by piece, and an answer, read whole.
 ghost use Rattle.std.specs.Prelude.{◌≡◌, ◌≤◌, List, ℕ, None, Some, true, length, IfOk};
 ghost use Rattle.cx_desk.specs.Outside.{asked_in, started_in};
 ghost use Rattle.cx_words.specs.declared.plans.Plan.{Plan as PlanOf};
@@ -7,7 +7,7 @@ ghost use Rattle.solve_cli.specs.Commands.{Unasked, formula_of, second_of, proof
 ghost use Rattle.solve_cli.specs.Steps.{Ready, StartsSlot, ReadsSlot, ReadsFormula, LoadsFormula, GivesFile, Loads, Prepares, refused_as};
 
 use crate::{Ending, Outcome};
-use cnfx_reader::{ReadRefusal, read_formula};
+use cnfx_reader::{FromRefusal, read_formula_from};
 use cx_base::Formula;
 use cx_desk::{Desk, Failed, ReadErr, Slot, Text, read_whole};
 use cx_texts::Offence;
@@ -55,39 +55,32 @@ pub(crate) fn read_formula_of<D: Desk>(
     limit: u64,
 ) -> Result<Formula, Outcome>
     requires unasked { (D.outside desk.old).asked.formula ≡ None }
+    requires limit { limit ≤ 4294967295 }
     ensures reads { ReadsFormula name limit (seen (D.outside desk.old)) result (seen (D.outside desk.new)) }
     ensures few { IfOk result (λ f. length f.constraints ≤ limit) }
 {
     start_slot(desk, Slot::Formula, name)?;
-    let text = read_slot(alloc, desk, Slot::Formula, limit)?;
-    match read_formula(alloc, text.as_slice()) {
+    match read_formula_from(alloc, desk, Slot::Formula, limit) {
         Ok(formula) => Ok(formula),
         Err(why) => Err(refused(why)),
     }
 }
 
-/// The outcome where a formula's text is refused.
-fn refused(why: ReadRefusal) -> Outcome
+/// The outcome where a formula is not read.
+fn refused(why: FromRefusal) -> Outcome
     ensures { result ≡ refused_as why }
 {
-    match why {
-        ReadRefusal::NoHeader(place) => Outcome::Ended(Ending::FormulaRefused(Offence::NoHeader(
-            place,
-        ))),
-        ReadRefusal::BadHeader(place) => Outcome::Ended(Ending::FormulaRefused(Offence::BadHeader(
-            place,
-        ))),
-        ReadRefusal::BadToken(place) => Outcome::Ended(Ending::FormulaRefused(Offence::BadToken(
-            place,
-        ))),
-        ReadRefusal::Unterminated(place) => {
-            Outcome::Ended(Ending::FormulaRefused(Offence::Unterminated(place)))
-        }
-        ReadRefusal::VarLimit(place) => Outcome::Ended(Ending::FormulaRefused(Offence::VarLimit(
-            place,
-        ))),
-        ReadRefusal::Memory => Outcome::Memory,
-    }
+    let offence = match why {
+        FromRefusal::NoHeader(place) => Offence::NoHeader(place),
+        FromRefusal::BadHeader(place) => Offence::BadHeader(place),
+        FromRefusal::BadToken(place) => Offence::BadToken(place),
+        FromRefusal::Unterminated(place) => Offence::Unterminated(place),
+        FromRefusal::VarLimit(place) => Offence::VarLimit(place),
+        FromRefusal::Memory => return Outcome::Memory,
+        FromRefusal::Failed => return Outcome::ReadFault,
+        FromRefusal::TooLong => return Outcome::Ended(Ending::TooLong(Slot::Formula)),
+    };
+    Outcome::Ended(Ending::FormulaRefused(offence))
 }
 
 /// Reads the formula, and starts the second slot.
