@@ -1,5 +1,5 @@
 //! One step of a log: judged, done, and what the proof gains by it.
-ghost use Rattle.std.specs.Prelude.{◌≡◌, ◌≤◌, ◌<◌, ◌+◌, pos, length, IfOk, OnOk};
+ghost use Rattle.std.specs.Prelude.{◌≡◌, ◌≤◌, ◌<◌, ◌+◌, pos, length, IfOk, IfSome, OnOk};
 ghost use Rattle.cx_base.specs.Problem.{Problem};
 ghost use Rattle.cx_semantics.specs.Chain.{IsChain};
 ghost use Rattle.cx_semantics.specs.LogRules.{AreLive, HasChain, chained, derives_empty_clause};
@@ -52,6 +52,41 @@ fn admit(
     proof_rules::admit(alloc, formula.vars(), lits, live.has(kind, id))
 }
 
+/// The ids that the hints name, if in this order they are a right chain for the clause.
+fn chain_by(
+    alloc: Global,
+    live: &mut IndexedClauses,
+    target: &LitList,
+    hints: &[i64],
+) -> Result<Option<IdList>, AllocError>
+    ensures same { live.new ≡ live.old }
+    ensures chain { IfOk result (λ found. IfSome found (λ ids. AreLive live.old.clauses ids × IsChain target.now (named live.old.clauses ids))) }
+{
+    match live.judge_chain(target, hints) {
+        Ok(()) => Ok(Some(IdList::from_vec(ids_of(alloc, hints)?))),
+        Err(JudgeRefusal::Memory) => Err(AllocError),
+        Err(JudgeRefusal::Wrong(_)) => Ok(None),
+    }
+}
+
+/// The hints as a chain for the clause, in the order that is given or in the reverse one: a solver meets them from the conflict
+/// back.
+fn chain_given(
+    alloc: Global,
+    live: &mut IndexedClauses,
+    target: &LitList,
+    given: &[i64],
+) -> Result<Option<IdList>, AllocError>
+    ensures same { live.new ≡ live.old }
+    ensures chain { IfOk result (λ found. IfSome found (λ ids. AreLive live.old.clauses ids × IsChain target.now (named live.old.clauses ids))) }
+{
+    if let Some(ids) = chain_by(alloc, live, target, given)? {
+        return Ok(Some(ids));
+    }
+    let reversed: Vec<i64> = given.iter().rev().copied().collect(alloc)?;
+    chain_by(alloc, live, target, &reversed)
+}
+
 /// Live hints that are a right chain for the clause: those that are given, where they are, or else any.
 fn chain_of(
     alloc: Global,
@@ -62,10 +97,8 @@ fn chain_of(
     ensures same { live.new ≡ live.old }
     ensures chain { GivesChain live.old.clauses target.now result }
 {
-    match live.judge_chain(target, given) {
-        Ok(()) => return Ok(IdList::from_vec(ids_of(alloc, given)?)),
-        Err(JudgeRefusal::Memory) => return Err(JudgeRefusal::Memory),
-        Err(JudgeRefusal::Wrong(_)) => {}
+    if let Some(ids) = chain_given(alloc, live, target, given)? {
+        return Ok(ids);
     }
     match live.find(alloc, target.as_slice())? {
         Some(ids) => Ok(ids),
