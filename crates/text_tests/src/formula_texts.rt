@@ -1,6 +1,6 @@
 //! Worked texts: what is refused and where, and what is read.
 use cnfx_reader::read_formula;
-use cx_base::{ConstraintRef, Lit};
+use cx_base::{ConstraintRef, Formula, Lit};
 use std::alloc::{AllocError, Global};
 use std::test::Fail;
 
@@ -18,8 +18,7 @@ fn show_lits(out: &mut String, lits: &[Lit]) -> Result<(), Fail> {
 }
 
 /// The number of variables, and each constraint behind a colon; a parity has an `x` in front.
-fn shown(alloc: Global, text: &[u8]) -> Result<String, Fail> {
-    let formula = read_formula(alloc, text)?;
+pub(crate) fn show(alloc: Global, formula: &Formula) -> Result<String, Fail> {
     let vars = formula.vars();
     let mut out = format!(in alloc; "{vars}")?;
     for item in formula.items() {
@@ -35,6 +34,12 @@ fn shown(alloc: Global, text: &[u8]) -> Result<String, Fail> {
         }
     }
     Ok(out)
+}
+
+/// The formula of a text.
+fn shown(alloc: Global, text: &[u8]) -> Result<String, Fail> {
+    let formula = read_formula(alloc, text)?;
+    show(alloc, &formula)
 }
 
 /// What is wrong with each text, each behind a blank.

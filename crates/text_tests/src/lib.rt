@@ -16,4 +16,6 @@ mod log_steps;
 #[cfg(test)]
 mod proof_steps;
 #[cfg(test)]
+mod slot_formulas;
+#[cfg(test)]
 mod slots;

@@ -1,0 +1,135 @@
+//! Formulas that are read from a slot, in pieces of any length, against what is read of the whole text.
+ghost use Rattle.std.specs.Prelude.{◌≡◌, ◌≤◌, true, None, IfOk, OnOk};
+ghost use Rattle.cx_desk.specs.Outside.{asked_in, started_in};
+ghost use Rattle.cx_desk.specs.Memory.{outside_of};
+ghost use Rattle.cx_desk.specs.declared.desk.Slot.TheVariants.{Formula as FormulaSlot};
+
+use crate::formula_texts::show;
+use cnfx_reader::{read_formula, read_formula_from};
+use cx_desk::{Desk, MemDesk, NamedFile, Rooms, Slot};
+use std::alloc::{AllocError, Global};
+use std::process::Abort;
+use std::test::Fail;
+
+/// A desk with one file, "cnf".
+fn desk(alloc: Global, text: &[u8], piece: usize) -> Result<MemDesk, AllocError>
+    requires { 1 ≤ piece }
+    ensures { IfOk result (λ m. asked_in FormulaSlot (outside_of m).asked ≡ None) }
+{
+    let mut files = Vec::new(alloc);
+    files.push(NamedFile {
+        name: String::from_str(alloc, "cnf")?,
+        bytes: Vec::from_slice(alloc, text)?,
+    })?;
+    let rooms = Rooms {
+        answer: 0,
+        proof: 0,
+        message: 0,
+    };
+    MemDesk::make(alloc, files, rooms, piece, Vec::new(alloc))
+}
+
+/// Opens the file, which is to work.
+fn start(rt: &impl Abort, alloc: Global, desk: &mut MemDesk) -> Result<(), AllocError>
+    requires { asked_in FormulaSlot (outside_of desk.old).asked ≡ None }
+    ensures { OnOk result (started_in FormulaSlot (outside_of desk.new).started ≡ true) }
+{
+    let started = desk.start(Slot::Formula, String::from_str(alloc, "cnf")?);
+    assert!(rt; started.is_ok());
+    Ok(())
+}
+
+/// What is read of a text that comes in pieces of this length.
+fn told_in_pieces(
+    rt: &impl Abort,
+    alloc: Global,
+    text: &[u8],
+    piece: usize,
+    limit: u64,
+) -> Result<String, Fail>
+    requires piece { 1 ≤ piece }
+    requires limit { limit ≤ 4294967295 }
+{
+    let mut desk = desk(alloc, text, piece)?;
+    start(rt, alloc, &mut desk)?;
+    match read_formula_from(alloc, &mut desk, Slot::Formula, limit) {
+        Ok(formula) => show(alloc, &formula),
+        Err(refusal) => Ok(format!(in alloc; "{refusal:?}")?),
+    }
+}
+
+/// What is read of a whole text, if it is within the limit.
+fn told_whole(alloc: Global, text: &[u8], limit: u64) -> Result<String, Fail> {
+    if text.len() as u64 > limit {
+        return Ok(String::from_str(alloc, "TooLong")?);
+    }
+    match read_formula(alloc, text) {
+        Ok(formula) => show(alloc, &formula),
+        Err(refusal) => Ok(format!(in alloc; "{refusal:?}")?),
+    }
+}
+
+/// What is read of a whole text within a limit, and what is read otherwise of its pieces.
+fn told_of(rt: &impl Abort, alloc: Global, text: &[u8], limit: u64) -> Result<String, Fail>
+    requires { limit ≤ 4294967295 }
+{
+    let mut told = told_whole(alloc, text, limit)?;
+    for piece in [1, 2, 3, 4096] {
+        let in_pieces = told_in_pieces(rt, alloc, text, piece, limit)?;
+        if in_pieces.as_str() != told.as_str() {
+            told.push_str(format!(in alloc; " in pieces of {piece}: {in_pieces}")?.as_str())?;
+        }
+    }
+    Ok(told)
+}
+
+/// What is told of each text, of at most a hundred bytes, where the limit is below its length, is its length and is above.
+fn all_told(rt: &impl Abort, alloc: Global, texts: &[&[u8]]) -> Result<String, Fail> {
+    let mut all = String::new(alloc);
+    for text in texts {
+        let len = text.len().min(100) as u64;
+        for limit in [len.saturating_sub(1), len, len + 1] {
+            all.push_str(told_of(rt, alloc, text, limit)?.as_str())?;
+            all.push_str("|")?;
+        }
+        all.push_str("\n")?;
+    }
+    Ok(all)
+}
+
+#[test]
+fn pieces_of_any_length_tell_what_the_whole_text_tells(rt: HostRuntime) -> Result<(), Fail> {
+    let texts: [&[u8]; 14] = [
+        b"",
+        b"1 0",
+        b"c a\r\n%\n",
+        b"p cnf x 1",
+        b"p cnf 16777216 0",
+        b"p cnf 1\n%\nmore",
+        b"p cnf 2 1\r\n1 2 0\r\n",
+        b"p cnf 2 1\nc a comment\n1 -2 0\n c more\nx1 2 0",
+        b"p cnf 2 1\n1 2 0\n%\n0 z\n",
+        b"p cnf 2 1\n1 2\n%\nc the end",
+        b"p cnf 2 1\n1 2",
+        b"p cnf 2 1\n1 a 0\n1 0\n",
+        b"p cnf 1 1\n16777216 a 0",
+        b"p cnf 12345 1\n12345 -12345 0 123",
+    ];
+    let wanted = "NoHeader(0)|NoHeader(0)|NoHeader(0)|
+TooLong|NoHeader(0)|NoHeader(0)|
+TooLong|NoHeader(7)|NoHeader(7)|
+TooLong|BadHeader(6)|BadHeader(6)|
+TooLong|VarLimit(6)|VarLimit(6)|
+TooLong|BadHeader(14)|BadHeader(14)|
+TooLong|2: 1 2|2: 1 2|
+TooLong|2: 1 -2: x 1 2|2: 1 -2: x 1 2|
+TooLong|2: 1 2|2: 1 2|
+TooLong|Unterminated(25)|Unterminated(25)|
+TooLong|Unterminated(13)|Unterminated(13)|
+TooLong|BadToken(12)|BadToken(12)|
+TooLong|VarLimit(10)|VarLimit(10)|
+TooLong|Unterminated(32)|Unterminated(32)|
+";
+    assert_eq!(rt; all_told(&rt, rt.alloc(), &texts)?.as_str(), wanted);
+    Ok(())
+}
