@@ -1,6 +1,7 @@
 # What the measuring scripts of this folder share. It is sourced, not run.
 here=$(cd "$(dirname "${BASH_SOURCE[0]}")" && pwd)
 program=$here/../bin/cxsat
+binary=$here/../crates/cxsat/out/cxsat
 examples=$here/../examples
 work=$(mktemp -d)
 trap 'rm -rf "$work"' EXIT
@@ -9,7 +10,7 @@ trap 'rm -rf "$work"' EXIT
 need() {
     local name
     for name in "$@"; do
-        command -v "$name" > /dev/null || { echo "$(basename "$0"): $name is not there: apt-get install minisat cryptominisat time gcc" >&2; exit 2; }
+        command -v "$name" > /dev/null || { echo "$(basename "$0"): $name is not there: apt-get install minisat cryptominisat cadical valgrind time gcc" >&2; exit 2; }
     done
 }
 

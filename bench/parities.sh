@@ -8,7 +8,7 @@
 # hundredth of them. The program that drives the engines is proved, built and run in a folder of its own.
 set -euo pipefail
 source "$(dirname "$0")/common.sh"
-need cryptominisat5 /usr/bin/time
+need cryptominisat5 valgrind /usr/bin/time
 limit=${1:-60}
 acts=${2:-1000000}
 
@@ -54,13 +54,24 @@ engines() {
         }' "$work/run.log"
 }
 
-# The sum of so many runs, and the memory and the status of the last one: short runs are below what one of them can tell.
+# The seconds that starting and timing a program takes by itself, the mean of fifty.
+idle() {
+    local sum=0 taken round
+    for ((round = 0; round < 50; round++)); do
+        read -r taken _ <<< "$(run true)"
+        sum=$(awk -v a="$sum" -v b="$taken" 'BEGIN { print a + b }')
+    done
+    awk -v a="$sum" 'BEGIN { print a / 50 }'
+}
+
+# The sum of so many runs without what starting them takes, and the memory and the status of the last one: short runs are below
+# what one of them can tell.
 repeated() {
     local times=$1 sum=0 taken memory=- status=124 round
     shift
     for ((round = 0; round < times; round++)); do
         read -r taken memory status <<< "$(run "$@")"
-        sum=$(awk -v a="$sum" -v b="$taken" 'BEGIN { print a + b }')
+        sum=$(awk -v a="$sum" -v b="$taken" -v idle="$start" 'BEGIN { print a + (b > idle ? b - idle : 0) }')
         [ "$status" != 124 ] || break
     done
     echo "$sum $memory $status"
@@ -76,18 +87,38 @@ formula() {
     esac
 }
 
+# How many millions of instructions a command takes.
+millions() {
+    { valgrind --tool=callgrind --callgrind-out-file=/dev/null "$@" 2>&1 > /dev/null || true; } | awk '/refs:/ { gsub(",", "", $NF); printf "%.1f", $NF / 1e6 }'
+}
+
+# A row beside cryptominisat5 with these options. Where one run is too short for a clock, the ratio is that of instructions.
+beside() {
+    local peer=$1 taken memory status counted
+    shift
+    read -r taken memory status <<< "$(repeated "$times" cryptominisat5 --verb 0 "$@" "$work/formula")"
+    if [ "$times" = 1 ]; then
+        row 'solving parities' "$what" "$own s, $own_memory MB" "$peer: $taken s, $memory MB" "$(ratio "$own" "$taken")"
+    else
+        counted=$(millions cryptominisat5 --verb 0 "$@" "$work/formula")
+        row 'solving parities' "$what, $times runs" "$own s, $own_memory MB; one run $own_counted million instructions" \
+            "$peer: $taken s, $memory MB; $counted million" "instructions $(ratio "$own_counted" "$counted")"
+    fi
+}
+
 measure() {
-    local family=$1 kind=$2 size=$3 times=$4 own memory status peer peer_memory peer_status
+    local family=$1 kind=$2 size=$3 times=$4 own own_memory status own_counted what
     formula "$kind" "$size" > "$work/formula"
-    read -r own memory status <<< "$(repeated "$times" "$program" solve "$work/formula" --proof "$work/log")"
-    read -r peer peer_memory peer_status <<< "$(repeated "$times" cryptominisat5 --verb 0 "$work/formula")"
-    row 'solving parities' "$family $size (status $status), $times runs" "$own s, $memory MB" "cryptominisat5: $peer s, $peer_memory MB" "$(ratio "$own" "$peer")"
-    read -r peer peer_memory peer_status <<< "$(repeated "$times" cryptominisat5 --verb 0 --maxmatrixrows 100000 --maxmatrixcols 100000 --maxnummatrices 100000 "$work/formula")"
-    row 'solving parities' "$family $size (status $status), $times runs" "$own s, $memory MB" "cryptominisat5, bounds lifted: $peer s, $peer_memory MB" "$(ratio "$own" "$peer")"
+    read -r own own_memory status <<< "$(repeated "$times" "$program" solve "$work/formula")"
+    what="$family $size (status $status)"
+    [ "$times" = 1 ] || own_counted=$(millions "$binary" solve "$work/formula")
+    beside cryptominisat5
+    beside 'cryptominisat5, bounds lifted' --maxmatrixrows 100000 --maxmatrixcols 100000 --maxnummatrices 100000
 }
 
 engines
 build
+start=$(idle)
 for size in 200 400 800; do measure 'inconsistent parities:' parity "$size" 10; done
 measure 'inconsistent parities:' parity 3200 1
 for size in 200 400 800; do measure 'planted (`demo even`), size:' even "$size" 10; measure 'planted (`demo odd`), size:' odd "$size" 10; done

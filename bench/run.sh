@@ -1,6 +1,6 @@
 #!/usr/bin/env bash
 # Runs all measurements in one go, on inputs made from seeds, and writes them as one table into bench/RESULTS.md.
-# The peers are Debian's packages: apt-get install minisat cryptominisat time gcc
+# The peers are Debian's packages: apt-get install minisat cryptominisat cadical valgrind time gcc
 # usage: bench/run.sh [FILE]     (some ten minutes once the program is built; nothing else should run meanwhile)
 set -euo pipefail
 source "$(dirname "$0")/common.sh"
