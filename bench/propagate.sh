@@ -24,12 +24,7 @@ if [ "$vars" -lt 3 ]; then
     exit 2
 fi
 program=$work/crates/propagate_times
-mkdir -p "$program"
-for crate in cx_base cx_texts cnfx_reader cx_trail clause_arena watch_lists; do
-    mkdir "$work/crates/$crate"
-    cp -r "$here/../crates/$crate"/{src,specs,proofs} "$work/crates/$crate/"
-    grep "^$crate:" "$here/../crates.txt" >> "$work/crates.txt"
-done
+bring cx_base cx_texts cx_desk cnfx_reader cx_trail clause_arena watch_lists
 echo 'propagate_times: cx_base cnfx_reader cx_trail clause_arena watch_lists' >> "$work/crates.txt"
 lay_out propagate_times "$program"
 formula="$work/formula.cnf"
@@ -56,3 +51,11 @@ rate() { awk -v n="$1" -v s="$2" 'BEGIN { if (s > 0) printf "%.0f", n / s; else 
 own=$(rate "$sure" "$seconds") their=$(rate "$theirs" "$their_seconds")
 row 'unit propagation' "$watched clauses of three literals over $vars variables, seed $seed: $rounds rounds in $millis ms by the clock" \
     "$own propagations a second ($(rate "$put" "$seconds") with those of calls that ended in a conflict)" "minisat: $their propagations a second" "$(ratio "$own" "$their")"
+
+# The same rounds behind ten reductions, each of which found 100,000 learned clauses and left half of them: no learned clause is
+# left in the end, so both walk over the same clauses.
+reduced() {
+    out/propagate_times "$literals" "$1" "$formula" | awk '{ printf "%.0f", $4 * 1000 / $5 }'
+}
+fresh=$(reduced 0) later=$(reduced 10)
+row 'unit propagation' "$watched clauses of three literals, behind ten reductions" "$later literals a second" "before the first: $fresh literals a second" "$(ratio "$later" "$fresh")"

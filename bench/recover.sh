@@ -7,7 +7,7 @@ set -euo pipefail
 source "$(dirname "$0")/common.sh"
 rounds=${1:-5}
 mkdir -p "$work/crates/recover_times/src"
-crates='cx_base cx_texts cx_semantics cnfx_reader gf2_rows parity_engine gf2_matrix xor_recover'
+crates='cx_base cx_texts cx_desk cx_semantics cnfx_reader gf2_rows parity_engine gf2_matrix xor_recover'
 bring $crates
 echo 'recover_times: cx_base cnfx_reader xor_recover' >> "$work/crates.txt"
 lay_out recover_times "$work/crates/recover_times"
