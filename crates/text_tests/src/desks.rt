@@ -1,13 +1,14 @@
 //! What a desk in memory does, and a text that is read from one.
-ghost use Rattle.std.specs.Prelude.{◌≡◌, ◌≤◌, None, true, IfOk, OnOk};
-ghost use Rattle.cx_desk.specs.Outside.{asked_in, started_in};
-ghost use Rattle.cx_desk.specs.Memory.{outside_of};
-ghost use Rattle.cx_desk.specs.declared.desk.Slot.TheVariants.{Formula};
+ghost use Rattle.std.specs.Prelude.{◌≤◌};
 
-use cx_desk::{Desk, MemDesk, NamedFile, Port, RepeatDesk, Rooms, Slot, drain, read_whole};
+use crate::one_file::{desk, start};
+use cx_desk::{Desk, Port, RepeatDesk, Rooms, Slot, drain, read_whole};
 use std::alloc::{AllocError, Global};
 use std::process::Abort;
 use std::test::Fail;
+
+/// The file's bytes.
+const TEXT: &[u8] = b"abcde";
 
 const WIDE: Rooms = Rooms {
     answer: 100,
@@ -15,33 +16,10 @@ const WIDE: Rooms = Rooms {
     message: 100,
 };
 
-/// A desk with one file, "five", of five bytes.
-fn desk(alloc: Global, rooms: Rooms, piece: usize, failing: &[u64]) -> Result<MemDesk, AllocError>
-    requires { 1 ≤ piece }
-    ensures { IfOk result (λ m. asked_in Formula (outside_of m).asked ≡ None) }
-{
-    let mut files = Vec::new(alloc);
-    files.push(NamedFile {
-        name: String::from_str(alloc, "five")?,
-        bytes: Vec::from_slice(alloc, b"abcde")?,
-    })?;
-    MemDesk::make(alloc, files, rooms, piece, Vec::from_slice(alloc, failing)?)
-}
-
-/// Opens the file, which is to work.
-fn start(rt: &impl Abort, alloc: Global, desk: &mut MemDesk) -> Result<(), AllocError>
-    requires { asked_in Formula (outside_of desk.old).asked ≡ None }
-    ensures { OnOk result (started_in Formula (outside_of desk.new).started ≡ true) }
-{
-    let started = desk.start(Slot::Formula, String::from_str(alloc, "five")?);
-    assert!(rt; started.is_ok());
-    Ok(())
-}
-
 /// What is read of the file up to a limit, or why it is not, and the faults.
 fn read_up_to(rt: &impl Abort, alloc: Global, limit: u64) -> Result<String, AllocError> {
-    let mut desk = desk(alloc, WIDE, 2, &[])?;
-    start(rt, alloc, &mut desk)?;
+    let mut desk = desk(alloc, TEXT, WIDE, 2, &[])?;
+    assert!(rt; start(alloc, &mut desk, Slot::Formula)?);
     match read_whole(alloc, &mut desk, Slot::Formula, limit) {
         Ok(text) => format!(in alloc; "{:?} {}", text.as_slice(), desk.read_faults()),
         Err(why) => format!(in alloc; "{why:?} {}", desk.read_faults()),
@@ -71,8 +49,8 @@ fn drained(
     left: u64,
     failing: &[u64],
 ) -> Result<String, AllocError> {
-    let mut desk = desk(alloc, WIDE, 2, failing)?;
-    start(rt, alloc, &mut desk)?;
+    let mut desk = desk(alloc, TEXT, WIDE, 2, failing)?;
+    assert!(rt; start(alloc, &mut desk, Slot::Formula)?);
     let answer = drain(&mut desk, Slot::Formula, left);
     format!(in alloc; "{answer:?} {}", desk.read_faults())
 }
@@ -112,7 +90,7 @@ fn put_twice(alloc: Global, port: Port) -> Result<String, AllocError> {
         proof: 0,
         message: 2,
     };
-    let mut desk = desk(alloc, rooms, 8, &[])?;
+    let mut desk = desk(alloc, TEXT, rooms, 8, &[])?;
     let first = desk.put(port, b"abcde");
     let second = desk.put(port, b"de");
     let len = desk.written(port).len();
@@ -132,8 +110,8 @@ fn a_full_port_takes_what_fits_and_then_fails(rt: HostRuntime) -> Result<(), Fai
 #[test]
 fn a_failing_call_fails_once(rt: HostRuntime) -> Result<(), Fail> {
     let alloc = rt.alloc();
-    let mut desk = desk(alloc, WIDE, 8, &[2])?;
-    start(&rt, alloc, &mut desk)?;
+    let mut desk = desk(alloc, TEXT, WIDE, 8, &[2])?;
+    assert!(rt; start(alloc, &mut desk, Slot::Formula)?);
     let mut buffer = [0; 8];
     let first = desk.read(Slot::Formula, &mut buffer);
     let second = desk.read(Slot::Formula, &mut buffer);
@@ -145,7 +123,7 @@ fn a_failing_call_fails_once(rt: HostRuntime) -> Result<(), Fail> {
 #[test]
 fn a_missing_name_is_a_read_fault(rt: HostRuntime) -> Result<(), Fail> {
     let alloc = rt.alloc();
-    let mut desk = desk(alloc, WIDE, 8, &[])?;
+    let mut desk = desk(alloc, TEXT, WIDE, 8, &[])?;
     let started = desk.start(Slot::Formula, String::from_str(alloc, "six")?);
     let found = format!(in alloc; "{started:?} {}", desk.read_faults())?;
     assert_eq!(rt; found.as_str(), "Err(Failed) 1");
@@ -156,8 +134,8 @@ fn a_missing_name_is_a_read_fault(rt: HostRuntime) -> Result<(), Fail> {
 fn moved(rt: &impl Abort, alloc: Global, piece: usize) -> Result<String, AllocError>
     requires { 1 ≤ piece }
 {
-    let mut desk = desk(alloc, WIDE, piece, &[])?;
-    start(rt, alloc, &mut desk)?;
+    let mut desk = desk(alloc, TEXT, WIDE, piece, &[])?;
+    assert!(rt; start(alloc, &mut desk, Slot::Formula)?);
     let read = desk.read(Slot::Formula, &mut [0; 8]);
     let put = desk.put(Port::Proof, b"abcde");
     let len = desk.written(Port::Proof).len();

@@ -1,7 +1,7 @@
 //! Worked texts: what is refused and where, and what is read.
 use cnfx_reader::read_formula;
 use cx_base::{ConstraintRef, Formula, Lit};
-use std::alloc::{AllocError, Global};
+use std::alloc::Global;
 use std::test::Fail;
 
 /// Writes the literals, each behind a space.
@@ -40,60 +40,6 @@ pub(crate) fn show(alloc: Global, formula: &Formula) -> Result<String, Fail> {
 fn shown(alloc: Global, text: &[u8]) -> Result<String, Fail> {
     let formula = read_formula(alloc, text)?;
     show(alloc, &formula)
-}
-
-/// What is wrong with each text, each behind a blank.
-fn offences(alloc: Global, texts: &[&[u8]]) -> Result<String, AllocError> {
-    let mut all = String::new(alloc);
-    for text in texts {
-        match read_formula(alloc, text) {
-            Ok(_) => all.push_str(" none")?,
-            Err(refusal) => all.push_str(format!(in alloc; " {refusal:?}")?.as_str())?,
-        }
-    }
-    Ok(all)
-}
-
-#[test]
-fn the_header_comes_first(rt: HostRuntime) -> Result<(), Fail> {
-    let texts: [&[u8]; 4] = [b"", b"1 0", b"p cnf x 1", b"p cnf 1\n"];
-    let wanted = " NoHeader(0) NoHeader(0) BadHeader(6) BadHeader(8)";
-    assert_eq!(rt; offences(rt.alloc(), &texts)?.as_str(), wanted);
-    Ok(())
-}
-
-#[test]
-fn an_open_constraint_is_refused(rt: HostRuntime) -> Result<(), Fail> {
-    let texts: [&[u8]; 3] = [b"p cnf 2 1\n1 2", b"p cnf 2 1\n1 2\n", b"p cnf 2 1\nx"];
-    let wanted = " Unterminated(13) Unterminated(14) Unterminated(11)";
-    assert_eq!(rt; offences(rt.alloc(), &texts)?.as_str(), wanted);
-    Ok(())
-}
-
-#[test]
-fn a_token_that_does_not_fit_is_refused(rt: HostRuntime) -> Result<(), Fail> {
-    let texts: [&[u8]; 4] = [
-        b"p cnf 2 1\n1 a 0",
-        b"p cnf 2 1\n1 x2 0",
-        b"p cnf 2 1\n\0 0",
-        b"p cnf 2 1\n1\xc3\xa9 0",
-    ];
-    let wanted = " BadToken(12) BadToken(12) BadToken(10) BadToken(10)";
-    assert_eq!(rt; offences(rt.alloc(), &texts)?.as_str(), wanted);
-    Ok(())
-}
-
-#[test]
-fn a_variable_above_the_limit_is_refused(rt: HostRuntime) -> Result<(), Fail> {
-    let texts: [&[u8]; 4] = [
-        b"p cnf 16777216 0",
-        b"p cnf 1 1\n16777216 0",
-        b"p cnf 1 1\n16777216 a 0",
-        b"p cnf 1 1\nx-16777216 0",
-    ];
-    let wanted = " VarLimit(6) VarLimit(10) VarLimit(10) VarLimit(10)";
-    assert_eq!(rt; offences(rt.alloc(), &texts)?.as_str(), wanted);
-    Ok(())
 }
 
 /// The formulas of the texts, each on a line.

@@ -13,6 +13,7 @@ mod formula_texts;
 mod formulas;
 #[cfg(test)]
 mod log_steps;
+mod one_file;
 #[cfg(test)]
 mod proof_steps;
 #[cfg(test)]

@@ -1,43 +1,13 @@
 //! Formulas that are read from a slot, in pieces of any length, against what is read of the whole text.
-ghost use Rattle.std.specs.Prelude.{◌≡◌, ◌≤◌, true, None, IfOk, OnOk};
-ghost use Rattle.cx_desk.specs.Outside.{asked_in, started_in};
-ghost use Rattle.cx_desk.specs.Memory.{outside_of};
-ghost use Rattle.cx_desk.specs.declared.desk.Slot.TheVariants.{Formula as FormulaSlot};
+ghost use Rattle.std.specs.Prelude.{◌≤◌};
 
 use crate::formula_texts::show;
+use crate::one_file::{NO_ROOM, desk, start};
 use cnfx_reader::{read_formula, read_formula_from};
-use cx_desk::{Desk, MemDesk, NamedFile, Rooms, Slot};
+use cx_desk::Slot;
 use std::alloc::{AllocError, Global};
 use std::process::Abort;
 use std::test::Fail;
-
-/// A desk with one file, "cnf".
-fn desk(alloc: Global, text: &[u8], piece: usize) -> Result<MemDesk, AllocError>
-    requires { 1 ≤ piece }
-    ensures { IfOk result (λ m. asked_in FormulaSlot (outside_of m).asked ≡ None) }
-{
-    let mut files = Vec::new(alloc);
-    files.push(NamedFile {
-        name: String::from_str(alloc, "cnf")?,
-        bytes: Vec::from_slice(alloc, text)?,
-    })?;
-    let rooms = Rooms {
-        answer: 0,
-        proof: 0,
-        message: 0,
-    };
-    MemDesk::make(alloc, files, rooms, piece, Vec::new(alloc))
-}
-
-/// Opens the file, which is to work.
-fn start(rt: &impl Abort, alloc: Global, desk: &mut MemDesk) -> Result<(), AllocError>
-    requires { asked_in FormulaSlot (outside_of desk.old).asked ≡ None }
-    ensures { OnOk result (started_in FormulaSlot (outside_of desk.new).started ≡ true) }
-{
-    let started = desk.start(Slot::Formula, String::from_str(alloc, "cnf")?);
-    assert!(rt; started.is_ok());
-    Ok(())
-}
 
 /// What is read of a text that comes in pieces of this length.
 fn told_in_pieces(
@@ -50,8 +20,8 @@ fn told_in_pieces(
     requires piece { 1 ≤ piece }
     requires limit { limit ≤ 4294967295 }
 {
-    let mut desk = desk(alloc, text, piece)?;
-    start(rt, alloc, &mut desk)?;
+    let mut desk = desk(alloc, text, NO_ROOM, piece, &[])?;
+    assert!(rt; start(alloc, &mut desk, Slot::Formula)?);
     match read_formula_from(alloc, &mut desk, Slot::Formula, limit) {
         Ok(formula) => show(alloc, &formula),
         Err(refusal) => Ok(format!(in alloc; "{refusal:?}")?),
@@ -99,7 +69,7 @@ fn all_told(rt: &impl Abort, alloc: Global, texts: &[&[u8]]) -> Result<String, F
 
 #[test]
 fn pieces_of_any_length_tell_what_the_whole_text_tells(rt: HostRuntime) -> Result<(), Fail> {
-    let texts: [&[u8]; 14] = [
+    let texts: [&[u8]; 20] = [
         b"",
         b"1 0",
         b"c a\r\n%\n",
@@ -114,6 +84,12 @@ fn pieces_of_any_length_tell_what_the_whole_text_tells(rt: HostRuntime) -> Resul
         b"p cnf 2 1\n1 a 0\n1 0\n",
         b"p cnf 1 1\n16777216 a 0",
         b"p cnf 12345 1\n12345 -12345 0 123",
+        b"p cnf 2 1\n1 2\n",
+        b"p cnf 2 1\nx",
+        b"p cnf 2 1\n1 x2 0",
+        b"p cnf 2 1\n\0 0",
+        b"p cnf 2 1\n1\xc3\xa9 0",
+        b"p cnf 1 1\nx-16777216 0",
     ];
     let wanted = "NoHeader(0)|NoHeader(0)|NoHeader(0)|
 TooLong|NoHeader(0)|NoHeader(0)|
@@ -129,6 +105,12 @@ TooLong|Unterminated(13)|Unterminated(13)|
 TooLong|BadToken(12)|BadToken(12)|
 TooLong|VarLimit(10)|VarLimit(10)|
 TooLong|Unterminated(32)|Unterminated(32)|
+TooLong|Unterminated(14)|Unterminated(14)|
+TooLong|Unterminated(11)|Unterminated(11)|
+TooLong|BadToken(12)|BadToken(12)|
+TooLong|BadToken(10)|BadToken(10)|
+TooLong|BadToken(10)|BadToken(10)|
+TooLong|VarLimit(10)|VarLimit(10)|
 ";
     assert_eq!(rt; all_told(&rt, rt.alloc(), &texts)?.as_str(), wanted);
     Ok(())

@@ -1,43 +1,13 @@
 //! Proofs that are read from a slot, in pieces of any length.
-ghost use Rattle.std.specs.Prelude.{◌≡◌, ◌≤◌, true, false, None, IfOk, OnOk};
-ghost use Rattle.cx_desk.specs.Outside.{asked_in, started_in};
-ghost use Rattle.cx_desk.specs.Memory.{outside_of};
-ghost use Rattle.cx_desk.specs.declared.desk.Slot.TheVariants.{Second};
+ghost use Rattle.std.specs.Prelude.{◌≡◌, ◌≤◌, false};
 
-use cx_desk::{Desk, MemDesk, NamedFile, Rooms, Slot};
+use crate::one_file::{NO_ROOM, desk, start};
+use cx_desk::{MemDesk, Slot};
 use proof_text::ProofGrammar;
 use std::alloc::{AllocError, Global};
 use std::process::Abort;
 use std::test::Fail;
 use step_text::{SlotText, StepSource};
-
-/// A desk with one file, "proof".
-fn desk(alloc: Global, text: &[u8], piece: usize) -> Result<MemDesk, AllocError>
-    requires { 1 ≤ piece }
-    ensures { IfOk result (λ m. asked_in Second (outside_of m).asked ≡ None) }
-{
-    let mut files = Vec::new(alloc);
-    files.push(NamedFile {
-        name: String::from_str(alloc, "proof")?,
-        bytes: Vec::from_slice(alloc, text)?,
-    })?;
-    let rooms = Rooms {
-        answer: 0,
-        proof: 0,
-        message: 0,
-    };
-    MemDesk::make(alloc, files, rooms, piece, Vec::new(alloc))
-}
-
-/// Opens the file, which is to work.
-fn start(rt: &impl Abort, alloc: Global, desk: &mut MemDesk) -> Result<(), AllocError>
-    requires { asked_in Second (outside_of desk.old).asked ≡ None }
-    ensures { OnOk result (started_in Second (outside_of desk.new).started ≡ true) }
-{
-    let started = desk.start(Slot::Second, String::from_str(alloc, "proof")?);
-    assert!(rt; started.is_ok());
-    Ok(())
-}
 
 /// How many steps a source gives, at most a hundred, where it goes on, and what it answers then.
 fn told<S: StepSource>(alloc: Global, source: &mut S) -> Result<String, AllocError>
@@ -67,8 +37,8 @@ fn told_of(
     requires piece { 1 ≤ piece }
     requires limit { limit ≤ 4294967295 }
 {
-    let mut desk = desk(alloc, text, piece)?;
-    start(rt, alloc, &mut desk)?;
+    let mut desk = desk(alloc, text, NO_ROOM, piece, &[])?;
+    assert!(rt; start(alloc, &mut desk, Slot::Second)?);
     let mut source: SlotText<MemDesk, ProofGrammar> = SlotText::new(
         alloc,
         &mut desk,
