@@ -12,7 +12,6 @@ mod policy;
 mod propagation;
 #[cfg(test)]
 mod recovering;
-#[cfg(test)]
 mod source;
 #[cfg(test)]
 mod writing;

@@ -8,7 +8,6 @@ mod agreement;
 mod driven;
 #[cfg(test)]
 mod events;
-#[cfg(test)]
 mod parities;
 #[cfg(test)]
 mod parts;

@@ -9,5 +9,4 @@ mod judges;
 mod logs;
 #[cfg(test)]
 mod maps;
-#[cfg(test)]
 mod numbers;

@@ -1,5 +1,5 @@
 //! Proofs that are verified, and proofs that are refused at a step for a cause.
-use crate::desk::expect;
+use crate::expecting::expect;
 use crate::formulas::{EMPTY, SQUARE, TRIANGLE};
 use std::alloc::{AllocError, Global};
 use std::test::Fail;

@@ -5,7 +5,6 @@ ghost use Rattle.solve_cli.specs.Commands.{Unasked};
 use cx_desk::{Desk, MemDesk, NamedFile, Port, Rooms};
 use solve_cli::run_within;
 use std::alloc::{AllocError, Global};
-use std::process::Abort;
 
 /// The most bytes that the ports take, that one call moves, and that a text may have.
 #[derive(Clone, Copy, Drop)]
@@ -158,31 +157,4 @@ pub fn run_failing(alloc: Global, task: Task, failing: Failing) -> Result<Ended,
     };
     let status = status_over(alloc, task.line, AMPLE.limit, &mut desk)?;
     Ok(Ended { status, desk })
-}
-
-/// Runs a command of the texts `f` and `s`, which is to end with this status and this answer, and
-/// to write nothing else.
-pub fn expect(
-    rt: &impl Abort,
-    alloc: Global,
-    command: &str,
-    formula: &str,
-    second: &str,
-    status: u8,
-    answer: &str,
-) -> Result<(), AllocError> {
-    let line = ["cxsat", command, "f", "s"];
-    let run = run(alloc, formula, second.as_bytes(), line.as_slice(), AMPLE)?;
-    assert!(rt;
-        run.status == status,
-        "{formula}{second}: status {}",
-        run.status
-    );
-    assert!(rt;
-        run.answer() == answer.as_bytes(),
-        "{formula}{second}: answer"
-    );
-    assert!(rt; run.message().is_empty(), "{formula}{second}: message");
-    assert!(rt; run.proof().is_empty(), "{formula}{second}: proof");
-    Ok(())
 }

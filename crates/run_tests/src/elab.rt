@@ -1,5 +1,6 @@
 //! Logs that become proofs, and logs that are refused at a step for a cause.
-use crate::desk::{AMPLE, Bounds, expect, run};
+use crate::desk::{AMPLE, Bounds, run};
+use crate::expecting::expect;
 use crate::formulas::SQUARE;
 use std::test::Fail;
 

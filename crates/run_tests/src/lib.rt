@@ -5,10 +5,11 @@
 mod check;
 #[cfg(test)]
 mod demo;
-#[cfg(test)]
 mod desk;
 #[cfg(test)]
 mod elab;
+#[cfg(test)]
+mod expecting;
 #[cfg(test)]
 mod faults;
 #[cfg(test)]

@@ -1,5 +1,5 @@
 //! Printed values that are right, and values that are refused for a cause.
-use crate::desk::expect;
+use crate::expecting::expect;
 use std::test::Fail;
 
 /// A parity and a clause that the values 1 and -2 alone meet.
