@@ -25,4 +25,6 @@ mod pigeons;
 #[cfg(test)]
 mod refusals;
 #[cfg(test)]
+mod schedule;
+#[cfg(test)]
 mod solve;

@@ -1,0 +1,94 @@
+//! The search follows its schedule, as its log shows: clauses are deleted just behind the conflicts where a restart is due
+//! and many are learned.
+use crate::desk::run;
+use crate::pigeons::{WIDE, pigeonholes};
+use std::test::Fail;
+
+/// Counted conflicts, in hundreds up to 50, behind which a restart is due: the sums of the sequence of Luby, Sinclair and
+/// Zuckerman, 1 1 2 1 1 2 4 1 1 2 1 1 2 4 8 and so on.
+const RESTARTS: [u64; 27] = [
+    1, 2, 4, 5, 6, 8, 12, 13, 14, 16, 17, 18, 20, 24, 32, 33, 34, 36, 37, 38, 40, 44, 45, 46, 48,
+    49, 50,
+];
+
+/// What a log without parities told up to some line.
+#[derive(Drop)]
+struct Told {
+    conflicts: u64,
+    /// Whether the next added clause is the one that the last conflict taught.
+    learns: bool,
+    /// Learned clauses of two literals and more that are not deleted, as they were at the last mark.
+    live: u64,
+    /// Clauses that were deleted since the last mark.
+    deleted: u64,
+    reductions: u64,
+}
+
+impl Told {
+    /// Whether many learned clauses are live where a restart is due.
+    fn is_due(&self) -> bool {
+        self.conflicts % 100 == 0
+            && RESTARTS.contains(&(self.conflicts / 100))
+            && self.live / 500 >= self.reductions.saturating_add(4)
+    }
+
+    /// Whether clauses were deleted behind the last conflict exactly where that is due, and at most half of them.
+    fn follows(&self) -> bool {
+        if self.is_due() {
+            self.deleted > 0 && self.deleted <= self.live / 2
+        } else {
+            self.deleted == 0
+        }
+    }
+
+    /// Takes in a mark.
+    fn mark(&mut self) {
+        if self.deleted > 0 {
+            self.reductions = self.reductions.saturating_add(1);
+            self.live = self.live.saturating_sub(self.deleted);
+        }
+        self.conflicts = self.conflicts.saturating_add(1);
+        self.learns = true;
+        self.deleted = 0;
+    }
+
+    /// Takes in a step.
+    fn step(&mut self, line: &str) {
+        if line.starts_with("d ") {
+            self.deleted = self.deleted.saturating_add(1);
+        } else if line.starts_with("a ") && self.learns {
+            self.learns = false;
+            // a unit clause, as `a 90 -3 0 l ..`, is not kept among the others
+            if line.split(' ').nth(3) != Some("0") {
+                self.live = self.live.saturating_add(1);
+            }
+        }
+    }
+}
+
+#[test]
+fn clauses_are_deleted_where_many_are_learned_at_a_restart(rt: HostRuntime) -> Result<(), Fail> {
+    let formula = pigeonholes(rt.alloc(), 10)?;
+    let line = ["cxsat", "solve", "f", "--proof", "l", "--conflicts", "5000"];
+    let solved = run(rt.alloc(), formula.as_str(), b"", line.as_slice(), WIDE)?;
+    assert_eq!(rt; solved.status, 0);
+    let log = String::from_utf8_lossy(rt.alloc(), solved.proof())?;
+    let mut told = Told {
+        conflicts: 0,
+        learns: false,
+        live: 0,
+        deleted: 0,
+        reductions: 0,
+    };
+    for line in log.split('\n') {
+        if line.starts_with("c conflict ") {
+            assert!(rt; told.follows(), "behind conflict {}", told.conflicts);
+            told.mark();
+        } else {
+            told.step(line);
+        }
+    }
+    assert_eq!(rt; told.conflicts, 5000);
+    assert!(rt; told.reductions >= 2, "{} reductions", told.reductions);
+    Ok(())
+}
