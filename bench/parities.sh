@@ -111,7 +111,7 @@ measure() {
     formula "$kind" "$size" > "$work/formula"
     read -r own own_memory status <<< "$(repeated "$times" "$program" solve "$work/formula")"
     what="$family $size (status $status)"
-    [ "$times" = 1 ] || own_counted=$(millions "$binary" solve "$work/formula")
+    [ "$times" = 1 ] || own_counted=$(millions "$program" solve "$work/formula")
     beside cryptominisat5
     beside 'cryptominisat5, bounds lifted' --maxmatrixrows 100000 --maxmatrixcols 100000 --maxnummatrices 100000
 }

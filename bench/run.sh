@@ -1,10 +1,11 @@
 #!/usr/bin/env bash
-# Runs all measurements in one go, on inputs made from seeds, and writes them as one table into bench/RESULTS.md.
+# Runs all measurements in one go, on inputs made from seeds, and writes them as one table into bench/RESULTS.md, behind
+# its head: what stands before "## The tables" is written by hand and stays.
 # The peers are Debian's packages: apt-get install minisat cryptominisat cadical valgrind time gcc
-# usage: bench/run.sh [FILE]     (some ten minutes once the program is built; nothing else should run meanwhile)
+# usage: bench/run.sh [FILE]     (an hour once the program is built; nothing else should run meanwhile)
 set -euo pipefail
 source "$(dirname "$0")/common.sh"
-need minisat cryptominisat5 gcc /usr/bin/time
+need minisat cryptominisat5 cadical valgrind gcc /usr/bin/time
 build
 results=${1:-$here/RESULTS.md}
 
@@ -14,24 +15,23 @@ version() {
 }
 
 {
+    sed '/^## The tables/,$d' "$results"
     cat <<TEXT
-# Measurements
+## The tables
 
-Made by \`bench/run.sh\` in one run, on inputs from fixed seeds; \`bench/run.sh\` makes this page anew. Times are processor
-time of whole processes, one run each (the reader: the best of five). The last column is cxsat's number over that of what
-stands beside it: below 1 cxsat took less, but in the row of propagation, where above 1 it did more. Where a peer was cut
-off, the ratio is over the limit and so an upper bound. No figure is a promise: the ratios say how things stood on that
-day and machine.
+Made by \`bench/run.sh\` in one run. Times are processor time of whole processes, one run each (the reader: the best of
+five). The last column is cxsat's number over that of what stands beside it: below 1 cxsat took less, but in the row of
+propagation, where above 1 it did more. Where a peer was cut off, the ratio is over the limit and so an upper bound.
 
 - date: $(date -u +%F), commit $(git -C "$here" rev-parse --short HEAD)
 - processor: $(lscpu | sed -n 's/^Model name: *//p'), $(nproc) processors; load before the run $(cut -d' ' -f1 /proc/loadavg)
 - built by: $(rt version | head -n 1)
-- beside it: $(version minisat), $(version cryptominisat), $(gcc --version | head -n 1) with -O2
+- beside it: $(version minisat), $(version cadical), $(version cryptominisat), $(gcc --version | head -n 1) with -O2
 
 | what | on what | cxsat | beside it | ratio |
 | --- | --- | --- | --- | --- |
 TEXT
-    for script in reader check elab solve parities propagate rows; do
+    for script in reader check elab foreign solve families parities recover propagate memory rows; do
         "$here/$script.sh"
     done
 } > "$work/results"
