@@ -1,5 +1,5 @@
 -- Sets of rows by column.
-use Rattle.std.proofs.Common.{◌≡◌, ◌≢◌, ℕ, ◌+◌, ◌-◌, ◌*◌, ◌<◌, ◌≤◌, Bool, true, false, ◌&&◌, cond, nat_eq, List, [], ◌∷◌, ◌++◌, Option, Some, None, length, length-append, get_or, set, refl, sym, ap, ◌∙◌, subst, arith, inl, inr}
+use Rattle.std.proofs.Common.{◌≡◌, ◌≢◌, ℕ, ◌+◌, ◌-◌, ◌*◌, ◌<◌, ◌≤◌, Bool, true, false, ◌&&◌, cond, nat_eq, List, [], ◌∷◌, ◌++◌, Option, Some, None, length, length-append, get_or, set, refl, sym, ap, ◌∙◌, subst, arith, inl, inr, true≢false}
 use Rattle.std.specs.Slice.Scan.{HoldsNowhere, IsFirstPlace}
 use Rattle.std.proofs.Math.Seq.{get_or-append_seam}
 use Rattle.std.proofs.Math.ListN.{length-set, get_or-eq_default}
@@ -13,7 +13,7 @@ use Rattle.gf2_matrix.specs.declared.by_column.RowSet.{RowSet}
 use Rattle.gf2_matrix.specs.declared.by_column.ByColumn.{ByColumn}
 use Rattle.gf2_matrix.specs.Views.{words_for}
 use Rattle.gf2_matrix.specs.Packed.{Window, window_at, start, takes_pivot, ArePlacesIn, ArePivoted, IsPivotedRow}
-use Rattle.gf2_matrix.specs.ByColumn.{AreTurned, AreSized, AreClear, IsByColumn, AreByColumn}
+use Rattle.gf2_matrix.specs.ByColumn.{AreTurned, AreSized, AreClear, IsByColumn, AreByColumn, IsRarestOf, set_size}
 use Rattle.gf2_matrix.proofs.Updates.{same_read}
 use Rattle.gf2_matrix.proofs.Rows.{pivoted_more}
 
@@ -180,7 +180,7 @@ entered_more w rows sets chosen n row e' one freed new so within low high is one
     }
 
 pub entered_all : (w : Window) (rows : List PackedRow) (c : ByColumn) → AreEntered w rows c.sets.items c.chosen.items (length w.numbers) → IsByColumn w rows c
-entered_all w rows c so = record { count = so.count; sized = so.sized; room = so.room; bits = so.done }
+entered_all w rows c so = record { count = so.count; sized = so.sized; room = so.room; bits = so.done; past = so.ahead }
 
 pub by_column_more : (windows : List Window) (rows : List PackedRow) (all new : List ByColumn) (n : ℕ) (c : ByColumn) → AreByColumn windows rows all n → new ≡ all ++ c ∷ []
     → IsByColumn (window_at windows n) rows c → AreByColumn windows rows new (n + 1)
@@ -267,3 +267,25 @@ module _ (row bit : ℕ) (pivot : PackedRow) (numbers chosen : List ℕ) (old ne
 abbrev pub IsColumnBefore : List ℕ → ℕ → ℕ → ℕ → Option ℕ → Type 0
 IsColumnBefore bits first n from None = HoldsNowhere (bit_of bits) first from
 IsColumnBefore bits first n from (Some i) = (i < n) × (bit_of bits (first + i) ≡ true)
+
+-- the set of the column has so many rows, and that of no other before the position has fewer
+pub record IsRarestBefore (bits : List ℕ) (first : ℕ) (sets : List RowSet) (from : ℕ) (rarest : Option ℕ) (fewest : ℕ) : Type 0 where
+  pub column : IsColumnBefore bits first (length sets) from rarest
+  pub size : (i : ℕ) (d : RowSet) → rarest ≡ Some i → set_size (get_or sets i d) ≡ fewest
+  pub least : (i j : ℕ) (d : RowSet) → rarest ≡ Some i → j < length sets → first + j < from → bit_of bits (first + j) ≡ true → fewest ≤ set_size (get_or sets j d)
+
+-- the bits have no further column
+pub rarest_all : (bits : List ℕ) (first : ℕ) (sets : List RowSet) (from : ℕ) (rarest : Option ℕ) (fewest : ℕ) → IsRarestBefore bits first sets from rarest fewest
+    → HoldsNowhere (bit_of bits) from (64 * length bits) → IsRarestOf bits first sets rarest
+rarest_all bits first sets from rarest fewest so none i j d is j_in on =
+    let size = so.size i d is in
+    let le : fewest ≤ set_size (get_or sets j d) =
+    elim (cases_lt (first + j) from) [
+      | inl before ↦ so.least i j d is j_in before on
+      | inr ge ↦
+          elim (cases_lt (first + j) (64 * length bits)) [
+            | inl small ↦ absurd (true≢false (sym on ∙ none (first + j) ge small))
+            | inr past ↦ absurd (true≢false (sym on ∙ bit_past_end bits (first + j) past))
+          ]
+    ] in
+    rw size le

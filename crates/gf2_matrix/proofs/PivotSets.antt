@@ -39,6 +39,17 @@ chosen_takes w rows c row column place d chosen by places low column_in place_in
       | inr ne ↦ ne_eqb i place ne ∙ sym (ne_eqb j row (λ q. ne (places.apart i place lt place_in (let g = at in omega arith))))
     ])
 
+-- no place past the numbers is chosen
+pub chosen_within : (w : Window) (rows : List PackedRow) (c : ByColumn) (column place : ℕ) (d : RowSet) (chosen : List ℕ) → IsByColumn w rows c → column < length w.columns
+    → ((m : ℕ) → bit_of chosen m ≡ (not (eqb m place) && bit_of (get_or c.sets.items column d).words.items m))
+    → (m : ℕ) → length w.numbers ≤ m → bit_of chosen m ≡ false
+chosen_within w rows c column place d chosen by column_in is m ge =
+    is m ∙ ap (λ b. not (eqb m place) && b) (by.past column m d column_in ge) ∙ and_false (not (eqb m place))
+  where
+    and_false : (b : Bool) → b && false ≡ false
+    and_false true = refl
+    and_false false = refl
+
 and_true : (b : Bool) → b && true ≡ b
 and_true true = refl
 and_true false = refl
@@ -51,10 +62,11 @@ turned_bit false pivot old new k step = differ_kept (bit_of old.bits.items k) (b
 -- the part of the pivot
 pub turned_after : (w : Window) (rows new : List PackedRow) (c turned : ByColumn) (row bit : ℕ) (pivot : PackedRow) → IsByColumn w rows c
     → ((i j : ℕ) (e : PackedRow) → i < length w.numbers → get_or w.numbers i 0 ≡ j + 1 → bit_of turned.chosen.items i ≡ takes_pivot row bit j (get_or rows j e))
+    → ((m : ℕ) → length w.numbers ≤ m → bit_of turned.chosen.items m ≡ false)
     → ArePivoted row bit pivot w.numbers rows new (length w.numbers)
     → AreTurned turned.chosen.items pivot.bits.items (start w) c.sets.items turned.sets.items (length c.sets.items)
     → length turned.chosen.items ≡ words_for (length w.numbers) → IsByColumn w new turned
-turned_after w rows new c turned row bit pivot by takes done are room =
+turned_after w rows new c turned row bit pivot by takes within done are room =
     let count = by.count in
     record {
       count = are.long ∙ by.count;
@@ -65,6 +77,10 @@ turned_after w rows new c turned row bit pivot by takes done are room =
           ∙ ap (λ b. differ b (bit_of pivot.bits.items (start w + i) && bit_of turned.chosen.items m)) (by.bits i m k d e i_in lt at)
           ∙ ap (λ b. differ (bit_of (get_or rows k e).bits.items (start w + i)) (bit_of pivot.bits.items (start w + i) && b)) (takes m k e lt at)
           ∙ turned_bit (takes_pivot row bit k (get_or rows k e)) pivot (get_or rows k e) (get_or new k e) (start w + i) (done.done m k e lt at);
+      past = λ i m d i_in ge.
+          are.done i m d (omega arith) (omega arith)
+          ∙ ap (λ b. differ (bit_of (get_or c.sets.items i d).words.items m) (bit_of pivot.bits.items (start w + i) && b)) (within m ge)
+          ∙ differ_kept (bit_of (get_or c.sets.items i d).words.items m) (bit_of pivot.bits.items (start w + i)) ∙ by.past i m d i_in ge;
     }
 
 -- all parts
@@ -93,6 +109,7 @@ by_column_after vars given columns places windows rows new spares no_columns row
                       was.bits i m k s e i_in m_in at
                       ∙ ap (λ (r : PackedRow). bit_of r.bits.items (start (window_at windows q) + i))
                       (sym (done.left k e (λ j small is. ne (sym (matrix.members q m k e lt m_in at) ∙ matrix.members p j k e p_in small is))));
+                  past = was.past;
                 })
           ];
     }

@@ -1,7 +1,8 @@
 -- Parts by columns.
 use Rattle.std.specs.Prelude.{◌≡◌, ℕ, ◌+◌, ◌-◌, ◌<◌, ◌≤◌, true, false, ◌&&◌, List, length, Option, Some, None, slice_index, slice_index_or}
 use Rattle.cx_base.specs.Literals.{Literal, differ}
-use Rattle.gf2_rows.specs.Bits.{bit_of}
+use Rattle.std.specs.List.{count_by}
+use Rattle.gf2_rows.specs.Bits.{bit_of, bits_of}
 use Rattle.gf2_matrix.specs.declared.packed.PackedRow.{PackedRow}
 use Rattle.gf2_matrix.specs.declared.by_column.RowSet.{RowSet}
 use Rattle.gf2_matrix.specs.declared.by_column.ByColumn.{ByColumn}
@@ -28,19 +29,29 @@ abbrev pub IsColumnOf : List ℕ → ℕ → ℕ → Option ℕ → Type 0
 IsColumnOf bits first n None = (i : ℕ) → i < n → bit_of bits (first + i) ≡ false
 IsColumnOf bits first n (Some i) = (i < n) × (bit_of bits (first + i) ≡ true)
 
+-- how many rows the set has
+abbrev pub set_size : RowSet → ℕ
+set_size s = count_by (λ b. b) (bits_of s.words.items)
+
+-- of the columns that the bits have, of which the first has bit `first`, none has fewer rows
+abbrev pub IsRarestOf : List ℕ → ℕ → List RowSet → Option ℕ → Type 0
+IsRarestOf bits first sets found =
+    (i j : ℕ) (d : RowSet) → found ≡ Some i → j < length sets → bit_of bits (first + j) ≡ true → set_size (slice_index_or sets i d) ≤ set_size (slice_index_or sets j d)
+
 -- the rows of the window's numbers are there, and have its words
 pub record HaveRows (w : Window) (rows : List PackedRow) : Type 0 where
   pub low : (m : ℕ) → m < length w.numbers → 1 ≤ slice_index w.numbers m
   pub high : (m : ℕ) → m < length w.numbers → slice_index w.numbers m ≤ length rows
   pub sized : (m : ℕ) (d : PackedRow) → m < length w.numbers → IsSized w (slice_index_or rows (slice_index w.numbers m - 1) d)
 
--- the set of each column has the rows that have the column
+-- the set of each column has the rows that have the column, and no others
 pub record IsByColumn (w : Window) (rows : List PackedRow) (c : ByColumn) : Type 0 where
   pub count : length c.sets.items ≡ length w.columns
   pub sized : AreSized (words_for (length w.numbers)) c.sets.items
   pub room : length c.chosen.items ≡ words_for (length w.numbers)
   pub bits : (i m k : ℕ) (d : RowSet) (e : PackedRow) → i < length w.columns → m < length w.numbers → slice_index w.numbers m ≡ k + 1
       → bit_of (slice_index_or c.sets.items i d).words.items m ≡ bit_of (slice_index_or rows k e).bits.items (start w + i)
+  pub past : (i m : ℕ) (d : RowSet) → i < length w.columns → length w.numbers ≤ m → bit_of (slice_index_or c.sets.items i d).words.items m ≡ false
 
 -- the first n windows by columns
 pub record AreByColumn (windows : List Window) (rows : List PackedRow) (by_columns : List ByColumn) (n : ℕ) : Type 0 where

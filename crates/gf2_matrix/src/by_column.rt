@@ -4,7 +4,7 @@ ghost use Rattle.cx_base.specs.declared.literal.TheConstants.{MAX_VARIABLE};
 ghost use Rattle.gf2_rows.specs.Bits.{bit_of};
 ghost use Rattle.gf2_matrix.specs.Views.{words_for};
 ghost use Rattle.gf2_matrix.specs.Packed.{window, window_at};
-ghost use Rattle.gf2_matrix.specs.ByColumn.{AreTurned, AreSized, AreClear, IsColumnOf, HaveRows, IsByColumn, AreByColumn};
+ghost use Rattle.gf2_matrix.specs.ByColumn.{AreTurned, AreSized, AreClear, IsColumnOf, IsRarestOf, HaveRows, IsByColumn, AreByColumn};
 
 use crate::make::clear_words;
 use crate::packed::{PackedRow, Part};
@@ -48,7 +48,8 @@ impl ByColumn {
         requires within { start ≤ 64 * length bits.now }
         requires room { length self.now.chosen.items < 4294967296 }
         requires sized { AreSized (length self.now.chosen.items) self.now.sets.items }
-        ensures { IsColumnOf bits.now start (length self.now.sets.items) result }
+        ensures column { IsColumnOf bits.now start (length self.now.sets.items) result }
+        ensures rarest { IsRarestOf bits.now start self.now.sets.items result }
     {
         let mut rarest = None;
         let mut fewest = 0;

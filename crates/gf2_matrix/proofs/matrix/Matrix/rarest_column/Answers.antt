@@ -1,11 +1,12 @@
-use Rattle.std.proofs.Common.{◌≡◌, ◌∙◌, ℕ, ◌+◌, ◌-◌, ◌<◌, sym, ap, subst, arith, length, get_or, map, true, false}
+use Rattle.std.proofs.Common.{◌≡◌, ◌∙◌, ℕ, ◌+◌, ◌-◌, ◌<◌, ◌≤◌, refl, sym, ap, subst, arith, length, get_or, map, true, false}
 use Rattle.gf2_rows.specs.Bits.{bit_of}
 use Rattle.gf2_matrix.specs.declared.packed.PackedRow.{PackedRow}
-use Rattle.gf2_matrix.specs.Content.{Content, has, row_at}
+use Rattle.gf2_matrix.specs.Content.{Content, has, row_at, rows_with}
 use Rattle.gf2_matrix.specs.Packed.{window, window_at}
 use Rattle.gf2_matrix.specs.ByColumn.{IsByColumn}
 use Rattle.gf2_matrix.proofs.Rows.{row_within, row_window}
 use Rattle.gf2_matrix.proofs.PivotSets.{row_by_column, numbers_few, columns_high, column_found, column_none}
+use Rattle.gf2_matrix.proofs.RowCounts.{rarest_of_row}
 use Rattle.gf2_matrix.proofs.matrix.Matrix.rarest_column.Goals as goal
 use Rattle.gf2_matrix.proofs.matrix.Matrix.rarest_column.Goals.{After-start}
 
@@ -46,28 +47,43 @@ overflow_add-result c =
     let m = c.self.inside in
     let s = (goal.at.overflow_add-result c).After-start in
     let count = (by_here s).count in
-    let lt = c.in-Some.ensures.0 in
+    let lt = c.in-Some.ensures.column.0 in
     let high = columns_high m.vars m.given m.columns.items m.places.items (map window m.parts.items) m.rows.items m.spares.items m.no_columns.items c.self.invariant.matrix c.args.row c.index-words.result.now (row_in s) (window c.index-part.result.now) (here s) in
     omega arith
 
-pub returns-in-Some : goal.returns-in-Some
-returns-in-Some c =
+pub returns-in-Some-clause-column : goal.returns-in-Some-clause-column
+returns-in-Some-clause-column c =
     let m = c.self.inside in
-    let s = (goal.at.returns-in-Some c).After-start in
+    let s = (goal.at.returns-in-Some-clause-column c).After-start in
     let e = c.index-part.result.now in
     let i = c.in-Some.column in
     let count = (by_here s).count in
-    let lt = c.in-Some.ensures.0 in
+    let lt = c.in-Some.ensures.column.0 in
     subst (λ (t : Content). (e.base + i < length t.columns) × (has (row_at t.rows c.args.row) (get_or t.columns (e.base + i) 0 - 1) ≡ true)) c.self.view_is
     (column_found m.vars m.given m.columns.items m.places.items (map window m.parts.items) m.rows.items m.spares.items m.no_columns.items c.self.invariant.matrix c.args.row c.index-words.result.now (row_in s) (window e) (here s) c.deref.result.now (bits_are s) i (omega arith)
-    (ap (λ f. bit_of c.deref.result.now (f + i)) (sym c.start.ensures) ∙ c.in-Some.ensures.1))
+    (ap (λ f. bit_of c.deref.result.now (f + i)) (sym c.start.ensures) ∙ c.in-Some.ensures.column.1))
 
-pub returns-in-None : goal.returns-in-None
-returns-in-None c =
+pub returns-in-None-clause-column : goal.returns-in-None-clause-column
+returns-in-None-clause-column c =
     let m = c.self.inside in
-    let s = (goal.at.returns-in-None c).After-start in
+    let s = (goal.at.returns-in-None-clause-column c).After-start in
     let e = c.index-part.result.now in
     let count = (by_here s).count in
     subst (λ (t : Content). (k : ℕ) → k < length t.columns → has (row_at t.rows c.args.row) (get_or t.columns k 0 - 1) ≡ false) c.self.view_is
     (column_none m.vars m.given m.columns.items m.places.items (map window m.parts.items) m.rows.items m.spares.items m.no_columns.items c.self.invariant.matrix c.args.row c.index-words.result.now (row_in s) (window e) (here s) c.deref.result.now (bits_are s)
-    (λ i lt. ap (λ f. bit_of c.deref.result.now (f + i)) (sym c.start.ensures) ∙ c.in-None.ensures i (omega arith)))
+    (λ i lt. ap (λ f. bit_of c.deref.result.now (f + i)) (sym c.start.ensures) ∙ c.in-None.ensures.column i (omega arith)))
+
+pub returns-in-Some-clause-rarest : goal.returns-in-Some-clause-rarest
+returns-in-Some-clause-rarest c =
+    let m = c.self.inside in
+    let s = (goal.at.returns-in-Some-clause-rarest c).After-start in
+    let e = c.index-part.result.now in
+    let i = c.in-Some.column in
+    let by = by_here s in
+    let count = by.count in
+    let lt = c.in-Some.ensures.column.0 in
+    subst (λ (t : Content). (j : ℕ) → j < length t.columns → has (row_at t.rows c.args.row) (get_or t.columns j 0 - 1) ≡ true
+    → rows_with t.rows (get_or t.columns (e.base + i) 0 - 1) ≤ rows_with t.rows (get_or t.columns j 0 - 1)) c.self.view_is
+    (rarest_of_row m.vars m.given m.columns.items m.places.items (map window m.parts.items) m.rows.items m.spares.items m.no_columns.items c.self.invariant.matrix c.args.row c.index-words.result.now (row_in s) (window e) (here s)
+    c.index.result.now by c.deref.result.now (bits_are s) i (omega arith) (ap (λ f. bit_of c.deref.result.now (f + i)) (sym c.start.ensures) ∙ c.in-Some.ensures.column.1)
+    (λ j d j_in on. c.in-Some.ensures.rarest i j d refl j_in (ap (λ f. bit_of c.deref.result.now (f + j)) c.start.ensures ∙ on)))
