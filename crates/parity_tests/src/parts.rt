@@ -45,16 +45,31 @@ fn first_but(
     Ok(matrix.first_outside(row, &nothing, skip))
 }
 
-/// The row's peers, the columns of its part, and its first two columns.
+/// The row's rarest column, and for each row from the first one on the next row that has it.
+fn rarest_line(alloc: Global, matrix: &Matrix, row: usize) -> Result<String, AllocError>
+    requires { row < length matrix.now.rows }
+{
+    let rarest = matrix.rarest_column(row);
+    let mut next = Vec::new(alloc);
+    if let Some(column) = rarest {
+        for from in 0..matrix.rows() {
+            next.push(matrix.next_with(row, column, from))?;
+        }
+    }
+    format!(in alloc; "{:?} {:?}", rarest, next.as_slice())
+}
+
+/// The row's rarest column and the rows with it, the columns of its part, and its first two columns.
 fn place_line(alloc: Global, matrix: &Matrix, row: usize) -> Result<String, AllocError>
     requires { row < length matrix.now.rows }
 {
     let first = first_but(alloc, matrix, row, None)?;
     let second = first_but(alloc, matrix, row, first)?;
+    let rarest = rarest_line(alloc, matrix, row)?;
     let (low, count) = matrix.span(row);
     format!(in alloc;
-        "{:?} {low} {count} {:?} {:?}\n",
-        matrix.peers(row),
+        "{} {low} {count} {:?} {:?}\n",
+        rarest.as_str(),
         first,
         second
     )
@@ -124,7 +139,8 @@ fn parts_that_share_no_variable_stand_apart(rt: HostRuntime) -> Result<(), Fail>
         columns(alloc, &matrix)?.as_str(),
         "[1, 3, 2, 4] [0, 2, 1, 3, 4]"
     );
-    let wanted = "[1] 0 2 Some(0) Some(1)\n[2] 2 2 Some(2) Some(3)\n";
+    let wanted =
+        "Some(0) [Some(0), None] 0 2 Some(0) Some(1)\nSome(2) [Some(1), Some(1)] 2 2 Some(2) Some(3)\n";
     assert_eq!(rt; layout(alloc, &matrix)?.as_str(), wanted);
     matrix.reduce();
     assert_eq!(rt;
@@ -139,10 +155,13 @@ fn a_parity_joins_two_parts(rt: HostRuntime) -> Result<(), Fail> {
     let alloc = rt.alloc();
     let parities = parities_of(alloc, 6, &[&[1, 2], &[3, 4], &[2, 3], &[5, 6]])?;
     let mut matrix = Matrix::make(alloc, 6, &parities)?;
-    let joined =
-        "[1, 2, 3] 0 4 Some(0) Some(1)\n[1, 2, 3] 0 4 Some(2) Some(3)\n[1, 2, 3] 0 4 Some(1) Some(2)\n";
-    let wanted = format!(in alloc; "{joined}[4] 4 2 Some(4) Some(5)\n")?;
-    assert_eq!(rt; layout(alloc, &matrix)?.as_str(), wanted.as_str());
+    let wanted = "\
+Some(0) [Some(0), None, None, None] 0 4 Some(0) Some(1)
+Some(3) [Some(1), Some(1), None, None] 0 4 Some(2) Some(3)
+Some(1) [Some(0), Some(2), Some(2), None] 0 4 Some(1) Some(2)
+Some(4) [Some(3), Some(3), Some(3), Some(3)] 4 2 Some(4) Some(5)
+";
+    assert_eq!(rt; layout(alloc, &matrix)?.as_str(), wanted);
     matrix.reduce();
     let wanted = "[1, 4] true [1, 2, 3]\n[3, 4] true [2]\n[2, 4] false [2, 3]\n[5, 6] true [4]\n";
     assert_eq!(rt; rows(alloc, &matrix)?.as_str(), wanted);
@@ -160,8 +179,9 @@ fn a_parity_whose_variables_cancel_has_no_column(rt: HostRuntime) -> Result<(), 
         rows(alloc, &matrix)?.as_str(),
         "[] true [1]\n[2, 3] true [2]\n[] true [3]\n"
     );
-    let empty = "[1, 2, 3] 0 2 None None\n";
-    let wanted = format!(in alloc; "{empty}[1, 2, 3] 0 2 Some(0) Some(1)\n{empty}")?;
+    let empty = "None [] 0 2 None None\n";
+    let row = "Some(0) [Some(1), Some(1), None] 0 2 Some(0) Some(1)\n";
+    let wanted = format!(in alloc; "{empty}{row}{empty}")?;
     assert_eq!(rt; layout(alloc, &matrix)?.as_str(), wanted.as_str());
     Ok(())
 }
@@ -191,8 +211,11 @@ fn a_part_lies_across_two_words(rt: HostRuntime) -> Result<(), Fail> {
     let long = long_row(alloc)?;
     let parities = parities_of(alloc, 67, &[&long, &[64, 65, 66], &[65, 66, 67]])?;
     let mut matrix = Matrix::make(alloc, 67, &parities)?;
-    let wanted =
-        "[1] 0 63 Some(0) Some(1)\n[2, 3] 63 4 Some(63) Some(64)\n[2, 3] 63 4 Some(64) Some(65)\n";
+    let wanted = "\
+Some(0) [Some(0), None, None] 0 63 Some(0) Some(1)
+Some(63) [Some(1), Some(1), None] 63 4 Some(63) Some(64)
+Some(66) [Some(2), Some(2), Some(2)] 63 4 Some(64) Some(65)
+";
     assert_eq!(rt; layout(alloc, &matrix)?.as_str(), wanted);
     matrix.reduce();
     let wanted = format!(in alloc;
