@@ -16,7 +16,7 @@ use Rattle.parity_engine.specs.Written.{AreRising}
 use Rattle.gf2_matrix.proofs.Made.{few_columns}
 use Rattle.gf2_matrix.proofs.Rows.{pivot_at, column_bit}
 use Rattle.gf2_matrix.specs.ByColumn.{AreTurned, HaveRows, IsByColumn, AreByColumn}
-use Rattle.parity_engine.proofs.Rising.{column-low, column-high}
+use Rattle.parity_engine.proofs.Rising.{column-low}
 use Rattle.gf2_matrix.proofs.ByColumns.{differ_kept}
 
 pub element : {A : Type 0} (xs : List A) (i : ℕ) → i < length xs → A
@@ -119,13 +119,12 @@ pub have_rows : (vars : ℕ) (given : List (List Literal)) (columns places : Lis
     → IsMatrix vars given columns places windows rows spares no_columns → (p : ℕ) → p < length windows → HaveRows (window_at windows p) rows
 have_rows vars given columns places windows rows spares no_columns matrix p p_in =
     let rise = matrix.windows_are.numbers_rise p p_in in
-    let count = matrix.count in
     record {
       low = λ m lt. column-low 1 (length given) (window_at windows p).numbers m rise lt;
-      high = λ m lt. let h = column-high 1 (length given) (window_at windows p).numbers m rise lt in omega arith;
+      high = λ m lt. matrix.in_rows p m p_in lt;
       sized = λ m d lt.
           let low = column-low 1 (length given) (window_at windows p).numbers m rise lt in
-          let high = column-high 1 (length given) (window_at windows p).numbers m rise lt in
+          let high = matrix.in_rows p m p_in lt in
           let k : ℕ = get_or (window_at windows p).numbers m 0 - 1 in
           subst (λ q. IsSized (window_at windows q) (get_or rows k d)) (matrix.members p m k d p_in lt (omega arith)) (matrix.fitting k d (omega arith)).sized;
     }

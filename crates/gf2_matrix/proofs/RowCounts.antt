@@ -16,6 +16,7 @@ use Rattle.gf2_matrix.specs.declared.by_column.ByColumn.{ByColumn}
 use Rattle.gf2_matrix.specs.Content.{SourcedRow, IsNextWith, has, no_row, row_at, rows_with}
 use Rattle.gf2_matrix.specs.Packed.{Window, window_at, start, IsMatrix, content, unpacked}
 use Rattle.gf2_matrix.specs.ByColumn.{IsByColumn, set_size}
+use Rattle.gf2_matrix.proofs.Choosing.{rise_to}
 use Rattle.gf2_matrix.proofs.Rows.{column_bit, pivot_at}
 use Rattle.gf2_matrix.proofs.PivotSets.{element, column_found}
 use Rattle.gf2_matrix.proofs.Windows.{peer_listed}
@@ -124,8 +125,9 @@ module _ (vars : ℕ) (given : List (List Literal)) (columns places : List ℕ) 
 
   rise : AreRising 1 (length rows) w.numbers
   rise =
-      subst (λ n. AreRising 1 n w.numbers) (sym matrix.count)
+      rise_to 1 (length given) (length rows) w.numbers
       (subst (λ (v : Window). AreRising 1 (length given) v.numbers) here (matrix.windows_are.numbers_rise (get_or rows r d).part (matrix.placed r d r_in)))
+      (subst (λ (v : Window). (i : ℕ) → i < length v.numbers → get_or v.numbers i 0 ≤ length rows) here (λ i lt. matrix.in_rows (get_or rows r d).part i (matrix.placed r d r_in) lt))
 
   -- the bit of a number is whether its row has the column
   set_bit : (m k : ℕ) → m < length w.numbers → get_or w.numbers m 0 ≡ k + 1 → bit_of words m ≡ has_x k

@@ -6,7 +6,7 @@ use Rattle.gf2_matrix.specs.Columns.{place}
 use Rattle.gf2_matrix.specs.Content.{Content, row_at}
 use Rattle.gf2_matrix.specs.Packed.{window, window_at}
 use Rattle.gf2_matrix.proofs.Rows.{row_within, row_window}
-use Rattle.gf2_matrix.proofs.Windows.{numbers_of_row, source_of_row, source_past_row, room_for_sources}
+use Rattle.gf2_matrix.proofs.Windows.{sources_of_row, source_of_row, source_past_row, room_for_sources}
 use Rattle.gf2_matrix.proofs.matrix.Matrix.has_source.Goals as goal
 use Rattle.gf2_matrix.proofs.matrix.Matrix.has_source.Goals.{After-deref}
 
@@ -38,7 +38,7 @@ place_of-place-requires c =
     let m = c.self.inside in
     let s = (goal.at.place_of-place-requires c).After-deref in
     rw c.deref.ensures.value
-    (numbers_of_row m.vars m.given m.columns.items m.places.items (map window m.parts.items) m.rows.items m.spares.items m.no_columns.items c.self.invariant.matrix c.args.row c.index-words.result.now (row_in s)
+    (sources_of_row m.vars m.given m.columns.items m.places.items (map window m.parts.items) m.rows.items m.spares.items m.no_columns.items c.self.invariant.matrix c.args.row c.index-words.result.now (row_in s)
     (window c.index.result.now) (here s))
 
 pub bit-requires : goal.bit-requires
@@ -52,7 +52,7 @@ bit-requires c =
     ap length c.deref-then-place-len.ensures.value ∙ ap (λ (r : PackedRow). length r.sources.items) c.index-words.ensures in
     let small = c.if-place-len.true in
     let len = c.len.ensures in
-    let size : length c.deref.result.now ≡ length c.index.result.now.numbers.items = ap length c.deref.ensures.value in
+    let size : length c.deref.result.now ≡ length c.index.result.now.sources.items = ap length c.deref.ensures.value in
     omega (arith, c.deref.ensures.len)
 
 pub returns-then-place-len : goal.returns-then-place-len
