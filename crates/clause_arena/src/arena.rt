@@ -50,7 +50,7 @@ fn append(into: &mut Vec<Lit>, lits: &[Lit])
     }
 }
 
-// Makes room for so many elements more, where it is missing.
+// Makes room for one more, where it is missing: the vector grows by half, so that an element costs constant time.
 fn make_room_for_heads(heads: &mut Vec<Head>) -> Result<(), AllocError>
     ensures items { heads.new.items ≡ heads.old.items }
     ensures room { OnOk result (vec_len heads.new < vec_capacity heads.new) }
@@ -59,10 +59,10 @@ fn make_room_for_heads(heads: &mut Vec<Head>) -> Result<(), AllocError>
     if heads.len() < heads.capacity() {
         return Ok(());
     }
-    heads.reserve(1)
+    heads.reserve_exact((heads.len() / 2).max(4))
 }
 
-// Makes room for so many literals more, where it is missing.
+// Makes room for so many literals more, where it is missing: the vector grows by half or more.
 fn make_room_for_lits(lits: &mut Vec<Lit>, more: usize) -> Result<(), AllocError>
     ensures items { lits.new.items ≡ lits.old.items }
     ensures room { OnOk result (vec_len lits.new + more ≤ vec_capacity lits.new) }
@@ -71,7 +71,7 @@ fn make_room_for_lits(lits: &mut Vec<Lit>, more: usize) -> Result<(), AllocError
     if more <= lits.capacity() - lits.len() {
         return Ok(());
     }
-    lits.reserve(more)
+    lits.reserve_exact((lits.len() / 2).max(more))
 }
 
 impl Arena {
