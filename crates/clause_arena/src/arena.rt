@@ -200,20 +200,15 @@ impl Arena {
 
     /// Lets go of what was removed. The clauses that are left have new references, from 0 on and in the order of the old ones.
     ///
-    /// Its time is in the clauses and literals. Without memory the arena stays as it is.
+    /// Its time is in the clauses and literals. It takes memory for the references alone; without it the arena stays as it is.
     pub fn compact(&mut self) -> Result<Moved, AllocError>
         ensures renamed { IfOk result (λ moved. IsRenamed self.old self.new moved) }
         ensures room { (self.old.clause_room ≤ self.new.clause_room) × (self.old.literal_room ≤ self.new.literal_room) }
         ensures same { OnErr result (self.new ≡ self.old) }
     {
-        let alloc = *self.heads.allocator();
-        let most = self.heads.capacity().min(MAX_CLAUSES);
-        let mut packed = Arena::make(alloc);
-        // so the room that is left is no less than before
-        packed.reserve(most, self.lits.capacity())?;
-        let mut moves = Vec::with_capacity(alloc, self.heads.len())?;
-        pack(self, &mut packed, &mut moves)?;
-        *self = packed;
+        // all memory is taken before a clause is moved
+        let mut moves = Vec::with_capacity(*self.heads.allocator(), self.heads.len())?;
+        pack(&mut self.heads, &mut self.lits, &mut moves);
         Ok(Moved::from_vec(moves))
     }
 }

@@ -1,52 +1,40 @@
-//! The live clauses of one arena in another.
-ghost use Rattle.std.specs.Prelude.{◌≡◌, ◌≤◌, ◌+◌, ◌++◌, ◌∷◌, [], length, OnOk};
-ghost use Rattle.clause_arena.specs.Clauses.{clause_at, literals_at, IsLive};
-ghost use Rattle.clause_arena.specs.Packing.{IsPacked, literal_count};
+//! Closing the gaps that removed clauses leave.
+ghost use Rattle.std.specs.Prelude.{◌≡◌, ◌≤◌, [], length, map, vec_len, vec_capacity};
+ghost use Rattle.clause_arena.specs.Heads.{stored, AreHeads};
+ghost use Rattle.clause_arena.specs.Packing.{IsPacked};
 
-use crate::arena::Arena;
-use cx_base::{ClauseRef, Move};
-use std::alloc::AllocError;
+use crate::head::Head;
+use cx_base::{ClauseRef, Lit, Move};
 
-// Adds a clause to the other arena, which has room for it.
-fn move_clause(
-    from: &Arena,
-    old: ClauseRef,
-    into: &mut Arena,
-    moves: &mut Vec<Move>,
-) -> Result<(), AllocError>
-    requires live { IsLive from.now old }
-    requires clauses { 1 ≤ into.old.clause_room }
-    requires literals { length (literals_at from.now old) ≤ into.old.literal_room }
-    ensures clause { OnOk result (into.new.clauses ≡ into.old.clauses ++ clause_at from.now old ∷ []) }
-    ensures moved { OnOk result (moves.new.items ≡ moves.old.items ++ record { old = old; new = length into.old.clauses } ∷ []) }
-    ensures clauses { OnOk result (into.old.clause_room ≡ into.new.clause_room + 1) }
-    ensures literals { OnOk result (into.old.literal_room ≡ into.new.literal_room + length (literals_at from.now old)) }
-{
-    let new = into.add(
-        from.lits(old),
-        from.id(old),
-        from.lbd(old),
-        from.learned(old),
-    )?;
-    moves.push(Move { old, new })?;
-    Ok(())
-}
-
-// Adds the live clauses in order to an arena that has none and room for them.
-pub(crate) fn pack(from: &Arena, into: &mut Arena, moves: &mut Vec<Move>) -> Result<(), AllocError>
-    requires no_clause { into.old.clauses ≡ [] }
+// Moves the live clauses down in their order, each to the end of those before it, and cuts what is behind the last.
+pub(crate) fn pack(heads: &mut Vec<Head>, lits: &mut Vec<Lit>, moves: &mut Vec<Move>)
+    requires heads { AreHeads lits.old.items heads.old.items }
     requires no_move { moves.old.items ≡ [] }
-    requires clauses { length from.now.clauses ≤ into.old.clause_room }
-    requires literals { literal_count from.now.clauses ≤ into.old.literal_room }
-    ensures packed { OnOk result (IsPacked from.now (length from.now.clauses) into.new.clauses moves.new.items) }
-    ensures clauses { OnOk result (into.old.clause_room ≤ into.new.clause_room + length from.now.clauses) }
-    ensures literals { OnOk result (into.old.literal_room ≤ into.new.literal_room + literal_count from.now.clauses) }
+    requires room { length heads.old.items ≤ vec_capacity moves.old }
+    ensures heads { AreHeads lits.new.items heads.new.items }
+    ensures packed { IsPacked (map (stored lits.old.items) heads.old.items) (length heads.old.items) (map (stored lits.new.items) heads.new.items) moves.new.items }
+    ensures fewer_heads { vec_len heads.new ≤ vec_len heads.old }
+    ensures fewer_lits { vec_len lits.new ≤ vec_len lits.old }
+    ensures same_heads { vec_capacity heads.new ≡ vec_capacity heads.old }
+    ensures same_lits { vec_capacity lits.new ≡ vec_capacity lits.old }
 {
-    for place in 0..from.len() {
-        let old = ClauseRef::new(place as u32);
-        if from.is_live(old) {
-            move_clause(from, old, into, moves)?;
+    let mut used = 0;
+    for place in 0..heads.len() {
+        let head = heads[place];
+        if head.live {
+            let kept = moves.len();
+            lits.copy_within(head.start..head.start + head.len, used);
+            heads[kept] = Head {
+                start: used,
+                ..head
+            };
+            used += head.len;
+            moves.push_reserved(Move {
+                old: ClauseRef::new(place as u32),
+                new: ClauseRef::new(kept as u32),
+            });
         }
     }
-    Ok(())
+    heads.truncate(moves.len());
+    lits.truncate(used);
 }

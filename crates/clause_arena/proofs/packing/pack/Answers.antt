@@ -1,52 +1,63 @@
-use Rattle.std.proofs.Common.{◌≡◌, ◌<◌, ◌+◌, ◌++◌, ◌∷◌, [], ℕ, Vec, Global, List, length, Option, None, arith, ap, sym, subst, ◌∙◌}
-use Rattle.std.proofs.lemmas.List.Sums.{sum_by_more, sum_by_more_le}
+use Rattle.std.proofs.Common.{◌≡◌, ◌+◌, ◌<◌, ◌≤◌, ◌++◌, ◌∷◌, [], ℕ, Vec, Global, length, set, ap, ◌∙◌, arith}
 use Rattle.cx_base.specs.declared.moved.Move.{Move}
-use Rattle.clause_arena.specs.Clauses.{Stored, ArenaState, clause_at, literals_at, literals_in, IsLive}
-use Rattle.clause_arena.specs.Packing.{IsPacked}
-use Rattle.clause_arena.proofs.PackingLaws.{packed_past, packed_more}
-use Rattle.clause_arena.proofs.packing.pack.Goals.{then-is_live+in_ok-move_clause, else-is_live}
+use Rattle.cx_base.specs.Literals.{Literal}
+use Rattle.clause_arena.specs.declared.head.Head.{Head}
+use Rattle.clause_arena.proofs.InPlaceLaws.{next_fits, packed_over_removed, packed_with_moved}
+use Rattle.clause_arena.proofs.packing.pack.Goals.{After-index-head, then-head, else-head}
 use Rattle.clause_arena.proofs.packing.pack.Goals as goal
+
+inside : (c : After-index-head) → c.loop-place.place < length c.args.heads.now.items
+inside c = omega (arith, c.loop-place-test.true, c.len-place-end.ensures, c.args.heads.now.ok.0)
+
+-- the next clause's literals stand behind what is packed
+fits : (c : After-index-head) → (c.loop-place.used ≤ c.index-head.result.now.start) × (c.index-head.result.now.start + c.index-head.result.now.len ≤ length c.loop-place.lits.items)
+fits c = next_fits c.args.lits.now.items c.args.heads.now.items c.loop-place.place c.loop-place.used c.loop-place.lits.items c.loop-place.heads.items c.loop-place.moves.items c.index-head.result.now c.index-head.ensures c.loop-place.invariant.packed (inside c)
+
+pub overflow_add-head : goal.overflow_add-head
+overflow_add-head c = omega (arith, (fits (goal.at.overflow_add-head c).After-index-head).1, c.loop-place.lits.ok.0, c.loop-place.lits.ok.1, c.loop-place.lits.small)
+
+pub copy_within-requires-clause-in_bounds : goal.copy_within-requires-clause-in_bounds
+copy_within-requires-clause-in_bounds c = omega (arith, (fits (goal.at.copy_within-requires-clause-in_bounds c).After-index-head).1, c.loop-place.lits.ok.0)
+
+pub copy_within-requires-clause-dest_in_bounds : goal.copy_within-requires-clause-dest_in_bounds
+copy_within-requires-clause-dest_in_bounds c =
+    let f = fits (goal.at.copy_within-requires-clause-dest_in_bounds c).After-index-head in
+    omega (arith, f.0, f.1, c.loop-place.lits.ok.0)
+
+pub overflow_add-used : goal.overflow_add-used
+overflow_add-used c =
+    let f = fits (goal.at.overflow_add-used c).After-index-head in
+    omega (arith, f.0, f.1, c.loop-place.lits.ok.0, c.loop-place.lits.ok.1, c.loop-place.lits.small)
 
 pub loop-place-preserved : goal.loop-place-preserved
 loop-place-preserved c =
-    let from = c.args.from.now in
-    let n = c.loop-place.place in
-    let new = c.loop-place.into.clauses in
-    let moves = c.loop-place.moves.items in
     let i = c.loop-place.invariant in
-    let p = i.packed in
-    let at = c.new-old.ensures in
-    let inside : n < length from.clauses = omega (arith, c.loop-place-test.true, c.len-place-end.ensures.len) in
-    elim c.if-is_live.branch [
-      | then-is_live+in_ok-move_clause w ↦
-          let live = subst (IsLive from) at (c.is_live.ensures.0 w.if-is_live.true) in
-          let e : c.if-is_live.into.clauses ≡ new ++ clause_at from n ∷ [] = ap (λ (a : ArenaState). a.clauses) w.into-is ∙ w.in_ok-move_clause.ensures.clause ∙ ap (λ r. new ++ clause_at from r ∷ []) at in
-          let f : c.if-is_live.moves.items ≡ moves ++ (record { old = n; new = length new }) ∷ [] = ap (λ (v : Vec Move Global). v.items) w.moves-is ∙ w.in_ok-move_clause.ensures.moved ∙ ap (λ (r : ℕ). moves ++ (record { old = r; new = length new }) ∷ []) at in
-          let one = sum_by_more (λ (x : Option Stored). length (literals_in x)) from.clauses n None inside in
-          record {
-            packed = packed_more from n new _ moves _ p live e f;
-            clauses = omega (arith, i.clauses, ap (λ (a : ArenaState). a.clause_room) w.into-is, w.in_ok-move_clause.ensures.clauses);
-            literals = omega (arith, i.literals, one, ap (λ (a : ArenaState). a.literal_room) w.into-is, w.in_ok-move_clause.ensures.literals, ap (λ r. length (literals_at from r)) at);
-          }
-      | else-is_live w ↦
-          let dead : IsLive from n → ⊥ = λ l. let t = c.is_live.ensures.1 (subst (IsLive from) (sym at) l) in let f = w.if-is_live.false in cc in
-          let e : c.if-is_live.into.clauses ≡ new = ap (λ (a : ArenaState). a.clauses) w.into-is in
-          let f : c.if-is_live.moves.items ≡ moves = ap (λ (v : Vec Move Global). v.items) w.moves-is in
-          let one = sum_by_more (λ (x : Option Stored). length (literals_in x)) from.clauses n None inside in
-          record {
-            packed = subst (λ (xs : List (Option Stored)). IsPacked from (n + 1) xs c.if-is_live.moves.items) (sym e) (subst (λ (ms : List Move). IsPacked from (n + 1) new ms) (sym f) (packed_past from n new moves p dead));
-            clauses = omega (arith, i.clauses, ap (λ (a : ArenaState). a.clause_room) w.into-is);
-            literals = omega (arith, i.literals, one, ap (λ (a : ArenaState). a.literal_room) w.into-is);
-          }
-    ]
-
-pub move_clause-requires-clause-clauses : goal.move_clause-requires-clause-clauses
-move_clause-requires-clause-clauses c = omega (arith, c.loop-place.invariant.clauses, c.loop-place-test.true, c.len-place-end.ensures.len, c.requires.clauses)
-
-pub move_clause-requires-clause-literals : goal.move_clause-requires-clause-literals
-move_clause-requires-clause-literals c =
-    let from = c.args.from.now in
+    let h = c.index-head.result.now in
+    let lits₀ = c.args.lits.now.items in
+    let heads₀ = c.args.heads.now.items in
     let n = c.loop-place.place in
-    let inside : n < length from.clauses = omega (arith, c.loop-place-test.true, c.len-place-end.ensures.len) in
-    let whole = sum_by_more_le (λ (x : Option Stored). length (literals_in x)) from.clauses n None inside in
-    omega (arith, c.loop-place.invariant.literals, whole, c.requires.literals, ap (λ r. length (literals_at from r)) c.new-old.ensures)
+    let used = c.loop-place.used in
+    let lits = c.loop-place.lits.items in
+    let heads = c.loop-place.heads.items in
+    let moves = c.loop-place.moves.items in
+    let within = inside (goal.at.loop-place-preserved c).After-index-head in
+    elim c.if-head.branch [
+      | then-head w ↦
+          let new : Head = record { start = used; len = h.len; id = h.id; lbd = h.lbd; learned = h.learned; live = h.live } in
+          let kept : w.len-kept.result ≡ length moves = omega (arith, w.len-kept.ensures, c.loop-place.moves.ok.0) in
+          let el = ap (λ (v : Vec Literal Global). v.items) w.lits-is ∙ w.copy_within.ensures.items in
+          let eh : c.if-head.heads.items ≡ set heads (length moves) new = ap (λ (v : Vec Head Global). v.items) w.heads-is ∙ ap (λ (k : ℕ). set heads k new) kept in
+          let em : c.if-head.moves.items ≡ moves ++ (record { old = n; new = length moves }) ∷ [] =
+          ap (λ (v : Vec Move Global). v.items) w.moves-is ∙ w.push_reserved.ensures.items
+          ∙ ap (λ (o : ℕ). moves ++ (record { old = o; new = w.new-then-head.result }) ∷ []) w.new.ensures
+          ∙ ap (λ (k : ℕ). moves ++ (record { old = n; new = k }) ∷ []) (w.new-then-head.ensures ∙ kept) in
+          record {
+            packed = packed_with_moved lits₀ heads₀ n used lits heads moves h c.index-head.ensures c.if-head.used c.if-head.lits.items c.if-head.heads.items c.if-head.moves.items i.packed c.requires.heads.few within w.if-head.true el eh em w.used-is;
+            room = ap (λ (v : Vec Move Global). v.cap) w.moves-is ∙ w.push_reserved.ensures.capacity ∙ i.room;
+            same_heads = ap (λ (v : Vec Head Global). v.cap) w.heads-is ∙ i.same_heads;
+            same_lits = ap (λ (v : Vec Literal Global). v.cap) w.lits-is ∙ w.copy_within.ensures.capacity ∙ i.same_lits;
+          }
+      | else-head w ↦
+          let past = packed_over_removed lits₀ heads₀ n used lits heads moves h c.index-head.ensures i.packed within w.if-head.false in
+          rw (w.used-is, w.moves-is, w.heads-is, w.lits-is) (record { packed = past; room = i.room; same_heads = i.same_heads; same_lits = i.same_lits })
+    ]

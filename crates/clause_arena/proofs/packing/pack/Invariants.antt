@@ -1,10 +1,11 @@
-use Rattle.std.proofs.Common.{◌+◌, ◌≤◌, take}
-use Rattle.clause_arena.specs.Packing.{IsPacked, literal_count}
+use Rattle.std.proofs.Common.{◌≡◌, vec_capacity}
+use Rattle.clause_arena.specs.Packing.{IsPackedUpTo}
 use Rattle.clause_arena.proofs.packing.pack.Given as goal
 
 abbrev pub invariant-loop-place : goal.invariant-loop-place
 invariant-loop-place l = record {
-  packed : IsPacked l.from l.place l.into.clauses l.moves.items;
-  clauses : l.fn.into.clause_room ≤ l.into.clause_room + l.place;
-  literals : l.fn.into.literal_room ≤ l.into.literal_room + literal_count (take l.place l.from.clauses);
+  packed : IsPackedUpTo l.fn.lits.items l.fn.heads.items l.place l.used l.lits.items l.heads.items l.moves.items;
+  room : vec_capacity l.moves ≡ vec_capacity l.fn.moves;
+  same_heads : vec_capacity l.heads ≡ vec_capacity l.fn.heads;
+  same_lits : vec_capacity l.lits ≡ vec_capacity l.fn.lits;
 }
