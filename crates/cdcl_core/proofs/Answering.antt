@@ -4,6 +4,7 @@ use Rattle.std.specs.List.{range_with_len}
 use Rattle.cx_base.specs.Literals.{Literal}
 use Rattle.cx_base.specs.Problem.{Problem}
 use Rattle.cx_base.specs.declared.steps.LogEvent.{LogEvent}
+use Rattle.cx_base.specs.Counts.{Rose}
 use Rattle.cx_base.specs.Integers.{integers_of}
 use Rattle.cx_semantics.specs.Marked.{Marked}
 use Rattle.conflict_learn.specs.declared.fault.CoreFault.{CoreFault}
@@ -83,3 +84,8 @@ pub gives_up_by : {L T : Type 0} (m : sink.Ghosts L LogEvent) (old new : SearchL
 gives_up_by m old new (Ok x) on left = tt
 gives_up_by m old new (Err Memory) on left = on.right left
 gives_up_by m old new (Err Write) on left = (on.right left, on.tears refl)
+
+pub risen_by : {L T : Type 0} (m : sink.Ghosts L LogEvent) (old new : SearchLog L) (r : Result T CoreFault) → GoesOn m old (fault_in r) new → IfErr r (λ e. e ≡ Write → Rose (m.faults old.sink.now) (m.faults new.sink.now))
+risen_by m old new (Ok x) on = tt
+risen_by m old new (Err Memory) on = λ e. absurd (cc (e))
+risen_by m old new (Err Write) on = λ e. on.counts

@@ -1,11 +1,13 @@
-use Rattle.std.proofs.Common.{◌≡◌, ◌∙◌, rules, sym, subst, IfErr, OnOk}
+use Rattle.std.proofs.Common.{◌≡◌, ◌∙◌, rules, sym, subst, IfErr, IfOk, OnOk}
+use Rattle.cx_base.specs.Counts.{Rose}
+use Rattle.conflict_learn.specs.declared.fault.CoreFault.TheVariants.{Write}
 use Rattle.search_steps.specs.Recovering.{SettledWithRecovered}
 use Rattle.search_steps.proofs.EndLaws.{settled_by_its_own}
 use Rattle.cdcl_search.specs.GoingOn.{log_then}
 use Rattle.cdcl_search.specs.Tells.{IsLeft, GivesUp, HaveLowIds}
 use Rattle.cdcl_search.proofs.Outcomes.{ok_maps}
-use Rattle.cdcl_core.specs.Results.{HasNoMark}
-use Rattle.cdcl_core.proofs.Answering.{settled_answer_has_no_mark, fresh_is_left, fresh_is_low, gives_up_by}
+use Rattle.cdcl_core.specs.Results.{IsRightOutcome, HasNoMark}
+use Rattle.cdcl_core.proofs.Answering.{settled_answer_has_no_mark, fresh_is_left, fresh_is_low, gives_up_by, risen_by}
 use Rattle.cdcl_core.proofs.solving.solve_core.Goals as goal
 
 pub returns-in_err-state-clause-gave_up : goal.returns-in_err-state-clause-gave_up
@@ -43,3 +45,16 @@ returns-in-Search-clause-ids g c =
     let same : c.sink-in-Search-1.given.0 ≡ c.search.new.log.sink.now = search rules in
     let on = log_then g.L.Sink g.met.L.Sink.keeps_on _ c.begin.new.log _ _ c.in_ok-state.ensures.log c.search.ensures.log in
     subst (λ x. HaveLowIds (g.L.Sink.items x)) (sym same) (on.ids (fresh_is_low (g.L.Sink.items c.args.sink.now) c.requires.fresh))
+
+pub returns-in-Search-clause-answers : goal.returns-in-Search-clause-answers
+returns-in-Search-clause-answers g c =
+    let same : c.sink-in-Search-1.given.0 ≡ c.search.new.log.sink.now = search rules in
+    let of : c.search.new.log.formula.now ≡ c.args.formula.now = c.search.ensures.log.formula ∙ c.in_ok-state.ensures.log.formula in
+    subst (λ x. IfOk c.search.result (λ a. IsRightOutcome c.args.formula.now c.args.budget (g.L.Sink.items x) a)) (sym same)
+    (subst (λ f. IfOk c.search.result (λ a. IsRightOutcome f c.args.budget (g.L.Sink.items c.search.new.log.sink.now) a)) of c.search.ensures.answers)
+
+pub returns-in-Search-clause-write : goal.returns-in-Search-clause-write
+returns-in-Search-clause-write g c =
+    let same : c.sink-in-Search-1.given.0 ≡ c.search.new.log.sink.now = search rules in
+    let on = log_then g.L.Sink g.met.L.Sink.keeps_on _ c.begin.new.log _ _ c.in_ok-state.ensures.log c.search.ensures.log in
+    subst (λ x. IfErr c.search.result (λ e. e ≡ Write → Rose (g.L.Sink.faults c.args.sink.now) (g.L.Sink.faults x))) (sym same) (risen_by g.L.Sink _ c.search.new.log c.search.result on)
