@@ -10,6 +10,7 @@ mod lists;
 mod look;
 mod nodes;
 mod renaming;
+mod starts;
 mod walk;
 mod watches;
 

@@ -5,7 +5,9 @@ ghost use Rattle.cx_base.specs.Literals.{Literal};
 ghost use Rattle.cx_trail.specs.Sequence.{IsTrail, IsFalseIn};
 ghost use Rattle.clause_arena.specs.Clauses.{IsLive, literals_at};
 ghost use Rattle.watch_lists.specs.Truths.{AreOthersFalse, IsFinding};
+ghost use Rattle.watch_lists.specs.Places.{IsFreeAt};
 
+use crate::starts::{Starts, is_long};
 use clause_arena::Arena;
 use cx_base::{ClauseRef, Lit};
 use cx_trail::{Trail, Truth};
@@ -34,22 +36,77 @@ fn is_free(trail: &Trail, lit: Lit, other: Lit) -> bool
     }
 }
 
-// A literal that is not false and not `other`.
-fn find(lits: &[Lit], trail: &Trail, other: Lit) -> Option<Lit>
+// The place of a literal that is not false and not `other`.
+fn find(lits: &[Lit], trail: &Trail, other: Lit) -> Option<usize>
     requires { All (λ l. (1 ≤ l.variable) × (l.variable ≤ trail.now.variables)) lits.now }
-    ensures { MatchOption result (AreOthersFalse trail.now.entries lits.now other)
-        (λ l. Contains lits.now l × (l ≢ other) × (IsFalseIn trail.now.entries l → ⊥)) }
+    ensures { MatchOption result (AreOthersFalse trail.now.entries lits.now other) (λ place. IsFreeAt trail.now.entries lits.now other place) }
 {
-    for lit in lits {
-        if is_free(trail, *lit, other) {
-            return Some(*lit);
+    for place in 0..lits.len() {
+        if is_free(trail, lits[place], other) {
+            return Some(place);
         }
     }
     None
 }
 
+// The same, from a place to the end and then from the first literal to that place.
+fn find_around(lits: &[Lit], trail: &Trail, other: Lit, start: usize) -> Option<usize>
+    requires within { All (λ l. (1 ≤ l.variable) × (l.variable ≤ trail.now.variables)) lits.now }
+    requires start { start ≤ length lits.now }
+    ensures { MatchOption result (AreOthersFalse trail.now.entries lits.now other) (λ place. IsFreeAt trail.now.entries lits.now other place) }
+{
+    match find(&lits[start..], trail, other) {
+        Some(place) => Some(start + place),
+        None => find(&lits[..start], trail, other),
+    }
+}
+
+// A literal of a long clause that is not false and not `other`; the search begins where the last one was found.
+#[inline(never)]
+fn free_literal_of_long(
+    lits: &[Lit],
+    trail: &Trail,
+    other: Lit,
+    reference: ClauseRef,
+    starts: &mut Starts,
+) -> Option<Lit>
+    requires { All (λ l. (1 ≤ l.variable) × (l.variable ≤ trail.now.variables)) lits.now }
+    ensures { MatchOption result (AreOthersFalse trail.now.entries lits.now other)
+        (λ l. Contains lits.now l × (l ≢ other) × (IsFalseIn trail.now.entries l → ⊥)) }
+{
+    let start = starts.start(reference, lits.len());
+    let place = find_around(lits, trail, other, start)?;
+    starts.note(reference, place);
+    Some(lits[place])
+}
+
+// A literal of a clause that is not false and not `other`.
+fn free_literal(
+    lits: &[Lit],
+    trail: &Trail,
+    other: Lit,
+    reference: ClauseRef,
+    starts: &mut Starts,
+) -> Option<Lit>
+    requires { All (λ l. (1 ≤ l.variable) × (l.variable ≤ trail.now.variables)) lits.now }
+    ensures { MatchOption result (AreOthersFalse trail.now.entries lits.now other)
+        (λ l. Contains lits.now l × (l ≢ other) × (IsFalseIn trail.now.entries l → ⊥)) }
+{
+    if is_long(lits.len()) {
+        return free_literal_of_long(lits, trail, other, reference, starts);
+    }
+    let place = find(lits, trail, other)?;
+    Some(lits[place])
+}
+
 // What the clause is, where `other` is one of its literals. Where that is true the arena is not read.
-pub(crate) fn look(arena: &Arena, reference: ClauseRef, trail: &Trail, other: Lit) -> Finding
+pub(crate) fn look(
+    arena: &Arena,
+    reference: ClauseRef,
+    trail: &Trail,
+    other: Lit,
+    starts: &mut Starts,
+) -> Finding
     requires live { IsLive arena.now reference }
     requires within { All (λ l. (1 ≤ l.variable) × (l.variable ≤ trail.now.variables)) (literals_at arena.now reference) }
     requires inside { Contains (literals_at arena.now reference) other }
@@ -58,13 +115,17 @@ pub(crate) fn look(arena: &Arena, reference: ClauseRef, trail: &Trail, other: Li
 {
     match trail.truth(other) {
         Truth::True => Finding::Satisfied,
-        Truth::False => match find(arena.lits(reference), trail, other) {
-            Some(lit) => Finding::Free(lit),
-            None => Finding::Falsified,
-        },
-        Truth::Open => match find(arena.lits(reference), trail, other) {
-            Some(lit) => Finding::Free(lit),
-            None => Finding::Unit(other),
-        },
+        Truth::False => {
+            match free_literal(arena.lits(reference), trail, other, reference, starts) {
+                Some(lit) => Finding::Free(lit),
+                None => Finding::Falsified,
+            }
+        }
+        Truth::Open => {
+            match free_literal(arena.lits(reference), trail, other, reference, starts) {
+                Some(lit) => Finding::Free(lit),
+                None => Finding::Unit(other),
+            }
+        }
     }
 }

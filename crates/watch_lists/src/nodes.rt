@@ -5,15 +5,17 @@ ghost use Rattle.watch_lists.specs.Watching.{AreNodes, AreGuarded, IsBehind, IsA
 ghost use Rattle.watch_lists.specs.Visits.{Visited};
 
 use crate::look::{Finding, look};
+use crate::starts::Starts;
 use clause_arena::Arena;
 use cx_base::{ClauseRef, Lit};
 use cx_trail::{Reason, Trail};
 
-/// For each clause whether it is attached, and the two literals that it is watched at.
+/// For each clause whether it is attached, the two literals that it is watched at, and where the search for a third begins.
 #[derive(Drop)]
 pub(crate) struct Nodes {
     pub held: Vec<Lit>,
     pub attached: Vec<bool>,
+    pub starts: Starts,
 }
 
 /// What a visit of a node found.
@@ -56,7 +58,7 @@ pub(crate) fn visit_node(nodes: &mut Nodes, arena: &Arena, trail: &mut Trail, no
 {
     let other = partner_literal(nodes, node);
     let reference = ClauseRef::new(node / 2);
-    match look(arena, reference, trail, other) {
+    match look(arena, reference, trail, other, &mut nodes.starts) {
         Finding::Satisfied => Visit::Keep,
         Finding::Free(lit) => {
             nodes.held[node as usize] = lit;
