@@ -1,7 +1,7 @@
 #!/usr/bin/env bash
 # Measures the memory of a search beside that of its live clauses, on one random formula of clauses of three literals.
 # usage: bench/memory.sh [CONFLICTS [VARIABLES [SEED]]]     (1,000,000 conflicts, 400 variables, seed 1)
-# A small program searches without keeping its log; how many clauses and literals are live at the end is told by the log that
+# A small program searches without keeping its log; how many bytes the live clauses take at their most is told by the log that
 # `cxsat solve` writes of the same search. A live clause takes 4 bytes a literal and CLAUSE_BYTES beside: its head in the
 # arena (24), its id among them, and its two nodes in the watch lists (19). What a search of one conflict takes is left out on both
 # sides: the program, and the clauses of the formula.
@@ -25,10 +25,13 @@ if ! rt run -- "$work/formula" 1 > "$work/run.log" 2>&1; then
     exit 1
 fi
 
-# The live clauses and their literals behind the first so many conflicts, by the log.
+# The live clauses of a search of so many conflicts and their literals, where their bytes are the most, and these bytes, by the log.
 live() {
     "$program" solve "$work/formula" --conflicts "$1" --proof "$work/log" > "$work/answer" || true
-    awk '
+    awk -v each="$clause_bytes" '
+        function look() {
+            if (each * clauses + 4 * literals > most) { most = each * clauses + 4 * literals; then = clauses " " literals }
+        }
         $1 == "o" || $1 == "a" {
             n = 0
             for (i = 3; $i != 0; i++) n++
@@ -36,18 +39,19 @@ live() {
             else literals -= length_of[$2]
             length_of[$2] = n
             literals += n
+            look()
         }
         $1 == "d" && ($2 in length_of) { clauses--; literals -= length_of[$2]; delete length_of[$2] }
-        END { print clauses, literals }' "$work/log"
+        END { print then, most }' "$work/log"
 }
 
-# The memory of a search of so many conflicts in kilobytes, its seconds, and its live clauses, their literals and their bytes.
+# The memory of a search of so many conflicts in kilobytes, its seconds, and its live clauses at their most, their literals and their bytes.
 search() {
-    local memory taken alive literals
+    local memory taken alive literals own
     /usr/bin/time -f '%M %U' -o "$work/time" out/search_memory "$work/formula" "$1" > "$work/answer"
     read -r memory taken < <(tail -n 1 "$work/time")
-    read -r alive literals < <(live "$1")
-    echo "$memory $taken $alive $literals $((alive * clause_bytes + literals * 4))"
+    read -r alive literals own < <(live "$1")
+    echo "$memory $taken $alive $literals $own"
 }
 
 read -r first_memory _ _ _ first_own <<< "$(search 1)"
@@ -55,6 +59,6 @@ for count in $((conflicts / 10)) "$conflicts"; do
     read -r memory taken alive literals own <<< "$(search "$count")"
     row 'memory of a search' "$vars variables, $count conflicts: $(head -n 1 "$work/answer"), $taken s" \
         "$(awk -v m="$((memory - first_memory))" 'BEGIN { printf "%.1f MB", m / 1000 }')" \
-        "$alive live clauses of $literals literals: $(awk -v b="$((own - first_own))" 'BEGIN { printf "%.1f MB", b / 1e6 }')" \
+        "$alive live clauses of $literals literals at the most: $(awk -v b="$((own - first_own))" 'BEGIN { printf "%.1f MB", b / 1e6 }')" \
         "$(awk -v m="$((memory - first_memory))" -v own="$((own - first_own))" 'BEGIN { printf "%.2f", m * 1000 / own }')"
 done
