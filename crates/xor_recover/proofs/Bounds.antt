@@ -48,7 +48,7 @@ zip_long (g ∷ gs) (f ∷ finds) h = ap suc (zip_long gs finds h.1)
 pub few_finds : (rows : List Row) (finds : List Found) → AllZip SaysGroup (groups_of rows) finds → length finds ≤ length rows
 few_finds rows finds h = let long = zip_long (groups_of rows) finds h in let few = few_groups rows in omega (arith, long, few)
 
-one_row : (o : Option (List Literal)) (n : ℕ) → length (rows_if o n) ≤ 1
+pub one_row : (o : Option (List Literal)) (n : ℕ) → length (rows_if o n) ≤ 1
 one_row None n = omega arith
 one_row (Some ms) n = elim (nat_le 2 (length ms)) as (λ b. length (cond b (row ms n ∷ []) []) ≤ 1) [
   | true ↦ omega arith

@@ -24,9 +24,7 @@ use Rattle.gf2_matrix.proofs.Written.{variables_written}
 use Rattle.xor_recover.specs.declared.found.Found.{Found}
 use Rattle.xor_recover.specs.Rows.{Row, row, rows_of}
 use Rattle.xor_recover.specs.Groups.{groups_of, same_key}
-use Rattle.xor_recover.specs.Ends.{ends_turned}
 use Rattle.xor_recover.proofs.Kept.{AreKept}
-use Rattle.xor_recover.proofs.EndsLaws.{variables_turned, sum_turned}
 use Rattle.xor_recover.proofs.Firsts.{shape_ties}
 use Rattle.xor_recover.proofs.Numbers.{AllWithin, negatives, stands}
 use Rattle.xor_recover.proofs.Patterns.{same_signs, same_is, same_signs_equiv, many_patterns, pattern_says}
@@ -196,12 +194,7 @@ row_of_signs formula form kept within firsts r o p long odd =
     let two = r.two in
     let six = r.six in
     let here = stands (clauses_of formula.constraints) 1 lits within (subst (λ (vs : List ℕ). AreRising 1 MAX_VARIABLE vs) (sym vars) o.rise) (omega arith) (omega arith) (r.stands lits each (λ e. not_itself form.right_side (sym sum ∙ e))) in
-    let turned = ends_turned lits in
-    let each' = each_of o.vs form.variables turned (variables_turned lits ∙ vars) d o.set_is in
-    let sum' : excluded_sum turned ≡ not form.right_side = excluded_is turned ∙ sum_turned lits (omega arith) ∙ ap odd_sum signs ∙ odd in
-    let size' : length turned ≡ set.len form.variables = each'.once in
-    let there = stands (clauses_of formula.constraints) 1 turned within (subst (λ (vs : List ℕ). AreRising 1 MAX_VARIABLE vs) (sym (variables_turned lits ∙ vars)) o.rise) (omega arith) (omega arith) (r.stands turned each' (λ e. not_itself form.right_side (sym sum' ∙ e))) in
-    let y = firsts.needed lits here.0 there.0 here.1 there.1 in
+    let y = firsts.each (row lits here.0) here.1 in
     let parts = and_parts (same_key y.0 (row lits here.0)) (same_signs y.0.signs (negatives lits)) (shape_ties y.0 (row lits here.0) ∙ ap is_eq y.2) in
     let right : not (odd_sum (negatives lits)) ≡ form.right_side = ap (λ (b : List Bool). not (odd_sum b)) signs ∙ ap not odd ∙ twice form.right_side in (
       y.0,

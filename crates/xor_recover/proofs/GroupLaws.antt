@@ -119,7 +119,7 @@ front_counts x zero zs le h = omega arith
 front_counts x (suc n) [] le h = absurd (omega arith)
 front_counts x (suc n) (z ∷ zs) le h = (let rest = front_counts x n zs (omega arith) h.1 in let e = count-hit x z zs h.0 in omega arith)
 
-less_not_same : (x y : Row) → key_cmp x y ≡ Less → same_key y x ≡ false
+pub less_not_same : (x y : Row) → key_cmp x y ≡ Less → same_key y x ≡ false
 less_not_same x y less = false_from_ne_true (same_key y x) (λ e. true≢false (sym (ap is_lt less) ∙ ap is_lt (key_equal x y (key_swap y x e))))
 
 less_through : (x y z : Row) (o : Ordering) → key_cmp y z ≡ o → key_cmp x y ≡ Less → is_gt o ≡ false → key_cmp x z ≡ Less
@@ -153,7 +153,7 @@ reach x y (z ∷ zs) (suc j) d s up lt = elim (cases_Bool (same_key y x)) [
       omega arith)
 ]
 
-power_needed : (x : Row) → IsProper x → 1 ≤ needed x
+pub power_needed : (x : Row) → IsProper x → 1 ≤ needed x
 power_needed x p = let long = variables_long x p in power_low (length x.variables) (let two = long.0 in omega arith) long.1
 
 -- ---- groups
@@ -169,7 +169,7 @@ pub record IsGroup (zs g : List Row) : Type 0 where
   pub many : needed head ≤ count head zs
   pub from : AllByRecursion (Contains zs) g
 
-group_opens : (x : Row) (xs g : List Row) → group_of (x ∷ xs) ≡ Some g → (g ≡ take (needed x) (x ∷ xs)) × (needed x ≤ length (x ∷ xs)) × (same_key (get_or (x ∷ xs) (needed x - 1) x) x ≡ true)
+pub group_opens : (x : Row) (xs g : List Row) → group_of (x ∷ xs) ≡ Some g → (g ≡ take (needed x) (x ∷ xs)) × (needed x ≤ length (x ∷ xs)) × (same_key (get_or (x ∷ xs) (needed x - 1) x) x ≡ true)
 unfolding group_of
 group_opens x xs g h =
     let here = same_key (get_or (x ∷ xs) (needed x - 1) x) x in

@@ -1,25 +1,23 @@
 -- The rows that are kept of all rows, sorted.
-use Rattle.std.proofs.Common.{◌≡◌, sym, ap, ◌∙◌, ℕ, ◌≤◌, List, [], ◌∷◌, arith, true≢false, inl, inr}
+use Rattle.std.proofs.Common.{◌≡◌, sym, ap, ◌∙◌, ◌≤◌, List, [], ◌∷◌, arith, true≢false, inl, inr}
 use Rattle.std.specs.List.{Contains}
 use Rattle.std.specs.List.Sorted.{IsStrictlySortedBy}
 use Rattle.std.specs.Ordering.{is_lt}
 use Rattle.std.specs.Cmp.{tied_back}
 use Rattle.std.specs.declared.cmp.Ordering.{Ordering}
 use Rattle.std.specs.declared.cmp.Ordering.TheVariants.{Less, Equal}
-use Rattle.cx_base.specs.Literals.{Literal}
-use Rattle.xor_recover.specs.Rows.{Row, row, shape_cmp}
-use Rattle.xor_recover.specs.Ends.{AreCandidates, ends_turned}
+use Rattle.xor_recover.specs.Rows.{Row, shape_cmp}
 use Rattle.xor_recover.specs.Groups.{AreFirsts}
 use Rattle.xor_recover.proofs.Firsts.{shape_total, contains_cases}
 use Rattle.xor_recover.proofs.Keys.{Sorted, sorted_head, sorted_tail}
 use Rattle.xor_recover.proofs.GroupLaws.{contained}
 
--- rows in order: each has the least number of its shape, and those of clauses whose turned ones stand too are there
+-- rows in order: each has the least number of its shape, and of each shape there is one
 pub record AreKept (all kept : List Row) : Type 0 where
   pub sorted : IsStrictlySortedBy shape_cmp kept
   pub from : (x : Row) → Contains kept x → Contains all x
   pub least : (y x : Row) → Contains kept y → Contains all x → shape_cmp y x ≡ Equal → y.number ≤ x.number
-  pub needed : (lits : List Literal) (n m : ℕ) → Contains all (row lits n) → Contains all (row (ends_turned lits) m) → (y : Row) × Contains kept y × (shape_cmp y (row lits n) ≡ Equal)
+  pub each : (x : Row) → Contains all x → (y : Row) × Contains kept y × (shape_cmp y x ≡ Equal)
 
 strict_one : (zs : List Row) (a b : Row) → Sorted zs → Contains zs a → Contains zs b → shape_cmp a b ≡ Equal → a ≡ b
 strict_one [] a b s ca cb e = absurd (let lt = ca.1 in omega arith)
@@ -37,13 +35,13 @@ strict_one (z ∷ zs) a b s ca cb e = elim (contains_cases z zs a ca) [
     clash : (o : Ordering) → o ≡ Less → o ≡ Equal → ⊥
     clash o h g = true≢false (sym (ap is_lt h) ∙ ap is_lt g)
 
-pub are_kept : (all some kept : List Row) → AreCandidates all some → AreFirsts some kept → AreKept all kept
-are_kept all some kept candidates firsts = record {
+pub are_kept : (all kept : List Row) → AreFirsts all kept → AreKept all kept
+are_kept all kept firsts = record {
   sorted = firsts.sorted;
-  from = λ x c. candidates.from x (firsts.from x c);
+  from = firsts.from;
   least = λ y x cy cx e.
-      let z = firsts.each x (candidates.alike y x (firsts.from y cy) cx e) in
+      let z = firsts.each x cx in
       let same : z.0 ≡ y = strict_one kept z.0 y firsts.sorted z.1 cy (shape_total.congr z.0 x y z.2 ∙ tied_back shape_total y x e) in
       (let low = z.3 in let n = ap (λ (r : Row). r.number) same in omega (arith, low, n));
-  needed = λ lits n m here there. let y = firsts.each (row lits n) (candidates.needed lits n m here there) in (y.0, y.1, y.2);
+  each = λ x c. let y = firsts.each x c in (y.0, y.1, y.2);
 }

@@ -144,17 +144,17 @@ pub record FoundAll (formula : Problem) (finds : List Found) : Type 0 where
   pub firsts : AreKept (rows_of 1 (clauses_of formula.constraints)) kept
   pub says : AllZip (Says kept) (groups_of kept) finds
 
-pub found_all : (formula : Problem) (kept : List Row) (start : ℕ) (finds result : List Found) → IsWithinVariables formula.variables formula.constraints → AreKept (rows_of 1 (clauses_of formula.constraints)) kept
-    → length kept ≤ start → Progress kept start finds → result ≡ finds → FoundAll formula result
-found_all formula kept start finds result within firsts le progress is =
+pub found_all : (formula : Problem) (kept : List Row) (finds : List Found) → IsWithinVariables formula.variables formula.constraints → AreKept (rows_of 1 (clauses_of formula.constraints)) kept
+    → AllZip SaysGroup (groups_of kept) finds → FoundAll formula finds
+found_all formula kept finds within firsts says =
     let inside = formula_within formula.variables formula.constraints within in
     let all = kept_proper (clauses_of formula.constraints) kept inside firsts in
-    subst (FoundAll formula) (sym is) (record {
+    record {
       kept = kept;
       within = inside;
       firsts = firsts;
-      says = all_say kept (groups_of kept) finds (groups_are kept firsts.sorted all) (ends kept start finds le progress);
-    })
+      says = all_say kept (groups_of kept) finds (groups_are kept firsts.sorted all) says;
+    }
 
 pub all_sound : (formula : Problem) (finds : List Found) → FoundAll formula finds → All (λ (f : Found). Recovered formula (normal_form f.parity)) finds
 all_sound formula finds h = each_find h.kept (λ (f : Found). Recovered formula (normal_form f.parity)) (groups_of h.kept) finds (λ g f s. recovered formula h.kept g f h.within h.firsts s) h.says

@@ -1,13 +1,16 @@
 -- Rows in order, each shape once, and the groups of those that make a parity.
-use Rattle.std.specs.Prelude.{◌≡◌, ℕ, ◌-◌, ◌^◌, ◌≤◌, Bool, ◌&&◌, List, [], ◌∷◌, map, length, take, slice_index_or, Option, Some, None, if◌then◌else◌, nat_eq, nat_le}
-use Rattle.std.specs.List.{Contains}
+use Rattle.std.specs.Prelude.{◌≡◌, ℕ, ◌-◌, ◌^◌, ◌≤◌, Bool, ◌&&◌, List, [], ◌∷◌, ◌++◌, map, length, take, slice_index_or, Option, Some, None, if◌then◌else◌, nat_eq, nat_le}
+use Rattle.std.specs.List.{AllZip, Contains}
 use Rattle.std.specs.List.Sorted.{IsPermutation, IsNonDecreasing, IsStrictlySortedBy}
 use Rattle.std.specs.Cmp.Lexicographic.{pointwise}
 use mathlib.Core.Bool.{beq}
 use Rattle.std.specs.declared.cmp.Ordering.TheVariants.{Equal}
 use Rattle.parity_engine.specs.Written.{literals_with}
 use Rattle.xor_recover.specs.declared.found.Found.{Found}
+use Rattle.cx_base.specs.Literals.{Literal}
+use Rattle.xor_recover.specs.declared.starts.Start.{Start}
 use Rattle.xor_recover.specs.Rows.{Row, shape_cmp}
+use Rattle.xor_recover.specs.Starts.{rows_at}
 
 -- the new rows rise by shape, come from the old ones, and each old one has one of its shape with a number not above its own
 pub record AreFirsts (old new : List Row) : Type 0 where
@@ -52,3 +55,12 @@ pub record SaysGroup (group : List Row) (find : Found) : Type 0 where
 abbrev pub IsFoundAt : List Row → Option Found → Type 0
 IsFoundAt rows None = group_of rows ≡ None
 IsFoundAt rows (Some find) = (g : List Row) × (group_of rows ≡ Some g) × SaysGroup g find
+
+-- the finds of the clauses that start so, behind those from before
+pub record AddsFound (clauses : List (List Literal)) (run : List Start) (old new : List Found) : Type 0 where
+  pub kept : List Row
+  pub more : List Found
+  pub firsts : AreFirsts (rows_at clauses run) kept
+  pub says : AllZip SaysGroup (groups_of kept) more
+  pub added : new ≡ old ++ more
+  pub few : length more ≤ length run

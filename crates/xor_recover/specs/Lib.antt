@@ -2,5 +2,4 @@ pub mod Finds
 pub mod Rows
 pub mod Groups
 pub mod Entries
-pub mod Ends
-pub mod Ranges
+pub mod Starts

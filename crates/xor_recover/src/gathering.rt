@@ -1,14 +1,16 @@
-//! The entries of those clauses of a formula that a parity may need.
+//! The entries of clauses that start alike.
 ghost use Rattle.std.specs.Prelude.{◌≡◌, ◌≤◌, Some, None, map, IfOk, OnOk, length, ◌++◌, []};
 ghost use Rattle.std.specs.Bool.{MatchBool, OnTrue};
+ghost use Rattle.std.specs.List.{AllByRecursion};
 ghost use Rattle.cx_base.specs.Problem.{clauses_of};
-ghost use Rattle.xor_recover.specs.Rows.{placed, gathered, rows_if, rows_of};
+ghost use Rattle.xor_recover.specs.Rows.{placed, gathered, rows_if};
 ghost use Rattle.xor_recover.specs.Entries.{row_of, IsPosition};
-ghost use Rattle.xor_recover.specs.Ends.{AreCandidates};
+ghost use Rattle.xor_recover.specs.Starts.{rows_at, IsStart};
+ghost use Rattle.xor_recover.specs.Groups.{AreFirsts};
 
-use crate::ends::{has_opposite, marks};
 use crate::entry::{Entry, WIDEST};
-use cx_base::{ConstraintRef, Formula, Lit};
+use crate::starts::Start;
+use cx_base::{Formula, Lit};
 use std::alloc::{AllocError, Global};
 
 /// Where a literal belongs among literals of rising variables.
@@ -74,41 +76,61 @@ fn gather(normal: &mut Vec<Lit>, lits: &[Lit]) -> Result<bool, AllocError>
     Ok(true)
 }
 
-/// Adds the entry of a clause of two to six variables.
-fn add(
-    entries: &mut Vec<Entry>,
-    normal: &mut Vec<Lit>,
-    lits: &[Lit],
-    number: u64,
-) -> Result<(), AllocError>
-    ensures { OnOk result (map row_of entries.new.items ≡ map row_of entries.old.items ++ rows_if (gathered [] lits.now) number) }
-{
-    if gather(normal, lits)? && normal.len() >= 2 {
-        entries.push(Entry::new(normal, number))?;
-    }
-    Ok(())
+/// Room for the clauses of a run, which is kept from run to run.
+#[derive(Drop)]
+pub(crate) struct Room {
+    normal: Vec<Lit>,
+    pub entries: Vec<Entry>,
 }
 
-/// The entries of the formula's clauses of two to six variables that a parity may need.
-pub(crate) fn entries(alloc: Global, formula: &Formula) -> Result<Vec<Entry>, AllocError>
-    ensures { IfOk result (λ v. AreCandidates (rows_of 1 (clauses_of formula.now.constraints)) (map row_of v.items)) }
-{
-    // that variables are within the range, which this call tells the proof
-    let _vars = formula.vars();
-    let marks = marks(alloc, formula)?;
-    let mut entries = Vec::new(alloc);
-    let mut normal = Vec::with_capacity(alloc, WIDEST)?;
-    let mut number = 0;
-    for place in 0..formula.len() {
-        match formula.item(place) {
-            ConstraintRef::Clause(lits) => {
-                number += 1;
-                if has_opposite(&marks, lits) {
-                    add(&mut entries, &mut normal, lits, number)?;
-                }
-            }
-            ConstraintRef::Parity(_) => {}
-        }
+impl Room {
+    /// Room that is empty.
+    pub fn new(alloc: Global) -> Result<Room, AllocError> {
+        let normal = Vec::with_capacity(alloc, WIDEST)?;
+        let entries = Vec::new(alloc);
+        Ok(Room { normal, entries })
     }
-    Ok(entries)
+
+    /// Adds the entry of a clause of two to six variables.
+    fn add(&mut self, lits: &[Lit], number: u64) -> Result<(), AllocError>
+        ensures { OnOk result (map row_of self.new.entries.items ≡ map row_of self.old.entries.items ++ rows_if (gathered [] lits.now) number) }
+    {
+        if gather(&mut self.normal, lits)? && self.normal.len() >= 2 {
+            self.entries.push(Entry::new(&self.normal, number))?;
+        }
+        Ok(())
+    }
+
+    /// Takes in the entries of the clauses of two to six variables that start there.
+    fn take_in(&mut self, formula: &Formula, run: &[Start]) -> Result<(), AllocError>
+        requires { AllByRecursion (IsStart (clauses_of formula.now.constraints)) run.now }
+        ensures { OnOk result (map row_of self.new.entries.items ≡ rows_at (clauses_of formula.now.constraints) run.now) }
+    {
+        self.entries.clear();
+        for start in run {
+            let number = start.number;
+            self.add(formula.clause(number as usize), number)?;
+        }
+        Ok(())
+    }
+
+    /// Puts the entries in order, each with the least number of its clause.
+    fn keep_firsts(&mut self)
+        ensures firsts { AreFirsts (map row_of self.old.entries.items) (map row_of self.new.entries.items) }
+        ensures fewer { length self.new.entries.items ≤ length self.old.entries.items }
+    {
+        self.entries.sort_unstable();
+        self.entries.dedup_by(|later, first| later.signs == first.signs && later.key == first.key);
+    }
+
+    /// Makes the entries those of the clauses of a run, in order, each with the least number of its clause.
+    pub fn fill(&mut self, formula: &Formula, run: &[Start]) -> Result<(), AllocError>
+        requires { AllByRecursion (IsStart (clauses_of formula.now.constraints)) run.now }
+        ensures firsts { OnOk result (AreFirsts (rows_at (clauses_of formula.now.constraints) run.now) (map row_of self.new.entries.items)) }
+        ensures few { OnOk result (length self.new.entries.items ≤ length run.now) }
+    {
+        self.take_in(formula, run)?;
+        self.keep_firsts();
+        Ok(())
+    }
 }

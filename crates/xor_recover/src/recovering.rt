@@ -1,6 +1,6 @@
 //! Parities from the clauses of a formula.
-ghost use Rattle.std.specs.Prelude.{◌≡◌, ◌<◌, ◌≤◌, map, drop, length, Some, None, MatchOption, IfOk};
-ghost use Rattle.std.specs.List.{All, Contains};
+ghost use Rattle.std.specs.Prelude.{◌≡◌, ◌<◌, ◌≤◌, map, drop, length, Some, None, MatchOption, IfOk, OnOk};
+ghost use Rattle.std.specs.List.{All, AllByRecursion, Contains};
 ghost use Rattle.xor_recover.specs.declared.found.Found.{Found};
 ghost use Rattle.std.specs.List.Sorted.{IsPermutation, IsNonDecreasing, IsStrictlySortedBy};
 ghost use Rattle.xor_recover.specs.Finds.{HasLeastNumbers, IsJudgedRight, find_cmp};
@@ -11,24 +11,15 @@ ghost use Rattle.cx_base.specs.Problem.{AreWithin, clauses_of};
 ghost use Rattle.cx_semantics.specs.Recovered.{Recovered};
 ghost use Rattle.xor_recover.specs.Rows.{IsProper};
 ghost use Rattle.xor_recover.specs.Entries.{row_of};
-ghost use Rattle.xor_recover.specs.Groups.{AreFirsts, group_of, IsFoundAt};
+ghost use Rattle.xor_recover.specs.Starts.{IsStart};
+ghost use Rattle.xor_recover.specs.Groups.{AddsFound, group_of, IsFoundAt};
 
 use crate::entry::{Entry, Key};
 use crate::found::{Found, FoundList};
-use crate::gathering::entries;
-use crate::sorting::in_order;
+use crate::gathering::Room;
+use crate::starts::{Start, run_end, starts};
 use cx_base::{Formula, IdList, Lit, LitList, Var};
 use std::alloc::{AllocError, Global};
-
-/// The entries in order, with the least number of each clause.
-fn firsts(alloc: Global, entries: Vec<Entry>, vars: u32) -> Result<Vec<Entry>, AllocError>
-    ensures firsts { IfOk result (λ v. AreFirsts (map row_of entries.items) (map row_of v.items)) }
-    ensures fewer { IfOk result (λ v. length v.items ≤ length entries.items) }
-{
-    let mut sorted = in_order(alloc, entries, vars)?;
-    sorted.dedup_by(|later, first| later.key == first.key && later.signs == first.signs);
-    Ok(sorted)
-}
 
 /// The parity's literals.
 fn written(alloc: Global, key: &Key) -> Result<LitList, AllocError>
@@ -87,6 +78,32 @@ fn found_at(alloc: Global, entries: &[Entry], start: usize) -> Result<Option<Fou
     }
 }
 
+/// Adds the parities of a run of clauses that start alike.
+fn find_among(
+    alloc: Global,
+    formula: &Formula,
+    run: &[Start],
+    room: &mut Room,
+    finds: &mut Vec<Found>,
+) -> Result<(), AllocError>
+    requires { AllByRecursion (IsStart (clauses_of formula.now.constraints)) run.now }
+    ensures { OnOk result (AddsFound (clauses_of formula.now.constraints) run.now finds.old.items finds.new.items) }
+{
+    // that variables are within the range, which this call tells the proof
+    let _vars = formula.vars();
+    if run.len() < 2 {
+        return Ok(());
+    }
+    room.fill(formula, run)?;
+    for start in 0..room.entries.len() {
+        match found_at(alloc, &room.entries, start)? {
+            Some(find) => finds.push(find)?,
+            None => {}
+        }
+    }
+    Ok(())
+}
+
 /// The parities of 2 to 6 variables that stand in the formula as clauses, in order of their variables, with right
 /// side 0 before 1.
 pub fn recover(alloc: Global, formula: &Formula) -> Result<FoundList, AllocError>
@@ -99,15 +116,16 @@ pub fn recover(alloc: Global, formula: &Formula) -> Result<FoundList, AllocError
     ensures within { IfOk result (λ finds. All (λ find. AreWithin formula.now.variables find.parity) finds) }
     ensures few { IfOk result (λ finds. length finds ≤ length (clauses_of formula.now.constraints)) }
 {
-    let vars = formula.vars();
-    let candidates = entries(alloc, formula)?;
-    let entries = firsts(alloc, candidates, vars)?;
+    // that variables are within the range, which this call tells the proof
+    let _vars = formula.vars();
+    let starts = starts(alloc, formula)?;
+    let mut room = Room::new(alloc)?;
     let mut finds = Vec::new(alloc);
-    for start in 0..entries.len() {
-        match found_at(alloc, &entries, start)? {
-            Some(find) => finds.push(find)?,
-            None => {}
-        }
+    let mut at = 0;
+    while at < starts.len() {
+        let end = run_end(&starts, at);
+        find_among(alloc, formula, &starts[at..end], &mut room, &mut finds)?;
+        at = end;
     }
     Ok(FoundList::from_vec(finds))
 }

@@ -1,7 +1,10 @@
-use Rattle.std.proofs.Common.{map}
-use Rattle.xor_recover.specs.Entries.{row_of}
-use Rattle.xor_recover.proofs.Sound.{Progress}
+use Rattle.std.proofs.Common.{length, ◌-◌}
+use Rattle.cx_base.specs.Problem.{clauses_of}
+use Rattle.xor_recover.proofs.Runs.{RunsDone}
 use Rattle.xor_recover.proofs.recovering.recover.Given as goal
 
-abbrev pub invariant-loop-start : goal.invariant-loop-start
-invariant-loop-start l = Progress (map row_of l.entries.items) l.start l.finds.items
+abbrev pub invariant-loop-at : goal.invariant-loop-at
+invariant-loop-at l = RunsDone (clauses_of l.formula.constraints) l.starts.items l.at l.finds.items
+
+abbrev pub decreases-loop-at : goal.decreases-loop-at
+decreases-loop-at l = length l.starts.items - l.at
