@@ -2,15 +2,14 @@
 use Rattle.std.proofs.Common.{◌≡◌, refl, sym, ap, ◌∙◌, subst, ℕ, zero, suc, ◌+◌, ◌-◌, ◌^◌, ◌<◌, ◌≤◌, Bool, true, false, cond, ◌&&◌, List, [], ◌∷◌, ◌++◌, length, get_or, take, drop, arith, true≢false, ◌⊎◌, inl, inr, Option, Some, None, length-append, append_assoc}
 use Rattle.std.specs.Prelude.{nat_le}
 use Rattle.std.specs.List.{AllByRecursion, AllZip, Contains}
-use Rattle.std.specs.List.Sorted.{IsStrictlySortedBy, IsSorted}
-use Rattle.std.specs.Ordering.{is_lt, ordering_then, nat_cmp, bool_cmp, MatchOrdering}
-use Rattle.std.specs.Cmp.{IsTotalOrder, nat_cmp_total, then_total, on_total, ranks, tied_itself}
+use Rattle.std.specs.List.Sorted.{IsStrictlySortedBy, IsNonDecreasingBy}
+use Rattle.std.specs.Ordering.{ordering_then, nat_cmp, bool_cmp, MatchOrdering}
+use Rattle.std.specs.Cmp.{ranks, tied_itself}
 use Rattle.std.specs.Cmp.Lexicographic.{slice_cmp}
 use Rattle.std.specs.declared.cmp.Ordering.{Ordering}
 use Rattle.std.specs.declared.cmp.Ordering.TheVariants.{Less, Equal, Greater}
 use Rattle.std.proofs.lemmas.Bool.{cases_order, leb-true, le-leb, false_from_ne_true}
 use Rattle.std.proofs.lemmas.List.{append-nil, take-append-le, take_all}
-use Rattle.std.proofs.lemmas.List.Sorted.{sorted_far, ranks_by}
 use Rattle.std.proofs.lemmas.List.Elements.{Contains-append_cases, Contains-append_left, Contains-append_right}
 use Rattle.cx_base.specs.Literals.{Literal}
 use Rattle.cx_base.specs.Problem.{Problem, IsWithinVariables, clauses_of}
@@ -18,7 +17,7 @@ use Rattle.xor_recover.specs.declared.found.Found.{Found}
 use Rattle.xor_recover.specs.declared.starts.Start.{Start}
 use Rattle.xor_recover.specs.Rows.{Row, rows_of, key_cmp, shape_cmp, IsProper}
 use Rattle.xor_recover.specs.Groups.{AreFirsts, SaysGroup, AddsFound, needed, same_key, group_of, groups_of, and_more}
-use Rattle.xor_recover.specs.Starts.{Begins, StartAlike, IsStart, AreStarts, rows_at, start_cmp}
+use Rattle.xor_recover.specs.Starts.{Begins, StartAlike, IsStart, AreStarts, rows_at, pair_of}
 use Rattle.xor_recover.proofs.Firsts.{shape_total}
 use Rattle.xor_recover.proofs.Keys.{variables_long}
 use Rattle.xor_recover.proofs.GroupLaws.{less_not_same, power_needed}
@@ -28,7 +27,7 @@ use Rattle.xor_recover.proofs.Within.{all_by_contains}
 use Rattle.xor_recover.proofs.Bounds.{few_finds}
 use Rattle.xor_recover.proofs.Sound.{FoundAll, Progress, begins, stays, grows, ends, found_all}
 use Rattle.xor_recover.proofs.Numbers.{AllWithin, proper}
-use Rattle.xor_recover.proofs.StartRows.{of_starts, all_rows, rows_at-append, few_at}
+use Rattle.xor_recover.proofs.StartRows.{of_starts, start_is, all_rows, rows_at-append, few_at}
 
 -- ---- groups of two lists of rows of other keys
 
@@ -200,30 +199,28 @@ two_needed x p = let long = variables_long x p in go (length x.variables) long.0
 
 -- ---- starts in order
 
-start_total : IsTotalOrder start_cmp
-start_total = then_total (on_total (λ (s : Start). s.first) nat_cmp_total) (then_total (on_total (λ (s : Start). s.second) nat_cmp_total) (on_total (λ (s : Start). s.number) nat_cmp_total))
-
 abbrev NotAfter : Start → Start → Type 0
 NotAfter s t = (s.first < t.first) ⊎ ((s.first ≡ t.first) × (s.second ≤ t.second))
 
 abbrev Ahead : Start → Start → Type 0
 Ahead s t = (s.first < t.first) ⊎ ((s.first ≡ t.first) × (s.second < t.second))
 
-not_after : (s t : Start) → is_lt (start_cmp t s) ≡ false → NotAfter s t
-not_after s t h = go (nat_cmp t.first s.first) (ranks t.first s.first) h
-  where
-    second : (o : Ordering) → s.first ≡ t.first → MatchOrdering o (t.second < s.second) (t.second ≡ s.second) (s.second < t.second) → is_lt (ordering_then o (nat_cmp t.number s.number)) ≡ false → NotAfter s t
-    second Less e m g = absurd (true≢false g)
-    second Equal e m g = inr (e, omega arith)
-    second Greater e m g = inr (e, omega arith)
+not_after : (s t : Start) → s.second < 4294967296 → t.second < 4294967296 → pair_of s ≤ pair_of t → NotAfter s t
+not_after s t fits fits' le = elim (cases_order s.first t.first) [
+  | inl e ↦ inr (e, omega (arith, e, le))
+  | inr order ↦ elim order [ inl below ↦ inl below | inr over ↦ absurd (omega (arith, over, le, fits, fits')) ]
+]
 
-    go : (o : Ordering) → MatchOrdering o (t.first < s.first) (t.first ≡ s.first) (s.first < t.first) → is_lt (ordering_then o (ordering_then (nat_cmp t.second s.second) (nat_cmp t.number s.number))) ≡ false → NotAfter s t
-    go Less m g = absurd (true≢false g)
-    go Equal m g = second (nat_cmp t.second s.second) (sym m) (ranks t.second s.second) g
-    go Greater m g = inl m
+-- starts in order
+pub record AreSorted (C : List (List Literal)) (starts : List Start) : Type 0 where
+  pub each : AllByRecursion (IsStart C) starts
+  pub rise : IsNonDecreasingBy pair_of starts
 
-starts_rise : (starts : List Start) (i j : ℕ) (d : Start) → IsSorted start_cmp starts → i ≤ j → j < length starts → NotAfter (get_or starts i d) (get_or starts j d)
-starts_rise starts i j d sorted le lt = not_after (get_or starts i d) (get_or starts j d) (sorted_far (λ s t. is_lt (start_cmp s t)) (ranks_by start_total (λ (s : Start). s)) starts sorted i j d le lt)
+starts_rise : (C : List (List Literal)) (starts : List Start) (i j : ℕ) (d : Start) → AreSorted C starts → i ≤ j → j < length starts → NotAfter (get_or starts i d) (get_or starts j d)
+starts_rise C starts i j d sorted le lt =
+    let s = get_or starts i d in
+    let t = get_or starts j d in
+    not_after s t (start_is C starts s sorted.each (i, omega arith, at_any starts i s d (omega arith))).fits (start_is C starts t sorted.each (j, lt, at_any starts j t d lt)).fits (sorted.rise i j d le lt)
 
 goes_ahead : (p q r : Start) → NotAfter p q → (StartAlike q p → ⊥) → NotAfter q r → Ahead p r
 goes_ahead p q r h apart g = elim h [
@@ -354,24 +351,25 @@ pub record IsRun (starts : List Start) (at end : ℕ) : Type 0 where
   pub apart : (d : Start) → end < length starts → StartAlike (get_or starts end d) (get_or starts at d) → ⊥
 
 -- a row of the run starts before what stands behind
-run_before : (starts : List Start) (at end : ℕ) (s : Start) (x : Row) → IsSorted start_cmp starts → IsRun starts at end → Contains (take (end - at) (drop at starts)) s → Begins s x
+run_before : (C : List (List Literal)) (starts : List Start) (at end : ℕ) (s : Start) (x : Row) → AreSorted C starts → IsRun starts at end → Contains (take (end - at) (drop at starts)) s → Begins s x
     → (j : ℕ) (d : Start) → end ≤ j → j < length starts → Before x (get_or starts j d)
-run_before starts at end s x sorted run c begins j d le lt =
+run_before C starts at end s x sorted run c begins j d le lt =
     let up = run.ahead in
     let place = in_part starts at (end - at) s c in
     let low = place.2 in
     let like = run.alike place.0 s place.1 (omega (arith, low, up)) in
     let first = begins.0 ∙ ap (λ (t : Start). t.first) (sym place.4) ∙ like.0 in
     let second = begins.1 ∙ ap (λ (t : Start). t.second) (sym place.4) ∙ like.1 in
-    let ahead = goes_ahead (get_or starts at s) (get_or starts end s) (get_or starts j s) (starts_rise starts at end s sorted (omega arith) (omega arith)) (run.apart s (omega arith)) (starts_rise starts end j s sorted le lt) in
+    let ahead = goes_ahead (get_or starts at s) (get_or starts end s) (get_or starts j s) (starts_rise C starts at end s sorted (omega arith) (omega arith)) (run.apart s (omega arith)) (starts_rise C starts end j s sorted le lt) in
     subst (Before x) (at_any starts j s d lt) (elim ahead [
       | inl less ↦ inl (omega (arith, first, less))
       | inr both ↦ inr (first ∙ both.0, (let less = both.1 in omega (arith, second, less)))
     ])
 
-pub next_run : (C : List (List Literal)) (starts : List Start) (at end : ℕ) (old new : List Found) → AllWithin C → AllByRecursion (IsStart C) starts → IsSorted start_cmp starts → IsRun starts at end
+pub next_run : (C : List (List Literal)) (starts : List Start) (at end : ℕ) (old new : List Found) → AllWithin C → AreSorted C starts → IsRun starts at end
     → AddsFound C (take (end - at) (drop at starts)) old new → RunsDone C starts at old → RunsDone C starts end new
-next_run C starts at end old new within each sorted run adds done =
+next_run C starts at end old new within sorted run adds done =
+    let each = sorted.each in
     let up = run.ahead in
     let part = take (end - at) (drop at starts) in
     let each_part = all_front (IsStart C) (end - at) (drop at starts) (all_later (IsStart C) at starts each) in
@@ -387,7 +385,7 @@ next_run C starts at end old new within each sorted run adds done =
       firsts = subst (λ (rs : List Row). AreFirsts rs (done.kept ++ adds.kept)) (sym (rows_at-append C (take at starts) part) ∙ ap (rows_at C) (sym (take_split starts at end (omega arith)))) (firsts_append (rows_at C (take at starts)) done.kept (rows_at C part) adds.kept done.firsts adds.firsts apart);
       before = λ x c j d le lt. elim (Contains-append_cases done.kept adds.kept x c) [
         | inl here ↦ done.before x here j d (omega (arith, le, up)) lt
-        | inr later ↦ (let s = of_starts C part x each_part (adds.firsts.from x later) in run_before starts at end s.0 x sorted run s.1 s.2 j d le lt)
+        | inr later ↦ (let s = of_starts C part x each_part (adds.firsts.from x later) in run_before C starts at end s.0 x sorted run s.1 s.2 j d le lt)
       ];
       says = subst (AllZip SaysGroup (groups_of (done.kept ++ adds.kept))) (sym adds.added) (subst (λ gs. AllZip SaysGroup gs (old ++ adds.more)) (sym (groups_append done.kept adds.kept needs apart)) (zip_append (groups_of done.kept) (groups_of adds.kept) old adds.more done.says adds.says));
       few = (let n = ap length adds.added in let both = length-append old adds.more in let a = done.few in let b = adds.few in let m = few_front (end - at) (drop at starts) in omega (arith, n, both, a, b, m, up));

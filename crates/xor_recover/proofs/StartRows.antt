@@ -74,10 +74,10 @@ last_or n k le = elim (cases_order n (k + 1)) [
   | inr apart ↦ elim apart [ inl below ↦ inr (omega arith) | inr over ↦ absurd (omega arith) ]
 ]
 
-pub one_start : (C : List (List Literal)) (old new : List Start) (k : ℕ) (lits : List Literal) (s : Start) → k < length C → get_or C (k + 1 - 1) [] ≡ lits → s.number ≡ k + 1
+pub one_start : (C : List (List Literal)) (old new : List Start) (k : ℕ) (lits : List Literal) (s : Start) → k < length C → get_or C (k + 1 - 1) [] ≡ lits → s.number ≡ k + 1 → s.second < 4294967296
     → AllByRecursion (Begins s) (rows_if (gathered [] lits) (k + 1)) → new ≡ old ++ s ∷ [] → AreUpTo C old k → AreUpTo C new (k + 1)
-one_start C old new k lits s lt read number begins pushed h = subst (λ (ss : List Start). AreUpTo C ss (k + 1)) (sym pushed) (record {
-  each = all_append (IsStart C) old (s ∷ []) h.each (record { low = omega (arith, number); high = omega (arith, number); begins = subst (AllByRecursion (Begins s)) row begins }, tt);
+one_start C old new k lits s lt read number fits begins pushed h = subst (λ (ss : List Start). AreUpTo C ss (k + 1)) (sym pushed) (record {
+  each = all_append (IsStart C) old (s ∷ []) h.each (record { low = omega (arith, number); high = omega (arith, number); fits = fits; begins = subst (AllByRecursion (Begins s)) row begins }, tt);
   all = λ n low high x c. subst (λ (rs : List Row). Contains rs x) (sym (rows_at-append C old (s ∷ []))) (elim (last_or n k high) [
     | inl e ↦ Contains-append_right (rows_at C old) (rows_at C (s ∷ [])) x (Contains-append_left (row_at C s.number) [] x (subst (λ m. Contains (row_at C m) x) (e ∙ sym number) c))
     | inr le ↦ Contains-append_left (rows_at C old) (rows_at C (s ∷ [])) x (h.all n low le x c)
@@ -132,17 +132,17 @@ of_clause C s x h c =
     let high = h.high in
     row_among C 1 (s.number - 1) x (omega (arith, low, high)) (let e : s.number ≡ 1 + (s.number - 1) = omega (arith, low) in subst (λ m. Contains (rows_if (gathered [] (get_or C (s.number - 1) [])) m) x) e c)
 
+pub start_is : (C : List (List Literal)) (ss : List Start) (s : Start) → AllByRecursion (IsStart C) ss → Contains ss s → IsStart C s
+start_is C [] s h (k, lt, e) = absurd (omega arith)
+start_is C (t ∷ ss) s h (zero, lt, e) = subst (IsStart C) e h.0
+start_is C (t ∷ ss) s h (suc k, lt, e) = start_is C ss s h.1 (k, omega arith, e)
+
 pub of_starts : (C : List (List Literal)) (ss : List Start) (x : Row) → AllByRecursion (IsStart C) ss → Contains (rows_at C ss) x → (s : Start) × Contains ss s × Begins s x × Contains (rows_of 1 C) x
 of_starts C ss x each c =
     let found = in_rows_at C ss x c in
     let is = start_is C ss found.0 each found.1 in
     (found.0, found.1, begins_it found.0 (row_at C found.0.number) x is.begins found.2, of_clause C found.0 x is found.2)
   where
-    start_is : (C : List (List Literal)) (ss : List Start) (s : Start) → AllByRecursion (IsStart C) ss → Contains ss s → IsStart C s
-    start_is C [] s h (k, lt, e) = absurd (omega arith)
-    start_is C (t ∷ ss) s h (zero, lt, e) = subst (IsStart C) e h.0
-    start_is C (t ∷ ss) s h (suc k, lt, e) = start_is C ss s h.1 (k, omega arith, e)
-
     begins_it : (s : Start) (rs : List Row) (x : Row) → AllByRecursion (Begins s) rs → Contains rs x → Begins s x
     begins_it s [] x h (k, lt, e) = absurd (omega arith)
     begins_it s (r ∷ rs) x h (zero, lt, e) = subst (Begins s) e h.0

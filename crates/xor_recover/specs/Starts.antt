@@ -1,8 +1,6 @@
 -- Where clauses start, and the rows of those that start at a place.
-use Rattle.std.specs.Prelude.{◌≡◌, ℕ, ◌-◌, ◌≤◌, List, [], length, slice_index_or}
+use Rattle.std.specs.Prelude.{◌≡◌, ℕ, ◌+◌, ◌-◌, ◌*◌, ◌<◌, ◌≤◌, List, [], length, slice_index_or}
 use Rattle.std.specs.List.{AllByRecursion, Contains, flat_map}
-use Rattle.std.specs.Ordering.{ordering_then, nat_cmp}
-use Rattle.std.specs.declared.cmp.Ordering.{Ordering}
 use Rattle.cx_base.specs.Literals.{Literal}
 use Rattle.xor_recover.specs.declared.starts.Start.{Start}
 use Rattle.xor_recover.specs.Rows.{Row, rows_if, gathered}
@@ -14,8 +12,9 @@ Begins s x = (slice_index_or x.variables 0 0 ≡ s.first) × (slice_index_or x.v
 abbrev pub StartAlike : Start → Start → Type 0
 StartAlike s t = (s.first ≡ t.first) × (s.second ≡ t.second)
 
-abbrev pub start_cmp : Start → Start → Ordering
-start_cmp s t = ordering_then (nat_cmp s.first t.first) (ordering_then (nat_cmp s.second t.second) (nat_cmp s.number t.number))
+-- both variables as one number, which is greater where the first or, if that is the same, the second is
+abbrev pub pair_of : Start → ℕ
+pair_of s = s.first * 4294967296 + s.second
 
 -- the row of the clause with a number, where it has one
 abbrev pub row_at : List (List Literal) → ℕ → List Row
@@ -29,6 +28,7 @@ rows_at clauses starts = flat_map (λ s. row_at clauses s.number) starts
 pub record IsStart (clauses : List (List Literal)) (s : Start) : Type 0 where
   pub low : 1 ≤ s.number
   pub high : s.number ≤ length clauses
+  pub fits : s.second < 4294967296
   pub begins : AllByRecursion (Begins s) (row_at clauses s.number)
 
 -- starts of clauses, among them that of each clause that has a row

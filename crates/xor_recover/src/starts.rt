@@ -2,20 +2,20 @@
 //!
 //! The clauses of one parity start alike. Clauses in order of their starts are in order of all their variables, but for
 //! those that start alike; where there are no parities most clauses start like no other.
-ghost use Rattle.std.specs.Prelude.{◌≡◌, ◌≢◌, ◌<◌, ◌≤◌, ℕ, min, max, length, slice_index_or, IfOk, MatchOption, [], IsTrue, ◌↔◌};
+ghost use Rattle.std.specs.Prelude.{◌≡◌, ◌<◌, ◌≤◌, ℕ, min, max, length, slice_index_or, IfOk, MatchOption, [], IsTrue, ◌↔◌};
 ghost use Rattle.std.specs.List.{AllByRecursion};
-ghost use Rattle.std.specs.List.Sorted.{IsSorted};
+ghost use Rattle.std.specs.List.Sorted.{IsNonDecreasingBy};
 ghost use Rattle.cx_base.specs.Problem.{AreWithin, clauses_of};
 ghost use Rattle.cx_base.specs.declared.literal.TheConstants.{MAX_VARIABLE};
 ghost use Rattle.xor_recover.specs.Rows.{rows_if, gathered};
-ghost use Rattle.xor_recover.specs.Starts.{Begins, StartAlike, AreStarts, start_cmp};
+ghost use Rattle.xor_recover.specs.Starts.{Begins, StartAlike, AreStarts, pair_of};
 ghost use Rattle.xor_recover.specs.declared.starts.Start.{Start};
 
 use cx_base::{Formula, Lit};
 use std::alloc::{AllocError, Global};
 
 /// A clause's two least variables, and its number.
-#[derive(Clone, Copy, PartialEq, Eq, PartialOrd, Ord, Drop)]
+#[derive(Clone, Copy, Drop)]
 pub(crate) struct Start {
     pub first: u32,
     pub second: u32,
@@ -40,7 +40,7 @@ impl Start {
     /// The start of a clause of two or more variables.
     fn of(lits: &[Lit], number: u64) -> Option<Start>
         requires { AreWithin MAX_VARIABLE lits.now }
-        ensures { MatchOption result (rows_if (gathered [] lits.now) number ≡ []) (λ s. (s.number ≡ number) × AllByRecursion (Begins s) (rows_if (gathered [] lits.now) number)) }
+        ensures { MatchOption result (rows_if (gathered [] lits.now) number ≡ []) (λ s. (s.number ≡ number) × (s.second < 4294967296) × AllByRecursion (Begins s) (rows_if (gathered [] lits.now) number)) }
     {
         let mut first = u32::MAX;
         let mut second = u32::MAX;
@@ -62,6 +62,13 @@ impl Start {
         }
     }
 
+    /// Both variables as one number, which a sort compares at once.
+    fn pair(self) -> u64
+        ensures { result ≡ pair_of self }
+    {
+        self.first as u64 * 4_294_967_296 + self.second as u64
+    }
+
     /// Whether both clauses have the same two least variables.
     fn is_like(self, other: Start) -> bool
         ensures { IsTrue result ↔ StartAlike self other }
@@ -70,10 +77,10 @@ impl Start {
     }
 }
 
-/// The starts of the formula's clauses, in order.
+/// The starts of the formula's clauses, in order of both variables.
 pub(crate) fn starts(alloc: Global, formula: &Formula) -> Result<Vec<Start>, AllocError>
     ensures starts { IfOk result (λ v. AreStarts (clauses_of formula.now.constraints) v.items) }
-    ensures sorted { IfOk result (λ v. IsSorted start_cmp v.items) }
+    ensures sorted { IfOk result (λ v. IsNonDecreasingBy pair_of v.items) }
 {
     // that variables are within the range, which this call tells the proof
     let _vars = formula.vars();
@@ -86,7 +93,7 @@ pub(crate) fn starts(alloc: Global, formula: &Formula) -> Result<Vec<Start>, All
             None => {}
         }
     }
-    starts.sort_unstable();
+    starts.sort_unstable_by_key(|start| start.pair());
     Ok(starts)
 }
 

@@ -69,4 +69,4 @@ loop-at-preserved c =
     let is = c.run_end-end.ensures in
     let run : IsRun starts at end = subst (λ (ss : List Start). IsRun ss at end) c.deref.ensures.value (record { ahead = is.ahead; inside = is.inside; alike = is.alike; apart = is.apart }) in
     let adds : AddsFound C (take (end - at) (drop at starts)) c.loop-at.finds.items c.find_among.new.finds.items = subst (λ (ss : List Start). AddsFound C (take (end - at) (drop at ss)) c.loop-at.finds.items c.find_among.new.finds.items) c.deref-in-loop-at.ensures.value c.in_ok-find_among.ensures in
-    next_run C starts at end c.loop-at.finds.items c.find_among.new.finds.items (formula_within _ c.args.formula.now.constraints c.vars-vars.ensures.within) c.in_ok-starts.ensures.starts.each c.in_ok-starts.ensures.sorted run adds c.loop-at.invariant
+    next_run C starts at end c.loop-at.finds.items c.find_among.new.finds.items (formula_within _ c.args.formula.now.constraints c.vars-vars.ensures.within) (record { each = c.in_ok-starts.ensures.starts.each; rise = c.in_ok-starts.ensures.sorted }) run adds c.loop-at.invariant

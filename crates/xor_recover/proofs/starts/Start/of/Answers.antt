@@ -35,4 +35,4 @@ returns-then-second c =
 pub returns-else-second : goal.returns-else-second
 returns-else-second c =
     let lits = c.args.lits.now in
-    (refl, begins_row lits c.args.number (record { first = c.loop-lit.first; second = c.loop-lit.second; number = c.args.number }) c.requires (subst (λ (p : List Literal). AreLeast p c.loop-lit.first c.loop-lit.second) (take_all c.loop-lit.lit-index lits c.loop-lit-test.false) c.loop-lit.invariant))
+    (refl, (let most = c.loop-lit.invariant.most.1 in omega (arith, most)), begins_row lits c.args.number (record { first = c.loop-lit.first; second = c.loop-lit.second; number = c.args.number }) c.requires (subst (λ (p : List Literal). AreLeast p c.loop-lit.first c.loop-lit.second) (take_all c.loop-lit.lit-index lits c.loop-lit-test.false) c.loop-lit.invariant))
