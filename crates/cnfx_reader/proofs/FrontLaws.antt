@@ -1,8 +1,7 @@
 -- A few digits, and integers, at the front of a text.
-use Rattle.std.proofs.Common.{◌≡◌, sym, ap, ◌∙◌, subst, ℕ, suc, ◌+◌, ◌-◌, ◌^◌, ◌<◌, ◌≤◌, pos, neg_ℤ, Bool, true, false, List, [], ◌∷◌, length, take, drop, Some, arith, true≢false, length-take, length-drop, eqb-true}
+use Rattle.std.proofs.Common.{◌≡◌, sym, ap, ◌∙◌, subst, ℕ, suc, ◌+◌, ◌-◌, ◌^◌, ◌<◌, ◌≤◌, pos, neg_ℤ, Bool, true, false, List, [], ◌∷◌, length, take, drop, Some, arith, true≢false, length-take, eqb-true}
 use Rattle.std.specs.List.{list_all}
 use Rattle.std.specs.Str.Parse.{digits_value}
-use Rattle.std.proofs.lemmas.List.{take_all}
 use Rattle.std.proofs.lemmas.Int.Digits.{digits_value-lt}
 use Rattle.std.proofs.Math.Nat.{pow-le-pow_right}
 use Rattle.cx_base.specs.Integers.{signed}
@@ -22,10 +21,6 @@ short_value text len value few l h v =
     omega arith
 
 -- ---- integers at the front of a text
-
--- the part behind a place, as `&text[n..]` has it
-pub part_behind : (text : List ℕ) (n : ℕ) → take (length text - n) (drop n text) ≡ drop n text
-part_behind text n = take_all (length text - n) (drop n text) (omega (arith, length-drop n text))
 
 front_length : (text : List ℕ) (len : ℕ) → len ≤ length text → length (take len text) ≡ len
 front_length text len h = omega (arith, length-take len text)

@@ -1,5 +1,3 @@
-pub mod FormulaPieces
-pub mod FormulaTokens
 pub mod PieceSteps
 pub mod FrontLaws
 pub mod WordLaws

@@ -7,6 +7,7 @@ use Rattle.cx_base.specs.declared.literal.TheConstants.{MAX_VARIABLE}
 use Rattle.cx_texts.specs.Pieces.{EndsBlank}
 use Rattle.cx_texts.specs.Tokens.{Token, NoBlank, EndsRun}
 use Rattle.cx_texts.specs.Words.{placed_formula_words, formula_words_of}
+use Rattle.cx_texts.specs.declared.line_state.EndLines.TheVariants as end_line
 use Rattle.cx_texts.specs.declared.line_state.LineState.TheVariants.{Kept}
 use Rattle.cx_texts.specs.declared.offence.Offence.{Offence}
 use Rattle.cnfx_reader.specs.Body.{outcome, IsEndedBy}
@@ -19,6 +20,8 @@ use Rattle.cnfx_reader.specs.declared.header_token.HeaderStep.{HeaderStep}
 use Rattle.cnfx_reader.specs.declared.header_token.HeaderStep.TheVariants.{Lacks, Whole}
 use Rattle.cnfx_reader.specs.Refusals.{refusal_of}
 use Rattle.cnfx_reader.specs.TokensLeft.{formula_tokens_within}
+use Rattle.cx_texts.proofs.PieceLaws.{cut_behind_blank, left_from_token}
+use Rattle.cx_texts.proofs.TokenLaws.{within-run}
 use Rattle.cnfx_reader.specs.declared.body.PieceRead.{PieceRead}
 use Rattle.cnfx_reader.specs.declared.pending.Pending.{Pending}
 use Rattle.cnfx_reader.specs.declared.pending.Pending.TheVariants.{Nothing}
@@ -26,8 +29,6 @@ use Rattle.cnfx_reader.specs.declared.piece.Phase.{Phase}
 use Rattle.cnfx_reader.specs.declared.piece.Phase.TheVariants.{Head, Body}
 use Rattle.cnfx_reader.specs.declared.piece.Taken.{Taken}
 use Rattle.cnfx_reader.specs.declared.refusal.ReadRefusal.{ReadRefusal}
-use Rattle.cnfx_reader.proofs.FormulaPieces.{formula_cut, formula_left}
-use Rattle.cnfx_reader.proofs.FormulaTokens.{within-run}
 
 words-append : (a b : List Token) → placed_formula_words (a ++ b) ≡ placed_formula_words a ++ placed_formula_words b
 words-append a b = flat_map-append (λ (t : Token). placed_at t.place (formula_words_of t.text)) a b
@@ -54,7 +55,7 @@ body_step v pending old tokens next read new p e small =
 module _ (place len : ℕ) (bytes : List ℕ) (tokens : List Token) (blank : EndsBlank (take len bytes)) (within : len ≤ length bytes) (are : tokens ≡ formula_tokens_within place (take len bytes)) where
   followed : (more : List ℕ) → (behind : List Token) × (formula_tokens_within place (bytes ++ more) ≡ tokens ++ behind)
   followed more =
-      let cut = formula_cut Kept place (take len bytes) (drop len bytes ++ more) blank in
+      let cut = cut_behind_blank end_line.End Kept place (take len bytes) (drop len bytes ++ more) blank in
       (cut.0, ap (formula_tokens_within place) (ap (λ b. b ++ more) (sym (take-append-drop len bytes)) ∙ append_assoc (take len bytes) (drop len bytes) more) ∙ cut.1 ∙ ap (λ ts. ts ++ cut.0) (sym are))
 
   pub piece_refused : (phase : Phase) (old : Draft) (e : ReadRefusal) → ((size : ℕ) (more : List Token) → IsRefusedBy e (answer_from phase size old (tokens ++ more))) → StepRefused phase old place bytes e
@@ -65,7 +66,7 @@ module _ (place len : ℕ) (bytes : List ℕ) (tokens : List Token) (blank : End
   pub piece_step : (phase : Phase) (old : Draft) (t : Taken) (new : Draft) (before : List Token) (token : Token) → tokens ≡ before ++ token ∷ [] → t.next ≡ token.place → IsPhaseIn t.phase new
       → ((size : ℕ) (more : List Token) → answer_from phase size old (tokens ++ more) ≡ answer_from t.phase size new (token ∷ more)) → StepTaken phase old place bytes t new
   piece_step phase old t new before token split at fits same =
-      let here = formula_left Kept place (take len bytes) before token [] (sym are ∙ split) in
+      let here = left_from_token end_line.End Kept place (take len bytes) before token [] (sym are ∙ split) in
       let inside : here.behind ≤ length bytes = omega (arith, here.inside, length-take len bytes, within) in (
         here.behind,
         at ∙ here.at,
@@ -73,7 +74,7 @@ module _ (place len : ℕ) (bytes : List ℕ) (tokens : List Token) (blank : End
         fits,
         λ size more.
             let f = followed more in
-            let there = formula_left Kept place (bytes ++ more) before token f.0 (f.1 ∙ ap (λ ts. ts ++ f.0) split ∙ append_assoc before (token ∷ []) f.0) in
+            let there = left_from_token end_line.End Kept place (bytes ++ more) before token f.0 (f.1 ∙ ap (λ ts. ts ++ f.0) split ∙ append_assoc before (token ∷ []) f.0) in
             let k : there.behind ≡ here.behind = omega (arith, there.at, here.at) in
             let bytes_left : drop there.behind (bytes ++ more) ≡ drop here.behind bytes ++ more = ap (λ n. drop n (bytes ++ more)) k ∙ drop-append-le here.behind bytes more inside in
             let left : formula_tokens_within t.next (drop here.behind bytes ++ more) ≡ token ∷ f.0 = (λ i. formula_tokens_within (at i) (sym bytes_left i)) ∙ there.left in
@@ -126,7 +127,7 @@ module _ (place len : ℕ) (bytes : List ℕ) (some : 0 < len) (few : len < leng
       go [] e = let k : length (take len bytes) ≡ 0 = ap length e in absurd (omega (arith, k, length-take len bytes, some, few))
       go (b ∷ t) e =
           let k : length (b ∷ t) ≡ len = ap length (sym e) ∙ (let f : length (take len bytes) ≡ len = omega (arith, length-take len bytes, few) in f) in
-          ap (λ x. formula_tokens_within place (x ++ (drop len bytes ++ more))) e ∙ within-run place b t (drop len bytes ++ more) (subst NoBlank e run) behind
+          ap (λ x. formula_tokens_within place (x ++ (drop len bytes ++ more))) e ∙ within-run end_line.End place b t (drop len bytes ++ more) (subst NoBlank e run) behind
           ∙ (λ i. record { place = place; text = sym e i } ∷ formula_tokens_within (place + k i) (drop len bytes ++ more))
 
   pub first_step : (phase next : Phase) (old new : Draft) → TokenTaken phase old first next new → StepTaken phase old place bytes (record { phase = next; next = place + len }) new
@@ -137,7 +138,7 @@ module _ (place len : ℕ) (bytes : List ℕ) (some : 0 < len) (few : len < leng
 
 whole_token : (place : ℕ) (token : List ℕ) → IsRun token → formula_tokens_within place token ≡ record { place = place; text = token } ∷ []
 whole_token place [] (some, run) = absurd (omega (arith, some))
-whole_token place (b ∷ t) (some, run) = ap (formula_tokens_within place) (sym (append-nil (b ∷ t))) ∙ within-run place b t [] run tt
+whole_token place (b ∷ t) (some, run) = ap (formula_tokens_within place) (sym (append-nil (b ∷ t))) ∙ within-run end_line.End place b t [] run tt
 
 module _ (place : ℕ) (token : List ℕ) (run : IsRun token) (tokens : List Token) (are : tokens ≡ formula_tokens_within place token) (v : ℕ) (pending : Pending) (old : Draft) where
   one : tokens ≡ record { place = place; text = token } ∷ []

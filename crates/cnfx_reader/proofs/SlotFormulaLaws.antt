@@ -21,10 +21,9 @@ use Rattle.cx_texts.specs.declared.offence.Offence.{Offence}
 use Rattle.cnfx_reader.specs.Body.{Outcome}
 use Rattle.cnfx_reader.specs.FromSlot.{FromFails, from_read, from_desk, from_drained}
 use Rattle.cnfx_reader.specs.PieceSteps.{answer_from, behind_header, IsRefusedBy, IsWhole, StepTaken, StepRefused}
-use Rattle.cnfx_reader.specs.Pieces.{formula_tokens_in}
 use Rattle.cnfx_reader.specs.ReadsTo.{IsRefusedAs}
 use Rattle.cnfx_reader.specs.SlotFormula.{answer_of, answer_of_text, PassedBytes, GoesOn, IsRefusedIn, fresh, HasRead}
-use Rattle.cnfx_reader.specs.TokensLeft.{formula_tokens_from, formula_tokens_within}
+use Rattle.cnfx_reader.specs.TokensLeft.{formula_tokens_from, formula_tokens_in, formula_tokens_within}
 use Rattle.cnfx_reader.specs.declared.header_token.HeaderPart.TheVariants.{P}
 use Rattle.cnfx_reader.specs.declared.piece.Phase.TheVariants.{Head}
 use Rattle.cnfx_reader.specs.declared.piece.Taken.{Taken}

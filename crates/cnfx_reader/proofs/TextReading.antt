@@ -15,8 +15,11 @@ use Rattle.cnfx_reader.specs.ReadsTo.{IsRefusedAs}
 use Rattle.cnfx_reader.specs.Refusals.{refusal_of}
 use Rattle.cnfx_reader.specs.TokensLeft.{formula_tokens_from}
 use Rattle.cnfx_reader.specs.Body.{Outcome, outcome, IsEndedBy}
-use Rattle.cnfx_reader.proofs.FormulaTokens.{formula_tokens_are}
 use Rattle.cnfx_reader.proofs.BodyReading.{outcome_is_reading}
+
+formula_tokens_are : (text : List ℕ) → formula_tokens text ≡ formula_tokens_from 0 text
+unfolding formula_tokens
+formula_tokens_are text = refl
 
 module _ (text : List ℕ) where
   -- what is read of some words where nothing stands before them

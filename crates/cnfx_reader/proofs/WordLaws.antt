@@ -1,5 +1,5 @@
 -- Tokens of the body as words.
-use Rattle.std.proofs.Common.{◌≡◌, sym, ap, ◌∙◌, subst, ℕ, zero, suc, ◌+◌, ◌<◌, ◌≤◌, ℤ, true, false, cond, List, [], ◌∷◌, length, take, drop, get_or, Some, None, arith, true≢false}
+use Rattle.std.proofs.Common.{◌≡◌, sym, ap, ◌∙◌, subst, ℕ, zero, suc, ◌+◌, ◌<◌, ◌≤◌, ℤ, true, false, cond, List, [], ◌∷◌, length, take, drop, get_or, Some, None, arith}
 use Rattle.std.proofs.lemmas.List.{drop_more}
 use Rattle.cx_texts.specs.Tokens.{is_blank, NoBlank, EndsRun}
 use Rattle.cx_texts.specs.Words.{Word, letter, other, number, number_or, integer, word_of, joined_words, formula_words_of}
@@ -22,11 +22,6 @@ joined_token [] len z x some l e = absurd (zero_not_mark x)
 joined_token (b ∷ []) len z x some l e = absurd (omega arith)
 joined_token (b ∷ c ∷ bs) zero z x some l e = absurd (omega arith)
 joined_token (b ∷ c ∷ bs) (suc len) z x some l e = ap (λ y. formula_words_of (y ∷ c ∷ take len bs)) x ∙ ap joined_words e
-
--- a run that begins is not empty
-pub run_begins : (text : List ℕ) → 0 < length text → is_blank (get_or text 0 0) ≡ false → EndsRun text → ⊥
-run_begins [] l b e = omega arith
-run_begins (c ∷ text) l b e = true≢false (sym e ∙ b)
 
 -- a run ends where a blank stands
 pub ends_at_blank : (text : List ℕ) (k : ℕ) → k < length text → is_blank (get_or text k 0) ≡ true → EndsRun (drop k text)

@@ -3,10 +3,7 @@ pub mod TokensLeft
 pub mod Meanings
 pub mod Body
 pub mod Refusals
-pub mod Leading
-pub mod Passed
 pub mod HeaderParts
-pub mod Pieces
 pub mod PieceReading
 pub mod PieceSteps
 pub mod FromSlot

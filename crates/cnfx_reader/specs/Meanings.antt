@@ -1,6 +1,6 @@
 -- What the reader says of a token, against the words of the grammar.
 use Rattle.std.specs.Prelude.{◌≡◌, ◌≢◌, ℕ, ℤ, List, [], ◌∷◌, map, ⊤}
-use Rattle.cx_texts.specs.Words.{Word, number, letter, conflict, other, Placed}
+use Rattle.cx_texts.specs.Words.{Word, number, letter, conflict, other, Placed, formula_words_of}
 use Rattle.cx_texts.specs.LiteralTokens.{IsInteger}
 use Rattle.cnfx_reader.specs.declared.body_token.BodyToken.{BodyToken}
 use Rattle.cnfx_reader.specs.declared.body_token.BodyToken.TheVariants as body
@@ -18,6 +18,10 @@ Says (body.Integer i) ws = (z : ℤ) × IsInteger i z × (ws ≡ number z ∷ []
 Says body.Mark ws = ws ≡ letter 120 ∷ []
 Says (body.MarkedInteger i) ws = (z : ℤ) × IsInteger i z × (ws ≡ letter 120 ∷ number z ∷ [])
 Says body.Other ws = (w : Word) × IsStrange w × (ws ≡ w ∷ [])
+
+-- the words of a token's bytes
+abbrev pub SaysOf : BodyToken → List ℕ → Type 0
+SaysOf token text = Says token (formula_words_of text)
 
 -- words at one place
 abbrev pub placed_at : ℕ → List Word → List Placed

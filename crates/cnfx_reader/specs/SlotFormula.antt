@@ -7,8 +7,7 @@ use Rattle.cx_desk.specs.SlotBytes.{BytesState, taken_by, IsToCome, is_too_long}
 use Rattle.cx_texts.specs.declared.offence.Offence.{Offence}
 use Rattle.cnfx_reader.specs.Body.{Outcome}
 use Rattle.cnfx_reader.specs.PieceSteps.{answer_from, IsPhaseIn, IsRefusedBy}
-use Rattle.cnfx_reader.specs.Pieces.{formula_tokens_in}
-use Rattle.cnfx_reader.specs.TokensLeft.{formula_tokens_from}
+use Rattle.cnfx_reader.specs.TokensLeft.{formula_tokens_from, formula_tokens_in}
 use Rattle.cnfx_reader.specs.declared.header_token.HeaderPart.TheVariants.{P}
 use Rattle.cnfx_reader.specs.declared.piece.Phase.TheVariants.{Head}
 use Rattle.cnfx_reader.specs.declared.refusal.ReadRefusal.{ReadRefusal}

@@ -1,25 +1,16 @@
--- What is left of a formula's tokens behind a place of its text. A `%` line ends the text.
-use Rattle.std.specs.Prelude.{ℕ, Bool, true, false, List, [], ◌∷◌, ◌++◌, if◌then◌else◌}
-use Rattle.cx_texts.specs.Tokens.{Token, is_comment, is_end_line, lines_from, tokens_of_line}
+-- What is left of a formula's tokens. A `%` line ends the text.
+use Rattle.std.specs.Prelude.{ℕ, List}
+use Rattle.cx_texts.specs.Tokens.{Token, tokens_from_by, tokens_within_by}
+use Rattle.cx_texts.specs.Pieces.{tokens_in_by}
+use Rattle.cx_texts.specs.declared.line_state.EndLines.TheVariants as end_line
+use Rattle.cx_texts.specs.declared.line_state.LineState.{LineState}
 
--- the tokens of the lines before the first `%` line, without those of comment lines
-abbrev pub kept_tokens : List (List (ℕ × ℕ)) → List Token
-kept_tokens [] = []
-kept_tokens (line ∷ lines) = if is_end_line line then [] else if is_comment line then kept_tokens lines else tokens_of_line line ++ kept_tokens lines
-
--- the same where the first line is kept whatever it begins with, since the text goes on within it
-abbrev pub kept_with_first : List (List (ℕ × ℕ)) → List Token
-kept_with_first [] = []
-kept_with_first (line ∷ lines) = tokens_of_line line ++ kept_tokens lines
-
--- the tokens of a part of a text that begins at a line, at this place, and of one that begins within a kept line
+-- the tokens of a part of a text that begins at a line, at this place; of one that begins within a kept line, or where its reader stands
 abbrev pub formula_tokens_from : ℕ → List ℕ → List Token
-formula_tokens_from place text = kept_tokens (lines_from place text)
+formula_tokens_from place text = tokens_from_by end_line.End place text
 
 abbrev pub formula_tokens_within : ℕ → List ℕ → List Token
-formula_tokens_within place text = kept_with_first (lines_from place text)
+formula_tokens_within place text = tokens_within_by end_line.End place text
 
--- what is left behind a place that lies within a kept line, or at the beginning of a line but for blanks
-abbrev pub formula_tokens_left : Bool → ℕ → List ℕ → List Token
-formula_tokens_left true place text = formula_tokens_within place text
-formula_tokens_left false place text = formula_tokens_from place text
+abbrev pub formula_tokens_in : LineState → ℕ → List ℕ → List Token
+formula_tokens_in line place text = tokens_in_by end_line.End line place text

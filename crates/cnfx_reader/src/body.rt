@@ -10,9 +10,8 @@ ghost use Rattle.cnfx_reader.specs.PieceReading.{PieceTaken, PieceRefused};
 use crate::body_token::BodyToken;
 use crate::pending::Pending;
 use crate::refusal::ReadRefusal;
-use crate::tokens::{BodyTokenAt, FormulaTokens};
 use cx_base::FormulaBuilder;
-use cx_texts::Integer;
+use cx_texts::{Integer, SaidAt, TokenReader};
 
 /// Takes an integer into the constraint that is pending, or ends it.
 #[inline(always)]
@@ -53,7 +52,7 @@ fn take_integer(
 fn take_token(
     builder: &mut FormulaBuilder,
     pending: Pending,
-    at: BodyTokenAt,
+    at: SaidAt<BodyToken>,
 ) -> Result<Pending, ReadRefusal>
     requires { IsPendingIn pending builder.old }
     ensures fits { IfOk result (λ next. IsPendingIn next builder.new) }
@@ -62,7 +61,7 @@ fn take_token(
     ensures err { IfErr result (λ e. (len : ℕ) (words : List Word) (rest : List Placed) → Says at.token words
         → IsEndedBy e (outcome len pending builder.old (placed_at at.place words ++ rest)).ending) }
 {
-    let BodyTokenAt { place, token } = at;
+    let SaidAt { place, token } = at;
     match token {
         BodyToken::Integer(integer) => take_integer(builder, pending, integer, place),
         BodyToken::Mark => match pending {
@@ -87,7 +86,7 @@ pub(crate) struct PieceRead {
 /// Reads the whole tokens of a piece of the body. Where the text may go on, the last of them is kept back: its place tells where
 /// the next piece begins.
 pub(crate) fn read_piece(
-    tokens: &mut FormulaTokens,
+    tokens: &mut TokenReader,
     builder: &mut FormulaBuilder,
     pending: Pending,
     ended: bool,
@@ -96,7 +95,7 @@ pub(crate) fn read_piece(
     ensures { MatchResult result (λ r. PieceTaken pending builder.old tokens.old ended r builder.new) (λ e. PieceRefused pending builder.old tokens.old e) }
 {
     let mut state = pending;
-    let mut last = match tokens.next_in_body() {
+    let mut last = match tokens.next_as::<BodyToken>() {
         Some(at) => at,
         None => {
             return Ok(PieceRead {
@@ -105,7 +104,7 @@ pub(crate) fn read_piece(
             });
         }
     };
-    while let Some(next) = tokens.next_in_body() {
+    while let Some(next) = tokens.next_as::<BodyToken>() {
         state = take_token(builder, state, last)?;
         last = next;
     }
@@ -124,7 +123,7 @@ pub(crate) fn read_piece(
 
 /// Reads the constraints to the end of the text. `len` is the text's length.
 pub(crate) fn read_body(
-    tokens: &mut FormulaTokens,
+    tokens: &mut TokenReader,
     builder: &mut FormulaBuilder,
     pending: Pending,
     len: u64,
@@ -135,7 +134,7 @@ pub(crate) fn read_body(
         (λ e. IsEndedBy e (outcome len pending builder.old (placed_formula_words tokens.old)).ending) }
 {
     let mut state = pending;
-    while let Some(at) = tokens.next_in_body() {
+    while let Some(at) = tokens.next_as::<BodyToken>() {
         state = take_token(builder, state, at)?;
     }
     match state {

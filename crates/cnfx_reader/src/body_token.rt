@@ -2,12 +2,11 @@
 ghost use Rattle.std.specs.Prelude.{◌≡◌, ◌<◌, false, length, slice_index};
 ghost use Rattle.cx_texts.specs.Tokens.{is_blank};
 ghost use Rattle.cx_texts.specs.Words.{formula_words_of};
-ghost use Rattle.cnfx_reader.specs.Meanings.{Says};
-ghost use Rattle.cnfx_reader.specs.Leading.{IsLeading};
+ghost use Rattle.cx_texts.specs.Front.{IsFront};
+ghost use Rattle.cnfx_reader.specs.Meanings.{Says, SaysOf};
 
 use crate::leading_integer::leading_integer;
-use crate::places::run_len;
-use cx_texts::{Integer, read_integer};
+use cx_texts::{Front, FrontToken, Integer, read_integer, run_len};
 
 /// What a token of the body says.
 #[derive(Clone, Copy, Drop)]
@@ -20,14 +19,6 @@ pub(crate) enum BodyToken {
     MarkedInteger(Integer),
     /// Any other token.
     Other,
-}
-
-/// A token at the front of some bytes, how many of them it takes, and whether a blank is known to follow.
-#[derive(Clone, Copy, Drop)]
-pub(crate) struct LeadingToken {
-    pub token: BodyToken,
-    pub len: usize,
-    pub blank_follows: bool,
 }
 
 /// What a whole token says.
@@ -52,13 +43,13 @@ fn read_token(token: &[u8]) -> BodyToken
 }
 
 /// The token at the front, whatever it says.
-fn any_token(text: &[u8]) -> LeadingToken
+fn any_token(text: &[u8]) -> Front<BodyToken>
     requires some { 0 < length text.now }
     requires begins { is_blank (slice_index text.now 0) ≡ false }
-    ensures { IsLeading text.now result }
+    ensures { IsFront SaysOf text.now result }
 {
     let len = run_len(text);
-    LeadingToken {
+    Front {
         token: read_token(&text[..len]),
         len,
         blank_follows: false,
@@ -69,14 +60,14 @@ fn any_token(text: &[u8]) -> LeadingToken
 ///
 /// It stands apart from the path of plain integers, to keep that one short.
 #[inline(never)]
-fn marked_token(text: &[u8]) -> LeadingToken
+fn marked_token(text: &[u8]) -> Front<BodyToken>
     requires some { 0 < length text.now }
     requires begins { is_blank (slice_index text.now 0) ≡ false }
-    ensures { IsLeading text.now result }
+    ensures { IsFront SaysOf text.now result }
 {
     if text[0] == b'x' {
         if let Some(leading) = leading_integer(&text[1..]) {
-            return LeadingToken {
+            return Front {
                 token: BodyToken::MarkedInteger(leading.integer),
                 len: 1 + leading.len,
                 blank_follows: false,
@@ -88,17 +79,26 @@ fn marked_token(text: &[u8]) -> LeadingToken
 
 /// The token at the front. An integer up to the limit takes one pass over its bytes.
 #[inline(always)]
-pub(crate) fn leading_token(text: &[u8]) -> LeadingToken
+fn leading_token(text: &[u8]) -> Front<BodyToken>
     requires some { 0 < length text.now }
     requires begins { is_blank (slice_index text.now 0) ≡ false }
-    ensures { IsLeading text.now result }
+    ensures { IsFront SaysOf text.now result }
 {
     match leading_integer(text) {
-        Some(leading) => LeadingToken {
+        Some(leading) => Front {
             token: BodyToken::Integer(leading.integer),
             len: leading.len,
             blank_follows: true,
         },
         None => marked_token(text),
+    }
+}
+
+impl FrontToken for BodyToken {
+    ghost said = { SaysOf };
+
+    #[inline(always)]
+    fn read(text: &[u8]) -> Front<BodyToken> {
+        leading_token(text)
     }
 }

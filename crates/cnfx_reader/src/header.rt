@@ -5,13 +5,12 @@ ghost use Rattle.cx_texts.specs.FormulaText.{header, behind_p, behind_cnf, behin
 ghost use Rattle.cnfx_reader.specs.HeaderParts.{header_from, IsPartWithin};
 
 use crate::header_token::HeaderPart;
-use crate::tokens::FormulaTokens;
 use cx_base::MAX_VARIABLE;
-use cx_texts::{Offence, read_natural};
+use cx_texts::{Offence, TokenReader, read_natural};
 
 /// Reads the header, and gives its number of variables. `len` is the text's length.
 #[inline(never)]
-pub(crate) fn read_header(tokens: &mut FormulaTokens, len: u64) -> Result<u32, Offence>
+pub(crate) fn read_header(tokens: &mut TokenReader, len: u64) -> Result<u32, Offence>
     ensures within { IfOk result (λ v. v ≤ MAX_VARIABLE) }
     ensures read { MatchResult result (λ v. header len tokens.old ≡ Ok (v, tokens.new)) (λ o. header len tokens.old ≡ Err o) }
 {
@@ -28,7 +27,7 @@ pub(crate) fn read_header(tokens: &mut FormulaTokens, len: u64) -> Result<u32, O
 }
 
 /// Reads `cnf` and the numbers.
-fn read_cnf(tokens: &mut FormulaTokens, len: u64) -> Result<u32, Offence>
+fn read_cnf(tokens: &mut TokenReader, len: u64) -> Result<u32, Offence>
     ensures within { IfOk result (λ v. v ≤ MAX_VARIABLE) }
     ensures read { MatchResult result (λ v. behind_p len tokens.old ≡ Ok (v, tokens.new)) (λ o. behind_p len tokens.old ≡ Err o) }
 {
@@ -45,7 +44,7 @@ fn read_cnf(tokens: &mut FormulaTokens, len: u64) -> Result<u32, Offence>
 }
 
 /// Reads the number of variables and the number behind it.
-fn read_numbers(tokens: &mut FormulaTokens, len: u64) -> Result<u32, Offence>
+fn read_numbers(tokens: &mut TokenReader, len: u64) -> Result<u32, Offence>
     ensures within { IfOk result (λ v. v ≤ MAX_VARIABLE) }
     ensures read { MatchResult result (λ v. behind_cnf len tokens.old ≡ Ok (v, tokens.new)) (λ o. behind_cnf len tokens.old ≡ Err o) }
 {
@@ -64,7 +63,7 @@ fn read_numbers(tokens: &mut FormulaTokens, len: u64) -> Result<u32, Offence>
 }
 
 /// Reads the number of constraints, which has no meaning.
-fn read_count(tokens: &mut FormulaTokens, len: u64, vars: u32) -> Result<u32, Offence>
+fn read_count(tokens: &mut TokenReader, len: u64, vars: u32) -> Result<u32, Offence>
     requires { vars ≤ MAX_VARIABLE }
     ensures within { IfOk result (λ v. v ≤ MAX_VARIABLE) }
     ensures read { MatchResult result (λ v. behind_count len vars tokens.old ≡ Ok (v, tokens.new)) (λ o. behind_count len vars tokens.old ≡ Err o) }
@@ -80,7 +79,7 @@ fn read_count(tokens: &mut FormulaTokens, len: u64, vars: u32) -> Result<u32, Of
 
 /// Reads the header from one of its tokens on.
 pub(crate) fn read_header_from(
-    tokens: &mut FormulaTokens,
+    tokens: &mut TokenReader,
     part: HeaderPart,
     len: u64,
 ) -> Result<u32, Offence>

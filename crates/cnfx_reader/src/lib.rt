@@ -10,12 +10,9 @@ mod header_token;
 mod leading_integer;
 mod pending;
 mod piece;
-mod pieces;
-mod places;
 mod read;
 mod refusal;
 mod slot_formula;
-mod tokens;
 
 pub use from_refusal::FromRefusal;
 pub use read::read_formula;

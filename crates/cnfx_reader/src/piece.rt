@@ -13,11 +13,9 @@ use crate::body::{read_body, read_piece};
 use crate::header::read_header_from;
 use crate::header_token::{HeaderPart, HeaderStep, take_header_token};
 use crate::pending::Pending;
-use crate::places::run_len;
 use crate::refusal::ReadRefusal;
-use crate::tokens::FormulaTokens;
 use cx_base::FormulaBuilder;
-use cx_texts::{TokenAt, whole_front};
+use cx_texts::{EndLines, TokenAt, TokenReader, run_len, whole_front};
 
 /// How far the reading of a formula has come.
 #[derive(Clone, Copy, Drop)]
@@ -37,7 +35,7 @@ pub(crate) struct Taken {
 
 /// Takes the tokens of the body but the last, if there are any.
 fn take_body(
-    tokens: &mut FormulaTokens,
+    tokens: &mut TokenReader,
     builder: &mut FormulaBuilder,
     vars: u32,
     pending: Pending,
@@ -78,7 +76,7 @@ fn take_piece(
         Phase::Head(_) => Ok(none),
         Phase::Body(vars, pending) => {
             let len = whole_front(bytes);
-            let mut tokens = FormulaTokens::within(&bytes[..len], place);
+            let mut tokens = TokenReader::within(&bytes[..len], place, EndLines::End);
             match take_body(&mut tokens, builder, vars, pending) {
                 Ok(Some(taken)) => Ok(taken),
                 Ok(None) => Ok(none),
@@ -119,7 +117,7 @@ fn take_token(
     match phase {
         Phase::Head(part) => take_head(part, TokenAt { place, text: token }),
         Phase::Body(vars, pending) => {
-            let mut tokens = FormulaTokens::within(token, place);
+            let mut tokens = TokenReader::within(token, place, EndLines::End);
             match read_piece(&mut tokens, builder, pending, true) {
                 Ok(read) => Ok(Phase::Body(vars, read.pending)),
                 Err(refusal) => Err(refusal),
@@ -202,7 +200,7 @@ pub(crate) fn take_rest(
         (λ v. IsWhole v builder.new (answer_from phase len builder.old (formula_tokens_within place bytes.now)))
         (λ e. IsRefusedBy e (answer_from phase len builder.old (formula_tokens_within place bytes.now))) }
 {
-    let mut tokens = FormulaTokens::within(bytes, place);
+    let mut tokens = TokenReader::within(bytes, place, EndLines::End);
     match phase {
         Phase::Head(part) => {
             let vars = read_header_from(&mut tokens, part, len)?;

@@ -5,8 +5,8 @@ use crate::body::read_body;
 use crate::header::read_header;
 use crate::pending::Pending;
 use crate::refusal::ReadRefusal;
-use crate::tokens::FormulaTokens;
 use cx_base::{Formula, FormulaBuilder};
+use cx_texts::{EndLines, TokenReader};
 use std::alloc::Global;
 
 /// Reads a formula of clauses and parities: DIMACS CNF with x-lines.
@@ -19,7 +19,7 @@ pub fn read_formula(alloc: Global, text: &[u8]) -> Result<Formula, ReadRefusal>
     ensures { ReadsTo text.now result }
 {
     let len = text.len() as u64;
-    let mut tokens = FormulaTokens::new(text);
+    let mut tokens = TokenReader::new(text, EndLines::End);
     let vars = read_header(&mut tokens, len)?;
     let mut builder = FormulaBuilder::new(alloc);
     read_body(&mut tokens, &mut builder, Pending::Nothing, len)?;

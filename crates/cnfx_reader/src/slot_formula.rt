@@ -7,19 +7,17 @@ ghost use Rattle.cx_desk.specs.declared.desk.Slot.{Slot as SlotOf};
 ghost use Rattle.cx_texts.specs.declared.line_state.LineState.TheVariants.{Kept};
 ghost use Rattle.cnfx_reader.specs.FromSlot.{ReadsFrom, formula_of};
 ghost use Rattle.cnfx_reader.specs.PieceSteps.{IsPhaseIn, IsRefusedBy};
-ghost use Rattle.cnfx_reader.specs.Pieces.{formula_tokens_in};
 ghost use Rattle.cnfx_reader.specs.SlotFormula.{answer_of, GoesOn, HasRead, IsRefusedIn};
-ghost use Rattle.cnfx_reader.specs.TokensLeft.{formula_tokens_within};
+ghost use Rattle.cnfx_reader.specs.TokensLeft.{formula_tokens_in, formula_tokens_within};
 ghost use Rattle.cnfx_reader.specs.declared.slot_formula.SlotFormula.{SlotFormula as State};
 
 use crate::from_refusal::FromRefusal;
 use crate::header_token::HeaderPart;
 use crate::piece::{Phase, take_rest, take_some};
-use crate::pieces::pass_blanks;
 use crate::refusal::ReadRefusal;
 use cx_base::{Formula, FormulaBuilder};
 use cx_desk::{Desk, Slot, SlotBytes};
-use cx_texts::LineState;
+use cx_texts::{EndLines, LineState, pass_blanks};
 use std::alloc::Global;
 
 /// What was read of a slot and not taken yet, and the formula that is made of what was.
@@ -62,7 +60,7 @@ impl SlotFormula {
         ensures line { IsFalse result → self.new.bytes.bytes ≢ [] → self.new.line ≡ Kept }
         ensures end { IsTrue result → (more : Bytes) → formula_tokens_in self.new.line self.new.bytes.place (self.new.bytes.bytes ++ more) ≡ [] }
     {
-        let stop = pass_blanks(self.bytes.bytes(), self.line);
+        let stop = pass_blanks(self.bytes.bytes(), self.line, EndLines::End);
         self.bytes.pass(stop.at);
         self.line = stop.line;
         stop.is_end

@@ -8,6 +8,7 @@ pub mod LaterPlaces
 pub mod Lines
 pub mod LogSteps
 pub mod PieceLaws
+pub mod PlaceLaws
 pub mod PrintedLogs
 pub mod PrintedProofs
 pub mod PrintedWords

@@ -1,9 +1,13 @@
 -- Parts of a text between two places.
 use Rattle.std.proofs.Common.{◌≡◌, refl, sym, ap, ◌∙◌, subst, ℕ, ◌+◌, ◌-◌, ◌<◌, ◌≤◌, Bool, true, false, List, [], ◌∷◌, ◌++◌, length, get_or, take, drop, arith, length-take, length-drop, take-append-drop, drop-drop, get_or-take, get_or-drop, ◌==◌, inl, inr, add-sub_of_le, min, eqb}
-use Rattle.std.proofs.lemmas.List.{drop_more, drop_all}
+use Rattle.std.proofs.lemmas.List.{drop_more, drop_all, take_all}
 use Rattle.std.proofs.lemmas.List.Elements.{recursion_from_All, All-from_get_or}
 use Rattle.std.specs.List.{AllByRecursion}
 use Rattle.cx_texts.specs.Tokens.{SkipsLine}
+
+-- the part behind a place, as `&text[n..]` has it
+pub part_behind : (text : List ℕ) (n : ℕ) → take (length text - n) (drop n text) ≡ drop n text
+part_behind text n = take_all (length text - n) (drop n text) (omega (arith, length-drop n text))
 
 pub part_at : (text : List ℕ) (at end k : ℕ) → at ≤ end → k < end - at → get_or (take (end - at) (drop at text)) k 0 ≡ get_or text (at + k) 0
 part_at text at end k h l = get_or-take (end - at) (drop at text) k 0 l ∙ get_or-drop at text k 0

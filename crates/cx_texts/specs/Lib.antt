@@ -9,3 +9,5 @@ pub mod Tokens
 pub mod Words
 pub mod Laws
 pub mod Pieces
+pub mod Passed
+pub mod Front

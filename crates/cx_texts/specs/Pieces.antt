@@ -1,25 +1,38 @@
 -- A text that is read in pieces: what its reader stands in between two bytes, and the tokens from there on.
-use Rattle.std.specs.Prelude.{◌≡◌, ℕ, Bool, true, List, [], ◌∷◌, Option, Some, None, if◌then◌else◌, ◌==◌}
-use Rattle.cx_texts.specs.Tokens.{Token, is_blank, lines_from, tokens_of_lines, tokens_from, tokens_within}
+use Rattle.std.specs.Prelude.{◌≡◌, ℕ, Bool, true, List, [], ◌∷◌, if◌then◌else◌, ◌==◌}
+use Rattle.cx_texts.specs.Tokens.{Token, is_blank, lines_from, tokens_by, tokens_from_by, tokens_within_by}
+use Rattle.cx_texts.specs.declared.line_state.Behind.{Behind}
+use Rattle.cx_texts.specs.declared.line_state.Behind.TheVariants.{Line, Token as AToken, End}
+use Rattle.cx_texts.specs.declared.line_state.EndLines.{EndLines}
+use Rattle.cx_texts.specs.declared.line_state.EndLines.TheVariants as end_line
 use Rattle.cx_texts.specs.declared.line_state.LineState.{LineState}
 use Rattle.cx_texts.specs.declared.line_state.LineState.TheVariants.{Start, Kept, Comment}
 
 -- the tokens of all lines but the first, which is dropped
-abbrev pub tokens_but_first : List (List (ℕ × ℕ)) → List Token
-tokens_but_first [] = []
-tokens_but_first (line ∷ lines) = tokens_of_lines lines
+abbrev pub but_first_by : EndLines → List (List (ℕ × ℕ)) → List Token
+but_first_by rule [] = []
+but_first_by rule (line ∷ lines) = tokens_by rule lines
 
 -- the tokens of what is left of a text at this place, where its reader stands in such a line
-abbrev pub tokens_in : LineState → ℕ → List ℕ → List Token
-tokens_in Start place text = tokens_from place text
-tokens_in Kept place text = tokens_within place text
-tokens_in Comment place text = tokens_but_first (lines_from place text)
+abbrev pub tokens_in_by : EndLines → LineState → ℕ → List ℕ → List Token
+tokens_in_by rule Start place text = tokens_from_by rule place text
+tokens_in_by rule Kept place text = tokens_within_by rule place text
+tokens_in_by rule Comment place text = but_first_by rule (lines_from place text)
 
--- what the reader stands in behind a byte, if that begins no token
-abbrev pub behind_byte : LineState → ℕ → Option LineState
-behind_byte Start b = if is_blank b then Some Start else if b == 99 then Some Comment else None
-behind_byte Kept b = if is_blank b then if b == 10 then Some Start else Some Kept else None
-behind_byte Comment b = if b == 10 then Some Start else Some Comment
+-- the same where `%` lines are as any others
+abbrev pub tokens_in : LineState → ℕ → List ℕ → List Token
+tokens_in line place text = tokens_in_by end_line.Kept line place text
+
+-- what a `%` does where a line may begin
+abbrev pub behind_percent : EndLines → Behind
+behind_percent end_line.Kept = AToken
+behind_percent end_line.End = End
+
+-- a byte leaves a state, begins a token, or ends the text
+abbrev pub behind_byte : EndLines → LineState → ℕ → Behind
+behind_byte rule Start b = if is_blank b then Line Start else if b == 99 then Line Comment else if b == 37 then behind_percent rule else AToken
+behind_byte rule Kept b = if is_blank b then if b == 10 then Line Start else Line Kept else AToken
+behind_byte rule Comment b = if b == 10 then Line Start else Line Comment
 
 -- whether the last byte is a blank, or else what is said of no byte
 abbrev pub last_is_blank : Bool → List ℕ → Bool

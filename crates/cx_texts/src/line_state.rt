@@ -1,6 +1,6 @@
 //! What a reader of lines stands in between two bytes.
 ghost use Rattle.std.specs.Prelude.{◌≡◌};
-ghost use Rattle.cx_texts.specs.Pieces.{behind_byte};
+ghost use Rattle.cx_texts.specs.Pieces.{behind_byte, behind_percent};
 
 use crate::token_reader::is_blank_byte;
 
@@ -15,36 +15,68 @@ pub enum LineState {
     Comment,
 }
 
-/// The state behind a byte, or none where the byte begins a token.
-pub fn behind_byte(line: LineState, byte: u8) -> Option<LineState>
-    ensures { result ≡ behind_byte line byte }
+/// The rule of `%` lines, whose first byte that is no blank is `%`.
+#[derive(Clone, Copy, Debug, PartialEq, Eq, Drop)]
+pub enum EndLines {
+    /// They are kept as any others.
+    Kept,
+    /// The first of them ends the text.
+    End,
+}
+
+/// What a byte does to a reader of lines.
+#[derive(Clone, Copy, Drop)]
+pub(crate) enum Behind {
+    /// It stands in such a line.
+    Line(LineState),
+    /// A token begins with the byte.
+    Token,
+    /// The text ends: what is behind the byte has no meaning.
+    End,
+}
+
+/// What a `%` does where a line may begin.
+fn behind_percent(end_lines: EndLines) -> Behind
+    ensures { result ≡ behind_percent end_lines }
+{
+    match end_lines {
+        EndLines::Kept => Behind::Token,
+        EndLines::End => Behind::End,
+    }
+}
+
+/// What stands behind a byte.
+pub(crate) fn behind_byte(line: LineState, byte: u8, end_lines: EndLines) -> Behind
+    ensures { result ≡ behind_byte end_lines line byte }
 {
     match line {
         LineState::Start => {
             if is_blank_byte(byte) {
-                Some(LineState::Start)
-            } else if byte == b'c' {
-                Some(LineState::Comment)
+                Behind::Line(LineState::Start)
             } else {
-                None
+                match byte {
+                    b'c' => Behind::Line(LineState::Comment),
+                    b'%' => behind_percent(end_lines),
+                    _ => Behind::Token,
+                }
             }
         }
         LineState::Kept => {
             if is_blank_byte(byte) {
                 if byte == b'\n' {
-                    Some(LineState::Start)
+                    Behind::Line(LineState::Start)
                 } else {
-                    Some(LineState::Kept)
+                    Behind::Line(LineState::Kept)
                 }
             } else {
-                None
+                Behind::Token
             }
         }
         LineState::Comment => {
             if byte == b'\n' {
-                Some(LineState::Start)
+                Behind::Line(LineState::Start)
             } else {
-                Some(LineState::Comment)
+                Behind::Line(LineState::Comment)
             }
         }
     }

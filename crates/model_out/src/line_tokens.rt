@@ -3,7 +3,7 @@ ghost use Rattle.std.specs.Prelude.{◌≡◌, [], ◌∷◌, take, MatchOption}
 ghost use Rattle.model_out.specs.LineTokens.{at_line_begin, line_tokens};
 ghost use Rattle.model_out.specs.Reading.{seen};
 
-use cx_texts::{TokenReader, is_blank_byte};
+use cx_texts::{EndLines, TokenReader, is_blank_byte};
 use std::marker::Model;
 
 /// A token, the place of its first byte, and whether it is the first of its line.
@@ -62,7 +62,7 @@ impl<'a> LineTokens<'a> {
     {
         LineTokens {
             text,
-            tokens: TokenReader::new(text),
+            tokens: TokenReader::new(text, EndLines::Kept),
         }
     }
 

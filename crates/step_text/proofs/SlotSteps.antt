@@ -8,6 +8,7 @@ use Rattle.cx_texts.specs.Words.{Placed, words, placed_words, word_of}
 use Rattle.cx_texts.specs.Grammar.{Grammar, IsStep, Begins, Stops, Spells, FirstBad, FirstBig}
 use Rattle.cx_texts.proofs.Forms.{Forms}
 use Rattle.cx_texts.proofs.Readings.{no_step_of_nothing}
+use Rattle.cx_texts.specs.declared.line_state.EndLines.TheVariants as end_line
 use Rattle.cx_texts.proofs.PieceLaws.{cut_behind_blank, StandsAt, left_from_token}
 use Rattle.step_text.specs.declared.source.TextRefusal.{TextRefusal}
 use Rattle.step_text.specs.declared.source.TextRefusal.TheVariants.{BadToken, Unterminated, TooBig, TooLong, Memory, Failed}
@@ -120,7 +121,7 @@ module _ (ended : Bool) (place len : ℕ) (bytes : List ℕ) (tokens : List Toke
       go : (x : Bool) → ended ≡ x → More more
       go true e = ([], ap (tokens_within place) (ap (λ m. bytes ++ m) (none e) ∙ append-nil bytes ∙ sym (take_whole len bytes (look.all e))) ∙ sym look.are ∙ sym (append-nil tokens))
       go false e =
-          let cut = cut_behind_blank Kept place (take len bytes) (drop len bytes ++ more) (look.blank e) in
+          let cut = cut_behind_blank end_line.Kept Kept place (take len bytes) (drop len bytes ++ more) (look.blank e) in
           (cut.0, ap (tokens_within place) (ap (λ b. b ++ more) (sym (take-append-drop len bytes)) ∙ append_assoc (take len bytes) (drop len bytes) more) ∙ cut.1 ∙ ap (λ ts. ts ++ cut.0) (sym look.are))
 
   module _ {S : Type 0} (g : Grammar S) (all : Forms g) where
@@ -149,7 +150,7 @@ module _ (ended : Bool) (place len : ℕ) (bytes : List ℕ) (tokens : List Toke
     no_step_at_front s old new h e = no_step_of_nothing g all s (subst (λ f. IsStep g (words f) s) e h.step)
 
     starts_later : (s : S) (next : Token) (rest : List Token) (h : Spells g s (placed_words tokens) (placed_words (next ∷ rest))) (t : TokenOf tokens h.front (placed_of next) (placed_words rest))
-        (here : StandsAt place (take len bytes) t.token t.others) → (k : ℕ) → here.behind ≡ k → 0 < k
+        (here : StandsAt end_line.Kept place (take len bytes) t.token t.others) → (k : ℕ) → here.behind ≡ k → 0 < k
     starts_later s next rest h t here (suc k) e = omega arith
     starts_later s next rest h t here zero e =
         let at : place ≡ t.token.place = omega (arith, here.at, e) in
@@ -162,7 +163,7 @@ module _ (ended : Bool) (place len : ℕ) (bytes : List ℕ) (tokens : List Toke
     step_before_token s next rest h =
         let t = token_of_word tokens h.front (placed_of next) (placed_words rest) h.split in
         let at : t.token.place ≡ next.place = ap (λ (p : Placed). p.place) t.word_at in
-        let here = left_from_token Kept place (take len bytes) t.before t.token t.others (sym look.are ∙ t.split) in
+        let here = left_from_token end_line.Kept Kept place (take len bytes) t.before t.token t.others (sym look.are ∙ t.split) in
         let behind : next.place ≡ place + here.behind = sym at ∙ here.at in
         let high : here.behind < len = omega (arith, here.inside, length-take len bytes) in
         let inside : here.behind ≤ length bytes = omega (arith, high, look.within) in
@@ -173,7 +174,7 @@ module _ (ended : Bool) (place len : ℕ) (bytes : List ℕ) (tokens : List Toke
           inside = inside;
           spells = λ more none.
               let f = followed more none in
-              let there = left_from_token Kept place (bytes ++ more) t.before t.token (t.others ++ f.0) (f.1 ∙ ap (λ ts. ts ++ f.0) t.split ∙ append_assoc t.before (t.token ∷ t.others) f.0) in
+              let there = left_from_token end_line.Kept Kept place (bytes ++ more) t.before t.token (t.others ++ f.0) (f.1 ∙ ap (λ ts. ts ++ f.0) t.split ∙ append_assoc t.before (t.token ∷ t.others) f.0) in
               let same : there.behind ≡ here.behind = omega (arith, there.at, here.at) in
               let bytes_left : drop there.behind (bytes ++ more) ≡ drop here.behind bytes ++ more = ap (λ n. drop n (bytes ++ more)) same ∙ drop-append-le here.behind bytes more inside in
               let left : tokens_within next.place (drop here.behind bytes ++ more) ≡ t.token ∷ (t.others ++ f.0) = (λ i. tokens_within (sym at i) (sym bytes_left i)) ∙ there.left in

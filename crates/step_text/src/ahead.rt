@@ -5,7 +5,7 @@ ghost use Rattle.cx_texts.specs.Words.{is_digit, placed_words};
 ghost use Rattle.step_text.specs.Heads.{seen_head, is_head_letter, head_place};
 
 use crate::token_word::{TokenWord, see};
-use cx_texts::{TokenAt, TokenReader};
+use cx_texts::{EndLines, TokenAt, TokenReader};
 use std::marker::Model;
 
 /// A word and the place of its token.
@@ -40,7 +40,7 @@ impl<'a> TokensAhead<'a> {
     pub fn new(text: &'a [u8]) -> TokensAhead<'a>
         ensures { result ≡ tokens text.now }
     {
-        let mut reader = TokenReader::new(text);
+        let mut reader = TokenReader::new(text, EndLines::Kept);
         let token = reader.next_token();
         TokensAhead { token, reader }
     }
@@ -50,7 +50,7 @@ impl<'a> TokensAhead<'a> {
         requires { place + length text.now < 2 ^ 64 }
         ensures { result ≡ tokens_within place text.now }
     {
-        let mut reader = TokenReader::within(text, place);
+        let mut reader = TokenReader::within(text, place, EndLines::Kept);
         let token = reader.next_token();
         TokensAhead { token, reader }
     }

@@ -14,7 +14,7 @@ use crate::ahead::TokensAhead;
 use crate::grammar::StepGrammar;
 use crate::source::TextRefusal;
 use cx_desk::{Desk, DrainErr, Slot, SlotBytes};
-use cx_texts::{LineState, pass_blanks, whole_front};
+use cx_texts::{EndLines, LineState, pass_blanks, whole_front};
 use std::alloc::Global;
 use std::marker::{Model, PhantomData};
 
@@ -163,7 +163,7 @@ where
         ensures taken { taken_by self.new ≡ taken_by self.old }
         ensures ended { self.new.ended ≡ self.old.ended }
     {
-        let stop = pass_blanks(self.bytes.bytes(), self.line);
+        let stop = pass_blanks(self.bytes.bytes(), self.line, EndLines::Kept);
         self.bytes.pass(stop.at);
         self.line = stop.line;
     }

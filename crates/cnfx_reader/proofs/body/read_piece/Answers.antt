@@ -10,11 +10,11 @@ use Rattle.cnfx_reader.proofs.body.read_piece.Goals as goal
 pub loop-next-preserved : goal.loop-next-preserved
 loop-next-preserved c =
     let inv = c.loop-next.invariant in
-    let next = c.in-Some-next_in_body.ensures in
+    let next = c.in-Some-next_as.ensures in
     let token : Token = record { place = c.loop-next.last.place; text = inv.text } in
     let here = placed_at c.loop-next.last.place (formula_words_of inv.text) in
-    let tokens = c.next_in_body-in-loop-next.new.self in
-    let other : Token = record { place = c.in-Some-next_in_body.next.place; text = next.0 } in
+    let tokens = c.next_as-in-loop-next.new.self in
+    let other : Token = record { place = c.in-Some-next_as.next.place; text = next.0 } in
     record {
       text = next.0;
       before = inv.before ++ token ∷ [];

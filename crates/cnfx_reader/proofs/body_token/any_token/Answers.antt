@@ -2,7 +2,7 @@ use Rattle.std.proofs.Common.{◌≡◌, subst, arith, rules, drop, inl, inr}
 use Rattle.std.proofs.lemmas.Bool.{cases_lt}
 use Rattle.std.proofs.lemmas.Grind.{common_steps}
 use Rattle.cx_texts.specs.Tokens.{EndsRun}
-use Rattle.cnfx_reader.proofs.WordLaws.{run_begins}
+use Rattle.cx_texts.proofs.TokenLaws.{run_begins}
 use Rattle.cnfx_reader.proofs.body_token.any_token.Goals as goal
 
 pub returns : goal.returns

@@ -1,7 +1,7 @@
 use Rattle.std.proofs.Common.{◌≡◌, ◌∙◌, sym, ap, subst, arith, rules, suc, ◌+◌, ◌≤◌, drop, take, length, length-drop, drop-drop}
 use Rattle.cx_texts.specs.Tokens.{NoBlank, EndsRun}
 use Rattle.cx_texts.specs.Words.{integer, formula_words_of}
-use Rattle.cnfx_reader.proofs.FrontLaws.{part_behind}
+use Rattle.cx_texts.proofs.Slices.{part_behind}
 use Rattle.cnfx_reader.proofs.WordLaws.{joined_token, ends_at_blank, run_more}
 use Rattle.cnfx_reader.proofs.body_token.marked_token.Goals as goal
 

@@ -1,24 +1,24 @@
-use Rattle.std.proofs.Common.{◌≡◌, ◌∙◌, ap, sym, subst, arith, ◌+◌, ◌-◌, ◌∷◌, map, take, drop}
-use Rattle.cx_texts.specs.Tokens.{tokens_left, tokens_within, EndsRun}
-use Rattle.cx_texts.proofs.LaterPlaces.{later, tokens_left-later}
-use Rattle.cx_texts.proofs.TokenLaws.{next_run, no_run, token_at}
+use Rattle.std.proofs.Common.{[], rules, ◌≡◌, ◌∙◌, sym, ap, arith, ◌+◌, ◌-◌, ◌∷◌, true, map, drop, take}
+use Rattle.cx_texts.specs.Tokens.{tokens_within_by}
+use Rattle.cx_texts.proofs.LaterPlaces.{later, left-later}
+use Rattle.cx_texts.proofs.TokenLaws.{token_at, next_part}
 use Rattle.cx_texts.proofs.token_reader.TokenReader.next_token.Goals as goal
-use Rattle.cx_texts.proofs.token_reader.TokenReader.next_token.Goals.{then-place-end, else-place-end}
 
 pub returns : goal.returns
 returns c =
     let r = c.self.inside in
     let text = r.text.now in
-    let place = c.skip-place.result in
-    let end = c.run_end-end.result in
-    let is = sym c.self.view_is ∙ tokens_left-later r.in_line r.from r.at (drop r.at text) ∙ ap (map (later r.from)) c.skip-place.ensures.left in
-    elim c.if-place-end.branch [
-      | then-place-end w ↦
-          rw w.result-is (is ∙ ap (map (later r.from)) (next_run text place end w.if-place-end.true c.run_end-end.ensures.high c.run_end-end.ensures.run c.run_end-end.ensures.ends)
-          ∙ ap (λ ts. token_at (r.from + place) (take (end - place) (drop place text)) ∷ ts) (sym (tokens_left-later Rattle.std.proofs.Common.true r.from end (drop end text))))
-      | else-place-end w ↦
-          let same : end ≡ place = omega (arith, c.run_end-end.ensures.low, w.if-place-end.false) in
-          let nothing = no_run text place c.skip-place.ensures.high (subst (λ n. EndsRun (drop n text)) same c.run_end-end.ensures.ends) c.skip-place.ensures.begins in
-          let now = tokens_left-later Rattle.std.proofs.Common.true r.from end (drop end text) ∙ ap (map (later r.from)) (ap (λ n. tokens_within n (drop n text)) same ∙ nothing) in
-          rw w.result-is (is ∙ ap (map (later r.from)) nothing, now)
-    ]
+    let at = c.in_ok-at.at in
+    let run = c.run_len-len in
+    let found = c.in_ok-at.ensures.found in
+    let size : run.result ≡ (at + run.result) - at = omega arith in
+    sym c.self.view_is ∙ left-later r.end_lines r.place.in_line r.from r.place.at (drop r.place.at text)
+    ∙ ap (map (later r.from)) (found.2 ∙ next_part r.end_lines text at run.result found.0 found.1 run.ensures.high run.ensures.run run.ensures.ends)
+    ∙ ap (λ ts. token_at (r.from + at) (take run.result (drop at text)) ∷ ts) (sym (left-later r.end_lines true r.from (at + run.result) (drop (at + run.result) text)))
+    ∙ ap (λ n. token_at (r.from + at) (take n (drop at text)) ∷ tokens_within_by r.end_lines (r.from + (at + run.result)) (drop (at + run.result) text)) size
+
+pub returns-in_err-at : goal.returns-in_err-at
+returns-in_err-at c =
+    let r = c.self.inside in
+    let nothing : c.args.self.now ≡ [] = sym c.self.view_is ∙ left-later r.end_lines r.place.in_line r.from r.place.at (drop r.place.at r.text.now) ∙ ap (map (later r.from)) c.in_err-at.ensures.none in
+    search rules

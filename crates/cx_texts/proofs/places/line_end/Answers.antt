@@ -2,7 +2,7 @@ use Rattle.std.proofs.Common.{◌≡◌, ◌∙◌, sym, ap, ℕ, ◌+◌, ◌-�
 use Rattle.std.proofs.lemmas.Bool.{eqb-true, false_from_ne_true}
 use Rattle.memchr.specs.Find.{Nowhere, Passes, is_byte}
 use Rattle.cx_texts.proofs.Slices.{part_at, part_length, line_at_feed, line_at_end}
-use Rattle.cx_texts.proofs.token_reader.line_end.Goals as goal
+use Rattle.cx_texts.proofs.places.line_end.Goals as goal
 
 -- what stands behind a place
 abbrev behind : List ℕ → ℕ → List ℕ

@@ -1,10 +1,12 @@
-//! Where the tokens of a formula begin and end.
+//! Where the tokens of a text begin and end, by a rule of `%` lines.
 ghost use Rattle.std.specs.Prelude.{◌≡◌, ◌≤◌, ◌<◌, ◌+◌, true, false, IsTrue, length, drop, take, slice_index, IfSome, IfNone, []};
-ghost use Rattle.cx_texts.specs.Tokens.{is_blank, NoBlank, EndsRun};
-ghost use Rattle.cnfx_reader.specs.TokensLeft.{formula_tokens_left, formula_tokens_within};
-ghost use Rattle.cnfx_reader.specs.Passed.{IsPassed, left_at};
+ghost use Rattle.cx_texts.specs.Tokens.{is_blank, tokens_left_by, tokens_within_by, NoBlank, EndsRun, SkipsLine};
+ghost use Rattle.cx_texts.specs.Passed.{IsPassed, left_at};
+ghost use Rattle.cx_texts.specs.declared.line_state.EndLines.{EndLines as Rule};
 
-use cx_texts::{is_blank_byte, line_end};
+use crate::line_state::EndLines;
+use crate::token_reader::is_blank_byte;
+use memchr::memchr;
 
 /// A place in a text, and whether it lies within a kept line.
 ///
@@ -22,12 +24,12 @@ pub(crate) enum Passed {
     To(Place),
     /// A token begins.
     Token,
-    /// A `%` line, which ends the text.
+    /// A `%` line that ends the text.
     End,
 }
 
 /// The length of the run of bytes that are no blanks, at the front.
-pub(crate) fn run_len(text: &[u8]) -> usize
+pub fn run_len(text: &[u8]) -> usize
     ensures high { result ≤ length text.now }
     ensures run { NoBlank (take result text.now) }
     ensures ends { EndsRun (drop result text.now) }
@@ -39,11 +41,27 @@ pub(crate) fn run_len(text: &[u8]) -> usize
     len
 }
 
+/// The place behind the line that goes on here.
+// A long way off the path of tokens, which is to stay short.
+#[inline(never)]
+fn line_end(text: &[u8], at: usize) -> usize
+    requires { at ≤ length text.now }
+    ensures low { at ≤ result }
+    ensures high { result ≤ length text.now }
+    ensures skipped { SkipsLine at (drop at text.now) result (drop result text.now) }
+{
+    match memchr(b'\n', &text[at..]) {
+        Some(len) => at + len + 1,
+        None => text.len(),
+    }
+}
+
 /// Passes over a blank or a comment line, if one stands here.
+#[tactic(auto, using(crate::proofs::PlaceLaws::feed_passed, crate::proofs::PlaceLaws::blank_passed, crate::proofs::PlaceLaws::first_blank_passed, crate::proofs::PlaceLaws::token_first, crate::proofs::PlaceLaws::percent_kept, crate::proofs::PlaceLaws::percent_ends))]
 #[inline(always)]
-fn pass(text: &[u8], from: Place) -> Passed
+fn pass(text: &[u8], from: Place, end_lines: EndLines) -> Passed
     requires { from.at < length text.now }
-    ensures { IsPassed text.now from result }
+    ensures { IsPassed end_lines text.now from result }
 {
     let byte = text[from.at];
     if is_blank_byte(byte) {
@@ -60,22 +78,25 @@ fn pass(text: &[u8], from: Place) -> Passed
             at: line_end(text, from.at + 1),
             in_line: false,
         }),
-        b'%' => Passed::End,
+        b'%' => match end_lines {
+            EndLines::Kept => Passed::Token,
+            EndLines::End => Passed::End,
+        },
         _ => Passed::Token,
     }
 }
 
 /// The place where the next token begins, if there is one.
 #[inline(always)]
-pub(crate) fn next_begin(text: &[u8], from: Place) -> Option<usize>
+pub(crate) fn next_begin(text: &[u8], from: Place, end_lines: EndLines) -> Option<usize>
     requires { from.at ≤ length text.now }
     ensures found { IfSome result (λ at. (at < length text.now) × (is_blank (slice_index text.now at) ≡ false)
-        × (formula_tokens_left from.in_line from.at (drop from.at text.now) ≡ formula_tokens_within at (drop at text.now))) }
-    ensures none { IfNone result (formula_tokens_left from.in_line from.at (drop from.at text.now) ≡ []) }
+        × (tokens_left_by end_lines from.in_line from.at (drop from.at text.now) ≡ tokens_within_by end_lines at (drop at text.now))) }
+    ensures none { IfNone result (tokens_left_by end_lines from.in_line from.at (drop from.at text.now) ≡ []) }
 {
     let mut place = from;
     while place.at < text.len() {
-        match pass(text, place) {
+        match pass(text, place, end_lines) {
             Passed::To(next) => place = next,
             Passed::Token => return Some(place.at),
             Passed::End => return None,
@@ -85,12 +106,13 @@ pub(crate) fn next_begin(text: &[u8], from: Place) -> Option<usize>
 }
 
 /// The place behind a token that ends here, or behind the blank that follows it, where one is known to.
+#[tactic(auto, using(crate::proofs::PlaceLaws::feed_passed, crate::proofs::PlaceLaws::blank_passed))]
 #[inline(always)]
 pub(crate) fn behind_token(text: &[u8], end: usize, blank_follows: bool) -> Place
     requires high { end ≤ length text.now }
     requires follows { IsTrue blank_follows → (end < length text.now) × (is_blank (slice_index text.now end) ≡ true) }
     ensures high { result.at ≤ length text.now }
-    ensures left { formula_tokens_within end (drop end text.now) ≡ left_at text.now result }
+    ensures left { (rule : Rule) → tokens_within_by rule end (drop end text.now) ≡ left_at rule text.now result }
 {
     if blank_follows {
         Place {
