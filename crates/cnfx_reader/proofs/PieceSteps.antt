@@ -1,26 +1,22 @@
 -- What the whole tokens of a piece tell, whatever follows the piece.
-use Rattle.std.proofs.Common.{◌≡◌, refl, sym, ap, ◌∙◌, subst, ℕ, ◌+◌, ◌<◌, ◌≤◌, false, List, [], ◌∷◌, ◌++◌, length, take, drop, Option, Some, None, Result, Ok, Err, IfOk, MatchResult, arith, append_assoc, append-nil, length-take, length-drop, take-append-drop}
-use Rattle.std.proofs.lemmas.Grind.{flat_map-append}
+use Rattle.std.proofs.Common.{◌≡◌, refl, sym, ap, ◌∙◌, subst, ℕ, ◌+◌, ◌<◌, ◌≤◌, List, [], ◌∷◌, ◌++◌, length, take, drop, Result, Ok, Err, IfOk, MatchResult, arith, append_assoc, length-take, length-drop, take-append-drop}
 use Rattle.std.proofs.lemmas.List.{drop-append-le}
 use Rattle.cx_base.specs.Drafts.{Draft}
 use Rattle.cx_base.specs.declared.literal.TheConstants.{MAX_VARIABLE}
 use Rattle.cx_texts.specs.Pieces.{EndsBlank}
 use Rattle.cx_texts.specs.Tokens.{Token, NoBlank, EndsRun}
-use Rattle.cx_texts.specs.Words.{placed_formula_words, formula_words_of}
 use Rattle.cx_texts.specs.declared.line_state.EndLines.TheVariants as end_line
 use Rattle.cx_texts.specs.declared.line_state.LineState.TheVariants.{Kept}
 use Rattle.cx_texts.specs.declared.offence.Offence.{Offence}
-use Rattle.cnfx_reader.specs.Body.{outcome, IsEndedBy}
-use Rattle.cnfx_reader.specs.Meanings.{placed_at}
-use Rattle.cnfx_reader.specs.PieceReading.{PieceTaken, PieceRefused}
-use Rattle.cnfx_reader.specs.PieceSteps.{answer_from, behind_header, IsPhaseIn, IsRefusedBy, IsRun, BodyTaken, StepTaken, StepRefused, TokenTaken, TokenRefused}
+use Rattle.cnfx_reader.specs.PieceReading.{AllButLast}
+use Rattle.cnfx_reader.specs.PieceSteps.{answer_from, behind_header, IsPhaseIn, IsRefusedBy, StepTaken, StepRefused, TokenTaken, TokenRefused}
 use Rattle.cnfx_reader.specs.HeaderParts.{header_from, header_behind, IsStepWithin}
 use Rattle.cnfx_reader.specs.declared.header_token.HeaderPart.{HeaderPart}
 use Rattle.cnfx_reader.specs.declared.header_token.HeaderStep.{HeaderStep}
 use Rattle.cnfx_reader.specs.declared.header_token.HeaderStep.TheVariants.{Lacks, Whole}
 use Rattle.cnfx_reader.specs.Refusals.{refusal_of}
 use Rattle.cnfx_reader.specs.TokensLeft.{formula_tokens_within}
-use Rattle.cx_texts.proofs.PieceLaws.{cut_behind_blank, left_from_token}
+use Rattle.cx_texts.proofs.PieceLaws.{StandsAt, cut_behind_blank, left_from_token}
 use Rattle.cx_texts.proofs.TokenLaws.{within-run}
 use Rattle.cnfx_reader.specs.declared.body.PieceRead.{PieceRead}
 use Rattle.cnfx_reader.specs.declared.pending.Pending.{Pending}
@@ -29,26 +25,6 @@ use Rattle.cnfx_reader.specs.declared.piece.Phase.{Phase}
 use Rattle.cnfx_reader.specs.declared.piece.Phase.TheVariants.{Head, Body}
 use Rattle.cnfx_reader.specs.declared.piece.Taken.{Taken}
 use Rattle.cnfx_reader.specs.declared.refusal.ReadRefusal.{ReadRefusal}
-
-words-append : (a b : List Token) → placed_formula_words (a ++ b) ≡ placed_formula_words a ++ placed_formula_words b
-words-append a b = flat_map-append (λ (t : Token). placed_at t.place (formula_words_of t.text)) a b
-
--- ---- the body of a piece
-
-pub body_step : (v : ℕ) (pending : Pending) (old : Draft) (tokens : List Token) (next : ℕ) (read : PieceRead) (new : Draft) (p : PieceTaken pending old tokens false read new) → read.kept ≡ Some next → v ≤ MAX_VARIABLE
-    → BodyTaken v pending old tokens (Some (record { phase = Body v read.pending; next = next })) new
-body_step v pending old tokens next read new p e small =
-    let k : (false ≡ Rattle.std.proofs.Common.true → ⊥) × (token : Token) × (p.rest ≡ token ∷ []) × (next ≡ token.place) = subst (λ (o : Option ℕ). Rattle.cnfx_reader.specs.PieceReading.IsKeptBack false o p.rest) e p.kept in
-    let here = placed_at k.1.place (formula_words_of k.1.text) in (
-      p.before,
-      k.1,
-      p.split ∙ ap (λ ts. p.before ++ ts) k.2,
-      k.3,
-      (small, p.fits),
-      λ len more.
-          ap (λ ws. Ok (v, outcome len pending old ws)) (words-append tokens more) ∙ ap (λ o. Ok (v, o)) (p.same len (placed_formula_words more))
-          ∙ ap (λ ws. Ok (v, outcome len read.pending new ws)) (ap (λ ts. placed_formula_words ts ++ placed_formula_words more) k.2 ∙ ap (λ ws. ws ++ placed_formula_words more) (append-nil here)),
-    )
 
 -- ---- a piece in its text
 
@@ -63,28 +39,29 @@ module _ (place len : ℕ) (bytes : List ℕ) (tokens : List Token) (blank : End
       let f = followed more in
       subst (λ ts. IsRefusedBy e (answer_from phase size old ts)) (sym f.1) (refused size f.0)
 
-  pub piece_step : (phase : Phase) (old : Draft) (t : Taken) (new : Draft) (before : List Token) (token : Token) → tokens ≡ before ++ token ∷ [] → t.next ≡ token.place → IsPhaseIn t.phase new
-      → ((size : ℕ) (more : List Token) → answer_from phase size old (tokens ++ more) ≡ answer_from t.phase size new (token ∷ more)) → StepTaken phase old place bytes t new
-  piece_step phase old t new before token split at fits same =
-      let here = left_from_token end_line.End Kept place (take len bytes) before token [] (sym are ∙ split) in
-      let inside : here.behind ≤ length bytes = omega (arith, here.inside, length-take len bytes, within) in (
-        here.behind,
-        at ∙ here.at,
-        inside,
-        fits,
-        λ size more.
-            let f = followed more in
-            let there = left_from_token end_line.End Kept place (bytes ++ more) before token f.0 (f.1 ∙ ap (λ ts. ts ++ f.0) split ∙ append_assoc before (token ∷ []) f.0) in
-            let k : there.behind ≡ here.behind = omega (arith, there.at, here.at) in
-            let bytes_left : drop there.behind (bytes ++ more) ≡ drop here.behind bytes ++ more = ap (λ n. drop n (bytes ++ more)) k ∙ drop-append-le here.behind bytes more inside in
-            let left : formula_tokens_within t.next (drop here.behind bytes ++ more) ≡ token ∷ f.0 = (λ i. formula_tokens_within (at i) (sym bytes_left i)) ∙ there.left in
-            ap (answer_from phase size old) f.1 ∙ same size f.0 ∙ ap (answer_from t.phase size new) (sym left),
-      )
+  pub piece_step : (v : ℕ) (pending : Pending) (old : Draft) (read : PieceRead) (new : Draft) → v ≤ MAX_VARIABLE → AllButLast pending old tokens read new
+      → StepTaken (Body v pending) old place bytes (record { phase = Body v read.pending; next = read.last }) new
+  piece_step v pending old read new small p = (here.behind, p.at ∙ here.at, inside, (small, p.fits), λ size more. same size more (followed more).0 (followed more).1)
+    where
+      here : StandsAt end_line.End place (take len bytes) p.last []
+      here = left_from_token end_line.End Kept place (take len bytes) p.before p.last [] (sym are ∙ p.split)
+
+      inside : here.behind ≤ length bytes
+      inside = omega (arith, here.inside, length-take len bytes, within)
+
+      left : (more : List ℕ) (behind : List Token) → formula_tokens_within place (bytes ++ more) ≡ tokens ++ behind → formula_tokens_within read.last (drop here.behind bytes ++ more) ≡ p.last ∷ behind
+      left more behind are_these =
+          let there = left_from_token end_line.End Kept place (bytes ++ more) p.before p.last behind (are_these ∙ ap (λ ts. ts ++ behind) p.split ∙ append_assoc p.before (p.last ∷ []) behind) in
+          let k : there.behind ≡ here.behind = omega (arith, there.at, here.at) in
+          let bytes_left : drop there.behind (bytes ++ more) ≡ drop here.behind bytes ++ more = ap (λ n. drop n (bytes ++ more)) k ∙ drop-append-le here.behind bytes more inside in
+          (λ i. formula_tokens_within (p.at i) (sym bytes_left i)) ∙ there.left
+
+      same : (size : ℕ) (more : List ℕ) (behind : List Token) → formula_tokens_within place (bytes ++ more) ≡ tokens ++ behind
+          → answer_from (Body v pending) size old (formula_tokens_within place (bytes ++ more)) ≡ answer_from (Body v read.pending) size new (formula_tokens_within read.last (drop here.behind bytes ++ more))
+      same size more behind are_these =
+          ap (answer_from (Body v pending) size old) are_these ∙ ap (λ o. Ok (v, o)) (p.same size behind) ∙ ap (answer_from (Body v read.pending) size new) (sym (left more behind are_these))
 
 -- ---- what a piece is taken as
-
-pub body_refused : (v : ℕ) (pending : Pending) (old : Draft) (tokens : List Token) (e : ReadRefusal) → PieceRefused pending old tokens e → (size : ℕ) (more : List Token) → IsRefusedBy e (answer_from (Body v pending) size old (tokens ++ more))
-body_refused v pending old tokens e refused size more = subst (λ ws. IsEndedBy e (outcome size pending old ws).ending) (sym (words-append tokens more)) (refused size (placed_formula_words more))
 
 pub none_taken : (place : ℕ) (bytes : List ℕ) (phase : Phase) (old new : Draft) → IsPhaseIn phase old → new ≡ old → StepTaken phase old place bytes (record { phase = phase; next = place }) new
 none_taken place bytes phase old new fits same =
@@ -135,32 +112,6 @@ module _ (place len : ℕ) (bytes : List ℕ) (some : 0 < len) (few : len < leng
 
   pub first_refused : (phase : Phase) (old : Draft) (e : ReadRefusal) → TokenRefused phase old first e → StepRefused phase old place bytes e
   first_refused phase old e refused = λ size more. subst (λ ts. IsRefusedBy e (answer_from phase size old ts)) (sym (first_run more)) (refused size (formula_tokens_within (place + len) (drop len bytes ++ more)))
-
-whole_token : (place : ℕ) (token : List ℕ) → IsRun token → formula_tokens_within place token ≡ record { place = place; text = token } ∷ []
-whole_token place [] (some, run) = absurd (omega (arith, some))
-whole_token place (b ∷ t) (some, run) = ap (formula_tokens_within place) (sym (append-nil (b ∷ t))) ∙ within-run end_line.End place b t [] run tt
-
-module _ (place : ℕ) (token : List ℕ) (run : IsRun token) (tokens : List Token) (are : tokens ≡ formula_tokens_within place token) (v : ℕ) (pending : Pending) (old : Draft) where
-  one : tokens ≡ record { place = place; text = token } ∷ []
-  one = are ∙ whole_token place token run
-
-  words_one : (more : List Token) → placed_formula_words (record { place = place; text = token } ∷ more) ≡ placed_formula_words tokens ++ placed_formula_words more
-  words_one more = words-append (record { place = place; text = token } ∷ []) more ∙ ap (λ ts. placed_formula_words ts ++ placed_formula_words more) (sym one)
-
-  nothing_kept : (o : Option ℕ) (rest : List Token) → Rattle.cnfx_reader.specs.PieceReading.IsKeptBack Rattle.std.proofs.Common.true o rest → rest ≡ []
-  nothing_kept None rest h = h
-  nothing_kept (Some p) rest h = absurd (h.0 refl)
-
-  pub body_token : (read : PieceRead) (new : Draft) → v ≤ MAX_VARIABLE → PieceTaken pending old tokens Rattle.std.proofs.Common.true read new → TokenTaken (Body v pending) old (record { place = place; text = token }) (Body v read.pending) new
-  body_token read new small p = (
-    (small, p.fits),
-    λ len more.
-        ap (λ ws. Ok (v, outcome len pending old ws)) (words_one more) ∙ ap (λ o. Ok (v, o)) (p.same len (placed_formula_words more))
-        ∙ ap (λ ts. Ok (v, outcome len read.pending new (placed_formula_words ts ++ placed_formula_words more))) (nothing_kept read.kept p.rest p.kept),
-  )
-
-  pub body_token_refused : (e : ReadRefusal) → PieceRefused pending old tokens e → TokenRefused (Body v pending) old (record { place = place; text = token }) e
-  body_token_refused e refused len more = subst (λ ws. IsEndedBy e (outcome len pending old ws).ending) (sym (words_one more)) (refused len (placed_formula_words more))
 
 -- ---- a token of the header
 

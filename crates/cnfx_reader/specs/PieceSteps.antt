@@ -1,16 +1,15 @@
 -- What is made of a piece of a formula's text, whatever follows it.
-use Rattle.std.specs.Prelude.{◌≡◌, ◌<◌, ◌≤◌, ◌+◌, ℕ, List, [], ◌∷◌, ◌++◌, length, drop, Option, Some, None, Result, Ok, Err}
+use Rattle.std.specs.Prelude.{◌≡◌, ◌≤◌, ◌+◌, ℕ, List, [], ◌∷◌, ◌++◌, length, drop, Result, Ok, Err}
 use Rattle.cx_base.specs.Drafts.{Draft}
 use Rattle.cx_base.specs.Endings.{finished}
 use Rattle.cx_base.specs.declared.literal.TheConstants.{MAX_VARIABLE}
-use Rattle.cx_texts.specs.Tokens.{Token, NoBlank}
+use Rattle.cx_texts.specs.Tokens.{Token}
 use Rattle.cx_texts.specs.Words.{placed_formula_words}
 use Rattle.cx_texts.specs.declared.offence.Offence.{Offence}
 use Rattle.cnfx_reader.specs.Body.{Outcome, outcome, IsPendingIn, IsEndedBy}
 use Rattle.cnfx_reader.specs.HeaderParts.{header_from, IsPartWithin}
 use Rattle.cnfx_reader.specs.Refusals.{refusal_of}
 use Rattle.cnfx_reader.specs.TokensLeft.{formula_tokens_within}
-use Rattle.cnfx_reader.specs.declared.pending.Pending.{Pending}
 use Rattle.cnfx_reader.specs.declared.pending.Pending.TheVariants.{Nothing}
 use Rattle.cnfx_reader.specs.declared.piece.Phase.{Phase}
 use Rattle.cnfx_reader.specs.declared.piece.Phase.TheVariants.{Head, Body}
@@ -37,12 +36,6 @@ abbrev pub IsRefusedBy : ReadRefusal → Result (ℕ × Outcome) Offence → Typ
 IsRefusedBy e (Ok read) = IsEndedBy e read.1.ending
 IsRefusedBy e (Err offence) = e ≡ refusal_of offence
 
--- the tokens but the last were taken into the body, or there were none
-abbrev pub BodyTaken : ℕ → Pending → Draft → List Token → Option Taken → Draft → Type 0
-BodyTaken vars pending old tokens None new = new ≡ old
-BodyTaken vars pending old tokens (Some t) new = (before : List Token) × (token : Token) × (tokens ≡ before ++ token ∷ []) × (t.next ≡ token.place) × IsPhaseIn t.phase new
-    × ((len : ℕ) (more : List Token) → Ok (vars, outcome len pending old (placed_formula_words (tokens ++ more))) ≡ answer_from t.phase len new (token ∷ more))
-
 -- so many bytes were taken, whatever follows
 abbrev pub StepTaken : Phase → Draft → ℕ → List ℕ → Taken → Draft → Type 0
 StepTaken phase old place bytes t new = (k : ℕ) × (t.next ≡ place + k) × (k ≤ length bytes) × IsPhaseIn t.phase new
@@ -50,10 +43,6 @@ StepTaken phase old place bytes t new = (k : ℕ) × (t.next ≡ place + k) × (
 
 abbrev pub StepRefused : Phase → Draft → ℕ → List ℕ → ReadRefusal → Type 0
 StepRefused phase old place bytes e = (len : ℕ) (more : List ℕ) → IsRefusedBy e (answer_from phase len old (formula_tokens_within place (bytes ++ more)))
-
--- a byte or more, and none of them a blank
-abbrev pub IsRun : List ℕ → Type 0
-IsRun bytes = (0 < length bytes) × NoBlank bytes
 
 -- one token was taken, whatever follows
 abbrev pub TokenTaken : Phase → Draft → Token → Phase → Draft → Type 0

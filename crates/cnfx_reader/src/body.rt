@@ -49,7 +49,7 @@ fn take_integer(
 
 /// Takes a token into the constraint that is pending, or begins or ends one.
 #[inline(always)]
-fn take_token(
+pub(crate) fn take_token(
     builder: &mut FormulaBuilder,
     pending: Pending,
     at: SaidAt<BodyToken>,
@@ -76,49 +76,34 @@ fn take_token(
     }
 }
 
-/// What was read of a piece: what is pending behind it, and the place of the token that was kept back, if one was.
+/// What was read of a piece: what is pending before its last token, and the place of that token.
 #[derive(Clone, Copy, Drop)]
 pub(crate) struct PieceRead {
     pub pending: Pending,
-    pub kept: Option<u64>,
+    pub last: u64,
 }
 
-/// Reads the whole tokens of a piece of the body. Where the text may go on, the last of them is kept back: its place tells where
-/// the next piece begins.
-pub(crate) fn read_piece(
+/// Reads the tokens of a piece of the body but the last, if there are any. The last tells by its place where the next piece begins.
+pub(crate) fn read_but_last(
     tokens: &mut TokenReader,
     builder: &mut FormulaBuilder,
     pending: Pending,
-    ended: bool,
-) -> Result<PieceRead, ReadRefusal>
+) -> Result<Option<PieceRead>, ReadRefusal>
     requires { IsPendingIn pending builder.old }
-    ensures { MatchResult result (λ r. PieceTaken pending builder.old tokens.old ended r builder.new) (λ e. PieceRefused pending builder.old tokens.old e) }
+    ensures { MatchResult result (λ o. PieceTaken pending builder.old tokens.old o builder.new) (λ e. PieceRefused pending builder.old tokens.old e) }
 {
-    let mut state = pending;
-    let mut last = match tokens.next_as::<BodyToken>() {
-        Some(at) => at,
-        None => {
-            return Ok(PieceRead {
-                pending,
-                kept: None,
-            });
-        }
+    let Some(mut last) = tokens.next_as::<BodyToken>() else {
+        return Ok(None);
     };
+    let mut state = pending;
     while let Some(next) = tokens.next_as::<BodyToken>() {
         state = take_token(builder, state, last)?;
         last = next;
     }
-    if !ended {
-        return Ok(PieceRead {
-            pending: state,
-            kept: Some(last.place),
-        });
-    }
-    let pending = take_token(builder, state, last)?;
-    Ok(PieceRead {
-        pending,
-        kept: None,
-    })
+    Ok(Some(PieceRead {
+        pending: state,
+        last: last.place,
+    }))
 }
 
 /// Reads the constraints to the end of the text. `len` is the text's length.

@@ -22,7 +22,7 @@ pub(crate) enum BodyToken {
 }
 
 /// What a whole token says.
-fn read_token(token: &[u8]) -> BodyToken
+pub(crate) fn read_token(token: &[u8]) -> BodyToken
     requires { 0 < length token.now }
     ensures { Says result (formula_words_of token.now) }
 {

@@ -2,20 +2,19 @@
 ghost use Rattle.std.specs.Prelude.{◌≡◌, ◌<◌, ◌≤◌, ◌+◌, ◌^◌, [], length, IfOk, IsTrue, MatchResult};
 ghost use Rattle.cx_base.specs.declared.literal.TheConstants.{MAX_VARIABLE};
 ghost use Rattle.cx_base.specs.Drafts.{Draft};
-ghost use Rattle.cnfx_reader.specs.Body.{IsPendingIn};
 ghost use Rattle.cnfx_reader.specs.HeaderParts.{IsPartWithin};
-ghost use Rattle.cnfx_reader.specs.PieceReading.{PieceRefused};
-ghost use Rattle.cnfx_reader.specs.PieceSteps.{answer_from, BodyTaken, IsPhaseIn, IsRefusedBy, IsRun, IsWhole, StepTaken, StepRefused, TokenTaken, TokenRefused};
+ghost use Rattle.cnfx_reader.specs.PieceSteps.{answer_from, IsPhaseIn, IsRefusedBy, IsWhole, StepTaken, StepRefused, TokenTaken, TokenRefused};
 ghost use Rattle.cnfx_reader.specs.TokensLeft.{formula_tokens_within};
 ghost use Rattle.cnfx_reader.specs.declared.piece.Phase.TheVariants.{Head};
 
-use crate::body::{read_body, read_piece};
+use crate::body::{read_body, read_but_last, take_token};
+use crate::body_token::read_token;
 use crate::header::read_header_from;
 use crate::header_token::{HeaderPart, HeaderStep, take_header_token};
 use crate::pending::Pending;
 use crate::refusal::ReadRefusal;
 use cx_base::FormulaBuilder;
-use cx_texts::{EndLines, TokenAt, TokenReader, run_len, whole_front};
+use cx_texts::{EndLines, SaidAt, TokenAt, TokenReader, run_len, whole_front};
 
 /// How far the reading of a formula has come.
 #[derive(Clone, Copy, Drop)]
@@ -31,29 +30,6 @@ pub(crate) enum Phase {
 pub(crate) struct Taken {
     pub phase: Phase,
     pub next: u64,
-}
-
-/// Takes the tokens of the body but the last, if there are any.
-fn take_body(
-    tokens: &mut TokenReader,
-    builder: &mut FormulaBuilder,
-    vars: u32,
-    pending: Pending,
-) -> Result<Option<Taken>, ReadRefusal>
-    requires small { vars ≤ MAX_VARIABLE }
-    requires fits { IsPendingIn pending builder.old }
-    ensures { MatchResult result (λ o. BodyTaken vars pending builder.old tokens.old o builder.new) (λ e. PieceRefused pending builder.old tokens.old e) }
-{
-    match read_piece(tokens, builder, pending, false) {
-        Ok(read) => match read.kept {
-            Some(next) => Ok(Some(Taken {
-                phase: Phase::Body(vars, read.pending),
-                next,
-            })),
-            None => Ok(None),
-        },
-        Err(refusal) => Err(refusal),
-    }
 }
 
 /// Takes the whole tokens of the body at the front of the bytes but the last. The bytes begin at this place, within a kept line, and
@@ -77,8 +53,11 @@ fn take_piece(
         Phase::Body(vars, pending) => {
             let len = whole_front(bytes);
             let mut tokens = TokenReader::within(&bytes[..len], place, EndLines::End);
-            match take_body(&mut tokens, builder, vars, pending) {
-                Ok(Some(taken)) => Ok(taken),
+            match read_but_last(&mut tokens, builder, pending) {
+                Ok(Some(read)) => Ok(Taken {
+                    phase: Phase::Body(vars, read.pending),
+                    next: read.last,
+                }),
                 Ok(None) => Ok(none),
                 Err(refusal) => Err(refusal),
             }
@@ -100,15 +79,14 @@ fn take_head(part: HeaderPart, token: TokenAt) -> Result<Phase, ReadRefusal>
     }
 }
 
-/// Takes the token of these bytes, which are one and begin at this place.
-fn take_token(
+/// Takes the token of these bytes, which begin at this place.
+fn take_one(
     builder: &mut FormulaBuilder,
     token: &[u8],
     place: usize,
     phase: Phase,
 ) -> Result<Phase, ReadRefusal>
-    requires small { place + length token.now < 2 ^ 63 }
-    requires run { IsRun token.now }
+    requires some { 0 < length token.now }
     requires fits { IsPhaseIn phase builder.old }
     ensures { MatchResult result
         (λ next. TokenTaken phase builder.old (record { place = place; text = token.now }) next builder.new)
@@ -117,9 +95,12 @@ fn take_token(
     match phase {
         Phase::Head(part) => take_head(part, TokenAt { place, text: token }),
         Phase::Body(vars, pending) => {
-            let mut tokens = TokenReader::within(token, place, EndLines::End);
-            match read_piece(&mut tokens, builder, pending, true) {
-                Ok(read) => Ok(Phase::Body(vars, read.pending)),
+            let said = SaidAt {
+                place: place as u64,
+                token: read_token(token),
+            };
+            match take_token(builder, pending, said) {
+                Ok(next) => Ok(Phase::Body(vars, next)),
                 Err(refusal) => Err(refusal),
             }
         }
@@ -151,7 +132,7 @@ fn take_first(
             next: place as u64,
         });
     }
-    match take_token(builder, &bytes[..len], place, phase) {
+    match take_one(builder, &bytes[..len], place, phase) {
         Ok(next) => Ok(Taken {
             phase: next,
             next: (place + len) as u64,

@@ -9,7 +9,7 @@ returns-in-Ok c =
     let run = c.run_len-len.ensures in
     let some : 0 < len = omega (arith, c.if-len-eq0.false) in
     let few : len < length bytes = c.is_followed.ensures c.if-not-is_followed.false in
-    first_step c.args.place len bytes some few run.run run.ends c.args.phase c.in-Ok.next c.args.builder.now c.take_token.new.builder c.in-Ok.ensures
+    first_step c.args.place len bytes some few run.run run.ends c.args.phase c.in-Ok.next c.args.builder.now c.take_one.new.builder c.in-Ok.ensures
 
 pub returns-in-Err : goal.returns-in-Err
 returns-in-Err c =

@@ -1,9 +1,10 @@
-use Rattle.std.proofs.Common.{sym, subst, List}
+use Rattle.std.proofs.Common.{◌≤◌, sym, subst, List}
+use Rattle.cx_base.specs.declared.literal.TheConstants.{MAX_VARIABLE}
 use Rattle.cx_texts.specs.Tokens.{Token}
-use Rattle.cnfx_reader.specs.PieceSteps.{StepTaken, StepRefused}
+use Rattle.cnfx_reader.specs.PieceSteps.{IsPhaseIn, StepTaken, StepRefused}
 use Rattle.cnfx_reader.specs.declared.piece.Phase.{Phase}
 use Rattle.cnfx_reader.specs.declared.piece.Phase.TheVariants.{Body}
-use Rattle.cnfx_reader.proofs.PieceSteps.{piece_step, piece_refused, body_refused}
+use Rattle.cnfx_reader.proofs.PieceSteps.{piece_step, piece_refused}
 use Rattle.cnfx_reader.proofs.piece.take_piece.Goals as goal
 
 pub returns-in-Ok-Some : goal.returns-in-Ok-Some
@@ -12,11 +13,12 @@ returns-in-Ok-Some c =
     let bytes = c.args.bytes.now in
     let tokens : List Token = c.within-tokens.result in
     let old = c.args.builder.now in
-    let new = c.take_body.new.builder in
-    let t = c.in-Ok-Some.taken in
+    let new = c.read_but_last.new.builder in
+    let read = c.in-Ok-Some.read in
+    let small : c.in-Body.vars ≤ MAX_VARIABLE = (subst (λ (phase : Phase). IsPhaseIn phase old) c.in-Body.is c.requires.fits).0 in
     let b = rw c.in-Ok-Some.field-0-is at c.in-Ok-Some.ensures in
-    subst (λ (phase : Phase). StepTaken phase old place bytes t new) (sym c.in-Body.is)
-    (piece_step place c.whole_front-len.result bytes tokens c.whole_front-len.ensures.blank c.whole_front-len.ensures.high c.within-tokens.ensures (Body c.in-Body.vars c.in-Body.pending) old t new b.0 b.1 b.2 b.3 b.4 b.5)
+    subst (λ (phase : Phase). StepTaken phase old place bytes (record { phase = Body c.in-Body.vars read.pending; next = read.last }) new) (sym c.in-Body.is)
+    (piece_step place c.whole_front-len.result bytes tokens c.whole_front-len.ensures.blank c.whole_front-len.ensures.high c.within-tokens.ensures c.in-Body.vars c.in-Body.pending old read new small b)
 
 pub returns-in-Err : goal.returns-in-Err
 returns-in-Err c =
@@ -26,4 +28,4 @@ returns-in-Err c =
     let old = c.args.builder.now in
     let e = c.in-Err.refusal in
     subst (λ (phase : Phase). StepRefused phase old place bytes e) (sym c.in-Body.is)
-    (piece_refused place c.whole_front-len.result bytes tokens c.whole_front-len.ensures.blank c.whole_front-len.ensures.high c.within-tokens.ensures (Body c.in-Body.vars c.in-Body.pending) old e (body_refused c.in-Body.vars c.in-Body.pending old tokens e c.in-Err.ensures))
+    (piece_refused place c.whole_front-len.result bytes tokens c.whole_front-len.ensures.blank c.whole_front-len.ensures.high c.within-tokens.ensures (Body c.in-Body.vars c.in-Body.pending) old e c.in-Err.ensures)
