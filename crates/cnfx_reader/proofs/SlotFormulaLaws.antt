@@ -22,7 +22,7 @@ use Rattle.cnfx_reader.specs.Body.{Outcome}
 use Rattle.cnfx_reader.specs.FromSlot.{FromFails, from_read, from_desk, from_drained}
 use Rattle.cnfx_reader.specs.PieceSteps.{answer_from, behind_header, IsRefusedBy, IsWhole, StepTaken, StepRefused}
 use Rattle.cnfx_reader.specs.ReadsTo.{IsRefusedAs}
-use Rattle.cnfx_reader.specs.SlotFormula.{answer_of, answer_of_text, PassedBytes, GoesOn, IsRefusedIn, fresh, HasRead}
+use Rattle.cnfx_reader.specs.SlotFormula.{answer_of, answer_of_text, PassedBytes, GoesOn, IsLast, IsRefusedIn, fresh, HasRead}
 use Rattle.cnfx_reader.specs.TokensLeft.{formula_tokens_from, formula_tokens_in, formula_tokens_within}
 use Rattle.cnfx_reader.specs.declared.header_token.HeaderPart.TheVariants.{P}
 use Rattle.cnfx_reader.specs.declared.piece.Phase.TheVariants.{Head}
@@ -72,6 +72,9 @@ module _ (s t : BytesState) (passed : PassedBytes s t) where
     moved = r.moved ∙ ap (λ k. taken k (length r.more) p) passed_slot;
     end = subst (λ (x : BytesState). Rattle.cx_desk.specs.SlotBytes.EndSeen x p → Rattle.cx_desk.specs.Calls.AtEnd x.slot q) passed.2 r.end;
   }
+
+  pub passed_stops : (p : Outside) (e : DrainErr) (q : Outside) → DrainFails t.slot (t.limit - taken_by t) p e q → DrainFails s.slot (s.limit - taken_by s) p e q
+  passed_stops p e q h = subst (λ n. DrainFails s.slot n p e q) (λ i. passed_limit i - passed_taken i) (subst (λ (k : Slot). DrainFails k (t.limit - taken_by t) p e q) passed_slot h)
 
 pub passes_then : (a b c : BytesState) → PassedBytes a b → PassedBytes b c → PassedBytes a c
 passes_then a b c (k, l, e) (m, n, f) = (
@@ -253,18 +256,27 @@ module _ (slot : Slot) (limit : ℕ) (o : Outside) where
       let w = whole_text s p h len q r in
       (w.0, w.1, text_reads w.0 v d.constraints (ap (λ n. answer_of_text n w.0) (sym w.2) ∙ w.3 len ∙ whole.1))
 
-  -- the same by the bytes that are left to read
-  module _ (s : SlotFormula) (p : Outside) (h : HasRead slot limit o s p) (len : ℕ) (q : Outside) (r : RestRead s.bytes p len q) (rest : Bytes)
-      (left : (more : Bytes) → (s.bytes.ended ≡ true → more ≡ []) → formula_tokens_in s.line s.bytes.place (s.bytes.bytes ++ more) ≡ formula_tokens_within s.bytes.place rest) where
-    answer_left : answer_of s len r.more ≡ answer_from s.phase len s.builder (formula_tokens_within s.bytes.place rest)
-    answer_left = ap (answer_from s.phase len s.builder) (left r.more r.come.0)
+  -- the same by the last bytes of the formula
+  module _ (s : SlotFormula) (p : Outside) (h : HasRead slot limit o s p) (t : SlotFormula) (last : IsLast s t) where
+    pub last_stops : (e : DrainErr) (q : Outside) → DrainFails t.bytes.slot (t.bytes.limit - taken_by t.bytes) p e q → FromFails slot limit o (from_drained e) q
+    last_stops e q k = rest_stops s p h e q (passed_stops s.bytes t.bytes last.passed p e q k)
 
-    pub end_refused : (e : ReadRefusal) → IsRefusedBy e (answer_from s.phase len s.builder (formula_tokens_within s.bytes.place rest)) → FromFails slot limit o (from_read e) q
-    end_refused e refused = refused_whole s p h len q r e (subst (IsRefusedBy e) (sym answer_left) refused)
+    module _ (len : ℕ) (q : Outside) (r : RestRead t.bytes p len q) where
+      rest : RestRead s.bytes p len q
+      rest = passed_rest s.bytes t.bytes last.passed p len q r
 
-    pub end_reads : (v : ℕ) (d : Draft) → IsWhole v d (answer_from s.phase len s.builder (formula_tokens_within s.bytes.place rest))
-        → (text : Bytes) × Whole slot limit text o q × Reads text (record { variables = greatest_variable v d.constraints; constraints = d.constraints })
-    end_reads v d whole = reads_whole s p h len q r v d (whole.0, answer_left ∙ whole.1)
+      abbrev answer_last : Result (ℕ × Outcome) Offence
+      answer_last = answer_from t.phase len t.builder (formula_tokens_within t.bytes.place t.bytes.bytes)
+
+      as_last : answer_of s len rest.more ≡ answer_last
+      as_last = last.same len rest.more (λ ended. rest.come.0 (sym (passed_ended s.bytes t.bytes last.passed) ∙ ended))
+
+      pub last_refused : (e : ReadRefusal) → IsRefusedBy e answer_last → FromFails slot limit o (from_read e) q
+      last_refused e refused = refused_whole s p h len q rest e (subst (IsRefusedBy e) (sym as_last) refused)
+
+      pub last_reads : (v : ℕ) (d : Draft) → IsWhole v d answer_last
+          → (text : Bytes) × Whole slot limit text o q × Reads text (record { variables = greatest_variable v d.constraints; constraints = d.constraints })
+      last_reads v d whole = reads_whole s p h len q rest v d (whole.0, as_last ∙ whole.1)
 
 -- ---- what is still to be read
 

@@ -1,5 +1,5 @@
 -- A formula that is read from a slot: what is read of its text from where its reader stands.
-use Rattle.std.specs.Prelude.{◌≡◌, ◌≤◌, ◌+◌, ℕ, false, [], ◌++◌, length, drop, IfSome, Result}
+use Rattle.std.specs.Prelude.{◌≡◌, ◌≤◌, ◌+◌, ℕ, true, false, [], ◌++◌, length, drop, IfSome, Result}
 use Rattle.cx_desk.specs.declared.desk.Slot.{Slot}
 use Rattle.cx_desk.specs.Outside.{Bytes, Outside, left_in}
 use Rattle.cx_desk.specs.Calls.{taken}
@@ -7,7 +7,7 @@ use Rattle.cx_desk.specs.SlotBytes.{BytesState, taken_by, IsToCome, is_too_long}
 use Rattle.cx_texts.specs.declared.offence.Offence.{Offence}
 use Rattle.cnfx_reader.specs.Body.{Outcome}
 use Rattle.cnfx_reader.specs.PieceSteps.{answer_from, IsPhaseIn, IsRefusedBy}
-use Rattle.cnfx_reader.specs.TokensLeft.{formula_tokens_from, formula_tokens_in}
+use Rattle.cnfx_reader.specs.TokensLeft.{formula_tokens_from, formula_tokens_in, formula_tokens_within}
 use Rattle.cnfx_reader.specs.declared.header_token.HeaderPart.TheVariants.{P}
 use Rattle.cnfx_reader.specs.declared.piece.Phase.TheVariants.{Head}
 use Rattle.cnfx_reader.specs.declared.refusal.ReadRefusal.{ReadRefusal}
@@ -30,6 +30,12 @@ pub record GoesOn (s t : SlotFormula) : Type 0 where
   pub passed : PassedBytes s.bytes t.bytes
   pub fits : IsPhaseIn s.phase s.builder → IsPhaseIn t.phase t.builder
   pub same : (len : ℕ) (more : Bytes) → answer_of s len more ≡ answer_of t len more
+
+-- bytes were passed, and those at hand are the rest of the formula, which begins within a kept line
+pub record IsLast (s t : SlotFormula) : Type 0 where
+  pub passed : PassedBytes s.bytes t.bytes
+  pub fits : IsPhaseIn s.phase s.builder → IsPhaseIn t.phase t.builder
+  pub same : (len : ℕ) (more : Bytes) → (t.bytes.ended ≡ true → more ≡ []) → answer_of s len more ≡ answer_from t.phase len t.builder (formula_tokens_within t.bytes.place t.bytes.bytes)
 
 -- the text is refused so, whatever comes
 pub record IsRefusedIn (e : ReadRefusal) (s t : SlotFormula) : Type 0 where

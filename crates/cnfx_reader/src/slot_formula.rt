@@ -1,14 +1,13 @@
 //! A formula from a slot of a desk, read piece by piece.
 ghost use Rattle.std.specs.Prelude.{◌≡◌, ◌≢◌, ◌<◌, ◌≤◌, ◌+◌, ℕ, [], ◌++◌, true, false, length, Err, IfOk, IsTrue, IsFalse, MatchResult};
 ghost use Rattle.cx_base.specs.declared.literal.TheConstants.{MAX_VARIABLE};
-ghost use Rattle.cx_desk.specs.Outside.{Bytes, Outside, started_in};
+ghost use Rattle.cx_desk.specs.Outside.{Outside, started_in};
 ghost use Rattle.cx_desk.specs.SlotBytes.{BytesState, taken_by};
 ghost use Rattle.cx_desk.specs.declared.desk.Slot.{Slot as SlotOf};
 ghost use Rattle.cx_texts.specs.declared.line_state.LineState.TheVariants.{Kept};
 ghost use Rattle.cnfx_reader.specs.FromSlot.{ReadsFrom, formula_of};
-ghost use Rattle.cnfx_reader.specs.PieceSteps.{IsPhaseIn, IsRefusedBy};
-ghost use Rattle.cnfx_reader.specs.SlotFormula.{answer_of, GoesOn, HasRead, IsRefusedIn};
-ghost use Rattle.cnfx_reader.specs.TokensLeft.{formula_tokens_in, formula_tokens_within};
+ghost use Rattle.cnfx_reader.specs.PieceSteps.{IsPhaseIn};
+ghost use Rattle.cnfx_reader.specs.SlotFormula.{GoesOn, HasRead, IsLast, IsRefusedIn};
 ghost use Rattle.cnfx_reader.specs.declared.slot_formula.SlotFormula.{SlotFormula as State};
 
 use crate::from_refusal::FromRefusal;
@@ -29,17 +28,6 @@ pub(crate) struct SlotFormula {
     builder: FormulaBuilder,
 }
 
-/// The bytes to the end of the text, or none behind a `%` line.
-fn last_bytes(bytes: &SlotBytes, line: LineState, is_end: bool) -> &[u8]
-    requires line { IsFalse is_end → bytes.now.bytes ≢ [] → line ≡ Kept }
-    requires end { IsTrue is_end → (more : Bytes) → formula_tokens_in line bytes.now.place (bytes.now.bytes ++ more) ≡ [] }
-    requires ended { IsFalse is_end → bytes.now.ended ≡ true }
-    ensures short { length result.now ≤ length bytes.now.bytes }
-    ensures left { (more : Bytes) → (bytes.now.ended ≡ true → more ≡ []) → formula_tokens_in line bytes.now.place (bytes.now.bytes ++ more) ≡ formula_tokens_within bytes.now.place result.now }
-{
-    if is_end { &[] } else { bytes.bytes() }
-}
-
 impl SlotFormula {
     /// Nothing was read yet.
     fn new(alloc: Global, slot: Slot, limit: u64) -> SlotFormula
@@ -54,16 +42,23 @@ impl SlotFormula {
         }
     }
 
-    /// Passes the blanks and comments at hand, and says whether the text ends there by a `%` line.
+    /// Passes the blanks and comments at hand, and says whether what is at hand then is the rest of the formula: the text ends there, or
+    /// a `%` line ended the formula, and nothing is left at hand.
     fn pass_blanks(&mut self) -> bool
-        ensures on { GoesOn self.old self.new }
+        ensures last { IsTrue result → IsLast self.old self.new }
+        ensures on { IsFalse result → GoesOn self.old self.new }
         ensures line { IsFalse result → self.new.bytes.bytes ≢ [] → self.new.line ≡ Kept }
-        ensures end { IsTrue result → (more : Bytes) → formula_tokens_in self.new.line self.new.bytes.place (self.new.bytes.bytes ++ more) ≡ [] }
+        ensures open { IsFalse result → self.new.bytes.ended ≡ false }
     {
         let stop = pass_blanks(self.bytes.bytes(), self.line, EndLines::End);
+        if stop.is_end {
+            let len = self.bytes.bytes().len();
+            self.bytes.pass(len);
+            return true;
+        }
         self.bytes.pass(stop.at);
         self.line = stop.line;
-        stop.is_end
+        self.bytes.has_ended()
     }
 
     /// Takes whole tokens that are at hand, and says whether there were any.
@@ -87,23 +82,19 @@ impl SlotFormula {
         }
     }
 
-    /// Reads to the end of the text, and gives the header's number of variables.
-    fn read_end<D: Desk>(&mut self, desk: &mut D, is_end: bool) -> Result<u32, FromRefusal>
+    /// Reads to the end of the text, where what is at hand is the rest of the formula, and gives the header's number of variables.
+    fn read_end<D: Desk>(&mut self, desk: &mut D) -> Result<u32, FromRefusal>
         requires started { started_in self.old.bytes.slot (D.outside desk.old).started ≡ true }
         requires within { taken_by self.old.bytes ≤ self.old.bytes.limit }
         requires fits { IsPhaseIn self.old.phase self.old.builder }
-        requires line { IsFalse is_end → self.old.bytes.bytes ≢ [] → self.old.line ≡ Kept }
-        requires end { IsTrue is_end → (more : Bytes) → formula_tokens_in self.old.line self.old.bytes.place (self.old.bytes.bytes ++ more) ≡ [] }
-        requires ended { IsFalse is_end → self.old.bytes.ended ≡ true }
         ensures within { IfOk result (λ v. (v ≤ MAX_VARIABLE) × (self.new.builder.unfinished ≡ [])) }
-        ensures reads { (slot : SlotOf) (limit : ℕ) (o : Outside) → HasRead slot limit o self.old (D.outside desk.old)
+        ensures reads { (slot : SlotOf) (limit : ℕ) (o : Outside) (s : State) → HasRead slot limit o s (D.outside desk.old) → IsLast s self.old
             → ReadsFrom slot limit o (formula_of result self.new.builder) (D.outside desk.new) }
     {
         let len = self.bytes.read_rest(desk)?;
         let place = self.bytes.place();
-        let rest = last_bytes(&self.bytes, self.line, is_end);
-        let vars = take_rest(&mut self.builder, rest, place, self.phase, len)?;
-        Ok(vars)
+        let rest = self.bytes.bytes();
+        Ok(take_rest(&mut self.builder, rest, place, self.phase, len)?)
     }
 }
 
@@ -140,9 +131,9 @@ pub fn read_formula_from<D: Desk>(
 {
     let mut reader = SlotFormula::new(alloc, slot, limit);
     loop {
-        let is_end = reader.pass_blanks();
-        if is_end || reader.bytes.has_ended() {
-            let vars = reader.read_end(desk, is_end)?;
+        let is_last = reader.pass_blanks();
+        if is_last {
+            let vars = reader.read_end(desk)?;
             return Ok(reader.builder.finish(vars));
         }
         match reader.take() {

@@ -1,10 +1,9 @@
-use Rattle.std.proofs.Common.{◌≡◌, sym, subst, ℕ, ◌-◌}
-use Rattle.cx_desk.specs.declared.desk.Slot.{Slot}
+use Rattle.std.proofs.Common.{sym, subst, ◌-◌}
 use Rattle.cx_desk.specs.Calls.{DrainFails}
 use Rattle.cx_desk.specs.SlotBytes.{BytesState, RestRead, taken_by}
 use Rattle.cnfx_reader.specs.FromSlot.{FromFails}
 use Rattle.cnfx_reader.specs.declared.from_refusal.FromRefusal.{FromRefusal}
-use Rattle.cnfx_reader.proofs.SlotFormulaLaws.{passed_rest, passed_slot, passed_limit, passed_taken, refused_whole, rest_stops}
+use Rattle.cnfx_reader.proofs.SlotFormulaLaws.{passed_rest, passed_stops, refused_whole, rest_stops}
 use Rattle.cnfx_reader.proofs.slot_formula.refused.Goals as goal
 
 pub returns-in-Ok : goal.returns-in-Ok
@@ -20,7 +19,5 @@ returns-in-Err g c = λ slot limit o s t h i b.
     let old = g.D.Desk.outside c.args.desk.now in
     let new = g.D.Desk.outside c.read_rest.new.desk in
     let err = c.in-Err.err in
-    let there : DrainFails t.bytes.slot (t.bytes.limit - taken_by t.bytes) old err new = subst (λ (x : BytesState). DrainFails x.slot (x.limit - taken_by x) old err new) (sym b) c.in-Err.ensures.1 in
-    let amount : t.bytes.limit - taken_by t.bytes ≡ s.bytes.limit - taken_by s.bytes = (λ j. passed_limit s.bytes t.bytes i.passed j - passed_taken s.bytes t.bytes i.passed j) in
-    let here = subst (λ (n : ℕ). DrainFails s.bytes.slot n old err new) amount (subst (λ (k : Slot). DrainFails k (t.bytes.limit - taken_by t.bytes) old err new) (passed_slot s.bytes t.bytes i.passed) there) in
+    let here = passed_stops s.bytes t.bytes i.passed old err new (subst (λ (x : BytesState). DrainFails x.slot (x.limit - taken_by x) old err new) (sym b) c.in-Err.ensures.1) in
     subst (λ (e : FromRefusal). FromFails slot limit o e new) (sym c.from-in-Err.ensures) (rest_stops slot limit o s old h err new here)
