@@ -1,5 +1,5 @@
 -- What the whole tokens of a piece tell, whatever follows the piece.
-use Rattle.std.proofs.Common.{◌≡◌, refl, sym, ap, ◌∙◌, subst, ℕ, ◌+◌, ◌<◌, ◌≤◌, List, [], ◌∷◌, ◌++◌, length, take, drop, Result, Ok, Err, IfOk, MatchResult, arith, append_assoc, length-take, length-drop, take-append-drop}
+use Rattle.std.proofs.Common.{◌≡◌, refl, sym, ap, ◌∙◌, subst, ℕ, ◌+◌, ◌-◌, ◌<◌, ◌≤◌, List, [], ◌∷◌, ◌++◌, length, take, drop, Result, Ok, Err, IfOk, MatchResult, arith, append_assoc, length-take, length-drop, take-append-drop}
 use Rattle.std.proofs.lemmas.List.{drop-append-le}
 use Rattle.cx_base.specs.Drafts.{Draft}
 use Rattle.cx_base.specs.declared.literal.TheConstants.{MAX_VARIABLE}
@@ -9,7 +9,7 @@ use Rattle.cx_texts.specs.declared.line_state.EndLines.TheVariants as end_line
 use Rattle.cx_texts.specs.declared.line_state.LineState.TheVariants.{Kept}
 use Rattle.cx_texts.specs.declared.offence.Offence.{Offence}
 use Rattle.cnfx_reader.specs.PieceReading.{AllButLast}
-use Rattle.cnfx_reader.specs.PieceSteps.{answer_from, behind_header, IsPhaseIn, IsRefusedBy, StepTaken, StepRefused, TokenTaken, TokenRefused}
+use Rattle.cnfx_reader.specs.PieceSteps.{answer_from, behind_header, IsRefusedBy, StepTaken, StepRefused, TokenTaken, TokenRefused}
 use Rattle.cnfx_reader.specs.HeaderParts.{header_from, header_behind, IsStepWithin}
 use Rattle.cnfx_reader.specs.declared.header_token.HeaderPart.{HeaderPart}
 use Rattle.cnfx_reader.specs.declared.header_token.HeaderStep.{HeaderStep}
@@ -39,50 +39,42 @@ module _ (place len : ℕ) (bytes : List ℕ) (tokens : List Token) (blank : End
       let f = followed more in
       subst (λ ts. IsRefusedBy e (answer_from phase size old ts)) (sym f.1) (refused size f.0)
 
-  pub piece_step : (v : ℕ) (pending : Pending) (old : Draft) (read : PieceRead) (new : Draft) → v ≤ MAX_VARIABLE → AllButLast pending old tokens read new
-      → StepTaken (Body v pending) old place bytes (record { phase = Body v read.pending; next = read.last }) new
-  piece_step v pending old read new small p = (here.behind, p.at ∙ here.at, inside, (small, p.fits), λ size more. same size more (followed more).0 (followed more).1)
-    where
-      here : StandsAt end_line.End place (take len bytes) p.last []
-      here = left_from_token end_line.End Kept place (take len bytes) p.before p.last [] (sym are ∙ p.split)
+  module _ (v : ℕ) (pending : Pending) (old : Draft) (read : PieceRead) (new : Draft) (p : AllButLast pending old tokens read new) where
+    here : StandsAt end_line.End place (take len bytes) p.last []
+    here = left_from_token end_line.End Kept place (take len bytes) p.before p.last [] (sym are ∙ p.split)
 
-      inside : here.behind ≤ length bytes
-      inside = omega (arith, here.inside, length-take len bytes, within)
+    pub piece_behind : place ≤ read.last
+    piece_behind = omega (arith, p.at, here.at)
 
-      left : (more : List ℕ) (behind : List Token) → formula_tokens_within place (bytes ++ more) ≡ tokens ++ behind → formula_tokens_within read.last (drop here.behind bytes ++ more) ≡ p.last ∷ behind
-      left more behind are_these =
-          let there = left_from_token end_line.End Kept place (bytes ++ more) p.before p.last behind (are_these ∙ ap (λ ts. ts ++ behind) p.split ∙ append_assoc p.before (p.last ∷ []) behind) in
-          let k : there.behind ≡ here.behind = omega (arith, there.at, here.at) in
-          let bytes_left : drop there.behind (bytes ++ more) ≡ drop here.behind bytes ++ more = ap (λ n. drop n (bytes ++ more)) k ∙ drop-append-le here.behind bytes more inside in
-          (λ i. formula_tokens_within (p.at i) (sym bytes_left i)) ∙ there.left
+    pub piece_step : v ≤ MAX_VARIABLE → (k : ℕ) → k ≡ read.last - place → StepTaken (Body v pending) old place bytes (record { phase = Body v read.pending; len = k }) new
+    piece_step small k is = record { high = inside; fits = (small, p.fits); same = λ size more. same size more (followed more).0 (followed more).1 }
+      where
+        at : read.last ≡ place + k
+        at = omega (arith, is, piece_behind)
 
-      same : (size : ℕ) (more : List ℕ) (behind : List Token) → formula_tokens_within place (bytes ++ more) ≡ tokens ++ behind
-          → answer_from (Body v pending) size old (formula_tokens_within place (bytes ++ more)) ≡ answer_from (Body v read.pending) size new (formula_tokens_within read.last (drop here.behind bytes ++ more))
-      same size more behind are_these =
-          ap (answer_from (Body v pending) size old) are_these ∙ ap (λ o. Ok (v, o)) (p.same size behind) ∙ ap (answer_from (Body v read.pending) size new) (sym (left more behind are_these))
+        inside : k ≤ length bytes
+        inside = omega (arith, at, p.at, here.at, here.inside, length-take len bytes, within)
 
--- ---- what a piece is taken as
+        left : (more : List ℕ) (behind : List Token) → formula_tokens_within place (bytes ++ more) ≡ tokens ++ behind → formula_tokens_within (place + k) (drop k bytes ++ more) ≡ p.last ∷ behind
+        left more behind are_these =
+            let there = left_from_token end_line.End Kept place (bytes ++ more) p.before p.last behind (are_these ∙ ap (λ ts. ts ++ behind) p.split ∙ append_assoc p.before (p.last ∷ []) behind) in
+            let same_k : there.behind ≡ k = omega (arith, there.at, at, p.at) in
+            let bytes_left : drop there.behind (bytes ++ more) ≡ drop k bytes ++ more = ap (λ n. drop n (bytes ++ more)) same_k ∙ drop-append-le k bytes more inside in
+            (λ i. formula_tokens_within ((sym at ∙ p.at) i) (sym bytes_left i)) ∙ there.left
 
-pub none_taken : (place : ℕ) (bytes : List ℕ) (phase : Phase) (old new : Draft) → IsPhaseIn phase old → new ≡ old → StepTaken phase old place bytes (record { phase = phase; next = place }) new
-none_taken place bytes phase old new fits same =
-    (0, omega arith, omega arith, subst (IsPhaseIn phase) (sym same) fits, λ size more. ap (λ d. answer_from phase size d (formula_tokens_within place (bytes ++ more))) (sym same))
+        same : (size : ℕ) (more : List ℕ) (behind : List Token) → formula_tokens_within place (bytes ++ more) ≡ tokens ++ behind
+            → answer_from (Body v pending) size old (formula_tokens_within place (bytes ++ more)) ≡ answer_from (Body v read.pending) size new (formula_tokens_within (place + k) (drop k bytes ++ more))
+        same size more behind are_these =
+            ap (answer_from (Body v pending) size old) are_these ∙ ap (λ o. Ok (v, o)) (p.same size behind) ∙ ap (answer_from (Body v read.pending) size new) (sym (left more behind are_these))
 
 -- none were taken, and then some
-module _ (place : ℕ) (bytes : List ℕ) (phase mid : Phase) (next : ℕ) (old d : Draft) (first : StepTaken phase old place bytes (record { phase = mid; next = next }) d) (none : next ≡ place) where
+module _ (place : ℕ) (bytes : List ℕ) (phase mid : Phase) (old d : Draft) (first : StepTaken phase old place bytes (record { phase = mid; len = 0 }) d) where
   same_there : (size : ℕ) (more : List ℕ) → answer_from phase size old (formula_tokens_within place (bytes ++ more)) ≡ answer_from mid size d (formula_tokens_within place (bytes ++ more))
-  same_there size more =
-      let z : first.0 ≡ 0 = omega (arith, first.1, none) in
-      first.4 size more ∙ (λ i. answer_from mid size d (formula_tokens_within (none i) (drop (z i) bytes ++ more)))
-
-  pub then_taken : (t : Taken) (new : Draft) → StepTaken mid d place bytes t new → StepTaken phase old place bytes t new
-  then_taken t new (k, at, few, fits, same) = (k, at, few, fits, λ size more. same_there size more ∙ same size more)
-
-  pub then_refused : (e : ReadRefusal) → StepRefused mid d place bytes e → StepRefused phase old place bytes e
-  then_refused e refused size more = subst (IsRefusedBy e) (sym (same_there size more)) (refused size more)
+  same_there size more = first.same size more ∙ ap (λ n. answer_from mid size d (formula_tokens_within n (bytes ++ more))) (let e : place + 0 ≡ place = omega arith in e)
 
   pub then_result : (r : Result Taken ReadRefusal) (new : Draft) → MatchResult r (λ t. StepTaken mid d place bytes t new) (λ e. StepRefused mid d place bytes e) → MatchResult r (λ t. StepTaken phase old place bytes t new) (λ e. StepRefused phase old place bytes e)
-  then_result (Ok t) new h = then_taken t new h
-  then_result (Err e) new h = then_refused e h
+  then_result (Ok t) new h = record { high = h.high; fits = h.fits; same = λ size more. same_there size more ∙ h.same size more }
+  then_result (Err e) new h = λ size more. subst (IsRefusedBy e) (sym (same_there size more)) (h size more)
 
 -- ---- one token
 
@@ -107,8 +99,12 @@ module _ (place len : ℕ) (bytes : List ℕ) (some : 0 < len) (few : len < leng
           ap (λ x. formula_tokens_within place (x ++ (drop len bytes ++ more))) e ∙ within-run end_line.End place b t (drop len bytes ++ more) (subst NoBlank e run) behind
           ∙ (λ i. record { place = place; text = sym e i } ∷ formula_tokens_within (place + k i) (drop len bytes ++ more))
 
-  pub first_step : (phase next : Phase) (old new : Draft) → TokenTaken phase old first next new → StepTaken phase old place bytes (record { phase = next; next = place + len }) new
-  first_step phase next old new (fits, same) = (len, refl, omega (arith, few), fits, λ size more. ap (answer_from phase size old) (first_run more) ∙ same size (formula_tokens_within (place + len) (drop len bytes ++ more)))
+  pub first_step : (phase next : Phase) (old new : Draft) → TokenTaken phase old first next new → StepTaken phase old place bytes (record { phase = next; len = len }) new
+  first_step phase next old new (fits, same) = record {
+    high = omega (arith, few);
+    fits = fits;
+    same = λ size more. ap (answer_from phase size old) (first_run more) ∙ same size (formula_tokens_within (place + len) (drop len bytes ++ more));
+  }
 
   pub first_refused : (phase : Phase) (old : Draft) (e : ReadRefusal) → TokenRefused phase old first e → StepRefused phase old place bytes e
   first_refused phase old e refused = λ size more. subst (λ ts. IsRefusedBy e (answer_from phase size old ts)) (sym (first_run more)) (refused size (formula_tokens_within (place + len) (drop len bytes ++ more)))

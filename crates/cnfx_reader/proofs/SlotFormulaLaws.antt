@@ -92,16 +92,14 @@ refused_then e a b c h k = record { passed = passes_then a.bytes b.bytes c.bytes
 
 module _ (s : SlotFormula) (kept : s.line ≡ Kept) where
   -- bytes were taken
-  pub taken_on : (t : Taken) (d : Draft) → StepTaken s.phase s.builder s.bytes.place s.bytes.bytes t d → (count : ℕ) → count ≡ t.next - s.bytes.place → (b : BytesState) → b ≡ record s.bytes { bytes = drop count s.bytes.bytes; place = s.bytes.place + count }
+  pub taken_on : (t : Taken) (d : Draft) → StepTaken s.phase s.builder s.bytes.place s.bytes.bytes t d → (b : BytesState) → b ≡ record s.bytes { bytes = drop t.len s.bytes.bytes; place = s.bytes.place + t.len }
       → GoesOn s (record { bytes = b; line = s.line; phase = t.phase; builder = d })
-  taken_on t d (k, at, few, fits, same) count is b passed =
-      let ck : count ≡ k = omega (arith, is, at) in
-      subst (λ (x : BytesState). GoesOn s (record { bytes = x; line = s.line; phase = t.phase; builder = d })) (sym (passed ∙ ap (λ n. record s.bytes { bytes = drop n s.bytes.bytes; place = s.bytes.place + n }) ck)) (record {
-        passed = (k, few, refl);
-        fits = λ _. fits;
-        same = λ len more. ap (λ l. answer_from s.phase len s.builder (formula_tokens_in l s.bytes.place (s.bytes.bytes ++ more))) kept ∙ same len more
-            ∙ (λ i. answer_from t.phase len d (formula_tokens_in (sym kept i) (at i) (drop k s.bytes.bytes ++ more)));
-      })
+  taken_on t d step b passed = subst (λ (x : BytesState). GoesOn s (record { bytes = x; line = s.line; phase = t.phase; builder = d })) (sym passed) (record {
+    passed = (t.len, step.high, refl);
+    fits = λ _. step.fits;
+    same = λ len more. ap (λ l. answer_from s.phase len s.builder (formula_tokens_in l s.bytes.place (s.bytes.bytes ++ more))) kept ∙ step.same len more
+        ∙ ap (λ l. answer_from t.phase len d (formula_tokens_in l (s.bytes.place + t.len) (drop t.len s.bytes.bytes ++ more))) (sym kept);
+  })
 
   pub refused_on : (e : ReadRefusal) (d : Draft) → StepRefused s.phase s.builder s.bytes.place s.bytes.bytes e → IsRefusedIn e s (record s { builder = d })
   refused_on e d refused = record {

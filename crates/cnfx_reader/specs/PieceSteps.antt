@@ -37,9 +37,10 @@ IsRefusedBy e (Ok read) = IsEndedBy e read.1.ending
 IsRefusedBy e (Err offence) = e ≡ refusal_of offence
 
 -- so many bytes were taken, whatever follows
-abbrev pub StepTaken : Phase → Draft → ℕ → List ℕ → Taken → Draft → Type 0
-StepTaken phase old place bytes t new = (k : ℕ) × (t.next ≡ place + k) × (k ≤ length bytes) × IsPhaseIn t.phase new
-    × ((len : ℕ) (more : List ℕ) → answer_from phase len old (formula_tokens_within place (bytes ++ more)) ≡ answer_from t.phase len new (formula_tokens_within t.next (drop k bytes ++ more)))
+pub record StepTaken (phase : Phase) (old : Draft) (place : ℕ) (bytes : List ℕ) (t : Taken) (new : Draft) : Type 0 where
+  pub high : t.len ≤ length bytes
+  pub fits : IsPhaseIn t.phase new
+  pub same : (len : ℕ) (more : List ℕ) → answer_from phase len old (formula_tokens_within place (bytes ++ more)) ≡ answer_from t.phase len new (formula_tokens_within (place + t.len) (drop t.len bytes ++ more))
 
 abbrev pub StepRefused : Phase → Draft → ℕ → List ℕ → ReadRefusal → Type 0
 StepRefused phase old place bytes e = (len : ℕ) (more : List ℕ) → IsRefusedBy e (answer_from phase len old (formula_tokens_within place (bytes ++ more)))

@@ -25,11 +25,11 @@ pub(crate) enum Phase {
     Body(u32, Pending),
 }
 
-/// What was taken of a piece: how far the reading has come, and the place behind it.
+/// What was taken of a piece: how far the reading has come, and how many bytes were taken.
 #[derive(Clone, Copy, Drop)]
 pub(crate) struct Taken {
     pub phase: Phase,
-    pub next: u64,
+    pub len: usize,
 }
 
 /// Takes the whole tokens of the body at the front of the bytes but the last. The bytes begin at this place, within a kept line, and
@@ -44,10 +44,7 @@ fn take_piece(
     requires fits { IsPhaseIn phase builder.old }
     ensures { MatchResult result (λ t. StepTaken phase builder.old place bytes.now t builder.new) (λ e. StepRefused phase builder.old place bytes.now e) }
 {
-    let none = Taken {
-        phase,
-        next: place as u64,
-    };
+    let none = Taken { phase, len: 0 };
     match phase {
         Phase::Head(_) => Ok(none),
         Phase::Body(vars, pending) => {
@@ -56,7 +53,7 @@ fn take_piece(
             match read_but_last(&mut tokens, builder, pending) {
                 Ok(Some(read)) => Ok(Taken {
                     phase: Phase::Body(vars, read.pending),
-                    next: read.last,
+                    len: read.last as usize - place,
                 }),
                 Ok(None) => Ok(none),
                 Err(refusal) => Err(refusal),
@@ -127,16 +124,10 @@ fn take_first(
 {
     let len = run_len(bytes);
     if len == 0 || !is_followed(bytes, len) {
-        return Ok(Taken {
-            phase,
-            next: place as u64,
-        });
+        return Ok(Taken { phase, len: 0 });
     }
     match take_one(builder, &bytes[..len], place, phase) {
-        Ok(next) => Ok(Taken {
-            phase: next,
-            next: (place + len) as u64,
-        }),
+        Ok(next) => Ok(Taken { phase: next, len }),
         Err(refusal) => Err(refusal),
     }
 }
@@ -157,7 +148,7 @@ pub(crate) fn take_some(
 {
     match take_piece(builder, bytes, place, phase) {
         Ok(taken) => {
-            if taken.next > place as u64 {
+            if taken.len > 0 {
                 return Ok(taken);
             }
             take_first(builder, bytes, place, taken.phase)

@@ -73,10 +73,9 @@ impl SlotFormula {
         let place = self.bytes.place();
         match take_some(&mut self.builder, self.bytes.bytes(), place, self.phase) {
             Ok(taken) => {
-                let count = taken.next as usize - place;
-                self.bytes.pass(count);
+                self.bytes.pass(taken.len);
                 self.phase = taken.phase;
-                Ok(count > 0)
+                Ok(taken.len > 0)
             }
             Err(refusal) => Err(refusal),
         }
