@@ -1,5 +1,5 @@
 //! A piece of a formula's text, taken into the formula that is made of it.
-ghost use Rattle.std.specs.Prelude.{◌≡◌, ◌<◌, ◌≤◌, ◌+◌, ◌^◌, [], length, IfOk, IsTrue, MatchResult};
+ghost use Rattle.std.specs.Prelude.{◌≡◌, ◌<◌, ◌≤◌, ◌+◌, ◌^◌, [], length, IfOk, MatchResult};
 ghost use Rattle.cx_base.specs.declared.literal.TheConstants.{MAX_VARIABLE};
 ghost use Rattle.cx_base.specs.Drafts.{Draft};
 ghost use Rattle.cnfx_reader.specs.HeaderParts.{IsPartWithin};
@@ -104,26 +104,19 @@ fn take_one(
     }
 }
 
-/// Whether a byte stands behind the first `len`. A run that all the bytes are may go on in the next piece.
-fn is_followed(bytes: &[u8], len: usize) -> bool
-    ensures { IsTrue result → len < length bytes.now }
-{
-    len < bytes.len()
-}
-
-/// Takes the token at the front of the bytes, or nothing where no blank stands behind it.
+/// Takes the token at the front of the bytes, or nothing where no blank stands behind it: a run that all the bytes are may go on in the
+/// next piece.
 fn take_first(
     builder: &mut FormulaBuilder,
     bytes: &[u8],
     place: usize,
     phase: Phase,
 ) -> Result<Taken, ReadRefusal>
-    requires small { place + length bytes.now < 2 ^ 63 }
     requires fits { IsPhaseIn phase builder.old }
     ensures { MatchResult result (λ t. StepTaken phase builder.old place bytes.now t builder.new) (λ e. StepRefused phase builder.old place bytes.now e) }
 {
     let len = run_len(bytes);
-    if len == 0 || !is_followed(bytes, len) {
+    if len == 0 || len == bytes.len() {
         return Ok(Taken { phase, len: 0 });
     }
     match take_one(builder, &bytes[..len], place, phase) {
@@ -132,8 +125,7 @@ fn take_first(
     }
 }
 
-/// Takes whole tokens at the front of the bytes, one or more where one stands there. The bytes begin at this place, within a kept line,
-/// and more may follow.
+/// Takes whole tokens at the front of the bytes. The bytes begin at this place, within a kept line, and more may follow.
 ///
 /// The last whole token is taken alone: where the place behind it lies, only its bytes tell.
 pub(crate) fn take_some(

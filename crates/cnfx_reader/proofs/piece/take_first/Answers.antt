@@ -8,7 +8,7 @@ returns-in-Ok c =
     let len = c.run_len-len.result in
     let run = c.run_len-len.ensures in
     let some : 0 < len = omega (arith, c.if-len-eq0.false) in
-    let few : len < length bytes = c.is_followed.ensures c.if-not-is_followed.false in
+    let few : len < length bytes = omega (arith, run.high, c.if-len-bytes.false) in
     first_step c.args.place len bytes some few run.run run.ends c.args.phase c.in-Ok.next c.args.builder.now c.take_one.new.builder c.in-Ok.ensures
 
 pub returns-in-Err : goal.returns-in-Err
@@ -17,5 +17,5 @@ returns-in-Err c =
     let len = c.run_len-len.result in
     let run = c.run_len-len.ensures in
     let some : 0 < len = omega (arith, c.if-len-eq0.false) in
-    let few : len < length bytes = c.is_followed.ensures c.if-not-is_followed.false in
+    let few : len < length bytes = omega (arith, run.high, c.if-len-bytes.false) in
     first_refused c.args.place len bytes some few run.run run.ends c.args.phase c.args.builder.now c.in-Err.refusal c.in-Err.ensures
