@@ -34,7 +34,7 @@ pub(crate) struct Taken {
 
 /// Takes the whole tokens of the body at the front of the bytes but the last. The bytes begin at this place, within a kept line, and
 /// more may follow.
-fn take_piece(
+fn take_body_front(
     builder: &mut FormulaBuilder,
     bytes: &[u8],
     place: usize,
@@ -138,7 +138,7 @@ pub(crate) fn take_some(
     requires fits { IsPhaseIn phase builder.old }
     ensures { MatchResult result (λ t. StepTaken phase builder.old place bytes.now t builder.new) (λ e. StepRefused phase builder.old place bytes.now e) }
 {
-    match take_piece(builder, bytes, place, phase) {
+    match take_body_front(builder, bytes, place, phase) {
         Ok(taken) => {
             if taken.len > 0 {
                 return Ok(taken);

@@ -7,4 +7,4 @@ returns-else-taken-gt0 c =
     let taken = c.in-Ok.taken in
     let none : taken.len ≡ 0 = omega (arith, c.if-taken-gt0.false) in
     let first = rw none at c.in-Ok.ensures in
-    then_result c.args.place c.args.bytes.now c.args.phase taken.phase c.args.builder.now c.take_piece.new.builder first c.take_first.result c.take_first.new.builder c.take_first.ensures
+    then_result c.args.place c.args.bytes.now c.args.phase taken.phase c.args.builder.now c.take_body_front.new.builder first c.take_first.result c.take_first.new.builder c.take_first.ensures

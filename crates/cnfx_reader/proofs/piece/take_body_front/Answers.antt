@@ -5,7 +5,7 @@ use Rattle.cnfx_reader.specs.PieceSteps.{IsPhaseIn, StepTaken, StepRefused}
 use Rattle.cnfx_reader.specs.declared.piece.Phase.{Phase}
 use Rattle.cnfx_reader.specs.declared.piece.Phase.TheVariants.{Body}
 use Rattle.cnfx_reader.proofs.PieceSteps.{piece_behind, piece_step, piece_refused}
-use Rattle.cnfx_reader.proofs.piece.take_piece.Goals as goal
+use Rattle.cnfx_reader.proofs.piece.take_body_front.Goals as goal
 
 pub overflow_sub-result : goal.overflow_sub-result
 overflow_sub-result c =
