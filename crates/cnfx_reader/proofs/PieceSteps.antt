@@ -1,5 +1,5 @@
 -- What the whole tokens of a piece tell, whatever follows the piece.
-use Rattle.std.proofs.Common.{◌≡◌, refl, sym, ap, ◌∙◌, subst, ℕ, ◌+◌, ◌-◌, ◌<◌, ◌≤◌, List, [], ◌∷◌, ◌++◌, length, take, drop, Result, Ok, Err, IfOk, MatchResult, arith, append_assoc, length-take, length-drop, take-append-drop}
+use Rattle.std.proofs.Common.{◌≡◌, refl, sym, ap, ◌∙◌, subst, ℕ, ◌+◌, ◌-◌, ◌<◌, ◌≤◌, List, [], ◌∷◌, ◌++◌, length, take, drop, Result, Ok, Err, MatchResult, arith, append_assoc, length-take, length-drop, take-append-drop}
 use Rattle.std.proofs.lemmas.List.{drop-append-le}
 use Rattle.cx_base.specs.Drafts.{Draft}
 use Rattle.cx_base.specs.declared.literal.TheConstants.{MAX_VARIABLE}
@@ -7,22 +7,15 @@ use Rattle.cx_texts.specs.Pieces.{EndsBlank}
 use Rattle.cx_texts.specs.Tokens.{Token, NoBlank, EndsRun}
 use Rattle.cx_texts.specs.declared.line_state.EndLines.TheVariants as end_line
 use Rattle.cx_texts.specs.declared.line_state.LineState.TheVariants.{Kept}
-use Rattle.cx_texts.specs.declared.offence.Offence.{Offence}
 use Rattle.cnfx_reader.specs.PieceReading.{AllButLast}
-use Rattle.cnfx_reader.specs.PieceSteps.{answer_from, behind_header, IsRefusedBy, StepTaken, StepRefused, TokenTaken, TokenRefused}
-use Rattle.cnfx_reader.specs.HeaderParts.{header_from, header_behind, IsStepWithin}
-use Rattle.cnfx_reader.specs.declared.header_token.HeaderPart.{HeaderPart}
-use Rattle.cnfx_reader.specs.declared.header_token.HeaderStep.{HeaderStep}
-use Rattle.cnfx_reader.specs.declared.header_token.HeaderStep.TheVariants.{Lacks, Whole}
-use Rattle.cnfx_reader.specs.Refusals.{refusal_of}
+use Rattle.cnfx_reader.specs.PieceSteps.{answer_from, IsRefusedBy, StepTaken, StepRefused, TokenTaken, TokenRefused}
 use Rattle.cnfx_reader.specs.TokensLeft.{formula_tokens_within}
 use Rattle.cx_texts.proofs.PieceLaws.{StandsAt, cut_behind_blank, left_from_token}
 use Rattle.cx_texts.proofs.TokenLaws.{within-run}
 use Rattle.cnfx_reader.specs.declared.body.PieceRead.{PieceRead}
 use Rattle.cnfx_reader.specs.declared.pending.Pending.{Pending}
-use Rattle.cnfx_reader.specs.declared.pending.Pending.TheVariants.{Nothing}
 use Rattle.cnfx_reader.specs.declared.piece.Phase.{Phase}
-use Rattle.cnfx_reader.specs.declared.piece.Phase.TheVariants.{Head, Body}
+use Rattle.cnfx_reader.specs.declared.piece.Phase.TheVariants.{Body}
 use Rattle.cnfx_reader.specs.declared.piece.Taken.{Taken}
 use Rattle.cnfx_reader.specs.declared.refusal.ReadRefusal.{ReadRefusal}
 
@@ -108,24 +101,3 @@ module _ (place len : ℕ) (bytes : List ℕ) (some : 0 < len) (few : len < leng
 
   pub first_refused : (phase : Phase) (old : Draft) (e : ReadRefusal) → TokenRefused phase old first e → StepRefused phase old place bytes e
   first_refused phase old e refused = λ size more. subst (λ ts. IsRefusedBy e (answer_from phase size old ts)) (sym (first_run more)) (refused size (formula_tokens_within (place + len) (drop len bytes ++ more)))
-
--- ---- a token of the header
-
-abbrev HeadTaken : HeaderPart → Token → Draft → Result HeaderStep Offence → Type 0
-HeadTaken part t d (Ok (Lacks next)) = TokenTaken (Head part) d t (Head next) d
-HeadTaken part t d (Ok (Whole v)) = TokenTaken (Head part) d t (Body v Nothing) d
-HeadTaken part t d (Err o) = TokenRefused (Head part) d t (refusal_of o)
-
-pub head_taken : (part : HeaderPart) (t : Token) (r : Result HeaderStep Offence) → IfOk r IsStepWithin → ((len : ℕ) (rest : List Token) → header_from part len (t ∷ rest) ≡ header_behind r len rest) → (d : Draft) → d.unfinished ≡ [] → HeadTaken part t d r
-head_taken part t (Ok (Lacks next)) within read d empty = ((within, empty), λ len more. ap (behind_header len d) (read len more))
-head_taken part t (Ok (Whole v)) within read d empty = ((within, empty), λ len more. ap (behind_header len d) (read len more))
-head_taken part t (Err o) within read d empty = λ len more. subst (IsRefusedBy (refusal_of o)) (sym (ap (behind_header len d) (read len more))) refl
-
--- ---- the rest
-
-module _ (part : HeaderPart) (len : ℕ) (d : Draft) (tokens : List Token) where
-  pub head_refused : (o : Offence) → header_from part len tokens ≡ Err o → IsRefusedBy (refusal_of o) (answer_from (Head part) len d tokens)
-  head_refused o e = subst (IsRefusedBy (refusal_of o)) (sym (ap (behind_header len d) e)) refl
-
-  pub behind_head : (v : ℕ) (body : List Token) → header_from part len tokens ≡ Ok (v, body) → answer_from (Head part) len d tokens ≡ answer_from (Body v Nothing) len d body
-  behind_head v body e = ap (behind_header len d) e

@@ -16,17 +16,16 @@ use Rattle.cx_desk.specs.SlotBytes.{BytesState, taken_by, to_come, to_read, IsTo
 use Rattle.cx_desk.proofs.Moves.{taken-twice, taken-none}
 use Rattle.cx_texts.specs.FormulaText.{header, Reads}
 use Rattle.cx_texts.specs.Tokens.{Token}
-use Rattle.cx_texts.specs.declared.line_state.LineState.TheVariants.{Start, Kept}
+use Rattle.cx_texts.specs.declared.line_state.LineState.TheVariants.{Start}
 use Rattle.cx_texts.specs.declared.offence.Offence.{Offence}
 use Rattle.cnfx_reader.specs.Body.{Outcome}
 use Rattle.cnfx_reader.specs.FromSlot.{FromFails, from_read, from_desk, from_drained}
-use Rattle.cnfx_reader.specs.PieceSteps.{answer_from, behind_header, IsRefusedBy, IsWhole, StepTaken, StepRefused}
+use Rattle.cnfx_reader.specs.PieceSteps.{answer_from, behind_header, IsRefusedBy, IsWhole}
 use Rattle.cnfx_reader.specs.ReadsTo.{IsRefusedAs}
-use Rattle.cnfx_reader.specs.SlotFormula.{answer_of, answer_of_text, PassedBytes, GoesOn, IsLast, IsRefusedIn, fresh, HasRead}
+use Rattle.cnfx_reader.specs.SlotFormula.{answer_of, answer_of_text, PassedBytes, GoesOn, IsLast, fresh, HasRead}
 use Rattle.cnfx_reader.specs.TokensLeft.{formula_tokens_from, formula_tokens_in, formula_tokens_within}
 use Rattle.cnfx_reader.specs.declared.header_token.HeaderPart.TheVariants.{P}
 use Rattle.cnfx_reader.specs.declared.piece.Phase.TheVariants.{Head}
-use Rattle.cnfx_reader.specs.declared.piece.Taken.{Taken}
 use Rattle.cnfx_reader.specs.declared.refusal.ReadRefusal.{ReadRefusal}
 use Rattle.cnfx_reader.specs.declared.refusal.ReadRefusal.TheVariants.{NoHeader, BadHeader, BadToken, Unterminated, VarLimit, Memory}
 use Rattle.cnfx_reader.specs.declared.slot_formula.SlotFormula.{SlotFormula}
@@ -41,9 +40,6 @@ module _ (s t : BytesState) (passed : PassedBytes s t) where
   pub passed_taken : taken_by t ≡ taken_by s
   passed_taken = ap taken_by passed.2 ∙ (let e : taken_by later ≡ taken_by s = omega (arith, length-drop passed.0 s.bytes, passed.1) in e)
 
-  pub passed_fewer : length t.bytes ≤ length s.bytes
-  passed_fewer = omega (arith, ap (λ (x : BytesState). length x.bytes) passed.2, length-drop passed.0 s.bytes)
-
   pub passed_slot : t.slot ≡ s.slot
   passed_slot = ap (λ (x : BytesState). x.slot) passed.2
 
@@ -52,9 +48,6 @@ module _ (s t : BytesState) (passed : PassedBytes s t) where
 
   pub passed_ended : t.ended ≡ s.ended
   passed_ended = ap (λ (x : BytesState). x.ended) passed.2
-
-  pub passed_to_read : to_read t ≡ to_read s
-  passed_to_read = (λ i. (passed_limit i - passed_taken i) + Rattle.std.proofs.Common.cond (passed_ended i) 0 1)
 
   pub passed_come : (p : Outside) (more : Bytes) → IsToCome t p more → IsToCome s p more
   passed_come p more come = subst (λ (x : BytesState). IsToCome x p more) passed.2 come
@@ -75,37 +68,6 @@ module _ (s t : BytesState) (passed : PassedBytes s t) where
 
   pub passed_stops : (p : Outside) (e : DrainErr) (q : Outside) → DrainFails t.slot (t.limit - taken_by t) p e q → DrainFails s.slot (s.limit - taken_by s) p e q
   passed_stops p e q h = subst (λ n. DrainFails s.slot n p e q) (λ i. passed_limit i - passed_taken i) (subst (λ (k : Slot). DrainFails k (t.limit - taken_by t) p e q) passed_slot h)
-
-pub passes_then : (a b c : BytesState) → PassedBytes a b → PassedBytes b c → PassedBytes a c
-passes_then a b c (k, l, e) (m, n, f) = (
-  k + m,
-  omega (arith, l, subst (λ (x : BytesState). m ≤ length x.bytes) e n, length-drop k a.bytes),
-  f ∙ ap (λ (x : BytesState). record x { bytes = drop m x.bytes; place = x.place + m }) e
-      ∙ (λ i. record a { bytes = Rattle.std.proofs.Common.drop-drop m k a.bytes i; place = (let g : (a.place + k) + m ≡ a.place + (k + m) = omega arith in g) i }),
-)
-
-pub goes_then : (a b c : SlotFormula) → GoesOn a b → GoesOn b c → GoesOn a c
-goes_then a b c h k = record { passed = passes_then a.bytes b.bytes c.bytes h.passed k.passed; fits = λ e. k.fits (h.fits e); same = λ len more. h.same len more ∙ k.same len more }
-
-pub refused_then : (e : ReadRefusal) (a b c : SlotFormula) → GoesOn a b → IsRefusedIn e b c → IsRefusedIn e a c
-refused_then e a b c h k = record { passed = passes_then a.bytes b.bytes c.bytes h.passed k.passed; why = λ len more. subst (IsRefusedBy e) (sym (h.same len more)) (k.why len more) }
-
-module _ (s : SlotFormula) (kept : s.line ≡ Kept) where
-  -- bytes were taken
-  pub taken_on : (t : Taken) (d : Draft) → StepTaken s.phase s.builder s.bytes.place s.bytes.bytes t d → (b : BytesState) → b ≡ record s.bytes { bytes = drop t.len s.bytes.bytes; place = s.bytes.place + t.len }
-      → GoesOn s (record { bytes = b; line = s.line; phase = t.phase; builder = d })
-  taken_on t d step b passed = subst (λ (x : BytesState). GoesOn s (record { bytes = x; line = s.line; phase = t.phase; builder = d })) (sym passed) (record {
-    passed = (t.len, step.high, refl);
-    fits = λ _. step.fits;
-    same = λ len more. ap (λ l. answer_from s.phase len s.builder (formula_tokens_in l s.bytes.place (s.bytes.bytes ++ more))) kept ∙ step.same len more
-        ∙ ap (λ l. answer_from t.phase len d (formula_tokens_in l (s.bytes.place + t.len) (drop t.len s.bytes.bytes ++ more))) (sym kept);
-  })
-
-  pub refused_on : (e : ReadRefusal) (d : Draft) → StepRefused s.phase s.builder s.bytes.place s.bytes.bytes e → IsRefusedIn e s (record s { builder = d })
-  refused_on e d refused = record {
-    passed = (0, omega arith, (λ i. record s.bytes { place = (let e : s.bytes.place ≡ s.bytes.place + 0 = omega arith in e) i }));
-    why = λ len more. subst (λ l. IsRefusedBy e (answer_from s.phase len s.builder (formula_tokens_in l s.bytes.place (s.bytes.bytes ++ more)))) (sym kept) (refused len more);
-  }
 
 -- ---- the whole text
 
@@ -280,18 +242,3 @@ module _ (slot : Slot) (limit : ℕ) (o : Outside) where
 
 pub started_later : (slot : Slot) (limit : ℕ) (o : Outside) (s : SlotFormula) (p : Outside) → HasRead slot limit o s p → started_in slot o.started ≡ true → started_in s.bytes.slot p.started ≡ true
 started_later slot limit o s p h e = (λ i. started_in (h.same_slot i) ((ap (λ (x : Outside). x.started) h.moved) i)) ∙ e
-
--- a piece that is read takes more from what may be read than it adds to what is at hand
-pub falls : (s : BytesState) (o : Outside) (t : BytesState) (p : Outside) → BytesRead s o t p → s.ended ≡ false → taken_by s ≤ s.limit → taken_by t ≤ t.limit → to_read t < to_read s → (to_read t + to_read t) + length t.bytes < (to_read s + to_read s) + length s.bytes
-falls s o t p r open_still few within fewer = by_end t.ended refl
-  where
-    was : to_read s ≡ (s.limit - taken_by s) + 1
-    was = ap (λ e. (s.limit - taken_by s) + Rattle.std.proofs.Common.cond e 0 1) open_still
-
-    by_end : (x : Bool) → t.ended ≡ x → (to_read t + to_read t) + length t.bytes < (to_read s + to_read s) + length s.bytes
-    by_end true e =
-        let now : to_read t ≡ (t.limit - taken_by t) + 0 = ap (λ e. (t.limit - taken_by t) + Rattle.std.proofs.Common.cond e 0 1) e in
-        omega (arith, was, now, few, within, fewer, r.kept.limit, r.kept.place, r.took.1)
-    by_end false e =
-        let now : to_read t ≡ (t.limit - taken_by t) + 1 = ap (λ e. (t.limit - taken_by t) + Rattle.std.proofs.Common.cond e 0 1) e in
-        omega (arith, was, now, few, within, fewer, r.kept.limit, r.kept.place, r.took.1)

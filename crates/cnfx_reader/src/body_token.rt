@@ -22,6 +22,8 @@ pub(crate) enum BodyToken {
 }
 
 /// What a whole token says.
+// Not inlined into `any_token`, it would cost each `x` that is joined to an integer a few instructions.
+#[inline(always)]
 pub(crate) fn read_token(token: &[u8]) -> BodyToken
     requires { 0 < length token.now }
     ensures { Says result (formula_words_of token.now) }
