@@ -1,11 +1,41 @@
 //! A proof that is printed step by step on a desk's proof port.
-ghost use Rattle.std.specs.Prelude.{◌≡◌, true, false};
-ghost use Rattle.proof_text.specs.Told.{is_whole};
+ghost use Rattle.std.specs.Prelude.{◌≡◌, true, false, OnOk, OnErr};
+ghost use Rattle.cx_texts.specs.Printed.{HasProofText};
+ghost use Rattle.step_text.specs.Sinks.{with_next, SinkFaultsAs, HasFailedAs, OnFailed};
+ghost use Rattle.proof_text.specs.Told.{steps_told, is_whole, fault_of, TornOn, Goes};
 
 use crate::print::put_proof_step;
 use cx_base::ProofStep;
 use cx_desk::{Desk, Failed, Port};
 use step_text::{Sink, SinkFault};
+
+/// Prints a step on the Proof port of a desk, unless an earlier one failed: then it writes nothing and answers `Memory`.
+pub fn put_step_unless_failed<D: Desk>(
+    desk: &mut D,
+    failed: &mut bool,
+    step: &ProofStep,
+) -> Result<(), SinkFault>
+    requires text { HasProofText step.now }
+    requires whole { failed.old ≡ false → is_whole (D.outside desk.old).told ≡ true }
+    ensures told { OnOk result (steps_told (D.outside desk.new) ≡ with_next step.now (steps_told (D.outside desk.old))) }
+    ensures same { OnErr result (steps_told (D.outside desk.new) ≡ steps_told (D.outside desk.old)) }
+    ensures torn { OnFailed result (TornOn step.now (D.outside desk.new)) }
+    ensures faults { SinkFaultsAs result (fault_of failed.old) (fault_of failed.new) }
+    ensures failed { HasFailedAs result failed.old failed.new }
+    ensures goes { Goes failed.old (D.outside desk.old) failed.new (D.outside desk.new) }
+    ensures whole { failed.new ≡ false → is_whole (D.outside desk.new).told ≡ true }
+{
+    if *failed {
+        return Err(SinkFault::Memory);
+    }
+    match put_proof_step(desk, Port::Proof, step) {
+        Ok(()) => Ok(()),
+        Err(Failed) => {
+            *failed = true;
+            Err(SinkFault::Failed)
+        }
+    }
+}
 
 /// A sink that prints each step on the proof port of a lent desk at once. It takes no memory.
 ///
@@ -53,17 +83,7 @@ impl<D: Desk> Sink for DeskProof<'_, D> {
     ghost keeps = { λ a b. (b.desk.ghost_name ≡ a.desk.ghost_name) × Goes a.failed (D.outside a.desk.now) b.failed (D.outside b.desk.now) };
 
     fn put(&mut self, step: &ProofStep) -> Result<(), SinkFault> {
-        if self.failed {
-            return Err(SinkFault::Memory);
-        }
-        self.failed = true;
-        match put_proof_step(self.desk, Port::Proof, step) {
-            Ok(()) => {
-                self.failed = false;
-                Ok(())
-            }
-            Err(Failed) => Err(SinkFault::Failed),
-        }
+        put_step_unless_failed(self.desk, &mut self.failed, step)
     }
 
     ghost keeps_itself = { λ a. (refl, goes_itself a.failed (D.outside a.desk.now)) };

@@ -1,15 +1,13 @@
 -- Reading a slot and printing on the Proof port leave each other alone.
-use Rattle.std.proofs.Common.{◌≡◌, refl, sym, ap, ◌∙◌, subst, ℕ, ◌+◌, ◌<◌, Bool, true, false, cond, nat_lt, List, [], ◌∷◌, append-nil, length, take, Option, Some, None, option_map, IfSome}
+use Rattle.std.proofs.Common.{◌≡◌, refl, sym, ap, ◌∙◌, subst, ℕ, ◌+◌, Bool, true, false, cond, nat_lt, List, [], length, Option, Some, None, option_map, IfSome}
 use Rattle.cx_desk.specs.declared.desk.Slot.{Slot}
 use Rattle.cx_desk.specs.declared.desk.Port.TheVariants.{Proof}
 use Rattle.cx_desk.specs.Outside.{Bytes, Left, Told, Outside, left_in, started_in}
-use Rattle.cx_desk.specs.Calls.{gained, without_front, WriteFaulted}
-use Rattle.cx_base.specs.declared.steps.ProofStep.{ProofStep}
-use Rattle.cx_texts.specs.Printed.{HasProofText}
+use Rattle.cx_desk.specs.Calls.{gained, without_front}
 use Rattle.cx_texts.specs.Grammar.{Grammar}
 use Rattle.cx_base.specs.Endings.{Ending}
 use Rattle.step_text.specs.Slots.{SlotState, taken_by, SlotLeaves, SlotKept, OnlyReads, is_too_long}
-use Rattle.proof_text.specs.Told.{steps_told, told_steps, is_whole, step_line, Goes}
+use Rattle.proof_text.specs.Told.{steps_told, told_steps, is_whole, Goes}
 use Rattle.proof_text.specs.ToldSteps.{goes_itself}
 use Rattle.solve_cli.specs.TwoEnds.{read_by, read-none, ReadsAndPrints}
 
@@ -32,6 +30,12 @@ goes_reads true o true p h = ap (λ (x : Outside). x.faults.reads) h
 goes_reads true o false p h = absurd h
 goes_reads false o false p h = ap (λ (x : Outside). x.faults.reads) h.moved
 goes_reads false o true p h = ap (λ (x : Outside). x.faults.reads) h.moved.else_same
+
+pub goes_started : (f : Bool) (o : Outside) (g : Bool) (p : Outside) → Goes f o g p → p.started ≡ o.started
+goes_started true o true p h = ap (λ (x : Outside). x.started) h
+goes_started true o false p h = absurd h
+goes_started false o false p h = ap (λ (x : Outside). x.started) h.moved
+goes_started false o true p h = ap (λ (x : Outside). x.started) h.moved.else_same
 
 on_lefts : (P : Left → Type 0) (w : Option Told) → IfSome w (λ t. P t.left) → IfSome (option_map (λ (t : Told). t.left) w) P
 on_lefts P None h = tt
@@ -66,17 +70,6 @@ printed_on s f o g p h =
       seen = λ end e. left_still (λ l. left_in s.slot l ≡ []) o p (goes_lefts f o g p h) (end e);
       goes = (0, subst (λ (x : Outside). Goes f x g p) (sym none) h);
     }
-
--- a step was printed, or torn
-pub goes_ok : (f : Bool) (o p : Outside) (step : ProofStep) → f ≡ false → HasProofText step → p ≡ gained Proof (step_line step) o → Goes f o false p
-goes_ok f o p step e text h =
-    subst (λ (b : Bool). Goes b o false p) (sym e)
-    (record { steps = step ∷ []; texts = (text, tt); moved = h ∙ ap (λ (x : Bytes). gained Proof x o) (sym (append-nil (step_line step))) })
-
-pub goes_torn : (f : Bool) (o p : Outside) (step : ProofStep) → f ≡ false → HasProofText step
-    → (k : ℕ) × (k < length (step_line step)) × WriteFaulted (gained Proof (take k (step_line step)) o) p → Goes f o true p
-goes_torn f o p step e text h =
-    subst (λ (b : Bool). Goes b o true p) (sym e) (record { steps = []; texts = tt; part = step; text = text; kept = h.0; front = h.1; moved = h.2 })
 
 -- ---- what was read leaves what is printed
 

@@ -4,10 +4,10 @@ ghost use Rattle.cx_desk.specs.Outside.{started_in};
 ghost use Rattle.proof_text.specs.Told.{is_whole};
 
 use cx_base::{LogStep, ProofStep};
-use cx_desk::{Desk, Failed, Port};
+use cx_desk::Desk;
 use fratx_elab::ElabEnds;
 use log_text::LogGrammar;
-use proof_text::put_proof_step;
+use proof_text::put_step_unless_failed;
 use step_text::{SinkFault, SlotReader, TextRefusal};
 
 /// The elaborator's two ends on one lent desk: the steps that a lent reader takes from it, and the Proof port.
@@ -72,17 +72,7 @@ impl<D: Desk> ElabEnds for ElabDesk<'_, '_, D> {
     }
 
     fn step(&mut self, step: &ProofStep) -> Result<(), SinkFault> {
-        if self.failed {
-            return Err(SinkFault::Memory);
-        }
-        self.failed = true;
-        match put_proof_step(self.desk, Port::Proof, step) {
-            Ok(()) => {
-                self.failed = false;
-                Ok(())
-            }
-            Err(Failed) => Err(SinkFault::Failed),
-        }
+        put_step_unless_failed(self.desk, &mut self.failed, step)
     }
 
     ghost leaves_some = { λ e. slot_is_left log_steps log_forms e.reader.now (D.outside e.desk.now) };
