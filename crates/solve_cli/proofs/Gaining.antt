@@ -22,7 +22,8 @@ use Rattle.cx_desk.specs.declared.desk.Slot.TheVariants as slot
 use Rattle.cx_desk.specs.declared.draining.DrainErr.{DrainErr}
 use Rattle.cx_desk.specs.declared.draining.DrainErr.TheVariants as drained
 use Rattle.cx_desk.specs.Outside.{Bytes, Files, Told, Outside}
-use Rattle.step_text.specs.Slots.{SlotState, DrainsRest, is_too_long}
+use Rattle.cx_desk.specs.SlotBytes.{BytesState, is_too_long}
+use Rattle.step_text.specs.Slots.{DrainsRest}
 use Rattle.cx_words.specs.declared.plans.Plan.TheVariants as plan
 use Rattle.cx_desk.specs.Calls.{gained, WriteFaulted}
 use Rattle.cx_base.specs.Counts.{Rose}
@@ -323,8 +324,8 @@ module _ (s : Slot) (k : ℕ) (o n : Outside) where
 
 -- ---- the rest of the slot
 
-module _ (f : Problem) (name : Bytes) (limit : ℕ) (o : Outside) (ready : Ready slot.Second name o) (s : SlotState) (m : Outside)
-    (long : is_too_long s m ≡ is_too_long (first_state slot.Second limit) o) where
+module _ (f : Problem) (name : Bytes) (limit : ℕ) (o : Outside) (ready : Ready slot.Second name o) (s : BytesState) (m : Outside)
+    (long : is_too_long s m ≡ is_too_long (first_state slot.Second limit).bytes o) where
   -- the elaboration failed
   pub elaboration_failed : (r : Result Elab ElabFault) → ElaboratedAs f name limit (seen o) r (seen m) → IfErr (elaborated_as r) (λ e. Elaborates f name limit (seen o) (Err e) (seen m))
   elaboration_failed (Ok (elab.Done k)) h = tt

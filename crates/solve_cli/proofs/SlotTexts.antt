@@ -10,11 +10,12 @@ use Rattle.cx_desk.specs.declared.draining.DrainErr.{DrainErr}
 use Rattle.cx_desk.specs.declared.draining.DrainErr.TheVariants as drained
 use Rattle.cx_desk.specs.Outside.{Bytes, Files, Told, Outside, left_in, started_in}
 use Rattle.cx_desk.specs.Calls.{taken, ReadFaulted}
+use Rattle.cx_desk.specs.SlotBytes.{BytesState, is_too_long}
 use Rattle.cx_texts.specs.Tokens.{tokens, tokens_from}
 use Rattle.cx_texts.specs.Words.{placed_words}
 use Rattle.cx_texts.specs.Grammar.{Grammar, Reading}
 use Rattle.cx_texts.specs.ProofText.{proof_steps}
-use Rattle.step_text.specs.Slots.{SlotState, SlotLeaves, SlotFrame, OnlyReads, DrainsRest, is_too_long}
+use Rattle.step_text.specs.Slots.{SlotLeaves, SlotFrame, OnlyReads, DrainsRest}
 use Rattle.step_text.specs.SlotAnswers.{PairLeaves}
 use Rattle.xlrup_check.specs.Verdicts.{IsJudgedBy, HasCause, ReadsStand}
 use Rattle.xlrup_check.specs.declared.verdict.Verdict.{Verdict}
@@ -56,7 +57,7 @@ long_by s limit name b None all h = tt
 long_by s limit name b (Some t) all h =
     λ e. h (ap (λ n. Some (nat_lt limit n)) (zero-add (length (left_in s t.left)) ∙ ap length all) ∙ ap Some e)
 
-pub is_long : (s : Slot) (limit : ℕ) (o : Outside) (name : Bytes) → Ready s name o → ¬ (is_too_long (first_state s limit) o ≡ Some false)
+pub is_long : (s : Slot) (limit : ℕ) (o : Outside) (name : Bytes) → Ready s name o → ¬ (is_too_long (first_state s limit).bytes o ≡ Some false)
     → IfSome (seen o).files (λ files. limit < length (text_named name files))
 is_long s limit o name ready h =
     of_files (λ files. limit < length (text_named name files)) o.told
@@ -66,7 +67,7 @@ is_long s limit o name ready h =
     by n true e k = ltb-true limit n e
     by n false e k = absurd (k refl)
 
-pub is_short : (s : Slot) (limit : ℕ) (o : Outside) (name : Bytes) → Ready s name o → ¬ (is_too_long (first_state s limit) o ≡ Some true)
+pub is_short : (s : Slot) (limit : ℕ) (o : Outside) (name : Bytes) → Ready s name o → ¬ (is_too_long (first_state s limit).bytes o ≡ Some true)
     → IfSome (seen o).files (λ files. length (text_named name files) ≤ limit)
 is_short s limit o name ready h =
     of_files (λ files. length (text_named name files) ≤ limit) o.told
@@ -103,7 +104,7 @@ drain_fault s n o p h = record {
 }
 
 -- and leave the slot started
-pub still_started : (s : SlotState) (o : Outside) (t : SlotState) (p : Outside) → SlotFrame s o t p → started_in s.slot o.started ≡ true → started_in t.slot p.started ≡ true
+pub still_started : (s : BytesState) (o : Outside) (t : BytesState) (p : Outside) → SlotFrame s o t p → started_in s.slot o.started ≡ true → started_in t.slot p.started ≡ true
 still_started s o t p frame h = ap (λ (x : Slot). started_in x p.started) frame.slot ∙ (ap (λ (x : Outside). started_in s.slot x.started) frame.read.2 ∙ h)
 
 -- ---- a proof
@@ -112,9 +113,9 @@ still_started s o t p frame h = ap (λ (x : Slot). started_in x p.started) frame
 abbrev pub CheckedTo : Problem → Bytes → Outside → Outside → Ending → Type 0
 CheckedTo f name o m e = ((n : Bytes) → IsLateOf (plan.Check n name) e) × (seen m ≡ seen o) × IfSome (seen o).files (λ files. (n : Bytes) → Judged e (plan.Check n name) f (text_named name files))
 
-module _ (f : Problem) (name : Bytes) (limit : ℕ) (o : Outside) (ready : Ready slot.Second name o) (s : SlotState) (m : Outside) (frame : SlotFrame (first_state slot.Second limit) o s m) where
+module _ (f : Problem) (name : Bytes) (limit : ℕ) (o : Outside) (ready : Ready slot.Second name o) (s : BytesState) (m : Outside) (frame : SlotFrame (first_state slot.Second limit).bytes o s m) where
   -- it was not judged to its end
-  pub check_failed : (r : Result Verdict Fault) → IfErr r (HasCause (is_too_long (first_state slot.Second limit) o) o.faults.reads m.faults.reads) → ReadsStand r o.faults.reads m.faults.reads
+  pub check_failed : (r : Result Verdict Fault) → IfErr r (HasCause (is_too_long (first_state slot.Second limit).bytes o) o.faults.reads m.faults.reads) → ReadsStand r o.faults.reads m.faults.reads
       → IfErr (checked_as r) (λ e. ReadFails slot.Second name limit o e m)
   check_failed (Ok (verdict.Verified k)) cause stand = tt
   check_failed (Ok (verdict.Refused k c)) cause stand = tt

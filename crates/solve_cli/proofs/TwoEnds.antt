@@ -4,9 +4,10 @@ use Rattle.cx_desk.specs.declared.desk.Slot.{Slot}
 use Rattle.cx_desk.specs.declared.desk.Port.TheVariants.{Proof}
 use Rattle.cx_desk.specs.Outside.{Bytes, Left, Told, Outside, left_in, started_in}
 use Rattle.cx_desk.specs.Calls.{gained, without_front}
+use Rattle.cx_desk.specs.SlotBytes.{BytesState, taken_by, is_too_long}
 use Rattle.cx_texts.specs.Grammar.{Grammar}
 use Rattle.cx_base.specs.Endings.{Ending}
-use Rattle.step_text.specs.Slots.{SlotState, taken_by, SlotLeaves, SlotKept, OnlyReads, is_too_long}
+use Rattle.step_text.specs.Slots.{SlotState, SlotLeaves, SlotKept, OnlyReads}
 use Rattle.proof_text.specs.Told.{steps_told, told_steps, is_whole, Goes}
 use Rattle.proof_text.specs.ToldSteps.{goes_itself}
 use Rattle.solve_cli.specs.TwoEnds.{read_by, read-none, ReadsAndPrints}
@@ -49,18 +50,18 @@ left_still : (P : Left → Type 0) (o p : Outside) → lefts p ≡ lefts o → I
 left_still P o p e h = of_lefts P p.told (subst (λ (w : Option Left). IfSome w P) (sym e) (on_lefts P o.told h))
 
 pub leaves_still : {S : Type 0} (g : Grammar S) (s : SlotState) (o p : Outside) → lefts p ≡ lefts o → (steps : List S) (ending : Ending) → SlotLeaves g s o steps ending → SlotLeaves g s p steps ending
-leaves_still g s o p e steps ending (more, come, left) = (more, (come.0, left_still (λ l. cond s.ended [] (left_in s.slot l) ≡ more) o p e come.1), left)
+leaves_still g s o p e steps ending (more, come, left) = (more, (come.0, left_still (λ l. cond s.bytes.ended [] (left_in s.bytes.slot l) ≡ more) o p e come.1), left)
 
 over_lefts : (F : Left → Bool) (w : Option Told) → option_map (λ (t : Told). F t.left) w ≡ option_map F (option_map (λ (t : Told). t.left) w)
 over_lefts F None = refl
 over_lefts F (Some t) = refl
 
-pub long_still : (s : SlotState) (o p : Outside) → lefts p ≡ lefts o → is_too_long s p ≡ is_too_long s o
+pub long_still : (s : BytesState) (o p : Outside) → lefts p ≡ lefts o → is_too_long s p ≡ is_too_long s o
 long_still s o p e =
     let F : Left → Bool = λ l. nat_lt s.limit (taken_by s + length (cond s.ended [] (left_in s.slot l))) in
     over_lefts F p.told ∙ ap (option_map F) e ∙ sym (over_lefts F o.told)
 
-pub printed_on : (s : SlotState) (f : Bool) (o : Outside) (g : Bool) (p : Outside) → Goes f o g p → ReadsAndPrints s f o s g p
+pub printed_on : (s : BytesState) (f : Bool) (o : Outside) (g : Bool) (p : Outside) → Goes f o g p → ReadsAndPrints s f o s g p
 printed_on s f o g p h =
     let none : read_by s.slot 0 p.faults.reads o ≡ o = ap (λ r. read_by s.slot 0 r o) (goes_reads f o g p h) ∙ read-none s.slot o in
     record {
@@ -73,7 +74,7 @@ printed_on s f o g p h =
 
 -- ---- what was read leaves what is printed
 
-pub read_on : (s : SlotState) (f : Bool) (o : Outside) (t : SlotState) (p : Outside) → SlotKept s o t p → OnlyReads s.slot o p → ReadsAndPrints s f o t f p
+pub read_on : (s : BytesState) (f : Bool) (o : Outside) (t : BytesState) (p : Outside) → SlotKept s o t p → OnlyReads s.slot o p → ReadsAndPrints s f o t f p
 read_on s f o t p kept (n, reads, h) =
     let of : p.faults.reads ≡ reads = ap (λ (x : Outside). x.faults.reads) h in
     record {

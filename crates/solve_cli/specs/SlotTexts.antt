@@ -31,7 +31,7 @@ use Rattle.solve_cli.specs.Steps.{ReadFails, LeftBy}
 
 -- a reader of which nothing was asked
 abbrev pub first_state : Slot → ℕ → SlotState
-first_state s limit = record { slot = s; limit = limit; bytes = []; place = 0; line = Start; ended = false; refused = None }
+first_state s limit = record { bytes = record { slot = s; limit = limit; bytes = []; place = 0; ended = false }; line = Start; refused = None }
 
 -- an ending of the command, and none of its formula's
 abbrev pub IsLateOf : Plan → Ending → Type 0

@@ -5,9 +5,9 @@ use Rattle.cx_desk.specs.declared.desk.Slot.{Slot}
 use Rattle.cx_desk.specs.declared.desk.Port.TheVariants.{Proof}
 use Rattle.cx_desk.specs.Outside.{Bytes, Outside}
 use Rattle.cx_desk.specs.Calls.{taken, gained, WriteFaulted}
+use Rattle.cx_desk.specs.SlotBytes.{BytesState, is_too_long, EndSeen}
 use Rattle.cx_desk.proofs.Moves.{taken-twice, taken-none}
 use Rattle.cx_texts.specs.Printed.{printed_proof}
-use Rattle.step_text.specs.Slots.{SlotState, is_too_long, EndSeen}
 use Rattle.proof_text.specs.Told.{step_line, Goes}
 use Rattle.proof_text.specs.ToldSteps.{goes_itself, goes_on}
 
@@ -17,7 +17,7 @@ read_by s n reads o = record (taken s n o) { faults = record o.faults { reads = 
 
 -- From a reader and its desk to later ones: bytes of the slot were read, and steps printed on the Proof port. Neither
 -- touches what the other speaks of, so all that was read may stand first.
-pub record ReadsAndPrints (s : SlotState) (first : Bool) (o : Outside) (t : SlotState) (last : Bool) (p : Outside) : Type 0 where
+pub record ReadsAndPrints (s : BytesState) (first : Bool) (o : Outside) (t : BytesState) (last : Bool) (p : Outside) : Type 0 where
   pub slot : t.slot ≡ s.slot
   pub limit : t.limit ≡ s.limit
   pub long : is_too_long t p ≡ is_too_long s o
@@ -57,10 +57,10 @@ goes_read s n reads false o true p h = record {
   moved = fault_read s n reads (printed_proof h.steps ++ take h.kept (step_line h.part)) o p h.moved;
 }
 
-pub between_itself : (s : SlotState) (f : Bool) (o : Outside) → ReadsAndPrints s f o s f o
+pub between_itself : (s : BytesState) (f : Bool) (o : Outside) → ReadsAndPrints s f o s f o
 between_itself s f o = record { slot = refl; limit = refl; long = refl; seen = λ e. e; goes = (0, subst (λ (x : Outside). Goes f x f o) (sym (read-none s.slot o)) (goes_itself f o)) }
 
-pub between_on : (a : SlotState) (f : Bool) (o : Outside) (b : SlotState) (g : Bool) (p : Outside) (c : SlotState) (i : Bool) (q : Outside)
+pub between_on : (a : BytesState) (f : Bool) (o : Outside) (b : BytesState) (g : Bool) (p : Outside) (c : BytesState) (i : Bool) (q : Outside)
     → ReadsAndPrints a f o b g p → ReadsAndPrints b g p c i q → ReadsAndPrints a f o c i q
 between_on a f o b g p c i q h k =
     let n = h.goes.0 in

@@ -1,8 +1,8 @@
 //! A log, elaborated onto the Proof port.
 ghost use Rattle.std.specs.Prelude.{◌≡◌, ◌≤◌, List, ℕ, true, false};
 ghost use Rattle.cx_desk.specs.Outside.{started_in};
+ghost use Rattle.cx_desk.specs.SlotBytes.{is_too_long};
 ghost use Rattle.cx_desk.specs.declared.desk.Slot.TheVariants.{Second};
-ghost use Rattle.step_text.specs.Slots.{is_too_long};
 ghost use Rattle.step_text.specs.Texts.{is_spent_by};
 ghost use Rattle.solve_cli.specs.Seen.{seen};
 ghost use Rattle.solve_cli.specs.Steps.{Ready, HasNoProof};
@@ -25,13 +25,13 @@ fn elaborate_on<D: Desk>(
     formula: &Formula,
     reader: &mut SlotReader<LogGrammar>,
 ) -> Result<Elab, ElabFault>
-    requires started { started_in reader.old.slot (D.outside desk.old).started ≡ true }
+    requires started { started_in reader.old.bytes.slot (D.outside desk.old).started ≡ true }
     requires fresh { is_spent_by reader.old.refused ≡ false }
     requires empty { HasNoProof (seen (D.outside desk.old)) }
     ensures elaborated { (name : List ℕ) (limit : ℕ) → reader.old ≡ first_state Second limit → Ready Second name (D.outside desk.old) → ElaboratedAs formula.now name limit (seen (D.outside desk.old)) result (seen (D.outside desk.new)) }
-    ensures slot { reader.new.slot ≡ reader.old.slot }
-    ensures long { is_too_long reader.new (D.outside desk.new) ≡ is_too_long reader.old (D.outside desk.old) }
-    ensures started { started_in reader.new.slot (D.outside desk.new).started ≡ true }
+    ensures slot { reader.new.bytes.slot ≡ reader.old.bytes.slot }
+    ensures long { is_too_long reader.new.bytes (D.outside desk.new) ≡ is_too_long reader.old.bytes (D.outside desk.old) }
+    ensures started { started_in reader.new.bytes.slot (D.outside desk.new).started ≡ true }
 {
     let mut ends = ElabDesk {
         reader,

@@ -23,7 +23,7 @@ pub struct ElabDesk<'r, 'd, D: Desk> {
     /// Whether a write failed.
     pub failed: bool,
     // the slot was started
-    ghost started: { started_in reader.now.slot (D.outside desk.now).started ≡ true },
+    ghost started: { started_in reader.now.bytes.slot (D.outside desk.now).started ≡ true },
     // between two steps no line is begun
     ghost whole: { failed ≡ false → is_whole (D.outside desk.now).told ≡ true },
 }
@@ -34,14 +34,15 @@ impl<D: Desk> ElabEnds for ElabDesk<'_, '_, D> {
     ghost use Rattle.cx_texts.specs.LogText.{log_steps};
     ghost use Rattle.cx_texts.proofs.Grammars.{log_forms};
     ghost use Rattle.step_text.specs.Texts.{is_spent_by, stuck_by};
-    ghost use Rattle.step_text.specs.Slots.{SlotLeaves, is_too_long};
+    ghost use Rattle.cx_desk.specs.SlotBytes.{is_too_long};
+    ghost use Rattle.step_text.specs.Slots.{SlotLeaves};
     ghost use Rattle.step_text.specs.SlotLeft.{slot_is_left};
     ghost use Rattle.proof_text.specs.Told.{steps_told, fault_of, TornOn};
     ghost use Rattle.solve_cli.specs.TwoEnds.{ReadsAndPrints, between_itself, between_on};
 
     ghost leaves = { λ e. SlotLeaves log_steps e.reader.now (D.outside e.desk.now) };
 
-    ghost passes_limit = { λ e. is_too_long e.reader.now (D.outside e.desk.now) };
+    ghost passes_limit = { λ e. is_too_long e.reader.now.bytes (D.outside e.desk.now) };
 
     ghost is_spent = { λ e. is_spent_by e.reader.now.refused };
 
@@ -49,9 +50,9 @@ impl<D: Desk> ElabEnds for ElabDesk<'_, '_, D> {
 
     ghost read_faults = { λ e. (D.outside e.desk.now).faults.reads };
 
-    ghost place_of = { λ e. e.reader.now.place };
+    ghost place_of = { λ e. e.reader.now.bytes.place };
 
-    ghost farthest = { λ e. e.reader.now.limit };
+    ghost farthest = { λ e. e.reader.now.bytes.limit };
 
     ghost steps = { λ e. steps_told (D.outside e.desk.now) };
 
@@ -61,7 +62,7 @@ impl<D: Desk> ElabEnds for ElabDesk<'_, '_, D> {
 
     ghost torn = { λ e step. TornOn step (D.outside e.desk.now) };
 
-    ghost keeps = { λ a b. (b.reader.ghost_name ≡ a.reader.ghost_name) × (b.desk.ghost_name ≡ a.desk.ghost_name) × ReadsAndPrints a.reader.now a.failed (D.outside a.desk.now) b.reader.now b.failed (D.outside b.desk.now) };
+    ghost keeps = { λ a b. (b.reader.ghost_name ≡ a.reader.ghost_name) × (b.desk.ghost_name ≡ a.desk.ghost_name) × ReadsAndPrints a.reader.now.bytes a.failed (D.outside a.desk.now) b.reader.now.bytes b.failed (D.outside b.desk.now) };
 
     fn next_step(&mut self) -> Result<Option<LogStep>, TextRefusal> {
         self.reader.next_from(self.desk)
@@ -77,7 +78,7 @@ impl<D: Desk> ElabEnds for ElabDesk<'_, '_, D> {
 
     ghost leaves_some = { λ e. slot_is_left log_steps log_forms e.reader.now (D.outside e.desk.now) };
 
-    ghost keeps_itself = { λ a. (refl, refl, between_itself a.reader.now a.failed (D.outside a.desk.now)) };
+    ghost keeps_itself = { λ a. (refl, refl, between_itself a.reader.now.bytes a.failed (D.outside a.desk.now)) };
 
-    ghost keeps_on = { λ a b c h k. (k.0 ∙ h.0, k.1 ∙ h.1, between_on a.reader.now a.failed (D.outside a.desk.now) b.reader.now b.failed (D.outside b.desk.now) c.reader.now c.failed (D.outside c.desk.now) h.2 k.2) };
+    ghost keeps_on = { λ a b c h k. (k.0 ∙ h.0, k.1 ∙ h.1, between_on a.reader.now.bytes a.failed (D.outside a.desk.now) b.reader.now.bytes b.failed (D.outside b.desk.now) c.reader.now.bytes c.failed (D.outside c.desk.now) h.2 k.2) };
 }

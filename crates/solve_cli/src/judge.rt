@@ -1,10 +1,11 @@
 //! The endings of the commands that judge a text.
 ghost use Rattle.std.specs.Prelude.{◌≡◌, ◌≤◌, List, ℕ, true, false, IfOk, IfErr, MatchOption};
 ghost use Rattle.cx_desk.specs.Outside.{started_in};
+ghost use Rattle.cx_desk.specs.SlotBytes.{is_too_long};
 ghost use Rattle.cx_desk.specs.declared.desk.Slot.TheVariants.{Second};
 ghost use Rattle.cx_texts.specs.ProofText.{proof_steps};
 ghost use Rattle.cx_words.specs.declared.plans.Plan.TheVariants as plan;
-ghost use Rattle.step_text.specs.Slots.{SlotFrame, is_too_long};
+ghost use Rattle.step_text.specs.Slots.{SlotFrame};
 ghost use Rattle.step_text.specs.SlotAnswers.{PairLeaves};
 ghost use Rattle.step_text.specs.Texts.{is_spent_by};
 ghost use Rattle.xlrup_check.specs.Verdicts.{IsJudgedBy, HasCause, ReadsStand};
@@ -29,12 +30,12 @@ fn check_on<D: Desk>(
     formula: &Formula,
     reader: &mut SlotReader<ProofGrammar>,
 ) -> Result<Verdict, Fault>
-    requires started { started_in reader.old.slot (D.outside desk.old).started ≡ true }
+    requires started { started_in reader.old.bytes.slot (D.outside desk.old).started ≡ true }
     requires fresh { is_spent_by reader.old.refused ≡ false }
     ensures judged { IfOk result (IsJudgedBy (PairLeaves proof_steps) formula.now (reader.old, D.outside desk.old)) }
-    ensures cause { IfErr result (HasCause (is_too_long reader.old (D.outside desk.old)) (D.outside desk.old).faults.reads (D.outside desk.new).faults.reads) }
+    ensures cause { IfErr result (HasCause (is_too_long reader.old.bytes (D.outside desk.old)) (D.outside desk.old).faults.reads (D.outside desk.new).faults.reads) }
     ensures reads { ReadsStand result (D.outside desk.old).faults.reads (D.outside desk.new).faults.reads }
-    ensures frame { SlotFrame reader.old (D.outside desk.old) reader.new (D.outside desk.new) }
+    ensures frame { SlotFrame reader.old.bytes (D.outside desk.old) reader.new.bytes (D.outside desk.new) }
 {
     let mut source = ProofOnDesk { reader, desk };
     check(alloc, formula, &mut source)

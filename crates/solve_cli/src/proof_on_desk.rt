@@ -17,7 +17,7 @@ pub struct ProofOnDesk<'r, 'd, D: Desk> {
     /// The desk that has the slot.
     pub desk: &'d mut D,
     // the slot was started
-    ghost started: { started_in reader.now.slot (D.outside desk.now).started ≡ true },
+    ghost started: { started_in reader.now.bytes.slot (D.outside desk.now).started ≡ true },
 }
 
 impl<D: Desk> StepSource for ProofOnDesk<'_, '_, D> {
@@ -25,15 +25,16 @@ impl<D: Desk> StepSource for ProofOnDesk<'_, '_, D> {
 
     ghost use Rattle.std.specs.Prelude.{◌≡◌, refl};
     ghost use Rattle.std.proofs.Common.{◌∙◌};
+    ghost use Rattle.cx_desk.specs.SlotBytes.{is_too_long};
     ghost use Rattle.cx_texts.specs.ProofText.{proof_steps};
     ghost use Rattle.cx_texts.proofs.Grammars.{proof_forms};
     ghost use Rattle.step_text.specs.Texts.{is_spent_by, stuck_by};
-    ghost use Rattle.step_text.specs.Slots.{SlotLeaves, SlotFrame, is_too_long};
+    ghost use Rattle.step_text.specs.Slots.{SlotLeaves, SlotFrame};
     ghost use Rattle.step_text.specs.SlotLeft.{slot_is_left, frame_itself, frame_on};
 
     ghost leaves = { λ s. SlotLeaves proof_steps s.reader.now (D.outside s.desk.now) };
 
-    ghost passes_limit = { λ s. is_too_long s.reader.now (D.outside s.desk.now) };
+    ghost passes_limit = { λ s. is_too_long s.reader.now.bytes (D.outside s.desk.now) };
 
     ghost is_spent = { λ s. is_spent_by s.reader.now.refused };
 
@@ -41,11 +42,11 @@ impl<D: Desk> StepSource for ProofOnDesk<'_, '_, D> {
 
     ghost faults = { λ s. (D.outside s.desk.now).faults.reads };
 
-    ghost place_of = { λ s. s.reader.now.place };
+    ghost place_of = { λ s. s.reader.now.bytes.place };
 
-    ghost farthest = { λ s. s.reader.now.limit };
+    ghost farthest = { λ s. s.reader.now.bytes.limit };
 
-    ghost keeps = { λ a b. (b.reader.ghost_name ≡ a.reader.ghost_name) × (b.desk.ghost_name ≡ a.desk.ghost_name) × SlotFrame a.reader.now (D.outside a.desk.now) b.reader.now (D.outside b.desk.now) };
+    ghost keeps = { λ a b. (b.reader.ghost_name ≡ a.reader.ghost_name) × (b.desk.ghost_name ≡ a.desk.ghost_name) × SlotFrame a.reader.now.bytes (D.outside a.desk.now) b.reader.now.bytes (D.outside b.desk.now) };
 
     fn next_step(&mut self) -> Result<Option<ProofStep>, TextRefusal> {
         self.reader.next_from(self.desk)
@@ -57,7 +58,7 @@ impl<D: Desk> StepSource for ProofOnDesk<'_, '_, D> {
 
     ghost leaves_some = { λ s. slot_is_left proof_steps proof_forms s.reader.now (D.outside s.desk.now) };
 
-    ghost keeps_itself = { λ a. (refl, refl, frame_itself a.reader.now (D.outside a.desk.now)) };
+    ghost keeps_itself = { λ a. (refl, refl, frame_itself a.reader.now.bytes (D.outside a.desk.now)) };
 
-    ghost keeps_on = { λ a b c h k. (k.0 ∙ h.0, k.1 ∙ h.1, frame_on a.reader.now (D.outside a.desk.now) b.reader.now (D.outside b.desk.now) c.reader.now (D.outside c.desk.now) h.2 k.2) };
+    ghost keeps_on = { λ a b c h k. (k.0 ∙ h.0, k.1 ∙ h.1, frame_on a.reader.now.bytes (D.outside a.desk.now) b.reader.now.bytes (D.outside b.desk.now) c.reader.now.bytes (D.outside c.desk.now) h.2 k.2) };
 }

@@ -3,6 +3,9 @@ use Rattle.std.proofs.Common.{◌≡◌, ◌≢◌, refl, sym, ap, ◌∙◌, su
 use Rattle.cx_desk.specs.declared.desk.Slot.{Slot}
 use Rattle.cx_desk.specs.Outside.{Told, Outside, left_in}
 use Rattle.cx_desk.specs.Calls.{taken}
+use Rattle.cx_desk.specs.SlotBytes.{BytesState, taken_by, to_come, IsToCome, is_too_long, ReadingStops}
+use Rattle.cx_desk.specs.declared.calls.ReadErr.{ReadErr}
+use Rattle.cx_desk.specs.declared.calls.ReadErr.TheVariants as why
 use Rattle.cx_desk.proofs.Moves.{taken-none}
 use Rattle.cx_texts.specs.Tokens.{tokens_within}
 use Rattle.cx_texts.specs.Pieces.{tokens_in}
@@ -14,13 +17,14 @@ use Rattle.cx_base.specs.Endings.{Ending, finished, bad_token, too_big, untermin
 use Rattle.step_text.specs.declared.source.TextRefusal.{TextRefusal}
 use Rattle.step_text.specs.declared.source.TextRefusal.TheVariants.{BadToken, Unterminated, TooBig, TooLong, Memory, Failed}
 use Rattle.step_text.specs.Found.{FoundStep}
+use Rattle.step_text.specs.ReadRefusals.{refusal_of_read}
 use Rattle.step_text.specs.Reading.{IsRefusal}
 use Rattle.step_text.specs.Sources.{Gives, GivesNone, FaultsAs, IsTooLongOnly, PlaceRises}
 use Rattle.step_text.specs.Texts.{LeftOf, IsEnding}
 use Rattle.step_text.specs.SlotAnswers.{PairLeaves, IsPastLimit, IsAnswer}
-use Rattle.step_text.specs.Slots.{SlotState, OnlyReads, taken_by, to_come, IsToCome, is_too_long, SlotLeaves, SlotKept, Took, ReadsOn, ReadingFails, StopsReading}
+use Rattle.step_text.specs.Slots.{SlotState, OnlyReads, SlotLeaves, SlotKept, Took, ReadsOn, ReadingFails}
 use Rattle.step_text.specs.SlotLeft.{some_come}
-use Rattle.step_text.proofs.SlotLaws.{kept_then, kept_itself, took_then}
+use Rattle.step_text.proofs.SlotLaws.{kept_then, kept_itself, still_kept, took_then}
 
 -- ---- what a call took of its desk
 
@@ -50,8 +54,8 @@ module _ {S : Type 0} (g : Grammar S) where
       let t = h.text more come in (
         t.0,
         t.1,
-        subst (λ (x : ℕ). LeftOf g (tokens_in a.line a.place (a.bytes ++ t.0)) x a.refused steps ending) (sym t.3)
-            (subst (λ ts. LeftOf g ts (taken_by b + length more) a.refused steps ending) (sym t.2) (subst (λ r. LeftOf g (tokens_in b.line b.place (b.bytes ++ more)) (taken_by b + length more) r steps ending) h.refused left)),
+        subst (λ (x : ℕ). LeftOf g (tokens_in a.line a.bytes.place (a.bytes.bytes ++ t.0)) x a.refused steps ending) (sym t.3)
+            (subst (λ ts. LeftOf g ts (taken_by b.bytes + length more) a.refused steps ending) (sym t.2) (subst (λ r. LeftOf g (tokens_in b.line b.bytes.place (b.bytes.bytes ++ more)) (taken_by b.bytes + length more) r steps ending) h.refused left)),
       )
 
   gives_then : (a : SlotState) (o : Outside) (b : SlotState) (p : Outside) (r : Result (Option S) TextRefusal) (c : SlotState) (q : Outside) → ReadsOn a o b p → Gives (PairLeaves g) (b, p) r (c, q) → Gives (PairLeaves g) (a, o) r (c, q)
@@ -72,28 +76,28 @@ module _ {S : Type 0} (g : Grammar S) where
   pub answer_then : (a : SlotState) (o : Outside) (b : SlotState) (p : Outside) (r : Result (Option S) TextRefusal) (c : SlotState) (q : Outside) → ReadsOn a o b p → IsAnswer g b p r c q → IsAnswer g a o r c q
   answer_then a o b p r c q h k = record {
     gives = gives_then a o b p r c q h k.gives;
-    kept = kept_then a o b p c q h.kept k.kept;
-    took = took_then a.slot b.slot r h.took.0 o p q h.kept.slot h.took.1 k.took;
+    kept = kept_then a.bytes o b.bytes p c.bytes q h.kept k.kept;
+    took = took_then a.bytes.slot b.bytes.slot r h.took.0 o p q h.kept.slot h.took.1 k.took;
     long = subst (λ (l : Option Bool). IsTooLongOnly l r) h.kept.long k.long;
     past = k.past;
-    rises = rises_then a.place b.place c.place r h.kept.rises k.rises;
+    rises = rises_then a.bytes.place b.bytes.place c.bytes.place r h.kept.rises k.rises;
     fresh = k.fresh;
   }
 
-  pub failed_answer : (a : SlotState) (o : Outside) (e : TextRefusal) (b : SlotState) (p : Outside) → ReadingFails a o e b p → IsAnswer g a o (Err e) b p
-  failed_answer a o (BadToken place) b p h = absurd h.why
-  failed_answer a o (Unterminated place) b p h = absurd h.why
-  failed_answer a o (TooBig place) b p h = absurd h.why
-  failed_answer a o TooLong b p h = record { gives = tt; kept = h.kept; took = h.took; long = h.why.0; past = h.why.1; rises = h.kept.rises; fresh = tt }
-  failed_answer a o Memory b p h = record { gives = tt; kept = h.kept; took = h.took; long = tt; past = tt; rises = h.kept.rises; fresh = tt }
-  failed_answer a o Failed b p h = record { gives = tt; kept = h.kept; took = h.took; long = tt; past = tt; rises = h.kept.rises; fresh = tt }
+  stopped_answer : (a : SlotState) (o : Outside) (e : ReadErr) (b : SlotState) (p : Outside) → ReadingStops a.bytes o e b.bytes p → IsAnswer g a o (Err (refusal_of_read e)) b p
+  stopped_answer a o why.Memory b p h = let kept = still_kept a.bytes o b.bytes p h.kept in record { gives = tt; kept = kept; took = h.why.1; long = tt; past = tt; rises = kept.rises; fresh = tt }
+  stopped_answer a o why.Failed b p h = let kept = still_kept a.bytes o b.bytes p h.kept in record { gives = tt; kept = kept; took = h.why.1; long = tt; past = tt; rises = kept.rises; fresh = tt }
+  stopped_answer a o why.TooLong b p h = let kept = still_kept a.bytes o b.bytes p h.kept in record { gives = tt; kept = kept; took = (h.why.2.0, h.why.2.2); long = h.why.1; past = omega (arith, h.why.0); rises = kept.rises; fresh = tt }
+
+  pub failed_answer : (a : SlotState) (o : Outside) (e : TextRefusal) (b : SlotState) (p : Outside) → ReadingFails a.bytes o e b.bytes p → IsAnswer g a o (Err e) b p
+  failed_answer a o e b p (cause, is, h) = subst (λ (x : TextRefusal). IsAnswer g a o (Err x) b p) (sym is) (stopped_answer a o cause b p h)
 
   -- ---- a refusal that was answered
 
   stuck_left : (s : SlotState) (o : Outside) (r : TextRefusal) (ending : Ending) → s.refused ≡ Some r → IsEnding r ending → SlotLeaves g s o [] ending
   stuck_left s o r ending e is =
-      let c = some_come s o in
-      (c.0, c.1, subst (λ (q : Option TextRefusal). LeftOf g (tokens_in s.line s.place (s.bytes ++ c.0)) (taken_by s + length c.0) q [] ending) (sym e) (refl, is))
+      let c = some_come s.bytes o in
+      (c.0, c.1, subst (λ (q : Option TextRefusal). LeftOf g (tokens_in s.line s.bytes.place (s.bytes.bytes ++ c.0)) (taken_by s.bytes + length c.0) q [] ending) (sym e) (refl, is))
 
   pub stuck_gives : (s : SlotState) (o : Outside) (r : TextRefusal) → s.refused ≡ Some r → GivesNone (PairLeaves g) r (s, o) (s, o)
   stuck_gives s o (BadToken place) e = let left = stuck_left s o (BadToken place) (bad_token place) e refl in (left, left)
@@ -113,41 +117,41 @@ module _ {S : Type 0} (g : Grammar S) where
 
   -- ---- what the bytes at hand tell
 
-  module _ (s : SlotState) (fresh : s.refused ≡ None) (line : s.bytes ≢ [] → s.line ≡ Kept) where
-    is_kept : 0 < length s.bytes → s.line ≡ Kept
-    is_kept h = line (λ e. let k : length s.bytes ≡ 0 = ap length e in omega (arith, h, k))
+  module _ (s : SlotState) (fresh : s.refused ≡ None) (line : s.bytes.bytes ≢ [] → s.line ≡ Kept) where
+    is_kept : 0 < length s.bytes.bytes → s.line ≡ Kept
+    is_kept h = line (λ e. let k : length s.bytes.bytes ≡ 0 = ap length e in omega (arith, h, k))
 
     abbrev behind_step : ℕ → SlotState
-    behind_step next = record s { bytes = drop (next - s.place) s.bytes; place = next }
+    behind_step next = record s { bytes = record s.bytes { bytes = drop (next - s.bytes.place) s.bytes.bytes; place = next } }
 
-    pub step_answer : (o : Outside) (step : S) (next : ℕ) → FoundStep g s.ended s.place s.bytes step next → IsAnswer g s o (Ok (Some step)) (behind_step next) o
+    pub step_answer : (o : Outside) (step : S) (next : ℕ) → FoundStep g s.bytes.ended s.bytes.place s.bytes.bytes step next → IsAnswer g s o (Ok (Some step)) (behind_step next) o
     step_answer o step next f =
         let kept : s.line ≡ Kept = is_kept (omega (arith, f.some, f.inside)) in
-        let k : next - s.place ≡ f.behind = omega (arith, f.at) in
-        let sum : next + length (drop (next - s.place) s.bytes) ≡ s.place + length s.bytes = omega (arith, f.at, f.inside, k, ap (λ n. length (drop n s.bytes)) k, length-drop f.behind s.bytes) in
+        let k : next - s.bytes.place ≡ f.behind = omega (arith, f.at) in
+        let sum : next + length (drop (next - s.bytes.place) s.bytes.bytes) ≡ s.bytes.place + length s.bytes.bytes = omega (arith, f.at, f.inside, k, ap (λ n. length (drop n s.bytes.bytes)) k, length-drop f.behind s.bytes.bytes) in
         record {
           gives = λ steps ending (more, come, left). (
             more,
             come,
-            let size : (next + length (drop (next - s.place) s.bytes)) + length more ≡ taken_by s + length more = ap (λ n. n + length more) sum in
-                let reading : Reading g (taken_by s + length more) (placed_words (tokens_in s.line next (drop (next - s.place) s.bytes ++ more))) steps ending =
-                subst (λ (n : ℕ). Reading g n (placed_words (tokens_in s.line next (drop (next - s.place) s.bytes ++ more))) steps ending) size
-                (subst (λ (r : Option TextRefusal). LeftOf g (tokens_in s.line next (drop (next - s.place) s.bytes ++ more)) ((next + length (drop (next - s.place) s.bytes)) + length more) r steps ending) fresh left) in
-                let rest : Reading g (taken_by s + length more) (placed_words (tokens_within next (drop f.behind s.bytes ++ more))) steps ending =
-                subst (λ (n : ℕ). Reading g (taken_by s + length more) (placed_words (tokens_within next (drop n s.bytes ++ more))) steps ending) k
-                (subst (λ l. Reading g (taken_by s + length more) (placed_words (tokens_in l next (drop (next - s.place) s.bytes ++ more))) steps ending) kept reading) in
-                subst (λ (r : Option TextRefusal). LeftOf g (tokens_in s.line s.place (s.bytes ++ more)) (taken_by s + length more) r (step ∷ steps) ending) (sym fresh)
-                (subst (λ l. Reading g (taken_by s + length more) (placed_words (tokens_in l s.place (s.bytes ++ more))) (step ∷ steps) ending) (sym kept)
-                (placed_words (tokens_within next (drop f.behind s.bytes ++ more)), f.spells more come.0, rest)),
+            let size : (next + length (drop (next - s.bytes.place) s.bytes.bytes)) + length more ≡ taken_by s.bytes + length more = ap (λ n. n + length more) sum in
+                let reading : Reading g (taken_by s.bytes + length more) (placed_words (tokens_in s.line next (drop (next - s.bytes.place) s.bytes.bytes ++ more))) steps ending =
+                subst (λ (n : ℕ). Reading g n (placed_words (tokens_in s.line next (drop (next - s.bytes.place) s.bytes.bytes ++ more))) steps ending) size
+                (subst (λ (r : Option TextRefusal). LeftOf g (tokens_in s.line next (drop (next - s.bytes.place) s.bytes.bytes ++ more)) ((next + length (drop (next - s.bytes.place) s.bytes.bytes)) + length more) r steps ending) fresh left) in
+                let rest : Reading g (taken_by s.bytes + length more) (placed_words (tokens_within next (drop f.behind s.bytes.bytes ++ more))) steps ending =
+                subst (λ (n : ℕ). Reading g (taken_by s.bytes + length more) (placed_words (tokens_within next (drop n s.bytes.bytes ++ more))) steps ending) k
+                (subst (λ l. Reading g (taken_by s.bytes + length more) (placed_words (tokens_in l next (drop (next - s.bytes.place) s.bytes.bytes ++ more))) steps ending) kept reading) in
+                subst (λ (r : Option TextRefusal). LeftOf g (tokens_in s.line s.bytes.place (s.bytes.bytes ++ more)) (taken_by s.bytes + length more) r (step ∷ steps) ending) (sym fresh)
+                (subst (λ l. Reading g (taken_by s.bytes + length more) (placed_words (tokens_in l s.bytes.place (s.bytes.bytes ++ more))) (step ∷ steps) ending) (sym kept)
+                (placed_words (tokens_within next (drop f.behind s.bytes.bytes ++ more)), f.spells more come.0, rest)),
           );
           kept = record {
             slot = refl;
             limit = refl;
-            long = ap (λ n. option_map (λ t. nat_lt s.limit (n + length (to_come s t))) o.told) sum;
+            long = ap (λ n. option_map (λ t. nat_lt s.bytes.limit (n + length (to_come s.bytes t))) o.told) sum;
             seen = λ e. e;
             rises = omega (arith, f.at);
           };
-          took = (0, sym (taken-none s.slot o));
+          took = (0, sym (taken-none s.bytes.slot o));
           long = tt;
           past = tt;
           rises = omega (arith, f.at, f.some);
@@ -155,56 +159,56 @@ module _ {S : Type 0} (g : Grammar S) where
         }
 
     -- an ending of the text from here on
-    ends_here : (ending : Ending) (more : List ℕ) → Rattle.cx_texts.specs.Grammar.EndsAs g (taken_by s + length more) ending (placed_words (tokens_in s.line s.place (s.bytes ++ more)))
-        → LeftOf g (tokens_in s.line s.place (s.bytes ++ more)) (taken_by s + length more) s.refused [] ending
-    ends_here ending more h = subst (λ (r : Option TextRefusal). LeftOf g (tokens_in s.line s.place (s.bytes ++ more)) (taken_by s + length more) r [] ending) (sym fresh) h
+    ends_here : (ending : Ending) (more : List ℕ) → Rattle.cx_texts.specs.Grammar.EndsAs g (taken_by s.bytes + length more) ending (placed_words (tokens_in s.line s.bytes.place (s.bytes.bytes ++ more)))
+        → LeftOf g (tokens_in s.line s.bytes.place (s.bytes.bytes ++ more)) (taken_by s.bytes + length more) s.refused [] ending
+    ends_here ending more h = subst (λ (r : Option TextRefusal). LeftOf g (tokens_in s.line s.bytes.place (s.bytes.bytes ++ more)) (taken_by s.bytes + length more) r [] ending) (sym fresh) h
 
-    nothing_left : (bs : List ℕ) → s.bytes ≡ bs → tokens_within s.place s.bytes ≡ [] → tokens_in s.line s.place (s.bytes ++ []) ≡ []
-    nothing_left [] e h = ap (λ bs. tokens_in s.line s.place (bs ++ [])) e ∙ tokens_in-nothing s.line s.place
+    nothing_left : (bs : List ℕ) → s.bytes.bytes ≡ bs → tokens_within s.bytes.place s.bytes.bytes ≡ [] → tokens_in s.line s.bytes.place (s.bytes.bytes ++ []) ≡ []
+    nothing_left [] e h = ap (λ bs. tokens_in s.line s.bytes.place (bs ++ [])) e ∙ tokens_in-nothing s.line s.bytes.place
     nothing_left (b ∷ bs) e h =
-        (λ i. tokens_in (is_kept (omega (arith, ap length e)) i) s.place (append-nil s.bytes i)) ∙ h
+        (λ i. tokens_in (is_kept (omega (arith, ap length e)) i) s.bytes.place (append-nil s.bytes.bytes i)) ∙ h
 
-    end_long : (w : Option Told) → s.ended ≡ true → taken_by s ≤ s.limit → ¬ (option_map (λ t. nat_lt s.limit (taken_by s + length (to_come s t))) w ≡ Some true)
+    end_long : (w : Option Told) → s.bytes.ended ≡ true → taken_by s.bytes ≤ s.bytes.limit → ¬ (option_map (λ t. nat_lt s.bytes.limit (taken_by s.bytes + length (to_come s.bytes t))) w ≡ Some true)
     end_long None e l h = cc
     end_long (Some t) e l h =
-        let none : length (to_come s t) ≡ 0 = ap (λ x. length (cond x [] (left_in s.slot t.left))) e in
-        let k : nat_lt s.limit (taken_by s + length (to_come s t)) ≡ true = cc (h) in
-        let m = Rattle.std.proofs.Common.ltb-true s.limit (taken_by s + length (to_come s t)) k in
+        let none : length (to_come s.bytes t) ≡ 0 = ap (λ x. length (cond x [] (left_in s.bytes.slot t.left))) e in
+        let k : nat_lt s.bytes.limit (taken_by s.bytes + length (to_come s.bytes t)) ≡ true = cc (h) in
+        let m = Rattle.std.proofs.Common.ltb-true s.bytes.limit (taken_by s.bytes + length (to_come s.bytes t)) k in
         omega (arith, m, none, l)
 
-    pub end_answer : (o : Outside) → taken_by s ≤ s.limit → (s.ended ≡ true) × (tokens_within s.place s.bytes ≡ []) → IsAnswer g s o (Ok None) s o
+    pub end_answer : (o : Outside) → taken_by s.bytes ≤ s.bytes.limit → (s.bytes.ended ≡ true) × (tokens_within s.bytes.place s.bytes.bytes ≡ []) → IsAnswer g s o (Ok None) s o
     end_answer o within (end, none) =
-        let left : SlotLeaves g s o [] finished = ([], ((λ k. refl), told o.told), ends_here finished [] (ap placed_words (nothing_left s.bytes refl none))) in
+        let left : SlotLeaves g s o [] finished = ([], ((λ k. refl), told o.told), ends_here finished [] (ap placed_words (nothing_left s.bytes.bytes refl none))) in
         record {
           gives = (left, left);
-          kept = kept_itself s o;
-          took = (0, sym (taken-none s.slot o));
+          kept = kept_itself s.bytes o;
+          took = (0, sym (taken-none s.bytes.slot o));
           long = end_long o.told end within;
           past = tt;
           rises = omega arith;
           fresh = fresh;
         }
       where
-        told : (w : Option Told) → IfSome w (λ t. to_come s t ≡ [])
+        told : (w : Option Told) → IfSome w (λ t. to_come s.bytes t ≡ [])
         told None = tt
-        told (Some t) = ap (λ x. cond x [] (left_in s.slot t.left)) end
+        told (Some t) = ap (λ x. cond x [] (left_in s.bytes.slot t.left)) end
 
     abbrev IsRefusedFor : TextRefusal → Type 0
-    IsRefusedFor r = (more : List ℕ) → (s.ended ≡ true → more ≡ []) → IsRefusal g (taken_by s + length more) r (placed_words (tokens_within s.place (s.bytes ++ more)))
+    IsRefusedFor r = (more : List ℕ) → (s.bytes.ended ≡ true → more ≡ []) → IsRefusal g (taken_by s.bytes + length more) r (placed_words (tokens_within s.bytes.place (s.bytes.bytes ++ more)))
 
-    refused_left : (o : Outside) (ending : Ending) → 0 < length s.bytes
-        → ((more : List ℕ) → (s.ended ≡ true → more ≡ []) → Rattle.cx_texts.specs.Grammar.EndsAs g (taken_by s + length more) ending (placed_words (tokens_within s.place (s.bytes ++ more)))) → SlotLeaves g s o [] ending
+    refused_left : (o : Outside) (ending : Ending) → 0 < length s.bytes.bytes
+        → ((more : List ℕ) → (s.bytes.ended ≡ true → more ≡ []) → Rattle.cx_texts.specs.Grammar.EndsAs g (taken_by s.bytes + length more) ending (placed_words (tokens_within s.bytes.place (s.bytes.bytes ++ more)))) → SlotLeaves g s o [] ending
     refused_left o ending some h =
-        let c = some_come s o in
-        (c.0, c.1, ends_here ending c.0 (subst (λ l. Rattle.cx_texts.specs.Grammar.EndsAs g (taken_by s + length c.0) ending (placed_words (tokens_in l s.place (s.bytes ++ c.0)))) (sym (is_kept some)) (h c.0 c.1.0)))
+        let c = some_come s.bytes o in
+        (c.0, c.1, ends_here ending c.0 (subst (λ l. Rattle.cx_texts.specs.Grammar.EndsAs g (taken_by s.bytes + length c.0) ending (placed_words (tokens_in l s.bytes.place (s.bytes.bytes ++ c.0)))) (sym (is_kept some)) (h c.0 c.1.0)))
 
-    same_state : (o : Outside) (r : TextRefusal) → Gives (PairLeaves g) (s, o) (Err r) (s, o) → Took {T = Option S} s.slot (Err r) o o → IsTooLongOnly {S = S} (is_too_long s o) (Err r) → IsPastLimit {T = Option S} (Err r) s → IsAnswer g s o (Err r) s o
-    same_state o r gives took long past = record { gives = gives; kept = kept_itself s o; took = took; long = long; past = past; rises = omega arith; fresh = tt }
+    same_state : (o : Outside) (r : TextRefusal) → Gives (PairLeaves g) (s, o) (Err r) (s, o) → Took {T = Option S} s.bytes.slot (Err r) o o → IsTooLongOnly {S = S} (is_too_long s.bytes o) (Err r) → IsPastLimit {T = Option S} (Err r) s.bytes → IsAnswer g s o (Err r) s o
+    same_state o r gives took long past = record { gives = gives; kept = kept_itself s.bytes o; took = took; long = long; past = past; rises = omega arith; fresh = tt }
 
-    pub refusal_answer : (o : Outside) (r : TextRefusal) → (0 < length s.bytes) × IsRefusedFor r → IsAnswer g s o (Err r) s o
-    refusal_answer o (BadToken place) (some, h) = let left = refused_left o (bad_token place) some h in same_state o (BadToken place) (left, left) (0, sym (taken-none s.slot o)) tt tt
-    refusal_answer o (Unterminated place) (some, h) = let left = refused_left o (unterminated place) some h in same_state o (Unterminated place) (left, left) (0, sym (taken-none s.slot o)) tt tt
-    refusal_answer o (TooBig place) (some, h) = let left = refused_left o (too_big place) some h in same_state o (TooBig place) (left, left) (0, sym (taken-none s.slot o)) tt tt
-    refusal_answer o TooLong (some, h) = let c = some_come s o in absurd (h c.0 c.1.0)
-    refusal_answer o Memory (some, h) = same_state o Memory tt (0, sym (taken-none s.slot o)) tt tt
-    refusal_answer o Failed (some, h) = let c = some_come s o in absurd (h c.0 c.1.0)
+    pub refusal_answer : (o : Outside) (r : TextRefusal) → (0 < length s.bytes.bytes) × IsRefusedFor r → IsAnswer g s o (Err r) s o
+    refusal_answer o (BadToken place) (some, h) = let left = refused_left o (bad_token place) some h in same_state o (BadToken place) (left, left) (0, sym (taken-none s.bytes.slot o)) tt tt
+    refusal_answer o (Unterminated place) (some, h) = let left = refused_left o (unterminated place) some h in same_state o (Unterminated place) (left, left) (0, sym (taken-none s.bytes.slot o)) tt tt
+    refusal_answer o (TooBig place) (some, h) = let left = refused_left o (too_big place) some h in same_state o (TooBig place) (left, left) (0, sym (taken-none s.bytes.slot o)) tt tt
+    refusal_answer o TooLong (some, h) = let c = some_come s.bytes o in absurd (h c.0 c.1.0)
+    refusal_answer o Memory (some, h) = same_state o Memory tt (0, sym (taken-none s.bytes.slot o)) tt tt
+    refusal_answer o Failed (some, h) = let c = some_come s.bytes o in absurd (h c.0 c.1.0)

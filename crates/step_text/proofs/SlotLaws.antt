@@ -4,7 +4,7 @@ use Rattle.cx_desk.specs.declared.desk.Slot.{Slot}
 use Rattle.cx_desk.specs.declared.desk.Slot.TheVariants.{Formula, Second}
 use Rattle.cx_desk.specs.Outside.{Told, Outside, left_in, started_in}
 use Rattle.cx_desk.specs.Calls.{taken, without_front, ReadFaulted, Came, AtEnd, Passes, Drained, Drains}
-use Rattle.cx_desk.specs.SlotBytes.{BytesState, BytesKept, BytesRead, ReadingStops, RestRead}
+use Rattle.cx_desk.specs.SlotBytes.{BytesState, taken_by, to_come, is_too_long, BytesKept, BytesRead, ReadingStops, RestRead}
 use Rattle.cx_desk.specs.declared.calls.ReadErr.{ReadErr}
 use Rattle.cx_desk.specs.declared.calls.ReadErr.TheVariants as why
 use Rattle.cx_desk.specs.declared.draining.DrainErr.{DrainErr}
@@ -15,7 +15,7 @@ use Rattle.cx_texts.specs.declared.line_state.LineState.{LineState}
 use Rattle.step_text.specs.ReadRefusals.{refusal_of_read}
 use Rattle.step_text.specs.declared.source.TextRefusal.{TextRefusal}
 use Rattle.step_text.specs.declared.source.TextRefusal.TheVariants.{BadToken, Unterminated, TooBig, TooLong, Memory, Failed}
-use Rattle.step_text.specs.Slots.{SlotState, of_bytes, taken_by, to_come, IsToCome, is_too_long, EndSeen, Took, SlotKept, ReadsOn, StopsReading, ReadingFails, DrainsRest}
+use Rattle.step_text.specs.Slots.{SlotState, Took, SlotKept, ReadsOn, DrainsRest}
 
 -- ---- one call behind another
 
@@ -31,7 +31,7 @@ took_then slot other (Err TooLong) n o p q same h (m, k) = (n + m, took_on slot 
 took_then slot other (Err Memory) n o p q same h (m, k) = (n + m, took_on slot other n m o p q same h k)
 took_then slot other (Err Failed) n o p q same h (m, k) = (n + m, subst (λ x. ReadFaulted x q) ((λ i. taken (same i) m (h i)) ∙ taken-twice slot n m o) k)
 
-pub kept_then : (a : SlotState) (o : Outside) (b : SlotState) (p : Outside) (c : SlotState) (q : Outside) → SlotKept a o b p → SlotKept b p c q → SlotKept a o c q
+pub kept_then : (a : BytesState) (o : Outside) (b : BytesState) (p : Outside) (c : BytesState) (q : Outside) → SlotKept a o b p → SlotKept b p c q → SlotKept a o c q
 kept_then a o b p c q h k = record {
   slot = k.slot ∙ h.slot;
   limit = k.limit ∙ h.limit;
@@ -40,95 +40,76 @@ kept_then a o b p c q h k = record {
   rises = let x = h.rises in let y = k.rises in omega arith;
 }
 
-pub kept_itself : (s : SlotState) (o : Outside) → SlotKept s o s o
+pub kept_itself : (s : BytesState) (o : Outside) → SlotKept s o s o
 kept_itself s o = record { slot = refl; limit = refl; long = refl; seen = λ e. e; rises = omega arith }
 
 pub reads_itself : (s : SlotState) (o : Outside) → ReadsOn s o s o
-reads_itself s o = record { kept = kept_itself s o; refused = refl; took = (0, sym (taken-none s.slot o)); text = λ more come. (more, come, refl, refl) }
+reads_itself s o = record { kept = kept_itself s.bytes o; refused = refl; took = (0, sym (taken-none s.bytes.slot o)); text = λ more come. (more, come, refl, refl) }
 
 pub reads_then : (a : SlotState) (o : Outside) (b : SlotState) (p : Outside) (c : SlotState) (q : Outside) → ReadsOn a o b p → ReadsOn b p c q → ReadsOn a o c q
 reads_then a o b p c q h k = record {
-  kept = kept_then a o b p c q h.kept k.kept;
+  kept = kept_then a.bytes o b.bytes p c.bytes q h.kept k.kept;
   refused = k.refused ∙ h.refused;
-  took = (h.took.0 + k.took.0, took_on a.slot b.slot h.took.0 k.took.0 o p q h.kept.slot h.took.1 k.took.1);
+  took = (h.took.0 + k.took.0, took_on a.bytes.slot b.bytes.slot h.took.0 k.took.0 o p q h.kept.slot h.took.1 k.took.1);
   text = λ more come.
       let y = k.text more come in
       let x = h.text y.0 y.1 in
       (x.0, x.1, x.2 ∙ y.2, x.3 ∙ y.3);
 }
 
-stops_then : (a : SlotState) (o : Outside) (b : SlotState) (p : Outside) (e : TextRefusal) (c : SlotState) → is_too_long b p ≡ is_too_long a o → StopsReading b p e c → StopsReading a o e c
-stops_then a o b p (BadToken place) c same h = h
-stops_then a o b p (Unterminated place) c same h = h
-stops_then a o b p (TooBig place) c same h = h
-stops_then a o b p TooLong c same h = (λ e. h.0 (same ∙ e), h.1)
-stops_then a o b p Memory c same h = h
-stops_then a o b p Failed c same h = h
-
-pub fails_then : (a : SlotState) (o : Outside) (b : SlotState) (p : Outside) (e : TextRefusal) (c : SlotState) (q : Outside) → ReadsOn a o b p → ReadingFails b p e c q → ReadingFails a o e c q
-fails_then a o b p e c q h k = record {
-  kept = kept_then a o b p c q h.kept k.kept;
-  took = took_then {T = ℕ} a.slot b.slot (Err e) h.took.0 o p q h.kept.slot h.took.1 k.took;
-  why = stops_then a o b p e c h.kept.long k.why;
-}
-
 -- ---- blanks are passed
 
-pub passes_on : (s : SlotState) (at : ℕ) (line : LineState) → at ≤ length s.bytes
-    → ((place : ℕ) (more : List ℕ) → tokens_in s.line place (s.bytes ++ more) ≡ tokens_in line (place + at) (drop at s.bytes ++ more))
-    → (o : Outside) → ReadsOn s o (record s { bytes = drop at s.bytes; place = s.place + at; line = line }) o
+abbrev passed : ℕ → BytesState → BytesState
+passed at b = record b { bytes = drop at b.bytes; place = b.place + at }
+
+pub passes_on : (s : SlotState) (at : ℕ) (line : LineState) → at ≤ length s.bytes.bytes
+    → ((place : ℕ) (more : List ℕ) → tokens_in s.line place (s.bytes.bytes ++ more) ≡ tokens_in line (place + at) (drop at s.bytes.bytes ++ more))
+    → (o : Outside) → ReadsOn s o (record s { bytes = passed at s.bytes; line = line }) o
 passes_on s at line high left o =
-    let same : (s.place + at) + length (drop at s.bytes) ≡ s.place + length s.bytes = omega (arith, length-drop at s.bytes) in
+    let same : taken_by (passed at s.bytes) ≡ taken_by s.bytes = omega (arith, length-drop at s.bytes.bytes) in
     record {
       kept = record {
         slot = refl;
         limit = refl;
-        long = ap (λ k. option_map (λ t. nat_lt s.limit (k + length (to_come s t))) o.told) same;
+        long = ap (λ k. option_map (λ t. nat_lt s.bytes.limit (k + length (to_come s.bytes t))) o.told) same;
         seen = λ e. e;
         rises = omega arith;
       };
       refused = refl;
-      took = (0, sym (taken-none s.slot o));
-      text = λ more come. (more, come, left s.place more, ap (λ k. k + length more) (sym same));
+      took = (0, sym (taken-none s.bytes.slot o));
+      text = λ more come. (more, come, left s.bytes.place more, ap (λ k. k + length more) (sym same));
     }
 
 -- ---- more is read
 
-module _ (b : BytesState) (line : LineState) (refused : Option TextRefusal) (o : Outside) (c : BytesState) (p : Outside) where
-  kept_by : (r : Option TextRefusal) → BytesKept b o c p → SlotKept (of_bytes b line refused) o (of_bytes c line r) p
-  kept_by r k = record { slot = k.slot; limit = k.limit; long = k.long; seen = k.seen; rises = omega (arith, k.place) }
+pub still_kept : (b : BytesState) (o : Outside) (c : BytesState) (p : Outside) → BytesKept b o c p → SlotKept b o c p
+still_kept b o c p k = record { slot = k.slot; limit = k.limit; long = k.long; seen = k.seen; rises = omega (arith, k.place) }
 
-  pub reads_on : BytesRead b o c p → ReadsOn (of_bytes b line refused) o (of_bytes c line refused) p
-  reads_on r = record {
-    kept = kept_by refused r.kept;
-    refused = refl;
-    took = (r.took.0, r.took.2);
-    text = λ more come.
-        let y = r.text more come in (
-          y.0,
-          y.1,
-          (λ i. tokens_in line (sym r.kept.place i) (y.2 i)),
-          (let e : (b.place + length b.bytes) + length y.0 ≡ (c.place + length c.bytes) + length more =
-              omega (arith, ap length y.2, length-append b.bytes y.0, length-append c.bytes more, r.kept.place) in e),
-        );
-  }
+pub reads_on : (s : SlotState) (o : Outside) (c : BytesState) (p : Outside) → BytesRead s.bytes o c p → ReadsOn s o (record s { bytes = c }) p
+reads_on s o c p r = record {
+  kept = still_kept s.bytes o c p r.kept;
+  refused = refl;
+  took = (r.took.0, r.took.2);
+  text = λ more come.
+      let y = r.text more come in (
+        y.0,
+        y.1,
+        (λ i. tokens_in s.line (sym r.kept.place i) (y.2 i)),
+        (let e : taken_by s.bytes + length y.0 ≡ taken_by c + length more = omega (arith, ap length y.2, length-append s.bytes.bytes y.0, length-append c.bytes more, r.kept.place) in e),
+      );
+}
 
-  pub reading_fails : (e : ReadErr) (r : Option TextRefusal) → ReadingStops b o e c p → ReadingFails (of_bytes b line refused) o (refusal_of_read e) (of_bytes c line r) p
-  reading_fails why.Memory r k = record { kept = kept_by r k.kept; took = k.why.1; why = tt }
-  reading_fails why.Failed r k = record { kept = kept_by r k.kept; took = k.why.1; why = tt }
-  reading_fails why.TooLong r k = record { kept = kept_by r k.kept; took = (k.why.2.0, k.why.2.2); why = (k.why.1, omega (arith, k.why.0)) }
+pub past_limit : (b : BytesState) (o : Outside) (c : BytesState) (p : Outside) (e : ReadErr) → ReadingStops b o e c p → Some (refusal_of_read e) ≡ Some TooLong → c.limit < taken_by c
+past_limit b o c p why.Memory k same = cc
+past_limit b o c p why.Failed k same = cc
+past_limit b o c p why.TooLong k same = omega (arith, k.why.0)
 
-  pub past_limit : (e : ReadErr) → ReadingStops b o e c p → Some (refusal_of_read e) ≡ Some TooLong → c.limit < c.place + length c.bytes
-  past_limit why.Memory k same = cc
-  past_limit why.Failed k same = cc
-  past_limit why.TooLong k same = omega (arith, k.why.0)
-
-pub started_still : (a : SlotState) (o : Outside) (b : SlotState) (p : Outside) → ReadsOn a o b p → started_in a.slot o.started ≡ true → started_in b.slot p.started ≡ true
+pub started_still : (a : SlotState) (o : Outside) (b : SlotState) (p : Outside) → ReadsOn a o b p → started_in a.bytes.slot o.started ≡ true → started_in b.bytes.slot p.started ≡ true
 started_still a o b p h e = (λ i. started_in (h.kept.slot i) ((ap (λ (x : Outside). x.started) h.took.1) i)) ∙ e
 
 -- ---- the rest is drained
 
-module _ (s : SlotState) (o : Outside) where
+module _ (s : BytesState) (o : Outside) where
   over_by : (w : Option Told) → s.limit < taken_by s → ¬ (option_map (λ t. nat_lt s.limit (taken_by s + length (to_come s t))) w ≡ Some false)
   over_by None h e = cc
   over_by (Some t) h e =
@@ -146,15 +127,14 @@ module _ (s : SlotState) (o : Outside) where
       let l = Rattle.std.proofs.Common.ltb-true s.limit (taken_by s + length (to_come s t)) k in
       omega (arith, l, m)
 
-  pub rest_drained : (len : ℕ) (p : Outside) (b : BytesState) (line : LineState) (refused : Option TextRefusal) → of_bytes b line refused ≡ s → RestRead b o len p → DrainsRest s o (Ok len) p
-  rest_drained len p b line refused is r =
-      subst (λ (x : SlotState). DrainsRest x o (Ok len) p) is ((λ e. within o.told r.come.1 e), r.end, (length r.more, r.moved))
+  pub rest_drained : (len : ℕ) (p : Outside) → RestRead s o len p → DrainsRest s o (Ok len) p
+  rest_drained len p r = (within o.told r.come.1, r.end, (length r.more, r.moved))
     where
-      within : (w : Option Told) → IfSome w (λ t. cond b.ended [] (left_in b.slot t.left) ≡ r.more) → ¬ (option_map (λ t. nat_lt b.limit ((b.place + length b.bytes) + length (cond b.ended [] (left_in b.slot t.left)))) w ≡ Some true)
+      within : (w : Option Told) → IfSome w (λ t. to_come s t ≡ r.more) → ¬ (option_map (λ t. nat_lt s.limit (taken_by s + length (to_come s t))) w ≡ Some true)
       within None come e = cc
       within (Some t) come e =
-          let k : nat_lt b.limit ((b.place + length b.bytes) + length (cond b.ended [] (left_in b.slot t.left))) ≡ true = cc (e) in
-          let l = Rattle.std.proofs.Common.ltb-true b.limit ((b.place + length b.bytes) + length (cond b.ended [] (left_in b.slot t.left))) k in
+          let k : nat_lt s.limit (taken_by s + length (to_come s t)) ≡ true = cc (e) in
+          let l = Rattle.std.proofs.Common.ltb-true s.limit (taken_by s + length (to_come s t)) k in
           omega (arith, l, ap length come, r.whole, r.fits)
 
   pub too_much : (p : Outside) → s.ended ≡ false → taken_by s ≤ s.limit → Passes s.slot ((s.limit - taken_by s) + 1) o p → DrainsRest {T = ℕ} s o (Err drained.TooLong) p

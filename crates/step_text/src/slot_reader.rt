@@ -3,9 +3,10 @@ ghost use Rattle.std.specs.Prelude.{◌≡◌, ◌≢◌, ◌<◌, ◌≤◌, �
 ghost use Rattle.cx_texts.specs.Pieces.{EndsBlank};
 ghost use Rattle.step_text.specs.declared.source.TextRefusal.TheVariants.{Unterminated};
 ghost use Rattle.cx_desk.specs.Outside.{Outside, started_in};
+ghost use Rattle.cx_desk.specs.SlotBytes.{is_too_long, taken_by, to_read};
 ghost use Rattle.cx_texts.specs.declared.line_state.LineState.TheVariants.{Start, Kept};
 ghost use Rattle.step_text.specs.Found.{IsFound};
-ghost use Rattle.step_text.specs.Slots.{DrainsRest, SlotKept, ReadsOn, ReadingFails, Took, is_too_long, taken_by, to_read};
+ghost use Rattle.step_text.specs.Slots.{DrainsRest, SlotKept, ReadsOn, ReadingFails, Took};
 ghost use Rattle.step_text.specs.Sources.{Gives, SpentAs, StuckAs, IsTooLongOnly, PlaceRises};
 ghost use Rattle.step_text.specs.Texts.{is_spent_by, stuck_by};
 ghost use Rattle.step_text.specs.SlotAnswers.{PairLeaves, IsAnswer};
@@ -112,15 +113,16 @@ pub struct SlotReader<G> {
 }
 
 impl<G> Model for SlotReader<G> {
-    ghost use Rattle.std.specs.Prelude.{◌≡◌, ◌<◌, ◌≤◌, ◌+◌, None, Some, length};
+    ghost use Rattle.std.specs.Prelude.{◌≡◌, ◌<◌, ◌≤◌, ◌+◌, None, Some};
+    ghost use Rattle.cx_desk.specs.SlotBytes.{taken_by};
     ghost use Rattle.step_text.specs.declared.source.TextRefusal.TheVariants.{TooLong};
     ghost use Rattle.step_text.specs.Slots.{SlotState};
 
     ghost Value = { SlotState };
 
-    ghost view = { λ r. record { slot = r.bytes.slot; limit = r.bytes.limit; bytes = r.bytes.bytes; place = r.bytes.place; line = r.line; ended = r.bytes.ended; refused = r.refused } };
+    ghost view = { λ r. record { bytes = r.bytes; line = r.line; refused = r.refused } };
 
-    ghost invariant = { λ r. (r.bytes.limit ≤ 4294967295) × (r.bytes.place ≤ r.bytes.limit) × (r.bytes.place + length r.bytes.bytes ≤ r.bytes.limit + 1) × (r.refused ≡ None → r.bytes.place + length r.bytes.bytes ≤ r.bytes.limit) × (r.refused ≡ Some TooLong → r.bytes.limit < r.bytes.place + length r.bytes.bytes) };
+    ghost invariant = { λ r. (r.bytes.limit ≤ 4294967295) × (r.bytes.place ≤ r.bytes.limit) × (taken_by r.bytes ≤ r.bytes.limit + 1) × (r.refused ≡ None → taken_by r.bytes ≤ r.bytes.limit) × (r.refused ≡ Some TooLong → r.bytes.limit < taken_by r.bytes) };
 }
 
 impl<G: StepGrammar> SlotReader<G>
@@ -130,7 +132,7 @@ where
     /// The steps of the text that the slot will give, of at most `limit` bytes.
     pub fn new(alloc: Global, slot: Slot, limit: u64) -> SlotReader<G>
         requires { limit ≤ 4294967295 }
-        ensures { result ≡ record { slot = slot; limit = limit; bytes = []; place = 0; line = Start; ended = false; refused = None } }
+        ensures { result ≡ record { bytes = record { slot = slot; limit = limit; bytes = []; place = 0; ended = false }; line = Start; refused = None } }
     {
         SlotReader {
             alloc,
@@ -143,14 +145,14 @@ where
 
     /// How many bytes were read: at most the limit, until `TooLong` is answered.
     pub fn taken(&self) -> u64
-        ensures { result ≡ taken_by self.now }
+        ensures { result ≡ taken_by self.now.bytes }
     {
         self.bytes.taken()
     }
 
     /// The place of the first byte that was not passed.
     pub fn place(&self) -> u64
-        ensures { result ≡ self.now.place }
+        ensures { result ≡ self.now.bytes.place }
     {
         self.bytes.place() as u64
     }
@@ -159,9 +161,9 @@ where
     fn pass_blanks(&mut self)
         requires { self.old.refused ≡ None }
         ensures on { (o : Outside) → ReadsOn self.old o self.new o }
-        ensures line { self.new.bytes ≢ [] → self.new.line ≡ Kept }
-        ensures taken { taken_by self.new ≡ taken_by self.old }
-        ensures ended { self.new.ended ≡ self.old.ended }
+        ensures line { self.new.bytes.bytes ≢ [] → self.new.line ≡ Kept }
+        ensures taken { taken_by self.new.bytes ≡ taken_by self.old.bytes }
+        ensures ended { self.new.bytes.ended ≡ self.old.bytes.ended }
     {
         let stop = pass_blanks(self.bytes.bytes(), self.line, EndLines::Kept);
         self.bytes.pass(stop.at);
@@ -170,12 +172,12 @@ where
 
     /// Reads as much again as is at hand, or to the end.
     fn read_twice<D: Desk>(&mut self, desk: &mut D) -> Result<(), TextRefusal>
-        requires started { started_in self.old.slot (D.outside desk.old).started ≡ true }
-        requires within { taken_by self.old ≤ self.old.limit }
-        requires open { self.old.ended ≡ false }
-        ensures read { MatchResult result (λ _. ReadsOn self.old (D.outside desk.old) self.new (D.outside desk.new)) (λ e. ReadingFails self.old (D.outside desk.old) e self.new (D.outside desk.new)) }
-        ensures within { IfOk result (λ _. taken_by self.new ≤ self.new.limit) }
-        ensures falls { IfOk result (λ _. to_read self.new < to_read self.old) }
+        requires started { started_in self.old.bytes.slot (D.outside desk.old).started ≡ true }
+        requires within { taken_by self.old.bytes ≤ self.old.bytes.limit }
+        requires open { self.old.bytes.ended ≡ false }
+        ensures read { MatchResult result (λ _. ReadsOn self.old (D.outside desk.old) self.new (D.outside desk.new)) (λ e. ReadingFails self.old.bytes (D.outside desk.old) e self.new.bytes (D.outside desk.new)) }
+        ensures within { IfOk result (λ _. taken_by self.new.bytes ≤ self.new.bytes.limit) }
+        ensures falls { IfOk result (λ _. to_read self.new.bytes < to_read self.old.bytes) }
     {
         match self.bytes.read_twice(desk) {
             Ok(()) => Ok(()),
@@ -189,9 +191,9 @@ where
 
     /// The next step of the bytes at hand, or the end, or a refusal, if they tell it.
     fn take_found(&mut self) -> Option<Result<Option<G::Step>, TextRefusal>>
-        requires line { self.old.bytes ≢ [] → self.old.line ≡ Kept }
+        requires line { self.old.bytes.bytes ≢ [] → self.old.line ≡ Kept }
         requires fresh { self.old.refused ≡ None }
-        ensures answer { MatchOption result ((self.new ≡ self.old) × (self.old.ended ≡ false)) (λ r. (o : Outside) → IsAnswer G.steps self.old o r self.new o) }
+        ensures answer { MatchOption result ((self.new ≡ self.old) × (self.old.bytes.ended ≡ false)) (λ r. (o : Outside) → IsAnswer G.steps self.old o r self.new o) }
     {
         let place = self.bytes.place();
         match find_step::<G>(
@@ -212,9 +214,9 @@ where
 
     /// Finds the next step, or the end.
     fn find<D: Desk>(&mut self, desk: &mut D) -> Result<Option<G::Step>, TextRefusal>
-        requires started { started_in self.old.slot (D.outside desk.old).started ≡ true }
+        requires started { started_in self.old.bytes.slot (D.outside desk.old).started ≡ true }
         requires fresh { self.old.refused ≡ None }
-        requires within { taken_by self.old ≤ self.old.limit }
+        requires within { taken_by self.old.bytes ≤ self.old.bytes.limit }
         ensures { IsAnswer G.steps self.old (D.outside desk.old) result self.new (D.outside desk.new) }
     {
         loop {
@@ -230,8 +232,8 @@ where
     ///
     /// No step is asked for behind this.
     pub fn drain_from<D: Desk>(&self, desk: &mut D) -> Result<(), DrainErr>
-        requires { started_in self.now.slot (D.outside desk.old).started ≡ true }
-        ensures { DrainsRest self.now (D.outside desk.old) result (D.outside desk.new) }
+        requires { started_in self.now.bytes.slot (D.outside desk.old).started ≡ true }
+        ensures { DrainsRest self.now.bytes (D.outside desk.old) result (D.outside desk.new) }
     {
         if self.bytes.is_past_limit() {
             return Err(DrainErr::TooLong);
@@ -244,17 +246,17 @@ where
 
     /// The next step, or none at the end of the text between two steps, as a source of steps gives it.
     pub fn next_from<D: Desk>(&mut self, desk: &mut D) -> Result<Option<G::Step>, TextRefusal>
-        requires started { started_in self.old.slot (D.outside desk.old).started ≡ true }
+        requires started { started_in self.old.bytes.slot (D.outside desk.old).started ≡ true }
         requires fresh { is_spent_by self.old.refused ≡ false }
         ensures step { Gives (PairLeaves G.steps) (self.old, D.outside desk.old) result (self.new, D.outside desk.new) }
         ensures spent { SpentAs result (is_spent_by self.new.refused) }
         ensures stuck { StuckAs (stuck_by self.old.refused) result (stuck_by self.new.refused) }
-        ensures long { IsTooLongOnly (is_too_long self.old (D.outside desk.old)) result }
-        ensures rises { PlaceRises result self.old.place self.new.place }
-        ensures kept { SlotKept self.old (D.outside desk.old) self.new (D.outside desk.new) }
-        ensures took { Took self.old.slot result (D.outside desk.old) (D.outside desk.new) }
-        ensures within { self.new.place ≤ self.new.limit }
-        ensures few { self.new.limit ≤ 4294967295 }
+        ensures long { IsTooLongOnly (is_too_long self.old.bytes (D.outside desk.old)) result }
+        ensures rises { PlaceRises result self.old.bytes.place self.new.bytes.place }
+        ensures kept { SlotKept self.old.bytes (D.outside desk.old) self.new.bytes (D.outside desk.new) }
+        ensures took { Took self.old.bytes.slot result (D.outside desk.old) (D.outside desk.new) }
+        ensures within { self.new.bytes.place ≤ self.new.bytes.limit }
+        ensures few { self.new.bytes.limit ≤ 4294967295 }
     {
         if let Some(refusal) = self.refused {
             return Err(refusal);

@@ -2,7 +2,8 @@
 ghost use Rattle.std.specs.Prelude.{◌≡◌, ◌≤◌, [], None, true, false};
 ghost use Rattle.cx_desk.specs.Outside.{started_in};
 ghost use Rattle.cx_texts.specs.declared.line_state.LineState.TheVariants.{Start};
-ghost use Rattle.step_text.specs.Slots.{DrainsRest, taken_by};
+ghost use Rattle.cx_desk.specs.SlotBytes.{taken_by};
+ghost use Rattle.step_text.specs.Slots.{DrainsRest};
 
 use crate::grammar::StepGrammar;
 use crate::slot_reader::SlotReader;
@@ -19,7 +20,7 @@ pub struct SlotText<'d, D: Desk, G> {
     desk: &'d mut D,
     reader: SlotReader<G>,
     // the slot that it reads was started
-    ghost started: { started_in reader.slot (D.outside desk.now).started ≡ true },
+    ghost started: { started_in reader.bytes.slot (D.outside desk.now).started ≡ true },
 }
 
 impl<'d, D: Desk, G: StepGrammar> SlotText<'d, D, G>
@@ -32,7 +33,7 @@ where
         requires few { limit ≤ 4294967295 }
         ensures same_desk { result.desk.ghost_name ≡ desk.entry.ghost_name }
         ensures outside { D.outside result.desk.now ≡ D.outside desk.entry.now }
-        ensures reader { result.reader ≡ record { slot = slot; limit = limit; bytes = []; place = 0; line = Start; ended = false; refused = None } }
+        ensures reader { result.reader ≡ record { bytes = record { slot = slot; limit = limit; bytes = []; place = 0; ended = false }; line = Start; refused = None } }
     {
         SlotText {
             desk,
@@ -42,14 +43,14 @@ where
 
     /// How many bytes were read: at most the limit, until `TooLong` is answered.
     pub fn taken(&self) -> u64
-        ensures { result ≡ taken_by self.now.reader }
+        ensures { result ≡ taken_by self.now.reader.bytes }
     {
         self.reader.taken()
     }
 
     /// Reads the rest of the text without keeping it, and says whether the whole text was within the limit.
     pub fn drain(&mut self) -> Result<(), DrainErr>
-        ensures drains { DrainsRest self.old.reader (D.outside self.old.desk.now) result (D.outside self.new.desk.now) }
+        ensures drains { DrainsRest self.old.reader.bytes (D.outside self.old.desk.now) result (D.outside self.new.desk.now) }
         ensures same_desk { self.new.desk.ghost_name ≡ self.old.desk.ghost_name }
     {
         self.reader.drain_from(self.desk)
@@ -64,13 +65,14 @@ where
 
     ghost use Rattle.std.specs.Prelude.{◌≡◌, refl};
     ghost use Rattle.std.proofs.Common.{◌∙◌};
+    ghost use Rattle.cx_desk.specs.SlotBytes.{is_too_long};
     ghost use Rattle.step_text.specs.Texts.{is_spent_by, stuck_by};
-    ghost use Rattle.step_text.specs.Slots.{SlotLeaves, SlotFrame, is_too_long};
+    ghost use Rattle.step_text.specs.Slots.{SlotLeaves, SlotFrame};
     ghost use Rattle.step_text.specs.SlotLeft.{slot_is_left, frame_itself, frame_on};
 
     ghost leaves = { λ s. SlotLeaves G.steps s.reader (D.outside s.desk.now) };
 
-    ghost passes_limit = { λ s. is_too_long s.reader (D.outside s.desk.now) };
+    ghost passes_limit = { λ s. is_too_long s.reader.bytes (D.outside s.desk.now) };
 
     ghost is_spent = { λ s. is_spent_by s.reader.refused };
 
@@ -78,11 +80,11 @@ where
 
     ghost faults = { λ s. (D.outside s.desk.now).faults.reads };
 
-    ghost place_of = { λ s. s.reader.place };
+    ghost place_of = { λ s. s.reader.bytes.place };
 
-    ghost farthest = { λ s. s.reader.limit };
+    ghost farthest = { λ s. s.reader.bytes.limit };
 
-    ghost keeps = { λ a b. (b.desk.ghost_name ≡ a.desk.ghost_name) × SlotFrame a.reader (D.outside a.desk.now) b.reader (D.outside b.desk.now) };
+    ghost keeps = { λ a b. (b.desk.ghost_name ≡ a.desk.ghost_name) × SlotFrame a.reader.bytes (D.outside a.desk.now) b.reader.bytes (D.outside b.desk.now) };
 
     fn next_step(&mut self) -> Result<Option<G::Step>, TextRefusal> {
         self.reader.next_from(self.desk)
@@ -94,7 +96,7 @@ where
 
     ghost leaves_some = { λ s. slot_is_left G.steps G.forms s.reader (D.outside s.desk.now) };
 
-    ghost keeps_itself = { λ a. (refl, frame_itself a.reader (D.outside a.desk.now)) };
+    ghost keeps_itself = { λ a. (refl, frame_itself a.reader.bytes (D.outside a.desk.now)) };
 
-    ghost keeps_on = { λ a b c h k. (k.0 ∙ h.0, frame_on a.reader (D.outside a.desk.now) b.reader (D.outside b.desk.now) c.reader (D.outside c.desk.now) h.1 k.1) };
+    ghost keeps_on = { λ a b c h k. (k.0 ∙ h.0, frame_on a.reader.bytes (D.outside a.desk.now) b.reader.bytes (D.outside b.desk.now) c.reader.bytes (D.outside c.desk.now) h.1 k.1) };
 }

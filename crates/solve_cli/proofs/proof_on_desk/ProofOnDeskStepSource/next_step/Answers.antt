@@ -9,5 +9,5 @@ returns-clause-frame g c =
     let p = g.D.Desk.outside c.next_from.new.desk in (
       refl,
       refl,
-      record { slot = kept.slot; limit = kept.limit; long = kept.long; seen = kept.seen; read = only_read c.args.self.now.reader.now.slot c.next_from.result o p c.next_from.ensures.took },
+      record { slot = kept.slot; limit = kept.limit; long = kept.long; seen = kept.seen; read = only_read c.args.self.now.reader.now.bytes.slot c.next_from.result o p c.next_from.ensures.took },
     )

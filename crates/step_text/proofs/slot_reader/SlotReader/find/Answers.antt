@@ -1,8 +1,9 @@
 use Rattle.std.proofs.Common.{◌≡◌, ◌∙◌, sym, ap, subst, ◌≤◌, Err, arith}
-use Rattle.step_text.specs.Slots.{SlotState, ReadsOn, ReadingFails, taken_by}
+use Rattle.cx_desk.specs.SlotBytes.{taken_by}
+use Rattle.step_text.specs.Slots.{SlotState, ReadsOn, ReadingFails}
 use Rattle.step_text.specs.SlotAnswers.{IsAnswer}
 use Rattle.step_text.proofs.AnswerLaws.{answer_then, failed_answer}
-use Rattle.step_text.proofs.SlotLaws.{reads_itself, reads_then, fails_then, started_still}
+use Rattle.step_text.proofs.SlotLaws.{reads_itself, reads_then, started_still}
 use Rattle.step_text.proofs.slot_reader.SlotReader.find.Goals as goal
 
 pub loop-answer-init : goal.loop-answer-init
@@ -25,8 +26,8 @@ pub read_twice-requires-clause-within : goal.read_twice-requires-clause-within
 read_twice-requires-clause-within g c =
     let mid = g.D.Desk.outside c.loop-answer.desk in
     let on = c.pass_blanks.ensures.on mid in
-    let now : taken_by c.pass_blanks.new.self ≤ c.pass_blanks.new.self.limit = omega (arith, c.pass_blanks.ensures.taken, on.kept.limit, c.loop-answer.invariant.within) in
-    subst (λ (x : SlotState). taken_by x ≤ x.limit) (sym c.in-None.ensures.answer.0) now
+    let now : taken_by c.pass_blanks.new.self.bytes ≤ c.pass_blanks.new.self.bytes.limit = omega (arith, c.pass_blanks.ensures.taken, on.kept.limit, c.loop-answer.invariant.within) in
+    subst (λ (x : SlotState). taken_by x.bytes ≤ x.bytes.limit) (sym c.in-None.ensures.answer.0) now
 
 pub loop-answer-preserved : goal.loop-answer-preserved
 loop-answer-preserved g c =
@@ -51,6 +52,6 @@ returns-in_err-read_twice-in-None g c =
     let new = g.D.Desk.outside c.read_twice.new.desk in
     let refusal = c.in_err-read_twice-in-None.field-0.0 in
     let before = reads_then c.args.self.now old c.loop-answer.self mid c.pass_blanks.new.self mid c.loop-answer.invariant.on (c.pass_blanks.ensures.on mid) in
-    let stops = subst (λ (x : SlotState). ReadingFails x mid refusal c.read_twice.new.self new) c.in-None.ensures.answer.0 c.in_err-read_twice-in-None.ensures.read in
-    let fails = failed_answer steps c.args.self.now old refusal c.read_twice.new.self new (fails_then c.args.self.now old c.pass_blanks.new.self mid refusal c.read_twice.new.self new before stops) in
+    let stops = subst (λ (x : SlotState). ReadingFails x.bytes mid refusal c.read_twice.new.self.bytes new) c.in-None.ensures.answer.0 c.in_err-read_twice-in-None.ensures.read in
+    let fails = answer_then steps c.args.self.now old c.pass_blanks.new.self mid (Err refusal) c.read_twice.new.self new before (failed_answer steps c.pass_blanks.new.self mid refusal c.read_twice.new.self new stops) in
     search Rattle.std.proofs.Common.rules

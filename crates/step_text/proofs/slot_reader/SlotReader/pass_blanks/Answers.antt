@@ -1,7 +1,7 @@
 use Rattle.std.proofs.Common.{◌≡◌, ◌∙◌, sym, ap, subst, ℕ, ◌+◌, ◌≤◌, List, ◌++◌, length, drop, arith, length-drop}
 use Rattle.cx_desk.specs.SlotBytes.{BytesState}
 use Rattle.cx_texts.specs.Pieces.{tokens_in}
-use Rattle.step_text.specs.Slots.{SlotState, ReadsOn, of_bytes}
+use Rattle.step_text.specs.Slots.{SlotState, ReadsOn}
 use Rattle.step_text.proofs.SlotLaws.{passes_on}
 use Rattle.step_text.proofs.slot_reader.SlotReader.pass_blanks.Goals as goal
 
@@ -23,9 +23,9 @@ returns-clause-on g c = λ o.
     let i = c.self.inside in
     let at = c.pass_blanks-stop.result.at in
     let line = c.pass_blanks-stop.result.line in
-    let s : SlotState = of_bytes i.bytes i.line i.refused in
+    let s : SlotState = record { bytes = i.bytes; line = i.line; refused = i.refused } in
     let high : at ≤ length i.bytes.bytes = subst (λ (x : List ℕ). at ≤ length x) c.bytes.ensures c.pass_blanks-stop.ensures.high in
     let left : (place : ℕ) (more : List ℕ) → tokens_in i.line place (i.bytes.bytes ++ more) ≡ tokens_in line (place + at) (drop at i.bytes.bytes ++ more) =
     subst (λ (x : List ℕ). (place : ℕ) (more : List ℕ) → tokens_in i.line place (x ++ more) ≡ tokens_in line (place + at) (drop at x ++ more)) c.bytes.ensures c.pass_blanks-stop.ensures.left in
-    let on = subst (λ (x : BytesState). ReadsOn s o (of_bytes x line i.refused) o) (sym c.pass.ensures) (passes_on s at line high left o) in
-    subst (λ (x : SlotState). ReadsOn x o (of_bytes c.pass.new.self line i.refused) o) c.self.view_is on
+    let on = subst (λ (x : BytesState). ReadsOn s o (record s { bytes = x; line = line }) o) (sym c.pass.ensures) (passes_on s at line high left o) in
+    subst (λ (x : SlotState). ReadsOn x o (record s { bytes = c.pass.new.self; line = line }) o) c.self.view_is on

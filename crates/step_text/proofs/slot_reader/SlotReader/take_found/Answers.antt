@@ -1,6 +1,6 @@
 use Rattle.std.proofs.Common.{◌≡◌, ◌≢◌, ◌∙◌, refl, sym, ap, subst, ℕ, ◌-◌, ◌≤◌, Bool, List, [], length, Ok, Err, None, Some, arith}
 use Rattle.cx_texts.specs.declared.line_state.LineState.TheVariants.{Kept}
-use Rattle.step_text.specs.Slots.{SlotState, of_bytes, taken_by}
+use Rattle.step_text.specs.Slots.{SlotState}
 use Rattle.step_text.specs.SlotAnswers.{IsAnswer}
 use Rattle.step_text.specs.Found.{IsFound}
 use Rattle.step_text.specs.declared.slot_reader.Found.TheVariants.{Refused}
@@ -11,12 +11,12 @@ pub returns-in-Refused : goal.returns-in-Refused
 returns-in-Refused g c =
     let i = c.self.inside in
     let steps = g.G.StepGrammar.steps in
-    let s : SlotState = of_bytes i.bytes i.line i.refused in
+    let s : SlotState = record { bytes = i.bytes; line = i.line; refused = i.refused } in
     let is : s ≡ c.args.self.now = c.self.view_is in
     let fresh : s.refused ≡ None = ap (λ (x : SlotState). x.refused) is ∙ c.requires.fresh in
-    let line : s.bytes ≢ [] → s.line ≡ Kept = subst (λ (x : SlotState). x.bytes ≢ [] → x.line ≡ Kept) (sym is) c.requires.line in
+    let line : s.bytes.bytes ≢ [] → s.line ≡ Kept = subst (λ (x : SlotState). x.bytes.bytes ≢ [] → x.line ≡ Kept) (sym is) c.requires.line in
     let refusal = c.in-Refused.refusal in
-    let found : IsFound steps s.ended s.place s.bytes (Refused refusal) = subst (λ (e : Bool). IsFound steps e i.bytes.place i.bytes.bytes (Refused refusal)) c.has_ended.ensures
+    let found : IsFound steps s.bytes.ended s.bytes.place s.bytes.bytes (Refused refusal) = subst (λ (e : Bool). IsFound steps e i.bytes.place i.bytes.bytes (Refused refusal)) c.has_ended.ensures
     (subst (λ (b : List ℕ). IsFound steps c.has_ended.result i.bytes.place b (Refused refusal)) c.bytes.ensures
     (subst (λ (n : ℕ). IsFound steps c.has_ended.result n c.bytes.result.now (Refused refusal)) c.place-place.ensures.place c.in-Refused.ensures)) in
     record { answer = λ o. subst (λ (x : SlotState). IsAnswer steps x o (Err refusal) x o) is (refusal_answer steps s fresh line o refusal found) }
