@@ -93,6 +93,10 @@ impl IndexedClauses {
     {
         match kind {
             Kind::Clauses => {
+                // Without an engine there is none to move.
+                if self.engine.is_none() {
+                    return self.live.add(Kind::Clauses, id, lits);
+                }
                 let engine = with_clause(self.engine.take(), id, lits.as_slice())?;
                 self.live.add(Kind::Clauses, id, lits)?;
                 self.engine = engine;
@@ -108,6 +112,10 @@ impl IndexedClauses {
     {
         match kind {
             Kind::Clauses => {
+                if self.engine.is_none() {
+                    self.live.remove(Kind::Clauses, id);
+                    return;
+                }
                 let engine = without_clause(self.engine.take(), id);
                 self.live.remove(Kind::Clauses, id);
                 self.engine = engine;
