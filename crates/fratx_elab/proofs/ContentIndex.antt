@@ -1,8 +1,10 @@
 -- The numbers of lists of literals by what these say.
-use Rattle.std.proofs.Common.{◌≡◌, refl, sym, ap, ◌∙◌, subst, ℕ, ◌+◌, ◌-◌, ◌≤◌, Bool, true, false, cond, List, [], ◌∷◌, ◌++◌, length, take, arith, Option, Some, None, MatchOption, IsTrue, IsFalse, is_some, Vec, Global, true≢false, is_eq, nat_cmp}
+use Rattle.std.proofs.Common.{◌≡◌, refl, sym, ap, ◌∙◌, subst, ℕ, ◌+◌, ◌-◌, ◌≤◌, Bool, true, false, cond, List, [], ◌∷◌, ◌++◌, length, get_or, take, drop, ◌<◌, arith, length-append, Option, Some, None, MatchOption, IsTrue, IsFalse, is_some, inl, inr, Vec, Global, true≢false, is_eq, nat_cmp}
 use Rattle.std.specs.Prelude.{slice_get}
 use Rattle.std.specs.List.{AllByRecursion}
-use Rattle.std.proofs.lemmas.List.{length-take-le}
+use Rattle.std.proofs.lemmas.List.{length-take-le, take-append-drop, get_or_append_left, get_or_push}
+use Rattle.std.proofs.lemmas.Bool.{cases_lt}
+use Rattle.std.proofs.lemmas.Option.{get_or_from_slice_get, slice_get_read}
 use Rattle.std.specs.Option.{unwrap_or}
 use Rattle.std.specs.Cmp.{Equal-is, tied_itself}
 use Rattle.std.specs.Cmp.Lexicographic.{slice_cmp, nat_list_cmp_total}
@@ -20,7 +22,7 @@ use Rattle.proof_rules.specs.Contents.{IsClauseContent, IsParityContent}
 use Rattle.proof_rules.proofs.ContentLaws.{same_by_content, content_of_same, form_by_parity_content, content_of_same_form}
 use Rattle.fratx_elab.specs.Elaborates.{IsLeast, IsClauseNumber, IsParityNumber}
 use Rattle.fratx_elab.specs.declared.originals.Originals.{Originals}
-use Rattle.fratx_elab.specs.Contents.{by_list, PutsFirst, IsIndexOf, StandsFor}
+use Rattle.fratx_elab.specs.Contents.{by_list, PutsFirst, IsIndexOf, AreFirsts, StandsFor}
 use Rattle.fratx_elab.proofs.Numbers.{none_pass, none_any}
 
 joined : (xs ys zs : List (List Literal)) → (xs ++ ys) ++ zs ≡ xs ++ (ys ++ zs)
@@ -154,6 +156,39 @@ parity_answer lits content lists has Absent absent o h =
 abbrev pub items_of : Vec ℕ Global → List ℕ
 items_of v = v.items
 
+-- ---- the least number of each clause
+
+-- the least number among the first lists is that among all
+least_among_all : (P : List Literal → Type 0) (part rest lists : List (List Literal)) (k : ℕ) → lists ≡ part ++ rest → IsLeast P part k → IsLeast P lists k
+least_among_all P part rest lists k e h = record {
+  before = h.before;
+  it = h.it;
+  later = h.later ++ rest;
+  split = e ∙ ap (λ xs. xs ++ rest) h.split ∙ joined h.before (h.it ∷ h.later) rest;
+  has_it = h.has_it;
+  none_before = h.none_before;
+  number = h.number;
+}
+
+-- what the index has at a clause's content is the least number of one that says the same
+module _ (lists : List (List Literal)) (lits : List Literal) (key : Vec ℕ Global) (index : tree.BTreeMap (Vec ℕ Global) ℕ) (k : ℕ) where
+  least_at : IsClauseContent lits key.items → (part : List (List Literal)) → IsIndexOf items_of IsClauseContent part index → tree.get (by_list items_of) index key ≡ Some k → IsLeast (λ l. IsTrue (same_literals lits l)) part k
+  least_at has part is e =
+      least_turn (λ l. IsClauseContent l key.items) (λ l. IsTrue (same_literals lits l)) (λ l h. same_by_content lits l key.items has h) (λ l h. content_of_same lits l key.items h has) part k
+      (subst (λ o. MatchOption o (AllByRecursion (λ l. ¬ IsClauseContent l key.items) part) (IsLeast (λ l. IsClauseContent l key.items) part)) e (is key))
+
+  -- one more of them
+  pub firsts_push : (firsts : List ℕ) (count : ℕ) → slice_get lists (length firsts) ≡ Some lits → IsClauseContent lits key.items → IsIndexOf items_of IsClauseContent (take count lists) index
+      → tree.get (by_list items_of) index key ≡ Some k → AreFirsts lists firsts → AreFirsts lists (firsts ++ k ∷ [])
+  firsts_push firsts count at has is e old i m w h = elim (cases_lt i (length firsts)) [
+    | inl earlier ↦ subst (IsLeast (λ l. IsTrue (same_literals m l)) lists) (sym (get_or_append_left firsts (k ∷ []) 0 i earlier)) (old i m earlier h)
+    | inr later ↦
+        let same : i ≡ length firsts = omega (arith, length-append firsts (k ∷ [])) in
+        let one : lits ≡ m = let there : Some lits ≡ Some m = sym at ∙ ap (slice_get lists) (sym same) ∙ h in cc in
+        let least = least_among_all (λ l. IsTrue (same_literals lits l)) (take count lists) (drop count lists) lists k (sym (take-append-drop count lists)) (least_at has (take count lists) is e) in
+        subst (IsLeast (λ l. IsTrue (same_literals m l)) lists) (sym (get_or_push firsts k 0 i (sym same))) (subst (λ x. IsLeast (λ l. IsTrue (same_literals x l)) lists k) one least)
+  ]
+
 module _ (originals : Originals) (formula : Problem) (stands : StandsFor originals formula) (lits : List Literal) (key : Vec ℕ Global) (o : Option ℕ) where
   pub clause_looked_up : IsClauseContent lits key.items → o ≡ tree.get (by_list items_of) originals.clauses key → MatchOption o (IsFalse (is_original formula lits)) (IsClauseNumber formula lits)
   clause_looked_up has e =
@@ -166,3 +201,10 @@ module _ (originals : Originals) (formula : Problem) (stands : StandsFor origina
       let lists = parities_of formula.constraints in
       parity_answer lits key.items lists has _ (none_any (λ parity. normal_form parity ≡ normal_form lits) lists) o
       (subst (λ p. MatchOption p (AllByRecursion (λ l. ¬ IsParityContent l key.items) lists) (IsLeast (λ l. IsParityContent l key.items) lists)) (sym e) (stands.parities key))
+
+-- the clause of a number, looked up there
+pub clause_at : (originals : Originals) (formula : Problem) → StandsFor originals formula → (lits : List Literal) (i k : ℕ) → i < length originals.firsts.items → slice_get (clauses_of formula.constraints) i ≡ Some lits
+    → k ≡ get_or originals.firsts.items i k → IsClauseNumber formula lits k
+clause_at originals formula stands lits i k within at e =
+    let same : get_or originals.firsts.items i 0 ≡ k = get_or_from_slice_get originals.firsts.items i k 0 (slice_get_read originals.firsts.items (length originals.firsts.items) i k refl within e) in
+    subst (IsClauseNumber formula lits) same (stands.firsts i lits within at)

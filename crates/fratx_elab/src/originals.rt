@@ -1,11 +1,12 @@
 //! The constraints of the formula by their content.
-ghost use Rattle.std.specs.Prelude.{◌≡◌, ◌≤◌, ◌<◌, ◌+◌, ◌^◌, length, IfOk, MatchOption, IsFalse};
+ghost use Rattle.std.specs.Prelude.{◌≡◌, ◌≤◌, ◌<◌, ◌+◌, ◌-◌, ◌^◌, length, IfOk, IfSome, MatchOption, IsFalse, Some, true, [], slice_get};
+ghost use Rattle.std.specs.BTreeMap.{get};
 ghost use Rattle.cx_base.specs.Problem.{clauses_of, parities_of};
 ghost use Rattle.cx_semantics.specs.LogRules.{is_original, IsOriginalParity};
 ghost use Rattle.fratx_elab.specs.Elaborates.{IsClauseNumber, IsParityNumber, number_of_clauses, number_of_parities};
 ghost use Rattle.std.specs.Prelude.{OnOk};
 ghost use Rattle.cx_base.specs.Problem.{Problem};
-ghost use Rattle.fratx_elab.specs.Contents.{PutsFirst, IsIndexOf, StandsFor};
+ghost use Rattle.fratx_elab.specs.Contents.{by_list, PutsFirst, IsIndexOf, AreFirsts, StandsFor};
 ghost use Rattle.proof_rules.specs.Contents.{IsClauseContent, IsParityContent};
 ghost use Rattle.fratx_elab.specs.declared.naming.TheConstants.{MAX_ID};
 
@@ -40,32 +41,45 @@ pub fn count_kinds(formula: &Formula) -> Counts
 #[derive(Drop)]
 pub struct Originals {
     clauses: BTreeMap<Vec<u32>, ProofId>,
+    /// For each clause of the formula in order, the least number of one that says the same.
+    firsts: Vec<ProofId>,
     parities: BTreeMap<Vec<u32>, ProofId>,
 }
 
-/// The number stands at this content from now on, if none stood there.
+/// The number stands at this content from now on, if none stood there; gives the one that stands there then.
 fn put_first(
     index: &mut BTreeMap<Vec<u32>, ProofId>,
     content: Vec<u32>,
     number: ProofId,
-) -> Result<(), AllocError>
-    ensures { OnOk result (PutsFirst (λ k. k.items) index.old index.new content number) }
+) -> Result<ProofId, AllocError>
+    ensures puts { OnOk result (PutsFirst (λ k. k.items) index.old index.new content number) }
+    ensures stands { IfOk result (λ first. get (by_list (λ k. k.items)) index.new content ≡ Some first) }
 {
-    if !index.contains_key(&content) {
-        index.insert(content, number)?;
+    match index.get(&content).copied() {
+        Some(first) => Ok(first),
+        None => {
+            index.insert(content, number)?;
+            Ok(number)
+        }
     }
-    Ok(())
 }
 
-/// The least number of a clause of the formula at each content.
-fn clause_index(alloc: Global, formula: &Formula) -> Result<BTreeMap<Vec<u32>, ProofId>, AllocError>
-    requires { length formula.now.constraints < MAX_ID }
-    ensures { IfOk result (IsIndexOf (λ k. k.items) IsClauseContent (clauses_of formula.now.constraints)) }
+/// The least number of a clause of the formula at each content, and that at the content of each clause.
+fn clause_index(
+    alloc: Global,
+    formula: &Formula,
+    firsts: &mut Vec<ProofId>,
+) -> Result<BTreeMap<Vec<u32>, ProofId>, AllocError>
+    requires few { length formula.now.constraints < MAX_ID }
+    requires none { firsts.old.items ≡ [] }
+    ensures index { IfOk result (IsIndexOf (λ k. k.items) IsClauseContent (clauses_of formula.now.constraints)) }
+    ensures firsts { OnOk result (AreFirsts (clauses_of formula.now.constraints) firsts.new.items) }
 {
     let mut index = BTreeMap::new(alloc);
     for number in 1..=formula.clause_count() {
         let content = clause_content(alloc, formula.clause(number))?;
-        put_first(&mut index, content, ProofId::new(number as u64))?;
+        let first = put_first(&mut index, content, ProofId::new(number as u64))?;
+        firsts.push(first)?;
     }
     Ok(index)
 }
@@ -83,22 +97,61 @@ fn parity_index(alloc: Global, formula: &Formula) -> Result<BTreeMap<Vec<u32>, P
     Ok(index)
 }
 
+/// Whether the clause of this number has these literals in this order.
+fn is_clause(formula: &Formula, number: u64, lits: &[Lit]) -> bool
+    ensures low { result ≡ true → 1 ≤ number }
+    ensures same { result ≡ true → slice_get (clauses_of formula.now.constraints) (number - 1) ≡ Some lits.now }
+{
+    if number < 1 || number > formula.clause_count() as u64 {
+        return false;
+    }
+    formula.clause(number as usize) == lits
+}
+
 impl Originals {
     /// Those of the formula.
     pub fn of(alloc: Global, formula: &Formula) -> Result<Originals, AllocError>
         requires { length formula.now.constraints < MAX_ID }
         ensures { IfOk result (λ originals. StandsFor originals formula.now) }
     {
+        let mut firsts = Vec::new(alloc);
+        let clauses = clause_index(alloc, formula, &mut firsts)?;
+        let parities = parity_index(alloc, formula)?;
         Ok(Originals {
-            clauses: clause_index(alloc, formula)?,
-            parities: parity_index(alloc, formula)?,
+            clauses,
+            firsts,
+            parities,
         })
     }
 
-    /// The least number of a clause of the formula with the same set of literals; none where it has no such clause.
-    pub fn clause_number(&self, alloc: Global, lits: &[Lit]) -> Result<Option<ProofId>, AllocError>
-        ensures { (formula : Problem) → StandsFor self.now formula → IfOk result (λ found. MatchOption found (IsFalse (is_original formula lits.now)) (IsClauseNumber formula lits.now)) }
+    /// The least number of a clause with the literals of this one, if these are the same in the same order.
+    fn number_at(&self, formula: &Formula, number: u64, lits: &[Lit]) -> Option<ProofId>
+        requires { StandsFor self.now formula.now }
+        ensures { IfSome result (IsClauseNumber formula.now lits.now) }
     {
+        if number <= self.firsts.len() as u64 && is_clause(formula, number, lits) {
+            Some(self.firsts[number as usize - 1])
+        } else {
+            None
+        }
+    }
+
+    /// The least number of a clause of the formula with the same set of literals; none where it has no such clause.
+    ///
+    /// The clause of the number `near` is looked at first: a log mostly has the formula's clauses under their numbers.
+    pub fn clause_number(
+        &self,
+        alloc: Global,
+        formula: &Formula,
+        near: u64,
+        lits: &[Lit],
+    ) -> Result<Option<ProofId>, AllocError>
+        requires { StandsFor self.now formula.now }
+        ensures { IfOk result (λ found. MatchOption found (IsFalse (is_original formula.now lits.now)) (IsClauseNumber formula.now lits.now)) }
+    {
+        if let Some(number) = self.number_at(formula, near, lits) {
+            return Ok(Some(number));
+        }
         let content = clause_content(alloc, lits)?;
         Ok(self.clauses.get(&content).copied())
     }

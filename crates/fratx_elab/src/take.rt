@@ -29,7 +29,7 @@ use std::alloc::{AllocError, Global};
 fn hints_of(alloc: Global, names: &Names, ids: &[u64]) -> Result<IntList, AllocError>
     ensures { IfOk result (λ hints. hints ≡ hints_for names.now ids.now) }
 {
-    let mut hints = Vec::new(alloc);
+    let mut hints = Vec::with_capacity(alloc, ids.len())?;
     for id in ids {
         if let Some(found) = names.get(*id) {
             hints.push(found.hint())?;
@@ -121,7 +121,7 @@ pub fn take_original(
     ensures counts { OnOk result (CountsOneMore state.old state.new) }
 {
     let target = admit(alloc, formula, &state.live, Kind::Clauses, id, lits)?;
-    match originals.clause_number(alloc, target.as_slice())? {
+    match originals.clause_number(alloc, formula, id, target.as_slice())? {
         Some(number) => {
             state.live.add(Kind::Clauses, id, target)?;
             state.clauses.put_original(id, number)?;

@@ -25,7 +25,7 @@ loop-number-preserved c =
     record {
       low = omega arith;
       index = index_more items_of IsParityContent parity_content_once lists c.loop-number.number c.parity.result.now c.in_ok-content.content c.new.result c.loop-number.index c.put_first.new.index c.loop-number.invariant.low high c.parity.ensures.parity c.new.ensures
-          c.in_ok-content.ensures c.in_ok-put_first.ensures c.loop-number.invariant.index;
+          c.in_ok-content.ensures c.in_ok-put_first.ensures.puts c.loop-number.invariant.index;
     }
 
 pub returns : goal.returns
@@ -40,5 +40,5 @@ returns c = elim c.loop-number-test.branch [
       let all : length lists ≤ (c.loop-number.number + 1) - 1 = omega arith in
       rw w.index-is (subst (λ ls. IsIndexOf items_of IsParityContent ls w.put_first.new.index) (take_all ((c.loop-number.number + 1) - 1) lists all)
       (index_more items_of IsParityContent parity_content_once lists c.loop-number.number w.parity.result.now w.in_ok-content.content w.new.result c.loop-number.index w.put_first.new.index c.loop-number.invariant.low high w.parity.ensures.parity w.new.ensures
-      w.in_ok-content.ensures w.in_ok-put_first.ensures c.loop-number.invariant.index))
+      w.in_ok-content.ensures w.in_ok-put_first.ensures.puts c.loop-number.invariant.index))
 ]
