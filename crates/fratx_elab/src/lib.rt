@@ -3,6 +3,7 @@
 
 mod delete;
 mod ends;
+mod key;
 mod naming;
 mod one_step;
 mod originals;

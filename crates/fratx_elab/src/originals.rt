@@ -6,10 +6,11 @@ ghost use Rattle.cx_semantics.specs.LogRules.{is_original, IsOriginalParity};
 ghost use Rattle.fratx_elab.specs.Elaborates.{IsClauseNumber, IsParityNumber, number_of_clauses, number_of_parities};
 ghost use Rattle.std.specs.Prelude.{OnOk};
 ghost use Rattle.cx_base.specs.Problem.{Problem};
-ghost use Rattle.fratx_elab.specs.Contents.{by_list, PutsFirst, IsIndexOf, AreFirsts, StandsFor};
+ghost use Rattle.fratx_elab.specs.Contents.{by_key, PutsFirst, IsIndexOf, AreFirsts, StandsFor};
 ghost use Rattle.proof_rules.specs.Contents.{IsClauseContent, IsParityContent};
 ghost use Rattle.fratx_elab.specs.declared.naming.TheConstants.{MAX_ID};
 
+use crate::key::Key;
 use crate::naming::{MAX_ID, ProofId};
 use cx_base::{Formula, Lit};
 use proof_rules::{clause_content, parity_content};
@@ -40,25 +41,25 @@ pub fn count_kinds(formula: &Formula) -> Counts
 /// The numbers of the formula's clauses and parities by what they say, each with the least where several say the same.
 #[derive(Drop)]
 pub struct Originals {
-    clauses: BTreeMap<Vec<u32>, ProofId>,
+    clauses: BTreeMap<Key, ProofId>,
     /// For each clause of the formula in order, the least number of one that says the same.
     firsts: Vec<ProofId>,
-    parities: BTreeMap<Vec<u32>, ProofId>,
+    parities: BTreeMap<Key, ProofId>,
 }
 
-/// The number stands at this content from now on, if none stood there; gives the one that stands there then.
+/// The number stands at this key from now on, if none stood there; gives the one that stands there then.
 fn put_first(
-    index: &mut BTreeMap<Vec<u32>, ProofId>,
-    content: Vec<u32>,
+    index: &mut BTreeMap<Key, ProofId>,
+    key: Key,
     number: ProofId,
 ) -> Result<ProofId, AllocError>
-    ensures puts { OnOk result (PutsFirst (λ k. k.items) index.old index.new content number) }
-    ensures stands { IfOk result (λ first. get (by_list (λ k. k.items)) index.new content ≡ Some first) }
+    ensures puts { OnOk result (PutsFirst index.old index.new key number) }
+    ensures stands { IfOk result (λ first. get by_key index.new key ≡ Some first) }
 {
-    match index.get(&content).copied() {
+    match index.get(&key).copied() {
         Some(first) => Ok(first),
         None => {
-            index.insert(content, number)?;
+            index.insert(key, number)?;
             Ok(number)
         }
     }
@@ -69,30 +70,32 @@ fn clause_index(
     alloc: Global,
     formula: &Formula,
     firsts: &mut Vec<ProofId>,
-) -> Result<BTreeMap<Vec<u32>, ProofId>, AllocError>
+) -> Result<BTreeMap<Key, ProofId>, AllocError>
     requires few { length formula.now.constraints < MAX_ID }
     requires none { firsts.old.items ≡ [] }
-    ensures index { IfOk result (IsIndexOf (λ k. k.items) IsClauseContent (clauses_of formula.now.constraints)) }
+    ensures index { IfOk result (IsIndexOf IsClauseContent (clauses_of formula.now.constraints)) }
     ensures firsts { OnOk result (AreFirsts (clauses_of formula.now.constraints) firsts.new.items) }
 {
     let mut index = BTreeMap::new(alloc);
     for number in 1..=formula.clause_count() {
         let content = clause_content(alloc, formula.clause(number))?;
-        let first = put_first(&mut index, content, ProofId::new(number as u64))?;
+        let key = Key::of(content);
+        let first = put_first(&mut index, key, ProofId::new(number as u64))?;
         firsts.push(first)?;
     }
     Ok(index)
 }
 
 /// The least number of a parity of the formula at each content.
-fn parity_index(alloc: Global, formula: &Formula) -> Result<BTreeMap<Vec<u32>, ProofId>, AllocError>
+fn parity_index(alloc: Global, formula: &Formula) -> Result<BTreeMap<Key, ProofId>, AllocError>
     requires { length formula.now.constraints < MAX_ID }
-    ensures { IfOk result (IsIndexOf (λ k. k.items) IsParityContent (parities_of formula.now.constraints)) }
+    ensures { IfOk result (IsIndexOf IsParityContent (parities_of formula.now.constraints)) }
 {
     let mut index = BTreeMap::new(alloc);
     for number in 1..=formula.parity_count() {
         let content = parity_content(alloc, formula.parity(number))?;
-        put_first(&mut index, content, ProofId::new(number as u64))?;
+        let key = Key::of(content);
+        put_first(&mut index, key, ProofId::new(number as u64))?;
     }
     Ok(index)
 }
@@ -153,7 +156,8 @@ impl Originals {
             return Ok(Some(number));
         }
         let content = clause_content(alloc, lits)?;
-        Ok(self.clauses.get(&content).copied())
+        let key = Key::of(content);
+        Ok(self.clauses.get(&key).copied())
     }
 
     /// The least number of a parity of the formula with the same normal form; none where it has no such parity.
@@ -161,6 +165,7 @@ impl Originals {
         ensures { (formula : Problem) → StandsFor self.now formula → IfOk result (λ found. MatchOption found (¬ IsOriginalParity formula lits.now) (IsParityNumber formula lits.now)) }
     {
         let content = parity_content(alloc, lits)?;
-        Ok(self.parities.get(&content).copied())
+        let key = Key::of(content);
+        Ok(self.parities.get(&key).copied())
     }
 }
