@@ -2,3 +2,4 @@ pub mod Lines
 pub mod TwoLists
 pub mod StepLaws
 pub mod EventLists
+pub mod ToldLaws

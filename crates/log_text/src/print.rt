@@ -123,7 +123,7 @@ fn put_mark<D: Desk>(desk: &mut D, port: Port, k: u64) -> Result<(), Failed>
 }
 
 /// The line of an event.
-fn put_event<D: Desk>(desk: &mut D, port: Port, event: &LogEvent) -> Result<(), Failed>
+pub(crate) fn put_event<D: Desk>(desk: &mut D, port: Port, event: &LogEvent) -> Result<(), Failed>
     requires { HasText event.now }
     ensures { PutsAll port (printed_line (spelling log_events event.now)) (D.outside desk.old) result (D.outside desk.new) }
 {

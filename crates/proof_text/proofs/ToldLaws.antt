@@ -31,14 +31,14 @@ words_text s = joined (spelling proof_steps s)
 no_feed_step : (s : ProofStep) → HasProofText s → NoFeed (words_text s)
 no_feed_step s h = no_feed_joined (map printed_word (spelling proof_steps s)) (plain_pieces _ (plain_all (spelling proof_steps s) (spoken_proof_step s) h.1))
 
-no_feed_front : (k : ℕ) (l : Bytes) → NoFeed l → NoFeed (take k l)
+pub no_feed_front : (k : ℕ) (l : Bytes) → NoFeed l → NoFeed (take k l)
 no_feed_front zero l h = tt
 no_feed_front (suc k) [] h = tt
 no_feed_front (suc k) (b ∷ l) h = (h.0, no_feed_front k l h.1)
 
 -- ---- lines
 
-lines-append : (begun a b : Bytes) → whole_lines begun (a ++ b) ≡ whole_lines begun a ++ whole_lines (begun_line begun a) b
+pub lines-append : (begun a b : Bytes) → whole_lines begun (a ++ b) ≡ whole_lines begun a ++ whole_lines (begun_line begun a) b
 lines-append begun [] b = refl
 lines-append begun (x ∷ a) b = elim (x == 10) as (λ v. cond v ((begun ++ x ∷ []) ∷ whole_lines [] (a ++ b)) (whole_lines (begun ++ x ∷ []) (a ++ b))
     ≡ cond v ((begun ++ x ∷ []) ∷ whole_lines [] a) (whole_lines (begun ++ x ∷ []) a) ++ whole_lines (cond v (begun_line [] a) (begun_line (begun ++ x ∷ []) a)) b) [
@@ -46,25 +46,25 @@ lines-append begun (x ∷ a) b = elim (x == 10) as (λ v. cond v ((begun ++ x �
       | false ↦ lines-append (begun ++ x ∷ []) a b
     ]
 
-begun-append : (begun a b : Bytes) → begun_line begun (a ++ b) ≡ begun_line (begun_line begun a) b
+pub begun-append : (begun a b : Bytes) → begun_line begun (a ++ b) ≡ begun_line (begun_line begun a) b
 begun-append begun [] b = refl
 begun-append begun (x ∷ a) b = elim (x == 10) as (λ v. cond v (begun_line [] (a ++ b)) (begun_line (begun ++ x ∷ []) (a ++ b)) ≡ begun_line (cond v (begun_line [] a) (begun_line (begun ++ x ∷ []) a)) b) [
   | true ↦ begun-append [] a b
   | false ↦ begun-append (begun ++ x ∷ []) a b
 ]
 
-no_line : (begun l : Bytes) → NoFeed l → whole_lines begun l ≡ []
+pub no_line : (begun l : Bytes) → NoFeed l → whole_lines begun l ≡ []
 no_line begun [] h = refl
 no_line begun (b ∷ l) h = ap (λ v. cond v ((begun ++ b ∷ []) ∷ whole_lines [] l) (whole_lines (begun ++ b ∷ []) l)) h.0 ∙ no_line (begun ++ b ∷ []) l h.1
 
-all_begun : (begun l : Bytes) → NoFeed l → begun_line begun l ≡ begun ++ l
+pub all_begun : (begun l : Bytes) → NoFeed l → begun_line begun l ≡ begun ++ l
 all_begun begun [] h = sym (append-nil begun)
 all_begun begun (b ∷ l) h = ap (λ v. cond v (begun_line [] l) (begun_line (begun ++ b ∷ []) l)) h.0 ∙ all_begun (begun ++ b ∷ []) l h.1 ∙ append_assoc begun (b ∷ []) l
 
-one_line : (l : Bytes) → NoFeed l → whole_lines [] (l ++ 10 ∷ []) ≡ (l ++ 10 ∷ []) ∷ []
+pub one_line : (l : Bytes) → NoFeed l → whole_lines [] (l ++ 10 ∷ []) ≡ (l ++ 10 ∷ []) ∷ []
 one_line l h = lines-append [] l (10 ∷ []) ∙ (λ i. no_line [] l h i ++ whole_lines (all_begun [] l h i) (10 ∷ []))
 
-line_ends : (l : Bytes) → NoFeed l → begun_line [] (l ++ 10 ∷ []) ≡ []
+pub line_ends : (l : Bytes) → NoFeed l → begun_line [] (l ++ 10 ∷ []) ≡ []
 line_ends l h = begun-append [] l (10 ∷ [])
 
 -- ---- steps
@@ -116,7 +116,7 @@ begun_front b s k e h low =
 
 -- ---- the outside
 
-none_left : (b : Bytes) → is_none b ≡ true → b ≡ []
+pub none_left : (b : Bytes) → is_none b ≡ true → b ≡ []
 none_left [] h = refl
 none_left (x ∷ b) h = cc
 

@@ -1,0 +1,73 @@
+//! A log that is printed event by event on a desk's Proof port.
+ghost use Rattle.std.specs.Prelude.{◌≡◌, true, false};
+ghost use Rattle.proof_text.specs.Told.{is_whole};
+
+use crate::print::put_event;
+use cx_base::LogEvent;
+use cx_desk::{Desk, Failed, Port};
+use step_text::{Sink, SinkFault};
+
+/// A sink that prints each event on the Proof port of a lent desk at once. It takes no memory.
+///
+/// Where the desk tells its bytes, it tells the events of the port's whole lines. It counts one fault
+/// at most: after that it takes nothing more, and answers `Memory`.
+#[derive(Drop)]
+pub struct DeskLog<'a, D: Desk> {
+    desk: &'a mut D,
+    failed: bool,
+    // between two events no line is begun
+    ghost whole: { failed ≡ false → is_whole (D.outside desk.now).told ≡ true },
+}
+
+impl<'a, D: Desk> DeskLog<'a, D> {
+    /// A sink over a desk on whose Proof port no line is begun.
+    pub fn new(desk: &'a mut D) -> DeskLog<'a, D>
+        requires { is_whole (D.outside desk.old).told ≡ true }
+        ensures same_desk { result.desk.ghost_name ≡ desk.entry.ghost_name }
+        ensures outside { D.outside result.desk.now ≡ D.outside desk.entry.now }
+        ensures whole { result.failed ≡ false }
+    {
+        DeskLog {
+            desk,
+            failed: false,
+        }
+    }
+}
+
+impl<D: Desk> Sink for DeskLog<'_, D> {
+    type Item = LogEvent;
+
+    ghost use Rattle.std.specs.Prelude.{◌≡◌, refl};
+    ghost use Rattle.std.proofs.Common.{◌∙◌};
+    ghost use Rattle.proof_text.specs.Told.{fault_of};
+    ghost use Rattle.log_text.specs.Told.{events_told, TornOn, Goes};
+    ghost use Rattle.log_text.specs.ToldEvents.{goes_itself, goes_on};
+
+    ghost items = { λ s. events_told (D.outside s.desk.now) };
+
+    ghost faults = { λ s. fault_of s.failed };
+
+    ghost has_failed = { λ s. s.failed };
+
+    ghost torn = { λ s event. TornOn event (D.outside s.desk.now) };
+
+    ghost keeps = { λ a b. (b.desk.ghost_name ≡ a.desk.ghost_name) × Goes a.failed (D.outside a.desk.now) b.failed (D.outside b.desk.now) };
+
+    fn put(&mut self, event: &LogEvent) -> Result<(), SinkFault> {
+        if self.failed {
+            return Err(SinkFault::Memory);
+        }
+        self.failed = true;
+        match put_event(self.desk, Port::Proof, event) {
+            Ok(()) => {
+                self.failed = false;
+                Ok(())
+            }
+            Err(Failed) => Err(SinkFault::Failed),
+        }
+    }
+
+    ghost keeps_itself = { λ a. (refl, goes_itself a.failed (D.outside a.desk.now)) };
+
+    ghost keeps_on = { λ a b c h k. (k.0 ∙ h.0, goes_on a.failed (D.outside a.desk.now) b.failed (D.outside b.desk.now) c.failed (D.outside c.desk.now) h.1 k.1) };
+}
