@@ -1,17 +1,17 @@
 -- What the logs of the search's answers are.
-use Rattle.std.proofs.Common.{◌≡◌, refl, sym, ap, ◌∙◌, subst, ℕ, ◌+◌, ◌<◌, ◌≤◌, false, List, Bool, Some, None, Option, Result, Ok, Err, IfOk, OnOk, inl, arith}
-use Rattle.std.specs.List.{range_with_len}
+use Rattle.std.proofs.Common.{◌≡◌, refl, sym, ap, ◌∙◌, subst, ℕ, ◌+◌, ◌<◌, ◌≤◌, false, List, Bool, Some, None, Option, Result, Ok, Err, filter_map, inl, arith}
 use Rattle.cx_base.specs.Literals.{Literal}
 use Rattle.cx_base.specs.Problem.{Problem}
 use Rattle.cx_base.specs.declared.steps.LogEvent.{LogEvent}
 use Rattle.cx_base.specs.Counts.{Rose}
 use Rattle.cx_base.specs.Integers.{integers_of}
-use Rattle.cx_semantics.specs.Marked.{Marked}
+use Rattle.cx_semantics.specs.Marked.{Marked, mark_of}
 use Rattle.conflict_learn.specs.declared.fault.CoreFault.{CoreFault}
 use Rattle.parity_engine.specs.State.{State}
 use Rattle.search_steps.specs.Search.{Search, IsSearch}
 use Rattle.search_steps.specs.LogSteps.{after_round}
 use Rattle.search_steps.specs.Holding.{AreTold}
+use Rattle.search_steps.specs.Recovering.{SettledWithRecovered}
 use Rattle.search_steps.proofs.EndLaws.{is_marked, is_log_open}
 use Rattle.cdcl_search.specs.declared.state.SearchState.{SearchState}
 use Rattle.std.specs.Prelude.{IfErr}
@@ -20,13 +20,12 @@ use Rattle.conflict_learn.specs.declared.fault.CoreFault.TheVariants.{Memory, Wr
 use Rattle.conflict_learn.specs.Faults.{fault_in}
 use Rattle.step_text.specs.declared.sink.Sink as sink
 use Rattle.cdcl_search.specs.declared.logs.SearchLog.{SearchLog}
-use Rattle.cdcl_search.specs.Logs.{GoesOn}
-use Rattle.cdcl_search.specs.Tells.{IsLeft, GivesUp, HaveLowIds}
+use Rattle.cdcl_search.specs.Logs.{GoesOn, CountsAs}
+use Rattle.cdcl_search.specs.Tells.{IsLeft, GivesUp, HaveLowIds, HasNoMark}
 use Rattle.cdcl_search.specs.Ties.{SearchStands}
-use Rattle.cdcl_core.specs.declared.solving.Outcome.{Outcome}
 use Rattle.cdcl_core.specs.declared.solving.Outcome.TheVariants.{Sat, Unsat, Unknown}
 use Rattle.cdcl_core.specs.Learning.{Learns}
-use Rattle.cdcl_core.specs.Results.{IsOpenWith, IsFresh, HasNoMark, IsSettledBy, Refutes}
+use Rattle.cdcl_core.specs.Results.{IsOpenWith, IsFresh, Refutes}
 use Rattle.cdcl_core.proofs.Entering.{round_is_search, conflicts_then, tidy}
 
 -- ---- open logs
@@ -44,16 +43,6 @@ pub learned_log_is_open : (formula : Problem) (c : SearchState) (e : State) (lit
 learned_log_is_open formula c e lits back told l = search_is_open formula e.parities (after_round l.search c.next (integers_of lits) l.hints back l.taught.first) (c.conflicts + 1) told
     (round_is_search formula c e lits back l.search l.taught l.hints) (tidy formula c e lits back l.search l.taught l.hints).served (conflicts_then formula c e lits back l.search l.taught l.hints) l.told_is
 
--- ---- settled formulas
-no_marks : (formula : Problem) (es : List LogEvent) (n : ℕ) → n < 1 → Marked formula es n → HasNoMark (Some es)
-no_marks formula es n fewer m = let none : n ≡ 0 = omega (arith, fewer) in m.marks ∙ ap (range_with_len 1) none
-
-pub settled_has_no_mark : (formula : Problem) (told : Option (List LogEvent)) (a : Outcome) → IsSettledBy formula 1 told a → HasNoMark told
-settled_has_no_mark formula None a h = tt
-settled_has_no_mark formula (Some es) (Sat values) h = let log = h.0.log in no_marks formula es log.0 log.1 log.2.1
-settled_has_no_mark formula (Some es) Unsat h = let log = h.0.log in no_marks formula es log.1.0 log.1.1 log.1.2
-settled_has_no_mark formula (Some es) (Unknown n) h = absurd (h.1 n refl)
-
 -- ---- settled answers
 pub values_are_known : (values : List Bool) (n : ℕ) → Sat values ≡ Unknown n → ⊥
 values_are_known values n is = cc
@@ -66,10 +55,6 @@ pub refutes_within : (formula : Problem) (n budget : ℕ) (told : Option (List L
 refutes_within formula n budget None few r = record { unmet = r.unmet; log = tt }
 refutes_within formula n budget (Some events) few r = let less = r.log.1.1 in record { unmet = r.unmet; log = (r.log.0, (r.log.1.0, omega (arith, less, few), r.log.1.2)) }
 
-pub settled_answer_has_no_mark : (formula : Problem) (told : Option (List LogEvent)) (r : Result Outcome CoreFault) → IfOk r (λ a. IsSettledBy formula 1 told a) → OnOk r (HasNoMark told)
-settled_answer_has_no_mark formula told (Ok a) h = settled_has_no_mark formula told a h
-settled_answer_has_no_mark formula told (Err fault) h = tt
-
 -- ---- at the end
 -- where nothing is told, it is right so far
 pub fresh_is_left : (formula : Problem) (told : Option (List LogEvent)) → IsFresh told → IsLeft formula told
@@ -79,6 +64,18 @@ fresh_is_left formula (Some es) fresh = subst (λ xs. IsLeft formula (Some xs)) 
 pub fresh_is_low : (told : Option (List LogEvent)) → IsFresh told → HaveLowIds told
 fresh_is_low None fresh = tt
 fresh_is_low (Some es) fresh = subst (λ xs. HaveLowIds (Some xs)) (sym fresh) tt
+
+pub fresh_has_no_mark : (told : Option (List LogEvent)) → IsFresh told → HasNoMark told
+fresh_has_no_mark None fresh = tt
+fresh_has_no_mark (Some es) fresh = ap (filter_map mark_of) fresh
+
+-- a log that went on from nothing has no mark, where the formula is settled with its recovered parities
+pub unmarked_by : {L : Type 0} (m : sink.Ghosts L LogEvent) (old new : SearchLog L) (why : Option CoreFault) → GoesOn m old why new → IsFresh (m.items old.sink.now) → SettledWithRecovered old.formula.now → HasNoMark (m.items new.sink.now)
+unmarked_by m old new why on fresh s = on.marks (subst SettledWithRecovered (sym on.formula) s) (fresh_has_no_mark (m.items old.sink.now) fresh)
+
+-- the faults that a log counted, by its sink at the end
+pub counts_at : {L : Type 0} (m : sink.Ghosts L LogEvent) (old new : SearchLog L) (why : Option CoreFault) (at : L) → GoesOn m old why new → at ≡ new.sink.now → CountsAs why (m.faults old.sink.now) (m.faults at)
+counts_at m old new why at on same = subst (λ x. CountsAs why (m.faults old.sink.now) (m.faults x)) (sym same) on.counts
 
 pub gives_up_by : {L T : Type 0} (m : sink.Ghosts L LogEvent) (old new : SearchLog L) (r : Result T CoreFault) → GoesOn m old (fault_in r) new → IsLeft old.formula.now (m.items old.sink.now) → IfErr r (λ e. GivesUp new.formula.now (m.torn new.sink.now) (m.items new.sink.now) e)
 gives_up_by m old new (Ok x) on left = tt

@@ -1,11 +1,11 @@
 -- What the search answers.
-use Rattle.std.specs.Prelude.{◌≡◌, ◌≢◌, ℕ, ◌<◌, Bool, [], List, Option, Some, None, filter_map}
+use Rattle.std.specs.Prelude.{◌≡◌, ◌≢◌, ℕ, ◌<◌, Bool, [], List, Option, Some, None}
 use Rattle.cx_base.specs.Problem.{Problem, Meets, Unmet}
 use Rattle.cx_base.specs.declared.steps.LogEvent.{LogEvent}
 use Rattle.cx_semantics.specs.Judging.{IsOpen}
 use Rattle.cx_semantics.specs.LogRules.{log_calculus}
 use Rattle.cx_base.specs.Events.{steps_of}
-use Rattle.cx_semantics.specs.Marked.{Marked, mark_of}
+use Rattle.cx_semantics.specs.Marked.{Marked}
 use Rattle.search_steps.specs.LogSteps.{IsEnded}
 use Rattle.cdcl_core.specs.declared.solving.Outcome.{Outcome}
 use Rattle.cdcl_core.specs.declared.solving.Outcome.TheVariants.{Sat, Unsat, Unknown}
@@ -49,11 +49,6 @@ abbrev pub IsRightOutcome : Problem → ℕ → Option (List LogEvent) → Outco
 IsRightOutcome formula budget told (Sat values) = Satisfies formula budget told values
 IsRightOutcome formula budget told Unsat = Refutes formula budget told
 IsRightOutcome formula budget told (Unknown conflicts) = UsesUp formula budget told conflicts
-
--- where the events are told, none is a mark
-abbrev pub HasNoMark : Option (List LogEvent) → Type 0
-HasNoMark None = Unit {0}
-HasNoMark (Some events) = filter_map mark_of events ≡ []
 
 -- an answer that is not unknown, with fewer marks than this
 abbrev pub IsSettledBy : Problem → ℕ → Option (List LogEvent) → Outcome → Type 0

@@ -11,6 +11,7 @@ ghost use Rattle.conflict_learn.specs.Faults.{fault_in};
 ghost use Rattle.conflict_learn.specs.Marks.{AreClear};
 ghost use Rattle.conflict_learn.specs.Touching.{AreTouched};
 ghost use Rattle.parity_engine.specs.State.{State};
+ghost use Rattle.search_steps.specs.Recovering.{SettledWithRecovered};
 ghost use Rattle.cdcl_search.specs.Deleting.{deletions};
 ghost use Rattle.cdcl_search.specs.Tells.{IsId, AreIdsFrom, AreStepsOf};
 ghost use Rattle.cdcl_search.specs.Logs.{GoesOn, told_in};
@@ -67,6 +68,7 @@ fn tell_learned<P: ParityEngine, L: Sink<Item = LogEvent>>(
 ) -> Result<(), CoreFault>
     requires at { IsAtConflict P.ParityEngine L.Sink log.old state.now engine.now rows.now conflict.now }
     requires few { state.now.conflicts < 10 ^ 18 }
+    requires unsettled { ¬ SettledWithRecovered log.old.formula.now }
     requires teaches { Teaches state.now.trail conflict.now (IsSourced state.now rows.now) learned.now.resolved learned.now.lits learned.now.back_level learned.now.lbd }
     ensures learned { OnOk result (Learns log.new.formula.now state.now (P.state engine.now) learned.now.lits learned.now.back_level (told_in L.Sink log.new)) }
     ensures log { GoesOn L.Sink log.old (fault_in result) log.new }
@@ -151,6 +153,7 @@ pub(crate) fn learn<P: ParityEngine, L: Sink<Item = LogEvent>>(
     requires at { IsAtConflict P.ParityEngine L.Sink log.old state.now engine.now conflict.rows.items conflict.lits }
     requires few { state.now.conflicts < 10 ^ 18 }
     requires told { IsTold conflict }
+    requires unsettled { ¬ SettledWithRecovered log.old.formula.now }
     requires clear { AreClear marks.old }
     ensures learned { IfOk result (λ r. Learns log.new.formula.now state.now (P.state engine.now) r.lits r.back_level (told_in L.Sink log.new)) }
     ensures touched { IfOk result (λ r. AreTouched state.now.trail r.resolved r.lits r.touched.items) }

@@ -1,5 +1,5 @@
 //! The search as a whole.
-ghost use Rattle.std.specs.Prelude.{◌≡◌, ◌≢◌, ℕ, ◌<◌, ◌≤◌, ◌^◌, [], length, OnOk, IfOk, IfErr};
+ghost use Rattle.std.specs.Prelude.{◌≡◌, ◌≢◌, ℕ, ◌<◌, ◌≤◌, ◌^◌, [], length, IfOk, IfErr};
 ghost use Rattle.cx_semantics.specs.Settled.{Settled};
 ghost use Rattle.cx_base.specs.Counts.{Rose};
 ghost use Rattle.conflict_learn.specs.declared.fault.CoreFault.TheVariants.{Write};
@@ -8,11 +8,11 @@ ghost use Rattle.conflict_learn.specs.Marks.{AreClear};
 ghost use Rattle.parity_engine.specs.declared.state.Mood.TheVariants.{Broken};
 ghost use Rattle.search_steps.specs.Recovering.{SettledWithRecovered};
 ghost use Rattle.cdcl_search.specs.Searching.{SearchReaches};
-ghost use Rattle.cdcl_search.specs.Logs.{GoesOn, told_in};
-ghost use Rattle.cdcl_search.specs.Tells.{GivesUp, HaveLowIds};
+ghost use Rattle.cdcl_search.specs.Logs.{GoesOn, CountsAs, told_in};
+ghost use Rattle.cdcl_search.specs.Tells.{GivesUp, HaveLowIds, HasNoMark};
 ghost use Rattle.cdcl_core.specs.Beginning.{IsAtStart};
 ghost use Rattle.cdcl_core.specs.Concluding.{IsAtConflict, IsTold};
-ghost use Rattle.cdcl_core.specs.Results.{IsRightOutcome, IsFresh, IsSettledBy, HasNoMark};
+ghost use Rattle.cdcl_core.specs.Results.{IsRightOutcome, IsFresh, IsSettledBy};
 ghost use Rattle.cdcl_core.specs.Rounds.{IsSearching, LeavesRound, IsSettledIn};
 ghost use Rattle.cdcl_core.specs.declared.solving.Outcome.TheVariants as outcome;
 
@@ -52,6 +52,7 @@ fn learn_and_jump<P: ParityEngine, L: Sink<Item = LogEvent>>(
 ) -> Result<Option<Outcome>, CoreFault>
     requires at { IsAtConflict P.ParityEngine L.Sink log.old state.old engine.old conflict.rows.items conflict.lits }
     requires told { IsTold conflict }
+    requires unsettled { ¬ SettledWithRecovered log.old.formula.now }
     requires few { (state.old.conflicts < budget) × (budget ≤ 10 ^ 18) }
     requires clear { AreClear marks.old }
     ensures { LeavesRound P.ParityEngine L.Sink budget log.old state.old log.new state.new engine.new marks.new result }
@@ -75,6 +76,7 @@ fn conclude<P: ParityEngine, L: Sink<Item = LogEvent>>(
 ) -> Result<Option<Outcome>, CoreFault>
     requires searches { IsSearching P.ParityEngine L.Sink log.old state.old engine.old budget marks.old }
     requires reaches { SearchReaches state.old (P.state engine.old) found }
+    requires settled { SettledWithRecovered log.old.formula.now → state.old.trail.level ≡ 0 }
     ensures leaves { LeavesRound P.ParityEngine L.Sink budget log.old state.old log.new state.new engine.new marks.new result }
     ensures at_start { state.old.trail.level ≡ 0 → IsSettledIn log.new.formula.now state.old.conflicts (told_in L.Sink log.new) result }
 {
@@ -107,6 +109,7 @@ fn round<P: ParityEngine, L: Sink<Item = LogEvent>>(
 ) -> Result<Option<Outcome>, CoreFault>
     requires searches { IsSearching P.ParityEngine L.Sink log.old state.old engine.old budget marks.old }
     requires unbroken { (P.state engine.old).mood ≢ Broken }
+    requires settled { SettledWithRecovered log.old.formula.now → state.old.trail.level ≡ 0 }
     ensures leaves { LeavesRound P.ParityEngine L.Sink budget log.old state.old log.new state.new engine.new marks.new result }
     ensures settled { SettledWithRecovered log.new.formula.now → state.old.trail.level ≡ 0 → IsSettledIn log.new.formula.now state.old.conflicts (told_in L.Sink log.new) result }
 {
@@ -144,7 +147,8 @@ fn search<P: ParityEngine, L: Sink<Item = LogEvent>>(
 /// the unit clauses of level 0. Where the formula is settled by propagation alone, the recovered parities taken as
 /// parities, no conflict is counted and the answer is never unknown.
 ///
-/// It gives up for want of memory, or where the sink failed to write; the log is right as far as it goes.
+/// It gives up for want of memory, or where the sink failed to write; the log is right as far as it goes, also with the
+/// event that was torn then.
 pub fn solve_core<P: ParityEngine + Drop, L: Sink<Item = LogEvent>>(
     alloc: Global,
     formula: &Formula,
@@ -157,10 +161,11 @@ pub fn solve_core<P: ParityEngine + Drop, L: Sink<Item = LogEvent>>(
     ensures answers { IfOk result (λ a. IsRightOutcome formula.now budget (L.items sink.new) a) }
     ensures settled { Settled formula.now → IfOk result (λ a. (conflicts : ℕ) → a ≢ outcome.Unknown conflicts) }
     ensures settled_with_recovered { SettledWithRecovered formula.now → IfOk result (λ a. (conflicts : ℕ) → a ≢ outcome.Unknown conflicts) }
-    ensures unmarked { SettledWithRecovered formula.now → OnOk result (HasNoMark (L.items sink.new)) }
+    ensures unmarked { SettledWithRecovered formula.now → HasNoMark (L.items sink.new) }
     ensures ids { HaveLowIds (L.items sink.new) }
     ensures gave_up { IfErr result (λ e. GivesUp formula.now (L.torn sink.new) (L.items sink.new) e) }
     ensures write { IfErr result (λ e. e ≡ Write → Rose (L.faults sink.old) (L.faults sink.new)) }
+    ensures faults { CountsAs (fault_in result) (L.faults sink.old) (L.faults sink.new) }
     ensures frame { L.keeps sink.old sink.new }
 {
     let mut log = SearchLog {

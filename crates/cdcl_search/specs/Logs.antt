@@ -5,11 +5,12 @@ use Rattle.cx_base.specs.declared.steps.LogEvent.{LogEvent}
 use Rattle.conflict_learn.specs.declared.fault.CoreFault.{CoreFault}
 use Rattle.conflict_learn.specs.declared.fault.CoreFault.TheVariants.{Memory, Write}
 use Rattle.cx_base.specs.Literals.{Literal}
+use Rattle.search_steps.specs.Recovering.{SettledWithRecovered}
 use Rattle.step_text.specs.declared.sink.Sink as sink
 use Rattle.parity_engine.specs.declared.engine.ParityEngine as engine
 use Rattle.cdcl_search.specs.declared.state.SearchState.{SearchState}
 use Rattle.cdcl_search.specs.Ties.{SearchStands, SearchStandsFrom}
-use Rattle.cdcl_search.specs.Tells.{IsLeft, HaveLowIds, with_events}
+use Rattle.cdcl_search.specs.Tells.{IsLeft, HaveLowIds, HasNoMark, IsTorn, with_events}
 use Rattle.cdcl_search.specs.declared.logs.SearchLog.{SearchLog}
 
 -- the count of faults rose after a fault of writing, and else it stands
@@ -18,12 +19,13 @@ CountsAs None before now = now ≡ before
 CountsAs (Some Memory) before now = now ≡ before
 CountsAs (Some Write) before now = Rose before now
 
--- Calls up to an answer, or up to this fault. A log that was right so far is right so far, and ids stay low. A write fault is counted and tears an event; else none is counted. The formula and the sink are the same, and what the sink keeps is kept.
+-- Calls up to an answer, or up to this fault. A log that was right so far is right so far, and ids stay low. Where the formula is settled with its recovered parities no mark is told. A write fault is counted and tears an event that may stand there; else none is counted. The formula and the sink are the same, and what the sink keeps is kept.
 pub record GoesOn {L : Type 0} (m : sink.Ghosts L LogEvent) (old : SearchLog L) (why : Option CoreFault) (new : SearchLog L) : Type 0 where
   pub right : IsLeft old.formula.now (m.items old.sink.now) → IsLeft new.formula.now (m.items new.sink.now)
   pub ids : HaveLowIds (m.items old.sink.now) → HaveLowIds (m.items new.sink.now)
   pub counts : CountsAs why (m.faults old.sink.now) (m.faults new.sink.now)
-  pub tears : why ≡ Some Write → (event : LogEvent) × m.torn new.sink.now event
+  pub marks : SettledWithRecovered new.formula.now → HasNoMark (m.items old.sink.now) → HasNoMark (m.items new.sink.now)
+  pub tears : why ≡ Some Write → IsTorn new.formula.now (m.torn new.sink.now) (m.items new.sink.now)
   pub formula : new.formula.now ≡ old.formula.now
   pub sink : new.sink.ghost_name ≡ old.sink.ghost_name
   pub frame : m.keeps old.sink.now new.sink.now

@@ -1,5 +1,5 @@
 -- What a sink is told, and what its log is worth when the search gives up.
-use Rattle.std.specs.Prelude.{◌≡◌, ◌⊎◌, ℕ, ◌+◌, ◌<◌, ◌≤◌, List, ◌++◌, length, take, map, get_or, Option, Some, None, option_map, Result, Ok, Err}
+use Rattle.std.specs.Prelude.{◌≡◌, ◌⊎◌, ℕ, ◌+◌, ◌<◌, ◌≤◌, List, [], ◌∷◌, ◌++◌, length, take, map, filter_map, get_or, Option, Some, None, option_map, Result, Ok, Err}
 use Rattle.std.specs.List.{AllByRecursion}
 use Rattle.cx_base.specs.Problem.{Problem}
 use Rattle.cx_base.specs.declared.steps.LogEvent.{LogEvent}
@@ -7,6 +7,7 @@ use Rattle.cx_base.specs.declared.steps.LogEvent.TheVariants.{Step, Conflict}
 use Rattle.cx_base.specs.declared.steps.LogStep.{LogStep}
 use Rattle.cx_semantics.specs.Ids.{HasLowId, highest_id}
 use Rattle.cx_semantics.specs.Judging.{IsOpen}
+use Rattle.cx_semantics.specs.Marked.{mark_of}
 use Rattle.cx_texts.specs.Printed.{HasText}
 use Rattle.cx_semantics.specs.LogRules.{log_calculus}
 use Rattle.cx_base.specs.Events.{steps_of}
@@ -16,6 +17,7 @@ use Rattle.cx_base.specs.Counts.{Rose}
 use Rattle.step_text.specs.declared.sink.SinkFault.{SinkFault}
 use Rattle.step_text.specs.declared.sink.SinkFault.TheVariants as sink
 use Rattle.search_steps.specs.LogSteps.{IsEnded}
+use Rattle.search_steps.specs.Recovering.{SettledWithRecovered}
 
 abbrev pub as_events : List LogStep → List LogEvent
 as_events steps = map Step steps
@@ -46,10 +48,26 @@ abbrev pub IsLeft : Problem → Option (List LogEvent) → Type 0
 IsLeft formula None = Unit {0}
 IsLeft formula (Some events) = IsOpen (log_calculus formula) (steps_of events) ⊎ IsEnded formula events
 
--- the search gave up: its log is right as far as it goes, and after a fault of writing some event is torn
+-- where the events are told, none is a mark
+abbrev pub HasNoMark : Option (List LogEvent) → Type 0
+HasNoMark None = Unit {0}
+HasNoMark (Some events) = filter_map mark_of events ≡ []
+
+-- The event may stand behind these: a text can have it, its id is low, and the log is right with it. It is no mark where the formula is settled with its recovered parities.
+pub record MayStandBehind (formula : Problem) (told : Option (List LogEvent)) (event : LogEvent) : Type 0 where
+  pub text : HasText event
+  pub id : HasLowId event
+  pub right : IsLeft formula (with_events (event ∷ []) told)
+  pub unmarked : SettledWithRecovered formula → mark_of event ≡ None
+
+-- such an event is torn
+abbrev pub IsTorn : Problem → (LogEvent → Type 0) → Option (List LogEvent) → Type 0
+IsTorn formula torn told = (event : LogEvent) × torn event × MayStandBehind formula told event
+
+-- the search gave up: its log is right as far as it goes, and after a fault of writing an event is torn that may stand there
 abbrev pub GivesUp : Problem → (LogEvent → Type 0) → Option (List LogEvent) → CoreFault → Type 0
 GivesUp formula torn told Memory = IsLeft formula told
-GivesUp formula torn told Write = IsLeft formula told × ((event : LogEvent) × torn event)
+GivesUp formula torn told Write = IsLeft formula told × IsTorn formula torn told
 
 -- an id that a step of the search may have
 abbrev pub IsId : ℕ → Type 0

@@ -2,6 +2,7 @@
 ghost use Rattle.std.specs.Prelude.{◌≡◌, [], ◌∷◌};
 ghost use Rattle.std.specs.List.{AllByRecursion};
 ghost use Rattle.cx_base.specs.declared.steps.LogEvent.TheVariants.{Step, Conflict};
+ghost use Rattle.search_steps.specs.Recovering.{SettledWithRecovered};
 ghost use Rattle.cdcl_search.specs.Calls.{TellsIn, Tells};
 ghost use Rattle.cdcl_search.specs.Logs.{IsRightBehind};
 ghost use Rattle.cx_texts.specs.Printed.{HasText};
@@ -86,7 +87,8 @@ pub fn tell_steps<L: Sink<Item = LogEvent>>(
     tell_all(log.sink, steps)
 }
 
-/// Tells the mark of a counted conflict and the steps behind it, which leave the log right.
+/// Tells the mark of a counted conflict and the steps behind it, which leave the log right. A settled formula needs no
+/// such conflict.
 pub fn tell_round<L: Sink<Item = LogEvent>>(
     log: &mut SearchLog<L>,
     number: u64,
@@ -94,6 +96,7 @@ pub fn tell_round<L: Sink<Item = LogEvent>>(
 ) -> Result<(), CoreFault>
     requires texts { AllByRecursion IsTellable steps.items }
     requires right { IsRightBehind L.Sink log.old (Conflict number ∷ as_events steps.items) }
+    requires unsettled { ¬ SettledWithRecovered log.old.formula.now }
     ensures { Tells L.Sink log.old (Conflict number ∷ as_events steps.items) result log.new }
 {
     tell_marked(log.sink, number, steps)

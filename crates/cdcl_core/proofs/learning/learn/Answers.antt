@@ -1,6 +1,7 @@
 use Rattle.std.proofs.Common.{◌≡◌, ◌≤◌, sym, subst, rules, true, arith}
 use Rattle.cx_semantics.specs.Chain.{has_literal}
 use Rattle.conflict_learn.specs.Levels.{Teaches}
+use Rattle.search_steps.specs.Recovering.{SettledWithRecovered}
 use Rattle.cdcl_search.specs.Sources.{IsSourced}
 use Rattle.cdcl_search.specs.GoingOn.{log_then}
 use Rattle.cdcl_core.specs.Concluding.{IsAtConflict}
@@ -12,6 +13,9 @@ hints_of_lesson-requires-clause-stand g c l h = c.in_ok-learned.ensures.lesson.s
 
 pub hints_of_lesson-requires-clause-reasons : goal.hints_of_lesson-requires-clause-reasons
 hints_of_lesson-requires-clause-reasons g c = (g.P.ParityEngine.state c.args.engine.now, c.in_ok-learned.ensures.at.stands.3.reasons)
+
+pub tell_learned-requires-clause-unsettled : goal.tell_learned-requires-clause-unsettled
+tell_learned-requires-clause-unsettled g c = λ s. c.requires.unsettled (subst SettledWithRecovered c.in_ok-learned.ensures.log.formula s)
 
 pub tell_learned-requires-clause-at : goal.tell_learned-requires-clause-at
 tell_learned-requires-clause-at g c =

@@ -1,7 +1,15 @@
-use Rattle.std.proofs.Common.{◌+◌, [], arith, rules}
+use Rattle.std.proofs.Common.{◌+◌, [], subst, arith, rules}
+use Rattle.search_steps.specs.Recovering.{SettledWithRecovered}
 use Rattle.cdcl_search.specs.GoingOn.{log_then}
 use Rattle.cdcl_core.proofs.Answering.{log_is_open, values_are_known, unsat_is_known, refutes_within}
 use Rattle.cdcl_core.proofs.solving.conclude.Goals as goal
+
+pub learn_and_jump-requires-clause-unsettled : goal.learn_and_jump-requires-clause-unsettled
+learn_and_jump-requires-clause-unsettled g c = λ s.
+    let zero = c.requires.settled (subst SettledWithRecovered c.in_ok-conflict.ensures.log.formula s) in
+    let above = c.if-level-gt0.true in
+    let level = c.level.ensures.level in
+    absurd (omega (arith, above, level, zero))
 
 pub returns-in-Quiet-clause-leaves : goal.returns-in-Quiet-clause-leaves
 returns-in-Quiet-clause-leaves g c = record {
@@ -55,6 +63,20 @@ returns-in_ok-end-in-Clause g c =
         one_more = tt;
         clear = c.requires.searches.clear;
         log = log_then g.L.Sink g.met.L.Sink.keeps_on _ c.conflict_clause.new.log _ _ c.in_ok-conflict.ensures.log c.in_ok-end-in-Clause.ensures.log;
+      };
+      at_start = λ level. (refutes, unsat_is_known);
+    }
+
+pub returns-in_ok-tell_ending-in-Ending : goal.returns-in_ok-tell_ending-in-Ending
+returns-in_ok-tell_ending-in-Ending g c =
+    let few = c.requires.searches.few.0 in
+    let refutes = c.in_ok-tell_ending-in-Ending.ensures.refutes in
+    record {
+      leaves = record {
+        goes_on = refutes_within c.tell_ending.new.log.formula.now (c.args.state.now.conflicts + 1) c.args.budget (g.L.Sink.items c.tell_ending.new.log.sink.now) (omega (arith, few)) refutes;
+        one_more = tt;
+        clear = c.requires.searches.clear;
+        log = log_then g.L.Sink g.met.L.Sink.keeps_on _ c.conflict_clause.new.log _ _ c.in_ok-conflict.ensures.log c.in_ok-tell_ending-in-Ending.ensures.log;
       };
       at_start = λ level. (refutes, unsat_is_known);
     }

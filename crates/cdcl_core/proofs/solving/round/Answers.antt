@@ -5,6 +5,9 @@ use Rattle.cdcl_search.specs.GoingOn.{log_then}
 use Rattle.cdcl_core.specs.Rounds.{IsSettledIn}
 use Rattle.cdcl_core.proofs.solving.round.Goals as goal
 
+pub conclude-requires-clause-settled : goal.conclude-requires-clause-settled
+conclude-requires-clause-settled g c = λ s. c.in_ok-found.ensures.settled s ∙ c.requires.settled (subst SettledWithRecovered c.in_ok-found.ensures.searches_on.log.formula s)
+
 pub returns-clause-leaves : goal.returns-clause-leaves
 returns-clause-leaves g c =
     let leaves = c.conclude.ensures.leaves in

@@ -4,6 +4,9 @@ use Rattle.cdcl_search.specs.GoingOn.{log_then}
 use Rattle.cdcl_core.specs.Results.{IsSettledBy}
 use Rattle.cdcl_core.proofs.solving.search.Goals as goal
 
+pub round-requires-clause-settled : goal.round-requires-clause-settled
+round-requires-clause-settled g c = λ s. (c.loop-marks.invariant.settled s).0
+
 pub loop-marks-preserved : goal.loop-marks-preserved
 loop-marks-preserved g c =
     let i = c.loop-marks.invariant in

@@ -11,14 +11,14 @@ returns-in-Ok-Sat c =
     let f = c.args.formula.now in
     let events = c.solve_core-answer.new.sink in
     let found = subst (λ (a : Answer). IsRightOutcome f c.args.conflicts (Some events) a) c.in-Ok-Sat.field-0-is c.in-Ok-Sat.ensures.answers in
-    finds_values f c.args.conflicts events c.in-Ok-Sat.values c.events-with_texts.ensures.texts c.solve_core-answer.ensures.ids found c.in-Ok-Sat.ensures.unmarked
+    finds_values f c.args.conflicts events c.in-Ok-Sat.values c.events-with_texts.ensures.texts c.solve_core-answer.ensures.ids found c.solve_core-answer.ensures.unmarked
 
 pub returns-in-Ok-Unsat : goal.returns-in-Ok-Unsat
 returns-in-Ok-Unsat c =
     let f = c.args.formula.now in
     let events = c.solve_core-answer.new.sink in
     let found = subst (λ (a : Answer). IsRightOutcome f c.args.conflicts (Some events) a) c.in-Ok-Unsat.field-0-is c.in-Ok-Unsat.ensures.answers in
-    finds_none f c.args.conflicts events c.events-with_texts.ensures.texts c.solve_core-answer.ensures.ids found c.in-Ok-Unsat.ensures.unmarked
+    finds_none f c.args.conflicts events c.events-with_texts.ensures.texts c.solve_core-answer.ensures.ids found c.solve_core-answer.ensures.unmarked
 
 pub returns-in-Ok-Unknown : goal.returns-in-Ok-Unknown
 returns-in-Ok-Unknown c =
