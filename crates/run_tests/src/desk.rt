@@ -1,6 +1,8 @@
 //! Runs of the program, each over a desk of its own with two files.
 ghost use Rattle.std.specs.Prelude.{◌≤◌};
 ghost use Rattle.solve_cli.specs.Commands.{Unasked};
+ghost use Rattle.solve_cli.specs.Seen.{seen};
+ghost use Rattle.solve_cli.specs.Steps.{HasNoProof};
 
 use cx_desk::{Desk, MemDesk, NamedFile, Port, Rooms};
 use solve_cli::run_within;
@@ -118,7 +120,8 @@ pub fn status_over<D: Desk>(
     limit: u32,
     desk: &mut D,
 ) -> Result<u8, AllocError>
-    requires { Unasked (D.outside desk.old).asked }
+    requires fresh { Unasked (D.outside desk.old).asked }
+    requires empty { HasNoProof (seen (D.outside desk.old)) }
 {
     let words = words_of(alloc, line)?;
     Ok(run_within(alloc, words, u64::from(limit), desk).code())

@@ -45,10 +45,10 @@ use Rattle.solve_cli.proofs.Works.{seen-gained, if_some_both}
 use Rattle.solve_cli.proofs.TwoEnds.{steps_read}
 use Rattle.solve_cli.proofs.SlotTexts.{seen-taken, drain_fault, is_long, is_short}
 
-empty_told : (o : Outside) → HasNoProof (seen o) → IfSome o.told (λ t. t.written.proof ≡ [])
+pub empty_told : (o : Outside) → HasNoProof (seen o) → IfSome o.told (λ t. t.written.proof ≡ [])
 empty_told o h = elim o.told as (λ w. HasNoProof (seen (record o { told = w })) → IfSome w (λ t. t.written.proof ≡ [])) [ None ↦ λ k. tt | Some t ↦ λ k. k ] h
 
-whole_told : (w : Option Told) → IfSome w (λ t. t.written.proof ≡ []) → is_whole w ≡ true
+pub whole_told : (w : Option Told) → IfSome w (λ t. t.written.proof ≡ []) → is_whole w ≡ true
 whole_told None h = refl
 whole_told (Some t) h = ap (λ (b : Bytes). is_none (begun_line [] b)) h
 
@@ -56,7 +56,7 @@ whole_told (Some t) h = ap (λ (b : Bytes). is_none (begun_line [] b)) h
 pub whole_port : (o : Outside) → HasNoProof (seen o) → is_whole o.told ≡ true
 whole_port o h = whole_told o.told (empty_told o h)
 
-on_files : (Q : Type 0) (w : Option Told) → IfSome w (λ _. Q) → IfSome (option_map (λ (t : Told). t.files) w) (λ _. Q)
+pub on_files : (Q : Type 0) (w : Option Told) → IfSome w (λ _. Q) → IfSome (option_map (λ (t : Told). t.files) w) (λ _. Q)
 on_files Q None h = tt
 on_files Q (Some t) h = h
 

@@ -1,5 +1,5 @@
 -- From a search to what `solve` does.
-use Rattle.std.proofs.Common.{◌≡◌, ◌<◌, ◌≤◌, ◌⊎◌, ◌≢◌, ℕ, List, [], length, filter_map, take, Option, Some, IfSome, inl, inr, refl, ap, sym, subst, ◌∙◌, arith}
+use Rattle.std.proofs.Common.{◌≡◌, ◌<◌, ◌≤◌, ◌⊎◌, ◌≢◌, ℕ, List, [], length, filter_map, take, Option, Some, None, IfSome, Result, Ok, Err, IfOk, inl, inr, refl, ap, sym, subst, ◌∙◌, arith}
 use Rattle.std.specs.List.{AllByRecursion}
 use Rattle.std.proofs.lemmas.Option.{IfSome_then}
 use Rattle.cx_base.specs.Problem.{Problem, Meets, Unmet}
@@ -9,25 +9,26 @@ use Rattle.cx_judgements.specs.LogTexts.{LogOpen}
 use Rattle.cx_semantics.specs.Marked.{mark_of}
 use Rattle.cx_texts.specs.Printed.{HasText, printed_log}
 use Rattle.search_steps.specs.Recovering.{SettledWithRecovered}
-use Rattle.cdcl_core.specs.Results.{Satisfies, Refutes, UsesUp}
+use Rattle.conflict_learn.specs.declared.fault.CoreFault.{CoreFault}
+use Rattle.conflict_learn.specs.declared.fault.CoreFault.TheVariants as fault
+use Rattle.cdcl_core.specs.Results.{Satisfies, Refutes, UsesUp, IsRightOutcome}
+use Rattle.cdcl_core.specs.declared.solving.Outcome.{Outcome as Answer}
 use Rattle.cdcl_core.specs.declared.solving.Outcome.TheVariants as answer
 use Rattle.cx_desk.specs.declared.desk.Port.TheVariants as port
-use Rattle.cx_desk.specs.Outside.{Bytes, Files, Outside}
-use Rattle.cx_desk.specs.Calls.{gained, WriteFaulted}
+use Rattle.cx_desk.specs.Outside.{Bytes, Files}
 use Rattle.cx_words.specs.declared.plans.Plan.TheVariants as plan
 use Rattle.solve_cli.specs.declared.ending.Ending.{Ending}
 use Rattle.solve_cli.specs.declared.ending.Ending.TheVariants as ending
 use Rattle.solve_cli.specs.declared.ending.Outcome.{Outcome}
 use Rattle.solve_cli.specs.declared.ending.Outcome.TheVariants as outcome
-use Rattle.solve_cli.specs.Seen.{Seen, seen, says, text_named}
-use Rattle.solve_cli.specs.Commands.{proof_created, asked_to}
+use Rattle.solve_cli.specs.Seen.{Seen, says, text_named}
+use Rattle.solve_cli.specs.Commands.{second_started, proof_created, asked_to}
 use Rattle.solve_cli.specs.Happens.{FormulaRead, IsFormula, Judged, Gains, IsOf, Ends, Stops, Works}
-use Rattle.solve_cli.specs.Logs.{IsOpenLog, IsClosedLog, IsSpentLog, HasOnlyLowIds, IsRefutation, HasNoMark}
-use Rattle.solve_cli.specs.Solving.{ComesTo}
-use Rattle.solve_cli.specs.Steps.{PutsAnswer}
-use Rattle.solve_cli.proofs.Gaining.{write_fault}
-use Rattle.solve_cli.proofs.Logging.{open_log, refutation, spent, few_marks, unmarked, front_so_far}
-use Rattle.solve_cli.proofs.Works.{seen-gained, formula_in, judged_late, answered}
+use Rattle.solve_cli.specs.Logs.{IsOpenLog, IsClosedLog, IsSpentLog, IsLogSoFar, HasOnlyLowIds, IsRefutation, HasNoMark}
+use Rattle.solve_cli.specs.Solving.{ComesTo, SearchesOn, answered_as}
+use Rattle.solve_cli.specs.Steps.{PutsAnswer, HasNoProof}
+use Rattle.solve_cli.proofs.Logging.{open_log, refutation, spent, few_marks, unmarked}
+use Rattle.solve_cli.proofs.Works.{files_at, if_some_both, formula_in, judged_ends, none_on_created, answered}
 
 -- ---- what the search answers
 
@@ -48,6 +49,15 @@ finds_none f budget events texts ids h none = (
 pub finds_nothing : (f : Problem) (budget : ℕ) (events : List LogEvent) (k : ℕ) → AllByRecursion HasText events → AllByRecursion HasLowId events → UsesUp f budget (Some events) k → (SettledWithRecovered f → (n : ℕ) → answer.Unknown k ≢ answer.Unknown n)
     → ComesTo f budget events (ending.Unknown k)
 finds_nothing f budget events k texts ids h never = (h.count, λ s. never s k refl, spent f events budget texts ids h.log.0 h.log.1)
+
+-- what an answer of the search ends in is what it came to
+pub finds : (f : Problem) (budget : ℕ) (events : List LogEvent) (r : Result Answer CoreFault) → AllByRecursion HasText events → AllByRecursion HasLowId events → IfOk r (λ a. IsRightOutcome f budget (Some events) a)
+    → (SettledWithRecovered f → IfOk r (λ a. (k : ℕ) → a ≢ answer.Unknown k)) → (SettledWithRecovered f → filter_map mark_of events ≡ []) → IfOk (answered_as r) (ComesTo f budget events)
+finds f budget events (Ok (answer.Sat v)) texts ids h known none = finds_values f budget events v texts ids h none
+finds f budget events (Ok answer.Unsat) texts ids h known none = finds_none f budget events texts ids h none
+finds f budget events (Ok (answer.Unknown k)) texts ids h known none = finds_nothing f budget events k texts ids h known
+finds f budget events (Err fault.Memory) texts ids h known none = tt
+finds f budget events (Err fault.Write) texts ids h known none = tt
 
 -- ---- the ending
 
@@ -95,39 +105,53 @@ own n l budget f log _ (nothing k spent open_ marked) = tt
 
 -- ---- the writes
 
-module _ (n : Bytes) (l : Option Bytes) (budget limit : ℕ) (old : Seen) (f : Problem) (events : List LogEvent) (e : Ending) (mid : Outside)
-    (begun : seen mid ≡ asked_to proof_created (plan.Solve n l budget) old) (read : IfSome old.files (λ files. IsFormula (plan.Solve n l budget) limit files f)) (finds : ComesTo f budget events e) where
-  searched : Ends (plan.Solve n l budget) limit old e (says port.Proof (printed_log events) (seen mid))
-  searched =
-      let have = found f budget events e finds in
-      let is = judged n l budget f (printed_log events) e have in
-      let none : 0 ≤ limit = omega arith in
-      record {
-        own = own n l budget f (printed_log events) e have;
-        reaches = rw (judged_late e (plan.Solve n l budget) f [] is) (formula_in (plan.Solve n l budget) limit old f read);
-        due = IfSome_then old.files read (λ files r. inr (record { formula = f; is_formula = r; due = inr (none, is) }));
-        proof = printed_log events;
-        gains = IfSome_then old.files read (λ files r. gains n l budget limit files f (printed_log events) e r have);
-        before_is = rw (judged_late e (plan.Solve n l budget) f [] is) (ap (says port.Proof (printed_log events)) begun);
-      }
+module _ (n : Bytes) (l : Option Bytes) (budget limit : ℕ) (old : Seen) (f : Problem) (mid : Seen)
+    (begun : mid ≡ asked_to proof_created (plan.Solve n l budget) old) (read : IfSome old.files (λ files. IsFormula (plan.Solve n l budget) limit files f)) where
+  of_old : (P : Files → Type 0) → IfSome mid.files P → IfSome old.files P
+  of_old P h = subst (λ (w : Option Files). IfSome w P) (ap (λ (s : Seen). s.files) begun ∙ files_at proof_created (plan.Solve n l budget) old) h
 
-  -- the log was written, and the answer or a front of it
-  pub search_answered : (at : Outside) (o : Outcome) (new : Seen) → at ≡ gained port.Proof (printed_log events) mid → PutsAnswer e (seen at) o new → Works (plan.Solve n l budget) limit old o new
-  search_answered at o new moved answers =
-      answered (plan.Solve n l budget) limit old e (seen at) o new
-      (subst (Ends (plan.Solve n l budget) limit old e) (sym (ap seen moved ∙ seen-gained port.Proof (printed_log events) mid)) searched) answers
+  -- the log was printed, and the answer or a front of it
+  pub search_answered : (e : Ending) (at : Seen) (o : Outcome) (new : Seen) → SearchesOn f budget mid (Ok e) at → PutsAnswer e at o new → Works (plan.Solve n l budget) limit old o new
+  search_answered e at o new h answers =
+      let p = plan.Solve n l budget in
+      let own = h.0 n l in
+      let events = h.1.0 in
+      let finds = of_old (λ _. ComesTo f budget events e) h.1.2 in
+      answered p limit old e at o new
+      (subst (Ends p limit old e) (sym h.1.1)
+      (judged_ends p limit old f mid e (printed_log events) begun read own.0 own.1
+      (if_some_both old.files read finds (λ files r c. (omega arith, judged n l budget f (printed_log events) e (found f budget events e c))))
+      (if_some_both old.files read finds (λ files r c. gains n l budget limit files f (printed_log events) e r (found f budget events e c)))))
+      answers
 
-  -- a front of the log was written
-  pub log_cut : (new : Outside) → (k : ℕ) × (k < length (printed_log events)) × WriteFaulted (gained port.Proof (take k (printed_log events)) mid) new
-      → Works (plan.Solve n l budget) limit old outcome.WriteFault (seen new)
-  log_cut new h =
-      let front = take h.0 (printed_log events) in
-      let have = found f budget events e finds in
-      let stops : Stops (plan.Solve n l budget) limit old (says port.Proof front (seen mid)) = record {
+  -- the search gave up: a front of a right log was printed
+  pub search_gave_up : (o : Outcome) (new : Seen) → SearchesOn f budget mid (Err o) new → Works (plan.Solve n l budget) limit old o new
+  search_gave_up outcome.Memory new h = so_far h.0 new h.1 h.2
+    where
+      so_far : (log : Bytes) (at : Seen) → at ≡ says port.Proof log mid → IfSome mid.files (λ _. IsLogSoFar f log) → Stops (plan.Solve n l budget) limit old at
+      so_far log at is right = record {
         stage = proof_created;
         reaches = formula_in (plan.Solve n l budget) limit old f read;
-        proof = front;
-        so_far = IfSome_then old.files read (λ files r. (f, r, front_so_far f (printed_log events) h.0 (is_right f budget (printed_log events) e have) (has_low_ids f budget (printed_log events) e have) (has_no_mark f budget (printed_log events) e have)));
-        at_is = ap (says port.Proof front) begun;
-      } in
-      inr (inr (record { writes = refl; at = says port.Proof front (seen mid); stops = stops; created = refl; fault = write_fault front mid new h.2 }))
+        proof = log;
+        so_far = if_some_both old.files read (of_old (λ _. IsLogSoFar f log) right) (λ files r s. (f, r, s));
+        at_is = is ∙ ap (says port.Proof log) begun;
+      }
+  search_gave_up outcome.WriteFault new h = inr (inr (record {
+    writes = refl;
+    at = says port.Proof h.0 mid;
+    stops = record {
+      stage = proof_created;
+      reaches = formula_in (plan.Solve n l budget) limit old f read;
+      proof = h.0;
+      so_far = if_some_both old.files read (of_old (λ _. IsLogSoFar f h.0) h.2) (λ files r s. (f, r, s));
+      at_is = ap (says port.Proof h.0) begun;
+    };
+    created = refl;
+    fault = h.1;
+  }))
+  search_gave_up o new h = absurd h
+
+-- nothing stands on the Proof port once the formula was read and the port given its file, if nothing stood there
+pub none_begun : (n : Bytes) (l : Option Bytes) (budget : ℕ) (old : Seen) → HasNoProof old → HasNoProof (asked_to proof_created (plan.Solve n l budget) old)
+none_begun n None budget old h = h
+none_begun n (Some name) budget old h = none_on_created name (asked_to second_started (plan.Solve n (Some name) budget) old)

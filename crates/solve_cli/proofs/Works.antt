@@ -296,7 +296,7 @@ judged_late (ending.FormulaRefused o) p f text h = absurd h
 judged_late (ending.TooLong s) p f text h = absurd h
 judged_late e p f text h = refl
 
-none_on_created : (name : Bytes) (s : Seen) → HasNoProof (creates name s)
+pub none_on_created : (name : Bytes) (s : Seen) → HasNoProof (creates name s)
 none_on_created name s = elim s.written as (λ w. HasNoProof (creates name (record s { written = w }))) [ None ↦ tt | Some w ↦ refl ]
 
 -- what was left on the Proof port, of the files at the start

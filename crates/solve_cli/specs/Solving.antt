@@ -1,17 +1,26 @@
 -- The steps of `solve`: the formula is read, the Proof port is given the log's file, and the search is made.
-use Rattle.std.specs.Prelude.{◌≡◌, ℕ, List, IfSome, Result, MatchResult}
+use Rattle.std.specs.Prelude.{◌≡◌, ℕ, List, Option, IfSome, Result, Ok, Err, MatchResult}
 use Rattle.cx_base.specs.Problem.{Problem, Meets, Unmet}
 use Rattle.cx_base.specs.declared.steps.LogEvent.{LogEvent}
 use Rattle.cx_texts.specs.Printed.{printed_log}
 use Rattle.search_steps.specs.Recovering.{SettledWithRecovered}
+use Rattle.conflict_learn.specs.declared.fault.CoreFault.{CoreFault}
+use Rattle.conflict_learn.specs.declared.fault.CoreFault.TheVariants as fault
+use Rattle.cdcl_core.specs.declared.solving.Outcome.{Outcome as Answer}
+use Rattle.cdcl_core.specs.declared.solving.Outcome.TheVariants as answer
+use Rattle.cx_desk.specs.declared.desk.Port.TheVariants as port
+use Rattle.cx_desk.specs.Outside.{Bytes}
 use Rattle.cx_words.specs.declared.plans.Plan.{Plan}
+use Rattle.cx_words.specs.declared.plans.Plan.TheVariants as plan
 use Rattle.solve_cli.specs.declared.ending.Ending.{Ending}
 use Rattle.solve_cli.specs.declared.ending.Ending.TheVariants as ending
 use Rattle.solve_cli.specs.declared.ending.Outcome.{Outcome}
-use Rattle.solve_cli.specs.Seen.{Seen}
+use Rattle.solve_cli.specs.declared.ending.Outcome.TheVariants as outcome
+use Rattle.solve_cli.specs.Seen.{Seen, says, WriteFault}
 use Rattle.solve_cli.specs.Commands.{proof_created, asked_to}
 use Rattle.solve_cli.specs.Happens.{IsFormula, Works}
-use Rattle.solve_cli.specs.Logs.{IsOpenLog, IsClosedLog, IsSpentLog}
+use Rattle.solve_cli.specs.Logs.{IsOpenLog, IsClosedLog, IsSpentLog, IsLogSoFar}
+use Rattle.solve_cli.specs.SlotTexts.{IsLateOf}
 
 -- the formula was read, and the Proof port was given its file, where there is a name for it
 abbrev pub BeginsSearch : Plan → ℕ → Seen → Result Problem Outcome → Seen → Type 0
@@ -25,3 +34,20 @@ ComesTo f budget events (ending.Satisfiable v) = Meets f v × IsOpenLog f budget
 ComesTo f budget events ending.Unsatisfiable = Unmet f × IsClosedLog f budget (printed_log events)
 ComesTo f budget events (ending.Unknown k) = (k ≡ budget) × (¬ SettledWithRecovered f) × IsSpentLog f budget (printed_log events)
 ComesTo f budget events e = ⊥
+
+-- what an answer of the search ends in
+abbrev pub answered_as : Result Answer CoreFault → Result Ending Outcome
+answered_as (Ok (answer.Sat values)) = Ok (ending.Satisfiable values)
+answered_as (Ok answer.Unsat) = Ok ending.Unsatisfiable
+answered_as (Ok (answer.Unknown conflicts)) = Ok (ending.Unknown conflicts)
+answered_as (Err fault.Memory) = Err outcome.Memory
+answered_as (Err fault.Write) = Err outcome.WriteFault
+
+-- What a search printed on the Proof port, event by event: the log of what it came to; or, where it gave up, a front of a right log.
+abbrev pub SearchesOn : Problem → ℕ → Seen → Result Ending Outcome → Seen → Type 0
+SearchesOn f budget old (Ok e) new =
+    ((n : Bytes) (l : Option Bytes) → IsLateOf (plan.Solve n l budget) e)
+    × ((events : List LogEvent) × (new ≡ says port.Proof (printed_log events) old) × IfSome old.files (λ _. ComesTo f budget events e))
+SearchesOn f budget old (Err outcome.Memory) new = (log : Bytes) × (new ≡ says port.Proof log old) × IfSome old.files (λ _. IsLogSoFar f log)
+SearchesOn f budget old (Err outcome.WriteFault) new = (log : Bytes) × WriteFault (says port.Proof log old) new × IfSome old.files (λ _. IsLogSoFar f log)
+SearchesOn f budget old (Err o) new = ⊥

@@ -4,7 +4,7 @@ ghost use Rattle.cx_words.specs.Words.{texts};
 ghost use Rattle.cx_words.specs.declared.plans.Plan.TheVariants as plan;
 ghost use Rattle.solve_cli.specs.Seen.{seen};
 ghost use Rattle.solve_cli.specs.Commands.{Unasked};
-ghost use Rattle.solve_cli.specs.Steps.{PutsAnswer};
+ghost use Rattle.solve_cli.specs.Steps.{PutsAnswer, HasNoProof};
 ghost use Rattle.solve_cli.specs.Happens.{Works, WorksFor};
 ghost use Rattle.solve_cli.specs.Run.{Run};
 
@@ -13,7 +13,7 @@ use crate::elab::elaborate_log;
 use crate::judge::{judge_answer, judge_proof};
 use crate::load::{load, prepare};
 use crate::print::{put_answer_text, put_message_text};
-use crate::solve::{begin_search, search};
+use crate::solve::{begin_search, search, search_on};
 use crate::{Ending, Outcome, Status};
 use cx_desk::{Desk, Failed, Port};
 use cx_words::{Kind, Name, Plan, PlanRefusal, plan};
@@ -86,7 +86,7 @@ fn elab<D: Desk>(
     }
 }
 
-/// `solve`: searches for values that meet the formula. The log is written whole before the answer.
+/// `solve`: searches for values that meet the formula. The log is written step by step, and whole before the answer.
 fn solve<D: Desk>(
     alloc: Global,
     desk: &mut D,
@@ -97,6 +97,7 @@ fn solve<D: Desk>(
 ) -> Outcome
     requires fresh { Unasked (D.outside desk.old).asked }
     requires limit { limit ≤ 4294967295 }
+    requires empty { HasNoProof (seen (D.outside desk.old)) }
     requires conflicts { (1 ≤ conflicts) × (conflicts ≤ 10 ^ 18) }
     ensures { Works (plan.Solve formula log conflicts) limit (seen (D.outside desk.old)) result (seen (D.outside desk.new)) }
 {
@@ -104,14 +105,9 @@ fn solve<D: Desk>(
         Ok(formula) => formula,
         Err(outcome) => return outcome,
     };
-    let mut events = ListLog::make(alloc);
-    let ending = match search(alloc, &formula, conflicts, &mut events) {
-        Ok(ending) => ending,
-        Err(AllocError) => return Outcome::Memory,
-    };
-    match put_log(desk, Port::Proof, &events) {
-        Ok(()) => answer(desk, ending),
-        Err(Failed) => Outcome::WriteFault,
+    match search_on(alloc, desk, &formula, conflicts) {
+        Ok(ending) => answer(desk, ending),
+        Err(outcome) => outcome,
     }
 }
 
@@ -147,6 +143,7 @@ fn demo<D: Desk>(alloc: Global, desk: &mut D, kind: Kind, size: u32, seed: u64) 
 fn work<D: Desk>(alloc: Global, desk: &mut D, words: &[String], limit: u64) -> Outcome
     requires fresh { Unasked (D.outside desk.old).asked }
     requires limit { limit ≤ 4294967295 }
+    requires empty { HasNoProof (seen (D.outside desk.old)) }
     ensures { WorksFor (texts words.now) limit (seen (D.outside desk.old)) result (seen (D.outside desk.new)) }
 {
     match plan(alloc, words) {
@@ -179,6 +176,7 @@ fn work<D: Desk>(alloc: Global, desk: &mut D, words: &[String], limit: u64) -> O
 pub fn run_within<D: Desk>(alloc: Global, words: Vec<String>, limit: u64, desk: &mut D) -> Status
     requires fresh { Unasked (D.outside desk.old).asked }
     requires limit { limit ≤ 4294967295 }
+    requires empty { HasNoProof (seen (D.outside desk.old)) }
     ensures { Run (texts words.items) limit (seen (D.outside desk.old)) result (seen (D.outside desk.new)) }
 {
     let outcome = work(alloc, desk, words.as_slice(), limit);
@@ -188,7 +186,8 @@ pub fn run_within<D: Desk>(alloc: Global, words: Vec<String>, limit: u64, desk: 
 
 /// All that the program does, with no text longer than 4,294,967,295 bytes.
 pub fn run<D: Desk>(alloc: Global, words: Vec<String>, desk: &mut D) -> Status
-    requires { Unasked (D.outside desk.old).asked }
+    requires fresh { Unasked (D.outside desk.old).asked }
+    requires empty { HasNoProof (seen (D.outside desk.old)) }
     ensures { Run (texts words.items) 4294967295 (seen (D.outside desk.old)) result (seen (D.outside desk.new)) }
 {
     run_within(alloc, words, 4_294_967_295, desk)

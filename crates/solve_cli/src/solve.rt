@@ -3,7 +3,8 @@ ghost use Rattle.std.specs.Prelude.{◌≡◌, ◌≤◌, ◌^◌, ℕ, [], leng
 ghost use Rattle.cx_words.specs.declared.plans.Plan.TheVariants as plan;
 ghost use Rattle.solve_cli.specs.Seen.{seen};
 ghost use Rattle.solve_cli.specs.Commands.{Unasked};
-ghost use Rattle.solve_cli.specs.Solving.{BeginsSearch, ComesTo};
+ghost use Rattle.solve_cli.specs.Solving.{BeginsSearch, ComesTo, SearchesOn, answered_as};
+ghost use Rattle.solve_cli.specs.Steps.{HasNoProof};
 
 use crate::load::{create_proof, read_formula_of};
 use crate::{Ending, Outcome};
@@ -12,7 +13,7 @@ use cx_base::Formula;
 use cx_desk::Desk;
 use cx_words::Name;
 use gauss_incremental::Incremental;
-use log_text::ListLog;
+use log_text::{DeskLog, ListLog};
 use std::alloc::{AllocError, Global};
 
 /// Reads the formula, and gives the Proof port its file, where the log is to have one.
@@ -38,8 +39,38 @@ pub fn begin_search<D: Desk>(
     }
 }
 
-/// Searches for values that meet the formula, until so many conflicts are counted. The log has each
-/// step of the search.
+/// What an answer of the search ends in.
+fn answered(answer: Result<Answer, CoreFault>) -> Result<Ending, Outcome>
+    ensures { result ≡ answered_as answer }
+{
+    match answer {
+        Ok(Answer::Sat(values)) => Ok(Ending::Satisfiable(values)),
+        Ok(Answer::Unsat) => Ok(Ending::Unsatisfiable),
+        Ok(Answer::Unknown { conflicts }) => Ok(Ending::Unknown(conflicts)),
+        Err(CoreFault::Memory) => Err(Outcome::Memory),
+        Err(CoreFault::Write) => Err(Outcome::WriteFault),
+    }
+}
+
+/// Searches for values that meet the formula, until so many conflicts are counted. Each step of the search is printed
+/// on the Proof port as it is made.
+pub fn search_on<D: Desk>(
+    alloc: Global,
+    desk: &mut D,
+    formula: &Formula,
+    conflicts: u64,
+) -> Result<Ending, Outcome>
+    requires conflicts { (1 ≤ conflicts) × (conflicts ≤ 10 ^ 18) }
+    requires few { length formula.now.constraints ≤ 4294967295 }
+    requires empty { HasNoProof (seen (D.outside desk.old)) }
+    ensures { SearchesOn formula.now conflicts (seen (D.outside desk.old)) result (seen (D.outside desk.new)) }
+{
+    let mut log = DeskLog::new(desk);
+    let answer = solve_core::<Incremental, DeskLog<D>>(alloc, formula, conflicts, &mut log);
+    answered(answer)
+}
+
+/// The same, with the log kept as a list. It gives up only for want of memory.
 pub fn search(
     alloc: Global,
     formula: &Formula,
@@ -53,11 +84,9 @@ pub fn search(
 {
     let answer = solve_core::<Incremental, ListLog>(alloc, formula, conflicts, log);
     let _with_texts = log.events();
-    match answer {
-        Ok(Answer::Sat(values)) => Ok(Ending::Satisfiable(values)),
-        Ok(Answer::Unsat) => Ok(Ending::Unsatisfiable),
-        Ok(Answer::Unknown { conflicts }) => Ok(Ending::Unknown(conflicts)),
-        Err(CoreFault::Memory) => Err(AllocError),
-        Err(CoreFault::Write) => unreachable!(),
+    match answered(answer) {
+        Ok(ending) => Ok(ending),
+        // A list fails only for want of memory.
+        Err(_) => Err(AllocError),
     }
 }

@@ -1,0 +1,164 @@
+-- What a search leaves on the Proof port, where it prints its log event by event.
+use Rattle.std.proofs.Common.{◌≡◌, ◌<◌, ◌⊎◌, ℕ, List, [], ◌∷◌, ◌++◌, Bool, true, false, filter_map, length, take, drop, option_map, Option, Some, None, IfSome, IfOk, IfErr, Result, Ok, Err, ◌≢◌, inl, inr, refl, ap, sym, subst, ◌∙◌, append-nil, append_assoc, arith}
+use Rattle.std.proofs.lemmas.Grind.{flat_map-append}
+use Rattle.std.proofs.lemmas.Option.{IfSome_then}
+use Rattle.std.proofs.lemmas.List.{take-append-drop}
+use Rattle.std.proofs.lemmas.List.Elements.{filter_map-append}
+use Rattle.std.specs.List.{AllByRecursion, cons_option}
+use Rattle.cx_base.proofs.Elements.{all_push}
+use Rattle.cx_base.specs.Counts.{Rose}
+use Rattle.cx_base.specs.Problem.{Problem}
+use Rattle.cx_base.specs.declared.steps.LogEvent.{LogEvent}
+use Rattle.cx_semantics.specs.Ids.{HasLowId}
+use Rattle.cx_semantics.specs.Marked.{mark_of}
+use Rattle.cx_judgements.specs.LogTexts.{LogOpen}
+use Rattle.cx_texts.specs.Printed.{HasText, printed_log}
+use Rattle.cx_texts.proofs.PrintedLogs.{printed_log_reads}
+use Rattle.search_steps.specs.Recovering.{SettledWithRecovered}
+use Rattle.cx_desk.specs.declared.desk.Port.TheVariants as port
+use Rattle.cx_desk.specs.Outside.{Bytes, Told, Outside}
+use Rattle.cx_desk.specs.Calls.{gained}
+use Rattle.proof_text.specs.Told.{begun_line, is_none, is_whole, fault_of}
+use Rattle.log_text.specs.Told.{event_line, told_events, events_told, TornOn, Prints, Tears, Goes}
+use Rattle.log_text.proofs.ToldLaws.{told_front, told_log, gained_log, begun_log, begun_front}
+use Rattle.conflict_learn.specs.declared.fault.CoreFault.{CoreFault}
+use Rattle.conflict_learn.specs.declared.fault.CoreFault.TheVariants as fault
+use Rattle.conflict_learn.specs.Faults.{fault_in}
+use Rattle.cdcl_search.specs.Logs.{CountsAs}
+use Rattle.cdcl_search.specs.Tells.{IsLeft, HaveLowIds, HasNoMark as HasNoMarkTold, MayStandBehind, GivesUp}
+use Rattle.cdcl_core.specs.Results.{IsFresh, IsRightOutcome}
+use Rattle.cdcl_core.specs.declared.solving.Outcome.{Outcome as Answer}
+use Rattle.cdcl_core.specs.declared.solving.Outcome.TheVariants as answer
+use Rattle.solve_cli.specs.Solving.{SearchesOn, answered_as}
+use Rattle.solve_cli.specs.Seen.{Seen, seen, says, WriteFault}
+use Rattle.solve_cli.specs.Logs.{IsLogSoFar, IsRefutation}
+use Rattle.solve_cli.specs.Steps.{HasNoProof}
+use Rattle.solve_cli.proofs.Gaining.{empty_told, whole_told, on_files, write_fault}
+use Rattle.solve_cli.proofs.Logging.{open_log, refutation}
+use Rattle.solve_cli.proofs.Searching.{finds_values, finds_none, finds_nothing}
+use Rattle.solve_cli.proofs.Works.{seen-gained}
+
+-- ---- right events are a right log
+log_of : (f : Problem) (events : List LogEvent) → AllByRecursion HasText events → IsLeft f (Some events) → LogOpen f (printed_log events) ⊎ IsRefutation f (printed_log events)
+log_of f events texts (inl runs) = inl (open_log f events texts runs)
+log_of f events texts (inr ended) = inr (refutation f events texts ended)
+
+-- a front of the text of right events
+front_of : (f : Problem) (events : List LogEvent) (bytes rest : Bytes) → AllByRecursion HasText events → AllByRecursion HasLowId events → IsLeft f (Some events) → (SettledWithRecovered f → filter_map mark_of events ≡ [])
+    → bytes ++ rest ≡ printed_log events → IsLogSoFar f bytes
+front_of f events bytes rest texts low left none front = record {
+  log = printed_log events;
+  right = log_of f events texts left;
+  ids = (events, printed_log_reads events texts, low);
+  settled = λ s. (events, printed_log_reads events texts, none s);
+  rest = rest;
+  front = front;
+}
+
+-- ---- what the port tells
+-- an empty port that gained the lines of events tells these
+events_printed : (t : Told) (o n : Outside) (h : Prints (record o { told = Some t }) n) → t.written.proof ≡ [] → events_told n ≡ Some h.events
+events_printed t o n h empty =
+    ap events_told h.moved ∙ gained_log (record o { told = Some t }) h.events (whole_told (Some t) empty) h.texts
+    ∙ ap (λ (x : Bytes). Some (told_events x ++ h.events)) empty
+
+-- what holds of the events that the sink tells holds of those that were printed
+printed_hold : (P : Option (List LogEvent) → Type 0) (w : Option Told) (o n : Outside) (h : Prints (record o { told = w }) n) → IfSome w (λ t. t.written.proof ≡ []) → P (events_told n) → IfSome w (λ _. P (Some h.events))
+printed_hold P None o n h empty holds = tt
+printed_hold P (Some t) o n h empty holds = subst P (events_printed t o n h empty) holds
+
+pub events_hold : (P : Option (List LogEvent) → Type 0) (o n : Outside) (h : Prints o n) → HasNoProof (seen o) → P (events_told n) → IfSome (seen o).files (λ _. P (Some h.events))
+events_hold P o n h empty holds = on_files (P (Some h.events)) o.told (printed_hold P o.told o n h (empty_told o empty) holds)
+
+pub events_seen : (o n : Outside) (h : Prints o n) → seen n ≡ says port.Proof (printed_log h.events) (seen o)
+events_seen o n h = ap seen h.moved ∙ seen-gained port.Proof (printed_log h.events) o
+
+-- want of memory: what was printed is a right log
+pub logged_so_far : (f : Problem) (o n : Outside) (h : Prints o n) → HasNoProof (seen o) → IsLeft f (events_told n) → HaveLowIds (events_told n) → (SettledWithRecovered f → HasNoMarkTold (events_told n))
+    → IfSome (seen o).files (λ _. IsLogSoFar f (printed_log h.events))
+logged_so_far f o n h empty left low none =
+    on_files (IsLogSoFar f (printed_log h.events)) o.told (by o.told h (empty_told o empty))
+  where
+    by : (w : Option Told) (h : Prints (record o { told = w }) n) → IfSome w (λ t. t.written.proof ≡ []) → IfSome w (λ _. IsLogSoFar f (printed_log h.events))
+    by None h e = tt
+    by (Some t) h e =
+        let is = events_printed t o n h e in
+        front_of f h.events (printed_log h.events) [] h.texts (subst HaveLowIds is low) (subst (IsLeft f) is left) (λ s. subst HasNoMarkTold is (none s)) (append-nil (printed_log h.events))
+
+-- ---- a torn line
+torn_events : (events : List LogEvent) (part : LogEvent) (kept : ℕ) → AllByRecursion HasText events → HasText part → kept < length (event_line part) → told_events (printed_log events ++ take kept (event_line part)) ≡ events
+torn_events events part kept texts text low = told_front (printed_log events) part kept text low ∙ told_log [] events refl texts
+
+torn_line : (events : List LogEvent) (part : LogEvent) (kept : ℕ) → AllByRecursion HasText events → HasText part → kept < length (event_line part)
+    → begun_line [] (printed_log events ++ take kept (event_line part)) ≡ take kept (event_line part)
+torn_line events part kept texts text low = begun_front (printed_log events) part kept (begun_log [] events refl texts) text low
+
+-- a front of an event's line behind right events, where the event may stand behind them, is a front of their text
+torn_front : (f : Problem) (events : List LogEvent) (event part : LogEvent) (k kept : ℕ) → take kept (event_line part) ≡ take k (event_line event) → AllByRecursion HasText events → AllByRecursion HasLowId events
+    → (SettledWithRecovered f → filter_map mark_of events ≡ []) → MayStandBehind f (Some events) event → IsLogSoFar f (printed_log events ++ take kept (event_line part))
+torn_front f events event part k kept same texts low none next =
+    front_of f (events ++ event ∷ []) (printed_log events ++ take kept (event_line part)) (drop k (event_line event)) (all_push HasText events event texts next.text) (all_push HasLowId events event low next.id) next.right
+    (λ s. filter_map-append mark_of events (event ∷ []) ∙ ap (λ xs. xs ++ filter_map mark_of (event ∷ [])) (none s) ∙ ap (λ o. cons_option o []) (next.unmarked s))
+    (append_assoc (printed_log events) (take kept (event_line part)) (drop k (event_line event))
+    ∙ ap (λ (x : Bytes). printed_log events ++ (x ++ drop k (event_line event))) same
+    ∙ ap (λ (x : Bytes). printed_log events ++ x) (take-append-drop k (event_line event) ∙ sym (append-nil (event_line event)))
+    ∙ sym (flat_map-append event_line events (event ∷ [])))
+
+-- a fault of writing: what was printed is a front of a right log
+torn_right : (f : Problem) (w : Option Told) (o n : Outside) (h : Tears (record o { told = w }) n) (event : LogEvent) → IfSome w (λ t. t.written.proof ≡ []) → HaveLowIds (events_told n)
+    → (SettledWithRecovered f → HasNoMarkTold (events_told n)) → TornOn event n → MayStandBehind f (events_told n) event → IfSome w (λ _. IsLogSoFar f (printed_log h.events ++ take h.kept (event_line h.part)))
+torn_right f None o n h event empty low none torn next = tt
+torn_right f (Some t) o n h event empty low none torn next =
+    let bytes = printed_log h.events ++ take h.kept (event_line h.part) in
+    let now = ap (λ (x : Outside). x.told) h.moved.else_same in
+    let stands : ◌≡◌ {A = Option (List LogEvent)} (events_told n) (Some (told_events (t.written.proof ++ bytes))) = ap (option_map (λ (x : Told). told_events x.written.proof)) now in
+    let is : ◌≡◌ {A = Option (List LogEvent)} (events_told n) (Some h.events) =
+    stands ∙ ap (λ (x : Bytes). Some (told_events (x ++ bytes))) empty ∙ ap (λ (x : List LogEvent). Some x) (torn_events h.events h.part h.kept h.texts h.text h.front) in
+    let line_of = subst (λ (x : Option Told). IfSome x (λ y. (before : Bytes) × (k : ℕ) × (begun_line [] before ≡ []) × (k < length (event_line event)) × (y.written.proof ≡ before ++ take k (event_line event)))) now torn.1 in
+    let split : bytes ≡ line_of.0 ++ take line_of.1 (event_line event) = subst (λ (x : Bytes). x ++ bytes ≡ line_of.0 ++ take line_of.1 (event_line event)) empty line_of.4 in
+    let line : take h.kept (event_line h.part) ≡ take line_of.1 (event_line event) =
+    sym (torn_line h.events h.part h.kept h.texts h.text h.front) ∙ (ap (begun_line []) split ∙ begun_front line_of.0 event line_of.1 line_of.2 torn.0 line_of.3) in
+    torn_front f h.events event h.part line_of.1 h.kept line h.texts (subst HaveLowIds is low) (λ s. subst HasNoMarkTold is (none s)) (subst (λ (x : Option (List LogEvent)). MayStandBehind f x event) is next)
+
+pub torn_log_so_far : (f : Problem) (o n : Outside) (event : LogEvent) → HasNoProof (seen o) → Tears o n → HaveLowIds (events_told n) → (SettledWithRecovered f → HasNoMarkTold (events_told n)) → TornOn event n
+    → MayStandBehind f (events_told n) event → (log : Bytes) × WriteFault (says port.Proof log (seen o)) (seen n) × IfSome (seen o).files (λ _. IsLogSoFar f log)
+torn_log_so_far f o n event empty h low none torn next = (
+  printed_log h.events ++ take h.kept (event_line h.part),
+  write_fault (printed_log h.events ++ take h.kept (event_line h.part)) o n h.moved,
+  on_files (IsLogSoFar f (printed_log h.events ++ take h.kept (event_line h.part))) o.told (torn_right f o.told o n h event (empty_told o empty) low none torn next),
+)
+
+-- ---- whether the sink failed
+pub has_logged : (last : Bool) (o n : Outside) → Goes false o last n → fault_of last ≡ 0 → Prints o n
+has_logged false o n h same = h
+has_logged true o n h same = absurd (omega (arith, same))
+
+pub has_torn_log : (last : Bool) (o n : Outside) → Goes false o last n → Rose 0 (fault_of last) → Tears o n
+has_torn_log true o n h rose = h
+has_torn_log false o n h rose = absurd (omega (arith, rose))
+
+-- ---- the whole search
+-- an empty port tells no event
+pub fresh_port : (o : Outside) → HasNoProof (seen o) → IsFresh (events_told o)
+fresh_port o h = elim o.told as (λ w. IfSome w (λ t. t.written.proof ≡ []) → IsFresh (option_map (λ t. told_events t.written.proof) w)) [ None ↦ λ k. tt | Some t ↦ λ k. ap told_events k ] (empty_told o h)
+
+pub searched_on : (f : Problem) (budget : ℕ) (o n : Outside) (last : Bool) (r : Result Answer CoreFault) → HasNoProof (seen o) → Goes false o last n → CountsAs (fault_in r) 0 (fault_of last)
+    → IfOk r (λ a. IsRightOutcome f budget (events_told n) a) → (SettledWithRecovered f → IfOk r (λ a. (k : ℕ) → a ≢ answer.Unknown k)) → (SettledWithRecovered f → HasNoMarkTold (events_told n)) → HaveLowIds (events_told n)
+    → IfErr r (λ e. GivesUp f (λ event. TornOn event n) (events_told n) e) → SearchesOn f budget (seen o) (answered_as r) (seen n)
+searched_on f budget o n last (Ok (answer.Sat v)) empty goes same right known none low gave_up =
+    let h = has_logged last o n goes same in
+    let holds = events_hold (λ told. IsRightOutcome f budget told (answer.Sat v) × HaveLowIds told × (SettledWithRecovered f → HasNoMarkTold told)) o n h empty (right, low, none) in
+    ((λ m l. (tt, refl)), (h.events, events_seen o n h, IfSome_then (seen o).files holds (λ files x. finds_values f budget h.events v h.texts x.1 x.0 x.2)))
+searched_on f budget o n last (Ok answer.Unsat) empty goes same right known none low gave_up =
+    let h = has_logged last o n goes same in
+    let holds = events_hold (λ told. IsRightOutcome f budget told answer.Unsat × HaveLowIds told × (SettledWithRecovered f → HasNoMarkTold told)) o n h empty (right, low, none) in
+    ((λ m l. (tt, refl)), (h.events, events_seen o n h, IfSome_then (seen o).files holds (λ files x. finds_none f budget h.events h.texts x.1 x.0 x.2)))
+searched_on f budget o n last (Ok (answer.Unknown k)) empty goes same right known none low gave_up =
+    let h = has_logged last o n goes same in
+    let holds = events_hold (λ told. IsRightOutcome f budget told (answer.Unknown k) × HaveLowIds told) o n h empty (right, low) in
+    ((λ m l. (tt, refl)), (h.events, events_seen o n h, IfSome_then (seen o).files holds (λ files x. finds_nothing f budget h.events k h.texts x.1 x.0 known)))
+searched_on f budget o n last (Err fault.Memory) empty goes same right known none low left =
+    let h = has_logged last o n goes same in
+    (printed_log h.events, events_seen o n h, logged_so_far f o n h empty left low none)
+searched_on f budget o n last (Err fault.Write) empty goes rose right known none low gave_up =
+    torn_log_so_far f o n gave_up.1.0 empty (has_torn_log last o n goes rose) low none gave_up.1.1 gave_up.1.2
