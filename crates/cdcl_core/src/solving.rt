@@ -37,7 +37,7 @@ pub enum Outcome {
     Sat(Values),
     /// No values meet the formula. The log ends with the empty clause.
     Unsat,
-    /// The budget of counted conflicts is used up. Both may be so.
+    /// The budget of counted conflicts is used up. Some values may meet the formula or none.
     Unknown { conflicts: u64 },
 }
 

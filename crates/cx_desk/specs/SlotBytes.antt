@@ -82,7 +82,7 @@ pub record RestRead (s : BytesState) (o : Outside) (len : ℕ) (p : Outside) : T
 abbrev pub ReadsRest : BytesState → Outside → Result ℕ DrainErr → Outside → Type 0
 ReadsRest s o result p = MatchResult result (λ len. RestRead s o len p) (λ e. (s.ended ≡ false) × DrainFails s.slot (s.limit - taken_by s) o e p)
 
--- the same of bytes that are kept
+-- why reading ahead failed, as why reading failed
 abbrev pub read_err_of : AheadErr → ReadErr
 read_err_of ahead.Memory = Memory
 read_err_of ahead.Failed = Failed

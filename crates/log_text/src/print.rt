@@ -136,7 +136,7 @@ pub(crate) fn put_event<D: Desk>(desk: &mut D, port: Port, event: &LogEvent) -> 
 /// Writes the lines of a log's events: steps as `put_log_step` does, the mark of conflict K as the
 /// line `c conflict K`. It takes no memory.
 ///
-/// What it writes is read as the log's events (`printed_logs_read` of cx_semantics). It fails only
+/// What it writes is read as the log's events (`printed_logs_read` of cx_texts). It fails only
 /// where the desk counted a fault of the port; then the port gained a front of the lines.
 pub fn put_log<D: Desk>(desk: &mut D, port: Port, log: &ListLog) -> Result<(), Failed>
     ensures { PutsAll port (printed_log log.now) (D.outside desk.old) result (D.outside desk.new) }

@@ -54,7 +54,7 @@ impl Engine {
         })
     }
 
-    /// Whether more clauses have gone than are live, so that its memory is mostly theirs.
+    /// Whether more than a thousand clauses have gone, and half as many besides as are live: it is to be made anew then.
     pub fn is_worn(&self) -> bool
         ensures { result ≡ nat_lt (1000 + (length self.now.arena.clauses - self.now.gone) / 2) self.now.gone }
     {

@@ -1,4 +1,4 @@
--- The steps of a command: its texts are read whole, the Proof port is given its file, the answer is written.
+-- The steps of a command: its texts are read, the Proof port is given its file, the answer is written.
 use Rattle.std.specs.Prelude.{true, ◌≡◌, ◌<◌, ◌≤◌, ℕ, [], length, take, Option, IfSome, Result, MatchResult}
 use Rattle.cx_desk.specs.declared.desk.Slot.{Slot}
 use Rattle.cx_desk.specs.declared.desk.Slot.TheVariants as slot

@@ -12,7 +12,7 @@ use step_text::{SinkFault, SlotReader, TextRefusal};
 
 /// The elaborator's two ends on one lent desk: the steps that a lent reader takes from it, and the Proof port.
 ///
-/// It is made of references alone, so that the owner of both knows what was done to them. It counts one fault of
+/// It borrows both, so that their owner knows what was done to them. It counts one fault of
 /// writing at most: after that it takes nothing more, and answers `Memory`.
 #[derive(Drop)]
 pub struct ElabDesk<'r, 'd, D: Desk> {

@@ -14,7 +14,7 @@ use cx_texts::Offence;
 use cx_words::Name;
 use std::alloc::Global;
 
-/// The texts of a command, read whole.
+/// The texts of a command: the formula that was read of the first, and the bytes of the second.
 #[derive(Drop)]
 pub struct Texts {
     /// The formula that the first text reads to.
