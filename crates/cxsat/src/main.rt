@@ -2,6 +2,7 @@
 #![tactic(auto)]
 
 mod real_desk;
+mod spool;
 
 use real_desk::RealDesk;
 use solve_cli::{Status, run};

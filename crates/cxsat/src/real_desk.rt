@@ -3,6 +3,7 @@ ghost use Rattle.std.specs.Prelude.{◌≡◌, ◌≤◌, length, None, Some, tr
 ghost use Rattle.cx_base.specs.Counts.{Rose};
 ghost use Rattle.cxsat.specs.Real.{outside_of, StartsReal, PutsReal, Untold};
 
+use crate::spool::{SPOOL, Spool};
 use cx_desk::{Desk, Failed, Port, Slot};
 use std::alloc::{AllocError, Global};
 use std::fs::{File, OpenOptions};
@@ -43,7 +44,7 @@ pub struct RealDesk {
     second: Source,
     proof_name: Option<String>,
     proof: Option<File>,
-    pending: Vec<u8>,
+    spool: Spool,
     read_faults: u64,
     write_faults: u64,
     message_faults: u64,
@@ -143,9 +144,6 @@ fn read_at(rt: &HostRuntime, stream: &mut Stream, into: &mut [u8]) -> Option<usi
     read.ok()
 }
 
-/// The most bytes of a proof that wait to be written.
-const SPOOL: usize = 65_536;
-
 impl RealDesk {
     /// A desk that was asked for nothing.
     pub fn new(alloc: Global, rt: HostRuntime) -> Result<Self, AllocError>
@@ -157,7 +155,7 @@ impl RealDesk {
             second: Source::none(),
             proof_name: None,
             proof: None,
-            pending: Vec::with_capacity(alloc, SPOOL)?,
+            spool: Spool::new(alloc)?,
             read_faults: 0,
             write_faults: 0,
             message_faults: 0,
@@ -165,46 +163,36 @@ impl RealDesk {
     }
 }
 
-/// Writes all that waits; false where the file took less. Then what it left is dropped, so that no
-/// byte of the front that it took is written again.
-fn flush(file: &mut File, pending: &mut Vec<u8>) -> bool {
-    let is_whole = file.write_all(pending.as_slice()).is_ok();
-    pending.clear();
-    is_whole
-}
-
 /// Writes what waits of the proof, if it has a file.
-fn flush_proof(proof: &mut Option<File>, pending: &mut Vec<u8>) -> bool {
+#[inline(never)]
+fn flush_proof(proof: &mut Option<File>, spool: &mut Spool) -> bool {
     match proof {
         None => true,
-        Some(file) => flush(file, pending),
+        Some(file) => spool.flush(file),
     }
 }
 
-/// A piece of the proof waits in the spool, which is written when it is full.
-fn spool(
+/// A front of a piece of the proof waits in the spool, which is written when it has no room.
+fn put_in(
+    spool: &mut Spool,
     file: &mut File,
-    pending: &mut Vec<u8>,
     faults: &mut u64,
     piece: &[u8],
 ) -> Result<usize, Failed>
     requires { 0 < length piece.now }
     ensures { PutsReal (length piece.now) faults.old result faults.new }
 {
-    let has_room = pending.len() <= SPOOL && piece.len() <= SPOOL - pending.len();
-    if !has_room && !flush(file, pending) {
-        count_fault(faults);
-        return Err(Failed);
-    }
     let count = piece.len().min(SPOOL);
-    if pending.extend_from_slice(&piece[..count]).is_err() {
+    if !spool.make_room(file, count) {
         count_fault(faults);
         return Err(Failed);
     }
+    spool.push(&piece[..count]);
     Ok(count)
 }
 
 /// Writes to a stream; a stream that takes nothing has failed.
+#[inline(never)]
 fn put_on<W: Write + Drop>(mut stream: W, faults: &mut u64, piece: &[u8]) -> Result<usize, Failed>
     ensures { PutsReal (length piece.now) faults.old result faults.new }
 {
@@ -276,19 +264,19 @@ impl Desk for RealDesk {
     fn put(&mut self, port: Port, piece: &[u8]) -> Result<usize, Failed> {
         match port {
             Port::Answer => {
-                if !flush_proof(&mut self.proof, &mut self.pending) {
+                if !flush_proof(&mut self.proof, &mut self.spool) {
                     count_fault(&mut self.write_faults);
                     return Err(Failed);
                 }
                 put_on(self.rt.stdout(), &mut self.write_faults, piece)
             }
             Port::Message => {
-                let _written = flush_proof(&mut self.proof, &mut self.pending);
+                let _written = flush_proof(&mut self.proof, &mut self.spool);
                 put_on(self.rt.stderr(), &mut self.message_faults, piece)
             }
             Port::Proof => match &mut self.proof {
                 None => Ok(piece.len()),
-                Some(file) => spool(file, &mut self.pending, &mut self.write_faults, piece),
+                Some(file) => put_in(&mut self.spool, file, &mut self.write_faults, piece),
             },
         }
     }
