@@ -24,7 +24,7 @@ use Rattle.proof_rules.proofs.ContentLaws.{same_by_content, content_of_same, for
 use Rattle.fratx_elab.specs.Elaborates.{IsLeast, IsClauseNumber, IsParityNumber}
 use Rattle.fratx_elab.specs.declared.key.Key.{Key}
 use Rattle.fratx_elab.specs.declared.originals.Originals.{Originals}
-use Rattle.fratx_elab.specs.Contents.{IsKey, by_key, PutsFirst, IsIndexOf, AreFirsts, StandsFor}
+use Rattle.fratx_elab.specs.Contents.{IsKey, by_key, Puts, IsIndexOf, AreFirsts, StandsFor}
 use Rattle.fratx_elab.proofs.Numbers.{none_pass, none_any}
 
 joined : (xs ys zs : List (List Literal)) → (xs ++ ys) ++ zs ≡ xs ++ (ys ++ zs)
@@ -44,6 +44,10 @@ later_too P old new lits k e h = record {
 }
 
 -- ---- keys
+
+-- the number stands at this key from now on, if none stood there
+abbrev pub PutsFirst : tree.BTreeMap Key ℕ → tree.BTreeMap Key ℕ → Key → ℕ → Type 0
+PutsFirst old new key number = (q : Key) → tree.get by_key new q ≡ cond (is_eq (by_key key q)) (Some (unwrap_or (tree.get by_key old q) number)) (tree.get by_key old q)
 
 -- keys that the order does not tell apart
 exact_key : (x y : Key) → by_key x y ≡ Equal → (x.first ≡ y.first) × (x.numbers.items ≡ y.numbers.items)
@@ -118,28 +122,11 @@ module _ (old : tree.BTreeMap Key ℕ) (key : Key) (number : ℕ) where
       let numbers = sym e.1 in
       λ i. lookup (λ k. is_eq (ordering_then (nat_cmp (front i) k.first) (slice_cmp nat_cmp (numbers i) k.numbers.items))) old.entries
 
-  pub put_new : (new : tree.BTreeMap Key ℕ) → is_some (tree.get by_key old key) ≡ false
-      → ((q : Key) → tree.get by_key new q ≡ cond (is_eq (by_key key q)) (Some number) (tree.get by_key old q))
-      → PutsFirst old new key number
-  put_new new none h q = h q ∙ cases (is_eq (by_key key q)) refl
+  pub puts_first : (new : tree.BTreeMap Key ℕ) (first : ℕ) → first ≡ unwrap_or (tree.get by_key old key) number → Puts old new key first → PutsFirst old new key number
+  puts_first new first e h q = h q ∙ cases (is_eq (by_key key q)) refl
     where
-      nothing : (o : Option ℕ) → is_some o ≡ false → Some number ≡ Some (unwrap_or o number)
-      nothing None e = refl
-      nothing (Some k) e = absurd (true≢false e)
-
-      cases : (b : Bool) → is_eq (by_key key q) ≡ b → cond b (Some number) (tree.get by_key old q) ≡ cond b (Some (unwrap_or (tree.get by_key old q) number)) (tree.get by_key old q)
-      cases true t = nothing (tree.get by_key old q) (ap is_some (same_place q t) ∙ none)
-      cases false t = refl
-
-  pub put_kept : is_some (tree.get by_key old key) ≡ true → PutsFirst old old key number
-  put_kept some q = cases (is_eq (by_key key q)) refl
-    where
-      something : (o : Option ℕ) → is_some o ≡ true → o ≡ Some (unwrap_or o number)
-      something None e = absurd (true≢false (sym e))
-      something (Some k) e = refl
-
-      cases : (b : Bool) → is_eq (by_key key q) ≡ b → tree.get by_key old q ≡ cond b (Some (unwrap_or (tree.get by_key old q) number)) (tree.get by_key old q)
-      cases true t = something (tree.get by_key old q) (ap is_some (same_place q t) ∙ some)
+      cases : (b : Bool) → is_eq (by_key key q) ≡ b → cond b (Some first) (tree.get by_key old q) ≡ cond b (Some (unwrap_or (tree.get by_key old q) number)) (tree.get by_key old q)
+      cases true t = ap (λ n. Some n) (e ∙ ap (λ o. unwrap_or o number) (sym (same_place q t)))
       cases false t = refl
 
 -- ---- what a look-up tells

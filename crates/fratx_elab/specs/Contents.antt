@@ -1,7 +1,6 @@
 -- Numbers of constraints by what these say.
 use Rattle.std.specs.Prelude.{◌≡◌, ◌<◌, ℕ, cond, List, length, get_or, slice_get, Some, MatchOption, IsTrue}
 use Rattle.std.specs.List.{AllByRecursion}
-use Rattle.std.specs.Option.{unwrap_or}
 use Rattle.std.specs.Ordering.{nat_cmp, is_eq, ordering_then}
 use Rattle.std.specs.declared.cmp.Ordering.{Ordering}
 use Rattle.std.specs.Cmp.Lexicographic.{slice_cmp}
@@ -22,9 +21,9 @@ IsKey key = key.first ≡ get_or key.numbers.items 0 0
 abbrev pub by_key : Key → Key → Ordering
 by_key x y = ordering_then (nat_cmp x.first y.first) (slice_cmp nat_cmp x.numbers.items y.numbers.items)
 
--- the number stands at this key from now on, if none stood there
-abbrev pub PutsFirst : tree.BTreeMap Key ℕ → tree.BTreeMap Key ℕ → Key → ℕ → Type 0
-PutsFirst old new key number = (q : Key) → tree.get by_key new q ≡ cond (is_eq (by_key key q)) (Some (unwrap_or (tree.get by_key old q) number)) (tree.get by_key old q)
+-- the number stands at this key from now on
+abbrev pub Puts : tree.BTreeMap Key ℕ → tree.BTreeMap Key ℕ → Key → ℕ → Type 0
+Puts old new key number = (q : Key) → tree.get by_key new q ≡ cond (is_eq (by_key key q)) (Some number) (tree.get by_key old q)
 
 -- each content has the number, from 1, of the first list with it, and none where no list has it
 abbrev pub IsIndexOf : (List Literal → List ℕ → Type 0) → List (List Literal) → tree.BTreeMap Key ℕ → Type 0

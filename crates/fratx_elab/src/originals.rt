@@ -1,12 +1,12 @@
 //! The constraints of the formula by their content.
-ghost use Rattle.std.specs.Prelude.{◌≡◌, ◌≤◌, ◌<◌, ◌+◌, ◌-◌, ◌^◌, length, IfOk, IfSome, MatchOption, IsFalse, Some, true, [], slice_get};
+ghost use Rattle.std.specs.Prelude.{◌≡◌, ◌≤◌, ◌<◌, ◌+◌, ◌-◌, ◌^◌, length, IfOk, IfSome, MatchOption, IsFalse, Some, true, [], slice_get, unwrap_or};
 ghost use Rattle.std.specs.BTreeMap.{get};
 ghost use Rattle.cx_base.specs.Problem.{clauses_of, parities_of};
 ghost use Rattle.cx_semantics.specs.LogRules.{is_original, IsOriginalParity};
 ghost use Rattle.fratx_elab.specs.Elaborates.{IsClauseNumber, IsParityNumber, number_of_clauses, number_of_parities};
 ghost use Rattle.std.specs.Prelude.{OnOk};
 ghost use Rattle.cx_base.specs.Problem.{Problem};
-ghost use Rattle.fratx_elab.specs.Contents.{by_key, PutsFirst, IsIndexOf, AreFirsts, StandsFor};
+ghost use Rattle.fratx_elab.specs.Contents.{by_key, Puts, IsIndexOf, AreFirsts, StandsFor};
 ghost use Rattle.proof_rules.specs.Contents.{IsClauseContent, IsParityContent};
 ghost use Rattle.fratx_elab.specs.declared.naming.TheConstants.{MAX_ID};
 
@@ -53,16 +53,12 @@ fn put_first(
     key: Key,
     number: ProofId,
 ) -> Result<ProofId, AllocError>
-    ensures puts { OnOk result (PutsFirst index.old index.new key number) }
+    ensures first { IfOk result (λ first. first ≡ unwrap_or (get by_key index.old key) number) }
+    ensures puts { IfOk result (Puts index.old index.new key) }
     ensures stands { IfOk result (λ first. get by_key index.new key ≡ Some first) }
 {
-    match index.get(&key).copied() {
-        Some(first) => Ok(first),
-        None => {
-            index.insert(key, number)?;
-            Ok(number)
-        }
-    }
+    let first = index.entry(key)?.or_insert(number);
+    Ok(*first)
 }
 
 /// The least number of a clause of the formula at each content, and that at the content of each clause.

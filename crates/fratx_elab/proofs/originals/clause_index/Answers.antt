@@ -8,9 +8,9 @@ use Rattle.cx_base.specs.Problem.{clauses_of}
 use Rattle.cx_base.proofs.Parts.{both_kinds}
 use Rattle.proof_rules.specs.Contents.{IsClauseContent}
 use Rattle.proof_rules.proofs.ContentLaws.{clause_content_once}
-use Rattle.fratx_elab.specs.Contents.{IsKey, by_key, PutsFirst, IsIndexOf, AreFirsts}
+use Rattle.fratx_elab.specs.Contents.{IsKey, by_key, IsIndexOf, AreFirsts}
 use Rattle.fratx_elab.specs.declared.key.Key.{Key}
-use Rattle.fratx_elab.proofs.ContentIndex.{index_of_nothing, index_more, firsts_push}
+use Rattle.fratx_elab.proofs.ContentIndex.{PutsFirst, puts_first, index_of_nothing, index_more, firsts_push}
 use Rattle.fratx_elab.proofs.originals.clause_index.Goals as goal
 use Rattle.fratx_elab.proofs.originals.clause_index.Goals.{else-loop-number-test, then-loop-number-test+in_ok-content+in_ok-first+in_ok-push+else-number-number-end}
 
@@ -54,7 +54,7 @@ loop-number-preserved c =
     let first = c.in_ok-first.first in
     let before = c.loop-number.invariant in
     let high : number ≤ length (clauses_of constraints) = omega arith in
-    let index = next_index constraints number lits key c.new.result c.loop-number.index c.put_first.new.index before.low high c.clause.ensures.clause c.new.ensures c.of-key.ensures.key has c.in_ok-first.ensures.puts before.index in
+    let index = next_index constraints number lits key c.new.result c.loop-number.index c.put_first.new.index before.low high c.clause.ensures.clause c.new.ensures c.of-key.ensures.key has (puts_first c.loop-number.index key c.new.result c.put_first.new.index first c.in_ok-first.ensures.first c.in_ok-first.ensures.puts) before.index in
     let more : c.push.new.self.items ≡ firsts ++ first ∷ [] = c.in_ok-push.ensures.items in
     let count = before.count in
     let long = ap (λ (xs : List ℕ). length xs) more in
@@ -78,7 +78,8 @@ returns-clause-index c = elim c.loop-number-test.branch [
       let all : length lists ≤ (c.loop-number.number + 1) - 1 = omega arith in
       rw w.index-is (subst (λ ls. IsIndexOf IsClauseContent ls w.put_first.new.index) (take_all ((c.loop-number.number + 1) - 1) lists all)
       (next_index c.args.formula.now.constraints c.loop-number.number w.clause.result.now w.of-key.result w.new.result c.loop-number.index w.put_first.new.index before.low high w.clause.ensures.clause w.new.ensures
-      w.of-key.ensures.key (subst (IsClauseContent w.clause.result.now) (sym w.of-key.ensures.numbers) w.in_ok-content.ensures) w.in_ok-first.ensures.puts before.index))
+      w.of-key.ensures.key (subst (IsClauseContent w.clause.result.now) (sym w.of-key.ensures.numbers) w.in_ok-content.ensures)
+      (puts_first c.loop-number.index w.of-key.result w.new.result w.put_first.new.index w.in_ok-first.first w.in_ok-first.ensures.first w.in_ok-first.ensures.puts) before.index))
 ]
 
 pub returns-clause-firsts : goal.returns-clause-firsts
@@ -92,7 +93,7 @@ returns-clause-firsts c = elim c.loop-number-test.branch [
       let has = subst (IsClauseContent lits) (sym w.of-key.ensures.numbers) w.in_ok-content.ensures in
       let before = c.loop-number.invariant in
       let high : number ≤ length (clauses_of constraints) = omega arith in
-      let index = next_index constraints number lits key w.new.result c.loop-number.index w.put_first.new.index before.low high w.clause.ensures.clause w.new.ensures w.of-key.ensures.key has w.in_ok-first.ensures.puts before.index in
+      let index = next_index constraints number lits key w.new.result c.loop-number.index w.put_first.new.index before.low high w.clause.ensures.clause w.new.ensures w.of-key.ensures.key has (puts_first c.loop-number.index key w.new.result w.put_first.new.index w.in_ok-first.first w.in_ok-first.ensures.first w.in_ok-first.ensures.puts) before.index in
       let more : w.push.new.self.items ≡ c.loop-number.firsts.items ++ w.in_ok-first.first ∷ [] = w.in_ok-push.ensures.items in
       rw w.firsts-is (next_firsts constraints number lits key w.put_first.new.index w.in_ok-first.first c.loop-number.firsts.items w.push.new.self.items before.count w.clause.ensures.clause w.of-key.ensures.key has index w.in_ok-first.ensures.stands more before.firsts)
 ]
