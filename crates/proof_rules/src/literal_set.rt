@@ -48,7 +48,9 @@ fn clear_mark(marks: &mut Vec<bool>, place: usize)
 }
 
 /// Adds places without a mark until there is this one. Without memory some may have been added.
-fn reach(marks: &mut Vec<bool>, place: usize) -> Result<(), AllocError>
+// A long way off the path of literals that have a place, which is to stay short.
+#[inline(never)]
+fn extend(marks: &mut Vec<bool>, place: usize) -> Result<(), AllocError>
     ensures same { (p : ℕ) → get_or marks.new.items p false ≡ get_or marks.old.items p false }
     ensures reached { OnOk result (place < length marks.new.items) }
 {
@@ -56,6 +58,17 @@ fn reach(marks: &mut Vec<bool>, place: usize) -> Result<(), AllocError>
         marks.push(false)?;
     }
     Ok(())
+}
+
+/// Has this place. Without memory some may have been added.
+fn reach(marks: &mut Vec<bool>, place: usize) -> Result<(), AllocError>
+    ensures same { (p : ℕ) → get_or marks.new.items p false ≡ get_or marks.old.items p false }
+    ensures reached { OnOk result (place < length marks.new.items) }
+{
+    if place < marks.len() {
+        return Ok(());
+    }
+    extend(marks, place)
 }
 
 /// Takes the marks of literals away.
