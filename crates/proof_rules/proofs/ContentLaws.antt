@@ -1,27 +1,25 @@
 -- The content of a clause or a parity tells what it says.
-use Rattle.std.proofs.Common.{◌≡◌, refl, sym, ap, ◌∙◌, subst, ℕ, Bool, true, false, cond, ◌||◌, nat_eq, List, [], ◌∷◌, map, Less, Result, Ok, Err, IfOk}
-use Rattle.std.specs.List.{AllByRecursion}
-use Rattle.std.specs.List.Sorted.{IsStrictlySortedBy}
+use Rattle.std.proofs.Common.{◌≡◌, refl, sym, ap, ◌∙◌, subst, ℕ, Bool, true, false, cond, ◌||◌, nat_eq, eqb-true, List, [], ◌∷◌, map}
+use Rattle.std.specs.List.{Contains, dedup, list_any}
+use Rattle.std.specs.List.Sorted.{IsPermutation, IsSorted, IsStrictlySortedBy}
 use Rattle.std.specs.Ordering.{nat_cmp}
-use Rattle.std.specs.Cmp.{nat_cmp_total, unsigned_tied}
+use Rattle.std.specs.Cmp.{nat_cmp_total, nat_eq_equiv, unsigned_tied, both_ways}
 use Rattle.std.specs.FinSet as set
 use Rattle.std.proofs.lemmas.Map.Lookups.{btree_set_from_contains, exact_unsigned}
+use Rattle.std.proofs.lemmas.Map.Views.{list_any-from_Contains, Contains-from_any}
+use Rattle.std.proofs.lemmas.List.Kept.{Contains-dedup_nat, Contains-from_dedup, IsStrictlySortedBy-dedup}
+use Rattle.std.proofs.lemmas.List.Sorted.{Contains-permutation, IsPermutation-sym}
 use Rattle.std.proofs.lemmas.Bool.{and_from}
 use Rattle.cx_base.specs.Literals.{Literal, code_of, literal_of_code}
 use Rattle.cx_base.specs.Codes.{code_of-literal_of_code, literal_of_code-code_of}
 use Rattle.cx_base.specs.Parity.{NormalForm, normal_form}
 use Rattle.cx_base.proofs.Differences.{same_members}
-use Rattle.cx_base.specs.contracts.literal.LitOrd.TheImpl.{cmp-value}
 use Rattle.cx_semantics.specs.Chain.{has_literal, is_inside, same_literals, HaveSame}
 use Rattle.cx_semantics.proofs.SameSets.{HaveSame-by_test}
 use Rattle.cx_semantics.proofs.SameSets.{inside_by}
 use Rattle.proof_rules.specs.Contents.{RisesOver, IsClauseContent, IsFormContent, IsParityContent}
 use Rattle.proof_rules.proofs.LiteralLaws.{same_code}
 use Rattle.proof_rules.proofs.SumLaws.{has_key}
-
-pub both_ok : {A E : Type 0} {P Q R : A → Type 0} → ((a : A) → P a → Q a → R a) → (r : Result A E) → IfOk r P → IfOk r Q → IfOk r R
-both_ok f (Ok a) p q = f a p q
-both_ok f (Err e) p q = tt
 
 -- ---- rising lists
 
@@ -30,16 +28,6 @@ pub rising_once : (s : set.FinSet nat_cmp) (xs ys : List ℕ) → RisesOver s xs
 rising_once s xs ys h k =
     btree_set_from_contains nat_cmp_total (record { keys = xs }) (record { keys = ys }) h.rising k.rising
     (λ q. sym (set.contains-from_list nat_cmp_total xs q) ∙ ap (λ m. set.contains m q) (h.same ∙ sym k.same) ∙ set.contains-from_list nat_cmp_total ys q) exact_unsigned
-
-below_codes : (x : Literal) (ys : List Literal) → AllByRecursion (λ y. cmp-value.it x y ≡ Less) ys → AllByRecursion (λ c. nat_cmp (code_of x) c ≡ Less) (map code_of ys)
-below_codes x [] h = tt
-below_codes x (y ∷ ys) h = (h.0, below_codes x ys h.1)
-
--- the order of literals is that of their codes
-pub rising_codes : (xs : List Literal) → IsStrictlySortedBy cmp-value.it xs → IsStrictlySortedBy nat_cmp (map code_of xs)
-unfolding IsStrictlySortedBy
-rising_codes [] h = tt
-rising_codes (x ∷ xs) h = (below_codes x xs h.0, rising_codes xs h.1)
 
 -- ---- clauses
 
@@ -58,8 +46,28 @@ same_of_codes a b h l =
     ∙ ap (λ s. set.contains s q) h
     ∙ set.contains-from_list nat_cmp_total (map code_of b) q ∙ has_code b q ∙ ap (has_literal b) (literal_of_code-code_of l)
 
-pub content_of_set : (set_ lits : List Literal) (codes : List ℕ) → HaveSame set_ lits → codes ≡ map code_of set_ → IsStrictlySortedBy nat_cmp codes → IsClauseContent lits codes
-content_of_set set_ lits codes h e r = record { same = ap set.from_list e ∙ codes_of_same set_ lits h; rising = r }
+has_number : (xs : List ℕ) (q : ℕ) → set.contains (set.from_list {R = nat_cmp} xs) q ≡ list_any (nat_eq q) xs
+has_number xs q = set.contains-from_list nat_cmp_total xs q ∙ (λ i. list_any (λ x. unsigned_tied q x i) xs)
+
+-- lists with the same elements are of one set
+same_set : (xs ys : List ℕ) → ((q : ℕ) → Contains xs q → Contains ys q) → ((q : ℕ) → Contains ys q → Contains xs q) → set.from_list {R = nat_cmp} xs ≡ set.from_list ys
+same_set xs ys there back = same_members _ _ (λ q.
+    has_number xs q
+    ∙ both_ways (list_any (nat_eq q) xs) (list_any (nat_eq q) ys)
+    (λ h. list_any-from_Contains nat_eq_equiv q ys (there q (Contains-from_any eqb-true q xs h)))
+    (λ h. list_any-from_Contains nat_eq_equiv q xs (back q (Contains-from_any eqb-true q ys h)))
+    ∙ sym (has_number ys q))
+
+-- the codes, sorted and each once
+pub content_of_sorted : (lits : List Literal) (sorted content : List ℕ) → IsPermutation (map code_of lits) sorted → IsSorted nat_cmp sorted → content ≡ dedup nat_eq sorted → IsClauseContent lits content
+content_of_sorted lits sorted content moved up is =
+    let codes = map code_of lits in
+    record {
+      same = same_set content codes
+          (λ q h. Contains-permutation sorted codes q (IsPermutation-sym codes sorted moved) (Contains-from_dedup nat_eq sorted q (subst (λ (xs : List ℕ). Contains xs q) is h)))
+          (λ q h. subst (λ (xs : List ℕ). Contains xs q) (sym is) (Contains-dedup_nat sorted q (Contains-permutation codes sorted q moved h)));
+      rising = subst (IsStrictlySortedBy nat_cmp) (sym is) (IsStrictlySortedBy-dedup nat_cmp_total (λ x y. sym (unsigned_tied x y)) sorted up);
+    }
 
 pub clause_content_once : (lits : List Literal) (q k : List ℕ) → IsClauseContent lits q → IsClauseContent lits k → q ≡ k
 clause_content_once lits q k g h = rising_once _ q k g h

@@ -15,7 +15,6 @@ mod named;
 mod parity_clause;
 mod parity_sum;
 mod refusal;
-mod sorted_literals;
 mod sorted_parity;
 mod sum;
 mod table;

@@ -1,5 +1,10 @@
-use Rattle.proof_rules.proofs.ContentLaws.{both_ok, content_of_set}
+use Rattle.std.proofs.Common.{subst, ℕ, List}
+use Rattle.std.specs.List.Sorted.{IsPermutation}
+use Rattle.std.proofs.lemmas.List.Filters.{dedup_is}
+use Rattle.proof_rules.proofs.ContentLaws.{content_of_sorted}
 use Rattle.proof_rules.proofs.content.clause_content.Goals as goal
 
 pub returns : goal.returns
-returns c = both_ok (λ codes e r. content_of_set c.in_ok-set.set c.args.lits.now codes.items c.in_ok-set.ensures e r) c.codes.result c.codes.ensures.codes c.codes.ensures.rising
+returns c =
+    let moved = subst (λ (xs : List ℕ). IsPermutation xs c.sort_unstable.new.self.items) c.in_ok-codes.ensures c.sort_unstable.ensures.permutation in
+    content_of_sorted c.args.lits.now c.sort_unstable.new.self.items c.dedup.new.self.items moved c.sort_unstable.ensures.sorted (dedup_is _ _ _ c.dedup.ensures.filtered)
