@@ -83,7 +83,8 @@ fn chain_given(
     if let Some(ids) = chain_by(alloc, live, target, given)? {
         return Ok(Some(ids));
     }
-    let reversed: Vec<i64> = given.iter().rev().copied().collect(alloc)?;
+    let mut reversed = Vec::from_slice(alloc, given)?;
+    reversed.reverse();
     chain_by(alloc, live, target, &reversed)
 }
 
