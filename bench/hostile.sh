@@ -46,7 +46,11 @@ expect_solved 'a million units' 10 's SATISFIABLE'
 awk 'BEGIN { n = 1000000; print "p cnf", n, n + 1; print 1, 0; for (k = 1; k < n; k++) print -k, k + 1, 0; print -n, 0 }' > "$work/formula"
 expect_solved 'a chain of a million clauses' 20 's UNSATISFIABLE'
 awk 'BEGIN { n = 100000; print "p cnf 60", n; for (k = 1; k <= n; k++) print "x" k % 59 + 1, k % 60 + 1, (k * 7) % 60 + 1, 0 }' > "$work/formula"
-expect_solved 'a hundred thousand parities over sixty variables' 20 's UNSATISFIABLE'
+# each has an odd number of positive literals, so all variables true meet them; the same with one of them turned is met by none
+expect_solved 'a hundred thousand parities over sixty variables' 10 's SATISFIABLE'
+awk 'NR == 1 { print "p cnf 60 100001"; next } NR == 2 { line = $0; sub(/^x/, "x-", line); print line } { print }' "$work/formula" > "$work/turned"
+mv "$work/turned" "$work/formula"
+expect_solved 'the same, one of them with its negation' 20 's UNSATISFIABLE'
 
 big=9223372036854775807
 printf 'p cnf 2 1\n1 2 0\n' > "$work/formula"
