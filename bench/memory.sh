@@ -1,29 +1,17 @@
 #!/usr/bin/env bash
 # Measures the memory of a search beside that of its live clauses, on one random formula of clauses of three literals.
 # usage: bench/memory.sh [CONFLICTS [VARIABLES [SEED]]]     (1,000,000 conflicts, 400 variables, seed 1)
-# A small program searches without keeping its log; how many bytes the live clauses take at their most is told by the log that
-# `cxsat solve` writes of the same search. A live clause takes 4 bytes a literal and CLAUSE_BYTES beside: its head in the
-# arena (24), its id among them, and its two nodes in the watch lists (19). What a search of one conflict takes is left out on both
-# sides: the program, and the clauses of the formula.
-# The program is proved, built and run in a folder of its own; it takes long where nothing was proved before.
+# How many bytes the live clauses take at their most is told by the log that the same search writes. A live clause takes 4 bytes a
+# literal and CLAUSE_BYTES beside: what its head in the arena has to hold (24), its id among that, and its two nodes in the watch
+# lists (19). What a search of one conflict takes is left out on both sides: the program, and the clauses of the formula.
 set -euo pipefail
 source "$(dirname "$0")/common.sh"
 need /usr/bin/time
 build
 conflicts=${1:-1000000} vars=${2:-400} seed=${3:-1}
 clause_bytes=43
-mkdir -p "$work/crates"
-crates=$(cd "$here/../crates" && for crate in */; do case $crate in *_tests/ | cxsat/ | solve_cli/) ;; *) echo "${crate%/}" ;; esac; done)
-bring $crates
-echo 'search_memory: cx_base cnfx_reader log_text gauss_incremental cdcl_core' >> "$work/crates.txt"
-lay_out search_memory "$work/crates/search_memory"
 clauses=$((vars * 426 / 100))
 awk -v seed="$seed" -v clauses="$clauses" -v vars="$vars" -f "$here/make_clauses.awk" > "$work/formula"
-cd "$work/crates/search_memory"
-if ! rt run -- "$work/formula" 1 > "$work/run.log" 2>&1; then
-    cat "$work/run.log" >&2
-    exit 1
-fi
 
 # The live clauses of a search of so many conflicts and their literals, where their bytes are the most, and these bytes, by the log.
 live() {
@@ -48,7 +36,7 @@ live() {
 # The memory of a search of so many conflicts in kilobytes, its seconds, and its live clauses at their most, their literals and their bytes.
 search() {
     local memory taken alive literals own
-    /usr/bin/time -f '%M %U' -o "$work/time" out/search_memory "$work/formula" "$1" > "$work/answer"
+    /usr/bin/time -f '%M %U' -o "$work/time" "$program" solve "$work/formula" --conflicts "$1" > "$work/answer" || true
     read -r memory taken < <(tail -n 1 "$work/time")
     read -r alive literals own < <(live "$1")
     echo "$memory $taken $alive $literals $own"
