@@ -1,5 +1,4 @@
 pub mod PieceSteps
-pub mod FrontLaws
 pub mod WordLaws
 pub mod BodyReading
 pub mod TextReading

@@ -1,7 +1,6 @@
 -- Tokens of the body as words.
-use Rattle.std.proofs.Common.{◌≡◌, sym, ap, ◌∙◌, subst, ℕ, zero, suc, ◌+◌, ◌<◌, ◌≤◌, ℤ, true, false, cond, List, [], ◌∷◌, length, take, drop, get_or, Some, None, arith}
-use Rattle.std.proofs.lemmas.List.{drop_more}
-use Rattle.cx_texts.specs.Tokens.{is_blank, NoBlank, EndsRun}
+use Rattle.std.proofs.Common.{◌≡◌, sym, ap, ◌∙◌, subst, ℕ, zero, suc, ◌+◌, ◌<◌, ◌≤◌, ℤ, false, cond, List, [], ◌∷◌, length, take, drop, get_or, Some, None, arith}
+use Rattle.cx_texts.specs.Tokens.{is_blank, NoBlank}
 use Rattle.cx_texts.specs.Words.{Word, letter, other, number, number_or, integer, word_of, joined_words, formula_words_of}
 use Rattle.cx_texts.proofs.DigitLaws.{not_equal}
 use Rattle.cnfx_reader.specs.Meanings.{IsStrange}
@@ -22,10 +21,6 @@ joined_token [] len z x some l e = absurd (zero_not_mark x)
 joined_token (b ∷ []) len z x some l e = absurd (omega arith)
 joined_token (b ∷ c ∷ bs) zero z x some l e = absurd (omega arith)
 joined_token (b ∷ c ∷ bs) (suc len) z x some l e = ap (λ y. formula_words_of (y ∷ c ∷ take len bs)) x ∙ ap joined_words e
-
--- a run ends where a blank stands
-pub ends_at_blank : (text : List ℕ) (k : ℕ) → k < length text → is_blank (get_or text k 0) ≡ true → EndsRun (drop k text)
-ends_at_blank text k l b = subst EndsRun (sym (drop_more text k 0 l)) b
 
 -- a byte that is no blank before a run
 pub run_more : (text : List ℕ) (len : ℕ) → 0 < length text → is_blank (get_or text 0 0) ≡ false → NoBlank (take len (drop 1 text)) → NoBlank (take (1 + len) text)

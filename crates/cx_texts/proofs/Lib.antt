@@ -3,6 +3,7 @@ pub mod DigitLaws
 pub mod Evaluate
 pub mod EventSteps
 pub mod Forms
+pub mod FrontLaws
 pub mod Grammars
 pub mod LaterPlaces
 pub mod Lines

@@ -1,8 +1,9 @@
 //! Where the tokens of a text begin and end, by a rule of `%` lines.
 ghost use Rattle.std.specs.Prelude.{◌≡◌, ◌≤◌, ◌<◌, ◌+◌, true, false, IsTrue, length, drop, take, slice_index, IfSome, IfNone, []};
-ghost use Rattle.cx_texts.specs.Tokens.{is_blank, tokens_left_by, tokens_within_by, NoBlank, EndsRun, SkipsLine};
+ghost use Rattle.cx_texts.specs.Tokens.{is_blank, tokens_left_by, tokens_within, tokens_within_by, NoBlank, EndsRun, SkipsLine};
 ghost use Rattle.cx_texts.specs.Passed.{IsPassed, left_at};
 ghost use Rattle.cx_texts.specs.declared.line_state.EndLines.{EndLines as Rule};
+ghost use Rattle.cx_texts.specs.declared.line_state.EndLines.TheVariants as end_line;
 
 use crate::line_state::EndLines;
 use crate::token_reader::is_blank_byte;
@@ -103,6 +104,36 @@ pub(crate) fn next_begin(text: &[u8], from: Place, end_lines: EndLines) -> Optio
         }
     }
     None
+}
+
+/// The place where the next token begins behind a place within a kept line, or one where a line may begin; or the text's length.
+#[inline(always)]
+pub fn begin_of_next(text: &[u8], at: usize, in_line: bool) -> usize
+    requires { at ≤ length text.now }
+    ensures high { result ≤ length text.now }
+    ensures begins { result < length text.now → is_blank (slice_index text.now result) ≡ false }
+    ensures left { tokens_left_by end_line.Kept in_line at (drop at text.now) ≡ tokens_within result (drop result text.now) }
+{
+    match next_begin(text, Place { at, in_line }, EndLines::Kept) {
+        Some(begin) => begin,
+        None => text.len(),
+    }
+}
+
+/// The same behind a token that ends here: mostly one space stands in front of the next one.
+#[tactic(auto, using(crate::proofs::PlaceLaws::blank_passed))]
+#[inline(always)]
+pub fn begin_behind(text: &[u8], end: usize) -> usize
+    requires { end < length text.now }
+    ensures high { result ≤ length text.now }
+    ensures begins { result < length text.now → is_blank (slice_index text.now result) ≡ false }
+    ensures left { tokens_within end (drop end text.now) ≡ tokens_within result (drop result text.now) }
+{
+    let next = end + 1;
+    if text[end] == b' ' && next < text.len() && !is_blank_byte(text[next]) {
+        return next;
+    }
+    begin_of_next(text, end, true)
 }
 
 /// The place behind a token that ends here, or behind the blank that follows it, where one is known to.

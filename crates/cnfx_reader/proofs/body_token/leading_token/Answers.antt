@@ -1,5 +1,5 @@
 use Rattle.std.proofs.Common.{arith, rules}
-use Rattle.cnfx_reader.proofs.WordLaws.{ends_at_blank}
+use Rattle.cx_texts.proofs.FrontLaws.{ends_at_blank}
 use Rattle.cnfx_reader.proofs.body_token.leading_token.Goals as goal
 
 pub returns-in-Some : goal.returns-in-Some

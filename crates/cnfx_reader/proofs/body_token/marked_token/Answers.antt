@@ -2,7 +2,8 @@ use Rattle.std.proofs.Common.{◌≡◌, ◌∙◌, sym, ap, subst, arith, rules
 use Rattle.cx_texts.specs.Tokens.{NoBlank, EndsRun}
 use Rattle.cx_texts.specs.Words.{integer, formula_words_of}
 use Rattle.cx_texts.proofs.Slices.{part_behind}
-use Rattle.cnfx_reader.proofs.WordLaws.{joined_token, ends_at_blank, run_more}
+use Rattle.cx_texts.proofs.FrontLaws.{ends_at_blank}
+use Rattle.cnfx_reader.proofs.WordLaws.{joined_token, run_more}
 use Rattle.cnfx_reader.proofs.body_token.marked_token.Goals as goal
 
 pub returns-in-Some : goal.returns-in-Some

@@ -1,6 +1,6 @@
 use Rattle.std.proofs.Common.{sym, ◌∙◌, arith, ◌+◌, ◌*◌, ◌<◌, length}
 use Rattle.cx_texts.proofs.DigitLaws.{one_more_digit}
-use Rattle.cnfx_reader.proofs.FrontLaws.{short_value}
+use Rattle.cx_texts.proofs.FrontLaws.{few_digits}
 use Rattle.cnfx_reader.proofs.digits.short_digits.Goals as goal
 
 pub loop-len-preserved : goal.loop-len-preserved
@@ -12,10 +12,10 @@ loop-len-preserved c =
 
 pub overflow_mul-value : goal.overflow_mul-value
 overflow_mul-value c =
-    let small : c.loop-len.value < 100000000 = short_value c.args.text.now c.loop-len.len c.loop-len.value (omega arith) (omega arith) c.loop-len.invariant.1 c.loop-len.invariant.2 in
+    let small : c.loop-len.value < 100000000 = few_digits c.args.text.now c.loop-len.len c.loop-len.value 8 (omega arith) (omega arith) c.loop-len.invariant.1 c.loop-len.invariant.2 in
     omega arith
 
 pub overflow_add-value : goal.overflow_add-value
 overflow_add-value c =
-    let small : c.loop-len.value < 100000000 = short_value c.args.text.now c.loop-len.len c.loop-len.value (omega arith) (omega arith) c.loop-len.invariant.1 c.loop-len.invariant.2 in
+    let small : c.loop-len.value < 100000000 = few_digits c.args.text.now c.loop-len.len c.loop-len.value 8 (omega arith) (omega arith) c.loop-len.invariant.1 c.loop-len.invariant.2 in
     omega arith

@@ -3,7 +3,7 @@ use Rattle.std.specs.List.{list_all}
 use Rattle.std.specs.Str.Parse.{digits_value}
 use Rattle.cx_texts.specs.Words.{is_digit}
 use Rattle.cx_texts.proofs.Slices.{part_behind}
-use Rattle.cnfx_reader.proofs.FrontLaws.{bool_byte_small, signed_front}
+use Rattle.cx_texts.proofs.FrontLaws.{bool_byte_small, signed_front}
 use Rattle.cnfx_reader.proofs.leading_integer.leading_integer.Goals as goal
 
 pub returns-then-is_blank_byte : goal.returns-then-is_blank_byte

@@ -1,23 +1,25 @@
--- A few digits, and integers, at the front of a text.
-use Rattle.std.proofs.Common.{◌≡◌, sym, ap, ◌∙◌, subst, ℕ, suc, ◌+◌, ◌^◌, ◌<◌, ◌≤◌, pos, neg_ℤ, Bool, true, false, List, [], ◌∷◌, length, take, drop, Some, arith, true≢false, length-take, eqb-true}
+-- A few digits, integers and runs at the front of a text.
+use Rattle.std.proofs.Common.{◌≡◌, sym, ap, ◌∙◌, subst, ℕ, suc, ◌+◌, ◌^◌, ◌<◌, ◌≤◌, pos, neg_ℤ, Bool, true, false, List, [], ◌∷◌, length, take, drop, get_or, Some, arith, true≢false, length-take, eqb-true}
 use Rattle.std.specs.List.{list_all}
 use Rattle.std.specs.Str.Parse.{digits_value}
 use Rattle.std.proofs.lemmas.Int.Digits.{digits_value-lt}
 use Rattle.std.proofs.Math.Nat.{pow-le-pow_right}
 use Rattle.cx_base.specs.Integers.{signed}
-use Rattle.cx_texts.specs.Tokens.{is_blank, NoBlank}
+use Rattle.std.proofs.lemmas.List.{drop_more}
+use Rattle.cx_texts.specs.Tokens.{is_blank, NoBlank, EndsRun}
 use Rattle.cx_texts.specs.Words.{integer, is_digit}
 use Rattle.cx_texts.specs.LiteralTokens.{begins_with_minus}
 use Rattle.cx_texts.proofs.DigitLaws.{digits_no_blank, all_digits_of, integer_digits, integer_minus}
 use mir.Val.{bool_byte}
 
-pub short_value : (text : List ℕ) (len value : ℕ) → len < 9 → len ≤ length text → list_all is_digit (take len text) ≡ true → value ≡ digits_value 10 (take len text) → value < 100000000
-short_value text len value few l h v =
+-- so many digits make a number below this power of ten
+pub few_digits : (text : List ℕ) (len value most : ℕ) → len ≤ most → len ≤ length text → list_all is_digit (take len text) ≡ true → value ≡ digits_value 10 (take len text) → value < 10 ^ most
+few_digits text len value most few l h v =
     let size : length (take len text) ≡ len = omega (arith, length-take len text) in
     let small : digits_value 10 (take len text) < 10 ^ length (take len text) = digits_value-lt 10 (take len text) (all_digits_of (take len text) h) in
     let least : 0 < 10 = omega arith in
-    let most : length (take len text) ≤ 8 = omega arith in
-    let power : 10 ^ length (take len text) ≤ 10 ^ 8 = pow-le-pow_right {n = 10} least {i = length (take len text)} {j = 8} most in
+    let fits : length (take len text) ≤ most = omega arith in
+    let power : 10 ^ length (take len text) ≤ 10 ^ most = pow-le-pow_right {n = 10} least {i = length (take len text)} {j = most} fits in
     omega arith
 
 -- ---- integers at the front of a text
@@ -55,3 +57,7 @@ signed_front true text first len value e m more l h v =
 pub bool_byte_small : (b : Bool) → bool_byte b ≤ 1
 bool_byte_small true = omega arith
 bool_byte_small false = omega arith
+
+-- a run ends where a blank stands
+pub ends_at_blank : (text : List ℕ) (k : ℕ) → k < length text → is_blank (get_or text k 0) ≡ true → EndsRun (drop k text)
+ends_at_blank text k l b = subst EndsRun (sym (drop_more text k 0 l)) b
