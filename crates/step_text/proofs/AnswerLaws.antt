@@ -2,8 +2,7 @@
 use Rattle.std.proofs.Common.{◌≡◌, ◌≢◌, refl, sym, ap, ◌∙◌, subst, ℕ, ◌+◌, ◌-◌, ◌<◌, ◌≤◌, Bool, true, false, cond, List, [], ◌∷◌, ◌++◌, length, drop, Option, Some, None, Ok, Err, Result, IfSome, option_map, nat_lt, true≢false, arith, append-nil, length-append, length-drop}
 use Rattle.cx_desk.specs.declared.desk.Slot.{Slot}
 use Rattle.cx_desk.specs.Outside.{Told, Outside, left_in}
-use Rattle.cx_desk.specs.Calls.{taken}
-use Rattle.cx_desk.specs.SlotBytes.{BytesState, taken_by, to_come, IsToCome, is_too_long, ReadingStops}
+use Rattle.cx_desk.specs.SlotBytes.{taken_by, to_come, is_too_long, ReadingStops}
 use Rattle.cx_desk.specs.declared.calls.ReadErr.{ReadErr}
 use Rattle.cx_desk.specs.declared.calls.ReadErr.TheVariants as why
 use Rattle.cx_desk.proofs.Moves.{taken-none}
@@ -22,7 +21,7 @@ use Rattle.step_text.specs.Reading.{IsRefusal}
 use Rattle.step_text.specs.Sources.{Gives, GivesNone, FaultsAs, IsTooLongOnly, PlaceRises}
 use Rattle.step_text.specs.Texts.{LeftOf, IsEnding}
 use Rattle.step_text.specs.SlotAnswers.{PairLeaves, IsPastLimit, IsAnswer}
-use Rattle.step_text.specs.Slots.{SlotState, OnlyReads, SlotLeaves, SlotKept, Took, ReadsOn, ReadingFails}
+use Rattle.step_text.specs.Slots.{SlotState, OnlyReads, SlotLeaves, Took, ReadsOn, ReadingFails}
 use Rattle.step_text.specs.SlotLeft.{some_come}
 use Rattle.step_text.proofs.SlotLaws.{kept_then, kept_itself, still_kept, took_then}
 

@@ -1,9 +1,11 @@
+pub mod AheadLaws
 pub mod AnswerLaws
 pub mod Choices
 pub mod Given
 pub mod Places
 pub mod Puts
 pub mod ReadingLaws
+pub mod ShortLaws
 pub mod SlotLaws
 pub mod SlotSteps
 pub mod StepIntegers

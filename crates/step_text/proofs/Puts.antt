@@ -1,7 +1,8 @@
 -- A line is written piece by piece.
-use Rattle.std.proofs.Common.{◌≡◌, refl, sym, ap, ◌∙◌, subst, ℕ, ◌<◌, ℤ, pos, List, [], ◌∷◌, ◌++◌, map, flat_map, length, take, decimal, append_assoc, append-nil, Result, Ok, Err}
+use Rattle.std.proofs.Common.{◌≡◌, refl, sym, ap, ◌∙◌, subst, ℕ, ◌+◌, ◌-◌, ◌<◌, ◌≤◌, ℤ, pos, List, [], ◌∷◌, ◌++◌, map, flat_map, length, take, drop, take-append-drop, arith, decimal, append_assoc, append-nil, Result, Ok, Err}
 use Rattle.std.specs.Fmt.{digits}
 use Rattle.std.proofs.lemmas.Grind.{flat_map-append}
+use Rattle.std.proofs.Math.Seq.{take-add}
 use Rattle.cx_desk.specs.declared.desk.Port.{Port}
 use Rattle.cx_desk.specs.Outside.{Bytes, Outside}
 use Rattle.cx_desk.specs.Calls.{gained, PutFaulted, PutsAll}
@@ -32,6 +33,27 @@ first_fails port a b l old new e h = subst (λ t. Fails port t old new) e (fails
 
 pub two_puts : {T E : Type 0} (port : Port) (a b l : Bytes) (old mid new : Outside) (r : Result T E) → a ++ b ≡ l → mid ≡ gained port a old → PutsAll port b mid r new → PutsAll port l old r new
 two_puts port a b l old mid new r e h k = subst (λ t. PutsAll port t old r new) e (puts_then port a b old mid new r h k)
+
+-- ---- a list in parts
+
+module _ {X : Type 0} (f : X → Bytes) (xs : List X) (done next : ℕ) (port : Port) (old mid new : Outside) (rises : done ≤ next) (before : mid ≡ gained port (flat_map f (take done xs)) old) where
+  part_text : flat_map f (take next xs) ≡ flat_map f (take done xs) ++ flat_map f (take (next - done) (drop done xs))
+  part_text =
+      let e : done + (next - done) ≡ next = omega arith in
+      ap (λ n. flat_map f (take n xs)) (sym e) ∙ ap (flat_map f) (take-add done (next - done) xs) ∙ flat_map-append f (take done xs) (take (next - done) (drop done xs))
+
+  pub part_put : new ≡ gained port (flat_map f (take (next - done) (drop done xs))) mid → new ≡ gained port (flat_map f (take next xs)) old
+  part_put now =
+      now ∙ ap (gained port _) before ∙ gained-twice port (flat_map f (take done xs)) (flat_map f (take (next - done) (drop done xs))) old
+      ∙ ap (λ (t : Bytes). gained port t old) (sym part_text)
+
+  pub part_fails : Fails port (flat_map f (take (next - done) (drop done xs))) mid new → Fails port (flat_map f xs) old new
+  part_fails h =
+      let whole : flat_map f xs ≡ flat_map f (take next xs) ++ flat_map f (drop next xs) = ap (flat_map f) (sym (take-append-drop next xs)) ∙ flat_map-append f (take next xs) (drop next xs) in
+      let split : flat_map f xs ≡ flat_map f (take done xs) ++ (flat_map f (take (next - done) (drop done xs)) ++ flat_map f (drop next xs)) =
+      whole ∙ ap (λ t. t ++ flat_map f (drop next xs)) part_text ∙ append_assoc (flat_map f (take done xs)) (flat_map f (take (next - done) (drop done xs))) (flat_map f (drop next xs)) in
+      subst (λ t. Fails port t old new) (sym split)
+      (fails-within port (flat_map f (take done xs)) (flat_map f (take (next - done) (drop done xs))) (flat_map f (drop next xs)) h.0 old mid new h.1 before h.2)
 
 -- ---- lines
 

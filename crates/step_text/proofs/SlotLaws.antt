@@ -1,13 +1,11 @@
 -- A text that is read from a slot piece by piece stays the same text.
 use Rattle.std.proofs.Common.{◌≡◌, ◌≢◌, refl, sym, ap, ◌∙◌, subst, ℕ, zero, suc, ◌+◌, ◌-◌, ◌<◌, ◌≤◌, Bool, true, false, cond, List, [], ◌∷◌, ◌++◌, length, take, drop, Option, Some, None, Ok, Err, Result, IfSome, option_map, nat_lt, eqb-true, true≢false, arith, append_assoc, append-nil, length-append, length-take, length-drop, take-append-drop, ◌==◌}
 use Rattle.cx_desk.specs.declared.desk.Slot.{Slot}
-use Rattle.cx_desk.specs.declared.desk.Slot.TheVariants.{Formula, Second}
 use Rattle.cx_desk.specs.Outside.{Told, Outside, left_in, started_in}
-use Rattle.cx_desk.specs.Calls.{taken, without_front, ReadFaulted, Came, AtEnd, Passes, Drained, Drains}
-use Rattle.cx_desk.specs.SlotBytes.{BytesState, taken_by, to_come, is_too_long, BytesKept, BytesRead, ReadingStops, RestRead}
+use Rattle.cx_desk.specs.Calls.{taken, ReadFaulted, Passes}
+use Rattle.cx_desk.specs.SlotBytes.{BytesState, taken_by, to_come, BytesKept, BytesRead, ReadingStops, RestRead}
 use Rattle.cx_desk.specs.declared.calls.ReadErr.{ReadErr}
 use Rattle.cx_desk.specs.declared.calls.ReadErr.TheVariants as why
-use Rattle.cx_desk.specs.declared.draining.DrainErr.{DrainErr}
 use Rattle.cx_desk.specs.declared.draining.DrainErr.TheVariants as drained
 use Rattle.cx_desk.proofs.Moves.{taken-twice, taken-none}
 use Rattle.cx_texts.specs.Pieces.{tokens_in}

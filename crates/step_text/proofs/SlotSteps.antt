@@ -1,11 +1,11 @@
 -- A step that stands in whole tokens of the bytes at hand is the next step of the text, whatever follows.
-use Rattle.std.proofs.Common.{◌≡◌, ◌≢◌, refl, sym, ap, ◌∙◌, subst, ℕ, zero, suc, ◌+◌, ◌-◌, ◌<◌, ◌≤◌, Bool, true, false, List, [], ◌∷◌, ◌++◌, map, length, take, drop, Option, Some, None, arith, true≢false, append_assoc, append-nil, length-append, length-take, length-drop, take-append-drop}
+use Rattle.std.proofs.Common.{◌≡◌, ◌≢◌, refl, sym, ap, ◌∙◌, subst, ℕ, zero, suc, ◌+◌, ◌<◌, ◌≤◌, Bool, true, false, List, [], ◌∷◌, ◌++◌, length, take, drop, arith, append_assoc, append-nil, length-append, length-take, take-append-drop}
 use Rattle.std.proofs.lemmas.List.{map-append, drop-append-le, drop_all}
 use Rattle.cx_texts.specs.Tokens.{Token, tokens_within}
-use Rattle.cx_texts.specs.Pieces.{tokens_in, EndsBlank}
+use Rattle.cx_texts.specs.Pieces.{EndsBlank}
 use Rattle.cx_texts.specs.declared.line_state.LineState.TheVariants.{Kept}
 use Rattle.cx_texts.specs.Words.{Placed, words, placed_words, word_of}
-use Rattle.cx_texts.specs.Grammar.{Grammar, IsStep, Begins, Stops, Spells, FirstBad, FirstBig}
+use Rattle.cx_texts.specs.Grammar.{Grammar, IsStep, Spells, FirstBad, FirstBig}
 use Rattle.cx_texts.proofs.Forms.{Forms}
 use Rattle.cx_texts.proofs.Readings.{no_step_of_nothing}
 use Rattle.cx_texts.specs.declared.line_state.EndLines.TheVariants as end_line

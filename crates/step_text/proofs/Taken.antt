@@ -1,7 +1,7 @@
 -- One word that was taken.
-use Rattle.std.proofs.Common.{◌≡◌, ◌≢◌, refl, sym, ap, ◌∙◌, subst, ℕ, zero, suc, ◌≤◌, ◌<◌, ℤ, pos, negsuc, nat_abs, Bool, true, false, cond, nat_le, leb-true, List, [], ◌∷◌, ◌++◌, drop, flat_map, append-nil, Option, Some, to_z, of_z, w64, arith}
+use Rattle.std.proofs.Common.{◌≡◌, ◌≢◌, refl, sym, ap, ◌∙◌, subst, ℕ, zero, suc, ◌≤◌, ◌<◌, ℤ, pos, negsuc, nat_abs, ◌≤ℤ◌, Bool, true, false, cond, nat_le, leb-true, List, [], ◌∷◌, ◌++◌, drop, flat_map, append-nil, Option, Some, to_z, of_z, w64, arith}
 use Rattle.std.specs.List.{AllByRecursion}
-use Rattle.std.proofs.lemmas.Int.{to_z-of_z}
+use Rattle.std.proofs.lemmas.Int.{to_z-of_z, ints}
 use mir.Val.{SFits}
 use Rattle.cx_texts.specs.Tokens.{Token}
 use Rattle.cx_texts.specs.Words.{Word, number, letter, conflict, other, Placed, words, placed_words, word_of, IsWithin}
@@ -11,6 +11,7 @@ use Rattle.step_text.specs.declared.token_word.TokenWord.{TokenWord}
 use Rattle.step_text.specs.declared.token_word.TokenWord.TheVariants.{Zero, Positive, Negative, BigPositive, BigNegative}
 use Rattle.step_text.specs.Seen.{limit, seen}
 use Rattle.step_text.specs.Heads.{seen_head}
+use Rattle.step_text.specs.Short.{TakesNumber}
 use Rattle.step_text.specs.Taking.{AreSmall, Takes}
 
 -- the words that are seen as a word are spelled by the field
@@ -127,3 +128,39 @@ kept_hint n lits z a b t =
     let all = within_words t.front (flat_map spelled (id n ∷ integers lits ∷ integer z ∷ end ∷ [])) t.spells t.within in
     let small = (all_behind (spelled_list lits) (number z ∷ number (pos 0) ∷ []) all.1).0 in
     subst (λ y. Takes (id n ∷ integers lits ∷ integer y ∷ end ∷ []) a b) (sym (read_back z z refl small)) t
+
+-- ---- numbers of a few digits
+
+taken_number : (f : Field) (old : List Token) (z : ℤ) (new : List Token) → TakesNumber old z new → IsProper f → spelled f ≡ number z ∷ [] → Takes (f ∷ []) (placed_words old) (placed_words new)
+taken_number f old z new t proper is = record {
+  front = record { place = t.token.place; word = word_of t.token.text } ∷ [];
+  split = ap placed_words t.split;
+  proper = (proper, tt);
+  spells = append-nil (spelled f) ∙ is ∙ ap (λ w. w ∷ []) (sym t.word);
+  within = (subst (IsWithin limit) (sym t.word) t.small, tt);
+}
+
+pub short_end : (old : List Token) (z : ℤ) (new : List Token) → TakesNumber old z new → of_z w64 z ≡ 0 → Takes (end ∷ []) (placed_words old) (placed_words new)
+short_end old z new t h = taken_number end old z new t tt (ap (λ y. number y ∷ []) (sym (ap (to_z w64) h) ∙ read_back z z refl t.small))
+
+not_zero : (z : ℤ) → (of_z w64 z ≡ 0 → ⊥) → z ≡ pos 0 → ⊥
+not_zero z h e = h (ap (of_z w64) e)
+
+pub short_integer : (old : List Token) (z : ℤ) (new : List Token) → TakesNumber old z new → (of_z w64 z ≡ 0 → ⊥) → Takes (integer (to_z w64 (of_z w64 z)) ∷ []) (placed_words old) (placed_words new)
+short_integer old z new t h = subst (λ y. Takes (integer y ∷ []) (placed_words old) (placed_words new)) (sym (read_back z z refl t.small)) (taken_number (integer z) old z new t (not_zero z h) refl)
+
+by_sign : (old : List Token) (z : ℤ) (new : List Token) → TakesNumber old z new → pos 0 ≤ℤ z → (z ≡ pos 0 → ⊥) → Takes (id (nat_abs z) ∷ []) (placed_words old) (placed_words new)
+by_sign old (pos zero) new t h k = absurd (k refl)
+by_sign old (pos (suc n)) new t h k = taken_number (id (suc n)) old (pos (suc n)) new t (omega arith) refl
+by_sign old (negsuc n) new t h k = absurd (omega (arith, ints))
+
+pub short_listed_id : (old : List Token) (z : ℤ) (new : List Token) → TakesNumber old z new → pos 0 ≤ℤ z → (of_z w64 z ≡ 0 → ⊥) → Takes (id (nat_abs (to_z w64 (of_z w64 z))) ∷ []) (placed_words old) (placed_words new)
+short_listed_id old z new t h k = subst (λ y. Takes (id (nat_abs y) ∷ []) (placed_words old) (placed_words new)) (sym (read_back z z refl t.small)) (by_sign old z new t h (not_zero z k))
+
+above_zero : (z : ℤ) → pos 1 ≤ℤ z → (pos 0 ≤ℤ z) × (z ≡ pos 0 → ⊥)
+above_zero (pos zero) h = absurd (omega (arith, ints))
+above_zero (pos (suc n)) h = (omega (arith, ints), λ e. cc)
+above_zero (negsuc n) h = absurd (omega (arith, ints))
+
+pub short_id : (old : List Token) (z : ℤ) (new : List Token) → TakesNumber old z new → pos 1 ≤ℤ z → Takes (id (nat_abs (to_z w64 (of_z w64 z))) ∷ []) (placed_words old) (placed_words new)
+short_id old z new t h = let k = above_zero z h in subst (λ y. Takes (id (nat_abs y) ∷ []) (placed_words old) (placed_words new)) (sym (read_back z z refl t.small)) (by_sign old z new t k.0 k.1)

@@ -60,6 +60,9 @@ closed_ids ns = closed (ids ns) (map id ns) (all_proper id ns) (ap (λ ws. ws ++
 pub one_more : {T : Type 0} (field : T → Field) (ts : List T) (t : T) (a b c : List Placed) → Takes (map field ts) a b → Takes (field t ∷ []) b c → Takes (map field (ts ++ t ∷ [])) a c
 one_more field ts t a b c x y = subst (λ fs. Takes fs a c) (sym (map-append field ts (t ∷ []))) (takes_append (map field ts) (field t ∷ []) a b c x y)
 
+pub more_integers : (zs more all : List ℤ) (a b c : List Placed) → all ≡ zs ++ more → Takes (map integer zs) a b → Takes (map integer more) b c → Takes (map integer all) a c
+more_integers zs more all a b c e x y = subst (λ fs. Takes fs a c) (sym (ap (map integer) e ∙ map-append integer zs more)) (takes_append (map integer zs) (map integer more) a b c x y)
+
 -- ---- what may follow
 
 remaining-words : (rows : List (List Kind)) (a b : List Placed) (next : List (List Kind)) → remaining rows (words a) ≡ next → remaining rows (words (a ++ b)) ≡ remaining next (words b)

@@ -1,7 +1,7 @@
 -- What the bytes of a text that were read so far say of the next step.
 use Rattle.std.specs.Prelude.{◌≡◌, ◌<◌, ◌≤◌, ◌+◌, ℕ, Bool, true, false, List, [], ◌++◌, length, drop}
 use Rattle.cx_texts.specs.Tokens.{tokens_within}
-use Rattle.cx_texts.specs.Words.{Placed, placed_words}
+use Rattle.cx_texts.specs.Words.{placed_words}
 use Rattle.cx_texts.specs.Grammar.{Grammar, Spells}
 use Rattle.step_text.specs.Reading.{IsRefusal}
 use Rattle.step_text.specs.declared.slot_reader.Found.{Found}

@@ -1,4 +1,3 @@
-pub mod Ahead
 pub mod ReadRefusals
 pub mod Found
 pub mod Heads
@@ -10,6 +9,7 @@ pub mod SlotAnswers
 pub mod SlotLeft
 pub mod Slots
 pub mod Sources
+pub mod Short
 pub mod Spaced
 pub mod Taking
 pub mod Texts

@@ -1,5 +1,5 @@
 -- What is left of a text of steps that is read from a desk's slot, piece by piece.
-use Rattle.std.specs.Prelude.{◌≡◌, ◌≤◌, ◌+◌, ℕ, Bool, true, false, List, ◌++◌, length, Option, Some, Result, Ok, Err}
+use Rattle.std.specs.Prelude.{◌≡◌, ◌≤◌, ◌+◌, ℕ, true, false, List, ◌++◌, length, Option, Some, Result, Ok, Err}
 use Rattle.cx_desk.specs.declared.desk.Slot.{Slot}
 use Rattle.cx_desk.specs.Outside.{Bytes, Outside}
 use Rattle.cx_desk.specs.Calls.{taken, ReadFaulted, AtEnd}

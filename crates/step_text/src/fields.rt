@@ -19,8 +19,9 @@ pub struct Named {
     pub literals: IntList,
 }
 
-/// An id.
-pub fn take_id(tokens: &mut TokensAhead, size: usize) -> Result<u64, TextRefusal>
+/// An id of any spelling.
+#[inline(never)]
+fn take_any_id(tokens: &mut TokensAhead, size: usize) -> Result<u64, TextRefusal>
     ensures { TakesOne id an_id size (placed_words tokens.old) result (placed_words tokens.new) }
 {
     match tokens.word() {
@@ -33,6 +34,16 @@ pub fn take_id(tokens: &mut TokensAhead, size: usize) -> Result<u64, TextRefusal
             TokenWord::BigPositive => Err(TextRefusal::TooBig(seen.place)),
             _ => Err(TextRefusal::BadToken(seen.place)),
         },
+    }
+}
+
+/// An id.
+pub fn take_id(tokens: &mut TokensAhead, size: usize) -> Result<u64, TextRefusal>
+    ensures { TakesOne id an_id size (placed_words tokens.old) result (placed_words tokens.new) }
+{
+    match tokens.take_short(1) {
+        Some(number) => Ok(number as u64),
+        None => take_any_id(tokens, size),
     }
 }
 
@@ -90,6 +101,7 @@ pub fn take_end(tokens: &mut TokensAhead, size: usize) -> Result<(), TextRefusal
 }
 
 /// A member of a list of integers, or none at the zero that ends it.
+#[inline(never)]
 fn take_listed_integer(tokens: &mut TokensAhead, size: usize) -> Result<Option<i64>, TextRefusal>
     ensures taken { TakesMember integer some_integers size (placed_words tokens.old) result (placed_words tokens.new) }
     ensures falls { IfOk result (λ _. length tokens.new < length tokens.old) }
@@ -116,8 +128,9 @@ fn take_listed_integer(tokens: &mut TokensAhead, size: usize) -> Result<Option<i
     }
 }
 
-/// A member of a list of ids, or none at the zero that ends it.
-fn take_listed_id(tokens: &mut TokensAhead, size: usize) -> Result<Option<u64>, TextRefusal>
+/// A member of any spelling of a list of ids, or none at the zero that ends it.
+#[inline(never)]
+fn take_any_listed_id(tokens: &mut TokensAhead, size: usize) -> Result<Option<u64>, TextRefusal>
     ensures taken { TakesMember id some_ids size (placed_words tokens.old) result (placed_words tokens.new) }
     ensures falls { IfOk result (λ _. length tokens.new < length tokens.old) }
 {
@@ -135,6 +148,24 @@ fn take_listed_id(tokens: &mut TokensAhead, size: usize) -> Result<Option<u64>, 
             TokenWord::BigPositive => Err(TextRefusal::TooBig(seen.place)),
             _ => Err(TextRefusal::BadToken(seen.place)),
         },
+    }
+}
+
+/// A member of a list of ids, or none at the zero that ends it.
+#[inline(always)]
+fn take_listed_id(tokens: &mut TokensAhead, size: usize) -> Result<Option<u64>, TextRefusal>
+    ensures taken { TakesMember id some_ids size (placed_words tokens.old) result (placed_words tokens.new) }
+    ensures falls { IfOk result (λ _. length tokens.new < length tokens.old) }
+{
+    match tokens.take_short(0) {
+        Some(number) => {
+            if number == 0 {
+                Ok(None)
+            } else {
+                Ok(Some(number as u64))
+            }
+        }
+        None => take_any_listed_id(tokens, size),
     }
 }
 
@@ -161,6 +192,11 @@ pub fn take_integers(
 {
     let mut members = few(alloc)?;
     loop {
+        match tokens.take_shorts(&mut members) {
+            Ok(true) => return Ok(IntList::from_vec(members)),
+            Ok(false) => {}
+            Err(_) => return Err(TextRefusal::Memory),
+        }
         match take_listed_integer(tokens, size) {
             Ok(Some(integer)) => match members.push(integer) {
                 Ok(()) => {}

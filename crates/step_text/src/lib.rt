@@ -4,7 +4,9 @@
 pub mod ahead;
 pub mod fields;
 mod grammar;
+mod lay_out;
 pub mod pieces;
+mod short_integer;
 mod sink;
 mod slot_reader;
 mod slot_text;

@@ -1,9 +1,10 @@
 //! Pieces of a printed line, which printers of steps are made of.
-ghost use Rattle.std.specs.Prelude.{◌≡◌, [], ◌∷◌, ◌++◌, flat_map, decimal};
+ghost use Rattle.std.specs.Prelude.{◌≡◌, ◌≤◌, [], ◌∷◌, length, ◌++◌, flat_map, decimal};
 ghost use Rattle.cx_desk.specs.Calls.{PutsAll};
 ghost use Rattle.cx_texts.specs.Grammar.{spelled, ids, integers};
 ghost use Rattle.step_text.specs.Spaced.{spaced, spaced_integer, spaced_id};
 
+use crate::lay_out::{LONGEST, lay_out_integers};
 use cx_desk::{Desk, Failed, Port, put_all, put_pieces};
 use itoa::Buffer;
 
@@ -36,12 +37,28 @@ pub fn put_integer<D: Desk>(
     put_pieces(desk, port, &[b" ", text.as_bytes(), after])
 }
 
+/// The most integers that are written in one piece.
+const AT_ONCE: usize = 16;
+
+/// A few integers, each behind a space, in one piece.
+fn put_few_integers<D: Desk>(desk: &mut D, port: Port, members: &[i64]) -> Result<(), Failed>
+    requires { length members.now ≤ AT_ONCE }
+    ensures { PutsAll port (flat_map spaced_integer members.now) (D.outside desk.old) result (D.outside desk.new) }
+{
+    let mut sheet = [0; AT_ONCE * LONGEST];
+    let begin = lay_out_integers(members, &mut sheet, AT_ONCE * LONGEST);
+    put_all(desk, port, &sheet[begin..])
+}
+
 /// Integers, each behind a space.
 fn put_each_integer<D: Desk>(desk: &mut D, port: Port, members: &[i64]) -> Result<(), Failed>
     ensures { PutsAll port (flat_map spaced_integer members.now) (D.outside desk.old) result (D.outside desk.new) }
 {
-    for member in members {
-        put_integer(desk, port, *member, b"")?;
+    let mut done = 0;
+    while done < members.len() {
+        let next = members.len().min(done + AT_ONCE);
+        put_few_integers(desk, port, &members[done..next])?;
+        done = next;
     }
     Ok(())
 }

@@ -1,5 +1,5 @@
-use Rattle.step_text.proofs.Taken.{taken, id_fills}
+use Rattle.step_text.proofs.Taken.{short_id}
 use Rattle.step_text.proofs.fields.take_id.Goals as goal
 
-pub returns-in-Positive : goal.returns-in-Positive
-returns-in-Positive c = taken c.args.tokens.now c.pass.new.self c.word.result c.in-Some.seen _ _ c.in-Some.is c.word.ensures c.in-Positive.is c.pass.ensures (id_fills c.in-Positive.number)
+pub returns-in-Some : goal.returns-in-Some
+returns-in-Some c = short_id c.args.tokens.now c.in-Some.number c.take_short.new.self c.in-Some.ensures.1 c.in-Some.ensures.0

@@ -1,8 +1,8 @@
-use Rattle.step_text.proofs.Taken.{taken, id_fills, zero_fills}
+use Rattle.step_text.proofs.Taken.{short_end, short_listed_id}
 use Rattle.step_text.proofs.fields.take_listed_id.Goals as goal
 
-pub returns-in-Zero-clause-taken : goal.returns-in-Zero-clause-taken
-returns-in-Zero-clause-taken c = taken c.args.tokens.now c.pass.new.self c.word.result c.in-Some.seen _ _ c.in-Some.is c.word.ensures c.in-Zero.is c.pass.ensures zero_fills
+pub returns-then-number-eq0-clause-taken : goal.returns-then-number-eq0-clause-taken
+returns-then-number-eq0-clause-taken c = short_end c.args.tokens.now c.in-Some.number c.take_short.new.self c.in-Some.ensures.1 c.if-number-eq0.true
 
-pub returns-in-Positive-clause-taken : goal.returns-in-Positive-clause-taken
-returns-in-Positive-clause-taken c = taken c.args.tokens.now c.pass-in-Positive.new.self c.word.result c.in-Some.seen _ _ c.in-Some.is c.word.ensures c.in-Positive.is c.pass-in-Positive.ensures (id_fills c.in-Positive.number)
+pub returns-else-number-eq0-clause-taken : goal.returns-else-number-eq0-clause-taken
+returns-else-number-eq0-clause-taken c = short_listed_id c.args.tokens.now c.in-Some.number c.take_short.new.self c.in-Some.ensures.1 c.in-Some.ensures.0 c.if-number-eq0.false

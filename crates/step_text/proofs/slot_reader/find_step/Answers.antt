@@ -1,4 +1,4 @@
-use Rattle.std.proofs.Common.{◌≡◌, ◌≢◌, ◌∙◌, refl, sym, ap, subst, ℕ, ◌<◌, ◌≤◌, ◌+◌, Bool, true, false, List, [], length, take, arith, rules}
+use Rattle.std.proofs.Common.{◌≡◌, ◌≢◌, refl, ◌+◌, true, List, [], rules}
 use Rattle.cx_texts.specs.Tokens.{Token}
 use Rattle.step_text.proofs.SlotSteps.{LooksAt, found_step, refusal_stays, some_bytes}
 use Rattle.step_text.proofs.slot_reader.find_step.Goals as goal

@@ -1,7 +1,6 @@
 use Rattle.std.proofs.Common.{◌≡◌, ◌∙◌, sym, ap, subst, ◌≤◌, Err, arith}
 use Rattle.cx_desk.specs.SlotBytes.{taken_by}
 use Rattle.step_text.specs.Slots.{SlotState, ReadsOn, ReadingFails}
-use Rattle.step_text.specs.SlotAnswers.{IsAnswer}
 use Rattle.step_text.proofs.AnswerLaws.{answer_then, failed_answer}
 use Rattle.step_text.proofs.SlotLaws.{reads_itself, reads_then, started_still}
 use Rattle.step_text.proofs.slot_reader.SlotReader.find.Goals as goal

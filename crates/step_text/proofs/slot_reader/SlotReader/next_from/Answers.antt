@@ -1,4 +1,4 @@
-use Rattle.std.proofs.Common.{◌≡◌, ◌∙◌, refl, sym, ap, Some}
+use Rattle.std.proofs.Common.{◌∙◌, refl, sym, ap}
 use Rattle.step_text.specs.Slots.{SlotState}
 use Rattle.step_text.proofs.AnswerLaws.{stuck_gives, refused_gives}
 use Rattle.step_text.proofs.slot_reader.SlotReader.next_from.Goals as goal

@@ -1,5 +1,4 @@
-use Rattle.std.proofs.Common.{◌≡◌, sym, subst}
-use Rattle.cx_desk.specs.SlotBytes.{BytesState, ReadingStops}
+use Rattle.std.proofs.Common.{subst}
 use Rattle.step_text.specs.Slots.{SlotState, ReadsOn, ReadingFails}
 use Rattle.step_text.proofs.SlotLaws.{reads_on}
 use Rattle.step_text.proofs.slot_reader.SlotReader.read_twice.Goals as goal

@@ -1,10 +1,10 @@
-use Rattle.std.proofs.Common.{◌≡◌, ◌≢◌, ◌∙◌, refl, sym, ap, subst, ℕ, ◌-◌, ◌≤◌, Bool, List, [], length, Ok, Err, None, Some, arith}
+use Rattle.std.proofs.Common.{◌≡◌, ◌≢◌, ◌∙◌, sym, ap, subst, ℕ, Bool, List, [], Err, None}
 use Rattle.cx_texts.specs.declared.line_state.LineState.TheVariants.{Kept}
 use Rattle.step_text.specs.Slots.{SlotState}
 use Rattle.step_text.specs.SlotAnswers.{IsAnswer}
 use Rattle.step_text.specs.Found.{IsFound}
 use Rattle.step_text.specs.declared.slot_reader.Found.TheVariants.{Refused}
-use Rattle.step_text.proofs.AnswerLaws.{step_answer, end_answer, refusal_answer}
+use Rattle.step_text.proofs.AnswerLaws.{refusal_answer}
 use Rattle.step_text.proofs.slot_reader.SlotReader.take_found.Goals as goal
 
 pub returns-in-Refused : goal.returns-in-Refused

@@ -1,5 +1,4 @@
 use Rattle.std.proofs.Common.{refl}
-use Rattle.step_text.specs.Slots.{SlotFrame}
 use Rattle.step_text.proofs.AnswerLaws.{only_read}
 use Rattle.step_text.proofs.slot_text.SlotTextStepSource.next_step.Goals as goal
 
