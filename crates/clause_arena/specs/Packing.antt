@@ -1,11 +1,11 @@
 -- The live ones of the first clauses, one behind the other.
-use Rattle.std.specs.Prelude.{ℕ, ◌≡◌, ◌<◌, ◌≤◌, List, length, get_or, map, take, drop, Option, None, IsSome}
+use Rattle.std.specs.Prelude.{ℕ, ◌≡◌, ◌<◌, ◌≤◌, List, length, ◌∷◌, get_or, take, drop, Option, None, IsSome}
 use Rattle.cx_base.specs.Literals.{Literal}
 use Rattle.cx_base.specs.declared.moved.Move.{Move}
 use Rattle.cx_base.specs.Moved.{move_at}
 use Rattle.clause_arena.specs.declared.head.Head.{Head}
 use Rattle.clause_arena.specs.Clauses.{Stored}
-use Rattle.clause_arena.specs.Heads.{stored, AreInOrder, AreHeads}
+use Rattle.clause_arena.specs.Heads.{clauses_from, RiseTo, AreHeads}
 
 abbrev pub kept_at : List (Option Stored) → ℕ → Option Stored
 kept_at clauses r = get_or clauses r None
@@ -20,13 +20,18 @@ pub record IsPacked (old : List (Option Stored)) (n : ℕ) (new : List (Option S
   pub live : (i : ℕ) → i < length moves → IsSome (kept_at old (move_at moves i).old)
   pub all : (r : ℕ) → r < n → IsSome (kept_at old r) → (i : ℕ) × (i < length moves) × ((move_at moves i).old ≡ r)
 
--- the first n clauses of an arena are packed into the first heads and the first so many literals, and what stands behind is as it was
-pub record IsPackedUpTo (lits₀ : List Literal) (heads₀ : List Head) (n used : ℕ) (lits : List Literal) (heads : List Head) (moves : List Move) : Type 0 where
-  pub packed : IsPacked (map (stored lits₀) heads₀) n (map (stored (take used lits)) (take (length moves) heads)) moves
-  pub front : AreHeads (take used lits) (take (length moves) heads)
+-- the first n clauses of an arena, whose literals end at place start, are packed into the first heads and the first so many literals,
+-- and what stands behind is as it was
+pub record IsPackedUpTo (lits₀ : List Literal) (ends₀ : List ℕ) (heads₀ : List Head) (n start used : ℕ) (lits : List Literal) (ends : List ℕ) (heads : List Head) (moves : List Move) : Type 0 where
+  pub packed : IsPacked (clauses_from 0 lits₀ ends₀ heads₀) n (clauses_from 0 (take used lits) (take (length moves) ends) (take (length moves) heads)) moves
+  pub front : AreHeads (take used lits) (take (length moves) ends) (take (length moves) heads)
   pub count : length moves ≤ n
-  pub order : AreInOrder used (drop n heads₀) (length lits₀)
+  pub begins : start ≡ get_or (0 ∷ ends₀) n 0
+  pub down : used ≤ start
+  pub order : RiseTo start (drop n ends₀) (length lits₀)
+  pub later_ends : drop n ends ≡ drop n ends₀
   pub later_heads : drop n heads ≡ drop n heads₀
   pub later_lits : drop used lits ≡ drop used lits₀
+  pub many_ends : length ends ≡ length ends₀
   pub many_heads : length heads ≡ length heads₀
   pub many_lits : length lits ≡ length lits₀

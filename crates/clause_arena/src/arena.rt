@@ -1,8 +1,9 @@
 //! The arena.
-ghost use Rattle.std.specs.Prelude.{◌≡◌, ◌+◌, ◌-◌, ◌<◌, ◌≤◌, ◌^◌, ◌++◌, ◌∷◌, [], ◌↔◌, length, map, None, Some, slice_set, MatchResult, IfOk, OnOk, OnErr, IsOk, IsTrue, min};
-ghost use Rattle.clause_arena.specs.Clauses.{Stored, ArenaState, clause_at, literals_at, id_at, lbd_at, learned_at, IsLive};
-ghost use Rattle.std.specs.Prelude.{vec_len, vec_capacity, take};
+ghost use Rattle.std.specs.Prelude.{◌≡◌, ◌+◌, ◌-◌, ◌<◌, ◌≤◌, ◌^◌, ◌++◌, ◌∷◌, [], ◌↔◌, length, None, Some, slice_index, slice_set, IfOk, OnOk, OnErr, IsOk, IsTrue, min};
+ghost use Rattle.clause_arena.specs.Clauses.{ArenaState, literals_at, id_at, lbd_at, learned_at, IsLive};
+ghost use Rattle.std.specs.Prelude.{vec_len, vec_capacity};
 ghost use Rattle.clause_arena.specs.Compact.{IsRenamed};
+ghost use Rattle.clause_arena.specs.Heads.{part_at, RiseTo};
 
 use crate::head::Head;
 use crate::packing::pack;
@@ -16,27 +17,47 @@ pub const MAX_CLAUSES: usize = 2_147_483_647;
 /// Clauses by references.
 ///
 /// All literals stand one behind the other in one vector. A clause that is removed keeps its place, and its reference is not handed out again.
+/// Propagation asks for literals alone, so where they end stands apart from what else is known of a clause.
 #[derive(Drop)]
 pub struct Arena {
+    /// Where the literals of each clause end. They begin where those of the clause before end.
+    ends: Vec<usize>,
     heads: Vec<Head>,
     lits: Vec<Lit>,
 }
 
 impl Model for Arena {
-    ghost use Rattle.std.specs.Prelude.{map, ◌-◌, ◌^◌, min, vec_capacity, vec_len};
+    ghost use Rattle.std.specs.Prelude.{◌-◌, ◌^◌, min, vec_capacity, vec_len};
     ghost use Rattle.clause_arena.specs.Clauses.{ArenaState};
 
     ghost Value = { ArenaState };
 
-    ghost use Rattle.clause_arena.specs.Heads.{stored, AreHeads};
+    ghost use Rattle.clause_arena.specs.Heads.{clauses_from, AreHeads};
 
     ghost view = { λ a. record {
-      clauses = map (stored a.lits.items) a.heads.items;
-      clause_room = min (vec_capacity a.heads) (2 ^ 31 - 1) - vec_len a.heads;
+      clauses = clauses_from 0 a.lits.items a.ends.items a.heads.items;
+      clause_room = min (min (vec_capacity a.ends) (vec_capacity a.heads)) (2 ^ 31 - 1) - vec_len a.heads;
       literal_room = vec_capacity a.lits - vec_len a.lits;
     } };
 
-    ghost invariant = { λ a. AreHeads a.lits.items a.heads.items };
+    ghost invariant = { λ a. AreHeads a.lits.items a.ends.items a.heads.items };
+}
+
+// Where the literals of the clause at a place begin.
+fn start(ends: &[usize], place: usize) -> usize
+    requires { place ≤ length ends.now }
+    ensures { result ≡ slice_index (0 ∷ ends.now) place }
+{
+    if place == 0 { 0 } else { ends[place - 1] }
+}
+
+// The literals of the clause at a place.
+fn part<'a>(lits: &'a [Lit], ends: &[usize], place: usize) -> &'a [Lit]
+    requires place { place < length ends.now }
+    requires order { RiseTo 0 ends.now (length lits.now) }
+    ensures { result.now ≡ part_at lits.now ends.now place }
+{
+    &lits[start(ends, place)..ends[place]]
 }
 
 // Appends literals for which there is room.
@@ -50,28 +71,17 @@ fn append(into: &mut Vec<Lit>, lits: &[Lit])
     }
 }
 
-// Makes room for one more, where it is missing: the vector grows by half, so that an element costs constant time.
-fn make_room_for_heads(heads: &mut Vec<Head>) -> Result<(), AllocError>
-    ensures items { heads.new.items ≡ heads.old.items }
-    ensures room { OnOk result (vec_len heads.new < vec_capacity heads.new) }
-    ensures kept { vec_len heads.old < vec_capacity heads.old → IsOk result × (vec_capacity heads.new ≡ vec_capacity heads.old) }
+// Makes room for so many more, where it is missing: the vector grows by half or more, so that an element costs constant time.
+fn make_room<T>(items: &mut Vec<T>, more: usize) -> Result<(), AllocError>
+    ensures items { items.new.items ≡ items.old.items }
+    ensures room { OnOk result (vec_len items.new + more ≤ vec_capacity items.new) }
+    ensures grows { vec_capacity items.old ≤ vec_capacity items.new }
+    ensures kept { vec_len items.old + more ≤ vec_capacity items.old → IsOk result × (vec_capacity items.new ≡ vec_capacity items.old) }
 {
-    if heads.len() < heads.capacity() {
+    if more <= items.capacity() - items.len() {
         return Ok(());
     }
-    heads.reserve_exact((heads.len() / 2).max(4))
-}
-
-// Makes room for so many literals more, where it is missing: the vector grows by half or more.
-fn make_room_for_lits(lits: &mut Vec<Lit>, more: usize) -> Result<(), AllocError>
-    ensures items { lits.new.items ≡ lits.old.items }
-    ensures room { OnOk result (vec_len lits.new + more ≤ vec_capacity lits.new) }
-    ensures kept { vec_len lits.old + more ≤ vec_capacity lits.old → IsOk result × (vec_capacity lits.new ≡ vec_capacity lits.old) }
-{
-    if more <= lits.capacity() - lits.len() {
-        return Ok(());
-    }
-    lits.reserve_exact((lits.len() / 2).max(more))
+    items.reserve_exact((items.len() / 2).max(more))
 }
 
 impl Arena {
@@ -80,6 +90,7 @@ impl Arena {
         ensures { result.clauses ≡ [] }
     {
         Arena {
+            ends: Vec::new(alloc),
             heads: Vec::new(alloc),
             lits: Vec::new(alloc),
         }
@@ -113,8 +124,7 @@ impl Arena {
         requires { IsLive self.now reference }
         ensures { result.now ≡ literals_at self.now reference }
     {
-        let head = self.heads[reference.place() as usize];
-        &self.lits[head.start..head.start + head.len]
+        part(&self.lits, &self.ends, reference.place() as usize)
     }
 
     /// The id.
@@ -150,6 +160,7 @@ impl Arena {
         if clauses > MAX_CLAUSES - self.heads.len() {
             return Err(AllocError);
         }
+        self.ends.reserve(clauses)?;
         self.heads.reserve(clauses)?;
         self.lits.reserve(lits)
     }
@@ -174,13 +185,12 @@ impl Arena {
         if place >= MAX_CLAUSES {
             return Err(AllocError);
         }
-        make_room_for_heads(&mut self.heads)?;
-        make_room_for_lits(&mut self.lits, lits.len())?;
-        let start = self.lits.len();
+        make_room(&mut self.ends, 1)?;
+        make_room(&mut self.heads, 1)?;
+        make_room(&mut self.lits, lits.len())?;
         append(&mut self.lits, lits);
+        self.ends.push_reserved(self.lits.len());
         self.heads.push_reserved(Head {
-            start,
-            len: lits.len(),
             id,
             lbd,
             learned,
@@ -208,7 +218,7 @@ impl Arena {
     {
         // all memory is taken before a clause is moved
         let mut moves = Vec::with_capacity(*self.heads.allocator(), self.heads.len())?;
-        pack(&mut self.heads, &mut self.lits, &mut moves);
+        pack(&mut self.ends, &mut self.heads, &mut self.lits, &mut moves);
         Ok(Moved::from_vec(moves))
     }
 }
