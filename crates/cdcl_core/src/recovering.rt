@@ -46,7 +46,7 @@ fn add_parity(
 fn parities(alloc: Global, formula: &Formula) -> Result<Vec<LitList>, AllocError>
     ensures { IfOk result (λ p. p.items ≡ parities_of formula.now.constraints) }
 {
-    let mut parities = Vec::new(alloc);
+    let mut parities = Vec::with_capacity(alloc, formula.parity_count())?;
     for place in 0..formula.len() {
         add_parity(alloc, formula, place, &mut parities)?;
     }
@@ -101,6 +101,7 @@ pub(crate) fn all_parities<L: Sink<Item = LogEvent>>(
     let _vars = log.formula.vars();
     let finds = recover(log.alloc, log.formula)?.into_vec();
     let mut parities = parities(log.alloc, log.formula)?;
+    parities.reserve_exact(finds.len())?;
     for place in 0..finds.len() {
         tell_find(log, &finds[place], &mut parities)?;
     }

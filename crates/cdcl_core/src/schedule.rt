@@ -13,7 +13,7 @@ use clause_arena::Arena;
 use conflict_learn::CoreFault;
 use cx_base::{ClauseRef, LogEvent, RefList};
 use parity_engine::ParityEngine;
-use search_policy::{Card, choose_removed, restart_due};
+use search_policy::{Card, choose_removed_in_place, restart_due};
 use std::alloc::{AllocError, Global};
 use step_text::Sink;
 
@@ -42,9 +42,10 @@ fn card_of(arena: &Arena, reference: ClauseRef) -> Option<Card> {
     })
 }
 
-/// The cards of the learned clauses. They are made anew for each reduction, so none names a clause by an old reference.
-fn cards_of(alloc: Global, arena: &Arena) -> Result<Vec<Card>, AllocError> {
-    let mut cards = Vec::new(alloc);
+/// The cards of the learned clauses, of which there are so many, as a rule: so they take just the memory that they need. They are made
+/// anew for each reduction, so none names a clause by an old reference.
+fn cards_of(alloc: Global, arena: &Arena, learned: u64) -> Result<Vec<Card>, AllocError> {
+    let mut cards = Vec::with_capacity(alloc, learned as usize)?;
     for place in 0..arena.len() {
         if let Some(card) = card_of(arena, ClauseRef::new(place as u32)) {
             cards.push(card)?;
@@ -80,9 +81,9 @@ impl Schedule {
 }
 
 /// The learned clauses that a reduction removes.
-fn choose(alloc: Global, arena: &Arena) -> Result<RefList, AllocError> {
-    let cards = cards_of(alloc, arena)?;
-    choose_removed(alloc, &cards)
+fn choose(alloc: Global, state: &SearchState) -> Result<RefList, AllocError> {
+    let cards = cards_of(alloc, &state.arena, state.learned)?;
+    choose_removed_in_place(alloc, cards)
 }
 
 /// Whether so many learned clauses are there that some go: 2000, and 500 more for each reduction before.
@@ -109,7 +110,7 @@ fn reduce_where_many<P: ParityEngine, L: Sink<Item = LogEvent>>(
     if !has_units(state) || !are_many(state) {
         return Ok(());
     }
-    let chosen = choose(log.alloc, &state.arena)?;
+    let chosen = choose(log.alloc, state)?;
     reduce(log, state, engine, chosen.as_slice())?;
     compact(state)?;
     Ok(())

@@ -2,7 +2,7 @@
 
 use cx_base::{ClauseRef, Var};
 use cx_trail::Trail;
-use search_policy::{Card, Order, choose_removed, luby, restart_due};
+use search_policy::{Card, Order, choose_removed, choose_removed_in_place, luby, restart_due};
 use std::test::Fail;
 
 const FIRST_NUMBERS: [u64; 15] = [1, 1, 2, 1, 1, 2, 4, 1, 1, 2, 1, 1, 2, 4, 8];
@@ -66,13 +66,13 @@ fn half_of_those_with_many_levels_go(rt: HostRuntime) -> Result<(), Fail> {
 fn clauses_of_the_formula_stay(rt: HostRuntime) -> Result<(), Fail> {
     let mut given = card(1, 9, false);
     given.learned = false;
-    let cards = [
+    let cards = vec![in rt.alloc();
         given,
         card(2, 8, false),
         card(3, 7, false),
         card(4, 6, false),
-    ];
-    let removed = choose_removed(rt.alloc(), &cards)?;
+    ]?;
+    let removed = choose_removed_in_place(rt.alloc(), cards)?;
     assert_eq!(rt; removed.as_slice(), [ClauseRef::new(12)].as_slice());
     Ok(())
 }

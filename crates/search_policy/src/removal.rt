@@ -29,15 +29,11 @@ impl Card {
     }
 }
 
-// The cards of the clauses that may be removed.
-fn candidates(alloc: Global, cards: &[Card]) -> Result<Vec<Card>, AllocError>
-    ensures { IfOk result (λ v. v.items ≡ filter may_go cards.now) }
+// Keeps the cards of the clauses that may be removed.
+fn keep_candidates(cards: &mut Vec<Card>)
+    ensures { cards.new.items ≡ filter may_go cards.old.items }
 {
-    cards
-        .iter()
-        .filter(|card| card.may_go())
-        .copied()
-        .collect(alloc)
+    cards.retain(|card| card.may_go());
 }
 
 // Puts those first that go first.
@@ -60,7 +56,16 @@ fn references(alloc: Global, cards: &[Card]) -> Result<Vec<ClauseRef>, AllocErro
 pub fn choose_removed(alloc: Global, cards: &[Card]) -> Result<RefList, AllocError>
     ensures { IfOk result (λ removed. IsRemoval cards.now removed) }
 {
-    let mut order = candidates(alloc, cards)?;
+    choose_removed_in_place(alloc, cards.to_vec(alloc)?)
+}
+
+/// As `choose_removed`, of cards that are not needed any more: they are sorted where they stand, and memory is taken
+/// for the references alone.
+pub fn choose_removed_in_place(alloc: Global, cards: Vec<Card>) -> Result<RefList, AllocError>
+    ensures { IfOk result (λ removed. IsRemoval cards.items removed) }
+{
+    let mut order = cards;
+    keep_candidates(&mut order);
     sort(&mut order);
     let removed = references(alloc, &order[..order.len() / 2])?;
     Ok(RefList::from_vec(removed))

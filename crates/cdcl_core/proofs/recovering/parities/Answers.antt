@@ -5,7 +5,7 @@ use Rattle.cdcl_core.proofs.OriginalLaws.{no_parity}
 use Rattle.cdcl_core.proofs.recovering.parities.Goals as goal
 
 pub loop-place-init : goal.loop-place-init
-loop-place-init c = c.new-parities.ensures.items ∙ no_parity c.args.formula.now.constraints
+loop-place-init c = c.in_ok-parities.ensures.items ∙ no_parity c.args.formula.now.constraints
 
 pub returns : goal.returns
 returns c =
