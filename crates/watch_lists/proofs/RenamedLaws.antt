@@ -198,7 +198,7 @@ lists_renamed moves held attached new_held new_attached count p k n h =
     let inside = clause_in (clause_of n) new_attached h in
     let o = p.only (clause_of n) (omega (arith, inside, p.count)) h in
     let was = was_node moves held attached new_held n o.0 o.2 o.3 (p.kept o.0 (clause_of n) o.1 o.2 o.3).1 in
-    subst (λ (l : Literal). (code_of l < count) × (code_of l ≢ 0)) (sym was.literal) (k was.node was.at)
+    subst (λ (l : Literal). code_of l < count) (sym was.literal) (k was.node was.at)
 
 -- ---- a compacted arena
 pub lowered : (a b : ArenaState) (moves : List Move) → IsRenamed a b moves → AreLowered moves

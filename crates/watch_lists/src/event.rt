@@ -28,17 +28,16 @@ pub(crate) fn propagate(
     arena: &Arena,
     trail: &mut Trail,
 ) -> Event
-    requires rest { IsRest trail.old.variables nodes.old.held.items nodes.old.attached.items lists.old.lists arena.now }
+    requires rest { IsRest trail.old.variables lists.old.held nodes.old.attached.items lists.old.lists arena.now }
     requires top { length looked.old.items ≡ trail.old.level + 1 }
     requires behind { IsBehind looked.old.items trail.old }
-    requires guarded { AreGuarded looked.old.items nodes.old.held.items nodes.old.attached.items trail.old.entries }
+    requires guarded { AreGuarded looked.old.items lists.old.held nodes.old.attached.items trail.old.entries }
     ensures attached { nodes.new.attached.items ≡ nodes.old.attached.items }
     ensures top { length looked.new.items ≡ length looked.old.items }
-    ensures rest { IsRest trail.old.variables nodes.new.held.items nodes.old.attached.items lists.new.lists arena.now }
+    ensures rest { IsRest trail.old.variables lists.new.held nodes.old.attached.items lists.new.lists arena.now }
     ensures behind { IsBehind looked.new.items trail.new }
-    ensures guarded { AreGuarded looked.new.items nodes.new.held.items nodes.old.attached.items trail.new.entries }
+    ensures guarded { AreGuarded looked.new.items lists.new.held nodes.old.attached.items trail.new.entries }
     ensures propagates { Propagates nodes.old.attached.items arena.now trail.old trail.new }
-    ensures nodes { lists.new.nodes ≡ lists.old.nodes }
     ensures room { vec_capacity looked.new ≡ vec_capacity looked.old }
     ensures happens { Happens nodes.old.attached.items arena.now trail.new result }
 {

@@ -11,40 +11,34 @@ use crate::nodes::Nodes;
 fn link_one(nodes: &Nodes, lists: &mut NodeLists, place: u32)
     requires room { place < length nodes.now.attached.items }
     requires small { 2 * place + 1 < 2 ^ 32 }
-    requires pairs { length nodes.now.held.items ≡ 2 * length nodes.now.attached.items }
-    requires linked { length nodes.now.held.items ≤ lists.old.nodes }
-    requires codes { HaveLists nodes.now.held.items nodes.now.attached.items (length lists.old.lists) }
-    requires listed { AreListed nodes.now.held.items (take place nodes.now.attached.items) lists.old.lists }
+    requires pairs { length lists.old.held ≡ 2 * length nodes.now.attached.items }
+    requires codes { HaveLists lists.old.held nodes.now.attached.items (length lists.old.lists) }
+    requires listed { AreListed lists.old.held (take place nodes.now.attached.items) lists.old.lists }
     requires alone { HaveAttached (take place nodes.now.attached.items) lists.old.lists }
-    requires none { list_at lists.old.lists 0 ≡ [] }
-    ensures listed { AreListed nodes.now.held.items (take (place + 1) nodes.now.attached.items) lists.new.lists }
+    ensures listed { AreListed lists.old.held (take (place + 1) nodes.now.attached.items) lists.new.lists }
     ensures alone { HaveAttached (take (place + 1) nodes.now.attached.items) lists.new.lists }
-    ensures none { list_at lists.new.lists 0 ≡ [] }
     ensures size { length lists.new.lists ≡ length lists.old.lists }
-    ensures nodes { lists.new.nodes ≡ lists.old.nodes }
+    ensures held { lists.new.held ≡ lists.old.held }
 {
-    let at = place as usize;
-    if !nodes.attached[at] {
+    if !nodes.attached[place as usize] {
         return;
     }
-    let first = nodes.held[2 * at];
-    let second = nodes.held[2 * at + 1];
+    let first = lists.watched(2 * place);
+    let second = lists.watched(2 * place + 1);
     lists.link(2 * place, first.code());
     lists.link(2 * place + 1, second.code());
 }
 
 // Lists the nodes of attached clauses, where the lists are empty.
 pub(crate) fn link_all(nodes: &Nodes, lists: &mut NodeLists)
-    requires pairs { length nodes.now.held.items ≡ 2 * length nodes.now.attached.items }
-    requires linked { length nodes.now.held.items ≤ lists.old.nodes }
-    requires few { lists.old.nodes < 2 ^ 32 }
-    requires codes { HaveLists nodes.now.held.items nodes.now.attached.items (length lists.old.lists) }
+    requires pairs { length lists.old.held ≡ 2 * length nodes.now.attached.items }
+    requires few { length lists.old.held < 2 ^ 32 }
+    requires codes { HaveLists lists.old.held nodes.now.attached.items (length lists.old.lists) }
     requires cleared { (l : ℕ) → list_at lists.old.lists l ≡ [] }
-    ensures listed { AreListed nodes.now.held.items nodes.now.attached.items lists.new.lists }
+    ensures listed { AreListed lists.old.held nodes.now.attached.items lists.new.lists }
     ensures alone { HaveAttached nodes.now.attached.items lists.new.lists }
-    ensures none { list_at lists.new.lists 0 ≡ [] }
     ensures size { length lists.new.lists ≡ length lists.old.lists }
-    ensures nodes { lists.new.nodes ≡ lists.old.nodes }
+    ensures held { lists.new.held ≡ lists.old.held }
 {
     let count = nodes.attached.len();
     'all: for at in 0..count {

@@ -2,7 +2,7 @@
 ghost use Rattle.std.specs.Prelude.{◌≡◌, ◌≢◌, ◌<◌, ◌≤◌, ℕ, length, MatchOption, MatchBool};
 ghost use Rattle.std.specs.List.{All, Contains};
 ghost use Rattle.cx_base.specs.Literals.{Literal};
-ghost use Rattle.cx_trail.specs.Sequence.{IsTrail, IsFalseIn};
+ghost use Rattle.cx_trail.specs.Sequence.{IsTrail, IsTrueIn, IsFalseIn};
 ghost use Rattle.clause_arena.specs.Clauses.{IsLive, literals_at};
 ghost use Rattle.watch_lists.specs.Truths.{AreOthersFalse, IsFinding};
 ghost use Rattle.watch_lists.specs.Places.{IsFreeAt};
@@ -15,13 +15,13 @@ use cx_trail::{Trail, Truth};
 /// What a look at a clause finds.
 #[derive(Clone, Copy, Drop)]
 pub(crate) enum Finding {
-    Satisfied,
     Free(Lit),
-    Unit(Lit),
+    Unit,
     Falsified,
 }
 
 // Whether the literal is not false and not `other`.
+#[inline(always)]
 fn is_free(trail: &Trail, lit: Lit, other: Lit) -> bool
     requires { lit.variable ≤ trail.now.variables }
     ensures { MatchBool result ((lit ≢ other) × (IsFalseIn trail.now.entries lit → ⊥)) (lit ≢ other → IsFalseIn trail.now.entries lit) }
@@ -37,6 +37,7 @@ fn is_free(trail: &Trail, lit: Lit, other: Lit) -> bool
 }
 
 // The place of a literal that is not false and not `other`.
+#[inline(always)]
 fn find(lits: &[Lit], trail: &Trail, other: Lit) -> Option<usize>
     requires { All (λ l. (1 ≤ l.variable) × (l.variable ≤ trail.now.variables)) lits.now }
     ensures { MatchOption result (AreOthersFalse trail.now.entries lits.now other) (λ place. IsFreeAt trail.now.entries lits.now other place) }
@@ -81,6 +82,7 @@ fn free_literal_of_long(
 }
 
 // A literal of a clause that is not false and not `other`.
+#[inline(always)]
 fn free_literal(
     lits: &[Lit],
     trail: &Trail,
@@ -99,7 +101,8 @@ fn free_literal(
     Some(lits[place])
 }
 
-// What the clause is, where `other` is one of its literals. Where that is true the arena is not read.
+// What the clause is, where `other` is one of its literals and not true.
+#[inline(always)]
 pub(crate) fn look(
     arena: &Arena,
     reference: ClauseRef,
@@ -110,22 +113,18 @@ pub(crate) fn look(
     requires live { IsLive arena.now reference }
     requires within { All (λ l. (1 ≤ l.variable) × (l.variable ≤ trail.now.variables)) (literals_at arena.now reference) }
     requires inside { Contains (literals_at arena.now reference) other }
+    requires unmet { IsTrueIn trail.now.entries other → ⊥ }
     ensures finds { IsFinding trail.now.entries (literals_at arena.now reference) other result }
     ensures sound { IsTrail trail.now }
 {
-    match trail.truth(other) {
-        Truth::True => Finding::Satisfied,
-        Truth::False => {
-            match free_literal(arena.lits(reference), trail, other, reference, starts) {
-                Some(lit) => Finding::Free(lit),
-                None => Finding::Falsified,
-            }
-        }
-        Truth::Open => {
-            match free_literal(arena.lits(reference), trail, other, reference, starts) {
-                Some(lit) => Finding::Free(lit),
-                None => Finding::Unit(other),
-            }
-        }
+    // the trail is sound, which this call tells the proof
+    let _count = trail.len();
+    match free_literal(arena.lits(reference), trail, other, reference, starts) {
+        Some(lit) => Finding::Free(lit),
+        None => match trail.truth(other) {
+            Truth::True => Finding::Unit,
+            Truth::Open => Finding::Unit,
+            Truth::False => Finding::Falsified,
+        },
     }
 }

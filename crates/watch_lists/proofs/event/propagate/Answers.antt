@@ -41,14 +41,13 @@ ahead-preserved c =
     let in_u : head < length u.entries = omega (arith, ap length p.grown, length-append c.ahead.trail.entries p.more) in
     let same : entry_at u.entries head ≡ entry_at c.ahead.trail.entries head = ap (λ (xs : List Entry). entry_at xs head) p.grown ∙ entry_kept c.ahead.trail.entries p.more head in_t in
     let ea : c.negate.result ≡ negate (entry_at u.entries head).literal = c.negate.ensures ∙ ap (λ (x : Entry). negate x.literal) (c.entry-entry.ensures.is ∙ sym same) in
-    let passed = subst (λ (b : List Bool). AllPassed c.walk_list.new.nodes.held.items b u c.negate.result) i.attached c.in-None.ensures.walked in
+    let passed = subst (λ (b : List Bool). AllPassed c.walk_list.new.lists.held b u c.negate.result) i.attached c.in-None.ensures.walked in
     let ok = c.len-count.ensures.sound in
     let b = behind_further looked attached c.args.arena.now c.ahead.trail u p i.behind in
     record {
       attached = c.in-None.ensures.attached ∙ i.attached;
       top = length-set looked top (head + 1) ∙ i.top;
       rest = rest_same _ _ _ attached _ _ _ i.propagates.variables i.attached c.in-None.ensures.rest;
-      nodes = c.in-None.ensures.nodes ∙ i.nodes;
       room = i.room;
       behind = advance_behind looked u top head ok b et el in_u;
       guarded = advance_guarded looked _ attached u top head c.negate.result ok et el eh ea passed (g.guarded looked i.behind i.guarded);

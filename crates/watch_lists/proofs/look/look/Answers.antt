@@ -5,8 +5,8 @@ use Rattle.cx_base.proofs.LiteralLaws.{same_or_other}
 use Rattle.cx_trail.specs.Sequence.{IsFalseIn}
 use Rattle.watch_lists.proofs.look.look.Goals as goal
 
-pub returns-in-None-clause-finds : goal.returns-in-None-clause-finds
-returns-in-None-clause-finds c = λ m h. ⊎_elim
+pub returns-in-False-clause-finds : goal.returns-in-False-clause-finds
+returns-in-False-clause-finds c = λ m h. ⊎_elim
     (λ (e : m ≡ c.args.other). subst (λ (x : Literal). IsFalseIn c.args.trail.now.entries x) (sym e) c.in-False.ensures.means)
     (λ (ne : m ≢ c.args.other). c.in-None.ensures m (subst (λ (xs : List Literal). Contains xs m) (sym c.lits.ensures) h) ne)
     (same_or_other m c.args.other)

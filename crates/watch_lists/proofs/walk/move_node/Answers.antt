@@ -1,0 +1,7 @@
+use Rattle.std.proofs.Common.{ℕ, List, subst}
+use Rattle.std.specs.List.{Contains}
+use Rattle.watch_lists.specs.Lists.{list_at}
+use Rattle.watch_lists.proofs.walk.move_node.Goals as goal
+
+pub link-requires-clause-free : goal.link-requires-clause-free
+link-requires-clause-free c l h = c.unlink-shorter.ensures.free l (subst (λ (xs : List (List ℕ)). Contains (list_at xs l) c.args.cursor.current) c.watch.ensures.lists h)
