@@ -1,10 +1,11 @@
 -- Words taken several at a time.
-use Rattle.std.proofs.Common.{◌≡◌, ℕ, ◌+◌, ◌-◌, ◌*◌, ◌/◌, ◌%◌, ◌^◌, ◌<◌, ◌≤◌, zero, suc, Bool, true, false, not, ◌&&◌, List, [], ◌∷◌, map, length, get_or, refl, sym, ap, ◌∙◌, subst, count_by, w64, arith, Option, inl, inr}
+use Rattle.std.proofs.Common.{◌≡◌, ℕ, ◌+◌, ◌-◌, ◌*◌, ◌/◌, ◌%◌, ◌^◌, ◌<◌, ◌≤◌, zero, suc, Bool, true, false, not, ◌&&◌, List, [], ◌∷◌, map, length, get_or, refl, sym, ap, ◌∙◌, subst, count_by, Fits, w64, arith, Option, inl, inr}
 use Rattle.std.specs.Int.{bit_not}
 use Rattle.std.specs.Int.RustNames.{count_ones, bit_xor, bit_or}
 use Rattle.std.specs.Prelude.{bit_and}
 use Rattle.std.specs.List.{range_with_len}
-use Rattle.std.specs.Simd.Lanes.{zip2, chunk, put_chunk, fold_l, sum_l}
+use Rattle.std.specs.Simd.Lanes.{zip2, chunk, put_chunk, fold_l, sum_l, Each1}
+use Rattle.std.proofs.Math.Facts.{Fits-xor}
 use Rattle.std.specs.Slice.Scan.{HoldsNowhere}
 use Rattle.std.proofs.Math.Seq.{drop-cons}
 use Rattle.std.proofs.lemmas.Nat.{le_or_l, le_or_r, ones-le}
@@ -65,6 +66,11 @@ parity-reduced s (x ∷ xs) =
     parity-reduced (bit_xor s x) xs ∙ ap (λ b. differ b (odd_sum (map parity_of xs))) (parity_of-differ s x)
     ∙ differ_assoc (parity_of s) (parity_of x) (odd_sum (map parity_of xs))
 
+-- the lanes' sum is a word
+pub reduced_lt : (s : ℕ) (xs : List ℕ) → Fits w64 s → Each1 (Fits w64) xs → Fits w64 (fold_l bit_xor s xs)
+reduced_lt s [] small each = small
+reduced_lt s (x ∷ xs) small each = reduced_lt (bit_xor s x) xs (Fits-xor small each.0) each.1
+
 pub products_block : (a b : List ℕ) (i n : ℕ) → i + n ≤ length a → length a ≡ length b
     → products_upto a b (64 * (i + n)) ≡ differ (products_upto a b (64 * i)) (odd_sum (map parity_of (zip2 bit_and (chunk i n a) (chunk i n b))))
 products_block a b i zero room alike = let e : i + 0 ≡ i = omega arith in rw e (sym (differ_false (products_upto a b (64 * i))))
@@ -112,11 +118,11 @@ no_and true true h c = cc
 no_and true false h c = refl
 no_and false b h c = refl
 
-pub nothing_in_block : (row mask : List ℕ) (skip : Option ℕ) (i n : ℕ) → i + n ≤ length row → length row ≡ length mask
+pub nothing_in_block : (row mask : List ℕ) (skip : Option ℕ) (from i n : ℕ) → i + n ≤ length row → length row ≡ length mask
     → ((k : ℕ) → get_or mask k 0 < 2 ^ 64)
     → fold_l bit_or 0 (zip2 bit_and (chunk i n row) (map (bit_not w64) (chunk i n mask))) ≡ 0
-    → HoldsNowhere (is_outside row mask skip) 0 (64 * i) → HoldsNowhere (is_outside row mask skip) 0 (64 * (i + n))
-nothing_in_block row mask skip i n room alike small none before k low high =
+    → HoldsNowhere (is_outside row mask skip) from (64 * i) → HoldsNowhere (is_outside row mask skip) from (64 * (i + n))
+nothing_in_block row mask skip from i n room alike small none before k low high =
     elim (cases_lt k (64 * i)) [
       | inl lt ↦ before k low lt
       | inr ge ↦

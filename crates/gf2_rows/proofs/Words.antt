@@ -1,5 +1,5 @@
 -- Bits of words and of packed rows.
-use Rattle.std.proofs.Common.{◌≡◌, ℕ, ◌+◌, ◌-◌, ◌*◌, ◌/◌, ◌%◌, ◌^◌, ◌<◌, ◌≤◌, zero, suc, Bool, true, false, cond, not, ◌&&◌, eqb, List, [], ◌∷◌, ◌++◌, map, length, get_or, set, Option, refl, sym, ap, ◌∙◌, subst, count_by, w64, arith, min, inl, inr}
+use Rattle.std.proofs.Common.{◌≡◌, ℕ, ◌+◌, ◌-◌, ◌*◌, ◌/◌, ◌%◌, ◌^◌, ◌<◌, ◌≤◌, zero, suc, Bool, true, false, cond, not, ◌&&◌, eqb, List, [], ◌∷◌, ◌++◌, map, take, drop, length, get_or, set, Option, refl, sym, ap, ◌∙◌, subst, count_by, w64, arith, min, inl, inr}
 use mathlib.Core.Bool.{beq}
 use Rattle.std.specs.Int.{bit_at, bit_not, trailing_zeros}
 use Rattle.std.specs.Slice.Scan.{HoldsNowhere, IsFirstPlace}
@@ -11,8 +11,8 @@ use Rattle.std.proofs.lemmas.Nat.Bits.{bit_at_xor, bit_at_and, bit_at-lt, bit_at
 use Rattle.std.proofs.lemmas.Simd.{zip2-map, get_or-zip2, ones-mask_l, bit_mask_l, mask_l-lt}
 use Rattle.std.proofs.lemmas.List.Sums.{sum_by-cons, sum_by-append}
 use Rattle.std.proofs.lemmas.List.FromFn.{get_or-map-range_with_len, length-map-range_with_len}
-use Rattle.std.proofs.lemmas.List.{map-append, ext_get_or, get_or-set_same, get_or-set_other}
-use Rattle.std.proofs.Math.ListN.{length-set, get_or-eq_default}
+use Rattle.std.proofs.lemmas.List.{length-append, length-take, take-append-drop, map-append, ext_get_or, get_or-append-add, get_or-set_same, get_or-set_other}
+use Rattle.std.proofs.Math.ListN.{length-set, get_or-append, get_or-eq_default}
 use Rattle.std.proofs.Math.Nat.{mod-eq_of_lt}
 use Rattle.std.proofs.Math.Pow.{pow-lt}
 use Rattle.std.proofs.lemmas.Bool.{eq-eqb, ne_eqb, cases_eq, cases_lt}
@@ -381,6 +381,12 @@ module _ (words : List ℕ) (k : ℕ) (within : k < 64 * length words) where
   flipped = rw (one_bit (k % 64) (omega arith)) turned_bits
 
 -- ---- a bit put
+pub differ-beq : (a b : Bool) → not (beq a b) ≡ differ a b
+differ-beq true true = refl
+differ-beq true false = refl
+differ-beq false true = refl
+differ-beq false false = refl
+
 pub not_same : (a b : Bool) → not (beq a b) ≡ true → not a ≡ b
 not_same true true h = cc
 not_same true false h = refl
@@ -404,3 +410,53 @@ bits_turned old new k b same within e j =
                 get_or-set_other (bits_of old) k j b false ne ∙ get_or-bits old j lt ∙ sym (ap (λ x. cond x b (bit_of old j)) (ne_eqb j k ne))
           ]
     ]
+
+-- ---- rows one behind the other
+bits_in_front : (xs ys : List ℕ) (k : ℕ) → k < 64 * length xs → bit_of (xs ++ ys) k ≡ bit_of xs k
+bits_in_front xs ys k lt = ap (λ w. word_bit w (k % 64)) (get_or-append xs ys 0 (k / 64) (omega arith))
+
+bits_behind : (xs ys : List ℕ) (j : ℕ) → bit_of (xs ++ ys) (64 * length xs + j) ≡ bit_of ys j
+bits_behind xs ys j =
+    let q : (64 * length xs + j) / 64 ≡ length xs + j / 64 = omega arith in
+    let r : (64 * length xs + j) % 64 ≡ j % 64 = omega arith in
+    rw (q, r) (ap (λ w. word_bit w (j % 64)) (get_or-append-add xs ys (j / 64) 0))
+
+pub bits-append : (xs ys : List ℕ) → bits_of (xs ++ ys) ≡ bits_of xs ++ bits_of ys
+unfolding bits_of
+bits-append xs ys =
+    let n : ℕ = 64 * length xs in
+    let m : ℕ = 64 * length ys in
+    let e : 64 * length (xs ++ ys) ≡ n + m = omega (arith, length-append xs ys) in
+    let z : 0 + n ≡ n + 0 = omega arith in
+    ap (λ k. map (bit_of (xs ++ ys)) (range_with_len 0 k)) e ∙ ap (map (bit_of (xs ++ ys))) (range_split 0 n m) ∙ map-append (bit_of (xs ++ ys)) (range_with_len 0 n) (range_with_len (0 + n) m)
+    ∙ ap (λ bs. bs ++ map (bit_of (xs ++ ys)) (range_with_len (0 + n) m)) (range_same (bit_of (xs ++ ys)) (bit_of xs) 0 n (λ k low high. bits_in_front xs ys k (omega arith)))
+    ∙ ap (λ k. bits_of xs ++ map (bit_of (xs ++ ys)) (range_with_len k m)) z
+    ∙ ap (λ bs. bits_of xs ++ bs) (range_shift (bit_of (xs ++ ys)) n 0 m ∙ range_same (λ j. bit_of (xs ++ ys) (n + j)) (bit_of ys) 0 m (λ j low high. bits_behind xs ys j))
+
+pub zip2-append : {A B C : Type 0} (f : A → B → C) (ps qs : List A) (xs ys : List B) → length ps ≡ length xs → zip2 f (ps ++ qs) (xs ++ ys) ≡ zip2 f ps xs ++ zip2 f qs ys
+zip2-append f [] qs [] ys alike = refl
+zip2-append f [] qs (x ∷ xs) ys alike = absurd (omega arith)
+zip2-append f (p ∷ ps) qs [] ys alike = absurd (omega arith)
+zip2-append f (p ∷ ps) qs (x ∷ xs) ys alike = ap (λ zs. f p x ∷ zs) (zip2-append f ps qs xs ys (omega arith))
+
+-- positions of two rows taken together, of the first n words and of the others
+bits_in_two : (f : Bool → Bool → Bool) (n : ℕ) (xs ys : List ℕ) → length xs ≡ length ys
+    → zip2 f (bits_of xs) (bits_of ys) ≡ zip2 f (bits_of (take n xs)) (bits_of (take n ys)) ++ zip2 f (bits_of (drop n xs)) (bits_of (drop n ys))
+bits_in_two f n xs ys alike =
+    let long : length (bits_of (take n xs)) ≡ length (bits_of (take n ys)) = omega (arith, length-bits (take n xs), length-bits (take n ys), length-take n xs, length-take n ys) in
+    ap (λ zs. zip2 f (bits_of zs) (bits_of ys)) (sym (take-append-drop n xs)) ∙ ap (λ zs. zip2 f (bits_of (take n xs ++ drop n xs)) (bits_of zs)) (sym (take-append-drop n ys))
+    ∙ ap (λ bs. zip2 f bs (bits_of (take n ys ++ drop n ys))) (bits-append (take n xs) (drop n xs))
+    ∙ ap (zip2 f (bits_of (take n xs) ++ bits_of (drop n xs))) (bits-append (take n ys) (drop n ys))
+    ∙ zip2-append f (bits_of (take n xs)) (bits_of (drop n xs)) (bits_of (take n ys)) (bits_of (drop n ys)) long
+
+pub sums_in_two : (n : ℕ) (row other front back : List ℕ) → length row ≡ length other
+    → bits_of front ≡ zip2 differ (bits_of (take n row)) (bits_of (take n other)) → bits_of back ≡ zip2 differ (bits_of (drop n row)) (bits_of (drop n other))
+    → bits_of (front ++ back) ≡ zip2 differ (bits_of row) (bits_of other)
+sums_in_two n row other front back alike first rest =
+    bits-append front back ∙ ap (λ bs. bs ++ bits_of back) first ∙ ap (λ bs. zip2 differ (bits_of (take n row)) (bits_of (take n other)) ++ bs) rest
+    ∙ sym (bits_in_two differ n row other alike)
+
+pub products_in_two : (n : ℕ) (a b : List ℕ) → length a ≡ length b
+    → differ (odd_sum (zip2 ◌&&◌ (bits_of (take n a)) (bits_of (take n b)))) (odd_sum (zip2 ◌&&◌ (bits_of (drop n a)) (bits_of (drop n b)))) ≡ odd_sum (zip2 ◌&&◌ (bits_of a) (bits_of b))
+products_in_two n a b alike =
+    sym (parity-append (zip2 ◌&&◌ (bits_of (take n a)) (bits_of (take n b))) (zip2 ◌&&◌ (bits_of (drop n a)) (bits_of (drop n b)))) ∙ ap odd_sum (sym (bits_in_two ◌&&◌ n a b alike))

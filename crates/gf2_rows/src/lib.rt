@@ -10,7 +10,7 @@ pub mod plain;
 mod position;
 mod scan;
 
-pub use lanes::{add_into, first_outside, parity_and};
+pub use lanes::{add_into, first_outside, outside_near, parity_and};
 pub use plain::ones;
 pub use position::{bit, flip, put};
 pub use scan::next_one;

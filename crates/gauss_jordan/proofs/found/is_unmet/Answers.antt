@@ -1,7 +1,7 @@
 use Rattle.std.proofs.Common.{◌∙◌, sym, ap}
 use Rattle.cx_base.specs.Literals.{differ}
 use Rattle.gf2_matrix.specs.Content.{row_at}
-use Rattle.gf2_matrix.proofs.Rows.{differ-beq}
+use Rattle.gf2_rows.proofs.Words.{differ-beq}
 use Rattle.gauss_jordan.proofs.found.is_unmet.Goals as goal
 
 pub returns : goal.returns

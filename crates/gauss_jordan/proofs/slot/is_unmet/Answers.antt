@@ -1,7 +1,7 @@
 use Rattle.std.proofs.Common.{◌≡◌, ◌∙◌, ◌&&◌, Bool, None, sym, ap, get_or}
 use Rattle.cx_base.specs.Literals.{differ}
 use Rattle.gf2_rows.specs.Bits.{bit_of}
-use Rattle.gf2_matrix.proofs.Rows.{differ-beq}
+use Rattle.gf2_rows.proofs.Words.{differ-beq}
 use Rattle.gauss_jordan.specs.Slots.{value_or_false}
 use Rattle.gauss_jordan.proofs.Copies.{sum_more}
 use Rattle.gauss_jordan.proofs.slot.is_unmet.Goals as goal

@@ -1,39 +1,11 @@
-use Rattle.std.proofs.Common.{◌≡◌, ◌*◌, ◌/◌, ◌+◌, ◌∙◌, ap, sym, arith, length, ℕ, List, map}
-use Rattle.std.specs.Prelude.{bit_and}
-use Rattle.std.specs.Int.RustNames.{bit_xor}
-use Rattle.std.specs.Simd.Lanes.{zip2, chunk}
-use Rattle.std.proofs.lemmas.Simd.{length-zip2, length-chunk}
-use Rattle.cx_base.specs.Literals.{differ}
-use Rattle.cx_base.specs.Parity.{odd_sum}
-use Rattle.gf2_rows.proofs.Words.{parity_of, parity_of-zero, products_more, products_of_rows, parity_of-ones, products_upto}
-use Rattle.gf2_rows.proofs.Blocks.{parity-lanes, parity-reduced, products_block}
+use Rattle.std.proofs.Common.{◌/◌, ◌*◌, ◌∙◌, length}
+use Rattle.gf2_rows.proofs.Words.{differ-beq, products_in_two}
 use Rattle.gf2_rows.proofs.lanes.parity_and.Goals as goal
-
-pub loop-block-preserved : goal.loop-block-preserved
-loop-block-preserved c =
-    let at : ℕ = 8 * c.loop-block.block in
-    let e : 8 * (c.loop-block.block + 1) ≡ at + 8 = omega arith in
-    let ws : List ℕ = zip2 bit_and (chunk at 8 c.args.a.now) (chunk at 8 c.args.b.now) in
-    let longa : length (chunk at 8 c.args.a.now) ≡ 8 = length-chunk at 8 c.args.a.now (omega arith) in
-    let longb : length (chunk at 8 c.args.b.now) ≡ 8 = length-chunk at 8 c.args.b.now (omega arith) in
-    let long : length ws ≡ 8 = length-zip2 bit_and (chunk at 8 c.args.a.now) (chunk at 8 c.args.b.now) (longa ∙ sym longb) ∙ longa in (
-      length-zip2 bit_xor c.loop-block.sums ws (c.loop-block.invariant.0 ∙ sym long) ∙ c.loop-block.invariant.0,
-      parity-lanes c.loop-block.sums ws (c.loop-block.invariant.0 ∙ sym long)
-          ∙ ap (λ x. differ x (odd_sum (map parity_of ws))) c.loop-block.invariant.1
-          ∙ sym (products_block c.args.a.now c.args.b.now at 8 (omega arith) c.requires)
-          ∙ ap (λ n. products_upto c.args.a.now c.args.b.now (64 * n)) (sym e),
-    )
-
-pub loop-i-init : goal.loop-i-init
-loop-i-init c =
-    let e : 8 * c.loop-block.block ≡ 8 * (length c.args.a.now / 8) = omega arith in
-    parity-reduced 0 c.loop-block.sums ∙ ap (λ x. differ x (odd_sum (map parity_of c.loop-block.sums))) parity_of-zero ∙ c.loop-block.invariant.1
-    ∙ ap (λ n. products_upto c.args.a.now c.args.b.now (64 * n)) e
-
-pub loop-i-preserved : goal.loop-i-preserved
-loop-i-preserved c = products_more c.args.a.now c.args.b.now c.loop-i.i c.loop-i.sum c.loop-i.invariant
 
 pub returns : goal.returns
 returns c =
-    sym (parity_of-ones c.loop-i.sum c.loop-i.auto.sum-fits.fits) ∙ c.loop-i.invariant
-    ∙ products_of_rows c.args.a.now c.args.b.now c.loop-i.i (omega arith) c.requires
+    let a = c.split_at.ensures in
+    let b = c.split_at-2.ensures in
+    let first = rw (a.front, b.front) at c.parity_of_blocks.ensures in
+    let rest = rw (a.back, b.back) at c.parity_and.ensures in
+    differ-beq c.parity_of_blocks.result c.parity_and.result ∙ rw (first, rest) (products_in_two (length c.args.a.now / 8 * 8) c.args.a.now c.args.b.now c.requires)
