@@ -105,7 +105,7 @@ fn empty_sets(alloc: Global, part: &Part) -> Result<Vec<RowSet>, AllocError>
     ensures sized { IfOk result (λ sets. AreSized (words_for (length part.now.numbers.items)) sets.items) }
     ensures clear { IfOk result (λ sets. AreClear sets.items) }
 {
-    let mut sets = Vec::new(alloc);
+    let mut sets = Vec::with_capacity(alloc, part.columns.len())?;
     for _ in 0..part.columns.len() {
         sets.push(RowSet {
             words: clear_words(alloc, part.numbers.len())?,
@@ -143,7 +143,7 @@ pub(crate) fn by_columns(
     requires rows { (p : ℕ) → p < length parts.now → HaveRows (window_at (map window parts.now) p) rows.now }
     ensures { IfOk result (λ sets. AreByColumn (map window parts.now) rows.now sets.items (length parts.now)) }
 {
-    let mut all = Vec::new(alloc);
+    let mut all = Vec::with_capacity(alloc, parts.len())?;
     for p in 0..parts.len() {
         all.push(by_column(alloc, &parts[p], rows)?)?;
     }

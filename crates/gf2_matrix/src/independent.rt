@@ -8,35 +8,12 @@ ghost use Rattle.parity_engine.specs.Written.{AreRising};
 ghost use Rattle.gf2_matrix.specs.Content.{HasOwnColumn, IsOfGiven, has, row_at};
 ghost use Rattle.gf2_matrix.specs.Enough.{SayAll, SayFirst, kept};
 
-use crate::labels::{homes_of, labels_of};
-use crate::make::{occurring_variables, parts_of};
 use crate::matrix::Matrix;
 use cx_base::{LitList, MAX_VARIABLE, ParityList};
 use std::alloc::{AllocError, Global};
 
-/// A part may have so many parities beyond twice its columns before some are left out.
-const SLACK: usize = 256;
-
 /// At least so many parities are looked at together.
 const BATCH: usize = 2048;
-
-/// Whether some part has far more parities than columns.
-pub(crate) fn is_crowded(alloc: Global, vars: u32, parities: &[LitList]) -> Result<bool, AllocError>
-    requires few { vars ≤ MAX_VARIABLE }
-    requires within { AllByRecursion (AreWithin vars) parities.now }
-    requires few_parities { length parities.now < 4294967296 }
-{
-    let occurring = occurring_variables(alloc, vars, parities)?;
-    let labels = labels_of(alloc, &occurring, parities)?;
-    let homes = homes_of(alloc, &occurring, &labels, parities)?;
-    let (parts, _) = parts_of(alloc, &occurring, &labels, &homes)?;
-    for part in &parts {
-        if (part.numbers.len() / 2).saturating_sub(SLACK) > part.columns.len() {
-            return Ok(true);
-        }
-    }
-    Ok(false)
-}
 
 /// The numbers, from 1 and rising, of parities that say what all of them say.
 ///
@@ -100,7 +77,7 @@ pub(crate) fn chosen_of(
     requires { AreRising 1 (length parities.now) numbers.now }
     ensures { IfOk result (λ chosen. chosen ≡ numbered parities.now numbers.now) }
 {
-    let mut chosen = Vec::new(alloc);
+    let mut chosen = Vec::with_capacity(alloc, numbers.len())?;
     for number in numbers {
         let parity = &parities[*number as usize - 1];
         chosen.push(LitList::from_vec(parity.as_slice().to_vec(alloc)?))?;

@@ -8,6 +8,8 @@
 #![tactic(auto)]
 
 mod by_column;
+mod crowded;
+mod flat;
 mod independent;
 mod labels;
 mod make;
