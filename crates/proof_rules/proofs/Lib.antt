@@ -7,6 +7,7 @@ pub mod ExclusionLaws
 pub mod ClausesParity
 pub mod StepIntegers
 pub mod ContentLaws
+pub mod PageLaws
 pub mod PlaceLaws
 pub mod MarkLaws
 pub mod VariableLaws

@@ -42,15 +42,6 @@ look-from (suc i) q n (Some v ∷ xs) es h =
 pub look-places : {V : Type 0} (q : ℕ) (xs : List (Option V)) (es : List (ℕ × V)) → look q (entries_of xs ++ es) ≡ option_or (get_or xs q None) (look q es)
 look-places q xs es = look-from q q 0 xs es (omega arith)
 
--- an empty place more is no entry more
-entries_from-empty : {V : Type 0} (n : ℕ) (xs : List (Option V)) → entries_from n (xs ++ None ∷ []) ≡ entries_from n xs
-entries_from-empty n [] = refl
-entries_from-empty n (None ∷ xs) = entries_from-empty (suc n) xs
-entries_from-empty n (Some v ∷ xs) = ap (λ es. (n, v) ∷ es) (entries_from-empty (suc n) xs)
-
-pub entries_of-empty : {V : Type 0} (xs : List (Option V)) → entries_of (xs ++ None ∷ []) ≡ entries_of xs
-entries_of-empty xs = entries_from-empty 0 xs
-
 -- The answers after a change at one id: at that id the new ones, and at each other the old ones.
 pub look-changed : {V : Type 0} (k : ℕ) (o : Option V) (xs ys : List (Option V)) (es fs : List (ℕ × V))
     → option_or (get_or ys k None) (look k fs) ≡ o
@@ -104,17 +95,18 @@ look-removed k xs es fs h =
     (λ q apart. other-answer k q None es fs (h q) apart)
 
 -- the numbers of the places that are taken, as a loop gathers them
-pub keys_of-place : {V : Type 0} (b : Bool) (xs : List (Option V)) (n : ℕ) (ids all : List ℕ) → n < length xs → b ≡ is_some (get_or xs n None)
-    → ids ++ keys_of (entries_from n (drop n xs)) ≡ all
-    → cond b (ids ++ n ∷ []) ids ++ keys_of (entries_from (n + 1) (drop (n + 1) xs)) ≡ all
-keys_of-place {V} b xs n ids all h e before =
+pub keys_of-place : {V : Type 0} (b : Bool) (xs : List (Option V)) (m n : ℕ) (ids all : List ℕ) → n < length xs → b ≡ is_some (get_or xs n None)
+    → ids ++ keys_of (entries_from m (drop n xs)) ≡ all
+    → cond b (ids ++ m ∷ []) ids ++ keys_of (entries_from (m + 1) (drop (n + 1) xs)) ≡ all
+keys_of-place {V} b xs m n ids all h e before =
+    let later : m + 1 ≡ suc m = omega arith in
     let next : n + 1 ≡ suc n = omega arith in
-    (λ i. cond (e i) (ids ++ n ∷ []) ids ++ keys_of (entries_from (next i) (drop (next i) xs)))
-    ∙ by (get_or xs n None) ∙ (λ i. ids ++ keys_of (entries_from n (sym (drop-cons xs n None h) i))) ∙ before
+    (λ i. cond (e i) (ids ++ m ∷ []) ids ++ keys_of (entries_from (later i) (drop (next i) xs)))
+    ∙ by (get_or xs n None) ∙ (λ i. ids ++ keys_of (entries_from m (sym (drop-cons xs n None h) i))) ∙ before
   where
-    by : (o : Option V) → cond (is_some o) (ids ++ n ∷ []) ids ++ keys_of (entries_from (suc n) (drop (suc n) xs)) ≡ ids ++ keys_of (entries_from n (o ∷ drop (suc n) xs))
+    by : (o : Option V) → cond (is_some o) (ids ++ m ∷ []) ids ++ keys_of (entries_from (suc m) (drop (suc n) xs)) ≡ ids ++ keys_of (entries_from m (o ∷ drop (suc n) xs))
     by None = refl
-    by (Some v) = append_assoc ids (n ∷ []) (keys_of (entries_from (suc n) (drop (suc n) xs)))
+    by (Some v) = append_assoc ids (m ∷ []) (keys_of (entries_from (suc m) (drop (suc n) xs)))
 
 either : {V : Type 0} (a b : Option V) → is_some (option_or a b) ≡ (is_some a || is_some b)
 either None b = refl

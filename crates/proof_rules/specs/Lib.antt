@@ -1,5 +1,6 @@
 pub mod Judges
 pub mod Kinds
+pub mod StoredLists
 pub mod Sums
 pub mod LiteralSets
 pub mod Ends

@@ -1,5 +1,5 @@
 -- Small ids, as places of a list.
-use Rattle.std.specs.Prelude.{◌≡◌, ℕ, suc, List, [], ◌∷◌, Option, None, Some}
+use Rattle.std.specs.Prelude.{◌≡◌, ◌<◌, ℕ, suc, List, [], ◌∷◌, ◌++◌, Option, None, Some, length, replicate, take}
 use Rattle.std.specs.List.{list_any}
 use Rattle.std.specs.Ordering.{nat_cmp, eq_by_cmp}
 use Rattle.std.specs.FinMap as map
@@ -13,6 +13,25 @@ entries_from n (Some v ∷ places) = (n, v) ∷ entries_from (suc n) places
 -- the same with the places counted from 0 on, as those of a `Vec` are
 abbrev pub entries_of : {V : Type 0} → List (Option V) → List (ℕ × V)
 entries_of places = entries_from 0 places
+
+-- the 64 places of a page, whose list may stop after the last of them that is not empty
+abbrev pub all_places : {V : Type 0} → List (Option V) → List (Option V)
+all_places places = take 64 (places ++ replicate 64 None)
+
+-- the places of all pages in turn
+abbrev pub places_of : {V : Type 0} → List (List (Option V)) → List (Option V)
+places_of [] = []
+places_of (page ∷ pages) = all_places page ++ places_of pages
+
+-- how many places hold a value
+abbrev pub taken_of : {V : Type 0} → List (Option V) → ℕ
+taken_of [] = 0
+taken_of (None ∷ places) = taken_of places
+taken_of (Some v ∷ places) = suc (taken_of places)
+
+-- a list of all places of a page, or none
+abbrev pub HasAllOrNone : {V : Type 0} → List (Option V) → Type 0
+HasAllOrNone places = 0 < length places → length places ≡ 64
 
 -- an id stands in the list exactly where it has a value
 abbrev pub HasKeys : {V : Type 0} → map.FinMap nat_cmp V → List ℕ → Type 0

@@ -46,14 +46,16 @@ fn literal_of(integer: i64) -> Lit
     Lit::new(Var::new(integer.unsigned_abs() as u32), integer < 0)
 }
 
-/// The literals of integers, whose variables are within the formula's number.
-fn literals_of(alloc: Global, vars: u32, integers: &IntList) -> Result<LitList, AllocError>
+/// The literals of integers, whose variables are within the formula's number. Of `room` only the memory is used.
+fn literals_of(room: Vec<Lit>, vars: u32, integers: &IntList) -> Result<LitList, AllocError>
     requires few { vars ≤ MAX_VARIABLE }
     requires known { list_any (λ z. nat_lt vars (nat_abs z)) integers.now ≡ false }
     ensures { IfOk result (λ lits. lits ≡ literals integers.now) }
 {
     let integers = integers.as_slice();
-    let mut lits = Vec::with_capacity(alloc, integers.len())?;
+    let mut lits = room;
+    lits.clear();
+    lits.reserve_exact(integers.len())?;
     for integer in integers {
         lits.push(literal_of(*integer))?;
     }
@@ -71,6 +73,20 @@ pub fn admit(
     ensures judged { JudgesBy (refused_where causes.VarUnknown (list_any (λ z. nat_lt vars (nat_abs z)) lits.now) ∷ refused_where causes.IdInUse is_live ∷ []) result }
     ensures literals { IfOk result (λ target. target ≡ literals lits.now) }
 {
+    admit_into(Vec::new(alloc), vars, lits, is_live)
+}
+
+/// Judges what is added by these rules, and gives its literals in the memory of `room`, which is lost where a rule fails.
+pub fn admit_into(
+    room: Vec<Lit>,
+    vars: u32,
+    lits: &IntList,
+    is_live: bool,
+) -> Result<LitList, JudgeRefusal>
+    requires few { vars ≤ MAX_VARIABLE }
+    ensures judged { JudgesBy (refused_where causes.VarUnknown (list_any (λ z. nat_lt vars (nat_abs z)) lits.now) ∷ refused_where causes.IdInUse is_live ∷ []) result }
+    ensures literals { IfOk result (λ target. target ≡ literals lits.now) }
+{
     judge_added(vars, lits, is_live)?;
-    Ok(literals_of(alloc, vars, lits)?)
+    Ok(literals_of(room, vars, lits)?)
 }

@@ -2,23 +2,27 @@
 ghost use Rattle.std.specs.Prelude.{◌≡◌, ◌<◌, ◌≤◌, false, OnOk, OnErr, IfOk, MatchOption, None, Some, length, get_or, set};
 ghost use Rattle.std.specs.FinMap as map;
 ghost use Rattle.std.specs.Map.{keys_of};
-ghost use Rattle.proof_rules.specs.Places.{entries_of, HasKeys};
+ghost use Rattle.proof_rules.specs.Places.{entries_of, places_of, HasKeys};
 
+use crate::page::{PLACES, Page};
 use std::alloc::{AllocError, Global};
 use std::collections::BTreeMap;
 use std::marker::Model;
 
-/// From ids to values. Ids are nearly always small and close together, so most are places of a list; all others
-/// stand in an ordered map. What stands in an id's place goes before what the ordered map has for it.
+/// From ids to values. Ids are nearly always small and close together, so most are places of a list of pages; all
+/// others stand in an ordered map. What stands in an id's place goes before what the ordered map has for it.
 #[derive(Drop)]
 pub struct IdMap<V> {
-    /// The values of small ids, each in the place of its id.
-    near: Vec<Option<V>>,
+    /// The values of small ids, each in the place of its id. A page without values takes half a byte for each id.
+    near: Vec<Page<V>>,
     /// The values of the other ids.
     far: BTreeMap<u64, V>,
     /// How many values were put in so far. `near` has at most four places for each, and a thousand more, so that no
     /// id that a proof names takes memory that the proof's length does not pay for.
     added: u64,
+    /// The page that was emptied last. It keeps its places until another page is emptied, so that a value that comes
+    /// and goes takes no memory anew.
+    idle: usize,
 }
 
 impl<V> Model for IdMap<V> {
@@ -26,13 +30,13 @@ impl<V> Model for IdMap<V> {
     ghost use Rattle.std.specs.Ordering.{nat_cmp};
     ghost use Rattle.std.specs.Coded.{coded_ℕ};
     ghost use Rattle.std.specs.FinMap as map;
-    ghost use Rattle.proof_rules.specs.Places.{entries_of};
+    ghost use Rattle.proof_rules.specs.Places.{entries_of, places_of};
 
     ghost Value = { map.FinMap nat_cmp V };
 
     ghost coded = { map.code coded_ℕ V.code };
 
-    ghost view = { λ a. map.from_entries (entries_of a.near.items ++ a.far.entries) };
+    ghost view = { λ a. map.from_entries (entries_of (places_of a.near.items) ++ a.far.entries) };
 }
 
 impl<V: Drop> IdMap<V> {
@@ -44,6 +48,7 @@ impl<V: Drop> IdMap<V> {
             near: Vec::new(alloc),
             far: BTreeMap::new(alloc),
             added: 0,
+            idle: 0,
         }
     }
 
@@ -75,8 +80,8 @@ impl<V: Drop> IdMap<V> {
         ensures err { OnErr result (self.new ≡ self.old) }
     {
         if is_near(&self.near, self.added, id) {
-            reach(&mut self.near, id as usize)?;
-            self.near[id as usize] = Some(value);
+            reach(&mut self.near, id)?;
+            put_in_place(&mut self.near, id, value)?;
         } else {
             self.far.insert(id, value)?;
         }
@@ -89,57 +94,94 @@ impl<V: Drop> IdMap<V> {
         ensures { self.new ≡ map.remove self.old id }
     {
         clear_place(&mut self.near, id);
+        make_idle(&mut self.near, &mut self.idle, id);
         self.far.remove(&id);
     }
 }
 
 /// Whether an id has a place, or may get one when so many values were put in.
-fn is_near<V>(near: &[Option<V>], added: u64, id: u64) -> bool
-    ensures { result ≡ false → length near.now ≤ id }
+fn is_near<V>(near: &[Page<V>], added: u64, id: u64) -> bool
+    ensures { result ≡ false → length (places_of near.now) ≤ id }
 {
-    id < near.len() as u64 || id < added.saturating_mul(4).saturating_add(1024)
+    id / PLACES < near.len() as u64 || id < added.saturating_mul(4).saturating_add(1024)
 }
 
 /// The value in the place of this id.
-fn in_place<V>(near: &[Option<V>], id: u64) -> Option<&V>
-    ensures { MatchOption result (get_or near.now id None ≡ None) (λ value. get_or near.now id None ≡ Some value.now) }
+fn in_place<V: Drop>(near: &[Page<V>], id: u64) -> Option<&V>
+    ensures { MatchOption result (get_or (places_of near.now) id None ≡ None) (λ value. get_or (places_of near.now) id None ≡ Some value.now) }
 {
-    if id < near.len() as u64 {
-        near[id as usize].as_ref()
+    let page = id / PLACES;
+    if page < near.len() as u64 {
+        near[page as usize].get((id % PLACES) as usize)
     } else {
         None
     }
 }
 
-/// Empties the place of this id, if there is one.
-fn clear_place<V: Drop>(near: &mut Vec<Option<V>>, id: u64)
-    ensures { near.new.items ≡ set near.old.items id None }
+/// Puts a value in the place of this id. Without memory nothing changes.
+fn put_in_place<V: Drop>(near: &mut Vec<Page<V>>, id: u64, value: V) -> Result<(), AllocError>
+    requires { id < length (places_of near.old.items) }
+    ensures ok { OnOk result (places_of near.new.items ≡ set (places_of near.old.items) id (Some value)) }
+    ensures err { OnErr result (places_of near.new.items ≡ places_of near.old.items) }
 {
-    if id < near.len() as u64 {
-        near[id as usize] = None;
+    near[(id / PLACES) as usize].put((id % PLACES) as usize, value)
+}
+
+/// Empties the place of this id, if there is one.
+fn clear_place<V: Drop>(near: &mut Vec<Page<V>>, id: u64)
+    ensures { places_of near.new.items ≡ set (places_of near.old.items) id None }
+{
+    let page = id / PLACES;
+    if page < near.len() as u64 {
+        near[page as usize].clear((id % PLACES) as usize);
     }
 }
 
-/// Adds empty places until there is this one. Without memory some may have been added.
-fn reach<V: Drop>(near: &mut Vec<Option<V>>, place: usize) -> Result<(), AllocError>
-    ensures same { entries_of near.new.items ≡ entries_of near.old.items }
-    ensures reached { OnOk result (place < length near.new.items) }
+/// Makes the page of this id the idle one where none of its places holds a value, and gives the places of the one
+/// before back.
+fn make_idle<V: Drop>(near: &mut Vec<Page<V>>, idle: &mut usize, id: u64)
+    ensures { places_of near.new.items ≡ places_of near.old.items }
 {
-    for _ in near.len()..=place {
-        near.push(None)?;
+    let page = (id / PLACES) as usize;
+    if page != *idle && is_vacant(near, page) {
+        trim(near, *idle);
+        *idle = page;
+    }
+}
+
+/// Whether there is this page and none of its places holds a value.
+fn is_vacant<V: Drop>(near: &[Page<V>], page: usize) -> bool {
+    page < near.len() && near[page].is_vacant()
+}
+
+/// Gives the places of this page back where none of them holds a value.
+fn trim<V: Drop>(near: &mut Vec<Page<V>>, page: usize)
+    ensures { places_of near.new.items ≡ places_of near.old.items }
+{
+    if page < near.len() {
+        near[page].trim();
+    }
+}
+
+/// Adds pages without values until there is the place of this id. Without memory some may have been added.
+fn reach<V: Drop>(near: &mut Vec<Page<V>>, id: u64) -> Result<(), AllocError>
+    ensures same { entries_of (places_of near.new.items) ≡ entries_of (places_of near.old.items) }
+    ensures reached { OnOk result (id < length (places_of near.new.items)) }
+{
+    let alloc = *near.allocator();
+    for _ in near.len() as u64..id / PLACES + 1 {
+        near.push(Page::new(alloc))?;
     }
     Ok(())
 }
 
 /// The numbers of the places that hold a value, in order.
-fn taken_places<V: Drop>(alloc: Global, near: &[Option<V>]) -> Result<Vec<u64>, AllocError>
-    ensures { IfOk result (λ ids. ids.items ≡ keys_of (entries_of near.now)) }
+fn taken_places<V: Drop>(alloc: Global, near: &[Page<V>]) -> Result<Vec<u64>, AllocError>
+    ensures { IfOk result (λ ids. ids.items ≡ keys_of (entries_of (places_of near.now))) }
 {
     let mut ids = Vec::new(alloc);
-    for place in 0..near.len() {
-        if near[place].is_some() {
-            ids.push(place as u64)?;
-        }
+    for page in 0..near.len() {
+        near[page].push_taken(page as u64 * PLACES, &mut ids)?;
     }
     Ok(ids)
 }

@@ -12,14 +12,16 @@ mod literal_set;
 mod live;
 mod marks;
 mod named;
+mod page;
 mod parity_clause;
 mod parity_sum;
 mod refusal;
 mod sorted_parity;
+mod stored;
 mod sum;
 mod table;
 
-pub use added::admit;
+pub use added::{admit, admit_into};
 pub use chain::{LeftOf, left_of};
 pub use content::{clause_content, parity_content};
 pub use hints::ids_of;

@@ -85,6 +85,23 @@ impl Live {
         }
     }
 
+    /// Puts a constraint of this kind with a copy of these literals under this id. Without memory nothing changes.
+    pub fn add_copy(
+        &mut self,
+        alloc: Global,
+        kind: Kind,
+        id: u64,
+        lits: &[Lit],
+    ) -> Result<(), AllocError>
+        ensures ok { OnOk result (self.new ≡ put_constraint kind self.old id lits.now) }
+        ensures err { OnErr result (self.new ≡ self.old) }
+    {
+        match kind {
+            Kind::Clauses => self.clauses.insert_copy(alloc, id, lits),
+            Kind::Parities => self.parities.insert_copy(alloc, id, lits),
+        }
+    }
+
     /// Puts a clause under this id. Without memory nothing changes.
     pub fn add_clause(&mut self, id: u64, lits: LitList) -> Result<(), AllocError>
         ensures ok { OnOk result (self.new ≡ put_clause self.old id lits) }

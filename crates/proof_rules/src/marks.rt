@@ -1,7 +1,7 @@
 //! What the judges look up literals and variables in.
 use crate::literal_set::LiteralSet;
 use crate::parity_sum::ParitySum;
-use cx_base::Var;
+use cx_base::{Lit, Var};
 use std::alloc::Global;
 
 /// The marks and lists of the judges. What they have before and after a judgement plays no part: only their memory is
@@ -10,6 +10,8 @@ use std::alloc::Global;
 pub struct JudgeMarks {
     /// What a chain assumes; the literals of a clause.
     pub assumed: LiteralSet,
+    /// The literals of a step.
+    pub target: Vec<Lit>,
     /// What is left of a sum of parities.
     pub(crate) sum: ParitySum,
     /// The variables of a parity.
@@ -23,6 +25,7 @@ impl JudgeMarks {
     pub fn new(alloc: Global) -> JudgeMarks {
         JudgeMarks {
             assumed: LiteralSet::new(alloc),
+            target: Vec::new(alloc),
             sum: ParitySum::new(alloc),
             variables: Vec::new(alloc),
             table: Vec::new(alloc),

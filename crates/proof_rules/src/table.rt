@@ -5,6 +5,7 @@ ghost use Rattle.cx_semantics.specs.Tables.{get, is_live};
 ghost use Rattle.proof_rules.specs.Kinds.{ListsLive};
 
 use crate::id_map::IdMap;
+use crate::stored::StoredList;
 use cx_base::{IdList, Lit, LitList};
 use std::alloc::{AllocError, Global};
 use std::marker::Model;
@@ -12,7 +13,7 @@ use std::marker::Model;
 /// From ids to literals.
 #[derive(Drop)]
 pub(crate) struct LiveTable {
-    lists: IdMap<LitList>,
+    lists: IdMap<StoredList>,
 }
 
 impl Model for LiveTable {
@@ -64,7 +65,21 @@ impl LiveTable {
         ensures ok { OnOk result (self.new ≡ map.insert self.old id lits) }
         ensures err { OnErr result (self.new ≡ self.old) }
     {
-        self.lists.insert(id, lits)
+        self.lists.insert(id, StoredList::of(lits))
+    }
+
+    /// Puts a copy of a list under this id. Without memory nothing changes.
+    pub(crate) fn insert_copy(
+        &mut self,
+        alloc: Global,
+        id: u64,
+        lits: &[Lit],
+    ) -> Result<(), AllocError>
+        ensures ok { OnOk result (self.new ≡ map.insert self.old id lits.now) }
+        ensures err { OnErr result (self.new ≡ self.old) }
+    {
+        let list = StoredList::copy_of(alloc, lits)?;
+        self.lists.insert(id, list)
     }
 
     /// Takes the list of this id out; where none is live nothing changes.

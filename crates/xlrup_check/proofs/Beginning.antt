@@ -20,16 +20,16 @@ under_number lists number lits low high is =
     ∙ sym (numbered_from-push 1 before lits)
     ∙ ap (numbered_from 1) (sym (one_numbered_more lists number lits low is) ∙ ap (λ n. take n lists) (sym next))
 
-pub one_clause_more : (lists : List (List Literal)) (first before after : Tables) (number : ℕ) (clause lits : List Literal) → 1 ≤ number → number ≤ length lists → slice_get lists (number - 1) ≡ Some clause → lits ≡ clause
-    → before ≡ record { clauses = numbered_from 1 (take (number - 1) lists); parities = first.parities } → after ≡ put_clause before number lits
+pub one_clause_more : (lists : List (List Literal)) (first before after : Tables) (number : ℕ) (clause : List Literal) → 1 ≤ number → number ≤ length lists → slice_get lists (number - 1) ≡ Some clause
+    → before ≡ record { clauses = numbered_from 1 (take (number - 1) lists); parities = first.parities } → after ≡ put_clause before number clause
     → after ≡ record { clauses = numbered_from 1 (take ((number + 1) - 1) lists); parities = first.parities }
-one_clause_more lists first before after number clause lits low high is same so_far put =
-    put ∙ (λ i. put_clause (so_far i) number (same i))
+one_clause_more lists first before after number clause low high is so_far put =
+    put ∙ (λ i. put_clause (so_far i) number clause)
     ∙ (λ i. record { clauses = under_number lists number clause low high is i; parities = first.parities })
 
-pub one_parity_more : (lists : List (List Literal)) (first before after : Tables) (number : ℕ) (parity lits : List Literal) → 1 ≤ number → number ≤ length lists → slice_get lists (number - 1) ≡ Some parity → lits ≡ parity
-    → before ≡ record { clauses = first.clauses; parities = numbered_from 1 (take (number - 1) lists) } → after ≡ put_parity before number lits
+pub one_parity_more : (lists : List (List Literal)) (first before after : Tables) (number : ℕ) (parity : List Literal) → 1 ≤ number → number ≤ length lists → slice_get lists (number - 1) ≡ Some parity
+    → before ≡ record { clauses = first.clauses; parities = numbered_from 1 (take (number - 1) lists) } → after ≡ put_parity before number parity
     → after ≡ record { clauses = first.clauses; parities = numbered_from 1 (take ((number + 1) - 1) lists) }
-one_parity_more lists first before after number parity lits low high is same so_far put =
-    put ∙ (λ i. put_parity (so_far i) number (same i))
+one_parity_more lists first before after number parity low high is so_far put =
+    put ∙ (λ i. put_parity (so_far i) number parity)
     ∙ (λ i. record { clauses = first.clauses; parities = under_number lists number parity low high is i })

@@ -4,16 +4,9 @@ ghost use Rattle.std.specs.FinMap.{empty};
 ghost use Rattle.cx_base.specs.Problem.{clauses_of, parities_of};
 ghost use Rattle.cx_semantics.specs.Tables.{first_tables, numbered_from};
 
-use cx_base::{Formula, Lit, LitList};
+use cx_base::Formula;
 use proof_rules::{Kind, Live};
 use std::alloc::{AllocError, Global};
-
-/// A list of these literals.
-fn list_of(alloc: Global, lits: &[Lit]) -> Result<LitList, AllocError>
-    ensures { IfOk result (λ list. list ≡ lits.now) }
-{
-    Ok(LitList::from_vec(Vec::from_slice(alloc, lits)?))
-}
 
 /// Puts the formula's clauses under their numbers, where no clause is live.
 fn put_clauses(alloc: Global, formula: &Formula, live: &mut Live) -> Result<(), AllocError>
@@ -21,8 +14,8 @@ fn put_clauses(alloc: Global, formula: &Formula, live: &mut Live) -> Result<(), 
     ensures { OnOk result (live.new ≡ record live.old { clauses = numbered_from 1 (clauses_of formula.now.constraints) }) }
 {
     for number in 1..=formula.clause_count() {
-        let lits = list_of(alloc, formula.clause(number))?;
-        live.add(Kind::Clauses, number as u64, lits)?;
+        let lits = formula.clause(number);
+        live.add_copy(alloc, Kind::Clauses, number as u64, lits)?;
     }
     Ok(())
 }
@@ -33,8 +26,8 @@ fn put_parities(alloc: Global, formula: &Formula, live: &mut Live) -> Result<(),
     ensures { OnOk result (live.new ≡ record live.old { parities = numbered_from 1 (parities_of formula.now.constraints) }) }
 {
     for number in 1..=formula.parity_count() {
-        let lits = list_of(alloc, formula.parity(number))?;
-        live.add(Kind::Parities, number as u64, lits)?;
+        let lits = formula.parity(number);
+        live.add_copy(alloc, Kind::Parities, number as u64, lits)?;
     }
     Ok(())
 }

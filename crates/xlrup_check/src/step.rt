@@ -8,10 +8,11 @@ ghost use Rattle.xlrup_check.specs.Verdicts.{hint_rules, TakesAdded, TakesStep};
 
 use cx_base::{IdList, IntList, LitList, ProofStep};
 use proof_rules::{
-    JudgeMarks, JudgeRefusal, Kind, Live, admit, judge_chain, judge_clause_of_parity,
+    JudgeMarks, JudgeRefusal, Kind, Live, admit_into, judge_chain, judge_clause_of_parity,
     judge_parity_of_clauses, judge_sum,
 };
 use std::alloc::Global;
+use std::mem;
 
 /// Judges what a step adds by its hints.
 fn judge_added(
@@ -55,9 +56,11 @@ fn take_added(
     requires few { vars ≤ MAX_VARIABLE }
     ensures { (formula : Problem) → formula.variables ≡ vars → TakesAdded formula live.old kind id lits.now step.now result live.new }
 {
-    let target = admit(alloc, vars, lits, live.has(kind, id))?;
+    let room = mem::replace(&mut marks.target, Vec::new(alloc));
+    let target = admit_into(room, vars, lits, live.has(kind, id))?;
     judge_added(alloc, marks, live, step, &target)?;
-    live.add(kind, id, target)?;
+    live.add_copy(alloc, kind, id, target.as_slice())?;
+    marks.target = target.into_vec();
     Ok(matches!(kind, Kind::Clauses) && lits.as_slice().is_empty())
 }
 

@@ -1,23 +1,15 @@
-use Rattle.std.proofs.Common.{◌∙◌, ◌++◌, ◌+◌, ap, sym, true, false, None, is_some, drop}
+use Rattle.std.proofs.Common.{◌≡◌, ◌∙◌, ◌++◌, ◌+◌, ◌*◌, ap, refl, drop, arith}
 use Rattle.std.specs.Map.{keys_of}
-use Rattle.std.proofs.lemmas.List.{get_or_default}
-use Rattle.proof_rules.specs.Places.{entries_from, entries_of}
-use Rattle.proof_rules.proofs.PlaceLaws.{keys_of-place}
+use Rattle.proof_rules.specs.Places.{entries_from, all_places, places_of}
+use Rattle.proof_rules.proofs.PageLaws.{keys_of-page}
 use Rattle.proof_rules.proofs.id_map.taken_places.Goals as goal
-use Rattle.proof_rules.proofs.id_map.taken_places.Goals.{then-is_some+in_ok-push, else-is_some}
 
-pub loop-place-preserved : goal.loop-place-preserved
-loop-place-preserved g c =
+pub loop-page-preserved : goal.loop-page-preserved
+loop-page-preserved g c =
+    let n = c.loop-page.page in
     let near = c.args.near.now in
-    let n = c.loop-place.place in
-    let inside = c.loop-place-test.true in
-    let taken = c.is_some.ensures ∙ ap is_some (c.index-near-place.is ∙ get_or_default near n _ None inside) in
-    elim c.if-is_some.branch [
-      | then-is_some+in_ok-push w ↦
-          (λ i. (w.ids-is i).items ++ keys_of (entries_from (n + 1) (drop (n + 1) near)))
-          ∙ ap (λ ids. ids ++ keys_of (entries_from (n + 1) (drop (n + 1) near))) w.in_ok-push.ensures.items
-          ∙ keys_of-place true near n c.loop-place.ids.items (keys_of (entries_of near)) inside (sym w.if-is_some.true ∙ taken) c.loop-place.invariant
-      | else-is_some w ↦
-          (λ i. (w.ids-is i).items ++ keys_of (entries_from (n + 1) (drop (n + 1) near)))
-          ∙ keys_of-place false near n c.loop-place.ids.items (keys_of (entries_of near)) inside (sym w.if-is_some.false ∙ taken) c.loop-place.invariant
-    ]
+    let later : 64 * (n + 1) ≡ 64 * n + 64 = omega arith in
+    let first : n * 64 ≡ 64 * n = omega arith in
+    (λ i. c.push_taken.new.ids.items ++ keys_of (entries_from (later i) (places_of (drop (n + 1) near))))
+    ∙ ap (λ ids. ids ++ keys_of (entries_from (64 * n + 64) (places_of (drop (n + 1) near)))) (c.in_ok-push_taken.ensures ∙ (λ i. c.loop-page.ids.items ++ keys_of (entries_from (first i) (all_places c.index-near-page.result))))
+    ∙ keys_of-page near n (64 * n) c.index-near-page.result c.loop-page.ids.items _ c.loop-page-test.true c.index-near-page.is refl c.loop-page.invariant

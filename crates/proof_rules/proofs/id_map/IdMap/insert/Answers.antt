@@ -1,26 +1,23 @@
 use Rattle.std.proofs.Common.{◌∙◌, ◌++◌, ◌≤◌, length, ap, refl, subst}
 use Rattle.std.specs.FinMap as map
 use Rattle.cx_semantics.proofs.MapEntries.{from_entries-insert}
-use Rattle.proof_rules.specs.Places.{entries_of}
+use Rattle.proof_rules.specs.Places.{entries_of, places_of}
 use Rattle.proof_rules.specs.contracts.id_map.IdMap.{the_view}
 use Rattle.proof_rules.proofs.PlaceLaws.{look-put, look-put_behind}
 use Rattle.proof_rules.proofs.id_map.IdMap.insert.Goals as goal
-use Rattle.proof_rules.proofs.id_map.IdMap.insert.Goals.{then-is_near+in_ok-reach+in-Some-1, then-is_near+in_ok-reach+in-None-1, else-is_near+in_ok-insert+in-Some-1, else-is_near+in_ok-insert+in-None-1}
+use Rattle.proof_rules.proofs.id_map.IdMap.insert.Goals.{then-is_near+in_ok-reach+in_ok-put_in_place, else-is_near+in_ok-insert+in-Some-1, else-is_near+in_ok-insert+in-None-1}
 
 pub returns-clause-ok : goal.returns-clause-ok
 returns-clause-ok g c =
-    let near = c.self.inside.near.items in
+    let near = (places_of c.self.inside.near.items) in
     let far = c.self.inside.far.entries in
-    let outside = subst (λ places. length places ≤ c.args.id) c.deref.ensures.value in
+    let outside = subst (λ pages. length (places_of pages) ≤ c.args.id) c.deref.ensures.value in
     let then_old = ap (λ t. map.insert t c.args.id c.args.value) c.self.view_is in
     elim c.if-is_near.branch [
-      | then-is_near+in_ok-reach+in-Some-1 w ↦
+      | then-is_near+in_ok-reach+in_ok-put_in_place w ↦
           ap (the_view g.row.V) w.self-inside-is
-          ∙ from_entries-insert (entries_of w.reach.new.near.items ++ far) _ c.args.id c.args.value (look-put c.args.id c.args.value w.reach.new.near.items far w.in_ok-reach.ensures.reached)
-          ∙ ap (λ es. map.insert (map.from_entries (es ++ far)) c.args.id c.args.value) w.reach.ensures.same ∙ then_old
-      | then-is_near+in_ok-reach+in-None-1 w ↦
-          ap (the_view g.row.V) w.self-inside-is
-          ∙ from_entries-insert (entries_of w.reach.new.near.items ++ far) _ c.args.id c.args.value (look-put c.args.id c.args.value w.reach.new.near.items far w.in_ok-reach.ensures.reached)
+          ∙ ap (λ places. map.from_entries (entries_of places ++ far)) w.in_ok-put_in_place.ensures.ok
+          ∙ from_entries-insert (entries_of (places_of w.reach.new.near.items) ++ far) _ c.args.id c.args.value (look-put c.args.id c.args.value (places_of w.reach.new.near.items) far w.in_ok-reach.ensures.reached)
           ∙ ap (λ es. map.insert (map.from_entries (es ++ far)) c.args.id c.args.value) w.reach.ensures.same ∙ then_old
       | else-is_near+in_ok-insert+in-Some-1 w ↦
           ap (the_view g.row.V) w.self-inside-is
