@@ -30,6 +30,8 @@ pub struct Engine {
     pub gone: u64,
     /// The clause that is about to be stored.
     pub row: Vec<Lit>,
+    /// How many clauses of one literal came that level 1 gave already by others, since it was last taken back for that.
+    pub given: u32,
 }
 
 impl Engine {
@@ -51,6 +53,7 @@ impl Engine {
             short: Vec::new(alloc),
             gone: 0,
             row: Vec::new(alloc),
+            given: 0,
         })
     }
 
