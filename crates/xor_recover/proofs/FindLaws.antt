@@ -199,7 +199,7 @@ one_of_each vs lits rise each =
       within = within_set vs lits rise (λ y m. sym (members y) ∙ m);
     }
 
-variable_of : (xs : List Literal) (y : ℕ) → list_any (λ z. nat_eq z y) (variables xs) ≡ true → (m : Literal) × (has_literal xs m ≡ true) × (m.variable ≡ y)
+pub variable_of : (xs : List Literal) (y : ℕ) → list_any (λ z. nat_eq z y) (variables xs) ≡ true → (m : Literal) × (has_literal xs m ≡ true) × (m.variable ≡ y)
 variable_of [] y h = absurd (true≢false (sym h))
 variable_of (x ∷ xs) y h = elim (or_cases (nat_eq x.variable y) (list_any (λ z. nat_eq z y) (variables xs)) h) [
   | inl e ↦ (x, has_at_head x xs, Rattle.std.proofs.lemmas.Bool.eqb-true x.variable y e)

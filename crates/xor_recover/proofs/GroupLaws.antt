@@ -54,7 +54,7 @@ less_or_same x y h apart = go (key_cmp x y) refl
     go Equal e = absurd (apart (key_swap x y (key_is x y e)))
     go Greater e = absurd (true≢false (sym (ap is_gt e) ∙ h))
 
-at_all : (P : Row → Type 0) (xs : List Row) (k : ℕ) (d : Row) → AllByRecursion P xs → k < length xs → P (get_or xs k d)
+pub at_all : (P : Row → Type 0) (xs : List Row) (k : ℕ) (d : Row) → AllByRecursion P xs → k < length xs → P (get_or xs k d)
 at_all P [] k d h lt = absurd (omega arith)
 at_all P (x ∷ xs) zero d h lt = h.0
 at_all P (x ∷ xs) (suc k) d h lt = at_all P xs k d h.1 (omega arith)
@@ -179,7 +179,7 @@ group_opens x xs g h =
       | false ↦ λ e k. absurd (none_is k)
     ] refl h
 
-group_stands : (x : Row) (xs : List Row) → needed x ≤ length (x ∷ xs) → same_key (get_or (x ∷ xs) (needed x - 1) x) x ≡ true → group_of (x ∷ xs) ≡ Some (take (needed x) (x ∷ xs))
+pub group_stands : (x : Row) (xs : List Row) → needed x ≤ length (x ∷ xs) → same_key (get_or (x ∷ xs) (needed x - 1) x) x ≡ true → group_of (x ∷ xs) ≡ Some (take (needed x) (x ∷ xs))
 unfolding group_of
 group_stands x xs le here = ap (λ b. cond b (Some (take (needed x) (x ∷ xs))) None) (and_from _ _ (le-leb (needed x) (length (x ∷ xs)) le) here)
 
@@ -279,7 +279,7 @@ head_in zs g h = (subst (λ (l : List Row). AllByRecursion (Contains zs) l) h.is
 pub head_proper : (zs g : List Row) (h : IsGroup zs g) → IsProper h.head
 head_proper zs g h = (subst AllProper h.is h.proper).0
 
-itself_same : (x : Row) → same_key x x ≡ true
+pub itself_same : (x : Row) → same_key x x ≡ true
 itself_same x = key_is x x (tied_itself key_total x)
 
 head_less : (x : Row) (xs g : List Row) → Sorted (x ∷ xs) → AllProper (x ∷ xs) → (h : IsGroup xs g) → key_cmp x h.head ≡ Less

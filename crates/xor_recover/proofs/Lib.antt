@@ -17,3 +17,8 @@ pub mod Bounds
 pub mod Least
 pub mod Complete
 pub mod Judged
+pub mod Once
+pub mod Signs
+pub mod WholeRows
+pub mod WholeGroups
+pub mod Walk

@@ -195,7 +195,7 @@ pub inside_short : (k : ℕ) (xs ys : List Literal) → Rising k xs → ((q : Li
 inside_short k xs ys h inside = length-le_from_is_member same_literal_equiv xs ys (distinct k xs h) inside
 
 -- two literals of one variable in a rising list are one
-one_of_variable : (k : ℕ) (ys : List Literal) (l m : Literal) → Rising k ys → has_literal ys l ≡ true → has_literal ys m ≡ true → l.variable ≡ m.variable → l ≡ m
+pub one_of_variable : (k : ℕ) (ys : List Literal) (l m : Literal) → Rising k ys → has_literal ys l ≡ true → has_literal ys m ≡ true → l.variable ≡ m.variable → l ≡ m
 one_of_variable k [] l m h a b e = absurd (true≢false (sym a))
 one_of_variable k (y ∷ ys) l m h a b e = elim (has_split y ys l a) [
   | inl la ↦ elim (has_split y ys m b) [

@@ -2,14 +2,14 @@
 use Rattle.std.proofs.Common.{◌≡◌, refl, sym, ap, ◌∙◌, subst, ℕ, zero, suc, ◌+◌, ◌-◌, ◌^◌, ◌<◌, ◌≤◌, Bool, true, false, cond, ◌&&◌, List, [], ◌∷◌, ◌++◌, length, get_or, take, drop, arith, true≢false, ◌⊎◌, inl, inr, Option, Some, None, length-append, append_assoc}
 use Rattle.std.specs.Prelude.{nat_le}
 use Rattle.std.specs.List.{AllByRecursion, AllZip, Contains}
-use Rattle.std.specs.List.Sorted.{IsStrictlySortedBy, IsNonDecreasingBy}
+use Rattle.std.specs.List.Sorted.{IsStrictlySortedBy}
 use Rattle.std.specs.Ordering.{ordering_then, nat_cmp, bool_cmp, MatchOrdering}
 use Rattle.std.specs.Cmp.{ranks, tied_itself}
 use Rattle.std.specs.Cmp.Lexicographic.{slice_cmp}
 use Rattle.std.specs.declared.cmp.Ordering.{Ordering}
 use Rattle.std.specs.declared.cmp.Ordering.TheVariants.{Less, Equal, Greater}
 use Rattle.std.proofs.lemmas.Bool.{cases_order, leb-true, le-leb, false_from_ne_true}
-use Rattle.std.proofs.lemmas.List.{append-nil, take-append-le, take_all}
+use Rattle.std.proofs.lemmas.List.{append-nil, take-append-le}
 use Rattle.std.proofs.lemmas.List.Elements.{Contains-append_cases, Contains-append_left, Contains-append_right}
 use Rattle.cx_base.specs.Literals.{Literal}
 use Rattle.cx_base.specs.Problem.{Problem, IsWithinVariables, clauses_of}
@@ -17,17 +17,17 @@ use Rattle.xor_recover.specs.declared.found.Found.{Found}
 use Rattle.xor_recover.specs.declared.starts.Start.{Start}
 use Rattle.xor_recover.specs.Rows.{Row, rows_of, key_cmp, shape_cmp, IsProper}
 use Rattle.xor_recover.specs.Groups.{AreFirsts, SaysGroup, AddsFound, needed, same_key, group_of, groups_of, and_more}
-use Rattle.xor_recover.specs.Starts.{Begins, StartAlike, IsStart, AreStarts, rows_at, pair_of}
+use Rattle.xor_recover.specs.Starts.{Begins, IsStart, AreStarts, rows_at, pair_of}
 use Rattle.xor_recover.proofs.Firsts.{shape_total}
 use Rattle.xor_recover.proofs.Keys.{variables_long}
 use Rattle.xor_recover.proofs.GroupLaws.{less_not_same, power_needed}
-use Rattle.xor_recover.proofs.Grouping.{at_any}
 use Rattle.xor_recover.proofs.Kept.{are_kept}
 use Rattle.xor_recover.proofs.Within.{all_by_contains}
 use Rattle.xor_recover.proofs.Bounds.{few_finds}
 use Rattle.xor_recover.proofs.Sound.{FoundAll, Progress, begins, stays, grows, ends, found_all}
 use Rattle.xor_recover.proofs.Numbers.{AllWithin, proper}
-use Rattle.xor_recover.proofs.StartRows.{of_starts, start_is, all_rows, rows_at-append, few_at}
+use Rattle.xor_recover.proofs.StartRows.{of_starts, start_is, all_rows, in_rows_at, has_rows_at, rows_at-append, few_at}
+use Rattle.cx_base.proofs.Elements.{in_head, in_tail}
 
 -- ---- groups of two lists of rows of other keys
 
@@ -199,83 +199,20 @@ two_needed x p = let long = variables_long x p in go (length x.variables) long.0
 
 -- ---- starts in order
 
-abbrev NotAfter : Start → Start → Type 0
-NotAfter s t = (s.first < t.first) ⊎ ((s.first ≡ t.first) × (s.second ≤ t.second))
-
-abbrev Ahead : Start → Start → Type 0
+abbrev pub Ahead : Start → Start → Type 0
 Ahead s t = (s.first < t.first) ⊎ ((s.first ≡ t.first) × (s.second < t.second))
 
-not_after : (s t : Start) → s.second < 4294967296 → t.second < 4294967296 → pair_of s ≤ pair_of t → NotAfter s t
-not_after s t fits fits' le = elim (cases_order s.first t.first) [
-  | inl e ↦ inr (e, omega (arith, e, le))
-  | inr order ↦ elim order [ inl below ↦ inl below | inr over ↦ absurd (omega (arith, over, le, fits, fits')) ]
+pub ahead_by : (s t : Start) → s.second < 4294967296 → t.second < 4294967296 → pair_of s < pair_of t → Ahead s t
+ahead_by s t fits fits' less = elim (cases_order s.first t.first) [
+  | inl e ↦ inr (e, omega (arith, e, less))
+  | inr order ↦ elim order [ inl below ↦ inl below | inr over ↦ absurd (omega (arith, over, less, fits, fits')) ]
 ]
 
--- starts in order
-pub record AreSorted (C : List (List Literal)) (starts : List Start) : Type 0 where
-  pub each : AllByRecursion (IsStart C) starts
-  pub rise : IsNonDecreasingBy pair_of starts
-
-starts_rise : (C : List (List Literal)) (starts : List Start) (i j : ℕ) (d : Start) → AreSorted C starts → i ≤ j → j < length starts → NotAfter (get_or starts i d) (get_or starts j d)
-starts_rise C starts i j d sorted le lt =
-    let s = get_or starts i d in
-    let t = get_or starts j d in
-    not_after s t (start_is C starts s sorted.each (i, omega arith, at_any starts i s d (omega arith))).fits (start_is C starts t sorted.each (j, lt, at_any starts j t d lt)).fits (sorted.rise i j d le lt)
-
-goes_ahead : (p q r : Start) → NotAfter p q → (StartAlike q p → ⊥) → NotAfter q r → Ahead p r
-goes_ahead p q r h apart g = elim h [
-  | inl less ↦ elim g [ inl more ↦ inl (omega (arith, less, more)) | inr same ↦ (let e = same.0 in inl (omega (arith, less, e))) ]
-  | inr both ↦
-      let e = both.0 in
-      let le = both.1 in
-      let less : p.second < q.second = elim (cases_order p.second q.second) [
-        | inl same ↦ absurd (apart (sym e, sym same))
-        | inr order ↦ elim order [ inl below ↦ below | inr over ↦ absurd (omega (arith, le, over)) ]
-      ] in
-      elim g [
-        | inl more ↦ inl (omega (arith, more, e))
-        | inr same ↦ (let s = same.0 in let up = same.1 in inr (e ∙ s, omega (arith, less, up)))
-      ]
+before_by : (x : Row) (s t : Start) → Begins s x → Ahead s t → Before x t
+before_by x s t begins ahead = elim ahead [
+  | inl less ↦ inl (let first = begins.0 in omega (arith, first, less))
+  | inr both ↦ inr (begins.0 ∙ both.0, (let less = both.1 in let second = begins.1 in omega (arith, second, less)))
 ]
-
--- ---- a part of a list
-
-none_of : {X : Type 0} (n : ℕ) → ◌≡◌ {A = List X} (take n []) []
-none_of zero = refl
-none_of (suc n) = refl
-
-take_split : {X : Type 0} (xs : List X) (i j : ℕ) → i ≤ j → take j xs ≡ take i xs ++ take (j - i) (drop i xs)
-take_split xs zero j le = (let e : j ≡ j - 0 = omega arith in ap (λ n. take n xs) e)
-take_split [] (suc i) zero le = absurd (omega arith)
-take_split [] (suc i) (suc j) le = sym (none_of (suc j - suc i))
-take_split (x ∷ xs) (suc i) zero le = absurd (omega arith)
-take_split (x ∷ xs) (suc i) (suc j) le = (let e : j - i ≡ suc j - suc i = omega arith in ap (λ ys. x ∷ ys) (take_split xs i j (omega arith) ∙ ap (λ n. take i xs ++ take n (drop i xs)) e))
-
-all_front : {X : Type 0} (P : X → Type 0) (n : ℕ) (xs : List X) → AllByRecursion P xs → AllByRecursion P (take n xs)
-all_front P zero xs h = tt
-all_front P (suc n) [] h = tt
-all_front P (suc n) (x ∷ xs) h = (h.0, all_front P n xs h.1)
-
-all_later : {X : Type 0} (P : X → Type 0) (n : ℕ) (xs : List X) → AllByRecursion P xs → AllByRecursion P (drop n xs)
-all_later P zero xs h = h
-all_later P (suc n) [] h = tt
-all_later P (suc n) (x ∷ xs) h = all_later P n xs h.1
-
-few_front : {X : Type 0} (n : ℕ) (xs : List X) → length (take n xs) ≤ n
-few_front zero xs = omega arith
-few_front (suc n) [] = omega arith
-few_front (suc n) (x ∷ xs) = let h = few_front n xs in omega (arith, h)
-
-in_front : (xs : List Start) (n : ℕ) (s : Start) → Contains (take n xs) s → (k : ℕ) × (k < n) × (k < length xs) × (get_or xs k s ≡ s)
-in_front xs zero s c = absurd (let lt = c.1 in omega arith)
-in_front [] (suc n) s c = absurd (let lt = c.1 in omega arith)
-in_front (x ∷ xs) (suc n) s (zero, lt, e) = (0, omega arith, omega arith, e)
-in_front (x ∷ xs) (suc n) s (suc k, lt, e) = let r = in_front xs n s (k, omega arith, e) in let low = r.1 in let high = r.2 in (suc r.0, omega (arith, low), omega (arith, high), r.3)
-
-in_part : (xs : List Start) (at n : ℕ) (s : Start) → Contains (take n (drop at xs)) s → (k : ℕ) × (at ≤ k) × (k < at + n) × (k < length xs) × (get_or xs k s ≡ s)
-in_part xs zero n s c = let r = in_front xs n s c in let low = r.1 in (r.0, omega arith, omega (arith, low), r.2, r.3)
-in_part [] (suc at) n s c = absurd (let none = subst (λ (ss : List Start). Contains ss s) (none_of n) c in let lt = none.1 in omega (arith, lt))
-in_part (x ∷ xs) (suc at) n s c = let r = in_part xs at n s c in let le = r.1 in let lt = r.2 in let high = r.3 in (suc r.0, omega (arith, le), omega (arith, lt), omega (arith, high), r.4)
 
 -- ---- a run by itself
 
@@ -324,83 +261,84 @@ run_alone C run old within each alone =
 
 -- ---- one run behind the others
 
-pub record RunsDone (C : List (List Literal)) (starts : List Start) (at : ℕ) (finds : List Found) : Type 0 where
+-- what is found of some of the starts, where the rest start later
+pub record RunsDone (C : List (List Literal)) (all rest : List Start) (finds : List Found) : Type 0 where
+  pub done : List Start
   pub kept : List Row
-  pub firsts : AreFirsts (rows_at C (take at starts)) kept
-  pub before : (x : Row) → Contains kept x → (j : ℕ) (d : Start) → at ≤ j → j < length starts → Before x (get_or starts j d)
+  pub among : (s : Start) → Contains done s → Contains all s
+  pub covers : (s : Start) → Contains all s → Contains done s ⊎ Contains rest s
+  pub firsts : AreFirsts (rows_at C done) kept
+  pub before : (x : Row) → Contains kept x → (s : Start) → Contains rest s → Before x s
   pub says : AllZip SaysGroup (groups_of kept) finds
-  pub few : length finds ≤ at
-  pub inside : at ≤ length starts
+  pub few : length finds + length rest ≤ length all
 
-pub no_runs : (C : List (List Literal)) (starts : List Start) → RunsDone C starts 0 []
+pub no_runs : (C : List (List Literal)) (all : List Start) → RunsDone C all all []
 unfolding groups_of
-no_runs C starts = record {
+no_runs C all = record {
+  done = [];
   kept = [];
+  among = λ s c. absurd (let lt = c.1 in omega (arith, lt));
+  covers = λ s c. inr c;
   firsts = few_firsts [] (omega arith);
   before = λ x c. absurd (let lt = c.1 in omega (arith, lt));
   says = tt;
   few = omega arith;
-  inside = omega arith;
 }
 
--- the run that begins at a place, and what stands behind it
-pub record IsRun (starts : List Start) (at end : ℕ) : Type 0 where
-  pub ahead : at < end
-  pub inside : end ≤ length starts
-  pub alike : (k : ℕ) (d : Start) → at ≤ k → k < end → StartAlike (get_or starts k d) (get_or starts at d)
-  pub apart : (d : Start) → end < length starts → StartAlike (get_or starts end d) (get_or starts at d) → ⊥
+-- some of the starts, and the later ones
+pub record IsRun (rest run later : List Start) : Type 0 where
+  pub from : (s : Start) → Contains run s → Contains rest s
+  pub splits : (s : Start) → Contains rest s → Contains run s ⊎ Contains later s
+  pub stays : (s : Start) → Contains later s → Contains rest s
+  pub ahead : (s t : Start) → Contains run s → Contains later t → Ahead s t
+  pub long : length run + length later ≤ length rest
 
--- a row of the run starts before what stands behind
-run_before : (C : List (List Literal)) (starts : List Start) (at end : ℕ) (s : Start) (x : Row) → AreSorted C starts → IsRun starts at end → Contains (take (end - at) (drop at starts)) s → Begins s x
-    → (j : ℕ) (d : Start) → end ≤ j → j < length starts → Before x (get_or starts j d)
-run_before C starts at end s x sorted run c begins j d le lt =
-    let up = run.ahead in
-    let place = in_part starts at (end - at) s c in
-    let low = place.2 in
-    let like = run.alike place.0 s place.1 (omega (arith, low, up)) in
-    let first = begins.0 ∙ ap (λ (t : Start). t.first) (sym place.4) ∙ like.0 in
-    let second = begins.1 ∙ ap (λ (t : Start). t.second) (sym place.4) ∙ like.1 in
-    let ahead = goes_ahead (get_or starts at s) (get_or starts end s) (get_or starts j s) (starts_rise C starts at end s sorted (omega arith) (omega arith)) (run.apart s (omega arith)) (starts_rise C starts end j s sorted le lt) in
-    subst (Before x) (at_any starts j s d lt) (elim ahead [
-      | inl less ↦ inl (omega (arith, first, less))
-      | inr both ↦ inr (first ∙ both.0, (let less = both.1 in omega (arith, second, less)))
-    ])
+all_starts_by : (P : Start → Type 0) (ss : List Start) → ((s : Start) → Contains ss s → P s) → AllByRecursion P ss
+all_starts_by P [] h = tt
+all_starts_by P (s ∷ ss) h = (h s (in_head s ss), all_starts_by P ss (λ t c. h t (in_tail s ss t c)))
 
-pub next_run : (C : List (List Literal)) (starts : List Start) (at end : ℕ) (old new : List Found) → AllWithin C → AreSorted C starts → IsRun starts at end
-    → AddsFound C (take (end - at) (drop at starts)) old new → RunsDone C starts at old → RunsDone C starts end new
-next_run C starts at end old new within sorted run adds done =
-    let each = sorted.each in
-    let up = run.ahead in
-    let part = take (end - at) (drop at starts) in
-    let each_part = all_front (IsStart C) (end - at) (drop at starts) (all_later (IsStart C) at starts each) in
-    let proper_old : (x : Row) → Contains done.kept x → IsProper x = (λ x c. rows_proper C (take at starts) within (all_front (IsStart C) at starts each) x (done.firsts.from x c)) in
-    let proper_new : (y : Row) → Contains adds.kept y → IsProper y = (λ y c. rows_proper C part within each_part y (adds.firsts.from y c)) in
+pub run_each : (C : List (List Literal)) (all run : List Start) → AllByRecursion (IsStart C) all → ((s : Start) → Contains run s → Contains all s) → AllByRecursion (IsStart C) run
+run_each C all run each inside = all_starts_by (IsStart C) run (λ s c. start_is C all s each (inside s c))
+
+done_each : (C : List (List Literal)) (all rest : List Start) (finds : List Found) → AllByRecursion (IsStart C) all → (h : RunsDone C all rest finds) → AllByRecursion (IsStart C) h.done
+done_each C all rest finds each h = run_each C all h.done each h.among
+
+pub next_run : (C : List (List Literal)) (all rest run later : List Start) (old new : List Found) → AllWithin C → AllByRecursion (IsStart C) all → AllByRecursion (IsStart C) run → ((s : Start) → Contains run s → Contains all s) → IsRun rest run later
+    → AddsFound C run old new → RunsDone C all rest old → RunsDone C all later new
+next_run C all rest run later old new within each each_run inside is adds done =
+    let proper_old : (x : Row) → Contains done.kept x → IsProper x = (λ x c. rows_proper C done.done within (done_each C all rest old each done) x (done.firsts.from x c)) in
+    let proper_new : (y : Row) → Contains adds.kept y → IsProper y = (λ y c. rows_proper C run within each_run y (adds.firsts.from y c)) in
     let apart : Apart done.kept adds.kept = all_by_contains (λ x. AllByRecursion (λ y. key_cmp x y ≡ Less) adds.kept) done.kept (λ x cx. all_by_contains (λ y. key_cmp x y ≡ Less) adds.kept (λ y cy.
-    let s = of_starts C part y each_part (adds.firsts.from y cy) in
-    let place = in_part starts at (end - at) s.0 s.1 in
-    key_less x y s.0 (proper_old x cx) (proper_new y cy) (subst (Before x) place.4 (done.before x cx place.0 s.0 place.1 place.3)) s.2)) in
+    let s = of_starts C run y each_run (adds.firsts.from y cy) in
+    key_less x y s.0 (proper_old x cx) (proper_new y cy) (done.before x cx s.0 (is.from s.0 s.1)) s.2)) in
     let needs = all_by_contains (λ x. 1 ≤ needed x) done.kept (λ x c. power_needed x (proper_old x c)) in
     record {
+      done = done.done ++ run;
       kept = done.kept ++ adds.kept;
-      firsts = subst (λ (rs : List Row). AreFirsts rs (done.kept ++ adds.kept)) (sym (rows_at-append C (take at starts) part) ∙ ap (rows_at C) (sym (take_split starts at end (omega arith)))) (firsts_append (rows_at C (take at starts)) done.kept (rows_at C part) adds.kept done.firsts adds.firsts apart);
-      before = λ x c j d le lt. elim (Contains-append_cases done.kept adds.kept x c) [
-        | inl here ↦ done.before x here j d (omega (arith, le, up)) lt
-        | inr later ↦ (let s = of_starts C part x each_part (adds.firsts.from x later) in run_before C starts at end s.0 x sorted run s.1 s.2 j d le lt)
+      among = λ s c. elim (Contains-append_cases done.done run s c) [ inl here ↦ done.among s here | inr later' ↦ inside s later' ];
+      covers = λ s c. elim (done.covers s c) [
+        | inl here ↦ inl (Contains-append_left done.done run s here)
+        | inr left ↦ elim (is.splits s left) [ inl now ↦ inl (Contains-append_right done.done run s now) | inr then' ↦ inr then' ]
+      ];
+      firsts = subst (λ (rs : List Row). AreFirsts rs (done.kept ++ adds.kept)) (sym (rows_at-append C done.done run)) (firsts_append (rows_at C done.done) done.kept (rows_at C run) adds.kept done.firsts adds.firsts apart);
+      before = λ x c t ct. elim (Contains-append_cases done.kept adds.kept x c) [
+        | inl here ↦ done.before x here t (is.stays t ct)
+        | inr new' ↦ (let s = of_starts C run x each_run (adds.firsts.from x new') in before_by x s.0 t s.2 (is.ahead s.0 t s.1 ct))
       ];
       says = subst (AllZip SaysGroup (groups_of (done.kept ++ adds.kept))) (sym adds.added) (subst (λ gs. AllZip SaysGroup gs (old ++ adds.more)) (sym (groups_append done.kept adds.kept needs apart)) (zip_append (groups_of done.kept) (groups_of adds.kept) old adds.more done.says adds.says));
-      few = (let n = ap length adds.added in let both = length-append old adds.more in let a = done.few in let b = adds.few in let m = few_front (end - at) (drop at starts) in omega (arith, n, both, a, b, m, up));
-      inside = run.inside;
+      few = (let n = ap length adds.added in let both = length-append old adds.more in let a = done.few in let b = adds.few in let m = is.long in omega (arith, n, both, a, b, m));
     }
 
 -- ---- all runs
 
-pub found_runs : (formula : Problem) (starts : List Start) (at : ℕ) (finds result : List Found) → IsWithinVariables formula.variables formula.constraints → AreStarts (clauses_of formula.constraints) starts → length starts ≤ at
-    → RunsDone (clauses_of formula.constraints) starts at finds → result ≡ finds → FoundAll formula result
-found_runs formula starts at finds result within are le done is =
+pub found_runs : (formula : Problem) (all rest : List Start) (finds result : List Found) → IsWithinVariables formula.variables formula.constraints → AreStarts (clauses_of formula.constraints) all → length rest ≡ 0
+    → RunsDone (clauses_of formula.constraints) all rest finds → result ≡ finds → FoundAll formula result
+found_runs formula all rest finds result within are none done is =
     let C = clauses_of formula.constraints in
-    let firsts = subst (λ (ss : List Start). AreFirsts (rows_at C ss) done.kept) (take_all at starts le) done.firsts in
     subst (FoundAll formula) (sym is) (found_all formula done.kept finds within (are_kept (rows_of 1 C) done.kept (record {
-      sorted = firsts.sorted;
-      from = λ x c. (of_starts C starts x are.each (firsts.from x c)).3;
-      each = λ x c. firsts.each x (all_rows C starts x are c);
+      sorted = done.firsts.sorted;
+      from = λ x c. (of_starts C done.done x (done_each C all rest finds are.each done) (done.firsts.from x c)).3;
+      each = λ x c.
+          let s = in_rows_at C all x (all_rows C all x are c) in
+          done.firsts.each x (elim (done.covers s.0 s.1) [ inl here ↦ has_rows_at C done.done s.0 x here s.2 | inr left ↦ absurd (let lt = left.1 in omega (arith, lt, none)) ]);
     })) done.says)

@@ -18,7 +18,7 @@ use Rattle.xor_recover.proofs.Kept.{AreKept}
 use Rattle.xor_recover.proofs.GroupLaws.{group_first}
 use Rattle.xor_recover.proofs.Numbers.{AllWithin, proper}
 
-widened : (n : ℕ) (lits : List Literal) → n ≤ MAX_VARIABLE → AreWithin n lits → AreWithin MAX_VARIABLE lits
+pub widened : (n : ℕ) (lits : List Literal) → n ≤ MAX_VARIABLE → AreWithin n lits → AreWithin MAX_VARIABLE lits
 widened n [] few h = tt
 widened n (l ∷ lits) few h = ((h.0.0, let high = h.0.1 in omega arith), widened n lits few h.1)
 

@@ -3,3 +3,4 @@ pub mod Rows
 pub mod Groups
 pub mod Entries
 pub mod Starts
+pub mod Wholes

@@ -9,9 +9,6 @@ use Rattle.xor_recover.specs.Rows.{Row, rows_if, gathered}
 abbrev pub Begins : Start → Row → Type 0
 Begins s x = (slice_index_or x.variables 0 0 ≡ s.first) × (slice_index_or x.variables 1 0 ≡ s.second)
 
-abbrev pub StartAlike : Start → Start → Type 0
-StartAlike s t = (s.first ≡ t.first) × (s.second ≡ t.second)
-
 -- both variables as one number, which is greater where the first or, if that is the same, the second is
 abbrev pub pair_of : Start → ℕ
 pair_of s = s.first * 4294967296 + s.second

@@ -1,5 +1,6 @@
 //! Clauses in the order in which those of one parity stand side by side.
-ghost use Rattle.std.specs.Prelude.{◌≡◌, ◌≤◌, length};
+ghost use Rattle.std.specs.Prelude.{◌≡◌, ◌≤◌, length, map, not};
+ghost use Rattle.cx_base.specs.Parity.{odd_sum};
 ghost use Rattle.xor_recover.specs.Rows.{row};
 ghost use Rattle.xor_recover.specs.Entries.{row_of};
 
@@ -22,6 +23,23 @@ pub(crate) struct Entry {
     pub key: Key,
     pub signs: ArrayVec<bool, 6>,
     pub number: u64,
+}
+
+impl Key {
+    /// The parity that literals by rising variables may be needed for.
+    pub fn of(lits: &[Lit]) -> Key
+        requires { length lits.now ≤ 6 }
+        ensures vars { result.vars.items ≡ map (λ l. l.variable) lits.now }
+        ensures right { result.right ≡ not (odd_sum (map (λ l. l.negative) lits.now)) }
+    {
+        let mut vars = ArrayVec::new();
+        let mut right = true;
+        for lit in lits {
+            vars.push(lit.var().number());
+            right = right != lit.is_negative();
+        }
+        Key { vars, right }
+    }
 }
 
 impl Entry {

@@ -6,10 +6,12 @@ ghost use Rattle.cx_base.specs.Problem.{clauses_of};
 ghost use Rattle.xor_recover.specs.Rows.{placed, gathered, rows_if};
 ghost use Rattle.xor_recover.specs.Entries.{row_of, IsPosition};
 ghost use Rattle.xor_recover.specs.Starts.{rows_at, IsStart};
+ghost use Rattle.xor_recover.specs.Wholes.{IsWhole, starts_of, starts_of_all};
 ghost use Rattle.xor_recover.specs.Groups.{AreFirsts};
 
 use crate::entry::{Entry, WIDEST};
 use crate::starts::Start;
+use crate::wholes::Whole;
 use cx_base::{Formula, Lit};
 use std::alloc::{AllocError, Global};
 
@@ -101,15 +103,30 @@ impl Room {
         Ok(())
     }
 
-    /// Takes in the entries of the clauses of two to six variables that start there.
-    fn take_in(&mut self, formula: &Formula, run: &[Start]) -> Result<(), AllocError>
+    /// Adds the entries of the clauses of two to six variables that start there.
+    fn add_starts(&mut self, formula: &Formula, run: &[Start]) -> Result<(), AllocError>
         requires { AllByRecursion (IsStart (clauses_of formula.now.constraints)) run.now }
-        ensures { OnOk result (map row_of self.new.entries.items ≡ rows_at (clauses_of formula.now.constraints) run.now) }
+        ensures { OnOk result (map row_of self.new.entries.items ≡ map row_of self.old.entries.items ++ rows_at (clauses_of formula.now.constraints) run.now) }
     {
-        self.entries.clear();
         for start in run {
             let number = start.number;
             self.add(formula.clause(number as usize), number)?;
+        }
+        Ok(())
+    }
+
+    /// Adds the entries of the parity's clauses.
+    fn add_whole(&mut self, formula: &Formula, whole: &Whole) -> Result<(), AllocError>
+        requires { IsWhole (clauses_of formula.now.constraints) whole.now }
+        ensures { OnOk result (map row_of self.new.entries.items ≡ map row_of self.old.entries.items ++ rows_at (clauses_of formula.now.constraints) (starts_of whole.now)) }
+    {
+        // that the numbers fit, which this call tells the proof
+        let _clauses = formula.clause_count();
+        let first = whole.start.number as usize;
+        let count = whole.count();
+        for index in 0..count {
+            let number = first + index;
+            self.add(formula.clause(number), number as u64)?;
         }
         Ok(())
     }
@@ -124,12 +141,22 @@ impl Room {
     }
 
     /// Makes the entries those of the clauses of a run, in order, each with the least number of its clause.
-    pub fn fill(&mut self, formula: &Formula, run: &[Start]) -> Result<(), AllocError>
-        requires { AllByRecursion (IsStart (clauses_of formula.now.constraints)) run.now }
-        ensures firsts { OnOk result (AreFirsts (rows_at (clauses_of formula.now.constraints) run.now) (map row_of self.new.entries.items)) }
-        ensures few { OnOk result (length self.new.entries.items ≤ length run.now) }
+    pub fn fill(
+        &mut self,
+        formula: &Formula,
+        run: &[Start],
+        wholes: &[Whole],
+    ) -> Result<(), AllocError>
+        requires starts { AllByRecursion (IsStart (clauses_of formula.now.constraints)) run.now }
+        requires wholes { AllByRecursion (IsWhole (clauses_of formula.now.constraints)) wholes.now }
+        ensures firsts { OnOk result (AreFirsts (rows_at (clauses_of formula.now.constraints) (run.now ++ starts_of_all wholes.now)) (map row_of self.new.entries.items)) }
+        ensures few { OnOk result (length self.new.entries.items ≤ length (run.now ++ starts_of_all wholes.now)) }
     {
-        self.take_in(formula, run)?;
+        self.entries.clear();
+        self.add_starts(formula, run)?;
+        for whole in wholes {
+            self.add_whole(formula, whole)?;
+        }
         self.keep_firsts();
         Ok(())
     }

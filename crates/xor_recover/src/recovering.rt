@@ -1,6 +1,6 @@
 //! Parities from the clauses of a formula.
-ghost use Rattle.std.specs.Prelude.{◌≡◌, ◌<◌, ◌≤◌, map, drop, length, Some, None, MatchOption, IfOk, OnOk};
-ghost use Rattle.std.specs.List.{All, AllByRecursion, Contains};
+ghost use Rattle.std.specs.Prelude.{◌≡◌, ◌<◌, ◌≤◌, ◌+◌, ◌++◌, map, drop, length, Some, None, MatchOption, IfOk, OnOk};
+ghost use Rattle.std.specs.List.{All, AllByRecursion, Contains, range_with_len};
 ghost use Rattle.xor_recover.specs.declared.found.Found.{Found};
 ghost use Rattle.std.specs.List.Sorted.{IsPermutation, IsNonDecreasing, IsStrictlySortedBy};
 ghost use Rattle.xor_recover.specs.Finds.{HasLeastNumbers, IsJudgedRight, find_cmp};
@@ -13,11 +13,14 @@ ghost use Rattle.xor_recover.specs.Rows.{IsProper};
 ghost use Rattle.xor_recover.specs.Entries.{row_of};
 ghost use Rattle.xor_recover.specs.Starts.{IsStart};
 ghost use Rattle.xor_recover.specs.Groups.{AddsFound, group_of, IsFoundAt};
+ghost use Rattle.xor_recover.specs.Wholes.{IsWhole, count_of, starts_of_all};
 
 use crate::entry::{Entry, Key};
 use crate::found::{Found, FoundList};
 use crate::gathering::Room;
-use crate::starts::{Start, run_end, starts};
+use crate::ordered::{Ordered, in_order, next_pair};
+use crate::starts::{Start, starts_end};
+use crate::wholes::{Whole, wholes_end};
 use cx_base::{Formula, IdList, Lit, LitList, Var};
 use std::alloc::{AllocError, Global};
 
@@ -78,23 +81,47 @@ fn found_at(alloc: Global, entries: &[Entry], start: usize) -> Result<Option<Fou
     }
 }
 
-/// Adds the parities of a run of clauses that start alike.
-fn find_among(
+/// As many numbers from the first on.
+fn neighbours(alloc: Global, first: u64, count: usize) -> Result<IdList, AllocError>
+    requires { first + count ≤ u64.MAX + 1 }
+    ensures { IfOk result (λ ns. ns ≡ range_with_len first count) }
+{
+    let mut numbers = Vec::with_capacity(alloc, count)?;
+    for index in 0..count {
+        numbers.push(first + index as u64)?;
+    }
+    Ok(IdList::from_vec(numbers))
+}
+
+/// The parity whose clauses stand one behind the other.
+fn found_whole(alloc: Global, whole: &Whole) -> Result<Found, AllocError>
+    requires rising { AreRising 1 MAX_VARIABLE whole.now.key.vars.items }
+    requires some { 1 ≤ length whole.now.key.vars.items }
+    requires fits { whole.now.start.number + count_of whole.now ≤ u64.MAX + 1 }
+    ensures parity { IfOk result (λ find. find.parity ≡ literals_with whole.now.key.right whole.now.key.vars.items) }
+    ensures clauses { IfOk result (λ find. find.clauses ≡ range_with_len whole.now.start.number (count_of whole.now)) }
+{
+    let parity = written(alloc, &whole.key)?;
+    let clauses = neighbours(alloc, whole.start.number, whole.count())?;
+    Ok(Found { parity, clauses })
+}
+
+/// Adds the parities of clauses, put in order.
+fn find_in_order(
     alloc: Global,
     formula: &Formula,
     run: &[Start],
+    wholes: &[Whole],
     room: &mut Room,
     finds: &mut Vec<Found>,
 ) -> Result<(), AllocError>
-    requires { AllByRecursion (IsStart (clauses_of formula.now.constraints)) run.now }
-    ensures { OnOk result (AddsFound (clauses_of formula.now.constraints) run.now finds.old.items finds.new.items) }
+    requires starts { AllByRecursion (IsStart (clauses_of formula.now.constraints)) run.now }
+    requires wholes { AllByRecursion (IsWhole (clauses_of formula.now.constraints)) wholes.now }
+    ensures { OnOk result (AddsFound (clauses_of formula.now.constraints) (run.now ++ starts_of_all wholes.now) finds.old.items finds.new.items) }
 {
     // that variables are within the range, which this call tells the proof
     let _vars = formula.vars();
-    if run.len() < 2 {
-        return Ok(());
-    }
-    room.fill(formula, run)?;
+    room.fill(formula, run, wholes)?;
     for start in 0..room.entries.len() {
         match found_at(alloc, &room.entries, start)? {
             Some(find) => finds.push(find)?,
@@ -102,6 +129,32 @@ fn find_among(
         }
     }
     Ok(())
+}
+
+/// Adds the parities of clauses that start alike.
+fn find_among(
+    alloc: Global,
+    formula: &Formula,
+    run: &[Start],
+    wholes: &[Whole],
+    room: &mut Room,
+    finds: &mut Vec<Found>,
+) -> Result<(), AllocError>
+    requires starts { AllByRecursion (IsStart (clauses_of formula.now.constraints)) run.now }
+    requires wholes { AllByRecursion (IsWhole (clauses_of formula.now.constraints)) wholes.now }
+    ensures { OnOk result (AddsFound (clauses_of formula.now.constraints) (run.now ++ starts_of_all wholes.now) finds.old.items finds.new.items) }
+{
+    // that variables are within the range, and that numbers fit, which these calls tell the proof
+    let _vars = formula.vars();
+    let _len = formula.clause_count();
+    if run.is_empty() && wholes.len() == 1 {
+        finds.push(found_whole(alloc, &wholes[0])?)?;
+        return Ok(());
+    }
+    if wholes.is_empty() && run.len() < 2 {
+        return Ok(());
+    }
+    find_in_order(alloc, formula, run, wholes, room, finds)
 }
 
 /// The parities of 2 to 6 variables that stand in the formula as clauses, in order of their variables, with right
@@ -118,14 +171,18 @@ pub fn recover(alloc: Global, formula: &Formula) -> Result<FoundList, AllocError
 {
     // that variables are within the range, which this call tells the proof
     let _vars = formula.vars();
-    let starts = starts(alloc, formula)?;
+    let Ordered { starts, wholes } = in_order(alloc, formula)?;
     let mut room = Room::new(alloc)?;
-    let mut finds = Vec::new(alloc);
+    let mut finds = Vec::with_capacity(alloc, wholes.len())?;
     let mut at = 0;
-    while at < starts.len() {
-        let end = run_end(&starts, at);
-        find_among(alloc, formula, &starts[at..end], &mut room, &mut finds)?;
-        at = end;
+    let mut whole = 0;
+    while at < starts.len() || whole < wholes.len() {
+        let pair = next_pair(&starts, at, &wholes, whole);
+        let run = &starts[at..starts_end(&starts, at, pair)];
+        let alike = &wholes[whole..wholes_end(&wholes, whole, pair)];
+        find_among(alloc, formula, run, alike, &mut room, &mut finds)?;
+        at += run.len();
+        whole += alike.len();
     }
     Ok(FoundList::from_vec(finds))
 }

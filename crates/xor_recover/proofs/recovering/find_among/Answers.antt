@@ -1,52 +1,38 @@
-use Rattle.std.proofs.Common.{◌≡◌, ◌<◌, ◌≤◌, sym, ap, ◌∙◌, subst, map, drop, length, List, arith}
-use Rattle.std.proofs.lemmas.List.{length-map}
-use Rattle.std.specs.List.{All}
+use Rattle.std.proofs.Common.{◌≡◌, ◌-◌, sym, length, arith}
+use Rattle.std.proofs.lemmas.Bool.{eqb-true}
 use Rattle.cx_base.specs.Problem.{clauses_of}
-use Rattle.xor_recover.specs.declared.entry.Entry.{Entry}
-use Rattle.xor_recover.specs.Entries.{row_of}
-use Rattle.xor_recover.specs.Rows.{Row, IsProper}
-use Rattle.xor_recover.specs.Groups.{IsFoundAt}
-use Rattle.xor_recover.proofs.Within.{all_by_contains, all_entries, formula_within}
-use Rattle.xor_recover.proofs.Runs.{run_stays, run_grows, run_ends, run_alone, rows_proper}
+use Rattle.xor_recover.specs.Wholes.{count_of}
+use Rattle.xor_recover.proofs.Within.{formula_within}
+use Rattle.xor_recover.proofs.WholeRows.{at_whole, whole_inside, count_low}
+use Rattle.xor_recover.proofs.WholeGroups.{whole_alone, clause_alone}
 use Rattle.xor_recover.proofs.recovering.find_among.Goals as goal
-use Rattle.xor_recover.proofs.recovering.find_among.Goals.{in-Some+in_ok-push-in-Some, in-None}
+
+pub found_whole-requires-clause-rising : goal.found_whole-requires-clause-rising
+found_whole-requires-clause-rising c =
+    let one : length c.args.wholes.now ≡ 1 = c.if-wholes-eq1.true in
+    (at_whole (clauses_of c.args.formula.now.constraints) c.args.wholes.now 0 _ c.index-wholes-0.result c.requires.wholes (omega arith) c.index-wholes-0.is).rises
+
+pub found_whole-requires-clause-fits : goal.found_whole-requires-clause-fits
+found_whole-requires-clause-fits c =
+    let one : length c.args.wholes.now ≡ 1 = c.if-wholes-eq1.true in
+    let C = clauses_of c.args.formula.now.constraints in
+    let w = c.index-wholes-0.result in
+    let h = at_whole C c.args.wholes.now 0 _ w c.requires.wholes (omega arith) c.index-wholes-0.is in
+    let low = count_low w h.two h.six in
+    let last = (whole_inside C w (count_of w - 1) h (omega (arith, low))).1 in
+    let len = c.clause_count-len.ensures in
+    omega (arith, low, last, len)
+
+pub returns-then-wholes-eq1 : goal.returns-then-wholes-eq1
+returns-then-wholes-eq1 c =
+    let one : length c.args.wholes.now ≡ 1 = c.if-wholes-eq1.true in
+    let C = clauses_of c.args.formula.now.constraints in
+    let w = c.index-wholes-0.result in
+    let h = at_whole C c.args.wholes.now 0 _ w c.requires.wholes (omega arith) c.index-wholes-0.is in
+    whole_alone C c.args.run.now c.args.wholes.now w c.args.finds.now.items _ c.in_ok-found_whole.field-0 (eqb-true (length c.args.run.now) 0 (sym c.if-is_empty.ensures)) one c.index-wholes-0.is h c.in_ok-found_whole.ensures.parity c.in_ok-found_whole.ensures.clauses
+    c.in_ok-push.ensures.items
 
 pub returns-then-run-lt2 : goal.returns-then-run-lt2
-returns-then-run-lt2 c = run_alone (clauses_of c.args.formula.now.constraints) c.args.run.now c.args.finds.now.items (formula_within _ c.args.formula.now.constraints c.vars-vars.ensures.within) c.requires c.if-run-lt2.true
-
-pub found_at-requires-clause-proper : goal.found_at-requires-clause-proper
-found_at-requires-clause-proper c =
-    let cs = c.args.formula.now.constraints in
-    let items = c.fill.new.self.entries.items in
-    let rows = map row_of items in
-    subst (λ (es : List Entry). All (λ (e : Entry). IsProper (row_of e)) es) (sym c.deref.ensures.value)
-    (all_entries items (all_by_contains IsProper rows (λ x cx. rows_proper (clauses_of cs) c.args.run.now (formula_within _ cs c.vars-vars.ensures.within) c.requires x (c.in_ok-fill.ensures.firsts.from x cx))))
-
-pub loop-start-preserved : goal.loop-start-preserved
-loop-start-preserved c =
-    let items = c.fill.new.self.entries.items in
-    let rows = map row_of items in
-    let start = c.loop-start.start in
-    let old = c.args.finds.now.items in
-    let same : map row_of c.deref.result.now ≡ rows = ap (map row_of) c.deref.ensures.value in
-    let long : length rows ≡ length items = length-map items row_of in
-    let lt : start < length rows = omega arith in
-    let found = subst (λ (rs : List Row). IsFoundAt (drop start rs) c.in_ok-find.field-0) same c.in_ok-find.ensures in
-    elim c.match-branch-3.branch [
-      | in-Some+in_ok-push-in-Some w ↦
-          let f = subst (λ o. IsFoundAt (drop start rows) o) w.in-Some.is found in
-          run_grows rows start old c.loop-start.finds.items _ f.0 w.in-Some.find lt f.1 f.2 (ap (λ v. v.items) w.finds-is ∙ w.in_ok-push-in-Some.ensures.items) c.loop-start.invariant
-      | in-None w ↦
-          let f = subst (λ o. IsFoundAt (drop start rows) o) w.in-None.is found in
-          run_stays rows start old c.loop-start.finds.items _ lt f (ap (λ v. v.items) w.finds-is) c.loop-start.invariant
-    ]
-
-pub returns : goal.returns
-returns c =
-    let items = c.fill.new.self.entries.items in
-    let rows = map row_of items in
-    let long : length rows ≡ length items = length-map items row_of in
-    let fewer = c.in_ok-fill.ensures.few in
-    let le : length rows ≤ c.loop-start.start = omega arith in
-    let few : length rows ≤ length c.args.run.now = omega (arith, long, fewer) in
-    run_ends (clauses_of c.args.formula.now.constraints) c.args.run.now rows c.loop-start.start c.args.finds.now.items c.loop-start.finds.items c.in_ok-fill.ensures.firsts le few c.loop-start.invariant
+returns-then-run-lt2 c =
+    clause_alone (clauses_of c.args.formula.now.constraints) c.args.run.now c.args.wholes.now c.args.finds.now.items (formula_within _ c.args.formula.now.constraints c.vars-vars.ensures.within) c.requires.starts
+    (eqb-true (length c.args.wholes.now) 0 (sym c.if-is_empty-2.ensures)) c.if-run-lt2.true
