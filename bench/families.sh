@@ -2,12 +2,12 @@
 # Sums of processor time and of conflicts of `cxsat solve` over ten seeds a family, beside `minisat` and `cadical` (formulas of
 # clauses alone) and `cryptominisat5`, Debian's packages. A seed whose answer is not the family's is passed over; an answer of a
 # peer that differs from ours ends the script with 1. A run that takes longer than LIMIT seconds counts as that.
-# usage: bench/families.sh [SEEDS [LIMIT]]     (10, 300)
+# usage: bench/families.sh [SEEDS [LIMIT]]     (10, 60)
 set -euo pipefail
 source "$(dirname "$0")/common.sh"
 need minisat cryptominisat5 cadical /usr/bin/time
 build
-seeds=${1:-10} limit=${2:-300}
+seeds=${1:-10} limit=${2:-60}
 
 # Runs a solver: its name and the seconds and conflicts that it took are added to its line of sums.
 run_one() {

@@ -1,5 +1,5 @@
 #!/usr/bin/env bash
-# Texts at the limits: `check` must give each its named answer, and `solve` its status, within 1 GB of memory and a minute.
+# Texts at the limits: `check`, `elab`, `model` and `demo` must give each its named answer, and `solve` its status, within 1 GB of memory and a minute.
 # usage: bench/hostile.sh
 set -euo pipefail
 source "$(dirname "$0")/common.sh"
@@ -7,30 +7,28 @@ build
 ulimit -v 1000000
 failures=0
 
-# The formula's and the proof's text stand in files; then the wanted status and the wanted last line of both outputs.
-expect() {
-    local what=$1 status=$2 line=$3 had=0 got
-    timeout 60 "$program" check "$work/formula" "$work/proof" > "$work/output" 2>&1 || had=$?
-    got=$(tail -n 2 "$work/output" | head -n 1)
-    if [ "$had" = "$status" ] && [ "$got" = "$line" ]; then
+# Runs the program: what is tried, the wanted status, a line that must stand in one of the outputs, and the words.
+try() {
+    local what=$1 status=$2 line=$3 had=0
+    shift 3
+    timeout 60 "$program" "$@" > "$work/output" 2>&1 || had=$?
+    if [ "$had" = "$status" ] && grep -qxF -- "$line" "$work/output"; then
         echo "as wanted: $what"
     else
-        echo "NOT as wanted: $what: status $had, $got"
+        echo "NOT as wanted: $what: status $had, $(head -c 200 "$work/output" | head -n 2 | tr '\n' ' ')"
         failures=$((failures + 1))
     fi
 }
 
-# The formula's text stands in a file; then the wanted status and the wanted first line of both outputs.
+# The same, of the texts that stand in files: `check` and `elab` of the second one, `solve` of the formula.
+expect() {
+    try "$1" "$2" "$3" check "$work/formula" "$work/proof"
+}
 expect_solved() {
-    local what=$1 status=$2 line=$3 had=0 got
-    timeout 60 "$program" solve "$work/formula" > "$work/output" 2>&1 || had=$?
-    got=$(head -n 1 "$work/output")
-    if [ "$had" = "$status" ] && [ "$got" = "$line" ]; then
-        echo "as wanted: $what"
-    else
-        echo "NOT as wanted: $what: status $had, $got"
-        failures=$((failures + 1))
-    fi
+    try "$1" "$2" "$3" solve "$work/formula"
+}
+expect_elaborated() {
+    try "$1" "$2" "$3" elab "$work/formula" "$work/log" "$work/made"
 }
 
 awk 'BEGIN { n = 10000000; print "p cnf", n, 1; for (k = 1; k <= n; k++) printf "%d ", k; print 0 }' > "$work/formula"
@@ -90,8 +88,48 @@ expect 'thirty million leading zeros' 7 'c step 3 P11'
 printf 'p cnf 16777215 1\n16777215 0\n' > "$work/formula"
 expect 'the greatest variable' 7 'c step 1 P11'
 printf 'p cnf 16777216 1\n1 0' > "$work/formula"
-echo > "$work/proof"
-"$program" check "$work/formula" "$work/proof" > "$work/output" 2>&1 || had=$?
-if [ "$had" = 9 ] && [ "$(cat "$work/output")" = 'error: limit L1 at byte 6' ]; then echo 'as wanted: a variable above the greatest'; else echo "NOT as wanted: a variable above the greatest: $had"; failures=$((failures + 1)); fi
+expect 'a variable above the greatest' 9 'error: limit L1 at byte 6'
+
+# A text of so many bytes: ends of lines, and then this.
+lines() {
+    head -c $(($1 - ${#2})) /dev/zero | tr '\0' '\n'
+    printf '%s' "$2"
+}
+most=4294967295
+lines $most 'p cnf 1 1' | try 'a formula as long as may be' 7 'c step 1 P11' check - /dev/null
+lines $((most + 1)) 'p cnf 1 1' | try 'a formula longer than may be' 9 'error: limit L2 formula' check - /dev/null
+printf 'p cnf 1 1\n1 0\n' > "$work/formula"
+try 'a proof as long as may be' 7 'c step 2 P11' check "$work/formula" <(lines $most '5 1 0 1 0')
+try 'a proof longer than may be' 9 'error: limit L2 second' check "$work/formula" <(lines $((most + 1)) '5 1 0 1 0')
+try 'a log as long as may be' 8 'c step 2 E11' elab "$work/formula" <(lines $most 'o 1 1 0') "$work/made"
+try 'a log longer than may be' 9 'error: limit L2 second' elab "$work/formula" <(lines $((most + 1)) 'o 1 1 0') "$work/made"
+
+printf 'p cnf 2 1\n1 2 0\n' > "$work/formula"
+printf 'o 1 1 2 0\na %s 1 2 0\n' $big > "$work/log"
+expect_elaborated 'a log with the greatest id' 8 'c step 3 E11'
+awk 'BEGIN { print "o 1 1 2 0"; for (k = 0; k < 100000; k++) print "a 5 1 2 0\nd 5 1 2 0" }' > "$work/log"
+expect_elaborated 'one id added and deleted a hundred thousand times' 8 'c step 200002 E11'
+awk 'BEGIN { print "o 1 1 2 0"; id = 2; for (k = 0; k < 61; k++) { id *= 2; printf "a %.0f 1 2 0\n", id } }' > "$work/log"
+expect_elaborated 'a log with ids that double' 8 'c step 63 E11'
+awk 'BEGIN { print "o 1 1 2 0"; printf "a 5 "; for (k = 0; k < 1000000; k++) printf "%d ", k % 2 ? 1 : 2; print 0 }' > "$work/log"
+expect_elaborated 'a clause of a million literals in a log' 8 'c step 3 E11'
+awk 'BEGIN { n = 100000; print "p cnf", n, n + 1; print 1, 0; for (k = 1; k < n; k++) print -k, k + 1, 0; print -n, 0 }' > "$work/formula"
+awk 'NR > 1 { print "o", NR - 1, $0 } END { print "a", NR, 0 }' "$work/formula" > "$work/log"
+expect_elaborated 'a refutation of a hundred thousand steps without a hint' 0 's ELABORATED'
+awk 'BEGIN { n = 100000; print "p cnf", n, n; print 1, 0; for (k = 1; k < n; k++) print -k, k + 1, 0 }' > "$work/formula"
+awk 'NR > 1 { print "o", NR - 1, $0 } END { n = NR - 1; for (k = 2; k <= n; k++) print "a", n + k, k, 0 }' "$work/formula" > "$work/log"
+expect_elaborated 'a hundred thousand units without a hint, each from the one before' 8 'c step 200000 E11'
+awk 'NR == 1 { $4++ } { print } END { print -100000, 0 }' "$work/formula" > "$work/refuted"
+mv "$work/refuted" "$work/formula"
+awk 'NR > 1 { print "o", NR - 1, $0 } END { n = NR - 1; for (k = 2; k < n; k++) print "a", n + k, k, 0; print "a", 2 * n, 0 }' "$work/formula" > "$work/log"
+expect_elaborated 'the same, of a formula that unit propagation refutes' 0 's ELABORATED'
+
+awk 'BEGIN { n = 10000000; print "p cnf", n, 1; print n, 0 }' > "$work/formula"
+awk 'BEGIN { n = 10000000; print "s SATISFIABLE"; printf "v"; for (k = 1; k <= n; k++) printf " %d", k; print " 0" }' > "$work/answer.text"
+try 'an answer of ten million values' 0 's MODEL RIGHT' model "$work/formula" "$work/answer.text"
+printf 's SATISFIABLE\nv 1 \0 0\n' > "$work/answer.text"
+printf 'p cnf 2 1\n1 2 0\n' > "$work/formula"
+try 'a NUL in an answer' 11 'c A2 at byte 18' model "$work/formula" "$work/answer.text"
+try 'the largest demonstration' 0 'c proof VERIFIED' demo odd 2000 18446744073709551615
 echo "$failures not as wanted"
 [ "$failures" = 0 ]

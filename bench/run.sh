@@ -31,7 +31,7 @@ propagation, where above 1 it did more. Where a peer was cut off, the ratio is o
 | what | on what | cxsat | beside it | ratio |
 | --- | --- | --- | --- | --- |
 TEXT
-    for script in reader check elab foreign solve families parities recover propagate memory rows; do
+    for script in reader check elab slot foreign solve families parities recover propagate memory rows; do
         "$here/$script.sh"
     done
 } > "$work/results"
