@@ -78,3 +78,20 @@ bring() {
         grep "^$crate:" "$here/../crates.txt" | head -n 1 >> "$work/crates.txt"
     done
 }
+
+# Lays a program of `programs/` out over copies of crates and goes into its folder: its name, those crates that it names itself, all
+# crates that it stands on.
+stand_on() {
+    local name=$1 named=$2
+    shift 2
+    bring "$@"
+    echo "$name: $named" >> "$work/crates.txt"
+    mkdir -p "$work/crates/$name"
+    lay_out "$name" "$work/crates/$name"
+    cd "$work/crates/$name"
+}
+
+# Proves, builds and runs the program of this folder once, on these words; what it prints stands in $work/run.log.
+first_run() {
+    rt run -- "$@" > "$work/run.log" 2>&1 || { cat "$work/run.log" >&2; exit 1; }
+}

@@ -23,18 +23,12 @@ if [ "$vars" -lt 3 ]; then
     echo "bench/propagate.sh: a clause has three different variables" >&2
     exit 2
 fi
-program=$work/crates/propagate_times
-bring cx_base cx_texts cx_desk cnfx_reader cx_trail clause_arena watch_lists
-echo 'propagate_times: cx_base cnfx_reader cx_trail clause_arena watch_lists' >> "$work/crates.txt"
-lay_out propagate_times "$program"
 formula="$work/formula.cnf"
 awk -v seed="$seed" -v clauses="$clauses" -v vars="$vars" -f "$here/make_clauses.awk" > "$formula"
-cd "$program"
 # A run of one round proves and builds the program; it is timed afterwards, alone.
-if ! rt run -- 1 "$formula" > "$work/run.log" 2>&1; then
-    cat "$work/run.log" >&2
-    exit 1
-fi
+stand_on propagate_times 'cx_base cnfx_reader cx_trail clause_arena watch_lists' \
+    cx_base cx_texts cx_desk cnfx_reader cx_trail clause_arena watch_lists
+first_run 1 "$formula"
 # minisat's status is that of its answer, also where the time ends.
 minisat -no-pre -cpu-lim="$limit" "$formula" > "$work/minisat.log" 2>&1 || true
 TIMEFORMAT='%U %S'

@@ -6,16 +6,9 @@
 set -euo pipefail
 source "$(dirname "$0")/common.sh"
 rounds=${1:-5}
-mkdir -p "$work/crates/recover_times/src"
-crates='cx_base cx_texts cx_desk cx_semantics cnfx_reader gf2_rows parity_engine gf2_matrix xor_recover'
-bring $crates
-echo 'recover_times: cx_base cnfx_reader xor_recover' >> "$work/crates.txt"
-lay_out recover_times "$work/crates/recover_times"
-cd "$work/crates/recover_times"
-if ! rt run > "$work/run.log" 2>&1; then
-    cat "$work/run.log" >&2
-    exit 1
-fi
+stand_on recover_times 'cx_base cnfx_reader xor_recover' \
+    cx_base cx_texts cx_desk cx_semantics cnfx_reader gf2_rows parity_engine gf2_matrix xor_recover
+first_run
 
 # The least microseconds of reading and of recovery, and the number of parities, of so many runs on a formula.
 least() {

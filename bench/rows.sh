@@ -5,16 +5,8 @@
 # its own; it takes a minute or two.
 set -euo pipefail
 source "$(dirname "$0")/common.sh"
-mkdir -p "$work/crates/rows_times/src"
-cp -r "$here/../crates/cx_base" "$here/../crates/gf2_rows" "$work/crates/"
-rm -rf "$work"/crates/*/must-fail
-printf 'cx_base:\ngf2_rows: cx_base\nrows_times: gf2_rows\n' > "$work/crates.txt"
-lay_out rows_times "$work/crates/rows_times"
-cd "$work/crates/rows_times"
-if ! rt run -- "${1:-100000000}" > "$work/run.log" 2>&1; then
-    cat "$work/run.log" >&2
-    exit 1
-fi
+stand_on rows_times gf2_rows cx_base gf2_rows
+first_run "${1:-100000000}"
 while read -r _ name words plain lanes same; do
     [ "$same" = true ] || { echo "rows.sh: $name answers otherwise over lanes" >&2; exit 1; }
     row 'row kernels' "$name, rows of $words words" "over lanes: $lanes ms" "plain loop: $plain ms" "$(ratio "$lanes" "$plain")"

@@ -7,15 +7,9 @@
 set -euo pipefail
 source "$(dirname "$0")/common.sh"
 chain=${1:-1000000} holes=${2:-14} rounds=${3:-5}
-bring cx_base cx_semantics cx_texts cx_desk cnfx_reader step_text proof_text proof_rules xlrup_check
-echo 'steps_times: cx_base cx_desk cnfx_reader step_text proof_text xlrup_check' >> "$work/crates.txt"
-mkdir -p "$work/crates/steps_times"
-lay_out steps_times "$work/crates/steps_times"
-cd "$work/crates/steps_times"
-if ! rt run > "$work/run.log" 2>&1; then
-    cat "$work/run.log" >&2
-    exit 1
-fi
+stand_on steps_times 'cx_base cx_desk cnfx_reader step_text proof_text xlrup_check' \
+    cx_base cx_semantics cx_texts cx_desk cnfx_reader step_text proof_text proof_rules xlrup_check
+first_run
 
 # The least microseconds over the slice and over the slot of a kind of work, in so many runs.
 least() {
