@@ -1,24 +1,45 @@
 #!/usr/bin/env bash
-# Times `cxsat elab` on logs of chains and pigeonholes, with the hints in the log and without them, and `cxsat check` on the
-# proofs that it writes, each at a size and at twice its work. Without hints each added clause is searched for.
+# Times `cxsat elab` on the logs that `cxsat solve` writes, and on logs of chains and pigeonholes with the hints in the log and
+# without them, and `cxsat check` on the proofs that it writes, each at a size and at twice its work or more. Without hints each added
+# clause is searched for. Half of a chain's log tells the formula, which its proof does not.
 # usage: bench/elab.sh [CHAIN [HOLES [HOLES_WITHOUT_HINTS]]]
 set -euo pipefail
 source "$(dirname "$0")/common.sh"
 build
 
-measure() {
-    local what=$1 kind=$2 size=$3 hints=$4 elaborated checked had
-    awk -v kind="$kind" -v size="$size" -v formula="$work/formula" -v proof="$work/hinted" -f "$here/make_proof.awk"
-    awk -v hints="$hints" -f "$here/log_of_proof.awk" "$work/formula" "$work/hinted" > "$work/log"
+# A row for a log of the formula.
+judge() {
+    local what=$1 elaborated checked
     elaborated=$(seconds "$program" elab "$work/formula" "$work/log" "$work/proof")
     answered 's ELABORATED'
     checked=$(seconds "$program" check "$work/formula" "$work/proof")
     answered 's VERIFIED'
-    if [ "$hints" = 1 ]; then had='hints'; else had='no hints'; fi
-    row 'elaborating a log' "$what $size, $had: $(wc -l < "$work/log") steps, log $(megabytes "$work/log"), proof $(megabytes "$work/proof")" \
+    row 'elaborating a log' "$what: $(wc -l < "$work/log") steps, log $(megabytes "$work/log"), proof $(megabytes "$work/proof")" \
         "$elaborated s" "check of the proof: $checked s" "$(ratio "$elaborated" "$checked")"
 }
 
+# The log that `solve` writes of a refutation.
+own() {
+    local what=$1 kind=$2 size=$3 seed=$4
+    awk -v kind="$kind" -v size="$size" -v seed="$seed" -f "$here/make_instance.awk" > "$work/formula"
+    seconds "$program" solve "$work/formula" --proof "$work/log" --conflicts 1000000000 > "$work/taken" || true
+    answered 's UNSATISFIABLE'
+    judge "own log, $what $size, in $(cat "$work/taken") s"
+}
+
+measure() {
+    local what=$1 kind=$2 size=$3 hints=$4 had
+    awk -v kind="$kind" -v size="$size" -v formula="$work/formula" -v proof="$work/hinted" -f "$here/make_proof.awk"
+    awk -v hints="$hints" -f "$here/log_of_proof.awk" "$work/formula" "$work/hinted" > "$work/log"
+    if [ "$hints" = 1 ]; then had='hints'; else had='no hints'; fi
+    judge "$what $size, $had"
+}
+
+own 'random 3-clauses, variables:' random 200 3
+own 'random 3-clauses, variables:' random 250 1
+own 'pigeonholes:' holes 8 1
+own 'parities as clauses:' system 200 1
+own 'ladder as clauses, rungs:' ladder 100 1
 chain=${1:-250000} holes=${2:-11} searched=${3:-7}
 measure 'implication chain' chain "$chain" 1
 measure 'implication chain' chain $((2 * chain)) 1
