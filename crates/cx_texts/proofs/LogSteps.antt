@@ -1,10 +1,11 @@
 -- Steps of a log: the letters that begin them, and what may follow a whole one.
-use Rattle.std.proofs.Common.{◌≡◌, refl, sym, ap, ◌∙◌, subst, List, [], ◌∷◌, ◌++◌, flat_map, ◌⊎◌, inl, inr, append-nil}
+use Rattle.std.proofs.Common.{◌≡◌, ◌≢◌, ℕ, refl, sym, ap, ◌∙◌, subst, List, [], ◌∷◌, ◌++◌, flat_map, ◌⊎◌, inl, inr, append-nil}
 use Rattle.std.specs.List.{AllByRecursion}
+use Rattle.cx_base.specs.declared.lists.IntList.{IntList}
 use Rattle.cx_base.specs.declared.steps.LogStep.{LogStep}
 use Rattle.cx_base.specs.declared.steps.LogStep.TheVariants as log
 use Rattle.cx_texts.specs.Words.{Word, letter, Placed, words}
-use Rattle.cx_texts.specs.Grammar.{mark, id, end, ids, integers, spelled, spelled_list, IsProper, spelling, IsStep, Begins}
+use Rattle.cx_texts.specs.Grammar.{mark, id, end, ids, integers, spelled, spelled_list, IsProper, spelling, IsStep, IsClosed, Begins}
 use Rattle.cx_texts.specs.LogText.{log_steps, log_fields}
 use Rattle.cx_texts.proofs.Shapes.{Kind, a_mark, some_integers}
 use Rattle.cx_texts.proofs.Remaining.{remaining, remaining-push, after_word, rows_of, begins_nowhere, all_passed, both_passed, positive}
@@ -90,3 +91,12 @@ nothing_behind _ w h = refl
 pub no_more : (s : LogStep) (ws : List Word) (w : Word) → IsStep log_steps ws s → IsFirst w → ¬ Begins log_steps (ws ++ w ∷ [])
 no_more s ws w h first = begins_nowhere log_steps log_forms (ws ++ w ∷ [])
     (remaining-push log_rows ws w ∙ ap (flat_map (after_word w)) (behind_words s ws h) ∙ nothing_behind s w first)
+
+nothing_but_behind_clause : (s : LogStep) → ((n : ℕ) (lits : IntList) → s ≢ log.Clause n lits) → behind_step s ≡ [] ∷ []
+nothing_but_behind_clause (log.Clause n lits) other = absurd (other n lits refl)
+nothing_but_behind_clause _ other = refl
+
+-- no word goes on with a step but with an added clause
+pub closed : (s : LogStep) → ((n : ℕ) (lits : IntList) → s ≢ log.Clause n lits) → IsClosed log_steps s
+closed s other ws w h = begins_nowhere log_steps log_forms (ws ++ w ∷ [])
+    (remaining-push log_rows ws w ∙ ap (flat_map (after_word w)) (behind_words s ws h ∙ nothing_but_behind_clause s other))

@@ -3,7 +3,7 @@ use Rattle.std.proofs.Common.{◌≡◌, refl, sym, ap, ◌∙◌, subst, ℕ, z
 use Rattle.std.specs.List.{onto_first}
 use Rattle.std.proofs.lemmas.List.{drop_more}
 use Rattle.cx_texts.specs.Tokens.{Token, is_blank, begins_with, lines_from, tokens_by, with_first_by, tokens_from_by, tokens_within_by, NoBlank, EndsRun}
-use Rattle.cx_texts.specs.Pieces.{but_first_by, tokens_in_by, tokens_in, behind_percent, behind_byte, last_is_blank, EndsBlank}
+use Rattle.cx_texts.specs.Pieces.{but_first_by, tokens_in_by, tokens_in, behind_percent, behind_byte, line_of, line_behind, last_is_blank, EndsBlank}
 use Rattle.cx_texts.specs.declared.line_state.Behind.{Behind}
 use Rattle.cx_texts.specs.declared.line_state.Behind.TheVariants.{Line as in_line, Token as a_token, End as the_end}
 use Rattle.cx_texts.specs.declared.line_state.EndLines.{EndLines}
@@ -163,6 +163,11 @@ ends_behind text n l h = go text n l h true
 
 -- ---- cut behind a blank, and from a token on
 
+-- the bytes of a token stand in a kept line
+behind_run : (run rest : List ℕ) → NoBlank run → line_behind Kept (run ++ rest) ≡ line_behind Kept rest
+behind_run [] rest h = refl
+behind_run (b ∷ run) rest h = ap (λ x. line_behind (line_of (cond x (cond (b == 10) (in_line Start) (in_line Kept)) a_token)) (run ++ rest)) h.0 ∙ behind_run run rest h.1
+
 no_run_last : (x : ℕ) (run rest : List ℕ) (d : Bool) → is_blank x ≡ false → NoBlank run → rest ≡ [] → last_is_blank d ((x ∷ run) ++ rest) ≡ true → ⊥
 no_run_last x run rest d h w e l =
     let k : last_is_blank d ((x ∷ run) ++ rest) ≡ last_is_blank false run = last-append (is_blank x) run rest ∙ ap (λ r. last_is_blank (last_is_blank (is_blank x) run) r) e ∙ ap (λ c. last_is_blank c run) h in
@@ -178,8 +183,10 @@ drop_behind (x ∷ xs) ys k = ap (λ n. drop n ((x ∷ xs) ++ ys)) (let e : leng
 
 module _ (rule : EndLines) where
   -- the tokens of the front and then those of what follows
-  abbrev Cut : LineState → ℕ → List ℕ → List ℕ → Type 0
-  Cut s p a b = (more : List Token) × (tokens_in_by rule s p (a ++ b) ≡ tokens_in_by rule s p a ++ more)
+  record Cut (s : LineState) (p : ℕ) (a b : List ℕ) : Type 0 where
+    more : List Token
+    cut : tokens_in_by rule s p (a ++ b) ≡ tokens_in_by rule s p a ++ more
+    left : rule ≡ end_line.Kept → more ≡ tokens_in (line_behind s a) (p + length a) b
 
   -- the same of the shorter texts
   abbrev Cuts : ℕ → Type 0
@@ -201,22 +208,48 @@ module _ (rule : EndLines) where
       let all : tokens_in_by rule s p (x ∷ (a ++ b)) ≡ token_at p (x ∷ r.run) ∷ tokens_within_by rule q ((y ∷ rest) ++ b) =
       (token_begins rule s p x (a ++ b) h).1 ∙ ap (λ t. tokens_within_by rule p (x ∷ t)) (ap (λ t. t ++ b) is ∙ append_assoc r.run (y ∷ rest) b)
       ∙ within-run rule p x r.run ((y ∷ rest) ++ b) whole ends in
-      (m.0, all ∙ ap (λ ts. token_at p (x ∷ r.run) ∷ ts) m.1 ∙ ap (λ ts. ts ++ m.0) (sym front))
+      record {
+        more = m.more;
+        cut = all ∙ ap (λ ts. token_at p (x ∷ r.run) ∷ ts) m.cut ∙ ap (λ ts. ts ++ m.more) (sym front);
+        left = λ kept.
+            let here : line_of (behind_byte end_line.Kept s x) ≡ Kept = ap (λ o. line_of (behind_byte o s x)) (sym kept) ∙ ap line_of h in
+            let behind : line_behind Kept (y ∷ rest) ≡ line_behind s (x ∷ a) = sym ((λ i. line_behind (here i) (is i)) ∙ behind_run r.run (y ∷ rest) r.whole) in
+            let place : q + length (y ∷ rest) ≡ p + length (x ∷ a) = omega (arith, long) in
+            m.left kept ∙ (λ i. tokens_in (behind i) (place i) b);
+      }
 
   cut_byte : (n : ℕ) → Cuts n → (s : LineState) (p x : ℕ) (a b : List ℕ) → length (x ∷ a) < suc n → EndsBlank (x ∷ a) → (o : Behind) → behind_byte rule s x ≡ o → Cut s p (x ∷ a) b
   cut_byte n cuts s p x a b l e (in_line t) h =
       let m = cuts t (p + 1) a b (omega arith) (ends_any (is_blank x) a e) in
-      (m.0, one_byte rule s t p x (a ++ b) h ∙ m.1 ∙ ap (λ ts. ts ++ m.0) (sym (one_byte rule s t p x a h)))
+      record {
+        more = m.more;
+        cut = one_byte rule s t p x (a ++ b) h ∙ m.cut ∙ ap (λ ts. ts ++ m.more) (sym (one_byte rule s t p x a h));
+        left = λ kept.
+            let here : line_of (behind_byte end_line.Kept s x) ≡ t = ap (λ o. line_of (behind_byte o s x)) (sym kept) ∙ ap line_of h in
+            let place : (p + 1) + length a ≡ p + length (x ∷ a) = omega arith in
+            m.left kept ∙ (λ i. tokens_in (line_behind (sym here i) a) (place i) b);
+      }
   cut_byte n cuts s p x a b l e a_token h = cut_run n cuts s p x a b l e h (run_of a).rest (run_of a) refl
-  cut_byte n cuts s p x a b l e the_end h = ([], text_ends rule s p x (a ++ b) h ∙ ap (λ ts. ts ++ []) (sym (text_ends rule s p x a h)))
+  cut_byte n cuts s p x a b l e the_end h = record {
+    more = [];
+    cut = text_ends rule s p x (a ++ b) h ∙ ap (λ ts. ts ++ []) (sym (text_ends rule s p x a h));
+    left = λ kept. absurd (never_ends s x (ap (λ o. behind_byte o s x) (sym kept) ∙ h));
+  }
 
   cut_at : (n : ℕ) → Cuts n
   cut_at zero s p a b l e = absurd (omega arith)
-  cut_at (suc n) s p [] b l e = (tokens_in_by rule s p b, ap (λ ts. ts ++ tokens_in_by rule s p b) (sym (in-nothing rule s p)))
+  cut_at (suc n) s p [] b l e = record {
+    more = tokens_in_by rule s p b;
+    cut = ap (λ ts. ts ++ tokens_in_by rule s p b) (sym (in-nothing rule s p));
+    left = λ kept. (λ i. tokens_in_by (kept i) s (place i) b);
+  }
+    where
+      place : p ≡ p + length {A = ℕ} []
+      place = omega arith
   cut_at (suc n) s p (x ∷ a) b l e = cut_byte n (cut_at n) s p x a b l e (behind_byte rule s x) refl
 
   pub cut_behind_blank : (s : LineState) (p : ℕ) (a b : List ℕ) → EndsBlank a → (more : List Token) × (tokens_in_by rule s p (a ++ b) ≡ tokens_in_by rule s p a ++ more)
-  cut_behind_blank s p a b e = cut_at (suc (length a)) s p a b (omega arith) e
+  cut_behind_blank s p a b e = let c = cut_at (suc (length a)) s p a b (omega arith) e in (c.more, c.cut)
 
   -- the token stands so many bytes behind the place, and it and the others are what is left there
   pub record StandsAt (p : ℕ) (text : List ℕ) (token : Token) (others : List Token) : Type 0 where
@@ -273,3 +306,7 @@ module _ (rule : EndLines) where
   -- in the tokens of a text, each tells by its place what is left from it on
   pub left_from_token : (s : LineState) (p : ℕ) (text : List ℕ) (before : List Token) (token : Token) (others : List Token) → tokens_in_by rule s p text ≡ before ++ token ∷ others → StandsAt p text token others
   left_from_token s p text before token others e = stands (suc (length text)) s p text (omega arith) before token others e
+
+-- where `%` lines are as any others, what follows the front is read from its end on
+pub left_behind_blank : (s : LineState) (p : ℕ) (a b : List ℕ) → EndsBlank a → tokens_in s p (a ++ b) ≡ tokens_in s p a ++ tokens_in (line_behind s a) (p + length a) b
+left_behind_blank s p a b e = let c = cut_at end_line.Kept (suc (length a)) s p a b (omega arith) e in c.cut ∙ ap (λ ts. tokens_in s p a ++ ts) (c.left refl)

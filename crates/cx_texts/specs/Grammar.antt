@@ -66,6 +66,10 @@ module _ {S : Type 0} (g : Grammar S) where
   Stops ws [] = ⊤
   Stops ws (next ∷ rest) = ¬ Begins (ws ++ next.word ∷ [])
 
+  -- no word goes on with the step
+  abbrev pub IsClosed : S → Type 0
+  IsClosed s = (ws : List Word) (next : Word) → IsStep ws s → ¬ Begins (ws ++ next ∷ [])
+
   abbrev pub AreInLimit : List Placed → Type 0
   AreInLimit placed = AllByRecursion (λ p. IsWithin g.limit p.word) placed
 

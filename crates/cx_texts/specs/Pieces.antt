@@ -34,6 +34,16 @@ behind_byte rule Start b = if is_blank b then Line Start else if b == 99 then Li
 behind_byte rule Kept b = if is_blank b then if b == 10 then Line Start else Line Kept else AToken
 behind_byte rule Comment b = if b == 10 then Line Start else Line Comment
 
+-- what the reader stands in behind a byte, and behind these bytes, where `%` lines are as any others: a token stands in a kept line
+abbrev pub line_of : Behind → LineState
+line_of (Line line) = line
+line_of AToken = Kept
+line_of End = Kept
+
+abbrev pub line_behind : LineState → List ℕ → LineState
+line_behind line [] = line
+line_behind line (b ∷ bs) = line_behind (line_of (behind_byte end_line.Kept line b)) bs
+
 -- whether the last byte is a blank, or else what is said of no byte
 abbrev pub last_is_blank : Bool → List ℕ → Bool
 last_is_blank none [] = none

@@ -22,7 +22,7 @@ pub use laws::{
 pub use line_state::{EndLines, LineState};
 pub use natural::{is_digit_byte, read_natural};
 pub use offence::Offence;
-pub use pieces::{PlaceIn, pass_blanks, whole_front};
+pub use pieces::{PlaceIn, line_behind, pass_blanks, whole_front};
 pub use places::{begin_behind, begin_of_next, run_len};
 pub use textual::Textual;
 pub use token_reader::{TokenAt, TokenReader, is_blank_byte};

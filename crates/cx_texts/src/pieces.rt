@@ -1,7 +1,7 @@
 //! Where the pieces of a text may be cut.
 ghost use Rattle.std.specs.Prelude.{false, ◌≡◌, ◌≤◌, ◌<◌, ◌+◌, ℕ, List, [], ◌++◌, length, take, drop, IsTrue, IsFalse};
 ghost use Rattle.cx_texts.specs.Tokens.{EndsRun};
-ghost use Rattle.cx_texts.specs.Pieces.{tokens_in_by, EndsBlank};
+ghost use Rattle.cx_texts.specs.Pieces.{tokens_in_by, EndsBlank, line_behind};
 ghost use Rattle.cx_texts.specs.declared.line_state.EndLines.TheVariants as end_line;
 ghost use Rattle.cx_texts.specs.declared.line_state.LineState.TheVariants.{Kept};
 
@@ -55,6 +55,20 @@ pub fn pass_blanks(piece: &[u8], line: LineState, end_lines: EndLines) -> PlaceI
         line: state,
         is_end: false,
     }
+}
+
+/// What a reader of lines stands in behind these bytes, where `%` lines are kept.
+pub fn line_behind(line: LineState, bytes: &[u8]) -> LineState
+    ensures { result ≡ line_behind line bytes.now }
+{
+    let mut line = line;
+    for byte in bytes {
+        line = match behind_byte(line, *byte, EndLines::Kept) {
+            Behind::Line(next) => next,
+            Behind::Token | Behind::End => LineState::Kept,
+        };
+    }
+    line
 }
 
 /// The length of the longest front of a piece that ends with a blank, so that no token crosses its end.

@@ -202,5 +202,10 @@ impl StepGrammar for LogGrammar {
         take_step(alloc, tokens, size)
     }
 
+    // behind a clause its hints may follow
+    fn is_closed(step: &LogStep) -> bool {
+        !matches!(step, LogStep::Clause(_, _))
+    }
+
     ghost forms = { log_forms };
 }

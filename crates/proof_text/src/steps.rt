@@ -158,5 +158,9 @@ impl StepGrammar for ProofGrammar {
         take_step(alloc, tokens, size)
     }
 
+    fn is_closed(_step: &ProofStep) -> bool {
+        true
+    }
+
     ghost forms = { proof_forms };
 }

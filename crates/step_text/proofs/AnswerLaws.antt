@@ -10,6 +10,7 @@ use Rattle.cx_texts.specs.Tokens.{tokens_within}
 use Rattle.cx_texts.specs.Pieces.{tokens_in}
 use Rattle.cx_texts.specs.Words.{placed_words}
 use Rattle.cx_texts.specs.Grammar.{Grammar, Reading}
+use Rattle.cx_texts.specs.declared.line_state.LineState.{LineState}
 use Rattle.cx_texts.specs.declared.line_state.LineState.TheVariants.{Kept}
 use Rattle.cx_texts.proofs.PieceLaws.{tokens_in-nothing}
 use Rattle.cx_base.specs.Endings.{Ending, finished, bad_token, too_big, unterminated}
@@ -120,11 +121,11 @@ module _ {S : Type 0} (g : Grammar S) where
     is_kept : 0 < length s.bytes.bytes → s.line ≡ Kept
     is_kept h = line (λ e. let k : length s.bytes.bytes ≡ 0 = ap length e in omega (arith, h, k))
 
-    abbrev behind_step : ℕ → SlotState
-    behind_step next = record s { bytes = record s.bytes { bytes = drop (next - s.bytes.place) s.bytes.bytes; place = next } }
+    abbrev behind_step : ℕ → LineState → SlotState
+    behind_step next line = record s { bytes = record s.bytes { bytes = drop (next - s.bytes.place) s.bytes.bytes; place = next }; line = line }
 
-    pub step_answer : (o : Outside) (step : S) (next : ℕ) → FoundStep g s.bytes.ended s.bytes.place s.bytes.bytes step next → IsAnswer g s o (Ok (Some step)) (behind_step next) o
-    step_answer o step next f =
+    pub step_answer : (o : Outside) (step : S) (next : ℕ) (line : LineState) → FoundStep g s.bytes.ended s.bytes.place s.bytes.bytes step next line → IsAnswer g s o (Ok (Some step)) (behind_step next line) o
+    step_answer o step next line f =
         let kept : s.line ≡ Kept = is_kept (omega (arith, f.some, f.inside)) in
         let k : next - s.bytes.place ≡ f.behind = omega (arith, f.at) in
         let sum : next + length (drop (next - s.bytes.place) s.bytes.bytes) ≡ s.bytes.place + length s.bytes.bytes = omega (arith, f.at, f.inside, k, ap (λ n. length (drop n s.bytes.bytes)) k, length-drop f.behind s.bytes.bytes) in
@@ -133,15 +134,14 @@ module _ {S : Type 0} (g : Grammar S) where
             more,
             come,
             let size : (next + length (drop (next - s.bytes.place) s.bytes.bytes)) + length more ≡ taken_by s.bytes + length more = ap (λ n. n + length more) sum in
-                let reading : Reading g (taken_by s.bytes + length more) (placed_words (tokens_in s.line next (drop (next - s.bytes.place) s.bytes.bytes ++ more))) steps ending =
-                subst (λ (n : ℕ). Reading g n (placed_words (tokens_in s.line next (drop (next - s.bytes.place) s.bytes.bytes ++ more))) steps ending) size
-                (subst (λ (r : Option TextRefusal). LeftOf g (tokens_in s.line next (drop (next - s.bytes.place) s.bytes.bytes ++ more)) ((next + length (drop (next - s.bytes.place) s.bytes.bytes)) + length more) r steps ending) fresh left) in
-                let rest : Reading g (taken_by s.bytes + length more) (placed_words (tokens_within next (drop f.behind s.bytes.bytes ++ more))) steps ending =
-                subst (λ (n : ℕ). Reading g (taken_by s.bytes + length more) (placed_words (tokens_within next (drop n s.bytes.bytes ++ more))) steps ending) k
-                (subst (λ l. Reading g (taken_by s.bytes + length more) (placed_words (tokens_in l next (drop (next - s.bytes.place) s.bytes.bytes ++ more))) steps ending) kept reading) in
+                let reading : Reading g (taken_by s.bytes + length more) (placed_words (tokens_in line next (drop (next - s.bytes.place) s.bytes.bytes ++ more))) steps ending =
+                subst (λ (n : ℕ). Reading g n (placed_words (tokens_in line next (drop (next - s.bytes.place) s.bytes.bytes ++ more))) steps ending) size
+                (subst (λ (r : Option TextRefusal). LeftOf g (tokens_in line next (drop (next - s.bytes.place) s.bytes.bytes ++ more)) ((next + length (drop (next - s.bytes.place) s.bytes.bytes)) + length more) r steps ending) fresh left) in
+                let rest : Reading g (taken_by s.bytes + length more) (placed_words (tokens_in line next (drop f.behind s.bytes.bytes ++ more))) steps ending =
+                subst (λ (n : ℕ). Reading g (taken_by s.bytes + length more) (placed_words (tokens_in line next (drop n s.bytes.bytes ++ more))) steps ending) k reading in
                 subst (λ (r : Option TextRefusal). LeftOf g (tokens_in s.line s.bytes.place (s.bytes.bytes ++ more)) (taken_by s.bytes + length more) r (step ∷ steps) ending) (sym fresh)
                 (subst (λ l. Reading g (taken_by s.bytes + length more) (placed_words (tokens_in l s.bytes.place (s.bytes.bytes ++ more))) (step ∷ steps) ending) (sym kept)
-                (placed_words (tokens_within next (drop f.behind s.bytes.bytes ++ more)), f.spells more come.0, rest)),
+                (placed_words (tokens_in line next (drop f.behind s.bytes.bytes ++ more)), f.spells more come.0, rest)),
           );
           kept = record {
             slot = refl;

@@ -2,14 +2,15 @@
 use Rattle.std.proofs.Common.{◌≡◌, ◌≢◌, refl, sym, ap, ◌∙◌, subst, ℕ, zero, suc, ◌+◌, ◌<◌, ◌≤◌, Bool, true, false, List, [], ◌∷◌, ◌++◌, length, take, drop, arith, append_assoc, append-nil, length-append, length-take, take-append-drop}
 use Rattle.std.proofs.lemmas.List.{map-append, drop-append-le, drop_all}
 use Rattle.cx_texts.specs.Tokens.{Token, tokens_within}
-use Rattle.cx_texts.specs.Pieces.{EndsBlank}
+use Rattle.cx_texts.specs.Pieces.{EndsBlank, tokens_in, line_behind}
+use Rattle.cx_texts.specs.declared.line_state.LineState.{LineState}
 use Rattle.cx_texts.specs.declared.line_state.LineState.TheVariants.{Kept}
 use Rattle.cx_texts.specs.Words.{Placed, words, placed_words, word_of}
-use Rattle.cx_texts.specs.Grammar.{Grammar, IsStep, Spells, FirstBad, FirstBig}
+use Rattle.cx_texts.specs.Grammar.{Grammar, IsStep, IsClosed, Stops, Spells, FirstBad, FirstBig}
 use Rattle.cx_texts.proofs.Forms.{Forms}
 use Rattle.cx_texts.proofs.Readings.{no_step_of_nothing}
 use Rattle.cx_texts.specs.declared.line_state.EndLines.TheVariants as end_line
-use Rattle.cx_texts.proofs.PieceLaws.{cut_behind_blank, StandsAt, left_from_token}
+use Rattle.cx_texts.proofs.PieceLaws.{cut_behind_blank, left_behind_blank, tokens_in-nothing, StandsAt, left_from_token}
 use Rattle.step_text.specs.declared.source.TextRefusal.{TextRefusal}
 use Rattle.step_text.specs.declared.source.TextRefusal.TheVariants.{BadToken, Unterminated, TooBig, TooLong, Memory, Failed}
 use Rattle.step_text.specs.Heads.{head_place}
@@ -115,6 +116,26 @@ module _ (ended : Bool) (place len : ℕ) (bytes : List ℕ) (tokens : List Toke
   abbrev More : List ℕ → Type 0
   More more = (behind : List Token) × (tokens_within place (bytes ++ more) ≡ tokens ++ behind)
 
+  -- what is left behind them
+  abbrev left_then : List ℕ → List Token
+  left_then more = tokens_in (line_behind Kept (take len bytes)) (place + len) (drop len bytes ++ more)
+
+  behind_all : (more : List ℕ) → (ended ≡ true → more ≡ []) → tokens_within place (bytes ++ more) ≡ tokens ++ left_then more
+  behind_all more none = go ended refl
+    where
+      go : (x : Bool) → ended ≡ x → tokens_within place (bytes ++ more) ≡ tokens ++ left_then more
+      go true e =
+          let whole : take len bytes ≡ bytes = take_whole len bytes (look.all e) in
+          let no_bytes : drop len bytes ++ more ≡ [] = (λ i. drop_all len bytes (omega (arith, look.all e)) i ++ none e i) in
+          let nothing : left_then more ≡ [] = ap (tokens_in (line_behind Kept (take len bytes)) (place + len)) no_bytes ∙ tokens_in-nothing (line_behind Kept (take len bytes)) (place + len) in
+          ap (tokens_within place) (ap (λ m. bytes ++ m) (none e) ∙ append-nil bytes ∙ sym whole) ∙ sym look.are ∙ sym (append-nil tokens) ∙ ap (λ ts. tokens ++ ts) (sym nothing)
+      go false e =
+          let long : place + length (take len bytes) ≡ place + len = omega (arith, length-take len bytes, look.within) in
+          let are : tokens_within place (take len bytes) ≡ tokens = sym look.are in
+          ap (tokens_within place) (ap (λ b. b ++ more) (sym (take-append-drop len bytes)) ∙ append_assoc (take len bytes) (drop len bytes) more)
+          ∙ left_behind_blank Kept place (take len bytes) (drop len bytes ++ more) (look.blank e)
+          ∙ (λ i. are i ++ tokens_in (line_behind Kept (take len bytes)) (long i) (drop len bytes ++ more))
+
   pub followed : (more : List ℕ) → (ended ≡ true → more ≡ []) → More more
   followed more none = go ended refl
     where
@@ -159,7 +180,7 @@ module _ (ended : Bool) (place len : ℕ) (bytes : List ℕ) (tokens : List Toke
         absurd (no_step_at_front s (placed_words tokens) (placed_words (next ∷ rest)) h front)
 
     -- a step behind which a token stands
-    step_before_token : (s : S) (next : Token) (rest : List Token) → Spells g s (placed_words tokens) (placed_words (next ∷ rest)) → FoundStep g ended place bytes s next.place
+    step_before_token : (s : S) (next : Token) (rest : List Token) → Spells g s (placed_words tokens) (placed_words (next ∷ rest)) → FoundStep g ended place bytes s next.place Kept
     step_before_token s next rest h =
         let t = token_of_word tokens h.front (placed_of next) (placed_words rest) h.split in
         let at : t.token.place ≡ next.place = ap (λ (p : Placed). p.place) t.word_at in
@@ -185,30 +206,44 @@ module _ (ended : Bool) (place len : ℕ) (bytes : List ℕ) (tokens : List Toke
               subst (λ ps. Spells g s (placed_words (tokens_within place (bytes ++ more))) ps) (sym new) (subst (λ ps. Spells g s ps (placed_words (next ∷ rest) ++ placed_words f.0)) (sym old) spells);
         }
 
-    -- the last step of a text
-    last_step : (s : S) → ended ≡ true → Spells g s (placed_words tokens) [] → FoundStep g ended place bytes s (place + len)
-    last_step s end h =
-        let whole : take len bytes ≡ bytes = take_whole len bytes (look.all end) in
-        let are : tokens ≡ tokens_within place bytes = look.are ∙ ap (tokens_within place) whole in
-        record {
-          behind = len;
-          at = refl;
-          some = some_bytes bytes refl;
-          inside = look.within;
-          spells = λ more none.
-              let old : tokens ≡ tokens_within place (bytes ++ more) = are ∙ ap (tokens_within place) (sym (ap (λ m. bytes ++ m) (none end) ∙ append-nil bytes)) in
-              let new : drop len bytes ++ more ≡ [] = (λ i. drop_all len bytes (omega (arith, look.all end)) i ++ none end i) in
-              subst (λ bs. Spells g s (placed_words (tokens_within place (bytes ++ more))) (placed_words (tokens_within (place + len) bs))) (sym new) (subst (λ ts. Spells g s (placed_words ts) []) old h);
-        }
+    -- a step behind which no token is read yet: the text ends there, or no word can go on with the step
+    step_before_gap : (s : S) → (ended ≡ false → IsClosed g s) → Spells g s (placed_words tokens) [] → FoundStep g ended place bytes s (place + len) (line_behind Kept (take len bytes))
+    step_before_gap s closed h = record {
+      behind = len;
+      at = refl;
+      some = some_bytes len refl;
+      inside = look.within;
+      spells = λ more none.
+          let all : placed_words (tokens_within place (bytes ++ more)) ≡ placed_words tokens ++ placed_words (left_then more) = ap placed_words (behind_all more none) ∙ placed-append tokens (left_then more) in
+          record {
+            front = h.front;
+            split = all ∙ ap (λ ps. ps ++ placed_words (left_then more)) (h.split ∙ append-nil h.front);
+            step = h.step;
+            within = h.within;
+            stops = stops more none ended refl (left_then more) refl;
+          };
+    }
       where
-        some_bytes : (bs : List ℕ) → bytes ≡ bs → 0 < len
-        some_bytes [] e = absurd (no_step_at_front s (placed_words tokens) [] h (sym (h.split ∙ append-nil h.front) ∙ ap placed_words (look.are ∙ ap (tokens_within place) (take_whole len bytes (look.all end)) ∙ ap (tokens_within place) e)))
-        some_bytes (b ∷ bs) e = omega (arith, look.all end, ap length e)
+        stops : (more : List ℕ) → (ended ≡ true → more ≡ []) → (x : Bool) → ended ≡ x → (rest : List Token) → left_then more ≡ rest → Stops g (words h.front) (placed_words rest)
+        stops more none x e [] is = tt
+        stops more none false e (t ∷ rest) is = closed e (words h.front) (placed_of t).word h.step
+        stops more none true e (t ∷ rest) is =
+            let no_bytes : drop len bytes ++ more ≡ [] = (λ i. drop_all len bytes (omega (arith, look.all e)) i ++ none e i) in
+            let nothing : left_then more ≡ [] = ap (tokens_in (line_behind Kept (take len bytes)) (place + len)) no_bytes ∙ tokens_in-nothing (line_behind Kept (take len bytes)) (place + len) in
+            let clash : t ∷ rest ≡ [] = sym is ∙ nothing in cc
 
-    -- a step is found where a token stands behind it, or the text ends there
-    pub found_step : (s : S) (new : List Token) (next : ℕ) → Spells g s (placed_words tokens) (placed_words new) → (new ≡ [] → ended ≡ true) → next ≡ head_place (place + len) new → FoundStep g ended place bytes s next
-    found_step s [] next h end at = subst (FoundStep g ended place bytes s) (sym at) (last_step s (end refl) h)
-    found_step s (n ∷ new) next h end at = subst (FoundStep g ended place bytes s) (sym at) (step_before_token s n new h)
+        some_bytes : (n : ℕ) → len ≡ n → 0 < len
+        some_bytes zero e = absurd (no_step_at_front s (placed_words tokens) [] h (sym (h.split ∙ append-nil h.front) ∙ ap placed_words (look.are ∙ ap (λ n. tokens_within place (take n bytes)) e)))
+        some_bytes (suc n) e = omega (arith, e)
+
+    -- a step before a token
+    pub found_step : (s : S) (new : List Token) (next : ℕ) → Spells g s (placed_words tokens) (placed_words new) → new ≢ [] → next ≡ head_place (place + len) new → FoundStep g ended place bytes s next Kept
+    found_step s [] next h some at = absurd (some refl)
+    found_step s (n ∷ new) next h some at = subst (λ p. FoundStep g ended place bytes s p Kept) (sym at) (step_before_token s n new h)
+
+    -- a step before a gap
+    pub found_last : (s : S) (new : List Token) (line : LineState) → Spells g s (placed_words tokens) (placed_words new) → new ≡ [] → (ended ≡ false → IsClosed g s) → line ≡ line_behind Kept (take len bytes) → FoundStep g ended place bytes s (place + len) line
+    found_last s new line h none closed is = subst (FoundStep g ended place bytes s (place + len)) (sym is) (step_before_gap s closed (subst (λ ts. Spells g s (placed_words tokens) (placed_words ts)) none h))
 
   -- tokens stand in some bytes
   pub some_bytes : tokens ≢ [] → 0 < length bytes

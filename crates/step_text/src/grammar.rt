@@ -1,7 +1,7 @@
 //! Grammars of steps that are read from texts.
-ghost use Rattle.std.specs.Prelude.{◌≢◌, []};
+ghost use Rattle.std.specs.Prelude.{◌≡◌, ◌≢◌, true, []};
 ghost use Rattle.cx_texts.specs.Words.{placed_words};
-ghost use Rattle.cx_texts.specs.Grammar.{Grammar};
+ghost use Rattle.cx_texts.specs.Grammar.{Grammar, IsClosed};
 ghost use Rattle.cx_texts.proofs.Forms.{Forms};
 ghost use Rattle.step_text.specs.Reading.{ReadsStep};
 
@@ -24,6 +24,10 @@ pub trait StepGrammar {
     ) -> Result<Self::Step, TextRefusal>
         requires some { tokens.old ≢ [] }
         ensures { ReadsStep steps size (placed_words tokens.old) result (placed_words tokens.new) };
+
+    /// Whether it is known that no word goes on with a step.
+    fn is_closed(step: &Self::Step) -> bool
+        ensures { result ≡ true → IsClosed steps step.now };
 
     // each step is of one of a few forms, so that all words have one reading
     ghost forms: { Forms steps };

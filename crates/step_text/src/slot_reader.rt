@@ -15,15 +15,15 @@ use crate::ahead::TokensAhead;
 use crate::grammar::StepGrammar;
 use crate::source::TextRefusal;
 use cx_desk::{Desk, DrainErr, Slot, SlotBytes};
-use cx_texts::{EndLines, LineState, pass_blanks, whole_front};
+use cx_texts::{EndLines, LineState, line_behind, pass_blanks, whole_front};
 use std::alloc::Global;
 use std::marker::{Model, PhantomData};
 
 /// What the bytes of a text that were read so far say of the next step.
 #[derive(Drop)]
 enum Found<S> {
-    /// The step, and the place of the token behind it, or of the end.
-    Step(S, usize),
+    /// The step, and where the text goes on: the place of the token behind it, or one behind which no token was read.
+    Step(S, usize, LineState),
     /// The text ends between two steps.
     End,
     /// The text ends so, or there is no memory for the step.
@@ -45,14 +45,6 @@ fn whole_len(bytes: &[u8], ended: bool) -> usize
     }
 }
 
-/// Whether a step counts before these tokens: nothing behind it can belong to it.
-fn is_whole(tokens: &TokensAhead, ended: bool) -> bool
-    ensures yes { result ≡ true → tokens.now ≡ [] → ended ≡ true }
-    ensures no { result ≡ false → ended ≡ false }
-{
-    ended || !tokens.is_empty()
-}
-
 /// Whether a refusal counts, whatever may follow.
 fn counts(refusal: TextRefusal, ended: bool) -> bool
     ensures yes { result ≡ true → ended ≡ false → (at : ℕ) → refusal ≢ Unterminated at }
@@ -66,7 +58,8 @@ fn counts(refusal: TextRefusal, ended: bool) -> bool
 
 /// Looks for a step at the front of the bytes that begin at this place within a kept line.
 ///
-/// Where the text may go on, only whole tokens count, and a step only where a token stands behind it.
+/// Where the text may go on, only whole tokens count, and a step only where a token stands behind it or none can go on with it: so
+/// the blanks and comments behind such a step need not be kept.
 fn find_step<G: StepGrammar>(
     alloc: Global,
     bytes: &[u8],
@@ -85,10 +78,17 @@ where
     }
     match G::read_step(alloc, &mut tokens, place + len) {
         Ok(step) => {
-            if !is_whole(&tokens, ended) {
+            if !tokens.is_empty() {
+                return Found::Step(step, tokens.place(place + len), LineState::Kept);
+            }
+            if !ended && !G::is_closed(&step) {
                 return Found::Unknown;
             }
-            Found::Step(step, tokens.place(place + len))
+            Found::Step(
+                step,
+                place + len,
+                line_behind(LineState::Kept, &bytes[..len]),
+            )
         }
         Err(refusal) => {
             if !counts(refusal, ended) {
@@ -101,8 +101,8 @@ where
 
 /// The steps of a grammar that are read from a slot of a desk, which is lent at each call.
 ///
-/// The text is read piece by piece; only the bytes behind the last step are kept, so it takes memory for one step and a
-/// constant. Its place is the place of the first byte that was not passed.
+/// The text is read piece by piece; only the bytes behind the last step are kept, and of those no blanks and comments, so it takes
+/// memory for one step and a constant. Its place is the place of the first byte that was not passed.
 #[derive(Drop)]
 pub struct SlotReader<G> {
     alloc: Global,
@@ -202,8 +202,9 @@ where
             place,
             self.bytes.has_ended(),
         ) {
-            Found::Step(step, next) => {
+            Found::Step(step, next, line) => {
                 self.bytes.pass(next - place);
+                self.line = line;
                 Some(Ok(Some(step)))
             }
             Found::End => Some(Ok(None)),

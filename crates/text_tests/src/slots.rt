@@ -87,7 +87,7 @@ fn pieces_of_any_length_tell_the_same(rt: HostRuntime) -> Result<(), Fail> {
 fn a_byte_behind_the_limit_is_told(rt: HostRuntime) -> Result<(), Fail> {
     let texts: [&[u8]; 1] = [b"5 2 0 1 2 0\n6 0 5 3 4 0\nzzzz\n"];
     let byte_by_byte = all_told(&rt, rt.alloc(), &texts, 1)?;
-    assert_eq!(rt; byte_by_byte.as_slice(), b"1 TooLong 12\n".as_slice());
+    assert_eq!(rt; byte_by_byte.as_slice(), b"2 TooLong 24\n".as_slice());
     let at_once = all_told(&rt, rt.alloc(), &texts, 4096)?;
     assert_eq!(rt; at_once.as_slice(), b"0 TooLong 0\n".as_slice());
     Ok(())
