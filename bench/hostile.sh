@@ -90,9 +90,10 @@ expect 'the greatest variable' 7 'c step 1 P11'
 printf 'p cnf 16777216 1\n1 0' > "$work/formula"
 expect 'a variable above the greatest' 9 'error: limit L1 at byte 6'
 
-# A text of so many bytes: ends of lines, and then this.
+# A text of so many bytes: ends of lines, and then this, in front of them what comes third.
 lines() {
-    head -c $(($1 - ${#2})) /dev/zero | tr '\0' '\n'
+    printf '%s' "${3-}"
+    head -c $(($1 - ${#2} - $(printf '%s' "${3-}" | wc -c))) /dev/zero | tr '\0' '\n'
     printf '%s' "$2"
 }
 most=4294967295
@@ -102,6 +103,8 @@ printf 'p cnf 1 1\n1 0\n' > "$work/formula"
 try 'a proof as long as may be' 7 'c step 2 P11' check "$work/formula" <(lines $most '5 1 0 1 0')
 try 'a proof longer than may be' 9 'error: limit L2 second' check "$work/formula" <(lines $((most + 1)) '5 1 0 1 0')
 try 'a log as long as may be' 8 'c step 2 E11' elab "$work/formula" <(lines $most 'o 1 1 0') "$work/made"
+try 'a proof as long as may be, with a gap behind its first step' 7 'c step 3 P11' check "$work/formula" <(lines $most '6 1 0 1 0' '5 1 0 1 0')
+try 'a log as long as may be, with a gap behind its first step' 8 'c step 3 E11' elab "$work/formula" <(lines $most 'd 1 1 0' 'o 1 1 0') "$work/made"
 try 'a log longer than may be' 9 'error: limit L2 second' elab "$work/formula" <(lines $((most + 1)) 'o 1 1 0') "$work/made"
 
 printf 'p cnf 2 1\n1 2 0\n' > "$work/formula"
