@@ -1,6 +1,7 @@
 //! The map from ids beside an ordered map.
 use crate::numbers::next;
 use proof_rules::IdMap;
+use std::alloc::AllocError;
 use std::collections::BTreeMap;
 use std::test::Fail;
 
@@ -24,6 +25,44 @@ fn agree_at(map: &IdMap<u64>, ordered: &BTreeMap<u64, u64>, id: u64) -> bool {
     }
 }
 
+/// Removes or inserts under a random id, and says whether both maps agree there and at another id.
+fn agree_behind_turn(
+    map: &mut IdMap<u64>,
+    ordered: &mut BTreeMap<u64, u64>,
+    seed: &mut u64,
+    turn: u64,
+) -> Result<bool, AllocError> {
+    let id = some_id(seed);
+    if next(seed) % 3 == 0 {
+        map.remove(id);
+        ordered.remove(&id);
+    } else {
+        map.insert(id, turn)?;
+        ordered.insert(id, turn)?;
+    }
+    Ok(agree_at(map, ordered, id) && agree_at(map, ordered, some_id(seed)))
+}
+
+/// Whether both maps agree at each of these ids.
+fn agree_at_all(map: &IdMap<u64>, ordered: &BTreeMap<u64, u64>, ids: &[u64]) -> bool {
+    for id in ids {
+        if !agree_at(map, ordered, *id) {
+            return false;
+        }
+    }
+    true
+}
+
+/// Whether both maps agree at each id of the ordered one.
+fn agree_at_keys(map: &IdMap<u64>, ordered: &BTreeMap<u64, u64>) -> bool {
+    for id in ordered.keys() {
+        if !agree_at(map, ordered, *id) {
+            return false;
+        }
+    }
+    true
+}
+
 #[test]
 fn as_an_ordered_map(rt: HostRuntime) -> Result<(), Fail> {
     let alloc = rt.alloc();
@@ -31,23 +70,9 @@ fn as_an_ordered_map(rt: HostRuntime) -> Result<(), Fail> {
     let mut map = IdMap::new(alloc);
     let mut ordered = BTreeMap::new(alloc);
     for turn in 0..6_000u64 {
-        let id = some_id(&mut seed);
-        if next(&mut seed) % 3 == 0 {
-            map.remove(id);
-            ordered.remove(&id);
-        } else {
-            map.insert(id, turn)?;
-            ordered.insert(id, turn)?;
-        }
-        assert!(rt; agree_at(&map, &ordered, id), "{id}");
-        let other = some_id(&mut seed);
-        assert!(rt; agree_at(&map, &ordered, other), "{other}");
+        assert!(rt; agree_behind_turn(&mut map, &mut ordered, &mut seed, turn)?, "turn {turn}");
     }
-    for id in &map.ids(alloc)? {
-        assert!(rt; ordered.contains_key(id), "{id}");
-    }
-    for id in ordered.keys() {
-        assert!(rt; agree_at(&map, &ordered, *id), "{id}");
-    }
+    assert!(rt; agree_at_all(&map, &ordered, &map.ids(alloc)?));
+    assert!(rt; agree_at_keys(&map, &ordered));
     Ok(())
 }

@@ -17,6 +17,8 @@ mod one_file;
 #[cfg(test)]
 mod proof_steps;
 #[cfg(test)]
+mod reprinting;
+#[cfg(test)]
 mod slot_formulas;
 #[cfg(test)]
 mod slots;

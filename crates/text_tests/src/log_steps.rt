@@ -2,6 +2,7 @@
 ghost use Rattle.cx_base.specs.declared.steps.LogEvent.TheVariants.{Step};
 ghost use Rattle.cx_texts.specs.Printed.{HasText};
 
+use crate::reprinting::{Reprint, Written, endings_of, lines_come_back};
 use cx_base::LogEvent;
 use cx_desk::{MemDesk, Port, Rooms};
 use log_text::{ListLog, LogStep, LogText, NoLog, put_log, put_log_step};
@@ -9,12 +10,14 @@ use std::alloc::Global;
 use std::test::Fail;
 use step_text::{Sink, StepSource, TextRefusal};
 
-/// What was printed of a log, step by step and as a whole, and the refusal that it ends with.
+/// The texts of logs.
+struct Logs;
+
+/// What was printed of a log: step by step, and as a whole.
 #[derive(Drop)]
-struct Written {
-    steps: Vec<u8>,
+struct PrintedTwice {
+    written: Written,
     log: Vec<u8>,
-    ending: Option<TextRefusal>,
 }
 
 /// Prints a step, and keeps it with a mark behind it.
@@ -33,7 +36,7 @@ fn put(desk: &mut MemDesk, log: &mut ListLog, step: LogStep, k: u64) -> Result<(
 }
 
 /// At most sixteen steps of a text, each with a mark behind it in the whole log.
-fn printed(alloc: Global, text: &[u8]) -> Result<Written, Fail> {
+fn printed(alloc: Global, text: &[u8]) -> Result<PrintedTwice, Fail> {
     let rooms = Rooms {
         answer: 4096,
         proof: 4096,
@@ -58,27 +61,20 @@ fn printed(alloc: Global, text: &[u8]) -> Result<Written, Fail> {
         }
     }
     put_log(&mut desk, Port::Answer, &log)?;
-    Ok(Written {
+    let written = Written {
         steps: desk.written(Port::Proof).to_vec(alloc)?,
-        log: desk.written(Port::Answer).to_vec(alloc)?,
         ending,
+    };
+    Ok(PrintedTwice {
+        written,
+        log: desk.written(Port::Answer).to_vec(alloc)?,
     })
 }
 
-/// Whether the line is the one step that it is read as.
-fn comes_back(alloc: Global, line: &[u8]) -> Result<bool, Fail> {
-    let log = printed(alloc, line)?;
-    Ok(log.steps.as_slice() == line && log.ending.is_none())
-}
-
-/// How many of the lines come back, from the first on.
-fn lines_come_back(alloc: Global, lines: &[&[u8]]) -> Result<usize, Fail> {
-    for place in 0..lines.len() {
-        if !comes_back(alloc, lines[place])? {
-            return Ok(place);
-        }
+impl Reprint for Logs {
+    fn reprinted(alloc: Global, text: &[u8]) -> Result<Written, Fail> {
+        Ok(printed(alloc, text)?.written)
     }
-    Ok(lines.len())
 }
 
 #[test]
@@ -96,7 +92,7 @@ fn printed_steps_are_the_steps_read(rt: HostRuntime) -> Result<(), Fail> {
         b"f 1 1 -2 0\n",
         b"f x 1 1 2 0\n",
     ];
-    assert_eq!(rt; lines_come_back(rt.alloc(), &lines)?, 11);
+    assert_eq!(rt; lines_come_back::<Logs>(rt.alloc(), &lines)?, 11);
     Ok(())
 }
 
@@ -104,26 +100,15 @@ fn printed_steps_are_the_steps_read(rt: HostRuntime) -> Result<(), Fail> {
 fn marks_are_lines_that_are_passed_over(rt: HostRuntime) -> Result<(), Fail> {
     let log = printed(rt.alloc(), b"o 1 1 0\nc conflict 7\na 2 0\nl 1 0 d 1 0")?;
     assert_eq!(rt;
-        log.steps.as_slice(),
+        log.written.steps.as_slice(),
         b"o 1 1 0\na 2 0 l 1 0\nd 1 0\n".as_slice()
     );
     assert_eq!(rt;
         log.log.as_slice(),
         b"o 1 1 0\nc conflict 1\na 2 0 l 1 0\nc conflict 2\nd 1 0\nc conflict 3\n".as_slice()
     );
-    assert_eq!(rt; log.ending, None);
+    assert_eq!(rt; log.written.ending, None);
     Ok(())
-}
-
-/// The steps of each text, and the refusal that it ends with.
-fn endings_of(alloc: Global, texts: &[&[u8]]) -> Result<Vec<u8>, Fail> {
-    let mut all = Vec::new(alloc);
-    for text in texts {
-        let log = printed(alloc, text)?;
-        all.extend_from_slice(&log.steps)?;
-        all.extend_from_slice(format!(in alloc; "{:?}\n", log.ending)?.as_bytes())?;
-    }
-    Ok(all)
 }
 
 #[test]
@@ -140,7 +125,7 @@ fn endings_behind_no_step(rt: HostRuntime) -> Result<(), Fail> {
     ];
     let wanted =
         b"Some(Unterminated(9))\nSome(BadToken(10))\nSome(BadToken(8))\nSome(BadToken(12))\nSome(BadToken(0))\nSome(BadToken(2))\nSome(BadToken(8))\nSome(TooBig(2))\n".as_slice();
-    assert_eq!(rt; endings_of(rt.alloc(), &texts)?.as_slice(), wanted);
+    assert_eq!(rt; endings_of::<Logs>(rt.alloc(), &texts)?.as_slice(), wanted);
     Ok(())
 }
 
@@ -148,6 +133,6 @@ fn endings_behind_no_step(rt: HostRuntime) -> Result<(), Fail> {
 fn endings_behind_a_step(rt: HostRuntime) -> Result<(), Fail> {
     let texts: [&[u8]; 2] = [b"a 1 0 a", b"o 1 1 0 l 2 0"];
     let wanted = b"a 1 0\nSome(Unterminated(7))\no 1 1 0\nSome(BadToken(8))\n".as_slice();
-    assert_eq!(rt; endings_of(rt.alloc(), &texts)?.as_slice(), wanted);
+    assert_eq!(rt; endings_of::<Logs>(rt.alloc(), &texts)?.as_slice(), wanted);
     Ok(())
 }

@@ -4,18 +4,15 @@ ghost use Rattle.cx_texts.specs.Printed.{HasProofText};
 ghost use Rattle.step_text.specs.Texts.{is_spent_by};
 ghost use Rattle.proof_text.specs.Told.{is_whole, Prints};
 
+use crate::reprinting::{Reprint, Written, endings_of, lines_come_back};
 use cx_desk::{Desk, MemDesk, Port, Rooms};
 use proof_text::{DeskProof, ListProof, ProofStep, ProofText, put_proof_step};
 use std::alloc::Global;
 use std::test::Fail;
 use step_text::{Sink, SinkFault, StepSource, TextRefusal};
 
-/// The printed steps of a text, and the refusal that it ends with.
-#[derive(Drop)]
-struct Written {
-    steps: Vec<u8>,
-    ending: Option<TextRefusal>,
-}
+/// The texts of proofs.
+struct Proofs;
 
 /// At most sixteen steps of a text.
 fn printed(alloc: Global, text: &[u8]) -> Result<Written, Fail> {
@@ -45,20 +42,10 @@ fn printed(alloc: Global, text: &[u8]) -> Result<Written, Fail> {
     })
 }
 
-/// Whether the line is the one step that it is read as.
-fn comes_back(alloc: Global, line: &[u8]) -> Result<bool, Fail> {
-    let proof = printed(alloc, line)?;
-    Ok(proof.steps.as_slice() == line && proof.ending.is_none())
-}
-
-/// How many of the lines come back, from the first on.
-fn lines_come_back(alloc: Global, lines: &[&[u8]]) -> Result<usize, Fail> {
-    for place in 0..lines.len() {
-        if !comes_back(alloc, lines[place])? {
-            return Ok(place);
-        }
+impl Reprint for Proofs {
+    fn reprinted(alloc: Global, text: &[u8]) -> Result<Written, Fail> {
+        printed(alloc, text)
     }
-    Ok(lines.len())
 }
 
 #[test]
@@ -72,19 +59,8 @@ fn printed_steps_are_the_steps_read(rt: HostRuntime) -> Result<(), Fail> {
         b"i 8 -1 2 0 -9223372036854775807 0\n",
         b"i x 9223372036854775807 1 2 0 7 8 0\n",
     ];
-    assert_eq!(rt; lines_come_back(rt.alloc(), &lines)?, 7);
+    assert_eq!(rt; lines_come_back::<Proofs>(rt.alloc(), &lines)?, 7);
     Ok(())
-}
-
-/// The steps of each text, and the refusal that it ends with.
-fn endings_of(alloc: Global, texts: &[&[u8]]) -> Result<Vec<u8>, Fail> {
-    let mut all = Vec::new(alloc);
-    for text in texts {
-        let proof = printed(alloc, text)?;
-        all.extend_from_slice(&proof.steps)?;
-        all.extend_from_slice(format!(in alloc; "{:?}\n", proof.ending)?.as_bytes())?;
-    }
-    Ok(all)
 }
 
 #[test]
@@ -104,7 +80,7 @@ fn endings_behind_no_step(rt: HostRuntime) -> Result<(), Fail> {
     ];
     let wanted =
         b"Some(BadToken(2))\nSome(Unterminated(8))\nSome(TooBig(0))\nSome(TooBig(2))\nSome(BadToken(0))\nSome(BadToken(4))\nSome(BadToken(10))\nSome(BadToken(8))\nSome(BadToken(0))\nSome(BadToken(2))\nSome(BadToken(0))\n".as_slice();
-    assert_eq!(rt; endings_of(rt.alloc(), &texts)?.as_slice(), wanted);
+    assert_eq!(rt; endings_of::<Proofs>(rt.alloc(), &texts)?.as_slice(), wanted);
     Ok(())
 }
 
@@ -119,7 +95,7 @@ fn endings_behind_steps(rt: HostRuntime) -> Result<(), Fail> {
     ];
     let wanted =
         b"None\nNone\nx 4 0 1 2 3 0\nNone\n5 0 -7 0\nNone\n6 0 0\nSome(Unterminated(7))\n".as_slice();
-    assert_eq!(rt; endings_of(rt.alloc(), &texts)?.as_slice(), wanted);
+    assert_eq!(rt; endings_of::<Proofs>(rt.alloc(), &texts)?.as_slice(), wanted);
     Ok(())
 }
 

@@ -67,31 +67,32 @@ fn all_told(rt: &impl Abort, alloc: Global, texts: &[&[u8]]) -> Result<String, F
     Ok(all)
 }
 
-#[test]
-fn pieces_of_any_length_tell_what_the_whole_text_tells(rt: HostRuntime) -> Result<(), Fail> {
-    let texts: [&[u8]; 20] = [
-        b"",
-        b"1 0",
-        b"c a\r\n%\n",
-        b"p cnf x 1",
-        b"p cnf 16777216 0",
-        b"p cnf 1\n%\nmore",
-        b"p cnf 2 1\r\n1 2 0\r\n",
-        b"p cnf 2 1\nc a comment\n1 -2 0\n c more\nx1 2 0",
-        b"p cnf 2 1\n1 2 0\n%\n0 z\n",
-        b"p cnf 2 1\n1 2\n%\nc the end",
-        b"p cnf 2 1\n1 2",
-        b"p cnf 2 1\n1 a 0\n1 0\n",
-        b"p cnf 1 1\n16777216 a 0",
-        b"p cnf 12345 1\n12345 -12345 0 123",
-        b"p cnf 2 1\n1 2\n",
-        b"p cnf 2 1\nx",
-        b"p cnf 2 1\n1 x2 0",
-        b"p cnf 2 1\n\0 0",
-        b"p cnf 2 1\n1\xc3\xa9 0",
-        b"p cnf 1 1\nx-16777216 0",
-    ];
-    let wanted = "NoHeader(0)|NoHeader(0)|NoHeader(0)|
+/// Texts with and without an offence.
+const TEXTS: [&[u8]; 20] = [
+    b"",
+    b"1 0",
+    b"c a\r\n%\n",
+    b"p cnf x 1",
+    b"p cnf 16777216 0",
+    b"p cnf 1\n%\nmore",
+    b"p cnf 2 1\r\n1 2 0\r\n",
+    b"p cnf 2 1\nc a comment\n1 -2 0\n c more\nx1 2 0",
+    b"p cnf 2 1\n1 2 0\n%\n0 z\n",
+    b"p cnf 2 1\n1 2\n%\nc the end",
+    b"p cnf 2 1\n1 2",
+    b"p cnf 2 1\n1 a 0\n1 0\n",
+    b"p cnf 1 1\n16777216 a 0",
+    b"p cnf 12345 1\n12345 -12345 0 123",
+    b"p cnf 2 1\n1 2\n",
+    b"p cnf 2 1\nx",
+    b"p cnf 2 1\n1 x2 0",
+    b"p cnf 2 1\n\0 0",
+    b"p cnf 2 1\n1\xc3\xa9 0",
+    b"p cnf 1 1\nx-16777216 0",
+];
+
+/// What is told of each.
+const WANTED: &str = "NoHeader(0)|NoHeader(0)|NoHeader(0)|
 TooLong|NoHeader(0)|NoHeader(0)|
 TooLong|NoHeader(7)|NoHeader(7)|
 TooLong|BadHeader(6)|BadHeader(6)|
@@ -112,6 +113,9 @@ TooLong|BadToken(10)|BadToken(10)|
 TooLong|BadToken(10)|BadToken(10)|
 TooLong|VarLimit(10)|VarLimit(10)|
 ";
-    assert_eq!(rt; all_told(&rt, rt.alloc(), &texts)?.as_str(), wanted);
+
+#[test]
+fn pieces_of_any_length_tell_what_the_whole_text_tells(rt: HostRuntime) -> Result<(), Fail> {
+    assert_eq!(rt; all_told(&rt, rt.alloc(), &TEXTS)?.as_str(), WANTED);
     Ok(())
 }
