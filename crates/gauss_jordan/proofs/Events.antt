@@ -19,12 +19,12 @@ use Rattle.gf2_matrix.proofs.Products.{products_turned, products_same}
 use Rattle.parity_engine.proofs.Forms.{contains-form, contains-form_zero}
 use Rattle.gf2_matrix.proofs.FormSums.{contains-sum_of_numbers, AreNumbers, every-at, sum_below-same, sum_met, meets_from_Sums}
 use Rattle.parity_engine.proofs.Literals.{contains_parity}
-use Rattle.gauss_jordan.specs.Rows.{IsLinear, IsFinished, Agrees}
+use Rattle.gauss_jordan.specs.Rows.{IsFinished, Agrees}
 use Rattle.parity_engine.specs.declared.state.Held.{Held}
 use Rattle.parity_engine.specs.State.{State, known, held_at, is_unassigned, IsImplied, IsBroken, AgreesWith}
 use Rattle.parity_engine.specs.Written.{AreRising}
 use Rattle.gauss_jordan.specs.System.{just_value, part, has_at, equation_at, has_term_at, total_at, right_at, IsSystemOf, filled, IsWhole, IsOneOpen, SilentFromQuiet, ImpliedFromUnit, BrokenFromWhole}
-use Rattle.gauss_jordan.proofs.Quiet.{open_from_quiet}
+use Rattle.gauss_jordan.proofs.Quiet.{IsLinear, open_from_quiet}
 use Rattle.parity_engine.proofs.Known.{sign_from, known_true, agrees_known, has_known}
 use Rattle.gauss_jordan.proofs.Resized.{resized, length-resized, resized-at, all_met-resized, form_met, form_missed}
 

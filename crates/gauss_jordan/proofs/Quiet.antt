@@ -6,7 +6,24 @@ use Rattle.std.proofs.lemmas.Bool.{cases_eq}
 use Rattle.cx_base.specs.Literals.{differ}
 use Rattle.cx_base.proofs.ParityLaws.{differ_false}
 use Rattle.cx_base.proofs.Differences.{differ_twice}
-use Rattle.gauss_jordan.specs.Rows.{value_at, part_at, Agrees, IsLinear, IsFinished, IsUnfinished, IsQuiet, IsSolution, TakesBothValues}
+use Rattle.gauss_jordan.specs.Rows.{value_at, part_at, Agrees, IsFinished, IsUnfinished, IsQuiet}
+
+-- the sum of a row turns over with each value that the row has, and with no other
+abbrev pub IsLinear : ℕ → ℕ → (ℕ → ℕ → Bool) → (ℕ → List Bool → Bool) → Type 0
+IsLinear rows width has total =
+    (i x : ℕ) (v : List Bool) → i < rows → length v ≡ width → x < width → total i (set v x (not (value_at v x))) ≡ differ (total i v) (has i x)
+
+-- values that agree with the part and meet all rows
+pub record IsSolution (rows width : ℕ) (total : ℕ → List Bool → Bool) (right : ℕ → Bool) (part : List (Option Bool)) (v : List Bool) : Type 0 where
+  pub long : length v ≡ width
+  pub agrees : Agrees part v
+  pub meets : (i : ℕ) → i < rows → total i v ≡ right i
+
+-- each unassigned position takes both values in solutions, and there is a solution
+abbrev pub TakesBothValues : ℕ → ℕ → (ℕ → List Bool → Bool) → (ℕ → Bool) → List (Option Bool) → Type 0
+TakesBothValues rows width total right part =
+    ((v : List Bool) × IsSolution rows width total right part v)
+    × ((x : ℕ) (b : Bool) → x < width → part_at part x ≡ None → (v : List Bool) × IsSolution rows width total right part v × (value_at v x ≡ b))
 
 -- two bits that differ
 unlike : (a b : Bool) → (a ≡ b → ⊥) → differ a true ≡ b

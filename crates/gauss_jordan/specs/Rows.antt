@@ -13,11 +13,6 @@ part_at part x = slice_index_or part x None
 abbrev pub Agrees : List (Option Bool) → List Bool → Type 0
 Agrees part values = (x : ℕ) (b : Bool) → part_at part x ≡ Some b → value_at values x ≡ b
 
--- the sum of a row turns over with each value that the row has, and with no other
-abbrev pub IsLinear : ℕ → ℕ → (ℕ → ℕ → Bool) → (ℕ → List Bool → Bool) → Type 0
-IsLinear rows width has total =
-    (i x : ℕ) (v : List Bool) → i < rows → length v ≡ width → x < width → total i (slice_set v x (not (value_at v x))) ≡ differ (total i v) (has i x)
-
 -- all values that agree with the part meet the row
 abbrev pub IsFinished : ℕ → (ℕ → List Bool → Bool) → (ℕ → Bool) → List (Option Bool) → ℕ → Type 0
 IsFinished width total right part i = (v : List Bool) → length v ≡ width → Agrees part v → total i v ≡ right i
@@ -37,15 +32,3 @@ pub record IsUnfinished (rows width : ℕ) (has : ℕ → ℕ → Bool) (part : 
 abbrev pub IsQuiet : ℕ → ℕ → (ℕ → ℕ → Bool) → (ℕ → List Bool → Bool) → (ℕ → Bool) → List (Option Bool) → (ℕ → ℕ) → (ℕ → ℕ) → Type 0
 IsQuiet rows width has total right part basic other =
     (i : ℕ) → i < rows → IsFinished width total right part i ⊎ IsUnfinished rows width has part i (basic i) (other i)
-
--- values that agree with the part and meet all rows
-pub record IsSolution (rows width : ℕ) (total : ℕ → List Bool → Bool) (right : ℕ → Bool) (part : List (Option Bool)) (v : List Bool) : Type 0 where
-  pub long : length v ≡ width
-  pub agrees : Agrees part v
-  pub meets : (i : ℕ) → i < rows → total i v ≡ right i
-
--- each unassigned position takes both values in solutions, and there is a solution
-abbrev pub TakesBothValues : ℕ → ℕ → (ℕ → List Bool → Bool) → (ℕ → Bool) → List (Option Bool) → Type 0
-TakesBothValues rows width total right part =
-    ((v : List Bool) × IsSolution rows width total right part v)
-    × ((x : ℕ) (b : Bool) → x < width → part_at part x ≡ None → (v : List Bool) × IsSolution rows width total right part v × (value_at v x ≡ b))

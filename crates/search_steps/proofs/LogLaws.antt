@@ -1,5 +1,5 @@
 -- Each step that the search tells is right and fits, and keeps what holds of the search.
-use Rattle.std.proofs.Common.{◌≡◌, refl, sym, ap, ◌∙◌, subst, ℕ, zero, suc, ◌+◌, ◌*◌, ◌≤◌, ◌<◌, ℤ, true, false, not, ◌||◌, MatchBool, List, [], ◌∷◌, ◌++◌, length, Some, None, is_some, filter_map, Contains, arith, ◌⊎◌, inl, inr, true≢false, append-nil, append_assoc}
+use Rattle.std.proofs.Common.{◌≡◌, refl, sym, ap, ◌∙◌, subst, ℕ, zero, suc, ◌+◌, ◌*◌, ◌≤◌, ◌<◌, ℤ, true, false, not, ◌||◌, MatchBool, List, [], ◌∷◌, ◌++◌, length, Some, None, is_some, filter_map, Contains, arith, ◌⊎◌, inl, inr, true≢false, append-nil, append_assoc, IsTrue, IsFalse}
 use Rattle.std.proofs.lemmas.List.Elements.{filter_map-append}
 use Rattle.std.specs.List.{list_any, list_all, range_with_len}
 use Rattle.std.proofs.lemmas.Bool.{and_parts, and_from}
@@ -29,14 +29,30 @@ use Rattle.cx_semantics.proofs.MarkedLaws.{events_go_on}
 use Rattle.cx_semantics.proofs.Members.{has_at_head, has_split, all_by}
 use Rattle.search_steps.specs.Trail.{Entry, by_clause, held, all_held, IsTrail, Forces, level_of}
 use Rattle.search_steps.specs.Quiet.{IsOfParities}
-use Rattle.search_steps.specs.Search.{Search, IsLog, Serves, IsSearch, told, marked, IsServed, IsLearnedOf, IsReached}
-use Rattle.search_steps.specs.LogSteps.{IsNoReason, IsAddition, RestOnClauses, IsUnitOf, IsRowOf, IsClauseOfRow, IsTemporary}
+use Rattle.search_steps.specs.Search.{Search, IsLog, Serves, IsSearch, told, marked, IsServed, IsLearnedOf}
+use Rattle.search_steps.specs.LogSteps.{IsNoReason, IsAddition, RestOnClauses, IsRowOf, IsClauseOfRow}
 use Rattle.conflict_learn.proofs.ChainOfResolutions.{by_cases}
 use Rattle.search_steps.proofs.Sets.{not_both, true_rests}
 use Rattle.search_steps.proofs.FreshLaws.{takes_forced}
 use Rattle.search_steps.proofs.QuietLaws.{implied_rests}
 use Rattle.search_steps.proofs.TrailLaws.{held_rises, held_inside, trail_no_clash, part_no_clash}
 use Rattle.search_steps.proofs.ServesLaws.{put_serves, drop_serves, put_parity_serves, drop_parity_serves, learned_is_fresh}
+
+-- The unit clause of a literal of level 0: some live clause forces it from older literals, each of which a live clause forces.
+pub record IsUnitOf (s : Search) (l : Literal) (older : List Entry) (clause : List Literal) : Type 0 where
+  pub level_0 : IsTrue (has_literal (held 0 s.trail) l)
+  pub on_clauses : RestOnClauses older
+  pub live : IsLive s.moment.tables.clauses clause
+  pub forces : Forces clause (all_held older) l
+
+-- an id that may be deleted without leave: of no learned clause and of none of the formula
+pub record IsTemporary (formula : Problem) (s : Search) (n : ℕ) : Type 0 where
+  pub high : length (clauses_of formula.constraints) < n
+  pub not_learned : IsFalse (is_among s.moment.learned n)
+
+-- the literal is in each set that is closed under the live clauses and falsifies none of them
+abbrev pub IsReached : Table → Literal → Type 0
+IsReached table l = (known : List Literal) → KeepsUnits (IsLive table) known → FalsifiesNone (IsLive table) known → IsTrue (has_literal known l)
 
 -- ---- logs grow
 pub begins_still : (cs : List Constraint) (events : List LogEvent) (more : List LogEvent) → BeginsWithOriginals cs events → BeginsWithOriginals cs (events ++ more)

@@ -30,13 +30,6 @@ abbrev pub RestOnClauses : List Entry → Type 0
 RestOnClauses [] = ⊤
 RestOnClauses (e ∷ es) = ((n : ℕ) × (e.why ≡ by_clause n)) × RestOnClauses es
 
--- The unit clause of a literal of level 0: some live clause forces it from older literals, each of which a live clause forces.
-pub record IsUnitOf (s : Search) (l : Literal) (older : List Entry) (clause : List Literal) : Type 0 where
-  pub level_0 : IsTrue (has_literal (held 0 s.trail) l)
-  pub on_clauses : RestOnClauses older
-  pub live : IsLive s.moment.tables.clauses clause
-  pub forces : Forces clause (all_held older) l
-
 -- a row: the sum of parities of the engine, under their ids
 pub record IsRowOf (parities : List (List Literal)) (tables : Tables) (ids : List ℕ) (row : List Literal) : Type 0 where
   pub live : AreLive tables.parities ids
@@ -48,11 +41,6 @@ pub record IsClauseOfRow (n : ℕ) (row clause : List Literal) : Type 0 where
   pub within : AreWithin n clause
   pub one_of_each : HasOneOfEach (normal_form row).variables clause
   pub implied : Implies (λ values. parity_met values row) (λ values. clause_met values clause)
-
--- an id that may be deleted without leave: of no learned clause and of none of the formula
-pub record IsTemporary (formula : Problem) (s : Search) (n : ℕ) : Type 0 where
-  pub high : length (clauses_of formula.constraints) < n
-  pub not_learned : IsFalse (is_among s.moment.learned n)
 
 -- the three steps for the reason that a row gave: its sum, its clause, and the sum's deletion
 abbrev pub row_events : ℕ → List ℤ → List ℕ → ℕ → List ℤ → List LogEvent

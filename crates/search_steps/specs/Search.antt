@@ -80,10 +80,6 @@ pub record IsLearnedOf (trail : List Entry) (back : ℕ) (clause : List Literal)
   pub asserting : IsAsserting trail back clause l
   pub second : (back ≡ 0) ⊎ ((m : Literal) × IsTrue (has_literal clause m) × IsFalse (same_literal l m) × IsFalse (has_literal (held (back - 1) trail) (negate m)))
 
--- the literal is in each set that is closed under the live clauses and falsifies none of them
-abbrev pub IsReached : Table → Literal → Type 0
-IsReached table l = (known : List Literal) → KeepsUnits (IsLive table) known → FalsifiesNone (IsLive table) known → IsTrue (has_literal known l)
-
 -- the search with another trail
 abbrev pub with_trail : Search → List Entry → Search
 with_trail s es = record s { trail = es }
