@@ -44,7 +44,7 @@ fn remove_where_may<P: ParityEngine, L: Sink<Item = LogEvent>>(
 }
 
 /// Deletes those of these clauses that may go, at level 0 where each literal has a unit clause.
-pub fn reduce<P: ParityEngine, L: Sink<Item = LogEvent>>(
+pub(crate) fn reduce<P: ParityEngine, L: Sink<Item = LogEvent>>(
     log: &mut SearchLog<L>,
     state: &mut SearchState,
     engine: &P,

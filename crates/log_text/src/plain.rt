@@ -10,21 +10,21 @@ use step_text::fields::Named;
 
 /// An id and literals, and whether they are of a parity.
 #[derive(Drop)]
-pub struct Listed {
+pub(crate) struct Listed {
     pub of_parity: bool,
     pub named: Named,
 }
 
 /// The steps that have literals alone, but for the added clause.
 #[derive(Clone, Copy, Debug, PartialEq, Eq, Drop)]
-pub enum Plain {
+pub(crate) enum Plain {
     Original,
     Delete,
     Final,
 }
 
 /// The step of an id and literals.
-pub fn plain_step(plain: Plain, listed: Listed) -> LogStep
+pub(crate) fn plain_step(plain: Plain, listed: Listed) -> LogStep
     ensures fields { log_fields result ≡ mark (letter_of plain) ∷ listed_fields listed.of_parity listed.named.id listed.named.literals }
     ensures alone { (rest : List Placed) → StandsAlone result rest }
 {

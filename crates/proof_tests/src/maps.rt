@@ -70,7 +70,10 @@ fn as_an_ordered_map(rt: HostRuntime) -> Result<(), Fail> {
     let mut map = IdMap::new(alloc);
     let mut ordered = BTreeMap::new(alloc);
     for turn in 0..6_000u64 {
-        assert!(rt; agree_behind_turn(&mut map, &mut ordered, &mut seed, turn)?, "turn {turn}");
+        assert!(rt;
+            agree_behind_turn(&mut map, &mut ordered, &mut seed, turn)?,
+            "turn {turn}"
+        );
     }
     assert!(rt; agree_at_all(&map, &ordered, &map.ids(alloc)?));
     assert!(rt; agree_at_keys(&map, &ordered));

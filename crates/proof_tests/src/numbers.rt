@@ -3,7 +3,7 @@ use cx_base::{Lit, LitList, Var};
 use std::alloc::{AllocError, Global};
 
 /// The next number of a linear congruential sequence: its multiplier and its addend are Knuth's, of MMIX.
-pub fn next(seed: &mut u64) -> u64 {
+pub(crate) fn next(seed: &mut u64) -> u64 {
     *seed = seed
         .wrapping_mul(6_364_136_223_846_793_005)
         .wrapping_add(1_442_695_040_888_963_407);
@@ -11,13 +11,13 @@ pub fn next(seed: &mut u64) -> u64 {
 }
 
 /// The literal of an integer from -1,000 to 1,000 that is not zero.
-pub fn lit(integer: i64) -> Lit {
+pub(crate) fn lit(integer: i64) -> Lit {
     let number = integer.unsigned_abs().clamp(1, 1_000) as u32;
     Lit::new(Var::new(number), integer < 0)
 }
 
 /// The list of the literals of integers.
-pub fn lits(alloc: Global, integers: &[i64]) -> Result<LitList, AllocError> {
+pub(crate) fn lits(alloc: Global, integers: &[i64]) -> Result<LitList, AllocError> {
     let mut list = Vec::new(alloc);
     for integer in integers {
         list.push(lit(*integer))?;
@@ -33,7 +33,7 @@ fn some_lit(seed: &mut u64, vars: u32) -> Lit {
 }
 
 /// Up to four literals over the variables up to a number; rarely none. Literals may come twice, and with their negations.
-pub fn some_lits(alloc: Global, seed: &mut u64, vars: u32) -> Result<LitList, AllocError> {
+pub(crate) fn some_lits(alloc: Global, seed: &mut u64, vars: u32) -> Result<LitList, AllocError> {
     let len = match next(seed) % 16 {
         0 => 0,
         other => 1 + other % 4,

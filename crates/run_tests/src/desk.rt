@@ -10,7 +10,7 @@ use std::alloc::{AllocError, Global};
 
 /// The most bytes that the ports take, that one call moves, and that a text may have.
 #[derive(Clone, Copy, Drop)]
-pub struct Bounds {
+pub(crate) struct Bounds {
     pub answer: usize,
     pub proof: usize,
     pub piece: usize,
@@ -18,7 +18,7 @@ pub struct Bounds {
 }
 
 /// Room for all that these tests read and write, in pieces that cut lines and words.
-pub const AMPLE: Bounds = Bounds {
+pub(crate) const AMPLE: Bounds = Bounds {
     answer: 10_000,
     proof: 10_000,
     piece: 7,
@@ -27,7 +27,7 @@ pub const AMPLE: Bounds = Bounds {
 
 /// What a run came to: its status, and the desk that it leaves.
 #[derive(Drop)]
-pub struct Ended {
+pub(crate) struct Ended {
     pub status: u8,
     desk: MemDesk,
 }
@@ -66,7 +66,7 @@ impl Ended {
 
 /// A command line from the program's name on, and the texts of the files `f` and `s`.
 #[derive(Clone, Copy, Drop)]
-pub struct Task<'a> {
+pub(crate) struct Task<'a> {
     pub line: &'a [&'a str],
     pub formula: &'a str,
     pub second: &'a str,
@@ -74,7 +74,7 @@ pub struct Task<'a> {
 
 /// Which calls of the desk fail, by their numbers from 1.
 #[derive(Clone, Copy, Debug, Drop)]
-pub enum Failing {
+pub(crate) enum Failing {
     Once(u64),
     FromThereOn(u64),
 }
@@ -114,7 +114,7 @@ fn rooms_of(bounds: Bounds) -> Rooms {
 }
 
 /// The status of a command line over a new desk.
-pub fn status_over<D: Desk>(
+pub(crate) fn status_over<D: Desk>(
     alloc: Global,
     line: &[&str],
     limit: u32,
@@ -128,7 +128,7 @@ pub fn status_over<D: Desk>(
 }
 
 /// Runs a command line, from the program's name on, over the files `f` and `s`.
-pub fn run(
+pub(crate) fn run(
     alloc: Global,
     formula: &str,
     second: &[u8],
@@ -145,7 +145,11 @@ pub fn run(
 }
 
 /// Runs a task over a desk whose calls fail so.
-pub fn run_failing(alloc: Global, task: Task, failing: Failing) -> Result<Ended, AllocError> {
+pub(crate) fn run_failing(
+    alloc: Global,
+    task: Task,
+    failing: Failing,
+) -> Result<Ended, AllocError> {
     let files = files_of(alloc, task.formula, task.second.as_bytes())?;
     let rooms = rooms_of(AMPLE);
     let mut desk = match failing {

@@ -5,7 +5,7 @@ use crate::formulas::SQUARE;
 use std::test::Fail;
 
 /// A log of the four clauses, with no hints.
-pub const SQUARE_LOG: &str =
+pub(crate) const SQUARE_LOG: &str =
     "o 10 1 2 0\no 11 -1 2 0\no 12 1 -2 0\no 13 -1 -2 0\na 20 2 0\na 21 0\n";
 
 #[test]

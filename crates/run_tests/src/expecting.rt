@@ -5,7 +5,7 @@ use std::process::Abort;
 
 /// Runs a command of the texts `f` and `s`, which is to end with this status and this answer, and
 /// to write nothing else.
-pub fn expect(
+pub(crate) fn expect(
     rt: &impl Abort,
     alloc: Global,
     command: &str,

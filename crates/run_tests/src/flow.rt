@@ -27,7 +27,7 @@ const HIDDEN: &str = "1 6 7 0\n1 -6 -7 0\n-1 6 -7 0\n-1 -6 7 0\n";
 const CIRCLE: &str = "p cnf 5 6\nx1 2 0\nx2 3 0\nx3 4 0\nx4 5 0\n1 5 0\n-1 -5 0\n";
 
 /// Elaborates a log, and checks the proof that was made of it.
-pub fn proved_within(
+pub(crate) fn proved_within(
     rt: &impl Abort,
     alloc: Global,
     formula: &str,

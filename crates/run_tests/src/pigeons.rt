@@ -5,7 +5,7 @@ use std::alloc::{AllocError, Global};
 use std::test::Fail;
 
 /// Room for a log of some thousand conflicts, in large pieces.
-pub const WIDE: Bounds = Bounds {
+pub(crate) const WIDE: Bounds = Bounds {
     proof: 20_000_000,
     piece: 65_536,
     ..AMPLE
@@ -50,7 +50,7 @@ fn put_holes(alloc: Global, text: &mut String, holes: u8, pigeon: u8) -> Result<
 }
 
 /// Each of the pigeons in some hole, and no two in one: a pigeon more than holes.
-pub fn pigeonholes(alloc: Global, holes: u8) -> Result<String, AllocError> {
+pub(crate) fn pigeonholes(alloc: Global, holes: u8) -> Result<String, AllocError> {
     let many = u32::from(holes);
     let (pigeons, pairs) = (many + 1, many * (many + 1) / 2);
     let (variables, clauses) = (many * pigeons, pigeons + many * pairs);

@@ -23,10 +23,10 @@ use std::alloc::{AllocError, Global};
 use xlrup_check::{Fault, Verdict, check};
 
 /// The conflicts at which the search stops.
-pub const BUDGET: u64 = 1_000_000_000_000_000_000;
+pub(crate) const BUDGET: u64 = 1_000_000_000_000_000_000;
 
 /// What is printed of an instance.
-pub fn instance_of(formula: &Formula, kind: Kind, size: u32, seed: u64) -> Instance
+pub(crate) fn instance_of(formula: &Formula, kind: Kind, size: u32, seed: u64) -> Instance
     requires { formula.now ≡ planted_formula kind size seed }
     ensures { result ≡ instance_of kind size seed }
 {
@@ -88,7 +88,7 @@ fn refute(alloc: Global, formula: &Formula, log: ListLog) -> Result<Shown, Alloc
 }
 
 /// Shows that what the search answered is so.
-pub fn show(
+pub(crate) fn show(
     alloc: Global,
     formula: &Formula,
     found: Ending,

@@ -57,7 +57,7 @@ fn elaborated(judged: Result<Elab, ElabFault>) -> Result<Ending, Outcome>
 
 /// `elab`: judges the log in the second slot as it is read, and writes its proof on the Proof port, each step as soon as it
 /// is found; then reads the slot to its end.
-pub fn elaborate_log<D: Desk>(
+pub(crate) fn elaborate_log<D: Desk>(
     alloc: Global,
     desk: &mut D,
     formula: &Formula,

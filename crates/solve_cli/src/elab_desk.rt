@@ -15,7 +15,7 @@ use step_text::{SinkFault, SlotReader, TextRefusal};
 /// It borrows both, so that their owner knows what was done to them. It counts one fault of
 /// writing at most: after that it takes nothing more, and answers `Memory`.
 #[derive(Drop)]
-pub struct ElabDesk<'r, 'd, D: Desk> {
+pub(crate) struct ElabDesk<'r, 'd, D: Desk> {
     /// The reader of the log's slot.
     pub reader: &'r mut SlotReader<LogGrammar>,
     /// The desk that has the slot and the port.

@@ -67,7 +67,7 @@ pub(crate) fn drained(rest: Result<(), DrainErr>) -> Result<(), Outcome>
 
 /// `check`: judges the proof in the second slot, and reads that slot to its end. What stands behind the step that decides
 /// is not judged, but its length counts.
-pub fn judge_proof<D: Desk>(
+pub(crate) fn judge_proof<D: Desk>(
     alloc: Global,
     desk: &mut D,
     formula: &Formula,
@@ -100,7 +100,11 @@ fn wrong_of(refusal: AnswerRefusal) -> Option<WrongAnswer>
 }
 
 /// `model`: judges the text of an answer.
-pub fn judge_answer(alloc: Global, formula: &Formula, text: &[u8]) -> Result<Ending, AllocError>
+pub(crate) fn judge_answer(
+    alloc: Global,
+    formula: &Formula,
+    text: &[u8],
+) -> Result<Ending, AllocError>
     ensures { (n a : List ℕ) → IfOk result (λ e. Judged e (plan.Model n a) formula.now text.now) }
 {
     let refusal = match read_answer(alloc, text, formula) {

@@ -16,7 +16,7 @@ use std::alloc::Global;
 
 /// The texts of a command: the formula that was read of the first, and the bytes of the second.
 #[derive(Drop)]
-pub struct Texts {
+pub(crate) struct Texts {
     /// The formula that the first text reads to.
     pub formula: Formula,
     /// The second text.
@@ -115,7 +115,7 @@ pub(crate) fn create_proof<D: Desk>(desk: &mut D, proof: Option<Name>) -> Result
 }
 
 /// Reads the formula, starts the second slot, and gives the Proof port its file, where the command names one.
-pub fn prepare<D: Desk>(
+pub(crate) fn prepare<D: Desk>(
     alloc: Global,
     desk: &mut D,
     formula: Name,
@@ -134,7 +134,7 @@ pub fn prepare<D: Desk>(
 }
 
 /// Reads the formula and the second text of a command that gives the Proof port no file.
-pub fn load<D: Desk>(
+pub(crate) fn load<D: Desk>(
     alloc: Global,
     desk: &mut D,
     formula: Name,

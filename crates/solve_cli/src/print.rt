@@ -180,7 +180,7 @@ fn put_demo<D: Desk>(desk: &mut D, instance: Instance, shown: Shown) -> Result<(
 
 /// Writes what an ending puts on the Answer port. It takes no memory.
 #[tactic(auto, unfolding(crate::specs::Endings::answer_text))]
-pub fn put_answer_text<D: Desk>(desk: &mut D, ending: &Ending) -> Result<(), Failed>
+pub(crate) fn put_answer_text<D: Desk>(desk: &mut D, ending: &Ending) -> Result<(), Failed>
     ensures { PutsAll port.Answer (answer_text ending.now) (D.outside desk.old) result (D.outside desk.new) }
 {
     match ending {
@@ -231,7 +231,7 @@ fn put_offence<D: Desk>(desk: &mut D, offence: Offence) -> Result<(), Failed>
 
 /// Writes what an outcome puts on the Message port.
 #[tactic(auto, unfolding(crate::specs::Endings::message_text))]
-pub fn put_message_text<D: Desk>(desk: &mut D, outcome: &Outcome) -> Result<(), Failed>
+pub(crate) fn put_message_text<D: Desk>(desk: &mut D, outcome: &Outcome) -> Result<(), Failed>
     ensures { PutsAll port.Message (message_text outcome.now) (D.outside desk.old) result (D.outside desk.new) }
 {
     match outcome {

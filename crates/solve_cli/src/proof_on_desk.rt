@@ -11,7 +11,7 @@ use step_text::{SlotReader, StepSource, TextRefusal};
 ///
 /// It is made of references alone, so that the owner of both knows what was done to them.
 #[derive(Drop)]
-pub struct ProofOnDesk<'r, 'd, D: Desk> {
+pub(crate) struct ProofOnDesk<'r, 'd, D: Desk> {
     /// The reader of the proof's slot.
     pub reader: &'r mut SlotReader<ProofGrammar>,
     /// The desk that has the slot.

@@ -17,7 +17,7 @@ use log_text::{DeskLog, ListLog};
 use std::alloc::{AllocError, Global};
 
 /// Reads the formula, and gives the Proof port its file, where the log is to have one.
-pub fn begin_search<D: Desk>(
+pub(crate) fn begin_search<D: Desk>(
     alloc: Global,
     desk: &mut D,
     formula: Name,
@@ -54,7 +54,7 @@ fn answered(answer: Result<Answer, CoreFault>) -> Result<Ending, Outcome>
 
 /// Searches for values that meet the formula, until so many conflicts are counted. Each step of the search is printed
 /// on the Proof port as it is made.
-pub fn search_on<D: Desk>(
+pub(crate) fn search_on<D: Desk>(
     alloc: Global,
     desk: &mut D,
     formula: &Formula,
@@ -71,7 +71,7 @@ pub fn search_on<D: Desk>(
 }
 
 /// The same, with the log kept as a list. It gives up only for want of memory.
-pub fn search(
+pub(crate) fn search(
     alloc: Global,
     formula: &Formula,
     conflicts: u64,

@@ -10,14 +10,14 @@ use std::alloc::{AllocError, Global};
 const NAME: &str = "text";
 
 /// The ports of a desk that is only read.
-pub const NO_ROOM: Rooms = Rooms {
+pub(crate) const NO_ROOM: Rooms = Rooms {
     answer: 0,
     proof: 0,
     message: 0,
 };
 
 /// A desk whose file has these bytes, and whose calls of these numbers fail.
-pub fn desk(
+pub(crate) fn desk(
     alloc: Global,
     text: &[u8],
     rooms: Rooms,
@@ -37,7 +37,7 @@ pub fn desk(
 }
 
 /// Opens the file for a slot. Whether that worked.
-pub fn start(alloc: Global, desk: &mut MemDesk, slot: Slot) -> Result<bool, AllocError>
+pub(crate) fn start(alloc: Global, desk: &mut MemDesk, slot: Slot) -> Result<bool, AllocError>
     requires { asked_in slot (outside_of desk.old).asked ≡ None }
     ensures { IfOk result (λ yes. IsTrue yes → started_in slot (outside_of desk.new).started ≡ true) }
 {

@@ -80,7 +80,10 @@ fn endings_behind_no_step(rt: HostRuntime) -> Result<(), Fail> {
     ];
     let wanted =
         b"Some(BadToken(2))\nSome(Unterminated(8))\nSome(TooBig(0))\nSome(TooBig(2))\nSome(BadToken(0))\nSome(BadToken(4))\nSome(BadToken(10))\nSome(BadToken(8))\nSome(BadToken(0))\nSome(BadToken(2))\nSome(BadToken(0))\n".as_slice();
-    assert_eq!(rt; endings_of::<Proofs>(rt.alloc(), &texts)?.as_slice(), wanted);
+    assert_eq!(rt;
+        endings_of::<Proofs>(rt.alloc(), &texts)?.as_slice(),
+        wanted
+    );
     Ok(())
 }
 
@@ -95,7 +98,10 @@ fn endings_behind_steps(rt: HostRuntime) -> Result<(), Fail> {
     ];
     let wanted =
         b"None\nNone\nx 4 0 1 2 3 0\nNone\n5 0 -7 0\nNone\n6 0 0\nSome(Unterminated(7))\n".as_slice();
-    assert_eq!(rt; endings_of::<Proofs>(rt.alloc(), &texts)?.as_slice(), wanted);
+    assert_eq!(rt;
+        endings_of::<Proofs>(rt.alloc(), &texts)?.as_slice(),
+        wanted
+    );
     Ok(())
 }
 

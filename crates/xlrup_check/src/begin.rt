@@ -33,7 +33,7 @@ fn put_parities(alloc: Global, formula: &Formula, live: &mut Live) -> Result<(),
 }
 
 /// The formula's clauses and its parities, each numbered from 1 in order.
-pub fn first_live(alloc: Global, formula: &Formula) -> Result<Live, AllocError>
+pub(crate) fn first_live(alloc: Global, formula: &Formula) -> Result<Live, AllocError>
     ensures { IfOk result (λ live. live ≡ first_tables formula.now) }
 {
     let mut live = Live::make(alloc);

@@ -74,7 +74,7 @@ fn delete(live: &mut Live, kind: Kind, ids: &IdList)
 }
 
 /// Judges a step, and where it is right does it and says whether it ends the proof. `marks` are for their memory alone.
-pub fn take_step(
+pub(crate) fn take_step(
     alloc: Global,
     marks: &mut JudgeMarks,
     vars: u32,
