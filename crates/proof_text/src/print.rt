@@ -7,7 +7,7 @@ ghost use Rattle.cx_texts.specs.Printed.{printed_line, HasProofText};
 
 use cx_base::ProofStep;
 use cx_desk::{Desk, Failed, Port, put_all};
-use step_text::pieces::{put_head, put_id, put_ids, put_integer, put_integers};
+use step_text::pieces::{put_head, put_id, put_ids, put_integer, put_line};
 
 /// An id, literals and hints behind a text, as the end of a line.
 fn put_hinted<D: Desk>(
@@ -20,8 +20,7 @@ fn put_hinted<D: Desk>(
 ) -> Result<(), Failed>
     ensures { PutsAll port (before.now ++ printed_line (flat_map spelled (id name ∷ integers literals.now ∷ integers hints.now ∷ []))) (D.outside desk.old) result (D.outside desk.new) }
 {
-    put_head(desk, port, before, name, literals, b"")?;
-    put_integers(desk, port, hints, b"\n")
+    put_line(desk, port, before, name, literals, hints)
 }
 
 /// A clause that a parity implies.

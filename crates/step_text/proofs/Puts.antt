@@ -65,7 +65,7 @@ pub line_spaced : (w : Word) (ws : List Word) → printed_line (w ∷ ws) ≡ pr
 line_spaced w [] = refl
 line_spaced w (v ∷ ws) = append_assoc (printed_word w) (32 ∷ _) (10 ∷ []) ∙ ap (λ l. printed_word w ++ 32 ∷ l) (line_spaced v ws ∙ sym (append_assoc (printed_word v) (spaced ws) (10 ∷ [])))
 
-spaced_integers : (zs : List ℤ) → spaced (spelled_list zs) ≡ flat_map spaced_integer zs ++ (32 ∷ 48 ∷ [])
+pub spaced_integers : (zs : List ℤ) → spaced (spelled_list zs) ≡ flat_map spaced_integer zs ++ (32 ∷ 48 ∷ [])
 spaced_integers [] = ap (λ d. 32 ∷ (d ++ [])) zero_digit
 spaced_integers (z ∷ zs) = ap (λ l. spaced_integer z ++ l) (spaced_integers zs) ∙ sym (append_assoc (spaced_integer z) (flat_map spaced_integer zs) (32 ∷ 48 ∷ []))
 
@@ -86,7 +86,7 @@ spaced-append us ws = flat_map-append (λ w. 32 ∷ printed_word w) us ws
 pub head_text : (before : Bytes) (n : ℕ) (ls : List ℤ) (after : Bytes) → (before ++ (decimal n ++ [])) ++ (spaced (spelled_list ls) ++ after) ≡ before ++ (decimal n ++ (spaced (spelled_list ls) ++ after))
 head_text before n ls after = simp (append_assoc, append-nil)
 
-in_row : (a d l h t : Bytes) → (a ++ (d ++ (l ++ h))) ++ t ≡ a ++ (d ++ (l ++ (h ++ t)))
+pub in_row : (a d l h t : Bytes) → (a ++ (d ++ (l ++ h))) ++ t ≡ a ++ (d ++ (l ++ (h ++ t)))
 in_row a d l h t = simp append_assoc
 
 -- a line goes on behind its head
@@ -117,3 +117,9 @@ pub parity_names_line : (ns : List ℕ) → (120 ∷ 32 ∷ 100 ∷ []) ++ (spac
 parity_names_line ns =
     ap (λ ws. 120 ∷ 32 ∷ 100 ∷ (spaced ws ++ 10 ∷ [])) (sym (append-nil (spelled_list (map pos ns))))
     ∙ sym (line_spaced (letter 120) (letter 100 ∷ (spelled_list (map pos ns) ++ [])))
+
+pub hinted_line : (before : Bytes) (n : ℕ) (ls hs : List ℤ)
+    → before ++ (decimal n ++ (spaced (spelled_list ls) ++ (spaced (spelled_list hs) ++ 10 ∷ []))) ≡ before ++ printed_line (number (pos n) ∷ (spelled_list ls ++ (spelled_list hs ++ [])))
+hinted_line before n ls hs =
+    sym (in_row before (decimal n) (spaced (spelled_list ls)) [] (spaced (spelled_list hs) ++ 10 ∷ []))
+    ∙ line_on before n ls (spelled_list hs ++ []) [] (spaced (spelled_list hs) ++ 10 ∷ []) (list_tail (spelled_list hs))

@@ -1,7 +1,9 @@
 //! Integers laid out behind one another, each behind a space.
-ghost use Rattle.std.specs.Prelude.{◌≡◌, ◌≤◌, ◌+◌, ◌*◌, ◌++◌, flat_map, length, drop};
+ghost use Rattle.std.specs.Prelude.{◌≡◌, ◌≤◌, ◌+◌, ◌*◌, ◌∷◌, ◌++◌, [], decimal, flat_map, length, drop};
+ghost use Rattle.cx_texts.specs.Grammar.{spelled, integers};
 ghost use Rattle.cx_texts.specs.Printed.{printed_integer};
-ghost use Rattle.step_text.specs.Spaced.{spaced_integer};
+ghost use Rattle.step_text.specs.Spaced.{spaced, spaced_integer};
+ghost use Rattle.step_text.specs.declared.lay_out.TheConstants.{ROOM};
 
 use itoa::write_digits;
 
@@ -43,6 +45,7 @@ fn lay_out_integer(integer: i64, sheet: &mut [u8], end: usize) -> usize
 pub(crate) fn lay_out_integers(members: &[i64], sheet: &mut [u8], end: usize) -> usize
     requires room { length members.now * LONGEST ≤ end }
     requires within { end ≤ length sheet.old }
+    ensures low { end ≤ result + length members.now * LONGEST }
     ensures high { result ≤ end }
     ensures laid { drop result sheet.new ≡ flat_map spaced_integer members.now ++ drop end sheet.old }
 {
@@ -53,4 +56,49 @@ pub(crate) fn lay_out_integers(members: &[i64], sheet: &mut [u8], end: usize) ->
         at = lay_out_integer(members[left], sheet, at);
     }
     at
+}
+
+/// The most integers of a line that is laid out whole.
+pub(crate) const SHORT: usize = 48;
+
+/// Room for such a line: an id, the integers, two zeros behind spaces, and a line feed.
+pub(crate) const ROOM: usize = (SHORT + 1) * LONGEST + 5;
+
+/// Lays out a space and a zero so that they end there, and says where they begin.
+#[inline(always)]
+fn lay_out_zero(sheet: &mut [u8], end: usize) -> usize
+    requires room { 2 ≤ end }
+    requires within { end ≤ length sheet.old }
+    ensures begin { result + 2 ≡ end }
+    ensures laid { drop result sheet.new ≡ 32 ∷ 48 ∷ drop end sheet.old }
+{
+    sheet[end - 1] = b'0';
+    sheet[end - 2] = b' ';
+    end - 2
+}
+
+/// Lays out integers with the zero that ends them, so that it ends there, and says where the first begins.
+fn lay_out_list(members: &[i64], sheet: &mut [u8], end: usize) -> usize
+    requires room { length members.now * LONGEST + 2 ≤ end }
+    requires within { end ≤ length sheet.old }
+    ensures low { end ≤ result + (length members.now * LONGEST + 2) }
+    ensures high { result ≤ end }
+    ensures laid { drop result sheet.new ≡ spaced (spelled (integers members.now)) ++ drop end sheet.old }
+{
+    let begin = lay_out_zero(sheet, end);
+    lay_out_integers(members, sheet, begin)
+}
+
+/// Lays out an id and two lists, each with the zero that ends it, and a line feed at the end of a sheet, and says where the id
+/// begins.
+pub(crate) fn lay_out_line(name: u64, literals: &[i64], hints: &[i64], sheet: &mut [u8]) -> usize
+    requires few { length literals.now + length hints.now ≤ SHORT }
+    requires sheet { length sheet.old ≡ ROOM }
+    ensures within { result ≤ ROOM }
+    ensures laid { drop result sheet.new ≡ decimal name ++ (spaced (spelled (integers literals.now)) ++ (spaced (spelled (integers hints.now)) ++ 10 ∷ [])) }
+{
+    sheet[ROOM - 1] = b'\n';
+    let behind = lay_out_list(hints, sheet, ROOM - 1);
+    let behind = lay_out_list(literals, sheet, behind);
+    write_digits(name, sheet, behind)
 }

@@ -1,10 +1,10 @@
 //! Pieces of a printed line, which printers of steps are made of.
-ghost use Rattle.std.specs.Prelude.{◌≡◌, ◌≤◌, [], ◌∷◌, length, ◌++◌, flat_map, decimal};
+ghost use Rattle.std.specs.Prelude.{◌≡◌, ◌≤◌, ◌+◌, [], ◌∷◌, length, ◌++◌, flat_map, decimal};
 ghost use Rattle.cx_desk.specs.Calls.{PutsAll};
 ghost use Rattle.cx_texts.specs.Grammar.{spelled, ids, integers};
 ghost use Rattle.step_text.specs.Spaced.{spaced, spaced_integer, spaced_id};
 
-use crate::lay_out::{LONGEST, lay_out_integers};
+use crate::lay_out::{LONGEST, ROOM, SHORT, lay_out_integers, lay_out_line};
 use cx_desk::{Desk, Failed, Port, put_all, put_pieces};
 use itoa::Buffer;
 
@@ -107,4 +107,39 @@ pub fn put_head<D: Desk>(
 {
     put_id(desk, port, before, name, b"")?;
     put_integers(desk, port, literals, after)
+}
+
+/// An id behind a text and two lists, as a whole line, in one piece.
+fn put_short_line<D: Desk>(
+    desk: &mut D,
+    port: Port,
+    before: &[u8],
+    name: u64,
+    literals: &[i64],
+    hints: &[i64],
+) -> Result<(), Failed>
+    requires { length literals.now + length hints.now ≤ SHORT }
+    ensures { PutsAll port (before.now ++ (decimal name ++ (spaced (spelled (integers literals.now)) ++ (spaced (spelled (integers hints.now)) ++ 10 ∷ [])))) (D.outside desk.old) result (D.outside desk.new) }
+{
+    let mut sheet = [0; ROOM];
+    let begin = lay_out_line(name, literals, hints, &mut sheet);
+    put_pieces(desk, port, &[before, &sheet[begin..]])
+}
+
+/// An id behind a text and two lists, each with the zero that ends it, as a whole line.
+pub fn put_line<D: Desk>(
+    desk: &mut D,
+    port: Port,
+    before: &[u8],
+    name: u64,
+    literals: &[i64],
+    hints: &[i64],
+) -> Result<(), Failed>
+    ensures { PutsAll port (before.now ++ (decimal name ++ (spaced (spelled (integers literals.now)) ++ (spaced (spelled (integers hints.now)) ++ 10 ∷ [])))) (D.outside desk.old) result (D.outside desk.new) }
+{
+    if literals.len() <= SHORT && hints.len() <= SHORT - literals.len() {
+        return put_short_line(desk, port, before, name, literals, hints);
+    }
+    put_head(desk, port, before, name, literals, b"")?;
+    put_integers(desk, port, hints, b"\n")
 }

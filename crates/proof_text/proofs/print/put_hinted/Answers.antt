@@ -1,26 +1,10 @@
-use Rattle.std.proofs.lemmas.Result.{err_from_is_err_and}
-use Rattle.std.proofs.Common.{decimal, ◌∷◌, ◌++◌, []}
-use Rattle.cx_texts.specs.Grammar.{spelled_list}
-use Rattle.step_text.specs.Spaced.{spaced}
-use Rattle.step_text.proofs.Puts.{first_fails, two_puts, line_on, list_tail}
+use Rattle.std.proofs.Common.{subst}
+use Rattle.cx_desk.specs.Calls.{PutsAll}
+use Rattle.step_text.proofs.Puts.{hinted_line}
 use Rattle.proof_text.proofs.print.put_hinted.Goals as goal
-
-pub returns-in_err-put_head : goal.returns-in_err-put_head
-returns-in_err-put_head g c =
-    let p = err_from_is_err_and c.from_residual.result c.from_residual.ensures.1 in
-    let first = c.args.before.now ++ (decimal c.args.name ++ (spaced (spelled_list c.args.literals.now) ++ [])) in
-    let second = spaced (spelled_list c.args.hints.now) ++ 10 ∷ [] in
-    let line = line_on c.args.before.now c.args.name c.args.literals.now (spelled_list c.args.hints.now ++ []) [] second (list_tail (spelled_list c.args.hints.now)) in
-    let old = g.D.Desk.outside c.args.desk.now in
-    let new = g.D.Desk.outside c.put_head.new.desk in
-    rw p.1 (first_fails c.args.port first second _ old new line c.in_err-put_head.ensures)
 
 pub returns : goal.returns
 returns g c =
-    let first = c.args.before.now ++ (decimal c.args.name ++ (spaced (spelled_list c.args.literals.now) ++ [])) in
-    let second = spaced (spelled_list c.args.hints.now) ++ 10 ∷ [] in
-    let line = line_on c.args.before.now c.args.name c.args.literals.now (spelled_list c.args.hints.now ++ []) [] second (list_tail (spelled_list c.args.hints.now)) in
     let old = g.D.Desk.outside c.args.desk.now in
-    let mid = g.D.Desk.outside c.put_head.new.desk in
-    let new = g.D.Desk.outside c.put_integers.new.desk in
-    two_puts c.args.port first second _ old mid new c.put_integers.result line c.in_ok-put_head.ensures c.put_integers.ensures
+    let new = g.D.Desk.outside c.put_line.new.desk in
+    subst (λ l. PutsAll c.args.port l old c.put_line.result new) (hinted_line c.args.before.now c.args.name c.args.literals.now c.args.hints.now) c.put_line.ensures

@@ -1,4 +1,4 @@
-use Rattle.std.proofs.Common.{◌≡◌, ◌≤◌, ◌*◌, ◌++◌, length, drop, flat_map}
+use Rattle.std.proofs.Common.{◌≡◌, ◌≤◌, ◌+◌, ◌-◌, ◌*◌, ◌++◌, length, drop, flat_map}
 use Rattle.step_text.specs.Spaced.{spaced_integer}
 use Rattle.step_text.specs.declared.lay_out.TheConstants.{LONGEST}
 use Rattle.step_text.proofs.lay_out.lay_out_integers.Given as goal
@@ -7,6 +7,7 @@ abbrev pub invariant-loop-left : goal.invariant-loop-left
 invariant-loop-left l = record {
   left : l.left ≤ length l.members;
   room : l.left * LONGEST ≤ l.at;
+  low : l.fn.end ≤ l.at + (length l.members - l.left) * LONGEST;
   high : l.at ≤ l.fn.end;
   laid : drop l.at l.sheet ≡ flat_map spaced_integer (drop l.left l.members) ++ drop l.fn.end l.initial.sheet;
 }
