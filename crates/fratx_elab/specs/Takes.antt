@@ -13,7 +13,7 @@ use Rattle.cx_base.specs.declared.steps.LogStep.{LogStep}
 use Rattle.cx_base.specs.declared.steps.ProofStep.{ProofStep}
 use Rattle.proof_rules.specs.declared.refusal.JudgeRefusal.{JudgeRefusal}
 use Rattle.proof_rules.specs.Judges.{IsRefusedBy}
-use Rattle.fratx_elab.specs.Names.{Names}
+use Rattle.fratx_elab.specs.Names.{Naming, Names, hints_for}
 use Rattle.fratx_elab.specs.Elaborates.{Writes}
 use Rattle.fratx_elab.specs.Ties.{AreTied}
 use Rattle.fratx_elab.specs.declared.state.State.{State}
@@ -56,3 +56,8 @@ Admits formula table n lits (Err why) = IsRefusedBy (adding formula table n lits
 abbrev pub GivesChain : Table → List Literal → Result (List ℕ) JudgeRefusal → Type 0
 GivesChain table target (Ok ids) = AreLive table ids × IsChain target (named table ids)
 GivesChain table target (Err why) = IsRefusedBy (chained table target) why
+
+-- hints that name live clauses which are a right chain; else there is no such list
+abbrev pub GivesHints : Table → Naming → List Literal → Result (List ℤ) JudgeRefusal → Type 0
+GivesHints table naming target (Ok hints) = (ids : List ℕ) × AreLive table ids × IsChain target (named table ids) × (hints ≡ hints_for naming ids)
+GivesHints table naming target (Err why) = IsRefusedBy (chained table target) why

@@ -47,7 +47,7 @@ pub fn take_step(
     counts: Counts,
     originals: &Originals,
     state: &mut State,
-    step: &LogStep,
+    step: LogStep,
 ) -> Result<Option<ProofStep>, JudgeRefusal>
     requires originals { StandsFor originals.now formula.now }
     requires clauses { counts.clauses ≡ number_of_clauses formula.now }
@@ -55,30 +55,30 @@ pub fn take_step(
     requires clause_room { state.old.clauses.last < MAX_ID }
     requires parity_room { state.old.parities.last < MAX_ID }
     requires tied { (proof : Tables) × AreTied formula.now state.old.live proof (names_of state.old) }
-    ensures taken { TakesLogStep formula.now state.old step.now result state.new }
+    ensures taken { TakesLogStep formula.now state.old step result state.new }
     ensures text { IfOk result CanBePrinted }
     ensures more { OnOk result (CountsOneMore state.old state.new) }
 {
     match step {
-        LogStep::Original(id, lits) => take_original(alloc, formula, originals, state, *id, lits),
+        LogStep::Original(id, lits) => take_original(alloc, formula, originals, state, id, &lits),
         LogStep::OriginalParity(id, lits) => {
-            take_original_parity(alloc, formula, originals, state, *id, lits)
+            take_original_parity(alloc, formula, originals, state, id, &lits)
         }
-        LogStep::Clause(id, lits) => take_clause(alloc, formula, state, *id, lits, &[]),
+        LogStep::Clause(id, lits) => take_clause(alloc, formula, state, id, lits, &[]),
         LogStep::ClauseWithHints(id, lits, hints) => {
-            take_clause(alloc, formula, state, *id, lits, hints.as_slice())
+            take_clause(alloc, formula, state, id, lits, hints.as_slice())
         }
         LogStep::Parity(id, lits, ids) => {
-            take_parity(alloc, formula, state, *id, lits, ids.as_slice())
+            take_parity(alloc, formula, state, id, lits, ids.as_slice())
         }
         LogStep::ClauseOfParity(id, lits, source) => {
-            take_clause_of_parity(alloc, formula, state, *id, lits, *source)
+            take_clause_of_parity(alloc, formula, state, id, lits, source)
         }
         LogStep::ParityOfClauses(id, lits, ids) => {
-            take_parity_of_clauses(alloc, formula, state, *id, lits, ids.as_slice())
+            take_parity_of_clauses(alloc, formula, state, id, lits, ids.as_slice())
         }
-        LogStep::Delete(id, lits) => delete_clause(alloc, counts.clauses, state, *id, lits),
-        LogStep::DeleteParity(id, lits) => delete_parity(alloc, counts.parities, state, *id, lits),
+        LogStep::Delete(id, lits) => delete_clause(alloc, counts.clauses, state, id, &lits),
+        LogStep::DeleteParity(id, lits) => delete_parity(alloc, counts.parities, state, id, &lits),
         LogStep::Final(_, _) | LogStep::FinalParity(_, _) => Ok(None),
     }
 }

@@ -1,5 +1,6 @@
 //! One step of a log: judged, done, and what the proof gains by it.
-ghost use Rattle.std.specs.Prelude.{◌≡◌, ◌≤◌, ◌<◌, ◌+◌, pos, length, IfOk, IfSome, OnOk};
+ghost use Rattle.std.specs.Prelude.{◌≡◌, ◌≤◌, ◌<◌, ◌+◌, pos, length, true, IfOk, OnOk};
+ghost use Rattle.cx_base.specs.Integers.{sizes};
 ghost use Rattle.cx_base.specs.Problem.{Problem};
 ghost use Rattle.cx_semantics.specs.Chain.{IsChain};
 ghost use Rattle.cx_semantics.specs.LogRules.{AreLive, HasChain, chained, derives_empty_clause};
@@ -8,7 +9,7 @@ ghost use Rattle.cx_base.specs.declared.steps.LogStep.TheVariants as step;
 ghost use Rattle.proof_rules.specs.Kinds.{chosen};
 ghost use Rattle.fratx_elab.specs.Contents.{StandsFor};
 ghost use Rattle.fratx_elab.specs.Names.{hints_for};
-ghost use Rattle.fratx_elab.specs.Takes.{TakesLogStep, Admits, GivesChain, CanBePrinted, CountsOneMore, names_of};
+ghost use Rattle.fratx_elab.specs.Takes.{TakesLogStep, Admits, GivesChain, GivesHints, CanBePrinted, CountsOneMore, names_of};
 ghost use Rattle.fratx_elab.specs.Ties.{AreTied};
 ghost use Rattle.fratx_elab.specs.declared.naming.TheConstants.{MAX_ID};
 
@@ -52,43 +53,33 @@ fn admit(
     proof_rules::admit(alloc, formula.vars(), lits, live.has(kind, id))
 }
 
-/// The ids that the hints name, if in this order they are a right chain for the clause.
-fn chain_by(
-    alloc: Global,
-    live: &mut IndexedClauses,
-    target: &LitList,
-    hints: &[i64],
-) -> Result<Option<IdList>, AllocError>
+/// The hints that name in the proof what these hints name in the log.
+fn renamed(alloc: Global, names: &Names, given: &[i64]) -> Result<IntList, AllocError>
+    ensures { IfOk result (λ hints. hints ≡ hints_for names.now (sizes given.now)) }
+{
+    let mut hints = Vec::with_capacity(alloc, given.len())?;
+    for hint in given {
+        if let Some(id) = names.get(hint.unsigned_abs()) {
+            hints.push(id.hint())?;
+        }
+    }
+    Ok(IntList::from_vec(hints))
+}
+
+/// Whether the clauses that the hints name are in this order a right chain for the clause.
+fn are_chain(live: &mut IndexedClauses, target: &LitList, hints: &[i64]) -> Result<bool, AllocError>
     ensures same { live.new ≡ live.old }
-    ensures chain { IfOk result (λ found. IfSome found (λ ids. AreLive live.old.clauses ids × IsChain target.now (named live.old.clauses ids))) }
+    ensures chain { IfOk result (λ yes. yes ≡ true → AreLive live.old.clauses (sizes hints.now) × IsChain target.now (named live.old.clauses (sizes hints.now))) }
 {
     match live.judge_chain(target, hints) {
-        Ok(()) => Ok(Some(IdList::from_vec(ids_of(alloc, hints)?))),
+        Ok(()) => Ok(true),
         Err(JudgeRefusal::Memory) => Err(AllocError),
-        Err(JudgeRefusal::Wrong(_)) => Ok(None),
+        Err(JudgeRefusal::Wrong(_)) => Ok(false),
     }
 }
 
-/// The hints as a chain for the clause, in the order that is given or in the reverse one: a solver meets them from the conflict
-/// back.
-fn chain_given(
-    alloc: Global,
-    live: &mut IndexedClauses,
-    target: &LitList,
-    given: &[i64],
-) -> Result<Option<IdList>, AllocError>
-    ensures same { live.new ≡ live.old }
-    ensures chain { IfOk result (λ found. IfSome found (λ ids. AreLive live.old.clauses ids × IsChain target.now (named live.old.clauses ids))) }
-{
-    if let Some(ids) = chain_by(alloc, live, target, given)? {
-        return Ok(Some(ids));
-    }
-    let mut reversed = Vec::from_slice(alloc, given)?;
-    reversed.reverse();
-    chain_by(alloc, live, target, &reversed)
-}
-
-/// Live hints that are a right chain for the clause: those that are given, where they are, or else any.
+/// A list of live hints that is a right chain for the clause, or that there is none. The given hints are tried from the last to the
+/// first, since a solver may meet them from the conflict back.
 fn chain_of(
     alloc: Global,
     live: &mut IndexedClauses,
@@ -98,13 +89,33 @@ fn chain_of(
     ensures same { live.new ≡ live.old }
     ensures chain { GivesChain live.old.clauses target.now result }
 {
-    if let Some(ids) = chain_given(alloc, live, target, given)? {
-        return Ok(ids);
+    let mut reversed = Vec::from_slice(alloc, given)?;
+    reversed.reverse();
+    if are_chain(live, target, &reversed)? {
+        return Ok(IdList::from_vec(ids_of(alloc, &reversed)?));
     }
     match live.find(alloc, target.as_slice())? {
         Some(ids) => Ok(ids),
         None => Err(JudgeRefusal::Wrong(Cause::NoChain)),
     }
+}
+
+/// The hints of a clause in the proof: the given ones as they stand, where they are a right chain, and else those of another chain.
+fn chain_hints(
+    alloc: Global,
+    live: &mut IndexedClauses,
+    names: &Names,
+    target: &LitList,
+    given: &[i64],
+) -> Result<IntList, JudgeRefusal>
+    ensures same { live.new ≡ live.old }
+    ensures chain { GivesHints live.old.clauses names.now target.now result }
+{
+    if are_chain(live, target, given)? {
+        return Ok(renamed(alloc, names, given)?);
+    }
+    let ids = chain_of(alloc, live, target, given)?;
+    Ok(hints_of(alloc, names, ids.as_slice())?)
 }
 
 /// A clause of the formula: nothing is written.
@@ -163,21 +174,19 @@ pub fn take_clause(
     formula: &Formula,
     state: &mut State,
     id: u64,
-    lits: &IntList,
+    lits: IntList,
     given: &[i64],
 ) -> Result<Option<ProofStep>, JudgeRefusal>
     requires room { state.old.clauses.last < MAX_ID }
-    ensures taken { TakesLogStep formula.now state.old (step.Clause id lits.now) result state.new }
+    ensures taken { TakesLogStep formula.now state.old (step.Clause id lits) result state.new }
     ensures text { IfOk result CanBePrinted }
     ensures counts { OnOk result (CountsOneMore state.old state.new) }
 {
-    let target = admit(alloc, formula, &state.live, Kind::Clauses, id, lits)?;
-    let ids = chain_of(alloc, &mut state.live, &target, given)?;
-    let hints = hints_of(alloc, &state.clauses, ids.as_slice())?;
-    let copy = lits.clone()?;
+    let target = admit(alloc, formula, &state.live, Kind::Clauses, id, &lits)?;
+    let hints = chain_hints(alloc, &mut state.live, &state.clauses, &target, given)?;
     state.live.add(Kind::Clauses, id, target)?;
     let next = state.clauses.put_next(id)?;
-    Ok(Some(clause_step(next, copy, hints)))
+    Ok(Some(clause_step(next, lits, hints)))
 }
 
 /// A parity as the sum of parities that the log names.
@@ -186,21 +195,20 @@ pub fn take_parity(
     formula: &Formula,
     state: &mut State,
     id: u64,
-    lits: &IntList,
+    lits: IntList,
     sources: &[u64],
 ) -> Result<Option<ProofStep>, JudgeRefusal>
     requires room { state.old.parities.last < MAX_ID }
-    ensures taken { TakesLogStep formula.now state.old (step.Parity id lits.now sources.now) result state.new }
+    ensures taken { TakesLogStep formula.now state.old (step.Parity id lits sources.now) result state.new }
     ensures text { IfOk result CanBePrinted }
     ensures counts { OnOk result (CountsOneMore state.old state.new) }
 {
-    let target = admit(alloc, formula, &state.live, Kind::Parities, id, lits)?;
+    let target = admit(alloc, formula, &state.live, Kind::Parities, id, &lits)?;
     judge_named_sum(&mut state.marks, state.live.live(), &target, sources)?;
     let hints = hints_of(alloc, &state.parities, sources)?;
-    let copy = lits.clone()?;
     state.live.add(Kind::Parities, id, target)?;
     let next = state.parities.put_next(id)?;
-    Ok(Some(parity_step(next, copy, hints)))
+    Ok(Some(parity_step(next, lits, hints)))
 }
 
 /// A parity that clauses imply, which the log names.
@@ -209,25 +217,24 @@ pub fn take_parity_of_clauses(
     formula: &Formula,
     state: &mut State,
     id: u64,
-    lits: &IntList,
+    lits: IntList,
     sources: &[u64],
 ) -> Result<Option<ProofStep>, JudgeRefusal>
     requires room { state.old.parities.last < MAX_ID }
-    ensures taken { TakesLogStep formula.now state.old (step.ParityOfClauses id lits.now sources.now) result state.new }
+    ensures taken { TakesLogStep formula.now state.old (step.ParityOfClauses id lits sources.now) result state.new }
     ensures text { IfOk result CanBePrinted }
     ensures counts { OnOk result (CountsOneMore state.old state.new) }
 {
-    let target = admit(alloc, formula, &state.live, Kind::Parities, id, lits)?;
+    let target = admit(alloc, formula, &state.live, Kind::Parities, id, &lits)?;
     // By `?` the prover does not see the cause through.
     match judge_parity_of_named_clauses(&mut state.marks, state.live.live(), &target, sources) {
         Ok(()) => {}
         Err(why) => return Err(why),
     }
     let hints = hints_of(alloc, &state.clauses, sources)?;
-    let copy = lits.clone()?;
     state.live.add(Kind::Parities, id, target)?;
     let next = state.parities.put_next(id)?;
-    Ok(Some(parity_of_clauses_step(next, copy, hints)))
+    Ok(Some(parity_of_clauses_step(next, lits, hints)))
 }
 
 /// A clause that a parity implies, which the log names.
@@ -236,24 +243,23 @@ pub fn take_clause_of_parity(
     formula: &Formula,
     state: &mut State,
     id: u64,
-    lits: &IntList,
+    lits: IntList,
     source: u64,
 ) -> Result<Option<ProofStep>, JudgeRefusal>
     requires room { state.old.clauses.last < MAX_ID }
     requires tied { (proof : Tables) × AreTied formula.now state.old.live proof (names_of state.old) }
-    ensures taken { TakesLogStep formula.now state.old (step.ClauseOfParity id lits.now source) result state.new }
+    ensures taken { TakesLogStep formula.now state.old (step.ClauseOfParity id lits source) result state.new }
     ensures text { IfOk result CanBePrinted }
     ensures counts { OnOk result (CountsOneMore state.old state.new) }
 {
-    let target = admit(alloc, formula, &state.live, Kind::Clauses, id, lits)?;
+    let target = admit(alloc, formula, &state.live, Kind::Clauses, id, &lits)?;
     judge_clause_of_named_parity(&mut state.marks, state.live.live(), &target, source)?;
     let named = match state.parities.get(source) {
         Some(named) => named,
         // Nothing that is live in the log is without a name in the proof.
         None => unreachable!(),
     };
-    let copy = lits.clone()?;
     state.live.add(Kind::Clauses, id, target)?;
     let next = state.clauses.put_next(id)?;
-    Ok(Some(clause_of_parity_step(next, copy, named)))
+    Ok(Some(clause_of_parity_step(next, lits, named)))
 }

@@ -127,12 +127,13 @@ fn take_next<E: ElabEnds>(
         Ok(None) => return Ok(Some(Elab::Refused(steps + 1, Cause::NoEmptyClause))),
         Err(why) => return refused_text(why, steps + 1),
     };
-    let written = match take_step(alloc, formula, counts, originals, state, &step) {
+    let is_last = ends_log(&step);
+    let written = match take_step(alloc, formula, counts, originals, state, step) {
         Ok(written) => written,
         Err(why) => return refused_step(why, steps + 1),
     };
     let wrote = write(ends, &written);
-    what_follows(wrote, ends_log(&step), steps + 1)
+    what_follows(wrote, is_last, steps + 1)
 }
 
 /// Turns a log into a proof of the formula: each step is judged, and what is right is written with hints.

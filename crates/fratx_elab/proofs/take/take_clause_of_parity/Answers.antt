@@ -12,7 +12,7 @@ pub returns-clause-taken : goal.returns-clause-taken
 returns-clause-taken c =
     let formula = c.args.formula.now in
     let state = c.args.state.now in
-    let lits = c.args.lits.now in
+    let lits = c.args.lits in
     let ids = c.args.source ∷ [] in
     let p : ℕ = c.in-Some.named in
     let added = c.in_ok-target.ensures.0 in
@@ -21,4 +21,4 @@ returns-clause-taken c =
     (subst (λ (t : Tables). AllHold (naming t.parities ids ++ clause_of_parity c.in_ok-target.target (named t.parities ids))) c.live.ensures c.in_ok-judge_clause_of_named_parity.ensures) in
     takes_clause_of_parity formula state (record { live = _; clauses = _; parities = _; marks = state.marks }) c.args.id lits c.args.source p c.clause_of_parity_step.result added judged (sym (sym c.in-Some.is ∙ c.get.ensures))
     (c.in_ok-add.ensures.ok ∙ ap (put_clause state.live c.args.id) target) c.in_ok-next.ensures.named refl
-    (c.clause_of_parity_step.ensures.step ∙ (λ i. step.ClauseOfParity (c.in_ok-next.ensures.next i) (c.in_ok-copy.ensures.cases i) (pos p)))
+    (c.clause_of_parity_step.ensures.step ∙ (λ i. step.ClauseOfParity (c.in_ok-next.ensures.next i) lits (pos p)))

@@ -12,7 +12,7 @@ pub returns-clause-taken : goal.returns-clause-taken
 returns-clause-taken c =
     let formula = c.args.formula.now in
     let state = c.args.state.now in
-    let lits = c.args.lits.now in
+    let lits = c.args.lits in
     let ids : List ℕ = c.args.sources.now in
     let added = c.in_ok-target.ensures.0 in
     let target = c.in_ok-target.ensures.1 in
@@ -20,4 +20,4 @@ returns-clause-taken c =
     (subst (λ (t : Tables). AllHold (naming t.parities ids ++ summing c.in_ok-target.target (named t.parities ids))) c.live.ensures c.in_ok-judge_named_sum.ensures) in
     takes_parity formula state (record { live = _; clauses = _; parities = _; marks = state.marks }) c.args.id lits ids c.parity_step.result added judged
     (c.in_ok-add.ensures.ok ∙ ap (put_parity state.live c.args.id) target) refl c.in_ok-next.ensures.named
-    (c.parity_step.ensures.step ∙ (λ i. step.Parity (c.in_ok-next.ensures.next i) (c.in_ok-copy.ensures.cases i) (c.in_ok-hints.ensures i)))
+    (c.parity_step.ensures.step ∙ (λ i. step.Parity (c.in_ok-next.ensures.next i) lits (c.in_ok-hints.ensures i)))

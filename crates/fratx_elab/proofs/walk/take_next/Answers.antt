@@ -31,7 +31,7 @@ returns-clause-turns g c = λ first kept.
     let told = subst (λ t. WritesDown t (g.E.ElabEnds.steps new) (g.E.ElabEnds.torn new) c.in-Ok.written c.write-wrote.result) c.in-Ok-Some.ensures.steps_stay c.write-wrote.ensures.told in
     rw c.what_follows.ensures
     (write_turns _ _ _ c.args.formula.now first old new c.args.state.now _ kept c.in-Ok-Some.step (λ steps ending k. h steps ending ((c.write-wrote.ensures.rest steps ending).0 k)) (g.met.E.ElabEnds.leaves_some new)
-    c.take_step.new.state c.in-Ok.written c.in-Ok.ensures.taken c.write-wrote.result told c.ends_log.result c.ends_log.ensures)
+    c.take_step.new.state c.in-Ok.written c.in-Ok.ensures.taken c.write-wrote.result told c.ends_log-is_last.result c.ends_log-is_last.ensures)
 
 pub returns-in-Err-clause-writes : goal.returns-in-Err-clause-writes
 returns-in-Err-clause-writes g c = rw c.refused_text.ensures (text_stands _ _ c.in-Err.why _ c.in-Err.ensures.writes_stay)
@@ -43,7 +43,7 @@ pub returns-clause-writes : goal.returns-clause-writes
 returns-clause-writes g c =
     let new = g.E.ElabEnds.write_faults c.write-wrote.new.ends in
     let faults = subst (λ n. SinkFaultsAs c.write-wrote.result n new) c.in-Ok-Some.ensures.writes_stay c.write-wrote.ensures.faults in
-    rw c.what_follows.ensures (write_stands _ _ c.write-wrote.result c.ends_log.result _ faults)
+    rw c.what_follows.ensures (write_stands _ _ c.write-wrote.result c.ends_log-is_last.result _ faults)
 
 pub returns-in-Err-clause-reads : goal.returns-in-Err-clause-reads
 returns-in-Err-clause-reads g c = rw c.refused_text.ensures (text_reads _ _ c.in-Err.why _ c.in-Err.ensures.faults)
@@ -52,4 +52,4 @@ pub returns-in-Err-take_step-clause-reads : goal.returns-in-Err-take_step-clause
 returns-in-Err-take_step-clause-reads g c = rw c.refused_step.ensures (step_reads _ _ c.in-Err-take_step.why _ c.in-Ok-Some.ensures.faults)
 
 pub returns-clause-reads : goal.returns-clause-reads
-returns-clause-reads g c = rw c.what_follows.ensures (write_reads _ _ c.write-wrote.result c.ends_log.result _ (c.write-wrote.ensures.reads ∙ c.in-Ok-Some.ensures.faults))
+returns-clause-reads g c = rw c.what_follows.ensures (write_reads _ _ c.write-wrote.result c.ends_log-is_last.result _ (c.write-wrote.ensures.reads ∙ c.in-Ok-Some.ensures.faults))

@@ -1,11 +1,11 @@
-use Rattle.std.proofs.Common.{◌≡◌, refl, sym, ap, ◌∙◌, subst, ℕ, ℤ, nat_abs, Bool, true, false, not, ◌||◌, List, [], ◌∷◌, true≢false}
+use Rattle.std.proofs.Common.{◌≡◌, refl, sym, ap, ◌∙◌, ℤ, nat_abs, Bool, true, false, not, ◌||◌, List, [], ◌∷◌, true≢false}
 use Rattle.std.specs.List.{list_any}
-use Rattle.cx_semantics.specs.Chain.{chain, negations, IsChain}
+use Rattle.cx_semantics.specs.Chain.{chain, negations}
 use Rattle.cx_base.specs.Integers.{sizes}
 use Rattle.cx_semantics.specs.LogRules.{AreLive}
 use Rattle.cx_semantics.specs.Tables.{Table, is_live, named}
 use Rattle.cx_semantics.proofs.Soundness.{chain_is_right}
-use Rattle.fratx_elab.proofs.take.chain_by.Goals as goal
+use Rattle.fratx_elab.proofs.take.are_chain.Goals as goal
 
 live_sizes : (table : Table) (zs : List ℤ) → list_any (λ z. not (is_live table (nat_abs z))) zs ≡ false → AreLive table (sizes zs)
 live_sizes table [] h = tt
@@ -15,13 +15,8 @@ live_sizes table (z ∷ zs) h = go (is_live table (nat_abs z)) refl (live_sizes 
     go true e rest = (e, rest (sym (ap (λ b. not b || list_any (λ z. not (is_live table (nat_abs z))) zs) e) ∙ h))
     go false e rest = absurd (true≢false (sym (ap (λ b. not b || list_any (λ z. not (is_live table (nat_abs z))) zs) e) ∙ h))
 
-pub returns-in_ok-ids_of-in-Ok-clause-chain : goal.returns-in_ok-ids_of-in-Ok-clause-chain
-returns-in_ok-ids_of-in-Ok-clause-chain c =
+pub returns-in-Ok-clause-chain : goal.returns-in-Ok-clause-chain
+returns-in-Ok-clause-chain c = λ _.
     let table = c.args.live.now.clauses in
-    let target = c.args.target.now in
-    let ns = sizes c.args.hints.now in
     let h = c.in-Ok.ensures.judged in
-    let ids : c.from_vec.result ≡ ns = c.from_vec.ensures ∙ c.in_ok-ids_of-in-Ok.ensures in
-    let found : AreLive table ns × IsChain target (named table ns) = (live_sizes table c.args.hints.now h.1.0, chain_is_right (chain (negations target) (named table ns)) h.1.1.0 h.1.1.1.0) in
-    let P : List ℕ → Type 0 = λ ks. AreLive table ks × IsChain target (named table ks) in
-    subst P (sym ids) found
+    (live_sizes table c.args.hints.now h.1.0, chain_is_right (chain (negations c.args.target.now) (named table (sizes c.args.hints.now))) h.1.1.0 h.1.1.1.0)
