@@ -13,4 +13,4 @@ mod scan;
 pub use lanes::{add_into, first_outside, outside_near, parity_and};
 pub use plain::ones;
 pub use position::{bit, flip, put};
-pub use scan::next_one;
+pub use scan::{next_one, next_outside};

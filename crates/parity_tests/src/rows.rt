@@ -1,5 +1,5 @@
 //! The kernels beside their plain loops, and worked rows.
-use gf2_rows::{add_into, first_outside, next_one, ones, parity_and, plain};
+use gf2_rows::{add_into, first_outside, next_one, next_outside, ones, parity_and, plain};
 use std::alloc::{AllocError, Global};
 use std::test::Fail;
 
@@ -70,6 +70,9 @@ fn worked_rows(rt: HostRuntime) {
     assert_eq!(rt; next_one(&row, 3), Some(3));
     assert_eq!(rt; next_one(&row, 4), Some(575));
     assert_eq!(rt; next_one(&row, 576), None);
+    assert_eq!(rt; next_outside(&row, &[0; 9], 3), Some(3));
+    assert_eq!(rt; next_outside(&row, &mask, 3), Some(575));
+    assert_eq!(rt; next_outside(&row, &mask, 576), None);
     let full = [u64::MAX; 9];
     assert!(rt; !parity_and(&full, &full));
     let mut less = full;
