@@ -45,6 +45,19 @@ fn first_but(
     Ok(matrix.first_outside(row, &nothing, skip))
 }
 
+/// A column that no other row has, sought from this one on.
+fn own_near(
+    alloc: Global,
+    matrix: &Matrix,
+    row: usize,
+    near: Option<usize>,
+) -> Result<Option<usize>, AllocError>
+    requires { row < length matrix.now.rows }
+{
+    let nothing = clear_words(alloc, matrix.columns())?;
+    Ok(matrix.own_outside_near(row, &nothing, near))
+}
+
 /// The row's rarest column, and for each row from the first one on the next row that has it.
 fn rarest_line(alloc: Global, matrix: &Matrix, row: usize) -> Result<String, AllocError>
     requires { row < length matrix.now.rows }
@@ -59,19 +72,22 @@ fn rarest_line(alloc: Global, matrix: &Matrix, row: usize) -> Result<String, All
     format!(in alloc; "{:?} {:?}", rarest, next.as_slice())
 }
 
-/// The row's rarest column and the rows with it, the columns of its part, and its first two columns.
+/// The row's rarest column and the rows with it, the columns of its part, its first two columns, and from the second one
+/// on a column that it alone has.
 fn place_line(alloc: Global, matrix: &Matrix, row: usize) -> Result<String, AllocError>
     requires { row < length matrix.now.rows }
 {
     let first = first_but(alloc, matrix, row, None)?;
     let second = first_but(alloc, matrix, row, first)?;
     let rarest = rarest_line(alloc, matrix, row)?;
+    let own = own_near(alloc, matrix, row, second)?;
     let (low, count) = matrix.span(row);
     format!(in alloc;
-        "{} {low} {count} {:?} {:?}\n",
+        "{} {low} {count} {:?} {:?} {:?}\n",
         rarest.as_str(),
         first,
-        second
+        second,
+        own
     )
 }
 
@@ -140,7 +156,7 @@ fn parts_that_share_no_variable_stand_apart(rt: HostRuntime) -> Result<(), Fail>
         "[1, 3, 2, 4] [0, 2, 1, 3, 4]"
     );
     let wanted =
-        "Some(0) [Some(0), None] 0 2 Some(0) Some(1)\nSome(2) [Some(1), Some(1)] 2 2 Some(2) Some(3)\n";
+        "Some(0) [Some(0), None] 0 2 Some(0) Some(1) Some(1)\nSome(2) [Some(1), Some(1)] 2 2 Some(2) Some(3) Some(3)\n";
     assert_eq!(rt; layout(alloc, &matrix)?.as_str(), wanted);
     matrix.reduce();
     assert_eq!(rt;
@@ -156,10 +172,10 @@ fn a_parity_joins_two_parts(rt: HostRuntime) -> Result<(), Fail> {
     let parities = parities_of(alloc, 6, &[&[1, 2], &[3, 4], &[2, 3], &[5, 6]])?;
     let mut matrix = Matrix::make(alloc, 6, &parities)?;
     let wanted = "\
-Some(0) [Some(0), None, None, None] 0 4 Some(0) Some(1)
-Some(3) [Some(1), Some(1), None, None] 0 4 Some(2) Some(3)
-Some(1) [Some(0), Some(2), Some(2), None] 0 4 Some(1) Some(2)
-Some(4) [Some(3), Some(3), Some(3), Some(3)] 4 2 Some(4) Some(5)
+Some(0) [Some(0), None, None, None] 0 4 Some(0) Some(1) Some(0)
+Some(3) [Some(1), Some(1), None, None] 0 4 Some(2) Some(3) Some(3)
+Some(1) [Some(0), Some(2), Some(2), None] 0 4 Some(1) Some(2) None
+Some(4) [Some(3), Some(3), Some(3), Some(3)] 4 2 Some(4) Some(5) Some(5)
 ";
     assert_eq!(rt; layout(alloc, &matrix)?.as_str(), wanted);
     matrix.reduce();
@@ -179,8 +195,8 @@ fn a_parity_whose_variables_cancel_has_no_column(rt: HostRuntime) -> Result<(), 
         rows(alloc, &matrix)?.as_str(),
         "[] true [1]\n[2, 3] true [2]\n[] true [3]\n"
     );
-    let empty = "None [] 0 2 None None\n";
-    let row = "Some(0) [Some(1), Some(1), None] 0 2 Some(0) Some(1)\n";
+    let empty = "None [] 0 2 None None None\n";
+    let row = "Some(0) [Some(1), Some(1), None] 0 2 Some(0) Some(1) Some(1)\n";
     let wanted = format!(in alloc; "{empty}{row}{empty}")?;
     assert_eq!(rt; layout(alloc, &matrix)?.as_str(), wanted.as_str());
     Ok(())
@@ -212,9 +228,9 @@ fn a_part_lies_across_two_words(rt: HostRuntime) -> Result<(), Fail> {
     let parities = parities_of(alloc, 67, &[&long, &[64, 65, 66], &[65, 66, 67]])?;
     let mut matrix = Matrix::make(alloc, 67, &parities)?;
     let wanted = "\
-Some(0) [Some(0), None, None] 0 63 Some(0) Some(1)
-Some(63) [Some(1), Some(1), None] 63 4 Some(63) Some(64)
-Some(66) [Some(2), Some(2), Some(2)] 63 4 Some(64) Some(65)
+Some(0) [Some(0), None, None] 0 63 Some(0) Some(1) Some(1)
+Some(63) [Some(1), Some(1), None] 63 4 Some(63) Some(64) Some(63)
+Some(66) [Some(2), Some(2), Some(2)] 63 4 Some(64) Some(65) Some(66)
 ";
     assert_eq!(rt; layout(alloc, &matrix)?.as_str(), wanted);
     matrix.reduce();
