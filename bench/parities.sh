@@ -2,7 +2,8 @@
 # Measures the engines of parities and the search over parities alone, as ratios in one run:
 # - assignments and backjumps a second of `Incremental` beside `Scratch`, over 200 parities of 300 variables;
 # - `cxsat solve` beside `cryptominisat5`, which runs as it comes and with its bounds on matrices lifted: inconsistent parities,
-#   planted instances, ladders as x-lines, and 20,000 parities that share no variable or stand in one chain.
+#   planted instances, ladders as x-lines, 20,000 parities that share no variable or stand in one chain, and two wide ones that
+#   share every third variable.
 # usage: bench/parities.sh [LIMIT [ACTS]]
 # LIMIT: seconds after which a run of a solver is cut off (60). ACTS: acts of `Incremental` (1,000,000); `Scratch` does a
 # hundredth of them. The program that drives the engines is proved, built and run in a folder of its own.
@@ -83,6 +84,7 @@ formula() {
         even | odd) "$here/planted.py" "$1" "$2" "$2" ;;
         chain) awk -v n="$2" 'BEGIN { print "p cnf", 2 * n + 1, n; for (i = 0; i < n; i++) print "x" 2 * i + 1, 2 * i + 2, 2 * i + 3, 0 }' ;;
         apart) awk -v n="$2" 'BEGIN { print "p cnf", 3 * n, n; for (i = 0; i < n; i++) print "x" 3 * i + 1, 3 * i + 2, 3 * i + 3, 0 }' ;;
+        shared) awk -v n="$2" 'BEGIN { print "p cnf", n, 2; for (lacks = 0; lacks < 2; lacks++) { printf "x"; for (v = 1; v <= n; v++) if (v % 3 != lacks) printf "%d ", v; print 0 } }' ;;
         *) awk -v kind="$1" -v size="$2" -v seed="$2" -v form=x -f "$here/make_instance.awk" ;;
     esac
 }
@@ -126,3 +128,4 @@ for size in 8 50 100 200 400; do measure 'ladder as x-lines, rungs:' ladder "$si
 measure 'ladder as x-lines, rungs:' ladder 10000 1
 measure 'parities that share no variable:' apart 20000 1
 measure 'parities in one chain:' chain 20000 1
+for size in 30000 60000 120000; do measure 'two parities that share every third variable:' shared "$size" 1; done
