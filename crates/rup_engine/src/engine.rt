@@ -30,8 +30,12 @@ pub struct Engine {
     pub gone: u64,
     /// The clause that is about to be stored.
     pub row: Vec<Lit>,
-    /// How many clauses of one literal came that level 1 gave already by others, since it was last taken back for that.
-    pub given: u32,
+    /// A clause whose literals are all false at level 1, if one is known. Level 1 may lack what the short clauses give then.
+    pub broken: Option<ClauseRef>,
+    /// For each variable a clause that came with just one literal of it. It may have gone since.
+    pub units: Vec<Option<ClauseRef>>,
+    /// How many hints the chains had that ended with a clause that level 1 makes false, since it was last taken back.
+    pub hints: u64,
 }
 
 impl Engine {
@@ -44,6 +48,8 @@ impl Engine {
     {
         let trail = Trail::make(alloc, limit + 2)?;
         let watches = Watches::make(alloc, limit + 2)?;
+        let mut units = Vec::new(alloc);
+        units.resize(limit as usize + 1, None)?;
         Ok(Engine {
             limit,
             arena: Arena::make(alloc),
@@ -53,7 +59,9 @@ impl Engine {
             short: Vec::new(alloc),
             gone: 0,
             row: Vec::new(alloc),
-            given: 0,
+            broken: None,
+            units,
+            hints: 0,
         })
     }
 

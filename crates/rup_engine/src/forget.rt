@@ -1,5 +1,5 @@
 //! One clause less.
-ghost use Rattle.std.specs.Prelude.{◌≡◌, ◌≢◌, ◌<◌, ◌≤◌, ◌⊎◌, ℕ, [], length, None, false};
+ghost use Rattle.std.specs.Prelude.{◌≡◌, ◌≢◌, ◌<◌, ◌≤◌, ◌⊎◌, ℕ, [], length, None, Some, false};
 ghost use Rattle.std.specs.List.{Contains};
 ghost use Rattle.std.specs.FinMap as map;
 ghost use Rattle.cx_base.specs.Literals.{Literal};
@@ -47,12 +47,23 @@ fn is_reason(trail: &Trail, lits: &[Lit], reference: ClauseRef) -> bool
     false
 }
 
-/// Takes level 1 back where it rests on a clause.
+/// Whether the broken clause is this one.
+fn is_broken(broken: Option<ClauseRef>, reference: ClauseRef) -> bool
+    ensures { result ≡ false → broken ≢ Some reference }
+{
+    match broken {
+        Some(found) => found == reference,
+        None => false,
+    }
+}
+
+/// Takes level 1 back where it rests on a clause, or makes just this one false.
 fn release(
     limit: u32,
     arena: &Arena,
     watches: &mut Watches,
     trail: &mut Trail,
+    broken: &mut Option<ClauseRef>,
     reference: ClauseRef,
 )
     requires rests { Rests limit [] arena.now watches.old trail.old }
@@ -60,10 +71,11 @@ fn release(
     ensures rests { Rests limit [] arena.now watches.new trail.new }
     ensures attached { watches.new.attached ≡ watches.old.attached }
     ensures unused { (i : ℕ) → i < length trail.new.entries → (entry_at trail.new.entries i).reason ≢ Clause reference }
-    ensures kept { (trail.new.level ≡ 0) ⊎ (trail.new ≡ trail.old) }
+    ensures kept { ((trail.new.level ≡ 0) × (broken.new ≡ None)) ⊎ ((trail.new ≡ trail.old) × (broken.new ≡ broken.old) × (broken.old ≢ Some reference)) }
 {
-    if is_reason(trail, arena.lits(reference), reference) {
+    if is_broken(*broken, reference) || is_reason(trail, arena.lits(reference), reference) {
         back(watches, trail, 0);
+        *broken = None;
     }
 }
 
@@ -85,6 +97,7 @@ impl Engine {
             &self.arena,
             &mut self.watches,
             &mut self.trail,
+            &mut self.broken,
             reference,
         );
         self.arena.remove(reference);

@@ -1,43 +1,41 @@
-//! Level 1 opened anew, so that what it gives has short chains.
+//! Level 1 taken back.
 ghost use Rattle.std.specs.Prelude.{◌≡◌};
 ghost use Rattle.cx_semantics.specs.Tables.{Table};
-ghost use Rattle.rup_engine.specs.Standing.{IsWithin};
+ghost use Rattle.cx_trail.specs.Sequence.{TakesBack};
 ghost use Rattle.rup_engine.specs.Finding.{IsAtRest, Holds};
 
 use crate::engine::Engine;
 use crate::search::back;
-use cx_base::Lit;
-use cx_trail::{Trail, Truth};
-
-/// Whether the trail has the first literal.
-fn is_given(trail: &Trail, lits: &[Lit]) -> bool
-    requires { IsWithin trail.now.variables lits.now }
-{
-    match lits.first() {
-        Some(lit) => trail.truth(*lit) == Truth::True,
-        None => false,
-    }
-}
 
 impl Engine {
-    /// Takes level 1 back where a clause of one literal comes that it gives by others, and many such came before: more than the root of
-    /// its length. It is opened again with all of them, so the chains over it stay shorter than that, and each pays for a part of its opening.
-    pub(crate) fn renew(&mut self, lits: &[Lit])
+    /// Takes level 1 back.
+    pub(crate) fn close(&mut self)
         requires rest { IsAtRest self.old }
-        requires within { IsWithin self.old.limit lits.now }
         ensures rest { IsAtRest self.new }
         ensures limit { self.new.limit ≡ self.old.limit }
         ensures refs { self.new.refs ≡ self.old.refs }
+        ensures back { TakesBack 0 self.old.trail self.new.trail }
         ensures holds { (table : Table) → Holds table self.old → Holds table self.new }
     {
-        if !is_given(&self.trail, lits) {
-            return;
-        }
-        self.given = self.given.saturating_add(1);
-        let given = self.given as u64;
-        if given * given > self.trail.len() as u64 {
-            back(&mut self.watches, &mut self.trail, 0);
-            self.given = 0;
+        back(&mut self.watches, &mut self.trail, 0);
+        self.broken = None;
+        self.hints = 0;
+    }
+
+    /// Takes level 1 back where the chains to clauses that it makes false have more hints together than an eighth of its literals and the
+    /// short clauses.
+    ///
+    /// It is opened again with the units that came meanwhile, which may make further chains shorter; the hints that were written pay for that.
+    pub(crate) fn renew(&mut self, hints: usize)
+        requires rest { IsAtRest self.old }
+        ensures rest { IsAtRest self.new }
+        ensures limit { self.new.limit ≡ self.old.limit }
+        ensures holds { (table : Table) → Holds table self.old → Holds table self.new }
+    {
+        self.hints = self.hints.saturating_add(hints as u64);
+        let opening = (self.trail.len() as u64).saturating_add(self.short.len() as u64);
+        if self.hints > opening / 8 {
+            self.close();
         }
     }
 }

@@ -5,8 +5,9 @@ use Rattle.cx_trail.specs.Sequence.{TrailState}
 use Rattle.clause_arena.specs.Clauses.{IsLive, id_at}
 use Rattle.watch_lists.specs.Watching.{IsAttached}
 use Rattle.rup_engine.specs.Standing.{AreMet}
+use Rattle.rup_engine.specs.Searching.{IsBrokenIf}
 use Rattle.rup_engine.proofs.MapLooks.{get_gone}
-use Rattle.rup_engine.proofs.ForgetLaws.{rests_less, short_less, met_less, dead, stays_live, fewer, ids_less, named_less, of_table_less, held_less, holds_without}
+use Rattle.rup_engine.proofs.ForgetLaws.{rests_less, short_less, met_less, broken_less, dead, stays_live, fewer, ids_less, named_less, of_table_less, held_less, holds_without}
 use Rattle.rup_engine.proofs.engine.Engine.forget.Goals as goal
 
 pub detach-requires-clause-gone : goal.detach-requires-clause-gone
@@ -36,12 +37,16 @@ returns-clause-rest c =
     let t = c.release.new.trail in
     record {
       rests = rests_less a b r gone live e.limit c.release.new.watches c.detach.new.self t c.release.ensures.unused c.detach.ensures c.release.ensures.rests;
-      low = elim c.release.ensures.kept [ inl z ↦ omega (arith, z) | inr same ↦ subst (λ (u : TrailState). u.level ≤ 1) (sym same) c.requires.rest.low ];
+      low = elim c.release.ensures.kept [ inl z ↦ omega (arith, z.0) | inr same ↦ subst (λ (u : TrailState). u.level ≤ 1) (sym same.0) c.requires.rest.low ];
       short = short_less a b r gone live e.short.items c.requires.rest.short;
       known = λ q s. let k = c.requires.rest.known q s in omega (arith, k, fewer a b r gone live);
-      met = λ some. elim c.release.ensures.kept [
-        | inl z ↦ absurd (omega (arith, some, z))
-        | inr same ↦ met_less a b r gone live e.short.items t.entries (subst (λ (u : TrailState). AreMet a e.short.items u.entries) (sym same) (c.requires.rest.met (subst (λ (u : TrailState). 1 ≤ u.level) same some)))
+      broken = elim c.release.ensures.kept [
+        | inl z ↦ subst (IsBrokenIf b t.entries) (sym z.1) tt
+        | inr same ↦ subst (IsBrokenIf b t.entries) (sym same.1) (broken_less a b r gone live t.entries e.broken same.2 (subst (λ (u : TrailState). IsBrokenIf a u.entries e.broken) (sym same.0) c.requires.rest.broken))
+      ];
+      met = λ none some. elim c.release.ensures.kept [
+        | inl z ↦ absurd (omega (arith, some, z.0))
+        | inr same ↦ met_less a b r gone live e.short.items t.entries (subst (λ (u : TrailState). AreMet a e.short.items u.entries) (sym same.0) (c.requires.rest.met (sym same.1 ∙ none) (subst (λ (u : TrailState). 1 ≤ u.level) same.0 some)))
       ];
       ids = subst (λ (m : map.FinMap nat_cmp ℕ). (q : ℕ) → IsLive b q → map.get m (id_at b q) ≡ Some q) (sym c.remove-2.ensures) (ids_less a b r gone live e.refs c.args.id c.requires.rest.ids c.requires.rest.named c.in-Some.ensures);
       named = subst (λ (m : map.FinMap nat_cmp ℕ). (n q : ℕ) → map.get m n ≡ Some q → IsLive b q × (id_at b q ≡ n)) (sym c.remove-2.ensures) (named_less a b r gone live e.refs c.args.id c.requires.rest.ids c.requires.rest.named c.in-Some.ensures);

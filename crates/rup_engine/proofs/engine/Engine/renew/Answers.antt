@@ -1,7 +1,8 @@
-use Rattle.rup_engine.proofs.EnterLaws.{at_rest_back}
+use Rattle.std.proofs.Common.{refl}
+use Rattle.rup_engine.proofs.EngineLaws.{holds_still}
 use Rattle.rup_engine.proofs.engine.Engine.renew.Goals as goal
 
-pub returns-then-given-len-clause-rest : goal.returns-then-given-len-clause-rest
-returns-then-given-len-clause-rest c =
-    let rest = at_rest_back c.args.self.now c.back.new.watches c.back.new.trail c.requires.rest c.back.ensures.back c.back.ensures.watches in
-    record { rests = rest.rests; low = rest.low; short = rest.short; known = rest.known; met = rest.met; ids = rest.ids; named = rest.named }
+pub returns-then-self-opening-clause-holds : goal.returns-then-self-opening-clause-holds
+returns-then-self-opening-clause-holds c table holds =
+    let e = c.args.self.now in
+    c.close.ensures.holds table (holds_still table e (record e { hints = c.saturating_add-self.result }) refl refl refl holds)
