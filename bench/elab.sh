@@ -45,8 +45,7 @@ measure 'implication chain' chain "$chain" 1
 measure 'implication chain' chain $((2 * chain)) 1
 measure pigeonholes holes "$holes" 1
 measure pigeonholes holes $((holes + 1)) 1
-# what the formula gives by itself is propagated anew for each step, so these are short
-measure 'implication chain' chain $((chain / 100)) 0
-measure 'implication chain' chain $((chain / 50)) 0
+measure 'implication chain' chain "$chain" 0
+measure 'implication chain' chain $((2 * chain)) 0
 measure pigeonholes holes "$searched" 0
 measure pigeonholes holes $((searched + 1)) 0
