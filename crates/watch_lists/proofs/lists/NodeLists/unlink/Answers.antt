@@ -1,10 +1,11 @@
 use Rattle.std.proofs.Common.{ℕ, ◌≡◌, ◌<◌, ◌-◌, List, length, get_or, set, map, ap, ◌∙◌, subst, sym, refl, arith}
 use Rattle.std.proofs.lemmas.List.{length-set}
+use Rattle.cx_base.specs.Literals.{code_of}
 use Rattle.watch_lists.specs.declared.lists.Node.{Node}
 use Rattle.watch_lists.specs.Lists.{ListsState, IsUnlinked}
 use Rattle.watch_lists.specs.Links.{links_of, nodes_of}
 use Rattle.watch_lists.proofs.SideLaws.{links_count, link_read, linked_links, linked_held}
-use Rattle.watch_lists.proofs.CursorLaws.{CanPass, can_pass, current_below, previous_below, unlinked_front_at, unlinked_behind_at, unlinked_flagged, unlinked_free, unlinked_cursor, head_counts}
+use Rattle.watch_lists.proofs.CursorLaws.{current_in, CanPass, can_pass, current_below, previous_below, unlinked_front_at, unlinked_behind_at, unlinked_flagged, unlinked_free, unlinked_cursor, head_counts}
 use Rattle.watch_lists.proofs.lists.NodeLists.unlink.Goals.{After-index-head, After-index}
 use Rattle.watch_lists.proofs.lists.NodeLists.unlink.Goals as goal
 
@@ -87,3 +88,13 @@ returns-clause-cursor c =
 pub returns-clause-held : goal.returns-clause-held
 returns-clause-held c =
     linked_held c.self.inside.nodes.items c.args.cursor.previous c.index.result.now.next c.index_mut-2.result.now c.index_mut-2.ensures.value ∙ ap (λ (s : ListsState). s.held) c.self.view_is
+
+pub returns-then-cursor-eq0-clause-flagged : goal.returns-then-cursor-eq0-clause-flagged
+returns-then-cursor-eq0-clause-flagged c =
+    let m = may (goal.at.returns-then-cursor-eq0-clause-flagged c).After-index-head in
+    c.self.invariant.told (code_of c.args.cursor.literal) c.args.cursor.current (current_in _ c.args.cursor m.cursor m.some)
+
+pub returns-clause-flagged : goal.returns-clause-flagged
+returns-clause-flagged c =
+    let m = may (goal.at.returns-clause-flagged c).After-index-head in
+    c.self.invariant.told (code_of c.args.cursor.literal) c.args.cursor.current (current_in _ c.args.cursor m.cursor m.some)
