@@ -1,9 +1,11 @@
 //! Propagation up to the end of the trail or a conflict.
 ghost use Rattle.std.specs.Prelude.{◌≡◌, ◌≢◌, ◌<◌, ◌≤◌, ◌+◌, ◌*◌, ℕ, [], List, length, vec_capacity};
-ghost use Rattle.watch_lists.specs.Watching.{AreGuarded, IsBehind, Propagates};
+ghost use Rattle.clause_arena.specs.Clauses.{IsLive};
+ghost use Rattle.watch_lists.specs.Watching.{AreGuarded, IsAttached, IsBehind, Propagates};
 ghost use Rattle.watch_lists.specs.Walking.{IsRest};
 ghost use Rattle.watch_lists.specs.Events.{Happens};
 
+use crate::ahead::Ahead;
 use crate::lists::NodeLists;
 use crate::nodes::Nodes;
 use crate::walk::walk_list;
@@ -18,6 +20,26 @@ pub enum Event {
     Quiet,
     /// Each literal of this attached clause is false.
     Conflict(ClauseRef),
+}
+
+// Reads what the walk for the literal at a place of the trail will begin with, if there is one.
+#[inline(always)]
+fn read_next(
+    ahead: &mut Ahead,
+    attached: &[bool],
+    lists: &NodeLists,
+    arena: &Arena,
+    trail: &Trail,
+    place: usize,
+)
+    requires live { (r : ℕ) → IsAttached attached.now r → IsLive arena.now r }
+    requires pairs { length lists.now.held ≡ 2 * length attached.now }
+    requires size { length lists.now.lists ≡ 2 * trail.now.variables + 2 }
+{
+    if place < trail.len() {
+        let falsified = trail.entry(place).literal.negate();
+        ahead.read(attached, lists, arena, lists.front(falsified).current);
+    }
 }
 
 // Looks at each literal of the trail that was not looked at.
@@ -45,6 +67,14 @@ pub(crate) fn propagate(
     'ahead: while looked[top] < trail.len() {
         let head = looked[top];
         let entry = trail.entry(head);
+        read_next(
+            &mut nodes.ahead,
+            &nodes.attached,
+            lists,
+            arena,
+            trail,
+            head + 1,
+        );
         match walk_list(nodes, lists, arena, trail, entry.literal.negate()) {
             Some(reference) => return Event::Conflict(reference),
             None => {

@@ -1,6 +1,7 @@
 //! Two watched literals for each clause.
 #![tactic(auto)]
 
+mod ahead;
 mod attach;
 mod detach;
 mod event;

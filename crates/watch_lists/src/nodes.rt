@@ -4,6 +4,7 @@ ghost use Rattle.cx_trail.specs.Sequence.{IsTrail, IsTrueIn};
 ghost use Rattle.watch_lists.specs.Watching.{AreNodes, IsAttached, Propagates, clause_of, held_at, partner};
 ghost use Rattle.watch_lists.specs.Visits.{Visited};
 
+use crate::ahead::Ahead;
 use crate::lists::NodeLists;
 use crate::look::{Finding, look};
 use crate::starts::Starts;
@@ -11,11 +12,12 @@ use clause_arena::Arena;
 use cx_base::{ClauseRef, Lit};
 use cx_trail::{Reason, Trail};
 
-/// For each clause whether it is attached, and where the search for a third literal begins.
+/// For each clause whether it is attached, and where the search for a third literal begins; and what was read ahead.
 #[derive(Drop)]
 pub(crate) struct Nodes {
     pub attached: Vec<bool>,
     pub starts: Starts,
+    pub ahead: Ahead,
 }
 
 /// What a visit of a node found.
