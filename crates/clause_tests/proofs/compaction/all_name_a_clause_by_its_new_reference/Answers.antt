@@ -1,17 +1,10 @@
-use Rattle.std.proofs.Common.{ℕ, ◌≡◌, ◌≤◌, ◌+◌, Bool, true, false, sym, subst, arith}
-use Rattle.std.specs.Prelude.{MatchBool}
-use Rattle.cx_base.specs.Literals.{Literal}
-use Rattle.cx_trail.specs.Sequence.{TrailState, pushed}
-use Rattle.cx_trail.specs.declared.entry.Reason.{Reason}
-use Rattle.cx_trail.specs.declared.entry.Reason.TheVariants.{Decision}
-use Rattle.clause_arena.specs.Clauses.{ArenaState}
-use Rattle.watch_lists.specs.Watching.{WatchState, Fits}
+use Rattle.clause_tests.proofs.Deciding.{fits_decided, fits_implied}
 use Rattle.clause_tests.proofs.compaction.all_name_a_clause_by_its_new_reference.Goals as goal
 
-fits_decided : (w : WatchState) (a : ArenaState) (t u : TrailState) (l : Literal) (decided : Bool) → ((w : WatchState) (a : ArenaState) (t : TrailState) (level : ℕ) (l : Literal) (reason : Reason) → t.level ≤ level → Fits w a t → Fits w a (pushed t level l reason))
-    → MatchBool decided (u ≡ pushed t (t.level + 1) l Decision) (u ≡ t) → Fits w a t → Fits w a u
-fits_decided w a t u l true longer is fits = subst (λ (x : TrailState). Fits w a x) (sym is) (longer w a t (t.level + 1) l Decision (omega arith) fits)
-fits_decided w a t u l false longer is fits = subst (λ (x : TrailState). Fits w a x) (sym is) fits
+pub next_event-requires : goal.next_event-requires
+next_event-requires g c =
+    fits_decided c.attach_all.new.watches c.add-3.new.self c.imply.new.trail c.decide.new.trail _ c.decide.result c.longer_trail_fits.ensures c.decide.ensures
+    (fits_implied c.attach_all.new.watches c.add-3.new.self c.in_ok-trail.trail c.imply.new.trail _ _ c.imply.result c.longer_trail_fits.ensures c.imply.ensures c.attach_all.ensures)
 
 pub next_event-requires-2 : goal.next_event-requires-2
 next_event-requires-2 g c =
