@@ -3,7 +3,8 @@
 # - assignments and backjumps a second of `Incremental` beside `Scratch`, over 200 parities of 300 variables;
 # - `cxsat solve` beside `cryptominisat5`, which runs as it comes and with its bounds on matrices lifted: inconsistent parities,
 #   planted instances, ladders as x-lines, 20,000 parities that share no variable or stand in one chain, and two wide ones that
-#   share every third variable.
+#   share every third variable;
+# - `cxsat solve` of ladders and inconsistent systems by clauses beside the same by x-lines.
 # usage: bench/parities.sh [LIMIT [ACTS]]
 # LIMIT: seconds after which a run of a solver is cut off (60). ACTS: acts of `Incremental` (1,000,000); `Scratch` does a
 # hundredth of them. The program that drives the engines is proved, built and run in a folder of its own.
@@ -118,6 +119,17 @@ measure() {
     beside 'cryptominisat5, bounds lifted' --maxmatrixrows 100000 --maxmatrixcols 100000 --maxnummatrices 100000
 }
 
+# The same parities as clauses and as x-lines, by the instructions of `solve`: no conflict is counted for either.
+hidden() {
+    local what=$1 kind=$2 size=$3 form told=()
+    for form in clauses x; do
+        awk -v kind="$kind" -v size="$size" -v seed=1 -v form="$form" -f "$here/make_instance.awk" > "$work/formula"
+        told+=("$(millions "$program" solve "$work/formula" --proof "$work/log")")
+        ! grep -q "^c conflict" "$work/log" || { echo "parities.sh: $what $size as $form: a conflict is counted" >&2; exit 1; }
+    done
+    row 'solving parities' "$what $size, by clauses" "${told[0]} million instructions" "by x-lines: ${told[1]} million" "instructions $(ratio "${told[0]}" "${told[1]}")"
+}
+
 engines
 build
 start=$(idle)
@@ -129,3 +141,5 @@ measure 'ladder as x-lines, rungs:' ladder 10000 1
 measure 'parities that share no variable:' apart 20000 1
 measure 'parities in one chain:' chain 20000 1
 for size in 30000 60000 120000; do measure 'two parities that share every third variable:' shared "$size" 1; done
+for size in 100 400 1000; do hidden 'ladder, rungs:' ladder "$size"; done
+for size in 200 800; do hidden 'inconsistent system, variables:' system "$size"; done
