@@ -7,6 +7,7 @@ use Rattle.cx_trail.specs.declared.entry.Reason.TheVariants.{Clause, Decision}
 use Rattle.clause_arena.specs.Clauses.{ArenaState}
 use Rattle.watch_lists.specs.Watching.{WatchState, Fits}
 
+-- watches that fit a trail fit every longer one
 abbrev pub LongerFits : Type 0
 LongerFits = (w : WatchState) (a : ArenaState) (t : TrailState) (level : ℕ) (l : Literal) (reason : Reason) → t.level ≤ level → Fits w a t → Fits w a (pushed t level l reason)
 
