@@ -2,29 +2,35 @@
 # Runs all measurements in one go, on inputs made from seeds, and writes them as one table into bench/RESULTS.md, behind
 # its head: what stands before "## The tables" is written by hand and stays.
 # The peers are Debian's packages: apt-get install minisat cryptominisat cadical valgrind time gcc
-# usage: bench/run.sh [FILE]     (an hour once the program is built; nothing else should run meanwhile)
+# usage: bench/run.sh [FILE [LANES]]     (an hour in one lane once the program is built; nothing else should run meanwhile)
+# With more lanes so many scripts run side by side: each row still compares what one script ran one behind the other.
 set -euo pipefail
 source "$(dirname "$0")/common.sh"
 need minisat cryptominisat5 cadical valgrind gcc /usr/bin/time
 build
-results=${1:-$here/RESULTS.md}
+results=${1:-$here/RESULTS.md} lanes=${2:-1}
+scripts=(solve parities foreign hostile memory propagate elab check families recover slot reader rows)
 
 # The version of a Debian package.
 version() {
     echo "$1 $(dpkg-query -W -f '${Version}' "$1")"
 }
 
+# The longest come first. Each writes its rows into a file of its own.
+load=$(cut -d' ' -f1 /proc/loadavg)
+printf '%s\n' "${scripts[@]}" | xargs -P "$lanes" -I NAME bash -c "'$here/NAME.sh' > '$work/NAME.rows' || { echo 'NAME.sh failed' >&2; exit 1; }"
+
 {
     sed '/^## The tables/,$d' "$results"
     cat <<TEXT
 ## The tables
 
-Made by \`bench/run.sh\` in one run. Times are processor time of whole processes, one run each (the reader: the best of
+Made by \`bench/run.sh\` in one run, $lanes of its scripts at a time. Times are processor time of whole processes, one run each (the reader: the best of
 five). The last column is cxsat's number over that of what stands beside it: below 1 cxsat took less, but in the row of
 propagation, where above 1 it did more. Where a peer was cut off, the ratio is over the limit and so an upper bound.
 
 - date: $(date -u +%F), commit $(git -C "$here" rev-parse --short HEAD)
-- processor: $(lscpu | sed -n 's/^Model name: *//p'), $(nproc) processors; load before the run $(cut -d' ' -f1 /proc/loadavg)
+- processor: $(lscpu | sed -n 's/^Model name: *//p'), $(nproc) processors; load before the run $load
 - built by: $(rt version | head -n 1)
 - beside it: $(version minisat), $(version cadical), $(version cryptominisat), $(gcc --version | head -n 1) with -O2
 
@@ -32,13 +38,10 @@ propagation, where above 1 it did more. Where a peer was cut off, the ratio is o
 | --- | --- | --- | --- | --- |
 TEXT
     for script in reader check elab slot foreign solve families parities recover propagate memory rows; do
-        "$here/$script.sh"
+        cat "$work/$script.rows"
     done
-} > "$work/results"
-"$here/hostile.sh" > "$work/hostile"
-{
-    cat "$work/results"
     echo
-    echo "Texts at the limits (\`bench/hostile.sh\`): $(grep -c '^as wanted' "$work/hostile") tried, $(tail -n 1 "$work/hostile")."
-} > "$results"
+    echo "Texts at the limits (\`bench/hostile.sh\`): $(grep -c '^as wanted' "$work/hostile.rows") tried, $(tail -n 1 "$work/hostile.rows")."
+} > "$work/results"
+cp "$work/results" "$results"
 echo "written: $results"
