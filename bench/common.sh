@@ -95,3 +95,8 @@ stand_on() {
 first_run() {
     rt run -- "$@" > "$work/run.log" 2>&1 || { cat "$work/run.log" >&2; exit 1; }
 }
+
+# Ends the script where two solvers give different answers, none of which was cut off: what was solved, the peer's name, the two statuses.
+agree() {
+    [ "$3" = "$4" ] || [ "$3" = 124 ] || [ "$4" = 124 ] || { echo "$(basename "$0"): $1: cxsat ended with $3, $2 with $4" >&2; exit 1; }
+}

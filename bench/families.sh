@@ -45,10 +45,7 @@ measure() {
         found=$((found + 1))
         for peer in "$@"; do
             run_one "$peer"
-            [ "$told" = "$own_told" ] || [ "$told" = 124 ] || [ "$own_told" = 124 ] || {
-                echo "families.sh: $family $size, seed $seed: $own_told, $peer $told" >&2
-                exit 1
-            }
+            agree "$family $size, seed $seed" "$peer" "$own_told" "$told"
         done
     done
     read -r own conflicts memory <<< "$(sum cxsat)"

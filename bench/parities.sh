@@ -97,9 +97,10 @@ millions() {
 
 # A row beside cryptominisat5 with these options. Where one run is too short for a clock, the ratio is that of instructions.
 beside() {
-    local peer=$1 taken memory status counted
+    local peer=$1 taken memory told counted
     shift
-    read -r taken memory status <<< "$(repeated "$times" cryptominisat5 --verb 0 "$@" "$work/formula")"
+    read -r taken memory told <<< "$(repeated "$times" cryptominisat5 --verb 0 "$@" "$work/formula")"
+    agree "$what" "$peer" "$status" "$told"
     if [ "$times" = 1 ]; then
         row 'solving parities' "$what" "$own s, $own_memory MB" "$peer: $taken s, $memory MB" "$(ratio "$own" "$taken")"
     else

@@ -9,7 +9,7 @@ source "$(dirname "$0")/common.sh"
 need minisat cryptominisat5 cadical valgrind gcc /usr/bin/time
 build
 results=${1:-$here/RESULTS.md} lanes=${2:-1}
-scripts=(solve parities foreign hostile memory propagate elab check families recover slot reader rows)
+scripts=(families solve parities foreign hostile memory propagate elab check recover slot reader rows)
 
 # The version of a Debian package.
 version() {

@@ -16,6 +16,7 @@ took() {
 
 # A row that sets cxsat's run beside a peer's: the peer's name, its seconds, megabytes, status and conflicts.
 beside() {
+    agree "$what" "$1" "$status" "$4"
     row 'solving' "$what" "$(took "$own" "$own_memory" "$status" "$own_conflicts")" "$1: $(took "$2" "$3" "$4" "$5")" "$(ratio "$own" "$2")"
 }
 
