@@ -1,2 +1,3 @@
 pub mod Propagation
 pub mod ReadyLaws
+pub mod RecentLaws

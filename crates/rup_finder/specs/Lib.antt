@@ -1,2 +1,3 @@
 pub mod Saturation
 pub mod Ready
+pub mod Recent

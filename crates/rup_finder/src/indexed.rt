@@ -10,6 +10,7 @@ ghost use Rattle.proof_rules.specs.Judges.{JudgesBy};
 ghost use Rattle.rup_engine.specs.Finding.{Answers};
 
 use crate::ready::{ready, with_clause, without_clause};
+use crate::recent::Recent;
 use crate::search::find;
 use cx_base::{IdList, Lit, LitList};
 use proof_rules::{JudgeRefusal, Kind, LiteralSet, Live, judge_chain};
@@ -23,8 +24,10 @@ use std::marker::Model;
 #[derive(Drop)]
 pub struct IndexedClauses {
     live: Live,
-    /// None before the first search, after want of memory, and where it is to be made anew.
+    /// All live clauses. None before the first search, after want of memory, and where it is to be made anew.
     engine: Option<Engine>,
+    /// Some of them, which are asked first.
+    recent: Recent,
     /// What a judge assumes, for its memory alone.
     assumed: LiteralSet,
 }
@@ -32,6 +35,7 @@ pub struct IndexedClauses {
 impl Model for IndexedClauses {
     ghost use Rattle.cx_semantics.specs.Tables.{Tables, tables_code};
     ghost use Rattle.rup_finder.specs.Ready.{IsReady};
+    ghost use Rattle.rup_finder.specs.Recent.{IsRecent};
 
     ghost Value = { Tables };
 
@@ -39,7 +43,7 @@ impl Model for IndexedClauses {
 
     ghost view = { λ a. a.live };
 
-    ghost invariant = { λ a. IsReady a.live.clauses a.engine };
+    ghost invariant = { λ a. IsReady a.live.clauses a.engine × IsRecent a.live.clauses a.recent.engine };
 }
 
 /// The answer of the engine; where it tells nothing, that of the plain search.
@@ -67,6 +71,7 @@ impl IndexedClauses {
         IndexedClauses {
             live: Live::make(alloc),
             engine: None,
+            recent: Recent::make(alloc),
             assumed: LiteralSet::new(alloc),
         }
     }
@@ -93,13 +98,15 @@ impl IndexedClauses {
     {
         match kind {
             Kind::Clauses => {
-                // Without an engine there is none to move.
-                if self.engine.is_none() {
+                // Without engines there is none to move.
+                if self.engine.is_none() && self.recent.engine.is_none() {
                     return self.live.add(Kind::Clauses, id, lits);
                 }
                 let engine = with_clause(self.engine.take(), id, lits.as_slice())?;
+                let recent = with_clause(self.recent.take(), id, lits.as_slice())?;
                 self.live.add(Kind::Clauses, id, lits)?;
                 self.engine = engine;
+                self.recent.engine = recent;
                 Ok(())
             }
             Kind::Parities => self.live.add(Kind::Parities, id, lits),
@@ -112,13 +119,15 @@ impl IndexedClauses {
     {
         match kind {
             Kind::Clauses => {
-                if self.engine.is_none() {
+                if self.engine.is_none() && self.recent.engine.is_none() {
                     self.live.remove(Kind::Clauses, id);
                     return;
                 }
                 let engine = without_clause(self.engine.take(), id);
+                let recent = without_clause(self.recent.take(), id);
                 self.live.remove(Kind::Clauses, id);
                 self.engine = engine;
+                self.recent.engine = recent;
             }
             Kind::Parities => self.live.remove(Kind::Parities, id),
         }
@@ -134,17 +143,35 @@ impl IndexedClauses {
 
     /// A list of live hints that is a right chain for the clause; none where no list of live hints is one.
     ///
-    /// A call costs what the negations of the target's literals propagate, and what the clauses by themselves do where
-    /// that is not known from the call before. The first call costs all live clauses, and so does one after as many
-    /// have gone as are live.
+    /// A call costs what the negations of the target's literals propagate over the clauses that chains used lately and
+    /// those that came since, and where these give no chain, over all; and what the clauses by themselves do where that
+    /// is not known from the call before. The first call costs all live clauses, and so does one after as many have
+    /// gone as are live. What a call costs that gathers the clauses of chains anew, the clauses that came meanwhile pay.
     pub fn find(&mut self, alloc: Global, target: &[Lit]) -> Result<Option<IdList>, AllocError>
+        ensures same { self.new ≡ self.old }
+        ensures found { IfOk result (λ found. MatchOption found (¬ HasChain self.old.clauses target.now) (λ ids. AreLive self.old.clauses ids × IsChain target.now (named self.old.clauses ids))) }
+    {
+        match self.recent.find(alloc, &self.live, target)? {
+            Some(ids) => Ok(Some(ids)),
+            None => self.find_among_all(alloc, target),
+        }
+    }
+
+    /// The same among all live clauses alone. The clauses of the chain are recent then.
+    fn find_among_all(
+        &mut self,
+        alloc: Global,
+        target: &[Lit],
+    ) -> Result<Option<IdList>, AllocError>
         ensures same { self.new ≡ self.old }
         ensures found { IfOk result (λ found. MatchOption found (¬ HasChain self.old.clauses target.now) (λ ids. AreLive self.old.clauses ids × IsChain target.now (named self.old.clauses ids))) }
     {
         match ready(alloc, &self.live, self.engine.take(), target)? {
             Some(mut engine) => {
                 let answer = engine.find(alloc, target)?;
+                let limit = engine.limit;
                 self.engine = Some(engine);
+                self.recent.learn(alloc, &self.live, limit, &answer)?;
                 told(alloc, &self.live, target, answer)
             }
             None => find(alloc, &self.live, target),

@@ -3,6 +3,7 @@
 
 mod indexed;
 mod ready;
+mod recent;
 mod search;
 
 pub use indexed::IndexedClauses;

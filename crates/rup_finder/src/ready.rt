@@ -83,7 +83,7 @@ fn top_of(alloc: Global, live: &Live, target: &[Lit]) -> Result<u32, AllocError>
 }
 
 /// The live clause of an id comes in.
-fn with_live(live: &Live, id: u64, engine: Option<Engine>) -> Result<Option<Engine>, AllocError>
+pub fn with_live(live: &Live, id: u64, engine: Option<Engine>) -> Result<Option<Engine>, AllocError>
     requires { (part : Table) × IsReady part engine }
     ensures { IfOk result (λ x. (part : Table) → IsReady part engine → MatchOption (get live.now.clauses id) (IsReady part x) (λ lits. IsReady (map.insert part id lits) x)) }
 {
@@ -107,7 +107,7 @@ fn build(alloc: Global, live: &Live, limit: u32) -> Result<Option<Engine>, Alloc
 }
 
 /// The engine, if it has room for the target.
-fn if_within(engine: Option<Engine>, target: &[Lit]) -> Option<Engine>
+pub fn if_within(engine: Option<Engine>, target: &[Lit]) -> Option<Engine>
     ensures { (table : Table) → IsReady table engine → IsReadyFor table target.now result }
 {
     match engine {

@@ -1,0 +1,119 @@
+-- Engines that hold a part of a table.
+use Rattle.std.proofs.Common.{◌≡◌, refl, sym, ap, ◌∙◌, subst, ℕ, true, List, [], ◌∷◌, Option, Some, None, MatchOption, is_some, inl, inr, true≢false, Result, Ok, Err, IfOk}
+use Rattle.std.proofs.lemmas.Bool.{cases_eq}
+use Rattle.std.proofs.lemmas.Option.{none-some}
+use Rattle.std.specs.List.{cons_option}
+use Rattle.std.specs.Ordering.{nat_cmp}
+use Rattle.std.specs.FinMap as map
+use Rattle.cx_base.specs.Literals.{Literal}
+use Rattle.cx_semantics.specs.Chain.{IsChain}
+use Rattle.cx_semantics.specs.Tables.{Table, get, named, is_live}
+use Rattle.cx_semantics.specs.LogRules.{AreLive}
+use Rattle.rup_engine.specs.Standing.{IsWithin}
+use Rattle.rup_engine.specs.Finding.{IsAtRest, Holds, Answers}
+use Rattle.rup_engine.specs.declared.answer.Answer.{Answer}
+use Rattle.rup_engine.specs.declared.answer.Answer.TheVariants.{Chain}
+use Rattle.rup_engine.specs.declared.engine.Engine.{Engine}
+use Rattle.rup_engine.proofs.MapLooks.{get_put, get_put_other, get_gone, get_gone_other}
+use Rattle.rup_finder.specs.Ready.{IsReady, IsReadyFor}
+use Rattle.rup_finder.specs.Recent.{IsPartOf, HoldsSome, IsRecent}
+
+-- ---- parts
+
+nothing_inside : (table : Table) → IsPartOf map.empty table
+nothing_inside table n c f = absurd (none-some c (sym (map.get-empty nat_cmp n) ∙ f))
+
+-- a clause of the table comes into the part
+more_inside : (part table : Table) (id : ℕ) (lits : List Literal) → get table id ≡ Some lits → IsPartOf part table → IsPartOf (map.insert part id lits) table
+more_inside part table id lits some inside n c f = elim (cases_eq n id) [
+  | inl e ↦ ap (get table) e ∙ some ∙ sym (ap (get (map.insert part id lits)) e ∙ get_put part id lits) ∙ f
+  | inr ne ↦ inside n c (sym (get_put_other part id lits n ne) ∙ f)
+]
+
+put_inside : (part table : Table) (id : ℕ) (lits : List Literal) → IsPartOf part table → IsPartOf (map.insert part id lits) (map.insert table id lits)
+put_inside part table id lits inside n c f = elim (cases_eq n id) [
+  | inl e ↦ ap (get (map.insert table id lits)) e ∙ get_put table id lits ∙ sym (ap (get (map.insert part id lits)) e ∙ get_put part id lits) ∙ f
+  | inr ne ↦ get_put_other table id lits n ne ∙ inside n c (sym (get_put_other part id lits n ne) ∙ f)
+]
+
+gone_inside : (part table : Table) (id : ℕ) → IsPartOf part table → IsPartOf (map.remove part id) (map.remove table id)
+gone_inside part table id inside n c f = elim (cases_eq n id) [
+  | inl e ↦ absurd (none-some c (sym (ap (get (map.remove part id)) e ∙ get_gone part id) ∙ f))
+  | inr ne ↦ get_gone_other table id n ne ∙ inside n c (sym (get_gone_other part id n ne) ∙ f)
+]
+
+-- ---- engines
+
+pub as_part : (table : Table) (e : Option Engine) → IsRecent table e → (part : Table) × IsPartOf part table × IsReady part e
+as_part table None h = (map.empty, nothing_inside table, tt)
+as_part table (Some e) h = (h.1.part, h.1.inside, (h.0, h.1.holds))
+
+by_part : (part table : Table) (e : Option Engine) → IsPartOf part table → IsReady part e → IsRecent table e
+by_part part table None inside is_ready = tt
+by_part part table (Some e) inside is_ready = (is_ready.0, record { part = part; inside = inside; holds = is_ready.1 })
+
+pub some_part : (table : Table) (e : Option Engine) → IsRecent table e → (part : Table) × IsReady part e
+some_part table e h = let w = as_part table e h in (w.0, w.2)
+
+pub recent_at_first : (table : Table) (e : Engine) → IsAtRest e → ((t : Table) → t ≡ map.empty → Holds t e) → IsRecent table (Some e)
+recent_at_first table e rest holds = (rest, record { part = map.empty; inside = nothing_inside table; holds = holds map.empty refl })
+
+pub recent_put : (table : Table) (id : ℕ) (lits : List Literal) (old new : Option Engine) → ((part : Table) → IsReady part old → IsReady (map.insert part id lits) new) → IsRecent table old → IsRecent (map.insert table id lits) new
+recent_put table id lits old new step h =
+    let w = as_part table old h in
+    by_part (map.insert w.0 id lits) (map.insert table id lits) new (put_inside w.0 table id lits w.1) (step w.0 w.2)
+
+pub recent_gone : (table : Table) (id : ℕ) (old new : Option Engine) → ((part : Table) → IsReady part old → IsReady (map.remove part id) new) → IsRecent table old → IsRecent (map.remove table id) new
+recent_gone table id old new step h =
+    let w = as_part table old h in
+    by_part (map.remove w.0 id) (map.remove table id) new (gone_inside w.0 table id w.1) (step w.0 w.2)
+
+-- the table's clause of this id has come in, if there is one
+pub recent_more : (table : Table) (id : ℕ) (old new : Option Engine)
+    → ((part : Table) → IsReady part old → MatchOption (get table id) (IsReady part new) (λ lits. IsReady (map.insert part id lits) new)) → IsRecent table old → IsRecent table new
+recent_more table id old new step h = let w = as_part table old h in go w.0 w.1 (get table id) refl (step w.0 w.2)
+  where
+    go : (part : Table) → IsPartOf part table → (o : Option (List Literal)) → get table id ≡ o → MatchOption o (IsReady part new) (λ lits. IsReady (map.insert part id lits) new) → IsRecent table new
+    go part inside None none r = by_part part table new inside r
+    go part inside (Some lits) some r = by_part (map.insert part id lits) table new (more_inside part table id lits some inside) r
+
+pub recent_more_if_ok : (table : Table) (id : ℕ) {E : Type 0} (old : Option Engine) (r : Result (Option Engine) E)
+    → IfOk r (λ new. (part : Table) → IsReady part old → MatchOption (get table id) (IsReady part new) (λ lits. IsReady (map.insert part id lits) new)) → IsRecent table old → IfOk r (IsRecent table)
+recent_more_if_ok table id old (Ok new) step h = recent_more table id old new step h
+recent_more_if_ok table id old (Err e) step h = tt
+
+pub recent_for : (table : Table) (target : List Literal) (old : Option Engine) (e : Engine) → ((t : Table) → IsReady t old → IsReadyFor t target (Some e)) → IsRecent table old → IsAtRest e × HoldsSome table e × IsWithin e.limit target
+recent_for table target old e step h =
+    let w = as_part table old h in
+    let r = step w.0 w.2 in
+    (r.0, record { part = w.0; inside = w.1; holds = r.1 }, r.2)
+
+-- ---- chains
+
+module _ (part table : Table) (inside : IsPartOf part table) where
+  same_live : (n : ℕ) → is_live part n ≡ true → get part n ≡ get table n
+  same_live n live = go (get part n) refl live
+    where
+      go : (o : Option (List Literal)) → get part n ≡ o → is_some o ≡ true → get part n ≡ get table n
+      go None e h = absurd (true≢false (sym h))
+      go (Some c) e h = e ∙ sym (inside n c e)
+
+  live_in : (ids : List ℕ) → AreLive part ids → AreLive table ids
+  live_in [] live = tt
+  live_in (n ∷ ids) live = (sym (ap is_some (same_live n live.0)) ∙ live.0, live_in ids live.1)
+
+  named_in : (ids : List ℕ) → AreLive part ids → named part ids ≡ named table ids
+  named_in [] live = refl
+  named_in (n ∷ ids) live = ap (λ o. cons_option o (named part ids)) (same_live n live.0) ∙ ap (cons_option (get table n)) (named_in ids live.1)
+
+  -- a right chain of the part's clauses is one of the table's
+  pub chain_in : (target : List Literal) (ids : List ℕ) → AreLive part ids × IsChain target (named part ids) → AreLive table ids × IsChain target (named table ids)
+  chain_in target ids h = (live_in ids h.0, subst (IsChain target) (named_in ids h.0) h.1)
+
+-- a search of an engine over some of the table's clauses
+module _ (table : Table) (target : List Literal) (old new : Engine) (answer : Answer) (found : (t : Table) → Holds t old → Holds t new × Answers t target answer) (before : HoldsSome table old) where
+  pub recent_behind : IsAtRest new → IsRecent table (Some new)
+  recent_behind rest = (rest, record { part = before.part; inside = before.inside; holds = (found before.part before.holds).0 })
+
+  pub chain_behind : (ids : List ℕ) → answer ≡ Chain ids → AreLive table ids × IsChain target (named table ids)
+  chain_behind ids is = chain_in before.part table before.inside target ids (subst (Answers before.part target) is (found before.part before.holds).1)

@@ -1,0 +1,205 @@
+//! An engine over the clauses that chains used lately, and those that came lately.
+ghost use Rattle.std.specs.Prelude.{◌≡◌, ◌≤◌, ◌+◌, IfOk, MatchOption, None, Some};
+ghost use Rattle.cx_base.specs.declared.literal.TheConstants.{MAX_VARIABLE};
+ghost use Rattle.cx_semantics.specs.Chain.{IsChain};
+ghost use Rattle.cx_semantics.specs.LogRules.{AreLive};
+ghost use Rattle.cx_semantics.specs.Tables.{Table, named};
+ghost use Rattle.rup_finder.specs.Recent.{IsRecent};
+
+use crate::ready::{if_within, with_live};
+use cx_base::{IdList, Lit};
+use proof_rules::{Kind, Live};
+use rup_engine::{Answer, Engine};
+use std::alloc::{AllocError, Global};
+
+/// Above this limit of variables there is no recent engine, since its tables would double the memory.
+const MAX_RECENT_VARIABLE: u32 = 1 << 20;
+
+/// The clauses among which nearly every chain is found: those of the chains before, and those that came lately.
+#[derive(Drop)]
+pub struct Recent {
+    /// None before the first chain, after want of memory, and where it is to be made anew.
+    pub engine: Option<Engine>,
+    /// At how many clauses of its arena the engine is made anew.
+    full: usize,
+    /// The hints of the chains since the engine was made, maybe with repeats.
+    used: Vec<u64>,
+    /// At how many hints the repeats are taken out.
+    crowded: usize,
+}
+
+/// The ids of live clauses alone, rising and each once.
+fn thin(live: &Live, used: &mut Vec<u64>) {
+    used.sort_unstable();
+    used.dedup();
+    used.retain(|id| live.has(Kind::Clauses, *id));
+}
+
+/// Whether the engine has the clause of this id.
+fn is_in(engine: &Option<Engine>, id: u64) -> bool {
+    match engine {
+        Some(engine) => engine.refs.get(id).is_some(),
+        None => false,
+    }
+}
+
+/// The live clause of an id comes in, unless it is in.
+fn with_used(live: &Live, id: u64, engine: Option<Engine>) -> Result<Option<Engine>, AllocError>
+    requires { IsRecent live.now.clauses engine }
+    ensures { IfOk result (IsRecent live.now.clauses) }
+{
+    if is_in(&engine, id) {
+        return Ok(engine);
+    }
+    with_live(live, id, engine)
+}
+
+/// The live clauses of these ids come in.
+fn with_all_used(
+    live: &Live,
+    ids: &[u64],
+    engine: Option<Engine>,
+) -> Result<Option<Engine>, AllocError>
+    requires { IsRecent live.now.clauses engine }
+    ensures { IfOk result (IsRecent live.now.clauses) }
+{
+    let mut engine = engine;
+    for id in ids {
+        engine = with_used(live, *id, engine)?;
+    }
+    Ok(engine)
+}
+
+/// An engine over the live clauses of these ids.
+fn gathered(
+    alloc: Global,
+    live: &Live,
+    limit: u32,
+    ids: &[u64],
+) -> Result<Option<Engine>, AllocError>
+    requires { limit + 2 ≤ MAX_VARIABLE }
+    ensures { IfOk result (IsRecent live.now.clauses) }
+{
+    let engine = Engine::make(alloc, limit)?;
+    with_all_used(live, ids, Some(engine))
+}
+
+impl Recent {
+    /// No clause was used yet.
+    pub fn make(alloc: Global) -> Recent
+        ensures { result.engine ≡ None }
+    {
+        Recent {
+            engine: None,
+            full: 0,
+            used: Vec::new(alloc),
+            crowded: 0,
+        }
+    }
+
+    /// The engine, unless it is full: then it is to be made anew.
+    pub fn take(&mut self) -> Option<Engine>
+        ensures taken { self.new.engine ≡ None }
+        ensures same { (table : Table) → IsRecent table self.old.engine → IsRecent table result }
+    {
+        match self.engine.take() {
+            Some(engine) => {
+                if engine.arena.len() < self.full {
+                    Some(engine)
+                } else {
+                    None
+                }
+            }
+            None => None,
+        }
+    }
+
+    /// Notes the hints of a chain.
+    fn note(&mut self, live: &Live, ids: &[u64]) -> Result<(), AllocError>
+        ensures { self.new.engine ≡ self.old.engine }
+    {
+        self.used.extend_from_slice(ids)?;
+        if self.used.len() > self.crowded {
+            thin(live, &mut self.used);
+            // So the memory follows the clauses, and not the hints.
+            self.crowded = self.used.len().saturating_mul(2).saturating_add(4_000);
+        }
+        Ok(())
+    }
+
+    /// A list of recent clauses that is a right chain for the target; none says nothing.
+    pub fn find(
+        &mut self,
+        alloc: Global,
+        live: &Live,
+        target: &[Lit],
+    ) -> Result<Option<IdList>, AllocError>
+        requires { IsRecent live.now.clauses self.old.engine }
+        ensures recent { IsRecent live.now.clauses self.new.engine }
+        ensures found { IfOk result (λ found. MatchOption found (Unit {0}) (λ ids. AreLive live.now.clauses ids × IsChain target.now (named live.now.clauses ids))) }
+    {
+        let mut engine = match if_within(self.take(), target) {
+            Some(engine) => engine,
+            None => return Ok(None),
+        };
+        let answer = engine.find(alloc, target)?;
+        self.engine = Some(engine);
+        match answer {
+            Answer::Chain(ids) => {
+                self.note(live, ids.as_slice())?;
+                Ok(Some(ids))
+            }
+            Answer::NoChain => Ok(None),
+            Answer::Untold => Ok(None),
+        }
+    }
+
+    /// The engine is about to be one with just the clauses that are noted: what is used is noted anew.
+    fn start_over(&mut self, limit: u32)
+        ensures { self.new.engine ≡ self.old.engine }
+    {
+        let kept = self.used.len();
+        // The clauses that come until it is full pay for those that enter the next engine, and for its tables.
+        self.full = kept
+            .saturating_add(kept / 2)
+            .saturating_add(1_000 + limit as usize / 8);
+        self.used.clear();
+    }
+
+    /// Lets the clauses of a chain in that a search over all live clauses gave. An engine that is lacking is made of what
+    /// was used since the last one was.
+    pub fn learn(
+        &mut self,
+        alloc: Global,
+        live: &Live,
+        limit: u32,
+        answer: &Answer,
+    ) -> Result<(), AllocError>
+        requires limit { limit + 2 ≤ MAX_VARIABLE }
+        requires recent { IsRecent live.now.clauses self.old.engine }
+        ensures { IsRecent live.now.clauses self.new.engine }
+    {
+        let ids = match answer {
+            Answer::Chain(ids) => ids.as_slice(),
+            Answer::NoChain => return Ok(()),
+            Answer::Untold => return Ok(()),
+        };
+        if limit > MAX_RECENT_VARIABLE {
+            return Ok(());
+        }
+        self.note(live, ids)?;
+        match self.engine.take() {
+            Some(engine) => {
+                self.engine = with_all_used(live, ids, Some(engine))?;
+                Ok(())
+            }
+            None => {
+                thin(live, &mut self.used);
+                let engine = gathered(alloc, live, limit, &self.used)?;
+                self.start_over(limit);
+                self.engine = engine;
+                Ok(())
+            }
+        }
+    }
+}
