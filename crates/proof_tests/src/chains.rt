@@ -123,7 +123,8 @@ fn turn(
     Ok(())
 }
 
-/// So many turns that an engine is worn out more than once, over so many variables and ids.
+/// So many turns that an engine is worn out more than once, over so many variables and ids. The one over recent clauses
+/// is full at little more than a thousand of them, which takes some 1,600 turns: so it is made anew five times.
 fn turns(alloc: Global, size: (u32, u64)) -> Result<Tally, AllocError> {
     let mut seed = 7;
     let mut clauses = IndexedClauses::make(alloc);
@@ -132,7 +133,7 @@ fn turns(alloc: Global, size: (u32, u64)) -> Result<Tally, AllocError> {
         nones: 0,
         faults: 0,
     };
-    for _ in 0..6_000 {
+    for _ in 0..9_000 {
         turn(alloc, &mut seed, size, &mut clauses, &mut tally)?;
     }
     Ok(tally)
@@ -149,5 +150,6 @@ fn assert_agreement(rt: &impl Abort, tally: &Tally) {
 fn both_searches_agree(rt: HostRuntime) -> Result<(), Fail> {
     assert_agreement(&rt, &turns(rt.alloc(), (5, 12))?);
     assert_agreement(&rt, &turns(rt.alloc(), (9, 40))?);
+    assert_agreement(&rt, &turns(rt.alloc(), (30, 60))?);
     Ok(())
 }
