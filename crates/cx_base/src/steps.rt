@@ -18,7 +18,7 @@ pub enum ProofStep {
 }
 
 /// A step of a log. The hints of an added clause have no meaning.
-#[derive(Clone, Debug, Drop)]
+#[derive(Clone, Drop)]
 pub enum LogStep {
     /// A clause of the formula, with its id here.
     Original(u64, IntList),
@@ -42,7 +42,7 @@ pub enum LogStep {
 }
 
 /// A log is a list of steps and marks; the mark of conflict k stands for a comment line.
-#[derive(Clone, Debug, Drop)]
+#[derive(Clone, Drop)]
 pub enum LogEvent {
     Step(LogStep),
     Conflict(u64),
