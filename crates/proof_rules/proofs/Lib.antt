@@ -11,3 +11,4 @@ pub mod PageLaws
 pub mod PlaceLaws
 pub mod MarkLaws
 pub mod VariableLaws
+pub mod LoopSteps

@@ -2,7 +2,7 @@
 use Rattle.std.proofs.Common.{◌≡◌, refl, sym, ap, ◌∙◌, ℕ, zero, suc, ◌+◌, ◌-◌, ◌*◌, ◌/◌, ◌%◌, ◌<◌, ◌≤◌, true, false, true≢false, List, [], ◌∷◌, ◌++◌, length, get_or, set, drop, Option, Some, None, is_some, replicate, arith, append_assoc, append-nil, length-append}
 use Rattle.std.specs.Map.{keys_of}
 use Rattle.std.proofs.Math.Seq.{drop-cons}
-use Rattle.std.proofs.lemmas.List.{length-replicate, length-set, length-take-le, get_or-take, take_at, get_or_append_left, get_or-append-add, set-append_left, set-append_right}
+use Rattle.std.proofs.lemmas.List.{drop_all, length-replicate, length-set, length-take-le, get_or-take, take_at, get_or_append_left, get_or-append-add, set-append_left, set-append_right}
 use Rattle.proof_rules.specs.Places.{entries_from, entries_of, all_places, places_of, taken_of, HasAllOrNone}
 
 -- One page.
@@ -131,6 +131,16 @@ keys_of-append (e ∷ es) fs = ap (λ ks. e.0 ∷ ks) (keys_of-append es fs)
 pub entries_from-page : {V : Type 0} (n : ℕ) (xs : List (Option V)) → HasAllOrNone xs → entries_from n (all_places xs) ≡ entries_from n xs
 entries_from-page n [] h = entries_from-none n 64
 entries_from-page n (x ∷ xs) h = ap (entries_from n) (all_places-full (x ∷ xs) (h (omega arith)))
+
+-- the ids with a value in a page, behind those that a list had
+pub keys_pushed : {V : Type 0} (n i : ℕ) (xs : List (Option V)) (ids old : List ℕ) → HasAllOrNone xs → length xs ≤ i
+    → ids ++ keys_of (entries_from (n + i) (drop i xs)) ≡ old ++ keys_of (entries_from n xs)
+    → ids ≡ old ++ keys_of (entries_from n (all_places xs))
+keys_pushed n i xs ids old h past so_far =
+    sym (append-nil ids)
+    ∙ ap (λ left. ids ++ keys_of (entries_from (n + i) left)) (sym (drop_all i xs past))
+    ∙ so_far
+    ∙ ap (λ es. old ++ keys_of es) (sym (entries_from-page n xs h))
 
 -- The places of all pages.
 

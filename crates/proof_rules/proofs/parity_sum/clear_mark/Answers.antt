@@ -1,0 +1,10 @@
+use Rattle.std.proofs.Common.{sym, arith}
+use Rattle.std.proofs.lemmas.List.{set_past}
+use Rattle.proof_rules.specs.declared.parity_sum.Mark.TheVariants.{Unmet}
+use Rattle.proof_rules.proofs.parity_sum.clear_mark.Goals as goal
+
+pub returns-else-place-len : goal.returns-else-place-len
+returns-else-place-len c =
+    let counted = c.len.ensures in
+    let past = c.if-place-len.false in
+    sym (set_past c.args.marks.now.items c.args.place Unmet (grind (arith, counted, past)))
