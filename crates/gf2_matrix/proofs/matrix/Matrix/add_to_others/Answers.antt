@@ -18,6 +18,7 @@ use Rattle.gf2_matrix.proofs.Made.{few_columns}
 use Rattle.gf2_matrix.proofs.PivotSets.{element, chosen_takes, chosen_within, turned_after, by_column_after}
 use Rattle.gf2_matrix.proofs.Updates.{same_read}
 use Rattle.cx_base.specs.declared.literal.TheConstants.{MAX_VARIABLE}
+use Rattle.gf2_matrix.proofs.Room.{row_there, part_there, spare_there, by_column_there, number_fits, row_fits}
 use Rattle.gf2_matrix.proofs.matrix.Matrix.add_to_others.Goals as goal
 use Rattle.gf2_matrix.proofs.matrix.Matrix.add_to_others.Goals.{After-first, After-index-5, After-add_to_chosen}
 
@@ -385,3 +386,48 @@ returns-clause-rows c =
     (rows_after m.vars m.given m.columns.items m.places.items (map window m.parts.items) m.rows.items c.add_to_chosen.new.rows m.spares.items c.copy_row.new.target m.no_columns.items
     c.args.row c.args.column c.index.result.now c.self.invariant.matrix (row_in s) (column_in s) (has_column s) copy there)
     ∙ ap (λ (q : Content). let r : Content = record q { rows = pivoted q.rows c.args.row (get_or q.columns c.args.column 0 - 1) } in r) c.self.view_is
+
+-- the row, its part, and what is kept for the part
+pub index-requires : goal.index-requires
+index-requires c =
+    let m = c.self.inside in
+    row_there m.vars m.given m.columns.items m.places.items m.parts.items m.rows.items m.spares.items m.no_columns.items c.self.invariant.matrix c.args.self.now c.self.view_is c.args.row c.requires.row_in m.rows.len m.rows.ok.0
+
+pub index-part-requires : goal.index-part-requires
+index-part-requires c =
+    let m = c.self.inside in
+    part_there m.vars m.given m.columns.items m.places.items m.parts.items m.rows.items m.spares.items m.no_columns.items c.self.invariant.matrix c.args.self.now c.self.view_is c.args.row c.requires.row_in
+    c.index.result.now c.index.ensures m.parts.len m.parts.ok.0
+
+pub index-requires-2 : goal.index-requires-2
+index-requires-2 c =
+    let m = c.self.inside in
+    row_there m.vars m.given m.columns.items m.places.items m.parts.items m.rows.items m.spares.items m.no_columns.items c.self.invariant.matrix c.args.self.now c.self.view_is c.args.row c.requires.row_in m.rows.len m.rows.ok.0
+
+pub index_mut-requires-2 : goal.index_mut-requires-2
+index_mut-requires-2 c =
+    let m = c.self.inside in
+    by_column_there m.vars m.given m.columns.items m.places.items m.parts.items m.rows.items m.spares.items m.no_columns.items c.self.invariant.matrix c.args.self.now c.self.view_is c.args.row c.requires.row_in
+    m.by_columns.items c.self.invariant.by_column c.index.result.now c.index.ensures m.by_columns.len m.by_columns.ok.0
+
+pub index-requires-4 : goal.index-requires-4
+index-requires-4 c =
+    let m = c.self.inside in
+    by_column_there m.vars m.given m.columns.items m.places.items m.parts.items m.rows.items m.spares.items m.no_columns.items c.self.invariant.matrix c.args.self.now c.self.view_is c.args.row c.requires.row_in
+    m.by_columns.items c.self.invariant.by_column c.index.result.now c.index.ensures m.by_columns.len m.by_columns.ok.0
+
+pub index-requires-5 : goal.index-requires-5
+index-requires-5 c =
+    let m = c.self.inside in
+    spare_there m.vars m.given m.columns.items m.places.items m.parts.items m.rows.items m.spares.items m.no_columns.items c.self.invariant.matrix c.args.self.now c.self.view_is c.args.row c.requires.row_in
+    c.index.result.now c.index.ensures m.spares.len m.spares.ok.0
+
+pub overflow_cast-row : goal.overflow_cast-row
+overflow_cast-row c =
+    let m = c.self.inside in
+    row_fits m.vars m.given m.columns.items m.places.items m.parts.items m.rows.items m.spares.items m.no_columns.items c.self.invariant.matrix c.args.self.now c.self.view_is c.args.row c.requires.row_in
+
+pub overflow_add-row : goal.overflow_add-row
+overflow_add-row c =
+    let m = c.self.inside in
+    number_fits m.vars m.given m.columns.items m.places.items m.parts.items m.rows.items m.spares.items m.no_columns.items c.self.invariant.matrix c.args.self.now c.self.view_is c.args.row c.requires.row_in

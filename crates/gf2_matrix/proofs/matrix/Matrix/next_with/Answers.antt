@@ -11,6 +11,7 @@ use Rattle.gf2_matrix.proofs.Rows.{row_within, row_window}
 use Rattle.gf2_matrix.proofs.PivotSets.{row_by_column, numbers_few}
 use Rattle.gf2_matrix.proofs.Windows.{numbers_of_row}
 use Rattle.gf2_matrix.proofs.RowCounts.{column_at, next_none, next_some}
+use Rattle.gf2_matrix.proofs.Room.{row_there, part_there, by_column_there, from_fits}
 use Rattle.gf2_matrix.proofs.matrix.Matrix.next_with.Goals as goal
 use Rattle.gf2_matrix.proofs.matrix.Matrix.next_with.Goals.{After-index-2, After-deref-2}
 
@@ -164,3 +165,25 @@ returns-in-Some c =
           c.args.from c.count_up_to-place.result (below t) (above t)
           (λ k ge small. ap (λ ws. bit_of ws k) (sym (words_are t)) ∙ first.before k ge (omega arith))))
     ]
+
+pub index-requires : goal.index-requires
+index-requires c =
+    let m = c.self.inside in
+    row_there m.vars m.given m.columns.items m.places.items m.parts.items m.rows.items m.spares.items m.no_columns.items c.self.invariant.matrix c.args.self.now c.self.view_is c.args.row c.requires.row_in m.rows.len m.rows.ok.0
+
+pub index-part-requires : goal.index-part-requires
+index-part-requires c =
+    let m = c.self.inside in
+    part_there m.vars m.given m.columns.items m.places.items m.parts.items m.rows.items m.spares.items m.no_columns.items c.self.invariant.matrix c.args.self.now c.self.view_is c.args.row c.requires.row_in
+    c.index.result.now c.index.ensures m.parts.len m.parts.ok.0
+
+pub index-requires-2 : goal.index-requires-2
+index-requires-2 c =
+    let m = c.self.inside in
+    by_column_there m.vars m.given m.columns.items m.places.items m.parts.items m.rows.items m.spares.items m.no_columns.items c.self.invariant.matrix c.args.self.now c.self.view_is c.args.row c.requires.row_in
+    m.by_columns.items c.self.invariant.by_column c.index.result.now c.index.ensures m.by_columns.len m.by_columns.ok.0
+
+pub overflow_cast-from : goal.overflow_cast-from
+overflow_cast-from c =
+    let m = c.self.inside in
+    from_fits m.vars m.given m.columns.items m.places.items m.parts.items m.rows.items m.spares.items m.no_columns.items c.self.invariant.matrix c.args.self.now c.self.view_is c.args.row c.requires.row_in c.args.from c.requires.from_in

@@ -7,6 +7,7 @@ use Rattle.gf2_matrix.specs.ByColumn.{IsByColumn}
 use Rattle.gf2_matrix.proofs.Rows.{row_within, row_window}
 use Rattle.gf2_matrix.proofs.PivotSets.{row_by_column, numbers_few, columns_high, column_found, column_none}
 use Rattle.gf2_matrix.proofs.RowCounts.{rarest_of_row}
+use Rattle.gf2_matrix.proofs.Room.{row_there, part_there, by_column_there, words_few, start_within}
 use Rattle.gf2_matrix.proofs.matrix.Matrix.rarest_column.Goals as goal
 use Rattle.gf2_matrix.proofs.matrix.Matrix.rarest_column.Goals.{After-start}
 
@@ -87,3 +88,32 @@ returns-in-Some-clause-rarest c =
     (rarest_of_row m.vars m.given m.columns.items m.places.items (map window m.parts.items) m.rows.items m.spares.items m.no_columns.items c.self.invariant.matrix c.args.row c.index-words.result.now (row_in s) (window e) (here s)
     c.index.result.now by c.deref.result.now (bits_are s) i (omega arith) (ap (λ f. bit_of c.deref.result.now (f + i)) (sym c.start.ensures) ∙ c.in-Some.ensures.column.1)
     (λ j d j_in on. c.in-Some.ensures.rarest i j d refl j_in (ap (λ f. bit_of c.deref.result.now (f + j)) c.start.ensures ∙ on)))
+
+pub index-words-requires : goal.index-words-requires
+index-words-requires c =
+    let m = c.self.inside in
+    row_there m.vars m.given m.columns.items m.places.items m.parts.items m.rows.items m.spares.items m.no_columns.items c.self.invariant.matrix c.args.self.now c.self.view_is c.args.row c.requires m.rows.len m.rows.ok.0
+
+pub index-part-requires : goal.index-part-requires
+index-part-requires c =
+    let m = c.self.inside in
+    part_there m.vars m.given m.columns.items m.places.items m.parts.items m.rows.items m.spares.items m.no_columns.items c.self.invariant.matrix c.args.self.now c.self.view_is c.args.row c.requires
+    c.index-words.result.now c.index-words.ensures m.parts.len m.parts.ok.0
+
+pub index-requires : goal.index-requires
+index-requires c =
+    let m = c.self.inside in
+    by_column_there m.vars m.given m.columns.items m.places.items m.parts.items m.rows.items m.spares.items m.no_columns.items c.self.invariant.matrix c.args.self.now c.self.view_is c.args.row c.requires
+    m.by_columns.items c.self.invariant.by_column c.index-words.result.now c.index-words.ensures m.by_columns.len m.by_columns.ok.0
+
+pub rarest-requires-clause-few : goal.rarest-requires-clause-few
+rarest-requires-clause-few c =
+    let m = c.self.inside in
+    words_few m.vars m.given m.columns.items m.places.items m.parts.items m.rows.items m.spares.items m.no_columns.items c.self.invariant.matrix c.args.self.now c.self.view_is c.args.row c.requires
+    c.index-words.result.now c.index-part.result.now c.index-words.ensures c.index-part.ensures c.deref.result.now c.deref.ensures.value
+
+pub rarest-requires-clause-within : goal.rarest-requires-clause-within
+rarest-requires-clause-within c =
+    let m = c.self.inside in
+    start_within m.vars m.given m.columns.items m.places.items m.parts.items m.rows.items m.spares.items m.no_columns.items c.self.invariant.matrix c.args.self.now c.self.view_is c.args.row c.requires
+    c.index-words.result.now c.index-part.result.now c.index-words.ensures c.index-part.ensures c.deref.result.now c.deref.ensures.value c.start.result c.start.ensures
