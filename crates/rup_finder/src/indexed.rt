@@ -146,7 +146,7 @@ impl IndexedClauses {
     /// A call costs what the negations of the target's literals propagate over the clauses that chains used lately and
     /// those that came since, and where these give no chain, over all; and what the clauses by themselves do where that
     /// is not known from the call before. The first call costs all live clauses, and so does one after as many have
-    /// gone as are live. What a call costs that gathers the clauses of chains anew, the clauses that came meanwhile pay.
+    /// gone as are live. Where the clauses of chains are gathered anew, those that came meanwhile pay for it.
     pub fn find(&mut self, alloc: Global, target: &[Lit]) -> Result<Option<IdList>, AllocError>
         ensures same { self.new ≡ self.old }
         ensures found { IfOk result (λ found. MatchOption found (¬ HasChain self.old.clauses target.now) (λ ids. AreLive self.old.clauses ids × IsChain target.now (named self.old.clauses ids))) }
