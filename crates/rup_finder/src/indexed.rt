@@ -10,7 +10,7 @@ ghost use Rattle.proof_rules.specs.Judges.{JudgesBy};
 ghost use Rattle.rup_engine.specs.Finding.{Answers};
 
 use crate::ready::{ready, with_clause, without_clause};
-use crate::recent::Recent;
+use crate::recent::{Recent, limit_beside};
 use crate::search::find;
 use cx_base::{IdList, Lit, LitList};
 use proof_rules::{JudgeRefusal, Kind, LiteralSet, Live, judge_chain};
@@ -169,7 +169,7 @@ impl IndexedClauses {
         match ready(alloc, &self.live, self.engine.take(), target)? {
             Some(mut engine) => {
                 let answer = engine.find(alloc, target)?;
-                let limit = engine.limit;
+                let limit = limit_beside(&engine);
                 self.engine = Some(engine);
                 self.recent.learn(alloc, &self.live, limit, &answer)?;
                 told(alloc, &self.live, target, answer)

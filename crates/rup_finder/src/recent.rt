@@ -1,5 +1,5 @@
 //! An engine over the clauses that chains used lately, and those that came lately.
-ghost use Rattle.std.specs.Prelude.{◌≡◌, ◌≤◌, ◌+◌, IfOk, MatchOption, None, Some};
+ghost use Rattle.std.specs.Prelude.{◌≡◌, ◌≤◌, ◌+◌, IfOk, IfSome, MatchOption, None, Some};
 ghost use Rattle.cx_base.specs.declared.literal.TheConstants.{MAX_VARIABLE};
 ghost use Rattle.cx_semantics.specs.Chain.{IsChain};
 ghost use Rattle.cx_semantics.specs.LogRules.{AreLive};
@@ -15,6 +15,10 @@ use std::alloc::{AllocError, Global};
 /// Above this limit of variables there is no recent engine, since its tables would double the memory.
 const MAX_RECENT_VARIABLE: u32 = 1 << 20;
 
+/// Nor is there one where the clauses of at most one different literal, and what they give, are more together: a clause that is let
+/// in may have all of that propagated anew.
+const MAX_OPENING: usize = 4_000;
+
 /// The clauses among which nearly every chain is found: those of the chains before, and those that came lately.
 #[derive(Drop)]
 pub struct Recent {
@@ -26,6 +30,18 @@ pub struct Recent {
     used: Vec<u64>,
     /// At how many hints the repeats are taken out.
     crowded: usize,
+}
+
+/// The limit of variables of a recent engine beside this one over all live clauses; none where there is to be none.
+pub fn limit_beside(all: &Engine) -> Option<u32>
+    ensures { IfSome result (λ limit. limit + 2 ≤ MAX_VARIABLE) }
+{
+    let opening = all.trail.len().saturating_add(all.short.len());
+    if all.limit > MAX_RECENT_VARIABLE || opening > MAX_OPENING {
+        None
+    } else {
+        Some(all.limit)
+    }
 }
 
 /// The ids of live clauses alone, rising and each once.
@@ -167,15 +183,15 @@ impl Recent {
     }
 
     /// Lets the clauses of a chain in that a search over all live clauses gave. An engine that is lacking is made of what
-    /// was used since the last one was.
+    /// was used since the last one was. Without a limit of variables there is none from now on.
     pub fn learn(
         &mut self,
         alloc: Global,
         live: &Live,
-        limit: u32,
+        limit: Option<u32>,
         answer: &Answer,
     ) -> Result<(), AllocError>
-        requires limit { limit + 2 ≤ MAX_VARIABLE }
+        requires limit { IfSome limit (λ limit. limit + 2 ≤ MAX_VARIABLE) }
         requires recent { IsRecent live.now.clauses self.old.engine }
         ensures { IsRecent live.now.clauses self.new.engine }
     {
@@ -184,9 +200,13 @@ impl Recent {
             Answer::NoChain => return Ok(()),
             Answer::Untold => return Ok(()),
         };
-        if limit > MAX_RECENT_VARIABLE {
-            return Ok(());
-        }
+        let limit = match limit {
+            Some(limit) => limit,
+            None => {
+                self.engine = None;
+                return Ok(());
+            }
+        };
         self.note(live, ids)?;
         match self.engine.take() {
             Some(engine) => {
