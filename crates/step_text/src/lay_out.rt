@@ -3,7 +3,7 @@ ghost use Rattle.std.specs.Prelude.{◌≡◌, ◌≤◌, ◌+◌, ◌*◌, ◌�
 ghost use Rattle.cx_texts.specs.Grammar.{spelled, integers};
 ghost use Rattle.cx_texts.specs.Printed.{printed_integer};
 ghost use Rattle.step_text.specs.Spaced.{spaced, spaced_integer};
-ghost use Rattle.step_text.specs.declared.lay_out.TheConstants.{ROOM};
+ghost use Rattle.step_text.specs.declared.lay_out.TheConstants.{ROOM, DELETION_ROOM};
 
 use itoa::write_digits;
 
@@ -101,4 +101,46 @@ pub(crate) fn lay_out_line(name: u64, literals: &[i64], hints: &[i64], sheet: &m
     let behind = lay_out_list(hints, sheet, ROOM - 1);
     let behind = lay_out_list(literals, sheet, behind);
     write_digits(name, sheet, behind)
+}
+
+/// Lays out an id so that it ends there, and says where it begins.
+#[inline(always)]
+fn lay_out_id(name: u64, sheet: &mut [u8], end: usize) -> usize
+    requires room { LONGEST ≤ end }
+    requires within { end ≤ length sheet.old }
+    ensures low { end ≤ result + LONGEST }
+    ensures high { result ≤ end }
+    ensures laid { drop result sheet.new ≡ decimal name ++ drop end sheet.old }
+{
+    write_digits(name, sheet, end)
+}
+
+/// Lays out the letter of a deletion between spaces so that they end there, and says where they begin.
+#[inline(always)]
+fn lay_out_letter(sheet: &mut [u8], end: usize) -> usize
+    requires room { 3 ≤ end }
+    requires within { end ≤ length sheet.old }
+    ensures begin { result + 3 ≡ end }
+    ensures laid { drop result sheet.new ≡ 32 ∷ 100 ∷ 32 ∷ drop end sheet.old }
+{
+    sheet[end - 1] = b' ';
+    sheet[end - 2] = b'd';
+    sheet[end - 3] = b' ';
+    end - 3
+}
+
+/// Room for a deletion of one clause: two ids, three bytes between them, and three behind them.
+pub(crate) const DELETION_ROOM: usize = 2 * LONGEST + 6;
+
+/// Lays out the line of a deletion of one clause at the end of a sheet, and says where it begins.
+pub(crate) fn lay_out_deletion(name: u64, deleted: u64, sheet: &mut [u8]) -> usize
+    requires sheet { length sheet.old ≡ DELETION_ROOM }
+    ensures within { result ≤ DELETION_ROOM }
+    ensures laid { drop result sheet.new ≡ decimal name ++ (32 ∷ 100 ∷ 32 ∷ (decimal deleted ++ 32 ∷ 48 ∷ 10 ∷ [])) }
+{
+    sheet[DELETION_ROOM - 1] = b'\n';
+    let behind = lay_out_zero(sheet, DELETION_ROOM - 1);
+    let second = lay_out_id(deleted, sheet, behind);
+    let between = lay_out_letter(sheet, second);
+    lay_out_id(name, sheet, between)
 }

@@ -4,7 +4,9 @@ ghost use Rattle.cx_desk.specs.Calls.{PutsAll};
 ghost use Rattle.cx_texts.specs.Grammar.{spelled, ids, integers};
 ghost use Rattle.step_text.specs.Spaced.{spaced, spaced_integer, spaced_id};
 
-use crate::lay_out::{LONGEST, ROOM, SHORT, lay_out_integers, lay_out_line};
+use crate::lay_out::{
+    DELETION_ROOM, LONGEST, ROOM, SHORT, lay_out_deletion, lay_out_integers, lay_out_line,
+};
 use cx_desk::{Desk, Failed, Port, put_all, put_pieces};
 use itoa::Buffer;
 
@@ -92,6 +94,20 @@ pub fn put_ids<D: Desk>(desk: &mut D, port: Port, members: &[u64]) -> Result<(),
 {
     put_each_id(desk, port, members)?;
     put_all(desk, port, b" 0\n")
+}
+
+/// A deletion of one clause, as a whole line in one piece.
+pub fn put_deletion<D: Desk>(
+    desk: &mut D,
+    port: Port,
+    name: u64,
+    deleted: u64,
+) -> Result<(), Failed>
+    ensures { PutsAll port (decimal name ++ (32 ∷ 100 ∷ 32 ∷ (decimal deleted ++ 32 ∷ 48 ∷ 10 ∷ []))) (D.outside desk.old) result (D.outside desk.new) }
+{
+    let mut sheet = [0; DELETION_ROOM];
+    let begin = lay_out_deletion(name, deleted, &mut sheet);
+    put_all(desk, port, &sheet[begin..])
 }
 
 /// An id behind a text, its literals, and a text: the head of a step's line.
