@@ -7,7 +7,7 @@ ghost use Rattle.cx_texts.specs.Printed.{printed_line, HasProofText};
 
 use cx_base::ProofStep;
 use cx_desk::{Desk, Failed, Port, put_all};
-use step_text::pieces::{put_head, put_id, put_ids, put_integer, put_line};
+use step_text::pieces::{put_deletion, put_head, put_id, put_ids, put_integer, put_line};
 
 /// An id, literals and hints behind a text, as the end of a line.
 fn put_hinted<D: Desk>(
@@ -46,6 +46,9 @@ fn put_clause_deletion<D: Desk>(
 ) -> Result<(), Failed>
     ensures { PutsAll port (printed_line (flat_map spelled (id name ∷ mark 100 ∷ ids names.now ∷ []))) (D.outside desk.old) result (D.outside desk.new) }
 {
+    if let [deleted] = names {
+        return put_deletion(desk, port, name, *deleted);
+    }
     put_id(desk, port, b"", name, b" d")?;
     put_ids(desk, port, names)
 }
