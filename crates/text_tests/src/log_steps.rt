@@ -20,19 +20,23 @@ struct PrintedTwice {
     log: Vec<u8>,
 }
 
+/// Keeps a step or a mark in the log, and gives it to one that keeps nothing.
+fn keep(log: &mut ListLog, told: &LogEvent) -> Result<(), Fail>
+    requires { HasText told.now }
+{
+    log.put(told)?;
+    let mut nothing = NoLog;
+    nothing.put(told)?;
+    Ok(())
+}
+
 /// Prints a step, and keeps it with a mark behind it.
 fn put(desk: &mut MemDesk, log: &mut ListLog, step: LogStep, k: u64) -> Result<(), Fail>
     requires { HasText (Step step) }
 {
     put_log_step(desk, Port::Proof, &step)?;
-    let told = LogEvent::Step(step);
-    let mark = LogEvent::Conflict(k);
-    log.put(&told)?;
-    log.put(&mark)?;
-    let mut nothing = NoLog;
-    nothing.put(&told)?;
-    nothing.put(&mark)?;
-    Ok(())
+    keep(log, &LogEvent::Step(step))?;
+    keep(log, &LogEvent::Conflict(k))
 }
 
 /// At most sixteen steps of a text, each with a mark behind it in the whole log.
