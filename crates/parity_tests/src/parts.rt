@@ -29,7 +29,7 @@ fn places(alloc: Global, matrix: &Matrix) -> Result<Vec<usize>, AllocError> {
 /// The variables of the columns, and the column of each variable.
 fn columns(alloc: Global, matrix: &Matrix) -> Result<String, AllocError> {
     let places = places(alloc, matrix)?;
-    format!(in alloc; "{:?} {:?}", matrix.variables(), places.as_slice())
+    format!(in alloc; "{:?} {:?}\n", matrix.variables(), places.as_slice())
 }
 
 /// The first column of the row that is not the one to skip.
@@ -146,69 +146,107 @@ pub(crate) fn rows(alloc: Global, matrix: &Matrix) -> Result<String, AllocError>
     Ok(text)
 }
 
+/// What is shown of a matrix, one behind the other.
+#[derive(Clone, Copy, Drop)]
+enum Shown {
+    /// How many columns it has.
+    Width,
+    /// The variables of the columns, and the column of each variable.
+    Columns,
+    /// Where each row has its place.
+    Layout,
+    /// Each row, when the matrix is reduced.
+    Reduced,
+}
+
+fn show(alloc: Global, matrix: &mut Matrix, shown: Shown) -> Result<String, AllocError> {
+    match shown {
+        Shown::Width => format!(in alloc; "{}\n", matrix.columns()),
+        Shown::Columns => columns(alloc, matrix),
+        Shown::Layout => layout(alloc, matrix),
+        Shown::Reduced => {
+            matrix.reduce();
+            rows(alloc, matrix)
+        }
+    }
+}
+
+fn show_all(alloc: Global, matrix: &mut Matrix, all: &[Shown]) -> Result<String, AllocError> {
+    let mut text = String::new(alloc);
+    for shown in all {
+        text.push_str(show(alloc, matrix, *shown)?.as_str())?;
+    }
+    Ok(text)
+}
+
+/// What is shown of the matrix of parities over so many variables, at least one and at most a hundred.
+fn told(
+    alloc: Global,
+    vars: u32,
+    parities: &[&[u32]],
+    all: &[Shown],
+) -> Result<String, AllocError> {
+    let vars = vars.clamp(1, 100);
+    let parities = parities_of(alloc, vars, parities)?;
+    let mut matrix = Matrix::make(alloc, vars, &parities)?;
+    show_all(alloc, &mut matrix, all)
+}
+
 #[test]
 fn parts_that_share_no_variable_stand_apart(rt: HostRuntime) -> Result<(), Fail> {
-    let alloc = rt.alloc();
-    let parities = parities_of(alloc, 5, &[&[1, 3], &[2, 4]])?;
-    let mut matrix = Matrix::make(alloc, 5, &parities)?;
-    assert_eq!(rt;
-        columns(alloc, &matrix)?.as_str(),
-        "[1, 3, 2, 4] [0, 2, 1, 3, 4]"
-    );
-    let wanted =
-        "Some(0) [Some(0), None] 0 2 Some(0) Some(1) Some(1)\nSome(2) [Some(1), Some(1)] 2 2 Some(2) Some(3) Some(3)\n";
-    assert_eq!(rt; layout(alloc, &matrix)?.as_str(), wanted);
-    matrix.reduce();
-    assert_eq!(rt;
-        rows(alloc, &matrix)?.as_str(),
-        "[1, 3] true [1]\n[2, 4] true [2]\n"
-    );
+    let all = [Shown::Columns, Shown::Layout, Shown::Reduced];
+    let told = told(rt.alloc(), 5, &[&[1, 3], &[2, 4]], &all)?;
+    let wanted = "\
+[1, 3, 2, 4] [0, 2, 1, 3, 4]
+Some(0) [Some(0), None] 0 2 Some(0) Some(1) Some(1)
+Some(2) [Some(1), Some(1)] 2 2 Some(2) Some(3) Some(3)
+[1, 3] true [1]
+[2, 4] true [2]
+";
+    assert_eq!(rt; told.as_str(), wanted);
     Ok(())
 }
 
 #[test]
 fn a_parity_joins_two_parts(rt: HostRuntime) -> Result<(), Fail> {
-    let alloc = rt.alloc();
-    let parities = parities_of(alloc, 6, &[&[1, 2], &[3, 4], &[2, 3], &[5, 6]])?;
-    let mut matrix = Matrix::make(alloc, 6, &parities)?;
+    let parities: [&[u32]; 4] = [&[1, 2], &[3, 4], &[2, 3], &[5, 6]];
+    let told = told(rt.alloc(), 6, &parities, &[Shown::Layout, Shown::Reduced])?;
     let wanted = "\
 Some(0) [Some(0), None, None, None] 0 4 Some(0) Some(1) Some(0)
 Some(3) [Some(1), Some(1), None, None] 0 4 Some(2) Some(3) Some(3)
 Some(1) [Some(0), Some(2), Some(2), None] 0 4 Some(1) Some(2) None
 Some(4) [Some(3), Some(3), Some(3), Some(3)] 4 2 Some(4) Some(5) Some(5)
+[1, 4] true [1, 2, 3]
+[3, 4] true [2]
+[2, 4] false [2, 3]
+[5, 6] true [4]
 ";
-    assert_eq!(rt; layout(alloc, &matrix)?.as_str(), wanted);
-    matrix.reduce();
-    let wanted = "[1, 4] true [1, 2, 3]\n[3, 4] true [2]\n[2, 4] false [2, 3]\n[5, 6] true [4]\n";
-    assert_eq!(rt; rows(alloc, &matrix)?.as_str(), wanted);
+    assert_eq!(rt; told.as_str(), wanted);
     Ok(())
 }
 
 #[test]
 fn a_parity_whose_variables_cancel_has_no_column(rt: HostRuntime) -> Result<(), Fail> {
-    let alloc = rt.alloc();
-    let parities = parities_of(alloc, 3, &[&[1, 2, 1, 2], &[2, 3], &[]])?;
-    let mut matrix = Matrix::make(alloc, 3, &parities)?;
-    assert_eq!(rt; columns(alloc, &matrix)?.as_str(), "[2, 3] [2, 0, 1]");
-    matrix.reduce();
-    assert_eq!(rt;
-        rows(alloc, &matrix)?.as_str(),
-        "[] true [1]\n[2, 3] true [2]\n[] true [3]\n"
-    );
-    let empty = "None [] 0 2 None None None\n";
-    let row = "Some(0) [Some(1), Some(1), None] 0 2 Some(0) Some(1) Some(1)\n";
-    let wanted = format!(in alloc; "{empty}{row}{empty}")?;
-    assert_eq!(rt; layout(alloc, &matrix)?.as_str(), wanted.as_str());
+    let parities: [&[u32]; 3] = [&[1, 2, 1, 2], &[2, 3], &[]];
+    let all = [Shown::Columns, Shown::Reduced, Shown::Layout];
+    let told = told(rt.alloc(), 3, &parities, &all)?;
+    let wanted = "\
+[2, 3] [2, 0, 1]
+[] true [1]
+[2, 3] true [2]
+[] true [3]
+None [] 0 2 None None None
+Some(0) [Some(1), Some(1), None] 0 2 Some(0) Some(1) Some(1)
+None [] 0 2 None None None
+";
+    assert_eq!(rt; told.as_str(), wanted);
     Ok(())
 }
 
 #[test]
 fn a_matrix_without_a_column(rt: HostRuntime) -> Result<(), Fail> {
-    let alloc = rt.alloc();
-    let mut matrix = Matrix::make(alloc, 2, &parities_of(alloc, 2, &[&[]])?)?;
-    matrix.reduce();
-    assert_eq!(rt; matrix.columns(), 0);
-    assert_eq!(rt; rows(alloc, &matrix)?.as_str(), "[] true [1]\n");
+    let told = told(rt.alloc(), 2, &[&[]], &[Shown::Reduced, Shown::Width])?;
+    assert_eq!(rt; told.as_str(), "[] true [1]\n0\n");
     Ok(())
 }
 
@@ -221,23 +259,29 @@ fn long_row(alloc: Global) -> Result<Vec<u32>, AllocError> {
     Ok(numbers)
 }
 
-#[test]
-fn a_part_lies_across_two_words(rt: HostRuntime) -> Result<(), Fail> {
-    let alloc = rt.alloc();
-    let long = long_row(alloc)?;
-    let parities = parities_of(alloc, 67, &[&long, &[64, 65, 66], &[65, 66, 67]])?;
-    let mut matrix = Matrix::make(alloc, 67, &parities)?;
-    let wanted = "\
+/// What the matrix of a long row and two short ones is told as.
+fn wanted_of_long_row(alloc: Global, long: &[u32]) -> Result<String, AllocError> {
+    let layout = "\
 Some(0) [Some(0), None, None] 0 63 Some(0) Some(1) Some(1)
 Some(63) [Some(1), Some(1), None] 63 4 Some(63) Some(64) Some(63)
 Some(66) [Some(2), Some(2), Some(2)] 63 4 Some(64) Some(65) Some(66)
 ";
-    assert_eq!(rt; layout(alloc, &matrix)?.as_str(), wanted);
-    matrix.reduce();
-    let wanted = format!(in alloc;
-        "{:?} true [1]\n[64, 67] false [2, 3]\n[65, 66, 67] true [3]\n",
-        long.as_slice()
-    )?;
-    assert_eq!(rt; rows(alloc, &matrix)?.as_str(), wanted.as_str());
+    format!(in alloc;
+        "{layout}{:?} true [1]\n[64, 67] false [2, 3]\n[65, 66, 67] true [3]\n",
+        long
+    )
+}
+
+/// Whether a long row and two short ones, whose part begins inside a word, are told as they should.
+fn is_told_across_words(alloc: Global, long: &[u32]) -> Result<bool, AllocError> {
+    let parities = [long, &[64, 65, 66], &[65, 66, 67]];
+    let told = told(alloc, 67, &parities, &[Shown::Layout, Shown::Reduced])?;
+    Ok(told.as_str() == wanted_of_long_row(alloc, long)?.as_str())
+}
+
+#[test]
+fn a_part_lies_across_two_words(rt: HostRuntime) -> Result<(), Fail> {
+    let long = long_row(rt.alloc())?;
+    assert!(rt; is_told_across_words(rt.alloc(), &long)?);
     Ok(())
 }

@@ -3,6 +3,7 @@ use crate::parities::parities_of;
 use crate::parts::rows;
 use cx_base::{Lit, Var};
 use gf2_matrix::Matrix;
+use std::alloc::{AllocError, Global};
 use std::test::Fail;
 
 /// Pivots the row on the column, if it has it.
@@ -17,20 +18,45 @@ fn pivots(matrix: &mut Matrix, row: usize, column: usize) -> bool {
     has
 }
 
+/// Whether there is such a row, it has the variable, and it is the parity of these literals.
+fn is_parity(
+    alloc: Global,
+    matrix: &Matrix,
+    row: usize,
+    variable: Var,
+    wanted: &[Lit],
+) -> Result<bool, AllocError> {
+    if row >= matrix.rows() || variable.number() > matrix.vars() {
+        return Ok(false);
+    }
+    if !matrix.row_view(row).has(variable) {
+        return Ok(false);
+    }
+    let parity = matrix.row_parity(alloc, row)?;
+    Ok(parity.as_slice() == wanted)
+}
+
+/// A try to pivot on a column that the row lacks, a pivot, and what is told of the rows then.
+fn told(alloc: Global, matrix: &mut Matrix) -> Result<String, AllocError> {
+    let lacks = pivots(matrix, 0, 2);
+    let done = pivots(matrix, 0, 1);
+    let rows = rows(alloc, matrix)?;
+    let wanted = [Lit::new(Var::new(1), true), Lit::new(Var::new(3), false)];
+    let is_parity = is_parity(alloc, matrix, 1, Var::new(3), &wanted)?;
+    format!(in alloc; "{lacks} {done}\n{rows}{} {is_parity}\n", matrix.rows())
+}
+
 #[test]
 fn a_pivot_adds_the_sources(rt: HostRuntime) -> Result<(), Fail> {
     let alloc = rt.alloc();
     let parities = parities_of(alloc, 3, &[&[1, 2], &[2, 3]])?;
     let mut matrix = Matrix::make(alloc, 3, &parities)?;
-    assert!(rt; !pivots(&mut matrix, 0, 2));
-    assert!(rt; pivots(&mut matrix, 0, 1));
-    assert_eq!(rt;
-        rows(alloc, &matrix)?.as_str(),
-        "[1, 2] true [1]\n[1, 3] false [1, 2]\n"
-    );
-    assert!(rt; matrix.rows() == 2 && matrix.row_view(1).has(Var::new(3)));
-    let row = matrix.row_parity(alloc, 1)?;
-    let wanted = [Lit::new(Var::new(1), true), Lit::new(Var::new(3), false)];
-    assert_eq!(rt; row.as_slice(), wanted.as_slice());
+    let wanted = "\
+false true
+[1, 2] true [1]
+[1, 3] false [1, 2]
+2 true
+";
+    assert_eq!(rt; told(alloc, &mut matrix)?.as_str(), wanted);
     Ok(())
 }

@@ -60,22 +60,47 @@ fn lanes_give_what_plain_loops_give(rt: HostRuntime) -> Result<(), Fail> {
     Ok(())
 }
 
+/// What is found in a row: outside of a mask and outside of a place, from places on, and from places on outside of a mask.
+fn found(row: &[u64; 9], mask: &[u64; 9]) -> [Option<u64>; 8] {
+    [
+        first_outside(row, mask, None),
+        first_outside(row, mask, Some(575)),
+        next_one(row, 3),
+        next_one(row, 4),
+        next_one(row, 576),
+        next_outside(row, &[0; 9], 3),
+        next_outside(row, mask, 3),
+        next_outside(row, mask, 576),
+    ]
+}
+
 #[test]
 fn worked_rows(rt: HostRuntime) {
-    assert_eq!(rt; ones(&[1; 9]), 9);
     let row = [8, 0, 0, 0, 0, 0, 0, 0, 1 << 63];
     let mask = [8, 0, 0, 0, 0, 0, 0, 0, 0];
-    assert_eq!(rt; first_outside(&row, &mask, None), Some(575));
-    assert_eq!(rt; first_outside(&row, &mask, Some(575)), None);
-    assert_eq!(rt; next_one(&row, 3), Some(3));
-    assert_eq!(rt; next_one(&row, 4), Some(575));
-    assert_eq!(rt; next_one(&row, 576), None);
-    assert_eq!(rt; next_outside(&row, &[0; 9], 3), Some(3));
-    assert_eq!(rt; next_outside(&row, &mask, 3), Some(575));
-    assert_eq!(rt; next_outside(&row, &mask, 576), None);
+    let wanted = [
+        Some(575),
+        None,
+        Some(3),
+        Some(575),
+        None,
+        Some(3),
+        Some(575),
+        None,
+    ];
+    assert_eq!(rt; found(&row, &mask), wanted);
+}
+
+/// The product of a full row with itself, and with one that lacks a bit.
+fn products() -> (bool, bool) {
     let full = [u64::MAX; 9];
-    assert!(rt; !parity_and(&full, &full));
     let mut less = full;
     less[8] ^= 1 << 17;
-    assert!(rt; parity_and(&full, &less));
+    (parity_and(&full, &full), parity_and(&full, &less))
+}
+
+#[test]
+fn ones_are_counted(rt: HostRuntime) {
+    assert_eq!(rt; ones(&[1; 9]), 9);
+    assert_eq!(rt; products(), (false, true));
 }
