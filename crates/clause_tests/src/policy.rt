@@ -1,4 +1,5 @@
 //! Worked examples of the search's policy.
+ghost use Rattle.std.specs.Prelude.{◌≡◌, ◌≤◌, length};
 
 use cx_base::{ClauseRef, Var};
 use cx_trail::Trail;
@@ -81,33 +82,54 @@ fn clauses_of_the_formula_stay(rt: HostRuntime) -> Result<(), Fail> {
 fn many_bumps_are_those_one_by_one(rt: HostRuntime) -> Result<(), Fail> {
     let trail = Trail::make(rt.alloc(), 3)?;
     let mut order = Order::make(rt.alloc(), 3)?;
-    assert_eq!(rt; order.pick(&trail), Some(Var::new(1)));
+    let new = order.pick(&trail);
     order.bump_by(Var::new(3), 4);
     order.bump_by(Var::new(2), 3);
-    assert_eq!(rt; order.pick(&trail), Some(Var::new(3)));
+    let third = order.pick(&trail);
     order.bump(Var::new(2));
-    assert_eq!(rt; order.pick(&trail), Some(Var::new(2)));
-    assert_eq!(rt; order.weight(), 1024);
+    let second = order.pick(&trail);
+    let told = format!(in rt.alloc(); "{new:?} {third:?} {second:?} {}", order.weight())?;
+    let wanted = "Some(Var { number: 1 }) Some(Var { number: 3 }) Some(Var { number: 2 }) 1024";
+    assert_eq!(rt; told.as_str(), wanted);
     Ok(())
+}
+
+/// Bumps the first variable up to one time below the bound.
+fn bump_almost_to_bound(order: &mut Order)
+    requires { 1 ≤ length order.old.scores }
+    ensures { length order.new.scores ≡ length order.old.scores }
+{
+    order.bump_by(Var::new(1), 250_000_000);
+    order.bump_by(Var::new(1), 250_000_000);
+    order.bump_by(Var::new(1), 250_000_000);
+    order.bump_by(Var::new(1), 249_999_999);
+}
+
+/// Bumps the second variable as often as makes it equal to the first.
+fn bump_second(order: &mut Order)
+    requires { 2 ≤ length order.old.scores }
+    ensures { length order.new.scores ≡ length order.old.scores }
+{
+    order.bump_by(Var::new(2), 250_000_000);
+    order.bump_by(Var::new(2), 250_000_000);
+    order.bump_by(Var::new(2), 2);
 }
 
 #[test]
 fn bumps_go_on_after_all_scores_were_halved(rt: HostRuntime) -> Result<(), Fail> {
     let trail = Trail::make(rt.alloc(), 2)?;
     let mut order = Order::make(rt.alloc(), 2)?;
-    order.bump_by(Var::new(1), 250_000_000);
-    order.bump_by(Var::new(1), 250_000_000);
-    order.bump_by(Var::new(1), 250_000_000);
-    order.bump_by(Var::new(1), 249_999_999);
-    assert_eq!(rt; order.weight(), 1024);
+    bump_almost_to_bound(&mut order);
+    let before = order.weight();
     order.bump_by(Var::new(1), 3);
-    assert_eq!(rt; order.weight(), 512);
-    order.bump_by(Var::new(2), 250_000_000);
-    order.bump_by(Var::new(2), 250_000_000);
-    order.bump_by(Var::new(2), 2);
-    assert_eq!(rt; order.pick(&trail), Some(Var::new(1)));
+    let halved = order.weight();
+    bump_second(&mut order);
+    let equal = order.pick(&trail);
     order.bump(Var::new(2));
-    assert_eq!(rt; order.pick(&trail), Some(Var::new(2)));
+    let second = order.pick(&trail);
+    let told = format!(in rt.alloc(); "{before} {halved} {equal:?} {second:?}")?;
+    let wanted = "1024 512 Some(Var { number: 1 }) Some(Var { number: 2 })";
+    assert_eq!(rt; told.as_str(), wanted);
     Ok(())
 }
 

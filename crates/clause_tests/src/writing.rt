@@ -1,26 +1,31 @@
-//! Formulas and literals as the tests write them.
-ghost use Rattle.std.specs.Prelude.{◌≡◌, ◌≤◌};
-
+//! Literals and formulas as the tests write them: a literal as an integer.
 use cx_base::{ConstraintRef, Formula, Lit, Var};
+use std::alloc::{AllocError, Global};
 
-/// The positive literal.
-pub fn yes(number: u32) -> Lit
-    requires low { 1 ≤ number }
-    requires high { number ≤ 61 }
-{
-    Lit::new(Var::new(number), false)
+/// The literal of an integer from -99 to 99 that is not zero.
+pub(crate) fn lit(integer: i32) -> Lit {
+    let number = integer.unsigned_abs().clamp(1, 99);
+    Lit::new(Var::new(number), integer < 0)
 }
 
-/// The negative literal.
-pub fn no(number: u32) -> Lit
-    requires low { 1 ≤ number }
-    requires high { number ≤ 61 }
-{
-    Lit::new(Var::new(number), true)
+/// The literals of integers.
+pub(crate) fn lits(alloc: Global, integers: &[i32]) -> Result<Vec<Lit>, AllocError> {
+    integers.iter().map(|each| lit(*each)).collect(alloc)
+}
+
+/// The integer of a literal.
+pub(crate) fn integer(lit: Lit) -> i64 {
+    let number = i64::from(lit.var().number());
+    if lit.is_negative() { -number } else { number }
+}
+
+/// The integers of literals.
+pub(crate) fn integers(alloc: Global, lits: &[Lit]) -> Result<Vec<i64>, AllocError> {
+    lits.iter().map(|each| integer(*each)).collect(alloc)
 }
 
 /// How many clauses a formula has.
-pub fn clause_count(formula: &Formula) -> usize {
+fn clause_count(formula: &Formula) -> usize {
     let mut count = 0usize;
     for place in 0..formula.len() {
         if let ConstraintRef::Clause(_) = formula.item(place) {
@@ -30,24 +35,31 @@ pub fn clause_count(formula: &Formula) -> usize {
     count
 }
 
-/// Whether the clause with these literals stands at a place.
-pub fn is_clause(formula: &Formula, place: usize, expected: &[Lit]) -> bool {
+/// The constraint at a place; a parity has an `x` in front.
+fn show_item(alloc: Global, formula: &Formula, place: usize) -> Result<String, AllocError> {
     if place >= formula.len() {
-        return false;
+        return format!(in alloc; "{place}: none\n");
     }
     match formula.item(place) {
-        ConstraintRef::Clause(lits) => lits == expected,
-        ConstraintRef::Parity(_) => false,
+        ConstraintRef::Clause(lits) => {
+            format!(in alloc; "{place}: {:?}\n", integers(alloc, lits)?.as_slice())
+        }
+        ConstraintRef::Parity(lits) => {
+            format!(in alloc; "{place}: x {:?}\n", integers(alloc, lits)?.as_slice())
+        }
     }
 }
 
-/// Whether the parity with these literals stands at a place.
-pub fn is_parity(formula: &Formula, place: usize, expected: &[Lit]) -> bool {
-    if place >= formula.len() {
-        return false;
+/// How many variables, constraints and clauses a formula has, and its constraints at these places.
+pub(crate) fn show(
+    alloc: Global,
+    formula: &Formula,
+    places: &[usize],
+) -> Result<String, AllocError> {
+    let (vars, len) = (formula.vars(), formula.len());
+    let mut text = format!(in alloc; "{vars} {len} {}\n", clause_count(formula))?;
+    for place in places {
+        text.push_str(show_item(alloc, formula, *place)?.as_str())?;
     }
-    match formula.item(place) {
-        ConstraintRef::Clause(_) => false,
-        ConstraintRef::Parity(lits) => lits == expected,
-    }
+    Ok(text)
 }
