@@ -15,7 +15,7 @@ use crate::take::{
     take_clause, take_clause_of_parity, take_original, take_original_parity, take_parity,
     take_parity_of_clauses,
 };
-use cx_base::{Formula, LogStep, ProofStep};
+use cx_base::{Formula, IntList, LogStep, ProofStep};
 use proof_rules::JudgeRefusal;
 use std::alloc::Global;
 
@@ -64,9 +64,12 @@ pub fn take_step(
         LogStep::OriginalParity(id, lits) => {
             take_original_parity(alloc, formula, originals, state, id, &lits)
         }
-        LogStep::Clause(id, lits) => take_clause(alloc, formula, state, id, lits, &[]),
+        LogStep::Clause(id, lits) => {
+            let none = IntList::from_vec(Vec::new(alloc));
+            take_clause(alloc, formula, state, id, lits, none)
+        }
         LogStep::ClauseWithHints(id, lits, hints) => {
-            take_clause(alloc, formula, state, id, lits, hints.as_slice())
+            take_clause(alloc, formula, state, id, lits, hints)
         }
         LogStep::Parity(id, lits, ids) => {
             take_parity(alloc, formula, state, id, lits, ids.as_slice())

@@ -54,16 +54,22 @@ fn admit(
 }
 
 /// The hints that name in the proof what these hints name in the log.
-fn renamed(alloc: Global, names: &Names, given: &[i64]) -> Result<IntList, AllocError>
-    ensures { IfOk result (λ hints. hints ≡ hints_for names.now (sizes given.now)) }
+///
+/// They are written over these, so that no list is made anew.
+fn renamed(names: &Names, hints: IntList) -> IntList
+    ensures { result ≡ hints_for names.now (sizes hints) }
 {
-    let mut hints = Vec::with_capacity(alloc, given.len())?;
-    for hint in given {
-        if let Some(id) = names.get(hint.unsigned_abs()) {
-            hints.push(id.hint())?;
+    let mut list = hints.into_vec();
+    let count = list.len();
+    let mut kept = 0;
+    for place in 0..count {
+        if let Some(id) = names.get(list[place].unsigned_abs()) {
+            list[kept] = id.hint();
+            kept += 1;
         }
     }
-    Ok(IntList::from_vec(hints))
+    list.truncate(kept);
+    IntList::from_vec(list)
 }
 
 /// Whether the clauses that the hints name are in this order a right chain for the clause.
@@ -106,15 +112,15 @@ fn chain_hints(
     live: &mut IndexedClauses,
     names: &Names,
     target: &LitList,
-    given: &[i64],
+    given: IntList,
 ) -> Result<IntList, JudgeRefusal>
     ensures same { live.new ≡ live.old }
     ensures chain { GivesHints live.old.clauses names.now target.now result }
 {
-    if are_chain(live, target, given)? {
-        return Ok(renamed(alloc, names, given)?);
+    if are_chain(live, target, given.as_slice())? {
+        return Ok(renamed(names, given));
     }
-    let ids = chain_of(alloc, live, target, given)?;
+    let ids = chain_of(alloc, live, target, given.as_slice())?;
     Ok(hints_of(alloc, names, ids.as_slice())?)
 }
 
@@ -175,7 +181,7 @@ pub fn take_clause(
     state: &mut State,
     id: u64,
     lits: IntList,
-    given: &[i64],
+    given: IntList,
 ) -> Result<Option<ProofStep>, JudgeRefusal>
     requires room { state.old.clauses.last < MAX_ID }
     ensures taken { TakesLogStep formula.now state.old (step.Clause id lits) result state.new }

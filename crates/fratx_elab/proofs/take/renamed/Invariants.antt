@@ -1,11 +1,13 @@
-use Rattle.std.proofs.Common.{◌≡◌, ◌++◌, drop}
+use Rattle.std.proofs.Common.{◌≡◌, ◌≤◌, ◌++◌, take, drop, vec_len}
 use Rattle.cx_base.specs.Integers.{sizes}
 use Rattle.cx_base.specs.Numbers.{AreStepIntegers}
 use Rattle.fratx_elab.specs.Names.{hints_for}
 use Rattle.fratx_elab.proofs.take.renamed.Given as goal
 
-abbrev pub invariant-loop-hint : goal.invariant-loop-hint
-invariant-loop-hint l = record {
-  so_far : l.hints.items ++ hints_for l.names (sizes (drop l.hint-index l.given)) ≡ hints_for l.names (sizes l.given);
-  proper : AreStepIntegers l.hints.items;
+abbrev pub invariant-loop-place : goal.invariant-loop-place
+invariant-loop-place l = record {
+  so_far : take l.kept l.list.items ++ hints_for l.names (sizes (drop l.place l.list.items)) ≡ hints_for l.names (sizes l.fn.hints);
+  proper : AreStepIntegers l.list.items;
+  kept_before : l.kept ≤ l.place;
+  same_count : vec_len l.list ≡ l.count;
 }
