@@ -1,5 +1,5 @@
 -- The numbers of lists of literals by what these say.
-use Rattle.std.proofs.Common.{◌≡◌, refl, sym, ap, ◌∙◌, subst, ℕ, ◌+◌, ◌-◌, ◌≤◌, Bool, true, false, cond, List, [], ◌∷◌, ◌++◌, length, get_or, take, drop, ◌<◌, arith, length-append, Option, Some, None, MatchOption, IsTrue, IsFalse, is_some, inl, inr, Vec, Global, true≢false, is_eq, nat_cmp, Equal}
+use Rattle.std.proofs.Common.{◌≡◌, refl, sym, ap, ◌∙◌, subst, ℕ, ◌+◌, ◌-◌, ◌≤◌, Bool, true, false, cond, List, [], ◌∷◌, ◌++◌, length, get_or, take, drop, ◌<◌, arith, length-append, Option, Some, None, MatchOption, IsTrue, IsFalse, inl, inr, true≢false, is_eq, nat_cmp, Equal}
 use Rattle.std.specs.Prelude.{slice_get}
 use Rattle.std.specs.List.{AllByRecursion}
 use Rattle.std.proofs.lemmas.List.{length-take-le, take-append-drop, get_or_append_left, get_or_push}
