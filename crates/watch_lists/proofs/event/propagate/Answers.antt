@@ -1,14 +1,16 @@
-use Rattle.std.proofs.Common.{◌≡◌, ◌<◌, ◌+◌, List, Bool, length, sym, ap, ◌∙◌, subst, arith}
+use Rattle.std.proofs.Common.{◌≡◌, ◌<◌, ◌≤◌, ◌+◌, ◌*◌, ℕ, List, Bool, length, refl, sym, ap, ◌∙◌, subst, arith}
 use Rattle.std.proofs.lemmas.List.{get_or_read, length-set, length-append}
-use Rattle.cx_base.specs.Literals.{negate}
+use Rattle.clause_arena.specs.Clauses.{IsLive}
+use Rattle.cx_base.specs.Literals.{Literal, negate}
 use Rattle.cx_trail.specs.declared.entry.Entry.{Entry}
 use Rattle.cx_trail.specs.Sequence.{entry_at}
 use Rattle.cx_trail.proofs.ValueLaws.{entry_kept}
-use Rattle.watch_lists.specs.Watching.{looked_at}
+use Rattle.watch_lists.specs.Watching.{looked_at, IsAttached}
 use Rattle.watch_lists.specs.Walking.{AllPassed}
-use Rattle.watch_lists.proofs.NodeLaws.{propagates_both}
+use Rattle.watch_lists.proofs.NodeLaws.{propagates_both, propagates_none}
 use Rattle.watch_lists.proofs.WalkLaws.{behind_further}
 use Rattle.watch_lists.proofs.EventLaws.{quiet_from, advance_behind, advance_guarded, goes_same, rest_same}
+use Rattle.watch_lists.proofs.event.propagate.Goals.{At-ahead, After-index-head}
 use Rattle.watch_lists.proofs.event.propagate.Goals as goal
 
 pub returns-in-Some-clause-guarded : goal.returns-in-Some-clause-guarded
@@ -67,3 +69,100 @@ returns-in-Some-clause-behind c =
     let i = c.ahead.invariant in
     let g = goes_same _ _ c.args.nodes.now.attached.items _ _ _ _ i.attached c.in-Some.ensures.goes in
     behind_further c.ahead.looked.items c.args.nodes.now.attached.items c.args.arena.now c.ahead.trail _ g.propagates i.behind
+
+-- what the loop keeps, at its head and behind it
+top_in : (c : At-ahead) → c.level-top.result < c.ahead.looked.len
+top_in c = omega (arith, c.ahead.looked.ok.0, c.ahead.invariant.top, c.requires.top, c.level-top.ensures.level)
+
+head_in : (c : After-index-head) → c.index-head.result.now < length c.ahead.trail.entries
+head_in c =
+    let looked = c.ahead.looked.items in
+    let lt : c.level-top.result < length looked = omega (arith, c.ahead.invariant.top, c.requires.top, c.level-top.ensures.level) in
+    let first = get_or_read looked c.level-top.result _ lt c.index.ensures 0 in
+    let again = get_or_read looked c.level-top.result _ lt c.index-head.ensures 0 in
+    omega (arith, c.ahead-test.true, c.len.ensures.len, first, again)
+
+pub ahead-init : goal.ahead-init
+ahead-init c =
+    let r = c.requires in
+    record {
+      attached = refl;
+      top = refl;
+      rest = r.rest;
+      room = refl;
+      behind = r.behind;
+      guarded = r.guarded;
+      propagates = propagates_none c.args.nodes.now.attached.items c.args.arena.now c.args.trail.now;
+    }
+
+pub index-requires : goal.index-requires
+index-requires c = top_in c
+
+pub index-head-requires : goal.index-head-requires
+index-head-requires c = top_in (goal.at.index-head-requires c).At-ahead
+
+pub index_mut-requires : goal.index_mut-requires
+index_mut-requires c = top_in (goal.at.index_mut-requires c).At-ahead
+
+pub entry-entry-requires : goal.entry-entry-requires
+entry-entry-requires c = head_in (goal.at.entry-entry-requires c).After-index-head
+
+pub read_next-requires-clause-live : goal.read_next-requires-clause-live
+read_next-requires-clause-live c =
+    let i = c.ahead.invariant in
+    subst (λ (xs : List Bool). (r : ℕ) → IsAttached xs r → IsLive c.args.arena.now r) (sym (c.deref.ensures.value ∙ i.attached)) i.rest.nodes.live
+
+pub read_next-requires-clause-pairs : goal.read_next-requires-clause-pairs
+read_next-requires-clause-pairs c =
+    let i = c.ahead.invariant in
+    i.rest.nodes.pairs ∙ ap (λ (xs : List Bool). 2 * length xs) (sym (c.deref.ensures.value ∙ i.attached))
+
+pub read_next-requires-clause-size : goal.read_next-requires-clause-size
+read_next-requires-clause-size c =
+    let i = c.ahead.invariant in
+    i.rest.size ∙ ap (λ n. 2 * n + 2) (sym i.propagates.variables)
+
+pub walk_list-requires-clause-high : goal.walk_list-requires-clause-high
+walk_list-requires-clause-high c =
+    let high = c.entry-entry.ensures.sound.high c.index-head.result.now (head_in (goal.at.walk_list-requires-clause-high c).After-index-head) in
+    subst (λ (l : Literal). l.variable ≤ c.ahead.trail.variables) (sym c.negate.ensures) (subst (λ (e : Entry). e.literal.variable ≤ c.ahead.trail.variables) (sym c.entry-entry.ensures.is) high)
+
+pub walk_list-requires-clause-rest : goal.walk_list-requires-clause-rest
+walk_list-requires-clause-rest c =
+    let i = c.ahead.invariant in
+    rest_same _ _ _ _ _ _ _ (sym i.propagates.variables) (sym i.attached) i.rest
+
+pub returns-clause-attached : goal.returns-clause-attached
+returns-clause-attached c = c.ahead.invariant.attached
+
+pub returns-clause-top : goal.returns-clause-top
+returns-clause-top c = c.ahead.invariant.top
+
+pub returns-clause-rest : goal.returns-clause-rest
+returns-clause-rest c = c.ahead.invariant.rest
+
+pub returns-clause-room : goal.returns-clause-room
+returns-clause-room c = c.ahead.invariant.room
+
+pub returns-clause-behind : goal.returns-clause-behind
+returns-clause-behind c = c.ahead.invariant.behind
+
+pub returns-clause-guarded : goal.returns-clause-guarded
+returns-clause-guarded c = c.ahead.invariant.guarded
+
+pub returns-clause-propagates : goal.returns-clause-propagates
+returns-clause-propagates c = c.ahead.invariant.propagates
+
+pub returns-in-Some-clause-attached : goal.returns-in-Some-clause-attached
+returns-in-Some-clause-attached c = c.in-Some.ensures.attached ∙ c.ahead.invariant.attached
+
+pub returns-in-Some-clause-rest : goal.returns-in-Some-clause-rest
+returns-in-Some-clause-rest c =
+    let i = c.ahead.invariant in
+    rest_same _ _ _ _ _ _ _ i.propagates.variables i.attached c.in-Some.ensures.rest
+
+pub returns-in-Some-clause-room : goal.returns-in-Some-clause-room
+returns-in-Some-clause-room c = c.ahead.invariant.room
+
+pub returns-in-Some-clause-top : goal.returns-in-Some-clause-top
+returns-in-Some-clause-top c = c.ahead.invariant.top

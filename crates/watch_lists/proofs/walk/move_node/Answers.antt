@@ -1,7 +1,47 @@
-use Rattle.std.proofs.Common.{ℕ, List, subst}
+use Rattle.std.proofs.Common.{ℕ, ◌<◌, ◌∙◌, Bool, List, length, set, sym, ap, subst, arith}
+use Rattle.std.proofs.lemmas.List.{length-set}
+use Rattle.cx_base.specs.Literals.{Literal}
 use Rattle.std.specs.List.{Contains}
-use Rattle.watch_lists.specs.Lists.{list_at}
+use Rattle.watch_lists.specs.Lists.{list_at, IsFlagged, IsLinked}
 use Rattle.watch_lists.proofs.walk.move_node.Goals as goal
 
 pub relink-requires-clause-free : goal.relink-requires-clause-free
 relink-requires-clause-free c l h = c.unlink-shorter.ensures.free l (subst (λ (xs : List (List ℕ)). Contains (list_at xs l) c.args.cursor.current) c.watch.ensures.lists h)
+
+pub unlink-shorter-requires-clause-cursor : goal.unlink-shorter-requires-clause-cursor
+unlink-shorter-requires-clause-cursor c = c.requires.cursor
+
+pub unlink-shorter-requires-clause-some : goal.unlink-shorter-requires-clause-some
+unlink-shorter-requires-clause-some c = c.requires.some
+
+pub watch-requires : goal.watch-requires
+watch-requires c = subst (λ (h : List Literal). c.args.cursor.current < length h) (sym c.unlink-shorter.ensures.held) c.requires.node
+
+pub relink-requires-clause-flagged : goal.relink-requires-clause-flagged
+relink-requires-clause-flagged c = subst (λ (flags : List Bool). IsFlagged flags c.args.cursor.current) (sym c.watch.ensures.flags) c.unlink-shorter.ensures.flagged
+
+pub relink-requires-clause-list : goal.relink-requires-clause-list
+relink-requires-clause-list c = omega (arith, c.code.ensures.code, ap length c.watch.ensures.lists, c.unlink-shorter.ensures.unlinked.count, c.requires.high)
+
+pub relink-requires-clause-node : goal.relink-requires-clause-node
+relink-requires-clause-node c =
+    omega (arith, ap length c.watch.ensures.held ∙ length-set c.unlink-shorter.new.self.held c.args.cursor.current c.args.literal, ap length c.unlink-shorter.ensures.held, c.requires.node)
+
+pub returns-clause-moved : goal.returns-clause-moved
+returns-clause-moved c =
+    let new = c.relink.new.self.lists in
+    let n = c.args.cursor.current in
+    record {
+      between = c.unlink-shorter.new.self.lists;
+      unlinked = c.unlink-shorter.ensures.unlinked;
+      free = c.unlink-shorter.ensures.free;
+      linked = subst (λ l. IsLinked n l c.unlink-shorter.new.self.lists new) c.code.ensures.code
+          (subst (λ (xs : List (List ℕ)). IsLinked n c.code.result xs new) c.watch.ensures.lists c.relink.ensures.linked);
+    }
+
+pub returns-clause-shorter : goal.returns-clause-shorter
+returns-clause-shorter c = c.unlink-shorter.ensures.shorter
+
+pub returns-clause-held : goal.returns-clause-held
+returns-clause-held c =
+    c.relink.ensures.held ∙ c.watch.ensures.held ∙ ap (λ (h : List Literal). set h c.args.cursor.current c.args.literal) c.unlink-shorter.ensures.held

@@ -1,9 +1,10 @@
-use Rattle.std.proofs.Common.{List, sym, subst, arith}
+use Rattle.std.proofs.Common.{List, refl, sym, subst, arith}
 use Rattle.cx_base.specs.Literals.{Literal}
 use Rattle.cx_base.proofs.LiteralLaws.{code_below}
 use Rattle.cx_trail.specs.Sequence.{TrailState, IsTrail}
 use Rattle.watch_lists.specs.Watching.{clause_of}
 use Rattle.watch_lists.specs.Walking.{IsRest, IsWalk, Goes, IsConflict}
+use Rattle.watch_lists.proofs.NodeLaws.{propagates_none}
 use Rattle.watch_lists.proofs.WalkLaws.{Moves, node_inside, node_attached, node_detached, literal_high, goes_kept, passed_walk, dropped_rest, dropped_walk, moved_rest, moved_walk, goes_moved}
 use Rattle.watch_lists.proofs.walk.visit.Goals.{After-move_node}
 use Rattle.watch_lists.proofs.walk.visit.Goals as goal
@@ -100,3 +101,53 @@ returns-in-Conflict-clause-turns c =
     let at = node_attached _ _ b _ _ _ c.args.cursor c.index.result.now c.requires.walk c.requires.some c.index.ensures c.if-not-index.false in
     subst (λ r. IsConflict b a c.visit_node.new.trail r) (sym c.new.ensures)
     (subst (λ (t : TrailState). IsConflict b a t (clause_of c.args.cursor.current)) (sym v.0) (at, v.1))
+
+pub drop_node-requires-clause-cursor : goal.drop_node-requires-clause-cursor
+drop_node-requires-clause-cursor c = c.requires.walk.cursor
+
+pub drop_node-requires-clause-some : goal.drop_node-requires-clause-some
+drop_node-requires-clause-some c = c.requires.some
+
+pub move_node-requires-clause-cursor : goal.move_node-requires-clause-cursor
+move_node-requires-clause-cursor c = c.requires.walk.cursor
+
+pub move_node-requires-clause-some : goal.move_node-requires-clause-some
+move_node-requires-clause-some c = c.requires.some
+
+pub pass-requires-clause-cursor : goal.pass-requires-clause-cursor
+pass-requires-clause-cursor c = c.requires.walk.cursor
+
+pub pass-requires-clause-some : goal.pass-requires-clause-some
+pass-requires-clause-some c = c.requires.some
+
+pub visit_node-requires-clause-nodes : goal.visit_node-requires-clause-nodes
+visit_node-requires-clause-nodes c = c.requires.walk.rest.nodes
+
+pub visit_node-requires-clause-unmet : goal.visit_node-requires-clause-unmet
+visit_node-requires-clause-unmet c = c.requires.unmet
+
+pub returns-in-Conflict-clause-attached : goal.returns-in-Conflict-clause-attached
+returns-in-Conflict-clause-attached c = c.in-Conflict.ensures.attached
+
+pub returns-in-Conflict-clause-goes : goal.returns-in-Conflict-clause-goes
+returns-in-Conflict-clause-goes c = goes_kept _ _ _ _ _ c.in-Conflict.ensures.propagates
+
+pub returns-in-Conflict-clause-rest : goal.returns-in-Conflict-clause-rest
+returns-in-Conflict-clause-rest c = c.requires.walk.rest
+
+pub returns-in-Keep-clause-attached : goal.returns-in-Keep-clause-attached
+returns-in-Keep-clause-attached c = c.in-Keep.ensures.attached
+
+pub returns-in-Keep-clause-rest : goal.returns-in-Keep-clause-rest
+returns-in-Keep-clause-rest c = c.requires.walk.rest
+
+pub returns-in-Move-clause-attached : goal.returns-in-Move-clause-attached
+returns-in-Move-clause-attached c = c.in-Move.ensures.attached
+
+pub returns-then-not-index-clause-attached : goal.returns-then-not-index-clause-attached
+returns-then-not-index-clause-attached c = refl
+
+pub returns-then-not-index-clause-goes : goal.returns-then-not-index-clause-goes
+returns-then-not-index-clause-goes c =
+    subst (λ (h : List Literal). Goes c.args.lists.now.held h c.args.nodes.now.attached.items c.args.arena.now c.args.trail.now c.args.trail.now) (sym c.drop_node.ensures.held)
+    (goes_kept _ _ _ _ _ (propagates_none c.args.nodes.now.attached.items c.args.arena.now c.args.trail.now))
