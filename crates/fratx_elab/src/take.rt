@@ -1,5 +1,5 @@
 //! One step of a log: judged, done, and what the proof gains by it.
-ghost use Rattle.std.specs.Prelude.{◌≡◌, ◌≤◌, ◌<◌, ◌+◌, pos, length, true, IfOk, OnOk};
+ghost use Rattle.std.specs.Prelude.{◌≡◌, ◌≤◌, ◌<◌, ◌+◌, pos, length, take, IfOk, OnOk};
 ghost use Rattle.cx_base.specs.Integers.{sizes};
 ghost use Rattle.cx_base.specs.Problem.{Problem};
 ghost use Rattle.cx_semantics.specs.Chain.{IsChain};
@@ -72,16 +72,13 @@ fn renamed(names: &Names, hints: IntList) -> IntList
     IntList::from_vec(list)
 }
 
-/// Whether the clauses that the hints name are in this order a right chain for the clause.
-fn are_chain(live: &mut IndexedClauses, target: &LitList, hints: &[i64]) -> Result<bool, AllocError>
-    ensures same { live.new ≡ live.old }
-    ensures chain { IfOk result (λ yes. yes ≡ true → AreLive live.old.clauses (sizes hints.now) × IsChain target.now (named live.old.clauses (sizes hints.now))) }
+/// The first so many of the hints.
+fn front(hints: IntList, count: usize) -> IntList
+    ensures { result ≡ take count hints }
 {
-    match live.judge_chain(target, hints) {
-        Ok(()) => Ok(true),
-        Err(JudgeRefusal::Memory) => Err(AllocError),
-        Err(JudgeRefusal::Wrong(_)) => Ok(false),
-    }
+    let mut list = hints.into_vec();
+    list.truncate(count);
+    IntList::from_vec(list)
 }
 
 /// A list of live hints that is a right chain for the clause, or that there is none. The given hints are tried from the last to the
@@ -97,8 +94,8 @@ fn chain_of(
 {
     let mut reversed = Vec::from_slice(alloc, given)?;
     reversed.reverse();
-    if are_chain(live, target, &reversed)? {
-        return Ok(IdList::from_vec(ids_of(alloc, &reversed)?));
+    if let Some(count) = live.chain_length(target.as_slice(), &reversed)? {
+        return Ok(IdList::from_vec(ids_of(alloc, &reversed[..count])?));
     }
     match live.find(alloc, target.as_slice())? {
         Some(ids) => Ok(ids),
@@ -106,7 +103,8 @@ fn chain_of(
     }
 }
 
-/// The hints of a clause in the proof: the given ones as they stand, where they are a right chain, and else those of another chain.
+/// The hints of a clause in the proof: the given ones as they stand, up to the end of a right chain, if they are one, and else those of
+/// another chain.
 fn chain_hints(
     alloc: Global,
     live: &mut IndexedClauses,
@@ -117,8 +115,8 @@ fn chain_hints(
     ensures same { live.new ≡ live.old }
     ensures chain { GivesHints live.old.clauses names.now target.now result }
 {
-    if are_chain(live, target, given.as_slice())? {
-        return Ok(renamed(names, given));
+    if let Some(count) = live.chain_length(target.as_slice(), given.as_slice())? {
+        return Ok(renamed(names, front(given, count)));
     }
     let ids = chain_of(alloc, live, target, given.as_slice())?;
     Ok(hints_of(alloc, names, ids.as_slice())?)

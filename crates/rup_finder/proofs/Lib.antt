@@ -1,3 +1,4 @@
 pub mod Propagation
 pub mod ReadyLaws
 pub mod RecentLaws
+pub mod FrontLaws

@@ -1,3 +1,4 @@
 pub mod Saturation
 pub mod Ready
 pub mod Recent
+pub mod Front

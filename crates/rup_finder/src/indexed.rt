@@ -1,19 +1,19 @@
 //! Live clauses, and chains over them.
-ghost use Rattle.std.specs.Prelude.{◌≡◌, ◌++◌, IfOk, OnOk, OnErr, [], ◌∷◌, MatchOption, None, Some};
+ghost use Rattle.std.specs.Prelude.{◌≡◌, ◌≤◌, IfOk, IfSome, OnOk, OnErr, [], ◌∷◌, MatchOption, None, Some, length, take};
 ghost use Rattle.cx_semantics.specs.Chain.{IsChain};
 ghost use Rattle.cx_base.specs.Integers.{sizes};
 ghost use Rattle.cx_semantics.specs.LogRules.{AreLive, HasChain};
 ghost use Rattle.proof_rules.specs.Kinds.{chosen, put_constraint, drop_constraints};
-ghost use Rattle.cx_semantics.specs.ProofRules.{hinting, chaining};
 ghost use Rattle.cx_semantics.specs.Tables.{is_live, named, no_tables};
-ghost use Rattle.proof_rules.specs.Judges.{JudgesBy};
 ghost use Rattle.rup_engine.specs.Finding.{Answers};
+ghost use Rattle.rup_finder.specs.Front.{IsLiveChain};
 
+use crate::front::chain_length;
 use crate::ready::{ready, with_clause, without_clause};
 use crate::recent::{Recent, limit_beside};
 use crate::search::find;
 use cx_base::{IdList, Lit, LitList};
-use proof_rules::{JudgeRefusal, Kind, LiteralSet, Live, judge_chain};
+use proof_rules::{Kind, LiteralSet, Live};
 use rup_engine::{Answer, Engine};
 use std::alloc::{AllocError, Global};
 use std::marker::Model;
@@ -28,7 +28,7 @@ pub struct IndexedClauses {
     engine: Option<Engine>,
     /// Some of them, which are asked first.
     recent: Recent,
-    /// What a judge assumes, for its memory alone.
+    /// What a chain assumes, for its memory alone.
     assumed: LiteralSet,
 }
 
@@ -133,12 +133,18 @@ impl IndexedClauses {
         }
     }
 
-    /// Judges a clause by a chain of hints, as [`judge_chain`] does.
-    pub fn judge_chain(&mut self, target: &LitList, hints: &[i64]) -> Result<(), JudgeRefusal>
+    /// How many of the hints are a right chain of live clauses for the clause; none where no front of them is one.
+    ///
+    /// Each hint is looked up once, and none behind the chain's end.
+    pub fn chain_length(
+        &mut self,
+        target: &[Lit],
+        hints: &[i64],
+    ) -> Result<Option<usize>, AllocError>
         ensures same { self.new ≡ self.old }
-        ensures judged { JudgesBy (hinting self.old.clauses hints.now ++ chaining target.now (named self.old.clauses (sizes hints.now))) result }
+        ensures chain { IfOk result (λ found. IfSome found (λ count. (count ≤ length hints.now) × IsLiveChain self.old.clauses target.now (sizes (take count hints.now)))) }
     {
-        judge_chain(&mut self.assumed, &self.live, target, hints)
+        chain_length(&mut self.assumed, &self.live, target, hints)
     }
 
     /// A list of live hints that is a right chain for the clause; none where no list of live hints is one.

@@ -1,6 +1,7 @@
 //! Chains of hints for clauses that come without any, by unit propagation over the live clauses.
 #![tactic(auto)]
 
+mod front;
 mod indexed;
 mod ready;
 mod recent;

@@ -1,0 +1,23 @@
+-- The hints at the front of a list, as a chain.
+use Rattle.std.specs.Prelude.{◌≡◌, ℕ, List, [], ◌∷◌, ◌++◌, Some}
+use Rattle.cx_base.specs.Literals.{Literal}
+use Rattle.cx_semantics.specs.Chain.{negations, left, none, one, count_left, HaveSame, chain, IsChain}
+use Rattle.cx_semantics.specs.Tables.{Table, get, named}
+use Rattle.cx_semantics.specs.LogRules.{AreLive}
+use Rattle.rup_finder.specs.declared.front.Taken.{Taken}
+use Rattle.rup_finder.specs.declared.front.Taken.TheVariants.{Goes, Ends, Stops}
+
+-- The ids are live, and a chain of their clauses comes to these assumed literals.
+pub record HasReached (table : Table) (target : List Literal) (ids : List ℕ) (assumed : List Literal) : Type 0 where
+  pub live : AreLive table ids
+  pub chains : (behind : List (List Literal)) → chain (negations target) (named table ids ++ behind) ≡ chain assumed behind
+
+-- these ids are live, and their clauses are a right chain
+abbrev pub IsLiveChain : Table → List Literal → List ℕ → Type 0
+IsLiveChain table target ids = AreLive table ids × IsChain target (named table ids)
+
+-- What one more hint does: its clause leaves one literal, which is assumed then; or it leaves nothing; or the hints are no chain.
+abbrev pub Takes : Table → ℕ → List Literal → List Literal → Taken → Type 0
+Takes table id old new Goes = (clause : List Literal) × (l : Literal) × (get table id ≡ Some clause) × (one l ≡ count_left (left old clause)) × HaveSame new (l ∷ old)
+Takes table id old new Ends = (clause : List Literal) × (get table id ≡ Some clause) × (none ≡ count_left (left old clause))
+Takes table id old new Stops = Unit {0}

@@ -1,0 +1,57 @@
+//! How many hints of a list it takes to a right chain.
+ghost use Rattle.std.specs.Prelude.{◌≡◌, ◌≤◌, IfOk, IfSome, OnOk, length, take, nat_abs};
+ghost use Rattle.cx_base.specs.Integers.{sizes};
+ghost use Rattle.rup_finder.specs.Front.{IsLiveChain, Takes};
+
+use cx_base::Lit;
+use proof_rules::{LeftOf, LiteralSet, Live, left_of};
+use std::alloc::AllocError;
+
+/// What a hint does to a chain.
+#[derive(Clone, Copy, Drop)]
+pub enum Taken {
+    /// It gives one more literal.
+    Goes,
+    /// The chain ends with it, and is right.
+    Ends,
+    /// Its clause has more than one literal left, or is not live.
+    Stops,
+}
+
+/// Takes one more hint.
+fn take_hint(assumed: &mut LiteralSet, live: &Live, id: u64) -> Result<Taken, AllocError>
+    ensures { IfOk result (λ taken. Takes live.now.clauses id assumed.old assumed.new taken) }
+{
+    let clause = match live.clause(id) {
+        Some(clause) => clause,
+        None => return Ok(Taken::Stops),
+    };
+    match left_of(assumed, clause) {
+        LeftOf::Nothing => Ok(Taken::Ends),
+        LeftOf::One(lit) => {
+            assumed.insert(lit)?;
+            Ok(Taken::Goes)
+        }
+        LeftOf::More => Ok(Taken::Stops),
+    }
+}
+
+/// How many of the hints are a right chain of live clauses for the target; none where no front of them is one.
+pub fn chain_length(
+    assumed: &mut LiteralSet,
+    live: &Live,
+    target: &[Lit],
+    hints: &[i64],
+) -> Result<Option<usize>, AllocError>
+    ensures { IfOk result (λ found. IfSome found (λ count. (count ≤ length hints.now) × IsLiveChain live.now.clauses target.now (sizes (take count hints.now)))) }
+{
+    assumed.set_to_negations(target)?;
+    for place in 0..hints.len() {
+        match take_hint(assumed, live, hints[place].unsigned_abs())? {
+            Taken::Goes => {}
+            Taken::Ends => return Ok(Some(place + 1)),
+            Taken::Stops => return Ok(None),
+        }
+    }
+    Ok(None)
+}
