@@ -3,6 +3,7 @@ ghost use Rattle.std.specs.Prelude.{◌≡◌, ◌≤◌, IfOk, IfSome, OnOk, On
 ghost use Rattle.cx_semantics.specs.Chain.{IsChain};
 ghost use Rattle.cx_base.specs.Integers.{sizes};
 ghost use Rattle.cx_semantics.specs.LogRules.{AreLive, HasChain};
+ghost use Rattle.proof_rules.specs.declared.live.Kind.TheVariants.{Clauses};
 ghost use Rattle.proof_rules.specs.Kinds.{chosen, put_constraint, drop_constraints};
 ghost use Rattle.cx_semantics.specs.Tables.{is_live, named, no_tables};
 ghost use Rattle.rup_engine.specs.Finding.{Answers};
@@ -90,6 +91,21 @@ impl IndexedClauses {
         self.live.has(kind, id)
     }
 
+    /// Puts a clause under this id, in the engines too. On its own, so that a call without engines has no room of theirs
+    /// to clear.
+    #[inline(never)]
+    fn add_to_engines(&mut self, id: u64, lits: LitList) -> Result<(), AllocError>
+        ensures ok { OnOk result (self.new ≡ put_constraint Clauses self.old id lits) }
+        ensures err { OnErr result (self.new ≡ self.old) }
+    {
+        let engine = with_clause(self.engine.take(), id, lits.as_slice())?;
+        let recent = with_clause(self.recent.take(), id, lits.as_slice())?;
+        self.live.add(Kind::Clauses, id, lits)?;
+        self.engine = engine;
+        self.recent.engine = recent;
+        Ok(())
+    }
+
     /// Puts a constraint of this kind under this id, in the place of what is live under it. Without memory no table
     /// changes.
     pub fn add(&mut self, kind: Kind, id: u64, lits: LitList) -> Result<(), AllocError>
@@ -100,17 +116,25 @@ impl IndexedClauses {
             Kind::Clauses => {
                 // Without engines there is none to move.
                 if self.engine.is_none() && self.recent.engine.is_none() {
-                    return self.live.add(Kind::Clauses, id, lits);
+                    self.live.add(Kind::Clauses, id, lits)
+                } else {
+                    self.add_to_engines(id, lits)
                 }
-                let engine = with_clause(self.engine.take(), id, lits.as_slice())?;
-                let recent = with_clause(self.recent.take(), id, lits.as_slice())?;
-                self.live.add(Kind::Clauses, id, lits)?;
-                self.engine = engine;
-                self.recent.engine = recent;
-                Ok(())
             }
             Kind::Parities => self.live.add(Kind::Parities, id, lits),
         }
+    }
+
+    /// Takes the clause of this id out, of the engines too. On its own for the same reason.
+    #[inline(never)]
+    fn remove_from_engines(&mut self, id: u64)
+        ensures { self.new ≡ drop_constraints Clauses self.old (id ∷ []) }
+    {
+        let engine = without_clause(self.engine.take(), id);
+        let recent = without_clause(self.recent.take(), id);
+        self.live.remove(Kind::Clauses, id);
+        self.engine = engine;
+        self.recent.engine = recent;
     }
 
     /// Takes the constraint of this kind and id out; where none is live nothing changes.
@@ -121,13 +145,9 @@ impl IndexedClauses {
             Kind::Clauses => {
                 if self.engine.is_none() && self.recent.engine.is_none() {
                     self.live.remove(Kind::Clauses, id);
-                    return;
+                } else {
+                    self.remove_from_engines(id);
                 }
-                let engine = without_clause(self.engine.take(), id);
-                let recent = without_clause(self.recent.take(), id);
-                self.live.remove(Kind::Clauses, id);
-                self.engine = engine;
-                self.recent.engine = recent;
             }
             Kind::Parities => self.live.remove(Kind::Parities, id),
         }
