@@ -7,7 +7,7 @@ ghost use Rattle.cx_texts.specs.Printed.{printed_line, HasProofText};
 
 use cx_base::ProofStep;
 use cx_desk::{Desk, Failed, Port, put_all};
-use step_text::pieces::{put_deletion, put_head, put_id, put_ids, put_integer, put_line};
+use step_text::pieces::{put_deletion, put_id, put_ids, put_line};
 
 /// An id, literals and hints behind a text, as the end of a line.
 fn put_hinted<D: Desk>(
@@ -21,20 +21,6 @@ fn put_hinted<D: Desk>(
     ensures { PutsAll port (before.now ++ printed_line (flat_map spelled (id name ∷ integers literals.now ∷ integers hints.now ∷ []))) (D.outside desk.old) result (D.outside desk.new) }
 {
     put_line(desk, port, before, name, literals, hints)
-}
-
-/// A clause that a parity implies.
-fn put_implied<D: Desk>(
-    desk: &mut D,
-    port: Port,
-    name: u64,
-    literals: &[i64],
-    hint: i64,
-) -> Result<(), Failed>
-    ensures { PutsAll port (printed_line (flat_map spelled (mark 105 ∷ id name ∷ integers literals.now ∷ integer hint ∷ end ∷ []))) (D.outside desk.old) result (D.outside desk.new) }
-{
-    put_head(desk, port, b"i ", name, literals, b"")?;
-    put_integer(desk, port, hint, b" 0\n")
 }
 
 /// A deletion of clauses.
@@ -87,7 +73,7 @@ pub fn put_proof_step<D: Desk>(desk: &mut D, port: Port, step: &ProofStep) -> Re
         }
         ProofStep::DeleteParities(names) => put_parity_deletion(desk, port, names.as_slice()),
         ProofStep::ClauseOfParity(id, literals, hint) => {
-            put_implied(desk, port, *id, literals.as_slice(), *hint)
+            put_hinted(desk, port, b"i ", *id, literals.as_slice(), &[*hint])
         }
         ProofStep::ParityOfClauses(id, literals, hints) => {
             put_hinted(

@@ -25,20 +25,6 @@ pub fn put_id<D: Desk>(
     put_pieces(desk, port, &[before, text.as_bytes(), after])
 }
 
-/// An integer behind a space, and a text.
-pub fn put_integer<D: Desk>(
-    desk: &mut D,
-    port: Port,
-    integer: i64,
-    after: &[u8],
-) -> Result<(), Failed>
-    ensures { PutsAll port (spaced_integer integer ++ after.now) (D.outside desk.old) result (D.outside desk.new) }
-{
-    let mut buffer = Buffer::new();
-    let text = buffer.format(integer);
-    put_pieces(desk, port, &[b" ", text.as_bytes(), after])
-}
-
 /// The most integers that are written in one piece.
 const AT_ONCE: usize = 16;
 
