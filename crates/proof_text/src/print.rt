@@ -43,6 +43,9 @@ fn put_clause_deletion<D: Desk>(
 fn put_parity_deletion<D: Desk>(desk: &mut D, port: Port, names: &[u64]) -> Result<(), Failed>
     ensures { PutsAll port (printed_line (flat_map spelled (mark 120 ∷ mark 100 ∷ ids names.now ∷ []))) (D.outside desk.old) result (D.outside desk.new) }
 {
+    if let [deleted] = names {
+        return put_id(desk, port, b"x d ", *deleted, b" 0\n");
+    }
     put_all(desk, port, b"x d")?;
     put_ids(desk, port, names)
 }

@@ -118,6 +118,11 @@ one_name_line n m =
     ap (λ l. decimal n ++ 32 ∷ 100 ∷ l) (number_tail (pos m))
     ∙ sym (line_spaced (number (pos n)) (letter 100 ∷ number (pos m) ∷ number (pos 0) ∷ []))
 
+pub one_parity_name_line : (m : ℕ) → (120 ∷ 32 ∷ 100 ∷ 32 ∷ []) ++ (decimal m ++ 32 ∷ 48 ∷ 10 ∷ []) ≡ printed_line (letter 120 ∷ letter 100 ∷ (spelled_list (map pos (m ∷ [])) ++ []))
+one_parity_name_line m =
+    ap (λ l. 120 ∷ 32 ∷ 100 ∷ l) (number_tail (pos m))
+    ∙ sym (line_spaced (letter 120) (letter 100 ∷ number (pos m) ∷ number (pos 0) ∷ []))
+
 pub parity_names_line : (ns : List ℕ) → (120 ∷ 32 ∷ 100 ∷ []) ++ (spaced (spelled_list (map pos ns)) ++ 10 ∷ []) ≡ printed_line (letter 120 ∷ letter 100 ∷ (spelled_list (map pos ns) ++ []))
 parity_names_line ns =
     ap (λ ws. 120 ∷ 32 ∷ 100 ∷ (spaced ws ++ 10 ∷ [])) (sym (append-nil (spelled_list (map pos ns))))
