@@ -1,6 +1,7 @@
 pub mod SumLaws
 pub mod LiteralLaws
 pub mod ChainSteps
+pub mod NamedHints
 pub mod ParityValues
 pub mod ClauseValues
 pub mod ExclusionLaws

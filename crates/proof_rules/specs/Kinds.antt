@@ -1,9 +1,9 @@
 -- The table of a kind of constraint, and the lists that hints name in it.
-use Rattle.std.specs.Prelude.{◌≡◌, ℕ, ℤ, Bool, true, false, List}
-use Rattle.std.specs.List.{list_any}
+use Rattle.std.specs.Prelude.{◌≡◌, ◌&&◌, ℕ, ℤ, Bool, true, false, not, nat_abs, List}
+use Rattle.std.specs.List.{list_any, list_all}
 use Rattle.std.specs.Ordering.{nat_cmp, eq_by_cmp}
 use Rattle.cx_base.specs.Literals.{Literal}
-use Rattle.cx_base.specs.Integers.{sizes}
+use Rattle.cx_base.specs.Integers.{is_negative, sizes}
 use Rattle.cx_semantics.specs.Tables.{Table, Tables, is_live, named, put_clause, put_parity, drop_clauses, drop_parities}
 use Rattle.proof_rules.specs.declared.live.Kind.{Kind}
 use Rattle.proof_rules.specs.declared.live.Kind.TheVariants.{Clauses, Parities}
@@ -28,6 +28,13 @@ is_clauses Parities = false
 -- the lists that the hints name, in order and with repeats
 abbrev pub hinted : Table → List ℤ → List (List Literal)
 hinted table hints = named table (sizes hints)
+
+-- a hint is not negative and names a live list, and so does each of the hints
+abbrev pub names_live : Table → ℤ → Bool
+names_live table z = not (is_negative z) && is_live table (nat_abs z)
+
+abbrev pub all_named : Table → List ℤ → Bool
+all_named table hints = list_all (names_live table) hints
 
 -- an id is live exactly where it stands in the list
 abbrev pub ListsLive : Table → List ℕ → Type 0

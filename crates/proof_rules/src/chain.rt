@@ -1,15 +1,16 @@
 //! Chains of hints.
-ghost use Rattle.std.specs.Prelude.{◌≡◌, IfOk};
-ghost use Rattle.cx_semantics.specs.Chain.{left, count_left, chain, negations};
-ghost use Rattle.cx_semantics.specs.ProofRules.{chaining};
-ghost use Rattle.proof_rules.specs.Ends.{left_seen, end_seen, and_one};
+ghost use Rattle.std.specs.Prelude.{◌≡◌, ◌++◌, true, false, nat_abs, Some, IfOk, MatchOption};
+ghost use Rattle.cx_semantics.specs.Chain.{left, count_left};
+ghost use Rattle.cx_semantics.specs.ProofRules.{hinting, chaining};
+ghost use Rattle.cx_semantics.specs.Tables.{get};
+ghost use Rattle.proof_rules.specs.Ends.{left_seen, and_one, EndsAs};
 ghost use Rattle.proof_rules.specs.Judges.{JudgesBy};
-ghost use Rattle.proof_rules.specs.Kinds.{hinted};
+ghost use Rattle.proof_rules.specs.Kinds.{hinted, names_live, all_named};
 
 use crate::JudgeRefusal;
-use crate::hints::id_of;
+use crate::hints::{id_of, judge_hints};
 use crate::literal_set::LiteralSet;
-use crate::live::Live;
+use crate::live::{Kind, Live};
 use cx_base::Lit;
 use cx_semantics::Cause;
 use std::alloc::AllocError;
@@ -65,35 +66,74 @@ pub fn left_of(assumed: &LiteralSet, clause: &[Lit]) -> LeftOf
     found
 }
 
-/// How the chain of the hinted clauses ends. No hint is taken behind the one that ends it.
-fn chain_end(assumed: &mut LiteralSet, live: &Live, hints: &[i64]) -> Result<End, AllocError>
-    ensures { IfOk result (λ end. end_seen end ≡ chain assumed.old (hinted live.now.clauses hints.now)) }
+/// The live clause that a hint names, which is not negative.
+fn hinted_clause(live: &Live, hint: i64) -> Option<&[Lit]>
+    ensures { MatchOption result (names_live live.now.clauses hint ≡ false) (λ clause. (names_live live.now.clauses hint ≡ true) × (get live.now.clauses (nat_abs hint) ≡ Some clause.now)) }
 {
-    for hint in hints {
-        if let Some(clause) = live.clause(id_of(*hint)) {
-            match left_of(assumed, clause) {
-                LeftOf::Nothing => return Ok(End::Right),
-                LeftOf::One(lit) => assumed.insert(lit)?,
-                LeftOf::More => return Ok(End::NotUnit),
-            }
-        }
+    if hint < 0 {
+        return None;
     }
-    Ok(End::HintsEnd)
+    live.clause(id_of(hint))
 }
 
-/// Judges the target by the chain of the clauses that the hints name.
+/// Whether each hint is not negative and names a live clause.
+fn are_named(live: &Live, hints: &[i64]) -> bool
+    ensures { result ≡ all_named live.now.clauses hints.now }
+{
+    hints
+        .iter()
+        .all(|hint| hinted_clause(live, *hint).is_some())
+}
+
+/// This end, where each of the hints behind it is not negative and names a live clause.
+fn end_before(live: &Live, rest: &[i64], end: End) -> Option<End>
+    ensures { MatchOption result (all_named live.now.clauses rest.now ≡ false) (λ e. (all_named live.now.clauses rest.now ≡ true) × (e ≡ end)) }
+{
+    if are_named(live, rest) {
+        Some(end)
+    } else {
+        None
+    }
+}
+
+/// How the chain of the hinted clauses ends; none where some hint is negative or names no live clause.
+///
+/// Each hint is looked up once, and no clause is taken behind the one that ends the chain.
+fn chain_end(
+    assumed: &mut LiteralSet,
+    live: &Live,
+    hints: &[i64],
+) -> Result<Option<End>, AllocError>
+    ensures { IfOk result (EndsAs live.now.clauses assumed.old hints.now) }
+{
+    for place in 0..hints.len() {
+        let clause = match hinted_clause(live, hints[place]) {
+            Some(clause) => clause,
+            None => return Ok(None),
+        };
+        match left_of(assumed, clause) {
+            LeftOf::Nothing => return Ok(end_before(live, &hints[place + 1..], End::Right)),
+            LeftOf::One(lit) => assumed.insert(lit)?,
+            LeftOf::More => return Ok(end_before(live, &hints[place + 1..], End::NotUnit)),
+        }
+    }
+    Ok(Some(End::HintsEnd))
+}
+
+/// Judges the target by the chain of the clauses that the hints name, and the hints.
 pub(crate) fn judge_target(
     assumed: &mut LiteralSet,
     live: &Live,
     target: &[Lit],
     hints: &[i64],
 ) -> Result<(), JudgeRefusal>
-    ensures { JudgesBy (chaining target.now (hinted live.now.clauses hints.now)) result }
+    ensures { JudgesBy (hinting live.now.clauses hints.now ++ chaining target.now (hinted live.now.clauses hints.now)) result }
 {
     assumed.set_to_negations(target)?;
     match chain_end(assumed, live, hints)? {
-        End::Right => Ok(()),
-        End::NotUnit => Err(JudgeRefusal::Wrong(Cause::HintNotUnit)),
-        End::HintsEnd => Err(JudgeRefusal::Wrong(Cause::HintsEnd)),
+        Some(End::Right) => Ok(()),
+        Some(End::NotUnit) => Err(JudgeRefusal::Wrong(Cause::HintNotUnit)),
+        Some(End::HintsEnd) => Err(JudgeRefusal::Wrong(Cause::HintsEnd)),
+        None => judge_hints(live, Kind::Clauses, hints),
     }
 }

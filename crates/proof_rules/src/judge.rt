@@ -26,7 +26,6 @@ pub fn judge_chain(
 ) -> Result<(), JudgeRefusal>
     ensures { JudgesBy (hinting live.now.clauses hints.now ++ chaining target.now (named live.now.clauses (sizes hints.now))) result }
 {
-    judge_hints(live, Kind::Clauses, hints)?;
     chain::judge_target(assumed, live, target.as_slice(), hints)
 }
 

@@ -1,28 +1,29 @@
-use Rattle.std.proofs.Common.{sym, ap, ◌∙◌, ◌+◌, drop, get_or, nat_abs, pos, w64, rules}
-use Rattle.std.proofs.lemmas.List.{drop_more}
+use Rattle.std.proofs.Common.{◌≡◌, sym, ap, ◌∙◌, ◌+◌, subst, true, drop, get_or, length, nat_abs, pos, w64, rules, Some}
+use Rattle.std.proofs.lemmas.List.{drop_more, drop_all}
 use Rattle.std.proofs.lemmas.Int.{to_z-of_z}
 use mir.Val.{SFits}
 use Rattle.cx_semantics.specs.Chain.{chain}
 use Rattle.cx_semantics.specs.Tables.{get}
-use Rattle.proof_rules.specs.Ends.{left_seen}
-use Rattle.proof_rules.specs.Kinds.{hinted}
-use Rattle.proof_rules.proofs.ChainSteps.{chain-hint, chain-no_hint, chain-one}
-use Rattle.proof_rules.proofs.chain.chain_end.Goals.{in-Some+in-One+in_ok-insert-in-One, in_default}
+use Rattle.proof_rules.specs.declared.chain.End.TheVariants.{HintsEnd}
+use Rattle.proof_rules.specs.Ends.{left_seen, EndsAs}
+use Rattle.proof_rules.specs.Kinds.{hinted, names_live, all_named}
+use Rattle.proof_rules.proofs.ChainSteps.{ends_on}
 use Rattle.proof_rules.proofs.chain.chain_end.Goals as goal
 
-pub loop-hint-preserved : goal.loop-hint-preserved
-loop-hint-preserved c =
-    let hints = c.args.hints.now in
-    let here = get_or hints c.loop-hint.hint-index (pos 0) in
-    let rest = drop (c.loop-hint.hint-index + 1) hints in
+pub loop-place-preserved : goal.loop-place-preserved
+loop-place-preserved c end h =
     let table = c.args.live.now.clauses in
-    let back = ap (λ zs. chain c.loop-hint.assumed (hinted table zs)) (sym (drop_more hints c.loop-hint.hint-index (pos 0) c.loop-hint-test.true)) ∙ c.loop-hint.invariant in
+    let hints = c.args.hints.now in
+    let place = c.loop-place.place in
+    let here = get_or hints place (pos 0) in
     let fits : SFits w64 here = search rules in
-    let known = ap (get table) (sym (c.id_of.ensures ∙ ap nat_abs (to_z-of_z w64 here fits))) in
-    elim c.match-clause.branch [
-      | in-Some+in-One+in_ok-insert-in-One w ↦
-          ap (λ a. chain a (hinted table rest)) w.assumed-is
-          ∙ chain-one c.loop-hint.assumed w.insert.new.self w.in-Some.clause.now (hinted table rest) w.in-One.lit (sym (ap left_seen w.in-One.is) ∙ w.left_of.ensures) w.in_ok-insert-in-One.ensures.ok
-          ∙ chain-hint c.loop-hint.assumed table here rest w.in-Some.clause.now (known ∙ w.in-Some.ensures) ∙ back
-      | in_default w ↦ ap (λ a. chain a (hinted table rest)) w.assumed-is ∙ chain-no_hint c.loop-hint.assumed table here rest (known ∙ w.in_default.ensures) ∙ back
-    ]
+    let clause = c.in-Some.clause.now in
+    let found = subst (λ z. (names_live table z ≡ true) × (get table (nat_abs z) ≡ Some clause)) (to_z-of_z w64 here fits) c.in-Some.ensures in
+    let behind = ends_on table c.loop-place.assumed c.insert.new.self clause c.in-One.lit here (drop (place + 1) hints) found.0 found.1 (sym (ap left_seen c.in-One.is) ∙ c.left_of.ensures) c.in_ok-insert-in-One.ensures.ok end h in
+    c.loop-place.invariant end (subst (λ zs. EndsAs table c.loop-place.assumed zs end) (sym (drop_more hints place (pos 0) c.loop-place-test.true)) behind)
+
+pub returns : goal.returns
+returns c =
+    let table = c.args.live.now.clauses in
+    let gone = drop_all c.loop-place.place c.args.hints.now c.loop-place-test.false in
+    c.loop-place.invariant (Some HintsEnd) (ap (all_named table) gone, sym (ap (λ zs. chain c.loop-place.assumed (hinted table zs)) gone))

@@ -1,7 +1,7 @@
-use Rattle.std.proofs.Common.{◌≡◌, drop}
-use Rattle.cx_semantics.specs.Chain.{chain}
-use Rattle.proof_rules.specs.Kinds.{hinted}
+use Rattle.std.proofs.Common.{drop, Option}
+use Rattle.proof_rules.specs.declared.chain.End.{End}
+use Rattle.proof_rules.specs.Ends.{EndsAs}
 use Rattle.proof_rules.proofs.chain.chain_end.Given as goal
 
-abbrev pub invariant-loop-hint : goal.invariant-loop-hint
-invariant-loop-hint l = chain l.assumed (hinted l.live.clauses (drop l.hint-index l.hints)) ≡ chain l.initial.assumed (hinted l.live.clauses l.hints)
+abbrev pub invariant-loop-place : goal.invariant-loop-place
+invariant-loop-place l = (end : Option End) → EndsAs l.live.clauses l.assumed (drop l.place l.hints) end → EndsAs l.live.clauses l.initial.assumed l.hints end
