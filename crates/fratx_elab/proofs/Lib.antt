@@ -1,4 +1,5 @@
 mod TieLaws
+mod NameLaws
 mod Transfers
 mod Numbers
 mod Taking

@@ -20,7 +20,7 @@ get_drop : {X : Type 0} (m : map_.FinMap nat_cmp X) (k : ℕ) (q : ℕ) → map_
 get_drop m k q = map_.get-remove nat_cmp_total m k q ∙ ap (λ b. cond b None (map_.get m q)) (unsigned_tied q k)
 
 -- what stands at q after a put or a drop at k
-data At {X : Type 0} (q k : ℕ) (here : Option X) (old new : Option X) : Type 0 where
+pub data At {X : Type 0} (q k : ℕ) (here : Option X) (old new : Option X) : Type 0 where
   at_it : q ≡ k → new ≡ here → At q k here old new
   elsewhere : (q ≡ k → ⊥) → new ≡ old → At q k here old new
 
@@ -30,10 +30,10 @@ at_by q k here old new e = elim (nat_eq q k) as (λ b. nat_eq q k ≡ b → new 
   | false ↦ λ f g. elsewhere (λ h. true≢false (sym (Rattle.std.proofs.Common.eq-eqb q k h) ∙ f)) g
 ] refl e
 
-at_put : {X : Type 0} (m : map_.FinMap nat_cmp X) (k : ℕ) (v : X) (q : ℕ) → At q k (Some v) (map_.get m q) (map_.get (map_.insert m k v) q)
+pub at_put : {X : Type 0} (m : map_.FinMap nat_cmp X) (k : ℕ) (v : X) (q : ℕ) → At q k (Some v) (map_.get m q) (map_.get (map_.insert m k v) q)
 at_put m k v q = at_by q k (Some v) (map_.get m q) _ (get_put m k v q)
 
-at_drop : {X : Type 0} (m : map_.FinMap nat_cmp X) (k : ℕ) (q : ℕ) → At q k None (map_.get m q) (map_.get (map_.remove m k) q)
+pub at_drop : {X : Type 0} (m : map_.FinMap nat_cmp X) (k : ℕ) (q : ℕ) → At q k None (map_.get m q) (map_.get (map_.remove m k) q)
 at_drop m k q = at_by q k None (map_.get m q) _ (get_drop m k q)
 
 -- ---- numbered lists

@@ -1,5 +1,6 @@
 -- What stands in a proof for the ids of a log.
-use Rattle.std.specs.Prelude.{ℕ, ◌+◌, ℤ, pos, List, length, map, filter_map, Option, refl}
+use Rattle.std.specs.Prelude.{◌≡◌, ℕ, ◌+◌, ℤ, pos, List, length, map, filter_map, Option, Some, is_some, IsTrue, refl}
+use Rattle.std.specs.List.{AllByRecursion}
 use Rattle.std.specs.Coded.{Coded, code_by, coded×, coded_ℕ}
 use Rattle.std.specs.Ordering.{nat_cmp}
 use Rattle.std.specs.FinMap as map_
@@ -21,6 +22,14 @@ stands_for naming n = map_.get naming.ids n
 -- the hints by which a proof names what a log names by these ids
 abbrev pub hints_for : Naming → List ℕ → List ℤ
 hints_for naming ids = map pos (filter_map (stands_for naming) ids)
+
+-- something stands for each of the ids
+abbrev pub AreNamed : Naming → List ℕ → Type 0
+AreNamed naming ids = AllByRecursion (λ n. IsTrue (is_some (stands_for naming n))) ids
+
+-- no id stands for another one, as in a log that counts as its proof does
+abbrev pub StandForThemselves : Naming → Type 0
+StandForThemselves naming = (n p : ℕ) → stands_for naming n ≡ Some p → p ≡ n
 
 -- the formula's constraints have the first ids
 abbrev pub first_naming : ℕ → Naming

@@ -1,6 +1,6 @@
 //! What stands in the proof for the ids of a log.
-ghost use Rattle.std.specs.Prelude.{◌≡◌, ◌≢◌, ◌≤◌, ◌<◌, ◌+◌, ℕ, ℤ, pos, nat_abs, IfOk, OnOk, MatchOption, None, Some};
-ghost use Rattle.fratx_elab.specs.Names.{Naming, stands_for, first_naming, name_original, name_next, drop_name};
+ghost use Rattle.std.specs.Prelude.{◌≡◌, ◌≢◌, ◌≤◌, ◌<◌, ◌+◌, ℕ, ℤ, pos, nat_abs, true, IfOk, OnOk, MatchOption, None, Some};
+ghost use Rattle.fratx_elab.specs.Names.{Naming, stands_for, first_naming, name_original, name_next, drop_name, StandForThemselves};
 
 use proof_rules::IdMap;
 use std::alloc::{AllocError, Global};
@@ -62,16 +62,21 @@ impl ProofId {
 pub struct Names {
     ids: IdMap<ProofId>,
     last: u64,
+    /// No id was given that stands for another one, as in the logs of a solver that counts as a proof does.
+    same: bool,
 }
 
 impl Model for Names {
-    ghost use Rattle.fratx_elab.specs.Names.{Naming, naming_code};
+    ghost use Rattle.std.specs.Prelude.{◌≡◌, true};
+    ghost use Rattle.fratx_elab.specs.Names.{Naming, naming_code, StandForThemselves};
 
     ghost Value = { Naming };
 
     ghost coded = { naming_code };
 
     ghost view = { λ a. record { ids = a.ids; last = a.last } };
+
+    ghost invariant = { λ a. a.same ≡ true → StandForThemselves (record { ids = a.ids; last = a.last }) };
 }
 
 impl Names {
@@ -82,6 +87,7 @@ impl Names {
         Names {
             ids: IdMap::new(alloc),
             last: count,
+            same: true,
         }
     }
 
@@ -90,6 +96,13 @@ impl Names {
         ensures { result ≡ self.now.last }
     {
         self.last
+    }
+
+    /// Whether each id stands for itself. No says nothing.
+    pub fn stand_for_themselves(&self) -> bool
+        ensures { result ≡ true → StandForThemselves self.now }
+    {
+        self.same
     }
 
     /// The proof id that stands for an id of the log.
@@ -106,7 +119,9 @@ impl Names {
     pub fn put_original(&mut self, id: u64, number: ProofId) -> Result<(), AllocError>
         ensures { OnOk result (self.new ≡ name_original self.old id number) }
     {
+        let same = self.same && number.number() == id;
         self.ids.insert(id, number)?;
+        self.same = same;
         Ok(())
     }
 
@@ -117,8 +132,10 @@ impl Names {
         ensures named { OnOk result (self.new ≡ name_next self.old id) }
     {
         let next = ProofId::new(self.last + 1);
+        let same = self.same && next.number() == id;
         self.ids.insert(id, next)?;
         self.last += 1;
+        self.same = same;
         Ok(next)
     }
 

@@ -1,14 +1,15 @@
 //! One step of a log: judged, done, and what the proof gains by it.
-ghost use Rattle.std.specs.Prelude.{◌≡◌, ◌≤◌, ◌<◌, ◌+◌, pos, length, take, IfOk, OnOk};
-ghost use Rattle.cx_base.specs.Integers.{sizes};
+ghost use Rattle.std.specs.Prelude.{◌≡◌, ◌≤◌, ◌<◌, ◌+◌, ℕ, pos, is_some, length, take, IfOk, OnOk};
+ghost use Rattle.std.specs.List.{list_any};
+ghost use Rattle.cx_base.specs.Integers.{is_negative, sizes};
 ghost use Rattle.cx_base.specs.Problem.{Problem};
 ghost use Rattle.cx_semantics.specs.Chain.{IsChain};
 ghost use Rattle.cx_semantics.specs.LogRules.{AreLive, HasChain, chained, derives_empty_clause};
-ghost use Rattle.cx_semantics.specs.Tables.{Tables, named};
+ghost use Rattle.cx_semantics.specs.Tables.{Tables, is_live, named};
 ghost use Rattle.cx_base.specs.declared.steps.LogStep.TheVariants as step;
 ghost use Rattle.proof_rules.specs.Kinds.{chosen};
 ghost use Rattle.fratx_elab.specs.Contents.{StandsFor};
-ghost use Rattle.fratx_elab.specs.Names.{hints_for};
+ghost use Rattle.fratx_elab.specs.Names.{AreNamed, stands_for, hints_for};
 ghost use Rattle.fratx_elab.specs.Takes.{TakesLogStep, Admits, GivesChain, GivesHints, CanBePrinted, CountsOneMore, names_of};
 ghost use Rattle.fratx_elab.specs.Ties.{AreTied};
 ghost use Rattle.fratx_elab.specs.declared.naming.TheConstants.{MAX_ID};
@@ -53,12 +54,23 @@ fn admit(
     proof_rules::admit(alloc, formula.vars(), lits, live.has(kind, id))
 }
 
+/// Whether some hint is negative.
+fn any_negative(hints: &[i64]) -> bool
+    ensures { result ≡ list_any is_negative hints.now }
+{
+    hints.iter().any(|hint| *hint < 0)
+}
+
 /// The hints that name in the proof what these hints name in the log.
 ///
-/// They are written over these, so that no list is made anew.
+/// They are written over these, so that no list is made anew; where ids stand for themselves, there is nothing to write.
 fn renamed(names: &Names, hints: IntList) -> IntList
+    requires named { AreNamed names.now (sizes hints) }
     ensures { result ≡ hints_for names.now (sizes hints) }
 {
+    if names.stand_for_themselves() && !any_negative(hints.as_slice()) {
+        return hints;
+    }
     let mut list = hints.into_vec();
     let count = list.len();
     let mut kept = 0;
@@ -112,6 +124,7 @@ fn chain_hints(
     target: &LitList,
     given: IntList,
 ) -> Result<IntList, JudgeRefusal>
+    requires keyed { (n : ℕ) → is_live live.old.clauses n ≡ is_some (stands_for names.now n) }
     ensures same { live.new ≡ live.old }
     ensures chain { GivesHints live.old.clauses names.now target.now result }
 {
@@ -182,6 +195,7 @@ pub fn take_clause(
     given: IntList,
 ) -> Result<Option<ProofStep>, JudgeRefusal>
     requires room { state.old.clauses.last < MAX_ID }
+    requires tied { (proof : Tables) × AreTied formula.now state.old.live proof (names_of state.old) }
     ensures taken { TakesLogStep formula.now state.old (step.Clause id lits) result state.new }
     ensures text { IfOk result CanBePrinted }
     ensures counts { OnOk result (CountsOneMore state.old state.new) }
