@@ -1,5 +1,5 @@
 -- One more hint at the front of a list.
-use Rattle.std.proofs.Common.{◌≡◌, refl, sym, ap, ◌∙◌, subst, ℕ, ◌+◌, ◌<◌, ℤ, nat_abs, List, [], ◌∷◌, ◌++◌, length, take, get_or, map, append_assoc, append-nil, is_some, Some}
+use Rattle.std.proofs.Common.{◌≡◌, refl, sym, ap, ◌∙◌, ℕ, ◌+◌, ◌<◌, ℤ, nat_abs, List, [], ◌∷◌, ◌++◌, length, take, get_or, append_assoc, append-nil, is_some, Some}
 use Rattle.std.proofs.lemmas.List.{take_more}
 use Rattle.cx_base.specs.Integers.{sizes}
 use Rattle.cx_base.specs.Literals.{Literal}

@@ -1,5 +1,5 @@
 -- The hints at the front of a list, as a chain.
-use Rattle.std.specs.Prelude.{◌≡◌, ℕ, List, [], ◌∷◌, ◌++◌, Some}
+use Rattle.std.specs.Prelude.{◌≡◌, ℕ, List, ◌∷◌, ◌++◌, Some}
 use Rattle.cx_base.specs.Literals.{Literal}
 use Rattle.cx_semantics.specs.Chain.{negations, left, none, one, count_left, HaveSame, chain, IsChain}
 use Rattle.cx_semantics.specs.Tables.{Table, get, named}

@@ -10,7 +10,7 @@ ghost use Rattle.rup_engine.specs.Finding.{Answers};
 ghost use Rattle.rup_finder.specs.Front.{IsLiveChain};
 
 use crate::front::chain_length;
-use crate::ready::{ready, with_clause, without_clause};
+use crate::ready::{put_in, ready, take_out};
 use crate::recent::{Recent, limit_beside};
 use crate::search::find;
 use cx_base::{IdList, Lit, LitList};
@@ -98,12 +98,16 @@ impl IndexedClauses {
         ensures ok { OnOk result (self.new ≡ put_constraint Clauses self.old id lits) }
         ensures err { OnErr result (self.new ≡ self.old) }
     {
-        let engine = with_clause(self.engine.take(), id, lits.as_slice())?;
-        let recent = with_clause(self.recent.take(), id, lits.as_slice())?;
-        self.live.add(Kind::Clauses, id, lits)?;
-        self.engine = engine;
-        self.recent.engine = recent;
-        Ok(())
+        put_in(&mut self.engine, id, lits.as_slice());
+        put_in(&mut self.recent.engine, id, lits.as_slice());
+        match self.live.add(Kind::Clauses, id, lits) {
+            Ok(()) => Ok(()),
+            Err(AllocError) => {
+                self.engine = None;
+                self.recent.engine = None;
+                Err(AllocError)
+            }
+        }
     }
 
     /// Puts a constraint of this kind under this id, in the place of what is live under it. Without memory no table
@@ -130,11 +134,9 @@ impl IndexedClauses {
     fn remove_from_engines(&mut self, id: u64)
         ensures { self.new ≡ drop_constraints Clauses self.old (id ∷ []) }
     {
-        let engine = without_clause(self.engine.take(), id);
-        let recent = without_clause(self.recent.take(), id);
+        take_out(&mut self.engine, id);
+        take_out(&mut self.recent.engine, id);
         self.live.remove(Kind::Clauses, id);
-        self.engine = engine;
-        self.recent.engine = recent;
     }
 
     /// Takes the constraint of this kind and id out; where none is live nothing changes.

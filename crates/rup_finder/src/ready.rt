@@ -70,6 +70,18 @@ pub fn with_clause(
     Ok(Some(engine))
 }
 
+/// The clause of this id comes into an engine, in the place of what stood under it. Where it has too large a variable, and
+/// without memory, the engine goes.
+pub fn put_in(engine: &mut Option<Engine>, id: u64, lits: &[Lit])
+    requires { (table : Table) × IsReady table engine.old }
+    ensures { (table : Table) → IsReady table engine.old → IsReady (map.insert table id lits.now) engine.new }
+{
+    *engine = match with_clause(engine.take(), id, lits) {
+        Ok(engine) => engine,
+        Err(AllocError) => None,
+    };
+}
+
 /// The greatest variable of the live clauses and the target.
 fn top_of(alloc: Global, live: &Live, target: &[Lit]) -> Result<u32, AllocError> {
     let mut top = greatest(1, target);
@@ -151,7 +163,7 @@ fn unless_worn(engine: Engine) -> Option<Engine>
 
 /// The clause of this id goes. A worn engine goes too, so that memory follows the live clauses: the next search makes
 /// one anew, at the cost of the clauses that went since the last one was made.
-pub fn without_clause(engine: Option<Engine>, id: u64) -> Option<Engine>
+fn without_clause(engine: Option<Engine>, id: u64) -> Option<Engine>
     requires { (table : Table) × IsReady table engine }
     ensures { (table : Table) → IsReady table engine → IsReady (map.remove table id) result }
 {
@@ -162,4 +174,12 @@ pub fn without_clause(engine: Option<Engine>, id: u64) -> Option<Engine>
         }
         None => None,
     }
+}
+
+/// The clause of this id goes out of an engine.
+pub fn take_out(engine: &mut Option<Engine>, id: u64)
+    requires { (table : Table) × IsReady table engine.old }
+    ensures { (table : Table) → IsReady table engine.old → IsReady (map.remove table id) engine.new }
+{
+    *engine = without_clause(engine.take(), id);
 }

@@ -182,6 +182,29 @@ impl Recent {
         self.used.clear();
     }
 
+    /// The live clauses of these ids come in.
+    fn let_in(&mut self, live: &Live, ids: &[u64]) -> Result<(), AllocError>
+        requires { IsRecent live.now.clauses self.old.engine }
+        ensures { IsRecent live.now.clauses self.new.engine }
+    {
+        let engine = self.engine.take();
+        self.engine = with_all_used(live, ids, engine)?;
+        Ok(())
+    }
+
+    /// An engine of what was used comes in the place of none.
+    fn gather(&mut self, alloc: Global, live: &Live, limit: u32) -> Result<(), AllocError>
+        requires limit { limit + 2 ≤ MAX_VARIABLE }
+        requires recent { IsRecent live.now.clauses self.old.engine }
+        ensures { IsRecent live.now.clauses self.new.engine }
+    {
+        thin(live, &mut self.used);
+        let engine = gathered(alloc, live, limit, &self.used)?;
+        self.start_over(limit);
+        self.engine = engine;
+        Ok(())
+    }
+
     /// Lets the clauses of a chain in that a search over all live clauses gave. An engine that is lacking is made of what
     /// was used since the last one was. Without a limit of variables there is none from now on.
     pub fn learn(
@@ -208,18 +231,10 @@ impl Recent {
             }
         };
         self.note(live, ids)?;
-        match self.engine.take() {
-            Some(engine) => {
-                self.engine = with_all_used(live, ids, Some(engine))?;
-                Ok(())
-            }
-            None => {
-                thin(live, &mut self.used);
-                let engine = gathered(alloc, live, limit, &self.used)?;
-                self.start_over(limit);
-                self.engine = engine;
-                Ok(())
-            }
+        if self.engine.is_some() {
+            self.let_in(live, ids)
+        } else {
+            self.gather(alloc, live, limit)
         }
     }
 }

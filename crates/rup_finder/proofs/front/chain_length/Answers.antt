@@ -1,4 +1,4 @@
-use Rattle.std.proofs.Common.{rules, arith, sym, ap, subst, ◌∙◌, ◌≡◌, ◌<◌, ℕ, ◌+◌, List, [], ◌∷◌, ◌++◌, length, take, get_or, nat_abs, pos}
+use Rattle.std.proofs.Common.{rules, arith, sym, ap, subst, ◌∙◌, ◌≡◌, ◌<◌, ℕ, List, [], ◌∷◌, ◌++◌, length, take, get_or, nat_abs, pos}
 use Rattle.cx_base.specs.Integers.{sizes}
 use Rattle.rup_finder.specs.Front.{IsLiveChain, HasReached, Takes}
 use Rattle.rup_finder.specs.declared.front.Taken.{Taken}
