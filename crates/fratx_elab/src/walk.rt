@@ -136,6 +136,40 @@ fn take_next<E: ElabEnds>(
     what_follows(wrote, is_last, steps + 1)
 }
 
+/// Takes one step after another, from the first on.
+fn take_all<E: ElabEnds>(
+    alloc: Global,
+    formula: &Formula,
+    counts: Counts,
+    originals: &Originals,
+    state: &mut State,
+    ends: &mut E,
+) -> Result<Elab, ElabFault>
+    requires originals { StandsFor originals.now formula.now }
+    requires clauses { counts.clauses ≡ number_of_clauses formula.now }
+    requires parities { counts.parities ≡ number_of_parities formula.now }
+    requires clause_room { state.old.clauses.last ≤ 2 ^ 60 }
+    requires parity_room { state.old.parities.last ≤ 2 ^ 60 }
+    requires kept { Kept E.leaves E.steps E.torn formula.now ends.old ends.old state.old 0 }
+    requires fresh { E.is_spent ends.old ≡ false }
+    ensures judged { IfOk result (IsElaborated E.leaves E.steps E.torn formula.now ends.old ends.new) }
+    ensures cut_off { IfErr result (IsCutOff E.leaves E.steps E.torn formula.now ends.old ends.new) }
+    ensures cause { IfErr result (HasCause (E.passes_limit ends.old) (E.read_faults ends.old) (E.read_faults ends.new) (E.write_faults ends.old) (E.write_faults ends.new)) }
+    ensures reads { ReadsStand result (E.read_faults ends.old) (E.read_faults ends.new) }
+    ensures writes { WritesStand result (E.write_faults ends.old) (E.write_faults ends.new) }
+    ensures failed { IfOk result (λ _. E.has_failed ends.new ≡ E.has_failed ends.old) }
+    ensures frame { E.keeps ends.old ends.new }
+{
+    let mut steps = 0;
+    loop {
+        match take_next(alloc, formula, counts, originals, state, ends, steps) {
+            Ok(None) => steps += 1,
+            Ok(Some(elab)) => return Ok(elab),
+            Err(fault) => return Err(fault),
+        }
+    }
+}
+
 /// Turns a log into a proof of the formula: each step is judged, and what is right is written with hints.
 ///
 /// Steps are taken in order. The first right step that derives a clause without literals ends the
@@ -168,12 +202,5 @@ pub fn elaborate<E: ElabEnds>(
         parities: Names::new(alloc, counts.parities),
         marks: JudgeMarks::new(alloc),
     };
-    let mut steps = 0;
-    loop {
-        match take_next(alloc, formula, counts, &originals, &mut state, ends, steps) {
-            Ok(None) => steps += 1,
-            Ok(Some(elab)) => return Ok(elab),
-            Err(fault) => return Err(fault),
-        }
-    }
+    take_all(alloc, formula, counts, &originals, &mut state, ends)
 }

@@ -1,6 +1,6 @@
 use Rattle.std.proofs.Common.{◌≡◌, ◌≤◌, ◌-◌, ◌+◌, ◌^◌, false}
 use Rattle.fratx_elab.specs.Outcomes.{Kept}
-use Rattle.fratx_elab.proofs.walk.elaborate.Given as goal
+use Rattle.fratx_elab.proofs.walk.take_all.Given as goal
 
 abbrev pub invariant-loop-steps : goal.invariant-loop-steps
 invariant-loop-steps g l = record {
