@@ -1,10 +1,22 @@
-use Rattle.std.proofs.Common.{rules, sym, ap, ◌∙◌, length}
+use Rattle.std.proofs.Common.{◌≡◌, rules, refl, sym, ap, ◌∙◌, List, [], ◌∷◌, ◌++◌, Option, length}
 use Rattle.std.proofs.lemmas.Iterator.Adapters.{YieldsList-from_vec}
 use Rattle.std.proofs.lemmas.Iterator.Consumers.{YieldsList-turn, YieldsList-so_far}
 use Rattle.std.proofs.lemmas.List.{map-id}
+use Rattle.cx_base.specs.declared.steps.LogStep.{LogStep}
+use Rattle.cx_base.specs.declared.steps.LogEvent.{LogEvent}
+use Rattle.cx_base.specs.declared.steps.LogEvent.TheVariants.{Step}
 use Rattle.cdcl_search.specs.Tells.{as_events, with_events}
-use Rattle.cdcl_search.proofs.Events.{stops_there}
+use Rattle.cdcl_search.proofs.Events.{more_and_more, stops_there}
 use Rattle.cdcl_search.proofs.telling.tell_all.Goals as goal
+
+with_next : (front : List LogStep) (s : LogStep) → as_events front ++ Step s ∷ [] ≡ as_events (front ++ s ∷ [])
+with_next [] s = refl
+with_next (x ∷ xs) s = ap (λ es. Step x ∷ es) (with_next xs s)
+
+-- the next step is told behind those so far
+next_is_told : (front : List LogStep) (s : LogStep) (first old new : Option (List LogEvent)) → old ≡ with_events (as_events front) first → new ≡ with_events (Step s ∷ []) old
+    → new ≡ with_events (as_events (front ++ s ∷ [])) first
+next_is_told front s first old new so_far now = now ∙ ap (with_events (Step s ∷ [])) so_far ∙ more_and_more (as_events front) (Step s ∷ []) first ∙ ap (λ es. with_events es first) (with_next front s)
 
 pub returns-in-Err : goal.returns-in-Err
 returns-in-Err g c =
@@ -16,3 +28,87 @@ returns-in-Err g c =
     let told = stops_there (g.L.Sink.torn c.tell.new.sink) c.args.steps.items (length front) c.in-Some.step first (g.L.Sink.items c.loop-step.sink) (g.L.Sink.items c.tell.new.sink) c.in-Err.fault
     turn.0 turn.1 (c.loop-step.invariant.0 ∙ ap (λ steps. with_events (as_events steps) first) so_far) c.in-Err.ensures.told in
     record { told = told; faults = search rules; frame = search rules }
+
+pub loop-step-preserved : goal.loop-step-preserved
+loop-step-preserved g c = (
+  next_is_told c.loop-step.yielded c.in-Some.step (g.L.Sink.items c.args.sink.now) (g.L.Sink.items c.loop-step.sink) (g.L.Sink.items c.tell.new.sink) c.loop-step.invariant.0 c.in-Ok.ensures.told,
+  c.in-Ok.ensures.faults ∙ c.loop-step.invariant.1,
+  g.met.L.Sink.keeps_on c.args.sink.now c.loop-step.sink c.tell.new.sink c.loop-step.invariant.2 c.in-Ok.ensures.frame,
+)
+
+pub loop-step-preserved-in-Ok : goal.loop-step-preserved-in-Ok
+loop-step-preserved-in-Ok g c = (
+  next_is_told c.loop-step.yielded c.in-Some.step (g.L.Sink.items c.args.sink.now) (g.L.Sink.items c.loop-step.sink) (g.L.Sink.items c.tell.new.sink) c.loop-step.invariant.0 c.in-Ok.ensures.told,
+  c.in-Ok.ensures.faults ∙ c.loop-step.invariant.1,
+  g.met.L.Sink.keeps_on c.args.sink.now c.loop-step.sink c.tell.new.sink c.loop-step.invariant.2 c.in-Ok.ensures.frame,
+)
+
+pub loop-step-preserved-in-Ok-2 : goal.loop-step-preserved-in-Ok-2
+loop-step-preserved-in-Ok-2 g c = (
+  next_is_told c.loop-step.yielded c.in-Some.step (g.L.Sink.items c.args.sink.now) (g.L.Sink.items c.loop-step.sink) (g.L.Sink.items c.tell.new.sink) c.loop-step.invariant.0 c.in-Ok.ensures.told,
+  c.in-Ok.ensures.faults ∙ c.loop-step.invariant.1,
+  g.met.L.Sink.keeps_on c.args.sink.now c.loop-step.sink c.tell.new.sink c.loop-step.invariant.2 c.in-Ok.ensures.frame,
+)
+
+pub loop-step-preserved-in-Ok-3 : goal.loop-step-preserved-in-Ok-3
+loop-step-preserved-in-Ok-3 g c = (
+  next_is_told c.loop-step.yielded c.in-Some.step (g.L.Sink.items c.args.sink.now) (g.L.Sink.items c.loop-step.sink) (g.L.Sink.items c.tell.new.sink) c.loop-step.invariant.0 c.in-Ok.ensures.told,
+  c.in-Ok.ensures.faults ∙ c.loop-step.invariant.1,
+  g.met.L.Sink.keeps_on c.args.sink.now c.loop-step.sink c.tell.new.sink c.loop-step.invariant.2 c.in-Ok.ensures.frame,
+)
+
+pub loop-step-preserved-in-Ok-4 : goal.loop-step-preserved-in-Ok-4
+loop-step-preserved-in-Ok-4 g c = (
+  next_is_told c.loop-step.yielded c.in-Some.step (g.L.Sink.items c.args.sink.now) (g.L.Sink.items c.loop-step.sink) (g.L.Sink.items c.tell.new.sink) c.loop-step.invariant.0 c.in-Ok.ensures.told,
+  c.in-Ok.ensures.faults ∙ c.loop-step.invariant.1,
+  g.met.L.Sink.keeps_on c.args.sink.now c.loop-step.sink c.tell.new.sink c.loop-step.invariant.2 c.in-Ok.ensures.frame,
+)
+
+pub loop-step-preserved-in-Ok-5 : goal.loop-step-preserved-in-Ok-5
+loop-step-preserved-in-Ok-5 g c = (
+  next_is_told c.loop-step.yielded c.in-Some.step (g.L.Sink.items c.args.sink.now) (g.L.Sink.items c.loop-step.sink) (g.L.Sink.items c.tell.new.sink) c.loop-step.invariant.0 c.in-Ok.ensures.told,
+  c.in-Ok.ensures.faults ∙ c.loop-step.invariant.1,
+  g.met.L.Sink.keeps_on c.args.sink.now c.loop-step.sink c.tell.new.sink c.loop-step.invariant.2 c.in-Ok.ensures.frame,
+)
+
+pub loop-step-preserved-in-Ok-6 : goal.loop-step-preserved-in-Ok-6
+loop-step-preserved-in-Ok-6 g c = (
+  next_is_told c.loop-step.yielded c.in-Some.step (g.L.Sink.items c.args.sink.now) (g.L.Sink.items c.loop-step.sink) (g.L.Sink.items c.tell.new.sink) c.loop-step.invariant.0 c.in-Ok.ensures.told,
+  c.in-Ok.ensures.faults ∙ c.loop-step.invariant.1,
+  g.met.L.Sink.keeps_on c.args.sink.now c.loop-step.sink c.tell.new.sink c.loop-step.invariant.2 c.in-Ok.ensures.frame,
+)
+
+pub loop-step-preserved-in-Ok-7 : goal.loop-step-preserved-in-Ok-7
+loop-step-preserved-in-Ok-7 g c = (
+  next_is_told c.loop-step.yielded c.in-Some.step (g.L.Sink.items c.args.sink.now) (g.L.Sink.items c.loop-step.sink) (g.L.Sink.items c.tell.new.sink) c.loop-step.invariant.0 c.in-Ok.ensures.told,
+  c.in-Ok.ensures.faults ∙ c.loop-step.invariant.1,
+  g.met.L.Sink.keeps_on c.args.sink.now c.loop-step.sink c.tell.new.sink c.loop-step.invariant.2 c.in-Ok.ensures.frame,
+)
+
+pub loop-step-preserved-in-Ok-8 : goal.loop-step-preserved-in-Ok-8
+loop-step-preserved-in-Ok-8 g c = (
+  next_is_told c.loop-step.yielded c.in-Some.step (g.L.Sink.items c.args.sink.now) (g.L.Sink.items c.loop-step.sink) (g.L.Sink.items c.tell.new.sink) c.loop-step.invariant.0 c.in-Ok.ensures.told,
+  c.in-Ok.ensures.faults ∙ c.loop-step.invariant.1,
+  g.met.L.Sink.keeps_on c.args.sink.now c.loop-step.sink c.tell.new.sink c.loop-step.invariant.2 c.in-Ok.ensures.frame,
+)
+
+pub loop-step-preserved-in-Ok-9 : goal.loop-step-preserved-in-Ok-9
+loop-step-preserved-in-Ok-9 g c = (
+  next_is_told c.loop-step.yielded c.in-Some.step (g.L.Sink.items c.args.sink.now) (g.L.Sink.items c.loop-step.sink) (g.L.Sink.items c.tell.new.sink) c.loop-step.invariant.0 c.in-Ok.ensures.told,
+  c.in-Ok.ensures.faults ∙ c.loop-step.invariant.1,
+  g.met.L.Sink.keeps_on c.args.sink.now c.loop-step.sink c.tell.new.sink c.loop-step.invariant.2 c.in-Ok.ensures.frame,
+)
+
+pub loop-step-preserved-in-Ok-10 : goal.loop-step-preserved-in-Ok-10
+loop-step-preserved-in-Ok-10 g c = (
+  next_is_told c.loop-step.yielded c.in-Some.step (g.L.Sink.items c.args.sink.now) (g.L.Sink.items c.loop-step.sink) (g.L.Sink.items c.tell.new.sink) c.loop-step.invariant.0 c.in-Ok.ensures.told,
+  c.in-Ok.ensures.faults ∙ c.loop-step.invariant.1,
+  g.met.L.Sink.keeps_on c.args.sink.now c.loop-step.sink c.tell.new.sink c.loop-step.invariant.2 c.in-Ok.ensures.frame,
+)
+
+pub loop-step-preserved-in-Ok-11 : goal.loop-step-preserved-in-Ok-11
+loop-step-preserved-in-Ok-11 g c = (
+  next_is_told c.loop-step.yielded c.in-Some.step (g.L.Sink.items c.args.sink.now) (g.L.Sink.items c.loop-step.sink) (g.L.Sink.items c.tell.new.sink) c.loop-step.invariant.0 c.in-Ok.ensures.told,
+  c.in-Ok.ensures.faults ∙ c.loop-step.invariant.1,
+  g.met.L.Sink.keeps_on c.args.sink.now c.loop-step.sink c.tell.new.sink c.loop-step.invariant.2 c.in-Ok.ensures.frame,
+)
