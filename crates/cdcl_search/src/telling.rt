@@ -34,18 +34,33 @@ fn tell<L: Sink<Item = LogEvent>>(sink: &mut L, event: &LogEvent) -> Result<(), 
     }
 }
 
+/// Tells a step.
+fn tell_one<L: Sink<Item = LogEvent>>(sink: &mut L, step: LogStep) -> Result<(), CoreFault>
+    requires text { IsTellable step }
+    ensures { TellsIn L.Sink (Step step ∷ []) sink.old result sink.new }
+{
+    tell(sink, &LogEvent::Step(step))
+}
+
 /// Tells these steps, one after another, up to a fault.
 fn tell_all<L: Sink<Item = LogEvent>>(sink: &mut L, steps: Vec<LogStep>) -> Result<(), CoreFault>
     requires texts { AllByRecursion IsTellable steps.items }
     ensures { TellsIn L.Sink (as_events steps.items) sink.old result sink.new }
 {
     for step in steps {
-        match tell(sink, &LogEvent::Step(step)) {
+        match tell_one(sink, step) {
             Ok(()) => {}
             Err(fault) => return Err(fault),
         }
     }
     Ok(())
+}
+
+/// Tells a mark.
+fn tell_mark<L: Sink<Item = LogEvent>>(sink: &mut L, number: u64) -> Result<(), CoreFault>
+    ensures { TellsIn L.Sink (Conflict number ∷ []) sink.old result sink.new }
+{
+    tell(sink, &LogEvent::Conflict(number))
 }
 
 /// Tells a mark and the steps behind it, up to a fault.
@@ -57,7 +72,7 @@ fn tell_marked<L: Sink<Item = LogEvent>>(
     requires texts { AllByRecursion IsTellable steps.items }
     ensures { TellsIn L.Sink (Conflict number ∷ as_events steps.items) sink.old result sink.new }
 {
-    match tell(sink, &LogEvent::Conflict(number)) {
+    match tell_mark(sink, number) {
         Ok(()) => tell_all(sink, steps),
         Err(fault) => Err(fault),
     }

@@ -25,90 +25,13 @@ returns-in-Err g c =
     let road = YieldsList-from_vec c.args.steps.items c.into_iter-step-iterator.ensures.into_iter_gives.0 (c.into_iter-step-iterator.ensures.into_iter_gives.1 ∙ c.args.steps.ok.0) in
     let turn = YieldsList-turn road front _ c.loop-step.yielded_by c.next.result c.next.new.self c.in-Some.step c.in-Some.is c.next.ensures.steps in
     let so_far = sym (map-id front) ∙ YieldsList-so_far road front _ c.loop-step.yielded_by in
-    let told = stops_there (g.L.Sink.torn c.tell.new.sink) c.args.steps.items (length front) c.in-Some.step first (g.L.Sink.items c.loop-step.sink) (g.L.Sink.items c.tell.new.sink) c.in-Err.fault
+    let told = stops_there (g.L.Sink.torn c.tell_one.new.sink) c.args.steps.items (length front) c.in-Some.step first (g.L.Sink.items c.loop-step.sink) (g.L.Sink.items c.tell_one.new.sink) c.in-Err.fault
     turn.0 turn.1 (c.loop-step.invariant.0 ∙ ap (λ steps. with_events (as_events steps) first) so_far) c.in-Err.ensures.told in
     record { told = told; faults = search rules; frame = search rules }
 
 pub loop-step-preserved : goal.loop-step-preserved
 loop-step-preserved g c = (
-  next_is_told c.loop-step.yielded c.in-Some.step (g.L.Sink.items c.args.sink.now) (g.L.Sink.items c.loop-step.sink) (g.L.Sink.items c.tell.new.sink) c.loop-step.invariant.0 c.in-Ok.ensures.told,
+  next_is_told c.loop-step.yielded c.in-Some.step (g.L.Sink.items c.args.sink.now) (g.L.Sink.items c.loop-step.sink) (g.L.Sink.items c.tell_one.new.sink) c.loop-step.invariant.0 c.in-Ok.ensures.told,
   c.in-Ok.ensures.faults ∙ c.loop-step.invariant.1,
-  g.met.L.Sink.keeps_on c.args.sink.now c.loop-step.sink c.tell.new.sink c.loop-step.invariant.2 c.in-Ok.ensures.frame,
-)
-
-pub loop-step-preserved-in-Ok : goal.loop-step-preserved-in-Ok
-loop-step-preserved-in-Ok g c = (
-  next_is_told c.loop-step.yielded c.in-Some.step (g.L.Sink.items c.args.sink.now) (g.L.Sink.items c.loop-step.sink) (g.L.Sink.items c.tell.new.sink) c.loop-step.invariant.0 c.in-Ok.ensures.told,
-  c.in-Ok.ensures.faults ∙ c.loop-step.invariant.1,
-  g.met.L.Sink.keeps_on c.args.sink.now c.loop-step.sink c.tell.new.sink c.loop-step.invariant.2 c.in-Ok.ensures.frame,
-)
-
-pub loop-step-preserved-in-Ok-2 : goal.loop-step-preserved-in-Ok-2
-loop-step-preserved-in-Ok-2 g c = (
-  next_is_told c.loop-step.yielded c.in-Some.step (g.L.Sink.items c.args.sink.now) (g.L.Sink.items c.loop-step.sink) (g.L.Sink.items c.tell.new.sink) c.loop-step.invariant.0 c.in-Ok.ensures.told,
-  c.in-Ok.ensures.faults ∙ c.loop-step.invariant.1,
-  g.met.L.Sink.keeps_on c.args.sink.now c.loop-step.sink c.tell.new.sink c.loop-step.invariant.2 c.in-Ok.ensures.frame,
-)
-
-pub loop-step-preserved-in-Ok-3 : goal.loop-step-preserved-in-Ok-3
-loop-step-preserved-in-Ok-3 g c = (
-  next_is_told c.loop-step.yielded c.in-Some.step (g.L.Sink.items c.args.sink.now) (g.L.Sink.items c.loop-step.sink) (g.L.Sink.items c.tell.new.sink) c.loop-step.invariant.0 c.in-Ok.ensures.told,
-  c.in-Ok.ensures.faults ∙ c.loop-step.invariant.1,
-  g.met.L.Sink.keeps_on c.args.sink.now c.loop-step.sink c.tell.new.sink c.loop-step.invariant.2 c.in-Ok.ensures.frame,
-)
-
-pub loop-step-preserved-in-Ok-4 : goal.loop-step-preserved-in-Ok-4
-loop-step-preserved-in-Ok-4 g c = (
-  next_is_told c.loop-step.yielded c.in-Some.step (g.L.Sink.items c.args.sink.now) (g.L.Sink.items c.loop-step.sink) (g.L.Sink.items c.tell.new.sink) c.loop-step.invariant.0 c.in-Ok.ensures.told,
-  c.in-Ok.ensures.faults ∙ c.loop-step.invariant.1,
-  g.met.L.Sink.keeps_on c.args.sink.now c.loop-step.sink c.tell.new.sink c.loop-step.invariant.2 c.in-Ok.ensures.frame,
-)
-
-pub loop-step-preserved-in-Ok-5 : goal.loop-step-preserved-in-Ok-5
-loop-step-preserved-in-Ok-5 g c = (
-  next_is_told c.loop-step.yielded c.in-Some.step (g.L.Sink.items c.args.sink.now) (g.L.Sink.items c.loop-step.sink) (g.L.Sink.items c.tell.new.sink) c.loop-step.invariant.0 c.in-Ok.ensures.told,
-  c.in-Ok.ensures.faults ∙ c.loop-step.invariant.1,
-  g.met.L.Sink.keeps_on c.args.sink.now c.loop-step.sink c.tell.new.sink c.loop-step.invariant.2 c.in-Ok.ensures.frame,
-)
-
-pub loop-step-preserved-in-Ok-6 : goal.loop-step-preserved-in-Ok-6
-loop-step-preserved-in-Ok-6 g c = (
-  next_is_told c.loop-step.yielded c.in-Some.step (g.L.Sink.items c.args.sink.now) (g.L.Sink.items c.loop-step.sink) (g.L.Sink.items c.tell.new.sink) c.loop-step.invariant.0 c.in-Ok.ensures.told,
-  c.in-Ok.ensures.faults ∙ c.loop-step.invariant.1,
-  g.met.L.Sink.keeps_on c.args.sink.now c.loop-step.sink c.tell.new.sink c.loop-step.invariant.2 c.in-Ok.ensures.frame,
-)
-
-pub loop-step-preserved-in-Ok-7 : goal.loop-step-preserved-in-Ok-7
-loop-step-preserved-in-Ok-7 g c = (
-  next_is_told c.loop-step.yielded c.in-Some.step (g.L.Sink.items c.args.sink.now) (g.L.Sink.items c.loop-step.sink) (g.L.Sink.items c.tell.new.sink) c.loop-step.invariant.0 c.in-Ok.ensures.told,
-  c.in-Ok.ensures.faults ∙ c.loop-step.invariant.1,
-  g.met.L.Sink.keeps_on c.args.sink.now c.loop-step.sink c.tell.new.sink c.loop-step.invariant.2 c.in-Ok.ensures.frame,
-)
-
-pub loop-step-preserved-in-Ok-8 : goal.loop-step-preserved-in-Ok-8
-loop-step-preserved-in-Ok-8 g c = (
-  next_is_told c.loop-step.yielded c.in-Some.step (g.L.Sink.items c.args.sink.now) (g.L.Sink.items c.loop-step.sink) (g.L.Sink.items c.tell.new.sink) c.loop-step.invariant.0 c.in-Ok.ensures.told,
-  c.in-Ok.ensures.faults ∙ c.loop-step.invariant.1,
-  g.met.L.Sink.keeps_on c.args.sink.now c.loop-step.sink c.tell.new.sink c.loop-step.invariant.2 c.in-Ok.ensures.frame,
-)
-
-pub loop-step-preserved-in-Ok-9 : goal.loop-step-preserved-in-Ok-9
-loop-step-preserved-in-Ok-9 g c = (
-  next_is_told c.loop-step.yielded c.in-Some.step (g.L.Sink.items c.args.sink.now) (g.L.Sink.items c.loop-step.sink) (g.L.Sink.items c.tell.new.sink) c.loop-step.invariant.0 c.in-Ok.ensures.told,
-  c.in-Ok.ensures.faults ∙ c.loop-step.invariant.1,
-  g.met.L.Sink.keeps_on c.args.sink.now c.loop-step.sink c.tell.new.sink c.loop-step.invariant.2 c.in-Ok.ensures.frame,
-)
-
-pub loop-step-preserved-in-Ok-10 : goal.loop-step-preserved-in-Ok-10
-loop-step-preserved-in-Ok-10 g c = (
-  next_is_told c.loop-step.yielded c.in-Some.step (g.L.Sink.items c.args.sink.now) (g.L.Sink.items c.loop-step.sink) (g.L.Sink.items c.tell.new.sink) c.loop-step.invariant.0 c.in-Ok.ensures.told,
-  c.in-Ok.ensures.faults ∙ c.loop-step.invariant.1,
-  g.met.L.Sink.keeps_on c.args.sink.now c.loop-step.sink c.tell.new.sink c.loop-step.invariant.2 c.in-Ok.ensures.frame,
-)
-
-pub loop-step-preserved-in-Ok-11 : goal.loop-step-preserved-in-Ok-11
-loop-step-preserved-in-Ok-11 g c = (
-  next_is_told c.loop-step.yielded c.in-Some.step (g.L.Sink.items c.args.sink.now) (g.L.Sink.items c.loop-step.sink) (g.L.Sink.items c.tell.new.sink) c.loop-step.invariant.0 c.in-Ok.ensures.told,
-  c.in-Ok.ensures.faults ∙ c.loop-step.invariant.1,
-  g.met.L.Sink.keeps_on c.args.sink.now c.loop-step.sink c.tell.new.sink c.loop-step.invariant.2 c.in-Ok.ensures.frame,
+  g.met.L.Sink.keeps_on c.args.sink.now c.loop-step.sink c.tell_one.new.sink c.loop-step.invariant.2 c.in-Ok.ensures.frame,
 )
