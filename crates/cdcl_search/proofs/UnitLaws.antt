@@ -1,5 +1,5 @@
 -- What implied the next literal of level 0, and what telling its unit clause leaves.
-use Rattle.std.proofs.Common.{◌≡◌, refl, sym, ap, ◌∙◌, subst, ℕ, zero, suc, ◌+◌, ◌<◌, ◌≤◌, ℤ, true, List, [], ◌∷◌, ◌++◌, length, take, get_or, Option, Some, None, Err, arith, length-take}
+use Rattle.std.proofs.Common.{◌≡◌, refl, sym, ap, ◌∙◌, subst, ℕ, zero, suc, ◌+◌, ◌<◌, ◌≤◌, ℤ, true, List, [], ◌∷◌, ◌++◌, length, take, get_or, Option, Some, None, arith, length-take}
 use Rattle.std.specs.Prelude.{slice_index_or}
 use Rattle.std.specs.List.{All}
 use Rattle.std.specs.Global.{Vec}
@@ -114,6 +114,23 @@ module _ (formula : Problem) (c : SearchState) (e : State) (rows : List (List Li
     )
 
 -- ---- unit clauses change nothing that propagation found
+-- ---- what stays the same
+pub others_rest : (c : SearchState) → HasOther c c
+others_rest c = record { trail = refl; arena = refl; watches = refl; order = refl; given = refl; conflicts = refl; phases = refl; learned = refl; reductions = refl }
+
+pub others_then : (a b c : SearchState) → HasOther a b → HasOther b c → HasOther a c
+others_then a b c h k = record {
+  trail = k.trail ∙ h.trail;
+  arena = k.arena ∙ h.arena;
+  watches = k.watches ∙ h.watches;
+  order = k.order ∙ h.order;
+  given = k.given ∙ h.given;
+  conflicts = k.conflicts ∙ h.conflicts;
+  phases = k.phases ∙ h.phases;
+  learned = k.learned ∙ h.learned;
+  reductions = k.reductions ∙ h.reductions;
+}
+
 has_all_still : (old new : SearchState) → HasOther old new → HasAll old → HasAll new
 has_all_still old new same h = same.given ∙ h ∙ ap (λ (t : TrailState). length t.entries) (sym same.trail)
 

@@ -34,3 +34,31 @@ returns-clause-settled g c settled =
 
 pub decide-requires-clause-open : goal.decide-requires-clause-open
 decide-requires-clause-open g c = subst (IsOpenIn c.args.state.now.trail.entries) (ap (λ (l : Literal). l.variable) (sym c.new.ensures)) c.in-Some.ensures.picks.unassigned
+
+pub returns-then-is_full-clause-stays : goal.returns-then-is_full-clause-stays
+returns-then-is_full-clause-stays g c = record { stands = λ told stands. stands; unbroken = λ broken. cc (c.requires.quiet.3, broken) }
+
+pub overflow_cast-number : goal.overflow_cast-number
+overflow_cast-number g c = let high = c.number.ensures.high in omega (arith, high)
+
+pub overflow_sub-number : goal.overflow_sub-number
+overflow_sub-number g c = c.number.ensures.low
+
+pub index-value-requires : goal.index-value-requires
+index-value-requires g c =
+    let trail = c.requires.stands.1.3.trail in
+    let high = c.in-Some.ensures.picks.high in
+    let low = c.number.ensures.low in
+    let is = c.number.ensures.number in
+    let scored = trail.stand.variables in
+    let phased = trail.phased in
+    let vars = trail.variables in
+    let long = c.args.state.now.phases.ok.0 in
+    omega (arith, high, low, is, scored, phased, vars, long)
+
+pub decide-requires-clause-high : goal.decide-requires-clause-high
+decide-requires-clause-high g c =
+    let high = c.in-Some.ensures.picks.high in
+    let scored = c.requires.stands.1.3.trail.stand.variables in
+    let is = ap (λ (l : Literal). l.variable) c.new.ensures in
+    omega (arith, high, scored, is)

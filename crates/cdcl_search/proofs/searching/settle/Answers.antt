@@ -1,3 +1,4 @@
+use Rattle.std.proofs.Common.{◌∙◌}
 use Rattle.cdcl_search.proofs.searching.settle.Goals as goal
 use Rattle.cdcl_search.proofs.UnitLaws.{finds_still}
 
@@ -6,3 +7,13 @@ tell_units-requires g c = c.propagate-found.ensures.stands (g.L.Sink.items c.arg
 
 pub returns-clause-finds : goal.returns-clause-finds
 returns-clause-finds g c = finds_still c.propagate-found.new.state c.tell_units.new.state (g.P.ParityEngine.state c.propagate-found.new.engine) c.propagate-found.result c.tell_units.ensures.same c.propagate-found.ensures.finds
+
+pub propagate-found-requires : goal.propagate-found-requires
+propagate-found-requires g c = record { stands = (_, c.requires.stands); unbroken = c.requires.unbroken }
+
+pub returns-clause-searches_on : goal.returns-clause-searches_on
+returns-clause-searches_on g c = record {
+  stands = c.in_ok-tell_units.ensures.stands_on.stands;
+  conflicts = c.tell_units.ensures.same.conflicts ∙ c.propagate-found.ensures.same.2;
+  log = c.in_ok-tell_units.ensures.stands_on.log;
+}

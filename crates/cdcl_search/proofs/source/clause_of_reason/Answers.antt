@@ -1,8 +1,10 @@
-use Rattle.std.proofs.Common.{◌≤◌, subst, ap, ◌∙◌, arith}
+use Rattle.std.proofs.Common.{◌<◌, ◌≤◌, subst, ap, ◌∙◌, arith, inl, inr}
 use Rattle.conflict_learn.specs.Learning.{HasReason}
 use Rattle.cdcl_search.specs.declared.source.Hinted.{Hinted}
 use Rattle.cdcl_search.proofs.LowIds.{has_ids}
 use Rattle.cdcl_search.proofs.SourceLaws.{clause_is_live, clause_is_antecedent, stored_is_sourced, row_is_reason, last_is_sourced, sourced_grows, one_more}
+use Rattle.std.proofs.lemmas.Result.{err_from_is_err_and}
+use Rattle.cdcl_search.specs.GoingOn.{log_rests, log_stops}
 use Rattle.cdcl_search.proofs.source.clause_of_reason.Goals as goal
 
 pub unit-requires-clause-ids : goal.unit-requires-clause-ids
@@ -41,3 +43,59 @@ returns-in-Row-clause-grows g c = sourced_grows c.args.state.now c.args.rows.now
 
 pub returns-in-Row-clause-one : goal.returns-in-Row-clause-one
 returns-in-Row-clause-one g c = one_more c.args.state.now c.args.rows.now.items c.hinted_row.new.rows.items (λ (h : Hinted). h.lits) c.hinted_row.result c.hinted_row.ensures.rows
+
+pub returns-in_err-unit-clause-stands_on : goal.returns-in_err-unit-clause-stands_on
+returns-in_err-unit-clause-stands_on g c =
+    let fault = err_from_is_err_and c.from_residual.result c.from_residual.ensures.1 in
+    rw (fault.1, fault.2) (record { stands = tt; log = log_stops g.L.Sink g.met.L.Sink.keeps_itself c.args.log.now })
+
+pub returns-then-place-len-clause-stands_on : goal.returns-then-place-len-clause-stands_on
+returns-then-place-len-clause-stands_on g c = record { stands = c.requires.stands; log = log_rests g.L.Sink g.met.L.Sink.keeps_itself c.args.log.now }
+
+pub returns-then-place-len-clause-grows : goal.returns-then-place-len-clause-grows
+returns-then-place-len-clause-grows g c clause sourced = sourced
+
+pub returns-then-place-len-clause-sourced : goal.returns-then-place-len-clause-sourced
+returns-then-place-len-clause-sourced g c =
+    let low : c.place_of-place.result < c.len.result = c.if-place-len.true in
+    let is = c.len.ensures in
+    inr (inl (c.place_of-place.result, omega (arith, low, is), c.in_ok-unit.ensures.lits))
+
+pub stored-requires-clause-live : goal.stored-requires-clause-live
+stored-requires-clause-live g c =
+    let low : c.len.result ≤ c.place_of-place.result = c.if-place-len.false in
+    let is = c.len.ensures in
+    clause_is_live c.args.state.now (g.P.ParityEngine.state c.args.engine.now) c.requires.stands.3.reasons c.place_of-place.ensures.sound c.args.literal c.place_of-place.result c.place_of-place.ensures.within
+    (c.place_of-place.ensures.negated ∙ ap Rattle.cx_base.specs.Literals.negate c.negate.ensures) (omega (arith, low, is)) c.in-Clause.reference (subst (HasReason c.args.state.now.trail c.args.literal) c.in-Clause.is c.requires.reason)
+
+pub returns-in_ok-stored-in-Clause-clause-stands_on : goal.returns-in_ok-stored-in-Clause-clause-stands_on
+returns-in_ok-stored-in-Clause-clause-stands_on g c = record { stands = c.requires.stands; log = log_rests g.L.Sink g.met.L.Sink.keeps_itself c.args.log.now }
+
+pub returns-in_ok-stored-in-Clause-clause-grows : goal.returns-in_ok-stored-in-Clause-clause-grows
+returns-in_ok-stored-in-Clause-clause-grows g c clause sourced = sourced
+
+pub returns-in_err-stored-in-Clause-clause-stands_on : goal.returns-in_err-stored-in-Clause-clause-stands_on
+returns-in_err-stored-in-Clause-clause-stands_on g c =
+    let fault = err_from_is_err_and c.from_residual-in_err-stored-in-Clause.result c.from_residual-in_err-stored-in-Clause.ensures.1 in
+    rw (fault.1, fault.2) (record { stands = tt; log = log_stops g.L.Sink g.met.L.Sink.keeps_itself c.args.log.now })
+
+pub returns-in_err-stored-in-Clause-clause-grows : goal.returns-in_err-stored-in-Clause-clause-grows
+returns-in_err-stored-in-Clause-clause-grows g c clause sourced = sourced
+
+pub returns-in_err-unit-clause-grows : goal.returns-in_err-unit-clause-grows
+returns-in_err-unit-clause-grows g c clause sourced = sourced
+
+pub hinted_row-requires-clause-stands : goal.hinted_row-requires-clause-stands
+hinted_row-requires-clause-stands g c = c.requires.stands
+
+pub hinted_row-requires-clause-room : goal.hinted_row-requires-clause-room
+hinted_row-requires-clause-room g c = c.requires.room
+
+pub returns-in-Row-clause-implied : goal.returns-in-Row-clause-implied
+returns-in-Row-clause-implied g c = c.hinted_row.ensures.implied
+
+pub returns-in-Row-clause-id : goal.returns-in-Row-clause-id
+returns-in-Row-clause-id g c = c.hinted_row.ensures.id
+
+pub returns-in-Row-clause-stands_on : goal.returns-in-Row-clause-stands_on
+returns-in-Row-clause-stands_on g c = c.hinted_row.ensures.stands_on

@@ -1,5 +1,7 @@
-use Rattle.std.proofs.Common.{refl, sym, subst, ◌≤◌, ◌+◌}
+use Rattle.std.proofs.Common.{refl, sym, subst, ◌≤◌, ◌+◌, arith}
 use Rattle.std.specs.List.{All}
+use Rattle.std.proofs.lemmas.Result.{err_from_is_err_and}
+use Rattle.cdcl_search.specs.GoingOn.{log_stops, log_then}
 use Rattle.cdcl_search.specs.Ties.{SearchStandsFrom}
 use Rattle.cdcl_search.proofs.LowIds.{has_ids}
 use Rattle.cdcl_search.proofs.UnitTies.{with_unit}
@@ -28,3 +30,22 @@ returns-clause-to_delete g c =
     c.requires.level c.args.literal c.args.implying.now.lits c.requires.next c.in_ok-hints.hints
     (g.L.Sink.items c.tell_chained.new.log.sink.now) c.in_ok-tell_chained.ensures.told c.push.new.self c.in_ok-push.ensures.items (c.args.state.now.next + 1) refl) in
     record { stands = stands; log = c.in_ok-tell_chained.ensures.log }
+
+pub returns-in_err-hints-clause-to_delete : goal.returns-in_err-hints-clause-to_delete
+returns-in_err-hints-clause-to_delete g c =
+    let fault = err_from_is_err_and c.from_residual.result c.from_residual.ensures.1 in
+    rw (fault.1, fault.2) (record { stands = tt; log = log_stops g.L.Sink g.met.L.Sink.keeps_itself c.args.log.now })
+
+pub returns-in_err-push-clause-to_delete : goal.returns-in_err-push-clause-to_delete
+returns-in_err-push-clause-to_delete g c =
+    let fault = err_from_is_err_and c.from_residual-in_err-push.result c.from_residual-in_err-push.ensures.1 in
+    rw (fault.1, fault.2) (record {
+      stands = tt;
+      log = log_then g.L.Sink g.met.L.Sink.keeps_on _ c.tell_chained.new.log _ _ c.in_ok-tell_chained.ensures.log (log_stops g.L.Sink g.met.L.Sink.keeps_itself c.tell_chained.new.log);
+    })
+
+pub overflow_add-state : goal.overflow_add-state
+overflow_add-state g c =
+    let ids = has_ids c.args.log.now.formula.now c.args.state.now (g.P.ParityEngine.state c.args.engine.now) c.args.rows.now (g.L.Sink.items c.args.log.now.sink.now) c.requires.stands in
+    let high : c.args.state.now.next ≤ 2000000000000000000 = ids.next.1 in
+    omega (arith, high)
