@@ -3,7 +3,7 @@ use Rattle.std.proofs.Common.{Bool, true, false, not, cond, nat_eq, ◌||◌, �
 use Rattle.std.proofs.lemmas.List.{map_push}
 use Rattle.std.specs.List.{AllByRecursion}
 use Rattle.cx_base.specs.Literals.{Literal}
-use Rattle.cx_base.specs.Problem.{Problem, parities_of}
+use Rattle.cx_base.specs.Problem.{Problem}
 use Rattle.cx_base.proofs.Elements.{all_append}
 use Rattle.cx_base.specs.declared.steps.LogStep.{LogStep}
 use Rattle.cx_base.specs.declared.steps.LogStep.TheVariants.{Delete}
@@ -17,7 +17,6 @@ use Rattle.search_steps.specs.Search.{Search, IsSearch, told}
 use Rattle.search_steps.specs.LogSteps.{AreTemporary, deleted, all_told}
 use Rattle.search_steps.specs.Holding.{AreTold}
 use Rattle.search_steps.specs.Ids.{IsRanged}
-use Rattle.search_steps.specs.Tied.{Mirrors}
 use Rattle.search_steps.proofs.Rounds.{deleted_keeps, temporary_still, deleted_trail, deleted_levels, deleted_conflicts, deleted_awaits, deleted_old_sums, deleted_new_sums, deleted_parities, deleted_old, deleted_get}
 use Rattle.search_steps.proofs.RowReasons.{all_deleted}
 use Rattle.search_steps.proofs.IdLaws.{row_ids_are_temporary, deletions_ranged, risen_ranged, low_is_no_row}

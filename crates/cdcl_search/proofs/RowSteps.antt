@@ -1,5 +1,5 @@
 -- The three steps of a row that was told keep what stands behind the code.
-use Rattle.std.proofs.Common.{◌≡◌, ◌≢◌, refl, sym, ap, ◌∙◌, subst, ℕ, zero, suc, ◌+◌, ◌-◌, ◌<◌, ◌≤◌, ℤ, true, false, List, [], ◌∷◌, ◌++◌, length, take, get_or, map, Option, Some, None, is_some, Contains, arith, inl, inr, length-append}
+use Rattle.std.proofs.Common.{◌≡◌, ◌≢◌, refl, sym, ap, ◌∙◌, subst, ℕ, zero, suc, ◌+◌, ◌-◌, ◌<◌, ◌≤◌, ℤ, true, false, List, [], ◌∷◌, ◌++◌, length, get_or, map, Option, Some, None, is_some, Contains, arith, inl, inr, length-append}
 use Rattle.std.specs.List.{AllByRecursion, cons_option}
 use Rattle.std.specs.FinMap as map_
 use Rattle.std.specs.FinSet as set
@@ -11,7 +11,7 @@ use Rattle.cx_base.specs.Problem.{Problem, parities_of, AreWithin, parity_met, c
 use Rattle.cx_base.specs.declared.constraint.Constraint.{Constraint}
 use Rattle.cx_base.specs.declared.constraint.Constraint.TheVariants as constraint
 use Rattle.cx_semantics.specs.Chain.{has_literal}
-use Rattle.cx_base.specs.declared.steps.LogStep.TheVariants.{Parity, ClauseOfParity, DeleteParity}
+use Rattle.cx_base.specs.declared.steps.LogStep.TheVariants.{Parity}
 use Rattle.cx_base.specs.declared.steps.LogEvent.{LogEvent}
 use Rattle.cx_base.specs.declared.steps.LogEvent.TheVariants.{Step}
 use Rattle.cx_base.specs.Integers.{integers_of, literals}
@@ -30,8 +30,7 @@ use Rattle.search_steps.specs.LogSteps.{IsAddition, IsRowOf, IsClauseOfRow, IsRo
 use Rattle.search_steps.specs.Holding.{AreTold}
 use Rattle.search_steps.specs.Trail.{held}
 use Rattle.search_steps.proofs.StartLaws.{variables_are_within}
-use Rattle.search_steps.proofs.LogLaws.{sum_keeps, row_clause_keeps}
-use Rattle.search_steps.proofs.RowLaws.{row_is_of_parities}
+use Rattle.search_steps.proofs.LogLaws.{sum_keeps}
 use Rattle.search_steps.proofs.RowReasons.{row_reason_keeps, row_reason_sums, row_reason_old_sums}
 use Rattle.search_steps.proofs.IdLaws.{row_next_is_free, row_reason_ranged, row_reason_frees_sum}
 use Rattle.search_steps.proofs.EndLaws.{is_log_open}
@@ -39,9 +38,6 @@ use Rattle.cx_semantics.proofs.Members.{has_at_head, has_behind}
 use Rattle.cx_semantics.proofs.Widths.{variable_in}
 use Rattle.cdcl_search.specs.declared.state.SearchState.{SearchState}
 use Rattle.cdcl_search.specs.Ties.{Ties, SearchStands, IsWatched, HasOnlyRowClauses, AreNumbered, AreRows, first_row_id, row_ids}
-use Rattle.std.specs.Prelude.{Result, Err, IfErr}
-use Rattle.conflict_learn.specs.declared.fault.CoreFault.{CoreFault}
-use Rattle.conflict_learn.specs.declared.fault.CoreFault.TheVariants.{Memory}
 use Rattle.cdcl_search.specs.Tells.{TellsAll, GivesUp, IsLeft, with_events}
 use Rattle.cdcl_search.specs.Explaining.{Explains}
 use Rattle.cdcl_search.proofs.Events.{no_more, more_and_more}

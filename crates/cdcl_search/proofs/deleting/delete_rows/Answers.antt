@@ -1,4 +1,4 @@
-use Rattle.std.proofs.Common.{[], ◌≤◌, ap, arith, length}
+use Rattle.std.proofs.Common.{[], arith}
 use Rattle.cdcl_search.specs.Ties.{SearchStands}
 use Rattle.cdcl_search.specs.Tells.{as_events}
 use Rattle.cdcl_search.proofs.LowIds.{row_ids_are_ids}

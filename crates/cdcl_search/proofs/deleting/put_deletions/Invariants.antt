@@ -1,6 +1,5 @@
 use Rattle.std.proofs.Common.{◌≡◌, ◌≤◌, ◌++◌}
 use Rattle.std.specs.List.{AllByRecursion}
-use Rattle.cx_base.specs.declared.steps.LogEvent.TheVariants.{Step}
 use Rattle.cdcl_search.specs.Deleting.{deletions}
 use Rattle.cdcl_search.specs.Tells.{as_events, IsTellable}
 use Rattle.cdcl_search.specs.Ties.{row_ids}
