@@ -1,10 +1,12 @@
-use Rattle.std.proofs.Common.{rules, arith, sym, ap, ◌∙◌, subst, ◌++◌, ◌∷◌, [], length}
+use Rattle.std.proofs.Common.{arith, sym, ap, ◌∙◌, subst, ◌++◌, ◌∷◌, [], length}
 use Rattle.cdcl_search.specs.Ties.{SearchStands}
 use Rattle.cdcl_search.proofs.LowIds.{next_is_id, next_is_low, row_ids_are_ids}
 use Rattle.cdcl_core.specs.Concluding.{Concludes}
 use Rattle.cdcl_core.specs.declared.conflicts.Conclusion.TheVariants.{Clause}
 use Rattle.cdcl_core.specs.declared.conflicts.Conflict.{Conflict}
 use Rattle.cdcl_core.proofs.ConflictLaws.{clash_is_named, clash_assigned, clash_is_reason, clash_explains, clash_numbers, row_concludes, ends_log, is_empty_list}
+use Rattle.cdcl_search.specs.GoingOn.{log_rests, log_stops}
+use Rattle.std.proofs.lemmas.Result.{err_from_is_err_and}
 use Rattle.cdcl_core.proofs.conflicts.row_conflict.Goals as goal
 
 pub reason_clause-requires-clause-named : goal.reason_clause-requires-clause-named
@@ -42,7 +44,7 @@ returns-then-is_empty g c = record {
         c.in_ok-steps.ensures.parity c.in_ok-steps.ensures.clause (is_empty_list c.in_ok-reason.reason.clause c.as_slice.result.now c.is_empty.result c.as_slice.ensures c.is_empty.ensures c.if-is_empty.true)
         c.in_ok-steps.steps.items c.in_ok-steps.ensures.are.are c.in_ok-steps.ensures.are.texts,
   );
-  log = search rules;
+  log = log_rests g.L.Sink g.met.L.Sink.keeps_itself c.args.log.now;
 }
 
 pub tell_reason-requires-clause-stands : goal.tell_reason-requires-clause-stands
@@ -65,3 +67,16 @@ returns-in-Ok g c =
 
 pub tell_reason-requires-clause-room : goal.tell_reason-requires-clause-room
 tell_reason-requires-clause-room g c = let none = ap length c.new-rows.ensures.items in omega (arith, none)
+
+pub returns-in_err-reason : goal.returns-in_err-reason
+returns-in_err-reason g c =
+    let fault = err_from_is_err_and c.from_residual.result c.from_residual.ensures.1 in
+    rw (fault.1, fault.2) (record { concludes = tt; log = log_stops g.L.Sink g.met.L.Sink.keeps_itself c.args.log.now })
+
+pub returns-in_err-steps : goal.returns-in_err-steps
+returns-in_err-steps g c =
+    let fault = err_from_is_err_and c.from_residual-in_err-steps.result c.from_residual-in_err-steps.ensures.1 in
+    rw (fault.1, fault.2) (record { concludes = tt; log = log_stops g.L.Sink g.met.L.Sink.keeps_itself c.args.log.now })
+
+pub returns-in-Err : goal.returns-in-Err
+returns-in-Err g c = record { concludes = tt; log = c.in-Err.ensures.stands_on.log }

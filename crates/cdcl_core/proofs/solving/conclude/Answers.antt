@@ -1,7 +1,8 @@
-use Rattle.std.proofs.Common.{◌+◌, [], subst, arith, rules}
+use Rattle.std.proofs.Common.{◌+◌, [], subst, arith}
 use Rattle.search_steps.specs.Recovering.{SettledWithRecovered}
-use Rattle.cdcl_search.specs.GoingOn.{log_then}
+use Rattle.cdcl_search.specs.GoingOn.{log_then, log_rests}
 use Rattle.cdcl_core.proofs.Answering.{log_is_open, values_are_known, unsat_is_known, refutes_within}
+use Rattle.std.proofs.lemmas.Result.{err_from_is_err_and}
 use Rattle.cdcl_core.proofs.solving.conclude.Goals as goal
 
 pub learn_and_jump-requires-clause-unsettled : goal.learn_and_jump-requires-clause-unsettled
@@ -19,7 +20,7 @@ returns-in-Quiet-clause-leaves g c = record {
   };
   one_more = tt;
   clear = c.requires.searches.clear;
-  log = search rules;
+  log = log_rests g.L.Sink g.met.L.Sink.keeps_itself c.args.log.now;
 }
 
 pub returns-in-Quiet-clause-at_start : goal.returns-in-Quiet-clause-at_start
@@ -43,15 +44,12 @@ returns-then-level-gt0 g c = record {
 }
 
 pub returns-in_err-end-in-Clause : goal.returns-in_err-end-in-Clause
-returns-in_err-end-in-Clause g c = record {
-  leaves = record {
-    goes_on = search rules;
-    one_more = search rules;
-    clear = search rules;
-    log = log_then g.L.Sink g.met.L.Sink.keeps_on _ c.conflict_clause.new.log _ _ c.in_ok-conflict.ensures.log (search rules);
-  };
-  at_start = λ zero. search rules;
-}
+returns-in_err-end-in-Clause g c =
+    let fault = err_from_is_err_and c.from_residual-in_err-end-in-Clause.result c.from_residual-in_err-end-in-Clause.ensures.1 in
+    rw (fault.1, fault.2) (record {
+      leaves = record { goes_on = tt; one_more = tt; clear = tt; log = log_then g.L.Sink g.met.L.Sink.keeps_on _ c.conflict_clause.new.log _ _ c.in_ok-conflict.ensures.log c.in_err-end-in-Clause.ensures.log };
+      at_start = λ zero. tt;
+    })
 
 pub returns-in_ok-end-in-Clause : goal.returns-in_ok-end-in-Clause
 returns-in_ok-end-in-Clause g c =
@@ -80,3 +78,16 @@ returns-in_ok-tell_ending-in-Ending g c =
       };
       at_start = λ level. (refutes, unsat_is_known);
     }
+
+pub returns-in_err-conflict : goal.returns-in_err-conflict
+returns-in_err-conflict g c =
+    let fault = err_from_is_err_and c.from_residual-in_err-conflict.result c.from_residual-in_err-conflict.ensures.1 in
+    rw (fault.1, fault.2) (record { leaves = record { goes_on = tt; one_more = tt; clear = tt; log = c.in_err-conflict.ensures.log }; at_start = λ zero. tt })
+
+pub returns-in_err-tell_ending-in-Ending : goal.returns-in_err-tell_ending-in-Ending
+returns-in_err-tell_ending-in-Ending g c =
+    let fault = err_from_is_err_and c.from_residual-in_err-tell_ending-in-Ending.result c.from_residual-in_err-tell_ending-in-Ending.ensures.1 in
+    rw (fault.1, fault.2) (record {
+      leaves = record { goes_on = tt; one_more = tt; clear = tt; log = log_then g.L.Sink g.met.L.Sink.keeps_on _ c.conflict_clause.new.log _ _ c.in_ok-conflict.ensures.log c.in_err-tell_ending-in-Ending.ensures.log };
+      at_start = λ zero. tt;
+    })

@@ -1,6 +1,8 @@
-use Rattle.std.proofs.Common.{refl, subst, arith, rules}
+use Rattle.std.proofs.Common.{refl, subst, arith}
 use Rattle.cdcl_core.specs.Results.{IsOpenWith}
 use Rattle.cdcl_core.proofs.Answering.{learned_log_is_open}
+use Rattle.cdcl_search.specs.GoingOn.{log_stops, log_then}
+use Rattle.std.proofs.lemmas.Result.{err_from_is_err_and}
 use Rattle.cdcl_core.proofs.solving.learn_and_jump.Goals as goal
 
 pub returns-then-state-budget : goal.returns-then-state-budget
@@ -34,3 +36,13 @@ returns g c =
       clear = c.in_ok-learned.ensures.clear;
       log = c.in_ok-learned.ensures.log;
     }
+
+pub returns-in_err-learned : goal.returns-in_err-learned
+returns-in_err-learned g c =
+    let fault = err_from_is_err_and c.from_residual.result c.from_residual.ensures.1 in
+    rw (fault.1, fault.2) (record { goes_on = tt; one_more = tt; clear = tt; log = c.in_err-learned.ensures.log })
+
+pub returns-in_err-jump : goal.returns-in_err-jump
+returns-in_err-jump g c =
+    let fault = err_from_is_err_and c.from_residual-in_err-jump.result c.from_residual-in_err-jump.ensures.1 in
+    rw (fault.1, fault.2) (record { goes_on = tt; one_more = tt; clear = tt; log = log_then g.L.Sink g.met.L.Sink.keeps_on _ c.learn.new.log _ _ c.in_ok-learned.ensures.log (log_stops g.L.Sink g.met.L.Sink.keeps_itself c.learn.new.log) })

@@ -1,7 +1,8 @@
-use Rattle.std.proofs.Common.{◌+◌, ◌<◌, ◌∙◌, sym, subst, rules}
+use Rattle.std.proofs.Common.{◌+◌, ◌<◌, ◌∙◌, sym, subst}
 use Rattle.search_steps.specs.Recovering.{SettledWithRecovered}
 use Rattle.cdcl_search.specs.GoingOn.{log_then}
 use Rattle.cdcl_core.specs.Results.{IsSettledBy}
+use Rattle.std.proofs.lemmas.Result.{err_from_is_err_and}
 use Rattle.cdcl_core.proofs.solving.search.Goals as goal
 
 pub round-requires-clause-settled : goal.round-requires-clause-settled
@@ -34,4 +35,13 @@ returns-in-Some-clause-settled g c s =
 pub returns-in_err-follow_schedule-clause-log : goal.returns-in_err-follow_schedule-clause-log
 returns-in_err-follow_schedule-clause-log g c =
     let before = log_then g.L.Sink g.met.L.Sink.keeps_on _ c.loop-marks.log _ _ c.loop-marks.invariant.log c.in_ok-outcome.ensures.leaves.log in
-    log_then g.L.Sink g.met.L.Sink.keeps_on _ c.round.new.log _ _ before (search rules)
+    let fault = err_from_is_err_and c.from_residual-in_err-follow_schedule.result c.from_residual-in_err-follow_schedule.ensures.1 in
+    rw (fault.1, fault.2) (log_then g.L.Sink g.met.L.Sink.keeps_on _ c.round.new.log _ _ before c.in_err-follow_schedule.ensures.searches_on.log)
+
+pub returns-in_err-outcome-clause-log : goal.returns-in_err-outcome-clause-log
+returns-in_err-outcome-clause-log g c =
+    let fault = err_from_is_err_and c.from_residual.result c.from_residual.ensures.1 in
+    rw (fault.1, fault.2) (log_then g.L.Sink g.met.L.Sink.keeps_on _ c.loop-marks.log _ _ c.loop-marks.invariant.log c.in_err-outcome.ensures.leaves.log)
+
+pub returns-in-Some-clause-log : goal.returns-in-Some-clause-log
+returns-in-Some-clause-log g c = log_then g.L.Sink g.met.L.Sink.keeps_on _ c.loop-marks.log _ _ c.loop-marks.invariant.log c.in_ok-outcome.ensures.leaves.log
