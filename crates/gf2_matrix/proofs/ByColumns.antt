@@ -1,6 +1,8 @@
 -- Sets of rows by column.
 use Rattle.std.proofs.Common.{◌≡◌, ◌≢◌, ℕ, ◌+◌, ◌-◌, ◌*◌, ◌<◌, ◌≤◌, Bool, true, false, ◌&&◌, cond, nat_eq, List, [], ◌∷◌, ◌++◌, Option, Some, None, length, length-append, get_or, set, refl, sym, ap, ◌∙◌, subst, arith, inl, inr, true≢false}
+use Rattle.std.specs.Option.{is_some}
 use Rattle.std.specs.Slice.Scan.{HoldsNowhere, IsFirstPlace}
+use Rattle.cx_base.specs.declared.literal.TheConstants.{MAX_VARIABLE}
 use Rattle.std.proofs.Math.Seq.{get_or-append_seam}
 use Rattle.std.proofs.Math.ListN.{length-set, get_or-eq_default}
 use Rattle.std.proofs.lemmas.List.{get_or-set_same, get_or-set_other, get_or_append_left}
@@ -13,7 +15,7 @@ use Rattle.gf2_matrix.specs.declared.by_column.RowSet.{RowSet}
 use Rattle.gf2_matrix.specs.declared.by_column.ByColumn.{ByColumn}
 use Rattle.gf2_matrix.specs.Views.{words_for}
 use Rattle.gf2_matrix.specs.Packed.{Window, window_at, start, takes_pivot, ArePlacesIn, ArePivoted, IsPivotedRow}
-use Rattle.gf2_matrix.specs.ByColumn.{AreTurned, AreSized, AreClear, IsByColumn, AreByColumn, IsRarestOf, set_size}
+use Rattle.gf2_matrix.specs.ByColumn.{AreTurned, AreSized, AreClear, IsByColumn, AreByColumn, IsColumnOf, IsRarestOf, HaveRows, set_size}
 use Rattle.gf2_matrix.proofs.Updates.{same_read}
 use Rattle.gf2_matrix.proofs.Rows.{pivoted_more}
 
@@ -179,6 +181,35 @@ entered_more w rows sets chosen n row e' one freed new so within low high is one
           ∙ rw (other m (λ same. omega arith)) (differ_kept (bit_of (get_or sets i d).words.items m) (bit_of row.bits.items (start w + i)) ∙ so.ahead i m d i_in (omega arith));
     }
 
+-- ---- the row of the number at a place
+pub entry_low : (w : Window) (rows : List PackedRow) (n number : ℕ) → HaveRows w rows → n < length w.numbers → number ≡ get_or w.numbers n number → 1 ≤ number
+entry_low w rows n number have lt is = subst (λ k. 1 ≤ k) (sym (is ∙ same_read w.numbers n number 0 lt)) (have.low n lt)
+
+pub entry_high : (w : Window) (rows : List PackedRow) (n number : ℕ) → HaveRows w rows → n < length w.numbers → number ≡ get_or w.numbers n number → number - 1 < length rows
+entry_high w rows n number have lt is =
+    let read = is ∙ same_read w.numbers n number 0 lt in
+    let low = have.low n lt in
+    let high = have.high n lt in
+    omega arith
+
+pub entry_words : (w : Window) (rows : List PackedRow) (n number : ℕ) (row : PackedRow) → HaveRows w rows → n < length w.numbers → number ≡ get_or w.numbers n number
+    → row ≡ get_or rows (number - 1) row → length row.bits.items ≡ words_for (start w + length w.columns)
+entry_words w rows n number row have lt is read =
+    ap (λ (r : PackedRow). length r.bits.items) (read ∙ ap (λ k. get_or rows (k - 1) row) (is ∙ same_read w.numbers n number 0 lt)) ∙ (have.sized n row lt).0
+
+pub few_for : (w : Window) → length w.columns ≤ MAX_VARIABLE → words_for (start w + length w.columns) < 4294967296
+few_for w few = omega arith
+
+pub start_in : (w : Window) → start w ≤ 64 * words_for (start w + length w.columns)
+start_in w = omega arith
+
+pub place_in : {n count : ℕ} → n < count → n < 64 * words_for count
+place_in lt = omega arith
+
+pub all_entered : (w : Window) (rows : List PackedRow) (sets : List RowSet) (chosen : List ℕ) (n to : ℕ) → AreEntered w rows sets chosen n → to ≡ length w.numbers → n ≤ to → to ≤ n
+    → AreEntered w rows sets chosen (length w.numbers)
+all_entered w rows sets chosen n to so is le ge = let same : n ≡ length w.numbers = omega arith in subst (AreEntered w rows sets chosen) same so
+
 pub entered_all : (w : Window) (rows : List PackedRow) (c : ByColumn) → AreEntered w rows c.sets.items c.chosen.items (length w.numbers) → IsByColumn w rows c
 entered_all w rows c so = record { count = so.count; sized = so.sized; room = so.room; bits = so.done; past = so.ahead }
 
@@ -274,7 +305,103 @@ pub record IsRarestBefore (bits : List ℕ) (first : ℕ) (sets : List RowSet) (
   pub size : (i : ℕ) (d : RowSet) → rarest ≡ Some i → set_size (get_or sets i d) ≡ fewest
   pub least : (i j : ℕ) (d : RowSet) → rarest ≡ Some i → j < length sets → first + j < from → bit_of bits (first + j) ≡ true → fewest ≤ set_size (get_or sets j d)
 
+-- before the first column
+pub rarest_none : (bits : List ℕ) (first : ℕ) (sets : List RowSet) → IsRarestBefore bits first sets first None 0
+rarest_none bits first sets = record {
+  column = λ k ge lt. absurd (omega arith);
+  size = λ i d found. absurd (cc);
+  least = λ i j d found. absurd (cc);
+}
+
+-- as few rows as the column's, in the sets of the columns before
+rarer : (bits : List ℕ) (first : ℕ) (sets : List RowSet) (from : ℕ) (rarest : Option ℕ) (fewest rows : ℕ) → IsRarestBefore bits first sets from rarest fewest
+    → ((i : ℕ) → rarest ≡ Some i → rows < fewest) → (j : ℕ) (d : RowSet) → j < length sets → first + j < from → bit_of bits (first + j) ≡ true → rows ≤ set_size (get_or sets j d)
+rarer bits first sets from None fewest rows so fewer j d j_in before on = absurd (true≢false (sym on ∙ so.column (first + j) (omega arith) before))
+rarer bits first sets from (Some i) fewest rows so fewer j d j_in before on = let less = fewer i refl in let least = so.least i j d refl j_in before on in omega arith
+
+-- the next column that the bits have is the first, or its set has fewer rows
+pub rarest_taken : (bits : List ℕ) (first : ℕ) (sets : List RowSet) (from to bit : ℕ) (rarest : Option ℕ) (fewest rows : ℕ) (d : RowSet) → IsRarestBefore bits first sets from rarest fewest
+    → IsFirstPlace (bit_of bits) from to bit → bit < to → first ≤ bit → bit - first < length sets → rows ≡ set_size (get_or sets (bit - first) d)
+    → ((i : ℕ) → rarest ≡ Some i → rows < fewest) → IsRarestBefore bits first sets (bit + 1) (Some (bit - first)) rows
+rarest_taken bits first sets from to bit rarest fewest rows d so is within low in' size fewer =
+    let back : first + (bit - first) ≡ bit = omega arith in
+    record {
+      column = (in', ap (bit_of bits) back ∙ is.hit within);
+      size = λ i e found. let at : bit - first ≡ i = cc in subst (λ k. set_size (get_or sets k e) ≡ rows) at (ap set_size (same_read sets (bit - first) e d in') ∙ sym size);
+      least = λ i j e found j_in lt on.
+          elim (cases_lt (first + j) from) [
+            | inl before ↦ rarer bits first sets from rarest fewest rows so fewer j e j_in before on
+            | inr ge ↦
+                elim (cases_lt (first + j) bit) [
+                  | inl small ↦ absurd (true≢false (sym on ∙ is.before (first + j) ge small))
+                  | inr last ↦
+                      let at : bit - first ≡ j = omega arith in
+                      let same : rows ≡ set_size (get_or sets j e) = size ∙ ap set_size (same_read sets (bit - first) d e in') ∙ ap (λ k. set_size (get_or sets k e)) at in
+                      omega arith
+                ]
+          ];
+    }
+
+column_stays : (bits : List ℕ) (first n from next : ℕ) (rarest : Option ℕ) → IsColumnBefore bits first n from rarest → is_some rarest ≡ true → IsColumnBefore bits first n next rarest
+column_stays bits first n from next None so some = absurd (true≢false (sym some))
+column_stays bits first n from next (Some i) so some = so
+
+-- the set of the next column that the bits have has no fewer rows
+pub rarest_stays : (bits : List ℕ) (first : ℕ) (sets : List RowSet) (from to bit : ℕ) (rarest : Option ℕ) (fewest rows : ℕ) (d : RowSet) → IsRarestBefore bits first sets from rarest fewest
+    → IsFirstPlace (bit_of bits) from to bit → first ≤ bit → bit - first < length sets → rows ≡ set_size (get_or sets (bit - first) d) → is_some rarest ≡ true → fewest ≤ rows
+    → IsRarestBefore bits first sets (bit + 1) rarest fewest
+rarest_stays bits first sets from to bit rarest fewest rows d so is low in' size some le = record {
+  column = column_stays bits first (length sets) from (bit + 1) rarest so.column some;
+  size = so.size;
+  least = λ i j e found j_in lt on.
+      elim (cases_lt (first + j) from) [
+        | inl before ↦ so.least i j e found j_in before on
+        | inr ge ↦
+            elim (cases_lt (first + j) bit) [
+              | inl small ↦ absurd (true≢false (sym on ∙ is.before (first + j) ge small))
+              | inr last ↦
+                  let at : bit - first ≡ j = omega arith in
+                  let same : rows ≡ set_size (get_or sets j e) = size ∙ ap set_size (same_read sets (bit - first) d e in') ∙ ap (λ k. set_size (get_or sets k e)) at in
+                  omega arith
+            ]
+      ];
+}
+
+-- the next column that the bits have is past the last set
+pub column_past : (bits : List ℕ) (first n from to bit : ℕ) (rarest : Option ℕ) → IsColumnBefore bits first n from rarest → IsFirstPlace (bit_of bits) from to bit → n ≤ bit - first
+    → IsColumnOf bits first n rarest
+column_past bits first n from to bit None so is past = λ i lt.
+    elim (cases_lt (first + i) from) [
+      | inl before ↦ so (first + i) (omega arith) before
+      | inr ge ↦ is.before (first + i) ge (omega arith)
+    ]
+column_past bits first n from to bit (Some i) so is past = so
+
+pub rarest_past : (bits : List ℕ) (first : ℕ) (sets : List RowSet) (from to bit : ℕ) (rarest : Option ℕ) (fewest : ℕ) → IsRarestBefore bits first sets from rarest fewest
+    → IsFirstPlace (bit_of bits) from to bit → length sets ≤ bit - first → IsRarestOf bits first sets rarest
+rarest_past bits first sets from to bit rarest fewest so is past i j d found j_in on =
+    let size = so.size i d found in
+    let le : fewest ≤ set_size (get_or sets j d) =
+    elim (cases_lt (first + j) from) [
+      | inl before ↦ so.least i j d found j_in before on
+      | inr ge ↦ absurd (true≢false (sym on ∙ is.before (first + j) ge (omega arith)))
+    ] in
+    rw size le
+
 -- the bits have no further column
+pub column_all : (bits : List ℕ) (first n from : ℕ) (rarest : Option ℕ) → IsColumnBefore bits first n from rarest → HoldsNowhere (bit_of bits) from (64 * length bits)
+    → IsColumnOf bits first n rarest
+column_all bits first n from None so none = λ i lt.
+    elim (cases_lt (first + i) from) [
+      | inl before ↦ so (first + i) (omega arith) before
+      | inr ge ↦
+          elim (cases_lt (first + i) (64 * length bits)) [
+            | inl small ↦ none (first + i) ge small
+            | inr past ↦ bit_past_end bits (first + i) past
+          ]
+    ]
+column_all bits first n from (Some i) so none = so
+
 pub rarest_all : (bits : List ℕ) (first : ℕ) (sets : List RowSet) (from : ℕ) (rarest : Option ℕ) (fewest : ℕ) → IsRarestBefore bits first sets from rarest fewest
     → HoldsNowhere (bit_of bits) from (64 * length bits) → IsRarestOf bits first sets rarest
 rarest_all bits first sets from rarest fewest so none i j d is j_in on =
