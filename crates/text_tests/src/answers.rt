@@ -1,50 +1,45 @@
 //! Worked answers: what is printed, and what is read or refused.
-use cx_base::{Formula, FormulaBuilder, Lit, Var};
+use crate::formulas::formula;
+use cx_base::{Formula, Lit, Var};
 use cx_desk::{MemDesk, Port, Rooms};
 use model_out::{put_answer, read_answer};
 use std::alloc::{AllocError, Global};
 use std::test::Fail;
 
-/// The parity of 1 and 2, and the clause of 1.
-fn formula(alloc: Global) -> Result<Formula, AllocError> {
-    let one = Lit::new(Var::new(1), false);
-    let two = Lit::new(Var::new(2), false);
-    let mut builder = FormulaBuilder::new(alloc);
-    builder.push(one)?;
-    builder.push(two)?;
-    builder.end_parity()?;
-    builder.push(one)?;
-    builder.end_clause()?;
-    Ok(builder.finish(2))
+/// The values that a text gives as an answer to the formula, or why it is none.
+fn answer_of(alloc: Global, formula: &Formula, text: &[u8]) -> Result<String, AllocError> {
+    match &read_answer(alloc, text, formula) {
+        Ok(values) => format!(in alloc; " {:?}", values.as_slice()),
+        Err(refusal) => format!(in alloc; " {refusal:?}"),
+    }
 }
 
-/// What each text gives as an answer to the formula, each behind a blank: its values, or why it is none.
-fn answers(alloc: Global, texts: &[&[u8]]) -> Result<String, AllocError> {
-    let formula = formula(alloc)?;
+/// What each text gives as an answer to the formula, each behind a blank.
+fn answers_to(alloc: Global, formula: &Formula, texts: &[&[u8]]) -> Result<String, AllocError> {
     let mut all = String::new(alloc);
     for text in texts {
-        let answer = match read_answer(alloc, text, &formula) {
-            Ok(values) => format!(in alloc; " {:?}", values.as_slice())?,
-            Err(refusal) => format!(in alloc; " {refusal:?}")?,
-        };
-        all.push_str(answer.as_str())?;
+        all.push_str(answer_of(alloc, formula, text)?.as_str())?;
     }
     Ok(all)
 }
 
-/// What is written of a list of true values on an answer port with so much room, with a `!` behind it where that was all.
-fn printed(alloc: Global, count: usize, answer: usize) -> Result<Vec<u8>, AllocError> {
-    if answer > 16_384 || count > 4096 {
-        return Ok(Vec::new(alloc));
-    }
-    let rooms = Rooms {
-        answer,
-        proof: 0,
-        message: 0,
-    };
-    let mut desk = MemDesk::make(alloc, Vec::new(alloc), rooms, 5, Vec::new(alloc))?;
-    let values = vec![in alloc; true; count]?;
-    let done = put_answer(&mut desk, values.as_slice()).is_ok();
+/// The same, where the formula is the parity of 1 and 2 and the clause of 1.
+fn answers(alloc: Global, texts: &[&[u8]]) -> Result<String, AllocError> {
+    let one = Lit::new(Var::new(1), false);
+    let two = Lit::new(Var::new(2), false);
+    let formula = formula(alloc, &[one, two], one)?;
+    answers_to(alloc, &formula, texts)
+}
+
+/// Puts so many true values. Whether all was written.
+fn put(alloc: Global, desk: &mut MemDesk, count: usize) -> Result<bool, AllocError> {
+    let values = vec![in alloc; true; count.min(4096)]?;
+    Ok(put_answer(desk, &values).is_ok())
+}
+
+/// What is written of so many true values, with a `!` behind it where that was all.
+fn printed_on(alloc: Global, desk: &mut MemDesk, count: usize) -> Result<Vec<u8>, AllocError> {
+    let done = put(alloc, desk, count)?;
     let mut text = desk.written(Port::Answer).to_vec(alloc)?;
     if done {
         text.push(b'!')?;
@@ -52,24 +47,47 @@ fn printed(alloc: Global, count: usize, answer: usize) -> Result<Vec<u8>, AllocE
     Ok(text)
 }
 
+/// The same on an answer port with so much room.
+fn printed(alloc: Global, count: usize, answer: usize) -> Result<Vec<u8>, AllocError> {
+    let rooms = Rooms {
+        answer: answer.min(16_384),
+        proof: 0,
+        message: 0,
+    };
+    let mut desk = MemDesk::make(alloc, Vec::new(alloc), rooms, 5, Vec::new(alloc))?;
+    printed_on(alloc, &mut desk, count)
+}
+
+/// The same for each count and room, one behind the other.
+fn all_printed(alloc: Global, cases: &[(usize, usize)]) -> Result<Vec<u8>, AllocError> {
+    let mut all = Vec::new(alloc);
+    for (count, answer) in cases {
+        all.extend_from_slice(&printed(alloc, *count, *answer)?)?;
+    }
+    Ok(all)
+}
+
 #[test]
 fn sixteen_literals_stand_on_a_line(rt: HostRuntime) -> Result<(), Fail> {
-    let alloc = rt.alloc();
-    let none = b"s SATISFIABLE\nv 0\n!".as_slice();
-    assert_eq!(rt; printed(alloc, 0, 100)?.as_slice(), none);
-    let sixteen = b"s SATISFIABLE\nv 1 2 3 4 5 6 7 8 9 10 11 12 13 14 15 16 0\n!".as_slice();
-    assert_eq!(rt; printed(alloc, 16, 100)?.as_slice(), sixteen);
-    let more = b"s SATISFIABLE\nv 1 2 3 4 5 6 7 8 9 10 11 12 13 14 15 16\nv 17 0\n!".as_slice();
-    assert_eq!(rt; printed(alloc, 17, 100)?.as_slice(), more);
-    assert_eq!(rt; printed(alloc, 17, 3)?.as_slice(), b"s S".as_slice());
+    let text = all_printed(rt.alloc(), &[(0, 100), (16, 100), (17, 100), (17, 3)])?;
+    let wanted = "\
+s SATISFIABLE
+v 0
+!s SATISFIABLE
+v 1 2 3 4 5 6 7 8 9 10 11 12 13 14 15 16 0
+!s SATISFIABLE
+v 1 2 3 4 5 6 7 8 9 10 11 12 13 14 15 16
+v 17 0
+!s S";
+    assert_eq!(rt; text.as_slice(), wanted.as_bytes());
     Ok(())
 }
 
 #[test]
 fn a_long_answer_is_written_whole(rt: HostRuntime) -> Result<(), Fail> {
     let text = printed(rt.alloc(), 2000, 10_000)?;
-    assert_eq!(rt; text.len(), 9160);
-    assert!(rt; text.as_slice().ends_with(b" 1999 2000 0\n!"));
+    let found = (text.len(), text.as_slice().ends_with(b" 1999 2000 0\n!"));
+    assert_eq!(rt; found, (9160, true));
     Ok(())
 }
 

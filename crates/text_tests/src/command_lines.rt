@@ -1,5 +1,5 @@
 //! Command lines, and what they ask for.
-use cx_words::{Kind, Plan, PlanRefusal, plan};
+use cx_words::{Kind, Name, Plan, PlanRefusal, plan};
 use std::alloc::{AllocError, Global};
 use std::test::Fail;
 
@@ -131,6 +131,28 @@ fn kind_name(kind: Kind) -> &'static str {
     }
 }
 
+/// The words with a blank between two.
+fn line(alloc: Global, words: &[&str]) -> Result<String, AllocError> {
+    words.join(alloc, " ")
+}
+
+/// A plan to solve as a line.
+fn solve_line(
+    alloc: Global,
+    formula: &Name,
+    log: &Option<Name>,
+    conflicts: u64,
+) -> Result<String, AllocError> {
+    match log {
+        None => format!(in alloc; "solve {} {conflicts}", formula.as_str()),
+        Some(log) => format!(in alloc;
+            "solve {} {conflicts} to {}",
+            formula.as_str(),
+            log.as_str()
+        ),
+    }
+}
+
 /// The plan as a line.
 fn shown(alloc: Global, plan: &Plan) -> Result<String, AllocError> {
     match plan {
@@ -138,46 +160,39 @@ fn shown(alloc: Global, plan: &Plan) -> Result<String, AllocError> {
             formula,
             log,
             conflicts,
-        } => match log {
-            None => format!(in alloc; "solve {} {}", formula.as_str(), conflicts),
-            Some(log) => {
-                format!(in alloc;
-                    "solve {} {} to {}",
-                    formula.as_str(),
-                    conflicts,
-                    log.as_str()
-                )
-            }
-        },
-        Plan::Check { formula, proof } => {
-            format!(in alloc; "check {} {}", formula.as_str(), proof.as_str())
-        }
+        } => solve_line(alloc, formula, log, *conflicts),
+        Plan::Check { formula, proof } => line(alloc, &["check", formula.as_str(), proof.as_str()]),
         Plan::Elab {
             formula,
             log,
             proof,
-        } => format!(in alloc;
-            "elab {} {} {}",
-            formula.as_str(),
-            log.as_str(),
-            proof.as_str()
+        } => line(
+            alloc,
+            &["elab", formula.as_str(), log.as_str(), proof.as_str()],
         ),
-        Plan::Model { formula, answer } => {
-            format!(in alloc; "model {} {}", formula.as_str(), answer.as_str())
-        }
+        Plan::Model { formula, answer } => line(
+            alloc,
+            &["model", formula.as_str(), answer.as_str()],
+        ),
         Plan::Demo { kind, size, seed } => {
-            format!(in alloc; "demo {} {} {}", kind_name(*kind), size, seed)
+            format!(in alloc; "demo {} {size} {seed}", kind_name(*kind))
         }
+    }
+}
+
+/// The line of a plan, or `usage`.
+fn answer(alloc: Global, planned: &Result<Plan, PlanRefusal>) -> Result<String, AllocError> {
+    match planned {
+        Ok(plan) => shown(alloc, plan),
+        Err(PlanRefusal::Usage) => String::from_str(alloc, "usage"),
+        Err(PlanRefusal::Memory) => Err(AllocError),
     }
 }
 
 /// The line of the plan that the words ask for, or `usage`.
 fn answer_to(alloc: Global, words: &[String]) -> Result<String, AllocError> {
-    match plan(alloc, words) {
-        Ok(plan) => shown(alloc, &plan),
-        Err(PlanRefusal::Usage) => String::from_str(alloc, "usage"),
-        Err(PlanRefusal::Memory) => Err(AllocError),
-    }
+    let planned = plan(alloc, words);
+    answer(alloc, &planned)
 }
 
 /// Whether the line asks for this plan.

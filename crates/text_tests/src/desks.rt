@@ -1,10 +1,10 @@
 //! What a desk in memory does, and a text that is read from one.
-ghost use Rattle.std.specs.Prelude.{◌≤◌};
+ghost use Rattle.std.specs.Prelude.{◌≡◌, None, true};
+ghost use Rattle.cx_desk.specs.Memory.{outside_of};
 
 use crate::one_file::{desk, start};
-use cx_desk::{Desk, Port, RepeatDesk, Rooms, Slot, drain, read_whole};
+use cx_desk::{Desk, MemDesk, Port, RepeatDesk, Rooms, Slot, drain, read_whole};
 use std::alloc::{AllocError, Global};
-use std::process::Abort;
 use std::test::Fail;
 
 /// The file's bytes.
@@ -16,135 +16,234 @@ const WIDE: Rooms = Rooms {
     message: 100,
 };
 
-/// What is read of the file up to a limit, or why it is not, and the faults.
-fn read_up_to(rt: &impl Abort, alloc: Global, limit: u64) -> Result<String, AllocError> {
-    let mut desk = desk(alloc, TEXT, WIDE, 2, &[])?;
-    assert!(rt; start(alloc, &mut desk, Slot::Formula)?);
-    match read_whole(alloc, &mut desk, Slot::Formula, limit) {
-        Ok(text) => format!(in alloc; "{:?} {}", text.as_slice(), desk.read_faults()),
-        Err(why) => format!(in alloc; "{why:?} {}", desk.read_faults()),
+/// What is done with a file that was opened.
+#[derive(Clone, Copy, Drop)]
+enum Reading {
+    /// It is read whole, up to a limit.
+    Whole(u64),
+    /// It is drained, up to a limit.
+    Drain(u64),
+    /// A piece of it is read, and another one.
+    Twice,
+    /// A piece of it is read, and five bytes are written on the proof.
+    AndPut,
+}
+
+/// What is done with a desk.
+#[derive(Clone, Copy, Drop)]
+enum Act {
+    /// The file is opened and read.
+    Read(Reading),
+    /// A port is given five bytes, and two more.
+    PutTwice(Port),
+    /// A file is opened that the desk has not.
+    StartAnother,
+}
+
+/// The most bytes that one call moves, the numbers of the calls that fail, and what is done.
+type Case = (usize, &'static [u64], Act);
+
+/// What is read of the file up to a limit, or why it is not.
+fn read_up_to(alloc: Global, desk: &mut MemDesk, limit: u64) -> Result<String, AllocError>
+    requires { (outside_of desk.old).started.formula ≡ true }
+{
+    match read_whole(alloc, desk, Slot::Formula, limit) {
+        Ok(text) => format!(in alloc; "{:?}", text.as_slice()),
+        Err(why) => format!(in alloc; "{why:?}"),
     }
+}
+
+/// What two reads answer.
+fn read_twice(alloc: Global, desk: &mut MemDesk) -> Result<String, AllocError>
+    requires { (outside_of desk.old).started.formula ≡ true }
+{
+    let mut buffer = [0; 8];
+    let first = desk.read(Slot::Formula, &mut buffer);
+    let second = desk.read(Slot::Formula, &mut buffer);
+    format!(in alloc; "{first:?} {second:?}")
+}
+
+/// What a read and a write of several bytes answer, and how many are written then.
+fn read_and_put(alloc: Global, desk: &mut MemDesk) -> Result<String, AllocError>
+    requires { (outside_of desk.old).started.formula ≡ true }
+{
+    let read = desk.read(Slot::Formula, &mut [0; 8]);
+    let put = desk.put(Port::Proof, b"abcde");
+    format!(in alloc; "{read:?} {put:?} {}", desk.written(Port::Proof).len())
+}
+
+/// What comes of reading an opened file.
+fn read(alloc: Global, desk: &mut MemDesk, reading: Reading) -> Result<String, AllocError>
+    requires { (outside_of desk.old).started.formula ≡ true }
+{
+    match reading {
+        Reading::Whole(limit) => read_up_to(alloc, desk, limit),
+        Reading::Drain(left) => {
+            let answer = drain(desk, Slot::Formula, left);
+            format!(in alloc; "{answer:?}")
+        }
+        Reading::Twice => read_twice(alloc, desk),
+        Reading::AndPut => read_and_put(alloc, desk),
+    }
+}
+
+/// What comes of reading the file.
+fn open_and_read(alloc: Global, desk: &mut MemDesk, reading: Reading) -> Result<String, AllocError>
+    requires { (outside_of desk.old).asked.formula ≡ None }
+{
+    if start(alloc, desk, Slot::Formula)? {
+        read(alloc, desk, reading)
+    } else {
+        String::from_str(alloc, "not opened")
+    }
+}
+
+/// What two calls that write on a port answer, and what it has then.
+fn put_twice(alloc: Global, desk: &mut MemDesk, port: Port) -> Result<String, AllocError> {
+    let first = desk.put(port, b"abcde");
+    let second = desk.put(port, b"de");
+    format!(in alloc; "{first:?} {second:?} {}", desk.written(port).len())
+}
+
+/// What opening a file answers that the desk has not.
+fn start_another(alloc: Global, desk: &mut MemDesk) -> Result<String, AllocError>
+    requires { (outside_of desk.old).asked.formula ≡ None }
+{
+    let started = desk.start(Slot::Formula, String::from_str(alloc, "six")?);
+    format!(in alloc; "{started:?}")
+}
+
+/// What comes of an act.
+fn take(alloc: Global, desk: &mut MemDesk, act: Act) -> Result<String, AllocError>
+    requires { (outside_of desk.old).asked.formula ≡ None }
+{
+    match act {
+        Act::Read(reading) => open_and_read(alloc, desk, reading),
+        Act::PutTwice(port) => put_twice(alloc, desk, port),
+        Act::StartAnother => start_another(alloc, desk),
+    }
+}
+
+/// Appends what comes of an act, and the faults of reads, writes and messages.
+fn add_act(alloc: Global, desk: &mut MemDesk, act: Act, told: &mut String) -> Result<(), AllocError>
+    requires { (outside_of desk.old).asked.formula ≡ None }
+{
+    told.push_str(take(alloc, desk, act)?.as_str())?;
+    let (reads, writes, messages) = (
+        desk.read_faults(),
+        desk.write_faults(),
+        desk.message_faults(),
+    );
+    writeln!(told, ", faults {reads} {writes} {messages}")
+}
+
+/// The same on a new desk.
+fn add_case(alloc: Global, rooms: Rooms, case: &Case, told: &mut String) -> Result<(), AllocError> {
+    let mut desk = desk(alloc, TEXT, rooms, case.0.max(1), case.1)?;
+    add_act(alloc, &mut desk, case.2, told)
+}
+
+/// What comes of each case, on a desk of its own with these rooms.
+fn told(alloc: Global, rooms: Rooms, cases: &[Case]) -> Result<String, AllocError> {
+    let mut told = String::new(alloc);
+    for case in cases {
+        add_case(alloc, rooms, case, &mut told)?;
+    }
+    Ok(told)
 }
 
 #[test]
 fn a_text_is_read_up_to_the_limit(rt: HostRuntime) -> Result<(), Fail> {
-    let alloc = rt.alloc();
-    for limit in [u64::MAX, 5] {
-        let read = read_up_to(&rt, alloc, limit)?;
-        assert!(rt; read.as_str() == "[97, 98, 99, 100, 101] 0", "{limit}");
-    }
-    for limit in [4, 0] {
-        assert!(rt;
-            read_up_to(&rt, alloc, limit)?.as_str() == "TooLong 0",
-            "{limit}"
-        );
-    }
+    let cases: [Case; 4] = [
+        (2, &[], Act::Read(Reading::Whole(u64::MAX))),
+        (2, &[], Act::Read(Reading::Whole(5))),
+        (2, &[], Act::Read(Reading::Whole(4))),
+        (2, &[], Act::Read(Reading::Whole(0))),
+    ];
+    let wanted = "\
+[97, 98, 99, 100, 101], faults 0 0 0
+[97, 98, 99, 100, 101], faults 0 0 0
+TooLong, faults 0 0 0
+TooLong, faults 0 0 0
+";
+    assert_eq!(rt; told(rt.alloc(), WIDE, &cases)?.as_str(), wanted);
     Ok(())
-}
-
-/// What the draining of the file answers, and the faults.
-fn drained(
-    rt: &impl Abort,
-    alloc: Global,
-    left: u64,
-    failing: &[u64],
-) -> Result<String, AllocError> {
-    let mut desk = desk(alloc, TEXT, WIDE, 2, failing)?;
-    assert!(rt; start(alloc, &mut desk, Slot::Formula)?);
-    let answer = drain(&mut desk, Slot::Formula, left);
-    format!(in alloc; "{answer:?} {}", desk.read_faults())
 }
 
 #[test]
 fn a_text_is_drained_up_to_the_limit(rt: HostRuntime) -> Result<(), Fail> {
-    let none = [].as_slice();
-    for (left, failing, answer) in [
-        (u64::MAX, none, "Ok(()) 0"),
-        (5, none, "Ok(()) 0"),
-        (4, none, "Err(TooLong) 0"),
-        (0, none, "Err(TooLong) 0"),
-        (5, [3].as_slice(), "Err(Failed) 1"),
-    ] {
-        let drained = drained(&rt, rt.alloc(), left, failing)?;
-        assert!(rt; drained.as_str() == answer, "{left}: {drained}");
-    }
+    let cases: [Case; 5] = [
+        (2, &[], Act::Read(Reading::Drain(u64::MAX))),
+        (2, &[], Act::Read(Reading::Drain(5))),
+        (2, &[], Act::Read(Reading::Drain(4))),
+        (2, &[], Act::Read(Reading::Drain(0))),
+        (2, &[3], Act::Read(Reading::Drain(5))),
+    ];
+    let wanted = "\
+Ok(()), faults 0 0 0
+Ok(()), faults 0 0 0
+Err(TooLong), faults 0 0 0
+Err(TooLong), faults 0 0 0
+Err(Failed), faults 1 0 0
+";
+    assert_eq!(rt; told(rt.alloc(), WIDE, &cases)?.as_str(), wanted);
     Ok(())
+}
+
+/// Whether a text without an end was opened, whether reading it up to a limit fails, and how many bytes it gave.
+fn read_endless(alloc: Global) -> Result<(bool, bool, u64), AllocError> {
+    let name = String::from_str(alloc, "any")?;
+    let mut desk = RepeatDesk::make(b'a');
+    let opened = desk.start(Slot::Second, name).is_ok();
+    let fails = read_whole(alloc, &mut desk, Slot::Second, 4).is_err();
+    Ok((opened, fails, desk.taken()))
 }
 
 #[test]
 fn a_text_without_an_end_is_too_long(rt: HostRuntime) -> Result<(), Fail> {
-    let alloc = rt.alloc();
-    let mut desk = RepeatDesk::make(b'a');
-    let started = desk.start(Slot::Second, String::from_str(alloc, "any")?);
-    assert!(rt; started.is_ok());
-    let read = read_whole(alloc, &mut desk, Slot::Second, 4);
-    assert!(rt; read.is_err());
-    assert_eq!(rt; desk.taken(), 5);
+    assert_eq!(rt; read_endless(rt.alloc())?, (true, true, 5));
     Ok(())
 }
 
-/// What two calls that write on a port of little room answer, what it has then, and the faults.
-fn put_twice(alloc: Global, port: Port) -> Result<String, AllocError> {
+#[test]
+fn a_full_port_takes_what_fits_and_then_fails(rt: HostRuntime) -> Result<(), Fail> {
     let rooms = Rooms {
         answer: 3,
         proof: 0,
         message: 2,
     };
-    let mut desk = desk(alloc, TEXT, rooms, 8, &[])?;
-    let first = desk.put(port, b"abcde");
-    let second = desk.put(port, b"de");
-    let len = desk.written(port).len();
-    let faults = (desk.write_faults(), desk.message_faults());
-    format!(in alloc; "{first:?} {second:?} {len} {} {}", faults.0, faults.1)
-}
-
-#[test]
-fn a_full_port_takes_what_fits_and_then_fails(rt: HostRuntime) -> Result<(), Fail> {
-    let answer = put_twice(rt.alloc(), Port::Answer)?;
-    assert_eq!(rt; answer.as_str(), "Ok(3) Err(Failed) 3 1 0");
-    let message = put_twice(rt.alloc(), Port::Message)?;
-    assert_eq!(rt; message.as_str(), "Ok(2) Err(Failed) 2 0 1");
+    let cases: [Case; 2] = [
+        (8, &[], Act::PutTwice(Port::Answer)),
+        (8, &[], Act::PutTwice(Port::Message)),
+    ];
+    let wanted = "Ok(3) Err(Failed) 3, faults 0 1 0\nOk(2) Err(Failed) 2, faults 0 0 1\n";
+    assert_eq!(rt; told(rt.alloc(), rooms, &cases)?.as_str(), wanted);
     Ok(())
 }
 
 #[test]
 fn a_failing_call_fails_once(rt: HostRuntime) -> Result<(), Fail> {
-    let alloc = rt.alloc();
-    let mut desk = desk(alloc, TEXT, WIDE, 8, &[2])?;
-    assert!(rt; start(alloc, &mut desk, Slot::Formula)?);
-    let mut buffer = [0; 8];
-    let first = desk.read(Slot::Formula, &mut buffer);
-    let second = desk.read(Slot::Formula, &mut buffer);
-    let found = format!(in alloc; "{first:?} {second:?} {}", desk.read_faults())?;
-    assert_eq!(rt; found.as_str(), "Err(Failed) Ok(5) 1");
+    let cases: [Case; 1] = [(8, &[2], Act::Read(Reading::Twice))];
+    let wanted = "Err(Failed) Ok(5), faults 1 0 0\n";
+    assert_eq!(rt; told(rt.alloc(), WIDE, &cases)?.as_str(), wanted);
     Ok(())
 }
 
 #[test]
 fn a_missing_name_is_a_read_fault(rt: HostRuntime) -> Result<(), Fail> {
-    let alloc = rt.alloc();
-    let mut desk = desk(alloc, TEXT, WIDE, 8, &[])?;
-    let started = desk.start(Slot::Formula, String::from_str(alloc, "six")?);
-    let found = format!(in alloc; "{started:?} {}", desk.read_faults())?;
-    assert_eq!(rt; found.as_str(), "Err(Failed) 1");
+    let cases: [Case; 1] = [(8, &[], Act::StartAnother)];
+    let wanted = "Err(Failed), faults 1 0 0\n";
+    assert_eq!(rt; told(rt.alloc(), WIDE, &cases)?.as_str(), wanted);
     Ok(())
-}
-
-/// What a read and a write of several bytes answer, and what is written then.
-fn moved(rt: &impl Abort, alloc: Global, piece: usize) -> Result<String, AllocError>
-    requires { 1 ≤ piece }
-{
-    let mut desk = desk(alloc, TEXT, WIDE, piece, &[])?;
-    assert!(rt; start(alloc, &mut desk, Slot::Formula)?);
-    let read = desk.read(Slot::Formula, &mut [0; 8]);
-    let put = desk.put(Port::Proof, b"abcde");
-    let len = desk.written(Port::Proof).len();
-    format!(in alloc; "{read:?} {put:?} {len}")
 }
 
 #[test]
 fn a_call_moves_at_most_a_piece(rt: HostRuntime) -> Result<(), Fail> {
-    assert_eq!(rt; moved(&rt, rt.alloc(), 1)?.as_str(), "Ok(1) Ok(1) 1");
-    assert_eq!(rt; moved(&rt, rt.alloc(), 2)?.as_str(), "Ok(2) Ok(2) 2");
+    let cases: [Case; 2] = [
+        (1, &[], Act::Read(Reading::AndPut)),
+        (2, &[], Act::Read(Reading::AndPut)),
+    ];
+    let wanted = "Ok(1) Ok(1) 1, faults 0 0 0\nOk(2) Ok(2) 2, faults 0 0 0\n";
+    assert_eq!(rt; told(rt.alloc(), WIDE, &cases)?.as_str(), wanted);
     Ok(())
 }

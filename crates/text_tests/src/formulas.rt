@@ -1,20 +1,34 @@
 //! A small formula: the values that meet it, and its clauses and parities one by one.
+ghost use Rattle.std.specs.Prelude.{◌≡◌, [], OnOk};
+
 use cx_base::{ConstraintRef, Formula, FormulaBuilder, Lit, Var};
 use std::alloc::{AllocError, Global};
 use std::test::Fail;
 
-/// The parity of 1, 1 and 2, and the clause of 1, over at least one variable.
+/// Adds a parity of literals, and a clause of one.
+fn add(builder: &mut FormulaBuilder, parity: &[Lit], clause: Lit) -> Result<(), AllocError>
+    ensures { OnOk result (builder.new.unfinished ≡ []) }
+{
+    for lit in parity {
+        builder.push(*lit)?;
+    }
+    builder.end_parity()?;
+    builder.push(clause)?;
+    builder.end_clause()
+}
+
+/// A parity of literals, and a clause of one, over at least one variable.
+pub(crate) fn formula(alloc: Global, parity: &[Lit], clause: Lit) -> Result<Formula, AllocError> {
+    let mut builder = FormulaBuilder::new(alloc);
+    add(&mut builder, parity, clause)?;
+    Ok(builder.finish(1))
+}
+
+/// The parity of 1, 1 and 2, and the clause of 1.
 fn small(alloc: Global) -> Result<Formula, AllocError> {
     let one = Lit::new(Var::new(1), false);
     let two = Lit::new(Var::new(2), false);
-    let mut builder = FormulaBuilder::new(alloc);
-    builder.push(one)?;
-    builder.push(one)?;
-    builder.push(two)?;
-    builder.end_parity()?;
-    builder.push(one)?;
-    builder.end_clause()?;
-    Ok(builder.finish(1))
+    formula(alloc, &[one, one, two], one)
 }
 
 /// For each list of values the first constraint that it does not meet, and whether it meets all.

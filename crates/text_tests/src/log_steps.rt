@@ -1,84 +1,127 @@
 //! Worked logs: what is read, kept and printed again, and what is refused and where.
+ghost use Rattle.std.specs.Prelude.{◌≡◌, false};
 ghost use Rattle.cx_base.specs.declared.steps.LogEvent.TheVariants.{Step};
 ghost use Rattle.cx_texts.specs.Printed.{HasText};
+ghost use Rattle.step_text.specs.Texts.{is_spent_by};
 
-use crate::reprinting::{Reprint, Written, endings_of, lines_come_back};
+use crate::reprinting::{Reprint, endings_of, lines_come_back};
 use cx_base::LogEvent;
 use cx_desk::{MemDesk, Port, Rooms};
 use log_text::{ListLog, LogStep, LogText, NoLog, put_log, put_log_step};
-use std::alloc::Global;
+use std::alloc::{AllocError, Global};
 use std::test::Fail;
-use step_text::{Sink, StepSource, TextRefusal};
+use step_text::{Sink, SinkFault, StepSource, TextRefusal};
 
 /// The texts of logs.
 struct Logs;
 
-/// What was printed of a log: step by step, and as a whole.
-#[derive(Drop)]
-struct PrintedTwice {
-    written: Written,
-    log: Vec<u8>,
-}
-
 /// Keeps a step or a mark in the log, and gives it to one that keeps nothing.
-fn keep(log: &mut ListLog, told: &LogEvent) -> Result<(), Fail>
+fn keep(log: &mut ListLog, told: &LogEvent) -> Result<(), SinkFault>
     requires { HasText told.now }
 {
     log.put(told)?;
     let mut nothing = NoLog;
-    nothing.put(told)?;
-    Ok(())
+    nothing.put(told)
 }
 
 /// Prints a step, and keeps it with a mark behind it.
 fn put(desk: &mut MemDesk, log: &mut ListLog, step: LogStep, k: u64) -> Result<(), Fail>
     requires { HasText (Step step) }
 {
-    put_log_step(desk, Port::Proof, &step)?;
-    keep(log, &LogEvent::Step(step))?;
-    keep(log, &LogEvent::Conflict(k))
+    let printed = put_log_step(desk, Port::Proof, &step);
+    let kept = keep(log, &LogEvent::Step(step));
+    printed?;
+    kept?;
+    keep(log, &LogEvent::Conflict(k))?;
+    Ok(())
 }
 
-/// At most sixteen steps of a text, each with a mark behind it in the whole log.
-fn printed(alloc: Global, text: &[u8]) -> Result<PrintedTwice, Fail> {
+/// Puts at most sixteen steps, each with a mark behind it in the log. The refusal that they end with.
+fn put_all(
+    desk: &mut MemDesk,
+    log: &mut ListLog,
+    source: &mut LogText,
+) -> Result<Option<TextRefusal>, Fail>
+    requires { is_spent_by source.old.refused ≡ false }
+{
+    for k in 1..17 {
+        match source.next_step() {
+            Ok(Some(step)) => put(desk, log, step, k)?,
+            Ok(None) => return Ok(None),
+            Err(refusal) => return Ok(Some(refusal)),
+        }
+    }
+    Ok(None)
+}
+
+/// Prints the steps of a text on the proof port, and what was kept of them on the answer port.
+fn print_with(
+    alloc: Global,
+    text: &[u8],
+    desk: &mut MemDesk,
+    log: &mut ListLog,
+) -> Result<Option<TextRefusal>, Fail> {
+    if text.len() > 4096 {
+        return Ok(Some(TextRefusal::TooLong));
+    }
+    let mut source = LogText::new(alloc, text);
+    let ending = put_all(desk, log, &mut source)?;
+    put_log(desk, Port::Answer, log)?;
+    Ok(ending)
+}
+
+/// The same with a log of its own.
+fn print(alloc: Global, text: &[u8], desk: &mut MemDesk) -> Result<Option<TextRefusal>, Fail> {
+    let mut log = ListLog::make(alloc);
+    print_with(alloc, text, desk, &mut log)
+}
+
+/// Appends the printed steps of a text.
+fn add_steps(
+    alloc: Global,
+    text: &[u8],
+    desk: &mut MemDesk,
+    printed: &mut Vec<u8>,
+) -> Result<Option<TextRefusal>, Fail> {
+    let ending = print(alloc, text, desk)?;
+    printed.extend_from_slice(desk.written(Port::Proof))?;
+    Ok(ending)
+}
+
+/// The printed steps of a text, the printed log and the ending.
+fn twice(alloc: Global, text: &[u8], desk: &mut MemDesk) -> Result<Vec<u8>, Fail> {
+    let mut printed = Vec::new(alloc);
+    let ending = add_steps(alloc, text, desk, &mut printed)?;
+    printed.extend_from_slice(desk.written(Port::Answer))?;
+    printed.extend_from_slice(format!(in alloc; "{ending:?}\n")?.as_bytes())?;
+    Ok(printed)
+}
+
+/// A desk with room for steps and logs.
+fn new_desk(alloc: Global) -> Result<MemDesk, AllocError> {
     let rooms = Rooms {
         answer: 4096,
         proof: 4096,
         message: 0,
     };
-    let mut desk = MemDesk::make(alloc, Vec::new(alloc), rooms, 3, Vec::new(alloc))?;
-    let mut log = ListLog::make(alloc);
-    let mut ending = None;
-    if text.len() <= 4096 {
-        let mut source = LogText::new(alloc, text);
-        for k in 1..17 {
-            match source.next_step() {
-                Ok(Some(step)) => {
-                    put(&mut desk, &mut log, step, k)?;
-                }
-                Ok(None) => break,
-                Err(refusal) => {
-                    ending = Some(refusal);
-                    break;
-                }
-            }
-        }
-    }
-    put_log(&mut desk, Port::Answer, &log)?;
-    let written = Written {
-        steps: desk.written(Port::Proof).to_vec(alloc)?,
-        ending,
-    };
-    Ok(PrintedTwice {
-        written,
-        log: desk.written(Port::Answer).to_vec(alloc)?,
-    })
+    MemDesk::make(alloc, Vec::new(alloc), rooms, 3, Vec::new(alloc))
 }
 
 impl Reprint for Logs {
-    fn reprinted(alloc: Global, text: &[u8]) -> Result<Written, Fail> {
-        Ok(printed(alloc, text)?.written)
+    fn reprint(
+        alloc: Global,
+        text: &[u8],
+        printed: &mut Vec<u8>,
+    ) -> Result<Option<TextRefusal>, Fail> {
+        let mut desk = new_desk(alloc)?;
+        add_steps(alloc, text, &mut desk, printed)
     }
+}
+
+/// The same on a new desk.
+fn printed_twice(alloc: Global, text: &[u8]) -> Result<Vec<u8>, Fail> {
+    let mut desk = new_desk(alloc)?;
+    twice(alloc, text, &mut desk)
 }
 
 #[test]
@@ -102,16 +145,11 @@ fn printed_steps_are_the_steps_read(rt: HostRuntime) -> Result<(), Fail> {
 
 #[test]
 fn marks_are_lines_that_are_passed_over(rt: HostRuntime) -> Result<(), Fail> {
-    let log = printed(rt.alloc(), b"o 1 1 0\nc conflict 7\na 2 0\nl 1 0 d 1 0")?;
-    assert_eq!(rt;
-        log.written.steps.as_slice(),
-        b"o 1 1 0\na 2 0 l 1 0\nd 1 0\n".as_slice()
-    );
-    assert_eq!(rt;
-        log.log.as_slice(),
-        b"o 1 1 0\nc conflict 1\na 2 0 l 1 0\nc conflict 2\nd 1 0\nc conflict 3\n".as_slice()
-    );
-    assert_eq!(rt; log.written.ending, None);
+    let text = b"o 1 1 0\nc conflict 7\na 2 0\nl 1 0 d 1 0".as_slice();
+    // the steps, the log with the marks that were kept in it, and no refusal
+    let wanted =
+        b"o 1 1 0\na 2 0 l 1 0\nd 1 0\no 1 1 0\nc conflict 1\na 2 0 l 1 0\nc conflict 2\nd 1 0\nc conflict 3\nNone\n".as_slice();
+    assert_eq!(rt; printed_twice(rt.alloc(), text)?.as_slice(), wanted);
     Ok(())
 }
 

@@ -1,50 +1,77 @@
 //! Worked texts: the steps that are read and printed again, and what is refused and where.
-ghost use Rattle.std.specs.Prelude.{◌≡◌, true, false, OnOk};
+ghost use Rattle.std.specs.Prelude.{◌≡◌, true, false, OnOk, IfOk};
 ghost use Rattle.cx_texts.specs.Printed.{HasProofText};
 ghost use Rattle.step_text.specs.Texts.{is_spent_by};
 ghost use Rattle.proof_text.specs.Told.{is_whole, Prints};
+ghost use Rattle.cx_desk.specs.Memory.{outside_of};
 
-use crate::reprinting::{Reprint, Written, endings_of, lines_come_back};
-use cx_desk::{Desk, MemDesk, Port, Rooms};
+use crate::reprinting::{Reprint, endings_of, lines_come_back};
+use cx_desk::{Desk, Failed, MemDesk, Port, Rooms};
 use proof_text::{DeskProof, ListProof, ProofStep, ProofText, put_proof_step};
-use std::alloc::Global;
+use std::alloc::{AllocError, Global};
 use std::test::Fail;
 use step_text::{Sink, SinkFault, StepSource, TextRefusal};
 
 /// The texts of proofs.
 struct Proofs;
 
-/// At most sixteen steps of a text.
-fn printed(alloc: Global, text: &[u8]) -> Result<Written, Fail> {
-    let rooms = Rooms {
-        answer: 0,
-        proof: 4096,
-        message: 0,
-    };
-    let mut desk = MemDesk::make(alloc, Vec::new(alloc), rooms, 3, Vec::new(alloc))?;
-    let mut ending = None;
-    if text.len() <= 4096 {
-        let mut source = ProofText::new(alloc, text);
-        for _ in 0..16 {
-            match source.next_step() {
-                Ok(Some(step)) => put_proof_step(&mut desk, Port::Proof, &step)?,
-                Ok(None) => break,
-                Err(refusal) => {
-                    ending = Some(refusal);
-                    break;
-                }
-            }
+/// Prints a step on the proof port.
+fn print(desk: &mut MemDesk, step: ProofStep) -> Result<(), Failed>
+    requires { HasProofText step }
+{
+    put_proof_step(desk, Port::Proof, &step)
+}
+
+/// Prints at most sixteen steps. The refusal that they end with.
+fn print_all(desk: &mut MemDesk, source: &mut ProofText) -> Result<Option<TextRefusal>, Failed>
+    requires { is_spent_by source.old.refused ≡ false }
+{
+    for _ in 0..16 {
+        match source.next_step() {
+            Ok(Some(step)) => print(desk, step)?,
+            Ok(None) => return Ok(None),
+            Err(refusal) => return Ok(Some(refusal)),
         }
     }
-    Ok(Written {
-        steps: desk.written(Port::Proof).to_vec(alloc)?,
-        ending,
-    })
+    Ok(None)
+}
+
+/// Appends the printed steps of a text.
+fn add_steps(
+    alloc: Global,
+    text: &[u8],
+    desk: &mut MemDesk,
+    printed: &mut Vec<u8>,
+) -> Result<Option<TextRefusal>, Fail> {
+    if text.len() > 4096 {
+        return Ok(Some(TextRefusal::TooLong));
+    }
+    let mut source = ProofText::new(alloc, text);
+    let ending = print_all(desk, &mut source)?;
+    printed.extend_from_slice(desk.written(Port::Proof))?;
+    Ok(ending)
+}
+
+/// A desk with so much room for a proof.
+fn new_desk(alloc: Global, proof: usize) -> Result<MemDesk, AllocError>
+    ensures { IfOk result (λ m. is_whole (outside_of m).told ≡ true) }
+{
+    let rooms = Rooms {
+        answer: 0,
+        proof,
+        message: 0,
+    };
+    MemDesk::make(alloc, Vec::new(alloc), rooms, 3, Vec::new(alloc))
 }
 
 impl Reprint for Proofs {
-    fn reprinted(alloc: Global, text: &[u8]) -> Result<Written, Fail> {
-        printed(alloc, text)
+    fn reprint(
+        alloc: Global,
+        text: &[u8],
+        printed: &mut Vec<u8>,
+    ) -> Result<Option<TextRefusal>, Fail> {
+        let mut desk = new_desk(alloc, 4096)?;
+        add_steps(alloc, text, &mut desk, printed)
     }
 }
 
@@ -105,20 +132,24 @@ fn endings_behind_steps(rt: HostRuntime) -> Result<(), Fail> {
     Ok(())
 }
 
+/// Two answers of a source, where it refuses its first step for a bad token.
+fn refused_twice(source: &mut ProofText) -> Option<(TextRefusal, TextRefusal)>
+    requires { is_spent_by source.old.refused ≡ false }
+{
+    match source.next_step() {
+        Err(TextRefusal::BadToken(place)) => match source.next_step() {
+            Err(again) => Some((TextRefusal::BadToken(place), again)),
+            Ok(_) => None,
+        },
+        _ => None,
+    }
+}
+
 #[test]
 fn a_refusal_comes_again(rt: HostRuntime) {
     let mut source = ProofText::new(rt.alloc(), b"5 a 0");
-    match source.next_step() {
-        Err(TextRefusal::BadToken(place)) => {
-            assert_eq!(rt; place, 2);
-            match source.next_step() {
-                Err(again) => assert_eq!(rt; again, TextRefusal::BadToken(2)),
-                Ok(_) => panic!(rt; "a step"),
-            }
-        }
-        Err(_) => panic!(rt; "another refusal"),
-        Ok(_) => panic!(rt; "a step"),
-    }
+    let wanted = Some((TextRefusal::BadToken(2), TextRefusal::BadToken(2)));
+    assert_eq!(rt; refused_twice(&mut source), wanted);
 }
 
 /// Gives a step to any sink.
@@ -158,51 +189,69 @@ fn give_all<S: Sink<Item = ProofStep>>(source: &mut ProofText, sink: &mut S) -> 
     refused
 }
 
+/// The text whose steps are given to sinks.
+const GIVEN: &[u8] = b"6 0 0 7 d 6 0 8 0 0";
+
+/// What a desk is given of the steps by a sink over it, how many the sink refused, and the desk's faults.
+fn torn(alloc: Global, desk: &mut MemDesk) -> Result<Vec<u8>, Fail>
+    requires { is_whole (outside_of desk.old).told ≡ true }
+{
+    let mut source = ProofText::new(alloc, GIVEN);
+    let refused = give_all(&mut source, &mut DeskProof::new(desk));
+    let mut told = desk.written(Port::Proof).to_vec(alloc)?;
+    told.extend_from_slice(format!(in alloc; "|{refused} {}", desk.write_faults())?.as_bytes())?;
+    Ok(told)
+}
+
+/// The same on a new desk with little room.
+fn torn_on_new(alloc: Global) -> Result<Vec<u8>, Fail> {
+    let mut desk = new_desk(alloc, 8)?;
+    torn(alloc, &mut desk)
+}
+
 #[test]
 fn a_torn_step_is_the_last_one(rt: HostRuntime) -> Result<(), Fail> {
-    let text = b"6 0 0 7 d 6 0 8 0 0".as_slice();
-    let rooms = Rooms {
-        answer: 0,
-        proof: 8,
-        message: 0,
-    };
-    let mut desk = MemDesk::make(
-        rt.alloc(),
-        Vec::new(rt.alloc()),
-        rooms,
-        3,
-        Vec::new(rt.alloc()),
-    )?;
-    let mut source = ProofText::new(rt.alloc(), text);
-    let refused = give_all(&mut source, &mut DeskProof::new(&mut desk));
-    assert_eq!(rt; refused, 2);
-    assert_eq!(rt; desk.written(Port::Proof), b"6 0 0\n7 ".as_slice());
-    assert_eq!(rt; desk.write_faults(), 1);
+    assert_eq!(rt;
+        torn_on_new(rt.alloc())?.as_slice(),
+        b"6 0 0\n7 |2 1".as_slice()
+    );
     Ok(())
+}
+
+/// The first step of a kept proof as it is printed.
+fn first_on(alloc: Global, kept: &ListProof, desk: &mut MemDesk) -> Result<Vec<u8>, Fail>
+    requires { is_whole (outside_of desk.old).told ≡ true }
+{
+    if let Some(first) = kept.steps().first() {
+        print_through(desk, first)?;
+    }
+    Ok(desk.written(Port::Proof).to_vec(alloc)?)
+}
+
+/// The same on a new desk with little room.
+fn first_of(alloc: Global, kept: &ListProof) -> Result<Vec<u8>, Fail> {
+    let mut desk = new_desk(alloc, 8)?;
+    first_on(alloc, kept, &mut desk)
+}
+
+/// The first of the steps that a sink keeps, how many it refused, and how many it has.
+fn keep_all(alloc: Global, kept: &mut ListProof) -> Result<Vec<u8>, Fail> {
+    let mut source = ProofText::new(alloc, GIVEN);
+    let refused = give_all(&mut source, kept);
+    let mut told = first_of(alloc, kept)?;
+    let count = kept.steps().len();
+    told.extend_from_slice(format!(in alloc; "|{refused} {count}")?.as_bytes())?;
+    Ok(told)
+}
+
+/// The same of a new sink.
+fn kept(alloc: Global) -> Result<Vec<u8>, Fail> {
+    let mut kept = ListProof::make(alloc);
+    keep_all(alloc, &mut kept)
 }
 
 #[test]
 fn kept_steps_are_those_given(rt: HostRuntime) -> Result<(), Fail> {
-    let mut source = ProofText::new(rt.alloc(), b"6 0 0 7 d 6 0 8 0 0".as_slice());
-    let mut kept = ListProof::make(rt.alloc());
-    let refused = give_all(&mut source, &mut kept);
-    assert_eq!(rt; refused, 0);
-    assert_eq!(rt; kept.steps().len(), 3);
-    let rooms = Rooms {
-        answer: 0,
-        proof: 8,
-        message: 0,
-    };
-    let mut desk = MemDesk::make(
-        rt.alloc(),
-        Vec::new(rt.alloc()),
-        rooms,
-        3,
-        Vec::new(rt.alloc()),
-    )?;
-    if let Some(first) = kept.steps().first() {
-        print_through(&mut desk, first)?;
-    }
-    assert_eq!(rt; desk.written(Port::Proof), b"6 0 0\n".as_slice());
+    assert_eq!(rt; kept(rt.alloc())?.as_slice(), b"6 0 0\n|0 3".as_slice());
     Ok(())
 }

@@ -1,31 +1,35 @@
 //! Formulas that are read from a slot, in pieces of any length, against what is read of the whole text.
-ghost use Rattle.std.specs.Prelude.{◌≤◌};
+ghost use Rattle.std.specs.Prelude.{◌≡◌, ◌≤◌, None};
+ghost use Rattle.cx_desk.specs.Memory.{outside_of};
 
 use crate::formula_texts::show;
 use crate::one_file::{NO_ROOM, desk, start};
 use cnfx_reader::{read_formula, read_formula_from};
-use cx_desk::Slot;
-use std::alloc::{AllocError, Global};
-use std::process::Abort;
+use cx_desk::{MemDesk, Slot};
+use std::alloc::Global;
 use std::test::Fail;
 
+/// What is read of the file of a desk.
+fn told_on(alloc: Global, desk: &mut MemDesk, limit: u64) -> Result<String, Fail>
+    requires asked { (outside_of desk.old).asked.formula ≡ None }
+    requires limit { limit ≤ 4294967295 }
+{
+    if !start(alloc, desk, Slot::Formula)? {
+        return Ok(String::from_str(alloc, "not opened")?);
+    }
+    match read_formula_from(alloc, desk, Slot::Formula, limit) {
+        Ok(formula) => show(alloc, &formula),
+        Err(refusal) => Ok(format!(in alloc; "{refusal:?}")?),
+    }
+}
+
 /// What is read of a text that comes in pieces of this length.
-fn told_in_pieces(
-    rt: &impl Abort,
-    alloc: Global,
-    text: &[u8],
-    piece: usize,
-    limit: u64,
-) -> Result<String, Fail>
+fn told_in_pieces(alloc: Global, text: &[u8], piece: usize, limit: u64) -> Result<String, Fail>
     requires piece { 1 ≤ piece }
     requires limit { limit ≤ 4294967295 }
 {
     let mut desk = desk(alloc, text, NO_ROOM, piece, &[])?;
-    assert!(rt; start(alloc, &mut desk, Slot::Formula)?);
-    match read_formula_from(alloc, &mut desk, Slot::Formula, limit) {
-        Ok(formula) => show(alloc, &formula),
-        Err(refusal) => Ok(format!(in alloc; "{refusal:?}")?),
-    }
+    told_on(alloc, &mut desk, limit)
 }
 
 /// What is read of a whole text, if it is within the limit.
@@ -40,12 +44,12 @@ fn told_whole(alloc: Global, text: &[u8], limit: u64) -> Result<String, Fail> {
 }
 
 /// What is read of a whole text within a limit, and what is read otherwise of its pieces.
-fn told_of(rt: &impl Abort, alloc: Global, text: &[u8], limit: u64) -> Result<String, Fail>
+fn told_of(alloc: Global, text: &[u8], limit: u64) -> Result<String, Fail>
     requires { limit ≤ 4294967295 }
 {
     let mut told = told_whole(alloc, text, limit)?;
     for piece in [1, 2, 3, 4096] {
-        let in_pieces = told_in_pieces(rt, alloc, text, piece, limit)?;
+        let in_pieces = told_in_pieces(alloc, text, piece, limit)?;
         if in_pieces.as_str() != told.as_str() {
             told.push_str(format!(in alloc; " in pieces of {piece}: {in_pieces}")?.as_str())?;
         }
@@ -54,12 +58,12 @@ fn told_of(rt: &impl Abort, alloc: Global, text: &[u8], limit: u64) -> Result<St
 }
 
 /// What is told of each text, of at most a hundred bytes, where the limit is below its length, is its length and is above.
-fn all_told(rt: &impl Abort, alloc: Global, texts: &[&[u8]]) -> Result<String, Fail> {
+fn all_told(alloc: Global, texts: &[&[u8]]) -> Result<String, Fail> {
     let mut all = String::new(alloc);
     for text in texts {
         let len = text.len().min(100) as u64;
         for limit in [len.saturating_sub(1), len, len + 1] {
-            all.push_str(told_of(rt, alloc, text, limit)?.as_str())?;
+            all.push_str(told_of(alloc, text, limit)?.as_str())?;
             all.push_str("|")?;
         }
         all.push_str("\n")?;
@@ -116,6 +120,6 @@ TooLong|VarLimit(10)|VarLimit(10)|
 
 #[test]
 fn pieces_of_any_length_tell_what_the_whole_text_tells(rt: HostRuntime) -> Result<(), Fail> {
-    assert_eq!(rt; all_told(&rt, rt.alloc(), &TEXTS)?.as_str(), WANTED);
+    assert_eq!(rt; all_told(rt.alloc(), &TEXTS)?.as_str(), WANTED);
     Ok(())
 }

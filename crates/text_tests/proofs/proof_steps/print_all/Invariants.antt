@@ -1,6 +1,6 @@
 use Rattle.std.proofs.Common.{◌≡◌, false}
 use Rattle.step_text.specs.Texts.{is_spent_by}
-use Rattle.text_tests.proofs.proof_steps.printed.Given as goal
+use Rattle.text_tests.proofs.proof_steps.print_all.Given as goal
 
 abbrev pub invariant-loop : goal.invariant-loop
 invariant-loop l = is_spent_by l.source.refused ≡ false
