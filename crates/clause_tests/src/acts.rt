@@ -1,5 +1,5 @@
 //! Acts on an arena, its watches and a trail, and what is told of each.
-ghost use Rattle.std.specs.Prelude.{OnOk};
+ghost use Rattle.std.specs.Prelude.{◌≡◌, [], OnOk};
 ghost use Rattle.watch_lists.specs.Watching.{Fits};
 
 use crate::source::{attach_all, decide, imply, remove};
@@ -199,6 +199,33 @@ fn take_all(
     Ok(text)
 }
 
+/// What is told of acts on an arena and an empty trail.
+fn told_on(
+    alloc: Global,
+    arena: &mut Arena,
+    trail: &mut Trail,
+    acts: &[Act],
+) -> Result<String, AllocError>
+    requires { trail.old.entries ≡ [] }
+{
+    let mut watches = Watches::make(alloc, trail.vars())?;
+    new_watches_fit();
+    take_all(alloc, arena, &mut watches, trail, acts)
+}
+
+/// What is told of acts on these clauses and those of an arena, over so many variables, at most nine.
+fn told_in(
+    alloc: Global,
+    arena: &mut Arena,
+    vars: u32,
+    rows: &[Row],
+    acts: &[Act],
+) -> Result<String, AllocError> {
+    add_all(alloc, arena, rows)?;
+    let mut trail = Trail::make(alloc, vars.min(9))?;
+    told_on(alloc, arena, &mut trail, acts)
+}
+
 /// What is told of acts on these clauses, over so many variables, at most nine.
 pub(crate) fn told(
     alloc: Global,
@@ -206,11 +233,6 @@ pub(crate) fn told(
     rows: &[Row],
     acts: &[Act],
 ) -> Result<String, AllocError> {
-    let vars = vars.min(9);
     let mut arena = Arena::make(alloc);
-    add_all(alloc, &mut arena, rows)?;
-    let mut trail = Trail::make(alloc, vars)?;
-    let mut watches = Watches::make(alloc, vars)?;
-    new_watches_fit();
-    take_all(alloc, &mut arena, &mut watches, &mut trail, acts)
+    told_in(alloc, &mut arena, vars, rows, acts)
 }

@@ -11,36 +11,49 @@ use std::test::Fail;
 /// Two clauses; the first one is removed.
 const TWO: [Row; 2] = [(&[1, 2], 7, 0, false), (&[-1, 3, 2], 8, 2, true)];
 
+/// Closes the gaps of an arena. Where two clauses are then.
+fn moves(
+    arena: &mut Arena,
+    first: ClauseRef,
+    second: ClauseRef,
+) -> Result<(Option<ClauseRef>, Option<ClauseRef>), AllocError> {
+    let moved = arena.compact()?;
+    Ok((moved.to(first), moved.to(second)))
+}
+
 /// Where the clauses are when the first one was removed, what the second one is, and how many references there are.
 fn told_of_second(alloc: Global, arena: &mut Arena) -> Result<String, AllocError> {
+    arena.reserve(2, 5)?;
+    add_all(alloc, arena, &TWO)?;
     let (first, second) = (ClauseRef::new(0), ClauseRef::new(1));
     if !arena.is_live(first) {
         return String::from_str(alloc, "no clause");
     }
     arena.remove(first);
-    let moved = arena.compact()?;
+    let (gone, left) = moves(arena, first, second)?;
     let clause = show_clause(alloc, arena, ClauseRef::new(0))?;
-    let (gone, left) = (moved.to(first), moved.to(second));
     format!(in alloc; "{gone:?} {left:?} {clause} of {}", arena.len())
 }
 
 #[test]
 fn the_clause_that_is_left_has_a_new_reference(rt: HostRuntime) -> Result<(), Fail> {
     let mut arena = Arena::make(rt.alloc());
-    arena.reserve(2, 5)?;
-    add_all(rt.alloc(), &mut arena, &TWO)?;
     let told = told_of_second(rt.alloc(), &mut arena)?;
     let wanted = "None Some(ClauseRef { place: 0 }) [-1, 3, 2] 8 2 true of 1";
     assert_eq!(rt; told.as_str(), wanted);
     Ok(())
 }
 
+/// Closes the gaps of an arena. Where its first clause is then, and how many references there are.
+fn compacted(arena: &mut Arena) -> Result<(Option<ClauseRef>, usize), AllocError> {
+    let moved = arena.compact()?;
+    Ok((moved.to(ClauseRef::new(0)), arena.len()))
+}
+
 #[test]
 fn an_empty_arena_stays_empty(rt: HostRuntime) -> Result<(), Fail> {
     let mut arena = Arena::make(rt.alloc());
-    let moved = arena.compact()?;
-    assert_eq!(rt; moved.to(ClauseRef::new(0)), None);
-    assert_eq!(rt; arena.len(), 0);
+    assert_eq!(rt; compacted(&mut arena)?, (None, 0));
     Ok(())
 }
 
@@ -54,14 +67,18 @@ fn move_of(alloc: Global, old: u32, new: u32) -> Result<Moved, AllocError> {
     Ok(Moved::from_vec(moves))
 }
 
+/// What is told of a trail, where a clause implied its literal and has moved.
+fn renamed(alloc: Global, trail: &mut Trail) -> Result<String, AllocError> {
+    let moved = move_of(alloc, 5, 2)?;
+    imply(trail, lit(1), ClauseRef::new(5));
+    trail.rename(&moved);
+    show_trail(alloc, trail)
+}
+
 #[test]
 fn a_reason_takes_its_new_reference(rt: HostRuntime) -> Result<(), Fail> {
-    let moved = move_of(rt.alloc(), 5, 2)?;
     let mut trail = Trail::make(rt.alloc(), 2)?;
-    let implied = imply(&mut trail, lit(1), ClauseRef::new(5));
-    trail.rename(&moved);
-    let trail = show_trail(rt.alloc(), &trail)?;
-    assert!(rt; implied && trail.as_str() == "1 by 2 ", "{trail}");
+    assert_eq!(rt; renamed(rt.alloc(), &mut trail)?.as_str(), "1 by 2 ");
     Ok(())
 }
 

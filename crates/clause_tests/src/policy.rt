@@ -8,30 +8,43 @@ use std::test::Fail;
 
 const FIRST_NUMBERS: [u64; 15] = [1, 1, 2, 1, 1, 2, 4, 1, 1, 2, 1, 1, 2, 4, 8];
 
-#[test]
-fn luby_begins_with_its_known_numbers(rt: HostRuntime) -> Result<(), Fail> {
+/// The sequence's first numbers.
+fn first_numbers() -> [u64; 15] {
+    let mut numbers = [0; 15];
     for place in 0..15 {
-        assert_eq!(rt; luby(place as u64 + 1), FIRST_NUMBERS[place]);
+        numbers[place] = luby(place as u64 + 1);
     }
-    Ok(())
+    numbers
 }
 
 #[test]
-fn luby_ends_its_longest_block_with_the_greatest_power(rt: HostRuntime) -> Result<(), Fail> {
-    assert_eq!(rt; luby(9_223_372_036_854_775_807), 4_611_686_018_427_387_904);
-    assert_eq!(rt; luby(9_223_372_036_854_775_806), 2_305_843_009_213_693_952);
-    Ok(())
+fn luby_begins_with_its_known_numbers(rt: HostRuntime) {
+    assert_eq!(rt; first_numbers(), FIRST_NUMBERS);
 }
 
 #[test]
-fn a_restart_is_due_after_a_hundred_conflicts_for_each(rt: HostRuntime) -> Result<(), Fail> {
-    assert_eq!(rt; restart_due(99, 1), false);
-    assert_eq!(rt; restart_due(100, 1), true);
-    assert_eq!(rt; restart_due(199, 3), false);
-    assert_eq!(rt; restart_due(200, 3), true);
-    assert_eq!(rt; restart_due(399, 7), false);
-    assert_eq!(rt; restart_due(400, 7), true);
-    Ok(())
+fn luby_ends_its_longest_block_with_the_greatest_power(rt: HostRuntime) {
+    let last = [
+        luby(9_223_372_036_854_775_807),
+        luby(9_223_372_036_854_775_806),
+    ];
+    assert_eq!(rt;
+        last,
+        [4_611_686_018_427_387_904, 2_305_843_009_213_693_952]
+    );
+}
+
+#[test]
+fn a_restart_is_due_after_a_hundred_conflicts_for_each(rt: HostRuntime) {
+    let due = [
+        restart_due(99, 1),
+        restart_due(100, 1),
+        restart_due(199, 3),
+        restart_due(200, 3),
+        restart_due(399, 7),
+        restart_due(400, 7),
+    ];
+    assert_eq!(rt; due, [false, true, false, true, false, true]);
 }
 
 // The card of a learned clause whose reference is ten more than its id.
@@ -78,19 +91,25 @@ fn clauses_of_the_formula_stay(rt: HostRuntime) -> Result<(), Fail> {
     Ok(())
 }
 
+/// The picks of a new order, behind four bumps of the third and three of the second, and behind one more; and the weight.
+fn bumped(order: &mut Order, trail: &Trail) -> ([Option<Var>; 3], u32)
+    requires three { length order.old.scores ≡ 3 }
+    requires same { trail.now.variables ≡ 3 }
+{
+    let new = order.pick(trail);
+    order.bump_by(Var::new(3), 4);
+    order.bump_by(Var::new(2), 3);
+    let third = order.pick(trail);
+    order.bump(Var::new(2));
+    ([new, third, order.pick(trail)], order.weight())
+}
+
 #[test]
 fn many_bumps_are_those_one_by_one(rt: HostRuntime) -> Result<(), Fail> {
     let trail = Trail::make(rt.alloc(), 3)?;
     let mut order = Order::make(rt.alloc(), 3)?;
-    let new = order.pick(&trail);
-    order.bump_by(Var::new(3), 4);
-    order.bump_by(Var::new(2), 3);
-    let third = order.pick(&trail);
-    order.bump(Var::new(2));
-    let second = order.pick(&trail);
-    let told = format!(in rt.alloc(); "{new:?} {third:?} {second:?} {}", order.weight())?;
-    let wanted = "Some(Var { number: 1 }) Some(Var { number: 3 }) Some(Var { number: 2 }) 1024";
-    assert_eq!(rt; told.as_str(), wanted);
+    let picks = [Some(Var::new(1)), Some(Var::new(3)), Some(Var::new(2))];
+    assert_eq!(rt; bumped(&mut order, &trail), (picks, 1024));
     Ok(())
 }
 
@@ -115,34 +134,45 @@ fn bump_second(order: &mut Order)
     order.bump_by(Var::new(2), 2);
 }
 
+/// The weight before the scores are halved and behind that, and the picks where both are equal and behind one bump more.
+fn halved(order: &mut Order, trail: &Trail) -> ([u32; 2], [Option<Var>; 2])
+    requires two { length order.old.scores ≡ 2 }
+    requires same { trail.now.variables ≡ 2 }
+{
+    bump_almost_to_bound(order);
+    let before = order.weight();
+    order.bump_by(Var::new(1), 3);
+    let behind = order.weight();
+    bump_second(order);
+    let equal = order.pick(trail);
+    order.bump(Var::new(2));
+    ([before, behind], [equal, order.pick(trail)])
+}
+
 #[test]
 fn bumps_go_on_after_all_scores_were_halved(rt: HostRuntime) -> Result<(), Fail> {
     let trail = Trail::make(rt.alloc(), 2)?;
     let mut order = Order::make(rt.alloc(), 2)?;
-    bump_almost_to_bound(&mut order);
-    let before = order.weight();
-    order.bump_by(Var::new(1), 3);
-    let halved = order.weight();
-    bump_second(&mut order);
-    let equal = order.pick(&trail);
-    order.bump(Var::new(2));
-    let second = order.pick(&trail);
-    let told = format!(in rt.alloc(); "{before} {halved} {equal:?} {second:?}")?;
-    let wanted = "1024 512 Some(Var { number: 1 }) Some(Var { number: 2 })";
-    assert_eq!(rt; told.as_str(), wanted);
+    let picks = [Some(Var::new(1)), Some(Var::new(2))];
+    assert_eq!(rt; halved(&mut order, &trail), ([1024, 512], picks));
     Ok(())
+}
+
+/// The weight behind one conflict, behind two and behind a thousand more.
+fn weights(order: &mut Order) -> [u32; 3] {
+    order.grow();
+    let first = order.weight();
+    order.grow();
+    let second = order.weight();
+    for _ in 0..1000 {
+        order.grow();
+    }
+    [first, second, order.weight()]
 }
 
 #[test]
 fn the_weight_grows_by_a_thirty_second(rt: HostRuntime) -> Result<(), Fail> {
     let mut order = Order::make(rt.alloc(), 1)?;
-    order.grow();
-    assert_eq!(rt; order.weight(), 1056);
-    order.grow();
-    assert_eq!(rt; order.weight(), 1089);
-    for _ in 0..1000 {
-        order.grow();
-    }
-    assert_eq!(rt; order.weight(), 250_000_000);
+    assert_eq!(rt; weights(&mut order), [1056, 1089, 250_000_000]);
     Ok(())
 }
