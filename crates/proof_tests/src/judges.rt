@@ -1,143 +1,294 @@
 //! Small cases of each judge, worked by hand.
 use crate::numbers::lits;
+use cx_base::LitList;
 use cx_semantics::Cause;
 use proof_rules::{
-    JudgeMarks, JudgeRefusal, LiteralSet, Live, judge_chain, judge_clause_of_parity,
+    JudgeMarks, JudgeRefusal, Kind, LiteralSet, Live, judge_chain, judge_clause_of_parity,
     judge_parity_of_clauses, judge_sum,
 };
 use std::alloc::{AllocError, Global};
 use std::test::Fail;
 
+/// A live constraint: its kind, its id and its literals.
+type Row = (Kind, u64, &'static [i64]);
+
 /// The four clauses over 1 and 2 and one over 3, and four parities over these.
-fn live(alloc: Global) -> Result<Live, AllocError> {
-    let mut live = Live::make(alloc);
-    live.add_clause(1, lits(alloc, &[1, 2])?)?;
-    live.add_clause(2, lits(alloc, &[-1, 2])?)?;
-    live.add_clause(3, lits(alloc, &[1, -2])?)?;
-    live.add_clause(4, lits(alloc, &[-1, -2])?)?;
-    live.add_clause(5, lits(alloc, &[3])?)?;
-    live.add_parity(1, lits(alloc, &[1, 2])?)?;
-    live.add_parity(2, lits(alloc, &[2, 3])?)?;
-    live.add_parity(3, lits(alloc, &[1, 3])?)?;
-    live.add_parity(4, lits(alloc, &[1, -1])?)?;
-    Ok(live)
+const ROWS: [Row; 9] = [
+    (Kind::Clauses, 1, &[1, 2]),
+    (Kind::Clauses, 2, &[-1, 2]),
+    (Kind::Clauses, 3, &[1, -2]),
+    (Kind::Clauses, 4, &[-1, -2]),
+    (Kind::Clauses, 5, &[3]),
+    (Kind::Parities, 1, &[1, 2]),
+    (Kind::Parities, 2, &[2, 3]),
+    (Kind::Parities, 3, &[1, 3]),
+    (Kind::Parities, 4, &[1, -1]),
+];
+
+/// One of the judges.
+#[derive(Clone, Copy, Drop)]
+enum Judge {
+    Chain,
+    Sum,
+    ClauseOfParity,
+    ParityOfClauses,
+}
+
+/// A target, what is named for it, and why that is wrong, if it is.
+type Case = (&'static [i64], &'static [i64], Option<Cause>);
+
+/// Live constraints, and what the judges mark.
+#[derive(Drop)]
+struct Court {
+    live: Live,
+    assumed: LiteralSet,
+    marks: JudgeMarks,
+}
+
+fn add(alloc: Global, live: &mut Live, row: &Row) -> Result<(), AllocError> {
+    live.add(row.0, row.1, lits(alloc, row.2)?)
+}
+
+fn add_all(alloc: Global, live: &mut Live, rows: &[Row]) -> Result<(), AllocError> {
+    for row in rows {
+        add(alloc, live, row)?;
+    }
+    Ok(())
+}
+
+fn judged_as_chain(court: &mut Court, target: &LitList, named: &[i64]) -> Result<(), JudgeRefusal> {
+    judge_chain(&mut court.assumed, &court.live, target, named)
+}
+
+fn judged_as_sum(
+    alloc: Global,
+    court: &mut Court,
+    target: &LitList,
+    named: &[i64],
+) -> Result<(), JudgeRefusal> {
+    judge_sum(alloc, &mut court.marks, &court.live, target, named)
+}
+
+/// What the judge says of a clause by the first one of the parities that are named.
+fn judged_as_clause(
+    court: &mut Court,
+    target: &LitList,
+    named: &[i64],
+) -> Result<(), JudgeRefusal> {
+    let parity = *named.first().unwrap_or(&0);
+    judge_clause_of_parity(&mut court.marks, &court.live, target, parity)
+}
+
+fn judged_as_parity(
+    alloc: Global,
+    court: &mut Court,
+    target: &LitList,
+    named: &[i64],
+) -> Result<(), JudgeRefusal> {
+    judge_parity_of_clauses(alloc, &mut court.marks, &court.live, target, named)
+}
+
+/// What a judge says.
+fn judged(
+    alloc: Global,
+    court: &mut Court,
+    judge: Judge,
+    target: &LitList,
+    named: &[i64],
+) -> Result<(), JudgeRefusal> {
+    match judge {
+        Judge::Chain => judged_as_chain(court, target, named),
+        Judge::Sum => judged_as_sum(alloc, court, target, named),
+        Judge::ClauseOfParity => judged_as_clause(court, target, named),
+        Judge::ParityOfClauses => judged_as_parity(alloc, court, target, named),
+    }
 }
 
 /// The cause of a wrong step.
-fn cause(judged: Result<(), JudgeRefusal>) -> Result<Option<Cause>, JudgeRefusal> {
+fn cause(judged: Result<(), JudgeRefusal>) -> Result<Option<Cause>, AllocError> {
     match judged {
         Ok(()) => Ok(None),
         Err(JudgeRefusal::Wrong(cause)) => Ok(Some(cause)),
-        Err(JudgeRefusal::Memory) => Err(JudgeRefusal::Memory),
+        Err(JudgeRefusal::Memory) => Err(AllocError),
     }
 }
+
+/// Writes what the judge says of a case, if that is not what is wanted.
+fn put_other(
+    alloc: Global,
+    others: &mut String,
+    court: &mut Court,
+    judge: Judge,
+    case: &Case,
+) -> Result<(), AllocError> {
+    let (integers, named, wanted) = *case;
+    let target = lits(alloc, integers)?;
+    let found = cause(judged(alloc, court, judge, &target, named))?;
+    if found == wanted {
+        return Ok(());
+    }
+    others.push_str(format!(in alloc; "{integers:?} by {named:?}: {found:?}\n")?.as_str())
+}
+
+fn put_others(
+    alloc: Global,
+    others: &mut String,
+    court: &mut Court,
+    judge: Judge,
+    cases: &[Case],
+) -> Result<(), AllocError> {
+    for case in cases {
+        put_other(alloc, others, court, judge, case)?;
+    }
+    Ok(())
+}
+
+/// The same of cases over the rows, and of others when a row of this kind and id is gone.
+fn put_others_of(
+    alloc: Global,
+    others: &mut String,
+    court: &mut Court,
+    judge: Judge,
+    cases: &[Case],
+    gone: (Kind, u64),
+    cases_then: &[Case],
+) -> Result<(), AllocError> {
+    add_all(alloc, &mut court.live, &ROWS)?;
+    put_others(alloc, others, court, judge, cases)?;
+    court.live.remove(gone.0, gone.1);
+    put_others(alloc, others, court, judge, cases_then)
+}
+
+/// The cases that are judged otherwise than wanted: those over the rows, and those where a row of this kind and id is gone.
+fn others(
+    alloc: Global,
+    judge: Judge,
+    cases: &[Case],
+    gone: (Kind, u64),
+    cases_then: &[Case],
+) -> Result<String, AllocError> {
+    let mut court = Court {
+        live: Live::make(alloc),
+        assumed: LiteralSet::new(alloc),
+        marks: JudgeMarks::new(alloc),
+    };
+    let mut others = String::new(alloc);
+    put_others_of(
+        alloc,
+        &mut others,
+        &mut court,
+        judge,
+        cases,
+        gone,
+        cases_then,
+    )?;
+    Ok(others)
+}
+
+const CHAINS: [Case; 8] = [
+    (&[2], &[1, 2], None),
+    (&[2], &[1, 1, 2, 4], None),
+    (&[2], &[1], Some(Cause::HintsEnd)),
+    (&[], &[1], Some(Cause::HintNotUnit)),
+    (&[2], &[9, -1], Some(Cause::RatHint)),
+    (&[2], &[1, 2, 9], Some(Cause::HintNotLive)),
+    (&[1, -1], &[1, 4], None),
+    (&[1, -1], &[], Some(Cause::HintsEnd)),
+];
+
+/// Where the second clause is gone.
+const CHAINS_THEN: [Case; 1] = [(&[2], &[1, 2], Some(Cause::HintNotLive))];
 
 #[test]
 fn chains(rt: HostRuntime) -> Result<(), Fail> {
-    let alloc = rt.alloc();
-    let mut live = live(alloc)?;
-    let mut assumed = LiteralSet::new(alloc);
-    let cases: [(&[i64], &[i64], Option<Cause>); 8] = [
-        (&[2], &[1, 2], None),
-        (&[2], &[1, 1, 2, 4], None),
-        (&[2], &[1], Some(Cause::HintsEnd)),
-        (&[], &[1], Some(Cause::HintNotUnit)),
-        (&[2], &[9, -1], Some(Cause::RatHint)),
-        (&[2], &[1, 2, 9], Some(Cause::HintNotLive)),
-        (&[1, -1], &[1, 4], None),
-        (&[1, -1], &[], Some(Cause::HintsEnd)),
-    ];
-    for (target, named, want) in cases {
-        let judged = judge_chain(&mut assumed, &live, &lits(alloc, target)?, named);
-        assert_eq!(rt; cause(judged)?, want, "{target:?} by {named:?}");
-    }
-    live.remove_clause(2);
-    let judged = judge_chain(&mut assumed, &live, &lits(alloc, &[2])?, &[1, 2]);
-    assert_eq!(rt; cause(judged)?, Some(Cause::HintNotLive));
+    let gone = (Kind::Clauses, 2);
+    let others = others(rt.alloc(), Judge::Chain, &CHAINS, gone, &CHAINS_THEN)?;
+    assert_eq!(rt; others.as_str(), "");
     Ok(())
 }
+
+const SUMS: [Case; 10] = [
+    (&[1, -3], &[1, 2], None),
+    (&[1, 3], &[1, 2], Some(Cause::SumDiffers)),
+    (&[], &[4], Some(Cause::SumDiffers)),
+    (&[1, -1], &[1, 1], None),
+    (&[], &[1, 2, 3], None),
+    (&[], &[1, 2, 3, 1, 1], None),
+    (&[], &[1, 2], Some(Cause::SumDiffers)),
+    (&[1, 2], &[1, 1], Some(Cause::SumDiffers)),
+    (&[2, 1, 3, 3], &[1], None),
+    (&[1, 2], &[5], Some(Cause::HintNotLive)),
+];
+
+/// Where the first parity is gone.
+const SUMS_THEN: [Case; 1] = [(&[1, 2], &[1], Some(Cause::HintNotLive))];
 
 #[test]
 fn sums(rt: HostRuntime) -> Result<(), Fail> {
-    let alloc = rt.alloc();
-    let mut live = live(alloc)?;
-    let mut marks = JudgeMarks::new(alloc);
-    let cases: [(&[i64], &[i64], Option<Cause>); 10] = [
-        (&[1, -3], &[1, 2], None),
-        (&[1, 3], &[1, 2], Some(Cause::SumDiffers)),
-        (&[], &[4], Some(Cause::SumDiffers)),
-        (&[1, -1], &[1, 1], None),
-        (&[], &[1, 2, 3], None),
-        (&[], &[1, 2, 3, 1, 1], None),
-        (&[], &[1, 2], Some(Cause::SumDiffers)),
-        (&[1, 2], &[1, 1], Some(Cause::SumDiffers)),
-        (&[2, 1, 3, 3], &[1], None),
-        (&[1, 2], &[5], Some(Cause::HintNotLive)),
-    ];
-    for (target, named, want) in cases {
-        let judged = judge_sum(alloc, &mut marks, &live, &lits(alloc, target)?, named);
-        assert_eq!(rt; cause(judged)?, want, "{target:?} by {named:?}");
-    }
-    live.remove_parity(1);
-    let judged = judge_sum(alloc, &mut marks, &live, &lits(alloc, &[1, 2])?, &[1]);
-    assert_eq!(rt; cause(judged)?, Some(Cause::HintNotLive));
+    let gone = (Kind::Parities, 1);
+    let others = others(rt.alloc(), Judge::Sum, &SUMS, gone, &SUMS_THEN)?;
+    assert_eq!(rt; others.as_str(), "");
     Ok(())
 }
+
+const CLAUSES_OF_A_PARITY: [Case; 8] = [
+    (&[-1, -2], &[1], None),
+    (&[1, 2], &[1], None),
+    (&[1], &[1], Some(Cause::NotImplied)),
+    (&[1, -2], &[1], Some(Cause::NotImplied)),
+    (&[5, -5], &[1], None),
+    (&[], &[4], Some(Cause::NotImplied)),
+    (&[1, 2], &[-1], Some(Cause::RatHint)),
+    (&[1, 2], &[7], Some(Cause::HintNotLive)),
+];
+
+/// Where the first parity is gone.
+const CLAUSES_OF_A_PARITY_THEN: [Case; 1] = [(&[1, 2], &[1], Some(Cause::HintNotLive))];
 
 #[test]
 fn clauses_of_a_parity(rt: HostRuntime) -> Result<(), Fail> {
-    let alloc = rt.alloc();
-    let live = live(alloc)?;
-    let mut marks = JudgeMarks::new(alloc);
-    let cases: [(&[i64], i64, Option<Cause>); 8] = [
-        (&[-1, -2], 1, None),
-        (&[1, 2], 1, None),
-        (&[1], 1, Some(Cause::NotImplied)),
-        (&[1, -2], 1, Some(Cause::NotImplied)),
-        (&[5, -5], 1, None),
-        (&[], 4, Some(Cause::NotImplied)),
-        (&[1, 2], -1, Some(Cause::RatHint)),
-        (&[1, 2], 7, Some(Cause::HintNotLive)),
-    ];
-    for (target, named, want) in cases {
-        let judged = judge_clause_of_parity(&mut marks, &live, &lits(alloc, target)?, named);
-        assert_eq!(rt; cause(judged)?, want, "{target:?} by {named}");
-    }
+    let others = others(
+        rt.alloc(),
+        Judge::ClauseOfParity,
+        &CLAUSES_OF_A_PARITY,
+        (Kind::Parities, 1),
+        &CLAUSES_OF_A_PARITY_THEN,
+    )?;
+    assert_eq!(rt; others.as_str(), "");
     Ok(())
 }
 
+const PARITIES_OF_CLAUSES: [Case; 8] = [
+    (&[1, 2], &[1, 4], None),
+    (&[1, -2], &[2, 3], None),
+    (&[1, 2], &[1], Some(Cause::NotImplied)),
+    (&[1, 2], &[2, 3], Some(Cause::NotImplied)),
+    (&[1, 2], &[1, 5], Some(Cause::ClauseOutside)),
+    (
+        &[1, 2, 3, 4, 5, 6, 7, 8, 9, 10, 11, 12, 13],
+        &[1],
+        Some(Cause::TooWide),
+    ),
+    (
+        &[1, 2, 3, 4, 5, 6, 7, 8, 9, 10, 11, 12],
+        &[1],
+        Some(Cause::NotImplied),
+    ),
+    (&[1, 2], &[1, 4, 9], Some(Cause::HintNotLive)),
+];
+
+/// Where the fourth clause is gone.
+const PARITIES_OF_CLAUSES_THEN: [Case; 1] = [(&[1, 2], &[1, 4], Some(Cause::HintNotLive))];
+
 #[test]
 fn parities_of_clauses(rt: HostRuntime) -> Result<(), Fail> {
-    let alloc = rt.alloc();
-    let live = live(alloc)?;
-    let mut marks = JudgeMarks::new(alloc);
-    let cases: [(&[i64], &[i64], Option<Cause>); 8] = [
-        (&[1, 2], &[1, 4], None),
-        (&[1, -2], &[2, 3], None),
-        (&[1, 2], &[1], Some(Cause::NotImplied)),
-        (&[1, 2], &[2, 3], Some(Cause::NotImplied)),
-        (&[1, 2], &[1, 5], Some(Cause::ClauseOutside)),
-        (
-            &[1, 2, 3, 4, 5, 6, 7, 8, 9, 10, 11, 12, 13],
-            &[1],
-            Some(Cause::TooWide),
-        ),
-        (
-            &[1, 2, 3, 4, 5, 6, 7, 8, 9, 10, 11, 12],
-            &[1],
-            Some(Cause::NotImplied),
-        ),
-        (&[1, 2], &[1, 4, 9], Some(Cause::HintNotLive)),
-    ];
-    for (target, named, want) in cases {
-        let judged = judge_parity_of_clauses(
-            alloc,
-            &mut marks,
-            &live,
-            &lits(alloc, target)?,
-            named,
-        );
-        assert_eq!(rt; cause(judged)?, want, "{target:?} by {named:?}");
-    }
+    let others = others(
+        rt.alloc(),
+        Judge::ParityOfClauses,
+        &PARITIES_OF_CLAUSES,
+        (Kind::Clauses, 4),
+        &PARITIES_OF_CLAUSES_THEN,
+    )?;
+    assert_eq!(rt; others.as_str(), "");
     Ok(())
 }

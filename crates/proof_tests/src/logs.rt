@@ -25,88 +25,133 @@ fn clause(builder: &mut FormulaBuilder, integers: &[i64]) -> Result<(), AllocErr
     builder.end_clause()
 }
 
+/// Adds the four clauses of two variables.
+fn add_square(builder: &mut FormulaBuilder) -> Result<(), AllocError>
+    ensures { OnOk result (builder.new.unfinished ≡ []) }
+{
+    clause(builder, &[1, 2])?;
+    clause(builder, &[-1, 2])?;
+    clause(builder, &[1, -2])?;
+    clause(builder, &[-1, -2])
+}
+
 /// The four clauses of two variables.
 fn square(alloc: Global) -> Result<Formula, AllocError> {
     let mut builder = FormulaBuilder::new(alloc);
-    clause(&mut builder, &[1, 2])?;
-    clause(&mut builder, &[-1, 2])?;
-    clause(&mut builder, &[1, -2])?;
-    clause(&mut builder, &[-1, -2])?;
+    add_square(&mut builder)?;
     Ok(builder.finish(2))
 }
 
-/// What was answered, and the steps that were written.
-#[derive(Drop)]
-struct Written {
+/// The steps of a proof, if the log was to be answered so.
+fn steps_or_answer(
+    alloc: Global,
     elab: Elab,
-    steps: String,
+    wanted: Elab,
+    proof: &ListProof,
+) -> Result<String, AllocError> {
+    if elab != wanted {
+        return format!(in alloc; "{elab:?}");
+    }
+    format!(in alloc; "{:?}", proof.steps())
 }
 
-/// Elaborates a log of at most 4,096 bytes.
-fn run(alloc: Global, formula: &Formula, log: &str) -> Result<Written, Fail> {
+/// Elaborates a log of at most 4,096 bytes that is to end at the step of this number. The steps that are written, if it does.
+fn written(alloc: Global, formula: &Formula, log: &str, last: u64) -> Result<String, Fail> {
     let log = log.as_bytes();
     if log.len() > 4096 {
-        return Ok(Written {
-            elab: Elab::Done(0),
-            steps: String::new(alloc),
-        });
+        return Ok(String::from_str(alloc, "too long")?);
     }
     let mut ends = Joined {
         source: LogText::new(alloc, log),
         sink: ListProof::make(alloc),
     };
     let elab = elaborate(alloc, formula, &mut ends)?;
-    let steps = format!(in alloc; "{:?}", ends.sink.steps())?;
-    Ok(Written { elab, steps })
+    Ok(steps_or_answer(alloc, elab, Elab::Done(last), &ends.sink)?)
 }
 
 /// The four clauses as steps of a log.
 const ORIGINALS: &str = "o 10 1 2 0\no 11 -1 2 0\no 12 1 -2 0\no 13 -1 -2 0\n";
 
-/// The proof of the clause of 2 by these hints, and of the empty one.
-fn proof(alloc: Global, hints: &str) -> Result<String, Fail> {
-    Ok(format!(in alloc;
-        "[Clause(5, IntList {{ integers: [2] }}, IntList {{ integers: [{hints}] }}), \
-         Clause(6, IntList {{ integers: [] }}, IntList {{ integers: [5, 3, 4] }})]"
-    )?)
+/// The proof of the clause of 2 by the first two clauses, and of the empty one.
+const STRAIGHT: &str =
+    "[Clause(5, IntList { integers: [2] }, IntList { integers: [1, 2] }), Clause(6, IntList { integers: [] }, IntList { integers: [5, 3, 4] })]";
+
+/// The same with the hints of the first chain turned.
+const TURNED: &str =
+    "[Clause(5, IntList { integers: [2] }, IntList { integers: [2, 1] }), Clause(6, IntList { integers: [] }, IntList { integers: [5, 3, 4] })]";
+
+/// The steps between the originals and the clause of 2, the hints of that clause, the number of the last step, and the
+/// proofs that are right.
+type Case = (&'static str, &'static str, u64, &'static [&'static str]);
+
+fn is_one_of(text: &str, wanted: &[&str]) -> bool {
+    for each in wanted {
+        if text == *each {
+            return true;
+        }
+    }
+    false
 }
 
-#[test]
-fn a_proof_is_written(rt: HostRuntime) -> Result<(), Fail> {
-    let alloc = rt.alloc();
-    let formula = square(alloc)?;
-    let want = proof(alloc, "1, 2")?;
-    for (between, last) in [
-        ("", 6),
-        ("f 99 500 0\nd 77 0\n", 8),
-        ("d 13 0\no 13 -2 -1 -1 0\n", 8),
-    ] {
-        let log = format!(in alloc;
-            "{ORIGINALS}{between}a 20 2 0 l 10 11 0\na 21 0 l 20 12 13 0\n"
-        )?;
-        let written = run(alloc, &formula, log.as_str())?;
-        assert_eq!(rt; written.elab, Elab::Done(last), "{log}");
-        assert_eq!(rt; written.steps.as_str(), want.as_str(), "{log}");
+/// Writes a log and what comes of it, if that is none of the proofs that are wanted.
+fn put_other(
+    alloc: Global,
+    others: &mut String,
+    formula: &Formula,
+    case: &Case,
+) -> Result<(), Fail> {
+    let (between, hints, last, wanted) = *case;
+    let log = format!(in alloc; "{ORIGINALS}{between}a 20 2 0 {hints}\na 21 0 l 20 12 13 0\n")?;
+    let steps = written(alloc, formula, log.as_str(), last)?;
+    if is_one_of(steps.as_str(), wanted) {
+        return Ok(());
+    }
+    others.push_str(format!(in alloc; "{log}{steps}\n")?.as_str())?;
+    Ok(())
+}
+
+fn put_others(
+    alloc: Global,
+    others: &mut String,
+    formula: &Formula,
+    cases: &[Case],
+) -> Result<(), Fail> {
+    for case in cases {
+        put_other(alloc, others, formula, case)?;
     }
     Ok(())
 }
 
-/// Without hints, and with wrong ones, a chain is searched for: either order of the two is right.
+/// The logs of which comes another proof than wanted.
+fn others(alloc: Global, cases: &[Case]) -> Result<String, Fail> {
+    let formula = square(alloc)?;
+    let mut others = String::new(alloc);
+    put_others(alloc, &mut others, &formula, cases)?;
+    Ok(others)
+}
+
+const GIVEN: [Case; 3] = [
+    ("", "l 10 11 0", 6, &[STRAIGHT]),
+    ("f 99 500 0\nd 77 0\n", "l 10 11 0", 8, &[STRAIGHT]),
+    ("d 13 0\no 13 -2 -1 -1 0\n", "l 10 11 0", 8, &[STRAIGHT]),
+];
+
+#[test]
+fn a_proof_is_written(rt: HostRuntime) -> Result<(), Fail> {
+    assert_eq!(rt; others(rt.alloc(), &GIVEN)?.as_str(), "");
+    Ok(())
+}
+
+/// Without hints, and with wrong ones.
+const SEARCHED: [Case; 3] = [
+    ("", "", 6, &[STRAIGHT, TURNED]),
+    ("", "l 10 10 99 0", 6, &[STRAIGHT, TURNED]),
+    ("", "l 10 12 0", 6, &[STRAIGHT, TURNED]),
+];
+
+/// Either order of the hints that are found is right.
 #[test]
 fn a_chain_is_searched_for(rt: HostRuntime) -> Result<(), Fail> {
-    let alloc = rt.alloc();
-    let formula = square(alloc)?;
-    let straight = proof(alloc, "1, 2")?;
-    let turned = proof(alloc, "2, 1")?;
-    for given in ["", "l 10 10 99 0", "l 10 12 0"] {
-        let log = format!(in alloc; "{ORIGINALS}a 20 2 0 {given}\na 21 0 l 20 12 13 0\n")?;
-        let written = run(alloc, &formula, log.as_str())?;
-        assert_eq!(rt; written.elab, Elab::Done(6), "{log}");
-        let steps = written.steps.as_str();
-        assert!(rt;
-            steps == straight.as_str() || steps == turned.as_str(),
-            "{log}"
-        );
-    }
+    assert_eq!(rt; others(rt.alloc(), &SEARCHED)?.as_str(), "");
     Ok(())
 }

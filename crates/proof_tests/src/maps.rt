@@ -1,7 +1,7 @@
 //! The map from ids beside an ordered map.
 use crate::numbers::next;
 use proof_rules::IdMap;
-use std::alloc::AllocError;
+use std::alloc::{AllocError, Global};
 use std::collections::BTreeMap;
 use std::test::Fail;
 
@@ -63,19 +63,50 @@ fn agree_at_keys(map: &IdMap<u64>, ordered: &BTreeMap<u64, u64>) -> bool {
     true
 }
 
-#[test]
-fn as_an_ordered_map(rt: HostRuntime) -> Result<(), Fail> {
-    let alloc = rt.alloc();
+/// The first turn behind which the maps disagree.
+fn first_fault(
+    map: &mut IdMap<u64>,
+    ordered: &mut BTreeMap<u64, u64>,
+) -> Result<Option<u64>, AllocError> {
     let mut seed = 11u64;
+    for turn in 0..6_000u64 {
+        if !agree_behind_turn(map, ordered, &mut seed, turn)? {
+            return Ok(Some(turn));
+        }
+    }
+    Ok(None)
+}
+
+/// Whether the maps agree at each id of the one.
+fn agree_at_ids(
+    alloc: Global,
+    map: &IdMap<u64>,
+    ordered: &BTreeMap<u64, u64>,
+) -> Result<bool, AllocError> {
+    let ids = map.ids(alloc)?;
+    Ok(agree_at_all(map, ordered, &ids))
+}
+
+/// The first turn behind which the maps disagree, and whether they agree at the ids of each then.
+fn faults(
+    alloc: Global,
+    map: &mut IdMap<u64>,
+    ordered: &mut BTreeMap<u64, u64>,
+) -> Result<(Option<u64>, bool, bool), AllocError> {
+    let fault = first_fault(map, ordered)?;
+    let at_ids = agree_at_ids(alloc, map, ordered)?;
+    Ok((fault, at_ids, agree_at_keys(map, ordered)))
+}
+
+/// The same of maps that are empty at first.
+fn faults_from_empty(alloc: Global) -> Result<(Option<u64>, bool, bool), AllocError> {
     let mut map = IdMap::new(alloc);
     let mut ordered = BTreeMap::new(alloc);
-    for turn in 0..6_000u64 {
-        assert!(rt;
-            agree_behind_turn(&mut map, &mut ordered, &mut seed, turn)?,
-            "turn {turn}"
-        );
-    }
-    assert!(rt; agree_at_all(&map, &ordered, &map.ids(alloc)?));
-    assert!(rt; agree_at_keys(&map, &ordered));
+    faults(alloc, &mut map, &mut ordered)
+}
+
+#[test]
+fn as_an_ordered_map(rt: HostRuntime) -> Result<(), Fail> {
+    assert_eq!(rt; faults_from_empty(rt.alloc())?, (None, true, true));
     Ok(())
 }
