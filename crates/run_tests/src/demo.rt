@@ -10,17 +10,13 @@ use log_text::NoLog;
 use std::alloc::{AllocError, Global};
 use std::test::Fail;
 
-/// The kinds of instances, with the lines of size 4 and seed 0.
-const KINDS: [(&str, &str); 2] = [
-    (
-        "even",
-        "c demo even 4 0\nc variables 4\nc clauses 4\nc parities 1\ns SATISFIABLE\nc values MEET\n",
-    ),
-    (
-        "odd",
-        "c demo odd 4 0\nc variables 5\nc clauses 8\nc parities 2\ns UNSATISFIABLE\nc proof VERIFIED\n",
-    ),
-];
+/// The lines of the kind `even`, of size 4 and seed 0.
+const EVEN: &str =
+    "c demo even 4 0\nc variables 4\nc clauses 4\nc parities 1\ns SATISFIABLE\nc values MEET\n";
+
+/// The lines of the kind `odd`, of size 4 and seed 0.
+const ODD: &str =
+    "c demo odd 4 0\nc variables 5\nc clauses 8\nc parities 2\ns UNSATISFIABLE\nc proof VERIFIED\n";
 
 fn demonstrated(alloc: Global, kind: &str, size: &str, bounds: Bounds) -> Result<Ended, AllocError>
     requires { 1 ≤ bounds.piece }
@@ -29,55 +25,78 @@ fn demonstrated(alloc: Global, kind: &str, size: &str, bounds: Bounds) -> Result
     run(alloc, "", b"", line.as_slice(), bounds)
 }
 
+/// Whether a demonstration ends well, with these lines and a log.
+fn shows(alloc: Global, kind: &str, lines: &str) -> Result<bool, AllocError> {
+    let shown = demonstrated(alloc, kind, "4", AMPLE)?;
+    Ok(
+        shown.status == 0
+            && shown.answer() == lines.as_bytes()
+            && shown.message().is_empty()
+            && !shown.proof().is_empty(),
+    )
+}
+
 #[test]
 fn answers_are_shown(rt: HostRuntime) -> Result<(), Fail> {
-    for (kind, lines) in KINDS {
-        let shown = demonstrated(rt.alloc(), kind, "4", AMPLE)?;
-        assert!(rt; shown.status == 0, "{kind}: status {}", shown.status);
-        assert!(rt; shown.answer() == lines.as_bytes(), "{kind}: answer");
-        assert!(rt; shown.message().is_empty(), "{kind}: message");
-        assert!(rt; !shown.proof().is_empty(), "{kind}: log");
-    }
+    let even = shows(rt.alloc(), "even", EVEN)?;
+    let odd = shows(rt.alloc(), "odd", ODD)?;
+    assert_eq!(rt; (even, odd), (true, true));
     Ok(())
+}
+
+/// The length of a demonstration's log.
+fn log_len(alloc: Global, kind: &str) -> Result<usize, AllocError> {
+    let whole = demonstrated(alloc, kind, "4", AMPLE)?;
+    Ok(whole.proof().len())
+}
+
+/// Whether a demonstration whose log lacks room for its last byte ends with a write fault and no line.
+fn cuts_log_off(alloc: Global, kind: &str) -> Result<bool, AllocError> {
+    let proof = log_len(alloc, kind)?.saturating_sub(1);
+    let cut_off = demonstrated(alloc, kind, "4", Bounds { proof, ..AMPLE })?;
+    Ok(cut_off.status == 5 && cut_off.answer().is_empty() && cut_off.proof().len() == proof)
 }
 
 #[test]
 fn no_line_stands_before_the_whole_log(rt: HostRuntime) -> Result<(), Fail> {
-    for (kind, _lines) in KINDS {
-        let whole = demonstrated(rt.alloc(), kind, "4", AMPLE)?;
-        let proof = whole.proof().len().saturating_sub(1);
-        let cut_off = demonstrated(rt.alloc(), kind, "4", Bounds { proof, ..AMPLE })?;
-        assert!(rt; cut_off.status == 5, "{kind}: status {}", cut_off.status);
-        assert!(rt; cut_off.answer().is_empty(), "{kind}: answer");
-        assert!(rt; cut_off.proof().len() == proof, "{kind}: log");
-    }
+    let even = cuts_log_off(rt.alloc(), "even")?;
+    let odd = cuts_log_off(rt.alloc(), "odd")?;
+    assert_eq!(rt; (even, odd), (true, true));
     Ok(())
+}
+
+/// Whether a demonstration whose lines have little room ends with a write fault behind this log.
+fn cuts_lines_off(alloc: Global, kind: &str, log: &[u8]) -> Result<bool, AllocError> {
+    let cut_off = demonstrated(alloc, kind, "4", Bounds { answer: 3, ..AMPLE })?;
+    Ok(cut_off.status == 5 && cut_off.answer() == b"c d".as_slice() && cut_off.proof() == log)
+}
+
+/// The same behind the whole log.
+fn cuts_lines_off_behind_log(alloc: Global, kind: &str) -> Result<bool, AllocError> {
+    let whole = demonstrated(alloc, kind, "4", AMPLE)?;
+    cuts_lines_off(alloc, kind, whole.proof())
 }
 
 #[test]
 fn a_line_that_does_not_fit_stands_behind_the_whole_log(rt: HostRuntime) -> Result<(), Fail> {
-    for (kind, _lines) in KINDS {
-        let whole = demonstrated(rt.alloc(), kind, "4", AMPLE)?;
-        let cut_off = demonstrated(rt.alloc(), kind, "4", Bounds { answer: 3, ..AMPLE })?;
-        assert!(rt; cut_off.status == 5, "{kind}: status {}", cut_off.status);
-        assert!(rt; cut_off.answer() == b"c d".as_slice(), "{kind}: answer");
-        assert!(rt; cut_off.proof() == whole.proof(), "{kind}: log");
-    }
+    let even = cuts_lines_off_behind_log(rt.alloc(), "even")?;
+    let odd = cuts_lines_off_behind_log(rt.alloc(), "odd")?;
+    assert_eq!(rt; (even, odd), (true, true));
     Ok(())
+}
+
+/// Whether a demonstration is refused, and writes no line and no log.
+fn refuses(alloc: Global, kind: &str, size: &str) -> Result<bool, AllocError> {
+    let refused = demonstrated(alloc, kind, size, AMPLE)?;
+    Ok(refused.status == 2 && refused.answer().is_empty() && refused.proof().is_empty())
 }
 
 #[test]
 fn kinds_and_sizes_are_within_their_bounds(rt: HostRuntime) -> Result<(), Fail> {
-    for (kind, size) in [("even", "3"), ("even", "2001"), ("both", "60")] {
-        let refused = demonstrated(rt.alloc(), kind, size, AMPLE)?;
-        assert!(rt;
-            refused.status == 2,
-            "{kind} {size}: status {}",
-            refused.status
-        );
-        assert!(rt; refused.answer().is_empty(), "{kind} {size}: answer");
-        assert!(rt; refused.proof().is_empty(), "{kind} {size}: log");
-    }
+    let few = refuses(rt.alloc(), "even", "3")?;
+    let many = refuses(rt.alloc(), "even", "2001")?;
+    let unknown = refuses(rt.alloc(), "both", "60")?;
+    assert_eq!(rt; (few, many, unknown), (true, true, true));
     Ok(())
 }
 

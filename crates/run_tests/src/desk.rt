@@ -87,6 +87,16 @@ fn file(alloc: Global, name: &str, text: &[u8]) -> Result<NamedFile, AllocError>
     })
 }
 
+fn push_file(
+    alloc: Global,
+    files: &mut Vec<NamedFile>,
+    name: &str,
+    text: &[u8],
+) -> Result<(), AllocError> {
+    files.push(file(alloc, name, text)?)?;
+    Ok(())
+}
+
 /// The words of a command line.
 fn words_of(alloc: Global, line: &[&str]) -> Result<Vec<String>, AllocError> {
     let mut words = Vec::new(alloc);
@@ -96,11 +106,20 @@ fn words_of(alloc: Global, line: &[&str]) -> Result<Vec<String>, AllocError> {
     Ok(words)
 }
 
+fn push_files(
+    alloc: Global,
+    files: &mut Vec<NamedFile>,
+    formula: &str,
+    second: &[u8],
+) -> Result<(), AllocError> {
+    push_file(alloc, files, "f", formula.as_bytes())?;
+    push_file(alloc, files, "s", second)
+}
+
 /// The files `f` and `s`.
 fn files_of(alloc: Global, formula: &str, second: &[u8]) -> Result<Vec<NamedFile>, AllocError> {
     let mut files = Vec::new(alloc);
-    files.push(file(alloc, "f", formula.as_bytes())?)?;
-    files.push(file(alloc, "s", second)?)?;
+    push_files(alloc, &mut files, formula, second)?;
     Ok(files)
 }
 

@@ -1,31 +1,191 @@
-//! Runs whose end is told beforehand.
-use crate::desk::{AMPLE, run};
-use std::alloc::{AllocError, Global};
-use std::process::Abort;
+//! Runs whose end is told beforehand: those that end otherwise are written into a text.
+ghost use Rattle.std.specs.Prelude.{◌≤◌};
 
-/// Runs a command of the texts `f` and `s`, which is to end with this status and this answer, and
-/// to write nothing else.
-pub(crate) fn expect(
-    rt: &impl Abort,
+use crate::desk::{AMPLE, Bounds, Ended, Task, run};
+use std::alloc::{AllocError, Global};
+
+/// How a run is to end: its status, and what is to stand on the ports.
+#[derive(Clone, Copy, Drop)]
+pub(crate) struct End<'a> {
+    pub status: u8,
+    pub answer: &'a str,
+    pub message: &'a str,
+    pub proof: &'a [u8],
+}
+
+/// A command that judges a second text: its line, and the status and the last line with which it refuses one.
+#[derive(Clone, Copy, Drop)]
+pub(crate) struct Judging {
+    pub line: &'static [&'static str],
+    pub status: u8,
+    pub verdict: &'static str,
+}
+
+pub(crate) const CHECK: Judging = Judging {
+    line: &["cxsat", "check", "f", "s"],
+    status: 7,
+    verdict: "s NOT VERIFIED",
+};
+
+pub(crate) const ELAB: Judging = Judging {
+    line: &["cxsat", "elab", "f", "s", "p"],
+    status: 8,
+    verdict: "s NOT ELABORATED",
+};
+
+pub(crate) const MODEL: Judging = Judging {
+    line: &["cxsat", "model", "f", "s"],
+    status: 11,
+    verdict: "s MODEL WRONG",
+};
+
+/// A formula, a text that is refused over it, and the line that tells where or for what.
+pub(crate) type Refused = (&'static str, &'static str, &'static str);
+
+/// The words of a line, the most bytes that a text may have, and the status.
+pub(crate) type Row = (&'static [&'static str], u32, u8);
+
+fn has_ended_so(ended: &Ended, end: End) -> bool {
+    ended.status == end.status
+        && ended.answer() == end.answer.as_bytes()
+        && ended.message() == end.message.as_bytes()
+        && ended.proof() == end.proof
+}
+
+fn put_port(alloc: Global, text: &mut String, bytes: &[u8]) -> Result<(), AllocError> {
+    let port = String::from_utf8_lossy(alloc, bytes)?;
+    text.push_str(port.as_str())
+}
+
+/// Writes a run and how it ended.
+pub(crate) fn put_end(
     alloc: Global,
-    command: &str,
-    formula: &str,
-    second: &str,
+    text: &mut String,
+    task: Task,
+    ended: &Ended,
+) -> Result<(), AllocError> {
+    let (line, formula, second) = (task.line, task.formula, task.second);
+    let head = format!(in alloc; "{line:?}\n{formula}{second}status {}\n", ended.status)?;
+    text.push_str(head.as_str())?;
+    put_port(alloc, text, ended.answer())?;
+    put_port(alloc, text, ended.message())?;
+    put_port(alloc, text, ended.proof())
+}
+
+/// Runs a task within these bounds.
+pub(crate) fn run_task(alloc: Global, task: Task, bounds: Bounds) -> Result<Ended, AllocError>
+    requires { 1 ≤ bounds.piece }
+{
+    run(
+        alloc,
+        task.formula,
+        task.second.as_bytes(),
+        task.line,
+        bounds,
+    )
+}
+
+/// Whether the run ended with this status and this answer.
+pub(crate) fn answers(ended: &Ended, status: u8, answer: &str) -> bool {
+    ended.status == status && ended.answer() == answer.as_bytes()
+}
+
+/// Whether a task ends with this status and this answer.
+pub(crate) fn is_answered(
+    alloc: Global,
+    task: Task,
+    bounds: Bounds,
     status: u8,
     answer: &str,
+) -> Result<bool, AllocError>
+    requires { 1 ≤ bounds.piece }
+{
+    let ended = run_task(alloc, task, bounds)?;
+    Ok(answers(&ended, status, answer))
+}
+
+/// Writes how the run ended, if that is not so.
+pub(crate) fn put_other(
+    alloc: Global,
+    others: &mut String,
+    task: Task,
+    bounds: Bounds,
+    end: End,
+) -> Result<(), AllocError>
+    requires { 1 ≤ bounds.piece }
+{
+    let ended = run_task(alloc, task, bounds)?;
+    if has_ended_so(&ended, end) {
+        return Ok(());
+    }
+    put_end(alloc, others, task, &ended)
+}
+
+/// The same of a text that is to be refused for this cause, with no other line written anywhere.
+pub(crate) fn put_other_refusal(
+    alloc: Global,
+    others: &mut String,
+    command: Judging,
+    (formula, second): (&str, &str),
+    cause: &str,
 ) -> Result<(), AllocError> {
-    let line = ["cxsat", command, "f", "s"];
-    let run = run(alloc, formula, second.as_bytes(), line.as_slice(), AMPLE)?;
-    assert!(rt;
-        run.status == status,
-        "{formula}{second}: status {}",
-        run.status
-    );
-    assert!(rt;
-        run.answer() == answer.as_bytes(),
-        "{formula}{second}: answer"
-    );
-    assert!(rt; run.message().is_empty(), "{formula}{second}: message");
-    assert!(rt; run.proof().is_empty(), "{formula}{second}: proof");
+    let answer = format!(in alloc; "c {cause}\n{}\n", command.verdict)?;
+    let task = Task {
+        line: command.line,
+        formula,
+        second,
+    };
+    let end = End {
+        status: command.status,
+        answer: answer.as_str(),
+        message: "",
+        proof: b"",
+    };
+    put_other(alloc, others, task, AMPLE, end)
+}
+
+/// The same of each of these texts.
+pub(crate) fn put_other_refusals(
+    alloc: Global,
+    others: &mut String,
+    command: Judging,
+    cases: &[Refused],
+) -> Result<(), AllocError> {
+    for case in cases {
+        put_other_refusal(alloc, others, command, (case.0, case.1), case.2)?;
+    }
+    Ok(())
+}
+
+/// Writes how the run ended, if its status is another one.
+fn put_other_status(
+    alloc: Global,
+    others: &mut String,
+    (formula, second): (&str, &str),
+    row: &Row,
+) -> Result<(), AllocError> {
+    let (line, limit, status) = *row;
+    let task = Task {
+        line,
+        formula,
+        second,
+    };
+    let ended = run_task(alloc, task, Bounds { limit, ..AMPLE })?;
+    if ended.status == status {
+        return Ok(());
+    }
+    put_end(alloc, others, task, &ended)
+}
+
+/// The same of each of these lines.
+pub(crate) fn put_other_statuses(
+    alloc: Global,
+    others: &mut String,
+    texts: (&str, &str),
+    rows: &[Row],
+) -> Result<(), AllocError> {
+    for row in rows {
+        put_other_status(alloc, others, texts, row)?;
+    }
     Ok(())
 }

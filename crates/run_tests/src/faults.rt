@@ -4,7 +4,6 @@ use crate::elab::SQUARE_LOG;
 use crate::formulas::{SQUARE, TRIANGLE};
 use cx_desk::RepeatDesk;
 use std::alloc::{AllocError, Global};
-use std::process::Abort;
 use std::test::Fail;
 
 /// The commands whose calls fail, each with what its run comes to where none does.
@@ -56,36 +55,60 @@ fn is_front(part: &[u8], whole: &[u8]) -> bool {
     whole.starts_with(part)
 }
 
-/// Looks at a run some of whose calls failed, beside the one where none did.
-fn judge(rt: &impl Abort, failing: Failing, failed: &Ended, whole: &Ended) {
-    let status = failed.status;
-    assert!(rt;
-        is_front(failed.proof(), whole.proof()),
-        "{failing:?}: proof"
-    );
-    assert!(rt;
-        is_front(failed.answer(), whole.answer()),
-        "{failing:?}: answer"
-    );
-    if failed.failed_to_read() {
-        assert!(rt; status == 4, "{failing:?}: status {status}");
-        assert!(rt; failed.answer().is_empty(), "{failing:?}: answer");
-    } else if failed.failed_to_write() {
-        assert!(rt; status == 5, "{failing:?}: status {status}");
-        let is_cut = failed.answer().len() < whole.answer().len();
-        assert!(rt; is_cut, "{failing:?}: answer is whole");
-        let is_proof_whole = failed.proof() == whole.proof();
-        assert!(rt;
-            is_proof_whole || failed.answer().is_empty(),
-            "{failing:?}: proof"
-        );
-    } else {
-        assert!(rt; status == whole.status, "{failing:?}: status {status}");
-        assert!(rt;
-            is_front(failed.message(), whole.message()),
-            "{failing:?}: message"
-        );
+/// What is wrong with a run some call of which failed to read.
+fn fault_of_reading(failed: &Ended) -> &'static str {
+    if failed.status != 4 {
+        return "status";
     }
+    if failed.answer().is_empty() {
+        ""
+    } else {
+        "answer"
+    }
+}
+
+/// What is wrong with a run some call of which failed to write, beside the one where none did.
+fn fault_of_writing(failed: &Ended, whole: &Ended) -> &'static str {
+    if failed.status != 5 {
+        return "status";
+    }
+    if failed.answer().len() >= whole.answer().len() {
+        return "answer is whole";
+    }
+    if failed.proof() == whole.proof() || failed.answer().is_empty() {
+        ""
+    } else {
+        "proof"
+    }
+}
+
+/// What is wrong with a run that failed to tell at most, beside the one where no call failed.
+fn fault_of_telling(failed: &Ended, whole: &Ended) -> &'static str {
+    if failed.status != whole.status {
+        return "status";
+    }
+    if is_front(failed.message(), whole.message()) {
+        ""
+    } else {
+        "message"
+    }
+}
+
+/// What is wrong with a run some of whose calls failed, beside the one where none did. Empty where nothing is.
+fn fault(failed: &Ended, whole: &Ended) -> &'static str {
+    if !is_front(failed.proof(), whole.proof()) {
+        return "proof is no front";
+    }
+    if !is_front(failed.answer(), whole.answer()) {
+        return "answer is no front";
+    }
+    if failed.failed_to_read() {
+        return fault_of_reading(failed);
+    }
+    if failed.failed_to_write() {
+        return fault_of_writing(failed, whole);
+    }
+    fault_of_telling(failed, whole)
 }
 
 /// Whether a call of the run failed.
@@ -93,31 +116,93 @@ fn has_failed(run: &Ended) -> bool {
     run.failed_to_read() || run.failed_to_write() || run.failed_to_tell()
 }
 
+/// Lets calls of a task fail. Writes what is wrong then. Says whether a call failed.
+fn put_fault(
+    alloc: Global,
+    faults: &mut String,
+    task: Task,
+    failing: Failing,
+    whole: &Ended,
+) -> Result<bool, AllocError> {
+    let failed = run_failing(alloc, task, failing)?;
+    let fault = fault(&failed, whole);
+    if !fault.is_empty() {
+        let status = failed.status;
+        faults.push_str(format!(in alloc; "{failing:?}: {fault}, status {status}\n")?.as_str())?;
+    }
+    Ok(has_failed(&failed))
+}
+
+/// Lets a call of a task fail, once and for good. Says whether there is such a call.
+fn put_faults_at(
+    alloc: Global,
+    faults: &mut String,
+    task: Task,
+    call: u64,
+    whole: &Ended,
+) -> Result<bool, AllocError> {
+    let once = put_fault(alloc, faults, task, Failing::Once(call), whole)?;
+    let fused = put_fault(alloc, faults, task, Failing::FromThereOn(call), whole)?;
+    if fused && !once {
+        faults.push_str("a later call failed alone\n")?;
+    }
+    Ok(once)
+}
+
 /// Lets the calls of a task fail in turn, until a run makes fewer calls. Says how many failed.
-fn fail_in_turn(rt: &impl Abort, alloc: Global, task: Task, status: u8) -> Result<u64, AllocError> {
-    let second = task.second.as_bytes();
-    let whole = run(alloc, task.formula, second, task.line, AMPLE)?;
-    assert!(rt; whole.status == status, "status {}", whole.status);
+fn fail_in_turn(
+    alloc: Global,
+    faults: &mut String,
+    task: Task,
+    whole: &Ended,
+) -> Result<u64, AllocError> {
     for call in 1..1000 {
-        let once = run_failing(alloc, task, Failing::Once(call))?;
-        let fused = run_failing(alloc, task, Failing::FromThereOn(call))?;
-        if !has_failed(&once) {
-            assert!(rt; !has_failed(&fused));
-            assert!(rt; once.status == status);
+        if !put_faults_at(alloc, faults, task, call, whole)? {
             return Ok(call - 1);
         }
-        judge(rt, Failing::Once(call), &once, &whole);
-        judge(rt, Failing::FromThereOn(call), &fused, &whole);
     }
     Ok(1000)
 }
 
+/// The same of a task whose whole run is to end with this status, and to make some calls.
+fn put_faults(
+    alloc: Global,
+    faults: &mut String,
+    (task, status): (Task, u8),
+) -> Result<(), AllocError> {
+    let whole = run(
+        alloc,
+        task.formula,
+        task.second.as_bytes(),
+        task.line,
+        AMPLE,
+    )?;
+    if whole.status != status {
+        faults.push_str("another status of the whole run\n")?;
+    }
+    let calls = fail_in_turn(alloc, faults, task, &whole)?;
+    if calls <= 5 || calls >= 1000 {
+        faults.push_str(format!(in alloc; "{calls} calls\n")?.as_str())?;
+    }
+    Ok(())
+}
+
+fn put_faults_of_all(
+    alloc: Global,
+    faults: &mut String,
+    tasks: &[(Task, u8)],
+) -> Result<(), AllocError> {
+    for task in tasks {
+        put_faults(alloc, faults, *task)?;
+    }
+    Ok(())
+}
+
 #[test]
 fn each_call_fails_in_turn(rt: HostRuntime) -> Result<(), Fail> {
-    for (task, status) in TASKS {
-        let calls = fail_in_turn(&rt, rt.alloc(), task, status)?;
-        assert!(rt; calls > 5 && calls < 1000, "{calls} calls");
-    }
+    let mut faults = String::new(rt.alloc());
+    put_faults_of_all(rt.alloc(), &mut faults, &TASKS)?;
+    assert_eq!(rt; faults.as_str(), "");
     Ok(())
 }
 

@@ -5,7 +5,6 @@ use crate::desk::{AMPLE, Bounds, Ended, run};
 use crate::elab::SQUARE_LOG;
 use crate::formulas::{SQUARE, TRIANGLE, TRIANGLE_OF_CLAUSES};
 use std::alloc::{AllocError, Global};
-use std::process::Abort;
 use std::test::Fail;
 
 // Made outside of this repository: values of eight variables were drawn, then five parities of three variables, with the
@@ -26,40 +25,30 @@ const HIDDEN: &str = "1 6 7 0\n1 -6 -7 0\n-1 6 -7 0\n-1 -6 7 0\n";
 /// A circle of five variables, each unlike the next; the last step of it is hidden in clauses.
 const CIRCLE: &str = "p cnf 5 6\nx1 2 0\nx2 3 0\nx3 4 0\nx4 5 0\n1 5 0\n-1 -5 0\n";
 
-/// Elaborates a log, and checks the proof that was made of it.
-pub(crate) fn proved_within(
-    rt: &impl Abort,
+/// Whether the check of this proof verifies it.
+fn verifies(alloc: Global, formula: &str, proof: &[u8], bounds: Bounds) -> Result<bool, AllocError>
+    requires { 1 ≤ bounds.piece }
+{
+    let line = ["cxsat", "check", "f", "s"];
+    let checked = run(alloc, formula, proof, line.as_slice(), bounds)?;
+    Ok(checked.status == 0 && checked.answer() == b"s VERIFIED\n".as_slice())
+}
+
+/// Whether the log is elaborated, and the proof that is made of it verified.
+pub(crate) fn proves(
     alloc: Global,
     formula: &str,
     log: &[u8],
     bounds: Bounds,
-) -> Result<(), AllocError>
+) -> Result<bool, AllocError>
     requires { 1 ≤ bounds.piece }
 {
     let line = ["cxsat", "elab", "f", "s", "p"];
     let elaborated = run(alloc, formula, log, line.as_slice(), bounds)?;
-    assert!(rt;
-        elaborated.status == 0,
-        "{formula}: elab {}",
-        elaborated.status
-    );
-    assert!(rt;
-        elaborated.answer() == b"s ELABORATED\n".as_slice(),
-        "{formula}: elab"
-    );
-    let line = ["cxsat", "check", "f", "s"];
-    let checked = run(alloc, formula, elaborated.proof(), line.as_slice(), bounds)?;
-    assert!(rt; checked.status == 0, "{formula}: check {}", checked.status);
-    assert!(rt;
-        checked.answer() == b"s VERIFIED\n".as_slice(),
-        "{formula}: check"
-    );
-    Ok(())
-}
-
-/// The same of small texts.
-fn proved(rt: &impl Abort, alloc: Global, formula: &str, log: &[u8]) -> Result<(), AllocError> {
-    proved_within(rt, alloc, formula, log, AMPLE)
+    if elaborated.status != 0 || elaborated.answer() != b"s ELABORATED\n".as_slice() {
+        return Ok(false);
+    }
+    verifies(alloc, formula, elaborated.proof(), bounds)
 }
 
 fn solved(alloc: Global, formula: &str) -> Result<Ended, AllocError> {
@@ -69,36 +58,55 @@ fn solved(alloc: Global, formula: &str) -> Result<Ended, AllocError> {
 
 #[test]
 fn a_log_becomes_a_proof(rt: HostRuntime) -> Result<(), Fail> {
-    proved(&rt, rt.alloc(), SQUARE, SQUARE_LOG.as_bytes())?;
+    assert!(rt; proves(rt.alloc(), SQUARE, SQUARE_LOG.as_bytes(), AMPLE)?);
     Ok(())
+}
+
+/// Whether the formula is refuted, and its log becomes a proof.
+fn is_refuted(alloc: Global, formula: &str) -> Result<bool, AllocError> {
+    let refuted = solved(alloc, formula)?;
+    if refuted.status != 20 {
+        return Ok(false);
+    }
+    proves(alloc, formula, refuted.proof(), AMPLE)
+}
+
+/// The same of a formula of two parts.
+fn is_refuted_with(alloc: Global, front: &str, rest: &str) -> Result<bool, AllocError> {
+    let formula = format!(in alloc; "{front}{rest}")?;
+    is_refuted(alloc, formula.as_str())
 }
 
 #[test]
 fn refutations_are_verified(rt: HostRuntime) -> Result<(), Fail> {
     let alloc = rt.alloc();
-    let odd = format!(in alloc; "{PLANTED}{ODD}")?;
-    let hidden = format!(in alloc; "{PLANTED}{HIDDEN}")?;
-    for formula in [
-        TRIANGLE,
-        TRIANGLE_OF_CLAUSES,
-        SQUARE,
-        CIRCLE,
-        odd.as_str(),
-        hidden.as_str(),
-    ] {
-        let refuted = solved(alloc, formula)?;
-        assert!(rt; refuted.status == 20, "{formula}: solve {}", refuted.status);
-        proved(&rt, alloc, formula, refuted.proof())?;
-    }
+    let triangle = is_refuted(alloc, TRIANGLE)? && is_refuted(alloc, TRIANGLE_OF_CLAUSES)?;
+    let square = is_refuted(alloc, SQUARE)?;
+    let circle = is_refuted(alloc, CIRCLE)?;
+    let odd = is_refuted_with(alloc, PLANTED, ODD)?;
+    let hidden = is_refuted_with(alloc, PLANTED, HIDDEN)?;
+    assert_eq!(rt; [triangle, square, circle, odd, hidden], [true; 5]);
     Ok(())
+}
+
+/// The status of the judgement of an answer, if the search ended with values.
+fn status_of_values(alloc: Global, formula: &str, met: &Ended) -> Result<u8, AllocError> {
+    if met.status != 10 {
+        return Ok(met.status);
+    }
+    let line = ["cxsat", "model", "f", "s"];
+    let judged = run(alloc, formula, met.answer(), line.as_slice(), AMPLE)?;
+    Ok(judged.status)
+}
+
+/// Whether the search finds values that are right.
+fn is_met(alloc: Global, formula: &str) -> Result<bool, AllocError> {
+    let met = solved(alloc, formula)?;
+    Ok(status_of_values(alloc, formula, &met)? == 0)
 }
 
 #[test]
 fn printed_values_are_right(rt: HostRuntime) -> Result<(), Fail> {
-    let met = solved(rt.alloc(), PLANTED)?;
-    assert_eq!(rt; met.status, 10);
-    let line = ["cxsat", "model", "f", "s"];
-    let judged = run(rt.alloc(), PLANTED, met.answer(), line.as_slice(), AMPLE)?;
-    assert_eq!(rt; judged.status, 0);
+    assert!(rt; is_met(rt.alloc(), PLANTED)?);
     Ok(())
 }

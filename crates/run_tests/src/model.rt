@@ -1,39 +1,35 @@
 //! Printed values that are right, and values that are refused for a cause.
-use crate::expecting::expect;
+use crate::desk::{AMPLE, Task};
+use crate::expecting::{End, MODEL, Refused, put_other, put_other_refusals};
 use std::test::Fail;
 
 /// A parity and a clause that the values 1 and -2 alone meet.
 const FORMULA: &str = "p cnf 2 2\nx1 2 0\n1 0\n";
 
+const REFUSED: [Refused; 5] = [
+    (FORMULA, "s UNSATISFIABLE\n", "A1"),
+    (FORMULA, "s SATISFIABLE\nv 1 q 0\n", "A2 at byte 18"),
+    (FORMULA, "s SATISFIABLE\nv 1 0\n", "A3 variable 2"),
+    (FORMULA, "s SATISFIABLE\nv 1 -2 1 0\n", "A4 variable 1"),
+    (FORMULA, "s SATISFIABLE\nv 1 2 0\n", "A5 constraint 1"),
+];
+
 #[test]
 fn printed_values(rt: HostRuntime) -> Result<(), Fail> {
-    let right = "s SATISFIABLE\nv 1 -2 0\n";
-    expect(
-        &rt,
-        rt.alloc(),
-        "model",
-        FORMULA,
-        right,
-        0,
-        "s MODEL RIGHT\n",
-    )?;
-    for (values, cause) in [
-        ("s UNSATISFIABLE\n", "A1"),
-        ("s SATISFIABLE\nv 1 q 0\n", "A2 at byte 18"),
-        ("s SATISFIABLE\nv 1 0\n", "A3 variable 2"),
-        ("s SATISFIABLE\nv 1 -2 1 0\n", "A4 variable 1"),
-        ("s SATISFIABLE\nv 1 2 0\n", "A5 constraint 1"),
-    ] {
-        let answer = format!(in rt.alloc(); "c {cause}\ns MODEL WRONG\n")?;
-        expect(
-            &rt,
-            rt.alloc(),
-            "model",
-            FORMULA,
-            values,
-            11,
-            answer.as_str(),
-        )?;
-    }
+    let right = Task {
+        line: MODEL.line,
+        formula: FORMULA,
+        second: "s SATISFIABLE\nv 1 -2 0\n",
+    };
+    let end = End {
+        status: 0,
+        answer: "s MODEL RIGHT\n",
+        message: "",
+        proof: b"",
+    };
+    let mut others = String::new(rt.alloc());
+    put_other(rt.alloc(), &mut others, right, AMPLE, end)?;
+    put_other_refusals(rt.alloc(), &mut others, MODEL, &REFUSED)?;
+    assert_eq!(rt; others.as_str(), "");
     Ok(())
 }

@@ -1,6 +1,6 @@
 //! Pigeons that have one hole too few: formulas that no values meet, and that take many conflicts.
-use crate::desk::{AMPLE, Bounds, run};
-use crate::flow::proved_within;
+use crate::desk::{AMPLE, Bounds, Ended, run};
+use crate::flow::proves;
 use std::alloc::{AllocError, Global};
 use std::test::Fail;
 
@@ -76,26 +76,38 @@ fn ends_with_mark(log: &[u8], conflicts: &str) -> bool {
     }
 }
 
-#[test]
-fn eight_pigeons_are_refuted_or_the_budget_is_spent(rt: HostRuntime) -> Result<(), Fail> {
-    let alloc = rt.alloc();
-    let formula = pigeonholes(alloc, 7)?;
+/// Whether a search with a budget of 6,000 conflicts ended with a proof, or with its budget spent.
+fn is_refuted_or_spent(alloc: Global, formula: &str, solved: &Ended) -> Result<bool, AllocError> {
+    if solved.status == 20 {
+        return proves(alloc, formula, solved.proof(), WIDE);
+    }
+    Ok(solved.status == 0 && ends_with_mark(solved.proof(), "c conflict 6000\n"))
+}
+
+/// Whether the search over so many holes ends so.
+fn refutes_or_spends(alloc: Global, holes: u8) -> Result<bool, AllocError> {
+    let formula = pigeonholes(alloc, holes)?;
     let line = ["cxsat", "solve", "f", "--proof", "l", "--conflicts", "6000"];
     let solved = run(alloc, formula.as_str(), b"", line.as_slice(), WIDE)?;
-    if solved.status == 20 {
-        proved_within(&rt, alloc, formula.as_str(), solved.proof(), WIDE)?;
-    } else {
-        assert_eq!(rt; solved.status, 0);
-        assert!(rt; ends_with_mark(solved.proof(), "c conflict 6000\n"));
-    }
+    is_refuted_or_spent(alloc, formula.as_str(), &solved)
+}
+
+#[test]
+fn eight_pigeons_are_refuted_or_the_budget_is_spent(rt: HostRuntime) -> Result<(), Fail> {
+    assert!(rt; refutes_or_spends(rt.alloc(), 7)?);
     Ok(())
+}
+
+/// The status of a search over so many holes, with a budget that is not spent.
+fn status_over(alloc: Global, holes: u8) -> Result<u8, AllocError> {
+    let formula = pigeonholes(alloc, holes)?;
+    let line = ["cxsat", "solve", "f", "--conflicts", "100000"];
+    let solved = run(alloc, formula.as_str(), b"", line.as_slice(), WIDE)?;
+    Ok(solved.status)
 }
 
 #[test]
 fn six_pigeons_are_refuted(rt: HostRuntime) -> Result<(), Fail> {
-    let formula = pigeonholes(rt.alloc(), 5)?;
-    let line = ["cxsat", "solve", "f", "--conflicts", "100000"];
-    let solved = run(rt.alloc(), formula.as_str(), b"", line.as_slice(), WIDE)?;
-    assert_eq!(rt; solved.status, 20);
+    assert_eq!(rt; status_over(rt.alloc(), 5)?, 20);
     Ok(())
 }

@@ -1,105 +1,150 @@
 //! Formulas, texts and words that are refused, each with its status, place and line.
-use crate::desk::{AMPLE, Bounds, run};
+use crate::desk::{AMPLE, Bounds, Task};
+use crate::expecting::{CHECK, End, Row, put_other, put_other_statuses};
 use crate::formulas::EMPTY;
+use std::alloc::{AllocError, Global};
 use std::test::Fail;
+
+/// A formula, the status with which it is refused, and the line that tells why.
+type Offence = (&'static str, u8, &'static str);
+
+const OFFENCES: [Offence; 10] = [
+    ("", 3, "error: formula F1 at byte 0\n"),
+    ("1 0\n", 3, "error: formula F1 at byte 0\n"),
+    ("p cnf x 1\n", 3, "error: formula F2 at byte 6\n"),
+    ("p cnf 2 1\n1 a 0\n", 3, "error: formula F3 at byte 12\n"),
+    ("p cnf 2 1\n1 x2 0\n", 3, "error: formula F3 at byte 12\n"),
+    ("p cnf 2 1\n1 2", 3, "error: formula F4 at byte 13\n"),
+    ("p cnf 2 1\n1 2\n", 3, "error: formula F4 at byte 14\n"),
+    ("p cnf 1 1\n16777216 0\n", 9, "error: limit L1 at byte 10\n"),
+    (
+        "p cnf 1 1\n16777216 a 0\n",
+        9,
+        "error: limit L1 at byte 10\n",
+    ),
+    ("p cnf 16777216 0\n", 9, "error: limit L1 at byte 6\n"),
+];
+
+/// Writes how a run over the formula ends, if it is not refused so.
+fn put_other_offence(
+    alloc: Global,
+    others: &mut String,
+    (formula, status, message): Offence,
+) -> Result<(), AllocError> {
+    let task = Task {
+        line: CHECK.line,
+        formula,
+        second: "",
+    };
+    let end = End {
+        status,
+        answer: "",
+        message,
+        proof: b"",
+    };
+    put_other(alloc, others, task, AMPLE, end)
+}
+
+fn put_other_offences(
+    alloc: Global,
+    others: &mut String,
+    cases: &[Offence],
+) -> Result<(), AllocError> {
+    for case in cases {
+        put_other_offence(alloc, others, *case)?;
+    }
+    Ok(())
+}
 
 #[test]
 fn formulas_are_refused_at_their_first_offence(rt: HostRuntime) -> Result<(), Fail> {
-    for (formula, status, line) in [
-        ("", 3, "formula F1 at byte 0"),
-        ("1 0\n", 3, "formula F1 at byte 0"),
-        ("p cnf x 1\n", 3, "formula F2 at byte 6"),
-        ("p cnf 2 1\n1 a 0\n", 3, "formula F3 at byte 12"),
-        ("p cnf 2 1\n1 x2 0\n", 3, "formula F3 at byte 12"),
-        ("p cnf 2 1\n1 2", 3, "formula F4 at byte 13"),
-        ("p cnf 2 1\n1 2\n", 3, "formula F4 at byte 14"),
-        ("p cnf 1 1\n16777216 0\n", 9, "limit L1 at byte 10"),
-        ("p cnf 1 1\n16777216 a 0\n", 9, "limit L1 at byte 10"),
-        ("p cnf 16777216 0\n", 9, "limit L1 at byte 6"),
-    ] {
-        let message = format!(in rt.alloc(); "error: {line}\n")?;
-        let words = ["cxsat", "check", "f", "s"];
-        let refused = run(rt.alloc(), formula, b"", words.as_slice(), AMPLE)?;
-        assert!(rt;
-            refused.status == status,
-            "{formula}: status {}",
-            refused.status
-        );
-        assert!(rt;
-            refused.message() == message.as_bytes(),
-            "{formula}: message"
-        );
-        assert!(rt; refused.answer().is_empty(), "{formula}: answer");
-        assert!(rt; refused.proof().is_empty(), "{formula}: proof");
-    }
+    let mut others = String::new(rt.alloc());
+    put_other_offences(rt.alloc(), &mut others, &OFFENCES)?;
+    assert_eq!(rt; others.as_str(), "");
     Ok(())
+}
+
+/// Writes how a check of a proof of 12 bytes ends under a limit, if it is not so.
+fn put_other_limited(
+    alloc: Global,
+    others: &mut String,
+    formula: &str,
+    limit: u32,
+    (status, answer, message): (u8, &str, &str),
+) -> Result<(), AllocError> {
+    let task = Task {
+        line: CHECK.line,
+        formula,
+        second: "2 0 1 0\nzzz\n",
+    };
+    let end = End {
+        status,
+        answer,
+        message,
+        proof: b"",
+    };
+    put_other(alloc, others, task, Bounds { limit, ..AMPLE }, end)
+}
+
+/// The same under each limit.
+fn put_others_limited(alloc: Global, others: &mut String) -> Result<(), AllocError> {
+    let fits = (0, "s VERIFIED\n", "");
+    put_other_limited(alloc, others, EMPTY, 12, fits)?;
+    let first = (9, "", "error: limit L2 formula\n");
+    put_other_limited(alloc, others, EMPTY, 11, first)?;
+    let second = (9, "", "error: limit L2 second\n");
+    put_other_limited(alloc, others, "p cnf 1 1\n0", 11, second)
 }
 
 #[test]
 fn texts_over_the_limit_are_refused(rt: HostRuntime) -> Result<(), Fail> {
-    for (formula, limit, status, answer, message) in [
-        (EMPTY, 12, 0, "s VERIFIED\n", ""),
-        (EMPTY, 11, 9, "", "error: limit L2 formula\n"),
-        ("p cnf 1 1\n0", 11, 9, "", "error: limit L2 second\n"),
-    ] {
-        let words = ["cxsat", "check", "f", "s"];
-        let bounds = Bounds { limit, ..AMPLE };
-        let limited = run(
-            rt.alloc(),
-            formula,
-            b"2 0 1 0\nzzz\n",
-            words.as_slice(),
-            bounds,
-        )?;
-        assert!(rt;
-            limited.status == status,
-            "limit {limit}: status {}",
-            limited.status
-        );
-        assert!(rt;
-            limited.answer() == answer.as_bytes(),
-            "limit {limit}: answer"
-        );
-        assert!(rt;
-            limited.message() == message.as_bytes(),
-            "limit {limit}: message"
-        );
-    }
+    let mut others = String::new(rt.alloc());
+    put_others_limited(rt.alloc(), &mut others)?;
+    assert_eq!(rt; others.as_str(), "");
     Ok(())
 }
 
+const LINES: [Row; 10] = [
+    (&["cxsat", "check", "f", "s"], u32::MAX, 0),
+    (&["cxsat", "slove", "f"], u32::MAX, 2),
+    (&["cxsat", "check", "f", "f"], u32::MAX, 2),
+    (&["cxsat", "check", "f", "-s"], u32::MAX, 2),
+    (&["cxsat", "check", "f"], u32::MAX, 2),
+    (&["cxsat"], u32::MAX, 2),
+    (&[], u32::MAX, 2),
+    (&["cxsat", "check", "f", ""], u32::MAX, 4),
+    (&["cxsat", "check", "g", "s"], u32::MAX, 4),
+    (&["cxsat", "check", "f", "g"], u32::MAX, 4),
+];
+
 #[test]
 fn words_are_refused_or_taken(rt: HostRuntime) -> Result<(), Fail> {
-    let rows: [(&[&str], u8); 10] = [
-        (["cxsat", "check", "f", "s"].as_slice(), 0),
-        (["cxsat", "slove", "f"].as_slice(), 2),
-        (["cxsat", "check", "f", "f"].as_slice(), 2),
-        (["cxsat", "check", "f", "-s"].as_slice(), 2),
-        (["cxsat", "check", "f"].as_slice(), 2),
-        (["cxsat"].as_slice(), 2),
-        ([].as_slice(), 2),
-        (["cxsat", "check", "f", ""].as_slice(), 4),
-        (["cxsat", "check", "g", "s"].as_slice(), 4),
-        (["cxsat", "check", "f", "g"].as_slice(), 4),
-    ];
-    for (words, status) in rows {
-        let run = run(rt.alloc(), EMPTY, b"2 0 1 0\n", words, AMPLE)?;
-        assert!(rt; run.status == status, "{words:?}: status {}", run.status);
-    }
+    let mut others = String::new(rt.alloc());
+    put_other_statuses(rt.alloc(), &mut others, (EMPTY, "2 0 1 0\n"), &LINES)?;
+    assert_eq!(rt; others.as_str(), "");
     Ok(())
 }
 
 #[test]
 fn a_full_answer_port_is_a_write_fault(rt: HostRuntime) -> Result<(), Fail> {
-    let words = ["cxsat", "check", "f", "s"];
+    let task = Task {
+        line: CHECK.line,
+        formula: EMPTY,
+        second: "2 0 1 0\n",
+    };
     let bounds = Bounds {
         answer: 3,
         piece: 2,
         ..AMPLE
     };
-    let cut_off = run(rt.alloc(), EMPTY, b"2 0 1 0\n", words.as_slice(), bounds)?;
-    assert_eq!(rt; cut_off.status, 5);
-    assert_eq!(rt; cut_off.answer(), b"s V".as_slice());
-    assert_eq!(rt; cut_off.message(), b"error: write fault\n".as_slice());
+    let end = End {
+        status: 5,
+        answer: "s V",
+        message: "error: write fault\n",
+        proof: b"",
+    };
+    let mut others = String::new(rt.alloc());
+    put_other(rt.alloc(), &mut others, task, bounds, end)?;
+    assert_eq!(rt; others.as_str(), "");
     Ok(())
 }

@@ -1,7 +1,8 @@
 //! The search follows its schedule, as its log shows: clauses are deleted just behind the conflicts where a restart is due
 //! and many are learned.
-use crate::desk::run;
+use crate::desk::{Ended, run};
 use crate::pigeons::{WIDE, pigeonholes};
+use std::alloc::{AllocError, Global};
 use std::test::Fail;
 
 /// Counted conflicts, in hundreds up to 50, behind which a restart is due: the sums of the sequence of Luby, Sinclair and
@@ -66,13 +67,29 @@ impl Told {
     }
 }
 
-#[test]
-fn clauses_are_deleted_where_many_are_learned_at_a_restart(rt: HostRuntime) -> Result<(), Fail> {
-    let formula = pigeonholes(rt.alloc(), 10)?;
-    let line = ["cxsat", "solve", "f", "--proof", "l", "--conflicts", "5000"];
-    let solved = run(rt.alloc(), formula.as_str(), b"", line.as_slice(), WIDE)?;
-    assert_eq!(rt; solved.status, 0);
-    let log = String::from_utf8_lossy(rt.alloc(), solved.proof())?;
+/// Takes in a line of a log. Whether the search followed its schedule up to there.
+fn follows_line(told: &mut Told, line: &str) -> bool {
+    if line.starts_with("c conflict ") {
+        let follows = told.follows();
+        told.mark();
+        return follows;
+    }
+    told.step(line);
+    true
+}
+
+/// Takes in a log, up to a mark at which the search does not follow its schedule, if there is one. Whether there is none.
+fn follows_all(told: &mut Told, log: &str) -> bool {
+    for line in log.split('\n') {
+        if !follows_line(told, line) {
+            return false;
+        }
+    }
+    true
+}
+
+/// Whether the log tells that the search follows its schedule, of how many conflicts, and whether of many reductions.
+fn told_of(log: &str) -> (bool, u64, bool) {
     let mut told = Told {
         conflicts: 0,
         learns: false,
@@ -80,15 +97,29 @@ fn clauses_are_deleted_where_many_are_learned_at_a_restart(rt: HostRuntime) -> R
         deleted: 0,
         reductions: 0,
     };
-    for line in log.split('\n') {
-        if line.starts_with("c conflict ") {
-            assert!(rt; told.follows(), "behind conflict {}", told.conflicts);
-            told.mark();
-        } else {
-            told.step(line);
-        }
+    let follows = follows_all(&mut told, log);
+    (follows, told.conflicts, told.reductions >= 2)
+}
+
+/// The same of a search whose budget is spent.
+fn told_when_spent(alloc: Global, solved: &Ended) -> Result<(bool, u64, bool), AllocError> {
+    if solved.status != 0 {
+        return Ok((false, 0, false));
     }
-    assert_eq!(rt; told.conflicts, 5000);
-    assert!(rt; told.reductions >= 2, "{} reductions", told.reductions);
+    let log = String::from_utf8_lossy(alloc, solved.proof())?;
+    Ok(told_of(log.as_str()))
+}
+
+/// The same of a search over pigeonholes with a budget of 5,000 conflicts.
+fn told_of_pigeons(alloc: Global, holes: u8) -> Result<(bool, u64, bool), AllocError> {
+    let formula = pigeonholes(alloc, holes)?;
+    let line = ["cxsat", "solve", "f", "--proof", "l", "--conflicts", "5000"];
+    let solved = run(alloc, formula.as_str(), b"", line.as_slice(), WIDE)?;
+    told_when_spent(alloc, &solved)
+}
+
+#[test]
+fn clauses_are_deleted_where_many_are_learned_at_a_restart(rt: HostRuntime) -> Result<(), Fail> {
+    assert_eq!(rt; told_of_pigeons(rt.alloc(), 10)?, (true, 5000, true));
     Ok(())
 }
