@@ -206,6 +206,43 @@ fn note(trace: &mut String, quiet: bool, held: &[Option<Held>]) -> Result<(), Al
     trace.push('\n')
 }
 
+/// Notes what the engine knows where nothing more follows, and does the act. The level then.
+fn take_turn<P: ParityEngine>(
+    alloc: Global,
+    engine: &mut P,
+    held: &mut Vec<Option<Held>>,
+    level: u32,
+    told: &mut Vec<Told>,
+    trace: &mut String,
+    act: Act,
+) -> Result<u32, AllocError>
+    requires { IsAt (P.state engine.old) level held.old.items }
+    ensures { IfOk result (λ l. IsAt (P.state engine.new) l held.new.items) }
+{
+    let quiet = settle(engine, held, level, told)?;
+    note(trace, quiet, held)?;
+    take_act(alloc, engine, held, level, quiet, act)
+}
+
+/// Notes what the engine knows before each act and behind the last one.
+fn take_turns<P: ParityEngine>(
+    alloc: Global,
+    engine: &mut P,
+    held: &mut Vec<Option<Held>>,
+    told: &mut Vec<Told>,
+    trace: &mut String,
+    acts: &[Act],
+) -> Result<(), AllocError>
+    requires { IsAt (P.state engine.old) 0 held.old.items }
+{
+    let mut level = 0;
+    for act in acts {
+        level = take_turn(alloc, engine, held, level, told, trace, *act)?;
+    }
+    let quiet = settle(engine, held, level, told)?;
+    note(trace, quiet, held)
+}
+
 /// What the engine knows before each act and behind the last one. What followed is told.
 pub(crate) fn trace_of<P: ParityEngine + Drop>(
     alloc: Global,
@@ -220,13 +257,6 @@ pub(crate) fn trace_of<P: ParityEngine + Drop>(
     let mut engine = P::make(alloc, vars, parities)?;
     let mut held = nothing_held(alloc, vars as usize)?;
     let mut trace = String::new(alloc);
-    let mut level = 0;
-    for act in acts {
-        let quiet = settle(&mut engine, &mut held, level, told)?;
-        note(&mut trace, quiet, &held)?;
-        level = take_act(alloc, &mut engine, &mut held, level, quiet, *act)?;
-    }
-    let quiet = settle(&mut engine, &mut held, level, told)?;
-    note(&mut trace, quiet, &held)?;
+    take_turns(alloc, &mut engine, &mut held, told, &mut trace, acts)?;
     Ok(trace)
 }

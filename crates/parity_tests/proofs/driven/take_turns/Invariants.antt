@@ -1,5 +1,5 @@
 use Rattle.parity_tests.specs.Driven.{IsAt}
-use Rattle.parity_tests.proofs.driven.trace_of.Given as goal
+use Rattle.parity_tests.proofs.driven.take_turns.Given as goal
 
 abbrev pub invariant-loop-act : goal.invariant-loop-act
 invariant-loop-act g l = IsAt (g.P.ParityEngine.state l.engine) l.level l.held.items
