@@ -2,7 +2,7 @@
 ghost use Rattle.std.specs.Prelude.{◌≡◌, ◌≢◌, ◌≤◌, ◌<◌, ◌+◌, ℕ, ℤ, pos, nat_abs, true, IfOk, OnOk, MatchOption, None, Some};
 ghost use Rattle.fratx_elab.specs.Names.{Naming, stands_for, first_naming, name_original, name_next, drop_name, StandForThemselves};
 
-use proof_rules::IdMap;
+use proof_rules::{Filler, IdMap};
 use std::alloc::{AllocError, Global};
 use std::marker::Model;
 
@@ -26,6 +26,12 @@ impl Model for ProofId {
     ghost invariant = { λ p. (1 ≤ p.number) × (p.number ≤ MAX_ID) };
 
     ghost inverse = { λ n. record { number = n } };
+}
+
+impl Filler for ProofId {
+    fn filler() -> ProofId {
+        ProofId { number: 1 }
+    }
 }
 
 impl ProofId {

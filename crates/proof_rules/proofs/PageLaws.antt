@@ -1,9 +1,11 @@
 -- The places of pages, and the places of all pages in turn.
-use Rattle.std.proofs.Common.{◌≡◌, refl, sym, ap, ◌∙◌, ℕ, zero, suc, ◌+◌, ◌-◌, ◌*◌, ◌/◌, ◌%◌, ◌<◌, ◌≤◌, true, false, true≢false, List, [], ◌∷◌, ◌++◌, length, get_or, set, drop, Option, Some, None, is_some, replicate, arith, append_assoc, append-nil, length-append}
+use Rattle.std.proofs.Common.{◌≡◌, refl, sym, ap, ◌∙◌, ℕ, zero, suc, ◌+◌, ◌-◌, ◌*◌, ◌/◌, ◌%◌, ◌^◌, ◌≢◌, eqb, ◌<◌, ◌≤◌, true, false, true≢false, List, [], ◌∷◌, ◌++◌, length, get_or, set, drop, Option, Some, None, is_some, replicate, arith, append_assoc, append-nil, length-append}
+use Rattle.std.specs.Int.{bit_at}
 use Rattle.std.specs.Map.{keys_of}
 use Rattle.std.proofs.Math.Seq.{drop-cons}
+use Rattle.std.proofs.lemmas.Nat.Bits.{bit_at-lt, bit_at-zero, same_from_bits_below}
 use Rattle.std.proofs.lemmas.List.{drop_all, length-replicate, length-set, length-take-le, get_or-take, take_at, get_or_append_left, get_or-append-add, set-append_left, set-append_right}
-use Rattle.proof_rules.specs.Places.{entries_from, entries_of, all_places, places_of, taken_of, HasAllOrNone}
+use Rattle.proof_rules.specs.Places.{entries_from, entries_of, all_places, places_of, held, held_from, held_in, HasAllOrNone}
 
 -- One page.
 
@@ -33,54 +35,111 @@ get_or-all_places xs i h = get_or-take 64 (xs ++ replicate 64 None) i None h ∙
 pub all_places-full : {V : Type 0} (xs : List (Option V)) → length xs ≡ 64 → all_places xs ≡ xs
 all_places-full xs h = take_at xs (replicate 64 None) 64 h
 
-pub all_places_made : {V : Type 0} (xs ys : List (Option V)) → length xs ≡ 0 → ys ≡ replicate 64 None → all_places ys ≡ all_places xs
-all_places_made [] ys h e = ap all_places e
-all_places_made (x ∷ xs) ys h e = absurd (omega (arith, h))
-
-pub taken_of_made : {V : Type 0} (xs ys : List (Option V)) → length xs ≡ 0 → ys ≡ replicate 64 None → taken_of ys ≡ taken_of xs
-taken_of_made [] ys h e = ap taken_of e
-taken_of_made (x ∷ xs) ys h e = absurd (omega (arith, h))
-
 -- a page after a change in its full list
 pub all_places-set : {V : Type 0} (old xs : List (Option V)) (i : ℕ) (o : Option V) → all_places old ≡ xs → length xs ≡ 64 → all_places (set xs i o) ≡ set (all_places old) i o
 all_places-set old xs i o h full = all_places-full (set xs i o) (length-set xs i o ∙ full) ∙ ap (λ ys. set ys i o) (sym h)
 
--- a list where no place is taken is that of empty places
-pub none_taken : {V : Type 0} (xs : List (Option V)) (n : ℕ) → length xs ≡ n → taken_of xs ≡ 0 → xs ≡ replicate n None
-none_taken [] zero h none = refl
-none_taken [] (suc n) h none = absurd (omega (arith, h))
-none_taken (x ∷ xs) zero h none = absurd (omega (arith, h))
-none_taken (None ∷ xs) (suc n) h none = ap (λ ys. None ∷ ys) (none_taken xs n (omega (arith, h)) none)
-none_taken (Some v ∷ xs) n h none = absurd (omega (arith, none))
+-- What places hold, by the bits of a word.
 
-pub taken_of-bound : {V : Type 0} (xs : List (Option V)) → taken_of xs ≤ length xs
-taken_of-bound [] = omega arith
-taken_of-bound (None ∷ xs) = let less = taken_of-bound xs in omega (arith, less)
-taken_of-bound (Some v ∷ xs) = let less = taken_of-bound xs in omega (arith, less)
+length-held_from : {V : Type 0} (n t : ℕ) (xs : List V) → length (held_from n t xs) ≡ length xs
+length-held_from n t [] = refl
+length-held_from n t (x ∷ xs) = ap suc (length-held_from (suc n) t xs)
 
--- one place more is taken where there was no value
-pub taken_of-put_new : {V : Type 0} (xs : List (Option V)) (i : ℕ) (v : V) → i < length xs → is_some (get_or xs i None) ≡ false → taken_of (set xs i (Some v)) ≡ taken_of xs + 1
-taken_of-put_new [] i v h e = absurd (omega (arith, h))
-taken_of-put_new (None ∷ xs) zero v h e = omega arith
-taken_of-put_new (Some w ∷ xs) zero v h e = absurd (true≢false e)
-taken_of-put_new (None ∷ xs) (suc i) v h e = taken_of-put_new xs i v (omega (arith, h)) e
-taken_of-put_new (Some w ∷ xs) (suc i) v h e = let one = taken_of-put_new xs i v (omega (arith, h)) e in omega (arith, one)
+pub length-held_in : {V : Type 0} (t : ℕ) (xs : List V) → length (held_in t xs) ≡ length xs
+length-held_in t xs = length-held_from 0 t xs
 
--- and as many where there was one
-pub taken_of-put_again : {V : Type 0} (xs : List (Option V)) (i : ℕ) (v : V) → is_some (get_or xs i None) ≡ true → taken_of (set xs i (Some v)) ≡ taken_of xs
-taken_of-put_again [] i v e = refl
-taken_of-put_again (None ∷ xs) zero v e = absurd (true≢false (sym e))
-taken_of-put_again (Some w ∷ xs) zero v e = refl
-taken_of-put_again (None ∷ xs) (suc i) v e = taken_of-put_again xs i v e
-taken_of-put_again (Some w ∷ xs) (suc i) v e = ap suc (taken_of-put_again xs i v e)
+get_or-held_from : {V : Type 0} (n t : ℕ) (xs : List V) (i : ℕ) (d : V) → i < length xs → get_or (held_from n t xs) i None ≡ held (bit_at t (n + i)) (get_or xs i d)
+get_or-held_from n t [] i d h = absurd (omega (arith, h))
+get_or-held_from n t (x ∷ xs) zero d h = let here : n ≡ n + zero = omega arith in ap (λ k. held (bit_at t k) x) here
+get_or-held_from n t (x ∷ xs) (suc i) d h =
+    let later : suc n + i ≡ n + suc i = omega arith in
+    get_or-held_from (suc n) t xs i d (omega (arith, h)) ∙ ap (λ k. held (bit_at t k) (get_or xs i d)) later
 
--- one less once a value is out of its place
-pub taken_of-clear : {V : Type 0} (xs : List (Option V)) (i : ℕ) → is_some (get_or xs i None) ≡ true → taken_of xs ≡ taken_of (set xs i None) + 1
-taken_of-clear [] i e = absurd (true≢false (sym e))
-taken_of-clear (None ∷ xs) zero e = absurd (true≢false (sym e))
-taken_of-clear (Some w ∷ xs) zero e = omega arith
-taken_of-clear (None ∷ xs) (suc i) e = taken_of-clear xs i e
-taken_of-clear (Some w ∷ xs) (suc i) e = let one = taken_of-clear xs i e in omega (arith, one)
+pub get_or-held_in : {V : Type 0} (t : ℕ) (xs : List V) (i : ℕ) (d : V) → i < length xs → get_or (held_in t xs) i None ≡ held (bit_at t i) (get_or xs i d)
+get_or-held_in t xs i d h = let here : 0 + i ≡ i = omega arith in get_or-held_from 0 t xs i d h ∙ ap (λ k. held (bit_at t k) (get_or xs i d)) here
+
+-- what a place holds that holds something
+pub held_value : {V : Type 0} (t : ℕ) (xs : List V) (i : ℕ) (d : V) → i < length xs → is_some (get_or (held_in t xs) i None) ≡ true → get_or (held_in t xs) i None ≡ Some (get_or xs i d)
+held_value t xs i d h some = let found = get_or-held_in t xs i d h in found ∙ by (bit_at t i) (get_or xs i d) (ap is_some (sym found) ∙ some)
+  where
+    by : {V : Type 0} (b : ℕ) (v : V) → is_some (held b v) ≡ true → held b v ≡ Some v
+    by zero v e = absurd (true≢false (sym e))
+    by (suc b) v e = refl
+
+-- words with the same bits for these places
+same_held : {V : Type 0} (n t u m : ℕ) (xs : List V) → n + length xs ≤ m → ((j : ℕ) → n ≤ j → j < m → bit_at u j ≡ bit_at t j) → held_from n u xs ≡ held_from n t xs
+same_held n t u m [] h same = refl
+same_held n t u m (x ∷ xs) h same =
+    (λ i. held (same n (omega arith) (omega (arith, h)) i) x ∷ same_held (suc n) t u m xs (omega (arith, h)) (λ j low high. same j (omega (arith, low)) high) i)
+
+changed_from : {V : Type 0} (n t u m : ℕ) (xs : List V) (i b : ℕ) (v : V) → n + length xs ≤ m → i < length xs → bit_at u (n + i) ≡ b
+    → ((j : ℕ) → j < m → j ≢ n + i → bit_at u j ≡ bit_at t j) → held_from n u (set xs i v) ≡ set (held_from n t xs) i (held b v)
+changed_from n t u m [] i b v h inside here others = absurd (omega (arith, inside))
+changed_from n t u m (x ∷ xs) zero b v h inside here others =
+    let first : n ≡ n + zero = omega arith in
+    (λ i. held ((ap (bit_at u) first ∙ here) i) v ∷ same_held (suc n) t u m xs (omega (arith, h)) (λ j low high. others j high (λ e. absurd (omega (arith, low, e)))) i)
+changed_from n t u m (x ∷ xs) (suc i) b v h inside here others =
+    let later : suc n + i ≡ n + suc i = omega arith in
+    (λ k. held (others n (omega (arith, h)) (λ e. absurd (omega (arith, e))) k) x
+    ∷ changed_from (suc n) t u m xs i b v (omega (arith, h)) (omega (arith, inside)) (ap (bit_at u) later ∙ here) (λ j high apart. others j high (λ e. apart (e ∙ sym later))) k)
+
+-- a bit and its place's value that change, and nothing else
+pub held_changed : {V : Type 0} (t u : ℕ) (xs : List V) (i b : ℕ) (v : V) → length xs ≤ 64 → i < length xs → bit_at u i ≡ b
+    → ((j : ℕ) → j < 64 → j ≢ i → bit_at u j ≡ bit_at t j) → held_in u (set xs i v) ≡ set (held_in t xs) i (held b v)
+held_changed t u xs i b v h inside here others =
+    let at : 0 + i ≡ i = omega arith in
+    changed_from 0 t u 64 xs i b v (omega (arith, h)) inside (ap (bit_at u) at ∙ here) (λ j high apart. others j high (λ e. apart (e ∙ sym at)))
+
+-- the same for the places of the page
+pub page_changed : {V : Type 0} (t u : ℕ) (xs : List V) (i b : ℕ) (v : V) → length xs ≡ 64 → i < length xs → bit_at u i ≡ b
+    → ((j : ℕ) → j < 64 → j ≢ i → bit_at u j ≡ bit_at t j) → all_places (held_in u (set xs i v)) ≡ set (all_places (held_in t xs)) i (held b v)
+page_changed t u xs i b v full inside here others =
+    let whole = length-held_in t xs ∙ full in
+    ap all_places (held_changed t u xs i b v (omega (arith, full)) inside here others)
+    ∙ all_places-set (held_in t xs) (held_in t xs) i (held b v) (all_places-full (held_in t xs) whole) whole
+
+nothing_from : {V : Type 0} (n : ℕ) (xs : List V) → held_from n 0 xs ≡ replicate (length xs) None
+nothing_from n [] = refl
+nothing_from n (x ∷ xs) = (λ i. held (bit_at-zero n i) x ∷ nothing_from (suc n) xs i)
+
+-- no place holds a value where no bit is one
+pub held_nothing : {V : Type 0} (t : ℕ) (xs : List V) → t ≡ 0 → held_in t xs ≡ replicate (length xs) None
+held_nothing t xs none = ap (λ k. held_in k xs) none ∙ nothing_from 0 xs
+
+pub places_made : {V : Type 0} (xs ys : List V) (t : ℕ) → length xs ≡ 0 → (length xs ≡ 0 → t ≡ 0) → length ys ≡ 64 → all_places (held_in t ys) ≡ all_places (held_in t xs)
+places_made [] ys t h none full = ap all_places (held_nothing t ys (none refl) ∙ ap (λ n. replicate n None) full)
+places_made (x ∷ xs) ys t h none full = absurd (omega (arith, h))
+
+-- a page none of whose places holds a value, without its list
+pub all_places-vacant : {V : Type 0} (t : ℕ) (xs : List V) → HasAllOrNone xs → t ≡ 0 → all_places [] ≡ all_places (held_in t xs)
+all_places-vacant t [] full none = refl
+all_places-vacant t (x ∷ xs) full none = sym (places_made [] (x ∷ xs) t refl (λ e. none) (full (omega arith)))
+
+held_none : {V : Type 0} (b : ℕ) (v : V) → held b v ≡ None → b ≡ 0
+held_none zero v e = refl
+held_none (suc b) v e = absurd (true≢false (ap is_some e))
+
+-- where no place holds a value no bit is one
+pub nothing_held : {V : Type 0} (t : ℕ) (xs : List V) → t < 2 ^ 64 → HasAllOrNone xs → (length xs ≡ 0 → t ≡ 0) → all_places (held_in t xs) ≡ replicate 64 None → t ≡ 0
+nothing_held t [] small full none e = none refl
+nothing_held {V} t (x ∷ xs) small full none e =
+    let all = full (omega arith) in
+    let whole : held_in t (x ∷ xs) ≡ none_of V 64 = sym (all_places-full (held_in t (x ∷ xs)) (length-held_in t (x ∷ xs) ∙ all)) ∙ e in
+    same_from_bits_below 64 t 0 small (omega arith) (λ i lt.
+    held_none (bit_at t i) (get_or (x ∷ xs) i x) (sym (get_or-held_in t (x ∷ xs) i x (omega (arith, lt, all))) ∙ ap (λ ys. get_or ys i None) whole ∙ get_or-none 64 i)
+    ∙ sym (bit_at-zero i))
+
+is_some-held : {V : Type 0} (b : ℕ) (v : V) → b < 2 → is_some (held b v) ≡ eqb b 1
+is_some-held zero v h = refl
+is_some-held (suc zero) v h = refl
+is_some-held (suc (suc b)) v h = absurd (omega (arith, h))
+
+-- a bit tells whether its place holds a value
+pub bit-tells : {V : Type 0} (t : ℕ) (xs : List V) (i : ℕ) → i < 64 → HasAllOrNone xs → (length xs ≡ 0 → t ≡ 0) → eqb (bit_at t i) 1 ≡ is_some (get_or (held_in t xs) i None)
+bit-tells t [] i h full none = rw (none refl, bit_at-zero i) refl
+bit-tells t (x ∷ xs) i h full none =
+    let all = full (omega arith) in
+    sym (ap is_some (get_or-held_in t (x ∷ xs) i x (omega (arith, h, all))) ∙ is_some-held (bit_at t i) (get_or (x ∷ xs) i x) (bit_at-lt t i))
 
 -- to empty a place that has no value changes nothing
 pub set-no_value : {V : Type 0} (xs : List (Option V)) (i : ℕ) → get_or xs i None ≡ None → set xs i None ≡ xs
@@ -95,11 +154,6 @@ set-past (x ∷ xs) (suc i) o h = ap (λ ys. x ∷ ys) (set-past xs i o (omega (
 
 pub clear-no_value : {V : Type 0} (xs : List (Option V)) (i : ℕ) → i < 64 → get_or xs i None ≡ None → set (all_places xs) i None ≡ all_places xs
 clear-no_value xs i h e = set-no_value (all_places xs) i (get_or-all_places xs i h ∙ e)
-
--- a page none of whose places holds a value, without its list
-pub all_places-vacant : {V : Type 0} (xs : List (Option V)) → HasAllOrNone xs → taken_of xs ≡ 0 → all_places [] ≡ all_places xs
-all_places-vacant [] full none = refl
-all_places-vacant (x ∷ xs) full none = ap all_places (sym (none_taken (x ∷ xs) 64 (full (omega arith)) none))
 
 -- a place with a value is one of a list
 pub has_place : {V : Type 0} (xs : List (Option V)) (i : ℕ) → is_some (get_or xs i None) ≡ true → i < length xs

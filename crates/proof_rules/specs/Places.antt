@@ -1,5 +1,6 @@
 -- Small ids, as places of a list.
-use Rattle.std.specs.Prelude.{◌≡◌, ◌<◌, ℕ, suc, List, [], ◌∷◌, ◌++◌, Option, None, Some, length, replicate, take}
+use Rattle.std.specs.Prelude.{◌≡◌, ◌<◌, ℕ, zero, suc, List, [], ◌∷◌, ◌++◌, Option, None, Some, length, replicate, take}
+use Rattle.std.specs.Int.{bit_at}
 use Rattle.std.specs.List.{list_any}
 use Rattle.std.specs.Ordering.{nat_cmp, eq_by_cmp}
 use Rattle.std.specs.FinMap as map
@@ -23,14 +24,22 @@ abbrev pub places_of : {V : Type 0} → List (List (Option V)) → List (Option 
 places_of [] = []
 places_of (page ∷ pages) = all_places page ++ places_of pages
 
--- how many places hold a value
-abbrev pub taken_of : {V : Type 0} → List (Option V) → ℕ
-taken_of [] = 0
-taken_of (None ∷ places) = taken_of places
-taken_of (Some v ∷ places) = suc (taken_of places)
+-- a place holds its value where its bit is one
+abbrev pub held : {V : Type 0} → ℕ → V → Option V
+held zero v = None
+held (suc bit) v = Some v
+
+-- what places hold, counted from n on, by the bits of a word
+abbrev pub held_from : {V : Type 0} → ℕ → ℕ → List V → List (Option V)
+held_from n taken [] = []
+held_from n taken (v ∷ places) = held (bit_at taken n) v ∷ held_from (suc n) taken places
+
+-- the same with the places counted from 0 on
+abbrev pub held_in : {V : Type 0} → ℕ → List V → List (Option V)
+held_in taken places = held_from 0 taken places
 
 -- a list of all places of a page, or none
-abbrev pub HasAllOrNone : {V : Type 0} → List (Option V) → Type 0
+abbrev pub HasAllOrNone : {V : Type 0} → List V → Type 0
 HasAllOrNone places = 0 < length places → length places ≡ 64
 
 -- an id stands in the list exactly where it has a value

@@ -4,7 +4,7 @@ ghost use Rattle.std.specs.FinMap as map;
 ghost use Rattle.std.specs.Map.{keys_of};
 ghost use Rattle.proof_rules.specs.Places.{entries_of, places_of, HasKeys};
 
-use crate::page::{PLACES, Page};
+use crate::page::{Filler, PLACES, Page};
 use std::alloc::{AllocError, Global};
 use std::collections::BTreeMap;
 use std::marker::Model;
@@ -39,7 +39,7 @@ impl<V> Model for IdMap<V> {
     ghost view = { λ a. map.from_entries (entries_of (places_of a.near.items) ++ a.far.entries) };
 }
 
-impl<V: Drop> IdMap<V> {
+impl<V: Drop + Filler> IdMap<V> {
     /// Nothing is in it.
     pub fn new(alloc: Global) -> IdMap<V>
         ensures { result ≡ map.empty }
@@ -107,7 +107,7 @@ fn is_near<V>(near: &[Page<V>], added: u64, id: u64) -> bool
 }
 
 /// The value in the place of this id.
-fn in_place<V: Drop>(near: &[Page<V>], id: u64) -> Option<&V>
+fn in_place<V: Drop + Filler>(near: &[Page<V>], id: u64) -> Option<&V>
     ensures { MatchOption result (get_or (places_of near.now) id None ≡ None) (λ value. get_or (places_of near.now) id None ≡ Some value.now) }
 {
     let page = id / PLACES;
@@ -119,7 +119,11 @@ fn in_place<V: Drop>(near: &[Page<V>], id: u64) -> Option<&V>
 }
 
 /// Puts a value in the place of this id. Without memory nothing changes.
-fn put_in_place<V: Drop>(near: &mut Vec<Page<V>>, id: u64, value: V) -> Result<(), AllocError>
+fn put_in_place<V: Drop + Filler>(
+    near: &mut Vec<Page<V>>,
+    id: u64,
+    value: V,
+) -> Result<(), AllocError>
     requires { id < length (places_of near.old.items) }
     ensures ok { OnOk result (places_of near.new.items ≡ set (places_of near.old.items) id (Some value)) }
     ensures err { OnErr result (places_of near.new.items ≡ places_of near.old.items) }
@@ -128,7 +132,7 @@ fn put_in_place<V: Drop>(near: &mut Vec<Page<V>>, id: u64, value: V) -> Result<(
 }
 
 /// Empties the place of this id, if there is one.
-fn clear_place<V: Drop>(near: &mut Vec<Page<V>>, id: u64)
+fn clear_place<V: Drop + Filler>(near: &mut Vec<Page<V>>, id: u64)
     ensures { places_of near.new.items ≡ set (places_of near.old.items) id None }
 {
     let page = id / PLACES;
@@ -139,7 +143,7 @@ fn clear_place<V: Drop>(near: &mut Vec<Page<V>>, id: u64)
 
 /// Makes the page of this id the idle one where none of its places holds a value, and gives the places of the one
 /// before back.
-fn make_idle<V: Drop>(near: &mut Vec<Page<V>>, idle: &mut usize, id: u64)
+fn make_idle<V: Drop + Filler>(near: &mut Vec<Page<V>>, idle: &mut usize, id: u64)
     ensures { places_of near.new.items ≡ places_of near.old.items }
 {
     let page = (id / PLACES) as usize;
@@ -150,12 +154,12 @@ fn make_idle<V: Drop>(near: &mut Vec<Page<V>>, idle: &mut usize, id: u64)
 }
 
 /// Whether there is this page and none of its places holds a value.
-fn is_vacant<V: Drop>(near: &[Page<V>], page: usize) -> bool {
+fn is_vacant<V: Drop + Filler>(near: &[Page<V>], page: usize) -> bool {
     page < near.len() && near[page].is_vacant()
 }
 
 /// Gives the places of this page back where none of them holds a value.
-fn trim<V: Drop>(near: &mut Vec<Page<V>>, page: usize)
+fn trim<V: Drop + Filler>(near: &mut Vec<Page<V>>, page: usize)
     ensures { places_of near.new.items ≡ places_of near.old.items }
 {
     if page < near.len() {
@@ -164,7 +168,7 @@ fn trim<V: Drop>(near: &mut Vec<Page<V>>, page: usize)
 }
 
 /// Adds pages without values until there is the place of this id. Without memory some may have been added.
-fn reach<V: Drop>(near: &mut Vec<Page<V>>, id: u64) -> Result<(), AllocError>
+fn reach<V: Drop + Filler>(near: &mut Vec<Page<V>>, id: u64) -> Result<(), AllocError>
     ensures same { entries_of (places_of near.new.items) ≡ entries_of (places_of near.old.items) }
     ensures reached { OnOk result (id < length (places_of near.new.items)) }
 {
@@ -176,7 +180,7 @@ fn reach<V: Drop>(near: &mut Vec<Page<V>>, id: u64) -> Result<(), AllocError>
 }
 
 /// The numbers of the places that hold a value, in order.
-fn taken_places<V: Drop>(alloc: Global, near: &[Page<V>]) -> Result<Vec<u64>, AllocError>
+fn taken_places<V: Drop + Filler>(alloc: Global, near: &[Page<V>]) -> Result<Vec<u64>, AllocError>
     ensures { IfOk result (λ ids. ids.items ≡ keys_of (entries_of (places_of near.now))) }
 {
     let mut ids = Vec::new(alloc);

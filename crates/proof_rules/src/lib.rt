@@ -31,4 +31,5 @@ pub use literal_set::LiteralSet;
 pub use live::{Kind, Live};
 pub use marks::JudgeMarks;
 pub use named::{judge_clause_of_named_parity, judge_named_sum, judge_parity_of_named_clauses};
+pub use page::Filler;
 pub use refusal::JudgeRefusal;

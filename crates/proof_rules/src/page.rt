@@ -1,37 +1,57 @@
 //! Pages of places for values.
-ghost use Rattle.std.specs.Prelude.{◌≡◌, ◌↔◌, IsTrue, ◌+◌, ◌<◌, ◌≤◌, ◌++◌, ◌^◌, OnOk, OnErr, IfOk, MatchOption, None, Some, [], get_or, is_some, length, replicate, set, true};
+ghost use Rattle.std.specs.Prelude.{◌≡◌, ◌↔◌, IsTrue, ◌+◌, ◌<◌, ◌≤◌, ◌++◌, ◌^◌, OnOk, OnErr, IfOk, MatchOption, None, Some, [], get_or, is_some, length, replicate, set};
 ghost use Rattle.std.specs.Map.{keys_of};
-ghost use Rattle.proof_rules.specs.Places.{entries_from, all_places, taken_of, HasAllOrNone};
+ghost use Rattle.proof_rules.specs.Places.{entries_from, all_places, held_in, HasAllOrNone};
 
+use cx_base::ClauseRef;
 use std::alloc::{AllocError, Global};
 use std::marker::Model;
 
 /// How many places a page has.
 pub(crate) const PLACES: u64 = 64;
 
+/// Values one of which fills the places that hold none.
+pub trait Filler {
+    /// Any value; that costs no memory of its own is best.
+    fn filler() -> Self;
+}
+
+impl Filler for u64 {
+    fn filler() -> u64 {
+        0
+    }
+}
+
+impl Filler for ClauseRef {
+    fn filler() -> ClauseRef {
+        ClauseRef::new(0)
+    }
+}
+
 /// Places for values. A page without values has no list of places, and so takes no memory but its own.
 #[derive(Drop)]
 pub(crate) struct Page<V> {
-    places: Vec<Option<V>>,
-    /// How many places hold a value.
-    taken: u32,
+    /// What stands in each place. Where none holds a value, any does.
+    places: Vec<V>,
+    /// Bit `k` says whether place `k` holds a value: a word takes less memory than an `Option` in each place.
+    taken: u64,
 }
 
 impl<V> Model for Page<V> {
-    ghost use Rattle.std.specs.Prelude.{◌≡◌, List, Option};
+    ghost use Rattle.std.specs.Prelude.{◌≡◌, ◌<◌, ◌^◌, List, Option, length};
     ghost use Rattle.std.specs.Coded.{coded_list, coded_option};
-    ghost use Rattle.proof_rules.specs.Places.{taken_of, HasAllOrNone};
+    ghost use Rattle.proof_rules.specs.Places.{held_in, HasAllOrNone};
 
     ghost Value = { List (Option V) };
 
     ghost coded = { coded_list (coded_option V.code) };
 
-    ghost view = { λ p. p.places.items };
+    ghost view = { λ p. held_in p.taken p.places.items };
 
-    ghost invariant = { λ p. HasAllOrNone p.places.items × (p.taken ≡ taken_of p.places.items) };
+    ghost invariant = { λ p. HasAllOrNone p.places.items × (length p.places.items ≡ 0 → p.taken ≡ 0) × (p.taken < 2 ^ 64) };
 }
 
-impl<V: Drop> Page<V> {
+impl<V: Drop + Filler> Page<V> {
     /// A page without values.
     pub(crate) fn new(alloc: Global) -> Page<V>
         ensures { result ≡ [] }
@@ -42,12 +62,20 @@ impl<V: Drop> Page<V> {
         }
     }
 
+    /// Whether this place holds a value.
+    fn holds(&self, place: usize) -> bool
+        requires { place < 64 }
+        ensures { result ≡ is_some (get_or self.now place None) }
+    {
+        (self.taken >> place) & 1 == 1
+    }
+
     /// The value in this place.
     pub(crate) fn get(&self, place: usize) -> Option<&V>
         ensures { MatchOption result (get_or self.now place None ≡ None) (λ value. get_or self.now place None ≡ Some value.now) }
     {
-        if place < self.places.len() {
-            self.places[place].as_ref()
+        if place < self.places.len() && self.holds(place) {
+            Some(&self.places[place])
         } else {
             None
         }
@@ -59,11 +87,9 @@ impl<V: Drop> Page<V> {
         ensures ok { OnOk result (all_places self.new ≡ set (all_places self.old) place (Some value)) }
         ensures err { OnErr result (self.new ≡ self.old) }
     {
-        make_places(&mut self.places)?;
-        if self.places[place].is_none() {
-            self.taken += 1;
-        }
-        self.places[place] = Some(value);
+        make_places(&mut self.places, self.taken)?;
+        self.places[place] = value;
+        self.taken |= 1 << place;
         Ok(())
     }
 
@@ -73,22 +99,14 @@ impl<V: Drop> Page<V> {
         ensures { all_places self.new ≡ set (all_places self.old) place None }
     {
         if self.get(place).is_some() {
-            self.take_out(place);
+            self.places[place] = V::filler();
+            self.taken &= !(1 << place);
         }
-    }
-
-    /// Takes the value of this place out.
-    fn take_out(&mut self, place: usize)
-        requires { is_some (get_or self.old place None) ≡ true }
-        ensures { all_places self.new ≡ set (all_places self.old) place None }
-    {
-        self.places[place] = None;
-        self.taken -= 1;
     }
 
     /// Whether no place holds a value.
     pub(crate) fn is_vacant(&self) -> bool
-        ensures { IsTrue result ↔ (taken_of self.now ≡ 0) }
+        ensures { IsTrue result ↔ (all_places self.now ≡ replicate 64 None) }
     {
         self.taken == 0
     }
@@ -108,7 +126,7 @@ impl<V: Drop> Page<V> {
         ensures { OnOk result (ids.new.items ≡ ids.old.items ++ keys_of (entries_from first (all_places self.now))) }
     {
         for place in 0..self.places.len() {
-            if self.places[place].is_some() {
+            if self.holds(place) {
                 ids.push(first + place as u64)?;
             }
         }
@@ -117,27 +135,27 @@ impl<V: Drop> Page<V> {
 }
 
 /// Makes the list of places where there is none. Without memory nothing changes.
-#[tactic(auto, using(crate::proofs::PageLaws::all_places_made, crate::proofs::PageLaws::taken_of_made))]
-fn make_places<V: Drop>(places: &mut Vec<Option<V>>) -> Result<(), AllocError>
-    requires { HasAllOrNone places.old.items }
+#[tactic(auto, using(crate::proofs::PageLaws::places_made))]
+fn make_places<V: Drop + Filler>(places: &mut Vec<V>, taken: u64) -> Result<(), AllocError>
+    requires full { HasAllOrNone places.old.items }
+    requires none { length places.old.items ≡ 0 → taken ≡ 0 }
     ensures made { OnOk result (length places.new.items ≡ 64) }
-    ensures same { all_places places.new.items ≡ all_places places.old.items }
-    ensures taken { taken_of places.new.items ≡ taken_of places.old.items }
+    ensures same { all_places (held_in taken places.new.items) ≡ all_places (held_in taken places.old.items) }
     ensures err { OnErr result (places.new.items ≡ places.old.items) }
 {
     if places.is_empty() {
-        *places = empty_places(*places.allocator())?;
+        *places = filled_places(*places.allocator())?;
     }
     Ok(())
 }
 
-/// The places of a page, all empty.
-fn empty_places<V: Drop>(alloc: Global) -> Result<Vec<Option<V>>, AllocError>
-    ensures { IfOk result (λ places. places.items ≡ replicate 64 None) }
+/// The places of a page, none of which holds a value.
+fn filled_places<V: Drop + Filler>(alloc: Global) -> Result<Vec<V>, AllocError>
+    ensures { IfOk result (λ places. length places.items ≡ 64) }
 {
     let mut places = Vec::with_capacity(alloc, PLACES as usize)?;
     for _ in 0..PLACES {
-        places.push(None)?;
+        places.push(V::filler())?;
     }
     Ok(places)
 }

@@ -2,12 +2,13 @@
 ghost use Rattle.std.specs.Prelude.{◌≡◌, ◌≤◌, IfSome, IfOk, take};
 ghost use Rattle.proof_rules.specs.declared.stored.TheConstants.{FEW};
 
+use crate::page::Filler;
 use cx_base::{Lit, LitList, Var};
 use std::alloc::{AllocError, Global};
 use std::marker::Model;
 
 /// How many literals stand in a list's value itself.
-const FEW: usize = 5;
+const FEW: usize = 6;
 
 /// A few literals: those of the first places.
 #[derive(Drop)]
@@ -24,7 +25,7 @@ enum Kept {
     Apart(LitList),
 }
 
-/// A list of literals. Up to five of them stand in the value itself and take no memory of their own.
+/// A list of literals. Up to six of them stand in the value itself and take no memory of their own.
 #[derive(Drop)]
 pub(crate) struct StoredList {
     kept: Kept,
@@ -38,6 +39,26 @@ impl Model for StoredList {
     ghost Value = { List Literal };
 
     ghost view = { λ a. kept_lits a.kept };
+}
+
+impl Filler for StoredList {
+    fn filler() -> StoredList {
+        StoredList {
+            kept: Kept::InPlace(FewLits::none()),
+        }
+    }
+}
+
+impl FewLits {
+    /// No literals.
+    fn none() -> FewLits
+        ensures { result.len ≡ 0 }
+    {
+        FewLits {
+            places: [Lit::new(Var::new(1), false); FEW],
+            len: 0,
+        }
+    }
 }
 
 impl StoredList {
@@ -87,7 +108,7 @@ fn few_of(lits: &[Lit]) -> Option<FewLits>
     if lits.len() > FEW {
         return None;
     }
-    let mut places = [Lit::new(Var::new(1), false); FEW];
+    let mut places = FewLits::none().places;
     places[..lits.len()].copy_from_slice(lits);
     Some(FewLits {
         places,

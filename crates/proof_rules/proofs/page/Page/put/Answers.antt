@@ -1,43 +1,24 @@
-use Rattle.std.proofs.Common.{◌≡◌, ◌∙◌, ap, sym, subst, not, None, Some, is_some, set, ◌+◌, arith}
-use Rattle.std.proofs.lemmas.List.{length-set, get_or_default}
-use Rattle.proof_rules.specs.Places.{all_places, taken_of, HasAllOrNone}
-use Rattle.proof_rules.proofs.PageLaws.{all_places-full, all_places-set, taken_of-bound, taken_of-put_new, taken_of-put_again}
+use Rattle.std.proofs.Common.{◌≡◌, ◌∙◌, ◌*◌, ◌^◌, ◌%◌, ap, sym, Some, set, w64, arith}
+use Rattle.std.proofs.Math.Facts.{Fits-or}
+use Rattle.std.proofs.lemmas.List.{length-set}
+use Rattle.std.proofs.lemmas.Nat.Bits.{bit_at_set_same, bit_at_set_other}
+use Rattle.proof_rules.specs.Places.{all_places}
+use Rattle.proof_rules.proofs.PageLaws.{page_changed}
 use Rattle.proof_rules.proofs.page.Page.put.Goals as goal
-use Rattle.proof_rules.proofs.page.Page.put.Goals.{then-is_none, else-is_none}
-
-pub overflow_add-self : goal.overflow_add-self
-overflow_add-self g c =
-    let less = taken_of-bound c.make_places.new.places.items in
-    let full = c.in_ok-make_places.ensures.made in
-    let held = c.self.invariant.1 ∙ sym c.in_ok-make_places.ensures.taken in
-    omega (arith, less, full, held)
 
 pub invariant_of-self-2 : goal.invariant_of-self-2
 invariant_of-self-2 g c =
-    let places = c.make_places.new.places.items in
-    let place = c.args.place in
     let full = c.in_ok-make_places.ensures.made in
-    let held = c.self.invariant.1 ∙ sym c.in_ok-make_places.ensures.taken in
-    let all = length-set places place (Some c.args.value) ∙ full in
-    let inside = c.requires in
-    let had = sym (ap is_some (c.index.ensures ∙ get_or_default places place _ None (omega (arith, full, inside)))) ∙ c.is_none.ensures in
-    elim c.if-is_none.branch [
-      | then-is_none w ↦
-          subst (λ s. HasAllOrNone (set s.places.items place (Some c.args.value)) × (s.taken ≡ taken_of (set s.places.items place (Some c.args.value)))) (sym w.self-inside-is)
-          ((λ some. all), ap (λ n. n + 1) held ∙ sym (taken_of-put_new places place c.args.value (omega (arith, full, inside)) (had ∙ ap not w.if-is_none.true)))
-      | else-is_none w ↦
-          subst (λ s. HasAllOrNone (set s.places.items place (Some c.args.value)) × (s.taken ≡ taken_of (set s.places.items place (Some c.args.value)))) (sym w.self-inside-is)
-          ((λ some. all), held ∙ sym (taken_of-put_again places place c.args.value (had ∙ ap not w.if-is_none.false)))
-    ]
+    let all = length-set c.make_places.new.places.items c.args.place c.args.value ∙ full in
+    let small = Fits-or {w = w64} {a = c.self.inside.taken} {b = 1 * 2 ^ c.args.place % 2 ^ 64} (record { fits = c.self.invariant.2 }) (record { fits = omega arith }) in
+    ((λ some. all), (λ none. absurd (omega (arith, none, all))), small.fits)
 
 pub returns-clause-ok : goal.returns-clause-ok
 returns-clause-ok g c =
     let places = c.make_places.new.places.items in
-    let same : c.if-is_none.self-inside.places.items ≡ places =
-    elim c.if-is_none.branch [
-      | then-is_none w ↦ (λ i. (w.self-inside-is i).places.items)
-      | else-is_none w ↦ (λ i. (w.self-inside-is i).places.items)
-    ]
-    in
-    ap (λ xs. all_places (set xs c.args.place (Some c.args.value))) same
-    ∙ all_places-set c.args.self.now places c.args.place (Some c.args.value) (ap all_places (sym c.self.view_is) ∙ sym c.in_ok-make_places.ensures.same ∙ all_places-full places c.in_ok-make_places.ensures.made) c.in_ok-make_places.ensures.made
+    let taken = c.self.inside.taken in
+    let place = c.args.place in
+    let within = c.requires in
+    let full = c.in_ok-make_places.ensures.made in
+    page_changed taken _ places place 1 c.args.value full (omega (arith, within, full)) (bit_at_set_same w64 taken place within) (λ j lt apart. bit_at_set_other w64 taken place within j apart)
+    ∙ ap (λ xs. set xs place (Some c.args.value)) (c.in_ok-make_places.ensures.same ∙ ap all_places c.self.view_is)
