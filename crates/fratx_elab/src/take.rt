@@ -1,13 +1,12 @@
 //! One step of a log: judged, done, and what the proof gains by it.
 ghost use Rattle.std.specs.Prelude.{◌≡◌, ◌≤◌, ◌<◌, ◌+◌, ℕ, pos, is_some, length, take, IfOk, OnOk};
-ghost use Rattle.std.specs.List.{list_any};
-ghost use Rattle.cx_base.specs.Integers.{is_negative, sizes};
+ghost use Rattle.cx_base.specs.Integers.{sizes};
 ghost use Rattle.cx_base.specs.Problem.{Problem};
 ghost use Rattle.cx_semantics.specs.Chain.{IsChain};
 ghost use Rattle.cx_semantics.specs.LogRules.{AreLive, HasChain, chained, derives_empty_clause};
 ghost use Rattle.cx_semantics.specs.Tables.{Tables, is_live, named};
 ghost use Rattle.cx_base.specs.declared.steps.LogStep.TheVariants as step;
-ghost use Rattle.proof_rules.specs.Kinds.{chosen};
+ghost use Rattle.proof_rules.specs.Kinds.{chosen, put_constraint};
 ghost use Rattle.fratx_elab.specs.Contents.{StandsFor};
 ghost use Rattle.fratx_elab.specs.Names.{AreNamed, stands_for, hints_for};
 ghost use Rattle.fratx_elab.specs.Takes.{TakesLogStep, Admits, GivesChain, GivesHints, CanBePrinted, CountsOneMore, names_of};
@@ -18,14 +17,15 @@ use crate::naming::Names;
 use crate::originals::Originals;
 use crate::state::State;
 use crate::steps::{clause_of_parity_step, clause_step, parity_of_clauses_step, parity_step};
-use cx_base::{Formula, IdList, IntList, LitList, ProofStep};
+use cx_base::{Formula, IdList, IntList, Lit, LitList, ProofStep};
 use cx_semantics::Cause;
 use proof_rules::{
-    JudgeRefusal, Kind, ids_of, judge_clause_of_named_parity, judge_named_sum,
-    judge_parity_of_named_clauses,
+    JudgeMarks, JudgeRefusal, Kind, admit_into, any_negative, ids_of, judge_clause_of_named_parity,
+    judge_named_sum, judge_parity_of_named_clauses,
 };
 use rup_finder::IndexedClauses;
 use std::alloc::{AllocError, Global};
+use std::mem;
 
 /// The hints that name in the proof what the ids name in the log.
 fn hints_of(alloc: Global, names: &Names, ids: &[u64]) -> Result<IntList, AllocError>
@@ -40,9 +40,9 @@ fn hints_of(alloc: Global, names: &Names, ids: &[u64]) -> Result<IntList, AllocE
     Ok(IntList::from_vec(hints))
 }
 
-/// The literals of what a step adds: its variables are the formula's, and its id is not live.
+/// The literals of what a step adds, in the memory of `room`: its variables are the formula's, and its id is not live.
 fn admit(
-    alloc: Global,
+    room: Vec<Lit>,
     formula: &Formula,
     live: &IndexedClauses,
     kind: Kind,
@@ -51,14 +51,28 @@ fn admit(
 ) -> Result<LitList, JudgeRefusal>
     ensures { Admits formula.now (chosen kind live.now) id lits.now result }
 {
-    proof_rules::admit(alloc, formula.vars(), lits, live.has(kind, id))
+    admit_into(room, formula.vars(), lits, live.has(kind, id))
 }
 
-/// Whether some hint is negative.
-fn any_negative(hints: &[i64]) -> bool
-    ensures { result ≡ list_any is_negative hints.now }
+/// The memory that the literals of the step before stood in; it is given back behind the step.
+fn room_of(alloc: Global, marks: &mut JudgeMarks) -> Vec<Lit> {
+    mem::replace(&mut marks.target, Vec::new(alloc))
+}
+
+/// Puts a constraint under this id, and gives the memory of its literals back.
+fn put_live(
+    alloc: Global,
+    live: &mut IndexedClauses,
+    marks: &mut JudgeMarks,
+    kind: Kind,
+    id: u64,
+    lits: LitList,
+) -> Result<(), AllocError>
+    ensures { OnOk result (live.new ≡ put_constraint kind live.old id lits) }
 {
-    hints.iter().any(|hint| *hint < 0)
+    live.add_copy(alloc, kind, id, lits.as_slice())?;
+    marks.target = lits.into_vec();
+    Ok(())
 }
 
 /// The hints that name in the proof what these hints name in the log.
@@ -149,10 +163,18 @@ pub fn take_original(
     ensures text { IfOk result CanBePrinted }
     ensures counts { OnOk result (CountsOneMore state.old state.new) }
 {
-    let target = admit(alloc, formula, &state.live, Kind::Clauses, id, lits)?;
+    let room = room_of(alloc, &mut state.marks);
+    let target = admit(room, formula, &state.live, Kind::Clauses, id, lits)?;
     match originals.clause_number(alloc, formula, id, target.as_slice())? {
         Some(number) => {
-            state.live.add(Kind::Clauses, id, target)?;
+            put_live(
+                alloc,
+                &mut state.live,
+                &mut state.marks,
+                Kind::Clauses,
+                id,
+                target,
+            )?;
             state.clauses.put_original(id, number)?;
             Ok(None)
         }
@@ -174,10 +196,18 @@ pub fn take_original_parity(
     ensures text { IfOk result CanBePrinted }
     ensures counts { OnOk result (CountsOneMore state.old state.new) }
 {
-    let target = admit(alloc, formula, &state.live, Kind::Parities, id, lits)?;
+    let room = room_of(alloc, &mut state.marks);
+    let target = admit(room, formula, &state.live, Kind::Parities, id, lits)?;
     match originals.parity_number(alloc, target.as_slice())? {
         Some(number) => {
-            state.live.add(Kind::Parities, id, target)?;
+            put_live(
+                alloc,
+                &mut state.live,
+                &mut state.marks,
+                Kind::Parities,
+                id,
+                target,
+            )?;
             state.parities.put_original(id, number)?;
             Ok(None)
         }
@@ -200,9 +230,17 @@ pub fn take_clause(
     ensures text { IfOk result CanBePrinted }
     ensures counts { OnOk result (CountsOneMore state.old state.new) }
 {
-    let target = admit(alloc, formula, &state.live, Kind::Clauses, id, &lits)?;
+    let room = room_of(alloc, &mut state.marks);
+    let target = admit(room, formula, &state.live, Kind::Clauses, id, &lits)?;
     let hints = chain_hints(alloc, &mut state.live, &state.clauses, &target, given)?;
-    state.live.add(Kind::Clauses, id, target)?;
+    put_live(
+        alloc,
+        &mut state.live,
+        &mut state.marks,
+        Kind::Clauses,
+        id,
+        target,
+    )?;
     let next = state.clauses.put_next(id)?;
     Ok(Some(clause_step(next, lits, hints)))
 }
@@ -221,10 +259,18 @@ pub fn take_parity(
     ensures text { IfOk result CanBePrinted }
     ensures counts { OnOk result (CountsOneMore state.old state.new) }
 {
-    let target = admit(alloc, formula, &state.live, Kind::Parities, id, &lits)?;
+    let room = room_of(alloc, &mut state.marks);
+    let target = admit(room, formula, &state.live, Kind::Parities, id, &lits)?;
     judge_named_sum(&mut state.marks, state.live.live(), &target, sources)?;
     let hints = hints_of(alloc, &state.parities, sources)?;
-    state.live.add(Kind::Parities, id, target)?;
+    put_live(
+        alloc,
+        &mut state.live,
+        &mut state.marks,
+        Kind::Parities,
+        id,
+        target,
+    )?;
     let next = state.parities.put_next(id)?;
     Ok(Some(parity_step(next, lits, hints)))
 }
@@ -243,14 +289,22 @@ pub fn take_parity_of_clauses(
     ensures text { IfOk result CanBePrinted }
     ensures counts { OnOk result (CountsOneMore state.old state.new) }
 {
-    let target = admit(alloc, formula, &state.live, Kind::Parities, id, &lits)?;
+    let room = room_of(alloc, &mut state.marks);
+    let target = admit(room, formula, &state.live, Kind::Parities, id, &lits)?;
     // By `?` the prover does not see the cause through.
     match judge_parity_of_named_clauses(&mut state.marks, state.live.live(), &target, sources) {
         Ok(()) => {}
         Err(why) => return Err(why),
     }
     let hints = hints_of(alloc, &state.clauses, sources)?;
-    state.live.add(Kind::Parities, id, target)?;
+    put_live(
+        alloc,
+        &mut state.live,
+        &mut state.marks,
+        Kind::Parities,
+        id,
+        target,
+    )?;
     let next = state.parities.put_next(id)?;
     Ok(Some(parity_of_clauses_step(next, lits, hints)))
 }
@@ -270,14 +324,22 @@ pub fn take_clause_of_parity(
     ensures text { IfOk result CanBePrinted }
     ensures counts { OnOk result (CountsOneMore state.old state.new) }
 {
-    let target = admit(alloc, formula, &state.live, Kind::Clauses, id, &lits)?;
+    let room = room_of(alloc, &mut state.marks);
+    let target = admit(room, formula, &state.live, Kind::Clauses, id, &lits)?;
     judge_clause_of_named_parity(&mut state.marks, state.live.live(), &target, source)?;
     let named = match state.parities.get(source) {
         Some(named) => named,
         // Nothing that is live in the log is without a name in the proof.
         None => unreachable!(),
     };
-    state.live.add(Kind::Clauses, id, target)?;
+    put_live(
+        alloc,
+        &mut state.live,
+        &mut state.marks,
+        Kind::Clauses,
+        id,
+        target,
+    )?;
     let next = state.clauses.put_next(id)?;
     Ok(Some(clause_of_parity_step(next, lits, named)))
 }

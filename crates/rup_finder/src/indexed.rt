@@ -13,7 +13,7 @@ use crate::front::chain_length;
 use crate::ready::{put_in, ready, take_out};
 use crate::recent::{Recent, limit_beside};
 use crate::search::find;
-use cx_base::{IdList, Lit, LitList};
+use cx_base::{IdList, Lit};
 use proof_rules::{Kind, LiteralSet, Live};
 use rup_engine::{Answer, Engine};
 use std::alloc::{AllocError, Global};
@@ -94,13 +94,13 @@ impl IndexedClauses {
     /// Puts a clause under this id, in the engines too. On its own, so that a call without engines has no room of theirs
     /// to clear.
     #[inline(never)]
-    fn add_to_engines(&mut self, id: u64, lits: LitList) -> Result<(), AllocError>
-        ensures ok { OnOk result (self.new ≡ put_constraint Clauses self.old id lits) }
+    fn add_to_engines(&mut self, alloc: Global, id: u64, lits: &[Lit]) -> Result<(), AllocError>
+        ensures ok { OnOk result (self.new ≡ put_constraint Clauses self.old id lits.now) }
         ensures err { OnErr result (self.new ≡ self.old) }
     {
-        put_in(&mut self.engine, id, lits.as_slice());
-        put_in(&mut self.recent.engine, id, lits.as_slice());
-        match self.live.add(Kind::Clauses, id, lits) {
+        put_in(&mut self.engine, id, lits);
+        put_in(&mut self.recent.engine, id, lits);
+        match self.live.add_copy(alloc, Kind::Clauses, id, lits) {
             Ok(()) => Ok(()),
             Err(AllocError) => {
                 self.engine = None;
@@ -110,22 +110,28 @@ impl IndexedClauses {
         }
     }
 
-    /// Puts a constraint of this kind under this id, in the place of what is live under it. Without memory no table
-    /// changes.
-    pub fn add(&mut self, kind: Kind, id: u64, lits: LitList) -> Result<(), AllocError>
-        ensures ok { OnOk result (self.new ≡ put_constraint kind self.old id lits) }
+    /// Puts a constraint of this kind with a copy of these literals under this id, in the place of what is live under it.
+    /// Without memory no table changes.
+    pub fn add_copy(
+        &mut self,
+        alloc: Global,
+        kind: Kind,
+        id: u64,
+        lits: &[Lit],
+    ) -> Result<(), AllocError>
+        ensures ok { OnOk result (self.new ≡ put_constraint kind self.old id lits.now) }
         ensures err { OnErr result (self.new ≡ self.old) }
     {
         match kind {
             Kind::Clauses => {
                 // Without engines there is none to move.
                 if self.engine.is_none() && self.recent.engine.is_none() {
-                    self.live.add(Kind::Clauses, id, lits)
+                    self.live.add_copy(alloc, Kind::Clauses, id, lits)
                 } else {
-                    self.add_to_engines(id, lits)
+                    self.add_to_engines(alloc, id, lits)
                 }
             }
-            Kind::Parities => self.live.add(Kind::Parities, id, lits),
+            Kind::Parities => self.live.add_copy(alloc, Kind::Parities, id, lits),
         }
     }
 

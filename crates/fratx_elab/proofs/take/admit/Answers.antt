@@ -19,6 +19,6 @@ admits_by formula table n lits (Err why) judged same = judged
 pub returns : goal.returns
 returns c =
     let lits = c.args.lits.now in
-    let Judged : ℕ → Bool → Type 0 = λ vars live. JudgesBy (refused_where causes.VarUnknown (list_any (λ z. nat_lt vars (nat_abs z)) lits) ∷ refused_where causes.IdInUse live ∷ []) c.admit.result in
-    admits_by c.args.formula.now _ c.args.id lits c.admit.result (subst (Judged c.args.formula.now.variables) c.has.ensures (subst (λ vars. Judged vars c.has.result) c.vars.ensures.variables c.admit.ensures.judged))
-    c.admit.ensures.literals
+    let Judged : ℕ → Bool → Type 0 = λ vars live. JudgesBy (refused_where causes.VarUnknown (list_any (λ z. nat_lt vars (nat_abs z)) lits) ∷ refused_where causes.IdInUse live ∷ []) c.admit_into.result in
+    admits_by c.args.formula.now _ c.args.id lits c.admit_into.result (subst (Judged c.args.formula.now.variables) c.has.ensures (subst (λ vars. Judged vars c.has.result) c.vars.ensures.variables c.admit_into.ensures.judged))
+    c.admit_into.ensures.literals

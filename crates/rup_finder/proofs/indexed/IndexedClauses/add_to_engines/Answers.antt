@@ -1,6 +1,4 @@
-use Rattle.std.proofs.Common.{sym, subst, List}
-use Rattle.std.specs.FinMap as map
-use Rattle.cx_base.specs.Literals.{Literal}
+use Rattle.std.proofs.Common.{sym, subst}
 use Rattle.cx_semantics.specs.Tables.{Tables}
 use Rattle.rup_finder.specs.Ready.{IsReady}
 use Rattle.rup_finder.specs.Recent.{IsRecent}
@@ -14,9 +12,7 @@ pub invariant_of-self : goal.invariant_of-self
 invariant_of-self c =
     let table = c.self.inside.live.clauses in
     let id = c.args.id in
+    let lits = c.args.lits.now in
     let after = c.put_in.ensures table c.self.invariant.0 in
-    let recent = recent_put table id c.as_slice-2.result.now c.self.inside.recent.engine c.put_in-2.new.engine c.put_in-2.ensures c.self.invariant.1 in
-    subst (λ (t : Tables). IsReady t.clauses c.put_in.new.engine × IsRecent t.clauses c.put_in-2.new.engine) (sym c.in-Ok.ensures.ok) (
-      subst (λ (lits : List Literal). IsReady (map.insert table id lits) c.put_in.new.engine) c.as_slice.ensures after,
-      subst (λ (lits : List Literal). IsRecent (map.insert table id lits) c.put_in-2.new.engine) c.as_slice-2.ensures recent,
-    )
+    let recent = recent_put table id lits c.self.inside.recent.engine c.put_in-2.new.engine c.put_in-2.ensures c.self.invariant.1 in
+    subst (λ (t : Tables). IsReady t.clauses c.put_in.new.engine × IsRecent t.clauses c.put_in-2.new.engine) (sym c.in-Ok.ensures.ok) (after, recent)
