@@ -63,11 +63,11 @@ pub fn sum_and_clause(
     requires sources { AllByRecursion IsId sources }
     ensures { IfOk result (λ s. AreRowSteps (sum_and_clause_events ids.sum (integers_of parity.now) sources ids.clause (integers_of clause.now)) parity.now clause.now s.items) }
 {
-    let sum = sum(ids.sum, integers(alloc, parity.as_slice())?, sources);
-    let clause = clause_of_sum(ids.clause, integers(alloc, clause.as_slice())?, ids.sum);
-    let mut steps = Vec::new(alloc);
-    steps.push(sum)?;
-    steps.push(clause)?;
+    let parity = integers(alloc, parity.as_slice())?;
+    let clause = integers(alloc, clause.as_slice())?;
+    let mut steps = Vec::with_capacity(alloc, 3)?;
+    steps.push_reserved(sum(ids.sum, parity, sources));
+    steps.push_reserved(clause_of_sum(ids.clause, clause, ids.sum));
     Ok(steps)
 }
 
