@@ -1,13 +1,11 @@
 -- How a search begins.
-use Rattle.std.specs.Prelude.{◌≡◌, ◌≢◌, [], List, Option}
+use Rattle.std.specs.Prelude.{◌≡◌, ◌≢◌, [], List, Option, Some, None}
 use Rattle.cx_base.specs.Problem.{Problem}
 use Rattle.cx_base.specs.declared.steps.LogEvent.{LogEvent}
 use Rattle.parity_engine.specs.State.{State}
 use Rattle.parity_engine.specs.declared.state.Mood.TheVariants.{Broken}
 use Rattle.cdcl_search.specs.declared.state.SearchState.{SearchState}
 use Rattle.cdcl_search.specs.Ties.{SearchStands}
-use Rattle.cdcl_core.specs.declared.beginning.Begun.{Begun}
-use Rattle.cdcl_core.specs.declared.beginning.Begun.TheVariants.{Search, Ended}
 use Rattle.cdcl_core.specs.Results.{Refutes}
 
 -- the search stands at level 0, with no counted conflict
@@ -17,7 +15,7 @@ pub record IsAtStart (formula : Problem) (told : Option (List LogEvent)) (c : Se
   pub level : c.trail.level ≡ 0
   pub none : c.conflicts ≡ 0
 
--- the search is at its start; or the log is ended with no mark
-abbrev pub SearchBegins : {P : Type 0} → (P → State) → Problem → Option (List LogEvent) → Begun P → Type 0
-SearchBegins state formula told (Search c engine) = IsAtStart formula told c (state engine)
-SearchBegins state formula told Ended = Refutes formula 1 told
+-- the search is at its start with this engine; or the log is ended with no mark
+abbrev pub SearchBegins : {P : Type 0} → (P → State) → Problem → Option (List LogEvent) → SearchState → Option P → Type 0
+SearchBegins state formula told c (Some engine) = IsAtStart formula told c (state engine)
+SearchBegins state formula told c None = Refutes formula 1 told

@@ -6,13 +6,10 @@ ghost use Rattle.cdcl_search.specs.Logs.{GoesOn, told_in};
 ghost use Rattle.cdcl_core.specs.Beginning.{SearchBegins};
 ghost use Rattle.cdcl_core.specs.Filling.{IsFilled};
 ghost use Rattle.cdcl_core.specs.Given.{AreEngines, HasGiven};
-ghost use Rattle.cdcl_core.specs.Results.{IsFresh};
 ghost use Rattle.cdcl_core.specs.Waiting.{SearchStandsBut, Puts};
 
 use crate::ending::refute;
-use crate::filling::{Filled, Single, fill};
-use crate::originals::tell_originals;
-use crate::recovering::all_parities;
+use crate::filling::{Filled, Single};
 use cdcl_search::SearchState;
 use cdcl_search::logs::SearchLog;
 use conflict_learn::CoreFault;
@@ -20,15 +17,6 @@ use cx_base::{Lit, LogEvent, ParityList};
 use cx_trail::{Reason, Truth};
 use parity_engine::ParityEngine;
 use step_text::Sink;
-
-/// What the beginning of a search comes to.
-#[derive(Drop)]
-pub(crate) enum Begun<P> {
-    /// The search stands at level 0.
-    Search(SearchState, P),
-    /// An empty clause, or two units that contradict each other, have ended the log.
-    Ended,
-}
 
 /// Puts the literal of the unit clause at a place on the trail. False where its negation stands there: then the log is
 /// ended.
@@ -76,49 +64,29 @@ fn put_units<L: Sink<Item = LogEvent>>(
     Ok(true)
 }
 
-/// Puts the unit clauses on the trail and makes the engine over these parities.
-fn start<P: ParityEngine, L: Sink<Item = LogEvent>>(
+/// Puts the unit clauses on the trail and makes the engine over these parities. None: an empty clause, or two units that
+/// contradict each other, have ended the log.
+pub(crate) fn start<P: ParityEngine, L: Sink<Item = LogEvent>>(
     log: &mut SearchLog<L>,
-    filled: Filled,
-    parities: &ParityList,
-) -> Result<Begun<P>, CoreFault>
+    filled: &mut Filled,
+    parities: ParityList,
+) -> Result<Option<P>, CoreFault>
     requires few { length log.old.formula.now.constraints ≤ 4294967295 }
-    requires given { HasGiven log.old.formula.now parities.now (told_in L.Sink log.old) }
-    requires engines { AreEngines log.old.formula.now parities.now }
-    requires filled { IsFilled log.old.formula.now filled.state filled.units.items filled.empty }
-    ensures begins { IfOk result (λ b. SearchBegins P.state log.new.formula.now (told_in L.Sink log.new) b) }
+    requires given { HasGiven log.old.formula.now parities (told_in L.Sink log.old) }
+    requires engines { AreEngines log.old.formula.now parities }
+    requires filled { IsFilled log.old.formula.now filled.old.state filled.old.units.items filled.old.empty }
+    ensures begins { IfOk result (λ e. SearchBegins P.state log.new.formula.now (told_in L.Sink log.new) filled.new.state e) }
     ensures log { GoesOn L.Sink log.old (fault_in result) log.new }
 {
     // `vars` says to the proof that the literals of the formula are within its variables.
     let vars = log.formula.vars();
-    let Filled {
-        mut state,
-        units,
-        empty,
-    } = filled;
-    if let Some(number) = empty {
-        refute(log, &state, &[], number)?;
-        return Ok(Begun::Ended);
+    if let Some(number) = filled.empty {
+        refute(log, &filled.state, &[], number)?;
+        return Ok(None);
     }
-    if !put_units(log, &mut state, &units)? {
-        return Ok(Begun::Ended);
+    if !put_units(log, &mut filled.state, &filled.units)? {
+        return Ok(None);
     }
-    let engine = P::make(log.alloc, vars, parities)?;
-    Ok(Begun::Search(state, engine))
-}
-
-/// Tells the originals and the recovered parities, and makes the search: clauses of two or more different literals are attached, those of one
-/// stand on the trail at level 0, tautologies are left out.
-pub(crate) fn begin<P: ParityEngine, L: Sink<Item = LogEvent>>(
-    log: &mut SearchLog<L>,
-) -> Result<Begun<P>, CoreFault>
-    requires few { length log.old.formula.now.constraints ≤ 4294967295 }
-    requires fresh { IsFresh (told_in L.Sink log.old) }
-    ensures begins { IfOk result (λ b. SearchBegins P.state log.new.formula.now (told_in L.Sink log.new) b) }
-    ensures log { GoesOn L.Sink log.old (fault_in result) log.new }
-{
-    tell_originals(log)?;
-    let parities = all_parities(log)?;
-    let filled = fill(log.alloc, log.formula)?;
-    start(log, filled, &parities)
+    let engine = P::make(log.alloc, vars, &parities)?;
+    Ok(Some(engine))
 }

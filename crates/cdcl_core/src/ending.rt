@@ -49,12 +49,12 @@ pub(crate) fn end<P: ParityEngine, L: Sink<Item = LogEvent>>(
     log: &mut SearchLog<L>,
     state: &SearchState,
     engine: &P,
-    conflict: &Conflict,
+    conflict: Conflict,
 ) -> Result<(), CoreFault>
-    requires stands { Stands P.ParityEngine L.Sink log.old state.now engine.now conflict.now.rows.items }
-    requires conflict { IsConflictClause state.now conflict.now.rows.items conflict.now.lits }
+    requires stands { Stands P.ParityEngine L.Sink log.old state.now engine.now conflict.rows.items }
+    requires conflict { IsConflictClause state.now conflict.rows.items conflict.lits }
     requires all { length state.now.units.items ≡ length state.now.trail.entries }
-    requires id { IsId conflict.now.id }
+    requires id { IsId conflict.id }
     ensures { TellsEnd L.Sink log.old state.now.conflicts log.new result }
 {
     refute(log, state, conflict.lits.as_slice(), conflict.id)

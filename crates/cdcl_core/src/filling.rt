@@ -37,10 +37,10 @@ fn empty_state(alloc: Global, vars: u32) -> Result<SearchState, AllocError>
     requires { vars ≤ MAX_VARIABLE }
     ensures { IfOk result (IsEmpty vars) }
 {
-    let trail = Trail::make(alloc, vars)?;
-    let watches = Watches::make(alloc, vars)?;
-    let order = Order::make(alloc, vars)?;
     let phases = vec![in alloc; false; vars as usize]?;
+    let trail = Trail::make(alloc, vars)?;
+    let order = Order::make(alloc, vars)?;
+    let watches = Watches::make(alloc, vars)?;
     Ok(SearchState {
         trail,
         arena: Arena::make(alloc),
@@ -112,6 +112,18 @@ fn take_item(
     }
 }
 
+/// Takes the clauses of the formula, one after another.
+fn take_items(alloc: Global, formula: &Formula, filled: &mut Filled) -> Result<(), AllocError>
+    requires few { length formula.now.constraints ≤ 4294967295 }
+    requires none { IsFilledUpTo formula.now 0 filled.old.state filled.old.units.items filled.old.empty }
+    ensures { OnOk result (IsFilled formula.now filled.new.state filled.new.units.items filled.new.empty) }
+{
+    for place in 0..formula.len() {
+        take_item(alloc, formula, filled, place)?;
+    }
+    Ok(())
+}
+
 /// Attaches the clauses of two or more different literals, and gives those of one; tautologies are left out.
 ///
 /// It fails for want of memory, or where the clauses are more than an arena holds.
@@ -124,8 +136,6 @@ pub(crate) fn fill(alloc: Global, formula: &Formula) -> Result<Filled, AllocErro
         units: Vec::new(alloc),
         empty: None,
     };
-    for place in 0..formula.len() {
-        take_item(alloc, formula, &mut filled, place)?;
-    }
+    take_items(alloc, formula, &mut filled)?;
     Ok(filled)
 }

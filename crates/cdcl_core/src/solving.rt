@@ -12,20 +12,25 @@ ghost use Rattle.cdcl_search.specs.Logs.{GoesOn, CountsAs, told_in};
 ghost use Rattle.cdcl_search.specs.Tells.{GivesUp, HaveLowIds, HasNoMark};
 ghost use Rattle.cdcl_core.specs.Beginning.{IsAtStart};
 ghost use Rattle.cdcl_core.specs.Concluding.{IsAtConflict, IsTold};
+ghost use Rattle.cdcl_core.specs.Filling.{IsFilled};
+ghost use Rattle.cdcl_core.specs.Given.{AreEngines, HasGiven};
 ghost use Rattle.cdcl_core.specs.Results.{IsRightOutcome, IsFresh, IsSettledBy};
 ghost use Rattle.cdcl_core.specs.Rounds.{IsSearching, LeavesRound, IsSettledIn};
 ghost use Rattle.cdcl_core.specs.declared.solving.Outcome.TheVariants as outcome;
 
-use crate::beginning::{Begun, begin};
+use crate::beginning::start;
 use crate::conflicts::{Conclusion, Conflict, conflict_clause};
 use crate::ending::{end, tell_ending};
+use crate::filling::{Filled, fill};
 use crate::jumping::jump;
 use crate::learning::learn;
+use crate::originals::tell_originals;
+use crate::recovering::all_parities;
 use crate::schedule::{Schedule, follow_schedule};
 use cdcl_search::logs::SearchLog;
 use cdcl_search::{Found, SearchState, search_on, values_of};
 use conflict_learn::{CoreFault, Marks};
-use cx_base::{Formula, LogEvent, Values};
+use cx_base::{Formula, LogEvent, ParityList, Values};
 use parity_engine::ParityEngine;
 use std::alloc::Global;
 use step_text::Sink;
@@ -89,7 +94,7 @@ fn conclude<P: ParityEngine, L: Sink<Item = LogEvent>>(
             if state.trail.level() > 0 {
                 return learn_and_jump(log, state, engine, marks, budget, conflict);
             }
-            end(log, state, engine, &conflict)?;
+            end(log, state, engine, conflict)?;
             Ok(Some(Outcome::Unsat))
         }
         Conclusion::Ending(steps) => {
@@ -140,6 +145,47 @@ fn search<P: ParityEngine, L: Sink<Item = LogEvent>>(
     }
 }
 
+/// Begins a search over these clauses and parities, and searches up to the budget.
+fn search_filled<P: ParityEngine + Drop, L: Sink<Item = LogEvent>>(
+    log: &mut SearchLog<L>,
+    filled: &mut Filled,
+    parities: ParityList,
+    budget: u64,
+) -> Result<Outcome, CoreFault>
+    requires budget { (1 ≤ budget) × (budget ≤ 10 ^ 18) }
+    requires few { length log.old.formula.now.constraints ≤ 4294967295 }
+    requires given { HasGiven log.old.formula.now parities (told_in L.Sink log.old) }
+    requires engines { AreEngines log.old.formula.now parities }
+    requires filled { IsFilled log.old.formula.now filled.old.state filled.old.units.items filled.old.empty }
+    ensures answers { IfOk result (λ a. IsRightOutcome log.new.formula.now budget (told_in L.Sink log.new) a) }
+    ensures settled { SettledWithRecovered log.new.formula.now → IfOk result (λ a. IsSettledBy log.new.formula.now 1 (told_in L.Sink log.new) a) }
+    ensures log { GoesOn L.Sink log.old (fault_in result) log.new }
+{
+    match start::<P, L>(log, filled, parities)? {
+        Some(mut engine) => search(log, &mut filled.state, &mut engine, budget),
+        None => Ok(Outcome::Unsat),
+    }
+}
+
+/// Tells the originals and the recovered parities, and searches up to the budget. Clauses of two or more different literals are attached, those
+/// of one stand on the trail at level 0, tautologies are left out.
+fn search_from_start<P: ParityEngine + Drop, L: Sink<Item = LogEvent>>(
+    log: &mut SearchLog<L>,
+    budget: u64,
+) -> Result<Outcome, CoreFault>
+    requires budget { (1 ≤ budget) × (budget ≤ 10 ^ 18) }
+    requires few { length log.old.formula.now.constraints ≤ 4294967295 }
+    requires fresh { IsFresh (told_in L.Sink log.old) }
+    ensures answers { IfOk result (λ a. IsRightOutcome log.new.formula.now budget (told_in L.Sink log.new) a) }
+    ensures settled { SettledWithRecovered log.new.formula.now → IfOk result (λ a. IsSettledBy log.new.formula.now 1 (told_in L.Sink log.new) a) }
+    ensures log { GoesOn L.Sink log.old (fault_in result) log.new }
+{
+    tell_originals(log)?;
+    let parities = all_parities(log)?;
+    let mut filled = fill(log.alloc, log.formula)?;
+    search_filled::<P, L>(log, &mut filled, parities, budget)
+}
+
 /// Searches for values that meet the formula, up to a budget of counted conflicts, 1 to 10^18.
 ///
 /// Counted are the conflicts above level 0, where a decision was made. The sink is told the log: the
@@ -173,10 +219,5 @@ pub fn solve_core<P: ParityEngine + Drop, L: Sink<Item = LogEvent>>(
         formula,
         sink,
     };
-    match begin::<P, L>(&mut log)? {
-        Begun::Search(mut state, mut engine) => {
-            search(&mut log, &mut state, &mut engine, budget)
-        }
-        Begun::Ended => Ok(Outcome::Unsat),
-    }
+    search_from_start::<P, L>(&mut log, budget)
 }

@@ -11,38 +11,38 @@ use Rattle.cdcl_core.proofs.beginning.start.Goals as goal
 
 pub refute-requires-clause-shown : goal.refute-requires-clause-shown
 refute-requires-clause-shown g c =
-    empty_is_refutable c.args.log.now.formula.now c.requires.few c.vars-vars.ensures.within c.args.parities.now (g.L.Sink.items c.args.log.now.sink.now) c.requires.given c.args.filled.state c.args.filled.units.items c.in-Some.number
-    (subst (IsFilled c.args.log.now.formula.now c.args.filled.state c.args.filled.units.items) c.in-Some.is c.requires.filled)
+    empty_is_refutable c.args.log.now.formula.now c.requires.few c.vars-vars.ensures.within c.args.parities (g.L.Sink.items c.args.log.now.sink.now) c.requires.given c.args.filled.now.state c.args.filled.now.units.items c.in-Some.number
+    (subst (IsFilled c.args.log.now.formula.now c.args.filled.now.state c.args.filled.now.units.items) c.in-Some.is c.requires.filled)
 
 pub refute-requires-clause-units : goal.refute-requires-clause-units
-refute-requires-clause-units g c = no_ids c.args.filled.state.units.items c.requires.filled.no_units
+refute-requires-clause-units g c = no_ids c.args.filled.now.state.units.items c.requires.filled.no_units
 
 pub refute-requires-clause-id : goal.refute-requires-clause-id
-refute-requires-clause-id g c = empty_is_id c.args.log.now.formula.now c.requires.few c.args.filled.state c.args.filled.units.items c.in-Some.number
-    (subst (IsFilled c.args.log.now.formula.now c.args.filled.state c.args.filled.units.items) c.in-Some.is c.requires.filled)
+refute-requires-clause-id g c = empty_is_id c.args.log.now.formula.now c.requires.few c.args.filled.now.state c.args.filled.now.units.items c.in-Some.number
+    (subst (IsFilled c.args.log.now.formula.now c.args.filled.now.state c.args.filled.now.units.items) c.in-Some.is c.requires.filled)
 
 pub put_units-requires : goal.put_units-requires
 put_units-requires g c = (
-  c.args.parities.now,
-  subst (λ us. SearchStandsBut c.args.log.now.formula.now c.args.parities.now c.args.filled.state us (g.L.Sink.items c.args.log.now.sink.now)) (sym c.deref.ensures.value)
-      (filled_stands c.args.log.now.formula.now c.requires.few c.vars-vars.ensures.within c.args.parities.now (g.L.Sink.items c.args.log.now.sink.now) c.requires.given c.args.filled.state c.args.filled.units.items
-      (subst (IsFilled c.args.log.now.formula.now c.args.filled.state c.args.filled.units.items) c.in_default.is c.requires.filled)),
+  c.args.parities,
+  subst (λ us. SearchStandsBut c.args.log.now.formula.now c.args.parities c.args.filled.now.state us (g.L.Sink.items c.args.log.now.sink.now)) (sym c.deref.ensures.value)
+      (filled_stands c.args.log.now.formula.now c.requires.few c.vars-vars.ensures.within c.args.parities (g.L.Sink.items c.args.log.now.sink.now) c.requires.given c.args.filled.now.state c.args.filled.now.units.items
+      (subst (IsFilled c.args.log.now.formula.now c.args.filled.now.state c.args.filled.now.units.items) c.in_default.is c.requires.filled)),
 )
 
 pub make-requires-clause-within : goal.make-requires-clause-within
-make-requires-clause-within g c = subst (λ n. AllByRecursion (AreWithin n) c.args.parities.now) (sym c.vars-vars.ensures.variables) c.requires.engines.within
+make-requires-clause-within g c = subst (λ n. AllByRecursion (AreWithin n) c.args.parities) (sym c.vars-vars.ensures.variables) c.requires.engines.within
 
 pub returns-clause-begins : goal.returns-clause-begins
 returns-clause-begins g c =
-    let engines = c.args.parities.now in
+    let engines = c.args.parities in
     let rows = c.in_ok-engine.ensures.0 in
     let same : c.put_units.new.log.formula.now ≡ c.args.log.now.formula.now = c.in_ok-put_units.ensures.log.formula in
     let made : g.P.ParityEngine.state c.in_ok-engine.engine ≡ fresh c.put_units.new.log.formula.now.variables engines rows =
     c.in_ok-engine.ensures.1 ∙ ap (λ n. fresh n engines rows) (c.vars-vars.ensures.variables ∙ sym (ap (λ (f : Problem). f.variables) same)) in
-    let before : SearchStandsBut c.args.log.now.formula.now engines c.args.filled.state c.deref.result.now (g.L.Sink.items c.args.log.now.sink.now) =
-    subst (λ us. SearchStandsBut c.args.log.now.formula.now engines c.args.filled.state us (g.L.Sink.items c.args.log.now.sink.now)) (sym c.deref.ensures.value)
-    (filled_stands c.args.log.now.formula.now c.requires.few c.vars-vars.ensures.within engines (g.L.Sink.items c.args.log.now.sink.now) c.requires.given c.args.filled.state c.args.filled.units.items
-    (subst (IsFilled c.args.log.now.formula.now c.args.filled.state c.args.filled.units.items) c.in_default.is c.requires.filled)) in
+    let before : SearchStandsBut c.args.log.now.formula.now engines c.args.filled.now.state c.deref.result.now (g.L.Sink.items c.args.log.now.sink.now) =
+    subst (λ us. SearchStandsBut c.args.log.now.formula.now engines c.args.filled.now.state us (g.L.Sink.items c.args.log.now.sink.now)) (sym c.deref.ensures.value)
+    (filled_stands c.args.log.now.formula.now c.requires.few c.vars-vars.ensures.within engines (g.L.Sink.items c.args.log.now.sink.now) c.requires.given c.args.filled.now.state c.args.filled.now.units.items
+    (subst (IsFilled c.args.log.now.formula.now c.args.filled.now.state c.args.filled.now.units.items) c.in_default.is c.requires.filled)) in
     let stands = subst (PutsUnits c.put_units.new.log.formula.now engines c.put_units.new.state [] (g.L.Sink.items c.put_units.new.log.sink.now)) c.if-not-branch.false (c.in_ok-put_units.ensures.puts engines before) in
     record {
       stands = begun_stands c.put_units.new.log.formula.now engines c.put_units.new.state (g.L.Sink.items c.put_units.new.log.sink.now) stands (g.P.ParityEngine.state c.in_ok-engine.engine) rows made
@@ -54,11 +54,11 @@ returns-clause-begins g c =
 
 pub returns-then-not-branch-clause-begins : goal.returns-then-not-branch-clause-begins
 returns-then-not-branch-clause-begins g c =
-    let engines = c.args.parities.now in
-    let before : SearchStandsBut c.args.log.now.formula.now engines c.args.filled.state c.deref.result.now (g.L.Sink.items c.args.log.now.sink.now) =
-    subst (λ us. SearchStandsBut c.args.log.now.formula.now engines c.args.filled.state us (g.L.Sink.items c.args.log.now.sink.now)) (sym c.deref.ensures.value)
-    (filled_stands c.args.log.now.formula.now c.requires.few c.vars-vars.ensures.within engines (g.L.Sink.items c.args.log.now.sink.now) c.requires.given c.args.filled.state c.args.filled.units.items
-    (subst (IsFilled c.args.log.now.formula.now c.args.filled.state c.args.filled.units.items) c.in_default.is c.requires.filled)) in
+    let engines = c.args.parities in
+    let before : SearchStandsBut c.args.log.now.formula.now engines c.args.filled.now.state c.deref.result.now (g.L.Sink.items c.args.log.now.sink.now) =
+    subst (λ us. SearchStandsBut c.args.log.now.formula.now engines c.args.filled.now.state us (g.L.Sink.items c.args.log.now.sink.now)) (sym c.deref.ensures.value)
+    (filled_stands c.args.log.now.formula.now c.requires.few c.vars-vars.ensures.within engines (g.L.Sink.items c.args.log.now.sink.now) c.requires.given c.args.filled.now.state c.args.filled.now.units.items
+    (subst (IsFilled c.args.log.now.formula.now c.args.filled.now.state c.args.filled.now.units.items) c.in_default.is c.requires.filled)) in
     subst (PutsUnits c.put_units.new.log.formula.now engines c.put_units.new.state [] (g.L.Sink.items c.put_units.new.log.sink.now)) c.if-not-branch.true (c.in_ok-put_units.ensures.puts engines before)
 
 pub returns-in-Some-clause-begins : goal.returns-in-Some-clause-begins

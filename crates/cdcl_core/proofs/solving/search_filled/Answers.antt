@@ -1,0 +1,21 @@
+use Rattle.cdcl_search.specs.GoingOn.{log_then}
+use Rattle.std.proofs.lemmas.Result.{err_from_is_err_and}
+use Rattle.cdcl_core.proofs.Answering.{refutes_within, unsat_is_known}
+use Rattle.cdcl_core.proofs.solving.search_filled.Goals as goal
+
+pub returns-in-Some-clause-log : goal.returns-in-Some-clause-log
+returns-in-Some-clause-log g c = log_then g.L.Sink g.met.L.Sink.keeps_on _ c.start.new.log _ _ c.in_ok-engine.ensures.log c.search.ensures.log
+
+pub returns-in-None : goal.returns-in-None
+returns-in-None g c =
+    let refutes = rw c.in-None.is at c.in_ok-engine.ensures.begins in
+    record {
+      answers = refutes_within c.start.new.log.formula.now 1 c.args.budget (g.L.Sink.items c.start.new.log.sink.now) c.requires.budget.0 refutes;
+      settled = λ s. (refutes, unsat_is_known);
+      log = c.in_ok-engine.ensures.log;
+    }
+
+pub returns-in_err-engine : goal.returns-in_err-engine
+returns-in_err-engine g c =
+    let fault = err_from_is_err_and c.from_residual.result c.from_residual.ensures.1 in
+    rw (fault.1, fault.2) (record { answers = tt; settled = λ s. tt; log = c.in_err-engine.ensures.log })
