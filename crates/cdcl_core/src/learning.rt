@@ -6,7 +6,6 @@ ghost use Rattle.cx_trail.specs.Sequence.{IsTrueIn};
 ghost use Rattle.cx_base.specs.Integers.{integers_of, literals};
 ghost use Rattle.cx_base.specs.declared.steps.LogEvent.TheVariants as event;
 ghost use Rattle.cx_base.specs.declared.steps.LogStep.TheVariants as step;
-ghost use Rattle.conflict_learn.specs.Levels.{Teaches};
 ghost use Rattle.conflict_learn.specs.Faults.{fault_in};
 ghost use Rattle.conflict_learn.specs.Marks.{AreClear};
 ghost use Rattle.conflict_learn.specs.Touching.{AreTouched};
@@ -16,7 +15,7 @@ ghost use Rattle.cdcl_search.specs.Deleting.{deletions};
 ghost use Rattle.cdcl_search.specs.Tells.{IsId, AreIdsFrom, AreStepsOf};
 ghost use Rattle.cdcl_search.specs.Logs.{GoesOn, told_in};
 ghost use Rattle.cdcl_search.specs.Ties.{first_row_id, row_ids, HaveReasons};
-ghost use Rattle.cdcl_search.specs.Sources.{IsSourced, HasIds};
+ghost use Rattle.cdcl_search.specs.Sources.{HasIds};
 ghost use Rattle.cdcl_core.specs.Concluding.{IsAtConflict, IsTold};
 ghost use Rattle.cdcl_core.specs.Learning.{Learns, IsLesson};
 
@@ -56,33 +55,6 @@ fn steps_of_learned(
     Ok(steps)
 }
 
-/// Tells what a conflict taught: the mark, the learned clause with its hints, and the deletions of the clauses of rows.
-fn tell_learned<P: ParityEngine, L: Sink<Item = LogEvent>>(
-    log: &mut SearchLog<L>,
-    state: &SearchState,
-    engine: &P,
-    conflict: &LitList,
-    rows: &[LitList],
-    learned: &Learned,
-    hints: IntList,
-) -> Result<(), CoreFault>
-    requires at { IsAtConflict P.ParityEngine L.Sink log.old state.now engine.now rows.now conflict.now }
-    requires few { state.now.conflicts < 10 ^ 18 }
-    requires unsettled { ¬ SettledWithRecovered log.old.formula.now }
-    requires teaches { Teaches state.now.trail conflict.now (IsSourced state.now rows.now) learned.now.resolved learned.now.lits learned.now.back_level learned.now.lbd }
-    ensures learned { OnOk result (Learns log.new.formula.now state.now (P.state engine.now) learned.now.lits learned.now.back_level (told_in L.Sink log.new)) }
-    ensures log { GoesOn L.Sink log.old (fault_in result) log.new }
-{
-    let steps = steps_of_learned(
-        log.alloc,
-        state.next,
-        learned.lits.as_slice(),
-        hints,
-        rows.len(),
-    )?;
-    tell_round(log, state.conflicts + 1, steps)
-}
-
 /// The hints of a learned clause: the ids of the clauses that implied the resolved literals, the last one's first, and then the conflict's.
 ///
 /// The clauses of rows were told in the order of these literals, and so many stand in the log.
@@ -113,6 +85,37 @@ fn hints_of_lesson(
     }
     push_hint(&mut hints, conflict)?;
     Ok(IntList::from_vec(hints))
+}
+
+/// Tells what a conflict taught: the mark, the learned clause with its hints, and the deletions of the clauses of rows. The
+/// conflict's clause has the id.
+fn tell_learned<P: ParityEngine, L: Sink<Item = LogEvent>>(
+    log: &mut SearchLog<L>,
+    state: &SearchState,
+    engine: &P,
+    conflict: &LitList,
+    rows: &[LitList],
+    id: u64,
+    learned: &Learned,
+) -> Result<(), CoreFault>
+    requires at { IsAtConflict P.ParityEngine L.Sink log.old state.now engine.now rows.now conflict.now }
+    requires few { state.now.conflicts < 10 ^ 18 }
+    requires id { IsId id }
+    requires unsettled { ¬ SettledWithRecovered log.old.formula.now }
+    requires lesson { IsLesson state.now rows.now conflict.now learned.now }
+    ensures learned { OnOk result (Learns log.new.formula.now state.now (P.state engine.now) learned.now.lits learned.now.back_level (told_in L.Sink log.new)) }
+    ensures log { GoesOn L.Sink log.old (fault_in result) log.new }
+{
+    let resolved = learned.resolved.as_slice();
+    let hints = hints_of_lesson(log.alloc, state, resolved, rows.len(), id)?;
+    let steps = steps_of_learned(
+        log.alloc,
+        state.next,
+        learned.lits.as_slice(),
+        hints,
+        rows.len(),
+    )?;
+    tell_round(log, state.conflicts + 1, steps)
 }
 
 /// What a conflict above level 0 teaches. The clauses of rows that are told for it come behind these rows.
@@ -163,8 +166,6 @@ pub(crate) fn learn<P: ParityEngine, L: Sink<Item = LogEvent>>(
     let Conflict { lits, id, rows } = conflict;
     let mut rows = rows;
     let learned = lesson_of(log, state, engine, &lits, &mut rows, marks)?;
-    let resolved = learned.resolved.as_slice();
-    let hints = hints_of_lesson(log.alloc, state, resolved, rows.len(), id)?;
-    tell_learned(log, state, engine, &lits, &rows, &learned, hints)?;
+    tell_learned(log, state, engine, &lits, &rows, id, &learned)?;
     Ok(learned)
 }
