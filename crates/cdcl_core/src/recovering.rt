@@ -80,8 +80,8 @@ fn tell_find<L: Sink<Item = LogEvent>>(
     ensures log { GoesOn L.Sink log.old (fault_in result) log.new }
 {
     let id = parities.len() as u64 + 1;
-    let step = step_of(log.alloc, id, find)?;
     let parity = copy_of(log.alloc, find.parity.as_slice())?;
+    let step = step_of(log.alloc, id, find)?;
     tell_step(log, step)?;
     parities.push(parity)?;
     Ok(())

@@ -1,9 +1,12 @@
-use Rattle.std.proofs.Common.{◌≡◌, sym, ap, ◌∙◌, ◌<◌, ◌∷◌, ◌++◌, [], subst, take, length, get_or, append-nil, length-append, length-take, arith, rules}
+use Rattle.std.proofs.Common.{◌≡◌, sym, ap, ◌∙◌, ℕ, ◌<◌, ◌≤◌, List, ◌∷◌, ◌++◌, [], subst, take, length, get_or, append-nil, length-append, length-take, arith}
 use Rattle.std.proofs.lemmas.List.{take_all, length-map, get_or_read}
 use Rattle.std.proofs.lemmas.List.Elements.{recursion_from_All}
 use Rattle.cx_base.specs.Problem.{Problem, AreWithin, parities_of}
 use Rattle.xor_recover.specs.declared.found.Found.{Found}
-use Rattle.cdcl_search.specs.GoingOn.{log_rests, log_then}
+use Rattle.std.specs.List.{All}
+use Rattle.std.proofs.lemmas.Result.{err_from_is_err_and}
+use Rattle.xor_recover.specs.Finds.{IsJudgedRight}
+use Rattle.cdcl_search.specs.GoingOn.{log_rests, log_stops, log_then}
 use Rattle.cdcl_core.specs.Given.{AreEngines, HasGiven}
 use Rattle.cdcl_core.proofs.GivenLaws.{begun_has_given, engines_are, one_find_more, parities_found}
 use Rattle.cdcl_core.proofs.OriginalLaws.{both_kinds}
@@ -41,8 +44,52 @@ tell_find-requires-clause-fewer g c =
 pub tell_find-requires-clause-given : goal.tell_find-requires-clause-given
 tell_find-requires-clause-given g c = subst (λ f. HasGiven f c.loop-place.parities.items (g.L.Sink.items c.loop-place.log.sink.now)) (sym c.loop-place.invariant.log.formula) c.loop-place.invariant.given
 
-pub returns-in_err-tell_find-clause-log : goal.returns-in_err-tell_find-clause-log
-returns-in_err-tell_find-clause-log g c = log_then g.L.Sink g.met.L.Sink.keeps_on _ c.loop-place.log _ _ c.loop-place.invariant.log (search rules)
+pub tell_find-requires-clause-few : goal.tell_find-requires-clause-few
+tell_find-requires-clause-few g c = subst (λ (f : Problem). length f.constraints ≤ 4294967295) (sym c.loop-place.invariant.log.formula) c.requires.few
+
+-- what holds of each find holds of the one at this place
+of_find : (P : Found → Type 0) (found finds : List Found) (place : ℕ) (find : Found) → finds ≡ found → place < length finds → find ≡ get_or finds place find → All P found → P find
+of_find P found finds place find is less read all = subst P (sym read) (subst (All P) (sym is) all place find less)
+
+pub tell_find-requires-clause-within : goal.tell_find-requires-clause-within
+tell_find-requires-clause-within g c =
+    let formula = c.args.log.now.formula.now in
+    let finds = c.into_vec-finds.result.items in
+    let place = c.loop-place.place in
+    let find = c.index.result.now in
+    let less : place < length finds = (let less = c.loop-place-test.true in let end = c.len-place-end.ensures in let ok = c.into_vec-finds.result.ok.0 in omega (arith, less, end, ok)) in
+    subst (λ (f : Problem). AreWithin f.variables find.parity) (sym c.loop-place.invariant.log.formula)
+    (of_find (λ f. AreWithin formula.variables f.parity) c.in_ok-recover.field-0 finds place find c.into_vec-finds.ensures less (get_or_read finds place _ less c.index.ensures find) c.in_ok-recover.ensures.within)
+
+pub tell_find-requires-clause-judged : goal.tell_find-requires-clause-judged
+tell_find-requires-clause-judged g c =
+    let formula = c.args.log.now.formula.now in
+    let finds = c.into_vec-finds.result.items in
+    let place = c.loop-place.place in
+    let find = c.index.result.now in
+    let less : place < length finds = (let less = c.loop-place-test.true in let end = c.len-place-end.ensures in let ok = c.into_vec-finds.result.ok.0 in omega (arith, less, end, ok)) in
+    subst (λ f. IsJudgedRight f find) (sym c.loop-place.invariant.log.formula)
+    (of_find (IsJudgedRight formula) c.in_ok-recover.field-0 finds place find c.into_vec-finds.ensures less (get_or_read finds place _ less c.index.ensures find) c.in_ok-recover.ensures.judged)
+
+pub returns-in_err-recover : goal.returns-in_err-recover
+returns-in_err-recover g c =
+    let fault = err_from_is_err_and c.from_residual.result c.from_residual.ensures.1 in
+    rw (fault.1, fault.2) (record { given = tt; engines = tt; log = log_stops g.L.Sink g.met.L.Sink.keeps_itself c.args.log.now })
+
+pub returns-in_err-parities : goal.returns-in_err-parities
+returns-in_err-parities g c =
+    let fault = err_from_is_err_and c.from_residual-in_err-parities.result c.from_residual-in_err-parities.ensures.1 in
+    rw (fault.1, fault.2) (record { given = tt; engines = tt; log = log_stops g.L.Sink g.met.L.Sink.keeps_itself c.args.log.now })
+
+pub returns-in_err-reserve_exact : goal.returns-in_err-reserve_exact
+returns-in_err-reserve_exact g c =
+    let fault = err_from_is_err_and c.from_residual-in_err-reserve_exact.result c.from_residual-in_err-reserve_exact.ensures.1 in
+    rw (fault.1, fault.2) (record { given = tt; engines = tt; log = log_stops g.L.Sink g.met.L.Sink.keeps_itself c.args.log.now })
+
+pub returns-in_err-tell_find : goal.returns-in_err-tell_find
+returns-in_err-tell_find g c =
+    let fault = err_from_is_err_and c.from_residual-in_err-tell_find.result c.from_residual-in_err-tell_find.ensures.1 in
+    rw (fault.1, fault.2) (record { given = tt; engines = tt; log = log_then g.L.Sink g.met.L.Sink.keeps_on _ c.loop-place.log _ _ c.loop-place.invariant.log c.in_err-tell_find.ensures.log })
 
 pub loop-place-preserved : goal.loop-place-preserved
 loop-place-preserved g c =
@@ -79,3 +126,6 @@ returns-clause-engines g c =
     let is = c.from_vec.ensures ∙ c.loop-place.invariant.are ∙ ap (λ fs. own ++ parities_found fs) (all ∙ c.into_vec-finds.ensures) in
     let ours = engines_are formula found c.vars-vars.ensures.within (recursion_from_All (λ (f : Found). AreWithin formula.variables f.parity) found c.in_ok-recover.ensures.within) c.in_ok-recover.ensures.few c.in_ok-recover.ensures.complete in
     subst (λ f. AreEngines f c.from_vec.result) (sym c.loop-place.invariant.log.formula) (subst (AreEngines formula) (sym is) ours)
+
+pub returns-clause-log : goal.returns-clause-log
+returns-clause-log g c = c.loop-place.invariant.log
