@@ -17,3 +17,4 @@ pub mod LearnedLess
 pub mod CompactedTies
 pub mod RisingCodes
 pub mod SortedLiterals
+pub mod AddedClauses

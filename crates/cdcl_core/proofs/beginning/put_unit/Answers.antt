@@ -1,7 +1,9 @@
-use Rattle.std.proofs.Common.{subst, ◌+◌, drop}
+use Rattle.std.proofs.Common.{subst, ◌+◌, drop, arith}
 use Rattle.cx_trail.specs.declared.entry.Reason.TheVariants.{Decision}
 use Rattle.cdcl_core.specs.Results.{Refutes}
 use Rattle.cdcl_core.proofs.WaitingLaws.{waiting_units_are_ids, waiting_is_id, next_waits, true_is_put, false_is_refutable, open_is_put}
+use Rattle.cdcl_search.specs.GoingOn.{log_rests, log_stops}
+use Rattle.std.proofs.lemmas.Result.{err_from_is_err_and}
 use Rattle.cdcl_core.proofs.beginning.put_unit.Goals as goal
 
 pub refute-requires-clause-shown : goal.refute-requires-clause-shown
@@ -35,3 +37,38 @@ returns-in_ok-push-in-Open-clause-puts g c = λ engines stands.
 
 pub returns-in_ok-refute-in-False-clause-puts : goal.returns-in_ok-refute-in-False-clause-puts
 returns-in_ok-refute-in-False-clause-puts g c = λ engines stands. subst (λ n. Refutes c.refute.new.log.formula.now (n + 1) (g.L.Sink.items c.refute.new.log.sink.now)) stands.3.conflicts c.in_ok-refute-in-False.ensures.refutes
+
+pub returns-in-True-clause-log : goal.returns-in-True-clause-log
+returns-in-True-clause-log g c = log_rests g.L.Sink g.met.L.Sink.keeps_itself c.args.log.now
+
+pub returns-in_ok-push-in-Open-clause-log : goal.returns-in_ok-push-in-Open-clause-log
+returns-in_ok-push-in-Open-clause-log g c = log_rests g.L.Sink g.met.L.Sink.keeps_itself c.args.log.now
+
+pub returns-in_ok-refute-in-False-clause-log : goal.returns-in_ok-refute-in-False-clause-log
+returns-in_ok-refute-in-False-clause-log g c = c.in_ok-refute-in-False.ensures.log
+
+pub returns-in_err-refute-in-False : goal.returns-in_err-refute-in-False
+returns-in_err-refute-in-False g c =
+    let fault = err_from_is_err_and c.from_residual.result c.from_residual.ensures.1 in
+    rw (fault.1, fault.2) (record { puts = tt; log = c.in_err-refute-in-False.ensures.log })
+
+pub returns-in_err-push-in-Open : goal.returns-in_err-push-in-Open
+returns-in_err-push-in-Open g c =
+    let fault = err_from_is_err_and c.from_residual-in_err-push-in-Open.result c.from_residual-in_err-push-in-Open.ensures.1 in
+    rw (fault.1, fault.2) (record { puts = tt; log = log_stops g.L.Sink g.met.L.Sink.keeps_itself c.args.log.now })
+
+pub truth-requires : goal.truth-requires
+truth-requires g c =
+    let (engines, stands) = c.requires.stands in
+    let waits = (next_waits c.args.log.now.formula.now engines c.args.state.now c.args.units.now c.args.place c.index-units-place.result (g.L.Sink.items c.args.log.now.sink.now) c.requires.place c.index-units-place.is stands) in
+    let high = waits.3.singles.0.2 in
+    let vars = waits.3.variables in
+    omega (arith, high, vars)
+
+pub imply-requires-clause-high : goal.imply-requires-clause-high
+imply-requires-clause-high g c =
+    let (engines, stands) = c.requires.stands in
+    let waits = (next_waits c.args.log.now.formula.now engines c.args.state.now c.args.units.now c.args.place c.index-units-place.result (g.L.Sink.items c.args.log.now.sink.now) c.requires.place c.index-units-place.is stands) in
+    let high = waits.3.singles.0.2 in
+    let vars = waits.3.variables in
+    omega (arith, high, vars)

@@ -2,6 +2,7 @@ use Rattle.std.proofs.Common.{subst, drop, ◌+◌, arith}
 use Rattle.cdcl_search.specs.GoingOn.{log_rests, log_then}
 use Rattle.cdcl_core.specs.Waiting.{SearchStandsBut, PutsUnits}
 use Rattle.cdcl_core.proofs.WaitingLaws.{none_left}
+use Rattle.std.proofs.lemmas.Result.{err_from_is_err_and}
 use Rattle.cdcl_core.proofs.beginning.put_units.Goals as goal
 
 pub loop-place-init : goal.loop-place-init
@@ -28,3 +29,14 @@ loop-place-preserved g c = record {
       (c.in_ok-put_unit.ensures.puts engines (c.loop-place.invariant.stands engines stands));
   log = log_then g.L.Sink g.met.L.Sink.keeps_on _ _ _ _ c.loop-place.invariant.log c.in_ok-put_unit.ensures.log;
 }
+
+pub returns-clause-log : goal.returns-clause-log
+returns-clause-log g c = c.loop-place.invariant.log
+
+pub returns-then-not-branch-clause-log : goal.returns-then-not-branch-clause-log
+returns-then-not-branch-clause-log g c = log_then g.L.Sink g.met.L.Sink.keeps_on _ c.loop-place.log _ _ c.loop-place.invariant.log c.in_ok-put_unit.ensures.log
+
+pub returns-in_err-put_unit : goal.returns-in_err-put_unit
+returns-in_err-put_unit g c =
+    let fault = err_from_is_err_and c.from_residual.result c.from_residual.ensures.1 in
+    rw (fault.1, fault.2) (record { puts = tt; log = log_then g.L.Sink g.met.L.Sink.keeps_on _ c.loop-place.log _ _ c.loop-place.invariant.log c.in_err-put_unit.ensures.log })

@@ -1,4 +1,5 @@
-use Rattle.std.proofs.Common.{refl, ◌∙◌, rules}
+use Rattle.std.proofs.Common.{refl, ◌∙◌}
+use Rattle.std.proofs.lemmas.Result.{err_from_is_err_and}
 use Rattle.cdcl_search.specs.GoingOn.{log_rests, log_then}
 use Rattle.cdcl_core.proofs.LearnedLess.{reduction_begins, reduction_ends}
 use Rattle.cdcl_core.proofs.reducing.reduce.Goals as goal
@@ -25,3 +26,13 @@ returns g c = record {
   conflicts = c.loop-reference.invariant.conflicts;
   log = c.loop-reference.invariant.log;
 }
+
+pub returns-in_err-remove_where_may : goal.returns-in_err-remove_where_may
+returns-in_err-remove_where_may g c =
+    let done = c.in_err-remove_where_may.ensures in
+    let fault = err_from_is_err_and c.from_residual.result c.from_residual.ensures.1 in
+    rw (fault.1, fault.2) (record {
+      stands = tt;
+      conflicts = done.conflicts ∙ c.loop-reference.invariant.conflicts;
+      log = log_then g.L.Sink g.met.L.Sink.keeps_on _ c.loop-reference.log _ _ c.loop-reference.invariant.log done.log;
+    })
