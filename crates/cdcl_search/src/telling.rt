@@ -23,8 +23,8 @@ fn fault_of(fault: SinkFault) -> CoreFault
     }
 }
 
-/// Tells one event.
-fn tell<L: Sink<Item = LogEvent>>(sink: &mut L, event: &LogEvent) -> Result<(), CoreFault>
+/// Puts one event into the sink.
+fn put_event<L: Sink<Item = LogEvent>>(sink: &mut L, event: &LogEvent) -> Result<(), CoreFault>
     requires text { HasText event.now }
     ensures { TellsIn L.Sink (event.now ∷ []) sink.old result sink.new }
 {
@@ -34,12 +34,20 @@ fn tell<L: Sink<Item = LogEvent>>(sink: &mut L, event: &LogEvent) -> Result<(), 
     }
 }
 
+/// Tells one event.
+fn tell<L: Sink<Item = LogEvent>>(sink: &mut L, event: LogEvent) -> Result<(), CoreFault>
+    requires text { HasText event }
+    ensures { TellsIn L.Sink (event ∷ []) sink.old result sink.new }
+{
+    put_event(sink, &event)
+}
+
 /// Tells a step.
 fn tell_one<L: Sink<Item = LogEvent>>(sink: &mut L, step: LogStep) -> Result<(), CoreFault>
     requires text { IsTellable step }
     ensures { TellsIn L.Sink (Step step ∷ []) sink.old result sink.new }
 {
-    tell(sink, &LogEvent::Step(step))
+    tell(sink, LogEvent::Step(step))
 }
 
 /// Tells these steps, one after another, up to a fault.
@@ -60,7 +68,7 @@ fn tell_all<L: Sink<Item = LogEvent>>(sink: &mut L, steps: Vec<LogStep>) -> Resu
 fn tell_mark<L: Sink<Item = LogEvent>>(sink: &mut L, number: u64) -> Result<(), CoreFault>
     ensures { TellsIn L.Sink (Conflict number ∷ []) sink.old result sink.new }
 {
-    tell(sink, &LogEvent::Conflict(number))
+    tell(sink, LogEvent::Conflict(number))
 }
 
 /// Tells a mark and the steps behind it, up to a fault.
@@ -87,7 +95,7 @@ pub fn tell_step<L: Sink<Item = LogEvent>>(
     requires right { IsRightBehind L.Sink log.old (Step step ∷ []) }
     ensures { Tells L.Sink log.old (Step step ∷ []) result log.new }
 {
-    tell(log.sink, &LogEvent::Step(step))
+    tell(log.sink, LogEvent::Step(step))
 }
 
 /// Tells these steps, which leave the log right.

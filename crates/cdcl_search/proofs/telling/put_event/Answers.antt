@@ -1,6 +1,6 @@
 use Rattle.cdcl_search.proofs.Events.{one_is_not_told, faults_as}
 use Rattle.std.proofs.Common.{rules}
-use Rattle.cdcl_search.proofs.telling.tell.Goals as goal
+use Rattle.cdcl_search.proofs.telling.put_event.Goals as goal
 
 pub returns-in-Err : goal.returns-in-Err
 returns-in-Err g c = record {
