@@ -1,7 +1,9 @@
-use Rattle.std.proofs.Common.{List, [], Option, rules, sym, ap, ◌∙◌, subst, true≢false, arith}
+use Rattle.std.proofs.Common.{◌+◌, List, [], Option, rules, refl, sym, ap, ◌∙◌, subst, length, MatchBool, true≢false, arith}
+use Rattle.std.proofs.lemmas.List.{length_push}
 use Rattle.cx_base.specs.Literals.{Literal}
 use Rattle.cx_base.specs.declared.steps.LogEvent.{LogEvent}
-use Rattle.cx_trail.specs.Sequence.{IsOpenIn}
+use Rattle.cx_trail.specs.Sequence.{IsOpenIn, TrailState, IsFull, HasOpen}
+use Rattle.cx_trail.specs.declared.entry.Reason.TheVariants.{Decision}
 use Rattle.cdcl_search.specs.Ties.{SearchStands}
 use Rattle.cdcl_search.proofs.Decisions.{reordered_stands, decided_stands, settled_has_no_open, has_room, variables_are_scored}
 use Rattle.cdcl_search.proofs.deciding.decide.Goals as goal
@@ -10,7 +12,7 @@ pub returns-in_default-clause-stays : goal.returns-in_default-clause-stays
 returns-in_default-clause-stays g c =
     let stays = λ (told : Option (List LogEvent)) (stands : SearchStands c.args.formula.now c.args.state.now (g.P.ParityEngine.state c.args.engine.now) [] told).
     reordered_stands c.args.formula.now c.args.state.now (g.P.ParityEngine.state c.args.engine.now) told c.requires.quiet c.pick_from_heap.new.self c.pick_from_heap.ensures.stand stands in
-    record { stands = stays; unbroken = search rules }
+    record { stands = stays; unbroken = λ broken. cc (c.requires.quiet.3, broken) }
 
 pub push_level-requires-clause-room : goal.push_level-requires-clause-room
 push_level-requires-clause-room g c =
@@ -62,3 +64,39 @@ decide-requires-clause-high g c =
     let scored = c.requires.stands.1.3.trail.stand.variables in
     let is = ap (λ (l : Literal). l.variable) c.new.ensures in
     omega (arith, high, scored, is)
+
+pub pick_from_heap-requires : goal.pick_from_heap-requires
+pick_from_heap-requires g c = c.requires.stands.1.3.trail.stand
+
+pub returns-then-is_full-clause-decided : goal.returns-then-is_full-clause-decided
+returns-then-is_full-clause-decided g c = λ decided. absurd (true≢false (sym decided))
+
+pub returns-then-is_full-clause-full : goal.returns-then-is_full-clause-full
+returns-then-is_full-clause-full g c = λ none. (refl, subst (λ b. MatchBool b (IsFull c.args.state.now.trail) (HasOpen c.args.state.now.trail)) c.if-is_full.true c.is_full.ensures.full, c.requires.quiet)
+
+pub returns-then-is_full-clause-settled : goal.returns-then-is_full-clause-settled
+returns-then-is_full-clause-settled g c = λ settled. refl
+
+pub returns-then-is_full-clause-same : goal.returns-then-is_full-clause-same
+returns-then-is_full-clause-same g c = (refl, refl, refl)
+
+pub returns-in_default-clause-decided : goal.returns-in_default-clause-decided
+returns-in_default-clause-decided g c = λ decided. absurd (true≢false (sym decided))
+
+pub returns-in_default-clause-settled : goal.returns-in_default-clause-settled
+returns-in_default-clause-settled g c = λ settled. refl
+
+pub returns-in_default-clause-same : goal.returns-in_default-clause-same
+returns-in_default-clause-same g c = (refl, refl, refl)
+
+pub returns-clause-decided : goal.returns-clause-decided
+returns-clause-decided g c =
+    let t = c.args.state.now.trail in
+    let one = length_push t.entries (record { literal = c.new.result; level = t.level + 1; reason = Decision }) in
+    λ decided. (ap (λ (x : TrailState). x.level) c.decide.ensures.pushed, ap (λ (x : TrailState). length x.entries) c.decide.ensures.pushed ∙ one)
+
+pub returns-clause-full : goal.returns-clause-full
+returns-clause-full g c = λ none. absurd (true≢false none)
+
+pub returns-clause-same : goal.returns-clause-same
+returns-clause-same g c = (refl, refl, refl)

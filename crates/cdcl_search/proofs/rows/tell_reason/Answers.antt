@@ -1,6 +1,8 @@
-use Rattle.std.proofs.Common.{refl, sym, subst, arith, ◌++◌, ◌∷◌, [], length}
+use Rattle.std.proofs.Common.{refl, sym, ap, ◌∙◌, subst, arith, ◌++◌, ◌∷◌, [], length}
 use Rattle.cdcl_search.specs.Ties.{SearchStands, first_row_id}
 use Rattle.cdcl_search.specs.Tells.{as_events, AreIdsFrom}
+use Rattle.std.proofs.lemmas.Result.{err_from_is_err_and}
+use Rattle.cdcl_search.specs.GoingOn.{log_stops, log_then}
 use Rattle.cdcl_search.proofs.LowIds.{next_is_id, row_ids_are_ids}
 use Rattle.cdcl_search.proofs.RowSteps.{left_now, stands_then}
 use Rattle.cdcl_search.proofs.Tellings.{holds_told}
@@ -30,3 +32,32 @@ prepare-requires-clause-next g c = next_is_id c.args.log.now.formula.now c.args.
 
 pub prepare-requires-clause-sources : goal.prepare-requires-clause-sources
 prepare-requires-clause-sources g c = (length (g.P.ParityEngine.state c.args.engine.now).parities, c.requires.stands.3.engine.few, c.requires.explains.numbers)
+
+pub tell_steps-requires-clause-texts : goal.tell_steps-requires-clause-texts
+tell_steps-requires-clause-texts g c = c.in_ok-prepared.ensures.row.are.texts
+
+pub returns-clause-clause : goal.returns-clause-clause
+returns-clause-clause g c = c.in_ok-prepared.ensures.clause
+
+pub returns-clause-rows : goal.returns-clause-rows
+returns-clause-rows g c = c.in_ok-push.ensures.items ∙ ap (λ x. c.args.rows.now.items ++ x ∷ []) c.in_ok-prepared.ensures.copy
+
+pub returns-in_err-prepared : goal.returns-in_err-prepared
+returns-in_err-prepared g c =
+    let fault = err_from_is_err_and c.from_residual.result c.from_residual.ensures.1 in
+    rw (fault.1, fault.2) (record { clause = tt; same = refl; rows = tt; stands_on = record { stands = tt; log = log_stops g.L.Sink g.met.L.Sink.keeps_itself c.args.log.now } })
+
+pub returns-in_err-tell_steps : goal.returns-in_err-tell_steps
+returns-in_err-tell_steps g c =
+    let fault = err_from_is_err_and c.from_residual-in_err-tell_steps.result c.from_residual-in_err-tell_steps.ensures.1 in
+    rw (fault.1, fault.2) (record { clause = tt; same = refl; rows = tt; stands_on = record { stands = tt; log = c.in_err-tell_steps.ensures.log } })
+
+pub returns-in_err-push : goal.returns-in_err-push
+returns-in_err-push g c =
+    let fault = err_from_is_err_and c.from_residual-in_err-push.result c.from_residual-in_err-push.ensures.1 in
+    rw (fault.1, fault.2) (record {
+      clause = tt;
+      same = c.in_err-push.ensures.items;
+      rows = tt;
+      stands_on = record { stands = tt; log = log_then g.L.Sink g.met.L.Sink.keeps_on _ c.tell_steps.new.log _ _ c.in_ok-tell_steps.ensures.log (log_stops g.L.Sink g.met.L.Sink.keeps_itself c.tell_steps.new.log) };
+    })

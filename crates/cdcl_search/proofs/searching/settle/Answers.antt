@@ -1,4 +1,5 @@
 use Rattle.std.proofs.Common.{◌∙◌}
+use Rattle.std.proofs.lemmas.Result.{err_from_is_err_and}
 use Rattle.cdcl_search.proofs.searching.settle.Goals as goal
 use Rattle.cdcl_search.proofs.UnitLaws.{finds_still}
 
@@ -17,3 +18,12 @@ returns-clause-searches_on g c = record {
   conflicts = c.tell_units.ensures.same.conflicts ∙ c.propagate-found.ensures.same.2;
   log = c.in_ok-tell_units.ensures.stands_on.log;
 }
+
+pub returns-in_err-tell_units-clause-searches_on : goal.returns-in_err-tell_units-clause-searches_on
+returns-in_err-tell_units-clause-searches_on g c =
+    let fault = err_from_is_err_and c.from_residual.result c.from_residual.ensures.1 in
+    rw (fault.1, fault.2) (record {
+      stands = tt;
+      conflicts = c.tell_units.ensures.same.conflicts ∙ c.propagate-found.ensures.same.2;
+      log = c.in_err-tell_units.ensures.stands_on.log;
+    })

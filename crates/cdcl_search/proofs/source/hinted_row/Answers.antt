@@ -1,4 +1,6 @@
-use Rattle.std.proofs.Common.{sym, subst}
+use Rattle.std.proofs.Common.{refl, sym, ap, ◌∙◌, subst, ◌++◌, ◌∷◌, []}
+use Rattle.std.proofs.lemmas.Result.{err_from_is_err_and}
+use Rattle.cdcl_search.specs.GoingOn.{log_stops}
 use Rattle.conflict_learn.specs.Learning.{IsAntecedent}
 use Rattle.cdcl_search.specs.Ties.{SearchStands}
 use Rattle.cdcl_search.proofs.RowReasons.{is_named, all_assigned, gives_literal, explains, has_some, is_antecedent}
@@ -30,3 +32,14 @@ pub returns-in-Ok-clause-stands_on : goal.returns-in-Ok-clause-stands_on
 returns-in-Ok-clause-stands_on g c =
     let stands = subst (λ rows. SearchStands c.tell_reason.new.log.formula.now c.args.state.now (g.P.ParityEngine.state c.args.engine.now) rows (g.L.Sink.items c.tell_reason.new.log.sink.now)) (sym c.in-Ok.ensures.rows) c.in-Ok.ensures.stands_on.stands in
     record { stands = stands; log = c.in-Ok.ensures.stands_on.log }
+
+pub returns-in-Ok-clause-rows : goal.returns-in-Ok-clause-rows
+returns-in-Ok-clause-rows g c = c.in-Ok.ensures.rows ∙ ap (λ x. c.args.rows.now.items ++ x ∷ []) (sym c.in-Ok.ensures.clause)
+
+pub returns-in-Err : goal.returns-in-Err
+returns-in-Err g c = record { implied = tt; id = tt; same = c.in-Err.ensures.same; rows = tt; stands_on = record { stands = tt; log = c.in-Err.ensures.stands_on.log } }
+
+pub returns-in_err-reason : goal.returns-in_err-reason
+returns-in_err-reason g c =
+    let fault = err_from_is_err_and c.from_residual.result c.from_residual.ensures.1 in
+    rw (fault.1, fault.2) (record { implied = tt; id = tt; same = refl; rows = tt; stands_on = record { stands = tt; log = log_stops g.L.Sink g.met.L.Sink.keeps_itself c.args.log.now } })
