@@ -112,8 +112,22 @@ fn take_item(
     }
 }
 
-/// Takes the clauses of the formula, one after another.
-fn take_items(alloc: Global, formula: &Formula, filled: &mut Filled) -> Result<(), AllocError>
+/// A search over the variables of a formula, before its first clause.
+pub(crate) fn nothing_filled(alloc: Global, formula: &Formula) -> Result<Filled, AllocError>
+    ensures { IfOk result (λ f. IsFilledUpTo formula.now 0 f.state f.units.items f.empty) }
+{
+    let state = empty_state(alloc, formula.vars())?;
+    Ok(Filled {
+        state,
+        units: Vec::new(alloc),
+        empty: None,
+    })
+}
+
+/// Attaches the clauses of two or more different literals, and gives those of one; tautologies are left out.
+///
+/// It fails for want of memory, or where the clauses are more than an arena holds.
+pub(crate) fn fill(alloc: Global, formula: &Formula, filled: &mut Filled) -> Result<(), AllocError>
     requires few { length formula.now.constraints ≤ 4294967295 }
     requires none { IsFilledUpTo formula.now 0 filled.old.state filled.old.units.items filled.old.empty }
     ensures { OnOk result (IsFilled formula.now filled.new.state filled.new.units.items filled.new.empty) }
@@ -122,20 +136,4 @@ fn take_items(alloc: Global, formula: &Formula, filled: &mut Filled) -> Result<(
         take_item(alloc, formula, filled, place)?;
     }
     Ok(())
-}
-
-/// Attaches the clauses of two or more different literals, and gives those of one; tautologies are left out.
-///
-/// It fails for want of memory, or where the clauses are more than an arena holds.
-pub(crate) fn fill(alloc: Global, formula: &Formula) -> Result<Filled, AllocError>
-    requires { length formula.now.constraints ≤ 4294967295 }
-    ensures { IfOk result (λ f. IsFilled formula.now f.state f.units.items f.empty) }
-{
-    let mut filled = Filled {
-        state: empty_state(alloc, formula.vars())?,
-        units: Vec::new(alloc),
-        empty: None,
-    };
-    take_items(alloc, formula, &mut filled)?;
-    Ok(filled)
 }

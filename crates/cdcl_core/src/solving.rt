@@ -12,7 +12,7 @@ ghost use Rattle.cdcl_search.specs.Logs.{GoesOn, CountsAs, told_in};
 ghost use Rattle.cdcl_search.specs.Tells.{GivesUp, HaveLowIds, HasNoMark};
 ghost use Rattle.cdcl_core.specs.Beginning.{IsAtStart};
 ghost use Rattle.cdcl_core.specs.Concluding.{IsAtConflict, IsTold};
-ghost use Rattle.cdcl_core.specs.Filling.{IsFilled};
+ghost use Rattle.cdcl_core.specs.Filling.{IsFilledUpTo};
 ghost use Rattle.cdcl_core.specs.Given.{AreEngines, HasGiven};
 ghost use Rattle.cdcl_core.specs.Results.{IsRightOutcome, IsFresh, IsSettledBy};
 ghost use Rattle.cdcl_core.specs.Rounds.{IsSearching, LeavesRound, IsSettledIn};
@@ -21,7 +21,7 @@ ghost use Rattle.cdcl_core.specs.declared.solving.Outcome.TheVariants as outcome
 use crate::beginning::start;
 use crate::conflicts::{Conclusion, Conflict, conflict_clause};
 use crate::ending::{end, tell_ending};
-use crate::filling::{Filled, fill};
+use crate::filling::{Filled, fill, nothing_filled};
 use crate::jumping::jump;
 use crate::learning::learn;
 use crate::originals::tell_originals;
@@ -145,8 +145,9 @@ fn search<P: ParityEngine, L: Sink<Item = LogEvent>>(
     }
 }
 
-/// Begins a search over these clauses and parities, and searches up to the budget.
-fn search_filled<P: ParityEngine + Drop, L: Sink<Item = LogEvent>>(
+/// Fills the clauses of the formula into a search that has none yet, begins it over these parities, and searches up to the budget. Clauses of
+/// two or more different literals are attached, those of one stand on the trail at level 0, tautologies are left out.
+fn fill_and_search<P: ParityEngine + Drop, L: Sink<Item = LogEvent>>(
     log: &mut SearchLog<L>,
     filled: &mut Filled,
     parities: ParityList,
@@ -156,19 +157,19 @@ fn search_filled<P: ParityEngine + Drop, L: Sink<Item = LogEvent>>(
     requires few { length log.old.formula.now.constraints ≤ 4294967295 }
     requires given { HasGiven log.old.formula.now parities (told_in L.Sink log.old) }
     requires engines { AreEngines log.old.formula.now parities }
-    requires filled { IsFilled log.old.formula.now filled.old.state filled.old.units.items filled.old.empty }
+    requires none { IsFilledUpTo log.old.formula.now 0 filled.old.state filled.old.units.items filled.old.empty }
     ensures answers { IfOk result (λ a. IsRightOutcome log.new.formula.now budget (told_in L.Sink log.new) a) }
     ensures settled { SettledWithRecovered log.new.formula.now → IfOk result (λ a. IsSettledBy log.new.formula.now 1 (told_in L.Sink log.new) a) }
     ensures log { GoesOn L.Sink log.old (fault_in result) log.new }
 {
+    fill(log.alloc, log.formula, filled)?;
     match start::<P, L>(log, filled, parities)? {
         Some(mut engine) => search(log, &mut filled.state, &mut engine, budget),
         None => Ok(Outcome::Unsat),
     }
 }
 
-/// Tells the originals and the recovered parities, and searches up to the budget. Clauses of two or more different literals are attached, those
-/// of one stand on the trail at level 0, tautologies are left out.
+/// Tells the originals and the recovered parities, and searches up to the budget.
 fn search_from_start<P: ParityEngine + Drop, L: Sink<Item = LogEvent>>(
     log: &mut SearchLog<L>,
     budget: u64,
@@ -182,8 +183,8 @@ fn search_from_start<P: ParityEngine + Drop, L: Sink<Item = LogEvent>>(
 {
     tell_originals(log)?;
     let parities = all_parities(log)?;
-    let mut filled = fill(log.alloc, log.formula)?;
-    search_filled::<P, L>(log, &mut filled, parities, budget)
+    let mut filled = nothing_filled(log.alloc, log.formula)?;
+    fill_and_search::<P, L>(log, &mut filled, parities, budget)
 }
 
 /// Searches for values that meet the formula, up to a budget of counted conflicts, 1 to 10^18.

@@ -5,7 +5,7 @@ use Rattle.cdcl_core.proofs.solving.search_from_start.Goals as goal
 pub returns-clause-log : goal.returns-clause-log
 returns-clause-log g c =
     let given = log_then g.L.Sink g.met.L.Sink.keeps_on _ c.tell_originals.new.log _ _ c.in_ok-tell_originals.ensures.log c.in_ok-parities.ensures.log in
-    log_then g.L.Sink g.met.L.Sink.keeps_on _ c.all_parities.new.log _ _ given c.search_filled.ensures.log
+    log_then g.L.Sink g.met.L.Sink.keeps_on _ c.all_parities.new.log _ _ given c.fill_and_search.ensures.log
 
 pub returns-in_err-tell_originals : goal.returns-in_err-tell_originals
 returns-in_err-tell_originals g c =

@@ -1,7 +1,7 @@
 use Rattle.std.proofs.Common.{length, take}
 use Rattle.cx_base.specs.Problem.{clauses_of}
 use Rattle.cdcl_core.specs.Filling.{IsFilledUpTo}
-use Rattle.cdcl_core.proofs.filling.take_items.Given as goal
+use Rattle.cdcl_core.proofs.filling.fill.Given as goal
 
 -- the clauses among the constraints before this place are filled in
 abbrev pub invariant-loop-place : goal.invariant-loop-place

@@ -1,7 +1,7 @@
-use Rattle.cdcl_search.specs.GoingOn.{log_then}
+use Rattle.cdcl_search.specs.GoingOn.{log_stops, log_then}
 use Rattle.std.proofs.lemmas.Result.{err_from_is_err_and}
 use Rattle.cdcl_core.proofs.Answering.{refutes_within, unsat_is_known}
-use Rattle.cdcl_core.proofs.solving.search_filled.Goals as goal
+use Rattle.cdcl_core.proofs.solving.fill_and_search.Goals as goal
 
 pub returns-in-Some-clause-log : goal.returns-in-Some-clause-log
 returns-in-Some-clause-log g c = log_then g.L.Sink g.met.L.Sink.keeps_on _ c.start.new.log _ _ c.in_ok-engine.ensures.log c.search.ensures.log
@@ -17,5 +17,10 @@ returns-in-None g c =
 
 pub returns-in_err-engine : goal.returns-in_err-engine
 returns-in_err-engine g c =
-    let fault = err_from_is_err_and c.from_residual.result c.from_residual.ensures.1 in
+    let fault = err_from_is_err_and c.from_residual-in_err-engine.result c.from_residual-in_err-engine.ensures.1 in
     rw (fault.1, fault.2) (record { answers = tt; settled = λ s. tt; log = c.in_err-engine.ensures.log })
+
+pub returns-in_err-fill : goal.returns-in_err-fill
+returns-in_err-fill g c =
+    let fault = err_from_is_err_and c.from_residual.result c.from_residual.ensures.1 in
+    rw (fault.1, fault.2) (record { answers = tt; settled = λ s. tt; log = log_stops g.L.Sink g.met.L.Sink.keeps_itself c.args.log.now })
