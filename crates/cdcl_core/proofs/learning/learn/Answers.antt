@@ -17,15 +17,44 @@ pub tell_learned-requires-clause-lesson : goal.tell_learned-requires-clause-less
 tell_learned-requires-clause-lesson g c =
     subst (λ rs. IsLesson c.args.state.now rs c.args.conflict.lits c.in_ok-learned.learned) (sym c.deref.ensures.value) c.in_ok-learned.ensures.lesson
 
-pub returns-in_err-tell_learned-clause-log : goal.returns-in_err-tell_learned-clause-log
-returns-in_err-tell_learned-clause-log g c =
+pub returns-in_err-tell_learned : goal.returns-in_err-tell_learned
+returns-in_err-tell_learned g c =
     let fault = err_from_is_err_and c.from_residual-in_err-tell_learned.result c.from_residual-in_err-tell_learned.ensures.1 in
-    rw (fault.1, fault.2) (log_then g.L.Sink g.met.L.Sink.keeps_on _ c.lesson_of.new.log _ _ c.in_ok-learned.ensures.log c.in_err-tell_learned.ensures.log)
+    rw (fault.1, fault.2) (record {
+      learned = tt;
+      touched = tt;
+      clear = tt;
+      log = log_then g.L.Sink g.met.L.Sink.keeps_on _ c.lesson_of.new.log _ _ c.in_ok-learned.ensures.log c.in_err-tell_learned.ensures.log;
+    })
 
 pub returns-clause-log : goal.returns-clause-log
 returns-clause-log g c = log_then g.L.Sink g.met.L.Sink.keeps_on _ c.lesson_of.new.log _ _ c.in_ok-learned.ensures.log c.in_ok-tell_learned.ensures.log
 
-pub returns-in_err-learned-clause-log : goal.returns-in_err-learned-clause-log
-returns-in_err-learned-clause-log g c =
+pub returns-in_err-learned : goal.returns-in_err-learned
+returns-in_err-learned g c =
     let fault = err_from_is_err_and c.from_residual.result c.from_residual.ensures.1 in
-    rw (fault.1, fault.2) c.in_err-learned.ensures.log
+    rw (fault.1, fault.2) (record { learned = tt; touched = tt; clear = tt; log = c.in_err-learned.ensures.log })
+
+pub lesson_of-requires-clause-at : goal.lesson_of-requires-clause-at
+lesson_of-requires-clause-at g c = c.requires.at
+
+pub lesson_of-requires-clause-few_rows : goal.lesson_of-requires-clause-few_rows
+lesson_of-requires-clause-few_rows g c = c.requires.told.1
+
+pub lesson_of-requires-clause-clear : goal.lesson_of-requires-clause-clear
+lesson_of-requires-clause-clear g c = c.requires.clear
+
+pub tell_learned-requires-clause-id : goal.tell_learned-requires-clause-id
+tell_learned-requires-clause-id g c = c.requires.told.0
+
+pub tell_learned-requires-clause-few : goal.tell_learned-requires-clause-few
+tell_learned-requires-clause-few g c = c.requires.few
+
+pub returns-clause-learned : goal.returns-clause-learned
+returns-clause-learned g c = c.in_ok-tell_learned.ensures.learned
+
+pub returns-clause-touched : goal.returns-clause-touched
+returns-clause-touched g c = c.in_ok-learned.ensures.lesson.touched
+
+pub returns-clause-clear : goal.returns-clause-clear
+returns-clause-clear g c = c.in_ok-learned.ensures.clear

@@ -1,5 +1,6 @@
 use Rattle.std.proofs.Common.{subst, sym, ap, ◌∙◌, ◌+◌, take, length, arith}
 use Rattle.std.proofs.lemmas.List.{take_all}
+use Rattle.std.proofs.lemmas.Result.{err_from_is_err_and}
 use Rattle.cx_base.specs.Problem.{Problem}
 use Rattle.cdcl_search.specs.GoingOn.{log_rests, log_then}
 use Rattle.cdcl_core.specs.Originals.{HasBegun, AreCounted}
@@ -40,3 +41,11 @@ returns-clause-begun g c =
     let long = c.len-place-end.ensures.len in
     let begun = subst (λ cs. HasBegun c.args.log.now.formula.now cs (g.L.Sink.items c.loop-place.log.sink.now)) (take_all c.loop-place.place c.args.log.now.formula.now.constraints (omega (arith, far, long))) c.loop-place.invariant.begun in
     subst (λ (f : Problem). HasBegun f f.constraints (g.L.Sink.items c.loop-place.log.sink.now)) (sym c.loop-place.invariant.log.formula) begun
+
+pub returns-clause-log : goal.returns-clause-log
+returns-clause-log g c = c.loop-place.invariant.log
+
+pub returns-in_err-tell_original : goal.returns-in_err-tell_original
+returns-in_err-tell_original g c =
+    let fault = err_from_is_err_and c.from_residual.result c.from_residual.ensures.1 in
+    rw (fault.1, fault.2) (record { begun = tt; log = log_then g.L.Sink g.met.L.Sink.keeps_on _ c.loop-place.log _ _ c.loop-place.invariant.log c.in_err-tell_original.ensures.log })

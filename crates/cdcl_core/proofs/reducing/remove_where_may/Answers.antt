@@ -1,6 +1,8 @@
 use Rattle.std.proofs.Common.{sym, ap, ◌∙◌, subst, refl, ◌∷◌, [], ◌-◌}
 use Rattle.cx_base.specs.declared.steps.LogEvent.TheVariants.{Step}
 use Rattle.cx_base.specs.declared.steps.LogStep.TheVariants.{Delete}
+use Rattle.std.proofs.lemmas.Result.{err_from_is_err_and}
+use Rattle.cdcl_search.specs.GoingOn.{log_rests}
 use Rattle.cdcl_search.specs.Tells.{IsLeft, with_events}
 use Rattle.cdcl_core.specs.Reducing.{MayGo}
 use Rattle.cdcl_core.proofs.LearnedLess.{less, one_deletion_keeps, loses_is_left, loses_told}
@@ -30,3 +32,11 @@ returns g c =
       conflicts = refl;
       log = c.in_ok-tell_step.ensures.log;
     }
+
+pub returns-then-not-may_go : goal.returns-then-not-may_go
+returns-then-not-may_go g c = record { reducing = c.requires; conflicts = refl; log = log_rests g.L.Sink g.met.L.Sink.keeps_itself c.args.log.now }
+
+pub returns-in_err-tell_step : goal.returns-in_err-tell_step
+returns-in_err-tell_step g c =
+    let fault = err_from_is_err_and c.from_residual.result c.from_residual.ensures.1 in
+    rw (fault.1, fault.2) (record { reducing = tt; conflicts = refl; log = c.in_err-tell_step.ensures.log })

@@ -1,6 +1,6 @@
 use Rattle.std.proofs.Common.{◌+◌, [], subst, arith}
 use Rattle.search_steps.specs.Recovering.{SettledWithRecovered}
-use Rattle.cdcl_search.specs.GoingOn.{log_then, log_rests}
+use Rattle.cdcl_search.specs.GoingOn.{log_then, log_rests, log_stops}
 use Rattle.cdcl_core.proofs.Answering.{log_is_open, values_are_known, unsat_is_known, refutes_within}
 use Rattle.std.proofs.lemmas.Result.{err_from_is_err_and}
 use Rattle.cdcl_core.proofs.solving.conclude.Goals as goal
@@ -91,3 +91,46 @@ returns-in_err-tell_ending-in-Ending g c =
       leaves = record { goes_on = tt; one_more = tt; clear = tt; log = log_then g.L.Sink g.met.L.Sink.keeps_on _ c.conflict_clause.new.log _ _ c.in_ok-conflict.ensures.log c.in_err-tell_ending-in-Ending.ensures.log };
       at_start = λ zero. tt;
     })
+
+pub values_of-requires-clause-stands : goal.values_of-requires-clause-stands
+values_of-requires-clause-stands g c = (g.L.Sink.items c.args.log.now.sink.now, c.requires.searches.stands)
+
+pub values_of-requires-clause-quiet : goal.values_of-requires-clause-quiet
+values_of-requires-clause-quiet g c = rw c.in-Quiet.is at c.requires.reaches.finds
+
+pub values_of-requires-clause-full : goal.values_of-requires-clause-full
+values_of-requires-clause-full g c = c.requires.reaches.full c.in-Quiet.is
+
+pub conflict_clause-requires-clause-stands : goal.conflict_clause-requires-clause-stands
+conflict_clause-requires-clause-stands g c = c.requires.searches.stands
+
+pub conflict_clause-requires-clause-found : goal.conflict_clause-requires-clause-found
+conflict_clause-requires-clause-found g c = c.requires.reaches.finds
+
+pub learn_and_jump-requires-clause-at : goal.learn_and_jump-requires-clause-at
+learn_and_jump-requires-clause-at g c =
+    let k = rw c.in-Clause.is at c.in_ok-conflict.ensures.concludes in
+    record { stands = k.0; conflict = k.1; above = let above = c.if-level-gt0.true in let level = c.level.ensures.level in omega (arith, above, level) }
+
+pub learn_and_jump-requires-clause-told : goal.learn_and_jump-requires-clause-told
+learn_and_jump-requires-clause-told g c = (rw c.in-Clause.is at c.in_ok-conflict.ensures.concludes).2
+
+pub end-requires-clause-stands : goal.end-requires-clause-stands
+end-requires-clause-stands g c = (rw c.in-Clause.is at c.in_ok-conflict.ensures.concludes).0
+
+pub end-requires-clause-conflict : goal.end-requires-clause-conflict
+end-requires-clause-conflict g c = (rw c.in-Clause.is at c.in_ok-conflict.ensures.concludes).1
+
+pub end-requires-clause-id : goal.end-requires-clause-id
+end-requires-clause-id g c = (rw c.in-Clause.is at c.in_ok-conflict.ensures.concludes).2.0
+
+pub end-requires-clause-all : goal.end-requires-clause-all
+end-requires-clause-all g c = c.requires.reaches.units (let low = c.if-level-gt0.false in let level = c.level.ensures.level in omega (arith, low, level))
+
+pub tell_ending-requires : goal.tell_ending-requires
+tell_ending-requires g c = (rw c.in-Ending.is at c.in_ok-conflict.ensures.concludes).1
+
+pub returns-in_err-values : goal.returns-in_err-values
+returns-in_err-values g c =
+    let fault = err_from_is_err_and c.from_residual.result c.from_residual.ensures.1 in
+    rw (fault.1, fault.2) (record { leaves = record { goes_on = tt; one_more = tt; clear = tt; log = log_stops g.L.Sink g.met.L.Sink.keeps_itself c.args.log.now }; at_start = λ zero. tt })

@@ -1,4 +1,5 @@
-use Rattle.std.proofs.Common.{◌≡◌, ◌∙◌, ◌+◌, subst, IfOk}
+use Rattle.std.proofs.Common.{◌≡◌, ◌∙◌, ◌+◌, subst, IfOk, arith}
+use Rattle.std.proofs.lemmas.Result.{err_from_is_err_and}
 use Rattle.std.specs.Prelude.{MatchOption}
 use Rattle.search_steps.specs.Recovering.{SettledWithRecovered}
 use Rattle.cdcl_search.specs.GoingOn.{log_then}
@@ -23,3 +24,18 @@ returns-clause-settled g c = λ s level.
     let told = g.L.Sink.items c.conclude.new.log.sink.now in
     subst (λ n. IsSettledIn c.conclude.new.log.formula.now n told c.conclude.result) c.search_on.ensures.searches_on.conflicts
     (c.conclude.ensures.at_start (c.in_ok-found.ensures.settled (subst SettledWithRecovered c.conclude.ensures.leaves.log.formula s) ∙ level))
+
+pub conclude-requires-clause-searches : goal.conclude-requires-clause-searches
+conclude-requires-clause-searches g c = record {
+  stands = c.in_ok-found.ensures.searches_on.stands;
+  few = (let same = c.search_on.ensures.searches_on.conflicts in let few = c.requires.searches.few.0 in omega (arith, same, few), c.requires.searches.few.1);
+  clear = c.requires.searches.clear;
+}
+
+pub conclude-requires-clause-reaches : goal.conclude-requires-clause-reaches
+conclude-requires-clause-reaches g c = c.in_ok-found.ensures.reaches
+
+pub returns-in_err-found : goal.returns-in_err-found
+returns-in_err-found g c =
+    let fault = err_from_is_err_and c.from_residual.result c.from_residual.ensures.1 in
+    rw (fault.1, fault.2) (record { leaves = record { goes_on = tt; one_more = tt; clear = tt; log = c.in_err-found.ensures.searches_on.log }; settled = λ s level. tt })

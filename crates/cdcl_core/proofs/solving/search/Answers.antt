@@ -1,6 +1,6 @@
-use Rattle.std.proofs.Common.{◌+◌, ◌<◌, ◌∙◌, sym, subst}
+use Rattle.std.proofs.Common.{◌+◌, ◌<◌, ◌∙◌, sym, subst, arith}
 use Rattle.search_steps.specs.Recovering.{SettledWithRecovered}
-use Rattle.cdcl_search.specs.GoingOn.{log_then}
+use Rattle.cdcl_search.specs.GoingOn.{log_rests, log_then}
 use Rattle.cdcl_core.specs.Results.{IsSettledBy}
 use Rattle.std.proofs.lemmas.Result.{err_from_is_err_and}
 use Rattle.cdcl_core.proofs.solving.search.Goals as goal
@@ -32,16 +32,44 @@ returns-in-Some-clause-settled g c s =
     let h : IsSettledBy c.round.new.log.formula.now (c.loop-marks.state.conflicts + 1) told c.in-Some.outcome = rw c.in-Some.is at (c.in_ok-outcome.ensures.settled s i.0) in
     subst (λ n. IsSettledBy c.round.new.log.formula.now (n + 1) told c.in-Some.outcome) i.1 h
 
-pub returns-in_err-follow_schedule-clause-log : goal.returns-in_err-follow_schedule-clause-log
-returns-in_err-follow_schedule-clause-log g c =
+pub returns-in_err-follow_schedule : goal.returns-in_err-follow_schedule
+returns-in_err-follow_schedule g c =
     let before = log_then g.L.Sink g.met.L.Sink.keeps_on _ c.loop-marks.log _ _ c.loop-marks.invariant.log c.in_ok-outcome.ensures.leaves.log in
     let fault = err_from_is_err_and c.from_residual-in_err-follow_schedule.result c.from_residual-in_err-follow_schedule.ensures.1 in
-    rw (fault.1, fault.2) (log_then g.L.Sink g.met.L.Sink.keeps_on _ c.round.new.log _ _ before c.in_err-follow_schedule.ensures.searches_on.log)
+    rw (fault.1, fault.2) (record { answers = tt; settled = λ s. tt; log = log_then g.L.Sink g.met.L.Sink.keeps_on _ c.round.new.log _ _ before c.in_err-follow_schedule.ensures.searches_on.log })
 
-pub returns-in_err-outcome-clause-log : goal.returns-in_err-outcome-clause-log
-returns-in_err-outcome-clause-log g c =
+pub returns-in_err-outcome : goal.returns-in_err-outcome
+returns-in_err-outcome g c =
     let fault = err_from_is_err_and c.from_residual.result c.from_residual.ensures.1 in
-    rw (fault.1, fault.2) (log_then g.L.Sink g.met.L.Sink.keeps_on _ c.loop-marks.log _ _ c.loop-marks.invariant.log c.in_err-outcome.ensures.leaves.log)
+    rw (fault.1, fault.2) (record { answers = tt; settled = λ s. tt; log = log_then g.L.Sink g.met.L.Sink.keeps_on _ c.loop-marks.log _ _ c.loop-marks.invariant.log c.in_err-outcome.ensures.leaves.log })
 
 pub returns-in-Some-clause-log : goal.returns-in-Some-clause-log
 returns-in-Some-clause-log g c = log_then g.L.Sink g.met.L.Sink.keeps_on _ c.loop-marks.log _ _ c.loop-marks.invariant.log c.in_ok-outcome.ensures.leaves.log
+
+pub returns-in-Some-clause-answers : goal.returns-in-Some-clause-answers
+returns-in-Some-clause-answers g c = rw c.in-Some.is at c.in_ok-outcome.ensures.leaves.goes_on
+
+pub round-requires-clause-searches : goal.round-requires-clause-searches
+round-requires-clause-searches g c =
+    let i = c.loop-marks.invariant in
+    record { stands = i.goes_on.stands; few = (i.goes_on.fewer, c.requires.budget.1); clear = i.clear }
+
+pub round-requires-clause-unbroken : goal.round-requires-clause-unbroken
+round-requires-clause-unbroken g c = c.loop-marks.invariant.goes_on.unbroken
+
+pub follow_schedule-requires : goal.follow_schedule-requires
+follow_schedule-requires g c =
+    let goes_on = rw c.in_default.is at c.in_ok-outcome.ensures.leaves.goes_on in
+    record { stands = goes_on.stands; unbroken = goes_on.unbroken }
+
+pub loop-marks-init : goal.loop-marks-init
+loop-marks-init g c = record {
+  goes_on = record {
+    stands = c.requires.begins.stands;
+    unbroken = c.requires.begins.unbroken;
+    fewer = let none = c.requires.begins.none in let some = c.requires.budget.0 in omega (arith, none, some);
+  };
+  settled = λ s. (c.requires.begins.level, c.requires.begins.none);
+  clear = c.new-marks.ensures;
+  log = log_rests g.L.Sink g.met.L.Sink.keeps_itself c.args.log.now;
+}
