@@ -105,9 +105,9 @@ fn prepare(
         sources,
         clause,
     } = reason;
+    let copy = copy_of(alloc, clause.as_slice())?;
     let mut steps = sum_and_clause(alloc, ids, &parity, sources, &clause)?;
     steps.push(deletion_of_sum(alloc, ids.sum))?;
-    let copy = copy_of(alloc, clause.as_slice())?;
     Ok(Prepared {
         steps,
         clause,

@@ -1,4 +1,5 @@
-use Rattle.std.proofs.Common.{◌≡◌, sym, ap, ◌∙◌, subst, length, arith, rules}
+use Rattle.std.proofs.Common.{◌≡◌, sym, ap, ◌∙◌, subst, length, arith}
+use Rattle.std.proofs.lemmas.Result.{err_from_is_err_and}
 use Rattle.cx_trail.specs.Sequence.{entry_at}
 use Rattle.cdcl_search.specs.Ties.{SearchStands, SearchStandsFrom}
 use Rattle.cdcl_search.specs.Sources.{IsSourced}
@@ -31,8 +32,15 @@ pub delete_rows-requires : goal.delete_rows-requires
 delete_rows-requires g c =
     subst (λ rows. SearchStandsFrom c.tell_unit.new.log.formula.now c.tell_unit.new.state (g.P.ParityEngine.state c.args.engine.now) c.tell_unit.new.state.next rows (g.L.Sink.items c.tell_unit.new.log.sink.now)) (c.deref.ensures.value ∙ sym c.deref-2.ensures.value) c.in_ok-tell_unit.ensures.to_delete.stands
 
+pub returns-in_err-implying-clause-stands_on : goal.returns-in_err-implying-clause-stands_on
+returns-in_err-implying-clause-stands_on g c =
+    let fault = err_from_is_err_and c.from_residual.result c.from_residual.ensures.1 in
+    rw (fault.1, fault.2) (record { stands = tt; log = c.in_err-implying.ensures.stands_on.log })
+
 pub returns-in_err-tell_unit-clause-stands_on : goal.returns-in_err-tell_unit-clause-stands_on
-returns-in_err-tell_unit-clause-stands_on g c = record { stands = search rules; log = log_then g.L.Sink g.met.L.Sink.keeps_on _ c.clause_of_reason.new.log _ _ c.in_ok-implying.ensures.stands_on.log (search rules) }
+returns-in_err-tell_unit-clause-stands_on g c =
+    let fault = err_from_is_err_and c.from_residual-in_err-tell_unit.result c.from_residual-in_err-tell_unit.ensures.1 in
+    rw (fault.1, fault.2) (record { stands = tt; log = log_then g.L.Sink g.met.L.Sink.keeps_on _ c.clause_of_reason.new.log _ _ c.in_ok-implying.ensures.stands_on.log c.in_err-tell_unit.ensures.to_delete.log })
 
 pub returns-clause-stands_on : goal.returns-clause-stands_on
 returns-clause-stands_on g c = record {

@@ -49,3 +49,8 @@ overflow_add-state g c =
     let ids = has_ids c.args.log.now.formula.now c.args.state.now (g.P.ParityEngine.state c.args.engine.now) c.args.rows.now (g.L.Sink.items c.args.log.now.sink.now) c.requires.stands in
     let high : c.args.state.now.next ≤ 2000000000000000000 = ids.next.1 in
     omega (arith, high)
+
+pub returns-in_err-tell_chained-clause-to_delete : goal.returns-in_err-tell_chained-clause-to_delete
+returns-in_err-tell_chained-clause-to_delete g c =
+    let fault = err_from_is_err_and c.from_residual-in_err-tell_chained.result c.from_residual-in_err-tell_chained.ensures.1 in
+    rw (fault.1, fault.2) (record { stands = tt; log = c.in_err-tell_chained.ensures.log })
