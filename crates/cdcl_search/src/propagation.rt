@@ -28,7 +28,7 @@ pub enum Found {
 }
 
 /// What the rows say.
-#[derive(Clone, Copy, Debug, Drop)]
+#[derive(Clone, Copy, Drop)]
 pub(crate) enum RowFinding {
     Quiet,
     /// A literal was implied, and stands on the trail now.
