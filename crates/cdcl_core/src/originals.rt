@@ -14,7 +14,7 @@ use cx_base::{ConstraintRef, LogEvent};
 use step_text::Sink;
 
 /// How many clauses and how many parities were told.
-#[derive(Clone, Copy, Debug, Drop)]
+#[derive(Clone, Copy, Drop)]
 struct Counts {
     clauses: u64,
     parities: u64,
