@@ -1,5 +1,5 @@
 -- The clauses of a source implied the literals.
-use Rattle.std.proofs.Common.{◌≡◌, sym, ap, ◌∙◌, subst, ℕ, ◌+◌, ◌<◌, ◌≤◌, List, [], ◌∷◌, ◌++◌, length, Contains, arith, inl, inr, length-append, length-take, zero, suc, get_or, Some}
+use Rattle.std.proofs.Common.{◌≡◌, refl, sym, ap, ◌∙◌, subst, ℕ, ◌+◌, ◌<◌, ◌≤◌, List, [], ◌∷◌, ◌++◌, length, Contains, arith, inl, inr, length-append, length-take, zero, suc, get_or, Some}
 use Rattle.std.proofs.Math.ListN.{get_or-append}
 use Rattle.cx_base.specs.Literals.{Literal, negate, same_literal}
 use Rattle.cx_base.proofs.LiteralLaws.{negate-negate}
@@ -57,6 +57,12 @@ module _ (c : SearchState) (e : State) (have : HaveReasons c e) (sound : IsTrail
             let short = f.1.0 in
             (f.0, omega (arith, few, short, one), ap (λ x. x.literal) (sym (entry_taken c.trail.entries place f.0 f.1.0)) ∙ f.1.1);
       })
+
+  -- above level 0 no literal is there by a decision
+  pub no_decision : HasReason c.trail l reason.Decision → ⊥
+  no_decision h =
+      let above : 0 < (entry_at c.trail.entries place).level = why_at reason.Decision h in
+      h.4 (subst (λ p. 0 < (entry_at c.trail.entries p).level) (only_place c.trail sound l place less at h.0 h.1 h.2) above) refl
 
 -- ---- what is sourced
 pub stored_is_sourced : (c : SearchState) (r : ℕ) → IsLive c.arena r → (rows : List (List Literal)) (clause : List Literal) → clause ≡ literals_at c.arena r → IsSourced c rows clause

@@ -1,8 +1,10 @@
-use Rattle.std.proofs.Common.{◌<◌, ◌≤◌, subst, ap, ◌∙◌, arith, inl, inr}
+use Rattle.std.proofs.Common.{◌<◌, ◌≤◌, subst, sym, ap, ◌∙◌, arith, inl, inr}
+use Rattle.cx_base.proofs.LiteralLaws.{negate-negate}
+use Rattle.cx_trail.specs.Sequence.{IsTrueIn}
 use Rattle.conflict_learn.specs.Learning.{HasReason}
 use Rattle.cdcl_search.specs.declared.source.Hinted.{Hinted}
 use Rattle.cdcl_search.proofs.LowIds.{has_ids}
-use Rattle.cdcl_search.proofs.SourceLaws.{clause_is_live, clause_is_antecedent, stored_is_sourced, row_is_reason, last_is_sourced, sourced_grows, one_more}
+use Rattle.cdcl_search.proofs.SourceLaws.{no_decision, clause_is_live, clause_is_antecedent, stored_is_sourced, row_is_reason, last_is_sourced, sourced_grows, one_more}
 use Rattle.std.proofs.lemmas.Result.{err_from_is_err_and}
 use Rattle.cdcl_search.specs.GoingOn.{log_rests, log_stops}
 use Rattle.cdcl_search.proofs.source.clause_of_reason.Goals as goal
@@ -99,3 +101,27 @@ returns-in-Row-clause-id g c = c.hinted_row.ensures.id
 
 pub returns-in-Row-clause-stands_on : goal.returns-in-Row-clause-stands_on
 returns-in-Row-clause-stands_on g c = c.hinted_row.ensures.stands_on
+
+pub unreachable-requires : goal.unreachable-requires
+unreachable-requires g c =
+    let low : c.len.result ≤ c.place_of-place.result = c.if-place-len.false in
+    let is = c.len.ensures in
+    no_decision c.args.state.now (g.P.ParityEngine.state c.args.engine.now) c.requires.stands.3.reasons c.place_of-place.ensures.sound c.args.literal c.place_of-place.result c.place_of-place.ensures.within
+    (c.place_of-place.ensures.negated ∙ ap Rattle.cx_base.specs.Literals.negate c.negate.ensures) (omega (arith, low, is)) (subst (HasReason c.args.state.now.trail c.args.literal) c.in-Decision.is c.requires.reason)
+
+pub returns-then-place-len-clause-id : goal.returns-then-place-len-clause-id
+returns-then-place-len-clause-id g c = c.in_ok-unit.ensures.id
+
+pub returns-then-place-len-clause-one : goal.returns-then-place-len-clause-one
+returns-then-place-len-clause-one g c = omega arith
+
+pub returns-in_ok-stored-in-Clause-clause-id : goal.returns-in_ok-stored-in-Clause-clause-id
+returns-in_ok-stored-in-Clause-clause-id g c = c.in_ok-stored-in-Clause.ensures.id
+
+pub returns-in_ok-stored-in-Clause-clause-one : goal.returns-in_ok-stored-in-Clause-clause-one
+returns-in_ok-stored-in-Clause-clause-one g c = omega arith
+
+pub place_of-place-requires : goal.place_of-place-requires
+place_of-place-requires g c =
+    let h = c.requires.reason in
+    subst (IsTrueIn c.args.state.now.trail.entries) (sym (ap Rattle.cx_base.specs.Literals.negate c.negate.ensures ∙ negate-negate c.args.literal)) (h.0, (h.1, h.2))
