@@ -1,6 +1,6 @@
 //! The command line as clap is given it.
 ghost use Rattle.std.specs.Prelude.{◌≡◌, false, IfOk};
-ghost use Rattle.clap.specs.Words.{app_of, rule_of};
+ghost use Rattle.clap.specs.Words.{App, app_of, rule_of, with_subcommand};
 ghost use Rattle.clap.specs.declared.builder.Command.TheViews.{out-Command as fields_of};
 ghost use Rattle.cx_words.specs.CommandLine as line;
 
@@ -66,15 +66,27 @@ fn demo<'a>(alloc: Global) -> Result<Command<'a>, AllocError>
         .arg(needed(alloc, "seed"))
 }
 
+/// The command with one more command below it, where there was memory to make that one.
+fn with<'a>(
+    command: Command<'a>,
+    sub: Result<Command<'a>, AllocError>,
+) -> Result<Command<'a>, AllocError>
+    ensures { (a s : App) → app_of command.entry ≡ a → IfOk sub.entry (λ c. (app_of c ≡ s) × ((fields_of c).has_globals ≡ false)) → IfOk result (λ c. app_of c ≡ with_subcommand a s.top) }
+{
+    match sub {
+        Ok(sub) => command.subcommand(sub),
+        Err(err) => Err(err),
+    }
+}
+
 /// The whole command line. It has to name a command.
 pub(crate) fn cxsat<'a>(alloc: Global) -> Result<Command<'a>, AllocError>
     ensures { IfOk result (λ c. app_of c ≡ line.cxsat) }
 {
-    Command::new(alloc, "cxsat")
-        .subcommand_required(true)
-        .subcommand(solve(alloc)?)?
-        .subcommand(check(alloc)?)?
-        .subcommand(elab(alloc)?)?
-        .subcommand(model(alloc)?)?
-        .subcommand(demo(alloc)?)
+    let command = Command::new(alloc, "cxsat").subcommand_required(true);
+    let command = with(command, solve(alloc))?;
+    let command = with(command, check(alloc))?;
+    let command = with(command, elab(alloc))?;
+    let command = with(command, model(alloc))?;
+    with(command, demo(alloc))
 }

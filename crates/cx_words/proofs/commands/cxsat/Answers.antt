@@ -1,15 +1,13 @@
 use Rattle.std.proofs.Common.{rules, ◌≡◌}
-use Rattle.std.proofs.lemmas.Result.{IfOk-weaker}
 use Rattle.clap.specs.Words.{app_of}
 use Rattle.cx_words.specs.CommandLine as line
-use Rattle.cx_words.proofs.Builds.{adds}
 use Rattle.cx_words.proofs.commands.cxsat.Goals as goal
 
 pub returns : goal.returns
 returns c =
-    let a : app_of c.subcommand_required.result ≡ line.bare = search rules in
-    let b = adds _ _ _ _ _ c.in_ok-subcommand.ensures a c.in_ok-solve.ensures in
-    let d = adds _ _ _ _ _ c.in_ok-subcommand-2.ensures b c.in_ok-check.ensures in
-    let e = adds _ _ _ _ _ c.in_ok-subcommand-3.ensures d c.in_ok-elab.ensures in
-    let f = adds _ _ _ _ _ c.in_ok-subcommand-4.ensures e c.in_ok-model.ensures in
-    IfOk-weaker _ _ _ (λ r h. adds _ _ _ _ _ h f c.in_ok-demo.ensures) c.subcommand-5.ensures
+    let a : app_of c.subcommand_required-command.result ≡ line.bare = search rules in
+    let one = c.in_ok-command.ensures _ line.solve a c.solve.ensures in
+    let two = c.in_ok-command-2.ensures _ line.check one c.check.ensures in
+    let three = c.in_ok-command-3.ensures _ line.elab two c.elab.ensures in
+    let four = c.in_ok-command-4.ensures _ line.model three c.model.ensures in
+    c.with-5.ensures _ line.demo four c.demo.ensures
