@@ -2,7 +2,7 @@
 use Rattle.std.proofs.Common.{◌≡◌, ◌≢◌, refl, sym, ap, ◌∙◌, subst, ℕ, ◌+◌, ◌-◌, ◌*◌, ◌<◌, ◌≤◌, Bool, true, false, List, [], ◌∷◌, ◌++◌, length, drop, Option, Some, None, Ok, Err, Result, IfSome, option_map, nat_lt, arith, append-nil, length-append, length-drop}
 use Rattle.cx_base.specs.Drafts.{Draft}
 use Rattle.cx_base.specs.Endings.{finished}
-use Rattle.cx_base.specs.Problem.{greatest_variable}
+use Rattle.cx_base.specs.Problem.{Problem, greatest_variable}
 use Rattle.cx_base.specs.declared.constraint.Constraint.{Constraint}
 use Rattle.cx_desk.specs.declared.desk.Slot.{Slot}
 use Rattle.cx_desk.specs.declared.desk.Slot.TheVariants.{Formula, Second}
@@ -19,11 +19,12 @@ use Rattle.cx_texts.specs.Tokens.{Token}
 use Rattle.cx_texts.specs.declared.line_state.LineState.TheVariants.{Start}
 use Rattle.cx_texts.specs.declared.offence.Offence.{Offence}
 use Rattle.cnfx_reader.specs.Body.{Outcome}
-use Rattle.cnfx_reader.specs.FromSlot.{FromFails, from_read, from_desk, from_drained}
+use Rattle.cnfx_reader.specs.FromSlot.{FromFails, ReadsFrom, from_read, from_desk, from_drained}
 use Rattle.cnfx_reader.specs.PieceSteps.{answer_from, behind_header, IsRefusedBy, IsWhole}
 use Rattle.cnfx_reader.specs.ReadsTo.{IsRefusedAs}
 use Rattle.cnfx_reader.specs.SlotFormula.{answer_of, answer_of_text, PassedBytes, GoesOn, IsLast, fresh, HasRead}
 use Rattle.cnfx_reader.specs.TokensLeft.{formula_tokens_from, formula_tokens_in, formula_tokens_within}
+use Rattle.cnfx_reader.specs.declared.from_refusal.FromRefusal.{FromRefusal}
 use Rattle.cnfx_reader.specs.declared.header_token.HeaderPart.TheVariants.{P}
 use Rattle.cnfx_reader.specs.declared.piece.Phase.TheVariants.{Head}
 use Rattle.cnfx_reader.specs.declared.refusal.ReadRefusal.{ReadRefusal}
@@ -242,3 +243,12 @@ module _ (slot : Slot) (limit : ℕ) (o : Outside) where
 
 pub started_later : (slot : Slot) (limit : ℕ) (o : Outside) (s : SlotFormula) (p : Outside) → HasRead slot limit o s p → started_in slot o.started ≡ true → started_in s.bytes.slot p.started ≡ true
 started_later slot limit o s p h e = (λ i. started_in (h.same_slot i) ((ap (λ (x : Outside). x.started) h.moved) i)) ∙ e
+
+-- ---- a reader that has read nothing yet
+
+module _ (slot : Slot) (limit : ℕ) (o : Outside) (s : SlotFormula) (h : HasRead slot limit o s o) where
+  pub at_first : HasRead s.bytes.slot s.bytes.limit o s o
+  at_first = subst (λ (k : Slot). HasRead k s.bytes.limit o s o) (sym h.same_slot) (subst (λ n. HasRead slot n o s o) (sym h.same_limit) h)
+
+  pub told_at_first : (r : Result Problem FromRefusal) (q : Outside) → ReadsFrom s.bytes.slot s.bytes.limit o r q → ReadsFrom slot limit o r q
+  told_at_first r q k = subst (λ (k : Slot). ReadsFrom k limit o r q) h.same_slot (subst (λ n. ReadsFrom s.bytes.slot n o r q) h.same_limit k)

@@ -95,6 +95,26 @@ impl SlotFormula {
         let rest = self.bytes.bytes();
         Ok(take_rest(&mut self.builder, rest, place, self.phase, len)?)
     }
+
+    /// Reads the rest of the text, and gives the header's number of variables.
+    fn read_all<D: Desk>(&mut self, desk: &mut D) -> Result<u32, FromRefusal>
+        requires started { started_in self.old.bytes.slot (D.outside desk.old).started ≡ true }
+        requires begun { HasRead self.old.bytes.slot self.old.bytes.limit (D.outside desk.old) self.old (D.outside desk.old) }
+        ensures within { IfOk result (λ v. (v ≤ MAX_VARIABLE) × (self.new.builder.unfinished ≡ [])) }
+        ensures reads { ReadsFrom self.old.bytes.slot self.old.bytes.limit (D.outside desk.old) (formula_of result self.new.builder) (D.outside desk.new) }
+    {
+        loop {
+            let is_last = self.pass_blanks();
+            if is_last {
+                return self.read_end(desk);
+            }
+            match self.take() {
+                Ok(true) => {}
+                Ok(false) => self.bytes.read_twice(desk)?,
+                Err(refusal) => return Err(refused(&self.bytes, desk, refusal)),
+            }
+        }
+    }
 }
 
 /// Reads the rest of a refused text, since it may be too long, which goes before its offence.
@@ -129,16 +149,6 @@ pub fn read_formula_from<D: Desk>(
     ensures { ReadsFrom slot limit (D.outside desk.old) result (D.outside desk.new) }
 {
     let mut reader = SlotFormula::new(alloc, slot, limit);
-    loop {
-        let is_last = reader.pass_blanks();
-        if is_last {
-            let vars = reader.read_end(desk)?;
-            return Ok(reader.builder.finish(vars));
-        }
-        match reader.take() {
-            Ok(true) => {}
-            Ok(false) => reader.bytes.read_twice(desk)?,
-            Err(refusal) => return Err(refused(&reader.bytes, desk, refusal)),
-        }
-    }
+    let vars = reader.read_all(desk)?;
+    Ok(reader.builder.finish(vars))
 }

@@ -1,56 +1,24 @@
-use Rattle.std.proofs.Common.{refl, rules}
-use Rattle.cnfx_reader.proofs.SlotFormulaLaws.{goes, reads, stops, started_later}
+use Rattle.std.proofs.Common.{Ok, Err, rules}
+use Rattle.cnfx_reader.specs.FromSlot.{formula_of}
+use Rattle.cnfx_reader.proofs.SlotFormulaLaws.{at_first, started_later, told_at_first}
 use Rattle.cnfx_reader.proofs.slot_formula.read_formula_from.Goals as goal
 
-pub loop-reader-init : goal.loop-reader-init
-loop-reader-init g c =
+pub read_all-requires : goal.read_all-requires
+read_all-requires g c =
     let o = g.D.Desk.outside c.args.desk.now in
+    let s = c.new-reader.result in
     let read = c.new-reader.ensures o in
-    record { read = read; started = started_later c.args.slot c.args.limit o c.new-reader.result o read c.requires.started }
-
-pub loop-reader-preserved-in-Ok-true : goal.loop-reader-preserved-in-Ok-true
-loop-reader-preserved-in-Ok-true g c =
-    let o = g.D.Desk.outside c.args.desk.now in
-    let mid = g.D.Desk.outside c.loop-reader.desk in
-    let behind = goes c.args.slot c.args.limit o c.loop-reader.reader mid c.loop-reader.invariant.read c.pass_blanks-is_last.new.self (c.pass_blanks-is_last.ensures.on c.if-is_last.false) in
-    let read = goes c.args.slot c.args.limit o c.pass_blanks-is_last.new.self mid behind c.take.new.self c.in-Ok-true.ensures.0 in
-    record { read = read; started = started_later c.args.slot c.args.limit o c.take.new.self mid read c.requires.started }
-
-pub loop-reader-preserved : goal.loop-reader-preserved
-loop-reader-preserved g c =
-    let o = g.D.Desk.outside c.args.desk.now in
-    let mid = g.D.Desk.outside c.loop-reader.desk in
-    let new = g.D.Desk.outside c.read_twice.new.desk in
-    let behind = goes c.args.slot c.args.limit o c.loop-reader.reader mid c.loop-reader.invariant.read c.pass_blanks-is_last.new.self (c.pass_blanks-is_last.ensures.on c.if-is_last.false) in
-    let taken = goes c.args.slot c.args.limit o c.pass_blanks-is_last.new.self mid behind c.take.new.self c.in-Ok-false.ensures.0 in
-    let more = c.in_ok-read_twice-in-Ok-false.ensures in
-    let read = reads c.args.slot c.args.limit o c.take.new.self mid taken c.read_twice.new.self new more.read more.within in
-    record { read = read; started = started_later c.args.slot c.args.limit o _ new read c.requires.started }
-
-pub returns-in_err-read_twice-in-Ok-false : goal.returns-in_err-read_twice-in-Ok-false
-returns-in_err-read_twice-in-Ok-false g c =
-    let o = g.D.Desk.outside c.args.desk.now in
-    let mid = g.D.Desk.outside c.loop-reader.desk in
-    let new = g.D.Desk.outside c.read_twice.new.desk in
-    let behind = goes c.args.slot c.args.limit o c.loop-reader.reader mid c.loop-reader.invariant.read c.pass_blanks-is_last.new.self (c.pass_blanks-is_last.ensures.on c.if-is_last.false) in
-    let taken = goes c.args.slot c.args.limit o c.pass_blanks-is_last.new.self mid behind c.take.new.self c.in-Ok-false.ensures.0 in
-    let failed = stops c.args.slot c.args.limit o c.take.new.self mid taken c.in_err-read_twice-in-Ok-false.field-0.0 c.read_twice.new.self new c.in_err-read_twice-in-Ok-false.ensures.read in
-    search rules
-
-pub returns-in-Err : goal.returns-in-Err
-returns-in-Err g c =
-    let o = g.D.Desk.outside c.args.desk.now in
-    let mid = g.D.Desk.outside c.loop-reader.desk in
-    let behind = goes c.args.slot c.args.limit o c.loop-reader.reader mid c.loop-reader.invariant.read c.pass_blanks-is_last.new.self (c.pass_blanks-is_last.ensures.on c.if-is_last.false) in
-    c.refused.ensures c.args.slot c.args.limit o c.pass_blanks-is_last.new.self c.take.new.self behind c.in-Err.ensures refl
+    record { started = started_later c.args.slot c.args.limit o s o read c.requires.started; begun = at_first c.args.slot c.args.limit o s read }
 
 pub returns-in_err-vars : goal.returns-in_err-vars
 returns-in_err-vars g c =
     let o = g.D.Desk.outside c.args.desk.now in
-    let failed = c.in_err-vars.ensures.reads c.args.slot c.args.limit o c.loop-reader.reader c.loop-reader.invariant.read (c.pass_blanks-is_last.ensures.last c.if-is_last.true) in
+    let s = c.new-reader.result in
+    let failed = told_at_first c.args.slot c.args.limit o s (c.new-reader.ensures o) (Err c.in_err-vars.field-0.0) (g.D.Desk.outside c.read_all.new.desk) c.in_err-vars.ensures.reads in
     search rules
 
-pub returns-then-is_last : goal.returns-then-is_last
-returns-then-is_last g c =
+pub returns : goal.returns
+returns g c =
     let o = g.D.Desk.outside c.args.desk.now in
-    rw c.finish.ensures (c.in_ok-vars.ensures.reads c.args.slot c.args.limit o c.loop-reader.reader c.loop-reader.invariant.read (c.pass_blanks-is_last.ensures.last c.if-is_last.true))
+    let s = c.new-reader.result in
+    rw c.finish.ensures (told_at_first c.args.slot c.args.limit o s (c.new-reader.ensures o) (formula_of (Ok c.in_ok-vars.vars) c.read_all.new.self.builder) (g.D.Desk.outside c.read_all.new.desk) c.in_ok-vars.ensures.reads)
