@@ -252,3 +252,17 @@ module _ (slot : Slot) (limit : ℕ) (o : Outside) (s : SlotFormula) (h : HasRea
 
   pub told_at_first : (r : Result Problem FromRefusal) (q : Outside) → ReadsFrom s.bytes.slot s.bytes.limit o r q → ReadsFrom slot limit o r q
   told_at_first r q k = subst (λ (k : Slot). ReadsFrom k limit o r q) h.same_slot (subst (λ n. ReadsFrom s.bytes.slot n o r q) h.same_limit k)
+
+-- ---- what a call of the desk requires
+
+abbrev pub IsReady : BytesState → Outside → Type 0
+IsReady b p = (started_in b.slot p.started ≡ true) × (taken_by b ≤ b.limit)
+
+pub ready : (slot : Slot) (limit : ℕ) (o : Outside) (s : SlotFormula) (p : Outside) → HasRead slot limit o s p → started_in slot o.started ≡ true → IsReady s.bytes p
+ready slot limit o s p h started = (started_later slot limit o s p h started, omega (arith, h.few, h.same_limit))
+
+pub ready_behind : (s t : BytesState) (p : Outside) → PassedBytes s t → IsReady s p → IsReady t p
+ready_behind s t p passed r = (
+  ap (λ (k : Slot). started_in k p.started) (passed_slot s t passed) ∙ r.0,
+  omega (arith, passed_taken s t passed, passed_limit s t passed, r.1),
+)
