@@ -1,5 +1,5 @@
 use Rattle.std.proofs.Common.{◌≡◌, ℕ, ◌<◌, List, length, map, nat_lt, sym, ◌∙◌, subst}
-use Rattle.search_policy.specs.Heaps.{item_at, HasOpenOnes}
+use Rattle.search_policy.specs.Heaps.{item_at, HasOpenOnes, IsOrder}
 use Rattle.search_policy.specs.Standing.{OrderState, AllStand}
 use Rattle.search_policy.proofs.StandLaws.{open_ones, stand_of, back_stand}
 use Rattle.search_policy.proofs.order.Order.back_to.Goals.{After-put_back-self-inside}
@@ -27,3 +27,26 @@ pub returns-clause-back : goal.returns-clause-back
 returns-clause-back c = λ u b.
     let put = (goal.at.returns-clause-back c).After-put_back-self-inside in
     stand_of _ _ _ _ u ((stood put).variables ∙ sym b.variables) (long put) (back_stand _ c.args.level _ _ _ _ c.args.trail.now u b (open_stood put) (stays put) c.put_back-self-inside.ensures.put)
+
+pub put_back-self-inside-requires : goal.put_back-self-inside-requires
+put_back-self-inside-requires c =
+    let i = c.self.invariant in
+    let variables = subst (λ (o : OrderState). length o.scores ≡ c.args.trail.now.variables) (sym c.self.view_is) c.requires.variables in
+    rw c.as_slice.ensures.value
+    (record {
+      shuffled = i.2.shuffled;
+      few = i.0;
+      variables = variables;
+      count = i.2.few;
+      heap = i.2.heap;
+    })
+
+pub invariant_of-self : goal.invariant_of-self
+invariant_of-self c =
+    let i = c.self.invariant in
+    let e = c.put_back-self-inside.ensures in
+    let cells = c.put_back-self-inside.new.heap.cells.items in
+    let places = c.put_back-self-inside.new.heap.places.items in
+    let order : IsOrder c.self.inside.scores.items cells places c.put_back-self-inside.result =
+    subst (λ (xs : List ℕ). IsOrder xs cells places c.put_back-self-inside.result) c.as_slice.ensures.value (record { shuffled = e.shuffled; heap = e.heap; few = e.few }) in
+    (i.0, i.1, order, i.3)
