@@ -87,6 +87,34 @@ risen scores cells count at up eu ahead r = λ i low high. ⊎_elim
     (λ (e : i ≡ at). subst (λ x. IsAhead scores (item_at cells (parent x)) (item_at cells x)) (sym e) (subst (λ x. IsAhead scores (item_at cells x) (item_at cells at)) eu ahead))
     (λ (ne : i ≢ at). r.others i low high ne) (cases_eq i at)
 
+-- ---- the better one of two children
+pub second_is_better : (scores cells : List ℕ) (count first : ℕ) → first + 1 < count → IsAhead scores (item_at cells (first + 1)) (item_at cells first) → IsBetterChild scores cells count first (first + 1)
+second_is_better scores cells count first inside ahead = record {
+  is = inr refl;
+  within = inside;
+  ahead = λ i high e. ⊎_elim
+      (λ (q : i ≡ first). subst (λ x. IsAhead scores (item_at cells (first + 1)) (item_at cells x)) (sym q) ahead)
+      (λ (q : i ≡ first + 1). subst (λ x. IsAhead scores (item_at cells (first + 1)) (item_at cells x)) (sym q) (ahead_itself scores (item_at cells (first + 1)))) e;
+}
+
+pub first_is_better : (scores cells : List ℕ) (count first : ℕ) → first < count → IsAhead scores (item_at cells first) (item_at cells (first + 1)) → IsBetterChild scores cells count first first
+first_is_better scores cells count first inside ahead = record {
+  is = inl refl;
+  within = inside;
+  ahead = λ i high e. ⊎_elim
+      (λ (q : i ≡ first). subst (λ x. IsAhead scores (item_at cells first) (item_at cells x)) (sym q) (ahead_itself scores (item_at cells first)))
+      (λ (q : i ≡ first + 1). subst (λ x. IsAhead scores (item_at cells first) (item_at cells x)) (sym q) ahead) e;
+}
+
+pub only_child : (scores cells : List ℕ) (count first : ℕ) → first < count → count ≤ first + 1 → IsBetterChild scores cells count first first
+only_child scores cells count first inside last = record {
+  is = inl refl;
+  within = inside;
+  ahead = λ i high e. ⊎_elim
+      (λ (q : i ≡ first). subst (λ x. IsAhead scores (item_at cells first) (item_at cells x)) (sym q) (ahead_itself scores (item_at cells first)))
+      (λ (q : i ≡ first + 1). absurd (omega arith)) e;
+}
+
 -- ---- sinking
 pub sinks : (scores old new : List ℕ) (count at child : ℕ) → IsSinking scores old count at → IsBetterChild scores old count (2 * at + 1) child → IsSwapped at child old new → IsAhead scores (item_at old child) (item_at old at) → IsSinking scores new count child
 sinks scores old new count at child r b s ahead =

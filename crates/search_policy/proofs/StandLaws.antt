@@ -1,15 +1,19 @@
 -- The variables that stand in the heap.
-use Rattle.std.proofs.Common.{◌≡◌, ◌≢◌, ℕ, ◌+◌, ◌-◌, ◌<◌, ◌≤◌, Bool, true, false, List, ◌++◌, length, get_or, map, replicate, nat_lt, sym, ap, ◌∙◌, subst, refl, inl, inr, ⊎_elim, arith}
-use Rattle.std.proofs.lemmas.Bool.{cases_lt, lt-ltb, ltb-true}
+use Rattle.std.proofs.Common.{◌≡◌, ◌≢◌, ℕ, [], ◌∷◌, ◌+◌, ◌-◌, ◌<◌, ◌≤◌, Bool, true, false, List, ◌++◌, length, get_or, map, replicate, nat_lt, sym, ap, ◌∙◌, subst, refl, inl, inr, ⊎_elim, arith}
+use Rattle.std.proofs.Math.Seq.{get_or-append_seam}
+use Rattle.std.proofs.lemmas.Bool.{cases_eq, cases_lt, lt-ltb, ltb-true}
 use Rattle.std.proofs.lemmas.List.{get_or-map, length-map, ext_get_or, get_or-replicate, length-replicate, get_or_append_left, get_or-append_right, length-append}
 use Rattle.std.proofs.lemmas.List.Elements.{All-get_or}
 use Rattle.cx_trail.specs.declared.entry.Entry.{Entry}
-use Rattle.cx_trail.specs.Sequence.{TrailState, TakesBack, IsOpenIn, entry_at, no_entry}
+use Rattle.cx_base.specs.Literals.{Literal}
+use Rattle.cx_trail.specs.declared.entry.Reason.{Reason}
+use Rattle.cx_trail.specs.Sequence.{TrailState, TakesBack, IsOpenIn, entry_at, no_entry, pushed}
 use Rattle.cx_trail.proofs.ValueLaws.{open_or_assigned}
+use Rattle.search_policy.specs.declared.scores.TheConstants.{SCORE_LIMIT}
 use Rattle.search_policy.specs.Scores.{IsBest, NoneIsOpen, ComesBefore}
-use Rattle.search_policy.specs.Heaps.{item_at, IsAhead, AreShuffled, IsHeap, HasOpenOnes}
+use Rattle.search_policy.specs.Heaps.{item_at, IsAhead, AreShuffled, IsHeap, IsOrder, HasOpenOnes, parent}
 use Rattle.search_policy.specs.Standing.{OrderState, AllStand}
-use Rattle.search_policy.proofs.HeapLaws.{top_ahead}
+use Rattle.search_policy.proofs.HeapLaws.{parent_below, top_ahead}
 
 pub same_state : (s s' : List ℕ) (b b' : List Bool) (weight : ℕ) → s ≡ s' → b ≡ b' → ◌≡◌ {A = OrderState} (record { scores = s; standing = b; weight = weight }) (record { scores = s'; standing = b'; weight = weight })
 same_state s s' b b' weight e f =
@@ -25,6 +29,45 @@ new_standing n places e at =
     (λ k h.
     let b : k < n = omega arith in
     get_or-map f places k 0 false (omega arith) ∙ ap f (at k b) ∙ lt-ltb k n b ∙ sym (get_or-replicate n k true false b))
+
+-- ---- an order as it is made
+pub counted : (xs ys : List ℕ) (n : ℕ) → length xs ≡ n → ys ≡ xs ++ n ∷ [] → length ys ≡ n + 1
+counted xs ys n long is = ap length is ∙ length-append xs (n ∷ []) ∙ ap (λ k. k + 1) long
+
+pub numbered : (xs ys : List ℕ) (n : ℕ) → length xs ≡ n → ys ≡ xs ++ n ∷ [] → ((k : ℕ) → k < n → item_at xs k ≡ k) → (k : ℕ) → k < n + 1 → item_at ys k ≡ k
+numbered xs ys n long is each k lt =
+    ap (λ zs. item_at zs k) is
+    ∙ ⊎_elim
+    (λ (e : k ≡ n). ap (item_at (xs ++ n ∷ [])) (e ∙ sym long) ∙ get_or-append_seam xs n [] 0 ∙ sym e)
+    (λ (ne : k ≢ n). get_or_append_left xs (n ∷ []) 0 k (omega arith) ∙ each k (omega arith)) (cases_eq k n)
+
+pub new_is_order : (scores cells places : List ℕ) (n : ℕ) → scores ≡ replicate n 0 → length cells ≡ n → length places ≡ n → ((k : ℕ) → k < n → item_at cells k ≡ k)
+    → ((k : ℕ) → k < n → item_at places k ≡ k) → IsOrder scores cells places n
+new_is_order scores cells places n is cells_long places_long cell place =
+    let long : length scores ≡ n = ap length is ∙ length-replicate n 0 in
+    let zero : (u : ℕ) → u < n → item_at scores u ≡ 0 = λ u lt. ap (λ xs. item_at xs u) is ∙ get_or-replicate n u 0 0 lt in
+    record {
+      shuffled = record {
+        cell_count = cells_long ∙ sym long;
+        place_count = places_long ∙ sym long;
+        inside = λ i h. let e = cell i (omega arith) in omega arith;
+        placed = λ i h. ap (item_at places) (cell i (omega arith)) ∙ place i (omega arith);
+        in_cells = λ v h. let e = place v (omega arith) in omega arith;
+        has = λ v h. ap (item_at cells) (place v (omega arith)) ∙ cell v (omega arith);
+      };
+      heap = λ i low high.
+          let up = parent_below i low in
+          let here = cell i high in
+          let there = cell (parent i) (omega arith) in
+          inr (zero (item_at cells (parent i)) (omega arith) ∙ sym (zero (item_at cells i) (omega arith)), omega arith);
+      few = omega arith;
+    }
+
+pub all_small : (scores : List ℕ) (n : ℕ) → scores ≡ replicate n 0 → (k d : ℕ) → k < length scores → get_or scores k d < SCORE_LIMIT
+all_small scores n is k d lt =
+    let long : length scores ≡ n = ap length is ∙ length-replicate n 0 in
+    let e : get_or scores k d ≡ 0 = ap (λ xs. get_or xs k d) is ∙ get_or-replicate n k 0 d (omega arith) in
+    omega arith
 
 pub open_ones : (scores places : List ℕ) (count weight : ℕ) (t : TrailState) → length places ≡ length scores → AllStand (record { scores = scores; standing = map (λ p. nat_lt p count) places; weight = weight }) t → HasOpenOnes (length scores) t.entries places count
 open_ones scores places count weight t e a = λ v h o.
@@ -93,3 +136,11 @@ back_stand n level count left places new_places t u b a stays put = λ v h o. �
     let above : level < (entry_at t.entries i).level = subst (λ (x : Entry). level < x.level) (sym gone) (All-get_or (λ (e : Entry). level < e.level) b.dropped (i - length u.entries) no_entry (omega arith) b.dropped_high) in
     subst (λ x. item_at new_places x < left) z (put i inside above)) (cases_lt i (length u.entries)))
     (open_or_assigned t.entries (v + 1))
+
+-- ---- a literal more on the trail
+open_before : (entries : List Entry) (e : Entry) (v : ℕ) → IsOpenIn (entries ++ e ∷ []) v → IsOpenIn entries v
+open_before entries e v h i lt q = h i (omega (arith, length-append entries (e ∷ []))) (ap (λ (x : Entry). x.literal.variable) (get_or_append_left entries (e ∷ []) no_entry i lt) ∙ q)
+
+pub longer_stands : (o : OrderState) (t : TrailState) (level : ℕ) (l : Literal) (reason : Reason) → AllStand o t → AllStand o (pushed t level l reason)
+longer_stands o t level l reason a =
+    record { variables = a.variables; stand = λ v low high h. a.stand v low high (open_before t.entries (record { literal = l; level = level; reason = reason }) v h) }

@@ -3,10 +3,10 @@ use Rattle.std.proofs.lemmas.List.{get_or_read, length-set, length-map}
 use Rattle.std.proofs.lemmas.List.Elements.{All-get_or}
 use Rattle.search_policy.specs.declared.scores.TheConstants.{SCORE_LIMIT}
 use Rattle.search_policy.specs.Bumps.{IsRaised, IsHalved}
-use Rattle.search_policy.specs.Heaps.{AreShuffled, IsRising}
+use Rattle.search_policy.specs.Heaps.{AreShuffled, IsHeap, IsOrder, IsRising}
 use Rattle.search_policy.specs.Standing.{OrderState, bumped_times}
 use Rattle.search_policy.proofs.BumpLaws.{are_raised, are_halved}
-use Rattle.search_policy.proofs.HeapLaws.{raised_rises}
+use Rattle.search_policy.proofs.HeapLaws.{raised_outside, raised_rises}
 use Rattle.search_policy.proofs.ShuffleLaws.{same_standing}
 use Rattle.search_policy.proofs.order.Order.bump_by.Goals.{After-raise, After-rebuild, After-sift_up}
 use Rattle.search_policy.proofs.order.Order.bump_by.Goals as goal
@@ -92,3 +92,92 @@ returns-else-place-self-clause-bumped c =
     let new = c.raise.new.scores.items in
     let raised = subst (λ i. IsRaised old i c.args.times new) (place r) c.if-raise.ensures.raised in
     are_raised _ _ old v c.args.times new (inside r) raised ∙ ap (λ o. bumped_times o v c.args.times) c.self.view_is
+
+-- ---- what the calls need, and what the order keeps
+pub raise-requires : goal.raise-requires
+raise-requires c =
+    let high = subst (λ (o : OrderState). c.args.variable ≤ length o.scores) (sym c.self.view_is) c.requires.high in
+    record {
+      at = omega (arith, c.requires.low, high, c.number.ensures.number);
+      small = c.self.invariant.1;
+      few = c.requires.few;
+    }
+
+pub rebuild-requires : goal.rebuild-requires
+rebuild-requires c =
+    let k = c.self.invariant.2 in
+    let long : length c.as_slice.result.now ≡ length c.self.inside.scores.items = ap length c.as_slice.ensures.value ∙ halved_long c.self.inside.scores.items _ _ _ c.if-raise.ensures.raised in
+    record {
+      shuffled = subst (λ n. AreShuffled n c.self.inside.heap.cells.items c.self.inside.heap.places.items) (sym long) k.shuffled;
+      few = omega (arith, long, c.self.invariant.0);
+      count = omega (arith, long, k.few);
+    }
+
+pub invariant_of-self : goal.invariant_of-self
+invariant_of-self c =
+    let i = c.self.invariant in
+    let e = c.rebuild.ensures in
+    let cells = c.rebuild.new.heap.cells.items in
+    let places = c.rebuild.new.heap.places.items in
+    let long = halved_long c.self.inside.scores.items _ _ _ c.if-raise.ensures.raised in
+    let few : c.self.inside.count ≤ length c.as_slice.result.now = omega (arith, ap length c.as_slice.ensures.value, long, i.2.few) in
+    let order = subst (λ (xs : List ℕ). IsOrder xs cells places c.self.inside.count) c.as_slice.ensures.value (record { shuffled = e.shuffled; heap = e.heap; few = few }) in
+    (omega (arith, long, i.0), c.if-raise.ensures.small, order, omega (arith, i.3))
+
+pub returns-then-raise-clause-count : goal.returns-then-raise-clause-count
+returns-then-raise-clause-count c = halved_long c.self.inside.scores.items _ _ _ c.if-raise.ensures.raised ∙ ap (λ (o : OrderState). length o.scores) c.self.view_is
+
+pub sift_up-requires-clause-shuffled : goal.sift_up-requires-clause-shuffled
+sift_up-requires-clause-shuffled c =
+    let long : length c.as_slice-then-place-self.result.now ≡ length c.self.inside.scores.items = ap length c.as_slice-then-place-self.ensures.value ∙ raised_long c.self.inside.scores.items _ _ _ c.if-raise.ensures.raised in
+    subst (λ n. AreShuffled n c.self.inside.heap.cells.items c.self.inside.heap.places.items) (sym long) c.self.invariant.2.shuffled
+
+pub sift_up-requires-clause-few : goal.sift_up-requires-clause-few
+sift_up-requires-clause-few c =
+    let long : length c.as_slice-then-place-self.result.now ≡ length c.self.inside.scores.items = ap length c.as_slice-then-place-self.ensures.value ∙ raised_long c.self.inside.scores.items _ _ _ c.if-raise.ensures.raised in
+    omega (arith, long, c.self.invariant.0)
+
+pub sift_up-requires-clause-count : goal.sift_up-requires-clause-count
+sift_up-requires-clause-count c =
+    let long : length c.as_slice-then-place-self.result.now ≡ length c.self.inside.scores.items = ap length c.as_slice-then-place-self.ensures.value ∙ raised_long c.self.inside.scores.items _ _ _ c.if-raise.ensures.raised in
+    omega (arith, long, c.self.invariant.2.few)
+
+pub index-requires : goal.index-requires
+index-requires c =
+    let high = subst (λ (o : OrderState). c.args.variable ≤ length o.scores) (sym c.self.view_is) c.requires.high in
+    omega (arith, c.requires.low, high, c.number.ensures.number, c.self.invariant.2.shuffled.place_count, c.self.inside.heap.places.ok.0)
+
+pub invariant_of-self-then-place-self : goal.invariant_of-self-then-place-self
+invariant_of-self-then-place-self c =
+    let i = c.self.invariant in
+    let e = c.sift_up.ensures in
+    let cells = c.sift_up.new.heap.cells.items in
+    let places = c.sift_up.new.heap.places.items in
+    let long = raised_long c.self.inside.scores.items _ _ _ c.if-raise.ensures.raised in
+    let few : c.self.inside.count ≤ length c.as_slice-then-place-self.result.now = omega (arith, ap length c.as_slice-then-place-self.ensures.value, long, i.2.few) in
+    let order = subst (λ (xs : List ℕ). IsOrder xs cells places c.self.inside.count) c.as_slice-then-place-self.ensures.value (record { shuffled = e.shuffled; heap = e.heap; few = few }) in
+    (omega (arith, long, i.0), c.if-raise.ensures.small, order, i.3)
+
+pub invariant_of-self-else-place-self : goal.invariant_of-self-else-place-self
+invariant_of-self-else-place-self c =
+    let i = c.self.invariant in
+    let k = i.2 in
+    let old = c.self.inside.scores.items in
+    let v = c.number.result - 1 in
+    let cells = c.self.inside.heap.cells.items in
+    let places = c.self.inside.heap.places.items in
+    let count = c.self.inside.count in
+    let r = c.if-raise.ensures.raised in
+    let long = raised_long old _ _ _ r in
+    let high = subst (λ (o : OrderState). c.args.variable ≤ length o.scores) (sym c.self.view_is) c.requires.high in
+    let within : v < length old = omega (arith, c.requires.low, high, c.number.ensures.number) in
+    let at = get_or_read places v _ (omega (arith, k.shuffled.place_count)) c.index.ensures 0 in
+    let heap = subst (λ (xs : List ℕ). IsHeap xs cells count) (sym r.scores) (raised_outside old cells places count v c.args.times c.index.result.now k.shuffled k.few within (sym at) c.if-place-self.false k.heap) in
+    let shuffled = subst (λ n. AreShuffled n cells places) (sym long) k.shuffled in
+    (omega (arith, long, i.0), c.if-raise.ensures.small, record { shuffled = shuffled; heap = heap; few = omega (arith, long, k.few) }, i.3)
+
+pub returns-then-place-self-clause-count : goal.returns-then-place-self-clause-count
+returns-then-place-self-clause-count c = raised_long c.self.inside.scores.items _ _ _ c.if-raise.ensures.raised ∙ ap (λ (o : OrderState). length o.scores) c.self.view_is
+
+pub returns-else-place-self-clause-count : goal.returns-else-place-self-clause-count
+returns-else-place-self-clause-count c = raised_long c.self.inside.scores.items _ _ _ c.if-raise.ensures.raised ∙ ap (λ (o : OrderState). length o.scores) c.self.view_is

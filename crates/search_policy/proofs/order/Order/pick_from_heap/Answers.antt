@@ -1,7 +1,7 @@
 use Rattle.std.proofs.Common.{◌≡◌, ◌<◌, ◌≤◌, ◌+◌, ℕ, List, length, sym, ap, ◌∙◌, subst, arith}
 use Rattle.std.proofs.lemmas.List.{get_or_read}
 use Rattle.search_policy.specs.Scores.{Picks, IsBest}
-use Rattle.search_policy.specs.Heaps.{AreShuffled, HasOpenOnes, IsHeap}
+use Rattle.search_policy.specs.Heaps.{AreShuffled, HasOpenOnes, IsHeap, IsOrder}
 use Rattle.search_policy.specs.Standing.{OrderState, AllStand}
 use Rattle.search_policy.proofs.StandLaws.{open_ones, stand_of, picks_none, picks_top}
 use Rattle.search_policy.proofs.order.Order.pick_from_heap.Goals.{then-count-eq0, else-count-eq0}
@@ -46,3 +46,38 @@ returns-clause-stand c =
     stand_of _ _ _ _ _ a.variables
     (subst (λ (xs : List ℕ). length c.settle-count.new.heap.places.items ≡ length xs) same e.shuffled.place_count)
     (subst (λ (xs : List ℕ). HasOpenOnes (length xs) c.args.trail.now.entries c.settle-count.new.heap.places.items c.settle-count.result) same e.stand)
+
+pub settle-count-requires-clause-shuffled : goal.settle-count-requires-clause-shuffled
+settle-count-requires-clause-shuffled c = rw c.as_slice.ensures.value c.self.invariant.2.shuffled
+
+pub settle-count-requires-clause-few : goal.settle-count-requires-clause-few
+settle-count-requires-clause-few c = rw c.as_slice.ensures.value c.self.invariant.0
+
+pub settle-count-requires-clause-variables : goal.settle-count-requires-clause-variables
+settle-count-requires-clause-variables c = rw c.as_slice.ensures.value (subst (λ (o : OrderState). length o.scores ≡ c.args.trail.now.variables) (sym c.self.view_is) c.requires.variables)
+
+pub settle-count-requires-clause-count : goal.settle-count-requires-clause-count
+settle-count-requires-clause-count c = rw c.as_slice.ensures.value c.self.invariant.2.few
+
+pub settle-count-requires-clause-heap : goal.settle-count-requires-clause-heap
+settle-count-requires-clause-heap c = rw c.as_slice.ensures.value c.self.invariant.2.heap
+
+pub invariant_of-self : goal.invariant_of-self
+invariant_of-self c =
+    let i = c.self.invariant in
+    let e = c.settle-count.ensures in
+    let cells = c.settle-count.new.heap.cells.items in
+    let places = c.settle-count.new.heap.places.items in
+    let few : c.settle-count.result ≤ length c.as_slice.result.now = omega (arith, ap length c.as_slice.ensures.value, e.few, i.2.few) in
+    let order = subst (λ (xs : List ℕ). IsOrder xs cells places c.settle-count.result) c.as_slice.ensures.value (record { shuffled = e.shuffled; heap = e.heap; few = few }) in
+    (i.0, i.1, order, i.3)
+
+pub new-requires : goal.new-requires
+new-requires c =
+    let e = c.settle-count.ensures in
+    let none = c.if-count-eq0.false in
+    let same = ap length c.as_slice.ensures.value in
+    let inside : 0 < length c.as_slice.result.now = omega (arith, same, e.few, c.self.invariant.2.few) in
+    let top = get_or_read c.settle-count.new.heap.cells.items 0 _ (omega (arith, e.shuffled.cell_count)) c.index.ensures 0 in
+    let low = e.shuffled.inside 0 inside in
+    record { low = omega arith; high = omega (arith, top, low, same, c.self.invariant.0) }
