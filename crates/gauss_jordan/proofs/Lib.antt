@@ -4,6 +4,7 @@ pub mod Events
 pub mod Kept
 pub mod RowKinds
 pub mod Copies
+pub mod Filling
 pub mod ScratchSteps
 pub mod ScratchEvents
 pub mod Writable

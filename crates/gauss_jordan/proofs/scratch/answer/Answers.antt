@@ -1,12 +1,18 @@
-use Rattle.std.proofs.Common.{◌∙◌, ◌<◌, subst, arith, length, get_or, refl, true}
-use Rattle.std.proofs.lemmas.List.{length-map, get_or-set_same}
-use Rattle.gf2_matrix.specs.Content.{row_at, form, source_numbers}
+use Rattle.std.proofs.Common.{◌∙◌, ℕ, ◌<◌, Option, Some, None, sym, subst, arith, length, get_or, refl, true, false}
+use Rattle.std.proofs.lemmas.List.{length-map, length-set, get_or-set_same}
+use Rattle.gf2_matrix.specs.Content.{Content, row_at, form, source_numbers}
+use Rattle.parity_engine.specs.declared.state.Naming.{Naming}
 use Rattle.parity_engine.specs.declared.state.Mood.TheVariants.{Busy, Broken}
 use Rattle.parity_engine.specs.State.{Named}
 use Rattle.gauss_jordan.specs.declared.slot.Slot.{Slot}
-use Rattle.gauss_jordan.specs.Slots.{named_of, IsSlotSum}
+use Rattle.gauss_jordan.specs.Slots.{named_of, IsNamedSlot, IsSlotOf, IsSlotSum}
 use Rattle.gauss_jordan.proofs.ScratchEvents.{copy_named, masked, quiet, contradiction, state_named, not_named, named_now, literal_told, fit_implied, fit_kept}
 use Rattle.gauss_jordan.proofs.scratch.answer.Goals as goal
+
+-- a slot that is named has room for a row
+named_fits : (m : Content) (row : ℕ) (naming : Naming) (old new : Slot) (o : Option Naming) → IsSlotOf m old → IsNamedSlot m row naming old new o → IsSlotOf m new
+named_fits m row naming old new None fits copy = copy.fits
+named_fits m row naming old new (Some n) fits same = subst (IsSlotOf m) (sym same) fits
 
 pub overflow_cast-column : goal.overflow_cast-column
 overflow_cast-column c =
@@ -98,3 +104,60 @@ returns-in-Literal-clause-scratch c =
     k c.in-Literal.row c.in-Literal.field-2 (get_or c.args.slots.now k c.index-slots-column.result) c.name.new.slot c.index-slots-column.result c.in-Literal.ensures refl c.name.ensures in
     fit_kept m c.args.level c.args.held.now c.args.assigned.now c.args.truths.now c.args.slots.now c.args.mood r c.requires.whole c.requires.masks
     k c.name.new.slot told.0 told.1 k refl
+
+pub find-requires : goal.find-requires
+find-requires c = let r = c.requires.scratch in record { long = r.assigned_long; wide = r.truths_long; reduced = c.requires.reduced }
+
+pub bounds-slots-last : goal.bounds-slots-last
+bounds-slots-last c =
+    let rows = c.requires.scratch.right.rows in
+    let last = c.columns-last.ensures.count in
+    omega (arith, length-map c.args.slots.now (named_of c.args.matrix.now))
+
+pub copy_row-requires : goal.copy_row-requires
+copy_row-requires c =
+    let r = c.requires.scratch in
+    let rows = r.right.rows in
+    let last = c.columns-last.ensures.count in
+    let row_in = c.in-Contradiction.ensures.0 in
+    record { row_in = row_in; sized = r.fits c.columns-last.result c.index-slots-last.result (omega (arith, length-map c.args.slots.now (named_of c.args.matrix.now))) }
+
+pub bounds-slots-column : goal.bounds-slots-column
+bounds-slots-column c =
+    let rows = c.requires.scratch.right.rows in
+    let column = c.in-Literal.ensures.1 in
+    omega (arith, length-map c.args.slots.now (named_of c.args.matrix.now))
+
+pub name-requires : goal.name-requires
+name-requires c =
+    let r = c.requires.scratch in
+    let rows = r.right.rows in
+    let says = c.in-Literal.ensures in
+    let column = says.1 in
+    record { row_in = says.0; sized = r.fits c.in-Literal.column c.index-slots-column.result (omega (arith, length-map c.args.slots.now (named_of c.args.matrix.now))) }
+
+pub bounds-slots-column-in-Literal : goal.bounds-slots-column-in-Literal
+bounds-slots-column-in-Literal c =
+    let rows = c.requires.scratch.right.rows in
+    let column = c.in-Literal.ensures.1 in
+    omega (arith, length-map c.args.slots.now (named_of c.args.matrix.now), length-set c.args.slots.now c.in-Literal.column c.name.new.slot)
+
+pub is_unmet-negative-requires : goal.is_unmet-negative-requires
+is_unmet-negative-requires c =
+    let m = c.args.matrix.now in
+    let r = c.requires.scratch in
+    let k = c.in-Literal.column in
+    let slots = c.args.slots.now in
+    let rows = r.right.rows in
+    let values = r.right.wide in
+    let column = c.in-Literal.ensures.1 in
+    let inside : k < length slots = omega (arith, length-map slots (named_of m)) in
+    let old : Slot = get_or slots k c.index-slots-column.result in
+    let fits = named_fits m c.in-Literal.row (record { level = c.args.level; in_conflict = false }) old c.name.new.slot old.naming (r.fits k c.index-slots-column.result inside) c.name.ensures in
+    rw (get_or-set_same slots k c.name.new.slot c.index-slots-column-in-Literal.result inside) (let wide = fits.terms in omega arith)
+
+pub column-requires : goal.column-requires
+column-requires c = c.in-Literal.ensures.1
+
+pub new-var-requires : goal.new-var-requires
+new-var-requires c = let high = c.column.ensures.high in record { low = c.column.ensures.low; high = omega (arith, c.requires.scratch.few) }
