@@ -1,7 +1,8 @@
 use Rattle.std.proofs.Common.{◌-◌, ◌∙◌, ℕ, None, get_or, map, sym, ap, arith, refl}
 use Rattle.std.proofs.lemmas.List.{length-map}
+use Rattle.std.proofs.lemmas.List.Sums.{count_by-le-length}
 use Rattle.gauss_incremental.specs.Namings.{as_held}
-use Rattle.gauss_incremental.specs.Trail.{is_above}
+use Rattle.gauss_incremental.specs.Trail.{is_above, is_held}
 use Rattle.gauss_incremental.proofs.Stacks.{held-at, names_kept, set_held}
 use Rattle.gauss_incremental.proofs.TrailLaws.{inside, taken_empty, taken_low, taken_more}
 use Rattle.gauss_incremental.proofs.names.take_back.Goals as goal
@@ -31,3 +32,22 @@ pub returns-clause-named : goal.returns-clause-named
 returns-clause-named c =
     names_kept c.args.level c.args.named.now c.loop-left.named c.requires.clashes
     (taken_empty c.args.level c.args.order.now (map as_held c.args.named.now) (map as_held c.loop-left.named) c.loop-left.left c.loop-left.invariant (omega arith))
+
+pub bounds-order-left : goal.bounds-order-left
+bounds-order-left c =
+    let t = c.loop-left.invariant.order in
+    let few = count_by-le-length is_held (map as_held c.loop-left.named) in
+    omega (arith, c.loop-left-test.true, t.number, t.long)
+
+pub returns-then-not-is_above-clause-order : goal.returns-then-not-is_above-clause-order
+returns-then-not-is_above-clause-order c = c.loop-left.invariant.order
+
+pub bounds-named-row : goal.bounds-named-row
+bounds-named-row c =
+    let t = c.loop-left.invariant.order in
+    let top = t.each (c.loop-left.left - 1) (omega (arith, c.loop-left-test.true)) in
+    let lt = inside (map as_held c.loop-left.named) (get_or c.args.order.now (c.loop-left.left - 1) 0) top.0 top.1 in
+    omega (arith, length-map c.loop-left.named as_held)
+
+pub returns-clause-order : goal.returns-clause-order
+returns-clause-order c = c.loop-left.invariant.order
