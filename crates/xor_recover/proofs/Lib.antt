@@ -2,6 +2,7 @@ pub mod Reading
 pub mod Grouping
 pub mod Firsts
 pub mod Normal
+pub mod Placing
 pub mod Patterns
 pub mod Numbers
 pub mod Keys
@@ -22,3 +23,4 @@ pub mod Signs
 pub mod WholeRows
 pub mod WholeGroups
 pub mod Walk
+pub mod Filling

@@ -94,7 +94,7 @@ short_is ms more h = elim (nat_le (length ms) 6) as (λ b. nat_le (length ms) 6 
   | false ↦ λ e g. absurd (none_is g)
 ] refl h
 
-placed_is : (o : Option (List Literal)) (more : List Literal) → kept_short o ≡ Some more → (o ≡ Some more) × (length more ≤ 6)
+pub placed_is : (o : Option (List Literal)) (more : List Literal) → kept_short o ≡ Some more → (o ≡ Some more) × (length more ≤ 6)
 placed_is None more h = absurd (none_is h)
 placed_is (Some ms) more h = let p = short_is ms more h in (ap Some p.0, p.1)
 
