@@ -1,6 +1,6 @@
 -- A clause's literals, put to their places one after the other.
-use Rattle.std.proofs.Common.{◌≡◌, ℕ, ◌+◌, ◌<◌, ◌≤◌, List, [], ◌∷◌, length, drop, get_or, Option, Some, None, sym, ap, ◌∙◌, arith}
-use Rattle.std.proofs.lemmas.List.{drop_more, drop_all}
+use Rattle.std.proofs.Common.{◌≡◌, ℕ, ◌+◌, ◌<◌, ◌≤◌, List, [], length, drop, get_or, Option, Some, None, sym, ap, ◌∙◌}
+use Rattle.std.proofs.lemmas.List.{drop_more}
 use Rattle.cx_base.specs.Literals.{Literal}
 use Rattle.xor_recover.specs.Rows.{inserted, placed, and_place, gathered}
 use Rattle.xor_recover.proofs.Normal.{placed_is}

@@ -12,7 +12,7 @@ use Rattle.cx_base.specs.declared.constraint.Constraint.TheVariants.{Clause, Par
 use Rattle.cx_base.proofs.Parts.{clauses_of-clause, clauses_of-parity}
 use Rattle.xor_recover.specs.Rows.{Row, gathered, rows_if, rows_of}
 
-odd_push : (xs : List Bool) (b : Bool) → odd_sum (xs ++ b ∷ []) ≡ differ (odd_sum xs) b
+pub odd_push : (xs : List Bool) (b : Bool) → odd_sum (xs ++ b ∷ []) ≡ differ (odd_sum xs) b
 odd_push [] true = refl
 odd_push [] false = refl
 odd_push (x ∷ xs) b = ap (differ x) (odd_push xs b) ∙ grouped x (odd_sum xs) b

@@ -7,6 +7,9 @@ use Rattle.std.proofs.Math.Nat.{pow-suc}
 use Rattle.std.proofs.lemmas.Bool.{cases_order}
 use Rattle.cx_base.specs.Literals.{Literal}
 use Rattle.cx_base.specs.Parity.{odd_sum}
+use Rattle.std.proofs.lemmas.List.Sums.{fold-append}
+use Rattle.gf2_rows.proofs.Words.{differ-beq}
+use Rattle.xor_recover.proofs.Reading.{odd_push, take_map_more}
 use Rattle.xor_recover.specs.Wholes.{AreOnce, clause_at, signs_code, signs_of, variables_of}
 
 abbrev digit : ℕ → Bool → ℕ
@@ -29,6 +32,24 @@ short_front (suc k) (l ∷ lits) = let h = short_front k lits in omega (arith, h
 
 pub code_of_front : (k n : ℕ) (lits : List Literal) → length lits ≤ 6 → n ≡ signs_code (signs_of (take k lits)) → n < 64
 code_of_front k n lits six e = let h = short_front k lits in let small = code_small (signs_of (take k lits)) (omega (arith, h, six)) in omega (arith, e, small)
+
+-- one literal's sign more
+bit_is : (b : Bool) (n : ℕ) → n ≡ from_bool b → n ≡ cond b 1 0
+bit_is true n e = e
+bit_is false n e = e
+
+pub code_more : (lits : List Literal) (k : ℕ) (l : Literal) (n : ℕ) (b : Bool) (bit : ℕ) → k < length lits → l ≡ get_or lits k l → n ≡ signs_code (signs_of (take k lits)) → b ≡ l.negative → bit ≡ from_bool b
+    → 2 * n + bit ≡ signs_code (signs_of (take (k + 1) lits))
+code_more lits k l n b bit lt is code sign from =
+    let so = signs_of (take k lits) in
+    (λ i. 2 * code i + (bit_is b bit from ∙ ap (λ (s : Bool). cond s 1 0) sign) i)
+    ∙ sym (ap signs_code (take_map_more (λ (x : Literal). x.negative) lits k l lt is) ∙ fold-append digit 0 so (l.negative ∷ []))
+
+pub odd_more : (lits : List Literal) (k : ℕ) (l : Literal) (odd b : Bool) → k < length lits → l ≡ get_or lits k l → odd ≡ odd_sum (signs_of (take k lits)) → b ≡ l.negative
+    → not (beq odd b) ≡ odd_sum (signs_of (take (k + 1) lits))
+odd_more lits k l odd b lt is e sign =
+    let so = signs_of (take k lits) in
+    (λ i. not (beq (e i) (sign i))) ∙ differ-beq (odd_sum so) l.negative ∙ sym (ap odd_sum (take_map_more (λ (x : Literal). x.negative) lits k l lt is) ∙ odd_push so l.negative)
 
 -- ---- one clause more
 

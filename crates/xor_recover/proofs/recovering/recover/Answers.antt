@@ -12,6 +12,7 @@ use Rattle.xor_recover.proofs.Judged.{all_judged}
 use Rattle.xor_recover.proofs.Bounds.{all_within}
 use Rattle.xor_recover.proofs.Runs.{RunsDone, no_runs}
 use Rattle.xor_recover.proofs.Walk.{EndsAt, Reaches, run_starts, smaller, stays_inside, walk_step, walk_ends}
+use Rattle.std.proofs.lemmas.Result.{err_from_is_err_and}
 use Rattle.xor_recover.proofs.recovering.recover.Goals as goal
 
 pub loop-at-init : goal.loop-at-init
@@ -126,3 +127,23 @@ returns-clause-within c =
     let le' : length W ≤ c.loop-at.whole = omega arith in
     let found = walk_ends c.args.formula.now S W c.loop-at.at c.loop-at.whole c.loop-at.finds.items c.from_vec.result c.vars-vars.ensures.within c.in_ok-starts.ensures.starts le le' c.loop-at.invariant.done c.from_vec.ensures in
     all_within c.args.formula.now c.from_vec.result c.vars-vars.ensures.within found
+
+pub returns-in_err-starts : goal.returns-in_err-starts
+returns-in_err-starts c =
+    let fault = err_from_is_err_and c.from_residual.result c.from_residual.ensures.1 in
+    rw fault.1 (record { sound = tt; written = tt; in_order = tt; complete = tt; least = tt; judged = tt; within = tt; few = tt })
+
+pub returns-in_err-room : goal.returns-in_err-room
+returns-in_err-room c =
+    let fault = err_from_is_err_and c.from_residual-in_err-room.result c.from_residual-in_err-room.ensures.1 in
+    rw fault.1 (record { sound = tt; written = tt; in_order = tt; complete = tt; least = tt; judged = tt; within = tt; few = tt })
+
+pub returns-in_err-finds : goal.returns-in_err-finds
+returns-in_err-finds c =
+    let fault = err_from_is_err_and c.from_residual-in_err-finds.result c.from_residual-in_err-finds.ensures.1 in
+    rw fault.1 (record { sound = tt; written = tt; in_order = tt; complete = tt; least = tt; judged = tt; within = tt; few = tt })
+
+pub returns-in_err-find_among : goal.returns-in_err-find_among
+returns-in_err-find_among c =
+    let fault = err_from_is_err_and c.from_residual-in_err-find_among.result c.from_residual-in_err-find_among.ensures.1 in
+    rw fault.1 (record { sound = tt; written = tt; in_order = tt; complete = tt; least = tt; judged = tt; within = tt; few = tt })

@@ -9,6 +9,7 @@ use Rattle.xor_recover.specs.Rows.{Row}
 use Rattle.xor_recover.specs.Groups.{AreFirsts}
 use Rattle.xor_recover.proofs.StartRows.{few_at}
 use Rattle.xor_recover.proofs.Filling.{wholes_none, wholes_more}
+use Rattle.std.proofs.lemmas.Result.{err_from_is_err_and}
 use Rattle.xor_recover.proofs.gathering.Room.fill.Goals as goal
 
 pub returns-clause-few : goal.returns-clause-few
@@ -38,3 +39,13 @@ returns-clause-firsts c =
     let wholes = c.args.wholes.now in
     let rows = c.loop-whole.invariant ∙ ap (λ (ws : List Whole). rows_at C (c.args.run.now ++ starts_of_all ws)) (take_all c.loop-whole.whole-index wholes c.loop-whole-test.false) in
     subst (λ (rs : List Row). AreFirsts rs (map row_of c.keep_firsts.new.self.entries.items)) rows c.keep_firsts.ensures.firsts
+
+pub returns-in_err-add_starts : goal.returns-in_err-add_starts
+returns-in_err-add_starts c =
+    let fault = err_from_is_err_and c.from_residual.result c.from_residual.ensures.1 in
+    rw fault.1 (record { firsts = tt; few = tt })
+
+pub returns-in_err-add_whole : goal.returns-in_err-add_whole
+returns-in_err-add_whole c =
+    let fault = err_from_is_err_and c.from_residual-in_err-add_whole.result c.from_residual-in_err-add_whole.ensures.1 in
+    rw fault.1 (record { firsts = tt; few = tt })
