@@ -1,4 +1,4 @@
-use Rattle.std.proofs.Common.{◌≡◌, ◌+◌, ◌<◌, length, refl, inl, inr, sym, subst, arith}
+use Rattle.std.proofs.Common.{◌+◌, subst, arith}
 use Rattle.std.proofs.lemmas.List.{get_or_read}
 use Rattle.search_policy.specs.Heaps.{item_at, IsAhead}
 use Rattle.search_policy.proofs.HeapLaws.{first_is_better, only_child, second_is_better}
