@@ -1,6 +1,6 @@
-use Rattle.std.proofs.Common.{◌≡◌, ◌∙◌, ℕ, ◌*◌, ◌+◌, ◌<◌, ◌≤◌, ◌%◌, length, ap, sym, subst, arith}
+use Rattle.std.proofs.Common.{◌≡◌, ◌∙◌, ◌*◌, ◌+◌, ◌<◌, ◌≤◌, ◌%◌, length, ap, sym, subst, arith}
 use Rattle.std.proofs.lemmas.List.{with_items_is}
-use Rattle.gauss_incremental.specs.Lists.{IsListing, IsNoted, Listing, listing, slots}
+use Rattle.gauss_incremental.specs.Lists.{IsNoted, Listing, listing, slots}
 use Rattle.gauss_incremental.proofs.Listing.{noted, place_in, place_small, same_long}
 use Rattle.gauss_incremental.proofs.lists.Lists.note.Goals as goal
 use Rattle.gauss_incremental.proofs.lists.Lists.note.Goals.{After-deref_mut}

@@ -2,8 +2,7 @@ use Rattle.std.proofs.Common.{◌≡◌, ◌∙◌, Option, List, length, map, a
 use Rattle.std.proofs.lemmas.List.{with_items_is}
 use Rattle.parity_engine.specs.declared.state.Naming.{Naming}
 use Rattle.parity_engine.specs.Namings.{keep_naming}
-use Rattle.gauss_incremental.specs.Namings.{AreClashesAbove, as_held}
-use Rattle.gauss_incremental.specs.Trail.{IsTrail}
+use Rattle.gauss_incremental.specs.Namings.{AreClashesAbove}
 use Rattle.gauss_incremental.proofs.names.Names.forget_above.Goals as goal
 
 pub take_back-count-requires : goal.take_back-count-requires
