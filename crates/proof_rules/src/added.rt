@@ -10,7 +10,7 @@ ghost use Rattle.proof_rules.specs.Judges.{JudgesBy};
 use crate::JudgeRefusal;
 use cx_base::{IntList, Lit, LitList, Var};
 use cx_semantics::Cause;
-use std::alloc::{AllocError, Global};
+use std::alloc::AllocError;
 
 /// Whether a literal has a variable above the formula's number.
 fn has_unknown(vars: u32, lits: &[i64]) -> bool
@@ -60,20 +60,6 @@ fn literals_of(room: Vec<Lit>, vars: u32, integers: &IntList) -> Result<LitList,
         lits.push(literal_of(*integer))?;
     }
     Ok(LitList::from_vec(lits))
-}
-
-/// Judges what is added by these rules, and gives its literals.
-pub fn admit(
-    alloc: Global,
-    vars: u32,
-    lits: &IntList,
-    is_live: bool,
-) -> Result<LitList, JudgeRefusal>
-    requires few { vars ≤ MAX_VARIABLE }
-    ensures judged { JudgesBy (refused_where causes.VarUnknown (list_any (λ z. nat_lt vars (nat_abs z)) lits.now) ∷ refused_where causes.IdInUse is_live ∷ []) result }
-    ensures literals { IfOk result (λ target. target ≡ literals lits.now) }
-{
-    admit_into(Vec::new(alloc), vars, lits, is_live)
 }
 
 /// Judges what is added by these rules, and gives its literals in the memory of `room`, which is lost where a rule fails.

@@ -21,7 +21,7 @@ mod stored;
 mod sum;
 mod table;
 
-pub use added::{admit, admit_into};
+pub use added::admit_into;
 pub use chain::{LeftOf, left_of};
 pub use content::{clause_content, parity_content};
 pub use hints::{any_negative, ids_of};

@@ -1,10 +1,10 @@
 //! The live clauses and parities of a proof, by their ids.
 ghost use Rattle.std.specs.Prelude.{◌≡◌, IfOk, OnOk, OnErr, [], ◌∷◌, MatchOption, None, Some};
-ghost use Rattle.cx_semantics.specs.Tables.{get, is_live, no_tables, put_clause, put_parity, drop_clauses, drop_parities};
+ghost use Rattle.cx_semantics.specs.Tables.{get, is_live, no_tables};
 ghost use Rattle.proof_rules.specs.Kinds.{chosen, put_constraint, drop_constraints, ListsLive};
 
 use crate::table::LiveTable;
-use cx_base::{IdList, Lit, LitList};
+use cx_base::{IdList, Lit};
 use std::alloc::{AllocError, Global};
 use std::marker::Model;
 
@@ -74,17 +74,6 @@ impl Live {
         self.parities.get(id)
     }
 
-    /// Puts a constraint of this kind under this id. Without memory nothing changes.
-    pub fn add(&mut self, kind: Kind, id: u64, lits: LitList) -> Result<(), AllocError>
-        ensures ok { OnOk result (self.new ≡ put_constraint kind self.old id lits) }
-        ensures err { OnErr result (self.new ≡ self.old) }
-    {
-        match kind {
-            Kind::Clauses => self.clauses.insert(id, lits),
-            Kind::Parities => self.parities.insert(id, lits),
-        }
-    }
-
     /// Puts a constraint of this kind with a copy of these literals under this id. Without memory nothing changes.
     pub fn add_copy(
         &mut self,
@@ -102,22 +91,6 @@ impl Live {
         }
     }
 
-    /// Puts a clause under this id. Without memory nothing changes.
-    pub fn add_clause(&mut self, id: u64, lits: LitList) -> Result<(), AllocError>
-        ensures ok { OnOk result (self.new ≡ put_clause self.old id lits) }
-        ensures err { OnErr result (self.new ≡ self.old) }
-    {
-        self.add(Kind::Clauses, id, lits)
-    }
-
-    /// Puts a parity under this id. Without memory nothing changes.
-    pub fn add_parity(&mut self, id: u64, lits: LitList) -> Result<(), AllocError>
-        ensures ok { OnOk result (self.new ≡ put_parity self.old id lits) }
-        ensures err { OnErr result (self.new ≡ self.old) }
-    {
-        self.add(Kind::Parities, id, lits)
-    }
-
     /// Takes the constraint of this kind and id out; where none is live nothing changes.
     pub fn remove(&mut self, kind: Kind, id: u64)
         ensures { self.new ≡ drop_constraints kind self.old (id ∷ []) }
@@ -126,19 +99,5 @@ impl Live {
             Kind::Clauses => self.clauses.remove(id),
             Kind::Parities => self.parities.remove(id),
         }
-    }
-
-    /// Takes the clause of this id out; where none is live nothing changes.
-    pub fn remove_clause(&mut self, id: u64)
-        ensures { self.new ≡ drop_clauses self.old (id ∷ []) }
-    {
-        self.remove(Kind::Clauses, id);
-    }
-
-    /// Takes the parity of this id out; where none is live nothing changes.
-    pub fn remove_parity(&mut self, id: u64)
-        ensures { self.new ≡ drop_parities self.old (id ∷ []) }
-    {
-        self.remove(Kind::Parities, id);
     }
 }

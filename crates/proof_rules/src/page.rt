@@ -12,7 +12,7 @@ pub(crate) const PLACES: u64 = 64;
 
 /// Values one of which fills the places that hold none.
 pub trait Filler {
-    /// Any value; that costs no memory of its own is best.
+    /// Any value will do; one without memory of its own is best.
     fn filler() -> Self;
 }
 

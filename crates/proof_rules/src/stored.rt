@@ -62,20 +62,6 @@ impl FewLits {
 }
 
 impl StoredList {
-    /// These literals.
-    pub(crate) fn of(lits: LitList) -> StoredList
-        ensures { result ≡ lits }
-    {
-        match few_of(lits.as_slice()) {
-            Some(few) => StoredList {
-                kept: Kept::InPlace(few),
-            },
-            None => StoredList {
-                kept: Kept::Apart(lits),
-            },
-        }
-    }
-
     /// A copy of these literals.
     pub(crate) fn copy_of(alloc: Global, lits: &[Lit]) -> Result<StoredList, AllocError>
         ensures { IfOk result (λ list. list ≡ lits.now) }

@@ -6,7 +6,7 @@ ghost use Rattle.proof_rules.specs.Kinds.{ListsLive};
 
 use crate::id_map::IdMap;
 use crate::stored::StoredList;
-use cx_base::{IdList, Lit, LitList};
+use cx_base::{IdList, Lit};
 use std::alloc::{AllocError, Global};
 use std::marker::Model;
 
@@ -58,14 +58,6 @@ impl LiveTable {
         ensures { IfOk result (ListsLive self.now) }
     {
         Ok(IdList::from_vec(self.lists.ids(alloc)?))
-    }
-
-    /// Puts a list under this id. Without memory nothing changes.
-    pub(crate) fn insert(&mut self, id: u64, lits: LitList) -> Result<(), AllocError>
-        ensures ok { OnOk result (self.new ≡ map.insert self.old id lits) }
-        ensures err { OnErr result (self.new ≡ self.old) }
-    {
-        self.lists.insert(id, StoredList::of(lits))
     }
 
     /// Puts a copy of a list under this id. Without memory nothing changes.
