@@ -36,7 +36,7 @@ use std::alloc::Global;
 use step_text::Sink;
 
 /// What a search comes to.
-#[derive(Debug, Drop)]
+#[derive(Drop)]
 pub enum Outcome {
     /// These values meet the formula.
     Sat(Values),

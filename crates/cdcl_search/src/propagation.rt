@@ -17,7 +17,7 @@ use parity_engine::{ParityEngine, ParityEvent};
 use watch_lists::Event;
 
 /// What propagation comes to.
-#[derive(Clone, Copy, Debug, Drop)]
+#[derive(Clone, Copy, Drop)]
 pub enum Found {
     /// Nothing more is forced.
     Quiet,

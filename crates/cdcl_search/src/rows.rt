@@ -33,7 +33,7 @@ pub fn first_id_of_rows(next: u64) -> u64
 }
 
 /// The ids of a row's sum and of its clause.
-#[derive(Clone, Copy, Debug, Drop)]
+#[derive(Clone, Copy, Drop)]
 pub struct RowIds {
     pub sum: u64,
     pub clause: u64,

@@ -7,7 +7,7 @@ use crate::lists::LitList;
 use crate::literal::Lit;
 
 /// A clause or a parity, by its literals in order and with repeats.
-#[derive(Debug, Drop)]
+#[derive(Drop)]
 pub enum Constraint {
     /// Met where some literal is true.
     Clause(LitList),
@@ -16,7 +16,7 @@ pub enum Constraint {
 }
 
 /// A constraint of a formula, whose literals are borrowed.
-#[derive(Clone, Copy, Debug, Drop)]
+#[derive(Clone, Copy, Drop)]
 pub enum ConstraintRef<'a> {
     /// Met where some literal is true.
     Clause(&'a [Lit]),

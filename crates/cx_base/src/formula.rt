@@ -12,7 +12,7 @@ use std::marker::Model;
 use std::mem::size_of_val;
 
 /// Whether a constraint is a clause or a parity.
-#[derive(Clone, Copy, PartialEq, Eq, Debug, Drop)]
+#[derive(Clone, Copy, Drop)]
 pub(crate) enum Kind {
     Clause,
     Parity,

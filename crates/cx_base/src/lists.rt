@@ -8,7 +8,7 @@ use std::alloc::AllocError;
 use std::marker::Model;
 
 /// A list of literals.
-#[derive(Debug, Drop)]
+#[derive(Drop)]
 pub struct LitList {
     lits: Vec<Lit>,
 }
@@ -94,7 +94,7 @@ impl IdList {
 }
 
 /// A list of references to clauses.
-#[derive(Debug, Drop)]
+#[derive(Drop)]
 pub struct RefList {
     references: Vec<ClauseRef>,
 }
@@ -186,7 +186,7 @@ impl IntList {
 }
 
 /// A list of parities, each by its literals.
-#[derive(Debug, Drop)]
+#[derive(Drop)]
 pub struct ParityList {
     parities: Vec<LitList>,
 }
@@ -224,7 +224,7 @@ impl ParityList {
 }
 
 /// A value for each variable, from variable 1 on.
-#[derive(Debug, Drop)]
+#[derive(Drop)]
 pub struct Values {
     values: Vec<bool>,
 }

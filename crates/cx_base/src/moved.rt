@@ -6,14 +6,14 @@ use crate::refs::ClauseRef;
 use std::marker::Model;
 
 /// A clause's reference before and after.
-#[derive(Clone, Copy, PartialEq, Eq, Debug, Drop)]
+#[derive(Clone, Copy, Drop)]
 pub struct Move {
     pub old: ClauseRef,
     pub new: ClauseRef,
 }
 
 /// The references that clauses had and those that they have now. The old ones rise.
-#[derive(Debug, Drop)]
+#[derive(Drop)]
 pub struct Moved {
     moves: Vec<Move>,
 }

@@ -4,7 +4,7 @@ ghost use Rattle.std.specs.Prelude.{◌≡◌};
 use std::marker::Model;
 
 /// A reference to a clause of an arena.
-#[derive(Clone, Copy, PartialEq, Eq, PartialOrd, Ord, Debug, Drop)]
+#[derive(Clone, Copy, PartialEq, Eq, Debug, Drop)]
 pub struct ClauseRef {
     place: u32,
 }
@@ -36,7 +36,7 @@ impl ClauseRef {
 }
 
 /// A row of a matrix.
-#[derive(Clone, Copy, PartialEq, Eq, PartialOrd, Ord, Debug, Drop)]
+#[derive(Clone, Copy, PartialEq, Eq, Drop)]
 pub struct Row {
     place: u32,
 }

@@ -5,7 +5,7 @@ ghost use Rattle.cx_texts.specs.Pieces.{behind_byte, behind_percent};
 use crate::token_reader::is_blank_byte;
 
 /// What a text that is read in pieces stands in between two of its bytes.
-#[derive(Clone, Copy, Debug, PartialEq, Eq, Drop)]
+#[derive(Clone, Copy, Drop)]
 pub enum LineState {
     /// A line of which only blanks were read: it may become a comment.
     Start,
@@ -16,7 +16,7 @@ pub enum LineState {
 }
 
 /// The rule of `%` lines, whose first byte that is no blank is `%`.
-#[derive(Clone, Copy, Debug, PartialEq, Eq, Drop)]
+#[derive(Clone, Copy, Drop)]
 pub enum EndLines {
     /// They are kept as any others.
     Kept,

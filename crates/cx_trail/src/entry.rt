@@ -4,7 +4,7 @@ ghost use Rattle.cx_base.specs.Literals.{Literal};
 use cx_base::{ClauseRef, Lit, Row};
 
 /// Why a literal is true.
-#[derive(Clone, Copy, PartialEq, Eq, Debug, Drop)]
+#[derive(Clone, Copy, PartialEq, Eq, Drop)]
 pub enum Reason {
     /// It was decided. At level 0 it may also stand for 'no reason is given'.
     Decision,
@@ -15,7 +15,7 @@ pub enum Reason {
 }
 
 /// A literal with its level and its reason.
-#[derive(Clone, Copy, Debug, Drop)]
+#[derive(Clone, Copy, Drop)]
 pub struct Entry {
     /// The literal, which is true.
     pub literal: Lit,
@@ -26,7 +26,7 @@ pub struct Entry {
 }
 
 /// The value of a literal.
-#[derive(Clone, Copy, PartialEq, Eq, Debug, Drop)]
+#[derive(Clone, Copy, Drop)]
 pub enum Truth {
     /// The literal is assigned.
     True,

@@ -10,7 +10,7 @@ use std::marker::Model;
 pub const MAX_ID: u64 = 9_223_372_036_854_775_807;
 
 /// An id of the proof, from 1 up to [`MAX_ID`].
-#[derive(Clone, Copy, Debug, Drop)]
+#[derive(Clone, Copy, Drop)]
 pub struct ProofId {
     number: u64,
 }

@@ -1,7 +1,7 @@
 //! The two kinds of planted instances.
 
 /// Whether a planted instance is met by its planted values or by none.
-#[derive(Clone, Copy, PartialEq, Eq, Debug, Drop)]
+#[derive(Clone, Copy, Drop)]
 pub enum Kind {
     /// Met by the planted values.
     Even,

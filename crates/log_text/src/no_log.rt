@@ -6,7 +6,7 @@ use cx_base::LogEvent;
 use step_text::{Sink, SinkFault};
 
 /// A sink that forgets what it is given, and tells nothing. It takes no memory and never fails.
-#[derive(Clone, Copy, Debug, Drop)]
+#[derive(Clone, Copy, Drop)]
 pub struct NoLog;
 
 impl Sink for NoLog {

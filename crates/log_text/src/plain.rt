@@ -16,7 +16,7 @@ pub(crate) struct Listed {
 }
 
 /// The steps that have literals alone, but for the added clause.
-#[derive(Clone, Copy, Debug, PartialEq, Eq, Drop)]
+#[derive(Clone, Copy, Drop)]
 pub(crate) enum Plain {
     Original,
     Delete,

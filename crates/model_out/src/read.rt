@@ -46,7 +46,7 @@ fn pass_status<'a>(tokens: &mut LineTokens<'a>) -> Result<Option<LineTokenAt<'a>
 }
 
 /// What a token of the `v` lines does.
-#[derive(Clone, Copy, PartialEq, Eq, Drop)]
+#[derive(Clone, Copy, Drop)]
 enum Turn {
     /// The answer goes on.
     GoesOn,

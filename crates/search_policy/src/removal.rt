@@ -9,7 +9,7 @@ use std::alloc::{AllocError, Global};
 use std::cmp::Reverse;
 
 /// What a reduction looks at of a clause.
-#[derive(Clone, Copy, Debug, Drop)]
+#[derive(Clone, Copy, Drop)]
 pub struct Card {
     pub reference: ClauseRef,
     pub id: u64,

@@ -9,7 +9,7 @@ use cx_texts::Offence;
 use cx_words::Kind;
 
 /// Why printed values are refused: the first cause in this order.
-#[derive(Clone, Copy, Debug, PartialEq, Eq, Drop)]
+#[derive(Clone, Copy, Drop)]
 pub enum WrongAnswer {
     /// A1: the first line has other tokens than `s` and `SATISFIABLE`.
     NoStatusLine,
@@ -24,7 +24,7 @@ pub enum WrongAnswer {
 }
 
 /// A planted instance, as `demo` prints it.
-#[derive(Clone, Copy, Debug, PartialEq, Eq, Drop)]
+#[derive(Clone, Copy, Drop)]
 pub struct Instance {
     /// Whether the planted values meet it, or none do.
     pub kind: Kind,
@@ -41,7 +41,7 @@ pub struct Instance {
 }
 
 /// What was shown of a planted instance.
-#[derive(Clone, Copy, Debug, PartialEq, Eq, Drop)]
+#[derive(Clone, Copy, Drop)]
 pub enum Shown {
     /// The values that the search found meet it.
     Meet,
@@ -52,7 +52,7 @@ pub enum Shown {
 }
 
 /// What a command found, where nothing failed.
-#[derive(Debug, Drop)]
+#[derive(Drop)]
 pub enum Ending {
     /// The formula's text is refused for its first offence.
     FormulaRefused(Offence),
@@ -81,7 +81,7 @@ pub enum Ending {
 }
 
 /// How a command ended.
-#[derive(Debug, Drop)]
+#[derive(Drop)]
 pub enum Outcome {
     /// The files decided.
     Ended(Ending),
@@ -96,7 +96,7 @@ pub enum Outcome {
 }
 
 /// The exit status.
-#[derive(Clone, Copy, Debug, PartialEq, Eq, Drop)]
+#[derive(Clone, Copy, Drop)]
 pub enum Status {
     /// 0: the proof is verified, the values are right, the log is elaborated, the search has counted
     /// as many conflicts as it may, or the demonstration is done.

@@ -7,7 +7,7 @@ ghost use Rattle.step_text.specs.Seen.{seen, seen_number};
 use cx_texts::{has_minus, read_natural};
 
 /// A token's word. A number whose magnitude is above the limit is seen by its sign alone.
-#[derive(Clone, Copy, Debug, PartialEq, Eq, Drop)]
+#[derive(Clone, Copy, Drop)]
 pub enum TokenWord {
     Zero,
     Positive(i64),

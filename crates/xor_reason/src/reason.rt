@@ -12,7 +12,7 @@ use parity_engine::ParityEngine;
 use std::alloc::{AllocError, Global};
 
 /// A named row with the clause that it gives under the values of a trail.
-#[derive(Debug, Drop)]
+#[derive(Drop)]
 pub struct ReasonOf {
     /// The row as a parity, its variables rising.
     pub parity: LitList,
