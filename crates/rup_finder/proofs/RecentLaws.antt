@@ -1,5 +1,5 @@
 -- Engines that hold a part of a table.
-use Rattle.std.proofs.Common.{◌≡◌, refl, sym, ap, ◌∙◌, subst, ℕ, true, List, [], ◌∷◌, Option, Some, None, MatchOption, is_some, inl, inr, true≢false, Result, Ok, Err, IfOk}
+use Rattle.std.proofs.Common.{◌≡◌, refl, sym, ap, ◌∙◌, subst, ℕ, true, List, [], ◌∷◌, Option, Some, None, MatchOption, is_some, inl, inr, true≢false}
 use Rattle.std.proofs.lemmas.Bool.{cases_eq}
 use Rattle.std.proofs.lemmas.Option.{none-some}
 use Rattle.std.specs.List.{cons_option}
@@ -9,14 +9,13 @@ use Rattle.cx_base.specs.Literals.{Literal}
 use Rattle.cx_semantics.specs.Chain.{IsChain}
 use Rattle.cx_semantics.specs.Tables.{Table, get, named, is_live}
 use Rattle.cx_semantics.specs.LogRules.{AreLive}
-use Rattle.rup_engine.specs.Standing.{IsWithin}
 use Rattle.rup_engine.specs.Finding.{IsAtRest, Holds, Answers}
 use Rattle.rup_engine.specs.declared.answer.Answer.{Answer}
 use Rattle.rup_engine.specs.declared.answer.Answer.TheVariants.{Chain}
 use Rattle.rup_engine.specs.declared.engine.Engine.{Engine}
 use Rattle.rup_engine.proofs.MapLooks.{get_put, get_put_other, get_gone, get_gone_other}
 use Rattle.rup_finder.specs.Ready.{IsReady, IsReadyFor}
-use Rattle.rup_finder.specs.Recent.{IsPartOf, HoldsSome, IsRecent}
+use Rattle.rup_finder.specs.Recent.{IsPartOf, IsRecent}
 
 -- ---- parts
 
@@ -77,17 +76,6 @@ recent_more table id old new step h = let w = as_part table old h in go w.0 w.1 
     go part inside None none r = by_part part table new inside r
     go part inside (Some lits) some r = by_part (map.insert part id lits) table new (more_inside part table id lits some inside) r
 
-pub recent_more_if_ok : (table : Table) (id : ℕ) {E : Type 0} (old : Option Engine) (r : Result (Option Engine) E)
-    → IfOk r (λ new. (part : Table) → IsReady part old → MatchOption (get table id) (IsReady part new) (λ lits. IsReady (map.insert part id lits) new)) → IsRecent table old → IfOk r (IsRecent table)
-recent_more_if_ok table id old (Ok new) step h = recent_more table id old new step h
-recent_more_if_ok table id old (Err e) step h = tt
-
-pub recent_for : (table : Table) (target : List Literal) (old : Option Engine) (e : Engine) → ((t : Table) → IsReady t old → IsReadyFor t target (Some e)) → IsRecent table old → IsAtRest e × HoldsSome table e × IsWithin e.limit target
-recent_for table target old e step h =
-    let w = as_part table old h in
-    let r = step w.0 w.2 in
-    (r.0, record { part = w.0; inside = w.1; holds = r.1 }, r.2)
-
 -- ---- chains
 
 module _ (part table : Table) (inside : IsPartOf part table) where
@@ -110,10 +98,15 @@ module _ (part table : Table) (inside : IsPartOf part table) where
   pub chain_in : (target : List Literal) (ids : List ℕ) → AreLive part ids × IsChain target (named part ids) → AreLive table ids × IsChain target (named table ids)
   chain_in target ids h = (live_in ids h.0, subst (IsChain target) (named_in ids h.0) h.1)
 
--- a search of an engine over some of the table's clauses
-module _ (table : Table) (target : List Literal) (old new : Engine) (answer : Answer) (found : (t : Table) → Holds t old → Holds t new × Answers t target answer) (before : HoldsSome table old) where
-  pub recent_behind : IsAtRest new → IsRecent table (Some new)
-  recent_behind rest = (rest, record { part = before.part; inside = before.inside; holds = (found before.part before.holds).0 })
+-- a search of an engine over some of the table's clauses, where it has room for the target
+module _ (table : Table) (target : List Literal) (old within : Option Engine) (kept : (t : Table) → IsReady t old → IsReadyFor t target within) (before : IsRecent table old) where
+  pub part_for : (part : Table) × IsReadyFor part target within
+  part_for = let w = as_part table old before in (w.0, kept w.0 w.2)
 
-  pub chain_behind : (ids : List ℕ) → answer ≡ Chain ids → AreLive table ids × IsChain target (named table ids)
-  chain_behind ids is = chain_in before.part table before.inside target ids (subst (Answers before.part target) is (found before.part before.holds).1)
+  pub recent_behind : (new : Option Engine) → ((t : Table) → IsReadyFor t target within → IsReady t new) → IsRecent table new
+  recent_behind new leaves = let w = as_part table old before in by_part w.0 table new w.1 (leaves w.0 (kept w.0 w.2))
+
+  pub chain_behind : (answer : Answer) → ((t : Table) → IsReadyFor t target within → Answers t target answer) → (ids : List ℕ) → answer ≡ Chain ids → AreLive table ids × IsChain target (named table ids)
+  chain_behind answer answers ids is =
+      let w = as_part table old before in
+      chain_in w.0 table w.1 target ids (subst (Answers w.0 target) is (answers w.0 (kept w.0 w.2)))

@@ -10,7 +10,7 @@ ghost use Rattle.rup_engine.specs.Finding.{Answers};
 ghost use Rattle.rup_finder.specs.Front.{IsLiveChain};
 
 use crate::front::chain_length;
-use crate::ready::{put_in, ready, take_out};
+use crate::ready::{ask, put_in, ready, take_out};
 use crate::recent::{Recent, limit_beside};
 use crate::search::find;
 use cx_base::{IdList, Lit};
@@ -98,16 +98,11 @@ impl IndexedClauses {
         ensures ok { OnOk result (self.new ≡ put_constraint Clauses self.old id lits.now) }
         ensures err { OnErr result (self.new ≡ self.old) }
     {
-        put_in(&mut self.engine, id, lits);
-        put_in(&mut self.recent.engine, id, lits);
-        match self.live.add_copy(alloc, Kind::Clauses, id, lits) {
-            Ok(()) => Ok(()),
-            Err(AllocError) => {
-                self.engine = None;
-                self.recent.engine = None;
-                Err(AllocError)
-            }
-        }
+        self.live.add_copy(alloc, Kind::Clauses, id, lits)?;
+        // An engine that has no memory for it goes, and the next search makes one.
+        let _ = put_in(&mut self.engine, id, lits);
+        let _ = put_in(&mut self.recent.engine, id, lits);
+        Ok(())
     }
 
     /// Puts a constraint of this kind with a copy of these literals under this id, in the place of what is live under it.
@@ -200,15 +195,10 @@ impl IndexedClauses {
         ensures same { self.new ≡ self.old }
         ensures found { IfOk result (λ found. MatchOption found (¬ HasChain self.old.clauses target.now) (λ ids. AreLive self.old.clauses ids × IsChain target.now (named self.old.clauses ids))) }
     {
-        match ready(alloc, &self.live, self.engine.take(), target)? {
-            Some(mut engine) => {
-                let answer = engine.find(alloc, target)?;
-                let limit = limit_beside(&engine);
-                self.engine = Some(engine);
-                self.recent.learn(alloc, &self.live, limit, &answer)?;
-                told(alloc, &self.live, target, answer)
-            }
-            None => find(alloc, &self.live, target),
-        }
+        ready(&mut self.engine, alloc, &self.live, target)?;
+        let answer = ask(&mut self.engine, alloc, target)?;
+        let limit = limit_beside(&self.engine);
+        self.recent.learn(alloc, &self.live, limit, &answer)?;
+        told(alloc, &self.live, target, answer)
     }
 }

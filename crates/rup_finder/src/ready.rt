@@ -1,15 +1,15 @@
 //! An engine that is ready for a search.
-ghost use Rattle.std.specs.Prelude.{◌≡◌, ◌≤◌, ◌+◌, ◌<◌, ℕ, IfOk, OnOk, OnErr, MatchBool, MatchOption, None, Some, List, Option, true};
+ghost use Rattle.std.specs.Prelude.{◌≡◌, ◌≤◌, ◌+◌, IfOk, MatchOption, None, true, false};
 ghost use Rattle.std.specs.FinMap as map;
 ghost use Rattle.cx_semantics.specs.Tables.{Table, get};
 ghost use Rattle.cx_base.specs.declared.literal.TheConstants.{MAX_VARIABLE};
 ghost use Rattle.rup_engine.specs.Standing.{IsWithin};
-ghost use Rattle.rup_engine.specs.Finding.{IsAtRest, Holds};
+ghost use Rattle.rup_engine.specs.Finding.{IsAtRest, Holds, Answers};
 ghost use Rattle.rup_finder.specs.Ready.{IsReady, IsReadyFor};
 
 use cx_base::{Lit, MAX_VARIABLE};
 use proof_rules::Live;
-use rup_engine::Engine;
+use rup_engine::{Answer, Engine};
 use std::alloc::{AllocError, Global};
 
 /// Whether each variable is within the limit.
@@ -49,37 +49,49 @@ fn roomy(top: u32) -> Option<u32>
     Some(MAX_VARIABLE - 2)
 }
 
-/// The clause of this id comes in the place of what stood under it; `None` where it has too large a variable.
-pub fn with_clause(
-    engine: Option<Engine>,
-    id: u64,
-    lits: &[Lit],
-) -> Result<Option<Engine>, AllocError>
-    requires { (table : Table) × IsReady table engine }
-    ensures { IfOk result (λ x. (table : Table) → IsReady table engine → IsReady (map.insert table id lits.now) x) }
+/// Lets the engine go, unless it is to stay.
+pub fn keep_if(stays: bool, engine: &mut Option<Engine>)
+    ensures stays { stays ≡ true → engine.new ≡ engine.old }
+    ensures goes { stays ≡ false → engine.new ≡ None }
 {
-    let mut engine = match engine {
-        Some(engine) => engine,
-        None => return Ok(None),
-    };
+    if !stays {
+        *engine = None;
+    }
+}
+
+/// The clause of this id comes in the place of what stood under it, unless it has too large a variable; tells whether it is in.
+fn enter(engine: &mut Engine, id: u64, lits: &[Lit]) -> Result<bool, AllocError>
+    requires { IsAtRest engine.old }
+    ensures { IfOk result (λ entered. entered ≡ true → IsAtRest engine.new × ((table : Table) → Holds table engine.old → Holds (map.insert table id lits.now) engine.new)) }
+{
     if !are_within(engine.limit, lits) {
-        return Ok(None);
+        return Ok(false);
     }
     engine.forget(id);
     engine.enter(id, lits)?;
-    Ok(Some(engine))
+    Ok(true)
 }
 
 /// The clause of this id comes into an engine, in the place of what stood under it. Where it has too large a variable, and
 /// without memory, the engine goes.
-pub fn put_in(engine: &mut Option<Engine>, id: u64, lits: &[Lit])
+pub fn put_in(engine: &mut Option<Engine>, id: u64, lits: &[Lit]) -> Result<(), AllocError>
     requires { (table : Table) × IsReady table engine.old }
     ensures { (table : Table) → IsReady table engine.old → IsReady (map.insert table id lits.now) engine.new }
 {
-    *engine = match with_clause(engine.take(), id, lits) {
-        Ok(engine) => engine,
-        Err(AllocError) => None,
+    let entered = match engine {
+        Some(held) => enter(held, id, lits),
+        None => Ok(true),
     };
+    match entered {
+        Ok(stays) => {
+            keep_if(stays, engine);
+            Ok(())
+        }
+        Err(AllocError) => {
+            keep_if(false, engine);
+            Err(AllocError)
+        }
+    }
 }
 
 /// The greatest variable of the live clauses and the target.
@@ -95,13 +107,13 @@ fn top_of(alloc: Global, live: &Live, target: &[Lit]) -> Result<u32, AllocError>
 }
 
 /// The live clause of an id comes in.
-pub fn with_live(live: &Live, id: u64, engine: Option<Engine>) -> Result<Option<Engine>, AllocError>
-    requires { (part : Table) × IsReady part engine }
-    ensures { IfOk result (λ x. (part : Table) → IsReady part engine → MatchOption (get live.now.clauses id) (IsReady part x) (λ lits. IsReady (map.insert part id lits) x)) }
+pub fn put_live(engine: &mut Option<Engine>, live: &Live, id: u64) -> Result<(), AllocError>
+    requires { (part : Table) × IsReady part engine.old }
+    ensures { (part : Table) → IsReady part engine.old → MatchOption (get live.now.clauses id) (IsReady part engine.new) (λ lits. IsReady (map.insert part id lits) engine.new) }
 {
     match live.clause(id) {
-        Some(clause) => with_clause(engine, id, clause),
-        None => Ok(engine),
+        Some(clause) => put_in(engine, id, clause),
+        None => Ok(()),
     }
 }
 
@@ -113,73 +125,76 @@ fn build(alloc: Global, live: &Live, limit: u32) -> Result<Option<Engine>, Alloc
     let ids = live.clause_ids(alloc)?.into_vec();
     let mut engine = Some(Engine::make(alloc, limit)?);
     for id in &ids {
-        engine = with_live(live, *id, engine)?;
+        put_live(&mut engine, live, *id)?;
     }
     Ok(engine)
 }
 
-/// The engine, if it has room for the target.
-pub fn if_within(engine: Option<Engine>, target: &[Lit]) -> Option<Engine>
-    ensures { (table : Table) → IsReady table engine → IsReadyFor table target.now result }
+/// An engine with all live clauses and room for the target's variables; none where variables are too large.
+fn anew(alloc: Global, live: &Live, target: &[Lit]) -> Result<Option<Engine>, AllocError>
+    ensures { IfOk result (IsReady live.now.clauses) }
 {
-    match engine {
-        Some(engine) => {
-            if are_within(engine.limit, target) {
-                Some(engine)
-            } else {
-                None
-            }
-        }
-        None => None,
-    }
-}
-
-/// An engine for the target: the one that stands, or a new one; none where variables are too large.
-pub fn ready(
-    alloc: Global,
-    live: &Live,
-    engine: Option<Engine>,
-    target: &[Lit],
-) -> Result<Option<Engine>, AllocError>
-    requires { IsReady live.now.clauses engine }
-    ensures { IfOk result (IsReadyFor live.now.clauses target.now) }
-{
-    match if_within(engine, target) {
-        Some(engine) => return Ok(Some(engine)),
-        None => {}
-    }
     match roomy(top_of(alloc, live, target)?) {
-        Some(limit) => Ok(if_within(build(alloc, live, limit)?, target)),
+        Some(limit) => build(alloc, live, limit),
         None => Ok(None),
     }
 }
 
-/// The engine, unless it is worn.
-fn unless_worn(engine: Engine) -> Option<Engine>
-    ensures { (table : Table) → IsReady table (Some engine) → IsReady table result }
+/// The engine goes, unless it has room for the target.
+pub fn keep_within(engine: &mut Option<Engine>, target: &[Lit])
+    ensures { (table : Table) → IsReady table engine.old → IsReadyFor table target.now engine.new }
 {
-    if engine.is_worn() { None } else { Some(engine) }
+    let within = match engine {
+        Some(held) => are_within(held.limit, target),
+        None => true,
+    };
+    keep_if(within, engine);
 }
 
-/// The clause of this id goes. A worn engine goes too, so that memory follows the live clauses: the next search makes
-/// one anew, at the cost of the clauses that went since the last one was made.
-fn without_clause(engine: Option<Engine>, id: u64) -> Option<Engine>
-    requires { (table : Table) × IsReady table engine }
-    ensures { (table : Table) → IsReady table engine → IsReady (map.remove table id) result }
+/// Makes an engine ready for the target: the one that stands, or a new one; none where variables are too large.
+pub fn ready(
+    engine: &mut Option<Engine>,
+    alloc: Global,
+    live: &Live,
+    target: &[Lit],
+) -> Result<(), AllocError>
+    requires { IsReady live.now.clauses engine.old }
+    ensures { IsReadyFor live.now.clauses target.now engine.new }
 {
-    match engine {
-        Some(mut engine) => {
-            engine.forget(id);
-            unless_worn(engine)
-        }
-        None => None,
+    keep_within(engine, target);
+    if engine.is_none() {
+        *engine = anew(alloc, live, target)?;
+        keep_within(engine, target);
     }
+    Ok(())
 }
 
-/// The clause of this id goes out of an engine.
+/// The answer of the engine; nothing is told where there is none. Without memory the engine goes.
+pub fn ask(engine: &mut Option<Engine>, alloc: Global, target: &[Lit]) -> Result<Answer, AllocError>
+    requires { (table : Table) × IsReadyFor table target.now engine.old }
+    ensures ready { (table : Table) → IsReadyFor table target.now engine.old → IsReady table engine.new }
+    ensures answers { IfOk result (λ answer. (table : Table) → IsReadyFor table target.now engine.old → Answers table target.now answer) }
+{
+    let answer = match engine {
+        Some(held) => held.find(alloc, target),
+        None => Ok(Answer::Untold),
+    };
+    keep_if(answer.is_ok(), engine);
+    answer
+}
+
+/// The clause of this id goes out of an engine. A worn engine goes too, so that memory follows the live clauses: the next
+/// search makes one anew, at the cost of the clauses that went since the last one was made.
 pub fn take_out(engine: &mut Option<Engine>, id: u64)
     requires { (table : Table) × IsReady table engine.old }
     ensures { (table : Table) → IsReady table engine.old → IsReady (map.remove table id) engine.new }
 {
-    *engine = without_clause(engine.take(), id);
+    let stays = match engine {
+        Some(held) => {
+            held.forget(id);
+            !held.is_worn()
+        }
+        None => true,
+    };
+    keep_if(stays, engine);
 }

@@ -6,7 +6,7 @@ ghost use Rattle.cx_semantics.specs.LogRules.{AreLive};
 ghost use Rattle.cx_semantics.specs.Tables.{Table, named};
 ghost use Rattle.rup_finder.specs.Recent.{IsRecent};
 
-use crate::ready::{if_within, with_live};
+use crate::ready::{ask, keep_if, keep_within, put_live};
 use cx_base::{IdList, Lit};
 use proof_rules::{Kind, Live};
 use rup_engine::{Answer, Engine};
@@ -33,9 +33,13 @@ pub struct Recent {
 }
 
 /// The limit of variables of a recent engine beside this one over all live clauses; none where there is to be none.
-pub fn limit_beside(all: &Engine) -> Option<u32>
+pub fn limit_beside(all: &Option<Engine>) -> Option<u32>
     ensures { IfSome result (λ limit. limit + 2 ≤ MAX_VARIABLE) }
 {
+    let all = match all {
+        Some(all) => all,
+        None => return None,
+    };
     let opening = all.trail.len().saturating_add(all.short.len());
     if all.limit > MAX_RECENT_VARIABLE || opening > MAX_OPENING {
         None
@@ -60,30 +64,25 @@ fn is_in(engine: &Option<Engine>, id: u64) -> bool {
 }
 
 /// The live clause of an id comes in, unless it is in.
-fn with_used(live: &Live, id: u64, engine: Option<Engine>) -> Result<Option<Engine>, AllocError>
-    requires { IsRecent live.now.clauses engine }
-    ensures { IfOk result (IsRecent live.now.clauses) }
+fn put_used(engine: &mut Option<Engine>, live: &Live, id: u64) -> Result<(), AllocError>
+    requires { IsRecent live.now.clauses engine.old }
+    ensures { IsRecent live.now.clauses engine.new }
 {
-    if is_in(&engine, id) {
-        return Ok(engine);
+    if is_in(engine, id) {
+        return Ok(());
     }
-    with_live(live, id, engine)
+    put_live(engine, live, id)
 }
 
 /// The live clauses of these ids come in.
-fn with_all_used(
-    live: &Live,
-    ids: &[u64],
-    engine: Option<Engine>,
-) -> Result<Option<Engine>, AllocError>
-    requires { IsRecent live.now.clauses engine }
-    ensures { IfOk result (IsRecent live.now.clauses) }
+fn put_all_used(engine: &mut Option<Engine>, live: &Live, ids: &[u64]) -> Result<(), AllocError>
+    requires { IsRecent live.now.clauses engine.old }
+    ensures { IsRecent live.now.clauses engine.new }
 {
-    let mut engine = engine;
     for id in ids {
-        engine = with_used(live, *id, engine)?;
+        put_used(engine, live, *id)?;
     }
-    Ok(engine)
+    Ok(())
 }
 
 /// An engine over the live clauses of these ids.
@@ -96,8 +95,9 @@ fn gathered(
     requires { limit + 2 ≤ MAX_VARIABLE }
     ensures { IfOk result (IsRecent live.now.clauses) }
 {
-    let engine = Engine::make(alloc, limit)?;
-    with_all_used(live, ids, Some(engine))
+    let mut engine = Some(Engine::make(alloc, limit)?);
+    put_all_used(&mut engine, live, ids)?;
+    Ok(engine)
 }
 
 impl Recent {
@@ -113,21 +113,15 @@ impl Recent {
         }
     }
 
-    /// The engine, unless it is full: then it is to be made anew.
-    pub fn take(&mut self) -> Option<Engine>
-        ensures taken { self.new.engine ≡ None }
-        ensures same { (table : Table) → IsRecent table self.old.engine → IsRecent table result }
+    /// A full engine goes: it is to be made anew.
+    fn keep_unless_full(&mut self)
+        ensures { (table : Table) → IsRecent table self.old.engine → IsRecent table self.new.engine }
     {
-        match self.engine.take() {
-            Some(engine) => {
-                if engine.arena.len() < self.full {
-                    Some(engine)
-                } else {
-                    None
-                }
-            }
-            None => None,
-        }
+        let full = match &self.engine {
+            Some(engine) => engine.arena.len() >= self.full,
+            None => false,
+        };
+        keep_if(!full, &mut self.engine);
     }
 
     /// Notes the hints of a chain.
@@ -154,13 +148,9 @@ impl Recent {
         ensures recent { IsRecent live.now.clauses self.new.engine }
         ensures found { IfOk result (λ found. MatchOption found (Unit {0}) (λ ids. AreLive live.now.clauses ids × IsChain target.now (named live.now.clauses ids))) }
     {
-        let mut engine = match if_within(self.take(), target) {
-            Some(engine) => engine,
-            None => return Ok(None),
-        };
-        let answer = engine.find(alloc, target)?;
-        self.engine = Some(engine);
-        match answer {
+        self.keep_unless_full();
+        keep_within(&mut self.engine, target);
+        match ask(&mut self.engine, alloc, target)? {
             Answer::Chain(ids) => {
                 self.note(live, ids.as_slice())?;
                 Ok(Some(ids))
@@ -182,16 +172,6 @@ impl Recent {
         self.used.clear();
     }
 
-    /// The live clauses of these ids come in.
-    fn let_in(&mut self, live: &Live, ids: &[u64]) -> Result<(), AllocError>
-        requires { IsRecent live.now.clauses self.old.engine }
-        ensures { IsRecent live.now.clauses self.new.engine }
-    {
-        let engine = self.engine.take();
-        self.engine = with_all_used(live, ids, engine)?;
-        Ok(())
-    }
-
     /// An engine of what was used comes in the place of none.
     fn gather(&mut self, alloc: Global, live: &Live, limit: u32) -> Result<(), AllocError>
         requires limit { limit + 2 ≤ MAX_VARIABLE }
@@ -199,9 +179,8 @@ impl Recent {
         ensures { IsRecent live.now.clauses self.new.engine }
     {
         thin(live, &mut self.used);
-        let engine = gathered(alloc, live, limit, &self.used)?;
+        self.engine = gathered(alloc, live, limit, &self.used)?;
         self.start_over(limit);
-        self.engine = engine;
         Ok(())
     }
 
@@ -232,7 +211,7 @@ impl Recent {
         };
         self.note(live, ids)?;
         if self.engine.is_some() {
-            self.let_in(live, ids)
+            put_all_used(&mut self.engine, live, ids)
         } else {
             self.gather(alloc, live, limit)
         }

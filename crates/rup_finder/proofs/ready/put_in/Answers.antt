@@ -1,16 +1,17 @@
-use Rattle.std.proofs.Common.{sym, subst}
+use Rattle.std.proofs.Common.{◌∙◌, sym, subst}
 use Rattle.std.specs.FinMap as map
 use Rattle.rup_finder.specs.Ready.{IsReady}
-use Rattle.rup_finder.proofs.ready.put_in.Goals.{in-Ok, in-Err}
+use Rattle.rup_finder.proofs.ReadyLaws.{keep_by, if_ok_by}
+use Rattle.rup_finder.proofs.ready.put_in.Goals.{in-Some, in-None}
 use Rattle.rup_finder.proofs.ready.put_in.Goals as goal
 
-pub with_clause-requires : goal.with_clause-requires
-with_clause-requires c = (c.requires.0, subst (IsReady c.requires.0) (sym c.take.ensures.value) c.requires.1)
-
-pub returns : goal.returns
-returns c table is_ready =
+pub returns-in-Ok : goal.returns-in-Ok
+returns-in-Ok c table is_ready =
     let after = IsReady (map.insert table c.args.id c.args.lits.now) in
-    elim c.match-with_clause.branch [
-      | in-Ok w ↦ subst after (sym w.t-9-is) (w.in-Ok.ensures table (subst (IsReady table) (sym c.take.ensures.value) is_ready))
-      | in-Err w ↦ subst after (sym w.t-9-is) tt
-    ]
+    keep_by after c.in-Ok.stays c.match-engine.engine c.keep_if.new.engine c.keep_if.ensures.stays c.keep_if.ensures.goes
+    (λ stays. elim c.match-engine.branch [
+      | in-Some w ↦
+          let entered = if_ok_by _ _ _ _ w.entered-is c.in-Ok.is w.enter-entered.ensures stays in
+          subst after (sym w.engine-is) (entered.0, entered.1 table (subst (IsReady table) w.in-Some.is is_ready).1)
+      | in-None w ↦ subst after (sym (w.engine-is ∙ w.in-None.is)) tt
+    ]) tt
