@@ -58,18 +58,27 @@ fn put_port(alloc: Global, text: &mut String, bytes: &[u8]) -> Result<(), AllocE
 }
 
 /// Writes a run and how it ended.
-pub(crate) fn put_end(
-    alloc: Global,
-    text: &mut String,
-    task: Task,
-    ended: &Ended,
-) -> Result<(), AllocError> {
+fn put_end(alloc: Global, text: &mut String, task: Task, ended: &Ended) -> Result<(), AllocError> {
     let (line, formula, second) = (task.line, task.formula, task.second);
     let head = format!(in alloc; "{line:?}\n{formula}{second}status {}\n", ended.status)?;
     text.push_str(head.as_str())?;
     put_port(alloc, text, ended.answer())?;
     put_port(alloc, text, ended.message())?;
     put_port(alloc, text, ended.proof())
+}
+
+/// Writes how a run ended, unless it ended right.
+pub(crate) fn put_unless(
+    alloc: Global,
+    others: &mut String,
+    task: Task,
+    ended: &Ended,
+    is_right: bool,
+) -> Result<(), AllocError> {
+    if is_right {
+        return Ok(());
+    }
+    put_end(alloc, others, task, ended)
 }
 
 /// Runs a task within these bounds.
@@ -115,10 +124,7 @@ pub(crate) fn put_other(
     requires { 1 ≤ bounds.piece }
 {
     let ended = run_task(alloc, task, bounds)?;
-    if has_ended_so(&ended, end) {
-        return Ok(());
-    }
-    put_end(alloc, others, task, &ended)
+    put_unless(alloc, others, task, &ended, has_ended_so(&ended, end))
 }
 
 /// The same of a text that is to be refused for this cause, with no other line written anywhere.
@@ -171,10 +177,7 @@ fn put_other_status(
         second,
     };
     let ended = run_task(alloc, task, Bounds { limit, ..AMPLE })?;
-    if ended.status == status {
-        return Ok(());
-    }
-    put_end(alloc, others, task, &ended)
+    put_unless(alloc, others, task, &ended, ended.status == status)
 }
 
 /// The same of each of these lines.

@@ -116,6 +116,23 @@ fn has_failed(run: &Ended) -> bool {
     run.failed_to_read() || run.failed_to_write() || run.failed_to_tell()
 }
 
+/// Writes what is wrong with a run some of whose calls failed, beside the one where none did.
+fn put_fault_of(
+    alloc: Global,
+    faults: &mut String,
+    failing: Failing,
+    failed: &Ended,
+    whole: &Ended,
+) -> Result<(), AllocError> {
+    let fault = fault(failed, whole);
+    if fault.is_empty() {
+        return Ok(());
+    }
+    let status = failed.status;
+    let told = format!(in alloc; "{failing:?}: {fault}, status {status}\n")?;
+    faults.push_str(told.as_str())
+}
+
 /// Lets calls of a task fail. Writes what is wrong then. Says whether a call failed.
 fn put_fault(
     alloc: Global,
@@ -125,11 +142,7 @@ fn put_fault(
     whole: &Ended,
 ) -> Result<bool, AllocError> {
     let failed = run_failing(alloc, task, failing)?;
-    let fault = fault(&failed, whole);
-    if !fault.is_empty() {
-        let status = failed.status;
-        faults.push_str(format!(in alloc; "{failing:?}: {fault}, status {status}\n")?.as_str())?;
-    }
+    put_fault_of(alloc, faults, failing, &failed, whole)?;
     Ok(has_failed(&failed))
 }
 
@@ -164,7 +177,24 @@ fn fail_in_turn(
     Ok(1000)
 }
 
-/// The same of a task whose whole run is to end with this status, and to make some calls.
+/// The same beside the whole run, which is to end with this status and to make some calls.
+fn put_faults_beside(
+    alloc: Global,
+    faults: &mut String,
+    (task, status): (Task, u8),
+    whole: &Ended,
+) -> Result<(), AllocError> {
+    if whole.status != status {
+        faults.push_str("another status of the whole run\n")?;
+    }
+    let calls = fail_in_turn(alloc, faults, task, whole)?;
+    if calls > 5 && calls < 1000 {
+        return Ok(());
+    }
+    let told = format!(in alloc; "{calls} calls\n")?;
+    faults.push_str(told.as_str())
+}
+
 fn put_faults(
     alloc: Global,
     faults: &mut String,
@@ -177,14 +207,7 @@ fn put_faults(
         task.line,
         AMPLE,
     )?;
-    if whole.status != status {
-        faults.push_str("another status of the whole run\n")?;
-    }
-    let calls = fail_in_turn(alloc, faults, task, &whole)?;
-    if calls <= 5 || calls >= 1000 {
-        faults.push_str(format!(in alloc; "{calls} calls\n")?.as_str())?;
-    }
-    Ok(())
+    put_faults_beside(alloc, faults, (task, status), &whole)
 }
 
 fn put_faults_of_all(

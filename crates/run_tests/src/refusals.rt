@@ -1,4 +1,6 @@
 //! Formulas, texts and words that are refused, each with its status, place and line.
+ghost use Rattle.std.specs.Prelude.{◌≤◌};
+
 use crate::desk::{AMPLE, Bounds, Task};
 use crate::expecting::{CHECK, End, Row, put_other, put_other_statuses};
 use crate::formulas::EMPTY;
@@ -64,14 +66,17 @@ fn formulas_are_refused_at_their_first_offence(rt: HostRuntime) -> Result<(), Fa
     Ok(())
 }
 
-/// Writes how a check of a proof of 12 bytes ends under a limit, if it is not so.
-fn put_other_limited(
+/// Writes how a check of a proof of 12 bytes ends within these bounds, if it is not so.
+fn put_other_bounded(
     alloc: Global,
     others: &mut String,
     formula: &str,
-    limit: u32,
-    (status, answer, message): (u8, &str, &str),
-) -> Result<(), AllocError> {
+    bounds: Bounds,
+    end: (u8, &str, &str),
+) -> Result<(), AllocError>
+    requires { 1 ≤ bounds.piece }
+{
+    let (status, answer, message) = end;
     let task = Task {
         line: CHECK.line,
         formula,
@@ -83,23 +88,36 @@ fn put_other_limited(
         message,
         proof: b"",
     };
-    put_other(alloc, others, task, Bounds { limit, ..AMPLE }, end)
+    put_other(alloc, others, task, bounds, end)
 }
 
-/// The same under each limit.
-fn put_others_limited(alloc: Global, others: &mut String) -> Result<(), AllocError> {
+/// The same under each limit, and where the answer has too little room.
+fn put_others_bounded(alloc: Global, others: &mut String) -> Result<(), AllocError> {
     let fits = (0, "s VERIFIED\n", "");
-    put_other_limited(alloc, others, EMPTY, 12, fits)?;
+    put_other_bounded(alloc, others, EMPTY, Bounds { limit: 12, ..AMPLE }, fits)?;
     let first = (9, "", "error: limit L2 formula\n");
-    put_other_limited(alloc, others, EMPTY, 11, first)?;
+    put_other_bounded(alloc, others, EMPTY, Bounds { limit: 11, ..AMPLE }, first)?;
     let second = (9, "", "error: limit L2 second\n");
-    put_other_limited(alloc, others, "p cnf 1 1\n0", 11, second)
+    put_other_bounded(
+        alloc,
+        others,
+        "p cnf 1 1\n0",
+        Bounds { limit: 11, ..AMPLE },
+        second,
+    )?;
+    let full = Bounds {
+        answer: 3,
+        piece: 2,
+        ..AMPLE
+    };
+    let fault = (5, "s V", "error: write fault\n");
+    put_other_bounded(alloc, others, EMPTY, full, fault)
 }
 
 #[test]
-fn texts_over_the_limit_are_refused(rt: HostRuntime) -> Result<(), Fail> {
+fn texts_over_the_limit_and_a_full_answer_port_are_refused(rt: HostRuntime) -> Result<(), Fail> {
     let mut others = String::new(rt.alloc());
-    put_others_limited(rt.alloc(), &mut others)?;
+    put_others_bounded(rt.alloc(), &mut others)?;
     assert_eq!(rt; others.as_str(), "");
     Ok(())
 }
@@ -121,30 +139,6 @@ const LINES: [Row; 10] = [
 fn words_are_refused_or_taken(rt: HostRuntime) -> Result<(), Fail> {
     let mut others = String::new(rt.alloc());
     put_other_statuses(rt.alloc(), &mut others, (EMPTY, "2 0 1 0\n"), &LINES)?;
-    assert_eq!(rt; others.as_str(), "");
-    Ok(())
-}
-
-#[test]
-fn a_full_answer_port_is_a_write_fault(rt: HostRuntime) -> Result<(), Fail> {
-    let task = Task {
-        line: CHECK.line,
-        formula: EMPTY,
-        second: "2 0 1 0\n",
-    };
-    let bounds = Bounds {
-        answer: 3,
-        piece: 2,
-        ..AMPLE
-    };
-    let end = End {
-        status: 5,
-        answer: "s V",
-        message: "error: write fault\n",
-        proof: b"",
-    };
-    let mut others = String::new(rt.alloc());
-    put_other(rt.alloc(), &mut others, task, bounds, end)?;
     assert_eq!(rt; others.as_str(), "");
     Ok(())
 }
