@@ -1,20 +1,21 @@
 -- What a trail keeps, and what its readers see of it.
-use Rattle.std.proofs.Common.{◌≡◌, ◌≢◌, ℕ, ◌+◌, ◌*◌, ◌-◌, ◌<◌, ◌≤◌, List, [], ◌∷◌, ◌++◌, length, get_or, take, set, map, sym, ap, ◌∙◌, subst, refl, ⊎_elim, arith}
-use Rattle.std.proofs.lemmas.List.{get_or_read, get_or-set_same, get_or-set_other, length-set, length-take-le, take-take, take-set-le, take_more_set}
-use Rattle.std.proofs.lemmas.Bool.{cases_eq}
+use Rattle.std.proofs.Common.{◌≡◌, ◌≢◌, ℕ, ◌+◌, ◌*◌, ◌-◌, ◌<◌, ◌≤◌, List, [], ◌∷◌, ◌++◌, length, get_or, replicate, take, set, map, sym, ap, ◌∙◌, subst, refl, ⊎_elim, arith}
+use Rattle.std.proofs.lemmas.List.{get_or_read, get_or-set_same, get_or-set_other, get_or-replicate, get_or_past, length-replicate, length-set, length-take-le, take-take, take-set-le, take_more_set}
+use Rattle.std.proofs.lemmas.Bool.{cases_eq, cases_lt}
 use Rattle.cx_base.specs.Literals.{Literal, negate, code_of}
+use Rattle.cx_base.specs.declared.literal.TheConstants.{MAX_VARIABLE}
 use Rattle.cx_base.specs.declared.moved.Move.{Move}
 use Rattle.cx_trail.specs.declared.entry.Entry.{Entry}
 use Rattle.cx_trail.specs.declared.entry.Reason.TheVariants.{Decision}
 use Rattle.cx_trail.specs.declared.entry.Truth.{Truth}
-use Rattle.cx_trail.specs.declared.entry.Truth.TheVariants.{True, False}
+use Rattle.cx_trail.specs.declared.entry.Truth.TheVariants.{True, False, Open}
 use Rattle.cx_trail.specs.Sequence.{TrailState, IsTrail, IsOpenIn, IsFalseIn, IsAssignedIn, HasEntry, Means, TakesBack, IsFull, HasOpen, entry_at, no_entry}
-use Rattle.cx_trail.specs.Cells.{ArePaired, AreApart, AreTruths, IsWhole, IsKept, var_at, truth_at}
+use Rattle.cx_trail.specs.Cells.{ArePaired, AreApart, AreTruths, IsKept, var_at, truth_at}
 use Rattle.cx_trail.specs.Renaming.{renamed}
 use Rattle.cx_trail.proofs.CellLaws.{at_take, put_paired, open_place, paired_apart}
 use Rattle.cx_trail.proofs.LevelLaws.{cut_levels}
 use Rattle.cx_trail.proofs.TruthLaws.{means_at}
-use Rattle.cx_trail.proofs.KeptLaws.{sound_from_kept, full_from_kept, open_from_kept, takes_back, push_kept}
+use Rattle.cx_trail.proofs.KeptLaws.{sound_from_kept, full_from_kept, open_from_kept, takes_back, push_kept, first_cells, first_places, fresh}
 use Rattle.cx_trail.proofs.RenamingLaws.{renamed_up_to, renamed_kept, renamed_front, as_long, variables_stay}
 
 -- ---- two lists that begin alike
@@ -24,14 +25,20 @@ same_at len i whole cells e h = sym (at_take len i whole h) ∙ ap (λ (xs : Lis
 shorter : (m len : ℕ) (whole cells : List Entry) → take len whole ≡ take len cells → m ≤ len → take m whole ≡ take m cells
 shorter m len whole cells e le = sym (take-take m len whole le) ∙ ap (take m) e ∙ take-take m len cells le
 
-pub begins : (vars : ℕ) (cells : List Entry) (places : List ℕ) (truths : List Truth) → IsWhole vars 0 0 cells places truths → IsKept vars 0 0 cells places truths
-begins vars cells places truths w = record {
-  whole = cells;
-  spots = places;
-  is_whole = w;
+all_open : (n k : ℕ) → truth_at (replicate n Open) k ≡ Open
+all_open n k = ⊎_elim (λ (h : k < n). get_or-replicate n k Open Open h)
+    (λ (h : n ≤ k). get_or_past (replicate n Open) k Open (omega (arith, length-replicate n Open))) (cases_lt k n)
+
+-- no literal is assigned, so what the cells and the places are filled with says nothing
+pub begins : (vars : ℕ) (cells : List Entry) (places : List ℕ) (truths : List Truth) → vars ≤ MAX_VARIABLE → length cells ≡ vars → length places ≡ vars + 1 → truths ≡ replicate (2 * vars + 2) Open → IsKept vars 0 0 cells places truths
+begins vars cells places truths few room slots unset = record {
+  whole = first_cells vars;
+  spots = first_places vars;
+  is_whole = fresh vars truths few (ap length unset ∙ length-replicate (2 * vars + 2) Open)
+      (λ k. ap (λ (ts : List Truth). truth_at ts k) unset ∙ all_open (2 * vars + 2) k);
   begins = refl;
-  room = w.paired.cell_count;
-  slots = w.paired.place_count;
+  room = room;
+  slots = slots;
   placed = λ i h. absurd (omega arith);
 }
 

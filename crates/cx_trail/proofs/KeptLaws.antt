@@ -1,7 +1,9 @@
 -- An order of all variables, and what it says of the trail that it begins with.
-use Rattle.std.proofs.Common.{◌≡◌, ◌≢◌, ℕ, ◌+◌, ◌*◌, ◌-◌, ◌<◌, ◌≤◌, List, ◌++◌, length, get_or, take, drop, set, sym, ap, ◌∙◌, subst, refl, ⊎_elim, arith}
+use Rattle.std.proofs.Common.{◌≡◌, ◌≢◌, ℕ, ◌+◌, ◌*◌, ◌-◌, ◌<◌, ◌≤◌, List, ◌++◌, false, map, length, get_or, take, drop, set, sym, ap, ◌∙◌, subst, refl, ⊎_elim, arith}
 use Rattle.std.proofs.lemmas.List.{length-take-le, get_or-drop, take-append-drop, length-drop, take-take}
+use Rattle.std.specs.List.{range_with_len}
 use Rattle.std.proofs.lemmas.List.Elements.{All-from_get_or}
+use Rattle.std.proofs.lemmas.List.FromFn.{get_or-map-range_with_len, length-map-range_with_len}
 use Rattle.std.proofs.lemmas.Bool.{cases_lt}
 use Rattle.cx_base.specs.Literals.{negate, code_of}
 use Rattle.cx_base.specs.declared.literal.TheConstants.{MAX_VARIABLE}
@@ -89,21 +91,37 @@ push_kept vars level new_level count cells new_cells places new_places truths en
       valued = put_truths vars count cells new_cells places new_places truths entry.literal k.paired paired' k.valued same (ap (λ (x : Entry). x.literal) put) (omega (arith, k.paired.cell_count)) free high;
     }
 
-pub fresh : (vars : ℕ) (cells : List Entry) (places : List ℕ) (truths : List Truth) → vars ≤ MAX_VARIABLE → length cells ≡ vars → length places ≡ vars + 1 → ((k : ℕ) → k < vars → var_at cells k ≡ k + 1) → ((k : ℕ) → k < vars → get_or places (k + 1) 0 ≡ k) → length truths ≡ 2 * vars + 2 → ((k : ℕ) → truth_at truths k ≡ Open) → IsWhole vars 0 0 cells places truths
-fresh vars cells places truths few cn pn var place size unset =
+-- ---- the order of all variables before the first assignment
+abbrev first_entry : ℕ → Entry
+first_entry i = record { literal = record { variable = i + 1; negative = false }; level = 0; reason = Decision }
+
+abbrev pub first_cells : ℕ → List Entry
+first_cells vars = map first_entry (range_with_len 0 vars)
+
+abbrev pub first_places : ℕ → List ℕ
+first_places vars = map (λ v. v - 1) (range_with_len 0 (vars + 1))
+
+first_cell : (vars i : ℕ) → i < vars → var_at (first_cells vars) i ≡ i + 1
+first_cell vars i h = ap (λ (x : Entry). x.literal.variable) (get_or-map-range_with_len first_entry 0 vars i i no_entry h (omega arith))
+
+first_place : (vars i : ℕ) → i < vars → get_or (first_places vars) (i + 1) 0 ≡ i
+first_place vars i h = omega (arith, get_or-map-range_with_len (λ v. v - 1) 0 (vars + 1) (i + 1) (i + 1) 0 (omega arith) (omega arith))
+
+pub fresh : (vars : ℕ) (truths : List Truth) → vars ≤ MAX_VARIABLE → length truths ≡ 2 * vars + 2 → ((k : ℕ) → truth_at truths k ≡ Open) → IsWhole vars 0 0 (first_cells vars) (first_places vars) truths
+fresh vars truths few size unset =
     record {
       few = few;
       short = omega arith;
       paired = record {
-        cell_count = cn;
-        place_count = pn;
+        cell_count = length-map-range_with_len first_entry 0 vars;
+        place_count = length-map-range_with_len (λ v. v - 1) 0 (vars + 1);
         in_cells = λ v a b. let z : v - 1 + 1 ≡ v = omega arith in
-            subst (λ x. get_or places x 0 < vars) z (subst (λ x. x < vars) (sym (place (v - 1) (omega arith))) (omega arith));
+            subst (λ x. get_or (first_places vars) x 0 < vars) z (subst (λ x. x < vars) (sym (first_place vars (v - 1) (omega arith))) (omega arith));
         has = λ v a b. let z : v - 1 + 1 ≡ v = omega arith in
-            subst (λ x. var_at cells (get_or places x 0) ≡ x) z (ap (var_at cells) (place (v - 1) (omega arith)) ∙ var (v - 1) (omega arith));
-        placed = λ i h. ap (λ x. get_or places x 0) (var i h) ∙ place i h;
-        low = λ i h. subst (λ x. 1 ≤ x) (sym (var i h)) (omega arith);
-        high = λ i h. subst (λ x. x ≤ vars) (sym (var i h)) (omega arith);
+            subst (λ x. var_at (first_cells vars) (get_or (first_places vars) x 0) ≡ x) z (ap (var_at (first_cells vars)) (first_place vars (v - 1) (omega arith)) ∙ first_cell vars (v - 1) (omega arith));
+        placed = λ i h. ap (λ x. get_or (first_places vars) x 0) (first_cell vars i h) ∙ first_place vars i h;
+        low = λ i h. subst (λ x. 1 ≤ x) (sym (first_cell vars i h)) (omega arith);
+        high = λ i h. subst (λ x. x ≤ vars) (sym (first_cell vars i h)) (omega arith);
       };
       levels = record {
         top = λ i h. absurd (omega arith);

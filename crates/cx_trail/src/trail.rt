@@ -73,27 +73,20 @@ impl Trail {
         requires { vars ≤ MAX_VARIABLE }
         ensures { IfOk result (λ t. t ≡ record { variables = vars; level = 0; entries = [] }) }
     {
-        let mut cells = Vec::with_capacity(alloc, vars as usize)?;
-        let mut places = Vec::with_capacity(alloc, vars as usize + 1)?;
-        let mut truths = Vec::new(alloc);
-        truths.resize(2 * vars as usize + 2, Truth::Open)?;
-        places.push(0)?;
-        for i in 0..vars {
-            let literal = Lit::new(Var::new(i + 1), false);
-            cells.push(Entry {
-                literal,
-                level: 0,
-                reason: Reason::Decision,
-            })?;
-            places.push(i)?;
-        }
+        let variables = vars as usize;
+        // Stands in the cells that no assigned literal has.
+        let unused = Entry {
+            literal: Lit::new(Var::new(1), false),
+            level: 0,
+            reason: Reason::Decision,
+        };
         Ok(Trail {
             vars,
             depth: 0,
             count: 0,
-            cells,
-            places,
-            truths,
+            cells: vec![in alloc; unused; variables]?,
+            places: vec![in alloc; 0; variables + 1]?,
+            truths: vec![in alloc; Truth::Open; 2 * variables + 2]?,
         })
     }
 

@@ -1,15 +1,37 @@
-use Rattle.std.proofs.Common.{◌≡◌, ◌≢◌, ◌<◌, ◌+◌, ◌-◌, ◌∙◌, List, length, get_or, set, ap, arith, subst, sym, ⊎_elim}
+use Rattle.std.proofs.Common.{◌≡◌, ◌≢◌, ◌<◌, ◌≤◌, ◌+◌, ◌-◌, ◌*◌, ◌∙◌, ℕ, List, length, get_or, set, ap, arith, subst, sym, ⊎_elim}
 use Rattle.std.proofs.lemmas.Bool.{cases_eq}
 use Rattle.std.proofs.lemmas.List.{get_or_default, length-set}
 use Rattle.cx_base.specs.Literals.{negate, code_of}
+use Rattle.cx_base.proofs.LiteralLaws.{code_below}
 use Rattle.cx_trail.specs.declared.entry.Entry.{Entry}
 use Rattle.cx_trail.specs.declared.entry.Truth.{Truth}
 use Rattle.cx_trail.specs.declared.entry.Truth.TheVariants.{Open}
 use Rattle.cx_trail.specs.Sequence.{entry_at, no_entry}
-use Rattle.cx_trail.specs.Cells.{AreTruths}
+use Rattle.cx_trail.specs.Cells.{AreTruths, var_at}
 use Rattle.cx_trail.proofs.TruthLaws.{cut_truths}
 use Rattle.cx_trail.proofs.FrontLaws.{same_at}
 use Rattle.cx_trail.proofs.trail.cut.Goals as goal
+
+-- the literal of a cell has a variable within the number of cells, so its value has a place
+coded : (cells : List Entry) (truths : List Truth) (count left : ℕ) (d : Entry) → length truths ≡ 2 * length cells + 2 → ((i : ℕ) → i < count → var_at cells i ≤ length cells) → 0 < left → left ≤ count → count ≤ length cells
+    → (code_of (get_or cells (left - 1) d).literal < length truths) × (code_of (negate (get_or cells (left - 1) d).literal) < length truths)
+coded cells truths count left d size high some few inside =
+    let n = left - 1 in
+    let within = subst (λ (x : Entry). x.literal.variable ≤ length cells) (sym (get_or_default cells n d no_entry (omega arith))) (high n (omega arith)) in
+    let l = (get_or cells n d).literal in (
+      omega (arith, size, code_below l (length cells) within),
+      omega (arith, size, code_below (negate l) (length cells) within),
+    )
+
+pub set_truths-requires-clause-own : goal.set_truths-requires-clause-own
+set_truths-requires-clause-own c =
+    let i = c.loop-left.invariant in
+    (coded _ _ _ _ _ i.size c.requires.high c.loop-left-test.true i.few c.requires.count).0
+
+pub set_truths-requires-clause-other : goal.set_truths-requires-clause-other
+set_truths-requires-clause-other c =
+    let i = c.loop-left.invariant in
+    (coded _ _ _ _ _ i.size c.requires.high c.loop-left-test.true i.few c.requires.count).1
 
 pub loop-left-preserved : goal.loop-left-preserved
 loop-left-preserved c =
