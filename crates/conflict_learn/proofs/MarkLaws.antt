@@ -1,9 +1,9 @@
 -- The marked places of a trail.
-use Rattle.std.proofs.Common.{◌≡◌, ◌≢◌, refl, sym, ap, ◌∙◌, subst, ℕ, zero, suc, ◌+◌, ◌<◌, ◌≤◌, Bool, true, false, List, [], ◌∷◌, ◌++◌, length, get_or, set, inl, inr, true≢false, nat_eq, eqb-true, arith, if◌then◌else◌}
-use Rattle.std.proofs.lemmas.Bool.{eqb-false}
-use Rattle.std.proofs.lemmas.List.{get_or-set_same, get_or-set_other}
+use Rattle.std.proofs.Common.{◌≡◌, ◌≢◌, refl, sym, ap, ◌∙◌, subst, ℕ, zero, suc, ◌+◌, ◌<◌, ◌≤◌, Bool, true, false, List, [], ◌∷◌, ◌++◌, length, get_or, take, replicate, ◌-◌, set, inl, inr, true≢false, nat_eq, nat_lt, eqb-true, arith, if◌then◌else◌}
+use Rattle.std.proofs.lemmas.Bool.{eqb-false, ltb-true, ltb-false}
+use Rattle.std.proofs.lemmas.List.{get_or-set_same, get_or-set_other, get_or_append_left, get_or-append_right, get_or-replicate, get_or_past, length-replicate, take_all}
 use Rattle.cx_trail.specs.Sequence.{TrailState, IsTrail}
-use Rattle.conflict_learn.specs.Learning.{literal_at, has_place}
+use Rattle.conflict_learn.specs.Learning.{literal_at, level_at, has_place}
 use Rattle.conflict_learn.specs.Marks.{is_marked, StandBetween}
 use Rattle.conflict_learn.specs.Touching.{IsLastMarked, NoneIsMarked}
 use Rattle.conflict_learn.proofs.ChainOfResolutions.{by_cases}
@@ -107,8 +107,30 @@ module _ (trail : TrailState) (levels : IsTrail trail) where
       let low = r.1 in
       (omega (arith, low, same), omega (arith, less, same))
 
+-- no marked one below the last is of a higher level
+pub lower_before : (trail : TrailState) → IsTrail trail → (marks : List Bool) (lowest from p : ℕ) → from ≤ length trail.entries → IsLastMarked trail marks from lowest p
+    → (q : ℕ) → q < from → is_marked marks (var_of trail q) ≡ true → level_at trail q ≤ level_at trail p
+lower_before trail levels marks lowest from p bound last q less m = by_cases (nat_lt p q)
+    (λ up. absurd (true≢false (sym m ∙ last.others q (ltb-true p q up) less)))
+    (λ n. let below = last.below in levels.rising q p (ltb-false p q n) (omega (arith, below, bound)))
+
 -- none is marked where each marked one would stand between
 pub all_clear : (trail : TrailState) (marks : List Bool) (lowest from : ℕ) → StandBetween trail marks lowest from → NoneIsMarked trail marks lowest from → (v : ℕ) → is_marked marks v ≡ false
 all_clear trail marks lowest from stand none v = by_cases (is_marked marks v)
     (λ m. let r = stand v m in absurd (true≢false (sym (ap (is_marked marks) r.3 ∙ m) ∙ none r.0 r.1 r.2)))
     (λ n. n)
+
+-- ---- a table that grows
+open_past : (old : List Bool) (n v : ℕ) → length old ≤ v → is_marked (old ++ replicate n false) v ≡ false
+open_past old n v past = get_or-append_right old (replicate n false) (length old) v false refl past
+    ∙ by_cases (nat_lt (v - length old) n)
+    (λ e. get_or-replicate n (v - length old) false false (ltb-true (v - length old) n e))
+    (λ e. get_or_past (replicate n false) (v - length old) false (omega (arith, length-replicate n false, ltb-false (v - length old) n e)))
+
+-- with clear marks behind it, or not at all
+pub marks_grow : (grown : Bool) (old new : List Bool) (n count v : ℕ) → length old ≤ count → new ≡ (if grown then take count old ++ replicate n false else old) → is_marked new v ≡ is_marked old v
+marks_grow false old new n count v all is = ap (λ ms. is_marked ms v) is
+marks_grow true old new n count v all is = ap (λ ms. is_marked ms v) (is ∙ ap (λ ms. ms ++ replicate n false) (take_all count old all))
+    ∙ by_cases (nat_lt v (length old))
+    (λ e. get_or_append_left old (replicate n false) false v (ltb-true v (length old) e))
+    (λ e. open_past old n v (ltb-false v (length old) e) ∙ sym (get_or_past old v false (ltb-false v (length old) e)))

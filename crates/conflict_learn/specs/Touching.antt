@@ -1,8 +1,9 @@
 -- What an analysis touches.
-use Rattle.std.specs.Prelude.{◌≡◌, ℕ, ◌<◌, ◌≤◌, Bool, ◌||◌, List, map, length, Option, IsTrue, IsFalse, ◌⊎◌}
+use Rattle.std.specs.Prelude.{◌≡◌, ℕ, ◌<◌, ◌≤◌, Bool, ◌||◌, List, [], ◌∷◌, ◌++◌, map, length, nat_lt, if◌then◌else◌, Option, IsTrue, IsFalse, ◌⊎◌}
 use Rattle.std.specs.List.{AllByRecursion}
 use Rattle.cx_base.specs.Literals.{Literal, negate, same_literal}
 use Rattle.cx_semantics.specs.Chain.{has_literal}
+use Rattle.cx_trail.specs.declared.entry.Entry.{Entry}
 use Rattle.cx_trail.specs.Sequence.{TrailState}
 use Rattle.conflict_learn.specs.Learning.{skips, literal_at, level_at, has_place, IsFalling}
 use Rattle.conflict_learn.specs.Marks.{is_marked}
@@ -12,6 +13,10 @@ pub record Touched (skip : Option Literal) (old new : List Bool) (literals : Lis
   pub size : length new ≡ length old
   pub keeps : (v : ℕ) → IsTrue (is_marked old v) → IsTrue (is_marked new v)
   pub has : (m : Literal) → IsTrue (has_literal literals m) → IsFalse (skips skip m) → IsTrue (is_marked new m.variable)
+
+-- the touched variables and, behind them, that of a literal above level 0
+abbrev pub touched_with : Entry → List ℕ → List ℕ
+touched_with e touched = if nat_lt 0 e.level then touched ++ e.literal.variable ∷ [] else touched
 
 -- the newest place below one whose variable is marked, not before the lowest
 pub record IsLastMarked (trail : TrailState) (marks : List Bool) (from lowest p : ℕ) : Type 0 where

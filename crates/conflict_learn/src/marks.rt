@@ -23,17 +23,6 @@ impl Model for Marks {
     ghost view = { λ m. m.marks.items };
 }
 
-// Adds clear marks until there is one at this place.
-fn extend(marks: &mut Vec<bool>, place: usize) -> Result<(), AllocError>
-    ensures same { (v : ℕ) → is_marked marks.new.items v ≡ is_marked marks.old.items v }
-    ensures reached { OnOk result (place < length marks.new.items) }
-{
-    for _ in marks.len()..=place {
-        marks.push(false)?;
-    }
-    Ok(())
-}
-
 impl Marks {
     /// No marks.
     pub fn new(alloc: Global) -> Marks
@@ -49,7 +38,8 @@ impl Marks {
         ensures same { (v : ℕ) → is_marked self.new v ≡ is_marked self.old v }
         ensures reached { OnOk result (vars < length self.new) }
     {
-        extend(&mut self.marks, vars as usize)
+        let count = self.marks.len().max(vars as usize + 1);
+        self.marks.resize(count, false)
     }
 
     // Whether the variable is marked.

@@ -59,7 +59,7 @@ pub(crate) fn is_redundant<S: Antecedents>(
     ensures covered { IsTrue result → (clause : List Literal) × S.holds source.now clause × IsAntecedent trail.now (literal_at trail.now place) clause × IsCovered trail.now marks.now (literal_at trail.now place) clause }
 {
     let entry = trail.entry(place);
-    if entry.reason == Reason::Decision {
+    if matches!(entry.reason, Reason::Decision) {
         return false;
     }
     match source.look(entry.reason, entry.literal) {

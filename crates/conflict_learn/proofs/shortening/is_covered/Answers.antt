@@ -2,7 +2,7 @@ use Rattle.std.proofs.Common.{◌≡◌, sym, ap, ◌∙◌, subst, ◌+◌, [],
 use Rattle.std.proofs.lemmas.List.{take_more}
 use Rattle.cx_base.specs.Literals.{same_literal}
 use Rattle.cx_semantics.specs.Chain.{has_literal}
-use Rattle.cx_semantics.proofs.Members.{has_pushed}
+use Rattle.cx_semantics.proofs.Members.{has_by_index, has_pushed}
 use Rattle.conflict_learn.specs.Touching.{IsMarkedOrFixed}
 use Rattle.conflict_learn.proofs.shortening.is_covered.Goals.{else-not-is_same-via-then-not-is_same+else-not-is_marked_or_fixed, else-not-is_same-via-else-not-is_same}
 use Rattle.conflict_learn.proofs.shortening.is_covered.Goals as goal
@@ -20,3 +20,8 @@ loop-literal-preserved c m h n =
         | else-not-is_same-via-else-not-is_same w ↦ absurd (true≢false (sym (ap (same_literal c.args.own) e ∙ sym c.is_same.ensures ∙ w.if-not-is_same.false) ∙ n))
       ]
     ]
+
+pub is_marked_or_fixed-requires-clause-negated : goal.is_marked_or_fixed-requires-clause-negated
+is_marked_or_fixed-requires-clause-negated c =
+    let x = c.literal-item.result in
+    c.requires.negated x (ap (has_literal c.args.clause.now) c.literal-item.is ∙ has_by_index c.args.clause.now c.loop-literal.literal-index x c.loop-literal-test.true) (sym c.is_same.ensures ∙ c.if-not-is_same.true)

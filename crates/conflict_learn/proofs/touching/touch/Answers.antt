@@ -3,12 +3,35 @@ use Rattle.std.proofs.lemmas.List.{take_more}
 use Rattle.cx_base.specs.Literals.{Literal}
 use Rattle.cx_semantics.specs.Chain.{has_literal}
 use Rattle.cx_semantics.proofs.Members.{has_by_index}
+use Rattle.cx_trail.specs.Sequence.{IsFalseBefore, IsFalseIn}
 use Rattle.conflict_learn.specs.Learning.{skips}
 use Rattle.conflict_learn.specs.Marks.{StandBetween}
 use Rattle.conflict_learn.specs.Touching.{Touched}
 use Rattle.conflict_learn.proofs.TouchLaws.{touched_more, touched_put, stand_put, false_within, before_is_in}
-use Rattle.conflict_learn.proofs.touching.touch.Goals.{then-not-is_skipped+then-not-has, else-not-is_skipped, else-not-is_skipped-via-then-not-is_skipped+else-not-has, else-not-is_skipped-via-else-not-is_skipped}
+use Rattle.conflict_learn.proofs.touching.touch.Goals.{After-var, then-not-is_skipped+then-not-has, else-not-is_skipped, else-not-is_skipped-via-then-not-is_skipped+else-not-has, else-not-is_skipped-via-else-not-is_skipped}
 use Rattle.conflict_learn.proofs.touching.touch.Goals as goal
+
+-- a literal that is not skipped is false, so its variable has a mark
+false_here : (c : After-var) → IsFalseBefore c.args.trail.now.entries c.args.below c.literal-item.result
+false_here c =
+    let lits = c.args.literals.now in
+    let x = c.literal-item.result in
+    c.requires.negated x (ap (has_literal lits) c.literal-item.is ∙ has_by_index lits c.loop-literal.literal-index x c.loop-literal-test.true) (sym c.is_skipped.ensures ∙ c.if-not-is_skipped.true)
+
+false_in : (c : After-var) → IsFalseIn c.args.trail.now.entries c.literal-item.result
+false_in c = before_is_in c.args.trail.now c.args.below c.literal-item.result c.requires.bound (false_here c)
+
+has_mark : (c : After-var) → c.literal-item.result.variable < length c.loop-literal.marks
+has_mark c = omega (arith, false_within c.args.trail.now c.vars-vars.ensures.sound c.literal-item.result (false_in c), c.requires.wide, c.loop-literal.invariant.0.size)
+
+pub has-requires : goal.has-requires
+has-requires c = subst (λ v. v < length c.loop-literal.marks) (sym c.var.ensures) (has_mark c)
+
+pub mark-requires : goal.mark-requires
+mark-requires c = subst (λ v. v < length c.loop-literal.marks) (sym c.var-then-not-has.ensures) (has_mark (goal.at.mark-requires c).After-var)
+
+pub place_of-requires : goal.place_of-requires
+place_of-requires c = false_in (goal.at.place_of-requires c).After-var
 
 pub loop-literal-preserved : goal.loop-literal-preserved
 loop-literal-preserved c =
