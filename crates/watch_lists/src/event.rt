@@ -14,7 +14,7 @@ use cx_base::ClauseRef;
 use cx_trail::Trail;
 
 /// What propagation came to.
-#[derive(Clone, Copy, PartialEq, Eq, Debug, Drop)]
+#[derive(Clone, Copy, Debug, Drop)]
 pub enum Event {
     /// Each attached clause has a true literal, or two different unassigned ones.
     Quiet,

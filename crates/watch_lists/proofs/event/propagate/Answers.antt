@@ -6,10 +6,11 @@ use Rattle.cx_trail.specs.declared.entry.Entry.{Entry}
 use Rattle.cx_trail.specs.Sequence.{entry_at}
 use Rattle.cx_trail.proofs.ValueLaws.{entry_kept}
 use Rattle.watch_lists.specs.Watching.{looked_at, IsAttached}
-use Rattle.watch_lists.specs.Walking.{AllPassed}
+use Rattle.watch_lists.specs.Walking.{IsConflict, AllPassed}
 use Rattle.watch_lists.proofs.NodeLaws.{propagates_both, propagates_none}
 use Rattle.watch_lists.proofs.WalkLaws.{behind_further}
 use Rattle.watch_lists.proofs.EventLaws.{quiet_from, advance_behind, advance_guarded, goes_same, rest_same}
+use Rattle.cx_base.proofs.LiteralLaws.{negate-negate}
 use Rattle.watch_lists.proofs.event.propagate.Goals.{At-ahead, After-index-head}
 use Rattle.watch_lists.proofs.event.propagate.Goals as goal
 
@@ -166,3 +167,16 @@ returns-in-Some-clause-room c = c.ahead.invariant.room
 
 pub returns-in-Some-clause-top : goal.returns-in-Some-clause-top
 returns-in-Some-clause-top c = c.ahead.invariant.top
+
+pub walk_list-requires-clause-falsified : goal.walk_list-requires-clause-falsified
+walk_list-requires-clause-falsified c =
+    let l = c.entry-entry.result.literal in (
+      c.index-head.result.now,
+      (
+        head_in (goal.at.walk_list-requires-clause-falsified c).After-index-head,
+        sym (ap (λ (e : Entry). e.literal) c.entry-entry.ensures.is) ∙ sym (negate-negate l) ∙ ap negate (sym c.negate.ensures),
+      ),
+    )
+
+pub returns-in-Some-clause-happens : goal.returns-in-Some-clause-happens
+returns-in-Some-clause-happens c = subst (λ (b : List Bool). IsConflict b c.args.arena.now c.walk_list.new.trail c.in-Some.reference) c.ahead.invariant.attached c.in-Some.ensures.walked
