@@ -1,9 +1,10 @@
-use Rattle.std.proofs.Common.{◌+◌, List, [], Option, rules, refl, sym, ap, ◌∙◌, subst, length, MatchBool, true≢false, arith}
+use Rattle.std.proofs.Common.{◌+◌, List, [], Option, refl, sym, ap, ◌∙◌, subst, length, MatchBool, true≢false, arith}
 use Rattle.std.proofs.lemmas.List.{length_push}
 use Rattle.cx_base.specs.Literals.{Literal}
 use Rattle.cx_base.specs.declared.steps.LogEvent.{LogEvent}
 use Rattle.cx_trail.specs.Sequence.{IsOpenIn, TrailState, IsFull, HasOpen}
 use Rattle.cx_trail.specs.declared.entry.Reason.TheVariants.{Decision}
+use Rattle.parity_engine.specs.State.{State}
 use Rattle.cdcl_search.specs.Ties.{SearchStands}
 use Rattle.cdcl_search.proofs.Decisions.{reordered_stands, decided_stands, settled_has_no_open, has_room, variables_are_scored}
 use Rattle.cdcl_search.proofs.deciding.decide.Goals as goal
@@ -25,7 +26,7 @@ returns-clause-stays g c =
     decided_stands c.args.formula.now c.args.state.now (g.P.ParityEngine.state c.args.engine.now) told c.requires.quiet c.requires.units c.pick_from_heap.new.self c.pick_from_heap.ensures.stand c.new.result
     (subst (IsOpenIn c.args.state.now.trail.entries) (ap (λ (l : Literal). l.variable) (sym c.new.ensures)) c.in-Some.ensures.picks.unassigned) c.decide.new.self c.decide.ensures.pushed c.decide.ensures.sound
     (g.P.ParityEngine.state c.push_level.new.self) c.push_level.ensures stands in
-    record { stands = stays; unbroken = search rules }
+    record { stands = stays; unbroken = λ broken. cc (c.requires.quiet.3, sym (ap (λ (s : State). s.mood) c.push_level.ensures) ∙ broken) }
 
 pub returns-clause-settled : goal.returns-clause-settled
 returns-clause-settled g c settled =

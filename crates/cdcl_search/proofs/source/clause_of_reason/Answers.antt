@@ -46,11 +46,6 @@ returns-in-Row-clause-grows g c = sourced_grows c.args.state.now c.args.rows.now
 pub returns-in-Row-clause-one : goal.returns-in-Row-clause-one
 returns-in-Row-clause-one g c = one_more c.args.state.now c.args.rows.now.items c.hinted_row.new.rows.items (λ (h : Hinted). h.lits) c.hinted_row.result c.hinted_row.ensures.rows
 
-pub returns-in_err-unit-clause-stands_on : goal.returns-in_err-unit-clause-stands_on
-returns-in_err-unit-clause-stands_on g c =
-    let fault = err_from_is_err_and c.from_residual.result c.from_residual.ensures.1 in
-    rw (fault.1, fault.2) (record { stands = tt; log = log_stops g.L.Sink g.met.L.Sink.keeps_itself c.args.log.now })
-
 pub returns-then-place-len-clause-stands_on : goal.returns-then-place-len-clause-stands_on
 returns-then-place-len-clause-stands_on g c = record { stands = c.requires.stands; log = log_rests g.L.Sink g.met.L.Sink.keeps_itself c.args.log.now }
 
@@ -75,17 +70,6 @@ returns-in_ok-stored-in-Clause-clause-stands_on g c = record { stands = c.requir
 
 pub returns-in_ok-stored-in-Clause-clause-grows : goal.returns-in_ok-stored-in-Clause-clause-grows
 returns-in_ok-stored-in-Clause-clause-grows g c clause sourced = sourced
-
-pub returns-in_err-stored-in-Clause-clause-stands_on : goal.returns-in_err-stored-in-Clause-clause-stands_on
-returns-in_err-stored-in-Clause-clause-stands_on g c =
-    let fault = err_from_is_err_and c.from_residual-in_err-stored-in-Clause.result c.from_residual-in_err-stored-in-Clause.ensures.1 in
-    rw (fault.1, fault.2) (record { stands = tt; log = log_stops g.L.Sink g.met.L.Sink.keeps_itself c.args.log.now })
-
-pub returns-in_err-stored-in-Clause-clause-grows : goal.returns-in_err-stored-in-Clause-clause-grows
-returns-in_err-stored-in-Clause-clause-grows g c clause sourced = sourced
-
-pub returns-in_err-unit-clause-grows : goal.returns-in_err-unit-clause-grows
-returns-in_err-unit-clause-grows g c clause sourced = sourced
 
 pub hinted_row-requires-clause-stands : goal.hinted_row-requires-clause-stands
 hinted_row-requires-clause-stands g c = c.requires.stands
@@ -125,3 +109,15 @@ pub place_of-place-requires : goal.place_of-place-requires
 place_of-place-requires g c =
     let h = c.requires.reason in
     subst (IsTrueIn c.args.state.now.trail.entries) (sym (ap Rattle.cx_base.specs.Literals.negate c.negate.ensures ∙ negate-negate c.args.literal)) (h.0, (h.1, h.2))
+
+pub returns-in_err-unit : goal.returns-in_err-unit
+returns-in_err-unit g c =
+    let fault = err_from_is_err_and c.from_residual.result c.from_residual.ensures.1 in
+    rw (fault.1, fault.2)
+    (record { sourced = tt; implied = tt; id = tt; grows = λ clause sourced. sourced; one = tt; stands_on = record { stands = tt; log = log_stops g.L.Sink g.met.L.Sink.keeps_itself c.args.log.now } })
+
+pub returns-in_err-stored-in-Clause : goal.returns-in_err-stored-in-Clause
+returns-in_err-stored-in-Clause g c =
+    let fault = err_from_is_err_and c.from_residual-in_err-stored-in-Clause.result c.from_residual-in_err-stored-in-Clause.ensures.1 in
+    rw (fault.1, fault.2)
+    (record { sourced = tt; implied = tt; id = tt; grows = λ clause sourced. sourced; one = tt; stands_on = record { stands = tt; log = log_stops g.L.Sink g.met.L.Sink.keeps_itself c.args.log.now } })
