@@ -66,6 +66,9 @@ module _ (vars level len : ℕ) (cells : List Entry) (places : List ℕ) (truths
   long : length (take len cells) ≡ len
   long = length-take-le len cells (omega (arith, k.is_whole.short, k.room))
 
+  pub cells_high : (i : ℕ) → i < len → var_at cells i ≤ length cells
+  cells_high i h = omega (arith, ap (λ (x : Entry). x.literal.variable) (same_at len i k.whole cells k.begins h), k.is_whole.paired.high i (omega (arith, k.is_whole.short)), k.room)
+
   -- ---- places
   -- a false literal's negation stands at its variable's place
   pub false_place : (l : Literal) → IsFalseIn (take len cells) l → (get_or places l.variable 0 < len) × ((entry_at (take len cells) (get_or places l.variable 0)).literal ≡ negate l)

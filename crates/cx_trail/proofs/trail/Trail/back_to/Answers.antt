@@ -1,8 +1,19 @@
-use Rattle.std.proofs.Common.{ℕ, List, take, ◌≤◌, ◌<◌, ◌-◌, sym, subst}
+use Rattle.std.proofs.Common.{ℕ, List, length, take, ◌≤◌, ◌<◌, ◌+◌, ◌*◌, ◌-◌, sym, subst, ap, ◌∙◌, arith}
 use Rattle.cx_trail.specs.declared.entry.Entry.{Entry}
 use Rattle.cx_trail.specs.Sequence.{TrailState, TakesBack, entry_at}
-use Rattle.cx_trail.proofs.FrontLaws.{front_sound, front_cut, front_taken_back, truths_left}
+use Rattle.cx_trail.specs.Cells.{var_at}
+use Rattle.cx_trail.proofs.FrontLaws.{front_sound, cells_high, front_cut, front_taken_back, truths_left}
 use Rattle.cx_trail.proofs.trail.Trail.back_to.Goals as goal
+
+pub cut-self-inside-requires-clause-count : goal.cut-self-inside-requires-clause-count
+cut-self-inside-requires-clause-count c = subst (λ (xs : List Entry). c.self.inside.count ≤ length xs) (sym c.deref.ensures.value) (omega (arith, c.self.invariant.is_whole.short, c.self.invariant.room))
+
+pub cut-self-inside-requires-clause-size : goal.cut-self-inside-requires-clause-size
+cut-self-inside-requires-clause-size c = c.self.invariant.is_whole.valued.size ∙ ap (λ n. 2 * n + 2) (sym (ap length c.deref.ensures.value ∙ c.self.invariant.room))
+
+pub cut-self-inside-requires-clause-high : goal.cut-self-inside-requires-clause-high
+cut-self-inside-requires-clause-high c =
+    subst (λ (xs : List Entry). (i : ℕ) → i < c.self.inside.count → var_at xs i ≤ length xs) (sym c.deref.ensures.value) (cells_high _ _ _ _ _ _ c.self.invariant)
 
 pub invariant_of-self : goal.invariant_of-self
 invariant_of-self c =

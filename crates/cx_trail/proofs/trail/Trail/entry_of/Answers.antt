@@ -5,6 +5,22 @@ use Rattle.cx_trail.specs.Sequence.{TrailState, IsAssignedIn, HasEntry, no_entry
 use Rattle.cx_trail.proofs.FrontLaws.{entry_of, assigned_high, assigned_place}
 use Rattle.cx_trail.proofs.trail.Trail.entry_of.Goals as goal
 
+pub index-requires : goal.index-requires
+index-requires c =
+    let k = c.self.invariant in
+    let assigned = subst (λ (t : TrailState). IsAssignedIn t.entries c.args.variable) (sym c.self.view_is) c.requires in
+    omega (arith, assigned_high _ _ _ _ _ _ k c.args.variable assigned, k.slots, c.number.ensures.number, c.self.inside.places.ok.0)
+
+pub index-requires-2 : goal.index-requires-2
+index-requires-2 c =
+    let k = c.self.invariant in
+    let v = c.args.variable in
+    let places = c.self.inside.places.items in
+    let assigned = subst (λ (t : TrailState). IsAssignedIn t.entries v) (sym c.self.view_is) c.requires in
+    let high = assigned_high _ _ _ _ _ _ k v assigned in
+    let at : c.index.result.now ≡ get_or places v 0 = get_or_read places _ _ (omega (arith, k.slots, c.number.ensures.number)) c.index.ensures 0 ∙ ap (λ x. get_or places x 0) c.number.ensures.number in
+    omega (arith, at, assigned_place _ _ _ _ _ _ k v assigned, k.is_whole.short, k.room, c.self.inside.cells.ok.0)
+
 pub returns : goal.returns
 returns c =
     let k = c.self.invariant in
