@@ -1,9 +1,10 @@
 //! Whether parities are far more than their variables, counted without a row or a list for any of them.
-ghost use Rattle.std.specs.Prelude.{◌≡◌, ℕ, ◌<◌, ◌≤◌, IfOk, length, max, slice_index};
+ghost use Rattle.std.specs.Prelude.{◌≡◌, ℕ, ◌<◌, ◌≤◌, length, max, slice_index};
 ghost use Rattle.std.specs.List.{AllByRecursion};
 ghost use Rattle.cx_base.specs.declared.literal.TheConstants.{MAX_VARIABLE};
 ghost use Rattle.cx_base.specs.Problem.{AreWithin};
 ghost use Rattle.gf2_matrix.specs.Labels.{AreLabels};
+ghost use Rattle.gf2_matrix.specs.declared.crowded.TheConstants.{SLACK};
 
 use crate::labels::{Labels, home_of, labels_of};
 use crate::make::occurring_variables;
@@ -11,7 +12,7 @@ use cx_base::LitList;
 use std::alloc::{AllocError, Global};
 
 /// A part may have so many parities beyond twice its columns before some are left out.
-const SLACK: usize = 256;
+const SLACK: usize = 513;
 
 /// Whether some part has far more parities than columns.
 pub(crate) fn is_crowded(alloc: Global, vars: u32, parities: &[LitList]) -> Result<bool, AllocError>
@@ -21,46 +22,35 @@ pub(crate) fn is_crowded(alloc: Global, vars: u32, parities: &[LitList]) -> Resu
 {
     let occurring = occurring_variables(alloc, vars, parities)?;
     let labels = labels_of(alloc, &occurring, parities)?;
-    let columns = column_counts(alloc, &labels)?;
-    let rows = parity_counts(alloc, &occurring, &labels, parities)?;
-    for part in 0..rows.len() {
-        if (rows[part] / 2).saturating_sub(SLACK) > columns[part] {
-            return Ok(true);
-        }
-    }
-    Ok(false)
+    let mut room = vec![in alloc; SLACK; labels.count.max(1) as usize]?;
+    add_room(&mut room, &labels.of);
+    Ok(is_over(&mut room, &occurring, &labels, parities))
 }
 
-/// How many columns each part has.
-fn column_counts(alloc: Global, labels: &Labels) -> Result<Vec<usize>, AllocError>
-    requires { (x : ℕ) → slice_index labels.now.of.items x ≤ labels.now.count }
-    ensures { IfOk result (λ counts. length counts.items ≡ max labels.now.count 1) }
+/// Gives the part of each label room for two parities more.
+fn add_room(room: &mut [usize], labels: &[u32])
+    requires high { (x : ℕ) → slice_index labels.now x ≤ length room.old }
+    requires few { (p : ℕ) → slice_index room.old p ≤ SLACK }
 {
-    let mut counts = vec![in alloc; 0; labels.count.max(1) as usize]?;
-    for label in &labels.of {
+    for label in labels {
         if *label > 0 {
-            counts[*label as usize - 1] += 1;
+            room[*label as usize - 1] += 2;
         }
     }
-    Ok(counts)
 }
 
-/// How many parities each part has.
-fn parity_counts(
-    alloc: Global,
-    occurring: &[bool],
-    labels: &Labels,
-    parities: &[LitList],
-) -> Result<Vec<usize>, AllocError>
+/// Whether some part has more parities than room, which each of them takes.
+fn is_over(room: &mut [usize], occurring: &[bool], labels: &Labels, parities: &[LitList]) -> bool
     requires within { AllByRecursion (AreWithin (length occurring.now)) parities.now }
-    requires few { length parities.now < 4294967296 }
     requires labels { AreLabels occurring.now parities.now labels.now }
-    ensures { IfOk result (λ counts. length counts.items ≡ max labels.now.count 1) }
+    requires count { length room.old ≡ max labels.now.count 1 }
 {
-    let mut counts = vec![in alloc; 0; labels.count.max(1) as usize]?;
     for parity in parities {
         let home = home_of(occurring, &labels.of, parity.as_slice());
-        counts[home] += 1;
+        if room[home] == 0 {
+            return true;
+        }
+        room[home] -= 1;
     }
-    Ok(counts)
+    false
 }
