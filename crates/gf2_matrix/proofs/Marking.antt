@@ -1,6 +1,7 @@
 -- Parities that say what all of them say.
-use Rattle.std.proofs.Common.{◌≡◌, ℕ, ◌+◌, ◌-◌, ◌<◌, ◌≤◌, suc, Bool, true, false, ◌&&◌, List, [], ◌∷◌, map, length, get_or, refl, sym, ap, ◌∙◌, subst, arith, inl, inr, true≢false}
+use Rattle.std.proofs.Common.{◌≡◌, ℕ, ◌+◌, ◌-◌, ◌<◌, ◌≤◌, suc, Bool, true, false, ◌&&◌, List, [], ◌∷◌, map, length, get_or, refl, sym, ap, ◌∙◌, subst, arith, inl, inr, true≢false, Option, Some, None}
 use Rattle.std.specs.List.{AllByRecursion}
+use Rattle.std.specs.Option.{MatchOption, is_some}
 use Rattle.std.specs.Simd.Lanes.{zip2}
 use Rattle.cx_base.specs.Literals.{Literal, differ}
 use Rattle.cx_base.specs.Problem.{AreWithin, parity_met}
@@ -74,3 +75,13 @@ module _ (c : Content) (of_given : IsOfGiven c) (marks : List Bool) (wide : leng
           | inr some ↦ met_by_marked r lt v long met (λ k small on. marked r some.0 k lt small some.1 on)
         ]);
   }
+
+-- a row of which no column was found has no variable
+pub none_found : (c : Content) (r : ℕ) (found : Option ℕ) → IsOfGiven c → r < length c.rows → is_some found ≡ false
+    → MatchOption found ((k : ℕ) → k < length c.columns → has (row_at c.rows r) (get_or c.columns k 0 - 1) ≡ false)
+    (λ k. (k < length c.columns) × (has (row_at c.rows r) (get_or c.columns k 0 - 1) ≡ true)) → (x : ℕ) → has (row_at c.rows r) x ≡ true → ⊥
+none_found c r (Some k) of_given lt off none x given = true≢false off
+none_found c r None of_given lt off none x given =
+    let column = of_given.in_columns r lt x given in
+    let here : get_or c.columns column.0 0 - 1 ≡ x = let e = column.2 in omega arith in
+    true≢false (sym given ∙ ap (has (row_at c.rows r)) (sym here) ∙ none column.0 column.1)
