@@ -80,56 +80,82 @@ fn put_other<P: ParityEngine + Drop>(
     others.push_str(story.as_str())
 }
 
-/// The same of both engines.
-fn put_others(
-    alloc: Global,
-    others: &mut String,
-    vars: u32,
-    parities: &[&[u32]],
-    acts: &[Act],
-    wanted: &str,
-) -> Result<(), AllocError>
-    requires some { 1 ≤ vars }
-    requires few { vars ≤ MAX_VARIABLE }
-{
-    let parities = parities_of(alloc, vars, parities)?;
-    put_other::<Scratch>(alloc, others, vars, &parities, acts, wanted)?;
-    put_other::<Incremental>(alloc, others, vars, &parities, acts, wanted)
+/// An act on the positive literal of a variable, or on levels.
+#[derive(Clone, Copy, Drop)]
+enum Step {
+    Open,
+    Yes(u32),
+    Back(u32),
 }
 
-#[test]
-fn literals_follow_as_they_come(rt: HostRuntime) -> Result<(), Fail> {
-    let acts = [Act::Open, Act::Set(yes(1)), Act::Back(0)];
-    let wanted = "...\n...\n++-\n...\n-3 [1, 3] [1]\n2 [-1, 2] [1, 2]\n";
-    let mut others = String::new(rt.alloc());
-    put_others(
-        rt.alloc(),
-        &mut others,
-        3,
-        &[&[1, 3], &[2, 3]],
-        &acts,
-        wanted,
-    )?;
-    assert_eq!(rt; others.as_str(), "");
-    Ok(())
+fn act_of(step: Step) -> Act {
+    match step {
+        Step::Open => Act::Open,
+        Step::Yes(number) => Act::Set(yes(number.clamp(1, 100))),
+        Step::Back(level) => Act::Back(level),
+    }
 }
+
+fn acts_of(alloc: Global, steps: &[Step]) -> Result<Vec<Act>, AllocError> {
+    let mut acts = Vec::new(alloc);
+    for step in steps {
+        acts.push(act_of(*step))?;
+    }
+    Ok(acts)
+}
+
+/// What is done over parities, and what the engines should know and tell.
+struct Case<'a> {
+    vars: u32,
+    parities: &'a [&'a [u32]],
+    steps: &'a [Step],
+    wanted: &'a str,
+}
+
+/// Writes what both engines know and tell, where that is not what is wanted.
+fn put_others(alloc: Global, others: &mut String, case: &Case) -> Result<(), AllocError> {
+    let vars = case.vars.clamp(1, 100);
+    let parities = parities_of(alloc, vars, case.parities)?;
+    let acts = acts_of(alloc, case.steps)?;
+    put_other::<Scratch>(alloc, others, vars, &parities, &acts, case.wanted)?;
+    put_other::<Incremental>(alloc, others, vars, &parities, &acts, case.wanted)
+}
+
+/// The same of all cases.
+fn others(alloc: Global, cases: &[Case]) -> Result<String, AllocError> {
+    let mut others = String::new(alloc);
+    for case in cases {
+        put_others(alloc, &mut others, case)?;
+    }
+    Ok(others)
+}
+
+/// Literals follow as they come.
+const FOLLOWING: Case = Case {
+    vars: 3,
+    parities: &[&[1, 3], &[2, 3]],
+    steps: &[Step::Open, Step::Yes(1), Step::Back(0)],
+    wanted: "...\n...\n++-\n...\n-3 [1, 3] [1]\n2 [-1, 2] [1, 2]\n",
+};
 
 /// Two parities that have two variables in common.
 const TWO: [&[u32]; 2] = [&[1, 2, 3, 4], &[3, 4, 5]];
 
-#[test]
-fn levels_come_and_go(rt: HostRuntime) -> Result<(), Fail> {
-    let acts = [
-        Act::Open,
-        Act::Set(yes(1)),
-        Act::Set(yes(2)),
-        Act::Open,
-        Act::Set(yes(3)),
-        Act::Back(1),
-        Act::Open,
-        Act::Set(yes(4)),
-    ];
-    let wanted = "\
+/// Levels come and go.
+const LEVELS: Case = Case {
+    vars: 5,
+    parities: &TWO,
+    steps: &[
+        Step::Open,
+        Step::Yes(1),
+        Step::Yes(2),
+        Step::Open,
+        Step::Yes(3),
+        Step::Back(1),
+        Step::Open,
+        Step::Yes(4),
+    ],
+    wanted: "\
 .....
 .....
 +....
@@ -142,26 +168,24 @@ fn levels_come_and_go(rt: HostRuntime) -> Result<(), Fail> {
 -5 [-1, 2, 5] [1, 2]
 -4 [1, 2, 3, 4] [1]
 -3 [1, 2, 3, 4] [1]
-";
-    let mut others = String::new(rt.alloc());
-    put_others(rt.alloc(), &mut others, 5, &TWO, &acts, wanted)?;
-    assert_eq!(rt; others.as_str(), "");
-    Ok(())
-}
+",
+};
 
-#[test]
-fn rows_follow_late(rt: HostRuntime) -> Result<(), Fail> {
-    let acts = [
-        Act::Open,
-        Act::Set(yes(1)),
-        Act::Set(yes(2)),
-        Act::Back(0),
-        Act::Open,
-        Act::Set(yes(5)),
-        Act::Set(yes(4)),
-        Act::Set(yes(1)),
-    ];
-    let wanted = "\
+/// Rows follow late.
+const LATE: Case = Case {
+    vars: 5,
+    parities: &TWO,
+    steps: &[
+        Step::Open,
+        Step::Yes(1),
+        Step::Yes(2),
+        Step::Back(0),
+        Step::Open,
+        Step::Yes(5),
+        Step::Yes(4),
+        Step::Yes(1),
+    ],
+    wanted: "\
 .....
 .....
 +....
@@ -174,9 +198,14 @@ fn rows_follow_late(rt: HostRuntime) -> Result<(), Fail> {
 -5 [-1, 2, 5] [1, 2]
 3 [3, 4, 5] [2]
 -2 [-1, 2, 5] [1, 2]
-";
-    let mut others = String::new(rt.alloc());
-    put_others(rt.alloc(), &mut others, 5, &TWO, &acts, wanted)?;
-    assert_eq!(rt; others.as_str(), "");
+",
+};
+
+/// Each worked case.
+const CASES: [Case; 3] = [FOLLOWING, LEVELS, LATE];
+
+#[test]
+fn engines_tell_what_follows(rt: HostRuntime) -> Result<(), Fail> {
+    assert_eq!(rt; others(rt.alloc(), &CASES)?.as_str(), "");
     Ok(())
 }

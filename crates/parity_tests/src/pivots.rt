@@ -40,23 +40,27 @@ fn is_parity(
 fn told(alloc: Global, matrix: &mut Matrix) -> Result<String, AllocError> {
     let lacks = pivots(matrix, 0, 2);
     let done = pivots(matrix, 0, 1);
-    let rows = rows(alloc, matrix)?;
     let wanted = [Lit::new(Var::new(1), true), Lit::new(Var::new(3), false)];
     let is_parity = is_parity(alloc, matrix, 1, Var::new(3), &wanted)?;
+    let rows = rows(alloc, matrix)?;
     format!(in alloc; "{lacks} {done}\n{rows}{} {is_parity}\n", matrix.rows())
+}
+
+/// The same of the matrix of two parities that share a variable.
+fn told_of_two(alloc: Global) -> Result<String, AllocError> {
+    let parities = parities_of(alloc, 3, &[&[1, 2], &[2, 3]])?;
+    let mut matrix = Matrix::make(alloc, 3, &parities)?;
+    told(alloc, &mut matrix)
 }
 
 #[test]
 fn a_pivot_adds_the_sources(rt: HostRuntime) -> Result<(), Fail> {
-    let alloc = rt.alloc();
-    let parities = parities_of(alloc, 3, &[&[1, 2], &[2, 3]])?;
-    let mut matrix = Matrix::make(alloc, 3, &parities)?;
     let wanted = "\
 false true
 [1, 2] true [1]
 [1, 3] false [1, 2]
 2 true
 ";
-    assert_eq!(rt; told(alloc, &mut matrix)?.as_str(), wanted);
+    assert_eq!(rt; told_of_two(rt.alloc())?.as_str(), wanted);
     Ok(())
 }

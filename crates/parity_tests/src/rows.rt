@@ -101,6 +101,5 @@ fn products() -> (bool, bool) {
 
 #[test]
 fn ones_are_counted(rt: HostRuntime) {
-    assert_eq!(rt; ones(&[1; 9]), 9);
-    assert_eq!(rt; products(), (false, true));
+    assert_eq!(rt; (ones(&[1; 9]), products()), (9, (false, true)));
 }
