@@ -6,7 +6,7 @@ use cx_texts::Textual;
 use thiserror::Error;
 
 /// Why a sink did not take what it was given.
-#[derive(Clone, Copy, Debug, PartialEq, Eq, Drop, Error)]
+#[derive(Clone, Copy, Debug, Drop, Error)]
 pub enum SinkFault {
     /// Want of memory: nothing was taken, and no fault was counted.
     #[error("out of memory")]

@@ -9,7 +9,7 @@ use cx_desk::ReadErr;
 use thiserror::Error;
 
 /// Why no step was given.
-#[derive(Clone, Copy, Debug, PartialEq, Eq, Drop, Error)]
+#[derive(Clone, Copy, Debug, Drop, Error)]
 pub enum TextRefusal {
     /// A token that fits no step; its byte place.
     #[error("bad token at byte {0}")]
