@@ -6,15 +6,15 @@ use model_out::{put_answer, read_answer};
 use std::alloc::{AllocError, Global};
 use std::test::Fail;
 
-/// The values that a text gives as an answer to the formula, or why it is none.
+/// The values that a text gives as an answer to the formula, or why it is none, on a line.
 fn answer_of(alloc: Global, formula: &Formula, text: &[u8]) -> Result<String, AllocError> {
     match &read_answer(alloc, text, formula) {
-        Ok(values) => format!(in alloc; " {:?}", values.as_slice()),
-        Err(refusal) => format!(in alloc; " {refusal:?}"),
+        Ok(values) => format!(in alloc; "{:?}\n", values.as_slice()),
+        Err(refusal) => format!(in alloc; "{refusal:?}\n"),
     }
 }
 
-/// What each text gives as an answer to the formula, each behind a blank.
+/// What each text gives as an answer to the formula, each on a line.
 fn answers_to(alloc: Global, formula: &Formula, texts: &[&[u8]]) -> Result<String, AllocError> {
     let mut all = String::new(alloc);
     for text in texts {
@@ -91,65 +91,58 @@ fn a_long_answer_is_written_whole(rt: HostRuntime) -> Result<(), Fail> {
     Ok(())
 }
 
-#[test]
-fn an_answer_gives_its_values(rt: HostRuntime) -> Result<(), Fail> {
-    let texts: [&[u8]; 3] = [
-        b"s SATISFIABLE\nv 1 -2 0\n",
-        b"c hi\n\n \t\n s  SATISFIABLE\r\n\nc v 3\nv\n v 01\r\n\n\nv -002 -0",
-        b"s SATISFIABLE\nv 3 -3 1 -2 16777216 1111111111222222222233333333334444444444\nv -3 00\n",
-    ];
-    let found = answers(rt.alloc(), &texts)?;
-    assert_eq!(rt;
-        found.as_str(),
-        " [true, false] [true, false] [true, false]"
-    );
-    Ok(())
-}
+/// Texts for the formula that is the parity of 1 and 2 and the clause of 1.
+const TEXTS: [&[u8]; 19] = [
+    // Answers that give values.
+    b"s SATISFIABLE\nv 1 -2 0\n",
+    b"c hi\n\n \t\n s  SATISFIABLE\r\n\nc v 3\nv\n v 01\r\n\n\nv -002 -0",
+    b"s SATISFIABLE\nv 3 -3 1 -2 16777216 1111111111222222222233333333334444444444\nv -3 00\n",
+    // An answer has a status line.
+    b"",
+    b"s UNSATISFIABLE\n",
+    b"s SATISFIABLE 1\nv 1 -2 0",
+    b"s\nSATISFIABLE\nv 1 -2 0",
+    // The first bad token is answered.
+    b"s SATISFIABLE",
+    b"s SATISFIABLE\nv 1 q 0",
+    b"s SATISFIABLE\nv 1\n-2 0",
+    b"s SATISFIABLE\nv 1 v -2 0",
+    b"s SATISFIABLE\nv 1 -2\n",
+    b"s SATISFIABLE\nv 1 -2 0 0",
+    b"s SATISFIABLE\nv 1 -2 0\nv\n",
+    // Wrong values are answered.
+    b"s SATISFIABLE\nv 1 0",
+    b"s SATISFIABLE\nv -2 2 0",
+    b"s SATISFIABLE\nv 1 -2 1 0",
+    b"s SATISFIABLE\nv 1 2 0",
+    b"s SATISFIABLE\nv -1 2 0",
+];
+
+/// What each gives.
+const WANTED: &str = "\
+[true, false]
+[true, false]
+[true, false]
+NoStatusLine
+NoStatusLine
+NoStatusLine
+NoStatusLine
+BadToken(13)
+BadToken(18)
+BadToken(18)
+BadToken(18)
+BadToken(21)
+BadToken(23)
+BadToken(23)
+Missing(Var { number: 2 })
+Missing(Var { number: 1 })
+Twice(Var { number: 1 })
+Unmet(1)
+Unmet(2)
+";
 
 #[test]
-fn an_answer_has_a_status_line(rt: HostRuntime) -> Result<(), Fail> {
-    let texts: [&[u8]; 4] = [
-        b"",
-        b"s UNSATISFIABLE\n",
-        b"s SATISFIABLE 1\nv 1 -2 0",
-        b"s\nSATISFIABLE\nv 1 -2 0",
-    ];
-    let found = answers(rt.alloc(), &texts)?;
-    assert_eq!(rt;
-        found.as_str(),
-        " NoStatusLine NoStatusLine NoStatusLine NoStatusLine"
-    );
-    Ok(())
-}
-
-#[test]
-fn the_first_bad_token_is_answered(rt: HostRuntime) -> Result<(), Fail> {
-    let texts: [&[u8]; 7] = [
-        b"s SATISFIABLE",
-        b"s SATISFIABLE\nv 1 q 0",
-        b"s SATISFIABLE\nv 1\n-2 0",
-        b"s SATISFIABLE\nv 1 v -2 0",
-        b"s SATISFIABLE\nv 1 -2\n",
-        b"s SATISFIABLE\nv 1 -2 0 0",
-        b"s SATISFIABLE\nv 1 -2 0\nv\n",
-    ];
-    let wanted =
-        " BadToken(13) BadToken(18) BadToken(18) BadToken(18) BadToken(21) BadToken(23) BadToken(23)";
-    assert_eq!(rt; answers(rt.alloc(), &texts)?.as_str(), wanted);
-    Ok(())
-}
-
-#[test]
-fn wrong_values_are_answered(rt: HostRuntime) -> Result<(), Fail> {
-    let texts: [&[u8]; 5] = [
-        b"s SATISFIABLE\nv 1 0",
-        b"s SATISFIABLE\nv -2 2 0",
-        b"s SATISFIABLE\nv 1 -2 1 0",
-        b"s SATISFIABLE\nv 1 2 0",
-        b"s SATISFIABLE\nv -1 2 0",
-    ];
-    let wanted =
-        " Missing(Var { number: 2 }) Missing(Var { number: 1 }) Twice(Var { number: 1 }) Unmet(1) Unmet(2)";
-    assert_eq!(rt; answers(rt.alloc(), &texts)?.as_str(), wanted);
+fn an_answer_gives_its_values_or_why_it_is_none(rt: HostRuntime) -> Result<(), Fail> {
+    assert_eq!(rt; answers(rt.alloc(), &TEXTS)?.as_str(), WANTED);
     Ok(())
 }

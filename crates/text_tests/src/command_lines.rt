@@ -57,7 +57,8 @@ const TAKEN: [(&str, &str); 40] = [
 ];
 
 /// Command lines that ask for nothing.
-const REFUSED: [&str; 56] = [
+const REFUSED: [&str; 57] = [
+    "",
     "cxsat",
     "cxsat --help",
     "cxsat -h",
@@ -116,8 +117,12 @@ const REFUSED: [&str; 56] = [
     "cxsat demo odd 60 18446744073709551616",
 ];
 
+/// The words of a line; an empty one has none.
 fn words_of(alloc: Global, line: &str) -> Result<Vec<String>, AllocError> {
     let mut words = Vec::new(alloc);
+    if line.is_empty() {
+        return Ok(words);
+    }
     for word in line.split(' ') {
         words.push(String::from_str(alloc, word)?)?;
     }
@@ -201,40 +206,50 @@ fn asks_for(alloc: Global, line: &str, wanted: &str) -> Result<bool, AllocError>
     Ok(answer_to(alloc, &words)?.as_str() == wanted)
 }
 
-/// The lines that ask for something else than what is wanted, each behind a bar.
-fn others(alloc: Global, lines: &[(&str, &str)]) -> Result<String, AllocError> {
-    let mut others = String::new(alloc);
+/// Appends a line behind a bar, where it asks for something else than what is wanted.
+fn add_other(
+    alloc: Global,
+    line: &str,
+    wanted: &str,
+    others: &mut String,
+) -> Result<(), AllocError> {
+    if asks_for(alloc, line, wanted)? {
+        return Ok(());
+    }
+    others.push('|')?;
+    others.push_str(line)
+}
+
+/// Appends the lines that ask for something else than what is wanted.
+fn add_others(
+    alloc: Global,
+    lines: &[(&str, &str)],
+    others: &mut String,
+) -> Result<(), AllocError> {
     for (line, wanted) in lines {
-        if !asks_for(alloc, line, wanted)? {
-            others.push('|')?;
-            others.push_str(line)?;
-        }
+        add_other(alloc, line, wanted, others)?;
     }
-    Ok(others)
-}
-
-/// The lines that ask for something, each behind a bar.
-fn taken(alloc: Global, lines: &[&str]) -> Result<String, AllocError> {
-    let mut taken = String::new(alloc);
-    for line in lines {
-        if !asks_for(alloc, line, "usage")? {
-            taken.push('|')?;
-            taken.push_str(line)?;
-        }
-    }
-    Ok(taken)
-}
-
-#[test]
-fn lines_that_are_taken_ask_for_their_plan(rt: HostRuntime) -> Result<(), Fail> {
-    assert_eq!(rt; others(rt.alloc(), &TAKEN)?.as_str(), "");
     Ok(())
 }
 
+/// Appends the lines that ask for something.
+fn add_taken(alloc: Global, lines: &[&str], others: &mut String) -> Result<(), AllocError> {
+    for line in lines {
+        add_other(alloc, line, "usage", others)?;
+    }
+    Ok(())
+}
+
+/// The lines that are taken otherwise than wanted, or at all where they are to be refused.
+fn others(alloc: Global) -> Result<String, AllocError> {
+    let mut others = String::new(alloc);
+    add_others(alloc, &TAKEN, &mut others)?;
+    add_taken(alloc, &REFUSED, &mut others)?;
+    Ok(others)
+}
+
 #[test]
-fn lines_that_are_refused_are_usage(rt: HostRuntime) -> Result<(), Fail> {
-    let alloc = rt.alloc();
-    assert_eq!(rt; taken(alloc, &REFUSED)?.as_str(), "");
-    assert_eq!(rt; answer_to(alloc, &[])?.as_str(), "usage");
+fn lines_ask_for_their_plan_or_are_usage(rt: HostRuntime) -> Result<(), Fail> {
+    assert_eq!(rt; others(rt.alloc())?.as_str(), "");
     Ok(())
 }

@@ -16,6 +16,12 @@ const WIDE: Rooms = Rooms {
     message: 100,
 };
 
+const NARROW: Rooms = Rooms {
+    answer: 3,
+    proof: 0,
+    message: 2,
+};
+
 /// What is done with a file that was opened.
 #[derive(Clone, Copy, Drop)]
 enum Reading {
@@ -40,8 +46,8 @@ enum Act {
     StartAnother,
 }
 
-/// The most bytes that one call moves, the numbers of the calls that fail, and what is done.
-type Case = (usize, &'static [u64], Act);
+/// The rooms of the ports, the most bytes that one call moves, the numbers of the calls that fail, and what is done.
+type Case = (Rooms, usize, &'static [u64], Act);
 
 /// What is read of the file up to a limit, or why it is not.
 fn read_up_to(alloc: Global, desk: &mut MemDesk, limit: u64) -> Result<String, AllocError>
@@ -138,55 +144,67 @@ fn add_act(alloc: Global, desk: &mut MemDesk, act: Act, told: &mut String) -> Re
 }
 
 /// The same on a new desk.
-fn add_case(alloc: Global, rooms: Rooms, case: &Case, told: &mut String) -> Result<(), AllocError> {
-    let mut desk = desk(alloc, TEXT, rooms, case.0.max(1), case.1)?;
-    add_act(alloc, &mut desk, case.2, told)
+fn add_case(alloc: Global, case: &Case, told: &mut String) -> Result<(), AllocError> {
+    let mut desk = desk(alloc, TEXT, case.0, case.1.max(1), case.2)?;
+    add_act(alloc, &mut desk, case.3, told)
 }
 
-/// What comes of each case, on a desk of its own with these rooms.
-fn told(alloc: Global, rooms: Rooms, cases: &[Case]) -> Result<String, AllocError> {
+/// What comes of each case, on a desk of its own.
+fn told(alloc: Global, cases: &[Case]) -> Result<String, AllocError> {
     let mut told = String::new(alloc);
     for case in cases {
-        add_case(alloc, rooms, case, &mut told)?;
+        add_case(alloc, case, &mut told)?;
     }
     Ok(told)
 }
 
-#[test]
-fn a_text_is_read_up_to_the_limit(rt: HostRuntime) -> Result<(), Fail> {
-    let cases: [Case; 4] = [
-        (2, &[], Act::Read(Reading::Whole(u64::MAX))),
-        (2, &[], Act::Read(Reading::Whole(5))),
-        (2, &[], Act::Read(Reading::Whole(4))),
-        (2, &[], Act::Read(Reading::Whole(0))),
-    ];
-    let wanted = "\
-[97, 98, 99, 100, 101], faults 0 0 0
-[97, 98, 99, 100, 101], faults 0 0 0
-TooLong, faults 0 0 0
-TooLong, faults 0 0 0
-";
-    assert_eq!(rt; told(rt.alloc(), WIDE, &cases)?.as_str(), wanted);
-    Ok(())
-}
+/// What is done with desks.
+const CASES: [Case; 15] = [
+    // A text is read up to the limit.
+    (WIDE, 2, &[], Act::Read(Reading::Whole(u64::MAX))),
+    (WIDE, 2, &[], Act::Read(Reading::Whole(5))),
+    (WIDE, 2, &[], Act::Read(Reading::Whole(4))),
+    (WIDE, 2, &[], Act::Read(Reading::Whole(0))),
+    // A text is drained up to the limit.
+    (WIDE, 2, &[], Act::Read(Reading::Drain(u64::MAX))),
+    (WIDE, 2, &[], Act::Read(Reading::Drain(5))),
+    (WIDE, 2, &[], Act::Read(Reading::Drain(4))),
+    (WIDE, 2, &[], Act::Read(Reading::Drain(0))),
+    (WIDE, 2, &[3], Act::Read(Reading::Drain(5))),
+    // A failing call fails once.
+    (WIDE, 8, &[2], Act::Read(Reading::Twice)),
+    // A missing name is a read fault.
+    (WIDE, 8, &[], Act::StartAnother),
+    // A call moves at most a piece.
+    (WIDE, 1, &[], Act::Read(Reading::AndPut)),
+    (WIDE, 2, &[], Act::Read(Reading::AndPut)),
+    // A full port takes what fits, and then fails.
+    (NARROW, 8, &[], Act::PutTwice(Port::Answer)),
+    (NARROW, 8, &[], Act::PutTwice(Port::Message)),
+];
 
-#[test]
-fn a_text_is_drained_up_to_the_limit(rt: HostRuntime) -> Result<(), Fail> {
-    let cases: [Case; 5] = [
-        (2, &[], Act::Read(Reading::Drain(u64::MAX))),
-        (2, &[], Act::Read(Reading::Drain(5))),
-        (2, &[], Act::Read(Reading::Drain(4))),
-        (2, &[], Act::Read(Reading::Drain(0))),
-        (2, &[3], Act::Read(Reading::Drain(5))),
-    ];
-    let wanted = "\
+/// What comes of each.
+const WANTED: &str = "\
+[97, 98, 99, 100, 101], faults 0 0 0
+[97, 98, 99, 100, 101], faults 0 0 0
+TooLong, faults 0 0 0
+TooLong, faults 0 0 0
 Ok(()), faults 0 0 0
 Ok(()), faults 0 0 0
 Err(TooLong), faults 0 0 0
 Err(TooLong), faults 0 0 0
 Err(Failed), faults 1 0 0
+Err(Failed) Ok(5), faults 1 0 0
+Err(Failed), faults 1 0 0
+Ok(1) Ok(1) 1, faults 0 0 0
+Ok(2) Ok(2) 2, faults 0 0 0
+Ok(3) Err(Failed) 3, faults 0 1 0
+Ok(2) Err(Failed) 2, faults 0 0 1
 ";
-    assert_eq!(rt; told(rt.alloc(), WIDE, &cases)?.as_str(), wanted);
+
+#[test]
+fn calls_do_what_their_names_say_up_to_a_limit(rt: HostRuntime) -> Result<(), Fail> {
+    assert_eq!(rt; told(rt.alloc(), &CASES)?.as_str(), WANTED);
     Ok(())
 }
 
@@ -202,48 +220,5 @@ fn read_endless(alloc: Global) -> Result<(bool, bool, u64), AllocError> {
 #[test]
 fn a_text_without_an_end_is_too_long(rt: HostRuntime) -> Result<(), Fail> {
     assert_eq!(rt; read_endless(rt.alloc())?, (true, true, 5));
-    Ok(())
-}
-
-#[test]
-fn a_full_port_takes_what_fits_and_then_fails(rt: HostRuntime) -> Result<(), Fail> {
-    let rooms = Rooms {
-        answer: 3,
-        proof: 0,
-        message: 2,
-    };
-    let cases: [Case; 2] = [
-        (8, &[], Act::PutTwice(Port::Answer)),
-        (8, &[], Act::PutTwice(Port::Message)),
-    ];
-    let wanted = "Ok(3) Err(Failed) 3, faults 0 1 0\nOk(2) Err(Failed) 2, faults 0 0 1\n";
-    assert_eq!(rt; told(rt.alloc(), rooms, &cases)?.as_str(), wanted);
-    Ok(())
-}
-
-#[test]
-fn a_failing_call_fails_once(rt: HostRuntime) -> Result<(), Fail> {
-    let cases: [Case; 1] = [(8, &[2], Act::Read(Reading::Twice))];
-    let wanted = "Err(Failed) Ok(5), faults 1 0 0\n";
-    assert_eq!(rt; told(rt.alloc(), WIDE, &cases)?.as_str(), wanted);
-    Ok(())
-}
-
-#[test]
-fn a_missing_name_is_a_read_fault(rt: HostRuntime) -> Result<(), Fail> {
-    let cases: [Case; 1] = [(8, &[], Act::StartAnother)];
-    let wanted = "Err(Failed), faults 1 0 0\n";
-    assert_eq!(rt; told(rt.alloc(), WIDE, &cases)?.as_str(), wanted);
-    Ok(())
-}
-
-#[test]
-fn a_call_moves_at_most_a_piece(rt: HostRuntime) -> Result<(), Fail> {
-    let cases: [Case; 2] = [
-        (1, &[], Act::Read(Reading::AndPut)),
-        (2, &[], Act::Read(Reading::AndPut)),
-    ];
-    let wanted = "Ok(1) Ok(1) 1, faults 0 0 0\nOk(2) Ok(2) 2, faults 0 0 0\n";
-    assert_eq!(rt; told(rt.alloc(), WIDE, &cases)?.as_str(), wanted);
     Ok(())
 }

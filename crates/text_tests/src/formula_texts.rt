@@ -17,22 +17,33 @@ fn show_lits(out: &mut String, lits: &[Lit]) -> Result<(), Fail> {
     Ok(())
 }
 
-/// The number of variables, and each constraint behind a colon; a parity has an `x` in front.
+/// Writes a constraint behind a colon; a parity has an `x` in front.
+fn show_item(out: &mut String, item: ConstraintRef) -> Result<(), Fail> {
+    match item {
+        ConstraintRef::Clause(lits) => {
+            out.push_str(":")?;
+            show_lits(out, lits)
+        }
+        ConstraintRef::Parity(lits) => {
+            out.push_str(": x")?;
+            show_lits(out, lits)
+        }
+    }
+}
+
+/// Writes each constraint.
+fn show_items(out: &mut String, formula: &Formula) -> Result<(), Fail> {
+    for item in formula.items() {
+        show_item(out, item)?;
+    }
+    Ok(())
+}
+
+/// The number of variables, and each constraint.
 pub(crate) fn show(alloc: Global, formula: &Formula) -> Result<String, Fail> {
     let vars = formula.vars();
     let mut out = format!(in alloc; "{vars}")?;
-    for item in formula.items() {
-        match item {
-            ConstraintRef::Clause(lits) => {
-                out.push_str(":")?;
-                show_lits(&mut out, lits)?;
-            }
-            ConstraintRef::Parity(lits) => {
-                out.push_str(": x")?;
-                show_lits(&mut out, lits)?;
-            }
-        }
-    }
+    show_items(&mut out, formula)?;
     Ok(out)
 }
 

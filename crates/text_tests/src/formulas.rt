@@ -31,64 +31,74 @@ fn small(alloc: Global) -> Result<Formula, AllocError> {
     formula(alloc, &[one, one, two], one)
 }
 
-/// For each list of values the first constraint that it does not meet, and whether it meets all.
-fn unmet(alloc: Global, formula: &Formula, lists: &[&[bool]]) -> Result<String, AllocError> {
-    let mut text = String::new(alloc);
+/// Appends, for each list of values, the first constraint that it does not meet, and whether it meets all.
+fn add_unmet(formula: &Formula, lists: &[&[bool]], told: &mut String) -> Result<(), AllocError> {
     for values in lists {
         if values.len() != formula.vars() as usize {
-            return String::from_str(alloc, "other variables");
+            return told.push_str("other variables");
         }
         let first = formula.first_unmet(values);
         let all = formula.meets(values);
-        text.push_str(format!(in alloc; " {first:?} {all}")?.as_str())?;
+        writeln!(told, "{first:?} {all}")?;
     }
-    Ok(text)
-}
-
-#[test]
-fn repeats_count_in_parities(rt: HostRuntime) -> Result<(), Fail> {
-    let formula = small(rt.alloc())?;
-    let lists: [&[bool]; 3] = [&[true, true], &[true, false], &[false, true]];
-    let found = unmet(rt.alloc(), &formula, &lists)?;
-    assert_eq!(rt; found.as_str(), " None true Some(1) false Some(2) false");
     Ok(())
 }
 
-/// The first clause and the first parity, where there is one of each.
-fn firsts(alloc: Global, formula: &Formula) -> Result<String, AllocError> {
+/// Appends the first clause and the first parity, where there is one of each.
+fn add_firsts(formula: &Formula, told: &mut String) -> Result<(), AllocError> {
     if formula.clause_count() != 1 || formula.parity_count() != 1 {
-        return String::from_str(alloc, "other numbers");
+        return told.push_str("other numbers");
     }
-    format!(in alloc; "{:?} {:?}", formula.clause(1), formula.parity(1))
+    writeln!(told, "{:?} {:?}", formula.clause(1), formula.parity(1))
 }
 
-#[test]
-fn clauses_and_parities_are_numbered_apart(rt: HostRuntime) -> Result<(), Fail> {
-    let alloc = rt.alloc();
-    let found = firsts(alloc, &small(alloc)?)?;
-    let one = "Lit { code: 2 }";
-    let wanted = format!(in alloc; "[{one}] [{one}, {one}, Lit {{ code: 4 }}]")?;
-    assert_eq!(rt; found.as_str(), wanted.as_str());
+/// Appends the constraints one by one, each by its kind and how many literals it has.
+fn add_items(formula: &Formula, told: &mut String) -> Result<(), AllocError> {
+    for item in formula.items() {
+        let (kind, len) = match item {
+            ConstraintRef::Clause(lits) => ("clause", lits.len()),
+            ConstraintRef::Parity(lits) => ("parity", lits.len()),
+        };
+        writeln!(told, "{kind} {len}")?;
+    }
     Ok(())
 }
 
-/// The constraints one by one, each by its kind and how many literals it has.
-fn items(alloc: Global, formula: &Formula) -> Result<String, AllocError> {
-    let mut text = String::new(alloc);
-    for item in formula.items() {
-        let line = match item {
-            ConstraintRef::Clause(lits) => format!(in alloc; " clause {}", lits.len())?,
-            ConstraintRef::Parity(lits) => format!(in alloc; " parity {}", lits.len())?,
-        };
-        text.push_str(line.as_str())?;
-    }
-    Ok(text)
+/// Appends all that.
+fn add_all(formula: &Formula, lists: &[&[bool]], told: &mut String) -> Result<(), AllocError> {
+    add_unmet(formula, lists, told)?;
+    add_firsts(formula, told)?;
+    add_items(formula, told)
 }
 
+/// Lists of values for the small formula.
+const LISTS: [&[bool]; 3] = [&[true, true], &[true, false], &[false, true]];
+
+/// All that of a formula.
+fn told_of(alloc: Global, formula: &Formula) -> Result<String, AllocError> {
+    let mut told = String::new(alloc);
+    add_all(formula, &LISTS, &mut told)?;
+    Ok(told)
+}
+
+/// All that of the small formula.
+fn told(alloc: Global) -> Result<String, AllocError> {
+    let formula = small(alloc)?;
+    told_of(alloc, &formula)
+}
+
+/// What is told of the small formula: repeats count in parities, clauses and parities are numbered apart, and items come in order.
+const WANTED: &str = "\
+None true
+Some(1) false
+Some(2) false
+[Lit { code: 2 }] [Lit { code: 2 }, Lit { code: 2 }, Lit { code: 4 }]
+parity 3
+clause 1
+";
+
 #[test]
-fn items_come_in_order(rt: HostRuntime) -> Result<(), Fail> {
-    let alloc = rt.alloc();
-    let found = items(alloc, &small(alloc)?)?;
-    assert_eq!(rt; found.as_str(), " parity 3 clause 1");
+fn a_small_formula(rt: HostRuntime) -> Result<(), Fail> {
+    assert_eq!(rt; told(rt.alloc())?.as_str(), WANTED);
     Ok(())
 }

@@ -4,7 +4,7 @@ ghost use Rattle.cx_base.specs.declared.steps.LogEvent.TheVariants.{Step};
 ghost use Rattle.cx_texts.specs.Printed.{HasText};
 ghost use Rattle.step_text.specs.Texts.{is_spent_by};
 
-use crate::reprinting::{Reprint, endings_of, lines_come_back};
+use crate::reprinting::{Reprint, endings_of};
 use cx_base::LogEvent;
 use cx_desk::{MemDesk, Port, Rooms};
 use log_text::{ListLog, LogStep, LogText, NoLog, put_log, put_log_step};
@@ -24,15 +24,26 @@ fn keep(log: &mut ListLog, told: &LogEvent) -> Result<(), SinkFault>
     nothing.put(told)
 }
 
+/// Keeps a step.
+fn keep_step(log: &mut ListLog, step: LogStep) -> Result<(), SinkFault>
+    requires { HasText (Step step) }
+{
+    keep(log, &LogEvent::Step(step))
+}
+
+/// Keeps a mark.
+fn keep_mark(log: &mut ListLog, k: u64) -> Result<(), SinkFault> {
+    keep(log, &LogEvent::Conflict(k))
+}
+
 /// Prints a step, and keeps it with a mark behind it.
 fn put(desk: &mut MemDesk, log: &mut ListLog, step: LogStep, k: u64) -> Result<(), Fail>
     requires { HasText (Step step) }
 {
     let printed = put_log_step(desk, Port::Proof, &step);
-    let kept = keep(log, &LogEvent::Step(step));
+    keep_step(log, step)?;
     printed?;
-    kept?;
-    keep(log, &LogEvent::Conflict(k))?;
+    keep_mark(log, k)?;
     Ok(())
 }
 
@@ -88,13 +99,17 @@ fn add_steps(
     Ok(ending)
 }
 
-/// The printed steps of a text, the printed log and the ending.
-fn twice(alloc: Global, text: &[u8], desk: &mut MemDesk) -> Result<Vec<u8>, Fail> {
-    let mut printed = Vec::new(alloc);
-    let ending = add_steps(alloc, text, desk, &mut printed)?;
-    printed.extend_from_slice(desk.written(Port::Answer))?;
-    printed.extend_from_slice(format!(in alloc; "{ending:?}\n")?.as_bytes())?;
-    Ok(printed)
+/// Appends the printed steps of a text, the printed log and the ending.
+fn add_twice(
+    alloc: Global,
+    text: &[u8],
+    desk: &mut MemDesk,
+    told: &mut Vec<u8>,
+) -> Result<(), Fail> {
+    let ending = add_steps(alloc, text, desk, told)?;
+    told.extend_from_slice(desk.written(Port::Answer))?;
+    told.extend_from_slice(format!(in alloc; "{ending:?}\n")?.as_bytes())?;
+    Ok(())
 }
 
 /// A desk with room for steps and logs.
@@ -121,26 +136,9 @@ impl Reprint for Logs {
 /// The same on a new desk.
 fn printed_twice(alloc: Global, text: &[u8]) -> Result<Vec<u8>, Fail> {
     let mut desk = new_desk(alloc)?;
-    twice(alloc, text, &mut desk)
-}
-
-#[test]
-fn printed_steps_are_the_steps_read(rt: HostRuntime) -> Result<(), Fail> {
-    let lines: [&[u8]; 11] = [
-        b"o 1 1 -2 0\n",
-        b"o x 1 1 2 0\n",
-        b"a 3 0\n",
-        b"a 3 1 0 l 1 -2 0\n",
-        b"a x 2 -1 0 l 1 9223372036854775807 0\n",
-        b"i 4 1 0 l 2 0\n",
-        b"i x 3 1 2 0 l 1 4 0\n",
-        b"d 4 1 0\n",
-        b"d x 3 0\n",
-        b"f 1 1 -2 0\n",
-        b"f x 1 1 2 0\n",
-    ];
-    assert_eq!(rt; lines_come_back::<Logs>(rt.alloc(), &lines)?, 11);
-    Ok(())
+    let mut told = Vec::new(alloc);
+    add_twice(alloc, text, &mut desk, &mut told)?;
+    Ok(told)
 }
 
 #[test]
@@ -153,28 +151,74 @@ fn marks_are_lines_that_are_passed_over(rt: HostRuntime) -> Result<(), Fail> {
     Ok(())
 }
 
-#[test]
-fn endings_behind_no_step(rt: HostRuntime) -> Result<(), Fail> {
-    let texts: [&[u8]; 8] = [
-        b"a 1 0 l 2",
-        b"a x 1 2 0 3 0",
-        b"i 4 1 0 2 0",
-        b"i 4 1 0 l 2 3",
-        b"r 1 0",
-        b"o 0 1 0",
-        b"a 1 0 l x",
-        b"d 9223372036854775808 0",
-    ];
-    let wanted =
-        b"Some(Unterminated(9))\nSome(BadToken(10))\nSome(BadToken(8))\nSome(BadToken(12))\nSome(BadToken(0))\nSome(BadToken(2))\nSome(BadToken(8))\nSome(TooBig(2))\n".as_slice();
-    assert_eq!(rt; endings_of::<Logs>(rt.alloc(), &texts)?.as_slice(), wanted);
-    Ok(())
-}
+/// Texts of logs.
+const TEXTS: [&[u8]; 21] = [
+    // one step, which is printed as it was read
+    b"o 1 1 -2 0\n",
+    b"o x 1 1 2 0\n",
+    b"a 3 0\n",
+    b"a 3 1 0 l 1 -2 0\n",
+    b"a x 2 -1 0 l 1 9223372036854775807 0\n",
+    b"i 4 1 0 l 2 0\n",
+    b"i x 3 1 2 0 l 1 4 0\n",
+    b"d 4 1 0\n",
+    b"d x 3 0\n",
+    b"f 1 1 -2 0\n",
+    b"f x 1 1 2 0\n",
+    // refused behind no step
+    b"a 1 0 l 2",
+    b"a x 1 2 0 3 0",
+    b"i 4 1 0 2 0",
+    b"i 4 1 0 l 2 3",
+    b"r 1 0",
+    b"o 0 1 0",
+    b"a 1 0 l x",
+    b"d 9223372036854775808 0",
+    // refused behind a step
+    b"a 1 0 a",
+    b"o 1 1 0 l 2 0",
+];
+
+/// The steps of each, and the refusal that it ends with.
+const WANTED: &[u8] = b"\
+o 1 1 -2 0
+None
+o x 1 1 2 0
+None
+a 3 0
+None
+a 3 1 0 l 1 -2 0
+None
+a x 2 -1 0 l 1 9223372036854775807 0
+None
+i 4 1 0 l 2 0
+None
+i x 3 1 2 0 l 1 4 0
+None
+d 4 1 0
+None
+d x 3 0
+None
+f 1 1 -2 0
+None
+f x 1 1 2 0
+None
+Some(Unterminated(9))
+Some(BadToken(10))
+Some(BadToken(8))
+Some(BadToken(12))
+Some(BadToken(0))
+Some(BadToken(2))
+Some(BadToken(8))
+Some(TooBig(2))
+a 1 0
+Some(Unterminated(7))
+o 1 1 0
+Some(BadToken(8))
+";
 
 #[test]
-fn endings_behind_a_step(rt: HostRuntime) -> Result<(), Fail> {
-    let texts: [&[u8]; 2] = [b"a 1 0 a", b"o 1 1 0 l 2 0"];
-    let wanted = b"a 1 0\nSome(Unterminated(7))\no 1 1 0\nSome(BadToken(8))\n".as_slice();
-    assert_eq!(rt; endings_of::<Logs>(rt.alloc(), &texts)?.as_slice(), wanted);
+fn steps_come_back_up_to_a_refusal(rt: HostRuntime) -> Result<(), Fail> {
+    assert_eq!(rt; endings_of::<Logs>(rt.alloc(), &TEXTS)?.as_slice(), WANTED);
     Ok(())
 }

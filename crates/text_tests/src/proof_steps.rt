@@ -1,11 +1,11 @@
 //! Worked texts: the steps that are read and printed again, and what is refused and where.
-ghost use Rattle.std.specs.Prelude.{◌≡◌, true, false, OnOk, IfOk};
+ghost use Rattle.std.specs.Prelude.{◌≡◌, true, false, OnOk, IfOk, IfSome};
 ghost use Rattle.cx_texts.specs.Printed.{HasProofText};
 ghost use Rattle.step_text.specs.Texts.{is_spent_by};
 ghost use Rattle.proof_text.specs.Told.{is_whole, Prints};
 ghost use Rattle.cx_desk.specs.Memory.{outside_of};
 
-use crate::reprinting::{Reprint, endings_of, lines_come_back};
+use crate::reprinting::{Reprint, endings_of};
 use cx_desk::{Desk, Failed, MemDesk, Port, Rooms};
 use proof_text::{DeskProof, ListProof, ProofStep, ProofText, put_proof_step};
 use std::alloc::{AllocError, Global};
@@ -75,81 +75,106 @@ impl Reprint for Proofs {
     }
 }
 
-#[test]
-fn printed_steps_are_the_steps_read(rt: HostRuntime) -> Result<(), Fail> {
-    let lines: [&[u8]; 7] = [
-        b"5 1 -2 0 3 -4 0\n",
-        b"6 0 0\n",
-        b"7 d 5 6 0\n",
-        b"x 4 1 -2 3 0 1 2 0\n",
-        b"x d 4 0\n",
-        b"i 8 -1 2 0 -9223372036854775807 0\n",
-        b"i x 9223372036854775807 1 2 0 7 8 0\n",
-    ];
-    assert_eq!(rt; lines_come_back::<Proofs>(rt.alloc(), &lines)?, 7);
-    Ok(())
-}
+/// Texts of proofs.
+const TEXTS: [&[u8]; 23] = [
+    // one step, which is printed as it was read
+    b"5 1 -2 0 3 -4 0\n",
+    b"6 0 0\n",
+    b"7 d 5 6 0\n",
+    b"x 4 1 -2 3 0 1 2 0\n",
+    b"x d 4 0\n",
+    b"i 8 -1 2 0 -9223372036854775807 0\n",
+    b"i x 9223372036854775807 1 2 0 7 8 0\n",
+    // refused behind no step
+    b"5 a 0",
+    b"5 2 0 1\n",
+    b"9223372036854775808 0 1 0",
+    b"5 -9223372036854775808 0",
+    b"-9223372036854775808 0",
+    b"5 d -9 0",
+    b"i 5 1 0 2 3",
+    b"i 5 1 0 0",
+    b"0 1 0 1 0",
+    b"x i 1",
+    b"x5 0 1 0",
+    // the end behind no step, and behind some; a refusal behind one
+    b"",
+    b" \nc 1 a\n \t\n",
+    b"x 4 0 1 2 3 0",
+    b"c first\n005 -0\nc 7\n -07 00\r\n",
+    b"6 0 0\nx",
+];
+
+/// The steps of each, and the refusal that it ends with.
+const WANTED: &[u8] = b"\
+5 1 -2 0 3 -4 0
+None
+6 0 0
+None
+7 d 5 6 0
+None
+x 4 1 -2 3 0 1 2 0
+None
+x d 4 0
+None
+i 8 -1 2 0 -9223372036854775807 0
+None
+i x 9223372036854775807 1 2 0 7 8 0
+None
+Some(BadToken(2))
+Some(Unterminated(8))
+Some(TooBig(0))
+Some(TooBig(2))
+Some(BadToken(0))
+Some(BadToken(4))
+Some(BadToken(10))
+Some(BadToken(8))
+Some(BadToken(0))
+Some(BadToken(2))
+Some(BadToken(0))
+None
+None
+x 4 0 1 2 3 0
+None
+5 0 -7 0
+None
+6 0 0
+Some(Unterminated(7))
+";
 
 #[test]
-fn endings_behind_no_step(rt: HostRuntime) -> Result<(), Fail> {
-    let texts: [&[u8]; 11] = [
-        b"5 a 0",
-        b"5 2 0 1\n",
-        b"9223372036854775808 0 1 0",
-        b"5 -9223372036854775808 0",
-        b"-9223372036854775808 0",
-        b"5 d -9 0",
-        b"i 5 1 0 2 3",
-        b"i 5 1 0 0",
-        b"0 1 0 1 0",
-        b"x i 1",
-        b"x5 0 1 0",
-    ];
-    let wanted =
-        b"Some(BadToken(2))\nSome(Unterminated(8))\nSome(TooBig(0))\nSome(TooBig(2))\nSome(BadToken(0))\nSome(BadToken(4))\nSome(BadToken(10))\nSome(BadToken(8))\nSome(BadToken(0))\nSome(BadToken(2))\nSome(BadToken(0))\n".as_slice();
+fn steps_come_back_up_to_a_refusal(rt: HostRuntime) -> Result<(), Fail> {
     assert_eq!(rt;
-        endings_of::<Proofs>(rt.alloc(), &texts)?.as_slice(),
-        wanted
+        endings_of::<Proofs>(rt.alloc(), &TEXTS)?.as_slice(),
+        WANTED
     );
     Ok(())
 }
 
-#[test]
-fn endings_behind_steps(rt: HostRuntime) -> Result<(), Fail> {
-    let texts: [&[u8]; 5] = [
-        b"",
-        b" \nc 1 a\n \t\n",
-        b"x 4 0 1 2 3 0",
-        b"c first\n005 -0\nc 7\n -07 00\r\n",
-        b"6 0 0\nx",
-    ];
-    let wanted =
-        b"None\nNone\nx 4 0 1 2 3 0\nNone\n5 0 -7 0\nNone\n6 0 0\nSome(Unterminated(7))\n".as_slice();
-    assert_eq!(rt;
-        endings_of::<Proofs>(rt.alloc(), &texts)?.as_slice(),
-        wanted
-    );
-    Ok(())
-}
-
-/// Two answers of a source, where it refuses its first step for a bad token.
-fn refused_twice(source: &mut ProofText) -> Option<(TextRefusal, TextRefusal)>
+/// The place of the bad token for which a source refuses its next step, if it does.
+fn bad_token(source: &mut ProofText) -> Option<u64>
     requires { is_spent_by source.old.refused ≡ false }
+    ensures { IfSome result (λ _. is_spent_by source.new.refused ≡ false) }
 {
     match source.next_step() {
-        Err(TextRefusal::BadToken(place)) => match source.next_step() {
-            Err(again) => Some((TextRefusal::BadToken(place), again)),
-            Ok(_) => None,
-        },
+        Err(TextRefusal::BadToken(place)) => Some(place),
         _ => None,
     }
+}
+
+/// The places of the bad tokens for which a source refuses two steps, if it does.
+fn refused_twice(source: &mut ProofText) -> Option<(u64, u64)>
+    requires { is_spent_by source.old.refused ≡ false }
+{
+    let first = bad_token(source)?;
+    let again = bad_token(source)?;
+    Some((first, again))
 }
 
 #[test]
 fn a_refusal_comes_again(rt: HostRuntime) {
     let mut source = ProofText::new(rt.alloc(), b"5 a 0");
-    let wanted = Some((TextRefusal::BadToken(2), TextRefusal::BadToken(2)));
-    assert_eq!(rt; refused_twice(&mut source), wanted);
+    assert_eq!(rt; refused_twice(&mut source), Some((2, 2)));
 }
 
 /// Gives a step to any sink.

@@ -14,23 +14,6 @@ pub(crate) trait Reprint {
     ) -> Result<Option<TextRefusal>, Fail>;
 }
 
-/// Whether the line is the one step that it is read as.
-fn comes_back<R: Reprint>(alloc: Global, line: &[u8]) -> Result<bool, Fail> {
-    let mut printed = Vec::new(alloc);
-    let ending = R::reprint(alloc, line, &mut printed)?;
-    Ok(printed.as_slice() == line && ending.is_none())
-}
-
-/// How many of the lines come back, from the first on.
-pub(crate) fn lines_come_back<R: Reprint>(alloc: Global, lines: &[&[u8]]) -> Result<usize, Fail> {
-    for place in 0..lines.len() {
-        if !comes_back::<R>(alloc, lines[place])? {
-            return Ok(place);
-        }
-    }
-    Ok(lines.len())
-}
-
 /// Appends the steps of a text, and the refusal that it ends with.
 fn add_ending<R: Reprint>(alloc: Global, text: &[u8], all: &mut Vec<u8>) -> Result<(), Fail> {
     let ending = R::reprint(alloc, text, all)?;

@@ -43,30 +43,67 @@ fn told_whole(alloc: Global, text: &[u8], limit: u64) -> Result<String, Fail> {
     }
 }
 
-/// What is read of a whole text within a limit, and what is read otherwise of its pieces.
-fn told_of(alloc: Global, text: &[u8], limit: u64) -> Result<String, Fail>
-    requires { limit ≤ 4294967295 }
+/// Appends what is read of a text that comes in pieces of this length, where that is not what is read of the whole text.
+fn add_other(
+    alloc: Global,
+    text: &[u8],
+    piece: usize,
+    limit: u64,
+    whole: &str,
+    told: &mut String,
+) -> Result<(), Fail>
+    requires piece { 1 ≤ piece }
+    requires limit { limit ≤ 4294967295 }
 {
-    let mut told = told_whole(alloc, text, limit)?;
-    for piece in [1, 2, 3, 4096] {
-        let in_pieces = told_in_pieces(alloc, text, piece, limit)?;
-        if in_pieces.as_str() != told.as_str() {
-            told.push_str(format!(in alloc; " in pieces of {piece}: {in_pieces}")?.as_str())?;
-        }
+    let in_pieces = told_in_pieces(alloc, text, piece, limit)?;
+    if in_pieces.as_str() != whole {
+        write!(told, " in pieces of {piece}: {in_pieces}")?;
     }
-    Ok(told)
+    Ok(())
 }
 
-/// What is told of each text, of at most a hundred bytes, where the limit is below its length, is its length and is above.
+/// Appends what is read otherwise of a text's pieces than of the whole text.
+fn add_others(
+    alloc: Global,
+    text: &[u8],
+    limit: u64,
+    whole: &str,
+    told: &mut String,
+) -> Result<(), Fail>
+    requires { limit ≤ 4294967295 }
+{
+    for piece in [1, 2, 3, 4096] {
+        add_other(alloc, text, piece, limit, whole, told)?;
+    }
+    Ok(())
+}
+
+/// Appends what is read of a whole text within a limit, and what is read otherwise of its pieces.
+fn add_told(alloc: Global, text: &[u8], limit: u64, told: &mut String) -> Result<(), Fail>
+    requires { limit ≤ 4294967295 }
+{
+    let whole = told_whole(alloc, text, limit)?;
+    told.push_str(whole.as_str())?;
+    add_others(alloc, text, limit, whole.as_str(), told)?;
+    told.push_str("|")?;
+    Ok(())
+}
+
+/// Appends what is told of a text, of at most a hundred bytes, where the limit is below its length, is its length and is above.
+fn add_text(alloc: Global, text: &[u8], told: &mut String) -> Result<(), Fail> {
+    let len = text.len().min(100) as u64;
+    for limit in [len.saturating_sub(1), len, len + 1] {
+        add_told(alloc, text, limit, told)?;
+    }
+    told.push_str("\n")?;
+    Ok(())
+}
+
+/// What is told of each text, on a line.
 fn all_told(alloc: Global, texts: &[&[u8]]) -> Result<String, Fail> {
     let mut all = String::new(alloc);
     for text in texts {
-        let len = text.len().min(100) as u64;
-        for limit in [len.saturating_sub(1), len, len + 1] {
-            all.push_str(told_of(alloc, text, limit)?.as_str())?;
-            all.push_str("|")?;
-        }
-        all.push_str("\n")?;
+        add_text(alloc, text, &mut all)?;
     }
     Ok(all)
 }

@@ -7,9 +7,19 @@ use cx_desk::{MemDesk, Slot};
 use proof_text::ProofGrammar;
 use std::alloc::{AllocError, Global};
 use std::test::Fail;
-use step_text::{SlotText, StepSource};
+use step_text::{SlotText, StepSource, TextRefusal};
 
-/// How many steps a source gives, at most a hundred, where it goes on, and what it answers then.
+/// How many steps a source gave, the refusal that they end with, and the place behind them.
+fn ended(
+    alloc: Global,
+    steps: u64,
+    refusal: Option<TextRefusal>,
+    place: u64,
+) -> Result<String, AllocError> {
+    format!(in alloc; "{steps} {refusal:?} {place}\n")
+}
+
+/// What comes of a source's steps, of which there are at most a hundred.
 fn told<S: StepSource>(alloc: Global, source: &mut S) -> Result<String, AllocError>
 where
     S::Step: Drop,
@@ -19,11 +29,11 @@ where
     for turn in 0..100u64 {
         match source.next_step() {
             Ok(Some(_)) => steps = turn + 1,
-            Ok(None) => return format!(in alloc; "{steps} end {}\n", source.place()),
-            Err(why) => return format!(in alloc; "{steps} {why:?} {}\n", source.place()),
+            Ok(None) => return ended(alloc, steps, None, source.place()),
+            Err(why) => return ended(alloc, steps, Some(why), source.place()),
         }
     }
-    format!(in alloc; "many\n")
+    String::from_str(alloc, "many\n")
 }
 
 /// What is told of the file of a desk.
@@ -63,48 +73,78 @@ fn all_told(alloc: Global, texts: &[&[u8]], piece: usize) -> Result<String, Allo
     Ok(all)
 }
 
-/// What is told otherwise than wanted, behind the length of the pieces.
-fn others(
+/// Appends what is told of pieces of this length, where that is not what is wanted.
+fn add_other(
+    alloc: Global,
+    texts: &[&[u8]],
+    piece: usize,
+    wanted: &str,
+    others: &mut String,
+) -> Result<(), AllocError>
+    requires { 1 ≤ piece }
+{
+    let told = all_told(alloc, texts, piece)?;
+    if told.as_str() == wanted {
+        return Ok(());
+    }
+    writeln!(others, "in pieces of {piece}: {}", told.as_str())
+}
+
+/// The same for pieces of each length.
+fn add_others(
     alloc: Global,
     texts: &[&[u8]],
     pieces: &[usize],
     wanted: &str,
-) -> Result<String, AllocError> {
-    let mut others = String::new(alloc);
+    others: &mut String,
+) -> Result<(), AllocError> {
     for piece in pieces {
-        let told = all_told(alloc, texts, (*piece).max(1))?;
-        if told.as_str() != wanted {
-            writeln!(others, "in pieces of {piece}: {}", told.as_str())?;
-        }
+        add_other(alloc, texts, (*piece).max(1), wanted, others)?;
     }
+    Ok(())
+}
+
+/// Texts of at most 28 bytes.
+const TEXTS: [&[u8]; 8] = [
+    b"",
+    b"c a\n5 2 0 1 2 0\n6 0 5 3 4 0",
+    b"5 2 0 1 2 0\nc x\n6 0 5 3 4 0\n",
+    b"5 2 0 1 2 0\n6 0 5 3 4 0\nzzz\n",
+    b"5 2 0 1\n",
+    b"6 0 0 9223372036854775808",
+    b"5 2\nc 7 0\n 0 1 0",
+    b"12 0 34 0 \r\n\tc",
+];
+
+/// What comes of each.
+const WANTED: &str = "\
+0 None 0
+2 None 27
+2 None 28
+2 Some(BadToken(24)) 24
+0 Some(Unterminated(8)) 0
+1 Some(TooBig(6)) 6
+1 None 16
+1 None 14
+";
+
+/// A text with a byte behind the limit.
+const LONG: [&[u8]; 1] = [b"5 2 0 1 2 0\n6 0 5 3 4 0\nzzzz\n"];
+
+/// What is told otherwise than wanted.
+fn others(alloc: Global) -> Result<String, AllocError> {
+    let mut others = String::new(alloc);
+    add_others(alloc, &TEXTS, &[1, 2, 3, 4096], WANTED, &mut others)?;
+    // A byte behind the limit is told as soon as it is read.
+    add_others(alloc, &LONG, &[1], "2 Some(TooLong) 24\n", &mut others)?;
+    add_others(alloc, &LONG, &[4096], "0 Some(TooLong) 0\n", &mut others)?;
     Ok(others)
 }
 
 #[test]
-fn pieces_of_any_length_tell_the_same(rt: HostRuntime) -> Result<(), Fail> {
-    let texts: [&[u8]; 8] = [
-        b"",
-        b"c a\n5 2 0 1 2 0\n6 0 5 3 4 0",
-        b"5 2 0 1 2 0\nc x\n6 0 5 3 4 0\n",
-        b"5 2 0 1 2 0\n6 0 5 3 4 0\nzzz\n",
-        b"5 2 0 1\n",
-        b"6 0 0 9223372036854775808",
-        b"5 2\nc 7 0\n 0 1 0",
-        b"12 0 34 0 \r\n\tc",
-    ];
-    let wanted =
-        "0 end 0\n2 end 27\n2 end 28\n2 BadToken(24) 24\n0 Unterminated(8) 0\n1 TooBig(6) 6\n1 end 16\n1 end 14\n";
-    let others = others(rt.alloc(), &texts, &[1, 2, 3, 4096], wanted)?;
-    assert_eq!(rt; others.as_str(), "");
-    Ok(())
-}
-
-#[test]
-fn a_byte_behind_the_limit_is_told(rt: HostRuntime) -> Result<(), Fail> {
-    let texts: [&[u8]; 1] = [b"5 2 0 1 2 0\n6 0 5 3 4 0\nzzzz\n"];
-    let mut told = all_told(rt.alloc(), &texts, 1)?;
-    // at once
-    told.push_str(all_told(rt.alloc(), &texts, 4096)?.as_str())?;
-    assert_eq!(rt; told.as_str(), "2 TooLong 24\n0 TooLong 0\n");
+fn pieces_of_any_length_tell_the_same_but_for_a_byte_behind_the_limit(
+    rt: HostRuntime,
+) -> Result<(), Fail> {
+    assert_eq!(rt; others(rt.alloc())?.as_str(), "");
     Ok(())
 }
