@@ -1,5 +1,5 @@
 //! The command line as clap is given it.
-ghost use Rattle.std.specs.Prelude.{◌≡◌, false, IfOk};
+ghost use Rattle.std.specs.Prelude.{◌≡◌, false, IfOk, map};
 ghost use Rattle.clap.specs.Words.{App, app_of, rule_of, with_subcommand};
 ghost use Rattle.clap.specs.declared.builder.Command.TheViews.{out-Command as fields_of};
 ghost use Rattle.cx_words.specs.CommandLine as line;
@@ -23,11 +23,21 @@ fn optional<'a>(alloc: Global, id: &'a str) -> Arg<'a>
     Arg::new(alloc, id).long(id).action(ArgAction::Set)
 }
 
+/// A command with words that have to stand in their places.
+fn taking<'a>(alloc: Global, name: &'a str, ids: &[&'a str]) -> Result<Command<'a>, AllocError>
+    ensures { IfOk result (λ c. (app_of c ≡ line.command name.entry.now (map (λ id. line.needed id.now) ids.entry.now)) × ((fields_of c).has_globals ≡ false)) }
+{
+    let mut command = Command::new(alloc, name);
+    for id in ids {
+        command = command.arg(needed(alloc, *id))?;
+    }
+    Ok(command)
+}
+
 fn solve<'a>(alloc: Global) -> Result<Command<'a>, AllocError>
     ensures { IfOk result (λ c. (app_of c ≡ line.solve) × ((fields_of c).has_globals ≡ false)) }
 {
-    Command::new(alloc, "solve")
-        .arg(needed(alloc, "formula"))?
+    taking(alloc, "solve", &["formula"])?
         .arg(optional(alloc, "proof"))?
         .arg(optional(alloc, "conflicts"))
 }
@@ -35,35 +45,25 @@ fn solve<'a>(alloc: Global) -> Result<Command<'a>, AllocError>
 fn check<'a>(alloc: Global) -> Result<Command<'a>, AllocError>
     ensures { IfOk result (λ c. (app_of c ≡ line.check) × ((fields_of c).has_globals ≡ false)) }
 {
-    Command::new(alloc, "check")
-        .arg(needed(alloc, "formula"))?
-        .arg(needed(alloc, "proof"))
+    taking(alloc, "check", &["formula", "proof"])
 }
 
 fn elab<'a>(alloc: Global) -> Result<Command<'a>, AllocError>
     ensures { IfOk result (λ c. (app_of c ≡ line.elab) × ((fields_of c).has_globals ≡ false)) }
 {
-    Command::new(alloc, "elab")
-        .arg(needed(alloc, "formula"))?
-        .arg(needed(alloc, "log"))?
-        .arg(needed(alloc, "proof"))
+    taking(alloc, "elab", &["formula", "log", "proof"])
 }
 
 fn model<'a>(alloc: Global) -> Result<Command<'a>, AllocError>
     ensures { IfOk result (λ c. (app_of c ≡ line.model) × ((fields_of c).has_globals ≡ false)) }
 {
-    Command::new(alloc, "model")
-        .arg(needed(alloc, "formula"))?
-        .arg(needed(alloc, "answer"))
+    taking(alloc, "model", &["formula", "answer"])
 }
 
 fn demo<'a>(alloc: Global) -> Result<Command<'a>, AllocError>
     ensures { IfOk result (λ c. (app_of c ≡ line.demo) × ((fields_of c).has_globals ≡ false)) }
 {
-    Command::new(alloc, "demo")
-        .arg(needed(alloc, "kind"))?
-        .arg(needed(alloc, "size"))?
-        .arg(needed(alloc, "seed"))
+    taking(alloc, "demo", &["kind", "size", "seed"])
 }
 
 /// The command with one more command below it, where there was memory to make that one.

@@ -4,6 +4,5 @@ use Rattle.cx_words.proofs.commands.solve.Goals as goal
 
 pub returns : goal.returns
 returns c =
-    let one = takes _ _ _ _ _ c.in_ok-arg.ensures (c.new.ensures.app, c.new.ensures.local) c.needed.ensures.rule c.needed.ensures.local in
-    let two = takes _ _ _ _ _ c.in_ok-arg-2.ensures one c.optional.ensures.rule c.optional.ensures.local in
-    IfOk-weaker _ _ _ (λ r h. takes _ _ _ _ _ h two c.optional-2.ensures.rule c.optional-2.ensures.local) c.arg-3.ensures
+    let one = takes _ _ _ _ _ c.in_ok-arg.ensures c.in_ok-taking.ensures c.optional.ensures.rule c.optional.ensures.local in
+    IfOk-weaker _ _ _ (λ r h. takes _ _ _ _ _ h one c.optional-2.ensures.rule c.optional-2.ensures.local) c.arg-2.ensures

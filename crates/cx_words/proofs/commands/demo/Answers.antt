@@ -1,9 +1,0 @@
-use Rattle.std.proofs.lemmas.Result.{IfOk-weaker}
-use Rattle.cx_words.proofs.Builds.{takes}
-use Rattle.cx_words.proofs.commands.demo.Goals as goal
-
-pub returns : goal.returns
-returns c =
-    let one = takes _ _ _ _ _ c.in_ok-arg.ensures (c.new.ensures.app, c.new.ensures.local) c.needed.ensures.rule c.needed.ensures.local in
-    let two = takes _ _ _ _ _ c.in_ok-arg-2.ensures one c.needed-2.ensures.rule c.needed-2.ensures.local in
-    IfOk-weaker _ _ _ (λ r h. takes _ _ _ _ _ h two c.needed-3.ensures.rule c.needed-3.ensures.local) c.arg-3.ensures
