@@ -1,5 +1,6 @@
 -- Tokens of the body as words.
-use Rattle.std.proofs.Common.{◌≡◌, sym, ap, ◌∙◌, subst, ℕ, zero, suc, ◌+◌, ◌<◌, ◌≤◌, ℤ, false, cond, List, [], ◌∷◌, length, take, drop, get_or, Some, None, arith}
+use Rattle.std.proofs.Common.{◌≡◌, sym, ap, ◌∙◌, subst, ℕ, zero, suc, ◌+◌, ◌-◌, ◌<◌, ◌≤◌, ℤ, false, cond, List, [], ◌∷◌, length, take, drop, get_or, Some, None, arith}
+use Rattle.std.proofs.lemmas.List.{take_all}
 use Rattle.cx_texts.specs.Tokens.{is_blank, NoBlank}
 use Rattle.cx_texts.specs.Words.{Word, letter, other, number, number_or, integer, word_of, joined_words, formula_words_of}
 use Rattle.cx_texts.proofs.DigitLaws.{not_equal}
@@ -26,3 +27,23 @@ joined_token (b ∷ c ∷ bs) (suc len) z x some l e = ap (λ y. formula_words_o
 pub run_more : (text : List ℕ) (len : ℕ) → 0 < length text → is_blank (get_or text 0 0) ≡ false → NoBlank (take len (drop 1 text)) → NoBlank (take (1 + len) text)
 run_more [] len l b h = absurd (omega arith)
 run_more (c ∷ text) len l b h = let e : 1 + len ≡ suc len = omega arith in subst (λ n. NoBlank (take n (c ∷ text))) (sym e) (b, h)
+
+-- an `x` alone
+pub lone_mark : (t : List ℕ) → get_or t 0 0 ≡ 120 → length t ≡ 1 → formula_words_of t ≡ letter 120 ∷ []
+lone_mark [] x l = absurd (zero_not_mark x)
+lone_mark (b ∷ []) x l = ap (λ y. formula_words_of (y ∷ [])) x
+lone_mark (b ∷ c ∷ bs) x l = absurd (omega arith)
+
+-- an `x` joined to the rest of its token
+pub joined_whole : (t : List ℕ) → get_or t 0 0 ≡ 120 → 1 < length t → formula_words_of t ≡ joined_words (integer (take (length t - 1) (drop 1 t)))
+joined_whole [] x l = absurd (omega arith)
+joined_whole (b ∷ []) x l = absurd (omega arith)
+joined_whole (b ∷ c ∷ bs) x l =
+    ap (λ y. formula_words_of (y ∷ c ∷ bs)) x ∙ ap (λ u. joined_words (integer u)) (sym (take_all (length (b ∷ c ∷ bs) - 1) (c ∷ bs) (omega arith)))
+
+-- a token that is an integer
+pub integer_token : (t : List ℕ) (z : ℤ) → (get_or t 0 0 ≡ 120 → ⊥) → integer t ≡ Some z → formula_words_of t ≡ number z ∷ []
+integer_token [] z n e = ap (λ i. number_or other i ∷ []) e
+integer_token (b ∷ []) z n e = ap (λ i. number_or (letter b) i ∷ []) e
+integer_token (b ∷ c ∷ bs) z n e =
+    ap (λ x. cond x (joined_words (integer (c ∷ bs))) (word_of (b ∷ c ∷ bs) ∷ [])) (not_equal b 120 n) ∙ ap (λ i. number_or other i ∷ []) e

@@ -7,7 +7,7 @@ use cx_desk::{DrainErr, ReadErr};
 use thiserror::Error;
 
 /// Why no formula was read from a slot: the text's first offence with its byte place, or what is none of the text.
-#[derive(Clone, Copy, Debug, PartialEq, Eq, Drop, Error)]
+#[derive(Clone, Copy, Debug, Drop, Error)]
 pub enum FromRefusal {
     /// The first token is not `p`.
     #[error("no header at byte {0}")]

@@ -124,7 +124,7 @@ fn refused<D: Desk>(bytes: &SlotBytes, desk: &mut D, refusal: ReadRefusal) -> Fr
     ensures { (slot : SlotOf) (limit : ℕ) (o : Outside) (s t : State) → HasRead slot limit o s (D.outside desk.old) → IsRefusedIn refusal s t → t.bytes ≡ bytes.now
         → ReadsFrom slot limit o (Err result) (D.outside desk.new) }
 {
-    if refusal == ReadRefusal::Memory {
+    if matches!(refusal, ReadRefusal::Memory) {
         return FromRefusal::Memory;
     }
     match bytes.read_rest(desk) {
