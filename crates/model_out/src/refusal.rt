@@ -7,7 +7,7 @@ use std::alloc::AllocError;
 use thiserror::Error;
 
 /// Why a text is no answer to a formula: the first cause in this order.
-#[derive(Clone, Copy, Debug, PartialEq, Eq, Drop, Error)]
+#[derive(Clone, Copy, Debug, Drop, Error)]
 pub enum AnswerRefusal {
     /// The first line has other tokens than `s` and `SATISFIABLE`.
     #[error("no status line")]
