@@ -3,7 +3,7 @@ use cx_semantics::Cause;
 use thiserror::Error;
 
 /// The judgement of a proof.
-#[derive(Clone, Copy, Debug, PartialEq, Eq, Drop)]
+#[derive(Clone, Copy, Drop)]
 pub enum Verdict {
     /// The proof is accepted at the step of this number, from 1: no values meet the formula.
     Verified(u64),
@@ -12,7 +12,7 @@ pub enum Verdict {
 }
 
 /// Why a proof was not judged.
-#[derive(Clone, Copy, Debug, PartialEq, Eq, Drop, Error)]
+#[derive(Clone, Copy, Debug, Drop, Error)]
 pub enum Fault {
     /// Want of memory, which says nothing of the proof.
     #[error("out of memory")]
