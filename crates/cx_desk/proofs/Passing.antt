@@ -1,9 +1,9 @@
 -- What one read gave of a slot, of which nothing is kept.
-use Rattle.std.proofs.Common.{◌≡◌, ap, ℕ, ◌≤◌, [], length, take, Option, Some, None, arith, length-take}
+use Rattle.std.proofs.Common.{◌≡◌, ap, ℕ, ◌≤◌, [], length, take, Option, Some, None, Result, Ok, Err, arith, length-take}
 use Rattle.std.specs.Prelude.{IfSome}
 use Rattle.cx_desk.specs.declared.desk.Slot.{Slot}
 use Rattle.cx_desk.specs.Outside.{Bytes, Told, Outside, left_in}
-use Rattle.cx_desk.specs.Calls.{AtEnd, Front, Passes, taken}
+use Rattle.cx_desk.specs.Calls.{AtEnd, Front, Passes, PassesOver, Reads, taken}
 
 pub within_front : (k : ℕ) (buffer after : Bytes) (most : ℕ) → length after ≡ length (take k buffer) → k ≤ most → length after ≤ most
 within_front k buffer after most same few = omega (arith, same, few, length-take k buffer)
@@ -16,10 +16,15 @@ ended : (slot : Slot) (n : ℕ) (bytes : Bytes) (told : Option Told) → IfSome 
 ended slot n bytes None f none = tt
 ended slot n bytes (Some t) f none = f.none none
 
-pub passed_over : (slot : Slot) (most n : ℕ) (bytes : Bytes) (old new : Outside) → n ≤ length bytes → length bytes ≤ most → IfSome old.told (Front slot n bytes) → new ≡ taken slot n old
+passed_over : (slot : Slot) (most n : ℕ) (bytes : Bytes) (old new : Outside) → n ≤ length bytes → length bytes ≤ most → IfSome old.told (Front slot n bytes) → new ≡ taken slot n old
     → (n ≤ most) × Passes slot n old new × (n ≡ 0 → AtEnd slot old)
 passed_over slot most n bytes old new fits few front moved = (
   omega (arith, fits, few),
   record { moved = moved; stood = stood slot n bytes fits old.told front },
   ended slot n bytes old.told front,
 )
+
+-- what a read of at most so many bytes did
+pub read_over : {E : Type 0} (slot : Slot) (most : ℕ) (bytes : Bytes) (old new : Outside) (r : Result ℕ E) → length bytes ≤ most → Reads slot bytes old r new → PassesOver slot most old r new
+read_over slot most bytes old new (Ok n) few h = passed_over slot most n bytes old new h.0 few h.1 h.2
+read_over slot most bytes old new (Err e) few h = h

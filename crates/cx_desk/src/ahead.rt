@@ -8,16 +8,13 @@ ghost use Rattle.cx_desk.specs.declared.ahead.AheadErr.TheVariants as ahead;
 use crate::{Desk, Failed, Slot};
 use std::alloc::{AllocError, Global};
 use std::marker::Model;
-use thiserror::Error;
 
 /// Why no more bytes were read ahead.
-#[derive(Clone, Copy, Debug, PartialEq, Eq, Drop, Error)]
-pub enum AheadErr {
+#[derive(Clone, Copy, Drop)]
+pub(crate) enum AheadErr {
     /// There was no memory for more.
-    #[error("out of memory")]
     Memory,
     /// The read failed, and was counted.
-    #[error("the read failed")]
     Failed,
 }
 
@@ -41,7 +38,7 @@ impl From<Failed> for AheadErr {
 ///
 /// The buffer is no longer than a constant, or four times the bytes that were ever kept at once.
 #[derive(Drop)]
-pub struct ReadAhead {
+pub(crate) struct ReadAhead {
     buffer: Vec<u8>,
     at: usize,
     filled: usize,

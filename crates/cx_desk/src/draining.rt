@@ -1,5 +1,5 @@
 //! A slot read to its end, with nothing kept.
-ghost use Rattle.std.specs.Prelude.{◌≡◌, ◌<◌, true};
+ghost use Rattle.std.specs.Prelude.{◌≡◌, ◌<◌, true, length};
 ghost use Rattle.cx_desk.specs.Outside.{started_in};
 ghost use Rattle.cx_desk.specs.Calls.{PassesOver, CountsRest, Drains};
 ghost use Rattle.cx_desk.specs.declared.draining.DrainErr.TheVariants as drained;
@@ -8,7 +8,7 @@ use crate::{Desk, Failed, Slot};
 use thiserror::Error;
 
 /// Why a slot was not read to its end.
-#[derive(Clone, Copy, Debug, PartialEq, Eq, Drop, Error)]
+#[derive(Clone, Copy, Debug, Drop, Error)]
 pub enum DrainErr {
     /// A read failed, and was counted.
     #[error("the read failed")]
@@ -29,6 +29,22 @@ impl From<Failed> for DrainErr {
 /// The most bytes that are asked for at once.
 const PIECE: usize = 65_536;
 
+/// Reads at most so many bytes into the front of a buffer. It says how many came.
+fn read_front<D: Desk>(
+    desk: &mut D,
+    slot: Slot,
+    into: &mut [u8],
+    most: u64,
+) -> Result<usize, Failed>
+    requires started { started_in slot (D.outside desk.old).started ≡ true }
+    requires room { 0 < length into.old }
+    requires some { 0 < most }
+    ensures { PassesOver slot most (D.outside desk.old) result (D.outside desk.new) }
+{
+    let room = most.min(into.len() as u64) as usize;
+    desk.read(slot, &mut into[..room])
+}
+
 /// Reads at most so many bytes and does not keep them. It says how many came.
 fn pass_over<D: Desk>(desk: &mut D, slot: Slot, most: u64) -> Result<u64, Failed>
     requires started { started_in slot (D.outside desk.old).started ≡ true }
@@ -36,8 +52,7 @@ fn pass_over<D: Desk>(desk: &mut D, slot: Slot, most: u64) -> Result<u64, Failed
     ensures { PassesOver slot most (D.outside desk.old) result (D.outside desk.new) }
 {
     let mut piece = [0; PIECE];
-    let room = most.min(PIECE as u64) as usize;
-    let count = desk.read(slot, &mut piece[..room])?;
+    let count = read_front(desk, slot, &mut piece, most)?;
     Ok(count as u64)
 }
 

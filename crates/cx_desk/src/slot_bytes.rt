@@ -3,8 +3,9 @@ ghost use Rattle.std.specs.Prelude.{◌≡◌, ◌<◌, ◌≤◌, ◌+◌, ◌�
 ghost use Rattle.cx_desk.specs.Outside.{started_in};
 ghost use Rattle.cx_desk.specs.SlotBytes.{ReadsBytes, ReadsRest, taken_by, to_read};
 
+use crate::ahead::ReadAhead;
 use crate::draining::count_rest;
-use crate::{Desk, DrainErr, ReadAhead, ReadErr, Slot};
+use crate::{Desk, DrainErr, ReadErr, Slot};
 use std::alloc::Global;
 use std::marker::Model;
 
