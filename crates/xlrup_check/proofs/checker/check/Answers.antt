@@ -1,4 +1,4 @@
-use Rattle.std.proofs.Common.{sym, subst, Option, Result, Err}
+use Rattle.std.proofs.Common.{◌∙◌, refl, sym, subst, [], Option, Result, Err, arith}
 use Rattle.xlrup_check.specs.Verdicts.{Goes, ReadsStand}
 use Rattle.xlrup_check.specs.declared.verdict.Verdict.{Verdict}
 use Rattle.xlrup_check.specs.declared.verdict.Fault.{Fault}
@@ -20,3 +20,39 @@ returns-in-Err-take_next-clause-reads g c =
   where
     failed : Fault → Result Verdict Fault
     failed fault = Err fault
+
+pub take_next-requires-clause-fresh : goal.take_next-requires-clause-fresh
+take_next-requires-clause-fresh g c = c.loop-steps.invariant.fresh
+
+pub take_next-requires-clause-count : goal.take_next-requires-clause-count
+take_next-requires-clause-count g c = omega (arith, c.loop-steps.invariant.far)
+
+pub loop-steps-preserved : goal.loop-steps-preserved
+loop-steps-preserved g c =
+    let before = c.loop-steps.invariant in
+    let taken = c.in-Ok-None.ensures in
+    let none = c.in-Ok-None.field-0-is in
+    record {
+      kept = subst (λ (o : Option Verdict). Goes g.S.StepSource.leaves c.args.formula.now c.args.source.now c.take_next.new.source c.take_next.new.live c.loop-steps.steps o) none
+          (taken.goes c.args.formula.now c.args.source.now (sym c.vars-vars.ensures.variables) before.kept);
+      fresh = taken.fresh none;
+      faults = taken.reads ∙ before.faults;
+      few = omega (arith, before.few, taken.rises none);
+      far = omega (arith, before.few, taken.rises none, taken.far);
+      limit = taken.limit ∙ before.limit;
+      frame = g.met.S.StepSource.keeps_on c.args.source.now c.loop-steps.source c.take_next.new.source before.frame taken.frame;
+    }
+
+pub loop-steps-smaller : goal.loop-steps-smaller
+loop-steps-smaller g c = omega (arith, c.in-Ok-None.ensures.rises c.in-Ok-None.field-0-is, c.in-Ok-None.ensures.far)
+
+pub loop-steps-init : goal.loop-steps-init
+loop-steps-init g c = record {
+  kept = record { before = []; runs = c.in-Ok.ensures; number = refl; left = λ steps ending left. left };
+  fresh = c.requires;
+  faults = refl;
+  few = omega arith;
+  far = omega arith;
+  limit = refl;
+  frame = g.met.S.StepSource.keeps_itself c.args.source.now;
+}
