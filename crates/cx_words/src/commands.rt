@@ -1,5 +1,5 @@
 //! The command line as clap is given it.
-ghost use Rattle.std.specs.Prelude.{◌≡◌, false, IfOk, map};
+ghost use Rattle.std.specs.Prelude.{◌≡◌, false, IfOk, fold, map};
 ghost use Rattle.clap.specs.Words.{App, app_of, rule_of, with_subcommand};
 ghost use Rattle.clap.specs.declared.builder.Command.TheViews.{out-Command as fields_of};
 ghost use Rattle.cx_words.specs.CommandLine as line;
@@ -42,30 +42,6 @@ fn solve<'a>(alloc: Global) -> Result<Command<'a>, AllocError>
         .arg(optional(alloc, "conflicts"))
 }
 
-fn check<'a>(alloc: Global) -> Result<Command<'a>, AllocError>
-    ensures { IfOk result (λ c. (app_of c ≡ line.check) × ((fields_of c).has_globals ≡ false)) }
-{
-    taking(alloc, "check", &["formula", "proof"])
-}
-
-fn elab<'a>(alloc: Global) -> Result<Command<'a>, AllocError>
-    ensures { IfOk result (λ c. (app_of c ≡ line.elab) × ((fields_of c).has_globals ≡ false)) }
-{
-    taking(alloc, "elab", &["formula", "log", "proof"])
-}
-
-fn model<'a>(alloc: Global) -> Result<Command<'a>, AllocError>
-    ensures { IfOk result (λ c. (app_of c ≡ line.model) × ((fields_of c).has_globals ≡ false)) }
-{
-    taking(alloc, "model", &["formula", "answer"])
-}
-
-fn demo<'a>(alloc: Global) -> Result<Command<'a>, AllocError>
-    ensures { IfOk result (λ c. (app_of c ≡ line.demo) × ((fields_of c).has_globals ≡ false)) }
-{
-    taking(alloc, "demo", &["kind", "size", "seed"])
-}
-
 /// The command with one more command below it, where there was memory to make that one.
 fn with<'a>(
     command: Command<'a>,
@@ -79,14 +55,34 @@ fn with<'a>(
     }
 }
 
+/// The commands whose words all have to stand in their places, and those words.
+const PLAIN: [(&str, &[&str]); 4] = [
+    ("check", &["formula", "proof"]),
+    ("elab", &["formula", "log", "proof"]),
+    ("model", &["formula", "answer"]),
+    ("demo", &["kind", "size", "seed"]),
+];
+
+/// The command with these commands below it.
+fn with_plain<'a>(
+    alloc: Global,
+    command: Command<'a>,
+    plain: &[(&'a str, &[&'a str])],
+) -> Result<Command<'a>, AllocError>
+    ensures { (a : App) → app_of command.entry ≡ a → IfOk result (λ c. app_of c ≡ fold (λ (b : App) p. with_subcommand b (line.command p.0.now (map (λ id. line.needed id.now) p.1.now)).top) a plain.entry.now) }
+{
+    let mut command = command;
+    for (name, ids) in plain {
+        command = with(command, taking(alloc, *name, *ids))?;
+    }
+    Ok(command)
+}
+
 /// The whole command line. It has to name a command.
 pub(crate) fn cxsat<'a>(alloc: Global) -> Result<Command<'a>, AllocError>
     ensures { IfOk result (λ c. app_of c ≡ line.cxsat) }
 {
     let command = Command::new(alloc, "cxsat").subcommand_required(true);
     let command = with(command, solve(alloc))?;
-    let command = with(command, check(alloc))?;
-    let command = with(command, elab(alloc))?;
-    let command = with(command, model(alloc))?;
-    with(command, demo(alloc))
+    with_plain(alloc, command, &PLAIN)
 }
