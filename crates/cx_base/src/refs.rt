@@ -36,7 +36,7 @@ impl ClauseRef {
 }
 
 /// A row of a matrix.
-#[derive(Clone, Copy, PartialEq, Eq, Drop)]
+#[derive(Clone, Copy, Drop)]
 pub struct Row {
     place: u32,
 }

@@ -4,7 +4,7 @@ ghost use Rattle.cx_base.specs.Literals.{Literal};
 use cx_base::{ClauseRef, Lit, Row};
 
 /// Why a literal is true.
-#[derive(Clone, Copy, PartialEq, Eq, Drop)]
+#[derive(Clone, Copy, Drop)]
 pub enum Reason {
     /// It was decided. At level 0 it may also stand for 'no reason is given'.
     Decision,
