@@ -19,3 +19,6 @@ slice_bounds-result-start c = let b = bounds (goal.at.slice_bounds-result-start 
 
 pub slice_bounds-result-end : goal.slice_bounds-result-end
 slice_bounds-result-end c = let b = bounds (goal.at.slice_bounds-result-end c).After-start in search (rules, b)
+
+pub returns : goal.returns
+returns c = search rules

@@ -1,4 +1,4 @@
-use Rattle.std.proofs.Common.{◌≡◌, ◌+◌, ◌-◌, ◌<◌, ◌≤◌, ◌++◌, ◌∷◌, [], ℕ, Vec, Global, length, set, ap, ◌∙◌, sym, arith}
+use Rattle.std.proofs.Common.{rules, ◌≡◌, ◌+◌, ◌-◌, ◌<◌, ◌≤◌, ◌++◌, ◌∷◌, [], ℕ, Vec, Global, length, set, ap, ◌∙◌, sym, arith}
 use Rattle.cx_base.specs.declared.moved.Move.{Move}
 use Rattle.cx_base.specs.Literals.{Literal}
 use Rattle.clause_arena.specs.declared.head.Head.{Head}
@@ -62,3 +62,6 @@ loop-place-preserved c =
           let past = packed_over_removed lits₀ ends₀ heads₀ n start used lits ends heads moves e h c.index-end.ensures c.index-head.ensures c.requires.heads.each within i.packed w.if-head.false in
           rw (w.used-is, w.moves-is, w.heads-is, w.lits-is, w.ends-is) (record { packed = past; room = i.room; same_ends = i.same_ends; same_heads = i.same_heads; same_lits = i.same_lits })
     ]
+
+pub loop-place-init : goal.loop-place-init
+loop-place-init c = search rules

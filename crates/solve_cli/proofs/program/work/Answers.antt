@@ -1,4 +1,4 @@
-use Rattle.std.proofs.Common.{Err, refl, ap, subst}
+use Rattle.std.proofs.Common.{rules, Err, refl, ap, subst}
 use Rattle.cx_words.specs.Words.{Asks, IsFit, texts}
 use Rattle.cx_words.specs.declared.plans.Plan.TheVariants as plan
 use Rattle.solve_cli.specs.Seen.{seen}
@@ -22,3 +22,6 @@ returns-in-Ok-Demo g c =
     let words = texts c.args.words.now in
     works_for words (plan.Demo c.in-Ok-Demo.kind c.in-Ok-Demo.size c.in-Ok-Demo.seed) c.args.limit (seen (g.D.Desk.outside c.args.desk.now)) c.demo.result (seen (g.D.Desk.outside c.demo.new.desk))
     (subst (Asks words) c.in-Ok-Demo.field-0-is c.in-Ok-Demo.ensures.ok) (c.demo.ensures c.args.limit)
+
+pub returns-in-Ok-Model : goal.returns-in-Ok-Model
+returns-in-Ok-Model g c = search rules

@@ -1,3 +1,4 @@
+use Rattle.std.proofs.Common.{rules}
 use Rattle.xlrup_check.proofs.step.take_step.Goals as goal
 
 pub returns-in-Clause : goal.returns-in-Clause
@@ -11,3 +12,6 @@ returns-in-ClauseOfParity c = λ formula e. rw c.in-ClauseOfParity.is (rw c.in-C
 
 pub returns-in-ParityOfClauses : goal.returns-in-ParityOfClauses
 returns-in-ParityOfClauses c = λ formula e. rw c.in-ParityOfClauses.is (rw c.in-ParityOfClauses.is at (c.take_added-in-ParityOfClauses.ensures formula e))
+
+pub returns-in-DeleteClauses : goal.returns-in-DeleteClauses
+returns-in-DeleteClauses c = search rules
