@@ -1,5 +1,5 @@
 -- Words that are printed behind others.
-use Rattle.std.specs.Prelude.{ℕ, ℤ, List, ◌∷◌, flat_map, decimal}
+use Rattle.std.specs.Prelude.{ℕ, ℤ, List, [], ◌∷◌, ◌+◌, ◌/◌, ◌%◌, flat_map, decimal}
 use Rattle.cx_texts.specs.Words.{Word}
 use Rattle.cx_texts.specs.Printed.{printed_integer, printed_word}
 
@@ -12,3 +12,7 @@ spaced_integer z = 32 ∷ printed_integer z
 
 abbrev pub spaced_id : ℕ → List ℕ
 spaced_id n = 32 ∷ decimal n
+
+-- the digits of a number below a hundred, a zero in front of a single one
+abbrev pub two_digits : ℕ → List ℕ
+two_digits n = (48 + n / 10) ∷ (48 + n % 10) ∷ []

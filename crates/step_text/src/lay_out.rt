@@ -5,7 +5,7 @@ ghost use Rattle.cx_texts.specs.Printed.{printed_integer};
 ghost use Rattle.step_text.specs.Spaced.{spaced, spaced_integer};
 ghost use Rattle.step_text.specs.declared.lay_out.TheConstants.{ROOM, DELETION_ROOM};
 
-use itoa::write_digits;
+use crate::digits::lay_out_number;
 
 /// The most bytes that an integer takes behind a space: a sign and 19 digits.
 pub(crate) const LONGEST: usize = 21;
@@ -19,12 +19,10 @@ fn lay_out_signed(integer: i64, sheet: &mut [u8], end: usize) -> usize
     ensures high { result ≤ end }
     ensures laid { drop result sheet.new ≡ printed_integer integer ++ drop end sheet.old }
 {
-    let begin = write_digits(integer.unsigned_abs(), sheet, end);
-    if integer >= 0 {
-        return begin;
-    }
-    sheet[begin - 1] = b'-';
-    begin - 1
+    let digits = lay_out_number(integer.unsigned_abs(), sheet, end);
+    // The place in front of the digits is free, also where they have no sign.
+    sheet[digits - 1] = b'-';
+    if integer < 0 { digits - 1 } else { digits }
 }
 
 /// Lays out an integer behind a space so that it ends there, and says where it begins.
@@ -100,7 +98,7 @@ pub(crate) fn lay_out_line(name: u64, literals: &[i64], hints: &[i64], sheet: &m
     sheet[ROOM - 1] = b'\n';
     let behind = lay_out_list(hints, sheet, ROOM - 1);
     let behind = lay_out_list(literals, sheet, behind);
-    write_digits(name, sheet, behind)
+    lay_out_id(name, sheet, behind)
 }
 
 /// Lays out an id so that it ends there, and says where it begins.
@@ -112,7 +110,7 @@ fn lay_out_id(name: u64, sheet: &mut [u8], end: usize) -> usize
     ensures high { result ≤ end }
     ensures laid { drop result sheet.new ≡ decimal name ++ drop end sheet.old }
 {
-    write_digits(name, sheet, end)
+    lay_out_number(name, sheet, end)
 }
 
 /// Lays out the letter of a deletion between spaces so that they end there, and says where they begin.

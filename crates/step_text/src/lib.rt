@@ -2,6 +2,7 @@
 #![tactic(auto)]
 
 pub mod ahead;
+mod digits;
 pub mod fields;
 mod grammar;
 mod lay_out;
