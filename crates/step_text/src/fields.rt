@@ -172,11 +172,12 @@ fn take_listed_id(tokens: &mut TokensAhead, size: usize) -> Result<Option<u64>, 
 /// The members that a list has room for at first.
 const FEW: usize = 16;
 
-/// An empty list with room for a few members.
-fn few<T>(alloc: Global) -> Result<Vec<T>, TextRefusal>
+/// An empty list with room for a few of the members that follow, or for none where the list seems to end at once.
+fn few<T>(alloc: Global, tokens: &TokensAhead) -> Result<Vec<T>, TextRefusal>
     ensures { MatchResult result (λ v. v.items ≡ []) (λ r. r ≡ Memory) }
 {
-    match Vec::with_capacity(alloc, FEW) {
+    let count = if tokens.begins_with_zero() { 0 } else { FEW };
+    match Vec::with_capacity(alloc, count) {
         Ok(members) => Ok(members),
         Err(_) => Err(TextRefusal::Memory),
     }
@@ -190,7 +191,7 @@ pub fn take_integers(
 ) -> Result<IntList, TextRefusal>
     ensures { TakesAll (λ zs. integers zs ∷ []) (some_integers ∷ []) size (placed_words tokens.old) result (placed_words tokens.new) }
 {
-    let mut members = few(alloc)?;
+    let mut members = few(alloc, tokens)?;
     loop {
         match tokens.take_shorts(&mut members) {
             Ok(true) => return Ok(IntList::from_vec(members)),
@@ -212,7 +213,7 @@ pub fn take_integers(
 pub fn take_ids(alloc: Global, tokens: &mut TokensAhead, size: usize) -> Result<IdList, TextRefusal>
     ensures { TakesAll (λ ns. ids ns ∷ []) (some_ids ∷ []) size (placed_words tokens.old) result (placed_words tokens.new) }
 {
-    let mut members = few(alloc)?;
+    let mut members = few(alloc, tokens)?;
     loop {
         match take_listed_id(tokens, size) {
             Ok(Some(name)) => match members.push(name) {
