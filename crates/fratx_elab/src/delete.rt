@@ -14,6 +14,7 @@ use crate::steps::{clause_deletion, parity_deletion};
 use cx_base::{IntList, ProofStep};
 use proof_rules::{JudgeRefusal, Kind};
 use std::alloc::Global;
+use std::mem;
 
 /// The proof id to delete where the log deletes an id: none for one of the formula's `count` constraints.
 fn deleted(names: &Names, count: u64, id: u64) -> Option<ProofId>
@@ -43,6 +44,11 @@ fn front_of(last: u64, id: ProofId) -> ProofId
     }
 }
 
+/// The memory of the deletion that was written last.
+fn room_of(alloc: Global, deleted: &mut Vec<u64>) -> Vec<u64> {
+    mem::replace(deleted, Vec::new(alloc))
+}
+
 /// Takes a clause out of the log, and out of the proof where it was added there.
 pub fn delete_clause(
     alloc: Global,
@@ -61,7 +67,10 @@ pub fn delete_clause(
     state.live.remove(Kind::Clauses, id);
     state.clauses.remove(id);
     match gone {
-        Some(gone) => Ok(Some(clause_deletion(alloc, front_of(last, gone), gone)?)),
+        Some(gone) => {
+            let room = room_of(alloc, &mut state.deleted);
+            Ok(Some(clause_deletion(room, front_of(last, gone), gone)?))
+        }
         None => Ok(None),
     }
 }
@@ -82,7 +91,10 @@ pub fn delete_parity(
     state.live.remove(Kind::Parities, id);
     state.parities.remove(id);
     match gone {
-        Some(gone) => Ok(Some(parity_deletion(alloc, gone)?)),
+        Some(gone) => {
+            let room = room_of(alloc, &mut state.deleted);
+            Ok(Some(parity_deletion(room, gone)?))
+        }
         None => Ok(None),
     }
 }

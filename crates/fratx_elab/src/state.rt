@@ -11,4 +11,6 @@ pub struct State {
     pub parities: Names,
     /// For its memory alone.
     pub marks: JudgeMarks,
+    /// For its memory alone: the ids of the deletion that was written last.
+    pub deleted: Vec<u64>,
 }

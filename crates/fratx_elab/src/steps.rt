@@ -5,7 +5,7 @@ ghost use Rattle.cx_base.specs.declared.steps.ProofStep.TheVariants as step;
 
 use crate::naming::ProofId;
 use cx_base::{IdList, IntList, ProofStep};
-use std::alloc::{AllocError, Global};
+use std::alloc::AllocError;
 
 /// A clause by a chain.
 pub fn clause_step(id: ProofId, lits: IntList, hints: IntList) -> ProofStep
@@ -46,20 +46,38 @@ pub fn clause_of_parity_step(id: ProofId, lits: IntList, source: ProofId) -> Pro
     ProofStep::ClauseOfParity(id.number(), lits, source.hint())
 }
 
-/// The deletion of one clause, behind the id `front`.
-pub fn clause_deletion(alloc: Global, front: ProofId, id: ProofId) -> Result<ProofStep, AllocError>
+/// The list of this id alone, in the memory of `room`.
+fn only(room: Vec<u64>, id: ProofId) -> Result<IdList, AllocError>
+    ensures { IfOk result (λ ids. ids ≡ id ∷ []) }
+{
+    let mut ids = room;
+    ids.clear();
+    ids.push(id.number())?;
+    Ok(IdList::from_vec(ids))
+}
+
+/// The deletion of one clause, behind the id `front`, in the memory of `room`.
+pub fn clause_deletion(room: Vec<u64>, front: ProofId, id: ProofId) -> Result<ProofStep, AllocError>
     ensures step { IfOk result (λ made. made ≡ step.DeleteClauses front (id ∷ [])) }
     ensures text { IfOk result HasProofText }
 {
-    let ids = IdList::from_vec(vec![in alloc; id.number()]?);
-    Ok(ProofStep::DeleteClauses(front.number(), ids))
+    Ok(ProofStep::DeleteClauses(front.number(), only(room, id)?))
 }
 
-/// The deletion of one parity.
-pub fn parity_deletion(alloc: Global, id: ProofId) -> Result<ProofStep, AllocError>
+/// The deletion of one parity, in the memory of `room`.
+pub fn parity_deletion(room: Vec<u64>, id: ProofId) -> Result<ProofStep, AllocError>
     ensures step { IfOk result (λ made. made ≡ step.DeleteParities (id ∷ [])) }
     ensures text { IfOk result HasProofText }
 {
-    let ids = IdList::from_vec(vec![in alloc; id.number()]?);
-    Ok(ProofStep::DeleteParities(ids))
+    Ok(ProofStep::DeleteParities(only(room, id)?))
+}
+
+/// Keeps the memory of a deletion, for the next one.
+pub fn keep_memory(deleted: &mut Vec<u64>, written: Option<ProofStep>) {
+    match written {
+        Some(ProofStep::DeleteClauses(_, ids)) | Some(ProofStep::DeleteParities(ids)) => {
+            *deleted = ids.into_vec();
+        }
+        _ => {}
+    }
 }

@@ -18,6 +18,7 @@ use crate::one_step::{ends_log, take_step};
 use crate::originals::{Counts, Originals, count_kinds};
 use crate::outcome::{Elab, ElabFault};
 use crate::state::State;
+use crate::steps::keep_memory;
 use cx_base::{Formula, LogStep, ProofStep};
 use cx_semantics::Cause;
 use proof_rules::{JudgeMarks, JudgeRefusal};
@@ -133,6 +134,7 @@ fn take_next<E: ElabEnds>(
         Err(why) => return refused_step(why, steps + 1),
     };
     let wrote = write(ends, &written);
+    keep_memory(&mut state.deleted, written);
     what_follows(wrote, is_last, steps + 1)
 }
 
@@ -201,6 +203,7 @@ pub fn elaborate<E: ElabEnds>(
         clauses: Names::new(alloc, counts.clauses),
         parities: Names::new(alloc, counts.parities),
         marks: JudgeMarks::new(alloc),
+        deleted: Vec::new(alloc),
     };
     take_all(alloc, formula, counts, &originals, &mut state, ends)
 }

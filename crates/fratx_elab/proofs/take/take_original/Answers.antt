@@ -16,5 +16,5 @@ returns-in_ok-put_original-in-Some-clause-taken c =
     let seen = c.as_slice.result.now in
     let P : Option ℕ → Type 0 = λ o. MatchOption o (IsFalse (is_original formula seen)) (IsClauseNumber formula seen) in
     let number = subst P c.in-Some.is c.in_ok-number.ensures in
-    takes_original formula c.args.state.now (record { live = _; clauses = _; parities = _; marks = c.args.state.now.marks }) c.args.id k lits added (subst (λ (l : List Literal). IsClauseNumber formula l k) (c.as_slice.ensures ∙ target) number)
+    takes_original formula c.args.state.now (record { live = _; clauses = _; parities = _; marks = c.args.state.now.marks; deleted = c.args.state.now.deleted }) c.args.id k lits added (subst (λ (l : List Literal). IsClauseNumber formula l k) (c.as_slice.ensures ∙ target) number)
     (c.in_ok-put_live-in-Some.ensures ∙ ap (put_clause c.args.state.now.live c.args.id) target) c.in_ok-put_original-in-Some.ensures refl

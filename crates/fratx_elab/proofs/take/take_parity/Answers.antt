@@ -18,6 +18,6 @@ returns-clause-taken c =
     let target = c.in_ok-target.ensures.1 in
     let judged = subst (λ (l : List Literal). AllHold (naming state.live.parities ids ++ summing l (named state.live.parities ids))) target
     (subst (λ (t : Tables). AllHold (naming t.parities ids ++ summing c.in_ok-target.target (named t.parities ids))) c.live.ensures c.in_ok-judge_named_sum.ensures) in
-    takes_parity formula state (record { live = _; clauses = _; parities = _; marks = c.args.state.now.marks }) c.args.id lits ids c.parity_step.result added judged
+    takes_parity formula state (record { live = _; clauses = _; parities = _; marks = c.args.state.now.marks; deleted = c.args.state.now.deleted }) c.args.id lits ids c.parity_step.result added judged
     (c.in_ok-put_live.ensures ∙ ap (put_parity state.live c.args.id) target) refl c.in_ok-next.ensures.named
     (c.parity_step.ensures.step ∙ (λ i. step.Parity (c.in_ok-next.ensures.next i) lits (c.in_ok-hints.ensures i)))

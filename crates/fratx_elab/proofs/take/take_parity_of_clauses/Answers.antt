@@ -18,6 +18,6 @@ returns-clause-taken c =
     let target = c.in_ok-target.ensures.1 in
     let judged = subst (λ (l : List Literal). AllHold (naming state.live.clauses ids ++ parity_of_clauses l (named state.live.clauses ids))) target
     (subst (λ (t : Tables). AllHold (naming t.clauses ids ++ parity_of_clauses c.in_ok-target.target (named t.clauses ids))) c.live.ensures c.in-Ok.ensures) in
-    takes_parity_of_clauses formula state (record { live = _; clauses = _; parities = _; marks = c.args.state.now.marks }) c.args.id lits ids c.parity_of_clauses_step.result added judged
+    takes_parity_of_clauses formula state (record { live = _; clauses = _; parities = _; marks = c.args.state.now.marks; deleted = c.args.state.now.deleted }) c.args.id lits ids c.parity_of_clauses_step.result added judged
     (c.in_ok-put_live.ensures ∙ ap (put_parity state.live c.args.id) target) refl c.in_ok-next.ensures.named
     (c.parity_of_clauses_step.ensures.step ∙ (λ i. step.ParityOfClauses (c.in_ok-next.ensures.next i) lits (c.in_ok-hints.ensures i)))

@@ -4,6 +4,7 @@ use Rattle.cx_base.specs.declared.steps.LogStep.{LogStep}
 use Rattle.step_text.specs.Sources.{Gives}
 use Rattle.step_text.specs.Sinks.{SinkFaultsAs}
 use Rattle.fratx_elab.specs.Writing.{WritesDown}
+use Rattle.fratx_elab.specs.declared.state.State.{State}
 use Rattle.fratx_elab.proofs.Turns.{end_is_refused, text_is_refused, refusal_turns, write_turns, text_stands, step_stands, write_stands, text_reads, step_reads, write_reads}
 use Rattle.fratx_elab.proofs.walk.take_next.Goals as goal
 
@@ -29,9 +30,11 @@ returns-clause-turns g c = λ first kept.
     let new = c.write-wrote.new.ends in
     let h = subst (λ (o : Option LogStep). Gives g.E.ElabEnds.leaves old (Ok o) c.next_step.new.self) c.in-Ok-Some.field-0-is c.in-Ok-Some.ensures.step in
     let told = subst (λ t. WritesDown t (g.E.ElabEnds.steps new) (g.E.ElabEnds.torn new) c.in-Ok.written c.write-wrote.result) c.in-Ok-Some.ensures.steps_stay c.write-wrote.ensures.told in
+    let taken = c.take_step.new.state in
+    let kept_memory : State = record { live = taken.live; clauses = taken.clauses; parities = taken.parities; marks = taken.marks; deleted = c.keep_memory.new.deleted } in
     rw c.what_follows.ensures
     (write_turns _ _ _ c.args.formula.now first old new c.args.state.now _ kept c.in-Ok-Some.step (λ steps ending k. h steps ending ((c.write-wrote.ensures.rest steps ending).0 k)) (g.met.E.ElabEnds.leaves_some new)
-    c.take_step.new.state c.in-Ok.written c.in-Ok.ensures.taken c.write-wrote.result told c.ends_log-is_last.result c.ends_log-is_last.ensures)
+    kept_memory c.in-Ok.written c.in-Ok.ensures.taken c.write-wrote.result told c.ends_log-is_last.result c.ends_log-is_last.ensures)
 
 pub returns-in-Err-clause-writes : goal.returns-in-Err-clause-writes
 returns-in-Err-clause-writes g c = rw c.refused_text.ensures (text_stands _ _ c.in-Err.why _ c.in-Err.ensures.writes_stay)
