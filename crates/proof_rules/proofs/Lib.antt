@@ -5,10 +5,12 @@ pub mod NamedHints
 pub mod ParityValues
 pub mod ClauseValues
 pub mod ExclusionLaws
+pub mod FirstLaws
 pub mod ClausesParity
 pub mod StepIntegers
 pub mod ContentLaws
 pub mod PageLaws
+pub mod TableLaws
 pub mod PlaceLaws
 pub mod MarkLaws
 pub mod VariableLaws

@@ -15,10 +15,10 @@ use Rattle.std.specs.FinMap as map
 use Rattle.cx_semantics.proofs.MapEntries.{look, get-from_entries}
 use Rattle.proof_rules.specs.Places.{entries_from, entries_of}
 
-is_eq-same : (n : ℕ) → is_eq (nat_cmp n n) ≡ true
+pub is_eq-same : (n : ℕ) → is_eq (nat_cmp n n) ≡ true
 is_eq-same n = unsigned_tied n n ∙ eq-eqb n n refl
 
-is_eq-other : (n m : ℕ) → n ≢ m → is_eq (nat_cmp n m) ≡ false
+pub is_eq-other : (n m : ℕ) → n ≢ m → is_eq (nat_cmp n m) ≡ false
 is_eq-other n m h = unsigned_tied n m ∙ ne_eqb n m h
 
 -- no place from n on has a number below n
@@ -82,7 +82,7 @@ look-put_behind k v xs es fs past h =
     (λ q apart. other-answer k q (Some v) es fs (h q) apart)
 
 -- nothing is left of an id once it is out of its place and out of what stands behind
-emptied : {V : Type 0} (xs : List (Option V)) (k : ℕ) → get_or (set xs k None) k None ≡ None
+pub emptied : {V : Type 0} (xs : List (Option V)) (k : ℕ) → get_or (set xs k None) k None ≡ None
 emptied [] k = refl
 emptied (x ∷ xs) zero = refl
 emptied (x ∷ xs) (suc k) = emptied xs k

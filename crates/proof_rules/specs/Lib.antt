@@ -6,6 +6,7 @@ pub mod LiteralSets
 pub mod Ends
 pub mod Assignments
 pub mod Exclusions
+pub mod FirstLists
 pub mod Contents
 pub mod Places
 pub mod VariableMarks

@@ -17,8 +17,8 @@ pub struct IdMap<V> {
     near: Vec<Page<V>>,
     /// The values of the other ids.
     far: BTreeMap<u64, V>,
-    /// How many values were put in so far. `near` has at most four places for each, and a thousand more, so that no
-    /// id that a proof names takes memory that the proof's length does not pay for.
+    /// How many values were put in so far, here or elsewhere. `near` has at most four places for each, and a thousand
+    /// more, so that no id that a proof names takes memory that the proof's length does not pay for.
     added: u64,
     /// The page that was emptied last. It keeps its places until another page is emptied, so that a value that comes
     /// and goes takes no memory anew.
@@ -44,10 +44,17 @@ impl<V: Drop + Filler> IdMap<V> {
     pub fn new(alloc: Global) -> IdMap<V>
         ensures { result ≡ map.empty }
     {
+        IdMap::beside(alloc, 0)
+    }
+
+    /// Nothing is in it, and so many values stand elsewhere, whose ids come before those of this map.
+    pub fn beside(alloc: Global, count: u64) -> IdMap<V>
+        ensures { result ≡ map.empty }
+    {
         IdMap {
             near: Vec::new(alloc),
             far: BTreeMap::new(alloc),
-            added: 0,
+            added: count,
             idle: 0,
         }
     }

@@ -5,6 +5,7 @@ mod added;
 mod chain;
 mod clauses_parity;
 mod content;
+mod first;
 mod hints;
 mod id_map;
 mod judge;

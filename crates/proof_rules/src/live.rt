@@ -1,10 +1,10 @@
 //! The live clauses and parities of a proof, by their ids.
 ghost use Rattle.std.specs.Prelude.{◌≡◌, IfOk, OnOk, OnErr, [], ◌∷◌, MatchOption, None, Some};
-ghost use Rattle.cx_semantics.specs.Tables.{get, is_live, no_tables};
+ghost use Rattle.cx_semantics.specs.Tables.{get, is_live, no_tables, first_tables};
 ghost use Rattle.proof_rules.specs.Kinds.{chosen, put_constraint, drop_constraints, ListsLive};
 
 use crate::table::LiveTable;
-use cx_base::{IdList, Lit};
+use cx_base::{Formula, IdList, Lit};
 use std::alloc::{AllocError, Global};
 use std::marker::Model;
 
@@ -17,12 +17,12 @@ pub enum Kind {
 
 /// Two tables, of clauses and of parities, each from ids to literals. The two sets of ids are separate.
 #[derive(Drop)]
-pub struct Live {
-    clauses: LiveTable,
-    parities: LiveTable,
+pub struct Live<'f> {
+    clauses: LiveTable<'f>,
+    parities: LiveTable<'f>,
 }
 
-impl Model for Live {
+impl<'f> Model for Live<'f> {
     ghost use Rattle.cx_semantics.specs.Tables.{Tables, tables_code};
 
     ghost Value = { Tables };
@@ -32,15 +32,25 @@ impl Model for Live {
     ghost view = { λ a. record { clauses = a.clauses; parities = a.parities } };
 }
 
-impl Live {
+impl<'f> Live<'f> {
     /// Nothing is live.
-    pub fn make(alloc: Global) -> Live
+    pub fn make(alloc: Global) -> Live<'f>
         ensures { result ≡ no_tables }
     {
         Live {
             clauses: LiveTable::new(alloc),
             parities: LiveTable::new(alloc),
         }
+    }
+
+    /// The formula's clauses and its parities, each numbered from 1 in order. Its literals are not copied.
+    pub fn of(alloc: Global, formula: &'f Formula) -> Result<Live<'f>, AllocError>
+        ensures { IfOk result (λ live. live ≡ first_tables formula.now) }
+    {
+        Ok(Live {
+            clauses: LiveTable::clauses(alloc, formula)?,
+            parities: LiveTable::parities(alloc, formula)?,
+        })
     }
 
     /// Whether a constraint of this kind and id is live.

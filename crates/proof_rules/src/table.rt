@@ -1,55 +1,86 @@
 //! One table of live constraints, by their ids.
 ghost use Rattle.std.specs.Prelude.{◌≡◌, OnOk, OnErr, IfOk, MatchOption, None, Some};
 ghost use Rattle.std.specs.FinMap as map;
-ghost use Rattle.cx_semantics.specs.Tables.{get, is_live};
+ghost use Rattle.cx_base.specs.Problem.{clauses_of, parities_of};
+ghost use Rattle.cx_semantics.specs.Tables.{get, is_live, numbered_from};
 ghost use Rattle.proof_rules.specs.Kinds.{ListsLive};
 
+use crate::first::FirstLists;
 use crate::id_map::IdMap;
 use crate::stored::StoredList;
-use cx_base::{IdList, Lit};
+use cx_base::{Formula, IdList, Lit};
 use std::alloc::{AllocError, Global};
 use std::marker::Model;
 
 /// From ids to literals.
 #[derive(Drop)]
-pub(crate) struct LiveTable {
+pub(crate) struct LiveTable<'f> {
+    /// What stands in a formula. It goes before what was put under the same id.
+    first: FirstLists<'f>,
     lists: IdMap<StoredList>,
 }
 
-impl Model for LiveTable {
+impl<'f> Model for LiveTable<'f> {
+    ghost use Rattle.std.specs.Prelude.{◌++◌};
+    ghost use Rattle.std.specs.FinMap as map;
+    ghost use Rattle.proof_rules.specs.Places.{entries_of};
     ghost use Rattle.cx_semantics.specs.Tables.{Table, table_code};
 
     ghost Value = { Table };
 
     ghost coded = { table_code };
 
-    ghost view = { λ a. a.lists };
+    ghost view = { λ a. map.from_entries (entries_of a.first ++ map.entries a.lists) };
 }
 
-impl LiveTable {
+impl<'f> LiveTable<'f> {
     /// Nothing is live.
-    pub(crate) fn new(alloc: Global) -> LiveTable
+    pub(crate) fn new(alloc: Global) -> LiveTable<'f>
         ensures { result ≡ map.empty }
     {
         LiveTable {
+            first: FirstLists::none(alloc),
             lists: IdMap::new(alloc),
         }
+    }
+
+    /// The clauses of a formula, under their numbers.
+    pub(crate) fn clauses(alloc: Global, formula: &'f Formula) -> Result<LiveTable<'f>, AllocError>
+        ensures { IfOk result (λ table. table ≡ numbered_from 1 (clauses_of formula.now.constraints)) }
+    {
+        Ok(LiveTable {
+            first: FirstLists::clauses(alloc, formula)?,
+            lists: IdMap::beside(alloc, formula.clause_count() as u64),
+        })
+    }
+
+    /// The parities of a formula, under their numbers.
+    pub(crate) fn parities(alloc: Global, formula: &'f Formula) -> Result<LiveTable<'f>, AllocError>
+        ensures { IfOk result (λ table. table ≡ numbered_from 1 (parities_of formula.now.constraints)) }
+    {
+        Ok(LiveTable {
+            first: FirstLists::parities(alloc, formula)?,
+            lists: IdMap::beside(alloc, formula.parity_count() as u64),
+        })
     }
 
     /// Whether a list of this id is live.
     pub(crate) fn has(&self, id: u64) -> bool
         ensures { result ≡ is_live self.now id }
     {
-        self.lists.get(id).is_some()
+        self.first.has(id) || self.lists.get(id).is_some()
     }
 
     /// The live list of this id.
     pub(crate) fn get(&self, id: u64) -> Option<&[Lit]>
         ensures { MatchOption result (get self.now id ≡ None) (λ lits. get self.now id ≡ Some lits.now) }
     {
-        match self.lists.get(id) {
-            Some(lits) => Some(lits.as_slice()),
-            None => None,
+        match self.first.get(id) {
+            Some(lits) => Some(lits),
+            None => match self.lists.get(id) {
+                Some(lits) => Some(lits.as_slice()),
+                None => None,
+            },
         }
     }
 
@@ -57,7 +88,9 @@ impl LiveTable {
     pub(crate) fn ids(&self, alloc: Global) -> Result<IdList, AllocError>
         ensures { IfOk result (ListsLive self.now) }
     {
-        Ok(IdList::from_vec(self.lists.ids(alloc)?))
+        let mut ids = self.lists.ids(alloc)?;
+        self.first.push_ids(&mut ids)?;
+        Ok(IdList::from_vec(ids))
     }
 
     /// Puts a copy of a list under this id. Without memory nothing changes.
@@ -71,13 +104,16 @@ impl LiveTable {
         ensures err { OnErr result (self.new ≡ self.old) }
     {
         let list = StoredList::copy_of(alloc, lits)?;
-        self.lists.insert(id, list)
+        self.lists.insert(id, list)?;
+        self.first.clear(id);
+        Ok(())
     }
 
     /// Takes the list of this id out; where none is live nothing changes.
     pub(crate) fn remove(&mut self, id: u64)
         ensures { self.new ≡ map.remove self.old id }
     {
+        self.first.clear(id);
         self.lists.remove(id);
     }
 }

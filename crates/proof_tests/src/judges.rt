@@ -40,7 +40,7 @@ type Case = (&'static [i64], &'static [i64], Option<Cause>);
 /// Live constraints, and what the judges mark.
 #[derive(Drop)]
 struct Court {
-    live: Live,
+    live: Live<'static>,
     assumed: LiteralSet,
     marks: JudgeMarks,
 }

@@ -24,7 +24,7 @@ use std::marker::Model;
 /// What is added or removed costs its own literals, and what was propagated from it.
 #[derive(Drop)]
 pub struct IndexedClauses {
-    live: Live,
+    live: Live<'static>,
     /// All live clauses. None before the first search, after want of memory, and where it is to be made anew.
     engine: Option<Engine>,
     /// Some of them, which are asked first.

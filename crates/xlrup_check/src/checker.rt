@@ -4,7 +4,6 @@ ghost use Rattle.cx_base.specs.Problem.{Problem};
 ghost use Rattle.cx_base.specs.declared.literal.TheConstants.{MAX_VARIABLE};
 ghost use Rattle.xlrup_check.specs.Verdicts.{IsJudgedBy, IsSound, HasCause, ReadsStand, Kept, Goes, text_refused, what_follows_of};
 
-use crate::begin::first_live;
 use crate::step::take_step;
 use crate::verdict::{Fault, Verdict};
 use cx_base::{Formula, ProofStep};
@@ -32,7 +31,7 @@ pub fn check<S: StepSource<Step = ProofStep>>(
     ensures frame { S.keeps source.old source.new }
 {
     let vars = formula.vars();
-    let mut live = match first_live(alloc, formula) {
+    let mut live = match Live::of(alloc, formula) {
         Ok(live) => live,
         Err(_) => return Err(Fault::Memory),
     };

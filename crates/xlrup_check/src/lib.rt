@@ -1,7 +1,6 @@
 //! The checker of proofs: a proof is accepted only where no values meet the formula.
 #![tactic(auto)]
 
-mod begin;
 mod checker;
 mod step;
 mod verdict;

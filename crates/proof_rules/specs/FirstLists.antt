@@ -1,0 +1,18 @@
+-- The lists that a table has from a formula.
+use Rattle.std.specs.Prelude.{List, [], ◌∷◌, Option, None, Some, Bool, true, false}
+use Rattle.cx_base.specs.Literals.{Literal}
+use Rattle.cx_base.specs.Problem.{clauses_of, parities_of}
+use Rattle.proof_rules.specs.declared.first.Numbered.{Numbered}
+use Rattle.proof_rules.specs.declared.first.Numbered.TheVariants.{Nothing, Clauses, Parities}
+
+-- the lists of a kind of constraint, in order
+abbrev pub lists_of : Numbered → List (List Literal)
+lists_of Nothing = []
+lists_of (Clauses formula) = clauses_of formula.now.constraints
+lists_of (Parities formula) = parities_of formula.now.constraints
+
+-- the lists that did not go, each in its place
+abbrev pub left_of : List Bool → List (List Literal) → List (Option (List Literal))
+left_of (true ∷ gone) (lits ∷ lists) = None ∷ left_of gone lists
+left_of (false ∷ gone) (lits ∷ lists) = Some lits ∷ left_of gone lists
+left_of gone lists = []
