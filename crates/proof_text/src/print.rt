@@ -7,7 +7,7 @@ ghost use Rattle.cx_texts.specs.Printed.{printed_line, HasProofText};
 
 use cx_base::ProofStep;
 use cx_desk::{Desk, Failed, Port, put_all};
-use step_text::pieces::{put_deletion, put_id, put_ids, put_line};
+use step_text::pieces::{self, put_deletion, put_id, put_ids, put_line};
 
 /// An id, literals and hints behind a text, as the end of a line.
 fn put_hinted<D: Desk>(
@@ -44,7 +44,7 @@ fn put_parity_deletion<D: Desk>(desk: &mut D, port: Port, names: &[u64]) -> Resu
     ensures { PutsAll port (printed_line (flat_map spelled (mark 120 ∷ mark 100 ∷ ids names.now ∷ []))) (D.outside desk.old) result (D.outside desk.new) }
 {
     if let [deleted] = names {
-        return put_id(desk, port, b"x d ", *deleted, b" 0\n");
+        return pieces::put_parity_deletion(desk, port, *deleted);
     }
     put_all(desk, port, b"x d")?;
     put_ids(desk, port, names)

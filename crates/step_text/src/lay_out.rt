@@ -142,3 +142,17 @@ pub(crate) fn lay_out_deletion(name: u64, deleted: u64, sheet: &mut [u8]) -> usi
     let between = lay_out_letter(sheet, second);
     lay_out_id(name, sheet, between)
 }
+
+/// Lays out the line of a deletion of one parity at the end of a sheet, and says where it begins.
+pub(crate) fn lay_out_parity_deletion(deleted: u64, sheet: &mut [u8]) -> usize
+    requires sheet { length sheet.old ≡ DELETION_ROOM }
+    ensures within { result ≤ DELETION_ROOM }
+    ensures laid { drop result sheet.new ≡ 120 ∷ 32 ∷ 100 ∷ 32 ∷ (decimal deleted ++ 32 ∷ 48 ∷ 10 ∷ []) }
+{
+    sheet[DELETION_ROOM - 1] = b'\n';
+    let behind = lay_out_zero(sheet, DELETION_ROOM - 1);
+    let second = lay_out_id(deleted, sheet, behind);
+    let letter = lay_out_letter(sheet, second);
+    sheet[letter - 1] = b'x';
+    letter - 1
+}

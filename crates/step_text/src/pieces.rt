@@ -6,6 +6,7 @@ ghost use Rattle.step_text.specs.Spaced.{spaced, spaced_integer, spaced_id};
 
 use crate::lay_out::{
     DELETION_ROOM, LONGEST, ROOM, SHORT, lay_out_deletion, lay_out_integers, lay_out_line,
+    lay_out_parity_deletion,
 };
 use cx_desk::{Desk, Failed, Port, put_all, put_pieces};
 use itoa::Buffer;
@@ -93,6 +94,15 @@ pub fn put_deletion<D: Desk>(
 {
     let mut sheet = [0; DELETION_ROOM];
     let begin = lay_out_deletion(name, deleted, &mut sheet);
+    put_all(desk, port, &sheet[begin..])
+}
+
+/// A deletion of one parity, as a whole line in one piece.
+pub fn put_parity_deletion<D: Desk>(desk: &mut D, port: Port, deleted: u64) -> Result<(), Failed>
+    ensures { PutsAll port (120 ∷ 32 ∷ 100 ∷ 32 ∷ (decimal deleted ++ 32 ∷ 48 ∷ 10 ∷ [])) (D.outside desk.old) result (D.outside desk.new) }
+{
+    let mut sheet = [0; DELETION_ROOM];
+    let begin = lay_out_parity_deletion(deleted, &mut sheet);
     put_all(desk, port, &sheet[begin..])
 }
 

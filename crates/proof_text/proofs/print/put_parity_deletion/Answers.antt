@@ -16,8 +16,8 @@ one_line (m ∷ k ∷ ns) h = absurd (omega arith)
 pub returns-in-len1 : goal.returns-in-len1
 returns-in-len1 g c =
     let old = g.D.Desk.outside c.args.desk.now in
-    let new = g.D.Desk.outside c.put_id.new.desk in
-    subst (λ l. PutsAll c.args.port l old c.put_id.result new) (one_line c.args.names.now (omega arith)) c.put_id.ensures
+    let new = g.D.Desk.outside c.put_parity_deletion.new.desk in
+    subst (λ l. PutsAll c.args.port l old c.put_parity_deletion.result new) (one_line c.args.names.now (omega arith)) c.put_parity_deletion.ensures
 
 pub returns-in_err-put_all : goal.returns-in_err-put_all
 returns-in_err-put_all g c =
