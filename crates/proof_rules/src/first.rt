@@ -100,6 +100,7 @@ impl<'f> FirstLists<'f> {
     }
 
     /// Whether there is a list under this id.
+    #[inline(always)]
     pub(crate) fn has(&self, id: u64) -> bool
         ensures { result ≡ is_some (get_or self.now id None) }
     {
@@ -111,6 +112,7 @@ impl<'f> FirstLists<'f> {
     }
 
     /// The list under this id.
+    #[inline(always)]
     pub(crate) fn get(&self, id: u64) -> Option<&[Lit]>
         ensures { MatchOption result (get_or self.now id None ≡ None) (λ lits. get_or self.now id None ≡ Some lits.now) }
     {

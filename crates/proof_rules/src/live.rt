@@ -71,6 +71,7 @@ impl<'f> Live<'f> {
     }
 
     /// The literals of the live clause of this id.
+    #[inline(always)]
     pub fn clause(&self, id: u64) -> Option<&[Lit]>
         ensures { MatchOption result (get self.now.clauses id ≡ None) (λ lits. get self.now.clauses id ≡ Some lits.now) }
     {

@@ -72,6 +72,7 @@ impl<'f> LiveTable<'f> {
     }
 
     /// The live list of this id.
+    #[inline(always)]
     pub(crate) fn get(&self, id: u64) -> Option<&[Lit]>
         ensures { MatchOption result (get self.now id ≡ None) (λ lits. get self.now id ≡ Some lits.now) }
     {
