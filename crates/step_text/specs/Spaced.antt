@@ -13,6 +13,6 @@ spaced_integer z = 32 ∷ printed_integer z
 abbrev pub spaced_id : ℕ → List ℕ
 spaced_id n = 32 ∷ decimal n
 
--- the digits of a number below a hundred, a zero in front of a single one
-abbrev pub two_digits : ℕ → List ℕ
-two_digits n = (48 + n / 10) ∷ (48 + n % 10) ∷ []
+-- the digits of a number below a thousand, zeros in front of fewer than three
+abbrev pub three_digits : ℕ → List ℕ
+three_digits n = (48 + n / 100) ∷ (48 + n / 10 % 10) ∷ (48 + n % 10) ∷ []

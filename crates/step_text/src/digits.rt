@@ -1,76 +1,67 @@
 //! The digits of numbers, laid out with no branch on how many there are: a branch that can't be foreseen costs more than they do.
-ghost use Rattle.std.specs.Prelude.{◌≡◌, ◌<◌, ◌≤◌, ◌+◌, ◌-◌, ◌/◌, ◌%◌, ◌++◌, decimal, length, drop};
-ghost use Rattle.step_text.specs.Spaced.{two_digits};
+ghost use Rattle.std.specs.Prelude.{◌≡◌, ◌<◌, ◌≤◌, ◌+◌, ◌-◌, ◌/◌, ◌%◌, ◌∷◌, ◌++◌, decimal, length, drop};
+ghost use Rattle.step_text.specs.Spaced.{three_digits};
 
 use itoa::write_digits;
 
-/// The two digits of each number below a hundred.
-static PAIRS: [u8; 200] =
-    *b"00010203040506070809101112131415161718192021222324252627282930313233343536373839404142434445464748495051525354555657585960616263646566676869707172737475767778798081828384858687888990919293949596979899";
+/// A table of three digits each, from the hundreds, the tens and the ones.
+macro_rules! triples {
+    ([$($hundreds:tt)*] $tens:tt $ones:tt) => { triples!(@tens $([$hundreds $tens $ones])*) };
+    (@tens $([$hundreds:tt [$($tens:tt)*] $ones:tt])*) => { triples!(@ones $($([$hundreds $tens $ones])*)*) };
+    (@ones $([$hundreds:tt $tens:tt [$($ones:tt)*]])*) => {
+        [$($([
+            1 + ($hundreds + $tens > 0) as u8 + ($hundreds > 0) as u8,
+            b'0' + $hundreds,
+            b'0' + $tens,
+            b'0' + $ones,
+        ],)*)*]
+    };
+}
 
-/// The bound of numbers of at most four digits.
-const FOUR_DIGITS: u64 = 10_000;
+/// How many digits each number below a thousand has, and then three digits, zeros in front of fewer.
+static TRIPLES: [[u8; 4]; 1000] =
+    triples!([0 1 2 3 4 5 6 7 8 9] [0 1 2 3 4 5 6 7 8 9] [0 1 2 3 4 5 6 7 8 9]);
 
-/// The bound of numbers of at most eight digits.
-const EIGHT_DIGITS: u64 = FOUR_DIGITS * FOUR_DIGITS;
+/// The bound of numbers of at most three digits.
+const THREE_DIGITS: u64 = 1000;
+
+/// The bound of numbers of at most six digits.
+const SIX_DIGITS: u64 = THREE_DIGITS * THREE_DIGITS;
 
 /// The most digits that a number has.
 pub(crate) const MOST_DIGITS: usize = 20;
 
-/// Lays out two digits so that they end there, a zero in front of a single one.
+/// How many digits a number has, and then three digits, zeros in front of fewer.
 #[inline(always)]
-fn lay_out_two(number: u64, sheet: &mut [u8], end: usize)
-    requires few { number < 100 }
-    requires room { 2 ≤ end }
-    requires within { end ≤ length sheet.old }
-    ensures { drop (end - 2) sheet.new ≡ two_digits number ++ drop end sheet.old }
+fn triple(number: u64) -> [u8; 4]
+    requires { number < THREE_DIGITS }
+    ensures { result ≡ length (decimal number) ∷ three_digits number }
 {
-    let from = number as usize * 2;
-    let (tens, ones) = (PAIRS[from], PAIRS[from + 1]);
-    sheet[end - 2] = tens;
-    sheet[end - 1] = ones;
+    TRIPLES[number as usize]
 }
 
-/// Lays out four digits so that they end there, zeros in front of fewer.
+/// Lays out three digits so that they end there, zeros in front of fewer. The place in front of them is changed too.
 #[inline(always)]
-fn lay_out_four(number: u64, sheet: &mut [u8], end: usize)
-    requires few { number < FOUR_DIGITS }
+fn lay_out_three(number: u64, sheet: &mut [u8], end: usize)
+    requires few { number < THREE_DIGITS }
     requires room { 4 ≤ end }
     requires within { end ≤ length sheet.old }
-    ensures { drop (end - 4) sheet.new ≡ two_digits (number / 100) ++ (two_digits (number % 100) ++ drop end sheet.old) }
+    ensures { drop (end - 3) sheet.new ≡ three_digits number ++ drop end sheet.old }
 {
-    lay_out_two(number % 100, sheet, end);
-    lay_out_two(number / 100, sheet, end - 2);
+    sheet[end - 4..end].copy_from_slice(&triple(number));
 }
 
-/// How many digits a number of at most four has.
-#[inline(always)]
-fn count_of_digits(number: u64) -> usize
-    requires { number < FOUR_DIGITS }
-    ensures { result ≡ length (decimal number) }
-{
-    if number < 10 {
-        1
-    } else if number < 100 {
-        2
-    } else if number < 1000 {
-        3
-    } else {
-        4
-    }
-}
-
-/// Lays out a number of at most four digits so that it ends there, and says where it begins.
+/// Lays out a number of at most three digits so that it ends there, and says where it begins.
 #[inline(always)]
 fn lay_out_few(number: u64, sheet: &mut [u8], end: usize) -> usize
-    requires few { number < FOUR_DIGITS }
+    requires few { number < THREE_DIGITS }
     requires room { 4 ≤ end }
     requires within { end ≤ length sheet.old }
     ensures begin { result + length (decimal number) ≡ end }
     ensures laid { drop result sheet.new ≡ decimal number ++ drop end sheet.old }
 {
-    lay_out_four(number, sheet, end);
-    end - count_of_digits(number)
+    lay_out_three(number, sheet, end);
+    end - triple(number)[0] as usize
 }
 
 /// Lays out a number so that it ends there, and says where it begins.
@@ -81,12 +72,12 @@ pub(crate) fn lay_out_number(number: u64, sheet: &mut [u8], end: usize) -> usize
     ensures begin { result + length (decimal number) ≡ end }
     ensures laid { drop result sheet.new ≡ decimal number ++ drop end sheet.old }
 {
-    if number < FOUR_DIGITS {
+    if number < THREE_DIGITS {
         return lay_out_few(number, sheet, end);
     }
-    if number < EIGHT_DIGITS {
-        lay_out_four(number % FOUR_DIGITS, sheet, end);
-        return lay_out_few(number / FOUR_DIGITS, sheet, end - 4);
+    if number < SIX_DIGITS {
+        lay_out_three(number % THREE_DIGITS, sheet, end);
+        return lay_out_few(number / THREE_DIGITS, sheet, end - 3);
     }
     write_digits(number, sheet, end)
 }
