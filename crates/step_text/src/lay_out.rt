@@ -3,7 +3,7 @@ ghost use Rattle.std.specs.Prelude.{◌≡◌, ◌≤◌, ◌+◌, ◌*◌, ◌�
 ghost use Rattle.cx_texts.specs.Grammar.{spelled, integers};
 ghost use Rattle.cx_texts.specs.Printed.{printed_integer};
 ghost use Rattle.step_text.specs.Spaced.{spaced, spaced_integer};
-ghost use Rattle.step_text.specs.declared.lay_out.TheConstants.{ROOM, DELETION_ROOM};
+ghost use Rattle.step_text.specs.declared.lay_out.TheConstants.{FRAME, DELETION_ROOM};
 
 use crate::digits::lay_out_number;
 
@@ -56,12 +56,6 @@ pub(crate) fn lay_out_integers(members: &[i64], sheet: &mut [u8], end: usize) ->
     at
 }
 
-/// The most integers of a line that is laid out whole.
-pub(crate) const SHORT: usize = 48;
-
-/// Room for such a line: an id, the integers, two zeros behind spaces, and a line feed.
-pub(crate) const ROOM: usize = (SHORT + 1) * LONGEST + 5;
-
 /// Lays out a space and a zero so that they end there, and says where they begin.
 #[inline(always)]
 fn lay_out_zero(sheet: &mut [u8], end: usize) -> usize
@@ -87,16 +81,19 @@ fn lay_out_list(members: &[i64], sheet: &mut [u8], end: usize) -> usize
     lay_out_integers(members, sheet, begin)
 }
 
+/// What a line takes beside its integers: an id, two zeros behind spaces, and a line feed.
+pub(crate) const FRAME: usize = LONGEST + 5;
+
 /// Lays out an id and two lists, each with the zero that ends it, and a line feed at the end of a sheet, and says where the id
 /// begins.
 pub(crate) fn lay_out_line(name: u64, literals: &[i64], hints: &[i64], sheet: &mut [u8]) -> usize
-    requires few { length literals.now + length hints.now ≤ SHORT }
-    requires sheet { length sheet.old ≡ ROOM }
-    ensures within { result ≤ ROOM }
+    requires { (length literals.now + length hints.now) * LONGEST + FRAME ≤ length sheet.old }
+    ensures within { result ≤ length sheet.new }
     ensures laid { drop result sheet.new ≡ decimal name ++ (spaced (spelled (integers literals.now)) ++ (spaced (spelled (integers hints.now)) ++ 10 ∷ [])) }
 {
-    sheet[ROOM - 1] = b'\n';
-    let behind = lay_out_list(hints, sheet, ROOM - 1);
+    let end = sheet.len();
+    sheet[end - 1] = b'\n';
+    let behind = lay_out_list(hints, sheet, end - 1);
     let behind = lay_out_list(literals, sheet, behind);
     lay_out_id(name, sheet, behind)
 }

@@ -1,11 +1,11 @@
 //! Pieces of a printed line, which printers of steps are made of.
-ghost use Rattle.std.specs.Prelude.{◌≡◌, ◌≤◌, ◌+◌, [], ◌∷◌, length, ◌++◌, flat_map, decimal};
+ghost use Rattle.std.specs.Prelude.{◌≡◌, ◌≤◌, ◌+◌, ◌*◌, [], ◌∷◌, length, ◌++◌, flat_map, decimal};
 ghost use Rattle.cx_desk.specs.Calls.{PutsAll};
 ghost use Rattle.cx_texts.specs.Grammar.{spelled, ids, integers};
 ghost use Rattle.step_text.specs.Spaced.{spaced, spaced_integer, spaced_id};
 
 use crate::lay_out::{
-    DELETION_ROOM, LONGEST, ROOM, SHORT, lay_out_deletion, lay_out_integers, lay_out_line,
+    DELETION_ROOM, FRAME, LONGEST, lay_out_deletion, lay_out_integers, lay_out_line,
     lay_out_parity_deletion,
 };
 use cx_desk::{Desk, Failed, Port, put_all, put_pieces};
@@ -121,8 +121,18 @@ pub fn put_head<D: Desk>(
     put_integers(desk, port, literals, after)
 }
 
-/// An id behind a text and two lists, as a whole line, in one piece.
-fn put_short_line<D: Desk>(
+/// The integers of a short line, and the room that it takes.
+const FEW: usize = 32;
+
+const FEW_ROOM: usize = FEW * LONGEST + FRAME;
+
+/// The most integers of a line that is laid out whole, and the room that it takes.
+const MANY: usize = 96;
+
+const MANY_ROOM: usize = MANY * LONGEST + FRAME;
+
+/// An id behind a text and two lists, as a whole line, in one piece that is laid out on a sheet of this size.
+fn put_whole_line<const ROOM: usize, D: Desk>(
     desk: &mut D,
     port: Port,
     before: &[u8],
@@ -130,12 +140,15 @@ fn put_short_line<D: Desk>(
     literals: &[i64],
     hints: &[i64],
 ) -> Result<(), Failed>
-    requires { length literals.now + length hints.now ≤ SHORT }
+    requires room { (length literals.now + length hints.now) * LONGEST + FRAME ≤ ROOM }
+    requires small { ROOM ≤ MANY_ROOM }
     ensures { PutsAll port (before.now ++ (decimal name ++ (spaced (spelled (integers literals.now)) ++ (spaced (spelled (integers hints.now)) ++ 10 ∷ [])))) (D.outside desk.old) result (D.outside desk.new) }
 {
-    let mut sheet = [0; ROOM];
-    let begin = lay_out_line(name, literals, hints, &mut sheet);
-    put_pieces(desk, port, &[before, &sheet[begin..]])
+    let mut room = [0; ROOM];
+    let sheet = &mut room[..];
+    let begin = lay_out_line(name, literals, hints, sheet);
+    put_all(desk, port, before)?;
+    put_all(desk, port, &sheet[begin..])
 }
 
 /// An id behind a text and two lists, each with the zero that ends it, as a whole line.
@@ -149,8 +162,12 @@ pub fn put_line<D: Desk>(
 ) -> Result<(), Failed>
     ensures { PutsAll port (before.now ++ (decimal name ++ (spaced (spelled (integers literals.now)) ++ (spaced (spelled (integers hints.now)) ++ 10 ∷ [])))) (D.outside desk.old) result (D.outside desk.new) }
 {
-    if literals.len() <= SHORT && hints.len() <= SHORT - literals.len() {
-        return put_short_line(desk, port, before, name, literals, hints);
+    let count = literals.len().saturating_add(hints.len());
+    if count <= FEW {
+        return put_whole_line::<FEW_ROOM, D>(desk, port, before, name, literals, hints);
+    }
+    if count <= MANY {
+        return put_whole_line::<MANY_ROOM, D>(desk, port, before, name, literals, hints);
     }
     put_head(desk, port, before, name, literals, b"")?;
     put_integers(desk, port, hints, b"\n")
