@@ -127,17 +127,27 @@ fn lay_out_letter(sheet: &mut [u8], end: usize) -> usize
 /// Room for a deletion of one clause: two ids, three bytes between them, and three behind them.
 pub(crate) const DELETION_ROOM: usize = 2 * LONGEST + 6;
 
+/// Lays out what a deletion ends with at the end of a sheet, the letter between spaces and one id, and says where it begins.
+fn lay_out_deleted(deleted: u64, sheet: &mut [u8]) -> usize
+    requires sheet { length sheet.old ≡ DELETION_ROOM }
+    ensures low { LONGEST ≤ result }
+    ensures high { result ≤ DELETION_ROOM }
+    ensures laid { drop result sheet.new ≡ 32 ∷ 100 ∷ 32 ∷ (decimal deleted ++ 32 ∷ 48 ∷ 10 ∷ []) }
+{
+    sheet[DELETION_ROOM - 1] = b'\n';
+    let behind = lay_out_zero(sheet, DELETION_ROOM - 1);
+    let id = lay_out_id(deleted, sheet, behind);
+    lay_out_letter(sheet, id)
+}
+
 /// Lays out the line of a deletion of one clause at the end of a sheet, and says where it begins.
 pub(crate) fn lay_out_deletion(name: u64, deleted: u64, sheet: &mut [u8]) -> usize
     requires sheet { length sheet.old ≡ DELETION_ROOM }
     ensures within { result ≤ DELETION_ROOM }
     ensures laid { drop result sheet.new ≡ decimal name ++ (32 ∷ 100 ∷ 32 ∷ (decimal deleted ++ 32 ∷ 48 ∷ 10 ∷ [])) }
 {
-    sheet[DELETION_ROOM - 1] = b'\n';
-    let behind = lay_out_zero(sheet, DELETION_ROOM - 1);
-    let second = lay_out_id(deleted, sheet, behind);
-    let between = lay_out_letter(sheet, second);
-    lay_out_id(name, sheet, between)
+    let behind = lay_out_deleted(deleted, sheet);
+    lay_out_id(name, sheet, behind)
 }
 
 /// Lays out the line of a deletion of one parity at the end of a sheet, and says where it begins.
@@ -146,10 +156,7 @@ pub(crate) fn lay_out_parity_deletion(deleted: u64, sheet: &mut [u8]) -> usize
     ensures within { result ≤ DELETION_ROOM }
     ensures laid { drop result sheet.new ≡ 120 ∷ 32 ∷ 100 ∷ 32 ∷ (decimal deleted ++ 32 ∷ 48 ∷ 10 ∷ []) }
 {
-    sheet[DELETION_ROOM - 1] = b'\n';
-    let behind = lay_out_zero(sheet, DELETION_ROOM - 1);
-    let second = lay_out_id(deleted, sheet, behind);
-    let letter = lay_out_letter(sheet, second);
-    sheet[letter - 1] = b'x';
-    letter - 1
+    let behind = lay_out_deleted(deleted, sheet);
+    sheet[behind - 1] = b'x';
+    behind - 1
 }

@@ -1,15 +1,9 @@
-use Rattle.std.proofs.Common.{◌≡◌, ◌≤◌, ◌+◌, ◌-◌, ◌∙◌, ap, ◌∷◌, ◌++◌, decimal, length, drop, arith, rules}
+use Rattle.std.proofs.Common.{◌≡◌, ◌+◌, ◌-◌, ◌∙◌, ap, ◌∷◌, drop, arith, rules}
 use Rattle.std.proofs.lemmas.List.{drop-set}
-use Rattle.std.proofs.Math.ListN.{drop_of_length-le}
-use Rattle.step_text.specs.declared.lay_out.TheConstants.{DELETION_ROOM}
 use Rattle.step_text.proofs.lay_out.lay_out_parity_deletion.Goals as goal
 
 pub returns-clause-laid : goal.returns-clause-laid
 returns-clause-laid c =
-    let short : length c.args.sheet.now ≤ DELETION_ROOM - 1 + 1 = omega arith in
-    let feed = drop-set c.args.sheet.now (DELETION_ROOM - 1) 10 (omega arith) in
-    let zero = c.lay_out_zero-behind.ensures.laid ∙ ap (λ t. 32 ∷ 48 ∷ t) (feed ∙ ap (λ t. 10 ∷ t) (drop_of_length-le c.args.sheet.now short)) in
-    let second = c.lay_out_id-second.ensures.laid ∙ ap (λ t. decimal c.args.deleted ++ t) zero in
-    let letter = c.lay_out_letter-letter in
-    let e : letter.result - 1 + 1 ≡ letter.result = omega arith in
-    drop-set letter.new.sheet (letter.result - 1) 120 (search rules) ∙ ap (λ i. 120 ∷ drop i letter.new.sheet) e ∙ ap (λ t. 120 ∷ t) (letter.ensures.laid ∙ ap (λ t. 32 ∷ 100 ∷ 32 ∷ t) second)
+    let behind = c.lay_out_deleted-behind in
+    let e : behind.result - 1 + 1 ≡ behind.result = omega arith in
+    drop-set behind.new.sheet (behind.result - 1) 120 (search rules) ∙ ap (λ i. 120 ∷ drop i behind.new.sheet) e ∙ ap (λ t. 120 ∷ t) behind.ensures.laid
