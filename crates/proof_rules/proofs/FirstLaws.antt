@@ -4,13 +4,13 @@ use Rattle.cx_base.specs.Literals.{Literal}
 use Rattle.cx_base.specs.Problem.{clauses_of, parities_of}
 use Rattle.cx_base.specs.declared.constraint.Constraint.{Constraint}
 use Rattle.cx_base.specs.declared.constraint.Constraint.TheVariants as constraint
-use Rattle.proof_rules.specs.FirstLists.{left_of}
+use Rattle.proof_rules.specs.FirstLists.{remaining}
 
 abbrev Lists : Type 0
 Lists = List (List Literal)
 
 -- what stands in a place
-pub left_at : (gone : List Bool) (lists : Lists) (k : ℕ) → length gone ≤ length lists → get_or (left_of gone lists) k None ≡ cond (get_or gone k true) None (Some (get_or lists k []))
+pub left_at : (gone : List Bool) (lists : Lists) (k : ℕ) → length gone ≤ length lists → get_or (remaining gone lists) k None ≡ cond (get_or gone k true) None (Some (get_or lists k []))
 left_at [] [] k few = refl
 left_at [] (lits ∷ lists) k few = refl
 left_at (g ∷ gone) [] k few = absurd (omega arith)
@@ -23,12 +23,12 @@ some_where : (b : Bool) (lits : List Literal) → is_some (cond b None (Some lit
 some_where true lits = refl
 some_where false lits = refl
 
-pub has_left : (gone : List Bool) (lists : Lists) (k : ℕ) → length gone ≤ length lists → is_some (get_or (left_of gone lists) k None) ≡ not (get_or gone k true)
+pub has_left : (gone : List Bool) (lists : Lists) (k : ℕ) → length gone ≤ length lists → is_some (get_or (remaining gone lists) k None) ≡ not (get_or gone k true)
 has_left gone lists k few = ap is_some (left_at gone lists k few) ∙ some_where (get_or gone k true) (get_or lists k [])
 
 -- a list that is left stands under a number of the formula
-pub list_left : (gone : List Bool) (lists : Lists) (k : ℕ) → length gone ≤ length lists + 1 → get_or gone 0 true ≡ true → is_some (get_or (left_of gone ([] ∷ lists)) k None) ≡ true
-    → (1 ≤ k) × (k ≤ length lists) × (get_or (left_of gone ([] ∷ lists)) k None ≡ Some (get_or lists (k - 1) []))
+pub list_left : (gone : List Bool) (lists : Lists) (k : ℕ) → length gone ≤ length lists + 1 → get_or gone 0 true ≡ true → is_some (get_or (remaining gone ([] ∷ lists)) k None) ≡ true
+    → (1 ≤ k) × (k ≤ length lists) × (get_or (remaining gone ([] ∷ lists)) k None ≡ Some (get_or lists (k - 1) []))
 list_left gone lists zero few none some =
     let went = has_left gone ([] ∷ lists) 0 (omega arith) in
     absurd (true≢false (sym some ∙ went ∙ ap not none))
@@ -53,7 +53,7 @@ list_left gone lists (suc k) few none some =
     inside_of (x ∷ xs) (suc i) h = let less = inside_of xs i h in omega arith
 
 -- a list that goes
-pub left_without : (gone : List Bool) (lists : Lists) (k : ℕ) → left_of (set gone k true) lists ≡ set (left_of gone lists) k None
+pub left_without : (gone : List Bool) (lists : Lists) (k : ℕ) → remaining (set gone k true) lists ≡ set (remaining gone lists) k None
 left_without [] lists k = refl
 left_without (true ∷ gone) [] zero = refl
 left_without (true ∷ gone) [] (suc k) = refl
@@ -65,11 +65,11 @@ left_without (true ∷ gone) (lits ∷ lists) (suc k) = ap (λ places. None ∷ 
 left_without (false ∷ gone) (lits ∷ lists) (suc k) = ap (λ places. Some lits ∷ places) (left_without gone lists k)
 
 -- none went
-pub all_left : (lists : Lists) → left_of (replicate (length lists) false) lists ≡ map Some lists
+pub all_left : (lists : Lists) → remaining (replicate (length lists) false) lists ≡ map Some lists
 all_left [] = refl
 all_left (lits ∷ lists) = ap (λ places. Some lits ∷ places) (all_left lists)
 
-pub length-left : (gone : List Bool) (lists : Lists) → length gone ≤ length lists → length (left_of gone lists) ≡ length gone
+pub length-left : (gone : List Bool) (lists : Lists) → length gone ≤ length lists → length (remaining gone lists) ≡ length gone
 length-left [] [] few = refl
 length-left [] (lits ∷ lists) few = refl
 length-left (g ∷ gone) [] few = absurd (omega arith)

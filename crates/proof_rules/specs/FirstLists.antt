@@ -12,7 +12,7 @@ lists_of (Clauses formula) = clauses_of formula.now.constraints
 lists_of (Parities formula) = parities_of formula.now.constraints
 
 -- the lists that did not go, each in its place
-abbrev pub left_of : List Bool → List (List Literal) → List (Option (List Literal))
-left_of (true ∷ gone) (lits ∷ lists) = None ∷ left_of gone lists
-left_of (false ∷ gone) (lits ∷ lists) = Some lits ∷ left_of gone lists
-left_of gone lists = []
+abbrev pub remaining : List Bool → List (List Literal) → List (Option (List Literal))
+remaining (true ∷ gone) (lits ∷ lists) = None ∷ remaining gone lists
+remaining (false ∷ gone) (lits ∷ lists) = Some lits ∷ remaining gone lists
+remaining gone lists = []

@@ -53,11 +53,11 @@ pub(crate) struct FirstLists<'f> {
 impl<'f> Model for FirstLists<'f> {
     ghost use Rattle.std.specs.Prelude.{◌≡◌, ◌≤◌, ◌+◌, true, get_or, List, Option, [], ◌∷◌, length};
     ghost use Rattle.cx_base.specs.Literals.{Literal};
-    ghost use Rattle.proof_rules.specs.FirstLists.{lists_of, left_of};
+    ghost use Rattle.proof_rules.specs.FirstLists.{lists_of, remaining};
 
     ghost Value = { List (Option (List Literal)) };
 
-    ghost view = { λ f. left_of f.gone.items ([] ∷ lists_of f.lists) };
+    ghost view = { λ f. remaining f.gone.items ([] ∷ lists_of f.lists) };
 
     ghost invariant = { λ f. (length f.gone.items ≤ length (lists_of f.lists) + 1) × (get_or f.gone.items 0 true ≡ true) };
 }
@@ -104,11 +104,7 @@ impl<'f> FirstLists<'f> {
     pub(crate) fn has(&self, id: u64) -> bool
         ensures { result ≡ is_some (get_or self.now id None) }
     {
-        if id < self.gone.len() as u64 {
-            !self.gone[id as usize]
-        } else {
-            false
-        }
+        id < self.gone.len() as u64 && !self.gone[id as usize]
     }
 
     /// The list under this id.

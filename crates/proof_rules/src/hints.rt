@@ -24,7 +24,11 @@ pub(crate) fn id_of(hint: i64) -> u64
 pub fn any_negative(hints: &[i64]) -> bool
     ensures { result ≡ list_any is_negative hints.now }
 {
-    hints.iter().any(|hint| *hint < 0)
+    let mut some = false;
+    for hint in hints {
+        some |= *hint < 0;
+    }
+    some
 }
 
 /// Whether some hint names no live constraint of the kind.

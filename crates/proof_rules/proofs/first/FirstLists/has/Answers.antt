@@ -1,4 +1,5 @@
 use Rattle.std.proofs.Common.{◌≡◌, ◌∙◌, ap, sym, not, [], ◌∷◌, None, true, get_or, is_some, length, arith}
+use Rattle.std.proofs.lemmas.Bool.{le-ltb}
 use Rattle.std.proofs.lemmas.List.{get_or_default, get_or_past}
 use Rattle.proof_rules.specs.FirstLists.{lists_of}
 use Rattle.proof_rules.proofs.FirstLaws.{has_left}
@@ -18,6 +19,7 @@ returns-else-id-len c =
     let gone = c.self.inside.gone.items in
     let past = c.if-id-len.false in
     let ended = c.len.ensures in
-    ap not (sym (get_or_past gone c.args.id true (grind (arith, past, ended))))
+    le-ltb c.args.id c.len.result past
+    ∙ ap not (sym (get_or_past gone c.args.id true (grind (arith, past, ended))))
     ∙ sym (has_left gone ([] ∷ lists_of c.self.inside.lists) c.args.id (omega arith))
     ∙ ap (λ places. is_some (get_or places c.args.id None)) c.self.view_is
