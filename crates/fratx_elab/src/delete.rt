@@ -9,12 +9,11 @@ ghost use Rattle.fratx_elab.specs.Takes.{TakesLogStep, CanBePrinted, CountsOneMo
 ghost use Rattle.fratx_elab.specs.declared.naming.TheConstants.{MAX_ID};
 
 use crate::naming::{Names, ProofId};
-use crate::state::State;
+use crate::state::{State, taken};
 use crate::steps::{clause_deletion, parity_deletion};
 use cx_base::{IntList, ProofStep};
 use proof_rules::{JudgeRefusal, Kind};
 use std::alloc::Global;
-use std::mem;
 
 /// The proof id to delete where the log deletes an id: none for one of the formula's `count` constraints.
 fn deleted(names: &Names, count: u64, id: u64) -> Option<ProofId>
@@ -44,12 +43,8 @@ fn front_of(last: u64, id: ProofId) -> ProofId
     }
 }
 
-/// The memory of the deletion that was written last.
-fn room_of(alloc: Global, deleted: &mut Vec<u64>) -> Vec<u64> {
-    mem::replace(deleted, Vec::new(alloc))
-}
-
 /// Takes a clause out of the log, and out of the proof where it was added there.
+#[inline(always)]
 pub fn delete_clause(
     alloc: Global,
     count: u64,
@@ -68,7 +63,7 @@ pub fn delete_clause(
     state.clauses.remove(id);
     match gone {
         Some(gone) => {
-            let room = room_of(alloc, &mut state.deleted);
+            let room = taken(alloc, &mut state.deleted);
             Ok(Some(clause_deletion(room, front_of(last, gone), gone)?))
         }
         None => Ok(None),
@@ -76,6 +71,7 @@ pub fn delete_clause(
 }
 
 /// Takes a parity out of the log, and out of the proof where it was added there.
+#[inline(always)]
 pub fn delete_parity(
     alloc: Global,
     count: u64,
@@ -92,7 +88,7 @@ pub fn delete_parity(
     state.parities.remove(id);
     match gone {
         Some(gone) => {
-            let room = room_of(alloc, &mut state.deleted);
+            let room = taken(alloc, &mut state.deleted);
             Ok(Some(parity_deletion(room, gone)?))
         }
         None => Ok(None),

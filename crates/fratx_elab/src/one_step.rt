@@ -41,6 +41,7 @@ pub fn ends_log(step: &LogStep) -> bool
 /// Judges a step, and where it is right does it and gives what the proof gains, if anything.
 ///
 /// `counts` are the formula's numbers of clauses and of parities. After an error the state is spoilt.
+#[inline(always)]
 pub fn take_step(
     alloc: Global,
     formula: &Formula,

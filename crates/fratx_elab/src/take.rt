@@ -15,7 +15,7 @@ ghost use Rattle.fratx_elab.specs.declared.naming.TheConstants.{MAX_ID};
 
 use crate::naming::Names;
 use crate::originals::Originals;
-use crate::state::State;
+use crate::state::{State, taken};
 use crate::steps::{clause_of_parity_step, clause_step, parity_of_clauses_step, parity_step};
 use cx_base::{Formula, IdList, IntList, Lit, LitList, ProofStep};
 use cx_semantics::Cause;
@@ -25,7 +25,6 @@ use proof_rules::{
 };
 use rup_finder::IndexedClauses;
 use std::alloc::{AllocError, Global};
-use std::mem;
 
 /// The hints that name in the proof what the ids name in the log.
 fn hints_of(alloc: Global, names: &Names, ids: &[u64]) -> Result<IntList, AllocError>
@@ -41,6 +40,7 @@ fn hints_of(alloc: Global, names: &Names, ids: &[u64]) -> Result<IntList, AllocE
 }
 
 /// The literals of what a step adds, in the memory of `room`: its variables are the formula's, and its id is not live.
+#[inline(always)]
 fn admit(
     room: Vec<Lit>,
     formula: &Formula,
@@ -52,11 +52,6 @@ fn admit(
     ensures { Admits formula.now (chosen kind live.now) id lits.now result }
 {
     admit_into(room, formula.vars(), lits, live.has(kind, id))
-}
-
-/// The memory that the literals of the step before stood in; it is given back behind the step.
-fn room_of(alloc: Global, marks: &mut JudgeMarks) -> Vec<Lit> {
-    mem::replace(&mut marks.target, Vec::new(alloc))
 }
 
 /// Puts a constraint under this id, and gives the memory of its literals back.
@@ -131,6 +126,7 @@ fn chain_of(
 
 /// The hints of a clause in the proof: the given ones as they stand, up to the end of a right chain, if they are one, and else those of
 /// another chain.
+#[inline(always)]
 fn chain_hints(
     alloc: Global,
     live: &mut IndexedClauses,
@@ -163,7 +159,7 @@ pub fn take_original(
     ensures text { IfOk result CanBePrinted }
     ensures counts { OnOk result (CountsOneMore state.old state.new) }
 {
-    let room = room_of(alloc, &mut state.marks);
+    let room = taken(alloc, &mut state.marks.target);
     let target = admit(room, formula, &state.live, Kind::Clauses, id, lits)?;
     match originals.clause_number(alloc, formula, id, target.as_slice())? {
         Some(number) => {
@@ -196,7 +192,7 @@ pub fn take_original_parity(
     ensures text { IfOk result CanBePrinted }
     ensures counts { OnOk result (CountsOneMore state.old state.new) }
 {
-    let room = room_of(alloc, &mut state.marks);
+    let room = taken(alloc, &mut state.marks.target);
     let target = admit(room, formula, &state.live, Kind::Parities, id, lits)?;
     match originals.parity_number(alloc, target.as_slice())? {
         Some(number) => {
@@ -216,6 +212,7 @@ pub fn take_original_parity(
 }
 
 /// A clause by a chain; the given hints are tried first.
+#[inline(always)]
 pub fn take_clause(
     alloc: Global,
     formula: &Formula,
@@ -230,7 +227,7 @@ pub fn take_clause(
     ensures text { IfOk result CanBePrinted }
     ensures counts { OnOk result (CountsOneMore state.old state.new) }
 {
-    let room = room_of(alloc, &mut state.marks);
+    let room = taken(alloc, &mut state.marks.target);
     let target = admit(room, formula, &state.live, Kind::Clauses, id, &lits)?;
     let hints = chain_hints(alloc, &mut state.live, &state.clauses, &target, given)?;
     put_live(
@@ -246,6 +243,7 @@ pub fn take_clause(
 }
 
 /// A parity as the sum of parities that the log names.
+#[inline(always)]
 pub fn take_parity(
     alloc: Global,
     formula: &Formula,
@@ -259,7 +257,7 @@ pub fn take_parity(
     ensures text { IfOk result CanBePrinted }
     ensures counts { OnOk result (CountsOneMore state.old state.new) }
 {
-    let room = room_of(alloc, &mut state.marks);
+    let room = taken(alloc, &mut state.marks.target);
     let target = admit(room, formula, &state.live, Kind::Parities, id, &lits)?;
     judge_named_sum(&mut state.marks, state.live.live(), &target, sources)?;
     let hints = hints_of(alloc, &state.parities, sources)?;
@@ -276,6 +274,7 @@ pub fn take_parity(
 }
 
 /// A parity that clauses imply, which the log names.
+#[inline(always)]
 pub fn take_parity_of_clauses(
     alloc: Global,
     formula: &Formula,
@@ -289,7 +288,7 @@ pub fn take_parity_of_clauses(
     ensures text { IfOk result CanBePrinted }
     ensures counts { OnOk result (CountsOneMore state.old state.new) }
 {
-    let room = room_of(alloc, &mut state.marks);
+    let room = taken(alloc, &mut state.marks.target);
     let target = admit(room, formula, &state.live, Kind::Parities, id, &lits)?;
     // By `?` the prover does not see the cause through.
     match judge_parity_of_named_clauses(&mut state.marks, state.live.live(), &target, sources) {
@@ -310,6 +309,7 @@ pub fn take_parity_of_clauses(
 }
 
 /// A clause that a parity implies, which the log names.
+#[inline(always)]
 pub fn take_clause_of_parity(
     alloc: Global,
     formula: &Formula,
@@ -324,7 +324,7 @@ pub fn take_clause_of_parity(
     ensures text { IfOk result CanBePrinted }
     ensures counts { OnOk result (CountsOneMore state.old state.new) }
 {
-    let room = room_of(alloc, &mut state.marks);
+    let room = taken(alloc, &mut state.marks.target);
     let target = admit(room, formula, &state.live, Kind::Clauses, id, &lits)?;
     judge_clause_of_named_parity(&mut state.marks, state.live.live(), &target, source)?;
     let named = match state.parities.get(source) {

@@ -10,6 +10,7 @@ use cx_desk::{Desk, Failed, Port};
 use step_text::{Sink, SinkFault};
 
 /// Prints a step on the Proof port of a desk, unless an earlier one failed: then it writes nothing and answers `Memory`.
+#[inline(always)]
 pub fn put_step_unless_failed<D: Desk>(
     desk: &mut D,
     failed: &mut bool,

@@ -53,6 +53,7 @@ fn put_parity_deletion<D: Desk>(desk: &mut D, port: Port, names: &[u64]) -> Resu
 /// Writes the line of a step: its words parted by one space, and a line feed.
 ///
 /// It fails only where the desk counted a fault of the port; then the port gained a front of the line.
+#[inline(always)]
 pub fn put_proof_step<D: Desk>(desk: &mut D, port: Port, step: &ProofStep) -> Result<(), Failed>
     requires { HasProofText step.now }
     ensures { PutsAll port (printed_line (spelling proof_steps step.now)) (D.outside desk.old) result (D.outside desk.new) }
