@@ -195,6 +195,7 @@ fn put_faults_beside(
     faults.push_str(told.as_str())
 }
 
+/// The same for one task, whose whole run is made first.
 fn put_faults(
     alloc: Global,
     faults: &mut String,
@@ -210,6 +211,7 @@ fn put_faults(
     put_faults_beside(alloc, faults, (task, status), &whole)
 }
 
+/// The same for each of the tasks.
 fn put_faults_of_all(
     alloc: Global,
     faults: &mut String,
