@@ -121,14 +121,16 @@ pub fn put_head<D: Desk>(
     put_integers(desk, port, literals, after)
 }
 
-/// The integers of a short line, and the room that it takes.
+/// The most integers of a short line.
 const FEW: usize = 32;
 
+/// Room for a short line.
 const FEW_ROOM: usize = FEW * LONGEST + FRAME;
 
-/// The most integers of a line that is laid out whole, and the room that it takes.
+/// The most integers of a line that is laid out whole.
 const MANY: usize = 96;
 
+/// Room for any line that is laid out whole.
 const MANY_ROOM: usize = MANY * LONGEST + FRAME;
 
 /// An id behind a text and two lists, as a whole line, in one piece that is laid out on a sheet of this size.
