@@ -1,5 +1,5 @@
 -- Ids that stand for themselves.
-use Rattle.std.proofs.Common.{◌≡◌, refl, sym, ap, ◌∙◌, ℕ, ℤ, pos, nat_abs, List, [], ◌∷◌, map, filter_map, negsuc, Option, Some, None, is_some, IsTrue, true, false, true≢false}
+use Rattle.std.proofs.Common.{◌≡◌, refl, sym, ap, ◌∙◌, ℕ, ℤ, pos, List, [], ◌∷◌, map, filter_map, negsuc, Option, Some, None, is_some, IsTrue, false, true≢false}
 use Rattle.std.proofs.lemmas.Option.{same_Some, none-some}
 use Rattle.std.specs.List.{cons_option, list_any}
 use Rattle.std.specs.FinMap as map_

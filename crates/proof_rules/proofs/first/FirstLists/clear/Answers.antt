@@ -1,4 +1,4 @@
-use Rattle.std.proofs.Common.{◌≡◌, ◌∙◌, ap, sym, [], ◌∷◌, set, None, length, arith}
+use Rattle.std.proofs.Common.{◌∙◌, ap, sym, [], ◌∷◌, set, None, length, arith}
 use Rattle.std.proofs.lemmas.List.{set_past}
 use Rattle.proof_rules.specs.FirstLists.{lists_of}
 use Rattle.proof_rules.proofs.FirstLaws.{left_without, length-left}

@@ -1,4 +1,4 @@
-use Rattle.std.proofs.Common.{◌≡◌, ◌∙◌, ap, sym, not, [], ◌∷◌, None, Some, true, false, true≢false, get_or, is_some, length, arith, ◌+◌, ◌-◌}
+use Rattle.std.proofs.Common.{◌∙◌, ap, sym, [], None, Some, get_or, is_some, ◌-◌}
 use Rattle.std.proofs.lemmas.Option.{get_or_from_slice_get}
 use Rattle.proof_rules.specs.FirstLists.{lists_of}
 use Rattle.proof_rules.proofs.FirstLaws.{list_left}

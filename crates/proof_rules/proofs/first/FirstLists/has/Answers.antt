@@ -1,4 +1,4 @@
-use Rattle.std.proofs.Common.{◌≡◌, ◌∙◌, ap, sym, not, [], ◌∷◌, None, true, get_or, is_some, length, arith}
+use Rattle.std.proofs.Common.{◌∙◌, ap, sym, not, [], ◌∷◌, None, true, get_or, is_some, arith}
 use Rattle.std.proofs.lemmas.Bool.{le-ltb}
 use Rattle.std.proofs.lemmas.List.{get_or_default, get_or_past}
 use Rattle.proof_rules.specs.FirstLists.{lists_of}

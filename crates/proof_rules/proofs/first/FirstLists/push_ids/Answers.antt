@@ -1,4 +1,4 @@
-use Rattle.std.proofs.Common.{◌≡◌, ◌∙◌, ◌≤◌, ◌<◌, ◌+◌, ◌++◌, ap, [], ◌∷◌, length, sym, true, false, drop, arith, append-nil}
+use Rattle.std.proofs.Common.{◌∙◌, ◌≤◌, ◌<◌, ◌+◌, ◌++◌, ap, [], ◌∷◌, length, sym, true, false, drop, arith, append-nil}
 use Rattle.std.specs.Map.{keys_of}
 use Rattle.std.proofs.lemmas.List.{drop_all}
 use Rattle.proof_rules.specs.FirstLists.{lists_of}

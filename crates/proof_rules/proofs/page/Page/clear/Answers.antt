@@ -1,4 +1,4 @@
-use Rattle.std.proofs.Common.{◌≡◌, ◌≢◌, ◌∙◌, ◌<◌, ap, sym, true, true≢false, false, Option, None, Some, is_some, length, set, Bor, MatchOption, w64, arith}
+use Rattle.std.proofs.Common.{◌≡◌, ◌∙◌, ◌<◌, ap, sym, true, true≢false, false, Option, None, Some, is_some, length, set, Bor, MatchOption, w64, arith}
 use Rattle.std.proofs.lemmas.Nat.Bits.{bit_at_clear_same, bit_at_clear_other}
 use Rattle.proof_rules.specs.Places.{all_places}
 use Rattle.proof_rules.proofs.PageLaws.{clear-no_value, has_place, length-held_in, page_changed}

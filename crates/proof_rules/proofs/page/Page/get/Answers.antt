@@ -1,4 +1,4 @@
-use Rattle.std.proofs.Common.{◌≡◌, ◌∙◌, refl, ap, sym, true, false, true≢false, Option, None, Some, is_some, get_or, length, ◌≤◌, arith}
+use Rattle.std.proofs.Common.{◌≡◌, ◌∙◌, refl, ap, sym, false, true≢false, Option, None, Some, is_some, get_or, length, arith}
 use Rattle.std.proofs.lemmas.List.{get_or_past}
 use Rattle.proof_rules.proofs.PageLaws.{held_value, length-held_in}
 use Rattle.proof_rules.proofs.page.Page.get.Goals as goal

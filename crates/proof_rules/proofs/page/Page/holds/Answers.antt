@@ -1,4 +1,4 @@
-use Rattle.std.proofs.Common.{◌≡◌, ◌∙◌, ap, None, is_some, eqb, get_or}
+use Rattle.std.proofs.Common.{◌∙◌, ap, None, is_some, eqb, get_or}
 use Rattle.std.proofs.lemmas.Nat.Bits.{shr_and_one}
 use Rattle.proof_rules.proofs.PageLaws.{bit-tells}
 use Rattle.proof_rules.proofs.page.Page.holds.Goals as goal

@@ -1,4 +1,4 @@
-use Rattle.std.proofs.Common.{◌≡◌, ◌∙◌, sym, ap, Some, None, get_or}
+use Rattle.std.proofs.Common.{◌∙◌, sym, ap, Some}
 use Rattle.std.specs.FinMap as map
 use Rattle.std.specs.Option.{option_or}
 use Rattle.cx_semantics.specs.Tables.{get}

@@ -1,4 +1,4 @@
-use Rattle.std.proofs.Common.{◌≡◌, ◌∙◌, sym, ap, refl, Option, Some, None, Bor, MatchOption, is_some, get_or}
+use Rattle.std.proofs.Common.{◌≡◌, ◌∙◌, sym, ap, Option, Some, None, Bor, MatchOption, is_some, get_or}
 use Rattle.std.specs.FinMap as map
 use Rattle.cx_semantics.specs.Tables.{is_live}
 use Rattle.proof_rules.proofs.TableLaws.{get-behind, some_first, none_first}

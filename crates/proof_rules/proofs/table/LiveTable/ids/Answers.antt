@@ -1,4 +1,4 @@
-use Rattle.std.proofs.Common.{◌≡◌, ◌∙◌, sym, ap, nat_cmp}
+use Rattle.std.proofs.Common.{◌∙◌, ap, nat_cmp}
 use Rattle.std.specs.List.{list_any}
 use Rattle.std.specs.Ordering.{eq_by_cmp}
 use Rattle.cx_semantics.specs.Tables.{is_live}

@@ -1,4 +1,4 @@
-use Rattle.std.proofs.Common.{◌≡◌, ◌∙◌, ap}
+use Rattle.std.proofs.Common.{◌∙◌, ap}
 use Rattle.std.specs.FinMap as map
 use Rattle.proof_rules.proofs.TableLaws.{behind, remove-behind}
 use Rattle.proof_rules.proofs.table.LiveTable.remove.Goals as goal
