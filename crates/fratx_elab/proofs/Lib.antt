@@ -5,4 +5,5 @@ mod Numbers
 mod Taking
 mod Texts
 mod Turns
+mod EntryOrder
 pub mod ContentIndex

@@ -1,41 +1,81 @@
 -- Numbers of constraints by what these say.
-use Rattle.std.specs.Prelude.{◌≡◌, ◌<◌, ℕ, cond, List, length, get_or, slice_get, Some, MatchOption, IsTrue}
-use Rattle.std.specs.List.{AllByRecursion}
-use Rattle.std.specs.Ordering.{nat_cmp, is_eq, ordering_then}
+use Rattle.std.specs.Prelude.{◌≡◌, ◌<◌, ◌≤◌, ◌+◌, ◌-◌, ◌*◌, ℕ, List, length, get_or, slice_get, Some}
+use Rattle.std.specs.List.{Contains}
+use Rattle.std.specs.List.Sorted.{IsPermutation, IsSorted}
+use Rattle.std.specs.Ordering.{nat_cmp, ordering_then}
 use Rattle.std.specs.declared.cmp.Ordering.{Ordering}
 use Rattle.std.specs.Cmp.Lexicographic.{slice_cmp}
-use Rattle.std.specs.BTreeMap as tree
 use Rattle.cx_base.specs.Literals.{Literal}
 use Rattle.cx_base.specs.Problem.{Problem, clauses_of, parities_of}
-use Rattle.cx_semantics.specs.Chain.{same_literals}
 use Rattle.proof_rules.specs.Contents.{IsClauseContent, IsParityContent}
-use Rattle.fratx_elab.specs.Elaborates.{IsLeast}
-use Rattle.fratx_elab.specs.declared.key.Key.{Key}
+use Rattle.fratx_elab.specs.declared.content_index.Entry.{Entry}
+use Rattle.fratx_elab.specs.declared.content_index.ContentIndex.{ContentIndex}
 use Rattle.fratx_elab.specs.declared.originals.Originals.{Originals}
 
--- in front of the numbers stands the first of them
-abbrev pub IsKey : Key → Type 0
-IsKey key = key.first ≡ get_or key.numbers.items 0 0
+-- the first two numbers of a content as one
+abbrev pub key_of : List ℕ → ℕ
+key_of content = get_or content 0 0 * 4294967296 + get_or content 1 0
 
--- by the number in front, and then by all of them
-abbrev pub by_key : Key → Key → Ordering
-by_key x y = ordering_then (nat_cmp x.first y.first) (slice_cmp nat_cmp x.numbers.items y.numbers.items)
+-- by what is said, of which the key is the front, and then by the number
+abbrev pub by_content : Entry → Entry → Ordering
+by_content x y = ordering_then (nat_cmp x.key y.key) (ordering_then (slice_cmp nat_cmp x.content.items y.content.items) (nat_cmp x.number y.number))
 
--- the number stands at this key from now on
-abbrev pub Puts : tree.BTreeMap Key ℕ → tree.BTreeMap Key ℕ → Key → ℕ → Type 0
-Puts old new key number = (q : Key) → tree.get by_key new q ≡ cond (is_eq (by_key key q)) (Some number) (tree.get by_key old q)
+-- of the entries, the one of this number says this, and none of a lower number does
+pub record IsLeastOf (entries : List Entry) (content : List ℕ) (number : ℕ) : Type 0 where
+  pub it : Entry
+  pub among : Contains entries it
+  pub says : it.content.items ≡ content
+  pub numbered : it.number ≡ number
+  pub least : (e : Entry) → Contains entries e → e.content.items ≡ content → number ≤ e.number
 
--- each content has the number, from 1, of the first list with it, and none where no list has it
-abbrev pub IsIndexOf : (List Literal → List ℕ → Type 0) → List (List Literal) → tree.BTreeMap Key ℕ → Type 0
-IsIndexOf HasContent lists index =
-    (q : Key) → IsKey q → MatchOption (tree.get by_key index q) (AllByRecursion (λ lits. ¬ HasContent lits q.numbers.items) lists) (IsLeast (λ lits. HasContent lits q.numbers.items) lists)
+abbrev pub IsNowhere : List Entry → List ℕ → Type 0
+IsNowhere entries content = (e : Entry) → Contains entries e → ¬ (e.content.items ≡ content)
 
--- each of the first lists has the number, from 1, of the first list with the same literals
-abbrev pub AreFirsts : List (List Literal) → List ℕ → Type 0
-AreFirsts lists firsts = (i : ℕ) (lits : List Literal) → i < length firsts → slice_get lists i ≡ Some lits → IsLeast (λ l. IsTrue (same_literals lits l)) lists (get_or firsts i 0)
+-- at the number of each of the first so many entries stands the least number of one that says the same
+abbrev pub LeastBefore : ℕ → List Entry → List ℕ → Type 0
+LeastBefore count entries firsts = (i : ℕ) (d : Entry) → i < count → IsLeastOf entries (get_or entries i d).content.items (get_or firsts ((get_or entries i d).number - 1) 0)
+
+-- the numbers are some of 1, 2, .. up to the bound
+abbrev pub NumbersWithin : ℕ → List Entry → Type 0
+NumbersWithin bound entries = (i : ℕ) (d : Entry) → i < length entries → (1 ≤ (get_or entries i d).number) × ((get_or entries i d).number ≤ bound)
+
+-- no two entries have one number
+abbrev pub EachOnce : List Entry → Type 0
+EachOnce entries = (i j : ℕ) (d : Entry) → i < length entries → j < length entries → (get_or entries i d).number ≡ (get_or entries j d).number → get_or entries i d ≡ get_or entries j d
+
+-- each key is that of the content
+abbrev pub AreKeyed : List Entry → Type 0
+AreKeyed entries = (i : ℕ) (d : Entry) → i < length entries → (get_or entries i d).key ≡ key_of (get_or entries i d).content.items
+
+-- the numbers are 1, 2, ..
+abbrev pub AreNumbered : List Entry → Type 0
+AreNumbered entries = (i : ℕ) (d : Entry) → i < length entries → (get_or entries i d).number ≡ i + 1
+
+-- the index has these entries, in order, and of each what is the least number of one that says the same
+pub record Orders (entries : List Entry) (index : ContentIndex) : Type 0 where
+  pub same : IsPermutation entries index.entries.items
+  pub sorted : IsSorted by_content index.entries.items
+  pub count : length index.firsts.items ≡ length entries
+  pub firsts : (i : ℕ) (d : Entry) → i < length entries → IsLeastOf entries (get_or entries i d).content.items (get_or index.firsts.items i 0)
+
+-- the entries say what the first so many lists say
+abbrev pub SayFirst : (List Literal → List ℕ → Type 0) → List (List Literal) → List Entry → Type 0
+SayFirst HasContent lists entries = (i : ℕ) (lits : List Literal) (d : Entry) → i < length entries → slice_get lists i ≡ Some lits → HasContent lits (get_or entries i d).content.items
+
+-- they say what all of them say
+pub record Say (HasContent : List Literal → List ℕ → Type 0) (lists : List (List Literal)) (entries : List Entry) : Type 0 where
+  pub count : length entries ≡ length lists
+  pub each : SayFirst HasContent lists entries
+
+-- an index of the lists by what they say
+pub record IsIndexOf (HasContent : List Literal → List ℕ → Type 0) (lists : List (List Literal)) (index : ContentIndex) : Type 0 where
+  pub entries : List Entry
+  pub keyed : AreKeyed entries
+  pub numbered : AreNumbered entries
+  pub say : Say HasContent lists entries
+  pub orders : Orders entries index
 
 -- the numbers are those of the formula's clauses and of its parities
 pub record StandsFor (originals : Originals) (formula : Problem) : Type 0 where
   pub clauses : IsIndexOf IsClauseContent (clauses_of formula.constraints) originals.clauses
-  pub firsts : AreFirsts (clauses_of formula.constraints) originals.firsts.items
   pub parities : IsIndexOf IsParityContent (parities_of formula.constraints) originals.parities

@@ -1,9 +1,9 @@
 //! A log becomes a proof: each step is judged, and what it adds is written with hints.
 #![tactic(auto)]
 
+mod content_index;
 mod delete;
 mod ends;
-mod key;
 mod naming;
 mod one_step;
 mod originals;

@@ -10,7 +10,7 @@ use std::marker::Model;
 pub const MAX_ID: u64 = 9_223_372_036_854_775_807;
 
 /// An id of the proof, from 1 up to [`MAX_ID`].
-#[derive(Clone, Copy, Drop)]
+#[derive(Clone, Copy, PartialEq, Eq, PartialOrd, Ord, Drop)]
 pub struct ProofId {
     number: u64,
 }
@@ -51,6 +51,13 @@ impl ProofId {
         ensures high { result ≤ MAX_ID }
     {
         self.number
+    }
+
+    /// Its number minus 1: its place in a list by numbers.
+    pub fn index(self) -> usize
+        ensures { result + 1 ≡ self }
+    {
+        self.number as usize - 1
     }
 
     /// The hint that names it.

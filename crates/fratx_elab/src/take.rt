@@ -194,7 +194,7 @@ pub fn take_original_parity(
 {
     let room = taken(alloc, &mut state.marks.target);
     let target = admit(room, formula, &state.live, Kind::Parities, id, lits)?;
-    match originals.parity_number(alloc, target.as_slice())? {
+    match originals.parity_number(alloc, formula, id, target.as_slice())? {
         Some(number) => {
             put_live(
                 alloc,

@@ -1,25 +1,28 @@
 -- The content of a clause or a parity tells what it says.
-use Rattle.std.proofs.Common.{◌≡◌, refl, sym, ap, ◌∙◌, subst, ℕ, Bool, true, false, cond, ◌||◌, nat_eq, eqb-true, List, [], ◌∷◌, map}
+use Rattle.std.proofs.Common.{◌≡◌, refl, sym, ap, ◌∙◌, subst, ℕ, Bool, true, false, cond, ◌||◌, nat_eq, eqb-true, List, [], ◌∷◌, map, count_by, ◌+◌, ◌%◌, arith}
 use Rattle.std.specs.List.{Contains, dedup, list_any}
 use Rattle.std.specs.List.Sorted.{IsPermutation, IsSorted, IsStrictlySortedBy}
-use Rattle.std.specs.Ordering.{nat_cmp}
+use Rattle.std.specs.Ordering.{nat_cmp, eq_by_cmp}
 use Rattle.std.specs.Cmp.{nat_cmp_total, nat_eq_equiv, unsigned_tied, both_ways}
 use Rattle.std.specs.FinSet as set
 use Rattle.std.proofs.lemmas.Map.Lookups.{btree_set_from_contains, exact_unsigned}
 use Rattle.std.proofs.lemmas.Map.Views.{list_any-from_Contains, Contains-from_any}
 use Rattle.std.proofs.lemmas.List.Kept.{Contains-dedup_nat, Contains-from_dedup, IsStrictlySortedBy-dedup}
-use Rattle.std.proofs.lemmas.List.Sorted.{Contains-permutation, IsPermutation-sym}
+use Rattle.std.proofs.lemmas.List.Sorted.{sum_by-IsPermutation, Contains-permutation, IsPermutation-sym}
 use Rattle.std.proofs.lemmas.Bool.{and_from}
-use Rattle.cx_base.specs.Literals.{Literal, code_of, literal_of_code}
+use Rattle.std.proofs.lemmas.Bool.Decides.{nat_tests}
+use Rattle.cx_base.specs.Literals.{Literal, code_of, literal_of_code, differ}
 use Rattle.cx_base.specs.Codes.{code_of-literal_of_code, literal_of_code-code_of}
-use Rattle.cx_base.specs.Parity.{NormalForm, normal_form}
+use Rattle.cx_base.specs.Parity.{NormalForm, normal_form, occurs_odd}
+use Rattle.cx_base.proofs.Odd.{is_odd, is_odd-count}
+use Rattle.cx_base.proofs.ParityLaws.{contains-normal_form}
 use Rattle.cx_base.proofs.Differences.{same_members}
 use Rattle.cx_semantics.specs.Chain.{has_literal, is_inside, same_literals, HaveSame}
 use Rattle.cx_semantics.proofs.SameSets.{HaveSame-by_test}
 use Rattle.cx_semantics.proofs.SameSets.{inside_by}
-use Rattle.proof_rules.specs.Contents.{RisesOver, IsClauseContent, IsFormContent, IsParityContent}
+use Rattle.proof_rules.specs.Contents.{RisesOver, KeepsOdd, IsClauseContent, IsFormContent, IsParityContent}
 use Rattle.proof_rules.proofs.LiteralLaws.{same_code}
-use Rattle.proof_rules.proofs.SumLaws.{has_key}
+use Rattle.proof_rules.proofs.OddLaws.{stands_odd}
 
 -- ---- rising lists
 
@@ -30,6 +33,9 @@ rising_once s xs ys h k =
     (λ q. sym (set.contains-from_list nat_cmp_total xs q) ∙ ap (λ m. set.contains m q) (h.same ∙ sym k.same) ∙ set.contains-from_list nat_cmp_total ys q) exact_unsigned
 
 -- ---- clauses
+
+abbrev has_key : List ℕ → ℕ → Bool
+has_key keys q = list_any (eq_by_cmp nat_cmp q) keys
 
 has_code : (xs : List Literal) (q : ℕ) → has_key (map code_of xs) q ≡ has_literal xs (literal_of_code q)
 has_code [] q = refl
@@ -81,6 +87,29 @@ pub content_of_same : (a b : List Literal) (q : List ℕ) → same_literals a b 
 content_of_same a b q h g = record { same = g.same ∙ codes_of_same a b (HaveSame-by_test a b h); rising = g.rising }
 
 -- ---- parities
+
+occurs_as : (lits : List Literal) (q : ℕ) → stands_odd (map (λ l. l.variable) lits) q ≡ occurs_odd lits q
+occurs_as [] q = refl
+occurs_as (l ∷ lits) q =
+    is_odd-count (λ x. nat_eq x q) l.variable (map (λ m. m.variable) lits) ∙ ap (differ (nat_eq l.variable q)) (occurs_as lits q) ∙ sym (is_odd-count (λ m. nat_eq m.variable q) l lits)
+
+-- of the sorted numbers of the variables, those that stand there an odd number of times
+pub variables_of_sorted : (lits : List Literal) (sorted variables : List ℕ) → IsPermutation (map (λ l. l.variable) lits) sorted → KeepsOdd sorted variables → RisesOver (normal_form lits).variables variables
+variables_of_sorted lits sorted variables moved keeps = record {
+  same = same_members _ _ (λ q.
+      set.contains-from_list_nat variables q ∙ keeps.odd q
+      ∙ ap is_odd (sum_by-IsPermutation (λ x. cond (nat_eq x q) 1 0) (map (λ l. l.variable) lits) sorted moved)
+      ∙ occurs_as lits q ∙ sym (contains-normal_form lits q));
+  rising = keeps.rising;
+}
+
+-- the right side is 1 where an even number of literals is negative
+pub right_side-even : (lits : List Literal) → nat_eq (count_by (λ l. l.negative) lits % 2) 0 ≡ (normal_form lits).right_side
+unfolding normal_form
+right_side-even lits = even_next (count_by (λ l. l.negative) lits)
+  where
+    even_next : (n : ℕ) → nat_eq (n % 2) 0 ≡ is_odd (1 + n)
+    even_next n = grind (arith, nat_tests)
 
 abbrev rest_of : List ℕ → List ℕ
 rest_of [] = []

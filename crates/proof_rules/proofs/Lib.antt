@@ -15,3 +15,4 @@ pub mod PlaceLaws
 pub mod MarkLaws
 pub mod VariableLaws
 pub mod LoopSteps
+pub mod OddLaws

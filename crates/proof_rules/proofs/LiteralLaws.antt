@@ -1,7 +1,10 @@
 -- Literals by their order, and lists of literals as sets.
 use Rattle.std.proofs.Common.{◌≡◌, refl, sym, ap, ◌∙◌, subst, ℕ, Bool, true, false, ◌||◌, nat_eq, eqb-true, eq-eqb, List, [], ◌∷◌, length, get_or, drop, ◌<◌, ◌+◌}
 use Rattle.std.proofs.lemmas.List.{drop_more}
+use Rattle.std.proofs.lemmas.Slice.Eq.{slice_eq-Decides}
+use Rattle.std.specs.Bool.{Decides}
 use Rattle.std.specs.Cmp.{both_ways}
+use Rattle.std.specs.Cmp.Lexicographic.{pointwise}
 use Rattle.cx_base.specs.Literals.{Literal, code_of, literal_of_code, same_literal}
 use Rattle.cx_base.specs.Codes.{literal_of_code-code_of}
 use Rattle.cx_semantics.specs.Chain.{has_literal}
@@ -12,6 +15,13 @@ pub same_code : (q k : Literal) → nat_eq (code_of q) (code_of k) ≡ same_lite
 same_code q k = both_ways _ _
     (λ h. let e : q ≡ k = sym (literal_of_code-code_of q) ∙ ap literal_of_code (eqb-true (code_of q) (code_of k) h) ∙ literal_of_code-code_of k in subst (λ x. same_literal q x ≡ true) e (same_literal-itself q))
     (λ h. eq-eqb (code_of q) (code_of k) (ap code_of (are_one q k h)))
+
+-- what `==` says of two lists of literals
+decides : (a b : Literal) → Decides (nat_eq (code_of a) (code_of b)) (a ≡ b)
+decides a b = (λ h. are_one a b (sym (same_code a b) ∙ h), λ e. eq-eqb (code_of a) (code_of b) (ap code_of e))
+
+pub same_lists : (xs ys : List Literal) → pointwise (λ a b. nat_eq (code_of a) (code_of b)) xs ys ≡ true → xs ≡ ys
+same_lists xs ys h = (slice_eq-Decides decides xs ys (pointwise (λ a b. nat_eq (code_of a) (code_of b)) xs ys) refl).0 h
 
 pub or_swap : (a b c : Bool) → ((b || a) || c) ≡ (a || (b || c))
 or_swap true true c = refl

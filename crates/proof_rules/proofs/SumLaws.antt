@@ -1,9 +1,7 @@
 -- Sums of normal forms: one literal and one parity at a time.
-use Rattle.std.proofs.Common.{◌≡◌, refl, sym, ap, ◌∙◌, ℕ, Bool, true, false, cond, not, ◌||◌, nat_eq, eqb-true, is_eq, List, [], ◌∷◌, length, map, count_by, Some, None, Less, true≢false}
-use Rattle.std.specs.List.{list_any, cons_option, AllByRecursion}
-use Rattle.std.specs.List.Sorted.{IsStrictlySortedBy}
-use Rattle.std.specs.Ordering.{nat_cmp, eq_by_cmp}
-use Rattle.std.specs.Cmp.{nat_cmp_total, unsigned_tied, nat_eq_equiv}
+use Rattle.std.proofs.Common.{◌≡◌, refl, sym, ap, ◌∙◌, ℕ, Bool, true, false, not, nat_eq, List, [], ◌∷◌, map, count_by, Some, None}
+use Rattle.std.specs.List.{cons_option}
+use Rattle.std.specs.Ordering.{nat_cmp}
 use Rattle.std.specs.FinSet as set
 use Rattle.cx_base.specs.Literals.{Literal, differ}
 use Rattle.cx_base.specs.Parity.{NormalForm, normal_form, symmetric_difference, sum_of}
@@ -12,7 +10,6 @@ use Rattle.cx_base.proofs.ParityLaws.{contains-normal_form, contains-symmetric_d
 use Rattle.cx_base.proofs.Differences.{differ_assoc, differ_turned, differ_itself, same-differ, same_members, contains-one, difference_assoc, difference_nothing, nothing_difference, difference_itself, same-no_difference}
 use Rattle.cx_semantics.specs.Tables.{Table, get, named}
 use Rattle.cx_semantics.specs.ProofRules.{IsSum}
-use Rattle.proof_rules.specs.Assignments.{AreDistinct}
 use Rattle.proof_rules.specs.Sums.{zero_sum, plus, flipped, turned, plus_all}
 
 pub plus_assoc : (p q r : NormalForm) → plus (plus p q) r ≡ plus p (plus q r)
@@ -106,31 +103,6 @@ same_from_zero p q h = λ i. record { variables = same-no_difference p.variables
 pub zero_from_same : (p q : NormalForm) → p ≡ q → plus p q ≡ zero_sum
 zero_from_same p q h = ap (plus p) (sym h) ∙ (λ i. record { variables = difference_itself p.variables i; right_side = differ_itself p.right_side i })
 
--- ---- the keys of an ordered set
-
-abbrev pub has_key : List ℕ → ℕ → Bool
-has_key keys q = list_any (eq_by_cmp nat_cmp q) keys
-
-flipped_member : (x q : ℕ) (b : Bool) (keys : List ℕ) → has_key keys x ≡ not b → (e : Bool) → nat_eq x q ≡ e → cond e b (has_key keys q) ≡ differ (has_key keys q) e
-flipped_member x q b keys h true e = let k : has_key keys q ≡ not b = ap (has_key keys) (sym (eqb-true x q e)) ∙ h in sym (ap (λ a. differ a true) k ∙ turn b)
-  where
-    turn : (b : Bool) → differ (not b) true ≡ b
-    turn true = refl
-    turn false = refl
-flipped_member x q b keys h false e = sym (differ_false (has_key keys q))
-
-pub from_list-flipped : (old new : List ℕ) (x : ℕ) (b : Bool) → ((q : ℕ) → has_key new q ≡ cond (is_eq (nat_cmp x q)) b (has_key old q)) → has_key old x ≡ not b
-    → set.from_list {R = nat_cmp} new ≡ symmetric_difference (set.from_list old) (set.insert set.empty x)
-from_list-flipped old new x b h k = same_members _ _ (λ q.
-    set.contains-from_list nat_cmp_total new q ∙ h q ∙ ap (λ e. cond e b (has_key old q)) (unsigned_tied x q) ∙ flipped_member x q b old k (nat_eq x q) refl
-    ∙ (λ i. differ (sym (set.contains-from_list nat_cmp_total old q) i) (sym (contains-one x q) i))
-    ∙ sym (contains-symmetric_difference (set.from_list old) (set.insert set.empty x) q))
-
-pub no_keys : (keys : List ℕ) → set.from_list {R = nat_cmp} keys ≡ set.empty → length keys ≡ 0
-no_keys [] h = refl
-no_keys (k ∷ keys) h = absurd (true≢false (
-    sym (ap (λ b. b || has_key keys k) (unsigned_tied k k ∙ nat_eq_equiv.refl k)) ∙ sym (set.contains-from_list nat_cmp_total (k ∷ keys) k) ∙ ap (λ s. set.contains s k) h ∙ set.contains-empty nat_cmp k))
-
 -- ---- the target and the parities
 
 module _ (target : List Literal) (parities : List (List Literal)) where
@@ -139,14 +111,3 @@ module _ (target : List Literal) (parities : List (List Literal)) where
 
   pub sum_is_zero : IsSum target parities → plus_all (normal_form target) parities ≡ zero_sum
   sum_is_zero h = zero_from_same (normal_form target) (sum_of (map normal_form parities)) h
-
--- ---- an ordered list names each number once
-
-after_all : (x : ℕ) (xs : List ℕ) → AllByRecursion (λ y. nat_cmp x y ≡ Less) xs → list_any (λ y. nat_eq y x) xs ≡ false
-after_all x [] h = refl
-after_all x (y ∷ ys) h = ap (λ b. b || list_any (λ z. nat_eq z x) ys) (nat_eq_equiv.symm y x ∙ sym (unsigned_tied x y) ∙ ap is_eq h.0) ∙ after_all x ys h.1
-
-pub distinct-sorted : (xs : List ℕ) → IsStrictlySortedBy nat_cmp xs → AreDistinct xs
-unfolding IsStrictlySortedBy
-distinct-sorted [] h = tt
-distinct-sorted (x ∷ xs) h = (after_all x xs h.0, distinct-sorted xs h.1)

@@ -17,14 +17,13 @@ mod page;
 mod parity_clause;
 mod parity_sum;
 mod refusal;
-mod sorted_parity;
 mod stored;
 mod sum;
 mod table;
 
 pub use added::admit_into;
 pub use chain::{LeftOf, left_of};
-pub use content::{clause_content, parity_content};
+pub use content::{fill_clause_content, fill_parity_content};
 pub use hints::{any_negative, ids_of};
 pub use id_map::IdMap;
 pub use judge::{judge_chain, judge_clause_of_parity, judge_parity_of_clauses, judge_sum};

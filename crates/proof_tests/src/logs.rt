@@ -1,46 +1,11 @@
 //! Worked logs: what is answered, and the proof that is written.
-ghost use Rattle.std.specs.Prelude.{◌≡◌, [], OnOk};
-
-use crate::numbers::lit;
-use cx_base::{Formula, FormulaBuilder};
+use crate::formulas::{repeated, square};
+use cx_base::Formula;
 use fratx_elab::{Elab, Joined, elaborate};
 use log_text::LogText;
 use proof_text::ListProof;
 use std::alloc::{AllocError, Global};
 use std::test::Fail;
-
-/// Adds the literals of integers from -1,000 to 1,000 that are not zero.
-fn push(builder: &mut FormulaBuilder, integers: &[i64]) -> Result<(), AllocError> {
-    for integer in integers {
-        builder.push(lit(*integer))?;
-    }
-    Ok(())
-}
-
-/// Adds a clause.
-fn clause(builder: &mut FormulaBuilder, integers: &[i64]) -> Result<(), AllocError>
-    ensures { OnOk result (builder.new.unfinished ≡ []) }
-{
-    push(builder, integers)?;
-    builder.end_clause()
-}
-
-/// Adds the four clauses of two variables.
-fn add_square(builder: &mut FormulaBuilder) -> Result<(), AllocError>
-    ensures { OnOk result (builder.new.unfinished ≡ []) }
-{
-    clause(builder, &[1, 2])?;
-    clause(builder, &[-1, 2])?;
-    clause(builder, &[1, -2])?;
-    clause(builder, &[-1, -2])
-}
-
-/// The four clauses of two variables.
-fn square(alloc: Global) -> Result<Formula, AllocError> {
-    let mut builder = FormulaBuilder::new(alloc);
-    add_square(&mut builder)?;
-    Ok(builder.finish(2))
-}
 
 /// The steps of a proof, if the log was to be answered so.
 fn steps_or_answer(
@@ -153,5 +118,26 @@ const SEARCHED: [Case; 3] = [
 #[test]
 fn a_chain_is_searched_for(rt: HostRuntime) -> Result<(), Fail> {
     assert_eq!(rt; others(rt.alloc(), &SEARCHED)?.as_str(), "");
+    Ok(())
+}
+
+/// Clauses and parities of the formula in which others say the same: under their own numbers and under others, in other orders of
+/// literals and with some of these twice.
+const SAID_TWICE: &str = "o 2 2 1 2 0\no 30 2 1 0\no 3 -1 2 0\no 4 1 -2 0\no 5 -1 -2 0\n\
+    o x 2 -2 -1 0\no x 9 2 1 1 1 0\na x 3 1 -1 0 l 2 9 0\na 20 2 0 l 2 3 0\na 22 2 0 l 30 3 0\na 21 0 l 20 4 5 0\n";
+
+/// Each is named by the least number.
+const NAMED_ONCE: &str = "[Parity(3, IntList { integers: [1, -1] }, IntList { integers: [1, 1] }), \
+    Clause(6, IntList { integers: [2] }, IntList { integers: [1, 3] }), \
+    Clause(7, IntList { integers: [2] }, IntList { integers: [1, 3] }), \
+    Clause(8, IntList { integers: [] }, IntList { integers: [6, 4, 5] })]";
+
+#[test]
+fn the_least_number_names_an_original(rt: HostRuntime) -> Result<(), Fail> {
+    let formula = repeated(rt.alloc())?;
+    assert_eq!(rt;
+        written(rt.alloc(), &formula, SAID_TWICE, 11)?.as_str(),
+        NAMED_ONCE
+    );
     Ok(())
 }

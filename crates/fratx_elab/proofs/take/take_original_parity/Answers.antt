@@ -15,6 +15,6 @@ returns-in_ok-put_original-in-Some-clause-taken c =
     let target = c.in_ok-target.ensures.1 in
     let seen = c.as_slice.result.now in
     let P : Option ℕ → Type 0 = λ o. MatchOption o (¬ IsOriginalParity formula seen) (IsParityNumber formula seen) in
-    let number = subst P c.in-Some.is (c.in_ok-number.ensures formula c.requires.originals) in
+    let number = subst P c.in-Some.is c.in_ok-number.ensures in
     takes_original_parity formula c.args.state.now (record { live = _; clauses = _; parities = _; marks = c.args.state.now.marks; deleted = c.args.state.now.deleted }) c.args.id k lits added (subst (λ (l : List Literal). IsParityNumber formula l k) (c.as_slice.ensures ∙ target) number)
     (c.in_ok-put_live-in-Some.ensures ∙ ap (put_parity c.args.state.now.live c.args.id) target) refl c.in_ok-put_original-in-Some.ensures

@@ -1,9 +1,15 @@
-use Rattle.std.proofs.Common.{◌∙◌, sym, subst}
+use Rattle.std.proofs.Common.{sym, subst, ◌-◌}
 use Rattle.proof_rules.specs.Contents.{IsClauseContent}
-use Rattle.fratx_elab.proofs.ContentIndex.{clause_looked_up}
+use Rattle.fratx_elab.specs.Elaborates.{IsClauseNumber}
+use Rattle.fratx_elab.proofs.ContentIndex.{clause_looked_up, clause_at}
 use Rattle.fratx_elab.proofs.originals.Originals.clause_number.Goals as goal
+
+pub returns-then-is_clause : goal.returns-then-is_clause
+returns-then-is_clause c =
+    subst (IsClauseNumber c.args.formula.now c.args.lits.now) (sym c.first.ensures)
+    (clause_at c.args.self.now c.args.formula.now c.requires c.args.lits.now (c.args.near - 1) (c.is_clause.ensures.same c.if-is_clause.true))
 
 pub returns : goal.returns
 returns c =
-    let has = subst (IsClauseContent c.args.lits.now) (sym c.of-key.ensures.numbers) c.in_ok-content.ensures in
-    clause_looked_up c.args.self.now c.args.formula.now c.requires c.args.lits.now c.of-key.result c.of-key.ensures.key c.copied.result has (c.copied.ensures ∙ c.get.ensures.value)
+    let has = subst (IsClauseContent c.args.lits.now) (sym c.from_vec.ensures.items) c.in_ok-fill_clause_content.ensures in
+    clause_looked_up c.args.self.now c.args.formula.now c.requires c.args.lits.now c.from_vec.result.items c.find.result has (c.find.ensures c.requires.clauses.entries c.requires.clauses.keyed c.requires.clauses.numbered c.requires.clauses.orders)

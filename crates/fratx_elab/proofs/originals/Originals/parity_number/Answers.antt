@@ -1,9 +1,15 @@
-use Rattle.std.proofs.Common.{◌∙◌, sym, subst}
+use Rattle.std.proofs.Common.{sym, subst, ◌-◌}
 use Rattle.proof_rules.specs.Contents.{IsParityContent}
-use Rattle.fratx_elab.proofs.ContentIndex.{parity_looked_up}
+use Rattle.fratx_elab.specs.Elaborates.{IsParityNumber}
+use Rattle.fratx_elab.proofs.ContentIndex.{parity_looked_up, parity_at}
 use Rattle.fratx_elab.proofs.originals.Originals.parity_number.Goals as goal
 
+pub returns-then-is_parity : goal.returns-then-is_parity
+returns-then-is_parity c =
+    subst (IsParityNumber c.args.formula.now c.args.lits.now) (sym c.first.ensures)
+    (parity_at c.args.self.now c.args.formula.now c.requires c.args.lits.now (c.args.near - 1) (c.is_parity.ensures.same c.if-is_parity.true))
+
 pub returns : goal.returns
-returns c = λ formula stands.
-    let has = subst (IsParityContent c.args.lits.now) (sym c.of-key.ensures.numbers) c.in_ok-content.ensures in
-    parity_looked_up c.args.self.now formula stands c.args.lits.now c.of-key.result c.of-key.ensures.key c.copied.result has (c.copied.ensures ∙ c.get.ensures.value)
+returns c =
+    let has = subst (IsParityContent c.args.lits.now) (sym c.from_vec.ensures.items) c.in_ok-fill_parity_content.ensures in
+    parity_looked_up c.args.self.now c.args.formula.now c.requires c.args.lits.now c.from_vec.result.items c.find.result has (c.find.ensures c.requires.parities.entries c.requires.parities.keyed c.requires.parities.numbered c.requires.parities.orders)
