@@ -1,5 +1,9 @@
 //! What the elaborator answers.
+ghost use Rattle.std.specs.Prelude.{◌≡◌};
+ghost use Rattle.fratx_elab.specs.declared.outcome.ElabFault.TheVariants.{Memory};
+
 use cx_semantics::Cause;
+use std::alloc::AllocError;
 use thiserror::Error;
 
 /// The judgement of a log.
@@ -26,4 +30,12 @@ pub enum ElabFault {
     /// The text of the log is longer than the source's limit.
     #[error("the text is too long")]
     TooLong,
+}
+
+impl From<AllocError> for ElabFault {
+    ghost from_gives = { λ _ e. e ≡ Memory };
+
+    fn from(_: AllocError) -> Self {
+        ElabFault::Memory
+    }
 }

@@ -7,8 +7,8 @@ use std::mem;
 
 /// The live constraints of the log, and what stands for them in the proof.
 #[derive(Drop)]
-pub struct State {
-    pub live: IndexedClauses,
+pub struct State<'f> {
+    pub live: IndexedClauses<'f>,
     pub clauses: Names,
     pub parities: Names,
     /// For its memory alone.

@@ -194,12 +194,9 @@ pub fn elaborate<E: ElabEnds>(
     ensures frame { E.keeps ends.old ends.new }
 {
     let counts = count_kinds(formula);
-    let originals = match Originals::of(alloc, formula) {
-        Ok(originals) => originals,
-        Err(_) => return Err(ElabFault::Memory),
-    };
+    let originals = Originals::of(alloc, formula)?;
     let mut state = State {
-        live: IndexedClauses::make(alloc),
+        live: IndexedClauses::make(alloc, formula),
         clauses: Names::new(alloc, counts.clauses),
         parities: Names::new(alloc, counts.parities),
         marks: JudgeMarks::new(alloc),

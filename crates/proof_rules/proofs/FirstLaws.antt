@@ -1,5 +1,5 @@
 -- The lists that a table has from a formula, each in its place.
-use Rattle.std.proofs.Common.{◌≡◌, refl, sym, ap, ◌∙◌, ℕ, zero, suc, ◌+◌, ◌<◌, ◌≤◌, Bool, true, false, cond, not, List, [], ◌∷◌, map, length, get_or, set, replicate, Option, Some, None, is_some, true≢false, arith, ◌-◌}
+use Rattle.std.proofs.Common.{◌≡◌, refl, sym, ap, ◌∙◌, ℕ, zero, suc, ◌+◌, ◌<◌, ◌≤◌, Bool, true, false, cond, not, List, [], ◌∷◌, map, length, get_or, set, replicate, Some, None, is_some, true≢false, arith, ◌-◌}
 use Rattle.cx_base.specs.Literals.{Literal}
 use Rattle.cx_base.specs.Problem.{clauses_of, parities_of}
 use Rattle.cx_base.specs.declared.constraint.Constraint.{Constraint}

@@ -1,5 +1,5 @@
 -- Lists in their places, and a map of those behind them.
-use Rattle.std.proofs.Common.{◌≡◌, ◌≢◌, refl, sym, ap, ◌∙◌, ℕ, zero, suc, cond, true, false, true≢false, List, [], ◌∷◌, ◌++◌, map, get_or, set, Option, Some, None, MatchOption, Bor, nat_cmp, is_eq, is_some, append-nil, length, arith}
+use Rattle.std.proofs.Common.{◌≡◌, refl, sym, ap, ◌∙◌, ℕ, suc, cond, true, false, true≢false, List, [], ◌∷◌, ◌++◌, map, get_or, set, Option, Some, None, nat_cmp, is_some, append-nil, length, arith}
 use Rattle.std.specs.Cmp.{nat_cmp_total}
 use Rattle.std.specs.FinMap as fin
 use Rattle.std.specs.List.{list_any}
@@ -12,6 +12,7 @@ use Rattle.std.proofs.lemmas.List.{get_or-set_other}
 use Rattle.cx_base.specs.Literals.{Literal}
 use Rattle.cx_semantics.proofs.MapEntries.{look, get-from_entries, from_entries-insert, from_entries-remove}
 use Rattle.cx_semantics.specs.Tables.{Table, numbered_from}
+use Rattle.proof_rules.specs.FirstLists.{StandsThere}
 use Rattle.proof_rules.specs.Places.{entries_from, entries_of}
 use Rattle.proof_rules.proofs.PlaceLaws.{is_eq-same, is_eq-other, emptied, look-changed, get-places, keys-answer}
 
@@ -36,6 +37,12 @@ insert-behind xs m k lits =
     (ap (λ o. option_or o (look k (fin.entries new))) (emptied xs k) ∙ look-get new k ∙ fin.get-insert nat_cmp_total m k lits k ∙ ap (λ b. cond b (Some lits) (fin.get m k)) (is_eq-same k))
     (λ q apart. get_or-set_other xs k q None None apart)
     (λ q apart. look-get new q ∙ fin.get-insert nat_cmp_total m k lits q ∙ ap (λ b. cond b (Some lits) (fin.get m q)) (is_eq-other q k apart) ∙ sym (look-get m q)))
+
+-- a list that stands in its place goes before what stands behind
+pub restore-behind : (xs ys : Lists) (m : Table) (k : ℕ) (lits : List Literal) → StandsThere k lits xs ys → behind ys m ≡ fin.insert (behind xs m) k lits
+restore-behind xs ys m k lits h =
+    from_entries-insert (entries_of xs ++ fin.entries m) (entries_of ys ++ fin.entries m) k lits
+    (look-changed k (Some lits) xs ys (fin.entries m) (fin.entries m) (ap (λ o. option_or o (look k (fin.entries m))) h.0) h.1 (λ q apart. refl))
 
 pub remove-behind : (xs : Lists) (m : Table) (k : ℕ) → behind (set xs k None) (fin.remove m k) ≡ fin.remove (behind xs m) k
 remove-behind xs m k =

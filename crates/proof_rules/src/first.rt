@@ -1,23 +1,40 @@
 //! The constraints that a table has from a formula, where they stand.
-ghost use Rattle.std.specs.Prelude.{◌≡◌, ◌≤◌, ◌<◌, ◌-◌, ◌^◌, ◌++◌, ◌∷◌, [], true, false, IfOk, OnOk, MatchOption, None, Some, get_or, is_some, length, map, replicate, set, slice_get};
+ghost use Rattle.std.specs.Prelude.{◌≡◌, ◌≢◌, ◌≤◌, ◌<◌, ◌-◌, ◌^◌, ◌++◌, ◌∷◌, [], ℕ, IfOk, OnOk, OnErr, MatchOption, None, Some, true, false, get_or, is_some, length, map, replicate, set, slice_get};
+ghost use Rattle.std.specs.Bool.{MatchBool};
 ghost use Rattle.std.specs.Map.{keys_of};
-ghost use Rattle.cx_base.specs.Problem.{clauses_of, parities_of};
-ghost use Rattle.proof_rules.specs.FirstLists.{lists_of};
+ghost use Rattle.proof_rules.specs.FirstLists.{lists_of, StandsThere};
 ghost use Rattle.proof_rules.specs.Places.{entries_of};
 
 use cx_base::{Formula, Lit};
 use std::alloc::{AllocError, Global};
 use std::marker::Model;
 
-/// Numbered lists, from 1.
+/// The lists of a formula's constraints of a kind, numbered from 1.
 #[derive(Clone, Copy, Drop)]
-enum Numbered<'f> {
-    Nothing,
+pub(crate) enum Numbered<'f> {
     Clauses(&'f Formula),
     Parities(&'f Formula),
 }
 
 impl<'f> Numbered<'f> {
+    /// How many there are.
+    pub(crate) fn count(&self) -> usize
+        ensures count { result ≡ length (lists_of self.now) }
+        ensures few { result < 2 ^ 60 }
+    {
+        match *self {
+            Numbered::Clauses(formula) => {
+                // There are no more of them than constraints, which are few.
+                let _few = formula.len();
+                formula.clause_count()
+            }
+            Numbered::Parities(formula) => {
+                let _few = formula.len();
+                formula.parity_count()
+            }
+        }
+    }
+
     /// The list of this number.
     fn list(&self, number: usize) -> &'f [Lit]
         requires low { 1 ≤ number }
@@ -27,7 +44,6 @@ impl<'f> Numbered<'f> {
         match *self {
             Numbered::Clauses(formula) => formula.clause(number),
             Numbered::Parities(formula) => formula.parity(number),
-            Numbered::Nothing => unreachable!(),
         }
     }
 }
@@ -42,11 +58,26 @@ fn all_left(alloc: Global, count: usize) -> Result<Vec<bool>, AllocError>
     Ok(gone)
 }
 
+/// Marks the list of this number as there, and those between as gone where the marks ended before. Without memory nothing changes.
+fn put_back(gone: &mut Vec<bool>, number: usize) -> Result<(), AllocError>
+    requires { number < 2 ^ 60 }
+    ensures there { OnOk result (get_or gone.new.items number true ≡ false) }
+    ensures others { OnOk result ((q : ℕ) → q ≢ number → get_or gone.new.items q true ≡ get_or gone.old.items q true) }
+    ensures few { OnOk result ((bound : ℕ) → number < bound → length gone.old.items ≤ bound → length gone.new.items ≤ bound) }
+    ensures err { OnErr result (gone.new.items ≡ gone.old.items) }
+{
+    if number >= gone.len() {
+        gone.resize(number + 1, true)?;
+    }
+    gone[number] = false;
+    Ok(())
+}
+
 /// The lists of a formula's constraints of a kind under their numbers, but for those that went. They are not copied.
 #[derive(Drop)]
 pub(crate) struct FirstLists<'f> {
     lists: Numbered<'f>,
-    /// Whether the list of each number went, from 0, under which there is none. Without lists it may be empty.
+    /// Whether the list of each number went, from 0, under which there is none. Those behind the end went too.
     gone: Vec<bool>,
 }
 
@@ -63,40 +94,22 @@ impl<'f> Model for FirstLists<'f> {
 }
 
 impl<'f> FirstLists<'f> {
-    /// No lists.
-    pub(crate) fn none(alloc: Global) -> FirstLists<'f>
+    /// All of them.
+    pub(crate) fn all(alloc: Global, lists: Numbered<'f>) -> Result<FirstLists<'f>, AllocError>
+        ensures { IfOk result (λ first. first ≡ None ∷ map Some (lists_of lists.entry)) }
+    {
+        let gone = all_left(alloc, lists.count())?;
+        Ok(FirstLists { lists, gone })
+    }
+
+    /// None of them.
+    pub(crate) fn none(alloc: Global, lists: Numbered<'f>) -> FirstLists<'f>
         ensures { result ≡ [] }
     {
         FirstLists {
-            lists: Numbered::Nothing,
+            lists,
             gone: Vec::new(alloc),
         }
-    }
-
-    /// The clauses of a formula.
-    pub(crate) fn clauses(alloc: Global, formula: &'f Formula) -> Result<FirstLists<'f>, AllocError>
-        ensures { IfOk result (λ first. first ≡ None ∷ map Some (clauses_of formula.now.constraints)) }
-    {
-        // There are no more of them than constraints, which are few.
-        let _few = formula.len();
-        Ok(FirstLists {
-            lists: Numbered::Clauses(formula),
-            gone: all_left(alloc, formula.clause_count())?,
-        })
-    }
-
-    /// The parities of a formula.
-    pub(crate) fn parities(
-        alloc: Global,
-        formula: &'f Formula,
-    ) -> Result<FirstLists<'f>, AllocError>
-        ensures { IfOk result (λ first. first ≡ None ∷ map Some (parities_of formula.now.constraints)) }
-    {
-        let _few = formula.len();
-        Ok(FirstLists {
-            lists: Numbered::Parities(formula),
-            gone: all_left(alloc, formula.parity_count())?,
-        })
     }
 
     /// Whether there is a list under this id.
@@ -126,6 +139,18 @@ impl<'f> FirstLists<'f> {
         if id < self.gone.len() as u64 {
             self.gone[id as usize] = true;
         }
+    }
+
+    /// Puts the list of this number there, if it is this one, and tells whether it is. Without memory nothing changes.
+    pub(crate) fn restore(&mut self, id: u64, list: &[Lit]) -> Result<bool, AllocError>
+        ensures ok { IfOk result (λ is_own. MatchBool is_own (StandsThere id list.now self.old self.new) (self.new ≡ self.old)) }
+        ensures err { OnErr result (self.new ≡ self.old) }
+    {
+        if id == 0 || id > self.lists.count() as u64 || self.lists.list(id as usize) != list {
+            return Ok(false);
+        }
+        put_back(&mut self.gone, id as usize)?;
+        Ok(true)
     }
 
     /// Puts the ids of the lists behind these.

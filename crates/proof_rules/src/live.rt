@@ -3,6 +3,7 @@ ghost use Rattle.std.specs.Prelude.{◌≡◌, IfOk, OnOk, OnErr, [], ◌∷◌,
 ghost use Rattle.cx_semantics.specs.Tables.{get, is_live, no_tables, first_tables};
 ghost use Rattle.proof_rules.specs.Kinds.{chosen, put_constraint, drop_constraints, ListsLive};
 
+use crate::first::Numbered;
 use crate::table::LiveTable;
 use cx_base::{Formula, IdList, Lit};
 use std::alloc::{AllocError, Global};
@@ -33,24 +34,24 @@ impl<'f> Model for Live<'f> {
 }
 
 impl<'f> Live<'f> {
-    /// Nothing is live.
-    pub fn make(alloc: Global) -> Live<'f>
-        ensures { result ≡ no_tables }
-    {
-        Live {
-            clauses: LiveTable::new(alloc),
-            parities: LiveTable::new(alloc),
-        }
-    }
-
     /// The formula's clauses and its parities, each numbered from 1 in order. Its literals are not copied.
     pub fn of(alloc: Global, formula: &'f Formula) -> Result<Live<'f>, AllocError>
         ensures { IfOk result (λ live. live ≡ first_tables formula.now) }
     {
         Ok(Live {
-            clauses: LiveTable::clauses(alloc, formula)?,
-            parities: LiveTable::parities(alloc, formula)?,
+            clauses: LiveTable::of(alloc, Numbered::Clauses(formula))?,
+            parities: LiveTable::of(alloc, Numbered::Parities(formula))?,
         })
+    }
+
+    /// Nothing is live. A constraint of the formula that comes under its number will not be copied.
+    pub fn beside(alloc: Global, formula: &'f Formula) -> Live<'f>
+        ensures { result ≡ no_tables }
+    {
+        Live {
+            clauses: LiveTable::beside(alloc, Numbered::Clauses(formula)),
+            parities: LiveTable::beside(alloc, Numbered::Parities(formula)),
+        }
     }
 
     /// Whether a constraint of this kind and id is live.
@@ -85,7 +86,8 @@ impl<'f> Live<'f> {
         self.parities.get(id)
     }
 
-    /// Puts a constraint of this kind with a copy of these literals under this id. Without memory nothing changes.
+    /// Puts a constraint of this kind with these literals under this id: that of the formula where it is the same, and else a
+    /// copy. Without memory nothing changes.
     pub fn add_copy(
         &mut self,
         alloc: Global,

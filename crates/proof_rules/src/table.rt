@@ -1,14 +1,14 @@
 //! One table of live constraints, by their ids.
 ghost use Rattle.std.specs.Prelude.{◌≡◌, OnOk, OnErr, IfOk, MatchOption, None, Some};
 ghost use Rattle.std.specs.FinMap as map;
-ghost use Rattle.cx_base.specs.Problem.{clauses_of, parities_of};
 ghost use Rattle.cx_semantics.specs.Tables.{get, is_live, numbered_from};
+ghost use Rattle.proof_rules.specs.FirstLists.{lists_of};
 ghost use Rattle.proof_rules.specs.Kinds.{ListsLive};
 
-use crate::first::FirstLists;
+use crate::first::{FirstLists, Numbered};
 use crate::id_map::IdMap;
 use crate::stored::StoredList;
-use cx_base::{Formula, IdList, Lit};
+use cx_base::{IdList, Lit};
 use std::alloc::{AllocError, Global};
 use std::marker::Model;
 
@@ -34,34 +34,24 @@ impl<'f> Model for LiveTable<'f> {
 }
 
 impl<'f> LiveTable<'f> {
-    /// Nothing is live.
-    pub(crate) fn new(alloc: Global) -> LiveTable<'f>
+    /// The lists of a formula, under their numbers.
+    pub(crate) fn of(alloc: Global, lists: Numbered<'f>) -> Result<LiveTable<'f>, AllocError>
+        ensures { IfOk result (λ table. table ≡ numbered_from 1 (lists_of lists.entry)) }
+    {
+        Ok(LiveTable {
+            first: FirstLists::all(alloc, lists)?,
+            lists: IdMap::beside(alloc, lists.count() as u64),
+        })
+    }
+
+    /// Nothing is live. A list of the formula that comes under its number is not copied.
+    pub(crate) fn beside(alloc: Global, lists: Numbered<'f>) -> LiveTable<'f>
         ensures { result ≡ map.empty }
     {
         LiveTable {
-            first: FirstLists::none(alloc),
-            lists: IdMap::new(alloc),
+            first: FirstLists::none(alloc, lists),
+            lists: IdMap::beside(alloc, lists.count() as u64),
         }
-    }
-
-    /// The clauses of a formula, under their numbers.
-    pub(crate) fn clauses(alloc: Global, formula: &'f Formula) -> Result<LiveTable<'f>, AllocError>
-        ensures { IfOk result (λ table. table ≡ numbered_from 1 (clauses_of formula.now.constraints)) }
-    {
-        Ok(LiveTable {
-            first: FirstLists::clauses(alloc, formula)?,
-            lists: IdMap::beside(alloc, formula.clause_count() as u64),
-        })
-    }
-
-    /// The parities of a formula, under their numbers.
-    pub(crate) fn parities(alloc: Global, formula: &'f Formula) -> Result<LiveTable<'f>, AllocError>
-        ensures { IfOk result (λ table. table ≡ numbered_from 1 (parities_of formula.now.constraints)) }
-    {
-        Ok(LiveTable {
-            first: FirstLists::parities(alloc, formula)?,
-            lists: IdMap::beside(alloc, formula.parity_count() as u64),
-        })
     }
 
     /// Whether a list of this id is live.
@@ -94,7 +84,7 @@ impl<'f> LiveTable<'f> {
         Ok(IdList::from_vec(ids))
     }
 
-    /// Puts a copy of a list under this id. Without memory nothing changes.
+    /// Puts a list under this id: that of the formula where it is the same, and else a copy. Without memory nothing changes.
     pub(crate) fn insert_copy(
         &mut self,
         alloc: Global,
@@ -104,6 +94,9 @@ impl<'f> LiveTable<'f> {
         ensures ok { OnOk result (self.new ≡ map.insert self.old id lits.now) }
         ensures err { OnErr result (self.new ≡ self.old) }
     {
+        if self.first.restore(id, lits)? {
+            return Ok(());
+        }
         let list = StoredList::copy_of(alloc, lits)?;
         self.lists.insert(id, list)?;
         self.first.clear(id);

@@ -1,4 +1,5 @@
 //! The two searches for chains, beside each other over tables that a seed draws. Each chain is judged.
+use crate::formulas::square;
 use crate::numbers::{next, some_lits};
 use cx_base::{IdList, LitList};
 use proof_rules::{JudgeRefusal, Kind, LiteralSet, Live, judge_chain};
@@ -137,9 +138,10 @@ fn turns(
     Ok(())
 }
 
-/// What comes of the turns, from no clause on.
+/// What comes of the turns, from no clause on, beside a formula whose clauses come among the others.
 fn tally_of(alloc: Global, size: (u32, u64)) -> Result<Tally, AllocError> {
-    let mut clauses = IndexedClauses::make(alloc);
+    let formula = square(alloc)?;
+    let mut clauses = IndexedClauses::make(alloc, &formula);
     let mut tally = Tally {
         chains: 0,
         nones: 0,

@@ -1,4 +1,5 @@
 //! Small cases of each judge, worked by hand.
+use crate::formulas::square;
 use crate::numbers::lits;
 use cx_base::LitList;
 use cx_semantics::Cause;
@@ -39,8 +40,8 @@ type Case = (&'static [i64], &'static [i64], Option<Cause>);
 
 /// Live constraints, and what the judges mark.
 #[derive(Drop)]
-struct Court {
-    live: Live<'static>,
+struct Court<'f> {
+    live: Live<'f>,
     assumed: LiteralSet,
     marks: JudgeMarks,
 }
@@ -167,8 +168,10 @@ fn others(
     gone: (Kind, u64),
     cases_then: &[Case],
 ) -> Result<String, AllocError> {
+    // The four clauses stand in the formula, so that the table refers to these and has copies of the others.
+    let formula = square(alloc)?;
     let mut court = Court {
-        live: Live::make(alloc),
+        live: Live::beside(alloc, &formula),
         assumed: LiteralSet::new(alloc),
         marks: JudgeMarks::new(alloc),
     };

@@ -13,7 +13,7 @@ use crate::front::chain_length;
 use crate::ready::{ask, put_in, ready, take_out};
 use crate::recent::{Recent, limit_beside};
 use crate::search::find;
-use cx_base::{IdList, Lit};
+use cx_base::{Formula, IdList, Lit};
 use proof_rules::{Kind, LiteralSet, Live};
 use rup_engine::{Answer, Engine};
 use std::alloc::{AllocError, Global};
@@ -23,8 +23,8 @@ use std::marker::Model;
 ///
 /// What is added or removed costs its own literals, and what was propagated from it.
 #[derive(Drop)]
-pub struct IndexedClauses {
-    live: Live<'static>,
+pub struct IndexedClauses<'f> {
+    live: Live<'f>,
     /// All live clauses. None before the first search, after want of memory, and where it is to be made anew.
     engine: Option<Engine>,
     /// Some of them, which are asked first.
@@ -33,7 +33,7 @@ pub struct IndexedClauses {
     assumed: LiteralSet,
 }
 
-impl Model for IndexedClauses {
+impl<'f> Model for IndexedClauses<'f> {
     ghost use Rattle.cx_semantics.specs.Tables.{Tables, tables_code};
     ghost use Rattle.rup_finder.specs.Ready.{IsReady};
     ghost use Rattle.rup_finder.specs.Recent.{IsRecent};
@@ -64,13 +64,13 @@ fn told(
     }
 }
 
-impl IndexedClauses {
-    /// Nothing is live.
-    pub fn make(alloc: Global) -> IndexedClauses
+impl<'f> IndexedClauses<'f> {
+    /// Nothing is live. A constraint of the formula that comes under its number will not be copied.
+    pub fn make(alloc: Global, formula: &'f Formula) -> IndexedClauses<'f>
         ensures { result ≡ no_tables }
     {
         IndexedClauses {
-            live: Live::make(alloc),
+            live: Live::beside(alloc, formula),
             engine: None,
             recent: Recent::make(alloc),
             assumed: LiteralSet::new(alloc),
@@ -105,8 +105,8 @@ impl IndexedClauses {
         Ok(())
     }
 
-    /// Puts a constraint of this kind with a copy of these literals under this id, in the place of what is live under it.
-    /// Without memory no table changes.
+    /// Puts a constraint of this kind with these literals under this id, in the place of what is live under it. They are copied
+    /// but where it is the formula's constraint of this number. Without memory no table changes.
     pub fn add_copy(
         &mut self,
         alloc: Global,

@@ -1,4 +1,5 @@
 use Rattle.std.proofs.Common.{ap, ◌∙◌, arith}
+use Rattle.std.proofs.lemmas.Result.{err_from_is_err_and}
 use Rattle.fratx_elab.specs.Names.{Naming, first_naming}
 use Rattle.fratx_elab.proofs.Turns.{kept_first, nothing_gained}
 use Rattle.fratx_elab.proofs.walk.elaborate.Goals as goal
@@ -15,5 +16,7 @@ take_all-requires-clause-kept g c =
     let parities = c.new-2.ensures ∙ ap first_naming c.count_kinds-counts.ensures.parities in
     kept_first _ _ _ c.args.formula.now c.args.ends.now _ c.make.ensures clauses parities
 
-pub returns-in-Err-clause-cut_off : goal.returns-in-Err-clause-cut_off
-returns-in-Err-clause-cut_off g c = nothing_gained c.args.formula.now (g.E.ElabEnds.steps c.args.ends.now)
+pub returns-in_err-originals-clause-cut_off : goal.returns-in_err-originals-clause-cut_off
+returns-in_err-originals-clause-cut_off g c =
+    let p = err_from_is_err_and c.from_residual.result c.from_residual.ensures.1 in
+    rw (p.1, p.2) (nothing_gained c.args.formula.now (g.E.ElabEnds.steps c.args.ends.now))
