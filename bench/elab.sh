@@ -1,7 +1,7 @@
 #!/usr/bin/env bash
 # Times `cxsat elab` on the logs that `cxsat solve` writes, and on logs of chains and pigeonholes with the hints in the log and
 # without them, and `cxsat check` on the proofs that it writes, each at a size and at twice its work or more. Without hints each added
-# clause is searched for. Half of a chain's log tells the formula, which its proof does not.
+# clause is searched for. Half of a chain's log tells the formula, which its proof does not, and most of a ladder's.
 # usage: bench/elab.sh [CHAIN [HOLES [HOLES_WITHOUT_HINTS]]]
 set -euo pipefail
 source "$(dirname "$0")/common.sh"
@@ -24,14 +24,15 @@ judge() {
     local what=$1 both elaborated checked
     both=$(least)
     read -r elaborated checked <<< "$both"
-    row 'elaborating a log' "$what: $(wc -l < "$work/log") steps, log $(megabytes "$work/log"), proof $(megabytes "$work/proof")" \
+    row 'elaborating a log' \
+        "$what: $(wc -l < "$work/log") steps, formula $(megabytes "$work/formula"), log $(megabytes "$work/log"), proof $(megabytes "$work/proof")" \
         "$elaborated s" "check of the proof: $checked s" "$(ratio "$elaborated" "$checked")"
 }
 
-# The log that `solve` writes of a refutation.
+# The log that `solve` writes of a refutation. With the form x the parities are x-lines.
 own() {
-    local what=$1 kind=$2 size=$3 seed=$4
-    awk -v kind="$kind" -v size="$size" -v seed="$seed" -f "$here/make_instance.awk" > "$work/formula"
+    local what=$1 kind=$2 size=$3 seed=$4 form=${5:-}
+    awk -v kind="$kind" -v size="$size" -v seed="$seed" -v form="$form" -f "$here/make_instance.awk" > "$work/formula"
     seconds "$program" solve "$work/formula" --proof "$work/log" --conflicts 1000000000 > "$work/taken" || true
     answered 's UNSATISFIABLE'
     judge "own log, $what $size, in $(cat "$work/taken") s"
@@ -49,8 +50,9 @@ own 'random 3-clauses, variables:' random 200 3
 own 'random 3-clauses, variables:' random 250 1
 own 'pigeonholes:' holes 8 1
 own 'parities and clauses, variables:' mixed 250 250
-own 'parities as clauses:' system 200 1
-own 'ladder as clauses, rungs:' ladder 100 1
+own 'parities as clauses:' system 1000 1
+own 'ladder as clauses, rungs:' ladder 10000 1
+own 'ladder, rungs:' ladder 10000 1 x
 chain=${1:-250000} holes=${2:-11} searched=${3:-7}
 measure 'implication chain' chain "$chain" 1
 measure 'implication chain' chain $((2 * chain)) 1
