@@ -3,7 +3,7 @@ ghost use Rattle.std.specs.Prelude.{◌≡◌, ◌≤◌, length, None, Some, tr
 ghost use Rattle.cx_base.specs.Counts.{Rose};
 ghost use Rattle.cxsat.specs.Real.{outside_of, StartsReal, PutsReal, Untold};
 
-use crate::spool::{SPOOL, Spool};
+use crate::spool::Spool;
 use cx_desk::{Desk, Failed, Port, Slot};
 use std::alloc::{AllocError, Global};
 use std::fs::{File, OpenOptions};
@@ -172,7 +172,7 @@ fn flush_proof(proof: &mut Option<File>, spool: &mut Spool) -> bool {
     }
 }
 
-/// A front of a piece of the proof waits in the spool, which is written when it has no room.
+/// A front of a piece of the proof waits in the spool, which is written when it is full.
 fn put_in(
     spool: &mut Spool,
     file: &mut File,
@@ -182,13 +182,11 @@ fn put_in(
     requires { 0 < length piece.now }
     ensures { PutsReal (length piece.now) faults.old result faults.new }
 {
-    let count = piece.len().min(SPOOL);
-    if !spool.make_room(file, count) {
+    if !spool.make_room(file) {
         count_fault(faults);
         return Err(Failed);
     }
-    spool.push(&piece[..count]);
-    Ok(count)
+    Ok(spool.push(piece))
 }
 
 /// Writes to a stream; a stream that takes nothing has failed.

@@ -1,5 +1,5 @@
 //! Bytes that wait to be written to a file.
-ghost use Rattle.std.specs.Prelude.{◌≡◌, ◌≤◌, ◌+◌, length, true};
+ghost use Rattle.std.specs.Prelude.{◌≡◌, ◌≤◌, ◌<◌, length, true};
 ghost use Rattle.cxsat.specs.declared.spool.TheConstants.{SPOOL};
 
 use std::alloc::{AllocError, Global};
@@ -26,24 +26,27 @@ impl Spool {
         Ok(Spool { bytes, len: 0 })
     }
 
-    /// Has room for so many bytes more, if need be where all that waits was written; false where the file took less.
-    pub fn make_room(&mut self, file: &mut File, count: usize) -> bool
-        requires { count ≤ SPOOL }
-        ensures { result ≡ true → self.new.len + count ≤ SPOOL }
+    /// Has room for a byte more at the least: where it is full, all that waits is written first; false where the file took less.
+    pub fn make_room(&mut self, file: &mut File) -> bool
+        ensures { result ≡ true → self.new.len < SPOOL }
     {
-        if count <= SPOOL - self.len {
+        if self.len < SPOOL {
             return true;
         }
         self.flush(file)
     }
 
-    /// A piece waits too.
-    pub fn push(&mut self, piece: &[u8])
-        requires { self.old.len + length piece.now ≤ SPOOL }
+    /// As much of the front of a piece as there is room for waits too; says how much. So what is written is the whole spool, which
+    /// the system takes page by page.
+    pub fn push(&mut self, piece: &[u8]) -> usize
+        ensures most { result ≤ length piece.now }
+        ensures some { 0 < length piece.now → self.old.len < SPOOL → 0 < result }
     {
-        let end = self.len + piece.len();
-        self.bytes[self.len..end].copy_from_slice(piece);
+        let count = piece.len().min(SPOOL - self.len);
+        let end = self.len + count;
+        self.bytes[self.len..end].copy_from_slice(&piece[..count]);
         self.len = end;
+        count
     }
 
     /// Writes all that waits; false where the file took less. Then what it left is dropped, so that no
