@@ -7,11 +7,14 @@ ghost use Rattle.proof_text.specs.Told.{steps_told, is_whole, fault_of, TornOn, 
 use crate::print::put_proof_step;
 use cx_base::ProofStep;
 use cx_desk::{Desk, Failed, Port};
+use step_text::pieces::LineSheet;
 use step_text::{Sink, SinkFault};
 
-/// Prints a step on the Proof port of a desk, unless an earlier one failed: then it writes nothing and answers `Memory`.
+/// Prints a step on the Proof port of a desk, unless an earlier one failed: then it writes nothing and answers `Memory`. The sheet
+/// is for its memory alone.
 #[inline(always)]
 pub fn put_step_unless_failed<D: Desk>(
+    sheet: &mut LineSheet,
     desk: &mut D,
     failed: &mut bool,
     step: &ProofStep,
@@ -29,7 +32,7 @@ pub fn put_step_unless_failed<D: Desk>(
     if *failed {
         return Err(SinkFault::Memory);
     }
-    match put_proof_step(desk, Port::Proof, step) {
+    match put_proof_step(sheet, desk, Port::Proof, step) {
         Ok(()) => Ok(()),
         Err(Failed) => {
             *failed = true;
@@ -45,6 +48,8 @@ pub fn put_step_unless_failed<D: Desk>(
 #[derive(Drop)]
 pub struct DeskProof<'a, D: Desk> {
     desk: &'a mut D,
+    /// For its memory alone.
+    sheet: LineSheet,
     failed: bool,
     // between two steps no line is begun
     ghost whole: { failed ≡ false → is_whole (D.outside desk.now).told ≡ true },
@@ -60,6 +65,7 @@ impl<'a, D: Desk> DeskProof<'a, D> {
     {
         DeskProof {
             desk,
+            sheet: LineSheet::new(),
             failed: false,
         }
     }
@@ -84,7 +90,7 @@ impl<D: Desk> Sink for DeskProof<'_, D> {
     ghost keeps = { λ a b. (b.desk.ghost_name ≡ a.desk.ghost_name) × Goes a.failed (D.outside a.desk.now) b.failed (D.outside b.desk.now) };
 
     fn put(&mut self, step: &ProofStep) -> Result<(), SinkFault> {
-        put_step_unless_failed(self.desk, &mut self.failed, step)
+        put_step_unless_failed(&mut self.sheet, self.desk, &mut self.failed, step)
     }
 
     ghost keeps_itself = { λ a. (refl, goes_itself a.failed (D.outside a.desk.now)) };

@@ -7,10 +7,11 @@ ghost use Rattle.cx_texts.specs.Printed.{printed_line, HasProofText};
 
 use cx_base::ProofStep;
 use cx_desk::{Desk, Failed, Port, put_all};
-use step_text::pieces::{self, put_deletion, put_id, put_ids, put_line};
+use step_text::pieces::{self, LineSheet, put_deletion, put_id, put_ids, put_line};
 
 /// An id, literals and hints behind a text, as the end of a line.
 fn put_hinted<D: Desk>(
+    sheet: &mut LineSheet,
     desk: &mut D,
     port: Port,
     before: &[u8],
@@ -20,7 +21,7 @@ fn put_hinted<D: Desk>(
 ) -> Result<(), Failed>
     ensures { PutsAll port (before.now ++ printed_line (flat_map spelled (id name ∷ integers literals.now ∷ integers hints.now ∷ []))) (D.outside desk.old) result (D.outside desk.new) }
 {
-    put_line(desk, port, before, name, literals, hints)
+    put_line(sheet, desk, port, before, name, literals, hints)
 }
 
 /// A deletion of clauses.
@@ -50,23 +51,37 @@ fn put_parity_deletion<D: Desk>(desk: &mut D, port: Port, names: &[u64]) -> Resu
     put_ids(desk, port, names)
 }
 
-/// Writes the line of a step: its words parted by one space, and a line feed.
+/// Writes the line of a step: its words parted by one space, and a line feed. The sheet is for its memory alone.
 ///
 /// It fails only where the desk counted a fault of the port; then the port gained a front of the line.
 #[inline(always)]
-pub fn put_proof_step<D: Desk>(desk: &mut D, port: Port, step: &ProofStep) -> Result<(), Failed>
+pub fn put_proof_step<D: Desk>(
+    sheet: &mut LineSheet,
+    desk: &mut D,
+    port: Port,
+    step: &ProofStep,
+) -> Result<(), Failed>
     requires { HasProofText step.now }
     ensures { PutsAll port (printed_line (spelling proof_steps step.now)) (D.outside desk.old) result (D.outside desk.new) }
 {
     match step {
         ProofStep::Clause(id, literals, hints) => {
-            put_hinted(desk, port, b"", *id, literals.as_slice(), hints.as_slice())
+            put_hinted(
+                sheet,
+                desk,
+                port,
+                b"",
+                *id,
+                literals.as_slice(),
+                hints.as_slice(),
+            )
         }
         ProofStep::DeleteClauses(id, names) => {
             put_clause_deletion(desk, port, *id, names.as_slice())
         }
         ProofStep::Parity(id, literals, hints) => {
             put_hinted(
+                sheet,
                 desk,
                 port,
                 b"x ",
@@ -77,10 +92,11 @@ pub fn put_proof_step<D: Desk>(desk: &mut D, port: Port, step: &ProofStep) -> Re
         }
         ProofStep::DeleteParities(names) => put_parity_deletion(desk, port, names.as_slice()),
         ProofStep::ClauseOfParity(id, literals, hint) => {
-            put_hinted(desk, port, b"i ", *id, literals.as_slice(), &[*hint])
+            put_hinted(sheet, desk, port, b"i ", *id, literals.as_slice(), &[*hint])
         }
         ProofStep::ParityOfClauses(id, literals, hints) => {
             put_hinted(
+                sheet,
                 desk,
                 port,
                 b"i x ",

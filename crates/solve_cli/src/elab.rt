@@ -17,6 +17,7 @@ use fratx_elab::{Elab, ElabFault, elaborate};
 use log_text::LogGrammar;
 use std::alloc::Global;
 use step_text::SlotReader;
+use step_text::pieces::LineSheet;
 
 /// Elaborates the log that a reader takes from a desk onto the Proof port of that desk.
 fn elaborate_on<D: Desk>(
@@ -36,6 +37,7 @@ fn elaborate_on<D: Desk>(
     let mut ends = ElabDesk {
         reader,
         desk,
+        sheet: LineSheet::new(),
         failed: false,
     };
     elaborate(alloc, formula, &mut ends)

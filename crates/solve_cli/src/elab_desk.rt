@@ -8,6 +8,7 @@ use cx_desk::Desk;
 use fratx_elab::ElabEnds;
 use log_text::LogGrammar;
 use proof_text::put_step_unless_failed;
+use step_text::pieces::LineSheet;
 use step_text::{SinkFault, SlotReader, TextRefusal};
 
 /// The elaborator's two ends on one lent desk: the steps that a lent reader takes from it, and the Proof port.
@@ -20,6 +21,8 @@ pub(crate) struct ElabDesk<'r, 'd, D: Desk> {
     pub reader: &'r mut SlotReader<LogGrammar>,
     /// The desk that has the slot and the port.
     pub desk: &'d mut D,
+    /// For its memory alone.
+    pub sheet: LineSheet,
     /// Whether a write failed.
     pub failed: bool,
     // the slot was started
@@ -73,7 +76,7 @@ impl<D: Desk> ElabEnds for ElabDesk<'_, '_, D> {
     }
 
     fn step(&mut self, step: &ProofStep) -> Result<(), SinkFault> {
-        put_step_unless_failed(self.desk, &mut self.failed, step)
+        put_step_unless_failed(&mut self.sheet, self.desk, &mut self.failed, step)
     }
 
     ghost leaves_some = { λ e. slot_is_left log_steps log_forms e.reader.now (D.outside e.desk.now) };

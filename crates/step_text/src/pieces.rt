@@ -121,20 +121,29 @@ pub fn put_head<D: Desk>(
     put_integers(desk, port, literals, after)
 }
 
-/// The most integers of a short line.
-const FEW: usize = 32;
-
-/// Room for a short line.
-const FEW_ROOM: usize = FEW * LONGEST + FRAME;
-
 /// The most integers of a line that is laid out whole.
 const MANY: usize = 96;
 
-/// Room for any line that is laid out whole.
-const MANY_ROOM: usize = MANY * LONGEST + FRAME;
+/// Room for a line that is laid out whole.
+const SHEET: usize = MANY * LONGEST + FRAME;
 
-/// An id behind a text and two lists, as a whole line, in one piece that is laid out on a sheet of this size.
-fn put_whole_line<const ROOM: usize, D: Desk>(
+/// A sheet that lines are laid out on, one after another. What stands on it plays no part: a line is laid out over the one
+/// before, so that no room is cleared for it.
+#[derive(Drop)]
+pub struct LineSheet {
+    bytes: [u8; SHEET],
+}
+
+impl LineSheet {
+    /// A sheet for lines to come.
+    pub fn new() -> LineSheet {
+        LineSheet { bytes: [0; SHEET] }
+    }
+}
+
+/// An id behind a text and two lists of few integers together, as a whole line, in one piece.
+fn put_whole_line<D: Desk>(
+    sheet: &mut LineSheet,
     desk: &mut D,
     port: Port,
     before: &[u8],
@@ -142,12 +151,10 @@ fn put_whole_line<const ROOM: usize, D: Desk>(
     literals: &[i64],
     hints: &[i64],
 ) -> Result<(), Failed>
-    requires room { (length literals.now + length hints.now) * LONGEST + FRAME ≤ ROOM }
-    requires small { ROOM ≤ MANY_ROOM }
+    requires few { length literals.now + length hints.now ≤ MANY }
     ensures { PutsAll port (before.now ++ (decimal name ++ (spaced (spelled (integers literals.now)) ++ (spaced (spelled (integers hints.now)) ++ 10 ∷ [])))) (D.outside desk.old) result (D.outside desk.new) }
 {
-    let mut room = [0; ROOM];
-    let sheet = &mut room[..];
+    let sheet = &mut sheet.bytes[..];
     let begin = lay_out_line(name, literals, hints, sheet);
     put_all(desk, port, before)?;
     put_all(desk, port, &sheet[begin..])
@@ -155,6 +162,7 @@ fn put_whole_line<const ROOM: usize, D: Desk>(
 
 /// An id behind a text and two lists, each with the zero that ends it, as a whole line.
 pub fn put_line<D: Desk>(
+    sheet: &mut LineSheet,
     desk: &mut D,
     port: Port,
     before: &[u8],
@@ -164,12 +172,8 @@ pub fn put_line<D: Desk>(
 ) -> Result<(), Failed>
     ensures { PutsAll port (before.now ++ (decimal name ++ (spaced (spelled (integers literals.now)) ++ (spaced (spelled (integers hints.now)) ++ 10 ∷ [])))) (D.outside desk.old) result (D.outside desk.new) }
 {
-    let count = literals.len().saturating_add(hints.len());
-    if count <= FEW {
-        return put_whole_line::<FEW_ROOM, D>(desk, port, before, name, literals, hints);
-    }
-    if count <= MANY {
-        return put_whole_line::<MANY_ROOM, D>(desk, port, before, name, literals, hints);
+    if literals.len().saturating_add(hints.len()) <= MANY {
+        return put_whole_line(sheet, desk, port, before, name, literals, hints);
     }
     put_head(desk, port, before, name, literals, b"")?;
     put_integers(desk, port, hints, b"\n")

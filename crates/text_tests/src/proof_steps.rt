@@ -10,6 +10,7 @@ use cx_desk::{Desk, Failed, MemDesk, Port, Rooms};
 use proof_text::{DeskProof, ListProof, ProofStep, ProofText, put_proof_step};
 use std::alloc::{AllocError, Global};
 use std::test::Fail;
+use step_text::pieces::LineSheet;
 use step_text::{Sink, SinkFault, StepSource, TextRefusal};
 
 /// The texts of proofs.
@@ -19,7 +20,7 @@ struct Proofs;
 fn print(desk: &mut MemDesk, step: ProofStep) -> Result<(), Failed>
     requires { HasProofText step }
 {
-    put_proof_step(desk, Port::Proof, &step)
+    put_proof_step(&mut LineSheet::new(), desk, Port::Proof, &step)
 }
 
 /// Prints at most sixteen steps. The refusal that they end with.

@@ -1,4 +1,4 @@
-use Rattle.std.proofs.Common.{◌≡◌, ◌∙◌, ap, ◌-◌, ◌≤◌, get_or, drop, arith}
+use Rattle.std.proofs.Common.{◌∙◌, ap, ◌-◌, get_or, drop, arith}
 use Rattle.std.proofs.lemmas.Fmt.{length-decimal-le}
 use Rattle.step_text.proofs.DigitLaws.{few_laid}
 use Rattle.step_text.proofs.digits.lay_out_few.Goals as goal

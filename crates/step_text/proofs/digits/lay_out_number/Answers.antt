@@ -1,4 +1,4 @@
-use Rattle.std.proofs.Common.{◌≡◌, ◌∙◌, sym, ap, ◌++◌, ◌+◌, ◌-◌, ◌/◌, ◌%◌, decimal, length, drop, arith, rules, append_assoc}
+use Rattle.std.proofs.Common.{◌∙◌, sym, ap, ◌++◌, ◌/◌, ◌%◌, decimal, drop, arith, rules, append_assoc}
 use Rattle.std.proofs.lemmas.Fmt.{length-decimal-le}
 use Rattle.step_text.specs.Spaced.{three_digits}
 use Rattle.step_text.proofs.DigitLaws.{last_three, three_more}

@@ -1,4 +1,4 @@
-use Rattle.std.proofs.Common.{◌≡◌, ◌≤◌, ◌<◌, ◌∙◌, refl, sym, ap, ℤ, pos, negsuc, nat_abs, decimal, length, ◌∷◌, ◌++◌, ◌+◌, ◌-◌, arith, drop, to_z-of_z, int_lt, true, false, true≢false}
+use Rattle.std.proofs.Common.{◌≡◌, ◌<◌, refl, ap, ℤ, pos, negsuc, nat_abs, decimal, ◌∷◌, ◌++◌, ◌+◌, ◌-◌, arith, drop, to_z-of_z, int_lt, true, false, true≢false}
 use Rattle.std.proofs.lemmas.Bool.{ltb-true}
 use Rattle.std.proofs.lemmas.Fmt.{length-decimal-le}
 use Rattle.std.proofs.lemmas.List.{drop-set, drop-set-lt}

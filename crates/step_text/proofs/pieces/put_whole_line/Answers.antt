@@ -1,11 +1,8 @@
-use Rattle.std.proofs.Common.{◌≡◌, ◌∙◌, sym, ap, ◌++◌, ◌-◌, take, drop, length, arith}
+use Rattle.std.proofs.Common.{◌≡◌, ◌∙◌, sym, ap, ◌++◌, ◌-◌, take, drop, length}
 use Rattle.std.proofs.lemmas.List.{length-drop}
 use Rattle.std.proofs.Math.Seq.{take-length}
 use Rattle.step_text.proofs.Puts.{two_puts}
 use Rattle.step_text.proofs.pieces.put_whole_line.Goals as goal
-
-pub whole_as_slice-sheet : goal.whole_as_slice-sheet
-whole_as_slice-sheet g c = let small = c.requires.small in omega arith
 
 pub returns : goal.returns
 returns g c =
