@@ -17,7 +17,7 @@ use Rattle.proof_rules.proofs.ContentLaws.{clause_content_once, parity_content_o
 use Rattle.fratx_elab.specs.Elaborates.{IsLeast, IsClauseNumber, IsParityNumber}
 use Rattle.fratx_elab.specs.declared.content_index.Entry.{Entry}
 use Rattle.fratx_elab.specs.declared.originals.Originals.{Originals}
-use Rattle.fratx_elab.specs.Contents.{key_of, IsLeastOf, IsNowhere, AreKeyed, AreNumbered, Say, SayFirst, StandsFor}
+use Rattle.fratx_elab.specs.Contents.{IsLeastOf, IsNowhere, AreNumbered, Say, SayFirst, StandsFor}
 use Rattle.fratx_elab.proofs.Numbers.{none_pass, none_any}
 
 -- ---- one more entry
@@ -28,14 +28,6 @@ numbered_more entries e own before i d lt = elim (cases_lt i (length entries)) [
   | inr later ↦
       let here : length entries ≡ i = omega (arith, length-append entries (e ∷ [])) in
       ap (λ (x : Entry). x.number) (get_or_push entries e d i here) ∙ own ∙ ap (λ k. k + 1) here
-]
-
-pub keyed_more : (entries : List Entry) (e : Entry) → e.key ≡ key_of e.content.items → AreKeyed entries → AreKeyed (entries ++ e ∷ [])
-keyed_more entries e own before i d lt = elim (cases_lt i (length entries)) [
-  | inl earlier ↦ subst (λ (x : Entry). x.key ≡ key_of x.content.items) (sym (get_or_append_left entries (e ∷ []) d i earlier)) (before i d earlier)
-  | inr later ↦
-      let here : length entries ≡ i = omega (arith, length-append entries (e ∷ [])) in
-      subst (λ (x : Entry). x.key ≡ key_of x.content.items) (sym (get_or_push entries e d i here)) own
 ]
 
 pub say_more : (Has : List Literal → List ℕ → Type 0) (lists : List (List Literal)) (entries : List Entry) (e : Entry) (lits : List Literal) → slice_get lists (length entries) ≡ Some lits → Has lits e.content.items

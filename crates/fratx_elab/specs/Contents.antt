@@ -1,6 +1,6 @@
 -- Numbers of constraints by what these say.
-use Rattle.std.specs.Prelude.{◌≡◌, ◌<◌, ◌≤◌, ◌+◌, ◌-◌, ◌*◌, ℕ, List, length, get_or, slice_get, Some}
-use Rattle.std.specs.List.{Contains}
+use Rattle.std.specs.Prelude.{◌≡◌, ◌<◌, ◌≤◌, ◌+◌, ◌-◌, ℕ, List, length, get_or, slice_get, Some}
+use Rattle.std.specs.List.{All, Contains}
 use Rattle.std.specs.List.Sorted.{IsPermutation, IsSorted}
 use Rattle.std.specs.Ordering.{nat_cmp, ordering_then}
 use Rattle.std.specs.declared.cmp.Ordering.{Ordering}
@@ -12,13 +12,16 @@ use Rattle.fratx_elab.specs.declared.content_index.Entry.{Entry}
 use Rattle.fratx_elab.specs.declared.content_index.ContentIndex.{ContentIndex}
 use Rattle.fratx_elab.specs.declared.originals.Originals.{Originals}
 
--- the first two numbers of a content as one
-abbrev pub key_of : List ℕ → ℕ
-key_of content = get_or content 0 0 * 4294967296 + get_or content 1 0
+-- it has the first two numbers of its content, zeros where this has fewer
+pub record HasFront (e : Entry) : Type 0 where
+  pub first : e.first ≡ get_or e.content.items 0 0
+  pub second : e.second ≡ get_or e.content.items 1 0
 
--- by what is said, of which the key is the front, and then by the number
+-- by the first two numbers, by all that is said, and then by the number
 abbrev pub by_content : Entry → Entry → Ordering
-by_content x y = ordering_then (nat_cmp x.key y.key) (ordering_then (slice_cmp nat_cmp x.content.items y.content.items) (nat_cmp x.number y.number))
+by_content x y =
+    ordering_then (nat_cmp x.first y.first) (ordering_then (nat_cmp x.second y.second)
+    (ordering_then (slice_cmp nat_cmp x.content.items y.content.items) (nat_cmp x.number y.number)))
 
 -- of the entries, the one of this number says this, and none of a lower number does
 pub record IsLeastOf (entries : List Entry) (content : List ℕ) (number : ℕ) : Type 0 where
@@ -43,10 +46,6 @@ NumbersWithin bound entries = (i : ℕ) (d : Entry) → i < length entries → (
 abbrev pub EachOnce : List Entry → Type 0
 EachOnce entries = (i j : ℕ) (d : Entry) → i < length entries → j < length entries → (get_or entries i d).number ≡ (get_or entries j d).number → get_or entries i d ≡ get_or entries j d
 
--- each key is that of the content
-abbrev pub AreKeyed : List Entry → Type 0
-AreKeyed entries = (i : ℕ) (d : Entry) → i < length entries → (get_or entries i d).key ≡ key_of (get_or entries i d).content.items
-
 -- the numbers are 1, 2, ..
 abbrev pub AreNumbered : List Entry → Type 0
 AreNumbered entries = (i : ℕ) (d : Entry) → i < length entries → (get_or entries i d).number ≡ i + 1
@@ -70,7 +69,7 @@ pub record Say (HasContent : List Literal → List ℕ → Type 0) (lists : List
 -- an index of the lists by what they say
 pub record IsIndexOf (HasContent : List Literal → List ℕ → Type 0) (lists : List (List Literal)) (index : ContentIndex) : Type 0 where
   pub entries : List Entry
-  pub keyed : AreKeyed entries
+  pub fronts : All HasFront entries
   pub numbered : AreNumbered entries
   pub say : Say HasContent lists entries
   pub orders : Orders entries index

@@ -1,7 +1,8 @@
 //! Constraints of the formula in the order of what they say.
 ghost use Rattle.std.specs.Prelude.{◌≡◌, ◌<◌, ◌≤◌, ◌-◌, get_or, length, IfOk, MatchOption, List};
+ghost use Rattle.std.specs.List.{All};
 ghost use Rattle.std.specs.List.Sorted.{IsSorted};
-ghost use Rattle.fratx_elab.specs.Contents.{key_of, by_content, IsLeastOf, LeastBefore, NumbersWithin, EachOnce, AreKeyed, AreNumbered, IsNowhere, Orders};
+ghost use Rattle.fratx_elab.specs.Contents.{HasFront, by_content, IsLeastOf, LeastBefore, NumbersWithin, EachOnce, AreNumbered, IsNowhere, Orders};
 
 use crate::naming::ProofId;
 use smallvec::SmallVec;
@@ -13,8 +14,9 @@ pub(crate) type Content = SmallVec<u32, 6>;
 /// A constraint of the formula: what it says, and its number among those of its kind.
 #[derive(PartialEq, Eq, PartialOrd, Ord, Drop)]
 pub(crate) struct Entry {
-    /// The first two numbers of the content as one, which mostly decides a comparison.
-    pub key: u64,
+    /// The first two numbers of the content, zeros where it has fewer, which mostly decide a comparison.
+    pub first: u32,
+    pub second: u32,
     pub content: Content,
     pub number: ProofId,
 }
@@ -22,7 +24,8 @@ pub(crate) struct Entry {
 impl Entry {
     /// The entry of a constraint.
     pub(crate) fn new(content: Content, number: ProofId) -> Entry
-        ensures key { result.key ≡ key_of content.items }
+        ensures first { result.first ≡ get_or content.items 0 0 }
+        ensures second { result.second ≡ get_or content.items 1 0 }
         ensures content { result.content ≡ content }
         ensures number { result.number ≡ number }
     {
@@ -30,7 +33,8 @@ impl Entry {
         let first = *numbers.first().unwrap_or(&0);
         let second = *numbers.get(1).unwrap_or(&0);
         Entry {
-            key: u64::from(first) * (1 << 32) + u64::from(second),
+            first,
+            second,
             content,
             number,
         }
@@ -49,7 +53,7 @@ pub(crate) struct ContentIndex {
 /// The least number of an entry that says what the one at this place says, where that of those before is known.
 fn first_at(entries: &[Entry], firsts: &[ProofId], place: usize) -> ProofId
     requires here { place < length entries.now }
-    requires keyed { AreKeyed entries.now }
+    requires fronts { All HasFront entries.now }
     requires sorted { IsSorted by_content entries.now }
     requires within { NumbersWithin (length firsts.now) entries.now }
     requires known { LeastBefore place entries.now firsts.now }
@@ -64,7 +68,7 @@ fn first_at(entries: &[Entry], firsts: &[ProofId], place: usize) -> ProofId
 
 /// For each number, the least number of an entry that says what the one of this number says.
 fn firsts_of(alloc: Global, entries: &[Entry]) -> Result<Vec<ProofId>, AllocError>
-    requires keyed { AreKeyed entries.now }
+    requires fronts { All HasFront entries.now }
     requires sorted { IsSorted by_content entries.now }
     requires within { NumbersWithin (length entries.now) entries.now }
     requires once { EachOnce entries.now }
@@ -82,7 +86,7 @@ fn firsts_of(alloc: Global, entries: &[Entry]) -> Result<Vec<ProofId>, AllocErro
 impl ContentIndex {
     /// The index of these entries, which stand in the order of their numbers.
     pub fn of(alloc: Global, mut entries: Vec<Entry>) -> Result<ContentIndex, AllocError>
-        requires keyed { AreKeyed entries.items }
+        requires fronts { All HasFront entries.items }
         requires numbered { AreNumbered entries.items }
         ensures { IfOk result (Orders entries.items) }
     {
@@ -102,7 +106,7 @@ impl ContentIndex {
 
     /// The least number of a constraint that says this; none where no one does.
     pub fn find(&self, content: Content) -> Option<ProofId>
-        ensures { (entries : List Entry) → AreKeyed entries → AreNumbered entries → Orders entries self.now → MatchOption result (IsNowhere entries content.items) (IsLeastOf entries content.items) }
+        ensures { (entries : List Entry) → All HasFront entries → AreNumbered entries → Orders entries self.now → MatchOption result (IsNowhere entries content.items) (IsLeastOf entries content.items) }
     {
         // Nothing that says this stands before it.
         let least = Entry::new(content, ProofId::new(1));

@@ -1,9 +1,10 @@
 //! The constraints of the formula by their content.
 ghost use Rattle.std.specs.Prelude.{◌≡◌, ◌≤◌, ◌<◌, ◌+◌, ◌-◌, ◌^◌, length, IfOk, IfSome, MatchOption, IsFalse, Some, true, slice_get};
+ghost use Rattle.std.specs.List.{All};
 ghost use Rattle.cx_base.specs.Problem.{clauses_of, parities_of};
 ghost use Rattle.cx_semantics.specs.LogRules.{is_original, IsOriginalParity};
 ghost use Rattle.fratx_elab.specs.Elaborates.{IsClauseNumber, IsParityNumber, number_of_clauses, number_of_parities};
-ghost use Rattle.fratx_elab.specs.Contents.{AreKeyed, AreNumbered, Say, StandsFor};
+ghost use Rattle.fratx_elab.specs.Contents.{HasFront, AreNumbered, Say, StandsFor};
 ghost use Rattle.proof_rules.specs.Contents.{IsClauseContent, IsParityContent};
 ghost use Rattle.fratx_elab.specs.declared.naming.TheConstants.{MAX_ID};
 
@@ -44,7 +45,7 @@ pub struct Originals {
 /// The formula's clauses in order, each by what it says.
 fn clause_entries(alloc: Global, formula: &Formula) -> Result<Vec<Entry>, AllocError>
     requires { length formula.now.constraints < MAX_ID }
-    ensures keyed { IfOk result (λ entries. AreKeyed entries.items) }
+    ensures fronts { IfOk result (λ entries. All HasFront entries.items) }
     ensures numbered { IfOk result (λ entries. AreNumbered entries.items) }
     ensures say { IfOk result (λ entries. Say IsClauseContent (clauses_of formula.now.constraints) entries.items) }
 {
@@ -62,7 +63,7 @@ fn clause_entries(alloc: Global, formula: &Formula) -> Result<Vec<Entry>, AllocE
 /// The formula's parities in order, each by what it says.
 fn parity_entries(alloc: Global, formula: &Formula) -> Result<Vec<Entry>, AllocError>
     requires { length formula.now.constraints < MAX_ID }
-    ensures keyed { IfOk result (λ entries. AreKeyed entries.items) }
+    ensures fronts { IfOk result (λ entries. All HasFront entries.items) }
     ensures numbered { IfOk result (λ entries. AreNumbered entries.items) }
     ensures say { IfOk result (λ entries. Say IsParityContent (parities_of formula.now.constraints) entries.items) }
 {

@@ -34,7 +34,7 @@ returns-else-place-gt0 c = λ d.
     let within = c.requires.here in
     let read : get_or entries place d ≡ get_or entries place c.index-entries-place-else-place-gt0.result = get_or_default entries place d c.index-entries-place-else-place-gt0.result within in
     subst (λ (e : Entry). IsLeastOf entries (get_or entries place d).content.items e.number) read
-    (least_new entries c.requires.keyed c.requires.sorted place d within (λ some same. elim c.else-place-gt0.branch [
+    (least_new entries c.requires.fronts c.requires.sorted place d within (λ some same. elim c.else-place-gt0.branch [
       | else-place-gt0-via-then-place-gt0+else-eq w ↦
           other_items _ _ (sym w.eq.ensures ∙ w.if-eq.false)
           (ap (λ (e : Entry). e.content.items) (get_or_default entries (place - 1) w.index-entries-place.result d (omega (arith, within)))

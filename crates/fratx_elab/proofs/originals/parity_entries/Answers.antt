@@ -1,10 +1,12 @@
 use Rattle.std.proofs.Common.{◌≡◌, ◌+◌, ◌-◌, ◌++◌, ◌∷◌, [], ◌∙◌, sym, ap, subst, List, length, length-append, Some, slice_get, arith, ℕ}
+use Rattle.std.specs.List.{All}
+use Rattle.std.proofs.lemmas.List.Elements.{All-push}
 use Rattle.smallvec.specs.SmallVec.{SmallVec}
 use Rattle.cx_base.specs.Problem.{parities_of}
 use Rattle.proof_rules.specs.Contents.{IsParityContent}
 use Rattle.fratx_elab.specs.declared.content_index.Entry.{Entry}
-use Rattle.fratx_elab.specs.Contents.{key_of, AreKeyed, AreNumbered, SayFirst}
-use Rattle.fratx_elab.proofs.ContentIndex.{keyed_more, numbered_more, say_more}
+use Rattle.fratx_elab.specs.Contents.{HasFront, AreNumbered, SayFirst}
+use Rattle.fratx_elab.proofs.ContentIndex.{numbered_more, say_more}
 use Rattle.fratx_elab.proofs.originals.parity_entries.Goals as goal
 
 pub loop-index-preserved : goal.loop-index-preserved
@@ -14,7 +16,7 @@ loop-index-preserved c =
     let lits = c.parity.result.now in
     let e = c.new.result in
     let content = ap (λ (content : SmallVec ℕ). content.items) c.new.ensures.content in
-    let own_key = c.new.ensures.key ∙ ap key_of (sym content) in
+    let front : HasFront e = record { first = cc; second = cc } in
     let before = c.loop-index.invariant in
     let count = before.count in
     let more : c.push.new.self.items ≡ entries ++ e ∷ [] = c.in_ok-push.ensures.items in
@@ -24,7 +26,7 @@ loop-index-preserved c =
     let says : IsParityContent lits e.content.items = subst (IsParityContent lits) (sym (content ∙ c.in_ok-content.ensures.ok ∙ c.deref.ensures.value)) c.in_ok-fill_parity_content.ensures in
     record {
       count = ap (λ (es : List Entry). length es) more ∙ length-append entries (e ∷ []) ∙ ap (λ k. k + 1) count;
-      keyed = subst AreKeyed (sym more) (keyed_more entries e own_key before.keyed);
+      fronts = subst (All HasFront) (sym more) (All-push HasFront entries e before.fronts front);
       numbered = subst AreNumbered (sym more) (numbered_more entries e own before.numbered);
       say = subst (SayFirst IsParityContent lists) (sym more) (say_more IsParityContent lists entries e lits at says before.say);
     }

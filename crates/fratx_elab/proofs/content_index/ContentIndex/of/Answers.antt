@@ -1,14 +1,15 @@
 use Rattle.std.proofs.Common.{◌≡◌, ◌∙◌, sym, ap, subst, ◌<◌, ◌-◌, List, get_or, length, arith}
+use Rattle.std.specs.List.{All}
 use Rattle.std.proofs.lemmas.List.Elements.{Contains-get_or}
-use Rattle.std.proofs.lemmas.List.Sorted.{Contains-permutation, length_permutation}
+use Rattle.std.proofs.lemmas.List.Sorted.{All-permutation, Contains-permutation, length_permutation}
 use Rattle.fratx_elab.specs.declared.content_index.Entry.{Entry}
-use Rattle.fratx_elab.specs.Contents.{NumbersWithin, EachOnce, AreKeyed, IsLeastOf}
-use Rattle.fratx_elab.proofs.EntryOrder.{numbers_moved, keyed_moved, once_moved, least_moved}
+use Rattle.fratx_elab.specs.Contents.{NumbersWithin, EachOnce, HasFront, IsLeastOf}
+use Rattle.fratx_elab.proofs.EntryOrder.{numbers_moved, once_moved, least_moved}
 use Rattle.fratx_elab.proofs.content_index.ContentIndex.of.Goals as goal
 
-pub firsts_of-requires-clause-keyed : goal.firsts_of-requires-clause-keyed
-firsts_of-requires-clause-keyed c =
-    subst AreKeyed (sym c.deref.ensures.value) (keyed_moved c.args.entries.items c.sort_unstable.new.self.items c.requires.numbered c.sort_unstable.ensures.permutation c.requires.keyed)
+pub firsts_of-requires-clause-fronts : goal.firsts_of-requires-clause-fronts
+firsts_of-requires-clause-fronts c =
+    subst (All HasFront) (sym c.deref.ensures.value) (All-permutation HasFront c.args.entries.items c.sort_unstable.new.self.items c.sort_unstable.ensures.permutation c.requires.fronts)
 
 pub firsts_of-requires-clause-within : goal.firsts_of-requires-clause-within
 firsts_of-requires-clause-within c =

@@ -12,4 +12,4 @@ returns-then-is_clause c =
 pub returns : goal.returns
 returns c =
     let has = subst (IsClauseContent c.args.lits.now) (sym c.from_vec.ensures.items) c.in_ok-fill_clause_content.ensures in
-    clause_looked_up c.args.self.now c.args.formula.now c.requires c.args.lits.now c.from_vec.result.items c.find.result has (c.find.ensures c.requires.clauses.entries c.requires.clauses.keyed c.requires.clauses.numbered c.requires.clauses.orders)
+    clause_looked_up c.args.self.now c.args.formula.now c.requires c.args.lits.now c.from_vec.result.items c.find.result has (c.find.ensures c.requires.clauses.entries c.requires.clauses.fronts c.requires.clauses.numbered c.requires.clauses.orders)

@@ -12,4 +12,4 @@ returns-then-is_parity c =
 pub returns : goal.returns
 returns c =
     let has = subst (IsParityContent c.args.lits.now) (sym c.from_vec.ensures.items) c.in_ok-fill_parity_content.ensures in
-    parity_looked_up c.args.self.now c.args.formula.now c.requires c.args.lits.now c.from_vec.result.items c.find.result has (c.find.ensures c.requires.parities.entries c.requires.parities.keyed c.requires.parities.numbered c.requires.parities.orders)
+    parity_looked_up c.args.self.now c.args.formula.now c.requires c.args.lits.now c.from_vec.result.items c.find.result has (c.find.ensures c.requires.parities.entries c.requires.parities.fronts c.requires.parities.numbered c.requires.parities.orders)
