@@ -96,12 +96,11 @@ impl ContentIndex {
     }
 
     /// The least number of a constraint that says what the one of this number says.
-    pub fn first(&self, number: u64) -> ProofId
-        requires low { 1 ≤ number }
-        requires high { number ≤ length self.now.firsts.items }
+    pub fn first(&self, number: ProofId) -> ProofId
+        requires { number ≤ length self.now.firsts.items }
         ensures { result ≡ get_or self.now.firsts.items (number - 1) 0 }
     {
-        self.firsts[number as usize - 1]
+        self.firsts[number.index()]
     }
 
     /// The least number of a constraint that says this; none where no one does.

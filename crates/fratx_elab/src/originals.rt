@@ -1,5 +1,5 @@
 //! The constraints of the formula by their content.
-ghost use Rattle.std.specs.Prelude.{◌≡◌, ◌≤◌, ◌<◌, ◌+◌, ◌-◌, ◌^◌, length, IfOk, IfSome, MatchOption, IsFalse, Some, true, slice_get};
+ghost use Rattle.std.specs.Prelude.{◌≡◌, ◌≤◌, ◌<◌, ◌+◌, ◌-◌, ◌^◌, length, IfOk, IfSome, MatchOption, IsFalse, Some, slice_get};
 ghost use Rattle.std.specs.List.{All};
 ghost use Rattle.cx_base.specs.Problem.{clauses_of, parities_of};
 ghost use Rattle.cx_semantics.specs.LogRules.{is_original, IsOriginalParity};
@@ -78,26 +78,30 @@ fn parity_entries(alloc: Global, formula: &Formula) -> Result<Vec<Entry>, AllocE
     Ok(entries)
 }
 
-/// Whether the clause of this number has these literals in this order.
-fn is_clause(formula: &Formula, number: u64, lits: &[Lit]) -> bool
-    ensures low { result ≡ true → 1 ≤ number }
-    ensures high { result ≡ true → number ≤ number_of_clauses formula.now }
-    ensures same { result ≡ true → slice_get (clauses_of formula.now.constraints) (number - 1) ≡ Some lits.now }
+/// The number of the formula's clause under this id, where it has these literals in this order.
+fn clause_under(formula: &Formula, id: u64, lits: &[Lit]) -> Option<ProofId>
+    ensures number { IfSome result (λ number. number ≡ id) }
+    ensures within { IfSome result (λ number. number ≤ number_of_clauses formula.now) }
+    ensures same { IfSome result (λ number. slice_get (clauses_of formula.now.constraints) (number - 1) ≡ Some lits.now) }
 {
-    1 <= number
-        && number <= formula.clause_count() as u64
-        && formula.clause(number as usize) == lits
+    if 1 <= id && id <= count_kinds(formula).clauses && formula.clause(id as usize) == lits {
+        Some(ProofId::new(id))
+    } else {
+        None
+    }
 }
 
-/// Whether the parity of this number has these literals in this order.
-fn is_parity(formula: &Formula, number: u64, lits: &[Lit]) -> bool
-    ensures low { result ≡ true → 1 ≤ number }
-    ensures high { result ≡ true → number ≤ number_of_parities formula.now }
-    ensures same { result ≡ true → slice_get (parities_of formula.now.constraints) (number - 1) ≡ Some lits.now }
+/// The number of the formula's parity under this id, where it has these literals in this order.
+fn parity_under(formula: &Formula, id: u64, lits: &[Lit]) -> Option<ProofId>
+    ensures number { IfSome result (λ number. number ≡ id) }
+    ensures within { IfSome result (λ number. number ≤ number_of_parities formula.now) }
+    ensures same { IfSome result (λ number. slice_get (parities_of formula.now.constraints) (number - 1) ≡ Some lits.now) }
 {
-    1 <= number
-        && number <= formula.parity_count() as u64
-        && formula.parity(number as usize) == lits
+    if 1 <= id && id <= count_kinds(formula).parities && formula.parity(id as usize) == lits {
+        Some(ProofId::new(id))
+    } else {
+        None
+    }
 }
 
 impl Originals {
@@ -124,8 +128,8 @@ impl Originals {
         requires { StandsFor self.now formula.now }
         ensures { IfOk result (λ found. MatchOption found (IsFalse (is_original formula.now lits.now)) (IsClauseNumber formula.now lits.now)) }
     {
-        if is_clause(formula, near, lits) {
-            return Ok(Some(self.clauses.first(near)));
+        if let Some(number) = clause_under(formula, near, lits) {
+            return Ok(Some(self.clauses.first(number)));
         }
         let mut codes = Vec::new(alloc);
         fill_clause_content(&mut codes, lits)?;
@@ -145,8 +149,8 @@ impl Originals {
         requires { StandsFor self.now formula.now }
         ensures { IfOk result (λ found. MatchOption found (¬ IsOriginalParity formula.now lits.now) (IsParityNumber formula.now lits.now)) }
     {
-        if is_parity(formula, near, lits) {
-            return Ok(Some(self.parities.first(near)));
+        if let Some(number) = parity_under(formula, near, lits) {
+            return Ok(Some(self.parities.first(number)));
         }
         let mut numbers = Vec::new(alloc);
         fill_parity_content(&mut numbers, lits)?;

@@ -4,10 +4,10 @@ use Rattle.fratx_elab.specs.Elaborates.{IsClauseNumber}
 use Rattle.fratx_elab.proofs.ContentIndex.{clause_looked_up, clause_at}
 use Rattle.fratx_elab.proofs.originals.Originals.clause_number.Goals as goal
 
-pub returns-then-is_clause : goal.returns-then-is_clause
-returns-then-is_clause c =
+pub returns-in-Some : goal.returns-in-Some
+returns-in-Some c =
     subst (IsClauseNumber c.args.formula.now c.args.lits.now) (sym c.first.ensures)
-    (clause_at c.args.self.now c.args.formula.now c.requires c.args.lits.now (c.args.near - 1) (c.is_clause.ensures.same c.if-is_clause.true))
+    (clause_at c.args.self.now c.args.formula.now c.requires c.args.lits.now (c.in-Some.number - 1) c.in-Some.ensures.same)
 
 pub returns : goal.returns
 returns c =

@@ -4,10 +4,10 @@ use Rattle.fratx_elab.specs.Elaborates.{IsParityNumber}
 use Rattle.fratx_elab.proofs.ContentIndex.{parity_looked_up, parity_at}
 use Rattle.fratx_elab.proofs.originals.Originals.parity_number.Goals as goal
 
-pub returns-then-is_parity : goal.returns-then-is_parity
-returns-then-is_parity c =
+pub returns-in-Some : goal.returns-in-Some
+returns-in-Some c =
     subst (IsParityNumber c.args.formula.now c.args.lits.now) (sym c.first.ensures)
-    (parity_at c.args.self.now c.args.formula.now c.requires c.args.lits.now (c.args.near - 1) (c.is_parity.ensures.same c.if-is_parity.true))
+    (parity_at c.args.self.now c.args.formula.now c.requires c.args.lits.now (c.in-Some.number - 1) c.in-Some.ensures.same)
 
 pub returns : goal.returns
 returns c =
