@@ -1,10 +1,11 @@
 -- What stands in a proof for the ids of a log.
-use Rattle.std.specs.Prelude.{◌≡◌, ℕ, ◌+◌, ℤ, pos, List, length, map, filter_map, Option, Some, is_some, IsTrue, refl}
+use Rattle.std.specs.Prelude.{◌≡◌, ◌≤◌, ℕ, ◌+◌, ℤ, pos, List, length, map, filter_map, Option, Some, is_some, IsTrue, refl}
 use Rattle.std.specs.List.{AllByRecursion}
 use Rattle.std.specs.Coded.{Coded, code_by, coded×, coded_ℕ}
 use Rattle.std.specs.Ordering.{nat_cmp}
 use Rattle.std.specs.FinMap as map_
 use Rattle.cx_base.specs.Problem.{Problem, clauses_of, parities_of}
+use Rattle.fratx_elab.specs.declared.naming.TheConstants.{MAX_ID}
 
 -- the proof id that stands for each live id of the log, and the last id that was given in the proof
 pub record Naming : Type 0 where
@@ -48,6 +49,17 @@ name_next naming n = record { ids = map_.insert naming.ids n (naming.last + 1); 
 
 abbrev pub drop_name : Naming → ℕ → Naming
 drop_name naming n = record { ids = map_.remove naming.ids n; last = naming.last }
+
+-- each id of a set stands for itself
+abbrev pub each_itself : {V : Type 0} → map_.FinMap nat_cmp V → map_.FinMap nat_cmp ℕ
+each_itself ids = map_.from_entries (map (λ n. (n, n)) (map_.keys ids))
+
+-- a proof may have the id
+abbrev pub IsProofId : ℕ → Type 0
+IsProofId n = (1 ≤ n) × (n ≤ MAX_ID)
+
+abbrev pub AreProofIds : {V : Type 0} → map_.FinMap nat_cmp V → Type 0
+AreProofIds ids = (n : ℕ) → IsTrue (map_.contains_key ids n) → IsProofId n
 
 abbrev pub naming_code : Coded Naming
 naming_code = code_by (map_.FinMap nat_cmp ℕ × ℕ) (coded× (map_.code coded_ℕ coded_ℕ) coded_ℕ) (λ a. (a.ids, a.last)) (λ p. record { ids = p.0; last = p.1 }) (λ _. refl)

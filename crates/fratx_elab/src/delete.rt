@@ -4,7 +4,7 @@ ghost use Rattle.cx_base.specs.declared.steps.LogStep.TheVariants as step;
 ghost use Rattle.cx_base.specs.Problem.{Problem};
 ghost use Rattle.cx_base.specs.Numbers.{AreStepIntegers};
 ghost use Rattle.fratx_elab.specs.Elaborates.{deleted_id, number_of_clauses, number_of_parities};
-ghost use Rattle.fratx_elab.specs.Names.{stands_for};
+ghost use Rattle.fratx_elab.specs.Names.{stands_for, drop_name};
 ghost use Rattle.fratx_elab.specs.Takes.{TakesLogStep, CanBePrinted, CountsOneMore};
 ghost use Rattle.fratx_elab.specs.declared.naming.TheConstants.{MAX_ID};
 
@@ -15,11 +15,13 @@ use cx_base::{IntList, ProofStep};
 use proof_rules::{JudgeRefusal, Kind};
 use std::alloc::Global;
 
-/// The proof id to delete where the log deletes an id: none for one of the formula's `count` constraints.
-fn deleted(names: &Names, count: u64, id: u64) -> Option<ProofId>
-    ensures { result ≡ deleted_id count (stands_for names.now id) }
+/// The proof id to delete where the log deletes an id: none for one of the formula's `count` constraints. Nothing stands
+/// for the id any more.
+fn deleted(names: &mut Names, count: u64, id: u64) -> Option<ProofId>
+    ensures found { result ≡ deleted_id count (stands_for names.old id) }
+    ensures gone { names.new ≡ drop_name names.old id }
 {
-    match names.get(id) {
+    match names.take(id) {
         Some(found) => {
             if count < found.number() {
                 Some(found)
@@ -57,10 +59,9 @@ pub fn delete_clause(
     ensures text { IfOk result CanBePrinted }
     ensures counts { OnOk result (CountsOneMore state.old state.new) }
 {
-    let gone = deleted(&state.clauses, count, id);
+    let gone = deleted(&mut state.clauses, count, id);
     let last = state.clauses.last();
     state.live.remove(Kind::Clauses, id);
-    state.clauses.remove(id);
     match gone {
         Some(gone) => {
             let room = taken(alloc, &mut state.deleted);
@@ -83,9 +84,8 @@ pub fn delete_parity(
     ensures text { IfOk result CanBePrinted }
     ensures counts { OnOk result (CountsOneMore state.old state.new) }
 {
-    let gone = deleted(&state.parities, count, id);
+    let gone = deleted(&mut state.parities, count, id);
     state.live.remove(Kind::Parities, id);
-    state.parities.remove(id);
     match gone {
         Some(gone) => {
             let room = taken(alloc, &mut state.deleted);

@@ -1,6 +1,6 @@
 //! What stands in the proof for the ids of a log.
-ghost use Rattle.std.specs.Prelude.{◌≡◌, ◌≢◌, ◌≤◌, ◌<◌, ◌+◌, ℕ, ℤ, pos, nat_abs, true, IfOk, OnOk, MatchOption, None, Some};
-ghost use Rattle.fratx_elab.specs.Names.{Naming, stands_for, first_naming, name_original, name_next, drop_name, StandForThemselves};
+ghost use Rattle.std.specs.Prelude.{◌≡◌, ◌≢◌, ◌≤◌, ◌<◌, ◌+◌, ℕ, ℤ, pos, nat_abs, true, IfOk, OnOk};
+ghost use Rattle.fratx_elab.specs.Names.{stands_for, first_naming, name_original, name_next, drop_name, StandForThemselves, each_itself, AreProofIds};
 
 use proof_rules::{Filler, IdMap};
 use std::alloc::{AllocError, Global};
@@ -70,26 +70,45 @@ impl ProofId {
     }
 }
 
+/// What is kept with an id that stands for itself: nothing.
+#[derive(Drop)]
+struct Itself;
+
+impl Filler for Itself {
+    fn filler() -> Itself {
+        Itself
+    }
+}
+
+/// What stands for the live ids of a log.
+#[derive(Drop)]
+enum Standing {
+    /// Each stands for itself, as in the logs of a solver that counts as a proof does. A bit is kept for each.
+    Themselves(IdMap<Itself>),
+    /// The number that stands for each, since for one it was another than the id itself.
+    Numbered(IdMap<ProofId>),
+}
+
 /// The proof id that stands for each live id of a log, and the last id given in the proof.
 #[derive(Drop)]
 pub struct Names {
-    ids: IdMap<ProofId>,
+    alloc: Global,
+    ids: Standing,
     last: u64,
-    /// No id was given that stands for another one, as in the logs of a solver that counts as a proof does.
-    same: bool,
 }
 
 impl Model for Names {
-    ghost use Rattle.std.specs.Prelude.{◌≡◌, true};
-    ghost use Rattle.fratx_elab.specs.Names.{Naming, naming_code, StandForThemselves};
+    ghost use Rattle.fratx_elab.specs.Names.{Naming, naming_code};
 
     ghost Value = { Naming };
 
     ghost coded = { naming_code };
 
-    ghost view = { λ a. record { ids = a.ids; last = a.last } };
+    ghost use Rattle.fratx_elab.specs.Standings.{naming_of, HasProofIds};
 
-    ghost invariant = { λ a. a.same ≡ true → StandForThemselves (record { ids = a.ids; last = a.last }) };
+    ghost view = { λ a. naming_of a.ids a.last };
+
+    ghost invariant = { λ a. HasProofIds a.ids };
 }
 
 impl Names {
@@ -98,9 +117,9 @@ impl Names {
         ensures { result ≡ first_naming count }
     {
         Names {
-            ids: IdMap::new(alloc),
+            alloc,
+            ids: Standing::Themselves(IdMap::new(alloc)),
             last: count,
-            same: true,
         }
     }
 
@@ -115,16 +134,25 @@ impl Names {
     pub fn stand_for_themselves(&self) -> bool
         ensures { result ≡ true → StandForThemselves self.now }
     {
-        self.same
+        match &self.ids {
+            Standing::Themselves(_) => true,
+            Standing::Numbered(_) => false,
+        }
     }
 
     /// The proof id that stands for an id of the log.
     pub fn get(&self, id: u64) -> Option<ProofId>
         ensures { result ≡ stands_for self.now id }
     {
-        match self.ids.get(id) {
-            Some(found) => Some(*found),
-            None => None,
+        match &self.ids {
+            Standing::Themselves(ids) => match ids.get(id) {
+                Some(_) => Some(ProofId::new(id)),
+                None => None,
+            },
+            Standing::Numbered(ids) => match ids.get(id) {
+                Some(number) => Some(*number),
+                None => None,
+            },
         }
     }
 
@@ -132,10 +160,7 @@ impl Names {
     pub fn put_original(&mut self, id: u64, number: ProofId) -> Result<(), AllocError>
         ensures { OnOk result (self.new ≡ name_original self.old id number) }
     {
-        let same = self.same && number.number() == id;
-        self.ids.insert(id, number)?;
-        self.same = same;
-        Ok(())
+        self.put(id, number)
     }
 
     /// The next id of the proof stands for this id from now on.
@@ -145,17 +170,50 @@ impl Names {
         ensures named { OnOk result (self.new ≡ name_next self.old id) }
     {
         let next = ProofId::new(self.last + 1);
-        let same = self.same && next.number() == id;
-        self.ids.insert(id, next)?;
+        self.put(id, next)?;
         self.last += 1;
-        self.same = same;
         Ok(next)
     }
 
-    /// Nothing stands for this id any more.
-    pub fn remove(&mut self, id: u64)
-        ensures { self.new ≡ drop_name self.old id }
+    /// This number stands for this id from now on.
+    fn put(&mut self, id: u64, number: ProofId) -> Result<(), AllocError>
+        ensures { OnOk result (self.new ≡ name_original self.old id number) }
     {
-        self.ids.remove(id);
+        match &mut self.ids {
+            Standing::Themselves(ids) if number.number() == id => ids.insert(id, Itself)?,
+            Standing::Themselves(ids) => {
+                let mut numbers = own_numbers(self.alloc, self.last, ids)?;
+                numbers.insert(id, number)?;
+                self.ids = Standing::Numbered(numbers);
+            }
+            Standing::Numbered(ids) => ids.insert(id, number)?,
+        }
+        Ok(())
     }
+
+    /// The proof id that stood for this id, for which nothing stands any more.
+    pub fn take(&mut self, id: u64) -> Option<ProofId>
+        ensures found { result ≡ stands_for self.old id }
+        ensures gone { self.new ≡ drop_name self.old id }
+    {
+        let found = self.get(id);
+        match &mut self.ids {
+            Standing::Themselves(ids) => ids.remove(id),
+            Standing::Numbered(ids) => ids.remove(id),
+        }
+        found
+    }
+}
+
+/// The same ids, each as its own number. The proof has `count` ids by now, and as many may have a place.
+fn own_numbers(alloc: Global, count: u64, ids: &IdMap<Itself>) -> Result<IdMap<ProofId>, AllocError>
+    requires { AreProofIds ids.now }
+    ensures { IfOk result (λ numbers. numbers ≡ each_itself ids.now) }
+{
+    let list = ids.ids(alloc)?;
+    let mut numbers = IdMap::beside(alloc, count);
+    for id in &list {
+        numbers.insert(*id, ProofId::new(*id))?;
+    }
+    Ok(numbers)
 }

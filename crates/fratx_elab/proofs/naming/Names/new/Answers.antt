@@ -1,9 +1,10 @@
-use Rattle.std.proofs.Common.{◌≡◌, sym, ◌∙◌, subst, Some}
-use Rattle.std.specs.FinMap as map_
-use Rattle.std.specs.Ordering.{nat_cmp}
-use Rattle.std.proofs.lemmas.Option.{none-some}
+use Rattle.std.proofs.Common.{rules}
+use Rattle.std.specs.FinMap as map
+use Rattle.fratx_elab.proofs.NameLaws.{each_itself-empty}
 use Rattle.fratx_elab.proofs.naming.Names.new.Goals as goal
 
 pub invariant_of-result : goal.invariant_of-result
-invariant_of-result c e n p g =
-    absurd (none-some p (sym (map_.get-empty nat_cmp n) ∙ subst (λ m. map_.get m n ≡ Some p) c.new.ensures g))
+invariant_of-result c = rw c.new.ensures (λ n g. grind (map.gets, rules))
+
+pub returns : goal.returns
+returns c = rw (c.new.ensures, each_itself-empty _)
