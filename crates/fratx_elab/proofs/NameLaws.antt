@@ -1,14 +1,16 @@
 -- Ids that stand for themselves.
-use Rattle.std.proofs.Common.{◌≡◌, refl, sym, ap, ◌∙◌, subst, ℕ, ℤ, pos, Bool, cond, ◌||◌, List, [], ◌∷◌, map, filter_map, negsuc, Option, Some, None, is_some, is_eq, nat_cmp, rules, eqb-true, eq-eqb, ◌<◌, length, get_or, IsTrue, true, false, true≢false}
+use Rattle.std.proofs.Common.{◌≡◌, refl, sym, ap, ◌∙◌, subst, ℕ, ℤ, pos, Bool, cond, ◌||◌, List, [], ◌∷◌, map, filter_map, negsuc, Option, Some, None, is_some, is_eq, nat_cmp, rules, eqb-true, eq-eqb, ◌<◌, length, get_or, IsTrue, true, false, true≢false, nat_abs, arith}
 use Rattle.std.specs.Cmp.{nat_cmp_total, unsigned_tied}
 use Rattle.std.specs.Ordering.{eq_by_cmp}
 use Rattle.std.proofs.lemmas.List.Folds.{list_any_at}
-use Rattle.std.specs.List.{cons_option, list_any}
+use Rattle.std.proofs.lemmas.Option.{same_Some, none-some}
+use Rattle.std.specs.List.{AllByRecursion, cons_option, list_any}
 use Rattle.std.specs.FinMap as map_
 use Rattle.cx_base.specs.Integers.{is_negative, sizes}
+use Rattle.cx_base.specs.Numbers.{AreStepIntegers}
 use Rattle.cx_semantics.specs.LogRules.{AreLive}
 use Rattle.cx_semantics.specs.Tables.{Table, is_live}
-use Rattle.fratx_elab.specs.Names.{Naming, stands_for, hints_for, AreNamed, StandForThemselves, each_itself, IsProofId, AreProofIds}
+use Rattle.fratx_elab.specs.Names.{Naming, stands_for, hints_for, AreNamed, StandForThemselves, StandForProofIds, each_itself, IsProofId, AreProofIds}
 use Rattle.proof_rules.specs.Places.{HasKeys}
 use Rattle.fratx_elab.proofs.TieLaws.{At, at_it, elsewhere, at_put}
 
@@ -39,6 +41,13 @@ each_itself-empty V = map_.same_map nat_cmp_total map_.nat_cmp-IsAntisymmetric _
 module _ {V : Type 0} (ids : map_.FinMap nat_cmp V) where
   pub stand_themselves : (last : ℕ) → StandForThemselves (record { ids = each_itself ids; last = last })
   stand_themselves last n p g = grind (rules, get-each_itself)
+
+  pub stand_within : (last : ℕ) → AreProofIds ids → StandForProofIds (record { ids = each_itself ids; last = last })
+  stand_within last are n p g = go (map_.contains_key ids n) refl (sym (get-each_itself ids n) ∙ g)
+    where
+      go : (b : Bool) → map_.contains_key ids n ≡ b → cond b (Some n) None ≡ Some p → IsProofId p
+      go true has same = subst IsProofId (same_Some n p same) (are n has)
+      go false has same = absurd (none-some p same)
 
   -- the numbers that stand for the listed ids of the set
   pub all_themselves : (listed : List ℕ) (numbers : map_.FinMap nat_cmp ℕ) → HasKeys ids listed → ((q : ℕ) → map_.get numbers q ≡ cond (list_any (eq_by_cmp nat_cmp q) listed) (Some q) None) → numbers ≡ each_itself ids
@@ -76,11 +85,25 @@ itself : (o : Option ℕ) (n : ℕ) (ns : List ℕ) → IsTrue (is_some o) → (
 itself None n ns h e = absurd (true≢false (sym h))
 itself (Some p) n ns h e = ap (λ m. m ∷ ns) (e p refl)
 
-hints_themselves : (naming : Naming) (ids : List ℕ) → StandForThemselves naming → AreNamed naming ids → map pos ids ≡ hints_for naming ids
+pub hints_themselves : (naming : Naming) (ids : List ℕ) → StandForThemselves naming → AreNamed naming ids → map pos ids ≡ hints_for naming ids
 hints_themselves naming [] h named = refl
 hints_themselves naming (n ∷ ids) h (here, named) =
     ap (λ zs. pos n ∷ zs) (hints_themselves naming ids h named)
     ∙ sym (ap (map pos) (itself (stands_for naming n) n (filter_map (stands_for naming) ids) here (h n)))
+
+-- ids that a proof may have can stand in its text
+pub ids_step : (ids : List ℕ) → AllByRecursion IsProofId ids → AreStepIntegers (map pos ids)
+ids_step [] h = tt
+ids_step (n ∷ ids) (here, h) = (((λ e. absurd (let z : n ≡ 0 = ap nat_abs e in let l = here.0 in omega (arith, z, l))), here.1), ids_step ids h)
+
+-- named ids that stand for themselves are such
+pub themselves_within : (naming : Naming) (ids : List ℕ) → StandForThemselves naming → StandForProofIds naming → AreNamed naming ids → AllByRecursion IsProofId ids
+themselves_within naming [] same within named = tt
+themselves_within naming (n ∷ ids) same within (here, named) = (go (stands_for naming n) refl here, themselves_within naming ids same within named)
+  where
+    go : (o : Option ℕ) → stands_for naming n ≡ o → IsTrue (is_some o) → IsProofId n
+    go None is h = absurd (true≢false (sym h))
+    go (Some p) is h = subst IsProofId (same n p is) (within n p is)
 
 -- a list of hints none of which is negative
 plain : (zs : List ℤ) → list_any is_negative zs ≡ false → zs ≡ map pos (sizes zs)

@@ -28,6 +28,14 @@ hints_for naming ids = map pos (filter_map (stands_for naming) ids)
 abbrev pub AreNamed : Naming → List ℕ → Type 0
 AreNamed naming ids = AllByRecursion (λ n. IsTrue (is_some (stands_for naming n))) ids
 
+-- a proof may have the id
+abbrev pub IsProofId : ℕ → Type 0
+IsProofId n = (1 ≤ n) × (n ≤ MAX_ID)
+
+-- each id stands for one that a proof may have
+abbrev pub StandForProofIds : Naming → Type 0
+StandForProofIds naming = (n p : ℕ) → stands_for naming n ≡ Some p → IsProofId p
+
 -- no id stands for another one, as in a log that counts as its proof does
 abbrev pub StandForThemselves : Naming → Type 0
 StandForThemselves naming = (n p : ℕ) → stands_for naming n ≡ Some p → p ≡ n
@@ -54,10 +62,7 @@ drop_name naming n = record { ids = map_.remove naming.ids n; last = naming.last
 abbrev pub each_itself : {V : Type 0} → map_.FinMap nat_cmp V → map_.FinMap nat_cmp ℕ
 each_itself ids = map_.from_entries (map (λ n. (n, n)) (map_.keys ids))
 
--- a proof may have the id
-abbrev pub IsProofId : ℕ → Type 0
-IsProofId n = (1 ≤ n) × (n ≤ MAX_ID)
-
+-- a proof may have each id of a set
 abbrev pub AreProofIds : {V : Type 0} → map_.FinMap nat_cmp V → Type 0
 AreProofIds ids = (n : ℕ) → IsTrue (map_.contains_key ids n) → IsProofId n
 

@@ -58,6 +58,6 @@ GivesChain table target (Ok ids) = AreLive table ids × IsChain target (named ta
 GivesChain table target (Err why) = IsRefusedBy (chained table target) why
 
 -- hints that name live clauses which are a right chain; else there is no such list
-abbrev pub GivesHints : Table → Naming → List Literal → Result (List ℤ) JudgeRefusal → Type 0
-GivesHints table naming target (Ok hints) = (ids : List ℕ) × AreLive table ids × IsChain target (named table ids) × (hints ≡ hints_for naming ids)
-GivesHints table naming target (Err why) = IsRefusedBy (chained table target) why
+abbrev pub SettlesHints : Table → Naming → List Literal → {T : Type 0} → Result T JudgeRefusal → List ℤ → Type 0
+SettlesHints table naming target (Ok done) hints = (ids : List ℕ) × AreLive table ids × IsChain target (named table ids) × (hints ≡ hints_for naming ids)
+SettlesHints table naming target (Err why) hints = IsRefusedBy (chained table target) why

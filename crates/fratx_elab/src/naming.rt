@@ -1,6 +1,6 @@
 //! What stands in the proof for the ids of a log.
 ghost use Rattle.std.specs.Prelude.{◌≡◌, ◌≢◌, ◌≤◌, ◌<◌, ◌+◌, ℕ, ℤ, pos, nat_abs, true, IfOk, OnOk};
-ghost use Rattle.fratx_elab.specs.Names.{stands_for, first_naming, name_original, name_next, drop_name, StandForThemselves, each_itself, AreProofIds};
+ghost use Rattle.fratx_elab.specs.Names.{stands_for, first_naming, name_original, name_next, drop_name, StandForThemselves, StandForProofIds, each_itself, AreProofIds};
 
 use proof_rules::{Filler, IdMap};
 use std::alloc::{AllocError, Global};
@@ -132,7 +132,8 @@ impl Names {
 
     /// Whether each id stands for itself. No says nothing.
     pub fn stand_for_themselves(&self) -> bool
-        ensures { result ≡ true → StandForThemselves self.now }
+        ensures themselves { result ≡ true → StandForThemselves self.now }
+        ensures within { result ≡ true → StandForProofIds self.now }
     {
         match &self.ids {
             Standing::Themselves(_) => true,

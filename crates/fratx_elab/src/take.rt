@@ -1,6 +1,8 @@
 //! One step of a log: judged, done, and what the proof gains by it.
-ghost use Rattle.std.specs.Prelude.{◌≡◌, ◌≤◌, ◌<◌, ◌+◌, ℕ, pos, is_some, length, take, IfOk, OnOk};
+ghost use Rattle.std.specs.Prelude.{◌≡◌, ◌≤◌, ◌<◌, ◌+◌, ℕ, pos, is_some, length, map, take, IfOk, OnOk};
+ghost use Rattle.std.specs.List.{AllByRecursion};
 ghost use Rattle.cx_base.specs.Integers.{sizes};
+ghost use Rattle.cx_base.specs.Numbers.{AreStepIntegers};
 ghost use Rattle.cx_base.specs.Problem.{Problem};
 ghost use Rattle.cx_semantics.specs.Chain.{IsChain};
 ghost use Rattle.cx_semantics.specs.LogRules.{AreLive, HasChain, chained, derives_empty_clause};
@@ -8,10 +10,11 @@ ghost use Rattle.cx_semantics.specs.Tables.{Tables, is_live, named};
 ghost use Rattle.cx_base.specs.declared.steps.LogStep.TheVariants as step;
 ghost use Rattle.proof_rules.specs.Kinds.{chosen, put_constraint};
 ghost use Rattle.fratx_elab.specs.Contents.{StandsFor};
-ghost use Rattle.fratx_elab.specs.Names.{AreNamed, stands_for, hints_for};
-ghost use Rattle.fratx_elab.specs.Takes.{TakesLogStep, Admits, GivesChain, GivesHints, CanBePrinted, CountsOneMore, names_of};
+ghost use Rattle.fratx_elab.specs.Names.{AreNamed, IsProofId, stands_for, hints_for};
+ghost use Rattle.fratx_elab.specs.Takes.{TakesLogStep, Admits, GivesChain, SettlesHints, CanBePrinted, CountsOneMore, names_of};
 ghost use Rattle.fratx_elab.specs.Ties.{AreTied};
 ghost use Rattle.fratx_elab.specs.declared.naming.TheConstants.{MAX_ID};
+ghost use Rattle.rup_finder.specs.Front.{NoneNegative};
 
 use crate::naming::Names;
 use crate::originals::Originals;
@@ -20,14 +23,28 @@ use crate::steps::{clause_of_parity_step, clause_step, parity_of_clauses_step, p
 use cx_base::{Formula, IdList, IntList, Lit, LitList, ProofStep};
 use cx_semantics::Cause;
 use proof_rules::{
-    JudgeMarks, JudgeRefusal, Kind, admit_into, any_negative, ids_of, judge_clause_of_named_parity,
+    JudgeMarks, JudgeRefusal, Kind, admit_into, ids_of, judge_clause_of_named_parity,
     judge_named_sum, judge_parity_of_named_clauses,
 };
 use rup_finder::IndexedClauses;
 use std::alloc::{AllocError, Global};
+use std::mem;
 
-/// The hints that name in the proof what the ids name in the log.
-fn hints_of(alloc: Global, names: &Names, ids: &[u64]) -> Result<IntList, AllocError>
+/// The hints of the proof that are these ids.
+fn same_hints(alloc: Global, ids: &[u64]) -> Result<IntList, AllocError>
+    requires { AllByRecursion IsProofId ids.now }
+    ensures { IfOk result (λ hints. hints ≡ map pos ids.now) }
+{
+    // Places first, since a loop that fills places takes several at once.
+    let mut hints = Vec::from_elem(alloc, 1, ids.len())?;
+    for place in 0..ids.len() {
+        hints[place] = ids[place] as i64;
+    }
+    Ok(IntList::from_vec(hints))
+}
+
+/// The hints that name in the proof what the ids name in the log, where some id may stand for another one.
+fn renamed_hints(alloc: Global, names: &Names, ids: &[u64]) -> Result<IntList, AllocError>
     ensures { IfOk result (λ hints. hints ≡ hints_for names.now ids.now) }
 {
     let mut hints = Vec::with_capacity(alloc, ids.len())?;
@@ -37,6 +54,18 @@ fn hints_of(alloc: Global, names: &Names, ids: &[u64]) -> Result<IntList, AllocE
         }
     }
     Ok(IntList::from_vec(hints))
+}
+
+/// The hints that name in the proof what the ids name in the log.
+fn hints_of(alloc: Global, names: &Names, ids: &[u64]) -> Result<IntList, AllocError>
+    requires { AreNamed names.now ids.now }
+    ensures { IfOk result (λ hints. hints ≡ hints_for names.now ids.now) }
+{
+    if names.stand_for_themselves() {
+        same_hints(alloc, ids)
+    } else {
+        renamed_hints(alloc, names, ids)
+    }
 }
 
 /// The literals of what a step adds, in the memory of `room`: its variables are the formula's, and its id is not live.
@@ -70,17 +99,25 @@ fn put_live(
     Ok(())
 }
 
-/// The hints that name in the proof what these hints name in the log.
-///
-/// They are written over these, so that no list is made anew; where ids stand for themselves, there is nothing to write.
-fn renamed(names: &Names, hints: IntList) -> IntList
-    requires named { AreNamed names.now (sizes hints) }
-    ensures { result ≡ hints_for names.now (sizes hints) }
+/// The integers of the list, which has none then.
+fn vector_of(alloc: Global, list: &mut IntList) -> Vec<i64>
+    ensures elements { result.items ≡ list.old }
+    ensures proper { AreStepIntegers list.old }
 {
-    if names.stand_for_themselves() && !any_negative(hints.as_slice()) {
-        return hints;
+    mem::replace(list, IntList::from_vec(Vec::new(alloc))).into_vec()
+}
+
+/// Renames hints of the log to those that name the same in the proof, in the memory of the list; where ids stand for themselves,
+/// there is nothing to write.
+fn rename(alloc: Global, names: &Names, hints: &mut IntList)
+    requires named { AreNamed names.now (sizes hints.old) }
+    requires plain { NoneNegative hints.old }
+    ensures { hints.new ≡ hints_for names.now (sizes hints.old) }
+{
+    if names.stand_for_themselves() {
+        return;
     }
-    let mut list = hints.into_vec();
+    let mut list = vector_of(alloc, hints);
     let count = list.len();
     let mut kept = 0;
     for place in 0..count {
@@ -90,16 +127,18 @@ fn renamed(names: &Names, hints: IntList) -> IntList
         }
     }
     list.truncate(kept);
-    IntList::from_vec(list)
+    *hints = IntList::from_vec(list);
 }
 
-/// The first so many of the hints.
-fn front(hints: IntList, count: usize) -> IntList
-    ensures { result ≡ take count hints }
+/// Leaves the first so many of the hints.
+fn shorten(alloc: Global, hints: &mut IntList, count: usize)
+    ensures { hints.new ≡ take count hints.old }
 {
-    let mut list = hints.into_vec();
-    list.truncate(count);
-    IntList::from_vec(list)
+    if count < hints.as_slice().len() {
+        let mut list = vector_of(alloc, hints);
+        list.truncate(count);
+        *hints = IntList::from_vec(list);
+    }
 }
 
 /// A list of live hints that is a right chain for the clause, or that there is none. The given hints are tried from the last to the
@@ -124,25 +163,28 @@ fn chain_of(
     }
 }
 
-/// The hints of a clause in the proof: the given ones as they stand, up to the end of a right chain, if they are one, and else those of
-/// another chain.
+/// Makes the hints that the log gives for a clause those of the proof: they stay as they stand, up to the end of a right chain, where
+/// they are one; else those of another chain come in their place.
 #[inline(always)]
-fn chain_hints(
+fn settle_hints(
     alloc: Global,
     live: &mut IndexedClauses,
     names: &Names,
     target: &LitList,
-    given: IntList,
-) -> Result<IntList, JudgeRefusal>
+    hints: &mut IntList,
+) -> Result<(), JudgeRefusal>
     requires keyed { (n : ℕ) → is_live live.old.clauses n ≡ is_some (stands_for names.now n) }
     ensures same { live.new ≡ live.old }
-    ensures chain { GivesHints live.old.clauses names.now target.now result }
+    ensures chain { SettlesHints live.old.clauses names.now target.now result hints.new }
 {
-    if let Some(count) = live.chain_length(target.as_slice(), given.as_slice())? {
-        return Ok(renamed(names, front(given, count)));
+    if let Some(count) = live.chain_length(target.as_slice(), hints.as_slice())? {
+        shorten(alloc, hints, count);
+        rename(alloc, names, hints);
+        return Ok(());
     }
-    let ids = chain_of(alloc, live, target, given.as_slice())?;
-    Ok(hints_of(alloc, names, ids.as_slice())?)
+    let ids = chain_of(alloc, live, target, hints.as_slice())?;
+    *hints = hints_of(alloc, names, ids.as_slice())?;
+    Ok(())
 }
 
 /// A clause of the formula: nothing is written.
@@ -211,7 +253,7 @@ pub fn take_original_parity(
     }
 }
 
-/// A clause by a chain; the given hints are tried first.
+/// A clause by a chain; the hints that the log gives are tried first.
 #[inline(always)]
 pub fn take_clause(
     alloc: Global,
@@ -219,7 +261,7 @@ pub fn take_clause(
     state: &mut State,
     id: u64,
     lits: IntList,
-    given: IntList,
+    mut hints: IntList,
 ) -> Result<Option<ProofStep>, JudgeRefusal>
     requires room { state.old.clauses.last < MAX_ID }
     requires tied { (proof : Tables) × AreTied formula.now state.old.live proof (names_of state.old) }
@@ -229,7 +271,7 @@ pub fn take_clause(
 {
     let room = taken(alloc, &mut state.marks.target);
     let target = admit(room, formula, &state.live, Kind::Clauses, id, &lits)?;
-    let hints = chain_hints(alloc, &mut state.live, &state.clauses, &target, given)?;
+    settle_hints(alloc, &mut state.live, &state.clauses, &target, &mut hints)?;
     put_live(
         alloc,
         &mut state.live,
@@ -253,6 +295,7 @@ pub fn take_parity(
     sources: &[u64],
 ) -> Result<Option<ProofStep>, JudgeRefusal>
     requires room { state.old.parities.last < MAX_ID }
+    requires tied { (proof : Tables) × AreTied formula.now state.old.live proof (names_of state.old) }
     ensures taken { TakesLogStep formula.now state.old (step.Parity id lits sources.now) result state.new }
     ensures text { IfOk result CanBePrinted }
     ensures counts { OnOk result (CountsOneMore state.old state.new) }
@@ -284,6 +327,7 @@ pub fn take_parity_of_clauses(
     sources: &[u64],
 ) -> Result<Option<ProofStep>, JudgeRefusal>
     requires room { state.old.parities.last < MAX_ID }
+    requires tied { (proof : Tables) × AreTied formula.now state.old.live proof (names_of state.old) }
     ensures taken { TakesLogStep formula.now state.old (step.ParityOfClauses id lits sources.now) result state.new }
     ensures text { IfOk result CanBePrinted }
     ensures counts { OnOk result (CountsOneMore state.old state.new) }

@@ -1,13 +1,15 @@
 -- One more hint at the front of a list.
-use Rattle.std.proofs.Common.{◌≡◌, refl, sym, ap, ◌∙◌, ℕ, ◌+◌, ◌<◌, ℤ, nat_abs, List, [], ◌∷◌, ◌++◌, length, take, get_or, append_assoc, append-nil, is_some, Some}
+use Rattle.std.proofs.Common.{◌≡◌, refl, sym, ap, ◌∙◌, ℕ, ◌+◌, ◌<◌, ℤ, nat_abs, List, [], ◌∷◌, ◌++◌, length, take, get_or, append_assoc, append-nil, is_some, Some, false, ◌||◌}
 use Rattle.std.proofs.lemmas.List.{take_more}
-use Rattle.cx_base.specs.Integers.{sizes}
+use Rattle.std.proofs.lemmas.List.Folds.{list_any-append}
+use Rattle.std.specs.List.{list_any}
+use Rattle.cx_base.specs.Integers.{is_negative, sizes}
 use Rattle.cx_base.specs.Literals.{Literal}
 use Rattle.cx_semantics.specs.Chain.{negations, left, none, one, count_left, HaveSame, chain, go_on}
 use Rattle.cx_semantics.specs.Tables.{Table, get, named}
 use Rattle.cx_semantics.specs.LogRules.{AreLive}
 use Rattle.proof_rules.proofs.ChainSteps.{chain-one, chain-same}
-use Rattle.rup_finder.specs.Front.{HasReached, IsLiveChain}
+use Rattle.rup_finder.specs.Front.{HasReached, IsLiveChain, NoneNegative}
 use Rattle.rup_finder.proofs.Propagation.{live_push, named_push}
 
 pub reached_first : (table : Table) (target assumed : List Literal) → HaveSame assumed (negations target) → HasReached table target [] assumed
@@ -47,3 +49,11 @@ sizes_more hints place d less = ap sizes (take_more hints place d less) ∙ size
     sizes_push : (zs : List ℤ) (z : ℤ) → sizes (zs ++ z ∷ []) ≡ sizes zs ++ nat_abs z ∷ []
     sizes_push [] z = refl
     sizes_push (x ∷ zs) z = ap (λ ns. nat_abs x ∷ ns) (sizes_push zs z)
+
+-- and where it is not negative, none of them is
+pub none_more : (hints : List ℤ) (place : ℕ) (d : ℤ) → place < length hints → NoneNegative (take place hints) → is_negative (get_or hints place d) ≡ false → NoneNegative (take (place + 1) hints)
+none_more hints place d less before this =
+    ap (list_any is_negative) (take_more hints place d less)
+    ∙ list_any-append is_negative (take place hints) (get_or hints place d ∷ [])
+    ∙ ap (λ b. b || (is_negative (get_or hints place d) || false)) before
+    ∙ ap (λ b. b || false) this

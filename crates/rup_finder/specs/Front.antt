@@ -1,5 +1,7 @@
 -- The hints at the front of a list, as a chain.
-use Rattle.std.specs.Prelude.{◌≡◌, ℕ, List, ◌∷◌, ◌++◌, Some}
+use Rattle.std.specs.Prelude.{◌≡◌, ℕ, ℤ, nat_abs, false, List, ◌∷◌, ◌++◌, Some}
+use Rattle.std.specs.List.{list_any}
+use Rattle.cx_base.specs.Integers.{is_negative}
 use Rattle.cx_base.specs.Literals.{Literal}
 use Rattle.cx_semantics.specs.Chain.{negations, left, none, one, count_left, HaveSame, chain, IsChain}
 use Rattle.cx_semantics.specs.Tables.{Table, get, named}
@@ -16,8 +18,15 @@ pub record HasReached (table : Table) (target : List Literal) (ids : List ℕ) (
 abbrev pub IsLiveChain : Table → List Literal → List ℕ → Type 0
 IsLiveChain table target ids = AreLive table ids × IsChain target (named table ids)
 
+abbrev pub NoneNegative : List ℤ → Type 0
+NoneNegative hints = list_any is_negative hints ≡ false
+
+-- the hint is not negative, and names this clause
+abbrev pub Names : Table → ℤ → List Literal → Type 0
+Names table hint clause = (is_negative hint ≡ false) × (get table (nat_abs hint) ≡ Some clause)
+
 -- What one more hint does: its clause leaves one literal, which is assumed then; or it leaves nothing; or the hints are no chain.
-abbrev pub Takes : Table → ℕ → List Literal → List Literal → Taken → Type 0
-Takes table id old new Goes = (clause : List Literal) × (l : Literal) × (get table id ≡ Some clause) × (one l ≡ count_left (left old clause)) × HaveSame new (l ∷ old)
-Takes table id old new Ends = (clause : List Literal) × (get table id ≡ Some clause) × (none ≡ count_left (left old clause))
-Takes table id old new Stops = Unit {0}
+abbrev pub Takes : Table → ℤ → List Literal → List Literal → Taken → Type 0
+Takes table hint old new Goes = (clause : List Literal) × (l : Literal) × Names table hint clause × (one l ≡ count_left (left old clause)) × HaveSame new (l ∷ old)
+Takes table hint old new Ends = (clause : List Literal) × Names table hint clause × (none ≡ count_left (left old clause))
+Takes table hint old new Stops = Unit {0}

@@ -1,7 +1,7 @@
 //! How many hints of a list it takes to a right chain.
-ghost use Rattle.std.specs.Prelude.{◌≡◌, ◌≤◌, IfOk, IfSome, OnOk, length, take, nat_abs};
+ghost use Rattle.std.specs.Prelude.{◌≡◌, ◌≤◌, IfOk, IfSome, OnOk, length, take};
 ghost use Rattle.cx_base.specs.Integers.{sizes};
-ghost use Rattle.rup_finder.specs.Front.{IsLiveChain, Takes};
+ghost use Rattle.rup_finder.specs.Front.{IsLiveChain, NoneNegative, Takes};
 
 use cx_base::Lit;
 use proof_rules::{LeftOf, LiteralSet, Live, left_of};
@@ -14,17 +14,19 @@ pub enum Taken {
     Goes,
     /// The chain ends with it, and is right.
     Ends,
-    /// Its clause has more than one literal left, or is not live.
+    /// It is negative, or its clause has more than one literal left or is not live.
     Stops,
 }
 
 /// Takes one more hint.
-fn take_hint(assumed: &mut LiteralSet, live: &Live, id: u64) -> Result<Taken, AllocError>
-    ensures { IfOk result (λ taken. Takes live.now.clauses id assumed.old assumed.new taken) }
+fn take_hint(assumed: &mut LiteralSet, live: &Live, hint: i64) -> Result<Taken, AllocError>
+    ensures { IfOk result (λ taken. Takes live.now.clauses hint assumed.old assumed.new taken) }
 {
-    let clause = match live.clause(id) {
-        Some(clause) => clause,
-        None => return Ok(Taken::Stops),
+    if hint < 0 {
+        return Ok(Taken::Stops);
+    }
+    let Some(clause) = live.clause(hint.unsigned_abs()) else {
+        return Ok(Taken::Stops);
     };
     match left_of(assumed, clause) {
         LeftOf::Nothing => Ok(Taken::Ends),
@@ -36,18 +38,19 @@ fn take_hint(assumed: &mut LiteralSet, live: &Live, id: u64) -> Result<Taken, Al
     }
 }
 
-/// How many of the hints are a right chain of live clauses for the target; none where no front of them is one.
+/// How many of the hints are a right chain of live clauses for the target; none where no front of them is one without a
+/// negative hint.
 pub fn chain_length(
     assumed: &mut LiteralSet,
     live: &Live,
     target: &[Lit],
     hints: &[i64],
 ) -> Result<Option<usize>, AllocError>
-    ensures { IfOk result (λ found. IfSome found (λ count. (count ≤ length hints.now) × IsLiveChain live.now.clauses target.now (sizes (take count hints.now)))) }
+    ensures { IfOk result (λ found. IfSome found (λ count. (count ≤ length hints.now) × NoneNegative (take count hints.now) × IsLiveChain live.now.clauses target.now (sizes (take count hints.now)))) }
 {
     assumed.set_to_negations(target)?;
     for place in 0..hints.len() {
-        match take_hint(assumed, live, hints[place].unsigned_abs())? {
+        match take_hint(assumed, live, hints[place])? {
             Taken::Goes => {}
             Taken::Ends => return Ok(Some(place + 1)),
             Taken::Stops => return Ok(None),

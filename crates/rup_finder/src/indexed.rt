@@ -7,7 +7,7 @@ ghost use Rattle.proof_rules.specs.declared.live.Kind.TheVariants.{Clauses};
 ghost use Rattle.proof_rules.specs.Kinds.{chosen, put_constraint, drop_constraints};
 ghost use Rattle.cx_semantics.specs.Tables.{is_live, named, no_tables};
 ghost use Rattle.rup_engine.specs.Finding.{Answers};
-ghost use Rattle.rup_finder.specs.Front.{IsLiveChain};
+ghost use Rattle.rup_finder.specs.Front.{IsLiveChain, NoneNegative};
 
 use crate::front::chain_length;
 use crate::ready::{ask, put_in, ready, take_out};
@@ -156,7 +156,8 @@ impl<'f> IndexedClauses<'f> {
         }
     }
 
-    /// How many of the hints are a right chain of live clauses for the clause; none where no front of them is one.
+    /// How many of the hints are a right chain of live clauses for the clause; none where no front of them is one without a
+    /// negative hint.
     ///
     /// Each hint is looked up once, and none behind the chain's end.
     pub fn chain_length(
@@ -166,6 +167,7 @@ impl<'f> IndexedClauses<'f> {
     ) -> Result<Option<usize>, AllocError>
         ensures same { self.new ≡ self.old }
         ensures chain { IfOk result (λ found. IfSome found (λ count. (count ≤ length hints.now) × IsLiveChain self.old.clauses target.now (sizes (take count hints.now)))) }
+        ensures plain { IfOk result (λ found. IfSome found (λ count. NoneNegative (take count hints.now))) }
     {
         chain_length(&mut self.assumed, &self.live, target, hints)
     }

@@ -5,8 +5,17 @@ use Rattle.cx_semantics.specs.LogRules.{naming}
 use Rattle.cx_semantics.specs.ProofRules.{summing}
 use Rattle.cx_semantics.specs.Tables.{Tables, named, put_parity}
 use Rattle.cx_base.specs.declared.steps.ProofStep.TheVariants as step
-use Rattle.fratx_elab.proofs.Taking.{takes_parity}
+use Rattle.fratx_elab.proofs.NameLaws.{named_as_live}
+use Rattle.fratx_elab.proofs.Taking.{names_live, takes_parity}
 use Rattle.fratx_elab.proofs.take.take_parity.Goals as goal
+
+pub hints_of-requires : goal.hints_of-requires
+hints_of-requires c =
+    let state = c.args.state.now in
+    let ids : List ℕ = c.args.sources.now in
+    let target : List Literal = c.in_ok-target.target in
+    let judged = subst (λ (t : Tables). AllHold (naming t.parities ids ++ summing target (named t.parities ids))) c.live.ensures c.in_ok-judge_named_sum.ensures in
+    named_as_live state.live.parities state.parities c.requires.tied.1.parities.keyed ids (names_live state.live.parities ids (judged.0, tt))
 
 pub returns-clause-taken : goal.returns-clause-taken
 returns-clause-taken c =

@@ -5,8 +5,17 @@ use Rattle.cx_semantics.specs.LogRules.{naming}
 use Rattle.cx_semantics.specs.ProofRules.{parity_of_clauses}
 use Rattle.cx_semantics.specs.Tables.{Tables, named, put_parity}
 use Rattle.cx_base.specs.declared.steps.ProofStep.TheVariants as step
-use Rattle.fratx_elab.proofs.Taking.{takes_parity_of_clauses}
+use Rattle.fratx_elab.proofs.NameLaws.{named_as_live}
+use Rattle.fratx_elab.proofs.Taking.{names_live, takes_parity_of_clauses}
 use Rattle.fratx_elab.proofs.take.take_parity_of_clauses.Goals as goal
+
+pub hints_of-requires : goal.hints_of-requires
+hints_of-requires c =
+    let state = c.args.state.now in
+    let ids : List ℕ = c.args.sources.now in
+    let target : List Literal = c.in_ok-target.target in
+    let judged = subst (λ (t : Tables). AllHold (naming t.clauses ids ++ parity_of_clauses target (named t.clauses ids))) c.live.ensures c.in-Ok.ensures in
+    named_as_live state.live.clauses state.clauses c.requires.tied.1.clauses.keyed ids (names_live state.live.clauses ids (judged.0, tt))
 
 pub returns-clause-taken : goal.returns-clause-taken
 returns-clause-taken c =

@@ -1,7 +1,10 @@
 use Rattle.std.proofs.Common.{take}
 use Rattle.cx_base.specs.Integers.{sizes}
-use Rattle.rup_finder.specs.Front.{HasReached}
+use Rattle.rup_finder.specs.Front.{HasReached, NoneNegative}
 use Rattle.rup_finder.proofs.front.chain_length.Given as goal
 
 abbrev pub invariant-loop-place : goal.invariant-loop-place
-invariant-loop-place l = HasReached l.live.clauses l.target (sizes (take l.place l.hints)) l.assumed
+invariant-loop-place l = record {
+  reached : HasReached l.live.clauses l.target (sizes (take l.place l.hints)) l.assumed;
+  plain : NoneNegative (take l.place l.hints);
+}

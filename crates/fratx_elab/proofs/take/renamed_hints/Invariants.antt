@@ -1,7 +1,7 @@
 use Rattle.std.proofs.Common.{◌≡◌, ◌++◌, drop}
 use Rattle.cx_base.specs.Numbers.{AreStepIntegers}
 use Rattle.fratx_elab.specs.Names.{hints_for}
-use Rattle.fratx_elab.proofs.take.hints_of.Given as goal
+use Rattle.fratx_elab.proofs.take.renamed_hints.Given as goal
 
 abbrev pub invariant-loop-id : goal.invariant-loop-id
 invariant-loop-id l = record {

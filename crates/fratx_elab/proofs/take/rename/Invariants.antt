@@ -2,7 +2,7 @@ use Rattle.std.proofs.Common.{◌≡◌, ◌≤◌, ◌++◌, take, drop, vec_le
 use Rattle.cx_base.specs.Integers.{sizes}
 use Rattle.cx_base.specs.Numbers.{AreStepIntegers}
 use Rattle.fratx_elab.specs.Names.{hints_for}
-use Rattle.fratx_elab.proofs.take.renamed.Given as goal
+use Rattle.fratx_elab.proofs.take.rename.Given as goal
 
 abbrev pub invariant-loop-place : goal.invariant-loop-place
 invariant-loop-place l = record {
