@@ -8,6 +8,7 @@ mod naming;
 mod one_step;
 mod originals;
 mod outcome;
+mod own_ids;
 mod state;
 mod steps;
 mod take;

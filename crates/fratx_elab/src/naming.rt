@@ -1,7 +1,8 @@
 //! What stands in the proof for the ids of a log.
 ghost use Rattle.std.specs.Prelude.{◌≡◌, ◌≢◌, ◌≤◌, ◌<◌, ◌+◌, ℕ, ℤ, pos, nat_abs, true, IfOk, OnOk};
-ghost use Rattle.fratx_elab.specs.Names.{stands_for, first_naming, name_original, name_next, drop_name, StandForThemselves, StandForProofIds, each_itself, AreProofIds};
+ghost use Rattle.fratx_elab.specs.Names.{stands_for, first_naming, name_original, name_next, drop_name, StandForThemselves, StandForProofIds};
 
+use crate::own_ids::OwnIds;
 use proof_rules::{Filler, IdMap};
 use std::alloc::{AllocError, Global};
 use std::marker::Model;
@@ -70,22 +71,12 @@ impl ProofId {
     }
 }
 
-/// What is kept with an id that stands for itself: nothing.
-#[derive(Drop)]
-struct Itself;
-
-impl Filler for Itself {
-    fn filler() -> Itself {
-        Itself
-    }
-}
-
 /// What stands for the live ids of a log.
 #[derive(Drop)]
 enum Standing {
-    /// Each stands for itself, as in the logs of a solver that counts as a proof does. A bit is kept for each.
-    Themselves(IdMap<Itself>),
-    /// The number that stands for each, since for one it was another than the id itself.
+    /// All but one at the most stand for themselves, as in the logs of a solver that counts as a proof does.
+    Themselves(OwnIds),
+    /// The number that stands for each.
     Numbered(IdMap<ProofId>),
 }
 
@@ -104,11 +95,9 @@ impl Model for Names {
 
     ghost coded = { naming_code };
 
-    ghost use Rattle.fratx_elab.specs.Standings.{naming_of, HasProofIds};
+    ghost use Rattle.fratx_elab.specs.Standings.{naming_of};
 
     ghost view = { λ a. naming_of a.ids a.last };
-
-    ghost invariant = { λ a. HasProofIds a.ids };
 }
 
 impl Names {
@@ -118,7 +107,7 @@ impl Names {
     {
         Names {
             alloc,
-            ids: Standing::Themselves(IdMap::new(alloc)),
+            ids: Standing::Themselves(OwnIds::new(alloc)),
             last: count,
         }
     }
@@ -136,7 +125,7 @@ impl Names {
         ensures within { result ≡ true → StandForProofIds self.now }
     {
         match &self.ids {
-            Standing::Themselves(_) => true,
+            Standing::Themselves(ids) => ids.has_no_other(),
             Standing::Numbered(_) => false,
         }
     }
@@ -146,10 +135,7 @@ impl Names {
         ensures { result ≡ stands_for self.now id }
     {
         match &self.ids {
-            Standing::Themselves(ids) => match ids.get(id) {
-                Some(_) => Some(ProofId::new(id)),
-                None => None,
-            },
+            Standing::Themselves(ids) => ids.get(id),
             Standing::Numbered(ids) => match ids.get(id) {
                 Some(number) => Some(*number),
                 None => None,
@@ -181,11 +167,12 @@ impl Names {
         ensures { OnOk result (self.new ≡ name_original self.old id number) }
     {
         match &mut self.ids {
-            Standing::Themselves(ids) if number.number() == id => ids.insert(id, Itself)?,
             Standing::Themselves(ids) => {
-                let mut numbers = own_numbers(self.alloc, self.last, ids)?;
-                numbers.insert(id, number)?;
-                self.ids = Standing::Numbered(numbers);
+                if !ids.put(id, number)? {
+                    let mut numbers = ids.numbers(self.alloc, self.last)?;
+                    numbers.insert(id, number)?;
+                    self.ids = Standing::Numbered(numbers);
+                }
             }
             Standing::Numbered(ids) => ids.insert(id, number)?,
         }
@@ -204,17 +191,4 @@ impl Names {
         }
         found
     }
-}
-
-/// The same ids, each as its own number. The proof has `count` ids by now, and as many may have a place.
-fn own_numbers(alloc: Global, count: u64, ids: &IdMap<Itself>) -> Result<IdMap<ProofId>, AllocError>
-    requires { AreProofIds ids.now }
-    ensures { IfOk result (λ numbers. numbers ≡ each_itself ids.now) }
-{
-    let list = ids.ids(alloc)?;
-    let mut numbers = IdMap::beside(alloc, count);
-    for id in &list {
-        numbers.insert(*id, ProofId::new(*id))?;
-    }
-    Ok(numbers)
 }

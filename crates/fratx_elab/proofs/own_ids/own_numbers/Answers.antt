@@ -5,8 +5,8 @@ use Rattle.std.specs.List.{list_any}
 use Rattle.std.specs.Ordering.{eq_by_cmp}
 use Rattle.std.specs.FinMap as map
 use Rattle.proof_rules.specs.Places.{HasKeys}
-use Rattle.fratx_elab.proofs.NameLaws.{listed_id, get-insert_itself, all_themselves}
-use Rattle.fratx_elab.proofs.naming.own_numbers.Goals as goal
+use Rattle.fratx_elab.proofs.OwnLaws.{listed_id, get-insert_itself, all_themselves}
+use Rattle.fratx_elab.proofs.own_ids.own_numbers.Goals as goal
 
 pub loop-id-init : goal.loop-id-init
 loop-id-init c q = ap (λ m. map.get m q) c.beside-numbers.ensures ∙ map.get-empty nat_cmp q

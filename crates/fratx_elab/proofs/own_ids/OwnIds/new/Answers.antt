@@ -1,7 +1,7 @@
 use Rattle.std.proofs.Common.{rules}
 use Rattle.std.specs.FinMap as map
-use Rattle.fratx_elab.proofs.NameLaws.{each_itself-empty}
-use Rattle.fratx_elab.proofs.naming.Names.new.Goals as goal
+use Rattle.fratx_elab.proofs.OwnLaws.{each_itself-empty}
+use Rattle.fratx_elab.proofs.own_ids.OwnIds.new.Goals as goal
 
 pub invariant_of-result : goal.invariant_of-result
 invariant_of-result c = rw c.new.ensures (λ n g. grind (map.gets, rules))
