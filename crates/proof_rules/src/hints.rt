@@ -21,7 +21,7 @@ pub(crate) fn id_of(hint: i64) -> u64
 }
 
 /// Whether some hint is negative.
-pub fn any_negative(hints: &[i64]) -> bool
+fn any_negative(hints: &[i64]) -> bool
     ensures { result ≡ list_any is_negative hints.now }
 {
     let mut some = false;

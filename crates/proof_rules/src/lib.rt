@@ -24,7 +24,7 @@ mod table;
 pub use added::admit_into;
 pub use chain::{LeftOf, left_of};
 pub use content::{fill_clause_content, fill_parity_content};
-pub use hints::{any_negative, ids_of};
+pub use hints::ids_of;
 pub use id_map::IdMap;
 pub use judge::{judge_chain, judge_clause_of_parity, judge_parity_of_clauses, judge_sum};
 pub use literal_set::LiteralSet;
