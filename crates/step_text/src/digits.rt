@@ -1,4 +1,4 @@
-//! The digits of numbers, laid out with no branch on how many there are: a branch that can't be foreseen costs more than they do.
+//! The digits of numbers, laid out three at a time with no branch on how many of three there are: one that can't be foreseen costs more.
 ghost use Rattle.std.specs.Prelude.{◌≡◌, ◌<◌, ◌≤◌, ◌+◌, ◌-◌, ◌/◌, ◌%◌, ◌∷◌, ◌++◌, decimal, length, drop};
 ghost use Rattle.step_text.specs.Spaced.{three_digits};
 
