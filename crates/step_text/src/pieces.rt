@@ -122,7 +122,7 @@ pub fn put_head<D: Desk>(
 }
 
 /// The most integers of a line that is laid out whole.
-const MANY: usize = 96;
+const MANY: usize = 512;
 
 /// Room for a line that is laid out whole.
 const SHEET: usize = MANY * LONGEST + FRAME;
