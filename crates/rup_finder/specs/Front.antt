@@ -22,11 +22,11 @@ abbrev pub NoneNegative : List ℤ → Type 0
 NoneNegative hints = list_any is_negative hints ≡ false
 
 -- the hint is not negative, and names this clause
-abbrev pub Names : Table → ℤ → List Literal → Type 0
-Names table hint clause = (is_negative hint ≡ false) × (get table (nat_abs hint) ≡ Some clause)
+abbrev pub NamesClause : Table → ℤ → List Literal → Type 0
+NamesClause table hint clause = (is_negative hint ≡ false) × (get table (nat_abs hint) ≡ Some clause)
 
 -- What one more hint does: its clause leaves one literal, which is assumed then; or it leaves nothing; or the hints are no chain.
 abbrev pub Takes : Table → ℤ → List Literal → List Literal → Taken → Type 0
-Takes table hint old new Goes = (clause : List Literal) × (l : Literal) × Names table hint clause × (one l ≡ count_left (left old clause)) × HaveSame new (l ∷ old)
-Takes table hint old new Ends = (clause : List Literal) × Names table hint clause × (none ≡ count_left (left old clause))
+Takes table hint old new Goes = (clause : List Literal) × (l : Literal) × NamesClause table hint clause × (one l ≡ count_left (left old clause)) × HaveSame new (l ∷ old)
+Takes table hint old new Ends = (clause : List Literal) × NamesClause table hint clause × (none ≡ count_left (left old clause))
 Takes table hint old new Stops = Unit {0}
