@@ -6,7 +6,8 @@ use Rattle.std.proofs.lemmas.List.Folds.{list_any_at}
 use Rattle.std.proofs.lemmas.Option.{same_Some, none-some}
 use Rattle.std.specs.List.{list_any}
 use Rattle.std.specs.FinMap as map_
-use Rattle.fratx_elab.specs.Names.{each_itself, IsProofId, AreProofIds}
+use Rattle.fratx_elab.specs.Names.{IsProofId}
+use Rattle.fratx_elab.specs.OwnIds.{each_itself, AreProofIds}
 use Rattle.proof_rules.specs.Places.{HasKeys}
 use Rattle.fratx_elab.proofs.TieLaws.{At, at_it, elsewhere, at_put}
 

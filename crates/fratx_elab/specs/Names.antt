@@ -58,13 +58,5 @@ name_next naming n = record { ids = map_.insert naming.ids n (naming.last + 1); 
 abbrev pub drop_name : Naming → ℕ → Naming
 drop_name naming n = record { ids = map_.remove naming.ids n; last = naming.last }
 
--- each id of a set stands for itself
-abbrev pub each_itself : {V : Type 0} → map_.FinMap nat_cmp V → map_.FinMap nat_cmp ℕ
-each_itself ids = map_.from_entries (map (λ n. (n, n)) (map_.keys ids))
-
--- a proof may have each id of a set
-abbrev pub AreProofIds : {V : Type 0} → map_.FinMap nat_cmp V → Type 0
-AreProofIds ids = (n : ℕ) → IsTrue (map_.contains_key ids n) → IsProofId n
-
 abbrev pub naming_code : Coded Naming
 naming_code = code_by (map_.FinMap nat_cmp ℕ × ℕ) (coded× (map_.code coded_ℕ coded_ℕ) coded_ℕ) (λ a. (a.ids, a.last)) (λ p. record { ids = p.0; last = p.1 }) (λ _. refl)

@@ -1,7 +1,8 @@
 //! Ids that stand for themselves, but for one at the most.
 ghost use Rattle.std.specs.Prelude.{◌≡◌, ℕ, true, false, IfOk, Some};
 ghost use Rattle.std.specs.FinMap as map;
-ghost use Rattle.fratx_elab.specs.Names.{each_itself, AreProofIds, IsProofId};
+ghost use Rattle.fratx_elab.specs.Names.{IsProofId};
+ghost use Rattle.fratx_elab.specs.OwnIds.{each_itself, AreProofIds};
 
 use crate::naming::ProofId;
 use proof_rules::{Filler, IdMap};
@@ -40,8 +41,7 @@ impl Model for OwnIds {
     ghost use Rattle.std.specs.Ordering.{nat_cmp};
     ghost use Rattle.std.specs.Coded.{coded_ℕ};
     ghost use Rattle.std.specs.FinMap as map;
-    ghost use Rattle.fratx_elab.specs.Names.{each_itself, AreProofIds};
-    ghost use Rattle.fratx_elab.specs.OwnIds.{with_other};
+    ghost use Rattle.fratx_elab.specs.OwnIds.{each_itself, AreProofIds, with_other};
 
     ghost Value = { map.FinMap nat_cmp ℕ };
 

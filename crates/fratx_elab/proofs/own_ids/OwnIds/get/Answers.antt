@@ -1,5 +1,5 @@
 use Rattle.std.proofs.Common.{rules, sym, ◌∙◌}
-use Rattle.fratx_elab.specs.Names.{each_itself}
+use Rattle.fratx_elab.specs.OwnIds.{each_itself}
 use Rattle.fratx_elab.proofs.OwnLaws.{got, got_apart}
 use Rattle.fratx_elab.proofs.own_ids.OwnIds.get.Goals.{in_default-via-in-Some+else-other-id, in_default-via-in_default}
 use Rattle.fratx_elab.proofs.own_ids.OwnIds.get.Goals as goal

@@ -1,5 +1,6 @@
 use Rattle.std.proofs.Common.{sym, subst, ◌≡◌}
-use Rattle.fratx_elab.specs.Names.{each_itself, IsProofId}
+use Rattle.fratx_elab.specs.Names.{IsProofId}
+use Rattle.fratx_elab.specs.OwnIds.{each_itself}
 use Rattle.fratx_elab.proofs.OwnLaws.{put_twice, put_apart, one_more_id, each_itself-insert}
 use Rattle.fratx_elab.proofs.own_ids.OwnIds.put.Goals.{in_default-via-in-Some-2+else-not-is_own, in_default-via-in-None+else-not-is_own-2}
 use Rattle.fratx_elab.proofs.own_ids.OwnIds.put.Goals as goal

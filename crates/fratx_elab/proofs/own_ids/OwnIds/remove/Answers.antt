@@ -1,5 +1,5 @@
 use Rattle.std.proofs.Common.{sym}
-use Rattle.fratx_elab.specs.Names.{each_itself}
+use Rattle.fratx_elab.specs.OwnIds.{each_itself}
 use Rattle.fratx_elab.proofs.OwnLaws.{dropped, dropped_apart, one_less_id, each_itself-remove}
 use Rattle.fratx_elab.proofs.own_ids.OwnIds.remove.Goals.{in-Some+then-other-id, in-Some+else-other-id, in_default}
 use Rattle.fratx_elab.proofs.own_ids.OwnIds.remove.Goals as goal
