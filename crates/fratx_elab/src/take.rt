@@ -155,7 +155,7 @@ fn chain_of(
     let mut reversed = Vec::from_slice(alloc, given)?;
     reversed.reverse();
     if let Some(count) = live.chain_length(target.as_slice(), &reversed)? {
-        return Ok(IdList::from_vec(ids_of(alloc, &reversed[..count])?));
+        return Ok(IdList::from_vec(ids_of(Vec::new(alloc), &reversed[..count])?));
     }
     match live.find(alloc, target.as_slice())? {
         Some(ids) => Ok(ids),

@@ -11,7 +11,7 @@ ghost use Rattle.proof_rules.specs.Kinds.{chosen};
 use crate::JudgeRefusal;
 use crate::live::{Kind, Live};
 use cx_semantics::Cause;
-use std::alloc::{AllocError, Global};
+use std::alloc::AllocError;
 
 /// The id that a hint names.
 pub(crate) fn id_of(hint: i64) -> u64
@@ -51,13 +51,15 @@ pub(crate) fn judge_hints(live: &Live, kind: Kind, hints: &[i64]) -> Result<(), 
     Ok(())
 }
 
-/// The ids that hints name.
-pub fn ids_of(alloc: Global, hints: &[i64]) -> Result<Vec<u64>, AllocError>
+/// The ids that hints name, in the memory of `room`.
+pub fn ids_of(room: Vec<u64>, hints: &[i64]) -> Result<Vec<u64>, AllocError>
     ensures { IfOk result (λ ids. ids.items ≡ sizes hints.now) }
 {
-    let mut ids = Vec::with_capacity(alloc, hints.len())?;
-    for hint in hints {
-        ids.push(id_of(*hint))?;
+    // Places first, since a loop that fills places takes several at once.
+    let mut ids = room;
+    ids.resize(hints.len(), 0)?;
+    for place in 0..hints.len() {
+        ids[place] = id_of(hints[place]);
     }
     Ok(ids)
 }

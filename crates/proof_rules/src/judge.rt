@@ -11,6 +11,7 @@ use crate::live::Kind;
 use crate::{JudgeMarks, JudgeRefusal, Live, chain, clauses_parity, parity_clause, sum};
 use cx_base::LitList;
 use std::alloc::Global;
+use std::mem;
 
 /// Judges a clause by a chain of hints: live clauses, each of which has one literal left or none.
 ///
@@ -43,8 +44,9 @@ pub fn judge_sum(
     ensures { JudgesBy (hinting live.now.parities hints.now ++ summing target.now (named live.now.parities (sizes hints.now))) result }
 {
     judge_hints(live, Kind::Parities, hints)?;
-    let ids = ids_of(alloc, hints)?;
-    sum::judge_target(&mut marks.sum, live, target.as_slice(), &ids)
+    let room = mem::replace(&mut marks.ids, Vec::new(alloc));
+    marks.ids = ids_of(room, hints)?;
+    sum::judge_target(&mut marks.sum, live, target.as_slice(), &marks.ids)
 }
 
 /// Judges a clause as implied by the one live parity that the hint names.
@@ -78,6 +80,9 @@ pub fn judge_parity_of_clauses(
     ensures { JudgesBy (hinting live.now.clauses hints.now ++ parity_of_clauses target.now (named live.now.clauses (sizes hints.now))) result }
 {
     judge_hints(live, Kind::Clauses, hints)?;
-    let ids = ids_of(alloc, hints)?;
-    clauses_parity::judge_target(marks, live, target.as_slice(), &ids)
+    let room = mem::replace(&mut marks.ids, Vec::new(alloc));
+    let ids = ids_of(room, hints)?;
+    let judged = clauses_parity::judge_target(marks, live, target.as_slice(), &ids);
+    marks.ids = ids;
+    judged
 }

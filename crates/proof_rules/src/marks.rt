@@ -18,6 +18,8 @@ pub struct JudgeMarks {
     pub(crate) variables: Vec<Var>,
     /// The assignments of a parity's variables, and whether each is excluded.
     pub(crate) table: Vec<bool>,
+    /// The ids of hints.
+    pub(crate) ids: Vec<u64>,
 }
 
 impl JudgeMarks {
@@ -29,6 +31,7 @@ impl JudgeMarks {
             sum: ParitySum::new(alloc),
             variables: Vec::new(alloc),
             table: Vec::new(alloc),
+            ids: Vec::new(alloc),
         }
     }
 }
