@@ -1,6 +1,6 @@
 //! A text's tokens with the next one at hand.
-ghost use Rattle.std.specs.Prelude.{◌≡◌, ◌<◌, ◌≤ℤ◌, ◌+◌, ◌^◌, ◌↔◌, IsTrue, MatchOption, IfOk, ℤ, List, ◌++◌, false, [], drop, length};
-ghost use Rattle.cx_texts.specs.Tokens.{tokens, tokens_within};
+ghost use Rattle.std.specs.Prelude.{◌≡◌, ◌<◌, ◌≤◌, ◌≤ℤ◌, ◌+◌, ◌^◌, ◌↔◌, IsTrue, MatchOption, IfOk, ℤ, List, ◌++◌, false, [], drop, length, slice_index};
+ghost use Rattle.cx_texts.specs.Tokens.{is_blank, tokens, tokens_within};
 ghost use Rattle.cx_texts.specs.Words.{is_digit, placed_words, word_of};
 ghost use Rattle.step_text.specs.Heads.{seen_head, is_letter, is_head_letter, head_place};
 ghost use Rattle.step_text.specs.Short.{TakesNumber, TakesShorts};
@@ -45,6 +45,21 @@ fn is_lone(token: &[u8], letter: u8) -> bool
     ensures { result ≡ is_letter letter (word_of token.now) }
 {
     token.len() == 1 && token[0] == letter
+}
+
+/// The place where the next token begins behind one that ends here, or the text's length.
+#[inline(always)]
+fn behind(text: &[u8], end: usize) -> usize
+    requires { end ≤ length text.now }
+    ensures high { result ≤ length text.now }
+    ensures begins { result < length text.now → is_blank (slice_index text.now result) ≡ false }
+    ensures left { tokens_within end (drop end text.now) ≡ tokens_within result (drop result text.now) }
+{
+    if end < text.len() {
+        begin_behind(text, end)
+    } else {
+        end
+    }
 }
 
 impl<'a> TokensAhead<'a> {
@@ -119,7 +134,7 @@ impl<'a> TokensAhead<'a> {
         ensures { self.new ≡ drop 1 self.old }
     {
         let len = run_len(&self.text[self.at..]);
-        self.at = begin_of_next(self.text, self.at + len, true);
+        self.at = behind(self.text, self.at + len);
     }
 
     /// Takes the next word where it is a number of a few digits, no less than this one, and a blank follows it.

@@ -7,7 +7,7 @@ pub returns : goal.returns
 returns c =
     let a = c.self.inside in
     let run = c.run_len-len in
-    let next = c.begin_of_next-self-inside in
+    let next = c.behind-self-inside in
     let behind = sym (left_from a.from true a.text.now (a.at + run.result) next.result next.ensures.left) in
     elim (cases_lt a.at (length a.text.now)) [
       | inl inside ↦ behind ∙ ap (drop 1) (sym (first_left a.from a.text.now a.at run.result inside (c.self.invariant.1 inside) run.ensures.high run.ensures.run run.ensures.ends) ∙ c.self.view_is)
