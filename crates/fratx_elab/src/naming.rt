@@ -131,6 +131,7 @@ impl Names {
     }
 
     /// The proof id that stands for an id of the log.
+    #[inline(always)]
     pub fn get(&self, id: u64) -> Option<ProofId>
         ensures { result ≡ stands_for self.now id }
     {
