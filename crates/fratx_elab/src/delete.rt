@@ -9,11 +9,10 @@ ghost use Rattle.fratx_elab.specs.Takes.{TakesLogStep, CanBePrinted, CountsOneMo
 ghost use Rattle.fratx_elab.specs.declared.naming.TheConstants.{MAX_ID};
 
 use crate::naming::{Names, ProofId};
-use crate::state::{State, taken};
+use crate::state::State;
 use crate::steps::{clause_deletion, parity_deletion};
 use cx_base::{IntList, ProofStep};
 use proof_rules::{JudgeRefusal, Kind};
-use std::alloc::Global;
 
 /// The proof id to delete where the log deletes an id: none for one of the formula's `count` constraints. Nothing stands
 /// for the id any more.
@@ -48,23 +47,23 @@ fn front_of(last: u64, id: ProofId) -> ProofId
 /// Takes a clause out of the log, and out of the proof where it was added there.
 #[inline(always)]
 pub fn delete_clause(
-    alloc: Global,
     count: u64,
     state: &mut State,
     id: u64,
-    lits: &IntList,
+    lits: IntList,
 ) -> Result<Option<ProofStep>, JudgeRefusal>
     requires room { state.old.clauses.last < MAX_ID }
-    ensures taken { (formula : Problem) → count ≡ number_of_clauses formula → TakesLogStep formula state.old (step.Delete id lits.now) result state.new }
+    ensures taken { (formula : Problem) → count ≡ number_of_clauses formula → TakesLogStep formula state.old (step.Delete id lits) result state.new }
     ensures text { IfOk result CanBePrinted }
     ensures counts { OnOk result (CountsOneMore state.old state.new) }
 {
     let gone = deleted(&mut state.clauses, count, id);
     let last = state.clauses.last();
     state.live.remove(Kind::Clauses, id);
+    state.spare.keep_literals(lits);
     match gone {
         Some(gone) => {
-            let room = taken(alloc, &mut state.deleted);
+            let room = state.spare.ids();
             Ok(Some(clause_deletion(room, front_of(last, gone), gone)?))
         }
         None => Ok(None),
@@ -74,21 +73,21 @@ pub fn delete_clause(
 /// Takes a parity out of the log, and out of the proof where it was added there.
 #[inline(always)]
 pub fn delete_parity(
-    alloc: Global,
     count: u64,
     state: &mut State,
     id: u64,
-    lits: &IntList,
+    lits: IntList,
 ) -> Result<Option<ProofStep>, JudgeRefusal>
-    ensures taken { (formula : Problem) → count ≡ number_of_parities formula → TakesLogStep formula state.old (step.DeleteParity id lits.now) result state.new }
+    ensures taken { (formula : Problem) → count ≡ number_of_parities formula → TakesLogStep formula state.old (step.DeleteParity id lits) result state.new }
     ensures text { IfOk result CanBePrinted }
     ensures counts { OnOk result (CountsOneMore state.old state.new) }
 {
     let gone = deleted(&mut state.parities, count, id);
     state.live.remove(Kind::Parities, id);
+    state.spare.keep_literals(lits);
     match gone {
         Some(gone) => {
-            let room = taken(alloc, &mut state.deleted);
+            let room = state.spare.ids();
             Ok(Some(parity_deletion(room, gone)?))
         }
         None => Ok(None),

@@ -9,7 +9,7 @@ ghost use Rattle.step_text.specs.Sources.{Gives, PlaceRises, FaultsAs, SpentAs, 
 ghost use Rattle.step_text.specs.Sinks.{with_next, SinkFaultsAs, HasFailedAs, OnFailed};
 
 use cx_base::{LogStep, ProofStep};
-use step_text::{Sink, SinkFault, StepSource, TextRefusal};
+use step_text::{Sink, SinkFault, SpareLists, StepSource, TextRefusal};
 
 /// A source of the steps of a log and a sink of the steps of a proof, in one object.
 ///
@@ -48,8 +48,8 @@ pub trait ElabEnds {
     // what a call leaves as it was
     ghost keeps: { Self → Self → Type 0 };
 
-    /// The next step of the log, or none at the end of the text between two steps.
-    fn next_step(&mut self) -> Result<Option<LogStep>, TextRefusal>
+    /// The next step of the log, or none at the end of the text between two steps. Its lists may take the memory of the spare ones.
+    fn next_step(&mut self, spare: &mut SpareLists) -> Result<Option<LogStep>, TextRefusal>
         requires { is_spent self.old ≡ false }
         ensures step { Gives leaves self.old result self.new }
         ensures spent { SpentAs result (is_spent self.new) }
@@ -127,8 +127,8 @@ impl<A: StepSource<Step = LogStep>, B: Sink<Item = ProofStep>> ElabEnds for Join
 
     ghost keeps = { λ a b. A.keeps a.source b.source × B.keeps a.sink b.sink };
 
-    fn next_step(&mut self) -> Result<Option<LogStep>, TextRefusal> {
-        self.source.next_step()
+    fn next_step(&mut self, spare: &mut SpareLists) -> Result<Option<LogStep>, TextRefusal> {
+        self.source.next_step(spare)
     }
 
     fn place(&self) -> u64 {

@@ -61,9 +61,9 @@ pub fn take_step(
     ensures more { OnOk result (CountsOneMore state.old state.new) }
 {
     match step {
-        LogStep::Original(id, lits) => take_original(alloc, formula, originals, state, id, &lits),
+        LogStep::Original(id, lits) => take_original(alloc, formula, originals, state, id, lits),
         LogStep::OriginalParity(id, lits) => {
-            take_original_parity(alloc, formula, originals, state, id, &lits)
+            take_original_parity(alloc, formula, originals, state, id, lits)
         }
         LogStep::Clause(id, lits) => {
             let none = IntList::from_vec(Vec::new(alloc));
@@ -72,17 +72,18 @@ pub fn take_step(
         LogStep::ClauseWithHints(id, lits, hints) => {
             take_clause(alloc, formula, state, id, lits, hints)
         }
-        LogStep::Parity(id, lits, ids) => {
-            take_parity(alloc, formula, state, id, lits, ids.as_slice())
-        }
+        LogStep::Parity(id, lits, ids) => { take_parity(alloc, formula, state, id, lits, ids) }
         LogStep::ClauseOfParity(id, lits, source) => {
             take_clause_of_parity(alloc, formula, state, id, lits, source)
         }
         LogStep::ParityOfClauses(id, lits, ids) => {
-            take_parity_of_clauses(alloc, formula, state, id, lits, ids.as_slice())
+            take_parity_of_clauses(alloc, formula, state, id, lits, ids)
         }
-        LogStep::Delete(id, lits) => delete_clause(alloc, counts.clauses, state, id, &lits),
-        LogStep::DeleteParity(id, lits) => delete_parity(alloc, counts.parities, state, id, &lits),
-        LogStep::Final(_, _) | LogStep::FinalParity(_, _) => Ok(None),
+        LogStep::Delete(id, lits) => delete_clause(counts.clauses, state, id, lits),
+        LogStep::DeleteParity(id, lits) => delete_parity(counts.parities, state, id, lits),
+        LogStep::Final(_, lits) | LogStep::FinalParity(_, lits) => {
+            state.spare.keep_literals(lits);
+            Ok(None)
+        }
     }
 }

@@ -1,9 +1,11 @@
 //! What stands between two steps.
 use crate::naming::Names;
+use cx_base::ProofStep;
 use proof_rules::JudgeMarks;
 use rup_finder::IndexedClauses;
 use std::alloc::Global;
 use std::mem;
+use step_text::SpareLists;
 
 /// The live constraints of the log, and what stands for them in the proof.
 #[derive(Drop)]
@@ -13,11 +15,18 @@ pub struct State<'f> {
     pub parities: Names,
     /// For its memory alone.
     pub marks: JudgeMarks,
-    /// For its memory alone: the ids of the deletion that was written last.
-    pub deleted: Vec<u64>,
+    /// For its memory alone.
+    pub spare: SpareLists,
 }
 
 /// The list with its memory, which is given back behind the step.
 pub fn taken<T>(alloc: Global, list: &mut Vec<T>) -> Vec<T> {
     mem::replace(list, Vec::new(alloc))
+}
+
+/// Keeps the memory of what was written, if anything, for the next step.
+pub fn keep_memory(spare: &mut SpareLists, written: Option<ProofStep>) {
+    if let Some(step) = written {
+        spare.keep(step);
+    }
 }

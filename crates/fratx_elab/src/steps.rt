@@ -71,13 +71,3 @@ pub fn parity_deletion(room: Vec<u64>, id: ProofId) -> Result<ProofStep, AllocEr
 {
     Ok(ProofStep::DeleteParities(only(room, id)?))
 }
-
-/// Keeps the memory of a deletion, for the next one.
-pub fn keep_memory(deleted: &mut Vec<u64>, written: Option<ProofStep>) {
-    match written {
-        Some(ProofStep::DeleteClauses(_, ids)) | Some(ProofStep::DeleteParities(ids)) => {
-            *deleted = ids.into_vec();
-        }
-        _ => {}
-    }
-}

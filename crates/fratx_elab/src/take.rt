@@ -30,24 +30,26 @@ use rup_finder::IndexedClauses;
 use std::alloc::{AllocError, Global};
 use std::mem;
 
-/// The hints of the proof that are these ids.
-fn same_hints(alloc: Global, ids: &[u64]) -> Result<IntList, AllocError>
+/// The hints of the proof that are these ids, in the memory of `room`.
+fn same_hints(room: Vec<i64>, ids: &[u64]) -> Result<IntList, AllocError>
     requires { AllByRecursion IsProofId ids.now }
     ensures { IfOk result (λ hints. hints ≡ map pos ids.now) }
 {
     // Places first, since a loop that fills places takes several at once.
-    let mut hints = Vec::from_elem(alloc, 1, ids.len())?;
+    let mut hints = room;
+    hints.resize(ids.len(), 1)?;
     for place in 0..ids.len() {
         hints[place] = ids[place] as i64;
     }
     Ok(IntList::from_vec(hints))
 }
 
-/// The hints that name in the proof what the ids name in the log, where some id may stand for another one.
-fn renamed_hints(alloc: Global, names: &Names, ids: &[u64]) -> Result<IntList, AllocError>
+/// The hints that name in the proof what the ids name in the log, where some id may stand for another one, in the memory of `room`.
+fn renamed_hints(room: Vec<i64>, names: &Names, ids: &[u64]) -> Result<IntList, AllocError>
     ensures { IfOk result (λ hints. hints ≡ hints_for names.now ids.now) }
 {
-    let mut hints = Vec::with_capacity(alloc, ids.len())?;
+    let mut hints = room;
+    hints.clear();
     for id in ids {
         if let Some(found) = names.get(*id) {
             hints.push(found.hint())?;
@@ -56,15 +58,15 @@ fn renamed_hints(alloc: Global, names: &Names, ids: &[u64]) -> Result<IntList, A
     Ok(IntList::from_vec(hints))
 }
 
-/// The hints that name in the proof what the ids name in the log.
-fn hints_of(alloc: Global, names: &Names, ids: &[u64]) -> Result<IntList, AllocError>
+/// The hints that name in the proof what the ids name in the log, in the memory of `room`.
+fn hints_of(room: Vec<i64>, names: &Names, ids: &[u64]) -> Result<IntList, AllocError>
     requires { AreNamed names.now ids.now }
     ensures { IfOk result (λ hints. hints ≡ hints_for names.now ids.now) }
 {
     if names.stand_for_themselves() {
-        same_hints(alloc, ids)
+        same_hints(room, ids)
     } else {
-        renamed_hints(alloc, names, ids)
+        renamed_hints(room, names, ids)
     }
 }
 
@@ -183,7 +185,8 @@ fn settle_hints(
         return Ok(());
     }
     let ids = chain_of(alloc, live, target, hints.as_slice())?;
-    *hints = hints_of(alloc, names, ids.as_slice())?;
+    let room = vector_of(alloc, hints);
+    *hints = hints_of(room, names, ids.as_slice())?;
     Ok(())
 }
 
@@ -194,15 +197,15 @@ pub fn take_original(
     originals: &Originals,
     state: &mut State,
     id: u64,
-    lits: &IntList,
+    lits: IntList,
 ) -> Result<Option<ProofStep>, JudgeRefusal>
     requires originals { StandsFor originals.now formula.now }
-    ensures taken { TakesLogStep formula.now state.old (step.Original id lits.now) result state.new }
+    ensures taken { TakesLogStep formula.now state.old (step.Original id lits) result state.new }
     ensures text { IfOk result CanBePrinted }
     ensures counts { OnOk result (CountsOneMore state.old state.new) }
 {
     let room = taken(alloc, &mut state.marks.target);
-    let target = admit(room, formula, &state.live, Kind::Clauses, id, lits)?;
+    let target = admit(room, formula, &state.live, Kind::Clauses, id, &lits)?;
     match originals.clause_number(alloc, formula, id, target.as_slice())? {
         Some(number) => {
             put_live(
@@ -214,6 +217,7 @@ pub fn take_original(
                 target,
             )?;
             state.clauses.put_original(id, number)?;
+            state.spare.keep_literals(lits);
             Ok(None)
         }
         None => Err(JudgeRefusal::Wrong(Cause::NotInFormula)),
@@ -227,15 +231,15 @@ pub fn take_original_parity(
     originals: &Originals,
     state: &mut State,
     id: u64,
-    lits: &IntList,
+    lits: IntList,
 ) -> Result<Option<ProofStep>, JudgeRefusal>
     requires originals { StandsFor originals.now formula.now }
-    ensures taken { TakesLogStep formula.now state.old (step.OriginalParity id lits.now) result state.new }
+    ensures taken { TakesLogStep formula.now state.old (step.OriginalParity id lits) result state.new }
     ensures text { IfOk result CanBePrinted }
     ensures counts { OnOk result (CountsOneMore state.old state.new) }
 {
     let room = taken(alloc, &mut state.marks.target);
-    let target = admit(room, formula, &state.live, Kind::Parities, id, lits)?;
+    let target = admit(room, formula, &state.live, Kind::Parities, id, &lits)?;
     match originals.parity_number(alloc, formula, id, target.as_slice())? {
         Some(number) => {
             put_live(
@@ -247,6 +251,7 @@ pub fn take_original_parity(
                 target,
             )?;
             state.parities.put_original(id, number)?;
+            state.spare.keep_literals(lits);
             Ok(None)
         }
         None => Err(JudgeRefusal::Wrong(Cause::NotInFormula)),
@@ -292,18 +297,20 @@ pub fn take_parity(
     state: &mut State,
     id: u64,
     lits: IntList,
-    sources: &[u64],
+    sources: IdList,
 ) -> Result<Option<ProofStep>, JudgeRefusal>
     requires room { state.old.parities.last < MAX_ID }
     requires tied { (proof : Tables) × AreTied formula.now state.old.live proof (names_of state.old) }
-    ensures taken { TakesLogStep formula.now state.old (step.Parity id lits sources.now) result state.new }
+    ensures taken { TakesLogStep formula.now state.old (step.Parity id lits sources) result state.new }
     ensures text { IfOk result CanBePrinted }
     ensures counts { OnOk result (CountsOneMore state.old state.new) }
 {
     let room = taken(alloc, &mut state.marks.target);
     let target = admit(room, formula, &state.live, Kind::Parities, id, &lits)?;
-    judge_named_sum(&mut state.marks, state.live.live(), &target, sources)?;
-    let hints = hints_of(alloc, &state.parities, sources)?;
+    let ids = sources.as_slice();
+    judge_named_sum(&mut state.marks, state.live.live(), &target, ids)?;
+    let hints = hints_of(state.spare.hints(), &state.parities, ids)?;
+    state.spare.keep_ids(sources);
     put_live(
         alloc,
         &mut state.live,
@@ -324,22 +331,24 @@ pub fn take_parity_of_clauses(
     state: &mut State,
     id: u64,
     lits: IntList,
-    sources: &[u64],
+    sources: IdList,
 ) -> Result<Option<ProofStep>, JudgeRefusal>
     requires room { state.old.parities.last < MAX_ID }
     requires tied { (proof : Tables) × AreTied formula.now state.old.live proof (names_of state.old) }
-    ensures taken { TakesLogStep formula.now state.old (step.ParityOfClauses id lits sources.now) result state.new }
+    ensures taken { TakesLogStep formula.now state.old (step.ParityOfClauses id lits sources) result state.new }
     ensures text { IfOk result CanBePrinted }
     ensures counts { OnOk result (CountsOneMore state.old state.new) }
 {
     let room = taken(alloc, &mut state.marks.target);
     let target = admit(room, formula, &state.live, Kind::Parities, id, &lits)?;
+    let ids = sources.as_slice();
     // By `?` the prover does not see the cause through.
-    match judge_parity_of_named_clauses(&mut state.marks, state.live.live(), &target, sources) {
+    match judge_parity_of_named_clauses(&mut state.marks, state.live.live(), &target, ids) {
         Ok(()) => {}
         Err(why) => return Err(why),
     }
-    let hints = hints_of(alloc, &state.clauses, sources)?;
+    let hints = hints_of(state.spare.hints(), &state.clauses, ids)?;
+    state.spare.keep_ids(sources);
     put_live(
         alloc,
         &mut state.live,

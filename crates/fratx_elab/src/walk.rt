@@ -17,14 +17,13 @@ use crate::naming::Names;
 use crate::one_step::{ends_log, take_step};
 use crate::originals::{Counts, Originals, count_kinds};
 use crate::outcome::{Elab, ElabFault};
-use crate::state::State;
-use crate::steps::keep_memory;
+use crate::state::{State, keep_memory};
 use cx_base::{Formula, LogStep, ProofStep};
 use cx_semantics::Cause;
 use proof_rules::{JudgeMarks, JudgeRefusal};
 use rup_finder::IndexedClauses;
 use std::alloc::Global;
-use step_text::{SinkFault, TextRefusal};
+use step_text::{SinkFault, SpareLists, TextRefusal};
 
 /// Hands a step to the sink, if there is one.
 fn write<E: ElabEnds>(ends: &mut E, written: &Option<ProofStep>) -> Result<(), SinkFault>
@@ -123,7 +122,7 @@ fn take_next<E: ElabEnds>(
     ensures cause { IfErr result (HasCause (E.passes_limit ends.old) (E.read_faults ends.old) (E.read_faults ends.new) (E.write_faults ends.old) (E.write_faults ends.new)) }
     ensures frame { E.keeps ends.old ends.new }
 {
-    let step = match ends.next_step() {
+    let step = match ends.next_step(&mut state.spare) {
         Ok(Some(step)) => step,
         Ok(None) => return Ok(Some(Elab::Refused(steps + 1, Cause::NoEmptyClause))),
         Err(why) => return refused_text(why, steps + 1),
@@ -134,7 +133,7 @@ fn take_next<E: ElabEnds>(
         Err(why) => return refused_step(why, steps + 1),
     };
     let wrote = write(ends, &written);
-    keep_memory(&mut state.deleted, written);
+    keep_memory(&mut state.spare, written);
     what_follows(wrote, is_last, steps + 1)
 }
 
@@ -200,7 +199,7 @@ pub fn elaborate<E: ElabEnds>(
         clauses: Names::new(alloc, counts.clauses),
         parities: Names::new(alloc, counts.parities),
         marks: JudgeMarks::new(alloc),
-        deleted: Vec::new(alloc),
+        spare: SpareLists::new(alloc),
     };
     take_all(alloc, formula, counts, &originals, &mut state, ends)
 }

@@ -8,7 +8,7 @@ ghost use Rattle.step_text.specs.Lists.{StepsLeft};
 use cx_base::{LogEvent, LogStep};
 use std::marker::Model;
 use std::vec::IntoIter;
-use step_text::{StepSource, TextRefusal};
+use step_text::{SpareLists, StepSource, TextRefusal};
 
 /// The steps of a list of events, by moves, in order. Marks are passed over. It has no limit and never refuses.
 ///
@@ -86,7 +86,7 @@ impl StepSource for LogList {
 
     ghost keeps = { GaveFront };
 
-    fn next_step(&mut self) -> Result<Option<LogStep>, TextRefusal> {
+    fn next_step(&mut self, _spare: &mut SpareLists) -> Result<Option<LogStep>, TextRefusal> {
         match next_of(&mut self.events) {
             Some(step) => {
                 self.given += 1;

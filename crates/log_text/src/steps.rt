@@ -10,10 +10,9 @@ ghost use Rattle.log_text.specs.Taking.{letter_of, listed_fields, listed_rows, T
 
 use crate::plain::{Listed, Plain, plain_step};
 use cx_base::{IdList, IntList, LogStep};
-use std::alloc::Global;
 use step_text::ahead::TokensAhead;
 use step_text::fields::{take_end, take_id, take_ids, take_integers, take_letter, take_named};
-use step_text::{StepGrammar, StepText, TextRefusal};
+use step_text::{SpareLists, StepGrammar, StepText, TextRefusal};
 
 /// The grammar of logs.
 #[derive(Drop)]
@@ -41,15 +40,15 @@ struct Implied {
 
 /// An id, literals, the letter l and ids.
 fn take_sourced(
-    alloc: Global,
+    spare: &mut SpareLists,
     tokens: &mut TokensAhead,
     size: usize,
 ) -> Result<Sourced, TextRefusal>
     ensures { TakesAll (λ s. id s.id ∷ integers s.literals ∷ mark 108 ∷ ids s.sources ∷ []) (an_id ∷ some_integers ∷ a_mark 108 ∷ some_ids ∷ []) size (placed_words tokens.old) result (placed_words tokens.new) }
 {
-    let named = take_named(alloc, tokens, size)?;
+    let named = take_named(spare.literals(), tokens, size)?;
     take_letter(tokens, size, b'l')?;
-    let sources = take_ids(alloc, tokens, size)?;
+    let sources = take_ids(spare.ids(), tokens, size)?;
     Ok(Sourced {
         id: named.id,
         literals: named.literals,
@@ -59,13 +58,13 @@ fn take_sourced(
 
 /// An id, literals, the letter l and one id with the zero behind it.
 fn take_implied(
-    alloc: Global,
+    spare: &mut SpareLists,
     tokens: &mut TokensAhead,
     size: usize,
 ) -> Result<Implied, TextRefusal>
     ensures { TakesAll (λ s. id s.id ∷ integers s.literals ∷ mark 108 ∷ id s.source ∷ end ∷ []) (an_id ∷ some_integers ∷ a_mark 108 ∷ an_id ∷ an_end ∷ []) size (placed_words tokens.old) result (placed_words tokens.new) }
 {
-    let named = take_named(alloc, tokens, size)?;
+    let named = take_named(spare.literals(), tokens, size)?;
     take_letter(tokens, size, b'l')?;
     let source = take_id(tokens, size)?;
     take_end(tokens, size)?;
@@ -77,18 +76,22 @@ fn take_implied(
 }
 
 /// An id and literals, of a parity where the letter x stands in front.
-fn take_listed(alloc: Global, tokens: &mut TokensAhead, size: usize) -> Result<Listed, TextRefusal>
+fn take_listed(
+    spare: &mut SpareLists,
+    tokens: &mut TokensAhead,
+    size: usize,
+) -> Result<Listed, TextRefusal>
     ensures { MatchResult result (λ l. Takes (listed_fields l.of_parity l.named.id l.named.literals) (placed_words tokens.old) (placed_words tokens.new)) (λ r. RefusedIn listed_rows size r (placed_words tokens.old)) }
 {
     if tokens.is_letter(b'x') {
         tokens.pass();
-        let named = take_named(alloc, tokens, size)?;
+        let named = take_named(spare.literals(), tokens, size)?;
         Ok(Listed {
             of_parity: true,
             named,
         })
     } else {
-        let named = take_named(alloc, tokens, size)?;
+        let named = take_named(spare.literals(), tokens, size)?;
         Ok(Listed {
             of_parity: false,
             named,
@@ -98,7 +101,7 @@ fn take_listed(alloc: Global, tokens: &mut TokensAhead, size: usize) -> Result<L
 
 /// A step that has literals alone, behind its letter.
 fn take_plain(
-    alloc: Global,
+    spare: &mut SpareLists,
     tokens: &mut TokensAhead,
     size: usize,
     plain: Plain,
@@ -107,26 +110,30 @@ fn take_plain(
     ensures { TakesLogStep size (placed_words tokens.old) result (placed_words tokens.new) }
 {
     tokens.pass();
-    let listed = take_listed(alloc, tokens, size)?;
+    let listed = take_listed(spare, tokens, size)?;
     Ok(plain_step(plain, listed))
 }
 
 /// An added clause or parity. The letter l behind the literals of a clause belongs to it.
-fn take_added(alloc: Global, tokens: &mut TokensAhead, size: usize) -> Result<LogStep, TextRefusal>
+fn take_added(
+    spare: &mut SpareLists,
+    tokens: &mut TokensAhead,
+    size: usize,
+) -> Result<LogStep, TextRefusal>
     requires { is_head_letter 97 (placed_words tokens.old) ≡ true }
     ensures { TakesLogStep size (placed_words tokens.old) result (placed_words tokens.new) }
 {
     tokens.pass();
     if tokens.is_letter(b'x') {
         tokens.pass();
-        let parity = take_sourced(alloc, tokens, size)?;
+        let parity = take_sourced(spare, tokens, size)?;
         return Ok(LogStep::Parity(parity.id, parity.literals, parity.sources));
     }
     let id = take_id(tokens, size)?;
-    let literals = take_integers(alloc, tokens, size)?;
+    let literals = take_integers(spare.literals(), tokens, size)?;
     if tokens.is_letter(b'l') {
         tokens.pass();
-        let hints = take_integers(alloc, tokens, size)?;
+        let hints = take_integers(spare.hints(), tokens, size)?;
         return Ok(LogStep::ClauseWithHints(id, literals, hints));
     }
     Ok(LogStep::Clause(id, literals))
@@ -134,7 +141,7 @@ fn take_added(alloc: Global, tokens: &mut TokensAhead, size: usize) -> Result<Lo
 
 /// A clause from a parity, or a parity from clauses.
 fn take_implied_step(
-    alloc: Global,
+    spare: &mut SpareLists,
     tokens: &mut TokensAhead,
     size: usize,
 ) -> Result<LogStep, TextRefusal>
@@ -144,10 +151,10 @@ fn take_implied_step(
     tokens.pass();
     if tokens.is_letter(b'x') {
         tokens.pass();
-        let parity = take_sourced(alloc, tokens, size)?;
+        let parity = take_sourced(spare, tokens, size)?;
         Ok(LogStep::ParityOfClauses(parity.id, parity.literals, parity.sources))
     } else {
-        let clause = take_implied(alloc, tokens, size)?;
+        let clause = take_implied(spare, tokens, size)?;
         Ok(LogStep::ClauseOfParity(clause.id, clause.literals, clause.source))
     }
 }
@@ -168,19 +175,23 @@ fn no_step(tokens: &TokensAhead, size: usize) -> TextRefusal
 }
 
 /// A step; its first word tells which one it may be.
-fn take_step(alloc: Global, tokens: &mut TokensAhead, size: usize) -> Result<LogStep, TextRefusal>
+fn take_step(
+    spare: &mut SpareLists,
+    tokens: &mut TokensAhead,
+    size: usize,
+) -> Result<LogStep, TextRefusal>
     ensures { TakesLogStep size (placed_words tokens.old) result (placed_words tokens.new) }
 {
     if tokens.is_letter(b'a') {
-        take_added(alloc, tokens, size)
+        take_added(spare, tokens, size)
     } else if tokens.is_letter(b'd') {
-        take_plain(alloc, tokens, size, Plain::Delete)
+        take_plain(spare, tokens, size, Plain::Delete)
     } else if tokens.is_letter(b'i') {
-        take_implied_step(alloc, tokens, size)
+        take_implied_step(spare, tokens, size)
     } else if tokens.is_letter(b'o') {
-        take_plain(alloc, tokens, size, Plain::Original)
+        take_plain(spare, tokens, size, Plain::Original)
     } else if tokens.is_letter(b'f') {
-        take_plain(alloc, tokens, size, Plain::Final)
+        take_plain(spare, tokens, size, Plain::Final)
     } else {
         Err(no_step(tokens, size))
     }
@@ -195,11 +206,11 @@ impl StepGrammar for LogGrammar {
     ghost steps = { log_steps };
 
     fn read_step(
-        alloc: Global,
+        spare: &mut SpareLists,
         tokens: &mut TokensAhead,
         size: usize,
     ) -> Result<LogStep, TextRefusal> {
-        take_step(alloc, tokens, size)
+        take_step(spare, tokens, size)
     }
 
     // behind a clause its hints may follow

@@ -27,7 +27,7 @@ fn written(alloc: Global, formula: &Formula, log: &str, last: u64) -> Result<Str
         return Ok(String::from_str(alloc, "too long")?);
     }
     let mut ends = Joined {
-        source: LogText::new(alloc, log),
+        source: LogText::new(log),
         sink: ListProof::make(alloc),
     };
     let elab = elaborate(alloc, formula, &mut ends)?;

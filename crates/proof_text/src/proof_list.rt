@@ -5,7 +5,7 @@ ghost use Rattle.step_text.specs.Lists.{StepsLeft};
 use cx_base::ProofStep;
 use std::marker::Model;
 use std::vec::IntoIter;
-use step_text::{StepSource, TextRefusal};
+use step_text::{SpareLists, StepSource, TextRefusal};
 
 /// The steps of a list, by moves, in order. It has no limit and never refuses.
 ///
@@ -66,7 +66,7 @@ impl StepSource for ProofList {
 
     ghost keeps = { GaveFront };
 
-    fn next_step(&mut self) -> Result<Option<ProofStep>, TextRefusal> {
+    fn next_step(&mut self, _spare: &mut SpareLists) -> Result<Option<ProofStep>, TextRefusal> {
         match self.steps.next() {
             Some(step) => {
                 self.given += 1;

@@ -8,10 +8,9 @@ ghost use Rattle.step_text.specs.Taking.{TakesAll};
 ghost use Rattle.proof_text.specs.ProofTaking.{TakesStep};
 
 use cx_base::{IntList, ProofStep};
-use std::alloc::Global;
 use step_text::ahead::TokensAhead;
 use step_text::fields::{take_end, take_id, take_ids, take_integer, take_integers, take_named};
-use step_text::{StepGrammar, StepText, TextRefusal};
+use step_text::{SpareLists, StepGrammar, StepText, TextRefusal};
 
 /// The grammar of proofs.
 #[derive(Drop)]
@@ -37,11 +36,15 @@ struct Implied {
 }
 
 /// An id, literals and hints.
-fn take_hinted(alloc: Global, tokens: &mut TokensAhead, size: usize) -> Result<Hinted, TextRefusal>
+fn take_hinted(
+    spare: &mut SpareLists,
+    tokens: &mut TokensAhead,
+    size: usize,
+) -> Result<Hinted, TextRefusal>
     ensures { TakesAll (λ h. id h.id ∷ integers h.literals ∷ integers h.hints ∷ []) (an_id ∷ some_integers ∷ some_integers ∷ []) size (placed_words tokens.old) result (placed_words tokens.new) }
 {
-    let named = take_named(alloc, tokens, size)?;
-    let hints = take_integers(alloc, tokens, size)?;
+    let named = take_named(spare.literals(), tokens, size)?;
+    let hints = take_integers(spare.hints(), tokens, size)?;
     Ok(Hinted {
         id: named.id,
         literals: named.literals,
@@ -51,13 +54,13 @@ fn take_hinted(alloc: Global, tokens: &mut TokensAhead, size: usize) -> Result<H
 
 /// An id, literals and one hint with the zero behind it.
 fn take_implied(
-    alloc: Global,
+    spare: &mut SpareLists,
     tokens: &mut TokensAhead,
     size: usize,
 ) -> Result<Implied, TextRefusal>
     ensures { TakesAll (λ h. id h.id ∷ integers h.literals ∷ integer h.hint ∷ end ∷ []) (an_id ∷ some_integers ∷ an_integer ∷ an_end ∷ []) size (placed_words tokens.old) result (placed_words tokens.new) }
 {
-    let named = take_named(alloc, tokens, size)?;
+    let named = take_named(spare.literals(), tokens, size)?;
     let hint = take_integer(tokens, size)?;
     take_end(tokens, size)?;
     Ok(Implied {
@@ -69,7 +72,7 @@ fn take_implied(
 
 /// A clause by a chain, or a deletion of clauses.
 fn take_clause_step(
-    alloc: Global,
+    spare: &mut SpareLists,
     tokens: &mut TokensAhead,
     size: usize,
 ) -> Result<ProofStep, TextRefusal>
@@ -80,18 +83,18 @@ fn take_clause_step(
     let id = take_id(tokens, size)?;
     if tokens.is_letter(b'd') {
         tokens.pass();
-        let names = take_ids(alloc, tokens, size)?;
+        let names = take_ids(spare.ids(), tokens, size)?;
         Ok(ProofStep::DeleteClauses(id, names))
     } else {
-        let literals = take_integers(alloc, tokens, size)?;
-        let hints = take_integers(alloc, tokens, size)?;
+        let literals = take_integers(spare.literals(), tokens, size)?;
+        let hints = take_integers(spare.hints(), tokens, size)?;
         Ok(ProofStep::Clause(id, literals, hints))
     }
 }
 
 /// A parity by a sum, or a deletion of parities.
 fn take_parity_step(
-    alloc: Global,
+    spare: &mut SpareLists,
     tokens: &mut TokensAhead,
     size: usize,
 ) -> Result<ProofStep, TextRefusal>
@@ -101,17 +104,17 @@ fn take_parity_step(
     tokens.pass();
     if tokens.is_letter(b'd') {
         tokens.pass();
-        let names = take_ids(alloc, tokens, size)?;
+        let names = take_ids(spare.ids(), tokens, size)?;
         Ok(ProofStep::DeleteParities(names))
     } else {
-        let parity = take_hinted(alloc, tokens, size)?;
+        let parity = take_hinted(spare, tokens, size)?;
         Ok(ProofStep::Parity(parity.id, parity.literals, parity.hints))
     }
 }
 
 /// A clause from a parity, or a parity from clauses.
 fn take_implied_step(
-    alloc: Global,
+    spare: &mut SpareLists,
     tokens: &mut TokensAhead,
     size: usize,
 ) -> Result<ProofStep, TextRefusal>
@@ -121,24 +124,28 @@ fn take_implied_step(
     tokens.pass();
     if tokens.is_letter(b'x') {
         tokens.pass();
-        let parity = take_hinted(alloc, tokens, size)?;
+        let parity = take_hinted(spare, tokens, size)?;
         Ok(ProofStep::ParityOfClauses(parity.id, parity.literals, parity.hints))
     } else {
-        let clause = take_implied(alloc, tokens, size)?;
+        let clause = take_implied(spare, tokens, size)?;
         Ok(ProofStep::ClauseOfParity(clause.id, clause.literals, clause.hint))
     }
 }
 
 /// A step; its first word tells which one it may be.
-fn take_step(alloc: Global, tokens: &mut TokensAhead, size: usize) -> Result<ProofStep, TextRefusal>
+fn take_step(
+    spare: &mut SpareLists,
+    tokens: &mut TokensAhead,
+    size: usize,
+) -> Result<ProofStep, TextRefusal>
     ensures { TakesStep size (placed_words tokens.old) result (placed_words tokens.new) }
 {
     if tokens.is_letter(b'x') {
-        take_parity_step(alloc, tokens, size)
+        take_parity_step(spare, tokens, size)
     } else if tokens.is_letter(b'i') {
-        take_implied_step(alloc, tokens, size)
+        take_implied_step(spare, tokens, size)
     } else {
-        take_clause_step(alloc, tokens, size)
+        take_clause_step(spare, tokens, size)
     }
 }
 
@@ -151,11 +158,11 @@ impl StepGrammar for ProofGrammar {
     ghost steps = { proof_steps };
 
     fn read_step(
-        alloc: Global,
+        spare: &mut SpareLists,
         tokens: &mut TokensAhead,
         size: usize,
     ) -> Result<ProofStep, TextRefusal> {
-        take_step(alloc, tokens, size)
+        take_step(spare, tokens, size)
     }
 
     fn is_closed(_step: &ProofStep) -> bool {

@@ -9,7 +9,7 @@ use fratx_elab::ElabEnds;
 use log_text::LogGrammar;
 use proof_text::put_step_unless_failed;
 use step_text::pieces::LineSheet;
-use step_text::{SinkFault, SlotReader, TextRefusal};
+use step_text::{SinkFault, SlotReader, SpareLists, TextRefusal};
 
 /// The elaborator's two ends on one lent desk: the steps that a lent reader takes from it, and the Proof port.
 ///
@@ -67,8 +67,8 @@ impl<D: Desk> ElabEnds for ElabDesk<'_, '_, D> {
 
     ghost keeps = { λ a b. (b.reader.ghost_name ≡ a.reader.ghost_name) × (b.desk.ghost_name ≡ a.desk.ghost_name) × ReadsAndPrints a.reader.now.bytes a.failed (D.outside a.desk.now) b.reader.now.bytes b.failed (D.outside b.desk.now) };
 
-    fn next_step(&mut self) -> Result<Option<LogStep>, TextRefusal> {
-        self.reader.next_from(self.desk)
+    fn next_step(&mut self, spare: &mut SpareLists) -> Result<Option<LogStep>, TextRefusal> {
+        self.reader.next_from(spare, self.desk)
     }
 
     fn place(&self) -> u64 {

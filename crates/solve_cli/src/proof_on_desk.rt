@@ -5,7 +5,7 @@ ghost use Rattle.cx_desk.specs.Outside.{started_in};
 use cx_base::ProofStep;
 use cx_desk::Desk;
 use proof_text::ProofGrammar;
-use step_text::{SlotReader, StepSource, TextRefusal};
+use step_text::{SlotReader, SpareLists, StepSource, TextRefusal};
 
 /// The steps that a lent reader takes from a lent desk.
 ///
@@ -48,8 +48,8 @@ impl<D: Desk> StepSource for ProofOnDesk<'_, '_, D> {
 
     ghost keeps = { λ a b. (b.reader.ghost_name ≡ a.reader.ghost_name) × (b.desk.ghost_name ≡ a.desk.ghost_name) × SlotFrame a.reader.now.bytes (D.outside a.desk.now) b.reader.now.bytes (D.outside b.desk.now) };
 
-    fn next_step(&mut self) -> Result<Option<ProofStep>, TextRefusal> {
-        self.reader.next_from(self.desk)
+    fn next_step(&mut self, spare: &mut SpareLists) -> Result<Option<ProofStep>, TextRefusal> {
+        self.reader.next_from(spare, self.desk)
     }
 
     fn place(&self) -> u64 {

@@ -124,11 +124,6 @@ impl<'a> TokensAhead<'a> {
         is_lone(&ahead[..run_len(ahead)], letter)
     }
 
-    /// Whether the next byte is a zero, as where a list without members ends. It says nothing of the token.
-    pub fn begins_with_zero(&self) -> bool {
-        self.at < self.text.len() && self.text[self.at] == b'0'
-    }
-
     /// Passes over the next token, if there is one.
     pub fn pass(&mut self)
         ensures { self.new ≡ drop 1 self.old }

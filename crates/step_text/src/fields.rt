@@ -1,6 +1,5 @@
 //! The fields of a step, taken from a text's tokens.
-ghost use Rattle.std.specs.Prelude.{◌≡◌, ◌<◌, false, length, [], ◌∷◌, pos, IfOk, MatchResult};
-ghost use Rattle.step_text.specs.declared.source.TextRefusal.TheVariants.{Memory};
+ghost use Rattle.std.specs.Prelude.{◌≡◌, ◌<◌, false, length, [], ◌∷◌, pos, IfOk};
 ghost use Rattle.cx_texts.specs.Words.{is_digit, placed_words};
 ghost use Rattle.cx_texts.specs.Grammar.{mark, id, integer, end, ids, integers};
 ghost use Rattle.cx_texts.proofs.Shapes.{a_mark, an_id, an_integer, an_end, some_ids, some_integers};
@@ -10,7 +9,6 @@ use crate::ahead::TokensAhead;
 use crate::source::TextRefusal;
 use crate::token_word::TokenWord;
 use cx_base::{IdList, IntList};
-use std::alloc::Global;
 
 /// An id and literals.
 #[derive(Drop)]
@@ -169,29 +167,24 @@ fn take_listed_id(tokens: &mut TokensAhead, size: usize) -> Result<Option<u64>, 
     }
 }
 
-/// The members that a list has room for at first.
-const FEW: usize = 16;
-
-/// An empty list with room for a few of the members that follow, or for none where the list seems to end at once.
-fn few<T>(alloc: Global, tokens: &TokensAhead) -> Result<Vec<T>, TextRefusal>
-    ensures { MatchResult result (λ v. v.items ≡ []) (λ r. r ≡ Memory) }
+/// A list without members, in the memory of `room`.
+fn emptied<T: Drop>(room: Vec<T>) -> Vec<T>
+    ensures { result.items ≡ [] }
 {
-    let count = if tokens.begins_with_zero() { 0 } else { FEW };
-    match Vec::with_capacity(alloc, count) {
-        Ok(members) => Ok(members),
-        Err(_) => Err(TextRefusal::Memory),
-    }
+    let mut members = room;
+    members.clear();
+    members
 }
 
-/// Integers that are not zero, up to a zero.
+/// Integers that are not zero, up to a zero, in the memory of `room`.
 pub fn take_integers(
-    alloc: Global,
+    room: Vec<i64>,
     tokens: &mut TokensAhead,
     size: usize,
 ) -> Result<IntList, TextRefusal>
     ensures { TakesAll (λ zs. integers zs ∷ []) (some_integers ∷ []) size (placed_words tokens.old) result (placed_words tokens.new) }
 {
-    let mut members = few(alloc, tokens)?;
+    let mut members = emptied(room);
     loop {
         match tokens.take_shorts(&mut members) {
             Ok(true) => return Ok(IntList::from_vec(members)),
@@ -209,11 +202,15 @@ pub fn take_integers(
     }
 }
 
-/// Ids up to a zero.
-pub fn take_ids(alloc: Global, tokens: &mut TokensAhead, size: usize) -> Result<IdList, TextRefusal>
+/// Ids up to a zero, in the memory of `room`.
+pub fn take_ids(
+    room: Vec<u64>,
+    tokens: &mut TokensAhead,
+    size: usize,
+) -> Result<IdList, TextRefusal>
     ensures { TakesAll (λ ns. ids ns ∷ []) (some_ids ∷ []) size (placed_words tokens.old) result (placed_words tokens.new) }
 {
-    let mut members = few(alloc, tokens)?;
+    let mut members = emptied(room);
     loop {
         match take_listed_id(tokens, size) {
             Ok(Some(name)) => match members.push(name) {
@@ -226,15 +223,15 @@ pub fn take_ids(alloc: Global, tokens: &mut TokensAhead, size: usize) -> Result<
     }
 }
 
-/// An id and literals up to a zero.
+/// An id and literals up to a zero, in the memory of `room`.
 pub fn take_named(
-    alloc: Global,
+    room: Vec<i64>,
     tokens: &mut TokensAhead,
     size: usize,
 ) -> Result<Named, TextRefusal>
     ensures { TakesAll (λ n. id n.id ∷ integers n.literals ∷ []) (an_id ∷ some_integers ∷ []) size (placed_words tokens.old) result (placed_words tokens.new) }
 {
     let id = take_id(tokens, size)?;
-    let literals = take_integers(alloc, tokens, size)?;
+    let literals = take_integers(room, tokens, size)?;
     Ok(Named { id, literals })
 }

@@ -7,7 +7,7 @@ ghost use Rattle.step_text.specs.Reading.{ReadsStep};
 
 use crate::ahead::TokensAhead;
 use crate::source::TextRefusal;
-use std::alloc::Global;
+use crate::spare::SpareLists;
 
 /// A grammar of steps, and the reader of one step.
 pub trait StepGrammar {
@@ -16,9 +16,9 @@ pub trait StepGrammar {
     // the fields of each step, and the greatest magnitude of a number
     ghost steps: { Grammar Self.Step };
 
-    /// The step at the head of a text of this size.
+    /// The step at the head of a text of this size. Its lists take the memory of the spare ones.
     fn read_step(
-        alloc: Global,
+        spare: &mut SpareLists,
         tokens: &mut TokensAhead,
         size: usize,
     ) -> Result<Self::Step, TextRefusal>

@@ -12,6 +12,7 @@ mod sink;
 mod slot_reader;
 mod slot_text;
 mod source;
+mod spare;
 mod step_text;
 pub mod token_word;
 
@@ -20,4 +21,5 @@ pub use sink::{Sink, SinkFault};
 pub use slot_reader::SlotReader;
 pub use slot_text::SlotText;
 pub use source::{StepSource, TextRefusal};
+pub use spare::SpareLists;
 pub use step_text::StepText;

@@ -14,6 +14,7 @@ ghost use Rattle.step_text.specs.SlotAnswers.{PairLeaves, IsAnswer};
 use crate::ahead::TokensAhead;
 use crate::grammar::StepGrammar;
 use crate::source::TextRefusal;
+use crate::spare::SpareLists;
 use cx_desk::{Desk, DrainErr, Slot, SlotBytes};
 use cx_texts::{EndLines, LineState, line_behind, pass_blanks, whole_front};
 use std::alloc::Global;
@@ -61,7 +62,7 @@ fn counts(refusal: TextRefusal, ended: bool) -> bool
 /// Where the text may go on, only whole tokens count, and a step only where a token stands behind it or none can go on with it: so
 /// the blanks and comments behind such a step need not be kept.
 fn find_step<G: StepGrammar>(
-    alloc: Global,
+    spare: &mut SpareLists,
     bytes: &[u8],
     place: usize,
     ended: bool,
@@ -76,7 +77,7 @@ where
     if tokens.is_empty() {
         return if ended { Found::End } else { Found::Unknown };
     }
-    match G::read_step(alloc, &mut tokens, place + len) {
+    match G::read_step(spare, &mut tokens, place + len) {
         Ok(step) => {
             if !tokens.is_empty() {
                 return Found::Step(step, tokens.place(place + len), LineState::Kept);
@@ -105,7 +106,6 @@ where
 /// memory for one step and a constant. Its place is the place of the first byte that was not passed.
 #[derive(Drop)]
 pub struct SlotReader<G> {
-    alloc: Global,
     bytes: SlotBytes,
     line: LineState,
     refused: Option<TextRefusal>,
@@ -135,7 +135,6 @@ where
         ensures { result ≡ record { bytes = record { slot = slot; limit = limit; bytes = []; place = 0; ended = false }; line = Start; refused = None } }
     {
         SlotReader {
-            alloc,
             bytes: SlotBytes::new(alloc, slot, limit),
             line: LineState::Start,
             refused: None,
@@ -190,18 +189,13 @@ where
     }
 
     /// The next step of the bytes at hand, or the end, or a refusal, if they tell it.
-    fn take_found(&mut self) -> Option<Result<Option<G::Step>, TextRefusal>>
+    fn take_found(&mut self, spare: &mut SpareLists) -> Option<Result<Option<G::Step>, TextRefusal>>
         requires line { self.old.bytes.bytes ≢ [] → self.old.line ≡ Kept }
         requires fresh { self.old.refused ≡ None }
         ensures answer { MatchOption result ((self.new ≡ self.old) × (self.old.bytes.ended ≡ false)) (λ r. (o : Outside) → IsAnswer G.steps self.old o r self.new o) }
     {
         let place = self.bytes.place();
-        match find_step::<G>(
-            self.alloc,
-            self.bytes.bytes(),
-            place,
-            self.bytes.has_ended(),
-        ) {
+        match find_step::<G>(spare, self.bytes.bytes(), place, self.bytes.has_ended()) {
             Found::Step(step, next, line) => {
                 self.bytes.pass(next - place);
                 self.line = line;
@@ -214,7 +208,11 @@ where
     }
 
     /// Finds the next step, or the end.
-    fn find<D: Desk>(&mut self, desk: &mut D) -> Result<Option<G::Step>, TextRefusal>
+    fn find<D: Desk>(
+        &mut self,
+        spare: &mut SpareLists,
+        desk: &mut D,
+    ) -> Result<Option<G::Step>, TextRefusal>
         requires started { started_in self.old.bytes.slot (D.outside desk.old).started ≡ true }
         requires fresh { self.old.refused ≡ None }
         requires within { taken_by self.old.bytes ≤ self.old.bytes.limit }
@@ -222,7 +220,7 @@ where
     {
         loop {
             self.pass_blanks();
-            match self.take_found() {
+            match self.take_found(spare) {
                 Some(answer) => return answer,
                 None => self.read_twice(desk)?,
             }
@@ -246,7 +244,11 @@ where
     }
 
     /// The next step, or none at the end of the text between two steps, as a source of steps gives it.
-    pub fn next_from<D: Desk>(&mut self, desk: &mut D) -> Result<Option<G::Step>, TextRefusal>
+    pub fn next_from<D: Desk>(
+        &mut self,
+        spare: &mut SpareLists,
+        desk: &mut D,
+    ) -> Result<Option<G::Step>, TextRefusal>
         requires started { started_in self.old.bytes.slot (D.outside desk.old).started ≡ true }
         requires fresh { is_spent_by self.old.refused ≡ false }
         ensures step { Gives (PairLeaves G.steps) (self.old, D.outside desk.old) result (self.new, D.outside desk.new) }
@@ -262,7 +264,7 @@ where
         if let Some(refusal) = self.refused {
             return Err(refusal);
         }
-        match self.find(desk) {
+        match self.find(spare, desk) {
             Ok(step) => Ok(step),
             Err(refusal) => {
                 self.refused = Some(refusal);

@@ -8,6 +8,7 @@ ghost use Rattle.step_text.specs.Slots.{DrainsRest};
 use crate::grammar::StepGrammar;
 use crate::slot_reader::SlotReader;
 use crate::source::{StepSource, TextRefusal};
+use crate::spare::SpareLists;
 use cx_desk::{Desk, DrainErr, Slot};
 use std::alloc::Global;
 
@@ -86,8 +87,8 @@ where
 
     ghost keeps = { λ a b. (b.desk.ghost_name ≡ a.desk.ghost_name) × SlotFrame a.reader.bytes (D.outside a.desk.now) b.reader.bytes (D.outside b.desk.now) };
 
-    fn next_step(&mut self) -> Result<Option<G::Step>, TextRefusal> {
-        self.reader.next_from(self.desk)
+    fn next_step(&mut self, spare: &mut SpareLists) -> Result<Option<G::Step>, TextRefusal> {
+        self.reader.next_from(spare, self.desk)
     }
 
     fn place(&self) -> u64 {

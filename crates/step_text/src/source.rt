@@ -5,6 +5,7 @@ ghost use Rattle.step_text.specs.declared.source.TextRefusal.{TextRefusal};
 ghost use Rattle.step_text.specs.ReadRefusals.{refusal_of_read};
 ghost use Rattle.step_text.specs.Sources.{Gives, PlaceRises, FaultsAs, SpentAs, StuckAs, IsTooLongOnly};
 
+use crate::spare::SpareLists;
 use cx_desk::ReadErr;
 use thiserror::Error;
 
@@ -73,8 +74,8 @@ pub trait StepSource {
     // what a call leaves as it was
     ghost keeps: { Self → Self → Type 0 };
 
-    /// The next step, or none at the end of the text between two steps.
-    fn next_step(&mut self) -> Result<Option<Self::Step>, TextRefusal>
+    /// The next step, or none at the end of the text between two steps. Its lists may take the memory of the spare ones.
+    fn next_step(&mut self, spare: &mut SpareLists) -> Result<Option<Self::Step>, TextRefusal>
         requires { is_spent self.old ≡ false }
         ensures step { Gives leaves self.old result self.new }
         ensures spent { SpentAs result (is_spent self.new) }
@@ -120,8 +121,8 @@ impl<S: StepSource> StepSource for &mut S {
 
     ghost keeps = { λ a b. S.keeps a.now b.now };
 
-    fn next_step(&mut self) -> Result<Option<S::Step>, TextRefusal> {
-        (**self).next_step()
+    fn next_step(&mut self, spare: &mut SpareLists) -> Result<Option<S::Step>, TextRefusal> {
+        (**self).next_step(spare)
     }
 
     fn place(&self) -> u64 {

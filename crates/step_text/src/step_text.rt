@@ -6,16 +6,15 @@ ghost use Rattle.step_text.specs.Texts.{TextState};
 use crate::ahead::TokensAhead;
 use crate::grammar::StepGrammar;
 use crate::source::{StepSource, TextRefusal};
-use std::alloc::Global;
+use crate::spare::SpareLists;
 use std::marker::{Model, PhantomData};
 
 /// The steps of a grammar that are read from a text, step by step, in one pass and with no copy of it.
 ///
 /// The text has at most 4,294,967,295 bytes. It never answers `TooLong` or `Failed`, and asks for memory for the steps' lists
-/// alone. Its place is the place of the token behind the last step, or the text's length at the end.
+/// alone, where the spare ones have too little. Its place is the place of the token behind the last step, or the text's length at the end.
 #[derive(Drop)]
 pub struct StepText<'a, G> {
-    alloc: Global,
     tokens: TokensAhead<'a>,
     size: usize,
     place: usize,
@@ -36,12 +35,11 @@ impl<'a, G> Model for StepText<'a, G> {
 
 impl<'a, G: StepGrammar> StepText<'a, G> {
     /// The steps of a text of at most 4,294,967,295 bytes.
-    pub fn new(alloc: Global, text: &'a [u8]) -> StepText<'a, G>
+    pub fn new(text: &'a [u8]) -> StepText<'a, G>
         requires { length text.now ≤ 4294967295 }
         ensures { result ≡ record { tokens = tokens text.now; size = length text.now; place = 0; refused = None } }
     {
         StepText {
-            alloc,
             tokens: TokensAhead::new(text),
             size: text.len(),
             place: 0,
@@ -75,14 +73,14 @@ impl<'a, G: StepGrammar> StepSource for StepText<'a, G> {
 
     ghost keeps = { λ a b. b.size ≡ a.size };
 
-    fn next_step(&mut self) -> Result<Option<G::Step>, TextRefusal> {
+    fn next_step(&mut self, spare: &mut SpareLists) -> Result<Option<G::Step>, TextRefusal> {
         if let Some(refusal) = self.refused {
             return Err(refusal);
         }
         if self.tokens.is_empty() {
             return Ok(None);
         }
-        match G::read_step(self.alloc, &mut self.tokens, self.size) {
+        match G::read_step(spare, &mut self.tokens, self.size) {
             Ok(step) => {
                 self.place = self.tokens.place(self.size);
                 Ok(Some(step))

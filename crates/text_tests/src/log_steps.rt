@@ -10,7 +10,7 @@ use cx_desk::{MemDesk, Port, Rooms};
 use log_text::{ListLog, LogStep, LogText, NoLog, put_log, put_log_step};
 use std::alloc::{AllocError, Global};
 use std::test::Fail;
-use step_text::{Sink, SinkFault, StepSource, TextRefusal};
+use step_text::{Sink, SinkFault, SpareLists, StepSource, TextRefusal};
 
 /// The texts of logs.
 struct Logs;
@@ -49,14 +49,16 @@ fn put(desk: &mut MemDesk, log: &mut ListLog, step: LogStep, k: u64) -> Result<(
 
 /// Puts at most sixteen steps, each with a mark behind it in the log. The refusal that they end with.
 fn put_all(
+    alloc: Global,
     desk: &mut MemDesk,
     log: &mut ListLog,
     source: &mut LogText,
 ) -> Result<Option<TextRefusal>, Fail>
     requires { is_spent_by source.old.refused ≡ false }
 {
+    let mut spare = SpareLists::new(alloc);
     for k in 1..17 {
-        match source.next_step() {
+        match source.next_step(&mut spare) {
             Ok(Some(step)) => put(desk, log, step, k)?,
             Ok(None) => return Ok(None),
             Err(refusal) => return Ok(Some(refusal)),
@@ -75,8 +77,8 @@ fn print_with(
     if text.len() > 4096 {
         return Ok(Some(TextRefusal::TooLong));
     }
-    let mut source = LogText::new(alloc, text);
-    let ending = put_all(desk, log, &mut source)?;
+    let mut source = LogText::new(text);
+    let ending = put_all(alloc, desk, log, &mut source)?;
     put_log(desk, Port::Answer, log)?;
     Ok(ending)
 }

@@ -11,25 +11,33 @@ use proof_text::{DeskProof, ListProof, ProofStep, ProofText, put_proof_step};
 use std::alloc::{AllocError, Global};
 use std::test::Fail;
 use step_text::pieces::LineSheet;
-use step_text::{Sink, SinkFault, StepSource, TextRefusal};
+use step_text::{Sink, SinkFault, SpareLists, StepSource, TextRefusal};
 
 /// The texts of proofs.
 struct Proofs;
 
 /// Prints a step on the proof port.
-fn print(desk: &mut MemDesk, step: ProofStep) -> Result<(), Failed>
-    requires { HasProofText step }
+fn print(desk: &mut MemDesk, step: &ProofStep) -> Result<(), Failed>
+    requires { HasProofText step.now }
 {
-    put_proof_step(&mut LineSheet::new(), desk, Port::Proof, &step)
+    put_proof_step(&mut LineSheet::new(), desk, Port::Proof, step)
 }
 
 /// Prints at most sixteen steps. The refusal that they end with.
-fn print_all(desk: &mut MemDesk, source: &mut ProofText) -> Result<Option<TextRefusal>, Failed>
+fn print_all(
+    alloc: Global,
+    desk: &mut MemDesk,
+    source: &mut ProofText,
+) -> Result<Option<TextRefusal>, Failed>
     requires { is_spent_by source.old.refused ≡ false }
 {
+    let mut spare = SpareLists::new(alloc);
     for _ in 0..16 {
-        match source.next_step() {
-            Ok(Some(step)) => print(desk, step)?,
+        match source.next_step(&mut spare) {
+            Ok(Some(step)) => {
+                print(desk, &step)?;
+                spare.keep(step);
+            }
             Ok(None) => return Ok(None),
             Err(refusal) => return Ok(Some(refusal)),
         }
@@ -47,8 +55,8 @@ fn add_steps(
     if text.len() > 4096 {
         return Ok(Some(TextRefusal::TooLong));
     }
-    let mut source = ProofText::new(alloc, text);
-    let ending = print_all(desk, &mut source)?;
+    let mut source = ProofText::new(text);
+    let ending = print_all(alloc, desk, &mut source)?;
     printed.extend_from_slice(desk.written(Port::Proof))?;
     Ok(ending)
 }
@@ -171,29 +179,29 @@ fn steps_come_back_up_to_a_refusal(rt: HostRuntime) -> Result<(), Fail> {
 }
 
 /// The place of the bad token for which a source refuses its next step, if it does.
-fn bad_token(source: &mut ProofText) -> Option<u64>
+fn bad_token(alloc: Global, source: &mut ProofText) -> Option<u64>
     requires { is_spent_by source.old.refused ≡ false }
     ensures { IfSome result (λ _. is_spent_by source.new.refused ≡ false) }
 {
-    match source.next_step() {
+    match source.next_step(&mut SpareLists::new(alloc)) {
         Err(TextRefusal::BadToken(place)) => Some(place),
         _ => None,
     }
 }
 
 /// The places of the bad tokens for which a source refuses two steps, if it does.
-fn refused_twice(source: &mut ProofText) -> Option<(u64, u64)>
+fn refused_twice(alloc: Global, source: &mut ProofText) -> Option<(u64, u64)>
     requires { is_spent_by source.old.refused ≡ false }
 {
-    let first = bad_token(source)?;
-    let again = bad_token(source)?;
+    let first = bad_token(alloc, source)?;
+    let again = bad_token(alloc, source)?;
     Some((first, again))
 }
 
 #[test]
 fn a_refusal_comes_again(rt: HostRuntime) {
-    let mut source = ProofText::new(rt.alloc(), b"5 a 0");
-    assert_eq!(rt; refused_twice(&mut source), Some((2, 2)));
+    let mut source = ProofText::new(b"5 a 0");
+    assert_eq!(rt; refused_twice(rt.alloc(), &mut source), Some((2, 2)));
 }
 
 /// Gives a step to any sink.
@@ -216,16 +224,18 @@ fn print_through<D: Desk>(desk: &mut D, step: &ProofStep) -> Result<(), SinkFaul
 }
 
 /// Gives the steps that a text has left, at most eight, to a sink; how many it refused.
-fn give_all<S: Sink<Item = ProofStep>>(source: &mut ProofText, sink: &mut S) -> u64
+fn give_all<S: Sink<Item = ProofStep>>(alloc: Global, source: &mut ProofText, sink: &mut S) -> u64
     requires { is_spent_by source.old.refused ≡ false }
 {
+    let mut spare = SpareLists::new(alloc);
     let mut refused = 0u64;
     for _ in 0..8 {
-        match source.next_step() {
+        match source.next_step(&mut spare) {
             Ok(Some(step)) => {
                 if give(sink, &step).is_err() {
                     refused = refused.saturating_add(1);
                 }
+                spare.keep(step);
             }
             _ => break,
         }
@@ -240,8 +250,8 @@ const GIVEN: &[u8] = b"6 0 0 7 d 6 0 8 0 0";
 fn torn(alloc: Global, desk: &mut MemDesk) -> Result<Vec<u8>, Fail>
     requires { is_whole (outside_of desk.old).told ≡ true }
 {
-    let mut source = ProofText::new(alloc, GIVEN);
-    let refused = give_all(&mut source, &mut DeskProof::new(desk));
+    let mut source = ProofText::new(GIVEN);
+    let refused = give_all(alloc, &mut source, &mut DeskProof::new(desk));
     let mut told = desk.written(Port::Proof).to_vec(alloc)?;
     told.extend_from_slice(format!(in alloc; "|{refused} {}", desk.write_faults())?.as_bytes())?;
     Ok(told)
@@ -280,8 +290,8 @@ fn first_of(alloc: Global, kept: &ListProof) -> Result<Vec<u8>, Fail> {
 
 /// The first of the steps that a sink keeps, how many it refused, and how many it has.
 fn keep_all(alloc: Global, kept: &mut ListProof) -> Result<Vec<u8>, Fail> {
-    let mut source = ProofText::new(alloc, GIVEN);
-    let refused = give_all(&mut source, kept);
+    let mut source = ProofText::new(GIVEN);
+    let refused = give_all(alloc, &mut source, kept);
     let mut told = first_of(alloc, kept)?;
     let count = kept.steps().len();
     told.extend_from_slice(format!(in alloc; "|{refused} {count}")?.as_bytes())?;

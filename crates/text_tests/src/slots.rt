@@ -7,7 +7,7 @@ use cx_desk::{MemDesk, Slot};
 use proof_text::ProofGrammar;
 use std::alloc::{AllocError, Global};
 use std::test::Fail;
-use step_text::{SlotText, StepSource, TextRefusal};
+use step_text::{SlotText, SpareLists, StepSource, TextRefusal};
 
 /// How many steps a source gave, the refusal that they end with, and the place behind them.
 fn ended(
@@ -25,9 +25,10 @@ where
     S::Step: Drop,
     requires { S.is_spent source.old ≡ false }
 {
+    let mut spare = SpareLists::new(alloc);
     let mut steps = 0;
     for turn in 0..100u64 {
-        match source.next_step() {
+        match source.next_step(&mut spare) {
             Ok(Some(_)) => steps = turn + 1,
             Ok(None) => return ended(alloc, steps, None, source.place()),
             Err(why) => return ended(alloc, steps, Some(why), source.place()),

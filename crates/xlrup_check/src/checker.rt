@@ -10,7 +10,14 @@ use cx_base::{Formula, ProofStep};
 use cx_semantics::Cause;
 use proof_rules::{JudgeMarks, JudgeRefusal, Live};
 use std::alloc::Global;
-use step_text::{StepSource, TextRefusal};
+use step_text::{SpareLists, StepSource, TextRefusal};
+
+/// What is kept from one step to the next for its memory alone.
+#[derive(Drop)]
+struct Memory {
+    marks: JudgeMarks,
+    spare: SpareLists,
+}
 
 /// Judges a proof of the formula, from a source of steps.
 ///
@@ -35,10 +42,13 @@ pub fn check<S: StepSource<Step = ProofStep>>(
         Ok(live) => live,
         Err(_) => return Err(Fault::Memory),
     };
-    let mut marks = JudgeMarks::new(alloc);
+    let mut memory = Memory {
+        marks: JudgeMarks::new(alloc),
+        spare: SpareLists::new(alloc),
+    };
     let mut steps = 0;
     loop {
-        match take_next(alloc, &mut marks, vars, &mut live, source, steps) {
+        match take_next(alloc, &mut memory, vars, &mut live, source, steps) {
             Ok(None) => steps += 1,
             Ok(Some(verdict)) => return Ok(verdict),
             Err(fault) => return Err(fault),
@@ -49,7 +59,7 @@ pub fn check<S: StepSource<Step = ProofStep>>(
 /// Takes the next step, behind so many; none where the proof goes on.
 fn take_next<S: StepSource<Step = ProofStep>>(
     alloc: Global,
-    marks: &mut JudgeMarks,
+    memory: &mut Memory,
     vars: u32,
     live: &mut Live,
     source: &mut S,
@@ -68,14 +78,15 @@ fn take_next<S: StepSource<Step = ProofStep>>(
     ensures cause { IfErr result (HasCause (S.passes_limit source.old) (S.faults source.old) (S.faults source.new)) }
     ensures frame { S.keeps source.old source.new }
 {
-    let step = match source.next_step() {
+    let step = match source.next_step(&mut memory.spare) {
         Ok(Some(step)) => step,
         Ok(None) => {
             return Ok(Some(Verdict::Refused(steps + 1, Cause::NoEmptyClause)));
         }
         Err(why) => return refused_text(why, steps + 1),
     };
-    let taken = take_step(alloc, marks, vars, live, &step);
+    let taken = take_step(alloc, &mut memory.marks, vars, live, &step);
+    memory.spare.keep(step);
     what_follows(taken, steps + 1)
 }
 

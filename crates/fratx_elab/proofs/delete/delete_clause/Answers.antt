@@ -11,7 +11,7 @@ returns-in_ok-clause_deletion-in-Some-clause-taken c = λ formula e.
     let front : ℕ = c.front_of.result in
     let last : ℕ = c.last-last.result in
     let some = ap (λ n. deleted_id n (stands_for state.clauses c.args.id)) (sym e) ∙ sym c.deleted-gone.ensures.found ∙ c.in-Some.is in
-    deletes_clause formula state (record { live = _; clauses = _; parities = _; marks = state.marks; deleted = state.deleted }) c.args.id p front c.args.lits.now c.in_ok-clause_deletion-in-Some.field-0 some
+    deletes_clause formula state (record { live = _; clauses = _; parities = _; marks = state.marks; spare = state.spare }) c.args.id p front c.args.lits c.in_ok-clause_deletion-in-Some.field-0 some
     (λ h. let at : front ≡ max last p = c.front_of.ensures in let l : last ≡ state.clauses.last = c.last-last.ensures ∙ ap (λ n. n.last) c.deleted-gone.ensures.gone in omega arith)
     c.remove.ensures c.deleted-gone.ensures.gone refl c.in_ok-clause_deletion-in-Some.ensures.step
 
@@ -19,4 +19,4 @@ pub returns-in-None-clause-taken : goal.returns-in-None-clause-taken
 returns-in-None-clause-taken c = λ formula e.
     let state = c.args.state.now in
     let none = ap (λ n. deleted_id n (stands_for state.clauses c.args.id)) (sym e) ∙ sym c.deleted-gone.ensures.found ∙ c.in-None.is in
-    keeps_clause formula state (record { live = _; clauses = _; parities = _; marks = state.marks; deleted = state.deleted }) c.args.id c.args.lits.now none c.remove.ensures c.deleted-gone.ensures.gone refl
+    keeps_clause formula state (record { live = _; clauses = _; parities = _; marks = state.marks; spare = state.spare }) c.args.id c.args.lits none c.remove.ensures c.deleted-gone.ensures.gone refl

@@ -16,6 +16,6 @@ returns-clause-taken c =
     let found = c.in_ok-settle_hints.ensures.chain in
     let ids : List ℕ = found.0 in
     let chain = subst (λ (l : List Literal). IsChain l (named state.live.clauses ids)) target found.2 in
-    takes_clause formula state (record { live = _; clauses = _; parities = _; marks = c.args.state.now.marks; deleted = c.args.state.now.deleted }) c.args.id lits ids c.clause_step.result added found.1 chain
+    takes_clause formula state (record { live = _; clauses = _; parities = _; marks = c.args.state.now.marks; spare = c.args.state.now.spare }) c.args.id lits ids c.clause_step.result added found.1 chain
     (c.in_ok-put_live.ensures ∙ ap (λ (t : Tables). put_clause t c.args.id c.in_ok-target.target) c.settle_hints.ensures.same ∙ ap (put_clause state.live c.args.id) target) c.in_ok-next.ensures.named refl
     (c.clause_step.ensures.step ∙ (λ i. step.Clause (c.in_ok-next.ensures.next i) lits (found.3 i)))

@@ -19,6 +19,6 @@ returns-clause-taken c =
     let target = c.in_ok-target.ensures.1 in
     let judged = subst (λ (l : List Literal). AllHold (naming state.live.parities ids ++ clause_of_parity l (named state.live.parities ids))) target
     (subst (λ (t : Tables). AllHold (naming t.parities ids ++ clause_of_parity c.in_ok-target.target (named t.parities ids))) c.live.ensures c.in_ok-judge_clause_of_named_parity.ensures) in
-    takes_clause_of_parity formula state (record { live = _; clauses = _; parities = _; marks = c.args.state.now.marks; deleted = c.args.state.now.deleted }) c.args.id lits c.args.source p c.clause_of_parity_step.result added judged (sym (sym c.in-Some.is ∙ c.get.ensures))
+    takes_clause_of_parity formula state (record { live = _; clauses = _; parities = _; marks = c.args.state.now.marks; spare = c.args.state.now.spare }) c.args.id lits c.args.source p c.clause_of_parity_step.result added judged (sym (sym c.in-Some.is ∙ c.get.ensures))
     (c.in_ok-put_live.ensures ∙ ap (put_clause state.live c.args.id) target) c.in_ok-next.ensures.named refl
     (c.clause_of_parity_step.ensures.step ∙ (λ i. step.ClauseOfParity (c.in_ok-next.ensures.next i) lits (pos p)))

@@ -15,7 +15,9 @@ returns-in-Ok-None-clause-turns g c = λ first kept.
 
 pub returns-in-Err-clause-turns : goal.returns-in-Err-clause-turns
 returns-in-Err-clause-turns g c = λ first kept.
-    rw c.refused_text.ensures (text_is_refused _ _ _ c.args.formula.now first c.args.ends.now c.next_step.new.self c.args.state.now _ kept c.args.state.now c.in-Err.why c.in-Err.ensures.step c.in-Err.ensures.steps_stay)
+    let old = c.args.state.now in
+    let read : State = record { live = old.live; clauses = old.clauses; parities = old.parities; marks = old.marks; spare = c.next_step.new.spare } in
+    rw c.refused_text.ensures (text_is_refused _ _ _ c.args.formula.now first c.args.ends.now c.next_step.new.self old _ kept read c.in-Err.why c.in-Err.ensures.step c.in-Err.ensures.steps_stay)
 
 pub returns-in-Err-take_step-clause-turns : goal.returns-in-Err-take_step-clause-turns
 returns-in-Err-take_step-clause-turns g c = λ first kept.
@@ -31,7 +33,7 @@ returns-clause-turns g c = λ first kept.
     let h = subst (λ (o : Option LogStep). Gives g.E.ElabEnds.leaves old (Ok o) c.next_step.new.self) c.in-Ok-Some.field-0-is c.in-Ok-Some.ensures.step in
     let told = subst (λ t. WritesDown t (g.E.ElabEnds.steps new) (g.E.ElabEnds.torn new) c.in-Ok.written c.write-wrote.result) c.in-Ok-Some.ensures.steps_stay c.write-wrote.ensures.told in
     let taken = c.take_step.new.state in
-    let kept_memory : State = record { live = taken.live; clauses = taken.clauses; parities = taken.parities; marks = taken.marks; deleted = c.keep_memory.new.deleted } in
+    let kept_memory : State = record { live = taken.live; clauses = taken.clauses; parities = taken.parities; marks = taken.marks; spare = c.keep_memory.new.spare } in
     rw c.what_follows.ensures
     (write_turns _ _ _ c.args.formula.now first old new c.args.state.now _ kept c.in-Ok-Some.step (λ steps ending k. h steps ending ((c.write-wrote.ensures.rest steps ending).0 k)) (g.met.E.ElabEnds.leaves_some new)
     kept_memory c.in-Ok.written c.in-Ok.ensures.taken c.write-wrote.result told c.ends_log-is_last.result c.ends_log-is_last.ensures)

@@ -1,8 +1,6 @@
-use Rattle.std.proofs.Common.{◌≡◌, ◌≢◌, refl, sym, ◌∙◌, ◌+◌, Bool, true, false, true≢false, List, [], take, rules}
+use Rattle.std.proofs.Common.{◌≡◌, ◌≢◌, refl, sym, ◌∙◌, ◌+◌, false, true≢false, List, [], rules}
 use Rattle.cx_texts.specs.Tokens.{Token}
 use Rattle.cx_texts.specs.Grammar.{IsClosed}
-use Rattle.cx_texts.specs.Pieces.{line_behind}
-use Rattle.cx_texts.specs.declared.line_state.LineState.TheVariants.{Kept}
 use Rattle.step_text.proofs.SlotSteps.{LooksAt, found_step, found_last, refusal_stays, some_bytes}
 use Rattle.step_text.proofs.slot_reader.find_step.Goals as goal
 use Rattle.step_text.proofs.slot_reader.find_step.Goals.{else-not-ended-via-then-not-ended+else-not-is_closed, else-not-ended-via-else-not-ended}
