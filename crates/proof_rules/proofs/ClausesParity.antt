@@ -19,7 +19,6 @@ use Rattle.cx_semantics.specs.Chain.{HaveSame}
 use Rattle.proof_rules.specs.Exclusions.{HasPlaces, excluded, is_hit, all_excluded, Excludes, is_outside}
 use Rattle.proof_rules.proofs.ParityValues.{values_by, values-values_by, top, within_top, parity_met-list}
 use Rattle.proof_rules.proofs.ExclusionLaws.{get_or-excluded, is_hit-same, place_of, place_of-below, ForEach, for_each-map, falsified, is_hit-place, falsified-unmet, not_falsified-met, inside_by_set, marked_by_all, escape, assigned, map-assigned}
-use Rattle.proof_rules.proofs.LiteralLaws.{or_swap}
 
 -- ---- clauses and assignments
 
@@ -115,6 +114,12 @@ marks-hint xs j table n ns clause h = ap (λ o. marks xs j (cons_option o (named
 
 pub marks-no_hint : (xs : List ℕ) (j : ℕ) (table : Table) (n : ℕ) (ns : List ℕ) → get table n ≡ None → marks xs j (named table ns) ≡ marks xs j (named table (n ∷ ns))
 marks-no_hint xs j table n ns h = ap (λ o. marks xs j (cons_option o (named table ns))) (sym h)
+
+or_swap : (a b c : Bool) → ((b || a) || c) ≡ (a || (b || c))
+or_swap true true c = refl
+or_swap true false c = refl
+or_swap false true c = refl
+or_swap false false c = refl
 
 -- the marks of one more clause
 pub one_more : (set clause : List Literal) → HaveSame set clause → (xs : List ℕ) (j : ℕ) (old new : List Bool) (rest : Bool) → new ≡ excluded set xs 0 1 old → j < length old

@@ -1,5 +1,5 @@
 -- Literals by their order, and lists of literals as sets.
-use Rattle.std.proofs.Common.{◌≡◌, refl, sym, ap, ◌∙◌, subst, ℕ, Bool, true, false, ◌||◌, nat_eq, eqb-true, eq-eqb, List, [], ◌∷◌, length, get_or, drop, ◌<◌, ◌+◌}
+use Rattle.std.proofs.Common.{◌≡◌, refl, sym, ap, ◌∙◌, subst, ℕ, true, nat_eq, eqb-true, eq-eqb, List, ◌∷◌, length, get_or, drop, ◌<◌, ◌+◌}
 use Rattle.std.proofs.lemmas.List.{drop_more}
 use Rattle.std.proofs.lemmas.Slice.Eq.{slice_eq-Decides}
 use Rattle.std.specs.Bool.{Decides}
@@ -7,7 +7,6 @@ use Rattle.std.specs.Cmp.{both_ways}
 use Rattle.std.specs.Cmp.Lexicographic.{pointwise}
 use Rattle.cx_base.specs.Literals.{Literal, code_of, literal_of_code, same_literal}
 use Rattle.cx_base.specs.Codes.{literal_of_code-code_of}
-use Rattle.cx_semantics.specs.Chain.{has_literal}
 use Rattle.cx_semantics.proofs.ChainLaws.{are_one, same_literal-itself}
 
 -- literals are those of their codes
@@ -22,23 +21,6 @@ decides a b = (λ h. are_one a b (sym (same_code a b) ∙ h), λ e. eq-eqb (code
 
 pub same_lists : (xs ys : List Literal) → pointwise (λ a b. nat_eq (code_of a) (code_of b)) xs ys ≡ true → xs ≡ ys
 same_lists xs ys h = (slice_eq-Decides decides xs ys (pointwise (λ a b. nat_eq (code_of a) (code_of b)) xs ys) refl).0 h
-
-pub or_swap : (a b c : Bool) → ((b || a) || c) ≡ (a || (b || c))
-or_swap true true c = refl
-or_swap true false c = refl
-or_swap false true c = refl
-or_swap false false c = refl
-
--- one more literal goes from what is left into the set
-pub has-moved : (set new rest : List Literal) (lit q : Literal) → has_literal new q ≡ (same_literal q lit || has_literal set q) → (has_literal new q || has_literal rest q) ≡ (has_literal set q || has_literal (lit ∷ rest) q)
-has-moved set new rest lit q h = ap (λ b. b || has_literal rest q) h ∙ or_swap (has_literal set q) (same_literal q lit) (has_literal rest q)
-
-or_nothing : (b : Bool) → b ≡ (b || false)
-or_nothing true = refl
-or_nothing false = refl
-
-pub has-nothing_left : (set rest : List Literal) (q : Literal) → rest ≡ [] → has_literal set q ≡ (has_literal set q || has_literal rest q)
-has-nothing_left set rest q h = or_nothing (has_literal set q) ∙ ap (λ r. has_literal set q || has_literal r q) (sym h)
 
 -- what is left of a list at its item x
 pub next_item : {X : Type 0} → (xs : List X) (i : ℕ) (x : X) → i < length xs → x ≡ get_or xs i x → drop i xs ≡ x ∷ drop (i + 1) xs

@@ -1,6 +1,6 @@
 -- Hints that are not negative and name live constraints: the two rules of hints at once.
-use Rattle.std.proofs.Common.{◌≡◌, refl, sym, ap, ◌∙◌, ◌&&◌, ◌||◌, Bool, true, false, true≢false, not, ℤ, nat_abs, Result, Ok, Err, List, [], ◌∷◌, ◌++◌, inl, inr}
-use Rattle.std.specs.List.{list_any, list_all}
+use Rattle.std.proofs.Common.{◌≡◌, refl, sym, ◌∙◌, ◌&&◌, ◌||◌, Bool, true, false, true≢false, not, ℤ, nat_abs, Result, Ok, Err, List, [], ◌∷◌, ◌++◌, inl, inr}
+use Rattle.std.specs.List.{list_any}
 use Rattle.cx_base.specs.Integers.{is_negative}
 use Rattle.cx_semantics.specs.declared.cause.Cause.{Cause}
 use Rattle.cx_semantics.specs.Judging.{Rule, AllHold, FirstFailure}

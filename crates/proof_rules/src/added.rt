@@ -1,5 +1,5 @@
 //! What each step that adds something meets first, and its literals.
-ghost use Rattle.std.specs.Prelude.{◌≡◌, ◌≤◌, false, [], ◌∷◌, IfOk, nat_lt, nat_abs};
+ghost use Rattle.std.specs.Prelude.{◌≡◌, ◌≤◌, true, false, [], ◌∷◌, IfOk, MatchOption, nat_lt, nat_abs};
 ghost use Rattle.std.specs.List.{list_any};
 ghost use Rattle.cx_base.specs.declared.literal.TheConstants.{MAX_VARIABLE};
 ghost use Rattle.cx_semantics.specs.declared.cause.Cause.TheVariants as causes;
@@ -12,31 +12,6 @@ use cx_base::{IntList, Lit, LitList, Var};
 use cx_semantics::Cause;
 use std::alloc::AllocError;
 
-/// Whether a literal has a variable above the formula's number.
-fn has_unknown(vars: u32, lits: &[i64]) -> bool
-    ensures { result ≡ list_any (λ z. nat_lt vars (nat_abs z)) lits.now }
-{
-    for lit in lits {
-        if u64::from(vars) < lit.unsigned_abs() {
-            return true;
-        }
-    }
-    false
-}
-
-/// The rules for what is added: its variables are the formula's, and its id is not live.
-fn judge_added(vars: u32, lits: &IntList, is_live: bool) -> Result<(), JudgeRefusal>
-    ensures { JudgesBy (refused_where causes.VarUnknown (list_any (λ z. nat_lt vars (nat_abs z)) lits.now) ∷ refused_where causes.IdInUse is_live ∷ []) result }
-{
-    if has_unknown(vars, lits.as_slice()) {
-        return Err(JudgeRefusal::Wrong(Cause::VarUnknown));
-    }
-    if is_live {
-        return Err(JudgeRefusal::Wrong(Cause::IdInUse));
-    }
-    Ok(())
-}
-
 /// The literal of an integer that is not zero.
 fn literal_of(integer: i64) -> Lit
     requires low { 1 ≤ nat_abs integer }
@@ -46,23 +21,31 @@ fn literal_of(integer: i64) -> Lit
     Lit::new(Var::new(integer.unsigned_abs() as u32), integer < 0)
 }
 
-/// The literals of integers, whose variables are within the formula's number. Of `room` only the memory is used.
-fn literals_of(room: Vec<Lit>, vars: u32, integers: &IntList) -> Result<LitList, AllocError>
+/// The literals of integers, in the memory of `room`; none where a variable is above the formula's number.
+fn known_literals(
+    room: Vec<Lit>,
+    vars: u32,
+    integers: &IntList,
+) -> Result<Option<LitList>, AllocError>
     requires few { vars ≤ MAX_VARIABLE }
-    requires known { list_any (λ z. nat_lt vars (nat_abs z)) integers.now ≡ false }
-    ensures { IfOk result (λ lits. lits ≡ literals integers.now) }
+    ensures { IfOk result (λ found. MatchOption found (list_any (λ z. nat_lt vars (nat_abs z)) integers.now ≡ true) (λ lits. (list_any (λ z. nat_lt vars (nat_abs z)) integers.now ≡ false) × (lits ≡ literals integers.now))) }
 {
     let integers = integers.as_slice();
     let mut lits = room;
     lits.clear();
-    lits.reserve_exact(integers.len())?;
+    lits.reserve(integers.len())?;
     for integer in integers {
-        lits.push(literal_of(*integer))?;
+        if u64::from(vars) < integer.unsigned_abs() {
+            return Ok(None);
+        }
+        lits.push_reserved(literal_of(*integer));
     }
-    Ok(LitList::from_vec(lits))
+    Ok(Some(LitList::from_vec(lits)))
 }
 
-/// Judges what is added by these rules, and gives its literals in the memory of `room`, which is lost where a rule fails.
+/// The literals of what is added, in the memory of `room`, which is lost where a rule fails: its variables are the formula's, and
+/// its id is not live.
+#[inline(always)]
 pub fn admit_into(
     room: Vec<Lit>,
     vars: u32,
@@ -73,6 +56,9 @@ pub fn admit_into(
     ensures judged { JudgesBy (refused_where causes.VarUnknown (list_any (λ z. nat_lt vars (nat_abs z)) lits.now) ∷ refused_where causes.IdInUse is_live ∷ []) result }
     ensures literals { IfOk result (λ target. target ≡ literals lits.now) }
 {
-    judge_added(vars, lits, is_live)?;
-    Ok(literals_of(room, vars, lits)?)
+    match known_literals(room, vars, lits)? {
+        None => Err(JudgeRefusal::Wrong(Cause::VarUnknown)),
+        Some(_) if is_live => Err(JudgeRefusal::Wrong(Cause::IdInUse)),
+        Some(target) => Ok(target),
+    }
 }

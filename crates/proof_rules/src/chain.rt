@@ -67,6 +67,7 @@ pub fn left_of(assumed: &LiteralSet, clause: &[Lit]) -> LeftOf
 }
 
 /// The live clause that a hint names, which is not negative.
+#[inline(always)]
 fn hinted_clause<'a>(live: &'a Live, hint: i64) -> Option<&'a [Lit]>
     ensures { MatchOption result (names_live live.now.clauses hint ≡ false) (λ clause. (names_live live.now.clauses hint ≡ true) × (get live.now.clauses (nat_abs hint) ≡ Some clause.now)) }
 {

@@ -1,8 +1,8 @@
 //! Sets of literals that are cleared and used again.
-ghost use Rattle.std.specs.Prelude.{◌≡◌, ◌<◌, ℕ, false, [], ◌∷◌, OnOk, OnErr, get_or, set, length};
+ghost use Rattle.std.specs.Prelude.{◌≡◌, ◌<◌, ℕ, false, [], ◌∷◌, ◌++◌, OnOk, OnErr, get_or, set, length, vec_capacity, vec_len};
 ghost use Rattle.cx_base.specs.Literals.{Literal, code_of};
 ghost use Rattle.cx_semantics.specs.Chain.{has_literal, negations, HaveSame};
-ghost use Rattle.proof_rules.specs.LiteralSets.{AreMarkedOnly, ArePositive};
+ghost use Rattle.proof_rules.specs.LiteralSets.{AreMarkedOnly, AreMarks, ArePositive};
 
 use cx_base::Lit;
 use std::alloc::{AllocError, Global};
@@ -80,6 +80,22 @@ fn unmark(marks: &mut Vec<bool>, lits: &[Lit])
     }
 }
 
+/// Puts a literal, for which the list has room, into the list, and marks it. Without memory nothing changes.
+#[inline(always)]
+fn put(marks: &mut Vec<bool>, lits: &mut Vec<Lit>, lit: Lit) -> Result<(), AllocError>
+    requires room { vec_len lits.old < vec_capacity lits.old }
+    requires marked { AreMarks marks.old.items lits.old.items }
+    ensures ok { OnOk result (lits.new.items ≡ lits.old.items ++ lit ∷ []) }
+    ensures err { OnErr result (lits.new.items ≡ lits.old.items) }
+    ensures marked { AreMarks marks.new.items lits.new.items }
+    ensures room { vec_capacity lits.new ≡ vec_capacity lits.old }
+{
+    reach(marks, lit.code())?;
+    lits.push_reserved(lit);
+    marks[lit.code()] = true;
+    Ok(())
+}
+
 impl LiteralSet {
     /// The empty set.
     pub fn new(alloc: Global) -> LiteralSet
@@ -106,10 +122,8 @@ impl LiteralSet {
         if self.contains(lit) {
             return Ok(());
         }
-        reach(&mut self.marks, lit.code())?;
-        self.lits.push(lit)?;
-        self.marks[lit.code()] = true;
-        Ok(())
+        self.lits.reserve(1)?;
+        put(&mut self.marks, &mut self.lits, lit)
     }
 
     /// Takes all literals out.
@@ -125,8 +139,9 @@ impl LiteralSet {
         ensures { OnOk result (HaveSame self.new (negations lits.now)) }
     {
         self.clear();
+        self.lits.reserve(lits.len())?;
         for lit in lits {
-            self.insert(lit.negate())?;
+            put(&mut self.marks, &mut self.lits, lit.negate())?;
         }
         Ok(())
     }
@@ -137,10 +152,11 @@ impl LiteralSet {
         ensures positive { OnOk result (ArePositive lits.now) }
     {
         self.clear();
+        self.lits.reserve(lits.len())?;
         for lit in lits {
             // Its contract says that no variable is 0.
             let _number = lit.var().number();
-            self.insert(*lit)?;
+            put(&mut self.marks, &mut self.lits, *lit)?;
         }
         Ok(())
     }

@@ -1,11 +1,12 @@
-use Rattle.std.proofs.Common.{◌≡◌, ◌||◌, drop}
-use Rattle.cx_base.specs.Literals.{Literal}
-use Rattle.cx_semantics.specs.Chain.{has_literal}
-use Rattle.proof_rules.specs.LiteralSets.{ArePositive}
+use Rattle.std.proofs.Common.{◌≡◌, ◌≤◌, ◌+◌, ◌-◌, take, length}
+use Rattle.std.specs.Prelude.{vec_capacity, vec_len}
+use Rattle.proof_rules.specs.LiteralSets.{AreMarks, ArePositive}
 use Rattle.proof_rules.proofs.literal_set.LiteralSet.set_to.Given as goal
 
 abbrev pub invariant-loop-lit : goal.invariant-loop-lit
 invariant-loop-lit l = record {
-  members : (q : Literal) → (has_literal l.self q || has_literal (drop l.lit-index l.lits) q) ≡ has_literal l.lits q;
-  positive : ArePositive (drop l.lit-index l.lits) → ArePositive l.lits;
+  marked : AreMarks l.self-inside.marks.items l.self-inside.lits.items;
+  so_far : l.self-inside.lits.items ≡ take l.lit-index l.lits;
+  positive : ArePositive (take l.lit-index l.lits);
+  room : vec_len l.self-inside.lits + (length l.lits - l.lit-index) ≤ vec_capacity l.self-inside.lits;
 }

@@ -1,7 +1,12 @@
-use Rattle.std.proofs.Common.{◌≡◌, ◌||◌, drop}
-use Rattle.cx_base.specs.Literals.{Literal}
-use Rattle.cx_semantics.specs.Chain.{has_literal, negations}
+use Rattle.std.proofs.Common.{◌≡◌, ◌≤◌, ◌+◌, ◌-◌, take, length}
+use Rattle.std.specs.Prelude.{vec_capacity, vec_len}
+use Rattle.cx_semantics.specs.Chain.{negations}
+use Rattle.proof_rules.specs.LiteralSets.{AreMarks}
 use Rattle.proof_rules.proofs.literal_set.LiteralSet.set_to_negations.Given as goal
 
 abbrev pub invariant-loop-lit : goal.invariant-loop-lit
-invariant-loop-lit l = (q : Literal) → (has_literal l.self q || has_literal (negations (drop l.lit-index l.lits)) q) ≡ has_literal (negations l.lits) q
+invariant-loop-lit l = record {
+  marked : AreMarks l.self-inside.marks.items l.self-inside.lits.items;
+  so_far : l.self-inside.lits.items ≡ negations (take l.lit-index l.lits);
+  room : vec_len l.self-inside.lits + (length l.lits - l.lit-index) ≤ vec_capacity l.self-inside.lits;
+}
