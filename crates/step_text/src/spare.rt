@@ -55,6 +55,7 @@ impl SpareLists {
     }
 
     /// Keeps the memory of a proof's step.
+    #[inline(always)]
     pub fn keep(&mut self, step: ProofStep) {
         match step {
             ProofStep::Clause(_, literals, hints)

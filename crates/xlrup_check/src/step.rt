@@ -43,6 +43,8 @@ fn judge_added(
 }
 
 /// Adds the literals of a step, if its hints show them, and says whether it is a clause without literals.
+// In each of its places the kind of step is known, and so which judge is asked.
+#[inline(always)]
 fn take_added(
     alloc: Global,
     marks: &mut JudgeMarks,
