@@ -12,6 +12,8 @@ build
 least() {
     local TIMEFORMAT='%U %S'
     for _ in {1..15}; do
+        # To empty a file that is there takes the system up to a tenth of the time, and is no part of elaborating.
+        rm -f "$work/proof"
         { time "$program" elab "$work/formula" "$work/log" "$work/proof" > "$work/answer" 2>&1; } 2>&1
         answered 's ELABORATED'
         { time "$program" check "$work/formula" "$work/proof" > "$work/answer" 2>&1; } 2>&1
