@@ -1,5 +1,5 @@
 //! A text's tokens with the next one at hand.
-ghost use Rattle.std.specs.Prelude.{◌≡◌, ◌<◌, ◌≤◌, ◌≤ℤ◌, ◌+◌, ◌^◌, ◌↔◌, IsTrue, MatchOption, IfOk, ℤ, List, ◌++◌, false, [], drop, length, slice_index};
+ghost use Rattle.std.specs.Prelude.{◌≡◌, ◌<◌, ◌≤◌, ◌≤ℤ◌, ◌+◌, ◌^◌, ◌↔◌, IsTrue, MatchOption, IfOk, ℤ, List, ◌++◌, true, false, [], drop, length, slice_index};
 ghost use Rattle.cx_texts.specs.Tokens.{is_blank, tokens, tokens_within};
 ghost use Rattle.cx_texts.specs.Words.{is_digit, placed_words, word_of};
 ghost use Rattle.step_text.specs.Heads.{seen_head, is_letter, is_head_letter, head_place};
@@ -122,6 +122,29 @@ impl<'a> TokensAhead<'a> {
         }
         let ahead = &self.text[self.at..];
         is_lone(&ahead[..run_len(ahead)], letter)
+    }
+
+    /// Takes the next word where it is this letter, which is no digit, and says whether it is.
+    #[inline(always)]
+    pub fn take_letter(&mut self, letter: u8) -> bool
+        requires { is_digit letter ≡ false }
+        ensures is { result ≡ is_head_letter letter (placed_words self.old) }
+        ensures taken { result ≡ true → self.new ≡ drop 1 self.old }
+        ensures same { result ≡ false → self.new ≡ self.old }
+    {
+        if self.at == self.text.len() {
+            return false;
+        }
+        if self.text[self.at] != letter {
+            return false;
+        }
+        let ahead = &self.text[self.at..];
+        let len = run_len(ahead);
+        if !is_lone(&ahead[..len], letter) {
+            return false;
+        }
+        self.at = behind(self.text, self.at + len);
+        true
     }
 
     /// Passes over the next token, if there is one.

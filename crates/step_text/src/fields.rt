@@ -72,8 +72,7 @@ pub fn take_letter(tokens: &mut TokensAhead, size: usize, letter: u8) -> Result<
     requires { is_digit letter ≡ false }
     ensures { TakesOne (λ _. mark letter) (a_mark letter) size (placed_words tokens.old) result (placed_words tokens.new) }
 {
-    if tokens.is_letter(letter) {
-        tokens.pass();
+    if tokens.take_letter(letter) {
         return Ok(());
     }
     match tokens.word() {
