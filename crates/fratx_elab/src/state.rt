@@ -3,8 +3,6 @@ use crate::naming::Names;
 use cx_base::ProofStep;
 use proof_rules::JudgeMarks;
 use rup_finder::IndexedClauses;
-use std::alloc::Global;
-use std::mem;
 use step_text::SpareLists;
 
 /// The live constraints of the log, and what stands for them in the proof.
@@ -17,11 +15,6 @@ pub struct State<'f> {
     pub marks: JudgeMarks,
     /// For its memory alone.
     pub spare: SpareLists,
-}
-
-/// The list with its memory, which is given back behind the step.
-pub fn taken<T>(alloc: Global, list: &mut Vec<T>) -> Vec<T> {
-    mem::replace(list, Vec::new(alloc))
 }
 
 /// Keeps the memory of what was written, if anything, for the next step.

@@ -18,7 +18,7 @@ ghost use Rattle.rup_finder.specs.Front.{NoneNegative};
 
 use crate::naming::Names;
 use crate::originals::Originals;
-use crate::state::{State, taken};
+use crate::state::State;
 use crate::steps::{clause_of_parity_step, clause_step, parity_of_clauses_step, parity_step};
 use cx_base::{Formula, IdList, IntList, Lit, LitList, ProofStep};
 use cx_semantics::Cause;
@@ -97,7 +97,7 @@ fn put_live(
     ensures { OnOk result (live.new ≡ put_constraint kind live.old id lits) }
 {
     live.add_copy(alloc, kind, id, lits.as_slice())?;
-    marks.target = lits.into_vec();
+    marks.keep_literals(lits);
     Ok(())
 }
 
@@ -204,7 +204,7 @@ pub fn take_original(
     ensures text { IfOk result CanBePrinted }
     ensures counts { OnOk result (CountsOneMore state.old state.new) }
 {
-    let room = taken(alloc, &mut state.marks.target);
+    let room = state.marks.literals();
     let target = admit(room, formula, &state.live, Kind::Clauses, id, &lits)?;
     match originals.clause_number(alloc, formula, id, target.as_slice())? {
         Some(number) => {
@@ -238,7 +238,7 @@ pub fn take_original_parity(
     ensures text { IfOk result CanBePrinted }
     ensures counts { OnOk result (CountsOneMore state.old state.new) }
 {
-    let room = taken(alloc, &mut state.marks.target);
+    let room = state.marks.literals();
     let target = admit(room, formula, &state.live, Kind::Parities, id, &lits)?;
     match originals.parity_number(alloc, formula, id, target.as_slice())? {
         Some(number) => {
@@ -274,7 +274,7 @@ pub fn take_clause(
     ensures text { IfOk result CanBePrinted }
     ensures counts { OnOk result (CountsOneMore state.old state.new) }
 {
-    let room = taken(alloc, &mut state.marks.target);
+    let room = state.marks.literals();
     let target = admit(room, formula, &state.live, Kind::Clauses, id, &lits)?;
     settle_hints(alloc, &mut state.live, &state.clauses, &target, &mut hints)?;
     put_live(
@@ -305,7 +305,7 @@ pub fn take_parity(
     ensures text { IfOk result CanBePrinted }
     ensures counts { OnOk result (CountsOneMore state.old state.new) }
 {
-    let room = taken(alloc, &mut state.marks.target);
+    let room = state.marks.literals();
     let target = admit(room, formula, &state.live, Kind::Parities, id, &lits)?;
     let ids = sources.as_slice();
     judge_named_sum(&mut state.marks, state.live.live(), &target, ids)?;
@@ -339,7 +339,7 @@ pub fn take_parity_of_clauses(
     ensures text { IfOk result CanBePrinted }
     ensures counts { OnOk result (CountsOneMore state.old state.new) }
 {
-    let room = taken(alloc, &mut state.marks.target);
+    let room = state.marks.literals();
     let target = admit(room, formula, &state.live, Kind::Parities, id, &lits)?;
     let ids = sources.as_slice();
     // By `?` the prover does not see the cause through.
@@ -377,7 +377,7 @@ pub fn take_clause_of_parity(
     ensures text { IfOk result CanBePrinted }
     ensures counts { OnOk result (CountsOneMore state.old state.new) }
 {
-    let room = taken(alloc, &mut state.marks.target);
+    let room = state.marks.literals();
     let target = admit(room, formula, &state.live, Kind::Clauses, id, &lits)?;
     judge_clause_of_named_parity(&mut state.marks, state.live.live(), &target, source)?;
     let named = match state.parities.get(source) {

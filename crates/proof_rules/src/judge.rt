@@ -10,8 +10,6 @@ use crate::literal_set::LiteralSet;
 use crate::live::Kind;
 use crate::{JudgeMarks, JudgeRefusal, Live, chain, clauses_parity, parity_clause, sum};
 use cx_base::LitList;
-use std::alloc::Global;
-use std::mem;
 
 /// Judges a clause by a chain of hints: live clauses, each of which has one literal left or none.
 ///
@@ -35,7 +33,6 @@ pub fn judge_chain(
 /// The causes, in order: `RatHint`, `HintNotLive`, `SumDiffers`.
 /// It costs the literals of the target and of the hints.
 pub fn judge_sum(
-    alloc: Global,
     marks: &mut JudgeMarks,
     live: &Live,
     target: &LitList,
@@ -44,9 +41,10 @@ pub fn judge_sum(
     ensures { JudgesBy (hinting live.now.parities hints.now ++ summing target.now (named live.now.parities (sizes hints.now))) result }
 {
     judge_hints(live, Kind::Parities, hints)?;
-    let room = mem::replace(&mut marks.ids, Vec::new(alloc));
-    marks.ids = ids_of(room, hints)?;
-    sum::judge_target(&mut marks.sum, live, target.as_slice(), &marks.ids)
+    let ids = ids_of(marks.ids(), hints)?;
+    let judged = sum::judge_target(&mut marks.sum, live, target.as_slice(), &ids);
+    marks.keep_ids(ids);
+    judged
 }
 
 /// Judges a clause as implied by the one live parity that the hint names.
@@ -71,7 +69,6 @@ pub fn judge_clause_of_parity(
 /// The causes, in order: `RatHint`, `HintNotLive`, `TooWide`, `ClauseOutside`, `NotImplied`.
 /// It costs the literals of the hints, at most 4,096 assignments, and the assignments that each clause excludes.
 pub fn judge_parity_of_clauses(
-    alloc: Global,
     marks: &mut JudgeMarks,
     live: &Live,
     target: &LitList,
@@ -80,9 +77,8 @@ pub fn judge_parity_of_clauses(
     ensures { JudgesBy (hinting live.now.clauses hints.now ++ parity_of_clauses target.now (named live.now.clauses (sizes hints.now))) result }
 {
     judge_hints(live, Kind::Clauses, hints)?;
-    let room = mem::replace(&mut marks.ids, Vec::new(alloc));
-    let ids = ids_of(room, hints)?;
+    let ids = ids_of(marks.ids(), hints)?;
     let judged = clauses_parity::judge_target(marks, live, target.as_slice(), &ids);
-    marks.ids = ids;
+    marks.keep_ids(ids);
     judged
 }

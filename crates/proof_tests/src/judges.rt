@@ -61,13 +61,8 @@ fn judged_as_chain(court: &mut Court, target: &LitList, named: &[i64]) -> Result
     judge_chain(&mut court.assumed, &court.live, target, named)
 }
 
-fn judged_as_sum(
-    alloc: Global,
-    court: &mut Court,
-    target: &LitList,
-    named: &[i64],
-) -> Result<(), JudgeRefusal> {
-    judge_sum(alloc, &mut court.marks, &court.live, target, named)
+fn judged_as_sum(court: &mut Court, target: &LitList, named: &[i64]) -> Result<(), JudgeRefusal> {
+    judge_sum(&mut court.marks, &court.live, target, named)
 }
 
 /// What the judge says of a clause by the first one of the parities that are named.
@@ -81,17 +76,15 @@ fn judged_as_clause(
 }
 
 fn judged_as_parity(
-    alloc: Global,
     court: &mut Court,
     target: &LitList,
     named: &[i64],
 ) -> Result<(), JudgeRefusal> {
-    judge_parity_of_clauses(alloc, &mut court.marks, &court.live, target, named)
+    judge_parity_of_clauses(&mut court.marks, &court.live, target, named)
 }
 
 /// What a judge says.
 fn judged(
-    alloc: Global,
     court: &mut Court,
     judge: Judge,
     target: &LitList,
@@ -99,9 +92,9 @@ fn judged(
 ) -> Result<(), JudgeRefusal> {
     match judge {
         Judge::Chain => judged_as_chain(court, target, named),
-        Judge::Sum => judged_as_sum(alloc, court, target, named),
+        Judge::Sum => judged_as_sum(court, target, named),
         Judge::ClauseOfParity => judged_as_clause(court, target, named),
-        Judge::ParityOfClauses => judged_as_parity(alloc, court, target, named),
+        Judge::ParityOfClauses => judged_as_parity(court, target, named),
     }
 }
 
@@ -124,7 +117,7 @@ fn put_other(
 ) -> Result<(), AllocError> {
     let (integers, named, wanted) = *case;
     let target = lits(alloc, integers)?;
-    let found = cause(judged(alloc, court, judge, &target, named))?;
+    let found = cause(judged(court, judge, &target, named))?;
     if found == wanted {
         return Ok(());
     }

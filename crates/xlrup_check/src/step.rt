@@ -12,11 +12,9 @@ use proof_rules::{
     judge_parity_of_clauses, judge_sum,
 };
 use std::alloc::Global;
-use std::mem;
 
 /// Judges what a step adds by its hints.
 fn judge_added(
-    alloc: Global,
     marks: &mut JudgeMarks,
     live: &Live,
     step: &ProofStep,
@@ -31,12 +29,12 @@ fn judge_added(
             target,
             hints.as_slice(),
         ),
-        ProofStep::Parity(_, _, hints) => judge_sum(alloc, marks, live, target, hints.as_slice()),
+        ProofStep::Parity(_, _, hints) => judge_sum(marks, live, target, hints.as_slice()),
         ProofStep::ClauseOfParity(_, _, hint) => {
             judge_clause_of_parity(marks, live, target, *hint)
         }
         ProofStep::ParityOfClauses(_, _, hints) => {
-            judge_parity_of_clauses(alloc, marks, live, target, hints.as_slice())
+            judge_parity_of_clauses(marks, live, target, hints.as_slice())
         }
         ProofStep::DeleteClauses(_, _) | ProofStep::DeleteParities(_) => Ok(()),
     }
@@ -58,11 +56,10 @@ fn take_added(
     requires few { vars ≤ MAX_VARIABLE }
     ensures { (formula : Problem) → formula.variables ≡ vars → TakesAdded formula live.old kind id lits.now step.now result live.new }
 {
-    let room = mem::replace(&mut marks.target, Vec::new(alloc));
-    let target = admit_into(room, vars, lits, live.has(kind, id))?;
-    judge_added(alloc, marks, live, step, &target)?;
+    let target = admit_into(marks.literals(), vars, lits, live.has(kind, id))?;
+    judge_added(marks, live, step, &target)?;
     live.add_copy(alloc, kind, id, target.as_slice())?;
-    marks.target = target.into_vec();
+    marks.keep_literals(target);
     Ok(matches!(kind, Kind::Clauses) && lits.as_slice().is_empty())
 }
 
