@@ -10,6 +10,7 @@ pub mod ClausesParity
 pub mod StepIntegers
 pub mod ContentLaws
 pub mod PageLaws
+pub mod KeptLaws
 pub mod TableLaws
 pub mod PlaceLaws
 pub mod MarkLaws

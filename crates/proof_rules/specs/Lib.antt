@@ -1,6 +1,6 @@
 pub mod Judges
 pub mod Kinds
-pub mod StoredLists
+pub mod KeptLists
 pub mod Sums
 pub mod LiteralSets
 pub mod Ends

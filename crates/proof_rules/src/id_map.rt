@@ -59,6 +59,16 @@ impl<V: Drop + Filler> IdMap<V> {
         }
     }
 
+    /// How many pages there are.
+    pub(crate) fn page_count(&self) -> usize {
+        self.near.len()
+    }
+
+    /// How many values were put in so far, here or elsewhere.
+    pub(crate) fn added(&self) -> u64 {
+        self.added
+    }
+
     /// The value of this id.
     pub fn get(&self, id: u64) -> Option<&V>
         ensures { MatchOption result (map.get self.now id ≡ None) (λ v. map.get self.now id ≡ Some v.now) }

@@ -9,6 +9,7 @@ mod first;
 mod hints;
 mod id_map;
 mod judge;
+mod kept;
 mod literal_set;
 mod live;
 mod marks;
@@ -17,7 +18,6 @@ mod page;
 mod parity_clause;
 mod parity_sum;
 mod refusal;
-mod stored;
 mod sum;
 mod table;
 

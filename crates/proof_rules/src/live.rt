@@ -99,8 +99,8 @@ impl<'f> Live<'f> {
         ensures err { OnErr result (self.new ≡ self.old) }
     {
         match kind {
-            Kind::Clauses => self.clauses.insert_copy(alloc, id, lits),
-            Kind::Parities => self.parities.insert_copy(alloc, id, lits),
+            Kind::Clauses => self.clauses.insert_copy(id, lits),
+            Kind::Parities => self.parities.insert_copy(id, lits),
         }
     }
 

@@ -6,8 +6,7 @@ ghost use Rattle.proof_rules.specs.FirstLists.{lists_of};
 ghost use Rattle.proof_rules.specs.Kinds.{ListsLive};
 
 use crate::first::{FirstLists, Numbered};
-use crate::id_map::IdMap;
-use crate::stored::StoredList;
+use crate::kept::KeptLists;
 use cx_base::{IdList, Lit};
 use std::alloc::{AllocError, Global};
 use std::marker::Model;
@@ -17,7 +16,7 @@ use std::marker::Model;
 pub(crate) struct LiveTable<'f> {
     /// What stands in a formula. It goes before what was put under the same id.
     first: FirstLists<'f>,
-    lists: IdMap<StoredList>,
+    lists: KeptLists,
 }
 
 impl<'f> Model for LiveTable<'f> {
@@ -40,7 +39,7 @@ impl<'f> LiveTable<'f> {
     {
         Ok(LiveTable {
             first: FirstLists::all(alloc, lists)?,
-            lists: IdMap::beside(alloc, lists.count() as u64),
+            lists: KeptLists::beside(alloc, lists.count() as u64),
         })
     }
 
@@ -50,7 +49,7 @@ impl<'f> LiveTable<'f> {
     {
         LiveTable {
             first: FirstLists::none(alloc, lists),
-            lists: IdMap::beside(alloc, lists.count() as u64),
+            lists: KeptLists::beside(alloc, lists.count() as u64),
         }
     }
 
@@ -58,7 +57,7 @@ impl<'f> LiveTable<'f> {
     pub(crate) fn has(&self, id: u64) -> bool
         ensures { result ≡ is_live self.now id }
     {
-        self.first.has(id) || self.lists.get(id).is_some()
+        self.first.has(id) || self.lists.has(id)
     }
 
     /// The live list of this id.
@@ -68,10 +67,7 @@ impl<'f> LiveTable<'f> {
     {
         match self.first.get(id) {
             Some(lits) => Some(lits),
-            None => match self.lists.get(id) {
-                Some(lits) => Some(lits.as_slice()),
-                None => None,
-            },
+            None => self.lists.get(id),
         }
     }
 
@@ -85,20 +81,14 @@ impl<'f> LiveTable<'f> {
     }
 
     /// Puts a list under this id: that of the formula where it is the same, and else a copy. Without memory nothing changes.
-    pub(crate) fn insert_copy(
-        &mut self,
-        alloc: Global,
-        id: u64,
-        lits: &[Lit],
-    ) -> Result<(), AllocError>
+    pub(crate) fn insert_copy(&mut self, id: u64, lits: &[Lit]) -> Result<(), AllocError>
         ensures ok { OnOk result (self.new ≡ map.insert self.old id lits.now) }
         ensures err { OnErr result (self.new ≡ self.old) }
     {
         if self.first.restore(id, lits)? {
             return Ok(());
         }
-        let list = StoredList::copy_of(alloc, lits)?;
-        self.lists.insert(id, list)?;
+        self.lists.insert(id, lits)?;
         self.first.clear(id);
         Ok(())
     }

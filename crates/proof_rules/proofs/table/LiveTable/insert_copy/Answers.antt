@@ -17,6 +17,5 @@ returns-clause-ok c =
     let old = c.self.inside.first in
     let new = c.restore.new.self in
     let same = subst (λ b. MatchBool b (StandsThere c.args.id c.args.lits.now old new) (new ≡ old)) c.if-branch.false c.in_ok-restore.ensures.ok in
-    let put = c.in_ok-insert.ensures.ok ∙ ap (λ lits. map.insert c.self.inside.lists c.args.id lits) c.in_ok-list.ensures in
     let cleared = c.clear.ensures ∙ ap (λ first. set first c.args.id None) same in
-    (λ i. behind (cleared i) (put i)) ∙ insert-behind old c.self.inside.lists c.args.id c.args.lits.now ∙ ap (λ t. map.insert t c.args.id c.args.lits.now) c.self.view_is
+    (λ i. behind (cleared i) (c.in_ok-insert.ensures.ok i)) ∙ insert-behind old c.self.inside.lists c.args.id c.args.lits.now ∙ ap (λ t. map.insert t c.args.id c.args.lits.now) c.self.view_is
