@@ -72,12 +72,12 @@ pub fn take_step(
         LogStep::ClauseWithHints(id, lits, hints) => {
             take_clause(alloc, formula, state, id, lits, hints)
         }
-        LogStep::Parity(id, lits, ids) => { take_parity(alloc, formula, state, id, lits, ids) }
+        LogStep::Parity(id, lits, ids) => { take_parity(formula, state, id, lits, ids) }
         LogStep::ClauseOfParity(id, lits, source) => {
-            take_clause_of_parity(alloc, formula, state, id, lits, source)
+            take_clause_of_parity(formula, state, id, lits, source)
         }
         LogStep::ParityOfClauses(id, lits, ids) => {
-            take_parity_of_clauses(alloc, formula, state, id, lits, ids)
+            take_parity_of_clauses(formula, state, id, lits, ids)
         }
         LogStep::Delete(id, lits) => delete_clause(counts.clauses, state, id, lits),
         LogStep::DeleteParity(id, lits) => delete_parity(counts.parities, state, id, lits),

@@ -87,7 +87,6 @@ fn admit(
 
 /// Puts a constraint under this id, and gives the memory of its literals back.
 fn put_live(
-    alloc: Global,
     live: &mut IndexedClauses,
     marks: &mut JudgeMarks,
     kind: Kind,
@@ -96,7 +95,7 @@ fn put_live(
 ) -> Result<(), AllocError>
     ensures { OnOk result (live.new ≡ put_constraint kind live.old id lits) }
 {
-    live.add_copy(alloc, kind, id, lits.as_slice())?;
+    live.add_copy(kind, id, lits.as_slice())?;
     marks.keep_literals(lits);
     Ok(())
 }
@@ -208,14 +207,7 @@ pub fn take_original(
     let target = admit(room, formula, &state.live, Kind::Clauses, id, &lits)?;
     match originals.clause_number(alloc, formula, id, target.as_slice())? {
         Some(number) => {
-            put_live(
-                alloc,
-                &mut state.live,
-                &mut state.marks,
-                Kind::Clauses,
-                id,
-                target,
-            )?;
+            put_live(&mut state.live, &mut state.marks, Kind::Clauses, id, target)?;
             state.clauses.put_original(id, number)?;
             state.spare.keep_literals(lits);
             Ok(None)
@@ -243,7 +235,6 @@ pub fn take_original_parity(
     match originals.parity_number(alloc, formula, id, target.as_slice())? {
         Some(number) => {
             put_live(
-                alloc,
                 &mut state.live,
                 &mut state.marks,
                 Kind::Parities,
@@ -277,14 +268,7 @@ pub fn take_clause(
     let room = state.marks.literals();
     let target = admit(room, formula, &state.live, Kind::Clauses, id, &lits)?;
     settle_hints(alloc, &mut state.live, &state.clauses, &target, &mut hints)?;
-    put_live(
-        alloc,
-        &mut state.live,
-        &mut state.marks,
-        Kind::Clauses,
-        id,
-        target,
-    )?;
+    put_live(&mut state.live, &mut state.marks, Kind::Clauses, id, target)?;
     let next = state.clauses.put_next(id)?;
     Ok(Some(clause_step(next, lits, hints)))
 }
@@ -292,7 +276,6 @@ pub fn take_clause(
 /// A parity as the sum of parities that the log names.
 #[inline(always)]
 pub fn take_parity(
-    alloc: Global,
     formula: &Formula,
     state: &mut State,
     id: u64,
@@ -312,7 +295,6 @@ pub fn take_parity(
     let hints = hints_of(state.spare.hints(), &state.parities, ids)?;
     state.spare.keep_ids(sources);
     put_live(
-        alloc,
         &mut state.live,
         &mut state.marks,
         Kind::Parities,
@@ -326,7 +308,6 @@ pub fn take_parity(
 /// A parity that clauses imply, which the log names.
 #[inline(always)]
 pub fn take_parity_of_clauses(
-    alloc: Global,
     formula: &Formula,
     state: &mut State,
     id: u64,
@@ -350,7 +331,6 @@ pub fn take_parity_of_clauses(
     let hints = hints_of(state.spare.hints(), &state.clauses, ids)?;
     state.spare.keep_ids(sources);
     put_live(
-        alloc,
         &mut state.live,
         &mut state.marks,
         Kind::Parities,
@@ -364,7 +344,6 @@ pub fn take_parity_of_clauses(
 /// A clause that a parity implies, which the log names.
 #[inline(always)]
 pub fn take_clause_of_parity(
-    alloc: Global,
     formula: &Formula,
     state: &mut State,
     id: u64,
@@ -385,14 +364,7 @@ pub fn take_clause_of_parity(
         // Nothing that is live in the log is without a name in the proof.
         None => unreachable!(),
     };
-    put_live(
-        alloc,
-        &mut state.live,
-        &mut state.marks,
-        Kind::Clauses,
-        id,
-        target,
-    )?;
+    put_live(&mut state.live, &mut state.marks, Kind::Clauses, id, target)?;
     let next = state.clauses.put_next(id)?;
     Ok(Some(clause_of_parity_step(next, lits, named)))
 }

@@ -100,7 +100,7 @@ fn change(
     let lits = some_lits(alloc, seed, vars)?;
     let is_kept = !lits.as_slice().is_empty() || next(seed) % 8 == 0;
     if is_kept && next(seed) % 3 > 0 {
-        return clauses.add_copy(alloc, Kind::Clauses, id, lits.as_slice());
+        return clauses.add_copy(Kind::Clauses, id, lits.as_slice());
     }
     clauses.remove(Kind::Clauses, id);
     Ok(())

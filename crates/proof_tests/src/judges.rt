@@ -47,7 +47,7 @@ struct Court<'f> {
 }
 
 fn add(alloc: Global, live: &mut Live, row: &Row) -> Result<(), AllocError> {
-    live.add_copy(alloc, row.0, row.1, lits(alloc, row.2)?.as_slice())
+    live.add_copy(row.0, row.1, lits(alloc, row.2)?.as_slice())
 }
 
 fn add_all(alloc: Global, live: &mut Live, rows: &[Row]) -> Result<(), AllocError> {

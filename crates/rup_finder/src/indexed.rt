@@ -94,11 +94,11 @@ impl<'f> IndexedClauses<'f> {
     /// Puts a clause under this id, in the engines too. On its own, so that a call without engines has no room of theirs
     /// to clear.
     #[inline(never)]
-    fn add_to_engines(&mut self, alloc: Global, id: u64, lits: &[Lit]) -> Result<(), AllocError>
+    fn add_to_engines(&mut self, id: u64, lits: &[Lit]) -> Result<(), AllocError>
         ensures ok { OnOk result (self.new ≡ put_constraint Clauses self.old id lits.now) }
         ensures err { OnErr result (self.new ≡ self.old) }
     {
-        self.live.add_copy(alloc, Kind::Clauses, id, lits)?;
+        self.live.add_copy(Kind::Clauses, id, lits)?;
         // An engine that has no memory for it goes, and the next search makes one.
         let _ = put_in(&mut self.engine, id, lits);
         let _ = put_in(&mut self.recent.engine, id, lits);
@@ -107,13 +107,7 @@ impl<'f> IndexedClauses<'f> {
 
     /// Puts a constraint of this kind with these literals under this id, in the place of what is live under it. They are copied
     /// but where it is the formula's constraint of this number. Without memory no table changes.
-    pub fn add_copy(
-        &mut self,
-        alloc: Global,
-        kind: Kind,
-        id: u64,
-        lits: &[Lit],
-    ) -> Result<(), AllocError>
+    pub fn add_copy(&mut self, kind: Kind, id: u64, lits: &[Lit]) -> Result<(), AllocError>
         ensures ok { OnOk result (self.new ≡ put_constraint kind self.old id lits.now) }
         ensures err { OnErr result (self.new ≡ self.old) }
     {
@@ -121,12 +115,12 @@ impl<'f> IndexedClauses<'f> {
             Kind::Clauses => {
                 // Without engines there is none to move.
                 if self.engine.is_none() && self.recent.engine.is_none() {
-                    self.live.add_copy(alloc, Kind::Clauses, id, lits)
+                    self.live.add_copy(Kind::Clauses, id, lits)
                 } else {
-                    self.add_to_engines(alloc, id, lits)
+                    self.add_to_engines(id, lits)
                 }
             }
-            Kind::Parities => self.live.add_copy(alloc, Kind::Parities, id, lits),
+            Kind::Parities => self.live.add_copy(Kind::Parities, id, lits),
         }
     }
 

@@ -48,7 +48,7 @@ pub fn check<S: StepSource<Step = ProofStep>>(
     };
     let mut steps = 0;
     loop {
-        match take_next(alloc, &mut memory, vars, &mut live, source, steps) {
+        match take_next(&mut memory, vars, &mut live, source, steps) {
             Ok(None) => steps += 1,
             Ok(Some(verdict)) => return Ok(verdict),
             Err(fault) => return Err(fault),
@@ -58,7 +58,6 @@ pub fn check<S: StepSource<Step = ProofStep>>(
 
 /// Takes the next step, behind so many; none where the proof goes on.
 fn take_next<S: StepSource<Step = ProofStep>>(
-    alloc: Global,
     memory: &mut Memory,
     vars: u32,
     live: &mut Live,
@@ -85,7 +84,7 @@ fn take_next<S: StepSource<Step = ProofStep>>(
         }
         Err(why) => return refused_text(why, steps + 1),
     };
-    let taken = take_step(alloc, &mut memory.marks, vars, live, &step);
+    let taken = take_step(&mut memory.marks, vars, live, &step);
     memory.spare.keep(step);
     what_follows(taken, steps + 1)
 }

@@ -11,7 +11,6 @@ use proof_rules::{
     JudgeMarks, JudgeRefusal, Kind, Live, admit_into, judge_chain, judge_clause_of_parity,
     judge_parity_of_clauses, judge_sum,
 };
-use std::alloc::Global;
 
 /// Judges what a step adds by its hints.
 fn judge_added(
@@ -44,7 +43,6 @@ fn judge_added(
 // In each of its places the kind of step is known, and so which judge is asked.
 #[inline(always)]
 fn take_added(
-    alloc: Global,
     marks: &mut JudgeMarks,
     vars: u32,
     live: &mut Live,
@@ -58,7 +56,7 @@ fn take_added(
 {
     let target = admit_into(marks.literals(), vars, lits, live.has(kind, id))?;
     judge_added(marks, live, step, &target)?;
-    live.add_copy(alloc, kind, id, target.as_slice())?;
+    live.add_copy(kind, id, target.as_slice())?;
     marks.keep_literals(target);
     Ok(matches!(kind, Kind::Clauses) && lits.as_slice().is_empty())
 }
@@ -74,7 +72,6 @@ fn delete(live: &mut Live, kind: Kind, ids: &IdList)
 
 /// Judges a step, and where it is right does it and says whether it ends the proof. `marks` are for their memory alone.
 pub(crate) fn take_step(
-    alloc: Global,
     marks: &mut JudgeMarks,
     vars: u32,
     live: &mut Live,
@@ -85,16 +82,16 @@ pub(crate) fn take_step(
 {
     match step {
         ProofStep::Clause(id, lits, _) => {
-            take_added(alloc, marks, vars, live, Kind::Clauses, *id, lits, step)
+            take_added(marks, vars, live, Kind::Clauses, *id, lits, step)
         }
         ProofStep::Parity(id, lits, _) => {
-            take_added(alloc, marks, vars, live, Kind::Parities, *id, lits, step)
+            take_added(marks, vars, live, Kind::Parities, *id, lits, step)
         }
         ProofStep::ClauseOfParity(id, lits, _) => {
-            take_added(alloc, marks, vars, live, Kind::Clauses, *id, lits, step)
+            take_added(marks, vars, live, Kind::Clauses, *id, lits, step)
         }
         ProofStep::ParityOfClauses(id, lits, _) => {
-            take_added(alloc, marks, vars, live, Kind::Parities, *id, lits, step)
+            take_added(marks, vars, live, Kind::Parities, *id, lits, step)
         }
         ProofStep::DeleteClauses(_, ids) => {
             delete(live, Kind::Clauses, ids);
