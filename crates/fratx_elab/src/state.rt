@@ -18,6 +18,7 @@ pub struct State<'f> {
 }
 
 /// Keeps the memory of what was written, if anything, for the next step.
+#[inline(always)]
 pub fn keep_memory(spare: &mut SpareLists, written: Option<ProofStep>) {
     if let Some(step) = written {
         spare.keep(step);

@@ -86,6 +86,7 @@ fn admit(
 }
 
 /// Puts a constraint under this id, and gives the memory of its literals back.
+#[inline(always)]
 fn put_live(
     live: &mut IndexedClauses,
     marks: &mut JudgeMarks,
