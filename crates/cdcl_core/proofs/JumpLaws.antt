@@ -19,7 +19,7 @@ use Rattle.parity_engine.specs.State.{State}
 use Rattle.search_steps.proofs.TrailLaws.{back_holds}
 use Rattle.search_steps.proofs.Bridge.{held_is_true, level_tied}
 use Rattle.search_steps.proofs.Stored.{has_of}
-use Rattle.cx_semantics.proofs.ChainLaws.{are_one}
+use Rattle.cx_base.proofs.LiteralLaws.{are_one}
 use Rattle.cx_base.specs.Literals.{same_literal}
 use Rattle.watch_lists.specs.Attaching.{CanBeWatched, literal_at as nth}
 use Rattle.conflict_learn.specs.Learning.{IsFalling}

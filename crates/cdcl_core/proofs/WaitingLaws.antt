@@ -13,7 +13,7 @@ use Rattle.cx_base.specs.Problem.{Problem, clauses_of, IsWithinVariables}
 use Rattle.cx_base.specs.declared.steps.LogEvent.{LogEvent}
 use Rattle.cx_semantics.specs.Chain.{has_literal, is_inside, same_literals}
 use Rattle.cx_semantics.specs.Tables.{Table, get}
-use Rattle.cx_semantics.proofs.ChainLaws.{same_literal-itself}
+use Rattle.cx_base.proofs.LiteralLaws.{same_literal-itself}
 use Rattle.cx_semantics.proofs.Closure.{has_by_inside}
 use Rattle.cx_semantics.proofs.Members.{has_at_head, has_split}
 use Rattle.cx_trail.specs.declared.entry.Entry.{Entry as TrailEntry}

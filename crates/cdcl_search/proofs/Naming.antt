@@ -11,13 +11,13 @@ use Rattle.cx_base.specs.Parity.{NormalForm, normal_form}
 use Rattle.cx_base.specs.Problem.{Problem, parity_met, clause_met, AreWithin}
 use Rattle.cx_semantics.specs.Chain.{has_literal, negations}
 use Rattle.cx_base.specs.declared.steps.LogEvent.{LogEvent}
-use Rattle.cx_semantics.proofs.ChainLaws.{literal_true-negate, same_literal-itself}
+use Rattle.cx_semantics.proofs.ChainLaws.{literal_true-negate}
 use Rattle.cx_semantics.proofs.Members.{has_at_head, has_behind, has_split, all_by}
 use Rattle.cx_trail.specs.declared.entry.Entry.{Entry as TrailEntry}
 use Rattle.cx_trail.specs.declared.entry.Reason.TheVariants as reason
 use Rattle.cx_trail.specs.Sequence.{TrailState, pushed, IsTrueIn, IsOpenIn, IsAssignedIn, IsTrail}
 use Rattle.cx_trail.proofs.CellLaws.{at_take}
-use Rattle.cx_base.proofs.LiteralLaws.{negate-negate}
+use Rattle.cx_base.proofs.LiteralLaws.{negate-negate, same_literal-itself}
 use Rattle.parity_engine.specs.declared.state.Held.{Held}
 use Rattle.parity_engine.specs.declared.state.Mood.{Mood}
 use Rattle.parity_engine.specs.declared.state.Mood.TheVariants.{Busy, Calm, Broken}

@@ -7,7 +7,7 @@ use Rattle.std.specs.FinSet as set
 use Rattle.cx_base.specs.Literals.{Literal, same_literal}
 use Rattle.cx_base.specs.Parity.{NormalForm, HasOneOfEach}
 use Rattle.cx_semantics.specs.Chain.{has_literal}
-use Rattle.cx_semantics.proofs.ChainLaws.{same_literal-itself}
+use Rattle.cx_base.proofs.LiteralLaws.{same_literal-itself}
 use Rattle.cx_semantics.proofs.Members.{has_split}
 use Rattle.cx_semantics.proofs.Widths.{variable_in, length-variables, variables}
 use Rattle.conflict_learn.proofs.ChainOfResolutions.{by_cases}

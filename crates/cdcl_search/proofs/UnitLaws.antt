@@ -70,7 +70,7 @@ module _ (t : TrailState) (sound : IsTrail t) where
   pub implying_are_low : (l : Literal) (lits : List Literal) (place : ℕ) → place < length t.entries → (entry_at t.entries place).literal ≡ l → IsAntecedent t l lits → All (λ m. m.variable ≤ t.variables) lits
   implying_are_low l lits place less here implied = all_have (λ m. m.variable ≤ t.variables) lits (λ m has.
       by_cases (same_literal (entry_at t.entries place).literal m)
-      (λ same. true_is_low m (place, (less, Rattle.cx_semantics.proofs.ChainLaws.are_one (entry_at t.entries place).literal m same)))
+      (λ same. true_is_low m (place, (less, Rattle.cx_base.proofs.LiteralLaws.are_one (entry_at t.entries place).literal m same)))
       (λ apart.
       let f = (implied place less here).others_false m has apart in
       let low = f.1 in

@@ -4,7 +4,7 @@ use Rattle.std.proofs.lemmas.Bool.{cases_eq}
 use Rattle.std.proofs.lemmas.List.{get_or_default}
 use Rattle.cx_base.specs.Literals.{Literal, same_literal}
 use Rattle.cx_semantics.specs.Chain.{has_literal}
-use Rattle.cx_semantics.proofs.ChainLaws.{same_literal-itself}
+use Rattle.cx_base.proofs.LiteralLaws.{same_literal-itself}
 use Rattle.cx_semantics.proofs.Members.{has_split}
 
 pub place_of_member : (xs : List Literal) (m : Literal) → has_literal xs m ≡ true → (k : ℕ) × (k < length xs) × ((d : Literal) → get_or xs k d ≡ m)

@@ -3,9 +3,8 @@ use Rattle.std.proofs.Common.{◌≡◌, ◌≢◌, refl, sym, ap, ◌∙◌, Bo
 use Rattle.std.specs.List.{list_all}
 use Rattle.std.proofs.lemmas.Bool.{not-true, and_parts, and_from}
 use Rattle.cx_base.specs.Literals.{Literal, negate, same_literal}
-use Rattle.cx_base.proofs.LiteralLaws.{negate-negate}
+use Rattle.cx_base.proofs.LiteralLaws.{negate-negate, are_one}
 use Rattle.cx_semantics.specs.Chain.{has_literal, is_inside, negations, left, count_left, right, go_on, chain, ChainEnd, IsChain}
-use Rattle.cx_semantics.proofs.ChainLaws.{are_one}
 use Rattle.cx_semantics.proofs.Closure.{inside_itself, some_are}
 use Rattle.cx_semantics.proofs.Members.{has_at_head, has_behind, has_split}
 use Rattle.conflict_learn.specs.Learning.{Serves}

@@ -1,9 +1,10 @@
 -- A literal's negation, and its code.
-use Rattle.std.proofs.Common.{◌≡◌, ◌≢◌, ℕ, ◌+◌, ◌*◌, ◌<◌, ◌≤◌, cond, arith, sym, ap, ◌∙◌, refl, Bool, true, false, not, ◌⊎◌, inl, inr, ⊎_elim}
-use Rattle.std.proofs.lemmas.Bool.{cases_eq, false≢true}
+use Rattle.std.proofs.Common.{◌≡◌, ◌≢◌, ℕ, ◌+◌, ◌*◌, ◌<◌, ◌≤◌, cond, arith, sym, ap, ◌∙◌, refl, Bool, true, false, not, ◌⊎◌, inl, inr, ⊎_elim, eqb-true, eq-eqb, nat_eq}
+use Rattle.std.proofs.lemmas.Bool.{cases_eq, false≢true, and_parts, and_from}
 use Rattle.std.proofs.Math.Bool.{not-not}
-use Rattle.cx_base.specs.Literals.{Literal, negate, code_of, literal_of_code}
+use Rattle.cx_base.specs.Literals.{Literal, differ, negate, same_literal, code_of, literal_of_code}
 use Rattle.cx_base.specs.Codes.{literal_of_code-code_of}
+use Rattle.cx_base.proofs.Differences.{not_differ-same, same-not_differ}
 
 pub negate-negate : (l : Literal) → negate (negate l) ≡ l
 negate-negate l = λ i. record { variable = l.variable; negative = not-not l.negative i }
@@ -11,6 +12,17 @@ negate-negate l = λ i. record { variable = l.variable; negative = not-not l.neg
 -- two literals of one code are one
 pub same_code : (l m : Literal) → code_of l ≡ code_of m → l ≡ m
 same_code l m e = sym (literal_of_code-code_of l) ∙ ap literal_of_code e ∙ literal_of_code-code_of m
+
+-- ---- the test whether two literals are one
+pub are_one : (l m : Literal) → same_literal l m ≡ true → l ≡ m
+are_one l m h =
+    let p = and_parts (nat_eq l.variable m.variable) (not (differ l.negative m.negative)) h in
+    let x = eqb-true l.variable m.variable p.0 in
+    let s = same-not_differ l.negative m.negative p.1 in
+    λ i. record { variable = x i; negative = s i }
+
+pub same_literal-itself : (l : Literal) → same_literal l l ≡ true
+same_literal-itself l = and_from _ _ (eq-eqb l.variable l.variable refl) (not_differ-same l.negative l.negative refl)
 
 -- ---- the range of a code
 pub code_below : (l : Literal) (vars : ℕ) → l.variable ≤ vars → code_of l < 2 * vars + 2

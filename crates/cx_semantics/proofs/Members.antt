@@ -5,7 +5,7 @@ use Rattle.std.specs.List.{list_all}
 use Rattle.std.proofs.lemmas.List.Folds.{list_any-append}
 use Rattle.cx_base.specs.Literals.{Literal, same_literal}
 use Rattle.cx_semantics.specs.Chain.{has_literal}
-use Rattle.cx_semantics.proofs.ChainLaws.{are_one, same_literal-itself}
+use Rattle.cx_base.proofs.LiteralLaws.{are_one, same_literal-itself}
 
 pub has_at_head : (m : Literal) (ms : List Literal) → has_literal (m ∷ ms) m ≡ true
 has_at_head m ms = ap (λ b. b || has_literal ms m) (same_literal-itself m)

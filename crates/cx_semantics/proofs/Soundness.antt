@@ -22,7 +22,8 @@ use Rattle.cx_semantics.specs.Tables.{Table, Tables, get, named, numbered_from, 
 use Rattle.cx_semantics.specs.Judging.{IsRight, Runs, Calculus, AcceptedAt}
 use Rattle.cx_semantics.specs.ProofRules.{is_not_unit, is_hints_end, IsSum, proof_calculus, after_step, adds_empty_clause, is_empty}
 use Rattle.cx_semantics.specs.LogRules.{is_original, log_calculus, after_log_step, derives_empty_clause}
-use Rattle.cx_semantics.proofs.ChainLaws.{chained_is_met, are_one}
+use Rattle.cx_base.proofs.LiteralLaws.{are_one}
+use Rattle.cx_semantics.proofs.ChainLaws.{chained_is_met}
 
 -- ---- tables whose lists are met
 

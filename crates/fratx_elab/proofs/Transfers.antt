@@ -15,7 +15,7 @@ use Rattle.cx_semantics.specs.LogRules.{AreLive}
 use Rattle.cx_semantics.specs.ProofRules.{hinting, summing, all_met, clause_of_parity, parity_of_clauses}
 use Rattle.cx_semantics.specs.Tables.{Table, get, is_live, named, numbered_from}
 use Rattle.cx_semantics.proofs.SameSets.{AllSame, chain_stays_right}
-use Rattle.cx_semantics.proofs.ChainLaws.{are_one}
+use Rattle.cx_base.proofs.LiteralLaws.{are_one}
 use Rattle.cx_semantics.proofs.Closure.{inside_itself}
 use Rattle.cx_semantics.proofs.Soundness.{same_clause, roof, below_roof}
 use Rattle.fratx_elab.specs.Names.{Naming, stands_for}

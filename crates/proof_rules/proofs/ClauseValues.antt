@@ -8,7 +8,8 @@ use Rattle.cx_base.specs.Problem.{clause_met, parity_met}
 use Rattle.cx_base.specs.Parity.{normal_form, odd_sum}
 use Rattle.cx_base.proofs.Differences.{not_differ-same, same-not_differ}
 use Rattle.cx_semantics.specs.Chain.{has_literal, HaveSame}
-use Rattle.cx_semantics.proofs.ChainLaws.{are_one, literal_true-negate}
+use Rattle.cx_base.proofs.LiteralLaws.{are_one}
+use Rattle.cx_semantics.proofs.ChainLaws.{literal_true-negate}
 use Rattle.cx_semantics.proofs.Members.{has_at_head, has_behind}
 use Rattle.proof_rules.specs.LiteralSets.{ArePositive}
 use Rattle.proof_rules.specs.Assignments.{Lists, has_opposites, forced_sum, Decided}

@@ -13,7 +13,7 @@ use Rattle.cx_base.specs.Literals.{Literal, differ, same_literal, literal_true, 
 use Rattle.cx_base.specs.Problem.{clause_met}
 use Rattle.cx_base.proofs.Differences.{own_sign}
 use Rattle.cx_semantics.specs.Chain.{has_literal, HaveSame}
-use Rattle.cx_semantics.proofs.ChainLaws.{are_one}
+use Rattle.cx_base.proofs.LiteralLaws.{are_one}
 use Rattle.cx_base.specs.Parity.{odd_sum}
 use Rattle.proof_rules.specs.Assignments.{AreDistinct}
 use Rattle.proof_rules.specs.Exclusions.{HasPlaces, excluded, is_hit, all_excluded, is_outside}

@@ -7,7 +7,7 @@ use Rattle.std.specs.Cmp.{both_ways}
 use Rattle.std.specs.Cmp.Lexicographic.{pointwise}
 use Rattle.cx_base.specs.Literals.{Literal, code_of, literal_of_code, same_literal}
 use Rattle.cx_base.specs.Codes.{literal_of_code-code_of}
-use Rattle.cx_semantics.proofs.ChainLaws.{are_one, same_literal-itself}
+use Rattle.cx_base.proofs.LiteralLaws.{are_one, same_literal-itself}
 
 -- literals are those of their codes
 pub same_code : (q k : Literal) → nat_eq (code_of q) (code_of k) ≡ same_literal q k

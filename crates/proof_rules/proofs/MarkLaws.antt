@@ -4,9 +4,8 @@ use Rattle.std.proofs.lemmas.Bool.{cases_eq, cases_lt, or_cases}
 use Rattle.std.proofs.lemmas.List.{get_or-set_same, get_or-set_other, get_or_past, length-set}
 use Rattle.std.proofs.lemmas.List.Folds.{list_any-append}
 use Rattle.cx_base.specs.Literals.{Literal, code_of, same_literal}
-use Rattle.cx_base.proofs.LiteralLaws.{same_code}
+use Rattle.cx_base.proofs.LiteralLaws.{same_code, are_one}
 use Rattle.cx_semantics.specs.Chain.{has_literal, HaveSame}
-use Rattle.cx_semantics.proofs.ChainLaws.{are_one}
 use Rattle.cx_semantics.proofs.Members.{has_at_head}
 use Rattle.proof_rules.specs.LiteralSets.{AreMarks, AreMarkedOnly}
 

@@ -31,7 +31,7 @@ module _ (table : Table) (all low : List Literal) (clash : HasNoClash all) (insi
     where
       all_false : (m : Literal) → has_literal lits m ≡ true → has_literal all (negate m) ≡ true
       all_false m k = by_cases (same_literal l m)
-          (λ e. ap (λ x. has_literal all (negate x)) (sym (Rattle.cx_semantics.proofs.ChainLaws.are_one l m e)) ∙ f)
+          (λ e. ap (λ x. has_literal all (negate x)) (sym (Rattle.cx_base.proofs.LiteralLaws.are_one l m e)) ∙ f)
           (λ e. has_by_inside low all (negate m) inside (others_false m k e))
 
 -- ---- what closed sets take in

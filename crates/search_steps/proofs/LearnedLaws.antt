@@ -3,11 +3,10 @@ use Rattle.std.proofs.Common.{◌≡◌, refl, sym, ap, ◌∙◌, subst, ℕ, �
 use Rattle.std.specs.Prelude.{reverse}
 use Rattle.std.specs.List.{AllByRecursion, cons_option}
 use Rattle.cx_base.specs.Literals.{Literal, negate, same_literal}
-use Rattle.cx_base.proofs.LiteralLaws.{negate-negate}
+use Rattle.cx_base.proofs.LiteralLaws.{negate-negate, are_one, same_literal-itself}
 use Rattle.cx_semantics.specs.Chain.{has_literal}
 use Rattle.cx_semantics.specs.LogRules.{AreLive, HasChain}
 use Rattle.cx_semantics.specs.Tables.{Table, named}
-use Rattle.cx_semantics.proofs.ChainLaws.{are_one, same_literal-itself}
 use Rattle.cx_semantics.proofs.Closure.{has_by_inside}
 use Rattle.cx_semantics.proofs.SameSets.{HaveSame-by_test, AllSame, chain_stays_right}
 use Rattle.cx_semantics.proofs.Members.{has_at_head, has_behind, has_split}

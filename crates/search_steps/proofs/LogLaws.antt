@@ -22,7 +22,7 @@ use Rattle.cx_semantics.specs.Marked.{Moment, first_moment, after_event, StepFit
 use Rattle.cx_semantics.specs.ProofRules.{all_met}
 use Rattle.cx_semantics.specs.Settled.{IsClauseOf}
 use Rattle.cx_semantics.specs.Tables.{Table, get, is_live, named}
-use Rattle.cx_semantics.proofs.ChainLaws.{are_one}
+use Rattle.cx_base.proofs.LiteralLaws.{are_one}
 use Rattle.cx_semantics.proofs.Closure.{chain_or_closed, has_by_inside}
 use Rattle.cx_semantics.proofs.JudgingLaws.{runs_push}
 use Rattle.cx_semantics.proofs.MarkedLaws.{events_go_on}

@@ -3,10 +3,9 @@ use Rattle.std.proofs.Common.{◌≡◌, refl, sym, ap, ◌∙◌, subst, Bool, 
 use Rattle.std.specs.List.{list_any, list_all}
 use Rattle.std.proofs.lemmas.Bool.{and_right, and_parts, and_from}
 use Rattle.cx_base.specs.Literals.{Literal, negate, same_literal}
-use Rattle.cx_base.proofs.LiteralLaws.{negate-negate}
+use Rattle.cx_base.proofs.LiteralLaws.{negate-negate, are_one, same_literal-itself}
 use Rattle.cx_semantics.specs.Chain.{has_literal, is_inside, negations, left, one, more, count_left}
 use Rattle.cx_semantics.specs.Fresh.{is_tautology, is_falsified, others}
-use Rattle.cx_semantics.proofs.ChainLaws.{are_one, same_literal-itself}
 use Rattle.cx_semantics.proofs.Closure.{one_is, left_has}
 use Rattle.cx_semantics.proofs.Members.{has_at_head, has_behind, has_split}
 use Rattle.search_steps.specs.Quiet.{HasNoClash, RestsOn, HasTrue, HasTwoOpen}

@@ -4,7 +4,7 @@ use Rattle.std.proofs.lemmas.Bool.{and_parts}
 use Rattle.cx_base.specs.Literals.{Literal, negate, same_literal}
 use Rattle.cx_semantics.specs.Chain.{has_literal, is_inside, same_literals, negations, left}
 use Rattle.cx_semantics.specs.Fresh.{is_falsified}
-use Rattle.cx_semantics.proofs.ChainLaws.{are_one, same_literal-itself}
+use Rattle.cx_base.proofs.LiteralLaws.{are_one, same_literal-itself}
 use Rattle.cx_semantics.proofs.Closure.{has_by_inside, falsified-left, some_are, left_in, left_open, left_has}
 use Rattle.cx_semantics.proofs.Members.{has_at_head, has_behind, has_split, all_by}
 use Rattle.cx_trail.specs.declared.entry.Entry.{Entry as TrailEntry}

@@ -2,10 +2,9 @@
 use Rattle.std.proofs.Common.{◌≡◌, refl, sym, ap, ◌∙◌, subst, ℕ, ◌+◌, ◌<◌, ◌≤◌, nat_le, Bool, true, false, cond, not, ◌||◌, nat_eq, List, [], ◌∷◌, arith, inl, inr}
 use Rattle.std.proofs.lemmas.Bool.{leb-true, leb-false, and_right, and_from}
 use Rattle.cx_base.specs.Literals.{Literal, negate, same_literal, differ}
-use Rattle.cx_base.proofs.LiteralLaws.{negate-negate}
+use Rattle.cx_base.proofs.LiteralLaws.{negate-negate, are_one}
 use Rattle.cx_semantics.specs.Chain.{has_literal, is_inside}
 use Rattle.cx_semantics.specs.Tables.{Table}
-use Rattle.cx_semantics.proofs.ChainLaws.{are_one}
 use Rattle.cx_semantics.proofs.Closure.{has_by_inside, inside_more}
 use Rattle.cx_semantics.proofs.Members.{has_at_head, has_split}
 use Rattle.search_steps.specs.Quiet.{HasNoClash}

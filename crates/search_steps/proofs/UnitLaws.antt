@@ -2,7 +2,7 @@
 use Rattle.std.proofs.Common.{◌≡◌, refl, sym, ap, ◌∙◌, subst, ℕ, suc, nat_le, cond, List, [], ◌∷◌, ◌++◌, Some, arith, inl, inr, true≢false}
 use Rattle.cx_base.specs.Literals.{Literal, same_literal}
 use Rattle.cx_semantics.specs.Tables.{Table, get}
-use Rattle.cx_semantics.proofs.ChainLaws.{same_literal-itself}
+use Rattle.cx_base.proofs.LiteralLaws.{same_literal-itself}
 use Rattle.cx_semantics.proofs.Members.{has_at_head, has_split}
 use Rattle.search_steps.specs.Trail.{Entry, rests_on, Why, decided, by_clause, by_row, held, all_held, level_of, IsTrail, IsSetBy, Forces}
 use Rattle.search_steps.proofs.Sets.{not_both}

@@ -13,7 +13,7 @@ use Rattle.cx_base.proofs.Odd.{parity_met-cons, is_odd-count}
 use Rattle.cx_base.proofs.ParityLaws.{contains-normal_form}
 use Rattle.cx_base.proofs.Differences.{differ_assoc, differ_move}
 use Rattle.cx_semantics.specs.Chain.{has_literal}
-use Rattle.cx_semantics.proofs.ChainLaws.{same_literal-itself}
+use Rattle.cx_base.proofs.LiteralLaws.{same_literal-itself}
 use Rattle.cx_semantics.proofs.RecoveredLaws.{Distinct, len-distinct, or_apart}
 use Rattle.cx_semantics.proofs.Members.{has_at_head, has_behind, has_split}
 use Rattle.cx_semantics.proofs.Widths.{variable_in, length-variables, variables}

@@ -5,7 +5,8 @@ use Rattle.std.proofs.lemmas.List.FromFn.{get_or-map-range_with_len}
 use Rattle.std.proofs.lemmas.Bool.{not-true, or_right}
 use Rattle.cx_base.specs.Literals.{Literal, negate, same_literal, value_of, literal_true, positive_of}
 use Rattle.cx_base.proofs.ParityLaws.{to_differ}
-use Rattle.cx_semantics.proofs.ChainLaws.{are_one, same_literal-itself, literal_true-negate}
+use Rattle.cx_base.proofs.LiteralLaws.{are_one, same_literal-itself}
+use Rattle.cx_semantics.proofs.ChainLaws.{literal_true-negate}
 use Rattle.cx_trail.specs.declared.entry.Entry.{Entry}
 use Rattle.cx_trail.specs.Sequence.{TrailState, IsTrail, IsTrueIn, IsFalseIn, entry_at, no_entry}
 use Rattle.xor_reason.specs.ReasonClause.{AgreesWithTrail}

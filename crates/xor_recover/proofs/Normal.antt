@@ -10,7 +10,7 @@ use Rattle.cx_base.specs.Literals.{Literal, same_literal, differ}
 use Rattle.cx_base.specs.Problem.{AreWithin}
 use Rattle.cx_base.specs.declared.literal.TheConstants.{MAX_VARIABLE}
 use Rattle.cx_semantics.specs.Chain.{has_literal}
-use Rattle.cx_semantics.proofs.ChainLaws.{are_one, same_literal-itself}
+use Rattle.cx_base.proofs.LiteralLaws.{are_one, same_literal-itself}
 use Rattle.cx_semantics.proofs.Members.{has_at_head, has_behind, has_split}
 use Rattle.cx_semantics.proofs.Widths.{variables}
 use Rattle.parity_engine.specs.Written.{AreRising}
