@@ -35,7 +35,7 @@ fn clause_count(formula: &Formula) -> usize {
     count
 }
 
-/// The constraint at a place; a parity has an `x` in front.
+/// The constraint at a place; a parity has an `x` in front, and an assumption constraint an `a`.
 fn show_item(alloc: Global, formula: &Formula, place: usize) -> Result<String, AllocError> {
     if place >= formula.len() {
         return format!(in alloc; "{place}: none\n");
@@ -46,6 +46,9 @@ fn show_item(alloc: Global, formula: &Formula, place: usize) -> Result<String, A
         }
         ConstraintRef::Parity(lits) => {
             format!(in alloc; "{place}: x {:?}\n", integers(alloc, lits)?.as_slice())
+        }
+        ConstraintRef::Assume(lits) => {
+            format!(in alloc; "{place}: a {:?}\n", integers(alloc, lits)?.as_slice())
         }
     }
 }

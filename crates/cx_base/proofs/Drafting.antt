@@ -1,8 +1,8 @@
 -- What a builder keeps from one call to the next.
-use Rattle.std.proofs.Common.{◌≡◌, refl, sym, ap, ◌∙◌, subst, ℕ, ◌+◌, ◌-◌, ◌≤◌, List, [], ◌∷◌, ◌++◌, length, take, drop, map, max, append_assoc, append-nil, length-append, length-drop, arith}
+use Rattle.std.proofs.Common.{◌≡◌, refl, sym, ap, ◌∙◌, subst, ℕ, zero, suc, ◌+◌, ◌-◌, ◌≤◌, List, [], ◌∷◌, ◌++◌, length, take, drop, map, max, append_assoc, append-nil, length-append, length-drop, arith}
 use Rattle.std.specs.List.{All, AllByRecursion, fold, flat_map}
 use Rattle.std.proofs.lemmas.List.{map-append, drop-append-le, take-append-le, take_all, drop_all}
-use Rattle.std.proofs.lemmas.List.Elements.{All-head, All-tail, All-push, All-weaker}
+use Rattle.std.proofs.lemmas.List.Elements.{All-nil, All-head, All-tail, All-push, All-weaker}
 use Rattle.std.proofs.lemmas.List.Sums.{fold-append}
 use Rattle.std.proofs.lemmas.Grind.{flat_map-append}
 use Rattle.cx_base.specs.Literals.{Literal}
@@ -69,6 +69,7 @@ pushed_view largest closed lits items heads l d e =
 literals_of-of_kind : (k : Kind) (lits : List Literal) → literals_of (of_kind k lits) ≡ lits
 literals_of-of_kind kind.Clause lits = refl
 literals_of-of_kind kind.Parity lits = refl
+literals_of-of_kind kind.Assume lits = refl
 
 pub rest_is_stored : (closed len : ℕ) (lits : List Literal) (k : Kind) → closed ≤ length lits → len ≡ length lits - closed
     → stored lits (record { kind = k; start = closed; len = len }) ≡ of_kind k (drop closed lits)
@@ -106,7 +107,13 @@ ended_view largest closed len end lits heads grown k d e f g =
       unfinished = drop_all end lits (omega arith) i;
     })
 
--- ---- the whole formula
+-- ---- nothing yet
+
+pub nothing_drafted : (lits : List Literal) (heads : List Head) → lits ≡ [] → heads ≡ [] → IsDraft 0 0 lits heads
+nothing_drafted lits heads e f = subst (λ (xs : List Literal). IsDraft 0 0 xs heads) (sym e) (subst (λ (hs : List Head). IsDraft 0 0 [] hs) (sym f)
+    (record { inside = All-nil (EndsBy 0); reach = omega arith; whole = refl; greatest = refl; few = omega arith; positive = All-nil (λ l. 1 ≤ l.variable) }))
+
+-- ---- the open literals have variables up to the greatest
 
 max_out : (v : ℕ) (xs : List ℕ) → fold max v xs ≡ max v (fold max 0 xs)
 max_out v [] = omega arith
@@ -121,6 +128,20 @@ up_to_greatest (l ∷ lits) p n h =
     let low : 1 ≤ l.variable = All-head (λ m. 1 ≤ m.variable) l lits p in
     let out : fold max (max 0 l.variable) (variables lits) ≡ max (max 0 l.variable) (fold max 0 (variables lits)) = max_out (max 0 l.variable) (variables lits) in
     ((low, omega arith), up_to_greatest lits (All-tail (λ m. 1 ≤ m.variable) l lits p) n (omega arith))
+
+within_behind : (n k : ℕ) (lits : List Literal) → AreWithin n lits → AreWithin n (drop k lits)
+within_behind n zero lits a = a
+within_behind n (suc k) [] a = tt
+within_behind n (suc k) (l ∷ lits) a = within_behind n k lits a.1
+
+pub open_within : (largest closed : ℕ) (lits : List Literal) (heads : List Head) → IsDraft largest closed lits heads → AreWithin largest (drop closed lits)
+open_within largest closed lits heads d = within_behind largest closed lits (up_to_greatest lits d.positive largest (let g : largest ≡ fold max 0 (variables lits) = d.greatest in omega arith))
+
+-- a slice of them
+pub open_slice : (closed : ℕ) (lits seen : List Literal) → closed ≤ length lits → seen ≡ lits → take (length seen - closed) (drop closed seen) ≡ drop closed lits
+open_slice closed lits seen h e = ap (λ xs. take (length xs - closed) (drop closed xs)) e ∙ take_all (length lits - closed) (drop closed lits) (omega (arith, length-drop closed lits))
+
+-- ---- the whole formula
 
 split_front : (P : Literal → Type 0) (xs ys : List Literal) → AllByRecursion P (xs ++ ys) → AllByRecursion P xs × AllByRecursion P ys
 split_front P [] ys a = (tt, a)

@@ -8,5 +8,7 @@ pub mod Differences
 pub mod LiteralLaws
 pub mod Elements
 pub mod PlaceLaws
+pub mod MarkLaws
+pub mod AssumedLaws
 pub mod MovedLaws
 pub mod Fronts

@@ -33,10 +33,12 @@ places_from-push pick n (d ∷ cs) c =
 one_clause : (k : Kind) (lits : List Literal) (n : ℕ) → places_from clause_in n (of_kind k lits ∷ []) ≡ clause_place k n
 one_clause kind.Clause lits n = refl
 one_clause kind.Parity lits n = refl
+one_clause kind.Assume lits n = refl
 
 one_parity : (k : Kind) (lits : List Literal) (n : ℕ) → places_from parity_in n (of_kind k lits ∷ []) ≡ parity_place k n
 one_parity kind.Clause lits n = refl
 one_parity kind.Parity lits n = refl
+one_parity kind.Assume lits n = refl
 
 pub places_pushed : (a b a' b' : List ℕ) (cs ds : List Constraint) (k : Kind) (lits : List Literal) (n : ℕ) → ArePlaces a b cs → ds ≡ cs ++ of_kind k lits ∷ [] → n ≡ length cs
     → a' ≡ a ++ clause_place k n → b' ≡ b ++ parity_place k n → ArePlaces a' b' ds
@@ -50,6 +52,9 @@ places_pushed a b a' b' cs ds k lits n p more at e f =
           ∙ sym (ap (places_from parity_in 0) more ∙ places_from-push parity_in 0 cs (of_kind k lits)
           ∙ ap (λ m. places_from parity_in 0 cs ++ places_from parity_in m (of_kind k lits ∷ [])) same ∙ ap (λ xs. places_from parity_in 0 cs ++ xs) (one_parity k lits n));
     }
+
+pub no_places : (a b : List ℕ) (cs : List Constraint) → a ≡ [] → b ≡ [] → cs ≡ [] → ArePlaces a b cs
+no_places a b cs e f g = record { of_clauses = e ∙ sym (ap (places_from clause_in 0) g); of_parities = f ∙ sym (ap (places_from parity_in 0) g) }
 
 -- ---- how many there are, and what stands at each
 
@@ -98,10 +103,12 @@ some_there (x ∷ xs) (suc k) less none = some_there xs k (omega arith) none
 clause_lits : (c : Constraint) (xs : List (List Literal)) (k : ℕ) → clause_in c ≡ slice_get xs k → k < length xs → slice_get xs k ≡ Some (literals_of c)
 clause_lits (constraint.Clause lits) xs k e less = sym e
 clause_lits (constraint.Parity lits) xs k e less = absurd (some_there xs k less (sym e))
+clause_lits (constraint.Assume lits) xs k e less = absurd (some_there xs k less (sym e))
 
 parity_lits : (c : Constraint) (xs : List (List Literal)) (k : ℕ) → parity_in c ≡ slice_get xs k → k < length xs → slice_get xs k ≡ Some (literals_of c)
 parity_lits (constraint.Clause lits) xs k e less = absurd (some_there xs k less (sym e))
 parity_lits (constraint.Parity lits) xs k e less = sym e
+parity_lits (constraint.Assume lits) xs k e less = absurd (some_there xs k less (sym e))
 
 -- the constraint at the place of the k-th clause has its literals
 pub record HasLiteralsAt (cs : List Constraint) (place : ℕ) (lits : Option (List Literal)) : Type 0 where

@@ -13,6 +13,7 @@ use Rattle.cx_base.specs.declared.formula.Head.{Head}
 abbrev pub of_kind : Kind → List Literal → Constraint
 of_kind kind.Clause lits = constraint.Clause lits
 of_kind kind.Parity lits = constraint.Parity lits
+of_kind kind.Assume lits = constraint.Assume lits
 
 -- the constraint of a head: its literals are len of the list from start on
 abbrev pub stored : List Literal → Head → Constraint

@@ -2,9 +2,11 @@ pub mod Literals
 pub mod Codes
 pub mod Problem
 pub mod Parity
+pub mod Assumptions
 pub mod Borrowed
 pub mod Heads
 pub mod Places
+pub mod Assumed
 pub mod Items
 pub mod Drafts
 pub mod Numbers

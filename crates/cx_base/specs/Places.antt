@@ -20,7 +20,9 @@ pub record ArePlaces (clauses parities : List ℕ) (constraints : List Constrain
 abbrev pub clause_place : Kind → ℕ → List ℕ
 clause_place kind.Clause n = n ∷ []
 clause_place kind.Parity n = []
+clause_place kind.Assume n = []
 
 abbrev pub parity_place : Kind → ℕ → List ℕ
 parity_place kind.Clause n = []
 parity_place kind.Parity n = n ∷ []
+parity_place kind.Assume n = []

@@ -4,7 +4,7 @@ use Rattle.std.specs.List.{list_any, list_all, filter_map, count_by, AllByRecurs
 use Rattle.cx_base.specs.Literals.{Literal, literal_true}
 use Rattle.cx_base.specs.declared.literal.TheConstants.{MAX_VARIABLE}
 use Rattle.cx_base.specs.declared.constraint.Constraint.{Constraint}
-use Rattle.cx_base.specs.declared.constraint.Constraint.TheVariants.{Clause, Parity}
+use Rattle.cx_base.specs.declared.constraint.Constraint.TheVariants.{Clause, Parity, Assume}
 
 -- a number of variables, and constraints in order
 pub record Problem : Type 0 where
@@ -15,6 +15,7 @@ pub record Problem : Type 0 where
 abbrev pub literals_of : Constraint → List Literal
 literals_of (Clause lits) = lits
 literals_of (Parity lits) = lits
+literals_of (Assume lits) = lits
 
 -- each literal's variable is from 1 up to the number n
 abbrev pub AreWithin : ℕ → List Literal → Type 0
@@ -36,9 +37,14 @@ clause_met values lits = list_any (literal_true values) lits
 abbrev pub parity_met : List Bool → List Literal → Bool
 parity_met values lits = count_by (literal_true values) lits % 2 == 1
 
+-- an assumption constraint is met where all its literals are true
+abbrev pub assumption_met : List Bool → List Literal → Bool
+assumption_met values lits = list_all (literal_true values) lits
+
 abbrev pub constraint_met : List Bool → Constraint → Bool
 constraint_met values (Clause lits) = clause_met values lits
 constraint_met values (Parity lits) = parity_met values lits
+constraint_met values (Assume lits) = assumption_met values lits
 
 -- a value for each variable, and each constraint is met
 pub record Meets (formula : Problem) (values : List Bool) : Type 0 where
@@ -58,10 +64,12 @@ Unmet formula = (values : List Bool) → ¬ Meets formula values
 abbrev pub clause_in : Constraint → Option (List Literal)
 clause_in (Clause lits) = Some lits
 clause_in (Parity lits) = None
+clause_in (Assume lits) = None
 
 abbrev pub parity_in : Constraint → Option (List Literal)
 parity_in (Clause lits) = None
 parity_in (Parity lits) = Some lits
+parity_in (Assume lits) = None
 
 -- the formula's clauses in order, and its parities in order
 unfoldable pub clauses_of : List Constraint → List (List Literal)

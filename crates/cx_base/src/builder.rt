@@ -6,6 +6,7 @@ ghost use Rattle.cx_base.specs.Heads.{of_kind};
 ghost use Rattle.cx_base.specs.declared.literal.TheConstants.{MAX_VARIABLE};
 ghost use Rattle.cx_base.specs.declared.constraint.Constraint.TheVariants as constraint;
 
+use crate::assumed::Assumed;
 use crate::formula::{Formula, Head, Kind};
 use crate::literal::Lit;
 use crate::places::Places;
@@ -20,6 +21,7 @@ pub struct FormulaBuilder {
     lits: Vec<Lit>,
     heads: Vec<Head>,
     places: Places,
+    assumed: Assumed,
 }
 
 impl Model for FormulaBuilder {
@@ -30,11 +32,13 @@ impl Model for FormulaBuilder {
 
     ghost use Rattle.cx_base.specs.Heads.{stored, IsDraft};
     ghost use Rattle.cx_base.specs.Places.{ArePlaces};
+    ghost use Rattle.cx_base.specs.Assumed.{AreAssumed};
 
     ghost view = { λ b. record { constraints = map (stored b.lits.items) b.heads.items; unfinished = drop b.closed b.lits.items } };
 
     ghost invariant = { λ b. IsDraft b.greatest b.closed b.lits.items b.heads.items
-        × ArePlaces b.places.clauses.items b.places.parities.items (map (stored b.lits.items) b.heads.items) };
+        × ArePlaces b.places.clauses.items b.places.parities.items (map (stored b.lits.items) b.heads.items)
+        × AreAssumed b.assumed.marks.items (map (stored b.lits.items) b.heads.items) };
 }
 
 impl FormulaBuilder {
@@ -48,6 +52,7 @@ impl FormulaBuilder {
             lits: Vec::new(alloc),
             heads: Vec::new(alloc),
             places: Places::new(alloc),
+            assumed: Assumed::new(alloc),
         }
     }
 
@@ -69,8 +74,11 @@ impl FormulaBuilder {
     {
         let place = self.heads.len();
         self.heads.reserve(1)?;
+        self.assumed.reserve(kind, self.greatest)?;
         self.places.push(kind, place)?;
         let len = self.lits.len() - self.closed;
+        self.assumed
+            .mark(kind, self.greatest, &self.lits[self.closed..]);
         self.heads.push_reserved(Head {
             kind,
             start: self.closed,
@@ -96,6 +104,14 @@ impl FormulaBuilder {
         self.end(Kind::Parity)
     }
 
+    /// Makes the open literals an assumption constraint. Without memory nothing changes.
+    pub fn end_assume(&mut self) -> Result<(), AllocError>
+        ensures ok { OnOk result (self.new ≡ record { constraints = self.old.constraints ++ constraint.Assume self.old.unfinished ∷ []; unfinished = [] }) }
+        ensures err { OnErr result (self.new ≡ self.old) }
+    {
+        self.end(Kind::Assume)
+    }
+
     /// The formula of the constraints. Its number of variables is the greatest of `at_least` and the variables written.
     pub fn finish(self, at_least: u32) -> Formula
         requires bound { at_least ≤ MAX_VARIABLE }
@@ -107,6 +123,7 @@ impl FormulaBuilder {
             lits: self.lits,
             heads: self.heads,
             places: self.places,
+            assumed: self.assumed,
         }
     }
 }

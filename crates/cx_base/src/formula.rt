@@ -1,21 +1,26 @@
-//! Formulas of clauses and parities.
-ghost use Rattle.std.specs.Prelude.{◌≡◌, ◌<◌, ◌≤◌, ◌-◌, ◌^◌, length, IsTrue, ◌↔◌, slice_get};
+//! Formulas of clauses, parities and assumptions.
+ghost use Rattle.std.specs.Prelude.{◌≡◌, ◌<◌, ◌≤◌, ◌-◌, ◌^◌, length, IsTrue, ◌↔◌, slice_get, is_some, IfSome};
 ghost use Rattle.cx_base.specs.Problem.{Problem, Meets, first_unmet, AreWithin, IsWithinVariables, literals_of, clauses_of, parities_of};
+ghost use Rattle.cx_base.specs.Assumptions.{assumes, is_ending, clashes, IsClash};
 ghost use Rattle.cx_base.specs.Borrowed.{constraint_of, constraint_at};
 ghost use Rattle.cx_base.specs.Items.{items_left};
+ghost use Rattle.cx_base.specs.Literals.{negate};
+ghost use Rattle.cx_base.specs.Integers.{literal, literals};
 
+use crate::assumed::Assumed;
 use crate::constraint::ConstraintRef;
 use crate::items::Items;
-use crate::literal::Lit;
+use crate::literal::{Lit, MAX_VARIABLE, Var};
 use crate::places::Places;
 use std::marker::Model;
 use std::mem::size_of_val;
 
-/// Whether a constraint is a clause or a parity.
+/// Whether a constraint is a clause, a parity or an assumption constraint.
 #[derive(Clone, Copy, Drop)]
 pub(crate) enum Kind {
     Clause,
     Parity,
+    Assume,
 }
 
 /// A constraint's kind, and where its literals stand among the formula's.
@@ -35,6 +40,7 @@ pub struct Formula {
     pub(crate) lits: Vec<Lit>,
     pub(crate) heads: Vec<Head>,
     pub(crate) places: Places,
+    pub(crate) assumed: Assumed,
 }
 
 impl Model for Formula {
@@ -45,11 +51,13 @@ impl Model for Formula {
 
     ghost use Rattle.cx_base.specs.Heads.{stored, AreInside};
     ghost use Rattle.cx_base.specs.Places.{ArePlaces};
+    ghost use Rattle.cx_base.specs.Assumed.{AreAssumed};
 
     ghost view = { λ f. record { variables = f.vars; constraints = map (stored f.lits.items) f.heads.items } };
 
     ghost invariant = { λ f. IsWithinVariables f.vars (map (stored f.lits.items) f.heads.items) × AreInside f.lits.items f.heads.items
-        × ArePlaces f.places.clauses.items f.places.parities.items (map (stored f.lits.items) f.heads.items) };
+        × ArePlaces f.places.clauses.items f.places.parities.items (map (stored f.lits.items) f.heads.items)
+        × AreAssumed f.assumed.marks.items (map (stored f.lits.items) f.heads.items) };
 }
 
 impl Formula {
@@ -104,6 +112,7 @@ impl Formula {
         match head.kind {
             Kind::Clause => ConstraintRef::Clause(lits),
             Kind::Parity => ConstraintRef::Parity(lits),
+            Kind::Assume => ConstraintRef::Assume(lits),
         }
     }
 
@@ -115,6 +124,7 @@ impl Formula {
         match self.stored(place) {
             ConstraintRef::Clause(lits) => lits,
             ConstraintRef::Parity(lits) => lits,
+            ConstraintRef::Assume(lits) => lits,
         }
     }
 
@@ -152,6 +162,57 @@ impl Formula {
     {
         let place = self.places.parities[number - 1];
         self.lits_at(place)
+    }
+
+    /// Whether an assumption constraint has the literal: one access of memory.
+    pub fn assumes(&self, lit: Lit) -> bool
+        ensures { result ≡ assumes self.now.constraints lit }
+    {
+        self.assumed.has(lit)
+    }
+
+    /// Whether the negation of each of the literals is assumed, as it is where there are none.
+    pub fn is_ending(&self, lits: &[Lit]) -> bool
+        ensures { result ≡ is_ending self.now.constraints lits.now }
+    {
+        for lit in lits {
+            if !self.assumes(lit.negate()) {
+                return false;
+            }
+        }
+        true
+    }
+
+    /// Whether the negation of the literal of this integer is assumed. Where it is no literal of a variable, it is not.
+    fn is_negated(&self, integer: i64) -> bool
+        ensures { result ≡ assumes self.now.constraints (negate (literal integer)) }
+    {
+        let _vars = self.vars();
+        let size = integer.unsigned_abs();
+        if size == 0 || size > u64::from(MAX_VARIABLE) {
+            return false;
+        }
+        self.assumes(Lit::new(Var::new(size as u32), integer > 0))
+    }
+
+    /// The same of the literals of integers, of whatever magnitude.
+    pub fn is_ending_integers(&self, integers: &[i64]) -> bool
+        ensures { result ≡ is_ending self.now.constraints (literals integers.now) }
+    {
+        for integer in integers {
+            if !self.is_negated(*integer) {
+                return false;
+            }
+        }
+        true
+    }
+
+    /// The least variable that is assumed with both signs, if there is one.
+    pub fn clash(&self) -> Option<Var>
+        ensures some { is_some result ≡ clashes self.now.constraints }
+        ensures least { IfSome result (IsClash self.now.constraints) }
+    {
+        self.assumed.first_both()
     }
 
     /// The least number, from 1, of a constraint that the values do not meet.

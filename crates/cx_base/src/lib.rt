@@ -1,6 +1,7 @@
-//! Variables, literals, small lists, and formulas of clauses and parities with their meaning.
+//! Variables, literals, small lists, and formulas of clauses, parities and assumptions with their meaning.
 #![tactic(auto)]
 
+mod assumed;
 mod builder;
 mod constraint;
 mod formula;

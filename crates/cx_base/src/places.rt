@@ -34,6 +34,7 @@ impl Places {
         match kind {
             Kind::Clause => self.clauses.push(place)?,
             Kind::Parity => self.parities.push(place)?,
+            Kind::Assume => {}
         }
         Ok(())
     }

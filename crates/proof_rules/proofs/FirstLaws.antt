@@ -82,9 +82,11 @@ unfolding clauses_of
 few_clauses [] = omega arith
 few_clauses (constraint.Clause lits ∷ cs) = omega (arith, few_clauses cs)
 few_clauses (constraint.Parity lits ∷ cs) = omega (arith, few_clauses cs)
+few_clauses (constraint.Assume lits ∷ cs) = omega (arith, few_clauses cs)
 
 pub few_parities : (cs : List Constraint) → length (parities_of cs) ≤ length cs
 unfolding parities_of
 few_parities [] = omega arith
 few_parities (constraint.Clause lits ∷ cs) = omega (arith, few_parities cs)
 few_parities (constraint.Parity lits ∷ cs) = omega (arith, few_parities cs)
+few_parities (constraint.Assume lits ∷ cs) = omega (arith, few_parities cs)

@@ -17,7 +17,7 @@ fn show_lits(out: &mut String, lits: &[Lit]) -> Result<(), Fail> {
     Ok(())
 }
 
-/// Writes a constraint behind a colon; a parity has an `x` in front.
+/// Writes a constraint behind a colon; a parity has an `x` in front, and an assumption constraint an `a`.
 fn show_item(out: &mut String, item: ConstraintRef) -> Result<(), Fail> {
     match item {
         ConstraintRef::Clause(lits) => {
@@ -26,6 +26,10 @@ fn show_item(out: &mut String, item: ConstraintRef) -> Result<(), Fail> {
         }
         ConstraintRef::Parity(lits) => {
             out.push_str(": x")?;
+            show_lits(out, lits)
+        }
+        ConstraintRef::Assume(lits) => {
+            out.push_str(": a")?;
             show_lits(out, lits)
         }
     }
@@ -65,16 +69,17 @@ fn all_shown(alloc: Global, texts: &[&[u8]]) -> Result<String, Fail> {
 
 #[test]
 fn formulas(rt: HostRuntime) -> Result<(), Fail> {
-    let texts: [&[u8]; 7] = [
+    let texts: [&[u8]; 8] = [
         b"p cnf 0 0",
         b"c hi\r\np cnf 1 1\r\n1 0\r\n%\r\n0\r\n",
         b"p cnf 1 2\nx1 1 2 0\n1 0\n",
         b"p cnf 2 1\nx0",
         b"p cnf 2 1\nx -1 2 0",
         b"p cnf 2 1\nx-1 2 0",
+        b"p cnf 2 4\nx1 2 0\na -1 3 0 a\n0\n1 0",
         b"p cnf\n0016777215 99999999999999999999\n00000000000000000001\n c 0\n-16777215 -00 0",
     ];
-    let wanted = "0\n1: 1\n2: x 1 1 2: 1\n2: x\n2: x -1 2\n2: x -1 2\n16777215: 1 -16777215:\n";
+    let wanted = "0\n1: 1\n2: x 1 1 2: 1\n2: x\n2: x -1 2\n2: x -1 2\n3: x 1 2: a -1 3: a: 1\n16777215: 1 -16777215:\n";
     assert_eq!(rt; all_shown(rt.alloc(), &texts)?.as_str(), wanted);
     Ok(())
 }

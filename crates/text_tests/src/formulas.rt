@@ -58,6 +58,7 @@ fn add_items(formula: &Formula, told: &mut String) -> Result<(), AllocError> {
         let (kind, len) = match item {
             ConstraintRef::Clause(lits) => ("clause", lits.len()),
             ConstraintRef::Parity(lits) => ("parity", lits.len()),
+            ConstraintRef::Assume(lits) => ("assumption", lits.len()),
         };
         writeln!(told, "{kind} {len}")?;
     }

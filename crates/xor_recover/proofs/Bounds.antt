@@ -6,7 +6,7 @@ use Rattle.std.proofs.lemmas.List.Elements.{Contains-append_cases}
 use Rattle.cx_base.specs.Literals.{Literal, positive_of}
 use Rattle.cx_base.specs.Problem.{Problem, clauses_of, AreWithin, IsWithinVariables, literals_of}
 use Rattle.cx_base.specs.declared.constraint.Constraint.{Constraint}
-use Rattle.cx_base.specs.declared.constraint.Constraint.TheVariants.{Clause, Parity}
+use Rattle.cx_base.specs.declared.constraint.Constraint.TheVariants.{Clause, Parity, Assume}
 use Rattle.cx_semantics.specs.Chain.{has_literal}
 use Rattle.cx_semantics.proofs.Members.{has_at_head, has_behind, has_split}
 use Rattle.parity_engine.specs.Written.{literals_with}
@@ -105,6 +105,7 @@ unfolding clauses_of
 clauses_within n [] h = tt
 clauses_within n (Clause lits ∷ cs) h = (h.0, clauses_within n cs h.1)
 clauses_within n (Parity lits ∷ cs) h = clauses_within n cs h.1
+clauses_within n (Assume lits ∷ cs) h = clauses_within n cs h.1
 
 pub all_within : (formula : Problem) (finds : List Found) → IsWithinVariables formula.variables formula.constraints → FoundAll formula finds → All (λ (f : Found). AreWithin formula.variables f.parity) finds
 all_within formula finds within h = each_find h.kept (λ (f : Found). AreWithin formula.variables f.parity) (groups_of h.kept) finds (λ g f s.

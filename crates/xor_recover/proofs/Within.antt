@@ -5,7 +5,7 @@ use Rattle.cx_base.specs.Literals.{Literal}
 use Rattle.cx_base.specs.Problem.{AreWithin, IsWithinVariables, literals_of, clauses_of}
 use Rattle.cx_base.specs.declared.literal.TheConstants.{MAX_VARIABLE}
 use Rattle.cx_base.specs.declared.constraint.Constraint.{Constraint}
-use Rattle.cx_base.specs.declared.constraint.Constraint.TheVariants.{Clause, Parity}
+use Rattle.cx_base.specs.declared.constraint.Constraint.TheVariants.{Clause, Parity, Assume}
 use Rattle.cx_base.proofs.Elements.{in_head, in_tail}
 use Rattle.xor_recover.specs.Rows.{Row, rows_of, IsProper}
 use Rattle.std.proofs.Math.Seq.{drop-cons}
@@ -27,6 +27,7 @@ unfolding clauses_of
 clauses_within n [] few h = tt
 clauses_within n (Clause lits ∷ cs) few h = (widened n lits few h.0, clauses_within n cs few h.1)
 clauses_within n (Parity lits ∷ cs) few h = clauses_within n cs few h.1
+clauses_within n (Assume lits ∷ cs) few h = clauses_within n cs few h.1
 
 pub formula_within : (n : ℕ) (cs : List Constraint) → IsWithinVariables n cs → AllWithin (clauses_of cs)
 formula_within n cs h = clauses_within n cs h.0 h.1

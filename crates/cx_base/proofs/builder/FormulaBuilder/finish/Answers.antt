@@ -8,7 +8,7 @@ use Rattle.cx_base.proofs.builder.FormulaBuilder.finish.Goals as goal
 pub invariant_of-result : goal.invariant_of-result
 invariant_of-result c =
     let done = finished _ _ _ _ _ c.self.invariant.0 (ap (λ (d : Draft). d.unfinished) c.self.view_is ∙ c.requires.ended) c.requires.bound in
-    rw c.max.ensures (done.0, done.1, c.self.invariant.1)
+    rw c.max.ensures (done.0, done.1, c.self.invariant.1, c.self.invariant.2)
 
 pub returns : goal.returns
 returns c =

@@ -1,6 +1,7 @@
 use Rattle.std.proofs.Common.{◌≡◌, ap, ◌∙◌, subst, ℕ, ◌≤◌, ◌++◌, ◌∷◌, [], max, sym}
 use Rattle.cx_base.specs.Drafts.{Draft}
 use Rattle.cx_base.specs.Places.{ArePlaces}
+use Rattle.cx_base.specs.Assumed.{AreAssumed}
 use Rattle.cx_base.specs.declared.literal.TheConstants.{MAX_VARIABLE}
 use Rattle.cx_base.proofs.Drafting.{pushed, pushed_view}
 use Rattle.cx_base.proofs.builder.FormulaBuilder.push.Goals as goal
@@ -15,6 +16,8 @@ invariant_of-self-2 c =
           (c.max-self-inside.ensures ∙ ap (max c.self.inside.greatest) number),
       subst (ArePlaces c.self.inside.places.clauses.items c.self.inside.places.parities.items)
           (ap (λ (d : Draft). d.constraints) (sym (pushed_view _ _ _ _ _ c.args.lit c.self.invariant.0 c.in_ok-push.ensures.items))) c.self.invariant.1,
+      subst (AreAssumed c.self.inside.assumed.marks.items)
+          (ap (λ (d : Draft). d.constraints) (sym (pushed_view _ _ _ _ _ c.args.lit c.self.invariant.0 c.in_ok-push.ensures.items))) c.self.invariant.2,
     )
 
 pub returns-clause-ok : goal.returns-clause-ok
