@@ -10,15 +10,15 @@ use Rattle.cx_base.specs.declared.constraint.Constraint.{Constraint}
 use Rattle.cx_base.specs.declared.constraint.Constraint.TheVariants as constraint
 use Rattle.cx_base.specs.Integers.{integer_of, integers_of, literal}
 use Rattle.cx_texts.specs.Words.{Word, number, letter, conflict, other, Placed, words, IsWithin}
-use Rattle.cx_texts.specs.Grammar.{Field, IsProper, spelled, IsStep, Begins, IsUnfinished, Stops, AreInLimit, Spells, FirstBad, FirstBig, Reading}
+use Rattle.cx_texts.specs.Grammar.{Field, mark, IsStep, Begins, IsUnfinished, Stops, AreInLimit, Reading}
 use Rattle.cx_base.specs.Endings.{bad_token, too_big, unterminated}
 use Rattle.cx_texts.specs.FormulaText.{constraints}
-use Rattle.cx_texts.proofs.Shapes.{Kind, kind, a_mark, some_integers, Parsed, whole, partial, bad, parse, push}
+use Rattle.cx_texts.proofs.Shapes.{Kind, a_mark, some_integers, closes, refuses, whole, partial, bad, parse, push, with_field}
 use Rattle.cx_texts.proofs.Forms.{step_parses}
-use Rattle.cx_texts.proofs.Remaining.{remaining, remaining-push, after_word, rows_of, begins_where, begins_nowhere}
+use Rattle.cx_texts.proofs.Remaining.{behind, remaining, remaining-push, after_word, rows_of, begins_where, begins_nowhere}
 use Rattle.cx_texts.proofs.Grammars.{constraint_forms}
 use Rattle.cnfx_reader.specs.declared.pending.Pending.{Pending}
-use Rattle.cnfx_reader.specs.declared.pending.Pending.TheVariants.{Nothing, Clause, Parity}
+use Rattle.cnfx_reader.specs.declared.pending.Pending.TheVariants.{Nothing, Clause, Parity, Assume}
 use Rattle.cnfx_reader.specs.Body.{Outcome, goes_on, stops, closed_as, closed, with_literal, opened, outcome}
 
 -- ---- what a pending constraint has said so far
@@ -27,6 +27,7 @@ abbrev opening : Pending → List Word
 opening Nothing = []
 opening Clause = []
 opening Parity = letter 120 ∷ []
+opening Assume = letter 97 ∷ []
 
 abbrev said : Pending → List ℤ → List Word
 said state zs = opening state ++ map number zs
@@ -36,6 +37,7 @@ abbrev HasShape : Pending → List ℤ → Type 0
 HasShape Nothing zs = zs ≡ []
 HasShape Clause zs = zs ≢ []
 HasShape Parity zs = ⊤
+HasShape Assume zs = ⊤
 
 abbrev AreNonzero : List ℤ → Type 0
 AreNonzero zs = AllByRecursion (λ z. z ≢ pos 0) zs
@@ -49,9 +51,10 @@ abbrev in_literals : List (List Kind)
 in_literals = (some_integers ∷ []) ∷ []
 
 abbrev rest_rows : Pending → List (List Kind)
-rest_rows Nothing = (some_integers ∷ []) ∷ (a_mark 120 ∷ some_integers ∷ []) ∷ []
+rest_rows Nothing = (some_integers ∷ []) ∷ (a_mark 120 ∷ some_integers ∷ []) ∷ (a_mark 97 ∷ some_integers ∷ []) ∷ []
 rest_rows Clause = in_literals
 rest_rows Parity = in_literals
+rest_rows Assume = in_literals
 
 literals_stay : (zs : List ℤ) → AreNonzero zs → remaining in_literals (map number zs) ≡ in_literals
 literals_stay [] h = refl
@@ -67,6 +70,7 @@ rows_left Clause (pos zero ∷ zs) h s = absurd (h.0 refl)
 rows_left Clause (pos (suc n) ∷ zs) h s = literals_stay zs h.1
 rows_left Clause (negsuc n ∷ zs) h s = literals_stay zs h.1
 rows_left Parity zs h s = literals_stay zs h
+rows_left Assume zs h s = literals_stay zs h
 
 then_left : (state : Pending) (zs : List ℤ) (w : Word) → AreNonzero zs → HasShape state zs → remaining rows (said state zs ++ w ∷ []) ≡ flat_map (after_word w) (rest_rows state)
 then_left state zs w h s = remaining-push rows (said state zs) w ∙ ap (flat_map (after_word w)) (rows_left state zs h s)
@@ -83,6 +87,7 @@ begun : (state : Pending) (zs : List ℤ) → AreNonzero zs → HasShape state z
 begun Nothing zs h s = begins (said Nothing zs) _ _ (rows_left Nothing zs h s)
 begun Clause zs h s = begins (said Clause zs) _ _ (rows_left Clause zs h s)
 begun Parity zs h s = begins (said Parity zs) _ _ (rows_left Parity zs h s)
+begun Assume zs h s = begins (said Assume zs) _ _ (rows_left Assume zs h s)
 
 -- ---- no step yet
 
@@ -101,13 +106,18 @@ not_bad fs e = cc
 no_step : (state : Pending) (zs : List ℤ) → AreNonzero zs → HasShape state zs → (s : Constraint) → ¬ IsStep constraints (said state zs) s
 no_step Nothing [] h k (constraint.Clause lits) p = not_partial _ (step_parses constraints [] (constraint.Clause lits) p)
 no_step Nothing [] h k (constraint.Parity lits) p = not_partial _ (step_parses constraints [] (constraint.Parity lits) p)
+no_step Nothing [] h k (constraint.Assume lits) p = not_partial _ (step_parses constraints [] (constraint.Assume lits) p)
 no_step Nothing (z ∷ zs) h k s p = let e : ◌≡◌ {A = List ℤ} (z ∷ zs) [] = k in cc
 no_step Clause [] h k s p = k refl
 no_step Clause (z ∷ zs) h k (constraint.Clause lits) p = not_partial _ (sym (partial_stays (z ∷ zs) h) ∙ step_parses constraints (said Clause (z ∷ zs)) (constraint.Clause lits) p)
 no_step Clause (z ∷ zs) h k (constraint.Parity lits) p = not_bad _ (step_parses constraints (said Clause (z ∷ zs)) (constraint.Parity lits) p)
+no_step Clause (z ∷ zs) h k (constraint.Assume lits) p = not_bad _ (step_parses constraints (said Clause (z ∷ zs)) (constraint.Assume lits) p)
 no_step Parity zs h k (constraint.Clause lits) p = not_bad _ (step_parses constraints (said Parity zs) (constraint.Clause lits) p)
-no_step Parity zs h k (constraint.Parity lits) p =
-    not_partial _ (sym (ap (Rattle.cx_texts.proofs.Shapes.with_field (Rattle.cx_texts.specs.Grammar.mark 120)) (partial_stays zs h)) ∙ step_parses constraints (said Parity zs) (constraint.Parity lits) p)
+no_step Parity zs h k (constraint.Parity lits) p = not_partial _ (sym (ap (with_field (mark 120)) (partial_stays zs h)) ∙ step_parses constraints (said Parity zs) (constraint.Parity lits) p)
+no_step Parity zs h k (constraint.Assume lits) p = not_bad _ (step_parses constraints (said Parity zs) (constraint.Assume lits) p)
+no_step Assume zs h k (constraint.Clause lits) p = not_bad _ (step_parses constraints (said Assume zs) (constraint.Clause lits) p)
+no_step Assume zs h k (constraint.Parity lits) p = not_bad _ (step_parses constraints (said Assume zs) (constraint.Parity lits) p)
+no_step Assume zs h k (constraint.Assume lits) p = not_partial _ (sym (ap (with_field (mark 97)) (partial_stays zs h)) ∙ step_parses constraints (said Assume zs) (constraint.Assume lits) p)
 
 unfinished_so_far : (state : Pending) (zs : List ℤ) → AreNonzero zs → HasShape state zs → IsUnfinished constraints (said state zs)
 unfinished_so_far state zs h s = (begun state zs h s, no_step state zs h s)
@@ -118,11 +128,13 @@ whole_step : (state : Pending) (lits : List Literal) → AreNonzero (integers_of
 whole_step Nothing lits h = ((h, tt), append-nil _)
 whole_step Clause lits h = ((h, tt), append-nil _)
 whole_step Parity lits h = ((tt, (h, tt)), ap (λ ws. letter 120 ∷ ws) (append-nil _))
+whole_step Assume lits h = ((tt, (h, tt)), ap (λ ws. letter 97 ∷ ws) (append-nil _))
 
 closes_rows : (state : Pending) (w : Word) → flat_map (after_word w) (flat_map (after_word (number (pos 0))) (rest_rows state)) ≡ []
 closes_rows Nothing w = refl
 closes_rows Clause w = refl
 closes_rows Parity w = refl
+closes_rows Assume w = refl
 
 zero_stops : (state : Pending) (zs : List ℤ) (ps : List Placed) → AreNonzero zs → HasShape state zs → Stops constraints (said state zs ++ number (pos 0) ∷ []) ps
 zero_stops state zs [] h s = tt
@@ -215,6 +227,7 @@ module _ (len : ℕ) where
   said_more Nothing zs z = sym (map-append number zs (z ∷ []))
   said_more Clause zs z = sym (map-append number zs (z ∷ []))
   said_more Parity zs z = ap (λ ws. letter 120 ∷ ws) (sym (map-append number zs (z ∷ [])))
+  said_more Assume zs z = ap (λ ws. letter 97 ∷ ws) (sym (map-append number zs (z ∷ [])))
 
   some_more : (zs : List ℤ) (z : ℤ) → zs ++ z ∷ [] ≢ []
   some_more [] z e = cc
@@ -224,6 +237,7 @@ module _ (len : ℕ) where
   shape_more Nothing zs z = some_more zs z
   shape_more Clause zs z = some_more zs z
   shape_more Parity zs z = tt
+  shape_more Assume zs z = tt
 
   nonzero_more : (zs : List ℤ) (z : ℤ) → AreNonzero zs → z ≢ pos 0 → AreNonzero (zs ++ z ∷ [])
   nonzero_more [] z h k = (k, tt)
@@ -248,9 +262,11 @@ module _ (len : ℕ) where
   fits_literal Nothing (pos (suc n)) h = refl
   fits_literal Clause (pos (suc n)) h = refl
   fits_literal Parity (pos (suc n)) h = refl
+  fits_literal Assume (pos (suc n)) h = refl
   fits_literal Nothing (negsuc n) h = refl
   fits_literal Clause (negsuc n) h = refl
   fits_literal Parity (negsuc n) h = refl
+  fits_literal Assume (negsuc n) h = refl
 
   by_size : (state : Pending) (d : Draft) (front : List Placed) (place : ℕ) (z : ℤ) (ps : List Placed) → Goes ps → At state d.unfinished front → integer_of (literal z) ≡ z → z ≢ pos 0 → (b : Bool) → nat_lt MAX_VARIABLE (nat_abs z) ≡ b
       → Found state d front (placed place (number z) ∷ ps)
@@ -258,44 +274,53 @@ module _ (len : ℕ) where
   by_size state d front place z ps go a same some true e = big_number state d front place z ps a (fits_literal state z some) (ltb-true MAX_VARIABLE (nat_abs z) e)
   by_size state d front place z ps go a same some false e = literal_word state d front place z ps go a same some (ltb-false MAX_VARIABLE (nat_abs z) e)
 
-  mark_word : (d : Draft) (front : List Placed) (place c : ℕ) (ps : List Placed) → Goes ps → At Nothing d.unfinished front → (b : Bool) → (c == 120) ≡ b
-      → Found Nothing d front (placed place (letter c) ∷ ps)
-      (elim (cond b (goes_on Parity d) (stops (bad_token place))) [ goes_on o e ↦ outcome len o e ps | stops ending ↦ record { constraints = d.constraints; ending = ending } ])
-  mark_word d front place c ps go a true e =
+  -- a letter that opens a constraint
+  opening_word : (next : Pending) (d : Draft) (front : List Placed) (place c : ℕ) (ps : List Placed) → Goes ps → At Nothing d.unfinished front → opening next ≡ letter c ∷ [] → HasShape next (integers_of d.unfinished)
+      → Found Nothing d front (placed place (letter c) ∷ ps) (outcome len next d ps)
+  opening_word next d front place c ps go a opens shape =
       let p = placed place (letter c) in
-      let r = go Parity d (front ++ p ∷ [])
+      let r = go next d (front ++ p ∷ [])
       (record {
-        spoken = pushed front p ∙ ap (λ x. x ++ letter c ∷ []) (a.spoken ∙ ap (map number) a.shape) ∙ ap (λ n. letter n ∷ []) (eqb-true c 120 e) ∙ ap (λ zs. letter 120 ∷ map number zs) (sym a.shape);
+        spoken = pushed front p ∙ ap (λ x. x ++ letter c ∷ []) (a.spoken ∙ ap (map number) a.shape)
+            ∙ sym (ap (λ os. os ++ map number (integers_of d.unfinished)) opens ∙ ap (λ zs. letter c ∷ map number zs) a.shape);
         nonzero = a.nonzero;
-        shape = tt;
+        shape = shape;
         within = within_push front p a.within tt;
       }) in
-      (r.0, r.1, subst (λ x. Reading constraints len x r.0 (outcome len Parity d ps).ending) (append_assoc front (p ∷ []) ps) r.2)
-  mark_word d front place c ps go a false e =
-      bad_word Nothing d front (placed place (letter c)) ps a
-      (ap (λ b. flat_map (λ ks. ks) ([] ∷ elim (cond b (Rattle.cx_texts.proofs.Shapes.closes (Rattle.cx_texts.specs.Grammar.mark 120)) Rattle.cx_texts.proofs.Shapes.refuses) as (λ x. List (List Kind)) [
-        | Rattle.cx_texts.proofs.Shapes.closes f ↦ (some_integers ∷ []) ∷ []
-        | Rattle.cx_texts.proofs.Shapes.stays z ↦ (a_mark 120 ∷ some_integers ∷ []) ∷ []
-        | Rattle.cx_texts.proofs.Shapes.refuses ↦ []
-      ] ∷ [])) (other_letter c e))
-    where
-      other_letter : (c : ℕ) → (c == 120) ≡ false → eqb 120 c ≡ false
-      other_letter c e = ne_eqb 120 c (λ k. true≢false (sym (Rattle.std.proofs.Common.eq-eqb c 120 (sym k)) ∙ e))
+      (r.0, r.1, subst (λ x. Reading constraints len x r.0 (outcome len next d ps).ending) (append_assoc front (p ∷ []) ps) r.2)
+
+  abbrev behind_marks : Bool → Bool → List (List Kind)
+  behind_marks x y =
+      behind (a_mark 120) (some_integers ∷ []) (cond x (closes (mark 120)) refuses) ++ (behind (a_mark 97) (some_integers ∷ []) (cond y (closes (mark 97)) refuses) ++ [])
+
+  other_letter : (m c : ℕ) → (c == m) ≡ false → eqb m c ≡ false
+  other_letter m c e = ne_eqb m c (λ k. true≢false (sym (Rattle.std.proofs.Common.eq-eqb c m (sym k)) ∙ e))
+
+  mark_word : (d : Draft) (front : List Placed) (place c : ℕ) (ps : List Placed) → Goes ps → At Nothing d.unfinished front → (b : Bool) → (c == 120) ≡ b → (e : Bool) → (c == 97) ≡ e
+      → Found Nothing d front (placed place (letter c) ∷ ps)
+      (elim (cond b (goes_on Parity d) (cond e (goes_on Assume d) (stops (bad_token place)))) [ goes_on o f ↦ outcome len o f ps | stops ending ↦ record { constraints = d.constraints; ending = ending } ])
+  mark_word d front place c ps go a true is e not = opening_word Parity d front place c ps go a (ap (λ n. letter n ∷ []) (sym (eqb-true c 120 is))) tt
+  mark_word d front place c ps go a false not true is = opening_word Assume d front place c ps go a (ap (λ n. letter n ∷ []) (sym (eqb-true c 97 is))) tt
+  mark_word d front place c ps go a false no_x false no_a =
+      bad_word Nothing d front (placed place (letter c)) ps a (λ i. behind_marks (other_letter 120 c no_x i) (other_letter 97 c no_a i))
 
   by_letter : (state : Pending) (d : Draft) (front : List Placed) (place c : ℕ) (ps : List Placed) → Goes ps → At state d.unfinished front → Found state d front (placed place (letter c) ∷ ps) (outcome len state d (placed place (letter c) ∷ ps))
-  by_letter Nothing d front place c ps go a = mark_word d front place c ps go a (c == 120) refl
+  by_letter Nothing d front place c ps go a = mark_word d front place c ps go a (c == 120) refl (c == 97) refl
   by_letter Clause d front place c ps go a = bad_word Clause d front (placed place (letter c)) ps a refl
   by_letter Parity d front place c ps go a = bad_word Parity d front (placed place (letter c)) ps a refl
+  by_letter Assume d front place c ps go a = bad_word Assume d front (placed place (letter c)) ps a refl
 
   no_word : (state : Pending) → flat_map (after_word other) (rest_rows state) ≡ []
   no_word Nothing = refl
   no_word Clause = refl
   no_word Parity = refl
+  no_word Assume = refl
 
   no_line : (state : Pending) (k : ℕ) → flat_map (after_word (conflict k)) (rest_rows state) ≡ []
   no_line Nothing k = refl
   no_line Clause k = refl
   no_line Parity k = refl
+  no_line Assume k = refl
 
   by_word : (state : Pending) (d : Draft) (front : List Placed) (place : ℕ) (w : Word) (ps : List Placed) → Goes ps → At state d.unfinished front → Found state d front (placed place w ∷ ps) (outcome len state d (placed place w ∷ ps))
   by_word state d front place (number (pos zero)) ps go a = zero_word state d front place ps go a
@@ -325,6 +350,7 @@ module _ (len : ℕ) where
   no_more Nothing d front a = ([], sym (append-nil d.constraints), append-nil front ∙ no_words front (a.spoken ∙ ap (map number) a.shape))
   no_more Clause d front a = cut Clause d front a (some_said _ a.shape)
   no_more Parity d front a = cut Parity d front a (λ e. cc)
+  no_more Assume d front a = cut Assume d front a (λ e. cc)
 
   sound : (ps : List Placed) → Goes ps
   sound [] state d front a = no_more state d front a

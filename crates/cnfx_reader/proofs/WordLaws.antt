@@ -6,11 +6,11 @@ use Rattle.cx_texts.specs.Words.{Word, letter, other, number, number_or, integer
 use Rattle.cx_texts.proofs.DigitLaws.{not_equal}
 use Rattle.cnfx_reader.specs.Meanings.{IsStrange}
 
--- a token that is no integer and does not begin with `x`
-pub strange_token : (t : List ℕ) → 0 < length t → (get_or t 0 0 ≡ 120 → ⊥) → integer t ≡ None → (w : Word) × IsStrange w × (formula_words_of t ≡ w ∷ [])
-strange_token [] l n e = absurd (omega arith)
-strange_token (b ∷ []) l n e = (letter b, n, ap (λ i. number_or (letter b) i ∷ []) e)
-strange_token (b ∷ c ∷ bs) l n e =
+-- a token that is no integer, does not begin with `x` and is not `a`
+pub strange_token : (t : List ℕ) → 0 < length t → (get_or t 0 0 ≡ 120 → ⊥) → (length t ≡ 1 → get_or t 0 0 ≡ 97 → ⊥) → integer t ≡ None → (w : Word) × IsStrange w × (formula_words_of t ≡ w ∷ [])
+strange_token [] l n m e = absurd (omega arith)
+strange_token (b ∷ []) l n m e = (letter b, (n, m (omega arith)), ap (λ i. number_or (letter b) i ∷ []) e)
+strange_token (b ∷ c ∷ bs) l n m e =
     (other, tt, ap (λ x. cond x (joined_words (integer (c ∷ bs))) (word_of (b ∷ c ∷ bs) ∷ [])) (not_equal b 120 n) ∙ ap (λ i. number_or other i ∷ []) e)
 
 zero_not_mark : ◌≡◌ {A = ℕ} 0 120 → ⊥
@@ -33,6 +33,12 @@ pub lone_mark : (t : List ℕ) → get_or t 0 0 ≡ 120 → length t ≡ 1 → f
 lone_mark [] x l = absurd (zero_not_mark x)
 lone_mark (b ∷ []) x l = ap (λ y. formula_words_of (y ∷ [])) x
 lone_mark (b ∷ c ∷ bs) x l = absurd (omega arith)
+
+-- an `a` alone
+pub lone_assumption : (t : List ℕ) → get_or t 0 0 ≡ 97 → length t ≡ 1 → formula_words_of t ≡ letter 97 ∷ []
+lone_assumption [] x l = absurd (omega (arith, l))
+lone_assumption (b ∷ []) x l = ap (λ y. formula_words_of (y ∷ [])) x
+lone_assumption (b ∷ c ∷ bs) x l = absurd (omega arith)
 
 -- an `x` joined to the rest of its token
 pub joined_whole : (t : List ℕ) → get_or t 0 0 ≡ 120 → 1 < length t → formula_words_of t ≡ joined_words (integer (take (length t - 1) (drop 1 t)))

@@ -9,7 +9,7 @@ use Rattle.cx_base.specs.Integers.{literal}
 use Rattle.cx_texts.specs.Words.{Word, number, letter, conflict, other, Placed}
 use Rattle.cx_base.specs.Endings.{Ending, finished, bad_token, too_big, unterminated}
 use Rattle.cnfx_reader.specs.declared.pending.Pending.{Pending}
-use Rattle.cnfx_reader.specs.declared.pending.Pending.TheVariants.{Nothing, Clause, Parity}
+use Rattle.cnfx_reader.specs.declared.pending.Pending.TheVariants.{Nothing, Clause, Parity, Assume}
 use Rattle.cnfx_reader.specs.declared.refusal.ReadRefusal.{ReadRefusal}
 use Rattle.cnfx_reader.specs.declared.refusal.ReadRefusal.TheVariants.{NoHeader, BadHeader, BadToken, Unterminated, VarLimit, Memory}
 
@@ -27,6 +27,7 @@ abbrev pub closed_as : Pending → List Literal → Constraint
 closed_as Nothing lits = constraint.Clause lits
 closed_as Clause lits = constraint.Clause lits
 closed_as Parity lits = constraint.Parity lits
+closed_as Assume lits = constraint.Assume lits
 
 abbrev pub closed : Pending → Draft → Draft
 closed state d = record { constraints = d.constraints ++ closed_as state d.unfinished ∷ []; unfinished = [] }
@@ -39,6 +40,7 @@ abbrev pub opened : Pending → Pending
 opened Nothing = Clause
 opened Clause = Clause
 opened Parity = Parity
+opened Assume = Assume
 
 abbrev pub at_literal : ℕ → Pending → Draft → ℕ → ℤ → Step
 at_literal place state d n z = if nat_lt MAX_VARIABLE n then stops (too_big place) else goes_on (opened state) (with_literal d (literal z))
@@ -48,11 +50,12 @@ at_integer place state d (pos zero) = goes_on Nothing (closed state d)
 at_integer place state d (pos (suc n)) = at_literal place state d (suc n) (pos (suc n))
 at_integer place state d (negsuc n) = at_literal place state d (suc n) (negsuc n)
 
--- an `x` opens a parity where nothing is pending
+-- where nothing is pending an `x` opens a parity, and an `a` an assumption constraint
 abbrev pub at_letter : ℕ → Pending → Draft → ℕ → Step
-at_letter place Nothing d c = if c == 120 then goes_on Parity d else stops (bad_token place)
+at_letter place Nothing d c = if c == 120 then goes_on Parity d else (if c == 97 then goes_on Assume d else stops (bad_token place))
 at_letter place Clause d c = stops (bad_token place)
 at_letter place Parity d c = stops (bad_token place)
+at_letter place Assume d c = stops (bad_token place)
 
 abbrev pub at_word : ℕ → Pending → Draft → Word → Step
 at_word place state d (number z) = at_integer place state d z
@@ -65,6 +68,7 @@ abbrev pub at_end : ℕ → Pending → Ending
 at_end len Nothing = finished
 at_end len Clause = unterminated len
 at_end len Parity = unterminated len
+at_end len Assume = unterminated len
 
 -- the words that are left, read from here on
 abbrev pub outcome : ℕ → Pending → Draft → List Placed → Outcome
@@ -76,6 +80,7 @@ abbrev pub IsPendingIn : Pending → Draft → Type 0
 IsPendingIn Nothing d = d.unfinished ≡ []
 IsPendingIn Clause d = ⊤
 IsPendingIn Parity d = ⊤
+IsPendingIn Assume d = ⊤
 
 -- a refusal says the ending; want of memory says nothing of it
 abbrev pub IsEndedBy : ReadRefusal → Ending → Type 0

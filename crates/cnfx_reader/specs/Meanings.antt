@@ -5,10 +5,10 @@ use Rattle.cx_texts.specs.LiteralTokens.{IsInteger}
 use Rattle.cnfx_reader.specs.declared.body_token.BodyToken.{BodyToken}
 use Rattle.cnfx_reader.specs.declared.body_token.BodyToken.TheVariants as body
 
--- no integer, and no `x`
+-- no integer, no `x` and no `a`
 abbrev pub IsStrange : Word → Type 0
 IsStrange (number z) = ⊥
-IsStrange (letter c) = c ≢ 120
+IsStrange (letter c) = (c ≢ 120) × (c ≢ 97)
 IsStrange (conflict k) = ⊤
 IsStrange other = ⊤
 
@@ -17,6 +17,7 @@ abbrev pub Says : BodyToken → List Word → Type 0
 Says (body.Integer i) ws = (z : ℤ) × IsInteger i z × (ws ≡ number z ∷ [])
 Says body.Mark ws = ws ≡ letter 120 ∷ []
 Says (body.MarkedInteger i) ws = (z : ℤ) × IsInteger i z × (ws ≡ letter 120 ∷ number z ∷ [])
+Says body.Assume ws = ws ≡ letter 97 ∷ []
 Says body.Other ws = (w : Word) × IsStrange w × (ws ≡ w ∷ [])
 
 -- the words of a token's bytes

@@ -33,6 +33,7 @@ fn take_integer(
             match pending {
                 Pending::Nothing | Pending::Clause => builder.end_clause()?,
                 Pending::Parity => builder.end_parity()?,
+                Pending::Assume => builder.end_assume()?,
             }
             Ok(Pending::Nothing)
         }
@@ -41,6 +42,7 @@ fn take_integer(
             match pending {
                 Pending::Nothing | Pending::Clause => Ok(Pending::Clause),
                 Pending::Parity => Ok(Pending::Parity),
+                Pending::Assume => Ok(Pending::Assume),
             }
         }
         Integer::Above => Err(ReadRefusal::VarLimit(place)),
@@ -70,6 +72,10 @@ pub(crate) fn take_token(
         },
         BodyToken::MarkedInteger(integer) => match pending {
             Pending::Nothing => take_integer(builder, Pending::Parity, integer, place),
+            _ => Err(ReadRefusal::BadToken(place)),
+        },
+        BodyToken::Assume => match pending {
+            Pending::Nothing => Ok(Pending::Assume),
             _ => Err(ReadRefusal::BadToken(place)),
         },
         BodyToken::Other => Err(ReadRefusal::BadToken(place)),

@@ -17,6 +17,8 @@ pub(crate) enum BodyToken {
     Mark,
     /// An `x` joined to an integer.
     MarkedInteger(Integer),
+    /// An `a`, which begins an assumption constraint.
+    Assume,
     /// Any other token.
     Other,
 }
@@ -39,7 +41,12 @@ pub(crate) fn read_token(token: &[u8]) -> BodyToken
     } else {
         match read_integer(token) {
             Some(integer) => BodyToken::Integer(integer),
-            None => BodyToken::Other,
+            None => {
+                if token.len() == 1 && token[0] == b'a' {
+                    return BodyToken::Assume;
+                }
+                BodyToken::Other
+            }
         }
     }
 }

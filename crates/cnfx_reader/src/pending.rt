@@ -9,4 +9,6 @@ pub(crate) enum Pending {
     Clause,
     /// A parity, of which the `x` was read.
     Parity,
+    /// An assumption constraint, of which the `a` was read.
+    Assume,
 }

@@ -48,25 +48,29 @@ clause_form = record { kinds = some_integers ∷ []; make = λ v. constraint.Cla
 unfoldable parity_form : Form constraints
 parity_form = record { kinds = a_mark 120 ∷ some_integers ∷ []; make = λ v. constraint.Parity (literals v.1.0); is = λ v. ap (λ zs. mark 120 ∷ integers zs ∷ []) (integers_of-literals v.1.0) }
 
+unfoldable assumption_form : Form constraints
+assumption_form = record { kinds = a_mark 97 ∷ some_integers ∷ []; make = λ v. constraint.Assume (literals v.1.0); is = λ v. ap (λ zs. mark 97 ∷ integers zs ∷ []) (integers_of-literals v.1.0) }
+
 pub constraint_from : List Field → Constraint
 constraint_from (integers zs ∷ []) = constraint.Clause (literals zs)
-constraint_from (mark c ∷ integers zs ∷ []) = constraint.Parity (literals zs)
+constraint_from (mark c ∷ integers zs ∷ []) = cond (eqb c 120) (constraint.Parity (literals zs)) (constraint.Assume (literals zs))
 constraint_from _ = constraint.Clause []
 
 pub from_constraint : (s : Constraint) → AllByRecursion IsProper (constraint_fields s) → constraint_from (constraint_fields s) ≡ s
 unfolding constraint_from
 from_constraint (constraint.Clause lits) h = ap constraint.Clause (literals-integers_of lits h.0)
 from_constraint (constraint.Parity lits) h = ap constraint.Parity (literals-integers_of lits h.1.0)
+from_constraint (constraint.Assume lits) h = ap constraint.Assume (literals-integers_of lits h.1.0)
 
 unfoldable pub constraint_forms : Forms constraints
-unfolding clause_form parity_form
+unfolding clause_form parity_form assumption_form
 constraint_forms = record {
-  forms = clause_form ∷ parity_form ∷ [];
-  covers = elim [ constraint.Clause lits ↦ inl refl | constraint.Parity lits ↦ inr (inl refl) ];
+  forms = clause_form ∷ parity_form ∷ assumption_form ∷ [];
+  covers = elim [ constraint.Clause lits ↦ inl refl | constraint.Parity lits ↦ inr (inl refl) | constraint.Assume lits ↦ inr (inr (inl refl)) ];
   apart = refl;
   one_step = λ s t h k e. sym (from_constraint s h) ∙ ap constraint_from e ∙ from_constraint t k;
   begins = (constraint.Clause [], number (pos 0) ∷ [], ((tt, tt), refl));
-  some_field = elim [ constraint.Clause lits ↦ λ e. cc | constraint.Parity lits ↦ λ e. cc ];
+  some_field = elim [ constraint.Clause lits ↦ λ e. cc | constraint.Parity lits ↦ λ e. cc | constraint.Assume lits ↦ λ e. cc ];
 }
 
 -- ---- proofs

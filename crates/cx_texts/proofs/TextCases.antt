@@ -1,6 +1,6 @@
 -- Worked cases of texts: formulas that are read, and first offences with their places.
 use Rattle.std.proofs.Common.{◌≡◌, refl, ℕ, pos, negsuc, List, [], ◌∷◌, map, codes, inl, inr, drop}
-use Rattle.cx_base.specs.declared.constraint.Constraint.TheVariants.{Clause, Parity}
+use Rattle.cx_base.specs.declared.constraint.Constraint.TheVariants.{Clause, Parity, Assume}
 use Rattle.cx_texts.specs.declared.offence.Offence.TheVariants.{NoHeader, BadHeader, BadToken, Unterminated, VarLimit}
 use Rattle.cx_base.specs.declared.steps.ProofStep.TheVariants as proof
 use Rattle.cx_base.specs.Integers.{literals}
@@ -72,6 +72,46 @@ unfolding formula_tokens constraint_forms
 parity_in_clause =
     let placed : List Placed = placed_formula_words (drop 4 (formula_tokens (codes "p cnf 2 1\n1 x2 0"))) in
     inr (2, [], bad_token 12, record { body = drop 4 (formula_tokens (codes "p cnf 2 1\n1 x2 0")); behind = refl; reading = bad_here constraints constraint_forms 1 placed (record { place = 12; word = letter 120 }) (drop 2 placed) refl refl refl refl refl }, refl)
+
+-- an `a` alone begins an assumption constraint
+assumption_text : List ℕ
+assumption_text = codes "p cnf 2 2\nx1 2 0\na 1 2 0\n"
+
+assumption_reads : Reads assumption_text (record { variables = 2; constraints = Parity (literals (pos 1 ∷ pos 2 ∷ [])) ∷ Assume (literals (pos 1 ∷ pos 2 ∷ [])) ∷ [] })
+unfolding assumption_text formula_tokens constraint_forms
+assumption_reads = record {
+  v = 2;
+  items = record {
+    body = drop 4 (formula_tokens assumption_text);
+    behind = refl;
+    reading = (
+      _,
+      step_here constraints constraint_forms 4 (placed_formula_words (drop 4 (formula_tokens assumption_text))) (Parity (literals (pos 1 ∷ pos 2 ∷ []))) refl refl refl,
+      (_, step_here constraints constraint_forms 4 (drop 4 (placed_formula_words (drop 4 (formula_tokens assumption_text)))) (Assume (literals (pos 1 ∷ pos 2 ∷ []))) refl refl refl, refl),
+    );
+  };
+  variables = refl;
+}
+
+-- joined to an integer it is no letter, it goes on with no constraint, and it is no constraint alone
+joined_assumption : FirstOffence (codes "p cnf 1 1\na1 0") (BadToken 10)
+unfolding formula_tokens constraint_forms
+joined_assumption =
+    let placed : List Placed = placed_formula_words (drop 4 (formula_tokens (codes "p cnf 1 1\na1 0"))) in
+    inr (1, [], bad_token 10, record { body = drop 4 (formula_tokens (codes "p cnf 1 1\na1 0")); behind = refl; reading = bad_here constraints constraint_forms 0 placed (record { place = 10; word = other }) (drop 1 placed) refl refl refl refl refl }, refl)
+
+parity_in_assumption : FirstOffence (codes "p cnf 2 1\na 1 x2 0") (BadToken 14)
+unfolding formula_tokens constraint_forms
+parity_in_assumption =
+    let placed : List Placed = placed_formula_words (drop 4 (formula_tokens (codes "p cnf 2 1\na 1 x2 0"))) in
+    inr (2, [], bad_token 14, record { body = drop 4 (formula_tokens (codes "p cnf 2 1\na 1 x2 0")); behind = refl; reading = bad_here constraints constraint_forms 2 placed (record { place = 14; word = letter 120 }) (drop 3 placed) refl refl refl refl refl }, refl)
+
+lone_assumption : FirstOffence (codes "p cnf 1 1\na\n") (Unterminated 12)
+unfolding formula_tokens constraint_forms
+lone_assumption =
+    let placed : List Placed = placed_formula_words (drop 4 (formula_tokens (codes "p cnf 1 1\na\n"))) in
+    let u = unfinished_here constraints constraint_forms placed refl refl refl in
+    inr (1, [], unterminated 12, record { body = drop 4 (formula_tokens (codes "p cnf 1 1\na\n")); behind = refl; reading = (refl, (λ e. cc), u.0, u.1) }, refl)
 
 no_token : FirstOffence [] (NoHeader 0)
 unfolding formula_tokens constraint_forms

@@ -5,7 +5,7 @@ use Rattle.cx_base.specs.Integers.{integers_of}
 use Rattle.cx_base.specs.Problem.{Problem, greatest_variable}
 use Rattle.cx_base.specs.declared.literal.TheConstants.{MAX_VARIABLE}
 use Rattle.cx_base.specs.declared.constraint.Constraint.{Constraint}
-use Rattle.cx_base.specs.declared.constraint.Constraint.TheVariants.{Clause, Parity}
+use Rattle.cx_base.specs.declared.constraint.Constraint.TheVariants.{Clause, Parity, Assume}
 use Rattle.cx_texts.specs.declared.offence.Offence.{Offence}
 use Rattle.cx_texts.specs.declared.offence.Offence.TheVariants.{NoHeader, BadHeader, BadToken, Unterminated, VarLimit}
 use Rattle.cx_texts.specs.Tokens.{Token, formula_tokens}
@@ -13,10 +13,11 @@ use Rattle.cx_texts.specs.Words.{placed_formula_words, natural}
 use Rattle.cx_texts.specs.Grammar.{Field, mark, integers, Grammar, Reading}
 use Rattle.cx_base.specs.Endings.{Ending, finished, bad_token, too_big, unterminated}
 
--- a clause is its literals and a zero, and a parity has an `x` in front
+-- a clause is its literals and a zero, a parity has an `x` in front, and an assumption constraint an `a`
 abbrev pub constraint_fields : Constraint → List Field
 constraint_fields (Clause lits) = integers (integers_of lits) ∷ []
 constraint_fields (Parity lits) = mark 120 ∷ integers (integers_of lits) ∷ []
+constraint_fields (Assume lits) = mark 97 ∷ integers (integers_of lits) ∷ []
 
 abbrev pub constraints : Grammar Constraint
 constraints = record { fields = constraint_fields; limit = MAX_VARIABLE }

@@ -6,12 +6,17 @@ use std::test::Fail;
 /// A parity and a clause that the values 1 and -2 alone meet.
 const FORMULA: &str = "p cnf 2 2\nx1 2 0\n1 0\n";
 
-const REFUSED: [Refused; 5] = [
+const REFUSED: [Refused; 6] = [
     (FORMULA, "s UNSATISFIABLE\n", "A1"),
     (FORMULA, "s SATISFIABLE\nv 1 q 0\n", "A2 at byte 18"),
     (FORMULA, "s SATISFIABLE\nv 1 0\n", "A3 variable 2"),
     (FORMULA, "s SATISFIABLE\nv 1 -2 1 0\n", "A4 variable 1"),
     (FORMULA, "s SATISFIABLE\nv 1 2 0\n", "A5 constraint 1"),
+    (
+        "p cnf 2 2\nx1 2 0\na 1 2 0\n",
+        "s SATISFIABLE\nv 1 -2 0\n",
+        "A5 constraint 2",
+    ),
 ];
 
 #[test]

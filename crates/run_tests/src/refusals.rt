@@ -10,7 +10,7 @@ use std::test::Fail;
 /// A formula, the status with which it is refused, and the line that tells why.
 type Offence = (&'static str, u8, &'static str);
 
-const OFFENCES: [Offence; 10] = [
+const OFFENCES: [Offence; 12] = [
     ("", 3, "error: formula F1 at byte 0\n"),
     ("1 0\n", 3, "error: formula F1 at byte 0\n"),
     ("p cnf x 1\n", 3, "error: formula F2 at byte 6\n"),
@@ -18,6 +18,8 @@ const OFFENCES: [Offence; 10] = [
     ("p cnf 2 1\n1 x2 0\n", 3, "error: formula F3 at byte 12\n"),
     ("p cnf 2 1\n1 2", 3, "error: formula F4 at byte 13\n"),
     ("p cnf 2 1\n1 2\n", 3, "error: formula F4 at byte 14\n"),
+    ("p cnf 2 1\na 1 x2 0\n", 3, "error: formula F3 at byte 14\n"),
+    ("p cnf 1 1\na\n", 3, "error: formula F4 at byte 12\n"),
     ("p cnf 1 1\n16777216 0\n", 9, "error: limit L1 at byte 10\n"),
     (
         "p cnf 1 1\n16777216 a 0\n",
