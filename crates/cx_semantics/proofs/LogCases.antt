@@ -5,6 +5,7 @@ use Rattle.std.specs.Ordering.{nat_cmp}
 use Rattle.std.specs.FinSet as set
 use Rattle.cx_base.specs.Literals.{Literal, differ}
 use Rattle.cx_base.specs.Problem.{Problem, clauses_of, parity_met}
+use Rattle.cx_base.specs.Assumptions.{assumptions_of}
 use Rattle.cx_base.specs.Parity.{normal_form, sum_of, occurs_odd}
 use Rattle.cx_base.specs.declared.constraint.Constraint.TheVariants as constraint
 use Rattle.cx_base.proofs.ParityLaws.{contains-normal_form, contains-symmetric_difference}
@@ -51,6 +52,14 @@ not_in_formula : FirstFailure (log_rules formula no_tables (log.Original 1 (pos 
 unfolding clauses_of
 not_in_formula = inr (refl, inr (dead 1, inl (refl, refl)))
 
+-- an assumed literal is no unit clause of the formula
+abbrev assuming_one : Problem
+assuming_one = record { variables = 2; constraints = constraint.Clause (literals (pos 1 ∷ pos 2 ∷ [])) ∷ constraint.Assume (literals (pos 1 ∷ [])) ∷ [] }
+
+assumption_not_in_formula : FirstFailure (log_rules assuming_one no_tables (log.Original 2 (pos 1 ∷ []))) causes.NotInFormula
+unfolding clauses_of
+assumption_not_in_formula = inr (refl, inr (dead 2, inl (refl, refl)))
+
 not_live : FirstFailure (log_rules formula no_tables (log.ClauseOfParity 5 (pos 1 ∷ []) 9)) causes.NotLive
 not_live = inr (refl, inr (dead 5, inl (ids_by no_tables.parities (λ k. None) Looks-empty (9 ∷ []), refl)))
 
@@ -94,7 +103,8 @@ no_chain = inr (
 )
 
 empty_log : JudgedAs (log_calculus formula) [] finished (refused 1 causes.NoEmptyClause)
-empty_log = inr (record { tables = no_tables; runs = refl; why = refl; number = refl })
+unfolding assumptions_of
+empty_log = (refl, inr (record { tables = no_tables; runs = refl; why = refl; number = refl }))
 
 -- ---- one parity of two literals
 

@@ -6,6 +6,7 @@ use Rattle.std.specs.Ordering.{nat_cmp}
 use Rattle.std.specs.Cmp.{nat_cmp_total}
 use Rattle.cx_base.specs.Literals.{Literal, differ}
 use Rattle.cx_base.specs.Problem.{Problem, clauses_of, clause_met, parity_met}
+use Rattle.cx_base.specs.Assumptions.{assumptions_of}
 use Rattle.cx_base.specs.Parity.{normal_form, sum_of, occurs_odd}
 use Rattle.cx_base.specs.declared.constraint.Constraint.TheVariants as constraint
 use Rattle.cx_base.proofs.ParityLaws.{contains-normal_form, contains-symmetric_difference}
@@ -76,17 +77,21 @@ step_2 : IsRight (proof_calculus q) after_1 (proof.Clause 6 [] (pos 5 ∷ pos 3 
 step_2 = chain_right q after_1 (put_at at_q 5 (Some (literals (pos 2 ∷ [])))) looks_1 6 [] (pos 5 ∷ pos 3 ∷ pos 4 ∷ []) refl refl refl refl refl refl
 
 accepted_in_two : JudgedAs (proof_calculus q) (proof.Clause 5 (pos 2 ∷ []) (pos 1 ∷ pos 2 ∷ []) ∷ proof.Clause 6 [] (pos 5 ∷ pos 3 ∷ pos 4 ∷ []) ∷ []) (bad_token 24) (accepted 2)
-accepted_in_two = record {
-  before = proof.Clause 5 (pos 2 ∷ []) (pos 1 ∷ pos 2 ∷ []) ∷ [];
-  step = proof.Clause 6 [] (pos 5 ∷ pos 3 ∷ pos 4 ∷ []);
-  later = [];
-  tables = after_1;
-  split = refl;
-  runs = (step_1, refl, refl);
-  right = step_2;
-  ends = refl;
-  number = refl;
-}
+unfolding assumptions_of
+accepted_in_two = inr (
+  refl,
+  record {
+    before = proof.Clause 5 (pos 2 ∷ []) (pos 1 ∷ pos 2 ∷ []) ∷ [];
+    step = proof.Clause 6 [] (pos 5 ∷ pos 3 ∷ pos 4 ∷ []);
+    later = [];
+    tables = after_1;
+    split = refl;
+    runs = (step_1, refl, refl);
+    right = step_2;
+    ends = refl;
+    number = refl;
+  },
+)
 
 -- ---- one step each: the causes of a chain
 

@@ -6,8 +6,10 @@ use Rattle.std.specs.Cmp.{nat_cmp_total}
 use Rattle.std.specs.FinMap as map_
 use Rattle.std.proofs.lemmas.Option.{same_Some}
 use Rattle.std.proofs.lemmas.Bool.{and_parts, and_from}
-use Rattle.cx_base.specs.Literals.{Literal, literal_true}
+use Rattle.std.proofs.lemmas.List.Folds.{list_all-append}
+use Rattle.cx_base.specs.Literals.{Literal, negate, same_literal, literal_true}
 use Rattle.cx_base.specs.Problem.{Problem, Meets, Unmet, clause_met, parity_met, constraint_met, clauses_of, parities_of}
+use Rattle.cx_base.specs.Assumptions.{assumptions_of, assumes, is_ending, clashes}
 use Rattle.cx_base.specs.Parity.{normal_form}
 use Rattle.cx_base.specs.declared.constraint.Constraint.{Constraint}
 use Rattle.cx_base.specs.declared.constraint.Constraint.TheVariants as constraint
@@ -19,11 +21,12 @@ use Rattle.cx_base.specs.declared.steps.LogStep.TheVariants as log
 use Rattle.cx_semantics.specs.Chain.{ChainEnd, right, not_unit, hints_end, same_literals, is_inside, has_literal}
 use Rattle.cx_base.specs.Integers.{literals, sizes}
 use Rattle.cx_semantics.specs.Tables.{Table, Tables, get, named, numbered_from, first_tables, no_tables}
-use Rattle.cx_semantics.specs.Judging.{IsRight, Runs, Calculus, AcceptedAt}
-use Rattle.cx_semantics.specs.ProofRules.{is_not_unit, is_hints_end, IsSum, proof_calculus, after_step, adds_empty_clause, is_empty}
-use Rattle.cx_semantics.specs.LogRules.{is_original, log_calculus, after_log_step, derives_empty_clause}
+use Rattle.cx_semantics.specs.Judging.{IsRight, Runs, Calculus, EndsAt, AcceptedAt}
+use Rattle.cx_semantics.specs.ProofRules.{is_not_unit, is_hints_end, IsSum, proof_calculus, after_step, adds_ending_clause}
+use Rattle.cx_semantics.specs.LogRules.{is_original, log_calculus, after_log_step, derived_clause, derives_ending_clause}
 use Rattle.cx_base.proofs.LiteralLaws.{are_one}
-use Rattle.cx_semantics.proofs.ChainLaws.{chained_is_met}
+use Rattle.cx_semantics.proofs.Members.{has_at_head, has_behind}
+use Rattle.cx_semantics.proofs.ChainLaws.{chained_is_met, literal_true-negate, true_by_all}
 
 -- ---- tables whose lists are met
 
@@ -76,18 +79,65 @@ unfolding clauses_of
 clauses_met v [] h = refl
 clauses_met v (constraint.Clause lits ∷ items) h = let p = and_parts (clause_met v lits) _ h in and_from _ _ p.0 (clauses_met v items p.1)
 clauses_met v (constraint.Parity lits ∷ items) h = clauses_met v items (and_parts (parity_met v lits) _ h).1
+clauses_met v (constraint.Assume lits ∷ items) h = clauses_met v items (and_parts (list_all (literal_true v) lits) _ h).1
 
 pub parities_met : (v : List Bool) (items : List Constraint) → list_all (constraint_met v) items ≡ true → list_all (parity_met v) (parities_of items) ≡ true
 unfolding parities_of
 parities_met v [] h = refl
 parities_met v (constraint.Parity lits ∷ items) h = let p = and_parts (parity_met v lits) _ h in and_from _ _ p.0 (parities_met v items p.1)
 parities_met v (constraint.Clause lits ∷ items) h = parities_met v items (and_parts (clause_met v lits) _ h).1
+parities_met v (constraint.Assume lits ∷ items) h = parities_met v items (and_parts (list_all (literal_true v) lits) _ h).1
+
+pub assumptions_met : (v : List Bool) (items : List Constraint) → list_all (constraint_met v) items ≡ true → list_all (literal_true v) (assumptions_of items) ≡ true
+unfolding assumptions_of
+assumptions_met v [] h = refl
+assumptions_met v (constraint.Clause lits ∷ items) h = assumptions_met v items (and_parts (clause_met v lits) _ h).1
+assumptions_met v (constraint.Parity lits ∷ items) h = assumptions_met v items (and_parts (parity_met v lits) _ h).1
+assumptions_met v (constraint.Assume lits ∷ items) h =
+    let p = and_parts (list_all (literal_true v) lits) _ h in
+    list_all-append (literal_true v) lits (assumptions_of items) ∙ and_from _ _ p.0 (assumptions_met v items p.1)
+
+-- the values meet the formula's clauses and its parities
+pub record MeetsGiven (formula : Problem) (v : List Bool) : Type 0 where
+  pub clauses : list_all (clause_met v) (clauses_of formula.constraints) ≡ true
+  pub parities : list_all (parity_met v) (parities_of formula.constraints) ≡ true
+
+pub given_met : (formula : Problem) (v : List Bool) → Meets formula v → MeetsGiven formula v
+given_met formula v m = record { clauses = clauses_met v formula.constraints m.all_met; parities = parities_met v formula.constraints m.all_met }
 
 pub first_tables_met : (formula : Problem) (v : List Bool) → Meets formula v → TablesMet v (first_tables formula)
 first_tables_met formula v m = record {
   clauses = met_numbered (clause_met v) 1 (clauses_of formula.constraints) (clauses_met v formula.constraints m.all_met);
   parities = met_numbered (parity_met v) 1 (parities_of formula.constraints) (parities_met v formula.constraints m.all_met);
 }
+
+-- ---- a clause all of whose literals are negations of true ones
+
+all_missed : (v : List Bool) (IsAssumed : Literal → Bool) (lits : List Literal) → ((l : Literal) → IsAssumed l ≡ true → literal_true v l ≡ true) → list_all (λ l. IsAssumed (negate l)) lits ≡ true → clause_met v lits ≡ false
+all_missed v has [] t h = refl
+all_missed v has (l ∷ lits) t h =
+    let p = and_parts (has (negate l)) (list_all (λ m. has (negate m)) lits) h in
+    let missed : literal_true v l ≡ false = turned (literal_true v l) (sym (literal_true-negate v l) ∙ t (negate l) p.0) in
+    (λ i. missed i || all_missed v has lits t p.1 i)
+  where
+    turned : (b : Bool) → not b ≡ true → b ≡ false
+    turned true e = absurd (true≢false (sym e))
+    turned false e = refl
+
+-- an ending clause is missed by the values under which the assumptions are true
+pub ending_is_missed : (v : List Bool) (cs : List Constraint) (lits : List Literal) → list_all (literal_true v) (assumptions_of cs) ≡ true → is_ending cs lits ≡ true → clause_met v lits ≡ false
+ending_is_missed v cs lits a e = all_missed v (assumes cs) lits (λ l h. true_by_all v (assumptions_of cs) l a h) e
+
+-- assumptions that clash are not all true
+pub clash_is_missed : (v : List Bool) (cs : List Constraint) → list_all (literal_true v) (assumptions_of cs) ≡ true → clashes cs ≡ true → ⊥
+clash_is_missed v cs a h = some_both (assumptions_of cs) (λ l k. true_by_all v (assumptions_of cs) l a k) h
+  where
+    some_both : (lits : List Literal) → ((l : Literal) → has_literal lits l ≡ true → literal_true v l ≡ true) → list_any (λ l. assumes cs (negate l)) lits ≡ true → ⊥
+    some_both [] t k = true≢false (sym k)
+    some_both (m ∷ lits) t k = elim (assumes cs (negate m)) as (λ b. assumes cs (negate m) ≡ b → (b || list_any (λ l. assumes cs (negate l)) lits) ≡ true → ⊥) [
+      | true ↦ λ e _. true≢false (sym (true_by_all v (assumptions_of cs) (negate m) a e) ∙ literal_true-negate v m ∙ ap not (t m (has_at_head m lits)))
+      | false ↦ λ e g. some_both lits (λ l q. t l (has_behind m lits l q)) g
+    ] refl k
 
 -- ---- sums
 
@@ -184,10 +234,10 @@ right_proof_step formula v tables (proof.ParityOfClauses n lits hints) m (a, (b,
 right_proof_step formula v tables (proof.DeleteClauses n ids) m h = record { clauses = met_drop (clause_met v) ids tables.clauses m.clauses; parities = m.parities }
 right_proof_step formula v tables (proof.DeleteParities ids) m h = record { clauses = m.clauses; parities = met_drop (parity_met v) ids tables.parities m.parities }
 
-right_log_step : (formula : Problem) (v : List Bool) → Meets formula v → (tables : Tables) (s : LogStep) → TablesMet v tables → IsRight (log_calculus formula) tables s → TablesMet v (after_log_step tables s)
+right_log_step : (formula : Problem) (v : List Bool) → MeetsGiven formula v → (tables : Tables) (s : LogStep) → TablesMet v tables → IsRight (log_calculus formula) tables s → TablesMet v (after_log_step tables s)
 right_log_step formula v meets tables (log.Original n lits) m (a, (b, (e, f))) = record {
   clauses = met_insert (clause_met v) tables.clauses n (literals lits) m.clauses
-      (original_met v (literals lits) (clauses_of formula.constraints) (is_so (is_original formula (literals lits)) e) (clauses_met v formula.constraints meets.all_met));
+      (original_met v (literals lits) (clauses_of formula.constraints) (is_so (is_original formula (literals lits)) e) meets.clauses);
   parities = m.parities;
 }
   where
@@ -197,7 +247,7 @@ right_log_step formula v meets tables (log.Original n lits) m (a, (b, (e, f))) =
 right_log_step formula v meets tables (log.OriginalParity n lits) m (a, (b, (e, f))) = record {
   clauses = m.clauses;
   parities = met_insert (parity_met v) tables.parities n (literals lits) m.parities
-      (original_parity_met v (literals lits) (parities_of formula.constraints) e (parities_met v formula.constraints meets.all_met));
+      (original_parity_met v (literals lits) (parities_of formula.constraints) e meets.parities);
 }
 right_log_step formula v meets tables (log.Clause n lits) m (a, (b, ((hints, live, e), f))) = record {
   clauses = met_insert (clause_met v) tables.clauses n (literals lits) m.clauses (chained_is_met v (literals lits) (named tables.clauses hints) e (met_named (clause_met v) tables.clauses m.clauses hints));
@@ -232,47 +282,71 @@ runs_keep : {S : Type 0} (c : Calculus S) (v : List Bool) → ((t : Tables) (s :
 runs_keep c v keeps t [] u h m = subst (TablesMet v) (sym h) m
 runs_keep c v keeps t (s ∷ ss) u h m = runs_keep c v keeps (c.after t s) ss u h.2 (keeps t s m h.0)
 
-empty_literals : (lits : List ℤ) → is_empty lits ≡ true → literals lits ≡ []
-empty_literals [] h = refl
-empty_literals (z ∷ lits) h = absurd (true≢false (sym h))
-
--- a met table has no clause without literals
-no_empty : (v : List Bool) (table : Table) (n : ℕ) (lits : List ℤ) → is_empty lits ≡ true → AllMet (clause_met v) (map_.insert table n (literals lits)) → ⊥
-no_empty v table n lits e m =
-    let is : get (map_.insert table n (literals lits)) n ≡ Some (literals lits) = map_.get-insert nat_cmp_total table n (literals lits) n ∙ ap (λ b. cond b (Some (literals lits)) (get table n)) (itself n) in
-    true≢false (sym (m n (literals lits) is) ∙ ap (clause_met v) (empty_literals lits e))
+-- a met table has no clause that the values miss
+put_is_met : (v : List Bool) (table : Table) (n : ℕ) (lits : List Literal) → AllMet (clause_met v) (map_.insert table n lits) → clause_met v lits ≡ true
+put_is_met v table n lits m =
+    let is : get (map_.insert table n lits) n ≡ Some lits = map_.get-insert nat_cmp_total table n lits n ∙ ap (λ b. cond b (Some lits) (get table n)) (itself n) in
+    m n lits is
   where
     itself : (n : ℕ) → eq_by_cmp nat_cmp n n ≡ true
     itself n = Rattle.std.specs.Cmp.unsigned_tied n n ∙ Rattle.std.proofs.Common.eq-eqb n n refl
 
-no_empty_proof : (v : List Bool) (tables : Tables) (s : ProofStep) → adds_empty_clause s ≡ true → TablesMet v (after_step tables s) → ⊥
-no_empty_proof v tables (proof.Clause n lits hints) e m = no_empty v tables.clauses n lits e m.clauses
-no_empty_proof v tables (proof.ClauseOfParity n lits hint) e m = no_empty v tables.clauses n lits e m.clauses
-no_empty_proof v tables (proof.Parity n lits hints) e m = true≢false (sym e)
-no_empty_proof v tables (proof.ParityOfClauses n lits hints) e m = true≢false (sym e)
-no_empty_proof v tables (proof.DeleteClauses n ids) e m = true≢false (sym e)
-no_empty_proof v tables (proof.DeleteParities ids) e m = true≢false (sym e)
+-- no values under which the assumptions are true meet what stands behind a step that ends
+no_ending : (v : List Bool) (cs : List Constraint) (table : Table) (n : ℕ) (lits : List Literal) → list_all (literal_true v) (assumptions_of cs) ≡ true → is_ending cs lits ≡ true → AllMet (clause_met v) (map_.insert table n lits) → ⊥
+no_ending v cs table n lits a e m = true≢false (sym (put_is_met v table n lits m) ∙ ending_is_missed v cs lits a e)
 
-no_empty_log : (v : List Bool) (tables : Tables) (s : LogStep) → derives_empty_clause s ≡ true → TablesMet v (after_log_step tables s) → ⊥
-no_empty_log v tables (log.Clause n lits) e m = no_empty v tables.clauses n lits e m.clauses
-no_empty_log v tables (log.ClauseWithHints n lits hints) e m = no_empty v tables.clauses n lits e m.clauses
-no_empty_log v tables (log.ClauseOfParity n lits source) e m = no_empty v tables.clauses n lits e m.clauses
-no_empty_log v tables (log.Original n lits) e m = true≢false (sym e)
-no_empty_log v tables (log.OriginalParity n lits) e m = true≢false (sym e)
-no_empty_log v tables (log.Parity n lits sources) e m = true≢false (sym e)
-no_empty_log v tables (log.ParityOfClauses n lits sources) e m = true≢false (sym e)
-no_empty_log v tables (log.Delete n lits) e m = true≢false (sym e)
-no_empty_log v tables (log.DeleteParity n lits) e m = true≢false (sym e)
-no_empty_log v tables (log.Final n lits) e m = true≢false (sym e)
-no_empty_log v tables (log.FinalParity n lits) e m = true≢false (sym e)
+no_ending_proof : (formula : Problem) (v : List Bool) (tables : Tables) (s : ProofStep) → list_all (literal_true v) (assumptions_of formula.constraints) ≡ true → adds_ending_clause formula s ≡ true → TablesMet v (after_step tables s) → ⊥
+no_ending_proof formula v tables (proof.Clause n lits hints) a e m = no_ending v formula.constraints tables.clauses n (literals lits) a e m.clauses
+no_ending_proof formula v tables (proof.ClauseOfParity n lits hint) a e m = no_ending v formula.constraints tables.clauses n (literals lits) a e m.clauses
+no_ending_proof formula v tables (proof.Parity n lits hints) a e m = true≢false (sym e)
+no_ending_proof formula v tables (proof.ParityOfClauses n lits hints) a e m = true≢false (sym e)
+no_ending_proof formula v tables (proof.DeleteClauses n ids) a e m = true≢false (sym e)
+no_ending_proof formula v tables (proof.DeleteParities ids) a e m = true≢false (sym e)
+
+-- the clause of a log's step that ends it is met, and is an ending clause
+last_is_met : (formula : Problem) (v : List Bool) (tables : Tables) (s : LogStep) → derives_ending_clause formula s ≡ true → TablesMet v (after_log_step tables s) → clause_met v (derived_clause s) ≡ true
+last_is_met formula v tables (log.Clause n lits) e m = put_is_met v tables.clauses n (literals lits) m.clauses
+last_is_met formula v tables (log.ClauseWithHints n lits hints) e m = put_is_met v tables.clauses n (literals lits) m.clauses
+last_is_met formula v tables (log.ClauseOfParity n lits source) e m = put_is_met v tables.clauses n (literals lits) m.clauses
+last_is_met formula v tables (log.Original n lits) e m = absurd (true≢false (sym e))
+last_is_met formula v tables (log.OriginalParity n lits) e m = absurd (true≢false (sym e))
+last_is_met formula v tables (log.Parity n lits sources) e m = absurd (true≢false (sym e))
+last_is_met formula v tables (log.ParityOfClauses n lits sources) e m = absurd (true≢false (sym e))
+last_is_met formula v tables (log.Delete n lits) e m = absurd (true≢false (sym e))
+last_is_met formula v tables (log.DeleteParity n lits) e m = absurd (true≢false (sym e))
+last_is_met formula v tables (log.Final n lits) e m = absurd (true≢false (sym e))
+last_is_met formula v tables (log.FinalParity n lits) e m = absurd (true≢false (sym e))
+
+pub last_is_ending : (formula : Problem) (s : LogStep) → derives_ending_clause formula s ≡ true → is_ending formula.constraints (derived_clause s) ≡ true
+last_is_ending formula (log.Clause n lits) e = e
+last_is_ending formula (log.ClauseWithHints n lits hints) e = e
+last_is_ending formula (log.ClauseOfParity n lits source) e = e
+last_is_ending formula (log.Original n lits) e = absurd (true≢false (sym e))
+last_is_ending formula (log.OriginalParity n lits) e = absurd (true≢false (sym e))
+last_is_ending formula (log.Parity n lits sources) e = absurd (true≢false (sym e))
+last_is_ending formula (log.ParityOfClauses n lits sources) e = absurd (true≢false (sym e))
+last_is_ending formula (log.Delete n lits) e = absurd (true≢false (sym e))
+last_is_ending formula (log.DeleteParity n lits) e = absurd (true≢false (sym e))
+last_is_ending formula (log.Final n lits) e = absurd (true≢false (sym e))
+last_is_ending formula (log.FinalParity n lits) e = absurd (true≢false (sym e))
 
 pub accepted_steps_are_unmet : (formula : Problem) (steps : List ProofStep) (k : ℕ) → AcceptedAt (proof_calculus formula) steps k → Unmet formula
-accepted_steps_are_unmet formula steps k j v meets =
+accepted_steps_are_unmet formula steps k (inl clash) v meets = clash_is_missed v formula.constraints (assumptions_met v formula.constraints meets.all_met) clash.0
+accepted_steps_are_unmet formula steps k (inr ended) v meets =
+    let j = ended.1 in
     let m = runs_keep (proof_calculus formula) v (right_proof_step formula v) (first_tables formula) j.before j.tables j.runs (first_tables_met formula v meets) in
-    no_empty_proof v j.tables j.step j.ends (right_proof_step formula v j.tables j.step m j.right)
+    no_ending_proof formula v j.tables j.step (assumptions_met v formula.constraints meets.all_met) j.ends (right_proof_step formula v j.tables j.step m j.right)
 
-pub right_steps_are_unmet : (formula : Problem) (steps : List LogStep) (k : ℕ) → AcceptedAt (log_calculus formula) steps k → Unmet formula
-right_steps_are_unmet formula steps k j v meets =
+-- the clause of the step that ends a log follows from the formula's clauses and parities
+pub ended_clause_is_met : (formula : Problem) (steps : List LogStep) (k : ℕ) (j : EndsAt (log_calculus formula) steps k) (v : List Bool) → MeetsGiven formula v → clause_met v (derived_clause j.step) ≡ true
+ended_clause_is_met formula steps k j v meets =
     let start : TablesMet v no_tables = record { clauses = met_empty (clause_met v); parities = met_empty (parity_met v) } in
     let m = runs_keep (log_calculus formula) v (right_log_step formula v meets) no_tables j.before j.tables j.runs start in
-    no_empty_log v j.tables j.step j.ends (right_log_step formula v meets j.tables j.step m j.right)
+    last_is_met formula v j.tables j.step j.ends (right_log_step formula v meets j.tables j.step m j.right)
+
+pub right_steps_are_unmet : (formula : Problem) (steps : List LogStep) (k : ℕ) → AcceptedAt (log_calculus formula) steps k → Unmet formula
+right_steps_are_unmet formula steps k (inl clash) v meets = clash_is_missed v formula.constraints (assumptions_met v formula.constraints meets.all_met) clash.0
+right_steps_are_unmet formula steps k (inr ended) v meets =
+    let j = ended.1 in
+    true≢false (sym (ended_clause_is_met formula steps k j v (given_met formula v meets))
+    ∙ ending_is_missed v formula.constraints (derived_clause j.step) (assumptions_met v formula.constraints meets.all_met) (last_is_ending formula j.step j.ends))

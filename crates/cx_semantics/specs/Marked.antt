@@ -14,7 +14,7 @@ use Rattle.cx_base.specs.declared.steps.LogEvent.TheVariants.{Step, Conflict}
 use Rattle.cx_semantics.specs.Chain.{is_inside, same_literals}
 use Rattle.cx_semantics.specs.Fresh.{Fresh, IsLive, is_tautology}
 use Rattle.cx_base.specs.Integers.{integers_of, literals}
-use Rattle.cx_semantics.specs.LogRules.{after_log_step, derives_empty_clause}
+use Rattle.cx_semantics.specs.LogRules.{after_log_step, derives_ending_clause}
 use Rattle.cx_semantics.specs.Tables.{Table, Tables, get, no_tables}
 
 -- what an event finds: the tables; whether the clause of the last mark is still to come; the ids of learned clauses;
@@ -96,25 +96,25 @@ abbrev pub IsKnown : Moment → List Literal → Type 0
 IsKnown m lits = ((length lits ≡ 1) × ¬ Fresh m.tables.clauses lits)
     ⊎ ((clause : List Literal) × IsLive m.tables.clauses clause × IsTrue (is_inside lits clause) × IsFalse (is_tautology clause))
 
-abbrev pub IsAdded : Moment → LogStep → List Literal → Type 0
-IsAdded m step lits = MatchBool m.awaits (IsLearned m lits) (IsFalse (derives_empty_clause step) → IsKnown m lits)
+abbrev pub IsAdded : Problem → Moment → LogStep → List Literal → Type 0
+IsAdded formula m step lits = MatchBool m.awaits (IsLearned m lits) (IsFalse (derives_ending_clause formula step) → IsKnown m lits)
 
 -- A deletion of a learned clause leaves many learned clauses, or leaves a live clause inside the deleted one.
 abbrev pub IsAllowedDelete : Moment → ℕ → Type 0
 IsAllowedDelete m n = IsTrue (is_reduction m n) → 1000 + 250 * m.reductions ≤ length (without m.learned n)
 
-abbrev pub StepFits : Moment → LogStep → Type 0
-StepFits m (Clause n lits) = IsAdded m (Clause n lits) (literals lits)
-StepFits m (ClauseWithHints n lits hints) = IsAdded m (ClauseWithHints n lits hints) (literals lits)
-StepFits m (ClauseOfParity n lits source) = (parity : List Literal) × (get m.tables.parities source ≡ Some parity) × HasOneOfEach (normal_form parity).variables (literals lits)
-StepFits m (Delete n lits) = IsAllowedDelete m n
-StepFits m (Original n lits) = ⊤
-StepFits m (OriginalParity n lits) = ⊤
-StepFits m (Parity n lits sources) = ⊤
-StepFits m (ParityOfClauses n lits sources) = ⊤
-StepFits m (DeleteParity n lits) = ⊤
-StepFits m (Final n lits) = ⊤
-StepFits m (FinalParity n lits) = ⊤
+abbrev pub StepFits : Problem → Moment → LogStep → Type 0
+StepFits formula m (Clause n lits) = IsAdded formula m (Clause n lits) (literals lits)
+StepFits formula m (ClauseWithHints n lits hints) = IsAdded formula m (ClauseWithHints n lits hints) (literals lits)
+StepFits formula m (ClauseOfParity n lits source) = (parity : List Literal) × (get m.tables.parities source ≡ Some parity) × HasOneOfEach (normal_form parity).variables (literals lits)
+StepFits formula m (Delete n lits) = IsAllowedDelete m n
+StepFits formula m (Original n lits) = ⊤
+StepFits formula m (OriginalParity n lits) = ⊤
+StepFits formula m (Parity n lits sources) = ⊤
+StepFits formula m (ParityOfClauses n lits sources) = ⊤
+StepFits formula m (DeleteParity n lits) = ⊤
+StepFits formula m (Final n lits) = ⊤
+StepFits formula m (FinalParity n lits) = ⊤
 
 -- each clause of the formula has all literals of a live clause among its own, or is a tautology
 abbrev pub KeepsFormula : Problem → Table → Type 0
@@ -129,7 +129,7 @@ pub record MarkFits (formula : Problem) (m : Moment) : Type 0 where
   pub no_old_sums : m.old_sums ≡ []
 
 abbrev pub EventFits : Problem → Moment → LogEvent → Type 0
-EventFits formula m (Step step) = StepFits m step
+EventFits formula m (Step step) = StepFits formula m step
 EventFits formula m (Conflict k) = MarkFits formula m
 
 -- each event fits what it finds, from the first moment to the last
@@ -142,13 +142,14 @@ abbrev pub mark_of : LogEvent → Option ℕ
 mark_of (Step step) = None
 mark_of (Conflict k) = Some k
 
--- the steps that tell these constraints in order: clauses have ids from n on, parities from k on
+-- the steps that tell the clauses and parities among these constraints in order: clauses have ids from n on, parities from k on
 abbrev pub original_events : ℕ → ℕ → List Constraint → List LogEvent
 original_events n k [] = []
 original_events n k (constraint.Clause lits ∷ cs) = Step (Original n (integers_of lits)) ∷ original_events (n + 1) k cs
 original_events n k (constraint.Parity lits ∷ cs) = Step (OriginalParity k (integers_of lits)) ∷ original_events n (k + 1) cs
+original_events n k (constraint.Assume lits ∷ cs) = original_events n k cs
 
--- the events begin with a step for each constraint in order, under the ids 1, 2, .. of clauses and 1, 2, .. of parities
+-- the events begin with a step for each clause and parity in order, under the ids 1, 2, .. of clauses and 1, 2, .. of parities
 abbrev pub BeginsWithOriginals : List Constraint → List LogEvent → Type 0
 BeginsWithOriginals cs events = (rest : List LogEvent) × (events ≡ original_events 1 1 cs ++ rest)
 
