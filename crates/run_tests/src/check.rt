@@ -5,8 +5,11 @@ use crate::formulas::{EMPTY, SQUARE, TRIANGLE};
 use std::alloc::{AllocError, Global};
 use std::test::Fail;
 
+/// A parity of two variables, both of which are assumed.
+const ASSUMING: &str = "p cnf 2 2\nx1 2 0\na 1 2 0\n";
+
 /// Formulas, each with a proof of it.
-const VERIFIED: [(&str, &str); 11] = [
+const VERIFIED: [(&str, &str); 13] = [
     (TRIANGLE, "x 4 0 1 2 3 0\ni 1 0 4 0\n"),
     ("p cnf 2 1\nx0\n", "i 1 0 1 0\n"),
     (SQUARE, "5 2 0 1 2 0\n6 0 5 3 4 0"),
@@ -24,6 +27,8 @@ const VERIFIED: [(&str, &str); 11] = [
         "i x 1 1 2 0 1 4 0\ni x 2 -1 2 0 2 3 0\nx 3 0 1 2 0\ni 5 0 3 0\n",
     ),
     (EMPTY, "2 0 1 0\n"),
+    (ASSUMING, "i 1 -1 -2 0 1 0\n"),
+    ("p cnf 1 0\na 1 -1 0\n", ""),
 ];
 
 /// Writes how the check of the proof ends, if it is not verified.
@@ -65,7 +70,8 @@ fn proofs_are_verified(rt: HostRuntime) -> Result<(), Fail> {
     Ok(())
 }
 
-const REFUSED: [Refused; 20] = [
+const REFUSED: [Refused; 21] = [
+    (ASSUMING, "i 1 1 2 0 1 0\n", "step 2 P11"),
     (TRIANGLE, "x 4 0 1 2 0\n", "step 1 P7"),
     (TRIANGLE, "x 4 1 2 0 1 1 0\n", "step 1 P7"),
     (TRIANGLE, "x d 1 0\nx 4 0 1 2 3 0\n", "step 2 P4"),

@@ -1,6 +1,7 @@
 -- One step more of a proof that is judged.
 use Rattle.std.proofs.Common.{◌≡◌, refl, sym, ap, subst, ℕ, ◌+◌, Bool, true, false, List, [], ◌∷◌, ◌++◌, length-append, append-nil, append_assoc, inl, inr, arith, IfOk, Some, None, Result, Ok, Err}
 use Rattle.cx_base.specs.Problem.{Problem}
+use Rattle.cx_base.specs.Assumptions.{clashes}
 use Rattle.cx_base.specs.declared.steps.ProofStep.{ProofStep}
 use Rattle.cx_semantics.specs.declared.cause.Cause.{Cause}
 use Rattle.cx_semantics.specs.declared.cause.Cause.TheVariants as causes
@@ -13,7 +14,7 @@ use Rattle.cx_semantics.specs.Judging.{Runs, FirstFailure, AcceptedAt, end_cause
 use Rattle.cx_semantics.specs.ProofRules.{proof_calculus, proof_rules}
 use Rattle.cx_semantics.proofs.JudgingLaws.{runs_push}
 use Rattle.cx_semantics.proofs.Soundness.{accepted_steps_are_unmet}
-use Rattle.xlrup_check.specs.Verdicts.{Kept, Goes, TakesStep, text_refused, what_follows_of, ReadsStand}
+use Rattle.xlrup_check.specs.Verdicts.{IsJudgedBy, IsSound, Kept, Goes, TakesStep, text_refused, what_follows_of, ReadsStand}
 use Rattle.proof_rules.specs.declared.refusal.JudgeRefusal.{JudgeRefusal}
 use Rattle.proof_rules.specs.declared.refusal.JudgeRefusal.TheVariants as refusal
 use Rattle.xlrup_check.specs.declared.verdict.Verdict.TheVariants.{Verified, Refused}
@@ -26,7 +27,7 @@ module _ {X : Type 0} (leaves : X → List ProofStep → Ending → Type 0) (for
       kept.before,
       ending,
       subst (λ (ss : List ProofStep). leaves first ss ending) (append-nil kept.before) (kept.left [] ending h),
-      inr (record { tables = tables; runs = kept.runs; why = e; number = ap (λ n. n + 1) kept.number }),
+      (kept.no_clash, inr (record { tables = tables; runs = kept.runs; why = e; number = ap (λ n. n + 1) kept.number })),
     ),
     tt,
   )
@@ -49,23 +50,26 @@ module _ {X : Type 0} (leaves : X → List ProofStep → Ending → Type 0) (for
         kept.before ++ step ∷ rest.0,
         rest.1,
         kept.left (step ∷ rest.0) rest.1 (follows rest.0 rest.1 rest.2),
-        inl (record { before = kept.before; step = step; later = rest.0; tables = tables; split = refl; runs = kept.runs; wrong = f; number = ap (λ n. n + 1) kept.number }),
+        (kept.no_clash, inl (record { before = kept.before; step = step; later = rest.0; tables = tables; split = refl; runs = kept.runs; wrong = f; number = ap (λ n. n + 1) kept.number })),
       ),
       tt,
     )
 
     accepted_here : (after : Tables) → TakesStep formula tables step (Ok true) after → (later : List ProofStep) → AcceptedAt (proof_calculus formula) (kept.before ++ step ∷ later) (count + 1)
-    accepted_here after t later = record {
-      before = kept.before;
-      step = step;
-      later = later;
-      tables = tables;
-      split = refl;
-      runs = kept.runs;
-      right = t.0;
-      ends = sym t.1.1;
-      number = ap (λ n. n + 1) kept.number;
-    }
+    accepted_here after t later = inr (
+      kept.no_clash,
+      record {
+        before = kept.before;
+        step = step;
+        later = later;
+        tables = tables;
+        split = refl;
+        runs = kept.runs;
+        right = t.0;
+        ends = sym t.1.1;
+        number = ap (λ n. n + 1) kept.number;
+      },
+    )
 
     -- the step is right and ends the proof
     step_is_accepted : (after : Tables) → TakesStep formula tables step (Ok true) after → (rest : (steps : List ProofStep) × (ending : Ending) × leaves new steps ending)
@@ -78,6 +82,7 @@ module _ {X : Type 0} (leaves : X → List ProofStep → Ending → Type 0) (for
     -- the step is right, and the proof goes on
     step_is_kept : (after : Tables) → TakesStep formula tables step (Ok false) after → Goes leaves formula first new after count None
     step_is_kept after t = record {
+      no_clash = kept.no_clash;
       before = kept.before ++ step ∷ [];
       runs = subst (λ (u : Tables). Runs (proof_calculus formula) (first_tables formula) (kept.before ++ step ∷ []) u) (sym t.1.0)
           (runs_push (proof_calculus formula) (first_tables formula) kept.before step tables kept.runs t.0 (sym t.1.1));
@@ -92,6 +97,16 @@ module _ {X : Type 0} (leaves : X → List ProofStep → Ending → Type 0) (for
     step_goes after (Ok false) t rest = step_is_kept after t
     step_goes after (Err (refusal.Wrong cause)) f rest = step_is_refused cause f rest after
     step_goes after (Err refusal.Memory) f rest = tt
+
+-- ---- assumptions that clash
+
+-- whatever the source has left
+pub clash_is_accepted : {X : Type 0} (leaves : X → List ProofStep → Ending → Type 0) (formula : Problem) (source : X) → clashes formula.constraints ≡ true
+    → ((steps : List ProofStep) × (ending : Ending) × leaves source steps ending) → IsJudgedBy leaves formula source (Verified 0)
+clash_is_accepted leaves formula source clash left = (left.0, left.1, left.2, inl (clash, refl))
+
+pub clash_is_sound : (formula : Problem) → clashes formula.constraints ≡ true → IsSound formula (Verified 0)
+clash_is_sound formula clash = accepted_steps_are_unmet formula [] 0 (inl (clash, refl))
 
 -- ---- the source's faults
 

@@ -1,6 +1,7 @@
 -- What the checker answers.
-use Rattle.std.specs.Prelude.{◌≡◌, ℕ, ℤ, Bool, true, false, ◌&&◌, [], ◌∷◌, List, length, ◌++◌, ◌+◌, Option, Some, None, Result, Ok, Err, ⊤}
+use Rattle.std.specs.Prelude.{◌≡◌, ℕ, ℤ, Bool, true, false, ◌&&◌, [], ◌∷◌, List, length, ◌++◌, ◌+◌, Option, Some, None, Result, Ok, Err, IsFalse, ⊤}
 use Rattle.cx_base.specs.Problem.{Problem, Unmet}
+use Rattle.cx_base.specs.Assumptions.{is_ending, clashes}
 use Rattle.cx_base.specs.declared.steps.ProofStep.{ProofStep}
 use Rattle.cx_base.specs.Literals.{Literal}
 use Rattle.cx_base.specs.Endings.{Ending}
@@ -11,7 +12,7 @@ use Rattle.cx_semantics.specs.declared.cause.Cause.TheVariants as causes
 use Rattle.step_text.specs.declared.source.TextRefusal.{TextRefusal}
 use Rattle.step_text.specs.declared.source.TextRefusal.TheVariants as text
 use Rattle.cx_semantics.specs.Judging.{Rule, AllHold, Judgement, accepted, refused, Runs, JudgedAs}
-use Rattle.cx_semantics.specs.ProofRules.{adding, is_empty, hinting, chaining, summing, clause_of_parity, parity_of_clauses, proof_calculus, proof_rules, after_step, adds_empty_clause}
+use Rattle.cx_semantics.specs.ProofRules.{adding, hinting, chaining, summing, clause_of_parity, parity_of_clauses, proof_calculus, proof_rules, after_step, adds_ending_clause}
 use Rattle.cx_base.specs.Counts.{Rose}
 use Rattle.proof_rules.specs.declared.refusal.JudgeRefusal.{JudgeRefusal}
 use Rattle.proof_rules.specs.declared.refusal.JudgeRefusal.TheVariants as refusal
@@ -67,8 +68,9 @@ what_follows_of (Ok false) k = Ok None
 what_follows_of (Err (refusal.Wrong cause)) k = Ok (Some (Refused k cause))
 what_follows_of (Err refusal.Memory) k = Err Memory
 
--- What is known before a step: the steps taken are right and did not end the proof, and what is left follows them.
+-- What is known before a step: the assumptions do not clash, the steps taken are right and did not end the proof, and what is left follows them.
 pub record Kept {X : Type 0} (leaves : X → List ProofStep → Ending → Type 0) (formula : Problem) (first now : X) (tables : Tables) (count : ℕ) : Type 0 where
+  pub no_clash : IsFalse (clashes formula.constraints)
   pub before : List ProofStep
   pub runs : Runs (proof_calculus formula) (first_tables formula) before tables
   pub number : count ≡ length before
@@ -86,7 +88,7 @@ Takes rules after ends (Err why) new = IsRefusedBy rules why
 
 -- a step was taken, or has this first cause against it
 abbrev pub TakesStep : Problem → Tables → ProofStep → Result Bool JudgeRefusal → Tables → Type 0
-TakesStep formula old step result new = Takes (proof_rules formula old step) (after_step old step) (adds_empty_clause step) result new
+TakesStep formula old step result new = Takes (proof_rules formula old step) (after_step old step) (adds_ending_clause formula step) result new
 
 -- the hints of what a step adds, and what they show
 abbrev pub hint_rules : Tables → ProofStep → List Literal → List Rule
@@ -100,4 +102,4 @@ hint_rules tables (proof.DeleteParities ids) target = []
 -- the literals that a step adds stand in the table, or have this first cause against them
 abbrev pub TakesAdded : Problem → Tables → Kind → ℕ → List ℤ → ProofStep → Result Bool JudgeRefusal → Tables → Type 0
 TakesAdded formula old kind n lits step result new =
-    Takes (adding formula (chosen kind old) n lits ++ hint_rules old step (literals lits)) (put_constraint kind old n (literals lits)) (is_clauses kind && is_empty lits) result new
+    Takes (adding formula (chosen kind old) n lits ++ hint_rules old step (literals lits)) (put_constraint kind old n (literals lits)) (is_clauses kind && is_ending formula.constraints (literals lits)) result new

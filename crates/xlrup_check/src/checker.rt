@@ -1,7 +1,5 @@
 //! The judgement of a proof, step by step.
 ghost use Rattle.std.specs.Prelude.{◌≡◌, ◌<◌, ◌≤◌, ◌^◌, ◌+◌, false, None, IfOk, IfErr};
-ghost use Rattle.cx_base.specs.Problem.{Problem};
-ghost use Rattle.cx_base.specs.declared.literal.TheConstants.{MAX_VARIABLE};
 ghost use Rattle.xlrup_check.specs.Verdicts.{IsJudgedBy, IsSound, HasCause, ReadsStand, Kept, Goes, text_refused, what_follows_of};
 
 use crate::step::take_step;
@@ -21,8 +19,9 @@ struct Memory {
 
 /// Judges a proof of the formula, from a source of steps.
 ///
-/// Steps are taken in order. The first right step that adds a clause without literals ends the
-/// proof; what stands behind it is not judged. The first wrong step is refused for its first cause.
+/// Steps are taken in order. The first right step that adds an ending clause, all of whose literals are
+/// negations of assumed ones, ends the proof; what stands behind it is not judged. The first wrong step is
+/// refused for its first cause. Where the assumptions clash, nothing is judged.
 /// `Fault::Read` comes only where the source counted a fault, `Fault::TooLong` only where its text
 /// passes its limit.
 pub fn check<S: StepSource<Step = ProofStep>>(
@@ -37,7 +36,9 @@ pub fn check<S: StepSource<Step = ProofStep>>(
     ensures reads { ReadsStand result (S.faults source.old) (S.faults source.new) }
     ensures frame { S.keeps source.old source.new }
 {
-    let vars = formula.vars();
+    if formula.clash().is_some() {
+        return Ok(Verdict::Verified(0));
+    }
     let mut live = match Live::of(alloc, formula) {
         Ok(live) => live,
         Err(_) => return Err(Fault::Memory),
@@ -48,7 +49,7 @@ pub fn check<S: StepSource<Step = ProofStep>>(
     };
     let mut steps = 0;
     loop {
-        match take_next(&mut memory, vars, &mut live, source, steps) {
+        match take_next(&mut memory, formula, &mut live, source, steps) {
             Ok(None) => steps += 1,
             Ok(Some(verdict)) => return Ok(verdict),
             Err(fault) => return Err(fault),
@@ -59,16 +60,14 @@ pub fn check<S: StepSource<Step = ProofStep>>(
 /// Takes the next step, behind so many; none where the proof goes on.
 fn take_next<S: StepSource<Step = ProofStep>>(
     memory: &mut Memory,
-    vars: u32,
+    formula: &Formula,
     live: &mut Live,
     source: &mut S,
     steps: u64,
 ) -> Result<Option<Verdict>, Fault>
-    requires few { vars ≤ MAX_VARIABLE }
     requires fresh { S.is_spent source.old ≡ false }
     requires count { steps < 2 ^ 63 }
-    ensures goes { (formula : Problem) (first : S) → formula.variables ≡ vars → Kept S.leaves formula first source.old live.old steps
-        → IfOk result (Goes S.leaves formula first source.new live.new steps) }
+    ensures goes { (first : S) → Kept S.leaves formula.now first source.old live.old steps → IfOk result (Goes S.leaves formula.now first source.new live.new steps) }
     ensures fresh { IfOk result (λ verdict. verdict ≡ None → S.is_spent source.new ≡ false) }
     ensures reads { ReadsStand result (S.faults source.old) (S.faults source.new) }
     ensures rises { IfOk result (λ verdict. verdict ≡ None → S.place_of source.old < S.place_of source.new) }
@@ -84,7 +83,7 @@ fn take_next<S: StepSource<Step = ProofStep>>(
         }
         Err(why) => return refused_text(why, steps + 1),
     };
-    let taken = take_step(&mut memory.marks, vars, live, &step);
+    let taken = take_step(&mut memory.marks, formula, live, &step);
     memory.spare.keep(step);
     what_follows(taken, steps + 1)
 }

@@ -1,12 +1,11 @@
 //! One step of a proof: judged, and then done.
-ghost use Rattle.std.specs.Prelude.{◌≡◌, ◌≤◌};
-ghost use Rattle.cx_base.specs.Problem.{Problem};
-ghost use Rattle.cx_base.specs.declared.literal.TheConstants.{MAX_VARIABLE};
+ghost use Rattle.std.specs.Prelude.{◌≡◌, ◌&&◌};
 ghost use Rattle.proof_rules.specs.Judges.{JudgesBy};
-ghost use Rattle.proof_rules.specs.Kinds.{drop_constraints};
+ghost use Rattle.cx_base.specs.Assumptions.{is_ending};
+ghost use Rattle.proof_rules.specs.Kinds.{drop_constraints, is_clauses};
 ghost use Rattle.xlrup_check.specs.Verdicts.{hint_rules, TakesAdded, TakesStep};
 
-use cx_base::{IdList, IntList, LitList, ProofStep};
+use cx_base::{Formula, IdList, IntList, LitList, ProofStep};
 use proof_rules::{
     JudgeMarks, JudgeRefusal, Kind, Live, admit_into, judge_chain, judge_clause_of_parity,
     judge_parity_of_clauses, judge_sum,
@@ -39,26 +38,37 @@ fn judge_added(
     }
 }
 
-/// Adds the literals of a step, if its hints show them, and says whether it is a clause without literals.
+/// Whether what a step adds ends the proof: literals of a clause all of whose negations are assumed.
+#[inline(always)]
+fn ends_proof(formula: &Formula, kind: Kind, target: &LitList) -> bool
+    ensures { result ≡ (is_clauses kind && is_ending formula.now.constraints target.now) }
+{
+    match kind {
+        Kind::Clauses => formula.is_ending(target.as_slice()),
+        Kind::Parities => false,
+    }
+}
+
+/// Adds the literals of a step, if its hints show them, and says whether they are an ending clause.
 // In each of its places the kind of step is known, and so which judge is asked.
 #[inline(always)]
 fn take_added(
     marks: &mut JudgeMarks,
-    vars: u32,
+    formula: &Formula,
     live: &mut Live,
     kind: Kind,
     id: u64,
     lits: &IntList,
     step: &ProofStep,
 ) -> Result<bool, JudgeRefusal>
-    requires few { vars ≤ MAX_VARIABLE }
-    ensures { (formula : Problem) → formula.variables ≡ vars → TakesAdded formula live.old kind id lits.now step.now result live.new }
+    ensures { TakesAdded formula.now live.old kind id lits.now step.now result live.new }
 {
-    let target = admit_into(marks.literals(), vars, lits, live.has(kind, id))?;
+    let target = admit_into(marks.literals(), formula.vars(), lits, live.has(kind, id))?;
     judge_added(marks, live, step, &target)?;
     live.add_copy(kind, id, target.as_slice())?;
+    let ends = ends_proof(formula, kind, &target);
     marks.keep_literals(target);
-    Ok(matches!(kind, Kind::Clauses) && lits.as_slice().is_empty())
+    Ok(ends)
 }
 
 /// Takes constraints out.
@@ -73,25 +83,24 @@ fn delete(live: &mut Live, kind: Kind, ids: &IdList)
 /// Judges a step, and where it is right does it and says whether it ends the proof. `marks` are for their memory alone.
 pub(crate) fn take_step(
     marks: &mut JudgeMarks,
-    vars: u32,
+    formula: &Formula,
     live: &mut Live,
     step: &ProofStep,
 ) -> Result<bool, JudgeRefusal>
-    requires few { vars ≤ MAX_VARIABLE }
-    ensures { (formula : Problem) → formula.variables ≡ vars → TakesStep formula live.old step.now result live.new }
+    ensures { TakesStep formula.now live.old step.now result live.new }
 {
     match step {
         ProofStep::Clause(id, lits, _) => {
-            take_added(marks, vars, live, Kind::Clauses, *id, lits, step)
+            take_added(marks, formula, live, Kind::Clauses, *id, lits, step)
         }
         ProofStep::Parity(id, lits, _) => {
-            take_added(marks, vars, live, Kind::Parities, *id, lits, step)
+            take_added(marks, formula, live, Kind::Parities, *id, lits, step)
         }
         ProofStep::ClauseOfParity(id, lits, _) => {
-            take_added(marks, vars, live, Kind::Clauses, *id, lits, step)
+            take_added(marks, formula, live, Kind::Clauses, *id, lits, step)
         }
         ProofStep::ParityOfClauses(id, lits, _) => {
-            take_added(marks, vars, live, Kind::Parities, *id, lits, step)
+            take_added(marks, formula, live, Kind::Parities, *id, lits, step)
         }
         ProofStep::DeleteClauses(_, ids) => {
             delete(live, Kind::Clauses, ids);

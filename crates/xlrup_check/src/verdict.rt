@@ -5,7 +5,7 @@ use thiserror::Error;
 /// The judgement of a proof.
 #[derive(Clone, Copy, Drop)]
 pub enum Verdict {
-    /// The proof is accepted at the step of this number, from 1: no values meet the formula.
+    /// The proof is accepted at the step of this number, from 1, or at 0 where the formula's assumptions clash: no values meet the formula.
     Verified(u64),
     /// The proof is refused at the step of this number, from 1, for its first cause.
     Refused(u64, Cause),

@@ -6,18 +6,18 @@ use Rattle.xlrup_check.proofs.Turns.{end_is_refused, text_is_refused, step_goes,
 use Rattle.xlrup_check.proofs.checker.take_next.Goals as goal
 
 pub returns-in-Ok-None-clause-goes : goal.returns-in-Ok-None-clause-goes
-returns-in-Ok-None-clause-goes g c = λ formula first e kept.
+returns-in-Ok-None-clause-goes g c = λ first kept.
     let h = subst (λ (o : Option ProofStep). Gives g.S.StepSource.leaves c.args.source.now (Ok o) c.next_step.new.self) c.in-Ok-None.field-0-is c.in-Ok-None.ensures.step in
-    end_is_refused _ formula first c.args.source.now c.next_step.new.self _ _ kept finished _ refl h.0
+    end_is_refused _ c.args.formula.now first c.args.source.now c.next_step.new.self _ _ kept finished _ refl h.0
 
 pub returns-in-Err-clause-goes : goal.returns-in-Err-clause-goes
-returns-in-Err-clause-goes g c = λ formula first e kept. rw c.refused_text.ensures (text_is_refused _ formula first c.args.source.now c.next_step.new.self _ _ kept c.in-Err.why c.in-Err.ensures.step)
+returns-in-Err-clause-goes g c = λ first kept. rw c.refused_text.ensures (text_is_refused _ c.args.formula.now first c.args.source.now c.next_step.new.self _ _ kept c.in-Err.why c.in-Err.ensures.step)
 
 pub returns-clause-goes : goal.returns-clause-goes
-returns-clause-goes g c = λ formula first e kept.
+returns-clause-goes g c = λ first kept.
     let h = subst (λ (o : Option ProofStep). Gives g.S.StepSource.leaves c.args.source.now (Ok o) c.next_step.new.self) c.in-Ok-Some.field-0-is c.in-Ok-Some.ensures.step in
     rw c.what_follows.ensures
-    (step_goes _ formula first c.args.source.now c.next_step.new.self _ _ kept c.in-Ok-Some.step h _ c.take_step-taken.result (c.take_step-taken.ensures formula e) (g.met.S.StepSource.leaves_some c.next_step.new.self))
+    (step_goes _ c.args.formula.now first c.args.source.now c.next_step.new.self _ _ kept c.in-Ok-Some.step h _ c.take_step-taken.result c.take_step-taken.ensures (g.met.S.StepSource.leaves_some c.next_step.new.self))
 
 pub returns-in-Err-clause-reads : goal.returns-in-Err-clause-reads
 returns-in-Err-clause-reads g c = rw c.refused_text.ensures (text_stands _ _ c.in-Err.why _ c.in-Err.ensures.faults)

@@ -1,8 +1,5 @@
 use Rattle.std.proofs.Common.{rules}
 use Rattle.xlrup_check.proofs.step.take_added.Goals as goal
 
-pub returns-else-matches : goal.returns-else-matches
-returns-else-matches c = search rules
-
-pub returns-then-matches : goal.returns-then-matches
-returns-then-matches c = search rules
+pub returns : goal.returns
+returns c = search rules
