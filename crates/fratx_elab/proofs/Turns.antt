@@ -1,13 +1,14 @@
 -- One turn of the elaborator: from what is known before a step to what is known behind it, or to the answer.
 use Rattle.std.proofs.Common.{◌≡◌, refl, sym, ap, ◌∙◌, subst, ℕ, ◌+◌, ◌-◌, Bool, true, false, List, [], ◌∷◌, ◌++◌, length, length-append, take, append-nil, append_assoc, Option, Some, None, Result, Ok, Err, inl, inr, arith, true≢false}
 use Rattle.cx_base.specs.Problem.{Problem, clauses_of, parities_of}
+use Rattle.cx_base.specs.Assumptions.{clashes}
 use Rattle.cx_base.specs.declared.steps.LogStep.{LogStep}
 use Rattle.cx_base.specs.declared.steps.ProofStep.{ProofStep}
 use Rattle.cx_semantics.specs.declared.cause.Cause.{Cause}
 use Rattle.cx_semantics.specs.declared.cause.Cause.TheVariants as causes
 use Rattle.cx_base.specs.Endings.{Ending, bad_token, too_big, unterminated}
 use Rattle.cx_semantics.specs.Judging.{FirstFailure, IsRight, Runs, AcceptedAt, IsOpen, end_cause}
-use Rattle.cx_semantics.specs.LogRules.{log_calculus, log_rules, derives_empty_clause}
+use Rattle.cx_semantics.specs.LogRules.{log_calculus, log_rules, derives_ending_clause}
 use Rattle.cx_semantics.specs.ProofRules.{proof_calculus, after_step}
 use Rattle.cx_semantics.specs.Tables.{Tables, first_tables, no_tables}
 use Rattle.cx_semantics.proofs.JudgingLaws.{runs_push}
@@ -55,7 +56,7 @@ module _ {X : Type 0} (leaves : X → List LogStep → Ending → Type 0) (told 
   gained_so_far P e p start f = (kept.written, e ∙ kept.told_all start f, p)
 
   open_so_far : IsOpen (proof_calculus formula) kept.written
-  open_so_far = (kept.tables, kept.proof_runs)
+  open_so_far = (kept.no_clash, (kept.tables, kept.proof_runs))
 
   front_is : (later : List LogStep) → take (count + 1 - 1) (kept.before ++ later) ≡ kept.before
   front_is later = let n : count + 1 - 1 ≡ length kept.before = omega (arith, kept.number) in ap (λ k. take k (kept.before ++ later)) n ∙ take_front kept.before later
@@ -68,7 +69,7 @@ module _ {X : Type 0} (leaves : X → List LogStep → Ending → Type 0) (told 
     kept.before,
     ending,
     subst (λ (ss : List LogStep). leaves first ss ending) (append-nil kept.before) (kept.left [] ending h),
-    inr (record { tables = state.live; runs = kept.log_runs; why = e; number = ap (λ n. n + 1) kept.number }),
+    (kept.no_clash, inr (record { tables = state.live; runs = kept.log_runs; why = e; number = ap (λ n. n + 1) kept.number })),
     gained_so_far (IsProofWritten formula kept.before (Refused (count + 1) cause)) t
         (subst (λ (ss : List LogStep). IsProofOf formula (take (count + 1 - 1) ss) kept.written) (append-nil kept.before) (proof_so_far []), open_so_far),
   )
@@ -90,7 +91,7 @@ module _ {X : Type 0} (leaves : X → List LogStep → Ending → Type 0) (told 
       kept.before ++ step ∷ rest.0,
       rest.1,
       kept.left (step ∷ rest.0) rest.1 (follows rest.0 rest.1 rest.2),
-      inl (record { before = kept.before; step = step; later = rest.0; tables = state.live; split = refl; runs = kept.log_runs; wrong = f; number = ap (λ n. n + 1) kept.number }),
+      (kept.no_clash, inl (record { before = kept.before; step = step; later = rest.0; tables = state.live; split = refl; runs = kept.log_runs; wrong = f; number = ap (λ n. n + 1) kept.number })),
       gained_so_far (IsProofWritten formula (kept.before ++ step ∷ rest.0) (Refused (count + 1) cause)) t (proof_so_far (step ∷ rest.0), open_so_far),
     )
 
@@ -99,7 +100,7 @@ module _ {X : Type 0} (leaves : X → List LogStep → Ending → Type 0) (told 
     refusal_turns after refusal.Memory f t = gained_so_far (IsOpen (proof_calculus formula)) t open_so_far
 
     module _ (after : State) (written : Option ProofStep) (taken : TakesLogStep formula state step (Ok written) after) where
-      part : Writes formula (names_of state) step (listed written) (names_of after) × KeepsTie formula kept.tables after (derives_empty_clause step) written
+      part : Writes formula (names_of state) step (listed written) (names_of after) × KeepsTie formula kept.tables after (derives_ending_clause formula step) written
       part = taken.2 kept.tables kept.tied
 
       both_steps : IsProofOf formula (kept.before ++ step ∷ []) (kept.written ++ listed written)
@@ -110,18 +111,21 @@ module _ {X : Type 0} (leaves : X → List LogStep → Ending → Type 0) (told 
       told_on None e start f = e ∙ kept.told_all start f ∙ ap (λ w. Some (start ++ w)) (sym (append-nil kept.written))
 
       -- the log ends here
-      done : (w : Option ProofStep) → w ≡ written → derives_empty_clause step ≡ true → KeepsTie formula kept.tables after (derives_empty_clause step) w → AcceptedAt (proof_calculus formula) (kept.written ++ listed w) (length (kept.written ++ listed w))
-      done (Some s) is e (right, ends, tied) = record {
-        before = kept.written;
-        step = s;
-        later = [];
-        tables = kept.tables;
-        split = refl;
-        runs = kept.proof_runs;
-        right = right;
-        ends = ends ∙ e;
-        number = length-append kept.written (s ∷ []);
-      }
+      done : (w : Option ProofStep) → w ≡ written → derives_ending_clause formula step ≡ true → KeepsTie formula kept.tables after (derives_ending_clause formula step) w → AcceptedAt (proof_calculus formula) (kept.written ++ listed w) (length (kept.written ++ listed w))
+      done (Some s) is e (right, ends, tied) = inr (
+        kept.no_clash,
+        record {
+          before = kept.written;
+          step = s;
+          later = [];
+          tables = kept.tables;
+          split = refl;
+          runs = kept.proof_runs;
+          right = right;
+          ends = ends ∙ e;
+          number = length-append kept.written (s ∷ []);
+        },
+      )
       done None is e (ends, tied) = absurd (true≢false (sym e ∙ ends))
 
       at_step : (k : ℕ) → k ≡ count + 1 → take k (kept.before ++ step ∷ rest.0) ≡ kept.before ++ step ∷ []
@@ -129,12 +133,12 @@ module _ {X : Type 0} (leaves : X → List LogStep → Ending → Type 0) (told 
           let n : k ≡ length (kept.before ++ step ∷ []) = omega (arith, e, kept.number, length-append kept.before (step ∷ [])) in
           ap (λ m. take m (kept.before ++ step ∷ rest.0)) n ∙ ap (take (length (kept.before ++ step ∷ []))) (sym (append_assoc kept.before (step ∷ []) rest.0)) ∙ take_front (kept.before ++ step ∷ []) rest.0
 
-      is_done : WritesDown (told old) (told new) (torn new) written (took tt) → derives_empty_clause step ≡ true → IsElaborated leaves told torn formula first new (Done (count + 1))
+      is_done : WritesDown (told old) (told new) (torn new) written (took tt) → derives_ending_clause formula step ≡ true → IsElaborated leaves told torn formula first new (Done (count + 1))
       is_done w e = (
         kept.before ++ step ∷ rest.0,
         rest.1,
         kept.left (step ∷ rest.0) rest.1 (follows rest.0 rest.1 rest.2),
-        record { before = kept.before; step = step; later = rest.0; tables = state.live; split = refl; runs = kept.log_runs; right = taken.0; ends = e; number = ap (λ n. n + 1) kept.number },
+        inr (kept.no_clash, record { before = kept.before; step = step; later = rest.0; tables = state.live; split = refl; runs = kept.log_runs; right = taken.0; ends = e; number = ap (λ n. n + 1) kept.number }),
         λ start f. (
           kept.written ++ listed written,
           told_on written w start f,
@@ -143,15 +147,16 @@ module _ {X : Type 0} (leaves : X → List LogStep → Ending → Type 0) (told 
       )
 
       -- it goes on
-      runs_on : (w : Option ProofStep) → derives_empty_clause step ≡ false → KeepsTie formula kept.tables after (derives_empty_clause step) w
+      runs_on : (w : Option ProofStep) → derives_ending_clause formula step ≡ false → KeepsTie formula kept.tables after (derives_ending_clause formula step) w
           → (tables : Tables) × Runs (proof_calculus formula) (first_tables formula) (kept.written ++ listed w) tables × AreTied formula after.live tables (names_of after)
       runs_on (Some s) e (right, ends, tied) = (after_step kept.tables s, runs_push (proof_calculus formula) (first_tables formula) kept.written s kept.tables kept.proof_runs right (ends ∙ e), tied)
       runs_on None e (ends, tied) = (kept.tables, subst (λ (w : List ProofStep). Runs (proof_calculus formula) (first_tables formula) w kept.tables) (sym (append-nil kept.written)) kept.proof_runs, tied)
 
-      is_kept : WritesDown (told old) (told new) (torn new) written (took tt) → derives_empty_clause step ≡ false → Kept leaves told torn formula first new after (count + 1)
+      is_kept : WritesDown (told old) (told new) (torn new) written (took tt) → derives_ending_clause formula step ≡ false → Kept leaves told torn formula first new after (count + 1)
       is_kept w e =
           let on = runs_on written e part.1 in
           record {
+            no_clash = kept.no_clash;
             before = kept.before ++ step ∷ [];
             written = kept.written ++ listed written;
             tables = on.0;
@@ -165,16 +170,16 @@ module _ {X : Type 0} (leaves : X → List LogStep → Ending → Type 0) (told 
           }
 
       -- the sink took nothing, or tore the step
-      torn_here : (w : Option ProofStep) → WritesDown (told old) (told new) (torn new) w (fell sink.Failed) → KeepsTie formula kept.tables after (derives_empty_clause step) w → IsCutOff leaves told torn formula first new Write
+      torn_here : (w : Option ProofStep) → WritesDown (told old) (told new) (torn new) w (fell sink.Failed) → KeepsTie formula kept.tables after (derives_ending_clause formula step) w → IsCutOff leaves told torn formula first new Write
       torn_here (Some s) (t, e) (right, ends, tied) =
-          (s, t, gained_so_far (λ gained. (tables : Tables) × Runs (proof_calculus formula) (first_tables formula) gained tables × IsRight (proof_calculus formula) tables s) e (kept.tables, kept.proof_runs, right))
+          (s, t, gained_so_far (λ gained. (clashes formula.constraints ≡ false) × (tables : Tables) × Runs (proof_calculus formula) (first_tables formula) gained tables × IsRight (proof_calculus formula) tables s) e (kept.no_clash, kept.tables, kept.proof_runs, right))
       torn_here None h k = absurd h
 
       no_memory : (w : Option ProofStep) → WritesDown (told old) (told new) (torn new) w (fell sink.Memory) → IsCutOff leaves told torn formula first new Memory
       no_memory (Some s) e = gained_so_far (IsOpen (proof_calculus formula)) e open_so_far
       no_memory None h = absurd h
 
-      pub write_turns : (wrote : Result (Unit {0}) SinkFault) → WritesDown (told old) (told new) (torn new) written wrote → (ends : Bool) → ends ≡ derives_empty_clause step
+      pub write_turns : (wrote : Result (Unit {0}) SinkFault) → WritesDown (told old) (told new) (torn new) written wrote → (ends : Bool) → ends ≡ derives_ending_clause formula step
           → Turns leaves told torn formula first new after count (what_follows_of wrote ends (count + 1))
       write_turns (Ok u) w true e = is_done (again written w) (sym e)
         where
@@ -191,11 +196,12 @@ module _ {X : Type 0} (leaves : X → List LogStep → Ending → Type 0) (told 
 
 -- nothing was taken yet
 pub kept_first : {X : Type 0} (leaves : X → List LogStep → Ending → Type 0) (told : X → Option (List ProofStep)) (torn : X → ProofStep → Type 0) (formula : Problem) (first : X) (state : State)
-    → state.live ≡ no_tables → state.clauses ≡ first_naming (number_of_clauses formula) → state.parities ≡ first_naming (number_of_parities formula)
+    → clashes formula.constraints ≡ false → state.live ≡ no_tables → state.clauses ≡ first_naming (number_of_clauses formula) → state.parities ≡ first_naming (number_of_parities formula)
     → Kept leaves told torn formula first first state 0
-kept_first leaves told torn formula first state e f g =
+kept_first leaves told torn formula first state no_clash e f g =
     let names : names_of state ≡ first_names formula = λ i. record { clauses = f i; parities = g i } in
     record {
+      no_clash = no_clash;
       before = [];
       written = [];
       tables = first_tables formula;
@@ -211,8 +217,19 @@ kept_first leaves told torn formula first state e f g =
       told_all = λ start h. h ∙ ap Some (sym (append-nil start));
     }
 
-pub nothing_gained : (formula : Problem) (told : Option (List ProofStep)) → Gained told told (IsOpen (proof_calculus formula))
-nothing_gained formula told start e = ([], e ∙ ap Some (sym (append-nil start)), (first_tables formula, refl))
+pub nothing_gained : (formula : Problem) (told : Option (List ProofStep)) → clashes formula.constraints ≡ false → Gained told told (IsOpen (proof_calculus formula))
+nothing_gained formula told no_clash start e = ([], e ∙ ap Some (sym (append-nil start)), (no_clash, (first_tables formula, refl)))
+
+-- where the assumptions clash, nothing is judged and nothing is written, whatever the source has left
+pub clash_is_done : {X : Type 0} (leaves : X → List LogStep → Ending → Type 0) (told : X → Option (List ProofStep)) (torn : X → ProofStep → Type 0) (formula : Problem) (first : X)
+    → clashes formula.constraints ≡ true → ((steps : List LogStep) × (ending : Ending) × leaves first steps ending) → IsElaborated leaves told torn formula first first (Done 0)
+clash_is_done leaves told torn formula first clash left = (
+  left.0,
+  left.1,
+  left.2,
+  inl (clash, refl),
+  λ start e. ([], e ∙ ap Some (sym (append-nil start)), ((first_names formula, (refl, refl)), inl (clash, refl))),
+)
 
 -- ---- the sink's faults
 

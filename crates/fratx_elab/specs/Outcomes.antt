@@ -1,6 +1,7 @@
 -- What the elaborator answers, and what it wrote.
-use Rattle.std.specs.Prelude.{◌≡◌, ℕ, ◌+◌, ◌-◌, Bool, true, false, List, ◌++◌, length, take, Option, Some, None, Result, Ok, Err, ⊤}
+use Rattle.std.specs.Prelude.{◌≡◌, ℕ, ◌+◌, ◌-◌, Bool, true, false, List, ◌++◌, length, take, Option, Some, None, Result, Ok, Err, IsFalse, ⊤}
 use Rattle.cx_base.specs.Problem.{Problem}
+use Rattle.cx_base.specs.Assumptions.{clashes}
 use Rattle.cx_base.specs.declared.steps.LogStep.{LogStep}
 use Rattle.cx_base.specs.declared.steps.ProofStep.{ProofStep}
 use Rattle.cx_semantics.specs.declared.cause.Cause.TheVariants as causes
@@ -52,10 +53,11 @@ module _ {X : Type 0} (leaves : X → List LogStep → Ending → Type 0) (told 
   IsCutOff formula old new TooLong = Gained (told old) (told new) (IsOpen (proof_calculus formula))
   IsCutOff formula old new Write =
       (step : ProofStep) × torn new step
-      × Gained (told old) (told new) (λ gained. (tables : Tables) × Runs (proof_calculus formula) (first_tables formula) gained tables × IsRight (proof_calculus formula) tables step)
+      × Gained (told old) (told new) (λ gained. IsFalse (clashes formula.constraints) × (tables : Tables) × Runs (proof_calculus formula) (first_tables formula) gained tables × IsRight (proof_calculus formula) tables step)
 
-  -- What is known before a step: the steps taken are right and do not end the log, their proof is written, and what is left follows them.
+  -- What is known before a step: the assumptions do not clash, the steps taken are right and do not end the log, their proof is written, and what is left follows them.
   pub record Kept (formula : Problem) (first now : X) (state : State) (count : ℕ) : Type 0 where
+    pub no_clash : IsFalse (clashes formula.constraints)
     pub before : List LogStep
     pub written : List ProofStep
     pub tables : Tables

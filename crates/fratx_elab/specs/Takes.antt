@@ -5,8 +5,8 @@ use Rattle.cx_base.specs.Problem.{Problem}
 use Rattle.cx_semantics.specs.Chain.{IsChain}
 use Rattle.cx_base.specs.Integers.{literals}
 use Rattle.cx_semantics.specs.Judging.{AllHold, IsRight}
-use Rattle.cx_semantics.specs.LogRules.{AreLive, chained, log_calculus, log_rules, after_log_step, derives_empty_clause}
-use Rattle.cx_semantics.specs.ProofRules.{adding, proof_calculus, after_step, adds_empty_clause}
+use Rattle.cx_semantics.specs.LogRules.{AreLive, chained, log_calculus, log_rules, after_log_step, derives_ending_clause}
+use Rattle.cx_semantics.specs.ProofRules.{adding, proof_calculus, after_step, adds_ending_clause}
 use Rattle.cx_texts.specs.Printed.{HasProofText}
 use Rattle.cx_semantics.specs.Tables.{Table, Tables, named}
 use Rattle.cx_base.specs.declared.steps.LogStep.{LogStep}
@@ -28,14 +28,14 @@ listed None = []
 -- What is written is right in the proof, it ends the proof where the log ends, and the tables stay tied.
 abbrev pub KeepsTie : Problem → Tables → State → Bool → Option ProofStep → Type 0
 KeepsTie formula proof new ends (Some step) =
-    IsRight (proof_calculus formula) proof step × (adds_empty_clause step ≡ ends) × AreTied formula new.live (after_step proof step) (names_of new)
+    IsRight (proof_calculus formula) proof step × (adds_ending_clause formula step ≡ ends) × AreTied formula new.live (after_step proof step) (names_of new)
 KeepsTie formula proof new ends None = (ends ≡ false) × AreTied formula new.live proof (names_of new)
 
 -- the step is right and done, or has this first cause against it
 abbrev pub TakesLogStep : Problem → State → LogStep → Result (Option ProofStep) JudgeRefusal → State → Type 0
 TakesLogStep formula old step (Ok written) new =
     IsRight (log_calculus formula) old.live step × (new.live ≡ after_log_step old.live step)
-    × ((proof : Tables) → AreTied formula old.live proof (names_of old) → Writes formula (names_of old) step (listed written) (names_of new) × KeepsTie formula proof new (derives_empty_clause step) written)
+    × ((proof : Tables) → AreTied formula old.live proof (names_of old) → Writes formula (names_of old) step (listed written) (names_of new) × KeepsTie formula proof new (derives_ending_clause formula step) written)
 TakesLogStep formula old step (Err why) new = IsRefusedBy (log_rules formula old.live step) why
 
 -- a text can have what is written

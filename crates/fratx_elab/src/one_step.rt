@@ -1,6 +1,6 @@
 //! One step of a log of any kind.
 ghost use Rattle.std.specs.Prelude.{◌≡◌, ◌<◌, length, IfOk, OnOk};
-ghost use Rattle.cx_semantics.specs.LogRules.{derives_empty_clause};
+ghost use Rattle.cx_semantics.specs.LogRules.{derives_ending_clause};
 ghost use Rattle.cx_semantics.specs.Tables.{Tables};
 ghost use Rattle.fratx_elab.specs.Contents.{StandsFor};
 ghost use Rattle.fratx_elab.specs.Elaborates.{number_of_clauses, number_of_parities};
@@ -19,14 +19,14 @@ use cx_base::{Formula, IntList, LogStep, ProofStep};
 use proof_rules::JudgeRefusal;
 use std::alloc::Global;
 
-/// Whether a right step ends the log: one that derives a clause without literals.
-pub fn ends_log(step: &LogStep) -> bool
-    ensures { result ≡ derives_empty_clause step.now }
+/// Whether a right step ends the log: one that derives an ending clause.
+pub fn ends_log(formula: &Formula, step: &LogStep) -> bool
+    ensures { result ≡ derives_ending_clause formula.now step.now }
 {
     match step {
         LogStep::Clause(_, lits)
         | LogStep::ClauseWithHints(_, lits, _)
-        | LogStep::ClauseOfParity(_, lits, _) => lits.as_slice().is_empty(),
+        | LogStep::ClauseOfParity(_, lits, _) => formula.is_ending_integers(lits.as_slice()),
         LogStep::Original(_, _)
         | LogStep::OriginalParity(_, _)
         | LogStep::Parity(_, _, _)

@@ -9,7 +9,7 @@ use thiserror::Error;
 /// The judgement of a log.
 #[derive(Clone, Copy, Debug, PartialEq, Eq, Drop)]
 pub enum Elab {
-    /// The log is right and ends at the step of this number, from 1; the proof is written whole.
+    /// The log is right and ends at the step of this number, from 1, or at 0 where the formula's assumptions clash; the proof is written whole.
     Done(u64),
     /// The log is refused at the step of this number, from 1, for its first cause.
     Refused(u64, Cause),

@@ -5,7 +5,7 @@ ghost use Rattle.cx_base.specs.Integers.{sizes};
 ghost use Rattle.cx_base.specs.Numbers.{AreStepIntegers};
 ghost use Rattle.cx_base.specs.Problem.{Problem};
 ghost use Rattle.cx_semantics.specs.Chain.{IsChain};
-ghost use Rattle.cx_semantics.specs.LogRules.{AreLive, HasChain, chained, derives_empty_clause};
+ghost use Rattle.cx_semantics.specs.LogRules.{AreLive, HasChain, chained};
 ghost use Rattle.cx_semantics.specs.Tables.{Tables, is_live, named};
 ghost use Rattle.cx_base.specs.declared.steps.LogStep.TheVariants as step;
 ghost use Rattle.proof_rules.specs.Kinds.{chosen, put_constraint};

@@ -127,7 +127,7 @@ fn take_next<E: ElabEnds>(
         Ok(None) => return Ok(Some(Elab::Refused(steps + 1, Cause::NoEmptyClause))),
         Err(why) => return refused_text(why, steps + 1),
     };
-    let is_last = ends_log(&step);
+    let is_last = ends_log(formula, &step);
     let written = match take_step(alloc, formula, counts, originals, state, step) {
         Ok(written) => written,
         Err(why) => return refused_step(why, steps + 1),
@@ -173,8 +173,9 @@ fn take_all<E: ElabEnds>(
 
 /// Turns a log into a proof of the formula: each step is judged, and what is right is written with hints.
 ///
-/// Steps are taken in order. The first right step that derives a clause without literals ends the
-/// log; what stands behind it is not judged. The first wrong step is refused for its first cause.
+/// Steps are taken in order. The first right step that derives an ending clause, all of whose literals are negations
+/// of assumed ones, ends the log; what stands behind it is not judged. The first wrong step is refused for its first
+/// cause. Where the assumptions clash, nothing is judged and nothing is written.
 /// The proof's steps are handed to the sink one by one, each before the next step is read.
 /// `ElabFault::Read` and `ElabFault::Write` come only where the source or the sink counted a fault,
 /// `ElabFault::TooLong` only where the source tells that its text passes its limit.
@@ -192,6 +193,9 @@ pub fn elaborate<E: ElabEnds>(
     ensures failed { IfOk result (λ _. E.has_failed ends.new ≡ E.has_failed ends.old) }
     ensures frame { E.keeps ends.old ends.new }
 {
+    if formula.clash().is_some() {
+        return Ok(Elab::Done(0));
+    }
     let counts = count_kinds(formula);
     let originals = Originals::of(alloc, formula)?;
     let mut state = State {
