@@ -3,6 +3,7 @@
 
 mod antecedents;
 mod fault;
+mod final_analysis;
 mod learning;
 mod levels;
 mod marks;
@@ -11,5 +12,6 @@ mod touching;
 
 pub use antecedents::Antecedents;
 pub use fault::CoreFault;
+pub use final_analysis::{Final, analyse_final};
 pub use learning::{Learned, analyse};
 pub use marks::Marks;

@@ -1,5 +1,6 @@
 use Rattle.std.proofs.Common.{◌≡◌, ap, ◌∙◌, sym, subst, Some}
 use Rattle.cx_semantics.specs.Chain.{has_literal}
+use Rattle.conflict_learn.specs.Final.{StandsBelow}
 use Rattle.conflict_learn.specs.Learning.{literal_at}
 use Rattle.conflict_learn.specs.Touching.{Touched}
 use Rattle.conflict_learn.proofs.TouchLaws.{antecedent_here, others_before}
@@ -48,3 +49,8 @@ returns-clause-resolved g c =
       antecedent_here trail _ l place clause c.requires.stands at c.in_ok-clause.ensures.implied,
       subst (λ x. Touched (Some x) c.args.marks.now c.touch-2.new.marks clause) at (subst (λ ls. Touched (Some l) c.args.marks.now c.touch-2.new.marks ls) c.as_slice.ensures c.touch-2.ensures.touched),
     )
+
+pub clause_of-requires-clause-below : goal.clause_of-requires-clause-below
+clause_of-requires-clause-below g c =
+    let at : literal_at c.args.trail.now c.args.place ≡ c.entry-entry.result.literal = sym (ap (λ x. x.literal) c.entry-entry.ensures.is) in
+    subst (λ t. StandsBelow t (g.S.Antecedents.reach c.args.source.now) c.entry-entry.result.literal) (sym c.requires.stands) (c.args.place, c.requires.reach, (c.requires.place, at))
