@@ -5,3 +5,4 @@ pub mod StandLaws
 pub mod RemovalLaws
 pub mod LubyLaws
 pub mod BumpLaws
+pub mod AssumingLaws
