@@ -3,6 +3,7 @@ use Rattle.std.proofs.Common.{◌≡◌, refl, sym, ap, ◌∙◌, ℕ, ◌≤�
 use Rattle.std.specs.List.{list_all, AllByRecursion}
 use Rattle.std.proofs.lemmas.Bool.{not-true, or_right, and_from}
 use Rattle.cx_base.specs.Literals.{Literal, negate, literal_true, differ}
+use Rattle.cx_base.specs.Assumptions.{assumptions_of, assumes}
 use Rattle.cx_base.specs.Problem.{Problem, Meets, clause_met, parity_met, constraint_met, clauses_of, parities_of, AreWithin, literals_of}
 use Rattle.cx_base.specs.declared.constraint.Constraint.{Constraint}
 use Rattle.cx_base.specs.declared.constraint.Constraint.TheVariants as constraint
@@ -17,6 +18,7 @@ use Rattle.cx_semantics.specs.Marked.{Marked}
 use Rattle.cx_semantics.specs.Settled.{IsClauseOf, Decides, SettledBy, Settled}
 use Rattle.cx_semantics.specs.Tables.{Table}
 use Rattle.cx_semantics.proofs.ChainLaws.{true_by_all, literal_true-negate}
+use Rattle.cx_semantics.proofs.Members.{all_by, has_left, has_right}
 use Rattle.search_steps.specs.Laws.{HaveTheirs}
 use Rattle.search_steps.specs.Quiet.{Quiet}
 use Rattle.search_steps.specs.Recovering.{SettledWithRecovered}
@@ -82,23 +84,26 @@ module _ (n : ℕ) (known : List Literal) (decides : Decides n known) where
 
 all_constraints : (n : ℕ) (v : List Bool) (cs : List Constraint) → AllByRecursion (λ c. AreWithin n (literals_of c)) cs
     → ((clause : List Literal) → Contains (clauses_of cs) clause → AreWithin n clause → clause_met v clause ≡ true) → ((parity : List Literal) → Contains (parities_of cs) parity → AreWithin n parity → parity_met v parity ≡ true)
-    → list_all (constraint_met v) cs ≡ true
-unfolding clauses_of parities_of
-all_constraints n v [] w f g = refl
-all_constraints n v (constraint.Clause lits ∷ cs) w f g = and_from _ _ (f lits (in_head lits (clauses_of cs)) w.0) (all_constraints n v cs w.1 (λ c k. f c (in_tail lits (clauses_of cs) c k)) g)
-all_constraints n v (constraint.Parity lits ∷ cs) w f g = and_from _ _ (g lits (in_head lits (parities_of cs)) w.0) (all_constraints n v cs w.1 f (λ p k. g p (in_tail lits (parities_of cs) p k)))
+    → ((l : Literal) → has_literal (assumptions_of cs) l ≡ true → literal_true v l ≡ true) → list_all (constraint_met v) cs ≡ true
+unfolding clauses_of parities_of assumptions_of
+all_constraints n v [] w f g h = refl
+all_constraints n v (constraint.Clause lits ∷ cs) w f g h = and_from _ _ (f lits (in_head lits (clauses_of cs)) w.0) (all_constraints n v cs w.1 (λ c k. f c (in_tail lits (clauses_of cs) c k)) g h)
+all_constraints n v (constraint.Parity lits ∷ cs) w f g h = and_from _ _ (g lits (in_head lits (parities_of cs)) w.0) (all_constraints n v cs w.1 f (λ p k. g p (in_tail lits (parities_of cs) p k)) h)
+all_constraints n v (constraint.Assume lits ∷ cs) w f g h = and_from _ _ (all_by (literal_true v) lits (λ m k. h m (has_left lits (assumptions_of cs) m k))) (all_constraints n v cs w.1 f g (λ m k. h m (has_right lits (assumptions_of cs) m k)))
 
 -- where all variables are decided and both engines are quiet, the values of the trail meet the formula
 pub quiet_is_met : (formula : Problem) (parities : List (List Literal)) (table : Table) (known : List Literal) (values : List Bool)
     → AllByRecursion (λ c. AreWithin formula.variables (literals_of c)) formula.constraints
     → ((v : List Bool) → list_all (parity_met v) parities ≡ true → (parity : List Literal) → Contains (parities_of formula.constraints) parity → parity_met v parity ≡ true)
     → ((clause : List Literal) → IsClauseOf formula clause → Rattle.cx_semantics.specs.Fresh.IsLive table clause)
+    → ((l : Literal) → assumes formula.constraints l ≡ true → has_literal known l ≡ true)
     → Quiet formula.variables parities table known → Decides formula.variables known → length values ≡ formula.variables → list_all (literal_true values) known ≡ true → Meets formula values
-quiet_is_met formula parities table known values within theirs live q decides long agrees = record {
+quiet_is_met formula parities table known values within theirs live assumed q decides long agrees = record {
   one_each = long;
   all_met = all_constraints formula.variables values formula.constraints within
       (λ clause c w. clause_holds formula.variables known decides values clause agrees w (q.clauses clause (live clause c)).not_falsified)
-      (λ parity c w. parity_agrees formula.variables known decides values q.rows.consistent.0 agrees q.rows.consistent.1.agrees parity w ∙ theirs q.rows.consistent.0 q.rows.consistent.1.meets parity c);
+      (λ parity c w. parity_agrees formula.variables known decides values q.rows.consistent.0 agrees q.rows.consistent.1.agrees parity w ∙ theirs q.rows.consistent.0 q.rows.consistent.1.meets parity c)
+      (λ l h. true_by_all values known l agrees (assumed l h));
 }
 
 -- ---- logs at the end
@@ -107,7 +112,7 @@ module _ (formula : Problem) (parities : List (List Literal)) (s : Search) (ok :
   is_marked = record { marks = ok.log.marks; originals = ok.log.originals; last = s.moment; fit = ok.log.fits; served = served }
 
   pub is_log_open : IsOpen (log_calculus formula) (filter_map step_of s.events)
-  is_log_open = (s.moment.tables, ok.log.runs)
+  is_log_open = (ok.log.apart, (s.moment.tables, ok.log.runs))
 
 -- ---- the search, where both engines are quiet
 module _ (formula : Problem) (parities : List (List Literal)) (s : Search) (ok : IsSearch formula parities s) (quiet : Quiet formula.variables parities s.moment.tables.clauses (all_held s.trail))
@@ -125,6 +130,6 @@ module _ (formula : Problem) (parities : List (List Literal)) (s : Search) (ok :
       (λ v h. all_theirs v settled.parities (λ parity c. theirs v h parity (settled.are parity c))) formula_live settled.settled quiet
 
   -- a full trail meets the formula
-  pub full_is_met : (values : List Bool) → AllByRecursion (λ c. AreWithin formula.variables (literals_of c)) formula.constraints → Decides formula.variables (all_held s.trail) → length values ≡ formula.variables
+  pub full_is_met : ((l : Literal) → assumes formula.constraints l ≡ true → has_literal (all_held s.trail) l ≡ true) → (values : List Bool) → AllByRecursion (λ c. AreWithin formula.variables (literals_of c)) formula.constraints → Decides formula.variables (all_held s.trail) → length values ≡ formula.variables
       → list_all (literal_true values) (all_held s.trail) ≡ true → Meets formula values
-  full_is_met values within decides long agrees = quiet_is_met formula parities s.moment.tables.clauses (all_held s.trail) values within (λ v h parity c. theirs v h parity (inl c)) formula_live quiet decides long agrees
+  full_is_met assumed values within decides long agrees = quiet_is_met formula parities s.moment.tables.clauses (all_held s.trail) values within (λ v h parity c. theirs v h parity (inl c)) formula_live assumed quiet decides long agrees

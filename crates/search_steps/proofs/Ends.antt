@@ -1,5 +1,5 @@
 -- A step that ends the log: the log is right to its end, the marks are as before, and nothing meets the formula.
-use Rattle.std.proofs.Common.{◌≡◌, refl, sym, ap, ◌∙◌, subst, ℕ, ℤ, true, false, not, ◌||◌, MatchBool, List, [], ◌∷◌, ◌++◌, length, Some, is_some, true≢false, length-append, append-nil}
+use Rattle.std.proofs.Common.{◌≡◌, refl, sym, ap, ◌∙◌, subst, ℕ, ℤ, true, false, not, ◌||◌, MatchBool, List, [], ◌∷◌, ◌++◌, length, Some, is_some, true≢false, length-append, append-nil, inl, inr}
 use Rattle.std.proofs.lemmas.List.Elements.{filter_map-append}
 use Rattle.std.specs.List.{list_all, cons_option}
 use Rattle.std.proofs.lemmas.Bool.{and_parts}
@@ -11,13 +11,16 @@ use Rattle.cx_base.specs.declared.steps.LogEvent.{LogEvent}
 use Rattle.cx_base.specs.declared.steps.LogEvent.TheVariants.{Step}
 use Rattle.cx_semantics.specs.Implied.{Implies}
 use Rattle.cx_base.specs.Integers.{literals}
-use Rattle.cx_semantics.specs.Judging.{IsRight}
-use Rattle.cx_semantics.specs.LogRules.{log_calculus, HasChain, derives_empty_clause}
+use Rattle.cx_base.specs.Assumptions.{IsFailed}
+use Rattle.cx_semantics.specs.Chain.{negations}
+use Rattle.cx_semantics.specs.Judging.{IsRight, EndsAt}
+use Rattle.cx_semantics.specs.LogRules.{log_calculus, HasChain, derived_clause, derives_ending_clause}
 use Rattle.cx_base.specs.Events.{steps_of, step_of}
 use Rattle.cx_semantics.specs.Marked.{Marked, StepFits, IsLearned, IsKnown, first_moment, after_event, mark_of}
 use Rattle.cx_semantics.specs.ProofRules.{all_met}
 use Rattle.cx_semantics.specs.Tables.{get, named}
 use Rattle.cx_semantics.proofs.MarkedLaws.{events_go_on}
+use Rattle.cx_semantics.proofs.FailingLaws.{ended_steps_fail}
 use Rattle.cx_semantics.proofs.Soundness.{right_steps_are_unmet}
 use Rattle.search_steps.specs.Search.{Search, IsSearch}
 use Rattle.search_steps.specs.LogSteps.{IsAddition, IsEnded, IsClauseOfRow}
@@ -25,12 +28,14 @@ use Rattle.search_steps.proofs.LogLaws.{begins_still}
 
 -- a log that is right to its end shows that no values meet the formula
 pub ended_is_unmet : (formula : Problem) (events : List LogEvent) → IsEnded formula events → Unmet formula
-ended_is_unmet formula events e = right_steps_are_unmet formula (steps_of events) (length (steps_of events)) e
+ended_is_unmet formula events (inl clash) = right_steps_are_unmet formula (steps_of events) 0 (inl (clash, refl))
+ended_is_unmet formula events (inr ended) = right_steps_are_unmet formula (steps_of events) (length (steps_of events)) (inr ended)
 
 module _ (formula : Problem) (parities : List (List Literal)) (s : Search) (ok : IsSearch formula parities s) where
   -- a right step that ends the log
-  pub last_step_ends : (step : LogStep) → IsRight (log_calculus formula) s.moment.tables step → derives_empty_clause step ≡ true → IsEnded formula (s.events ++ Step step ∷ [])
-  last_step_ends step is_right ends = record {
+  last_step_there : (step : LogStep) → IsRight (log_calculus formula) s.moment.tables step → derives_ending_clause formula step ≡ true
+      → EndsAt (log_calculus formula) (steps_of (s.events ++ Step step ∷ [])) (length (steps_of (s.events ++ Step step ∷ [])))
+  last_step_there step is_right ends = record {
     before = steps_of s.events;
     step = step;
     later = [];
@@ -45,8 +50,16 @@ module _ (formula : Problem) (parities : List (List Literal)) (s : Search) (ok :
       split : steps_of (s.events ++ Step step ∷ []) ≡ steps_of s.events ++ step ∷ []
       split = filter_map-append step_of s.events (Step step ∷ [])
 
+  pub last_step_ends : (step : LogStep) → IsRight (log_calculus formula) s.moment.tables step → derives_ending_clause formula step ≡ true → IsEnded formula (s.events ++ Step step ∷ [])
+  last_step_ends step is_right ends = inr (ok.log.apart, last_step_there step is_right ends)
+
+  -- what it shows
+  pub last_step_fails : (step : LogStep) → IsRight (log_calculus formula) s.moment.tables step → derives_ending_clause formula step ≡ true → IsFailed formula (negations (derived_clause step))
+  unfolding last_step_there
+  last_step_fails step is_right ends = ended_steps_fail formula (steps_of (s.events ++ Step step ∷ [])) (length (steps_of (s.events ++ Step step ∷ []))) (last_step_there step is_right ends)
+
   -- and the marks are those of before
-  pub last_step_is_marked : (step : LogStep) → StepFits s.moment step → (after_event s.moment (Step step)).awaits ≡ false → Marked formula (s.events ++ Step step ∷ []) s.conflicts
+  pub last_step_is_marked : (step : LogStep) → StepFits formula s.moment step → (after_event s.moment (Step step)).awaits ≡ false → Marked formula (s.events ++ Step step ∷ []) s.conflicts
   last_step_is_marked step fits served = record {
     marks = filter_map-append mark_of s.events (Step step ∷ []) ∙ append-nil _ ∙ ok.log.marks;
     originals = begins_still formula.constraints s.events (Step step ∷ []) ok.log.originals;
@@ -56,22 +69,34 @@ module _ (formula : Problem) (parities : List (List Literal)) (s : Search) (ok :
   }
 
   -- a clause by a right chain, while no clause is owed
-  pub chained_clause_ends : (n : ℕ) (zs hints : List ℤ) → IsAddition formula s.moment.tables.clauses n zs → HasChain s.moment.tables.clauses (literals zs) → derives_empty_clause (ClauseWithHints n zs hints) ≡ true
+  pub chained_clause_ends : (n : ℕ) (zs hints : List ℤ) → IsAddition formula s.moment.tables.clauses n zs → HasChain s.moment.tables.clauses (literals zs) → derives_ending_clause formula (ClauseWithHints n zs hints) ≡ true
       → IsEnded formula (s.events ++ Step (ClauseWithHints n zs hints) ∷ [])
   chained_clause_ends n zs hints a has_chain ends = last_step_ends (ClauseWithHints n zs hints) (a.within, (ap is_some a.free, (has_chain, tt))) ends
 
-  pub chained_clause_is_marked : (n : ℕ) (zs hints : List ℤ) → s.moment.awaits ≡ false → derives_empty_clause (ClauseWithHints n zs hints) ≡ true → Marked formula (s.events ++ Step (ClauseWithHints n zs hints) ∷ []) s.conflicts
+  pub chained_clause_fails : (n : ℕ) (zs hints : List ℤ) → IsAddition formula s.moment.tables.clauses n zs → HasChain s.moment.tables.clauses (literals zs) → derives_ending_clause formula (ClauseWithHints n zs hints) ≡ true
+      → IsFailed formula (negations (literals zs))
+  chained_clause_fails n zs hints a has_chain ends = last_step_fails (ClauseWithHints n zs hints) (a.within, (ap is_some a.free, (has_chain, tt))) ends
+
+  pub chained_clause_is_marked : (n : ℕ) (zs hints : List ℤ) → s.moment.awaits ≡ false → derives_ending_clause formula (ClauseWithHints n zs hints) ≡ true → Marked formula (s.events ++ Step (ClauseWithHints n zs hints) ∷ []) s.conflicts
   chained_clause_is_marked n zs hints served ends = last_step_is_marked (ClauseWithHints n zs hints)
-      (subst (λ b. MatchBool b (IsLearned s.moment (literals zs)) (derives_empty_clause (ClauseWithHints n zs hints) ≡ false → IsKnown s.moment (literals zs))) (sym served) (λ e. absurd (true≢false (sym ends ∙ e))))
+      (subst (λ b. MatchBool b (IsLearned s.moment (literals zs)) (derives_ending_clause formula (ClauseWithHints n zs hints) ≡ false → IsKnown s.moment (literals zs))) (sym served) (λ e. absurd (true≢false (sym ends ∙ e))))
       refl
 
   -- the clause of a row
-  pub row_clause_ends : (n : ℕ) (zs : List ℤ) (source : ℕ) (row : List Literal) → IsAddition formula s.moment.tables.clauses n zs → get s.moment.tables.parities source ≡ Some row
-      → IsClauseOfRow formula.variables row (literals zs) → derives_empty_clause (ClauseOfParity n zs source) ≡ true → IsEnded formula (s.events ++ Step (ClauseOfParity n zs source) ∷ [])
-  row_clause_ends n zs source row a live c ends = last_step_ends (ClauseOfParity n zs source) (a.within, (ap is_some a.free, (ap (λ b. not b || false) (ap is_some live), (implied, tt)))) ends
+  row_clause_is_right : (n : ℕ) (zs : List ℤ) (source : ℕ) (row : List Literal) → IsAddition formula s.moment.tables.clauses n zs → get s.moment.tables.parities source ≡ Some row
+      → IsClauseOfRow formula.variables row (literals zs) → IsRight (log_calculus formula) s.moment.tables (ClauseOfParity n zs source)
+  row_clause_is_right n zs source row a live c = (a.within, (ap is_some a.free, (ap (λ b. not b || false) (ap is_some live), (implied, tt))))
     where
       implied : Implies (all_met parity_met (named s.moment.tables.parities (source ∷ []))) (λ values. clause_met values (literals zs))
       implied values h = c.implied values (and_parts (parity_met values row) true (ap (λ o. list_all (parity_met values) (cons_option o [])) (sym live) ∙ h)).0
+
+  pub row_clause_ends : (n : ℕ) (zs : List ℤ) (source : ℕ) (row : List Literal) → IsAddition formula s.moment.tables.clauses n zs → get s.moment.tables.parities source ≡ Some row
+      → IsClauseOfRow formula.variables row (literals zs) → derives_ending_clause formula (ClauseOfParity n zs source) ≡ true → IsEnded formula (s.events ++ Step (ClauseOfParity n zs source) ∷ [])
+  row_clause_ends n zs source row a live c ends = last_step_ends (ClauseOfParity n zs source) (row_clause_is_right n zs source row a live c) ends
+
+  pub row_clause_fails : (n : ℕ) (zs : List ℤ) (source : ℕ) (row : List Literal) → IsAddition formula s.moment.tables.clauses n zs → get s.moment.tables.parities source ≡ Some row
+      → IsClauseOfRow formula.variables row (literals zs) → derives_ending_clause formula (ClauseOfParity n zs source) ≡ true → IsFailed formula (negations (literals zs))
+  row_clause_fails n zs source row a live c ends = last_step_fails (ClauseOfParity n zs source) (row_clause_is_right n zs source row a live c) ends
 
   pub row_clause_is_marked : (n : ℕ) (zs : List ℤ) (source : ℕ) (row : List Literal) → s.moment.awaits ≡ false → get s.moment.tables.parities source ≡ Some row → IsClauseOfRow formula.variables row (literals zs)
       → Marked formula (s.events ++ Step (ClauseOfParity n zs source) ∷ []) s.conflicts

@@ -9,7 +9,7 @@ use Rattle.cx_base.proofs.Elements.{all_append}
 use Rattle.cx_base.specs.declared.steps.LogStep.TheVariants.{ClauseWithHints, Parity, ClauseOfParity, ParityOfClauses, Delete}
 use Rattle.cx_base.specs.declared.steps.LogEvent.TheVariants.{Step}
 use Rattle.cx_base.specs.Integers.{literals}
-use Rattle.cx_semantics.specs.LogRules.{HasChain, derives_empty_clause}
+use Rattle.cx_semantics.specs.LogRules.{HasChain, derives_ending_clause}
 use Rattle.cx_semantics.specs.Marked.{Moment, after_event, is_among, without}
 use Rattle.cx_semantics.specs.Tables.{Table, get}
 use Rattle.cx_semantics.proofs.Lookups.{Looks-insert, Looks-remove}
@@ -271,7 +271,7 @@ module _ (formula : Problem) (bound next row_next : ℕ) (s : Search) (i : IsRan
 
   -- so with ranges a round asks nothing more of ids
   pub ranged_round_keeps : (parities : List (List Literal)) → IsSearch formula parities s → (l : Literal) → IsServed s → s.quiet_levels ≡ level_of s.trail → IsAddition formula s.moment.tables.clauses n zs
-      → derives_empty_clause (ClauseWithHints n zs hints) ≡ false → HasChain s.moment.tables.clauses (literals zs) → IsLearnedOf s.trail back (literals zs) l → IsSearch formula parities (after_round s n zs hints back l)
+      → derives_ending_clause formula (ClauseWithHints n zs hints) ≡ false → HasChain s.moment.tables.clauses (literals zs) → IsLearnedOf s.trail back (literals zs) l → IsSearch formula parities (after_round s n zs hints back l)
   ranged_round_keeps parities ok l served levels a goes has_chain learned = round_keeps formula parities s ok n zs hints back l served levels a goes has_chain learned
       (row_ids_are_temporary formula bound (n + 1) row_next (after_learned s n zs hints back) learned_ranged s.moment.new_clauses i.new_rows)
       (low_is_no_row formula bound next row_next s i n high)

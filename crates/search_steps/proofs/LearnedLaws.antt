@@ -11,7 +11,7 @@ use Rattle.cx_semantics.proofs.Closure.{has_by_inside}
 use Rattle.cx_semantics.proofs.SameSets.{HaveSame-by_test, AllSame, chain_stays_right}
 use Rattle.cx_semantics.proofs.Members.{has_at_head, has_behind, has_split}
 use Rattle.cx_trail.specs.Sequence.{TrailState, IsTrail as IsCodeTrail}
-use Rattle.conflict_learn.specs.Learning.{IsLearned, AreAntecedents, negated_at, level_at, literal_at, has_place, IsFalling}
+use Rattle.conflict_learn.specs.Learning.{IsLearned, Follows, AreAntecedents, negated_at, level_at, literal_at, has_place, IsFalling}
 use Rattle.conflict_learn.specs.Levels.{Teaches, second, levels_at}
 use Rattle.conflict_learn.proofs.ChainOfResolutions.{served_is_chain, by_cases}
 use Rattle.conflict_learn.proofs.AnalyseLaws.{negated_from, place_here, place_split}
@@ -46,13 +46,16 @@ sources_live table trail conflict holds now h [] (c ∷ cs) a = absurd a
 sources_live table trail conflict holds now h (l ∷ ls) [] a = absurd a
 sources_live table trail conflict holds now h (l ∷ ls) (c ∷ cs) a = (h c a.0, sources_live table trail conflict holds now h ls cs a.2)
 
-pub learned_has_chain : (table : Table) (trail : TrailState) (conflict : List Literal) (holds : List Literal → Type 0) (resolved lits : List Literal)
-    → IsLiveSet table conflict → ((c : List Literal) → holds c → IsLiveSet table c) → IsLearned trail conflict holds resolved lits → HasChain table lits
-learned_has_chain table trail conflict holds resolved lits now h learned =
-    let f = learned.follows in
+pub followed_has_chain : (table : Table) (trail : TrailState) (conflict : List Literal) (holds : List Literal → Type 0) (resolved lits : List Literal)
+    → IsLiveSet table conflict → ((c : List Literal) → holds c → IsLiveSet table c) → Follows trail conflict holds resolved lits → HasChain table lits
+followed_has_chain table trail conflict holds resolved lits now h f =
     let clauses = f.0 ++ conflict ∷ [] in
     let r = all_named table clauses (sources_live table trail conflict holds now h (reverse resolved) f.0 f.1) in
     (r.ids, r.live, chain_stays_right lits lits clauses (named table r.ids) (λ l. refl) r.same (served_is_chain lits clauses f.2))
+
+pub learned_has_chain : (table : Table) (trail : TrailState) (conflict : List Literal) (holds : List Literal → Type 0) (resolved lits : List Literal)
+    → IsLiveSet table conflict → ((c : List Literal) → holds c → IsLiveSet table c) → IsLearned trail conflict holds resolved lits → HasChain table lits
+learned_has_chain table trail conflict holds resolved lits now h learned = followed_has_chain table trail conflict holds resolved lits now h learned.follows
 
 -- ---- the clause
 below_first : (P : ℕ → Type 0) (ps : List ℕ) (q : ℕ) → AllByRecursion P ps → has_place ps q ≡ true → P q

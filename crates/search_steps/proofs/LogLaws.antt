@@ -16,7 +16,7 @@ use Rattle.cx_semantics.specs.Fresh.{Fresh, IsLive, KeepsUnits, FalsifiesNone, i
 use Rattle.cx_semantics.specs.Implied.{Implies}
 use Rattle.cx_base.specs.Integers.{literals}
 use Rattle.cx_semantics.specs.Judging.{IsRight, Runs}
-use Rattle.cx_semantics.specs.LogRules.{log_calculus, after_log_step, derives_empty_clause, HasChain, AreLive}
+use Rattle.cx_semantics.specs.LogRules.{log_calculus, after_log_step, derives_ending_clause, HasChain, AreLive}
 use Rattle.cx_base.specs.Events.{step_of}
 use Rattle.cx_semantics.specs.Marked.{Moment, first_moment, after_event, StepFits, MarkFits, KeepsFormula, mark_of, BeginsWithOriginals, original_events, IsLearned, IsKnown, is_among, without}
 use Rattle.cx_semantics.specs.ProofRules.{all_met}
@@ -69,9 +69,10 @@ next_range n =
     ap (range_with_len 1) e ∙ range_push 1 n ∙ ap (λ x. range_with_len 1 n ++ x ∷ []) f
 
 module _ (formula : Problem) (events : List LogEvent) (moment : Moment) (conflicts : ℕ) (log : IsLog formula events moment conflicts) where
-  pub step_goes_on : (step : LogStep) → IsRight (log_calculus formula) moment.tables step → derives_empty_clause step ≡ false → StepFits moment step
+  pub step_goes_on : (step : LogStep) → IsRight (log_calculus formula) moment.tables step → derives_ending_clause formula step ≡ false → StepFits formula moment step
       → IsLog formula (events ++ Step step ∷ []) (after_event moment (Step step)) conflicts
   step_goes_on step is_right goes fits = record {
+    apart = log.apart;
     runs = subst (λ steps. Runs (log_calculus formula) (log_calculus formula).start steps (after_log_step moment.tables step)) (sym (filter_map-append step_of events (Step step ∷ [])))
         (runs_push (log_calculus formula) (log_calculus formula).start (filter_map step_of events) step moment.tables log.runs is_right goes);
     fits = events_go_on formula first_moment moment events (Step step) log.fits fits;
@@ -81,6 +82,7 @@ module _ (formula : Problem) (events : List LogEvent) (moment : Moment) (conflic
 
   pub mark_goes_on : MarkFits formula moment → IsLog formula (events ++ Conflict (conflicts + 1) ∷ []) (after_event moment (Conflict (conflicts + 1))) (conflicts + 1)
   mark_goes_on fits = record {
+    apart = log.apart;
     runs = subst (λ steps. Runs (log_calculus formula) (log_calculus formula).start steps moment.tables) (sym (filter_map-append step_of events (Conflict (conflicts + 1) ∷ []) ∙ append-nil (filter_map step_of events))) log.runs;
     fits = events_go_on formula first_moment moment events (Conflict (conflicts + 1)) log.fits fits;
     marks = filter_map-append mark_of events (Conflict (conflicts + 1) ∷ []) ∙ ap (λ xs. xs ++ (conflicts + 1) ∷ []) log.marks ∙ sym (next_range conflicts);
@@ -132,7 +134,7 @@ reached_is_known table l h f =
 
 -- ---- steps of the search
 module _ (formula : Problem) (parities : List (List Literal)) (s : Search) (ok : IsSearch formula parities s) where
-  tell : (step : LogStep) → IsRight (log_calculus formula) s.moment.tables step → derives_empty_clause step ≡ false → StepFits s.moment step
+  tell : (step : LogStep) → IsRight (log_calculus formula) s.moment.tables step → derives_ending_clause formula step ≡ false → StepFits formula s.moment step
       → Serves formula parities (after_log_step s.moment.tables step) s.trail s.quiet_levels → IsSearch formula parities (told s (Step step))
   tell step is_right goes fits serves = record { log = step_goes_on formula s.events s.moment s.conflicts ok.log step is_right goes fits; serves = serves }
 
@@ -140,7 +142,7 @@ module _ (formula : Problem) (parities : List (List Literal)) (s : Search) (ok :
   not_live table n e = ap is_some e
 
   -- a unit clause of level 0
-  pub unit_keeps : (n : ℕ) (z : ℤ) (hints : List ℤ) (older : List Entry) (clause : List Literal) → IsAddition formula s.moment.tables.clauses n (z ∷ []) → derives_empty_clause (ClauseWithHints n (z ∷ []) hints) ≡ false → s.moment.awaits ≡ false
+  pub unit_keeps : (n : ℕ) (z : ℤ) (hints : List ℤ) (older : List Entry) (clause : List Literal) → IsAddition formula s.moment.tables.clauses n (z ∷ []) → derives_ending_clause formula (ClauseWithHints n (z ∷ []) hints) ≡ false → s.moment.awaits ≡ false
       → IsTrail s.moment.tables.clauses (IsOfParities formula.variables parities) older
       → IsUnitOf s (Rattle.cx_base.specs.Integers.literal z) older clause → IsSearch formula parities (told s (Step (ClauseWithHints n (z ∷ []) hints)))
   unit_keeps n z hints older clause a goes served t u =
@@ -149,7 +151,7 @@ module _ (formula : Problem) (parities : List (List Literal)) (s : Search) (ok :
       tell (ClauseWithHints n (z ∷ []) hints)
       (a.within, (not_live s.moment.tables.clauses n a.free, (forced_has_chain s.moment.tables.clauses IsRow older t u.on_clauses clause u.live l u.forces, tt)))
       goes
-      (subst (λ b. MatchBool b (IsLearned s.moment (l ∷ [])) (derives_empty_clause (ClauseWithHints n (z ∷ []) hints) ≡ false → IsKnown s.moment (l ∷ []))) (sym served)
+      (subst (λ b. MatchBool b (IsLearned s.moment (l ∷ [])) (derives_ending_clause formula (ClauseWithHints n (z ∷ []) hints) ≡ false → IsKnown s.moment (l ∷ []))) (sym served)
       (λ _. inl (refl, reached_is_known s.moment.tables.clauses l (forced_is_reached s.moment.tables.clauses IsRow older t u.on_clauses clause u.live l u.forces))))
       (put_serves formula parities s.trail s.quiet_levels s.moment.tables n (l ∷ []) a.free
       (λ k h. true_rests (held k s.trail) (l ∷ [])
@@ -170,7 +172,7 @@ module _ (formula : Problem) (parities : List (List Literal)) (s : Search) (ok :
 
   -- the clause of a row, where the sum of the row is live
   pub row_clause_keeps : (n : ℕ) (zs : List ℤ) (source : ℕ) (row : List Literal) → IsAddition formula s.moment.tables.clauses n zs → get s.moment.tables.parities source ≡ Some row
-      → IsOfParities formula.variables parities (literals zs) → IsClauseOfRow formula.variables row (literals zs) → derives_empty_clause (ClauseOfParity n zs source) ≡ false → IsSearch formula parities (told s (Step (ClauseOfParity n zs source)))
+      → IsOfParities formula.variables parities (literals zs) → IsClauseOfRow formula.variables row (literals zs) → derives_ending_clause formula (ClauseOfParity n zs source) ≡ false → IsSearch formula parities (told s (Step (ClauseOfParity n zs source)))
   row_clause_keeps n zs source row a live of_parities c goes = tell (ClauseOfParity n zs source)
       (a.within, (not_live s.moment.tables.clauses n a.free, (ap (λ b. not b || false) (ap is_some live), (implied, tt))))
       goes
@@ -183,14 +185,14 @@ module _ (formula : Problem) (parities : List (List Literal)) (s : Search) (ok :
           (ap (λ o. list_all (parity_met values) (Rattle.std.specs.List.cons_option o [])) (sym live) ∙ h)).0
 
   -- a learned clause, where one is owed
-  pub learned_keeps : (n : ℕ) (zs hints : List ℤ) (back : ℕ) (l : Literal) → IsAddition formula s.moment.tables.clauses n zs → derives_empty_clause (ClauseWithHints n zs hints) ≡ false → s.moment.awaits ≡ true → s.quiet_levels ≡ level_of s.trail
+  pub learned_keeps : (n : ℕ) (zs hints : List ℤ) (back : ℕ) (l : Literal) → IsAddition formula s.moment.tables.clauses n zs → derives_ending_clause formula (ClauseWithHints n zs hints) ≡ false → s.moment.awaits ≡ true → s.quiet_levels ≡ level_of s.trail
       → HasChain s.moment.tables.clauses (literals zs) → IsLearnedOf s.trail back (literals zs) l
       → IsSearch formula parities (record (told s (Step (ClauseWithHints n zs hints))) { quiet_levels = back })
   learned_keeps n zs hints back l a goes owed levels has_chain learned = record {
     log = step_goes_on formula s.events s.moment s.conflicts ok.log (ClauseWithHints n zs hints)
         (a.within, (not_live s.moment.tables.clauses n a.free, (has_chain, tt)))
         goes
-        (subst (λ b. MatchBool b (IsLearned s.moment (literals zs)) (derives_empty_clause (ClauseWithHints n zs hints) ≡ false → IsKnown s.moment (literals zs))) (sym owed)
+        (subst (λ b. MatchBool b (IsLearned s.moment (literals zs)) (derives_ending_clause formula (ClauseWithHints n zs hints) ≡ false → IsKnown s.moment (literals zs))) (sym owed)
         (long zs learned.asserting.has_it, learned_is_fresh formula parities s ok back (literals zs) l levels learned));
     serves = put_serves formula parities s.trail back s.moment.tables n (literals zs) a.free
         (Rattle.search_steps.proofs.ServesLaws.learned_rests formula parities s ok back (literals zs) l learned)

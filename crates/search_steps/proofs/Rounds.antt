@@ -7,7 +7,7 @@ use Rattle.cx_base.specs.declared.steps.LogStep.TheVariants.{ClauseWithHints, De
 use Rattle.cx_base.specs.declared.steps.LogEvent.TheVariants.{Step}
 use Rattle.cx_semantics.specs.Chain.{has_literal}
 use Rattle.cx_base.specs.Integers.{literals}
-use Rattle.cx_semantics.specs.LogRules.{HasChain, derives_empty_clause}
+use Rattle.cx_semantics.specs.LogRules.{HasChain, derives_ending_clause}
 use Rattle.cx_semantics.specs.Marked.{without, is_among}
 use Rattle.cx_semantics.specs.Tables.{Table, get}
 use Rattle.cx_semantics.proofs.Lookups.{Looks-insert, Looks-remove}
@@ -103,7 +103,7 @@ module _ (table : Table) (IsRow : List Literal → Type 0) (s : Search) (t : IsT
 -- ---- the round
 module _ (formula : Problem) (parities : List (List Literal)) (s : Search) (ok : IsSearch formula parities s) (n : ℕ) (zs hints : List ℤ) (back : ℕ) (l : Literal) where
   -- The mark, the learned clause, the deletion of what is temporary, the jump back, and the literal that the clause forces.
-  pub round_keeps : IsServed s → s.quiet_levels ≡ level_of s.trail → IsAddition formula s.moment.tables.clauses n zs → derives_empty_clause (ClauseWithHints n zs hints) ≡ false → HasChain s.moment.tables.clauses (literals zs) → IsLearnedOf s.trail back (literals zs) l
+  pub round_keeps : IsServed s → s.quiet_levels ≡ level_of s.trail → IsAddition formula s.moment.tables.clauses n zs → derives_ending_clause formula (ClauseWithHints n zs hints) ≡ false → HasChain s.moment.tables.clauses (literals zs) → IsLearnedOf s.trail back (literals zs) l
       → AreTemporary formula (after_learned s n zs hints back) s.moment.new_clauses → is_among s.moment.new_clauses n ≡ false → IsSearch formula parities (after_round s n zs hints back l)
   round_keeps served levels a goes has_chain learned temporary apart =
       let IsRow = IsOfParities formula.variables parities in

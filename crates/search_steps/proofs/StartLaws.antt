@@ -5,6 +5,7 @@ use Rattle.std.proofs.lemmas.List.Elements.{filter_map-append}
 use Rattle.std.specs.List.{list_any}
 use Rattle.std.specs.FinMap as map_
 use Rattle.cx_base.specs.Literals.{Literal}
+use Rattle.cx_base.specs.Assumptions.{clashes}
 use Rattle.cx_base.specs.Problem.{Problem, clauses_of, parities_of, AreWithin}
 use Rattle.cx_base.specs.declared.constraint.Constraint.{Constraint}
 use Rattle.cx_base.specs.declared.constraint.Constraint.TheVariants as constraint
@@ -97,6 +98,7 @@ clause_told n k [] lits = ap (λ id. Step (Original id (integers_of lits)) ∷ [
 clause_told n k (constraint.Clause x ∷ taken) lits =
     ap (λ es. Step (Original n (integers_of x)) ∷ es) (clause_told (n + 1) k taken lits ∙ ap (λ id. original_events (n + 1) k taken ++ Step (Original id (integers_of lits)) ∷ []) (let e : n + 1 + length (clauses_of taken) ≡ n + (suc (length (clauses_of taken))) = omega arith in e))
 clause_told n k (constraint.Parity x ∷ taken) lits = ap (λ es. Step (OriginalParity k (integers_of x)) ∷ es) (clause_told n (k + 1) taken lits)
+clause_told n k (constraint.Assume x ∷ taken) lits = clause_told n k taken lits
 
 parity_told : (n k : ℕ) (taken : List Constraint) (lits : List Literal)
     → original_events n k (taken ++ constraint.Parity lits ∷ []) ≡ original_events n k taken ++ Step (OriginalParity (k + length (parities_of taken)) (integers_of lits)) ∷ []
@@ -105,30 +107,55 @@ parity_told n k [] lits = ap (λ id. Step (OriginalParity id (integers_of lits))
 parity_told n k (constraint.Clause x ∷ taken) lits = ap (λ es. Step (Original n (integers_of x)) ∷ es) (parity_told (n + 1) k taken lits)
 parity_told n k (constraint.Parity x ∷ taken) lits =
     ap (λ es. Step (OriginalParity k (integers_of x)) ∷ es) (parity_told n (k + 1) taken lits ∙ ap (λ id. original_events n (k + 1) taken ++ Step (OriginalParity id (integers_of lits)) ∷ []) (let e : k + 1 + length (parities_of taken) ≡ k + (suc (length (parities_of taken))) = omega arith in e))
+parity_told n k (constraint.Assume x ∷ taken) lits = parity_told n k taken lits
+
+none_told : (n k : ℕ) (taken : List Constraint) (lits : List Literal) → original_events n k (taken ++ constraint.Assume lits ∷ []) ≡ original_events n k taken
+none_told n k [] lits = refl
+none_told n k (constraint.Clause x ∷ taken) lits = ap (λ es. Step (Original n (integers_of x)) ∷ es) (none_told (n + 1) k taken lits)
+none_told n k (constraint.Parity x ∷ taken) lits = ap (λ es. Step (OriginalParity k (integers_of x)) ∷ es) (none_told n (k + 1) taken lits)
+none_told n k (constraint.Assume x ∷ taken) lits = none_told n k taken lits
 
 clauses_push : (taken : List Constraint) (lits : List Literal) → clauses_of (taken ++ constraint.Clause lits ∷ []) ≡ clauses_of taken ++ lits ∷ []
 unfolding clauses_of
 clauses_push [] lits = refl
 clauses_push (constraint.Clause x ∷ taken) lits = ap (λ xs. x ∷ xs) (clauses_push taken lits)
 clauses_push (constraint.Parity x ∷ taken) lits = clauses_push taken lits
+clauses_push (constraint.Assume x ∷ taken) lits = clauses_push taken lits
 
 parities_same : (taken : List Constraint) (lits : List Literal) → parities_of (taken ++ constraint.Clause lits ∷ []) ≡ parities_of taken
 unfolding parities_of
 parities_same [] lits = refl
 parities_same (constraint.Clause x ∷ taken) lits = parities_same taken lits
 parities_same (constraint.Parity x ∷ taken) lits = ap (λ xs. x ∷ xs) (parities_same taken lits)
+parities_same (constraint.Assume x ∷ taken) lits = parities_same taken lits
 
 clauses_same : (taken : List Constraint) (lits : List Literal) → clauses_of (taken ++ constraint.Parity lits ∷ []) ≡ clauses_of taken
 unfolding clauses_of
 clauses_same [] lits = refl
 clauses_same (constraint.Clause x ∷ taken) lits = ap (λ xs. x ∷ xs) (clauses_same taken lits)
 clauses_same (constraint.Parity x ∷ taken) lits = clauses_same taken lits
+clauses_same (constraint.Assume x ∷ taken) lits = clauses_same taken lits
 
 parities_push : (taken : List Constraint) (lits : List Literal) → parities_of (taken ++ constraint.Parity lits ∷ []) ≡ parities_of taken ++ lits ∷ []
 unfolding parities_of
 parities_push [] lits = refl
 parities_push (constraint.Clause x ∷ taken) lits = parities_push taken lits
 parities_push (constraint.Parity x ∷ taken) lits = ap (λ xs. x ∷ xs) (parities_push taken lits)
+parities_push (constraint.Assume x ∷ taken) lits = parities_push taken lits
+
+clauses_stay : (taken : List Constraint) (lits : List Literal) → clauses_of (taken ++ constraint.Assume lits ∷ []) ≡ clauses_of taken
+unfolding clauses_of
+clauses_stay [] lits = refl
+clauses_stay (constraint.Clause x ∷ taken) lits = ap (λ xs. x ∷ xs) (clauses_stay taken lits)
+clauses_stay (constraint.Parity x ∷ taken) lits = clauses_stay taken lits
+clauses_stay (constraint.Assume x ∷ taken) lits = clauses_stay taken lits
+
+parities_stay : (taken : List Constraint) (lits : List Literal) → parities_of (taken ++ constraint.Assume lits ∷ []) ≡ parities_of taken
+unfolding parities_of
+parities_stay [] lits = refl
+parities_stay (constraint.Clause x ∷ taken) lits = parities_stay taken lits
+parities_stay (constraint.Parity x ∷ taken) lits = ap (λ xs. x ∷ xs) (parities_stay taken lits)
+parities_stay (constraint.Assume x ∷ taken) lits = parities_stay taken lits
 
 same_one : (formula : Problem) (lits : List Literal) → Contains (clauses_of formula.constraints) lits → is_original formula lits ≡ true
 same_one formula lits c = go (clauses_of formula.constraints) c
@@ -191,6 +218,24 @@ module _ (formula : Problem) (taken : List Constraint) (s : Search) (b : IsBegun
         tidy = record { served = b.tidy.served; no_old_clauses = b.tidy.no_old_clauses; no_new_clauses = b.tidy.no_new_clauses; no_old_sums = b.tidy.no_old_sums; no_new_sums = b.tidy.no_new_sums; levels = b.tidy.levels };
       }
 
+-- an assumption constraint is not told
+pub assumption_begins : (formula : Problem) (taken : List Constraint) (s : Search) → IsBegun formula taken s → (lits : List Literal) → IsBegun formula (taken ++ constraint.Assume lits ∷ []) s
+assumption_begins formula taken s b lits = record {
+  runs = b.runs;
+  fits = b.fits;
+  marks = b.marks;
+  no_trail = b.no_trail;
+  no_level = b.no_level;
+  no_conflict = b.no_conflict;
+  no_learned = b.no_learned;
+  no_reduction = b.no_reduction;
+  not_reducing = b.not_reducing;
+  tidy = b.tidy;
+  originals = b.originals ∙ sym (none_told 1 1 taken lits);
+  clauses = subst (HasFirst s.moment.tables.clauses) (sym (clauses_stay taken lits)) b.clauses;
+  parities = subst (HasFirst s.moment.tables.parities) (sym (parities_stay taken lits)) b.parities;
+}
+
 pub nothing_is_begun : (formula : Problem) → IsBegun formula [] start
 unfolding clauses_of parities_of
 nothing_is_begun formula = record {
@@ -210,9 +255,9 @@ nothing_is_begun formula = record {
 }
 
 -- behind the last constraint the search holds
-pub begun_is_search : (formula : Problem) (s : Search) → IsBegun formula formula.constraints s → IsSearch formula (parities_of formula.constraints) s
-begun_is_search formula s b = record {
-  log = record { runs = b.runs; fits = b.fits; marks = b.marks ∙ ap (Rattle.std.specs.List.range_with_len 1) (sym b.no_conflict); originals = ([], b.originals ∙ sym (append-nil (original_events 1 1 formula.constraints))) };
+pub begun_is_search : (formula : Problem) (s : Search) → clashes formula.constraints ≡ false → IsBegun formula formula.constraints s → IsSearch formula (parities_of formula.constraints) s
+begun_is_search formula s apart b = record {
+  log = record { apart = apart; runs = b.runs; fits = b.fits; marks = b.marks ∙ ap (Rattle.std.specs.List.range_with_len 1) (sym b.no_conflict); originals = ([], b.originals ∙ sym (append-nil (original_events 1 1 formula.constraints))) };
   serves = record {
     stands = subst (Rattle.search_steps.specs.Trail.IsTrail s.moment.tables.clauses (Rattle.search_steps.specs.Quiet.IsOfParities formula.variables (parities_of formula.constraints))) (sym b.no_trail) tt;
     quiet = λ k h. let none = b.no_level in absurd (omega (arith, h, none));

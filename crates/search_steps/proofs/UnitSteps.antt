@@ -8,7 +8,7 @@ use Rattle.cx_base.specs.declared.steps.LogEvent.TheVariants.{Step}
 use Rattle.cx_semantics.specs.Chain.{has_literal}
 use Rattle.cx_semantics.specs.Fresh.{IsLive}
 use Rattle.cx_base.specs.Integers.{literal}
-use Rattle.cx_semantics.specs.LogRules.{derives_empty_clause}
+use Rattle.cx_semantics.specs.LogRules.{derives_ending_clause}
 use Rattle.cx_semantics.specs.Tables.{Table, get}
 use Rattle.cx_semantics.proofs.Lookups.{Looks-insert}
 use Rattle.cx_semantics.proofs.Members.{has_at_head, has_behind}
@@ -33,7 +33,7 @@ held_there k (x ∷ newer) older e h = go (nat_le x.level k) (held_there k newer
     go false r = r
 
 pub unit_rests_keeps : (formula : Problem) (parities : List (List Literal)) (s : Search) → IsSearch formula parities s → (n : ℕ) (z : ℤ) (hints : List ℤ) (newer older : List Entry) (e : Entry) → s.trail ≡ newer ++ e ∷ older → e.level ≡ 0 → literal z ≡ e.literal
-    → IsAddition formula s.moment.tables.clauses n (z ∷ []) → derives_empty_clause (ClauseWithHints n (z ∷ []) hints) ≡ false → s.moment.awaits ≡ false → RestOnClauses older → (clause : List Literal) → IsLive s.moment.tables.clauses clause → Forces clause (all_held older) e.literal
+    → IsAddition formula s.moment.tables.clauses n (z ∷ []) → derives_ending_clause formula (ClauseWithHints n (z ∷ []) hints) ≡ false → s.moment.awaits ≡ false → RestOnClauses older → (clause : List Literal) → IsLive s.moment.tables.clauses clause → Forces clause (all_held older) e.literal
     → IsSearch formula parities (unit_told s n z hints newer e older)
 unit_rests_keeps formula parities s ok n z hints newer older e same low is a goes served on_clauses clause live forces =
     let IsRow = IsOfParities formula.variables parities in

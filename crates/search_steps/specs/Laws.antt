@@ -2,6 +2,7 @@
 use Rattle.std.specs.Prelude.{◌≡◌, ℕ, ◌+◌, ◌*◌, ◌≤◌, ◌<◌, ℤ, Bool, not, List, [], ◌∷◌, ◌++◌, length, Option, Some, None, IsTrue, IsFalse, Contains}
 use Rattle.std.specs.List.{list_all, AllByRecursion}
 use Rattle.cx_base.specs.Literals.{Literal, literal_true}
+use Rattle.cx_base.specs.Assumptions.{assumes, clashes, IsFailed}
 use Rattle.cx_base.specs.Problem.{Problem, Meets, Unmet, clauses_of, parities_of, literals_of, parity_met, AreWithin}
 use Rattle.cx_base.specs.declared.constraint.Constraint.{Constraint}
 use Rattle.cx_base.specs.declared.constraint.Constraint.TheVariants as constraint
@@ -13,7 +14,7 @@ use Rattle.cx_semantics.specs.Chain.{has_literal, is_inside, negations, same_lit
 use Rattle.cx_semantics.specs.Fresh.{IsLive}
 use Rattle.cx_base.specs.Integers.{literal, literals, integers_of}
 use Rattle.cx_semantics.specs.Judging.{IsRight, IsOpen}
-use Rattle.cx_semantics.specs.LogRules.{log_calculus, derives_empty_clause, HasChain, IsOriginalParity}
+use Rattle.cx_semantics.specs.LogRules.{log_calculus, derived_clause, derives_ending_clause, HasChain, IsOriginalParity}
 use Rattle.cx_base.specs.Events.{steps_of}
 use Rattle.cx_semantics.specs.Marked.{Marked, after_event, is_among, without}
 use Rattle.cx_semantics.specs.Settled.{Decides}
@@ -21,6 +22,7 @@ use Rattle.cx_semantics.specs.Tables.{Table, Tables, get}
 use Rattle.cx_trail.specs.declared.entry.Entry.{Entry as TrailEntry}
 use Rattle.cx_trail.specs.declared.entry.Reason.{Reason}
 use Rattle.cx_trail.specs.Sequence.{TrailState, TakesBack, pushed, IsTrueIn, IsOpenIn}
+use Rattle.conflict_learn.specs.Final.{IsFinal}
 use Rattle.conflict_learn.specs.Learning.{IsAntecedent, IsLearned, IsOfLevel}
 use Rattle.conflict_learn.specs.Levels.{Teaches}
 use Rattle.parity_engine.specs.declared.event.ParityEvent.{ParityEvent}
@@ -70,9 +72,13 @@ OriginalParitiesAreTold =
     (formula : Problem) (taken : List Constraint) (s : Search) → IsBegun formula taken s → (lits : List Literal) → AreWithin formula.variables lits → IsOriginalParity formula lits
     → IsBegun formula (taken ++ constraint.Parity lits ∷ []) (told s (Step (OriginalParity (length (parities_of taken) + 1) (integers_of lits))))
 
--- behind the last constraint the search holds, with the parities of the formula
+-- an assumption constraint is not told
+abbrev pub AssumptionsAreNotTold : Type 0
+AssumptionsAreNotTold = (formula : Problem) (taken : List Constraint) (s : Search) → IsBegun formula taken s → (lits : List Literal) → IsBegun formula (taken ++ constraint.Assume lits ∷ []) s
+
+-- behind the last constraint the search holds, with the parities of the formula, where its assumptions don't clash
 abbrev pub BegunIsSearch : Type 0
-BegunIsSearch = (formula : Problem) (s : Search) → IsBegun formula formula.constraints s → IsSearch formula (parities_of formula.constraints) s
+BegunIsSearch = (formula : Problem) (s : Search) → IsFalse (clashes formula.constraints) → IsBegun formula formula.constraints s → IsSearch formula (parities_of formula.constraints) s
 
 -- a recovered parity joins the engine's, before the first decision
 abbrev pub RecoveredParitiesJoin : Type 0
@@ -130,7 +136,7 @@ SumsKeep = OfSearch (λ formula parities s.
 abbrev pub RowClausesKeep : Type 0
 RowClausesKeep = OfSearch (λ formula parities s.
     (n : ℕ) (zs : List ℤ) (source : ℕ) (row : List Literal) → IsAddition formula s.moment.tables.clauses n zs → get s.moment.tables.parities source ≡ Some row → IsOfParities formula.variables parities (literals zs)
-    → IsClauseOfRow formula.variables row (literals zs) → IsFalse (derives_empty_clause (ClauseOfParity n zs source)) → IsSearch formula parities (told s (Step (ClauseOfParity n zs source))))
+    → IsClauseOfRow formula.variables row (literals zs) → IsFalse (derives_ending_clause formula (ClauseOfParity n zs source)) → IsSearch formula parities (told s (Step (ClauseOfParity n zs source))))
 
 -- deleting a sum keeps the search, where its id is above the engine's parities
 abbrev pub SumDeletionsKeep : Type 0
@@ -141,7 +147,7 @@ SumDeletionsKeep = OfSearch (λ formula parities s.
 abbrev pub UnitsKeep : Type 0
 UnitsKeep = OfSearch (λ formula parities s.
     (n : ℕ) (z : ℤ) (hints : List ℤ) (newer older : List Entry) (e : Entry) → s.trail ≡ newer ++ e ∷ older → e.level ≡ 0 → literal z ≡ e.literal → IsAddition formula s.moment.tables.clauses n (z ∷ [])
-    → IsFalse (derives_empty_clause (ClauseWithHints n (z ∷ []) hints)) → IsFalse s.moment.awaits → RestOnClauses older → (clause : List Literal) → IsLive s.moment.tables.clauses clause → Forces clause (all_held older) e.literal
+    → IsFalse (derives_ending_clause formula (ClauseWithHints n (z ∷ []) hints)) → IsFalse s.moment.awaits → RestOnClauses older → (clause : List Literal) → IsLive s.moment.tables.clauses clause → Forces clause (all_held older) e.literal
     → IsSearch formula parities (unit_told s n z hints newer e older))
 
 -- the mark of a counted conflict keeps the search
@@ -152,7 +158,7 @@ MarksKeep = OfSearch (λ formula parities s.
 -- telling the learned clause keeps the search, where one is owed
 abbrev pub LearnedClausesKeep : Type 0
 LearnedClausesKeep = OfSearch (λ formula parities s.
-    (n : ℕ) (zs hints : List ℤ) (back : ℕ) (l : Literal) → IsAddition formula s.moment.tables.clauses n zs → IsFalse (derives_empty_clause (ClauseWithHints n zs hints)) → IsTrue s.moment.awaits → s.quiet_levels ≡ level_of s.trail
+    (n : ℕ) (zs hints : List ℤ) (back : ℕ) (l : Literal) → IsAddition formula s.moment.tables.clauses n zs → IsFalse (derives_ending_clause formula (ClauseWithHints n zs hints)) → IsTrue s.moment.awaits → s.quiet_levels ≡ level_of s.trail
     → HasChain s.moment.tables.clauses (literals zs) → IsLearnedOf s.trail back (literals zs) l → IsSearch formula parities (record (told s (Step (ClauseWithHints n zs hints))) { quiet_levels = back }))
 
 -- deleting temporary clauses one after another keeps the search
@@ -171,7 +177,7 @@ abbrev pub RoundsKeep : Type 0
 RoundsKeep =
     (formula : Problem) (bound next row_next : ℕ) (s : Search) → IsRanged formula bound next row_next s.trail s.moment → (n : ℕ) (zs hints : List ℤ) (back : ℕ) → next ≤ n → n < bound
     → (parities : List (List Literal)) → IsSearch formula parities s → (l : Literal) → IsServed s → s.quiet_levels ≡ level_of s.trail → IsAddition formula s.moment.tables.clauses n zs
-    → IsFalse (derives_empty_clause (ClauseWithHints n zs hints)) → HasChain s.moment.tables.clauses (literals zs) → IsLearnedOf s.trail back (literals zs) l → IsSearch formula parities (after_round s n zs hints back l)
+    → IsFalse (derives_ending_clause formula (ClauseWithHints n zs hints)) → HasChain s.moment.tables.clauses (literals zs) → IsLearnedOf s.trail back (literals zs) l → IsSearch formula parities (after_round s n zs hints back l)
 
 -- the reason of a row leaves no sum, and a search that may be marked stays so
 abbrev pub RowReasonsServe : Type 0
@@ -202,6 +208,11 @@ abbrev pub LearnedHasChain : Type 0
 LearnedHasChain =
     (table : Table) (trail : TrailState) (conflict resolved lits : List Literal) → IsLiveSet table conflict → IsLearned trail conflict (IsLiveSet table) resolved lits → HasChain table lits
 
+-- so has what is left of a clause whose literals were traced to decisions
+abbrev pub FinalHasChain : Type 0
+FinalHasChain =
+    (table : Table) (trail : TrailState) (below : ℕ) (kept : Option Literal) (clause resolved lits : List Literal) → IsLiveSet table clause → IsFinal trail below kept clause (IsLiveSet table) resolved lits → HasChain table lits
+
 -- a clause that forced an entry in the calculus is one that implied its literal on the code's trail
 abbrev pub ForcedIsImplied : Type 0
 ForcedIsImplied =
@@ -229,22 +240,22 @@ RowsAreOfParities =
 abbrev pub EndedIsUnmet : Type 0
 EndedIsUnmet = (formula : Problem) (events : List LogEvent) → IsEnded formula events → Unmet formula
 
--- a right step that ends a log makes it one that is right to its end
+-- a right step that ends a log makes it one that is right to its end; the negations of its clause's literals are assumed, and no values meet the clauses and parities with them
 abbrev pub LastStepsEnd : Type 0
 LastStepsEnd = OfSearch (λ formula parities s.
-    (step : LogStep) → IsRight (log_calculus formula) s.moment.tables step → IsTrue (derives_empty_clause step) → IsEnded formula (s.events ++ Step step ∷ []))
+    (step : LogStep) → IsRight (log_calculus formula) s.moment.tables step → IsTrue (derives_ending_clause formula step) → IsEnded formula (s.events ++ Step step ∷ []) × IsFailed formula (negations (derived_clause step)))
 
 -- so does a clause by a right chain, and the marks are as before where no clause is owed
 abbrev pub ChainedClausesEnd : Type 0
 ChainedClausesEnd = OfSearch (λ formula parities s.
-    (n : ℕ) (zs hints : List ℤ) → IsAddition formula s.moment.tables.clauses n zs → HasChain s.moment.tables.clauses (literals zs) → IsTrue (derives_empty_clause (ClauseWithHints n zs hints)) → IsFalse s.moment.awaits
+    (n : ℕ) (zs hints : List ℤ) → IsAddition formula s.moment.tables.clauses n zs → HasChain s.moment.tables.clauses (literals zs) → IsTrue (derives_ending_clause formula (ClauseWithHints n zs hints)) → IsFalse s.moment.awaits
     → IsEnded formula (s.events ++ Step (ClauseWithHints n zs hints) ∷ []) × Marked formula (s.events ++ Step (ClauseWithHints n zs hints) ∷ []) s.conflicts)
 
 -- so does the clause of a row, where its sum is live
 abbrev pub RowClausesEnd : Type 0
 RowClausesEnd = OfSearch (λ formula parities s.
     (n : ℕ) (zs : List ℤ) (source : ℕ) (row : List Literal) → IsAddition formula s.moment.tables.clauses n zs → get s.moment.tables.parities source ≡ Some row → IsClauseOfRow formula.variables row (literals zs)
-    → IsTrue (derives_empty_clause (ClauseOfParity n zs source)) → IsFalse s.moment.awaits
+    → IsTrue (derives_ending_clause formula (ClauseOfParity n zs source)) → IsFalse s.moment.awaits
     → IsEnded formula (s.events ++ Step (ClauseOfParity n zs source) ∷ []) × Marked formula (s.events ++ Step (ClauseOfParity n zs source) ∷ []) s.conflicts)
 
 -- a live clause that is false by older entries, which all rest on live clauses, gives the empty clause a right chain
@@ -258,10 +269,10 @@ abbrev pub SearchesAreOpen : Type 0
 SearchesAreOpen = OfSearch (λ formula parities s.
     IsFalse s.moment.awaits → IsOpen (log_calculus formula) (steps_of s.events) × Marked formula s.events s.conflicts)
 
--- where both engines are quiet and all is decided, the values of the trail meet the formula
+-- where both engines are quiet, all is decided and each assumed literal is held, the values of the trail meet the formula
 abbrev pub FullIsMet : Type 0
 FullIsMet = OfSearch (λ formula parities s.
-    Quiet formula.variables parities s.moment.tables.clauses (all_held s.trail) → HaveTheirs formula parities → (values : List Bool) → AllByRecursion (λ c. AreWithin formula.variables (literals_of c)) formula.constraints
+    Quiet formula.variables parities s.moment.tables.clauses (all_held s.trail) → HaveTheirs formula parities → ((l : Literal) → IsTrue (assumes formula.constraints l) → IsTrue (has_literal (all_held s.trail) l)) → (values : List Bool) → AllByRecursion (λ c. AreWithin formula.variables (literals_of c)) formula.constraints
     → Decides formula.variables (all_held s.trail) → length values ≡ formula.variables → IsTrue (list_all (literal_true values) (all_held s.trail)) → Meets formula values)
 
 -- the engine's parities say what the formula's do, where these stand first among them and the recovered ones behind

@@ -1,18 +1,20 @@
 -- What the search tells its log, and when.
-use Rattle.std.specs.Prelude.{◌≡◌, ℕ, ◌<◌, ℤ, nat_abs, nat_lt, false, List, [], ◌∷◌, ◌++◌, length, None, IsTrue, IsFalse, Contains, ⊤}
+use Rattle.std.specs.Prelude.{◌≡◌, ℕ, ◌<◌, ℤ, nat_abs, nat_lt, false, List, [], ◌∷◌, ◌++◌, length, None, IsTrue, IsFalse, Contains, ⊤, ◌⊎◌}
 use Rattle.std.specs.List.{list_any, AllByRecursion}
 use Rattle.cx_base.specs.Literals.{Literal}
 use Rattle.cx_base.specs.Parity.{normal_form, HasOneOfEach}
 use Rattle.cx_base.specs.Problem.{Problem, clauses_of, clause_met, parity_met, AreWithin}
-use Rattle.cx_semantics.specs.Chain.{has_literal}
+use Rattle.cx_semantics.specs.Chain.{has_literal, negations}
 use Rattle.cx_semantics.specs.Fresh.{IsLive}
 use Rattle.cx_semantics.specs.Implied.{Implies}
 use Rattle.cx_base.specs.Integers.{literals}
-use Rattle.cx_semantics.specs.LogRules.{AreLive, derives_empty_clause, log_calculus}
+use Rattle.cx_semantics.specs.LogRules.{AreLive, derived_clause, derives_ending_clause, log_calculus}
 use Rattle.cx_base.specs.Events.{steps_of}
-use Rattle.cx_semantics.specs.Judging.{AcceptedAt}
+use Rattle.cx_base.specs.Assumptions.{clashes}
+use Rattle.cx_semantics.specs.Judging.{EndsAt}
 use Rattle.cx_semantics.specs.Marked.{is_among}
 use Rattle.cx_semantics.specs.ProofRules.{IsSum}
+use Rattle.cx_base.specs.declared.steps.LogStep.{LogStep}
 use Rattle.cx_base.specs.declared.steps.LogEvent.{LogEvent}
 use Rattle.cx_base.specs.declared.steps.LogEvent.TheVariants.{Step}
 use Rattle.cx_base.specs.declared.steps.LogStep.TheVariants.{ClauseWithHints, Parity, ClauseOfParity, DeleteParity, Delete}
@@ -57,7 +59,7 @@ pub record IsRowReason (formula : Problem) (parities : List (List Literal)) (s :
   pub row : IsRowOf parities s.moment.tables ids (literals rs)
   pub clause_step : IsAddition formula s.moment.tables.clauses n zs
   pub clause : IsClauseOfRow formula.variables (literals rs) (literals zs)
-  pub goes_on : IsFalse (derives_empty_clause (ClauseOfParity n zs k))
+  pub goes_on : IsFalse (derives_ending_clause formula (ClauseOfParity n zs k))
 
 -- no entry rests on the clause of the id
 abbrev pub IsNoReason : ℕ → List Entry → Type 0
@@ -73,9 +75,13 @@ abbrev pub deleted : Search → List ℕ → Search
 deleted s [] = s
 deleted s (n ∷ ids) = deleted (told s (Step (Delete n []))) ids
 
--- the steps are right, and the last one ends the log
+-- the steps are right and the last one ends the log, or the formula's assumptions clash
 abbrev pub IsEnded : Problem → List LogEvent → Type 0
-IsEnded formula events = AcceptedAt (log_calculus formula) (steps_of events) (length (steps_of events))
+IsEnded formula events = IsTrue (clashes formula.constraints) ⊎ (IsFalse (clashes formula.constraints) × EndsAt (log_calculus formula) (steps_of events) (length (steps_of events)))
+
+-- these literals are the negations of those of the clause that the last step adds
+abbrev pub LastRefutes : List LogEvent → List Literal → Type 0
+LastRefutes events failed = (before : List LogEvent) × (step : LogStep) × (events ≡ before ++ Step step ∷ []) × (failed ≡ negations (derived_clause step))
 
 -- the search after the unit clause of an entry of level 0, which is its reason from then on; the hints of a clause by a chain may be any
 abbrev pub unit_told : Search → ℕ → ℤ → List ℤ → List Entry → Entry → List Entry → Search

@@ -5,6 +5,7 @@ use Rattle.cx_base.specs.Literals.{Literal, negate, same_literal}
 use Rattle.cx_base.specs.Problem.{Problem, clauses_of}
 use Rattle.cx_base.specs.declared.steps.LogEvent.{LogEvent}
 use Rattle.cx_base.specs.declared.steps.LogEvent.TheVariants.{Conflict}
+use Rattle.cx_base.specs.Assumptions.{clashes}
 use Rattle.cx_semantics.specs.Chain.{has_literal}
 use Rattle.cx_semantics.specs.Fresh.{IsLive, KeepsUnits, FalsifiesNone}
 use Rattle.cx_semantics.specs.Judging.{Runs}
@@ -24,8 +25,9 @@ pub record Search : Type 0 where
   pub quiet_levels : ℕ
   pub conflicts : ℕ
 
--- a log whose steps are right so far and whose events fit
+-- no assumptions clash, and the log's steps are right so far and its events fit
 pub record IsLog (formula : Problem) (events : List LogEvent) (moment : Moment) (conflicts : ℕ) : Type 0 where
+  pub apart : IsFalse (clashes formula.constraints)
   pub runs : Runs (log_calculus formula) no_tables (steps_of events) moment.tables
   pub fits : EventsFit formula first_moment events moment
   pub marks : filter_map mark_of events ≡ range_with_len 1 conflicts

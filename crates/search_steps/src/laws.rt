@@ -1,5 +1,5 @@
 //! The laws of the search's steps. Each function's contract is the law, and its body is empty.
-ghost use Rattle.search_steps.specs.Laws.{AnswersHold, AssignedValuesHold, BegunIsRanged, BegunIsSearch, BoundsRise, ChainedClausesEnd, ClauseConflictsAreNow, ClauseStepsKeep, DecisionsKeep, DeletionsKeep, EndedIsUnmet, FalsifiedHasChain, ForcedIsImplied, FreshEnginesHold, FullIsMet, HighIsNoReason, HighIsNotAmong, ImpliedClausesRest, JumpsKeep, JumpsStayTied, KnownIsTrue, LargerClausesRest, LastStepsEnd, LaterEntriesGo, LearnedClausesKeep, LearnedDeletionsKeep, LearnedHasChain, MarksKeep, NewLevelsHold, NextIdsAreFree, NoValueIsOpen, NothingIsBegun, OpenHasNoValue, OriginalClausesAreTold, OriginalParitiesAreTold, OtherTrailsKeepRanges, PropagationsKeep, RecoveredParitiesJoin, RecoveredTakesOne, RoundsAreTidy, RoundsKeep, RoundsKeepRanges, RoundsStayTied, RowClausesEnd, RowClausesKeep, RowConflictsAreNow, RowIdsAreTemporary, RowReasonsKeep, RowReasonsServe, RowStepsKeep, RowsAreOfParities, SearchesAreOpen, SettledWantsNoDecision, SilentIsQuiet, StoredForces, StoredIsFalse, StoredRests, SumDeletionsKeep, SumsAreFreeAgain, SumsAreFreeAtFirst, SumsKeep, TaughtIsLearned, TheirsAreHad, ToldStepsKeepRanges, TrailStepsKeepRanges, TrailsHaveNoClash, UnitsKeep, ValuesTakenBackHold, WatchedIsQuiet};
+ghost use Rattle.search_steps.specs.Laws.{AnswersHold, AssignedValuesHold, AssumptionsAreNotTold, BegunIsRanged, BegunIsSearch, BoundsRise, ChainedClausesEnd, ClauseConflictsAreNow, ClauseStepsKeep, DecisionsKeep, DeletionsKeep, EndedIsUnmet, FalsifiedHasChain, FinalHasChain, ForcedIsImplied, FreshEnginesHold, FullIsMet, HighIsNoReason, HighIsNotAmong, ImpliedClausesRest, JumpsKeep, JumpsStayTied, KnownIsTrue, LargerClausesRest, LastStepsEnd, LaterEntriesGo, LearnedClausesKeep, LearnedDeletionsKeep, LearnedHasChain, MarksKeep, NewLevelsHold, NextIdsAreFree, NoValueIsOpen, NothingIsBegun, OpenHasNoValue, OriginalClausesAreTold, OriginalParitiesAreTold, OtherTrailsKeepRanges, PropagationsKeep, RecoveredParitiesJoin, RecoveredTakesOne, RoundsAreTidy, RoundsKeep, RoundsKeepRanges, RoundsStayTied, RowClausesEnd, RowClausesKeep, RowConflictsAreNow, RowIdsAreTemporary, RowReasonsKeep, RowReasonsServe, RowStepsKeep, RowsAreOfParities, SearchesAreOpen, SettledWantsNoDecision, SilentIsQuiet, StoredForces, StoredIsFalse, StoredRests, SumDeletionsKeep, SumsAreFreeAgain, SumsAreFreeAtFirst, SumsKeep, TaughtIsLearned, TheirsAreHad, ToldStepsKeepRanges, TrailStepsKeepRanges, TrailsHaveNoClash, UnitsKeep, ValuesTakenBackHold, WatchedIsQuiet};
 
 /// At the start nothing is told.
 pub fn nothing_is_begun()
@@ -16,7 +16,12 @@ pub fn original_parities_are_told()
     ensures { OriginalParitiesAreTold }
 {}
 
-/// Behind the last constraint the search holds, with the parities of the formula.
+/// An assumption constraint is not told.
+pub fn assumptions_are_not_told()
+    ensures { AssumptionsAreNotTold }
+{}
+
+/// Behind the last constraint the search holds, with the parities of the formula, where its assumptions don't clash.
 pub fn begun_is_search()
     ensures { BegunIsSearch }
 {}
@@ -131,6 +136,11 @@ pub fn learned_has_chain()
     ensures { LearnedHasChain }
 {}
 
+/// So has what is left of a clause whose literals were traced to decisions.
+pub fn final_has_chain()
+    ensures { FinalHasChain }
+{}
+
 /// A clause that forced an entry in the calculus is one that implied its literal on the code's trail.
 pub fn forced_is_implied()
     ensures { ForcedIsImplied }
@@ -156,7 +166,7 @@ pub fn ended_is_unmet()
     ensures { EndedIsUnmet }
 {}
 
-/// A right step that ends a log makes it one that is right to its end.
+/// A right step that ends a log makes it one that is right to its end; the negations of its clause's literals are assumed, and no values meet the clauses and parities with them.
 pub fn last_steps_end()
     ensures { LastStepsEnd }
 {}
@@ -181,7 +191,7 @@ pub fn searches_are_open()
     ensures { SearchesAreOpen }
 {}
 
-/// Where both engines are quiet and all is decided, the values of the trail meet the formula.
+/// Where both engines are quiet, all is decided and each assumed literal is held, the values of the trail meet the formula.
 pub fn full_is_met()
     ensures { FullIsMet }
 {}

@@ -1,5 +1,5 @@
-use Rattle.search_steps.proofs.Ends.{last_step_ends}
+use Rattle.search_steps.proofs.Ends.{last_step_ends, last_step_fails}
 use Rattle.search_steps.proofs.laws.last_steps_end.Goals as goal
 
 pub returns : goal.returns
-returns c = last_step_ends
+returns c = λ formula parities s ok step is_right ends. (last_step_ends formula parities s ok step is_right ends, last_step_fails formula parities s ok step is_right ends)
