@@ -18,6 +18,8 @@ use Rattle.search_steps.proofs.Bridge.{level_tied, held_is_true}
 use Rattle.search_steps.proofs.CodeSteps.{decision_step_keeps}
 use Rattle.search_steps.proofs.IdLaws.{decision_ranged}
 use Rattle.search_steps.proofs.EndLaws.{settled_wants_no_decision}
+use Rattle.search_policy.specs.declared.assumptions.Assumptions.{Assumptions}
+use Rattle.cdcl_search.specs.Searching.{HasUnits}
 use Rattle.cdcl_search.specs.declared.state.SearchState.{SearchState}
 use Rattle.cdcl_search.specs.declared.propagation.Found.TheVariants as found
 use Rattle.cdcl_search.specs.Ties.{Ties, SearchStands, IsWatched, first_row_id, IsFed}
@@ -139,3 +141,8 @@ module _ (formula : Problem) (c : SearchState) (e : State) (told : Option (List 
 
   pub variables_are_scored : SearchStands formula c e [] told → length c.order.scores ≡ c.trail.variables
   variables_are_scored (s, ok, told_is, t, f) = t.trail.stand.variables
+
+-- where each literal of the trail is checked, all of level 0 have unit clauses
+pub all_have_units : (formula : Problem) (c : SearchState) (e : State) (told : Option (List LogEvent)) → SearchStands formula c e [] told → (a : Assumptions) → a.checked ≡ length c.trail.entries → HasUnits c a
+    → c.trail.level ≡ 0 → length c.units.items ≡ length c.trail.entries
+all_have_units formula c e told (s, ok, told_is, t, f) a checked units zero_level = let many = units zero_level in let few = t.units.few in omega (arith, many, few, checked)

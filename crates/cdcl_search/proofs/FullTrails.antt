@@ -4,6 +4,7 @@ use Rattle.std.proofs.lemmas.Bool.{eqb-false, or_right}
 use Rattle.std.proofs.Math.ListN.{get_or-append}
 use Rattle.std.proofs.Math.Seq.{get_or-append_seam}
 use Rattle.cx_base.specs.Literals.{Literal, literal_true, value_of, differ}
+use Rattle.cx_base.specs.Assumptions.{assumes}
 use Rattle.cx_base.specs.Problem.{Problem, Meets, IsWithinVariables}
 use Rattle.cx_semantics.specs.Chain.{has_literal}
 use Rattle.cx_base.specs.declared.steps.LogEvent.{LogEvent}
@@ -62,15 +63,15 @@ module _ (formula : Problem) (c : SearchState) (e : State) (s : Search) (ok : Is
           ap (λ b. b || has_literal (all_held s.trail) (record { variable = v; negative = true }))
           (true_is_held s.trail c.trail.entries t.trail.follows.tied (record { variable = v; negative = false }) (i, (less, λ k. record { variable = same k; negative = sign k })))
 
-  values_meet : PropagationFinds c e found.Quiet → IsFull c.trail → IsWithinVariables formula.variables formula.constraints → (values : List Bool) → length values ≡ formula.variables → AreValues c.trail c.trail.variables values → Meets formula values
-  values_meet finds full within values long are =
-      full_is_met formula e.parities s ok (is_quiet formula c e s ok t f finds) t.engine.theirs values within.1 (decides full) long
+  values_meet : PropagationFinds c e found.Quiet → IsFull c.trail → ((l : Literal) → assumes formula.constraints l ≡ true → IsTrueIn c.trail.entries l) → IsWithinVariables formula.variables formula.constraints → (values : List Bool) → length values ≡ formula.variables → AreValues c.trail c.trail.variables values → Meets formula values
+  values_meet finds full assumed within values long are =
+      full_is_met formula e.parities s ok (is_quiet formula c e s ok t f finds) t.engine.theirs (λ l h. true_is_held s.trail c.trail.entries t.trail.follows.tied l (assumed l h)) values within.1 (decides full) long
       (all_by (literal_true values) (all_held s.trail) (λ l h. true_under c.trail t.trail.follows.sound values are l (held_is_true s.trail c.trail.entries t.trail.follows.tied l h)))
 
-pub full_trail_meets : (formula : Problem) (c : SearchState) (e : State) (told : Option (List LogEvent)) → SearchStands formula c e [] told → PropagationFinds c e found.Quiet → IsFull c.trail → IsWithinVariables formula.variables formula.constraints
+pub full_trail_meets : (formula : Problem) (c : SearchState) (e : State) (told : Option (List LogEvent)) → SearchStands formula c e [] told → PropagationFinds c e found.Quiet → IsFull c.trail → ((l : Literal) → assumes formula.constraints l ≡ true → IsTrueIn c.trail.entries l) → IsWithinVariables formula.variables formula.constraints
     → (values : List Bool) → length values ≡ formula.variables → AreValues c.trail formula.variables values → Meets formula values
-full_trail_meets formula c e told (s, ok, told_is, t, f) finds full within values long are =
-    values_meet formula c e s ok t f finds full within values long (subst (λ n. AreValues c.trail n values) (sym t.trail.variables) are)
+full_trail_meets formula c e told (s, ok, told_is, t, f) finds full assumed within values long are =
+    values_meet formula c e s ok t f finds full assumed within values long (subst (λ n. AreValues c.trail n values) (sym t.trail.variables) are)
 
 pub as_many_variables : (formula : Problem) (c : SearchState) (e : State) (told : Option (List LogEvent)) → SearchStands formula c e [] told → c.trail.variables ≡ formula.variables
 as_many_variables formula c e told (s, ok, told_is, t, f) = t.trail.variables

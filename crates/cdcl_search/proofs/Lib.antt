@@ -25,3 +25,5 @@ pub mod Tellings
 pub mod UnitTies
 pub mod UnitLaws
 pub mod LowIds
+pub mod EndingClauses
+pub mod Longer

@@ -11,7 +11,7 @@ use Rattle.cx_base.specs.declared.steps.LogStep.{LogStep}
 use Rattle.cx_semantics.specs.Ids.{HasLowId}
 use Rattle.cx_base.specs.declared.steps.LogEvent.{LogEvent}
 use Rattle.cx_base.specs.declared.steps.LogEvent.TheVariants.{Conflict}
-use Rattle.cx_semantics.specs.Judging.{Calculus, Runs, IsOpen, AcceptedAt}
+use Rattle.cx_semantics.specs.Judging.{Calculus, Runs, IsOpen, EndsAt}
 use Rattle.cx_semantics.specs.LogRules.{log_calculus}
 use Rattle.cx_base.specs.Events.{steps_of, step_of}
 use Rattle.cx_semantics.specs.Marked.{mark_of}
@@ -47,18 +47,23 @@ ends_there : {S : Type 0} (before later : List S) (step : S) (steps : List S) �
 ends_there before [] step steps split number = split
 ends_there before (x ∷ later) step steps split number = absurd (let long = ap length split in let parts = length-append before (step ∷ x ∷ later) in omega (arith, long, parts, number))
 
-accepted_front : {S : Type 0} (c : Calculus S) (front more : List S) → AcceptedAt c (front ++ more) (length (front ++ more)) → IsOpen c front ⊎ AcceptedAt c front (length front)
-accepted_front c front [] a = inr (subst (λ xs. AcceptedAt c xs (length xs)) (append-nil front) a)
-accepted_front c front (b ∷ more) a =
+ended_front : {S : Type 0} (c : Calculus S) (front more : List S) → EndsAt c (front ++ more) (length (front ++ more)) → ((t : Tables) × Runs c c.start front t) ⊎ EndsAt c front (length front)
+ended_front c front [] a = inr (subst (λ xs. EndsAt c xs (length xs)) (append-nil front) a)
+ended_front c front (b ∷ more) a =
     let parts = begins_with front b more a.before a.step (ends_there a.before a.later a.step (front ++ b ∷ more) a.split a.number) in
     inl (runs_front c c.start front parts.0 a.tables (subst (λ xs. Runs c c.start xs a.tables) parts.1 a.runs))
 
 front_is_left : (formula : Problem) (front more : List LogEvent) → IsLeft formula (Some (front ++ more)) → IsLeft formula (Some front)
-front_is_left formula front more (inl runs) =
-    inl (runs_front (log_calculus formula) (log_calculus formula).start (steps_of front) (steps_of more) runs.0
+front_is_left formula front more (inl (apart, runs)) =
+    inl (apart, runs_front (log_calculus formula) (log_calculus formula).start (steps_of front) (steps_of more) runs.0
     (subst (λ xs. Runs (log_calculus formula) (log_calculus formula).start xs runs.0) (filter_map-append step_of front more) runs.1))
-front_is_left formula front more (inr ended) = accepted_front (log_calculus formula) (steps_of front) (steps_of more)
-    (subst (λ xs. AcceptedAt (log_calculus formula) xs (length xs)) (filter_map-append step_of front more) ended)
+front_is_left formula front more (inr (inl clash)) = inr (inl clash)
+front_is_left formula front more (inr (inr (apart, ended))) =
+    elim (ended_front (log_calculus formula) (steps_of front) (steps_of more)
+    (subst (λ xs. EndsAt (log_calculus formula) xs (length xs)) (filter_map-append step_of front more) ended)) [
+      | inl open_so_far ↦ inl (apart, open_so_far)
+      | inr there ↦ inr (inr (apart, there))
+    ]
 
 fronts_are_left : (formula : Problem) (told : Option (List LogEvent)) (events : List LogEvent) (i : ℕ) → IsLeft formula (with_events events told) → IsLeft formula (with_events (take i events) told)
 fronts_are_left formula None events i left = tt

@@ -82,8 +82,8 @@ module _ (t : TrailState) (e : State) (l : Literal) (row : ℕ) (r : IsReasonOf 
       assigned = all_assigned why.named why.is;
     }
 
-    pub has_some : reason.clause ≢ []
-    has_some none = true≢false (sym is_clause.are_false.0 ∙ ap (λ ls. has_literal ls l) none)
+    pub has_it : has_literal reason.clause l ≡ true
+    has_it = is_clause.are_false.0
 
     pub is_antecedent : IsTrail t → IsAntecedent t l reason.clause
     is_antecedent sound place less at = record {

@@ -16,7 +16,7 @@ use Rattle.cx_base.specs.declared.steps.LogEvent.{LogEvent}
 use Rattle.cx_base.specs.declared.steps.LogEvent.TheVariants.{Step}
 use Rattle.cx_base.specs.Integers.{integers_of, literals}
 use Rattle.cx_semantics.specs.LogRules.{AreLive}
-use Rattle.cx_semantics.specs.ProofRules.{is_empty}
+use Rattle.cx_base.specs.Assumptions.{is_ending}
 use Rattle.cx_semantics.specs.Tables.{Table, get, named}
 use Rattle.cx_trail.specs.Sequence.{TrailState, IsTrail, IsAssignedIn}
 use Rattle.parity_engine.specs.State.{State}
@@ -88,6 +88,7 @@ unfolding parities_of
 few_parities [] = omega arith
 few_parities (constraint.Clause lits ∷ cs) = let rec = few_parities cs in omega (arith, rec)
 few_parities (constraint.Parity lits ∷ cs) = let rec = few_parities cs in omega (arith, rec)
+few_parities (constraint.Assume lits ∷ cs) = let rec = few_parities cs in omega (arith, rec)
 
 -- ---- events
 pub all_told_are : (more : List LogEvent) (s : Search) (told_ : Option (List LogEvent)) → AreTold told_ s.events → AreTold (with_events more told_) (all_told s more).events
@@ -174,9 +175,9 @@ module _ (formula : Problem) (c : SearchState) (e : State) (rows : List (List Li
   pub sum_is : get after_sum.moment.tables.parities k ≡ Some (literals rs)
   sum_is = put_same s.moment.tables.parities k (literals rs)
 
-  module _ (some : is_empty zs ≡ false) (room : length rows ≤ formula.variables) where
+  module _ (some : is_ending formula.constraints r.clause ≡ false) (room : length rows ≤ formula.variables) where
     reason_is : IsRowReason formula theirs s k rs r.sources n zs
-    reason_is = record { high = high; row_step = row_added; row = row_is; clause_step = clause_added; clause = clause_is; goes_on = some }
+    reason_is = record { high = high; row_step = row_added; row = row_is; clause_step = clause_added; clause = clause_is; goes_on = ap (is_ending formula.constraints) back_clause ∙ some }
 
     told_is_search : IsSearch formula theirs (all_told s steps)
     told_is_search = row_reason_keeps formula theirs s k rs r.sources n zs reason_is ok
@@ -246,19 +247,15 @@ rising_ids least few (i ∷ ids) low top r =
 pub sources_are_ids : (constraints parities : ℕ) (ids : List ℕ) → parities ≤ constraints → constraints ≤ 4294967295 → AreRising 1 parities ids → AllByRecursion Rattle.cdcl_search.specs.Tells.IsId ids
 sources_are_ids constraints parities ids few small r = rising_ids 1 parities ids (omega arith) (omega (arith, few, small)) r
 
-not_empty : (lits : List Literal) → lits ≢ [] → is_empty (integers_of lits) ≡ false
-not_empty [] h = absurd (h refl)
-not_empty (l ∷ lits) h = refl
-
 module _ (formula : Problem) (c : SearchState) (e : State) (rows : List (List Literal)) (old : Option (List LogEvent)) (st : SearchStands formula c e rows old) where
   pub left_now : IsLeft formula old
   left_now = is_left formula e.parities st.0 old st.1 st.3.log.served.served st.2
 
-  module _ (r : ReasonOf) (x : Explains e.parities c.trail r) (back_parity : literals (integers_of r.parity) ≡ r.parity) (back_clause : literals (integers_of r.clause) ≡ r.clause) (some : r.clause ≢ []) (room : length rows ≤ formula.variables)
+  module _ (r : ReasonOf) (x : Explains e.parities c.trail r) (back_parity : literals (integers_of r.parity) ≡ r.parity) (back_clause : literals (integers_of r.clause) ≡ r.clause) (some : is_ending formula.constraints r.clause ≡ false) (room : length rows ≤ formula.variables)
       (events : List LogEvent) (seen : List (List Literal)) (same : seen ≡ rows) (are_ : events ≡ row_events (length formula.constraints + 1) (integers_of r.parity) r.sources (first_row_id c.next + length seen) (integers_of r.clause)) where
     are : events ≡ row_events (length formula.constraints + 1) (integers_of r.parity) r.sources (first_row_id c.next + length rows) (integers_of r.clause)
     are = subst (λ xs. events ≡ row_events (length formula.constraints + 1) (integers_of r.parity) r.sources (first_row_id c.next + length xs) (integers_of r.clause)) same are_
 
     pub stands_then : (new : Option (List LogEvent)) → new ≡ with_events events old → SearchStands formula c e (rows ++ r.clause ∷ []) new
     stands_then new is = subst (SearchStands formula c e (rows ++ r.clause ∷ [])) (sym (is ∙ ap (λ es. with_events es old) are))
-        (stands_still formula c e rows st.0 st.1 st.3 r x back_parity back_clause (not_empty r.clause some) room old st.2 st.4)
+        (stands_still formula c e rows st.0 st.1 st.3 r x back_parity back_clause some room old st.2 st.4)

@@ -1,10 +1,11 @@
 -- What implied the next literal of level 0, and what telling its unit clause leaves.
-use Rattle.std.proofs.Common.{◌≡◌, refl, sym, ap, ◌∙◌, subst, ℕ, zero, suc, ◌+◌, ◌<◌, ◌≤◌, ℤ, true, List, [], ◌∷◌, ◌++◌, length, take, get_or, Option, Some, None, arith, length-take}
+use Rattle.std.proofs.Common.{◌≡◌, refl, sym, ap, ◌∙◌, subst, ℕ, zero, suc, ◌+◌, ◌<◌, ◌≤◌, ℤ, true, false, List, [], ◌∷◌, ◌++◌, length, take, get_or, Option, Some, None, arith, length-take}
 use Rattle.std.specs.Prelude.{slice_index_or}
 use Rattle.std.specs.List.{All}
 use Rattle.std.specs.Global.{Vec}
 use Rattle.std.proofs.lemmas.Bool.{and_parts}
 use Rattle.cx_base.specs.Literals.{Literal, negate, same_literal}
+use Rattle.cx_base.specs.Assumptions.{assumes}
 use Rattle.cx_base.specs.Problem.{Problem}
 use Rattle.cx_base.specs.declared.steps.LogStep.{LogStep}
 use Rattle.cx_base.specs.declared.steps.LogStep.TheVariants.{ClauseWithHints}
@@ -78,7 +79,7 @@ module _ (t : TrailState) (sound : IsTrail t) where
 
 -- ---- the unit clause is told
 module _ (formula : Problem) (c : SearchState) (e : State) (rows : List (List Literal)) (old : Option (List LogEvent)) (st : SearchStands formula c e rows old) where
-  module _ (level : c.trail.level ≡ 0) (l : Literal) (lits : List Literal) (is_next : IsNextUnit c rows l lits) (hints : List ℤ) where
+  module _ (level : c.trail.level ≡ 0) (l : Literal) (lits : List Literal) (is_next : IsNextUnit c rows l lits) (hints : List ℤ) (apart : assumes formula.constraints (negate l) ≡ false) where
     abbrev step : LogStep
     step = ClauseWithHints c.next (integers_of (l ∷ [])) hints
 
@@ -95,7 +96,7 @@ module _ (formula : Problem) (c : SearchState) (e : State) (rows : List (List Li
     after = after_unit formula c e rows st.0 st.1 st.3 l is_next.next.0 is_next.next.1 hints
 
     is_search : IsSearch formula e.parities after
-    is_search = unit_is_search formula c e rows st.0 st.1 st.3 l is_next.next.0 is_next.next.1 level live.0 live.1 forces back hints
+    is_search = unit_is_search formula c e rows st.0 st.1 st.3 l is_next.next.0 is_next.next.1 level live.0 live.1 forces back hints apart
 
     told_then : (o : Option (List LogEvent)) → AreTold o st.0.events → AreTold (with_events (Step step ∷ []) o) after.events
     told_then None a = tt

@@ -1,5 +1,5 @@
 -- The unit clause of a literal of level 0 is told: the ties of the search behind that.
-use Rattle.std.proofs.Common.{◌≡◌, ◌≢◌, ◌≤◌, refl, sym, ap, ◌∙◌, subst, ℕ, suc, ◌+◌, ◌-◌, ◌<◌, ℤ, true, nat_eq, nat_lt, List, [], ◌∷◌, ◌++◌, length, take, get_or, Option, Some, ◌⊎◌, inl, inr, arith, length-append, append_assoc}
+use Rattle.std.proofs.Common.{◌≡◌, ◌≢◌, ◌≤◌, refl, sym, ap, ◌∙◌, subst, ℕ, suc, ◌+◌, ◌-◌, ◌<◌, ℤ, true, false, ◌&&◌, nat_eq, nat_lt, List, [], ◌∷◌, ◌++◌, length, take, get_or, Option, Some, ◌⊎◌, inl, inr, arith, length-append, append_assoc}
 use Rattle.std.proofs.lemmas.Bool.{eqb-false, ltb-true, ltb-false}
 use Rattle.std.proofs.lemmas.List.{take_all, take-append-le}
 use Rattle.std.proofs.Math.ListN.{get_or-append}
@@ -8,7 +8,8 @@ use Rattle.std.specs.FinMap as map_
 use Rattle.std.specs.List.{AllByRecursion}
 use Rattle.std.specs.Prelude.{if◌then◌else◌}
 use Rattle.std.specs.Global.{Vec}
-use Rattle.cx_base.specs.Literals.{Literal}
+use Rattle.cx_base.specs.Literals.{Literal, negate}
+use Rattle.cx_base.specs.Assumptions.{assumes, is_ending}
 use Rattle.cx_base.specs.Problem.{Problem, AreWithin}
 use Rattle.cx_base.proofs.Elements.{same_head, same_tail}
 use Rattle.cx_base.specs.declared.steps.LogStep.TheVariants.{ClauseWithHints}
@@ -220,8 +221,9 @@ module _ (formula : Problem) (c : SearchState) (e : State) (rows : List (List Li
   addition : IsAddition formula s.moment.tables.clauses n (z ∷ [])
   addition = record { within = variables_are_within formula.variables (l ∷ []) (l_within formula c e rows s ok t l more here); free = next_is_free formula (first_row_id c.next) c.next (first_row_id c.next + length rows) s t.log.ranged (omega arith) }
 
-  pub unit_is_search : IsSearch formula e.parities after
-  unit_is_search = unit_rests_keeps formula e.parities s ok n z hints p.newer p.older p.entry p.parts level_is (integer_is ∙ sym literal_is) addition refl t.log.served.served (on_clauses c.units.items p.older p.rest) clause live
+  pub unit_is_search : assumes formula.constraints (negate l) ≡ false → IsSearch formula e.parities after
+  unit_is_search apart_is = unit_rests_keeps formula e.parities s ok n z hints p.newer p.older p.entry p.parts level_is (integer_is ∙ sym literal_is) addition
+      (ap (λ m. is_ending formula.constraints (m ∷ [])) integer_is ∙ ap (λ b. b && true) apart_is) t.log.served.served (on_clauses c.units.items p.older p.rest) clause live
       (subst (Rattle.search_steps.specs.Trail.Forces clause (all_held p.older)) (sym literal_is) (forces_by p.older (take (length c.units.items) c.trail.entries) clause l older_tied forces))
 
   -- ---- the tables

@@ -1,5 +1,7 @@
 -- What calls take of a search, and what they leave of it.
-use Rattle.std.specs.Prelude.{◌≡◌, ◌≢◌, List, [], Option, Result, OnOk}
+use Rattle.std.specs.Prelude.{◌≡◌, ◌≢◌, List, [], length, Option, Result, OnOk}
+use Rattle.search_policy.specs.Assuming.{KeepsAssumptions}
+use Rattle.search_policy.specs.declared.assumptions.Assumptions.{Assumptions}
 use Rattle.cx_base.specs.Literals.{Literal}
 use Rattle.cx_base.specs.Problem.{Problem}
 use Rattle.cx_base.specs.declared.steps.LogEvent.{LogEvent}
@@ -63,8 +65,10 @@ pub record StaysUnbroken (formula : Problem) (c : SearchState) (e : State) (now 
   pub stands : (told : Option (List LogEvent)) → SearchStands formula c e [] told → SearchStands formula now e_now [] told
   pub unbroken : e_now.mood ≢ Broken
 
--- the search stands behind some log, both engines are quiet, and the units of level 0 are told
-pub record MayDecide (formula : Problem) (c : SearchState) (e : State) : Type 0 where
+-- the search stands behind some log, both engines are quiet, no literal contradicts an assumed one, and the units of level 0 are told
+pub record MayDecide (formula : Problem) (c : SearchState) (e : State) (a : Assumptions) : Type 0 where
   pub stands : (told : Option (List LogEvent)) × SearchStands formula c e [] told
   pub quiet : PropagationFinds c e found.Quiet
-  pub units : HasUnits c
+  pub units : HasUnits c a
+  pub keeps : KeepsAssumptions formula.constraints a c.trail
+  pub checked : a.checked ≡ length c.trail.entries

@@ -5,6 +5,7 @@ use Rattle.watch_lists.specs.Truths.{IsFalsified}
 use Rattle.watch_lists.specs.Watching.{IsAttached}
 use Rattle.watch_lists.specs.Events.{Happens}
 use Rattle.watch_lists.specs.declared.event.Event.TheVariants as event
+use Rattle.search_policy.specs.Assuming.{IsLonger}
 use Rattle.parity_engine.specs.declared.state.Mood.TheVariants.{Calm, Broken}
 use Rattle.parity_engine.specs.State.{State, Named, named_at, IsSilent, IsBroken}
 use Rattle.cdcl_search.specs.declared.state.SearchState.{SearchState}
@@ -13,9 +14,9 @@ use Rattle.cdcl_search.specs.declared.propagation.Found.TheVariants.{Quiet, Clau
 use Rattle.cdcl_search.specs.declared.propagation.RowFinding.{RowFinding}
 use Rattle.cdcl_search.specs.declared.propagation.RowFinding.TheVariants as finding
 
--- the level, the unit clauses, the count of conflicts and the next id stay
+-- literals were put behind those of the trail; the level, the unit clauses, the count of conflicts and the next id stay
 abbrev pub HasSameCounts : SearchState → SearchState → Type 0
-HasSameCounts old new = (new.trail.level ≡ old.trail.level) × (new.units.items ≡ old.units.items) × (new.conflicts ≡ old.conflicts) × (new.next ≡ old.next)
+HasSameCounts old new = (new.trail.level ≡ old.trail.level) × (new.units.items ≡ old.units.items) × (new.conflicts ≡ old.conflicts) × (new.next ≡ old.next) × IsLonger old.trail new.trail
 
 -- the engine has all literals of the trail
 abbrev pub HasAll : SearchState → Type 0

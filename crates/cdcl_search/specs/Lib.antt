@@ -9,5 +9,6 @@ pub mod Explaining
 pub mod Units
 pub mod Searching
 pub mod Deleting
+pub mod Deciding
 pub mod Calls
 pub mod Rows

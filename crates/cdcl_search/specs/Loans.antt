@@ -9,9 +9,10 @@ pub record HasSameLoans {P L : Type 0} (a b : Source P L) : Type 0 where
   pub engine : b.engine.now ≡ a.engine.now
   pub log : b.log.ghost_name ≡ a.log.ghost_name
   pub rows : b.rows.ghost_name ≡ a.rows.ghost_name
+  pub below : b.below ≡ a.below
 
 pub loans_rest : {P L : Type 0} (a : Source P L) → HasSameLoans a a
-loans_rest a = record { state = refl; engine = refl; log = refl; rows = refl }
+loans_rest a = record { state = refl; engine = refl; log = refl; rows = refl; below = refl }
 
 pub loans_then : {P L : Type 0} (a b c : Source P L) → HasSameLoans a b → HasSameLoans b c → HasSameLoans a c
-loans_then a b c h k = record { state = k.state ∙ h.state; engine = k.engine ∙ h.engine; log = k.log ∙ h.log; rows = k.rows ∙ h.rows }
+loans_then a b c h k = record { state = k.state ∙ h.state; engine = k.engine ∙ h.engine; log = k.log ∙ h.log; rows = k.rows ∙ h.rows; below = k.below ∙ h.below }

@@ -1,5 +1,7 @@
 //! The values of a full trail.
-ghost use Rattle.std.specs.Prelude.{◌+◌, ◌≤◌, not, [], List, Option, IfOk};
+ghost use Rattle.std.specs.Prelude.{◌+◌, ◌≤◌, not, [], List, Option, IfOk, IsTrue};
+ghost use Rattle.cx_base.specs.Assumptions.{assumes};
+ghost use Rattle.cx_base.specs.Literals.{Literal};
 ghost use Rattle.cx_base.specs.Problem.{Meets};
 ghost use Rattle.cx_base.specs.declared.steps.LogEvent.{LogEvent};
 ghost use Rattle.cx_trail.specs.Sequence.{IsFull, IsTrueIn, IsAssignedIn};
@@ -25,7 +27,7 @@ fn value_on(trail: &Trail, variable: Var) -> bool
     }
 }
 
-/// The values of a full trail, which meet the formula where both engines are quiet.
+/// The values of a full trail, which meet the formula where both engines are quiet and each assumed literal is true.
 pub fn values_of<P: ParityEngine>(
     alloc: Global,
     formula: &Formula,
@@ -35,6 +37,7 @@ pub fn values_of<P: ParityEngine>(
     requires stands { (told : Option (List LogEvent)) × SearchStands formula.now state.now (P.state engine.now) [] told }
     requires quiet { PropagationFinds state.now (P.state engine.now) found.Quiet }
     requires full { IsFull state.now.trail }
+    requires assumed { (l : Literal) → IsTrue (assumes formula.now.constraints l) → IsTrueIn state.now.trail.entries l }
     ensures { IfOk result (Meets formula.now) }
 {
     let vars = formula.vars();

@@ -1,6 +1,7 @@
 //! Rows as the log tells them.
-ghost use Rattle.std.specs.Prelude.{◌≡◌, ◌≢◌, ℕ, ◌≤◌, [], ◌∷◌, ◌++◌, length, IfOk, OnOk, OnErr};
+ghost use Rattle.std.specs.Prelude.{◌≡◌, ℕ, ◌≤◌, [], ◌∷◌, ◌++◌, length, IfOk, OnOk, OnErr, IsFalse};
 ghost use Rattle.std.specs.List.{AllByRecursion};
+ghost use Rattle.cx_base.specs.Assumptions.{is_ending};
 ghost use Rattle.cx_base.specs.Integers.{integers_of};
 ghost use Rattle.parity_engine.specs.Written.{AreRising};
 ghost use Rattle.cdcl_search.specs.Calls.{StandsOn};
@@ -115,7 +116,7 @@ fn prepare(
     })
 }
 
-/// Tells the clause of a row, which has a literal, and puts it behind those that were told.
+/// Tells the clause of a row, which does not end the log, and puts it behind those that were told.
 ///
 /// `engine` is the engine that named the row.
 pub fn tell_reason<P: ParityEngine, L: Sink<Item = LogEvent>>(
@@ -127,7 +128,7 @@ pub fn tell_reason<P: ParityEngine, L: Sink<Item = LogEvent>>(
 ) -> Result<LitList, CoreFault>
     requires stands { Stands P.ParityEngine L.Sink log.old state.now engine.now rows.old.items }
     requires explains { Explains (P.state engine.now).parities state.now.trail reason }
-    requires some { reason.clause ≢ [] }
+    requires goes_on { IsFalse (is_ending log.old.formula.now.constraints reason.clause) }
     requires room { length rows.old.items ≤ log.old.formula.now.variables }
     ensures clause { IfOk result (λ c. c ≡ reason.clause) }
     ensures same { OnErr result (rows.new.items ≡ rows.old.items) }

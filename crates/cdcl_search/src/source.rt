@@ -1,8 +1,10 @@
 //! Where the clauses come from that implied the literals of the trail.
-ghost use Rattle.std.specs.Prelude.{◌≡◌, ℕ, ◌+◌, ◌-◌, ◌<◌, ◌≤◌, [], ◌∷◌, ◌++◌, List, length, IfOk, IfSome, OnOk, OnErr};
-ghost use Rattle.cx_base.specs.Literals.{Literal};
+ghost use Rattle.std.specs.Prelude.{◌≡◌, ℕ, ◌+◌, ◌-◌, ◌<◌, ◌≤◌, [], ◌∷◌, ◌++◌, List, length, IfOk, IfSome, OnOk, OnErr, IsFalse};
+ghost use Rattle.cx_base.specs.Assumptions.{assumes};
+ghost use Rattle.cx_base.specs.Literals.{Literal, negate};
 ghost use Rattle.cx_trail.specs.declared.entry.Reason.TheVariants.{Clause};
 ghost use Rattle.cx_trail.specs.Sequence.{entry_at, IsTrueIn};
+ghost use Rattle.search_policy.specs.Assuming.{AreApart};
 ghost use Rattle.clause_arena.specs.Clauses.{IsLive, literals_at};
 ghost use Rattle.conflict_learn.specs.Learning.{HasReason, IsAntecedent};
 ghost use Rattle.parity_engine.specs.State.{State};
@@ -34,7 +36,11 @@ pub struct Hinted {
 }
 
 /// The unit clause of a literal of level 0.
-fn unit(alloc: Global, state: &SearchState, place: usize) -> Result<Hinted, AllocError>
+pub fn unit(
+    alloc: Global,
+    state: &SearchState,
+    place: usize,
+) -> Result<Hinted, AllocError>
     requires unit { place < length state.now.units.items }
     requires place { place < length state.now.trail.entries }
     requires ids { HasIds state.now }
@@ -108,7 +114,7 @@ pub fn silent_id(state: &SearchState, literal: Lit) -> Option<u64>
     id_of(state, entry.reason)
 }
 
-/// The clause of the row that implied a literal of the trail. It is told.
+/// The clause of the row that implied a literal of the trail, which contradicts no assumed one. It is told.
 fn hinted_row<P: ParityEngine, L: Sink<Item = LogEvent>>(
     log: &mut SearchLog<L>,
     state: &SearchState,
@@ -120,6 +126,7 @@ fn hinted_row<P: ParityEngine, L: Sink<Item = LogEvent>>(
     requires stands { Stands P.ParityEngine L.Sink log.old state.now engine.now rows.old.items }
     requires reason { IsReasonOf (P.state engine.now) state.now.trail.entries literal row }
     requires room { length rows.old.items ≤ log.old.formula.now.variables }
+    requires apart { IsFalse (assumes log.old.formula.now.constraints (negate literal)) }
     ensures implied { IfOk result (λ h. IsAntecedent state.now.trail literal h.lits) }
     ensures id { IfOk result (λ h. IsId h.id) }
     ensures same { OnErr result (rows.new.items ≡ rows.old.items) }
@@ -134,7 +141,7 @@ fn hinted_row<P: ParityEngine, L: Sink<Item = LogEvent>>(
     }
 }
 
-/// The clause that implied a literal of the trail. A row's is told.
+/// The clause that implied a literal of the trail, which contradicts no assumed one. A row's is told.
 pub(crate) fn clause_of_reason<P: ParityEngine, L: Sink<Item = LogEvent>>(
     log: &mut SearchLog<L>,
     state: &SearchState,
@@ -146,6 +153,7 @@ pub(crate) fn clause_of_reason<P: ParityEngine, L: Sink<Item = LogEvent>>(
     requires stands { Stands P.ParityEngine L.Sink log.old state.now engine.now rows.old.items }
     requires reason { HasReason state.now.trail literal reason }
     requires room { length rows.old.items ≤ log.old.formula.now.variables }
+    requires apart { IsFalse (assumes log.old.formula.now.constraints (negate literal)) }
     ensures sourced { IfOk result (λ h. IsSourced state.now rows.new.items h.lits) }
     ensures implied { IfOk result (λ h. IsAntecedent state.now.trail literal h.lits) }
     ensures id { IfOk result (λ h. IsId h.id) }
@@ -174,6 +182,8 @@ pub struct Source<'a, 'b, P, L> {
     pub engine: &'a P,
     /// The clauses of rows that were told since the last mark, in the order of their ids.
     pub rows: &'a mut Vec<LitList>,
+    /// No literal of the trail below this place contradicts an assumed one.
+    pub below: usize,
 }
 
 impl<P: ParityEngine, L: Sink<Item = LogEvent>> Antecedents for Source<'_, '_, P, L> {
@@ -181,9 +191,12 @@ impl<P: ParityEngine, L: Sink<Item = LogEvent>> Antecedents for Source<'_, '_, P
 
     ghost holds = { λ a c. IsSourced a.state.now a.rows.now.items c };
 
-    ghost ready = { λ a. SearchStands a.log.now.formula.now a.state.now (P.state a.engine.now) a.rows.now.items (L.items a.log.now.sink.now) };
+    ghost ready = { λ a. SearchStands a.log.now.formula.now a.state.now (P.state a.engine.now) a.rows.now.items (L.items a.log.now.sink.now)
+        × AreApart a.log.now.formula.now.constraints a.state.now.trail a.below };
 
     ghost room = { λ a. a.log.now.formula.now.variables + 1 - length a.rows.now.items };
+
+    ghost reach = { λ a. a.below };
 
     ghost goes_on = { λ a why b. HasSameLoans a b × GoesOn L.Sink a.log.now why b.log.now };
 

@@ -1,5 +1,9 @@
 //! Unit clauses of the literals of level 0.
-ghost use Rattle.std.specs.Prelude.{◌≡◌, ◌+◌, ◌<◌, [], length, OnOk};
+ghost use Rattle.std.specs.Prelude.{◌≡◌, ◌+◌, ◌<◌, [], length, OnOk, IsFalse};
+ghost use Rattle.cx_base.specs.Assumptions.{assumes};
+ghost use Rattle.cx_base.specs.Literals.{negate};
+ghost use Rattle.cx_trail.specs.Sequence.{entry_at};
+ghost use Rattle.search_policy.specs.Assuming.{KeepsAssumptions};
 ghost use Rattle.cdcl_search.specs.Calls.{HasRowsToDelete, StandsOn};
 ghost use Rattle.cdcl_search.specs.Logs.{Stands};
 ghost use Rattle.cdcl_search.specs.Tells.{IsId};
@@ -14,9 +18,10 @@ use crate::state::SearchState;
 use conflict_learn::CoreFault;
 use cx_base::{Lit, LitList, LogEvent};
 use parity_engine::ParityEngine;
+use search_policy::Assumptions;
 use step_text::Sink;
 
-/// Tells the unit clause of the next literal, which this clause implied.
+/// Tells the unit clause of the next literal, which this clause implied and which contradicts no assumed one.
 fn tell_unit<P: ParityEngine, L: Sink<Item = LogEvent>>(
     log: &mut SearchLog<L>,
     state: &mut SearchState,
@@ -29,6 +34,7 @@ fn tell_unit<P: ParityEngine, L: Sink<Item = LogEvent>>(
     requires level { state.old.trail.level ≡ 0 }
     requires next { IsNextUnit state.old rows.now literal implying.now.lits }
     requires id { IsId implying.now.id }
+    requires apart { IsFalse (assumes log.old.formula.now.constraints (negate literal)) }
     ensures to_delete { HasRowsToDelete P.ParityEngine L.Sink log.old log.new state.new engine.now rows.now result }
     ensures units { OnOk result (length state.new.units.items ≡ length state.old.units.items + 1) }
     ensures same { HasOther state.old state.new }
@@ -41,7 +47,7 @@ fn tell_unit<P: ParityEngine, L: Sink<Item = LogEvent>>(
     Ok(())
 }
 
-/// Tells the unit clause of the first literal that has none. Where a row implied it, the row's clause is told before it and deleted behind it.
+/// Tells the unit clause of the first literal that has none, where it contradicts no assumed one. Where a row implied it, the row's clause is told before it and deleted behind it.
 fn tell_next_unit<P: ParityEngine, L: Sink<Item = LogEvent>>(
     log: &mut SearchLog<L>,
     state: &mut SearchState,
@@ -50,6 +56,7 @@ fn tell_next_unit<P: ParityEngine, L: Sink<Item = LogEvent>>(
     requires stands { Stands P.ParityEngine L.Sink log.old state.old engine.now [] }
     requires level { state.old.trail.level ≡ 0 }
     requires more { length state.old.units.items < length state.old.trail.entries }
+    requires apart { IsFalse (assumes log.old.formula.now.constraints (negate (entry_at state.old.trail.entries (length state.old.units.items)).literal)) }
     ensures stands_on { StandsOn P.ParityEngine L.Sink log.old log.new state.new engine.now [] result }
     ensures units { OnOk result (length state.new.units.items ≡ length state.old.units.items + 1) }
     ensures same { HasOther state.old state.new }
@@ -61,21 +68,23 @@ fn tell_next_unit<P: ParityEngine, L: Sink<Item = LogEvent>>(
     delete_rows(log, state, engine, &rows)
 }
 
-/// Tells the unit clauses, with hints, of the literals of level 0 that have none yet, where the search is at level 0.
+/// Tells the unit clauses, with hints, of the literals of level 0 that have none yet, where the search is at level 0, up to the first one that contradicts an assumed literal.
 pub(crate) fn tell_units<P: ParityEngine, L: Sink<Item = LogEvent>>(
     log: &mut SearchLog<L>,
     state: &mut SearchState,
     engine: &P,
+    assumptions: &Assumptions,
 ) -> Result<(), CoreFault>
-    requires { Stands P.ParityEngine L.Sink log.old state.old engine.now [] }
+    requires stands { Stands P.ParityEngine L.Sink log.old state.old engine.now [] }
+    requires keeps { KeepsAssumptions log.old.formula.now.constraints assumptions.now state.old.trail }
     ensures stands_on { StandsOn P.ParityEngine L.Sink log.old log.new state.new engine.now [] result }
-    ensures units { OnOk result (HasUnits state.new) }
+    ensures units { OnOk result (HasUnits state.new assumptions.now) }
     ensures same { HasOther state.old state.new }
 {
     if state.trail.level() > 0 {
         return Ok(());
     }
-    while state.units.len() < state.trail.len() {
+    while state.units.len() < assumptions.checked {
         tell_next_unit(log, state, engine)?;
     }
     Ok(())

@@ -25,7 +25,7 @@ returns g c =
     let n = c.vars-vars.ensures.variables in
     let all : c.loop-index.index ≡ c.args.formula.now.variables = omega (arith, high, past, n) in
     subst (Meets c.args.formula.now) (sym c.from_vec.ensures)
-    (full_trail_meets c.args.formula.now c.args.state.now (g.P.ParityEngine.state c.args.engine.now) c.requires.stands.0 c.requires.stands.1 c.requires.quiet c.requires.full c.vars-vars.ensures.within
+    (full_trail_meets c.args.formula.now c.args.state.now (g.P.ParityEngine.state c.args.engine.now) c.requires.stands.0 c.requires.stands.1 c.requires.quiet c.requires.full c.requires.assumed c.vars-vars.ensures.within
     c.loop-index.values.items (c.loop-index.invariant.long ∙ all) (subst (λ k. AreValues c.args.state.now.trail k c.loop-index.values.items) all c.loop-index.invariant.are))
 
 pub value_on-requires-clause-within : goal.value_on-requires-clause-within

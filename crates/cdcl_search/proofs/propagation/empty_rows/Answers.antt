@@ -2,24 +2,16 @@ use Rattle.std.proofs.Common.{◌≡◌, refl, sym, ap, ◌∙◌, subst, [], le
 use Rattle.parity_engine.specs.declared.state.Mood.{Mood}
 use Rattle.parity_engine.specs.declared.state.Mood.TheVariants.{Calm, Broken}
 use Rattle.cdcl_search.specs.declared.state.SearchState.{SearchState}
-use Rattle.cdcl_search.specs.Finds.{HasAll, HasSameCounts}
+use Rattle.cdcl_search.specs.Finds.{HasAll}
 use Rattle.cdcl_search.proofs.Feeding.{trail_is_short}
+use Rattle.cdcl_search.proofs.Longer.{same_rests, same_by_rows}
 use Rattle.cdcl_search.proofs.propagation.empty_rows.Goals as goal
-
--- what neither the rows change nor the values that the engine is given
-same_by_rows : (start before fed now : SearchState) → HasSameCounts start before → fed ≡ record before { given = length before.trail.entries } → HasSameCounts fed now → HasSameCounts start now
-same_by_rows start before fed now so_far given rows = (
-  rows.0 ∙ ap (λ (k : SearchState). k.trail.level) given ∙ so_far.0,
-  rows.1 ∙ ap (λ (k : SearchState). k.units.items) given ∙ so_far.1,
-  rows.2 ∙ ap (λ (k : SearchState). k.conflicts) given ∙ so_far.2,
-  rows.3 ∙ ap (λ (k : SearchState). k.next) given ∙ so_far.3,
-)
 
 calm_is_not_broken : (mood : Mood) → mood ≡ Calm → mood ≡ Broken → ⊥
 calm_is_not_broken mood is b = cc
 
 pub rows-init : goal.rows-init
-rows-init g c = record { stands = λ told stands. stands; unbroken = c.requires.unbroken; same = (refl, refl, refl, refl); grows = omega arith }
+rows-init g c = record { stands = λ told stands. stands; unbroken = c.requires.unbroken; same = same_rests c.args.state.now; grows = omega arith }
 
 pub feed-requires : goal.feed-requires
 feed-requires g c = record {

@@ -4,6 +4,8 @@ use Rattle.cx_trail.specs.Sequence.{TrailState}
 use Rattle.cx_trail.specs.declared.entry.Reason.TheVariants as reason
 use Rattle.parity_engine.specs.State.{State, IsSilent}
 use Rattle.parity_engine.specs.declared.state.Mood.TheVariants.{Calm, Busy}
+use Rattle.search_policy.specs.Assuming.{IsLonger}
+use Rattle.cdcl_search.proofs.Longer.{same_rests, longer_by_one}
 use Rattle.cdcl_search.proofs.Naming.{implied_is_open, quiet_stands, implied_stands, conflict_stands, conflict_is_clash}
 use Rattle.cdcl_search.proofs.propagation.follow_rows.Goals as goal
 
@@ -54,10 +56,10 @@ returns-in-Implied-clause-says g c =
     (omega (arith, longer, one), λ broken. cc (busy, broken))
 
 pub returns-in-Quiet-clause-same : goal.returns-in-Quiet-clause-same
-returns-in-Quiet-clause-same g c = (refl, refl, refl, refl)
+returns-in-Quiet-clause-same g c = same_rests c.args.state.now
 
 pub returns-in-Implied-clause-same : goal.returns-in-Implied-clause-same
-returns-in-Implied-clause-same g c = (ap (λ (t : TrailState). t.level) c.imply.ensures.pushed, refl, refl, refl)
+returns-in-Implied-clause-same g c = (ap (λ (t : TrailState). t.level) c.imply.ensures.pushed, refl, refl, refl, subst (IsLonger c.args.state.now.trail) (sym c.imply.ensures.pushed) (longer_by_one c.args.state.now.trail c.in-Implied.literal (reason.Row c.in-Implied.row)))
 
 pub returns-in-Conflict-clause-same : goal.returns-in-Conflict-clause-same
-returns-in-Conflict-clause-same g c = (refl, refl, refl, refl)
+returns-in-Conflict-clause-same g c = same_rests c.args.state.now

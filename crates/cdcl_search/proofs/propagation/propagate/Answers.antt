@@ -2,24 +2,13 @@ use Rattle.std.proofs.Common.{◌≡◌, refl, sym, ap, ◌∙◌, subst, [], le
 use Rattle.watch_lists.specs.Events.{Happens}
 use Rattle.watch_lists.specs.declared.event.Event.TheVariants.{Quiet}
 use Rattle.cdcl_search.specs.declared.state.SearchState.{SearchState}
-use Rattle.cdcl_search.specs.Finds.{HasAll, HasSameCounts}
+use Rattle.cdcl_search.specs.Finds.{HasAll}
 use Rattle.cdcl_search.proofs.Feeding.{trail_is_short}
+use Rattle.cdcl_search.proofs.Longer.{same_rests, same_then, same_by_all}
 use Rattle.cdcl_search.proofs.propagation.propagate.Goals as goal
 
--- what neither the clauses nor the rows change, nor the values that the engine is given
-same_by_all : (start before followed fed now : SearchState) → HasSameCounts start before → HasSameCounts before followed → fed ≡ record followed { given = length followed.trail.entries } → HasSameCounts fed now → HasSameCounts start now
-same_by_all start before followed fed now so_far clauses given rows = (
-  rows.0 ∙ ap (λ (k : SearchState). k.trail.level) given ∙ clauses.0 ∙ so_far.0,
-  rows.1 ∙ ap (λ (k : SearchState). k.units.items) given ∙ clauses.1 ∙ so_far.1,
-  rows.2 ∙ ap (λ (k : SearchState). k.conflicts) given ∙ clauses.2 ∙ so_far.2,
-  rows.3 ∙ ap (λ (k : SearchState). k.next) given ∙ clauses.3 ∙ so_far.3,
-)
-
-same_then : (a b k : SearchState) → HasSameCounts a b → HasSameCounts b k → HasSameCounts a k
-same_then a b k h i = (i.0 ∙ h.0, i.1 ∙ h.1, i.2 ∙ h.2, i.3 ∙ h.3)
-
 pub loop-reference-init : goal.loop-reference-init
-loop-reference-init g c = record { stands = λ told stands. stands; unbroken = c.requires.unbroken; same = (refl, refl, refl, refl); grows = omega arith }
+loop-reference-init g c = record { stands = λ told stands. stands; unbroken = c.requires.unbroken; same = same_rests c.args.state.now; grows = omega arith }
 
 pub follow_clauses-requires : goal.follow_clauses-requires
 follow_clauses-requires g c = (c.loop-reference.invariant.stands c.requires.stands.0 c.requires.stands.1).4.fits
@@ -32,9 +21,7 @@ returns-in-Conflict-clause-finds g c = (c.in-Conflict.ensures.happens.0, c.in-Co
 
 pub returns-in-Conflict-clause-same : goal.returns-in-Conflict-clause-same
 returns-in-Conflict-clause-same g c =
-    let same = c.follow_clauses.ensures.same in
-    let before = c.loop-reference.invariant.same in
-    (same.0 ∙ before.0, same.1 ∙ before.1, same.2 ∙ before.2, same.3 ∙ before.3)
+    same_then c.args.state.now c.loop-reference.state c.follow_clauses.new.state c.loop-reference.invariant.same c.follow_clauses.ensures.same
 
 pub returns-in-Conflict-clause-grows : goal.returns-in-Conflict-clause-grows
 returns-in-Conflict-clause-grows g c = let a = c.follow_clauses.ensures.grows in let b = c.loop-reference.invariant.grows in omega (arith, a, b)

@@ -1,59 +1,71 @@
-use Rattle.std.proofs.Common.{refl, ◌∙◌, subst, true≢false, sym, ap, length, arith}
+use Rattle.std.proofs.Common.{◌≡◌, ◌+◌, refl, ◌∙◌, subst, true≢false, true, not, sym, ap, length, arith, Bool, false}
+use Rattle.std.proofs.lemmas.List.{length_push}
 use Rattle.cx_trail.specs.Sequence.{TrailState}
-use Rattle.cdcl_search.specs.Finds.{PropagationFinds}
-use Rattle.std.proofs.lemmas.Result.{err_from_is_err_and}
+use Rattle.cx_trail.specs.declared.entry.Reason.TheVariants.{Decision}
+use Rattle.search_policy.specs.Assuming.{KeepsAssumptions}
+use Rattle.parity_engine.specs.declared.engine.ParityEngine as engine
+use Rattle.cdcl_search.specs.Searching.{SettlesAt, SearchReaches}
+use Rattle.cdcl_search.specs.declared.propagation.Found.TheVariants.{Quiet}
+use Rattle.cdcl_search.specs.declared.searching.Reached.TheVariants.{Found}
 use Rattle.cdcl_search.proofs.searching.turn.Goals as goal
+
+pub decide-requires : goal.decide-requires
+decide-requires g c =
+    let quiet = c.is_quiet.ensures.quiet c.if-not-is_quiet.false in
+    let at = subst (SettlesAt c.settle.new.log.formula.now.constraints c.settle.new.state (g.P.ParityEngine.state c.settle.new.engine) c.settle.new.assumptions) quiet c.in_ok-reached.ensures.settles in
+    record { stands = (_, c.in_ok-reached.ensures.searches_on.stands); quiet = at.0; units = c.in_ok-reached.ensures.units; keeps = c.in_ok-reached.ensures.keeps; checked = at.1 }
 
 pub returns-then-decide-clause-searches_on : goal.returns-then-decide-clause-searches_on
 returns-then-decide-clause-searches_on g c = record {
-  stands = c.decide.ensures.stays.stands (g.L.Sink.items c.settle.new.log.sink.now) c.in_ok-found.ensures.searches_on.stands;
-  conflicts = c.decide.ensures.same.1 ∙ c.in_ok-found.ensures.searches_on.conflicts;
-  log = c.in_ok-found.ensures.searches_on.log;
+  stands = c.decide.ensures.stays.stands (g.L.Sink.items c.settle.new.log.sink.now) c.in_ok-reached.ensures.searches_on.stands;
+  conflicts = c.decide.ensures.same.1 ∙ c.in_ok-reached.ensures.searches_on.conflicts;
+  log = c.in_ok-reached.ensures.searches_on.log;
 }
 
-pub returns-else-decide-clause-searches_on : goal.returns-else-decide-clause-searches_on
-returns-else-decide-clause-searches_on g c = record {
-  stands = c.decide.ensures.stays.stands (g.L.Sink.items c.settle.new.log.sink.now) c.in_ok-found.ensures.searches_on.stands;
-  conflicts = c.decide.ensures.same.1 ∙ c.in_ok-found.ensures.searches_on.conflicts;
-  log = c.in_ok-found.ensures.searches_on.log;
-}
-
-pub returns-in_err-found-clause-searches_on : goal.returns-in_err-found-clause-searches_on
-returns-in_err-found-clause-searches_on g c =
-    let fault = err_from_is_err_and c.from_residual.result c.from_residual.ensures.1 in
-    rw (fault.1, fault.2) (record { stands = tt; conflicts = c.settle.ensures.searches_on.conflicts; log = c.in_err-found.ensures.searches_on.log })
-
-pub decide-requires : goal.decide-requires
-decide-requires g c = record {
-  stands = (_, c.in_ok-found.ensures.searches_on.stands);
-  quiet = subst (PropagationFinds c.settle.new.state (g.P.ParityEngine.state c.settle.new.engine)) c.in-Quiet.is c.in_ok-found.ensures.finds;
-  units = c.in_ok-found.ensures.units;
+pub returns-clause-searches_on : goal.returns-clause-searches_on
+returns-clause-searches_on g c = record {
+  stands = c.decide.ensures.stays.stands (g.L.Sink.items c.settle.new.log.sink.now) c.in_ok-reached.ensures.searches_on.stands;
+  conflicts = c.decide.ensures.same.1 ∙ c.in_ok-reached.ensures.searches_on.conflicts;
+  log = c.in_ok-reached.ensures.searches_on.log;
 }
 
 pub returns-then-decide-clause-reaches : goal.returns-then-decide-clause-reaches
 returns-then-decide-clause-reaches g c =
     let grows = c.settle.ensures.grows in
-    let one = (c.decide.ensures.decided c.if-decide.true).1 in
-    record { longer = omega (arith, grows, one); unbroken = c.decide.ensures.stays.unbroken }
+    let opens = (c.decide.ensures.decided c.if-decide.true) in
+    let t = c.settle.new.state.trail in
+    let longer = ap (λ (x : TrailState). length x.entries) opens.opens in
+    let one = length_push t.entries (record { literal = opens.literal; level = t.level + 1; reason = Decision }) in
+    record { longer = omega (arith, grows, longer, one); unbroken = c.decide.ensures.stays.unbroken }
 
 pub returns-then-decide-clause-settled : goal.returns-then-decide-clause-settled
 returns-then-decide-clause-settled g c s = absurd (true≢false (sym c.if-decide.true ∙ c.decide.ensures.settled s))
 
-pub returns-else-decide-clause-reaches : goal.returns-else-decide-clause-reaches
-returns-else-decide-clause-reaches g c =
+pub returns-clause-reaches : goal.returns-clause-reaches
+returns-clause-reaches g c =
     let full = c.decide.ensures.full c.if-decide.false in
+    let quiet = c.is_quiet.ensures.quiet c.if-not-is_quiet.false in
+    let at = subst (SettlesAt c.settle.new.log.formula.now.constraints c.settle.new.state (g.P.ParityEngine.state c.settle.new.engine) c.settle.new.assumptions) quiet c.in_ok-reached.ensures.settles in
+    let trail = full.0 in
     record {
-      finds = full.2;
-      full = λ quiet. full.1;
-      units = λ zero. ap length c.decide.ensures.same.0 ∙ c.in_ok-found.ensures.units (ap (λ (t : TrailState). t.level) (sym full.0) ∙ zero) ∙ ap (λ (t : TrailState). length t.entries) (sym full.0);
+      settles = subst (SettlesAt c.settle.new.log.formula.now.constraints c.decide.new.state (g.P.ParityEngine.state c.decide.new.engine) c.decide.new.assumptions) (sym quiet)
+          (full.2, c.decide.ensures.checked ∙ at.1 ∙ ap (λ (t : TrailState). length t.entries) (sym trail));
+      full = λ is. full.1;
+      units = λ zero.
+          let many = c.in_ok-reached.ensures.units (ap (λ (t : TrailState). t.level) (sym trail) ∙ zero) in
+          let same = ap length c.decide.ensures.same.0 in
+          let checked = c.decide.ensures.checked in
+          omega (arith, many, same, checked);
+      keeps = c.decide.ensures.keeps;
     }
 
-pub returns-else-decide-clause-settled : goal.returns-else-decide-clause-settled
-returns-else-decide-clause-settled g c s = (refl, ap (λ (t : TrailState). t.level) (c.decide.ensures.full c.if-decide.false).0 ∙ c.in_ok-found.ensures.level)
+pub returns-clause-settled : goal.returns-clause-settled
+returns-clause-settled g c s = (refl, ap (λ (t : TrailState). t.level) (c.decide.ensures.full c.if-decide.false).0 ∙ c.in_ok-reached.ensures.level)
 
-pub returns-in_default : goal.returns-in_default
-returns-in_default g c = record {
-  searches_on = record { stands = c.in_ok-found.ensures.searches_on.stands; conflicts = c.in_ok-found.ensures.searches_on.conflicts; log = c.in_ok-found.ensures.searches_on.log };
-  reaches = record { finds = c.in_ok-found.ensures.finds; full = λ quiet. absurd (c.in_default.not-Quiet quiet); units = c.in_ok-found.ensures.units };
-  settled = λ s. (refl, c.in_ok-found.ensures.level);
+pub returns-then-not-is_quiet-clause-reaches : goal.returns-then-not-is_quiet-clause-reaches
+returns-then-not-is_quiet-clause-reaches g c = record {
+  settles = c.in_ok-reached.ensures.settles;
+  full = λ is. absurd (c.is_quiet.ensures.other c.if-not-is_quiet.true is);
+  units = c.in_ok-reached.ensures.units;
+  keeps = c.in_ok-reached.ensures.keeps;
 }

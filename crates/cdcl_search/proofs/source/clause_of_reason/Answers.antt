@@ -77,6 +77,9 @@ hinted_row-requires-clause-stands g c = c.requires.stands
 pub hinted_row-requires-clause-room : goal.hinted_row-requires-clause-room
 hinted_row-requires-clause-room g c = c.requires.room
 
+pub hinted_row-requires-clause-apart : goal.hinted_row-requires-clause-apart
+hinted_row-requires-clause-apart g c = c.requires.apart
+
 pub returns-in-Row-clause-implied : goal.returns-in-Row-clause-implied
 returns-in-Row-clause-implied g c = c.hinted_row.ensures.implied
 

@@ -3,7 +3,8 @@ use Rattle.std.proofs.lemmas.Result.{err_from_is_err_and}
 use Rattle.cdcl_search.specs.GoingOn.{log_stops}
 use Rattle.conflict_learn.specs.Learning.{IsAntecedent}
 use Rattle.cdcl_search.specs.Ties.{SearchStands}
-use Rattle.cdcl_search.proofs.RowReasons.{is_named, all_assigned, gives_literal, explains, has_some, is_antecedent}
+use Rattle.cdcl_search.proofs.RowReasons.{is_named, all_assigned, gives_literal, explains, has_it, is_antecedent}
+use Rattle.cdcl_search.proofs.EndingClauses.{not_ending}
 use Rattle.cdcl_search.proofs.source.hinted_row.Goals as goal
 
 pub reason_clause-requires-clause-named : goal.reason_clause-requires-clause-named
@@ -19,9 +20,10 @@ pub tell_reason-requires-clause-explains : goal.tell_reason-requires-clause-expl
 tell_reason-requires-clause-explains g c = explains c.args.state.now.trail (g.P.ParityEngine.state c.args.engine.now) c.args.literal c.args.row c.requires.reason c.in_ok-reason.reason
     c.in_ok-reason.ensures.parity c.in_ok-reason.ensures.numbers c.in_ok-reason.ensures.sum c.in_ok-reason.ensures.clause
 
-pub tell_reason-requires-clause-some : goal.tell_reason-requires-clause-some
-tell_reason-requires-clause-some g c = has_some c.args.state.now.trail (g.P.ParityEngine.state c.args.engine.now) c.args.literal c.args.row c.requires.reason c.in_ok-reason.reason
-    c.in_ok-reason.ensures.parity c.in_ok-reason.ensures.numbers c.in_ok-reason.ensures.sum c.in_ok-reason.ensures.clause
+pub tell_reason-requires-clause-goes_on : goal.tell_reason-requires-clause-goes_on
+tell_reason-requires-clause-goes_on g c = not_ending c.args.log.now.formula.now.constraints c.in_ok-reason.reason.clause c.args.literal
+    (has_it c.args.state.now.trail (g.P.ParityEngine.state c.args.engine.now) c.args.literal c.args.row c.requires.reason c.in_ok-reason.reason
+    c.in_ok-reason.ensures.parity c.in_ok-reason.ensures.numbers c.in_ok-reason.ensures.sum c.in_ok-reason.ensures.clause) c.requires.apart
 
 pub returns-in-Ok-clause-implied : goal.returns-in-Ok-clause-implied
 returns-in-Ok-clause-implied g c = subst (IsAntecedent c.args.state.now.trail c.args.literal) (sym c.in-Ok.ensures.clause)

@@ -1,4 +1,9 @@
-use Rattle.std.proofs.Common.{◌≡◌, sym, ap, ◌∙◌, subst, length, arith}
+use Rattle.std.proofs.Common.{◌≡◌, sym, ap, ◌∙◌, subst, ℕ, List, false, length, arith}
+use Rattle.cx_base.specs.Literals.{negate}
+use Rattle.cx_base.specs.Problem.{Problem}
+use Rattle.cx_base.specs.Assumptions.{assumes}
+use Rattle.cx_base.specs.declared.constraint.Constraint.{Constraint}
+use Rattle.cx_trail.specs.declared.entry.Entry.{Entry}
 use Rattle.std.proofs.lemmas.Result.{err_from_is_err_and}
 use Rattle.cx_trail.specs.Sequence.{entry_at}
 use Rattle.cdcl_search.specs.Ties.{SearchStands, SearchStandsFrom}
@@ -12,6 +17,22 @@ clause_of_reason-requires-clause-stands g c =
 
 pub clause_of_reason-requires-clause-room : goal.clause_of_reason-requires-clause-room
 clause_of_reason-requires-clause-room g c = let none = ap length c.new-rows.ensures.items in omega (arith, none)
+
+here : (entries : List Entry) (units len : ℕ) (entry : Entry) (constraints : List Constraint) → units ≡ len → entry ≡ entry_at entries len → assumes constraints (negate (entry_at entries units).literal) ≡ false → assumes constraints (negate entry.literal) ≡ false
+here entries units len entry constraints same is apart = ap (λ (x : Entry). assumes constraints (negate x.literal)) (is ∙ ap (entry_at entries) (sym same)) ∙ apart
+
+pub clause_of_reason-requires-clause-apart : goal.clause_of_reason-requires-clause-apart
+clause_of_reason-requires-clause-apart g c =
+    let long = c.len.ensures in
+    let same = c.args.state.now.units.ok in
+    here c.args.state.now.trail.entries (length c.args.state.now.units.items) c.len.result c.entry-entry.result c.args.log.now.formula.now.constraints (omega (arith, long, same)) c.entry-entry.ensures.is c.requires.apart
+
+pub tell_unit-requires-clause-apart : goal.tell_unit-requires-clause-apart
+tell_unit-requires-clause-apart g c =
+    let long = c.len.ensures in
+    let same = c.args.state.now.units.ok in
+    subst (λ (f : Problem). assumes f.constraints (negate c.entry-entry.result.literal) ≡ false) (sym c.in_ok-implying.ensures.stands_on.log.formula)
+    (here c.args.state.now.trail.entries (length c.args.state.now.units.items) c.len.result c.entry-entry.result c.args.log.now.formula.now.constraints (omega (arith, long, same)) c.entry-entry.ensures.is c.requires.apart)
 
 pub tell_unit-requires-clause-stands : goal.tell_unit-requires-clause-stands
 tell_unit-requires-clause-stands g c =

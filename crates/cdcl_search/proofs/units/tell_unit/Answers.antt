@@ -21,13 +21,13 @@ tell_chained-requires-clause-id g c = (has_ids c.args.log.now.formula.now c.args
 pub tell_chained-requires-clause-right : goal.tell_chained-requires-clause-right
 tell_chained-requires-clause-right g c =
     left_then c.args.log.now.formula.now c.args.state.now (g.P.ParityEngine.state c.args.engine.now) c.args.rows.now (g.L.Sink.items c.args.log.now.sink.now) c.requires.stands
-    c.requires.level c.args.literal c.args.implying.now.lits c.requires.next c.in_ok-hints.hints
+    c.requires.level c.args.literal c.args.implying.now.lits c.requires.next c.in_ok-hints.hints c.requires.apart
 
 pub returns-clause-to_delete : goal.returns-clause-to_delete
 returns-clause-to_delete g c =
     let stands = subst (λ f. SearchStandsFrom f (with_unit c.args.state.now c.push.new.self (c.args.state.now.next + 1)) (g.P.ParityEngine.state c.args.engine.now) (c.args.state.now.next + 1) c.args.rows.now (g.L.Sink.items c.tell_chained.new.log.sink.now)) (sym c.tell_chained.ensures.log.formula)
     (stands_then c.args.log.now.formula.now c.args.state.now (g.P.ParityEngine.state c.args.engine.now) c.args.rows.now (g.L.Sink.items c.args.log.now.sink.now) c.requires.stands
-    c.requires.level c.args.literal c.args.implying.now.lits c.requires.next c.in_ok-hints.hints
+    c.requires.level c.args.literal c.args.implying.now.lits c.requires.next c.in_ok-hints.hints c.requires.apart
     (g.L.Sink.items c.tell_chained.new.log.sink.now) c.in_ok-tell_chained.ensures.told c.push.new.self c.in_ok-push.ensures.items (c.args.state.now.next + 1) refl) in
     record { stands = stands; log = c.in_ok-tell_chained.ensures.log }
 

@@ -1,13 +1,22 @@
-use Rattle.std.proofs.Common.{refl, ap, arith}
+use Rattle.std.proofs.Common.{◌≡◌, false, refl, sym, ap, subst, arith}
+use Rattle.cx_base.specs.Literals.{Literal, negate}
+use Rattle.cx_base.specs.Problem.{Problem}
+use Rattle.cx_base.specs.Assumptions.{assumes}
+use Rattle.search_policy.specs.Assuming.{AreApart}
 use Rattle.std.proofs.lemmas.Result.{err_from_is_err_and}
 use Rattle.cdcl_search.proofs.source.SourceAntecedents.clause_of.Goals as goal
+
+pub clause_of_reason-requires-clause-apart : goal.clause_of_reason-requires-clause-apart
+clause_of_reason-requires-clause-apart g c =
+    let b = c.requires.below in
+    subst (λ (l : Literal). assumes c.args.self.now.log.now.formula.now.constraints (negate l) ≡ false) b.2.1 (c.requires.ready.1 b.0 b.1)
 
 pub returns-in_err-hinted : goal.returns-in_err-hinted
 returns-in_err-hinted g c =
     let e = c.in_err-hinted.ensures in
     let fault = err_from_is_err_and c.from_residual.result c.from_residual.ensures.1 in
     rw (fault.1, fault.2)
-    (record { trail = refl; held = λ clause h. e.grows clause h; clause = tt; implied = tt; ready = tt; room = tt; goes_on = (record { state = refl; engine = refl; log = refl; rows = refl }, e.stands_on.log) })
+    (record { trail = refl; held = λ clause h. e.grows clause h; clause = tt; implied = tt; ready = tt; reach = refl; room = tt; goes_on = (record { state = refl; engine = refl; log = refl; rows = refl; below = refl }, e.stands_on.log) })
 
 pub returns : goal.returns
 returns g c =
@@ -17,7 +26,8 @@ returns g c =
       held = λ clause h. e.grows clause h;
       clause = e.sourced;
       implied = e.implied;
-      ready = e.stands_on.stands;
+      ready = (e.stands_on.stands, subst (λ (f : Problem). AreApart f.constraints c.args.self.now.state.now.trail c.args.self.now.below) (sym e.stands_on.log.formula) c.requires.ready.1);
+      reach = refl;
       room = omega (arith, e.one, ap (λ f. f.variables) e.stands_on.log.formula);
-      goes_on = (record { state = refl; engine = refl; log = refl; rows = refl }, e.stands_on.log);
+      goes_on = (record { state = refl; engine = refl; log = refl; rows = refl; below = refl }, e.stands_on.log);
     }

@@ -1,0 +1,18 @@
+-- What is decided.
+use Rattle.std.specs.Prelude.{◌≡◌, ◌≤◌, ◌+◌, ◌⊎◌, List}
+use Rattle.cx_base.specs.Literals.{Literal}
+use Rattle.cx_trail.specs.declared.entry.Reason.TheVariants.{Decision}
+use Rattle.cx_trail.specs.Sequence.{TrailState, IsOpenIn, pushed}
+use Rattle.search_policy.specs.Assuming.{AreTrue, IsFirstOpen}
+
+-- a literal without a value
+pub record IsNextDecision (t : TrailState) (l : Literal) : Type 0 where
+  pub low : 1 ≤ l.variable
+  pub high : l.variable ≤ t.variables
+  pub no_value : IsOpenIn t.entries l.variable
+
+-- A decision opened a level: of the first assumed literal that had no value, or each assumed literal was true.
+pub record DecidesOn (assumed : List Literal) (old new : TrailState) : Type 0 where
+  pub literal : Literal
+  pub first : AreTrue assumed old ⊎ IsFirstOpen assumed old literal
+  pub opens : new ≡ pushed old (old.level + 1) literal Decision
