@@ -1,5 +1,5 @@
 -- What the logs of the search's answers are.
-use Rattle.std.proofs.Common.{◌≡◌, refl, sym, ap, ◌∙◌, subst, ℕ, ◌+◌, ◌<◌, ◌≤◌, false, List, Bool, Some, None, Option, Result, Ok, Err, filter_map, inl, arith}
+use Rattle.std.proofs.Common.{◌≡◌, refl, sym, ap, ◌∙◌, subst, ℕ, ◌+◌, ◌<◌, ◌≤◌, false, List, [], Bool, Some, None, Option, Result, Ok, Err, filter_map, inl, arith}
 use Rattle.cx_base.specs.Literals.{Literal}
 use Rattle.cx_base.specs.Problem.{Problem}
 use Rattle.cx_base.specs.declared.steps.LogEvent.{LogEvent}
@@ -26,6 +26,7 @@ use Rattle.cdcl_search.specs.Ties.{SearchStands}
 use Rattle.cdcl_core.specs.declared.solving.Outcome.TheVariants.{Sat, Unsat, Unknown}
 use Rattle.cdcl_core.specs.Learning.{Learns}
 use Rattle.cdcl_core.specs.Results.{IsOpenWith, IsFresh, Refutes}
+use Rattle.cdcl_core.proofs.OriginalLaws.{left_by}
 use Rattle.cdcl_core.proofs.Entering.{round_is_search, conflicts_then, tidy}
 
 -- ---- open logs
@@ -47,19 +48,19 @@ learned_log_is_open formula c e lits back told l = search_is_open formula e.pari
 pub values_are_known : (values : List Bool) (n : ℕ) → Sat values ≡ Unknown n → ⊥
 values_are_known values n is = cc
 
-pub unsat_is_known : (n : ℕ) → Unsat ≡ Unknown n → ⊥
-unsat_is_known n is = cc
+pub unsat_is_known : (failed : List Literal) (n : ℕ) → Unsat failed ≡ Unknown n → ⊥
+unsat_is_known failed n is = cc
 
 -- fewer marks than one number are fewer than a greater one
-pub refutes_within : (formula : Problem) (n budget : ℕ) (told : Option (List LogEvent)) → n ≤ budget → Refutes formula n told → Refutes formula budget told
-refutes_within formula n budget None few r = record { unmet = r.unmet; log = tt }
-refutes_within formula n budget (Some events) few r = let less = r.log.1.1 in record { unmet = r.unmet; log = (r.log.0, (r.log.1.0, omega (arith, less, few), r.log.1.2)) }
+pub refutes_within : (formula : Problem) (n budget : ℕ) (told : Option (List LogEvent)) (failed : List Literal) → n ≤ budget → Refutes formula n told failed → Refutes formula budget told failed
+refutes_within formula n budget None failed few r = record { unmet = r.unmet; fails = r.fails; clash = r.clash; log = tt }
+refutes_within formula n budget (Some events) failed few r = let less = r.log.1.1 in record { unmet = r.unmet; fails = r.fails; clash = r.clash; log = (r.log.0, (r.log.1.0, omega (arith, less, few), r.log.1.2)) }
 
 -- ---- at the end
 -- where nothing is told, it is right so far
 pub fresh_is_left : (formula : Problem) (told : Option (List LogEvent)) → IsFresh told → IsLeft formula told
 fresh_is_left formula None fresh = tt
-fresh_is_left formula (Some es) fresh = subst (λ xs. IsLeft formula (Some xs)) (sym fresh) (inl ((log_calculus formula).start, refl))
+fresh_is_left formula (Some es) fresh = subst (λ xs. IsLeft formula (Some xs)) (sym fresh) (left_by formula [] (log_calculus formula).start refl)
 
 pub fresh_is_low : (told : Option (List LogEvent)) → IsFresh told → HaveLowIds told
 fresh_is_low None fresh = tt

@@ -1,5 +1,5 @@
--- What is told last: the empty clause.
-use Rattle.std.proofs.Common.{◌≡◌, refl, sym, ap, subst, ℕ, ◌+◌, ◌≤◌, ℤ, true, List, [], ◌∷◌, ◌++◌, length, Option, Some, None, inr, arith, length-append}
+-- What is told last: a clause that ends the log.
+use Rattle.std.proofs.Common.{◌≡◌, refl, sym, ap, subst, ℕ, ◌+◌, ◌≤◌, ℤ, true, false, ◌∙◌, List, [], ◌∷◌, ◌++◌, length, Option, Some, None, inr, arith, true≢false, length-append}
 use Rattle.std.specs.List.{All}
 use Rattle.cx_base.specs.Literals.{Literal}
 use Rattle.cx_base.specs.Problem.{Problem, Unmet}
@@ -16,7 +16,11 @@ use Rattle.search_steps.specs.LogSteps.{IsEnded, RestOnClauses}
 use Rattle.search_steps.specs.Quiet.{IsOfParities}
 use Rattle.search_steps.specs.Tied.{IsLiveSet}
 use Rattle.search_steps.specs.Trail.{Entry, all_held}
-use Rattle.search_steps.proofs.Ends.{ended_is_unmet, chained_clause_ends, chained_clause_is_marked}
+use Rattle.cx_base.specs.Assumptions.{clashes, is_ending, IsFailed}
+use Rattle.cx_base.specs.Integers.{integers_of, literals}
+use Rattle.search_steps.specs.LogSteps.{IsAddition}
+use Rattle.search_steps.specs.Search.{IsSearch}
+use Rattle.search_steps.proofs.Ends.{ended_is_unmet, chained_clause_ends, chained_clause_fails, chained_clause_is_marked}
 use Rattle.search_steps.proofs.IdLaws.{next_is_free}
 use Rattle.search_steps.proofs.LogLaws.{falsified_has_chain}
 use Rattle.search_steps.proofs.Stored.{has_of, stored_is_false}
@@ -30,85 +34,73 @@ use Rattle.cdcl_search.proofs.Places.{tied_length}
 use Rattle.cdcl_search.proofs.UnitTies.{on_clauses}
 use Rattle.cdcl_search.proofs.UnitLaws.{false_are_low}
 use Rattle.cdcl_core.specs.Concluding.{IsEndedWith, IsContradicted, IsRefutable, IsConflictClause}
-use Rattle.cdcl_core.specs.Results.{Refutes, IsEndedWithin}
+use Rattle.cdcl_core.specs.Results.{Refutes, IsEndedWithin, EndsFor}
 
--- ---- steps that end the log
-within : (formula : Problem) (marks : ℕ) (told : Option (List LogEvent)) → IsEndedWith formula marks told → IsEndedWithin formula (marks + 1) told
-within formula marks None e = tt
-within formula marks (Some events) e = (e.0, (marks, omega arith, e.1))
-
-pub ends_refute : (formula : Problem) (marks : ℕ) (told : Option (List LogEvent)) → Unmet formula → IsEndedWith formula marks told → Refutes formula (marks + 1) told
-ends_refute formula marks told unmet ends = record { unmet = unmet; log = within formula marks told ends }
-
--- a log that is right to its end is right so far
-pub ended_is_left : (formula : Problem) (marks : ℕ) (told : Option (List LogEvent)) → IsEndedWith formula marks told → IsLeft formula told
-ended_is_left formula marks None e = tt
-ended_is_left formula marks (Some events) e = inr e.0
-
--- ---- the empty clause is told
-module _ (formula : Problem) (id marks : ℕ) (old : Option (List LogEvent)) (shown : IsRefutable formula id marks old) (hints : List ℤ) where
-  abbrev step : LogStep
-  step = ClauseWithHints id [] hints
-
-  abbrev s : Search
-  s = shown.1.0
-
-  abbrev k : IsContradicted formula id marks s
-  k = shown.1.2
-
-  ended : IsEnded formula (s.events ++ Step step ∷ [])
-  ended = chained_clause_ends formula k.parities s k.search id [] hints (record { within = refl; free = k.free }) k.chain refl
-
-  is_marked : Marked formula (s.events ++ Step step ∷ []) marks
-  is_marked = subst (Marked formula (s.events ++ Step step ∷ [])) k.conflicts (chained_clause_is_marked formula k.parities s k.search id [] hints k.served refl)
-
-  ends_then : (o : Option (List LogEvent)) → AreTold o s.events → IsEndedWith formula marks (with_events (Step step ∷ []) o)
-  ends_then None a = tt
-  ends_then (Some es) a = subst (λ xs. IsEndedWith formula marks (Some (xs ++ Step step ∷ []))) (sym a) (ended, is_marked)
-
-  pub shown_ends : IsEndedWith formula marks (with_events (Step step ∷ []) old)
-  shown_ends = ends_then old shown.1.1
-
-  pub shown_is_unmet : Unmet formula
-  shown_is_unmet = ended_is_unmet formula (s.events ++ Step step ∷ []) ended
-
--- ---- a conflict at level 0
+-- ---- at level 0
 pub no_newer : (newer older es : List Entry) → es ≡ newer ++ older → length older ≡ length es → older ≡ es
 no_newer [] older es is long = sym is
 no_newer (x ∷ newer) older es is long = absurd (let a = ap length is in let b = length-append newer older in omega (arith, a, b, long))
 
-module _ (formula : Problem) (c : SearchState) (e : State) (rows : List (List Literal)) (old : Option (List LogEvent)) (st : SearchStands formula c e rows old) (lits : List Literal) (conflict : IsConflictClause c rows lits) where
-  pub conflict_is_low : All (λ m. m.variable ≤ c.trail.variables) lits
-  conflict_is_low = false_are_low c.trail st.3.trail.follows.sound lits conflict.all_false
+-- ---- steps that end the log
+within : (formula : Problem) (marks : ℕ) (failed : List Literal) (told : Option (List LogEvent)) → IsEndedWith formula marks failed told → IsEndedWithin formula (marks + 1) failed told
+within formula marks failed None e = tt
+within formula marks failed (Some events) e = (e.0, (marks, omega arith, e.1))
 
-  module _ (every : length c.units.items ≡ length c.trail.entries) (room : c.next ≤ highest_id) where
-    rest : RestOnClauses st.0.trail
-    rest = subst RestOnClauses (no_newer st.3.units.newer st.3.units.older st.0.trail st.3.units.parts
-        (let long = tied_length st.0.trail c.trail.entries st.3.trail.follows.tied in let count = st.3.units.count in omega (arith, long, count, every))) (on_clauses c.units.items st.3.units.older st.3.units.rest)
+pub ends_refute : (formula : Problem) (marks : ℕ) (failed : List Literal) (told : Option (List LogEvent)) → Unmet formula → IsFailed formula failed → clashes formula.constraints ≡ false → IsEndedWith formula marks failed told → Refutes formula (marks + 1) told failed
+ends_refute formula marks failed told unmet fails apart ends = record { unmet = unmet; fails = fails; clash = λ both. absurd (true≢false (sym both ∙ apart)); log = within formula marks failed told ends }
 
-    live : IsLiveSet st.0.moment.tables.clauses lits
-    live = sourced_is_live formula c e rows st.0 st.3 lits conflict.sourced
+-- a log that is right to its end is right so far
+pub ended_is_left : (formula : Problem) (marks : ℕ) (failed : List Literal) (told : Option (List LogEvent)) → IsEndedWith formula marks failed told → IsLeft formula told
+ended_is_left formula marks failed None e = tt
+ended_is_left formula marks failed (Some events) e = inr e.0.ended
 
-    all_false : is_inside (negations live.0) (all_held st.0.trail) ≡ true
-    all_false = stored_is_false lits live.0 live.2 st.0.trail c.trail.entries st.3.trail.follows.tied (λ m has. conflict.all_false m (has_of lits m has))
+-- ---- a clause by a right chain is told that ends the log
+module _ (formula : Problem) (parities : List (List Literal)) (s : Search) (ok : IsSearch formula parities s) (served : s.moment.awaits ≡ false) (marks : ℕ) (count : s.conflicts ≡ marks) (n : ℕ) (lits : List Literal) (hints : List ℤ)
+    (back : literals (integers_of lits) ≡ lits) (added : IsAddition formula s.moment.tables.clauses n (integers_of lits)) (chain : HasChain s.moment.tables.clauses lits) (ends : is_ending formula.constraints lits ≡ true) where
+  abbrev last : LogStep
+  last = ClauseWithHints n (integers_of lits) hints
 
-    chain : HasChain st.0.moment.tables.clauses []
-    chain = falsified_has_chain st.0.moment.tables.clauses (IsOfParities formula.variables e.parities) st.0.trail st.1.serves.stands rest live.0 live.1 all_false
+  ending_told : is_ending formula.constraints (literals (integers_of lits)) ≡ true
+  ending_told = ap (is_ending formula.constraints) back ∙ ends
 
-    -- each literal of the conflict's clause is false at level 0
-    pub conflict_is_refutable : IsRefutable formula c.next c.conflicts old
-    conflict_is_refutable = (
-      (let low = st.3.log.ranged.originals in omega (arith, low), omega (arith, room)),
-      (
-        st.0,
-        st.2,
-        record {
-          parities = e.parities;
-          search = st.1;
-          chain = chain;
-          free = next_is_free formula (first_row_id c.next) c.next (first_row_id c.next + length rows) st.0 st.3.log.ranged (omega arith);
-          served = st.3.log.served.served;
-          conflicts = st.3.counts.marked;
-        },
-      ),
-    )
+  chain_told : HasChain s.moment.tables.clauses (literals (integers_of lits))
+  chain_told = subst (HasChain s.moment.tables.clauses) (sym back) chain
+
+  pub clause_fails : IsFailed formula (negations lits)
+  clause_fails = subst (λ ls. IsFailed formula (negations ls)) back (chained_clause_fails formula parities s ok n (integers_of lits) hints added chain_told ending_told)
+
+  clause_ends : EndsFor formula (s.events ++ Step last ∷ []) (negations lits)
+  clause_ends = record {
+    ended = chained_clause_ends formula parities s ok n (integers_of lits) hints added chain_told ending_told;
+    last = λ apart. (s.events, last, refl, ap negations (sym back));
+  }
+
+  clause_is_marked : Marked formula (s.events ++ Step last ∷ []) marks
+  clause_is_marked = subst (Marked formula (s.events ++ Step last ∷ [])) count (chained_clause_is_marked formula parities s ok n (integers_of lits) hints served ending_told)
+
+  pub clause_is_told : (o : Option (List LogEvent)) → AreTold o s.events → IsEndedWith formula marks (negations lits) (with_events (Step last ∷ []) o)
+  clause_is_told None a = tt
+  clause_is_told (Some es) a = subst (λ xs. IsEndedWith formula marks (negations lits) (Some (xs ++ Step last ∷ []))) (sym a) (clause_ends, clause_is_marked)
+
+  pub clause_is_unmet : Unmet formula
+  clause_is_unmet = ended_is_unmet formula (s.events ++ Step last ∷ []) clause_ends.ended
+
+-- ---- the empty clause is told
+module _ (formula : Problem) (id marks : ℕ) (old : Option (List LogEvent)) (shown : IsRefutable formula id marks old) (hints : List ℤ) where
+  abbrev s_then : Search
+  s_then = shown.1.0
+
+  abbrev k : IsContradicted formula id marks s_then
+  k = shown.1.2
+
+  pub shown_ends : IsEndedWith formula marks [] (with_events (Step (ClauseWithHints id [] hints) ∷ []) old)
+  shown_ends = clause_is_told formula k.parities s_then k.search k.served marks k.conflicts id [] hints refl (record { within = refl; free = k.free }) k.chain refl old shown.1.1
+
+  pub shown_is_unmet : Unmet formula
+  shown_is_unmet = clause_is_unmet formula k.parities s_then k.search k.served marks k.conflicts id [] hints refl (record { within = refl; free = k.free }) k.chain refl
+
+  pub shown_fails : IsFailed formula []
+  shown_fails = clause_fails formula k.parities s_then k.search k.served marks k.conflicts id [] hints refl (record { within = refl; free = k.free }) k.chain refl
+
+  pub shown_is_apart : clashes formula.constraints ≡ false
+  shown_is_apart = k.search.log.apart

@@ -2,10 +2,11 @@
 use Rattle.std.proofs.Common.{◌≡◌, ◌≢◌, refl, sym, ap, ◌∙◌, subst, ℕ, ◌+◌, ◌-◌, ◌<◌, ℤ, false, cond, nat_eq, eq-eqb, List, [], ◌∷◌, length, Some, ◌⊎◌, inl, inr, arith}
 use Rattle.std.proofs.lemmas.Bool.{eqb-false}
 use Rattle.cx_base.specs.Literals.{Literal}
+use Rattle.cx_base.specs.Assumptions.{is_ending}
 use Rattle.cx_base.specs.Problem.{Problem, AreWithin}
 use Rattle.cx_base.specs.declared.steps.LogStep.TheVariants.{ClauseWithHints}
 use Rattle.cx_base.specs.Integers.{literals, integers_of}
-use Rattle.cx_semantics.specs.LogRules.{derives_empty_clause}
+use Rattle.cx_semantics.specs.LogRules.{derives_ending_clause}
 use Rattle.cx_semantics.specs.Tables.{get}
 use Rattle.cx_semantics.proofs.Lookups.{Looks-insert}
 use Rattle.cx_trail.specs.declared.entry.Reason.{Reason}
@@ -66,8 +67,8 @@ module _ (formula : Problem) (c : SearchState) (e : State) (lits : List Literal)
   pub addition : IsAddition formula s.moment.tables.clauses n zs
   addition = record { within = variables_are_within formula.variables lits within; free = next_is_free formula (first_row_id c.next) c.next (first_row_id c.next + length taught.rows) s taught.ties.log.ranged (omega arith) }
 
-  pub goes_on : derives_empty_clause (ClauseWithHints n zs hints) ≡ false
-  goes_on = ap (λ xs. derives_empty_clause (ClauseWithHints n (integers_of xs) hints)) taught.parts
+  pub goes_on : derives_ending_clause formula (ClauseWithHints n zs hints) ≡ false
+  goes_on = ap (is_ending formula.constraints) taught.integers ∙ taught.goes_on
 
   learned : IsLearnedOf s.trail back (literals zs) l
   learned = subst (λ xs. IsLearnedOf s.trail back xs l) (sym taught.integers) taught.learned

@@ -50,6 +50,14 @@ parity_passes cs i d lits less is =
     let both = length-append (clauses_of (take i cs)) [] in
     omega (arith, long, both)
 
+assumption_passes : (cs : List Constraint) (i : ℕ) (d : Constraint) (lits : List Literal) → i < length cs → get_or cs i d ≡ constraint.Assume lits → length (clauses_of (take (i + 1) cs)) ≡ length (clauses_of (take i cs))
+unfolding clauses_of
+assumption_passes cs i d lits less is =
+    let more = take_more cs i d less ∙ ap (λ c. take i cs ++ c ∷ []) is in
+    let long = ap length (ap clauses_of more ∙ filter_map-append clause_in (take i cs) (constraint.Assume lits ∷ [])) in
+    let both = length-append (clauses_of (take i cs)) [] in
+    omega (arith, long, both)
+
 pub clause_is_at : (cs : List Constraint) (i : ℕ) (d : Constraint) (lits : List Literal) → i < length cs → get_or cs i d ≡ constraint.Clause lits
     → (length (clauses_of (take i cs)) < length (clauses_of cs)) × (get_or (clauses_of cs) (length (clauses_of (take i cs))) [] ≡ lits)
 unfolding clauses_of
@@ -57,6 +65,7 @@ clause_is_at [] i d lits less is = absurd (omega (arith, less))
 clause_is_at (c ∷ cs) zero d lits less is = subst (λ x. (0 < length (clauses_of (x ∷ cs))) × (get_or (clauses_of (x ∷ cs)) 0 [] ≡ lits)) (sym is) (omega arith, refl)
 clause_is_at (constraint.Clause x ∷ cs) (suc i) d lits less is = let r = clause_is_at cs i d lits (omega (arith, less)) is in let low = r.0 in (omega (arith, low), r.1)
 clause_is_at (constraint.Parity x ∷ cs) (suc i) d lits less is = clause_is_at cs i d lits (omega (arith, less)) is
+clause_is_at (constraint.Assume x ∷ cs) (suc i) d lits less is = clause_is_at cs i d lits (omega (arith, less)) is
 
 pub none_counted : 0 ≡ length (clauses_of [])
 unfolding clauses_of
@@ -346,6 +355,9 @@ module _ (formula : Problem) (place : ℕ) (d : Constraint) (less : place < leng
 
   pub parity_passed : (lits : List Literal) → get_or formula.constraints place d ≡ constraint.Parity lits → IsFilledUpTo formula (length (clauses_of (take (place + 1) formula.constraints))) f.state f.units.items f.empty
   parity_passed lits at = subst (λ n. IsFilledUpTo formula n f.state f.units.items f.empty) (sym (parity_passes formula.constraints place d lits less at)) filled
+
+  pub assumption_passed : (lits : List Literal) → get_or formula.constraints place d ≡ constraint.Assume lits → IsFilledUpTo formula (length (clauses_of (take (place + 1) formula.constraints))) f.state f.units.items f.empty
+  assumption_passed lits at = subst (λ n. IsFilledUpTo formula n f.state f.units.items f.empty) (sym (assumption_passes formula.constraints place d lits less at)) filled
 
 pub only_one : (xs : List Literal) (d : Literal) → length xs ≤ 1 → length xs ≢ 0 → xs ≡ get_or xs 0 d ∷ []
 only_one [] d few some = absurd (some refl)

@@ -7,6 +7,7 @@ use Rattle.std.specs.Cmp.{nat_cmp_total}
 use Rattle.std.specs.List.{AllByRecursion, All, list_any}
 use Rattle.cx_base.specs.Literals.{Literal}
 use Rattle.cx_base.specs.Parity.{NormalForm, normal_form}
+use Rattle.cx_base.specs.Assumptions.{clashes}
 use Rattle.cx_base.specs.Problem.{Problem, clauses_of, parities_of, AreWithin, IsWithinVariables}
 use Rattle.cx_base.proofs.Elements.{all_append, in_head, in_tail}
 use Rattle.cx_base.specs.declared.steps.LogStep.TheVariants.{ParityOfClauses}
@@ -91,11 +92,11 @@ pub judged_are_ids : (formula : Problem) (find : Found) → length formula.const
 judged_are_ids formula find few judged = live_are_ids (clauses_of formula.constraints) find.clauses (let c = few_clauses formula.constraints in omega (arith, c, few)) judged.0
 
 -- ---- the formula's own
-pub begun_has_given : (formula : Problem) (o : Option (List LogEvent)) → HasBegun formula formula.constraints o → HasGiven formula (parities_of formula.constraints) o
-begun_has_given formula o b = (
+pub begun_has_given : (formula : Problem) (o : Option (List LogEvent)) → clashes formula.constraints ≡ false → HasBegun formula formula.constraints o → HasGiven formula (parities_of formula.constraints) o
+begun_has_given formula o apart b = (
   b.0,
   record {
-    search = begun_is_search formula b.0 b.1;
+    search = begun_is_search formula b.0 apart b.1;
     clauses = b.2;
     no_more = b.1.clauses.free;
     listed = b.3;
@@ -113,7 +114,7 @@ begun_has_given formula o b = (
 
 pub given_is_left : (formula : Problem) (parities : List (List Literal)) (o : Option (List LogEvent)) → HasGiven formula parities o → IsLeft formula o
 given_is_left formula parities None g = tt
-given_is_left formula parities (Some es) g = subst (λ xs. IsLeft formula (Some xs)) (sym g.2) (Rattle.std.proofs.Common.inl (g.0.moment.tables, g.1.search.log.runs))
+given_is_left formula parities (Some es) g = subst (λ xs. IsLeft formula (Some xs)) (sym g.2) (Rattle.std.proofs.Common.inl (g.1.search.log.apart, (g.0.moment.tables, g.1.search.log.runs)))
 
 -- ---- one more
 module _ (formula : Problem) (parities : List (List Literal)) (s : Search) (g : IsGiven formula parities s) (find : Found) (w : AreWithin formula.variables find.parity) (judged : IsJudgedRight formula find) where

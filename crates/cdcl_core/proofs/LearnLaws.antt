@@ -1,6 +1,10 @@
 -- What a conflict teaches, and what the sink is told of it.
-use Rattle.std.proofs.Common.{◌≡◌, sym, ap, ◌∙◌, subst, ℕ, ◌+◌, ◌<◌, ◌≤◌, ◌^◌, ℤ, true, List, [], ◌∷◌, ◌++◌, length, Some, None, Option, Result, IfOk, append-nil, append_assoc}
-use Rattle.cx_base.specs.Literals.{Literal}
+use Rattle.std.proofs.Common.{◌≡◌, sym, ap, ◌∙◌, subst, ℕ, ◌+◌, ◌<◌, ◌≤◌, ◌^◌, ℤ, true, false, ◌||◌, List, [], ◌∷◌, ◌++◌, length, Some, None, Option, Result, IfOk, append-nil, append_assoc}
+use Rattle.cx_base.specs.Literals.{Literal, negate}
+use Rattle.cx_base.specs.Assumptions.{assumes, is_ending}
+use Rattle.cx_base.proofs.LiteralLaws.{negate-negate, same_literal-itself}
+use Rattle.cdcl_search.proofs.EndingClauses.{not_ending}
+use Rattle.cdcl_core.specs.Failing.{IsFree}
 use Rattle.cx_base.specs.Problem.{Problem}
 use Rattle.cx_base.specs.declared.steps.LogStep.{LogStep}
 use Rattle.cx_semantics.specs.Ids.{highest_id}
@@ -12,7 +16,7 @@ use Rattle.cx_trail.specs.Sequence.{TrailState, IsTrueIn}
 use Rattle.conflict_learn.specs.declared.fault.CoreFault.{CoreFault}
 use Rattle.conflict_learn.specs.declared.learning.Learned.{Learned}
 use Rattle.conflict_learn.specs.Levels.{Teaches}
-use Rattle.conflict_learn.specs.Learning.{IsOfLevel}
+use Rattle.conflict_learn.specs.Learning.{IsOfLevel, literal_at, negated_at}
 use Rattle.conflict_learn.specs.Touching.{AreTouched}
 use Rattle.cx_semantics.specs.Chain.{has_literal}
 use Rattle.search_steps.proofs.CodeSteps.{clause_conflict_is_now}
@@ -43,9 +47,19 @@ deleted_events s (n ∷ ids) = deleted_events (told s (Step (Delete n []))) ids 
 
 module _ (formula : Problem) (c : SearchState) (e : State) (rows : List (List Literal)) (old : Option (List LogEvent)) (st : SearchStands formula c e rows old)
     (above : 0 < c.trail.level) (room : c.next ≤ highest_id) (few : c.conflicts < 10 ^ 18)
-    (conflict : List Literal) (is_conflict : IsConflictClause c rows conflict) (resolved lits : List Literal) (back lbd : ℕ) (teaches : Teaches c.trail conflict (IsSourced c rows) resolved lits back lbd) where
+    (conflict : List Literal) (is_conflict : IsConflictClause c rows conflict) (resolved lits : List Literal) (back lbd : ℕ) (teaches : Teaches c.trail conflict (IsSourced c rows) resolved lits back lbd)
+    (free : IsFree formula.constraints c.trail) where
   abbrev s : Search
   s = st.0
+
+  -- the first literal is the negation of one of the current level, which isn't assumed
+  abbrev at : Literal
+  at = literal_at c.trail teaches.learned.first
+
+  goes_on : is_ending formula.constraints lits ≡ false
+  goes_on = not_ending formula.constraints lits (negate at)
+      (ap (λ ls. has_literal ls (negate at)) teaches.learned.are ∙ ap (λ b. b || has_literal (negated_at c.trail teaches.learned.rest) (negate at)) (same_literal-itself (negate at)))
+      (ap (assumes formula.constraints) (negate-negate at) ∙ free teaches.learned.first teaches.learned.within teaches.learned.first_level)
 
   pub is_taught : literals (integers_of lits) ≡ lits → IsTaught formula c e lits back st.0
   is_taught integers =
@@ -63,6 +77,7 @@ module _ (formula : Problem) (c : SearchState) (e : State) (rows : List (List Li
         learned = first.3;
         placed = record { first = teaches.learned.first; rest = teaches.learned.rest; are = teaches.learned.are; falling = teaches.learned.falling; within = teaches.learned.within; back_is = teaches.back_is };
         integers = integers;
+        goes_on = goes_on;
         room = room;
         few = few;
       }

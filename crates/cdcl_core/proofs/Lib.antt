@@ -4,6 +4,9 @@ pub mod Entered
 pub mod EnteredCases
 pub mod JumpLaws
 pub mod LearnLaws
+pub mod FailLaws
+pub mod AgainstLaws
+pub mod ClashLaws
 pub mod ConflictLaws
 pub mod Answering
 pub mod EndingLaws

@@ -1,5 +1,5 @@
 -- Telling the formula's constraints one after another.
-use Rattle.std.proofs.Common.{◌≡◌, ◌≢◌, refl, sym, ap, ◌∙◌, subst, ℕ, zero, suc, ◌+◌, ◌-◌, nat_eq, eqb-true, ◌<◌, ◌≤◌, List, [], ◌∷◌, ◌++◌, length, take, get_or, Option, Some, None, Contains, arith, inl, length-append, append-nil, length-take}
+use Rattle.std.proofs.Common.{◌≡◌, ◌≢◌, refl, sym, ap, ◌∙◌, subst, ℕ, zero, suc, ◌+◌, ◌-◌, nat_eq, eqb-true, ◌<◌, ◌≤◌, List, [], ◌∷◌, ◌++◌, length, take, get_or, Option, Some, None, Contains, arith, inl, inr, false, length-append, append-nil, length-take}
 use Rattle.std.proofs.lemmas.Bool.{eqb-false}
 use Rattle.std.proofs.lemmas.List.{take_more}
 use Rattle.std.proofs.lemmas.List.Elements.{filter_map-append}
@@ -16,14 +16,17 @@ use Rattle.cx_base.specs.declared.steps.LogStep.TheVariants.{Original, OriginalP
 use Rattle.cx_base.specs.declared.steps.LogEvent.{LogEvent}
 use Rattle.cx_base.specs.declared.steps.LogEvent.TheVariants.{Step}
 use Rattle.cx_base.specs.Integers.{integers_of, literals}
-use Rattle.cx_semantics.specs.LogRules.{IsOriginalParity}
-use Rattle.cx_semantics.specs.Tables.{Table, get}
+use Rattle.cx_base.specs.Assumptions.{clashes}
+use Rattle.cx_base.specs.Events.{steps_of}
+use Rattle.cx_semantics.specs.Judging.{Runs}
+use Rattle.cx_semantics.specs.LogRules.{IsOriginalParity, log_calculus}
+use Rattle.cx_semantics.specs.Tables.{Table, Tables, get, no_tables}
 use Rattle.cx_semantics.proofs.Lookups.{Looks-empty}
 use Rattle.conflict_learn.proofs.ChainOfResolutions.{by_cases}
 use Rattle.search_steps.specs.Holding.{AreTold}
 use Rattle.search_steps.specs.Search.{Search, told}
 use Rattle.search_steps.specs.Start.{IsBegun, start}
-use Rattle.search_steps.proofs.StartLaws.{nothing_is_begun, clause_begins, parity_begins, literals_are}
+use Rattle.search_steps.proofs.StartLaws.{nothing_is_begun, clause_begins, parity_begins, assumption_begins, literals_are}
 use Rattle.cdcl_search.specs.Tells.{IsLeft, with_events}
 use Rattle.cdcl_search.proofs.TableLaws.{put_same, put_other}
 use Rattle.cdcl_search.proofs.RowSteps.{few_parities}
@@ -37,6 +40,7 @@ clause_there [] i lits d less is = absurd (omega (arith, less))
 clause_there (c ∷ cs) zero lits d less is = subst (λ x. Contains (clauses_of (x ∷ cs)) lits) (sym is) (0, omega arith, refl)
 clause_there (constraint.Clause x ∷ cs) (suc i) lits d less is = let r = clause_there cs i lits d (omega (arith, less)) is in let low = r.1 in (suc r.0, omega (arith, low), r.2)
 clause_there (constraint.Parity x ∷ cs) (suc i) lits d less is = clause_there cs i lits d (omega (arith, less)) is
+clause_there (constraint.Assume x ∷ cs) (suc i) lits d less is = clause_there cs i lits d (omega (arith, less)) is
 
 parity_there : (cs : List Constraint) (i : ℕ) (lits : List Literal) (d : Constraint) → i < length cs → get_or cs i d ≡ constraint.Parity lits → Contains (parities_of cs) lits
 unfolding parities_of
@@ -44,18 +48,21 @@ parity_there [] i lits d less is = absurd (omega (arith, less))
 parity_there (c ∷ cs) zero lits d less is = subst (λ x. Contains (parities_of (x ∷ cs)) lits) (sym is) (0, omega arith, refl)
 parity_there (constraint.Parity x ∷ cs) (suc i) lits d less is = let r = parity_there cs i lits d (omega (arith, less)) is in let low = r.1 in (suc r.0, omega (arith, low), r.2)
 parity_there (constraint.Clause x ∷ cs) (suc i) lits d less is = parity_there cs i lits d (omega (arith, less)) is
+parity_there (constraint.Assume x ∷ cs) (suc i) lits d less is = parity_there cs i lits d (omega (arith, less)) is
 
 pub few_clauses : (cs : List Constraint) → length (clauses_of cs) ≤ length cs
 unfolding clauses_of
 few_clauses [] = omega arith
 few_clauses (constraint.Clause lits ∷ cs) = let rec = few_clauses cs in omega (arith, rec)
 few_clauses (constraint.Parity lits ∷ cs) = let rec = few_clauses cs in omega (arith, rec)
+few_clauses (constraint.Assume lits ∷ cs) = let rec = few_clauses cs in omega (arith, rec)
 
-pub both_kinds : (cs : List Constraint) → length (clauses_of cs) + length (parities_of cs) ≡ length cs
+pub both_kinds : (cs : List Constraint) → length (clauses_of cs) + length (parities_of cs) ≤ length cs
 unfolding clauses_of parities_of
-both_kinds [] = refl
+both_kinds [] = omega arith
 both_kinds (constraint.Clause lits ∷ cs) = let rec = both_kinds cs in omega (arith, rec)
 both_kinds (constraint.Parity lits ∷ cs) = let rec = both_kinds cs in omega (arith, rec)
+both_kinds (constraint.Assume lits ∷ cs) = let rec = both_kinds cs in omega (arith, rec)
 
 count_clause : (cs : List Constraint) (clauses parities : ℕ) (lits : List Literal) → AreCounted cs clauses parities → AreCounted (cs ++ constraint.Clause lits ∷ []) (clauses + 1) parities
 unfolding clauses_of parities_of
@@ -96,7 +103,22 @@ listed_more table lists lits a = record {
   none_before = put_other table (length lists + 1) 0 lits (λ e. omega (arith, e)) ∙ a.none_before;
 }
 
+count_assumption : (cs : List Constraint) (clauses parities : ℕ) (lits : List Literal) → AreCounted cs clauses parities → AreCounted (cs ++ constraint.Assume lits ∷ []) clauses parities
+unfolding clauses_of parities_of
+count_assumption cs clauses parities lits a = record {
+  clauses = let long = ap length (filter_map-append clause_in cs (constraint.Assume lits ∷ [])) in let both = length-append (clauses_of cs) [] in let was = a.clauses in omega (arith, long, both, was);
+  parities = let long = ap length (filter_map-append parity_in cs (constraint.Assume lits ∷ [])) in let both = length-append (parities_of cs) [] in let was = a.parities in omega (arith, long, both, was);
+}
+
 module _ (n : ℕ) (taken : List Constraint) (lits : List Literal) where
+  pub clauses_rest : clauses_of (taken ++ constraint.Assume lits ∷ []) ≡ clauses_of taken
+  unfolding clauses_of
+  clauses_rest = filter_map-append clause_in taken (constraint.Assume lits ∷ []) ∙ append-nil (clauses_of taken)
+
+  pub parities_rest : parities_of (taken ++ constraint.Assume lits ∷ []) ≡ parities_of taken
+  unfolding parities_of
+  parities_rest = filter_map-append parity_in taken (constraint.Assume lits ∷ []) ∙ append-nil (parities_of taken)
+
   clause_joins : clauses_of (taken ++ constraint.Clause lits ∷ []) ≡ clauses_of taken ++ lits ∷ []
   unfolding clauses_of
   clause_joins = filter_map-append clause_in taken (constraint.Clause lits ∷ [])
@@ -131,6 +153,9 @@ module _ (cs : List Constraint) (place : ℕ) (d : Constraint) (lits : List Lite
   pub clause_passes : get_or cs place d ≡ constraint.Clause lits → parities_of (take (place + 1) cs) ≡ parities_of (take place cs)
   clause_passes is = ap parities_of (take_more cs place d less ∙ ap (λ c. take place cs ++ c ∷ []) is) ∙ parities_stay 0 (take place cs) lits
 
+  pub assumption_passes : get_or cs place d ≡ constraint.Assume lits → parities_of (take (place + 1) cs) ≡ parities_of (take place cs)
+  assumption_passes is = ap parities_of (take_more cs place d less ∙ ap (λ c. take place cs ++ c ∷ []) is) ∙ parities_rest 0 (take place cs) lits
+
   pub parity_comes : get_or cs place d ≡ constraint.Parity lits → parities_of (take (place + 1) cs) ≡ parities_of (take place cs) ++ lits ∷ []
   parity_comes is = ap parities_of (take_more cs place d less ∙ ap (λ c. take place cs ++ c ∷ []) is) ∙ parity_joins 0 (take place cs) lits
 
@@ -139,6 +164,7 @@ unfolding parities_of
 parities_are_within n [] w = tt
 parities_are_within n (constraint.Clause lits ∷ cs) w = parities_are_within n cs w.1
 parities_are_within n (constraint.Parity lits ∷ cs) w = (w.0, parities_are_within n cs w.1)
+parities_are_within n (constraint.Assume lits ∷ cs) w = parities_are_within n cs w.1
 
 -- the log has begun, with a constraint more
 module _ (formula : Problem) (taken : List Constraint) (s : Search) (lits : List Literal) (w : AreWithin formula.variables lits) (begun : IsBegun formula taken s)
@@ -161,6 +187,15 @@ module _ (formula : Problem) (taken : List Constraint) (s : Search) (lits : List
     a,
   )
 
+assumption_has_begun : (formula : Problem) (taken : List Constraint) (lits : List Literal) (o : Option (List LogEvent)) → HasBegun formula taken o → HasBegun formula (taken ++ constraint.Assume lits ∷ []) o
+assumption_has_begun formula taken lits o (s, begun, clauses, parities, a) = (
+  s,
+  assumption_begins formula taken s begun lits,
+  subst (AreListedFromOne s.moment.tables.clauses) (sym (clauses_rest formula.variables taken lits)) clauses,
+  subst (AreListedFromOne s.moment.tables.parities) (sym (parities_rest formula.variables taken lits)) parities,
+  a,
+)
+
 pub told_more : (events : List LogEvent) (step : LogStep) (o : Option (List LogEvent)) → AreTold o events → AreTold (with_events (Step step ∷ []) o) (events ++ Step step ∷ [])
 told_more events step None a = tt
 told_more events step (Some es) a = ap (λ xs. xs ++ Step step ∷ []) a
@@ -171,9 +206,15 @@ unfolding clauses_of parities_of
 fresh_has_begun formula None fresh = (start, nothing_is_begun formula, nothing_listed, nothing_listed, tt)
 fresh_has_begun formula (Some es) fresh = (start, nothing_is_begun formula, nothing_listed, nothing_listed, fresh)
 
+-- a log whose steps are right is right so far, also where assumptions clash
+pub left_by : (formula : Problem) (events : List LogEvent) (tables : Tables) → Runs (log_calculus formula) no_tables (steps_of events) tables → IsLeft formula (Some events)
+left_by formula events tables runs = by_cases (clashes formula.constraints)
+    (λ clash. inr (inl clash))
+    (λ apart. inl (apart, (tables, runs)))
+
 pub begun_is_left : (formula : Problem) (taken : List Constraint) (old : Option (List LogEvent)) → HasBegun formula taken old → IsLeft formula old
 begun_is_left formula taken None b = tt
-begun_is_left formula taken (Some es) b = subst (λ xs. IsLeft formula (Some xs)) (sym b.4) (inl (b.0.moment.tables, b.1.runs))
+begun_is_left formula taken (Some es) b = subst (λ xs. IsLeft formula (Some xs)) (sym b.4) (left_by formula b.0.events b.0.moment.tables b.1.runs)
 
 -- ---- one more
 module _ (formula : Problem) (place : ℕ) (d : Constraint) (less : place < length formula.constraints) (few : length formula.constraints ≤ 4294967295) (clauses parities : ℕ)
@@ -208,3 +249,9 @@ module _ (formula : Problem) (place : ℕ) (d : Constraint) (less : place < leng
         subst (λ cs. HasBegun formula cs (with_events (Step step ∷ []) old)) (sym (take_more formula.constraints place d less ∙ ap (λ c. taken ++ c ∷ []) is))
         (parity_has_begun formula taken begun.0 lits w begun.1 begun.2 begun.3 (with_events (Step step ∷ []) old) (has.0, lits, has.1, has.2, refl)
         (subst (λ n. AreTold (with_events (Step step ∷ []) old) (begun.0.events ++ Step (OriginalParity (n + 1) (integers_of lits)) ∷ [])) counted.parities (told_more begun.0.events step old begun.4)))
+
+    pub assumption_counted : get_or formula.constraints place d ≡ constraint.Assume lits → AreCounted (take (place + 1) formula.constraints) clauses parities
+    assumption_counted is = subst (λ cs. AreCounted cs clauses parities) (sym (take_more formula.constraints place d less ∙ ap (λ c. taken ++ c ∷ []) is)) (count_assumption taken clauses parities lits counted)
+
+    pub assumption_begun : get_or formula.constraints place d ≡ constraint.Assume lits → HasBegun formula (take (place + 1) formula.constraints) old
+    assumption_begun is = subst (λ cs. HasBegun formula cs old) (sym (take_more formula.constraints place d less ∙ ap (λ c. taken ++ c ∷ []) is)) (assumption_has_begun formula taken lits old begun)

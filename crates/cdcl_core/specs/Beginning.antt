@@ -18,4 +18,4 @@ pub record IsAtStart (formula : Problem) (told : Option (List LogEvent)) (c : Se
 -- the search is at its start with this engine; or the log is ended with no mark
 abbrev pub SearchBegins : {P : Type 0} → (P → State) → Problem → Option (List LogEvent) → SearchState → Option P → Type 0
 SearchBegins state formula told c (Some engine) = IsAtStart formula told c (state engine)
-SearchBegins state formula told c None = Refutes formula 1 told
+SearchBegins state formula told c None = Refutes formula 1 told []

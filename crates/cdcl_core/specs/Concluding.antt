@@ -1,6 +1,7 @@
 -- What a conflict comes to.
 use Rattle.std.specs.Prelude.{◌≡◌, ℕ, ◌+◌, ◌<◌, ◌≤◌, List, [], length, Option, Some, None, Result, OnOk, IfOk, IsFalse, IsTrue, ◌≢◌}
 use Rattle.std.specs.List.{AllByRecursion}
+use Rattle.cx_base.specs.Assumptions.{clashes, IsFailed}
 use Rattle.cx_base.specs.Problem.{Problem, Unmet}
 use Rattle.cx_base.specs.Literals.{Literal}
 use Rattle.cx_base.specs.declared.steps.LogEvent.{LogEvent}
@@ -15,7 +16,6 @@ use Rattle.conflict_learn.specs.Faults.{fault_in}
 use Rattle.parity_engine.specs.State.{State}
 use Rattle.parity_engine.specs.declared.state.Mood.TheVariants.{Broken}
 use Rattle.search_steps.specs.Holding.{AreTold}
-use Rattle.search_steps.specs.LogSteps.{IsEnded}
 use Rattle.search_steps.specs.Search.{Search, IsSearch}
 use Rattle.cx_trail.specs.Sequence.{IsFalseIn}
 use Rattle.step_text.specs.declared.sink.Sink as sink
@@ -26,7 +26,10 @@ use Rattle.cdcl_search.specs.Logs.{GoesOn, Stands, told_in}
 use Rattle.cdcl_search.specs.Tells.{IsId, as_events, with_events, IsTellable}
 use Rattle.cdcl_search.specs.Ties.{SearchStands}
 use Rattle.cdcl_search.specs.Sources.{IsSourced}
-use Rattle.cdcl_core.specs.Results.{Refutes}
+use Rattle.cdcl_search.specs.Explaining.{IsReasonOf}
+use Rattle.cdcl_search.specs.Finds.{IsClash}
+use Rattle.conflict_learn.specs.Learning.{IsAntecedent}
+use Rattle.cdcl_core.specs.Results.{Refutes, EndsFor}
 use Rattle.cdcl_core.specs.declared.conflicts.Conclusion.{Conclusion}
 use Rattle.cdcl_core.specs.declared.conflicts.Conflict.{Conflict}
 use Rattle.cdcl_core.specs.declared.conflicts.Conclusion.TheVariants.{Clause, Ending}
@@ -42,34 +45,51 @@ pub record IsAtConflict {P L : Type 0} (p : engine.Ghosts P) (m : sink.Ghosts L 
   pub conflict : IsConflictClause c rows clause
   pub above : 0 < c.trail.level
 
--- the log is right to its end, and marked so often
-abbrev pub IsEndedWith : Problem → ℕ → Option (List LogEvent) → Type 0
-IsEndedWith formula marks None = Unit {0}
-IsEndedWith formula marks (Some events) = IsEnded formula events × Marked formula events marks
+-- the log is ended with these failed assumptions, and marked so often
+abbrev pub IsEndedWith : Problem → ℕ → List Literal → Option (List LogEvent) → Type 0
+IsEndedWith formula marks failed None = Unit {0}
+IsEndedWith formula marks failed (Some events) = EndsFor formula events failed × Marked formula events marks
 
--- telling these steps ends the log; so no values meet the formula
-pub record EndsLog (formula : Problem) (marks : ℕ) (told : Option (List LogEvent)) (steps : List LogStep) : Type 0 where
+-- telling these steps ends the log, with these failed assumptions; so no values meet the formula
+pub record EndsLog (formula : Problem) (marks : ℕ) (told : Option (List LogEvent)) (failed : List Literal) (steps : List LogStep) : Type 0 where
   pub texts : AllByRecursion IsTellable steps
   pub unmet : Unmet formula
-  pub log : IsEndedWith formula marks (with_events (as_events steps) told)
+  pub fails : IsFailed formula failed
+  pub apart : IsFalse (clashes formula.constraints)
+  pub log : IsEndedWith formula marks failed (with_events (as_events steps) told)
 
 -- the clause of a conflict has an id that a step may have, and at most one clause of a row was told for it
 abbrev pub IsTold : Conflict → Type 0
 IsTold k = IsId k.id × (length k.rows.items ≤ 1)
 
--- Up to an answer the end is told: no values meet the formula, and the log shows it, marked no more often than before. The log goes on.
-pub record TellsEnd {L T : Type 0} (m : sink.Ghosts L LogEvent) (old : SearchLog L) (marks : ℕ) (new : SearchLog L) (result : Result T CoreFault) : Type 0 where
-  pub refutes : OnOk result (Refutes new.formula.now (marks + 1) (told_in m new))
+-- Up to an answer the end is told: no values meet the formula, and the log shows it, marked no more often than before. The answer are the assumptions that fail. The log goes on.
+pub record TellsEnd {L : Type 0} (m : sink.Ghosts L LogEvent) (old : SearchLog L) (marks : ℕ) (new : SearchLog L) (result : Result (List Literal) CoreFault) : Type 0 where
+  pub refutes : IfOk result (λ failed. Refutes new.formula.now (marks + 1) (told_in m new) failed)
   pub log : GoesOn m old (fault_in result) new
 
--- a clause whose literals are all false, or steps that end the log
-abbrev pub Concludes : Problem → SearchState → State → Option (List LogEvent) → Conclusion → Type 0
-Concludes formula c e told (Clause k) = SearchStands formula c e k.rows.items told × IsConflictClause c k.rows.items k.lits × IsTold k
-Concludes formula c e told (Ending steps) = SearchStands formula c e [] told × EndsLog formula c.conflicts told steps.items
+-- so it is with the empty clause, where none fails
+pub record TellsEmpty {L T : Type 0} (m : sink.Ghosts L LogEvent) (old : SearchLog L) (marks : ℕ) (new : SearchLog L) (result : Result T CoreFault) : Type 0 where
+  pub refutes : OnOk result (Refutes new.formula.now (marks + 1) (told_in m new) [])
+  pub log : GoesOn m old (fault_in result) new
 
--- Up to an answer the search stands at what the conflict comes to; the log goes on.
-pub record ConcludesOn {P L : Type 0} (p : engine.Ghosts P) (m : sink.Ghosts L LogEvent) (old new : SearchLog L) (c : SearchState) (e : P) (result : Result Conclusion CoreFault) : Type 0 where
-  pub concludes : IfOk result (λ k. Concludes new.formula.now c (p.state e) (told_in m new) k)
+-- the row is not met; or it implied the literal that contradicts an assumed one
+abbrev pub IsRowAgainst : SearchState → State → ℕ → Option Literal → Type 0
+IsRowAgainst c e row None = IsClash e row
+IsRowAgainst c e row (Some l) = IsReasonOf e c.trail.entries l row
+
+-- the clause of a conflict; or the one that implied the literal that contradicts an assumed one
+abbrev pub IsClauseAgainst : SearchState → List (List Literal) → Option Literal → List Literal → Type 0
+IsClauseAgainst c rows None clause = IsConflictClause c rows clause
+IsClauseAgainst c rows (Some l) clause = IsSourced c rows clause × IsAntecedent c.trail l clause
+
+-- such a clause, or steps that end the log
+abbrev pub Concludes : Problem → SearchState → State → Option (List LogEvent) → Option Literal → Conclusion → Type 0
+Concludes formula c e told kept (Clause k) = SearchStands formula c e k.rows.items told × IsClauseAgainst c k.rows.items kept k.lits × IsTold k
+Concludes formula c e told kept (Ending n) = SearchStands formula c e [] told × EndsLog formula c.conflicts told n.failed n.steps.items
+
+-- Up to an answer the search stands at what the conflict comes to, or the literal that contradicts an assumed one; the log goes on.
+pub record ConcludesOn {P L : Type 0} (p : engine.Ghosts P) (m : sink.Ghosts L LogEvent) (old new : SearchLog L) (c : SearchState) (e : P) (kept : Option Literal) (result : Result Conclusion CoreFault) : Type 0 where
+  pub concludes : IfOk result (λ k. Concludes new.formula.now c (p.state e) (told_in m new) kept k)
   pub log : GoesOn m old (fault_in result) new
 
 -- the clauses of the search show the empty clause, which may have this id; so many conflicts are counted

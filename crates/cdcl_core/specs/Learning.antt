@@ -1,6 +1,7 @@
 -- What a conflict teaches, and what the sink is told of it.
-use Rattle.std.specs.Prelude.{◌≡◌, ℕ, ◌<◌, ◌≤◌, ◌^◌, ℤ, List, [], ◌∷◌, length, Option, IsTrue}
+use Rattle.std.specs.Prelude.{◌≡◌, ℕ, ◌<◌, ◌≤◌, ◌^◌, ℤ, List, [], ◌∷◌, length, Option, IsTrue, IsFalse}
 use Rattle.cx_base.specs.Literals.{Literal}
+use Rattle.cx_base.specs.Assumptions.{is_ending}
 use Rattle.cx_base.specs.Problem.{Problem}
 use Rattle.cx_base.specs.declared.steps.LogEvent.{LogEvent}
 use Rattle.cx_base.specs.Integers.{integers_of, literals}
@@ -29,7 +30,7 @@ pub record ArePlaced (trail : TrailState) (lits : List Literal) (back : ℕ) : T
   pub within : first < length trail.entries
   pub back_is : back ≡ second (levels_at trail (first ∷ rest))
 
--- The search stands before the mark. The clause has a right chain and is asserting by its first literal, and there is an id for it and a number for its mark.
+-- The search stands before the mark. The clause has a right chain, is asserting by its first literal and is no ending clause, and there is an id for it and a number for its mark.
 pub record IsTaught (formula : Problem) (c : SearchState) (e : State) (lits : List Literal) (back : ℕ) (s : Search) : Type 0 where
   pub search : IsSearch formula e.parities s
   pub rows : List (List Literal)
@@ -42,6 +43,7 @@ pub record IsTaught (formula : Problem) (c : SearchState) (e : State) (lits : Li
   pub learned : IsLearnedOf s.trail back lits first
   pub placed : ArePlaced c.trail lits back
   pub integers : literals (integers_of lits) ≡ lits
+  pub goes_on : IsFalse (is_ending formula.constraints lits)
   pub room : c.next ≤ highest_id
   pub few : c.conflicts < 10 ^ 18
 

@@ -1,6 +1,7 @@
 pub mod Results
 pub mod Learning
 pub mod Entering
+pub mod Failing
 pub mod Concluding
 pub mod Beginning
 pub mod Originals

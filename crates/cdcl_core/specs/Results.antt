@@ -1,12 +1,15 @@
 -- What the search answers.
-use Rattle.std.specs.Prelude.{◌≡◌, ◌≢◌, ℕ, ◌<◌, Bool, [], List, Option, Some, None}
+use Rattle.std.specs.Prelude.{◌≡◌, ◌≢◌, ℕ, ◌<◌, Bool, [], ◌∷◌, List, Option, Some, None, IsTrue, IsFalse}
+use Rattle.cx_base.specs.Assumptions.{clashes, IsClash, IsFailed}
+use Rattle.cx_base.specs.Literals.{Literal, positive_of, negative_of}
 use Rattle.cx_base.specs.Problem.{Problem, Meets, Unmet}
+use Rattle.cx_base.specs.declared.constraint.Constraint.{Constraint}
 use Rattle.cx_base.specs.declared.steps.LogEvent.{LogEvent}
 use Rattle.cx_semantics.specs.Judging.{IsOpen}
 use Rattle.cx_semantics.specs.LogRules.{log_calculus}
 use Rattle.cx_base.specs.Events.{steps_of}
 use Rattle.cx_semantics.specs.Marked.{Marked}
-use Rattle.search_steps.specs.LogSteps.{IsEnded}
+use Rattle.search_steps.specs.LogSteps.{IsEnded, LastRefutes}
 use Rattle.cdcl_core.specs.declared.solving.Outcome.{Outcome}
 use Rattle.cdcl_core.specs.declared.solving.Outcome.TheVariants.{Sat, Unsat, Unknown}
 
@@ -24,15 +27,26 @@ IsOpenWith formula n (Some events) = IsOpen (log_calculus formula) (steps_of eve
 abbrev pub IsOpenWithin : Problem → ℕ → Option (List LogEvent) → Type 0
 IsOpenWithin formula budget told = (n : ℕ) × (n < budget) × IsOpenWith formula n told
 
--- the log is right to its end, with fewer marks than the budget
-abbrev pub IsEndedWithin : Problem → ℕ → Option (List LogEvent) → Type 0
-IsEndedWithin formula budget None = Unit {0}
-IsEndedWithin formula budget (Some events) = IsEnded formula events × ((n : ℕ) × (n < budget) × Marked formula events n)
+-- The log is ended. Where no assumptions clash, the failed ones are the negations of its last clause's literals.
+pub record EndsFor (formula : Problem) (events : List LogEvent) (failed : List Literal) : Type 0 where
+  pub ended : IsEnded formula events
+  pub last : IsFalse (clashes formula.constraints) → LastRefutes events failed
 
--- no values meet the formula, and the log shows it
-pub record Refutes (formula : Problem) (budget : ℕ) (told : Option (List LogEvent)) : Type 0 where
+-- the log is ended with these failed assumptions, and has fewer marks than the budget
+abbrev pub IsEndedWithin : Problem → ℕ → List Literal → Option (List LogEvent) → Type 0
+IsEndedWithin formula budget failed None = Unit {0}
+IsEndedWithin formula budget failed (Some events) = EndsFor formula events failed × ((n : ℕ) × (n < budget) × Marked formula events n)
+
+-- both literals of the least variable that is assumed with both signs
+abbrev pub AreBothOfClash : List Constraint → List Literal → Type 0
+AreBothOfClash constraints lits = (x : ℕ) × IsClash constraints x × (lits ≡ positive_of x ∷ negative_of x ∷ [])
+
+-- No values meet the formula, and the log shows it. The failed literals are assumed, and no values meet the clauses and the parities with them. Where assumptions clash, they are the two of the least variable that does.
+pub record Refutes (formula : Problem) (budget : ℕ) (told : Option (List LogEvent)) (failed : List Literal) : Type 0 where
   pub unmet : Unmet formula
-  pub log : IsEndedWithin formula budget told
+  pub fails : IsFailed formula failed
+  pub clash : IsTrue (clashes formula.constraints) → AreBothOfClash formula.constraints failed
+  pub log : IsEndedWithin formula budget failed told
 
 -- the values meet the formula, and the log is open with fewer marks than the budget
 pub record Satisfies (formula : Problem) (budget : ℕ) (told : Option (List LogEvent)) (values : List Bool) : Type 0 where
@@ -47,7 +61,7 @@ pub record UsesUp (formula : Problem) (budget : ℕ) (told : Option (List LogEve
 -- what an answer says of the formula and of the log
 abbrev pub IsRightOutcome : Problem → ℕ → Option (List LogEvent) → Outcome → Type 0
 IsRightOutcome formula budget told (Sat values) = Satisfies formula budget told values
-IsRightOutcome formula budget told Unsat = Refutes formula budget told
+IsRightOutcome formula budget told (Unsat failed) = Refutes formula budget told failed
 IsRightOutcome formula budget told (Unknown conflicts) = UsesUp formula budget told conflicts
 
 -- an answer that is not unknown, with fewer marks than this

@@ -67,7 +67,7 @@ SearchStandsBut formula engines c waiting told = (s : Search) × IsSearch formul
 -- true: the search stands but for these unit clauses; false: the log is ended, with no mark
 abbrev pub PutsUnits : Problem → List (List Literal) → SearchState → List Single → Option (List LogEvent) → Bool → Type 0
 PutsUnits formula engines c waiting told true = SearchStandsBut formula engines c waiting told
-PutsUnits formula engines c waiting told false = Refutes formula 1 told
+PutsUnits formula engines c waiting told false = Refutes formula 1 told []
 
 -- so it is over whatever parities the search stood
 abbrev pub Puts : {L : Type 0} → sink.Ghosts L LogEvent → SearchLog L → SearchState → List Single → SearchLog L → SearchState → List Single → Bool → Type 0

@@ -1,30 +1,31 @@
 //! The end of a log.
-ghost use Rattle.std.specs.Prelude.{◌≡◌, ◌≤◌, length};
+ghost use Rattle.std.specs.Prelude.{◌≤◌};
 ghost use Rattle.std.specs.List.{All};
-ghost use Rattle.cdcl_search.specs.Logs.{Stands, told_in};
+ghost use Rattle.cdcl_search.specs.Logs.{told_in};
 ghost use Rattle.cdcl_search.specs.Tells.{IsId};
-ghost use Rattle.cdcl_core.specs.Concluding.{EndsLog, IsConflictClause, IsRefutable, TellsEnd};
+ghost use Rattle.cdcl_core.specs.Concluding.{EndsLog, IsRefutable, TellsEmpty, TellsEnd};
 
-use crate::conflicts::Conflict;
+use crate::conflicts::Ending;
 use cdcl_search::SearchState;
 use cdcl_search::chains::{hints_of, tell_chained};
 use cdcl_search::logs::SearchLog;
 use cdcl_search::telling::tell_steps;
 use conflict_learn::CoreFault;
-use cx_base::{Lit, LogEvent, LogStep};
-use parity_engine::ParityEngine;
+use cx_base::{Lit, LitList, LogEvent};
 use step_text::Sink;
 
-/// Tells the steps that end the log.
+/// Tells the steps that end the log. The answer are the assumed literals that fail.
 pub(crate) fn tell_ending<L: Sink<Item = LogEvent>>(
     log: &mut SearchLog<L>,
     state: &SearchState,
-    steps: Vec<LogStep>,
-) -> Result<(), CoreFault>
-    requires { EndsLog log.old.formula.now state.now.conflicts (told_in L.Sink log.old) steps.items }
+    ending: Ending,
+) -> Result<LitList, CoreFault>
+    requires { EndsLog log.old.formula.now state.now.conflicts (told_in L.Sink log.old) ending.failed ending.steps.items }
     ensures { TellsEnd L.Sink log.old state.now.conflicts log.new result }
 {
-    tell_steps(log, steps)
+    let Ending { steps, failed } = ending;
+    tell_steps(log, steps)?;
+    Ok(failed)
 }
 
 /// Tells the empty clause. The clause of this id shows it, with the unit clauses that make its literals false.
@@ -38,24 +39,8 @@ pub(crate) fn refute<L: Sink<Item = LogEvent>>(
     requires units { All IsId state.now.units.items }
     requires id { IsId id }
     requires shown { IsRefutable log.old.formula.now state.now.next state.now.conflicts (told_in L.Sink log.old) }
-    ensures { TellsEnd L.Sink log.old state.now.conflicts log.new result }
+    ensures { TellsEmpty L.Sink log.old state.now.conflicts log.new result }
 {
     let hints = hints_of(log.alloc, state, lits, id)?;
     tell_chained(log, state.next, &[], hints)
-}
-
-/// Ends the log by the empty clause, where each literal of the conflict's clause is false by a unit clause.
-pub(crate) fn end<P: ParityEngine, L: Sink<Item = LogEvent>>(
-    log: &mut SearchLog<L>,
-    state: &SearchState,
-    engine: &P,
-    conflict: Conflict,
-) -> Result<(), CoreFault>
-    requires stands { Stands P.ParityEngine L.Sink log.old state.now engine.now conflict.rows.items }
-    requires conflict { IsConflictClause state.now conflict.rows.items conflict.lits }
-    requires all { length state.now.units.items ≡ length state.now.trail.entries }
-    requires id { IsId conflict.id }
-    ensures { TellsEnd L.Sink log.old state.now.conflicts log.new result }
-{
-    refute(log, state, conflict.lits.as_slice(), conflict.id)
 }

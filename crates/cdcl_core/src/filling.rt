@@ -91,7 +91,7 @@ fn take_clause(filled: &mut Filled, lits: &[Lit]) -> Result<(), AllocError>
     Ok(())
 }
 
-/// Takes the constraint at a place of the formula; parities are passed over.
+/// Takes the constraint at a place of the formula; parities and assumptions are passed over.
 fn take_item(
     alloc: Global,
     formula: &Formula,
@@ -109,6 +109,7 @@ fn take_item(
             take_clause(filled, &lits)
         }
         ConstraintRef::Parity(_) => Ok(()),
+        ConstraintRef::Assume(_) => Ok(()),
     }
 }
 

@@ -3,6 +3,8 @@ ghost use Rattle.std.specs.Prelude.{◌≡◌, ◌≢◌, ◌<◌, ◌≤◌, �
 ghost use Rattle.std.specs.List.{All};
 ghost use Rattle.cx_base.specs.Literals.{Literal};
 ghost use Rattle.cx_base.specs.declared.steps.LogEvent.{LogEvent};
+ghost use Rattle.cx_base.specs.declared.constraint.Constraint.{Constraint};
+ghost use Rattle.search_policy.specs.Assuming.{KeepsAssumptions};
 ghost use Rattle.conflict_learn.specs.Touching.{AreTouched};
 ghost use Rattle.watch_lists.specs.Watching.{Fits};
 ghost use Rattle.watch_lists.specs.Attaching.{CanBeWatched, literal_at};
@@ -18,7 +20,7 @@ use conflict_learn::Learned;
 use cx_base::{Formula, Lit, Var};
 use cx_trail::{Reason, Trail};
 use parity_engine::ParityEngine;
-use search_policy::Order;
+use search_policy::{Assumptions, Order};
 use std::alloc::AllocError;
 
 /// Keeps the values of the literals above a level for later decisions.
@@ -42,11 +44,13 @@ pub(crate) fn go_back<P: ParityEngine>(
     formula: &Formula,
     state: &mut SearchState,
     engine: &mut P,
+    assumptions: &mut Assumptions,
     level: u32,
 )
     requires stands { (rows : List (List Literal)) × (s : Search) × IsSearch formula.now (P.state engine.old).parities s × Ties formula.now state.old (P.state engine.old) rows s × IsWatched state.old.watches state.old.arena state.old.trail }
     requires lower { level < state.old.trail.level }
-    ensures { IsBackAt formula.now level state.old (P.state engine.old) state.new (P.state engine.new) }
+    ensures back { IsBackAt formula.now level state.old (P.state engine.old) state.new (P.state engine.new) }
+    ensures keeps { (constraints : List Constraint) → KeepsAssumptions constraints assumptions.old state.old.trail → KeepsAssumptions constraints assumptions.new state.new.trail }
 {
     save_phases(&mut state.phases, &state.trail, level);
     state.order.back_to(&state.trail, level);
@@ -54,6 +58,7 @@ pub(crate) fn go_back<P: ParityEngine>(
     state.watches.back_to(level);
     engine.back_to(level);
     state.given = state.trail.len();
+    assumptions.back_to(&state.trail, level);
 }
 
 /// Raises the scores of these variables by the weight that bumps have by now, which then grows.
@@ -110,6 +115,7 @@ pub(crate) fn jump<P: ParityEngine>(
     formula: &Formula,
     state: &mut SearchState,
     engine: &mut P,
+    assumptions: &mut Assumptions,
     learned: &Learned,
 ) -> Result<(), AllocError>
     requires learned { (told : Option (List LogEvent)) × Learns formula.now state.old (P.state engine.old) learned.now.lits learned.now.back_level told }
@@ -118,8 +124,9 @@ pub(crate) fn jump<P: ParityEngine>(
     ensures counted { OnOk result (state.new.conflicts ≡ state.old.conflicts + 1) }
     ensures level { OnOk result (state.new.trail.level ≡ learned.now.back_level) }
     ensures unbroken { (P.state engine.new).mood ≢ Broken }
+    ensures keeps { OnOk result ((constraints : List Constraint) → KeepsAssumptions constraints assumptions.old state.old.trail → KeepsAssumptions constraints assumptions.new state.new.trail) }
 {
-    go_back(formula, state, engine, learned.back_level);
+    go_back(formula, state, engine, assumptions, learned.back_level);
     bump(&mut state.order, &learned.touched);
     let id = state.next;
     state.next = id + 1;

@@ -9,6 +9,7 @@ ghost use Rattle.cx_base.specs.declared.steps.LogStep.TheVariants as step;
 ghost use Rattle.conflict_learn.specs.Faults.{fault_in};
 ghost use Rattle.conflict_learn.specs.Marks.{AreClear};
 ghost use Rattle.conflict_learn.specs.Touching.{AreTouched};
+ghost use Rattle.search_policy.specs.Assuming.{AreApart};
 ghost use Rattle.parity_engine.specs.State.{State};
 ghost use Rattle.search_steps.specs.Recovering.{SettledWithRecovered};
 ghost use Rattle.cdcl_search.specs.Deleting.{deletions};
@@ -17,6 +18,7 @@ ghost use Rattle.cdcl_search.specs.Logs.{GoesOn, told_in};
 ghost use Rattle.cdcl_search.specs.Ties.{first_row_id, row_ids, HaveReasons};
 ghost use Rattle.cdcl_search.specs.Sources.{HasIds};
 ghost use Rattle.cdcl_core.specs.Concluding.{IsAtConflict, IsTold};
+ghost use Rattle.cdcl_core.specs.Failing.{IsFree};
 ghost use Rattle.cdcl_core.specs.Learning.{Learns, IsLesson};
 
 use crate::conflicts::Conflict;
@@ -58,7 +60,7 @@ fn steps_of_learned(
 /// The hints of a learned clause: the ids of the clauses that implied the resolved literals, the last one's first, and then the conflict's.
 ///
 /// The clauses of rows were told in the order of these literals, and so many stand in the log.
-fn hints_of_lesson(
+pub(crate) fn hints_of_lesson(
     alloc: Global,
     state: &SearchState,
     resolved: &[Lit],
@@ -102,6 +104,7 @@ fn tell_learned<P: ParityEngine, L: Sink<Item = LogEvent>>(
     requires few { state.now.conflicts < 10 ^ 18 }
     requires id { IsId id }
     requires unsettled { ¬ SettledWithRecovered log.old.formula.now }
+    requires free { IsFree log.old.formula.now.constraints state.now.trail }
     requires lesson { IsLesson state.now rows.now conflict.now learned.now }
     ensures learned { OnOk result (Learns log.new.formula.now state.now (P.state engine.now) learned.now.lits learned.now.back_level (told_in L.Sink log.new)) }
     ensures log { GoesOn L.Sink log.old (fault_in result) log.new }
@@ -127,6 +130,7 @@ fn lesson_of<'x, P: ParityEngine, L: Sink<Item = LogEvent>>(
     rows: &'x mut Vec<LitList>,
     marks: &mut Marks,
 ) -> Result<Learned, CoreFault>
+    requires apart { AreApart log.old.formula.now.constraints state.now.trail (length state.now.trail.entries) }
     requires at { IsAtConflict P.ParityEngine L.Sink log.old state.now engine.now rows.old.items conflict.now }
     requires few_rows { length rows.old.items ≤ 1 }
     requires clear { AreClear marks.old }
@@ -141,11 +145,12 @@ fn lesson_of<'x, P: ParityEngine, L: Sink<Item = LogEvent>>(
         state,
         engine,
         rows,
+        below: state.trail.len(),
     };
     analyse(alloc, &state.trail, conflict, marks, &mut source)
 }
 
-/// What a conflict above level 0 teaches. Told are the mark, the learned clause with its hints, and the deletions of the clauses of rows.
+/// What a conflict above the levels of the assumed literals teaches: so its clause is no ending clause. Told are the mark, the learned clause with its hints, and the deletions of the clauses of rows.
 pub(crate) fn learn<P: ParityEngine, L: Sink<Item = LogEvent>>(
     log: &mut SearchLog<L>,
     state: &SearchState,
@@ -153,6 +158,8 @@ pub(crate) fn learn<P: ParityEngine, L: Sink<Item = LogEvent>>(
     marks: &mut Marks,
     conflict: Conflict,
 ) -> Result<Learned, CoreFault>
+    requires apart { AreApart log.old.formula.now.constraints state.now.trail (length state.now.trail.entries) }
+    requires free { IsFree log.old.formula.now.constraints state.now.trail }
     requires at { IsAtConflict P.ParityEngine L.Sink log.old state.now engine.now conflict.rows.items conflict.lits }
     requires few { state.now.conflicts < 10 ^ 18 }
     requires told { IsTold conflict }

@@ -6,6 +6,7 @@ mod clauses;
 mod compacting;
 mod conflicts;
 mod ending;
+mod failing;
 mod filling;
 mod jumping;
 mod learning;

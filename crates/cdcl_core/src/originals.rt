@@ -1,4 +1,4 @@
-//! The formula's constraints, with which the log begins.
+//! The formula's clauses and parities, with which the log begins.
 ghost use Rattle.std.specs.Prelude.{◌+◌, ◌<◌, ◌≤◌, length, OnOk};
 ghost use Rattle.conflict_learn.specs.Faults.{fault_in};
 ghost use Rattle.cdcl_search.specs.Logs.{GoesOn, told_in};
@@ -20,7 +20,7 @@ struct Counts {
     parities: u64,
 }
 
-/// Tells the constraint at a place of the formula.
+/// Tells the constraint at a place of the formula, where it is a clause or a parity.
 fn tell_original<L: Sink<Item = LogEvent>>(
     log: &mut SearchLog<L>,
     place: usize,
@@ -45,10 +45,11 @@ fn tell_original<L: Sink<Item = LogEvent>>(
             let step = original_parity(counts.parities, zs);
             tell_step(log, step)
         }
+        ConstraintRef::Assume(_) => Ok(()),
     }
 }
 
-/// Tells the constraints of the formula, in order. Clauses have ids from 1 on, and parities have theirs from 1 on.
+/// Tells the clauses and parities of the formula, in order. Clauses have ids from 1 on, and parities have theirs from 1 on.
 pub(crate) fn tell_originals<L: Sink<Item = LogEvent>>(
     log: &mut SearchLog<L>,
 ) -> Result<(), CoreFault>

@@ -1,5 +1,6 @@
 //! The engine's parities: the formula's, and those that stand in it as clauses.
-ghost use Rattle.std.specs.Prelude.{◌≡◌, ◌+◌, ◌<◌, ◌≤◌, ◌∷◌, [], ◌++◌, length, take, OnOk, IfOk};
+ghost use Rattle.std.specs.Prelude.{◌≡◌, ◌+◌, ◌<◌, ◌≤◌, ◌∷◌, [], ◌++◌, length, take, OnOk, IfOk, IsFalse};
+ghost use Rattle.cx_base.specs.Assumptions.{clashes};
 ghost use Rattle.std.specs.List.{AllByRecursion};
 ghost use Rattle.cx_base.specs.Problem.{AreWithin, parities_of};
 ghost use Rattle.cx_base.specs.Integers.{integers_of};
@@ -35,6 +36,7 @@ fn add_parity(
 {
     match formula.item(place) {
         ConstraintRef::Clause(_) => Ok(()),
+        ConstraintRef::Assume(_) => Ok(()),
         ConstraintRef::Parity(lits) => {
             parities.push(copy_of(alloc, lits)?)?;
             Ok(())
@@ -92,6 +94,7 @@ pub(crate) fn all_parities<L: Sink<Item = LogEvent>>(
     log: &mut SearchLog<L>,
 ) -> Result<ParityList, CoreFault>
     requires few { length log.old.formula.now.constraints ≤ 4294967295 }
+    requires apart { IsFalse (clashes log.old.formula.now.constraints) }
     requires begun { HasBegun log.old.formula.now log.old.formula.now.constraints (told_in L.Sink log.old) }
     ensures given { IfOk result (λ p. HasGiven log.new.formula.now p (told_in L.Sink log.new)) }
     ensures engines { IfOk result (AreEngines log.new.formula.now) }

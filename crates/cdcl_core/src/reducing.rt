@@ -31,7 +31,8 @@ fn remove_where_may<P: ParityEngine, L: Sink<Item = LogEvent>>(
     reference: ClauseRef,
 ) -> Result<(), CoreFault>
     requires { IsReducing P.ParityEngine L.Sink log.old state.old engine.now }
-    ensures { ReducesOn P.ParityEngine L.Sink log.old state.old log.new state.new engine.now result }
+    ensures reduces_on { ReducesOn P.ParityEngine L.Sink log.old state.old log.new state.new engine.now result }
+    ensures trail { state.new.trail ≡ state.old.trail }
 {
     if !may_go(state, reference) {
         return Ok(());
@@ -52,7 +53,8 @@ pub(crate) fn reduce<P: ParityEngine, L: Sink<Item = LogEvent>>(
 ) -> Result<(), CoreFault>
     requires stands { Stands P.ParityEngine L.Sink log.old state.old engine.now [] }
     requires units { length state.old.units.items ≡ length state.old.trail.entries }
-    ensures { SearchesOn P.ParityEngine L.Sink log.old state.old log.new state.new engine.now result }
+    ensures searches_on { SearchesOn P.ParityEngine L.Sink log.old state.old log.new state.new engine.now result }
+    ensures trail { state.new.trail ≡ state.old.trail }
 {
     if state.reductions >= 1_000_000_000_000_000_000 {
         return Ok(());

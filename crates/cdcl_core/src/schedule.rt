@@ -1,6 +1,7 @@
 //! When the search restarts, and which learned clauses it deletes then.
-ghost use Rattle.std.specs.Prelude.{◌≡◌, ◌≢◌, [], length, IsTrue};
+ghost use Rattle.std.specs.Prelude.{◌≡◌, ◌≢◌, [], length, IsTrue, OnOk};
 ghost use Rattle.parity_engine.specs.declared.state.Mood.TheVariants.{Broken};
+ghost use Rattle.search_policy.specs.Assuming.{KeepsAssumptions};
 ghost use Rattle.cdcl_search.specs.Calls.{IsReady, SearchesOn};
 ghost use Rattle.cdcl_search.specs.Logs.{Stands};
 
@@ -13,7 +14,7 @@ use clause_arena::Arena;
 use conflict_learn::CoreFault;
 use cx_base::{ClauseRef, LogEvent, RefList};
 use parity_engine::ParityEngine;
-use search_policy::{Card, choose_removed_in_place, restart_due};
+use search_policy::{Assumptions, Card, choose_removed_in_place, restart_due};
 use std::alloc::{AllocError, Global};
 use step_text::Sink;
 
@@ -105,7 +106,9 @@ fn reduce_where_many<P: ParityEngine, L: Sink<Item = LogEvent>>(
     engine: &P,
 ) -> Result<(), CoreFault>
     requires { Stands P.ParityEngine L.Sink log.old state.old engine.now [] }
-    ensures { SearchesOn P.ParityEngine L.Sink log.old state.old log.new state.new engine.now result }
+    ensures searches_on { SearchesOn P.ParityEngine L.Sink log.old state.old log.new state.new engine.now result }
+    ensures level { state.new.trail.level ≡ state.old.trail.level }
+    ensures variables { state.new.trail.variables ≡ state.old.trail.variables }
 {
     if !has_units(state) || !are_many(state) {
         return Ok(());
@@ -121,17 +124,22 @@ pub(crate) fn follow_schedule<P: ParityEngine, L: Sink<Item = LogEvent>>(
     log: &mut SearchLog<L>,
     state: &mut SearchState,
     engine: &mut P,
+    assumptions: &mut Assumptions,
     schedule: &mut Schedule,
 ) -> Result<(), CoreFault>
-    requires { IsReady P.ParityEngine L.Sink log.old state.old engine.old }
+    requires ready { IsReady P.ParityEngine L.Sink log.old state.old engine.old }
+    requires keeps { KeepsAssumptions log.old.formula.now.constraints assumptions.old state.old.trail }
     ensures searches_on { SearchesOn P.ParityEngine L.Sink log.old state.old log.new state.new engine.new result }
     ensures unbroken { (P.state engine.new).mood ≢ Broken }
+    ensures keeps { OnOk result (KeepsAssumptions log.new.formula.now.constraints assumptions.new state.new.trail) }
 {
     schedule.count();
     if !schedule.is_due() {
         return Ok(());
     }
     schedule.begin_again();
-    restart(log.formula, state, engine);
-    reduce_where_many(log, state, engine)
+    restart(log.formula, state, engine, assumptions);
+    reduce_where_many(log, state, engine)?;
+    assumptions.begin_again();
+    Ok(())
 }

@@ -1,5 +1,5 @@
 //! The search as a whole.
-ghost use Rattle.std.specs.Prelude.{◌≡◌, ◌≢◌, ℕ, ◌<◌, ◌≤◌, ◌^◌, [], length, IfOk, IfErr};
+ghost use Rattle.std.specs.Prelude.{◌≡◌, ◌≢◌, ℕ, ◌<◌, ◌≤◌, ◌^◌, [], ◌∷◌, length, IfOk, IfErr, OnOk};
 ghost use Rattle.cx_semantics.specs.Settled.{Settled};
 ghost use Rattle.cx_base.specs.Counts.{Rose};
 ghost use Rattle.conflict_learn.specs.declared.fault.CoreFault.TheVariants.{Write};
@@ -8,10 +8,15 @@ ghost use Rattle.conflict_learn.specs.Marks.{AreClear};
 ghost use Rattle.parity_engine.specs.declared.state.Mood.TheVariants.{Broken};
 ghost use Rattle.search_steps.specs.Recovering.{SettledWithRecovered};
 ghost use Rattle.cdcl_search.specs.Searching.{SearchReaches};
-ghost use Rattle.cdcl_search.specs.Logs.{GoesOn, CountsAs, told_in};
+ghost use Rattle.cdcl_search.specs.Logs.{GoesOn, CountsAs, Stands, told_in};
+ghost use Rattle.cdcl_search.specs.declared.propagation.Found.TheVariants.{Quiet};
+ghost use Rattle.cdcl_search.specs.declared.searching.Reached.TheVariants as reached;
+ghost use Rattle.search_policy.specs.Assuming.{Contradicts, KeepsAssumptions};
+ghost use Rattle.cx_base.specs.Literals.{positive_of, negative_of};
 ghost use Rattle.cdcl_search.specs.Tells.{GivesUp, HaveLowIds, HasNoMark};
 ghost use Rattle.cdcl_core.specs.Beginning.{IsAtStart};
-ghost use Rattle.cdcl_core.specs.Concluding.{IsAtConflict, IsTold};
+ghost use Rattle.cdcl_core.specs.Concluding.{Concludes, IsAtConflict, IsTold, TellsEnd};
+ghost use Rattle.cdcl_core.specs.Failing.{EndsAtPlace};
 ghost use Rattle.cdcl_core.specs.Filling.{IsFilledUpTo};
 ghost use Rattle.cdcl_core.specs.Given.{AreEngines, HasGiven};
 ghost use Rattle.cdcl_core.specs.Results.{IsRightOutcome, IsFresh, IsSettledBy};
@@ -19,8 +24,9 @@ ghost use Rattle.cdcl_core.specs.Rounds.{IsSearching, LeavesRound, IsSettledIn};
 ghost use Rattle.cdcl_core.specs.declared.solving.Outcome.TheVariants as outcome;
 
 use crate::beginning::start;
-use crate::conflicts::{Conclusion, Conflict, conflict_clause};
-use crate::ending::{end, tell_ending};
+use crate::conflicts::{Conclusion, Conflict, clause_against, conflict_clause};
+use crate::ending::tell_ending;
+use crate::failing::{Failure, fail};
 use crate::filling::{Filled, fill, nothing_filled};
 use crate::jumping::jump;
 use crate::learning::learn;
@@ -28,11 +34,12 @@ use crate::originals::tell_originals;
 use crate::recovering::all_parities;
 use crate::schedule::{Schedule, follow_schedule};
 use cdcl_search::logs::SearchLog;
-use cdcl_search::{Found, SearchState, search_on, values_of};
+use cdcl_search::{Found, Reached, SearchState, search_on, values_of};
 use conflict_learn::{CoreFault, Marks};
-use cx_base::{Formula, LogEvent, ParityList, Values};
+use cx_base::{Formula, Lit, LitList, LogEvent, ParityList, Values, Var};
 use parity_engine::ParityEngine;
-use std::alloc::Global;
+use search_policy::Assumptions;
+use std::alloc::{AllocError, Global};
 use step_text::Sink;
 
 /// What a search comes to.
@@ -40,66 +47,155 @@ use step_text::Sink;
 pub enum Outcome {
     /// These values meet the formula.
     Sat(Values),
-    /// No values meet the formula. The log ends with the empty clause.
-    Unsat,
+    /// No values meet the formula, and these assumed literals fail: no values meet its clauses and its parities with them. The log ends with a clause of their negations, or two of
+    /// them clash.
+    Unsat { failed: LitList },
     /// The budget of counted conflicts is used up. Some values may meet the formula or none.
     Unknown { conflicts: u64 },
 }
 
-/// Learns from a conflict above level 0, and goes back. None: the search goes on.
+/// Learns from a conflict above the levels of the assumed literals, and goes back. None: the search goes on.
 fn learn_and_jump<P: ParityEngine, L: Sink<Item = LogEvent>>(
     log: &mut SearchLog<L>,
     state: &mut SearchState,
     engine: &mut P,
+    assumptions: &mut Assumptions,
     marks: &mut Marks,
     budget: u64,
     conflict: Conflict,
 ) -> Result<Option<Outcome>, CoreFault>
     requires at { IsAtConflict P.ParityEngine L.Sink log.old state.old engine.old conflict.rows.items conflict.lits }
     requires told { IsTold conflict }
+    requires keeps { KeepsAssumptions log.old.formula.now.constraints assumptions.old state.old.trail }
+    requires checked { assumptions.old.checked ≡ length state.old.trail.entries }
+    requires free { assumptions.old.level < state.old.trail.level }
     requires unsettled { ¬ SettledWithRecovered log.old.formula.now }
     requires few { (state.old.conflicts < budget) × (budget ≤ 10 ^ 18) }
     requires clear { AreClear marks.old }
-    ensures { LeavesRound P.ParityEngine L.Sink budget log.old state.old log.new state.new engine.new marks.new result }
+    ensures { LeavesRound P.ParityEngine L.Sink budget log.old state.old log.new state.new engine.new assumptions.new marks.new result }
 {
     let learned = learn(log, state, engine, marks, conflict)?;
     if state.conflicts + 1 == budget {
         return Ok(Some(Outcome::Unknown { conflicts: budget }));
     }
-    jump(log.formula, state, engine, &learned)?;
+    jump(log.formula, state, engine, assumptions, &learned)?;
     Ok(None)
 }
 
-/// What the search comes to where it stops: the values of a full trail, what a conflict teaches, or at level 0 the end of the log. None: the search goes on.
-fn conclude<P: ParityEngine, L: Sink<Item = LogEvent>>(
+/// Ends the log by what a conflict comes to, or a literal that contradicts an assumed one. The answer are the assumed literals that fail.
+fn end<P: ParityEngine, L: Sink<Item = LogEvent>>(
+    log: &mut SearchLog<L>,
+    state: &SearchState,
+    engine: &P,
+    marks: &mut Marks,
+    conclusion: Conclusion,
+    kept: Option<Lit>,
+    below: usize,
+) -> Result<LitList, CoreFault>
+    requires concludes { Concludes log.old.formula.now state.now (P.state engine.now) (told_in L.Sink log.old) kept conclusion }
+    requires at { EndsAtPlace log.old.formula.now.constraints state.now.trail kept below }
+    requires clear { AreClear marks.old }
+    ensures ends { TellsEnd L.Sink log.old state.now.conflicts log.new result }
+    ensures clear { OnOk result (AreClear marks.new) }
+{
+    match conclusion {
+        Conclusion::Clause(conflict) => fail(
+            log,
+            state,
+            engine,
+            marks,
+            Failure {
+                conflict,
+                kept,
+                below,
+            },
+        ),
+        Conclusion::Ending(ending) => tell_ending(log, state, ending),
+    }
+}
+
+/// What a conflict comes to: what it teaches, or where each decision is of an assumed literal, the end of the log. None: the search goes on.
+fn conclude_conflict<P: ParityEngine, L: Sink<Item = LogEvent>>(
     log: &mut SearchLog<L>,
     state: &mut SearchState,
     engine: &mut P,
+    assumptions: &mut Assumptions,
     marks: &mut Marks,
     budget: u64,
     found: Found,
 ) -> Result<Option<Outcome>, CoreFault>
-    requires searches { IsSearching P.ParityEngine L.Sink log.old state.old engine.old budget marks.old }
-    requires reaches { SearchReaches state.old (P.state engine.old) found }
+    requires searches { IsSearching P.ParityEngine L.Sink log.old state.old engine.old assumptions.old budget marks.old }
+    requires reaches { SearchReaches log.old.formula.now.constraints state.old (P.state engine.old) assumptions.old (reached.Found found) }
+    requires conflict { found ≢ Quiet }
     requires settled { SettledWithRecovered log.old.formula.now → state.old.trail.level ≡ 0 }
-    ensures leaves { LeavesRound P.ParityEngine L.Sink budget log.old state.old log.new state.new engine.new marks.new result }
+    ensures leaves { LeavesRound P.ParityEngine L.Sink budget log.old state.old log.new state.new engine.new assumptions.new marks.new result }
     ensures at_start { state.old.trail.level ≡ 0 → IsSettledIn log.new.formula.now state.old.conflicts (told_in L.Sink log.new) result }
 {
-    if let Found::Quiet = found {
-        let values = values_of(log.alloc, log.formula, state, engine)?;
-        return Ok(Some(Outcome::Sat(values)));
+    let conclusion = conflict_clause(log, state, engine, found)?;
+    if state.trail.level() <= assumptions.level {
+        let below = state.trail.len();
+        let failed = end(log, state, engine, marks, conclusion, None, below)?;
+        return Ok(Some(Outcome::Unsat { failed }));
     }
-    match conflict_clause(log, state, engine, found)? {
+    match conclusion {
         Conclusion::Clause(conflict) => {
-            if state.trail.level() > 0 {
-                return learn_and_jump(log, state, engine, marks, budget, conflict);
-            }
-            end(log, state, engine, conflict)?;
-            Ok(Some(Outcome::Unsat))
+            learn_and_jump(log, state, engine, assumptions, marks, budget, conflict)
         }
-        Conclusion::Ending(steps) => {
-            tell_ending(log, state, steps)?;
-            Ok(Some(Outcome::Unsat))
+        Conclusion::Ending(ending) => {
+            let failed = tell_ending(log, state, ending)?;
+            Ok(Some(Outcome::Unsat { failed }))
+        }
+    }
+}
+
+/// What a literal comes to that contradicts an assumed one: the end of the log.
+fn conclude_failed<P: ParityEngine, L: Sink<Item = LogEvent>>(
+    log: &mut SearchLog<L>,
+    state: &SearchState,
+    engine: &P,
+    assumptions: &Assumptions,
+    marks: &mut Marks,
+    place: usize,
+) -> Result<LitList, CoreFault>
+    requires stands { Stands P.ParityEngine L.Sink log.old state.now engine.now [] }
+    requires keeps { KeepsAssumptions log.old.formula.now.constraints assumptions.now state.now.trail }
+    requires place { (place ≡ assumptions.now.checked) × (place < length state.now.trail.entries) × Contradicts log.old.formula.now.constraints state.now.trail place }
+    requires clear { AreClear marks.old }
+    ensures ends { TellsEnd L.Sink log.old state.now.conflicts log.new result }
+    ensures clear { OnOk result (AreClear marks.new) }
+{
+    let literal = state.trail.entry(place).literal;
+    let conclusion = clause_against(log, state, engine, assumptions, place)?;
+    end(log, state, engine, marks, conclusion, Some(literal), place)
+}
+
+/// What the search comes to where it stops: the values of a full trail, what a conflict teaches, or the end of the log. None: the search goes on.
+fn conclude<P: ParityEngine, L: Sink<Item = LogEvent>>(
+    log: &mut SearchLog<L>,
+    state: &mut SearchState,
+    engine: &mut P,
+    assumptions: &mut Assumptions,
+    marks: &mut Marks,
+    budget: u64,
+    reached: Reached,
+) -> Result<Option<Outcome>, CoreFault>
+    requires searches { IsSearching P.ParityEngine L.Sink log.old state.old engine.old assumptions.old budget marks.old }
+    requires reaches { SearchReaches log.old.formula.now.constraints state.old (P.state engine.old) assumptions.old reached }
+    requires settled { SettledWithRecovered log.old.formula.now → state.old.trail.level ≡ 0 }
+    ensures leaves { LeavesRound P.ParityEngine L.Sink budget log.old state.old log.new state.new engine.new assumptions.new marks.new result }
+    ensures at_start { state.old.trail.level ≡ 0 → IsSettledIn log.new.formula.now state.old.conflicts (told_in L.Sink log.new) result }
+{
+    match reached {
+        Reached::Found(Found::Quiet) => {
+            let values = values_of(log.alloc, log.formula, state, engine)?;
+            Ok(Some(Outcome::Sat(values)))
+        }
+        Reached::Found(found) => {
+            conclude_conflict(log, state, engine, assumptions, marks, budget, found)
+        }
+        Reached::Failed(place) => {
+            let failed = conclude_failed(log, state, engine, assumptions, marks, place)?;
+            Ok(Some(Outcome::Unsat { failed }))
         }
     }
 }
@@ -109,17 +205,18 @@ fn round<P: ParityEngine, L: Sink<Item = LogEvent>>(
     log: &mut SearchLog<L>,
     state: &mut SearchState,
     engine: &mut P,
+    assumptions: &mut Assumptions,
     marks: &mut Marks,
     budget: u64,
 ) -> Result<Option<Outcome>, CoreFault>
-    requires searches { IsSearching P.ParityEngine L.Sink log.old state.old engine.old budget marks.old }
+    requires searches { IsSearching P.ParityEngine L.Sink log.old state.old engine.old assumptions.old budget marks.old }
     requires unbroken { (P.state engine.old).mood ≢ Broken }
     requires settled { SettledWithRecovered log.old.formula.now → state.old.trail.level ≡ 0 }
-    ensures leaves { LeavesRound P.ParityEngine L.Sink budget log.old state.old log.new state.new engine.new marks.new result }
+    ensures leaves { LeavesRound P.ParityEngine L.Sink budget log.old state.old log.new state.new engine.new assumptions.new marks.new result }
     ensures settled { SettledWithRecovered log.new.formula.now → state.old.trail.level ≡ 0 → IsSettledIn log.new.formula.now state.old.conflicts (told_in L.Sink log.new) result }
 {
-    let found = search_on(log, state, engine)?;
-    conclude(log, state, engine, marks, budget, found)
+    let reached = search_on(log, state, engine, assumptions)?;
+    conclude(log, state, engine, assumptions, marks, budget, reached)
 }
 
 /// Searches up to the budget, from the beginning on.
@@ -137,11 +234,12 @@ fn search<P: ParityEngine, L: Sink<Item = LogEvent>>(
 {
     let mut schedule = Schedule::new();
     let mut marks = Marks::new(log.alloc);
+    let mut assumptions = Assumptions::of(log.alloc, log.formula)?;
     loop {
-        if let Some(outcome) = round(log, state, engine, &mut marks, budget)? {
+        if let Some(outcome) = round(log, state, engine, &mut assumptions, &mut marks, budget)? {
             return Ok(outcome);
         }
-        follow_schedule(log, state, engine, &mut schedule)?;
+        follow_schedule(log, state, engine, &mut assumptions, &mut schedule)?;
     }
 }
 
@@ -165,11 +263,24 @@ fn fill_and_search<P: ParityEngine + Drop, L: Sink<Item = LogEvent>>(
     fill(log.alloc, log.formula, filled)?;
     match start::<P, L>(log, filled, parities)? {
         Some(mut engine) => search(log, &mut filled.state, &mut engine, budget),
-        None => Ok(Outcome::Unsat),
+        None => Ok(Outcome::Unsat {
+            failed: LitList::from_vec(Vec::new(log.alloc)),
+        }),
     }
 }
 
-/// Tells the originals and the recovered parities, and searches up to the budget.
+/// The two literals of a variable.
+fn both_of(alloc: Global, variable: Var) -> Result<LitList, AllocError>
+    ensures { IfOk result (λ lits. lits ≡ positive_of variable ∷ negative_of variable ∷ []) }
+{
+    let mut lits = Vec::new(alloc);
+    lits.push(Lit::new(variable, false))?;
+    lits.push(Lit::new(variable, true))?;
+    Ok(LitList::from_vec(lits))
+}
+
+/// Tells the originals and the recovered parities, and searches up to the budget. Where the formula's assumptions clash nothing is done behind the originals: the least variable
+/// that is assumed with both signs fails.
 fn search_from_start<P: ParityEngine + Drop, L: Sink<Item = LogEvent>>(
     log: &mut SearchLog<L>,
     budget: u64,
@@ -182,6 +293,11 @@ fn search_from_start<P: ParityEngine + Drop, L: Sink<Item = LogEvent>>(
     ensures log { GoesOn L.Sink log.old (fault_in result) log.new }
 {
     tell_originals(log)?;
+    if let Some(variable) = log.formula.clash() {
+        return Ok(Outcome::Unsat {
+            failed: both_of(log.alloc, variable)?,
+        });
+    }
     let parities = all_parities(log)?;
     let mut filled = nothing_filled(log.alloc, log.formula)?;
     fill_and_search::<P, L>(log, &mut filled, parities, budget)

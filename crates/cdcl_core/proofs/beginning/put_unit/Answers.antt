@@ -1,4 +1,4 @@
-use Rattle.std.proofs.Common.{subst, ◌+◌, drop, arith}
+use Rattle.std.proofs.Common.{subst, ◌+◌, drop, arith, []}
 use Rattle.cx_trail.specs.declared.entry.Reason.TheVariants.{Decision}
 use Rattle.cdcl_core.specs.Results.{Refutes}
 use Rattle.cdcl_core.proofs.WaitingLaws.{waiting_units_are_ids, waiting_is_id, next_waits, true_is_put, false_is_refutable, open_is_put}
@@ -36,7 +36,7 @@ returns-in_ok-push-in-Open-clause-puts g c = λ engines stands.
     st
 
 pub returns-in_ok-refute-in-False-clause-puts : goal.returns-in_ok-refute-in-False-clause-puts
-returns-in_ok-refute-in-False-clause-puts g c = λ engines stands. subst (λ n. Refutes c.refute.new.log.formula.now (n + 1) (g.L.Sink.items c.refute.new.log.sink.now)) stands.3.conflicts c.in_ok-refute-in-False.ensures.refutes
+returns-in_ok-refute-in-False-clause-puts g c = λ engines stands. subst (λ n. Refutes c.refute.new.log.formula.now (n + 1) (g.L.Sink.items c.refute.new.log.sink.now) []) stands.3.conflicts c.in_ok-refute-in-False.ensures.refutes
 
 pub returns-in-True-clause-log : goal.returns-in-True-clause-log
 returns-in-True-clause-log g c = log_rests g.L.Sink g.met.L.Sink.keeps_itself c.args.log.now

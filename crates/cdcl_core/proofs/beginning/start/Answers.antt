@@ -62,4 +62,4 @@ returns-then-not-branch-clause-begins g c =
     subst (PutsUnits c.put_units.new.log.formula.now engines c.put_units.new.state [] (g.L.Sink.items c.put_units.new.log.sink.now)) c.if-not-branch.true (c.in_ok-put_units.ensures.puts engines before)
 
 pub returns-in-Some-clause-begins : goal.returns-in-Some-clause-begins
-returns-in-Some-clause-begins g c = subst (λ n. Refutes c.refute.new.log.formula.now (n + 1) (g.L.Sink.items c.refute.new.log.sink.now)) c.requires.filled.conflicts c.in_ok-refute.ensures.refutes
+returns-in-Some-clause-begins g c = subst (λ n. Refutes c.refute.new.log.formula.now (n + 1) (g.L.Sink.items c.refute.new.log.sink.now) []) c.requires.filled.conflicts c.in_ok-refute.ensures.refutes

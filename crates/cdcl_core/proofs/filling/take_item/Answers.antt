@@ -2,7 +2,7 @@ use Rattle.std.proofs.Common.{sym, subst, []}
 use Rattle.cx_base.specs.declared.constraint.Constraint.TheVariants as constraint
 use Rattle.cdcl_search.proofs.Outcomes.{on_ok}
 use Rattle.cdcl_core.specs.Filling.{IsNext}
-use Rattle.cdcl_core.proofs.FilledClauses.{next_is_few, next_clause, next_filled, parity_passed}
+use Rattle.cdcl_core.proofs.FilledClauses.{next_is_few, next_clause, next_filled, parity_passed, assumption_passed}
 use Rattle.cdcl_core.proofs.filling.take_item.Goals as goal
 
 pub take_clause-requires-clause-few : goal.take_clause-requires-clause-few
@@ -26,3 +26,6 @@ returns-in_ok-lits-in-Clause c =
 
 pub returns-in-Parity : goal.returns-in-Parity
 returns-in-Parity c = parity_passed c.args.formula.now c.args.place (constraint.Clause []) c.requires.place c.args.filled.now c.requires.filled c.in-Parity.field-0.now (sym c.in-Parity.ensures.item)
+
+pub returns-in-Assume : goal.returns-in-Assume
+returns-in-Assume c = assumption_passed c.args.formula.now c.args.place (constraint.Clause []) c.requires.place c.args.filled.now c.requires.filled c.in-Assume.field-0.now (sym c.in-Assume.ensures.item)

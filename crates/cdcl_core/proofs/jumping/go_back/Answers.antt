@@ -1,4 +1,4 @@
-use Rattle.std.proofs.Common.{refl, rules}
+use Rattle.std.proofs.Common.{refl, rules, arith}
 use Rattle.cdcl_search.specs.declared.state.SearchState.{SearchState}
 use Rattle.parity_engine.specs.State.{State}
 use Rattle.cdcl_core.proofs.GoingBack.{GoesBack, ties_then, watched_then, units_are_all, above_too}
@@ -29,11 +29,14 @@ returns g c =
       engine = c.back_to-4.ensures;
     } in
     record {
-      ties = λ rows s ok t. ties_then c.args.formula.now c.args.level c.args.state.now now old new rows s ok t goes;
-      watched = watched_then c.args.formula.now c.args.level c.args.state.now now old new c.requires.stands.0 c.requires.stands.1 c.requires.stands.2 c.requires.stands.3 goes c.requires.stands.4;
-      back = c.back_to-2.ensures.back;
-      units = units_are_all c.args.formula.now c.args.level c.args.state.now now old new c.requires.stands.0 c.requires.stands.1 c.requires.stands.2 c.requires.stands.3 goes;
-      counts = record { next = refl; conflicts = refl; learned = refl; reductions = refl };
-      parities = search rules;
-      unbroken = search rules;
+      back = record {
+        ties = λ rows s ok t. ties_then c.args.formula.now c.args.level c.args.state.now now old new rows s ok t goes;
+        watched = watched_then c.args.formula.now c.args.level c.args.state.now now old new c.requires.stands.0 c.requires.stands.1 c.requires.stands.2 c.requires.stands.3 goes c.requires.stands.4;
+        back = c.back_to-2.ensures.back;
+        units = units_are_all c.args.formula.now c.args.level c.args.state.now now old new c.requires.stands.0 c.requires.stands.1 c.requires.stands.2 c.requires.stands.3 goes;
+        counts = record { next = refl; conflicts = refl; learned = refl; reductions = refl };
+        parities = search rules;
+        unbroken = search rules;
+      };
+      keeps = λ constraints k. c.back_to-5.ensures constraints c.args.state.now.trail k (let low = c.requires.lower in omega (arith, low)) c.back_to-2.ensures.back;
     }

@@ -1,4 +1,6 @@
 use Rattle.std.proofs.Common.{sym, subst}
+use Rattle.cx_base.specs.Problem.{Problem}
+use Rattle.cdcl_core.specs.Failing.{IsFree}
 use Rattle.search_steps.specs.Recovering.{SettledWithRecovered}
 use Rattle.cdcl_search.specs.GoingOn.{log_then}
 use Rattle.cdcl_core.specs.Concluding.{IsAtConflict}
@@ -58,3 +60,6 @@ returns-clause-touched g c = c.in_ok-learned.ensures.lesson.touched
 
 pub returns-clause-clear : goal.returns-clause-clear
 returns-clause-clear g c = c.in_ok-learned.ensures.clear
+
+pub tell_learned-requires-clause-free : goal.tell_learned-requires-clause-free
+tell_learned-requires-clause-free g c = subst (λ (f : Problem). IsFree f.constraints c.args.state.now.trail) (sym c.in_ok-learned.ensures.log.formula) c.requires.free

@@ -20,7 +20,7 @@ returns-clause-at g c =
       all_false = c.requires.at.conflict.all_false;
     }) in
     on_ok _ c.analyse.result (stands_at g.L.Sink.items c.analyse.result c.args.state.now new.state.now (g.P.ParityEngine.state c.args.engine.now) (g.P.ParityEngine.state new.engine.now) new.rows.now.items c.rows-1.given.0.items new.log.now c.log-1.given.0 loans.state
-    (ap g.P.ParityEngine.state loans.engine) (search rules) (search rules) c.analyse.ensures.ready) (λ stands. record { stands = stands; conflict = conflict; above = c.requires.at.above })
+    (ap g.P.ParityEngine.state loans.engine) (search rules) (search rules) (on_ok _ c.analyse.result c.analyse.ensures.ready (λ r. r.0))) (λ stands. record { stands = stands; conflict = conflict; above = c.requires.at.above })
 
 pub returns-clause-lesson : goal.returns-clause-lesson
 returns-clause-lesson g c =

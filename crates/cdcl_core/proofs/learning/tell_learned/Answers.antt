@@ -17,7 +17,7 @@ use Rattle.cdcl_core.proofs.learning.tell_learned.Goals as goal
 pub tell_round-requires-clause-right : goal.tell_round-requires-clause-right
 tell_round-requires-clause-right g c = learned_is_left _ c.args.state.now (g.P.ParityEngine.state c.args.engine.now) c.args.learned.now.lits c.args.learned.now.back_level _
     (learns_then c.args.log.now.formula.now c.args.state.now (g.P.ParityEngine.state c.args.engine.now) c.args.rows.now (g.L.Sink.items c.args.log.now.sink.now) c.requires.at.stands
-    c.requires.at.above (next_is_id c.args.log.now.formula.now c.args.state.now (g.P.ParityEngine.state c.args.engine.now) _ c.args.rows.now c.requires.at.stands.0 c.requires.at.stands.3).1 c.requires.few c.args.conflict.now c.requires.at.conflict c.args.learned.now.resolved c.args.learned.now.lits c.args.learned.now.back_level c.args.learned.now.lbd c.requires.lesson.teaches
+    c.requires.at.above (next_is_id c.args.log.now.formula.now c.args.state.now (g.P.ParityEngine.state c.args.engine.now) _ c.args.rows.now c.requires.at.stands.0 c.requires.at.stands.3).1 c.requires.few c.args.conflict.now c.requires.at.conflict c.args.learned.now.resolved c.args.learned.now.lits c.args.learned.now.back_level c.args.learned.now.lbd c.requires.lesson.teaches c.requires.free
     (subst (λ xs. literals (integers_of xs) ≡ xs) c.as_slice.ensures c.in_ok-steps.ensures.literals) c.in_ok-hints.hints c.in_ok-steps.steps.items
     (c.in_ok-steps.ensures.steps.are ∙ ap (λ xs. Step (step.ClauseWithHints c.args.state.now.next (integers_of xs) c.in_ok-hints.hints) ∷ deletions (row_ids (first_row_id c.args.state.now.next) (length c.args.rows.now))) c.as_slice.ensures)
     _ refl)
@@ -27,7 +27,7 @@ returns-clause-learned g c =
     holds_where (λ formula told. Learns formula c.args.state.now (g.P.ParityEngine.state c.args.engine.now) c.args.learned.now.lits c.args.learned.now.back_level told) (Conflict (c.args.state.now.conflicts + 1) ∷ as_events c.in_ok-steps.steps.items)
     g.L.Sink c.args.log.now _ c.tell_round.result c.tell_round.new.log c.tell_round.ensures.log c.tell_round.ensures.told
     (learns_then c.args.log.now.formula.now c.args.state.now (g.P.ParityEngine.state c.args.engine.now) c.args.rows.now (g.L.Sink.items c.args.log.now.sink.now) c.requires.at.stands
-    c.requires.at.above (next_is_id c.args.log.now.formula.now c.args.state.now (g.P.ParityEngine.state c.args.engine.now) _ c.args.rows.now c.requires.at.stands.0 c.requires.at.stands.3).1 c.requires.few c.args.conflict.now c.requires.at.conflict c.args.learned.now.resolved c.args.learned.now.lits c.args.learned.now.back_level c.args.learned.now.lbd c.requires.lesson.teaches
+    c.requires.at.above (next_is_id c.args.log.now.formula.now c.args.state.now (g.P.ParityEngine.state c.args.engine.now) _ c.args.rows.now c.requires.at.stands.0 c.requires.at.stands.3).1 c.requires.few c.args.conflict.now c.requires.at.conflict c.args.learned.now.resolved c.args.learned.now.lits c.args.learned.now.back_level c.args.learned.now.lbd c.requires.lesson.teaches c.requires.free
     (subst (λ xs. literals (integers_of xs) ≡ xs) c.as_slice.ensures c.in_ok-steps.ensures.literals) c.in_ok-hints.hints c.in_ok-steps.steps.items
     (c.in_ok-steps.ensures.steps.are ∙ ap (λ xs. Step (step.ClauseWithHints c.args.state.now.next (integers_of xs) c.in_ok-hints.hints) ∷ deletions (row_ids (first_row_id c.args.state.now.next) (length c.args.rows.now))) c.as_slice.ensures)
     _ refl)

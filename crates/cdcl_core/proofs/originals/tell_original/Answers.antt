@@ -8,7 +8,7 @@ use Rattle.cdcl_search.specs.Tells.{IsLeft, with_events}
 use Rattle.cdcl_search.proofs.Outcomes.{on_both}
 use Rattle.cdcl_search.proofs.Tellings.{holds_where, formula_holds}
 use Rattle.cdcl_core.specs.Originals.{HasBegun, AreCounted}
-use Rattle.cdcl_core.proofs.OriginalLaws.{clause_is_id, parity_is_id, clause_counted, parity_counted, clause_begun, parity_begun, begun_is_left}
+use Rattle.cdcl_core.proofs.OriginalLaws.{clause_is_id, parity_is_id, clause_counted, parity_counted, clause_begun, parity_begun, assumption_counted, assumption_begun, begun_is_left}
 use Rattle.cdcl_core.proofs.originals.tell_original.Goals as goal
 
 pub overflow_add-counts : goal.overflow_add-counts
@@ -62,3 +62,11 @@ returns-in_ok-zs-in-Parity-clause-taken g c =
     (parity_begun c.args.log.now.formula.now c.args.place (constraint.Clause []) c.requires.place c.requires.few c.args.counts.now.clauses c.args.counts.now.parities c.requires.taken.counted (g.L.Sink.items c.args.log.now.sink.now) c.requires.taken.begun
     c.in-Parity.lits.now c.in-Parity.ensures.within (sym c.in-Parity.ensures.item))))
     (λ counted begun. record { counted = counted; begun = begun })
+
+pub returns-in-Assume-clause-taken : goal.returns-in-Assume-clause-taken
+returns-in-Assume-clause-taken g c = record {
+  counted = assumption_counted c.args.log.now.formula.now c.args.place (constraint.Clause []) c.requires.place c.requires.few c.args.counts.now.clauses c.args.counts.now.parities c.requires.taken.counted (g.L.Sink.items c.args.log.now.sink.now) c.requires.taken.begun
+      c.in-Assume.field-0.now c.in-Assume.ensures.within (sym c.in-Assume.ensures.item);
+  begun = assumption_begun c.args.log.now.formula.now c.args.place (constraint.Clause []) c.requires.place c.requires.few c.args.counts.now.clauses c.args.counts.now.parities c.requires.taken.counted (g.L.Sink.items c.args.log.now.sink.now) c.requires.taken.begun
+      c.in-Assume.field-0.now c.in-Assume.ensures.within (sym c.in-Assume.ensures.item);
+}

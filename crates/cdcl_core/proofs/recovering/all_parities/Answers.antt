@@ -18,7 +18,7 @@ loop-place-init g c =
     let told = g.L.Sink.items c.args.log.now.sink.now in
     let own = c.reserve_exact.ensures.items ∙ c.in_ok-parities.ensures in
     record {
-      given = subst (λ ps. HasGiven formula ps told) (sym own) (begun_has_given formula told c.requires.begun);
+      given = subst (λ ps. HasGiven formula ps told) (sym own) (begun_has_given formula told c.requires.apart c.requires.begun);
       are = own ∙ sym (append-nil (parities_of formula.constraints));
       log = log_rests g.L.Sink g.met.L.Sink.keeps_itself _;
     }

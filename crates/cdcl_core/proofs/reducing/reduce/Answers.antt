@@ -1,4 +1,4 @@
-use Rattle.std.proofs.Common.{refl, ◌∙◌}
+use Rattle.std.proofs.Common.{refl, ◌∙◌, ap}
 use Rattle.std.proofs.lemmas.Result.{err_from_is_err_and}
 use Rattle.cdcl_search.specs.GoingOn.{log_rests, log_then}
 use Rattle.cdcl_core.proofs.LearnedLess.{reduction_begins, reduction_ends}
@@ -9,30 +9,38 @@ loop-reference-init g c = record {
   reducing = record { loses = reduction_begins c.args.log.now.formula.now c.args.state.now (g.P.ParityEngine.state c.args.engine.now) (g.L.Sink.items c.args.log.now.sink.now) c.requires.stands; units = c.requires.units };
   conflicts = refl;
   log = log_rests g.L.Sink g.met.L.Sink.keeps_itself c.args.log.now;
+  trail = refl;
 }
 
 pub loop-reference-preserved : goal.loop-reference-preserved
 loop-reference-preserved g c =
-    let done = c.in_ok-remove_where_may.ensures in
+    let done = c.in_ok-remove_where_may.ensures.reduces_on in
     record {
       reducing = done.reducing;
       conflicts = done.conflicts ∙ c.loop-reference.invariant.conflicts;
       log = log_then g.L.Sink g.met.L.Sink.keeps_on _ _ _ _ c.loop-reference.invariant.log done.log;
+      trail = c.in_ok-remove_where_may.ensures.trail ∙ c.loop-reference.invariant.trail;
     }
 
 pub returns : goal.returns
 returns g c = record {
-  stands = reduction_ends c.loop-reference.log.formula.now c.loop-reference.state (g.P.ParityEngine.state c.args.engine.now) (g.L.Sink.items c.loop-reference.log.sink.now) c.detach_all_removed.new.self c.loop-reference.invariant.reducing.loses c.detach_all_removed.ensures;
-  conflicts = c.loop-reference.invariant.conflicts;
-  log = c.loop-reference.invariant.log;
+  searches_on = record {
+    stands = reduction_ends c.loop-reference.log.formula.now c.loop-reference.state (g.P.ParityEngine.state c.args.engine.now) (g.L.Sink.items c.loop-reference.log.sink.now) c.detach_all_removed.new.self c.loop-reference.invariant.reducing.loses c.detach_all_removed.ensures;
+    conflicts = c.loop-reference.invariant.conflicts;
+    log = c.loop-reference.invariant.log;
+  };
+  trail = c.loop-reference.invariant.trail;
 }
 
 pub returns-in_err-remove_where_may : goal.returns-in_err-remove_where_may
 returns-in_err-remove_where_may g c =
-    let done = c.in_err-remove_where_may.ensures in
+    let done = c.in_err-remove_where_may.ensures.reduces_on in
     let fault = err_from_is_err_and c.from_residual.result c.from_residual.ensures.1 in
     rw (fault.1, fault.2) (record {
-      stands = tt;
-      conflicts = done.conflicts ∙ c.loop-reference.invariant.conflicts;
-      log = log_then g.L.Sink g.met.L.Sink.keeps_on _ c.loop-reference.log _ _ c.loop-reference.invariant.log done.log;
+      searches_on = record {
+        stands = tt;
+        conflicts = done.conflicts ∙ c.loop-reference.invariant.conflicts;
+        log = log_then g.L.Sink g.met.L.Sink.keeps_on _ c.loop-reference.log _ _ c.loop-reference.invariant.log done.log;
+      };
+      trail = c.in_err-remove_where_may.ensures.trail ∙ c.loop-reference.invariant.trail;
     })

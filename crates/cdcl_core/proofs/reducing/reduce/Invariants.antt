@@ -9,4 +9,5 @@ invariant-loop-reference g l = record {
   reducing : IsReducing g.P.ParityEngine g.L.Sink l.log l.state l.engine;
   conflicts : l.state.conflicts ≡ l.fn.state.conflicts;
   log : GoesOn g.L.Sink l.fn.log None l.log;
+  trail : l.state.trail ≡ l.fn.state.trail;
 }

@@ -22,21 +22,24 @@ returns g c =
     let e = g.P.ParityEngine.state c.args.engine.now in
     let may : MayGo c.args.state.now c.args.reference = c.may_go.ensures c.if-not-may_go.false in
     record {
-      reducing = record {
-        loses = loses_told g.L.Sink c.args.log.now c.tell_step.new.log _ c.in_ok-tell_step.ensures.log
-            (record c.args.state.now { arena = less c.args.state.now.arena c.args.reference; learned = c.args.state.now.learned - 1 }) _ e (Step c.deletion-step.result) _ (ap Step (c.deletion-step.ensures.is ∙ ap (λ n. Delete n []) c.id.ensures))
-            c.in_ok-tell_step.ensures.told (ap (λ a. record c.args.state.now { arena = a; learned = c.args.state.now.learned - 1 }) c.remove.ensures)
-            (one_deletion_keeps c.args.log.now.formula.now c.args.state.now e (g.L.Sink.items c.args.log.now.sink.now) c.requires.loses c.args.reference may.live may.learned c.requires.units may.enough);
-        units = c.requires.units;
+      reduces_on = record {
+        reducing = record {
+          loses = loses_told g.L.Sink c.args.log.now c.tell_step.new.log _ c.in_ok-tell_step.ensures.log
+              (record c.args.state.now { arena = less c.args.state.now.arena c.args.reference; learned = c.args.state.now.learned - 1 }) _ e (Step c.deletion-step.result) _ (ap Step (c.deletion-step.ensures.is ∙ ap (λ n. Delete n []) c.id.ensures))
+              c.in_ok-tell_step.ensures.told (ap (λ a. record c.args.state.now { arena = a; learned = c.args.state.now.learned - 1 }) c.remove.ensures)
+              (one_deletion_keeps c.args.log.now.formula.now c.args.state.now e (g.L.Sink.items c.args.log.now.sink.now) c.requires.loses c.args.reference may.live may.learned c.requires.units may.enough);
+          units = c.requires.units;
+        };
+        conflicts = refl;
+        log = c.in_ok-tell_step.ensures.log;
       };
-      conflicts = refl;
-      log = c.in_ok-tell_step.ensures.log;
+      trail = refl;
     }
 
 pub returns-then-not-may_go : goal.returns-then-not-may_go
-returns-then-not-may_go g c = record { reducing = c.requires; conflicts = refl; log = log_rests g.L.Sink g.met.L.Sink.keeps_itself c.args.log.now }
+returns-then-not-may_go g c = record { reduces_on = record { reducing = c.requires; conflicts = refl; log = log_rests g.L.Sink g.met.L.Sink.keeps_itself c.args.log.now }; trail = refl }
 
 pub returns-in_err-tell_step : goal.returns-in_err-tell_step
 returns-in_err-tell_step g c =
     let fault = err_from_is_err_and c.from_residual.result c.from_residual.ensures.1 in
-    rw (fault.1, fault.2) (record { reducing = tt; conflicts = refl; log = c.in_err-tell_step.ensures.log })
+    rw (fault.1, fault.2) (record { reduces_on = record { reducing = tt; conflicts = refl; log = c.in_err-tell_step.ensures.log }; trail = refl })

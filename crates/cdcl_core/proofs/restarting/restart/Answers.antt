@@ -10,10 +10,10 @@ pub returns-clause-stays : goal.returns-clause-stays
 returns-clause-stays g c = record {
   stands = λ told st. (
     jumped st.0 0,
-    subst (λ ps. IsSearch c.args.formula.now ps (jumped st.0 0)) (sym c.go_back.ensures.parities) (jump_keeps c.args.formula.now _ st.0 st.1 0 (omega arith)),
+    subst (λ ps. IsSearch c.args.formula.now ps (jumped st.0 0)) (sym c.go_back.ensures.back.parities) (jump_keeps c.args.formula.now _ st.0 st.1 0 (omega arith)),
     st.2,
-    c.go_back.ensures.ties _ st.0 st.1 st.3,
-    c.go_back.ensures.watched,
+    c.go_back.ensures.back.ties _ st.0 st.1 st.3,
+    c.go_back.ensures.back.watched,
   );
-  unbroken = c.go_back.ensures.unbroken;
+  unbroken = c.go_back.ensures.back.unbroken;
 }

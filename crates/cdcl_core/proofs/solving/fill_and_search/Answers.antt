@@ -1,3 +1,5 @@
+use Rattle.std.proofs.Common.{sym, subst, ◌∙◌}
+use Rattle.cdcl_core.specs.Results.{Refutes}
 use Rattle.cdcl_search.specs.GoingOn.{log_stops, log_then}
 use Rattle.std.proofs.lemmas.Result.{err_from_is_err_and}
 use Rattle.cdcl_core.proofs.Answering.{refutes_within, unsat_is_known}
@@ -8,10 +10,12 @@ returns-in-Some-clause-log g c = log_then g.L.Sink g.met.L.Sink.keeps_on _ c.sta
 
 pub returns-in-None : goal.returns-in-None
 returns-in-None g c =
-    let refutes = rw c.in-None.is at c.in_ok-engine.ensures.begins in
+    let none = c.from_vec.ensures ∙ c.new.ensures.items in
+    let told = g.L.Sink.items c.start.new.log.sink.now in
+    let refutes = subst (Refutes c.start.new.log.formula.now 1 told) (sym none) (rw c.in-None.is at c.in_ok-engine.ensures.begins) in
     record {
-      answers = refutes_within c.start.new.log.formula.now 1 c.args.budget (g.L.Sink.items c.start.new.log.sink.now) c.requires.budget.0 refutes;
-      settled = λ s. (refutes, unsat_is_known);
+      answers = refutes_within c.start.new.log.formula.now 1 c.args.budget told c.from_vec.result c.requires.budget.0 refutes;
+      settled = λ s. (refutes, unsat_is_known c.from_vec.result);
       log = c.in_ok-engine.ensures.log;
     }
 

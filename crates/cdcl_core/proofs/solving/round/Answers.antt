@@ -7,7 +7,7 @@ use Rattle.cdcl_core.specs.Rounds.{IsSettledIn}
 use Rattle.cdcl_core.proofs.solving.round.Goals as goal
 
 pub conclude-requires-clause-settled : goal.conclude-requires-clause-settled
-conclude-requires-clause-settled g c = λ s. c.in_ok-found.ensures.settled s ∙ c.requires.settled (subst SettledWithRecovered c.in_ok-found.ensures.searches_on.log.formula s)
+conclude-requires-clause-settled g c = λ s. c.in_ok-reached.ensures.settled s ∙ c.requires.settled (subst SettledWithRecovered c.in_ok-reached.ensures.searches_on.log.formula s)
 
 pub returns-clause-leaves : goal.returns-clause-leaves
 returns-clause-leaves g c =
@@ -15,27 +15,29 @@ returns-clause-leaves g c =
     record {
       goes_on = leaves.goes_on;
       one_more = subst (λ n. IfOk c.conclude.result (λ o. MatchOption o (c.conclude.new.state.conflicts ≡ n + 1) (λ _. Unit {0}))) c.search_on.ensures.searches_on.conflicts leaves.one_more;
+      keeps = leaves.keeps;
       clear = leaves.clear;
-      log = log_then g.L.Sink g.met.L.Sink.keeps_on _ c.search_on.new.log _ _ c.in_ok-found.ensures.searches_on.log leaves.log;
+      log = log_then g.L.Sink g.met.L.Sink.keeps_on _ c.search_on.new.log _ _ c.in_ok-reached.ensures.searches_on.log leaves.log;
     }
 
 pub returns-clause-settled : goal.returns-clause-settled
 returns-clause-settled g c = λ s level.
     let told = g.L.Sink.items c.conclude.new.log.sink.now in
     subst (λ n. IsSettledIn c.conclude.new.log.formula.now n told c.conclude.result) c.search_on.ensures.searches_on.conflicts
-    (c.conclude.ensures.at_start (c.in_ok-found.ensures.settled (subst SettledWithRecovered c.conclude.ensures.leaves.log.formula s) ∙ level))
+    (c.conclude.ensures.at_start (c.in_ok-reached.ensures.settled (subst SettledWithRecovered c.conclude.ensures.leaves.log.formula s) ∙ level))
 
 pub conclude-requires-clause-searches : goal.conclude-requires-clause-searches
 conclude-requires-clause-searches g c = record {
-  stands = c.in_ok-found.ensures.searches_on.stands;
+  stands = c.in_ok-reached.ensures.searches_on.stands;
+  keeps = c.in_ok-reached.ensures.reaches.keeps;
   few = (let same = c.search_on.ensures.searches_on.conflicts in let few = c.requires.searches.few.0 in omega (arith, same, few), c.requires.searches.few.1);
   clear = c.requires.searches.clear;
 }
 
 pub conclude-requires-clause-reaches : goal.conclude-requires-clause-reaches
-conclude-requires-clause-reaches g c = c.in_ok-found.ensures.reaches
+conclude-requires-clause-reaches g c = c.in_ok-reached.ensures.reaches
 
-pub returns-in_err-found : goal.returns-in_err-found
-returns-in_err-found g c =
+pub returns-in_err-reached : goal.returns-in_err-reached
+returns-in_err-reached g c =
     let fault = err_from_is_err_and c.from_residual.result c.from_residual.ensures.1 in
-    rw (fault.1, fault.2) (record { leaves = record { goes_on = tt; one_more = tt; clear = tt; log = c.in_err-found.ensures.searches_on.log }; settled = λ s level. tt })
+    rw (fault.1, fault.2) (record { leaves = record { goes_on = tt; one_more = tt; keeps = tt; clear = tt; log = c.in_err-reached.ensures.searches_on.log }; settled = λ s level. tt })

@@ -1,3 +1,7 @@
+use Rattle.std.proofs.Common.{◌∙◌, sym, ap, subst, is_some, ◌∷◌, [], rules, arith}
+use Rattle.cdcl_core.specs.Results.{Refutes}
+use Rattle.cdcl_core.proofs.Answering.{unsat_is_known}
+use Rattle.cdcl_core.proofs.ClashLaws.{clash_refutes}
 use Rattle.cdcl_search.specs.GoingOn.{log_then, log_stops}
 use Rattle.std.proofs.lemmas.Result.{err_from_is_err_and}
 use Rattle.cdcl_core.proofs.solving.search_from_start.Goals as goal
@@ -22,3 +26,9 @@ returns-in_err-filled g c =
     let given = log_then g.L.Sink g.met.L.Sink.keeps_on _ c.tell_originals.new.log _ _ c.in_ok-tell_originals.ensures.log c.in_ok-parities.ensures.log in
     let fault = err_from_is_err_and c.from_residual-in_err-filled.result c.from_residual-in_err-filled.ensures.1 in
     rw (fault.1, fault.2) (record { answers = tt; settled = λ s. tt; log = log_then g.L.Sink g.met.L.Sink.keeps_on _ c.all_parities.new.log _ _ given (log_stops g.L.Sink g.met.L.Sink.keeps_itself c.all_parities.new.log) })
+
+pub returns-in-Some-clause-answers : goal.returns-in-Some-clause-answers
+returns-in-Some-clause-answers g c = subst (Refutes c.tell_originals.new.log.formula.now c.args.budget (g.L.Sink.items c.tell_originals.new.log.sink.now)) (search rules) (clash_refutes c.tell_originals.new.log.formula.now c.in-Some.variable c.args.budget c.requires.budget.0 (rw c.in-Some.is at c.clash.ensures.least) (sym c.clash.ensures.some ∙ ap is_some c.in-Some.is) (g.L.Sink.items c.tell_originals.new.log.sink.now) c.in_ok-tell_originals.ensures.begun)
+
+pub returns-in-Some-clause-settled : goal.returns-in-Some-clause-settled
+returns-in-Some-clause-settled g c = λ s. (subst (Refutes c.tell_originals.new.log.formula.now 1 (g.L.Sink.items c.tell_originals.new.log.sink.now)) (search rules) (clash_refutes c.tell_originals.new.log.formula.now c.in-Some.variable 1 (omega arith) (rw c.in-Some.is at c.clash.ensures.least) (sym c.clash.ensures.some ∙ ap is_some c.in-Some.is) (g.L.Sink.items c.tell_originals.new.log.sink.now) c.in_ok-tell_originals.ensures.begun), unsat_is_known _)

@@ -1,0 +1,31 @@
+use Rattle.std.proofs.Common.{refl, sym, subst, ◌∙◌, [], length, Some, inl, inr, arith, ap, rules, ◌<◌}
+use Rattle.cx_trail.specs.Sequence.{entry_at}
+use Rattle.conflict_learn.specs.Learning.{HasReason, IsAntecedent}
+use Rattle.cdcl_search.specs.Sources.{IsSourced}
+use Rattle.cdcl_search.specs.Tells.{IsId}
+use Rattle.cdcl_search.proofs.LowIds.{has_ids}
+use Rattle.cdcl_core.specs.Concluding.{Concludes}
+use Rattle.cdcl_core.proofs.AgainstLaws.{alone_implied, against_has_reason}
+use Rattle.cdcl_core.proofs.ConflictLaws.{hinted_concludes}
+use Rattle.cdcl_core.proofs.conflicts.clause_against.Goals as goal
+
+pub unit-requires-clause-ids : goal.unit-requires-clause-ids
+unit-requires-clause-ids g c = has_ids c.args.log.now.formula.now c.args.state.now (g.P.ParityEngine.state c.args.engine.now) [] (g.L.Sink.items c.args.log.now.sink.now) c.requires.stands
+
+pub returns-then-place-len : goal.returns-then-place-len
+returns-then-place-len g c =
+    let k = c.of_stored.ensures in
+    let l = (entry_at c.args.state.now.trail.entries c.args.place).literal in
+    let is = k.2 ∙ c.in_ok-unit.ensures.lits in
+    let low : c.args.place < length c.args.state.now.units.items = search rules in
+    record {
+      concludes = subst (Concludes c.args.log.now.formula.now c.args.state.now (g.P.ParityEngine.state c.args.engine.now) (g.L.Sink.items c.args.log.now.sink.now) (Some l)) (sym k.1)
+          (hinted_concludes c.args.log.now.formula.now c.args.state.now (g.P.ParityEngine.state c.args.engine.now) (g.L.Sink.items c.args.log.now.sink.now) c.requires.stands l k.0 k.4 (subst IsId (sym k.3) c.in_ok-unit.ensures.id)
+          (inr (inl (c.args.place, low, is))) (alone_implied c.args.state.now.trail l k.0.lits is));
+      log = search rules;
+    }
+
+pub reason_against-requires-clause-reason : goal.reason_against-requires-clause-reason
+reason_against-requires-clause-reason g c =
+    subst (λ e. HasReason c.args.state.now.trail e.literal e.reason) (sym c.entry-entry.ensures.is)
+    (against_has_reason c.args.log.now.formula.now.constraints c.args.assumptions.now c.args.state.now.trail c.requires.keeps c.requires.stands.3.trail.follows.sound c.requires.stands.1.log.apart c.args.place c.requires.place c.requires.contradicts)

@@ -1,0 +1,43 @@
+use Rattle.std.proofs.Common.{◌≡◌, ◌∙◌, ap, sym, subst, ◌+◌, ◌∷◌, [], List, length, Ok, true, arith}
+use Rattle.std.proofs.lemmas.Result.{err_from_is_err_and}
+use Rattle.cx_base.specs.Literals.{Literal}
+use Rattle.cx_base.specs.Integers.{integers_of}
+use Rattle.cx_base.specs.declared.steps.LogEvent.TheVariants.{Step}
+use Rattle.cx_base.specs.declared.steps.LogStep.TheVariants.{ClauseWithHints}
+use Rattle.cx_semantics.specs.Chain.{negations, has_literal}
+use Rattle.cdcl_search.specs.GoingOn.{log_then, log_stops}
+use Rattle.cdcl_search.specs.Tells.{IsLeft, with_events}
+use Rattle.cdcl_search.proofs.LowIds.{has_ids, next_is_id, row_ids_are_ids}
+use Rattle.cdcl_search.proofs.Tellings.{holds_where}
+use Rattle.cdcl_core.specs.Results.{Refutes}
+use Rattle.cdcl_core.proofs.EndingLaws.{ends_refute, ended_is_left}
+use Rattle.cdcl_core.proofs.FailLaws.{left_is_told, left_is_unmet, left_fails}
+use Rattle.cdcl_core.proofs.failing.fail.Goals as goal
+
+pub hints_of_lesson-requires-clause-ids : goal.hints_of_lesson-requires-clause-ids
+hints_of_lesson-requires-clause-ids g c = has_ids c.trace.new.log.formula.now c.args.state.now (g.P.ParityEngine.state c.args.engine.now) c.trace.new.rows.items (g.L.Sink.items c.trace.new.log.sink.now) c.in_ok-left.ensures.stands
+
+pub hints_of_lesson-requires-clause-reasons : goal.hints_of_lesson-requires-clause-reasons
+hints_of_lesson-requires-clause-reasons g c = ((g.P.ParityEngine.state c.args.engine.now), c.in_ok-left.ensures.stands.3.reasons)
+
+pub tell_chained-requires-clause-right : goal.tell_chained-requires-clause-right
+tell_chained-requires-clause-right g c =
+    subst (λ (ls : List Literal). IsLeft c.trace.new.log.formula.now (with_events (Step (ClauseWithHints c.args.state.now.next (integers_of ls) c.in_ok-hints.hints) ∷ []) (g.L.Sink.items c.trace.new.log.sink.now))) (sym c.as_slice-clause.ensures)
+    (ended_is_left c.trace.new.log.formula.now c.args.state.now.conflicts (negations c.in_ok-left.left.lits) _ (left_is_told c.trace.new.log.formula.now c.args.state.now (g.P.ParityEngine.state c.args.engine.now) c.trace.new.rows.items (g.L.Sink.items c.trace.new.log.sink.now) c.in_ok-left.ensures.stands c.args.failure.conflict.lits c.args.failure.kept c.args.failure.below c.in_ok-left.left c.in_ok-left.ensures.left c.in_ok-hints.hints))
+
+pub returns-clause-ends : goal.returns-clause-ends
+returns-clause-ends g c =
+    let failed : c.in_ok-failed.failed ≡ negations c.in_ok-left.left.lits = c.in_ok-failed.ensures ∙ ap negations c.as_slice-clause.ensures in
+    record {
+      refutes = holds_where (λ formula told. Refutes formula (c.args.state.now.conflicts + 1) told c.in_ok-failed.failed) (Step (ClauseWithHints c.args.state.now.next (integers_of c.as_slice-clause.result.now) c.in_ok-hints.hints) ∷ []) g.L.Sink c.trace.new.log _ (let u : Unit {0} = tt in Ok u)
+          c.tell_chained.new.log c.in_ok-tell_chained.ensures.log c.in_ok-tell_chained.ensures.told
+          (subst (λ (ls : List Literal). Refutes c.trace.new.log.formula.now (c.args.state.now.conflicts + 1) (with_events (Step (ClauseWithHints c.args.state.now.next (integers_of ls) c.in_ok-hints.hints) ∷ []) (g.L.Sink.items c.trace.new.log.sink.now)) c.in_ok-failed.failed) (sym c.as_slice-clause.ensures)
+          (subst (Refutes c.trace.new.log.formula.now (c.args.state.now.conflicts + 1) (with_events (Step (ClauseWithHints c.args.state.now.next (integers_of c.in_ok-left.left.lits) c.in_ok-hints.hints) ∷ []) (g.L.Sink.items c.trace.new.log.sink.now))) (sym failed)
+          (ends_refute c.trace.new.log.formula.now c.args.state.now.conflicts (negations c.in_ok-left.left.lits) _ (left_is_unmet c.trace.new.log.formula.now c.args.state.now (g.P.ParityEngine.state c.args.engine.now) c.trace.new.rows.items (g.L.Sink.items c.trace.new.log.sink.now) c.in_ok-left.ensures.stands c.args.failure.conflict.lits c.args.failure.kept c.args.failure.below c.in_ok-left.left c.in_ok-left.ensures.left c.in_ok-hints.hints) (left_fails c.trace.new.log.formula.now c.args.state.now (g.P.ParityEngine.state c.args.engine.now) c.trace.new.rows.items (g.L.Sink.items c.trace.new.log.sink.now) c.in_ok-left.ensures.stands c.args.failure.conflict.lits c.args.failure.kept c.args.failure.below c.in_ok-left.left c.in_ok-left.ensures.left c.in_ok-hints.hints) c.in_ok-left.ensures.stands.1.log.apart (left_is_told c.trace.new.log.formula.now c.args.state.now (g.P.ParityEngine.state c.args.engine.now) c.trace.new.rows.items (g.L.Sink.items c.trace.new.log.sink.now) c.in_ok-left.ensures.stands c.args.failure.conflict.lits c.args.failure.kept c.args.failure.below c.in_ok-left.left c.in_ok-left.ensures.left c.in_ok-hints.hints))));
+      log = log_then g.L.Sink g.met.L.Sink.keeps_on _ c.trace.new.log _ _ c.in_ok-left.ensures.log c.in_ok-tell_chained.ensures.log;
+    }
+
+pub returns-in_err-tell_chained-clause-ends : goal.returns-in_err-tell_chained-clause-ends
+returns-in_err-tell_chained-clause-ends g c =
+    let fault = err_from_is_err_and c.from_residual-in_err-tell_chained.result c.from_residual-in_err-tell_chained.ensures.1 in
+    rw (fault.1, fault.2) (record { refutes = tt; log = log_then g.L.Sink g.met.L.Sink.keeps_on _ c.trace.new.log _ _ c.in_ok-left.ensures.log c.in_err-tell_chained.ensures.log })

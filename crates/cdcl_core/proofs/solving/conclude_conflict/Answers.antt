@@ -1,0 +1,64 @@
+use Rattle.std.proofs.Common.{◌≡◌, ◌≤◌, ◌+◌, refl, sym, subst, length, arith}
+use Rattle.std.proofs.lemmas.Result.{err_from_is_err_and}
+use Rattle.cx_base.specs.Problem.{Problem}
+use Rattle.search_policy.specs.Assuming.{KeepsAssumptions}
+use Rattle.search_steps.specs.Recovering.{SettledWithRecovered}
+use Rattle.cdcl_search.specs.GoingOn.{log_then}
+use Rattle.cdcl_core.proofs.Answering.{unsat_is_known, refutes_within}
+use Rattle.cdcl_core.proofs.FailLaws.{conflict_ends_at}
+use Rattle.cdcl_core.proofs.solving.conclude_conflict.Goals as goal
+
+pub learn_and_jump-requires-clause-at : goal.learn_and_jump-requires-clause-at
+learn_and_jump-requires-clause-at g c =
+    let k = rw c.in-Clause.is at c.in_ok-conclusion.ensures.concludes in
+    record { stands = k.0; conflict = k.1; above = let above = c.if-level-assumptions.false in let level = c.level.ensures.level in omega (arith, above, level) }
+
+pub end-requires-clause-at : goal.end-requires-clause-at
+end-requires-clause-at g c =
+    let low = c.if-level-assumptions.true in
+    let level = c.level.ensures.level in
+    conflict_ends_at c.conflict_clause.new.log.formula.now.constraints c.args.assumptions.now c.args.state.now.trail (subst (λ (f : Problem). KeepsAssumptions f.constraints c.args.assumptions.now c.args.state.now.trail) (sym c.in_ok-conclusion.ensures.log.formula) c.requires.reaches.keeps) c.requires.searches.stands.3.trail.follows.sound (omega (arith, low, level))
+    c.requires.reaches.settles.1 c.len-below.result c.len-below.ensures.len
+
+pub returns-then-level-assumptions-clause-leaves : goal.returns-then-level-assumptions-clause-leaves
+returns-then-level-assumptions-clause-leaves g c =
+    let few = c.requires.searches.few.0 in
+    let ends = c.in_ok-failed.ensures.ends in
+    record {
+      goes_on = refutes_within c.end.new.log.formula.now (c.args.state.now.conflicts + 1) c.args.budget (g.L.Sink.items c.end.new.log.sink.now) c.in_ok-failed.failed (omega (arith, few)) ends.refutes;
+      one_more = tt;
+      keeps = tt;
+      clear = c.in_ok-failed.ensures.clear;
+      log = log_then g.L.Sink g.met.L.Sink.keeps_on _ c.conflict_clause.new.log _ _ c.in_ok-conclusion.ensures.log ends.log;
+    }
+
+pub returns-in_err-failed-clause-leaves : goal.returns-in_err-failed-clause-leaves
+returns-in_err-failed-clause-leaves g c =
+    let fault = err_from_is_err_and c.from_residual-in_err-failed.result c.from_residual-in_err-failed.ensures.1 in
+    rw (fault.1, fault.2) (record { goes_on = tt; one_more = tt; keeps = tt; clear = tt; log = log_then g.L.Sink g.met.L.Sink.keeps_on _ c.conflict_clause.new.log _ _ c.in_ok-conclusion.ensures.log c.in_err-failed.ensures.ends.log })
+
+pub returns-in_ok-failed-in-Ending-clause-leaves : goal.returns-in_ok-failed-in-Ending-clause-leaves
+returns-in_ok-failed-in-Ending-clause-leaves g c =
+    let few = c.requires.searches.few.0 in
+    let ends = c.in_ok-failed-in-Ending.ensures in
+    record {
+      goes_on = refutes_within c.tell_ending.new.log.formula.now (c.args.state.now.conflicts + 1) c.args.budget (g.L.Sink.items c.tell_ending.new.log.sink.now) c.in_ok-failed-in-Ending.failed (omega (arith, few)) ends.refutes;
+      one_more = tt;
+      keeps = tt;
+      clear = c.requires.searches.clear;
+      log = log_then g.L.Sink g.met.L.Sink.keeps_on _ c.conflict_clause.new.log _ _ c.in_ok-conclusion.ensures.log ends.log;
+    }
+
+pub returns-in_err-failed-in-Ending-clause-leaves : goal.returns-in_err-failed-in-Ending-clause-leaves
+returns-in_err-failed-in-Ending-clause-leaves g c =
+    let fault = err_from_is_err_and c.from_residual-in_err-failed-in-Ending.result c.from_residual-in_err-failed-in-Ending.ensures.1 in
+    rw (fault.1, fault.2) (record { goes_on = tt; one_more = tt; keeps = tt; clear = tt; log = log_then g.L.Sink g.met.L.Sink.keeps_on _ c.conflict_clause.new.log _ _ c.in_ok-conclusion.ensures.log c.in_err-failed-in-Ending.ensures.log })
+
+pub returns-in-Clause-clause-leaves : goal.returns-in-Clause-clause-leaves
+returns-in-Clause-clause-leaves g c = record {
+  goes_on = c.learn_and_jump.ensures.goes_on;
+  one_more = c.learn_and_jump.ensures.one_more;
+  keeps = c.learn_and_jump.ensures.keeps;
+  clear = c.learn_and_jump.ensures.clear;
+  log = log_then g.L.Sink g.met.L.Sink.keeps_on _ c.conflict_clause.new.log _ _ c.in_ok-conclusion.ensures.log c.learn_and_jump.ensures.log;
+}

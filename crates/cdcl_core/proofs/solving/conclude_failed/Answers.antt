@@ -1,0 +1,13 @@
+use Rattle.std.proofs.Common.{sym, subst, Some, rules}
+use Rattle.cx_base.specs.Problem.{Problem}
+use Rattle.search_policy.specs.Assuming.{KeepsAssumptions, Contradicts}
+use Rattle.cdcl_core.specs.Failing.{EndsAtPlace}
+use Rattle.cdcl_core.proofs.FailLaws.{failed_ends_at}
+use Rattle.cdcl_core.proofs.solving.conclude_failed.Goals as goal
+
+pub end-requires-clause-at : goal.end-requires-clause-at
+end-requires-clause-at g c =
+    let p = c.requires.place in
+    subst (λ (f : Problem). EndsAtPlace f.constraints c.args.state.now.trail (Some c.entry-literal.result.literal) c.args.place) (sym c.in_ok-conclusion.ensures.log.formula)
+    (subst (λ l. EndsAtPlace c.args.log.now.formula.now.constraints c.args.state.now.trail (Some l) c.args.place) (search rules)
+    (failed_ends_at c.args.log.now.formula.now.constraints c.args.assumptions.now c.args.state.now.trail c.requires.keeps c.requires.stands.3.trail.follows.sound c.args.place p.0 p.1 p.2))
