@@ -92,6 +92,72 @@ const ANSWERS: [Case; 12] = [
     (FOUR, "1", 0, "c conflicts 1\ns UNKNOWN\n"),
 ];
 
+/// Formulas with assumption constraints: the literals that fail come by rising variables, and the two of a variable that is assumed with both signs.
+const ASSUMED: [Case; 9] = [
+    (
+        "p cnf 2 2\nx1 2 0\na 1 2 0\n",
+        "7",
+        20,
+        "s UNSATISFIABLE\nc failed 1 2 0\n",
+    ),
+    (
+        "p cnf 2 2\n1 2 0\na -1 0\n",
+        "7",
+        10,
+        "s SATISFIABLE\nv -1 2 0\n",
+    ),
+    (
+        "p cnf 1 0\na 1 -1 0\n",
+        "1",
+        20,
+        "s UNSATISFIABLE\nc failed 1 -1 0\n",
+    ),
+    (
+        "p cnf 3 0\na 3 -2 -3 0\na 2 0\n",
+        "1",
+        20,
+        "s UNSATISFIABLE\nc failed 2 -2 0\n",
+    ),
+    (
+        "p cnf 3 2\nx 1 2 3 0\na 3 -2 1 0\n",
+        "1",
+        20,
+        "s UNSATISFIABLE\nc failed 1 -2 3 0\n",
+    ),
+    (
+        "p cnf 3 3\n-3 2 0\n-2 -1 0\na 3 0\na 1 0\n",
+        "1",
+        20,
+        "s UNSATISFIABLE\nc failed 1 3 0\n",
+    ),
+    (
+        "p cnf 2 3\n1 0\na -1 2 0\n",
+        "1",
+        20,
+        "s UNSATISFIABLE\nc failed -1 0\n",
+    ),
+    (
+        "p cnf 1 3\n1 0\n-1 0\na 0\n",
+        "1",
+        20,
+        "s UNSATISFIABLE\nc failed 0\n",
+    ),
+    (
+        "p cnf 4 5\n1 2 3 0\n1 -2 3 0\n1 2 -3 0\n1 -2 -3 0\na -1 4 0\n",
+        "7",
+        20,
+        "s UNSATISFIABLE\nc failed -1 0\n",
+    ),
+];
+
+#[test]
+fn assumed_literals_that_fail_are_told(rt: HostRuntime) -> Result<(), Fail> {
+    let mut others = String::new(rt.alloc());
+    put_other_answers(rt.alloc(), &mut others, &ASSUMED)?;
+    assert_eq!(rt; others.as_str(), "");
+    Ok(())
+}
+
 #[test]
 fn values_are_printed_where_there_are_any(rt: HostRuntime) -> Result<(), Fail> {
     let mut others = String::new(rt.alloc());

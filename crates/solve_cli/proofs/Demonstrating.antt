@@ -72,7 +72,7 @@ refutation_stands f text log left k c first proof is reads right h =
       reads = subst (λ (x : List LogStep). LogReads text x h.1) (sym steps) (subst (λ (x : TextEnding). LogReads text log x) (sym h.2.1) reads);
       judged = h.3;
     } in
-    let e = same_of_one {P = LogJudgedAs f text} (one_log_judgement f text) (accepted (length right.steps)) (refused k c) right.right wrong in cc
+    let e = same_of_one {P = LogJudgedAs f text} (one_log_judgement f text) (accepted right.step) (refused k c) right.right wrong in cc
 
 -- an accepted proof is not refused
 pub proof_stands : (f : Problem) (steps : List ProofStep) (j k : ℕ) (c : Cause) → AcceptedAt (proof_calculus f) steps j → JudgedAs (proof_calculus f) steps finished (refused k c) → ⊥

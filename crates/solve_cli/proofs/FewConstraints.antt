@@ -6,7 +6,7 @@ use Rattle.std.specs.Str.{bytes_eq}
 use Rattle.cx_base.specs.Problem.{Problem}
 use Rattle.cx_base.specs.declared.literal.TheConstants.{MAX_VARIABLE}
 use Rattle.cx_base.specs.declared.constraint.Constraint.{Constraint}
-use Rattle.cx_base.specs.declared.constraint.Constraint.TheVariants.{Clause, Parity}
+use Rattle.cx_base.specs.declared.constraint.Constraint.TheVariants.{Clause, Parity, Assume}
 use Rattle.cx_texts.specs.declared.offence.Offence.{Offence}
 use Rattle.cx_texts.specs.declared.offence.Offence.TheVariants.{NoHeader, BadHeader, VarLimit}
 use Rattle.cx_texts.specs.FormulaText.{constraints, behind_count, behind_cnf, behind_p, header, Reads}
@@ -161,6 +161,7 @@ has_word : (c : Constraint) → spelling constraints c ≡ [] → ⊥
 has_word (Clause []) e = cc
 has_word (Clause (l ∷ lits)) e = cc
 has_word (Parity lits) e = cc
+has_word (Assume lits) e = cc
 
 some_front : (c : Constraint) (front : List Placed) → spelling constraints c ≡ words front → 1 ≤ length front
 some_front c [] e = absurd (has_word c e)

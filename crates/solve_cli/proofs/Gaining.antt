@@ -4,6 +4,7 @@ use Rattle.std.proofs.lemmas.Grind.{flat_map-append}
 use Rattle.std.proofs.lemmas.Option.{IfSome_then}
 use Rattle.std.proofs.lemmas.List.{take-append-drop}
 use Rattle.std.specs.List.{AllByRecursion}
+use Rattle.cx_base.specs.Assumptions.{clashes}
 use Rattle.cx_base.specs.Problem.{Problem}
 use Rattle.cx_base.specs.declared.steps.LogStep.{LogStep}
 use Rattle.cx_base.specs.declared.steps.ProofStep.{ProofStep}
@@ -14,7 +15,7 @@ use Rattle.cx_semantics.specs.LogRules.{log_calculus}
 use Rattle.cx_semantics.specs.Tables.{Tables, first_tables}
 use Rattle.cx_texts.specs.LogText.{LogReads}
 use Rattle.cx_texts.specs.Printed.{HasProofText, printed_proof}
-use Rattle.cx_semantics.specs.ProofRules.{proof_calculus, after_step, adds_empty_clause}
+use Rattle.cx_semantics.specs.ProofRules.{proof_calculus, after_step, adds_ending_clause}
 use Rattle.cx_texts.proofs.PrintedProofs.{printed_proof_reads}
 use Rattle.cx_desk.specs.declared.desk.Port.TheVariants as port
 use Rattle.cx_desk.specs.declared.desk.Slot.{Slot}
@@ -153,28 +154,31 @@ so_far f o n empty h gains = left (IsOpen (proof_calculus f)) (IsRightSoFar f) o
 -- ---- a torn line
 
 runs_on : (f : Problem) (first last : Tables) (steps : List ProofStep) (step : ProofStep) → Runs (proof_calculus f) first steps last → IsRight (proof_calculus f) last step
-    → adds_empty_clause step ≡ false → Runs (proof_calculus f) first (steps ++ step ∷ []) (after_step last step)
+    → adds_ending_clause f step ≡ false → Runs (proof_calculus f) first (steps ++ step ∷ []) (after_step last step)
 runs_on f first last [] step runs right goes_on = (subst (λ (t : Tables). IsRight (proof_calculus f) t step) runs right, goes_on, ap (λ (t : Tables). after_step t step) runs)
 runs_on f first last (s ∷ steps) step runs right goes_on = (runs.0, runs.1, runs_on f (after_step first s) last steps step runs.2 right goes_on)
 
 -- right steps and one more
-right_on : (f : Problem) (tables : Tables) (steps : List ProofStep) (step : ProofStep) → Runs (proof_calculus f) (first_tables f) steps tables → IsRight (proof_calculus f) tables step
+right_on : (f : Problem) (tables : Tables) (steps : List ProofStep) (step : ProofStep) → clashes f.constraints ≡ false → Runs (proof_calculus f) (first_tables f) steps tables → IsRight (proof_calculus f) tables step
     → AreRight f (steps ++ step ∷ [])
-right_on f tables steps step runs right = by (adds_empty_clause step) refl
+right_on f tables steps step apart runs right = by (adds_ending_clause f step) refl
   where
-    by : (b : Bool) → adds_empty_clause step ≡ b → AreRight f (steps ++ step ∷ [])
-    by false e = inl (after_step tables step, runs_on f (first_tables f) tables steps step runs right e)
-    by true e = inr (record {
-      before = steps;
-      step = step;
-      later = [];
-      tables = tables;
-      split = refl;
-      runs = runs;
-      right = right;
-      ends = e;
-      number = length-append steps (step ∷ []);
-    })
+    by : (b : Bool) → adds_ending_clause f step ≡ b → AreRight f (steps ++ step ∷ [])
+    by false e = inl (apart, (after_step tables step, runs_on f (first_tables f) tables steps step runs right e))
+    by true e = inr (inr (
+      apart,
+      record {
+        before = steps;
+        step = step;
+        later = [];
+        tables = tables;
+        split = refl;
+        runs = runs;
+        right = right;
+        ends = e;
+        number = length-append steps (step ∷ []);
+      },
+    ))
 
 -- the steps of the whole lines, and the line that is begun
 torn_steps : (steps : List ProofStep) (part : ProofStep) (kept : ℕ) → AllByRecursion HasProofText steps → HasProofText part → kept < length (step_line part)
@@ -200,7 +204,7 @@ torn_front f steps step part k kept same right = record {
 
 -- the step behind the gained ones that was torn
 abbrev Torn : Problem → ProofStep → List ProofStep → Type 0
-Torn f step steps = (tables : Tables) × Runs (proof_calculus f) (first_tables f) steps tables × IsRight (proof_calculus f) tables step
+Torn f step steps = (clashes f.constraints ≡ false) × (tables : Tables) × Runs (proof_calculus f) (first_tables f) steps tables × IsRight (proof_calculus f) tables step
 
 torn_right : (f : Problem) (w : Option Told) (o n : Outside) (h : Tears (record o { told = w }) n) (step : ProofStep)
     → IfSome w (λ t. t.written.proof ≡ []) → Gained (steps_told (record o { told = w })) (steps_told n) (Torn f step) → TornOn step n
@@ -220,7 +224,7 @@ torn_right f (Some t) o n h step empty gains torn =
     let line : take h.kept (step_line h.part) ≡ take line_of.1 (step_line step) =
     sym (torn_line h.steps h.part h.kept h.texts h.text h.front) ∙ (ap (begun_line []) is ∙ begun_front line_of.0 step line_of.1 line_of.2 torn.0 line_of.3) in
     let runs = subst (Torn f step) (sym same) found.2 in
-    torn_front f h.steps step h.part line_of.1 h.kept line (right_on f runs.0 h.steps step runs.1 runs.2)
+    torn_front f h.steps step h.part line_of.1 h.kept line (right_on f runs.1 h.steps step runs.0 runs.2 runs.3)
 
 pub write_fault : (text : Bytes) (o n : Outside) → WriteFaulted (gained port.Proof text o) n → WriteFault (says port.Proof text (seen o)) (seen n)
 write_fault text o n h = record {
@@ -230,7 +234,7 @@ write_fault text o n h = record {
 
 -- a fault of writing: what it left are right steps and a front of one more
 pub torn_so_far : (f : Problem) (o n : Outside) (step : ProofStep) → HasNoProof (seen o) → Tears o n → TornOn step n
-    → Gained (steps_told o) (steps_told n) (λ steps. (tables : Tables) × Runs (proof_calculus f) (first_tables f) steps tables × IsRight (proof_calculus f) tables step)
+    → Gained (steps_told o) (steps_told n) (λ steps. (clashes f.constraints ≡ false) × (tables : Tables) × Runs (proof_calculus f) (first_tables f) steps tables × IsRight (proof_calculus f) tables step)
     → (proof : Bytes) × WriteFault (says port.Proof proof (seen o)) (seen n) × IfSome (seen o).files (λ _. IsRightSoFar f proof)
 torn_so_far f o n step empty h torn gains = (
   printed_proof h.steps ++ take h.kept (step_line h.part),

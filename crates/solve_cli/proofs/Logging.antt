@@ -1,8 +1,10 @@
 -- From the events of a search to the text of its log.
-use Rattle.std.proofs.Common.{◌≡◌, ◌<◌, ◌⊎◌, ℕ, zero, suc, List, [], filter_map, take, drop, inl, refl, ap, sym, ◌∙◌}
+use Rattle.std.proofs.Common.{◌≡◌, ◌<◌, ◌⊎◌, ℕ, zero, suc, List, [], filter_map, length, take, drop, inl, inr, refl, ap, sym, ◌∙◌, true≢false}
 use Rattle.std.specs.List.{AllByRecursion, range_with_len}
 use Rattle.std.proofs.lemmas.List.{take-append-drop}
+use Rattle.cx_base.specs.Assumptions.{clashes}
 use Rattle.cx_base.specs.Problem.{Problem}
+use Rattle.conflict_learn.proofs.ChainOfResolutions.{by_cases}
 use Rattle.cx_base.specs.declared.steps.LogEvent.{LogEvent}
 use Rattle.cx_base.specs.Endings.{finished}
 use Rattle.cx_semantics.specs.Ids.{HasLowId}
@@ -21,17 +23,26 @@ use Rattle.search_steps.specs.LogSteps.{IsEnded}
 use Rattle.cx_desk.specs.Outside.{Bytes}
 use Rattle.solve_cli.specs.Logs.{HasFewMarks, HasOnlyLowIds, IsRefutation, IsSpentLog, HasNoMark, IsLogSoFar}
 
-steps_read : (events : List LogEvent) → AllByRecursion HasText events → LogReads (printed_log events) (steps_of events) finished
+pub steps_read : (events : List LogEvent) → AllByRecursion HasText events → LogReads (printed_log events) (steps_of events) finished
 steps_read events texts = events_give_steps (printed_log events) events (printed_log_reads events texts)
 
 pub open_log : (f : Problem) (events : List LogEvent) → AllByRecursion HasText events → IsOpen (log_calculus f) (steps_of events) → LogOpen f (printed_log events)
 open_log f events texts runs = record { steps = steps_of events; reads = steps_read events texts; open_run = runs }
 
 pub refutation : (f : Problem) (events : List LogEvent) → AllByRecursion HasText events → IsEnded f events → IsRefutation f (printed_log events)
-refutation f events texts ended = record {
+refutation f events texts (inl c) = record {
   steps = steps_of events;
   reads = steps_read events texts;
-  right = record { steps = steps_of events; ending = finished; reads = steps_read events texts; judged = ended };
+  step = 0;
+  right = record { steps = steps_of events; ending = finished; reads = steps_read events texts; judged = inl (c, refl) };
+  last = λ apart. absurd (true≢false (sym c ∙ apart));
+}
+refutation f events texts (inr ended) = record {
+  steps = steps_of events;
+  reads = steps_read events texts;
+  step = length (steps_of events);
+  right = record { steps = steps_of events; ending = finished; reads = steps_read events texts; judged = inr ended };
+  last = λ apart. refl;
 }
 
 pub spent : (f : Problem) (events : List LogEvent) (n : ℕ) → AllByRecursion HasText events → AllByRecursion HasLowId events → IsOpen (log_calculus f) (steps_of events) → Marked f events n → IsSpentLog f n (printed_log events)
@@ -64,7 +75,7 @@ unmarked f budget log h s = (h.events, h.read, h.marked.marks ∙ ap (range_with
 pub nothing_logged : (f : Problem) → IsLogSoFar f []
 nothing_logged f = record {
   log = [];
-  right = inl (open_log f [] tt (no_tables, refl));
+  right = by_cases (clashes f.constraints) (λ c. inr (refutation f [] tt (inl c))) (λ apart. inl (open_log f [] tt (apart, (no_tables, refl))));
   ids = ([], printed_log_reads [] tt, tt);
   settled = λ s. ([], printed_log_reads [] tt, refl);
   rest = [];

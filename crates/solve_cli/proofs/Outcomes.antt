@@ -1,5 +1,5 @@
 -- Which outcomes end with a status.
-use Rattle.std.proofs.Common.{◌≡◌, ℕ, Bool, List, refl, sym, subst}
+use Rattle.std.proofs.Common.{◌≡◌, ℕ, ℤ, Bool, Option, List, refl, sym, subst}
 use Rattle.cx_texts.specs.declared.offence.Offence.{Offence}
 use Rattle.cx_texts.specs.declared.offence.Offence.TheVariants as offence
 use Rattle.cx_semantics.specs.declared.cause.Cause.{Cause}
@@ -36,7 +36,7 @@ HasStatus status.WriteFault o = o ≡ outcome.WriteFault
 HasStatus status.OutOfMemory o = o ≡ outcome.Memory
 HasStatus status.Done o = (e : Ending) × (o ≡ outcome.Ended e) × Done e
 HasStatus status.Satisfiable o = (v : List Bool) × (o ≡ outcome.Ended (ending.Satisfiable v))
-HasStatus status.Unsatisfiable o = o ≡ outcome.Ended ending.Unsatisfiable
+HasStatus status.Unsatisfiable o = (failed : Option (List ℤ)) × (o ≡ outcome.Ended (ending.Unsatisfiable failed))
 HasStatus status.FormulaRefused o = (b : Offence) × (o ≡ outcome.Ended (ending.FormulaRefused b)) × (status_of_offence b ≡ status.FormulaRefused)
 HasStatus status.Limit o = (e : Ending) × (o ≡ outcome.Ended e) × OverLimit e
 HasStatus status.ProofRefused o = (k : ℕ) × (c : Cause) × (o ≡ outcome.Ended (ending.NotVerified k c))
@@ -60,7 +60,7 @@ of_ending (ending.ModelWrong w) = (w, refl)
 of_ending (ending.Elaborated k) = (ending.Elaborated k, refl, elaborated k)
 of_ending (ending.NotElaborated k c) = (k, c, refl)
 of_ending (ending.Satisfiable v) = (v, refl)
-of_ending ending.Unsatisfiable = refl
+of_ending (ending.Unsatisfiable failed) = (failed, refl)
 of_ending (ending.Unknown k) = (ending.Unknown k, refl, unknown k)
 of_ending (ending.Demonstrated i x) = (ending.Demonstrated i x, refl, demonstrated i x)
 

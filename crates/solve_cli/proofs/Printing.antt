@@ -7,6 +7,7 @@ use Rattle.std.proofs.lemmas.List.Elements.{filter_map-append}
 use Rattle.std.specs.List.{AllByRecursion, cons_option}
 use Rattle.cx_base.proofs.Elements.{all_push}
 use Rattle.cx_base.specs.Counts.{Rose}
+use Rattle.cx_base.specs.Literals.{Literal}
 use Rattle.cx_base.specs.Problem.{Problem}
 use Rattle.cx_base.specs.declared.steps.LogEvent.{LogEvent}
 use Rattle.cx_semantics.specs.Ids.{HasLowId}
@@ -26,10 +27,14 @@ use Rattle.conflict_learn.specs.declared.fault.CoreFault.TheVariants as fault
 use Rattle.conflict_learn.specs.Faults.{fault_in}
 use Rattle.cdcl_search.specs.Logs.{CountsAs}
 use Rattle.cdcl_search.specs.Tells.{IsLeft, HaveLowIds, HasNoMark as HasNoMarkTold, MayStandBehind, GivesUp}
-use Rattle.cdcl_core.specs.Results.{IsFresh, IsRightOutcome}
+use Rattle.cdcl_core.specs.Results.{IsFresh, IsRightOutcome, Refutes}
 use Rattle.cdcl_core.specs.declared.solving.Outcome.{Outcome as Answer}
 use Rattle.cdcl_core.specs.declared.solving.Outcome.TheVariants as answer
-use Rattle.solve_cli.specs.Solving.{SearchesOn, answered_as}
+use Rattle.solve_cli.specs.declared.ending.Ending.{Ending}
+use Rattle.solve_cli.specs.declared.ending.Ending.TheVariants as ending
+use Rattle.solve_cli.specs.declared.ending.Outcome.{Outcome}
+use Rattle.solve_cli.specs.declared.ending.Outcome.TheVariants as outcome
+use Rattle.solve_cli.specs.Solving.{SearchesOn, AnswersAs}
 use Rattle.solve_cli.specs.Seen.{Seen, seen, says, WriteFault}
 use Rattle.solve_cli.specs.Logs.{IsLogSoFar, IsRefutation}
 use Rattle.solve_cli.specs.Steps.{HasNoProof}
@@ -142,23 +147,41 @@ has_torn_log false o n h rose = absurd (omega (arith, rose))
 pub fresh_port : (o : Outside) → HasNoProof (seen o) → IsFresh (events_told o)
 fresh_port o h = elim o.told as (λ w. IfSome w (λ t. t.written.proof ≡ []) → IsFresh (option_map (λ t. told_events t.written.proof) w)) [ None ↦ λ k. tt | Some t ↦ λ k. ap told_events k ] (empty_told o h)
 
-pub searched_on : (f : Problem) (budget : ℕ) (o n : Outside) (last : Bool) (r : Result Answer CoreFault) → HasNoProof (seen o) → Goes false o last n → CountsAs (fault_in r) 0 (fault_of last)
-    → IfOk r (λ a. IsRightOutcome f budget (events_told n) a) → (SettledWithRecovered f → IfOk r (λ a. (k : ℕ) → a ≢ answer.Unknown k)) → (SettledWithRecovered f → HasNoMarkTold (events_told n)) → HaveLowIds (events_told n)
-    → IfErr r (λ e. GivesUp f (λ event. TornOn event n) (events_told n) e) → SearchesOn f budget (seen o) (answered_as r) (seen n)
-searched_on f budget o n last (Ok (answer.Sat v)) empty goes same right known none low gave_up =
-    let h = has_logged last o n goes same in
-    let holds = events_hold (λ told. IsRightOutcome f budget told (answer.Sat v) × HaveLowIds told × (SettledWithRecovered f → HasNoMarkTold told)) o n h empty (right, low, none) in
-    ((λ m l. (tt, refl)), (h.events, events_seen o n h, IfSome_then (seen o).files holds (λ files x. finds_values f budget h.events v h.texts x.1 x.0 x.2)))
-searched_on f budget o n last (Ok answer.Unsat) empty goes same right known none low gave_up =
-    let h = has_logged last o n goes same in
-    let holds = events_hold (λ told. IsRightOutcome f budget told answer.Unsat × HaveLowIds told × (SettledWithRecovered f → HasNoMarkTold told)) o n h empty (right, low, none) in
-    ((λ m l. (tt, refl)), (h.events, events_seen o n h, IfSome_then (seen o).files holds (λ files x. finds_none f budget h.events h.texts x.1 x.0 x.2)))
-searched_on f budget o n last (Ok (answer.Unknown k)) empty goes same right known none low gave_up =
-    let h = has_logged last o n goes same in
-    let holds = events_hold (λ told. IsRightOutcome f budget told (answer.Unknown k) × HaveLowIds told) o n h empty (right, low) in
-    ((λ m l. (tt, refl)), (h.events, events_seen o n h, IfSome_then (seen o).files holds (λ files x. finds_nothing f budget h.events k h.texts x.1 x.0 known)))
-searched_on f budget o n last (Err fault.Memory) empty goes same right known none low left =
-    let h = has_logged last o n goes same in
-    (printed_log h.events, events_seen o n h, logged_so_far f o n h empty left low none)
-searched_on f budget o n last (Err fault.Write) empty goes rose right known none low gave_up =
-    torn_log_so_far f o n gave_up.1.0 empty (has_torn_log last o n goes rose) low none gave_up.1.1 gave_up.1.2
+-- a log that is ended is right so far
+ended_is_left : (f : Problem) (budget : ℕ) (failed : List Literal) (told : Option (List LogEvent)) → Refutes f budget told failed → IsLeft f told
+ended_is_left f budget failed None r = tt
+ended_is_left f budget failed (Some events) r = inr r.log.0.ended
+
+module _ (f : Problem) (budget : ℕ) (o n : Outside) (last : Bool) (empty : HasNoProof (seen o)) (goes : Goes false o last n) where
+  -- no values meet the formula; memory may be wanted for the literals that fail
+  refuted_on : (failed : List Literal) (x : Result Ending Outcome) → AnswersAs f (Ok (answer.Unsat failed)) x → fault_of last ≡ 0 → Refutes f budget (events_told n) failed → (SettledWithRecovered f → HasNoMarkTold (events_told n)) → HaveLowIds (events_told n)
+      → SearchesOn f budget (seen o) x (seen n)
+  refuted_on failed (Ok e) a same right none low =
+      let h = has_logged last o n goes same in
+      let holds = events_hold (λ told. Refutes f budget told failed × HaveLowIds told × (SettledWithRecovered f → HasNoMarkTold told)) o n h empty (right, low, none) in
+      subst (λ (x : Ending). SearchesOn f budget (seen o) (Ok x) (seen n)) (sym a.1)
+      ((λ m l. (tt, refl)), (h.events, events_seen o n h, IfSome_then (seen o).files holds (λ files x. finds_none f budget h.events failed a.0 a.2 h.texts x.1 x.0 x.2)))
+  refuted_on failed (Err w) a same right none low =
+      let h = has_logged last o n goes same in
+      subst (λ (x : Outcome). SearchesOn f budget (seen o) (Err x) (seen n)) (sym a)
+      (printed_log h.events, events_seen o n h, logged_so_far f o n h empty (ended_is_left f budget failed (events_told n) right) low none)
+
+  pub searched_on : (r : Result Answer CoreFault) (x : Result Ending Outcome) → AnswersAs f r x → CountsAs (fault_in r) 0 (fault_of last)
+      → IfOk r (λ a. IsRightOutcome f budget (events_told n) a) → (SettledWithRecovered f → IfOk r (λ a. (k : ℕ) → a ≢ answer.Unknown k)) → (SettledWithRecovered f → HasNoMarkTold (events_told n)) → HaveLowIds (events_told n)
+      → IfErr r (λ e. GivesUp f (λ event. TornOn event n) (events_told n) e) → SearchesOn f budget (seen o) x (seen n)
+  searched_on (Ok (answer.Sat v)) x a same right known none low gave_up =
+      let h = has_logged last o n goes same in
+      let holds = events_hold (λ told. IsRightOutcome f budget told (answer.Sat v) × HaveLowIds told × (SettledWithRecovered f → HasNoMarkTold told)) o n h empty (right, low, none) in
+      subst (λ (y : Result Ending Outcome). SearchesOn f budget (seen o) y (seen n)) (sym a)
+      ((λ m l. (tt, refl)), (h.events, events_seen o n h, IfSome_then (seen o).files holds (λ files x. finds_values f budget h.events v h.texts x.1 x.0 x.2)))
+  searched_on (Ok (answer.Unsat failed)) x a same right known none low gave_up = refuted_on failed x a same right none low
+  searched_on (Ok (answer.Unknown k)) x a same right known none low gave_up =
+      let h = has_logged last o n goes same in
+      let holds = events_hold (λ told. IsRightOutcome f budget told (answer.Unknown k) × HaveLowIds told) o n h empty (right, low) in
+      subst (λ (y : Result Ending Outcome). SearchesOn f budget (seen o) y (seen n)) (sym a)
+      ((λ m l. (tt, refl)), (h.events, events_seen o n h, IfSome_then (seen o).files holds (λ files x. finds_nothing f budget h.events k h.texts x.1 x.0 known)))
+  searched_on (Err fault.Memory) x a same right known none low left =
+      let h = has_logged last o n goes same in
+      subst (λ (y : Result Ending Outcome). SearchesOn f budget (seen o) y (seen n)) (sym a) (printed_log h.events, events_seen o n h, logged_so_far f o n h empty left low none)
+  searched_on (Err fault.Write) x a rose right known none low gave_up =
+      subst (λ (y : Result Ending Outcome). SearchesOn f budget (seen o) y (seen n)) (sym a) (torn_log_so_far f o n gave_up.1.0 empty (has_torn_log last o n goes rose) low none gave_up.1.1 gave_up.1.2)

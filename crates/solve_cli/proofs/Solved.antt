@@ -1,5 +1,5 @@
 -- What a run of `solve` says by its status.
-use Rattle.std.proofs.Common.{◌≡◌, ◌<◌, ℕ, Bool, true, false, List, [], ◌∷◌, length, Option, Some, None, IfSome, codes, decimal, inl, inr, refl, ap, sym, subst, ◌∙◌, arith}
+use Rattle.std.proofs.Common.{◌≡◌, ◌<◌, ℕ, ℤ, Bool, true, false, List, [], ◌∷◌, length, Option, Some, None, IfSome, codes, decimal, inl, inr, refl, ap, sym, subst, ◌∙◌, arith}
 use Rattle.std.proofs.lemmas.Bool.{both_ways}
 use Rattle.std.proofs.lemmas.Option.{IfSome_then}
 use Rattle.cx_base.specs.Problem.{Problem, Meets, parities_of}
@@ -22,6 +22,7 @@ use Rattle.solve_cli.specs.declared.ending.Outcome.TheVariants as outcome
 use Rattle.solve_cli.specs.declared.ending.Status.{Status}
 use Rattle.solve_cli.specs.declared.ending.Status.TheVariants as status
 use Rattle.solve_cli.specs.Endings.{answer_text, message_text, joined}
+use Rattle.solve_cli.specs.Failed.{unsatisfiable_text}
 use Rattle.solve_cli.specs.Seen.{Seen, says, text_named}
 use Rattle.solve_cli.specs.Commands.{Stage, proof_created, asked_to, second_text}
 use Rattle.solve_cli.specs.Happens.{end_stage, Judged, Due, Gains, Works, WorksFor, PutsMessage, Runs}
@@ -37,9 +38,9 @@ values_text : (v : List Bool) → answer_text (ending.Satisfiable v) ≡ printed
 unfolding answer_text
 values_text v = refl
 
-none_text : answer_text ending.Unsatisfiable ≡ codes "s UNSATISFIABLE\n"
+none_text : (failed : Option (List ℤ)) → answer_text (ending.Unsatisfiable failed) ≡ unsatisfiable_text failed
 unfolding answer_text
-none_text = refl
+none_text failed = refl
 
 spent_text : (k : ℕ) → answer_text (ending.Unknown k) ≡ joined (codes "c conflicts " ∷ decimal k ∷ codes "\ns UNKNOWN\n" ∷ [])
 unfolding answer_text
@@ -48,23 +49,23 @@ spent_text k = refl
 -- the endings of a search
 data Search : Ending → Type 0 where
   values : (v : List Bool) → Search (ending.Satisfiable v)
-  none : Search ending.Unsatisfiable
+  none : (failed : Option (List ℤ)) → Search (ending.Unsatisfiable failed)
   spent : (k : ℕ) → Search (ending.Unknown k)
 
 no_message : (e : Ending) → Search e → message_text (outcome.Ended e) ≡ []
 unfolding message_text
 no_message _ (values v) = refl
-no_message _ none = refl
+no_message _ (none failed) = refl
 no_message _ (spent k) = refl
 
 late_stage : (e : Ending) → Search e → end_stage e ≡ proof_created
 late_stage _ (values v) = refl
-late_stage _ none = refl
+late_stage _ (none failed) = refl
 late_stage _ (spent k) = refl
 
 judges : (e : Ending) → Search e → is_judgement e ≡ true
 judges _ (values v) = refl
-judges _ none = refl
+judges _ (none failed) = refl
 judges _ (spent k) = refl
 
 -- no text is no message
@@ -86,7 +87,7 @@ is_solve p = false
 -- an ending of a search is due for `solve` alone
 of_solve : (e : Ending) → Search e → (p : Plan) (f : Problem) (text : Bytes) → Judged e p f text → is_solve p ≡ true
 of_solve _ (values v) (plan.Solve n l c) f text j = refl
-of_solve _ none (plan.Solve n l c) f text j = refl
+of_solve _ (none failed) (plan.Solve n l c) f text j = refl
 of_solve _ (spent k) (plan.Solve n l c) f text j = refl
 of_solve _ search p f text j = absurd j
 
@@ -158,8 +159,11 @@ module _ (words : List Bytes) (limit : ℕ) (old : Seen) (s : Status) (new : See
   -- status 20
   pub unsatisfied : s ≡ status.Unsatisfiable → IsRefuted words old new
   unsatisfied e =
-      IfSome_then old.files (did_end ending.Unsatisfiable none (outcome_of status.Unsatisfiable h.outcome (sym e ∙ h.status_is)))
-      (λ files d. has_solved ending.Unsatisfiable files d _ _ d.gains.0 d.gains.1.reads none_text (d.judged d.gains.0 d.gains.1.reads, d.gains.2))
+      let is = outcome_of status.Unsatisfiable h.outcome (sym e ∙ h.status_is) in
+      IfSome_then old.files (did_end (ending.Unsatisfiable is.0) (none is.0) is.1)
+      (λ files d.
+      let j = d.judged d.gains.0 d.gains.1.reads in
+      (is.0, has_solved (ending.Unsatisfiable is.0) files d _ _ d.gains.0 d.gains.1.reads (none_text is.0) (j.0, j.1, d.gains.2, d.gains.3)))
 
   -- status 0 of `solve`
   module _ (n : Bytes) (l : Option Bytes) (c : ℕ) (asks : Asks words (plan.Solve n l c)) where

@@ -1,5 +1,5 @@
 -- What a run says by its status, for the commands that judge a text.
-use Rattle.std.proofs.Common.{◌≡◌, ◌<◌, ◌⊎◌, ℕ, List, Bool, length, option_map, Option, Some, None, IfSome, inl, inr, refl, ap, sym, subst, ◌∙◌, arith}
+use Rattle.std.proofs.Common.{◌≡◌, ◌<◌, ◌⊎◌, ℕ, ℤ, List, Bool, length, option_map, Option, Some, None, IfSome, inl, inr, refl, ap, sym, subst, ◌∙◌, arith}
 use Rattle.std.proofs.lemmas.Option.{IfSome_then}
 use Rattle.cx_base.specs.Problem.{Problem, Meets, Unmet}
 use Rattle.cx_judgements.specs.ProofTexts.{Accepted}
@@ -139,12 +139,12 @@ module _ (words : List Bytes) (limit : ℕ) (old : Seen) (s : Status) (new : See
       of_elab d.0 d.1 w.0 w.1 w.2
 
   -- statuses 10 and 20
-  of_solve : (e : Ending) (p : Plan) → Asks words p → (e ≡ ending.Unsatisfiable) ⊎ ((v : List Bool) × (e ≡ ending.Satisfiable v)) → Works p limit old (outcome.Ended e) h.done → IsOfSolve words
+  of_solve : (e : Ending) (p : Plan) → Asks words p → ((failed : Option (List ℤ)) × (e ≡ ending.Unsatisfiable failed)) ⊎ ((v : List Bool) × (e ≡ ending.Satisfiable v)) → Works p limit old (outcome.Ended e) h.done → IsOfSolve words
   of_solve _ (plan.Solve n l c) asks which w = (n, l, c, asks)
   of_solve e p asks which w = absurd (by which)
     where
-      by : (e ≡ ending.Unsatisfiable) ⊎ ((v : List Bool) × (e ≡ ending.Satisfiable v)) → ⊥
-      by (inl is) = (subst (λ (x : Ending). Works p limit old (outcome.Ended x) h.done) is w).1.own
+      by : ((failed : Option (List ℤ)) × (e ≡ ending.Unsatisfiable failed)) ⊎ ((v : List Bool) × (e ≡ ending.Satisfiable v)) → ⊥
+      by (inl is) = (subst (λ (x : Ending). Works p limit old (outcome.Ended x) h.done) is.1 w).1.own
       by (inr is) = (subst (λ (x : Ending). Works p limit old (outcome.Ended x) h.done) is.1 w).1.own
 
   pub only_solve_decides : (s ≡ status.Satisfiable) ⊎ (s ≡ status.Unsatisfiable) → IsOfSolve words
@@ -153,8 +153,9 @@ module _ (words : List Bytes) (limit : ℕ) (old : Seen) (s : Status) (new : See
       let w = ended_by words limit old s new h (ending.Satisfiable d.0) d.1 in
       of_solve (ending.Satisfiable d.0) w.0 w.1 (inr (d.0, refl)) w.2
   only_solve_decides (inr e) =
-      let w = ended_by words limit old s new h ending.Unsatisfiable (outcome_of status.Unsatisfiable h.outcome (sym e ∙ h.status_is)) in
-      of_solve ending.Unsatisfiable w.0 w.1 (inl refl) w.2
+      let d = outcome_of status.Unsatisfiable h.outcome (sym e ∙ h.status_is) in
+      let w = ended_by words limit old s new h (ending.Unsatisfiable d.0) d.1 in
+      of_solve (ending.Unsatisfiable d.0) w.0 w.1 (inl (d.0, refl)) w.2
 
   -- status 0
   verified_of : (n q : Bytes) (e : Ending) → Done e → Works (plan.Check n q) limit old (outcome.Ended e) h.done

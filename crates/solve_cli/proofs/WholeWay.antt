@@ -1,5 +1,5 @@
 -- One command behind another: what `solve` logged is elaborated, and what `elab` wrote is verified.
-use Rattle.std.proofs.Common.{◌≡◌, ◌<◌, ◌⊎◌, ℕ, List, length, codes, option_map, Option, Some, None, IfSome, inl, inr, refl, ap, sym, subst, ◌∙◌}
+use Rattle.std.proofs.Common.{◌≡◌, ◌<◌, ◌⊎◌, ℕ, List, length, option_map, Option, Some, None, IfSome, inl, inr, refl, ap, sym, subst, ◌∙◌}
 use Rattle.cx_base.specs.Problem.{Problem}
 use Rattle.cx_texts.specs.FormulaText.{Reads}
 use Rattle.cx_semantics.specs.Judging.{accepted, refused}
@@ -20,6 +20,7 @@ use Rattle.solve_cli.specs.declared.ending.Outcome.TheVariants as outcome
 use Rattle.solve_cli.specs.declared.ending.Status.{Status}
 use Rattle.solve_cli.specs.declared.ending.Status.TheVariants as status
 use Rattle.solve_cli.specs.Endings.{status_of, status_of_ending}
+use Rattle.solve_cli.specs.Failed.{unsatisfiable_text}
 use Rattle.solve_cli.specs.Seen.{Seen, says, asks, creates, text_named}
 use Rattle.solve_cli.specs.Proofs.{IsWholeProof}
 use Rattle.solve_cli.specs.Solved.{solved}
@@ -137,16 +138,18 @@ log_is name log_name log answer old new written done left = by old.written stand
 
 pub logs_elaborate : LogsElaborate
 logs_elaborate words more limit bound files others s written last f log g l q n t asked u elab_asked same_text same_log =
-    let r = of_told _ t.old.files files t.told (t.run.no_values_meet refl) in
+    let told = of_told _ t.old.files files t.told (t.run.no_values_meet refl) in
+    let r = told.1 in
     let plans : plan.Solve r.name r.log_name r.budget ≡ plan.Solve f (Some log) n = one_plan words (plan.Solve r.name r.log_name r.budget) (plan.Solve f (Some log) n) r.asked asked in
     let name : r.name ≡ f = cc in
     let log_name : r.log_name ≡ Some log = cc in
     let reads : Reads (text_named g others) r.formula = subst (λ (x : Bytes). Reads x r.formula) (sym same_text) (subst (λ (x : Bytes). Reads (text_named x files) r.formula) name r.reads) in
-    let done = subst (λ (x : Option Bytes). t.new ≡ solved r.name x r.log (codes "s UNSATISFIABLE\n") t.old) log_name r.done in
-    let is : written.proof ≡ r.log = log_is r.name log r.log (codes "s UNSATISFIABLE\n") t.old t.new written done t.left in
-    let right = subst (λ (x : Bytes). LogRight r.formula x (length r.holds.1.refutes.steps)) (sym (same_log ∙ is)) r.holds.1.refutes.right in
+    let done = subst (λ (x : Option Bytes). t.new ≡ solved r.name x r.log (unsatisfiable_text told.0) t.old) log_name r.done in
+    let is : written.proof ≡ r.log = log_is r.name log r.log (unsatisfiable_text told.0) t.old t.new written done t.left in
+    let refutes = r.holds.2.refutes in
+    let right = subst (λ (x : Bytes). LogRight r.formula x refutes.step) (sym (same_log ∙ is)) refutes.right in
     subst (λ (x : Bytes). (s ≡ status.Done) ⊎ IsCutShort bound (text_named g others) x s) same_log
-    (either bound (text_named g others) (text_named l others) s (plan.Elab g l q) others (λ e due. log_due g l q bound others r.formula (length r.holds.1.refutes.steps) e reads right due)
+    (either bound (text_named g others) (text_named l others) s (plan.Elab g l q) others (λ e due. log_due g l q bound others r.formula refutes.step e reads right due)
     (ends_or_stops more bound others s last (plan.Elab g l q) u elab_asked))
 
 of_left : (P : Bytes → Type 0) (v : Option Written) (written : Written) → v ≡ Some written → IfSome v (λ w. P w.proof) → P written.proof

@@ -1,7 +1,9 @@
 -- From the steps of a command to what it does.
 use Rattle.std.proofs.Common.{true, false, ◌≡◌, ◌<◌, ◌≤◌, ℕ, [], length, take, Option, Some, None, IfSome, IsSome, Result, Ok, Err, inl, inr, refl, ap, sym, subst, ◌∙◌, append-nil}
 use Rattle.std.proofs.lemmas.Option.{IfSome_then}
+use Rattle.cx_base.specs.Assumptions.{clashes}
 use Rattle.cx_base.specs.Problem.{Problem}
+use Rattle.conflict_learn.proofs.ChainOfResolutions.{by_cases}
 use Rattle.cx_texts.specs.FormulaText.{FirstOffence}
 use Rattle.cx_semantics.specs.Tables.{first_tables}
 use Rattle.cx_texts.specs.declared.offence.Offence.{Offence}
@@ -120,14 +122,14 @@ early_gains (plan.Elab n l q) limit files (ending.Elaborated k) h = cc
 early_gains (plan.Elab n l q) limit files (ending.NotElaborated k c) h = cc
 early_gains (plan.Elab n l q) limit files (ending.TooLong slot.Second) h = cc
 early_gains (plan.Solve n l c) limit files (ending.Satisfiable v) h = cc
-early_gains (plan.Solve n l c) limit files ending.Unsatisfiable h = cc
+early_gains (plan.Solve n l c) limit files (ending.Unsatisfiable failed) h = cc
 early_gains (plan.Solve n l c) limit files (ending.Unknown k) h = cc
 early_gains (plan.Demo a b c) limit files (ending.Demonstrated i x) h = cc
 early_gains p limit files e h = refl
 
 -- nothing is a front of a proof
 none_so_far : (f : Problem) → IsRightSoFar f []
-none_so_far f = record { steps = []; right = inl (first_tables f, refl); rest = []; front = refl }
+none_so_far f = record { steps = []; right = by_cases (clashes f.constraints) (λ c. inr (inl (c, refl))) (λ apart. inl (apart, (first_tables f, refl))); rest = []; front = refl }
 
 too_long_gains : (p : Plan) (limit : ℕ) (files : Files) (f : Problem) → IsFormula p limit files f → Gains p limit files (ending.TooLong slot.Second) []
 too_long_gains (plan.Elab n l q) limit files f r = (f, r, none_so_far f)
@@ -168,7 +170,7 @@ judged_own (ending.ModelWrong w) (plan.Model n a) f text h = tt
 judged_own (ending.Elaborated k) (plan.Elab n l q) f text h = tt
 judged_own (ending.NotElaborated k c) (plan.Elab n l q) f text h = tt
 judged_own (ending.Satisfiable v) (plan.Solve n l c) f text h = tt
-judged_own ending.Unsatisfiable (plan.Solve n l c) f text h = tt
+judged_own (ending.Unsatisfiable failed) (plan.Solve n l c) f text h = tt
 judged_own (ending.Unknown k) (plan.Solve n l c) f text h = tt
 judged_own (ending.Demonstrated i x) (plan.Demo kind size seed) f text h = (h.0, h.1)
 judged_own e p f text h = absurd h

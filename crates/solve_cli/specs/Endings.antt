@@ -8,6 +8,7 @@ use Rattle.cx_semantics.specs.declared.cause.Cause.{Cause}
 use Rattle.cx_semantics.specs.declared.cause.Cause.TheVariants as cause
 use Rattle.cx_texts.specs.AnswerText as printed
 use Rattle.cx_words.specs.PlainWords.{kind_word}
+use Rattle.solve_cli.specs.Failed.{unsatisfiable_text}
 use Rattle.solve_cli.specs.declared.ending.Ending.{Ending}
 use Rattle.solve_cli.specs.declared.ending.Ending.TheVariants as ending
 use Rattle.solve_cli.specs.declared.ending.Instance.{Instance}
@@ -52,7 +53,7 @@ status_of_ending (ending.ModelWrong w) = status.AnswerRefused
 status_of_ending (ending.Elaborated k) = status.Done
 status_of_ending (ending.NotElaborated k c) = status.LogRefused
 status_of_ending (ending.Satisfiable v) = status.Satisfiable
-status_of_ending ending.Unsatisfiable = status.Unsatisfiable
+status_of_ending (ending.Unsatisfiable failed) = status.Unsatisfiable
 status_of_ending (ending.Unknown k) = status.Done
 status_of_ending (ending.Demonstrated i x) = status.Done
 
@@ -134,7 +135,7 @@ answer_text (ending.ModelWrong w) = wrong_text w
 answer_text (ending.Elaborated k) = codes "s ELABORATED\n"
 answer_text (ending.NotElaborated k c) = joined (codes "c step " ∷ decimal k ∷ codes " " ∷ log_cause_text c ∷ codes "\ns NOT ELABORATED\n" ∷ [])
 answer_text (ending.Satisfiable v) = printed.answer_text v
-answer_text ending.Unsatisfiable = codes "s UNSATISFIABLE\n"
+answer_text (ending.Unsatisfiable failed) = unsatisfiable_text failed
 answer_text (ending.Unknown k) = joined (codes "c conflicts " ∷ decimal k ∷ codes "\ns UNKNOWN\n" ∷ [])
 answer_text (ending.Demonstrated i x) = demo_text i x
 
@@ -161,7 +162,7 @@ message_text (outcome.Ended (ending.ModelWrong w)) = []
 message_text (outcome.Ended (ending.Elaborated k)) = []
 message_text (outcome.Ended (ending.NotElaborated k c)) = []
 message_text (outcome.Ended (ending.Satisfiable v)) = []
-message_text (outcome.Ended ending.Unsatisfiable) = []
+message_text (outcome.Ended (ending.Unsatisfiable failed)) = []
 message_text (outcome.Ended (ending.Unknown k)) = []
 message_text (outcome.Ended (ending.Demonstrated i x)) = []
 message_text outcome.Usage = codes "error: usage\nusage: cxsat solve FORMULA [--proof LOG] [--conflicts N]\nusage: cxsat check FORMULA PROOF\nusage: cxsat elab FORMULA LOG PROOF\nusage: cxsat model FORMULA ANSWER\nusage: cxsat demo KIND SIZE SEED\n"

@@ -26,6 +26,7 @@ use Rattle.solve_cli.specs.Endings.{status_of, status_of_ending, answer_text, me
 use Rattle.solve_cli.specs.Seen.{Seen, asks_proof, says, ReadFault, WriteFault, MessageFault, text_named}
 use Rattle.solve_cli.specs.Proofs.{IsWholeProof, IsProofBefore, IsRightSoFar}
 use Rattle.solve_cli.specs.Logs.{IsOpenLog, IsClosedLog, IsSpentLog, IsLogSoFar}
+use Rattle.solve_cli.specs.Failed.{FailsAs, NegatesLastStep}
 use Rattle.solve_cli.specs.Demo.{instance_of, MayShow, Shows, StandsBehind}
 use Rattle.solve_cli.specs.Commands.{formula_of, second_of, proof_of, writes_proof, Stage, formula_started, second_started, proof_created, asked_to, second_text}
 
@@ -78,7 +79,7 @@ Judged (ending.ModelWrong w) (plan.Model n a) f text = AnswerRefusedFor text f (
 Judged (ending.Elaborated k) (plan.Elab n l q) f text = LogRight f text k
 Judged (ending.NotElaborated k c) (plan.Elab n l q) f text = LogRefusedAt f text k c
 Judged (ending.Satisfiable v) (plan.Solve n l c) f text = Meets f v
-Judged ending.Unsatisfiable (plan.Solve n l c) f text = Unmet f
+Judged (ending.Unsatisfiable failed) (plan.Solve n l c) f text = Unmet f × FailsAs f failed
 Judged (ending.Unknown k) (plan.Solve n l c) f text = (k ≡ c) × ¬ SettledWithRecovered f
 Judged (ending.Demonstrated i x) (plan.Demo kind size seed) f text = (i ≡ instance_of kind size seed) × MayShow kind x × Shows f x
 Judged e p f text = ⊥
@@ -113,7 +114,7 @@ Gains (plan.Elab n l q) limit files (ending.NotElaborated k c) proof =
     (f : Problem) × FormulaRead limit (text_named n files) f × IsProofBefore f (text_named l files) k proof
 Gains (plan.Elab n l q) limit files (ending.TooLong slot.Second) proof = (f : Problem) × FormulaRead limit (text_named n files) f × IsRightSoFar f proof
 Gains (plan.Solve n l c) limit files (ending.Satisfiable v) log = (f : Problem) × FormulaRead limit (text_named n files) f × IsOpenLog f c log
-Gains (plan.Solve n l c) limit files ending.Unsatisfiable log = (f : Problem) × FormulaRead limit (text_named n files) f × IsClosedLog f c log
+Gains (plan.Solve n l c) limit files (ending.Unsatisfiable failed) log = (f : Problem) × FormulaRead limit (text_named n files) f × IsClosedLog f c log × NegatesLastStep f log failed
 Gains (plan.Solve n l c) limit files (ending.Unknown k) log = (f : Problem) × FormulaRead limit (text_named n files) f × IsSpentLog f c log
 Gains (plan.Demo kind size seed) limit files (ending.Demonstrated i x) log = StandsBehind (planted_formula kind size seed) log x
 Gains p limit files e proof = proof ≡ []
@@ -158,7 +159,7 @@ IsOf (plan.Model n a) (ending.ModelWrong w) = ⊤
 IsOf (plan.Elab n l q) (ending.Elaborated k) = ⊤
 IsOf (plan.Elab n l q) (ending.NotElaborated k c) = ⊤
 IsOf (plan.Solve n l c) (ending.Satisfiable v) = ⊤
-IsOf (plan.Solve n l c) ending.Unsatisfiable = ⊤
+IsOf (plan.Solve n l c) (ending.Unsatisfiable failed) = ⊤
 IsOf (plan.Solve n l c) (ending.Unknown k) = ⊤
 IsOf (plan.Demo kind size seed) (ending.Demonstrated i x) = (i ≡ instance_of kind size seed) × MayShow kind x
 IsOf p e = ⊥

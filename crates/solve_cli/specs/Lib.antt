@@ -4,6 +4,7 @@ pub mod Seen
 pub mod Commands
 pub mod Proofs
 pub mod Logs
+pub mod Failed
 pub mod Happens
 pub mod Steps
 pub mod TwoEnds

@@ -1,6 +1,7 @@
 -- What `solve` leaves on the Proof port: the text of a log.
-use Rattle.std.specs.Prelude.{◌≡◌, ℕ, ◌<◌, List, [], ◌++◌, length, filter_map, ◌⊎◌}
+use Rattle.std.specs.Prelude.{◌≡◌, ℕ, ◌<◌, List, [], ◌++◌, length, filter_map, ◌⊎◌, IsFalse}
 use Rattle.std.specs.List.{AllByRecursion}
+use Rattle.cx_base.specs.Assumptions.{clashes}
 use Rattle.cx_base.specs.Problem.{Problem}
 use Rattle.cx_base.specs.declared.steps.LogStep.{LogStep}
 use Rattle.cx_base.specs.declared.steps.LogEvent.{LogEvent}
@@ -27,11 +28,13 @@ pub record IsOpenLog (formula : Problem) (budget : ℕ) (log : Bytes) : Type 0 w
   pub is_open : LogOpen formula log
   pub marks : HasFewMarks formula budget log
 
--- the log is right, and its last step ends it
+-- The log is right, and its last step ends it. Where the formula's assumptions clash, no step of it is judged.
 pub record IsRefutation (formula : Problem) (log : Bytes) : Type 0 where
   pub steps : List LogStep
   pub reads : LogReads log steps finished
-  pub right : LogRight formula log (length steps)
+  pub step : ℕ
+  pub right : LogRight formula log step
+  pub last : IsFalse (clashes formula.constraints) → step ≡ length steps
 
 -- behind the answer that there are none
 pub record IsClosedLog (formula : Problem) (budget : ℕ) (log : Bytes) : Type 0 where

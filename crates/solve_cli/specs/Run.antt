@@ -35,9 +35,9 @@ IsToldByMessage p limit files e = Early p limit files e ⊎ (IsTrue (is_reader p
 pub record Run (words : List Bytes) (limit : ℕ) (old : Seen) (s : Status) (new : Seen) : Type 0 where
   -- everything that happened: the names that were asked for, what each port gained, the faults, the message
   pub happens : Runs words limit old s new
-  -- 10: the printed values meet every clause and parity, and stand behind a log that is right and open
+  -- 10: the printed values meet every clause, parity and assumption, and stand behind a log that is right and open
   pub values_meet : s ≡ status.Satisfiable → IsSatisfied words old new
-  -- 20: no values meet the formula, and a log that is right to its end stands before the answer
+  -- 20: no values meet every clause, parity and assumption, and a log that is right to its end stands before the answer; the assumed literals that are told fail
   pub no_values_meet : s ≡ status.Unsatisfiable → IsRefuted words old new
   pub only_solve_decides : (s ≡ status.Satisfiable) ⊎ (s ≡ status.Unsatisfiable) → IsOfSolve words
   -- 0 of `solve`: the budget of counted conflicts is spent, each with a fresh learned clause in the log

@@ -1,5 +1,5 @@
 -- What the answers of `solve` say.
-use Rattle.std.specs.Prelude.{◌≡◌, ◌≢◌, ℕ, Bool, List, [], ◌∷◌, Option, IfSome, codes, decimal}
+use Rattle.std.specs.Prelude.{◌≡◌, ◌≢◌, ℕ, ℤ, Bool, List, [], ◌∷◌, Option, IfSome, codes, decimal}
 use Rattle.cx_base.specs.Problem.{Problem, Meets, Unmet, parities_of}
 use Rattle.cx_texts.specs.AnswerText as printed
 use Rattle.cx_semantics.specs.Forced.{Consistent}
@@ -14,6 +14,7 @@ use Rattle.cx_words.specs.declared.plans.Plan.TheVariants as plan
 use Rattle.solve_cli.specs.declared.ending.Status.{Status}
 use Rattle.solve_cli.specs.declared.ending.Status.TheVariants as status
 use Rattle.solve_cli.specs.Endings.{joined}
+use Rattle.solve_cli.specs.Failed.{FailsAs, NegatesLastStep, unsatisfiable_text}
 use Rattle.solve_cli.specs.Seen.{Seen, asks, says, text_named}
 use Rattle.solve_cli.specs.Commands.{gives_file}
 use Rattle.solve_cli.specs.Logs.{IsOpenLog, IsClosedLog, IsSpentLog}
@@ -39,9 +40,11 @@ pub record HasSolved (words : List Bytes) (old : Seen) (files : Files) (new : Se
 abbrev pub IsSatisfied : List Bytes → Seen → Seen → Type 0
 IsSatisfied words old new = IfSome old.files (λ files. (values : List Bool) × HasSolved words old files new (λ budget. printed.answer_text values) (λ f budget log. Meets f values × IsOpenLog f budget log))
 
--- no values meet the formula, and `solve` said so, behind a log that is right to its end
+-- No values meet the formula, and `solve` said so, behind a log that is right to its end. Where the formula has an assumption constraint, it told assumed literals that fail: the negations of those of the log's
+-- last step, or the two of the least variable that is assumed with both signs.
 abbrev pub IsRefuted : List Bytes → Seen → Seen → Type 0
-IsRefuted words old new = IfSome old.files (λ files. HasSolved words old files new (λ budget. codes "s UNSATISFIABLE\n") (λ f budget log. Unmet f × IsClosedLog f budget log))
+IsRefuted words old new = IfSome old.files (λ files. (failed : Option (List ℤ)) × HasSolved words old files new (λ budget. unsatisfiable_text failed)
+    (λ f budget log. Unmet f × FailsAs f failed × IsClosedLog f budget log × NegatesLastStep f log failed))
 
 -- `solve` said that the budget is spent, behind an open log that is marked so many times
 abbrev pub IsSpent : List Bytes → Seen → Seen → Type 0

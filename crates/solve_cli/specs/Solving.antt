@@ -1,5 +1,5 @@
 -- The steps of `solve`: the formula is read, the Proof port is given the log's file, and the search is made.
-use Rattle.std.specs.Prelude.{◌≡◌, ℕ, List, Option, IfSome, Result, Ok, Err, MatchResult}
+use Rattle.std.specs.Prelude.{◌≡◌, ℕ, ℤ, List, Option, IfSome, Result, Ok, Err, MatchResult}
 use Rattle.cx_base.specs.Problem.{Problem, Meets, Unmet}
 use Rattle.cx_base.specs.declared.steps.LogEvent.{LogEvent}
 use Rattle.cx_texts.specs.Printed.{printed_log}
@@ -19,6 +19,7 @@ use Rattle.solve_cli.specs.declared.ending.Outcome.TheVariants as outcome
 use Rattle.solve_cli.specs.Seen.{Seen, says, WriteFault}
 use Rattle.solve_cli.specs.Commands.{proof_created, asked_to}
 use Rattle.solve_cli.specs.Happens.{IsFormula, Works}
+use Rattle.solve_cli.specs.Failed.{AreInOrder, FailsAs, NegatesLastStep}
 use Rattle.solve_cli.specs.Logs.{IsOpenLog, IsClosedLog, IsSpentLog, IsLogSoFar}
 use Rattle.solve_cli.specs.SlotTexts.{IsLateOf}
 
@@ -31,17 +32,17 @@ BeginsSearch p limit old result new = MatchResult result
 -- what a search came to, and the events of its log
 abbrev pub ComesTo : Problem → ℕ → List LogEvent → Ending → Type 0
 ComesTo f budget events (ending.Satisfiable v) = Meets f v × IsOpenLog f budget (printed_log events)
-ComesTo f budget events ending.Unsatisfiable = Unmet f × IsClosedLog f budget (printed_log events)
+ComesTo f budget events (ending.Unsatisfiable failed) = Unmet f × FailsAs f failed × IsClosedLog f budget (printed_log events) × NegatesLastStep f (printed_log events) failed
 ComesTo f budget events (ending.Unknown k) = (k ≡ budget) × (¬ SettledWithRecovered f) × IsSpentLog f budget (printed_log events)
 ComesTo f budget events e = ⊥
 
--- what an answer of the search ends in
-abbrev pub answered_as : Result Answer CoreFault → Result Ending Outcome
-answered_as (Ok (answer.Sat values)) = Ok (ending.Satisfiable values)
-answered_as (Ok answer.Unsat) = Ok ending.Unsatisfiable
-answered_as (Ok (answer.Unknown conflicts)) = Ok (ending.Unknown conflicts)
-answered_as (Err fault.Memory) = Err outcome.Memory
-answered_as (Err fault.Write) = Err outcome.WriteFault
+-- What an answer of the search ends in. The literals that fail are put in order, for which memory may be wanted.
+abbrev pub AnswersAs : Problem → Result Answer CoreFault → Result Ending Outcome → Type 0
+AnswersAs f (Ok (answer.Sat values)) result = result ≡ Ok (ending.Satisfiable values)
+AnswersAs f (Ok (answer.Unsat failed)) result = MatchResult result (λ e. (told : Option (List ℤ)) × (e ≡ ending.Unsatisfiable told) × AreInOrder f failed told) (λ o. o ≡ outcome.Memory)
+AnswersAs f (Ok (answer.Unknown conflicts)) result = result ≡ Ok (ending.Unknown conflicts)
+AnswersAs f (Err fault.Memory) result = result ≡ Err outcome.Memory
+AnswersAs f (Err fault.Write) result = result ≡ Err outcome.WriteFault
 
 -- What a search printed on the Proof port, event by event: the log of what it came to; or, where it gave up, a front of a right log.
 abbrev pub SearchesOn : Problem → ℕ → Seen → Result Ending Outcome → Seen → Type 0

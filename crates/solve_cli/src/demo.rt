@@ -105,7 +105,7 @@ pub(crate) fn show(
                 unreachable!()
             }
         }
-        Ending::Unsatisfiable => refute(alloc, formula, log),
+        Ending::Unsatisfiable(_) => refute(alloc, formula, log),
         Ending::Unknown(_) => Ok(Shown::Unknown),
         _ => unreachable!(),
     }

@@ -2,7 +2,7 @@
 ghost use Rattle.std.specs.Prelude.{◌≡◌};
 ghost use Rattle.solve_cli.specs.Endings.{status_of, status_code_of};
 
-use cx_base::Values;
+use cx_base::{IntList, Values};
 use cx_desk::Slot;
 use cx_semantics::Cause;
 use cx_texts::Offence;
@@ -72,8 +72,8 @@ pub enum Ending {
     NotElaborated(u64, Cause),
     /// These values meet the formula.
     Satisfiable(Values),
-    /// No values meet the formula.
-    Unsatisfiable,
+    /// No values meet the formula. Where it has an assumption constraint, these assumed literals fail, as integers: no values meet its clauses and its parities with them.
+    Unsatisfiable(Option<IntList>),
     /// So many conflicts were counted, as many as the search may count.
     Unknown(u64),
     /// This was shown of the planted instance.
@@ -163,7 +163,7 @@ impl Outcome {
             Outcome::Ended(Ending::Elaborated(_)) => Status::Done,
             Outcome::Ended(Ending::NotElaborated(_, _)) => Status::LogRefused,
             Outcome::Ended(Ending::Satisfiable(_)) => Status::Satisfiable,
-            Outcome::Ended(Ending::Unsatisfiable) => Status::Unsatisfiable,
+            Outcome::Ended(Ending::Unsatisfiable(_)) => Status::Unsatisfiable,
             Outcome::Ended(Ending::Unknown(_)) => Status::Done,
             Outcome::Ended(Ending::Demonstrated(_, _)) => Status::Done,
             Outcome::Usage => Status::Usage,

@@ -5,6 +5,7 @@ mod demo;
 mod elab;
 mod elab_desk;
 mod ending;
+mod failed;
 mod judge;
 mod laws;
 mod load;

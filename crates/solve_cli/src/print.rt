@@ -1,17 +1,20 @@
 //! The lines of the endings.
 ghost use Rattle.cx_desk.specs.declared.desk.Port.TheVariants as port;
-ghost use Rattle.std.specs.Prelude.{◌≡◌, [], ◌∷◌, codes, decimal};
+ghost use Rattle.std.specs.Prelude.{◌≡◌, [], ◌∷◌, Some, codes, decimal};
 ghost use Rattle.cx_desk.specs.Calls.{PutsAll};
 ghost use Rattle.cx_words.specs.PlainWords.{kind_word};
+ghost use Rattle.solve_cli.specs.Failed.{unsatisfiable_text};
 ghost use Rattle.solve_cli.specs.Endings.{answer_text, message_text, cause_text, log_cause_text, wrong_text, offence_text, shown_text, demo_text, joined};
 
 use crate::{Ending, Instance, Outcome, Shown, WrongAnswer};
+use cx_base::IntList;
 use cx_desk::{Desk, Failed, Port, Slot, put_all, put_pieces};
 use cx_semantics::Cause;
 use cx_texts::Offence;
 use cx_words::Kind;
 use itoa::Buffer;
 use model_out::put_answer;
+use step_text::pieces::put_integers;
 
 /// The lines of a step that was refused.
 fn put_step<D: Desk>(desk: &mut D, step: u64, code: &[u8], last: &[u8]) -> Result<(), Failed>
@@ -178,6 +181,24 @@ fn put_demo<D: Desk>(desk: &mut D, instance: Instance, shown: Shown) -> Result<(
     )
 }
 
+/// The lines of a formula that no values meet, with literals that fail.
+fn put_failed<D: Desk>(desk: &mut D, failed: &[i64]) -> Result<(), Failed>
+    ensures { PutsAll port.Answer (unsatisfiable_text (Some failed.now)) (D.outside desk.old) result (D.outside desk.new) }
+{
+    put_all(desk, Port::Answer, b"s UNSATISFIABLE\nc failed")?;
+    put_integers(desk, Port::Answer, failed, b"\n")
+}
+
+/// The lines of a formula that no values meet.
+fn put_unsatisfiable<D: Desk>(desk: &mut D, failed: &Option<IntList>) -> Result<(), Failed>
+    ensures { PutsAll port.Answer (unsatisfiable_text failed.now) (D.outside desk.old) result (D.outside desk.new) }
+{
+    match failed {
+        None => put_all(desk, Port::Answer, b"s UNSATISFIABLE\n"),
+        Some(failed) => put_failed(desk, failed.as_slice()),
+    }
+}
+
 /// Writes what an ending puts on the Answer port. It takes no memory.
 #[tactic(auto, unfolding(crate::specs::Endings::answer_text))]
 pub(crate) fn put_answer_text<D: Desk>(desk: &mut D, ending: &Ending) -> Result<(), Failed>
@@ -195,7 +216,7 @@ pub(crate) fn put_answer_text<D: Desk>(desk: &mut D, ending: &Ending) -> Result<
             put_log_refusal(desk, *step, *cause, b"\ns NOT ELABORATED\n")
         }
         Ending::Satisfiable(values) => put_answer(desk, values.as_slice()),
-        Ending::Unsatisfiable => put_all(desk, Port::Answer, b"s UNSATISFIABLE\n"),
+        Ending::Unsatisfiable(failed) => put_unsatisfiable(desk, failed),
         Ending::Unknown(conflicts) => put_unknown(desk, *conflicts),
         Ending::Demonstrated(instance, shown) => put_demo(desk, *instance, *shown),
         Ending::FormulaRefused(_) => put_all(desk, Port::Answer, b""),
@@ -249,7 +270,7 @@ pub(crate) fn put_message_text<D: Desk>(desk: &mut D, outcome: &Outcome) -> Resu
         Outcome::Ended(Ending::Elaborated(_)) => put_all(desk, Port::Message, b""),
         Outcome::Ended(Ending::NotElaborated(_, _)) => put_all(desk, Port::Message, b""),
         Outcome::Ended(Ending::Satisfiable(_)) => put_all(desk, Port::Message, b""),
-        Outcome::Ended(Ending::Unsatisfiable) => put_all(desk, Port::Message, b""),
+        Outcome::Ended(Ending::Unsatisfiable(_)) => put_all(desk, Port::Message, b""),
         Outcome::Ended(Ending::Unknown(_)) => put_all(desk, Port::Message, b""),
         Outcome::Ended(Ending::Demonstrated(_, _)) => put_all(desk, Port::Message, b""),
         Outcome::Usage => put_all(desk, Port::Message, USAGE),

@@ -3,9 +3,10 @@ ghost use Rattle.std.specs.Prelude.{◌≡◌, ◌≤◌, ◌^◌, ℕ, [], leng
 ghost use Rattle.cx_words.specs.declared.plans.Plan.TheVariants as plan;
 ghost use Rattle.solve_cli.specs.Seen.{seen};
 ghost use Rattle.solve_cli.specs.Commands.{Unasked};
-ghost use Rattle.solve_cli.specs.Solving.{BeginsSearch, ComesTo, SearchesOn, answered_as};
+ghost use Rattle.solve_cli.specs.Solving.{BeginsSearch, ComesTo, SearchesOn, AnswersAs};
 ghost use Rattle.solve_cli.specs.Steps.{HasNoProof};
 
+use crate::failed::in_order;
 use crate::load::{create_proof, read_formula_of};
 use crate::{Ending, Outcome};
 use cdcl_core::{CoreFault, Outcome as Answer, solve_core};
@@ -40,12 +41,19 @@ pub(crate) fn begin_search<D: Desk>(
 }
 
 /// What an answer of the search ends in.
-fn answered(answer: Result<Answer, CoreFault>) -> Result<Ending, Outcome>
-    ensures { result ≡ answered_as answer }
+fn answered(
+    alloc: Global,
+    formula: &Formula,
+    answer: Result<Answer, CoreFault>,
+) -> Result<Ending, Outcome>
+    ensures { AnswersAs formula.now answer result }
 {
     match answer {
         Ok(Answer::Sat(values)) => Ok(Ending::Satisfiable(values)),
-        Ok(Answer::Unsat) => Ok(Ending::Unsatisfiable),
+        Ok(Answer::Unsat { failed }) => match in_order(alloc, formula, failed) {
+            Ok(failed) => Ok(Ending::Unsatisfiable(failed)),
+            Err(AllocError) => Err(Outcome::Memory),
+        },
         Ok(Answer::Unknown { conflicts }) => Ok(Ending::Unknown(conflicts)),
         Err(CoreFault::Memory) => Err(Outcome::Memory),
         Err(CoreFault::Write) => Err(Outcome::WriteFault),
@@ -67,7 +75,7 @@ pub(crate) fn search_on<D: Desk>(
 {
     let mut log = DeskLog::new(desk);
     let answer = solve_core::<Incremental, DeskLog<D>>(alloc, formula, conflicts, &mut log);
-    answered(answer)
+    answered(alloc, formula, answer)
 }
 
 /// The same, with the log kept as a list. It gives up only for want of memory.
@@ -84,7 +92,7 @@ pub(crate) fn search(
 {
     let answer = solve_core::<Incremental, ListLog>(alloc, formula, conflicts, log);
     let _with_texts = log.events();
-    match answered(answer) {
+    match answered(alloc, formula, answer) {
         Ok(ending) => Ok(ending),
         // A list fails only for want of memory.
         Err(_) => Err(AllocError),

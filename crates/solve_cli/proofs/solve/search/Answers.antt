@@ -10,5 +10,5 @@ returns-in-Ok c =
     let f = c.args.formula.now in
     let events = c.solve_core-answer.new.sink in
     let e = c.solve_core-answer.ensures in
-    subst (λ (x : Result Ending Outcome). IfOk x (ComesTo f c.args.conflicts events)) (sym c.in-Ok.ensures)
-    (finds f c.args.conflicts events c.solve_core-answer.result c.events-with_texts.ensures.texts e.ids e.answers e.settled_with_recovered e.unmarked)
+    let found = finds f c.args.conflicts events c.solve_core-answer.result c.answered.result c.answered.ensures c.events-with_texts.ensures.texts e.ids e.answers e.settled_with_recovered e.unmarked in
+    subst (λ (x : Result Ending Outcome). IfOk x (ComesTo f c.args.conflicts events)) c.in-Ok.is found

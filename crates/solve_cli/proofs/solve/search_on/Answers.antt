@@ -6,7 +6,7 @@ use Rattle.conflict_learn.specs.Faults.{fault_in}
 use Rattle.cdcl_search.specs.Logs.{CountsAs}
 use Rattle.cdcl_core.specs.Results.{IsFresh}
 use Rattle.solve_cli.specs.Seen.{seen}
-use Rattle.solve_cli.specs.Solving.{SearchesOn, answered_as}
+use Rattle.solve_cli.specs.Solving.{SearchesOn}
 use Rattle.solve_cli.proofs.Gaining.{whole_port}
 use Rattle.solve_cli.proofs.Printing.{fresh_port, searched_on}
 use Rattle.solve_cli.proofs.solve.search_on.Goals as goal
@@ -29,7 +29,7 @@ returns g c =
     let e = c.solve_core-answer.ensures in
     let goes = subst (λ (x : Outside). Goes false x last n) c.new-log.ensures.outside (subst (λ (b : Bool). Goes b (g.D.Desk.outside c.new-log.result.desk.now) last n) c.new-log.ensures.whole e.frame.1) in
     let counts = subst (λ (b : Bool). CountsAs (fault_in r) (fault_of b) (fault_of last)) c.new-log.ensures.whole e.faults in
-    let done : SearchesOn f budget (seen o) (answered_as r) (seen n) =
-    searched_on f budget o n last r c.requires.empty goes counts e.answers e.settled_with_recovered e.unmarked e.ids e.gave_up in
+    let done : SearchesOn f budget (seen o) c.answered.result (seen n) =
+    searched_on f budget o n last c.requires.empty goes r c.answered.result c.answered.ensures counts e.answers e.settled_with_recovered e.unmarked e.ids e.gave_up in
     let same : ◌≡◌ {A = Outside} n (g.D.Desk.outside c.desk-1.given.0) = search rules in
-    rw c.answered.ensures (subst (λ (x : Outside). SearchesOn f budget (seen o) (answered_as r) (seen x)) same done)
+    subst (λ (x : Outside). SearchesOn f budget (seen o) c.answered.result (seen x)) same done
