@@ -17,10 +17,10 @@ use Rattle.cdcl_search.specs.declared.state.SearchState.{SearchState}
 use Rattle.std.specs.Prelude.{IfErr}
 use Rattle.cx_semantics.specs.LogRules.{log_calculus}
 use Rattle.conflict_learn.specs.declared.fault.CoreFault.TheVariants.{Memory, Write}
-use Rattle.conflict_learn.specs.Faults.{fault_in}
+use Rattle.conflict_learn.specs.Faults.{CountsAs, fault_in}
 use Rattle.step_text.specs.declared.sink.Sink as sink
 use Rattle.cdcl_search.specs.declared.logs.SearchLog.{SearchLog}
-use Rattle.cdcl_search.specs.Logs.{GoesOn, CountsAs}
+use Rattle.cdcl_search.specs.Logs.{GoesOn}
 use Rattle.cdcl_search.specs.Tells.{IsLeft, GivesUp, HaveLowIds, HasNoMark}
 use Rattle.cdcl_search.specs.Ties.{SearchStands}
 use Rattle.cdcl_core.specs.declared.solving.Outcome.TheVariants.{Sat, Unsat, Unknown}

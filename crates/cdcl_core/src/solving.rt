@@ -3,12 +3,12 @@ ghost use Rattle.std.specs.Prelude.{◌≡◌, ◌≢◌, ℕ, ◌<◌, ◌≤�
 ghost use Rattle.cx_semantics.specs.Settled.{Settled};
 ghost use Rattle.cx_base.specs.Counts.{Rose};
 ghost use Rattle.conflict_learn.specs.declared.fault.CoreFault.TheVariants.{Write};
-ghost use Rattle.conflict_learn.specs.Faults.{fault_in};
+ghost use Rattle.conflict_learn.specs.Faults.{CountsAs, fault_in};
 ghost use Rattle.conflict_learn.specs.Marks.{AreClear};
 ghost use Rattle.parity_engine.specs.declared.state.Mood.TheVariants.{Broken};
 ghost use Rattle.search_steps.specs.Recovering.{SettledWithRecovered};
 ghost use Rattle.cdcl_search.specs.Searching.{SearchReaches};
-ghost use Rattle.cdcl_search.specs.Logs.{GoesOn, CountsAs, Stands, told_in};
+ghost use Rattle.cdcl_search.specs.Logs.{GoesOn, Stands, told_in};
 ghost use Rattle.cdcl_search.specs.declared.propagation.Found.TheVariants.{Quiet};
 ghost use Rattle.cdcl_search.specs.declared.searching.Reached.TheVariants as reached;
 ghost use Rattle.search_policy.specs.Assuming.{Contradicts, KeepsAssumptions};

@@ -11,7 +11,7 @@ use Rattle.cx_base.specs.declared.steps.LogStep.{LogStep}
 use Rattle.cx_semantics.specs.Ids.{HasLowId}
 use Rattle.cx_base.specs.declared.steps.LogEvent.{LogEvent}
 use Rattle.cx_base.specs.declared.steps.LogEvent.TheVariants.{Conflict}
-use Rattle.cx_semantics.specs.Judging.{Calculus, Runs, IsOpen, EndsAt}
+use Rattle.cx_semantics.specs.Judging.{Calculus, Runs, EndsAt}
 use Rattle.cx_semantics.specs.LogRules.{log_calculus}
 use Rattle.cx_base.specs.Events.{steps_of, step_of}
 use Rattle.cx_semantics.specs.Marked.{mark_of}
@@ -19,12 +19,12 @@ use Rattle.cx_semantics.specs.Tables.{Tables}
 use Rattle.cx_texts.specs.Printed.{HasText}
 use Rattle.conflict_learn.specs.declared.fault.CoreFault.{CoreFault}
 use Rattle.conflict_learn.specs.declared.fault.CoreFault.TheVariants.{Memory, Write}
-use Rattle.conflict_learn.specs.Faults.{fault_in}
+use Rattle.conflict_learn.specs.Faults.{CountsAs, fault_in}
 use Rattle.step_text.specs.declared.sink.Sink as sink
 use Rattle.search_steps.specs.Recovering.{SettledWithRecovered}
 use Rattle.cdcl_search.specs.declared.logs.SearchLog.{SearchLog}
 use Rattle.cdcl_search.specs.Calls.{TellsIn, Tells}
-use Rattle.cdcl_search.specs.Logs.{GoesOn, IsRightBehind, CountsAs}
+use Rattle.cdcl_search.specs.Logs.{GoesOn, IsRightBehind}
 use Rattle.cdcl_search.specs.Tells.{TellsAll, FaultsAs, IsLeft, IsTellable, HaveLowIds, HasNoMark, IsTorn, as_events, with_events}
 use Rattle.cdcl_search.proofs.Events.{more_and_more}
 
@@ -55,8 +55,11 @@ ended_front c front (b ∷ more) a =
 
 front_is_left : (formula : Problem) (front more : List LogEvent) → IsLeft formula (Some (front ++ more)) → IsLeft formula (Some front)
 front_is_left formula front more (inl (apart, runs)) =
-    inl (apart, runs_front (log_calculus formula) (log_calculus formula).start (steps_of front) (steps_of more) runs.0
-    (subst (λ xs. Runs (log_calculus formula) (log_calculus formula).start xs runs.0) (filter_map-append step_of front more) runs.1))
+    inl (
+      apart,
+      runs_front (log_calculus formula) (log_calculus formula).start (steps_of front) (steps_of more) runs.0
+          (subst (λ xs. Runs (log_calculus formula) (log_calculus formula).start xs runs.0) (filter_map-append step_of front more) runs.1),
+    )
 front_is_left formula front more (inr (inl clash)) = inr (inl clash)
 front_is_left formula front more (inr (inr (apart, ended))) =
     elim (ended_front (log_calculus formula) (steps_of front) (steps_of more)

@@ -1,9 +1,9 @@
 -- What calls leave of the log of a search.
-use Rattle.std.specs.Prelude.{◌≡◌, ℕ, List, Option, None, Some}
-use Rattle.cx_base.specs.Counts.{Rose}
+use Rattle.std.specs.Prelude.{◌≡◌, List, Option, Some}
 use Rattle.cx_base.specs.declared.steps.LogEvent.{LogEvent}
 use Rattle.conflict_learn.specs.declared.fault.CoreFault.{CoreFault}
-use Rattle.conflict_learn.specs.declared.fault.CoreFault.TheVariants.{Memory, Write}
+use Rattle.conflict_learn.specs.declared.fault.CoreFault.TheVariants.{Write}
+use Rattle.conflict_learn.specs.Faults.{CountsAs}
 use Rattle.cx_base.specs.Literals.{Literal}
 use Rattle.search_steps.specs.Recovering.{SettledWithRecovered}
 use Rattle.step_text.specs.declared.sink.Sink as sink
@@ -12,12 +12,6 @@ use Rattle.cdcl_search.specs.declared.state.SearchState.{SearchState}
 use Rattle.cdcl_search.specs.Ties.{SearchStands, SearchStandsFrom}
 use Rattle.cdcl_search.specs.Tells.{IsLeft, HaveLowIds, HasNoMark, IsTorn, with_events}
 use Rattle.cdcl_search.specs.declared.logs.SearchLog.{SearchLog}
-
--- the count of faults rose after a fault of writing, and else it stands
-abbrev pub CountsAs : Option CoreFault → ℕ → ℕ → Type 0
-CountsAs None before now = now ≡ before
-CountsAs (Some Memory) before now = now ≡ before
-CountsAs (Some Write) before now = Rose before now
 
 -- Calls up to an answer, or up to this fault. A log that was right so far is right so far, and ids stay low. Where the formula is settled with its recovered parities no mark is told. A write fault is counted and tears an event that may stand there; else none is counted. The formula and the sink are the same, and what the sink keeps is kept.
 pub record GoesOn {L : Type 0} (m : sink.Ghosts L LogEvent) (old : SearchLog L) (why : Option CoreFault) (new : SearchLog L) : Type 0 where

@@ -36,11 +36,7 @@ pub struct Hinted {
 }
 
 /// The unit clause of a literal of level 0.
-pub fn unit(
-    alloc: Global,
-    state: &SearchState,
-    place: usize,
-) -> Result<Hinted, AllocError>
+pub fn unit(alloc: Global, state: &SearchState, place: usize) -> Result<Hinted, AllocError>
     requires unit { place < length state.now.units.items }
     requires place { place < length state.now.trail.entries }
     requires ids { HasIds state.now }
@@ -197,6 +193,8 @@ impl<P: ParityEngine, L: Sink<Item = LogEvent>> Antecedents for Source<'_, '_, P
     ghost room = { λ a. a.log.now.formula.now.variables + 1 - length a.rows.now.items };
 
     ghost reach = { λ a. a.below };
+
+    ghost faults = { λ a. L.faults a.log.now.sink.now };
 
     ghost goes_on = { λ a why b. HasSameLoans a b × GoesOn L.Sink a.log.now why b.log.now };
 

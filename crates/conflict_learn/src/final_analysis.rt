@@ -4,7 +4,7 @@ ghost use Rattle.cx_base.specs.Literals.{Literal};
 ghost use Rattle.cx_semantics.specs.Chain.{has_literal};
 ghost use Rattle.cx_trail.specs.declared.entry.Reason.TheVariants.{Decision};
 ghost use Rattle.cx_trail.specs.Sequence.{IsFalseBefore};
-ghost use Rattle.conflict_learn.specs.Faults.{fault_in};
+ghost use Rattle.conflict_learn.specs.Faults.{CountsAs, fault_in};
 ghost use Rattle.conflict_learn.specs.Final.{IsFinal, StandsBelow};
 ghost use Rattle.conflict_learn.specs.Learning.{AreHeld, skips};
 ghost use Rattle.conflict_learn.specs.Marks.{AreClear};
@@ -71,6 +71,7 @@ pub fn analyse_final<S: Antecedents>(
     ensures stand { IfOk result (λ r. (l : Literal) → IsTrue (has_literal r.resolved l) → StandsBelow trail.now below l) }
     ensures clear { OnOk result (AreClear marks.new) }
     ensures ready { OnOk result (S.ready source.new) }
+    ensures faults { CountsAs (fault_in result) (S.faults source.old) (S.faults source.new) }
     ensures goes_on { S.goes_on source.old (fault_in result) source.new }
 {
     marks.reach(trail.vars())?;

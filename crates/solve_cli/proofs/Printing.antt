@@ -24,8 +24,7 @@ use Rattle.log_text.specs.Told.{event_line, told_events, events_told, TornOn, Pr
 use Rattle.log_text.proofs.ToldLaws.{told_front, told_log, gained_log, begun_log, begun_front}
 use Rattle.conflict_learn.specs.declared.fault.CoreFault.{CoreFault}
 use Rattle.conflict_learn.specs.declared.fault.CoreFault.TheVariants as fault
-use Rattle.conflict_learn.specs.Faults.{fault_in}
-use Rattle.cdcl_search.specs.Logs.{CountsAs}
+use Rattle.conflict_learn.specs.Faults.{CountsAs, fault_in}
 use Rattle.cdcl_search.specs.Tells.{IsLeft, HaveLowIds, HasNoMark as HasNoMarkTold, MayStandBehind, GivesUp}
 use Rattle.cdcl_core.specs.Results.{IsFresh, IsRightOutcome, Refutes}
 use Rattle.cdcl_core.specs.declared.solving.Outcome.{Outcome as Answer}

@@ -1,8 +1,7 @@
-use Rattle.std.proofs.Common.{◌≡◌, sym, ap, ◌∙◌, subst, ◌<◌, List, length, set, [], ◌∷◌, ◌++◌, true≢false, true, false, arith}
+use Rattle.std.proofs.Common.{◌≡◌, refl, sym, ap, ◌∙◌, subst, ◌<◌, List, length, set, [], ◌∷◌, ◌++◌, true≢false, true, false, arith}
 use Rattle.std.proofs.lemmas.List.{length-set}
 use Rattle.cx_base.specs.Literals.{Literal, negate}
 use Rattle.cx_semantics.specs.Chain.{has_literal}
-use Rattle.cx_trail.specs.Sequence.{entry_at}
 use Rattle.conflict_learn.specs.Final.{IsFinal, IsDecidedAt, StandsBelow}
 use Rattle.conflict_learn.specs.Learning.{literal_at}
 use Rattle.conflict_learn.specs.Marks.{StandBetween}
@@ -23,6 +22,7 @@ loop-place-init g c =
       trail = c.requires.stands;
       held = λ x h. h;
       goes_on = g.met.S.Antecedents.rests c.args.source.now;
+      faults = refl;
       ready = c.requires.ready;
       reach = c.requires.reach;
       room = c.requires.room;
@@ -86,6 +86,7 @@ loop-place-preserved-in-Continue-branch-3 g c =
       trail = inv.trail;
       held = inv.held;
       goes_on = inv.goes_on;
+      faults = inv.faults;
       ready = inv.ready;
       reach = inv.reach;
       room = let room = inv.room in let below = c.in-Some.ensures.below in omega (arith, room, below);
@@ -121,6 +122,7 @@ loop-place-preserved g c =
       trail = c.in_ok-lowest.ensures.trail ∙ inv.trail;
       held = λ x h. c.in_ok-lowest.ensures.held x (inv.held x h);
       goes_on = g.met.S.Antecedents.goes_on_then _ _ _ _ inv.goes_on c.in_ok-lowest.ensures.goes_on;
+      faults = c.in_ok-lowest.ensures.faults ∙ inv.faults;
       ready = c.in_ok-lowest.ensures.ready;
       reach = let e = c.in_ok-lowest.ensures.reach in let was = inv.reach in omega (arith, e, was);
       room = let room = inv.room in let below = c.in-Some.ensures.below in let one = c.in_ok-lowest.ensures.room in omega (arith, room, below, one);

@@ -13,6 +13,7 @@ invariant-loop-place g l = record {
   trail : g.S.Antecedents.trail l.source ≡ l.trail;
   held : AreHeld (g.S.Antecedents.holds l.fn.source) (g.S.Antecedents.holds l.source);
   goes_on : g.S.Antecedents.goes_on l.fn.source None l.source;
+  faults : g.S.Antecedents.faults l.source ≡ g.S.Antecedents.faults l.fn.source;
   ready : g.S.Antecedents.ready l.source;
   reach : l.below ≤ g.S.Antecedents.reach l.source;
   room : l.from ≤ g.S.Antecedents.room l.source;

@@ -2,8 +2,7 @@ use Rattle.std.proofs.Common.{◌≡◌, Bool, false, sym, subst, rules}
 use Rattle.cx_desk.specs.Outside.{Outside}
 use Rattle.proof_text.specs.Told.{fault_of}
 use Rattle.log_text.specs.Told.{events_told, Goes}
-use Rattle.conflict_learn.specs.Faults.{fault_in}
-use Rattle.cdcl_search.specs.Logs.{CountsAs}
+use Rattle.conflict_learn.specs.Faults.{CountsAs, fault_in}
 use Rattle.cdcl_core.specs.Results.{IsFresh}
 use Rattle.solve_cli.specs.Seen.{seen}
 use Rattle.solve_cli.specs.Solving.{SearchesOn}

@@ -16,7 +16,7 @@ returns-in_err-hinted g c =
     let e = c.in_err-hinted.ensures in
     let fault = err_from_is_err_and c.from_residual.result c.from_residual.ensures.1 in
     rw (fault.1, fault.2)
-    (record { trail = refl; held = λ clause h. e.grows clause h; clause = tt; implied = tt; ready = tt; reach = refl; room = tt; goes_on = (record { state = refl; engine = refl; log = refl; rows = refl; below = refl }, e.stands_on.log) })
+    (record { trail = refl; held = λ clause h. e.grows clause h; clause = tt; implied = tt; ready = tt; reach = refl; room = tt; faults = e.stands_on.log.counts; goes_on = (record { state = refl; engine = refl; log = refl; rows = refl; below = refl }, e.stands_on.log) })
 
 pub returns : goal.returns
 returns g c =
@@ -29,5 +29,6 @@ returns g c =
       ready = (e.stands_on.stands, subst (λ (f : Problem). AreApart f.constraints c.args.self.now.state.now.trail c.args.self.now.below) (sym e.stands_on.log.formula) c.requires.ready.1);
       reach = refl;
       room = omega (arith, e.one, ap (λ f. f.variables) e.stands_on.log.formula);
+      faults = e.stands_on.log.counts;
       goes_on = (record { state = refl; engine = refl; log = refl; rows = refl; below = refl }, e.stands_on.log);
     }
