@@ -3,9 +3,10 @@
 
 usage: bench/fuzz.py [COUNT [SEED [WORKERS]]]     (1,000 formulas, seed 1, as many workers as processors)
 
-A formula has up to 14 variables, clauses and parities with repeated and opposite literals now and then, and empty ones. `solve` must
-say 10 exactly where some values meet it, 20 exactly where none do, and UNKNOWN only behind as many marks of conflicts in the log as
-its budget has. Values are judged by `model` and by the truth table, and again with one of them turned. A log of a refutation is
+A formula has up to 14 variables, clauses and parities with repeated and opposite literals now and then, and empty ones, and often
+assumption constraints. `solve` must say 10 exactly where some values meet it, 20 exactly where none do, and UNKNOWN only after as many
+marks of conflicts in the log as its budget has. The literals of `c failed` must be assumed ones that no values meet together with the
+clauses and the parities. Values are judged by `model` and by the truth table, and again with one of them turned. A log of a refutation is
 elaborated and its proof checked; the proof is then held against another formula and with one number changed: `check` may verify it
 only where no values meet the formula. What differs is printed with the number of its formula, and the exit status is 1.
 """
@@ -19,38 +20,48 @@ from concurrent.futures import ProcessPoolExecutor
 PROGRAM = os.path.join(os.path.dirname(os.path.abspath(__file__)), "..", "crates", "cxsat", "out", "cxsat")
 
 
+# What a formula writes before the literals of a constraint.
+CLAUSE, PARITY, ASSUMED = "", "x", "a "
+
+
 class Wrong(Exception):
     """The program said what it must not."""
 
 
 def formula(rng):
-    """A number of variables and constraints: whether each is a parity, and its literals."""
+    """A number of variables and constraints: the kind of each, as a formula writes it, and its literals."""
     count = rng.choice((1, 2, 3, 5, 8, 10, 12, 14))
     hardness = rng.uniform(0.2, 1.3)
     clauses = int(count * 4.3 * hardness * rng.random())
     parities = int(count * hardness * rng.random()) if rng.random() < 0.8 else 0
     whole = []
-    for parity in [False] * clauses + [True] * parities:
+    for kind in [CLAUSE] * clauses + [PARITY] * parities:
         size = rng.choice((2, 3, 3, 3, 3, 4, 5)) if rng.random() < 0.97 else rng.choice((0, 1, 1, 1, 6))
         if rng.random() < 0.1:
             names = [rng.randint(1, count) for _ in range(size)]
         else:
             names = rng.sample(range(1, count + 1), min(size, count))
-        whole.append((parity, [name if rng.random() < 0.5 else -name for name in names]))
+        whole.append((kind, [name if rng.random() < 0.5 else -name for name in names]))
     if rng.random() < 0.3:
         hidden = rng.sample(range(1, count + 1), min(count, rng.randint(2, 4)))
         right = rng.random() < 0.5
         for signs in range(1 << len(hidden)):
             if (bin(signs).count("1") % 2 == 1) != right:
-                whole.append((False, [-name if signs >> k & 1 else name for k, name in enumerate(hidden)]))
+                whole.append((CLAUSE, [-name if signs >> k & 1 else name for k, name in enumerate(hidden)]))
+    if rng.random() < 0.5:
+        for _ in range(rng.choice((1, 1, 1, 2, 3))):
+            names = rng.choices(range(1, count + 1), k=rng.choice((0, 1, 2, 3, 5)))
+            # Of one variable mostly one sign is assumed, so that few assumptions clash.
+            turned = rng.random() < 0.1
+            whole.append((ASSUMED, [name if (name * 7 + count) % 3 and not (turned and rng.random() < 0.5) else -name for name in names]))
     rng.shuffle(whole)
     return count, whole
 
 
 def text(count, whole):
     lines = [f"p cnf {count} {len(whole)}"]
-    for parity, literals in whole:
-        lines.append(("x" if parity else "") + " ".join(map(str, literals + [0])))
+    for kind, literals in whole:
+        lines.append(kind + " ".join(map(str, literals + [0])))
     return "\n".join(lines) + "\n"
 
 
@@ -72,11 +83,11 @@ def models(count, whole):
     """The set of the assignments that meet the formula, as bits."""
     full, true = tables(count)
     left = full
-    for parity, literals in whole:
-        sides = [true[abs(k)] if k > 0 else full ^ true[abs(k)] for k in literals]
-        met = 0
-        for side in sides:
-            met = met ^ side if parity else met | side
+    for kind, literals in whole:
+        met = full if kind == ASSUMED else 0
+        for k in literals:
+            side = true[abs(k)] if k > 0 else full ^ true[abs(k)]
+            met = met ^ side if kind == PARITY else met & side if kind == ASSUMED else met | side
         left &= met
     return left
 
@@ -113,6 +124,36 @@ def judge_values(rng, folder, count, left, answer):
             file.write("s SATISFIABLE\nv " + " ".join(map(str, turned + [0])) + "\n")
         status, _, _ = run("model", f"{folder}/f", f"{folder}/turned")
         want((status == 0) == bool(left >> number_of(turned) & 1), f"model of turned values: {status}")
+
+
+def last_clause(log):
+    """The literals of the last step of a log."""
+    words = [line.split() for line in log.splitlines() if not line.startswith("c")][-1]
+    if words[0] not in ("a", "i") or words[1] == "x":
+        raise Wrong("the last step of a refutation's log puts no clause")
+    return [int(k) for k in words[2 : words.index("0")]]
+
+
+def judge_failed(count, whole, out, log):
+    """What is printed of a refutation: with an assumption constraint also which assumed literals fail."""
+    lines = out.splitlines()
+    assumed = [k for kind, literals in whole if kind == ASSUMED for k in literals]
+    if all(kind != ASSUMED for kind, _ in whole):
+        want(lines == ["s UNSATISFIABLE"], f"a refutation's lines: {out!r}")
+        return
+    want(len(lines) == 2 and lines[0] == "s UNSATISFIABLE" and lines[1].startswith("c failed "), f"a refutation's lines: {out!r}")
+    failed = [int(k) for k in lines[1].split()[2:]]
+    want(failed[-1] == 0 and 0 not in failed[:-1], f"the line of literals that fail: {out!r}")
+    failed.pop()
+    want(set(failed) <= set(assumed), "a literal fails that is not assumed")
+    want(failed == sorted(set(failed), key=lambda k: (abs(k), k < 0)), "literals that fail are not in order")
+    both = sorted(k for k in set(assumed) if k > 0 and -k in assumed)
+    if both:
+        want(failed == [both[0], -both[0]], "another clash than the least")
+    else:
+        want({-k for k in failed} == set(last_clause(log)), "literals that fail are not those of the log's last step")
+    rest = [(kind, literals) for kind, literals in whole if kind != ASSUMED]
+    want(models(count, rest + [(ASSUMED, failed)]) == 0, "values meet the literals that fail")
 
 
 def judge_refutation(rng, folder, earlier):
@@ -162,10 +203,11 @@ def one(number, folder, earlier):
         judge_values(rng, folder, count, left, out)
     elif status == 20:
         want(left == 0, "20 where values meet the formula")
+        judge_failed(count, whole, out, log)
         judge_refutation(rng, folder, earlier)
     else:
         want((status, out) == (0, f"c conflicts {budget}\ns UNKNOWN\n"), f"solve: {status} {out!r} {err!r}")
-        want(marks == budget, f"UNKNOWN behind {marks} marks of {budget}")
+        want(marks == budget, f"UNKNOWN after {marks} marks of {budget}")
     want(marks <= budget, f"{marks} conflicts of {budget}")
     judge_foreign_proof(rng, folder, left, earlier)
     return status
