@@ -3,3 +3,5 @@ pub mod WordLaws
 pub mod BodyReading
 pub mod TextReading
 pub mod SlotFormulaLaws
+pub mod FormulaPrinting
+pub mod Puts

@@ -8,3 +8,4 @@ pub mod PieceReading
 pub mod PieceSteps
 pub mod FromSlot
 pub mod SlotFormula
+pub mod PrintedFormula
