@@ -1,0 +1,10 @@
+pub mod PieceLaws
+pub mod ChainLaws
+pub mod SumLaws
+pub mod AgreeLaws
+pub mod ExtendingLaws
+pub mod OddLaws
+pub mod RisingLaws
+pub mod BitLaws
+pub mod PushingLaws
+pub mod BlastingLaws
