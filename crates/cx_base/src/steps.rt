@@ -1,4 +1,5 @@
 //! The steps of proofs and logs.
+use crate::id_moves::MoveList;
 use crate::lists::{IdList, IntList};
 
 /// A step of a proof. Literals and hints are as the text has them.
@@ -39,6 +40,10 @@ pub enum LogStep {
     DeleteParity(u64, IntList),
     Final(u64, IntList),
     FinalParity(u64, IntList),
+    /// Clauses come under other ids, all at once.
+    MoveClauses(MoveList),
+    /// So do parities.
+    MoveParities(MoveList),
 }
 
 /// A log is a list of steps and marks; the mark of conflict k stands for a comment line.

@@ -1,10 +1,11 @@
 -- A grammar's steps by a list of forms: whether words begin a step, and which step they are.
 use Rattle.std.proofs.Common.{◌≡◌, ◌≢◌, refl, sym, ap, ◌∙◌, subst, ℕ, zero, suc, ℤ, Bool, true, false, cond, not, ◌&&◌, ◌||◌, eqb, eqb-true, eq-eqb, List, [], ◌∷◌, ◌++◌, map, flat_map, true≢false, ◌⊎◌, inl, inr}
 use Rattle.std.specs.List.{AllByRecursion, list_all}
+use Rattle.cx_base.specs.declared.id_moves.IdMove.{IdMove}
 use Rattle.std.proofs.lemmas.Bool.{and_parts, or_cases, not-true}
 use Rattle.cx_texts.specs.Words.{Word, number, letter, conflict, other}
-use Rattle.cx_texts.specs.Grammar.{Field, mark, conflict_line, id, integer, end, ids, integers, spelled, IsProper, Grammar, IsStep, Begins}
-use Rattle.cx_texts.proofs.Shapes.{Kind, a_mark, a_conflict, an_id, an_integer, an_end, some_ids, some_integers, kind, Move, closes, stays, refuses, move, Parsed, whole, partial, bad, onward, parse, with_field, push, Whole, Claim, parse_sound, parse_spelled, is_bad, bad_prefix}
+use Rattle.cx_texts.specs.Grammar.{Field, mark, conflict_line, id, integer, end, ids, integers, pairs, spelled, IsProper, Grammar, IsStep, Begins}
+use Rattle.cx_texts.proofs.Shapes.{Kind, a_mark, a_conflict, an_id, an_integer, an_end, some_ids, some_integers, some_pairs, kind, Move, closes, stays, opens, refuses, move, Parsed, whole, partial, bad, onward, parse, with_field, push, pair, Whole, Claim, parse_sound, parse_spelled, is_bad, bad_prefix}
 
 -- ---- values of kinds
 
@@ -16,6 +17,7 @@ Value an_integer = ℤ
 Value an_end = Unit {0}
 Value some_ids = List ℕ
 Value some_integers = List ℤ
+Value some_pairs = List IdMove
 
 abbrev pub field_of : (k : Kind) → Value k → Field
 field_of (a_mark c) v = mark c
@@ -25,6 +27,7 @@ field_of an_integer v = integer v
 field_of an_end v = end
 field_of some_ids v = ids v
 field_of some_integers v = integers v
+field_of some_pairs v = pairs v
 
 abbrev pub Values : List Kind → Type 0
 Values [] = Unit {0}
@@ -42,6 +45,7 @@ value_of (integer z) = (z, refl)
 value_of end = (tt, refl)
 value_of (ids ns) = (ns, refl)
 value_of (integers zs) = (zs, refl)
+value_of (pairs ms) = (ms, refl)
 
 values_of : (fs : List Field) → (v : Values (map kind fs)) × (fields_of (map kind fs) v ≡ fs)
 values_of [] = (tt, refl)
@@ -73,7 +77,8 @@ code an_integer = 2
 code an_end = 3
 code some_ids = 4
 code some_integers = 5
-code (a_mark c) = suc (suc (suc (suc (suc (suc c)))))
+code some_pairs = 6
+code (a_mark c) = suc (suc (suc (suc (suc (suc (suc c))))))
 
 abbrev decoded : ℕ → Kind
 decoded zero = a_conflict
@@ -82,7 +87,8 @@ decoded (suc (suc zero)) = an_integer
 decoded (suc (suc (suc zero))) = an_end
 decoded (suc (suc (suc (suc zero)))) = some_ids
 decoded (suc (suc (suc (suc (suc zero))))) = some_integers
-decoded (suc (suc (suc (suc (suc (suc c)))))) = a_mark c
+decoded (suc (suc (suc (suc (suc (suc zero)))))) = some_pairs
+decoded (suc (suc (suc (suc (suc (suc (suc c))))))) = a_mark c
 
 decoded-code : (k : Kind) → decoded (code k) ≡ k
 decoded-code a_conflict = refl
@@ -91,6 +97,7 @@ decoded-code an_integer = refl
 decoded-code an_end = refl
 decoded-code some_ids = refl
 decoded-code some_integers = refl
+decoded-code some_pairs = refl
 decoded-code (a_mark c) = refl
 
 abbrev pub same_kind : Kind → Kind → Bool
@@ -106,6 +113,7 @@ class an_integer = 1
 class an_end = 1
 class some_ids = 1
 class some_integers = 1
+class some_pairs = 1
 class (a_mark c) = suc (suc c)
 
 abbrev class_of : Word → ℕ
@@ -117,6 +125,7 @@ class_of other = 0
 abbrev is_refusal : Move → Bool
 is_refusal (closes f) = false
 is_refusal (stays z) = false
+is_refusal (opens n) = false
 is_refusal refuses = true
 
 taken_mark : (c e : ℕ) (b : Bool) → eqb c e ≡ b → is_refusal (cond b (closes (mark c)) refuses) ≡ false → suc (suc e) ≡ suc (suc c)
@@ -152,6 +161,10 @@ taken some_integers (number z) r = refl
 taken some_integers (letter e) r = absurd (true≢false r)
 taken some_integers (conflict k) r = absurd (true≢false r)
 taken some_integers other r = absurd (true≢false r)
+taken some_pairs (number z) r = refl
+taken some_pairs (letter e) r = absurd (true≢false r)
+taken some_pairs (conflict k) r = absurd (true≢false r)
+taken some_pairs other r = absurd (true≢false r)
 
 -- ---- two forms that no words spell at once
 
@@ -183,16 +196,24 @@ is_whole-push z (whole (f ∷ fs)) = refl
 is_whole-push z partial = refl
 is_whole-push z bad = refl
 
-not_refused : (k : Kind) (ks : List Kind) (ws : List Word) (m : Move) → is_whole (onward (parse ks ws) (parse (k ∷ ks) ws) m) ≡ true → is_refusal m ≡ false
+is_whole-pair : (n : ℕ) (p : Parsed) → is_whole (pair n p) ≡ is_whole p
+is_whole-pair n (whole fs) = refl
+is_whole-pair n partial = refl
+is_whole-pair n bad = refl
+
+not_refused : (k : Kind) (ks : List Kind) (ws : List Word) (m : Move) → is_whole (onward (parse ks ws) (parse (k ∷ ks) ws) (parse (an_id ∷ k ∷ ks) ws) m) ≡ true → is_refusal m ≡ false
 not_refused k ks ws (closes f) h = refl
 not_refused k ks ws (stays z) h = refl
+not_refused k ks ws (opens n) h = refl
 not_refused k ks ws refuses h = absurd (true≢false (sym h))
 
 both_moved : (k : Kind) (js ks : List Kind) (ws : List Word) → (is_whole (parse js ws) ≡ true → is_whole (parse ks ws) ≡ true → ⊥) → (is_whole (parse (k ∷ js) ws) ≡ true → is_whole (parse (k ∷ ks) ws) ≡ true → ⊥)
-    → (m : Move) → is_whole (onward (parse js ws) (parse (k ∷ js) ws) m) ≡ true → is_whole (onward (parse ks ws) (parse (k ∷ ks) ws) m) ≡ true → ⊥
-both_moved k js ks ws here stay (closes f) a b = here (sym (is_whole-with_field f _) ∙ a) (sym (is_whole-with_field f _) ∙ b)
-both_moved k js ks ws here stay (stays z) a b = stay (sym (is_whole-push z _) ∙ a) (sym (is_whole-push z _) ∙ b)
-both_moved k js ks ws here stay refuses a b = true≢false (sym a)
+    → (is_whole (parse (an_id ∷ k ∷ js) ws) ≡ true → is_whole (parse (an_id ∷ k ∷ ks) ws) ≡ true → ⊥)
+    → (m : Move) → is_whole (onward (parse js ws) (parse (k ∷ js) ws) (parse (an_id ∷ k ∷ js) ws) m) ≡ true → is_whole (onward (parse ks ws) (parse (k ∷ ks) ws) (parse (an_id ∷ k ∷ ks) ws) m) ≡ true → ⊥
+both_moved k js ks ws here stay next (closes f) a b = here (sym (is_whole-with_field f _) ∙ a) (sym (is_whole-with_field f _) ∙ b)
+both_moved k js ks ws here stay next (stays z) a b = stay (sym (is_whole-push z _) ∙ a) (sym (is_whole-push z _) ∙ b)
+both_moved k js ks ws here stay next (opens n) a b = next (sym (is_whole-pair n _) ∙ a) (sym (is_whole-pair n _) ∙ b)
+both_moved k js ks ws here stay next refuses a b = true≢false (sym a)
 
 either_apart : (a b c : Bool) → ((a && b) || c) ≡ true → ((a ≡ true) × (b ≡ true)) ⊎ (c ≡ true)
 either_apart true true c h = inl (refl, refl)
@@ -202,13 +223,15 @@ either_apart false b c h = inr h
 apart_step : (j k : Kind) (js ks : List Kind) (w : Word) (ws : List Word)
     → (are_apart js ks ≡ true → is_whole (parse js ws) ≡ true → is_whole (parse ks ws) ≡ true → ⊥)
     → (is_whole (parse (j ∷ js) ws) ≡ true → is_whole (parse (k ∷ ks) ws) ≡ true → ⊥)
+    → (is_whole (parse (an_id ∷ j ∷ js) ws) ≡ true → is_whole (parse (an_id ∷ k ∷ ks) ws) ≡ true → ⊥)
     → is_whole (parse (j ∷ js) (w ∷ ws)) ≡ true → is_whole (parse (k ∷ ks) (w ∷ ws)) ≡ true
     → ((same_kind j k ≡ true) × (are_apart js ks ≡ true)) ⊎ (not (eqb (class j) (class k)) ≡ true) → ⊥
-apart_step j k js ks w ws here stay a b (inl p) =
+apart_step j k js ks w ws here stay next a b (inl p) =
     let e = is_same j k p.0 in
-    both_moved j js ks ws (here p.1) (λ x y. stay x (subst (λ i. is_whole (parse (i ∷ ks) ws) ≡ true) e y)) (move j w) a
+    both_moved j js ks ws (here p.1) (λ x y. stay x (subst (λ i. is_whole (parse (i ∷ ks) ws) ≡ true) e y))
+    (λ x y. next x (subst (λ i. is_whole (parse (an_id ∷ i ∷ ks) ws) ≡ true) e y)) (move j w) a
     (subst (λ i. is_whole (parse (i ∷ ks) (w ∷ ws)) ≡ true) (sym e) b)
-apart_step j k js ks w ws here stay a b (inr n) =
+apart_step j k js ks w ws here stay next a b (inr n) =
     let e : class j ≡ class k = sym (taken j w (not_refused j js ws (move j w) a)) ∙ taken k w (not_refused k ks ws (move k w) b) in
     true≢false (sym (eq-eqb (class j) (class k) e) ∙ not-true _ n)
 
@@ -220,7 +243,7 @@ not_both (j ∷ js) [] [] h a b = true≢false (sym a)
 not_both (j ∷ js) [] (w ∷ ws) h a b = true≢false (sym b)
 not_both (j ∷ js) (k ∷ ks) [] h a b = true≢false (sym a)
 not_both (j ∷ js) (k ∷ ks) (w ∷ ws) h a b =
-    apart_step j k js ks w ws (not_both js ks ws) (not_both (j ∷ js) (k ∷ ks) ws h) a b (either_apart (same_kind j k) (are_apart js ks) _ h)
+    apart_step j k js ks w ws (not_both js ks ws) (not_both (j ∷ js) (k ∷ ks) ws h) (not_both (an_id ∷ j ∷ js) (an_id ∷ k ∷ ks) ws (ap (λ x. x || false) h)) a b (either_apart (same_kind j k) (are_apart js ks) _ h)
 
 same_lists : (js ks : List Kind) → are_same js ks ≡ true → js ≡ ks
 same_lists [] [] h = refl

@@ -1,6 +1,7 @@
 -- The forms of the grammars of formulas, proofs and logs.
 use Rattle.std.proofs.Common.{◌≡◌, ◌≢◌, refl, sym, ap, ◌∙◌, ℕ, zero, suc, ℤ, pos, negsuc, neg_ℤ, Bool, true, false, cond, eqb, List, [], ◌∷◌, arith, inl, inr}
 use Rattle.std.specs.List.{AllByRecursion}
+use Rattle.cx_base.specs.declared.id_moves.IdMove.{IdMove}
 use Rattle.cx_base.specs.Literals.{Literal}
 use Rattle.cx_base.specs.declared.constraint.Constraint.{Constraint}
 use Rattle.cx_base.specs.declared.constraint.Constraint.TheVariants as constraint
@@ -12,11 +13,11 @@ use Rattle.cx_base.specs.declared.steps.LogEvent.{LogEvent}
 use Rattle.cx_base.specs.declared.steps.LogEvent.TheVariants as events
 use Rattle.cx_base.specs.Integers.{integer_of, integers_of, literal, literals}
 use Rattle.cx_texts.specs.Words.{number, letter, conflict as conflict_word}
-use Rattle.cx_texts.specs.Grammar.{Field, mark, conflict_line, id, integer, end, ids, integers, IsProper, Grammar}
+use Rattle.cx_texts.specs.Grammar.{Field, mark, conflict_line, id, integer, end, ids, integers, pairs, IsProper, Grammar}
 use Rattle.cx_texts.specs.FormulaText.{constraints, constraint_fields}
 use Rattle.cx_texts.specs.ProofText.{proof_steps, proof_fields}
 use Rattle.cx_texts.specs.LogText.{log_steps, log_fields, log_events, event_fields}
-use Rattle.cx_texts.proofs.Shapes.{a_mark, a_conflict, an_id, an_integer, an_end, some_ids, some_integers}
+use Rattle.cx_texts.proofs.Shapes.{a_mark, a_conflict, an_id, an_integer, an_end, some_ids, some_integers, some_pairs}
 use Rattle.cx_texts.proofs.Forms.{Form, Forms}
 
 -- ---- formulas
@@ -154,8 +155,14 @@ module _ {S : Type 0} (g : Grammar S) (of : LogStep → S) (same : (s : LogStep)
   unfoldable with_source : Form g
   with_source = record { kinds = a_mark 105 ∷ an_id ∷ some_integers ∷ a_mark 108 ∷ an_id ∷ an_end ∷ []; make = λ v. of (log.ClauseOfParity v.1.0 v.1.1.0 v.1.1.1.1.0); is = λ v. same _ }
 
+  unfoldable clause_moves : Form g
+  clause_moves = record { kinds = a_mark 114 ∷ some_pairs ∷ []; make = λ v. of (log.MoveClauses v.1.0); is = λ v. same _ }
+
+  unfoldable parity_moves : Form g
+  parity_moves = record { kinds = a_mark 114 ∷ a_mark 120 ∷ some_pairs ∷ []; make = λ v. of (log.MoveParities v.1.1.0); is = λ v. same _ }
+
   unfoldable forms_of_log : List (Form g)
-  unfolding plain of_parity with_sources with_hints with_source
+  unfolding plain of_parity with_sources with_hints with_source clause_moves parity_moves
   forms_of_log =
       plain 111 log.Original (λ n lits. refl)
       ∷ of_parity 111 log.OriginalParity (λ n lits. refl)
@@ -168,6 +175,8 @@ module _ {S : Type 0} (g : Grammar S) (of : LogStep → S) (same : (s : LogStep)
       ∷ of_parity 100 log.DeleteParity (λ n lits. refl)
       ∷ plain 102 log.Final (λ n lits. refl)
       ∷ of_parity 102 log.FinalParity (λ n lits. refl)
+      ∷ clause_moves
+      ∷ parity_moves
       ∷ []
 
 plain_from : ℕ → ℕ → List ℤ → LogStep
@@ -185,6 +194,8 @@ log_from (mark c ∷ mark d ∷ id n ∷ integers lits ∷ []) = parity_from c n
 log_from (mark c ∷ id n ∷ integers lits ∷ mark e ∷ integers hints ∷ []) = log.ClauseWithHints n lits hints
 log_from (mark c ∷ mark d ∷ id n ∷ integers lits ∷ mark e ∷ ids ns ∷ []) = sources_from c n lits ns
 log_from (mark c ∷ id n ∷ integers lits ∷ mark e ∷ id m ∷ end ∷ []) = log.ClauseOfParity n lits m
+log_from (mark c ∷ pairs ms ∷ []) = log.MoveClauses ms
+log_from (mark c ∷ mark d ∷ pairs ms ∷ []) = log.MoveParities ms
 log_from _ = log.Final 0 []
 
 pub from_log : (s : LogStep) → log_from (log_fields s) ≡ s
@@ -200,6 +211,8 @@ from_log (log.Delete n lits) = refl
 from_log (log.DeleteParity n lits) = refl
 from_log (log.Final n lits) = refl
 from_log (log.FinalParity n lits) = refl
+from_log (log.MoveClauses ms) = refl
+from_log (log.MoveParities ms) = refl
 
 pub some_log_field : (s : LogStep) → log_fields s ≢ []
 some_log_field (log.Original n lits) e = cc
@@ -213,6 +226,8 @@ some_log_field (log.Delete n lits) e = cc
 some_log_field (log.DeleteParity n lits) e = cc
 some_log_field (log.Final n lits) e = cc
 some_log_field (log.FinalParity n lits) e = cc
+some_log_field (log.MoveClauses ms) e = cc
+some_log_field (log.MoveParities ms) e = cc
 
 unfoldable pub log_forms : Forms log_steps
 unfolding forms_of_log
@@ -230,6 +245,8 @@ log_forms = record {
     | log.DeleteParity n lits ↦ inr (inr (inr (inr (inr (inr (inr (inr (inl refl))))))))
     | log.Final n lits ↦ inr (inr (inr (inr (inr (inr (inr (inr (inr (inl refl)))))))))
     | log.FinalParity n lits ↦ inr (inr (inr (inr (inr (inr (inr (inr (inr (inr (inl refl))))))))))
+    | log.MoveClauses ms ↦ inr (inr (inr (inr (inr (inr (inr (inr (inr (inr (inr (inl refl)))))))))))
+    | log.MoveParities ms ↦ inr (inr (inr (inr (inr (inr (inr (inr (inr (inr (inr (inr (inl refl))))))))))))
   ];
   apart = refl;
   one_step = λ s t h k e. sym (from_log s) ∙ ap log_from e ∙ from_log t;
@@ -259,6 +276,8 @@ from_event (events.Step (log.Delete n lits)) = ap events.Step (from_log (log.Del
 from_event (events.Step (log.DeleteParity n lits)) = ap events.Step (from_log (log.DeleteParity n lits))
 from_event (events.Step (log.Final n lits)) = ap events.Step (from_log (log.Final n lits))
 from_event (events.Step (log.FinalParity n lits)) = ap events.Step (from_log (log.FinalParity n lits))
+from_event (events.Step (log.MoveClauses ms)) = ap events.Step (from_log (log.MoveClauses ms))
+from_event (events.Step (log.MoveParities ms)) = ap events.Step (from_log (log.MoveParities ms))
 
 unfoldable pub event_forms : Forms log_events
 unfolding forms_of_log conflict_form
@@ -277,6 +296,8 @@ event_forms = record {
     | events.Step (log.DeleteParity n lits) ↦ inr (inr (inr (inr (inr (inr (inr (inr (inr (inl refl)))))))))
     | events.Step (log.Final n lits) ↦ inr (inr (inr (inr (inr (inr (inr (inr (inr (inr (inl refl))))))))))
     | events.Step (log.FinalParity n lits) ↦ inr (inr (inr (inr (inr (inr (inr (inr (inr (inr (inr (inl refl)))))))))))
+    | events.Step (log.MoveClauses ms) ↦ inr (inr (inr (inr (inr (inr (inr (inr (inr (inr (inr (inr (inl refl))))))))))))
+    | events.Step (log.MoveParities ms) ↦ inr (inr (inr (inr (inr (inr (inr (inr (inr (inr (inr (inr (inr (inl refl)))))))))))))
   ];
   apart = refl;
   one_step = λ s t h k e. sym (from_event s) ∙ ap event_from e ∙ from_event t;

@@ -8,6 +8,7 @@ pub mod Grammars
 pub mod LaterPlaces
 pub mod Lines
 pub mod LogSteps
+pub mod MoveTexts
 pub mod PieceLaws
 pub mod PlaceLaws
 pub mod PrintedLogs

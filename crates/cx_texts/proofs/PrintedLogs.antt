@@ -40,7 +40,8 @@ said_first m w ws (inl e) = subst (λ x. event_words_of_line (enumerate_from m (
 said_first m w ws (inr (inl e)) = subst (λ x. event_words_of_line (enumerate_from m (joined (x ∷ ws))) ≡ placed_words (tokens_of_line (enumerate_from m (joined (x ∷ ws))))) (sym e) (said_letters m 97 ws refl refl)
 said_first m w ws (inr (inr (inl e))) = subst (λ x. event_words_of_line (enumerate_from m (joined (x ∷ ws))) ≡ placed_words (tokens_of_line (enumerate_from m (joined (x ∷ ws))))) (sym e) (said_letters m 105 ws refl refl)
 said_first m w ws (inr (inr (inr (inl e)))) = subst (λ x. event_words_of_line (enumerate_from m (joined (x ∷ ws))) ≡ placed_words (tokens_of_line (enumerate_from m (joined (x ∷ ws))))) (sym e) (said_letters m 100 ws refl refl)
-said_first m w ws (inr (inr (inr (inr e)))) = subst (λ x. event_words_of_line (enumerate_from m (joined (x ∷ ws))) ≡ placed_words (tokens_of_line (enumerate_from m (joined (x ∷ ws))))) (sym e) (said_letters m 102 ws refl refl)
+said_first m w ws (inr (inr (inr (inr (inl e))))) = subst (λ x. event_words_of_line (enumerate_from m (joined (x ∷ ws))) ≡ placed_words (tokens_of_line (enumerate_from m (joined (x ∷ ws))))) (sym e) (said_letters m 102 ws refl refl)
+said_first m w ws (inr (inr (inr (inr (inr e))))) = subst (λ x. event_words_of_line (enumerate_from m (joined (x ∷ ws))) ≡ placed_words (tokens_of_line (enumerate_from m (joined (x ∷ ws))))) (sym e) (said_letters m 114 ws refl refl)
 
 step_said : (m : ℕ) (s : LogStep) → event_words_of_line (enumerate_from m (joined (spelling log_steps s))) ≡ placed_words (tokens_of_line (enumerate_from m (joined (spelling log_steps s))))
 step_said m s =

@@ -2,7 +2,7 @@
 use Rattle.std.proofs.Common.{◌≡◌, ◌≢◌, refl, sym, ap, ◌∙◌, subst, ℕ, zero, suc, ◌<◌, ◌≤◌, nat_abs, List, [], ◌∷◌, ◌++◌, flat_map, length, arith, append-nil, append_assoc, length-append, ◌⊎◌, inl, inr, le_refl}
 use Rattle.std.proofs.lemmas.List.{map-append}
 use Rattle.cx_texts.specs.Words.{Word, number, letter, conflict, other, Placed, words, IsWithin}
-use Rattle.cx_texts.specs.Grammar.{Field, mark, conflict_line, id, integer, end, ids, integers, spelled, Grammar, IsStep, Begins, IsUnfinished, Stops, AreInLimit, Spells, FirstBad, FirstBig, EndsAs, Reading}
+use Rattle.cx_texts.specs.Grammar.{Field, mark, conflict_line, id, integer, end, ids, integers, pairs, spelled, Grammar, IsStep, Begins, IsUnfinished, Stops, AreInLimit, Spells, FirstBad, FirstBig, EndsAs, Reading}
 use Rattle.cx_base.specs.Endings.{Ending, finished, bad_token, too_big, unterminated}
 use Rattle.cx_base.specs.ExactlyOne.{ExactlyOne}
 use Rattle.cx_base.proofs.Fronts.{Compared, compared}
@@ -31,6 +31,8 @@ spelled_some (ids []) ws e = cc
 spelled_some (ids (n ∷ ns)) ws e = cc
 spelled_some (integers []) ws e = cc
 spelled_some (integers (z ∷ zs)) ws e = cc
+spelled_some (pairs []) ws e = cc
+spelled_some (pairs (m ∷ ms)) ws e = cc
 
 some_spelled : (fs : List Field) → fs ≢ [] → flat_map spelled fs ≢ []
 some_spelled [] h e = h refl

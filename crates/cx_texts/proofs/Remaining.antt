@@ -1,10 +1,11 @@
 -- What may follow words that begin a step: the state of a reader that takes one word at a time.
 use Rattle.std.proofs.Common.{◌≡◌, ◌≢◌, refl, sym, ap, ◌∙◌, ℕ, zero, suc, ◌<◌, ℤ, pos, negsuc, Bool, true, false, cond, eq-eqb, not, ◌&&◌, ◌||◌, List, [], ◌∷◌, ◌++◌, map, flat_map, arith}
 use Rattle.std.specs.List.{list_any, AllByRecursion}
+use Rattle.cx_base.specs.declared.id_moves.IdMove.{IdMove}
 use Rattle.std.proofs.lemmas.Grind.{flat_map-append}
 use Rattle.cx_texts.specs.Words.{Word, number}
-use Rattle.cx_texts.specs.Grammar.{Field, mark, conflict_line, id, integer, end, ids, integers, spelled, spelled_list, IsProper, Grammar, Begins}
-use Rattle.cx_texts.proofs.Shapes.{Kind, a_mark, some_ids, some_integers, kind, Move, closes, stays, refuses, move, onward, parse, is_bad, is_bad-with_field, is_bad-push}
+use Rattle.cx_texts.specs.Grammar.{Field, mark, conflict_line, id, integer, end, ids, integers, pairs, both_ids, spelled, spelled_list, IsProper, Grammar, Begins}
+use Rattle.cx_texts.proofs.Shapes.{Kind, a_mark, an_id, some_ids, some_integers, some_pairs, kind, Move, closes, stays, opens, refuses, move, onward, parse, is_bad, is_bad-with_field, is_bad-push, is_bad-pair}
 use Rattle.cx_texts.proofs.Forms.{Form, Forms}
 use Rattle.cx_texts.proofs.Evaluate.{no_begin, yes_begin}
 
@@ -12,6 +13,7 @@ use Rattle.cx_texts.proofs.Evaluate.{no_begin, yes_begin}
 abbrev pub behind : Kind → List Kind → Move → List (List Kind)
 behind k ks (closes f) = ks ∷ []
 behind k ks (stays z) = (k ∷ ks) ∷ []
+behind k ks (opens n) = (an_id ∷ k ∷ ks) ∷ []
 behind k ks refuses = []
 
 abbrev pub after_word : Word → List Kind → List (List Kind)
@@ -47,17 +49,18 @@ is_none-append : (a b : List (List Kind)) → is_none (a ++ b) ≡ (is_none a &&
 is_none-append [] b = refl
 is_none-append (r ∷ a) b = refl
 
-one_moved : (k : Kind) (ks : List Kind) (ws : List Word) → is_none (remaining (ks ∷ []) ws) ≡ is_bad (parse ks ws) → is_none (remaining ((k ∷ ks) ∷ []) ws) ≡ is_bad (parse (k ∷ ks) ws)
-    → (m : Move) → is_none (remaining (behind k ks m ++ []) ws) ≡ is_bad (onward (parse ks ws) (parse (k ∷ ks) ws) m)
-one_moved k ks ws here stay (closes f) = here ∙ sym (is_bad-with_field f _)
-one_moved k ks ws here stay (stays z) = stay ∙ sym (is_bad-push z _)
-one_moved k ks ws here stay refuses = ap is_none (remaining-none ws)
+one_moved : (k : Kind) (ks : List Kind) (ws : List Word) → is_none (remaining (ks ∷ []) ws) ≡ is_bad (parse ks ws) → is_none (remaining ((k ∷ ks) ∷ []) ws) ≡ is_bad (parse (k ∷ ks) ws) → is_none (remaining ((an_id ∷ k ∷ ks) ∷ []) ws) ≡ is_bad (parse (an_id ∷ k ∷ ks) ws)
+    → (m : Move) → is_none (remaining (behind k ks m ++ []) ws) ≡ is_bad (onward (parse ks ws) (parse (k ∷ ks) ws) (parse (an_id ∷ k ∷ ks) ws) m)
+one_moved k ks ws here stay next (closes f) = here ∙ sym (is_bad-with_field f _)
+one_moved k ks ws here stay next (stays z) = stay ∙ sym (is_bad-push z _)
+one_moved k ks ws here stay next (opens n) = next ∙ sym (is_bad-pair n _)
+one_moved k ks ws here stay next refuses = ap is_none (remaining-none ws)
 
 one_row : (ks : List Kind) (ws : List Word) → is_none (remaining (ks ∷ []) ws) ≡ is_bad (parse ks ws)
 one_row [] [] = refl
 one_row (k ∷ ks) [] = refl
 one_row [] (w ∷ ws) = ap is_none (remaining-none ws)
-one_row (k ∷ ks) (w ∷ ws) = one_moved k ks ws (one_row ks ws) (one_row (k ∷ ks) ws) (move k w)
+one_row (k ∷ ks) (w ∷ ws) = one_moved k ks ws (one_row ks ws) (one_row (k ∷ ks) ws) (one_row (an_id ∷ k ∷ ks) ws) (move k w)
 
 not_and : (a b : Bool) → not (a && b) ≡ (not a || not b)
 not_and true b = refl
@@ -84,6 +87,16 @@ module _ {S : Type 0} (g : Grammar S) where
 
 -- ---- behind fields
 
+-- a pair leaves its list open
+pair_passed : (a b : ℕ) (ks : List Kind) (ws : List Word) → 0 < a → 0 < b → remaining ((some_pairs ∷ ks) ∷ []) (number (pos a) ∷ number (pos b) ∷ ws) ≡ remaining ((some_pairs ∷ ks) ∷ []) ws
+pair_passed zero b ks ws p q = absurd (omega arith)
+pair_passed (suc a) zero ks ws p q = absurd (omega arith)
+pair_passed (suc a) (suc b) ks ws p q = refl
+
+pairs_passed : (ms : List IdMove) (ks : List Kind) (ws : List Word) → AllByRecursion (λ m. (0 < m.from) × (0 < m.to)) ms → remaining ((some_pairs ∷ ks) ∷ []) (spelled_list (flat_map both_ids ms) ++ ws) ≡ remaining (ks ∷ []) ws
+pairs_passed [] ks ws h = refl
+pairs_passed (m ∷ ms) ks ws h = pair_passed m.from m.to ks (spelled_list (flat_map both_ids ms) ++ ws) h.0.0 h.0.1 ∙ pairs_passed ms ks ws h.1
+
 passed : (f : Field) (ks : List Kind) (ws : List Word) → IsProper f → remaining ((kind f ∷ ks) ∷ []) (spelled f ++ ws) ≡ remaining (ks ∷ []) ws
 passed (mark c) ks ws h = ap (λ b. remaining (behind (a_mark c) ks (cond b (closes (mark c)) refuses) ++ []) ws) (eq-eqb c c refl)
 passed (conflict_line k) ks ws h = refl
@@ -100,6 +113,7 @@ passed (integers []) ks ws h = refl
 passed (integers (pos zero ∷ zs)) ks ws h = absurd (h.0 refl)
 passed (integers (pos (suc n) ∷ zs)) ks ws h = passed (integers zs) ks ws h.1
 passed (integers (negsuc n ∷ zs)) ks ws h = passed (integers zs) ks ws h.1
+passed (pairs ms) ks ws h = pairs_passed ms ks ws h
 
 -- behind the fields' spelling the kinds behind theirs may follow
 pub all_passed : (fs : List Field) (ks : List Kind) → AllByRecursion IsProper fs → remaining ((map kind fs ++ ks) ∷ []) (flat_map spelled fs) ≡ ks ∷ []
@@ -117,6 +131,11 @@ integers_stay [] ks h = refl
 integers_stay (pos zero ∷ zs) ks h = absurd (h.0 refl)
 integers_stay (pos (suc n) ∷ zs) ks h = integers_stay zs ks h.1
 integers_stay (negsuc n ∷ zs) ks h = integers_stay zs ks h.1
+
+-- so do pairs
+pub pairs_stay : (ms : List IdMove) (ks : List Kind) → AllByRecursion (λ m. (0 < m.from) × (0 < m.to)) ms → remaining ((some_pairs ∷ ks) ∷ []) (map number (flat_map both_ids ms)) ≡ (some_pairs ∷ ks) ∷ []
+pairs_stay [] ks h = refl
+pairs_stay (m ∷ ms) ks h = pair_passed m.from m.to ks (map number (flat_map both_ids ms)) h.0.0 h.0.1 ∙ pairs_stay ms ks h.1
 
 -- one list of integers where two lists of kinds begin with one
 pub both_passed : (zs : List ℤ) (js ks : List Kind) (ws : List Word) → AllByRecursion (λ z. z ≢ pos 0) zs

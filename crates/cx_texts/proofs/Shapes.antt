@@ -1,9 +1,10 @@
 -- Fields without their values, and what words do at a list of them.
-use Rattle.std.proofs.Common.{◌≡◌, ◌≢◌, refl, sym, ap, ◌∙◌, ℕ, zero, suc, ◌<◌, ℤ, pos, negsuc, nat_abs, Bool, true, false, cond, eqb, eqb-true, eq-eqb, List, [], ◌∷◌, ◌++◌, map, flat_map, arith, true≢false}
+use Rattle.std.proofs.Common.{◌≡◌, ◌≢◌, refl, sym, ap, ◌∙◌, subst, ℕ, zero, suc, ◌<◌, ℤ, pos, negsuc, nat_abs, Bool, true, false, cond, eqb, eqb-true, eq-eqb, List, [], ◌∷◌, ◌++◌, map, flat_map, arith, true≢false}
 use Rattle.std.specs.List.{AllByRecursion}
 use Rattle.std.specs.Bool.{⊤}
+use Rattle.cx_base.specs.declared.id_moves.IdMove.{IdMove}
 use Rattle.cx_texts.specs.Words.{Word, number, letter, conflict, other}
-use Rattle.cx_texts.specs.Grammar.{Field, mark, conflict_line, id, integer, end, ids, integers, spelled, spelled_list, IsProper}
+use Rattle.cx_texts.specs.Grammar.{Field, mark, conflict_line, id, integer, end, ids, integers, pairs, both_ids, spelled, spelled_list, IsProper}
 
 pub data Kind : Type 0 where
   a_mark : ℕ → Kind
@@ -13,6 +14,7 @@ pub data Kind : Type 0 where
   an_end : Kind
   some_ids : Kind
   some_integers : Kind
+  some_pairs : Kind
 
 abbrev pub kind : Field → Kind
 kind (mark c) = a_mark c
@@ -22,11 +24,13 @@ kind (integer z) = an_integer
 kind end = an_end
 kind (ids ns) = some_ids
 kind (integers zs) = some_integers
+kind (pairs ms) = some_pairs
 
--- a word ends the field, goes on with its list, or does not fit
+-- a word ends the field, goes on with its list, begins one more pair of it, or does not fit
 pub data Move : Type 0 where
   closes : Field → Move
   stays : ℤ → Move
+  opens : ℕ → Move
   refuses : Move
 
 abbrev pub at_mark : ℕ → Word → Move
@@ -62,6 +66,11 @@ at_integers (number (pos (suc n))) = stays (pos (suc n))
 at_integers (number (negsuc n)) = stays (negsuc n)
 at_integers _ = refuses
 
+abbrev pub at_pairs : Word → Move
+at_pairs (number (pos zero)) = closes (pairs [])
+at_pairs (number (pos (suc n))) = opens (suc n)
+at_pairs _ = refuses
+
 abbrev pub move : Kind → Word → Move
 move (a_mark c) w = at_mark c w
 move a_conflict w = at_conflict w
@@ -70,6 +79,7 @@ move an_integer w = at_integer w
 move an_end w = at_end w
 move some_ids w = at_ids w
 move some_integers w = at_integers w
+move some_pairs w = at_pairs w
 
 pub data Parsed : Type 0 where
   whole : List Field → Parsed
@@ -90,6 +100,7 @@ add z (conflict_line k) = conflict_line k
 add z (id n) = id n
 add z (integer y) = integer y
 add z end = end
+add z (pairs ms) = pairs ms
 
 abbrev pub push : ℤ → Parsed → Parsed
 push z (whole []) = whole []
@@ -97,17 +108,28 @@ push z (whole (f ∷ fs)) = whole (add z f ∷ fs)
 push z partial = partial
 push z bad = bad
 
--- behind a word: where it ends its field the rest is parsed behind that, and where it goes on with a list within it
-abbrev pub onward : Parsed → Parsed → Move → Parsed
-onward behind within (closes f) = with_field f behind
-onward behind within (stays z) = push z within
-onward behind within refuses = bad
+-- the list of pairs behind an id with the pair of both in front
+abbrev pub paired : ℕ → List Field → List Field
+paired n (id m ∷ pairs ms ∷ fs) = pairs (record { from = n; to = m } ∷ ms) ∷ fs
+paired n fs = fs
+
+abbrev pub pair : ℕ → Parsed → Parsed
+pair n (whole fs) = whole (paired n fs)
+pair n partial = partial
+pair n bad = bad
+
+-- behind a word: where it ends its field the rest is parsed behind that, where it goes on with a list within it, and where it begins a pair behind one more id
+abbrev pub onward : Parsed → Parsed → Parsed → Move → Parsed
+onward behind within second (closes f) = with_field f behind
+onward behind within second (stays z) = push z within
+onward behind within second (opens n) = pair n second
+onward behind within second refuses = bad
 
 abbrev pub parse : List Kind → List Word → Parsed
 parse [] [] = whole []
 parse [] (w ∷ ws) = bad
 parse (k ∷ ks) [] = partial
-parse (k ∷ ks) (w ∷ ws) = onward (parse ks ws) (parse (k ∷ ks) ws) (move k w)
+parse (k ∷ ks) (w ∷ ws) = onward (parse ks ws) (parse (k ∷ ks) ws) (parse (an_id ∷ k ∷ ks) ws) (move k w)
 
 -- ---- what is parsed is spelled so
 
@@ -124,6 +146,7 @@ Claim ks ws bad = ⊤
 abbrev Fits : Kind → Word → Move → Type 0
 Fits k w (closes f) = (kind f ≡ k) × IsProper f × (spelled f ≡ w ∷ [])
 Fits k w (stays z) = (f : Field) → kind f ≡ k → IsProper f → (kind (add z f) ≡ k) × IsProper (add z f) × (spelled (add z f) ≡ w ∷ spelled f)
+Fits k w (opens n) = (k ≡ some_pairs) × (0 < n) × (number (pos n) ≡ w)
 Fits k w refuses = ⊤
 
 mark_fits : (c e : ℕ) (b : Bool) → eqb c e ≡ b → Fits (a_mark c) (letter e) (cond b (closes (mark c)) refuses)
@@ -138,6 +161,7 @@ ids_fit n (id m) e p = cc
 ids_fit n (integer z) e p = cc
 ids_fit n end e p = cc
 ids_fit n (integers zs) e p = cc
+ids_fit n (pairs ms) e p = cc
 
 integers_fit : (z : ℤ) → z ≢ pos 0 → (f : Field) → kind f ≡ some_integers → IsProper f → (kind (add z f) ≡ some_integers) × IsProper (add z f) × (spelled (add z f) ≡ number z ∷ spelled f)
 integers_fit z n (integers zs) e p = (refl, (n, p), refl)
@@ -147,6 +171,7 @@ integers_fit z n (conflict_line k) e p = cc
 integers_fit z n (id m) e p = cc
 integers_fit z n (integer y) e p = cc
 integers_fit z n end e p = cc
+integers_fit z n (pairs ms) e p = cc
 
 pub pos_not_zero : (n : ℕ) → pos (suc n) ≢ pos 0
 pos_not_zero n e = let h : suc n ≡ 0 = ap nat_abs e in omega arith
@@ -193,6 +218,12 @@ move_fits some_integers (number (negsuc n)) = integers_fit (negsuc n) (neg_not_z
 move_fits some_integers (letter c) = tt
 move_fits some_integers (conflict k) = tt
 move_fits some_integers other = tt
+move_fits some_pairs (number (pos zero)) = (refl, tt, refl)
+move_fits some_pairs (number (pos (suc n))) = (refl, omega arith, refl)
+move_fits some_pairs (number (negsuc n)) = tt
+move_fits some_pairs (letter c) = tt
+move_fits some_pairs (conflict k) = tt
+move_fits some_pairs other = tt
 
 -- some fields of these kinds
 abbrev default : Kind → Field
@@ -203,6 +234,7 @@ default an_integer = integer (pos 1)
 default an_end = end
 default some_ids = ids []
 default some_integers = integers []
+default some_pairs = pairs []
 
 default_fits : (k : Kind) → (kind (default k) ≡ k) × IsProper (default k)
 default_fits (a_mark c) = (refl, tt)
@@ -212,6 +244,7 @@ default_fits an_integer = (refl, pos_not_zero 0)
 default_fits an_end = (refl, tt)
 default_fits some_ids = (refl, tt)
 default_fits some_integers = (refl, tt)
+default_fits some_pairs = (refl, tt)
 
 defaults : (ks : List Kind) → (fs : List Field) × (map kind fs ≡ ks) × AllByRecursion IsProper fs
 defaults [] = ([], refl, tt)
@@ -258,17 +291,61 @@ stayed k w ks ws z h partial ([], rest, c) = no_kinds k ks _ c
 stayed k w ks ws z h partial (f ∷ fs, rest, c) = (add z f ∷ fs, rest, stayed_whole k w ks (ws ++ rest) z h f fs c)
 stayed k w ks ws z h bad c = tt
 
-moved : (k : Kind) (w : Word) (ks : List Kind) (ws : List Word) → Claim ks ws (parse ks ws) → Claim (k ∷ ks) ws (parse (k ∷ ks) ws)
-    → (m : Move) → Fits k w m → Claim (k ∷ ks) (w ∷ ws) (onward (parse ks ws) (parse (k ∷ ks) ws) m)
-moved k w ks ws here stay (closes f) h = closed k w ks ws f h (parse ks ws) here
-moved k w ks ws here stay (stays z) h = stayed k w ks ws z h (parse (k ∷ ks) ws) stay
-moved k w ks ws here stay refuses h = tt
+-- behind the first of a pair
+both_whole : (n : ℕ) (ks : List Kind) (ws : List Word) → 0 < n → (f g : Field) (fs : List Field) → kind f ≡ an_id → kind g ≡ some_pairs → Whole (an_id ∷ some_pairs ∷ ks) ws (f ∷ g ∷ fs) → Whole (some_pairs ∷ ks) (number (pos n) ∷ ws) (paired n (f ∷ g ∷ fs))
+both_whole n ks ws p (id m) (pairs ms) fs e h c =
+    let are_ks : map kind fs ≡ ks = cc (c.kinds) in
+    record {
+      kinds = ap (λ e. some_pairs ∷ e) are_ks;
+      proper = (((p, c.proper.0), c.proper.1.0), c.proper.1.1);
+      spells = ap (λ e. number (pos n) ∷ e) c.spells;
+    }
+both_whole n ks ws p (id m) (mark b) fs e h c = cc
+both_whole n ks ws p (id m) (conflict_line j) fs e h c = cc
+both_whole n ks ws p (id m) (id j) fs e h c = cc
+both_whole n ks ws p (id m) (integer z) fs e h c = cc
+both_whole n ks ws p (id m) end fs e h c = cc
+both_whole n ks ws p (id m) (ids ns) fs e h c = cc
+both_whole n ks ws p (id m) (integers zs) fs e h c = cc
+both_whole n ks ws p (mark b) g fs e h c = cc
+both_whole n ks ws p (conflict_line j) g fs e h c = cc
+both_whole n ks ws p (integer z) g fs e h c = cc
+both_whole n ks ws p end g fs e h c = cc
+both_whole n ks ws p (ids ns) g fs e h c = cc
+both_whole n ks ws p (integers zs) g fs e h c = cc
+both_whole n ks ws p (pairs ms) g fs e h c = cc
+
+paired_whole : (n : ℕ) (ks : List Kind) (ws : List Word) → 0 < n → (fs : List Field) → Whole (an_id ∷ some_pairs ∷ ks) ws fs → Whole (some_pairs ∷ ks) (number (pos n) ∷ ws) (paired n fs)
+paired_whole n ks ws p [] c = let e : ◌≡◌ {A = List Kind} [] (an_id ∷ some_pairs ∷ ks) = c.kinds in cc
+paired_whole n ks ws p (f ∷ []) c = let e : ◌≡◌ {A = List Kind} (kind f ∷ []) (an_id ∷ some_pairs ∷ ks) = c.kinds in cc
+paired_whole n ks ws p (f ∷ g ∷ fs) c =
+    let e : kind f ≡ an_id = cc (c.kinds) in
+    let h : kind g ≡ some_pairs = cc (c.kinds) in
+    both_whole n ks ws p f g fs e h c
+
+paired_claim : (n : ℕ) (ks : List Kind) (ws : List Word) → 0 < n → (p : Parsed) → Claim (an_id ∷ some_pairs ∷ ks) ws p → Claim (some_pairs ∷ ks) (number (pos n) ∷ ws) (pair n p)
+paired_claim n ks ws h (whole fs) c = paired_whole n ks ws h fs c
+paired_claim n ks ws h partial (fs, rest, c) = (paired n fs, rest, paired_whole n ks (ws ++ rest) h fs c)
+paired_claim n ks ws h bad c = tt
+
+opened : (k : Kind) (w : Word) (ks : List Kind) (ws : List Word) (n : ℕ) → Fits k w (opens n) → (p : Parsed) → Claim (an_id ∷ k ∷ ks) ws p → Claim (k ∷ ks) (w ∷ ws) (pair n p)
+opened k w ks ws n (e, h, s) p c =
+    let d : Claim (an_id ∷ some_pairs ∷ ks) ws p = subst (λ j. Claim (an_id ∷ j ∷ ks) ws p) e c in
+    let r : Claim (some_pairs ∷ ks) (w ∷ ws) (pair n p) = subst (λ v. Claim (some_pairs ∷ ks) (v ∷ ws) (pair n p)) s (paired_claim n ks ws h p d) in
+    subst (λ j. Claim (j ∷ ks) (w ∷ ws) (pair n p)) (sym e) r
+
+moved : (k : Kind) (w : Word) (ks : List Kind) (ws : List Word) → Claim ks ws (parse ks ws) → Claim (k ∷ ks) ws (parse (k ∷ ks) ws) → Claim (an_id ∷ k ∷ ks) ws (parse (an_id ∷ k ∷ ks) ws)
+    → (m : Move) → Fits k w m → Claim (k ∷ ks) (w ∷ ws) (onward (parse ks ws) (parse (k ∷ ks) ws) (parse (an_id ∷ k ∷ ks) ws) m)
+moved k w ks ws here stay next (closes f) h = closed k w ks ws f h (parse ks ws) here
+moved k w ks ws here stay next (stays z) h = stayed k w ks ws z h (parse (k ∷ ks) ws) stay
+moved k w ks ws here stay next (opens n) h = opened k w ks ws n h (parse (an_id ∷ k ∷ ks) ws) next
+moved k w ks ws here stay next refuses h = tt
 
 pub parse_sound : (ks : List Kind) (ws : List Word) → Claim ks ws (parse ks ws)
 parse_sound [] [] = record { kinds = refl; proper = tt; spells = refl }
 parse_sound [] (w ∷ ws) = tt
 parse_sound (k ∷ ks) [] = let d = defaults (k ∷ ks) in (d.0, flat_map spelled d.0, record { kinds = d.1; proper = d.2; spells = refl })
-parse_sound (k ∷ ks) (w ∷ ws) = moved k w ks ws (parse_sound ks ws) (parse_sound (k ∷ ks) ws) (move k w) (move_fits k w)
+parse_sound (k ∷ ks) (w ∷ ws) = moved k w ks ws (parse_sound ks ws) (parse_sound (k ∷ ks) ws) (parse_sound (an_id ∷ k ∷ ks) ws) (move k w) (move_fits k w)
 
 -- ---- what is spelled is parsed
 
@@ -293,8 +370,23 @@ parse_integers (pos zero ∷ zs) ks ws p = absurd (p.0 refl)
 parse_integers (pos (suc n) ∷ zs) ks ws p = ap (push (pos (suc n))) (parse_integers zs ks ws p.1) ∙ pushed_integer (pos (suc n)) zs (parse ks ws)
 parse_integers (negsuc n ∷ zs) ks ws p = ap (push (negsuc n)) (parse_integers zs ks ws p.1) ∙ pushed_integer (negsuc n) zs (parse ks ws)
 
+pair_on : (a b : ℕ) (ms : List IdMove) (q : Parsed) → pair (suc a) (with_field (id (suc b)) (with_field (pairs ms) q)) ≡ with_field (pairs (record { from = suc a; to = suc b } ∷ ms)) q
+pair_on a b ms (whole fs) = refl
+pair_on a b ms partial = refl
+pair_on a b ms bad = refl
+
+parse_pair : (a b : ℕ) (ms : List IdMove) (ks : List Kind) (ws : List Word) → 0 < a → 0 < b → parse (some_pairs ∷ ks) (spelled_list (flat_map both_ids ms) ++ ws) ≡ with_field (pairs ms) (parse ks ws)
+    → parse (some_pairs ∷ ks) (number (pos a) ∷ number (pos b) ∷ (spelled_list (flat_map both_ids ms) ++ ws)) ≡ with_field (pairs (record { from = a; to = b } ∷ ms)) (parse ks ws)
+parse_pair zero b ms ks ws h k e = absurd (omega arith)
+parse_pair (suc a) zero ms ks ws h k e = absurd (omega arith)
+parse_pair (suc a) (suc b) ms ks ws h k e = ap (λ q. pair (suc a) (with_field (id (suc b)) q)) e ∙ pair_on a b ms (parse ks ws)
+
+parse_pairs : (ms : List IdMove) (ks : List Kind) (ws : List Word) → AllByRecursion (λ m. (0 < m.from) × (0 < m.to)) ms → parse (some_pairs ∷ ks) (spelled_list (flat_map both_ids ms) ++ ws) ≡ with_field (pairs ms) (parse ks ws)
+parse_pairs [] ks ws p = refl
+parse_pairs (m ∷ ms) ks ws p = parse_pair m.from m.to ms ks ws p.0.0 p.0.1 (parse_pairs ms ks ws p.1)
+
 parse_field : (f : Field) (ks : List Kind) (ws : List Word) → IsProper f → parse (kind f ∷ ks) (spelled f ++ ws) ≡ with_field f (parse ks ws)
-parse_field (mark c) ks ws p = ap (λ b. onward (parse ks ws) (parse (a_mark c ∷ ks) ws) (cond b (closes (mark c)) refuses)) (eq-eqb c c refl)
+parse_field (mark c) ks ws p = ap (λ b. onward (parse ks ws) (parse (a_mark c ∷ ks) ws) (parse (an_id ∷ a_mark c ∷ ks) ws) (cond b (closes (mark c)) refuses)) (eq-eqb c c refl)
 parse_field (conflict_line k) ks ws p = refl
 parse_field (id zero) ks ws p = let h : 0 < 0 = p in absurd (omega arith)
 parse_field (id (suc n)) ks ws p = refl
@@ -304,6 +396,7 @@ parse_field (integer (negsuc n)) ks ws p = refl
 parse_field end ks ws p = refl
 parse_field (ids ns) ks ws p = parse_ids ns ks ws p
 parse_field (integers zs) ks ws p = parse_integers zs ks ws p
+parse_field (pairs ms) ks ws p = parse_pairs ms ks ws p
 
 pub parse_spelled : (fs : List Field) → AllByRecursion IsProper fs → parse (map kind fs) (flat_map spelled fs) ≡ whole fs
 parse_spelled [] p = refl
@@ -327,15 +420,22 @@ is_bad-push z (whole (f ∷ fs)) = refl
 is_bad-push z partial = refl
 is_bad-push z bad = refl
 
+pub is_bad-pair : (n : ℕ) (p : Parsed) → is_bad (pair n p) ≡ is_bad p
+is_bad-pair n (whole fs) = refl
+is_bad-pair n partial = refl
+is_bad-pair n bad = refl
+
 bad_moved : (k : Kind) (ks : List Kind) (ws rest : List Word) → (is_bad (parse ks ws) ≡ true → is_bad (parse ks (ws ++ rest)) ≡ true) → (is_bad (parse (k ∷ ks) ws) ≡ true → is_bad (parse (k ∷ ks) (ws ++ rest)) ≡ true)
-    → (m : Move) → is_bad (onward (parse ks ws) (parse (k ∷ ks) ws) m) ≡ true
-    → is_bad (onward (parse ks (ws ++ rest)) (parse (k ∷ ks) (ws ++ rest)) m) ≡ true
-bad_moved k ks ws rest here stay (closes f) h = is_bad-with_field f _ ∙ here (sym (is_bad-with_field f _) ∙ h)
-bad_moved k ks ws rest here stay (stays z) h = is_bad-push z _ ∙ stay (sym (is_bad-push z _) ∙ h)
-bad_moved k ks ws rest here stay refuses h = refl
+    → (is_bad (parse (an_id ∷ k ∷ ks) ws) ≡ true → is_bad (parse (an_id ∷ k ∷ ks) (ws ++ rest)) ≡ true)
+    → (m : Move) → is_bad (onward (parse ks ws) (parse (k ∷ ks) ws) (parse (an_id ∷ k ∷ ks) ws) m) ≡ true
+    → is_bad (onward (parse ks (ws ++ rest)) (parse (k ∷ ks) (ws ++ rest)) (parse (an_id ∷ k ∷ ks) (ws ++ rest)) m) ≡ true
+bad_moved k ks ws rest here stay next (closes f) h = is_bad-with_field f _ ∙ here (sym (is_bad-with_field f _) ∙ h)
+bad_moved k ks ws rest here stay next (stays z) h = is_bad-push z _ ∙ stay (sym (is_bad-push z _) ∙ h)
+bad_moved k ks ws rest here stay next (opens n) h = is_bad-pair n _ ∙ next (sym (is_bad-pair n _) ∙ h)
+bad_moved k ks ws rest here stay next refuses h = refl
 
 pub bad_prefix : (ks : List Kind) (ws rest : List Word) → is_bad (parse ks ws) ≡ true → is_bad (parse ks (ws ++ rest)) ≡ true
 bad_prefix [] [] rest h = absurd (true≢false (sym h))
 bad_prefix [] (w ∷ ws) rest h = refl
 bad_prefix (k ∷ ks) [] rest h = absurd (true≢false (sym h))
-bad_prefix (k ∷ ks) (w ∷ ws) rest h = bad_moved k ks ws rest (bad_prefix ks ws rest) (bad_prefix (k ∷ ks) ws rest) (move k w) h
+bad_prefix (k ∷ ks) (w ∷ ws) rest h = bad_moved k ks ws rest (bad_prefix ks ws rest) (bad_prefix (k ∷ ks) ws rest) (bad_prefix (an_id ∷ k ∷ ks) ws rest) (move k w) h

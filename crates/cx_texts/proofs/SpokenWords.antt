@@ -1,5 +1,5 @@
 -- Steps are spelled with numbers and with letters that stand for themselves.
-use Rattle.std.proofs.Common.{◌≡◌, refl, ℤ, pos, false, List, [], ◌∷◌, ◌++◌, map}
+use Rattle.std.proofs.Common.{◌≡◌, refl, ℤ, pos, false, List, [], ◌∷◌, ◌++◌, map, flat_map}
 use Rattle.std.specs.List.{AllByRecursion}
 use Rattle.std.specs.Bool.{⊤}
 use Rattle.cx_base.specs.declared.steps.LogStep.{LogStep}
@@ -8,7 +8,7 @@ use Rattle.cx_base.specs.declared.steps.ProofStep.{ProofStep}
 use Rattle.cx_base.specs.declared.steps.ProofStep.TheVariants as proof
 use Rattle.cx_texts.specs.Tokens.{is_blank}
 use Rattle.cx_texts.specs.Words.{Word, number, letter, conflict, other, word_of}
-use Rattle.cx_texts.specs.Grammar.{spelled_list, spelling}
+use Rattle.cx_texts.specs.Grammar.{both_ids, spelled_list, spelling}
 use Rattle.cx_texts.specs.LogText.{log_steps}
 use Rattle.cx_texts.specs.ProofText.{proof_steps}
 
@@ -34,6 +34,8 @@ spoken_log_step (log.Delete n lits) = ((refl, refl), (tt, spoken_then lits [] tt
 spoken_log_step (log.DeleteParity n lits) = ((refl, refl), ((refl, refl), (tt, spoken_then lits [] tt)))
 spoken_log_step (log.Final n lits) = ((refl, refl), (tt, spoken_then lits [] tt))
 spoken_log_step (log.FinalParity n lits) = ((refl, refl), ((refl, refl), (tt, spoken_then lits [] tt)))
+spoken_log_step (log.MoveClauses ms) = ((refl, refl), spoken_then (flat_map both_ids ms) [] tt)
+spoken_log_step (log.MoveParities ms) = ((refl, refl), ((refl, refl), spoken_then (flat_map both_ids ms) [] tt))
 
 pub spoken_proof_step : (s : ProofStep) → AllByRecursion IsSpoken (spelling proof_steps s)
 spoken_proof_step (proof.Clause n lits hints) = (tt, spoken_then lits _ (spoken_then hints [] tt))

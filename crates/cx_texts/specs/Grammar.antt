@@ -1,6 +1,7 @@
 -- Grammars of steps that are spelled one after another, as relations between words and steps.
 use Rattle.std.specs.Prelude.{◌≡◌, ◌≢◌, ℕ, ◌<◌, ℤ, pos, List, [], ◌∷◌, ◌++◌, map, flat_map, ⊤}
 use Rattle.std.specs.List.{AllByRecursion}
+use Rattle.cx_base.specs.declared.id_moves.IdMove.{IdMove}
 use Rattle.cx_base.specs.Endings.{Ending, finished, bad_token, too_big, unterminated}
 use Rattle.cx_texts.specs.Words.{Word, number, letter, conflict, Placed, words, IsWithin}
 
@@ -18,9 +19,15 @@ pub data Field : Type 0 where
   -- positive integers up to a zero, or integers up to a zero
   ids : List ℕ → Field
   integers : List ℤ → Field
+  -- pairs of positive integers, up to a zero
+  pairs : List IdMove → Field
 
 abbrev pub spelled_list : List ℤ → List Word
 spelled_list zs = map number zs ++ number (pos 0) ∷ []
+
+-- the two integers of a pair
+abbrev pub both_ids : IdMove → List ℤ
+both_ids m = pos m.from ∷ pos m.to ∷ []
 
 abbrev pub spelled : Field → List Word
 spelled (mark c) = letter c ∷ []
@@ -30,6 +37,7 @@ spelled (integer z) = number z ∷ []
 spelled end = number (pos 0) ∷ []
 spelled (ids ns) = spelled_list (map pos ns)
 spelled (integers zs) = spelled_list zs
+spelled (pairs ms) = spelled_list (flat_map both_ids ms)
 
 -- ids are positive, and integers are not zero
 abbrev pub IsProper : Field → Type 0
@@ -40,6 +48,7 @@ IsProper (integer z) = z ≢ pos 0
 IsProper end = ⊤
 IsProper (ids ns) = AllByRecursion (λ n. 0 < n) ns
 IsProper (integers zs) = AllByRecursion (λ z. z ≢ pos 0) zs
+IsProper (pairs ms) = AllByRecursion (λ m. (0 < m.from) × (0 < m.to)) ms
 
 -- steps of a type S by their fields, and the greatest magnitude of a number
 pub record Grammar (S : Type 0) : Type 1 where

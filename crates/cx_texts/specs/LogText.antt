@@ -4,13 +4,13 @@ use Rattle.std.specs.Str.{bytes_eq}
 use Rattle.cx_base.specs.declared.steps.LogEvent.{LogEvent}
 use Rattle.cx_base.specs.declared.steps.LogEvent.TheVariants as events
 use Rattle.cx_base.specs.declared.steps.LogStep.{LogStep}
-use Rattle.cx_base.specs.declared.steps.LogStep.TheVariants.{Original, OriginalParity, Clause, ClauseWithHints, Parity, ClauseOfParity, ParityOfClauses, Delete, DeleteParity, Final, FinalParity}
+use Rattle.cx_base.specs.declared.steps.LogStep.TheVariants.{Original, OriginalParity, Clause, ClauseWithHints, Parity, ClauseOfParity, ParityOfClauses, Delete, DeleteParity, Final, FinalParity, MoveClauses, MoveParities}
 use Rattle.cx_texts.specs.Tokens.{Token, tokens, lines_from, tokens_of_line, is_comment}
 use Rattle.cx_texts.specs.Words.{conflict, Placed, placed_words, natural}
-use Rattle.cx_texts.specs.Grammar.{Field, mark, conflict_line, id, end, ids, integers, Grammar, Reading}
+use Rattle.cx_texts.specs.Grammar.{Field, mark, conflict_line, id, end, ids, integers, pairs, Grammar, Reading}
 use Rattle.cx_base.specs.Endings.{Ending}
 
--- `a`, `d`, `f`, `i`, `l`, `o` and `x` are the bytes 97, 100, 102, 105, 108, 111 and 120
+-- `a`, `d`, `f`, `i`, `l`, `o`, `r` and `x` are the bytes 97, 100, 102, 105, 108, 111, 114 and 120
 abbrev pub log_fields : LogStep → List Field
 log_fields (Original n lits) = mark 111 ∷ id n ∷ integers lits ∷ []
 log_fields (OriginalParity n lits) = mark 111 ∷ mark 120 ∷ id n ∷ integers lits ∷ []
@@ -23,6 +23,8 @@ log_fields (Delete n lits) = mark 100 ∷ id n ∷ integers lits ∷ []
 log_fields (DeleteParity n lits) = mark 100 ∷ mark 120 ∷ id n ∷ integers lits ∷ []
 log_fields (Final n lits) = mark 102 ∷ id n ∷ integers lits ∷ []
 log_fields (FinalParity n lits) = mark 102 ∷ mark 120 ∷ id n ∷ integers lits ∷ []
+log_fields (MoveClauses moves) = mark 114 ∷ pairs moves ∷ []
+log_fields (MoveParities moves) = mark 114 ∷ mark 120 ∷ pairs moves ∷ []
 
 abbrev pub log_steps : Grammar LogStep
 log_steps = record { fields = log_fields; limit = 9223372036854775807 }
