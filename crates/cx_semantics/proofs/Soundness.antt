@@ -21,6 +21,8 @@ use Rattle.cx_base.specs.declared.steps.LogStep.TheVariants as log
 use Rattle.cx_semantics.specs.Chain.{ChainEnd, right, not_unit, hints_end, same_literals, is_inside, has_literal}
 use Rattle.cx_base.specs.Integers.{literals, sizes}
 use Rattle.cx_semantics.specs.Tables.{Table, Tables, get, named, numbered_from, first_tables, no_tables}
+use Rattle.cx_base.specs.declared.id_moves.IdMove.{IdMove}
+use Rattle.cx_semantics.specs.Moves.{old_ids, without_ids, put_if, put_moved, moved}
 use Rattle.cx_semantics.specs.Judging.{IsRight, Runs, Calculus, EndsAt, AcceptedAt}
 use Rattle.cx_semantics.specs.ProofRules.{is_not_unit, is_hints_end, IsSum, proof_calculus, after_step, adds_ending_clause}
 use Rattle.cx_semantics.specs.LogRules.{is_original, log_calculus, after_log_step, derived_clause, derives_ending_clause}
@@ -62,6 +64,18 @@ met_remove met table n h m others e = elim (eq_by_cmp nat_cmp m n) as (λ b. con
 met_drop : (met : List Literal → Bool) (ids : List ℕ) (table : Table) → AllMet met table → AllMet met (fold map_.remove table ids)
 met_drop met [] table h = h
 met_drop met (n ∷ ids) table h = met_drop met ids (map_.remove table n) (met_remove met table n h)
+
+-- moves put what was live
+met_put_if : (met : List Literal → Bool) (table : Table) (n : ℕ) (o : Option (List Literal)) → AllMet met table → ((lits : List Literal) → o ≡ Some lits → met lits ≡ true) → AllMet met (put_if table n o)
+met_put_if met table n None h k = h
+met_put_if met table n (Some lits) h k = met_insert met table n lits h (k lits refl)
+
+met_put_moved : (met : List Literal → Bool) (first : Table) (moves : List IdMove) (table : Table) → AllMet met first → AllMet met table → AllMet met (put_moved first table moves)
+met_put_moved met first [] table f h = h
+met_put_moved met first (m ∷ moves) table f h = met_put_moved met first moves (put_if table m.to (get first m.from)) f (met_put_if met table m.to (get first m.from) h (f m.from))
+
+met_moved : (met : List Literal → Bool) (table : Table) (moves : List IdMove) → AllMet met table → AllMet met (moved table moves)
+met_moved met table moves h = met_put_moved met table moves (without_ids table (old_ids moves)) h (met_drop met (old_ids moves) table h)
 
 met_empty : (met : List Literal → Bool) → AllMet met map_.empty
 met_empty met n lits e = absurd (none_some lits (sym (map_.get-empty nat_cmp n) ∙ e))
@@ -274,6 +288,8 @@ right_log_step formula v meets tables (log.Delete n lits) m h = record { clauses
 right_log_step formula v meets tables (log.DeleteParity n lits) m h = record { clauses = m.clauses; parities = met_drop (parity_met v) (n ∷ []) tables.parities m.parities }
 right_log_step formula v meets tables (log.Final n lits) m h = m
 right_log_step formula v meets tables (log.FinalParity n lits) m h = m
+right_log_step formula v meets tables (log.MoveClauses moves) m h = record { clauses = met_moved (clause_met v) tables.clauses moves m.clauses; parities = m.parities }
+right_log_step formula v meets tables (log.MoveParities moves) m h = record { clauses = m.clauses; parities = met_moved (parity_met v) tables.parities moves m.parities }
 
 -- ---- whole runs
 
@@ -316,6 +332,8 @@ last_is_met formula v tables (log.Delete n lits) e m = absurd (true≢false (sym
 last_is_met formula v tables (log.DeleteParity n lits) e m = absurd (true≢false (sym e))
 last_is_met formula v tables (log.Final n lits) e m = absurd (true≢false (sym e))
 last_is_met formula v tables (log.FinalParity n lits) e m = absurd (true≢false (sym e))
+last_is_met formula v tables (log.MoveClauses moves) e m = absurd (true≢false (sym e))
+last_is_met formula v tables (log.MoveParities moves) e m = absurd (true≢false (sym e))
 
 pub last_is_ending : (formula : Problem) (s : LogStep) → derives_ending_clause formula s ≡ true → is_ending formula.constraints (derived_clause s) ≡ true
 last_is_ending formula (log.Clause n lits) e = e
@@ -329,6 +347,8 @@ last_is_ending formula (log.Delete n lits) e = absurd (true≢false (sym e))
 last_is_ending formula (log.DeleteParity n lits) e = absurd (true≢false (sym e))
 last_is_ending formula (log.Final n lits) e = absurd (true≢false (sym e))
 last_is_ending formula (log.FinalParity n lits) e = absurd (true≢false (sym e))
+last_is_ending formula (log.MoveClauses moves) e = absurd (true≢false (sym e))
+last_is_ending formula (log.MoveParities moves) e = absurd (true≢false (sym e))
 
 pub accepted_steps_are_unmet : (formula : Problem) (steps : List ProofStep) (k : ℕ) → AcceptedAt (proof_calculus formula) steps k → Unmet formula
 accepted_steps_are_unmet formula steps k (inl clash) v meets = clash_is_missed v formula.constraints (assumptions_met v formula.constraints meets.all_met) clash.0

@@ -1,11 +1,17 @@
 -- The ids that a log of `solve` uses: low enough that no reader runs out of them.
-use Rattle.std.specs.Prelude.{ℕ, ◌≤◌, ⊤}
+use Rattle.std.specs.Prelude.{ℕ, ◌≤◌, List, [], ◌∷◌, max, ⊤}
 use Rattle.cx_base.specs.declared.steps.LogStep.{LogStep}
-use Rattle.cx_base.specs.declared.steps.LogStep.TheVariants.{Original, OriginalParity, Clause, ClauseWithHints, Parity, ClauseOfParity, ParityOfClauses, Delete, DeleteParity, Final, FinalParity}
+use Rattle.cx_base.specs.declared.steps.LogStep.TheVariants.{Original, OriginalParity, Clause, ClauseWithHints, Parity, ClauseOfParity, ParityOfClauses, Delete, DeleteParity, Final, FinalParity, MoveClauses, MoveParities}
 use Rattle.cx_base.specs.declared.steps.LogEvent.{LogEvent}
+use Rattle.cx_semantics.specs.Moves.{new_ids}
 use Rattle.cx_base.specs.declared.steps.LogEvent.TheVariants.{Step, Conflict}
 
--- the id that a step adds, deletes or names as left at the end
+-- the greatest of some ids
+abbrev pub greatest : List ℕ → ℕ
+greatest [] = 0
+greatest (n ∷ ns) = max n (greatest ns)
+
+-- the id that a step adds, deletes or names as left at the end, or the greatest one that it moves something to
 abbrev pub id_of : LogStep → ℕ
 id_of (Original n lits) = n
 id_of (OriginalParity n lits) = n
@@ -18,6 +24,8 @@ id_of (Delete n lits) = n
 id_of (DeleteParity n lits) = n
 id_of (Final n lits) = n
 id_of (FinalParity n lits) = n
+id_of (MoveClauses moves) = greatest (new_ids moves)
+id_of (MoveParities moves) = greatest (new_ids moves)
 
 -- no id passes this one
 abbrev pub highest_id : ℕ

@@ -1,5 +1,5 @@
 -- What the events of a log show of the search that wrote it.
-use Rattle.std.specs.Prelude.{◌≡◌, ℕ, ◌+◌, ◌*◌, ◌≤◌, Bool, true, false, not, ◌&&◌, ◌||◌, List, [], ◌∷◌, ◌++◌, filter, length, nat_eq, Option, Some, None, IsTrue, IsFalse, if◌then◌else◌, MatchBool, ⊤, ◌⊎◌, unwrap_or, filter_map}
+use Rattle.std.specs.Prelude.{◌≡◌, ℕ, ◌+◌, ◌*◌, ◌≤◌, Bool, true, false, not, ◌&&◌, ◌||◌, List, [], ◌∷◌, ◌++◌, map, filter, length, nat_eq, Option, Some, None, IsTrue, IsFalse, if◌then◌else◌, MatchBool, ⊤, ◌⊎◌, unwrap_or, filter_map}
 use Rattle.std.specs.List.{list_any, range_with_len}
 use Rattle.std.specs.FinMap as map_
 use Rattle.cx_base.specs.Literals.{Literal}
@@ -8,7 +8,7 @@ use Rattle.cx_base.specs.Parity.{normal_form, HasOneOfEach}
 use Rattle.cx_base.specs.declared.constraint.Constraint.{Constraint}
 use Rattle.cx_base.specs.declared.constraint.Constraint.TheVariants as constraint
 use Rattle.cx_base.specs.declared.steps.LogStep.{LogStep}
-use Rattle.cx_base.specs.declared.steps.LogStep.TheVariants.{Original, OriginalParity, Clause, ClauseWithHints, Parity, ClauseOfParity, ParityOfClauses, Delete, DeleteParity, Final, FinalParity}
+use Rattle.cx_base.specs.declared.steps.LogStep.TheVariants.{Original, OriginalParity, Clause, ClauseWithHints, Parity, ClauseOfParity, ParityOfClauses, Delete, DeleteParity, Final, FinalParity, MoveClauses, MoveParities}
 use Rattle.cx_base.specs.declared.steps.LogEvent.{LogEvent}
 use Rattle.cx_base.specs.declared.steps.LogEvent.TheVariants.{Step, Conflict}
 use Rattle.cx_semantics.specs.Chain.{is_inside, same_literals}
@@ -16,6 +16,7 @@ use Rattle.cx_semantics.specs.Fresh.{Fresh, IsLive, is_tautology}
 use Rattle.cx_base.specs.Integers.{integers_of, literals}
 use Rattle.cx_semantics.specs.LogRules.{after_log_step, derives_ending_clause}
 use Rattle.cx_semantics.specs.Tables.{Table, Tables, get, no_tables}
+use Rattle.cx_semantics.specs.Moves.{moved_id}
 
 -- what an event finds: the tables; whether the clause of the last mark is still to come; the ids of learned clauses;
 -- the ids of clauses of parities and of sums, put before the last mark and since; how many earlier stretches between marks hold a reduction, and whether this one does
@@ -62,7 +63,7 @@ after_delete m n = record m {
   reduces = m.reduces || is_reduction m n;
 }
 
--- the ids that a step puts or takes out, beside the tables
+-- The ids that a step puts or takes out, beside the tables. A move does neither: what is noted of a constraint is noted under its new id.
 abbrev pub note_step : Moment → LogStep → Moment
 note_step m (Clause n lits) = after_clause m n
 note_step m (ClauseWithHints n lits hints) = after_clause m n
@@ -75,6 +76,8 @@ note_step m (OriginalParity n lits) = m
 note_step m (ParityOfClauses n lits sources) = m
 note_step m (Final n lits) = m
 note_step m (FinalParity n lits) = m
+note_step m (MoveClauses moves) = record m { learned = map (moved_id moves) m.learned; old_clauses = map (moved_id moves) m.old_clauses; new_clauses = map (moved_id moves) m.new_clauses }
+note_step m (MoveParities moves) = record m { old_sums = map (moved_id moves) m.old_sums; new_sums = map (moved_id moves) m.new_sums }
 
 abbrev pub after_event : Moment → LogEvent → Moment
 after_event m (Step step) = record (note_step m step) { tables = after_log_step m.tables step }
@@ -115,6 +118,8 @@ StepFits formula m (ParityOfClauses n lits sources) = ⊤
 StepFits formula m (DeleteParity n lits) = ⊤
 StepFits formula m (Final n lits) = ⊤
 StepFits formula m (FinalParity n lits) = ⊤
+StepFits formula m (MoveClauses moves) = ⊤
+StepFits formula m (MoveParities moves) = ⊤
 
 -- each clause of the formula has all literals of a live clause among its own, or is a tautology
 abbrev pub KeepsFormula : Problem → Table → Type 0
