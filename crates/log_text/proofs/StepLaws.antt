@@ -6,7 +6,7 @@ use Rattle.cx_base.specs.declared.steps.LogStep.TheVariants as log
 use Rattle.cx_texts.specs.Words.{Word, number, letter, Placed, words}
 use Rattle.cx_texts.specs.Grammar.{mark, id, integers, spelled_list, IsStep, Stops, Spells}
 use Rattle.cx_texts.specs.LogText.{log_steps, log_fields}
-use Rattle.cx_texts.proofs.Shapes.{Kind, a_mark, an_id, an_end, some_ids, some_integers}
+use Rattle.cx_texts.proofs.Shapes.{Kind, a_mark, an_id, an_end, some_ids, some_integers, some_pairs}
 use Rattle.cx_texts.proofs.Remaining.{after_word, remaining, remaining-push, begins_nowhere, both_passed, positive}
 use Rattle.cx_texts.proofs.LogSteps.{log_rows, maybe_hinted, behind_step, behind_words}
 use Rattle.cx_texts.proofs.Grammars.{log_forms}
@@ -51,6 +51,10 @@ after_a = refl
 after_i : remaining log_rows (letter 105 ∷ []) ≡ implied ∷ (a_mark 120 ∷ sourced) ∷ []
 unfolding log_forms
 after_i = refl
+
+after_r : remaining log_rows (letter 114 ∷ []) ≡ (some_pairs ∷ []) ∷ (a_mark 120 ∷ some_pairs ∷ []) ∷ []
+unfolding log_forms
+after_r = refl
 
 -- behind an added clause's letter and id
 abbrev listed : List (List Kind)
@@ -99,17 +103,27 @@ implied_clause_refused size r a b t no_x h =
     refused_then (mark 105 ∷ []) log_rows _ size r a b t after_i
     (refused_beside implied ((a_mark 120 ∷ sourced) ∷ []) size r b (λ p rest e. (head_refuses 120 b no_x p rest e, tt)) h)
 
+pub parity_moves_refused : (size : ℕ) (r : TextRefusal) (a b c : List Placed) → Takes (mark 114 ∷ []) a b → Takes (mark 120 ∷ []) b c → RefusedIn ((some_pairs ∷ []) ∷ []) size r c → RefusedIn log_rows size r a
+parity_moves_refused size r a b c t x h =
+    refused_then (mark 114 ∷ mark 120 ∷ []) log_rows ((some_pairs ∷ []) ∷ []) size r a c (takes_append (mark 114 ∷ []) (mark 120 ∷ []) a b c t x) (ap (λ rs. remaining rs (letter 120 ∷ [])) after_r) h
+
+pub clause_moves_refused : (size : ℕ) (r : TextRefusal) (a b : List Placed) → Takes (mark 114 ∷ []) a b → is_head_letter 120 b ≡ false → RefusedIn ((some_pairs ∷ []) ∷ []) size r b → RefusedIn log_rows size r a
+clause_moves_refused size r a b t no_x h =
+    refused_then (mark 114 ∷ []) log_rows _ size r a b t after_r
+    (refused_beside (some_pairs ∷ []) ((a_mark 120 ∷ some_pairs ∷ []) ∷ []) size r b (λ p rest e. (head_refuses 120 b no_x p rest e, tt)) h)
+
 -- no letter that begins a step
-pub no_start : (size : ℕ) (r : TextRefusal) (a : List Placed) → is_head_letter 111 a ≡ false → is_head_letter 97 a ≡ false → is_head_letter 105 a ≡ false → is_head_letter 100 a ≡ false → is_head_letter 102 a ≡ false
+pub no_start : (size : ℕ) (r : TextRefusal) (a : List Placed) → is_head_letter 111 a ≡ false → is_head_letter 97 a ≡ false → is_head_letter 105 a ≡ false → is_head_letter 100 a ≡ false → is_head_letter 102 a ≡ false → is_head_letter 114 a ≡ false
     → HeadFails (a_mark 111) size r a → RefusedIn log_rows size r a
 unfolding log_forms
-no_start size r a no_o no_a no_i no_d no_f h = head_refused (a_mark 111) named _ size r a
+no_start size r a no_o no_a no_i no_d no_f no_r h = head_refused (a_mark 111) named _ size r a
     (λ p rest e o.
     let a_ = head_refuses 97 a no_a p rest e in
     let i = head_refuses 105 a no_i p rest e in
     let d = head_refuses 100 a no_d p rest e in
     let f = head_refuses 102 a no_f p rest e in
-    (o, (a_, (a_, (a_, (i, (i, (d, (d, (f, (f, tt))))))))))) h
+    let r_ = head_refuses 114 a no_r p rest e in
+    (o, (a_, (a_, (a_, (i, (i, (d, (d, (f, (f, (r_, (r_, tt))))))))))))) h
 
 pub other_letter : (c size : ℕ) (a : List Placed) (seen : SeenWord) → is_head_letter c a ≡ false → Some seen ≡ seen_head a → HeadFails (a_mark c) size (BadToken seen.place) a
 other_letter c size [] seen h e = cc

@@ -1,7 +1,7 @@
 -- Integers that may be the last field of one list of kinds and not the last of another.
 use Rattle.std.proofs.Common.{◌≡◌, refl, sym, ap, ◌∙◌, subst, ℕ, zero, suc, pos, negsuc, List, [], ◌∷◌, ◌++◌, flat_map}
 use Rattle.cx_texts.specs.Words.{Word, number, letter, conflict, other, Placed, words}
-use Rattle.cx_texts.proofs.Shapes.{Kind, some_integers, Move, closes, stays, refuses, move}
+use Rattle.cx_texts.proofs.Shapes.{Kind, some_integers, Move, closes, stays, opens, refuses, move}
 use Rattle.cx_texts.proofs.Remaining.{behind, after_word, remaining}
 use Rattle.step_text.specs.declared.source.TextRefusal.{TextRefusal}
 use Rattle.step_text.specs.declared.source.TextRefusal.TheVariants.{BadToken, Unterminated, TooBig, TooLong, Memory, Failed}
@@ -53,11 +53,13 @@ both_fit ks js w row more (other ∷ ws) h = absurd (none_fits w row more ws h)
 refused_move : (m : Move) → behind some_integers [] m ++ [] ≡ [] → m ≡ refuses
 refused_move (closes f) h = cc
 refused_move (stays z) h = cc
+refused_move (opens n) h = cc
 refused_move refuses h = refl
 
 fit_move : (m : Move) (row : List Kind) (more : List (List Kind)) → behind some_integers [] m ++ [] ≡ row ∷ more → IsFit m
 fit_move (closes f) row more h = tt
 fit_move (stays z) row more h = tt
+fit_move (opens n) row more h = tt
 fit_move refuses row more h = cc
 
 pub both_refused : (ks js : List Kind) (size : ℕ) (r : TextRefusal) (a : List Placed) → RefusedIn one size r a → RefusedIn (two ks js) size r a

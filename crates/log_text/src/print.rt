@@ -3,15 +3,15 @@ ghost use Rattle.std.specs.Prelude.{[], ◌∷◌, ◌++◌, flat_map, decimal};
 ghost use Rattle.cx_desk.specs.Calls.{PutsAll};
 ghost use Rattle.cx_base.specs.declared.steps.LogEvent.TheVariants.{Step};
 ghost use Rattle.cx_texts.specs.Words.{conflict};
-ghost use Rattle.cx_texts.specs.Grammar.{spelling, spelled, mark, id, ids, integers, end};
+ghost use Rattle.cx_texts.specs.Grammar.{spelling, spelled, mark, id, ids, integers, end, pairs};
 ghost use Rattle.cx_texts.specs.LogText.{log_steps, log_events};
 ghost use Rattle.cx_texts.specs.Printed.{printed_line, printed_log, HasText};
 ghost use Rattle.step_text.specs.Spaced.{spaced};
 
 use crate::list_log::ListLog;
-use cx_base::{LogEvent, LogStep};
-use cx_desk::{Desk, Failed, Port};
-use step_text::pieces::{put_head, put_id, put_ids, put_integers};
+use cx_base::{IdMove, LogEvent, LogStep};
+use cx_desk::{Desk, Failed, Port, put_all};
+use step_text::pieces::{put_head, put_id, put_ids, put_integers, put_moves};
 
 /// An id and literals behind a text, as the end of a line.
 fn put_plain<D: Desk>(
@@ -71,6 +71,33 @@ fn put_with_source<D: Desk>(
     put_id(desk, port, b" ", source, b" 0\n")
 }
 
+/// Moves of ids behind a text, as the end of a line.
+fn put_move_line<D: Desk>(
+    desk: &mut D,
+    port: Port,
+    before: &[u8],
+    moves: &[IdMove],
+) -> Result<(), Failed>
+    ensures { PutsAll port (before.now ++ (spaced (spelled (pairs moves.now)) ++ 10 ∷ [])) (D.outside desk.old) result (D.outside desk.new) }
+{
+    put_all(desk, port, before)?;
+    put_moves(desk, port, moves)
+}
+
+/// The line of a step that moves ids of clauses.
+fn put_clause_moves<D: Desk>(desk: &mut D, port: Port, moves: &[IdMove]) -> Result<(), Failed>
+    ensures { PutsAll port (printed_line (flat_map spelled (mark 114 ∷ pairs moves.now ∷ []))) (D.outside desk.old) result (D.outside desk.new) }
+{
+    put_move_line(desk, port, b"r", moves)
+}
+
+/// The line of a step that moves ids of parities.
+fn put_parity_moves<D: Desk>(desk: &mut D, port: Port, moves: &[IdMove]) -> Result<(), Failed>
+    ensures { PutsAll port (printed_line (flat_map spelled (mark 114 ∷ mark 120 ∷ pairs moves.now ∷ []))) (D.outside desk.old) result (D.outside desk.new) }
+{
+    put_move_line(desk, port, b"r x", moves)
+}
+
 /// Writes the line of a step: its words parted by one space, and a line feed. It takes no memory.
 ///
 /// It fails only where the desk counted a fault of the port; then the port gained a front of the line.
@@ -112,6 +139,8 @@ pub fn put_log_step<D: Desk>(desk: &mut D, port: Port, step: &LogStep) -> Result
         LogStep::DeleteParity(id, lits) => put_plain(desk, port, b"d x ", *id, lits.as_slice()),
         LogStep::Final(id, lits) => put_plain(desk, port, b"f ", *id, lits.as_slice()),
         LogStep::FinalParity(id, lits) => put_plain(desk, port, b"f x ", *id, lits.as_slice()),
+        LogStep::MoveClauses(moves) => put_clause_moves(desk, port, moves.as_slice()),
+        LogStep::MoveParities(moves) => put_parity_moves(desk, port, moves.as_slice()),
     }
 }
 

@@ -3,7 +3,7 @@ ghost use Rattle.std.specs.Prelude.{◌≡◌, true, false, [], ◌∷◌, Match
 ghost use Rattle.cx_texts.specs.Words.{placed_words};
 ghost use Rattle.cx_texts.specs.Grammar.{mark, id, end, ids, integers};
 ghost use Rattle.cx_texts.proofs.LogSteps.{log_rows};
-ghost use Rattle.cx_texts.proofs.Shapes.{a_mark, an_id, an_end, some_ids, some_integers};
+ghost use Rattle.cx_texts.proofs.Shapes.{a_mark, an_id, an_end, some_ids, some_integers, some_pairs};
 ghost use Rattle.step_text.specs.Heads.{is_head_letter};
 ghost use Rattle.step_text.specs.Taking.{Takes, RefusedIn, TakesAll};
 ghost use Rattle.log_text.specs.Taking.{letter_of, listed_fields, listed_rows, TakesLogStep};
@@ -11,7 +11,9 @@ ghost use Rattle.log_text.specs.Taking.{letter_of, listed_fields, listed_rows, T
 use crate::plain::{Listed, Plain, plain_step};
 use cx_base::{IdList, IntList, LogStep};
 use step_text::ahead::TokensAhead;
-use step_text::fields::{take_end, take_id, take_ids, take_integers, take_letter, take_named};
+use step_text::fields::{
+    take_end, take_id, take_ids, take_integers, take_letter, take_moves, take_named,
+};
 use step_text::{SpareLists, StepGrammar, StepText, TextRefusal};
 
 /// The grammar of logs.
@@ -159,6 +161,26 @@ fn take_implied_step(
     }
 }
 
+/// Moves of ids.
+fn take_move_step(
+    spare: &mut SpareLists,
+    tokens: &mut TokensAhead,
+    size: usize,
+) -> Result<LogStep, TextRefusal>
+    requires { is_head_letter 114 (placed_words tokens.old) ≡ true }
+    ensures { TakesLogStep size (placed_words tokens.old) result (placed_words tokens.new) }
+{
+    tokens.pass();
+    if tokens.is_letter(b'x') {
+        tokens.pass();
+        let moves = take_moves(spare.moves(), tokens, size)?;
+        Ok(LogStep::MoveParities(moves))
+    } else {
+        let moves = take_moves(spare.moves(), tokens, size)?;
+        Ok(LogStep::MoveClauses(moves))
+    }
+}
+
 /// Why no step begins here.
 fn no_step(tokens: &TokensAhead, size: usize) -> TextRefusal
     requires original { is_head_letter 111 (placed_words tokens.now) ≡ false }
@@ -166,6 +188,7 @@ fn no_step(tokens: &TokensAhead, size: usize) -> TextRefusal
     requires implied { is_head_letter 105 (placed_words tokens.now) ≡ false }
     requires deleted { is_head_letter 100 (placed_words tokens.now) ≡ false }
     requires finally { is_head_letter 102 (placed_words tokens.now) ≡ false }
+    requires moved { is_head_letter 114 (placed_words tokens.now) ≡ false }
     ensures { RefusedIn log_rows size result (placed_words tokens.now) }
 {
     match tokens.word() {
@@ -192,6 +215,8 @@ fn take_step(
         take_plain(spare, tokens, size, Plain::Original)
     } else if tokens.is_letter(b'f') {
         take_plain(spare, tokens, size, Plain::Final)
+    } else if tokens.is_letter(b'r') {
+        take_move_step(spare, tokens, size)
     } else {
         Err(no_step(tokens, size))
     }

@@ -7,10 +7,11 @@ use Rattle.cx_desk.specs.declared.desk.Port.{Port}
 use Rattle.cx_desk.specs.Outside.{Bytes, Outside}
 use Rattle.cx_desk.specs.Calls.{gained, PutFaulted, PutsAll}
 use Rattle.cx_desk.proofs.Moves.{gained-twice, gained-none, fails-within}
+use Rattle.cx_base.specs.declared.id_moves.IdMove.{IdMove}
 use Rattle.cx_texts.specs.Words.{Word, number, letter}
-use Rattle.cx_texts.specs.Grammar.{spelled_list}
+use Rattle.cx_texts.specs.Grammar.{both_ids, spelled_list}
 use Rattle.cx_texts.specs.Printed.{printed_word, printed_line}
-use Rattle.step_text.specs.Spaced.{spaced, spaced_integer, spaced_id}
+use Rattle.step_text.specs.Spaced.{spaced, spaced_integer, spaced_id, spaced_move}
 
 -- a front that is not all was written before a fault
 abbrev pub Fails : Port → Bytes → Outside → Outside → Type 0
@@ -79,6 +80,16 @@ integers_text zs after =
 
 pub ids_text : (ns : List ℕ) → flat_map spaced_id ns ++ (32 ∷ 48 ∷ 10 ∷ []) ≡ spaced (spelled_list (map pos ns)) ++ 10 ∷ []
 ids_text ns = sym (append_assoc (flat_map spaced_id ns) (32 ∷ 48 ∷ []) (10 ∷ [])) ∙ ap (λ l. l ++ 10 ∷ []) (sym (spaced_ids ns))
+
+spaced_moves : (ms : List IdMove) → flat_map spaced_move ms ≡ flat_map spaced_integer (flat_map both_ids ms)
+spaced_moves [] = refl
+spaced_moves (m ∷ ms) = append_assoc (spaced_id m.from) (spaced_id m.to) (flat_map spaced_move ms) ∙ ap (λ t. spaced_id m.from ++ (spaced_id m.to ++ t)) (spaced_moves ms)
+
+pub moves_text : (ms : List IdMove) → flat_map spaced_move ms ++ (32 ∷ 48 ∷ 10 ∷ []) ≡ spaced (spelled_list (flat_map both_ids ms)) ++ 10 ∷ []
+moves_text ms = ap (λ t. t ++ (32 ∷ 48 ∷ 10 ∷ [])) (spaced_moves ms) ∙ integers_text (flat_map both_ids ms) (10 ∷ [])
+
+pub move_text : (m : IdMove) → (32 ∷ (decimal m.from ++ [])) ++ (32 ∷ (decimal m.to ++ [])) ≡ spaced_move m
+move_text m = λ i. 32 ∷ (append-nil (decimal m.from) i ++ (32 ∷ append-nil (decimal m.to) i))
 
 pub spaced-append : (us ws : List Word) → spaced (us ++ ws) ≡ spaced us ++ spaced ws
 spaced-append us ws = flat_map-append (λ w. 32 ∷ printed_word w) us ws

@@ -4,7 +4,7 @@ use Rattle.std.specs.List.{AllByRecursion}
 use Rattle.cx_texts.specs.Tokens.{Token}
 use Rattle.cx_texts.specs.Words.{Word, number, letter, conflict, Placed, words, placed_words, IsWithin}
 use Rattle.cx_texts.specs.Grammar.{Grammar, mark, IsStep, Begins, IsUnfinished, Stops, AreInLimit, Spells}
-use Rattle.cx_texts.proofs.Shapes.{Kind, a_mark, a_conflict, an_id, an_integer, an_end, some_ids, some_integers, closes, refuses, move}
+use Rattle.cx_texts.proofs.Shapes.{Kind, a_mark, a_conflict, an_id, an_integer, an_end, some_ids, some_integers, some_pairs, closes, refuses, move}
 use Rattle.cx_texts.proofs.Forms.{Forms}
 use Rattle.cx_texts.proofs.Remaining.{after_word, remaining, remaining-push, rows_of, begins_where, begins_nowhere}
 use Rattle.step_text.specs.declared.source.TextRefusal.{TextRefusal}
@@ -24,6 +24,7 @@ some_word an_id = (number (pos 1), tt)
 some_word an_integer = (number (pos 1), tt)
 some_word an_end = (number (pos 0), tt)
 some_word some_ids = (number (pos 0), tt)
+some_word some_pairs = (number (pos 0), tt)
 some_word some_integers = (number (pos 0), tt)
 
 -- A grammar that is given by forms, with the limit of the reader.

@@ -1,12 +1,13 @@
 -- Parts of a step one after another.
-use Rattle.std.proofs.Common.{◌≡◌, refl, sym, ap, ◌∙◌, subst, ℕ, ℤ, pos, List, [], ◌∷◌, ◌++◌, map, flat_map, append_assoc, append-nil}
+use Rattle.std.proofs.Common.{◌≡◌, refl, sym, ap, ◌∙◌, subst, ℕ, ◌<◌, zero, suc, ℤ, pos, negsuc, List, [], ◌∷◌, ◌++◌, map, flat_map, append_assoc, append-nil, arith}
 use Rattle.std.specs.List.{AllByRecursion}
 use Rattle.std.proofs.lemmas.List.{map-append}
 use Rattle.std.proofs.lemmas.Grind.{flat_map-append}
-use Rattle.cx_texts.specs.Words.{Word, number, Placed, words}
-use Rattle.cx_texts.specs.Grammar.{Field, id, integer, end, ids, integers, spelled, IsProper}
-use Rattle.cx_texts.proofs.Shapes.{Kind, some_ids, some_integers, kind, Move, closes, stays, refuses, move}
-use Rattle.cx_texts.proofs.Remaining.{behind, after_word, remaining, remaining-more, all_passed, ids_stay, integers_stay}
+use Rattle.cx_texts.specs.Words.{Word, number, letter, conflict, other, Placed, words}
+use Rattle.cx_texts.specs.Grammar.{Field, id, integer, end, ids, integers, pairs, both_ids, spelled, IsProper}
+use Rattle.cx_base.specs.declared.id_moves.IdMove.{IdMove}
+use Rattle.cx_texts.proofs.Shapes.{Kind, an_id, some_ids, some_integers, some_pairs, kind, Move, closes, stays, opens, refuses, move}
+use Rattle.cx_texts.proofs.Remaining.{behind, after_word, remaining, remaining-more, all_passed, ids_stay, integers_stay, pairs_stay}
 use Rattle.cx_base.proofs.Elements.{all_append}
 use Rattle.step_text.specs.declared.source.TextRefusal.{TextRefusal}
 use Rattle.step_text.specs.declared.source.TextRefusal.TheVariants.{BadToken, Unterminated, TooBig, TooLong, Memory, Failed}
@@ -122,6 +123,7 @@ none_after w ((k ∷ ks) ∷ rows) h = ap (λ m. behind k ks m ++ flat_map (afte
 pub some_behind : (k : Kind) (ks : List Kind) (m : Move) (more : List (List Kind)) → IsFit m → (row : List Kind) × (rows : List (List Kind)) × (behind k ks m ++ more ≡ row ∷ rows)
 some_behind k ks (closes f) more h = (ks, more, refl)
 some_behind k ks (stays z) more h = (k ∷ ks, more, refl)
+some_behind k ks (opens n) more h = (an_id ∷ k ∷ ks, more, refl)
 some_behind k ks refuses more h = absurd h
 
 -- other lists of kinds refuse the first word where the kind does
@@ -164,6 +166,72 @@ ids_refused ns size r a b t h ks = refused_then (map id ns) ((some_ids ∷ ks) �
 
 pub integers_refused : (zs : List ℤ) (size : ℕ) (r : TextRefusal) (a b : List Placed) → Takes (map integer zs) a b → HeadFails some_integers size r b → (ks : List Kind) → RefusedIn ((some_integers ∷ ks) ∷ []) size r a
 integers_refused zs size r a b t h ks = refused_then (map integer zs) ((some_integers ∷ ks) ∷ []) ((some_integers ∷ ks) ∷ []) size r a b t (ap (remaining ((some_integers ∷ ks) ∷ [])) (spelled_integers zs) ∙ integers_stay zs ks (all_proper integer zs t.proper)) (one_refused some_integers ks size r b h)
+
+-- ---- pairs
+
+abbrev pub fields_of_pair : IdMove → List Field
+fields_of_pair m = id m.from ∷ id m.to ∷ []
+
+-- the ids of some pairs
+abbrev pub fields_of_pairs : List IdMove → List Field
+fields_of_pairs ms = flat_map fields_of_pair ms
+
+spelled_pairs : (ms : List IdMove) → flat_map spelled (fields_of_pairs ms) ≡ map number (flat_map both_ids ms)
+spelled_pairs [] = refl
+spelled_pairs (m ∷ ms) = ap (λ ws. number (pos m.from) ∷ number (pos m.to) ∷ ws) (spelled_pairs ms)
+
+pairs_proper : (ms : List IdMove) → AllByRecursion IsProper (fields_of_pairs ms) → AllByRecursion (λ m. (0 < m.from) × (0 < m.to)) ms
+pairs_proper [] h = tt
+pairs_proper (m ∷ ms) h = ((h.0, h.1.0), pairs_proper ms h.1.1)
+
+pub closed_pairs : (ms : List IdMove) (a b c : List Placed) → Takes (fields_of_pairs ms) a b → Takes (end ∷ []) b c → Takes (pairs ms ∷ []) a c
+closed_pairs ms = closed (pairs ms) (fields_of_pairs ms) (pairs_proper ms) (ap (λ ws. ws ++ number (pos 0) ∷ []) (sym (spelled_pairs ms)))
+
+pub one_more_pair : (ms : List IdMove) (m : IdMove) (a b c d : List Placed) → Takes (fields_of_pairs ms) a b → Takes (id m.from ∷ []) b c → Takes (id m.to ∷ []) c d → Takes (fields_of_pairs (ms ++ m ∷ [])) a d
+one_more_pair ms m a b c d x y z =
+    subst (λ fs. Takes fs a d) (sym (flat_map-append fields_of_pair ms (m ∷ [])))
+    (takes_append (fields_of_pairs ms) (fields_of_pair m) a b d x (takes_append (id m.from ∷ []) (id m.to ∷ []) b c d y z))
+
+-- a list of ids refuses the words that a list of pairs does
+pair_refuses : (w : Word) → move some_ids w ≡ refuses → move some_pairs w ≡ refuses
+pair_refuses (number (pos zero)) h = cc
+pair_refuses (number (pos (suc n))) h = cc
+pair_refuses (number (negsuc n)) h = refl
+pair_refuses (letter c) h = refl
+pair_refuses (conflict k) h = refl
+pair_refuses other h = refl
+
+pair_fits : (w : Word) → IsFit (move some_ids w) → IsFit (move some_pairs w)
+pair_fits (number (pos zero)) h = tt
+pair_fits (number (pos (suc n))) h = tt
+pair_fits (number (negsuc n)) h = h
+pair_fits (letter c) h = h
+pair_fits (conflict k) h = h
+pair_fits other h = h
+
+pair_fails : (size : ℕ) (r : TextRefusal) (a : List Placed) → HeadFails some_ids size r a → HeadFails some_pairs size r a
+pair_fails size (BadToken place) a (p, rest, split, at, bad) = (p, rest, split, at, pair_refuses p.word bad)
+pair_fails size (TooBig place) a (p, rest, split, at, fits, above) = (p, rest, split, at, pair_fits p.word fits, above)
+pair_fails size (Unterminated place) a h = h
+pair_fails size TooLong a h = h
+pair_fails size Memory a h = h
+pair_fails size Failed a h = h
+
+stay : (ms : List IdMove) (ks : List Kind) (a b : List Placed) → Takes (fields_of_pairs ms) a b → remaining ((some_pairs ∷ ks) ∷ []) (flat_map spelled (fields_of_pairs ms)) ≡ (some_pairs ∷ ks) ∷ []
+stay ms ks a b t = ap (remaining ((some_pairs ∷ ks) ∷ [])) (spelled_pairs ms) ∙ pairs_stay ms ks (pairs_proper ms t.proper)
+
+pub pairs_refused : (ms : List IdMove) (size : ℕ) (r : TextRefusal) (a b : List Placed) → Takes (fields_of_pairs ms) a b → HeadFails some_ids size r b → (ks : List Kind) → RefusedIn ((some_pairs ∷ ks) ∷ []) size r a
+pairs_refused ms size r a b t h ks = refused_then (fields_of_pairs ms) ((some_pairs ∷ ks) ∷ []) ((some_pairs ∷ ks) ∷ []) size r a b t (stay ms ks a b t) (one_refused some_pairs ks size r b (pair_fails size r b h))
+
+opened : (n : ℕ) (ks : List Kind) → 0 < n → remaining ((some_pairs ∷ ks) ∷ []) (number (pos n) ∷ []) ≡ (an_id ∷ some_pairs ∷ ks) ∷ []
+opened zero ks h = absurd (omega arith)
+opened (suc n) ks h = refl
+
+-- the second id of a pair is missing
+pub second_refused : (ms : List IdMove) (n size : ℕ) (r : TextRefusal) (a b c : List Placed) → Takes (fields_of_pairs ms) a b → Takes (id n ∷ []) b c → HeadFails an_id size r c → (ks : List Kind) → RefusedIn ((some_pairs ∷ ks) ∷ []) size r a
+second_refused ms n size r a b c t s h ks =
+    refused_then (fields_of_pairs ms) ((some_pairs ∷ ks) ∷ []) ((some_pairs ∷ ks) ∷ []) size r a b t (stay ms ks a b t)
+    (refused_then (id n ∷ []) ((some_pairs ∷ ks) ∷ []) ((an_id ∷ some_pairs ∷ ks) ∷ []) size r b c s (opened n ks s.proper.0) (one_refused an_id (some_pairs ∷ ks) size r c h))
 
 -- ---- fields in a row
 

@@ -3,7 +3,7 @@ use Rattle.std.specs.Prelude.{◌≡◌, ℕ, List, [], ◌∷◌, ◌++◌, fla
 use Rattle.std.specs.List.{AllByRecursion}
 use Rattle.cx_texts.specs.Words.{Placed, words, IsWithin}
 use Rattle.cx_texts.specs.Grammar.{Field, end, spelled, IsProper}
-use Rattle.cx_texts.proofs.Shapes.{Kind, Move, closes, stays, refuses, move}
+use Rattle.cx_texts.proofs.Shapes.{Kind, Move, closes, stays, opens, refuses, move}
 use Rattle.cx_texts.proofs.Remaining.{after_word, remaining}
 use Rattle.step_text.specs.declared.source.TextRefusal.{TextRefusal}
 use Rattle.step_text.specs.declared.source.TextRefusal.TheVariants.{BadToken, Unterminated, TooBig, TooLong, Memory, Failed}
@@ -24,6 +24,7 @@ pub record Takes (fields : List Field) (placed rest : List Placed) : Type 0 wher
 abbrev pub IsFit : Move → Type 0
 IsFit (closes f) = ⊤
 IsFit (stays z) = ⊤
+IsFit (opens n) = ⊤
 IsFit refuses = ⊥
 
 -- the first word is none that a field of this kind can begin with, or it is too big, or there is none

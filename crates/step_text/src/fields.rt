@@ -1,14 +1,14 @@
 //! The fields of a step, taken from a text's tokens.
 ghost use Rattle.std.specs.Prelude.{◌≡◌, ◌<◌, false, length, [], ◌∷◌, pos, IfOk};
 ghost use Rattle.cx_texts.specs.Words.{is_digit, placed_words};
-ghost use Rattle.cx_texts.specs.Grammar.{mark, id, integer, end, ids, integers};
-ghost use Rattle.cx_texts.proofs.Shapes.{a_mark, an_id, an_integer, an_end, some_ids, some_integers};
+ghost use Rattle.cx_texts.specs.Grammar.{mark, id, integer, end, ids, integers, pairs};
+ghost use Rattle.cx_texts.proofs.Shapes.{a_mark, an_id, an_integer, an_end, some_ids, some_integers, some_pairs};
 ghost use Rattle.step_text.specs.Taking.{TakesOne, TakesMember, TakesAll};
 
 use crate::ahead::TokensAhead;
 use crate::source::TextRefusal;
 use crate::token_word::TokenWord;
-use cx_base::{IdList, IntList};
+use cx_base::{IdList, IdMove, IntList, MoveList};
 
 /// An id and literals.
 #[derive(Drop)]
@@ -218,6 +218,32 @@ pub fn take_ids(
             },
             Ok(None) => return Ok(IdList::from_vec(members)),
             Err(refusal) => return Err(refusal),
+        }
+    }
+}
+
+/// Pairs of ids up to a zero, in the memory of `room`.
+pub fn take_moves(
+    room: Vec<IdMove>,
+    tokens: &mut TokensAhead,
+    size: usize,
+) -> Result<MoveList, TextRefusal>
+    ensures { TakesAll (λ ms. pairs ms ∷ []) (some_pairs ∷ []) size (placed_words tokens.old) result (placed_words tokens.new) }
+{
+    let mut members = emptied(room);
+    loop {
+        let from = match take_listed_id(tokens, size) {
+            Ok(Some(from)) => from,
+            Ok(None) => return Ok(MoveList::from_vec(members)),
+            Err(refusal) => return Err(refusal),
+        };
+        let to = match take_id(tokens, size) {
+            Ok(to) => to,
+            Err(refusal) => return Err(refusal),
+        };
+        match members.push(IdMove { from, to }) {
+            Ok(()) => {}
+            Err(_) => return Err(TextRefusal::Memory),
         }
     }
 }

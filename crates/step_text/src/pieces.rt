@@ -1,13 +1,14 @@
 //! Pieces of a printed line, which printers of steps are made of.
 ghost use Rattle.std.specs.Prelude.{◌≡◌, ◌≤◌, ◌+◌, ◌*◌, [], ◌∷◌, length, ◌++◌, flat_map, decimal};
 ghost use Rattle.cx_desk.specs.Calls.{PutsAll};
-ghost use Rattle.cx_texts.specs.Grammar.{spelled, ids, integers};
-ghost use Rattle.step_text.specs.Spaced.{spaced, spaced_integer, spaced_id};
+ghost use Rattle.cx_texts.specs.Grammar.{spelled, ids, integers, pairs};
+ghost use Rattle.step_text.specs.Spaced.{spaced, spaced_integer, spaced_id, spaced_move};
 
 use crate::lay_out::{
     DELETION_ROOM, FRAME, LONGEST, lay_out_deletion, lay_out_integers, lay_out_line,
     lay_out_parity_deletion,
 };
+use cx_base::IdMove;
 use cx_desk::{Desk, Failed, Port, put_all, put_pieces};
 use itoa::Buffer;
 
@@ -80,6 +81,32 @@ pub fn put_ids<D: Desk>(desk: &mut D, port: Port, members: &[u64]) -> Result<(),
     ensures { PutsAll port (spaced (spelled (ids members.now)) ++ 10 ∷ []) (D.outside desk.old) result (D.outside desk.new) }
 {
     put_each_id(desk, port, members)?;
+    put_all(desk, port, b" 0\n")
+}
+
+/// The two ids of a move, each behind a space.
+fn put_move<D: Desk>(desk: &mut D, port: Port, from: u64, to: u64) -> Result<(), Failed>
+    ensures { PutsAll port (spaced_move (record { from = from; to = to })) (D.outside desk.old) result (D.outside desk.new) }
+{
+    put_id(desk, port, b" ", from, b"")?;
+    put_id(desk, port, b" ", to, b"")
+}
+
+/// The ids of moves, each behind a space.
+fn put_each_move<D: Desk>(desk: &mut D, port: Port, moves: &[IdMove]) -> Result<(), Failed>
+    ensures { PutsAll port (flat_map spaced_move moves.now) (D.outside desk.old) result (D.outside desk.new) }
+{
+    for member in moves {
+        put_move(desk, port, member.from, member.to)?;
+    }
+    Ok(())
+}
+
+/// Moves with the zero that ends them, and a line feed.
+pub fn put_moves<D: Desk>(desk: &mut D, port: Port, moves: &[IdMove]) -> Result<(), Failed>
+    ensures { PutsAll port (spaced (spelled (pairs moves.now)) ++ 10 ∷ []) (D.outside desk.old) result (D.outside desk.new) }
+{
+    put_each_move(desk, port, moves)?;
     put_all(desk, port, b" 0\n")
 }
 

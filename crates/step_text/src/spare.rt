@@ -1,5 +1,5 @@
 //! Lists that are done with, for the memory that they have.
-use cx_base::{IdList, IntList, ProofStep};
+use cx_base::{IdList, IdMove, IntList, MoveList, ProofStep};
 use std::alloc::Global;
 use std::mem;
 
@@ -11,6 +11,7 @@ pub struct SpareLists {
     literals: Vec<i64>,
     hints: Vec<i64>,
     ids: Vec<u64>,
+    moves: Vec<IdMove>,
 }
 
 impl SpareLists {
@@ -21,6 +22,7 @@ impl SpareLists {
             literals: Vec::new(alloc),
             hints: Vec::new(alloc),
             ids: Vec::new(alloc),
+            moves: Vec::new(alloc),
         }
     }
 
@@ -39,6 +41,11 @@ impl SpareLists {
         mem::replace(&mut self.ids, Vec::new(self.alloc))
     }
 
+    /// A list to clear, for moves of ids.
+    pub fn moves(&mut self) -> Vec<IdMove> {
+        mem::replace(&mut self.moves, Vec::new(self.alloc))
+    }
+
     /// Keeps the memory of a step's literals.
     pub fn keep_literals(&mut self, list: IntList) {
         self.literals = list.into_vec();
@@ -52,6 +59,11 @@ impl SpareLists {
     /// Keeps the memory of a step's ids.
     pub fn keep_ids(&mut self, list: IdList) {
         self.ids = list.into_vec();
+    }
+
+    /// Keeps the memory of a step's moves of ids.
+    pub fn keep_moves(&mut self, list: MoveList) {
+        self.moves = list.into_vec();
     }
 
     /// Keeps the memory of a proof's step.
