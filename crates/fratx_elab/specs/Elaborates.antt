@@ -5,12 +5,12 @@ use Rattle.cx_base.specs.Literals.{Literal}
 use Rattle.cx_base.specs.Problem.{Problem, clauses_of, parities_of}
 use Rattle.cx_base.specs.Parity.{normal_form}
 use Rattle.cx_base.specs.declared.steps.LogStep.{LogStep}
-use Rattle.cx_base.specs.declared.steps.LogStep.TheVariants.{Original, OriginalParity, Clause, ClauseWithHints, Parity, ClauseOfParity, ParityOfClauses, Delete, DeleteParity, Final, FinalParity}
+use Rattle.cx_base.specs.declared.steps.LogStep.TheVariants.{Original, OriginalParity, Clause, ClauseWithHints, Parity, ClauseOfParity, ParityOfClauses, Delete, DeleteParity, Final, FinalParity, MoveClauses, MoveParities}
 use Rattle.cx_base.specs.declared.steps.ProofStep.{ProofStep}
 use Rattle.cx_base.specs.declared.steps.ProofStep.TheVariants as proof
 use Rattle.cx_semantics.specs.Chain.{same_literals}
 use Rattle.cx_base.specs.Integers.{literals}
-use Rattle.fratx_elab.specs.Names.{Names, stands_for, hints_for, first_names, name_original, name_next, drop_name}
+use Rattle.fratx_elab.specs.Names.{Names, stands_for, hints_for, first_names, name_original, name_next, drop_name, move_names}
 
 -- k is the least number, from 1, of a list with the property
 pub record IsLeast (P : List Literal → Type 0) (lists : List (List Literal)) (k : ℕ) : Type 0 where
@@ -87,6 +87,9 @@ Writes formula old (DeleteParity n lits) written new =
 -- a final step writes nothing
 Writes formula old (Final n lits) written new = (written ≡ []) × (new ≡ old)
 Writes formula old (FinalParity n lits) written new = (written ≡ []) × (new ≡ old)
+-- a move writes nothing: what stands for the old ids stands for the new ones
+Writes formula old (MoveClauses moves) written new = (written ≡ []) × (new ≡ record { clauses = move_names old.clauses moves; parities = old.parities })
+Writes formula old (MoveParities moves) written new = (written ≡ []) × (new ≡ record { clauses = old.clauses; parities = move_names old.parities moves })
 
 -- the steps write these, one after another
 abbrev pub Elaborates : Problem → Names → List LogStep → List ProofStep → Names → Type 0

@@ -5,6 +5,8 @@ use Rattle.std.specs.Coded.{Coded, code_by, coded×, coded_ℕ}
 use Rattle.std.specs.Ordering.{nat_cmp}
 use Rattle.std.specs.FinMap as map_
 use Rattle.cx_base.specs.Problem.{Problem, clauses_of, parities_of}
+use Rattle.cx_base.specs.declared.id_moves.IdMove.{IdMove}
+use Rattle.cx_semantics.specs.Moves.{moved}
 use Rattle.fratx_elab.specs.declared.naming.TheConstants.{MAX_ID}
 
 -- the proof id that stands for each live id of the log, and the last id that was given in the proof
@@ -57,6 +59,10 @@ name_next naming n = record { ids = map_.insert naming.ids n (naming.last + 1); 
 
 abbrev pub drop_name : Naming → ℕ → Naming
 drop_name naming n = record { ids = map_.remove naming.ids n; last = naming.last }
+
+-- what stood for an id of the log stands for the new one, all at once
+abbrev pub move_names : Naming → List IdMove → Naming
+move_names naming moves = record { ids = moved naming.ids moves; last = naming.last }
 
 abbrev pub naming_code : Coded Naming
 naming_code = code_by (map_.FinMap nat_cmp ℕ × ℕ) (coded× (map_.code coded_ℕ coded_ℕ) coded_ℕ) (λ a. (a.ids, a.last)) (λ p. record { ids = p.0; last = p.1 }) (λ _. refl)

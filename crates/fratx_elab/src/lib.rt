@@ -4,6 +4,7 @@
 mod content_index;
 mod delete;
 mod ends;
+mod moving;
 mod naming;
 mod one_step;
 mod originals;

@@ -9,6 +9,7 @@ ghost use Rattle.fratx_elab.specs.Ties.{AreTied};
 ghost use Rattle.fratx_elab.specs.declared.naming.TheConstants.{MAX_ID};
 
 use crate::delete::{delete_clause, delete_parity};
+use crate::moving::{move_clauses, move_parities};
 use crate::originals::{Counts, Originals};
 use crate::state::State;
 use crate::take::{
@@ -34,7 +35,9 @@ pub fn ends_log(formula: &Formula, step: &LogStep) -> bool
         | LogStep::Delete(_, _)
         | LogStep::DeleteParity(_, _)
         | LogStep::Final(_, _)
-        | LogStep::FinalParity(_, _) => false,
+        | LogStep::FinalParity(_, _)
+        | LogStep::MoveClauses(_)
+        | LogStep::MoveParities(_) => false,
     }
 }
 
@@ -85,5 +88,7 @@ pub fn take_step(
             state.spare.keep_literals(lits);
             Ok(None)
         }
+        LogStep::MoveClauses(moves) => move_clauses(alloc, state, moves),
+        LogStep::MoveParities(moves) => move_parities(alloc, state, moves),
     }
 }

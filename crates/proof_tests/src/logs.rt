@@ -95,10 +95,12 @@ fn others(alloc: Global, cases: &[Case]) -> Result<String, Fail> {
     Ok(others)
 }
 
-const GIVEN: [Case; 3] = [
+const GIVEN: [Case; 5] = [
     ("", "l 10 11 0", 6, &[STRAIGHT]),
     ("f 99 500 0\nd 77 0\n", "l 10 11 0", 8, &[STRAIGHT]),
     ("d 13 0\no 13 -2 -1 -1 0\n", "l 10 11 0", 8, &[STRAIGHT]),
+    ("r 10 11 11 10 0\nr x 0\n", "l 11 10 0", 8, &[STRAIGHT]),
+    ("r 10 500 11 10 0\n", "l 500 10 0", 7, &[STRAIGHT]),
 ];
 
 #[test]
