@@ -12,7 +12,7 @@ use Rattle.std.proofs.lemmas.Nat.{le_or_l, le_or_r, ones-le}
 use Rattle.std.proofs.lemmas.Nat.Bits.{bit_at-zero}
 use Rattle.std.proofs.lemmas.Bool.{cases_lt}
 use Rattle.std.proofs.lemmas.List.{get_or-map, length-map}
-use Rattle.std.proofs.lemmas.Simd.{length-zip2, length-chunk, get_or-zip2, get_or-chunk, get_or-put_chunk_below, get_or-put_chunk_at, get_or-put_chunk_above, fold-sum}
+use Rattle.std.proofs.lemmas.Simd.{length-zip2, length-chunk, get_or-zip2, get_or-chunk, get_or-put_chunk_below, get_or-put_chunk_at, get_or-put_chunk_above}
 use Rattle.cx_base.specs.Literals.{differ}
 use Rattle.cx_base.specs.Parity.{odd_sum}
 use Rattle.gf2_rows.specs.Bits.{word_bit, bit_of, is_outside, is_skipped}
@@ -98,13 +98,13 @@ ones_small words i (suc n) room small =
     let one = ones-le 64 (get_or words i 0) (small i) in
     rw (chunk-cons words i n (omega arith)) (omega arith)
 
-map_same : (xs : List ℕ) → map (λ x. x) xs ≡ xs
-map_same [] = refl
-map_same (x ∷ xs) = ap (λ ys. x ∷ ys) (map_same xs)
-
--- the sum of the lanes' counts, which were cast
-pub counts_added : (xs : List ℕ) → fold_l (λ s x. s + x) 0 (map (λ x. x) (map count_ones xs)) ≡ sum_l (map count_ones xs)
-counts_added xs = ap (fold_l (λ s x. s + x) 0) (map_same (map count_ones xs)) ∙ fold-sum 0 (map count_ones xs) ∙ let e : 0 + sum_l (map count_ones xs) ≡ sum_l (map count_ones xs) = omega arith in e
+-- the sum of the lanes' counts, which fits a lane
+pub counts_added : (s : ℕ) (xs : List ℕ) → s + sum_l xs < 2 ^ 64 → fold_l (λ s x. (s + x) % 2 ^ 64) s (map (λ x. x) xs) ≡ s + sum_l xs
+counts_added s [] fits = let e : s ≡ s + 0 = omega arith in e
+counts_added s (x ∷ xs) fits =
+    let e : (s + x) % 2 ^ 64 ≡ s + x = omega arith in
+    let more : s + x + sum_l xs ≡ s + (x + sum_l xs) = omega arith in
+    ap (λ n. fold_l (λ t y. (t + y) % 2 ^ 64) n (map (λ y. y) xs)) e ∙ counts_added (s + x) xs (omega arith) ∙ more
 
 -- ---- a block without an open bit
 none_joined : (s : ℕ) (xs : List ℕ) → fold_l bit_or s xs ≡ 0 → (s ≡ 0) × ((j : ℕ) → get_or xs j 0 ≡ 0)

@@ -460,3 +460,8 @@ pub products_in_two : (n : ℕ) (a b : List ℕ) → length a ≡ length b
     → differ (odd_sum (zip2 ◌&&◌ (bits_of (take n a)) (bits_of (take n b)))) (odd_sum (zip2 ◌&&◌ (bits_of (drop n a)) (bits_of (drop n b)))) ≡ odd_sum (zip2 ◌&&◌ (bits_of a) (bits_of b))
 products_in_two n a b alike =
     sym (parity-append (zip2 ◌&&◌ (bits_of (take n a)) (bits_of (take n b))) (zip2 ◌&&◌ (bits_of (drop n a)) (bits_of (drop n b)))) ∙ ap odd_sum (sym (bits_in_two ◌&&◌ n a b alike))
+
+pub ones_in_two : (n : ℕ) (row : List ℕ) → count_by (λ b. b) (bits_of (take n row)) + count_by (λ b. b) (bits_of (drop n row)) ≡ count_by (λ b. b) (bits_of row)
+ones_in_two n row =
+    sym (sum_by-append (λ b. cond b 1 0) (bits_of (take n row)) (bits_of (drop n row)))
+    ∙ ap (count_by (λ b. b)) (sym (bits-append (take n row) (drop n row)) ∙ ap bits_of (take-append-drop n row))

@@ -1,5 +1,5 @@
 //! The kernels over lanes of eight words, with a plain loop for the rest.
-ghost use Rattle.std.specs.Prelude.{◌≡◌, ◌*◌, ◌%◌, ◌<◌, ◌≤◌, ◌^◌, ◌&&◌, true, length, MatchOption};
+ghost use Rattle.std.specs.Prelude.{◌≡◌, ◌*◌, ◌%◌, ◌<◌, ◌≤◌, ◌^◌, ◌&&◌, true, length, count_by, MatchOption};
 ghost use Rattle.std.specs.Simd.Lanes.{zip2};
 ghost use Rattle.std.specs.Slice.Scan.{HoldsNowhere, IsFirstPlace};
 ghost use Rattle.cx_base.specs.Literals.{differ};
@@ -58,6 +58,30 @@ fn parity_of_blocks(a: &[u64], b: &[u64]) -> bool
     }
     let sum = sums.reduce_xor();
     sum.count_ones() % 2 == 1
+}
+
+/// The number of ones, in at most 4,294,967,295 words.
+pub fn ones(row: &[u64]) -> u64
+    requires { length row.now < 2 ^ 32 }
+    ensures { result ≡ count_by (λ b. b) (bits_of row.now) }
+{
+    let whole = row.len() / 8 * 8;
+    let (blocks, rest) = row.split_at(whole);
+    ones_of_blocks(blocks) + plain::ones(rest)
+}
+
+/// The number of ones in whole blocks.
+fn ones_of_blocks(row: &[u64]) -> u64
+    requires few { length row.now < 2 ^ 32 }
+    requires whole { length row.now % 8 ≡ 0 }
+    ensures { result ≡ count_by (λ b. b) (bits_of row.now) }
+{
+    let mut total = 0;
+    for block in 0..row.len() / 8 {
+        let at = 8 * block;
+        total += u64x8::from_slice(&row[at..]).count_ones().reduce_sum();
+    }
+    total
 }
 
 /// The least position that is set in `row`, not set in `mask` and not `skip`, in at most 4,294,967,295 words.

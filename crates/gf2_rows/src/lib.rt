@@ -1,7 +1,7 @@
 //! Rows over the two-element field, packed 64 positions to a word.
 //!
 //! Position `k` of a row is bit `k % 64` of word `k / 64`. The kernels go over blocks of eight words at a
-//! time, and over the words behind the last whole block one by one. The module [`plain`] has them as plain
+//! time, and over the words after the last whole block one by one. The module [`plain`] has them as plain
 //! loops under the same contracts.
 #![tactic(auto)]
 
@@ -10,7 +10,6 @@ pub mod plain;
 mod position;
 mod scan;
 
-pub use lanes::{add_into, first_outside, outside_near, parity_and};
-pub use plain::ones;
+pub use lanes::{add_into, first_outside, ones, outside_near, parity_and};
 pub use position::{bit, flip, put};
 pub use scan::{next_one, next_outside};

@@ -28,6 +28,11 @@ fn multiply_the_same(a: &[u64], b: &[u64]) -> bool {
     a.len() == b.len() && parity_and(a, b) == plain::parity_and(a, b)
 }
 
+/// Whether both kernels count the same.
+fn count_the_same(row: &[u64]) -> bool {
+    row.len() < 100 && ones(row) == plain::ones(row)
+}
+
 /// Whether both kernels give the same sum.
 fn add_the_same(alloc: Global, a: &[u64], b: &[u64]) -> Result<bool, AllocError> {
     let mut sum = Vec::from_slice(alloc, a)?;
@@ -46,6 +51,7 @@ fn agree_at(alloc: Global, len: usize) -> Result<bool, AllocError> {
     let b = row_of(alloc, len, 2)?;
     Ok(
         multiply_the_same(&a, &b)
+            && count_the_same(&a)
             && find_the_same(&a, &a, None)
             && find_the_same(&a, &b, Some(1))
             && add_the_same(alloc, &a, &b)?,
