@@ -1,0 +1,4 @@
+//! The affine space of the solutions of parities.
+#![tactic(auto)]
+
+pub mod laws;
