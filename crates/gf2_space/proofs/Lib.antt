@@ -1,2 +1,4 @@
 pub mod Arising
 pub mod SpaceLaws
+pub mod RowSums
+pub mod Echelons

@@ -1,20 +1,19 @@
 -- Just the solutions arise from a basis, each from one set of vectors.
 use Rattle.std.proofs.Common.{◌≡◌, ◌≢◌, ℕ, ◌+◌, ◌-◌, ◌<◌, ◌≤◌, zero, suc, Bool, true, false, List, [], ◌∷◌, map, length, get_or, refl, sym, ap, ◌∙◌, subst, arith, inl, inr, ◌⊎◌, true≢false}
 use Rattle.std.proofs.lemmas.List.{ext_get_or, get_or_past}
-use Rattle.std.proofs.lemmas.Bool.{cases_lt, cases_eq}
+use Rattle.std.proofs.lemmas.Bool.{cases_eq}
 use Rattle.cx_base.specs.Literals.{Literal, differ, value_of}
-use Rattle.cx_base.specs.ExactlyOne.{ExactlyOne}
 use Rattle.parity_engine.specs.Written.{AreRising}
 use Rattle.gf2_matrix.proofs.Pivot.{joined_read}
 use Rattle.gf2_space.specs.Solutions.{Solves, IsFree}
 use Rattle.gf2_space.specs.Spaces.{AffineSpace, plus, arising, vector_value, IsChoiceFor, IsSpaceOf}
-use Rattle.gf2_space.proofs.Arising.{AreLong, length-plus, arising_with, arising_keeps}
+use Rattle.gf2_space.proofs.Arising.{AreLong, arising_with, arising_keeps}
 
 -- a point and vectors that keep the solutions, each with one listed variable, where no other variable is free
 pub record IsBasis (vars : ℕ) (parities : List (List Literal)) (s : AffineSpace) : Type 0 where
   pub vars_are : s.vars ≡ vars
+  pub parities_are : s.parities ≡ parities
   pub rising : AreRising 1 vars s.free
-  pub low : (i : ℕ) → i < length s.free → 1 ≤ get_or s.free i 0
   pub all_free : (x : ℕ) → IsFree vars parities x → (i : ℕ) × (i < length s.free) × (get_or s.free i 0 ≡ x)
   pub point_solves : Solves vars parities s.point
   pub point_false : (i : ℕ) → i < length s.free → value_of s.point (get_or s.free i 0) ≡ false
@@ -143,6 +142,7 @@ module _ (vars : ℕ) (parities : List (List Literal)) where
     pub space_of_basis : IsSpaceOf vars parities s
     space_of_basis = record {
       vars_are = b.vars_are;
+      parities_are = b.parities_are;
       rising = b.rising;
       are_free = are_free;
       all_free = b.all_free;

@@ -1,2 +1,3 @@
 pub mod Solutions
 pub mod Spaces
+pub mod Kept

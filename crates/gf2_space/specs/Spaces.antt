@@ -6,9 +6,10 @@ use Rattle.cx_base.specs.ExactlyOne.{ExactlyOne}
 use Rattle.parity_engine.specs.Written.{AreRising}
 use Rattle.gf2_space.specs.Solutions.{Solves, IsFree}
 
--- a number of variables, some of these, a list of values, and lists of values to add to it
+-- parities over a number of variables, some of these, a list of values, and lists of values to add to it
 pub record AffineSpace : Type 0 where
   pub vars : ℕ
+  pub parities : List (List Literal)
   pub free : List ℕ
   pub point : List Bool
   pub vectors : List (List Bool)
@@ -35,6 +36,7 @@ IsChoiceFor s values chosen = (length chosen ≡ length s.vectors) × (arising s
 -- one, and none above it: so that just the solutions arise, each from one set of vectors
 pub record IsSpaceOf (vars : ℕ) (parities : List (List Literal)) (s : AffineSpace) : Type 0 where
   pub vars_are : s.vars ≡ vars
+  pub parities_are : s.parities ≡ parities
   pub rising : AreRising 1 vars s.free
   pub are_free : (i : ℕ) → i < length s.free → IsFree vars parities (slice_index s.free i)
   pub all_free : (x : ℕ) → IsFree vars parities x → (i : ℕ) × (i < length s.free) × (slice_index s.free i ≡ x)
