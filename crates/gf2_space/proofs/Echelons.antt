@@ -10,10 +10,10 @@ use Rattle.parity_engine.proofs.Rising.{column-low, column-high}
 use Rattle.gf2_matrix.specs.Content.{Content, row_at, has, IsOfGiven, IsLeastOf, IsEchelonRow}
 use Rattle.gf2_matrix.proofs.Rows.{rising_apart}
 use Rattle.gf2_space.specs.Solutions.{Solves, IsFree}
-use Rattle.gf2_space.specs.Spaces.{AffineSpace, plus, vector_value}
-use Rattle.gf2_space.specs.Kept.{AreOwners, AreUnowned, IsKept, by_owner, point_value, vector_bit, vector_of, space_of}
+use Rattle.gf2_space.specs.Spaces.{AffineSpace, plus, vector_value, IsSpaceOf}
+use Rattle.gf2_space.specs.Kept.{AreOwners, AreUnowned, IsKept, HasClash, by_owner, point_value, vector_bit, vector_of, space_of}
 use Rattle.gf2_space.proofs.Arising.{AreLong, length-plus}
-use Rattle.gf2_space.proofs.SpaceLaws.{IsBasis}
+use Rattle.gf2_space.proofs.SpaceLaws.{IsBasis, space_of_basis}
 use Rattle.gf2_space.proofs.RowSums.{products, product, products_none, products_one, products_two, products_plus, same_least}
 
 zero_or : (n : ℕ) → (n ≡ 0) ⊎ ((r : ℕ) × (n ≡ r + 1))
@@ -45,7 +45,7 @@ by_owner-row owners f x r e =
     let back : get_or owners x 0 - 1 ≡ r = omega arith in
     rw (ne_eqb (get_or owners x 0) 0 (λ q. omega arith)) (ap f back)
 
-least_unique : (c : Content) (r x y : ℕ) → IsLeastOf c r x → IsLeastOf c r y → x ≡ y
+pub least_unique : (c : Content) (r x y : ℕ) → IsLeastOf c r x → IsLeastOf c r y → x ≡ y
 least_unique c r x y lx ly =
     elim (cases_lt x y) [
       | inl lower ↦ absurd (true≢false (sym lx.0 ∙ ly.1 x lower))
@@ -246,6 +246,14 @@ module _ (c : Content) (owners free : List ℕ) (kept : IsKept c owners free) wh
   unfolding vectors
   vector_at i lt = read-map (vector_of c owners) 0 [] free i lt
 
+  pub vector_read : (i x : ℕ) → i < length free → x < c.vars → get_or (get_or (map (vector_of c owners) free) i []) x false ≡ vector_bit c owners (get_or free i 0) x
+  unfolding vectors
+  vector_read i x lt x_in = ap (λ u. get_or u x false) (vector_at i lt) ∙ read_vector (get_or free i 0) (free_in i lt) (kept.free_are.unowned i lt) x x_in
+
+  pub point_read : (x : ℕ) → x < c.vars → get_or (map (point_value c owners) (range_with_len 0 c.vars)) x false ≡ point_value c owners x
+  unfolding point
+  point_read x x_in = read_point x x_in
+
   pub basis_of_kept : IsBasis c.vars c.given (space_of c owners free)
   unfolding point vectors
   basis_of_kept = record {
@@ -277,3 +285,20 @@ module _ (c : Content) (owners free : List ℕ) (kept : IsKept c owners free) wh
         ap (λ u. get_or u (x - 1) false) (vector_at i lt)
         ∙ vector_above (get_or free i 0) (free_in i lt) (kept.free_are.unowned i lt) (x - 1) (omega arith);
   }
+
+pub space_of_kept : (c : Content) (owners free : List ℕ) → IsKept c owners free → IsSpaceOf c.vars c.given (space_of c owners free)
+space_of_kept c owners free kept = space_of_basis c.vars c.given (space_of c owners free) (basis_of_kept c owners free kept)
+
+-- a row that says that 0 is 1 has no solution
+pub clash_unmet : (c : Content) → IsOfGiven c → HasClash c → (v : List Bool) → Solves c.vars c.given v → ⊥
+clash_unmet c of_given clash v sv =
+    true≢false
+    (sym clash.3 ∙ sym (of_given.sound v sv.one_each sv.all_met clash.0 clash.1)
+    ∙ products_none (row_at c.rows clash.0).terms v (λ x. ap (λ b. b && get_or v x false) (clash.2 x)))
+
+pub owner_in : (c : Content) (owners : List ℕ) (x : ℕ) → AreOwners c owners → x < c.vars → get_or owners x 0 ≢ 0 → get_or owners x 0 - 1 < length c.rows
+owner_in c owners x are lt ne =
+    elim (zero_or (get_or owners x 0)) [
+      | inl none ↦ absurd (ne none)
+      | inr some ↦ let h = (are.owned x some.0 lt some.1).0 in let e = some.1 in omega arith
+    ]

@@ -2,3 +2,5 @@ pub mod Arising
 pub mod SpaceLaws
 pub mod RowSums
 pub mod Echelons
+pub mod Filling
+pub mod Places

@@ -1,6 +1,7 @@
 -- How a space is kept: a matrix in echelon form, for each variable the row whose least it is, and the free variables.
-use Rattle.std.specs.Prelude.{◌≡◌, ℕ, ◌+◌, ◌-◌, ◌<◌, Bool, true, false, cond, eqb, List, [], map, length, slice_index, slice_index_or}
+use Rattle.std.specs.Prelude.{◌≡◌, ℕ, ◌+◌, ◌-◌, ◌<◌, ◌^◌, Bool, true, false, cond, eqb, List, map, length, slice_index}
 use Rattle.std.specs.List.{range_with_len}
+use Rattle.cx_base.specs.Literals.{Literal}
 use Rattle.parity_engine.specs.Written.{AreRising}
 use Rattle.gf2_matrix.specs.Content.{Content, row_at, has, IsOfGiven, IsLeastOf, IsEchelonRow}
 use Rattle.gf2_space.specs.Spaces.{AffineSpace}
@@ -20,6 +21,18 @@ pub record AreUnowned (owners free : List ℕ) (n : ℕ) : Type 0 where
 -- the rows have a solution
 abbrev pub HasNoClash : Content → Type 0
 HasNoClash c = (r : ℕ) → r < length c.rows → ((x : ℕ) → has (row_at c.rows r) x ≡ false) → (row_at c.rows r).right ≡ false
+
+-- a row says that 0 is 1
+abbrev pub HasClash : Content → Type 0
+HasClash c = (r : ℕ) × (r < length c.rows) × ((x : ℕ) → has (row_at c.rows r) x ≡ false) × ((row_at c.rows r).right ≡ true)
+
+-- fewer than 2^32 rows over the parities, each with its least variable to itself
+pub record IsEchelonOf (vars : ℕ) (parities : List (List Literal)) (c : Content) : Type 0 where
+  pub vars_are : c.vars ≡ vars
+  pub given_are : c.given ≡ parities
+  pub few : length c.rows < 2 ^ 32
+  pub of_given : IsOfGiven c
+  pub echelon : (r : ℕ) → r < length c.rows → IsEchelonRow c r
 
 pub record IsKept (c : Content) (owners free : List ℕ) : Type 0 where
   pub of_given : IsOfGiven c

@@ -1,5 +1,5 @@
 -- The solutions as a point and vectors.
-use Rattle.std.specs.Prelude.{◌≡◌, ◌≢◌, ℕ, ◌<◌, Bool, true, false, cond, List, [], ◌∷◌, length, slice_index, slice_index_or}
+use Rattle.std.specs.Prelude.{◌≡◌, ◌≢◌, ℕ, ◌<◌, Bool, true, false, cond, List, [], ◌∷◌, length, slice_index, slice_index_or, Option, Some, None}
 use Rattle.std.specs.Simd.Lanes.{zip2}
 use Rattle.cx_base.specs.Literals.{Literal, differ, value_of}
 use Rattle.cx_base.specs.ExactlyOne.{ExactlyOne}
@@ -48,3 +48,8 @@ pub record IsSpaceOf (vars : ℕ) (parities : List (List Literal)) (s : AffineSp
   pub none_above : (i x : ℕ) → i < length s.free → slice_index s.free i < x → vector_value s.vectors i x ≡ false
   pub all_solve : (chosen : List Bool) → length chosen ≡ length s.vectors → Solves vars parities (arising s.point s.vectors chosen)
   pub each_once : (values : List Bool) → Solves vars parities values → ExactlyOne (IsChoiceFor s values)
+
+-- the space of the parities, or none where they have no solution
+abbrev pub Describes : ℕ → List (List Literal) → Option AffineSpace → Type 0
+Describes vars parities None = (values : List Bool) → ¬ Solves vars parities values
+Describes vars parities (Some s) = IsSpaceOf vars parities s

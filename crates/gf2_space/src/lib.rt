@@ -1,4 +1,13 @@
-//! The affine space of the solutions of parities.
+//! The solutions of a formula's parities as an affine space: a point and, for each free variable, a vector.
+//!
+//! [`space`] eliminates until each row has its least variable to itself ([`gf2_matrix::Matrix::echelon`]): the other
+//! variables are the free ones. A [`Space`] keeps that matrix, and reads its point and its vectors off the rows.
 #![tactic(auto)]
 
+mod affine;
 pub mod laws;
+mod making;
+mod reading;
+
+pub use affine::Space;
+pub use making::space;

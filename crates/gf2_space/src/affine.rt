@@ -1,0 +1,109 @@
+//! A point and vectors, kept as a matrix.
+ghost use Rattle.std.specs.Prelude.{◌≡◌, ◌-◌, ◌≤◌, length, slice_index, IsTrue, ◌↔◌};
+ghost use Rattle.cx_base.specs.Literals.{value_of};
+ghost use Rattle.gf2_space.specs.Kept.{IsKept, space_of};
+ghost use Rattle.gf2_space.specs.Solutions.{Solves};
+ghost use Rattle.gf2_space.specs.Spaces.{IsSpaceOf, vector_value};
+
+use crate::reading::{point_value, vector_has};
+use cx_base::{ConstraintRef, ParityList, Var};
+use gf2_matrix::Matrix;
+use std::marker::Model;
+
+/// The solutions of parities: those that arise from a point by adding some of its vectors, each from one set of them.
+///
+/// There is a vector for each free variable. Variables that no parity has are free, and have neither row nor column.
+#[derive(Drop)]
+pub struct Space {
+    parities: ParityList,
+    matrix: Matrix,
+    owners: Vec<u32>,
+    free: Vec<u32>,
+}
+
+impl Model for Space {
+    ghost use Rattle.gf2_space.specs.Spaces.{AffineSpace};
+    ghost use Rattle.std.specs.Prelude.{◌≡◌};
+    ghost use Rattle.gf2_space.specs.Kept.{IsKept, space_of};
+
+    ghost Value = { AffineSpace };
+
+    ghost view = { λ s. space_of s.matrix s.owners.items s.free.items };
+
+    ghost invariant = { λ s. (s.parities ≡ s.matrix.given) × IsKept s.matrix s.owners.items s.free.items };
+}
+
+impl Space {
+    /// The space of a matrix in echelon form.
+    pub(crate) fn new(
+        parities: ParityList,
+        matrix: Matrix,
+        owners: Vec<u32>,
+        free: Vec<u32>,
+    ) -> Space
+        requires given { parities ≡ matrix.given }
+        requires kept { IsKept matrix owners.items free.items }
+        ensures { result ≡ space_of matrix owners.items free.items }
+    {
+        Space {
+            parities,
+            matrix,
+            owners,
+            free,
+        }
+    }
+
+    /// How many vectors it has: as many as there are free variables.
+    pub fn dimension(&self) -> u64
+        ensures count { result ≡ length self.now.free }
+        ensures space { IsSpaceOf self.now.vars self.now.parities self.now }
+    {
+        self.free.len() as u64
+    }
+
+    /// The value of a variable in the point.
+    pub fn point(&self, var: Var) -> bool
+        requires { var ≤ self.now.vars }
+        ensures { result ≡ value_of self.now.point var }
+    {
+        // `index` says to the proof that there is a variable 1.
+        let _index = var.index();
+        point_value(&self.matrix, &self.owners, var)
+    }
+
+    /// The free variable with this number, from 1, in rising order.
+    pub fn free(&self, number: u64) -> Var
+        requires low { 1 ≤ number }
+        requires high { number ≤ length self.now.free }
+        ensures { result ≡ slice_index self.now.free (number - 1) }
+    {
+        // `vars` says to the proof that the variables are few.
+        let _vars = self.matrix.vars();
+        Var::new(self.free[number as usize - 1])
+    }
+
+    /// Whether the vector with this number, from 1, has the variable.
+    pub fn has(&self, number: u64, var: Var) -> bool
+        requires low { 1 ≤ number }
+        requires high { number ≤ length self.now.free }
+        requires within { var ≤ self.now.vars }
+        ensures { result ≡ vector_value self.now.vectors (number - 1) var }
+    {
+        // `index` says to the proof that there is a variable 1.
+        let _index = var.index();
+        vector_has(&self.matrix, &self.owners, self.free(number), var)
+    }
+
+    /// Whether the values are a solution.
+    pub fn contains(&self, values: &[bool]) -> bool
+        requires { length values.now ≡ self.now.vars }
+        ensures { IsTrue result ↔ Solves self.now.vars self.now.parities values.now }
+    {
+        for parity in self.parities.as_slice() {
+            if !ConstraintRef::Parity(parity.as_slice()).is_met(values) {
+                return false;
+            }
+        }
+        true
+    }
+}
