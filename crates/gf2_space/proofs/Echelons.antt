@@ -1,22 +1,21 @@
 -- A matrix in echelon form gives a basis.
-use Rattle.std.proofs.Common.{◌≡◌, ◌≢◌, ℕ, ◌+◌, ◌-◌, ◌<◌, ◌≤◌, zero, suc, Bool, true, false, cond, eqb, ◌&&◌, List, [], ◌∷◌, map, length, get_or, refl, sym, ap, ◌∙◌, subst, arith, inl, inr, ◌⊎◌, true≢false}
+use Rattle.std.proofs.Common.{◌≡◌, ◌≢◌, ℕ, ◌+◌, ◌-◌, ◌<◌, ◌≤◌, zero, suc, Bool, true, false, cond, ◌&&◌, List, [], ◌∷◌, map, length, get_or, refl, sym, ap, ◌∙◌, subst, arith, inl, inr, ◌⊎◌, true≢false}
 use Rattle.std.specs.List.{range_with_len}
 use Rattle.std.proofs.lemmas.List.{get_or_past}
 use Rattle.std.proofs.lemmas.List.FromFn.{get_or-map-range_with_len, length-map-range_with_len}
 use Rattle.std.proofs.lemmas.Bool.{cases_lt, cases_eq, eq-eqb, ne_eqb}
-use Rattle.cx_base.specs.Literals.{Literal, differ, value_of}
-use Rattle.parity_engine.specs.Written.{AreRising}
+use Rattle.cx_base.specs.Literals.{differ}
 use Rattle.parity_engine.proofs.Rising.{column-low, column-high}
-use Rattle.gf2_matrix.specs.Content.{Content, row_at, has, IsOfGiven, IsLeastOf, IsEchelonRow}
+use Rattle.gf2_matrix.specs.Content.{Content, row_at, has, IsOfGiven, IsLeastOf}
 use Rattle.gf2_matrix.proofs.Rows.{rising_apart}
 use Rattle.gf2_space.specs.Solutions.{Solves, IsFree}
-use Rattle.gf2_space.specs.Spaces.{AffineSpace, plus, vector_value, IsSpaceOf}
-use Rattle.gf2_space.specs.Kept.{AreOwners, AreUnowned, IsKept, HasClash, by_owner, point_value, vector_bit, vector_of, space_of}
-use Rattle.gf2_space.proofs.Arising.{AreLong, length-plus}
+use Rattle.gf2_space.specs.Spaces.{plus, IsSpaceOf}
+use Rattle.gf2_space.specs.Kept.{AreOwners, IsKept, HasClash, by_owner, point_value, vector_bit, vector_of, space_of}
+use Rattle.gf2_space.proofs.Arising.{length-plus}
 use Rattle.gf2_space.proofs.SpaceLaws.{IsBasis, space_of_basis}
 use Rattle.gf2_space.proofs.RowSums.{products, product, products_none, products_one, products_two, products_plus, same_least}
 
-zero_or : (n : ℕ) → (n ≡ 0) ⊎ ((r : ℕ) × (n ≡ r + 1))
+pub zero_or : (n : ℕ) → (n ≡ 0) ⊎ ((r : ℕ) × (n ≡ r + 1))
 zero_or zero = inl refl
 zero_or (suc n) = inr (n, omega arith)
 
@@ -28,7 +27,7 @@ differ_same : (b : Bool) → differ (true && b) (b && true) ≡ false
 differ_same true = refl
 differ_same false = refl
 
-read-map : {X Y : Type 0} (f : X → Y) (d : X) (e : Y) (xs : List X) (i : ℕ) → i < length xs → get_or (map f xs) i e ≡ f (get_or xs i d)
+pub read-map : {X Y : Type 0} (f : X → Y) (d : X) (e : Y) (xs : List X) (i : ℕ) → i < length xs → get_or (map f xs) i e ≡ f (get_or xs i d)
 read-map f d e [] i lt = absurd (omega arith)
 read-map f d e (x ∷ xs) zero lt = refl
 read-map f d e (x ∷ xs) (suc i) lt = read-map f d e xs i (omega arith)
@@ -49,7 +48,7 @@ pub least_unique : (c : Content) (r x y : ℕ) → IsLeastOf c r x → IsLeastOf
 least_unique c r x y lx ly =
     elim (cases_lt x y) [
       | inl lower ↦ absurd (true≢false (sym lx.0 ∙ ly.1 x lower))
-      | inr ge ↦ elim (cases_lt y x) [ | inl lower ↦ absurd (true≢false (sym ly.0 ∙ lx.1 y lower)) | inr le ↦ omega arith ]
+      | inr ge ↦ elim (cases_lt y x) [ inl lower ↦ absurd (true≢false (sym ly.0 ∙ lx.1 y lower)) | inr le ↦ omega arith ]
     ]
 
 module _ (c : Content) (owners free : List ℕ) (kept : IsKept c owners free) where
@@ -205,7 +204,7 @@ module _ (c : Content) (owners free : List ℕ) (kept : IsKept c owners free) wh
   free_unowned x f = (low, high, none)
     where
       low : 1 ≤ x
-      low = elim (zero_or x) [ | inl e ↦ absurd (f.differ_here (subst (λ y. get_or f.one (y - 1) false ≡ get_or f.other (y - 1) false) (sym e) (f.agree_above 1 (omega arith)))) | inr s ↦ let h = s.1 in omega arith ]
+      low = elim (zero_or x) [ inl e ↦ absurd (f.differ_here (subst (λ y. get_or f.one (y - 1) false ≡ get_or f.other (y - 1) false) (sym e) (f.agree_above 1 (omega arith)))) | inr s ↦ let h = s.1 in omega arith ]
 
       high : x - 1 < c.vars
       high =

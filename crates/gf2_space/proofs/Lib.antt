@@ -4,3 +4,4 @@ pub mod RowSums
 pub mod Echelons
 pub mod Filling
 pub mod Places
+pub mod Supporting

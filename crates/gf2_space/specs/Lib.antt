@@ -1,3 +1,4 @@
 pub mod Solutions
 pub mod Spaces
 pub mod Kept
+pub mod Supports

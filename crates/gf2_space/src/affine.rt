@@ -1,11 +1,15 @@
 //! A point and vectors, kept as a matrix.
-ghost use Rattle.std.specs.Prelude.{◌≡◌, ◌-◌, ◌≤◌, length, slice_index, IsTrue, ◌↔◌};
+ghost use Rattle.std.specs.Prelude.{◌≡◌, ◌-◌, ◌≤◌, length, slice_index, slice_index_or, [], ◌∷◌, ◌++◌, IsTrue, ◌↔◌};
+ghost use Rattle.cx_base.specs.declared.literal.TheConstants.{MAX_VARIABLE};
+ghost use Rattle.parity_engine.specs.Equations.{numbers_from};
+ghost use Rattle.gf2_space.specs.Supports.{AreSupports};
 ghost use Rattle.cx_base.specs.Literals.{value_of};
 ghost use Rattle.gf2_space.specs.Kept.{IsKept, space_of};
 ghost use Rattle.gf2_space.specs.Solutions.{Solves};
 ghost use Rattle.gf2_space.specs.Spaces.{IsSpaceOf, vector_value};
 
 use crate::reading::{point_value, vector_has};
+use crate::supports::Support;
 use cx_base::{ConstraintRef, ParityList, Var};
 use gf2_matrix::Matrix;
 use std::marker::Model;
@@ -19,18 +23,20 @@ pub struct Space {
     matrix: Matrix,
     owners: Vec<u32>,
     free: Vec<u32>,
+    supports: Vec<Support>,
 }
 
 impl Model for Space {
     ghost use Rattle.gf2_space.specs.Spaces.{AffineSpace};
     ghost use Rattle.std.specs.Prelude.{◌≡◌};
     ghost use Rattle.gf2_space.specs.Kept.{IsKept, space_of};
+    ghost use Rattle.gf2_space.specs.Supports.{AreSupports};
 
     ghost Value = { AffineSpace };
 
     ghost view = { λ s. space_of s.matrix s.owners.items s.free.items };
 
-    ghost invariant = { λ s. (s.parities ≡ s.matrix.given) × IsKept s.matrix s.owners.items s.free.items };
+    ghost invariant = { λ s. (s.parities ≡ s.matrix.given) × IsKept s.matrix s.owners.items s.free.items × AreSupports s.matrix s.owners.items s.supports.items s.matrix.vars };
 }
 
 impl Space {
@@ -40,9 +46,11 @@ impl Space {
         matrix: Matrix,
         owners: Vec<u32>,
         free: Vec<u32>,
+        supports: Vec<Support>,
     ) -> Space
         requires given { parities ≡ matrix.given }
         requires kept { IsKept matrix owners.items free.items }
+        requires supports { AreSupports matrix owners.items supports.items matrix.vars }
         ensures { result ≡ space_of matrix owners.items free.items }
     {
         Space {
@@ -50,7 +58,16 @@ impl Space {
             matrix,
             owners,
             free,
+            supports,
         }
+    }
+
+    /// The number of variables.
+    pub fn vars(&self) -> u32
+        ensures is { result ≡ self.now.vars }
+        ensures small { result ≤ MAX_VARIABLE }
+    {
+        self.matrix.vars()
     }
 
     /// How many vectors it has: as many as there are free variables.
@@ -92,6 +109,20 @@ impl Space {
         // `index` says to the proof that there is a variable 1.
         let _index = var.index();
         vector_has(&self.matrix, &self.owners, self.free(number), var)
+    }
+
+    /// The variables of the vector with this number, from 1, but for the free one, which is above them.
+    pub(crate) fn below(&self, number: u64) -> &[u32]
+        requires low { 1 ≤ number }
+        requires high { number ≤ length self.now.free }
+        ensures { numbers_from 1 (slice_index_or self.now.vectors (number - 1) []) ≡ result.now ++ slice_index self.now.free (number - 1) ∷ [] }
+    {
+        let column = self.matrix.place_of(self.free(number));
+        if column < self.matrix.columns() {
+            &self.supports[column].vars
+        } else {
+            &[]
+        }
     }
 
     /// Whether the values are a solution.

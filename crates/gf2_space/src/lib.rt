@@ -8,6 +8,7 @@ mod affine;
 pub mod laws;
 mod making;
 mod reading;
+mod supports;
 
 pub use affine::Space;
 pub use making::space;

@@ -8,6 +8,7 @@ ghost use Rattle.gf2_space.specs.Spaces.{Describes};
 ghost use Rattle.gf2_space.specs.Kept.{AreOwners, AreUnowned, HasNoClash, HasClash, IsEchelonOf};
 
 use crate::affine::Space;
+use crate::supports::supports_of;
 use cx_base::{Formula, Lit, LitList, ParityList};
 use gf2_matrix::Matrix;
 use std::alloc::{AllocError, Global};
@@ -23,7 +24,8 @@ pub fn space(alloc: Global, formula: &Formula) -> Result<Option<Space>, AllocErr
     }
     let owners = owners_of(alloc, &matrix)?;
     let free = free_of(alloc, &owners)?;
-    Ok(Some(Space::new(parities, matrix, owners, free)))
+    let supports = supports_of(alloc, &matrix, &owners)?;
+    Ok(Some(Space::new(parities, matrix, owners, free, supports)))
 }
 
 /// The formula's parities, in order.
