@@ -5,3 +5,4 @@ pub mod Echelons
 pub mod Filling
 pub mod Places
 pub mod Supporting
+pub mod Printing

@@ -7,8 +7,10 @@
 mod affine;
 pub mod laws;
 mod making;
+mod put;
 mod reading;
 mod supports;
 
 pub use affine::Space;
 pub use making::space;
+pub use put::put_space;

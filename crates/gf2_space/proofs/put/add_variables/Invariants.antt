@@ -1,0 +1,8 @@
+use Rattle.std.proofs.Common.{take}
+use Rattle.std.specs.List.{flat_map}
+use Rattle.gf2_space.specs.AffineText.{listed_variable}
+use Rattle.model_out.specs.Waiting.{Takes}
+use Rattle.gf2_space.proofs.put.add_variables.Given as goal
+
+abbrev pub invariant-loop-place : goal.invariant-loop-place
+invariant-loop-place g l = Takes (flat_map listed_variable (take l.place l.variables)) (g.D.Desk.outside l.initial.desk) l.initial.waiting.items (g.D.Desk.outside l.desk) l.waiting.items
