@@ -49,7 +49,7 @@ met_named met table h (n ∷ ids) = elim (get table n) as (λ o. get table n ≡
   | Some lits ↦ λ e. and_from _ _ (h n lits e) (met_named met table h ids)
 ] refl
 
-met_insert : (met : List Literal → Bool) (table : Table) (n : ℕ) (lits : List Literal) → AllMet met table → met lits ≡ true → AllMet met (map_.insert table n lits)
+pub met_insert : (met : List Literal → Bool) (table : Table) (n : ℕ) (lits : List Literal) → AllMet met table → met lits ≡ true → AllMet met (map_.insert table n lits)
 met_insert met table n lits h k m others e = elim (eq_by_cmp nat_cmp m n) as (λ b. cond b (Some lits) (get table m) ≡ Some others → met others ≡ true) [
   | true ↦ λ f. subst (λ x. met x ≡ true) (same_Some lits others f) k
   | false ↦ λ f. h m others f
@@ -77,7 +77,7 @@ met_put_moved met first (m ∷ moves) table f h = met_put_moved met first moves 
 met_moved : (met : List Literal → Bool) (table : Table) (moves : List IdMove) → AllMet met table → AllMet met (moved table moves)
 met_moved met table moves h = met_put_moved met table moves (without_ids table (old_ids moves)) h (met_drop met (old_ids moves) table h)
 
-met_empty : (met : List Literal → Bool) → AllMet met map_.empty
+pub met_empty : (met : List Literal → Bool) → AllMet met map_.empty
 met_empty met n lits e = absurd (none_some lits (sym (map_.get-empty nat_cmp n) ∙ e))
 
 met_numbered : (met : List Literal → Bool) (n : ℕ) (lists : List (List Literal)) → list_all met lists ≡ true → AllMet met (numbered_from n lists)
@@ -226,7 +226,7 @@ chain_is_right right h k = refl
 chain_is_right not_unit h k = absurd (true≢false h)
 chain_is_right hints_end h k = absurd (true≢false k)
 
-right_proof_step : (formula : Problem) (v : List Bool) (tables : Tables) (s : ProofStep) → TablesMet v tables → IsRight (proof_calculus formula) tables s → TablesMet v (after_step tables s)
+pub right_proof_step : (formula : Problem) (v : List Bool) (tables : Tables) (s : ProofStep) → TablesMet v tables → IsRight (proof_calculus formula) tables s → TablesMet v (after_step tables s)
 right_proof_step formula v tables (proof.Clause n lits hints) m (a, (b, (c, (d, (e, (f, g)))))) = record {
   clauses = met_insert (clause_met v) tables.clauses n (literals lits) m.clauses
       (chained_is_met v (literals lits) (named tables.clauses (sizes hints)) (chain_is_right _ e f) (met_named (clause_met v) tables.clauses m.clauses (sizes hints)));
@@ -293,7 +293,7 @@ right_log_step formula v meets tables (log.MoveParities moves) m h = record { cl
 
 -- ---- whole runs
 
-runs_keep : {S : Type 0} (c : Calculus S) (v : List Bool) → ((t : Tables) (s : S) → TablesMet v t → IsRight c t s → TablesMet v (c.after t s))
+pub runs_keep : {S : Type 0} (c : Calculus S) (v : List Bool) → ((t : Tables) (s : S) → TablesMet v t → IsRight c t s → TablesMet v (c.after t s))
     → (t : Tables) (ss : List S) (u : Tables) → Runs c t ss u → TablesMet v t → TablesMet v u
 runs_keep c v keeps t [] u h m = subst (TablesMet v) (sym h) m
 runs_keep c v keeps t (s ∷ ss) u h m = runs_keep c v keeps (c.after t s) ss u h.2 (keeps t s m h.0)
@@ -311,7 +311,7 @@ put_is_met v table n lits m =
 no_ending : (v : List Bool) (cs : List Constraint) (table : Table) (n : ℕ) (lits : List Literal) → list_all (literal_true v) (assumptions_of cs) ≡ true → is_ending cs lits ≡ true → AllMet (clause_met v) (map_.insert table n lits) → ⊥
 no_ending v cs table n lits a e m = true≢false (sym (put_is_met v table n lits m) ∙ ending_is_missed v cs lits a e)
 
-no_ending_proof : (formula : Problem) (v : List Bool) (tables : Tables) (s : ProofStep) → list_all (literal_true v) (assumptions_of formula.constraints) ≡ true → adds_ending_clause formula s ≡ true → TablesMet v (after_step tables s) → ⊥
+pub no_ending_proof : (formula : Problem) (v : List Bool) (tables : Tables) (s : ProofStep) → list_all (literal_true v) (assumptions_of formula.constraints) ≡ true → adds_ending_clause formula s ≡ true → TablesMet v (after_step tables s) → ⊥
 no_ending_proof formula v tables (proof.Clause n lits hints) a e m = no_ending v formula.constraints tables.clauses n (literals lits) a e m.clauses
 no_ending_proof formula v tables (proof.ClauseOfParity n lits hint) a e m = no_ending v formula.constraints tables.clauses n (literals lits) a e m.clauses
 no_ending_proof formula v tables (proof.Parity n lits hints) a e m = true≢false (sym e)
