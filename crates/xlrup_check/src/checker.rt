@@ -1,9 +1,10 @@
 //! The judgement of a proof, step by step.
-ghost use Rattle.std.specs.Prelude.{◌≡◌, ◌<◌, ◌≤◌, ◌^◌, ◌+◌, false, None, IfOk, IfErr};
-ghost use Rattle.xlrup_check.specs.Verdicts.{IsJudgedBy, IsSound, HasCause, ReadsStand, Kept, Goes, text_refused, what_follows_of};
+ghost use Rattle.std.specs.Prelude.{◌≡◌, ◌<◌, ◌≤◌, ◌^◌, false, List, IfOk, IfErr};
+ghost use Rattle.cx_base.specs.declared.steps.ProofStep.{ProofStep};
+ghost use Rattle.xlrup_check.specs.Verdicts.{IsJudgedBy, IsSound, HasCause, ReadsStand, Kept, Goes, WhereTook, WhereWent, text_refused, what_follows_of};
 
 use crate::step::take_step;
-use crate::verdict::{Fault, Verdict};
+use crate::verdict::{Fault, Taken, Verdict};
 use cx_base::{Formula, ProofStep};
 use cx_semantics::Cause;
 use proof_rules::{JudgeMarks, JudgeRefusal, Live};
@@ -12,9 +13,25 @@ use step_text::{SpareLists, StepSource, TextRefusal};
 
 /// What is kept from one step to the next for its memory alone.
 #[derive(Drop)]
-struct Memory {
+pub struct CheckMemory {
     marks: JudgeMarks,
     spare: SpareLists,
+}
+
+impl CheckMemory {
+    /// No memory yet.
+    pub fn new(alloc: Global) -> CheckMemory {
+        CheckMemory {
+            marks: JudgeMarks::new(alloc),
+            spare: SpareLists::new(alloc),
+        }
+    }
+
+    /// Keeps the memory of a step that is done with.
+    #[inline(always)]
+    pub fn keep(&mut self, step: ProofStep) {
+        self.spare.keep(step);
+    }
 }
 
 /// Judges a proof of the formula, from a source of steps.
@@ -43,34 +60,39 @@ pub fn check<S: StepSource<Step = ProofStep>>(
         Ok(live) => live,
         Err(_) => return Err(Fault::Memory),
     };
-    let mut memory = Memory {
-        marks: JudgeMarks::new(alloc),
-        spare: SpareLists::new(alloc),
-    };
+    let mut memory = CheckMemory::new(alloc);
     let mut steps = 0;
     loop {
         match take_next(&mut memory, formula, &mut live, source, steps) {
-            Ok(None) => steps += 1,
-            Ok(Some(verdict)) => return Ok(verdict),
+            Ok(Taken::Went(step)) => {
+                memory.keep(step);
+                steps += 1;
+            }
+            Ok(Taken::Ended(_)) => return Ok(Verdict::Verified(steps + 1)),
+            Ok(Taken::Refused(number, cause)) => return Ok(Verdict::Refused(number, cause)),
             Err(fault) => return Err(fault),
         }
     }
 }
 
-/// Takes the next step, behind so many; none where the proof goes on.
-fn take_next<S: StepSource<Step = ProofStep>>(
-    memory: &mut Memory,
+/// Takes and judges the next step of a proof, after so many right ones that leave these tables and did not end it.
+///
+/// `check` takes each step so, and whoever wants the steps too, as they are judged, asks here. It does not look for
+/// assumptions that clash: its caller does, before the first step. `memory` is for its memory alone.
+pub fn take_next<S: StepSource<Step = ProofStep>>(
+    memory: &mut CheckMemory,
     formula: &Formula,
     live: &mut Live,
     source: &mut S,
     steps: u64,
-) -> Result<Option<Verdict>, Fault>
+) -> Result<Taken, Fault>
     requires fresh { S.is_spent source.old ≡ false }
     requires count { steps < 2 ^ 63 }
-    ensures goes { (first : S) → Kept S.leaves formula.now first source.old live.old steps → IfOk result (Goes S.leaves formula.now first source.new live.new steps) }
-    ensures fresh { IfOk result (λ verdict. verdict ≡ None → S.is_spent source.new ≡ false) }
+    ensures goes { (first : S) (before : List ProofStep) → Kept S.leaves formula.now first source.old live.old before steps
+        → IfOk result (Goes S.leaves formula.now first source.new live.new before steps) }
+    ensures fresh { WhereWent result (S.is_spent source.new ≡ false) }
     ensures reads { ReadsStand result (S.faults source.old) (S.faults source.new) }
-    ensures rises { IfOk result (λ verdict. verdict ≡ None → S.place_of source.old < S.place_of source.new) }
+    ensures rises { WhereTook result (S.place_of source.old < S.place_of source.new) }
     ensures far { S.place_of source.new < 2 ^ 62 }
     ensures limit { S.passes_limit source.new ≡ S.passes_limit source.old }
     ensures cause { IfErr result (HasCause (S.passes_limit source.old) (S.faults source.old) (S.faults source.new)) }
@@ -79,37 +101,38 @@ fn take_next<S: StepSource<Step = ProofStep>>(
     let step = match source.next_step(&mut memory.spare) {
         Ok(Some(step)) => step,
         Ok(None) => {
-            return Ok(Some(Verdict::Refused(steps + 1, Cause::NoEmptyClause)));
+            return Ok(Taken::Refused(steps + 1, Cause::NoEmptyClause));
         }
         Err(why) => return refused_text(why, steps + 1),
     };
     let taken = take_step(&mut memory.marks, formula, live, &step);
-    memory.spare.keep(step);
-    what_follows(taken, steps + 1)
+    what_follows(taken, step, steps + 1)
 }
 
-/// What follows a step that was judged; none where the proof goes on.
-fn what_follows(taken: Result<bool, JudgeRefusal>, number: u64) -> Result<Option<Verdict>, Fault>
-    ensures { result ≡ what_follows_of taken number }
+/// What follows a step that was judged.
+fn what_follows(
+    taken: Result<bool, JudgeRefusal>,
+    step: ProofStep,
+    number: u64,
+) -> Result<Taken, Fault>
+    ensures { result ≡ what_follows_of taken step number }
 {
     match taken {
-        Ok(true) => Ok(Some(Verdict::Verified(number))),
-        Ok(false) => Ok(None),
-        Err(JudgeRefusal::Wrong(cause)) => Ok(Some(Verdict::Refused(number, cause))),
+        Ok(true) => Ok(Taken::Ended(step)),
+        Ok(false) => Ok(Taken::Went(step)),
+        Err(JudgeRefusal::Wrong(cause)) => Ok(Taken::Refused(number, cause)),
         Err(JudgeRefusal::Memory) => Err(Fault::Memory),
     }
 }
 
 /// What stands where the source gives no step.
-fn refused_text(why: TextRefusal, number: u64) -> Result<Option<Verdict>, Fault>
+fn refused_text(why: TextRefusal, number: u64) -> Result<Taken, Fault>
     ensures { result ≡ text_refused why number }
 {
     match why {
         TextRefusal::BadToken(place)
         | TextRefusal::Unterminated(place)
-        | TextRefusal::TooBig(place) => {
-            Ok(Some(Verdict::Refused(number, Cause::TextRefused(place))))
-        }
+        | TextRefusal::TooBig(place) => { Ok(Taken::Refused(number, Cause::TextRefused(place))) }
         TextRefusal::TooLong => Err(Fault::TooLong),
         TextRefusal::Memory => Err(Fault::Memory),
         TextRefusal::Failed => Err(Fault::Read),

@@ -5,5 +5,5 @@ mod checker;
 mod step;
 mod verdict;
 
-pub use checker::check;
-pub use verdict::{Fault, Verdict};
+pub use checker::{CheckMemory, check, take_next};
+pub use verdict::{Fault, Taken, Verdict};
