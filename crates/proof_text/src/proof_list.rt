@@ -31,7 +31,7 @@ impl Model for ProofList {
 
 impl ProofList {
     /// The steps of a list of fewer than 2^62.
-    pub(crate) fn of(steps: Vec<ProofStep>) -> ProofList
+    pub fn of(steps: Vec<ProofStep>) -> ProofList
         requires { length steps.items < 2 ^ 62 }
         ensures { result ≡ record { steps = steps.items; given = 0 } }
     {
