@@ -1,0 +1,9 @@
+pub mod LookLaws
+pub mod Staying
+pub mod TrimLaws
+pub mod MarkLaws
+pub mod NameLaws
+pub mod SetLaws
+pub mod WantLaws
+pub mod PassLaws
+pub mod Recorded

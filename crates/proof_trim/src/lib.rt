@@ -1,0 +1,16 @@
+//! Trimming: of an accepted proof the steps that its last step needs, and the constraints of the formula that these name.
+#![tactic(auto)]
+
+mod back;
+mod keep;
+mod laws;
+mod names;
+mod outcome;
+mod recording;
+mod trimming;
+
+pub use laws::{
+    core_is_unmet, marks_are_needed, trimmed_is_a_part, trimmed_is_accepted, wanted_is_named,
+};
+pub use outcome::{TrimOf, Trimmed};
+pub use trimming::trim;

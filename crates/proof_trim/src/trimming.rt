@@ -1,0 +1,86 @@
+//! The trimming of a proof.
+ghost use Rattle.std.specs.Prelude.{◌≡◌, ◌<◌, ◌^◌, false, length, IfOk, IfErr};
+ghost use Rattle.cx_base.specs.Problem.{Unmet};
+ghost use Rattle.xlrup_check.specs.Verdicts.{HasCause, ReadsStand};
+ghost use Rattle.proof_trim.specs.Laws.{IsRefutation};
+ghost use Rattle.proof_trim.specs.Outcomes.{AnswersAsJudged, IsTrimOf, ListsNames, Trims, WhereDone};
+ghost use Rattle.proof_trim.specs.Trimmed.{core_of};
+
+use crate::back::{Found, go_back};
+use crate::keep::keep;
+use crate::names::NameSet;
+use crate::outcome::{TrimOf, Trimmed};
+use crate::recording::{Recorded, check_and_record};
+use cx_base::{Formula, IdList, ProofStep};
+use proof_rules::Kind;
+use proof_text::ProofList;
+use std::alloc::{AllocError, Global};
+use step_text::StepSource;
+use xlrup_check::Fault;
+
+/// The numbers up to this count, rising, whose names are in the set.
+fn numbers_in(
+    alloc: Global,
+    names: &NameSet,
+    kind: Kind,
+    count: usize,
+) -> Result<IdList, AllocError>
+    ensures { IfOk result (ListsNames names.now kind count) }
+{
+    let mut numbers = Vec::new(alloc);
+    for place in 0..count {
+        let number = place as u64 + 1;
+        if names.has(kind, number) {
+            numbers.push(number)?;
+        }
+    }
+    Ok(IdList::from_vec(numbers))
+}
+
+/// What is left of an accepted proof.
+fn trimmed_of(
+    alloc: Global,
+    formula: &Formula,
+    proof: Vec<ProofStep>,
+) -> Result<Trimmed, AllocError>
+    requires few { length proof.items < 2 ^ 62 }
+    ensures { IfOk result (Trims formula.now proof.items) }
+{
+    let found = go_back(alloc, &proof)?;
+    let clauses = numbers_in(alloc, &found.wanted, Kind::Clauses, formula.clause_count())?;
+    let parities = numbers_in(alloc, &found.wanted, Kind::Parities, formula.parity_count())?;
+    let steps = keep(alloc, formula, proof, &found.marks)?;
+    Ok(Trimmed {
+        steps: ProofList::of(steps),
+        clauses,
+        parities,
+    })
+}
+
+/// Judges a proof of the formula as `check` does, and gives what is left of an accepted one: the steps that its last one
+/// needs, by their hints and the hints of those, and the numbers of the formula's constraints that these name.
+///
+/// The steps that it gives are accepted themselves, and no values meet the constraints that it names together with the
+/// assumption constraints. Where the assumptions clash, no step is left and no constraint is named.
+pub fn trim<S: StepSource<Step = ProofStep>>(
+    alloc: Global,
+    formula: &Formula,
+    source: &mut S,
+) -> Result<TrimOf, Fault>
+    requires { S.is_spent source.old ≡ false }
+    ensures judged { IfOk result (AnswersAsJudged S.leaves formula.now source.old) }
+    ensures trimmed { WhereDone result (IsTrimOf S.leaves formula.now source.old) }
+    ensures accepted { WhereDone result (λ t. IsRefutation formula.now t.steps.steps) }
+    ensures core { WhereDone result (λ t. Unmet (core_of formula.now t.clauses t.parities)) }
+    ensures cause { IfErr result (HasCause (S.passes_limit source.old) (S.faults source.old) (S.faults source.new)) }
+    ensures reads { ReadsStand result (S.faults source.old) (S.faults source.new) }
+    ensures frame { S.keeps source.old source.new }
+{
+    match check_and_record(alloc, formula, source)? {
+        Recorded::Refused(number, cause) => Ok(TrimOf::Refused(number, cause)),
+        Recorded::Accepted(proof) => match trimmed_of(alloc, formula, proof) {
+            Ok(trimmed) => Ok(TrimOf::Done(trimmed)),
+            Err(_) => Err(Fault::Memory),
+        },
+    }
+}
