@@ -1,4 +1,4 @@
-//! Tests of the judges, of the tables by ids, of the finders of chains and of the elaborator.
+//! Tests of the judges, of the tables by ids, of the finders of chains, of the elaborator and of trimming.
 #![tactic(auto)]
 
 #[cfg(test)]
@@ -12,3 +12,5 @@ mod logs;
 #[cfg(test)]
 mod maps;
 mod numbers;
+#[cfg(test)]
+mod trims;
