@@ -4,19 +4,17 @@ use Rattle.std.proofs.lemmas.List.{get_or_read, get_or-set_same, get_or-set_othe
 use Rattle.std.proofs.lemmas.Bool.{cases_eq, cases_lt}
 use Rattle.cx_base.specs.Literals.{Literal, negate, code_of}
 use Rattle.cx_base.specs.declared.literal.TheConstants.{MAX_VARIABLE}
-use Rattle.cx_base.specs.declared.moved.Move.{Move}
 use Rattle.cx_trail.specs.declared.entry.Entry.{Entry}
 use Rattle.cx_trail.specs.declared.entry.Reason.TheVariants.{Decision}
 use Rattle.cx_trail.specs.declared.entry.Truth.{Truth}
 use Rattle.cx_trail.specs.declared.entry.Truth.TheVariants.{True, False, Open}
 use Rattle.cx_trail.specs.Sequence.{TrailState, IsTrail, IsOpenIn, IsFalseIn, IsAssignedIn, HasEntry, Means, TakesBack, IsFull, HasOpen, entry_at, no_entry}
 use Rattle.cx_trail.specs.Cells.{ArePaired, AreApart, AreTruths, IsKept, var_at, truth_at}
-use Rattle.cx_trail.specs.Renaming.{renamed}
 use Rattle.cx_trail.proofs.CellLaws.{at_take, put_paired, open_place, paired_apart}
 use Rattle.cx_trail.proofs.LevelLaws.{cut_levels}
 use Rattle.cx_trail.proofs.TruthLaws.{means_at}
 use Rattle.cx_trail.proofs.KeptLaws.{sound_from_kept, full_from_kept, open_from_kept, takes_back, push_kept, first_cells, first_places, fresh}
-use Rattle.cx_trail.proofs.RenamingLaws.{renamed_up_to, renamed_kept, renamed_front, as_long, variables_stay}
+use Rattle.cx_trail.proofs.MappedLaws.{KeepsEntries, mapped_up_to, mapped_kept, mapped_front, as_long, variables_stay}
 
 -- ---- two lists that begin alike
 pub same_at : (len i : ℕ) (whole cells : List Entry) → take len whole ≡ take len cells → i < len → entry_at whole i ≡ entry_at cells i
@@ -161,19 +159,19 @@ module _ (vars level len : ℕ) (cells : List Entry) (places : List ℕ) (truths
       (left k.whole (paired_apart vars k.whole k.spots k.is_whole.paired) (all ∙ sym (ap length e ∙ k.room)) (k.begins ∙ sym (ap (take len) e))
       (subst (λ n. AreTruths n len k.whole truths) (sym all) k.is_whole.valued))
 
-  -- ---- other references
-  pub front_renamed : (moves : List Move) (new : List Entry) → new ≡ renamed_up_to moves len cells → IsKept vars level len new places truths
-  front_renamed moves new e =
+  -- ---- entries that are changed one by one
+  pub front_mapped : (f : Entry → Entry) → KeepsEntries f → (new : List Entry) → new ≡ mapped_up_to f len cells → IsKept vars level len new places truths
+  front_mapped f keeps new e =
       let few : len ≤ length cells = omega (arith, k.is_whole.short, k.room) in
       let few_there : len ≤ length k.whole = omega (arith, k.is_whole.short, k.is_whole.paired.cell_count) in
       record {
-        whole = renamed_up_to moves len k.whole;
+        whole = mapped_up_to f len k.whole;
         spots = k.spots;
-        is_whole = renamed_kept moves vars level len k.whole (renamed_up_to moves len k.whole) k.spots truths k.is_whole refl;
-        begins = renamed_front moves len k.whole (renamed_up_to moves len k.whole) few_there refl ∙ ap (map (renamed moves)) k.begins ∙ sym (renamed_front moves len cells new few e);
-        room = ap length e ∙ as_long moves len cells few ∙ k.room;
+        is_whole = mapped_kept f keeps vars level len k.whole (mapped_up_to f len k.whole) k.spots truths k.is_whole refl;
+        begins = mapped_front f len k.whole (mapped_up_to f len k.whole) few_there refl ∙ ap (map f) k.begins ∙ sym (mapped_front f len cells new few e);
+        room = ap length e ∙ as_long f len cells few ∙ k.room;
         slots = k.slots;
-        placed = λ i h. ap (λ v. get_or places v 0) (ap (λ (xs : List Entry). var_at xs i) e ∙ variables_stay moves len cells i few) ∙ k.placed i h;
+        placed = λ i h. ap (λ v. get_or places v 0) (ap (λ (xs : List Entry). var_at xs i) e ∙ variables_stay f keeps len cells i few) ∙ k.placed i h;
       }
 
   -- ---- a push

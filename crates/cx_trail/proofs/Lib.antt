@@ -4,4 +4,6 @@ pub mod TruthLaws
 pub mod KeptLaws
 pub mod FrontLaws
 pub mod ValueLaws
-pub mod RenamingLaws
+pub mod MappedLaws
+pub mod ReasonLaws
+pub mod ForgottenLaws

@@ -2,6 +2,7 @@
 #![tactic(auto)]
 
 mod entry;
+mod forgetting;
 mod renaming;
 mod trail;
 

@@ -1,12 +1,16 @@
 //! The trail.
 ghost use Rattle.std.specs.Prelude.{◌≡◌, ◌+◌, ◌-◌, ◌*◌, List, ◌<◌, ◌≤◌, ◌≢◌, ◌++◌, ◌∷◌, [], ◌↔◌, length, map, take, get_or, slice_set, slice_index, IfOk, MatchOption, IsTrue, MatchBool, not, ℕ};
+ghost use Rattle.std.specs.List.{All};
 ghost use Rattle.cx_base.specs.Literals.{Literal, negate, code_of};
 ghost use Rattle.cx_base.specs.declared.literal.TheConstants.{MAX_VARIABLE};
 ghost use Rattle.cx_trail.specs.Sequence.{TrailState, IsTrail, IsOpenIn, IsAssignedIn, IsTrueIn, IsFalseIn, Means, HasEntry, entry_at, pushed, TakesBack, IsFull, HasOpen};
 ghost use Rattle.cx_trail.specs.Cells.{AreApart, AreTruths, var_at};
 ghost use Rattle.cx_trail.specs.Renaming.{renamed};
+ghost use Rattle.cx_trail.specs.Forgetting.{forgotten};
+ghost use Rattle.cx_trail.specs.declared.entry.Reason.TheVariants.{Decision};
 
 use crate::entry::{Entry, Reason, Truth};
+use crate::forgetting::forget_entries;
 use crate::renaming::rename_entries;
 use cx_base::{Lit, Moved, Var};
 use std::alloc::{AllocError, Global};
@@ -267,5 +271,16 @@ impl Trail {
         ensures sound { IsTrail self.new }
     {
         rename_entries(&mut self.cells, self.count, moved);
+    }
+
+    /// Forgets the reasons of the literals of level 0. There each of them stands for 'no reason is given' then.
+    ///
+    /// Its time is in the assigned literals. It takes no memory.
+    pub fn forget_reasons(&mut self)
+        ensures forgotten { self.new ≡ record self.old { entries = map forgotten self.old.entries } }
+        ensures all { self.old.level ≡ 0 → All (λ e. e.reason ≡ Decision) self.new.entries }
+        ensures sound { IsTrail self.new }
+    {
+        forget_entries(&mut self.cells, self.count);
     }
 }
