@@ -49,3 +49,8 @@ lbd_at a r = lbd_in (clause_at a r)
 
 abbrev pub learned_at : ArenaState → ℕ → Bool
 learned_at a r = learned_in (clause_at a r)
+
+-- the clause as one that was not learned
+abbrev pub kept : Option Stored → Option Stored
+kept None = None
+kept (Some c) = Some (record c { learned = false })
