@@ -151,11 +151,13 @@ impl Arena {
         self.heads[reference.place() as usize].learned
     }
 
-    /// Makes room for so many clauses and literals more. Without memory the clauses stay as they are.
+    /// Makes room for so many clauses and literals more. Without memory the clauses stay as they are. Where more than
+    /// [`MAX_CLAUSES`] references would have to be handed out, the answer is out of memory too.
     pub fn reserve(&mut self, clauses: usize, lits: usize) -> Result<(), AllocError>
         ensures same { self.new.clauses ≡ self.old.clauses }
         ensures room { OnOk result ((clauses ≤ self.new.clause_room) × (lits ≤ self.new.literal_room)) }
         ensures kept { (self.old.clause_room ≤ self.new.clause_room) × (self.old.literal_room ≤ self.new.literal_room) }
+        ensures few { IsOk result → length self.old.clauses + clauses ≤ 2 ^ 31 - 1 }
     {
         if clauses > MAX_CLAUSES - self.heads.len() {
             return Err(AllocError);
@@ -168,6 +170,7 @@ impl Arena {
     /// Adds a clause and gives its reference.
     ///
     /// Where there is room for a clause and the literals it takes just these and no memory. Without memory the clauses stay as they are.
+    /// Once [`MAX_CLAUSES`] references were handed out, the answer is out of memory too.
     pub fn add(
         &mut self,
         lits: &[Lit],
@@ -180,6 +183,7 @@ impl Arena {
         ensures same { OnErr result (self.new.clauses ≡ self.old.clauses) }
         ensures room { 1 ≤ self.old.clause_room → length lits.now ≤ self.old.literal_room
             → IsOk result × (self.old.clause_room ≡ self.new.clause_room + 1) × (self.old.literal_room ≡ self.new.literal_room + length lits.now) }
+        ensures few { IsOk result → length self.old.clauses < 2 ^ 31 - 1 }
     {
         let place = self.heads.len();
         if place >= MAX_CLAUSES {

@@ -36,3 +36,8 @@ pub returns-clause-added : goal.returns-clause-added
 returns-clause-added c =
     added c.self.inside.lits.items c.args.lits.now _ c.self.inside.ends.items _ c.self.inside.heads.items _ c.len.result (head_of c) c.self.invariant (lits_are c) (ends_are c) (heads_are c) (end_is c)
     ∙ ap (λ (t : ArenaState). t.clauses ++ (Some (record { literals = c.args.lits.now; id = c.args.id; lbd = c.args.lbd; learned = c.args.learned })) ∷ []) c.self.view_is
+
+pub returns-clause-few : goal.returns-clause-few
+returns-clause-few c ok =
+    let count = clauses_count 0 c.self.inside.lits.items c.self.inside.ends.items c.self.inside.heads.items c.self.invariant.each in
+    omega (arith, c.if-place-ge-MAX_CLAUSES.false, c.len-place.ensures, c.self.inside.heads.ok.0, count, ap (λ (t : ArenaState). length t.clauses) c.self.view_is)
