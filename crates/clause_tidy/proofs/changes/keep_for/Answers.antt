@@ -1,0 +1,20 @@
+use Rattle.std.proofs.Common.{ap}
+use Rattle.clause_arena.specs.Clauses.{ArenaState}
+use Rattle.clause_tidy.proofs.Composing.{nothing_tidied}
+use Rattle.clause_tidy.proofs.Keeping.{keeping_tidies}
+use Rattle.clause_tidy.proofs.WeightLaws.{same_kept}
+use Rattle.clause_tidy.proofs.Dropping.{may_go_then}
+use Rattle.clause_tidy.proofs.changes.keep_for.Goals as goal
+
+pub returns-then-not-learned-clause-tidies : goal.returns-then-not-learned-clause-tidies
+returns-then-not-learned-clause-tidies c = λ formula spare. keeping_tidies c.args.arena.now c.keep.new.self c.args.part c.requires.part (ap (λ (x : ArenaState). x.clauses) c.keep.ensures) formula spare
+
+pub returns-then-not-learned-clause-may_go : goal.returns-then-not-learned-clause-may_go
+returns-then-not-learned-clause-may_go c =
+    may_go_then c.args.arena.now c.keep.new.self c.args.part c.args.clause c.requires.part c.requires.clause c.requires.differ c.requires.inside (ap (λ (x : ArenaState). x.clauses) c.keep.ensures)
+
+pub returns-else-not-learned-clause-tidies : goal.returns-else-not-learned-clause-tidies
+returns-else-not-learned-clause-tidies c = λ formula spare. nothing_tidied formula spare c.args.arena.now
+
+pub returns-then-not-learned-clause-weight : goal.returns-then-not-learned-clause-weight
+returns-then-not-learned-clause-weight c = same_kept c.args.arena.now c.keep.new.self c.args.part c.requires.part (ap (λ (x : ArenaState). x.clauses) c.keep.ensures)

@@ -1,0 +1,23 @@
+use Rattle.clause_tidy.specs.Answers.{MendsTo}
+use Rattle.clause_tidy.specs.Tidying.{Tidies}
+use Rattle.clause_tidy.proofs.Stages.{stage_on, mend_on}
+use Rattle.clause_tidy.proofs.Tellings.{same_fault}
+use Rattle.clause_tidy.proofs.tidying.tidy_clauses.Goals as goal
+
+pub returns-in-Err-clause-tidies : goal.returns-in-Err-clause-tidies
+returns-in-Err-clause-tidies g c =
+    let f = c.args.formula.now in
+    let s = c.args.spare in
+    let a = c.args.arena.now in
+    let b = c.drop_tautologies.new.arena in
+    same_fault g.L.Sink f s a (λ _. Tidies f s a b) (MendsTo f s a b) c.args.log.now c.drop_tautologies.new.log c.in-Err.fault (c.in-Err.ensures.tidies f s)
+
+pub returns-in-Ok-clause-tidies : goal.returns-in-Ok-clause-tidies
+returns-in-Ok-clause-tidies g c =
+    let f = c.args.formula.now in
+    let s = c.args.spare in
+    let a = c.args.arena.now in
+    let b = c.drop_tautologies.new.arena in
+    let d = c.settle.new.arena in
+    stage_on g.L.Sink f s a b c.args.log.now c.drop_tautologies.new.log c.settle.new.log c.settle.result (MendsTo f s b d) (MendsTo f s a d) (c.in-Ok.ensures.tidies f s)
+    (λ k l. g.met.L.Sink.keeps_on c.args.log.now c.drop_tautologies.new.log c.settle.new.log k l) (λ t ss ts h k. mend_on f s a b d ss ts t h k) c.settle.ensures.tidies

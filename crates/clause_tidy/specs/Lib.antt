@@ -1,0 +1,13 @@
+pub mod Derived
+pub mod Agreeing
+pub mod Runs
+pub mod Steps
+pub mod Shortened
+pub mod Tidying
+pub mod Telling
+pub mod Answers
+pub mod Weights
+pub mod Pairs
+pub mod Tautologies
+pub mod Taking
+pub mod Done

@@ -1,0 +1,77 @@
+//! The changes that tidying makes, each told to the log: a clause goes.
+ghost use Rattle.std.specs.Prelude.{◌≡◌, ◌≢◌, ◌<◌, ℕ, [], None, IsTrue, OnOk, slice_set};
+ghost use Rattle.cx_base.specs.Problem.{Problem};
+ghost use Rattle.cx_semantics.specs.Chain.{is_inside};
+ghost use Rattle.clause_arena.specs.Clauses.{IsLive, literals_at, id_at};
+ghost use Rattle.clause_tidy.specs.Agreeing.{IsStepId};
+ghost use Rattle.clause_tidy.specs.Answers.{MayGo, TidiesOn};
+ghost use Rattle.clause_tidy.specs.Tidying.{Tidies};
+ghost use Rattle.clause_tidy.specs.Weights.{weight};
+
+use crate::steps::deletion;
+use crate::telling::tell_one;
+use clause_arena::Arena;
+use cx_base::{ClauseRef, LogEvent};
+use std::alloc::Global;
+use step_text::{Sink, SinkFault};
+
+/// Removes a clause that may go, and tells its deletion.
+pub(crate) fn drop_clause<L: Sink<Item = LogEvent>>(
+    alloc: Global,
+    arena: &mut Arena,
+    log: &mut L,
+    clause: ClauseRef,
+) -> Result<(), SinkFault>
+    requires live { IsLive arena.old clause }
+    requires id { IsStepId (id_at arena.old clause) }
+    requires why { MayGo arena.old clause }
+    ensures removed { OnOk result (arena.new.clauses ≡ slice_set arena.old.clauses clause None) }
+    ensures less { OnOk result (weight arena.new < weight arena.old) }
+    ensures tidies { (formula : Problem) (spare : ℕ) → TidiesOn L.Sink formula spare arena.old log.old result (λ _. Tidies formula spare arena.old arena.new) log.new }
+{
+    let step = deletion(alloc, arena.id(clause));
+    match tell_one(log, step) {
+        Ok(()) => {
+            arena.remove(clause);
+            Ok(())
+        }
+        Err(fault) => Err(fault),
+    }
+}
+
+/// Where the clause that goes was not learned, the one that lies inside it is kept.
+fn keep_for(arena: &mut Arena, part: ClauseRef, clause: ClauseRef)
+    requires part { IsLive arena.old part }
+    requires clause { IsLive arena.old clause }
+    requires differ { part ≢ clause }
+    requires inside { IsTrue (is_inside (literals_at arena.old part) (literals_at arena.old clause)) }
+    ensures tidies { (formula : Problem) (spare : ℕ) → Tidies formula spare arena.old arena.new [] }
+    ensures live { IsLive arena.new clause }
+    ensures id { id_at arena.new clause ≡ id_at arena.old clause }
+    ensures may_go { MayGo arena.new clause }
+    ensures weight { weight arena.new ≡ weight arena.old }
+{
+    if !arena.learned(clause) {
+        arena.keep(part);
+    }
+}
+
+/// Removes a clause inside which another lies, and tells its deletion.
+pub(crate) fn subsume<L: Sink<Item = LogEvent>>(
+    alloc: Global,
+    arena: &mut Arena,
+    log: &mut L,
+    part: ClauseRef,
+    clause: ClauseRef,
+) -> Result<(), SinkFault>
+    requires part { IsLive arena.old part }
+    requires clause { IsLive arena.old clause }
+    requires differ { part ≢ clause }
+    requires inside { IsTrue (is_inside (literals_at arena.old part) (literals_at arena.old clause)) }
+    requires id { IsStepId (id_at arena.old clause) }
+    ensures less { OnOk result (weight arena.new < weight arena.old) }
+    ensures tidies { (formula : Problem) (spare : ℕ) → TidiesOn L.Sink formula spare arena.old log.old result (λ _. Tidies formula spare arena.old arena.new) log.new }
+{
+    keep_for(arena, part, clause);
+    drop_clause(alloc, arena, log, clause)
+}

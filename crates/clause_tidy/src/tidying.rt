@@ -1,0 +1,106 @@
+//! Tidying: what is a tautology goes, and what is left is mended.
+ghost use Rattle.std.specs.Prelude.{◌≡◌, ◌≤◌, ℕ, [], length, IfOk, IsNone, IsTrue, OnErr};
+ghost use Rattle.cx_base.specs.Assumptions.{is_ending};
+ghost use Rattle.clause_arena.specs.Clauses.{clause_at, IsLive, literals_at, learned_at};
+ghost use Rattle.step_text.specs.Sinks.{SinkFaultsAs, HasFailedAs, OnFailed};
+ghost use Rattle.tidy_rules.specs.declared.part.TidyPart.{TidyPart};
+ghost use Rattle.tidy_rules.specs.Parts.{IsPart, Tidied, lits_in};
+ghost use Rattle.clause_tidy.specs.Agreeing.{IsStepId, AreProper};
+ghost use Rattle.clause_tidy.specs.Answers.{EndsFrom, IsRightFrom, IsTold, IsTornAfter, MendsTo, TidiesOn};
+ghost use Rattle.clause_tidy.specs.Derived.{IsDerived};
+ghost use Rattle.clause_tidy.specs.Done.{AgreesAgain, IfDone, IfEnded, IsCoveredBy, TidiesTo, TakesUnits};
+ghost use Rattle.clause_tidy.specs.Taking.{IsWide};
+ghost use Rattle.clause_tidy.specs.Tidying.{IsClauseOf};
+
+use crate::outcome::TidyOf;
+use crate::settling::settle;
+use crate::tautologies::drop_tautologies;
+use crate::units::take_units;
+use clause_arena::Arena;
+use cx_base::{Formula, IdList, LitList, LogEvent};
+use std::alloc::{AllocError, Global};
+use step_text::{Sink, SinkFault};
+
+/// Makes the clauses of an arena tidy, where units stand in it too, and tells the log each change. Where an ending clause is left, the log ends with it.
+fn tidy_clauses<L: Sink<Item = LogEvent>>(
+    alloc: Global,
+    formula: &Formula,
+    arena: &mut Arena,
+    log: &mut L,
+    spare: u64,
+) -> Result<Option<LitList>, SinkFault>
+    requires proper { AreProper formula.now arena.old }
+    requires spare { IsStepId spare }
+    ensures tidied { IfOk result (λ ended. IsNone ended → Tidied arena.new []) }
+    ensures tidies { TidiesOn L.Sink formula.now spare arena.old log.old result (MendsTo formula.now spare arena.old arena.new) log.new }
+{
+    match drop_tautologies(alloc, arena, log) {
+        Ok(()) => settle(alloc, formula, arena, log, spare),
+        Err(fault) => Err(fault),
+    }
+}
+
+/// The units that arose are taken out of a tidied arena: those of references from this one on.
+fn done(alloc: Global, arena: &mut Arena, first: usize) -> Result<TidyOf, AllocError>
+    ensures { IfOk result (TakesUnits arena.old arena.new first) }
+{
+    let mut units = Vec::new(alloc);
+    let mut ids = Vec::new(alloc);
+    take_units(arena, &mut units, &mut ids, first)?;
+    Ok(TidyOf::Done(LitList::from_vec(units), IdList::from_vec(ids)))
+}
+
+/// Makes the clauses of an arena tidy, together with the units that arise, and tells the log each change.
+fn tidy_all<L: Sink<Item = LogEvent>>(
+    alloc: Global,
+    arena: &mut Arena,
+    formula: &Formula,
+    spare: u64,
+    log: &mut L,
+) -> Result<TidyOf, SinkFault>
+    requires proper { AreProper formula.now arena.old }
+    requires spare { IsStepId spare }
+    ensures { TidiesOn L.Sink formula.now spare arena.old log.old result (TidiesTo formula.now spare arena.old arena.new) log.new }
+{
+    let first = arena.len();
+    match tidy_clauses(alloc, formula, arena, log, spare) {
+        Ok(Some(lits)) => Ok(TidyOf::Ended(lits)),
+        Ok(None) => match done(alloc, arena, first) {
+            Ok(outcome) => Ok(outcome),
+            Err(_) => Err(SinkFault::Memory),
+        },
+        Err(fault) => Err(fault),
+    }
+}
+
+/// Makes the clauses of an arena tidy, together with the units that arise, and tells the log each change.
+///
+/// Where an ending clause arises, it is told and the log has ended. A fault of writing leaves the log with a torn step.
+/// After a fault the arena is a stage of the work.
+pub fn tidy<L: Sink<Item = LogEvent>>(
+    alloc: Global,
+    arena: &mut Arena,
+    formula: &Formula,
+    spare: u64,
+    log: &mut L,
+) -> Result<TidyOf, SinkFault>
+    requires proper { AreProper formula.now arena.old }
+    requires spare { IsStepId spare }
+    ensures tidied { IfDone result (λ units ids. Tidied arena.new units) }
+    ensures each { IfDone result (λ units ids. length ids ≡ length units) }
+    ensures covers { IfDone result (λ units ids. (r : ℕ) → IsLive arena.old r → IsCoveredBy arena.new units (literals_at arena.old r) (learned_at arena.old r)) }
+    ensures derived { IfDone result (λ units ids. (p : TidyPart) → IsPart arena.new units p → IsDerived (IsClauseOf arena.old) (lits_in arena.new p)) }
+    ensures learned { IfDone result (λ units ids. (q : ℕ) → IsLive arena.new q → IsTrue (learned_at arena.new q) → clause_at arena.new q ≡ clause_at arena.old q) }
+    ensures wide { IfDone result (λ units ids. (q : ℕ) → length arena.old.clauses ≤ q → IsWide arena.new q) }
+    ensures agrees { IfDone result (λ units ids. IsTold L.Sink log.old (AgreesAgain formula.now spare arena.old arena.new units ids) log.new) }
+    ensures ending { IfEnded result (λ lits. IsTrue (is_ending formula.now.constraints lits)) }
+    ensures ended { IfEnded result (λ lits. IsDerived (IsClauseOf arena.old) lits) }
+    ensures ends { IfEnded result (λ lits. IsTold L.Sink log.old (EndsFrom formula.now spare arena.old lits) log.new) }
+    ensures left { OnErr result (IsTold L.Sink log.old (IsRightFrom formula.now spare arena.old) log.new) }
+    ensures torn { OnFailed result (IsTold L.Sink log.old (IsTornAfter L.Sink formula.now spare arena.old log.new) log.new) }
+    ensures faults { SinkFaultsAs result (L.Sink.faults log.old) (L.Sink.faults log.new) }
+    ensures failed { HasFailedAs result (L.Sink.has_failed log.old) (L.Sink.has_failed log.new) }
+    ensures frame { L.Sink.keeps log.old log.new }
+{
+    tidy_all(alloc, arena, formula, spare, log)
+}
