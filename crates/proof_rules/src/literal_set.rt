@@ -1,7 +1,7 @@
 //! Sets of literals that are cleared and used again.
-ghost use Rattle.std.specs.Prelude.{◌≡◌, ◌<◌, ℕ, false, [], ◌∷◌, ◌++◌, OnOk, OnErr, get_or, set, length, vec_capacity, vec_len};
+ghost use Rattle.std.specs.Prelude.{◌≡◌, ◌<◌, ℕ, false, [], ◌∷◌, ◌++◌, IsTrue, OnOk, OnErr, get_or, set, length, vec_capacity, vec_len};
 ghost use Rattle.cx_base.specs.Literals.{Literal, code_of};
-ghost use Rattle.cx_semantics.specs.Chain.{has_literal, negations, HaveSame};
+ghost use Rattle.cx_semantics.specs.Chain.{has_literal, is_inside, negations, HaveSame};
 ghost use Rattle.proof_rules.specs.LiteralSets.{AreMarkedOnly, AreMarks, ArePositive};
 
 use cx_base::Lit;
@@ -134,9 +134,10 @@ impl LiteralSet {
         self.lits.clear();
     }
 
-    /// The negations of these literals come in the place of all that it has. Without memory some of them may be in it.
+    /// The negations of these literals come in the place of all that it has. Out of memory, it has some of them and nothing else.
     pub fn set_to_negations(&mut self, lits: &[Lit]) -> Result<(), AllocError>
-        ensures { OnOk result (HaveSame self.new (negations lits.now)) }
+        ensures ok { OnOk result (HaveSame self.new (negations lits.now)) }
+        ensures err { OnErr result (IsTrue (is_inside self.new (negations lits.now))) }
     {
         self.clear();
         self.lits.reserve(lits.len())?;
@@ -146,9 +147,10 @@ impl LiteralSet {
         Ok(())
     }
 
-    /// These literals come in the place of all that it has. Without memory some of them may be in it.
+    /// These literals come in the place of all that it has. Out of memory, it has some of them and nothing else.
     pub(crate) fn set_to(&mut self, lits: &[Lit]) -> Result<(), AllocError>
         ensures same { OnOk result (HaveSame self.new lits.now) }
+        ensures err { OnErr result (IsTrue (is_inside self.new lits.now)) }
         ensures positive { OnOk result (ArePositive lits.now) }
     {
         self.clear();

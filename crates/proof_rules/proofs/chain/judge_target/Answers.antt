@@ -15,7 +15,7 @@ returns-in-Some-Right c =
     let target = c.args.target.now in
     let ends = subst (λ e. EndsAs table c.set_to_negations.new.self hints (Some e)) c.in-Some-Right.field-0-is (subst (EndsAs table c.set_to_negations.new.self hints) c.in-Some-Right.is c.in_ok-chain_end.ensures) in
     named_holds table hints (chaining target (hinted table hints)) ends.0
-    (right_holds target (hinted table hints) (ends.1 ∙ chain-same _ (negations target) (hinted table hints) c.in_ok-set_to_negations.ensures))
+    (right_holds target (hinted table hints) (ends.1 ∙ chain-same _ (negations target) (hinted table hints) c.in_ok-set_to_negations.ensures.ok))
 
 pub returns-in-Some-NotUnit : goal.returns-in-Some-NotUnit
 returns-in-Some-NotUnit c =
@@ -24,7 +24,7 @@ returns-in-Some-NotUnit c =
     let target = c.args.target.now in
     let ends = subst (λ e. EndsAs table c.set_to_negations.new.self hints (Some e)) c.in-Some-NotUnit.field-0-is (subst (EndsAs table c.set_to_negations.new.self hints) c.in-Some-NotUnit.is c.in_ok-chain_end.ensures) in
     named_fails table hints (chaining target (hinted table hints)) causes.HintNotUnit ends.0
-    (not_unit_fails target (hinted table hints) (ends.1 ∙ chain-same _ (negations target) (hinted table hints) c.in_ok-set_to_negations.ensures))
+    (not_unit_fails target (hinted table hints) (ends.1 ∙ chain-same _ (negations target) (hinted table hints) c.in_ok-set_to_negations.ensures.ok))
 
 pub returns-in-Some-HintsEnd : goal.returns-in-Some-HintsEnd
 returns-in-Some-HintsEnd c =
@@ -33,7 +33,7 @@ returns-in-Some-HintsEnd c =
     let target = c.args.target.now in
     let ends = subst (λ e. EndsAs table c.set_to_negations.new.self hints (Some e)) c.in-Some-HintsEnd.field-0-is (subst (EndsAs table c.set_to_negations.new.self hints) c.in-Some-HintsEnd.is c.in_ok-chain_end.ensures) in
     named_fails table hints (chaining target (hinted table hints)) causes.HintsEnd ends.0
-    (hints_end_fails target (hinted table hints) (ends.1 ∙ chain-same _ (negations target) (hinted table hints) c.in_ok-set_to_negations.ensures))
+    (hints_end_fails target (hinted table hints) (ends.1 ∙ chain-same _ (negations target) (hinted table hints) c.in_ok-set_to_negations.ensures.ok))
 
 pub returns-in-None : goal.returns-in-None
 returns-in-None c =

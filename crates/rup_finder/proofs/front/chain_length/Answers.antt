@@ -7,7 +7,7 @@ use Rattle.rup_finder.proofs.front.chain_length.Goals as goal
 
 pub loop-place-init : goal.loop-place-init
 loop-place-init c = record {
-  reached = reached_first c.args.live.now.clauses c.args.target.now c.set_to_negations.new.self c.in_ok-set_to_negations.ensures;
+  reached = reached_first c.args.live.now.clauses c.args.target.now c.set_to_negations.new.self c.in_ok-set_to_negations.ensures.ok;
   plain = refl;
 }
 

@@ -1,0 +1,12 @@
+use Rattle.std.proofs.Common.{◌≡◌, ◌∙◌, sym, subst, List, true}
+use Rattle.cx_base.specs.Literals.{Literal}
+use Rattle.cx_semantics.specs.Chain.{is_inside}
+use Rattle.proof_rules.proofs.LiteralLaws.{at_err, first_inside}
+use Rattle.proof_rules.proofs.literal_set.LiteralSet.set_to.Goals as goal
+
+pub returns-in_err-put-clause-err : goal.returns-in_err-put-clause-err
+returns-in_err-put-clause-err c =
+    let lits = c.args.lits.now in
+    let n = c.loop-lit.lit-index in
+    at_err c.from_residual-in_err-put.result (is_inside c.put.new.lits.items lits ≡ true)
+    (subst (λ (ls : List Literal). is_inside ls lits ≡ true) (sym (c.in_err-put.ensures.err ∙ c.loop-lit.invariant.so_far)) (first_inside lits n))
