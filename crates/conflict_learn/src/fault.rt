@@ -3,13 +3,16 @@ ghost use Rattle.std.specs.Prelude.{◌≡◌};
 ghost use Rattle.conflict_learn.specs.declared.fault.CoreFault.TheVariants.{Memory};
 
 use std::alloc::{AllocError, AllocFailed};
+use thiserror::Error;
 
 /// Why an analysis or a search gave up.
-#[derive(Clone, Copy, PartialEq, Eq, Debug, Drop)]
+#[derive(Clone, Copy, PartialEq, Eq, Debug, Drop, Error)]
 pub enum CoreFault {
-    /// There was no memory.
+    /// Out of memory.
+    #[error("out of memory")]
     Memory,
     /// A write failed, which the sink counted.
+    #[error("the write failed")]
     Write,
 }
 

@@ -4,13 +4,16 @@ ghost use Rattle.proof_rules.specs.declared.refusal.JudgeRefusal.TheVariants.{Me
 
 use cx_semantics::Cause;
 use std::alloc::AllocError;
+use thiserror::Error;
 
 /// What a judge answers where it does not find the step right.
-#[derive(Clone, Copy, Debug, Drop)]
+#[derive(Clone, Copy, Debug, Drop, Error)]
 pub enum JudgeRefusal {
     /// The first cause, in the order of the rules, that stands against the step.
+    #[error("the step is not right")]
     Wrong(Cause),
-    /// Want of memory, which says nothing of the step.
+    /// Out of memory, which says nothing of the step.
+    #[error("out of memory")]
     Memory,
 }
 
