@@ -85,9 +85,9 @@ expect 'a number of thirty million digits' 7 'c step 1 P0 at byte 0'
 { printf '5 1 2 0 1 0\n'; head -c 30000000 /dev/zero | tr '\0' 0; printf 6; printf ' 1 2 0 1 0'; } > "$work/proof"
 expect 'thirty million leading zeros' 7 'c step 3 P11'
 : > "$work/proof"
-printf 'p cnf 16777215 1\n16777215 0\n' > "$work/formula"
+printf 'p cnf 268435455 1\n268435455 0\n' > "$work/formula"
 expect 'the greatest variable' 7 'c step 1 P11'
-printf 'p cnf 16777216 1\n1 0' > "$work/formula"
+printf 'p cnf 268435456 1\n1 0' > "$work/formula"
 expect 'a variable above the greatest' 9 'error: limit L1 at byte 6'
 
 # A text of so many bytes: ends of lines, and then this, in front of them what comes third.

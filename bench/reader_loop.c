@@ -7,7 +7,7 @@
 #include <stdlib.h>
 #include <time.h>
 
-#define MAX_VARIABLE 16777215u
+#define MAX_VARIABLE 268435455u
 
 static double seconds(void) {
     struct timespec now;

@@ -32,11 +32,11 @@ fn formulas_in_clauses(rt: HostRuntime) -> Result<(), Fail> {
         b"p cnf 2 1\nx1 2 0",
         b"p cnf 5 1\nx1 2 3 4 5 0",
         b"p cnf 1 1\nx1 1 0",
-        b"p cnf 16777215 2\n1 0\nx1 2 3 4 5 0",
+        b"p cnf 268435455 2\n1 0\nx1 2 3 4 5 0",
         b"p cnf 1 1\nx -1 1 0",
         b"p cnf 3 2\nx3 -1 2 1 2 0\na -1 2 0\n2 2 0",
         b"p cnf 7 2\nx7 6 5 4 3 2 1 0\nx1 2 3 4 5 0",
-        b"p cnf 16777214 3\nx1 2 3 4 5 0\nx1 2 3 4 5 0\nx0",
+        b"p cnf 268435454 3\nx1 2 3 4 5 0\nx1 2 3 4 5 0\nx0",
     ];
     let text = all_in_clauses(rt.alloc(), &texts)?;
     let wanted = "\

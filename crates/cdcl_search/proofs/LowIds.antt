@@ -32,14 +32,14 @@ units_are_ids table next t es ids none room u k d less = subst IsId (sym (index_
 
 module _ (formula : Problem) (c : SearchState) (e : State) (first : ℕ) (rows : List (List Literal)) (s : Search) (t : TiesFrom formula c e first rows s) where
   -- far below the highest id, so that rows have ids behind it
-  pub next_is_low : c.next ≤ 1000000004311744511
+  pub next_is_low : c.next ≤ 1000000005000000000
   next_is_low =
       let taken = t.ids.taken in
       let counted : c.conflicts ≤ 1000000000000000000 = t.ids.counted in
       let few = t.ids.few in
       let units = t.units.few in
       let short = t.trail.follows.sound.short in
-      let vars : c.trail.variables ≤ 16777215 = t.trail.follows.sound.few in
+      let vars : c.trail.variables ≤ 268435455 = t.trail.follows.sound.few in
       omega (arith, taken, counted, few, units, short, vars)
 
   pub next_is_id : IsId c.next
@@ -55,8 +55,8 @@ module _ (formula : Problem) (c : SearchState) (e : State) (first : ℕ) (rows :
   pub ids_of : HasIds c
   ids_of = record { next = next_is_id; units = units_are_ids s.moment.tables.clauses c.next c.trail s.trail c.units.items t.log.none_at_0 next_is_id.1 t.units; stored = stored_is_id }
 
-  pub variables_are_few : formula.variables ≤ 16777215
-  variables_are_few = let vars : c.trail.variables ≤ 16777215 = t.trail.follows.sound.few in let same = t.trail.variables in omega (arith, vars, same)
+  pub variables_are_few : formula.variables ≤ 268435455
+  variables_are_few = let vars : c.trail.variables ≤ 268435455 = t.trail.follows.sound.few in let same = t.trail.variables in omega (arith, vars, same)
 
   -- a step may have the ids of the rows that were told, and the one behind them
   pub row_ids_are_ids : first ≤ first_row_id c.next → AreIdsFrom first (length rows)

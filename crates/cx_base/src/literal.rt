@@ -5,7 +5,7 @@ ghost use Rattle.cx_base.specs.Literals.{Literal, negate, literal_true, code_of,
 use std::marker::Model;
 
 /// The greatest variable.
-pub const MAX_VARIABLE: u32 = 16_777_215;
+pub const MAX_VARIABLE: u32 = 268_435_455;
 
 /// A variable, from 1 up to [`MAX_VARIABLE`].
 #[derive(Clone, Copy, PartialEq, Eq, PartialOrd, Ord, Debug, Drop)]

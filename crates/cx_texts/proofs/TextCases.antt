@@ -126,13 +126,13 @@ unfolding formula_tokens constraint_forms
 bad_number = inl refl
 
 -- a variable above the limit, in a clause and in the header
-big_variable : FirstOffence (codes "p cnf 1 1\n16777216 a 0") (VarLimit 10)
+big_variable : FirstOffence (codes "p cnf 1 1\n268435456 a 0") (VarLimit 10)
 unfolding formula_tokens constraint_forms
 big_variable =
-    let placed : List Placed = placed_formula_words (drop 4 (formula_tokens (codes "p cnf 1 1\n16777216 a 0"))) in
-    inr (1, [], too_big 10, record { body = drop 4 (formula_tokens (codes "p cnf 1 1\n16777216 a 0")); behind = refl; reading = big_here constraints constraint_forms 0 placed (record { place = 10; word = number (pos 16777216) }) (drop 1 placed) refl refl refl refl }, refl)
+    let placed : List Placed = placed_formula_words (drop 4 (formula_tokens (codes "p cnf 1 1\n268435456 a 0"))) in
+    inr (1, [], too_big 10, record { body = drop 4 (formula_tokens (codes "p cnf 1 1\n268435456 a 0")); behind = refl; reading = big_here constraints constraint_forms 0 placed (record { place = 10; word = number (pos 268435456) }) (drop 1 placed) refl refl refl refl }, refl)
 
-big_count : FirstOffence (codes "p cnf 16777216 0") (VarLimit 6)
+big_count : FirstOffence (codes "p cnf 268435456 0") (VarLimit 6)
 unfolding formula_tokens constraint_forms
 big_count = inl refl
 

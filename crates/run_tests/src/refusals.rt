@@ -20,13 +20,17 @@ const OFFENCES: [Offence; 12] = [
     ("p cnf 2 1\n1 2\n", 3, "error: formula F4 at byte 14\n"),
     ("p cnf 2 1\na 1 x2 0\n", 3, "error: formula F3 at byte 14\n"),
     ("p cnf 1 1\na\n", 3, "error: formula F4 at byte 12\n"),
-    ("p cnf 1 1\n16777216 0\n", 9, "error: limit L1 at byte 10\n"),
     (
-        "p cnf 1 1\n16777216 a 0\n",
+        "p cnf 1 1\n268435456 0\n",
         9,
         "error: limit L1 at byte 10\n",
     ),
-    ("p cnf 16777216 0\n", 9, "error: limit L1 at byte 6\n"),
+    (
+        "p cnf 1 1\n268435456 a 0\n",
+        9,
+        "error: limit L1 at byte 10\n",
+    ),
+    ("p cnf 268435456 0\n", 9, "error: limit L1 at byte 6\n"),
 ];
 
 /// Writes how a run over the formula ends, if it is not refused so.

@@ -96,7 +96,7 @@ const TEXTS: [&[u8]; 19] = [
     // Answers that give values.
     b"s SATISFIABLE\nv 1 -2 0\n",
     b"c hi\n\n \t\n s  SATISFIABLE\r\n\nc v 3\nv\n v 01\r\n\n\nv -002 -0",
-    b"s SATISFIABLE\nv 3 -3 1 -2 16777216 1111111111222222222233333333334444444444\nv -3 00\n",
+    b"s SATISFIABLE\nv 3 -3 1 -2 268435456 1111111111222222222233333333334444444444\nv -3 00\n",
     // An answer has a status line.
     b"",
     b"s UNSATISFIABLE\n",

@@ -77,9 +77,10 @@ fn formulas(rt: HostRuntime) -> Result<(), Fail> {
         b"p cnf 2 1\nx -1 2 0",
         b"p cnf 2 1\nx-1 2 0",
         b"p cnf 2 4\nx1 2 0\na -1 3 0 a\n0\n1 0",
-        b"p cnf\n0016777215 99999999999999999999\n00000000000000000001\n c 0\n-16777215 -00 0",
+        b"p cnf\n00268435455 99999999999999999999\n00000000000000000001\n c 0\n-268435455 -00 0",
     ];
-    let wanted = "0\n1: 1\n2: x 1 1 2: 1\n2: x\n2: x -1 2\n2: x -1 2\n3: x 1 2: a -1 3: a: 1\n16777215: 1 -16777215:\n";
+    let wanted =
+        "0\n1: 1\n2: x 1 1 2: 1\n2: x\n2: x -1 2\n2: x -1 2\n3: x 1 2: a -1 3: a: 1\n268435455: 1 -268435455:\n";
     assert_eq!(rt; all_shown(rt.alloc(), &texts)?.as_str(), wanted);
     Ok(())
 }

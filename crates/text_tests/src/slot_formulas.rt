@@ -114,7 +114,7 @@ const TEXTS: [&[u8]; 20] = [
     b"1 0",
     b"c a\r\n%\n",
     b"p cnf x 1",
-    b"p cnf 16777216 0",
+    b"p cnf 268435456 0",
     b"p cnf 1\n%\nmore",
     b"p cnf 2 1\r\n1 2 0\r\n",
     b"p cnf 2 1\nc a comment\n1 -2 0\n c more\nx1 2 0",
@@ -122,14 +122,14 @@ const TEXTS: [&[u8]; 20] = [
     b"p cnf 2 1\n1 2\n%\nc the end",
     b"p cnf 2 1\n1 2",
     b"p cnf 2 1\n1 a 0\n1 0\n",
-    b"p cnf 1 1\n16777216 a 0",
+    b"p cnf 1 1\n268435456 a 0",
     b"p cnf 12345 1\n12345 -12345 0 123",
     b"p cnf 2 1\n1 2\n",
     b"p cnf 2 1\nx",
     b"p cnf 2 1\n1 x2 0",
     b"p cnf 2 1\n\0 0",
     b"p cnf 2 1\n1\xc3\xa9 0",
-    b"p cnf 1 1\nx-16777216 0",
+    b"p cnf 1 1\nx-268435456 0",
 ];
 
 /// What is told of each.
