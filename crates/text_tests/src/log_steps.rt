@@ -154,7 +154,7 @@ fn marks_are_lines_that_are_passed_over(rt: HostRuntime) -> Result<(), Fail> {
 }
 
 /// Texts of logs.
-const TEXTS: [&[u8]; 21] = [
+const TEXTS: [&[u8]; 27] = [
     // one step, which is printed as it was read
     b"o 1 1 -2 0\n",
     b"o x 1 1 2 0\n",
@@ -167,16 +167,22 @@ const TEXTS: [&[u8]; 21] = [
     b"d x 3 0\n",
     b"f 1 1 -2 0\n",
     b"f x 1 1 2 0\n",
-    // refused behind no step
+    b"r 1 2 2 1 0\n",
+    b"r x 3 9223372036854775807 0\n",
+    b"r 0\n",
+    // refused with no step before
     b"a 1 0 l 2",
     b"a x 1 2 0 3 0",
     b"i 4 1 0 2 0",
     b"i 4 1 0 l 2 3",
     b"r 1 0",
+    b"r x 1 2 3 0",
+    b"r 1 0 0",
+    b"q 1 0",
     b"o 0 1 0",
     b"a 1 0 l x",
     b"d 9223372036854775808 0",
-    // refused behind a step
+    // refused after a step
     b"a 1 0 a",
     b"o 1 1 0 l 2 0",
 ];
@@ -205,10 +211,19 @@ f 1 1 -2 0
 None
 f x 1 1 2 0
 None
+r 1 2 2 1 0
+None
+r x 3 9223372036854775807 0
+None
+r 0
+None
 Some(Unterminated(9))
 Some(BadToken(10))
 Some(BadToken(8))
 Some(BadToken(12))
+Some(BadToken(4))
+Some(BadToken(10))
+Some(BadToken(4))
 Some(BadToken(0))
 Some(BadToken(2))
 Some(BadToken(8))
