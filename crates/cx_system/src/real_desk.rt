@@ -1,0 +1,123 @@
+//! The desk over the system.
+ghost use Rattle.std.specs.Prelude.{◌≡◌};
+ghost use Rattle.cx_system.specs.Real.{outside_of, IsUntouched};
+
+use crate::source::{Source, id_of, read_at, start_at};
+use crate::streams::{count_fault, put_on};
+use cx_desk::{Desk, Failed, Port, Slot};
+use std::fs::{File, OpenOptions};
+
+/// Files by name, standard input, standard output and standard error, with a count of the faults.
+///
+/// A write goes to the system at once. Bytes of the Proof port are dropped until it was given a file.
+#[derive(Drop)]
+pub struct RealDesk {
+    rt: HostRuntime,
+    formula: Source,
+    second: Source,
+    proof_name: Option<String>,
+    proof: Option<File>,
+    read_faults: u64,
+    write_faults: u64,
+    message_faults: u64,
+}
+
+/// Opens a file that is written from its start. One that a slot reads is left as it is, by whatever name it is meant:
+/// else a log would be lost where its proof is to stand in its place.
+fn create_at(rt: &HostRuntime, formula: &Source, second: &Source, name: &str) -> Option<File> {
+    let file = match OpenOptions::new().write(true).create(true).open(rt, name) {
+        Ok(file) => file,
+        Err(_) => return None,
+    };
+    if let Some(id) = id_of(&file) {
+        if formula.reads(id) || second.reads(id) || file.set_len(0).is_err() {
+            return None;
+        }
+    }
+    Some(file)
+}
+
+impl RealDesk {
+    /// A desk that was asked for nothing.
+    pub fn new(rt: HostRuntime) -> Self
+        ensures { IsUntouched (outside_of result) }
+    {
+        RealDesk {
+            rt,
+            formula: Source::none(),
+            second: Source::none(),
+            proof_name: None,
+            proof: None,
+            read_faults: 0,
+            write_faults: 0,
+            message_faults: 0,
+        }
+    }
+}
+
+impl Desk for RealDesk {
+    ghost outside = { outside_of };
+
+    fn start(&mut self, slot: Slot, name: String) -> Result<(), Failed> {
+        match slot {
+            Slot::Formula => {
+                start_at(
+                    &self.rt,
+                    &mut self.formula,
+                    &mut self.read_faults,
+                    name,
+                    true,
+                )
+            }
+            Slot::Second => {
+                start_at(
+                    &self.rt,
+                    &mut self.second,
+                    &mut self.read_faults,
+                    name,
+                    false,
+                )
+            }
+        }
+    }
+
+    fn read(&mut self, slot: Slot, into: &mut [u8]) -> Result<usize, Failed> {
+        let read = match slot {
+            Slot::Formula => read_at(&self.rt, &mut self.formula.stream, into),
+            Slot::Second => read_at(&self.rt, &mut self.second.stream, into),
+        };
+        match read {
+            Some(count) => Ok(count),
+            None => {
+                count_fault(&mut self.read_faults);
+                Err(Failed)
+            }
+        }
+    }
+
+    fn create(&mut self, name: String) -> Result<(), Failed> {
+        let made = create_at(&self.rt, &self.formula, &self.second, name.as_str());
+        self.proof_name = Some(name);
+        match made {
+            Some(file) => {
+                self.proof = Some(file);
+                Ok(())
+            }
+            None => {
+                count_fault(&mut self.write_faults);
+                Err(Failed)
+            }
+        }
+    }
+
+    fn put(&mut self, port: Port, piece: &[u8]) -> Result<usize, Failed> {
+        match port {
+            Port::Answer => put_on(&mut self.rt.stdout(), &mut self.write_faults, piece),
+            Port::Message => put_on(&mut self.rt.stderr(), &mut self.message_faults, piece),
+            Port::Proof => match &mut self.proof {
+                None => Ok(piece.len()),
+                Some(file) => put_on(file, &mut self.write_faults, piece),
+            },
+        }
+    }
+}
