@@ -1,6 +1,10 @@
 //! A log that is printed event by event on a desk's Proof port.
-ghost use Rattle.std.specs.Prelude.{◌≡◌, true, false};
-ghost use Rattle.proof_text.specs.Told.{is_whole};
+ghost use Rattle.std.specs.Prelude.{◌≡◌, true, false, OnOk, OnErr, IfErr};
+ghost use Rattle.cx_texts.specs.Printed.{HasText};
+ghost use Rattle.step_text.specs.Sinks.{with_next, SinkFaultsAs, HasFailedAs, OnFailed};
+ghost use Rattle.step_text.specs.declared.sink.SinkFault.TheVariants.{Memory};
+ghost use Rattle.proof_text.specs.Told.{is_whole, fault_of};
+ghost use Rattle.log_text.specs.Told.{events_told, TornOn, Goes};
 
 use crate::print::put_event;
 use cx_base::LogEvent;
@@ -10,7 +14,7 @@ use step_text::{Sink, SinkFault};
 /// A sink that prints each event on the Proof port of a lent desk at once. It takes no memory.
 ///
 /// Where the desk tells its bytes, it tells the events of the port's whole lines. It counts one fault
-/// at most: after that it takes nothing more, and answers `Memory`.
+/// at most: after that it takes nothing more, and answers `Memory`, which it does nowhere else.
 #[derive(Drop)]
 pub struct DeskLog<'a, D: Desk> {
     desk: &'a mut D,
@@ -53,7 +57,17 @@ impl<D: Desk> Sink for DeskLog<'_, D> {
 
     ghost keeps = { λ a b. (b.desk.ghost_name ≡ a.desk.ghost_name) × Goes a.failed (D.outside a.desk.now) b.failed (D.outside b.desk.now) };
 
-    fn put(&mut self, event: &LogEvent) -> Result<(), SinkFault> {
+    /// Prints the event. `Memory` is answered only where an earlier event failed.
+    fn put(&mut self, event: &LogEvent) -> Result<(), SinkFault>
+        requires text { HasText event.now }
+        ensures told { OnOk result (events_told (D.outside self.new.desk.now) ≡ with_next event.now (events_told (D.outside self.old.desk.now))) }
+        ensures same { OnErr result (events_told (D.outside self.new.desk.now) ≡ events_told (D.outside self.old.desk.now)) }
+        ensures torn { OnFailed result (TornOn event.now (D.outside self.new.desk.now)) }
+        ensures faults { SinkFaultsAs result (fault_of self.old.failed) (fault_of self.new.failed) }
+        ensures failed { HasFailedAs result self.old.failed self.new.failed }
+        ensures memory { IfErr result (λ e. e ≡ Memory → self.old.failed ≡ true) }
+        ensures frame { (self.new.desk.ghost_name ≡ self.old.desk.ghost_name) × Goes self.old.failed (D.outside self.old.desk.now) self.new.failed (D.outside self.new.desk.now) }
+    {
         if self.failed {
             return Err(SinkFault::Memory);
         }

@@ -1,7 +1,8 @@
 //! A proof that is printed step by step on a desk's proof port.
-ghost use Rattle.std.specs.Prelude.{◌≡◌, true, false, OnOk, OnErr};
+ghost use Rattle.std.specs.Prelude.{◌≡◌, true, false, OnOk, OnErr, IfErr};
 ghost use Rattle.cx_texts.specs.Printed.{HasProofText};
 ghost use Rattle.step_text.specs.Sinks.{with_next, SinkFaultsAs, HasFailedAs, OnFailed};
+ghost use Rattle.step_text.specs.declared.sink.SinkFault.TheVariants.{Memory};
 ghost use Rattle.proof_text.specs.Told.{steps_told, is_whole, fault_of, TornOn, Goes};
 
 use crate::print::put_proof_step;
@@ -26,6 +27,7 @@ pub fn put_step_unless_failed<D: Desk>(
     ensures torn { OnFailed result (TornOn step.now (D.outside desk.new)) }
     ensures faults { SinkFaultsAs result (fault_of failed.old) (fault_of failed.new) }
     ensures failed { HasFailedAs result failed.old failed.new }
+    ensures memory { IfErr result (λ e. e ≡ Memory → failed.old ≡ true) }
     ensures goes { Goes failed.old (D.outside desk.old) failed.new (D.outside desk.new) }
     ensures whole { failed.new ≡ false → is_whole (D.outside desk.new).told ≡ true }
 {
@@ -44,7 +46,7 @@ pub fn put_step_unless_failed<D: Desk>(
 /// A sink that prints each step on the proof port of a lent desk at once. It takes no memory.
 ///
 /// Where the desk tells its bytes, it tells the steps of the port's whole lines. It counts one fault
-/// at most: after that it takes nothing more, and answers `Memory`.
+/// at most: after that it takes nothing more, and answers `Memory`, which it does nowhere else.
 #[derive(Drop)]
 pub struct DeskProof<'a, D: Desk> {
     desk: &'a mut D,
@@ -89,7 +91,17 @@ impl<D: Desk> Sink for DeskProof<'_, D> {
 
     ghost keeps = { λ a b. (b.desk.ghost_name ≡ a.desk.ghost_name) × Goes a.failed (D.outside a.desk.now) b.failed (D.outside b.desk.now) };
 
-    fn put(&mut self, step: &ProofStep) -> Result<(), SinkFault> {
+    /// Prints the step. `Memory` is answered only where an earlier step failed.
+    fn put(&mut self, step: &ProofStep) -> Result<(), SinkFault>
+        requires text { HasProofText step.now }
+        ensures told { OnOk result (steps_told (D.outside self.new.desk.now) ≡ with_next step.now (steps_told (D.outside self.old.desk.now))) }
+        ensures same { OnErr result (steps_told (D.outside self.new.desk.now) ≡ steps_told (D.outside self.old.desk.now)) }
+        ensures torn { OnFailed result (TornOn step.now (D.outside self.new.desk.now)) }
+        ensures faults { SinkFaultsAs result (fault_of self.old.failed) (fault_of self.new.failed) }
+        ensures failed { HasFailedAs result self.old.failed self.new.failed }
+        ensures memory { IfErr result (λ e. e ≡ Memory → self.old.failed ≡ true) }
+        ensures frame { (self.new.desk.ghost_name ≡ self.old.desk.ghost_name) × Goes self.old.failed (D.outside self.old.desk.now) self.new.failed (D.outside self.new.desk.now) }
+    {
         put_step_unless_failed(&mut self.sheet, self.desk, &mut self.failed, step)
     }
 
