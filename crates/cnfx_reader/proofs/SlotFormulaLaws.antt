@@ -153,8 +153,12 @@ module _ (slot : Slot) (limit : ℕ) (o : Outside) where
         go false e = absurd (k (ap Some e))
 
     pub stops : (e : ReadErr) (b : BytesState) (q : Outside) → ReadingStops s.bytes p e b q → FromFails slot limit o (from_desk e) q
-    stops why.Memory b q k = (taken_by s.bytes + k.why.1.0, took_more k.why.1.0 q k.why.1.1)
-    stops why.Failed b q k = (taken_by s.bytes + k.why.1.0, subst (λ x. ReadFaulted x q) ((λ i. taken (h.same_slot i) k.why.1.0 (h.moved i)) ∙ taken-twice slot (taken_by s.bytes) k.why.1.0 o) k.why.1.1)
+    stops why.Memory b q k = (taken_by s.bytes + k.why.1.0, took_more k.why.1.0 q k.why.1.2, omega (arith, k.why.0, k.why.1.1, k.kept.limit, h.same_limit))
+    stops why.Failed b q k = (
+      taken_by s.bytes + k.why.1.0,
+      subst (λ x. ReadFaulted x q) ((λ i. taken (h.same_slot i) k.why.1.0 (h.moved i)) ∙ taken-twice slot (taken_by s.bytes) k.why.1.0 o) k.why.1.2,
+      omega (arith, k.why.0, k.why.1.1, k.kept.limit, h.same_limit),
+    )
     stops why.TooLong b q k =
         let all : taken_by s.bytes + k.why.2.0 ≡ limit + 1 = omega (arith, k.why.0, k.why.2.1, k.kept.limit, h.same_limit) in (
           took_more k.why.2.0 q k.why.2.2 ∙ ap (λ n. taken slot n o) all,
@@ -172,7 +176,11 @@ module _ (slot : Slot) (limit : ℕ) (o : Outside) where
         some = omega (arith, past, h.few)
 
     pub rest_stops : (e : DrainErr) (q : Outside) → DrainFails s.bytes.slot (s.bytes.limit - taken_by s.bytes) p e q → FromFails slot limit o (from_drained e) q
-    rest_stops drained.Failed q (n, k) = (taken_by s.bytes + n, subst (λ x. ReadFaulted x q) ((λ i. taken (h.same_slot i) n (h.moved i)) ∙ taken-twice slot (taken_by s.bytes) n o) k)
+    rest_stops drained.Failed q (n, k, few) = (
+      taken_by s.bytes + n,
+      subst (λ x. ReadFaulted x q) ((λ i. taken (h.same_slot i) n (h.moved i)) ∙ taken-twice slot (taken_by s.bytes) n o) k,
+      omega (arith, few, h.few, h.same_limit),
+    )
     rest_stops drained.TooLong q k =
         let m = (s.bytes.limit - taken_by s.bytes) + 1 in
         let all : taken_by s.bytes + m ≡ limit + 1 = omega (arith, h.few, h.same_limit) in
@@ -202,7 +210,7 @@ module _ (slot : Slot) (limit : ℕ) (o : Outside) where
   refused_by (BadToken place) text q w h = (text, w, h)
   refused_by (Unterminated place) text q w h = (text, w, h)
   refused_by (VarLimit place) text q w h = (text, w, h)
-  refused_by Memory text q w h = (length text, w.moved)
+  refused_by Memory text q w h = (length text, w.moved, w.fits)
 
   -- the text was read to its end, and is refused so
   pub refused_whole : (s : SlotFormula) (p : Outside) → HasRead slot limit o s p → (len : ℕ) (q : Outside) (r : RestRead s.bytes p len q) (e : ReadRefusal) → IsRefusedBy e (answer_of s len r.more) → FromFails slot limit o (from_read e) q

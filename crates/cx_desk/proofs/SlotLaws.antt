@@ -29,8 +29,8 @@ read_then a o b p c q h k = record {
 }
 
 stopped_then : (a : BytesState) (o : Outside) (b : BytesState) (p : Outside) (e : ReadErr) (c : BytesState) (q : Outside) → BytesRead a o b p → Stopped b p e c q → Stopped a o e c q
-stopped_then a o b p Memory c q h (few, (m, k)) = (few, (h.took.0 + m, took_on a.slot b.slot h.took.0 m o p q h.kept.slot h.took.2 k))
-stopped_then a o b p Failed c q h (few, (m, k)) = (few, (h.took.0 + m, subst (λ x. ReadFaulted x q) ((λ i. taken (h.kept.slot i) m (h.took.2 i)) ∙ taken-twice a.slot h.took.0 m o) k))
+stopped_then a o b p Memory c q h (few, (m, count, k)) = (few, (h.took.0 + m, omega (arith, h.took.1, count), took_on a.slot b.slot h.took.0 m o p q h.kept.slot h.took.2 k))
+stopped_then a o b p Failed c q h (few, (m, count, k)) = (few, (h.took.0 + m, omega (arith, h.took.1, count), subst (λ x. ReadFaulted x q) ((λ i. taken (h.kept.slot i) m (h.took.2 i)) ∙ taken-twice a.slot h.took.0 m o) k))
 stopped_then a o b p TooLong c q h (past, long, (m, count, k)) =
     (past, (λ e. long (h.kept.long ∙ e)), (h.took.0 + m, omega (arith, h.took.1, count), took_on a.slot b.slot h.took.0 m o p q h.kept.slot h.took.2 k))
 
@@ -129,7 +129,7 @@ module _ (s : BytesState) (o p : Outside) (most n : ℕ) (after : Bytes) (open_s
 pub nothing_read : (s : BytesState) (o p : Outside) → taken_by s ≤ s.limit → p ≡ o → ReadingStops s o Memory s p
 nothing_read s o p few h = record {
   kept = record { slot = refl; limit = refl; place = refl; long = ap (is_too_long s) h; seen = λ e. subst (EndSeen s) (sym h) e };
-  why = (few, (0, h ∙ sym (taken-none s.slot o)));
+  why = (few, (0, omega arith, h ∙ sym (taken-none s.slot o)));
 }
 
 pub read_failed : (s : BytesState) (o p : Outside) → taken_by s ≤ s.limit → ReadFaulted o p → ReadingStops s o Failed s p
@@ -143,7 +143,7 @@ read_failed s o p few h =
         long = ap (option_map (λ t. nat_lt s.limit (taken_by s + length (to_come s t)))) told;
         seen = λ e ended. subst (λ (w : Option Told). IfSome w (λ t. left_in s.slot t.left ≡ [])) (sym told) (e ended);
       };
-      why = (few, (0, subst (λ x. ReadFaulted x p) (sym (taken-none s.slot o)) h));
+      why = (few, (0, omega arith, subst (λ x. ReadFaulted x p) (sym (taken-none s.slot o)) h));
     }
 
 -- ---- the rest is read and not kept

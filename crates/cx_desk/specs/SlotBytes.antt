@@ -58,8 +58,8 @@ pub record BytesRead (s : BytesState) (o : Outside) (t : BytesState) (p : Outsid
 
 -- reading stops, behind what was read until then: no memory, a fault, or one byte behind the limit
 abbrev pub Stopped : BytesState → Outside → ReadErr → BytesState → Outside → Type 0
-Stopped s o Memory t p = (taken_by t ≤ t.limit) × ((n : ℕ) × (p ≡ taken s.slot n o))
-Stopped s o Failed t p = (taken_by t ≤ t.limit) × ((n : ℕ) × ReadFaulted (taken s.slot n o) p)
+Stopped s o Memory t p = (taken_by t ≤ t.limit) × ((n : ℕ) × (taken_by t ≡ taken_by s + n) × (p ≡ taken s.slot n o))
+Stopped s o Failed t p = (taken_by t ≤ t.limit) × ((n : ℕ) × (taken_by t ≡ taken_by s + n) × ReadFaulted (taken s.slot n o) p)
 Stopped s o TooLong t p = (taken_by t ≡ t.limit + 1) × (¬ (is_too_long s o ≡ Some false)) × ((n : ℕ) × (taken_by t ≡ taken_by s + n) × (p ≡ taken s.slot n o))
 
 pub record ReadingStops (s : BytesState) (o : Outside) (e : ReadErr) (t : BytesState) (p : Outside) : Type 0 where

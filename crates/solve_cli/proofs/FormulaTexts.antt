@@ -42,8 +42,8 @@ module _ (name : Bytes) (limit : ℕ) (old : Seen) (o new : Outside) (asked : se
   formula_fails (refusal.BadToken b) h = refused_by (offence.BadToken b) h
   formula_fails (refusal.Unterminated b) h = refused_by (offence.Unterminated b) h
   formula_fails (refusal.VarLimit b) h = refused_by (offence.VarLimit b) h
-  formula_fails refusal.Memory (n, h) = ap seen h ∙ (seen-taken slot.Formula n o ∙ asked)
-  formula_fails refusal.Failed (n, h) = subst (λ (m : Seen). ReadFault m (seen new)) asked (drain_fault slot.Formula n o new h)
+  formula_fails refusal.Memory (n, h, few) = ap seen h ∙ (seen-taken slot.Formula n o ∙ asked)
+  formula_fails refusal.Failed (n, h, few) = subst (λ (m : Seen). ReadFault m (seen new)) asked (drain_fault slot.Formula n o new h)
   formula_fails refusal.TooLong (h, long) = (
     refl,
     ap seen h ∙ (seen-taken slot.Formula (limit + 1) o ∙ asked),

@@ -22,9 +22,9 @@ use Rattle.step_text.specs.Reading.{IsRefusal}
 use Rattle.step_text.specs.Sources.{Gives, GivesNone, FaultsAs, IsTooLongOnly, PlaceRises}
 use Rattle.step_text.specs.Texts.{LeftOf, IsEnding}
 use Rattle.step_text.specs.SlotAnswers.{PairLeaves, IsPastLimit, IsAnswer}
-use Rattle.step_text.specs.Slots.{SlotState, OnlyReads, SlotLeaves, Took, ReadsOn, ReadingFails}
+use Rattle.step_text.specs.Slots.{SlotState, OnlyReads, SlotLeaves, Took, CountsTaken, ReadsOn, ReadingFails}
 use Rattle.step_text.specs.SlotLeft.{some_come}
-use Rattle.step_text.proofs.SlotLaws.{kept_then, kept_itself, still_kept, took_then}
+use Rattle.step_text.proofs.SlotLaws.{kept_then, kept_itself, still_kept, counts_then}
 
 -- ---- what a call took of its desk
 
@@ -77,7 +77,7 @@ module _ {S : Type 0} (g : Grammar S) where
   answer_then a o b p r c q h k = record {
     gives = gives_then a o b p r c q h k.gives;
     kept = kept_then a.bytes o b.bytes p c.bytes q h.kept k.kept;
-    took = took_then a.bytes.slot b.bytes.slot r h.took.0 o p q h.kept.slot h.took.1 k.took;
+    took = counts_then a o b p r c.bytes q h k.took;
     long = subst (λ (l : Option Bool). IsTooLongOnly l r) h.kept.long k.long;
     past = k.past;
     rises = rises_then a.bytes.place b.bytes.place c.bytes.place r h.kept.rises k.rises;
@@ -85,9 +85,9 @@ module _ {S : Type 0} (g : Grammar S) where
   }
 
   stopped_answer : (a : SlotState) (o : Outside) (e : ReadErr) (b : SlotState) (p : Outside) → ReadingStops a.bytes o e b.bytes p → IsAnswer g a o (Err (refusal_of_read e)) b p
-  stopped_answer a o why.Memory b p h = let kept = still_kept a.bytes o b.bytes p h.kept in record { gives = tt; kept = kept; took = h.why.1; long = tt; past = tt; rises = kept.rises; fresh = tt }
-  stopped_answer a o why.Failed b p h = let kept = still_kept a.bytes o b.bytes p h.kept in record { gives = tt; kept = kept; took = h.why.1; long = tt; past = tt; rises = kept.rises; fresh = tt }
-  stopped_answer a o why.TooLong b p h = let kept = still_kept a.bytes o b.bytes p h.kept in record { gives = tt; kept = kept; took = (h.why.2.0, h.why.2.2); long = h.why.1; past = omega (arith, h.why.0); rises = kept.rises; fresh = tt }
+  stopped_answer a o why.Memory b p h = let kept = still_kept a.bytes o b.bytes p h.kept in record { gives = tt; kept = kept; took = h.why.1; long = tt; past = h.why.0; rises = kept.rises; fresh = tt }
+  stopped_answer a o why.Failed b p h = let kept = still_kept a.bytes o b.bytes p h.kept in record { gives = tt; kept = kept; took = h.why.1; long = tt; past = h.why.0; rises = kept.rises; fresh = tt }
+  stopped_answer a o why.TooLong b p h = let kept = still_kept a.bytes o b.bytes p h.kept in record { gives = tt; kept = kept; took = h.why.2; long = h.why.1; past = omega (arith, h.why.0); rises = kept.rises; fresh = tt }
 
   pub failed_answer : (a : SlotState) (o : Outside) (e : TextRefusal) (b : SlotState) (p : Outside) → ReadingFails a.bytes o e b.bytes p → IsAnswer g a o (Err e) b p
   failed_answer a o e b p (cause, is, h) = subst (λ (x : TextRefusal). IsAnswer g a o (Err x) b p) (sym is) (stopped_answer a o cause b p h)
@@ -150,7 +150,7 @@ module _ {S : Type 0} (g : Grammar S) where
             seen = λ e. e;
             rises = omega (arith, f.at);
           };
-          took = (0, sym (taken-none s.bytes.slot o));
+          took = (0, omega (arith, sum), sym (taken-none s.bytes.slot o));
           long = tt;
           past = tt;
           rises = omega (arith, f.at, f.some);
@@ -181,7 +181,7 @@ module _ {S : Type 0} (g : Grammar S) where
         record {
           gives = (left, left);
           kept = kept_itself s.bytes o;
-          took = (0, sym (taken-none s.bytes.slot o));
+          took = (0, omega arith, sym (taken-none s.bytes.slot o));
           long = end_long o.told end within;
           past = tt;
           rises = omega arith;
@@ -201,13 +201,13 @@ module _ {S : Type 0} (g : Grammar S) where
         let c = some_come s.bytes o in
         (c.0, c.1, ends_here ending c.0 (subst (λ l. Rattle.cx_texts.specs.Grammar.EndsAs g (taken_by s.bytes + length c.0) ending (placed_words (tokens_in l s.bytes.place (s.bytes.bytes ++ c.0)))) (sym (is_kept some)) (h c.0 c.1.0)))
 
-    same_state : (o : Outside) (r : TextRefusal) → Gives (PairLeaves g) (s, o) (Err r) (s, o) → Took {T = Option S} s.bytes.slot (Err r) o o → IsTooLongOnly {S = S} (is_too_long s.bytes o) (Err r) → IsPastLimit {T = Option S} (Err r) s.bytes → IsAnswer g s o (Err r) s o
+    same_state : (o : Outside) (r : TextRefusal) → Gives (PairLeaves g) (s, o) (Err r) (s, o) → CountsTaken {T = Option S} s.bytes (Err r) o s.bytes o → IsTooLongOnly {S = S} (is_too_long s.bytes o) (Err r) → IsPastLimit r s.bytes → IsAnswer g s o (Err r) s o
     same_state o r gives took long past = record { gives = gives; kept = kept_itself s.bytes o; took = took; long = long; past = past; rises = omega arith; fresh = tt }
 
-    pub refusal_answer : (o : Outside) (r : TextRefusal) → (0 < length s.bytes.bytes) × IsRefusedFor r → IsAnswer g s o (Err r) s o
-    refusal_answer o (BadToken place) (some, h) = let left = refused_left o (bad_token place) some h in same_state o (BadToken place) (left, left) (0, sym (taken-none s.bytes.slot o)) tt tt
-    refusal_answer o (Unterminated place) (some, h) = let left = refused_left o (unterminated place) some h in same_state o (Unterminated place) (left, left) (0, sym (taken-none s.bytes.slot o)) tt tt
-    refusal_answer o (TooBig place) (some, h) = let left = refused_left o (too_big place) some h in same_state o (TooBig place) (left, left) (0, sym (taken-none s.bytes.slot o)) tt tt
-    refusal_answer o TooLong (some, h) = let c = some_come s.bytes o in absurd (h c.0 c.1.0)
-    refusal_answer o Memory (some, h) = same_state o Memory tt (0, sym (taken-none s.bytes.slot o)) tt tt
-    refusal_answer o Failed (some, h) = let c = some_come s.bytes o in absurd (h c.0 c.1.0)
+    pub refusal_answer : (o : Outside) (r : TextRefusal) → taken_by s.bytes ≤ s.bytes.limit → (0 < length s.bytes.bytes) × IsRefusedFor r → IsAnswer g s o (Err r) s o
+    refusal_answer o (BadToken place) within (some, h) = let left = refused_left o (bad_token place) some h in same_state o (BadToken place) (left, left) (0, omega arith, sym (taken-none s.bytes.slot o)) tt within
+    refusal_answer o (Unterminated place) within (some, h) = let left = refused_left o (unterminated place) some h in same_state o (Unterminated place) (left, left) (0, omega arith, sym (taken-none s.bytes.slot o)) tt within
+    refusal_answer o (TooBig place) within (some, h) = let left = refused_left o (too_big place) some h in same_state o (TooBig place) (left, left) (0, omega arith, sym (taken-none s.bytes.slot o)) tt within
+    refusal_answer o TooLong within (some, h) = let c = some_come s.bytes o in absurd (h c.0 c.1.0)
+    refusal_answer o Memory within (some, h) = same_state o Memory tt (0, omega arith, sym (taken-none s.bytes.slot o)) tt within
+    refusal_answer o Failed within (some, h) = let c = some_come s.bytes o in absurd (h c.0 c.1.0)

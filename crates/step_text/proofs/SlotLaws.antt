@@ -2,7 +2,7 @@
 use Rattle.std.proofs.Common.{◌≡◌, ◌≢◌, refl, sym, ap, ◌∙◌, subst, ℕ, zero, suc, ◌+◌, ◌-◌, ◌<◌, ◌≤◌, Bool, true, false, cond, List, [], ◌∷◌, ◌++◌, length, take, drop, Option, Some, None, Ok, Err, Result, IfSome, option_map, nat_lt, eqb-true, true≢false, arith, append_assoc, append-nil, length-append, length-take, length-drop, take-append-drop, ◌==◌}
 use Rattle.cx_desk.specs.declared.desk.Slot.{Slot}
 use Rattle.cx_desk.specs.Outside.{Told, Outside, left_in, started_in}
-use Rattle.cx_desk.specs.Calls.{taken, ReadFaulted, Passes}
+use Rattle.cx_desk.specs.Calls.{taken, ReadFaulted, FaultedBehind, Passes}
 use Rattle.cx_desk.specs.SlotBytes.{BytesState, taken_by, to_come, BytesKept, BytesRead, ReadingStops, RestRead}
 use Rattle.cx_desk.specs.declared.calls.ReadErr.{ReadErr}
 use Rattle.cx_desk.specs.declared.calls.ReadErr.TheVariants as why
@@ -13,21 +13,24 @@ use Rattle.cx_texts.specs.declared.line_state.LineState.{LineState}
 use Rattle.step_text.specs.ReadRefusals.{refusal_of_read}
 use Rattle.step_text.specs.declared.source.TextRefusal.{TextRefusal}
 use Rattle.step_text.specs.declared.source.TextRefusal.TheVariants.{BadToken, Unterminated, TooBig, TooLong, Memory, Failed}
-use Rattle.step_text.specs.Slots.{SlotState, Took, SlotKept, ReadsOn, DrainsRest}
+use Rattle.step_text.specs.Slots.{SlotState, TookBytes, CountsTaken, SlotKept, ReadsOn, DrainsRest}
 
 -- ---- one call behind another
 
 took_on : (slot other : Slot) (n m : ℕ) (o p q : Outside) → other ≡ slot → p ≡ taken slot n o → q ≡ taken other m p → q ≡ taken slot (n + m) o
 took_on slot other n m o p q same h k = k ∙ (λ i. taken (same i) m (h i)) ∙ taken-twice slot n m o
 
-pub took_then : {T : Type 0} (slot other : Slot) (r : Result T TextRefusal) (n : ℕ) (o p q : Outside) → other ≡ slot → p ≡ taken slot n o → Took other r p q → Took slot r o q
-took_then slot other (Ok answer) n o p q same h (m, k) = (n + m, took_on slot other n m o p q same h k)
-took_then slot other (Err (BadToken place)) n o p q same h (m, k) = (n + m, took_on slot other n m o p q same h k)
-took_then slot other (Err (Unterminated place)) n o p q same h (m, k) = (n + m, took_on slot other n m o p q same h k)
-took_then slot other (Err (TooBig place)) n o p q same h (m, k) = (n + m, took_on slot other n m o p q same h k)
-took_then slot other (Err TooLong) n o p q same h (m, k) = (n + m, took_on slot other n m o p q same h k)
-took_then slot other (Err Memory) n o p q same h (m, k) = (n + m, took_on slot other n m o p q same h k)
-took_then slot other (Err Failed) n o p q same h (m, k) = (n + m, subst (λ x. ReadFaulted x q) ((λ i. taken (same i) m (h i)) ∙ taken-twice slot n m o) k)
+bytes_then : {T : Type 0} (slot other : Slot) (r : Result T TextRefusal) (n m : ℕ) (o p q : Outside) → other ≡ slot → p ≡ taken slot n o → TookBytes other m r p q → TookBytes slot (n + m) r o q
+bytes_then slot other (Ok answer) n m o p q same h k = took_on slot other n m o p q same h k
+bytes_then slot other (Err (BadToken place)) n m o p q same h k = took_on slot other n m o p q same h k
+bytes_then slot other (Err (Unterminated place)) n m o p q same h k = took_on slot other n m o p q same h k
+bytes_then slot other (Err (TooBig place)) n m o p q same h k = took_on slot other n m o p q same h k
+bytes_then slot other (Err TooLong) n m o p q same h k = took_on slot other n m o p q same h k
+bytes_then slot other (Err Memory) n m o p q same h k = took_on slot other n m o p q same h k
+bytes_then slot other (Err Failed) n m o p q same h k = subst (λ x. ReadFaulted x q) ((λ i. taken (same i) m (h i)) ∙ taken-twice slot n m o) k
+
+pub counts_then : {T : Type 0} (a : SlotState) (o : Outside) (b : SlotState) (p : Outside) (r : Result T TextRefusal) (c : BytesState) (q : Outside) → ReadsOn a o b p → CountsTaken b.bytes r p c q → CountsTaken a.bytes r o c q
+counts_then a o b p r c q h (m, count, k) = (h.took.0 + m, omega (arith, h.took.1, count), bytes_then a.bytes.slot b.bytes.slot r h.took.0 m o p q h.kept.slot h.took.2 k)
 
 pub kept_then : (a : BytesState) (o : Outside) (b : BytesState) (p : Outside) (c : BytesState) (q : Outside) → SlotKept a o b p → SlotKept b p c q → SlotKept a o c q
 kept_then a o b p c q h k = record {
@@ -42,13 +45,13 @@ pub kept_itself : (s : BytesState) (o : Outside) → SlotKept s o s o
 kept_itself s o = record { slot = refl; limit = refl; long = refl; seen = λ e. e; rises = omega arith }
 
 pub reads_itself : (s : SlotState) (o : Outside) → ReadsOn s o s o
-reads_itself s o = record { kept = kept_itself s.bytes o; refused = refl; took = (0, sym (taken-none s.bytes.slot o)); text = λ more come. (more, come, refl, refl) }
+reads_itself s o = record { kept = kept_itself s.bytes o; refused = refl; took = (0, omega arith, sym (taken-none s.bytes.slot o)); text = λ more come. (more, come, refl, refl) }
 
 pub reads_then : (a : SlotState) (o : Outside) (b : SlotState) (p : Outside) (c : SlotState) (q : Outside) → ReadsOn a o b p → ReadsOn b p c q → ReadsOn a o c q
 reads_then a o b p c q h k = record {
   kept = kept_then a.bytes o b.bytes p c.bytes q h.kept k.kept;
   refused = k.refused ∙ h.refused;
-  took = (h.took.0 + k.took.0, took_on a.bytes.slot b.bytes.slot h.took.0 k.took.0 o p q h.kept.slot h.took.1 k.took.1);
+  took = (h.took.0 + k.took.0, omega (arith, h.took.1, k.took.1), took_on a.bytes.slot b.bytes.slot h.took.0 k.took.0 o p q h.kept.slot h.took.2 k.took.2);
   text = λ more come.
       let y = k.text more come in
       let x = h.text y.0 y.1 in
@@ -74,7 +77,7 @@ passes_on s at line high left o =
         rises = omega arith;
       };
       refused = refl;
-      took = (0, sym (taken-none s.bytes.slot o));
+      took = (0, omega (arith, same), sym (taken-none s.bytes.slot o));
       text = λ more come. (more, come, left s.bytes.place more, ap (λ k. k + length more) (sym same));
     }
 
@@ -87,7 +90,7 @@ pub reads_on : (s : SlotState) (o : Outside) (c : BytesState) (p : Outside) → 
 reads_on s o c p r = record {
   kept = still_kept s.bytes o c p r.kept;
   refused = refl;
-  took = (r.took.0, r.took.2);
+  took = r.took;
   text = λ more come.
       let y = r.text more come in (
         y.0,
@@ -97,13 +100,19 @@ reads_on s o c p r = record {
       );
 }
 
+-- a byte behind the limit is read just where that is answered
 pub past_limit : (b : BytesState) (o : Outside) (c : BytesState) (p : Outside) (e : ReadErr) → ReadingStops b o e c p → Some (refusal_of_read e) ≡ Some TooLong → c.limit < taken_by c
 past_limit b o c p why.Memory k same = cc
 past_limit b o c p why.Failed k same = cc
 past_limit b o c p why.TooLong k same = omega (arith, k.why.0)
 
+pub below_limit : (b : BytesState) (o : Outside) (c : BytesState) (p : Outside) (e : ReadErr) → ReadingStops b o e c p → Some (refusal_of_read e) ≢ Some TooLong → taken_by c ≤ c.limit
+below_limit b o c p why.Memory k other = k.why.0
+below_limit b o c p why.Failed k other = k.why.0
+below_limit b o c p why.TooLong k other = absurd (other refl)
+
 pub started_still : (a : SlotState) (o : Outside) (b : SlotState) (p : Outside) → ReadsOn a o b p → started_in a.bytes.slot o.started ≡ true → started_in b.bytes.slot p.started ≡ true
-started_still a o b p h e = (λ i. started_in (h.kept.slot i) ((ap (λ (x : Outside). x.started) h.took.1) i)) ∙ e
+started_still a o b p h e = (λ i. started_in (h.kept.slot i) ((ap (λ (x : Outside). x.started) h.took.2) i)) ∙ e
 
 -- ---- the rest is drained
 
@@ -115,8 +124,8 @@ module _ (s : BytesState) (o : Outside) where
       let l = Rattle.std.proofs.Common.ltb-false s.limit (taken_by s + length (to_come s t)) k in
       omega (arith, l)
 
-  pub over_already : s.limit < taken_by s → DrainsRest {T = ℕ} s o (Err drained.TooLong) o
-  over_already h = (over_by o.told h, (0, sym (taken-none s.slot o)))
+  pub over_already : s.limit < taken_by s → taken_by s ≤ s.limit + 1 → DrainsRest {T = ℕ} s o (Err drained.TooLong) o
+  over_already h most = (over_by o.told h, (0, sym (taken-none s.slot o), omega (arith, h, most)))
 
   under_by : (w : Option Told) → taken_by s ≤ s.limit → IfSome w (λ t. taken_by s + length (to_come s t) ≤ s.limit) → ¬ (option_map (λ t. nat_lt s.limit (taken_by s + length (to_come s t))) w ≡ Some true)
   under_by None h m e = cc
@@ -126,7 +135,7 @@ module _ (s : BytesState) (o : Outside) where
       omega (arith, l, m)
 
   pub rest_drained : (len : ℕ) (p : Outside) → RestRead s o len p → DrainsRest s o (Ok len) p
-  rest_drained len p r = (within o.told r.come.1, r.end, (length r.more, r.moved))
+  rest_drained len p r = (within o.told r.come.1, r.end, (length r.more, r.moved, omega (arith, r.whole, r.fits)))
     where
       within : (w : Option Told) → IfSome w (λ t. to_come s t ≡ r.more) → ¬ (option_map (λ t. nat_lt s.limit (taken_by s + length (to_come s t))) w ≡ Some true)
       within None come e = cc
@@ -135,8 +144,11 @@ module _ (s : BytesState) (o : Outside) where
           let l = Rattle.std.proofs.Common.ltb-true s.limit (taken_by s + length (to_come s t)) k in
           omega (arith, l, ap length come, r.whole, r.fits)
 
+  pub drain_failed : (p : Outside) → taken_by s ≤ s.limit → FaultedBehind s.slot (s.limit - taken_by s) o p → DrainsRest {T = ℕ} s o (Err drained.Failed) p
+  drain_failed p h (n, k, few) = (n, k, omega (arith, h, few))
+
   pub too_much : (p : Outside) → s.ended ≡ false → taken_by s ≤ s.limit → Passes s.slot ((s.limit - taken_by s) + 1) o p → DrainsRest {T = ℕ} s o (Err drained.TooLong) p
-  too_much p open_still h passes = (long o.told passes.stood, ((s.limit - taken_by s) + 1, passes.moved))
+  too_much p open_still h passes = (long o.told passes.stood, ((s.limit - taken_by s) + 1, passes.moved, omega (arith, h)))
     where
       long : (w : Option Told) → IfSome w (λ t. (s.limit - taken_by s) + 1 ≤ length (left_in s.slot t.left)) → ¬ (option_map (λ t. nat_lt s.limit (taken_by s + length (to_come s t))) w ≡ Some false)
       long None stood e = cc

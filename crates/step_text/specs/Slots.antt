@@ -26,15 +26,22 @@ pub record SlotState : Type 0 where
 abbrev pub SlotLeaves : {S : Type 0} → Grammar S → SlotState → Outside → List S → Ending → Type 0
 SlotLeaves g s o steps ending = (more : Bytes) × IsToCome s.bytes o more × LeftOf g (tokens_in s.line s.bytes.place (s.bytes.bytes ++ more)) (taken_by s.bytes + length more) s.refused steps ending
 
--- bytes of the slot were read, and then a fault was counted if it failed
+-- so many bytes of the slot were read, and then a fault was counted if it failed
+abbrev pub TookBytes : {T : Type 0} → Slot → ℕ → Result T TextRefusal → Outside → Outside → Type 0
+TookBytes slot n (Ok answer) o p = p ≡ taken slot n o
+TookBytes slot n (Err (BadToken place)) o p = p ≡ taken slot n o
+TookBytes slot n (Err (Unterminated place)) o p = p ≡ taken slot n o
+TookBytes slot n (Err (TooBig place)) o p = p ≡ taken slot n o
+TookBytes slot n (Err TooLong) o p = p ≡ taken slot n o
+TookBytes slot n (Err Memory) o p = p ≡ taken slot n o
+TookBytes slot n (Err Failed) o p = ReadFaulted (taken slot n o) p
+
 abbrev pub Took : {T : Type 0} → Slot → Result T TextRefusal → Outside → Outside → Type 0
-Took slot (Ok answer) o p = (n : ℕ) × (p ≡ taken slot n o)
-Took slot (Err (BadToken place)) o p = (n : ℕ) × (p ≡ taken slot n o)
-Took slot (Err (Unterminated place)) o p = (n : ℕ) × (p ≡ taken slot n o)
-Took slot (Err (TooBig place)) o p = (n : ℕ) × (p ≡ taken slot n o)
-Took slot (Err TooLong) o p = (n : ℕ) × (p ≡ taken slot n o)
-Took slot (Err Memory) o p = (n : ℕ) × (p ≡ taken slot n o)
-Took slot (Err Failed) o p = (n : ℕ) × ReadFaulted (taken slot n o) p
+Took slot result o p = (n : ℕ) × TookBytes slot n result o p
+
+-- the bytes that were read of the slot are counted
+abbrev pub CountsTaken : {T : Type 0} → BytesState → Result T TextRefusal → Outside → BytesState → Outside → Type 0
+CountsTaken s result o t p = (n : ℕ) × (taken_by t ≡ taken_by s + n) × TookBytes s.slot n result o p
 
 -- what a call leaves as it was
 pub record SlotKept (s : BytesState) (o : Outside) (t : BytesState) (p : Outside) : Type 0 where
@@ -48,7 +55,7 @@ pub record SlotKept (s : BytesState) (o : Outside) (t : BytesState) (p : Outside
 pub record ReadsOn (s : SlotState) (o : Outside) (t : SlotState) (p : Outside) : Type 0 where
   pub kept : SlotKept s.bytes o t.bytes p
   pub refused : t.refused ≡ s.refused
-  pub took : (n : ℕ) × (p ≡ taken s.bytes.slot n o)
+  pub took : (n : ℕ) × (taken_by t.bytes ≡ taken_by s.bytes + n) × (p ≡ taken s.bytes.slot n o)
   pub text : (more : Bytes) → IsToCome t.bytes p more → (before : Bytes) × IsToCome s.bytes o before
       × (tokens_in s.line s.bytes.place (s.bytes.bytes ++ before) ≡ tokens_in t.line t.bytes.place (t.bytes.bytes ++ more)) × (taken_by s.bytes + length before ≡ taken_by t.bytes + length more)
 
@@ -60,11 +67,11 @@ ReadingFails s o refusal t p = (why : ReadErr) × (refusal ≡ refusal_of_read w
 abbrev pub OnlyReads : Slot → Outside → Outside → Type 0
 OnlyReads slot o p = (n : ℕ) × (reads : ℕ) × (p ≡ record (taken slot n o) { faults = record o.faults { reads = reads } })
 
--- the rest of the text was read, and tells whether it passes its limit
+-- the rest of the text was read, and tells whether it passes its limit; with what was read before, at most one byte behind that was read
 abbrev pub DrainsRest : {T : Type 0} → BytesState → Outside → Result T DrainErr → Outside → Type 0
-DrainsRest s o (Ok answer) p = (¬ (is_too_long s o ≡ Some true)) × (EndSeen s o → AtEnd s.slot p) × ((n : ℕ) × (p ≡ taken s.slot n o))
-DrainsRest s o (Err drained.TooLong) p = (¬ (is_too_long s o ≡ Some false)) × ((n : ℕ) × (p ≡ taken s.slot n o))
-DrainsRest s o (Err drained.Failed) p = (n : ℕ) × ReadFaulted (taken s.slot n o) p
+DrainsRest s o (Ok answer) p = (¬ (is_too_long s o ≡ Some true)) × (EndSeen s o → AtEnd s.slot p) × ((n : ℕ) × (p ≡ taken s.slot n o) × (taken_by s + n ≤ s.limit))
+DrainsRest s o (Err drained.TooLong) p = (¬ (is_too_long s o ≡ Some false)) × ((n : ℕ) × (p ≡ taken s.slot n o) × (taken_by s + n ≡ s.limit + 1))
+DrainsRest s o (Err drained.Failed) p = (n : ℕ) × ReadFaulted (taken s.slot n o) p × (taken_by s + n ≤ s.limit)
 
 -- what a source that reads a slot keeps
 pub record SlotFrame (s : BytesState) (o : Outside) (t : BytesState) (p : Outside) : Type 0 where

@@ -1,12 +1,12 @@
 //! The steps of a text that is read from a desk's slot, by any grammar.
-ghost use Rattle.std.specs.Prelude.{◌≡◌, ◌≢◌, ◌<◌, ◌≤◌, ◌+◌, ◌^◌, ℕ, [], None, true, false, length, IfOk, IfErr, MatchResult, MatchOption, take};
+ghost use Rattle.std.specs.Prelude.{◌≡◌, ◌≢◌, ◌<◌, ◌≤◌, ◌+◌, ◌^◌, ℕ, [], None, Some, true, false, length, IfOk, IfErr, MatchResult, MatchOption, take};
 ghost use Rattle.cx_texts.specs.Pieces.{EndsBlank};
-ghost use Rattle.step_text.specs.declared.source.TextRefusal.TheVariants.{Unterminated};
+ghost use Rattle.step_text.specs.declared.source.TextRefusal.TheVariants.{TooLong, Unterminated};
 ghost use Rattle.cx_desk.specs.Outside.{Outside, started_in};
 ghost use Rattle.cx_desk.specs.SlotBytes.{is_too_long, taken_by, to_read};
 ghost use Rattle.cx_texts.specs.declared.line_state.LineState.TheVariants.{Start, Kept};
 ghost use Rattle.step_text.specs.Found.{IsFound};
-ghost use Rattle.step_text.specs.Slots.{DrainsRest, SlotKept, ReadsOn, ReadingFails, Took};
+ghost use Rattle.step_text.specs.Slots.{CountsTaken, DrainsRest, SlotKept, ReadsOn, ReadingFails, Took};
 ghost use Rattle.step_text.specs.Sources.{Gives, SpentAs, StuckAs, IsTooLongOnly, PlaceRises};
 ghost use Rattle.step_text.specs.Texts.{is_spent_by, stuck_by};
 ghost use Rattle.step_text.specs.SlotAnswers.{PairLeaves, IsAnswer};
@@ -113,7 +113,7 @@ pub struct SlotReader<G> {
 }
 
 impl<G> Model for SlotReader<G> {
-    ghost use Rattle.std.specs.Prelude.{◌≡◌, ◌<◌, ◌≤◌, ◌+◌, None, Some};
+    ghost use Rattle.std.specs.Prelude.{◌≡◌, ◌≢◌, ◌<◌, ◌≤◌, ◌+◌, Some};
     ghost use Rattle.cx_desk.specs.SlotBytes.{taken_by};
     ghost use Rattle.step_text.specs.declared.source.TextRefusal.TheVariants.{TooLong};
     ghost use Rattle.step_text.specs.Slots.{SlotState};
@@ -122,7 +122,7 @@ impl<G> Model for SlotReader<G> {
 
     ghost view = { λ r. record { bytes = r.bytes; line = r.line; refused = r.refused } };
 
-    ghost invariant = { λ r. (r.bytes.limit ≤ 4294967295) × (r.bytes.place ≤ r.bytes.limit) × (taken_by r.bytes ≤ r.bytes.limit + 1) × (r.refused ≡ None → taken_by r.bytes ≤ r.bytes.limit) × (r.refused ≡ Some TooLong → r.bytes.limit < taken_by r.bytes) };
+    ghost invariant = { λ r. (r.bytes.limit ≤ 4294967295) × (r.bytes.place ≤ r.bytes.limit) × (taken_by r.bytes ≤ r.bytes.limit + 1) × (r.refused ≢ Some TooLong → taken_by r.bytes ≤ r.bytes.limit) × (r.refused ≡ Some TooLong → r.bytes.limit < taken_by r.bytes) };
 }
 
 impl<G: StepGrammar> SlotReader<G>
@@ -142,9 +142,11 @@ where
         }
     }
 
-    /// How many bytes were read: at most the limit, until `TooLong` is answered.
+    /// How many bytes were read: at most the limit, until `TooLong` is answered, and one more then.
     pub fn taken(&self) -> u64
-        ensures { result ≡ taken_by self.now.bytes }
+        ensures taken { result ≡ taken_by self.now.bytes }
+        ensures within { self.now.refused ≢ Some TooLong → result ≤ self.now.bytes.limit }
+        ensures past { self.now.refused ≡ Some TooLong → result ≡ self.now.bytes.limit + 1 }
     {
         self.bytes.taken()
     }
@@ -258,6 +260,7 @@ where
         ensures rises { PlaceRises result self.old.bytes.place self.new.bytes.place }
         ensures kept { SlotKept self.old.bytes (D.outside desk.old) self.new.bytes (D.outside desk.new) }
         ensures took { Took self.old.bytes.slot result (D.outside desk.old) (D.outside desk.new) }
+        ensures counted { CountsTaken self.old.bytes result (D.outside desk.old) self.new.bytes (D.outside desk.new) }
         ensures within { self.new.bytes.place ≤ self.new.bytes.limit }
         ensures few { self.new.bytes.limit ≤ 4294967295 }
     {

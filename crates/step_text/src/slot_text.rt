@@ -1,9 +1,10 @@
 //! The steps of a text that is read from a slot of a lent desk.
-ghost use Rattle.std.specs.Prelude.{◌≡◌, ◌≤◌, [], None, true, false};
+ghost use Rattle.std.specs.Prelude.{◌≡◌, ◌≢◌, ◌≤◌, ◌+◌, [], None, Some, true, false};
 ghost use Rattle.cx_desk.specs.Outside.{started_in};
 ghost use Rattle.cx_texts.specs.declared.line_state.LineState.TheVariants.{Start};
 ghost use Rattle.cx_desk.specs.SlotBytes.{taken_by};
 ghost use Rattle.step_text.specs.Slots.{DrainsRest};
+ghost use Rattle.step_text.specs.declared.source.TextRefusal.TheVariants.{TooLong};
 
 use crate::grammar::StepGrammar;
 use crate::slot_reader::SlotReader;
@@ -42,9 +43,11 @@ where
         }
     }
 
-    /// How many bytes were read: at most the limit, until `TooLong` is answered.
+    /// How many bytes were read: at most the limit, until `TooLong` is answered, and one more then.
     pub fn taken(&self) -> u64
-        ensures { result ≡ taken_by self.now.reader.bytes }
+        ensures taken { result ≡ taken_by self.now.reader.bytes }
+        ensures within { self.now.reader.refused ≢ Some TooLong → result ≤ self.now.reader.bytes.limit }
+        ensures past { self.now.reader.refused ≡ Some TooLong → result ≡ self.now.reader.bytes.limit + 1 }
     {
         self.reader.taken()
     }

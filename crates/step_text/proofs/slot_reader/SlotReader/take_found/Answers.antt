@@ -1,5 +1,5 @@
-use Rattle.std.proofs.Common.{◌≡◌, ◌≢◌, ◌∙◌, ◌+◌, ◌-◌, sym, ap, subst, ℕ, Bool, List, [], drop, Ok, Err, Some, None, arith}
-use Rattle.cx_desk.specs.SlotBytes.{BytesState}
+use Rattle.std.proofs.Common.{◌≡◌, ◌≢◌, ◌∙◌, ◌+◌, ◌-◌, ◌≤◌, sym, ap, subst, ℕ, Bool, List, [], drop, Ok, Err, Some, None, arith}
+use Rattle.cx_desk.specs.SlotBytes.{BytesState, taken_by}
 use Rattle.cx_texts.specs.declared.line_state.LineState.TheVariants.{Kept}
 use Rattle.step_text.specs.Slots.{SlotState}
 use Rattle.step_text.specs.SlotAnswers.{IsAnswer}
@@ -20,7 +20,8 @@ returns-in-Refused g c =
     let found : IsFound steps s.bytes.ended s.bytes.place s.bytes.bytes (Refused refusal) = subst (λ (e : Bool). IsFound steps e i.bytes.place i.bytes.bytes (Refused refusal)) c.has_ended.ensures
     (subst (λ (b : List ℕ). IsFound steps c.has_ended.result i.bytes.place b (Refused refusal)) c.bytes.ensures
     (subst (λ (n : ℕ). IsFound steps c.has_ended.result n c.bytes.result.now (Refused refusal)) c.place-place.ensures.place c.in-Refused.ensures)) in
-    record { answer = λ o. subst (λ (x : SlotState). IsAnswer steps x o (Err refusal) x o) is (refusal_answer steps s fresh line o refusal found) }
+    let within : taken_by s.bytes ≤ s.bytes.limit = c.self.invariant.3 (λ e. cc (fresh, e)) in
+    record { answer = λ o. subst (λ (x : SlotState). IsAnswer steps x o (Err refusal) x o) is (refusal_answer steps s fresh line o refusal within found) }
 
 pub returns-in-Step : goal.returns-in-Step
 returns-in-Step g c =
