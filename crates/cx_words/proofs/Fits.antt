@@ -11,7 +11,7 @@ use Rattle.cx_words.specs.declared.plans.Plan.{Plan}
 use Rattle.cx_words.specs.declared.plans.Plan.TheVariants as plan
 use Rattle.cx_words.specs.declared.refusal.PlanRefusal.{PlanRefusal}
 use Rattle.cx_words.specs.CommandLine.{cxsat}
-use Rattle.cx_words.specs.Given.{check_of, conflicts_of, demo_of, bytes_differ, elab_of, kind_of, logged, model_of, number_in, planned, seed_of, size_of, solve_of, three_names, two_names}
+use Rattle.cx_words.specs.Given.{affine_of, blast_of, check_of, conflicts_of, demo_of, bytes_differ, elab_of, kind_of, logged, model_of, number_in, planned, seed_of, size_of, solve_of, three_names, trim_of, two_names}
 use Rattle.cx_words.specs.Words.{Asks, IsFit, plan_of}
 
 -- ---- where a choice or a step of options gave a value
@@ -102,6 +102,17 @@ demo_fit k n s p e =
     let text = followed (number_in 4 2000) n size.0 size.1 in
     subst IsFit seed.2 (in_range 4 2000 text.0 size.0 text.2)
 
+trim_fit : (f q o : Option Bytes) (p : Plan) → trim_of f q o ≡ Some p → IsFit p
+trim_fit f q o p e =
+    let names = mapped (λ (n : Bytes × Bytes × Bytes). plan.Trim n.0 n.1 n.2) (three_names f q o) p e in
+    subst IsFit names.2 (three_apart f q o names.0 names.1)
+
+blast_fit : (f o : Option Bytes) (p : Plan) → blast_of f o ≡ Some p → IsFit p
+blast_fit f o p e = let names = mapped (λ (n : Bytes × Bytes). plan.Blast n.0 n.1) (two_names f o) p e in subst IsFit names.2 (two_apart f o names.0 names.1)
+
+affine_fit : (f : Option Bytes) (p : Plan) → affine_of f ≡ Some p → IsFit p
+affine_fit f p e = let name = mapped plan.Affine f p e in subst IsFit name.2 tt
+
 -- each plan that the option may hold is fit
 abbrev Fits : Option Plan → Type 0
 Fits o = (p : Plan) → o ≡ Some p → IsFit p
@@ -120,7 +131,10 @@ planned_fit command values =
     (either_fits (bytes_eq command (codes "check")) _ _ (check_fit (value (codes "formula")) (value (codes "proof")))
     (either_fits (bytes_eq command (codes "elab")) _ _ (elab_fit (value (codes "formula")) (value (codes "log")) (value (codes "proof")))
     (either_fits (bytes_eq command (codes "model")) _ _ (model_fit (value (codes "formula")) (value (codes "answer")))
-    (either_fits (bytes_eq command (codes "demo")) _ _ (demo_fit (value (codes "kind")) (value (codes "size")) (value (codes "seed"))) none_fits))))
+    (either_fits (bytes_eq command (codes "demo")) _ _ (demo_fit (value (codes "kind")) (value (codes "size")) (value (codes "seed")))
+    (either_fits (bytes_eq command (codes "trim")) _ _ (trim_fit (value (codes "formula")) (value (codes "proof")) (value (codes "out")))
+    (either_fits (bytes_eq command (codes "blast")) _ _ (blast_fit (value (codes "formula")) (value (codes "out")))
+    (either_fits (bytes_eq command (codes "affine")) _ _ (affine_fit (value (codes "formula"))) none_fits)))))))
 
 pub fit : (words : List Bytes) (p : Plan) → Asks words p → IsFit p
 unfolding plan_of

@@ -29,6 +29,15 @@ model_leaf = leaf (codes "model") (placed (codes "formula") 1 ∷ placed (codes 
 abbrev pub demo_leaf : Shape
 demo_leaf = leaf (codes "demo") (placed (codes "kind") 1 ∷ placed (codes "size") 2 ∷ placed (codes "seed") 3 ∷ [])
 
+abbrev pub trim_leaf : Shape
+trim_leaf = leaf (codes "trim") (placed (codes "formula") 1 ∷ placed (codes "proof") 2 ∷ placed (codes "out") 3 ∷ [])
+
+abbrev pub blast_leaf : Shape
+blast_leaf = leaf (codes "blast") (placed (codes "formula") 1 ∷ placed (codes "out") 2 ∷ [])
+
+abbrev pub affine_leaf : Shape
+affine_leaf = leaf (codes "affine") (placed (codes "formula") 1 ∷ [])
+
 pub enters_solve : Enters (built cxsat) (codes "solve") solve_leaf
 unfolding clap_on_literals
 enters_solve = record { met = refl; fine = refl; command = refl; defaults = refl; complete = refl }
@@ -48,6 +57,18 @@ enters_model = record { met = refl; fine = refl; command = refl; defaults = refl
 pub enters_demo : Enters (built cxsat) (codes "demo") demo_leaf
 unfolding clap_on_literals
 enters_demo = record { met = refl; fine = refl; command = refl; defaults = refl; complete = refl }
+
+pub enters_trim : Enters (built cxsat) (codes "trim") trim_leaf
+unfolding clap_on_literals
+enters_trim = record { met = refl; fine = refl; command = refl; defaults = refl; complete = refl }
+
+pub enters_blast : Enters (built cxsat) (codes "blast") blast_leaf
+unfolding clap_on_literals
+enters_blast = record { met = refl; fine = refl; command = refl; defaults = refl; complete = refl }
+
+pub enters_affine : Enters (built cxsat) (codes "affine") affine_leaf
+unfolding clap_on_literals
+enters_affine = record { met = refl; fine = refl; command = refl; defaults = refl; complete = refl }
 
 pub no_defaults : (s : Shape) → Defaultless s.rules → HasNoDefaults s
 no_defaults s none = record { fine = λ rows. no_fault s.rules rows none; same = λ rows. same_rows s.rules rows none }

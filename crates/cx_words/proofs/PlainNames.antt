@@ -6,9 +6,9 @@ use Rattle.inst_gen.specs.declared.kind.Kind.TheVariants.{Even, Odd}
 use Rattle.cx_words.specs.declared.plans.Plan.TheVariants as plan
 use Rattle.cx_words.specs.Given.{kind_of}
 use Rattle.cx_words.specs.Words.{Asks}
-use Rattle.cx_words.specs.PlainWords.{PlainCheck, PlainElab, PlainModel, PlainDemo, kind_word}
+use Rattle.cx_words.specs.PlainWords.{PlainAffine, PlainBlast, PlainCheck, PlainDemo, PlainElab, PlainModel, PlainTrim, kind_word}
 use Rattle.cx_words.proofs.Asked.{asks}
-use Rattle.cx_words.proofs.Leaves.{check_leaf, demo_leaf, elab_leaf, enters_check, enters_demo, enters_elab, enters_model, model_leaf, no_defaults}
+use Rattle.cx_words.proofs.Leaves.{affine_leaf, blast_leaf, check_leaf, demo_leaf, elab_leaf, enters_affine, enters_blast, enters_check, enters_demo, enters_elab, enters_model, enters_trim, model_leaf, no_defaults, trim_leaf}
 use Rattle.cx_words.proofs.PlainTexts.{apart, formula_plain, name_plain, number_plain, number_read}
 use Rattle.cx_words.proofs.Runs.{Finds, finds_nothing, finds_placed}
 use Rattle.cx_words.proofs.Uses.{NoFlag, row}
@@ -67,3 +67,34 @@ demo_asked words k size seed h = subst (λ (w : List Bytes). Asks w (plan.Demo k
     (no_defaults demo_leaf (refl, (refl, (refl, (refl, tt)))))
     (demo_finds (kind_word k) h.size_text h.seed_text (kind_plain k) (number_plain h.size_text size h.size_number.spelt) (number_plain h.seed_text seed h.seed_number.spelt)) refl
     (rw (kind_read k, number_read 4 2000 h.size_text size h.size_number, number_read 0 18446744073709551615 h.seed_text seed h.seed_number) refl))
+
+trim_finds : (f q o : Bytes) → NoFlag f → NoFlag q → NoFlag o
+    → Finds trim_leaf (f ∷ q ∷ o ∷ []) 4 (row (codes "formula") f ∷ row (codes "proof") q ∷ row (codes "out") o ∷ [])
+trim_finds f q o a b c =
+    let one = finds_placed trim_leaf [] 1 [] (codes "formula") f (finds_nothing trim_leaf) refl refl refl refl a in
+    let two = finds_placed trim_leaf (f ∷ []) 2 (row (codes "formula") f ∷ []) (codes "proof") q one refl refl refl refl b in
+    finds_placed trim_leaf (f ∷ q ∷ []) 3 (row (codes "formula") f ∷ row (codes "proof") q ∷ []) (codes "out") o two refl refl refl refl c
+
+pub trim_asked : (words : List Bytes) (f q o : Bytes) → PlainTrim f q o words → Asks words (plan.Trim f q o)
+trim_asked words f q o h = subst (λ (w : List Bytes). Asks w (plan.Trim f q o)) (sym h.spelt)
+    (asks h.program (codes "trim") trim_leaf (f ∷ q ∷ o ∷ []) 4 _ (plan.Trim f q o) enters_trim refl (no_defaults trim_leaf (refl, (refl, (refl, (refl, tt)))))
+    (trim_finds f q o (formula_plain f h.formula_name) (name_plain q h.proof_name) (name_plain o h.out_name)) refl
+    (rw (apart f q h.differ.0, apart f o h.differ.1, apart q o h.differ.2) refl))
+
+blast_finds : (f o : Bytes) → NoFlag f → NoFlag o → Finds blast_leaf (f ∷ o ∷ []) 3 (row (codes "formula") f ∷ row (codes "out") o ∷ [])
+blast_finds f o a b =
+    let one = finds_placed blast_leaf [] 1 [] (codes "formula") f (finds_nothing blast_leaf) refl refl refl refl a in
+    finds_placed blast_leaf (f ∷ []) 2 (row (codes "formula") f ∷ []) (codes "out") o one refl refl refl refl b
+
+pub blast_asked : (words : List Bytes) (f o : Bytes) → PlainBlast f o words → Asks words (plan.Blast f o)
+blast_asked words f o h = subst (λ (w : List Bytes). Asks w (plan.Blast f o)) (sym h.spelt)
+    (asks h.program (codes "blast") blast_leaf (f ∷ o ∷ []) 3 _ (plan.Blast f o) enters_blast refl (no_defaults blast_leaf (refl, (refl, (refl, tt))))
+    (blast_finds f o (formula_plain f h.formula_name) (name_plain o h.out_name)) refl (rw (apart f o h.differ) refl))
+
+affine_finds : (f : Bytes) → NoFlag f → Finds affine_leaf (f ∷ []) 2 (row (codes "formula") f ∷ [])
+affine_finds f plain = finds_placed affine_leaf [] 1 [] (codes "formula") f (finds_nothing affine_leaf) refl refl refl refl plain
+
+pub affine_asked : (words : List Bytes) (f : Bytes) → PlainAffine f words → Asks words (plan.Affine f)
+affine_asked words f h = subst (λ (w : List Bytes). Asks w (plan.Affine f)) (sym h.spelt)
+    (asks h.program (codes "affine") affine_leaf (f ∷ []) 2 _ (plan.Affine f) enters_affine refl (no_defaults affine_leaf (refl, (refl, tt)))
+    (affine_finds f (formula_plain f h.formula_name)) refl refl)

@@ -10,7 +10,7 @@ use Rattle.cx_words.specs.declared.refusal.PlanRefusal.TheVariants.{Usage}
 use Rattle.cx_words.specs.CommandLine.{cxsat}
 use Rattle.cx_words.specs.Given.{IsWanted}
 use Rattle.cx_words.specs.Words.{Asks, Refuses, plan_of}
-use Rattle.cx_words.proofs.PlainNames.{check_asked, demo_asked, elab_asked, model_asked}
+use Rattle.cx_words.proofs.PlainNames.{affine_asked, blast_asked, check_asked, demo_asked, elab_asked, model_asked, trim_asked}
 use Rattle.cx_words.proofs.PlainSolve.{solve_asked}
 
 pub one_plan : (words : List Bytes) (a b : Plan) → Asks words a → Asks words b → a ≡ b
@@ -26,6 +26,9 @@ plain_asked words (plan.Check name proof) h = check_asked words name proof h
 plain_asked words (plan.Elab name to proof) h = elab_asked words name to proof h
 plain_asked words (plan.Model name answer) h = model_asked words name answer h
 plain_asked words (plan.Demo kind size seed) h = demo_asked words kind size seed h
+plain_asked words (plan.Trim name proof to) h = trim_asked words name proof to h
+plain_asked words (plan.Blast name to) h = blast_asked words name to h
+plain_asked words (plan.Affine name) h = affine_asked words name h
 
 pub asks_by : (words : List Bytes) (wanted : Option Plan) (r : Result Plan PlanRefusal) → fault_of cxsat words ≡ [] → plan_of words ≡ wanted → IsWanted wanted r → IfOk r (Asks words)
 asks_by words wanted (Ok p) taken is h = record { taken = taken; asked = is ∙ h }

@@ -1,4 +1,4 @@
--- The command line that clap is given: five commands, with their names, values and options.
+-- The command line that clap is given: eight commands, with their names, values and options.
 use Rattle.std.specs.Prelude.{List, [], ◌∷◌, fold, true, Some, codes}
 use Rattle.clap.specs.Words.{App, Rule, Text, new_app, new_rule, with_rule, with_subcommand}
 use Rattle.clap.specs.declared.builder.ArgAction.TheVariants.{Set}
@@ -30,9 +30,18 @@ model = command (codes "model") (needed (codes "formula") ∷ needed (codes "ans
 abbrev pub demo : App
 demo = command (codes "demo") (needed (codes "kind") ∷ needed (codes "size") ∷ needed (codes "seed") ∷ [])
 
+abbrev pub trim : App
+trim = command (codes "trim") (needed (codes "formula") ∷ needed (codes "proof") ∷ needed (codes "out") ∷ [])
+
+abbrev pub blast : App
+blast = command (codes "blast") (needed (codes "formula") ∷ needed (codes "out") ∷ [])
+
+abbrev pub affine : App
+affine = command (codes "affine") (needed (codes "formula") ∷ [])
+
 -- the program, which has to be given a command
 abbrev pub bare : App
 bare = let a = new_app (codes "cxsat") in record a { top = record a.top { subcommand_required = true } }
 
 abbrev pub cxsat : App
-cxsat = fold (λ (a c : App). with_subcommand a c.top) bare (solve ∷ check ∷ elab ∷ model ∷ demo ∷ [])
+cxsat = fold (λ (a c : App). with_subcommand a c.top) bare (solve ∷ check ∷ elab ∷ model ∷ demo ∷ trim ∷ blast ∷ affine ∷ [])

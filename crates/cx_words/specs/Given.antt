@@ -81,6 +81,15 @@ abbrev pub demo_of : Option Bytes → Option Bytes → Option Bytes → Option P
 demo_of kind size seed =
     option_and_then (λ k. option_and_then (λ n. option_map (plan.Demo k n) (seed_of seed)) (size_of size)) (kind_of kind)
 
+abbrev pub trim_of : Option Bytes → Option Bytes → Option Bytes → Option Plan
+trim_of formula proof out = option_map (λ (names : Bytes × Bytes × Bytes). plan.Trim names.0 names.1 names.2) (three_names formula proof out)
+
+abbrev pub blast_of : Option Bytes → Option Bytes → Option Plan
+blast_of formula out = option_map (λ (names : Bytes × Bytes). plan.Blast names.0 names.1) (two_names formula out)
+
+abbrev pub affine_of : Option Bytes → Option Plan
+affine_of = option_map plan.Affine
+
 -- the plan that a command's values ask for
 abbrev pub planned : Bytes → List Row → Option Plan
 planned command values =
@@ -94,4 +103,10 @@ planned command values =
     then model_of (first_of (codes "formula") values) (first_of (codes "answer") values)
     else (if bytes_eq command (codes "demo")
     then demo_of (first_of (codes "kind") values) (first_of (codes "size") values) (first_of (codes "seed") values)
-    else None))))
+    else (if bytes_eq command (codes "trim")
+    then trim_of (first_of (codes "formula") values) (first_of (codes "proof") values) (first_of (codes "out") values)
+    else (if bytes_eq command (codes "blast")
+    then blast_of (first_of (codes "formula") values) (first_of (codes "out") values)
+    else (if bytes_eq command (codes "affine")
+    then affine_of (first_of (codes "formula") values)
+    else None)))))))

@@ -122,6 +122,26 @@ pub record PlainDemo (kind : Kind) (size seed : ℕ) (words : List Bytes) : Type
   pub size_number : SpellsWithin 4 2000 size_text size
   pub seed_number : SpellsWithin 0 18446744073709551615 seed_text seed
 
+pub record PlainTrim (formula proof out : Bytes) (words : List Bytes) : Type 0 where
+  pub program : Bytes
+  pub spelt : words ≡ program ∷ codes "trim" ∷ formula ∷ proof ∷ out ∷ []
+  pub formula_name : IsFormulaName formula
+  pub proof_name : IsName proof
+  pub out_name : IsName out
+  pub differ : (formula ≢ proof) × (formula ≢ out) × (proof ≢ out)
+
+pub record PlainBlast (formula out : Bytes) (words : List Bytes) : Type 0 where
+  pub program : Bytes
+  pub spelt : words ≡ program ∷ codes "blast" ∷ formula ∷ out ∷ []
+  pub formula_name : IsFormulaName formula
+  pub out_name : IsName out
+  pub differ : formula ≢ out
+
+pub record PlainAffine (formula : Bytes) (words : List Bytes) : Type 0 where
+  pub program : Bytes
+  pub spelt : words ≡ program ∷ codes "affine" ∷ formula ∷ []
+  pub formula_name : IsFormulaName formula
+
 -- the words are plain and ask for the plan
 abbrev pub IsPlain : List Bytes → Plan → Type 0
 IsPlain words (plan.Solve formula log conflicts) = PlainSolve formula log conflicts words
@@ -129,3 +149,6 @@ IsPlain words (plan.Check formula proof) = PlainCheck formula proof words
 IsPlain words (plan.Elab formula log proof) = PlainElab formula log proof words
 IsPlain words (plan.Model formula answer) = PlainModel formula answer words
 IsPlain words (plan.Demo kind size seed) = PlainDemo kind size seed words
+IsPlain words (plan.Trim formula proof out) = PlainTrim formula proof out words
+IsPlain words (plan.Blast formula out) = PlainBlast formula out words
+IsPlain words (plan.Affine formula) = PlainAffine formula words

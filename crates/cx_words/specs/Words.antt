@@ -32,3 +32,6 @@ IsFit (plan.Check formula proof) = formula ≢ proof
 IsFit (plan.Elab formula log proof) = (formula ≢ log) × (formula ≢ proof) × (log ≢ proof)
 IsFit (plan.Model formula answer) = formula ≢ answer
 IsFit (plan.Demo kind size seed) = (4 ≤ size) × (size ≤ 2000)
+IsFit (plan.Trim formula proof out) = (formula ≢ proof) × (formula ≢ out) × (proof ≢ out)
+IsFit (plan.Blast formula out) = formula ≢ out
+IsFit (plan.Affine formula) = Unit {0}

@@ -56,11 +56,14 @@ fn with<'a>(
 }
 
 /// The commands whose words all have to stand in their places, and those words.
-const PLAIN: [(&str, &[&str]); 4] = [
+const PLAIN: [(&str, &[&str]); 7] = [
     ("check", &["formula", "proof"]),
     ("elab", &["formula", "log", "proof"]),
     ("model", &["formula", "answer"]),
     ("demo", &["kind", "size", "seed"]),
+    ("trim", &["formula", "proof", "out"]),
+    ("blast", &["formula", "out"]),
+    ("affine", &["formula"]),
 ];
 
 /// The command with these commands below it.

@@ -46,4 +46,25 @@ pub enum Plan {
         /// The seed of its random words.
         seed: u64,
     },
+    /// Keep of a proof what its last step needs.
+    Trim {
+        /// The formula's file, or `-` for the standard input.
+        formula: Name,
+        /// The proof's file.
+        proof: Name,
+        /// The file that what is left is written to.
+        out: Name,
+    },
+    /// Put a formula into clauses.
+    Blast {
+        /// The formula's file, or `-` for the standard input.
+        formula: Name,
+        /// The file that the formula in clauses is written to.
+        out: Name,
+    },
+    /// Describe the solutions of a formula's parities.
+    Affine {
+        /// The formula's file, or `-` for the standard input.
+        formula: Name,
+    },
 }

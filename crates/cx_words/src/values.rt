@@ -1,7 +1,7 @@
 //! The plan of a command, from the values of its arguments.
 ghost use Rattle.std.specs.Prelude.{◌≡◌, Some, IfOk};
 ghost use Rattle.clap.specs.Words.{first_of, rows_of, found_of};
-ghost use Rattle.cx_words.specs.Given.{lent, IsWanted, two_names, three_names, logged, solve_of, check_of, elab_of, model_of, demo_of, planned};
+ghost use Rattle.cx_words.specs.Given.{lent, IsWanted, two_names, three_names, logged, solve_of, check_of, elab_of, model_of, demo_of, trim_of, blast_of, affine_of, planned};
 
 use crate::numbers::{conflicts, kind, seed, size};
 use crate::{Name, Plan, PlanRefusal};
@@ -131,6 +131,46 @@ fn demo(kind_word: Option<&str>, size_word: Option<&str>, seed_word: Option<&str
     })
 }
 
+fn trim(
+    alloc: Global,
+    formula: Option<&str>,
+    proof: Option<&str>,
+    out: Option<&str>,
+) -> Result<Plan, PlanRefusal>
+    ensures { IsWanted (trim_of (lent formula.entry) (lent proof.entry) (lent out.entry)) result }
+{
+    let (Some(formula), Some(proof), Some(out)) = (formula, proof, out) else {
+        return Err(PlanRefusal::Usage);
+    };
+    let (formula, proof, out) = triple(alloc, formula, proof, out)?;
+    Ok(Plan::Trim {
+        formula,
+        proof,
+        out,
+    })
+}
+
+fn blast(alloc: Global, formula: Option<&str>, out: Option<&str>) -> Result<Plan, PlanRefusal>
+    ensures { IsWanted (blast_of (lent formula.entry) (lent out.entry)) result }
+{
+    let (Some(formula), Some(out)) = (formula, out) else {
+        return Err(PlanRefusal::Usage);
+    };
+    let (formula, out) = pair(alloc, formula, out)?;
+    Ok(Plan::Blast { formula, out })
+}
+
+fn affine(alloc: Global, formula: Option<&str>) -> Result<Plan, PlanRefusal>
+    ensures { IsWanted (affine_of (lent formula.entry)) result }
+{
+    let Some(formula) = formula else {
+        return Err(PlanRefusal::Usage);
+    };
+    Ok(Plan::Affine {
+        formula: name_of(alloc, formula)?,
+    })
+}
+
 /// The value of an argument.
 fn value<'a>(found: &ArgMatches<'a>, id: &str) -> Option<&'a str>
     ensures { lent result ≡ first_of id.now (rows_of (found_of found.now)) }
@@ -160,6 +200,9 @@ pub(crate) fn planned(
             value(found, "seed"),
         )
         .ok_or(PlanRefusal::Usage),
+        "trim" => trim(alloc, formula, proof, value(found, "out")),
+        "blast" => blast(alloc, formula, value(found, "out")),
+        "affine" => affine(alloc, formula),
         _ => Err(PlanRefusal::Usage),
     }
 }

@@ -18,7 +18,7 @@ use Rattle.solve_cli.specs.Demo.{instance_of, Shows, HasDemonstrated, IsDemonstr
 use Rattle.solve_cli.specs.Happens.{Works, Runs}
 use Rattle.solve_cli.proofs.Direct.{ended}
 use Rattle.solve_cli.proofs.Dues.{judged_due}
-use Rattle.solve_cli.proofs.Outcomes.{Done, verified, right, elaborated, unknown, demonstrated, outcome_of}
+use Rattle.solve_cli.proofs.Outcomes.{Done, verified, right, elaborated, unknown, demonstrated, trimmed, blasted, affine, outcome_of}
 use Rattle.solve_cli.proofs.Solved.{quiet}
 use Rattle.solve_cli.proofs.Works.{if_some_both}
 
@@ -50,6 +50,9 @@ module _ (words : List Bytes) (limit : ℕ) (old : Seen) (s : Status) (new : See
   shown_of kind size seed _ right is w = absurd w.1.own
   shown_of kind size seed _ (elaborated k) is w = absurd w.1.own
   shown_of kind size seed _ (unknown k) is w = absurd w.1.own
+  shown_of kind size seed _ (trimmed core) is w = absurd w.1.own
+  shown_of kind size seed _ (blasted variables clauses) is w = absurd w.1.own
+  shown_of kind size seed _ (affine space) is w = absurd w.1.own
 
   -- status 0 of `demo`
   pub instance_is_shown : s ≡ status.Done → IsDemonstrated words old new

@@ -114,7 +114,7 @@ module _ (kind : Kind) (size seed limit : ℕ) (events : List LogEvent) (e : End
   -- a front of the log was written
   pub demo_cut : (new : Outside) → (k : ℕ) × (k < length (printed_log events)) × WriteFaulted (gained port.Proof (take k (printed_log events)) mid) new → Works Demo limit (seen mid) outcome.WriteFault (seen new)
   unfolding stops
-  demo_cut new h = inr (inr (record { writes = refl; at = says port.Proof (take h.0 (printed_log events)) (seen mid); stops = stops (take h.0 (printed_log events)) (front h.0); created = refl; fault = write_fault (take h.0 (printed_log events)) mid new h.2 }))
+  demo_cut new h = inr (inr (record { writes = refl; may_write = tt; at = says port.Proof (take h.0 (printed_log events)) (seen mid); stops = stops (take h.0 (printed_log events)) (front h.0); created = refl; fault = write_fault (take h.0 (printed_log events)) mid new h.2 }))
 
   -- the log was written, and memory was wanted behind it
   pub demo_wanted : (at : Outside) → at ≡ gained port.Proof (printed_log events) mid → Works Demo limit (seen mid) outcome.Memory (seen at)

@@ -26,6 +26,7 @@ use Rattle.solve_cli.specs.Commands.{formula_of, second_of, second_text}
 use Rattle.solve_cli.specs.Happens.{IfNamed, IfNamedElse, FormulaRead, IsPlanted, IsFormula, EarlyDue, refusal_of, Judged, LateDue, Due, IsEarlyOrRead}
 use Rattle.solve_cli.specs.Happens.{Early as AreEarly}
 use Rattle.solve_cli.proofs.Dues.{same_of_one, one_formula}
+use Rattle.solve_cli.proofs.OneTrimming.{one_trim_ending}
 
 reading : (text : Bytes) (a b : Result Problem Offence) → ReadsAs text a → ReadsAs text b → a ≡ b
 reading text a b p q = same_of_one {P = ReadsAs text} (one_formula_reading text) a b p q
@@ -154,6 +155,9 @@ one_judged (plan.Model n a) second f text d e named h k = one_answer_ending n a 
 one_judged (plan.Elab n l q) second f text d e named h k = one_log_ending n l q f text d e h k
 one_judged (plan.Solve n l c) second f text d e named h k = cc
 one_judged (plan.Demo a b c) second f text d e named h k = cc
+one_judged (plan.Blast n o) second f text d e named h k = cc
+one_judged (plan.Affine n) second f text d e named h k = cc
+one_judged (plan.Trim n q o) second f text d e named h k = one_trim_ending n q o f text d e h k
 
 two_late : (p : Plan) (second : Bytes) (limit : ℕ) (f : Problem) (text : Bytes) (d e : Ending) → second_of p ≡ Some second
     → LateDue p limit f text d → LateDue p limit f text e → d ≡ e

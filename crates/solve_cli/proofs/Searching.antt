@@ -144,6 +144,7 @@ module _ (n : Bytes) (l : Option Bytes) (budget limit : ℕ) (old : Seen) (f : P
       }
   search_gave_up outcome.WriteFault new h = inr (inr (record {
     writes = refl;
+    may_write = tt;
     at = says port.Proof h.0 mid;
     stops = record {
       stage = proof_created;

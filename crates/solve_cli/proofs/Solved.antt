@@ -29,7 +29,7 @@ use Rattle.solve_cli.specs.Happens.{end_stage, Judged, Due, Gains, Works, WorksF
 use Rattle.solve_cli.specs.Solved.{solved, HasSolved, IsSatisfied, IsRefuted, IsSpent, IsSettled, IsSettledWithRecovered, IsUnsolvable}
 use Rattle.solve_cli.proofs.Direct.{ended}
 use Rattle.solve_cli.proofs.Dues.{is_judgement, judged_due, judged_of}
-use Rattle.solve_cli.proofs.Outcomes.{Done, verified, right, elaborated, unknown, demonstrated, outcome_of}
+use Rattle.solve_cli.proofs.Outcomes.{Done, verified, right, elaborated, unknown, demonstrated, trimmed, blasted, affine, outcome_of}
 use Rattle.solve_cli.proofs.Works.{if_some_both, says-none}
 
 -- ---- the texts
@@ -131,6 +131,9 @@ module _ (words : List Bytes) (limit : ℕ) (old : Seen) (s : Status) (new : See
   did e search is (plan.Elab n l q) asks w = IfSome_then old.files w.1.due (λ files due. absurd (not_due e search (plan.Elab n l q) refl limit files due))
   did e search is (plan.Model n a) asks w = IfSome_then old.files w.1.due (λ files due. absurd (not_due e search (plan.Model n a) refl limit files due))
   did e search is (plan.Demo a b c) asks w = IfSome_then old.files w.1.due (λ files due. absurd (not_due e search (plan.Demo a b c) refl limit files due))
+  did e search is (plan.Trim n q o) asks w = IfSome_then old.files w.1.due (λ files due. absurd (not_due e search (plan.Trim n q o) refl limit files due))
+  did e search is (plan.Blast n o) asks w = IfSome_then old.files w.1.due (λ files due. absurd (not_due e search (plan.Blast n o) refl limit files due))
+  did e search is (plan.Affine n) asks w = IfSome_then old.files w.1.due (λ files due. absurd (not_due e search (plan.Affine n) refl limit files due))
 
   did_end : (e : Ending) → Search e → h.outcome ≡ outcome.Ended e → IfSome old.files (λ files. Did words limit old files new e)
   did_end e search is = let w = subst (λ (o : Outcome). WorksFor words limit old o h.done) is h.works in did e search is w.0 w.1 w.2
@@ -183,6 +186,9 @@ module _ (words : List Bytes) (limit : ℕ) (old : Seen) (s : Status) (new : See
     done_is P _ right is f = IfSome_then old.files (search_ended ending.ModelRight is) (λ files due. absurd (judged_due (plan.Solve n l c) limit files ending.ModelRight refl due).2)
     done_is P _ (elaborated k) is f = IfSome_then old.files (search_ended (ending.Elaborated k) is) (λ files due. absurd (judged_due (plan.Solve n l c) limit files (ending.Elaborated k) refl due).2)
     done_is P _ (demonstrated i x) is f = IfSome_then old.files (search_ended (ending.Demonstrated i x) is) (λ files due. absurd (judged_due (plan.Solve n l c) limit files (ending.Demonstrated i x) refl due).2)
+    done_is P _ (trimmed core) is f = IfSome_then old.files (search_ended (ending.Trimmed core) is) (λ files due. absurd (judged_due (plan.Solve n l c) limit files (ending.Trimmed core) refl due).2)
+    done_is P _ (blasted variables clauses) is f = IfSome_then old.files (search_ended (ending.Blasted variables clauses) is) (λ files due. absurd (judged_due (plan.Solve n l c) limit files (ending.Blasted variables clauses) refl due).2)
+    done_is P _ (affine space) is f = IfSome_then old.files (search_ended (ending.Affine space) is) (λ files due. absurd (judged_due (plan.Solve n l c) limit files (ending.Affine space) refl due).2)
 
     not_settled : s ≡ status.Done → IfSome old.files (λ files. (f : Problem) → Reads (text_named n files) f → ¬ SettledWithRecovered f)
     not_settled e =

@@ -1,5 +1,5 @@
 -- What a run says by its status, for the commands that judge a text.
-use Rattle.std.proofs.Common.{◌≡◌, ◌<◌, ◌⊎◌, ℕ, ℤ, List, Bool, length, option_map, Option, Some, None, IfSome, inl, inr, refl, ap, sym, subst, ◌∙◌, arith}
+use Rattle.std.proofs.Common.{◌≡◌, ◌<◌, ◌⊎◌, ℕ, ℤ, List, [], Bool, length, option_map, Option, Some, None, IfSome, inl, inr, refl, ap, sym, subst, ◌∙◌, arith}
 use Rattle.std.proofs.lemmas.Option.{IfSome_then}
 use Rattle.cx_base.specs.Problem.{Problem, Meets, Unmet}
 use Rattle.cx_judgements.specs.ProofTexts.{Accepted}
@@ -25,10 +25,10 @@ use Rattle.solve_cli.specs.Endings.{answer_text}
 use Rattle.solve_cli.specs.Seen.{Seen, says, text_named}
 use Rattle.solve_cli.specs.Commands.{Stage, formula_of, second_text, second_started, proof_created, asked_to}
 use Rattle.solve_cli.specs.Proofs.{IsWholeProof, IsProofBefore}
-use Rattle.solve_cli.specs.Happens.{IfNamed, IsFormula, Early, LateDue, Due, end_stage, Works, Runs}
-use Rattle.solve_cli.specs.Causes.{OfFormula, OnProof, IsFormulaRefused, PassesLimit, IsOverLimit, IsProofRefused, IsLogRefused, IsAnswerRefused, IsOfSolve, IsVerified, IsElaborated, IsModelRight}
+use Rattle.solve_cli.specs.Happens.{IfNamed, IsFormula, Early, Judged, LateDue, Due, end_stage, Works, Runs}
+use Rattle.solve_cli.specs.Causes.{OfFormula, OnProof, IsFormulaRefused, IsPastLimit, IsOverLimit, IsProofRefused, IsLogRefused, IsAnswerRefused, IsOfSolve, IsVerified, IsElaborated, IsModelRight}
 use Rattle.solve_cli.proofs.Dues.{one_formula, judged_due}
-use Rattle.solve_cli.proofs.Outcomes.{Done, verified, right, elaborated, unknown, demonstrated, OverLimit, far, long, outcome_of}
+use Rattle.solve_cli.proofs.Outcomes.{Done, verified, right, elaborated, unknown, demonstrated, trimmed, blasted, affine, OverLimit, far, long, many, ProofRefused, not_verified, not_trimmed, outcome_of}
 use Rattle.solve_cli.proofs.Works.{if_some_both}
 use Rattle.solve_cli.proofs.Direct.{proof_in, said_answer, gained_proof, if_proof, if_written, kept, ended, ended_by}
 
@@ -47,14 +47,23 @@ refused_early p limit files o (inr d) = absurd (not_late d.due)
     not_late (inr h) = h.1
 
 -- a second text that is too long is that of a command whose formula was read
-second_over : (p : Plan) (limit : ℕ) (files : Files) (f : Problem) → limit < length (second_text p files) → IsFormula p limit files f → IfNamed (formula_of p) (PassesLimit p limit files)
-second_over (plan.Solve n l c) limit files f over read = inr (inr (f, read, over))
-second_over (plan.Check n q) limit files f over read = inr (inr (f, read, over))
-second_over (plan.Elab n l q) limit files f over read = inr (inr (f, read, over))
-second_over (plan.Model n a) limit files f over read = inr (inr (f, read, over))
+second_over : (p : Plan) (limit : ℕ) (files : Files) (f : Problem) → limit < length (second_text p files) → IsFormula p limit files f → IfNamed (formula_of p) (IsPastLimit p limit files)
+second_over (plan.Solve n l c) limit files f over read = inr (inr (f, read, inl over))
+second_over (plan.Check n q) limit files f over read = inr (inr (f, read, inl over))
+second_over (plan.Elab n l q) limit files f over read = inr (inr (f, read, inl over))
+second_over (plan.Model n a) limit files f over read = inr (inr (f, read, inl over))
 second_over (plan.Demo a b c) limit files f over read = absurd (omega (arith, over))
+second_over (plan.Trim n q o) limit files f over read = inr (inr (f, read, inl over))
+second_over (plan.Blast n o) limit files f over read = inr (inr (f, read, inl over))
+second_over (plan.Affine n) limit files f over read = inr (inr (f, read, inl over))
 
-over_limit : (p : Plan) (limit : ℕ) (files : Files) (e : Ending) → OverLimit e → Due p limit files e → IfNamed (formula_of p) (PassesLimit p limit files)
+-- a formula with too many variables in clauses was read, for which it is to be written
+too_many : (p : Plan) (limit : ℕ) (files : Files) (f : Problem) (k : ℕ) → Judged (ending.TooManyVariables k) p f (second_text p files) → IsFormula p limit files f
+    → IfNamed (formula_of p) (IsPastLimit p limit files)
+too_many (plan.Blast n o) limit files f k judged read = inr (inr (f, read, inr (k, judged)))
+too_many p limit files f k judged read = absurd judged
+
+over_limit : (p : Plan) (limit : ℕ) (files : Files) (e : Ending) → OverLimit e → Due p limit files e → IfNamed (formula_of p) (IsPastLimit p limit files)
 over_limit p limit files _ (far b) due = if_named (formula_of p) (λ n h. inl (b, h.0, h.1)) (refused_early p limit files (offence.VarLimit b) due)
 over_limit p limit files _ (long slot.Formula) (inl h) = if_named (formula_of p) (λ n over. inr (inl over)) h
 over_limit p limit files _ (long slot.Second) (inl h) = if_named (formula_of p) (λ n never. absurd never) h
@@ -65,9 +74,10 @@ over_limit p limit files _ (long slot.Formula) (inr d) = absurd (not_late d.due)
     not_late (inr h) = h.1
 over_limit p limit files _ (long slot.Second) (inr d) = by d.due
   where
-    by : LateDue p limit d.formula (second_text p files) (ending.TooLong slot.Second) → IfNamed (formula_of p) (PassesLimit p limit files)
+    by : LateDue p limit d.formula (second_text p files) (ending.TooLong slot.Second) → IfNamed (formula_of p) (IsPastLimit p limit files)
     by (inl h) = second_over p limit files d.formula h.0 d.is_formula
     by (inr h) = absurd h.1
+over_limit p limit files _ (many k) due = let j = judged_due p limit files (ending.TooManyVariables k) refl due in too_many p limit files j.0 k j.2 j.1
 
 -- ---- a run
 
@@ -87,15 +97,37 @@ module _ (words : List Bytes) (limit : ℕ) (old : Seen) (s : Status) (new : See
       (w.0, w.1, IfSome_then old.files w.2.1.due (λ files due. over_limit w.0 limit files d.0 d.2 due))
 
   -- status 7
-  of_check : (k : ℕ) (c : Cause) (p : Plan) → Asks words p → Works p limit old (outcome.Ended (ending.NotVerified k c)) h.done → IsProofRefused words limit old
-  of_check k c (plan.Check n q) asks w = (n, q, asks, IfSome_then old.files w.1.due (λ files due. let j = judged_due (plan.Check n q) limit files (ending.NotVerified k c) refl due in (j.0, j.1, (k, c, j.2))))
+  of_check : (k : ℕ) (c : Cause) (p : Plan) → Asks words p → Works p limit old (outcome.Ended (ending.NotVerified k c)) h.done → IsProofRefused words limit old new
+  of_check k c (plan.Check n q) asks w = (n, q, inl asks, IfSome_then old.files w.1.due (λ files due. let j = judged_due (plan.Check n q) limit files (ending.NotVerified k c) refl due in (j.0, j.1, (k, c, j.2))))
   of_check k c p asks w = absurd w.1.own
 
-  pub proof_is_refused : s ≡ status.ProofRefused → IsProofRefused words limit old
+  -- what `trim` left on the Proof port of a proof that is refused
+  nothing_put : (n q o : Bytes) (k : ℕ) (c : Cause) (w : Works (plan.Trim n q o) limit old (outcome.Ended (ending.NotTrimmed k c)) h.done) → w.1.proof ≡ [] → OnProof new (λ bytes. bytes ≡ [])
+  nothing_put n q o k c w bare =
+      let ends = w.1 in
+      let is : proof_in new ≡ option_map (λ (x : Written). ends.proof) old.written =
+      (kept words limit old s new h).proof
+      ∙ (ap proof_in w.2 ∙ (said_answer (answer_text (ending.NotTrimmed k c)) w.0 ∙ (ap proof_in ends.before_is ∙ gained_proof o ends.proof (asked_to second_started (plan.Trim n q o) old)))) in
+      if_proof (λ bytes. bytes ≡ []) new.written (subst (λ (v : Option Bytes). IfSome v (λ bytes. bytes ≡ [])) (sym is) (if_written (λ bytes. bytes ≡ []) old.written ends.proof bare))
+
+  of_trim : (k : ℕ) (c : Cause) (p : Plan) → Asks words p → Works p limit old (outcome.Ended (ending.NotTrimmed k c)) h.done → IsProofRefused words limit old new
+  of_trim k c (plan.Trim n q o) asks w = (
+    n,
+    q,
+    inr (o, asks, IfSome_then old.files w.1.gains (λ files bare. nothing_put n q o k c w bare)),
+    IfSome_then old.files w.1.due (λ files due. let j = judged_due (plan.Trim n q o) limit files (ending.NotTrimmed k c) refl due in (j.0, j.1, (k, c, j.2))),
+  )
+  of_trim k c p asks w = absurd w.1.own
+
+  refused_by : (e : Ending) → ProofRefused e → (p : Plan) → Asks words p → Works p limit old (outcome.Ended e) h.done → IsProofRefused words limit old new
+  refused_by _ (not_verified k c) p asks w = of_check k c p asks w
+  refused_by _ (not_trimmed k c) p asks w = of_trim k c p asks w
+
+  pub proof_is_refused : s ≡ status.ProofRefused → IsProofRefused words limit old new
   proof_is_refused e =
       let d = outcome_of status.ProofRefused h.outcome (sym e ∙ h.status_is) in
-      let w = ended_by words limit old s new h (ending.NotVerified d.0 d.1) d.2 in
-      of_check d.0 d.1 w.0 w.1 w.2
+      let w = ended_by words limit old s new h d.0 d.1 in
+      refused_by d.0 d.2 w.0 w.1 w.2
 
   -- status 11
   of_model : (x : WrongAnswer) (p : Plan) → Asks words p → Works p limit old (outcome.Ended (ending.ModelWrong x)) h.done → IsAnswerRefused words limit old
@@ -167,6 +199,9 @@ module _ (words : List Bytes) (limit : ℕ) (old : Seen) (s : Status) (new : See
   verified_of n q _ (elaborated k) w = absurd w.1.own
   verified_of n q _ (unknown k) w = absurd w.1.own
   verified_of n q _ (demonstrated i x) w = absurd w.1.own
+  verified_of n q _ (trimmed core) w = absurd w.1.own
+  verified_of n q _ (blasted variables clauses) w = absurd w.1.own
+  verified_of n q _ (affine space) w = absurd w.1.own
 
   pub proof_is_verified : s ≡ status.Done → IsVerified words limit old
   proof_is_verified e n q asks =
@@ -182,6 +217,9 @@ module _ (words : List Bytes) (limit : ℕ) (old : Seen) (s : Status) (new : See
   right_of n a _ (elaborated k) w = absurd w.1.own
   right_of n a _ (unknown k) w = absurd w.1.own
   right_of n a _ (demonstrated i x) w = absurd w.1.own
+  right_of n a _ (trimmed core) w = absurd w.1.own
+  right_of n a _ (blasted variables clauses) w = absurd w.1.own
+  right_of n a _ (affine space) w = absurd w.1.own
 
   pub model_is_right : s ≡ status.Done → IsModelRight words limit old
   model_is_right e n a asks =
@@ -198,6 +236,9 @@ module _ (words : List Bytes) (limit : ℕ) (old : Seen) (s : Status) (new : See
   elaborated_of n l q _ (verified k) w = absurd w.1.own
   elaborated_of n l q _ (unknown k) w = absurd w.1.own
   elaborated_of n l q _ (demonstrated i x) w = absurd w.1.own
+  elaborated_of n l q _ (trimmed core) w = absurd w.1.own
+  elaborated_of n l q _ (blasted variables clauses) w = absurd w.1.own
+  elaborated_of n l q _ (affine space) w = absurd w.1.own
 
   pub log_is_elaborated : s ≡ status.Done → IsElaborated words limit old new
   log_is_elaborated e n l q asks =

@@ -16,6 +16,8 @@ use Rattle.cx_desk.specs.Outside.{Bytes, Files, Written, Outside}
 use Rattle.cx_desk.specs.Calls.{gained, PutsAll, MessageFaulted}
 use Rattle.cx_words.specs.declared.plans.Plan.{Plan}
 use Rattle.cx_words.specs.declared.plans.Plan.TheVariants as plan
+use Rattle.cnfx_reader.specs.PrintedFormula.{printed_formula}
+use Rattle.xor_blast.specs.Blasted.{blasted}
 use Rattle.inst_gen.specs.Planting.{planted_formula}
 use Rattle.solve_cli.specs.declared.ending.Ending.{Ending}
 use Rattle.solve_cli.specs.declared.ending.Ending.TheVariants as ending
@@ -24,7 +26,7 @@ use Rattle.solve_cli.specs.declared.ending.Outcome.TheVariants as outcome
 use Rattle.solve_cli.specs.Endings.{answer_text}
 use Rattle.solve_cli.specs.Seen.{Seen, seen, asks, asks_proof, creates, says, append_to, ReadFault, WriteFault, MessageFault, text_named}
 use Rattle.solve_cli.specs.Commands.{formula_of, second_of, proof_of, Stage, formula_started, second_started, proof_created, starts, gives_file, asked_to, text_of, second_text}
-use Rattle.solve_cli.specs.Happens.{is_early, IfNamed, FormulaRead, IsFormula, FormulaIn, Judged, IsOf, Gains, SoFar, Reaches, Ends, Stops, Works, PutsMessage}
+use Rattle.solve_cli.specs.Happens.{is_early, end_stage, IfNamed, FormulaRead, IsFormula, FormulaIn, Judged, IsOf, Gains, SoFar, Reaches, Ends, Stops, MayWrite, Works, PutsMessage}
 use Rattle.solve_cli.specs.Proofs.{IsRightSoFar}
 use Rattle.solve_cli.proofs.Logging.{nothing_logged}
 use Rattle.solve_cli.specs.Steps.{FormulaFails, ReadFails, PutsAnswer, Loaded, HasNoProof, LeftBy}
@@ -125,6 +127,8 @@ early_gains (plan.Solve n l c) limit files (ending.Satisfiable v) h = cc
 early_gains (plan.Solve n l c) limit files (ending.Unsatisfiable failed) h = cc
 early_gains (plan.Solve n l c) limit files (ending.Unknown k) h = cc
 early_gains (plan.Demo a b c) limit files (ending.Demonstrated i x) h = cc
+early_gains (plan.Trim n q o) limit files (ending.Trimmed core) h = cc
+early_gains (plan.Blast n o) limit files (ending.Blasted variables clauses) h = cc
 early_gains p limit files e h = refl
 
 -- nothing is a front of a proof
@@ -141,6 +145,8 @@ nothing_yet : (stage : Stage) (p : Plan) (limit : ℕ) (old : Seen) → Reaches 
 nothing_yet proof_created (plan.Elab n l q) limit old h = IfSome_then old.files h (λ files r. (r.0, r.1, none_so_far r.0))
 nothing_yet proof_created (plan.Solve n l c) limit old h = IfSome_then old.files h (λ files r. (r.0, r.1, nothing_logged r.0))
 nothing_yet proof_created (plan.Demo kind size seed) limit old h = all_files old.files (λ files. nothing_logged (planted_formula kind size seed))
+nothing_yet proof_created (plan.Trim n q o) limit old h = IfSome_then old.files h (λ files r. (r.0, r.1, none_so_far r.0))
+nothing_yet proof_created (plan.Blast n o) limit old h = IfSome_then old.files h (λ files r. (r.0, r.1, (printed_formula (blasted r.0), refl)))
 nothing_yet stage p limit old h = all_files old.files (λ files. refl)
 
 pub stopped : (stage : Stage) (p : Plan) (limit : ℕ) (old at : Seen) → Reaches stage p limit old → at ≡ asked_to stage p old → Stops p limit old at
@@ -156,6 +162,12 @@ stopped stage p limit old at reaches is = record {
 
 named_is_some : {A : Type 0} {o : Option A} {x : A} → o ≡ Some x → IsSome o
 named_is_some e = rw e refl
+
+-- an ending of a formula that is not read comes when its slot was started
+early_stage : (e : Ending) → is_early e ≡ true → end_stage e ≡ formula_started
+early_stage (ending.FormulaRefused o) h = refl
+early_stage (ending.TooLong slot.Formula) h = refl
+early_stage e h = cc
 
 early_own : (p : Plan) (name : Bytes) (e : Ending) → formula_of p ≡ Some name → is_early e ≡ true → IsOf p e
 early_own p name (ending.FormulaRefused o) named h = named_is_some named
@@ -173,6 +185,11 @@ judged_own (ending.Satisfiable v) (plan.Solve n l c) f text h = tt
 judged_own (ending.Unsatisfiable failed) (plan.Solve n l c) f text h = tt
 judged_own (ending.Unknown k) (plan.Solve n l c) f text h = tt
 judged_own (ending.Demonstrated i x) (plan.Demo kind size seed) f text h = (h.0, h.1)
+judged_own (ending.Trimmed core) (plan.Trim n q o) f text h = tt
+judged_own (ending.NotTrimmed k c) (plan.Trim n q o) f text h = tt
+judged_own (ending.Blasted variables clauses) (plan.Blast n o) f text h = tt
+judged_own (ending.TooManyVariables k) (plan.Blast n o) f text h = tt
+judged_own (ending.Affine space) (plan.Affine n) f text h = tt
 judged_own e p f text h = absurd h
 
 -- ---- the formula
@@ -184,11 +201,11 @@ formula_failed p name limit old (outcome.Ended e) new named h = (
   asks slot.Formula name old,
   record {
     own = early_own p name e named h.0;
-    reaches = rw h.0 tt;
+    reaches = rw (early_stage e h.0) tt;
     due = IfSome_then old.files h.2 (λ files early. inl (rw named early));
     proof = [];
     gains = all_files old.files (λ files. early_gains p limit files e h.0);
-    before_is = rw h.0 (formula_call p name old named ∙ bare (asked_to formula_started p old));
+    before_is = rw (early_stage e h.0) (formula_call p name old named ∙ bare (asked_to formula_started p old));
   },
   h.1 ∙ sym (says-none port.Answer (answer_text e) (asks slot.Formula name old) (early_text e h.0)),
 )
@@ -224,16 +241,28 @@ start_failed p name limit old mid f o new named first read h =
       h.1,
     )
 
+-- a command with a second text writes on its Proof port without a condition
+pub second_may_write : (p : Plan) (name : Bytes) (limit : ℕ) (old : Seen) → second_of p ≡ Some name → MayWrite p limit old
+second_may_write (plan.Solve n l c) name limit old e = tt
+second_may_write (plan.Check n q) name limit old e = tt
+second_may_write (plan.Elab n l q) name limit old e = tt
+second_may_write (plan.Model n a) name limit old e = tt
+second_may_write (plan.Demo a b c) name limit old e = tt
+second_may_write (plan.Trim n q o) name limit old e = tt
+second_may_write (plan.Blast n o) name limit old e = cc
+second_may_write (plan.Affine n) name limit old e = tt
+
 -- the Proof port was not given its file
-pub create_failed : (p : Plan) (proof : Option Bytes) (limit : ℕ) (old mid : Seen) (f : Problem) (o : Outcome) (new : Seen) → proof_of p ≡ proof
+pub create_failed : (p : Plan) (proof : Option Bytes) (limit : ℕ) (old mid : Seen) (f : Problem) (o : Outcome) (new : Seen) → proof_of p ≡ proof → MayWrite p limit old
     → mid ≡ asked_to second_started p old → IfSome old.files (λ files. IsFormula p limit files f)
     → (o ≡ outcome.WriteFault) × IfNamed proof (λ name. WriteFault (asks_proof name mid) new) → Works p limit old o new
-create_failed p None limit old mid f o new named second read h = absurd h.1
-create_failed p (Some name) limit old mid f o new named second read h =
+create_failed p None limit old mid f o new named may second read h = absurd h.1
+create_failed p (Some name) limit old mid f o new named may second read h =
     subst (λ (x : Outcome). Works p limit old x new) (sym h.0) (inr (inl (record {
       name = name;
       named = named;
       reaches = formula_in p limit old f read;
+      may_write = may;
       fault = subst (λ (m : Seen). WriteFault (asks_proof name m) new) second h.1;
     })))
 
@@ -293,10 +322,13 @@ answered p limit old e before outcome.WriteFault new ends h = inl (record {
 })
 answered p limit old e before o new ends h = absurd h
 
-pub judged_late : (e : Ending) (p : Plan) (f : Problem) (text : Bytes) → Judged e p f text → is_early e ≡ false
-judged_late (ending.FormulaRefused o) p f text h = absurd h
-judged_late (ending.TooLong s) p f text h = absurd h
-judged_late e p f text h = refl
+-- an ending that judges a second text comes after all calls
+pub judged_late : (e : Ending) (p : Plan) (name : Bytes) (f : Problem) (text : Bytes) → second_of p ≡ Some name → Judged e p f text → end_stage e ≡ proof_created
+judged_late (ending.FormulaRefused o) p name f text named h = absurd h
+judged_late (ending.TooLong s) p name f text named h = absurd h
+judged_late (ending.TooManyVariables k) (plan.Blast n o) name f text named h = cc
+judged_late (ending.TooManyVariables k) p name f text named h = absurd h
+judged_late e p name f text named h = refl
 
 pub none_on_created : (name : Bytes) (s : Seen) → HasNoProof (creates name s)
 none_on_created name s = elim s.written as (λ w. HasNoProof (creates name (record s { written = w }))) [ None ↦ tt | Some w ↦ refl ]
@@ -310,7 +342,7 @@ left_gains n l q limit files f e proof read left = absurd left
 
 -- a second text that was judged: its ending, and what stands before the answer
 pub judged_ends : (p : Plan) (limit : ℕ) (old : Seen) (f : Problem) (mid : Seen) (e : Ending) (proof : Bytes) → mid ≡ asked_to proof_created p old
-    → IfSome old.files (λ files. IsFormula p limit files f) → IsOf p e → is_early e ≡ false
+    → IfSome old.files (λ files. IsFormula p limit files f) → IsOf p e → end_stage e ≡ proof_created
     → IfSome old.files (λ files. (length (second_text p files) ≤ limit) × Judged e p f (second_text p files))
     → IfSome old.files (λ files. Gains p limit files e proof) → Ends p limit old e (says port.Proof proof mid)
 judged_ends p limit old f mid e proof is read own late judged gains = record {
@@ -331,15 +363,17 @@ module _ {p : Plan} {limit : ℕ} {old : Seen} {f : Problem} {text : Bytes} {mid
   files_same = ap (λ (s : Seen). s.files) h.asked ∙ files_at proof_created p old
 
   -- what they come to
-  ends : (e : Ending) (proof : Bytes) → Judged e p f text → IfSome old.files (λ files. Gains p limit files e proof) → Ends p limit old e (says port.Proof proof mid)
-  ends e proof judged gains =
-      judged_ends p limit old f mid e proof h.asked h.is_formula (judged_own e p f text judged) (judged_late e p f text judged)
+  ends : {name : Bytes} (e : Ending) (proof : Bytes) → second_of p ≡ Some name → Judged e p f text → IfSome old.files (λ files. Gains p limit files e proof)
+      → Ends p limit old e (says port.Proof proof mid)
+  ends {name = name} e proof named judged gains =
+      judged_ends p limit old f mid e proof h.asked h.is_formula (judged_own e p f text judged) (judged_late e p name f text named judged)
       (IfSome_then old.files h.is_second (λ files t. subst (λ (x : Bytes). (length x ≤ limit) × Judged e p f x) t (h.fits, judged))) gains
 
   -- the same with nothing on the Proof port, and the answer
-  pub concluded : (e : Ending) (o : Outcome) (new : Seen) → Judged e p f text → ((files : Files) → Gains p limit files e []) → PutsAnswer e mid o new → Works p limit old o new
-  concluded e o new judged gains answers =
-      answered p limit old e mid o new (subst (Ends p limit old e) (sym (bare mid)) (ends e [] judged (all_files old.files gains))) answers
+  pub concluded : {name : Bytes} (e : Ending) (o : Outcome) (new : Seen) → second_of p ≡ Some name → Judged e p f text → ((files : Files) → Gains p limit files e []) → PutsAnswer e mid o new
+      → Works p limit old o new
+  concluded e o new named judged gains answers =
+      answered p limit old e mid o new (subst (Ends p limit old e) (sym (bare mid)) (ends e [] named judged (all_files old.files gains))) answers
 
   -- want of memory for the judgement
   pub wanted : Stops p limit old mid
@@ -411,7 +445,7 @@ module _ (n l q : Bytes) (limit : ℕ) (old : Seen) (f : Problem) (mid : Seen) (
   unfolding stops
   elab_failed outcome.Memory new m = subst (Stops (plan.Elab n l q) limit old) (sym m.1) (stops m.0 m.2)
   elab_failed outcome.ReadFault new m = (says port.Proof m.0 mid, stops m.0 m.2, m.1)
-  elab_failed outcome.WriteFault new m = inr (inr (record { writes = refl; at = says port.Proof m.0 mid; stops = stops m.0 m.2; created = refl; fault = m.1 }))
+  elab_failed outcome.WriteFault new m = inr (inr (record { writes = refl; may_write = tt; at = says port.Proof m.0 mid; stops = stops m.0 m.2; created = refl; fault = m.1 }))
   elab_failed (outcome.Ended (ending.TooLong slot.Second)) new m = (
     says port.Proof m.0 mid,
     log_too_long m.0 m.2,

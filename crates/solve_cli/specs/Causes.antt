@@ -1,5 +1,5 @@
 -- What each status says of the words and the files: the causes of the answers.
-use Rattle.std.specs.Prelude.{◌≡◌, ◌<◌, ◌≤◌, ℕ, Bool, List, length, Option, IfSome, ◌⊎◌}
+use Rattle.std.specs.Prelude.{◌≡◌, ◌<◌, ◌≤◌, ℕ, Bool, List, [], length, Option, IfSome, ◌⊎◌}
 use Rattle.cx_base.specs.Problem.{Problem, Meets, Unmet}
 use Rattle.cx_texts.specs.declared.offence.Offence.{Offence}
 use Rattle.cx_texts.specs.declared.offence.Offence.TheVariants as offence
@@ -12,6 +12,7 @@ use Rattle.cx_desk.specs.Outside.{Bytes, Files}
 use Rattle.cx_words.specs.Words.{Asks}
 use Rattle.cx_words.specs.declared.plans.Plan.{Plan}
 use Rattle.cx_words.specs.declared.plans.Plan.TheVariants as plan
+use Rattle.xor_blast.specs.Blasted.{PassesLimit}
 use Rattle.solve_cli.specs.declared.ending.WrongAnswer.{WrongAnswer}
 use Rattle.solve_cli.specs.declared.ending.Status.TheVariants as status
 use Rattle.solve_cli.specs.Endings.{status_of_offence}
@@ -33,19 +34,30 @@ abbrev pub IsFormulaRefused : List Bytes → ℕ → Seen → Type 0
 IsFormulaRefused words limit old = (p : Plan) × Asks words p × IfSome old.files (λ files. IfNamed (formula_of p) (λ name.
     (o : Offence) × (status_of_offence o ≡ status.FormulaRefused) × (length (text_named name files) ≤ limit) × FirstOffence (text_named name files) o))
 
--- the first offence of the formula's text is a variable above the limit; or that text or the second one is too long
-abbrev pub PassesLimit : Plan → ℕ → Files → Bytes → Type 0
-PassesLimit p limit files name =
+-- the formula in clauses would have too many variables, for which it is written
+abbrev pub HasTooManyVariables : Plan → Problem → Type 0
+HasTooManyVariables (plan.Blast name out) f = (number : ℕ) × PassesLimit f number
+HasTooManyVariables p f = ⊥
+
+-- The first offence of the formula's text is a variable above the limit; or that text or the second one is too long; or the formula in
+-- clauses would have too many variables.
+abbrev pub IsPastLimit : Plan → ℕ → Files → Bytes → Type 0
+IsPastLimit p limit files name =
     ((place : ℕ) × (length (text_named name files) ≤ limit) × FirstOffence (text_named name files) (offence.VarLimit place))
-    ⊎ ((limit < length (text_named name files)) ⊎ OfFormula limit name files (λ f. limit < length (second_text p files)))
+    ⊎ ((limit < length (text_named name files)) ⊎ OfFormula limit name files (λ f. (limit < length (second_text p files)) ⊎ HasTooManyVariables p f))
 
 -- 9
 abbrev pub IsOverLimit : List Bytes → ℕ → Seen → Type 0
-IsOverLimit words limit old = (p : Plan) × Asks words p × IfSome old.files (λ files. IfNamed (formula_of p) (λ name. PassesLimit p limit files name))
+IsOverLimit words limit old = (p : Plan) × Asks words p × IfSome old.files (λ files. IfNamed (formula_of p) (λ name. IsPastLimit p limit files name))
 
--- 7: `check`, and the proof is refused at a step for its first cause
-abbrev pub IsProofRefused : List Bytes → ℕ → Seen → Type 0
-IsProofRefused words limit old = (name : Bytes) × (proof : Bytes) × Asks words (plan.Check name proof)
+-- the words ask for `check`; or for `trim`, and nothing is on the Proof port
+abbrev pub JudgesWithoutOutput : List Bytes → Bytes → Bytes → Seen → Seen → Type 0
+JudgesWithoutOutput words name proof old new =
+    Asks words (plan.Check name proof) ⊎ ((out : Bytes) × Asks words (plan.Trim name proof out) × IfSome old.files (λ _. OnProof new (λ bytes. bytes ≡ [])))
+
+-- 7: `check` or `trim`, and the proof is refused at a step for its first cause
+abbrev pub IsProofRefused : List Bytes → ℕ → Seen → Seen → Type 0
+IsProofRefused words limit old new = (name : Bytes) × (proof : Bytes) × JudgesWithoutOutput words name proof old new
     × IfSome old.files (λ files. OfFormula limit name files (λ f. (k : ℕ) × (c : Cause) × RefusedAt f (text_named proof files) k c))
 
 -- 8: `elab`, and the log is refused at a step for its first cause; the Proof port holds the proof of the steps before

@@ -16,6 +16,9 @@ formula_of (plan.Check formula proof) = Some formula
 formula_of (plan.Elab formula log proof) = Some formula
 formula_of (plan.Model formula answer) = Some formula
 formula_of (plan.Demo kind size seed) = None
+formula_of (plan.Trim formula proof out) = Some formula
+formula_of (plan.Blast formula out) = Some formula
+formula_of (plan.Affine formula) = Some formula
 
 -- the file of the text that is judged
 abbrev pub second_of : Plan → Option Bytes
@@ -24,6 +27,9 @@ second_of (plan.Check formula proof) = Some proof
 second_of (plan.Elab formula log proof) = Some log
 second_of (plan.Model formula answer) = Some answer
 second_of (plan.Demo kind size seed) = None
+second_of (plan.Trim formula proof out) = Some proof
+second_of (plan.Blast formula out) = None
+second_of (plan.Affine formula) = None
 
 -- the file that the Proof port is given
 abbrev pub proof_of : Plan → Option Bytes
@@ -32,6 +38,9 @@ proof_of (plan.Check formula proof) = None
 proof_of (plan.Elab formula log proof) = Some proof
 proof_of (plan.Model formula answer) = None
 proof_of (plan.Demo kind size seed) = None
+proof_of (plan.Trim formula proof out) = Some out
+proof_of (plan.Blast formula out) = Some out
+proof_of (plan.Affine formula) = None
 
 -- the commands that write on the Proof port, with a file or without
 abbrev pub writes_proof : Plan → Bool
@@ -40,6 +49,9 @@ writes_proof (plan.Check formula proof) = false
 writes_proof (plan.Elab formula log proof) = true
 writes_proof (plan.Model formula answer) = false
 writes_proof (plan.Demo kind size seed) = true
+writes_proof (plan.Trim formula proof out) = true
+writes_proof (plan.Blast formula out) = true
+writes_proof (plan.Affine formula) = false
 
 -- ---- the calls
 

@@ -1,5 +1,5 @@
 -- The status and the lines of each ending.
-use Rattle.std.specs.Prelude.{ℕ, List, [], ◌∷◌, ◌++◌, codes, decimal}
+use Rattle.std.specs.Prelude.{ℕ, List, [], ◌∷◌, ◌++◌, codes, decimal, Option, Some, None}
 use Rattle.cx_desk.specs.declared.desk.Slot.{Slot}
 use Rattle.cx_desk.specs.declared.desk.Slot.TheVariants as slot
 use Rattle.cx_texts.specs.declared.offence.Offence.{Offence}
@@ -8,7 +8,10 @@ use Rattle.cx_semantics.specs.declared.cause.Cause.{Cause}
 use Rattle.cx_semantics.specs.declared.cause.Cause.TheVariants as cause
 use Rattle.cx_texts.specs.AnswerText as printed
 use Rattle.cx_words.specs.PlainWords.{kind_word}
+use Rattle.gf2_space.specs.AffineText.{affine_text}
+use Rattle.gf2_space.specs.Spaces.{AffineSpace}
 use Rattle.solve_cli.specs.Failed.{unsatisfiable_text}
+use Rattle.solve_cli.specs.Trimming.{core_text}
 use Rattle.solve_cli.specs.declared.ending.Ending.{Ending}
 use Rattle.solve_cli.specs.declared.ending.Ending.TheVariants as ending
 use Rattle.solve_cli.specs.declared.ending.Instance.{Instance}
@@ -56,6 +59,11 @@ status_of_ending (ending.Satisfiable v) = status.Satisfiable
 status_of_ending (ending.Unsatisfiable failed) = status.Unsatisfiable
 status_of_ending (ending.Unknown k) = status.Done
 status_of_ending (ending.Demonstrated i x) = status.Done
+status_of_ending (ending.Trimmed core) = status.Done
+status_of_ending (ending.NotTrimmed k c) = status.ProofRefused
+status_of_ending (ending.Blasted variables clauses) = status.Done
+status_of_ending (ending.TooManyVariables k) = status.Limit
+status_of_ending (ending.Affine space) = status.Done
 
 abbrev pub status_of : Outcome → Status
 status_of (outcome.Ended e) = status_of_ending e
@@ -124,7 +132,16 @@ abbrev pub demo_text : Instance → Shown → List ℕ
 demo_text i x = joined (codes "c demo " ∷ kind_word i.kind ∷ codes " " ∷ decimal i.size ∷ codes " " ∷ decimal i.seed
     ∷ codes "\nc variables " ∷ decimal i.variables ∷ codes "\nc clauses " ∷ decimal i.clauses ∷ codes "\nc parities " ∷ decimal i.parities ∷ codes "\n" ∷ shown_text x ∷ [])
 
--- what an ending puts on the Answer port; none where the formula or a text's length was refused
+-- the lines of a formula in clauses
+abbrev pub blasted_text : ℕ → ℕ → List ℕ
+blasted_text variables clauses = joined (codes "c variables " ∷ decimal variables ∷ codes "\nc clauses " ∷ decimal clauses ∷ codes "\ns BLASTED\n" ∷ [])
+
+-- the lines of the parities' solutions
+abbrev pub space_text : Option AffineSpace → List ℕ
+space_text None = codes "s AFFINE NONE\n"
+space_text (Some space) = affine_text space
+
+-- what an ending puts on the Answer port; nothing where a limit is passed or the formula was refused
 unfoldable pub answer_text : Ending → List ℕ
 answer_text (ending.FormulaRefused o) = []
 answer_text (ending.TooLong s) = []
@@ -138,6 +155,11 @@ answer_text (ending.Satisfiable v) = printed.answer_text v
 answer_text (ending.Unsatisfiable failed) = unsatisfiable_text failed
 answer_text (ending.Unknown k) = joined (codes "c conflicts " ∷ decimal k ∷ codes "\ns UNKNOWN\n" ∷ [])
 answer_text (ending.Demonstrated i x) = demo_text i x
+answer_text (ending.Trimmed core) = core_text core
+answer_text (ending.NotTrimmed k c) = joined (codes "c step " ∷ decimal k ∷ codes " " ∷ cause_text c ∷ codes "\ns NOT TRIMMED\n" ∷ [])
+answer_text (ending.Blasted variables clauses) = blasted_text variables clauses
+answer_text (ending.TooManyVariables k) = []
+answer_text (ending.Affine space) = space_text space
 
 abbrev pub slot_text : Slot → List ℕ
 slot_text slot.Formula = codes "formula"
@@ -165,7 +187,12 @@ message_text (outcome.Ended (ending.Satisfiable v)) = []
 message_text (outcome.Ended (ending.Unsatisfiable failed)) = []
 message_text (outcome.Ended (ending.Unknown k)) = []
 message_text (outcome.Ended (ending.Demonstrated i x)) = []
-message_text outcome.Usage = codes "error: usage\nusage: cxsat solve FORMULA [--proof LOG] [--conflicts N]\nusage: cxsat check FORMULA PROOF\nusage: cxsat elab FORMULA LOG PROOF\nusage: cxsat model FORMULA ANSWER\nusage: cxsat demo KIND SIZE SEED\n"
+message_text (outcome.Ended (ending.Trimmed core)) = []
+message_text (outcome.Ended (ending.NotTrimmed k c)) = []
+message_text (outcome.Ended (ending.Blasted variables clauses)) = []
+message_text (outcome.Ended (ending.TooManyVariables k)) = joined (codes "error: limit L3 at constraint " ∷ decimal k ∷ codes "\n" ∷ [])
+message_text (outcome.Ended (ending.Affine space)) = []
+message_text outcome.Usage = codes "error: usage\nusage: cxsat solve FORMULA [--proof LOG] [--conflicts N]\nusage: cxsat check FORMULA PROOF\nusage: cxsat elab FORMULA LOG PROOF\nusage: cxsat model FORMULA ANSWER\nusage: cxsat demo KIND SIZE SEED\nusage: cxsat trim FORMULA PROOF OUT\nusage: cxsat blast FORMULA OUT\nusage: cxsat affine FORMULA\n"
 message_text outcome.ReadFault = codes "error: read fault\n"
 message_text outcome.WriteFault = codes "error: write fault\n"
 message_text outcome.Memory = codes "error: out of memory\n"

@@ -1,6 +1,10 @@
 -- What a command may do: which ending is due for its files, and which outcome may come in its place.
-use Rattle.std.specs.Prelude.{◌≡◌, ◌<◌, ◌≤◌, ℕ, Bool, true, false, List, [], length, take, if◌then◌else◌, Option, Some, None, IfSome, IsSome, IsTrue, ⊤, ◌⊎◌}
-use Rattle.cx_base.specs.Problem.{Problem, Meets, Unmet}
+use Rattle.std.specs.Prelude.{◌≡◌, ◌<◌, ◌≤◌, ℕ, Bool, true, false, List, [], ◌++◌, length, take, if◌then◌else◌, Option, Some, None, IfSome, IsSome, IsTrue, ⊤, ◌⊎◌}
+use Rattle.cx_base.specs.Problem.{Problem, Meets, Unmet, clauses_of, parities_of}
+use Rattle.cx_base.specs.declared.steps.ProofStep.{ProofStep}
+use Rattle.cnfx_reader.specs.PrintedFormula.{printed_formula}
+use Rattle.xor_blast.specs.Blasted.{blasted, PassesLimit}
+use Rattle.gf2_space.specs.Spaces.{Describes}
 use Rattle.cx_texts.specs.FormulaText.{Reads, FirstOffence}
 use Rattle.cx_judgements.specs.ProofTexts.{Accepted, RefusedAt}
 use Rattle.cx_judgements.specs.LogTexts.{LogRight, LogRefusedAt}
@@ -27,6 +31,8 @@ use Rattle.solve_cli.specs.Seen.{Seen, asks_proof, says, ReadFault, WriteFault, 
 use Rattle.solve_cli.specs.Proofs.{IsWholeProof, IsProofBefore, IsRightSoFar}
 use Rattle.solve_cli.specs.Logs.{IsOpenLog, IsClosedLog, IsSpentLog, IsLogSoFar}
 use Rattle.solve_cli.specs.Failed.{FailsAs, NegatesLastStep}
+use Rattle.solve_cli.specs.Trimming.{TrimsTo, IsTrimmedProof}
+use Rattle.solve_cli.specs.Blasting.{IsBlastedText}
 use Rattle.solve_cli.specs.Demo.{instance_of, MayShow, Shows, StandsBehind}
 use Rattle.solve_cli.specs.Commands.{formula_of, second_of, proof_of, writes_proof, Stage, formula_started, second_started, proof_created, asked_to, second_text}
 
@@ -70,6 +76,12 @@ refusal_of (wrong.Missing v) = refusal.Missing v
 refusal_of (wrong.Twice v) = refusal.Twice v
 refusal_of (wrong.Unmet n) = refusal.Unmet n
 
+-- The formula's clauses and those that stand for its parities: so many variables and clauses. No constraint passes the limit of variables.
+pub record AreOfBlasted (f : Problem) (variables clauses : ℕ) : Type 0 where
+  pub variables_are : variables ≡ (blasted f).variables
+  pub clauses_are : clauses ≡ length (clauses_of (blasted f).constraints)
+  pub within : (number : ℕ) → ¬ PassesLimit f number
+
 -- what a command makes of a formula and its second text
 abbrev pub Judged : Ending → Plan → Problem → Bytes → Type 0
 Judged (ending.Verified k) (plan.Check n q) f text = Accepted f text k
@@ -82,6 +94,11 @@ Judged (ending.Satisfiable v) (plan.Solve n l c) f text = Meets f v
 Judged (ending.Unsatisfiable failed) (plan.Solve n l c) f text = Unmet f × FailsAs f failed
 Judged (ending.Unknown k) (plan.Solve n l c) f text = (k ≡ c) × ¬ SettledWithRecovered f
 Judged (ending.Demonstrated i x) (plan.Demo kind size seed) f text = (i ≡ instance_of kind size seed) × MayShow kind x × Shows f x
+Judged (ending.Trimmed core) (plan.Trim n q o) f text = (steps : List ProofStep) × TrimsTo f text steps core
+Judged (ending.NotTrimmed k c) (plan.Trim n q o) f text = RefusedAt f text k c
+Judged (ending.Blasted variables clauses) (plan.Blast n o) f text = AreOfBlasted f variables clauses
+Judged (ending.TooManyVariables k) (plan.Blast n o) f text = PassesLimit f k
+Judged (ending.Affine space) (plan.Affine n) f text = Describes f.variables (parities_of f.constraints) space
 Judged e p f text = ⊥
 
 -- the endings where the formula is read: its second text's length is judged before what it says
@@ -117,13 +134,21 @@ Gains (plan.Solve n l c) limit files (ending.Satisfiable v) log = (f : Problem) 
 Gains (plan.Solve n l c) limit files (ending.Unsatisfiable failed) log = (f : Problem) × FormulaRead limit (text_named n files) f × IsClosedLog f c log × NegatesLastStep f log failed
 Gains (plan.Solve n l c) limit files (ending.Unknown k) log = (f : Problem) × FormulaRead limit (text_named n files) f × IsSpentLog f c log
 Gains (plan.Demo kind size seed) limit files (ending.Demonstrated i x) log = StandsBehind (planted_formula kind size seed) log x
+Gains (plan.Trim n q o) limit files (ending.Trimmed core) proof = (f : Problem) × FormulaRead limit (text_named n files) f × IsTrimmedProof f (text_named q files) core proof
+Gains (plan.Blast n o) limit files (ending.Blasted variables clauses) text = (f : Problem) × FormulaRead limit (text_named n files) f × IsBlastedText f text
 Gains p limit files e proof = proof ≡ []
+
+-- the bytes are a prefix of a text
+abbrev pub IsPrefixOf : Bytes → Bytes → Type 0
+IsPrefixOf text bytes = (rest : Bytes) × (bytes ++ rest ≡ text)
 
 -- what it may have gained where a command is cut off
 abbrev pub SoFar : Stage → Plan → ℕ → Files → Bytes → Type 0
 SoFar proof_created (plan.Elab n l q) limit files proof = (f : Problem) × FormulaRead limit (text_named n files) f × IsRightSoFar f proof
 SoFar proof_created (plan.Solve n l c) limit files log = (f : Problem) × FormulaRead limit (text_named n files) f × IsLogSoFar f log
 SoFar proof_created (plan.Demo kind size seed) limit files log = IsLogSoFar (planted_formula kind size seed) log
+SoFar proof_created (plan.Trim n q o) limit files proof = (f : Problem) × FormulaRead limit (text_named n files) f × IsRightSoFar f proof
+SoFar proof_created (plan.Blast n o) limit files text = (f : Problem) × FormulaRead limit (text_named n files) f × IsPrefixOf (printed_formula (blasted f)) text
 SoFar stage p limit files proof = proof ≡ []
 
 -- ---- which outcome may come
@@ -143,9 +168,12 @@ is_early (ending.FormulaRefused o) = true
 is_early (ending.TooLong slot.Formula) = true
 is_early e = false
 
--- every other ending comes after all calls
+-- A formula that would have too many variables in clauses gives the Proof port no file. Every other ending comes after all calls.
 abbrev pub end_stage : Ending → Stage
-end_stage e = if is_early e then formula_started else proof_created
+end_stage (ending.FormulaRefused o) = formula_started
+end_stage (ending.TooLong slot.Formula) = formula_started
+end_stage (ending.TooManyVariables k) = second_started
+end_stage e = proof_created
 
 -- the endings of each command, whatever the desk tells
 abbrev pub IsOf : Plan → Ending → Type 0
@@ -162,6 +190,11 @@ IsOf (plan.Solve n l c) (ending.Satisfiable v) = ⊤
 IsOf (plan.Solve n l c) (ending.Unsatisfiable failed) = ⊤
 IsOf (plan.Solve n l c) (ending.Unknown k) = ⊤
 IsOf (plan.Demo kind size seed) (ending.Demonstrated i x) = (i ≡ instance_of kind size seed) × MayShow kind x
+IsOf (plan.Trim n q o) (ending.Trimmed core) = ⊤
+IsOf (plan.Trim n q o) (ending.NotTrimmed k c) = ⊤
+IsOf (plan.Blast n o) (ending.Blasted variables clauses) = ⊤
+IsOf (plan.Blast n o) (ending.TooManyVariables k) = ⊤
+IsOf (plan.Affine n) (ending.Affine space) = ⊤
 IsOf p e = ⊥
 
 -- an ending with all that was asked for and written before its answer
@@ -190,16 +223,23 @@ pub record AnswerFails (p : Plan) (limit : ℕ) (old new : Seen) : Type 0 where
   pub front : count < length (answer_text ending)
   pub fault : WriteFault (says port.Answer (take count (answer_text ending)) before) new
 
+-- `blast` gives the Proof port its file only where the formula in clauses has not too many variables
+abbrev pub MayWrite : Plan → ℕ → Seen → Type 0
+MayWrite (plan.Blast n o) limit s = IfSome s.files (λ files. (f : Problem) × FormulaRead limit (text_named n files) f × ((number : ℕ) → ¬ PassesLimit f number))
+MayWrite p limit s = ⊤
+
 -- the Proof port was not given its file
 pub record CreateFails (p : Plan) (limit : ℕ) (old new : Seen) : Type 0 where
   pub name : Bytes
   pub named : proof_of p ≡ Some name
   pub reaches : Reaches second_started p limit old
+  pub may_write : MayWrite p limit old
   pub fault : WriteFault (asks_proof name (asked_to second_started p old)) new
 
 -- a write on the Proof port that failed, once the port was given its file
 pub record ProofFails (p : Plan) (limit : ℕ) (old new : Seen) : Type 0 where
   pub writes : IsTrue (writes_proof p)
+  pub may_write : MayWrite p limit old
   pub at : Seen
   pub stops : Stops p limit old at
   pub created : stops.stage ≡ proof_created

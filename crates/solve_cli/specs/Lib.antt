@@ -5,6 +5,8 @@ pub mod Commands
 pub mod Proofs
 pub mod Logs
 pub mod Failed
+pub mod Trimming
+pub mod Blasting
 pub mod Happens
 pub mod Steps
 pub mod TwoEnds
@@ -12,5 +14,6 @@ pub mod SlotTexts
 pub mod Solving
 pub mod Solved
 pub mod Causes
+pub mod Derived
 pub mod Run
 pub mod WholeWay

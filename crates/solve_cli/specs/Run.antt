@@ -17,20 +17,25 @@ use Rattle.solve_cli.specs.Seen.{Seen}
 use Rattle.solve_cli.specs.Happens.{Due, Early, Runs, Comes}
 use Rattle.solve_cli.specs.Causes.{IsFormulaRefused, IsOverLimit, IsProofRefused, IsLogRefused, IsAnswerRefused, IsOfSolve, IsVerified, IsElaborated, IsModelRight}
 use Rattle.solve_cli.specs.Demo.{IsDemonstrated}
+use Rattle.solve_cli.specs.Derived.{IsTrimmed, IsBlasted, IsAffine}
 use Rattle.solve_cli.specs.Solved.{IsSatisfied, IsRefuted, IsSpent, IsSettled, IsSettledWithRecovered, IsUnsolvable}
 
--- `check` and `model` write on no port but the Answer port
+-- `check` and `model` judge a second text, and write on no port but the Answer port
 abbrev pub is_reader : Plan → Bool
 is_reader (plan.Check name proof) = true
 is_reader (plan.Model name answer) = true
 is_reader (plan.Solve name log budget) = false
 is_reader (plan.Elab name log proof) = false
 is_reader (plan.Demo kind size seed) = false
+is_reader (plan.Trim name proof out) = false
+is_reader (plan.Blast name out) = false
+is_reader (plan.Affine name) = false
 
--- The endings that are told by a message alone, so that they come though every write fails: the formula's, and a second text of
--- `check` and `model` that is too long.
+-- The endings that are told by a message alone, so that they come though every write fails: the formula's, a second text of
+-- `check` and `model` that is too long, and too many variables of a formula in clauses.
 abbrev pub IsToldByMessage : Plan → ℕ → Files → Ending → Type 0
-IsToldByMessage p limit files e = Early p limit files e ⊎ (IsTrue (is_reader p) × (e ≡ ending.TooLong slot.Second) × Due p limit files e)
+IsToldByMessage p limit files e = Early p limit files e
+    ⊎ ((IsTrue (is_reader p) × (e ≡ ending.TooLong slot.Second) × Due p limit files e) ⊎ ((k : ℕ) × (e ≡ ending.TooManyVariables k) × Due p limit files e))
 
 pub record Run (words : List Bytes) (limit : ℕ) (old : Seen) (s : Status) (new : Seen) : Type 0 where
   -- everything that happened: the names that were asked for, what each port gained, the faults, the message
@@ -50,6 +55,12 @@ pub record Run (words : List Bytes) (limit : ℕ) (old : Seen) (s : Status) (new
   pub model_is_right : s ≡ status.Done → IsModelRight words limit old
   -- 0 of `demo`: what was printed of the planted instance is so, and stands behind the log of its search
   pub instance_is_shown : s ≡ status.Done → IsDemonstrated words old new
+  -- 0 of `trim`: the proof is accepted, what its last step needs was written, which is accepted too, and no values meet the core that was told
+  pub proof_is_trimmed : s ≡ status.Done → IsTrimmed words limit old new
+  -- 0 of `blast`: the formula in clauses was written, and each list of values that meets the given one begins exactly one that meets it
+  pub formula_is_blasted : s ≡ status.Done → IsBlasted words limit old new
+  -- 0 of `affine`: the solutions of the parities were told
+  pub space_is_told : s ≡ status.Done → IsAffine words limit old new
   -- 2: the words are refused
   pub words_are_refused : s ≡ status.Usage → Refuses words
   -- 3: the formula's text has a first offence
@@ -57,11 +68,11 @@ pub record Run (words : List Bytes) (limit : ℕ) (old : Seen) (s : Status) (new
   -- 4 and 5: a fault of reading, or of writing, was counted in this call
   pub read_failed : s ≡ status.ReadFault → Rose old.faults.reads new.faults.reads
   pub write_failed : s ≡ status.WriteFault → Rose old.faults.writes new.faults.writes
-  -- 7, 8, 11: of `check`, `elab` and `model` alone, each for its first cause
-  pub proof_is_refused : s ≡ status.ProofRefused → IsProofRefused words limit old
+  -- 7, 8, 11: of `check` and `trim`, `elab`, and `model` alone, each for its first cause
+  pub proof_is_refused : s ≡ status.ProofRefused → IsProofRefused words limit old new
   pub log_is_refused : s ≡ status.LogRefused → IsLogRefused words limit old new
   pub answer_is_refused : s ≡ status.AnswerRefused → IsAnswerRefused words limit old
-  -- 9: a variable or a text is over its limit
+  -- 9: a variable or a text is over its limit, or a formula in clauses would have too many variables
   pub limit_is_passed : s ≡ status.Limit → IsOverLimit words limit old
   -- what is due comes, where neither reads nor writes failed and memory was there
   pub complete : (p : Plan) → Asks words p → ¬ Rose old.faults.reads new.faults.reads → ¬ Rose old.faults.writes new.faults.writes

@@ -1,5 +1,6 @@
 -- The second text of a command, judged as it is read from its slot.
-use Rattle.std.specs.Prelude.{◌≡◌, ◌<◌, ◌≤◌, ℕ, false, [], length, None, IfSome, Result, Ok, Err, MatchResult}
+use Rattle.std.specs.Prelude.{◌≡◌, ◌<◌, ◌≤◌, ℕ, false, [], length, None, IfSome, Result, Ok, Err, MatchResult, ⊤}
+use Rattle.std.specs.List.{AllByRecursion}
 use Rattle.cx_desk.specs.declared.desk.Slot.{Slot}
 use Rattle.cx_desk.specs.declared.desk.Slot.TheVariants as slot
 use Rattle.cx_desk.specs.declared.draining.DrainErr.{DrainErr}
@@ -13,7 +14,15 @@ use Rattle.fratx_elab.specs.declared.outcome.Elab.{Elab}
 use Rattle.fratx_elab.specs.declared.outcome.Elab.TheVariants as elab
 use Rattle.fratx_elab.specs.declared.outcome.ElabFault.{ElabFault}
 use Rattle.fratx_elab.specs.declared.outcome.ElabFault.TheVariants as cut
-use Rattle.cx_base.specs.Problem.{Problem}
+use Rattle.cx_base.specs.Problem.{Problem, Unmet}
+use Rattle.cx_texts.specs.Printed.{HasProofText}
+use Rattle.cx_texts.specs.ProofText.{ProofReads}
+use Rattle.cx_judgements.specs.ProofTexts.{RefusedAt}
+use Rattle.proof_trim.specs.Laws.{IsRefutation}
+use Rattle.proof_trim.specs.Outcomes.{IsTrimOf}
+use Rattle.proof_trim.specs.Trimmed.{core_of}
+use Rattle.proof_trim.specs.declared.outcome.TrimOf.{TrimOf}
+use Rattle.proof_trim.specs.declared.outcome.TrimOf.TheVariants as trimming
 use Rattle.cx_words.specs.declared.plans.Plan.{Plan}
 use Rattle.cx_words.specs.declared.plans.Plan.TheVariants as plan
 use Rattle.xlrup_check.specs.declared.verdict.Verdict.{Verdict}
@@ -26,16 +35,18 @@ use Rattle.solve_cli.specs.declared.ending.Outcome.{Outcome}
 use Rattle.solve_cli.specs.declared.ending.Outcome.TheVariants as outcome
 use Rattle.solve_cli.specs.Seen.{Seen, seen, says, ReadFault, WriteFault, text_named}
 use Rattle.solve_cli.specs.Proofs.{IsWholeProof, IsProofBefore, IsRightSoFar}
-use Rattle.solve_cli.specs.Happens.{is_early, IsOf, Judged}
+use Rattle.solve_cli.specs.Trimming.{IsTrimmedProof}
+use Rattle.solve_cli.specs.Commands.{proof_created}
+use Rattle.solve_cli.specs.Happens.{end_stage, IsOf, Judged}
 use Rattle.solve_cli.specs.Steps.{ReadFails, LeftBy}
 
 -- a reader of which nothing was asked
 abbrev pub first_state : Slot → ℕ → SlotState
 first_state s limit = record { bytes = record { slot = s; limit = limit; bytes = []; place = 0; ended = false }; line = Start; refused = None }
 
--- an ending of the command, and none of its formula's
+-- an ending of the command that comes after all its calls
 abbrev pub IsLateOf : Plan → Ending → Type 0
-IsLateOf p e = IsOf p e × (is_early e ≡ false)
+IsLateOf p e = IsOf p e × (end_stage e ≡ proof_created)
 
 -- the second text is within the limit, and an ending judges it
 abbrev pub IsJudgedWithin : Plan → ℕ → Problem → Bytes → Ending → Type 0
@@ -98,3 +109,45 @@ Elaborates f name limit old (Err outcome.Memory) new = (proof : Bytes) × (new �
 Elaborates f name limit old (Err outcome.ReadFault) new = (proof : Bytes) × ReadFault (says port.Proof proof old) new × IfSome old.files (λ _. IsRightSoFar f proof)
 Elaborates f name limit old (Err outcome.WriteFault) new = (proof : Bytes) × WriteFault (says port.Proof proof old) new × IfSome old.files (λ _. IsRightSoFar f proof)
 Elaborates f name limit old (Err o) new = ⊥
+
+-- ---- a proof that is trimmed
+
+-- what a trimming that was cut off ends in
+abbrev pub uncut_as : Result TrimOf Fault → Result TrimOf Outcome
+uncut_as (Ok trimmed) = Ok trimmed
+uncut_as (Err fault.Memory) = Err outcome.Memory
+uncut_as (Err fault.Read) = Err outcome.ReadFault
+uncut_as (Err fault.TooLong) = Err (outcome.Ended (ending.TooLong slot.Second))
+
+-- what stays of an accepted proof has a text and is accepted, and no values meet its core
+abbrev pub IsRightTrimming : Problem → TrimOf → Type 0
+IsRightTrimming f (trimming.Done t) = AllByRecursion HasProofText t.steps.steps × IsRefutation f t.steps.steps × Unmet (core_of f t.clauses t.parities)
+IsRightTrimming f (trimming.Refused k c) = ⊤
+
+-- the trimming of a text
+abbrev pub TrimmedAs : Problem → Bytes → TrimOf → Type 0
+TrimmedAs f text (trimming.Done t) = IsTrimOf ProofReads f text t
+TrimmedAs f text (trimming.Refused k c) = RefusedAt f text k c
+
+-- the proof in a started slot was trimmed, and the slot read to its end
+abbrev pub ReadsTrimmed : Problem → Bytes → ℕ → Outside → Result TrimOf Outcome → Outside → Type 0
+ReadsTrimmed f name limit old result new = MatchResult result
+    (λ t. (seen new ≡ seen old) × IfSome (seen old).files (λ files. (length (text_named name files) ≤ limit) × TrimmedAs f (text_named name files) t))
+    (λ o. ReadFails slot.Second name limit old o new)
+
+-- what the trimming of a proof left on the Proof port
+abbrev pub KeptBy : Ending → Problem → Bytes → Bytes → Type 0
+KeptBy (ending.Trimmed core) f proof bytes = IsTrimmedProof f proof core bytes
+KeptBy (ending.NotTrimmed k c) f proof bytes = bytes ≡ []
+KeptBy e f proof bytes = ⊥
+
+-- The proof in a started slot was judged, and the slot read to its end; then what stays of an accepted one was written, or a prefix of it.
+abbrev pub TrimsProof : Problem → Bytes → ℕ → Seen → Result Ending Outcome → Seen → Type 0
+TrimsProof f name limit old (Ok e) new = ((n q : Bytes) → IsLateOf (plan.Trim n name q) e)
+    × ((bytes : Bytes) × (new ≡ says port.Proof bytes old)
+    × IfSome old.files (λ files. ((n q : Bytes) → IsJudgedWithin (plan.Trim n name q) limit f (text_named name files) e) × KeptBy e f (text_named name files) bytes))
+TrimsProof f name limit old (Err (outcome.Ended (ending.TooLong slot.Second))) new = (new ≡ old) × IfSome old.files (λ files. limit < length (text_named name files))
+TrimsProof f name limit old (Err outcome.Memory) new = new ≡ old
+TrimsProof f name limit old (Err outcome.ReadFault) new = ReadFault old new
+TrimsProof f name limit old (Err outcome.WriteFault) new = (bytes : Bytes) × WriteFault (says port.Proof bytes old) new × IfSome old.files (λ _. IsRightSoFar f bytes)
+TrimsProof f name limit old (Err o) new = ⊥

@@ -18,7 +18,7 @@ use Rattle.solve_cli.specs.Endings.{answer_text}
 use Rattle.solve_cli.specs.Seen.{Seen, seen, asks, asks_proof, says, ReadFault, WriteFault, text_named}
 use Rattle.solve_cli.specs.Commands.{second_started, proof_created, asked_to, gives_file, second_text}
 use Rattle.solve_cli.specs.Proofs.{IsWholeProof, IsProofBefore}
-use Rattle.solve_cli.specs.Happens.{is_early, IfNamed, FormulaRead, IsFormula, EarlyDue, Works}
+use Rattle.solve_cli.specs.Happens.{is_early, IfNamed, FormulaRead, IsFormula, EarlyDue, Ends, Works}
 
 -- a slot that was started on this file, and of which nothing was read
 pub record Ready (slot : Slot) (name : Bytes) (o : Outside) : Type 0 where
@@ -55,6 +55,10 @@ abbrev pub ReadsFormula : Bytes → ℕ → Seen → Result Problem Outcome → 
 ReadsFormula name limit old result new = MatchResult result
     (λ f. (new ≡ asks slot.Formula name old) × IfSome old.files (λ files. FormulaRead limit (text_named name files) f))
     (λ o. FormulaFails name limit old o new)
+
+-- an ending was found, with all that is asked for and written before its answer; or the command was cut off
+abbrev pub Finds : Plan → ℕ → Seen → Result Ending Outcome → Seen → Type 0
+Finds p limit old result new = MatchResult result (λ e. Ends p limit old e new) (λ o. Works p limit old o new)
 
 -- an answer was written, or a front of it
 abbrev pub PutsAnswer : Ending → Seen → Outcome → Seen → Type 0

@@ -2,11 +2,12 @@
 ghost use Rattle.std.specs.Prelude.{◌≡◌};
 ghost use Rattle.solve_cli.specs.Endings.{status_of, status_code_of};
 
-use cx_base::{IntList, Values};
+use cx_base::{IdList, IntList, Values};
 use cx_desk::Slot;
 use cx_semantics::Cause;
 use cx_texts::Offence;
 use cx_words::Kind;
+use gf2_space::Space;
 
 /// Why printed values are refused: the first cause in this order.
 #[derive(Clone, Copy, Drop)]
@@ -51,6 +52,15 @@ pub enum Shown {
     Unknown,
 }
 
+/// The constraints of a formula that a proof needs, by their numbers.
+#[derive(Drop)]
+pub struct Core {
+    /// The numbers of its clauses, rising.
+    pub clauses: IdList,
+    /// The numbers of its parities, rising.
+    pub parities: IdList,
+}
+
 /// What a command found, where nothing failed.
 #[derive(Drop)]
 pub enum Ending {
@@ -78,6 +88,21 @@ pub enum Ending {
     Unknown(u64),
     /// This was shown of the planted instance.
     Demonstrated(Instance, Shown),
+    /// The proof is accepted. The steps that its last one needs were written, and these constraints of the formula are needed.
+    Trimmed(Core),
+    /// The proof is refused at the step of this number, for its first cause. Nothing was written.
+    NotTrimmed(u64, Cause),
+    /// The formula in clauses was written.
+    Blasted {
+        /// How many variables it has.
+        variables: u32,
+        /// How many clauses.
+        clauses: u64,
+    },
+    /// The formula in clauses would have too many variables. The constraint of this number is the first that passes the limit.
+    TooManyVariables(u64),
+    /// These are the solutions of the formula's parities, if there are any.
+    Affine(Option<Space>),
 }
 
 /// How a command ended.
@@ -98,8 +123,8 @@ pub enum Outcome {
 /// The exit status.
 #[derive(Clone, Copy, Drop)]
 pub enum Status {
-    /// 0: the proof is verified, the values are right, the log is elaborated, the search has counted
-    /// as many conflicts as it may, or the demonstration is done.
+    /// 0: the proof is verified or trimmed, the values are right, the log is elaborated, the search has counted as many
+    /// conflicts as it may, the formula in clauses is written, the parities' solutions are told, or the demonstration is done.
     Done,
     /// 2: the words are refused.
     Usage,
@@ -115,7 +140,7 @@ pub enum Status {
     ProofRefused,
     /// 8: the log is refused.
     LogRefused,
-    /// 9: a variable or a text is over its limit.
+    /// 9: a variable or a text is over its limit, or a formula in clauses would have too many variables.
     Limit,
     /// 11: the printed values are refused.
     AnswerRefused,
@@ -166,6 +191,11 @@ impl Outcome {
             Outcome::Ended(Ending::Unsatisfiable(_)) => Status::Unsatisfiable,
             Outcome::Ended(Ending::Unknown(_)) => Status::Done,
             Outcome::Ended(Ending::Demonstrated(_, _)) => Status::Done,
+            Outcome::Ended(Ending::Trimmed(_)) => Status::Done,
+            Outcome::Ended(Ending::NotTrimmed(_, _)) => Status::ProofRefused,
+            Outcome::Ended(Ending::Blasted { .. }) => Status::Done,
+            Outcome::Ended(Ending::TooManyVariables(_)) => Status::Limit,
+            Outcome::Ended(Ending::Affine(_)) => Status::Done,
             Outcome::Usage => Status::Usage,
             Outcome::ReadFault => Status::ReadFault,
             Outcome::WriteFault => Status::WriteFault,

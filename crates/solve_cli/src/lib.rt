@@ -1,6 +1,8 @@
 //! The program as one call over its words and its desk.
 #![tactic(auto)]
 
+mod affine;
+mod blast;
 mod demo;
 mod elab;
 mod elab_desk;
@@ -13,8 +15,9 @@ mod print;
 mod program;
 mod proof_on_desk;
 mod solve;
+mod trim;
 
 pub use cx_words::{Kind, Name, Plan, PlanRefusal, plan};
-pub use ending::{Ending, Instance, Outcome, Shown, Status, WrongAnswer};
+pub use ending::{Core, Ending, Instance, Outcome, Shown, Status, WrongAnswer};
 pub use laws::{one_ending_is_due, refusals_of_formulas_are_due, refutations_are_verified};
 pub use program::{run, run_within};

@@ -4,7 +4,8 @@ ghost use Rattle.std.specs.Prelude.{◌≡◌, [], ◌∷◌, Some, codes, decim
 ghost use Rattle.cx_desk.specs.Calls.{PutsAll};
 ghost use Rattle.cx_words.specs.PlainWords.{kind_word};
 ghost use Rattle.solve_cli.specs.Failed.{unsatisfiable_text};
-ghost use Rattle.solve_cli.specs.Endings.{answer_text, message_text, cause_text, log_cause_text, wrong_text, offence_text, shown_text, demo_text, joined};
+ghost use Rattle.solve_cli.specs.Endings.{answer_text, message_text, cause_text, log_cause_text, wrong_text, offence_text, shown_text, demo_text, blasted_text, space_text, joined};
+ghost use Rattle.solve_cli.specs.Trimming.{core_text, ids_line};
 
 use crate::{Ending, Instance, Outcome, Shown, WrongAnswer};
 use cx_base::IntList;
@@ -12,9 +13,10 @@ use cx_desk::{Desk, Failed, Port, Slot, put_all, put_pieces};
 use cx_semantics::Cause;
 use cx_texts::Offence;
 use cx_words::Kind;
+use gf2_space::{Space, put_space};
 use itoa::Buffer;
 use model_out::put_answer;
-use step_text::pieces::put_integers;
+use step_text::pieces::{put_ids, put_integers};
 
 /// The lines of a step that was refused.
 fn put_step<D: Desk>(desk: &mut D, step: u64, code: &[u8], last: &[u8]) -> Result<(), Failed>
@@ -199,6 +201,54 @@ fn put_unsatisfiable<D: Desk>(desk: &mut D, failed: &Option<IntList>) -> Result<
     }
 }
 
+/// A line of ids after its words.
+fn put_ids_line<D: Desk>(desk: &mut D, words: &[u8], numbers: &[u64]) -> Result<(), Failed>
+    ensures { PutsAll port.Answer (ids_line words.now numbers.now) (D.outside desk.old) result (D.outside desk.new) }
+{
+    put_all(desk, Port::Answer, words)?;
+    put_ids(desk, Port::Answer, numbers)
+}
+
+/// The lines of a core.
+fn put_core<D: Desk>(desk: &mut D, clauses: &[u64], parities: &[u64]) -> Result<(), Failed>
+    ensures { PutsAll port.Answer (core_text (record { clauses = clauses.now; parities = parities.now })) (D.outside desk.old) result (D.outside desk.new) }
+{
+    put_ids_line(desk, b"c core clauses", clauses)?;
+    put_ids_line(desk, b"c core parities", parities)?;
+    put_all(desk, Port::Answer, b"s TRIMMED\n")
+}
+
+/// The lines of a formula in clauses.
+fn put_blasted<D: Desk>(desk: &mut D, variables: u32, clauses: u64) -> Result<(), Failed>
+    ensures { PutsAll port.Answer (blasted_text variables clauses) (D.outside desk.old) result (D.outside desk.new) }
+{
+    let mut buffer = Buffer::new();
+    let variables = buffer.format(variables).as_bytes();
+    let mut other = Buffer::new();
+    let clauses = other.format(clauses).as_bytes();
+    put_pieces(
+        desk,
+        Port::Answer,
+        &[
+            b"c variables ",
+            variables,
+            b"\nc clauses ",
+            clauses,
+            b"\ns BLASTED\n",
+        ],
+    )
+}
+
+/// The lines of the parities' solutions.
+fn put_solutions<D: Desk>(desk: &mut D, space: &Option<Space>) -> Result<(), Failed>
+    ensures { PutsAll port.Answer (space_text space.now) (D.outside desk.old) result (D.outside desk.new) }
+{
+    match space {
+        None => put_all(desk, Port::Answer, b"s AFFINE NONE\n"),
+        Some(space) => put_space(desk, space),
+    }
+}
+
 /// Writes what an ending puts on the Answer port. It takes no memory.
 #[tactic(auto, unfolding(crate::specs::Endings::answer_text))]
 pub(crate) fn put_answer_text<D: Desk>(desk: &mut D, ending: &Ending) -> Result<(), Failed>
@@ -219,14 +269,19 @@ pub(crate) fn put_answer_text<D: Desk>(desk: &mut D, ending: &Ending) -> Result<
         Ending::Unsatisfiable(failed) => put_unsatisfiable(desk, failed),
         Ending::Unknown(conflicts) => put_unknown(desk, *conflicts),
         Ending::Demonstrated(instance, shown) => put_demo(desk, *instance, *shown),
+        Ending::Trimmed(core) => put_core(desk, core.clauses.as_slice(), core.parities.as_slice()),
+        Ending::NotTrimmed(step, cause) => put_refusal(desk, *step, *cause, b"\ns NOT TRIMMED\n"),
+        Ending::Blasted { variables, clauses } => put_blasted(desk, *variables, *clauses),
+        Ending::Affine(space) => put_solutions(desk, space),
         Ending::FormulaRefused(_) => put_all(desk, Port::Answer, b""),
         Ending::TooLong(_) => put_all(desk, Port::Answer, b""),
+        Ending::TooManyVariables(_) => put_all(desk, Port::Answer, b""),
     }
 }
 
 /// The message where the words are refused.
 const USAGE: &[u8] =
-    b"error: usage\nusage: cxsat solve FORMULA [--proof LOG] [--conflicts N]\nusage: cxsat check FORMULA PROOF\nusage: cxsat elab FORMULA LOG PROOF\nusage: cxsat model FORMULA ANSWER\nusage: cxsat demo KIND SIZE SEED\n";
+    b"error: usage\nusage: cxsat solve FORMULA [--proof LOG] [--conflicts N]\nusage: cxsat check FORMULA PROOF\nusage: cxsat elab FORMULA LOG PROOF\nusage: cxsat model FORMULA ANSWER\nusage: cxsat demo KIND SIZE SEED\nusage: cxsat trim FORMULA PROOF OUT\nusage: cxsat blast FORMULA OUT\nusage: cxsat affine FORMULA\n";
 
 /// A line with a place.
 fn put_place_line<D: Desk>(desk: &mut D, front: &[u8], place: u64) -> Result<(), Failed>
@@ -273,6 +328,13 @@ pub(crate) fn put_message_text<D: Desk>(desk: &mut D, outcome: &Outcome) -> Resu
         Outcome::Ended(Ending::Unsatisfiable(_)) => put_all(desk, Port::Message, b""),
         Outcome::Ended(Ending::Unknown(_)) => put_all(desk, Port::Message, b""),
         Outcome::Ended(Ending::Demonstrated(_, _)) => put_all(desk, Port::Message, b""),
+        Outcome::Ended(Ending::Trimmed(_)) => put_all(desk, Port::Message, b""),
+        Outcome::Ended(Ending::NotTrimmed(_, _)) => put_all(desk, Port::Message, b""),
+        Outcome::Ended(Ending::Blasted { .. }) => put_all(desk, Port::Message, b""),
+        Outcome::Ended(Ending::TooManyVariables(number)) => {
+            put_place_line(desk, b"error: limit L3 at constraint ", *number)
+        }
+        Outcome::Ended(Ending::Affine(_)) => put_all(desk, Port::Message, b""),
         Outcome::Usage => put_all(desk, Port::Message, USAGE),
         Outcome::ReadFault => put_all(desk, Port::Message, b"error: read fault\n"),
         Outcome::WriteFault => put_all(desk, Port::Message, b"error: write fault\n"),

@@ -8,12 +8,15 @@ ghost use Rattle.solve_cli.specs.Steps.{PutsAnswer, HasNoProof};
 ghost use Rattle.solve_cli.specs.Happens.{Works, WorksFor};
 ghost use Rattle.solve_cli.specs.Run.{Run};
 
+use crate::affine::solutions_of;
+use crate::blast::blast_formula;
 use crate::demo::{BUDGET, instance_of, show};
 use crate::elab::elaborate_log;
 use crate::judge::{judge_answer, judge_proof};
 use crate::load::{load, prepare};
 use crate::print::{put_answer_text, put_message_text};
 use crate::solve::{begin_search, search, search_on};
+use crate::trim::trim_proof;
 use crate::{Ending, Outcome, Status};
 use cx_desk::{Desk, Failed, Port};
 use cx_words::{Kind, Name, Plan, PlanRefusal, plan};
@@ -81,6 +84,53 @@ fn elab<D: Desk>(
         Err(outcome) => return outcome,
     };
     match elaborate_log(alloc, desk, &formula, limit) {
+        Ok(ending) => answer(desk, ending),
+        Err(outcome) => outcome,
+    }
+}
+
+/// `trim`: writes of a proof what its last step needs.
+fn trim<D: Desk>(
+    alloc: Global,
+    desk: &mut D,
+    formula: Name,
+    proof: Name,
+    out: Name,
+    limit: u64,
+) -> Outcome
+    requires fresh { Unasked (D.outside desk.old).asked }
+    requires limit { limit ≤ 4294967295 }
+    ensures { Works (plan.Trim formula proof out) limit (seen (D.outside desk.old)) result (seen (D.outside desk.new)) }
+{
+    let formula = match prepare(alloc, desk, formula, proof, Some(out), limit) {
+        Ok(formula) => formula,
+        Err(outcome) => return outcome,
+    };
+    match trim_proof(alloc, desk, &formula, limit) {
+        Ok(ending) => answer(desk, ending),
+        Err(outcome) => outcome,
+    }
+}
+
+/// `blast`: writes a formula in clauses.
+fn blast<D: Desk>(alloc: Global, desk: &mut D, formula: Name, out: Name, limit: u64) -> Outcome
+    requires fresh { Unasked (D.outside desk.old).asked }
+    requires limit { limit ≤ 4294967295 }
+    ensures { Works (plan.Blast formula out) limit (seen (D.outside desk.old)) result (seen (D.outside desk.new)) }
+{
+    match blast_formula(alloc, desk, formula, out, limit) {
+        Ok(ending) => answer(desk, ending),
+        Err(outcome) => outcome,
+    }
+}
+
+/// `affine`: tells the solutions of a formula's parities.
+fn affine<D: Desk>(alloc: Global, desk: &mut D, formula: Name, limit: u64) -> Outcome
+    requires fresh { Unasked (D.outside desk.old).asked }
+    requires limit { limit ≤ 4294967295 }
+    ensures { Works (plan.Affine formula) limit (seen (D.outside desk.old)) result (seen (D.outside desk.new)) }
+{
+    match solutions_of(alloc, desk, formula, limit) {
         Ok(ending) => answer(desk, ending),
         Err(outcome) => outcome,
     }
@@ -164,6 +214,15 @@ fn work<D: Desk>(alloc: Global, desk: &mut D, words: &[String], limit: u64) -> O
             },
         ) => solve(alloc, desk, formula, log, conflicts, limit),
         Ok(Plan::Demo { kind, size, seed }) => demo(alloc, desk, kind, size, seed),
+        Ok(
+            Plan::Trim {
+                formula,
+                proof,
+                out,
+            },
+        ) => trim(alloc, desk, formula, proof, out, limit),
+        Ok(Plan::Blast { formula, out }) => blast(alloc, desk, formula, out, limit),
+        Ok(Plan::Affine { formula }) => affine(alloc, desk, formula, limit),
         Err(PlanRefusal::Usage) => Outcome::Usage,
         Err(PlanRefusal::Memory) => Outcome::Memory,
     }

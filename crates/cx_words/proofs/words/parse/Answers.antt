@@ -1,5 +1,5 @@
 use Rattle.std.proofs.Common.{◌∙◌}
-use Rattle.cx_words.proofs.Refused.{refused, taken}
+use Rattle.cx_words.proofs.Refused.{found, refused, taken}
 use Rattle.cx_words.proofs.words.parse.Goals as goal
 
 pub returns : goal.returns
@@ -11,3 +11,6 @@ returns c = record {
 
 pub returns-in-Ok-clause-taken : goal.returns-in-Ok-clause-taken
 returns-in-Ok-clause-taken c = taken _ _ c.in_ok-cxsat.ensures c.in-Ok.ensures.kinds
+
+pub returns-in-Ok-clause-found : goal.returns-in-Ok-clause-found
+returns-in-Ok-clause-found c = found _ _ _ c.in_ok-cxsat.ensures c.in-Ok.ensures.matches

@@ -1,6 +1,6 @@
 use Rattle.std.proofs.Common.{refl, sym, ap, ◌∙◌, subst, Err}
 use Rattle.std.proofs.lemmas.Result.{err_from_is_err_and}
-use Rattle.solve_cli.proofs.Works.{create_failed, proof_call}
+use Rattle.solve_cli.proofs.Works.{create_failed, proof_call, second_may_write}
 use Rattle.solve_cli.specs.Seen.{Seen, seen}
 use Rattle.solve_cli.specs.Commands.{gives_file}
 use Rattle.solve_cli.specs.Steps.{Prepares}
@@ -20,7 +20,7 @@ returns-in_err-create_proof g c = λ p is_formula is_second is_proof.
     let begun = c.in_ok-formula.ensures p is_formula is_second in
     let is = err_from_is_err_and c.from_residual-in_err-create_proof.result c.from_residual-in_err-create_proof.ensures.1 in
     subst (λ r. Prepares p c.args.second c.args.limit old r new) (sym (is.1 ∙ ap Err is.2))
-    (create_failed p c.args.proof c.args.limit (seen old) (seen (g.D.Desk.outside c.begin.new.desk)) c.in_ok-formula.formula c.in_err-create_proof.field-0.0 (seen new) is_proof begun.0 begun.2 c.in_err-create_proof.ensures)
+    (create_failed p c.args.proof c.args.limit (seen old) (seen (g.D.Desk.outside c.begin.new.desk)) c.in_ok-formula.formula c.in_err-create_proof.field-0.0 (seen new) is_proof (second_may_write p c.args.second c.args.limit (seen old) is_second) begun.0 begun.2 c.in_err-create_proof.ensures)
 
 pub returns : goal.returns
 returns g c = λ p is_formula is_second is_proof.

@@ -3,6 +3,9 @@ use Rattle.solve_cli.proofs.Direct.{complete, refused_words, usage, read_fault, 
 use Rattle.solve_cli.proofs.Messages.{need_no_write}
 use Rattle.solve_cli.proofs.Demonstrated.{instance_is_shown}
 use Rattle.solve_cli.proofs.Solved.{satisfied, unsatisfied, spent_budget, settled, settled_with_recovered, unsolvable}
+use Rattle.solve_cli.proofs.Trimmed.{proof_is_trimmed}
+use Rattle.solve_cli.proofs.Blasted.{formula_is_blasted}
+use Rattle.solve_cli.proofs.Solutions.{space_is_told}
 use Rattle.solve_cli.proofs.Statuses.{only_solve_decides, proof_is_verified, log_is_elaborated, model_is_right, formula_is_refused, proof_is_refused, log_is_refused, answer_is_refused, limit_is_passed}
 use Rattle.solve_cli.specs.Seen.{seen}
 use Rattle.cx_words.specs.Words.{texts}
@@ -35,6 +38,9 @@ returns g c =
       log_is_elaborated = log_is_elaborated words limit old s new runs;
       model_is_right = model_is_right words limit old s new runs;
       instance_is_shown = instance_is_shown words limit old s new runs;
+      proof_is_trimmed = proof_is_trimmed words limit old s new runs;
+      formula_is_blasted = formula_is_blasted words limit old s new runs;
+      space_is_told = space_is_told words limit old s new runs;
       words_are_refused = usage words limit old s new runs;
       formula_is_refused = formula_is_refused words limit old s new runs;
       read_failed = read_fault words limit old s new runs;

@@ -12,4 +12,4 @@ returns-in-Err-clause-begins g c = λ conflicts.
 pub returns-in-Err-create_proof-clause-begins : goal.returns-in-Err-create_proof-clause-begins
 returns-in-Err-create_proof-clause-begins g c = λ conflicts.
     create_failed (plan.Solve c.args.formula c.args.log conflicts) c.args.log c.args.limit (seen (g.D.Desk.outside c.args.desk.now)) (seen (g.D.Desk.outside c.read_formula_of.new.desk))
-    c.in-Ok.formula c.in-Err-create_proof.outcome (seen (g.D.Desk.outside c.create_proof.new.desk)) refl c.in-Ok.ensures.reads.0 c.in-Ok.ensures.reads.1 c.in-Err-create_proof.ensures
+    c.in-Ok.formula c.in-Err-create_proof.outcome (seen (g.D.Desk.outside c.create_proof.new.desk)) refl tt c.in-Ok.ensures.reads.0 c.in-Ok.ensures.reads.1 c.in-Err-create_proof.ensures

@@ -1,0 +1,266 @@
+-- A proof that is trimmed, from its slot to what the command does.
+use Rattle.std.proofs.Common.{◌≡◌, refl, ap, sym, subst, ◌∙◌, ℕ, ◌<◌, ◌≤◌, false, List, [], ◌∷◌, ◌++◌, length, take, drop, take-append-drop, Option, None, Some, MatchOption, IfSome, IfOk, IfErr, Result, Ok, Err, inl, inr, append-nil}
+use Rattle.std.proofs.lemmas.Option.{IfSome_then}
+use Rattle.std.specs.List.{AllByRecursion}
+use Rattle.cx_base.specs.Problem.{Problem, Unmet}
+use Rattle.cx_base.specs.Endings.{Ending as End, finished, bad_token, unterminated, too_big}
+use Rattle.cx_base.specs.declared.steps.ProofStep.{ProofStep}
+use Rattle.cx_semantics.specs.declared.cause.Cause.{Cause}
+use Rattle.cx_desk.specs.declared.desk.Slot.TheVariants as slot
+use Rattle.cx_desk.specs.declared.desk.Port.TheVariants as port
+use Rattle.cx_desk.specs.declared.draining.DrainErr.{DrainErr}
+use Rattle.cx_desk.specs.declared.draining.DrainErr.TheVariants as drained
+use Rattle.cx_desk.specs.Outside.{Bytes, Files, Outside}
+use Rattle.cx_desk.specs.Calls.{gained, PutFaulted}
+use Rattle.cx_desk.specs.SlotBytes.{BytesState, is_too_long}
+use Rattle.cx_texts.specs.Printed.{printed_proof, HasProofText}
+use Rattle.cx_texts.specs.ProofText.{ProofReads, proof_steps}
+use Rattle.cx_texts.proofs.PrintedProofs.{printed_proof_reads}
+use Rattle.cx_judgements.specs.ProofTexts.{Accepted, RefusedAt}
+use Rattle.cx_words.specs.declared.plans.Plan.TheVariants as plan
+use Rattle.step_text.specs.Lists.{StepsLeft, LeavesList}
+use Rattle.step_text.specs.Sources.{Gives, SpentAs, IsTooLongOnly}
+use Rattle.step_text.specs.declared.source.TextRefusal.{TextRefusal}
+use Rattle.step_text.specs.declared.source.TextRefusal.TheVariants as text
+use Rattle.step_text.specs.Slots.{SlotState, SlotFrame, DrainsRest}
+use Rattle.step_text.specs.SlotAnswers.{PairLeaves}
+use Rattle.xlrup_check.specs.Verdicts.{HasCause, ReadsStand}
+use Rattle.xlrup_check.specs.declared.verdict.Fault.{Fault}
+use Rattle.xlrup_check.specs.declared.verdict.Fault.TheVariants as fault
+use Rattle.proof_trim.specs.Laws.{IsRefutation}
+use Rattle.proof_trim.specs.Outcomes.{AnswersAsJudged, HasRefutation, IsTrimOf, Trims, WhereDone}
+use Rattle.proof_trim.specs.Trimmed.{core_of, trimmed}
+use Rattle.proof_trim.specs.declared.outcome.Trimmed.{Trimmed}
+use Rattle.proof_trim.specs.declared.outcome.TrimOf.{TrimOf}
+use Rattle.proof_trim.specs.declared.outcome.TrimOf.TheVariants as trimming
+use Rattle.solve_cli.specs.declared.ending.Core.{Core}
+use Rattle.solve_cli.specs.declared.ending.Ending.{Ending}
+use Rattle.solve_cli.specs.declared.ending.Ending.TheVariants as ending
+use Rattle.solve_cli.specs.declared.ending.Outcome.{Outcome}
+use Rattle.solve_cli.specs.declared.ending.Outcome.TheVariants as outcome
+use Rattle.solve_cli.specs.Endings.{answer_text}
+use Rattle.solve_cli.specs.Seen.{Seen, seen, says, WriteFault, text_named}
+use Rattle.solve_cli.specs.Commands.{proof_created, asked_to}
+use Rattle.solve_cli.specs.Happens.{IsFormula, FormulaRead, Gains, Ends, Stops, Works}
+use Rattle.solve_cli.specs.Proofs.{IsRightSoFar}
+use Rattle.solve_cli.specs.Steps.{Ready, ReadFails, PutsAnswer}
+use Rattle.solve_cli.specs.SlotTexts.{IsJudgedWithin, KeptBy, IsRightTrimming, TrimmedAs, ReadsTrimmed, TrimsProof, uncut_as, drained_as, first_state}
+use Rattle.solve_cli.specs.Trimming.{TrimsTo, IsTrimmedProof}
+use Rattle.solve_cli.proofs.Gaining.{write_fault}
+use Rattle.solve_cli.proofs.SlotTexts.{seen-still, seen-taken, read_fault, whole_text, is_long, is_short}
+use Rattle.solve_cli.proofs.StepTexts.{have_texts, all_before, trimmed_have}
+use Rattle.solve_cli.proofs.Works.{answered, files_at, formula_in, if_some_both, judged_ends, says-none, seen-gained, stopped}
+
+-- ---- what the source has left
+
+-- a trimming of what one source has left is one of what another has, if that has all that the first has
+pub left_too : {X Y : Type 0} (leaves : X → List ProofStep → End → Type 0) (also : Y → List ProofStep → End → Type 0) (f : Problem) (x : X) (y : Y)
+    → ((steps : List ProofStep) (end : End) → leaves x steps end → also y steps end) → (t : Trimmed) → IsTrimOf leaves f x t → IsTrimOf also f y t
+left_too leaves also f x y to t (proof, h, trims) = (proof, record { accepted = h.accepted; later = h.later; ending = h.ending; left = to (proof ++ h.later) h.ending h.left }, trims)
+
+pub done_too : {X Y : Type 0} (leaves : X → List ProofStep → End → Type 0) (also : Y → List ProofStep → End → Type 0) (f : Problem) (x : X) (y : Y)
+    → ((steps : List ProofStep) (end : End) → leaves x steps end → also y steps end) → (r : Result TrimOf Fault) → WhereDone r (IsTrimOf leaves f x) → WhereDone r (IsTrimOf also f y)
+done_too leaves also f x y to (Ok (trimming.Done t)) h = left_too leaves also f x y to t h
+done_too leaves also f x y to (Ok (trimming.Refused k c)) h = tt
+done_too leaves also f x y to (Err e) h = tt
+
+-- steps that a slot has left have a text
+slot_texts : (limit : ℕ) (o : Outside) (steps : List ProofStep) (end : End) → PairLeaves proof_steps (first_state slot.Second limit, o) steps end → AllByRecursion HasProofText steps
+slot_texts limit o steps end (more, come, reads) = have_texts _ _ steps end reads
+
+kept_texts : (f : Problem) (limit : ℕ) (o : Outside) (t : Trimmed) → IsTrimOf (PairLeaves proof_steps) f (first_state slot.Second limit, o) t → AllByRecursion HasProofText t.steps.steps
+kept_texts f limit o t (proof, h, trims) =
+    let all = slot_texts limit o (proof ++ h.later) h.ending h.left in
+    subst (λ (x : List ProofStep). AllByRecursion HasProofText x) (sym trims.steps) (trimmed_have HasProofText f trims.needed proof (all_before HasProofText proof h.later all))
+
+-- what stays has a text, is accepted, and no values meet its core
+pub right_of : (f : Problem) (limit : ℕ) (o : Outside) (r : Result TrimOf Fault) → WhereDone r (IsTrimOf (PairLeaves proof_steps) f (first_state slot.Second limit, o))
+    → WhereDone r (λ t. IsRefutation f t.steps.steps) → WhereDone r (λ t. Unmet (core_of f t.clauses t.parities)) → IfOk (uncut_as r) (IsRightTrimming f)
+right_of f limit o (Ok (trimming.Done t)) trims accepted core = (kept_texts f limit o t trims, accepted, core)
+right_of f limit o (Ok (trimming.Refused k c)) trims accepted core = tt
+right_of f limit o (Err fault.Memory) trims accepted core = tt
+right_of f limit o (Err fault.Read) trims accepted core = tt
+right_of f limit o (Err fault.TooLong) trims accepted core = tt
+
+-- ---- the slot
+
+-- the trimming of a proof, if its text is not too long
+abbrev pub TrimmedTo : Problem → Bytes → Outside → Outside → TrimOf → Type 0
+TrimmedTo f name o m t = (seen m ≡ seen o) × IfSome (seen o).files (λ files. TrimmedAs f (text_named name files) t)
+
+module _ (f : Problem) (name : Bytes) (limit : ℕ) (o : Outside) (ready : Ready slot.Second name o) (s : BytesState) (m : Outside) (frame : SlotFrame (first_state slot.Second limit).bytes o s m) where
+  -- it was not judged to its end
+  pub trim_cut : (r : Result TrimOf Fault) → IfErr r (HasCause (is_too_long (first_state slot.Second limit).bytes o) o.faults.reads m.faults.reads) → ReadsStand r o.faults.reads m.faults.reads
+      → IfErr (uncut_as r) (λ e. ReadFails slot.Second name limit o e m)
+  trim_cut (Ok t) cause stand = tt
+  trim_cut (Err fault.Memory) cause stand = seen-still slot.Second o m frame.read stand
+  trim_cut (Err fault.Read) cause stand = read_fault slot.Second o m frame.read cause
+  trim_cut (Err fault.TooLong) cause stand = (refl, seen-still slot.Second o m frame.read stand, is_long slot.Second limit o name ready cause)
+
+  pub trim_read : (r : Result TrimOf Fault) → IfOk r (AnswersAsJudged (PairLeaves proof_steps) f (first_state slot.Second limit, o))
+      → WhereDone r (IsTrimOf (PairLeaves proof_steps) f (first_state slot.Second limit, o)) → ReadsStand r o.faults.reads m.faults.reads → IfOk (uncut_as r) (TrimmedTo f name o m)
+  trim_read (Ok (trimming.Done t)) judged (proof, h, trims) stand = (
+    seen-still slot.Second o m frame.read stand,
+    IfSome_then (seen o).files (whole_text proof_steps slot.Second limit o name ready (proof ++ h.later) h.ending h.left)
+        (λ files reads. (proof, record { accepted = h.accepted; later = h.later; ending = h.ending; left = reads }, trims)),
+  )
+  trim_read (Ok (trimming.Refused k c)) judged trims stand = (
+    seen-still slot.Second o m frame.read stand,
+    IfSome_then (seen o).files (whole_text proof_steps slot.Second limit o name ready judged.0 judged.1 judged.2)
+        (λ files reads. record { steps = judged.0; ending = judged.1; reads = reads; judged = judged.3 }),
+  )
+  trim_read (Err fault.Memory) judged trims stand = tt
+  trim_read (Err fault.Read) judged trims stand = tt
+  trim_read (Err fault.TooLong) judged trims stand = tt
+
+  -- the slot was read to its end
+  pub trim_drained : {T : Type 0} (r : Result T DrainErr) (p : Outside) (t : TrimOf) → DrainsRest s m r p → TrimmedTo f name o m t → IfOk (drained_as r) (λ _. ReadsTrimmed f name limit o (Ok t) p)
+  trim_drained (Err drained.TooLong) p t h to = tt
+  trim_drained (Err drained.Failed) p t h to = tt
+  trim_drained (Ok v) p t h to = (
+    ap seen h.2.1 ∙ (seen-taken s.slot h.2.0 m ∙ to.0),
+    if_some_both (seen o).files to.1 (is_short slot.Second limit o name ready (λ k. h.0 (frame.long ∙ k))) (λ files j short. (short, j)),
+  )
+
+-- ---- the list of the steps that stay
+
+-- a list has no other end than the last of its steps
+pub never_refuses : (old new : StepsLeft ProofStep) (why : TextRefusal) → Gives LeavesList old (Err why) new → SpentAs {T = Option ProofStep} (Err why) false
+    → IsTooLongOnly {S = ProofStep} (Some false) (Err why) → ⊥
+never_refuses old new (text.BadToken place) gives spent long = let e : bad_token place ≡ finished = gives.0.1 in cc
+never_refuses old new (text.Unterminated place) gives spent long = let e : unterminated place ≡ finished = gives.0.1 in cc
+never_refuses old new (text.TooBig place) gives spent long = let e : too_big place ≡ finished = gives.0.1 in cc
+never_refuses old new text.TooLong gives spent long = long refl
+never_refuses old new text.Memory gives spent long = cc
+never_refuses old new text.Failed gives spent long = cc
+
+-- what it gives is the first of its steps
+pub next_of_list : (old new : StepsLeft ProofStep) (r : Option ProofStep) → Gives LeavesList old (Ok r) new → MatchOption r (old.steps ≡ []) (λ step. old.steps ≡ step ∷ new.steps)
+next_of_list old new None h = sym h.0.0
+next_of_list old new (Some step) h = sym (h new.steps finished (refl, refl)).0
+
+-- ---- the command, as its desk tells it
+
+-- the proof was not read to its end
+pub not_read : (f : Problem) (name : Bytes) (limit : ℕ) (o : Outside) (e : Outcome) (m : Outside) → ReadFails slot.Second name limit o e m → TrimsProof f name limit (seen o) (Err e) (seen m)
+not_read f name limit o (outcome.Ended (ending.TooLong slot.Second)) m h = (h.1, h.2)
+not_read f name limit o (outcome.Ended (ending.TooLong slot.Formula)) m h = let e = h.0 in cc
+not_read f name limit o outcome.ReadFault m h = h
+not_read f name limit o outcome.Memory m h = h
+not_read f name limit o e m h = absurd h
+
+-- it is refused
+pub not_trimmed : (f : Problem) (name : Bytes) (limit : ℕ) (o : Outside) (k : ℕ) (c : Cause) (m : Outside) → ReadsTrimmed f name limit o (Ok (trimming.Refused k c)) m
+    → TrimsProof f name limit (seen o) (Ok (ending.NotTrimmed k c)) (seen m)
+not_trimmed f name limit o k c m h = (
+  λ n q. (tt, refl),
+  ([], h.0 ∙ sym (says-none port.Proof [] (seen o) refl), IfSome_then (seen o).files h.1 (λ files x. ((λ n q. (x.0, x.1)), refl))),
+)
+
+module _ (f : Problem) (name : Bytes) (limit : ℕ) (o : Outside) (t : Trimmed) (m : Outside) (h : ReadsTrimmed f name limit o (Ok (trimming.Done t)) m) (right : IsRightTrimming f (trimming.Done t)) where
+  abbrev its_core : Core
+  its_core = record { clauses = t.clauses; parities = t.parities }
+
+  trims_to : (text : Bytes) → IsTrimOf ProofReads f text t → TrimsTo f text t.steps.steps its_core
+  trims_to text (proof, r, trims) = (proof, r, record { needed = trims.needed; are_needed = trims.are_needed; steps = trims.steps; clauses = trims.clauses; parities = trims.parities })
+
+  trimmed_text : (text : Bytes) → IsTrimOf ProofReads f text t → IsTrimmedProof f text its_core (printed_proof t.steps.steps)
+  trimmed_text text trims = record {
+    steps = t.steps.steps;
+    trims = trims_to text trims;
+    printed = refl;
+    accepted = record { steps = t.steps.steps; ending = finished; reads = printed_proof_reads t.steps.steps right.0; judged = right.1 };
+    core_unmet = right.2;
+  }
+
+  -- what stays of it was written
+  pub trimmed_put : (p : Outside) → p ≡ gained port.Proof (printed_proof t.steps.steps) m → TrimsProof f name limit (seen o) (Ok (ending.Trimmed its_core)) (seen p)
+  trimmed_put p is = (
+    λ n q. (tt, refl),
+    (
+      printed_proof t.steps.steps,
+      ap seen is ∙ (seen-gained port.Proof (printed_proof t.steps.steps) m ∙ ap (says port.Proof (printed_proof t.steps.steps)) h.0),
+      IfSome_then (seen o).files h.1 (λ files x. ((λ n q. (x.0, (t.steps.steps, trims_to (text_named name files) x.1))), trimmed_text (text_named name files) x.1)),
+    ),
+  )
+
+  so_far : (k : ℕ) → IsRightSoFar f (take k (printed_proof t.steps.steps))
+  so_far k = record {
+    steps = t.steps.steps;
+    right = inr right.1;
+    rest = drop k (printed_proof t.steps.steps);
+    front = take-append-drop k (printed_proof t.steps.steps);
+  }
+
+  -- or a prefix of it
+  pub trimmed_torn : (p : Outside) → ((k : ℕ) × (k < length (printed_proof t.steps.steps)) × PutFaulted port.Proof (gained port.Proof (take k (printed_proof t.steps.steps)) m) p)
+      → TrimsProof f name limit (seen o) (Err outcome.WriteFault) (seen p)
+  trimmed_torn p k = (
+    take k.0 (printed_proof t.steps.steps),
+    subst (λ (x : Seen). WriteFault (says port.Proof (take k.0 (printed_proof t.steps.steps)) x) (seen p)) h.0 (write_fault (take k.0 (printed_proof t.steps.steps)) m p k.2),
+    if_files (seen o).files,
+  )
+    where
+      if_files : (w : Option Files) → IfSome w (λ _. IsRightSoFar f (take k.0 (printed_proof t.steps.steps)))
+      if_files w = elim w as (λ v. IfSome v (λ _. IsRightSoFar f (take k.0 (printed_proof t.steps.steps)))) [ None ↦ tt | Some files ↦ so_far k.0 ]
+
+-- ---- the whole command
+
+long_text : answer_text (ending.TooLong slot.Second) ≡ []
+unfolding answer_text
+long_text = refl
+
+module _ (n q out : Bytes) (limit : ℕ) (old : Seen) (f : Problem) (mid : Seen) (is : mid ≡ asked_to proof_created (plan.Trim n q out) old)
+    (read : IfSome old.files (λ files. IsFormula (plan.Trim n q out) limit files f)) where
+  of_old : (P : Files → Type 0) → IfSome mid.files P → IfSome old.files P
+  of_old P h = subst (λ (w : Option Files). IfSome w P) (ap (λ (s : Seen). s.files) is ∙ files_at proof_created (plan.Trim n q out) old) h
+
+  kept_gains : (files : Files) (e : Ending) (bytes : Bytes) → FormulaRead limit (text_named n files) f → KeptBy e f (text_named q files) bytes → Gains (plan.Trim n q out) limit files e bytes
+  kept_gains files (ending.Trimmed core) bytes r kept = (f, r, kept)
+  kept_gains files (ending.NotTrimmed k c) bytes r kept = kept
+  kept_gains files e bytes r kept = absurd kept
+
+  -- the proof was judged, what stays of it written, and the answer
+  pub trim_answered : (e : Ending) (at : Seen) (o : Outcome) (new : Seen) → TrimsProof f q limit mid (Ok e) at → PutsAnswer e at o new → Works (plan.Trim n q out) limit old o new
+  trim_answered e at o new made answers =
+      let p = plan.Trim n q out in
+      let own = made.0 n out in
+      let bytes = made.1.0 in
+      let left = of_old (λ files. ((n o : Bytes) → IsJudgedWithin (plan.Trim n q o) limit f (text_named q files) e) × KeptBy e f (text_named q files) bytes) made.1.2 in
+      answered p limit old e at o new
+      (subst (Ends p limit old e) (sym made.1.1)
+      (judged_ends p limit old f mid e bytes is read own.0 own.1 (IfSome_then old.files left (λ files x. x.0 n out))
+      (if_some_both old.files read left (λ files r x. kept_gains files e bytes r x.1))))
+      answers
+
+  stops : (bytes : Bytes) → IfSome mid.files (λ _. IsRightSoFar f bytes) → Stops (plan.Trim n q out) limit old (says port.Proof bytes mid)
+  stops bytes right = record {
+    stage = proof_created;
+    reaches = formula_in (plan.Trim n q out) limit old f read;
+    proof = bytes;
+    so_far = if_some_both old.files read (of_old (λ _. IsRightSoFar f bytes) right) (λ files r x. (f, r, x));
+    at_is = ap (says port.Proof bytes) is;
+  }
+
+  none_said : (s : Seen) → s ≡ says port.Proof [] s
+  none_said s = sym (says-none port.Proof [] s refl)
+
+  -- the proof was not judged to its end, the rest of it not read, or what stays not written
+  pub trim_failed : (o : Outcome) (new : Seen) → TrimsProof f q limit mid (Err o) new → Works (plan.Trim n q out) limit old o new
+  unfolding stops
+  trim_failed outcome.Memory new h = stopped proof_created (plan.Trim n q out) limit old new (formula_in (plan.Trim n q out) limit old f read) (h ∙ is)
+  trim_failed outcome.ReadFault new h = (mid, stopped proof_created (plan.Trim n q out) limit old mid (formula_in (plan.Trim n q out) limit old f read) is, h)
+  trim_failed outcome.WriteFault new h = inr (inr (record { writes = refl; may_write = tt; at = says port.Proof h.0 mid; stops = stops h.0 h.2; created = refl; fault = h.1 }))
+  trim_failed (outcome.Ended (ending.TooLong slot.Second)) new h = (
+    says port.Proof [] mid,
+    record {
+      own = refl;
+      reaches = formula_in (plan.Trim n q out) limit old f read;
+      due = if_some_both old.files read (of_old (λ files. limit < length (text_named q files)) h.1) (λ files r x. inr (record { formula = f; is_formula = r; due = inl (x, refl) }));
+      proof = [];
+      gains = IfSome_then old.files read (λ files r. refl);
+      before_is = ap (says port.Proof []) is;
+    },
+    h.0 ∙ (none_said mid ∙ sym (says-none port.Answer (answer_text (ending.TooLong slot.Second)) _ long_text)),
+  )
+  trim_failed o new h = absurd h

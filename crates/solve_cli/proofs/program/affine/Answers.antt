@@ -1,0 +1,9 @@
+use Rattle.solve_cli.proofs.Works.{answered}
+use Rattle.solve_cli.specs.Seen.{seen}
+use Rattle.cx_words.specs.declared.plans.Plan.TheVariants as plan
+use Rattle.solve_cli.proofs.program.affine.Goals as goal
+
+pub returns-in-Ok : goal.returns-in-Ok
+returns-in-Ok g c =
+    answered (plan.Affine c.args.formula) c.args.limit (seen (g.D.Desk.outside c.args.desk.now)) c.in-Ok.ending (seen (g.D.Desk.outside c.solutions_of.new.desk)) c.answer.result
+    (seen (g.D.Desk.outside c.answer.new.desk)) c.in-Ok.ensures c.answer.ensures
