@@ -4,7 +4,7 @@ use std::alloc::{AllocError, Global};
 use std::test::Fail;
 
 /// Command lines with one blank between two words, and the plans that they ask for.
-const TAKEN: [(&str, &str); 40] = [
+const TAKEN: [(&str, &str); 52] = [
     ("cxsat solve f", "solve f 1000000"),
     ("cxsat solve -", "solve - 1000000"),
     ("cxsat solve f --proof l", "solve f 1000000 to l"),
@@ -52,12 +52,24 @@ const TAKEN: [(&str, &str); 40] = [
         "cxsat demo odd 4 18446744073709551615",
         "demo odd 4 18446744073709551615",
     ),
+    ("cxsat trim f p o", "trim f p o"),
+    ("cxsat trim - p o", "trim - p o"),
+    ("cxsat trim o p f", "trim o p f"),
+    ("cxsat trim -- f -p -o", "trim f -p -o"),
+    ("cxsat trim trim blast affine", "trim trim blast affine"),
+    ("cxsat blast f o", "blast f o"),
+    ("cxsat blast - o", "blast - o"),
+    ("cxsat blast o f", "blast o f"),
+    ("cxsat blast -- -f o", "blast -f o"),
+    ("cxsat affine f", "affine f"),
+    ("cxsat affine -", "affine -"),
+    ("cxsat affine -- -f", "affine -f"),
     (" solve f", "solve f 1000000"),
     ("--help solve f", "solve f 1000000"),
 ];
 
 /// Command lines that ask for nothing.
-const REFUSED: [&str; 57] = [
+const REFUSED: [&str; 83] = [
     "",
     "cxsat",
     "cxsat --help",
@@ -115,6 +127,32 @@ const REFUSED: [&str; 57] = [
     "cxsat demo odd +60 1",
     "cxsat demo odd 60 -1",
     "cxsat demo odd 60 18446744073709551616",
+    "cxsat trim",
+    "cxsat trim f p",
+    "cxsat trim f p o q",
+    "cxsat trim f f o",
+    "cxsat trim f p f",
+    "cxsat trim f p p",
+    "cxsat trim - p -",
+    "cxsat trim -f p o",
+    "cxsat trim f -p o",
+    "cxsat trim f p -o",
+    "cxsat trim f --proof p o",
+    "cxsat trim --help",
+    "cxsat blast",
+    "cxsat blast f",
+    "cxsat blast f o p",
+    "cxsat blast f f",
+    "cxsat blast - -",
+    "cxsat blast -f o",
+    "cxsat blast f -o",
+    "cxsat blast f --out o",
+    "cxsat affine",
+    "cxsat affine f g",
+    "cxsat affine -f",
+    "cxsat affine --formula f",
+    "cxsat Affine f",
+    "cxsat affine --help",
 ];
 
 /// The words of a line; an empty one has none.
@@ -182,6 +220,16 @@ fn shown(alloc: Global, plan: &Plan) -> Result<String, AllocError> {
         Plan::Demo { kind, size, seed } => {
             format!(in alloc; "demo {} {size} {seed}", kind_name(*kind))
         }
+        Plan::Trim {
+            formula,
+            proof,
+            out,
+        } => line(
+            alloc,
+            &["trim", formula.as_str(), proof.as_str(), out.as_str()],
+        ),
+        Plan::Blast { formula, out } => line(alloc, &["blast", formula.as_str(), out.as_str()]),
+        Plan::Affine { formula } => line(alloc, &["affine", formula.as_str()]),
     }
 }
 
