@@ -28,3 +28,5 @@ mod refusals;
 mod schedule;
 #[cfg(test)]
 mod solve;
+#[cfg(test)]
+mod trim;

@@ -1,0 +1,303 @@
+//! Proofs that are trimmed, and proofs that are refused at a step for a cause.
+use crate::desk::{AMPLE, Bounds, Task};
+use crate::expecting::{
+    End, Judging, Refused, is_answered, put_other, put_other_refusals, run_task,
+};
+use crate::formulas::SQUARE;
+use std::alloc::{AllocError, Global};
+use std::test::Fail;
+
+const TRIM: Judging = Judging {
+    line: &["cxsat", "trim", "f", "s", "p"],
+    status: 7,
+    verdict: "s NOT TRIMMED",
+};
+
+/// Three parities that no values meet together, and a clause.
+const TRIANGLE_AND_CLAUSE: &str = "p cnf 3 4\nx1 2 0\nx2 3 0\nx1 3 0\n1 2 3 0\n";
+
+/// The four clauses over two variables, among constraints that no refutation needs.
+const SQUARE_AMONG_OTHERS: &str =
+    "p cnf 3 7\n1 3 0\nx1 3 0\n1 2 0\n-1 2 0\n-2 3 0\n1 -2 0\n-1 -2 0\n";
+
+const SQUARE_PROOF: &str = "5 2 0 1 2 0\n6 0 5 3 4 0\n";
+
+const SQUARE_CORE: &str = "c core clauses 1 2 3 4 0\nc core parities 0\ns TRIMMED\n";
+
+/// A formula, a proof of it, what is left of that, and the lines of the core.
+type Trimming = (&'static str, &'static str, &'static str, &'static str);
+
+const TRIMMED: [Trimming; 8] = [
+    (SQUARE, SQUARE_PROOF, SQUARE_PROOF, SQUARE_CORE),
+    (
+        SQUARE,
+        "5 2 0 1 2 0\n7 2 1 0 1 0\n6 0 5 3 4 0\n",
+        SQUARE_PROOF,
+        SQUARE_CORE,
+    ),
+    (
+        SQUARE,
+        "c a comment\n5   2 0 1 2 0\n6 0 5 3 4 0\nzzz",
+        SQUARE_PROOF,
+        SQUARE_CORE,
+    ),
+    (
+        SQUARE,
+        "5 2 0 1 2 0\n5 d 1 0\n9 d 7 0\n6 0 5 3 4 0\n",
+        "5 2 0 1 2 0\n5 d 1 0\n6 0 5 3 4 0\n",
+        SQUARE_CORE,
+    ),
+    (
+        TRIANGLE_AND_CLAUSE,
+        "x 4 0 1 2 3 0\ni 2 0 4 0\n",
+        "x 4 0 1 2 3 0\ni 2 0 4 0\n",
+        "c core clauses 0\nc core parities 1 2 3 0\ns TRIMMED\n",
+    ),
+    (
+        SQUARE_AMONG_OTHERS,
+        "7 2 0 2 3 0\n8 3 0 7 4 0\n9 0 7 5 6 0\n",
+        "7 2 0 2 3 0\n9 0 7 5 6 0\n",
+        "c core clauses 2 3 5 6 0\nc core parities 0\ns TRIMMED\n",
+    ),
+    (
+        "p cnf 1 1\n0\n",
+        "2 0 1 0\n",
+        "2 0 1 0\n",
+        "c core clauses 1 0\nc core parities 0\ns TRIMMED\n",
+    ),
+    (
+        "p cnf 1 0\na 1 -1 0\n",
+        "",
+        "",
+        "c core clauses 0\nc core parities 0\ns TRIMMED\n",
+    ),
+];
+
+/// Writes how the trimming of the proof ends, if it is not so. Trimmed again, what is left of it stays whole.
+fn put_untrimmed(
+    alloc: Global,
+    others: &mut String,
+    (formula, second, left, answer): Trimming,
+) -> Result<(), AllocError> {
+    let end = End {
+        status: 0,
+        answer,
+        message: "",
+        proof: left.as_bytes(),
+    };
+    for proof in [second, left] {
+        let task = Task {
+            line: TRIM.line,
+            formula,
+            second: proof,
+        };
+        put_other(alloc, others, task, AMPLE, end)?;
+    }
+    Ok(())
+}
+
+fn put_all_untrimmed(
+    alloc: Global,
+    others: &mut String,
+    cases: &[Trimming],
+) -> Result<(), AllocError> {
+    for case in cases {
+        put_untrimmed(alloc, others, *case)?;
+    }
+    Ok(())
+}
+
+#[test]
+fn proofs_are_trimmed(rt: HostRuntime) -> Result<(), Fail> {
+    let mut others = String::new(rt.alloc());
+    put_all_untrimmed(rt.alloc(), &mut others, &TRIMMED)?;
+    assert_eq!(rt; others.as_str(), "");
+    Ok(())
+}
+
+const REFUSED: [Refused; 4] = [
+    (
+        TRIANGLE_AND_CLAUSE,
+        "x 4 0 1 2 3 0\ni 1 0 4 0\n",
+        "step 2 P2",
+    ),
+    (SQUARE, "5 d 1 0\n5 2 0 1 2 0\n", "step 2 P4"),
+    (SQUARE, "5 2 0 1 2 0\n", "step 2 P11"),
+    (SQUARE, "5 2 0 1 2 0\nzzz\n", "step 2 P0 at byte 12"),
+];
+
+#[test]
+fn of_a_refused_proof_nothing_is_written(rt: HostRuntime) -> Result<(), Fail> {
+    let mut others = String::new(rt.alloc());
+    put_other_refusals(rt.alloc(), &mut others, TRIM, &REFUSED)?;
+    assert_eq!(rt; others.as_str(), "");
+    Ok(())
+}
+
+/// The lines of a core, and how many constraints of each kind were passed in the formula.
+#[derive(Drop)]
+struct Core<'a> {
+    clauses: &'a str,
+    parities: &'a str,
+    clause: u64,
+    parity: u64,
+}
+
+/// Whether a word of the line is this number.
+fn tells(alloc: Global, line: &str, number: u64) -> Result<bool, AllocError> {
+    let number = format!(in alloc; "{number}")?;
+    Ok(line.split(' ').any(|word| word == number.as_str()))
+}
+
+impl Core<'_> {
+    /// Whether this line of the formula belongs to the formula of the core.
+    fn keeps(&mut self, alloc: Global, line: &str) -> Result<bool, AllocError> {
+        if line.starts_with("p ") || line.starts_with("a ") {
+            return Ok(true);
+        }
+        if line.starts_with("x") {
+            self.parity = self.parity.saturating_add(1);
+            return tells(alloc, self.parities, self.parity);
+        }
+        self.clause = self.clause.saturating_add(1);
+        tells(alloc, self.clauses, self.clause)
+    }
+}
+
+/// The formula of the core that an answer of `trim` tells.
+fn core_of(alloc: Global, formula: &str, answer: &str) -> Result<String, AllocError> {
+    let mut lines = answer.split('\n');
+    let mut core = Core {
+        clauses: lines.next().unwrap_or(""),
+        parities: lines.next().unwrap_or(""),
+        clause: 0,
+        parity: 0,
+    };
+    let mut text = String::new(alloc);
+    for line in formula.split('\n') {
+        if core.keeps(alloc, line)? {
+            text.push_str(line)?;
+            text.push_str("\n")?;
+        }
+    }
+    Ok(text)
+}
+
+/// Writes the formula of the core, unless `solve` says that no values meet it.
+fn put_met(
+    alloc: Global,
+    others: &mut String,
+    (formula, second, _left, _answer): Trimming,
+) -> Result<(), AllocError> {
+    let task = Task {
+        line: TRIM.line,
+        formula,
+        second,
+    };
+    let ended = run_task(alloc, task, AMPLE)?;
+    let answer = String::from_utf8_lossy(alloc, ended.answer())?;
+    let core = core_of(alloc, formula, answer.as_str())?;
+    let solving = Task {
+        line: &["cxsat", "solve", "f"],
+        formula: core.as_str(),
+        second: "",
+    };
+    if run_task(alloc, solving, AMPLE)?.status != 20 {
+        others.push_str(core.as_str())?;
+    }
+    Ok(())
+}
+
+#[test]
+fn cores_are_unsatisfiable_by_themselves(rt: HostRuntime) -> Result<(), Fail> {
+    let mut others = String::new(rt.alloc());
+    for case in &TRIMMED {
+        put_met(rt.alloc(), &mut others, *case)?;
+    }
+    assert_eq!(rt; others.as_str(), "");
+    Ok(())
+}
+
+#[test]
+fn a_long_proof_is_refused_before_it_is_trimmed(rt: HostRuntime) -> Result<(), Fail> {
+    let task = Task {
+        line: TRIM.line,
+        formula: SQUARE,
+        second: "5 2 0 1 2 0\n6 0 5 3 4 0\nthis follows the last step\n",
+    };
+    let end = End {
+        status: 9,
+        answer: "",
+        message: "error: limit L2 second\n",
+        proof: b"",
+    };
+    let mut others = String::new(rt.alloc());
+    put_other(
+        rt.alloc(),
+        &mut others,
+        task,
+        Bounds { limit: 40, ..AMPLE },
+        end,
+    )?;
+    assert_eq!(rt; others.as_str(), "");
+    Ok(())
+}
+
+#[test]
+fn a_full_port_is_a_write_fault(rt: HostRuntime) -> Result<(), Fail> {
+    let task = Task {
+        line: TRIM.line,
+        formula: SQUARE,
+        second: SQUARE_PROOF,
+    };
+    let end = End {
+        status: 5,
+        answer: "",
+        message: "error: write fault\n",
+        proof: b"5 2",
+    };
+    let mut others = String::new(rt.alloc());
+    put_other(
+        rt.alloc(),
+        &mut others,
+        task,
+        Bounds { proof: 3, ..AMPLE },
+        end,
+    )?;
+    assert_eq!(rt; others.as_str(), "");
+    Ok(())
+}
+
+/// Command lines whose names for `trim` are not plain.
+const UNPLAIN: [&[&str]; 4] = [
+    &["cxsat", "trim", "f", "s"],
+    &["cxsat", "trim", "f", "s", "s"],
+    &["cxsat", "trim", "f", "s", "f"],
+    &["cxsat", "trim", "f", "s", "p", "q"],
+];
+
+/// Writes how a line ends, if it is not refused.
+fn put_taken(alloc: Global, others: &mut String, line: &[&str]) -> Result<(), AllocError> {
+    let task = Task {
+        line,
+        formula: SQUARE,
+        second: SQUARE_PROOF,
+    };
+    if !is_answered(alloc, task, AMPLE, 2, "")? {
+        for word in line {
+            others.push_str(word)?;
+            others.push_str(" ")?;
+        }
+    }
+    Ok(())
+}
+
+#[test]
+fn three_names_are_asked_for(rt: HostRuntime) -> Result<(), Fail> {
+    let mut others = String::new(rt.alloc());
+    for line in &UNPLAIN {
+        put_taken(rt.alloc(), &mut others, line)?;
+    }
+    assert_eq!(rt; others.as_str(), "");
+    Ok(())
+}
