@@ -212,7 +212,7 @@ fn put_faults(
 }
 
 /// The same for each of the tasks.
-fn put_faults_of_all(
+pub(crate) fn put_faults_of_all(
     alloc: Global,
     faults: &mut String,
     tasks: &[(Task, u8)],
