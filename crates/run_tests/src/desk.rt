@@ -146,6 +146,21 @@ pub(crate) fn status_over<D: Desk>(
     Ok(run_within(alloc, words, u64::from(limit), desk).code())
 }
 
+/// Runs a command line, from the program's name on, over these files.
+fn run_over(
+    alloc: Global,
+    files: Vec<NamedFile>,
+    line: &[&str],
+    bounds: Bounds,
+) -> Result<Ended, AllocError>
+    requires { 1 ≤ bounds.piece }
+{
+    let none = Vec::new(alloc);
+    let mut desk = MemDesk::make(alloc, files, rooms_of(bounds), bounds.piece, none)?;
+    let status = status_over(alloc, line, bounds.limit, &mut desk)?;
+    Ok(Ended { status, desk })
+}
+
 /// Runs a command line, from the program's name on, over the files `f` and `s`.
 pub(crate) fn run(
     alloc: Global,
@@ -157,10 +172,21 @@ pub(crate) fn run(
     requires { 1 ≤ bounds.piece }
 {
     let files = files_of(alloc, formula, second)?;
-    let none = Vec::new(alloc);
-    let mut desk = MemDesk::make(alloc, files, rooms_of(bounds), bounds.piece, none)?;
-    let status = status_over(alloc, line, bounds.limit, &mut desk)?;
-    Ok(Ended { status, desk })
+    run_over(alloc, files, line, bounds)
+}
+
+/// Runs a command line over standard input alone, the file `-`.
+pub(crate) fn run_on_input(
+    alloc: Global,
+    input: &str,
+    line: &[&str],
+    bounds: Bounds,
+) -> Result<Ended, AllocError>
+    requires { 1 ≤ bounds.piece }
+{
+    let mut files = Vec::new(alloc);
+    push_file(alloc, &mut files, "-", input.as_bytes())?;
+    run_over(alloc, files, line, bounds)
 }
 
 /// Runs a task over a desk whose calls fail so.

@@ -2,6 +2,8 @@
 #![tactic(auto)]
 
 #[cfg(test)]
+mod affine;
+#[cfg(test)]
 mod blast;
 #[cfg(test)]
 mod check;
