@@ -50,7 +50,7 @@ returns-in-Ok g c =
     let read = c.in_ok-formula.ensures.reads in
     let created = c.in_ok-create_proof.ensures.0 ∙ ap (creates c.args.out) read.0 in
     blast_ends c.args.formula c.args.out c.args.limit old c.in_ok-formula.formula read.1 c.in_ok-made.made c.in_ok-made.ensures at created
-    c.vars.result c.clause_count.result (g.D.Desk.outside c.put_formula.new.desk) c.vars.ensures.value c.clause_count.ensures c.put_formula.ensures.reads c.in-Ok.ensures.put
+    c.vars.result c.clause_count.result (g.D.Desk.outside c.put_formula.new.desk) c.vars.ensures.variables c.clause_count.ensures c.put_formula.ensures.reads c.in-Ok.ensures.put
 
 pub returns : goal.returns
 returns g c =
