@@ -56,15 +56,33 @@ lay_out() {
 }
 
 # Seconds, megabytes and status of a command, as "S MB STATUS"; its output stands in $work/answer. One that was cut off at
-# $limit seconds has taken them at the least.
+# $limit seconds has taken them at the least. Where $clock is '%U %S', the system's time counts beside the user's.
 run() {
-    local status=0 taken TIMEFORMAT=%U
+    local status=0 taken TIMEFORMAT=${clock:-%U}
     taken=$({ time timeout "$limit" /usr/bin/time -f %M -o "$work/time" "$@" > "$work/answer" 2>&1; } 2>&1) || status=$?
     if [ "$status" = 124 ]; then
         echo "$limit - $status"
     else
-        tail -n 1 "$work/time" | awk -v taken="$taken" -v status="$status" '{ printf "%s %.0f %s\n", taken, $1 / 1000, status }'
+        tail -n 1 "$work/time" | awk -v taken="$taken" -v status="$status" '{
+            if (split(taken, part, " ") > 1) taken = sprintf("%.3f", part[1] + part[2])
+            printf "%s %.0f %s\n", taken, $1 / 1000, status
+        }'
     fi
+}
+
+# The least processor times of two functions of the script in fifteen runs of each, turn about: the user's and the system's together,
+# since the system tells these apart by samples, and only their sum is exact in short runs. With each function comes a line that it must
+# print, and before both a file that the first one makes, or any name where it makes none.
+least_of_both() {
+    local made=$1 first=$2 line=$3 second=$4 other=$5 TIMEFORMAT='%U %S'
+    for _ in {1..15}; do
+        # To empty a file that is there takes the system up to a tenth of the time, and is no part of the work.
+        rm -f "$made"
+        { time "$first" > "$work/answer" 2>&1; } 2>&1
+        answered "$line"
+        { time "$second" > "$work/answer" 2>&1; } 2>&1
+        answered "$other"
+    done | awk '{ taken = $1 + $2; which = NR % 2; if (NR < 3 || taken < best[which]) best[which] = taken } END { printf "%.3f %.3f", best[1], best[0] }'
 }
 
 # Copies of these crates, without their wrong bodies, and their lines of crates.txt: a program of `programs/` stands on them. What

@@ -5,6 +5,7 @@
 # usage: bench/foreign.sh [LIMIT]     seconds after which a run is cut off (300)
 set -euo pipefail
 source "$(dirname "$0")/common.sh"
+source "$here/logs.sh"
 need cryptominisat5 /usr/bin/time
 build
 limit=${1:-300}
@@ -37,26 +38,10 @@ elaborated() {
     row 'its proof' "$what: $own hints, $(megabytes "$work/proof")" "check: $checked s" "elab over check: $(ratio "$taken" "$checked")" "hints of drat-trim: $peer"
 }
 
-measure() {
-    local family=$1 kind=$2 size=$3 seed=$4 wrote memory status what="$1 $3"
-    awk -v kind="$kind" -v size="$size" -v seed="$seed" -f "$here/make_instance.awk" > "$work/formula"
-    read -r wrote memory status <<< "$(run cryptominisat5 --verb 0 "$work/formula" "$work/log")"
-    if [ "$status" != 20 ]; then
-        row 'elaborating a log of cryptominisat5' "$what" - "the solver ended with $status" -
-        return
-    fi
-    elaborated "$what, with its hints" "$work/log" "$wrote"
+judge_foreign() {
+    elaborated "$1, with its hints" "$work/log" "$2"
     sed 's/ 0 l .*/ 0/' "$work/log" > "$work/bare"
-    elaborated "$what, without hints" "$work/bare" "$wrote"
+    elaborated "$1, without hints" "$work/bare" "$2"
 }
 
-measure 'random 3-clauses, variables:' random 150 1
-measure 'random 3-clauses, variables:' random 200 3
-measure 'random 3-clauses, variables:' random 250 1
-measure pigeonholes holes 7 1
-measure pigeonholes holes 8 1
-measure pigeonholes holes 9 1
-measure 'ladder as clauses, rungs:' ladder 20 1
-measure 'ladder as clauses, rungs:' ladder 100 1
-measure 'inconsistent parities as clauses, variables:' system 40 1
-measure 'inconsistent parities as clauses, variables:' system 60 1
+foreign_logs
