@@ -8,6 +8,9 @@
 # system:  6 N / 5 parities of three variables over N variables, with any right sides: almost always inconsistent.
 # planted: N variables, N parities of three variables and 2 N clauses of three, met by hidden values.
 # mixed:   N variables, N / 3 parities of three variables and 3 N clauses of three: some have values that meet them, some have none.
+# chain:   N parities of three variables, each of which shares its last one with the next, which has it first.
+# linked:  such a chain in which each parity's own variable comes before all that are shared.
+# apart:   N parities of three variables, none of which two share. These three are x-lines in each form.
 function word() { state = (state * 16807) % 2147483647; return state }
 function pick(n) { return 1 + int(word() / 2147483647 * n) }
 function three(  i) {
@@ -79,6 +82,18 @@ function mixed(  k) {
     for (k = 0; k < int(size / 3); k++) { three(); print "x" sign() * v[1], v[2], v[3], 0 }
     for (k = 0; k < 3 * size; k++) { three(); print sign() * v[1], sign() * v[2], sign() * v[3], 0 }
 }
+function chain(  k) {
+    print "p cnf", 2 * size + 1, size
+    for (k = 0; k < size; k++) print "x" 2 * k + 1, 2 * k + 2, 2 * k + 3, 0
+}
+function linked(  k) {
+    print "p cnf", 2 * size + 1, size
+    for (k = 1; k <= size; k++) print "x" k, size + k, size + k + 1, 0
+}
+function apart(  k) {
+    print "p cnf", 3 * size, size
+    for (k = 0; k < size; k++) print "x" 3 * k + 1, 3 * k + 2, 3 * k + 3, 0
+}
 BEGIN {
     state = seed + 12345
     for (i = 0; i < 10; i++) word()
@@ -89,4 +104,7 @@ BEGIN {
     if (kind == "system") system_of()
     if (kind == "planted") planted()
     if (kind == "mixed") mixed()
+    if (kind == "chain") chain()
+    if (kind == "linked") linked()
+    if (kind == "apart") apart()
 }

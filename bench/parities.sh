@@ -83,8 +83,6 @@ repeated() {
 formula() {
     case $1 in
         even | odd) "$here/planted.py" "$1" "$2" "$2" ;;
-        chain) awk -v n="$2" 'BEGIN { print "p cnf", 2 * n + 1, n; for (i = 0; i < n; i++) print "x" 2 * i + 1, 2 * i + 2, 2 * i + 3, 0 }' ;;
-        apart) awk -v n="$2" 'BEGIN { print "p cnf", 3 * n, n; for (i = 0; i < n; i++) print "x" 3 * i + 1, 3 * i + 2, 3 * i + 3, 0 }' ;;
         shared) awk -v n="$2" 'BEGIN { print "p cnf", n, 2; for (lacks = 0; lacks < 2; lacks++) { printf "x"; for (v = 1; v <= n; v++) if (v % 3 != lacks) printf "%d ", v; print 0 } }' ;;
         *) awk -v kind="$1" -v size="$2" -v seed="$2" -v form=x -f "$here/make_instance.awk" ;;
     esac
