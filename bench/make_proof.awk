@@ -4,6 +4,8 @@
 #        Some N * 2^(N - 1) steps.
 # wide: a clause of N literals by a chain of N + 1 hints, and one that is false by N + 1 hints more.
 # sums: a thousand parities x_i + x_(i + 1); N steps, each the sum of all of them, and one that is false.
+# sparse: such a chain, with 499 clauses and then their deletions after each of its steps, none of which is needed. The chain's own
+#         steps go to the file `left` too.
 function literal(pigeon, hole) { return (pigeon - 1) * size + hole }
 
 function chain(  k) {
@@ -16,6 +18,31 @@ function chain(  k) {
         last = size + k
     }
     printf "%d 0 %d %d 0\n", 2 * size + 1, last, size + 1 > proof
+}
+
+# One step of the proof, which is needed.
+function keep(step) {
+    print step > proof
+    print step > left
+}
+
+function sparse(  k, j, others, rest, last, before) {
+    printf "p cnf %d %d\n1 0\n", size + 8, size + 1 > formula
+    for (k = 1; k < size; k++) printf "-%d %d 0\n", k, k + 1 > formula
+    printf "-%d 0\n", size > formula
+    for (k = 1; k <= 8; k++) others = others size + k " "
+    id = size + 1
+    last = 1
+    for (k = 2; k <= size; k++) {
+        before = last
+        last = ++id
+        keep(last " " k " 0 " k " " before " 0")
+        rest = " " k " " others "0 " k " " before " 0"
+        for (j = 1; j <= 499; j++) print id + j rest > proof
+        for (j = 1; j <= 499; j++) print last " d " id + j " 0" > proof
+        id += 499
+    }
+    keep(id + 1 " 0 " last " " size + 1 " 0")
 }
 
 # The literals that put pigeons 1 to k in holes outside the set of bits.
@@ -89,4 +116,5 @@ BEGIN {
     if (kind == "holes") holes()
     if (kind == "wide") wide()
     if (kind == "sums") sums()
+    if (kind == "sparse") sparse()
 }
