@@ -9,7 +9,7 @@ source "$(dirname "$0")/common.sh"
 need minisat cryptominisat5 cadical valgrind gcc /usr/bin/time
 build
 results=${1:-$here/RESULTS.md} lanes=${2:-1}
-scripts=(families solve parities foreign hostile memory propagate elab check recover slot reader rows)
+scripts=(families solve parities foreign hostile memory propagate elab check recover slot reader blast rows)
 
 # The version of a Debian package.
 version() {
@@ -37,7 +37,7 @@ propagation, where above 1 it did more. Where a peer was cut off, the ratio is o
 | what | on what | cxsat | beside it | ratio |
 | --- | --- | --- | --- | --- |
 TEXT
-    for script in reader check elab slot foreign solve families parities recover propagate memory rows; do
+    for script in reader check elab slot foreign solve families parities recover blast propagate memory rows; do
         cat "$work/$script.rows"
     done
     echo
