@@ -50,6 +50,9 @@ try elab elab "$work/formula" "$work/log" "$work/proof2"
 try check check "$work/formula" "$work/proof"
 try model model "$work/even" "$work/values"
 try demo demo odd 20 3
+try trim trim "$work/formula" "$work/proof" "$work/left"
+try blast blast "$work/formula" "$work/clauses"
+try affine affine "$work/even"
 try 'a refused formula' check "$work/log" "$work/proof"
 echo "$wrong not as wanted"
 [ "$wrong" = 0 ]
