@@ -2,14 +2,15 @@
 # Runs all measurements in one go, on inputs made from seeds, and writes them as one table into bench/RESULTS.md, behind
 # its head: what stands before "## The tables" is written by hand and stays.
 # The peers are Debian's packages: apt-get install minisat cryptominisat cadical valgrind time gcc
-# usage: bench/run.sh [FILE [LANES]]     (an hour in one lane once the program is built; nothing else should run meanwhile)
-# With more lanes so many scripts run side by side: each row still compares what one script ran one behind the other.
+# usage: bench/run.sh [FILE [LANES]]     (more than an hour in one lane once the program is built; nothing else should run meanwhile)
+# With more lanes so many scripts run side by side: each row still compares what one script ran one behind the other. One of them,
+# limits.sh, takes up to 12 GB of memory.
 set -euo pipefail
 source "$(dirname "$0")/common.sh"
 need minisat cryptominisat5 cadical valgrind gcc /usr/bin/time
 build
 results=${1:-$here/RESULTS.md} lanes=${2:-1}
-scripts=(families solve parities foreign hostile memory propagate elab check recover slot reader blast rows)
+scripts=(families solve parities trim foreign hostile memory limits propagate elab check recover affine blast slot reader rows)
 
 # The version of a Debian package.
 version() {
@@ -26,8 +27,8 @@ printf '%s\n' "${scripts[@]}" | xargs -P "$lanes" -I NAME bash -c "'$here/NAME.s
 ## The tables
 
 Made by \`bench/run.sh\` in one run, $lanes of its scripts at a time. Times are processor time of whole processes, one run each (the reader: the best of
-five). The last column is cxsat's number over that of what stands beside it: below 1 cxsat took less, but in the row of
-propagation, where above 1 it did more. Where a peer was cut off, the ratio is over the limit and so an upper bound.
+five; elaborating, trimming and random parities' solutions: the least of fifteen). The last column is cxsat's number over that of what stands
+beside it: below 1 cxsat took less, but in the row of propagation, where above 1 it did more. Where a peer was cut off, the ratio is over the limit and so an upper bound.
 
 - date: $(date -u +%F), commit $(git -C "$here" rev-parse --short HEAD)
 - processor: $(lscpu | sed -n 's/^Model name: *//p'), $(nproc) processors; load before the run $load
@@ -37,7 +38,7 @@ propagation, where above 1 it did more. Where a peer was cut off, the ratio is o
 | what | on what | cxsat | beside it | ratio |
 | --- | --- | --- | --- | --- |
 TEXT
-    for script in reader check elab slot foreign solve families parities recover blast propagate memory rows; do
+    for script in reader check elab trim slot foreign solve families parities affine blast recover propagate memory limits rows; do
         cat "$work/$script.rows"
     done
     echo
