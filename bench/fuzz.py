@@ -8,7 +8,7 @@ assumption constraints. `solve` must say 10 exactly where some values meet it, 2
 marks of conflicts in the log as its budget has. The literals of `c failed` must be assumed ones that no values meet together with the
 clauses and the parities. Values are judged by `model` and by the truth table, and again with one of them turned. A log of a refutation is
 elaborated and its proof checked; the proof is then held against another formula and with one number changed: `check` may verify it
-only where no values meet the formula. What differs is printed with the number of its formula, and the exit status is 1.
+only where no values meet the formula. `affine` must print the one text that the parities' solutions give. What differs is printed with the number of its formula, and the exit status is 1.
 """
 import os
 import random
@@ -185,6 +185,30 @@ def judge_foreign_proof(rng, folder, left, earlier):
     want(status != 0 or left == 0, "a log was elaborated of a formula that has values")
 
 
+def affine_text(count, whole):
+    """What `affine` must print, by all solutions of the parities: the bit of variable k in a solution's number is k - 1."""
+    left = models(count, [(kind, literals) for kind, literals in whole if kind == PARITY])
+    solutions = [number for number in range(1 << count) if left >> number & 1]
+    if not solutions:
+        return "s AFFINE NONE\n"
+    # Two solutions differ in a variable and agree on all greater ones.
+    free = [k for k in range(count) if len({it >> k for it in solutions}) > len({it >> k + 1 for it in solutions})]
+    mask = sum(1 << k for k in free)
+    by_free = {it & mask: it for it in solutions}
+    point = by_free[0]
+    literals = [k + 1 if point >> k & 1 else -(k + 1) for k in range(count)]
+    lines = [f"s AFFINE {len(free)}", " ".join(map(str, ["t", *literals, 0]))]
+    for k in free:
+        vector = by_free[1 << k] ^ point
+        lines.append(" ".join(map(str, ["b", *(j + 1 for j in range(count) if vector >> j & 1), 0])))
+    return "\n".join(lines) + "\n"
+
+
+def judge_affine(folder, count, whole):
+    status, out, err = run("affine", f"{folder}/f")
+    want((status, out, err) == (0, affine_text(count, whole), ""), f"affine: {status} {out!r} {err!r}")
+
+
 def one(number, folder, earlier):
     """What was found out of formula `number`: its status."""
     rng = random.Random(number)
@@ -210,6 +234,7 @@ def one(number, folder, earlier):
         want(marks == budget, f"UNKNOWN after {marks} marks of {budget}")
     want(marks <= budget, f"{marks} conflicts of {budget}")
     judge_foreign_proof(rng, folder, left, earlier)
+    judge_affine(folder, count, whole)
     return status
 
 
