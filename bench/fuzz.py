@@ -8,7 +8,9 @@ assumption constraints. `solve` must say 10 exactly where some values meet it, 2
 marks of conflicts in the log as its budget has. The literals of `c failed` must be assumed ones that no values meet together with the
 clauses and the parities. Values are judged by `model` and by the truth table, and again with one of them turned. A log of a refutation is
 elaborated and its proof checked; the proof is then held against another formula and with one number changed: `check` may verify it
-only where no values meet the formula. `affine` must print the one text that the parities' solutions give. What differs is printed with the number of its formula, and the exit status is 1.
+only where no values meet the formula. What `trim` leaves of the proof must be verified, and no values may meet its core. Of what `blast`
+writes exactly one assignment must begin with each one that meets the formula, and none with others. `affine` must print the one text that
+the parities' solutions give. What differs is printed with the number of its formula, and the exit status is 1.
 """
 import os
 import random
@@ -168,6 +170,43 @@ def judge_refutation(rng, folder, earlier):
         earlier[rng.randrange(50)] = proof
 
 
+def judge_trimmed(folder, count, whole):
+    """What is left of the proof, trimmed again and checked, and the core, which no values meet together with the assumption constraints."""
+    status, out, _ = run("trim", f"{folder}/f", f"{folder}/proof", f"{folder}/left")
+    lines = out.splitlines()
+    want(status == 0 and len(lines) == 3 and lines[2] == "s TRIMMED", f"trim of its own proof: {status} {out!r}")
+    core = [it for it in whole if it[0] == ASSUMED]
+    for line, name, kind in zip(lines, ("clauses", "parities"), (CLAUSE, PARITY)):
+        words = line.split()
+        want(words[:3] == ["c", "core", name] and words[-1] == "0", f"the core's lines: {out!r}")
+        those = [it for it in whole if it[0] == kind]
+        core += [those[int(number) - 1] for number in words[3:-1]]
+    want(models(count, core) == 0, "values meet the core")
+    status, again, _ = run("trim", f"{folder}/f", f"{folder}/left", f"{folder}/again")
+    want((status, again) == (0, out), f"trim of a trimmed proof: {status} {again!r}")
+    want(open(f"{folder}/left").read() == open(f"{folder}/again").read(), "a trimmed proof was trimmed further")
+    status, out, _ = run("check", f"{folder}/f", f"{folder}/left")
+    want((status, out) == (0, "s VERIFIED\n"), f"check of a trimmed proof: {status} {out!r}")
+
+
+def judge_blasted(folder, count, left):
+    """The formula in clauses, by its own table of truth where that is not too large."""
+    status, out, err = run("blast", f"{folder}/f", f"{folder}/clauses")
+    head, *lines = open(f"{folder}/clauses").read().splitlines()
+    variables, clauses = map(int, head.split()[2:])
+    want((status, out) == (0, f"c variables {variables}\nc clauses {clauses}\ns BLASTED\n"), f"blast: {status} {out!r} {err!r}")
+    made = [(ASSUMED if line.startswith("a ") else CLAUSE, [int(k) for k in line.removeprefix("a ").split()[:-1]]) for line in lines]
+    want(sum(kind == CLAUSE for kind, _ in made) == clauses, "another number of clauses than is told")
+    if variables > 18:
+        return
+    met, full, found = models(variables, made), (1 << (1 << count)) - 1, 0
+    for above in range(1 << variables - count):
+        part = met >> (above << count) & full
+        want(part & found == 0, "two assignments of the clauses begin with one of the formula's")
+        found |= part
+    want(found == left, "the clauses are met by other values than the formula")
+
+
 def judge_foreign_proof(rng, folder, left, earlier):
     """A proof of another formula, or one with a changed number, is verified only where no values meet this formula."""
     if not earlier:
@@ -229,11 +268,13 @@ def one(number, folder, earlier):
         want(left == 0, "20 where values meet the formula")
         judge_failed(count, whole, out, log)
         judge_refutation(rng, folder, earlier)
+        judge_trimmed(folder, count, whole)
     else:
         want((status, out) == (0, f"c conflicts {budget}\ns UNKNOWN\n"), f"solve: {status} {out!r} {err!r}")
         want(marks == budget, f"UNKNOWN after {marks} marks of {budget}")
     want(marks <= budget, f"{marks} conflicts of {budget}")
     judge_foreign_proof(rng, folder, left, earlier)
+    judge_blasted(folder, count, left)
     judge_affine(folder, count, whole)
     return status
 
