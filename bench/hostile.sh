@@ -1,5 +1,5 @@
 #!/usr/bin/env bash
-# Texts at the limits: `check`, `elab`, `model` and `demo` must give each its named answer, and `solve` its status, within 1 GB of memory and a minute.
+# Texts at the limits: `check`, `elab`, `model`, `affine` and `demo` must give each its named answer, and `solve` its status, within 1 GB of memory and a minute.
 # usage: bench/hostile.sh
 set -euo pipefail
 source "$(dirname "$0")/common.sh"
@@ -20,12 +20,15 @@ try() {
     fi
 }
 
-# The same, of the texts that stand in files: `check` and `elab` of the second one, `solve` of the formula.
+# The same, of the texts that stand in files: `check` and `elab` of the second one, `solve` and `affine` of the formula.
 expect() {
     try "$1" "$2" "$3" check "$work/formula" "$work/proof"
 }
 expect_solved() {
     try "$1" "$2" "$3" solve "$work/formula"
+}
+expect_told() {
+    try "$1" 0 "$2" affine "$work/formula"
 }
 expect_elaborated() {
     try "$1" "$2" "$3" elab "$work/formula" "$work/log" "$work/made"
@@ -37,6 +40,7 @@ awk 'BEGIN { n = 10000000; print "p cnf 2 1"; for (k = 1; k <= n; k++) printf "%
 expect_solved 'a clause of two literals ten million times' 10 's SATISFIABLE'
 awk 'BEGIN { n = 1000000; print "p cnf", n, 1; printf "x"; for (k = 1; k <= n; k++) printf "%d ", k; print 0 }' > "$work/formula"
 expect_solved 'a parity over a million variables' 10 's SATISFIABLE'
+expect_told 'the solutions of a parity over a million variables' 's AFFINE 999999'
 awk 'BEGIN { n = 10000000; print "p cnf 1", n; for (k = 1; k <= n; k++) print "x0" }' > "$work/formula"
 expect_solved 'ten million empty parities' 20 's UNSATISFIABLE'
 awk 'BEGIN { n = 1000000; print "p cnf", n, n; for (k = 1; k <= n; k++) print k, 0 }' > "$work/formula"
@@ -46,9 +50,11 @@ expect_solved 'a chain of a million clauses' 20 's UNSATISFIABLE'
 awk 'BEGIN { n = 100000; print "p cnf 60", n; for (k = 1; k <= n; k++) print "x" k % 59 + 1, k % 60 + 1, (k * 7) % 60 + 1, 0 }' > "$work/formula"
 # each has an odd number of positive literals, so all variables true meet them; the same with one of them turned is met by none
 expect_solved 'a hundred thousand parities over sixty variables' 10 's SATISFIABLE'
+expect_told 'the one solution of a hundred thousand parities over sixty variables' 's AFFINE 0'
 awk 'NR == 1 { print "p cnf 60 100001"; next } NR == 2 { line = $0; sub(/^x/, "x-", line); print line } { print }' "$work/formula" > "$work/turned"
 mv "$work/turned" "$work/formula"
 expect_solved 'the same, one of them with its negation' 20 's UNSATISFIABLE'
+expect_told 'that these have no solution' 's AFFINE NONE'
 
 big=9223372036854775807
 printf 'p cnf 2 1\n1 2 0\n' > "$work/formula"
