@@ -1,11 +1,11 @@
 //! The program: the real desk, the words, and the status.
 #![tactic(auto)]
 
-mod real_desk;
-mod spool;
+mod spooled;
 
-use real_desk::RealDesk;
-use solve_cli::{Status, run};
+use cx_system::RealDesk;
+use solve_cli::Status;
+use spooled::run_spooled;
 use std::alloc::{AllocError, Global};
 use std::io::ErrorKind;
 use std::process::ExitCode;
@@ -34,8 +34,8 @@ fn words(alloc: Global, rt: &HostRuntime) -> Result<Vec<String>, AllocError> {
 fn status(rt: HostRuntime) -> Result<Status, AllocError> {
     let alloc = rt.alloc();
     let words = words(alloc, &rt)?;
-    let mut desk = RealDesk::new(alloc, rt)?;
-    Ok(run(alloc, words, &mut desk))
+    let ended = run_spooled(alloc, words, RealDesk::new(rt))?;
+    Ok(ended.status)
 }
 
 fn main(rt: HostRuntime) -> io::Result<ExitCode> {
