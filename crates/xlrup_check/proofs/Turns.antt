@@ -1,12 +1,12 @@
 -- One step more of a proof that is judged.
-use Rattle.std.proofs.Common.{◌≡◌, refl, sym, ap, subst, ℕ, ◌+◌, Bool, true, false, length, List, [], ◌∷◌, ◌++◌, length-append, append-nil, append_assoc, inl, inr, arith, ◌⊎◌, IfOk, Result, Ok, Err}
+use Rattle.std.proofs.Common.{◌≡◌, refl, sym, ap, subst, ℕ, ◌+◌, Bool, true, false, length, List, [], ◌∷◌, ◌++◌, length-append, append-nil, append_assoc, inl, inr, arith, ◌⊎◌, IfOk, IfErr, Option, Some, None, Result, Ok, Err}
 use Rattle.cx_base.specs.Problem.{Problem, Unmet}
 use Rattle.cx_base.specs.Assumptions.{clashes}
 use Rattle.cx_base.specs.declared.steps.ProofStep.{ProofStep}
 use Rattle.cx_semantics.specs.declared.cause.Cause.{Cause}
 use Rattle.cx_semantics.specs.declared.cause.Cause.TheVariants as causes
 use Rattle.cx_base.specs.Endings.{Ending, bad_token, too_big, unterminated}
-use Rattle.step_text.specs.Sources.{GivesNone, FaultsAs}
+use Rattle.step_text.specs.Sources.{GivesNone, FaultsAs, StuckAs}
 use Rattle.step_text.specs.declared.source.TextRefusal.{TextRefusal}
 use Rattle.step_text.specs.declared.source.TextRefusal.TheVariants as text
 use Rattle.cx_semantics.specs.Tables.{Tables, first_tables}
@@ -14,7 +14,7 @@ use Rattle.cx_semantics.specs.Judging.{Runs, FirstFailure, AcceptedAt, end_cause
 use Rattle.cx_semantics.specs.ProofRules.{proof_calculus, proof_rules}
 use Rattle.cx_semantics.proofs.JudgingLaws.{runs_push}
 use Rattle.cx_semantics.proofs.Soundness.{accepted_steps_are_unmet}
-use Rattle.xlrup_check.specs.Verdicts.{Kept, EndedBy, Goes, IsJudgedBy, IsSound, TakesStep, WhereTook, WhereWent, text_refused, what_follows_of, ReadsStand}
+use Rattle.xlrup_check.specs.Verdicts.{Kept, EndedBy, Goes, IsJudgedBy, IsSound, TakesStep, WhereTook, WhereWent, text_refused, what_follows_of, ReadsStand, IsTooLongBy}
 use Rattle.proof_rules.specs.declared.refusal.JudgeRefusal.{JudgeRefusal}
 use Rattle.proof_rules.specs.declared.refusal.JudgeRefusal.TheVariants as refusal
 use Rattle.xlrup_check.specs.declared.verdict.Taken.{Taken}
@@ -139,6 +139,22 @@ module _ (before now : ℕ) where
   step_stands (Ok false) step k e = e
   step_stands (Err (refusal.Wrong cause)) step k e = e
   step_stands (Err refusal.Memory) step k e = e
+
+-- a text that is too long is refused as such again
+pub text_stuck : (T : Type 0) (before now : Option TextRefusal) (why : TextRefusal) (k : ℕ) → StuckAs {T = T} before (Err why) now → IfErr (text_refused why k) (IsTooLongBy now)
+text_stuck T before now (text.BadToken place) k e = tt
+text_stuck T before now (text.Unterminated place) k e = tt
+text_stuck T before now (text.TooBig place) k e = tt
+text_stuck T None now text.TooLong k e = e
+text_stuck T (Some r) now text.TooLong k e = cc (e.0, e.1)
+text_stuck T before now text.Memory k e = tt
+text_stuck T before now text.Failed k e = tt
+
+pub step_stuck : (now : Option TextRefusal) (judged : Result Bool JudgeRefusal) (step : ProofStep) (k : ℕ) → IfErr (what_follows_of judged step k) (IsTooLongBy now)
+step_stuck now (Ok true) step k = tt
+step_stuck now (Ok false) step k = tt
+step_stuck now (Err (refusal.Wrong cause)) step k = tt
+step_stuck now (Err refusal.Memory) step k = tt
 
 abbrev pub taken_well : Taken → Result Taken Fault
 taken_well o = Ok o

@@ -47,6 +47,12 @@ HasCause passes before now Memory = ⊤
 HasCause passes before now Read = Rose before now
 HasCause passes before now TooLong = ¬ (passes ≡ Some false)
 
+-- a text is too long only where the source answered that, which it goes on doing
+abbrev pub IsTooLongBy : Option TextRefusal → Fault → Type 0
+IsTooLongBy stuck Memory = ⊤
+IsTooLongBy stuck Read = ⊤
+IsTooLongBy stuck TooLong = stuck ≡ Some text.TooLong
+
 -- the source's faults stand but where a fault of reading is answered
 abbrev pub ReadsStand : {T : Type 0} → Result T Fault → ℕ → ℕ → Type 0
 ReadsStand (Ok verdict) before now = now ≡ before

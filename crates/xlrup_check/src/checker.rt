@@ -1,7 +1,7 @@
 //! The judgement of a proof, step by step.
 ghost use Rattle.std.specs.Prelude.{◌≡◌, ◌<◌, ◌≤◌, ◌^◌, false, List, IfOk, IfErr};
 ghost use Rattle.cx_base.specs.declared.steps.ProofStep.{ProofStep};
-ghost use Rattle.xlrup_check.specs.Verdicts.{IsJudgedBy, IsSound, HasCause, ReadsStand, Kept, Goes, WhereTook, WhereWent, text_refused, what_follows_of};
+ghost use Rattle.xlrup_check.specs.Verdicts.{IsJudgedBy, IsSound, HasCause, IsTooLongBy, ReadsStand, Kept, Goes, WhereTook, WhereWent, text_refused, what_follows_of};
 
 use crate::step::take_step;
 use crate::verdict::{Fault, Taken, Verdict};
@@ -39,8 +39,8 @@ impl CheckMemory {
 /// Steps are taken in order. The first right step that adds an ending clause, all of whose literals are
 /// negations of assumed ones, ends the proof; what stands behind it is not judged. The first wrong step is
 /// refused for its first cause. Where the assumptions clash, nothing is judged.
-/// `Fault::Read` comes only where the source counted a fault, `Fault::TooLong` only where its text
-/// passes its limit.
+/// `Fault::Read` comes only where the source counted a fault, `Fault::TooLong` only where it answered
+/// that its text is too long.
 pub fn check<S: StepSource<Step = ProofStep>>(
     alloc: Global,
     formula: &Formula,
@@ -50,6 +50,7 @@ pub fn check<S: StepSource<Step = ProofStep>>(
     ensures judged { IfOk result (IsJudgedBy S.leaves formula.now source.old) }
     ensures sound { IfOk result (IsSound formula.now) }
     ensures cause { IfErr result (HasCause (S.passes_limit source.old) (S.faults source.old) (S.faults source.new)) }
+    ensures long { IfErr result (IsTooLongBy (S.stuck source.new)) }
     ensures reads { ReadsStand result (S.faults source.old) (S.faults source.new) }
     ensures frame { S.keeps source.old source.new }
 {
@@ -96,6 +97,7 @@ pub fn take_next<S: StepSource<Step = ProofStep>>(
     ensures far { S.place_of source.new < 2 ^ 62 }
     ensures limit { S.passes_limit source.new ≡ S.passes_limit source.old }
     ensures cause { IfErr result (HasCause (S.passes_limit source.old) (S.faults source.old) (S.faults source.new)) }
+    ensures long { IfErr result (IsTooLongBy (S.stuck source.new)) }
     ensures frame { S.keeps source.old source.new }
 {
     let step = match source.next_step(&mut memory.spare) {

@@ -3,7 +3,7 @@ use Rattle.cx_base.specs.Endings.{finished}
 use Rattle.cx_base.specs.declared.steps.ProofStep.{ProofStep}
 use Rattle.step_text.specs.Sources.{Gives, PlaceRises}
 use Rattle.step_text.specs.declared.source.TextRefusal.{TextRefusal}
-use Rattle.xlrup_check.proofs.Turns.{end_is_refused, text_is_refused, step_goes, text_stands, step_stands, went_by_text, went_by_step, took_by_text, took_by_step}
+use Rattle.xlrup_check.proofs.Turns.{end_is_refused, text_is_refused, step_goes, text_stands, step_stands, text_stuck, step_stuck, went_by_text, went_by_step, took_by_text, took_by_step}
 use Rattle.xlrup_check.proofs.checker.take_next.Goals as goal
 
 pub returns-in-Ok-None-clause-goes : goal.returns-in-Ok-None-clause-goes
@@ -25,6 +25,12 @@ returns-in-Err-clause-reads g c = rw c.refused_text.ensures (text_stands _ _ c.i
 
 pub returns-clause-reads : goal.returns-clause-reads
 returns-clause-reads g c = rw c.what_follows.ensures (step_stands _ _ c.take_step-taken.result c.in-Ok-Some.step _ c.in-Ok-Some.ensures.faults)
+
+pub returns-in-Err-clause-long : goal.returns-in-Err-clause-long
+returns-in-Err-clause-long g c = rw c.refused_text.ensures (text_stuck _ _ _ c.in-Err.why _ c.in-Err.ensures.stuck)
+
+pub returns-clause-long : goal.returns-clause-long
+returns-clause-long g c = rw c.what_follows.ensures (step_stuck _ c.take_step-taken.result c.in-Ok-Some.step _)
 
 pub returns-in-Err-clause-fresh : goal.returns-in-Err-clause-fresh
 returns-in-Err-clause-fresh g c = rw c.refused_text.ensures (went_by_text _ c.in-Err.why _)
