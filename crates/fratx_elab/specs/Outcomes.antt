@@ -86,6 +86,13 @@ HasCause passes reads_before reads_now writes_before writes_now Read = Rose read
 HasCause passes reads_before reads_now writes_before writes_now Write = Rose writes_before writes_now
 HasCause passes reads_before reads_now writes_before writes_now TooLong = ¬ (passes ≡ Some false)
 
+-- a text is too long only where the source answered that, which it goes on doing
+abbrev pub IsTooLongBy : Option TextRefusal → ElabFault → Type 0
+IsTooLongBy stuck Memory = ⊤
+IsTooLongBy stuck Read = ⊤
+IsTooLongBy stuck Write = ⊤
+IsTooLongBy stuck TooLong = stuck ≡ Some text.TooLong
+
 -- what stands where no step comes: a text that does not fit is refused at this number, the rest is a fault
 abbrev pub text_refused : TextRefusal → ℕ → Result (Option Elab) ElabFault
 text_refused (text.BadToken place) k = Ok (Some (Refused k (causes.TextRefused place)))

@@ -6,7 +6,7 @@ ghost use Rattle.cx_base.specs.declared.steps.LogStep.{LogStep};
 ghost use Rattle.cx_base.specs.Problem.{Problem};
 ghost use Rattle.fratx_elab.specs.Contents.{StandsFor};
 ghost use Rattle.fratx_elab.specs.Elaborates.{number_of_clauses, number_of_parities};
-ghost use Rattle.fratx_elab.specs.Outcomes.{IsElaborated, IsCutOff, HasCause, Kept, Turns, text_refused, step_refused, what_follows_of, ReadsStand, WritesStand};
+ghost use Rattle.fratx_elab.specs.Outcomes.{IsElaborated, IsCutOff, HasCause, IsTooLongBy, Kept, Turns, text_refused, step_refused, what_follows_of, ReadsStand, WritesStand};
 ghost use Rattle.fratx_elab.specs.Takes.{CanBePrinted, CountsOneMore, TakesLogStep, names_of};
 ghost use Rattle.fratx_elab.specs.Ties.{AreTied};
 ghost use Rattle.fratx_elab.specs.Writing.{WritesDown};
@@ -120,6 +120,7 @@ fn take_next<E: ElabEnds>(
     ensures far { E.place_of ends.new < 2 ^ 62 }
     ensures limit { E.passes_limit ends.new ≡ E.passes_limit ends.old }
     ensures cause { IfErr result (HasCause (E.passes_limit ends.old) (E.read_faults ends.old) (E.read_faults ends.new) (E.write_faults ends.old) (E.write_faults ends.new)) }
+    ensures long { IfErr result (IsTooLongBy (E.stuck ends.new)) }
     ensures frame { E.keeps ends.old ends.new }
 {
     let step = match ends.next_step(&mut state.spare) {
@@ -156,6 +157,7 @@ fn take_all<E: ElabEnds>(
     ensures judged { IfOk result (IsElaborated E.leaves E.steps E.torn formula.now ends.old ends.new) }
     ensures cut_off { IfErr result (IsCutOff E.leaves E.steps E.torn formula.now ends.old ends.new) }
     ensures cause { IfErr result (HasCause (E.passes_limit ends.old) (E.read_faults ends.old) (E.read_faults ends.new) (E.write_faults ends.old) (E.write_faults ends.new)) }
+    ensures long { IfErr result (IsTooLongBy (E.stuck ends.new)) }
     ensures reads { ReadsStand result (E.read_faults ends.old) (E.read_faults ends.new) }
     ensures writes { WritesStand result (E.write_faults ends.old) (E.write_faults ends.new) }
     ensures failed { IfOk result (λ _. E.has_failed ends.new ≡ E.has_failed ends.old) }
@@ -178,7 +180,7 @@ fn take_all<E: ElabEnds>(
 /// cause. Where the assumptions clash, nothing is judged and nothing is written.
 /// The proof's steps are handed to the sink one by one, each before the next step is read.
 /// `ElabFault::Read` and `ElabFault::Write` come only where the source or the sink counted a fault,
-/// `ElabFault::TooLong` only where the source tells that its text passes its limit.
+/// `ElabFault::TooLong` only where the source answered that its text is too long.
 pub fn elaborate<E: ElabEnds>(
     alloc: Global,
     formula: &Formula,
@@ -188,6 +190,7 @@ pub fn elaborate<E: ElabEnds>(
     ensures judged { IfOk result (IsElaborated E.leaves E.steps E.torn formula.now ends.old ends.new) }
     ensures cut_off { IfErr result (IsCutOff E.leaves E.steps E.torn formula.now ends.old ends.new) }
     ensures cause { IfErr result (HasCause (E.passes_limit ends.old) (E.read_faults ends.old) (E.read_faults ends.new) (E.write_faults ends.old) (E.write_faults ends.new)) }
+    ensures long { IfErr result (IsTooLongBy (E.stuck ends.new)) }
     ensures reads { ReadsStand result (E.read_faults ends.old) (E.read_faults ends.new) }
     ensures writes { WritesStand result (E.write_faults ends.old) (E.write_faults ends.new) }
     ensures failed { IfOk result (λ _. E.has_failed ends.new ≡ E.has_failed ends.old) }

@@ -5,7 +5,7 @@ use Rattle.step_text.specs.Sources.{Gives}
 use Rattle.step_text.specs.Sinks.{SinkFaultsAs}
 use Rattle.fratx_elab.specs.Writing.{WritesDown}
 use Rattle.fratx_elab.specs.declared.state.State.{State}
-use Rattle.fratx_elab.proofs.Turns.{end_is_refused, text_is_refused, refusal_turns, write_turns, text_stands, step_stands, write_stands, text_reads, step_reads, write_reads}
+use Rattle.fratx_elab.proofs.Turns.{end_is_refused, text_is_refused, refusal_turns, write_turns, text_stands, step_stands, write_stands, text_reads, step_reads, write_reads, text_stuck, step_stuck, write_stuck}
 use Rattle.fratx_elab.proofs.walk.take_next.Goals as goal
 
 pub returns-in-Ok-None-clause-turns : goal.returns-in-Ok-None-clause-turns
@@ -58,3 +58,12 @@ returns-in-Err-take_step-clause-reads g c = rw c.refused_step.ensures (step_read
 
 pub returns-clause-reads : goal.returns-clause-reads
 returns-clause-reads g c = rw c.what_follows.ensures (write_reads _ _ c.write-wrote.result c.ends_log-is_last.result _ (c.write-wrote.ensures.reads ∙ c.in-Ok-Some.ensures.faults))
+
+pub returns-in-Err-clause-long : goal.returns-in-Err-clause-long
+returns-in-Err-clause-long g c = rw c.refused_text.ensures (text_stuck _ _ _ c.in-Err.why _ c.in-Err.ensures.stuck)
+
+pub returns-in-Err-take_step-clause-long : goal.returns-in-Err-take_step-clause-long
+returns-in-Err-take_step-clause-long g c = rw c.refused_step.ensures (step_stuck _ c.in-Err-take_step.why _)
+
+pub returns-clause-long : goal.returns-clause-long
+returns-clause-long g c = rw c.what_follows.ensures (write_stuck _ c.write-wrote.result c.ends_log-is_last.result _)
