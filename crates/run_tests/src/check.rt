@@ -1,6 +1,8 @@
 //! Proofs that are verified, and proofs that are refused at a step for a cause.
 use crate::desk::{AMPLE, Task};
-use crate::expecting::{CHECK, End, Refused, put_other, put_other_refusal, put_other_refusals};
+use crate::expecting::{
+    CHECK, End, Refused, put_other_in_pieces, put_other_refusal, put_other_refusals,
+};
 use crate::formulas::{EMPTY, SQUARE, TRIANGLE};
 use std::alloc::{AllocError, Global};
 use std::test::Fail;
@@ -48,7 +50,7 @@ fn put_unverified(
         message: "",
         proof: b"",
     };
-    put_other(alloc, others, task, AMPLE, end)
+    put_other_in_pieces(alloc, others, task, AMPLE, end)
 }
 
 fn put_all_unverified(
@@ -114,6 +116,15 @@ fn proofs_are_refused_at_a_step(rt: HostRuntime) -> Result<(), Fail> {
     Ok(())
 }
 
+#[test]
+fn a_variable_may_have_a_great_number(rt: HostRuntime) -> Result<(), Fail> {
+    let mut others = String::new(rt.alloc());
+    let texts = ("p cnf 1 1\n16777216 0\n", "");
+    put_other_refusal(rt.alloc(), &mut others, CHECK, texts, "step 1 P11", 7)?;
+    assert_eq!(rt; others.as_str(), "");
+    Ok(())
+}
+
 /// Why `check` refuses a front of the proof of so many bytes.
 fn cause_on_front(alloc: Global, len: usize) -> Result<String, AllocError> {
     match len {
@@ -133,7 +144,7 @@ fn put_other_front(
 ) -> Result<(), AllocError> {
     let front = proof.get(..len).unwrap_or(proof);
     let cause = cause_on_front(alloc, len)?;
-    put_other_refusal(alloc, others, CHECK, (SQUARE, front), cause.as_str())
+    put_other_refusal(alloc, others, CHECK, (SQUARE, front), cause.as_str(), 7)
 }
 
 fn put_other_fronts(alloc: Global, others: &mut String, proof: &str) -> Result<(), AllocError> {

@@ -1,12 +1,16 @@
 //! Logs that become proofs, and logs that are refused at a step for a cause.
 use crate::desk::{AMPLE, Bounds, Task};
-use crate::expecting::{ELAB, End, Refused, is_answered, put_other, put_other_refusals};
+use crate::expecting::{ELAB, End, Refused, is_answered, put_other_in_pieces, put_other_refusals};
 use crate::formulas::SQUARE;
 use std::test::Fail;
 
 /// A log of the four clauses, with no hints.
 pub(crate) const SQUARE_LOG: &str =
     "o 10 1 2 0\no 11 -1 2 0\no 12 1 -2 0\no 13 -1 -2 0\na 20 2 0\na 21 0\n";
+
+/// The same with a final step and a deletion of names that are not there.
+pub(crate) const SQUARE_LOG_WITH_IDLE_STEPS: &str =
+    "o 10 1 2 0\no 11 -1 2 0\no 12 1 -2 0\no 13 -1 -2 0\nf 99 500 0\nd 77 0\na 20 2 0\na 21 0\n";
 
 const CLAUSE: &str = "p cnf 2 1\n1 2 0\n";
 
@@ -69,7 +73,7 @@ fn a_full_proof_port_is_a_write_fault(rt: HostRuntime) -> Result<(), Fail> {
         proof: b"5 2",
     };
     let mut others = String::new(rt.alloc());
-    put_other(
+    put_other_in_pieces(
         rt.alloc(),
         &mut others,
         task,

@@ -39,6 +39,19 @@ pub(crate) const MODEL: Judging = Judging {
     verdict: "s MODEL WRONG",
 };
 
+/// How many bytes one call of a desk moves at most, where a task is run in pieces of any length.
+pub(crate) const PIECES: [usize; 4] = [1, 2, 3, 4096];
+
+/// The same bounds with pieces of this length, or of one byte for a length of none.
+pub(crate) fn in_pieces(bounds: Bounds, piece: usize) -> Bounds
+    ensures { 1 ≤ result.piece }
+{
+    Bounds {
+        piece: piece.max(1),
+        ..bounds
+    }
+}
+
 /// A formula, a text that is refused over it, and the line that tells where or for what.
 pub(crate) type Refused = (&'static str, &'static str, &'static str);
 
@@ -99,22 +112,25 @@ pub(crate) fn answers(ended: &Ended, status: u8, answer: &str) -> bool {
     ended.status == status && ended.answer() == answer.as_bytes()
 }
 
-/// Whether a task ends with this status and this answer.
+/// Whether a task ends with this status and this answer, in pieces of any length.
 pub(crate) fn is_answered(
     alloc: Global,
     task: Task,
     bounds: Bounds,
     status: u8,
     answer: &str,
-) -> Result<bool, AllocError>
-    requires { 1 ≤ bounds.piece }
-{
-    let ended = run_task(alloc, task, bounds)?;
-    Ok(answers(&ended, status, answer))
+) -> Result<bool, AllocError> {
+    for piece in PIECES {
+        let ended = run_task(alloc, task, in_pieces(bounds, piece))?;
+        if !answers(&ended, status, answer) {
+            return Ok(false);
+        }
+    }
+    Ok(true)
 }
 
 /// Writes how the run ended, if that is not so.
-pub(crate) fn put_other(
+fn put_other(
     alloc: Global,
     others: &mut String,
     task: Task,
@@ -127,13 +143,28 @@ pub(crate) fn put_other(
     put_unless(alloc, others, task, &ended, has_ended_so(&ended, end))
 }
 
-/// The same of a text that is to be refused for this cause, with no other line written anywhere.
+/// The same in pieces of any length.
+pub(crate) fn put_other_in_pieces(
+    alloc: Global,
+    others: &mut String,
+    task: Task,
+    bounds: Bounds,
+    end: End,
+) -> Result<(), AllocError> {
+    for piece in PIECES {
+        put_other(alloc, others, task, in_pieces(bounds, piece), end)?;
+    }
+    Ok(())
+}
+
+/// The same of a text that is to be refused for this cause, with no other line written anywhere, in pieces of this length.
 pub(crate) fn put_other_refusal(
     alloc: Global,
     others: &mut String,
     command: Judging,
     (formula, second): (&str, &str),
     cause: &str,
+    piece: usize,
 ) -> Result<(), AllocError> {
     let answer = format!(in alloc; "c {cause}\n{}\n", command.verdict)?;
     let task = Task {
@@ -147,7 +178,20 @@ pub(crate) fn put_other_refusal(
         message: "",
         proof: b"",
     };
-    put_other(alloc, others, task, AMPLE, end)
+    put_other(alloc, others, task, in_pieces(AMPLE, piece), end)
+}
+
+/// The same in pieces of any length.
+fn put_other_refusal_in_pieces(
+    alloc: Global,
+    others: &mut String,
+    command: Judging,
+    case: &Refused,
+) -> Result<(), AllocError> {
+    for piece in PIECES {
+        put_other_refusal(alloc, others, command, (case.0, case.1), case.2, piece)?;
+    }
+    Ok(())
 }
 
 /// The same of each of these texts.
@@ -158,7 +202,7 @@ pub(crate) fn put_other_refusals(
     cases: &[Refused],
 ) -> Result<(), AllocError> {
     for case in cases {
-        put_other_refusal(alloc, others, command, (case.0, case.1), case.2)?;
+        put_other_refusal_in_pieces(alloc, others, command, case)?;
     }
     Ok(())
 }

@@ -2,7 +2,8 @@
 ghost use Rattle.std.specs.Prelude.{◌≤◌};
 
 use crate::desk::{AMPLE, Bounds, Ended, run};
-use crate::elab::SQUARE_LOG;
+use crate::elab::{SQUARE_LOG, SQUARE_LOG_WITH_IDLE_STEPS};
+use crate::expecting::{PIECES, in_pieces};
 use crate::formulas::{SQUARE, TRIANGLE, TRIANGLE_OF_CLAUSES};
 use std::alloc::{AllocError, Global};
 use std::test::Fail;
@@ -56,9 +57,21 @@ fn solved(alloc: Global, formula: &str) -> Result<Ended, AllocError> {
     run(alloc, formula, b"", line.as_slice(), AMPLE)
 }
 
+/// Whether the log becomes a proof in pieces of any length.
+fn proves_in_pieces(alloc: Global, formula: &str, log: &str) -> Result<bool, AllocError> {
+    for piece in PIECES {
+        if !proves(alloc, formula, log.as_bytes(), in_pieces(AMPLE, piece))? {
+            return Ok(false);
+        }
+    }
+    Ok(true)
+}
+
 #[test]
 fn a_log_becomes_a_proof(rt: HostRuntime) -> Result<(), Fail> {
-    assert!(rt; proves(rt.alloc(), SQUARE, SQUARE_LOG.as_bytes(), AMPLE)?);
+    let plain = proves_in_pieces(rt.alloc(), SQUARE, SQUARE_LOG)?;
+    let with_idle_steps = proves_in_pieces(rt.alloc(), SQUARE, SQUARE_LOG_WITH_IDLE_STEPS)?;
+    assert_eq!(rt; (plain, with_idle_steps), (true, true));
     Ok(())
 }
 

@@ -1,6 +1,6 @@
 //! Printed values that are right, and values that are refused for a cause.
 use crate::desk::{AMPLE, Task};
-use crate::expecting::{End, MODEL, Refused, put_other, put_other_refusals};
+use crate::expecting::{End, MODEL, Refused, put_other_in_pieces, put_other_refusals};
 use std::test::Fail;
 
 /// A parity and a clause that the values 1 and -2 alone meet.
@@ -33,7 +33,7 @@ fn printed_values(rt: HostRuntime) -> Result<(), Fail> {
         proof: b"",
     };
     let mut others = String::new(rt.alloc());
-    put_other(rt.alloc(), &mut others, right, AMPLE, end)?;
+    put_other_in_pieces(rt.alloc(), &mut others, right, AMPLE, end)?;
     put_other_refusals(rt.alloc(), &mut others, MODEL, &REFUSED)?;
     assert_eq!(rt; others.as_str(), "");
     Ok(())

@@ -108,7 +108,7 @@ fn told_so(
     Ok([one, two, three, many])
 }
 
-const ROWS: [Row; 7] = [
+const ROWS: [Row; 9] = [
     (CHECK, TRIANGLE, "c a\nx 4 0 1 2 3 0\ni 1 0 4 0", 100),
     (CHECK, SQUARE, "5 2 0 1 2 0\n6 0 5 3 4 zzz\n", 100),
     (CHECK, SQUARE, "5 2 0 1\n", 100),
@@ -121,12 +121,14 @@ const ROWS: [Row; 7] = [
     (SOLVE, TRIANGLE, "", 100),
     (SOLVE, "c b\r\np cnf 2 2\r\nx-1 2 0\n1 0\n%\n0", "", 100),
     (SOLVE, "p cnf 2 2\n1 2 0\n1 x2 0\n", "", 100),
+    (SOLVE, "p cnf 2 2\nx1 2 0\n1 0\n", "", 21),
+    (SOLVE, "p cnf 2 2\nx1 2 0\n1 0\n", "", 20),
 ];
 
 #[test]
 fn pieces_of_any_length_end_the_same(rt: HostRuntime) -> Result<(), Fail> {
     let wanted =
-        b"0 s VERIFIED\n7 c step 2 P0 at byte 22\ns NOT VERIFIED\n7 c step 1 P0 at byte 8\ns NOT VERIFIED\n8 c step 4 E5\ns NOT ELABORATED\n20 s UNSATISFIABLE\n10 s SATISFIABLE\nv 1 2 0\n3 error: formula F3 at byte 18\n".as_slice();
+        b"0 s VERIFIED\n7 c step 2 P0 at byte 22\ns NOT VERIFIED\n7 c step 1 P0 at byte 8\ns NOT VERIFIED\n8 c step 4 E5\ns NOT ELABORATED\n20 s UNSATISFIABLE\n10 s SATISFIABLE\nv 1 2 0\n3 error: formula F3 at byte 18\n10 s SATISFIABLE\nv 1 -2 0\n9 error: limit L2 formula\n".as_slice();
     assert_eq!(rt; told_so(rt.alloc(), &ROWS, Shown::End, wanted)?, [true; 4]);
     Ok(())
 }

@@ -1,8 +1,6 @@
 //! Formulas, texts and words that are refused, each with its status, place and line.
-ghost use Rattle.std.specs.Prelude.{◌≤◌};
-
 use crate::desk::{AMPLE, Bounds, Task};
-use crate::expecting::{CHECK, End, Row, put_other, put_other_statuses};
+use crate::expecting::{CHECK, End, Row, put_other_in_pieces, put_other_statuses};
 use crate::formulas::EMPTY;
 use std::alloc::{AllocError, Global};
 use std::test::Fail;
@@ -10,7 +8,7 @@ use std::test::Fail;
 /// A formula, the status with which it is refused, and the line that tells why.
 type Offence = (&'static str, u8, &'static str);
 
-const OFFENCES: [Offence; 12] = [
+const OFFENCES: [Offence; 13] = [
     ("", 3, "error: formula F1 at byte 0\n"),
     ("1 0\n", 3, "error: formula F1 at byte 0\n"),
     ("p cnf x 1\n", 3, "error: formula F2 at byte 6\n"),
@@ -30,17 +28,23 @@ const OFFENCES: [Offence; 12] = [
         9,
         "error: limit L1 at byte 10\n",
     ),
+    (
+        "p cnf 1 1\n16777216 a 0\n",
+        3,
+        "error: formula F3 at byte 19\n",
+    ),
     ("p cnf 268435456 0\n", 9, "error: limit L1 at byte 6\n"),
 ];
 
-/// Writes how a run over the formula ends, if it is not refused so.
+/// Writes how a command over the formula ends, if it does not refuse it so.
 fn put_other_offence(
     alloc: Global,
     others: &mut String,
+    line: &[&str],
     (formula, status, message): Offence,
 ) -> Result<(), AllocError> {
     let task = Task {
-        line: CHECK.line,
+        line,
         formula,
         second: "",
     };
@@ -50,7 +54,17 @@ fn put_other_offence(
         message,
         proof: b"",
     };
-    put_other(alloc, others, task, AMPLE, end)
+    put_other_in_pieces(alloc, others, task, AMPLE, end)
+}
+
+/// The same of a search and of a check.
+fn put_other_offence_of_each(
+    alloc: Global,
+    others: &mut String,
+    case: Offence,
+) -> Result<(), AllocError> {
+    put_other_offence(alloc, others, &["cxsat", "solve", "f"], case)?;
+    put_other_offence(alloc, others, CHECK.line, case)
 }
 
 fn put_other_offences(
@@ -59,7 +73,7 @@ fn put_other_offences(
     cases: &[Offence],
 ) -> Result<(), AllocError> {
     for case in cases {
-        put_other_offence(alloc, others, *case)?;
+        put_other_offence_of_each(alloc, others, *case)?;
     }
     Ok(())
 }
@@ -79,9 +93,7 @@ fn put_other_bounded(
     formula: &str,
     bounds: Bounds,
     end: (u8, &str, &str),
-) -> Result<(), AllocError>
-    requires { 1 ≤ bounds.piece }
-{
+) -> Result<(), AllocError> {
     let (status, answer, message) = end;
     let task = Task {
         line: CHECK.line,
@@ -94,7 +106,7 @@ fn put_other_bounded(
         message,
         proof: b"",
     };
-    put_other(alloc, others, task, bounds, end)
+    put_other_in_pieces(alloc, others, task, bounds, end)
 }
 
 /// The same under each limit, and where the answer has too little room.
@@ -111,11 +123,7 @@ fn put_others_bounded(alloc: Global, others: &mut String) -> Result<(), AllocErr
         Bounds { limit: 11, ..AMPLE },
         second,
     )?;
-    let full = Bounds {
-        answer: 3,
-        piece: 2,
-        ..AMPLE
-    };
+    let full = Bounds { answer: 3, ..AMPLE };
     let fault = (5, "s V", "error: write fault\n");
     put_other_bounded(alloc, others, EMPTY, full, fault)
 }

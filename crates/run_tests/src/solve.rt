@@ -1,7 +1,10 @@
 //! Searches for values: their answers, their budgets, and their logs.
+ghost use Rattle.std.specs.Prelude.{◌≤◌};
+
 use crate::desk::{AMPLE, Bounds, Ended, Task, run};
 use crate::expecting::{
-    End, Row, answers, is_answered, put_other, put_other_statuses, put_unless, run_task,
+    End, PIECES, Row, answers, in_pieces, is_answered, put_other_in_pieces, put_other_statuses,
+    put_unless, run_task,
 };
 use crate::formulas::{EMPTY, SQUARE, TRIANGLE, TRIANGLE_OF_CLAUSES};
 use std::alloc::{AllocError, Global};
@@ -34,8 +37,11 @@ fn put_other_beside(
     alloc: Global,
     others: &mut String,
     case: &Case,
+    bounds: Bounds,
     plain: &Ended,
-) -> Result<(), AllocError> {
+) -> Result<(), AllocError>
+    requires { 1 ≤ bounds.piece }
+{
     let (formula, budget, status, answer) = *case;
     let line = ["cxsat", "solve", "f", "--proof", "l", "--conflicts", budget];
     let task = Task {
@@ -43,16 +49,31 @@ fn put_other_beside(
         formula,
         second: "",
     };
-    let filed = run_task(alloc, task, AMPLE)?;
+    let filed = run_task(alloc, task, bounds)?;
     let is_right = answers(plain, status, answer) && ended_alike(plain, &filed);
     put_unless(alloc, others, task, &filed, is_right)
 }
 
 /// Runs `solve` with a budget, with a file for the log and without one.
-fn put_other_answer(alloc: Global, others: &mut String, case: &Case) -> Result<(), AllocError> {
+fn put_other_within(
+    alloc: Global,
+    others: &mut String,
+    case: &Case,
+    bounds: Bounds,
+) -> Result<(), AllocError>
+    requires { 1 ≤ bounds.piece }
+{
     let line = ["cxsat", "solve", "f", "--conflicts", case.1];
-    let plain = run(alloc, case.0, b"", line.as_slice(), AMPLE)?;
-    put_other_beside(alloc, others, case, &plain)
+    let plain = run(alloc, case.0, b"", line.as_slice(), bounds)?;
+    put_other_beside(alloc, others, case, bounds, &plain)
+}
+
+/// The same in pieces of any length.
+fn put_other_answer(alloc: Global, others: &mut String, case: &Case) -> Result<(), AllocError> {
+    for piece in PIECES {
+        put_other_within(alloc, others, case, in_pieces(AMPLE, piece))?;
+    }
+    Ok(())
 }
 
 fn put_other_answers(alloc: Global, others: &mut String, cases: &[Case]) -> Result<(), AllocError> {
@@ -62,7 +83,7 @@ fn put_other_answers(alloc: Global, others: &mut String, cases: &[Case]) -> Resu
     Ok(())
 }
 
-const ANSWERS: [Case; 12] = [
+const ANSWERS: [Case; 13] = [
     ("p cnf 0 0\n", "7", 10, "s SATISFIABLE\nv 0\n"),
     (CHAIN, "7", 10, "s SATISFIABLE\nv 1 -2 0\n"),
     (
@@ -82,6 +103,12 @@ const ANSWERS: [Case; 12] = [
         "7",
         10,
         "s SATISFIABLE\nv 1 2 0\n",
+    ),
+    (
+        "c hi\r\np cnf 1 1\r\n1 0\r\n%\n0\n",
+        "7",
+        10,
+        "s SATISFIABLE\nv 1 0\n",
     ),
     (EMPTY, "1", 20, "s UNSATISFIABLE\n"),
     ("p cnf 2 1\nx0\n", "1", 20, "s UNSATISFIABLE\n"),
@@ -228,7 +255,7 @@ fn put_other_front(
         message: "error: write fault\n",
         proof: front,
     };
-    put_other(alloc, others, task, bounds, end)
+    put_other_in_pieces(alloc, others, task, bounds, end)
 }
 
 /// The same with a file for the log and without one, of two fronts of a log that has more than six bytes.
