@@ -1,7 +1,9 @@
 //! Demonstrations: their lines, their logs, and desks that are too small for these.
 ghost use Rattle.std.specs.Prelude.{◌≤◌, ◌^◌};
 
-use crate::desk::{AMPLE, Bounds, Ended, run};
+use crate::desk::{AMPLE, Bounds, Ended, Task, run};
+use crate::expecting::{put_unless, run_task};
+use crate::pigeons::WIDE;
 use cdcl_core::{Outcome, solve_core};
 use cx_base::Formula;
 use gauss_incremental::Incremental;
@@ -10,13 +12,35 @@ use log_text::NoLog;
 use std::alloc::{AllocError, Global};
 use std::test::Fail;
 
-/// The lines of the kind `even`, of size 4 and seed 0.
-const EVEN: &str =
-    "c demo even 4 0\nc variables 4\nc clauses 4\nc parities 1\ns SATISFIABLE\nc values MEET\n";
+/// A kind, a size and a seed, and the lines of their demonstration.
+type Shown = (&'static str, &'static str, &'static str, &'static str);
 
-/// The lines of the kind `odd`, of size 4 and seed 0.
-const ODD: &str =
-    "c demo odd 4 0\nc variables 5\nc clauses 8\nc parities 2\ns UNSATISFIABLE\nc proof VERIFIED\n";
+const SHOWN: [Shown; 4] = [
+    (
+        "even",
+        "4",
+        "0",
+        "c demo even 4 0\nc variables 4\nc clauses 4\nc parities 1\ns SATISFIABLE\nc values MEET\n",
+    ),
+    (
+        "odd",
+        "4",
+        "0",
+        "c demo odd 4 0\nc variables 5\nc clauses 8\nc parities 2\ns UNSATISFIABLE\nc proof VERIFIED\n",
+    ),
+    (
+        "even",
+        "60",
+        "7",
+        "c demo even 60 7\nc variables 60\nc clauses 60\nc parities 15\ns SATISFIABLE\nc values MEET\n",
+    ),
+    (
+        "odd",
+        "60",
+        "7",
+        "c demo odd 60 7\nc variables 61\nc clauses 64\nc parities 16\ns UNSATISFIABLE\nc proof VERIFIED\n",
+    ),
+];
 
 fn demonstrated(alloc: Global, kind: &str, size: &str, bounds: Bounds) -> Result<Ended, AllocError>
     requires { 1 ≤ bounds.piece }
@@ -25,22 +49,38 @@ fn demonstrated(alloc: Global, kind: &str, size: &str, bounds: Bounds) -> Result
     run(alloc, "", b"", line.as_slice(), bounds)
 }
 
-/// Whether a demonstration ends well, with these lines and a log.
-fn shows(alloc: Global, kind: &str, lines: &str) -> Result<bool, AllocError> {
-    let shown = demonstrated(alloc, kind, "4", AMPLE)?;
-    Ok(
-        shown.status == 0
-            && shown.answer() == lines.as_bytes()
-            && shown.message().is_empty()
-            && !shown.proof().is_empty(),
-    )
+/// Whether a demonstration ended well, with these lines and a log.
+fn shows(shown: &Ended, lines: &str) -> bool {
+    shown.status == 0
+        && shown.answer() == lines.as_bytes()
+        && shown.message().is_empty()
+        && !shown.proof().is_empty()
+}
+
+/// Writes how a demonstration ended, if it did not end so.
+fn put_other(alloc: Global, others: &mut String, case: &Shown) -> Result<(), AllocError> {
+    let (kind, size, seed, lines) = *case;
+    let task = Task {
+        line: &["cxsat", "demo", kind, size, seed],
+        formula: "",
+        second: "",
+    };
+    let shown = run_task(alloc, task, WIDE)?;
+    put_unless(alloc, others, task, &shown, shows(&shown, lines))
+}
+
+fn put_others(alloc: Global, others: &mut String, cases: &[Shown]) -> Result<(), AllocError> {
+    for case in cases {
+        put_other(alloc, others, case)?;
+    }
+    Ok(())
 }
 
 #[test]
 fn answers_are_shown(rt: HostRuntime) -> Result<(), Fail> {
-    let even = shows(rt.alloc(), "even", EVEN)?;
-    let odd = shows(rt.alloc(), "odd", ODD)?;
-    assert_eq!(rt; (even, odd), (true, true));
+    let mut others = String::new(rt.alloc());
+    put_others(rt.alloc(), &mut others, &SHOWN)?;
+    assert_eq!(rt; others.as_str(), "");
     Ok(())
 }
 
