@@ -185,6 +185,164 @@ fn assumed_literals_that_fail_are_told(rt: HostRuntime) -> Result<(), Fail> {
     Ok(())
 }
 
+/// Formulas that propagation refutes at level 0, with assumptions that have no part in it.
+const REFUTED_ALONE: [Case; 5] = [
+    (
+        "p cnf 2 2\n0\na 1 -2 0\n",
+        "1",
+        20,
+        "s UNSATISFIABLE\nc failed 0\n",
+    ),
+    (
+        "p cnf 2 2\nx0\na 2 0\n",
+        "1",
+        20,
+        "s UNSATISFIABLE\nc failed 0\n",
+    ),
+    (
+        "p cnf 3 4\nx1 2 0\nx2 3 0\nx1 3 0\na 3 1 0\n",
+        "1",
+        20,
+        "s UNSATISFIABLE\nc failed 0\n",
+    ),
+    (
+        "p cnf 4 6\n1 0\n-1 2 0\n-2 3 0\n-3 -1 0\na 4 0\na 1 0\n",
+        "1",
+        20,
+        "s UNSATISFIABLE\nc failed 0\n",
+    ),
+    (
+        "p cnf 3 6\n1 2 0\n-1 2 0\n1 -2 0\n-1 -2 0\na 3 0\na 1 0\n",
+        "1",
+        20,
+        "s UNSATISFIABLE\nc failed 0\n",
+    ),
+];
+
+#[test]
+fn no_assumed_literal_fails_where_the_formula_is_refuted_without_a_decision(
+    rt: HostRuntime,
+) -> Result<(), Fail> {
+    let mut others = String::new(rt.alloc());
+    put_other_answers(rt.alloc(), &mut others, &REFUTED_ALONE)?;
+    assert_eq!(rt; others.as_str(), "");
+    Ok(())
+}
+
+/// Formulas of which some assumed literals fail, and others that are decided before these have no part in it.
+const PARTLY_FAILED: [Case; 7] = [
+    // 2 excludes 4
+    (
+        "p cnf 4 2\n-2 -4 0\na 1 2 3 4 0\n",
+        "1",
+        20,
+        "s UNSATISFIABLE\nc failed 2 4 0\n",
+    ),
+    // over two more variables 1 excludes 3
+    (
+        "p cnf 6 4\n-1 5 0\n-5 6 0\n-6 -3 0\na 2 4 1 3 0\n",
+        "1",
+        20,
+        "s UNSATISFIABLE\nc failed 1 3 0\n",
+    ),
+    // 1 and 2 give two values of 5
+    (
+        "p cnf 5 3\n-1 -2 5 0\n-1 -2 -5 0\na 3 -4 1 2 0\n",
+        "1",
+        20,
+        "s UNSATISFIABLE\nc failed 1 2 0\n",
+    ),
+    // the parity of 1, 2 and 3
+    (
+        "p cnf 5 2\nx1 2 3 0\na 5 1 -4 2 -3 0\n",
+        "1",
+        20,
+        "s UNSATISFIABLE\nc failed 1 2 -3 0\n",
+    ),
+    // the sum of two parities, of 1, 2, 4 and 5
+    (
+        "p cnf 7 3\nx1 2 3 0\nx3 4 5 0\na 6 1 7 -2 4 5 0\n",
+        "1",
+        20,
+        "s UNSATISFIABLE\nc failed 1 -2 4 5 0\n",
+    ),
+    // what is known at level 0 is no reason that fails
+    (
+        "p cnf 5 4\n5 0\n-5 -1 4 0\n-4 -2 0\na 3 1 2 0\n",
+        "1",
+        20,
+        "s UNSATISFIABLE\nc failed 1 2 0\n",
+    ),
+    // one literal alone, behind others
+    (
+        "p cnf 5 4\n-3 4 0\n-3 5 0\n-4 -5 0\na 1 2 3 0\n",
+        "1",
+        20,
+        "s UNSATISFIABLE\nc failed 3 0\n",
+    ),
+];
+
+#[test]
+fn what_a_contradiction_does_not_rest_on_does_not_fail(rt: HostRuntime) -> Result<(), Fail> {
+    let mut others = String::new(rt.alloc());
+    put_other_answers(rt.alloc(), &mut others, &PARTLY_FAILED)?;
+    assert_eq!(rt; others.as_str(), "");
+    Ok(())
+}
+
+/// The sign of a variable that is assumed: by turns true and false.
+fn sign(var: u32) -> &'static str {
+    if var % 2 == 0 { "-" } else { "" }
+}
+
+/// A formula of a clause and of one assumption constraint, which has each of so many variables.
+fn assuming(alloc: Global, vars: u32, clause: &str) -> Result<String, AllocError> {
+    let mut text = format!(in alloc; "p cnf {vars} 2\n{clause}\na")?;
+    for var in 1..=vars {
+        write!(text, " {}{var}", sign(var))?;
+    }
+    text.push_str(" 0\n")?;
+    Ok(text)
+}
+
+/// The answer of just those values.
+fn assumed_values(alloc: Global, vars: u32) -> Result<String, AllocError> {
+    let mut text = String::from_str(alloc, "s SATISFIABLE")?;
+    for var in 1..=vars {
+        if var % 16 == 1 {
+            text.push_str("\nv")?;
+        }
+        write!(text, " {}{var}", sign(var))?;
+    }
+    text.push_str(" 0\n")?;
+    Ok(text)
+}
+
+/// Whether a search over 5,000 assumed literals and a clause ends so.
+fn assumes_many(alloc: Global, clause: &str, status: u8, answer: &str) -> Result<bool, AllocError> {
+    let formula = assuming(alloc, 5_000, clause)?;
+    let task = Task {
+        line: SOLVE,
+        formula: formula.as_str(),
+        second: "",
+    };
+    let bounds = Bounds {
+        answer: 50_000,
+        ..AMPLE
+    };
+    is_answered(alloc, task, bounds, status, answer)
+}
+
+#[test]
+fn many_literals_are_assumed(rt: HostRuntime) -> Result<(), Fail> {
+    let values = assumed_values(rt.alloc(), 5_000)?;
+    let met = assumes_many(rt.alloc(), "1 5000 0", 10, values.as_str())?;
+    let failed = "s UNSATISFIABLE\nc failed 1 -5000 0\n";
+    let unmet = assumes_many(rt.alloc(), "-1 5000 0", 20, failed)?;
+    assert_eq!(rt; (met, unmet), (true, true));
+    Ok(())
+}
+
 #[test]
 fn values_are_printed_where_there_are_any(rt: HostRuntime) -> Result<(), Fail> {
     let mut others = String::new(rt.alloc());
