@@ -54,3 +54,8 @@ learned_at a r = learned_in (clause_at a r)
 abbrev pub kept : Option Stored → Option Stored
 kept None = None
 kept (Some c) = Some (record c { learned = false })
+
+-- the clause under another id
+abbrev pub renamed : ℕ → Option Stored → Option Stored
+renamed id None = None
+renamed id (Some c) = Some (record c { id = id })

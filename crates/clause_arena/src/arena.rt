@@ -1,6 +1,6 @@
 //! The arena.
 ghost use Rattle.std.specs.Prelude.{◌≡◌, ◌+◌, ◌-◌, ◌<◌, ◌≤◌, ◌^◌, ◌++◌, ◌∷◌, [], ◌↔◌, length, None, Some, slice_index, slice_set, IfOk, OnOk, OnErr, IsOk, IsTrue, min};
-ghost use Rattle.clause_arena.specs.Clauses.{ArenaState, clause_at, literals_at, id_at, lbd_at, learned_at, kept, IsLive};
+ghost use Rattle.clause_arena.specs.Clauses.{ArenaState, clause_at, literals_at, id_at, lbd_at, learned_at, kept, renamed, IsLive};
 ghost use Rattle.std.specs.Prelude.{vec_len, vec_capacity};
 ghost use Rattle.clause_arena.specs.Compact.{IsRenamed};
 ghost use Rattle.clause_arena.specs.Heads.{part_at, RiseTo};
@@ -219,6 +219,15 @@ impl Arena {
     {
         let place = reference.place() as usize;
         self.heads[place].learned = false;
+    }
+
+    /// Gives a clause another id. Nothing else changes, and no memory is taken.
+    pub fn rename(&mut self, reference: ClauseRef, id: u64)
+        requires { IsLive self.old reference }
+        ensures { self.new ≡ record self.old { clauses = slice_set self.old.clauses reference (renamed id (clause_at self.old reference)) } }
+    {
+        let place = reference.place() as usize;
+        self.heads[place].id = id;
     }
 
     /// Lets go of what was removed. The clauses that are left have new references, from 0 on and in the order of the old ones.
