@@ -130,7 +130,7 @@ pub(crate) fn is_answered(
 }
 
 /// Writes how the run ended, if that is not so.
-fn put_other(
+pub(crate) fn put_other(
     alloc: Global,
     others: &mut String,
     task: Task,

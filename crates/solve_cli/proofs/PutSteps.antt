@@ -35,7 +35,7 @@ one_put all left rest step old now new (done, split, moved) is put = (
       ∙ (ap (gained port.Proof (line_of step)) moved
       ∙ (gained-twice port.Proof (printed_proof done) (line_of step) old
       ∙ ap (λ (x : Bytes). gained port.Proof x old)
-          (ap (λ (x : Bytes). printed_proof done ++ x) (sym (one_line step)) ∙ sym (flat_map-append line_of done (step ∷ []))))),
+      (ap (λ (x : Bytes). printed_proof done ++ x) (sym (one_line step)) ∙ sym (flat_map-append line_of done (step ∷ []))))),
 )
 
 -- all of them
