@@ -7,7 +7,7 @@ use Rattle.std.proofs.lemmas.Bool.{or_parts}
 use Rattle.cx_base.specs.Literals.{Literal}
 use Rattle.cx_base.specs.declared.id_moves.IdMove.{IdMove}
 use Rattle.cx_semantics.specs.Tables.{Table, get, is_live}
-use Rattle.cx_semantics.specs.Moves.{old_ids, new_ids, names_twice, moved}
+use Rattle.cx_semantics.specs.Moves.{old_ids, names_twice, moved}
 use Rattle.cx_semantics.specs.Judging.{AllHold}
 use Rattle.cx_semantics.specs.LogRules.{moving}
 use Rattle.cx_semantics.proofs.MoveLaws.{source, AreThere, from_source, get-moved, source_is_old, one_target, there_by}

@@ -1,5 +1,5 @@
 -- Moves: judged in the log, the proof gains nothing, and the tables stay tied.
-use Rattle.std.proofs.Common.{◌≡◌, refl, sym, ap, ◌∙◌, subst, List, [], Option, Some, None, Result, Ok, Err}
+use Rattle.std.proofs.Common.{◌≡◌, refl, sym, ap, ◌∙◌, subst, List, None, Ok}
 use Rattle.cx_base.specs.Problem.{Problem}
 use Rattle.cx_base.specs.declared.id_moves.IdMove.{IdMove}
 use Rattle.cx_base.specs.declared.steps.LogStep.TheVariants as log

@@ -1,5 +1,5 @@
 -- Lists of literals that stand in one.
-use Rattle.std.proofs.Common.{◌≡◌, refl, sym, ap, ◌∙◌, subst, ℕ, ◌+◌, ◌-◌, ◌≤◌, Bool, true, false, cond, ◌||◌, List, [], ◌∷◌, ◌++◌, map, length, take, drop, Option, Some, None, MatchOption, nat_cmp, is_eq, is_some, eqb-true, length-append, length-drop, take_all, drop_at, arith}
+use Rattle.std.proofs.Common.{◌≡◌, refl, sym, ap, ◌∙◌, subst, ℕ, ◌+◌, ◌-◌, ◌≤◌, Bool, true, false, cond, ◌||◌, List, [], ◌∷◌, ◌++◌, map, length, take, drop, Option, Some, None, MatchOption, Result, nat_cmp, is_eq, is_some, eqb-true, length-append, length-drop, take_all, drop_at, arith}
 use Rattle.std.specs.Cmp.{nat_cmp_total, unsigned_tied}
 use Rattle.std.specs.FinMap as map_
 use Rattle.std.specs.List.{list_any}
@@ -8,10 +8,17 @@ use Rattle.std.specs.Ordering.{eq_by_cmp}
 use Rattle.std.proofs.lemmas.List.{take-append-le, drop-append-le}
 use Rattle.std.proofs.lemmas.Option.{same_Some, none-some}
 use Rattle.cx_base.specs.Literals.{Literal}
+use Rattle.cx_base.specs.declared.id_moves.IdMove.{IdMove}
+use Rattle.cx_semantics.specs.LogRules.{moving}
+use Rattle.cx_semantics.specs.Moves.{old_ids, without_ids, put_if, put_moved, moved}
 use Rattle.cx_semantics.specs.Tables.{Table}
+use Rattle.proof_rules.specs.Judges.{JudgesBy}
+use Rattle.proof_rules.specs.Moving.{moving_in}
+use Rattle.proof_rules.specs.declared.refusal.JudgeRefusal.{JudgeRefusal}
 use Rattle.proof_rules.specs.declared.kept.Span.{Span}
 use Rattle.proof_rules.specs.KeptLists.{literals_at, kept_in, AreWithin}
 use Rattle.proof_rules.specs.Places.{HasKeys}
+use Rattle.proof_rules.proofs.MovingLaws.{AllFit, moved_seen, judged_seen}
 
 abbrev pub Spans : Type 0
 Spans = map_.FinMap nat_cmp Span
@@ -161,3 +168,44 @@ all_copied old new ids keys are = same_by new old (λ q. are q ∙ ap (λ b. con
     by : (o : Option (List Literal)) → cond (is_some o) o None ≡ o
     by None = refl
     by (Some lits) = refl
+
+-- ---- lists that come under other ids
+
+module _ (lits : List Literal) where
+  put_span : (spans : Spans) (k : ℕ) (span : Span) → Unit {0} → kept_in lits (map_.insert spans k span) ≡ map_.insert (kept_in lits spans) k (literals_at lits span)
+  put_span spans k span fits = same_by _ _ (λ q.
+      get-kept_in lits (map_.insert spans k span) q ∙ ap (option_map (literals_at lits)) (map_.get-insert nat_cmp_total spans k span q)
+      ∙ by q (eq_by_cmp nat_cmp q k) ∙ sym (map_.get-insert nat_cmp_total (kept_in lits spans) k (literals_at lits span) q))
+    where
+      by : (q : ℕ) (b : Bool) → option_map (literals_at lits) (cond b (Some span) (map_.get spans q)) ≡ cond b (Some (literals_at lits span)) (map_.get (kept_in lits spans) q)
+      by q true = refl
+      by q false = sym (get-kept_in lits spans q)
+
+  fits_all : (moves : List IdMove) → AllFit (kept_in lits) (literals_at lits) (λ _. Unit {0}) (λ spans k _. get-kept_in lits spans k) put_span (λ spans k _. kept_in-remove lits spans k) moves
+  fits_all [] = tt
+  fits_all (m ∷ moves) = ((tt, tt), fits_all moves)
+
+  pub kept_in-moved : (spans : Spans) (moves : List IdMove) → kept_in lits (moved spans moves) ≡ moved (kept_in lits spans) moves
+  kept_in-moved spans moves = moved_seen (kept_in lits) (literals_at lits) (λ _. Unit {0}) (λ contents k _. get-kept_in lits contents k) put_span (λ contents k _. kept_in-remove lits contents k) spans moves (fits_all moves)
+
+  pub judged-kept_in : {T : Type 0} (spans : Spans) (moves : List IdMove) (r : Result T JudgeRefusal) → JudgesBy (moving_in spans moves) r → JudgesBy (moving (kept_in lits spans) moves) r
+  judged-kept_in spans moves r judged = judged_seen (kept_in lits) (literals_at lits) (λ _. Unit {0}) (λ contents k _. get-kept_in lits contents k) put_span (λ contents k _. kept_in-remove lits contents k) spans moves (fits_all moves) r judged
+
+  within_without : (ids : List ℕ) (spans : Spans) → AreWithin lits spans → AreWithin lits (without_ids spans ids)
+  within_without [] spans within = within
+  within_without (n ∷ ids) spans within = within_without ids (map_.remove spans n) (AreWithin-remove lits spans n within)
+
+  within_put : (spans : Spans) (k : ℕ) (o : Option Span) → ((span : Span) → o ≡ Some span → span.start + span.len ≤ length lits) → AreWithin lits spans → AreWithin lits (put_if spans k o)
+  within_put spans k None fits within n span g = within n span g
+  within_put spans k (Some s) fits within n span g = by (eq_by_cmp nat_cmp n k) (sym (map_.get-insert nat_cmp_total spans k s n) ∙ g)
+    where
+      by : (b : Bool) → cond b (Some s) (map_.get spans n) ≡ Some span → span.start + span.len ≤ length lits
+      by true e = subst (λ (x : Span). x.start + x.len ≤ length lits) (same_Some s span e) (fits s refl)
+      by false e = within n span e
+
+  within_put_moved : (first : Spans) (moves : List IdMove) (spans : Spans) → AreWithin lits first → AreWithin lits spans → AreWithin lits (put_moved first spans moves)
+  within_put_moved first [] spans given within = within
+  within_put_moved first (m ∷ moves) spans given within = within_put_moved first moves (put_if spans m.to (map_.get first m.from)) given (within_put spans m.to (map_.get first m.from) (given m.from) within)
+
+  pub AreWithin-moved : (spans : Spans) (moves : List IdMove) → AreWithin lits spans → AreWithin lits (moved spans moves)
+  AreWithin-moved spans moves within = within_put_moved spans moves (without_ids spans (old_ids moves)) within (within_without (old_ids moves) spans within)

@@ -11,6 +11,7 @@ pub mod StepIntegers
 pub mod ContentLaws
 pub mod PageLaws
 pub mod KeptLaws
+pub mod MovingLaws
 pub mod TableLaws
 pub mod PlaceLaws
 pub mod MarkLaws

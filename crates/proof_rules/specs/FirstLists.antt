@@ -1,7 +1,11 @@
 -- The lists that a table has from a formula.
-use Rattle.std.specs.Prelude.{◌≡◌, ◌≢◌, ℕ, List, [], ◌∷◌, get_or, Option, None, Some, Bool, true, false}
+use Rattle.std.specs.Prelude.{◌≡◌, ◌≢◌, ℕ, List, [], ◌∷◌, ◌++◌, get_or, Option, None, Some, Bool, true, false}
+use Rattle.std.specs.FinMap as map
+use Rattle.cx_base.specs.declared.id_moves.IdMove.{IdMove}
 use Rattle.cx_base.specs.Literals.{Literal}
 use Rattle.cx_base.specs.Problem.{clauses_of, parities_of}
+use Rattle.cx_semantics.specs.Tables.{Table}
+use Rattle.proof_rules.specs.Places.{entries_of}
 use Rattle.proof_rules.specs.declared.first.Numbered.{Numbered}
 use Rattle.proof_rules.specs.declared.first.Numbered.TheVariants.{Clauses, Parities}
 
@@ -19,3 +23,12 @@ remaining gone lists = []
 -- under this number stands the list, and under each other what stood there
 abbrev pub StandsThere : ℕ → List Literal → List (Option (List Literal)) → List (Option (List Literal)) → Type 0
 StandsThere n lits old new = (get_or new n None ≡ Some lits) × ((q : ℕ) → q ≢ n → get_or new q None ≡ get_or old q None)
+
+-- no list stands under an id of the moves, old or new
+abbrev pub AreElsewhere : List (Option (List Literal)) → List IdMove → Type 0
+AreElsewhere lists [] = Unit {0}
+AreElsewhere lists (m ∷ moves) = ((get_or lists m.from None ≡ None) × (get_or lists m.to None ≡ None)) × AreElsewhere lists moves
+
+-- under each id the list in its place, or else that of the table
+abbrev pub behind : List (Option (List Literal)) → Table → Table
+behind lists table = map.from_entries (entries_of lists ++ map.entries table)

@@ -4,11 +4,12 @@ use Rattle.std.specs.List.{list_any, list_all}
 use Rattle.std.specs.Ordering.{nat_cmp, eq_by_cmp}
 use Rattle.cx_base.specs.Literals.{Literal}
 use Rattle.cx_base.specs.Integers.{is_negative, sizes}
-use Rattle.cx_semantics.specs.Tables.{Table, Tables, is_live, named, put_clause, put_parity, drop_clauses, drop_parities}
+use Rattle.cx_base.specs.declared.id_moves.IdMove.{IdMove}
+use Rattle.cx_semantics.specs.Tables.{Table, Tables, is_live, named, put_clause, put_parity, drop_clauses, drop_parities, move_clauses, move_parities}
 use Rattle.proof_rules.specs.declared.live.Kind.{Kind}
 use Rattle.proof_rules.specs.declared.live.Kind.TheVariants.{Clauses, Parities}
 
--- the table of a kind, what it gains, and what goes out of it
+-- the table of a kind, what it gains, what goes out of it, and what comes under other ids
 abbrev pub chosen : Kind → Tables → Table
 chosen Clauses tables = tables.clauses
 chosen Parities tables = tables.parities
@@ -20,6 +21,10 @@ put_constraint Parities tables n lits = put_parity tables n lits
 abbrev pub drop_constraints : Kind → Tables → List ℕ → Tables
 drop_constraints Clauses tables ids = drop_clauses tables ids
 drop_constraints Parities tables ids = drop_parities tables ids
+
+abbrev pub move_constraints : Kind → Tables → List IdMove → Tables
+move_constraints Clauses tables moves = move_clauses tables moves
+move_constraints Parities tables moves = move_parities tables moves
 
 abbrev pub is_clauses : Kind → Bool
 is_clauses Clauses = true

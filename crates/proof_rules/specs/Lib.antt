@@ -1,5 +1,6 @@
 pub mod Judges
 pub mod Kinds
+pub mod Moving
 pub mod KeptLists
 pub mod Sums
 pub mod LiteralSets

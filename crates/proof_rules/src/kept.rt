@@ -1,14 +1,19 @@
 //! Lists of literals, as a table keeps them.
 ghost use Rattle.std.specs.Prelude.{◌≡◌, ◌+◌, ◌≤◌, ◌++◌, IfOk, OnOk, OnErr, MatchOption, None, Some, length, vec_len, vec_capacity};
 ghost use Rattle.std.specs.FinMap as map;
+ghost use Rattle.cx_semantics.specs.LogRules.{moving};
+ghost use Rattle.cx_semantics.specs.Moves.{moved};
+ghost use Rattle.proof_rules.specs.Judges.{JudgesBy};
 ghost use Rattle.proof_rules.specs.KeptLists.{literals_at};
 ghost use Rattle.proof_rules.specs.Places.{HasKeys};
 
 use crate::id_map::IdMap;
 use crate::page::Filler;
-use cx_base::Lit;
+use crate::refusal::JudgeRefusal;
+use cx_base::{IdMove, Lit};
 use std::alloc::{AllocError, Global};
 use std::marker::Model;
+use std::mem;
 
 /// How many literals stand behind one another at most, those of lists that went among them.
 const MAX_LITERALS: usize = 4_294_967_295;
@@ -201,6 +206,22 @@ impl KeptLists {
         let len = len_of(&self.spans, id);
         self.spans.remove(id);
         self.live = self.live.saturating_sub(len);
+    }
+
+    /// Moves lists under other ids, all at once, where the rules of a move hold. No literal is copied. After an error the lists
+    /// are spoilt.
+    pub(crate) fn judge_and_move(&mut self, moves: &[IdMove]) -> Result<(), JudgeRefusal>
+        ensures judged { JudgesBy (moving self.old moves.now) result }
+        ensures moved { OnOk result (self.new ≡ moved self.old moves.now) }
+    {
+        let alloc = *self.lits.allocator();
+        // They come back when all are moved, so that a map that is spoilt has no span.
+        let mut spans = mem::replace(&mut self.spans, IdMap::new(alloc));
+        let judged = spans.judge_and_move(alloc, moves);
+        if judged.is_ok() {
+            self.spans = spans;
+        }
+        judged
     }
 
     /// Whether a third of the literals or more are those of lists that went.

@@ -13,6 +13,7 @@ mod kept;
 mod literal_set;
 mod live;
 mod marks;
+mod moving;
 mod named;
 mod page;
 mod parity_clause;

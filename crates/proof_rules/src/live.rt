@@ -1,11 +1,14 @@
 //! The live clauses and parities of a proof, by their ids.
 ghost use Rattle.std.specs.Prelude.{◌≡◌, IfOk, OnOk, OnErr, [], ◌∷◌, MatchOption, None, Some};
 ghost use Rattle.cx_semantics.specs.Tables.{get, is_live, no_tables, first_tables};
-ghost use Rattle.proof_rules.specs.Kinds.{chosen, put_constraint, drop_constraints, ListsLive};
+ghost use Rattle.cx_semantics.specs.LogRules.{moving};
+ghost use Rattle.proof_rules.specs.Judges.{JudgesBy};
+ghost use Rattle.proof_rules.specs.Kinds.{chosen, put_constraint, drop_constraints, move_constraints, ListsLive};
 
 use crate::first::Numbered;
+use crate::refusal::JudgeRefusal;
 use crate::table::LiveTable;
-use cx_base::{Formula, IdList, Lit};
+use cx_base::{Formula, IdList, IdMove, Lit};
 use std::alloc::{AllocError, Global};
 use std::marker::Model;
 
@@ -105,6 +108,20 @@ impl<'f> Live<'f> {
         match kind {
             Kind::Clauses => self.clauses.remove(id),
             Kind::Parities => self.parities.remove(id),
+        }
+    }
+
+    /// Moves constraints of a kind under other ids, all at once, where the rules of a move hold. After an error the tables are
+    /// spoilt.
+    ///
+    /// It costs the moves, and no literals but those of a constraint of the formula when it first leaves its number.
+    pub fn judge_and_move(&mut self, kind: Kind, moves: &[IdMove]) -> Result<(), JudgeRefusal>
+        ensures judged { JudgesBy (moving (chosen kind self.old) moves.now) result }
+        ensures moved { OnOk result (self.new ≡ move_constraints kind self.old moves.now) }
+    {
+        match kind {
+            Kind::Clauses => self.clauses.judge_and_move(moves),
+            Kind::Parities => self.parities.judge_and_move(moves),
         }
     }
 }

@@ -1,13 +1,17 @@
 //! One table of live constraints, by their ids.
-ghost use Rattle.std.specs.Prelude.{◌≡◌, OnOk, OnErr, IfOk, MatchOption, None, Some};
+ghost use Rattle.std.specs.Prelude.{◌≡◌, ℕ, OnOk, OnErr, IfOk, MatchOption, None, Some, get_or};
 ghost use Rattle.std.specs.FinMap as map;
+ghost use Rattle.cx_semantics.specs.LogRules.{moving};
+ghost use Rattle.cx_semantics.specs.Moves.{moved};
 ghost use Rattle.cx_semantics.specs.Tables.{get, is_live, numbered_from};
-ghost use Rattle.proof_rules.specs.FirstLists.{lists_of};
+ghost use Rattle.proof_rules.specs.FirstLists.{lists_of, AreElsewhere, behind};
+ghost use Rattle.proof_rules.specs.Judges.{JudgesBy};
 ghost use Rattle.proof_rules.specs.Kinds.{ListsLive};
 
 use crate::first::{FirstLists, Numbered};
 use crate::kept::KeptLists;
-use cx_base::{IdList, Lit};
+use crate::refusal::JudgeRefusal;
+use cx_base::{IdList, IdMove, Lit};
 use std::alloc::{AllocError, Global};
 use std::marker::Model;
 
@@ -30,6 +34,37 @@ impl<'f> Model for LiveTable<'f> {
     ghost coded = { table_code };
 
     ghost view = { λ a. map.from_entries (entries_of a.first ++ map.entries a.lists) };
+}
+
+/// A list of the formula under this id is copied, if there is one, and stands among the others.
+fn copy_first(first: &mut FirstLists, lists: &mut KeptLists, id: u64) -> Result<(), AllocError>
+    ensures same { behind first.new lists.new ≡ behind first.old lists.old }
+    ensures none { OnOk result (get_or first.new id None ≡ None) }
+    ensures fewer { (q : ℕ) → get_or first.old q None ≡ None → get_or first.new q None ≡ None }
+{
+    if let Some(lits) = first.get(id) {
+        lists.insert(id, lits)?;
+        first.clear(id);
+    }
+    Ok(())
+}
+
+/// Lists of the formula under ids that are moved, old and new, are copied, and stand among the others. Each list is copied
+/// once, since it never comes back.
+fn copy_moved(
+    first: &mut FirstLists,
+    lists: &mut KeptLists,
+    moves: &[IdMove],
+) -> Result<(), AllocError>
+    ensures same { OnOk result (behind first.new lists.new ≡ behind first.old lists.old) }
+    ensures none { OnOk result (AreElsewhere first.new moves.now) }
+{
+    for place in 0..moves.len() {
+        let IdMove { from, to } = moves[place];
+        copy_first(first, lists, from)?;
+        copy_first(first, lists, to)?;
+    }
+    Ok(())
 }
 
 impl<'f> LiveTable<'f> {
@@ -99,5 +134,16 @@ impl<'f> LiveTable<'f> {
     {
         self.first.clear(id);
         self.lists.remove(id);
+    }
+
+    /// Moves lists under other ids, all at once, where the rules of a move hold. After an error the table is spoilt.
+    ///
+    /// It costs the moves, and what is copied: a list of the formula, when it first leaves its number.
+    pub(crate) fn judge_and_move(&mut self, moves: &[IdMove]) -> Result<(), JudgeRefusal>
+        ensures judged { JudgesBy (moving self.old moves.now) result }
+        ensures moved { OnOk result (self.new ≡ moved self.old moves.now) }
+    {
+        copy_moved(&mut self.first, &mut self.lists, moves)?;
+        self.lists.judge_and_move(moves)
     }
 }

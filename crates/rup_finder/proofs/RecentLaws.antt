@@ -1,14 +1,22 @@
 -- Engines that hold a part of a table.
-use Rattle.std.proofs.Common.{◌≡◌, refl, sym, ap, ◌∙◌, subst, ℕ, true, List, [], ◌∷◌, Option, Some, None, MatchOption, is_some, inl, inr, true≢false}
-use Rattle.std.proofs.lemmas.Bool.{cases_eq}
+use Rattle.std.proofs.Common.{◌≡◌, refl, sym, ap, ◌∙◌, subst, ℕ, Bool, true, false, cond, not, nat_eq, List, [], ◌∷◌, Option, Some, None, MatchOption, is_some, Result, Ok, Err, is_ok, inl, inr, true≢false}
+use Rattle.std.proofs.lemmas.Bool.{cases_eq, or_parts, or_cases}
 use Rattle.std.proofs.lemmas.Option.{none-some}
-use Rattle.std.specs.List.{cons_option}
+use Rattle.std.specs.List.{cons_option, list_any}
+use Rattle.cx_base.specs.declared.id_moves.IdMove.{IdMove}
+use Rattle.cx_semantics.specs.Judging.{Rule, AllHold}
+use Rattle.proof_rules.specs.Judges.{JudgesBy}
+use Rattle.proof_rules.specs.declared.refusal.JudgeRefusal.{JudgeRefusal}
+use Rattle.cx_semantics.specs.Moves.{old_ids, new_ids, names_twice, without_ids, moved}
+use Rattle.cx_semantics.proofs.MoveLaws.{get-without, same_nat}
+use Rattle.rup_engine.specs.Moving.{AreApart}
+use Rattle.rup_engine.proofs.MovingLaws.{moved_at, moved_from}
 use Rattle.std.specs.Ordering.{nat_cmp}
 use Rattle.std.specs.FinMap as map
 use Rattle.cx_base.specs.Literals.{Literal}
 use Rattle.cx_semantics.specs.Chain.{IsChain}
 use Rattle.cx_semantics.specs.Tables.{Table, get, named, is_live}
-use Rattle.cx_semantics.specs.LogRules.{AreLive}
+use Rattle.cx_semantics.specs.LogRules.{AreLive, moving}
 use Rattle.rup_engine.specs.Finding.{IsAtRest, Holds, Answers}
 use Rattle.rup_engine.specs.declared.answer.Answer.{Answer}
 use Rattle.rup_engine.specs.declared.answer.Answer.TheVariants.{Chain}
@@ -66,6 +74,58 @@ pub recent_gone : (table : Table) (id : ℕ) (old new : Option Engine) → ((par
 recent_gone table id old new step h =
     let w = as_part table old h in
     by_part (map.remove w.0 id) (map.remove table id) new (gone_inside w.0 table id w.1) (step w.0 w.2)
+
+-- clauses come under other ids
+moved_inside : (part table : Table) (moves : List IdMove) → AreApart table moves → AreApart part moves → IsPartOf part table → IsPartOf (moved part moves) (moved table moves)
+moved_inside part table moves whole apart inside n c f =
+    let w = moved_from part moves apart n c f in
+    ap (get (moved table moves)) (sym w.2) ∙ moved_at table moves whole w.0 c (inside w.0 c w.1)
+
+pub apart_part : (part table : Table) (moves : List IdMove) → IsPartOf part table → AreApart table moves → AreApart part moves
+apart_part part table moves inside apart = (apart.0, apart.1, λ n new old. at n new old (get part n) refl)
+  where
+    at : (n : ℕ) → list_any (nat_eq n) (new_ids moves) ≡ true → list_any (nat_eq n) (old_ids moves) ≡ false → (o : Option (List Literal)) → get part n ≡ o → get part n ≡ None
+    at n new old None is = is
+    at n new old (Some c) is = absurd (none-some c (sym (apart.2 n new old) ∙ inside n c is))
+
+pub apart_recent : (table : Table) (moves : List IdMove) (e : Option Engine) → AreApart table moves → IsRecent table e → (part : Table) × AreApart part moves × IsReady part e
+apart_recent table moves e apart h = let w = as_part table e h in (w.0, apart_part w.0 table moves w.1 apart, w.2)
+
+pub recent_moved : (table : Table) (moves : List IdMove) (old new : Option Engine) → AreApart table moves → ((part : Table) → AreApart part moves → IsReady part old → IsReady (moved part moves) new) → IsRecent table old
+    → IsRecent (moved table moves) new
+recent_moved table moves old new apart step h =
+    let w = as_part table old h in
+    let less = apart_part w.0 table moves w.1 apart in
+    by_part (moved w.0 moves) (moved table moves) new (moved_inside w.0 table moves apart less w.1) (step w.0 less w.2)
+
+pub right_by : {T : Type 0} (rules : List Rule) (r : Result T JudgeRefusal) → is_ok r ≡ true → JudgesBy rules r → AllHold rules
+right_by rules (Ok x) ok h = h
+right_by rules (Err e) ok h = absurd (true≢false (sym ok))
+
+-- a right move leaves ids apart
+pub apart_by : (table : Table) (moves : List IdMove) → AllHold (moving table moves) → AreApart table moves
+apart_by table moves right = (olds.1, news.1, λ n new old. at n new old (get table n) refl)
+  where
+    olds : (list_any (λ n. not (is_live table n)) (old_ids moves) ≡ false) × (names_twice (old_ids moves) ≡ false)
+    olds = or_parts (list_any (λ n. not (is_live table n)) (old_ids moves)) (names_twice (old_ids moves)) right.0
+
+    news : (list_any (is_live (without_ids table (old_ids moves))) (new_ids moves) ≡ false) × (names_twice (new_ids moves) ≡ false)
+    news = or_parts (list_any (is_live (without_ids table (old_ids moves))) (new_ids moves)) (names_twice (new_ids moves)) right.1.0
+
+    none_so : (p : ℕ → Bool) (ns : List ℕ) (n : ℕ) → list_any p ns ≡ false → list_any (nat_eq n) ns ≡ true → p n ≡ false
+    none_so p [] n none is = absurd (true≢false (sym is))
+    none_so p (k ∷ ns) n none is =
+        let w = or_parts (p k) (list_any p ns) none in
+        elim (or_cases (nat_eq n k) (list_any (nat_eq n) ns) is) [
+          | inl e ↦ ap p (same_nat n k e) ∙ w.0
+          | inr g ↦ none_so p ns n w.1 g
+        ]
+
+    at : (n : ℕ) → list_any (nat_eq n) (new_ids moves) ≡ true → list_any (nat_eq n) (old_ids moves) ≡ false → (o : Option (List Literal)) → get table n ≡ o → get table n ≡ None
+    at n new old None is = is
+    at n new old (Some c) is =
+        let live : get (without_ids table (old_ids moves)) n ≡ Some c = get-without (old_ids moves) table n ∙ ap (λ b. cond b None (get table n)) old ∙ is in
+        absurd (true≢false (sym (ap is_some live) ∙ none_so (is_live (without_ids table (old_ids moves))) (new_ids moves) n news.0 new))
 
 -- the table's clause of this id has come in, if there is one
 pub recent_more : (table : Table) (id : ℕ) (old new : Option Engine)

@@ -1,27 +1,29 @@
 //! Live clauses, and chains over them.
-ghost use Rattle.std.specs.Prelude.{◌≡◌, ◌≤◌, IfOk, IfSome, OnOk, OnErr, [], ◌∷◌, MatchOption, None, Some, length, take};
+ghost use Rattle.std.specs.Prelude.{◌≡◌, ◌≤◌, IfOk, IfErr, IfSome, OnOk, OnErr, [], ◌∷◌, MatchOption, None, Some, length, take};
 ghost use Rattle.cx_semantics.specs.Chain.{IsChain};
 ghost use Rattle.cx_base.specs.Integers.{sizes};
-ghost use Rattle.cx_semantics.specs.LogRules.{AreLive, HasChain};
-ghost use Rattle.proof_rules.specs.declared.live.Kind.TheVariants.{Clauses};
-ghost use Rattle.proof_rules.specs.Kinds.{chosen, put_constraint, drop_constraints};
+ghost use Rattle.cx_semantics.specs.Judging.{AllHold};
+ghost use Rattle.cx_semantics.specs.LogRules.{AreLive, HasChain, moving};
+ghost use Rattle.proof_rules.specs.Judges.{IsRefusedBy};
+ghost use Rattle.proof_rules.specs.declared.live.Kind.TheVariants.{Clauses, Parities};
+ghost use Rattle.proof_rules.specs.Kinds.{chosen, put_constraint, drop_constraints, move_constraints};
 ghost use Rattle.cx_semantics.specs.Tables.{is_live, named, no_tables};
 ghost use Rattle.rup_engine.specs.Finding.{Answers};
 ghost use Rattle.rup_finder.specs.Front.{IsLiveChain, NoneNegative};
 
 use crate::front::chain_length;
-use crate::ready::{ask, put_in, ready, take_out};
+use crate::ready::{ask, keep_if, move_in, put_in, ready, take_out};
 use crate::recent::{Recent, limit_beside};
 use crate::search::find;
-use cx_base::{Formula, IdList, Lit};
-use proof_rules::{Kind, LiteralSet, Live};
+use cx_base::{Formula, IdList, IdMove, Lit};
+use proof_rules::{JudgeRefusal, Kind, LiteralSet, Live};
 use rup_engine::{Answer, Engine};
 use std::alloc::{AllocError, Global};
 use std::marker::Model;
 
 /// The live clauses and parities of a log, and where a chain was asked for the clauses by their watched literals.
 ///
-/// What is added or removed costs its own literals, and what was propagated from it.
+/// What is added or removed costs its own literals, and what was propagated from it. What comes under another id costs the ids.
 #[derive(Drop)]
 pub struct IndexedClauses<'f> {
     live: Live<'f>,
@@ -147,6 +149,58 @@ impl<'f> IndexedClauses<'f> {
                 }
             }
             Kind::Parities => self.live.remove(Kind::Parities, id),
+        }
+    }
+
+    /// Moves clauses under other ids, in the engines too, where the rules of a move hold. After an error the tables are spoilt, and
+    /// no engine is left.
+    fn move_clauses(&mut self, alloc: Global, moves: &[IdMove]) -> Result<(), JudgeRefusal>
+        ensures right { OnOk result (AllHold (moving self.old.clauses moves.now)) }
+        ensures moved { OnOk result (self.new ≡ move_constraints Clauses self.old moves.now) }
+        ensures err { IfErr result (IsRefusedBy (moving self.old.clauses moves.now)) }
+    {
+        let judged = self.live.judge_and_move(Kind::Clauses, moves);
+        if judged.is_ok() {
+            move_in(&mut self.engine, alloc, moves);
+            move_in(&mut self.recent.engine, alloc, moves);
+        } else {
+            self.engine = None;
+            self.recent.engine = None;
+        }
+        judged
+    }
+
+    /// Moves parities under other ids, where the rules of a move hold. After an error the tables are spoilt, and no engine is left.
+    fn move_parities(&mut self, moves: &[IdMove]) -> Result<(), JudgeRefusal>
+        ensures right { OnOk result (AllHold (moving self.old.parities moves.now)) }
+        ensures moved { OnOk result (self.new ≡ move_constraints Parities self.old moves.now) }
+        ensures err { IfErr result (IsRefusedBy (moving self.old.parities moves.now)) }
+    {
+        let judged = self.live.judge_and_move(Kind::Parities, moves);
+        if judged.is_err() {
+            self.engine = None;
+            self.recent.engine = None;
+        }
+        judged
+    }
+
+    /// Moves constraints of this kind under other ids, all at once, where the rules of a move hold. After an error the tables are
+    /// spoilt.
+    ///
+    /// It costs the moves. What was propagated stays.
+    pub fn judge_and_move(
+        &mut self,
+        alloc: Global,
+        kind: Kind,
+        moves: &[IdMove],
+    ) -> Result<(), JudgeRefusal>
+        ensures right { OnOk result (AllHold (moving (chosen kind self.old) moves.now)) }
+        ensures moved { OnOk result (self.new ≡ move_constraints kind self.old moves.now) }
+        ensures err { IfErr result (IsRefusedBy (moving (chosen kind self.old) moves.now)) }
+    {
+        match kind {
+            Kind::Clauses => self.move_clauses(alloc, moves),
+            Kind::Parities => self.move_parities(moves),
         }
     }
 

@@ -1,13 +1,15 @@
 //! An engine that is ready for a search.
 ghost use Rattle.std.specs.Prelude.{◌≡◌, ◌≤◌, ◌+◌, IfOk, MatchOption, None, true, false};
 ghost use Rattle.std.specs.FinMap as map;
+ghost use Rattle.cx_semantics.specs.Moves.{moved};
 ghost use Rattle.cx_semantics.specs.Tables.{Table, get};
 ghost use Rattle.cx_base.specs.declared.literal.TheConstants.{MAX_VARIABLE};
+ghost use Rattle.rup_engine.specs.Moving.{AreApart};
 ghost use Rattle.rup_engine.specs.Standing.{IsWithin};
 ghost use Rattle.rup_engine.specs.Finding.{IsAtRest, Holds, Answers};
 ghost use Rattle.rup_finder.specs.Ready.{IsReady, IsReadyFor};
 
-use cx_base::{Lit, MAX_VARIABLE};
+use cx_base::{IdMove, Lit, MAX_VARIABLE};
 use proof_rules::Live;
 use rup_engine::{Answer, Engine};
 use std::alloc::{AllocError, Global};
@@ -197,4 +199,16 @@ pub fn take_out(engine: &mut Option<Engine>, id: u64)
         None => true,
     };
     keep_if(stays, engine);
+}
+
+/// Clauses of an engine come under other ids, all at once. Without memory the engine goes.
+pub fn move_in(engine: &mut Option<Engine>, alloc: Global, moves: &[IdMove])
+    requires { (table : Table) × AreApart table moves.now × IsReady table engine.old }
+    ensures { (table : Table) → AreApart table moves.now → IsReady table engine.old → IsReady (moved table moves.now) engine.new }
+{
+    let done = match engine {
+        Some(held) => held.move_ids(alloc, moves),
+        None => Ok(()),
+    };
+    keep_if(done.is_ok(), engine);
 }

@@ -6,4 +6,4 @@ pub returns-clause-taken : goal.returns-clause-taken
 returns-clause-taken c = λ formula.
     let state = c.args.state.now in
     takes_lent_clause_moves formula state (record { live = _; clauses = _; parities = _; marks = state.marks; spare = state.spare }) c.args.moves _ _ c.as_slice.ensures c.as_slice-2.ensures
-    c.in_ok-move_live.ensures.right c.in_ok-move_live.ensures.moved c.in_ok-move_all.ensures refl
+    c.in_ok-judge_and_move.ensures.right c.in_ok-judge_and_move.ensures.moved c.in_ok-move_all.ensures refl

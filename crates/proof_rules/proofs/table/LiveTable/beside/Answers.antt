@@ -1,5 +1,6 @@
 use Rattle.std.proofs.Common.{◌∙◌}
-use Rattle.proof_rules.proofs.TableLaws.{behind, none_behind}
+use Rattle.proof_rules.specs.FirstLists.{behind}
+use Rattle.proof_rules.proofs.TableLaws.{none_behind}
 use Rattle.proof_rules.proofs.table.LiveTable.beside.Goals as goal
 
 pub returns : goal.returns

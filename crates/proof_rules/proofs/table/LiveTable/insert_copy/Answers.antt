@@ -2,7 +2,8 @@ use Rattle.std.proofs.Common.{◌≡◌, ◌∙◌, ap, subst, set, None}
 use Rattle.std.specs.Bool.{MatchBool}
 use Rattle.std.specs.FinMap as map
 use Rattle.proof_rules.specs.FirstLists.{StandsThere}
-use Rattle.proof_rules.proofs.TableLaws.{behind, insert-behind, restore-behind}
+use Rattle.proof_rules.specs.FirstLists.{behind}
+use Rattle.proof_rules.proofs.TableLaws.{insert-behind, restore-behind}
 use Rattle.proof_rules.proofs.table.LiveTable.insert_copy.Goals as goal
 
 pub returns-then-branch-clause-ok : goal.returns-then-branch-clause-ok

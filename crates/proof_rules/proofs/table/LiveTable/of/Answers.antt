@@ -1,6 +1,7 @@
 use Rattle.std.proofs.Common.{◌∙◌}
 use Rattle.proof_rules.specs.FirstLists.{lists_of}
-use Rattle.proof_rules.proofs.TableLaws.{behind, first_behind}
+use Rattle.proof_rules.specs.FirstLists.{behind}
+use Rattle.proof_rules.proofs.TableLaws.{first_behind}
 use Rattle.proof_rules.proofs.table.LiveTable.of.Goals as goal
 
 pub returns : goal.returns

@@ -1,6 +1,7 @@
 use Rattle.std.proofs.Common.{◌∙◌, ap}
 use Rattle.std.specs.FinMap as map
-use Rattle.proof_rules.proofs.TableLaws.{behind, remove-behind}
+use Rattle.proof_rules.specs.FirstLists.{behind}
+use Rattle.proof_rules.proofs.TableLaws.{remove-behind}
 use Rattle.proof_rules.proofs.table.LiveTable.remove.Goals as goal
 
 pub returns : goal.returns
