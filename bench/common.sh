@@ -70,6 +70,20 @@ run() {
     fi
 }
 
+# The least user and system time of a command in so many runs, in seconds; $2 is the exit status that it must have.
+least() {
+    local runs=$1 status=$2 best=999 took had run TIMEFORMAT='%U %S'
+    shift 2
+    for ((run = 0; run < runs; run++)); do
+        rm -f "$work/out" "$work/copy"
+        had=0
+        took=$({ time "$@" > "$work/output" 2>&1 || had=$?; echo "$had" > "$work/status"; } 2>&1 | awk '{ print $1 + $2 }')
+        [ "$(cat "$work/status")" = "$status" ] || { echo "$*: status $(cat "$work/status")" >&2; exit 1; }
+        best=$(awk -v a="$best" -v b="$took" 'BEGIN { print a < b ? a : b }')
+    done
+    echo "$best"
+}
+
 # The least processor times of two functions of the script in fifteen runs of each, turn about: the user's and the system's together,
 # since the system tells these apart by samples, and only their sum is exact in short runs. With each function comes a line that it must
 # print, and before both a file that the first one makes, or any name where it makes none.

@@ -1,6 +1,6 @@
 #!/usr/bin/env bash
-# Runs all measurements in one go, on inputs made from seeds, and writes them as one table into bench/RESULTS.md, behind
-# its head: what stands before "## The tables" is written by hand and stays.
+# Runs all measurements in one go, on inputs made from seeds, and writes them as one table into bench/RESULTS.md, after
+# its head: what is before "## The tables" is written by hand and stays.
 # The peers are Debian's packages: apt-get install minisat cryptominisat cadical valgrind time gcc
 # usage: bench/run.sh [FILE [LANES]]     (more than an hour in one lane once the program is built; nothing else should run meanwhile)
 # With more lanes so many scripts run side by side: each row still compares what one script ran one behind the other. One of them,
@@ -19,7 +19,7 @@ version() {
 
 # The longest come first. Each writes its rows into a file of its own.
 load=$(cut -d' ' -f1 /proc/loadavg)
-printf '%s\n' "${scripts[@]}" | xargs -P "$lanes" -I NAME bash -c "'$here/NAME.sh' > '$work/NAME.rows' || { echo 'NAME.sh failed' >&2; exit 1; }"
+printf '%s\n' "${scripts[@]}" | xargs -P "$lanes" -I NAME bash -c "'$here'/*/NAME.sh > '$work/NAME.rows' || { echo 'NAME.sh failed' >&2; exit 1; }"
 
 {
     sed '/^## The tables/,$d' "$results"
@@ -27,7 +27,7 @@ printf '%s\n' "${scripts[@]}" | xargs -P "$lanes" -I NAME bash -c "'$here/NAME.s
 ## The tables
 
 Made by \`bench/run.sh\` in one run, $lanes of its scripts at a time. Times are processor time of whole processes, one run each (the reader: the best of
-five; elaborating, trimming and random parities' solutions: the least of fifteen). The last column is cxsat's number over that of what stands
+five; elaborating, trimming and random parities' solutions: the least of fifteen). The last column is cxsat's number over that of what is
 beside it: below 1 cxsat took less, but in the row of propagation, where above 1 it did more. Where a peer was cut off, the ratio is over the limit and so an upper bound.
 
 - date: $(date -u +%F), commit $(git -C "$here" rev-parse --short HEAD)
@@ -42,7 +42,7 @@ TEXT
         cat "$work/$script.rows"
     done
     echo
-    echo "Texts at the limits (\`bench/hostile.sh\`): $(grep -c '^as wanted' "$work/hostile.rows") tried, $(tail -n 1 "$work/hostile.rows")."
+    echo "Texts at the limits (\`bench/hostile/hostile.sh\`): $(grep -c '^as wanted' "$work/hostile.rows") tried, $(tail -n 1 "$work/hostile.rows")."
 } > "$work/results"
 cp "$work/results" "$results"
 echo "written: $results"

@@ -1,14 +1,14 @@
 #!/usr/bin/env bash
 # Refuses each growth of memory in turn: for each command and each N up to the number of growths of its run, the Nth growth
 # is refused. Each time the status must be 6, with nothing on standard output, or the run's own with the run's own output.
-# usage: bench/refused.sh [MOST]     (at most MOST growths of each command are refused, 3,000 by default, evenly spread)
+# usage: bench/hostile/refused.sh [MOST]     (at most MOST growths of each command are refused, 3,000 by default, evenly spread)
 set -euo pipefail
-source "$(dirname "$0")/common.sh"
+source "$(dirname "$0")/../common.sh"
 need gcc
 build
 most=${1:-3000}
 program=$here/../crates/cxsat/out/cxsat
-gcc -O2 -shared -fPIC -o "$work/refused.so" "$here/refused_growth.c" -ldl
+gcc -O2 -shared -fPIC -o "$work/refused.so" "$here/hostile/refused_growth.c" -ldl
 wrong=0
 
 # One run with a growth refused, none where the number is 0. Its status stands in $status, its output in a file.
@@ -39,8 +39,8 @@ try() {
     echo "$what (status $own): $growths growths, $tried refused in turn, $sixes ended with 6"
 }
 
-"$here/planted.py" odd 40 1 > "$work/formula"
-"$here/planted.py" even 40 1 > "$work/even"
+"$here/make/planted.py" odd 40 1 > "$work/formula"
+"$here/make/planted.py" even 40 1 > "$work/even"
 "$program" solve "$work/formula" --proof "$work/log" > "$work/answer" || true
 "$program" elab "$work/formula" "$work/log" "$work/proof" > "$work/answer"
 "$program" solve "$work/even" > "$work/values" || true

@@ -1,6 +1,6 @@
 #!/usr/bin/env bash
 # Times propagation by watched literals beside minisat on one random formula of clauses of three literals.
-# usage: bench/propagate.sh [SEED] [CLAUSES] [VARIABLES] [SECONDS] [LITERALS]
+# usage: bench/measure/propagate.sh [SEED] [CLAUSES] [VARIABLES] [SECONDS] [LITERALS]
 # By default: seed 1, 1,000,000 clauses over 300,000 variables, 30 seconds for minisat, and 20,000,000 literals for the
 # program below. minisat is Debian's package (apt-get install minisat); without it the status is 2.
 # The program decides the variables in order of number with random signs up to a conflict, begins again from an empty
@@ -12,7 +12,7 @@
 # number by minisat's count is between its two. Seconds are processor time of the whole process, reading included.
 # The program is proved, built and run in a folder of its own; where nothing was proved before it takes some minutes.
 set -euo pipefail
-source "$(dirname "$0")/common.sh"
+source "$(dirname "$0")/../common.sh"
 need minisat
 seed=${1:-1}
 clauses=${2:-1000000}
@@ -20,11 +20,11 @@ vars=${3:-300000}
 limit=${4:-30}
 literals=${5:-20000000}
 if [ "$vars" -lt 3 ]; then
-    echo "bench/propagate.sh: a clause has three different variables" >&2
+    echo "bench/measure/propagate.sh: a clause has three different variables" >&2
     exit 2
 fi
 formula="$work/formula.cnf"
-awk -v seed="$seed" -v clauses="$clauses" -v vars="$vars" -f "$here/make_clauses.awk" > "$formula"
+awk -v seed="$seed" -v clauses="$clauses" -v vars="$vars" -f "$here/make/clauses.awk" > "$formula"
 # A run of one round proves and builds the program; it is timed afterwards, alone.
 stand_on propagate_times 'cx_base cnfx_reader cx_trail clause_arena watch_lists' \
     cx_base cx_texts cx_desk cnfx_reader cx_trail clause_arena watch_lists

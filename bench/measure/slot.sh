@@ -1,11 +1,11 @@
 #!/usr/bin/env bash
 # Times the reading of a proof's steps and its check over a slot, piece by piece, beside the same over a slice of the whole text,
 # and the check of a chain beside the reading of its steps. Both are timed in one process, the best of ROUNDS.
-# usage: bench/slot.sh [CHAIN [HOLES [ROUNDS]]]     (1,000,000 steps of a chain, 14 pigeonholes, 5)
+# usage: bench/measure/slot.sh [CHAIN [HOLES [ROUNDS]]]     (1,000,000 steps of a chain, 14 pigeonholes, 5)
 # The slot is that of a desk in memory. The program is proved, built and run in a folder of its own; it takes a few minutes where
 # nothing was proved before.
 set -euo pipefail
-source "$(dirname "$0")/common.sh"
+source "$(dirname "$0")/../common.sh"
 chain=${1:-1000000} holes=${2:-14} rounds=${3:-5}
 stand_on steps_times 'cx_base cx_desk cnfx_reader step_text proof_text xlrup_check' \
     cx_base cx_semantics cx_texts cx_desk cnfx_reader step_text proof_text proof_rules xlrup_check
@@ -24,7 +24,7 @@ milliseconds() {
 
 measure() {
     local what=$1 kind=$2 size=$3 slice slot read_slice read_slot
-    awk -v kind="$kind" -v size="$size" -v formula="$work/formula" -v proof="$work/proof" -f "$here/make_proof.awk"
+    awk -v kind="$kind" -v size="$size" -v formula="$work/formula" -v proof="$work/proof" -f "$here/make/proof.awk"
     read -r read_slice read_slot <<< "$(least reading)"
     read -r slice slot <<< "$(least check)"
     what="$what $size, $(megabytes "$work/proof")"

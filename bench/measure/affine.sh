@@ -5,9 +5,9 @@
 # How long a basis is depends on the numbers of the variables. Where a chain's own variables come before all shared ones, it is as long as
 # the formula; where they take turns, a line of it has every second variable below its last, so that the answer grows with the square.
 # Answers are held against the parities: the point meets each, and each line of the basis has an even number of its variables.
-# usage: bench/affine.sh [SIZE [CHAIN [APART [VARIABLES]]]]     (2,000, 20,000, 100,000 and 1,000,000)
+# usage: bench/measure/affine.sh [SIZE [CHAIN [APART [VARIABLES]]]]     (2,000, 20,000, 100,000 and 1,000,000)
 set -euo pipefail
-source "$(dirname "$0")/common.sh"
+source "$(dirname "$0")/../common.sh"
 need /usr/bin/time
 build
 limit=600 clock='%U %S'
@@ -18,7 +18,7 @@ solving() { "$program" solve "$work/formula" || true; }
 
 # A formula of this kind and size.
 make() {
-    awk -v kind="$1" -v size="$2" -v seed=1 -v form=x -f "$here/make_instance.awk"
+    awk -v kind="$1" -v size="$2" -v seed=1 -v form=x -f "$here/make/instance.awk"
 }
 
 # Ends the script unless what $work/answer tells of the formula is so, as far as the parities alone show it.

@@ -6,27 +6,13 @@
 #   answers on the given one, that `cxsat model` judges the values of each right on the given one, and that `cxsat solve` finds each piece
 #   of each parity in the clauses again: in its log each piece is a parity that comes from clauses.
 # A peer that is not there is left out.
-# usage: bench/blast.sh [PARITIES [FORMULAS]]     (1,000,000 and 40)
+# usage: bench/measure/blast.sh [PARITIES [FORMULAS]]     (1,000,000 and 40)
 set -euo pipefail
-source "$(dirname "$0")/common.sh"
+source "$(dirname "$0")/../common.sh"
 need python3
 build
 parities=${1:-1000000}
 formulas=${2:-40}
-
-# The least user and system time of a command in three runs, in seconds; $1 is the exit status that it must have.
-least() {
-    local status=$1 best=999 took had TIMEFORMAT='%U %S'
-    shift
-    for _ in 1 2 3; do
-        rm -f "$work/out" "$work/copy"
-        had=0
-        took=$({ time "$@" > "$work/output" 2>&1 || had=$?; echo "$had" > "$work/status"; } 2>&1 | awk '{ print $1 + $2 }')
-        [ "$(cat "$work/status")" = "$status" ] || { echo "$*: status $(cat "$work/status")" >&2; exit 1; }
-        best=$(awk -v a="$best" -v b="$took" 'BEGIN { print a < b ? a : b }')
-    done
-    echo "$best"
-}
 
 # Parities of three variables that are drawn from a seed.
 measure() {
@@ -46,11 +32,11 @@ measure() {
             }
         }' > "$work/formula"
     { cat "$work/formula"; echo stop; } > "$work/stopped"
-    own=$(least 0 "$program" blast "$work/formula" "$work/out")
+    own=$(least 3 0 "$program" blast "$work/formula" "$work/out")
     grep -qx "c clauses $((4 * count))" "$work/output"
     cp "$work/out" "$work/made"
-    reading=$(least 3 "$program" check "$work/stopped" "$work/formula")
-    writing=$(least 0 bash -c 'cat "$1" > "$2"' - "$work/made" "$work/copy")
+    reading=$(least 3 3 "$program" check "$work/stopped" "$work/formula")
+    writing=$(least 3 0 bash -c 'cat "$1" > "$2"' - "$work/made" "$work/copy")
     beside=$(awk -v a="$reading" -v b="$writing" 'BEGIN { print a + b }')
     row 'putting into clauses' "$count parities of three variables: $(megabytes "$work/formula") to $(megabytes "$work/made")" \
         "$own s" "reading it: $reading s; writing as many bytes: $writing s" "$(ratio "$own" "$beside")"

@@ -1,11 +1,11 @@
 #!/usr/bin/env bash
 # Times `cxsat elab` on a log and on the same log with moves of ids in it, whose proofs must be the same byte by byte: on logs that
-# `solve` writes with moves drawn by bench/moves.py, and on logs of a million steps every tenth of which moves a hundred ids, one of an
+# `solve` writes with moves drawn by bench/make/moves.py, and on logs of a million steps every tenth of which moves a hundred ids, one of an
 # implication chain with the least steps that there are and one of pigeonholes whose clauses are wide. Each is measured at half its
 # size too. With another program of the same commands in BEFORE its instructions on the logs without moves stand beside.
-# usage: [BEFORE=PROGRAM] bench/moves.sh [CHAIN [HOLES]]
+# usage: [BEFORE=PROGRAM] bench/measure/moves.sh [CHAIN [HOLES]]
 set -euo pipefail
-source "$(dirname "$0")/common.sh"
+source "$(dirname "$0")/../common.sh"
 need valgrind
 build
 
@@ -33,7 +33,7 @@ counted() {
 judge() {
     local what=$1 both plain moved before now
     shift
-    python3 "$here/moves.py" "$@" < "$work/plain.log" > "$work/moved.log"
+    python3 "$here/make/moves.py" "$@" < "$work/plain.log" > "$work/moved.log"
     both=$(least)
     cmp "$work/plain.proof" "$work/moved.proof" || { echo "moves.sh: $what: with moves the proof is another" >&2; exit 1; }
     read -r plain moved <<< "$both"
@@ -49,7 +49,7 @@ judge() {
 # The log that `solve` writes of a refutation.
 own() {
     local what=$1 kind=$2 size=$3 seed=$4
-    awk -v kind="$kind" -v size="$size" -v seed="$seed" -f "$here/make_instance.awk" > "$work/formula"
+    awk -v kind="$kind" -v size="$size" -v seed="$seed" -f "$here/make/instance.awk" > "$work/formula"
     "$program" solve "$work/formula" --proof "$work/plain.log" --conflicts 1000000000 > "$work/answer" || true
     answered 's UNSATISFIABLE'
     judge "own log, $what $size" "$seed"
@@ -58,8 +58,8 @@ own() {
 
 measure() {
     local what=$1 kind=$2 size=$3
-    awk -v kind="$kind" -v size="$size" -v formula="$work/formula" -v proof="$work/hinted" -f "$here/make_proof.awk"
-    awk -v hints=1 -f "$here/log_of_proof.awk" "$work/formula" "$work/hinted" > "$work/plain.log"
+    awk -v kind="$kind" -v size="$size" -v formula="$work/formula" -v proof="$work/hinted" -f "$here/make/proof.awk"
+    awk -v hints=1 -f "$here/make/log_of_proof.awk" "$work/formula" "$work/hinted" > "$work/plain.log"
     judge "$what $size, a hundred ids a move" 1 9 100
 }
 

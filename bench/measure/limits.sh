@@ -4,10 +4,10 @@
 # `solve` of such a formula is to keep within 12 GB and a minute by the clock, and `model` reads its answer back.
 # Then assumed literals beside clauses of one literal: one of the greatest variable, and one of each of a million variables.
 # A run that passes its bounds has the status 6, or 124, in its row; one that answers wrongly ends the script.
-# usage: bench/limits.sh [VARIABLES [ASSUMED]]     (268,435,455 and 1,000,000)
+# usage: bench/measure/limits.sh [VARIABLES [ASSUMED]]     (268,435,455 and 1,000,000)
 # The longest answers have three gigabytes, in the folder of temporary files; `model` reads one whole into memory.
 set -euo pipefail
-source "$(dirname "$0")/common.sh"
+source "$(dirname "$0")/../common.sh"
 need /usr/bin/time
 build
 limit=600 clock='%U %S'

@@ -2,9 +2,9 @@
 # Times `cxsat solve` beside `minisat` (formulas of clauses alone) and `cryptominisat5`, Debian's packages: processor time,
 # the peak of memory and the conflicts that each counts, by family at growing sizes. Each log of an unsatisfiable formula
 # is elaborated and the proof checked. A run that takes longer than LIMIT seconds is cut off.
-# usage: bench/solve.sh [LIMIT]
+# usage: bench/measure/solve.sh [LIMIT]
 set -euo pipefail
-source "$(dirname "$0")/common.sh"
+source "$(dirname "$0")/../common.sh"
 need minisat cryptominisat5 /usr/bin/time
 build
 limit=${1:-60}
@@ -23,8 +23,8 @@ beside() {
 measure() {
     local family=$1 kind=$2 size=$3 formula=$work/formula what own own_memory own_conflicts status taken memory peer
     case $kind in
-        even | odd) "$here/planted.py" "$kind" "$size" "$size" > "$formula" ;;
-        *) awk -v kind="$kind" -v size="$size" -v seed="$size" -f "$here/make_instance.awk" > "$formula" ;;
+        even | odd) "$here/make/planted.py" "$kind" "$size" "$size" > "$formula" ;;
+        *) awk -v kind="$kind" -v size="$size" -v seed="$size" -f "$here/make/instance.awk" > "$formula" ;;
     esac
     read -r own own_memory status <<< "$(run "$program" solve "$formula" --proof "$work/log" --conflicts 1000000000)"
     own_conflicts=$(grep -c '^c conflict' "$work/log" || true)
@@ -51,10 +51,10 @@ measure() {
 # Parities that stand as clauses beside the same ones as x-lines.
 hidden() {
     local family=$1 kind=$2 size=$3 own own_memory status shown shown_memory shown_status own_conflicts
-    awk -v kind="$kind" -v size="$size" -v seed="$size" -f "$here/make_instance.awk" > "$work/formula"
+    awk -v kind="$kind" -v size="$size" -v seed="$size" -f "$here/make/instance.awk" > "$work/formula"
     read -r own own_memory status <<< "$(run "$program" solve "$work/formula" --proof "$work/log" --conflicts 1000000000)"
     own_conflicts=$(grep -c '^c conflict' "$work/log" || true)
-    awk -v kind="$kind" -v size="$size" -v seed="$size" -v form=x -f "$here/make_instance.awk" > "$work/formula"
+    awk -v kind="$kind" -v size="$size" -v seed="$size" -v form=x -f "$here/make/instance.awk" > "$work/formula"
     read -r shown shown_memory shown_status <<< "$(run "$program" solve "$work/formula" --proof "$work/log" --conflicts 1000000000)"
     [ "$status" = "$shown_status" ] || { echo "solve.sh: $family $size: status $status as clauses, $shown_status as x-lines" >&2; exit 1; }
     row 'parities found in clauses' "$family $size (status $status)" "$(took "$own" "$own_memory" "$status" "$own_conflicts")" \

@@ -2,9 +2,9 @@
 # Sums of processor time and of conflicts of `cxsat solve` over ten seeds a family, beside `minisat` and `cadical` (formulas of
 # clauses alone) and `cryptominisat5`, Debian's packages. A seed whose answer is not the family's is passed over; an answer of a
 # peer that differs from ours ends the script with 1. A run that takes longer than LIMIT seconds counts as that.
-# usage: bench/families.sh [SEEDS [LIMIT]]     (10, 60)
+# usage: bench/measure/families.sh [SEEDS [LIMIT]]     (10, 60)
 set -euo pipefail
-source "$(dirname "$0")/common.sh"
+source "$(dirname "$0")/../common.sh"
 need minisat cryptominisat5 cadical /usr/bin/time
 build
 seeds=${1:-10} limit=${2:-60}
@@ -38,7 +38,7 @@ measure() {
     shift 4
     : > "$work/sums"
     for ((seed = 1; found < seeds; seed++)); do
-        awk -v kind="$kind" -v size="$size" -v seed="$seed" -f "$here/make_instance.awk" > "$work/formula"
+        awk -v kind="$kind" -v size="$size" -v seed="$seed" -f "$here/make/instance.awk" > "$work/formula"
         run_one cxsat
         own_told=$told
         [ "$wanted" = any ] || [ "$own_told" = "$wanted" ] || [ "$own_told" = 124 ] || continue

@@ -5,17 +5,17 @@
 # The log that `solve` writes of a refutation. With the form x the parities are x-lines.
 own() {
     local what=$1 kind=$2 size=$3 seed=$4 form=${5:-}
-    awk -v kind="$kind" -v size="$size" -v seed="$seed" -v form="$form" -f "$here/make_instance.awk" > "$work/formula"
+    awk -v kind="$kind" -v size="$size" -v seed="$seed" -v form="$form" -f "$here/make/instance.awk" > "$work/formula"
     seconds "$program" solve "$work/formula" --proof "$work/log" --conflicts 1000000000 > "$work/taken" || true
     answered 's UNSATISFIABLE'
     judge "own log, $what $size, in $(cat "$work/taken") s"
 }
 
-# The log of a proof that make_proof.awk writes, with its hints or without them.
+# The log of a proof that proof.awk makes, with its hints or without them.
 made() {
     local what=$1 kind=$2 size=$3 hints=$4 had
-    awk -v kind="$kind" -v size="$size" -v formula="$work/formula" -v proof="$work/hinted" -f "$here/make_proof.awk"
-    awk -v hints="$hints" -f "$here/log_of_proof.awk" "$work/formula" "$work/hinted" > "$work/log"
+    awk -v kind="$kind" -v size="$size" -v formula="$work/formula" -v proof="$work/hinted" -f "$here/make/proof.awk"
+    awk -v hints="$hints" -f "$here/make/log_of_proof.awk" "$work/formula" "$work/hinted" > "$work/log"
     if [ "$hints" = 1 ]; then had='hints'; else had='no hints'; fi
     judge "$what $size, $had"
 }
@@ -44,7 +44,7 @@ own_logs() {
 # The FRAT log that `cryptominisat5` writes of a refutation.
 foreign() {
     local what="$1 $3" kind=$2 size=$3 seed=$4 wrote memory status
-    awk -v kind="$kind" -v size="$size" -v seed="$seed" -f "$here/make_instance.awk" > "$work/formula"
+    awk -v kind="$kind" -v size="$size" -v seed="$seed" -f "$here/make/instance.awk" > "$work/formula"
     read -r wrote memory status <<< "$(run cryptominisat5 --verb 0 "$work/formula" "$work/log")"
     if [ "$status" != 20 ]; then
         row 'a log of cryptominisat5' "$what" - "the solver ended with $status" -

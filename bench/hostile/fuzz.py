@@ -1,7 +1,7 @@
 #!/usr/bin/env python3
 """Runs the program on small random formulas and holds each answer against all values.
 
-usage: bench/fuzz.py [COUNT [SEED [WORKERS]]]     (1,000 formulas, seed 1, as many workers as processors)
+usage: bench/hostile/fuzz.py [COUNT [SEED [WORKERS]]]     (1,000 formulas, seed 1, as many workers as processors)
 
 A formula has up to 14 variables, clauses and parities with repeated and opposite literals now and then, and empty ones, and often
 assumption constraints. `solve` must say 10 exactly where some values meet it, 20 exactly where none do, and UNKNOWN only after as many
@@ -19,7 +19,7 @@ import sys
 import tempfile
 from concurrent.futures import ProcessPoolExecutor
 
-PROGRAM = os.path.join(os.path.dirname(os.path.abspath(__file__)), "..", "crates", "cxsat", "out", "cxsat")
+PROGRAM = os.path.join(os.path.dirname(os.path.abspath(__file__)), "..", "..", "crates", "cxsat", "out", "cxsat")
 
 
 # What a formula writes before the literals of a constraint.

@@ -1,17 +1,17 @@
 #!/usr/bin/env bash
 # Measures the memory of a search beside that of its live clauses, on one random formula of clauses of three literals.
-# usage: bench/memory.sh [CONFLICTS [VARIABLES [SEED]]]     (1,000,000 conflicts, 400 variables, seed 1)
+# usage: bench/measure/memory.sh [CONFLICTS [VARIABLES [SEED]]]     (1,000,000 conflicts, 400 variables, seed 1)
 # How many bytes the live clauses take at their most is told by the log that the same search writes. A live clause takes 4 bytes a
 # literal and CLAUSE_BYTES beside: what its head in the arena has to hold (24), its id among that, and its two nodes in the watch
 # lists (19). What a search of one conflict takes is left out on both sides: the program, and the clauses of the formula.
 set -euo pipefail
-source "$(dirname "$0")/common.sh"
+source "$(dirname "$0")/../common.sh"
 need /usr/bin/time
 build
 conflicts=${1:-1000000} vars=${2:-400} seed=${3:-1}
 clause_bytes=43
 clauses=$((vars * 426 / 100))
-awk -v seed="$seed" -v clauses="$clauses" -v vars="$vars" -f "$here/make_clauses.awk" > "$work/formula"
+awk -v seed="$seed" -v clauses="$clauses" -v vars="$vars" -f "$here/make/clauses.awk" > "$work/formula"
 
 # The live clauses of a search of so many conflicts and their literals, where their bytes are the most, and these bytes, by the log.
 live() {

@@ -1,16 +1,16 @@
 #!/usr/bin/env bash
 # Times `cxsat check` on proofs of four kinds, each at a size and at twice its work, beside a plain C loop that finds and
 # converts the tokens of the same formula and proof.
-# usage: bench/check.sh [CHAIN [HOLES [WIDE [SUMS]]]]
+# usage: bench/measure/check.sh [CHAIN [HOLES [WIDE [SUMS]]]]
 set -euo pipefail
-source "$(dirname "$0")/common.sh"
+source "$(dirname "$0")/../common.sh"
 need gcc
 build
-gcc -O2 -o "$work/words_loop" "$here/words_loop.c"
+gcc -O2 -o "$work/words_loop" "$here/programs/words_loop.c"
 
 measure() {
     local what=$1 kind=$2 size=$3 taken loop steps
-    awk -v kind="$kind" -v size="$size" -v formula="$work/formula" -v proof="$work/proof" -f "$here/make_proof.awk"
+    awk -v kind="$kind" -v size="$size" -v formula="$work/formula" -v proof="$work/proof" -f "$here/make/proof.awk"
     taken=$(seconds "$program" check "$work/formula" "$work/proof")
     answered 's VERIFIED'
     loop=$(seconds "$work/words_loop" "$work/formula" "$work/proof")

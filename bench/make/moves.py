@@ -1,7 +1,7 @@
 #!/usr/bin/env python3
 """Puts steps into a log that move ids, and names what follows by the ids that it has by then.
 
-usage: bench/moves.py SEED [EVERY [PAIRS]] < LOG > MOVED
+usage: bench/make/moves.py SEED [EVERY [PAIRS]] < LOG > MOVED
 
 Clauses move or, where the log has them, parities: along a cycle, as two that change places, along a chain whose last id is free, or to
 the id that they have. Without EVERY a move comes after every fourth step or so, of up to six pairs. With EVERY a move comes after each

@@ -1,10 +1,10 @@
 #!/usr/bin/env bash
 # Times the recovery of parities beside the reading of the same formula: random 3-clauses, where nothing is recovered, and
 # ladders and systems of parities as clauses, where each clause is needed. Both are timed in one process, the best of ROUNDS.
-# usage: bench/recover.sh [ROUNDS]
+# usage: bench/measure/recover.sh [ROUNDS]
 # The program is proved, built and run in a folder of its own; it takes a few minutes where nothing was proved before.
 set -euo pipefail
-source "$(dirname "$0")/common.sh"
+source "$(dirname "$0")/../common.sh"
 rounds=${1:-5}
 stand_on recover_times 'cx_base cnfx_reader xor_recover' \
     cx_base cx_texts cx_desk cx_semantics cnfx_reader gf2_rows parity_engine gf2_matrix xor_recover
@@ -24,12 +24,12 @@ measure() {
 }
 
 for clauses in 10000 100000 1000000; do
-    awk -v seed=1 -v clauses="$clauses" -v vars=$((clauses * 3 / 10)) -f "$here/make_clauses.awk" > "$work/formula"
+    awk -v seed=1 -v clauses="$clauses" -v vars=$((clauses * 3 / 10)) -f "$here/make/clauses.awk" > "$work/formula"
     measure "$clauses random 3-clauses"
 done
 for size in 1250 12500 125000; do
-    awk -v kind=ladder -v size="$size" -v seed=1 -f "$here/make_instance.awk" > "$work/formula"
+    awk -v kind=ladder -v size="$size" -v seed=1 -f "$here/make/instance.awk" > "$work/formula"
     measure "$((size * 8)) clauses of a ladder"
 done
-awk -v kind=system -v size=208333 -v seed=1 -f "$here/make_instance.awk" > "$work/formula"
+awk -v kind=system -v size=208333 -v seed=1 -f "$here/make/instance.awk" > "$work/formula"
 measure '999996 clauses of a system of parities'

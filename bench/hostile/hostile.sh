@@ -1,8 +1,8 @@
 #!/usr/bin/env bash
 # Texts at the limits: `check`, `elab`, `model`, `affine` and `demo` must give each its named answer, and `solve` its status, within 1 GB of memory and a minute.
-# usage: bench/hostile.sh
+# usage: bench/hostile/hostile.sh
 set -euo pipefail
-source "$(dirname "$0")/common.sh"
+source "$(dirname "$0")/../common.sh"
 build
 ulimit -v 1000000
 failures=0

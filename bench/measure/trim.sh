@@ -2,11 +2,11 @@
 # Times `cxsat trim` beside `cxsat check` on the proofs of the logs of elab.sh and of foreign.sh, those with their hints, and tells which
 # share of the steps and of the formula's constraints stays, and the memory beside the proof's bytes. What is left must be accepted, and
 # trimmed again it must stay as it is, with the same core. Last comes a proof of which a thousandth is needed: just that must be left.
-# usage: bench/trim.sh [NEEDED [CHAIN [HOLES [HOLES_WITHOUT_HINTS]]]]
+# usage: bench/measure/trim.sh [NEEDED [CHAIN [HOLES [HOLES_WITHOUT_HINTS]]]]
 # NEEDED: the needed steps of that proof (20,000, and then it has a gigabyte). The other numbers are those of elab.sh.
 set -euo pipefail
-source "$(dirname "$0")/common.sh"
-source "$here/logs.sh"
+source "$(dirname "$0")/../common.sh"
+source "$here/measure/logs.sh"
 need cryptominisat5 /usr/bin/time
 build
 limit=300 clock='%U %S'
@@ -63,7 +63,7 @@ judge_foreign() {
 # A row for a proof of which one step in 999 is needed.
 sparse() {
     local needed=$1 taken memory checked check_memory
-    awk -v kind=sparse -v size="$needed" -v formula="$work/formula" -v proof="$work/proof" -v left="$work/left" -f "$here/make_proof.awk"
+    awk -v kind=sparse -v size="$needed" -v formula="$work/formula" -v proof="$work/proof" -v left="$work/left" -f "$here/make/proof.awk"
     read -r checked check_memory _ <<< "$(run "$program" check "$work/formula" "$work/proof")"
     answered 's VERIFIED'
     read -r taken memory _ <<< "$(run "$program" trim "$work/formula" "$work/proof" "$work/trimmed")"

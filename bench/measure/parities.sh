@@ -5,11 +5,11 @@
 #   planted instances, ladders as x-lines, 20,000 parities that share no variable or stand in one chain, and two wide ones that
 #   share every third variable;
 # - `cxsat solve` of ladders and inconsistent systems by clauses beside the same by x-lines.
-# usage: bench/parities.sh [LIMIT [ACTS]]
+# usage: bench/measure/parities.sh [LIMIT [ACTS]]
 # LIMIT: seconds after which a run of a solver is cut off (60). ACTS: acts of `Incremental` (1,000,000); `Scratch` does a
 # hundredth of them. The program that drives the engines is proved, built and run in a folder of its own.
 set -euo pipefail
-source "$(dirname "$0")/common.sh"
+source "$(dirname "$0")/../common.sh"
 need cryptominisat5 valgrind /usr/bin/time
 limit=${1:-60}
 acts=${2:-1000000}
@@ -82,9 +82,9 @@ repeated() {
 # A formula of this kind and size.
 formula() {
     case $1 in
-        even | odd) "$here/planted.py" "$1" "$2" "$2" ;;
+        even | odd) "$here/make/planted.py" "$1" "$2" "$2" ;;
         shared) awk -v n="$2" 'BEGIN { print "p cnf", n, 2; for (lacks = 0; lacks < 2; lacks++) { printf "x"; for (v = 1; v <= n; v++) if (v % 3 != lacks) printf "%d ", v; print 0 } }' ;;
-        *) awk -v kind="$1" -v size="$2" -v seed="$2" -v form=x -f "$here/make_instance.awk" ;;
+        *) awk -v kind="$1" -v size="$2" -v seed="$2" -v form=x -f "$here/make/instance.awk" ;;
     esac
 }
 
@@ -122,7 +122,7 @@ measure() {
 hidden() {
     local what=$1 kind=$2 size=$3 form told=()
     for form in clauses x; do
-        awk -v kind="$kind" -v size="$size" -v seed=1 -v form="$form" -f "$here/make_instance.awk" > "$work/formula"
+        awk -v kind="$kind" -v size="$size" -v seed=1 -v form="$form" -f "$here/make/instance.awk" > "$work/formula"
         told+=("$(millions "$program" solve "$work/formula" --proof "$work/log")")
         ! grep -q "^c conflict" "$work/log" || { echo "parities.sh: $what $size as $form: a conflict is counted" >&2; exit 1; }
     done

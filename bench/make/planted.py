@@ -1,7 +1,7 @@
 #!/usr/bin/env python3
 """Writes the planted instance that `cxsat demo KIND SIZE SEED` makes, by the rules of docs/FORMATS.md and not by the program.
 
-usage: bench/planted.py even|odd SIZE SEED > FORMULA
+usage: bench/make/planted.py even|odd SIZE SEED > FORMULA
 """
 import sys
 

@@ -2,10 +2,10 @@
 # Times `cxsat elab` on the logs that `cxsat solve` writes, and on logs of chains and pigeonholes with the hints in the log and
 # without them, and `cxsat check` on the proofs that it writes, each at a size and at twice its work or more. Without hints each added
 # clause is searched for. Half of a chain's log tells the formula, which its proof does not, and most of a ladder's.
-# usage: bench/elab.sh [CHAIN [HOLES [HOLES_WITHOUT_HINTS]]]
+# usage: bench/measure/elab.sh [CHAIN [HOLES [HOLES_WITHOUT_HINTS]]]
 set -euo pipefail
-source "$(dirname "$0")/common.sh"
-source "$here/logs.sh"
+source "$(dirname "$0")/../common.sh"
+source "$here/measure/logs.sh"
 build
 
 elaborating() { "$program" elab "$work/formula" "$work/log" "$work/proof"; }
