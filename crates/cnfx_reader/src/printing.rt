@@ -9,11 +9,17 @@ use cx_base::{ConstraintRef, Formula, Lit};
 use cx_desk::{Desk, Failed, Port, put_all, put_pieces};
 use itoa::Buffer;
 
-/// The sign of a literal.
-fn sign_of(negative: bool) -> &'static [u8]
-    ensures { result.now ≡ if negative then codes "-" else [] }
-{
-    if negative { b"-" } else { b"" }
+/// The most literals that are written in one piece.
+const MANY: usize = 256;
+
+/// Room for as many, and for the zero and the line feed that end a line.
+const SHEET: usize = MANY * LONGEST + 2;
+
+/// A sheet that lines are laid out on, one after another. What is on it plays no part: a line is laid out over the one before, so
+/// that no room is cleared for it.
+#[derive(Drop)]
+struct LineSheet {
+    bytes: [u8; SHEET],
 }
 
 /// Writes a literal and a space.

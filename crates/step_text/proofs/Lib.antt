@@ -1,7 +1,6 @@
 pub mod AheadLaws
 pub mod AnswerLaws
 pub mod Choices
-pub mod DigitLaws
 pub mod Given
 pub mod Places
 pub mod Puts

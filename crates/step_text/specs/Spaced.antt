@@ -1,5 +1,5 @@
 -- Words that are printed behind others.
-use Rattle.std.specs.Prelude.{ℕ, ℤ, List, [], ◌∷◌, ◌++◌, ◌+◌, ◌/◌, ◌%◌, flat_map, decimal}
+use Rattle.std.specs.Prelude.{ℕ, ℤ, List, [], ◌∷◌, ◌++◌, flat_map, decimal}
 use Rattle.cx_base.specs.declared.id_moves.IdMove.{IdMove}
 use Rattle.cx_texts.specs.Words.{Word}
 use Rattle.cx_texts.specs.Printed.{printed_integer, printed_word}
@@ -17,7 +17,3 @@ spaced_id n = 32 ∷ decimal n
 -- the two ids of a move
 abbrev pub spaced_move : IdMove → List ℕ
 spaced_move m = spaced_id m.from ++ spaced_id m.to
-
--- the digits of a number below a thousand, zeros in front of fewer than three
-abbrev pub three_digits : ℕ → List ℕ
-three_digits n = (48 + n / 100) ∷ (48 + n / 10 % 10) ∷ (48 + n % 10) ∷ []

@@ -5,7 +5,7 @@ ghost use Rattle.cx_texts.specs.Printed.{printed_integer};
 ghost use Rattle.step_text.specs.Spaced.{spaced, spaced_integer};
 ghost use Rattle.step_text.specs.declared.lay_out.TheConstants.{FRAME, DELETION_ROOM};
 
-use crate::digits::lay_out_number;
+use cx_digits::lay_out_number;
 
 /// The most bytes that an integer takes behind a space: a sign and 19 digits.
 pub(crate) const LONGEST: usize = 21;

@@ -2,7 +2,6 @@
 #![tactic(auto)]
 
 pub mod ahead;
-mod digits;
 pub mod fields;
 mod grammar;
 mod lay_out;

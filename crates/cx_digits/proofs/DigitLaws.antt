@@ -6,8 +6,8 @@ use Rattle.std.proofs.lemmas.Fmt.{decimal_digit, decimal_step}
 use Rattle.std.proofs.lemmas.List.{drop-drop, length-take-le}
 use Rattle.std.proofs.Math.Seq.{drop-append-add}
 use Rattle.itoa.proofs.Decimal.{decimal_two, decimal_pair, length_one, length_two, length_pair}
-use Rattle.step_text.specs.Spaced.{three_digits}
-use Rattle.step_text.specs.declared.digits.TheConstants.{TRIPLES}
+use Rattle.cx_digits.specs.Digits.{three_digits}
+use Rattle.cx_digits.specs.declared.digits.TheConstants.{TRIPLES}
 
 -- ---- how many digits a number below a thousand has
 count : ℕ → ℕ

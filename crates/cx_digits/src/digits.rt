@@ -1,6 +1,6 @@
 //! The digits of numbers, laid out three at a time with no branch on how many of three there are: one that can't be foreseen costs more.
 ghost use Rattle.std.specs.Prelude.{◌≡◌, ◌<◌, ◌≤◌, ◌+◌, ◌-◌, ◌/◌, ◌%◌, ◌∷◌, ◌++◌, decimal, length, drop};
-ghost use Rattle.step_text.specs.Spaced.{three_digits};
+ghost use Rattle.cx_digits.specs.Digits.{three_digits};
 
 use itoa::write_digits;
 
@@ -28,8 +28,11 @@ const THREE_DIGITS: u64 = 1000;
 /// The bound of numbers of at most six digits.
 const SIX_DIGITS: u64 = THREE_DIGITS * THREE_DIGITS;
 
+/// The bound of numbers of at most nine digits.
+const NINE_DIGITS: u64 = THREE_DIGITS * SIX_DIGITS;
+
 /// The most digits that a number has.
-pub(crate) const MOST_DIGITS: usize = 20;
+pub const MOST_DIGITS: usize = 20;
 
 /// How many digits a number has, and then three digits, zeros in front of fewer.
 #[inline(always)]
@@ -40,7 +43,7 @@ fn triple(number: u64) -> [u8; 4]
     TRIPLES[number as usize]
 }
 
-/// Lays out three digits so that they end there, zeros in front of fewer. The place in front of them is changed too.
+/// Lays out three digits so that they end there, zeros in front of fewer. The byte before them changes too.
 #[inline(always)]
 fn lay_out_three(number: u64, sheet: &mut [u8], end: usize)
     requires few { number < THREE_DIGITS }
@@ -64,10 +67,11 @@ fn lay_out_few(number: u64, sheet: &mut [u8], end: usize) -> usize
     end - triple(number)[0] as usize
 }
 
-/// Lays out a number so that it ends there, and says where it begins.
+/// Lays out a number of at most six digits so that it ends there, and says where it begins.
 #[inline(always)]
-pub(crate) fn lay_out_number(number: u64, sheet: &mut [u8], end: usize) -> usize
-    requires room { MOST_DIGITS ≤ end }
+fn lay_out_six(number: u64, sheet: &mut [u8], end: usize) -> usize
+    requires few { number < SIX_DIGITS }
+    requires room { 7 ≤ end }
     requires within { end ≤ length sheet.old }
     ensures begin { result + length (decimal number) ≡ end }
     ensures laid { drop result sheet.new ≡ decimal number ++ drop end sheet.old }
@@ -75,9 +79,24 @@ pub(crate) fn lay_out_number(number: u64, sheet: &mut [u8], end: usize) -> usize
     if number < THREE_DIGITS {
         return lay_out_few(number, sheet, end);
     }
+    lay_out_three(number % THREE_DIGITS, sheet, end);
+    lay_out_few(number / THREE_DIGITS, sheet, end - 3)
+}
+
+/// Lays out a number so that it ends there, and says where it begins. Bytes before it change too.
+#[inline(always)]
+pub fn lay_out_number(number: u64, sheet: &mut [u8], end: usize) -> usize
+    requires room { MOST_DIGITS ≤ end }
+    requires within { end ≤ length sheet.old }
+    ensures begin { result + length (decimal number) ≡ end }
+    ensures laid { drop result sheet.new ≡ decimal number ++ drop end sheet.old }
+{
     if number < SIX_DIGITS {
+        return lay_out_six(number, sheet, end);
+    }
+    if number < NINE_DIGITS {
         lay_out_three(number % THREE_DIGITS, sheet, end);
-        return lay_out_few(number / THREE_DIGITS, sheet, end - 3);
+        return lay_out_six(number / THREE_DIGITS, sheet, end - 3);
     }
     write_digits(number, sheet, end)
 }

@@ -1,7 +1,7 @@
 use Rattle.std.proofs.Common.{◌∙◌, ap, ◌-◌, get_or, drop, arith}
 use Rattle.std.proofs.lemmas.Fmt.{length-decimal-le}
-use Rattle.step_text.proofs.DigitLaws.{few_laid}
-use Rattle.step_text.proofs.digits.lay_out_few.Goals as goal
+use Rattle.cx_digits.proofs.DigitLaws.{few_laid}
+use Rattle.cx_digits.proofs.digits.lay_out_few.Goals as goal
 
 pub overflow_sub-result : goal.overflow_sub-result
 overflow_sub-result c = omega (arith, ap (λ t. get_or t 0 0) c.triple.ensures, length-decimal-le 3 c.args.number (omega arith) (omega arith) (omega arith))
