@@ -2,7 +2,7 @@
 ghost use Rattle.std.specs.Prelude.{◌≡◌, ◌≤◌, ◌+◌, ◌*◌, ◌∷◌, ◌++◌, [], decimal, flat_map, length, drop};
 ghost use Rattle.cx_texts.specs.Grammar.{spelled, integers};
 ghost use Rattle.cx_texts.specs.Printed.{printed_integer};
-ghost use Rattle.step_text.specs.Spaced.{spaced, spaced_integer};
+ghost use Rattle.step_text.specs.Spaced.{spaced, spaced_integer, spaced_id};
 ghost use Rattle.step_text.specs.declared.lay_out.TheConstants.{FRAME, DELETION_ROOM};
 
 use cx_digits::lay_out_number;
@@ -52,6 +52,37 @@ pub(crate) fn lay_out_integers(members: &[i64], sheet: &mut [u8], end: usize) ->
     while left > 0 {
         left -= 1;
         at = lay_out_integer(members[left], sheet, at);
+    }
+    at
+}
+
+/// Lays out an id behind a space so that it ends there, and says where it begins.
+#[inline(always)]
+fn lay_out_spaced_id(name: u64, sheet: &mut [u8], end: usize) -> usize
+    requires room { LONGEST ≤ end }
+    requires within { end ≤ length sheet.old }
+    ensures low { end ≤ result + LONGEST }
+    ensures high { result ≤ end }
+    ensures laid { drop result sheet.new ≡ spaced_id name ++ drop end sheet.old }
+{
+    let begin = lay_out_number(name, sheet, end);
+    sheet[begin - 1] = b' ';
+    begin - 1
+}
+
+/// Lays out ids so that the last ends there, and says where the first begins.
+pub(crate) fn lay_out_ids(members: &[u64], sheet: &mut [u8], end: usize) -> usize
+    requires room { length members.now * LONGEST ≤ end }
+    requires within { end ≤ length sheet.old }
+    ensures low { end ≤ result + length members.now * LONGEST }
+    ensures high { result ≤ end }
+    ensures laid { drop result sheet.new ≡ flat_map spaced_id members.now ++ drop end sheet.old }
+{
+    let mut at = end;
+    let mut left = members.len();
+    while left > 0 {
+        left -= 1;
+        at = lay_out_spaced_id(members[left], sheet, at);
     }
     at
 }

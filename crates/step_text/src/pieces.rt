@@ -5,7 +5,7 @@ ghost use Rattle.cx_texts.specs.Grammar.{spelled, ids, integers, pairs};
 ghost use Rattle.step_text.specs.Spaced.{spaced, spaced_integer, spaced_id, spaced_move};
 
 use crate::lay_out::{
-    DELETION_ROOM, FRAME, LONGEST, lay_out_deletion, lay_out_integers, lay_out_line,
+    DELETION_ROOM, FRAME, LONGEST, lay_out_deletion, lay_out_ids, lay_out_integers, lay_out_line,
     lay_out_parity_deletion,
 };
 use cx_base::IdMove;
@@ -27,7 +27,7 @@ pub fn put_id<D: Desk>(
     put_pieces(desk, port, &[before, text.as_bytes(), after])
 }
 
-/// The most integers that are written in one piece.
+/// The most integers or ids that are written in one piece.
 const AT_ONCE: usize = 16;
 
 /// A few integers, each behind a space, in one piece.
@@ -53,12 +53,25 @@ fn put_each_integer<D: Desk>(desk: &mut D, port: Port, members: &[i64]) -> Resul
     Ok(())
 }
 
+/// A few ids, each behind a space, in one piece.
+fn put_few_ids<D: Desk>(desk: &mut D, port: Port, members: &[u64]) -> Result<(), Failed>
+    requires { length members.now ≤ AT_ONCE }
+    ensures { PutsAll port (flat_map spaced_id members.now) (D.outside desk.old) result (D.outside desk.new) }
+{
+    let mut sheet = [0; AT_ONCE * LONGEST];
+    let begin = lay_out_ids(members, &mut sheet, AT_ONCE * LONGEST);
+    put_all(desk, port, &sheet[begin..])
+}
+
 /// Ids, each behind a space.
 fn put_each_id<D: Desk>(desk: &mut D, port: Port, members: &[u64]) -> Result<(), Failed>
     ensures { PutsAll port (flat_map spaced_id members.now) (D.outside desk.old) result (D.outside desk.new) }
 {
-    for member in members {
-        put_id(desk, port, b" ", *member, b"")?;
+    let mut done = 0;
+    while done < members.len() {
+        let next = members.len().min(done + AT_ONCE);
+        put_few_ids(desk, port, &members[done..next])?;
+        done = next;
     }
     Ok(())
 }

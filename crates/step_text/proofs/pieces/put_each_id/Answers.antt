@@ -1,16 +1,16 @@
 use Rattle.std.proofs.lemmas.Result.{err_from_is_err_and}
-use Rattle.std.proofs.Common.{ap, subst, append-nil, ◌∷◌}
-use Rattle.cx_desk.specs.Outside.{Bytes}
-use Rattle.cx_desk.proofs.Moves.{pieces-fail}
+use Rattle.std.proofs.Common.{arith}
 use Rattle.step_text.specs.Spaced.{spaced_id}
-use Rattle.step_text.proofs.Puts.{Fails}
+use Rattle.step_text.proofs.Puts.{part_fails, part_put}
 use Rattle.step_text.proofs.pieces.put_each_id.Goals as goal
 
-pub returns-in_err-put_id : goal.returns-in_err-put_id
-returns-in_err-put_id g c =
+pub loop-done-preserved : goal.loop-done-preserved
+loop-done-preserved g c = record {
+  within = omega arith;
+  put = part_put spaced_id c.args.members.now c.loop-done.done c.min-next.result c.args.port _ _ _ (omega arith) c.loop-done.invariant.put c.in_ok-put_few_ids.ensures;
+}
+
+pub returns-in_err-put_few_ids : goal.returns-in_err-put_few_ids
+returns-in_err-put_few_ids g c =
     let p = err_from_is_err_and c.from_residual.result c.from_residual.ensures.1 in
-    let old = g.D.Desk.outside c.args.desk.now in
-    let before = g.D.Desk.outside c.loop-member.desk in
-    let after = g.D.Desk.outside c.put_id.new.desk in
-    let fault = subst (λ (b : Bytes). Fails c.args.port b before after) (ap (λ b. 32 ∷ b) (append-nil _)) c.in_err-put_id.ensures in
-    rw p.1 (pieces-fail spaced_id c.args.members.now c.loop-member.member-index 0 c.args.port old before after c.loop-member-test.true c.loop-member.invariant fault)
+    rw p.1 (part_fails spaced_id c.args.members.now c.loop-done.done c.min-next.result c.args.port _ _ _ (omega arith) c.loop-done.invariant.put c.in_err-put_few_ids.ensures)
