@@ -1,5 +1,5 @@
 use Rattle.gf2_matrix.proofs.Reduce.{EchelonSoFar}
 use Rattle.gf2_matrix.proofs.matrix.Matrix.echelon.Given as goal
 
-abbrev pub invariant-loop-r : goal.invariant-loop-r
-invariant-loop-r l = EchelonSoFar l.fn.self l.self l.r
+abbrev pub invariant-loop-k : goal.invariant-loop-k
+invariant-loop-k l = EchelonSoFar l.fn.self l.self l.k
