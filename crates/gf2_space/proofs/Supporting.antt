@@ -143,6 +143,34 @@ row_all c row var first n old new far inside = record {
           | inr from ↦ elim (cases_lt k n) [ inl low ↦ far.done k d from low | inr past ↦ out k d (far.left k d past) false e refl ]
         ]
 
+-- columns that the row lacks
+row_skipped : (c : Content) (row var first n m : ℕ) (old new : List Support) → RowSoFar c row var first n old new → n ≤ m
+    → ((k : ℕ) → n ≤ k → k < m → has (row_at c.rows row) (get_or c.columns k 0 - 1) ≡ false) → RowSoFar c row var first m old new
+row_skipped c row var first n m old new far le lacks = record {
+  long = far.long;
+  done = λ k d low high.
+      elim (cases_lt k n) [
+        | inl before ↦ far.done k d low before
+        | inr from ↦
+            ap (λ (t : Support). t.vars.items) (far.left k d from) ∙ sym (append-nil (get_or old k d).vars.items)
+            ∙ ap (λ b. (get_or old k d).vars.items ++ cond b (var ∷ []) []) (sym (lacks k from high))
+      ];
+  before = far.before;
+  left = λ k d ge. far.left k d (omega arith);
+}
+
+-- the next column that the row has
+pub row_next : (c : Content) (row var n m : ℕ) (old new : List Support) (e s : Support) → RowSoFar c row var 0 n old new → n ≤ m → m < length new → e ≡ get_or new m e
+    → s.vars.items ≡ e.vars.items ++ var ∷ [] → has (row_at c.rows row) (get_or c.columns m 0 - 1) ≡ true
+    → ((k : ℕ) → n ≤ k → k < m → has (row_at c.rows row) (get_or c.columns k 0 - 1) ≡ false) → RowSoFar c row var 0 (m + 1) old (set new m s)
+row_next c row var n m old new e s far le lt is pushed on lacks =
+    row_taken c row var 0 m old new e s (row_skipped c row var 0 n m old new far le lacks) (omega arith) lt is pushed on
+
+pub row_ends : (c : Content) (row var n : ℕ) (old new : List Support) → RowSoFar c row var 0 n old new → n ≤ length c.columns
+    → ((k : ℕ) → n ≤ k → k < length c.columns → has (row_at c.rows row) (get_or c.columns k 0 - 1) ≡ false) → TakeRow c row var old new
+row_ends c row var n old new far le lacks =
+    row_all c row var 0 (length c.columns) old new (row_skipped c row var 0 n (length c.columns) old new far le lacks) (λ k lt on. (omega arith, lt))
+
 -- ---- all rows
 pub supports_none : (c : Content) (owners : List ℕ) (supports : List Support) → AreEmpty supports (length c.columns) → AreSupports c owners supports 0
 supports_none c owners supports empty = record { long = empty.long; each = empty.empty }

@@ -37,11 +37,12 @@ fn take_row(
     requires long { length supports.old ≡ length matrix.now.columns }
     ensures { OnOk result (TakeRow matrix.now row var supports.old supports.new) }
 {
-    let (first, count) = matrix.span(row);
-    for k in first..first + count {
-        if matrix.has_column(row, k) {
-            supports[k].vars.push(var)?;
-        }
+    // `columns` says to the proof that there is a number behind each column's.
+    let _columns = matrix.columns();
+    let mut from = 0;
+    while let Some(column) = matrix.next_column(row, from) {
+        supports[column].vars.push(var)?;
+        from = column + 1;
     }
     Ok(())
 }

@@ -1,5 +1,9 @@
+use Rattle.std.proofs.Common.{◌≤◌, ◌-◌, length}
 use Rattle.gf2_space.proofs.Supporting.{RowSoFar}
 use Rattle.gf2_space.proofs.supports.take_row.Given as goal
 
-abbrev pub invariant-loop-k : goal.invariant-loop-k
-invariant-loop-k l = RowSoFar l.matrix l.row l.var l.first l.k l.fn.supports l.supports
+abbrev pub invariant-loop-column : goal.invariant-loop-column
+invariant-loop-column l = (l.from ≤ length l.matrix.columns) × RowSoFar l.matrix l.row l.var 0 l.from l.fn.supports l.supports
+
+abbrev pub decreases-loop-column : goal.decreases-loop-column
+decreases-loop-column l = length l.matrix.columns - l.from
