@@ -8,7 +8,6 @@ use Rattle.cx_base.specs.declared.constraint.Constraint.{Constraint}
 use Rattle.cx_base.proofs.AssumedLaws.{both_clash}
 use Rattle.cx_semantics.specs.Chain.{has_literal}
 use Rattle.cx_semantics.proofs.Members.{has_at_head, has_split}
-use Rattle.cx_trail.specs.declared.entry.Reason.TheVariants.{Decision}
 use Rattle.cx_trail.specs.Sequence.{TrailState, IsTrail, entry_at}
 use Rattle.conflict_learn.specs.Learning.{IsAntecedent, HasReason, literal_at}
 use Rattle.search_policy.specs.Assuming.{KeepsAssumptions, Contradicts}

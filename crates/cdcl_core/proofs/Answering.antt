@@ -1,5 +1,5 @@
 -- What the logs of the search's answers are.
-use Rattle.std.proofs.Common.{◌≡◌, refl, sym, ap, ◌∙◌, subst, ℕ, ◌+◌, ◌<◌, ◌≤◌, false, List, [], Bool, Some, None, Option, Result, Ok, Err, filter_map, inl, arith}
+use Rattle.std.proofs.Common.{◌≡◌, refl, sym, ap, subst, ℕ, ◌+◌, ◌≤◌, false, List, [], Bool, Some, None, Option, Result, Ok, Err, filter_map, arith}
 use Rattle.cx_base.specs.Literals.{Literal}
 use Rattle.cx_base.specs.Problem.{Problem}
 use Rattle.cx_base.specs.declared.steps.LogEvent.{LogEvent}

@@ -1,6 +1,6 @@
 -- Where a formula's assumptions clash, the log of its constraints is ended.
-use Rattle.std.proofs.Common.{◌≡◌, refl, sym, ◌∙◌, subst, ℕ, ◌≤◌, true, false, List, [], ◌∷◌, Some, None, Option, inl, arith, true≢false, append-nil}
-use Rattle.cx_base.specs.Assumptions.{clashes, IsClash, IsFailed}
+use Rattle.std.proofs.Common.{◌≡◌, refl, sym, ◌∙◌, subst, ℕ, ◌≤◌, true, List, [], ◌∷◌, Some, None, Option, inl, arith, true≢false, append-nil}
+use Rattle.cx_base.specs.Assumptions.{clashes, IsClash}
 use Rattle.cx_base.specs.Literals.{positive_of, negative_of}
 use Rattle.cx_base.specs.Problem.{Problem}
 use Rattle.cx_base.specs.declared.steps.LogEvent.{LogEvent}

@@ -1,32 +1,30 @@
 -- New references keep what ties a search to its code.
-use Rattle.std.proofs.Common.{◌≡◌, refl, sym, ap, ◌∙◌, subst, ℕ, suc, ◌<◌, ◌≤◌, Bool, List, [], ◌∷◌, ◌++◌, length, map, take, get_or, Option, Some, None, is_some, Contains, inl, inr, ⊎_elim, arith}
-use Rattle.std.specs.Prelude.{IsSome, IsTrue}
+use Rattle.std.proofs.Common.{◌≡◌, refl, sym, ap, ◌∙◌, subst, ℕ, suc, ◌<◌, ◌≤◌, Bool, List, [], ◌∷◌, length, map, take, get_or, Option, Some, None, is_some, Contains, inl, inr, ⊎_elim, arith}
+use Rattle.std.specs.Prelude.{IsTrue}
 use Rattle.std.specs.FinSet as set
 use Rattle.std.proofs.lemmas.Bool.{cases_lt}
 use Rattle.std.proofs.lemmas.List.{length-map, map-append, take-map}
 use Rattle.cx_base.specs.declared.moved.Move.{Move}
 use Rattle.cx_base.specs.Moved.{moved_to}
-use Rattle.cx_base.specs.Literals.{Literal, negate, literal_true}
+use Rattle.cx_base.specs.Literals.{Literal, negate}
 use Rattle.cx_base.specs.Problem.{Problem, clauses_of}
-use Rattle.cx_base.specs.declared.steps.LogEvent.{LogEvent}
 use Rattle.cx_trail.specs.declared.entry.Entry.{Entry as TrailEntry}
 use Rattle.cx_trail.specs.declared.entry.Reason.{Reason}
 use Rattle.cx_trail.specs.declared.entry.Reason.TheVariants as reason
 use Rattle.cx_trail.specs.Sequence.{TrailState, entry_at, IsTrail as IsCodeTrail, IsTrueIn, IsAssignedIn, IsOpenIn}
 use Rattle.cx_trail.specs.Renaming.{renamed, renamed_reason, clause_under}
-use Rattle.clause_arena.specs.Clauses.{ArenaState, IsLive, clause_at, literals_at, literals_in, id_at, id_in, learned_in}
+use Rattle.clause_arena.specs.Clauses.{ArenaState, IsLive, literals_at, literals_in, id_at, id_in, learned_in}
 use Rattle.clause_arena.specs.Compact.{IsRenamed}
 use Rattle.clause_arena.proofs.PackingLaws.{live_within}
 use Rattle.watch_lists.specs.Truths.{AreOthersFalse}
-use Rattle.watch_lists.specs.Watching.{WatchState, IsAttached}
+use Rattle.watch_lists.specs.Watching.{WatchState}
 use Rattle.watch_lists.specs.Renaming.{AreRenamed}
 use Rattle.watch_lists.proofs.RenamedLaws.{clause_moved, literal_stays, level_stays, entry_renamed, renamed_fits, some_same}
-use Rattle.search_policy.specs.Standing.{AllStand}
 use Rattle.parity_engine.specs.State.{State}
 use Rattle.search_steps.specs.Trail.{Entry}
 use Rattle.search_steps.specs.Search.{Search}
 use Rattle.search_steps.specs.Tied.{IsTied}
-use Rattle.cx_semantics.specs.Tables.{Table, get}
+use Rattle.cx_semantics.specs.Tables.{Table}
 use Rattle.cdcl_search.specs.declared.state.SearchState.{SearchState}
 use Rattle.cdcl_search.specs.Ties.{Ties, SearchStands, IsClauseReasonOf, IsWatched, ClauseTies, IsKept, IsNamedBy, IsHeld, HasTwo, AreUnits, HasReasonOf, ReasonTies, AgreesUpTo}
 use Rattle.cdcl_core.specs.Compacting.{IsCompacted, StandsStill, LeavesNoOldName}

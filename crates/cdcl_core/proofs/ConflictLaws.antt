@@ -32,7 +32,7 @@ use Rattle.cdcl_search.specs.declared.state.SearchState.{SearchState}
 use Rattle.cdcl_search.specs.Explaining.{Explains}
 use Rattle.cdcl_search.specs.declared.propagation.Found.{Found}
 use Rattle.cdcl_search.specs.declared.propagation.Found.TheVariants as found
-use Rattle.cdcl_search.specs.Finds.{PropagationFinds, IsClash}
+use Rattle.cdcl_search.specs.Finds.{PropagationFinds}
 use Rattle.cdcl_search.specs.Tells.{as_events, with_events, IsTellable, IsId}
 use Rattle.cdcl_search.specs.Rows.{sum_and_clause_events}
 use Rattle.cdcl_search.specs.Ties.{SearchStands, first_row_id, Ties}

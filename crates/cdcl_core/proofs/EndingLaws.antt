@@ -1,39 +1,24 @@
 -- What is told last: a clause that ends the log.
-use Rattle.std.proofs.Common.{◌≡◌, refl, sym, ap, subst, ℕ, ◌+◌, ◌≤◌, ℤ, true, false, ◌∙◌, List, [], ◌∷◌, ◌++◌, length, Option, Some, None, inr, arith, true≢false, length-append}
-use Rattle.std.specs.List.{All}
+use Rattle.std.proofs.Common.{◌≡◌, refl, sym, ap, subst, ℕ, ◌+◌, ℤ, true, false, ◌∙◌, List, [], ◌∷◌, ◌++◌, length, Option, Some, None, inr, arith, true≢false, length-append}
 use Rattle.cx_base.specs.Literals.{Literal}
 use Rattle.cx_base.specs.Problem.{Problem, Unmet}
 use Rattle.cx_base.specs.declared.steps.LogStep.{LogStep}
-use Rattle.cx_semantics.specs.Ids.{highest_id}
 use Rattle.cx_base.specs.declared.steps.LogStep.TheVariants.{ClauseWithHints}
 use Rattle.cx_base.specs.declared.steps.LogEvent.{LogEvent}
 use Rattle.cx_base.specs.declared.steps.LogEvent.TheVariants.{Step}
-use Rattle.cx_semantics.specs.Chain.{is_inside, negations}
+use Rattle.cx_semantics.specs.Chain.{negations}
 use Rattle.cx_semantics.specs.LogRules.{HasChain}
 use Rattle.cx_semantics.specs.Marked.{Marked}
-use Rattle.parity_engine.specs.State.{State}
-use Rattle.search_steps.specs.LogSteps.{IsEnded, RestOnClauses}
-use Rattle.search_steps.specs.Quiet.{IsOfParities}
-use Rattle.search_steps.specs.Tied.{IsLiveSet}
-use Rattle.search_steps.specs.Trail.{Entry, all_held}
+use Rattle.search_steps.specs.Trail.{Entry}
 use Rattle.cx_base.specs.Assumptions.{clashes, is_ending, IsFailed}
 use Rattle.cx_base.specs.Integers.{integers_of, literals}
 use Rattle.search_steps.specs.LogSteps.{IsAddition}
 use Rattle.search_steps.specs.Search.{IsSearch}
 use Rattle.search_steps.proofs.Ends.{ended_is_unmet, chained_clause_ends, chained_clause_fails, chained_clause_is_marked}
-use Rattle.search_steps.proofs.IdLaws.{next_is_free}
-use Rattle.search_steps.proofs.LogLaws.{falsified_has_chain}
-use Rattle.search_steps.proofs.Stored.{has_of, stored_is_false}
 use Rattle.search_steps.specs.Search.{Search}
 use Rattle.search_steps.specs.Holding.{AreTold}
-use Rattle.cdcl_search.specs.declared.state.SearchState.{SearchState}
 use Rattle.cdcl_search.specs.Tells.{IsLeft, with_events}
-use Rattle.cdcl_search.specs.Ties.{SearchStands, first_row_id}
-use Rattle.cdcl_search.proofs.SourceLaws.{sourced_is_live}
-use Rattle.cdcl_search.proofs.Places.{tied_length}
-use Rattle.cdcl_search.proofs.UnitTies.{on_clauses}
-use Rattle.cdcl_search.proofs.UnitLaws.{false_are_low}
-use Rattle.cdcl_core.specs.Concluding.{IsEndedWith, IsContradicted, IsRefutable, IsConflictClause}
+use Rattle.cdcl_core.specs.Concluding.{IsEndedWith, IsContradicted, IsRefutable}
 use Rattle.cdcl_core.specs.Results.{Refutes, IsEndedWithin, EndsFor}
 
 -- ---- at level 0

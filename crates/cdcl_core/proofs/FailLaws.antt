@@ -8,7 +8,7 @@ use Rattle.cx_base.specs.Literals.{same_literal, negate}
 use Rattle.cx_base.proofs.LiteralLaws.{are_one, negate-negate}
 use Rattle.cx_trail.specs.Sequence.{TrailState, IsTrail, IsTrueIn, entry_at}
 use Rattle.conflict_learn.proofs.ChainOfResolutions.{by_cases}
-use Rattle.search_policy.specs.Assuming.{KeepsAssumptions, Contradicts, literal_of}
+use Rattle.search_policy.specs.Assuming.{AreApart, KeepsAssumptions, Contradicts, literal_of}
 use Rattle.search_policy.proofs.AssumingLaws.{contradicts_low}
 use Rattle.search_policy.specs.declared.assumptions.Assumptions.{Assumptions}
 use Rattle.cx_base.specs.Literals.{Literal}
@@ -19,7 +19,7 @@ use Rattle.conflict_learn.specs.declared.final_analysis.Final.{Final}
 use Rattle.conflict_learn.specs.Final.{IsFinal, IsDecidedAt, StandsBelow, kept_in}
 use Rattle.conflict_learn.specs.Learning.{literal_at, negated_at}
 use Rattle.cdcl_search.specs.declared.state.SearchState.{SearchState}
-use Rattle.cdcl_search.specs.Sources.{IsSourced}
+use Rattle.cdcl_search.specs.Sources.{IsSourced, RowsAreApart}
 use Rattle.cdcl_core.specs.Failing.{IsFailure, IsFree, IsLeftOf, RestsOnAssumptions, EndsAtPlace}
 use Rattle.cx_base.specs.Problem.{Problem, Unmet, AreWithin}
 use Rattle.cx_base.specs.Integers.{integers_of, literals}
@@ -91,12 +91,26 @@ fails_by constraints c clause (Some l) below rows h p = record {
   rests = p.rests;
 }
 
+-- where no literal contradicts an assumed one, none does that a row implied
+pub rows_apart : (constraints : List Constraint) (t : TrailState) (n : ℕ) → AreApart constraints t n → RowsAreApart constraints t n
+rows_apart constraints t n h l reason below has row is = subst (λ (m : Literal). assumes constraints (negate m) ≡ false) below.2.1 (h below.0 below.1)
+
+-- a conflict at level 0 ends the log by all of the trail
+pub start_ends_at : (constraints : List Constraint) (t : TrailState) → IsTrail t → t.level ≡ 0 → RowsAreApart constraints t (length t.entries) → (below : ℕ) → below ≡ length t.entries → EndsAtPlace constraints t None below
+start_ends_at constraints t ok zero apart below is = record {
+  within = omega (arith, is);
+  apart = subst (RowsAreApart constraints t) (sym is) apart;
+  rests = λ p less d. absurd (let top = ok.levels p (omega (arith, less, is)) in let above = d.0 in omega (arith, top, above, zero));
+  all = λ none. is;
+  stands = tt;
+}
+
 -- a conflict where each decision is of an assumed literal ends the log by all of the trail
 pub conflict_ends_at : (constraints : List Constraint) (a : Assumptions) (t : TrailState) → KeepsAssumptions constraints a t → IsTrail t → t.level ≤ a.level → a.checked ≡ length t.entries → (below : ℕ) → below ≡ length t.entries
     → EndsAtPlace constraints t None below
 conflict_ends_at constraints a t k ok low checked below is = record {
   within = omega (arith, is);
-  apart = λ p less. k.apart p (omega (arith, less, checked, is));
+  apart = rows_apart constraints t below (λ p less. k.apart p (omega (arith, less, checked, is)));
   rests = λ p less d. let within : p < length t.entries = omega (arith, less, is) in k.decided p within (let top = ok.levels p within in omega (arith, top, low)) d;
   all = λ none. is;
   stands = tt;
@@ -107,7 +121,7 @@ pub failed_ends_at : (constraints : List Constraint) (a : Assumptions) (t : Trai
     → EndsAtPlace constraints t (Some (entry_at t.entries p).literal) p
 failed_ends_at constraints a t k ok p is less h = record {
   within = omega (arith, less);
-  apart = λ q low. k.apart q (omega (arith, low, is));
+  apart = rows_apart constraints t p (λ q low. k.apart q (omega (arith, low, is)));
   rests = λ q low d. let within : q < length t.entries = omega (arith, low, less) in k.decided q within (let top = ok.levels q within in let same = contradicts_low constraints a t k ok p less h in omega (arith, top, same)) d;
   all = λ none. absurd (no_some (sym none));
   stands = ((less, refl), h);

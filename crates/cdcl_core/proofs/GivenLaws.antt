@@ -4,7 +4,7 @@ use Rattle.std.proofs.lemmas.Bool.{eq-eqb, ne_eqb, ltb-true, ltb-false}
 use Rattle.std.proofs.lemmas.List.{length-map, take_more}
 use Rattle.std.specs.FinMap.{same_map, nat_cmp-IsAntisymmetric}
 use Rattle.std.specs.Cmp.{nat_cmp_total}
-use Rattle.std.specs.List.{AllByRecursion, All, list_any}
+use Rattle.std.specs.List.{AllByRecursion, list_any}
 use Rattle.cx_base.specs.Literals.{Literal}
 use Rattle.cx_base.specs.Parity.{NormalForm, normal_form}
 use Rattle.cx_base.specs.Assumptions.{clashes}
@@ -18,7 +18,7 @@ use Rattle.cx_semantics.specs.Judging.{AllHold, IsRight}
 use Rattle.cx_semantics.specs.LogRules.{log_calculus, naming}
 use Rattle.cx_semantics.specs.ProofRules.{parity_of_clauses}
 use Rattle.cx_semantics.specs.Recovered.{Recovered}
-use Rattle.cx_semantics.specs.Tables.{Table, get, is_live, named, numbered_from, first_tables}
+use Rattle.cx_semantics.specs.Tables.{Table, get, is_live, named, numbered_from}
 use Rattle.cx_semantics.proofs.Lookups.{lookup, Looks-numbered_from}
 use Rattle.conflict_learn.proofs.ChainOfResolutions.{by_cases}
 use Rattle.xor_recover.specs.declared.found.Found.{Found}

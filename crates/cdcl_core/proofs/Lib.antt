@@ -5,6 +5,7 @@ pub mod EnteredCases
 pub mod JumpLaws
 pub mod LearnLaws
 pub mod FailLaws
+pub mod RefutedLaws
 pub mod AgainstLaws
 pub mod ClashLaws
 pub mod ConflictLaws

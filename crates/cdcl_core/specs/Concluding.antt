@@ -5,7 +5,6 @@ use Rattle.cx_base.specs.Assumptions.{clashes, IsFailed}
 use Rattle.cx_base.specs.Problem.{Problem, Unmet}
 use Rattle.cx_base.specs.Literals.{Literal}
 use Rattle.cx_base.specs.declared.steps.LogEvent.{LogEvent}
-use Rattle.cx_base.specs.declared.steps.LogEvent.TheVariants.{Step}
 use Rattle.cx_base.specs.declared.steps.LogStep.{LogStep}
 use Rattle.cx_semantics.specs.LogRules.{HasChain}
 use Rattle.cx_semantics.specs.Marked.{Marked}

@@ -15,7 +15,7 @@ use Rattle.search_steps.specs.Search.{Search, IsSearch}
 use Rattle.search_steps.specs.Holding.{AreTold}
 use Rattle.cdcl_search.specs.declared.state.SearchState.{SearchState}
 use Rattle.cdcl_search.specs.declared.logs.SearchLog.{SearchLog}
-use Rattle.cdcl_search.specs.Logs.{GoesOn}
+use Rattle.cdcl_search.specs.Logs.{GoesOn, HasNotFailed}
 use Rattle.cdcl_search.specs.Ties.{Ties, IsWatched}
 
 -- the watches fitted before some clauses of the arena were removed
@@ -28,10 +28,11 @@ pub record WasWatched (w : WatchState) (a : ArenaState) (t : TrailState) : Type 
 abbrev pub SearchLoses : Problem → SearchState → State → Option (List LogEvent) → Type 0
 SearchLoses formula c e told = (s : Search) × IsSearch formula e.parities s × AreTold told s.events × Ties formula c e [] s × WasWatched c.watches c.arena c.trail × (s.moment.reductions < c.reductions)
 
--- so it is behind what the log was told; each literal of the trail has a unit clause
+-- so it is behind what the log was told; each literal of the trail has a unit clause, and the sink has not failed
 pub record IsReducing {P L : Type 0} (p : engine.Ghosts P) (m : sink.Ghosts L LogEvent) (log : SearchLog L) (c : SearchState) (e : P) : Type 0 where
   pub loses : SearchLoses log.formula.now c (p.state e) (m.items log.sink.now)
   pub units : length c.units.items ≡ length c.trail.entries
+  pub going : HasNotFailed m log
 
 -- Up to an answer the reduction goes on, with as many counted conflicts; the log goes on.
 pub record ReducesOn {P L T : Type 0} (p : engine.Ghosts P) (m : sink.Ghosts L LogEvent) (old : SearchLog L) (c : SearchState) (new : SearchLog L) (now : SearchState) (e : P) (result : Result T CoreFault) : Type 0 where

@@ -11,17 +11,18 @@ use Rattle.step_text.specs.declared.sink.Sink as sink
 use Rattle.parity_engine.specs.declared.engine.ParityEngine as engine
 use Rattle.cdcl_search.specs.declared.state.SearchState.{SearchState}
 use Rattle.cdcl_search.specs.declared.logs.SearchLog.{SearchLog}
-use Rattle.cdcl_search.specs.Logs.{GoesOn, Stands, told_in}
+use Rattle.cdcl_search.specs.Logs.{GoesOn, HasNotFailed, Stands, told_in}
 use Rattle.cdcl_core.specs.Concluding.{SearchGoesOn}
 use Rattle.cdcl_core.specs.Results.{IsRightOutcome, IsSettledBy}
 use Rattle.cdcl_core.specs.declared.solving.Outcome.{Outcome}
 
--- the search stands, with budget left and no variable marked
+-- the search stands, with budget left and no variable marked, and the sink has not failed
 pub record IsSearching {P L : Type 0} (p : engine.Ghosts P) (m : sink.Ghosts L LogEvent) (log : SearchLog L) (c : SearchState) (e : P) (a : Assumptions) (budget : ℕ) (marks : List Bool) : Type 0 where
   pub stands : Stands p m log c e []
   pub keeps : KeepsAssumptions log.formula.now.constraints a c.trail
   pub few : (c.conflicts < budget) × (budget ≤ 10 ^ 18)
   pub clear : AreClear marks
+  pub going : HasNotFailed m log
 
 -- Up to an answer the search goes on, and has counted one conflict more; an answer is right. No variable is marked then, and the log goes on.
 pub record LeavesRound {P L : Type 0} (p : engine.Ghosts P) (m : sink.Ghosts L LogEvent) (budget : ℕ) (old : SearchLog L) (c : SearchState) (new : SearchLog L) (now : SearchState) (e : P) (a : Assumptions) (marks : List Bool) (result : Result (Option Outcome) CoreFault) : Type 0 where

@@ -2,7 +2,7 @@
 ghost use Rattle.std.specs.Prelude.{◌+◌, ◌<◌, ◌≤◌, [], List, length, drop, IfOk};
 ghost use Rattle.cx_base.specs.Literals.{Literal};
 ghost use Rattle.conflict_learn.specs.Faults.{fault_in};
-ghost use Rattle.cdcl_search.specs.Logs.{GoesOn, told_in};
+ghost use Rattle.cdcl_search.specs.Logs.{GoesOn, HasNotFailed, told_in};
 ghost use Rattle.cdcl_core.specs.Beginning.{SearchBegins};
 ghost use Rattle.cdcl_core.specs.Filling.{IsFilled};
 ghost use Rattle.cdcl_core.specs.Given.{AreEngines, HasGiven};
@@ -28,6 +28,7 @@ fn put_unit<L: Sink<Item = LogEvent>>(
 ) -> Result<bool, CoreFault>
     requires place { place < length units.now }
     requires stands { (engines : List (List Literal)) × SearchStandsBut log.old.formula.now engines state.old (drop place units.now) (told_in L.Sink log.old) }
+    requires going { HasNotFailed L.Sink log.old }
     ensures puts { IfOk result (Puts L.Sink log.old state.old (drop place units.now) log.new state.new (drop (place + 1) units.now)) }
     ensures log { GoesOn L.Sink log.old (fault_in result) log.new }
 {
@@ -52,7 +53,8 @@ fn put_units<L: Sink<Item = LogEvent>>(
     state: &mut SearchState,
     units: &[Single],
 ) -> Result<bool, CoreFault>
-    requires { (engines : List (List Literal)) × SearchStandsBut log.old.formula.now engines state.old units.now (told_in L.Sink log.old) }
+    requires stands { (engines : List (List Literal)) × SearchStandsBut log.old.formula.now engines state.old units.now (told_in L.Sink log.old) }
+    requires going { HasNotFailed L.Sink log.old }
     ensures puts { IfOk result (Puts L.Sink log.old state.old units.now log.new state.new []) }
     ensures log { GoesOn L.Sink log.old (fault_in result) log.new }
 {
@@ -75,6 +77,7 @@ pub(crate) fn start<P: ParityEngine, L: Sink<Item = LogEvent>>(
     requires given { HasGiven log.old.formula.now parities (told_in L.Sink log.old) }
     requires engines { AreEngines log.old.formula.now parities }
     requires filled { IsFilled log.old.formula.now filled.old.state filled.old.units.items filled.old.empty }
+    requires going { HasNotFailed L.Sink log.old }
     ensures begins { IfOk result (λ e. SearchBegins P.state log.new.formula.now (told_in L.Sink log.new) filled.new.state e) }
     ensures log { GoesOn L.Sink log.old (fault_in result) log.new }
 {

@@ -6,7 +6,7 @@ ghost use Rattle.cx_trail.specs.Sequence.{entry_at};
 ghost use Rattle.parity_engine.specs.Written.{AreRising};
 ghost use Rattle.search_policy.specs.Assuming.{Contradicts, KeepsAssumptions};
 ghost use Rattle.cdcl_search.specs.Finds.{PropagationFinds, IsClash};
-ghost use Rattle.cdcl_search.specs.Logs.{Stands};
+ghost use Rattle.cdcl_search.specs.Logs.{HasNotFailed, Stands};
 ghost use Rattle.cdcl_search.specs.Rows.{AreFew, AreRowSteps, sum_and_clause_events};
 ghost use Rattle.cdcl_search.specs.Tells.{IsId};
 ghost use Rattle.cdcl_search.specs.Ties.{first_row_id};
@@ -88,6 +88,7 @@ fn of_row<P: ParityEngine, L: Sink<Item = LogEvent>>(
 ) -> Result<Conclusion, CoreFault>
     requires stands { Stands P.ParityEngine L.Sink log.old state.now engine.now [] }
     requires row { IsRowAgainst state.now (P.state engine.now) row kept }
+    requires going { HasNotFailed L.Sink log.old }
     ensures { ConcludesOn P.ParityEngine L.Sink log.old log.new state.now engine.now kept result }
 {
     let reason = reason_clause(log.alloc, engine, row, kept, &state.trail)?;
@@ -127,6 +128,7 @@ pub(crate) fn conflict_clause<P: ParityEngine, L: Sink<Item = LogEvent>>(
     requires stands { Stands P.ParityEngine L.Sink log.old state.now engine.now [] }
     requires found { PropagationFinds state.now (P.state engine.now) found }
     requires conflict { found ≢ Quiet }
+    requires going { HasNotFailed L.Sink log.old }
     ensures { ConcludesOn P.ParityEngine L.Sink log.old log.new state.now engine.now None result }
 {
     match found {
@@ -147,6 +149,7 @@ fn reason_against<P: ParityEngine, L: Sink<Item = LogEvent>>(
     requires stands { Stands P.ParityEngine L.Sink log.old state.now engine.now [] }
     requires reason { HasReason state.now.trail literal reason }
     requires high { (p : ℕ) × (p < length state.now.trail.entries) × ((entry_at state.now.trail.entries p).literal ≡ literal) × (length state.now.units.items ≤ p) }
+    requires going { HasNotFailed L.Sink log.old }
     ensures { ConcludesOn P.ParityEngine L.Sink log.old log.new state.now engine.now (Some literal) result }
 {
     match reason {
@@ -168,6 +171,7 @@ pub(crate) fn clause_against<P: ParityEngine, L: Sink<Item = LogEvent>>(
     requires place { place < length state.now.trail.entries }
     requires keeps { KeepsAssumptions log.old.formula.now.constraints assumptions.now state.now.trail }
     requires contradicts { Contradicts log.old.formula.now.constraints state.now.trail place }
+    requires going { HasNotFailed L.Sink log.old }
     ensures { ConcludesOn P.ParityEngine L.Sink log.old log.new state.now engine.now (Some (entry_at state.now.trail.entries place).literal) result }
 {
     if place < state.units.len() {

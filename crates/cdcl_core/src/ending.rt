@@ -1,7 +1,7 @@
 //! The end of a log.
 ghost use Rattle.std.specs.Prelude.{◌≤◌};
 ghost use Rattle.std.specs.List.{All};
-ghost use Rattle.cdcl_search.specs.Logs.{told_in};
+ghost use Rattle.cdcl_search.specs.Logs.{HasNotFailed, told_in};
 ghost use Rattle.cdcl_search.specs.Tells.{IsId};
 ghost use Rattle.cdcl_core.specs.Concluding.{EndsLog, IsRefutable, TellsEmpty, TellsEnd};
 
@@ -20,7 +20,8 @@ pub(crate) fn tell_ending<L: Sink<Item = LogEvent>>(
     state: &SearchState,
     ending: Ending,
 ) -> Result<LitList, CoreFault>
-    requires { EndsLog log.old.formula.now state.now.conflicts (told_in L.Sink log.old) ending.failed ending.steps.items }
+    requires ends { EndsLog log.old.formula.now state.now.conflicts (told_in L.Sink log.old) ending.failed ending.steps.items }
+    requires going { HasNotFailed L.Sink log.old }
     ensures { TellsEnd L.Sink log.old state.now.conflicts log.new result }
 {
     let Ending { steps, failed } = ending;
@@ -39,6 +40,7 @@ pub(crate) fn refute<L: Sink<Item = LogEvent>>(
     requires units { All IsId state.now.units.items }
     requires id { IsId id }
     requires shown { IsRefutable log.old.formula.now state.now.next state.now.conflicts (told_in L.Sink log.old) }
+    requires going { HasNotFailed L.Sink log.old }
     ensures { TellsEmpty L.Sink log.old state.now.conflicts log.new result }
 {
     let hints = hints_of(log.alloc, state, lits, id)?;

@@ -3,7 +3,7 @@ ghost use Rattle.std.specs.Prelude.{◌≡◌, ◌≤◌, List, [], length, IfOk
 ghost use Rattle.cx_semantics.specs.Chain.{negations};
 ghost use Rattle.conflict_learn.specs.Faults.{fault_in};
 ghost use Rattle.conflict_learn.specs.Marks.{AreClear};
-ghost use Rattle.cdcl_search.specs.Logs.{GoesOn, Stands};
+ghost use Rattle.cdcl_search.specs.Logs.{GoesOn, HasNotFailed, Stands};
 ghost use Rattle.cdcl_core.specs.Concluding.{IsTold, TellsEnd};
 ghost use Rattle.cdcl_core.specs.Failing.{IsFailure, IsLeftOf};
 
@@ -55,6 +55,7 @@ fn trace<'x, P: ParityEngine, L: Sink<Item = LogEvent>>(
     requires fails { IsFailure log.old.formula.now.constraints state.now lits.now kept.now below rows.old.items }
     requires few_rows { length rows.old.items ≤ 1 }
     requires clear { AreClear marks.old }
+    requires going { HasNotFailed L.Sink log.old }
     ensures stands { OnOk result (Stands P.ParityEngine L.Sink log.new state.now engine.now rows.new.items) }
     ensures left { IfOk result (IsLeftOf log.new.formula.now.constraints state.now lits.now kept.now below rows.new.items) }
     ensures clear { OnOk result (AreClear marks.new) }
@@ -91,6 +92,7 @@ pub(crate) fn fail<P: ParityEngine, L: Sink<Item = LogEvent>>(
     requires fails { IsFailure log.old.formula.now.constraints state.now failure.conflict.lits failure.kept failure.below failure.conflict.rows.items }
     requires told { IsTold failure.conflict }
     requires clear { AreClear marks.old }
+    requires going { HasNotFailed L.Sink log.old }
     ensures ends { TellsEnd L.Sink log.old state.now.conflicts log.new result }
     ensures clear { OnOk result (AreClear marks.new) }
 {

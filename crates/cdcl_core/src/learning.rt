@@ -14,9 +14,9 @@ ghost use Rattle.parity_engine.specs.State.{State};
 ghost use Rattle.search_steps.specs.Recovering.{SettledWithRecovered};
 ghost use Rattle.cdcl_search.specs.Deleting.{deletions};
 ghost use Rattle.cdcl_search.specs.Tells.{IsId, AreIdsFrom, AreStepsOf};
-ghost use Rattle.cdcl_search.specs.Logs.{GoesOn, told_in};
+ghost use Rattle.cdcl_search.specs.Logs.{GoesOn, HasNotFailed, told_in};
 ghost use Rattle.cdcl_search.specs.Ties.{first_row_id, row_ids, HaveReasons};
-ghost use Rattle.cdcl_search.specs.Sources.{HasIds};
+ghost use Rattle.cdcl_search.specs.Sources.{HasIds, RowsAreApart};
 ghost use Rattle.cdcl_core.specs.Concluding.{IsAtConflict, IsTold};
 ghost use Rattle.cdcl_core.specs.Failing.{IsFree};
 ghost use Rattle.cdcl_core.specs.Learning.{Learns, IsLesson};
@@ -106,6 +106,7 @@ fn tell_learned<P: ParityEngine, L: Sink<Item = LogEvent>>(
     requires unsettled { ¬ SettledWithRecovered log.old.formula.now }
     requires free { IsFree log.old.formula.now.constraints state.now.trail }
     requires lesson { IsLesson state.now rows.now conflict.now learned.now }
+    requires going { HasNotFailed L.Sink log.old }
     ensures learned { OnOk result (Learns log.new.formula.now state.now (P.state engine.now) learned.now.lits learned.now.back_level (told_in L.Sink log.new)) }
     ensures log { GoesOn L.Sink log.old (fault_in result) log.new }
 {
@@ -130,10 +131,11 @@ fn lesson_of<'x, P: ParityEngine, L: Sink<Item = LogEvent>>(
     rows: &'x mut Vec<LitList>,
     marks: &mut Marks,
 ) -> Result<Learned, CoreFault>
-    requires apart { AreApart log.old.formula.now.constraints state.now.trail (length state.now.trail.entries) }
+    requires apart { RowsAreApart log.old.formula.now.constraints state.now.trail (length state.now.trail.entries) }
     requires at { IsAtConflict P.ParityEngine L.Sink log.old state.now engine.now rows.old.items conflict.now }
     requires few_rows { length rows.old.items ≤ 1 }
     requires clear { AreClear marks.old }
+    requires going { HasNotFailed L.Sink log.old }
     ensures at { OnOk result (IsAtConflict P.ParityEngine L.Sink log.new state.now engine.now rows.new.items conflict.now) }
     ensures lesson { IfOk result (IsLesson state.now rows.new.items conflict.now) }
     ensures clear { OnOk result (AreClear marks.new) }
@@ -165,6 +167,7 @@ pub(crate) fn learn<P: ParityEngine, L: Sink<Item = LogEvent>>(
     requires told { IsTold conflict }
     requires unsettled { ¬ SettledWithRecovered log.old.formula.now }
     requires clear { AreClear marks.old }
+    requires going { HasNotFailed L.Sink log.old }
     ensures learned { IfOk result (λ r. Learns log.new.formula.now state.now (P.state engine.now) r.lits r.back_level (told_in L.Sink log.new)) }
     ensures touched { IfOk result (λ r. AreTouched state.now.trail r.resolved r.lits r.touched.items) }
     ensures clear { OnOk result (AreClear marks.new) }

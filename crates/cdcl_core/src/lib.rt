@@ -13,6 +13,7 @@ mod learning;
 mod originals;
 mod recovering;
 mod reducing;
+mod refuting;
 mod restarting;
 mod schedule;
 mod solving;

@@ -1,7 +1,7 @@
 //! The formula's clauses and parities, with which the log begins.
 ghost use Rattle.std.specs.Prelude.{◌+◌, ◌<◌, ◌≤◌, length, OnOk};
 ghost use Rattle.conflict_learn.specs.Faults.{fault_in};
-ghost use Rattle.cdcl_search.specs.Logs.{GoesOn, told_in};
+ghost use Rattle.cdcl_search.specs.Logs.{GoesOn, HasNotFailed, told_in};
 ghost use Rattle.cdcl_core.specs.Originals.{HasBegun, HasTaken};
 ghost use Rattle.cdcl_core.specs.Results.{IsFresh};
 
@@ -29,6 +29,7 @@ fn tell_original<L: Sink<Item = LogEvent>>(
     requires few { length log.old.formula.now.constraints ≤ 4294967295 }
     requires place { place < length log.old.formula.now.constraints }
     requires taken { HasTaken L.Sink log.old place counts.old }
+    requires going { HasNotFailed L.Sink log.old }
     ensures taken { OnOk result (HasTaken L.Sink log.new (place + 1) counts.new) }
     ensures log { GoesOn L.Sink log.old (fault_in result) log.new }
 {
@@ -55,6 +56,7 @@ pub(crate) fn tell_originals<L: Sink<Item = LogEvent>>(
 ) -> Result<(), CoreFault>
     requires few { length log.old.formula.now.constraints ≤ 4294967295 }
     requires fresh { IsFresh (told_in L.Sink log.old) }
+    requires going { HasNotFailed L.Sink log.old }
     ensures begun { OnOk result (HasBegun log.new.formula.now log.new.formula.now.constraints (told_in L.Sink log.new)) }
     ensures log { GoesOn L.Sink log.old (fault_in result) log.new }
 {

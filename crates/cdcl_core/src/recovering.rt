@@ -7,7 +7,7 @@ ghost use Rattle.cx_base.specs.Integers.{integers_of};
 ghost use Rattle.cx_base.specs.declared.steps.LogStep.TheVariants as step;
 ghost use Rattle.conflict_learn.specs.Faults.{fault_in};
 ghost use Rattle.xor_recover.specs.Finds.{IsJudgedRight};
-ghost use Rattle.cdcl_search.specs.Logs.{GoesOn, told_in};
+ghost use Rattle.cdcl_search.specs.Logs.{GoesOn, HasNotFailed, told_in};
 ghost use Rattle.cdcl_search.specs.Tells.{IsId, IsStep};
 ghost use Rattle.cdcl_core.specs.Given.{AreEngines, HasGiven};
 ghost use Rattle.cdcl_core.specs.Originals.{HasBegun};
@@ -77,6 +77,7 @@ fn tell_find<L: Sink<Item = LogEvent>>(
     requires given { HasGiven log.old.formula.now parities.old.items (told_in L.Sink log.old) }
     requires within { AreWithin log.old.formula.now.variables find.now.parity }
     requires judged { IsJudgedRight log.old.formula.now find.now }
+    requires going { HasNotFailed L.Sink log.old }
     ensures given { OnOk result (HasGiven log.new.formula.now parities.new.items (told_in L.Sink log.new)) }
     ensures one_more { OnOk result (parities.new.items ≡ parities.old.items ++ find.now.parity ∷ []) }
     ensures log { GoesOn L.Sink log.old (fault_in result) log.new }
@@ -96,6 +97,7 @@ pub(crate) fn all_parities<L: Sink<Item = LogEvent>>(
     requires few { length log.old.formula.now.constraints ≤ 4294967295 }
     requires apart { IsFalse (clashes log.old.formula.now.constraints) }
     requires begun { HasBegun log.old.formula.now log.old.formula.now.constraints (told_in L.Sink log.old) }
+    requires going { HasNotFailed L.Sink log.old }
     ensures given { IfOk result (λ p. HasGiven log.new.formula.now p (told_in L.Sink log.new)) }
     ensures engines { IfOk result (AreEngines log.new.formula.now) }
     ensures log { GoesOn L.Sink log.old (fault_in result) log.new }

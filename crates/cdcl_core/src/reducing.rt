@@ -1,7 +1,7 @@
 //! Deleting learned clauses.
 ghost use Rattle.std.specs.Prelude.{◌≡◌, [], length, IsTrue};
 ghost use Rattle.cdcl_search.specs.Calls.{SearchesOn};
-ghost use Rattle.cdcl_search.specs.Logs.{Stands};
+ghost use Rattle.cdcl_search.specs.Logs.{HasNotFailed, Stands};
 ghost use Rattle.cdcl_core.specs.Reducing.{MayGo, IsReducing, ReducesOn};
 
 use cdcl_search::SearchState;
@@ -53,6 +53,7 @@ pub(crate) fn reduce<P: ParityEngine, L: Sink<Item = LogEvent>>(
 ) -> Result<(), CoreFault>
     requires stands { Stands P.ParityEngine L.Sink log.old state.old engine.now [] }
     requires units { length state.old.units.items ≡ length state.old.trail.entries }
+    requires going { HasNotFailed L.Sink log.old }
     ensures searches_on { SearchesOn P.ParityEngine L.Sink log.old state.old log.new state.new engine.now result }
     ensures trail { state.new.trail ≡ state.old.trail }
 {

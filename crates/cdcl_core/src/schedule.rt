@@ -3,7 +3,7 @@ ghost use Rattle.std.specs.Prelude.{◌≡◌, ◌≢◌, [], length, IsTrue, On
 ghost use Rattle.parity_engine.specs.declared.state.Mood.TheVariants.{Broken};
 ghost use Rattle.search_policy.specs.Assuming.{KeepsAssumptions};
 ghost use Rattle.cdcl_search.specs.Calls.{IsReady, SearchesOn};
-ghost use Rattle.cdcl_search.specs.Logs.{Stands};
+ghost use Rattle.cdcl_search.specs.Logs.{HasNotFailed, Stands};
 
 use crate::compacting::compact;
 use crate::reducing::reduce;
@@ -105,7 +105,8 @@ fn reduce_where_many<P: ParityEngine, L: Sink<Item = LogEvent>>(
     state: &mut SearchState,
     engine: &P,
 ) -> Result<(), CoreFault>
-    requires { Stands P.ParityEngine L.Sink log.old state.old engine.now [] }
+    requires stands { Stands P.ParityEngine L.Sink log.old state.old engine.now [] }
+    requires going { HasNotFailed L.Sink log.old }
     ensures searches_on { SearchesOn P.ParityEngine L.Sink log.old state.old log.new state.new engine.now result }
     ensures level { state.new.trail.level ≡ state.old.trail.level }
     ensures variables { state.new.trail.variables ≡ state.old.trail.variables }

@@ -1,5 +1,5 @@
 //! The search as a whole.
-ghost use Rattle.std.specs.Prelude.{◌≡◌, ◌≢◌, ℕ, ◌<◌, ◌≤◌, ◌^◌, [], ◌∷◌, length, IfOk, IfErr, OnOk};
+ghost use Rattle.std.specs.Prelude.{◌≡◌, ◌≢◌, ℕ, false, ◌<◌, ◌≤◌, ◌^◌, [], ◌∷◌, length, IfOk, IfErr, OnOk};
 ghost use Rattle.cx_semantics.specs.Settled.{Settled};
 ghost use Rattle.cx_base.specs.Counts.{Rose};
 ghost use Rattle.conflict_learn.specs.declared.fault.CoreFault.TheVariants.{Write};
@@ -7,16 +7,17 @@ ghost use Rattle.conflict_learn.specs.Faults.{CountsAs, fault_in};
 ghost use Rattle.conflict_learn.specs.Marks.{AreClear};
 ghost use Rattle.parity_engine.specs.declared.state.Mood.TheVariants.{Broken};
 ghost use Rattle.search_steps.specs.Recovering.{SettledWithRecovered};
+ghost use Rattle.cdcl_search.specs.Finds.{PropagationFinds};
 ghost use Rattle.cdcl_search.specs.Searching.{SearchReaches};
-ghost use Rattle.cdcl_search.specs.Logs.{GoesOn, Stands, told_in};
+ghost use Rattle.cdcl_search.specs.Logs.{GoesOn, HasNotFailed, Stands, told_in};
 ghost use Rattle.cdcl_search.specs.declared.propagation.Found.TheVariants.{Quiet};
 ghost use Rattle.cdcl_search.specs.declared.searching.Reached.TheVariants as reached;
 ghost use Rattle.search_policy.specs.Assuming.{Contradicts, KeepsAssumptions};
 ghost use Rattle.cx_base.specs.Literals.{positive_of, negative_of};
-ghost use Rattle.cdcl_search.specs.Tells.{GivesUp, HaveLowIds, HasNoMark};
+ghost use Rattle.cdcl_search.specs.Tells.{GivesUp, HasFailedBy, HaveLowIds, HasNoMark};
 ghost use Rattle.cdcl_core.specs.Beginning.{IsAtStart};
 ghost use Rattle.cdcl_core.specs.Concluding.{Concludes, IsAtConflict, IsTold, TellsEnd};
-ghost use Rattle.cdcl_core.specs.Failing.{EndsAtPlace};
+ghost use Rattle.cdcl_core.specs.Failing.{EndsAtPlace, IsRefuted};
 ghost use Rattle.cdcl_core.specs.Filling.{IsFilledUpTo};
 ghost use Rattle.cdcl_core.specs.Given.{AreEngines, HasGiven};
 ghost use Rattle.cdcl_core.specs.Results.{IsRightOutcome, IsFresh, IsSettledBy};
@@ -32,6 +33,7 @@ use crate::jumping::jump;
 use crate::learning::learn;
 use crate::originals::tell_originals;
 use crate::recovering::all_parities;
+use crate::refuting::is_refuted;
 use crate::schedule::{Schedule, follow_schedule};
 use cdcl_search::logs::SearchLog;
 use cdcl_search::{Found, Reached, SearchState, search_on, values_of};
@@ -72,6 +74,7 @@ fn learn_and_jump<P: ParityEngine, L: Sink<Item = LogEvent>>(
     requires unsettled { ¬ SettledWithRecovered log.old.formula.now }
     requires few { (state.old.conflicts < budget) × (budget ≤ 10 ^ 18) }
     requires clear { AreClear marks.old }
+    requires going { HasNotFailed L.Sink log.old }
     ensures { LeavesRound P.ParityEngine L.Sink budget log.old state.old log.new state.new engine.new assumptions.new marks.new result }
 {
     let learned = learn(log, state, engine, marks, conflict)?;
@@ -95,6 +98,7 @@ fn end<P: ParityEngine, L: Sink<Item = LogEvent>>(
     requires concludes { Concludes log.old.formula.now state.now (P.state engine.now) (told_in L.Sink log.old) kept conclusion }
     requires at { EndsAtPlace log.old.formula.now.constraints state.now.trail kept below }
     requires clear { AreClear marks.old }
+    requires going { HasNotFailed L.Sink log.old }
     ensures ends { TellsEnd L.Sink log.old state.now.conflicts log.new result }
     ensures clear { OnOk result (AreClear marks.new) }
 {
@@ -148,7 +152,28 @@ fn conclude_conflict<P: ParityEngine, L: Sink<Item = LogEvent>>(
     }
 }
 
-/// What a literal comes to that contradicts an assumed one: the end of the log.
+/// What a conflict at level 0 comes to: the end of the log, by all of the trail.
+fn conclude_refuted<P: ParityEngine, L: Sink<Item = LogEvent>>(
+    log: &mut SearchLog<L>,
+    state: &SearchState,
+    engine: &P,
+    marks: &mut Marks,
+    found: Found,
+) -> Result<LitList, CoreFault>
+    requires stands { Stands P.ParityEngine L.Sink log.old state.now engine.now [] }
+    requires found { PropagationFinds state.now (P.state engine.now) found }
+    requires refuted { IsRefuted log.old.formula.now.constraints state.now.trail found }
+    requires clear { AreClear marks.old }
+    requires going { HasNotFailed L.Sink log.old }
+    ensures ends { TellsEnd L.Sink log.old state.now.conflicts log.new result }
+    ensures clear { OnOk result (AreClear marks.new) }
+{
+    let conclusion = conflict_clause(log, state, engine, found)?;
+    let below = state.trail.len();
+    end(log, state, engine, marks, conclusion, None, below)
+}
+
+/// What a literal comes to that contradicts an assumed one: the end of the log. A conflict at level 0 goes before it, since no assumed literal fails then.
 fn conclude_failed<P: ParityEngine, L: Sink<Item = LogEvent>>(
     log: &mut SearchLog<L>,
     state: &SearchState,
@@ -156,14 +181,20 @@ fn conclude_failed<P: ParityEngine, L: Sink<Item = LogEvent>>(
     assumptions: &Assumptions,
     marks: &mut Marks,
     place: usize,
+    found: Found,
 ) -> Result<LitList, CoreFault>
     requires stands { Stands P.ParityEngine L.Sink log.old state.now engine.now [] }
     requires keeps { KeepsAssumptions log.old.formula.now.constraints assumptions.now state.now.trail }
     requires place { (place ≡ assumptions.now.checked) × (place < length state.now.trail.entries) × Contradicts log.old.formula.now.constraints state.now.trail place }
+    requires found { PropagationFinds state.now (P.state engine.now) found }
     requires clear { AreClear marks.old }
+    requires going { HasNotFailed L.Sink log.old }
     ensures ends { TellsEnd L.Sink log.old state.now.conflicts log.new result }
     ensures clear { OnOk result (AreClear marks.new) }
 {
+    if is_refuted(log.formula, &state.trail, assumptions, &found) {
+        return conclude_refuted(log, state, engine, marks, found);
+    }
     let literal = state.trail.entry(place).literal;
     let conclusion = clause_against(log, state, engine, assumptions, place)?;
     end(log, state, engine, marks, conclusion, Some(literal), place)
@@ -193,8 +224,8 @@ fn conclude<P: ParityEngine, L: Sink<Item = LogEvent>>(
         Reached::Found(found) => {
             conclude_conflict(log, state, engine, assumptions, marks, budget, found)
         }
-        Reached::Failed(place) => {
-            let failed = conclude_failed(log, state, engine, assumptions, marks, place)?;
+        Reached::Failed(place, found) => {
+            let failed = conclude_failed(log, state, engine, assumptions, marks, place, found)?;
             Ok(Some(Outcome::Unsat { failed }))
         }
     }
@@ -228,6 +259,7 @@ fn search<P: ParityEngine, L: Sink<Item = LogEvent>>(
 ) -> Result<Outcome, CoreFault>
     requires begins { IsAtStart log.old.formula.now (told_in L.Sink log.old) state.old (P.state engine.old) }
     requires budget { (1 ≤ budget) × (budget ≤ 10 ^ 18) }
+    requires going { HasNotFailed L.Sink log.old }
     ensures answers { IfOk result (λ a. IsRightOutcome log.new.formula.now budget (told_in L.Sink log.new) a) }
     ensures settled { SettledWithRecovered log.new.formula.now → IfOk result (λ a. IsSettledBy log.new.formula.now 1 (told_in L.Sink log.new) a) }
     ensures log { GoesOn L.Sink log.old (fault_in result) log.new }
@@ -256,6 +288,7 @@ fn fill_and_search<P: ParityEngine + Drop, L: Sink<Item = LogEvent>>(
     requires given { HasGiven log.old.formula.now parities (told_in L.Sink log.old) }
     requires engines { AreEngines log.old.formula.now parities }
     requires none { IsFilledUpTo log.old.formula.now 0 filled.old.state filled.old.units.items filled.old.empty }
+    requires going { HasNotFailed L.Sink log.old }
     ensures answers { IfOk result (λ a. IsRightOutcome log.new.formula.now budget (told_in L.Sink log.new) a) }
     ensures settled { SettledWithRecovered log.new.formula.now → IfOk result (λ a. IsSettledBy log.new.formula.now 1 (told_in L.Sink log.new) a) }
     ensures log { GoesOn L.Sink log.old (fault_in result) log.new }
@@ -288,6 +321,7 @@ fn search_from_start<P: ParityEngine + Drop, L: Sink<Item = LogEvent>>(
     requires budget { (1 ≤ budget) × (budget ≤ 10 ^ 18) }
     requires few { length log.old.formula.now.constraints ≤ 4294967295 }
     requires fresh { IsFresh (told_in L.Sink log.old) }
+    requires going { HasNotFailed L.Sink log.old }
     ensures answers { IfOk result (λ a. IsRightOutcome log.new.formula.now budget (told_in L.Sink log.new) a) }
     ensures settled { SettledWithRecovered log.new.formula.now → IfOk result (λ a. IsSettledBy log.new.formula.now 1 (told_in L.Sink log.new) a) }
     ensures log { GoesOn L.Sink log.old (fault_in result) log.new }
@@ -310,6 +344,7 @@ fn search_from_start<P: ParityEngine + Drop, L: Sink<Item = LogEvent>>(
 /// the unit clauses of level 0. Where the formula is settled by propagation alone, the recovered parities taken as
 /// parities, no conflict is counted and the answer is never unknown.
 ///
+/// The sink has not failed before, and has not after an answer: one that has failed is not asked again.
 /// It gives up for want of memory, or where the sink failed to write; the log is right as far as it goes, also with the
 /// event that was torn then.
 pub fn solve_core<P: ParityEngine + Drop, L: Sink<Item = LogEvent>>(
@@ -321,6 +356,7 @@ pub fn solve_core<P: ParityEngine + Drop, L: Sink<Item = LogEvent>>(
     requires budget { (1 ≤ budget) × (budget ≤ 10 ^ 18) }
     requires few { length formula.now.constraints ≤ 4294967295 }
     requires fresh { IsFresh (L.items sink.old) }
+    requires going { L.has_failed sink.old ≡ false }
     ensures answers { IfOk result (λ a. IsRightOutcome formula.now budget (L.items sink.new) a) }
     ensures settled { Settled formula.now → IfOk result (λ a. (conflicts : ℕ) → a ≢ outcome.Unknown conflicts) }
     ensures settled_with_recovered { SettledWithRecovered formula.now → IfOk result (λ a. (conflicts : ℕ) → a ≢ outcome.Unknown conflicts) }
@@ -329,6 +365,7 @@ pub fn solve_core<P: ParityEngine + Drop, L: Sink<Item = LogEvent>>(
     ensures gave_up { IfErr result (λ e. GivesUp formula.now (L.torn sink.new) (L.items sink.new) e) }
     ensures write { IfErr result (λ e. e ≡ Write → Rose (L.faults sink.old) (L.faults sink.new)) }
     ensures faults { CountsAs (fault_in result) (L.faults sink.old) (L.faults sink.new) }
+    ensures failed { HasFailedBy (fault_in result) (L.has_failed sink.old) (L.has_failed sink.new) }
     ensures frame { L.keeps sink.old sink.new }
 {
     let mut log = SearchLog {

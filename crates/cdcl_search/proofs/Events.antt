@@ -1,5 +1,5 @@
 -- What a sink was told, event by event.
-use Rattle.std.proofs.Common.{◌≡◌, refl, sym, ap, ◌∙◌, subst, ℕ, zero, suc, ◌<◌, List, [], ◌∷◌, ◌++◌, length, take, get_or, Option, Some, None, Result, Ok, Err, arith, append_assoc, append-nil}
+use Rattle.std.proofs.Common.{◌≡◌, refl, sym, ap, ◌∙◌, subst, ℕ, Bool, zero, suc, ◌<◌, List, [], ◌∷◌, ◌++◌, length, take, get_or, Option, Some, None, Result, Ok, Err, arith, append_assoc, append-nil}
 use Rattle.std.proofs.lemmas.List.{length-map, take-map, get_or-map}
 use Rattle.cx_base.specs.declared.steps.LogStep.{LogStep}
 use Rattle.cx_base.specs.declared.steps.LogEvent.{LogEvent}
@@ -8,8 +8,8 @@ use Rattle.conflict_learn.specs.declared.fault.CoreFault.{CoreFault}
 use Rattle.conflict_learn.specs.declared.fault.CoreFault.TheVariants.{Memory, Write}
 use Rattle.step_text.specs.declared.sink.SinkFault.{SinkFault}
 use Rattle.step_text.specs.declared.sink.SinkFault.TheVariants as sink
-use Rattle.step_text.specs.Sinks.{SinkFaultsAs, OnFailed}
-use Rattle.cdcl_search.specs.Tells.{TellsAll, FaultsAs, as_events, with_events, fault_as}
+use Rattle.step_text.specs.Sinks.{SinkFaultsAs, HasFailedAs, OnFailed}
+use Rattle.cdcl_search.specs.Tells.{TellsAll, FaultsAs, HasFailedBy, as_events, with_events, fault_as}
 
 pub no_more : (told : Option (List LogEvent)) → with_events [] told ≡ told
 no_more None = refl
@@ -31,6 +31,10 @@ module _ (torn : LogEvent → Type 0) (event : LogEvent) (old new : Option (List
 pub faults_as : (fault : SinkFault) (is : CoreFault) (before now : ℕ) → is ≡ fault_as fault → SinkFaultsAs {T = Unit {0}} (Err fault) before now → FaultsAs {T = Unit {0}} (Err is) before now
 faults_as sink.Memory is before now e h = subst (λ f. FaultsAs {T = Unit {0}} (Err f) before now) (sym e) h
 faults_as sink.Failed is before now e h = subst (λ f. FaultsAs {T = Unit {0}} (Err f) before now) (sym e) h
+
+pub failed_as : (fault : SinkFault) (is : CoreFault) (before now : Bool) → is ≡ fault_as fault → HasFailedAs {T = Unit {0}} (Err fault) before now → HasFailedBy (Some is) before now
+failed_as sink.Memory is before now e h = subst (λ f. HasFailedBy (Some f) before now) (sym e) h
+failed_as sink.Failed is before now e h = subst (λ f. HasFailedBy (Some f) before now) (sym e) h
 
 -- ---- steps one after another
 -- the step at a place is not told

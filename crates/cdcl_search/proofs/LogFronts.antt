@@ -25,7 +25,7 @@ use Rattle.search_steps.specs.Recovering.{SettledWithRecovered}
 use Rattle.cdcl_search.specs.declared.logs.SearchLog.{SearchLog}
 use Rattle.cdcl_search.specs.Calls.{TellsIn, Tells}
 use Rattle.cdcl_search.specs.Logs.{GoesOn, IsRightBehind}
-use Rattle.cdcl_search.specs.Tells.{TellsAll, FaultsAs, IsLeft, IsTellable, HaveLowIds, HasNoMark, IsTorn, as_events, with_events}
+use Rattle.cdcl_search.specs.Tells.{TellsAll, FaultsAs, HasFailedBy, IsLeft, IsTellable, HaveLowIds, HasNoMark, IsTorn, as_events, with_events}
 use Rattle.cdcl_search.proofs.Events.{more_and_more}
 
 -- ---- fronts
@@ -159,12 +159,13 @@ tellable_have_texts (s ∷ steps) a = (a.0.0, tellable_have_texts steps a.1)
 
 -- a log goes on by a telling of events behind which it is right
 goes_on_by : {L T : Type 0} (m : sink.Ghosts L LogEvent) (old new : SearchLog L) (events : List LogEvent) (r : Result T CoreFault) → TellsAll (m.torn new.sink.now) events (m.items old.sink.now) r (m.items new.sink.now)
-    → FaultsAs r (m.faults old.sink.now) (m.faults new.sink.now) → m.keeps old.sink.now new.sink.now → IsRightBehind m old events → AllByRecursion HasText events → AllByRecursion HasLowId events → AreUnmarked old.formula.now events
+    → FaultsAs r (m.faults old.sink.now) (m.faults new.sink.now) → HasFailedBy (fault_in r) (m.has_failed old.sink.now) (m.has_failed new.sink.now) → m.keeps old.sink.now new.sink.now → IsRightBehind m old events → AllByRecursion HasText events → AllByRecursion HasLowId events → AreUnmarked old.formula.now events
     → new.formula.now ≡ old.formula.now → new.sink.ghost_name ≡ old.sink.ghost_name → GoesOn m old (fault_in r) new
-goes_on_by m old new events r tells counts keeps right texts low unmarked formula name = record {
+goes_on_by m old new events r tells counts failed keeps right texts low unmarked formula name = record {
   right = λ _. subst (λ f. IsLeft f (m.items new.sink.now)) (sym formula) (stays_right old.formula.now (m.torn new.sink.now) events (m.items old.sink.now) r (m.items new.sink.now) tells right);
   ids = stay_low (m.torn new.sink.now) events (m.items old.sink.now) r (m.items new.sink.now) tells low;
   counts = counts_as r (m.faults old.sink.now) (m.faults new.sink.now) counts;
+  failed = failed;
   marks = λ s. stay_unmarked (m.torn new.sink.now) events (m.items old.sink.now) r (m.items new.sink.now) tells (unmarked (subst SettledWithRecovered formula s));
   tears = λ w. subst (λ f. IsTorn f (m.torn new.sink.now) (m.items new.sink.now)) (sym formula) (is_torn old.formula.now (m.torn new.sink.now) events (m.items old.sink.now) r (m.items new.sink.now) tells right texts low unmarked w);
   formula = formula;
@@ -181,5 +182,5 @@ pub tells_by : {L T : Type 0} (m : sink.Ghosts L LogEvent) (old new : SearchLog 
     → IsRightBehind m old events → AllByRecursion HasText events → AllByRecursion HasLowId events → AreUnmarked old.formula.now events → new.formula.now ≡ old.formula.now → new.sink.ghost_name ≡ old.sink.ghost_name → Tells m old events r new
 tells_by m old new events r tells right texts low unmarked formula name = record {
   told = told_where (m.torn new.sink.now) events (m.items old.sink.now) r (m.items new.sink.now) tells.told;
-  log = goes_on_by m old new events r tells.told tells.faults tells.frame right texts low unmarked formula name;
+  log = goes_on_by m old new events r tells.told tells.faults tells.failed tells.frame right texts low unmarked formula name;
 }

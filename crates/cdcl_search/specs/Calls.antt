@@ -16,8 +16,8 @@ use Rattle.cdcl_search.specs.declared.logs.SearchLog.{SearchLog}
 use Rattle.cdcl_search.specs.Finds.{PropagationFinds}
 use Rattle.cdcl_search.specs.Searching.{HasUnits}
 use Rattle.cdcl_search.specs.declared.propagation.Found.TheVariants as found
-use Rattle.cdcl_search.specs.Logs.{GoesOn, AreToldNow, Stands, StandsBeforeDeletion}
-use Rattle.cdcl_search.specs.Tells.{TellsAll, FaultsAs}
+use Rattle.cdcl_search.specs.Logs.{GoesOn, AreToldNow, HasNotFailed, Stands, StandsBeforeDeletion}
+use Rattle.cdcl_search.specs.Tells.{TellsAll, FaultsAs, HasFailedBy}
 use Rattle.cdcl_search.specs.Ties.{SearchStands}
 
 -- ---- tellings
@@ -25,6 +25,7 @@ use Rattle.cdcl_search.specs.Ties.{SearchStands}
 pub record TellsIn {L T : Type 0} (m : sink.Ghosts L LogEvent) (events : List LogEvent) (old : L) (result : Result T CoreFault) (new : L) : Type 0 where
   pub told : TellsAll (m.torn new) events (m.items old) result (m.items new)
   pub faults : FaultsAs result (m.faults old) (m.faults new)
+  pub failed : HasFailedBy (fault_in result) (m.has_failed old) (m.has_failed new)
   pub frame : m.keeps old new
 
 -- Up to an answer these events are told; the log goes on.
@@ -33,10 +34,11 @@ pub record Tells {L T : Type 0} (m : sink.Ghosts L LogEvent) (old : SearchLog L)
   pub log : GoesOn m old (fault_in result) new
 
 -- ---- calls that tell the log
--- the search stands, and no row is broken
+-- the search stands, no row is broken, and the sink of the log has not failed
 pub record IsReady {P L : Type 0} (p : engine.Ghosts P) (m : sink.Ghosts L LogEvent) (log : SearchLog L) (c : SearchState) (e : P) : Type 0 where
   pub stands : Stands p m log c e []
   pub unbroken : (p.state e).mood ≢ Broken
+  pub going : HasNotFailed m log
 
 -- Up to an answer the search stands again, with these clauses of rows; the log goes on.
 pub record StandsOn {P L T : Type 0} (p : engine.Ghosts P) (m : sink.Ghosts L LogEvent) (old new : SearchLog L) (now : SearchState) (e : P) (rows : List (List Literal)) (result : Result T CoreFault) : Type 0 where

@@ -1,5 +1,5 @@
 -- What calls leave of the log of a search.
-use Rattle.std.specs.Prelude.{◌≡◌, List, Option, Some}
+use Rattle.std.specs.Prelude.{◌≡◌, false, List, Option, Some}
 use Rattle.cx_base.specs.declared.steps.LogEvent.{LogEvent}
 use Rattle.conflict_learn.specs.declared.fault.CoreFault.{CoreFault}
 use Rattle.conflict_learn.specs.declared.fault.CoreFault.TheVariants.{Write}
@@ -10,14 +10,15 @@ use Rattle.step_text.specs.declared.sink.Sink as sink
 use Rattle.parity_engine.specs.declared.engine.ParityEngine as engine
 use Rattle.cdcl_search.specs.declared.state.SearchState.{SearchState}
 use Rattle.cdcl_search.specs.Ties.{SearchStands, SearchStandsFrom}
-use Rattle.cdcl_search.specs.Tells.{IsLeft, HaveLowIds, HasNoMark, IsTorn, with_events}
+use Rattle.cdcl_search.specs.Tells.{IsLeft, HasFailedBy, HaveLowIds, HasNoMark, IsTorn, with_events}
 use Rattle.cdcl_search.specs.declared.logs.SearchLog.{SearchLog}
 
--- Calls up to an answer, or up to this fault. A log that was right so far is right so far, and ids stay low. Where the formula is settled with its recovered parities no mark is told. A write fault is counted and tears an event that may stand there; else none is counted. The formula and the sink are the same, and what the sink keeps is kept.
+-- Calls up to an answer, or up to this fault. A log that was right so far is right so far, and ids stay low. Where the formula is settled with its recovered parities no mark is told. A write fault is counted and tears an event that may stand there, and the sink has failed then; else none is counted. The formula and the sink are the same, and what the sink keeps is kept.
 pub record GoesOn {L : Type 0} (m : sink.Ghosts L LogEvent) (old : SearchLog L) (why : Option CoreFault) (new : SearchLog L) : Type 0 where
   pub right : IsLeft old.formula.now (m.items old.sink.now) → IsLeft new.formula.now (m.items new.sink.now)
   pub ids : HaveLowIds (m.items old.sink.now) → HaveLowIds (m.items new.sink.now)
   pub counts : CountsAs why (m.faults old.sink.now) (m.faults new.sink.now)
+  pub failed : HasFailedBy why (m.has_failed old.sink.now) (m.has_failed new.sink.now)
   pub marks : SettledWithRecovered new.formula.now → HasNoMark (m.items old.sink.now) → HasNoMark (m.items new.sink.now)
   pub tears : why ≡ Some Write → IsTorn new.formula.now (m.torn new.sink.now) (m.items new.sink.now)
   pub formula : new.formula.now ≡ old.formula.now
@@ -27,6 +28,10 @@ pub record GoesOn {L : Type 0} (m : sink.Ghosts L LogEvent) (old : SearchLog L) 
 -- the events that the sink was told, where it tells them
 abbrev pub told_in : {L : Type 0} → sink.Ghosts L LogEvent → SearchLog L → Option (List LogEvent)
 told_in m log = m.items log.sink.now
+
+-- the sink of the log has not failed
+abbrev pub HasNotFailed : {L : Type 0} → sink.Ghosts L LogEvent → SearchLog L → Type 0
+HasNotFailed m log = m.has_failed log.sink.now ≡ false
 
 -- these events may be told next: the log is right behind them
 abbrev pub IsRightBehind : {L : Type 0} → sink.Ghosts L LogEvent → SearchLog L → List LogEvent → Type 0

@@ -16,10 +16,10 @@ use Rattle.cdcl_search.specs.Finds.{PropagationFinds}
 abbrev pub HasUnits : SearchState → Assumptions → Type 0
 HasUnits c a = c.trail.level ≡ 0 → a.checked ≤ length c.units.items
 
--- what propagation found, where no literal of the trail contradicts an assumed one; else the oldest one that does
+-- what propagation found; and the oldest literal of the trail that contradicts an assumed one, where one does
 abbrev pub SettlesAt : List Constraint → SearchState → State → Assumptions → Reached → Type 0
 SettlesAt constraints c e a (Found found) = PropagationFinds c e found × (a.checked ≡ length c.trail.entries)
-SettlesAt constraints c e a (Failed place) = (place ≡ a.checked) × (place < length c.trail.entries) × Contradicts constraints c.trail place
+SettlesAt constraints c e a (Failed place found) = (place ≡ a.checked) × (place < length c.trail.entries) × Contradicts constraints c.trail place × PropagationFinds c e found
 
 -- both engines are quiet and each variable is assigned, or one is in conflict, or a literal contradicts an assumed one; the units of level 0 are told
 pub record SearchReaches (constraints : List Constraint) (c : SearchState) (e : State) (a : Assumptions) (reached : Reached) : Type 0 where

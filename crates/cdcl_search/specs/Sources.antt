@@ -1,7 +1,13 @@
 -- The clauses that a source holds.
-use Rattle.std.specs.Prelude.{◌≡◌, ◌⊎◌, ℕ, ◌<◌, ◌-◌, ◌^◌, min, List, [], ◌∷◌, length, Contains}
-use Rattle.cx_base.specs.Literals.{Literal}
-use Rattle.cx_trail.specs.Sequence.{entry_at}
+use Rattle.std.specs.Prelude.{◌≡◌, ◌⊎◌, ℕ, ◌<◌, ◌-◌, ◌^◌, min, List, [], ◌∷◌, length, Contains, IsFalse}
+use Rattle.cx_base.specs.Assumptions.{assumes}
+use Rattle.cx_base.specs.Literals.{Literal, negate}
+use Rattle.cx_base.specs.declared.constraint.Constraint.{Constraint}
+use Rattle.cx_trail.specs.Sequence.{TrailState, entry_at}
+use Rattle.cx_trail.specs.declared.entry.Reason.{Reason}
+use Rattle.cx_trail.specs.declared.entry.Reason.TheVariants.{Row}
+use Rattle.conflict_learn.specs.Final.{StandsBelow}
+use Rattle.conflict_learn.specs.Learning.{HasReason}
 use Rattle.std.specs.List.{All}
 use Rattle.clause_arena.specs.Clauses.{IsLive, literals_at, id_at}
 use Rattle.cdcl_search.specs.declared.state.SearchState.{SearchState}
@@ -24,6 +30,14 @@ pub record HasIds (c : SearchState) : Type 0 where
 pub record IsHinted (clause : List Literal) (h : Hinted) : Type 0 where
   pub lits : h.lits ≡ clause
   pub id : IsId h.id
+
+-- where a row implied the literal, it contradicts no assumed one
+abbrev pub IsApartByRow : List Constraint → Reason → Literal → Type 0
+IsApartByRow constraints reason l = (row : ℕ) → reason ≡ Row row → IsFalse (assumes constraints (negate l))
+
+-- no literal of the trail before the place that a row implied contradicts an assumed one
+abbrev pub RowsAreApart : List Constraint → TrailState → ℕ → Type 0
+RowsAreApart constraints t n = (l : Literal) (reason : Reason) → StandsBelow t n l → HasReason t l reason → IsApartByRow constraints reason l
 
 -- a count of 64 bits stays at its last value
 abbrev pub counted : ℕ → ℕ

@@ -1,5 +1,5 @@
 -- What a sink is told, and what its log is worth when the search gives up.
-use Rattle.std.specs.Prelude.{◌≡◌, ◌⊎◌, ℕ, ◌+◌, ◌<◌, ◌≤◌, List, [], ◌∷◌, ◌++◌, length, take, map, filter_map, get_or, Option, Some, None, option_map, Result, Ok, Err}
+use Rattle.std.specs.Prelude.{◌≡◌, ◌⊎◌, ℕ, Bool, true, ◌+◌, ◌<◌, ◌≤◌, List, [], ◌∷◌, ◌++◌, length, take, map, filter_map, get_or, Option, Some, None, option_map, Result, Ok, Err}
 use Rattle.std.specs.List.{AllByRecursion}
 use Rattle.cx_base.specs.Problem.{Problem}
 use Rattle.cx_base.specs.declared.steps.LogEvent.{LogEvent}
@@ -42,6 +42,12 @@ abbrev pub FaultsAs : {T : Type 0} → Result T CoreFault → ℕ → ℕ → Ty
 FaultsAs (Ok done) before now = now ≡ before
 FaultsAs (Err Memory) before now = now ≡ before
 FaultsAs (Err Write) before now = Rose before now
+
+-- a sink has failed once a fault of writing came
+abbrev pub HasFailedBy : Option CoreFault → Bool → Bool → Type 0
+HasFailedBy None before now = now ≡ before
+HasFailedBy (Some Memory) before now = now ≡ before
+HasFailedBy (Some Write) before now = now ≡ true
 
 -- each step of the log is right and none ends it, or just the last one does
 abbrev pub IsLeft : Problem → Option (List LogEvent) → Type 0

@@ -6,7 +6,7 @@ ghost use Rattle.cx_base.specs.Integers.{integers_of};
 ghost use Rattle.cx_base.specs.declared.steps.LogEvent.TheVariants.{Step};
 ghost use Rattle.cx_base.specs.declared.steps.LogStep.TheVariants as step;
 ghost use Rattle.cdcl_search.specs.Calls.{Tells};
-ghost use Rattle.cdcl_search.specs.Logs.{IsRightBehind};
+ghost use Rattle.cdcl_search.specs.Logs.{HasNotFailed, IsRightBehind};
 ghost use Rattle.cdcl_search.specs.Tells.{IsId};
 ghost use Rattle.cdcl_search.specs.Units.{AreUnitsAnd};
 
@@ -73,6 +73,7 @@ pub fn tell_chained<L: Sink<Item = LogEvent>>(
     hints: IntList,
 ) -> Result<(), CoreFault>
     requires id { IsId id }
+    requires going { HasNotFailed L.Sink log.old }
     requires right { IsRightBehind L.Sink log.old (Step (step.ClauseWithHints id (integers_of lits.now) hints) ∷ []) }
     ensures { Tells L.Sink log.old (Step (step.ClauseWithHints id (integers_of lits.now) hints) ∷ []) result log.new }
 {

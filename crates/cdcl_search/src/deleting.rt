@@ -3,7 +3,7 @@ ghost use Rattle.std.specs.Prelude.{◌≡◌, ◌≤◌, [], ◌++◌, OnOk, If
 ghost use Rattle.std.specs.List.{AllByRecursion};
 ghost use Rattle.cdcl_search.specs.Calls.{StandsOn};
 ghost use Rattle.cdcl_search.specs.Deleting.{deletions};
-ghost use Rattle.cdcl_search.specs.Logs.{StandsBeforeDeletion};
+ghost use Rattle.cdcl_search.specs.Logs.{HasNotFailed, StandsBeforeDeletion};
 ghost use Rattle.cdcl_search.specs.Tells.{as_events, AreIdsFrom, IsTellable, AreStepsOf};
 ghost use Rattle.cdcl_search.specs.Ties.{row_ids};
 
@@ -53,7 +53,8 @@ pub(crate) fn delete_rows<P: ParityEngine, L: Sink<Item = LogEvent>>(
     engine: &P,
     rows: &[LitList],
 ) -> Result<(), CoreFault>
-    requires { StandsBeforeDeletion P.ParityEngine L.Sink log.old state.now engine.now rows.now }
+    requires stands { StandsBeforeDeletion P.ParityEngine L.Sink log.old state.now engine.now rows.now }
+    requires going { HasNotFailed L.Sink log.old }
     ensures { StandsOn P.ParityEngine L.Sink log.old log.new state.now engine.now [] result }
 {
     let steps = deletions_of_rows(log.alloc, state.next, rows.len())?;

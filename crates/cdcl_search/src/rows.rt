@@ -6,7 +6,7 @@ ghost use Rattle.cx_base.specs.Integers.{integers_of};
 ghost use Rattle.parity_engine.specs.Written.{AreRising};
 ghost use Rattle.cdcl_search.specs.Calls.{StandsOn};
 ghost use Rattle.cdcl_search.specs.Explaining.{Explains};
-ghost use Rattle.cdcl_search.specs.Logs.{Stands};
+ghost use Rattle.cdcl_search.specs.Logs.{HasNotFailed, Stands};
 ghost use Rattle.cdcl_search.specs.Rows.{AreFew, AreNextIds, AreRowSteps, IsPrepared, sum_and_clause_events};
 ghost use Rattle.cdcl_search.specs.Tells.{IsId};
 ghost use Rattle.cdcl_search.specs.Ties.{first_row_id};
@@ -127,6 +127,7 @@ pub fn tell_reason<P: ParityEngine, L: Sink<Item = LogEvent>>(
     rows: &mut Vec<LitList>,
 ) -> Result<LitList, CoreFault>
     requires stands { Stands P.ParityEngine L.Sink log.old state.now engine.now rows.old.items }
+    requires going { HasNotFailed L.Sink log.old }
     requires explains { Explains (P.state engine.now).parities state.now.trail reason }
     requires goes_on { IsFalse (is_ending log.old.formula.now.constraints reason.clause) }
     requires room { length rows.old.items ≤ log.old.formula.now.variables }

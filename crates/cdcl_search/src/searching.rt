@@ -23,8 +23,8 @@ use step_text::Sink;
 pub enum Reached {
     /// At what propagation found.
     Found(Found),
-    /// The literal at this place of the trail contradicts an assumed one.
-    Failed(usize),
+    /// The literal at this place of the trail contradicts an assumed one, whatever propagation found.
+    Failed(usize, Found),
 }
 
 /// Whether nothing more is forced, and nothing contradicts an assumed literal.
@@ -35,7 +35,7 @@ fn is_quiet(reached: &Reached) -> bool
     match reached {
         Reached::Found(Found::Quiet) => true,
         Reached::Found(_) => false,
-        Reached::Failed(_) => false,
+        Reached::Failed(_, _) => false,
     }
 }
 
@@ -59,7 +59,7 @@ fn settle<P: ParityEngine, L: Sink<Item = LogEvent>>(
     let failed = assumptions.check(log.formula, &state.trail);
     tell_units(log, state, engine, assumptions)?;
     match failed {
-        Some(place) => Ok(Reached::Failed(place)),
+        Some(place) => Ok(Reached::Failed(place, found)),
         None => Ok(Reached::Found(found)),
     }
 }

@@ -4,16 +4,15 @@ ghost use Rattle.cx_base.specs.Assumptions.{assumes};
 ghost use Rattle.cx_base.specs.Literals.{Literal, negate};
 ghost use Rattle.cx_trail.specs.declared.entry.Reason.TheVariants.{Clause};
 ghost use Rattle.cx_trail.specs.Sequence.{entry_at, IsTrueIn};
-ghost use Rattle.search_policy.specs.Assuming.{AreApart};
 ghost use Rattle.clause_arena.specs.Clauses.{IsLive, literals_at};
 ghost use Rattle.conflict_learn.specs.Learning.{HasReason, IsAntecedent};
 ghost use Rattle.parity_engine.specs.State.{State};
 ghost use Rattle.cdcl_search.specs.Calls.{StandsOn};
 ghost use Rattle.cdcl_search.specs.Explaining.{IsReasonOf};
-ghost use Rattle.cdcl_search.specs.Sources.{IsSourced, HasIds, IsHinted};
+ghost use Rattle.cdcl_search.specs.Sources.{IsSourced, HasIds, IsHinted, IsApartByRow, RowsAreApart};
 ghost use Rattle.cdcl_search.specs.Tells.{IsId};
 ghost use Rattle.cdcl_search.specs.Ties.{SearchStands, HaveReasons};
-ghost use Rattle.cdcl_search.specs.Logs.{GoesOn, Stands};
+ghost use Rattle.cdcl_search.specs.Logs.{GoesOn, HasNotFailed, Stands};
 ghost use Rattle.cdcl_search.specs.Loans.{HasSameLoans, loans_rest, loans_then};
 ghost use Rattle.cdcl_search.specs.GoingOn.{log_rests, log_stops, log_then};
 
@@ -120,6 +119,7 @@ fn hinted_row<P: ParityEngine, L: Sink<Item = LogEvent>>(
     rows: &mut Vec<LitList>,
 ) -> Result<Hinted, CoreFault>
     requires stands { Stands P.ParityEngine L.Sink log.old state.now engine.now rows.old.items }
+    requires going { HasNotFailed L.Sink log.old }
     requires reason { IsReasonOf (P.state engine.now) state.now.trail.entries literal row }
     requires room { length rows.old.items ≤ log.old.formula.now.variables }
     requires apart { IsFalse (assumes log.old.formula.now.constraints (negate literal)) }
@@ -137,7 +137,7 @@ fn hinted_row<P: ParityEngine, L: Sink<Item = LogEvent>>(
     }
 }
 
-/// The clause that implied a literal of the trail, which contradicts no assumed one. A row's is told.
+/// The clause that implied a literal of the trail. A row's is told, where the literal contradicts no assumed one.
 pub(crate) fn clause_of_reason<P: ParityEngine, L: Sink<Item = LogEvent>>(
     log: &mut SearchLog<L>,
     state: &SearchState,
@@ -147,9 +147,10 @@ pub(crate) fn clause_of_reason<P: ParityEngine, L: Sink<Item = LogEvent>>(
     rows: &mut Vec<LitList>,
 ) -> Result<Hinted, CoreFault>
     requires stands { Stands P.ParityEngine L.Sink log.old state.now engine.now rows.old.items }
+    requires going { HasNotFailed L.Sink log.old }
     requires reason { HasReason state.now.trail literal reason }
     requires room { length rows.old.items ≤ log.old.formula.now.variables }
-    requires apart { IsFalse (assumes log.old.formula.now.constraints (negate literal)) }
+    requires apart { IsApartByRow log.old.formula.now.constraints reason literal }
     ensures sourced { IfOk result (λ h. IsSourced state.now rows.new.items h.lits) }
     ensures implied { IfOk result (λ h. IsAntecedent state.now.trail literal h.lits) }
     ensures id { IfOk result (λ h. IsId h.id) }
@@ -178,7 +179,7 @@ pub struct Source<'a, 'b, P, L> {
     pub engine: &'a P,
     /// The clauses of rows that were told since the last mark, in the order of their ids.
     pub rows: &'a mut Vec<LitList>,
-    /// No literal of the trail below this place contradicts an assumed one.
+    /// No literal of the trail below this place that a row implied contradicts an assumed one.
     pub below: usize,
 }
 
@@ -188,7 +189,7 @@ impl<P: ParityEngine, L: Sink<Item = LogEvent>> Antecedents for Source<'_, '_, P
     ghost holds = { λ a c. IsSourced a.state.now a.rows.now.items c };
 
     ghost ready = { λ a. SearchStands a.log.now.formula.now a.state.now (P.state a.engine.now) a.rows.now.items (L.items a.log.now.sink.now)
-        × AreApart a.log.now.formula.now.constraints a.state.now.trail a.below };
+        × RowsAreApart a.log.now.formula.now.constraints a.state.now.trail a.below × HasNotFailed L.Sink a.log.now };
 
     ghost room = { λ a. a.log.now.formula.now.variables + 1 - length a.rows.now.items };
 

@@ -1,10 +1,10 @@
 //! Telling the log. Nothing else of the search tells its sink anything.
-ghost use Rattle.std.specs.Prelude.{◌≡◌, [], ◌∷◌};
+ghost use Rattle.std.specs.Prelude.{◌≡◌, false, [], ◌∷◌};
 ghost use Rattle.std.specs.List.{AllByRecursion};
 ghost use Rattle.cx_base.specs.declared.steps.LogEvent.TheVariants.{Step, Conflict};
 ghost use Rattle.search_steps.specs.Recovering.{SettledWithRecovered};
 ghost use Rattle.cdcl_search.specs.Calls.{TellsIn, Tells};
-ghost use Rattle.cdcl_search.specs.Logs.{IsRightBehind};
+ghost use Rattle.cdcl_search.specs.Logs.{HasNotFailed, IsRightBehind};
 ghost use Rattle.cx_texts.specs.Printed.{HasText};
 ghost use Rattle.cdcl_search.specs.Tells.{as_events, fault_as, IsTellable};
 
@@ -26,6 +26,7 @@ fn fault_of(fault: SinkFault) -> CoreFault
 /// Puts one event into the sink.
 fn put_event<L: Sink<Item = LogEvent>>(sink: &mut L, event: &LogEvent) -> Result<(), CoreFault>
     requires text { HasText event.now }
+    requires going { L.has_failed sink.old ≡ false }
     ensures { TellsIn L.Sink (event.now ∷ []) sink.old result sink.new }
 {
     match sink.put(event) {
@@ -37,6 +38,7 @@ fn put_event<L: Sink<Item = LogEvent>>(sink: &mut L, event: &LogEvent) -> Result
 /// Tells one event.
 fn tell<L: Sink<Item = LogEvent>>(sink: &mut L, event: LogEvent) -> Result<(), CoreFault>
     requires text { HasText event }
+    requires going { L.has_failed sink.old ≡ false }
     ensures { TellsIn L.Sink (event ∷ []) sink.old result sink.new }
 {
     put_event(sink, &event)
@@ -45,6 +47,7 @@ fn tell<L: Sink<Item = LogEvent>>(sink: &mut L, event: LogEvent) -> Result<(), C
 /// Tells a step.
 fn tell_one<L: Sink<Item = LogEvent>>(sink: &mut L, step: LogStep) -> Result<(), CoreFault>
     requires text { IsTellable step }
+    requires going { L.has_failed sink.old ≡ false }
     ensures { TellsIn L.Sink (Step step ∷ []) sink.old result sink.new }
 {
     tell(sink, LogEvent::Step(step))
@@ -53,6 +56,7 @@ fn tell_one<L: Sink<Item = LogEvent>>(sink: &mut L, step: LogStep) -> Result<(),
 /// Tells these steps, one after another, up to a fault.
 fn tell_all<L: Sink<Item = LogEvent>>(sink: &mut L, steps: Vec<LogStep>) -> Result<(), CoreFault>
     requires texts { AllByRecursion IsTellable steps.items }
+    requires going { L.has_failed sink.old ≡ false }
     ensures { TellsIn L.Sink (as_events steps.items) sink.old result sink.new }
 {
     for step in steps {
@@ -66,6 +70,7 @@ fn tell_all<L: Sink<Item = LogEvent>>(sink: &mut L, steps: Vec<LogStep>) -> Resu
 
 /// Tells a mark.
 fn tell_mark<L: Sink<Item = LogEvent>>(sink: &mut L, number: u64) -> Result<(), CoreFault>
+    requires going { L.has_failed sink.old ≡ false }
     ensures { TellsIn L.Sink (Conflict number ∷ []) sink.old result sink.new }
 {
     tell(sink, LogEvent::Conflict(number))
@@ -78,6 +83,7 @@ fn tell_marked<L: Sink<Item = LogEvent>>(
     steps: Vec<LogStep>,
 ) -> Result<(), CoreFault>
     requires texts { AllByRecursion IsTellable steps.items }
+    requires going { L.has_failed sink.old ≡ false }
     ensures { TellsIn L.Sink (Conflict number ∷ as_events steps.items) sink.old result sink.new }
 {
     match tell_mark(sink, number) {
@@ -92,6 +98,7 @@ pub fn tell_step<L: Sink<Item = LogEvent>>(
     step: LogStep,
 ) -> Result<(), CoreFault>
     requires text { IsTellable step }
+    requires going { HasNotFailed L.Sink log.old }
     requires right { IsRightBehind L.Sink log.old (Step step ∷ []) }
     ensures { Tells L.Sink log.old (Step step ∷ []) result log.new }
 {
@@ -104,6 +111,7 @@ pub fn tell_steps<L: Sink<Item = LogEvent>>(
     steps: Vec<LogStep>,
 ) -> Result<(), CoreFault>
     requires texts { AllByRecursion IsTellable steps.items }
+    requires going { HasNotFailed L.Sink log.old }
     requires right { IsRightBehind L.Sink log.old (as_events steps.items) }
     ensures { Tells L.Sink log.old (as_events steps.items) result log.new }
 {
@@ -118,6 +126,7 @@ pub fn tell_round<L: Sink<Item = LogEvent>>(
     steps: Vec<LogStep>,
 ) -> Result<(), CoreFault>
     requires texts { AllByRecursion IsTellable steps.items }
+    requires going { HasNotFailed L.Sink log.old }
     requires right { IsRightBehind L.Sink log.old (Conflict number ∷ as_events steps.items) }
     requires unsettled { ¬ SettledWithRecovered log.old.formula.now }
     ensures { Tells L.Sink log.old (Conflict number ∷ as_events steps.items) result log.new }

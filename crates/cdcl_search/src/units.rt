@@ -5,7 +5,7 @@ ghost use Rattle.cx_base.specs.Literals.{negate};
 ghost use Rattle.cx_trail.specs.Sequence.{entry_at};
 ghost use Rattle.search_policy.specs.Assuming.{KeepsAssumptions};
 ghost use Rattle.cdcl_search.specs.Calls.{HasRowsToDelete, StandsOn};
-ghost use Rattle.cdcl_search.specs.Logs.{Stands};
+ghost use Rattle.cdcl_search.specs.Logs.{HasNotFailed, Stands};
 ghost use Rattle.cdcl_search.specs.Tells.{IsId};
 ghost use Rattle.cdcl_search.specs.Searching.{HasUnits};
 ghost use Rattle.cdcl_search.specs.Units.{HasOther, IsNextUnit};
@@ -31,6 +31,7 @@ fn tell_unit<P: ParityEngine, L: Sink<Item = LogEvent>>(
     rows: &[LitList],
 ) -> Result<(), CoreFault>
     requires stands { Stands P.ParityEngine L.Sink log.old state.old engine.now rows.now }
+    requires going { HasNotFailed L.Sink log.old }
     requires level { state.old.trail.level ≡ 0 }
     requires next { IsNextUnit state.old rows.now literal implying.now.lits }
     requires id { IsId implying.now.id }
@@ -54,6 +55,7 @@ fn tell_next_unit<P: ParityEngine, L: Sink<Item = LogEvent>>(
     engine: &P,
 ) -> Result<(), CoreFault>
     requires stands { Stands P.ParityEngine L.Sink log.old state.old engine.now [] }
+    requires going { HasNotFailed L.Sink log.old }
     requires level { state.old.trail.level ≡ 0 }
     requires more { length state.old.units.items < length state.old.trail.entries }
     requires apart { IsFalse (assumes log.old.formula.now.constraints (negate (entry_at state.old.trail.entries (length state.old.units.items)).literal)) }
@@ -76,6 +78,7 @@ pub(crate) fn tell_units<P: ParityEngine, L: Sink<Item = LogEvent>>(
     assumptions: &Assumptions,
 ) -> Result<(), CoreFault>
     requires stands { Stands P.ParityEngine L.Sink log.old state.old engine.now [] }
+    requires going { HasNotFailed L.Sink log.old }
     requires keeps { KeepsAssumptions log.old.formula.now.constraints assumptions.now state.old.trail }
     ensures stands_on { StandsOn P.ParityEngine L.Sink log.old log.new state.new engine.now [] result }
     ensures units { OnOk result (HasUnits state.new assumptions.now) }

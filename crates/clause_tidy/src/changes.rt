@@ -1,5 +1,5 @@
 //! The changes that tidying makes, each told to the log: a clause goes.
-ghost use Rattle.std.specs.Prelude.{◌≡◌, ◌≢◌, ◌<◌, ℕ, [], None, IsTrue, OnOk, slice_set};
+ghost use Rattle.std.specs.Prelude.{◌≡◌, false, ◌≢◌, ◌<◌, ℕ, [], None, IsTrue, OnOk, slice_set};
 ghost use Rattle.cx_base.specs.Problem.{Problem};
 ghost use Rattle.cx_semantics.specs.Chain.{is_inside};
 ghost use Rattle.clause_arena.specs.Clauses.{IsLive, literals_at, id_at};
@@ -25,6 +25,7 @@ pub(crate) fn drop_clause<L: Sink<Item = LogEvent>>(
     requires live { IsLive arena.old clause }
     requires id { IsStepId (id_at arena.old clause) }
     requires why { MayGo arena.old clause }
+    requires going { L.has_failed log.old ≡ false }
     ensures removed { OnOk result (arena.new.clauses ≡ slice_set arena.old.clauses clause None) }
     ensures less { OnOk result (weight arena.new < weight arena.old) }
     ensures tidies { (formula : Problem) (spare : ℕ) → TidiesOn L.Sink formula spare arena.old log.old result (λ _. Tidies formula spare arena.old arena.new) log.new }
@@ -69,6 +70,7 @@ pub(crate) fn subsume<L: Sink<Item = LogEvent>>(
     requires differ { part ≢ clause }
     requires inside { IsTrue (is_inside (literals_at arena.old part) (literals_at arena.old clause)) }
     requires id { IsStepId (id_at arena.old clause) }
+    requires going { L.has_failed log.old ≡ false }
     ensures less { OnOk result (weight arena.new < weight arena.old) }
     ensures tidies { (formula : Problem) (spare : ℕ) → TidiesOn L.Sink formula spare arena.old log.old result (λ _. Tidies formula spare arena.old arena.new) log.new }
 {

@@ -1,5 +1,5 @@
 //! Two clauses of which one lies inside the other, or strengthens it, are mended.
-ghost use Rattle.std.specs.Prelude.{◌≢◌, ◌<◌, IfOk, IsNone, IsTrue};
+ghost use Rattle.std.specs.Prelude.{◌≡◌, false, ◌≢◌, ◌<◌, IfOk, IsNone, IsTrue};
 ghost use Rattle.cx_semantics.specs.Chain.{has_literal};
 ghost use Rattle.clause_arena.specs.Clauses.{IsLive, literals_at, id_at};
 ghost use Rattle.tidy_rules.specs.Relations.{strengthens_at, bears_on};
@@ -36,6 +36,7 @@ fn strengthen<L: Sink<Item = LogEvent>>(
     requires has { IsTrue (has_literal (literals_at arena.old by) lit) }
     requires at { IsTrue (strengthens_at (literals_at arena.old by) (literals_at arena.old clause) lit) }
     requires none { HasNoTautology arena.old }
+    requires going { L.has_failed log.old ≡ false }
     ensures less { IfOk result (λ ended. IsNone ended → weight arena.new < weight arena.old) }
     ensures tidies { TidiesOn L.Sink formula.now spare arena.old log.old result (MendsTo formula.now spare arena.old arena.new) log.new }
 {
@@ -74,6 +75,7 @@ pub(crate) fn mend<L: Sink<Item = LogEvent>>(
     requires part_id { IsStepId (id_at arena.old part) }
     requires id { IsStepId (id_at arena.old clause) }
     requires none { HasNoTautology arena.old }
+    requires going { L.has_failed log.old ≡ false }
     ensures less { IfOk result (λ ended. IsNone ended → weight arena.new < weight arena.old) }
     ensures tidies { TidiesOn L.Sink formula.now spare arena.old log.old result (MendsTo formula.now spare arena.old arena.new) log.new }
 {

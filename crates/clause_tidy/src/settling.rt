@@ -1,5 +1,5 @@
 //! The clauses of an arena are mended until none bears on another.
-ghost use Rattle.std.specs.Prelude.{IfOk, IsNone};
+ghost use Rattle.std.specs.Prelude.{◌≡◌, false, IfOk, IsNone};
 ghost use Rattle.clause_tidy.specs.Agreeing.{IsStepId, AreProper};
 ghost use Rattle.clause_tidy.specs.Answers.{TidiesOn, MendsTo, HasNoTautology};
 ghost use Rattle.clause_tidy.specs.Pairs.{NoneBears};
@@ -22,6 +22,7 @@ pub(crate) fn settle<L: Sink<Item = LogEvent>>(
     requires proper { AreProper formula.now arena.old }
     requires spare { IsStepId spare }
     requires none { HasNoTautology arena.old }
+    requires going { L.has_failed log.old ≡ false }
     ensures free { IfOk result (λ ended. IsNone ended → HasNoTautology arena.new) }
     ensures bears { IfOk result (λ ended. IsNone ended → NoneBears arena.new) }
     ensures tidies { TidiesOn L.Sink formula.now spare arena.old log.old result (MendsTo formula.now spare arena.old arena.new) log.new }

@@ -122,6 +122,7 @@ pub(crate) fn tell_shortening<L: Sink<Item = LogEvent>>(
     requires spare { IsStepId spare }
     requires by { IsStepId by }
     requires id { IsStepId id }
+    requires going { L.has_failed log.old ≡ false }
     ensures { TellsSuch L.Sink (IsShortening spare id (integers_of rest.now)) log.old result log.new }
 {
     match shortening_steps(alloc, spare, by, id, rest) {
@@ -142,6 +143,7 @@ pub(crate) fn tell_ending<L: Sink<Item = LogEvent>>(
     requires spare { IsStepId spare }
     requires by { IsStepId by }
     requires id { IsStepId id }
+    requires going { L.has_failed log.old ≡ false }
     ensures { TellsSuch L.Sink (IsEnding spare (integers_of rest.now)) log.old result log.new }
 {
     match ending_step(alloc, spare, by, id, rest) {

@@ -1,5 +1,5 @@
 //! The changes that tidying makes, each told to the log: a clause loses a literal.
-ghost use Rattle.std.specs.Prelude.{◌<◌, length, OnOk, IsTrue, IsFalse};
+ghost use Rattle.std.specs.Prelude.{◌≡◌, false, ◌<◌, length, OnOk, IsTrue, IsFalse};
 ghost use Rattle.cx_base.specs.Assumptions.{is_ending};
 ghost use Rattle.cx_base.specs.Problem.{Problem};
 ghost use Rattle.clause_arena.specs.Clauses.{IsLive, literals_at, id_at};
@@ -32,6 +32,7 @@ pub(crate) fn shorten<L: Sink<Item = LogEvent>>(
     requires id { IsStepId (id_at arena.old clause) }
     requires shorter { Shortens arena.old by clause rest.now }
     requires short { length rest.now < length (literals_at arena.old clause) }
+    requires going { L.has_failed log.old ≡ false }
     ensures less { OnOk result (weight arena.new < weight arena.old) }
     ensures tidies { (formula : Problem) → AreProper formula arena.old → IsFalse (is_ending formula.constraints rest.now) → TidiesOn L.Sink formula spare arena.old log.old result (λ _. Tidies formula spare arena.old arena.new) log.new }
 {
@@ -67,6 +68,7 @@ pub(crate) fn end<L: Sink<Item = LogEvent>>(
     requires by_id { IsStepId (id_at arena.now by) }
     requires id { IsStepId (id_at arena.now clause) }
     requires shorter { Shortens arena.now by clause rest.now }
+    requires going { L.has_failed log.old ≡ false }
     ensures tidies { (formula : Problem) → AreProper formula arena.now → IsTrue (is_ending formula.constraints rest.now) → TidiesOn L.Sink formula spare arena.now log.old result (λ _. IsEnded formula spare arena.now rest.now) log.new }
 {
     tell_ending(alloc, log, spare, arena.id(by), arena.id(clause), rest)

@@ -1,5 +1,5 @@
 //! Clauses with a literal and its negation go first.
-ghost use Rattle.std.specs.Prelude.{ℕ, IsTrue, OnOk, MatchBool};
+ghost use Rattle.std.specs.Prelude.{◌≡◌, false, ℕ, IsTrue, OnOk, MatchBool};
 ghost use Rattle.cx_semantics.specs.Fresh.{is_tautology};
 ghost use Rattle.cx_base.specs.Problem.{Problem};
 ghost use Rattle.clause_arena.specs.Clauses.{IsLive, literals_at, id_at};
@@ -30,6 +30,7 @@ fn drop_tautology<L: Sink<Item = LogEvent>>(
     clause: ClauseRef,
 ) -> Result<(), SinkFault>
     requires ids { (r : ℕ) → IsLive arena.old r → IsStepId (id_at arena.old r) }
+    requires going { L.has_failed log.old ≡ false }
     ensures left { OnOk result (IsLeft arena.old arena.new) }
     ensures free { OnOk result (IsFreeAt arena.new clause) }
     ensures tidies { (formula : Problem) (spare : ℕ) → TidiesOn L.Sink formula spare arena.old log.old result (λ _. Tidies formula spare arena.old arena.new) log.new }
@@ -47,6 +48,7 @@ pub(crate) fn drop_tautologies<L: Sink<Item = LogEvent>>(
     log: &mut L,
 ) -> Result<(), SinkFault>
     requires ids { (r : ℕ) → IsLive arena.old r → IsStepId (id_at arena.old r) }
+    requires going { L.has_failed log.old ≡ false }
     ensures left { OnOk result (IsLeft arena.old arena.new) }
     ensures free { OnOk result (HasNoTautology arena.new) }
     ensures tidies { (formula : Problem) (spare : ℕ) → TidiesOn L.Sink formula spare arena.old log.old result (λ _. Tidies formula spare arena.old arena.new) log.new }

@@ -1,5 +1,5 @@
 //! Telling the log.
-ghost use Rattle.std.specs.Prelude.{◌≡◌, [], ◌∷◌};
+ghost use Rattle.std.specs.Prelude.{◌≡◌, false, [], ◌∷◌};
 ghost use Rattle.std.specs.List.{AllByRecursion};
 ghost use Rattle.cx_base.specs.declared.steps.LogEvent.TheVariants.{Step};
 ghost use Rattle.cx_texts.specs.Printed.{HasText};
@@ -11,6 +11,7 @@ use step_text::{Sink, SinkFault};
 /// Puts one event into the sink.
 fn put_event<L: Sink<Item = LogEvent>>(log: &mut L, event: &LogEvent) -> Result<(), SinkFault>
     requires text { HasText event.now }
+    requires going { L.has_failed log.old ≡ false }
     ensures { TellsIn L.Sink (event.now ∷ []) log.old result log.new }
 {
     match log.put(event) {
@@ -22,6 +23,7 @@ fn put_event<L: Sink<Item = LogEvent>>(log: &mut L, event: &LogEvent) -> Result<
 /// Tells one event.
 fn tell<L: Sink<Item = LogEvent>>(log: &mut L, event: LogEvent) -> Result<(), SinkFault>
     requires text { HasText event }
+    requires going { L.has_failed log.old ≡ false }
     ensures { TellsIn L.Sink (event ∷ []) log.old result log.new }
 {
     put_event(log, &event)
@@ -33,6 +35,7 @@ pub(crate) fn tell_one<L: Sink<Item = LogEvent>>(
     step: LogStep,
 ) -> Result<(), SinkFault>
     requires text { IsTellable step }
+    requires going { L.has_failed log.old ≡ false }
     ensures { TellsIn L.Sink (Step step ∷ []) log.old result log.new }
 {
     tell(log, LogEvent::Step(step))
@@ -44,6 +47,7 @@ pub(crate) fn tell_all<L: Sink<Item = LogEvent>>(
     steps: Vec<LogStep>,
 ) -> Result<(), SinkFault>
     requires texts { AllByRecursion IsTellable steps.items }
+    requires going { L.has_failed log.old ≡ false }
     ensures { TellsIn L.Sink (as_events steps.items) log.old result log.new }
 {
     for step in steps {

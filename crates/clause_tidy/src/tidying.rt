@@ -1,5 +1,5 @@
 //! Tidying: what is a tautology goes, and what is left is mended.
-ghost use Rattle.std.specs.Prelude.{◌≡◌, ◌≤◌, ℕ, [], length, IfOk, IsNone, IsTrue, OnErr};
+ghost use Rattle.std.specs.Prelude.{◌≡◌, false, ◌≤◌, ℕ, [], length, IfOk, IsNone, IsTrue, OnErr};
 ghost use Rattle.cx_base.specs.Assumptions.{is_ending};
 ghost use Rattle.clause_arena.specs.Clauses.{clause_at, IsLive, literals_at, learned_at};
 ghost use Rattle.step_text.specs.Sinks.{SinkFaultsAs, HasFailedAs, OnFailed};
@@ -31,6 +31,7 @@ fn tidy_clauses<L: Sink<Item = LogEvent>>(
 ) -> Result<Option<LitList>, SinkFault>
     requires proper { AreProper formula.now arena.old }
     requires spare { IsStepId spare }
+    requires going { L.has_failed log.old ≡ false }
     ensures tidied { IfOk result (λ ended. IsNone ended → Tidied arena.new []) }
     ensures tidies { TidiesOn L.Sink formula.now spare arena.old log.old result (MendsTo formula.now spare arena.old arena.new) log.new }
 {
@@ -60,6 +61,7 @@ fn tidy_all<L: Sink<Item = LogEvent>>(
 ) -> Result<TidyOf, SinkFault>
     requires proper { AreProper formula.now arena.old }
     requires spare { IsStepId spare }
+    requires going { L.has_failed log.old ≡ false }
     ensures { TidiesOn L.Sink formula.now spare arena.old log.old result (TidiesTo formula.now spare arena.old arena.new) log.new }
 {
     let first = arena.len();
@@ -86,6 +88,7 @@ pub fn tidy<L: Sink<Item = LogEvent>>(
 ) -> Result<TidyOf, SinkFault>
     requires proper { AreProper formula.now arena.old }
     requires spare { IsStepId spare }
+    requires going { L.has_failed log.old ≡ false }
     ensures tidied { IfDone result (λ units ids. Tidied arena.new units) }
     ensures each { IfDone result (λ units ids. length ids ≡ length units) }
     ensures covers { IfDone result (λ units ids. (r : ℕ) → IsLive arena.old r → IsCoveredBy arena.new units (literals_at arena.old r) (learned_at arena.old r)) }

@@ -185,8 +185,8 @@ fn assumed_literals_that_fail_are_told(rt: HostRuntime) -> Result<(), Fail> {
     Ok(())
 }
 
-/// Formulas that propagation refutes at level 0, with assumptions that have no part in it.
-const REFUTED_ALONE: [Case; 5] = [
+/// Formulas that propagation refutes at level 0, with assumptions that have no part in it, also where one is false there.
+const REFUTED_ALONE: [Case; 7] = [
     (
         "p cnf 2 2\n0\na 1 -2 0\n",
         "1",
@@ -213,6 +213,18 @@ const REFUTED_ALONE: [Case; 5] = [
     ),
     (
         "p cnf 3 6\n1 2 0\n-1 2 0\n1 -2 0\n-1 -2 0\na 3 0\na 1 0\n",
+        "1",
+        20,
+        "s UNSATISFIABLE\nc failed 0\n",
+    ),
+    (
+        "p cnf 2 4\n1 0\n-1 2 0\n-1 -2 0\na -1 0\n",
+        "1",
+        20,
+        "s UNSATISFIABLE\nc failed 0\n",
+    ),
+    (
+        "p cnf 3 5\n1 0\nx1 2 0\n2 3 0\n2 -3 0\na -3 -1 0\n",
         "1",
         20,
         "s UNSATISFIABLE\nc failed 0\n",

@@ -1,4 +1,4 @@
-use Rattle.std.proofs.Common.{subst, drop, ◌+◌, arith}
+use Rattle.std.proofs.Common.{◌∙◌, subst, drop, ◌+◌, arith}
 use Rattle.cdcl_search.specs.GoingOn.{log_rests, log_then}
 use Rattle.cdcl_core.specs.Waiting.{SearchStandsBut, PutsUnits}
 use Rattle.cdcl_core.proofs.WaitingLaws.{none_left}
@@ -9,7 +9,10 @@ pub loop-place-init : goal.loop-place-init
 loop-place-init g c = record { stands = λ engines stands. stands; log = log_rests g.L.Sink g.met.L.Sink.keeps_itself _ }
 
 pub put_unit-requires-clause-stands : goal.put_unit-requires-clause-stands
-put_unit-requires-clause-stands g c = (c.requires.0, c.loop-place.invariant.stands c.requires.0 c.requires.1)
+put_unit-requires-clause-stands g c = (c.requires.stands.0, c.loop-place.invariant.stands c.requires.stands.0 c.requires.stands.1)
+
+pub put_unit-requires-clause-going : goal.put_unit-requires-clause-going
+put_unit-requires-clause-going g c = c.loop-place.invariant.log.failed ∙ c.requires.going
 
 pub returns-clause-puts : goal.returns-clause-puts
 returns-clause-puts g c =

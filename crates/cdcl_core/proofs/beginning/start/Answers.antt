@@ -21,8 +21,8 @@ pub refute-requires-clause-id : goal.refute-requires-clause-id
 refute-requires-clause-id g c = empty_is_id c.args.log.now.formula.now c.requires.few c.args.filled.now.state c.args.filled.now.units.items c.in-Some.number
     (subst (IsFilled c.args.log.now.formula.now c.args.filled.now.state c.args.filled.now.units.items) c.in-Some.is c.requires.filled)
 
-pub put_units-requires : goal.put_units-requires
-put_units-requires g c = (
+pub put_units-requires-clause-stands : goal.put_units-requires-clause-stands
+put_units-requires-clause-stands g c = (
   c.args.parities,
   subst (λ us. SearchStandsBut c.args.log.now.formula.now c.args.parities c.args.filled.now.state us (g.L.Sink.items c.args.log.now.sink.now)) (sym c.deref.ensures.value)
       (filled_stands c.args.log.now.formula.now c.requires.few c.vars-vars.ensures.within c.args.parities (g.L.Sink.items c.args.log.now.sink.now) c.requires.given c.args.filled.now.state c.args.filled.now.units.items

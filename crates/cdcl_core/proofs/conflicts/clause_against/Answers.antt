@@ -1,7 +1,6 @@
-use Rattle.std.proofs.Common.{refl, sym, subst, ◌∙◌, [], length, Some, inl, inr, arith, ap, rules, ◌<◌}
+use Rattle.std.proofs.Common.{sym, subst, ◌∙◌, [], length, Some, inl, inr, rules, ◌<◌}
 use Rattle.cx_trail.specs.Sequence.{entry_at}
-use Rattle.conflict_learn.specs.Learning.{HasReason, IsAntecedent}
-use Rattle.cdcl_search.specs.Sources.{IsSourced}
+use Rattle.conflict_learn.specs.Learning.{HasReason}
 use Rattle.cdcl_search.specs.Tells.{IsId}
 use Rattle.cdcl_search.proofs.LowIds.{has_ids}
 use Rattle.cdcl_core.specs.Concluding.{Concludes}

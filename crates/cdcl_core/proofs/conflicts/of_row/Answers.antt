@@ -1,13 +1,11 @@
-use Rattle.std.proofs.Common.{arith, sym, ap, ◌∙◌, subst, ◌++◌, ◌∷◌, [], length, Some, is_some}
+use Rattle.std.proofs.Common.{arith, sym, ap, ◌∙◌, subst, ◌++◌, ◌∷◌, [], length, is_some}
 use Rattle.cdcl_search.specs.Ties.{SearchStands}
 use Rattle.cdcl_search.proofs.LowIds.{next_is_id, next_is_low, row_ids_are_ids}
 use Rattle.cx_base.specs.Assumptions.{is_ending}
-use Rattle.cx_base.specs.Literals.{Literal}
-use Rattle.cx_semantics.specs.Chain.{negations}
 use Rattle.cdcl_core.specs.Concluding.{Concludes, EndsLog}
 use Rattle.cdcl_core.specs.declared.conflicts.Conclusion.TheVariants.{Clause}
 use Rattle.cdcl_core.specs.declared.conflicts.Conflict.{Conflict}
-use Rattle.cdcl_core.proofs.ConflictLaws.{IsAgainst, against, row_explains, row_numbers, row_is_against, row_concludes, ends_log}
+use Rattle.cdcl_core.proofs.ConflictLaws.{against, row_explains, row_numbers, row_is_against, row_concludes, ends_log}
 use Rattle.cdcl_search.specs.GoingOn.{log_rests, log_stops}
 use Rattle.std.proofs.lemmas.Result.{err_from_is_err_and}
 use Rattle.cdcl_core.proofs.conflicts.of_row.Goals as goal

@@ -1,7 +1,6 @@
 use Rattle.std.proofs.Common.{sym, subst, ◌∙◌, [], Some, rules}
 use Rattle.cx_base.proofs.LiteralLaws.{negate-negate}
-use Rattle.conflict_learn.specs.Learning.{HasReason, IsAntecedent}
-use Rattle.cdcl_search.specs.Sources.{IsSourced}
+use Rattle.conflict_learn.specs.Learning.{HasReason}
 use Rattle.cdcl_search.specs.Tells.{IsId}
 use Rattle.cdcl_search.proofs.LowIds.{has_ids}
 use Rattle.cdcl_search.proofs.SourceLaws.{no_decision, clause_is_live, clause_is_antecedent, stored_is_sourced, row_is_reason}

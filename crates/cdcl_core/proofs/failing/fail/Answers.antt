@@ -1,13 +1,13 @@
-use Rattle.std.proofs.Common.{◌≡◌, ◌∙◌, ap, sym, subst, ◌+◌, ◌∷◌, [], List, length, Ok, true, arith}
+use Rattle.std.proofs.Common.{◌≡◌, ◌∙◌, ap, sym, subst, ◌+◌, ◌∷◌, [], List, Ok}
 use Rattle.std.proofs.lemmas.Result.{err_from_is_err_and}
 use Rattle.cx_base.specs.Literals.{Literal}
 use Rattle.cx_base.specs.Integers.{integers_of}
 use Rattle.cx_base.specs.declared.steps.LogEvent.TheVariants.{Step}
 use Rattle.cx_base.specs.declared.steps.LogStep.TheVariants.{ClauseWithHints}
-use Rattle.cx_semantics.specs.Chain.{negations, has_literal}
-use Rattle.cdcl_search.specs.GoingOn.{log_then, log_stops}
+use Rattle.cx_semantics.specs.Chain.{negations}
+use Rattle.cdcl_search.specs.GoingOn.{log_then}
 use Rattle.cdcl_search.specs.Tells.{IsLeft, with_events}
-use Rattle.cdcl_search.proofs.LowIds.{has_ids, next_is_id, row_ids_are_ids}
+use Rattle.cdcl_search.proofs.LowIds.{has_ids}
 use Rattle.cdcl_search.proofs.Tellings.{holds_where}
 use Rattle.cdcl_core.specs.Results.{Refutes}
 use Rattle.cdcl_core.proofs.EndingLaws.{ends_refute, ended_is_left}
@@ -19,6 +19,9 @@ hints_of_lesson-requires-clause-ids g c = has_ids c.trace.new.log.formula.now c.
 
 pub hints_of_lesson-requires-clause-reasons : goal.hints_of_lesson-requires-clause-reasons
 hints_of_lesson-requires-clause-reasons g c = ((g.P.ParityEngine.state c.args.engine.now), c.in_ok-left.ensures.stands.3.reasons)
+
+pub tell_chained-requires-clause-going : goal.tell_chained-requires-clause-going
+tell_chained-requires-clause-going g c = c.in_ok-left.ensures.log.failed ∙ c.requires.going
 
 pub tell_chained-requires-clause-right : goal.tell_chained-requires-clause-right
 tell_chained-requires-clause-right g c =

@@ -1,4 +1,4 @@
-use Rattle.std.proofs.Common.{ap, subst, IfOk, OnOk, rules, arith}
+use Rattle.std.proofs.Common.{ap, subst, IfOk, rules, arith}
 use Rattle.conflict_learn.specs.Final.{IsFinal}
 use Rattle.cdcl_search.specs.Sources.{IsSourced}
 use Rattle.cdcl_search.proofs.Feeding.{trail_is_short}

@@ -1,4 +1,4 @@
-use Rattle.std.proofs.Common.{sym, subst}
+use Rattle.std.proofs.Common.{◌∙◌, sym, subst}
 use Rattle.cx_base.specs.Problem.{Problem}
 use Rattle.cdcl_core.specs.Failing.{IsFree}
 use Rattle.search_steps.specs.Recovering.{SettledWithRecovered}
@@ -6,7 +6,14 @@ use Rattle.cdcl_search.specs.GoingOn.{log_then}
 use Rattle.cdcl_core.specs.Concluding.{IsAtConflict}
 use Rattle.cdcl_core.specs.Learning.{IsLesson}
 use Rattle.std.proofs.lemmas.Result.{err_from_is_err_and}
+use Rattle.cdcl_core.proofs.FailLaws.{rows_apart}
 use Rattle.cdcl_core.proofs.learning.learn.Goals as goal
+
+pub tell_learned-requires-clause-going : goal.tell_learned-requires-clause-going
+tell_learned-requires-clause-going g c = c.in_ok-learned.ensures.log.failed ∙ c.requires.going
+
+pub lesson_of-requires-clause-apart : goal.lesson_of-requires-clause-apart
+lesson_of-requires-clause-apart g c = rows_apart c.args.log.now.formula.now.constraints c.args.state.now.trail _ c.requires.apart
 
 pub tell_learned-requires-clause-unsettled : goal.tell_learned-requires-clause-unsettled
 tell_learned-requires-clause-unsettled g c = λ s. c.requires.unsettled (subst SettledWithRecovered c.in_ok-learned.ensures.log.formula s)

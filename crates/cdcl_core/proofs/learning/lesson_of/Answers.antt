@@ -1,15 +1,17 @@
-use Rattle.std.proofs.Common.{ap, subst, IfOk, OnOk, rules, arith}
+use Rattle.std.proofs.Common.{sym, ap, subst, IfOk, rules, arith}
 use Rattle.conflict_learn.specs.Levels.{Teaches}
-use Rattle.cdcl_search.specs.Sources.{IsSourced}
-use Rattle.cdcl_search.specs.Ties.{SearchStands}
+use Rattle.cdcl_search.specs.Sources.{IsSourced, RowsAreApart}
 use Rattle.cdcl_search.proofs.Feeding.{trail_is_short}
-use Rattle.cdcl_search.proofs.Outcomes.{on_ok, ok_maps}
+use Rattle.cdcl_search.proofs.Outcomes.{on_ok}
 use Rattle.cdcl_core.specs.Concluding.{IsConflictClause}
 use Rattle.cdcl_core.proofs.LearnLaws.{conflict_is_now, stands_at, conflict_at, teaches_at, lesson_by}
 use Rattle.cdcl_core.proofs.learning.lesson_of.Goals as goal
 
 pub analyse-requires-clause-one_now : goal.analyse-requires-clause-one_now
 analyse-requires-clause-one_now g c = conflict_is_now c.args.log.now.formula.now c.args.state.now (g.P.ParityEngine.state c.args.engine.now) c.args.rows.now.items (g.L.Sink.items c.args.log.now.sink.now) c.requires.at.stands c.requires.at.above c.args.conflict.now c.requires.at.conflict
+
+pub analyse-requires-clause-ready : goal.analyse-requires-clause-ready
+analyse-requires-clause-ready g c = (c.requires.at.stands, subst (RowsAreApart c.args.log.now.formula.now.constraints c.args.state.now.trail) (sym c.len.ensures.len) c.requires.apart, c.requires.going)
 
 pub returns-clause-at : goal.returns-clause-at
 returns-clause-at g c =

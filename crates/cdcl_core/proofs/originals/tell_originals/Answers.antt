@@ -20,6 +20,7 @@ tell_original-requires g c =
     record {
       few = omega (arith, n, few);
       place = omega (arith, n, long, less);
+      going = c.loop-place.invariant.log.failed ∙ c.requires.going;
       taken = record {
         counted = subst (λ (f : Problem). AreCounted (take c.loop-place.place f.constraints) c.loop-place.counts.clauses c.loop-place.counts.parities) (sym same) c.loop-place.invariant.counted;
         begun = subst (λ (f : Problem). HasBegun f (take c.loop-place.place f.constraints) (g.L.Sink.items c.loop-place.log.sink.now)) (sym same) c.loop-place.invariant.begun;

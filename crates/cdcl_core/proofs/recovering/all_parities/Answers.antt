@@ -23,6 +23,9 @@ loop-place-init g c =
       log = log_rests g.L.Sink g.met.L.Sink.keeps_itself _;
     }
 
+pub tell_find-requires-clause-going : goal.tell_find-requires-clause-going
+tell_find-requires-clause-going g c = c.loop-place.invariant.log.failed ∙ c.requires.going
+
 pub tell_find-requires-clause-fewer : goal.tell_find-requires-clause-fewer
 tell_find-requires-clause-fewer g c =
     let formula = c.args.log.now.formula.now in

@@ -29,6 +29,7 @@ returns g c =
               c.in_ok-tell_step.ensures.told (ap (λ a. record c.args.state.now { arena = a; learned = c.args.state.now.learned - 1 }) c.remove.ensures)
               (one_deletion_keeps c.args.log.now.formula.now c.args.state.now e (g.L.Sink.items c.args.log.now.sink.now) c.requires.loses c.args.reference may.live may.learned c.requires.units may.enough);
           units = c.requires.units;
+          going = c.in_ok-tell_step.ensures.log.failed ∙ c.requires.going;
         };
         conflicts = refl;
         log = c.in_ok-tell_step.ensures.log;

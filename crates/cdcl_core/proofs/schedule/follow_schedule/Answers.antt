@@ -3,8 +3,11 @@ use Rattle.cx_base.specs.Problem.{Problem}
 use Rattle.search_policy.specs.Assuming.{KeepsAssumptions}
 use Rattle.cdcl_core.proofs.schedule.follow_schedule.Goals as goal
 
-pub reduce_where_many-requires : goal.reduce_where_many-requires
-reduce_where_many-requires g c = c.restart.ensures.stays.stands (g.L.Sink.items c.args.log.now.sink.now) c.requires.ready.stands
+pub reduce_where_many-requires-clause-going : goal.reduce_where_many-requires-clause-going
+reduce_where_many-requires-clause-going g c = c.requires.ready.going
+
+pub reduce_where_many-requires-clause-stands : goal.reduce_where_many-requires-clause-stands
+reduce_where_many-requires-clause-stands g c = c.restart.ensures.stays.stands (g.L.Sink.items c.args.log.now.sink.now) c.requires.ready.stands
 
 pub returns-clause-keeps : goal.returns-clause-keeps
 returns-clause-keeps g c =

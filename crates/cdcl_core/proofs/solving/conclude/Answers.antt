@@ -1,7 +1,7 @@
-use Rattle.std.proofs.Common.{◌≡◌, ◌+◌, [], subst, arith, rules}
+use Rattle.std.proofs.Common.{◌≡◌, ◌+◌, [], arith, rules}
 use Rattle.cdcl_search.specs.declared.searching.Reached.TheVariants as reached
 use Rattle.cdcl_search.specs.declared.propagation.Found.TheVariants.{Quiet}
-use Rattle.cdcl_core.proofs.Answering.{log_is_open, values_are_known, unsat_is_known, refutes_within}
+use Rattle.cdcl_core.proofs.Answering.{log_is_open, values_are_known, refutes_within}
 use Rattle.cdcl_search.specs.GoingOn.{log_rests}
 use Rattle.search_policy.proofs.AssumingLaws.{all_assumed_true}
 use Rattle.cdcl_core.proofs.solving.conclude.Goals as goal
@@ -38,6 +38,12 @@ returns-in_ok-failed-in-Failed-clause-leaves g c =
       clear = c.in_ok-failed-in-Failed.ensures.clear;
       log = ends.log;
     }
+
+pub conclude_failed-requires-clause-place : goal.conclude_failed-requires-clause-place
+conclude_failed-requires-clause-place g c = let at = rw c.in-Failed.is at c.requires.reaches.settles in (at.0, at.1, at.2)
+
+pub conclude_failed-requires-clause-found : goal.conclude_failed-requires-clause-found
+conclude_failed-requires-clause-found g c = let at = rw c.in-Failed.is at c.requires.reaches.settles in at.3
 
 pub values_of-requires-clause-stands : goal.values_of-requires-clause-stands
 values_of-requires-clause-stands g c = (g.L.Sink.items c.args.log.now.sink.now, c.requires.searches.stands)

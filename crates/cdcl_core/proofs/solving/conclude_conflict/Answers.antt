@@ -1,10 +1,9 @@
-use Rattle.std.proofs.Common.{◌≡◌, ◌≤◌, ◌+◌, refl, sym, subst, length, arith}
+use Rattle.std.proofs.Common.{◌∙◌, ◌+◌, sym, subst, arith}
 use Rattle.std.proofs.lemmas.Result.{err_from_is_err_and}
 use Rattle.cx_base.specs.Problem.{Problem}
 use Rattle.search_policy.specs.Assuming.{KeepsAssumptions}
-use Rattle.search_steps.specs.Recovering.{SettledWithRecovered}
 use Rattle.cdcl_search.specs.GoingOn.{log_then}
-use Rattle.cdcl_core.proofs.Answering.{unsat_is_known, refutes_within}
+use Rattle.cdcl_core.proofs.Answering.{refutes_within}
 use Rattle.cdcl_core.proofs.FailLaws.{conflict_ends_at}
 use Rattle.cdcl_core.proofs.solving.conclude_conflict.Goals as goal
 
@@ -19,6 +18,15 @@ end-requires-clause-at g c =
     let level = c.level.ensures.level in
     conflict_ends_at c.conflict_clause.new.log.formula.now.constraints c.args.assumptions.now c.args.state.now.trail (subst (λ (f : Problem). KeepsAssumptions f.constraints c.args.assumptions.now c.args.state.now.trail) (sym c.in_ok-conclusion.ensures.log.formula) c.requires.reaches.keeps) c.requires.searches.stands.3.trail.follows.sound (omega (arith, low, level))
     c.requires.reaches.settles.1 c.len-below.result c.len-below.ensures.len
+
+pub end-requires-clause-going : goal.end-requires-clause-going
+end-requires-clause-going g c = c.in_ok-conclusion.ensures.log.failed ∙ c.requires.searches.going
+
+pub learn_and_jump-requires-clause-going : goal.learn_and_jump-requires-clause-going
+learn_and_jump-requires-clause-going g c = c.in_ok-conclusion.ensures.log.failed ∙ c.requires.searches.going
+
+pub tell_ending-requires-clause-going : goal.tell_ending-requires-clause-going
+tell_ending-requires-clause-going g c = c.in_ok-conclusion.ensures.log.failed ∙ c.requires.searches.going
 
 pub returns-then-level-assumptions-clause-leaves : goal.returns-then-level-assumptions-clause-leaves
 returns-then-level-assumptions-clause-leaves g c =

@@ -1,9 +1,14 @@
-use Rattle.std.proofs.Common.{sym, subst, Some, rules}
+use Rattle.std.proofs.Common.{◌∙◌, sym, subst, Some, rules}
 use Rattle.cx_base.specs.Problem.{Problem}
-use Rattle.search_policy.specs.Assuming.{KeepsAssumptions, Contradicts}
 use Rattle.cdcl_core.specs.Failing.{EndsAtPlace}
 use Rattle.cdcl_core.proofs.FailLaws.{failed_ends_at}
 use Rattle.cdcl_core.proofs.solving.conclude_failed.Goals as goal
+
+pub end-requires-clause-going : goal.end-requires-clause-going
+end-requires-clause-going g c = c.in_ok-conclusion.ensures.log.failed ∙ c.requires.going
+
+pub conclude_refuted-requires-clause-refuted : goal.conclude_refuted-requires-clause-refuted
+conclude_refuted-requires-clause-refuted g c = c.is_refuted.ensures c.if-is_refuted.true
 
 pub end-requires-clause-at : goal.end-requires-clause-at
 end-requires-clause-at g c =

@@ -5,6 +5,9 @@ use Rattle.std.proofs.lemmas.Result.{err_from_is_err_and}
 use Rattle.cdcl_core.proofs.Answering.{refutes_within, unsat_is_known}
 use Rattle.cdcl_core.proofs.solving.fill_and_search.Goals as goal
 
+pub search-requires-clause-going : goal.search-requires-clause-going
+search-requires-clause-going g c = c.in_ok-engine.ensures.log.failed ∙ c.requires.going
+
 pub returns-in-Some-clause-log : goal.returns-in-Some-clause-log
 returns-in-Some-clause-log g c = log_then g.L.Sink g.met.L.Sink.keeps_on _ c.start.new.log _ _ c.in_ok-engine.ensures.log c.search.ensures.log
 

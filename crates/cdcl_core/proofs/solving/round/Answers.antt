@@ -6,6 +6,9 @@ use Rattle.cdcl_search.specs.GoingOn.{log_then}
 use Rattle.cdcl_core.specs.Rounds.{IsSettledIn}
 use Rattle.cdcl_core.proofs.solving.round.Goals as goal
 
+pub search_on-requires-clause-ready : goal.search_on-requires-clause-ready
+search_on-requires-clause-ready g c = record { stands = c.requires.searches.stands; unbroken = c.requires.unbroken; going = c.requires.searches.going }
+
 pub conclude-requires-clause-settled : goal.conclude-requires-clause-settled
 conclude-requires-clause-settled g c = λ s. c.in_ok-reached.ensures.settled s ∙ c.requires.settled (subst SettledWithRecovered c.in_ok-reached.ensures.searches_on.log.formula s)
 
@@ -32,6 +35,7 @@ conclude-requires-clause-searches g c = record {
   keeps = c.in_ok-reached.ensures.reaches.keeps;
   few = (let same = c.search_on.ensures.searches_on.conflicts in let few = c.requires.searches.few.0 in omega (arith, same, few), c.requires.searches.few.1);
   clear = c.requires.searches.clear;
+  going = c.in_ok-reached.ensures.searches_on.log.failed ∙ c.requires.searches.going;
 }
 
 pub conclude-requires-clause-reaches : goal.conclude-requires-clause-reaches

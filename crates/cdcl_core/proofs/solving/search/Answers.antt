@@ -53,7 +53,7 @@ returns-in-Some-clause-answers g c = rw c.in-Some.is at c.in_ok-outcome.ensures.
 pub round-requires-clause-searches : goal.round-requires-clause-searches
 round-requires-clause-searches g c =
     let i = c.loop-assumptions.invariant in
-    record { stands = i.goes_on.stands; keeps = i.keeps; few = (i.goes_on.fewer, c.requires.budget.1); clear = i.clear }
+    record { stands = i.goes_on.stands; keeps = i.keeps; few = (i.goes_on.fewer, c.requires.budget.1); clear = i.clear; going = i.log.failed ∙ c.requires.going }
 
 pub round-requires-clause-unbroken : goal.round-requires-clause-unbroken
 round-requires-clause-unbroken g c = c.loop-assumptions.invariant.goes_on.unbroken
@@ -61,7 +61,7 @@ round-requires-clause-unbroken g c = c.loop-assumptions.invariant.goes_on.unbrok
 pub follow_schedule-requires-clause-ready : goal.follow_schedule-requires-clause-ready
 follow_schedule-requires-clause-ready g c =
     let goes_on = rw c.in_default.is at c.in_ok-outcome.ensures.leaves.goes_on in
-    record { stands = goes_on.stands; unbroken = goes_on.unbroken }
+    record { stands = goes_on.stands; unbroken = goes_on.unbroken; going = c.in_ok-outcome.ensures.leaves.log.failed ∙ c.loop-assumptions.invariant.log.failed ∙ c.requires.going }
 
 pub loop-assumptions-init : goal.loop-assumptions-init
 loop-assumptions-init g c = record {

@@ -1,10 +1,16 @@
-use Rattle.std.proofs.Common.{◌∙◌, sym, ap, subst, is_some, ◌∷◌, [], rules, arith}
+use Rattle.std.proofs.Common.{◌∙◌, sym, ap, subst, is_some, rules, arith}
 use Rattle.cdcl_core.specs.Results.{Refutes}
 use Rattle.cdcl_core.proofs.Answering.{unsat_is_known}
 use Rattle.cdcl_core.proofs.ClashLaws.{clash_refutes}
 use Rattle.cdcl_search.specs.GoingOn.{log_then, log_stops}
 use Rattle.std.proofs.lemmas.Result.{err_from_is_err_and}
 use Rattle.cdcl_core.proofs.solving.search_from_start.Goals as goal
+
+pub all_parities-requires-clause-going : goal.all_parities-requires-clause-going
+all_parities-requires-clause-going g c = c.in_ok-tell_originals.ensures.log.failed ∙ c.requires.going
+
+pub fill_and_search-requires-clause-going : goal.fill_and_search-requires-clause-going
+fill_and_search-requires-clause-going g c = c.in_ok-parities.ensures.log.failed ∙ c.in_ok-tell_originals.ensures.log.failed ∙ c.requires.going
 
 pub returns-clause-log : goal.returns-clause-log
 returns-clause-log g c =

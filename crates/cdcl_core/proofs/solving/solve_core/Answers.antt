@@ -1,4 +1,4 @@
-use Rattle.std.proofs.Common.{◌≡◌, ◌∙◌, rules, sym, subst, IfErr, IfOk}
+use Rattle.std.proofs.Common.{◌≡◌, rules, sym, subst, IfErr, IfOk}
 use Rattle.cx_base.specs.Counts.{Rose}
 use Rattle.conflict_learn.specs.declared.fault.CoreFault.TheVariants.{Write}
 use Rattle.search_steps.specs.Recovering.{SettledWithRecovered}

@@ -1,7 +1,6 @@
-use Rattle.std.proofs.Common.{◌≡◌, ◌+◌, List, [], Option, refl, sym, ap, ◌∙◌, subst, length, true≢false, arith}
-use Rattle.cx_base.specs.Literals.{Literal}
+use Rattle.std.proofs.Common.{◌≡◌, ◌+◌, List, [], Option, sym, ap, ◌∙◌, subst, true≢false}
 use Rattle.cx_base.specs.declared.steps.LogEvent.{LogEvent}
-use Rattle.cx_trail.specs.Sequence.{TrailState, pushed}
+use Rattle.cx_trail.specs.Sequence.{pushed}
 use Rattle.cx_trail.specs.declared.entry.Reason.TheVariants.{Decision}
 use Rattle.parity_engine.specs.State.{State}
 use Rattle.cdcl_search.specs.declared.state.SearchState.{SearchState}

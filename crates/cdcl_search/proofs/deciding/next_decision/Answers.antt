@@ -1,4 +1,4 @@
-use Rattle.std.proofs.Common.{◌≡◌, ◌+◌, sym, subst, Option, Some, None, MatchOption, length}
+use Rattle.std.proofs.Common.{◌+◌, sym, subst, Option, Some, None, MatchOption}
 use Rattle.cx_base.specs.Literals.{Literal}
 use Rattle.cx_trail.specs.declared.entry.Reason.TheVariants.{Decision}
 use Rattle.cx_trail.specs.Sequence.{pushed}

@@ -1,4 +1,4 @@
-use Rattle.std.proofs.Common.{◌≡◌, refl, sym, ap, ◌∙◌, subst, [], length, arith}
+use Rattle.std.proofs.Common.{refl, sym, ap, ◌∙◌, subst, [], length, arith}
 use Rattle.watch_lists.specs.Events.{Happens}
 use Rattle.watch_lists.specs.declared.event.Event.TheVariants.{Quiet}
 use Rattle.cdcl_search.specs.declared.state.SearchState.{SearchState}

@@ -42,7 +42,7 @@ loop-reached-init g c = record {
 }
 
 pub turn-requires-clause-ready : goal.turn-requires-clause-ready
-turn-requires-clause-ready g c = record { stands = c.loop-reached.invariant.stands; unbroken = c.loop-reached.invariant.unbroken }
+turn-requires-clause-ready g c = record { stands = c.loop-reached.invariant.stands; unbroken = c.loop-reached.invariant.unbroken; going = c.loop-reached.invariant.log.failed ∙ c.requires.ready.going }
 
 pub returns-in_err-reached-clause-searches_on : goal.returns-in_err-reached-clause-searches_on
 returns-in_err-reached-clause-searches_on g c =

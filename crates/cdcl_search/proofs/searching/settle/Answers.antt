@@ -1,6 +1,8 @@
-use Rattle.std.proofs.Common.{◌≡◌, ◌∙◌, sym, ap, subst, length}
+use Rattle.std.proofs.Common.{◌<◌, ◌∙◌, sym, ap, subst, length}
 use Rattle.std.proofs.lemmas.Result.{err_from_is_err_and}
+use Rattle.cx_base.specs.Problem.{Problem}
 use Rattle.cx_trail.specs.Sequence.{TrailState}
+use Rattle.search_policy.specs.Assuming.{Contradicts}
 use Rattle.search_policy.proofs.AssumingLaws.{extended_keeps}
 use Rattle.cdcl_search.proofs.searching.settle.Goals as goal
 use Rattle.cdcl_search.proofs.UnitLaws.{finds_still}
@@ -23,6 +25,20 @@ returns-in-None-clause-settles g c = (
   finds_still c.propagate-found.new.state c.tell_units.new.state (g.P.ParityEngine.state c.propagate-found.new.engine) c.propagate-found.result c.tell_units.ensures.same c.propagate-found.ensures.finds,
   c.in-None.ensures.found ∙ ap (λ (t : TrailState). length t.entries) (sym c.tell_units.ensures.same.trail),
 )
+
+pub tell_units-requires-clause-going : goal.tell_units-requires-clause-going
+tell_units-requires-clause-going g c = c.requires.ready.going
+
+pub returns-in-Some-clause-settles : goal.returns-in-Some-clause-settles
+returns-in-Some-clause-settles g c =
+    let same = c.tell_units.ensures.same.trail in
+    let at = c.in-Some.ensures.found in (
+      at.0,
+      subst (λ (t : TrailState). c.in-Some.place < length t.entries) (sym same) at.1,
+      subst (λ (f : Problem). Contradicts f.constraints c.tell_units.new.state.trail c.in-Some.place) (sym c.in_ok-tell_units.ensures.stands_on.log.formula)
+          (subst (λ (t : TrailState). Contradicts c.args.log.now.formula.now.constraints t c.in-Some.place) (sym same) at.2),
+      finds_still c.propagate-found.new.state c.tell_units.new.state (g.P.ParityEngine.state c.propagate-found.new.engine) c.propagate-found.result c.tell_units.ensures.same c.propagate-found.ensures.finds,
+    )
 
 pub returns-in-Some-clause-searches_on : goal.returns-in-Some-clause-searches_on
 returns-in-Some-clause-searches_on g c = record {

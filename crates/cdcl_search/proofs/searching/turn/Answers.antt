@@ -1,12 +1,8 @@
-use Rattle.std.proofs.Common.{◌≡◌, ◌+◌, refl, ◌∙◌, subst, true≢false, true, not, sym, ap, length, arith, Bool, false}
+use Rattle.std.proofs.Common.{◌+◌, refl, ◌∙◌, subst, true≢false, sym, ap, length, arith}
 use Rattle.std.proofs.lemmas.List.{length_push}
 use Rattle.cx_trail.specs.Sequence.{TrailState}
 use Rattle.cx_trail.specs.declared.entry.Reason.TheVariants.{Decision}
-use Rattle.search_policy.specs.Assuming.{KeepsAssumptions}
-use Rattle.parity_engine.specs.declared.engine.ParityEngine as engine
-use Rattle.cdcl_search.specs.Searching.{SettlesAt, SearchReaches}
-use Rattle.cdcl_search.specs.declared.propagation.Found.TheVariants.{Quiet}
-use Rattle.cdcl_search.specs.declared.searching.Reached.TheVariants.{Found}
+use Rattle.cdcl_search.specs.Searching.{SettlesAt}
 use Rattle.cdcl_search.proofs.searching.turn.Goals as goal
 
 pub decide-requires : goal.decide-requires

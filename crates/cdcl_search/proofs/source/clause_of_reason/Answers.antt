@@ -78,7 +78,7 @@ pub hinted_row-requires-clause-room : goal.hinted_row-requires-clause-room
 hinted_row-requires-clause-room g c = c.requires.room
 
 pub hinted_row-requires-clause-apart : goal.hinted_row-requires-clause-apart
-hinted_row-requires-clause-apart g c = c.requires.apart
+hinted_row-requires-clause-apart g c = c.requires.apart c.in-Row.row c.in-Row.is
 
 pub returns-in-Row-clause-implied : goal.returns-in-Row-clause-implied
 returns-in-Row-clause-implied g c = c.hinted_row.ensures.implied

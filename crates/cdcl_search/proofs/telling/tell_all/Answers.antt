@@ -1,4 +1,4 @@
-use Rattle.std.proofs.Common.{◌≡◌, rules, refl, sym, ap, ◌∙◌, List, [], ◌∷◌, ◌++◌, Option, length}
+use Rattle.std.proofs.Common.{◌≡◌, rules, refl, sym, ap, ◌∙◌, List, [], ◌∷◌, ◌++◌, Option, Some, length}
 use Rattle.std.proofs.lemmas.Iterator.Adapters.{YieldsList-from_vec}
 use Rattle.std.proofs.lemmas.Iterator.Consumers.{YieldsList-turn, YieldsList-so_far}
 use Rattle.std.proofs.lemmas.List.{map-id}
@@ -7,6 +7,7 @@ use Rattle.cx_base.specs.declared.steps.LogEvent.{LogEvent}
 use Rattle.cx_base.specs.declared.steps.LogEvent.TheVariants.{Step}
 use Rattle.cdcl_search.specs.Tells.{as_events, with_events}
 use Rattle.cdcl_search.proofs.Events.{more_and_more, stops_there}
+use Rattle.cdcl_search.specs.GoingOn.{failed_then}
 use Rattle.cdcl_search.proofs.telling.tell_all.Goals as goal
 
 with_next : (front : List LogStep) (s : LogStep) → as_events front ++ Step s ∷ [] ≡ as_events (front ++ s ∷ [])
@@ -27,11 +28,20 @@ returns-in-Err g c =
     let so_far = sym (map-id front) ∙ YieldsList-so_far road front _ c.loop-step.yielded_by in
     let told = stops_there (g.L.Sink.torn c.tell_one.new.sink) c.args.steps.items (length front) c.in-Some.step first (g.L.Sink.items c.loop-step.sink) (g.L.Sink.items c.tell_one.new.sink) c.in-Err.fault
     turn.0 turn.1 (c.loop-step.invariant.0 ∙ ap (λ steps. with_events (as_events steps) first) so_far) c.in-Err.ensures.told in
-    record { told = told; faults = search rules; frame = search rules }
+    record {
+      told = told;
+      faults = search rules;
+      failed = failed_then (g.L.Sink.has_failed c.args.sink.now) (g.L.Sink.has_failed c.loop-step.sink) (g.L.Sink.has_failed c.tell_one.new.sink) (Some c.in-Err.fault) c.loop-step.invariant.2 c.in-Err.ensures.failed;
+      frame = g.met.L.Sink.keeps_on c.args.sink.now c.loop-step.sink c.tell_one.new.sink c.loop-step.invariant.3 c.in-Err.ensures.frame;
+    }
 
 pub loop-step-preserved : goal.loop-step-preserved
 loop-step-preserved g c = (
   next_is_told c.loop-step.yielded c.in-Some.step (g.L.Sink.items c.args.sink.now) (g.L.Sink.items c.loop-step.sink) (g.L.Sink.items c.tell_one.new.sink) c.loop-step.invariant.0 c.in-Ok.ensures.told,
   c.in-Ok.ensures.faults ∙ c.loop-step.invariant.1,
-  g.met.L.Sink.keeps_on c.args.sink.now c.loop-step.sink c.tell_one.new.sink c.loop-step.invariant.2 c.in-Ok.ensures.frame,
+  c.in-Ok.ensures.failed ∙ c.loop-step.invariant.2,
+  g.met.L.Sink.keeps_on c.args.sink.now c.loop-step.sink c.tell_one.new.sink c.loop-step.invariant.3 c.in-Ok.ensures.frame,
 )
+
+pub tell_one-requires-clause-going : goal.tell_one-requires-clause-going
+tell_one-requires-clause-going g c = c.loop-step.invariant.2 ∙ c.requires.going

@@ -25,7 +25,7 @@ pub clause_of_reason-requires-clause-apart : goal.clause_of_reason-requires-clau
 clause_of_reason-requires-clause-apart g c =
     let long = c.len.ensures in
     let same = c.args.state.now.units.ok in
-    here c.args.state.now.trail.entries (length c.args.state.now.units.items) c.len.result c.entry-entry.result c.args.log.now.formula.now.constraints (omega (arith, long, same)) c.entry-entry.ensures.is c.requires.apart
+    λ row is. here c.args.state.now.trail.entries (length c.args.state.now.units.items) c.len.result c.entry-entry.result c.args.log.now.formula.now.constraints (omega (arith, long, same)) c.entry-entry.ensures.is c.requires.apart
 
 pub tell_unit-requires-clause-apart : goal.tell_unit-requires-clause-apart
 tell_unit-requires-clause-apart g c =
@@ -49,8 +49,14 @@ tell_unit-requires-clause-next g c =
       implied = c.in_ok-implying.ensures.implied;
     }
 
-pub delete_rows-requires : goal.delete_rows-requires
-delete_rows-requires g c =
+pub tell_unit-requires-clause-going : goal.tell_unit-requires-clause-going
+tell_unit-requires-clause-going g c = c.in_ok-implying.ensures.stands_on.log.failed ∙ c.requires.going
+
+pub delete_rows-requires-clause-going : goal.delete_rows-requires-clause-going
+delete_rows-requires-clause-going g c = c.in_ok-tell_unit.ensures.to_delete.log.failed ∙ c.in_ok-implying.ensures.stands_on.log.failed ∙ c.requires.going
+
+pub delete_rows-requires-clause-stands : goal.delete_rows-requires-clause-stands
+delete_rows-requires-clause-stands g c =
     subst (λ rows. SearchStandsFrom c.tell_unit.new.log.formula.now c.tell_unit.new.state (g.P.ParityEngine.state c.args.engine.now) c.tell_unit.new.state.next rows (g.L.Sink.items c.tell_unit.new.log.sink.now)) (c.deref.ensures.value ∙ sym c.deref-2.ensures.value) c.in_ok-tell_unit.ensures.to_delete.stands
 
 pub returns-in_err-implying-clause-stands_on : goal.returns-in_err-implying-clause-stands_on

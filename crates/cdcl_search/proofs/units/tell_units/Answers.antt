@@ -29,6 +29,9 @@ loop-log-init g c = record {
 pub tell_next_unit-requires-clause-stands : goal.tell_next_unit-requires-clause-stands
 tell_next_unit-requires-clause-stands g c = c.loop-log.invariant.stands
 
+pub tell_next_unit-requires-clause-going : goal.tell_next_unit-requires-clause-going
+tell_next_unit-requires-clause-going g c = c.loop-log.invariant.log.failed ∙ c.requires.going
+
 pub tell_next_unit-requires-clause-level : goal.tell_next_unit-requires-clause-level
 tell_next_unit-requires-clause-level g c = c.loop-log.invariant.level
 

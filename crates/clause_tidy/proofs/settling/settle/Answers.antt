@@ -1,4 +1,4 @@
-use Rattle.std.proofs.Common.{subst, List, Option, None, Ok, Err}
+use Rattle.std.proofs.Common.{◌∙◌, subst, List, Option, None, Ok, Err}
 use Rattle.cx_base.specs.Literals.{Literal}
 use Rattle.clause_tidy.specs.Answers.{TidiesOn, MendsTo}
 use Rattle.clause_tidy.specs.Tidying.{Tidies}
@@ -12,6 +12,9 @@ loop-pair-init g c = record {
   free = c.requires.none;
   proper = c.requires.proper;
 }
+
+pub mend-requires-clause-going : goal.mend-requires-clause-going
+mend-requires-clause-going g c = c.loop-pair.invariant.stage.failed ∙ c.requires.going
 
 pub returns-in-Err-clause-tidies : goal.returns-in-Err-clause-tidies
 returns-in-Err-clause-tidies g c =

@@ -1,4 +1,4 @@
-use Rattle.std.proofs.Common.{Ok, Err, arith}
+use Rattle.std.proofs.Common.{◌∙◌, [], Ok, Err, arith}
 use Rattle.clause_tidy.specs.Tidying.{Tidies}
 use Rattle.clause_tidy.proofs.Composing.{tidied_on}
 use Rattle.clause_tidy.proofs.LeftLaws.{all_left, left_on, free_more}
@@ -11,6 +11,9 @@ loop-place-init g c = record {
   left = all_left c.args.arena.now;
   free = λ q less. absurd (omega (arith, less));
 }
+
+pub drop_tautology-requires-clause-going : goal.drop_tautology-requires-clause-going
+drop_tautology-requires-clause-going g c = (c.loop-place.invariant.stage (record { variables = 0; constraints = [] }) 0).failed ∙ c.requires.going
 
 pub returns-in-Err-clause-tidies : goal.returns-in-Err-clause-tidies
 returns-in-Err-clause-tidies g c = λ f s.

@@ -29,6 +29,9 @@ returns-in-Err g c =
     turn.0 turn.1 (c.loop-step.invariant.0 ∙ ap (λ steps. with_events (as_events steps) first) so_far) c.in-Err.ensures.told in
     record { told = told; faults = search rules; failed = search rules; frame = search rules }
 
+pub tell_one-requires-clause-going : goal.tell_one-requires-clause-going
+tell_one-requires-clause-going g c = c.loop-step.invariant.2 ∙ c.requires.going
+
 pub loop-step-preserved : goal.loop-step-preserved
 loop-step-preserved g c = (
   next_is_told c.loop-step.yielded c.in-Some.step (g.L.Sink.items c.args.log.now) (g.L.Sink.items c.loop-step.log) (g.L.Sink.items c.tell_one.new.log) c.loop-step.invariant.0 c.in-Ok.ensures.told,

@@ -1,8 +1,12 @@
+use Rattle.std.proofs.Common.{◌∙◌}
 use Rattle.clause_tidy.specs.Answers.{MendsTo}
 use Rattle.clause_tidy.specs.Tidying.{Tidies}
 use Rattle.clause_tidy.proofs.Stages.{stage_on, mend_on}
 use Rattle.clause_tidy.proofs.Tellings.{same_fault}
 use Rattle.clause_tidy.proofs.tidying.tidy_clauses.Goals as goal
+
+pub settle-requires-clause-going : goal.settle-requires-clause-going
+settle-requires-clause-going g c = (c.in-Ok.ensures.tidies c.args.formula.now c.args.spare).failed ∙ c.requires.going
 
 pub returns-in-Err-clause-tidies : goal.returns-in-Err-clause-tidies
 returns-in-Err-clause-tidies g c =

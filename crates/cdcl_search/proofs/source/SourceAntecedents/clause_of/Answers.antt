@@ -1,15 +1,14 @@
-use Rattle.std.proofs.Common.{◌≡◌, false, refl, sym, ap, subst, arith}
-use Rattle.cx_base.specs.Literals.{Literal, negate}
+use Rattle.std.proofs.Common.{◌∙◌, refl, sym, ap, subst, arith}
 use Rattle.cx_base.specs.Problem.{Problem}
-use Rattle.cx_base.specs.Assumptions.{assumes}
-use Rattle.search_policy.specs.Assuming.{AreApart}
+use Rattle.cdcl_search.specs.Sources.{RowsAreApart}
 use Rattle.std.proofs.lemmas.Result.{err_from_is_err_and}
 use Rattle.cdcl_search.proofs.source.SourceAntecedents.clause_of.Goals as goal
 
 pub clause_of_reason-requires-clause-apart : goal.clause_of_reason-requires-clause-apart
-clause_of_reason-requires-clause-apart g c =
-    let b = c.requires.below in
-    subst (λ (l : Literal). assumes c.args.self.now.log.now.formula.now.constraints (negate l) ≡ false) b.2.1 (c.requires.ready.1 b.0 b.1)
+clause_of_reason-requires-clause-apart g c = c.requires.ready.1 c.args.literal c.args.reason c.requires.below c.requires.stands
+
+pub clause_of_reason-requires-clause-going : goal.clause_of_reason-requires-clause-going
+clause_of_reason-requires-clause-going g c = c.requires.ready.2
 
 pub returns-in_err-hinted : goal.returns-in_err-hinted
 returns-in_err-hinted g c =
@@ -26,7 +25,7 @@ returns g c =
       held = λ clause h. e.grows clause h;
       clause = e.sourced;
       implied = e.implied;
-      ready = (e.stands_on.stands, subst (λ (f : Problem). AreApart f.constraints c.args.self.now.state.now.trail c.args.self.now.below) (sym e.stands_on.log.formula) c.requires.ready.1);
+      ready = (e.stands_on.stands, subst (λ (f : Problem). RowsAreApart f.constraints c.args.self.now.state.now.trail c.args.self.now.below) (sym e.stands_on.log.formula) c.requires.ready.1, e.stands_on.log.failed ∙ c.requires.ready.2);
       reach = refl;
       room = omega (arith, e.one, ap (λ f. f.variables) e.stands_on.log.formula);
       faults = e.stands_on.log.counts;
