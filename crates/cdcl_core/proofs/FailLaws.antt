@@ -130,6 +130,16 @@ failed_ends_at constraints a t k ok p is less h = record {
     no_some : {A : Type 0} {x : A} → None ≡ Some x → ⊥
     no_some e = cc
 
+-- at level 0 nothing was decided, so nothing is left
+none_decided : (t : TrailState) → IsTrail t → t.level ≡ 0 → (places : List ℕ) (below : ℕ) → below ≤ length t.entries → AllByRecursion (λ p. p < below) places → AllByRecursion (IsDecidedAt t) places → places ≡ []
+none_decided t ok zero [] below few w d = refl
+none_decided t ok zero (p ∷ places) below few w d = absurd (let low = w.0 in let top = ok.levels p (omega (arith, low, few)) in let above = d.0.0 in omega (arith, top, above, zero))
+
+pub none_left : (constraints : List Constraint) (c : SearchState) (clause : List Literal) (kept : Option Literal) (below : ℕ) (rows : List (List Literal)) (left : Final) → IsLeftOf constraints c clause kept below rows left → IsTrail c.trail
+    → kept ≡ None → c.trail.level ≡ 0 → negations left.lits ≡ []
+none_left constraints c clause kept below rows left l ok none zero = ap negations (l.final.are ∙ ap (λ k. kept_in k ++ negated_at c.trail l.final.places) none
+    ∙ ap (negated_at c.trail) (none_decided c.trail ok zero l.final.places below l.fails.within l.final.within l.final.decided))
+
 -- ---- what is left ends the log
 module _ (constraints : List Constraint) (t : TrailState) (below : ℕ) (rests : RestsOnAssumptions constraints t below) where
   decisions_end : (places : List ℕ) → AllByRecursion (λ p. p < below) places → AllByRecursion (IsDecidedAt t) places → is_ending constraints (negated_at t places) ≡ true

@@ -19,6 +19,8 @@ use Rattle.search_steps.specs.Search.{Search, IsSearch}
 use Rattle.cx_trail.specs.Sequence.{IsFalseIn}
 use Rattle.step_text.specs.declared.sink.Sink as sink
 use Rattle.parity_engine.specs.declared.engine.ParityEngine as engine
+use Rattle.cdcl_search.specs.declared.propagation.Found.{Found}
+use Rattle.cdcl_search.specs.declared.propagation.Found.TheVariants as found
 use Rattle.cdcl_search.specs.declared.state.SearchState.{SearchState}
 use Rattle.cdcl_search.specs.declared.logs.SearchLog.{SearchLog}
 use Rattle.cdcl_search.specs.Logs.{GoesOn, Stands, told_in}
@@ -85,6 +87,17 @@ IsClauseAgainst c rows (Some l) clause = IsSourced c rows clause × IsAntecedent
 abbrev pub Concludes : Problem → SearchState → State → Option (List LogEvent) → Option Literal → Conclusion → Type 0
 Concludes formula c e told kept (Clause k) = SearchStands formula c e k.rows.items told × IsClauseAgainst c k.rows.items kept k.lits × IsTold k
 Concludes formula c e told kept (Ending n) = SearchStands formula c e [] told × EndsLog formula c.conflicts told n.failed n.steps.items
+
+-- it is a clause, and not steps that end the log
+abbrev pub IsByClause : Conclusion → Type 0
+IsByClause (Clause k) = Unit {0}
+IsByClause (Ending n) = ⊥
+
+-- a clause is in conflict, and not a row
+abbrev pub IsOfClause : Found → Type 0
+IsOfClause found.Quiet = ⊥
+IsOfClause (found.Clause r) = Unit {0}
+IsOfClause (found.Row row) = ⊥
 
 -- Up to an answer the search stands at what the conflict comes to, or the literal that contradicts an assumed one; the log goes on.
 pub record ConcludesOn {P L : Type 0} (p : engine.Ghosts P) (m : sink.Ghosts L LogEvent) (old new : SearchLog L) (c : SearchState) (e : P) (kept : Option Literal) (result : Result Conclusion CoreFault) : Type 0 where

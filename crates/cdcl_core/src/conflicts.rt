@@ -12,7 +12,7 @@ ghost use Rattle.cdcl_search.specs.Tells.{IsId};
 ghost use Rattle.cdcl_search.specs.Ties.{first_row_id};
 ghost use Rattle.cdcl_search.specs.declared.propagation.Found.TheVariants.{Quiet};
 ghost use Rattle.conflict_learn.specs.Learning.{HasReason};
-ghost use Rattle.cdcl_core.specs.Concluding.{ConcludesOn, IsRowAgainst};
+ghost use Rattle.cdcl_core.specs.Concluding.{ConcludesOn, IsRowAgainst, IsByClause, IsOfClause};
 ghost use Rattle.cdcl_core.specs.declared.conflicts.Conflict.{Conflict};
 ghost use Rattle.cdcl_core.specs.declared.conflicts.Conclusion.TheVariants as conclusion;
 
@@ -129,7 +129,8 @@ pub(crate) fn conflict_clause<P: ParityEngine, L: Sink<Item = LogEvent>>(
     requires found { PropagationFinds state.now (P.state engine.now) found }
     requires conflict { found ≢ Quiet }
     requires going { HasNotFailed L.Sink log.old }
-    ensures { ConcludesOn P.ParityEngine L.Sink log.old log.new state.now engine.now None result }
+    ensures concludes_on { ConcludesOn P.ParityEngine L.Sink log.old log.new state.now engine.now None result }
+    ensures by_clause { IsOfClause found → IfOk result IsByClause }
 {
     match found {
         Found::Clause(reference) => Ok(of_stored(log.alloc, stored(log.alloc, state, reference)?)),

@@ -1,5 +1,5 @@
 //! Assumptions that fail.
-ghost use Rattle.std.specs.Prelude.{◌≡◌, ◌≤◌, List, [], length, IfOk, OnOk};
+ghost use Rattle.std.specs.Prelude.{◌≡◌, ◌≤◌, List, [], length, IfOk, OnOk, None};
 ghost use Rattle.cx_semantics.specs.Chain.{negations};
 ghost use Rattle.conflict_learn.specs.Faults.{fault_in};
 ghost use Rattle.conflict_learn.specs.Marks.{AreClear};
@@ -94,6 +94,7 @@ pub(crate) fn fail<P: ParityEngine, L: Sink<Item = LogEvent>>(
     requires clear { AreClear marks.old }
     requires going { HasNotFailed L.Sink log.old }
     ensures ends { TellsEnd L.Sink log.old state.now.conflicts log.new result }
+    ensures none { failure.kept ≡ None → state.now.trail.level ≡ 0 → IfOk result (λ failed. failed ≡ []) }
     ensures clear { OnOk result (AreClear marks.new) }
 {
     let Failure {

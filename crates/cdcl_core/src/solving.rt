@@ -1,5 +1,5 @@
 //! The search as a whole.
-ghost use Rattle.std.specs.Prelude.{◌≡◌, ◌≢◌, ℕ, false, ◌<◌, ◌≤◌, ◌^◌, [], ◌∷◌, length, IfOk, IfErr, OnOk};
+ghost use Rattle.std.specs.Prelude.{◌≡◌, ◌≢◌, ℕ, false, ◌<◌, ◌≤◌, ◌^◌, [], ◌∷◌, length, IfOk, IfErr, OnOk, None};
 ghost use Rattle.cx_semantics.specs.Settled.{Settled};
 ghost use Rattle.cx_base.specs.Counts.{Rose};
 ghost use Rattle.conflict_learn.specs.declared.fault.CoreFault.TheVariants.{Write};
@@ -16,7 +16,7 @@ ghost use Rattle.search_policy.specs.Assuming.{Contradicts, KeepsAssumptions};
 ghost use Rattle.cx_base.specs.Literals.{positive_of, negative_of};
 ghost use Rattle.cdcl_search.specs.Tells.{GivesUp, HasFailedBy, HaveLowIds, HasNoMark};
 ghost use Rattle.cdcl_core.specs.Beginning.{IsAtStart};
-ghost use Rattle.cdcl_core.specs.Concluding.{Concludes, IsAtConflict, IsTold, TellsEnd};
+ghost use Rattle.cdcl_core.specs.Concluding.{Concludes, IsAtConflict, IsTold, TellsEnd, IsByClause, IsOfClause};
 ghost use Rattle.cdcl_core.specs.Failing.{EndsAtPlace, IsRefuted};
 ghost use Rattle.cdcl_core.specs.Filling.{IsFilledUpTo};
 ghost use Rattle.cdcl_core.specs.Given.{AreEngines, HasGiven};
@@ -100,6 +100,7 @@ fn end<P: ParityEngine, L: Sink<Item = LogEvent>>(
     requires clear { AreClear marks.old }
     requires going { HasNotFailed L.Sink log.old }
     ensures ends { TellsEnd L.Sink log.old state.now.conflicts log.new result }
+    ensures none { IsByClause conclusion → kept ≡ None → state.now.trail.level ≡ 0 → IfOk result (λ failed. failed ≡ []) }
     ensures clear { OnOk result (AreClear marks.new) }
 {
     match conclusion {
@@ -166,6 +167,7 @@ fn conclude_refuted<P: ParityEngine, L: Sink<Item = LogEvent>>(
     requires clear { AreClear marks.old }
     requires going { HasNotFailed L.Sink log.old }
     ensures ends { TellsEnd L.Sink log.old state.now.conflicts log.new result }
+    ensures none { IsOfClause found → IfOk result (λ failed. failed ≡ []) }
     ensures clear { OnOk result (AreClear marks.new) }
 {
     let conclusion = conflict_clause(log, state, engine, found)?;
@@ -190,6 +192,7 @@ fn conclude_failed<P: ParityEngine, L: Sink<Item = LogEvent>>(
     requires clear { AreClear marks.old }
     requires going { HasNotFailed L.Sink log.old }
     ensures ends { TellsEnd L.Sink log.old state.now.conflicts log.new result }
+    ensures none { IsOfClause found → IsRefuted log.old.formula.now.constraints state.now.trail found → IfOk result (λ failed. failed ≡ []) }
     ensures clear { OnOk result (AreClear marks.new) }
 {
     if is_refuted(log.formula, &state.trail, assumptions, &found) {

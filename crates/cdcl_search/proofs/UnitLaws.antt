@@ -7,6 +7,7 @@ use Rattle.std.proofs.lemmas.Bool.{and_parts}
 use Rattle.cx_base.specs.Literals.{Literal, negate, same_literal}
 use Rattle.cx_base.specs.Assumptions.{assumes}
 use Rattle.cx_base.specs.Problem.{Problem}
+use Rattle.cx_base.specs.declared.constraint.Constraint.{Constraint}
 use Rattle.cx_base.specs.declared.steps.LogStep.{LogStep}
 use Rattle.cx_base.specs.declared.steps.LogStep.TheVariants.{ClauseWithHints}
 use Rattle.cx_base.specs.declared.steps.LogEvent.{LogEvent}
@@ -18,6 +19,7 @@ use Rattle.cx_trail.specs.Sequence.{TrailState, IsTrail, IsTrueIn, entry_at}
 use Rattle.conflict_learn.specs.Learning.{IsAntecedent}
 use Rattle.conflict_learn.proofs.ChainOfResolutions.{by_cases}
 use Rattle.parity_engine.specs.State.{State}
+use Rattle.search_policy.specs.Assuming.{Contradicts}
 use Rattle.search_steps.specs.Holding.{AreTold}
 use Rattle.search_steps.specs.Search.{Search, IsSearch}
 use Rattle.search_steps.specs.Tied.{IsLiveSet, ForcesOn}
@@ -139,3 +141,12 @@ pub finds_still : (old new : SearchState) (e : State) (f : Found) → HasOther o
 finds_still old new e found.Quiet same h = (rw (same.watches, same.arena, same.trail) h.0, has_all_still old new same h.1, h.2, h.3)
 finds_still old new e (found.Clause r) same h = (rw same.watches h.0, rw (same.arena, same.trail) h.1, h.2)
 finds_still old new e (found.Row row) same h = (has_all_still old new same h.0, h.1)
+
+-- the oldest literal that contradicts an assumed one is still that
+pub failed_still : (constraints now : List Constraint) (old new : SearchState) (checked p : ℕ) → HasOther old new → now ≡ constraints → (p ≡ checked) × (p < length old.trail.entries) × Contradicts constraints old.trail p
+    → (p ≡ checked) × (p < length new.trail.entries) × Contradicts now new.trail p
+failed_still constraints now old new checked p same formula h = (
+  h.0,
+  subst (λ (t : TrailState). p < length t.entries) (sym same.trail) h.1,
+  subst (λ cs. Contradicts cs new.trail p) (sym formula) (subst (λ (t : TrailState). Contradicts constraints t p) (sym same.trail) h.2),
+)

@@ -78,7 +78,8 @@ fn tidy_all<L: Sink<Item = LogEvent>>(
 /// Makes the clauses of an arena tidy, together with the units that arise, and tells the log each change.
 ///
 /// Where an ending clause arises, it is told and the log has ended. A fault of writing leaves the log with a torn step.
-/// After a fault the arena is a stage of the work.
+/// After a fault the arena is a stage of the work. The log has not failed before, and has not after an answer: one that has
+/// failed is not asked again.
 pub fn tidy<L: Sink<Item = LogEvent>>(
     alloc: Global,
     arena: &mut Arena,

@@ -1,12 +1,18 @@
 use Rattle.std.proofs.Common.{rules, [], sym, subst, ◌∙◌, None}
 use Rattle.cdcl_search.proofs.LowIds.{has_ids}
 use Rattle.cdcl_search.specs.Tells.{IsId}
-use Rattle.cdcl_core.specs.Concluding.{Concludes}
+use Rattle.cdcl_core.specs.Concluding.{Concludes, IsByClause, IsOfClause}
 use Rattle.cdcl_core.proofs.ConflictLaws.{found_concludes}
 use Rattle.cdcl_core.proofs.conflicts.conflict_clause.Goals as goal
 
-pub returns-in_ok-stored-in-Clause : goal.returns-in_ok-stored-in-Clause
-returns-in_ok-stored-in-Clause g c =
+pub returns-in_ok-stored-in-Clause-clause-by_clause : goal.returns-in_ok-stored-in-Clause-clause-by_clause
+returns-in_ok-stored-in-Clause-clause-by_clause g c = λ h. subst IsByClause (sym c.of_stored.ensures.1) tt
+
+pub returns-in-Row-clause-by_clause : goal.returns-in-Row-clause-by_clause
+returns-in-Row-clause-by_clause g c = λ h. absurd (subst IsOfClause c.in-Row.is h)
+
+pub returns-in_ok-stored-in-Clause-clause-concludes_on : goal.returns-in_ok-stored-in-Clause-clause-concludes_on
+returns-in_ok-stored-in-Clause-clause-concludes_on g c =
     let k = c.of_stored.ensures in
     let e = g.P.ParityEngine.state c.args.engine.now in
     let told = g.L.Sink.items c.args.log.now.sink.now in

@@ -11,7 +11,7 @@ use Rattle.cdcl_search.proofs.LowIds.{has_ids}
 use Rattle.cdcl_search.proofs.Tellings.{holds_where}
 use Rattle.cdcl_core.specs.Results.{Refutes}
 use Rattle.cdcl_core.proofs.EndingLaws.{ends_refute, ended_is_left}
-use Rattle.cdcl_core.proofs.FailLaws.{left_is_told, left_is_unmet, left_fails}
+use Rattle.cdcl_core.proofs.FailLaws.{none_left, left_is_told, left_is_unmet, left_fails}
 use Rattle.cdcl_core.proofs.failing.fail.Goals as goal
 
 pub hints_of_lesson-requires-clause-ids : goal.hints_of_lesson-requires-clause-ids
@@ -27,6 +27,10 @@ pub tell_chained-requires-clause-right : goal.tell_chained-requires-clause-right
 tell_chained-requires-clause-right g c =
     subst (λ (ls : List Literal). IsLeft c.trace.new.log.formula.now (with_events (Step (ClauseWithHints c.args.state.now.next (integers_of ls) c.in_ok-hints.hints) ∷ []) (g.L.Sink.items c.trace.new.log.sink.now))) (sym c.as_slice-clause.ensures)
     (ended_is_left c.trace.new.log.formula.now c.args.state.now.conflicts (negations c.in_ok-left.left.lits) _ (left_is_told c.trace.new.log.formula.now c.args.state.now (g.P.ParityEngine.state c.args.engine.now) c.trace.new.rows.items (g.L.Sink.items c.trace.new.log.sink.now) c.in_ok-left.ensures.stands c.args.failure.conflict.lits c.args.failure.kept c.args.failure.below c.in_ok-left.left c.in_ok-left.ensures.left c.in_ok-hints.hints))
+
+pub returns-clause-none : goal.returns-clause-none
+returns-clause-none g c = λ kept level. c.in_ok-failed.ensures ∙ ap negations c.as_slice-clause.ensures
+    ∙ none_left c.trace.new.log.formula.now.constraints c.args.state.now c.args.failure.conflict.lits c.args.failure.kept c.args.failure.below c.trace.new.rows.items c.in_ok-left.left c.in_ok-left.ensures.left c.in_ok-left.ensures.stands.3.trail.follows.sound kept level
 
 pub returns-clause-ends : goal.returns-clause-ends
 returns-clause-ends g c =

@@ -9,24 +9,24 @@ use Rattle.cdcl_core.proofs.solving.conclude_conflict.Goals as goal
 
 pub learn_and_jump-requires-clause-at : goal.learn_and_jump-requires-clause-at
 learn_and_jump-requires-clause-at g c =
-    let k = rw c.in-Clause.is at c.in_ok-conclusion.ensures.concludes in
+    let k = rw c.in-Clause.is at c.in_ok-conclusion.ensures.concludes_on.concludes in
     record { stands = k.0; conflict = k.1; above = let above = c.if-level-assumptions.false in let level = c.level.ensures.level in omega (arith, above, level) }
 
 pub end-requires-clause-at : goal.end-requires-clause-at
 end-requires-clause-at g c =
     let low = c.if-level-assumptions.true in
     let level = c.level.ensures.level in
-    conflict_ends_at c.conflict_clause.new.log.formula.now.constraints c.args.assumptions.now c.args.state.now.trail (subst (λ (f : Problem). KeepsAssumptions f.constraints c.args.assumptions.now c.args.state.now.trail) (sym c.in_ok-conclusion.ensures.log.formula) c.requires.reaches.keeps) c.requires.searches.stands.3.trail.follows.sound (omega (arith, low, level))
+    conflict_ends_at c.conflict_clause.new.log.formula.now.constraints c.args.assumptions.now c.args.state.now.trail (subst (λ (f : Problem). KeepsAssumptions f.constraints c.args.assumptions.now c.args.state.now.trail) (sym c.in_ok-conclusion.ensures.concludes_on.log.formula) c.requires.reaches.keeps) c.requires.searches.stands.3.trail.follows.sound (omega (arith, low, level))
     c.requires.reaches.settles.1 c.len-below.result c.len-below.ensures.len
 
 pub end-requires-clause-going : goal.end-requires-clause-going
-end-requires-clause-going g c = c.in_ok-conclusion.ensures.log.failed ∙ c.requires.searches.going
+end-requires-clause-going g c = c.in_ok-conclusion.ensures.concludes_on.log.failed ∙ c.requires.searches.going
 
 pub learn_and_jump-requires-clause-going : goal.learn_and_jump-requires-clause-going
-learn_and_jump-requires-clause-going g c = c.in_ok-conclusion.ensures.log.failed ∙ c.requires.searches.going
+learn_and_jump-requires-clause-going g c = c.in_ok-conclusion.ensures.concludes_on.log.failed ∙ c.requires.searches.going
 
 pub tell_ending-requires-clause-going : goal.tell_ending-requires-clause-going
-tell_ending-requires-clause-going g c = c.in_ok-conclusion.ensures.log.failed ∙ c.requires.searches.going
+tell_ending-requires-clause-going g c = c.in_ok-conclusion.ensures.concludes_on.log.failed ∙ c.requires.searches.going
 
 pub returns-then-level-assumptions-clause-leaves : goal.returns-then-level-assumptions-clause-leaves
 returns-then-level-assumptions-clause-leaves g c =
@@ -37,13 +37,13 @@ returns-then-level-assumptions-clause-leaves g c =
       one_more = tt;
       keeps = tt;
       clear = c.in_ok-failed.ensures.clear;
-      log = log_then g.L.Sink g.met.L.Sink.keeps_on _ c.conflict_clause.new.log _ _ c.in_ok-conclusion.ensures.log ends.log;
+      log = log_then g.L.Sink g.met.L.Sink.keeps_on _ c.conflict_clause.new.log _ _ c.in_ok-conclusion.ensures.concludes_on.log ends.log;
     }
 
 pub returns-in_err-failed-clause-leaves : goal.returns-in_err-failed-clause-leaves
 returns-in_err-failed-clause-leaves g c =
     let fault = err_from_is_err_and c.from_residual-in_err-failed.result c.from_residual-in_err-failed.ensures.1 in
-    rw (fault.1, fault.2) (record { goes_on = tt; one_more = tt; keeps = tt; clear = tt; log = log_then g.L.Sink g.met.L.Sink.keeps_on _ c.conflict_clause.new.log _ _ c.in_ok-conclusion.ensures.log c.in_err-failed.ensures.ends.log })
+    rw (fault.1, fault.2) (record { goes_on = tt; one_more = tt; keeps = tt; clear = tt; log = log_then g.L.Sink g.met.L.Sink.keeps_on _ c.conflict_clause.new.log _ _ c.in_ok-conclusion.ensures.concludes_on.log c.in_err-failed.ensures.ends.log })
 
 pub returns-in_ok-failed-in-Ending-clause-leaves : goal.returns-in_ok-failed-in-Ending-clause-leaves
 returns-in_ok-failed-in-Ending-clause-leaves g c =
@@ -54,13 +54,13 @@ returns-in_ok-failed-in-Ending-clause-leaves g c =
       one_more = tt;
       keeps = tt;
       clear = c.requires.searches.clear;
-      log = log_then g.L.Sink g.met.L.Sink.keeps_on _ c.conflict_clause.new.log _ _ c.in_ok-conclusion.ensures.log ends.log;
+      log = log_then g.L.Sink g.met.L.Sink.keeps_on _ c.conflict_clause.new.log _ _ c.in_ok-conclusion.ensures.concludes_on.log ends.log;
     }
 
 pub returns-in_err-failed-in-Ending-clause-leaves : goal.returns-in_err-failed-in-Ending-clause-leaves
 returns-in_err-failed-in-Ending-clause-leaves g c =
     let fault = err_from_is_err_and c.from_residual-in_err-failed-in-Ending.result c.from_residual-in_err-failed-in-Ending.ensures.1 in
-    rw (fault.1, fault.2) (record { goes_on = tt; one_more = tt; keeps = tt; clear = tt; log = log_then g.L.Sink g.met.L.Sink.keeps_on _ c.conflict_clause.new.log _ _ c.in_ok-conclusion.ensures.log c.in_err-failed-in-Ending.ensures.log })
+    rw (fault.1, fault.2) (record { goes_on = tt; one_more = tt; keeps = tt; clear = tt; log = log_then g.L.Sink g.met.L.Sink.keeps_on _ c.conflict_clause.new.log _ _ c.in_ok-conclusion.ensures.concludes_on.log c.in_err-failed-in-Ending.ensures.log })
 
 pub returns-in-Clause-clause-leaves : goal.returns-in-Clause-clause-leaves
 returns-in-Clause-clause-leaves g c = record {
@@ -68,5 +68,5 @@ returns-in-Clause-clause-leaves g c = record {
   one_more = c.learn_and_jump.ensures.one_more;
   keeps = c.learn_and_jump.ensures.keeps;
   clear = c.learn_and_jump.ensures.clear;
-  log = log_then g.L.Sink g.met.L.Sink.keeps_on _ c.conflict_clause.new.log _ _ c.in_ok-conclusion.ensures.log c.learn_and_jump.ensures.log;
+  log = log_then g.L.Sink g.met.L.Sink.keeps_on _ c.conflict_clause.new.log _ _ c.in_ok-conclusion.ensures.concludes_on.log c.learn_and_jump.ensures.log;
 }

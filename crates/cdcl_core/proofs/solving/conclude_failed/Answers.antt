@@ -1,5 +1,6 @@
 use Rattle.std.proofs.Common.{◌∙◌, sym, subst, Some, rules}
 use Rattle.cx_base.specs.Problem.{Problem}
+use Rattle.cdcl_search.specs.GoingOn.{log_then}
 use Rattle.cdcl_core.specs.Failing.{EndsAtPlace}
 use Rattle.cdcl_core.proofs.FailLaws.{failed_ends_at}
 use Rattle.cdcl_core.proofs.solving.conclude_failed.Goals as goal
@@ -8,7 +9,19 @@ pub end-requires-clause-going : goal.end-requires-clause-going
 end-requires-clause-going g c = c.in_ok-conclusion.ensures.log.failed ∙ c.requires.going
 
 pub conclude_refuted-requires-clause-refuted : goal.conclude_refuted-requires-clause-refuted
-conclude_refuted-requires-clause-refuted g c = c.is_refuted.ensures c.if-is_refuted.true
+conclude_refuted-requires-clause-refuted g c = c.is_refuted.ensures.refuted c.if-is_refuted.true
+
+pub returns-then-is_refuted-clause-none : goal.returns-then-is_refuted-clause-none
+returns-then-is_refuted-clause-none g c = λ of r. c.conclude_refuted.ensures.none of
+
+pub returns-clause-ends : goal.returns-clause-ends
+returns-clause-ends g c = record {
+  refutes = c.end.ensures.ends.refutes;
+  log = log_then g.L.Sink g.met.L.Sink.keeps_on _ c.clause_against.new.log _ _ c.in_ok-conclusion.ensures.log c.end.ensures.ends.log;
+}
+
+pub returns-clause-none : goal.returns-clause-none
+returns-clause-none g c = λ of r. absurd (c.is_refuted.ensures.other c.if-is_refuted.false r)
 
 pub end-requires-clause-at : goal.end-requires-clause-at
 end-requires-clause-at g c =

@@ -1,11 +1,10 @@
-use Rattle.std.proofs.Common.{◌<◌, ◌∙◌, sym, ap, subst, length}
+use Rattle.std.proofs.Common.{◌∙◌, sym, ap, length}
 use Rattle.std.proofs.lemmas.Result.{err_from_is_err_and}
 use Rattle.cx_base.specs.Problem.{Problem}
 use Rattle.cx_trail.specs.Sequence.{TrailState}
-use Rattle.search_policy.specs.Assuming.{Contradicts}
 use Rattle.search_policy.proofs.AssumingLaws.{extended_keeps}
 use Rattle.cdcl_search.proofs.searching.settle.Goals as goal
-use Rattle.cdcl_search.proofs.UnitLaws.{finds_still}
+use Rattle.cdcl_search.proofs.UnitLaws.{failed_still, finds_still}
 
 pub propagate-found-requires : goal.propagate-found-requires
 propagate-found-requires g c = record { stands = (_, c.requires.ready.stands); unbroken = c.requires.ready.unbroken }
@@ -31,14 +30,10 @@ tell_units-requires-clause-going g c = c.requires.ready.going
 
 pub returns-in-Some-clause-settles : goal.returns-in-Some-clause-settles
 returns-in-Some-clause-settles g c =
-    let same = c.tell_units.ensures.same.trail in
-    let at = c.in-Some.ensures.found in (
-      at.0,
-      subst (λ (t : TrailState). c.in-Some.place < length t.entries) (sym same) at.1,
-      subst (λ (f : Problem). Contradicts f.constraints c.tell_units.new.state.trail c.in-Some.place) (sym c.in_ok-tell_units.ensures.stands_on.log.formula)
-          (subst (λ (t : TrailState). Contradicts c.args.log.now.formula.now.constraints t c.in-Some.place) (sym same) at.2),
-      finds_still c.propagate-found.new.state c.tell_units.new.state (g.P.ParityEngine.state c.propagate-found.new.engine) c.propagate-found.result c.tell_units.ensures.same c.propagate-found.ensures.finds,
-    )
+    let old = c.propagate-found.new.state in
+    let new = c.tell_units.new.state in
+    let still = failed_still _ _ old new _ _ c.tell_units.ensures.same (ap (λ (f : Problem). f.constraints) c.in_ok-tell_units.ensures.stands_on.log.formula) c.in-Some.ensures.found in
+    (still.0, still.1, still.2, finds_still old new (g.P.ParityEngine.state c.propagate-found.new.engine) c.propagate-found.result c.tell_units.ensures.same c.propagate-found.ensures.finds)
 
 pub returns-in-Some-clause-searches_on : goal.returns-in-Some-clause-searches_on
 returns-in-Some-clause-searches_on g c = record {
