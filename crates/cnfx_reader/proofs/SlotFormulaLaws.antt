@@ -1,18 +1,18 @@
 -- A formula that is read from a slot piece by piece is that of the whole text.
-use Rattle.std.proofs.Common.{◌≡◌, ◌≢◌, refl, sym, ap, ◌∙◌, subst, ℕ, ◌+◌, ◌-◌, ◌*◌, ◌<◌, ◌≤◌, Bool, true, false, List, [], ◌∷◌, ◌++◌, length, drop, Option, Some, None, Ok, Err, Result, IfSome, option_map, nat_lt, arith, append-nil, length-append, length-drop}
+use Rattle.std.proofs.Common.{◌≡◌, refl, sym, ap, ◌∙◌, subst, ℕ, ◌+◌, ◌-◌, ◌≤◌, ◌||◌, true, false, List, [], ◌++◌, length, drop, Ok, Err, Result, arith, append_assoc, length-append, length-drop}
 use Rattle.cx_base.specs.Drafts.{Draft}
 use Rattle.cx_base.specs.Endings.{finished}
 use Rattle.cx_base.specs.Problem.{Problem, greatest_variable}
 use Rattle.cx_base.specs.declared.constraint.Constraint.{Constraint}
 use Rattle.cx_desk.specs.declared.desk.Slot.{Slot}
-use Rattle.cx_desk.specs.declared.desk.Slot.TheVariants.{Formula, Second}
 use Rattle.cx_desk.specs.declared.calls.ReadErr.{ReadErr}
 use Rattle.cx_desk.specs.declared.calls.ReadErr.TheVariants as why
 use Rattle.cx_desk.specs.declared.draining.DrainErr.{DrainErr}
 use Rattle.cx_desk.specs.declared.draining.DrainErr.TheVariants as drained
-use Rattle.cx_desk.specs.Outside.{Bytes, Told, Outside, left_in, started_in}
-use Rattle.cx_desk.specs.Calls.{taken, without_front, ReadFaulted, Whole, Passes, DrainFails}
-use Rattle.cx_desk.specs.SlotBytes.{BytesState, taken_by, to_come, to_read, IsToCome, is_too_long, BytesRead, ReadingStops, RestRead}
+use Rattle.cx_desk.specs.Gave.{Gave, nothing, whole, joined}
+use Rattle.cx_desk.specs.Outside.{Bytes, Outside, started_in}
+use Rattle.cx_desk.specs.Calls.{taken, ReadFaulted, Whole, DrainFails}
+use Rattle.cx_desk.specs.SlotBytes.{BytesState, taken_by, BytesRead, ReadingStops, RestRead}
 use Rattle.cx_desk.proofs.Moves.{taken-twice, taken-none}
 use Rattle.cx_texts.specs.FormulaText.{header, Reads}
 use Rattle.cx_texts.specs.Tokens.{Token}
@@ -50,21 +50,14 @@ module _ (s t : BytesState) (passed : PassedBytes s t) where
   pub passed_ended : t.ended ≡ s.ended
   passed_ended = ap (λ (x : BytesState). x.ended) passed.2
 
-  pub passed_come : (p : Outside) (more : Bytes) → IsToCome t p more → IsToCome s p more
-  passed_come p more come = subst (λ (x : BytesState). IsToCome x p more) passed.2 come
-
-  pub passed_long : (p : Outside) → is_too_long t p ≡ is_too_long s p
-  passed_long p = ap (λ (x : BytesState). is_too_long x p) passed.2
-      ∙ ap (λ n. option_map (λ told. nat_lt s.limit (n + length (to_come s told))) p.told) (let e : taken_by later ≡ taken_by s = omega (arith, length-drop passed.0 s.bytes, passed.1) in e)
-
   pub passed_rest : (p : Outside) (len : ℕ) (q : Outside) → RestRead t p len q → RestRead s p len q
   passed_rest p len q r = record {
-    more = r.more;
-    come = passed_come p r.more r.come;
-    whole = r.whole ∙ ap (λ n. n + length r.more) passed_taken;
+    got = r.got;
+    took = r.took ∙ ap (λ (k : Slot). taken k r.got p) passed_slot;
+    whole = r.whole ∙ ap (λ n. n + length r.got.bytes) passed_taken;
     fits = omega (arith, r.fits, passed_limit);
-    moved = r.moved ∙ ap (λ k. taken k (length r.more) p) passed_slot;
-    end = subst (λ (x : BytesState). Rattle.cx_desk.specs.SlotBytes.EndSeen x p → Rattle.cx_desk.specs.Calls.AtEnd x.slot q) passed.2 r.end;
+    ends = ap (λ e. e || r.got.ended) (sym passed_ended) ∙ r.ends;
+    none = λ e. r.none (passed_ended ∙ e);
   }
 
   pub passed_stops : (p : Outside) (e : DrainErr) (q : Outside) → DrainFails t.slot (t.limit - taken_by t) p e q → DrainFails s.slot (s.limit - taken_by s) p e q
@@ -90,7 +83,7 @@ text_reads text v cs h = go (header (length text) (formula_tokens_from 0 text)) 
     go (Err o) is k = cc
 
 module _ (slot : Slot) (limit : ℕ) (o : Outside) where
-  -- ---- one call behind another
+  -- ---- one call after another
 
   pub begins : (b : BytesState) (d : Draft) → b ≡ fresh slot limit → d ≡ record { constraints = []; unfinished = [] } → HasRead slot limit o (record { bytes = b; line = Start; phase = Head P; builder = d }) o
   begins b d is empty = subst (λ (x : BytesState). HasRead slot limit o (record { bytes = x; line = Start; phase = Head P; builder = d }) o) (sym is)
@@ -98,10 +91,12 @@ module _ (slot : Slot) (limit : ℕ) (o : Outside) where
         same_slot = refl;
         same_limit = refl;
         few = omega arith;
-        moved = sym (taken-none slot o);
-        long = refl;
+        got = nothing;
+        took = sym (taken-none slot o);
+        count = omega arith;
+        ends = refl;
         fits = (tt, refl);
-        text = λ more come. record { text = more; whole = omega arith; all = come.1; same = λ len. refl };
+        same = λ len more. refl;
       }))
 
   module _ (s : SlotFormula) (p : Outside) (h : HasRead slot limit o s p) where
@@ -112,96 +107,84 @@ module _ (slot : Slot) (limit : ℕ) (o : Outside) where
           same_slot = passed_slot s.bytes t.bytes g.passed ∙ h.same_slot;
           same_limit = passed_limit s.bytes t.bytes g.passed ∙ h.same_limit;
           few = omega (arith, same, h.few);
-          moved = h.moved ∙ ap (λ n. taken slot n o) (sym same);
-          long = passed_long s.bytes t.bytes g.passed p ∙ h.long;
+          got = h.got;
+          took = h.took;
+          count = h.count ∙ sym same;
+          ends = h.ends ∙ sym (passed_ended s.bytes t.bytes g.passed);
           fits = g.fits h.fits;
-          text = λ more come.
-              let r = h.text more (passed_come s.bytes t.bytes g.passed p more come) in
-              record { text = r.text; whole = r.whole ∙ ap (λ n. n + length more) (sym same); all = r.all; same = λ len. r.same len ∙ g.same len more };
+          same = λ len more. h.same len more ∙ g.same len more;
         }
 
-    took_more : (n : ℕ) (q : Outside) → q ≡ taken s.bytes.slot n p → q ≡ taken slot (taken_by s.bytes + n) o
-    took_more n q e = e ∙ (λ i. taken (h.same_slot i) n (h.moved i)) ∙ taken-twice slot (taken_by s.bytes) n o
+    -- what the slot gave next, after what it gave so far
+    took_more : (g : Gave) → taken s.bytes.slot g p ≡ taken slot (joined h.got g) o
+    took_more g = (λ i. taken (h.same_slot i) g (h.took i)) ∙ taken-twice slot h.got g o
+
+    count_on : (g : Gave) → length (h.got.bytes ++ g.bytes) ≡ taken_by s.bytes + length g.bytes
+    count_on g = length-append h.got.bytes g.bytes ∙ ap (λ n. n + length g.bytes) h.count
+
+    count_read : (b : BytesState) (q : Outside) (r : BytesRead s.bytes p b q) → length (h.got.bytes ++ r.got.bytes) ≡ taken_by b
+    count_read b q r = omega (arith, count_on r.got, ap length r.after, length-append s.bytes.bytes r.got.bytes, r.kept.place)
+
+    ends_read : (b : BytesState) (q : Outside) (r : BytesRead s.bytes p b q) → (h.got.ended || r.got.ended) ≡ b.ended
+    ends_read b q r = ap (λ e. e || r.got.ended) h.ends ∙ sym r.ends
 
     pub reads : (b : BytesState) (q : Outside) → BytesRead s.bytes p b q → taken_by b ≤ b.limit → HasRead slot limit o (record s { bytes = b }) q
     reads b q r within = record {
       same_slot = r.kept.slot ∙ h.same_slot;
       same_limit = r.kept.limit ∙ h.same_limit;
       few = omega (arith, within, r.kept.limit, h.same_limit);
-      moved = took_more r.took.0 q r.took.2 ∙ ap (λ n. taken slot n o) (sym r.took.1);
-      long = r.kept.long ∙ h.long;
+      got = joined h.got r.got;
+      took = r.took ∙ took_more r.got;
+      count = count_read b q r;
+      ends = ends_read b q r;
       fits = h.fits;
-      text = λ more come.
-          let y = r.text more come in
-          let x = h.text y.0 y.1 in
-          record {
-            text = x.text;
-            whole = omega (arith, x.whole, ap length y.2, length-append s.bytes.bytes y.0, length-append b.bytes more, r.kept.place);
-            all = x.all;
-            same = λ len. x.same len ∙ (λ i. answer_from s.phase len s.builder (formula_tokens_in s.line (sym r.kept.place i) (y.2 i)));
-          };
+      same = λ len more.
+          let bytes : s.bytes.bytes ++ (r.got.bytes ++ more) ≡ b.bytes ++ more = sym (append_assoc s.bytes.bytes r.got.bytes more) ∙ ap (λ bs. bs ++ more) (sym r.after) in
+          ap (answer_of_text len) (append_assoc h.got.bytes r.got.bytes more) ∙ h.same len (r.got.bytes ++ more)
+          ∙ (λ i. answer_from s.phase len s.builder (formula_tokens_in s.line (sym r.kept.place i) (bytes i)));
     }
 
     -- ---- reading stops
 
-    over_by : (w : Option Told) → ¬ (option_map (λ t. nat_lt limit ((0 + 0) + length (left_in slot t.left))) w ≡ Some false) → IfSome w (λ t. limit < length (left_in slot t.left))
-    over_by None k = tt
-    over_by (Some t) k = go (nat_lt limit ((0 + 0) + length (left_in slot t.left))) refl
-      where
-        go : (x : Bool) → nat_lt limit ((0 + 0) + length (left_in slot t.left)) ≡ x → limit < length (left_in slot t.left)
-        go true e = let l = Rattle.std.proofs.Common.ltb-true limit ((0 + 0) + length (left_in slot t.left)) e in omega (arith, l)
-        go false e = absurd (k (ap Some e))
-
     pub stops : (e : ReadErr) (b : BytesState) (q : Outside) → ReadingStops s.bytes p e b q → FromFails slot limit o (from_desk e) q
-    stops why.Memory b q k = (taken_by s.bytes + k.why.1.0, took_more k.why.1.0 q k.why.1.2, omega (arith, k.why.0, k.why.1.1, k.kept.limit, h.same_limit))
-    stops why.Failed b q k = (
-      taken_by s.bytes + k.why.1.0,
-      subst (λ x. ReadFaulted x q) ((λ i. taken (h.same_slot i) k.why.1.0 (h.moved i)) ∙ taken-twice slot (taken_by s.bytes) k.why.1.0 o) k.why.1.2,
-      omega (arith, k.why.0, k.why.1.1, k.kept.limit, h.same_limit),
-    )
+    stops why.Memory b q k =
+        let g = k.why.1.0 in
+        (joined h.got g, omega (arith, count_on g, k.why.0, k.why.1.1, k.kept.limit, h.same_limit), k.why.1.2 ∙ took_more g)
+    stops why.Failed b q k =
+        let g = k.why.1.0 in
+        (joined h.got g, omega (arith, count_on g, k.why.0, k.why.1.1, k.kept.limit, h.same_limit), subst (λ x. ReadFaulted x q) (took_more g) k.why.1.2)
     stops why.TooLong b q k =
-        let all : taken_by s.bytes + k.why.2.0 ≡ limit + 1 = omega (arith, k.why.0, k.why.2.1, k.kept.limit, h.same_limit) in (
-          took_more k.why.2.0 q k.why.2.2 ∙ ap (λ n. taken slot n o) all,
-          over_by o.told (λ e. k.why.1 (h.long ∙ e)),
-        )
+        let r = k.why.2 in
+        record {
+          got = joined h.got r.got;
+          count = omega (arith, count_read b q r, k.why.0, k.kept.limit, h.same_limit);
+          ends = ends_read b q r ∙ k.why.1;
+          took = r.took ∙ took_more r.got;
+        }
 
-    left-behind : (n : ℕ) (t : Told) → left_in slot (without_front slot n t).left ≡ drop n (left_in slot t.left)
-    left-behind n t = elim slot as (λ k. left_in k (without_front k n t).left ≡ drop n (left_in k t.left)) [ Formula ↦ refl | Second ↦ refl ]
-
-    past_by : (w : Option Told) (m : ℕ) → limit < taken_by s.bytes + m → IfSome (option_map (without_front slot (taken_by s.bytes)) w) (λ t. m ≤ length (left_in slot t.left)) → IfSome w (λ t. limit < length (left_in slot t.left))
-    past_by None m past stood = tt
-    past_by (Some t) m past stood = omega (arith, past, stood, ap length (left-behind (taken_by s.bytes) t), length-drop (taken_by s.bytes) (left_in slot t.left), some)
-      where
-        some : 0 < m
-        some = omega (arith, past, h.few)
-
-    pub rest_stops : (e : DrainErr) (q : Outside) → DrainFails s.bytes.slot (s.bytes.limit - taken_by s.bytes) p e q → FromFails slot limit o (from_drained e) q
-    rest_stops drained.Failed q (n, k, few) = (
-      taken_by s.bytes + n,
-      subst (λ x. ReadFaulted x q) ((λ i. taken (h.same_slot i) n (h.moved i)) ∙ taken-twice slot (taken_by s.bytes) n o) k,
-      omega (arith, few, h.few, h.same_limit),
-    )
-    rest_stops drained.TooLong q k =
-        let m = (s.bytes.limit - taken_by s.bytes) + 1 in
-        let all : taken_by s.bytes + m ≡ limit + 1 = omega (arith, h.few, h.same_limit) in
-        let stood : IfSome p.told (λ t. m ≤ length (left_in slot t.left)) = subst (λ (x : Slot). IfSome p.told (λ t. m ≤ length (left_in x t.left))) h.same_slot k.stood in (
-          took_more m q k.moved ∙ ap (λ n. taken slot n o) all,
-          past_by o.told m (omega (arith, all)) (subst (λ (w : Option Told). IfSome w (λ t. m ≤ length (left_in slot t.left))) (ap (λ (x : Outside). x.told) h.moved) stood),
-        )
+    pub rest_stops : (e : DrainErr) (q : Outside) → s.bytes.ended ≡ false → DrainFails s.bytes.slot (s.bytes.limit - taken_by s.bytes) p e q → FromFails slot limit o (from_drained e) q
+    rest_stops drained.Failed q still (g, few, k) = (joined h.got g, omega (arith, count_on g, few, h.few, h.same_limit), subst (λ x. ReadFaulted x q) (took_more g) k)
+    rest_stops drained.TooLong q still k = record {
+      got = joined h.got k.got;
+      count = omega (arith, count_on k.got, k.count, h.few, h.same_limit);
+      ends = (λ i. (h.ends ∙ still) i || k.ends i);
+      took = k.took ∙ took_more k.got;
+    }
 
     -- ---- the text was read to its end
 
-    pub whole_text : (len : ℕ) (q : Outside) (r : RestRead s.bytes p len q) → (text : Bytes) × Whole slot limit text o q × (len ≡ length text) × ((n : ℕ) → answer_of_text n text ≡ answer_of s n r.more)
+    pub whole_text : (len : ℕ) (q : Outside) (r : RestRead s.bytes p len q) → (text : Bytes) × Whole slot limit text o q × (len ≡ length text) × ((n : ℕ) → answer_of_text n text ≡ answer_of s n r.got.bytes)
     whole_text len q r =
-        let x = h.text r.more r.come in (
-          x.text,
+        let text = h.got.bytes ++ r.got.bytes in
+        let count = count_on r.got in
+        let ended : (h.got.ended || r.got.ended) ≡ true = ap (λ e. e || r.got.ended) h.ends ∙ r.ends in (
+          text,
           record {
-            fits = omega (arith, x.whole, r.whole, r.fits, h.same_limit);
-            moved = took_more (length r.more) q r.moved ∙ ap (λ n. taken slot n o) (sym x.whole);
-            all = x.all;
+            fits = omega (arith, count, r.whole, r.fits, h.same_limit);
+            took = r.took ∙ took_more r.got ∙ (λ i. taken slot (record { bytes = text; ended = ended i }) o);
           },
-          r.whole ∙ sym x.whole,
-          x.same,
+          r.whole ∙ sym count,
+          λ n. h.same n r.got.bytes,
         )
 
   refused_by : (e : ReadRefusal) (text : Bytes) (q : Outside) → Whole slot limit text o q → IsRefusedAs text e → FromFails slot limit o (from_read e) q
@@ -210,16 +193,16 @@ module _ (slot : Slot) (limit : ℕ) (o : Outside) where
   refused_by (BadToken place) text q w h = (text, w, h)
   refused_by (Unterminated place) text q w h = (text, w, h)
   refused_by (VarLimit place) text q w h = (text, w, h)
-  refused_by Memory text q w h = (length text, w.moved, w.fits)
+  refused_by Memory text q w h = (whole text, w.fits, w.took)
 
   -- the text was read to its end, and is refused so
-  pub refused_whole : (s : SlotFormula) (p : Outside) → HasRead slot limit o s p → (len : ℕ) (q : Outside) (r : RestRead s.bytes p len q) (e : ReadRefusal) → IsRefusedBy e (answer_of s len r.more) → FromFails slot limit o (from_read e) q
+  pub refused_whole : (s : SlotFormula) (p : Outside) → HasRead slot limit o s p → (len : ℕ) (q : Outside) (r : RestRead s.bytes p len q) (e : ReadRefusal) → IsRefusedBy e (answer_of s len r.got.bytes) → FromFails slot limit o (from_read e) q
   refused_whole s p h len q r e refused =
       let w = whole_text s p h len q r in
       refused_by e w.0 q w.1 (text_refused w.0 e (subst (λ n. IsRefusedBy e (answer_of_text n w.0)) w.2 (subst (IsRefusedBy e) (sym (w.3 len)) refused)))
 
   -- the text was read to its end, and is this formula
-  pub reads_whole : (s : SlotFormula) (p : Outside) → HasRead slot limit o s p → (len : ℕ) (q : Outside) (r : RestRead s.bytes p len q) (v : ℕ) (d : Draft) → IsWhole v d (answer_of s len r.more)
+  pub reads_whole : (s : SlotFormula) (p : Outside) → HasRead slot limit o s p → (len : ℕ) (q : Outside) (r : RestRead s.bytes p len q) (v : ℕ) (d : Draft) → IsWhole v d (answer_of s len r.got.bytes)
       → (text : Bytes) × Whole slot limit text o q × Reads text (record { variables = greatest_variable v d.constraints; constraints = d.constraints })
   reads_whole s p h len q r v d whole =
       let w = whole_text s p h len q r in
@@ -227,8 +210,8 @@ module _ (slot : Slot) (limit : ℕ) (o : Outside) where
 
   -- the same by the last bytes of the formula
   module _ (s : SlotFormula) (p : Outside) (h : HasRead slot limit o s p) (t : SlotFormula) (last : IsLast s t) where
-    pub last_stops : (e : DrainErr) (q : Outside) → DrainFails t.bytes.slot (t.bytes.limit - taken_by t.bytes) p e q → FromFails slot limit o (from_drained e) q
-    last_stops e q k = rest_stops s p h e q (passed_stops s.bytes t.bytes last.passed p e q k)
+    pub last_stops : (e : DrainErr) (q : Outside) → t.bytes.ended ≡ false → DrainFails t.bytes.slot (t.bytes.limit - taken_by t.bytes) p e q → FromFails slot limit o (from_drained e) q
+    last_stops e q still k = rest_stops s p h e q (sym (passed_ended s.bytes t.bytes last.passed) ∙ still) (passed_stops s.bytes t.bytes last.passed p e q k)
 
     module _ (len : ℕ) (q : Outside) (r : RestRead t.bytes p len q) where
       rest : RestRead s.bytes p len q
@@ -237,8 +220,8 @@ module _ (slot : Slot) (limit : ℕ) (o : Outside) where
       abbrev answer_last : Result (ℕ × Outcome) Offence
       answer_last = answer_from t.phase len t.builder (formula_tokens_within t.bytes.place t.bytes.bytes)
 
-      as_last : answer_of s len rest.more ≡ answer_last
-      as_last = last.same len rest.more (λ ended. rest.come.0 (sym (passed_ended s.bytes t.bytes last.passed) ∙ ended))
+      as_last : answer_of s len rest.got.bytes ≡ answer_last
+      as_last = last.same len rest.got.bytes (λ ended. rest.none (sym (passed_ended s.bytes t.bytes last.passed) ∙ ended))
 
       pub last_refused : (e : ReadRefusal) → IsRefusedBy e answer_last → FromFails slot limit o (from_read e) q
       last_refused e refused = refused_whole s p h len q rest e (subst (IsRefusedBy e) (sym as_last) refused)
@@ -250,7 +233,7 @@ module _ (slot : Slot) (limit : ℕ) (o : Outside) where
 -- ---- what is still to be read
 
 pub started_later : (slot : Slot) (limit : ℕ) (o : Outside) (s : SlotFormula) (p : Outside) → HasRead slot limit o s p → started_in slot o.started ≡ true → started_in s.bytes.slot p.started ≡ true
-started_later slot limit o s p h e = (λ i. started_in (h.same_slot i) ((ap (λ (x : Outside). x.started) h.moved) i)) ∙ e
+started_later slot limit o s p h e = (λ i. started_in (h.same_slot i) ((ap (λ (x : Outside). x.started) h.took) i)) ∙ e
 
 -- ---- a reader that has read nothing yet
 

@@ -38,7 +38,7 @@ from_drained drained.TooLong = TooLong
 abbrev pub GivesOffence : Slot → ℕ → Outside → Offence → Outside → Type 0
 GivesOffence slot limit old o new = (text : Bytes) × Whole slot limit text old new × FirstOffence text o
 
--- the text's first offence, or want of memory, or a counted fault, or one byte behind the limit
+-- the text's first offence, or want of memory, or a counted fault, or one byte past the limit
 abbrev pub FromFails : Slot → ℕ → Outside → FromRefusal → Outside → Type 0
 FromFails slot limit old (NoHeader place) new = GivesOffence slot limit old (offence.NoHeader place) new
 FromFails slot limit old (BadHeader place) new = GivesOffence slot limit old (offence.BadHeader place) new

@@ -1,9 +1,10 @@
 -- A formula that is read from a slot: what is read of its text from where its reader stands.
-use Rattle.std.specs.Prelude.{◌≡◌, ◌≤◌, ◌+◌, ℕ, true, false, [], ◌++◌, length, drop, IfSome, Result}
+use Rattle.std.specs.Prelude.{◌≡◌, ◌≤◌, ◌+◌, ℕ, true, false, [], ◌++◌, length, drop, Result}
 use Rattle.cx_desk.specs.declared.desk.Slot.{Slot}
-use Rattle.cx_desk.specs.Outside.{Bytes, Outside, left_in}
+use Rattle.cx_desk.specs.Gave.{Gave}
+use Rattle.cx_desk.specs.Outside.{Bytes, Outside}
 use Rattle.cx_desk.specs.Calls.{taken}
-use Rattle.cx_desk.specs.SlotBytes.{BytesState, taken_by, IsToCome, is_too_long}
+use Rattle.cx_desk.specs.SlotBytes.{BytesState, taken_by}
 use Rattle.cx_texts.specs.declared.offence.Offence.{Offence}
 use Rattle.cnfx_reader.specs.Body.{Outcome}
 use Rattle.cnfx_reader.specs.PieceSteps.{answer_from, IsPhaseIn, IsRefusedBy}
@@ -46,19 +47,14 @@ pub record IsRefusedIn (e : ReadRefusal) (s t : SlotFormula) : Type 0 where
 abbrev pub fresh : Slot → ℕ → BytesState
 fresh slot limit = record { slot = slot; limit = limit; bytes = []; place = 0; ended = false }
 
--- a text of the slot that goes on with these bytes is read as it is from here on
-pub record ReadOf (slot : Slot) (o : Outside) (s : SlotFormula) (more : Bytes) : Type 0 where
-  pub text : Bytes
-  pub whole : length text ≡ taken_by s.bytes + length more
-  pub all : IfSome o.told (λ t. left_in slot t.left ≡ text)
-  pub same : (len : ℕ) → answer_of_text len text ≡ answer_of s len more
-
--- the slot was read so far, of which nothing was read at first
+-- The slot was read so far, and nothing of its text before: what it gave, followed by any bytes, is read as they are from here on.
 pub record HasRead (slot : Slot) (limit : ℕ) (o : Outside) (s : SlotFormula) (p : Outside) : Type 0 where
   pub same_slot : s.bytes.slot ≡ slot
   pub same_limit : s.bytes.limit ≡ limit
   pub few : taken_by s.bytes ≤ limit
-  pub moved : p ≡ taken slot (taken_by s.bytes) o
-  pub long : is_too_long s.bytes p ≡ is_too_long (fresh slot limit) o
+  pub got : Gave
+  pub took : p ≡ taken slot got o
+  pub count : length got.bytes ≡ taken_by s.bytes
+  pub ends : got.ended ≡ s.bytes.ended
   pub fits : IsPhaseIn s.phase s.builder
-  pub text : (more : Bytes) → IsToCome s.bytes p more → ReadOf slot o s more
+  pub same : (len : ℕ) (more : Bytes) → answer_of_text len (got.bytes ++ more) ≡ answer_of s len more

@@ -135,7 +135,7 @@ fn refused<D: Desk>(bytes: &SlotBytes, desk: &mut D, refusal: ReadRefusal) -> Fr
 
 /// Reads a formula of clauses and parities from a started slot: DIMACS CNF with x-lines.
 ///
-/// It is what `read_formula` says of the whole text, where that is within the limit. The text is read to its end also behind an
+/// It is what `read_formula` says of the whole text, where that is within the limit. The text is read to its end also after an
 /// offence and a `%` line, so that a text that is too long is told as such whatever it says. It takes memory for the formula and for a
 /// piece of the text.
 pub fn read_formula_from<D: Desk>(

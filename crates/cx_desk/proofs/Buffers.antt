@@ -1,10 +1,11 @@
 -- What lies in the buffer of a text that is read.
-use Rattle.std.proofs.Common.{◌≡◌, ◌+◌, ℕ, ◌++◌, length, take, drop, ap, ◌∙◌}
+use Rattle.std.proofs.Common.{◌≡◌, ◌+◌, ◌==◌, ℕ, ◌++◌, length, take, drop, ap, sym, ◌∙◌, arith, length-take, length-drop}
 use Rattle.std.proofs.Math.Seq.{take-add, take-append_seam}
 use Rattle.cx_desk.specs.declared.desk.Slot.{Slot}
+use Rattle.cx_desk.specs.Gave.{part, piece}
 use Rattle.cx_desk.specs.Outside.{Bytes, Outside}
-use Rattle.cx_desk.specs.Calls.{Came, MoreOf}
-use Rattle.cx_desk.proofs.Moves.{came-then}
+use Rattle.cx_desk.specs.Calls.{taken, MoreOf}
+use Rattle.cx_desk.proofs.Moves.{took-then, none-at}
 
 -- a buffer all of whose bytes were written over
 pub written_over : (len : ℕ) (bytes before : Bytes) → len ≡ length before → length bytes ≡ length before
@@ -12,10 +13,12 @@ pub written_over : (len : ℕ) (bytes before : Bytes) → len ≡ length before 
 written_over len bytes before whole same =
     rw (whole, ← same) (take-append_seam bytes (drop (length bytes) before))
 
-pub came-more : (slot : Slot) (filled n : ℕ) (before after : Bytes) (start old new : Outside)
-    → Came slot (take filled before) start old → MoreOf slot filled before old n after new
-    → Came slot (take (filled + n) after) start new
-came-more slot filled n before after start old new first more =
-    let all : take (filled + n) after ≡ take filled before ++ take n (drop filled after) =
-    take-add filled n after ∙ ap (λ (x : Bytes). x ++ take n (drop filled after)) more.front in
-    rw all (came-then slot (take filled before) (take n (drop filled after)) start old new first more.came)
+-- bytes that came before the end, and what came after them
+pub took-more : (slot : Slot) (filled n : ℕ) (before after : Bytes) (start old new : Outside)
+    → old ≡ taken slot (part (take filled before)) start → MoreOf slot filled before old n after new
+    → new ≡ taken slot (record { bytes = take (filled + n) after; ended = n == 0 }) start
+took-more slot filled n before after start old new first more =
+    let next = take n (drop filled after) in
+    let all : take (filled + n) after ≡ take filled before ++ next = take-add filled n after ∙ ap (λ (x : Bytes). x ++ next) more.front in
+    let count : length next ≡ n = omega (arith, more.fits, length-take n (drop filled after), length-drop filled after) in
+    took-then slot (part (take filled before)) (piece next) start old new first more.took ∙ (λ i. taken slot (record { bytes = sym all i; ended = none-at next n count i }) start)

@@ -10,9 +10,9 @@ use Rattle.cx_desk.specs.Spooled.{with_waiting, Flushes, Finishes}
 use Rattle.cx_desk.proofs.Moves.{gained-twice, gained-none}
 
 -- bytes that were put after the part between two places
-pub put_behind : (at end n k : ℕ) (buffer more : Bytes) → at ≤ end → end ≤ length buffer → length more ≡ n
+pub put_after : (at end n k : ℕ) (buffer more : Bytes) → at ≤ end → end ≤ length buffer → length more ≡ n
     → take ((end + n) - at) (drop at (put_mid end k buffer more)) ≡ take (end - at) (drop at buffer) ++ more
-put_behind at end n k buffer more low high count =
+put_after at end n k buffer more low high count =
     let front = take end buffer in
     let all : length front ≡ end = omega (arith, high, length-take end buffer) in
     let kept = drop at front in

@@ -1,7 +1,7 @@
 -- What a transcript is after its calls.
-use Rattle.std.specs.Prelude.{◌≡◌, ℕ, false, List, []}
+use Rattle.std.specs.Prelude.{◌≡◌, ℕ, List}
 use Rattle.cx_desk.specs.declared.transcript.Transcript.{Transcript}
-use Rattle.cx_desk.specs.Gave.{Gave, nothing, more, is_none}
+use Rattle.cx_desk.specs.Gave.{Gave, nothing, piece, joined}
 
 abbrev pub gave_of : Transcript → Gave
 gave_of t = record { bytes = t.bytes; ended = t.ended }
@@ -9,5 +9,6 @@ gave_of t = record { bytes = t.bytes; ended = t.ended }
 abbrev pub IsBlank : Transcript → Type 0
 IsBlank t = gave_of t ≡ nothing
 
+-- a piece was noted after the others
 abbrev pub Notes : List ℕ → Transcript → Transcript → Type 0
-Notes piece old new = gave_of new ≡ more piece (is_none piece) (gave_of old)
+Notes bytes old new = gave_of new ≡ joined (gave_of old) (piece bytes)

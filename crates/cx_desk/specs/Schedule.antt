@@ -6,7 +6,7 @@ use Rattle.std.specs.List.{list_any}
 abbrev pub is_failing : ℕ → List ℕ → Bool
 is_failing number failing = list_any (λ n. n == number) failing
 
--- the call of this number stands behind the last that may pass
+-- the call of this number comes after the last that may pass
 abbrev pub is_past : ℕ → Option ℕ → Bool
 is_past number None = false
 is_past number (Some passes) = nat_lt passes number

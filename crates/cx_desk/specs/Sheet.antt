@@ -8,7 +8,7 @@ use Rattle.cx_base.specs.Counts.{count_after}
 abbrev pub sheet_room : Sheet → ℕ
 sheet_room s = s.room - length s.bytes.items
 
--- a front of the piece was appended, or nothing was and the fault was counted
+-- a prefix of the piece was appended, or nothing was and the fault was counted
 pub record PutsOn {E : Type 0} (fails : Bool) (most : ℕ) (piece : Bytes) (old : Sheet) (faults : ℕ) (outcome : Result ℕ E) (new : Sheet) (after : ℕ) : Type 0 where
   pub fails_where : is_err outcome ≡ (fails || (sheet_room old == 0))
   pub moves : MatchResult outcome

@@ -1,9 +1,10 @@
 -- What a desk shows of which some bytes of the proof wait to be written.
-use Rattle.std.specs.Prelude.{◌≡◌, ◌<◌, ◌≤◌, ℕ, Bool, false, [], ◌++◌, take, length, Result, MatchResult, OnOk, ⊤}
+use Rattle.std.specs.Prelude.{◌≡◌, ◌<◌, ◌≤◌, ℕ, Bool, false, [], ◌++◌, take, length, Option, Some, None, Result, MatchResult, OnOk, ⊤}
 use Rattle.cx_desk.specs.declared.desk.Port.{Port}
 use Rattle.cx_desk.specs.declared.desk.Port.TheVariants.{Answer, Proof, Message}
 use Rattle.cx_desk.specs.declared.spool.Spool.{Spool}
-use Rattle.cx_desk.specs.Outside.{Bytes, Outside}
+use Rattle.cx_desk.specs.Outside.{Bytes, Files, Outside}
+use Rattle.cx_desk.specs.Agreeing.{MayHave}
 use Rattle.cx_desk.specs.Calls.{gained, WriteFaulted}
 
 -- the bytes that wait
@@ -47,3 +48,8 @@ abbrev pub Finishes : {T E : Type 0} → Outside → Result T E → Outside → 
 Finishes shown written below = MatchResult written
     (λ _. below ≡ shown)
     (λ _. (rest : Bytes) × WriteFaulted shown (with_waiting rest below))
+
+-- what waits makes no difference to the files
+pub spooled_agrees : (bytes : Bytes) (o : Outside) (w : Option Files) → MayHave w o → MayHave w (with_waiting bytes o)
+spooled_agrees bytes o None may = tt
+spooled_agrees bytes o (Some files) may = record { formula = may.formula; second = may.second }

@@ -57,7 +57,7 @@ impl Model for ReadAhead {
 /// The length of the buffer at first.
 const FIRST: usize = 262_144;
 
-/// Moves the bytes between two places to the front.
+/// Moves the bytes between two places to the start.
 fn move_down(buffer: &mut Vec<u8>, from: usize, to: usize)
     requires low { from ≤ to }
     requires high { to ≤ vec_len buffer.old }
@@ -87,8 +87,8 @@ fn grow(buffer: &mut Vec<u8>, kept: usize) -> Result<(), AllocError>
     buffer.resize(longer, 0)
 }
 
-/// Reads into the buffer behind its first `filled` bytes, at most so many, and says how many came.
-fn read_behind<D: Desk>(
+/// Reads into the buffer after its first `filled` bytes, at most so many, and says how many came.
+fn read_after<D: Desk>(
     desk: &mut D,
     slot: Slot,
     buffer: &mut [u8],
@@ -149,7 +149,7 @@ impl ReadAhead {
         self.at = 0;
         self.filled = kept;
         grow(&mut self.buffer, kept)?;
-        let count = read_behind(desk, slot, &mut self.buffer, kept, most)?;
+        let count = read_after(desk, slot, &mut self.buffer, kept, most)?;
         self.filled = kept + count;
         Ok(count)
     }

@@ -13,7 +13,7 @@ pub enum DrainErr {
     /// A read failed, and was counted.
     #[error("the read failed")]
     Failed,
-    /// More bytes stand there than were allowed: one more was read. No fault was counted.
+    /// More bytes were left than were allowed: one more was read. No fault was counted.
     #[error("the text is too long")]
     TooLong,
 }
@@ -29,7 +29,7 @@ impl From<Failed> for DrainErr {
 /// The most bytes that are asked for at once.
 const PIECE: usize = 65_536;
 
-/// Reads at most so many bytes into the front of a buffer. It says how many came.
+/// Reads at most so many bytes into the start of a buffer. It says how many came.
 fn read_front<D: Desk>(
     desk: &mut D,
     slot: Slot,
@@ -56,7 +56,7 @@ fn pass_over<D: Desk>(desk: &mut D, slot: Slot, most: u64) -> Result<u64, Failed
     Ok(count as u64)
 }
 
-/// Reads a started slot to its end, where no more than `left` bytes stand, and says how many stood.
+/// Reads a started slot to its end, where no more than `left` bytes are left, and says how many were.
 pub(crate) fn count_rest<D: Desk>(desk: &mut D, slot: Slot, left: u64) -> Result<u64, DrainErr>
     requires { started_in slot (D.outside desk.old).started ≡ true }
     ensures { CountsRest slot left (D.outside desk.old) result (D.outside desk.new) }
@@ -74,7 +74,7 @@ pub(crate) fn count_rest<D: Desk>(desk: &mut D, slot: Slot, left: u64) -> Result
     }
 }
 
-/// Reads a started slot to its end, where no more than `left` bytes stand, and keeps none. It takes no memory.
+/// Reads a started slot to its end, where no more than `left` bytes are left, and keeps none. It takes no memory.
 pub fn drain<D: Desk>(desk: &mut D, slot: Slot, left: u64) -> Result<(), DrainErr>
     requires { started_in slot (D.outside desk.old).started ≡ true }
     ensures { Drains slot left (D.outside desk.old) result (D.outside desk.new) }

@@ -5,18 +5,19 @@ ghost use Rattle.cx_desk.specs.Outside.{asked_in, started_in};
 ghost use Rattle.cx_desk.specs.Calls.{Starts, Reads, Creates, Puts};
 ghost use Rattle.cx_desk.specs.Repeat.{endless, taken_of, byte_of, IsUntouched};
 
-use crate::{Desk, Failed, Port, Slot};
+use crate::{Desk, Failed, Port, Slot, Transcript};
 
 /// What a slot was asked for.
 #[derive(Drop)]
 struct Opening {
     name: Option<String>,
     started: bool,
+    gave: Transcript,
 }
 
 /// A desk whose slots give one byte for ever, whatever their names, and whose ports take all.
 ///
-/// It tells no bytes, no call on it fails, and it takes no memory.
+/// It knows no files, no call on it fails, and it takes no memory.
 #[derive(Drop)]
 pub struct RepeatDesk {
     byte: u8,
@@ -24,6 +25,9 @@ pub struct RepeatDesk {
     formula: Opening,
     second: Opening,
     proof: Option<String>,
+    answer: Transcript,
+    log: Transcript,
+    message: Transcript,
 }
 
 impl RepeatDesk {
@@ -38,12 +42,17 @@ impl RepeatDesk {
             formula: Opening {
                 name: None,
                 started: false,
+                gave: Transcript::new(),
             },
             second: Opening {
                 name: None,
                 started: false,
+                gave: Transcript::new(),
             },
             proof: None,
+            answer: Transcript::new(),
+            log: Transcript::new(),
+            message: Transcript::new(),
         }
     }
 
@@ -58,6 +67,8 @@ impl RepeatDesk {
 impl Desk for RepeatDesk {
     ghost outside = { endless };
 
+    ghost agrees = { λ _. tt };
+
     fn start(&mut self, slot: Slot, name: String) -> Result<(), Failed>
         requires { asked_in slot (endless self.old).asked ≡ None }
         ensures starts { Starts slot (string_bytes name) (endless self.old) result (endless self.new) }
@@ -66,6 +77,7 @@ impl Desk for RepeatDesk {
         let opening = Opening {
             name: Some(name),
             started: true,
+            gave: Transcript::new(),
         };
         match slot {
             Slot::Formula => self.formula = opening,
@@ -84,6 +96,10 @@ impl Desk for RepeatDesk {
     {
         into.fill(self.byte);
         self.taken = self.taken.saturating_add(into.len() as u64);
+        match slot {
+            Slot::Formula => self.formula.gave.note(into),
+            Slot::Second => self.second.gave.note(into),
+        }
         Ok(into.len())
     }
 
@@ -93,6 +109,7 @@ impl Desk for RepeatDesk {
         ensures succeeds { IsOk result }
     {
         self.proof = Some(name);
+        self.log = Transcript::new();
         Ok(())
     }
 
@@ -101,7 +118,11 @@ impl Desk for RepeatDesk {
         ensures puts { Puts port piece.now (endless self.old) result (endless self.new) }
         ensures takes_all { result ≡ Ok (length piece.now) }
     {
-        let _ = port;
+        match port {
+            Port::Answer => self.answer.note(piece),
+            Port::Proof => self.log.note(piece),
+            Port::Message => self.message.note(piece),
+        }
         Ok(piece.len())
     }
 }

@@ -11,7 +11,7 @@ use std::marker::Model;
 
 /// The bytes of a text that is read from a slot of a desk, which is lent at each call: those that were read and not passed.
 ///
-/// One byte behind the limit is read at most. The place is that of the first byte that was not passed.
+/// One byte after the limit is read at most. The place is that of the first byte that was not passed.
 #[derive(Drop)]
 pub struct SlotBytes {
     slot: Slot,
@@ -77,7 +77,7 @@ impl SlotBytes {
         (self.place + self.ahead.bytes().len()) as u64
     }
 
-    /// Whether a byte behind the limit was read.
+    /// Whether a byte after the limit was read.
     pub fn is_past_limit(&self) -> bool
         ensures { IsTrue result ↔ self.now.limit < taken_by self.now }
     {
@@ -130,7 +130,7 @@ impl SlotBytes {
 
     /// Reads the rest of the text without keeping it, and says how long the whole text is.
     ///
-    /// Nothing is asked for behind this.
+    /// Nothing is asked for after this.
     pub fn read_rest<D: Desk>(&self, desk: &mut D) -> Result<u64, DrainErr>
         requires started { started_in self.now.slot (D.outside desk.old).started ≡ true }
         requires within { taken_by self.now ≤ self.now.limit }

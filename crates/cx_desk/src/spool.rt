@@ -2,7 +2,7 @@
 ghost use Rattle.std.specs.Prelude.{◌≡◌, ◌<◌, length, [], false, IfOk, OnOk};
 ghost use Rattle.cx_desk.specs.declared.desk.Port.TheVariants.{Answer, Proof};
 ghost use Rattle.cx_desk.specs.Calls.{Puts};
-ghost use Rattle.cx_desk.specs.Spooled.{waiting_in, spooled, Flushes, MakesRoom, IsWrittenBefore, Finishes};
+ghost use Rattle.cx_desk.specs.Spooled.{waiting_in, spooled, Flushes, MakesRoom, IsWrittenBefore, Finishes, spooled_agrees};
 
 use crate::waiting::Waiting;
 use crate::{Desk, Failed, Port, Slot};
@@ -103,6 +103,8 @@ impl<D: Desk> Spool<D> {
 
 impl<D: Desk> Desk for Spool<D> {
     ghost outside = { spooled D.outside };
+
+    ghost agrees = { λ s. spooled_agrees (waiting_in s) (D.outside s.desk) (D.outside s.desk).files (D.agrees s.desk) };
 
     fn start(&mut self, slot: Slot, name: String) -> Result<(), Failed> {
         self.desk.start(slot, name)

@@ -31,7 +31,7 @@ impl Transcript {
         }
     }
 
-    /// Notes a piece behind the others.
+    /// Notes a piece after the others.
     pub fn note(&mut self, _piece: &[u8])
         ensures { Notes _piece.now self.old self.new }
     {}

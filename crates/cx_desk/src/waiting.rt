@@ -82,7 +82,7 @@ impl Waiting {
         self.full = false;
     }
 
-    /// As much of the front of a piece as there is room for waits too; says how much.
+    /// As long a prefix of a piece as there is room for waits too; says how long.
     pub fn push(&mut self, piece: &[u8]) -> usize
         requires room { self.old.1 ≡ false }
         requires some { 0 < length piece.now }

@@ -1,11 +1,15 @@
--- What the desk over the system shows: the names that were asked for, the started slots and the faults, and no bytes.
-use Rattle.std.specs.Prelude.{◌≡◌, None, false, option_map, string_bytes}
+-- What the desk over the system shows: what its reads gave and its writes took; it knows no files.
+use Rattle.std.specs.Prelude.{◌≡◌, [], None, false, option_map, string_bytes}
 use Rattle.cx_system.specs.declared.real_desk.RealDesk.{RealDesk}
+use Rattle.cx_desk.specs.Gave.{nothing}
+use Rattle.cx_desk.specs.Noted.{gave_of}
 use Rattle.cx_desk.specs.Outside.{Outside}
 
 abbrev pub outside_of : RealDesk → Outside
 outside_of d = record {
-  told = None;
+  files = None;
+  given = record { formula = gave_of d.formula.gave; second = gave_of d.second.gave };
+  written = record { answer = d.answer.bytes; proof = d.log.bytes; message = d.message.bytes };
   asked = record {
     formula = option_map string_bytes d.formula.name;
     second = option_map string_bytes d.second.name;
@@ -15,10 +19,12 @@ outside_of d = record {
   faults = record { reads = d.read_faults; writes = d.write_faults; messages = d.message_faults };
 }
 
--- nothing was asked for, and no byte is told
+-- nothing was asked for, given or taken
 abbrev pub IsUntouched : Outside → Type 0
 IsUntouched o = o ≡ record {
-  told = None;
+  files = None;
+  given = record { formula = nothing; second = nothing };
+  written = record { answer = []; proof = []; message = [] };
   asked = record { formula = None; second = None; proof = None };
   started = record { formula = false; second = false };
   faults = record { reads = 0; writes = 0; messages = 0 };

@@ -1,7 +1,7 @@
-//! The desk over the system's files and streams. It tells no bytes.
+//! The desk over the system's files and streams. It tells what its reads gave and what its writes took.
 //!
-//! Each of its reads and writes goes through `read_on` or `put_on`, which hand on what came and what was taken of every
-//! reader and writer that tells its bytes.
+//! Each of its reads and writes goes through `read_on` or `put_on`. They note what came and what was taken; and of every reader
+//! and writer that tells its bytes, that is what it gave and what it took.
 #![tactic(auto)]
 
 mod real_desk;

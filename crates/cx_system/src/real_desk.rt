@@ -4,12 +4,13 @@ ghost use Rattle.cx_system.specs.Real.{outside_of, IsUntouched};
 
 use crate::source::{Source, id_of, read_at, start_at};
 use crate::streams::{count_fault, put_on};
-use cx_desk::{Desk, Failed, Port, Slot};
+use cx_desk::{Desk, Failed, Port, Slot, Transcript};
 use std::fs::{File, OpenOptions};
 
 /// Files by name, standard input, standard output and standard error, with a count of the faults.
 ///
-/// A write goes to the system at once. Bytes of the Proof port are dropped until it was given a file.
+/// A write goes to the system at once. Bytes of the Proof port are dropped until it was given a file. What each read gave and
+/// each write took is noted, which takes no memory.
 #[derive(Drop)]
 pub struct RealDesk {
     rt: HostRuntime,
@@ -17,6 +18,9 @@ pub struct RealDesk {
     second: Source,
     proof_name: Option<String>,
     proof: Option<File>,
+    answer: Transcript,
+    log: Transcript,
+    message: Transcript,
     read_faults: u64,
     write_faults: u64,
     message_faults: u64,
@@ -48,6 +52,9 @@ impl RealDesk {
             second: Source::none(),
             proof_name: None,
             proof: None,
+            answer: Transcript::new(),
+            log: Transcript::new(),
+            message: Transcript::new(),
             read_faults: 0,
             write_faults: 0,
             message_faults: 0,
@@ -57,6 +64,8 @@ impl RealDesk {
 
 impl Desk for RealDesk {
     ghost outside = { outside_of };
+
+    ghost agrees = { λ _. tt };
 
     fn start(&mut self, slot: Slot, name: String) -> Result<(), Failed> {
         match slot {
@@ -83,8 +92,18 @@ impl Desk for RealDesk {
 
     fn read(&mut self, slot: Slot, into: &mut [u8]) -> Result<usize, Failed> {
         let read = match slot {
-            Slot::Formula => read_at(&self.rt, &mut self.formula.stream, into),
-            Slot::Second => read_at(&self.rt, &mut self.second.stream, into),
+            Slot::Formula => read_at(
+                &self.rt,
+                &mut self.formula.stream,
+                &mut self.formula.gave,
+                into,
+            ),
+            Slot::Second => read_at(
+                &self.rt,
+                &mut self.second.stream,
+                &mut self.second.gave,
+                into,
+            ),
         };
         match read {
             Some(count) => Ok(count),
@@ -101,6 +120,7 @@ impl Desk for RealDesk {
         match made {
             Some(file) => {
                 self.proof = Some(file);
+                self.log = Transcript::new();
                 Ok(())
             }
             None => {
@@ -112,11 +132,24 @@ impl Desk for RealDesk {
 
     fn put(&mut self, port: Port, piece: &[u8]) -> Result<usize, Failed> {
         match port {
-            Port::Answer => put_on(&mut self.rt.stdout(), &mut self.write_faults, piece),
-            Port::Message => put_on(&mut self.rt.stderr(), &mut self.message_faults, piece),
+            Port::Answer => put_on(
+                &mut self.rt.stdout(),
+                &mut self.answer,
+                &mut self.write_faults,
+                piece,
+            ),
+            Port::Message => put_on(
+                &mut self.rt.stderr(),
+                &mut self.message,
+                &mut self.message_faults,
+                piece,
+            ),
             Port::Proof => match &mut self.proof {
-                None => Ok(piece.len()),
-                Some(file) => put_on(file, &mut self.write_faults, piece),
+                None => {
+                    self.log.note(piece);
+                    Ok(piece.len())
+                }
+                Some(file) => put_on(file, &mut self.log, &mut self.write_faults, piece),
             },
         }
     }

@@ -1,9 +1,11 @@
 //! A slot over the system.
-ghost use Rattle.std.specs.Prelude.{◌≡◌, ◌≤◌, length, None, false, string_bytes, IfSome};
-ghost use Rattle.cx_system.specs.Streams.{StartsReal};
+ghost use Rattle.std.specs.Prelude.{◌≡◌, None, false, string_bytes};
+ghost use Rattle.cx_desk.specs.Gave.{nothing};
+ghost use Rattle.cx_desk.specs.Noted.{gave_of};
+ghost use Rattle.cx_system.specs.Streams.{ReadsNoted, StartsReal};
 
 use crate::streams::{count_fault, read_on};
-use cx_desk::Failed;
+use cx_desk::{Failed, Transcript};
 use std::fs::File;
 use std::os::unix::fs::MetadataExt;
 
@@ -15,12 +17,13 @@ pub enum Stream {
     Open(File),
 }
 
-/// A slot: its name, and where it reads from.
+/// A slot: its name, where it reads from, and what that gave.
 #[derive(Drop)]
 pub struct Source {
     pub name: Option<String>,
     pub stream: Stream,
     pub is_started: bool,
+    pub gave: Transcript,
 }
 
 /// Which regular file an open one is: it is the same under each of its names.
@@ -44,12 +47,13 @@ pub fn id_of(file: &File) -> Option<FileId> {
 impl Source {
     /// A slot that was asked for nothing.
     pub fn none() -> Self
-        ensures { (result.name ≡ None) × (result.is_started ≡ false) }
+        ensures { (result.name ≡ None) × (result.is_started ≡ false) × (gave_of result.gave ≡ nothing) }
     {
         Source {
             name: None,
             stream: Stream::Closed,
             is_started: false,
+            gave: Transcript::new(),
         }
     }
 
@@ -87,16 +91,22 @@ pub fn start_at(
     }
     source.stream = stream;
     source.is_started = true;
+    source.gave = Transcript::new();
     Ok(())
 }
 
 /// Reads from a slot's stream; none where that fails.
-pub fn read_at(rt: &HostRuntime, stream: &mut Stream, into: &mut [u8]) -> Option<usize>
-    ensures { IfSome result (λ n. n ≤ length into.new) }
+pub fn read_at(
+    rt: &HostRuntime,
+    stream: &mut Stream,
+    gave: &mut Transcript,
+    into: &mut [u8],
+) -> Option<usize>
+    ensures { ReadsNoted into.new (gave_of gave.old) result (gave_of gave.new) }
 {
     match stream {
         Stream::Closed => None,
-        Stream::Input => read_on(&mut rt.stdin(), into),
-        Stream::Open(file) => read_on(file, into),
+        Stream::Input => read_on(&mut rt.stdin(), into, gave),
+        Stream::Open(file) => read_on(file, into, gave),
     }
 }

@@ -2,7 +2,6 @@
 ghost use Rattle.std.specs.Prelude.{IfOk};
 ghost use Rattle.cx_words.specs.Words.{texts};
 ghost use Rattle.solve_cli.specs.Commands.{Unasked};
-ghost use Rattle.solve_cli.specs.Seen.{seen};
 ghost use Rattle.solve_cli.specs.Steps.{HasNoProof};
 ghost use Rattle.cxsat.specs.Spooled.{RunsSpooled};
 
@@ -26,7 +25,7 @@ pub fn run_spooled<D: Desk + Drop>(
     desk: D,
 ) -> Result<Ended<D>, AllocError>
     requires fresh { Unasked (D.outside desk).asked }
-    requires empty { HasNoProof (seen (D.outside desk)) }
+    requires empty { HasNoProof (D.outside desk) }
     ensures { IfOk result (RunsSpooled D.outside (texts words.items) (D.outside desk)) }
 {
     let mut spool = Spool::new(alloc, desk)?;

@@ -170,12 +170,12 @@ module _ {X : Type 0} (leaves : X → List LogStep → Ending → Type 0) (told 
           }
 
       -- the sink took nothing, or tore the step
-      torn_here : (w : Option ProofStep) → WritesDown (told old) (told new) (torn new) w (fell sink.Failed) → KeepsTie formula kept.tables after (derives_ending_clause formula step) w → IsCutOff leaves told torn formula first new Write
+      torn_here : (w : Option ProofStep) → WritesDown (told old) (told new) (torn new) w (fell sink.Failed) → KeepsTie formula kept.tables after (derives_ending_clause formula step) w → IsCutOff told torn formula first new Write
       torn_here (Some s) (t, e) (right, ends, tied) =
           (s, t, gained_so_far (λ gained. (clashes formula.constraints ≡ false) × (tables : Tables) × Runs (proof_calculus formula) (first_tables formula) gained tables × IsRight (proof_calculus formula) tables s) e (kept.no_clash, kept.tables, kept.proof_runs, right))
       torn_here None h k = absurd h
 
-      no_memory : (w : Option ProofStep) → WritesDown (told old) (told new) (torn new) w (fell sink.Memory) → IsCutOff leaves told torn formula first new Memory
+      no_memory : (w : Option ProofStep) → WritesDown (told old) (told new) (torn new) w (fell sink.Memory) → IsCutOff told torn formula first new Memory
       no_memory (Some s) e = gained_so_far (IsOpen (proof_calculus formula)) e open_so_far
       no_memory None h = absurd h
 

@@ -40,12 +40,7 @@ abbrev pub IsProofWritten : Problem → List LogStep → Elab → List ProofStep
 IsProofWritten formula steps (Done k) gained = IsProofOf formula (take k steps) gained × AcceptedAt (proof_calculus formula) gained (length gained)
 IsProofWritten formula steps (Refused k cause) gained = IsProofOf formula (take (k - 1) steps) gained × IsOpen (proof_calculus formula) gained
 
-module _ {X : Type 0} (leaves : X → List LogStep → Ending → Type 0) (told : X → Option (List ProofStep)) (torn : X → ProofStep → Type 0) where
-  -- the source had some steps and an ending left, these are judged so, and the sink gained their proof
-  abbrev pub IsElaborated : Problem → X → X → Elab → Type 0
-  IsElaborated formula old new elab =
-      (steps : List LogStep) × (ending : Ending) × leaves old steps ending × JudgedAs (log_calculus formula) steps ending (judgement_of elab) × Gained (told old) (told new) (IsProofWritten formula steps elab)
-
+module _ {X : Type 0} (told : X → Option (List ProofStep)) (torn : X → ProofStep → Type 0) where
   -- What stands where the log was not judged to its end: right steps, none of which ends the proof; after a fault of writing a right one behind them is torn.
   abbrev pub IsCutOff : Problem → X → X → ElabFault → Type 0
   IsCutOff formula old new Memory = Gained (told old) (told new) (IsOpen (proof_calculus formula))
@@ -54,6 +49,12 @@ module _ {X : Type 0} (leaves : X → List LogStep → Ending → Type 0) (told 
   IsCutOff formula old new Write =
       (step : ProofStep) × torn new step
       × Gained (told old) (told new) (λ gained. IsFalse (clashes formula.constraints) × (tables : Tables) × Runs (proof_calculus formula) (first_tables formula) gained tables × IsRight (proof_calculus formula) tables step)
+
+module _ {X : Type 0} (leaves : X → List LogStep → Ending → Type 0) (told : X → Option (List ProofStep)) (torn : X → ProofStep → Type 0) where
+  -- the source had some steps and an ending left, these are judged so, and the sink gained their proof
+  abbrev pub IsElaborated : Problem → X → X → Elab → Type 0
+  IsElaborated formula old new elab =
+      (steps : List LogStep) × (ending : Ending) × leaves old steps ending × JudgedAs (log_calculus formula) steps ending (judgement_of elab) × Gained (told old) (told new) (IsProofWritten formula steps elab)
 
   -- What is known before a step: the assumptions do not clash, the steps taken are right and do not end the log, their proof is written, and what is left follows them.
   pub record Kept (formula : Problem) (first now : X) (state : State) (count : ℕ) : Type 0 where
@@ -76,7 +77,7 @@ module _ {X : Type 0} (leaves : X → List LogStep → Ending → Type 0) (told 
 
   abbrev pub Turns : Problem → X → X → State → ℕ → Result (Option Elab) ElabFault → Type 0
   Turns formula first now state count (Ok elab) = Goes formula first now state count elab
-  Turns formula first now state count (Err fault) = IsCutOff formula first now fault
+  Turns formula first now state count (Err fault) = IsCutOff told torn formula first now fault
 
 -- a fault of reading or of writing is one that was counted, and a text is too long only where the source does not tell
 -- that it keeps within its limit

@@ -15,11 +15,14 @@ use step_text::{Sink, SinkFault, SpareLists, StepSource, TextRefusal};
 ///
 /// Each call leaves the other side's steps, place and count of faults as they were.
 pub trait ElabEnds {
-    // it has these steps left and then this ending
-    ghost leaves: { Self → List LogStep → Ending → Type 0 };
+    // its log may be this text, by what it read so far
+    ghost may_read: { Self → List ℕ → Type 0 };
 
-    // whether its text passes its limit, where it tells that
-    ghost passes_limit: { Self → Option Bool };
+    // of this text it has these steps left and then this ending
+    ghost leaves: { Self → List ℕ → List LogStep → Ending → Type 0 };
+
+    // whether this text passes its limit, where it tells that
+    ghost passes_limit: { Self → List ℕ → Option Bool };
 
     // its source has answered `Memory` or `Failed`
     ghost is_spent: { Self → Bool };
@@ -51,12 +54,13 @@ pub trait ElabEnds {
     /// The next step of the log, or none at the end of the text between two steps. Its lists may take the memory of the spare ones.
     fn next_step(&mut self, spare: &mut SpareLists) -> Result<Option<LogStep>, TextRefusal>
         requires { is_spent self.old ≡ false }
-        ensures step { Gives leaves self.old result self.new }
+        ensures step { (text : List ℕ) → may_read self.new text → Gives (λ a. leaves a text) self.old result self.new }
+        ensures narrows { (text : List ℕ) → may_read self.new text → may_read self.old text }
         ensures spent { SpentAs result (is_spent self.new) }
         ensures stuck { StuckAs (stuck self.old) result (stuck self.new) }
         ensures faults { FaultsAs result (read_faults self.old) (read_faults self.new) }
-        ensures long { IsTooLongOnly (passes_limit self.old) result }
-        ensures limit { passes_limit self.new ≡ passes_limit self.old }
+        ensures long { (text : List ℕ) → may_read self.new text → IsTooLongOnly (passes_limit self.old text) result }
+        ensures limit { (text : List ℕ) → may_read self.new text → passes_limit self.new text ≡ passes_limit self.old text }
         ensures rises { PlaceRises result (place_of self.old) (place_of self.new) }
         ensures within { place_of self.new ≤ farthest self.new }
         ensures far { farthest self.new < 2 ^ 62 }
@@ -70,16 +74,18 @@ pub trait ElabEnds {
     fn place(&self) -> u64
         ensures { result ≡ place_of self.now };
 
-    /// Takes the next step of the proof, which a text can have.
+    /// Takes the next step of the proof, which a text can have. It is not asked again once its sink has failed.
     fn step(&mut self, step: &ProofStep) -> Result<(), SinkFault>
         requires text { HasProofText step.now }
+        requires going { has_failed self.old ≡ false }
         ensures told { OnOk result (steps self.new ≡ with_next step.now (steps self.old)) }
         ensures same { OnErr result (steps self.new ≡ steps self.old) }
         ensures torn { OnFailed result (torn self.new step.now) }
         ensures faults { SinkFaultsAs result (write_faults self.old) (write_faults self.new) }
         ensures failed { HasFailedAs result (has_failed self.old) (has_failed self.new) }
-        ensures rest_stays { (left : List LogStep) (ending : Ending) → (leaves self.new left ending → leaves self.old left ending) × (leaves self.old left ending → leaves self.new left ending) }
-        ensures limit_stays { passes_limit self.new ≡ passes_limit self.old }
+        ensures text_stays { (text : List ℕ) → may_read self.new text → may_read self.old text }
+        ensures rest_stays { (text : List ℕ) (left : List LogStep) (ending : Ending) → (leaves self.new text left ending → leaves self.old text left ending) × (leaves self.old text left ending → leaves self.new text left ending) }
+        ensures limit_stays { (text : List ℕ) → may_read self.new text → passes_limit self.new text ≡ passes_limit self.old text }
         ensures spent_stays { is_spent self.new ≡ is_spent self.old }
         ensures stuck_stays { stuck self.new ≡ stuck self.old }
         ensures reads_stay { read_faults self.new ≡ read_faults self.old }
@@ -87,8 +93,11 @@ pub trait ElabEnds {
         ensures bound_stays { farthest self.new ≡ farthest self.old }
         ensures frame { keeps self.old self.new };
 
-    // it always has some steps left and an ending
-    ghost leaves_some: { (a : Self) → (steps : List LogStep) × (ending : Ending) × leaves a steps ending };
+    // there is always a text that it may be reading
+    ghost has_text: { (a : Self) → (text : List ℕ) × may_read a text };
+
+    // of which it has some steps left and an ending
+    ghost leaves_some: { (a : Self) (text : List ℕ) → may_read a text → (steps : List LogStep) × (ending : Ending) × leaves a text steps ending };
 
     ghost keeps_itself: { (a : Self) → keeps a a };
 
@@ -103,6 +112,8 @@ pub struct Joined<A, B> {
 }
 
 impl<A: StepSource<Step = LogStep>, B: Sink<Item = ProofStep>> ElabEnds for Joined<A, B> {
+    ghost may_read = { λ j. A.may_read j.source };
+
     ghost leaves = { λ j. A.leaves j.source };
 
     ghost passes_limit = { λ j. A.passes_limit j.source };
@@ -138,6 +149,8 @@ impl<A: StepSource<Step = LogStep>, B: Sink<Item = ProofStep>> ElabEnds for Join
     fn step(&mut self, step: &ProofStep) -> Result<(), SinkFault> {
         self.sink.put(step)
     }
+
+    ghost has_text = { λ j. A.has_text j.source };
 
     ghost leaves_some = { λ j. A.leaves_some j.source };
 

@@ -1,5 +1,5 @@
 //! The elaborator: steps are taken one after another.
-ghost use Rattle.std.specs.Prelude.{◌≡◌, ◌<◌, ◌≤◌, ◌^◌, ◌+◌, false, None, length, IfOk, IfErr, OnOk, OnErr, List};
+ghost use Rattle.std.specs.Prelude.{◌≡◌, ◌<◌, ◌≤◌, ◌^◌, ◌+◌, false, None, length, IfOk, IfErr, OnOk, OnErr, List, ℕ};
 ghost use Rattle.cx_base.specs.Endings.{Ending};
 ghost use Rattle.cx_semantics.specs.Tables.{Tables};
 ghost use Rattle.cx_base.specs.declared.steps.LogStep.{LogStep};
@@ -28,11 +28,13 @@ use step_text::{SinkFault, SpareLists, TextRefusal};
 /// Hands a step to the sink, if there is one.
 fn write<E: ElabEnds>(ends: &mut E, written: &Option<ProofStep>) -> Result<(), SinkFault>
     requires text { CanBePrinted written.now }
+    requires going { E.has_failed ends.old ≡ false }
     ensures told { WritesDown (E.steps ends.old) (E.steps ends.new) (E.torn ends.new) written.now result }
     ensures faults { SinkFaultsAs result (E.write_faults ends.old) (E.write_faults ends.new) }
     ensures failed { HasFailedAs result (E.has_failed ends.old) (E.has_failed ends.new) }
-    ensures rest { (left : List LogStep) (ending : Ending) → (E.leaves ends.new left ending → E.leaves ends.old left ending) × (E.leaves ends.old left ending → E.leaves ends.new left ending) }
-    ensures limit { E.passes_limit ends.new ≡ E.passes_limit ends.old }
+    ensures narrows { (text : List ℕ) → E.may_read ends.new text → E.may_read ends.old text }
+    ensures rest { (text : List ℕ) (left : List LogStep) (ending : Ending) → (E.leaves ends.new text left ending → E.leaves ends.old text left ending) × (E.leaves ends.old text left ending → E.leaves ends.new text left ending) }
+    ensures limit { (text : List ℕ) → E.may_read ends.new text → E.passes_limit ends.new text ≡ E.passes_limit ends.old text }
     ensures spent { E.is_spent ends.new ≡ E.is_spent ends.old }
     ensures reads { E.read_faults ends.new ≡ E.read_faults ends.old }
     ensures place { E.place_of ends.new ≡ E.place_of ends.old }
@@ -108,8 +110,11 @@ fn take_next<E: ElabEnds>(
     requires parity_room { state.old.parities.last ≤ 2 ^ 60 + steps }
     requires tied { (proof : Tables) × AreTied formula.now state.old.live proof (names_of state.old) }
     requires fresh { E.is_spent ends.old ≡ false }
+    requires going { E.has_failed ends.old ≡ false }
     requires count { steps ≤ 2 ^ 62 }
-    ensures turns { (first : E) → Kept E.leaves E.steps E.torn formula.now first ends.old state.old steps → Turns E.leaves E.steps E.torn formula.now first ends.new state.new steps result }
+    ensures turns { (text : List ℕ) (first : E) → E.may_read ends.new text → Kept (λ a. E.leaves a text) E.steps E.torn formula.now first ends.old state.old steps
+        → Turns (λ a. E.leaves a text) E.steps E.torn formula.now first ends.new state.new steps result }
+    ensures narrows { (text : List ℕ) → E.may_read ends.new text → E.may_read ends.old text }
     ensures clause_room { IfOk result (λ elab. elab ≡ None → state.new.clauses.last ≤ 2 ^ 60 + (steps + 1)) }
     ensures parity_room { IfOk result (λ elab. elab ≡ None → state.new.parities.last ≤ 2 ^ 60 + (steps + 1)) }
     ensures fresh { IfOk result (λ elab. elab ≡ None → E.is_spent ends.new ≡ false) }
@@ -118,8 +123,8 @@ fn take_next<E: ElabEnds>(
     ensures failed { IfOk result (λ _. E.has_failed ends.new ≡ E.has_failed ends.old) }
     ensures rises { IfOk result (λ elab. elab ≡ None → E.place_of ends.old < E.place_of ends.new) }
     ensures far { E.place_of ends.new < 2 ^ 62 }
-    ensures limit { E.passes_limit ends.new ≡ E.passes_limit ends.old }
-    ensures cause { IfErr result (HasCause (E.passes_limit ends.old) (E.read_faults ends.old) (E.read_faults ends.new) (E.write_faults ends.old) (E.write_faults ends.new)) }
+    ensures limit { (text : List ℕ) → E.may_read ends.new text → E.passes_limit ends.new text ≡ E.passes_limit ends.old text }
+    ensures cause { (text : List ℕ) → E.may_read ends.new text → IfErr result (HasCause (E.passes_limit ends.old text) (E.read_faults ends.old) (E.read_faults ends.new) (E.write_faults ends.old) (E.write_faults ends.new)) }
     ensures long { IfErr result (IsTooLongBy (E.stuck ends.new)) }
     ensures frame { E.keeps ends.old ends.new }
 {
@@ -152,11 +157,13 @@ fn take_all<E: ElabEnds>(
     requires parities { counts.parities ≡ number_of_parities formula.now }
     requires clause_room { state.old.clauses.last ≤ 2 ^ 60 }
     requires parity_room { state.old.parities.last ≤ 2 ^ 60 }
-    requires kept { Kept E.leaves E.steps E.torn formula.now ends.old ends.old state.old 0 }
+    requires kept { (text : List ℕ) → E.may_read ends.old text → Kept (λ a. E.leaves a text) E.steps E.torn formula.now ends.old ends.old state.old 0 }
     requires fresh { E.is_spent ends.old ≡ false }
-    ensures judged { IfOk result (IsElaborated E.leaves E.steps E.torn formula.now ends.old ends.new) }
-    ensures cut_off { IfErr result (IsCutOff E.leaves E.steps E.torn formula.now ends.old ends.new) }
-    ensures cause { IfErr result (HasCause (E.passes_limit ends.old) (E.read_faults ends.old) (E.read_faults ends.new) (E.write_faults ends.old) (E.write_faults ends.new)) }
+    requires going { E.has_failed ends.old ≡ false }
+    ensures judged { (text : List ℕ) → E.may_read ends.new text → IfOk result (IsElaborated (λ a. E.leaves a text) E.steps E.torn formula.now ends.old ends.new) }
+    ensures cut_off { IfErr result (IsCutOff E.steps E.torn formula.now ends.old ends.new) }
+    ensures narrows { (text : List ℕ) → E.may_read ends.new text → E.may_read ends.old text }
+    ensures cause { (text : List ℕ) → E.may_read ends.new text → IfErr result (HasCause (E.passes_limit ends.old text) (E.read_faults ends.old) (E.read_faults ends.new) (E.write_faults ends.old) (E.write_faults ends.new)) }
     ensures long { IfErr result (IsTooLongBy (E.stuck ends.new)) }
     ensures reads { ReadsStand result (E.read_faults ends.old) (E.read_faults ends.new) }
     ensures writes { WritesStand result (E.write_faults ends.old) (E.write_faults ends.new) }
@@ -186,10 +193,12 @@ pub fn elaborate<E: ElabEnds>(
     formula: &Formula,
     ends: &mut E,
 ) -> Result<Elab, ElabFault>
-    requires { E.is_spent ends.old ≡ false }
-    ensures judged { IfOk result (IsElaborated E.leaves E.steps E.torn formula.now ends.old ends.new) }
-    ensures cut_off { IfErr result (IsCutOff E.leaves E.steps E.torn formula.now ends.old ends.new) }
-    ensures cause { IfErr result (HasCause (E.passes_limit ends.old) (E.read_faults ends.old) (E.read_faults ends.new) (E.write_faults ends.old) (E.write_faults ends.new)) }
+    requires fresh { E.is_spent ends.old ≡ false }
+    requires going { E.has_failed ends.old ≡ false }
+    ensures judged { (text : List ℕ) → E.may_read ends.new text → IfOk result (IsElaborated (λ a. E.leaves a text) E.steps E.torn formula.now ends.old ends.new) }
+    ensures cut_off { IfErr result (IsCutOff E.steps E.torn formula.now ends.old ends.new) }
+    ensures narrows { (text : List ℕ) → E.may_read ends.new text → E.may_read ends.old text }
+    ensures cause { (text : List ℕ) → E.may_read ends.new text → IfErr result (HasCause (E.passes_limit ends.old text) (E.read_faults ends.old) (E.read_faults ends.new) (E.write_faults ends.old) (E.write_faults ends.new)) }
     ensures long { IfErr result (IsTooLongBy (E.stuck ends.new)) }
     ensures reads { ReadsStand result (E.read_faults ends.old) (E.read_faults ends.new) }
     ensures writes { WritesStand result (E.write_faults ends.old) (E.write_faults ends.new) }

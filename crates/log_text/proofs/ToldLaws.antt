@@ -1,12 +1,12 @@
 -- What a port that was given lines of events tells.
-use Rattle.std.proofs.Common.{◌≡◌, refl, sym, ap, ◌∙◌, subst, ℕ, ◌+◌, ◌^◌, ◌<◌, ◌≤◌, lit<, lt_trans, true, List, [], ◌∷◌, ◌++◌, map, flat_map, length, take, codes, decimal, append_assoc, append-nil, length-append, arith, Some, None, option_map}
+use Rattle.std.proofs.Common.{◌≡◌, refl, sym, ap, ◌∙◌, subst, ℕ, ◌+◌, ◌^◌, ◌<◌, ◌≤◌, lit<, lt_trans, true, List, [], ◌∷◌, ◌++◌, map, flat_map, length, take, codes, decimal, append_assoc, append-nil, length-append, arith, Some, option_map}
 use Rattle.std.specs.List.{AllByRecursion}
 use Rattle.std.proofs.lemmas.Fmt.{decimal_is_IsNumeral_wide}
 use Rattle.std.proofs.lemmas.Grind.{flat_map-append}
 use Rattle.std.proofs.lemmas.List.{take-append-le}
 use Rattle.cx_desk.specs.declared.desk.Port.TheVariants.{Proof}
 use Rattle.cx_desk.specs.Outside.{Bytes, Outside}
-use Rattle.cx_desk.specs.Calls.{gained, append_on}
+use Rattle.cx_desk.specs.Calls.{gained}
 use Rattle.cx_base.specs.declared.steps.LogEvent.{LogEvent}
 use Rattle.cx_base.specs.declared.steps.LogEvent.TheVariants.{Step, Conflict}
 use Rattle.cx_base.specs.Endings.{Ending, finished}
@@ -93,30 +93,17 @@ begun_front b s k e h low =
 
 -- ---- the outside
 
-pub gained_event : (o : Outside) (s : LogEvent) → is_whole o.told ≡ true → HasText s → events_told (gained Proof (event_line s) o) ≡ with_next s (events_told o)
-gained_event o s w h = elim o.told as (λ x. is_whole x ≡ true → option_map (λ t. told_events t.written.proof) (option_map (append_on Proof (event_line s)) x) ≡ with_next s (option_map (λ t. told_events t.written.proof) x)) [
-  | None ↦ λ k. refl
-  | Some t ↦ λ k. ap Some (told_event t.written.proof s (none_left _ k) h)
-] w
+pub gained_event : (o : Outside) (s : LogEvent) → is_whole o ≡ true → HasText s → events_told (gained Proof (event_line s) o) ≡ with_next s (events_told o)
+gained_event o s w h = ap Some (told_event o.written.proof s (none_left _ w) h)
 
-pub gained_whole : (o : Outside) (s : LogEvent) → is_whole o.told ≡ true → HasText s → is_whole (gained Proof (event_line s) o).told ≡ true
-gained_whole o s w h = elim o.told as (λ x. is_whole x ≡ true → is_whole (option_map (append_on Proof (event_line s)) x) ≡ true) [
-  | None ↦ λ k. refl
-  | Some t ↦ λ k. ap is_none (event_ends t.written.proof s (none_left _ k) h)
-] w
+pub gained_whole : (o : Outside) (s : LogEvent) → is_whole o ≡ true → HasText s → is_whole (gained Proof (event_line s) o) ≡ true
+gained_whole o s w h = ap is_none (event_ends o.written.proof s (none_left _ w) h)
 
 gained_front : (o : Outside) (s : LogEvent) (k : ℕ) → HasText s → k < length (event_line s) → events_told (gained Proof (take k (event_line s)) o) ≡ events_told o
-gained_front o s k h low = elim o.told as (λ x. option_map (λ t. told_events t.written.proof) (option_map (append_on Proof (take k (event_line s))) x) ≡ option_map (λ t. told_events t.written.proof) x) [
-  | None ↦ refl
-  | Some t ↦ ap Some (told_front t.written.proof s k h low)
-]
+gained_front o s k h low = ap Some (told_front o.written.proof s k h low)
 
 pub torn_told : (old new : Outside) (s : LogEvent) → HasText s → Fails Proof (event_line s) old new → events_told new ≡ events_told old
 torn_told old new s h (k, low, fault) = ap events_told fault.else_same ∙ gained_front old s k h low
 
--- what a sink did, by what it tells: the port gained the lines of the events that it tells besides
-pub gained_log : (o : Outside) (events : List LogEvent) → is_whole o.told ≡ true → AllByRecursion HasText events → events_told (gained Proof (printed_log events) o) ≡ option_map (λ all. all ++ events) (events_told o)
-gained_log o events w h = elim o.told as (λ x. is_whole x ≡ true → option_map (λ t. told_events t.written.proof) (option_map (append_on Proof (printed_log events)) x) ≡ option_map (λ all. all ++ events) (option_map (λ t. told_events t.written.proof) x)) [
-  | None ↦ λ k. refl
-  | Some t ↦ λ k. ap Some (told_log t.written.proof events (none_left _ k) h)
-] w
+pub gained_log : (o : Outside) (events : List LogEvent) → is_whole o ≡ true → AllByRecursion HasText events → events_told (gained Proof (printed_log events) o) ≡ option_map (λ all. all ++ events) (events_told o)
+gained_log o events w h = ap Some (told_log o.written.proof events (none_left _ w) h)

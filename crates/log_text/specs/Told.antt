@@ -1,5 +1,5 @@
 -- The events that a port was given, and what a sink that prints on it does to the outside.
-use Rattle.std.specs.Prelude.{◌≡◌, ◌<◌, ℕ, Bool, true, false, List, [], ◌++◌, flat_map, length, take, Option, option_map, IfSome}
+use Rattle.std.specs.Prelude.{◌≡◌, ◌<◌, ℕ, Bool, true, false, List, [], ◌++◌, flat_map, length, take, Option, Some}
 use Rattle.std.specs.List.{AllByRecursion}
 use Rattle.cx_desk.specs.declared.desk.Port.TheVariants.{Proof}
 use Rattle.cx_desk.specs.Outside.{Bytes, Outside}
@@ -25,11 +25,11 @@ abbrev pub told_events : Bytes → List LogEvent
 told_events text = flat_map events_read (whole_lines [] text)
 
 abbrev pub events_told : Outside → Option (List LogEvent)
-events_told o = option_map (λ t. told_events t.written.proof) o.told
+events_told o = Some (told_events o.written.proof)
 
 -- behind whole lines stands a front of the event's line that is not all of it
 abbrev pub TornOn : LogEvent → Outside → Type 0
-TornOn event o = HasText event × IfSome o.told (λ t. (before : Bytes) × (k : ℕ) × (begun_line [] before ≡ []) × (k < length (event_line event)) × (t.written.proof ≡ before ++ take k (event_line event)))
+TornOn event o = HasText event × ((before : Bytes) × (k : ℕ) × (begun_line [] before ≡ []) × (k < length (event_line event)) × (o.written.proof ≡ before ++ take k (event_line event)))
 
 -- the proof port gained the lines of these events, and nothing else changed
 pub record Prints (old new : Outside) : Type 0 where

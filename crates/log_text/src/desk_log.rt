@@ -2,7 +2,7 @@
 ghost use Rattle.std.specs.Prelude.{◌≡◌, true, false, OnOk, OnErr, IfErr};
 ghost use Rattle.cx_texts.specs.Printed.{HasText};
 ghost use Rattle.step_text.specs.Sinks.{with_next, SinkFaultsAs, HasFailedAs, OnFailed};
-ghost use Rattle.step_text.specs.declared.sink.SinkFault.TheVariants.{Memory};
+ghost use Rattle.step_text.specs.declared.sink.SinkFault.TheVariants as fault;
 ghost use Rattle.proof_text.specs.Told.{is_whole, fault_of};
 ghost use Rattle.log_text.specs.Told.{events_told, TornOn, Goes};
 
@@ -13,20 +13,19 @@ use step_text::{Sink, SinkFault};
 
 /// A sink that prints each event on the Proof port of a lent desk at once. It takes no memory.
 ///
-/// Where the desk tells its bytes, it tells the events of the port's whole lines. It counts one fault
-/// at most: after that it takes nothing more, and answers `Memory`, which it does nowhere else.
+/// It tells the events of the port's whole lines. It counts one fault at most: it is not asked again after that.
 #[derive(Drop)]
 pub struct DeskLog<'a, D: Desk> {
     desk: &'a mut D,
     failed: bool,
     // between two events no line is begun
-    ghost whole: { failed ≡ false → is_whole (D.outside desk.now).told ≡ true },
+    ghost whole: { failed ≡ false → is_whole (D.outside desk.now) ≡ true },
 }
 
 impl<'a, D: Desk> DeskLog<'a, D> {
     /// A sink over a desk on whose Proof port no line is begun.
     pub fn new(desk: &'a mut D) -> DeskLog<'a, D>
-        requires { is_whole (D.outside desk.old).told ≡ true }
+        requires { is_whole (D.outside desk.old) ≡ true }
         ensures same_desk { result.desk.ghost_name ≡ desk.entry.ghost_name }
         ensures outside { D.outside result.desk.now ≡ D.outside desk.entry.now }
         ensures whole { result.failed ≡ false }
@@ -57,20 +56,18 @@ impl<D: Desk> Sink for DeskLog<'_, D> {
 
     ghost keeps = { λ a b. (b.desk.ghost_name ≡ a.desk.ghost_name) × Goes a.failed (D.outside a.desk.now) b.failed (D.outside b.desk.now) };
 
-    /// Prints the event. `Memory` is answered only where an earlier event failed.
+    /// Prints the event. `Memory` is never answered.
     fn put(&mut self, event: &LogEvent) -> Result<(), SinkFault>
         requires text { HasText event.now }
+        requires going { self.old.failed ≡ false }
         ensures told { OnOk result (events_told (D.outside self.new.desk.now) ≡ with_next event.now (events_told (D.outside self.old.desk.now))) }
         ensures same { OnErr result (events_told (D.outside self.new.desk.now) ≡ events_told (D.outside self.old.desk.now)) }
         ensures torn { OnFailed result (TornOn event.now (D.outside self.new.desk.now)) }
         ensures faults { SinkFaultsAs result (fault_of self.old.failed) (fault_of self.new.failed) }
         ensures failed { HasFailedAs result self.old.failed self.new.failed }
-        ensures memory { IfErr result (λ e. e ≡ Memory → self.old.failed ≡ true) }
+        ensures no_memory { IfErr result (λ e. e ≡ fault.Failed) }
         ensures frame { (self.new.desk.ghost_name ≡ self.old.desk.ghost_name) × Goes self.old.failed (D.outside self.old.desk.now) self.new.failed (D.outside self.new.desk.now) }
     {
-        if self.failed {
-            return Err(SinkFault::Memory);
-        }
         self.failed = true;
         match put_event(self.desk, Port::Proof, event) {
             Ok(()) => {

@@ -65,14 +65,16 @@ impl LogList {
 impl StepSource for LogList {
     type Step = LogStep;
 
-    ghost use Rattle.std.specs.Prelude.{None, Some, false, refl};
+    ghost use Rattle.std.specs.Prelude.{None, Some, false, refl, ⊤, []};
     ghost use Rattle.cx_base.specs.Endings.{finished};
     ghost use Rattle.step_text.specs.Lists.{LeavesList, last_place, GaveFront};
     ghost use Rattle.step_text.specs.ListLaws.{gave_nothing, gave_on};
 
-    ghost leaves = { LeavesList };
+    ghost may_read = { λ _ _. ⊤ };
 
-    ghost passes_limit = { λ _. Some false };
+    ghost leaves = { λ l _. LeavesList l };
+
+    ghost passes_limit = { λ _ _. Some false };
 
     ghost is_spent = { λ _. false };
 
@@ -100,7 +102,9 @@ impl StepSource for LogList {
         self.given
     }
 
-    ghost leaves_some = { λ l. (l.steps, finished, (refl, refl)) };
+    ghost has_text = { λ _. ([], tt) };
+
+    ghost leaves_some = { λ l _ _. (l.steps, finished, (refl, refl)) };
 
     ghost keeps_itself = { gave_nothing };
 

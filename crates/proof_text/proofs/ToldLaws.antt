@@ -1,11 +1,11 @@
 -- What a port that was given lines of steps tells.
-use Rattle.std.proofs.Common.{◌≡◌, refl, sym, ap, ◌∙◌, subst, ℕ, ◌+◌, ◌<◌, ◌≤◌, ◌==◌, true, false, cond, List, [], ◌∷◌, ◌++◌, map, flat_map, length, take, append_assoc, append-nil, length-append, arith, Some, None, option_map, zero, suc}
+use Rattle.std.proofs.Common.{◌≡◌, refl, sym, ap, ◌∙◌, subst, ℕ, ◌+◌, ◌<◌, ◌≤◌, ◌==◌, true, false, cond, List, [], ◌∷◌, ◌++◌, map, flat_map, length, take, append_assoc, append-nil, length-append, arith, Some, option_map, zero, suc}
 use Rattle.std.specs.List.{AllByRecursion}
 use Rattle.std.proofs.lemmas.Grind.{flat_map-append}
 use Rattle.std.proofs.lemmas.List.{take-append-le}
 use Rattle.cx_desk.specs.declared.desk.Port.TheVariants.{Proof}
 use Rattle.cx_desk.specs.Outside.{Bytes, Outside}
-use Rattle.cx_desk.specs.Calls.{gained, append_on}
+use Rattle.cx_desk.specs.Calls.{gained}
 use Rattle.cx_base.specs.declared.steps.ProofStep.{ProofStep}
 use Rattle.cx_texts.specs.Tokens.{tokens}
 use Rattle.cx_texts.specs.Words.{placed_words}
@@ -120,30 +120,18 @@ pub none_left : (b : Bytes) → is_none b ≡ true → b ≡ []
 none_left [] h = refl
 none_left (x ∷ b) h = cc
 
-pub gained_step : (o : Outside) (s : ProofStep) → is_whole o.told ≡ true → HasProofText s → steps_told (gained Proof (step_line s) o) ≡ with_next s (steps_told o)
-gained_step o s w h = elim o.told as (λ x. is_whole x ≡ true → option_map (λ t. told_steps t.written.proof) (option_map (append_on Proof (step_line s)) x) ≡ with_next s (option_map (λ t. told_steps t.written.proof) x)) [
-  | None ↦ λ k. refl
-  | Some t ↦ λ k. ap Some (told_step t.written.proof s (none_left _ k) h)
-] w
+pub gained_step : (o : Outside) (s : ProofStep) → is_whole o ≡ true → HasProofText s → steps_told (gained Proof (step_line s) o) ≡ with_next s (steps_told o)
+gained_step o s w h = ap Some (told_step o.written.proof s (none_left _ w) h)
 
-pub gained_whole : (o : Outside) (s : ProofStep) → is_whole o.told ≡ true → HasProofText s → is_whole (gained Proof (step_line s) o).told ≡ true
-gained_whole o s w h = elim o.told as (λ x. is_whole x ≡ true → is_whole (option_map (append_on Proof (step_line s)) x) ≡ true) [
-  | None ↦ λ k. refl
-  | Some t ↦ λ k. ap is_none (step_ends t.written.proof s (none_left _ k) h)
-] w
+pub gained_whole : (o : Outside) (s : ProofStep) → is_whole o ≡ true → HasProofText s → is_whole (gained Proof (step_line s) o) ≡ true
+gained_whole o s w h = ap is_none (step_ends o.written.proof s (none_left _ w) h)
 
 gained_front : (o : Outside) (s : ProofStep) (k : ℕ) → HasProofText s → k < length (step_line s) → steps_told (gained Proof (take k (step_line s)) o) ≡ steps_told o
-gained_front o s k h low = elim o.told as (λ x. option_map (λ t. told_steps t.written.proof) (option_map (append_on Proof (take k (step_line s))) x) ≡ option_map (λ t. told_steps t.written.proof) x) [
-  | None ↦ refl
-  | Some t ↦ ap Some (told_front t.written.proof s k h low)
-]
+gained_front o s k h low = ap Some (told_front o.written.proof s k h low)
 
 pub torn_told : (old new : Outside) (s : ProofStep) → HasProofText s → Fails Proof (step_line s) old new → steps_told new ≡ steps_told old
 torn_told old new s h (k, low, fault) = ap steps_told fault.else_same ∙ gained_front old s k h low
 
 -- what a sink did, by what it tells: the port gained the lines of the steps that it tells besides
-pub gained_proof : (o : Outside) (steps : List ProofStep) → is_whole o.told ≡ true → AllByRecursion HasProofText steps → steps_told (gained Proof (printed_proof steps) o) ≡ option_map (λ all. all ++ steps) (steps_told o)
-gained_proof o steps w h = elim o.told as (λ x. is_whole x ≡ true → option_map (λ t. told_steps t.written.proof) (option_map (append_on Proof (printed_proof steps)) x) ≡ option_map (λ all. all ++ steps) (option_map (λ t. told_steps t.written.proof) x)) [
-  | None ↦ λ k. refl
-  | Some t ↦ λ k. ap Some (told_proof t.written.proof steps (none_left _ k) h)
-] w
+pub gained_proof : (o : Outside) (steps : List ProofStep) → is_whole o ≡ true → AllByRecursion HasProofText steps → steps_told (gained Proof (printed_proof steps) o) ≡ option_map (λ all. all ++ steps) (steps_told o)
+gained_proof o steps w h = ap Some (told_proof o.written.proof steps (none_left _ w) h)

@@ -1,8 +1,8 @@
 -- The steps that a port was given, and what a sink that prints on it does to the outside.
-use Rattle.std.specs.Prelude.{◌≡◌, ◌==◌, ◌<◌, ℕ, Bool, true, false, cond, List, [], ◌∷◌, ◌++◌, flat_map, length, take, Option, Some, None, option_map, IfSome}
+use Rattle.std.specs.Prelude.{◌≡◌, ◌==◌, ◌<◌, ℕ, Bool, true, false, cond, List, [], ◌∷◌, ◌++◌, flat_map, length, take, Option, Some}
 use Rattle.std.specs.List.{AllByRecursion}
 use Rattle.cx_desk.specs.declared.desk.Port.TheVariants.{Proof}
-use Rattle.cx_desk.specs.Outside.{Bytes, Told, Outside}
+use Rattle.cx_desk.specs.Outside.{Bytes, Outside}
 use Rattle.cx_desk.specs.Calls.{gained, WriteFaulted}
 use Rattle.cx_base.specs.declared.steps.ProofStep.{ProofStep}
 use Rattle.cx_texts.specs.Tokens.{tokens}
@@ -31,23 +31,22 @@ abbrev pub told_steps : Bytes → List ProofStep
 told_steps text = flat_map steps_read (whole_lines [] text)
 
 abbrev pub steps_told : Outside → Option (List ProofStep)
-steps_told o = option_map (λ t. told_steps t.written.proof) o.told
+steps_told o = Some (told_steps o.written.proof)
 
 -- no line is begun on the proof port
 abbrev pub is_none : Bytes → Bool
 is_none [] = true
 is_none (b ∷ bytes) = false
 
-abbrev pub is_whole : Option Told → Bool
-is_whole None = true
-is_whole (Some t) = is_none (begun_line [] t.written.proof)
+abbrev pub is_whole : Outside → Bool
+is_whole o = is_none (begun_line [] o.written.proof)
 
 abbrev pub step_line : ProofStep → Bytes
 step_line step = printed_line (spelling proof_steps step)
 
 -- behind whole lines stands a front of the step's line that is not all of it
 abbrev pub TornOn : ProofStep → Outside → Type 0
-TornOn step o = HasProofText step × IfSome o.told (λ t. (before : Bytes) × (k : ℕ) × (begun_line [] before ≡ []) × (k < length (step_line step)) × (t.written.proof ≡ before ++ take k (step_line step)))
+TornOn step o = HasProofText step × ((before : Bytes) × (k : ℕ) × (begun_line [] before ≡ []) × (k < length (step_line step)) × (o.written.proof ≡ before ++ take k (step_line step)))
 
 -- the proof port gained the lines of these steps, and nothing else changed
 pub record Prints (old new : Outside) : Type 0 where

@@ -2,7 +2,7 @@
 ghost use Rattle.std.specs.Prelude.{◌≡◌, true, false, OnOk, OnErr, IfErr};
 ghost use Rattle.cx_texts.specs.Printed.{HasProofText};
 ghost use Rattle.step_text.specs.Sinks.{with_next, SinkFaultsAs, HasFailedAs, OnFailed};
-ghost use Rattle.step_text.specs.declared.sink.SinkFault.TheVariants.{Memory};
+ghost use Rattle.step_text.specs.declared.sink.SinkFault.TheVariants as fault;
 ghost use Rattle.proof_text.specs.Told.{steps_told, is_whole, fault_of, TornOn, Goes};
 
 use crate::print::put_proof_step;
@@ -11,29 +11,27 @@ use cx_desk::{Desk, Failed, Port};
 use step_text::pieces::LineSheet;
 use step_text::{Sink, SinkFault};
 
-/// Prints a step on the Proof port of a desk, unless an earlier one failed: then it writes nothing and answers `Memory`. The sheet
-/// is for its memory alone.
+/// Prints a step on the Proof port of a desk where none failed before, and notes whether this one did. The sheet is for its memory
+/// alone.
 #[inline(always)]
-pub fn put_step_unless_failed<D: Desk>(
+pub fn put_step<D: Desk>(
     sheet: &mut LineSheet,
     desk: &mut D,
     failed: &mut bool,
     step: &ProofStep,
 ) -> Result<(), SinkFault>
     requires text { HasProofText step.now }
-    requires whole { failed.old ≡ false → is_whole (D.outside desk.old).told ≡ true }
+    requires going { failed.old ≡ false }
+    requires whole { is_whole (D.outside desk.old) ≡ true }
     ensures told { OnOk result (steps_told (D.outside desk.new) ≡ with_next step.now (steps_told (D.outside desk.old))) }
     ensures same { OnErr result (steps_told (D.outside desk.new) ≡ steps_told (D.outside desk.old)) }
     ensures torn { OnFailed result (TornOn step.now (D.outside desk.new)) }
     ensures faults { SinkFaultsAs result (fault_of failed.old) (fault_of failed.new) }
     ensures failed { HasFailedAs result failed.old failed.new }
-    ensures memory { IfErr result (λ e. e ≡ Memory → failed.old ≡ true) }
+    ensures no_memory { IfErr result (λ e. e ≡ fault.Failed) }
     ensures goes { Goes failed.old (D.outside desk.old) failed.new (D.outside desk.new) }
-    ensures whole { failed.new ≡ false → is_whole (D.outside desk.new).told ≡ true }
+    ensures whole { failed.new ≡ false → is_whole (D.outside desk.new) ≡ true }
 {
-    if *failed {
-        return Err(SinkFault::Memory);
-    }
     match put_proof_step(sheet, desk, Port::Proof, step) {
         Ok(()) => Ok(()),
         Err(Failed) => {
@@ -45,8 +43,7 @@ pub fn put_step_unless_failed<D: Desk>(
 
 /// A sink that prints each step on the proof port of a lent desk at once. It takes no memory.
 ///
-/// Where the desk tells its bytes, it tells the steps of the port's whole lines. It counts one fault
-/// at most: after that it takes nothing more, and answers `Memory`, which it does nowhere else.
+/// It tells the steps of the port's whole lines. It counts one fault at most: it is not asked again after that.
 #[derive(Drop)]
 pub struct DeskProof<'a, D: Desk> {
     desk: &'a mut D,
@@ -54,13 +51,13 @@ pub struct DeskProof<'a, D: Desk> {
     sheet: LineSheet,
     failed: bool,
     // between two steps no line is begun
-    ghost whole: { failed ≡ false → is_whole (D.outside desk.now).told ≡ true },
+    ghost whole: { failed ≡ false → is_whole (D.outside desk.now) ≡ true },
 }
 
 impl<'a, D: Desk> DeskProof<'a, D> {
     /// A sink over a desk on whose proof port no line is begun.
     pub fn new(desk: &'a mut D) -> DeskProof<'a, D>
-        requires { is_whole (D.outside desk.old).told ≡ true }
+        requires { is_whole (D.outside desk.old) ≡ true }
         ensures same_desk { result.desk.ghost_name ≡ desk.entry.ghost_name }
         ensures outside { D.outside result.desk.now ≡ D.outside desk.entry.now }
         ensures whole { result.failed ≡ false }
@@ -91,18 +88,19 @@ impl<D: Desk> Sink for DeskProof<'_, D> {
 
     ghost keeps = { λ a b. (b.desk.ghost_name ≡ a.desk.ghost_name) × Goes a.failed (D.outside a.desk.now) b.failed (D.outside b.desk.now) };
 
-    /// Prints the step. `Memory` is answered only where an earlier step failed.
+    /// Prints the step. `Memory` is never answered.
     fn put(&mut self, step: &ProofStep) -> Result<(), SinkFault>
         requires text { HasProofText step.now }
+        requires going { self.old.failed ≡ false }
         ensures told { OnOk result (steps_told (D.outside self.new.desk.now) ≡ with_next step.now (steps_told (D.outside self.old.desk.now))) }
         ensures same { OnErr result (steps_told (D.outside self.new.desk.now) ≡ steps_told (D.outside self.old.desk.now)) }
         ensures torn { OnFailed result (TornOn step.now (D.outside self.new.desk.now)) }
         ensures faults { SinkFaultsAs result (fault_of self.old.failed) (fault_of self.new.failed) }
         ensures failed { HasFailedAs result self.old.failed self.new.failed }
-        ensures memory { IfErr result (λ e. e ≡ Memory → self.old.failed ≡ true) }
+        ensures no_memory { IfErr result (λ e. e ≡ fault.Failed) }
         ensures frame { (self.new.desk.ghost_name ≡ self.old.desk.ghost_name) × Goes self.old.failed (D.outside self.old.desk.now) self.new.failed (D.outside self.new.desk.now) }
     {
-        put_step_unless_failed(&mut self.sheet, self.desk, &mut self.failed, step)
+        put_step(&mut self.sheet, self.desk, &mut self.failed, step)
     }
 
     ghost keeps_itself = { λ a. (refl, goes_itself a.failed (D.outside a.desk.now)) };

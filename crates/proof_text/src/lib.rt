@@ -8,7 +8,7 @@ mod proof_list;
 mod steps;
 
 pub use cx_base::ProofStep;
-pub use desk_proof::{DeskProof, put_step_unless_failed};
+pub use desk_proof::{DeskProof, put_step};
 pub use list_proof::ListProof;
 pub use print::put_proof_step;
 pub use proof_list::ProofList;

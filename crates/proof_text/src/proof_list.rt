@@ -45,14 +45,16 @@ impl ProofList {
 impl StepSource for ProofList {
     type Step = ProofStep;
 
-    ghost use Rattle.std.specs.Prelude.{None, Some, false, refl};
+    ghost use Rattle.std.specs.Prelude.{None, Some, false, refl, ⊤, []};
     ghost use Rattle.cx_base.specs.Endings.{finished};
     ghost use Rattle.step_text.specs.Lists.{LeavesList, last_place, GaveFront};
     ghost use Rattle.step_text.specs.ListLaws.{gave_nothing, gave_on};
 
-    ghost leaves = { LeavesList };
+    ghost may_read = { λ _ _. ⊤ };
 
-    ghost passes_limit = { λ _. Some false };
+    ghost leaves = { λ l _. LeavesList l };
+
+    ghost passes_limit = { λ _ _. Some false };
 
     ghost is_spent = { λ _. false };
 
@@ -80,7 +82,9 @@ impl StepSource for ProofList {
         self.given
     }
 
-    ghost leaves_some = { λ l. (l.steps, finished, (refl, refl)) };
+    ghost has_text = { λ _. ([], tt) };
+
+    ghost leaves_some = { λ l _ _. (l.steps, finished, (refl, refl)) };
 
     ghost keeps_itself = { gave_nothing };
 

@@ -1,5 +1,5 @@
 -- What `trim` answers.
-use Rattle.std.specs.Prelude.{◌≡◌, ◌<◌, ◌≤◌, ◌^◌, ℕ, Bool, List, ◌++◌, length, nat_eq, Result, Ok, Err, ⊤}
+use Rattle.std.specs.Prelude.{◌≡◌, ◌≤◌, ℕ, Bool, List, ◌++◌, length, nat_eq, Result, Ok, Err, ⊤}
 use Rattle.std.specs.List.{list_any}
 use Rattle.cx_base.specs.Problem.{Problem, clauses_of, parities_of}
 use Rattle.cx_base.specs.Endings.{Ending}
@@ -14,8 +14,6 @@ use Rattle.proof_trim.specs.NameSets.{has_name, name_of}
 use Rattle.proof_trim.specs.Trimmed.{trimmed}
 use Rattle.proof_trim.specs.Laws.{IsRefutation}
 use Rattle.proof_trim.specs.declared.names.NameSet.{NameSet}
-use Rattle.proof_trim.specs.declared.recording.Recorded.{Recorded}
-use Rattle.proof_trim.specs.declared.recording.Recorded.TheVariants as recorded
 use Rattle.proof_trim.specs.declared.outcome.Trimmed.{Trimmed}
 use Rattle.proof_trim.specs.declared.outcome.TrimOf.{TrimOf}
 use Rattle.proof_trim.specs.declared.outcome.TrimOf.TheVariants.{Done, Refused}
@@ -50,11 +48,6 @@ pub record Trims (formula : Problem) (proof : List ProofStep) (t : Trimmed) : Ty
 -- this is left of the proof that the source had
 abbrev pub IsTrimOf : {X : Type 0} → (X → List ProofStep → Ending → Type 0) → Problem → X → Trimmed → Type 0
 IsTrimOf leaves formula source t = (proof : List ProofStep) × HasRefutation leaves formula source proof × Trims formula proof t
-
--- the steps of the source were recorded up to the one that ends them, or they are refused
-abbrev pub IsRecorded : {X : Type 0} → (X → List ProofStep → Ending → Type 0) → Problem → X → Recorded → Type 0
-IsRecorded leaves formula source (recorded.Accepted proof) = HasRefutation leaves formula source proof.items × (length proof.items < 2 ^ 62)
-IsRecorded leaves formula source (recorded.Refused k cause) = IsJudgedBy leaves formula source (verdict.Refused k cause)
 
 -- the numbers up to this count, rising, whose names are in the set
 pub record ListsNames (names : NameSet) (kind : Kind) (count : ℕ) (numbers : List ℕ) : Type 0 where

@@ -1,5 +1,5 @@
 //! The trimming of a proof.
-ghost use Rattle.std.specs.Prelude.{◌≡◌, ◌<◌, ◌^◌, false, length, IfOk, IfErr};
+ghost use Rattle.std.specs.Prelude.{◌≡◌, ◌<◌, ◌^◌, ℕ, List, false, length, IfOk, IfErr};
 ghost use Rattle.cx_base.specs.Problem.{Unmet};
 ghost use Rattle.xlrup_check.specs.Verdicts.{HasCause, ReadsStand};
 ghost use Rattle.proof_trim.specs.Laws.{IsRefutation};
@@ -10,13 +10,13 @@ use crate::back::{Found, go_back};
 use crate::keep::keep;
 use crate::names::NameSet;
 use crate::outcome::{TrimOf, Trimmed};
-use crate::recording::{Recorded, check_and_record};
+use crate::recording::StepStore;
 use cx_base::{Formula, IdList, ProofStep};
 use proof_rules::Kind;
 use proof_text::ProofList;
 use std::alloc::{AllocError, Global};
 use step_text::StepSource;
-use xlrup_check::Fault;
+use xlrup_check::{Fault, Verdict, check_and_record};
 
 /// The numbers up to this count, rising, whose names are in the set.
 fn numbers_in(
@@ -68,17 +68,19 @@ pub fn trim<S: StepSource<Step = ProofStep>>(
     source: &mut S,
 ) -> Result<TrimOf, Fault>
     requires { S.is_spent source.old ≡ false }
-    ensures judged { IfOk result (AnswersAsJudged S.leaves formula.now source.old) }
-    ensures trimmed { WhereDone result (IsTrimOf S.leaves formula.now source.old) }
+    ensures judged { (text : List ℕ) → S.may_read source.new text → IfOk result (AnswersAsJudged (λ a. S.leaves a text) formula.now source.old) }
+    ensures trimmed { (text : List ℕ) → S.may_read source.new text → WhereDone result (IsTrimOf (λ a. S.leaves a text) formula.now source.old) }
     ensures accepted { WhereDone result (λ t. IsRefutation formula.now t.steps.steps) }
     ensures core { WhereDone result (λ t. Unmet (core_of formula.now t.clauses t.parities)) }
-    ensures cause { IfErr result (HasCause (S.passes_limit source.old) (S.faults source.old) (S.faults source.new)) }
+    ensures cause { (text : List ℕ) → S.may_read source.new text → IfErr result (HasCause (S.passes_limit source.old text) (S.faults source.old) (S.faults source.new)) }
+    ensures narrows { (text : List ℕ) → S.may_read source.new text → S.may_read source.old text }
     ensures reads { ReadsStand result (S.faults source.old) (S.faults source.new) }
     ensures frame { S.keeps source.old source.new }
 {
-    match check_and_record(alloc, formula, source)? {
-        Recorded::Refused(number, cause) => Ok(TrimOf::Refused(number, cause)),
-        Recorded::Accepted(proof) => match trimmed_of(alloc, formula, proof) {
+    let mut store = StepStore::new(alloc);
+    match check_and_record(alloc, formula, source, &mut store)? {
+        Verdict::Refused(number, cause) => Ok(TrimOf::Refused(number, cause)),
+        Verdict::Verified(_) => match trimmed_of(alloc, formula, store.into_steps()) {
             Ok(trimmed) => Ok(TrimOf::Done(trimmed)),
             Err(_) => Err(Fault::Memory),
         },

@@ -1,7 +1,6 @@
 //! Runs of the program, each over a desk of its own with two files.
 ghost use Rattle.std.specs.Prelude.{◌≤◌};
 ghost use Rattle.solve_cli.specs.Commands.{Unasked};
-ghost use Rattle.solve_cli.specs.Seen.{seen};
 ghost use Rattle.solve_cli.specs.Steps.{HasNoProof};
 
 use cx_desk::{Desk, MemDesk, NamedFile, Port, Rooms};
@@ -140,7 +139,7 @@ pub(crate) fn status_over<D: Desk>(
     desk: &mut D,
 ) -> Result<u8, AllocError>
     requires fresh { Unasked (D.outside desk.old).asked }
-    requires empty { HasNoProof (seen (D.outside desk.old)) }
+    requires empty { HasNoProof (D.outside desk.old) }
 {
     let words = words_of(alloc, line)?;
     Ok(run_within(alloc, words, u64::from(limit), desk).code())

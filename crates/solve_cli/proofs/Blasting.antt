@@ -1,5 +1,5 @@
 -- From the steps of `blast` to what it does.
-use Rattle.std.proofs.Common.{◌≡◌, ◌≤◌, ℕ, [], length, take, drop, IfSome, inr, refl, ap, sym, subst, ◌∙◌, arith}
+use Rattle.std.proofs.Common.{◌≡◌, ◌≤◌, ℕ, [], length, take, drop, Option, IfSome, inr, refl, ap, sym, subst, ◌∙◌, arith}
 use Rattle.std.proofs.lemmas.List.{take-append-drop}
 use Rattle.std.proofs.lemmas.Option.{IfSome_then}
 use Rattle.cx_base.specs.Problem.{Problem, clauses_of}
@@ -23,7 +23,7 @@ use Rattle.solve_cli.specs.Commands.{second_started, proof_created, asked_to}
 use Rattle.solve_cli.specs.Blasting.{IsInClauses, BlastFails, IsBlastedText}
 use Rattle.solve_cli.specs.Happens.{FormulaRead, Judged, Due, Ends, MayWrite, Works}
 use Rattle.solve_cli.proofs.Gaining.{write_fault}
-use Rattle.solve_cli.proofs.Works.{seen-gained, says-none, all_files, formula_in, stopped}
+use Rattle.solve_cli.proofs.Works.{says-none, all_files, formula_in, stopped}
 
 too_many_text : (number : ℕ) → answer_text (ending.TooManyVariables number) ≡ []
 unfolding answer_text
@@ -59,7 +59,7 @@ module _ (name out : Bytes) (limit : ℕ) (old : Seen) (f : Problem) (read : IfS
     pub may_write : MayWrite Blast limit old
     may_write = IfSome_then old.files read (λ files r. (f, r, in_clauses.within))
 
-    module _ (at : Outside) (created : seen at ≡ creates out (asks slot.Formula name old)) where
+    module _ (w : Option Files) (at : Outside) (created : seen w at ≡ creates out (asks slot.Formula name old)) where
       abbrev text : Bytes
       text = printed_formula made
 
@@ -68,7 +68,7 @@ module _ (name out : Bytes) (limit : ℕ) (old : Seen) (f : Problem) (read : IfS
 
       -- the text was written
       pub blast_ends : (variables clauses : ℕ) (new : Outside) → variables ≡ made.variables → clauses ≡ length (clauses_of made.constraints) → Reads text made → new ≡ gained port.Proof text at
-          → Ends Blast limit old (ending.Blasted variables clauses) (seen new)
+          → Ends Blast limit old (ending.Blasted variables clauses) (seen w new)
       blast_ends variables clauses new many count reads moved = record {
         own = tt;
         reaches = formula_in Blast limit old f read;
@@ -87,11 +87,11 @@ module _ (name out : Bytes) (limit : ℕ) (old : Seen) (f : Problem) (read : IfS
             extends = subst (ExtendInOneWay f) in_clauses.made_is in_clauses.extends;
           },
         ));
-        before_is = ap seen moved ∙ (seen-gained port.Proof text at ∙ ap (says port.Proof text) created);
+        before_is = ap (seen w) moved ∙ ap (says port.Proof text) created;
       }
 
       -- a prefix of the text was written
-      pub blast_cut : (k : ℕ) (new : Outside) → WriteFaulted (gained port.Proof (take k text) at) new → Works Blast limit old outcome.WriteFault (seen new)
+      pub blast_cut : (k : ℕ) (new : Outside) → WriteFaulted (gained port.Proof (take k text) at) new → Works Blast limit old outcome.WriteFault (seen w new)
       blast_cut k new fault =
           let front = take k text in
           inr (inr (record {
@@ -106,5 +106,5 @@ module _ (name out : Bytes) (limit : ℕ) (old : Seen) (f : Problem) (read : IfS
               at_is = refl;
             };
             created = refl;
-            fault = subst (λ (s : Seen). WriteFault (says port.Proof front s) (seen new)) created (write_fault front at new fault);
+            fault = subst (λ (s : Seen). WriteFault (says port.Proof front s) (seen w new)) created (write_fault w front at new fault);
           }))

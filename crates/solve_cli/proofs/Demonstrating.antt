@@ -1,5 +1,6 @@
 -- From the search of a planted instance to what `demo` does.
 use Rattle.std.proofs.Common.{◌≡◌, ◌<◌, ◌≤◌, ℕ, Bool, true, false, cond, List, [], ◌++◌, length, take, Option, Some, inr, refl, sym, subst, ap, ◌∙◌, append-nil, arith}
+use Rattle.cx_base.specs.Counts.{Rose}
 use Rattle.cx_base.specs.Problem.{Problem}
 use Rattle.cx_semantics.specs.declared.cause.Cause.{Cause}
 use Rattle.cx_base.specs.declared.steps.LogEvent.{LogEvent}
@@ -15,14 +16,19 @@ use Rattle.cx_texts.specs.ProofText.{ProofReads}
 use Rattle.cx_semantics.proofs.Deciding.{proof_rules_decided}
 use Rattle.cx_judgements.proofs.OneJudgement.{one_log_judgement}
 use Rattle.cx_semantics.proofs.JudgingLaws.{one_judgement}
-use Rattle.fratx_elab.specs.Outcomes.{IsElaborated, IsProofWritten}
+use Rattle.fratx_elab.specs.Outcomes.{IsElaborated, IsProofWritten, HasCause as IsCausedBy}
 use Rattle.fratx_elab.specs.declared.outcome.Elab.{Elab}
 use Rattle.fratx_elab.specs.declared.outcome.Elab.TheVariants as elab
+use Rattle.fratx_elab.specs.declared.outcome.ElabFault.{ElabFault}
+use Rattle.fratx_elab.specs.declared.outcome.ElabFault.TheVariants as cut
+use Rattle.xlrup_check.specs.Verdicts.{HasCause}
+use Rattle.xlrup_check.specs.declared.verdict.Fault.{Fault}
+use Rattle.xlrup_check.specs.declared.verdict.Fault.TheVariants as checked
 use Rattle.step_text.specs.Lists.{StepsLeft, LeavesList}
 use Rattle.inst_gen.specs.declared.kind.Kind.{Kind}
 use Rattle.inst_gen.specs.Planting.{planted_formula}
 use Rattle.cx_desk.specs.declared.desk.Port.TheVariants as port
-use Rattle.cx_desk.specs.Outside.{Bytes, Outside}
+use Rattle.cx_desk.specs.Outside.{Bytes, Files, Outside}
 use Rattle.cx_desk.specs.Calls.{gained, WriteFaulted}
 use Rattle.cx_words.specs.Words.{Asks}
 use Rattle.cx_words.specs.declared.plans.Plan.{Plan}
@@ -44,7 +50,7 @@ use Rattle.solve_cli.proofs.Gaining.{write_fault}
 use Rattle.solve_cli.proofs.Logging.{front_so_far}
 use Rattle.solve_cli.proofs.Planted.{may_show}
 use Rattle.solve_cli.proofs.Searching.{found, is_right, has_low_ids, has_no_mark}
-use Rattle.solve_cli.proofs.Works.{all_files, seen-gained, stopped, answered}
+use Rattle.solve_cli.proofs.Works.{all_files, stopped, answered}
 
 -- ---- the log and its proof
 
@@ -92,19 +98,19 @@ verified_log f text log proof reads printed h = (
 
 -- ---- the writes
 
-module _ (kind : Kind) (size seed limit : ℕ) (events : List LogEvent) (e : Ending) (mid : Outside) (finds : ComesTo (planted_formula kind size seed) demo_budget events e) where
+module _ (kind : Kind) (size seed limit : ℕ) (events : List LogEvent) (e : Ending) (w : Option Files) (mid : Outside) (finds : ComesTo (planted_formula kind size seed) demo_budget events e) where
   abbrev F : Problem
   F = planted_formula kind size seed
 
   abbrev Demo : Plan
   Demo = plan.Demo kind size seed
 
-  stops : (front : Bytes) → IsLogSoFar F front → Stops Demo limit (seen mid) (says port.Proof front (seen mid))
+  stops : (front : Bytes) → IsLogSoFar F front → Stops Demo limit (seen w mid) (says port.Proof front (seen w mid))
   stops front so_far = record {
     stage = proof_created;
-    reaches = all_files (seen mid).files (λ files. (F, refl));
+    reaches = all_files (seen w mid).files (λ files. (F, refl));
     proof = front;
-    so_far = all_files (seen mid).files (λ files. so_far);
+    so_far = all_files (seen w mid).files (λ files. so_far);
     at_is = refl;
   }
 
@@ -112,34 +118,41 @@ module _ (kind : Kind) (size seed limit : ℕ) (events : List LogEvent) (e : End
   front k = let have = found F demo_budget events e finds in front_so_far F (printed_log events) k (is_right F demo_budget (printed_log events) e have) (has_low_ids F demo_budget (printed_log events) e have) (has_no_mark F demo_budget (printed_log events) e have)
 
   -- a front of the log was written
-  pub demo_cut : (new : Outside) → (k : ℕ) × (k < length (printed_log events)) × WriteFaulted (gained port.Proof (take k (printed_log events)) mid) new → Works Demo limit (seen mid) outcome.WriteFault (seen new)
+  pub demo_cut : (new : Outside) → (k : ℕ) × (k < length (printed_log events)) × WriteFaulted (gained port.Proof (take k (printed_log events)) mid) new → Works Demo limit (seen w mid) outcome.WriteFault (seen w new)
   unfolding stops
-  demo_cut new h = inr (inr (record { writes = refl; may_write = tt; at = says port.Proof (take h.0 (printed_log events)) (seen mid); stops = stops (take h.0 (printed_log events)) (front h.0); created = refl; fault = write_fault (take h.0 (printed_log events)) mid new h.2 }))
+  demo_cut new h = inr (inr (record { writes = refl; may_write = tt; at = says port.Proof (take h.0 (printed_log events)) (seen w mid); stops = stops (take h.0 (printed_log events)) (front h.0); created = refl; fault = write_fault w (take h.0 (printed_log events)) mid new h.2 }))
 
   -- the log was written, and memory was wanted behind it
-  pub demo_wanted : (at : Outside) → at ≡ gained port.Proof (printed_log events) mid → Works Demo limit (seen mid) outcome.Memory (seen at)
+  pub demo_wanted : (at : Outside) → at ≡ gained port.Proof (printed_log events) mid → Works Demo limit (seen w mid) outcome.Memory (seen w at)
   demo_wanted at moved =
       let have = found F demo_budget events e finds in
       let whole : IsLogSoFar F (printed_log events) = record { log = printed_log events; right = is_right F demo_budget (printed_log events) e have; ids = has_low_ids F demo_budget (printed_log events) e have; settled = has_no_mark F demo_budget (printed_log events) e have; rest = []; front = append-nil (printed_log events) } in
-      subst (λ (s : Seen). Stops Demo limit (seen mid) s) (sym (ap seen moved ∙ seen-gained port.Proof (printed_log events) mid)) (stops (printed_log events) whole)
+      subst (λ (s : Seen). Stops Demo limit (seen w mid) s) (sym (ap (seen w) moved)) (stops (printed_log events) whole)
 
   -- the log was written, and the lines or a front of them
   pub demo_answered : (x : Shown) (at : Outside) (o : Outcome) (new : Seen) → Stands F (printed_log events) x → at ≡ gained port.Proof (printed_log events) mid
-      → PutsAnswer (ending.Demonstrated (instance_of kind size seed) x) (seen at) o new → Works Demo limit (seen mid) o new
+      → PutsAnswer (ending.Demonstrated (instance_of kind size seed) x) (seen w at) o new → Works Demo limit (seen w mid) o new
   demo_answered x at o new stands moved answers =
       let may = may_show kind size seed x stands.0 in
       let none : 0 ≤ limit = omega arith in
       let lines = ending.Demonstrated (instance_of kind size seed) x in
-      let ends : Ends Demo limit (seen mid) lines (says port.Proof (printed_log events) (seen mid)) = record {
+      let ends : Ends Demo limit (seen w mid) lines (says port.Proof (printed_log events) (seen w mid)) = record {
         own = (refl, may);
-        reaches = all_files (seen mid).files (λ files. (F, refl));
-        due = all_files (seen mid).files (λ files. inr (record { formula = F; is_formula = refl; due = inr (none, (refl, may, stands.0)) }));
+        reaches = all_files (seen w mid).files (λ files. (F, refl));
+        due = all_files (seen w mid).files (λ files. inr (record { formula = F; is_formula = refl; due = inr (none, (refl, may, stands.0)) }));
         proof = printed_log events;
-        gains = all_files (seen mid).files (λ files. stands.1);
+        gains = all_files (seen w mid).files (λ files. stands.1);
         before_is = refl;
       } in
-      answered Demo limit (seen mid) lines (seen at) o new
-      (subst (Ends Demo limit (seen mid) lines) (sym (ap seen moved ∙ seen-gained port.Proof (printed_log events) mid)) ends) answers
+      answered Demo limit (seen w mid) lines (seen w at) o new
+      (subst (Ends Demo limit (seen w mid) lines) (sym (ap (seen w) moved)) ends) answers
+
+-- a list counts no fault of reading
+pub not_read : (e : Fault) (passes : Option Bool) → e ≡ checked.Read → HasCause passes 0 0 e → ⊥
+not_read e passes is h = let rose : Rose 0 0 = subst (λ (x : Fault). HasCause passes 0 0 x) is h in absurd (omega (arith, rose))
+
+pub not_read_from : (e : ElabFault) (passes : Option Bool) (before now : ℕ) → e ≡ cut.Read → IsCausedBy passes 0 0 before now e → ⊥
+not_read_from e passes before now is h = let rose : Rose 0 0 = subst (λ (x : ElabFault). IsCausedBy passes 0 0 before now x) is h in absurd (omega (arith, rose))
 
 -- nothing was done
 pub demo_none : (kind : Kind) (size seed limit : ℕ) (old : Seen) → Works (plan.Demo kind size seed) limit old outcome.Memory old

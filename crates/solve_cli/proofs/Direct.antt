@@ -1,7 +1,7 @@
 -- What a run says in single clauses: the causes of the faults and of a refusal of the words, completeness.
-use Rattle.std.proofs.Common.{◌≡◌, ◌⊎◌, ℕ, List, option_map, take, Option, Some, None, IfSome, inl, inr, refl, ap, sym, subst, ◌∙◌}
+use Rattle.std.proofs.Common.{◌≡◌, ◌⊎◌, ℕ, List, take, inl, inr, refl, ap, sym, subst, ◌∙◌}
 use Rattle.cx_desk.specs.declared.desk.Port.TheVariants as port
-use Rattle.cx_desk.specs.Outside.{Bytes, Written}
+use Rattle.cx_desk.specs.Outside.{Bytes}
 use Rattle.cx_base.specs.Counts.{Rose}
 use Rattle.cx_words.specs.Words.{Asks, Refuses}
 use Rattle.cx_words.specs.declared.plans.Plan.{Plan}
@@ -12,33 +12,15 @@ use Rattle.solve_cli.specs.declared.ending.Outcome.TheVariants as outcome
 use Rattle.solve_cli.specs.declared.ending.Status.{Status}
 use Rattle.solve_cli.specs.declared.ending.Status.TheVariants as status
 use Rattle.solve_cli.specs.Endings.{status_of, message_text}
-use Rattle.solve_cli.specs.Seen.{Seen, says, creates}
+use Rattle.solve_cli.specs.Seen.{Seen, says}
 use Rattle.solve_cli.specs.Commands.{second_started, asked_to}
 use Rattle.solve_cli.specs.Happens.{end_stage, Ends, Stops, Works, WorksFor, PutsMessage, Runs, Comes}
 use Rattle.solve_cli.proofs.Outcomes.{outcome_of}
 use Rattle.solve_cli.proofs.Works.{faults_at}
 
--- what stands on the Proof port
-abbrev pub proof_in : Seen → Option Bytes
-proof_in s = option_map (λ (w : Written). w.proof) s.written
-
-pub said_answer : (text : Bytes) (s : Seen) → proof_in (says port.Answer text s) ≡ proof_in s
-said_answer text s = elim s.written as (λ v. proof_in (says port.Answer text (record s { written = v })) ≡ proof_in (record s { written = v })) [ None ↦ refl | Some w ↦ refl ]
-
-said_message : (text : Bytes) (s : Seen) → proof_in (says port.Message text s) ≡ proof_in s
-said_message text s = elim s.written as (λ v. proof_in (says port.Message text (record s { written = v })) ≡ proof_in (record s { written = v })) [ None ↦ refl | Some w ↦ refl ]
-
--- a created port has just what it gained
-pub gained_proof : (name text : Bytes) (s : Seen) → proof_in (says port.Proof text (creates name s)) ≡ option_map (λ (w : Written). text) s.written
-gained_proof name text s = elim s.written as (λ v. proof_in (says port.Proof text (creates name (record s { written = v }))) ≡ option_map (λ (w : Written). text) v) [ None ↦ refl | Some w ↦ refl ]
-
-pub if_proof : (P : Bytes → Type 0) (v : Option Written) → IfSome (option_map (λ (w : Written). w.proof) v) P → IfSome v (λ w. P w.proof)
-if_proof P None h = tt
-if_proof P (Some w) h = h
-
-pub if_written : (P : Bytes → Type 0) (v : Option Written) (text : Bytes) → P text → IfSome (option_map (λ (w : Written). text) v) P
-if_written P None text h = tt
-if_written P (Some w) text h = h
+-- what the Proof port took
+abbrev pub proof_in : Seen → Bytes
+proof_in s = s.written.proof
 
 -- what a message leaves of the faults and the proof
 pub record Kept (old new : Seen) : Type 0 where
@@ -47,7 +29,7 @@ pub record Kept (old new : Seen) : Type 0 where
   pub proof : proof_in new ≡ proof_in old
 
 said : (text : Bytes) (s : Seen) → Kept s (says port.Message text s)
-said text s = record { faults_reads = refl; faults_writes = refl; proof = said_message text s }
+said text s = record { faults_reads = refl; faults_writes = refl; proof = refl }
 
 message_keeps : (text : Bytes) (old new : Seen) → PutsMessage text old new → Kept old new
 message_keeps text old new (inl e) = subst (Kept old) (sym e) (said text old)

@@ -1,12 +1,13 @@
 -- There is one trimming of a proof: the least closed set is one set, and two rising lists with the same members are one list.
-use Rattle.std.proofs.Common.{◌≡◌, refl, sym, ap, ◌∙◌, subst, ℕ, suc, ◌+◌, ◌<◌, ◌≤◌, Bool, true, false, ◌||◌, nat_eq, eqb-true, List, [], ◌∷◌, ◌++◌, length, IsTrue, ◌↔◌, ◌⊎◌, inl, inr, true≢false, arith, take}
+use Rattle.std.proofs.Common.{◌≡◌, refl, sym, ap, ◌∙◌, subst, ℕ, suc, ◌+◌, ◌<◌, ◌≤◌, Bool, true, false, ◌||◌, nat_eq, eqb-true, List, [], ◌∷◌, ◌++◌, append_assoc, length, IsTrue, ◌↔◌, ◌⊎◌, inl, inr, true≢false, arith, take}
 use Rattle.std.specs.List.{list_any}
 use Rattle.std.proofs.lemmas.Bool.{cases_lt}
 use Rattle.std.proofs.Math.Seq.{take-append_seam}
 use Rattle.cx_base.specs.Problem.{Problem, clauses_of, parities_of}
 use Rattle.cx_base.specs.Endings.{Ending}
 use Rattle.cx_base.specs.declared.steps.ProofStep.{ProofStep}
-use Rattle.cx_semantics.specs.Judging.{Judgement, accepted, refused}
+use Rattle.cx_semantics.specs.Judging.{Judgement, AcceptedAt, accepted, refused}
+use Rattle.cx_semantics.specs.ProofRules.{proof_calculus}
 use Rattle.cx_semantics.specs.declared.cause.Cause.{Cause}
 use Rattle.cx_semantics.proofs.MoveLaws.{itself}
 use Rattle.cx_texts.specs.ProofText.{ProofReads}
@@ -14,11 +15,11 @@ use Rattle.cx_texts.proofs.TextLaws.{one_proof_reading}
 use Rattle.cx_judgements.specs.ProofTexts.{ProofJudgedAs, Accepted, RefusedAt}
 use Rattle.cx_judgements.proofs.OneJudgement.{one_proof_judgement}
 use Rattle.cx_desk.specs.Outside.{Bytes}
+use Rattle.proof_trim.specs.Laws.{IsRefutation}
 use Rattle.proof_trim.specs.Names.{Name, clause, parity}
 use Rattle.proof_trim.specs.Needed.{AreNeeded, NamesFormulas, AreRising, AreCore}
 use Rattle.proof_trim.specs.Outcomes.{HasRefutation, Trims, IsTrimOf}
 use Rattle.proof_trim.specs.declared.outcome.Trimmed.{Trimmed}
-use Rattle.proof_trim.proofs.Recorded.{is_verified}
 use Rattle.solve_cli.specs.declared.ending.Core.{Core}
 use Rattle.solve_cli.specs.declared.ending.Ending.{Ending as Ended}
 use Rattle.solve_cli.specs.declared.ending.Ending.TheVariants as ending
@@ -122,9 +123,26 @@ same_core c d e k = λ i. record { clauses = e i; parities = k i }
 
 -- ---- proofs of a text
 
+accepted_more : (f : Problem) (proof later : List ProofStep) → IsRefutation f proof → AcceptedAt (proof_calculus f) (proof ++ later) (length proof)
+accepted_more f proof later (inl clash) = inl clash
+accepted_more f proof later (inr (no_clash, j)) = inr (
+  no_clash,
+  record {
+    before = j.before;
+    step = j.step;
+    later = j.later ++ later;
+    tables = j.tables;
+    split = ap (λ (x : List ProofStep). x ++ later) j.split ∙ append_assoc j.before (j.step ∷ j.later) later;
+    runs = j.runs;
+    right = j.right;
+    ends = j.ends;
+    number = j.number;
+  },
+)
+
 pub accepted_text : (f : Problem) (text : Bytes) (proof : List ProofStep) → HasRefutation ProofReads f text proof → Accepted f text (length proof)
 accepted_text f text proof h =
-    let v = is_verified ProofReads f text proof h in record { steps = v.0; ending = v.1; reads = v.2; judged = v.3 }
+    record { steps = proof ++ h.later; ending = h.ending; reads = h.left; judged = accepted_more f proof h.later h.accepted }
 
 -- the text of an accepted proof says which steps it is
 one_proof : (f : Problem) (text : Bytes) (p q : List ProofStep) → HasRefutation ProofReads f text p → HasRefutation ProofReads f text q → p ≡ q

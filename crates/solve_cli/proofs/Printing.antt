@@ -1,7 +1,6 @@
 -- What a search leaves on the Proof port, where it prints its log event by event.
-use Rattle.std.proofs.Common.{◌≡◌, ◌<◌, ◌⊎◌, ℕ, List, [], ◌∷◌, ◌++◌, Bool, true, false, filter_map, length, take, drop, option_map, Option, Some, None, IfSome, IfOk, IfErr, Result, Ok, Err, ◌≢◌, inl, inr, refl, ap, sym, subst, ◌∙◌, append-nil, append_assoc, arith}
+use Rattle.std.proofs.Common.{◌≡◌, ◌<◌, ◌⊎◌, ℕ, List, [], ◌∷◌, ◌++◌, Bool, true, false, filter_map, length, take, drop, Option, Some, None, IfSome, IfOk, IfErr, Result, Ok, Err, ◌≢◌, inl, inr, refl, ap, sym, subst, ◌∙◌, append-nil, append_assoc, arith}
 use Rattle.std.proofs.lemmas.Grind.{flat_map-append}
-use Rattle.std.proofs.lemmas.Option.{IfSome_then}
 use Rattle.std.proofs.lemmas.List.{take-append-drop}
 use Rattle.std.proofs.lemmas.List.Elements.{filter_map-append}
 use Rattle.std.specs.List.{AllByRecursion, cons_option}
@@ -17,9 +16,9 @@ use Rattle.cx_texts.specs.Printed.{HasText, printed_log}
 use Rattle.cx_texts.proofs.PrintedLogs.{printed_log_reads}
 use Rattle.search_steps.specs.Recovering.{SettledWithRecovered}
 use Rattle.cx_desk.specs.declared.desk.Port.TheVariants as port
-use Rattle.cx_desk.specs.Outside.{Bytes, Told, Outside}
+use Rattle.cx_desk.specs.Outside.{Bytes, Files, Outside}
 use Rattle.cx_desk.specs.Calls.{gained}
-use Rattle.proof_text.specs.Told.{begun_line, is_none, is_whole, fault_of}
+use Rattle.proof_text.specs.Told.{begun_line, fault_of}
 use Rattle.log_text.specs.Told.{event_line, told_events, events_told, TornOn, Prints, Tears, Goes}
 use Rattle.log_text.proofs.ToldLaws.{told_front, told_log, gained_log, begun_log, begun_front}
 use Rattle.conflict_learn.specs.declared.fault.CoreFault.{CoreFault}
@@ -37,10 +36,11 @@ use Rattle.solve_cli.specs.Solving.{SearchesOn, AnswersAs}
 use Rattle.solve_cli.specs.Seen.{Seen, seen, says, WriteFault}
 use Rattle.solve_cli.specs.Logs.{IsLogSoFar, IsRefutation}
 use Rattle.solve_cli.specs.Steps.{HasNoProof}
-use Rattle.solve_cli.proofs.Gaining.{empty_told, whole_told, on_files, write_fault}
+use Rattle.solve_cli.proofs.Acting.{StillRead, still_as, still_gained, still_faulted}
+use Rattle.solve_cli.proofs.Gaining.{whole_port, write_fault}
 use Rattle.solve_cli.proofs.Logging.{open_log, refutation}
 use Rattle.solve_cli.proofs.Searching.{finds_values, finds_none, finds_nothing}
-use Rattle.solve_cli.proofs.Works.{seen-gained}
+use Rattle.solve_cli.proofs.Works.{all_files}
 
 -- ---- right events are a right log
 log_of : (f : Problem) (events : List LogEvent) → AllByRecursion HasText events → IsLeft f (Some events) → LogOpen f (printed_log events) ⊎ IsRefutation f (printed_log events)
@@ -61,33 +61,21 @@ front_of f events bytes rest texts low left none front = record {
 
 -- ---- what the port tells
 -- an empty port that gained the lines of events tells these
-events_printed : (t : Told) (o n : Outside) (h : Prints (record o { told = Some t }) n) → t.written.proof ≡ [] → events_told n ≡ Some h.events
-events_printed t o n h empty =
-    ap events_told h.moved ∙ gained_log (record o { told = Some t }) h.events (whole_told (Some t) empty) h.texts
+events_printed : (o n : Outside) (h : Prints o n) → HasNoProof o → events_told n ≡ Some h.events
+events_printed o n h empty =
+    ap events_told h.moved ∙ gained_log o h.events (whole_port o empty) h.texts
     ∙ ap (λ (x : Bytes). Some (told_events x ++ h.events)) empty
 
 -- what holds of the events that the sink tells holds of those that were printed
-printed_hold : (P : Option (List LogEvent) → Type 0) (w : Option Told) (o n : Outside) (h : Prints (record o { told = w }) n) → IfSome w (λ t. t.written.proof ≡ []) → P (events_told n) → IfSome w (λ _. P (Some h.events))
-printed_hold P None o n h empty holds = tt
-printed_hold P (Some t) o n h empty holds = subst P (events_printed t o n h empty) holds
-
-pub events_hold : (P : Option (List LogEvent) → Type 0) (o n : Outside) (h : Prints o n) → HasNoProof (seen o) → P (events_told n) → IfSome (seen o).files (λ _. P (Some h.events))
-events_hold P o n h empty holds = on_files (P (Some h.events)) o.told (printed_hold P o.told o n h (empty_told o empty) holds)
-
-pub events_seen : (o n : Outside) (h : Prints o n) → seen n ≡ says port.Proof (printed_log h.events) (seen o)
-events_seen o n h = ap seen h.moved ∙ seen-gained port.Proof (printed_log h.events) o
+events_hold : (P : Option (List LogEvent) → Type 0) (o n : Outside) (h : Prints o n) → HasNoProof o → P (events_told n) → P (Some h.events)
+events_hold P o n h empty holds = subst P (events_printed o n h empty) holds
 
 -- want of memory: what was printed is a right log
-pub logged_so_far : (f : Problem) (o n : Outside) (h : Prints o n) → HasNoProof (seen o) → IsLeft f (events_told n) → HaveLowIds (events_told n) → (SettledWithRecovered f → HasNoMarkTold (events_told n))
-    → IfSome (seen o).files (λ _. IsLogSoFar f (printed_log h.events))
+logged_so_far : (f : Problem) (o n : Outside) (h : Prints o n) → HasNoProof o → IsLeft f (events_told n) → HaveLowIds (events_told n) → (SettledWithRecovered f → HasNoMarkTold (events_told n))
+    → IsLogSoFar f (printed_log h.events)
 logged_so_far f o n h empty left low none =
-    on_files (IsLogSoFar f (printed_log h.events)) o.told (by o.told h (empty_told o empty))
-  where
-    by : (w : Option Told) (h : Prints (record o { told = w }) n) → IfSome w (λ t. t.written.proof ≡ []) → IfSome w (λ _. IsLogSoFar f (printed_log h.events))
-    by None h e = tt
-    by (Some t) h e =
-        let is = events_printed t o n h e in
-        front_of f h.events (printed_log h.events) [] h.texts (subst HaveLowIds is low) (subst (IsLeft f) is left) (λ s. subst HasNoMarkTold is (none s)) (append-nil (printed_log h.events))
+    let is = events_printed o n h empty in
+    front_of f h.events (printed_log h.events) [] h.texts (subst HaveLowIds is low) (subst (IsLeft f) is left) (λ s. subst HasNoMarkTold is (none s)) (append-nil (printed_log h.events))
 
 -- ---- a torn line
 torn_events : (events : List LogEvent) (part : LogEvent) (kept : ℕ) → AllByRecursion HasText events → HasText part → kept < length (event_line part) → told_events (printed_log events ++ take kept (event_line part)) ≡ events
@@ -109,27 +97,25 @@ torn_front f events event part k kept same texts low none next =
     ∙ sym (flat_map-append event_line events (event ∷ [])))
 
 -- a fault of writing: what was printed is a front of a right log
-torn_right : (f : Problem) (w : Option Told) (o n : Outside) (h : Tears (record o { told = w }) n) (event : LogEvent) → IfSome w (λ t. t.written.proof ≡ []) → HaveLowIds (events_told n)
-    → (SettledWithRecovered f → HasNoMarkTold (events_told n)) → TornOn event n → MayStandBehind f (events_told n) event → IfSome w (λ _. IsLogSoFar f (printed_log h.events ++ take h.kept (event_line h.part)))
-torn_right f None o n h event empty low none torn next = tt
-torn_right f (Some t) o n h event empty low none torn next =
+torn_right : (f : Problem) (o n : Outside) (h : Tears o n) (event : LogEvent) → HasNoProof o → HaveLowIds (events_told n)
+    → (SettledWithRecovered f → HasNoMarkTold (events_told n)) → TornOn event n → MayStandBehind f (events_told n) event → IsLogSoFar f (printed_log h.events ++ take h.kept (event_line h.part))
+torn_right f o n h event empty low none torn next =
     let bytes = printed_log h.events ++ take h.kept (event_line h.part) in
-    let now = ap (λ (x : Outside). x.told) h.moved.else_same in
-    let stands : ◌≡◌ {A = Option (List LogEvent)} (events_told n) (Some (told_events (t.written.proof ++ bytes))) = ap (option_map (λ (x : Told). told_events x.written.proof)) now in
+    let now : n.written.proof ≡ bytes = ap (λ (x : Outside). x.written.proof) h.moved.else_same ∙ ap (λ (x : Bytes). x ++ bytes) empty in
     let is : ◌≡◌ {A = Option (List LogEvent)} (events_told n) (Some h.events) =
-    stands ∙ ap (λ (x : Bytes). Some (told_events (x ++ bytes))) empty ∙ ap (λ (x : List LogEvent). Some x) (torn_events h.events h.part h.kept h.texts h.text h.front) in
-    let line_of = subst (λ (x : Option Told). IfSome x (λ y. (before : Bytes) × (k : ℕ) × (begun_line [] before ≡ []) × (k < length (event_line event)) × (y.written.proof ≡ before ++ take k (event_line event)))) now torn.1 in
-    let split : bytes ≡ line_of.0 ++ take line_of.1 (event_line event) = subst (λ (x : Bytes). x ++ bytes ≡ line_of.0 ++ take line_of.1 (event_line event)) empty line_of.4 in
+    ap (λ (x : Bytes). Some (told_events x)) now ∙ ap (λ (x : List LogEvent). Some x) (torn_events h.events h.part h.kept h.texts h.text h.front) in
+    let line_of = torn.1 in
+    let split : bytes ≡ line_of.0 ++ take line_of.1 (event_line event) = sym now ∙ line_of.4 in
     let line : take h.kept (event_line h.part) ≡ take line_of.1 (event_line event) =
     sym (torn_line h.events h.part h.kept h.texts h.text h.front) ∙ (ap (begun_line []) split ∙ begun_front line_of.0 event line_of.1 line_of.2 torn.0 line_of.3) in
     torn_front f h.events event h.part line_of.1 h.kept line h.texts (subst HaveLowIds is low) (λ s. subst HasNoMarkTold is (none s)) (subst (λ (x : Option (List LogEvent)). MayStandBehind f x event) is next)
 
-pub torn_log_so_far : (f : Problem) (o n : Outside) (event : LogEvent) → HasNoProof (seen o) → Tears o n → HaveLowIds (events_told n) → (SettledWithRecovered f → HasNoMarkTold (events_told n)) → TornOn event n
-    → MayStandBehind f (events_told n) event → (log : Bytes) × WriteFault (says port.Proof log (seen o)) (seen n) × IfSome (seen o).files (λ _. IsLogSoFar f log)
-torn_log_so_far f o n event empty h low none torn next = (
+torn_log_so_far : (w : Option Files) (f : Problem) (o n : Outside) (event : LogEvent) → HasNoProof o → Tears o n → HaveLowIds (events_told n) → (SettledWithRecovered f → HasNoMarkTold (events_told n)) → TornOn event n
+    → MayStandBehind f (events_told n) event → (log : Bytes) × WriteFault (says port.Proof log (seen w o)) (seen w n) × IfSome w (λ _. IsLogSoFar f log)
+torn_log_so_far w f o n event empty h low none torn next = (
   printed_log h.events ++ take h.kept (event_line h.part),
-  write_fault (printed_log h.events ++ take h.kept (event_line h.part)) o n h.moved,
-  on_files (IsLogSoFar f (printed_log h.events ++ take h.kept (event_line h.part))) o.told (torn_right f o.told o n h event (empty_told o empty) low none torn next),
+  write_fault w (printed_log h.events ++ take h.kept (event_line h.part)) o n h.moved,
+  all_files w (λ _. torn_right f o n h event empty low none torn next),
 )
 
 -- ---- whether the sink failed
@@ -141,46 +127,50 @@ pub has_torn_log : (last : Bool) (o n : Outside) → Goes false o last n → Ros
 has_torn_log true o n h rose = h
 has_torn_log false o n h rose = absurd (omega (arith, rose))
 
+pub still_logged : (last : Bool) (o n : Outside) → Goes false o last n → StillRead o n
+still_logged false o n h = still_as o n (gained port.Proof (printed_log h.events) o) h.moved (still_gained port.Proof (printed_log h.events) o)
+still_logged true o n h = still_faulted port.Proof (printed_log h.events ++ take h.kept (event_line h.part)) o n h.moved
+
 -- ---- the whole search
 -- an empty port tells no event
-pub fresh_port : (o : Outside) → HasNoProof (seen o) → IsFresh (events_told o)
-fresh_port o h = elim o.told as (λ w. IfSome w (λ t. t.written.proof ≡ []) → IsFresh (option_map (λ t. told_events t.written.proof) w)) [ None ↦ λ k. tt | Some t ↦ λ k. ap told_events k ] (empty_told o h)
+pub fresh_port : (o : Outside) → HasNoProof o → IsFresh (events_told o)
+fresh_port o h = ap told_events h
 
 -- a log that is ended is right so far
 ended_is_left : (f : Problem) (budget : ℕ) (failed : List Literal) (told : Option (List LogEvent)) → Refutes f budget told failed → IsLeft f told
 ended_is_left f budget failed None r = tt
 ended_is_left f budget failed (Some events) r = inr r.log.0.ended
 
-module _ (f : Problem) (budget : ℕ) (o n : Outside) (last : Bool) (empty : HasNoProof (seen o)) (goes : Goes false o last n) where
+module _ (f : Problem) (budget : ℕ) (o n : Outside) (last : Bool) (empty : HasNoProof o) (goes : Goes false o last n) (w : Option Files) where
   -- no values meet the formula; memory may be wanted for the literals that fail
   refuted_on : (failed : List Literal) (x : Result Ending Outcome) → AnswersAs f (Ok (answer.Unsat failed)) x → fault_of last ≡ 0 → Refutes f budget (events_told n) failed → (SettledWithRecovered f → HasNoMarkTold (events_told n)) → HaveLowIds (events_told n)
-      → SearchesOn f budget (seen o) x (seen n)
+      → SearchesOn f budget (seen w o) x (seen w n)
   refuted_on failed (Ok e) a same right none low =
       let h = has_logged last o n goes same in
       let holds = events_hold (λ told. Refutes f budget told failed × HaveLowIds told × (SettledWithRecovered f → HasNoMarkTold told)) o n h empty (right, low, none) in
-      subst (λ (x : Ending). SearchesOn f budget (seen o) (Ok x) (seen n)) (sym a.1)
-      ((λ m l. (tt, refl)), (h.events, events_seen o n h, IfSome_then (seen o).files holds (λ files x. finds_none f budget h.events failed a.0 a.2 h.texts x.1 x.0 x.2)))
-  refuted_on failed (Err w) a same right none low =
+      subst (λ (x : Ending). SearchesOn f budget (seen w o) (Ok x) (seen w n)) (sym a.1)
+      ((λ m l. (tt, refl)), (h.events, ap (seen w) h.moved, all_files w (λ files. finds_none f budget h.events failed a.0 a.2 h.texts holds.1 holds.0 holds.2)))
+  refuted_on failed (Err why) a same right none low =
       let h = has_logged last o n goes same in
-      subst (λ (x : Outcome). SearchesOn f budget (seen o) (Err x) (seen n)) (sym a)
-      (printed_log h.events, events_seen o n h, logged_so_far f o n h empty (ended_is_left f budget failed (events_told n) right) low none)
+      subst (λ (x : Outcome). SearchesOn f budget (seen w o) (Err x) (seen w n)) (sym a)
+      (printed_log h.events, ap (seen w) h.moved, all_files w (λ _. logged_so_far f o n h empty (ended_is_left f budget failed (events_told n) right) low none))
 
   pub searched_on : (r : Result Answer CoreFault) (x : Result Ending Outcome) → AnswersAs f r x → CountsAs (fault_in r) 0 (fault_of last)
       → IfOk r (λ a. IsRightOutcome f budget (events_told n) a) → (SettledWithRecovered f → IfOk r (λ a. (k : ℕ) → a ≢ answer.Unknown k)) → (SettledWithRecovered f → HasNoMarkTold (events_told n)) → HaveLowIds (events_told n)
-      → IfErr r (λ e. GivesUp f (λ event. TornOn event n) (events_told n) e) → SearchesOn f budget (seen o) x (seen n)
+      → IfErr r (λ e. GivesUp f (λ event. TornOn event n) (events_told n) e) → SearchesOn f budget (seen w o) x (seen w n)
   searched_on (Ok (answer.Sat v)) x a same right known none low gave_up =
       let h = has_logged last o n goes same in
       let holds = events_hold (λ told. IsRightOutcome f budget told (answer.Sat v) × HaveLowIds told × (SettledWithRecovered f → HasNoMarkTold told)) o n h empty (right, low, none) in
-      subst (λ (y : Result Ending Outcome). SearchesOn f budget (seen o) y (seen n)) (sym a)
-      ((λ m l. (tt, refl)), (h.events, events_seen o n h, IfSome_then (seen o).files holds (λ files x. finds_values f budget h.events v h.texts x.1 x.0 x.2)))
+      subst (λ (y : Result Ending Outcome). SearchesOn f budget (seen w o) y (seen w n)) (sym a)
+      ((λ m l. (tt, refl)), (h.events, ap (seen w) h.moved, all_files w (λ files. finds_values f budget h.events v h.texts holds.1 holds.0 holds.2)))
   searched_on (Ok (answer.Unsat failed)) x a same right known none low gave_up = refuted_on failed x a same right none low
   searched_on (Ok (answer.Unknown k)) x a same right known none low gave_up =
       let h = has_logged last o n goes same in
       let holds = events_hold (λ told. IsRightOutcome f budget told (answer.Unknown k) × HaveLowIds told) o n h empty (right, low) in
-      subst (λ (y : Result Ending Outcome). SearchesOn f budget (seen o) y (seen n)) (sym a)
-      ((λ m l. (tt, refl)), (h.events, events_seen o n h, IfSome_then (seen o).files holds (λ files x. finds_nothing f budget h.events k h.texts x.1 x.0 known)))
+      subst (λ (y : Result Ending Outcome). SearchesOn f budget (seen w o) y (seen w n)) (sym a)
+      ((λ m l. (tt, refl)), (h.events, ap (seen w) h.moved, all_files w (λ files. finds_nothing f budget h.events k h.texts holds.1 holds.0 known)))
   searched_on (Err fault.Memory) x a same right known none low left =
       let h = has_logged last o n goes same in
-      subst (λ (y : Result Ending Outcome). SearchesOn f budget (seen o) y (seen n)) (sym a) (printed_log h.events, events_seen o n h, logged_so_far f o n h empty left low none)
+      subst (λ (y : Result Ending Outcome). SearchesOn f budget (seen w o) y (seen w n)) (sym a) (printed_log h.events, ap (seen w) h.moved, all_files w (λ _. logged_so_far f o n h empty left low none))
   searched_on (Err fault.Write) x a rose right known none low gave_up =
-      subst (λ (y : Result Ending Outcome). SearchesOn f budget (seen o) y (seen n)) (sym a) (torn_log_so_far f o n gave_up.1.0 empty (has_torn_log last o n goes rose) low none gave_up.1.1 gave_up.1.2)
+      subst (λ (y : Result Ending Outcome). SearchesOn f budget (seen w o) y (seen w n)) (sym a) (torn_log_so_far w f o n gave_up.1.0 empty (has_torn_log last o n goes rose) low none gave_up.1.1 gave_up.1.2)

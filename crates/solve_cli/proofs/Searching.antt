@@ -23,15 +23,15 @@ use Rattle.solve_cli.specs.declared.ending.Ending.TheVariants as ending
 use Rattle.solve_cli.specs.declared.ending.Outcome.{Outcome}
 use Rattle.solve_cli.specs.declared.ending.Outcome.TheVariants as outcome
 use Rattle.solve_cli.specs.Seen.{Seen, says, text_named}
-use Rattle.solve_cli.specs.Commands.{second_started, proof_created, asked_to}
+use Rattle.solve_cli.specs.Commands.{proof_created, asked_to}
 use Rattle.solve_cli.specs.Happens.{FormulaRead, IsFormula, Judged, Gains, IsOf, Ends, Stops, Works}
 use Rattle.solve_cli.specs.Logs.{IsOpenLog, IsClosedLog, IsSpentLog, IsLogSoFar, HasOnlyLowIds, IsRefutation, HasNoMark}
 use Rattle.solve_cli.specs.Solving.{ComesTo, SearchesOn, AnswersAs}
 use Rattle.solve_cli.specs.Failed.{AreInOrder, FailsAs, NegatesLastStep}
-use Rattle.solve_cli.specs.Steps.{PutsAnswer, HasNoProof}
+use Rattle.solve_cli.specs.Steps.{PutsAnswer}
 use Rattle.solve_cli.proofs.Failing.{fails_as, negates_last}
 use Rattle.solve_cli.proofs.Logging.{open_log, refutation, spent, few_marks, unmarked}
-use Rattle.solve_cli.proofs.Works.{files_at, if_some_both, formula_in, judged_ends, none_on_created, answered}
+use Rattle.solve_cli.proofs.Works.{files_at, if_some_both, formula_in, judged_ends, answered}
 
 -- ---- what the search answers
 
@@ -158,7 +158,7 @@ module _ (n : Bytes) (l : Option Bytes) (budget limit : ℕ) (old : Seen) (f : P
   }))
   search_gave_up o new h = absurd h
 
--- nothing stands on the Proof port once the formula was read and the port given its file, if nothing stood there
-pub none_begun : (n : Bytes) (l : Option Bytes) (budget : ℕ) (old : Seen) → HasNoProof old → HasNoProof (asked_to proof_created (plan.Solve n l budget) old)
+-- nothing is on the Proof port once the formula was read and the port given its file, if nothing was there
+pub none_begun : (n : Bytes) (l : Option Bytes) (budget : ℕ) (old : Seen) → old.written.proof ≡ [] → (asked_to proof_created (plan.Solve n l budget) old).written.proof ≡ []
 none_begun n None budget old h = h
-none_begun n (Some name) budget old h = none_on_created name (asked_to second_started (plan.Solve n (Some name) budget) old)
+none_begun n (Some name) budget old h = refl

@@ -1,5 +1,5 @@
 -- A proof that is trimmed, from its slot to what the command does.
-use Rattle.std.proofs.Common.{◌≡◌, refl, ap, sym, subst, ◌∙◌, ℕ, ◌<◌, ◌≤◌, false, List, [], ◌∷◌, ◌++◌, length, take, drop, take-append-drop, Option, None, Some, MatchOption, IfSome, IfOk, IfErr, Result, Ok, Err, inl, inr, append-nil}
+use Rattle.std.proofs.Common.{◌≡◌, refl, ap, sym, subst, ◌∙◌, ℕ, ◌<◌, ◌≤◌, false, List, [], ◌∷◌, ◌++◌, length, take, drop, take-append-drop, Option, None, Some, MatchOption, IfSome, IfOk, IfErr, MatchResult, Result, Ok, Err, inl, inr, append-nil}
 use Rattle.std.proofs.lemmas.Option.{IfSome_then}
 use Rattle.std.specs.List.{AllByRecursion}
 use Rattle.cx_base.specs.Problem.{Problem, Unmet}
@@ -8,11 +8,9 @@ use Rattle.cx_base.specs.declared.steps.ProofStep.{ProofStep}
 use Rattle.cx_semantics.specs.declared.cause.Cause.{Cause}
 use Rattle.cx_desk.specs.declared.desk.Slot.TheVariants as slot
 use Rattle.cx_desk.specs.declared.desk.Port.TheVariants as port
-use Rattle.cx_desk.specs.declared.draining.DrainErr.{DrainErr}
-use Rattle.cx_desk.specs.declared.draining.DrainErr.TheVariants as drained
 use Rattle.cx_desk.specs.Outside.{Bytes, Files, Outside}
 use Rattle.cx_desk.specs.Calls.{gained, PutFaulted}
-use Rattle.cx_desk.specs.SlotBytes.{BytesState, is_too_long}
+use Rattle.cx_desk.specs.SlotBytes.{BytesState}
 use Rattle.cx_texts.specs.Printed.{printed_proof, HasProofText}
 use Rattle.cx_texts.specs.ProofText.{ProofReads, proof_steps}
 use Rattle.cx_texts.proofs.PrintedProofs.{printed_proof_reads}
@@ -22,7 +20,7 @@ use Rattle.step_text.specs.Lists.{StepsLeft, LeavesList}
 use Rattle.step_text.specs.Sources.{Gives, SpentAs, IsTooLongOnly}
 use Rattle.step_text.specs.declared.source.TextRefusal.{TextRefusal}
 use Rattle.step_text.specs.declared.source.TextRefusal.TheVariants as text
-use Rattle.step_text.specs.Slots.{SlotState, SlotFrame, DrainsRest}
+use Rattle.step_text.specs.Slots.{IsPossible, is_too_long, SlotFrame}
 use Rattle.step_text.specs.SlotAnswers.{PairLeaves}
 use Rattle.xlrup_check.specs.Verdicts.{HasCause, ReadsStand}
 use Rattle.xlrup_check.specs.declared.verdict.Fault.{Fault}
@@ -43,13 +41,13 @@ use Rattle.solve_cli.specs.Seen.{Seen, seen, says, WriteFault, text_named}
 use Rattle.solve_cli.specs.Commands.{proof_created, asked_to}
 use Rattle.solve_cli.specs.Happens.{IsFormula, FormulaRead, Gains, Ends, Stops, Works}
 use Rattle.solve_cli.specs.Proofs.{IsRightSoFar}
-use Rattle.solve_cli.specs.Steps.{Ready, ReadFails, PutsAnswer}
-use Rattle.solve_cli.specs.SlotTexts.{IsJudgedWithin, KeptBy, IsRightTrimming, TrimmedAs, ReadsTrimmed, TrimsProof, uncut_as, drained_as, first_state}
+use Rattle.solve_cli.specs.Steps.{Acts, Ready, ReadFails, PutsAnswer}
+use Rattle.solve_cli.specs.SlotTexts.{IsJudgedWithin, KeptBy, IsRightTrimming, TrimmedAs, ReadsTrimmed, TrimsProof, uncut_as, first_state}
 use Rattle.solve_cli.specs.Trimming.{TrimsTo, IsTrimmedProof}
 use Rattle.solve_cli.proofs.Gaining.{write_fault}
-use Rattle.solve_cli.proofs.SlotTexts.{seen-still, seen-taken, read_fault, whole_text, is_long, is_short}
+use Rattle.solve_cli.proofs.SlotTexts.{IsTextOf, seen-still, read_fault, whole_text, is_long, has_read, acts_by_text}
 use Rattle.solve_cli.proofs.StepTexts.{have_texts, all_before, trimmed_have}
-use Rattle.solve_cli.proofs.Works.{answered, files_at, formula_in, if_some_both, judged_ends, says-none, seen-gained, stopped}
+use Rattle.solve_cli.proofs.Works.{all_files, answered, files_at, formula_in, if_some_both, judged_ends, says-none, stopped}
 
 -- ---- what the source has left
 
@@ -65,62 +63,72 @@ done_too leaves also f x y to (Ok (trimming.Refused k c)) h = tt
 done_too leaves also f x y to (Err e) h = tt
 
 -- steps that a slot has left have a text
-slot_texts : (limit : ℕ) (o : Outside) (steps : List ProofStep) (end : End) → PairLeaves proof_steps (first_state slot.Second limit, o) steps end → AllByRecursion HasProofText steps
-slot_texts limit o steps end (more, come, reads) = have_texts _ _ steps end reads
+slot_texts : (limit : ℕ) (o : Outside) (text : Bytes) (steps : List ProofStep) (end : End) → PairLeaves proof_steps text (first_state slot.Second limit, o) steps end → AllByRecursion HasProofText steps
+slot_texts limit o text steps end (more, come, reads) = have_texts _ _ steps end reads
 
-kept_texts : (f : Problem) (limit : ℕ) (o : Outside) (t : Trimmed) → IsTrimOf (PairLeaves proof_steps) f (first_state slot.Second limit, o) t → AllByRecursion HasProofText t.steps.steps
-kept_texts f limit o t (proof, h, trims) =
-    let all = slot_texts limit o (proof ++ h.later) h.ending h.left in
+kept_texts : (f : Problem) (limit : ℕ) (o : Outside) (text : Bytes) (t : Trimmed) → IsTrimOf (PairLeaves proof_steps text) f (first_state slot.Second limit, o) t → AllByRecursion HasProofText t.steps.steps
+kept_texts f limit o text t (proof, h, trims) =
+    let all = slot_texts limit o text (proof ++ h.later) h.ending h.left in
     subst (λ (x : List ProofStep). AllByRecursion HasProofText x) (sym trims.steps) (trimmed_have HasProofText f trims.needed proof (all_before HasProofText proof h.later all))
 
 -- what stays has a text, is accepted, and no values meet its core
-pub right_of : (f : Problem) (limit : ℕ) (o : Outside) (r : Result TrimOf Fault) → WhereDone r (IsTrimOf (PairLeaves proof_steps) f (first_state slot.Second limit, o))
+pub right_of : (f : Problem) (limit : ℕ) (o : Outside) (text : Bytes) (r : Result TrimOf Fault) → WhereDone r (IsTrimOf (PairLeaves proof_steps text) f (first_state slot.Second limit, o))
     → WhereDone r (λ t. IsRefutation f t.steps.steps) → WhereDone r (λ t. Unmet (core_of f t.clauses t.parities)) → IfOk (uncut_as r) (IsRightTrimming f)
-right_of f limit o (Ok (trimming.Done t)) trims accepted core = (kept_texts f limit o t trims, accepted, core)
-right_of f limit o (Ok (trimming.Refused k c)) trims accepted core = tt
-right_of f limit o (Err fault.Memory) trims accepted core = tt
-right_of f limit o (Err fault.Read) trims accepted core = tt
-right_of f limit o (Err fault.TooLong) trims accepted core = tt
+right_of f limit o text (Ok (trimming.Done t)) trims accepted core = (kept_texts f limit o text t trims, accepted, core)
+right_of f limit o text (Ok (trimming.Refused k c)) trims accepted core = tt
+right_of f limit o text (Err fault.Memory) trims accepted core = tt
+right_of f limit o text (Err fault.Read) trims accepted core = tt
+right_of f limit o text (Err fault.TooLong) trims accepted core = tt
 
 -- ---- the slot
 
 -- the trimming of a proof, if its text is not too long
-abbrev pub TrimmedTo : Problem → Bytes → Outside → Outside → TrimOf → Type 0
-TrimmedTo f name o m t = (seen m ≡ seen o) × IfSome (seen o).files (λ files. TrimmedAs f (text_named name files) t)
+abbrev pub TrimmedTo : Problem → Bytes → Seen → Seen → TrimOf → Type 0
+TrimmedTo f name old at t = (at ≡ old) × IfSome old.files (λ files. TrimmedAs f (text_named name files) t)
+
+-- what a proof was trimmed to, or why it was not judged to its end
+abbrev pub TrimsText : Problem → Bytes → ℕ → Seen → Result TrimOf Outcome → Seen → Type 0
+TrimsText f name limit old result at = MatchResult result (TrimmedTo f name old at) (λ e. ReadFails slot.Second name limit old e at)
 
 module _ (f : Problem) (name : Bytes) (limit : ℕ) (o : Outside) (ready : Ready slot.Second name o) (s : BytesState) (m : Outside) (frame : SlotFrame (first_state slot.Second limit).bytes o s m) where
-  -- it was not judged to its end
-  pub trim_cut : (r : Result TrimOf Fault) → IfErr r (HasCause (is_too_long (first_state slot.Second limit).bytes o) o.faults.reads m.faults.reads) → ReadsStand r o.faults.reads m.faults.reads
-      → IfErr (uncut_as r) (λ e. ReadFails slot.Second name limit o e m)
-  trim_cut (Ok t) cause stand = tt
-  trim_cut (Err fault.Memory) cause stand = seen-still slot.Second o m frame.read stand
-  trim_cut (Err fault.Read) cause stand = read_fault slot.Second o m frame.read cause
-  trim_cut (Err fault.TooLong) cause stand = (refl, seen-still slot.Second o m frame.read stand, is_long slot.Second limit o name ready cause)
+  abbrev trims : Result TrimOf Fault → Bytes → Type 0
+  trims r text = IfOk r (AnswersAsJudged (PairLeaves proof_steps text) f (first_state slot.Second limit, o))
+      × WhereDone r (IsTrimOf (PairLeaves proof_steps text) f (first_state slot.Second limit, o))
+      × IfErr r (HasCause (is_too_long (first_state slot.Second limit).bytes o text) o.faults.reads m.faults.reads)
 
-  pub trim_read : (r : Result TrimOf Fault) → IfOk r (AnswersAsJudged (PairLeaves proof_steps) f (first_state slot.Second limit, o))
-      → WhereDone r (IsTrimOf (PairLeaves proof_steps) f (first_state slot.Second limit, o)) → ReadsStand r o.faults.reads m.faults.reads → IfOk (uncut_as r) (TrimmedTo f name o m)
-  trim_read (Ok (trimming.Done t)) judged (proof, h, trims) stand = (
-    seen-still slot.Second o m frame.read stand,
-    IfSome_then (seen o).files (whole_text proof_steps slot.Second limit o name ready (proof ++ h.later) h.ending h.left)
-        (λ files reads. (proof, record { accepted = h.accepted; later = h.later; ending = h.ending; left = reads }, trims)),
-  )
-  trim_read (Ok (trimming.Refused k c)) judged trims stand = (
-    seen-still slot.Second o m frame.read stand,
-    IfSome_then (seen o).files (whole_text proof_steps slot.Second limit o name ready judged.0 judged.1 judged.2)
-        (λ files reads. record { steps = judged.0; ending = judged.1; reads = reads; judged = judged.3 }),
-  )
-  trim_read (Err fault.Memory) judged trims stand = tt
-  trim_read (Err fault.Read) judged trims stand = tt
-  trim_read (Err fault.TooLong) judged trims stand = tt
+  same : (w : Option Files) → m.faults.reads ≡ o.faults.reads → seen w m ≡ seen w o
+  same w stand = seen-still w slot.Second frame.got o m frame.read stand
 
-  -- the slot was read to its end
-  pub trim_drained : {T : Type 0} (r : Result T DrainErr) (p : Outside) (t : TrimOf) → DrainsRest s m r p → TrimmedTo f name o m t → IfOk (drained_as r) (λ _. ReadsTrimmed f name limit o (Ok t) p)
-  trim_drained (Err drained.TooLong) p t h to = tt
-  trim_drained (Err drained.Failed) p t h to = tt
-  trim_drained (Ok v) p t h to = (
-    ap seen h.2.1 ∙ (seen-taken s.slot h.2.0 m ∙ to.0),
-    if_some_both (seen o).files to.1 (is_short slot.Second limit o name ready (λ k. h.0 (frame.long ∙ k))) (λ files j short. (short, j)),
+  reads_as : (text : Bytes) (files : Files) (steps : List ProofStep) (end : End) → text ≡ text_named name files → PairLeaves proof_steps text (first_state slot.Second limit, o) steps end → ProofReads (text_named name files) steps end
+  reads_as text files steps end is h = subst (λ (x : Bytes). ProofReads x steps end) is (whole_text proof_steps slot.Second limit o name ready text steps end h)
+
+  trim_by : (r : Result TrimOf Fault) → ReadsStand r o.faults.reads m.faults.reads → (w : Option Files) (text : Bytes) → IsTextOf name w text → trims r text → TrimsText f name limit (seen w o) (uncut_as r) (seen w m)
+  trim_by (Ok (trimming.Done t)) stand w text is (judged, (proof, h, kept), cause) = (
+    same w stand,
+    IfSome_then w is (λ files e. (proof, record { accepted = h.accepted; later = h.later; ending = h.ending; left = reads_as text files (proof ++ h.later) h.ending e h.left }, kept)),
   )
+  trim_by (Ok (trimming.Refused k c)) stand w text is (judged, kept, cause) = (
+    same w stand,
+    IfSome_then w is (λ files e. record { steps = judged.0; ending = judged.1; reads = reads_as text files judged.0 judged.1 e judged.2; judged = judged.3 }),
+  )
+  trim_by (Err fault.Memory) stand w text is h = same w stand
+  trim_by (Err fault.Read) stand w text is (judged, kept, cause) = read_fault w slot.Second frame.got o m frame.read cause
+  trim_by (Err fault.TooLong) stand w text is (judged, kept, cause) =
+      (refl, same w stand, IfSome_then w is (λ files e. subst (λ (x : Bytes). limit < length x) e (is_long slot.Second limit o name text ready cause)))
+
+  -- the proof was trimmed, or not judged to its end
+  pub trim_acts : (r : Result TrimOf Fault) → ((text : Bytes) → IsPossible s m text → IfOk r (AnswersAsJudged (PairLeaves proof_steps text) f (first_state slot.Second limit, o)))
+      → ((text : Bytes) → IsPossible s m text → WhereDone r (IsTrimOf (PairLeaves proof_steps text) f (first_state slot.Second limit, o)))
+      → ((text : Bytes) → IsPossible s m text → IfErr r (HasCause (is_too_long (first_state slot.Second limit).bytes o text) o.faults.reads m.faults.reads)) → ReadsStand r o.faults.reads m.faults.reads
+      → Acts limit o m (λ w. TrimsText f name limit (seen w o) (uncut_as r) (seen w m))
+  trim_acts r judged kept cause stand =
+      acts_by_text name limit o ready s m (has_read name limit o s m ready frame) (λ w text may is. trim_by r stand w text is (judged text may, kept text may, cause text may))
+
+-- the slot was read to its end
+pub trimmed_within : (f : Problem) (name : Bytes) (limit : ℕ) (old at new : Seen) (t : TrimOf) → TrimmedTo f name old at t → (new ≡ at) × IfSome at.files (λ files. length (text_named name files) ≤ limit)
+    → ReadsTrimmed f name limit old (Ok t) new
+trimmed_within f name limit old at new t to rest =
+    (rest.0 ∙ to.0, if_some_both old.files to.1 (subst (λ (x : Seen). IfSome x.files (λ files. length (text_named name files) ≤ limit)) to.0 rest.1) (λ files j short. (short, j)))
 
 -- ---- the list of the steps that stay
 
@@ -142,7 +150,7 @@ next_of_list old new (Some step) h = sym (h new.steps finished (refl, refl)).0
 -- ---- the command, as its desk tells it
 
 -- the proof was not read to its end
-pub not_read : (f : Problem) (name : Bytes) (limit : ℕ) (o : Outside) (e : Outcome) (m : Outside) → ReadFails slot.Second name limit o e m → TrimsProof f name limit (seen o) (Err e) (seen m)
+pub not_read : (f : Problem) (name : Bytes) (limit : ℕ) (o : Seen) (e : Outcome) (m : Seen) → ReadFails slot.Second name limit o e m → TrimsProof f name limit o (Err e) m
 not_read f name limit o (outcome.Ended (ending.TooLong slot.Second)) m h = (h.1, h.2)
 not_read f name limit o (outcome.Ended (ending.TooLong slot.Formula)) m h = let e = h.0 in cc
 not_read f name limit o outcome.ReadFault m h = h
@@ -150,14 +158,14 @@ not_read f name limit o outcome.Memory m h = h
 not_read f name limit o e m h = absurd h
 
 -- it is refused
-pub not_trimmed : (f : Problem) (name : Bytes) (limit : ℕ) (o : Outside) (k : ℕ) (c : Cause) (m : Outside) → ReadsTrimmed f name limit o (Ok (trimming.Refused k c)) m
-    → TrimsProof f name limit (seen o) (Ok (ending.NotTrimmed k c)) (seen m)
+pub not_trimmed : (f : Problem) (name : Bytes) (limit : ℕ) (o : Seen) (k : ℕ) (c : Cause) (m : Seen) → ReadsTrimmed f name limit o (Ok (trimming.Refused k c)) m
+    → TrimsProof f name limit o (Ok (ending.NotTrimmed k c)) m
 not_trimmed f name limit o k c m h = (
   λ n q. (tt, refl),
-  ([], h.0 ∙ sym (says-none port.Proof [] (seen o) refl), IfSome_then (seen o).files h.1 (λ files x. ((λ n q. (x.0, x.1)), refl))),
+  ([], h.0 ∙ sym (says-none port.Proof [] o refl), IfSome_then o.files h.1 (λ files x. ((λ n q. (x.0, x.1)), refl))),
 )
 
-module _ (f : Problem) (name : Bytes) (limit : ℕ) (o : Outside) (t : Trimmed) (m : Outside) (h : ReadsTrimmed f name limit o (Ok (trimming.Done t)) m) (right : IsRightTrimming f (trimming.Done t)) where
+module _ (f : Problem) (name : Bytes) (limit : ℕ) (old : Seen) (t : Trimmed) (w : Option Files) (m : Outside) (h : ReadsTrimmed f name limit old (Ok (trimming.Done t)) (seen w m)) (right : IsRightTrimming f (trimming.Done t)) where
   abbrev its_core : Core
   its_core = record { clauses = t.clauses; parities = t.parities }
 
@@ -174,13 +182,13 @@ module _ (f : Problem) (name : Bytes) (limit : ℕ) (o : Outside) (t : Trimmed) 
   }
 
   -- what stays of it was written
-  pub trimmed_put : (p : Outside) → p ≡ gained port.Proof (printed_proof t.steps.steps) m → TrimsProof f name limit (seen o) (Ok (ending.Trimmed its_core)) (seen p)
+  pub trimmed_put : (p : Outside) → p ≡ gained port.Proof (printed_proof t.steps.steps) m → TrimsProof f name limit old (Ok (ending.Trimmed its_core)) (seen w p)
   trimmed_put p is = (
     λ n q. (tt, refl),
     (
       printed_proof t.steps.steps,
-      ap seen is ∙ (seen-gained port.Proof (printed_proof t.steps.steps) m ∙ ap (says port.Proof (printed_proof t.steps.steps)) h.0),
-      IfSome_then (seen o).files h.1 (λ files x. ((λ n q. (x.0, (t.steps.steps, trims_to (text_named name files) x.1))), trimmed_text (text_named name files) x.1)),
+      ap (seen w) is ∙ ap (says port.Proof (printed_proof t.steps.steps)) h.0,
+      IfSome_then old.files h.1 (λ files x. ((λ n q. (x.0, (t.steps.steps, trims_to (text_named name files) x.1))), trimmed_text (text_named name files) x.1)),
     ),
   )
 
@@ -194,15 +202,12 @@ module _ (f : Problem) (name : Bytes) (limit : ℕ) (o : Outside) (t : Trimmed) 
 
   -- or a prefix of it
   pub trimmed_torn : (p : Outside) → ((k : ℕ) × (k < length (printed_proof t.steps.steps)) × PutFaulted port.Proof (gained port.Proof (take k (printed_proof t.steps.steps)) m) p)
-      → TrimsProof f name limit (seen o) (Err outcome.WriteFault) (seen p)
+      → TrimsProof f name limit old (Err outcome.WriteFault) (seen w p)
   trimmed_torn p k = (
     take k.0 (printed_proof t.steps.steps),
-    subst (λ (x : Seen). WriteFault (says port.Proof (take k.0 (printed_proof t.steps.steps)) x) (seen p)) h.0 (write_fault (take k.0 (printed_proof t.steps.steps)) m p k.2),
-    if_files (seen o).files,
+    subst (λ (x : Seen). WriteFault (says port.Proof (take k.0 (printed_proof t.steps.steps)) x) (seen w p)) h.0 (write_fault w (take k.0 (printed_proof t.steps.steps)) m p k.2),
+    all_files old.files (λ _. so_far k.0),
   )
-    where
-      if_files : (w : Option Files) → IfSome w (λ _. IsRightSoFar f (take k.0 (printed_proof t.steps.steps)))
-      if_files w = elim w as (λ v. IfSome v (λ _. IsRightSoFar f (take k.0 (printed_proof t.steps.steps)))) [ None ↦ tt | Some files ↦ so_far k.0 ]
 
 -- ---- the whole command
 

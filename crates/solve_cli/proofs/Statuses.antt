@@ -30,7 +30,7 @@ use Rattle.solve_cli.specs.Causes.{OfFormula, OnProof, IsFormulaRefused, IsPastL
 use Rattle.solve_cli.proofs.Dues.{one_formula, judged_due}
 use Rattle.solve_cli.proofs.Outcomes.{Done, verified, right, elaborated, unknown, demonstrated, trimmed, blasted, affine, OverLimit, far, long, many, ProofRefused, not_verified, not_trimmed, outcome_of}
 use Rattle.solve_cli.proofs.Works.{if_some_both}
-use Rattle.solve_cli.proofs.Direct.{proof_in, said_answer, gained_proof, if_proof, if_written, kept, ended, ended_by}
+use Rattle.solve_cli.proofs.Direct.{proof_in, kept, ended, ended_by}
 
 -- ---- the formula's refusals
 
@@ -104,11 +104,7 @@ module _ (words : List Bytes) (limit : ℕ) (old : Seen) (s : Status) (new : See
   -- what `trim` left on the Proof port of a proof that is refused
   nothing_put : (n q o : Bytes) (k : ℕ) (c : Cause) (w : Works (plan.Trim n q o) limit old (outcome.Ended (ending.NotTrimmed k c)) h.done) → w.1.proof ≡ [] → OnProof new (λ bytes. bytes ≡ [])
   nothing_put n q o k c w bare =
-      let ends = w.1 in
-      let is : proof_in new ≡ option_map (λ (x : Written). ends.proof) old.written =
-      (kept words limit old s new h).proof
-      ∙ (ap proof_in w.2 ∙ (said_answer (answer_text (ending.NotTrimmed k c)) w.0 ∙ (ap proof_in ends.before_is ∙ gained_proof o ends.proof (asked_to second_started (plan.Trim n q o) old)))) in
-      if_proof (λ bytes. bytes ≡ []) new.written (subst (λ (v : Option Bytes). IfSome v (λ bytes. bytes ≡ [])) (sym is) (if_written (λ bytes. bytes ≡ []) old.written ends.proof bare))
+      (kept words limit old s new h).proof ∙ (ap proof_in w.2 ∙ (ap proof_in w.1.before_is ∙ bare))
 
   of_trim : (k : ℕ) (c : Cause) (p : Plan) → Asks words p → Works p limit old (outcome.Ended (ending.NotTrimmed k c)) h.done → IsProofRefused words limit old new
   of_trim k c (plan.Trim n q o) asks w = (
@@ -146,9 +142,8 @@ module _ (words : List Bytes) (limit : ℕ) (old : Seen) (s : Status) (new : See
       let ends = w.1 in
       let before : w.0 ≡ says port.Proof ends.proof (asked_to proof_created (plan.Elab n l q) old) =
       subst (λ (t : Stage). w.0 ≡ says port.Proof ends.proof (asked_to t (plan.Elab n l q) old)) late ends.before_is in
-      let is : proof_in new ≡ option_map (λ (x : Written). ends.proof) old.written =
-      (kept words limit old s new h).proof ∙ (ap proof_in w.2 ∙ (said_answer (answer_text e) w.0 ∙ (ap proof_in before ∙ gained_proof q ends.proof (asked_to second_started (plan.Elab n l q) old)))) in
-      if_proof P new.written (subst (λ (v : Option Bytes). IfSome v P) (sym is) (if_written P old.written ends.proof holds))
+      let is : proof_in new ≡ ends.proof = (kept words limit old s new h).proof ∙ (ap proof_in w.2 ∙ ap proof_in before) in
+      subst P (sym is) holds
 
   -- status 8
   of_elab : (k : ℕ) (c : Cause) (p : Plan) → Asks words p → Works p limit old (outcome.Ended (ending.NotElaborated k c)) h.done → IsLogRefused words limit old new

@@ -1,5 +1,5 @@
 -- One command behind another: what `solve` logged is elaborated, and what `elab` wrote is verified.
-use Rattle.std.proofs.Common.{◌≡◌, ◌<◌, ◌⊎◌, ℕ, List, length, option_map, Option, Some, None, IfSome, inl, inr, refl, ap, sym, subst, ◌∙◌}
+use Rattle.std.proofs.Common.{◌≡◌, ◌<◌, ◌⊎◌, ℕ, List, length, Option, Some, IfSome, inl, inr, refl, ap, sym, subst, ◌∙◌}
 use Rattle.cx_base.specs.Problem.{Problem}
 use Rattle.cx_texts.specs.FormulaText.{Reads}
 use Rattle.cx_semantics.specs.Judging.{accepted, refused}
@@ -8,7 +8,8 @@ use Rattle.cx_judgements.specs.ProofTexts.{Accepted, ProofJudgedAs}
 use Rattle.cx_judgements.proofs.OneJudgement.{one_proof_judgement, one_log_judgement}
 use Rattle.cx_desk.specs.declared.desk.Slot.TheVariants as slot
 use Rattle.cx_desk.specs.declared.desk.Port.TheVariants as port
-use Rattle.cx_desk.specs.Outside.{Bytes, Files, Written}
+use Rattle.cx_desk.specs.Outside.{Bytes, Files, Written, Outside}
+use Rattle.cx_desk.specs.Agreeing.{MayHave}
 use Rattle.cx_words.specs.Words.{Asks}
 use Rattle.cx_words.specs.declared.plans.Plan.{Plan}
 use Rattle.cx_words.specs.declared.plans.Plan.TheVariants as plan
@@ -21,14 +22,21 @@ use Rattle.solve_cli.specs.declared.ending.Status.{Status}
 use Rattle.solve_cli.specs.declared.ending.Status.TheVariants as status
 use Rattle.solve_cli.specs.Endings.{status_of, status_of_ending}
 use Rattle.solve_cli.specs.Failed.{unsatisfiable_text}
-use Rattle.solve_cli.specs.Seen.{Seen, says, asks, creates, text_named}
+use Rattle.solve_cli.specs.Seen.{Seen, seen, text_named}
 use Rattle.solve_cli.specs.Proofs.{IsWholeProof}
 use Rattle.solve_cli.specs.Solved.{solved}
 use Rattle.solve_cli.specs.Happens.{EarlyDue, Judged, LateDue, Due, WorksFor, Runs}
+use Rattle.solve_cli.specs.Run.{Run}
 use Rattle.solve_cli.specs.WholeWay.{ToldRun, IsCutShort, LogsElaborate, ProofsVerify}
-use Rattle.solve_cli.proofs.Direct.{proof_in, said_answer, gained_proof, ended}
+use Rattle.solve_cli.proofs.Direct.{proof_in, ended}
 use Rattle.solve_cli.proofs.Dues.{same_of_one, one_formula}
 use Rattle.solve_cli.proofs.OneEnding.{not_both_read}
+
+-- a run over a desk that knows its files, which agree with it by a law of every desk, is one in which it told these
+pub told_by_run : (words : List Bytes) (limit : ℕ) (o n : Outside) (files : Files) (s : Status) → n.files ≡ Some files → MayHave n.files n
+    → ((w : Option Files) → MayHave w n → Run words limit (seen w o) s (seen w n)) → ToldRun words limit files s n.written
+told_by_run words limit o n files s knows agrees run =
+    record { old = seen (Some files) o; new = seen (Some files) n; run = run (Some files) (subst (λ (w : Option Files). MayHave w n) knows agrees); told = refl; left = refl }
 
 -- ---- how a run ends
 
@@ -126,15 +134,8 @@ either limit first second s p files due (inl e) = inr (stopped limit first secon
 either limit first second s p files due (inr e) = conclude limit first second s (status_of_ending e.0) e.1 (due e.0 e.2)
 
 -- the log is what stands on the Proof port
-log_is : (name log_name log answer : Bytes) (old new : Seen) (written : Written) → new ≡ solved name (Some log_name) log answer old → new.written ≡ Some written → written.proof ≡ log
-log_is name log_name log answer old new written done left = by old.written stands
-  where
-    stands : ◌≡◌ {A = Option Bytes} (Some written.proof) (option_map (λ (w : Written). log) old.written)
-    stands = sym (ap (option_map (λ (w : Written). w.proof)) left) ∙ (ap proof_in done ∙ (said_answer answer (says port.Proof log (creates log_name (asks slot.Formula name old))) ∙ gained_proof log_name log (asks slot.Formula name old)))
-
-    by : (v : Option Written) → ◌≡◌ {A = Option Bytes} (Some written.proof) (option_map (λ (w : Written). log) v) → written.proof ≡ log
-    by None e = cc
-    by (Some v) e = cc
+log_is : (name log_name log answer : Bytes) (old new : Seen) (written : Written) → new ≡ solved name (Some log_name) log answer old → new.written ≡ written → written.proof ≡ log
+log_is name log_name log answer old new written done left = sym (ap (λ (w : Written). w.proof) left) ∙ ap proof_in done
 
 pub logs_elaborate : LogsElaborate
 logs_elaborate words more limit bound files others s written last f log g l q n t asked u elab_asked same_text same_log =
@@ -152,13 +153,10 @@ logs_elaborate words more limit bound files others s written last f log g l q n 
     (either bound (text_named g others) (text_named l others) s (plan.Elab g l q) others (λ e due. log_due g l q bound others r.formula refutes.step e reads right due)
     (ends_or_stops more bound others s last (plan.Elab g l q) u elab_asked))
 
-of_left : (P : Bytes → Type 0) (v : Option Written) (written : Written) → v ≡ Some written → IfSome v (λ w. P w.proof) → P written.proof
-of_left P v written e h = subst (λ (x : Option Written). IfSome x (λ w. P w.proof)) e h
-
 pub proofs_verify : ProofsVerify
 proofs_verify words more limit bound files others s written last f l q g p t asked u check_asked same_text same_proof =
     let r = of_told _ t.old.files files t.told (t.run.log_is_elaborated refl f l q asked) in
-    let whole = of_left (IsWholeProof r.0 (text_named l files) r.2.0) t.new.written written t.left r.2.2 in
+    let whole = subst (λ (w : Written). IsWholeProof r.0 (text_named l files) r.2.0 w.proof) t.left r.2.2 in
     let reads : Reads (text_named g others) r.0 = subst (λ (x : Bytes). Reads x r.0) (sym same_text) r.1.reads in
     let right = subst (λ (x : Bytes). Accepted r.0 x (length whole.steps)) (sym same_proof) whole.accepted in
     subst (λ (x : Bytes). (s ≡ status.Done) ⊎ IsCutShort bound (text_named g others) x s) same_proof

@@ -29,7 +29,7 @@ use Rattle.solve_cli.specs.Commands.{formula_of, second_of, proof_of, Stage, for
 use Rattle.solve_cli.specs.Happens.{is_early, end_stage, IfNamed, FormulaRead, IsFormula, FormulaIn, Judged, IsOf, Gains, SoFar, Reaches, Ends, Stops, MayWrite, Works, PutsMessage}
 use Rattle.solve_cli.specs.Proofs.{IsRightSoFar}
 use Rattle.solve_cli.proofs.Logging.{nothing_logged}
-use Rattle.solve_cli.specs.Steps.{FormulaFails, ReadFails, PutsAnswer, Loaded, HasNoProof, LeftBy}
+use Rattle.solve_cli.specs.Steps.{FormulaFails, ReadFails, PutsAnswer, Loaded, LeftBy}
 use Rattle.solve_cli.specs.SlotTexts.{IsJudgedWithin, JudgesProof, Elaborates}
 
 pub if_some_both : {X : Type 0} {P Q R : X → Type 0} (w : Option X) → IfSome w P → IfSome w Q → ((x : X) → P x → Q x → R x) → IfSome w R
@@ -43,16 +43,7 @@ append_to-none port.Message w = simp append-nil
 
 -- nothing said is nothing done
 pub says-none : (p : Port) (text : Bytes) (s : Seen) → text ≡ [] → says p text s ≡ s
-says-none p text s e = rw e (elim s.written as (λ w. says p [] (record s { written = w }) ≡ record s { written = w }) [
-  | None ↦ refl
-  | Some w ↦ rw (append_to-none p w) refl
-])
-
-pub seen-gained : (p : Port) (text : Bytes) (o : Outside) → seen (gained p text o) ≡ says p text (seen o)
-seen-gained p text o = elim o.told as (λ w. seen (gained p text (record o { told = w })) ≡ says p text (seen (record o { told = w }))) [
-  | None ↦ refl
-  | Some t ↦ refl
-]
+says-none p text s e = ap (λ (x : Bytes). says p x s) e ∙ ap (λ (w : Written). record s { written = w }) (append_to-none p s.written)
 
 pub early_text : (e : Ending) → is_early e ≡ true → answer_text e ≡ []
 unfolding answer_text
@@ -64,12 +55,9 @@ too_long_text : (s : Slot) → answer_text (ending.TooLong s) ≡ []
 unfolding answer_text
 too_long_text s = refl
 
-faulted : (text : Bytes) (o : Outside) (k : ℕ) (q : Outside) → MessageFaulted (gained port.Message (take k text) o) q
-    → MessageFault (says port.Message (take k text) (seen o)) (seen q)
-faulted text o k q h = record {
-  else_same = ap seen h.else_same ∙ ap (λ (s : Seen). record s { faults = record s.faults { messages = q.faults.messages } }) (seen-gained port.Message (take k text) o);
-  rose = h.rose;
-}
+faulted : (w : Option Files) (text : Bytes) (o : Outside) (k : ℕ) (q : Outside) → MessageFaulted (gained port.Message (take k text) o) q
+    → MessageFault (says port.Message (take k text) (seen w o)) (seen w q)
+faulted w text o k q h = record { else_same = ap (seen w) h.else_same; rose = h.rose }
 
 -- ---- how far the calls went
 
@@ -267,9 +255,9 @@ create_failed p (Some name) limit old mid f o new named may second read h =
     })))
 
 -- the second text was not read
-pub second_failed : (p : Plan) (name : Bytes) (limit : ℕ) (old : Seen) (f : Problem) (mid : Outside) (o : Outcome) (new : Outside) → second_of p ≡ Some name
-    → seen mid ≡ asked_to proof_created p old → IfSome old.files (λ files. IsFormula p limit files f)
-    → ReadFails slot.Second name limit mid o new → Works p limit old o (seen new)
+pub second_failed : (p : Plan) (name : Bytes) (limit : ℕ) (old : Seen) (f : Problem) (mid : Seen) (o : Outcome) (new : Seen) → second_of p ≡ Some name
+    → mid ≡ asked_to proof_created p old → IfSome old.files (λ files. IsFormula p limit files f)
+    → ReadFails slot.Second name limit mid o new → Works p limit old o new
 second_failed p name limit old f mid (outcome.Ended (ending.TooLong slot.Second)) new named is read h = (
   asked_to proof_created p old,
   record {
@@ -284,16 +272,16 @@ second_failed p name limit old f mid (outcome.Ended (ending.TooLong slot.Second)
   h.1 ∙ (is ∙ sym (says-none port.Answer (answer_text (ending.TooLong slot.Second)) _ (too_long_text slot.Second))),
 )
 second_failed p name limit old f mid outcome.ReadFault new named is read h =
-    (seen mid, stopped proof_created p limit old (seen mid) (formula_in p limit old f read) is, h)
-second_failed p name limit old f mid outcome.Memory new named is read h = stopped proof_created p limit old (seen new) (formula_in p limit old f read) (h ∙ is)
+    (mid, stopped proof_created p limit old mid (formula_in p limit old f read) is, h)
+second_failed p name limit old f mid outcome.Memory new named is read h = stopped proof_created p limit old new (formula_in p limit old f read) (h ∙ is)
 second_failed p name limit old f mid (outcome.Ended (ending.TooLong slot.Formula)) new named is read h = let e = h.0 in cc
 second_failed p name limit old f mid o new named is read h = absurd h
 
 -- both texts were read
-pub loaded : (p : Plan) (name : Bytes) (limit : ℕ) (old : Seen) (f : Problem) (text : Bytes) (mid : Outside) (new : Outside) → second_of p ≡ Some name
-    → seen mid ≡ asked_to proof_created p old → IfSome old.files (λ files. IsFormula p limit files f)
-    → (seen new ≡ seen mid) × (length text ≤ limit) × IfSome (seen mid).files (λ files. text ≡ text_named name files)
-    → Loaded p limit old f text (seen new)
+pub loaded : (p : Plan) (name : Bytes) (limit : ℕ) (old : Seen) (f : Problem) (text : Bytes) (mid : Seen) (new : Seen) → second_of p ≡ Some name
+    → mid ≡ asked_to proof_created p old → IfSome old.files (λ files. IsFormula p limit files f)
+    → (new ≡ mid) × (length text ≤ limit) × IfSome mid.files (λ files. text ≡ text_named name files)
+    → Loaded p limit old f text new
 loaded p name limit old f text mid new named is read h = record {
   asked = h.0 ∙ is;
   is_formula = read;
@@ -329,9 +317,6 @@ judged_late (ending.TooLong s) p name f text named h = absurd h
 judged_late (ending.TooManyVariables k) (plan.Blast n o) name f text named h = cc
 judged_late (ending.TooManyVariables k) p name f text named h = absurd h
 judged_late e p name f text named h = refl
-
-pub none_on_created : (name : Bytes) (s : Seen) → HasNoProof (creates name s)
-none_on_created name s = elim s.written as (λ w. HasNoProof (creates name (record s { written = w }))) [ None ↦ tt | Some w ↦ refl ]
 
 -- what was left on the Proof port, of the files at the start
 left_gains : (n l q : Bytes) (limit : ℕ) (files : Files) (f : Problem) (e : Ending) (proof : Bytes)
@@ -382,27 +367,27 @@ module _ {p : Plan} {limit : ℕ} {old : Seen} {f : Problem} {text : Bytes} {mid
 -- ---- a proof
 
 -- the proof in the second slot was judged, and the answer written
-pub check_answered : (n q : Bytes) (limit : ℕ) (old : Seen) (f : Problem) (mid : Outside) (e : Ending) (at : Outside) (o : Outcome) (new : Seen)
-    → seen mid ≡ asked_to proof_created (plan.Check n q) old → IfSome old.files (λ files. IsFormula (plan.Check n q) limit files f)
-    → JudgesProof f q limit mid (Ok e) at → PutsAnswer e (seen at) o new → Works (plan.Check n q) limit old o new
+pub check_answered : (n q : Bytes) (limit : ℕ) (old : Seen) (f : Problem) (mid : Seen) (e : Ending) (at : Seen) (o : Outcome) (new : Seen)
+    → mid ≡ asked_to proof_created (plan.Check n q) old → IfSome old.files (λ files. IsFormula (plan.Check n q) limit files f)
+    → JudgesProof f q limit mid (Ok e) at → PutsAnswer e at o new → Works (plan.Check n q) limit old o new
 check_answered n q limit old f mid e at o new is read judged answers =
     let p = plan.Check n q in
-    let here : seen at ≡ asked_to proof_created p old = judged.1 ∙ is in
-    let files : (seen mid).files ≡ old.files = ap (λ (s : Seen). s.files) is ∙ files_at proof_created p old in
+    let here : at ≡ asked_to proof_created p old = judged.1 ∙ is in
+    let files : mid.files ≡ old.files = ap (λ (s : Seen). s.files) is ∙ files_at proof_created p old in
     let due = subst (λ (w : Option Files). IfSome w (λ files. (n : Bytes) → IsJudgedWithin (plan.Check n q) limit f (text_named q files) e)) files judged.2 in
     let own = judged.0 n in
-    answered p limit old e (seen at) o new
-    (subst (Ends p limit old e) (sym (bare (seen at)))
-    (judged_ends p limit old f (seen at) e [] here read own.0 own.1 (IfSome_then old.files due (λ files j. j n)) (all_files old.files (λ files. refl))))
+    answered p limit old e at o new
+    (subst (Ends p limit old e) (sym (bare at))
+    (judged_ends p limit old f at e [] here read own.0 own.1 (IfSome_then old.files due (λ files j. j n)) (all_files old.files (λ files. refl))))
     answers
 
 -- ---- a log
 
 module _ (n l q : Bytes) (limit : ℕ) (old : Seen) (f : Problem) (mid : Seen) (is : mid ≡ asked_to proof_created (plan.Elab n l q) old)
     (read : IfSome old.files (λ files. IsFormula (plan.Elab n l q) limit files f)) where
-  -- nothing stands on a Proof port that was given its file
-  pub none_created : HasNoProof mid
-  none_created = subst HasNoProof (sym is) (none_on_created q (asked_to second_started (plan.Elab n l q) old))
+  -- nothing was written on a Proof port that was given its file
+  pub none_created : mid.written.proof ≡ []
+  none_created = ap (λ (s : Seen). s.written.proof) is
 
   of_old : (P : Files → Type 0) → IfSome mid.files P → IfSome old.files P
   of_old P h = subst (λ (w : Option Files). IfSome w P) (ap (λ (s : Seen). s.files) is ∙ files_at proof_created (plan.Elab n l q) old) h
@@ -455,7 +440,7 @@ module _ (n l q : Bytes) (limit : ℕ) (old : Seen) (f : Problem) (mid : Seen) (
 
 -- ---- the message
 
-pub tells_of : {T E : Type 0} (text : Bytes) (o : Outside) (r : Result T E) (q : Outside)
-    → PutsAll port.Message text o r q → PutsMessage text (seen o) (seen q)
-tells_of text o (Ok v) q h = inl (ap seen h ∙ seen-gained port.Message text o)
-tells_of text o (Err e) q h = inr (h.0, h.1, faulted text o h.0 q h.2)
+pub tells_of : {T E : Type 0} (w : Option Files) (text : Bytes) (o : Outside) (r : Result T E) (q : Outside)
+    → PutsAll port.Message text o r q → PutsMessage text (seen w o) (seen w q)
+tells_of w text o (Ok v) q h = inl (ap (seen w) h)
+tells_of w text o (Err e) q h = inr (h.0, h.1, faulted w text o h.0 q h.2)

@@ -25,9 +25,9 @@ use Rattle.solve_cli.specs.Proofs.{IsWholeProof, IsProofBefore}
 abbrev pub OfFormula : ℕ → Bytes → Files → (Problem → Type 0) → Type 0
 OfFormula limit name files Holds = (f : Problem) × FormulaRead limit (text_named name files) f × Holds f
 
--- the bytes on the Proof port, where they are told
+-- the bytes on the Proof port
 abbrev pub OnProof : Seen → (Bytes → Type 0) → Type 0
-OnProof s Holds = IfSome s.written (λ w. Holds w.proof)
+OnProof s Holds = Holds s.written.proof
 
 -- 3: the formula's text is within the limit, and its first offence is none of the limit on variables
 abbrev pub IsFormulaRefused : List Bytes → ℕ → Seen → Type 0

@@ -1,4 +1,4 @@
--- The demonstration: what it prints of a planted instance, and the log that stands behind it.
+-- The demonstration: what it prints of a planted instance, and the log that comes before it.
 use Rattle.std.specs.Prelude.{◌≡◌, ℕ, ◌^◌, Bool, List, length, IfSome, ⊤}
 use Rattle.cx_base.specs.Problem.{Problem, Meets, Unmet, clauses_of, parities_of}
 use Rattle.cx_base.specs.declared.steps.LogStep.{LogStep}
@@ -55,7 +55,7 @@ Shows formula shown.Unknown = ¬ SettledWithRecovered formula
 abbrev pub IsVerifiedLog : Problem → Bytes → Type 0
 IsVerifiedLog formula log = (k : ℕ) × (proof : Bytes) × IsWholeProof formula log k proof
 
--- and of the log behind which it is printed
+-- and of the log after which it is printed
 abbrev pub StandsBehind : Problem → Bytes → Shown → Type 0
 StandsBehind formula log shown.Meet = IsOpenLog formula demo_budget log
 StandsBehind formula log shown.Verified = IsClosedLog formula demo_budget log × IsVerifiedLog formula log

@@ -72,7 +72,7 @@ status_of outcome.ReadFault = status.ReadFault
 status_of outcome.WriteFault = status.WriteFault
 status_of outcome.Memory = status.OutOfMemory
 
--- pieces one behind the other
+-- pieces one after the other
 abbrev pub joined : List (List ℕ) → List ℕ
 joined [] = []
 joined (p ∷ ps) = p ++ joined ps

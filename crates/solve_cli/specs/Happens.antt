@@ -122,7 +122,7 @@ Due p limit files e = Early p limit files e ⊎ Late p limit files e
 abbrev pub IsEarlyOrRead : Plan → ℕ → Files → Bytes → Type 0
 IsEarlyOrRead p limit files name = ((f : Problem) × FormulaRead limit (text_named name files) f) ⊎ ((e : Ending) × Early p limit files e)
 
--- ---- what stands on the Proof port
+-- ---- what is on the Proof port
 
 -- what the Proof port gains before the answer of an ending
 abbrev pub Gains : Plan → ℕ → Files → Ending → Bytes → Type 0
@@ -214,7 +214,7 @@ pub record Stops (p : Plan) (limit : ℕ) (old : Seen) (at : Seen) : Type 0 wher
   pub so_far : IfSome old.files (λ files. SoFar stage p limit files proof)
   pub at_is : at ≡ says port.Proof proof (asked_to stage p old)
 
--- a write of the answer that failed, behind a front of it
+-- a write of the answer that failed, after a prefix of it
 pub record AnswerFails (p : Plan) (limit : ℕ) (old new : Seen) : Type 0 where
   pub ending : Ending
   pub before : Seen
@@ -259,7 +259,7 @@ WorksFor words limit old outcome.Usage new = Refuses words × (new ≡ old)
 WorksFor words limit old outcome.Memory new = (new ≡ old) ⊎ ((p : Plan) × Asks words p × Works p limit old outcome.Memory new)
 WorksFor words limit old o new = (p : Plan) × Asks words p × Works p limit old o new
 
--- the message of an outcome, or a front of it and a fault of the messages
+-- the message of an outcome, or a prefix of it and a fault of the messages
 abbrev pub PutsMessage : Bytes → Seen → Seen → Type 0
 PutsMessage text old new = (new ≡ says port.Message text old)
     ⊎ ((k : ℕ) × (k < length text) × MessageFault (says port.Message (take k text) old) new)

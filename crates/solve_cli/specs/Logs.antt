@@ -23,7 +23,7 @@ pub record HasFewMarks (formula : Problem) (budget : ℕ) (log : Bytes) : Type 0
   pub few : count < budget
   pub settled : SettledWithRecovered formula → count ≡ 0
 
--- behind values: each step is right, and none ends the log
+-- before values: each step is right, and none ends the log
 pub record IsOpenLog (formula : Problem) (budget : ℕ) (log : Bytes) : Type 0 where
   pub is_open : LogOpen formula log
   pub marks : HasFewMarks formula budget log
@@ -36,7 +36,7 @@ pub record IsRefutation (formula : Problem) (log : Bytes) : Type 0 where
   pub right : LogRight formula log step
   pub last : IsFalse (clashes formula.constraints) → step ≡ length steps
 
--- behind the answer that there are none
+-- before the answer that there are none
 pub record IsClosedLog (formula : Problem) (budget : ℕ) (log : Bytes) : Type 0 where
   pub refutes : IsRefutation formula log
   pub marks : HasFewMarks formula budget log
@@ -49,12 +49,12 @@ HasNoMark log = (events : List LogEvent) × EventsRead log events finished × (f
 abbrev pub HasOnlyLowIds : Bytes → Type 0
 HasOnlyLowIds log = (events : List LogEvent) × EventsRead log events finished × AllByRecursion HasLowId events
 
--- behind the answer that the budget is spent
+-- before the answer that the budget is spent
 pub record IsSpentLog (formula : Problem) (budget : ℕ) (log : Bytes) : Type 0 where
   pub marked : Budgeted formula log budget
   pub ids : HasOnlyLowIds log
 
--- the bytes are a front of a log all of whose steps are right and have low ids; where propagation settles the formula, it has no mark
+-- the bytes are a prefix of a log all of whose steps are right and have low ids; where propagation settles the formula, it has no mark
 pub record IsLogSoFar (formula : Problem) (bytes : Bytes) : Type 0 where
   pub log : Bytes
   pub right : LogOpen formula log ⊎ IsRefutation formula log

@@ -36,7 +36,7 @@ pub record IsProofBefore (formula : Problem) (log : Bytes) (k : ℕ) (bytes : By
 abbrev pub AreRight : Problem → List ProofStep → Type 0
 AreRight formula steps = IsOpen (proof_calculus formula) steps ⊎ AcceptedAt (proof_calculus formula) steps (length steps)
 
--- the bytes are a front of a text all of whose steps are right
+-- the bytes are a prefix of a text all of whose steps are right
 pub record IsRightSoFar (formula : Problem) (bytes : Bytes) : Type 0 where
   pub steps : List ProofStep
   pub right : AreRight formula steps

@@ -1,6 +1,7 @@
--- The theorem of the program: what a run of it is, from what the desk shows before to a status and what it shows then. Each
--- field is a sentence that a user may cite. A desk tells its files and ports, or it tells none (`IfSome old.files`);
--- faults and the names that were asked for are always told.
+-- The theorem of the program: what a run of it is, from what is seen of the desk before to a status and what is seen then. Each field
+-- is a sentence that a user may cite. It holds for all files that agree with the desk as it is left: what the reads of a slot gave is
+-- a prefix of the file that it was asked for, and all of it once a read gave the end. So it is said of the bytes that came, whatever
+-- desk they came from; and with no files at all (`IfSome old.files`) of the ports, the faults and the names that were asked for.
 use Rattle.std.specs.Prelude.{◌≡◌, ℕ, Bool, true, false, List, IfSome, IsTrue, ◌⊎◌}
 use Rattle.cx_base.specs.Counts.{Rose}
 use Rattle.cx_desk.specs.declared.desk.Slot.TheVariants as slot
@@ -40,9 +41,9 @@ IsToldByMessage p limit files e = Early p limit files e
 pub record Run (words : List Bytes) (limit : ℕ) (old : Seen) (s : Status) (new : Seen) : Type 0 where
   -- everything that happened: the names that were asked for, what each port gained, the faults, the message
   pub happens : Runs words limit old s new
-  -- 10: the printed values meet every clause, parity and assumption, and stand behind a log that is right and open
+  -- 10: the printed values meet every clause, parity and assumption, and come after a log that is right and open
   pub values_meet : s ≡ status.Satisfiable → IsSatisfied words old new
-  -- 20: no values meet every clause, parity and assumption, and a log that is right to its end stands before the answer; the assumed literals that are told fail
+  -- 20: no values meet every clause, parity and assumption, and a log that is right to its end comes before the answer; the assumed literals that are told fail
   pub no_values_meet : s ≡ status.Unsatisfiable → IsRefuted words old new
   pub only_solve_decides : (s ≡ status.Satisfiable) ⊎ (s ≡ status.Unsatisfiable) → IsOfSolve words
   -- 0 of `solve`: the budget of counted conflicts is spent, each with a fresh learned clause in the log
@@ -53,7 +54,7 @@ pub record Run (words : List Bytes) (limit : ℕ) (old : Seen) (s : Status) (new
   pub log_is_elaborated : s ≡ status.Done → IsElaborated words limit old new
   -- 0 of `model`: the printed values meet the formula
   pub model_is_right : s ≡ status.Done → IsModelRight words limit old
-  -- 0 of `demo`: what was printed of the planted instance is so, and stands behind the log of its search
+  -- 0 of `demo`: what was printed of the planted instance is so, and comes after the log of its search
   pub instance_is_shown : s ≡ status.Done → IsDemonstrated words old new
   -- 0 of `trim`: the proof is accepted, what its last step needs was written, which is accepted too, and no values meet the core that was told
   pub proof_is_trimmed : s ≡ status.Done → IsTrimmed words limit old new

@@ -1,24 +1,22 @@
--- What the top call's contract speaks of: the files and the ports, where they are told, the names that
--- were asked for and the faults. How far a slot was read is left out.
-use Rattle.std.specs.Prelude.{◌≡◌, [], ◌++◌, Option, Some, option_map, unwrap_or}
+-- What the top call's contract speaks of: files that may be the desk's, what the writes on each port took, the names that were
+-- asked for and the faults. How far a slot was read is left out.
+use Rattle.std.specs.Prelude.{◌≡◌, [], ◌++◌, Option, Some, unwrap_or}
 use Rattle.cx_desk.specs.declared.desk.Slot.{Slot}
 use Rattle.cx_desk.specs.declared.desk.Port.{Port}
 use Rattle.cx_desk.specs.Outside.{Bytes, Files, Written, Asked, Faults, Outside, file_named, with_asked, written_on, with_written}
 use Rattle.cx_base.specs.Counts.{Rose}
 
+-- The files are an argument: of each call and of the whole run it is said what it did, for all files that agree with what the
+-- reads gave, and where none are known.
 pub record Seen : Type 0 where
   pub files : Option Files
-  pub written : Option Written
+  pub written : Written
   pub asked : Asked
   pub faults : Faults
 
-abbrev pub seen : Outside → Seen
-seen o = record {
-  files = option_map (λ t. t.files) o.told;
-  written = option_map (λ t. t.written) o.told;
-  asked = o.asked;
-  faults = o.faults;
-}
+-- a desk that has these files
+abbrev pub seen : Option Files → Outside → Seen
+seen files o = record { files = files; written = o.written; asked = o.asked; faults = o.faults }
 
 -- a slot was asked for this name
 abbrev pub asks : Slot → Bytes → Seen → Seen
@@ -36,11 +34,11 @@ without_proof w = record w { proof = [] }
 
 -- and it is an empty file of this name
 abbrev pub creates : Bytes → Seen → Seen
-creates name s = record (asks_proof name s) { written = option_map without_proof s.written }
+creates name s = record (asks_proof name s) { written = without_proof s.written }
 
 -- a port gained these bytes
 abbrev pub says : Port → Bytes → Seen → Seen
-says port bytes s = record s { written = option_map (append_to port bytes) s.written }
+says port bytes s = record s { written = append_to port bytes s.written }
 
 -- a fault of reading was counted, and nothing else happened
 pub record ReadFault (old new : Seen) : Type 0 where

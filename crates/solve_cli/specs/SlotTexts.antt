@@ -1,5 +1,5 @@
 -- The second text of a command, judged as it is read from its slot.
-use Rattle.std.specs.Prelude.{◌≡◌, ◌<◌, ◌≤◌, ℕ, false, [], length, None, IfSome, Result, Ok, Err, MatchResult, ⊤}
+use Rattle.std.specs.Prelude.{◌≡◌, ◌<◌, ◌≤◌, ◌+◌, ℕ, false, [], length, None, IfSome, Result, Ok, Err, MatchResult, ⊤}
 use Rattle.std.specs.List.{AllByRecursion}
 use Rattle.cx_desk.specs.declared.desk.Slot.{Slot}
 use Rattle.cx_desk.specs.declared.desk.Slot.TheVariants as slot
@@ -7,6 +7,7 @@ use Rattle.cx_desk.specs.declared.draining.DrainErr.{DrainErr}
 use Rattle.cx_desk.specs.declared.draining.DrainErr.TheVariants as drained
 use Rattle.cx_desk.specs.declared.desk.Port.TheVariants as port
 use Rattle.cx_desk.specs.Outside.{Bytes, Outside}
+use Rattle.cx_desk.specs.SlotBytes.{BytesState, taken_by}
 use Rattle.cx_texts.specs.declared.line_state.LineState.TheVariants.{Start}
 use Rattle.cx_judgements.specs.LogTexts.{LogRight, LogRefusedAt}
 use Rattle.step_text.specs.Slots.{SlotState}
@@ -33,7 +34,7 @@ use Rattle.solve_cli.specs.declared.ending.Ending.{Ending}
 use Rattle.solve_cli.specs.declared.ending.Ending.TheVariants as ending
 use Rattle.solve_cli.specs.declared.ending.Outcome.{Outcome}
 use Rattle.solve_cli.specs.declared.ending.Outcome.TheVariants as outcome
-use Rattle.solve_cli.specs.Seen.{Seen, seen, says, ReadFault, WriteFault, text_named}
+use Rattle.solve_cli.specs.Seen.{Seen, says, ReadFault, WriteFault, text_named}
 use Rattle.solve_cli.specs.Proofs.{IsWholeProof, IsProofBefore, IsRightSoFar}
 use Rattle.solve_cli.specs.Trimming.{IsTrimmedProof}
 use Rattle.solve_cli.specs.Commands.{proof_created}
@@ -44,6 +45,19 @@ use Rattle.solve_cli.specs.Steps.{ReadFails, LeftBy}
 abbrev pub first_state : Slot → ℕ → SlotState
 first_state s limit = record { bytes = record { slot = s; limit = limit; bytes = []; place = 0; ended = false }; line = Start; refused = None }
 
+-- What a reader and its desk have, if the second slot was ready before: all that the slot gave was counted, which is no more than a
+-- byte past the limit.
+pub record HasRead (limit : ℕ) (o : Outside) (s : BytesState) (m : Outside) : Type 0 where
+  pub slot : s.slot ≡ slot.Second
+  pub limited : s.limit ≡ limit
+  pub started : m.started ≡ o.started
+  pub formula_asked : m.asked.formula ≡ o.asked.formula
+  pub second_asked : m.asked.second ≡ o.asked.second
+  pub formula : m.given.formula ≡ o.given.formula
+  pub count : taken_by s ≡ length m.given.second.bytes
+  pub ends : s.ended ≡ m.given.second.ended
+  pub few : length m.given.second.bytes ≤ limit + 1
+
 -- an ending of the command that comes after all its calls
 abbrev pub IsLateOf : Plan → Ending → Type 0
 IsLateOf p e = IsOf p e × (end_stage e ≡ proof_created)
@@ -53,10 +67,10 @@ abbrev pub IsJudgedWithin : Plan → ℕ → Problem → Bytes → Ending → Ty
 IsJudgedWithin p limit f text e = (length text ≤ limit) × Judged e p f text
 
 -- the proof in a started slot was judged, and the slot read to its end
-abbrev pub JudgesProof : Problem → Bytes → ℕ → Outside → Result Ending Outcome → Outside → Type 0
+abbrev pub JudgesProof : Problem → Bytes → ℕ → Seen → Result Ending Outcome → Seen → Type 0
 JudgesProof f name limit old result new = MatchResult result
-    (λ e. ((n : Bytes) → IsLateOf (plan.Check n name) e) × (seen new ≡ seen old)
-    × IfSome (seen old).files (λ files. (n : Bytes) → IsJudgedWithin (plan.Check n name) limit f (text_named name files) e))
+    (λ e. ((n : Bytes) → IsLateOf (plan.Check n name) e) × (new ≡ old)
+    × IfSome old.files (λ files. (n : Bytes) → IsJudgedWithin (plan.Check n name) limit f (text_named name files) e))
     (λ o. ReadFails slot.Second name limit old o new)
 
 -- what a judgement of a proof ends in
@@ -80,7 +94,7 @@ abbrev pub ProvedAs : Problem → Bytes → Elab → Bytes → Type 0
 ProvedAs f log (elab.Done k) proof = LogRight f log k × IsWholeProof f log k proof
 ProvedAs f log (elab.Refused k c) proof = LogRefusedAt f log k c × IsProofBefore f log k proof
 
--- the log in a slot was judged as it was read, and its proof written on the Proof port, or a front of it; the rest of the slot was not read
+-- the log in a slot was judged as it was read, and its proof written on the Proof port, or a prefix of it; the rest of the slot was not read
 abbrev pub ElaboratedAs : Problem → Bytes → ℕ → Seen → Result Elab ElabFault → Seen → Type 0
 ElaboratedAs f name limit old (Ok e) new = (proof : Bytes) × (new ≡ says port.Proof proof old) × IfSome old.files (λ files. ProvedAs f (text_named name files) e proof × IsRightSoFar f proof)
 ElaboratedAs f name limit old (Err cut.Memory) new = (proof : Bytes) × (new ≡ says port.Proof proof old) × IfSome old.files (λ _. IsRightSoFar f proof)
@@ -130,9 +144,9 @@ TrimmedAs f text (trimming.Done t) = IsTrimOf ProofReads f text t
 TrimmedAs f text (trimming.Refused k c) = RefusedAt f text k c
 
 -- the proof in a started slot was trimmed, and the slot read to its end
-abbrev pub ReadsTrimmed : Problem → Bytes → ℕ → Outside → Result TrimOf Outcome → Outside → Type 0
+abbrev pub ReadsTrimmed : Problem → Bytes → ℕ → Seen → Result TrimOf Outcome → Seen → Type 0
 ReadsTrimmed f name limit old result new = MatchResult result
-    (λ t. (seen new ≡ seen old) × IfSome (seen old).files (λ files. (length (text_named name files) ≤ limit) × TrimmedAs f (text_named name files) t))
+    (λ t. (new ≡ old) × IfSome old.files (λ files. (length (text_named name files) ≤ limit) × TrimmedAs f (text_named name files) t))
     (λ o. ReadFails slot.Second name limit old o new)
 
 -- what the trimming of a proof left on the Proof port

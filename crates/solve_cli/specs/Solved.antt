@@ -24,7 +24,7 @@ use Rattle.solve_cli.specs.Logs.{IsOpenLog, IsClosedLog, IsSpentLog}
 abbrev pub solved : Bytes → Option Bytes → Bytes → Bytes → Seen → Seen
 solved name log_name log answer s = says port.Answer answer (says port.Proof log (gives_file log_name (asks slot.Formula name s)))
 
--- the words ask for `solve`, this answer of the budget was written behind a log, and this holds of the formula, the budget and the log
+-- the words ask for `solve`, this answer of the budget was written after a log, and this holds of the formula, the budget and the log
 pub record HasSolved (words : List Bytes) (old : Seen) (files : Files) (new : Seen) (answer : ℕ → Bytes) (Holds : Problem → ℕ → Bytes → Type 0) : Type 0 where
   pub name : Bytes
   pub log_name : Option Bytes
@@ -36,17 +36,17 @@ pub record HasSolved (words : List Bytes) (old : Seen) (files : Files) (new : Se
   pub done : new ≡ solved name log_name log (answer budget) old
   pub holds : Holds formula budget log
 
--- `solve` printed values that meet the formula, behind an open log
+-- `solve` printed values that meet the formula, after an open log
 abbrev pub IsSatisfied : List Bytes → Seen → Seen → Type 0
 IsSatisfied words old new = IfSome old.files (λ files. (values : List Bool) × HasSolved words old files new (λ budget. printed.answer_text values) (λ f budget log. Meets f values × IsOpenLog f budget log))
 
--- No values meet the formula, and `solve` said so, behind a log that is right to its end. Where the formula has an assumption constraint, it told assumed literals that fail: the negations of those of the log's
+-- No values meet the formula, and `solve` said so, after a log that is right to its end. Where the formula has an assumption constraint, it told assumed literals that fail: the negations of those of the log's
 -- last step, or the two of the least variable that is assumed with both signs.
 abbrev pub IsRefuted : List Bytes → Seen → Seen → Type 0
 IsRefuted words old new = IfSome old.files (λ files. (failed : Option (List ℤ)) × HasSolved words old files new (λ budget. unsatisfiable_text failed)
     (λ f budget log. Unmet f × FailsAs f failed × IsClosedLog f budget log × NegatesLastStep f log failed))
 
--- `solve` said that the budget is spent, behind an open log that is marked so many times
+-- `solve` said that the budget is spent, after an open log that is marked so many times
 abbrev pub IsSpent : List Bytes → Seen → Seen → Type 0
 IsSpent words old new = IfSome old.files (λ files. HasSolved words old files new
     (λ budget. joined (codes "c conflicts " ∷ decimal budget ∷ codes "\ns UNKNOWN\n" ∷ [])) (λ f budget log. IsSpentLog f budget log))

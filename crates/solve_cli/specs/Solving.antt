@@ -44,7 +44,7 @@ AnswersAs f (Ok (answer.Unknown conflicts)) result = result ≡ Ok (ending.Unkno
 AnswersAs f (Err fault.Memory) result = result ≡ Err outcome.Memory
 AnswersAs f (Err fault.Write) result = result ≡ Err outcome.WriteFault
 
--- What a search printed on the Proof port, event by event: the log of what it came to; or, where it gave up, a front of a right log.
+-- What a search printed on the Proof port, event by event: the log of what it came to; or, where it gave up, a prefix of a right log.
 abbrev pub SearchesOn : Problem → ℕ → Seen → Result Ending Outcome → Seen → Type 0
 SearchesOn f budget old (Ok e) new =
     ((n : Bytes) (l : Option Bytes) → IsLateOf (plan.Solve n l budget) e)

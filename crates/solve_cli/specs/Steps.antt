@@ -1,9 +1,14 @@
 -- The steps of a command: its texts are read, the Proof port is given its file, the answer is written.
-use Rattle.std.specs.Prelude.{true, ◌≡◌, ◌<◌, ◌≤◌, ℕ, [], length, take, Option, IfSome, Result, MatchResult}
+use Rattle.std.specs.Prelude.{true, ◌≡◌, ◌<◌, ◌≤◌, ◌+◌, ℕ, [], length, take, Option, Some, None, IfSome, Result, MatchResult}
 use Rattle.cx_desk.specs.declared.desk.Slot.{Slot}
 use Rattle.cx_desk.specs.declared.desk.Slot.TheVariants as slot
 use Rattle.cx_desk.specs.declared.desk.Port.TheVariants as port
-use Rattle.cx_desk.specs.Outside.{Bytes, Outside, left_in, started_in}
+use Rattle.cx_desk.specs.declared.calls.ReadErr.{ReadErr}
+use Rattle.cx_desk.specs.declared.calls.ReadErr.TheVariants as why
+use Rattle.cx_desk.specs.Gave.{nothing}
+use Rattle.cx_desk.specs.Outside.{Bytes, Files, Outside, asked_in, given_in, started_in}
+use Rattle.cx_desk.specs.Agreeing.{Did}
+use Rattle.cx_desk.specs.Calls.{opened, asking, asking_proof, created, ReadFaulted, WriteFaulted}
 use Rattle.cx_base.specs.Problem.{Problem}
 use Rattle.cx_texts.specs.declared.offence.Offence.TheVariants as offence
 use Rattle.cnfx_reader.specs.declared.from_refusal.FromRefusal.{FromRefusal}
@@ -15,32 +20,53 @@ use Rattle.solve_cli.specs.declared.ending.Ending.TheVariants as ending
 use Rattle.solve_cli.specs.declared.ending.Outcome.{Outcome}
 use Rattle.solve_cli.specs.declared.ending.Outcome.TheVariants as outcome
 use Rattle.solve_cli.specs.Endings.{answer_text}
-use Rattle.solve_cli.specs.Seen.{Seen, seen, asks, asks_proof, says, ReadFault, WriteFault, text_named}
-use Rattle.solve_cli.specs.Commands.{second_started, proof_created, asked_to, gives_file, second_text}
+use Rattle.solve_cli.specs.Seen.{Seen, asks, says, ReadFault, WriteFault, text_named}
+use Rattle.solve_cli.specs.Commands.{second_started, proof_created, asked_to, second_text}
 use Rattle.solve_cli.specs.Proofs.{IsWholeProof, IsProofBefore}
 use Rattle.solve_cli.specs.Happens.{is_early, IfNamed, FormulaRead, IsFormula, EarlyDue, Ends, Works}
+
+-- ---- what every call does
+
+-- the reads of each slot gave at most one byte more than the limit
+pub record ReadAtMost (limit : ℕ) (o : Outside) : Type 0 where
+  pub formula : length o.given.formula.bytes ≤ limit + 1
+  pub second : length o.given.second.bytes ≤ limit + 1
+
+-- What a call did, whichever files the desk has, and that it read no slot further than a byte past the limit.
+pub record Acts (limit : ℕ) (old new : Outside) (P : Option Files → Type 0) : Type 0 where
+  pub did : Did old new P
+  pub few : ReadAtMost limit old → ReadAtMost limit new
+
+-- ---- the texts
 
 -- a slot that was started on this file, and of which nothing was read
 pub record Ready (slot : Slot) (name : Bytes) (o : Outside) : Type 0 where
   pub started : started_in slot o.started ≡ true
-  pub all : IfSome o.told (λ t. left_in slot t.left ≡ text_named name t.files)
+  pub asked : asked_in slot o.asked ≡ Some name
+  pub unread : given_in slot o.given ≡ nothing
 
 abbrev pub StartsSlot : {T : Type 0} → Slot → Bytes → Outside → Result T Outcome → Outside → Type 0
 StartsSlot slot name old result new = MatchResult result
-    (λ _. (seen new ≡ asks slot name (seen old)) × Ready slot name new)
-    (λ o. (o ≡ outcome.ReadFault) × ReadFault (asks slot name (seen old)) (seen new))
+    (λ _. new ≡ opened slot name old)
+    (λ o. (o ≡ outcome.ReadFault) × ReadFaulted (asking slot name old) new)
 
-abbrev pub ReadFails : Slot → Bytes → ℕ → Outside → Outcome → Outside → Type 0
+abbrev pub ReadFails : Slot → Bytes → ℕ → Seen → Outcome → Seen → Type 0
 ReadFails slot name limit old (outcome.Ended (ending.TooLong s)) new =
-    (s ≡ slot) × (seen new ≡ seen old) × IfSome (seen old).files (λ files. limit < length (text_named name files))
-ReadFails slot name limit old outcome.ReadFault new = ReadFault (seen old) (seen new)
-ReadFails slot name limit old outcome.Memory new = seen new ≡ seen old
+    (s ≡ slot) × (new ≡ old) × IfSome old.files (λ files. limit < length (text_named name files))
+ReadFails slot name limit old outcome.ReadFault new = ReadFault old new
+ReadFails slot name limit old outcome.Memory new = new ≡ old
 ReadFails slot name limit old o new = ⊥
 
+-- what a text that was not read ends in
+abbrev pub unread_as : Slot → ReadErr → Outcome
+unread_as slot why.Memory = outcome.Memory
+unread_as slot why.Failed = outcome.ReadFault
+unread_as slot why.TooLong = outcome.Ended (ending.TooLong slot)
+
 -- a started slot was read to its end
-abbrev pub ReadsSlot : Slot → Bytes → ℕ → Outside → Result Bytes Outcome → Outside → Type 0
+abbrev pub ReadsSlot : Slot → Bytes → ℕ → Seen → Result Bytes Outcome → Seen → Type 0
 ReadsSlot slot name limit old result new = MatchResult result
-    (λ text. (seen new ≡ seen old) × (length text ≤ limit) × IfSome (seen old).files (λ files. text ≡ text_named name files))
+    (λ text. (new ≡ old) × (length text ≤ limit) × IfSome old.files (λ files. text ≡ text_named name files))
     (λ o. ReadFails slot name limit old o new)
 
 abbrev pub FormulaFails : Bytes → ℕ → Seen → Outcome → Seen → Type 0
@@ -60,7 +86,7 @@ ReadsFormula name limit old result new = MatchResult result
 abbrev pub Finds : Plan → ℕ → Seen → Result Ending Outcome → Seen → Type 0
 Finds p limit old result new = MatchResult result (λ e. Ends p limit old e new) (λ o. Works p limit old o new)
 
--- an answer was written, or a front of it
+-- an answer was written, or a prefix of it
 abbrev pub PutsAnswer : Ending → Seen → Outcome → Seen → Type 0
 PutsAnswer e old (outcome.Ended d) new = (d ≡ e) × (new ≡ says port.Answer (answer_text e) old)
 PutsAnswer e old outcome.WriteFault new =
@@ -68,24 +94,26 @@ PutsAnswer e old outcome.WriteFault new =
 PutsAnswer e old o new = ⊥
 
 -- the formula was read, and the second slot was started
-abbrev pub LoadsFormula : Plan → Bytes → ℕ → Outside → Result Problem Outcome → Outside → Type 0
-LoadsFormula p second limit old result new = MatchResult result
-    (λ f. (seen new ≡ asked_to second_started p (seen old)) × Ready slot.Second second new
-    × IfSome (seen old).files (λ files. IsFormula p limit files f))
-    (λ o. Works p limit (seen old) o (seen new))
+abbrev pub LoadsFormula : Plan → ℕ → Seen → Result Problem Outcome → Seen → Type 0
+LoadsFormula p limit old result new = MatchResult result
+    (λ f. (new ≡ asked_to second_started p old) × IfSome old.files (λ files. IsFormula p limit files f))
+    (λ o. Works p limit old o new)
 
 -- the Proof port was given its file, where there is a name for it
+abbrev pub with_file : Option Bytes → Outside → Outside
+with_file None o = o
+with_file (Some name) o = created name o
+
 abbrev pub GivesFile : {T : Type 0} → Option Bytes → Outside → Result T Outcome → Outside → Type 0
 GivesFile proof old result new = MatchResult result
-    (λ _. (seen new ≡ gives_file proof (seen old)) × ((name : Bytes) → Ready slot.Second name old → Ready slot.Second name new))
-    (λ o. (o ≡ outcome.WriteFault) × IfNamed proof (λ name. WriteFault (asks_proof name (seen old)) (seen new)))
+    (λ _. new ≡ with_file proof old)
+    (λ o. (o ≡ outcome.WriteFault) × IfNamed proof (λ name. WriteFaulted (asking_proof name old) new))
 
 -- the formula was read, the second slot started, and the Proof port given its file, where there is a name for it
-abbrev pub Prepares : Plan → Bytes → ℕ → Outside → Result Problem Outcome → Outside → Type 0
-Prepares p second limit old result new = MatchResult result
-    (λ f. (seen new ≡ asked_to proof_created p (seen old)) × Ready slot.Second second new
-    × IfSome (seen old).files (λ files. IsFormula p limit files f))
-    (λ o. Works p limit (seen old) o (seen new))
+abbrev pub Prepares : Plan → ℕ → Seen → Result Problem Outcome → Seen → Type 0
+Prepares p limit old result new = MatchResult result
+    (λ f. (new ≡ asked_to proof_created p old) × IfSome old.files (λ files. IsFormula p limit files f))
+    (λ o. Works p limit old o new)
 
 -- both texts were read, and each name of the command was asked for
 pub record Loaded (p : Plan) (limit : ℕ) (old : Seen) (f : Problem) (text : Bytes) (at : Seen) : Type 0 where
@@ -99,9 +127,9 @@ Loads p limit old result new = MatchResult result
     (λ t. Loaded p limit old t.formula t.second new)
     (λ o. Works p limit old o new)
 
--- nothing stands on the Proof port
-abbrev pub HasNoProof : Seen → Type 0
-HasNoProof s = IfSome s.written (λ w. w.proof ≡ [])
+-- nothing was written on the Proof port
+abbrev pub HasNoProof : Outside → Type 0
+HasNoProof o = o.written.proof ≡ []
 
 -- what a log's ending leaves on the Proof port
 abbrev pub LeftBy : Ending → Problem → Bytes → Bytes → Type 0

@@ -8,20 +8,20 @@ use Rattle.solve_cli.specs.declared.ending.Status.TheVariants as status
 use Rattle.solve_cli.specs.Seen.{Seen, text_named}
 use Rattle.solve_cli.specs.Run.{Run}
 
--- a run in which the desk told these files, and then these bytes on its ports
+-- a run in which the desk had these files, after which these bytes were on its ports
 pub record ToldRun (words : List Bytes) (limit : ℕ) (files : Files) (s : Status) (written : Written) : Type 0 where
   pub old : Seen
   pub new : Seen
   pub run : Run words limit old s new
   pub told : old.files ≡ Some files
-  pub left : new.written ≡ Some written
+  pub left : new.written ≡ written
 
 -- it ended with a fault, for want of memory, or since one of two texts is too long
 abbrev pub IsCutShort : ℕ → Bytes → Bytes → Status → Type 0
 IsCutShort limit first second s =
     (s ≡ status.ReadFault) ⊎ ((s ≡ status.WriteFault) ⊎ ((s ≡ status.OutOfMemory) ⊎ ((s ≡ status.Limit) × ((limit < length first) ⊎ (limit < length second)))))
 
--- `elab` of the log that `solve` wrote behind its answer that no values meet the formula: 0, or cut short
+-- `elab` of the log that `solve` wrote before its answer that no values meet the formula: 0, or cut short
 abbrev pub LogsElaborate : Type 0
 LogsElaborate = (words more : List Bytes) (limit bound : ℕ) (files others : Files) (s : Status) (written last : Written) (f log g l q : Bytes) (n : ℕ)
     → ToldRun words limit files status.Unsatisfiable written → Asks words (plan.Solve f (Some log) n)

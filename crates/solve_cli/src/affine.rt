@@ -3,7 +3,7 @@ ghost use Rattle.std.specs.Prelude.{◌≡◌, ◌≤◌};
 ghost use Rattle.cx_words.specs.declared.plans.Plan.TheVariants as plan;
 ghost use Rattle.solve_cli.specs.Seen.{seen};
 ghost use Rattle.solve_cli.specs.Commands.{Unasked};
-ghost use Rattle.solve_cli.specs.Steps.{Finds};
+ghost use Rattle.solve_cli.specs.Steps.{Acts, Finds};
 
 use crate::load::read_formula_of;
 use crate::{Ending, Outcome};
@@ -21,7 +21,7 @@ pub(crate) fn solutions_of<D: Desk>(
 ) -> Result<Ending, Outcome>
     requires fresh { Unasked (D.outside desk.old).asked }
     requires limit { limit ≤ 4294967295 }
-    ensures { Finds (plan.Affine formula) limit (seen (D.outside desk.old)) result (seen (D.outside desk.new)) }
+    ensures { Acts limit (D.outside desk.old) (D.outside desk.new) (λ w. Finds (plan.Affine formula) limit (seen w (D.outside desk.old)) result (seen w (D.outside desk.new))) }
 {
     let formula = read_formula_of(alloc, desk, formula, limit)?;
     match space(alloc, &formula) {

@@ -1,12 +1,11 @@
 //! A log, elaborated onto the Proof port.
 ghost use Rattle.std.specs.Prelude.{◌≡◌, ◌≤◌, List, ℕ, true, false};
 ghost use Rattle.cx_desk.specs.Outside.{started_in};
-ghost use Rattle.cx_desk.specs.SlotBytes.{is_too_long};
 ghost use Rattle.cx_desk.specs.declared.desk.Slot.TheVariants.{Second};
 ghost use Rattle.step_text.specs.Texts.{is_spent_by};
 ghost use Rattle.solve_cli.specs.Seen.{seen};
-ghost use Rattle.solve_cli.specs.Steps.{Ready, HasNoProof};
-ghost use Rattle.solve_cli.specs.SlotTexts.{Elaborates, ElaboratedAs, elaborated_as, first_state};
+ghost use Rattle.solve_cli.specs.Steps.{Acts, Ready, HasNoProof};
+ghost use Rattle.solve_cli.specs.SlotTexts.{HasRead, Elaborates, ElaboratedAs, elaborated_as, first_state};
 
 use crate::elab_desk::ElabDesk;
 use crate::judge::drained;
@@ -28,10 +27,11 @@ fn elaborate_on<D: Desk>(
 ) -> Result<Elab, ElabFault>
     requires started { started_in reader.old.bytes.slot (D.outside desk.old).started ≡ true }
     requires fresh { is_spent_by reader.old.refused ≡ false }
-    requires empty { HasNoProof (seen (D.outside desk.old)) }
-    ensures elaborated { (name : List ℕ) (limit : ℕ) → reader.old ≡ first_state Second limit → Ready Second name (D.outside desk.old) → ElaboratedAs formula.now name limit (seen (D.outside desk.old)) result (seen (D.outside desk.new)) }
-    ensures slot { reader.new.bytes.slot ≡ reader.old.bytes.slot }
-    ensures long { is_too_long reader.new.bytes (D.outside desk.new) ≡ is_too_long reader.old.bytes (D.outside desk.old) }
+    requires empty { HasNoProof (D.outside desk.old) }
+    ensures elaborated { (name : List ℕ) (limit : ℕ) → reader.old ≡ first_state Second limit → Ready Second name (D.outside desk.old)
+        → Acts limit (D.outside desk.old) (D.outside desk.new) (λ w. ElaboratedAs formula.now name limit (seen w (D.outside desk.old)) result (seen w (D.outside desk.new))) }
+    ensures read { (name : List ℕ) (limit : ℕ) → reader.old ≡ first_state Second limit → Ready Second name (D.outside desk.old)
+        → HasRead limit (D.outside desk.old) reader.new.bytes (D.outside desk.new) }
     ensures started { started_in reader.new.bytes.slot (D.outside desk.new).started ≡ true }
 {
     let mut ends = ElabDesk {
@@ -67,8 +67,8 @@ pub(crate) fn elaborate_log<D: Desk>(
 ) -> Result<Ending, Outcome>
     requires started { started_in Second (D.outside desk.old).started ≡ true }
     requires limit { limit ≤ 4294967295 }
-    requires empty { HasNoProof (seen (D.outside desk.old)) }
-    ensures { (name : List ℕ) → Ready Second name (D.outside desk.old) → Elaborates formula.now name limit (seen (D.outside desk.old)) result (seen (D.outside desk.new)) }
+    requires empty { HasNoProof (D.outside desk.old) }
+    ensures { (name : List ℕ) → Ready Second name (D.outside desk.old) → Acts limit (D.outside desk.old) (D.outside desk.new) (λ w. Elaborates formula.now name limit (seen w (D.outside desk.old)) result (seen w (D.outside desk.new))) }
 {
     let mut reader = SlotReader::new(alloc, Slot::Second, limit);
     let judged = elaborate_on(alloc, desk, formula, &mut reader);

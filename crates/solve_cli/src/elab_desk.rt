@@ -7,14 +7,14 @@ use cx_base::{LogStep, ProofStep};
 use cx_desk::Desk;
 use fratx_elab::ElabEnds;
 use log_text::LogGrammar;
-use proof_text::put_step_unless_failed;
+use proof_text::put_step;
 use step_text::pieces::LineSheet;
 use step_text::{SinkFault, SlotReader, SpareLists, TextRefusal};
 
 /// The elaborator's two ends on one lent desk: the steps that a lent reader takes from it, and the Proof port.
 ///
 /// It borrows both, so that their owner knows what was done to them. It counts one fault of
-/// writing at most: after that it takes nothing more, and answers `Memory`.
+/// writing at most: after that it is not asked again.
 #[derive(Drop)]
 pub(crate) struct ElabDesk<'r, 'd, D: Desk> {
     /// The reader of the log's slot.
@@ -28,7 +28,7 @@ pub(crate) struct ElabDesk<'r, 'd, D: Desk> {
     // the slot was started
     ghost started: { started_in reader.now.bytes.slot (D.outside desk.now).started ≡ true },
     // between two steps no line is begun
-    ghost whole: { failed ≡ false → is_whole (D.outside desk.now).told ≡ true },
+    ghost whole: { failed ≡ false → is_whole (D.outside desk.now) ≡ true },
 }
 
 impl<D: Desk> ElabEnds for ElabDesk<'_, '_, D> {
@@ -37,11 +37,12 @@ impl<D: Desk> ElabEnds for ElabDesk<'_, '_, D> {
     ghost use Rattle.cx_texts.specs.LogText.{log_steps};
     ghost use Rattle.cx_texts.proofs.Grammars.{log_forms};
     ghost use Rattle.step_text.specs.Texts.{is_spent_by, stuck_by};
-    ghost use Rattle.cx_desk.specs.SlotBytes.{is_too_long};
-    ghost use Rattle.step_text.specs.Slots.{SlotLeaves};
-    ghost use Rattle.step_text.specs.SlotLeft.{slot_is_left};
+    ghost use Rattle.step_text.specs.Slots.{IsPossible, is_too_long, SlotLeaves};
+    ghost use Rattle.step_text.specs.SlotLeft.{some_text, slot_is_left};
     ghost use Rattle.proof_text.specs.Told.{steps_told, fault_of, TornOn};
     ghost use Rattle.solve_cli.specs.TwoEnds.{ReadsAndPrints, between_itself, between_on};
+
+    ghost may_read = { λ e. IsPossible e.reader.now.bytes (D.outside e.desk.now) };
 
     ghost leaves = { λ e. SlotLeaves log_steps e.reader.now (D.outside e.desk.now) };
 
@@ -76,8 +77,10 @@ impl<D: Desk> ElabEnds for ElabDesk<'_, '_, D> {
     }
 
     fn step(&mut self, step: &ProofStep) -> Result<(), SinkFault> {
-        put_step_unless_failed(&mut self.sheet, self.desk, &mut self.failed, step)
+        put_step(&mut self.sheet, self.desk, &mut self.failed, step)
     }
+
+    ghost has_text = { λ e. some_text e.reader.now.bytes (D.outside e.desk.now) };
 
     ghost leaves_some = { λ e. slot_is_left log_steps log_forms e.reader.now (D.outside e.desk.now) };
 

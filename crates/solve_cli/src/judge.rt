@@ -1,16 +1,16 @@
 //! The endings of the commands that judge a text.
 ghost use Rattle.std.specs.Prelude.{◌≡◌, ◌≤◌, List, ℕ, true, false, IfOk, IfErr, MatchOption};
 ghost use Rattle.cx_desk.specs.Outside.{started_in};
-ghost use Rattle.cx_desk.specs.SlotBytes.{is_too_long};
 ghost use Rattle.cx_desk.specs.declared.desk.Slot.TheVariants.{Second};
 ghost use Rattle.cx_texts.specs.ProofText.{proof_steps};
 ghost use Rattle.cx_words.specs.declared.plans.Plan.TheVariants as plan;
-ghost use Rattle.step_text.specs.Slots.{SlotFrame};
+ghost use Rattle.step_text.specs.Slots.{IsPossible, is_too_long, SlotFrame};
 ghost use Rattle.step_text.specs.SlotAnswers.{PairLeaves};
 ghost use Rattle.step_text.specs.Texts.{is_spent_by};
 ghost use Rattle.xlrup_check.specs.Verdicts.{IsJudgedBy, HasCause, ReadsStand};
 ghost use Rattle.solve_cli.specs.Happens.{refusal_of, Judged};
-ghost use Rattle.solve_cli.specs.Steps.{Ready};
+ghost use Rattle.solve_cli.specs.Seen.{seen};
+ghost use Rattle.solve_cli.specs.Steps.{Acts, Ready};
 ghost use Rattle.solve_cli.specs.SlotTexts.{JudgesProof, checked_as, drained_as};
 
 use crate::proof_on_desk::ProofOnDesk;
@@ -32,8 +32,10 @@ fn check_on<D: Desk>(
 ) -> Result<Verdict, Fault>
     requires started { started_in reader.old.bytes.slot (D.outside desk.old).started ≡ true }
     requires fresh { is_spent_by reader.old.refused ≡ false }
-    ensures judged { IfOk result (IsJudgedBy (PairLeaves proof_steps) formula.now (reader.old, D.outside desk.old)) }
-    ensures cause { IfErr result (HasCause (is_too_long reader.old.bytes (D.outside desk.old)) (D.outside desk.old).faults.reads (D.outside desk.new).faults.reads) }
+    ensures judged { (text : List ℕ) → IsPossible reader.new.bytes (D.outside desk.new) text
+        → IfOk result (IsJudgedBy (PairLeaves proof_steps text) formula.now (reader.old, D.outside desk.old)) }
+    ensures cause { (text : List ℕ) → IsPossible reader.new.bytes (D.outside desk.new) text
+        → IfErr result (HasCause (is_too_long reader.old.bytes (D.outside desk.old) text) (D.outside desk.old).faults.reads (D.outside desk.new).faults.reads) }
     ensures reads { ReadsStand result (D.outside desk.old).faults.reads (D.outside desk.new).faults.reads }
     ensures frame { SlotFrame reader.old.bytes (D.outside desk.old) reader.new.bytes (D.outside desk.new) }
 {
@@ -65,7 +67,7 @@ pub(crate) fn drained(rest: Result<(), DrainErr>) -> Result<(), Outcome>
     }
 }
 
-/// `check`: judges the proof in the second slot, and reads that slot to its end. What stands behind the step that decides
+/// `check`: judges the proof in the second slot, and reads that slot to its end. What comes after the step that decides
 /// is not judged, but its length counts.
 pub(crate) fn judge_proof<D: Desk>(
     alloc: Global,
@@ -75,7 +77,7 @@ pub(crate) fn judge_proof<D: Desk>(
 ) -> Result<Ending, Outcome>
     requires started { started_in Second (D.outside desk.old).started ≡ true }
     requires limit { limit ≤ 4294967295 }
-    ensures { (name : List ℕ) → Ready Second name (D.outside desk.old) → JudgesProof formula.now name limit (D.outside desk.old) result (D.outside desk.new) }
+    ensures { (name : List ℕ) → Ready Second name (D.outside desk.old) → Acts limit (D.outside desk.old) (D.outside desk.new) (λ w. JudgesProof formula.now name limit (seen w (D.outside desk.old)) result (seen w (D.outside desk.new))) }
 {
     let mut reader = SlotReader::new(alloc, Slot::Second, limit);
     let judged = check_on(alloc, desk, formula, &mut reader);

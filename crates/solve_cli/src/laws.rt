@@ -1,4 +1,4 @@
-//! Laws of what is due, and of one command behind another.
+//! Laws of what is due, and of one command after another.
 ghost use Rattle.std.specs.Prelude.{◌≡◌, ℕ, Some};
 ghost use Rattle.cx_desk.specs.Outside.{Bytes, Files};
 ghost use Rattle.cx_words.specs.declared.plans.Plan.{Plan};

@@ -1,10 +1,11 @@
 //! The formula of a command, read from its slot piece by piece, and an answer, read whole.
 ghost use Rattle.std.specs.Prelude.{◌≡◌, ◌≤◌, List, ℕ, None, Some, true, length, IfOk};
 ghost use Rattle.cx_desk.specs.Outside.{asked_in, started_in};
+ghost use Rattle.cx_desk.specs.declared.desk.Slot.TheVariants.{Second};
 ghost use Rattle.cx_words.specs.declared.plans.Plan.{Plan as PlanOf};
 ghost use Rattle.solve_cli.specs.Seen.{seen};
 ghost use Rattle.solve_cli.specs.Commands.{Unasked, formula_of, second_of, proof_of};
-ghost use Rattle.solve_cli.specs.Steps.{Ready, StartsSlot, ReadsSlot, ReadsFormula, LoadsFormula, GivesFile, Loads, Prepares, refused_as};
+ghost use Rattle.solve_cli.specs.Steps.{Acts, Ready, StartsSlot, ReadsSlot, ReadsFormula, LoadsFormula, GivesFile, Loads, Prepares, unread_as, refused_as};
 
 use crate::{Ending, Outcome};
 use cnfx_reader::{FromRefusal, read_formula_from};
@@ -37,13 +38,22 @@ fn start_slot<D: Desk>(desk: &mut D, slot: Slot, name: Name) -> Result<(), Outco
 /// Reads a started slot to its end.
 fn read_slot<D: Desk>(alloc: Global, desk: &mut D, slot: Slot, limit: u64) -> Result<Text, Outcome>
     requires started { started_in slot (D.outside desk.old).started ≡ true }
-    ensures { (name : List ℕ) → Ready slot name (D.outside desk.old) → ReadsSlot slot name limit (D.outside desk.old) result (D.outside desk.new) }
+    ensures { (name : List ℕ) → Ready slot name (D.outside desk.old) → Acts limit (D.outside desk.old) (D.outside desk.new) (λ w. ReadsSlot slot name limit (seen w (D.outside desk.old)) result (seen w (D.outside desk.new))) }
 {
     match read_whole(alloc, desk, slot, limit) {
         Ok(text) => Ok(text),
-        Err(ReadErr::TooLong) => Err(Outcome::Ended(Ending::TooLong(slot))),
-        Err(ReadErr::Failed) => Err(Outcome::ReadFault),
-        Err(ReadErr::Memory) => Err(Outcome::Memory),
+        Err(why) => Err(unread(slot, why)),
+    }
+}
+
+/// The outcome where a text is not read.
+fn unread(slot: Slot, why: ReadErr) -> Outcome
+    ensures { result ≡ unread_as slot why }
+{
+    match why {
+        ReadErr::TooLong => Outcome::Ended(Ending::TooLong(slot)),
+        ReadErr::Failed => Outcome::ReadFault,
+        ReadErr::Memory => Outcome::Memory,
     }
 }
 
@@ -56,7 +66,7 @@ pub(crate) fn read_formula_of<D: Desk>(
 ) -> Result<Formula, Outcome>
     requires unasked { (D.outside desk.old).asked.formula ≡ None }
     requires limit { limit ≤ 4294967295 }
-    ensures reads { ReadsFormula name limit (seen (D.outside desk.old)) result (seen (D.outside desk.new)) }
+    ensures reads { Acts limit (D.outside desk.old) (D.outside desk.new) (λ w. ReadsFormula name limit (seen w (D.outside desk.old)) result (seen w (D.outside desk.new))) }
     ensures few { IfOk result (λ f. length f.constraints ≤ limit) }
 {
     start_slot(desk, Slot::Formula, name)?;
@@ -93,7 +103,9 @@ fn begin<D: Desk>(
 ) -> Result<Formula, Outcome>
     requires fresh { Unasked (D.outside desk.old).asked }
     requires limit { limit ≤ 4294967295 }
-    ensures { (p : PlanOf) → formula_of p ≡ Some formula → second_of p ≡ Some second → LoadsFormula p second limit (D.outside desk.old) result (D.outside desk.new) }
+    ensures ready { IfOk result (λ _. Ready Second second (D.outside desk.new)) }
+    ensures loads { (p : PlanOf) → formula_of p ≡ Some formula → second_of p ≡ Some second
+        → Acts limit (D.outside desk.old) (D.outside desk.new) (λ w. LoadsFormula p limit (seen w (D.outside desk.old)) result (seen w (D.outside desk.new))) }
 {
     let formula = read_formula_of(alloc, desk, formula, limit)?;
     start_slot(desk, Slot::Second, second)?;
@@ -125,8 +137,9 @@ pub(crate) fn prepare<D: Desk>(
 ) -> Result<Formula, Outcome>
     requires fresh { Unasked (D.outside desk.old).asked }
     requires limit { limit ≤ 4294967295 }
-    ensures { (p : PlanOf) → formula_of p ≡ Some formula → second_of p ≡ Some second → proof_of p ≡ proof
-        → Prepares p second limit (D.outside desk.old) result (D.outside desk.new) }
+    ensures ready { IfOk result (λ _. Ready Second second (D.outside desk.new)) }
+    ensures prepares { (p : PlanOf) → formula_of p ≡ Some formula → second_of p ≡ Some second → proof_of p ≡ proof
+        → Acts limit (D.outside desk.old) (D.outside desk.new) (λ w. Prepares p limit (seen w (D.outside desk.old)) result (seen w (D.outside desk.new))) }
 {
     let formula = begin(alloc, desk, formula, second, limit)?;
     create_proof(desk, proof)?;
@@ -144,7 +157,7 @@ pub(crate) fn load<D: Desk>(
     requires fresh { Unasked (D.outside desk.old).asked }
     requires limit { limit ≤ 4294967295 }
     ensures { (p : PlanOf) → formula_of p ≡ Some formula → second_of p ≡ Some second → proof_of p ≡ None
-        → Loads p limit (seen (D.outside desk.old)) result (seen (D.outside desk.new)) }
+        → Acts limit (D.outside desk.old) (D.outside desk.new) (λ w. Loads p limit (seen w (D.outside desk.old)) result (seen w (D.outside desk.new))) }
 {
     let formula = prepare(alloc, desk, formula, second, None, limit)?;
     let second = read_slot(alloc, desk, Slot::Second, limit)?;

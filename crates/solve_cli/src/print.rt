@@ -27,7 +27,7 @@ fn put_step<D: Desk>(desk: &mut D, step: u64, code: &[u8], last: &[u8]) -> Resul
     put_pieces(desk, Port::Answer, &[b"c step ", step, b" ", code, last])
 }
 
-/// The same, with a place behind the code.
+/// The line of a step with a place after its code.
 fn put_step_at<D: Desk>(
     desk: &mut D,
     step: u64,

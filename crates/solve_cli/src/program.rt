@@ -1,10 +1,12 @@
 //! The top call.
-ghost use Rattle.std.specs.Prelude.{◌≤◌, ◌^◌, ℕ};
+ghost use Rattle.std.specs.Prelude.{◌≤◌, ◌^◌, ℕ, Option};
+ghost use Rattle.cx_desk.specs.Agreeing.{MayHave};
+ghost use Rattle.cx_desk.specs.Outside.{Files};
 ghost use Rattle.cx_words.specs.Words.{texts};
 ghost use Rattle.cx_words.specs.declared.plans.Plan.TheVariants as plan;
 ghost use Rattle.solve_cli.specs.Seen.{seen};
 ghost use Rattle.solve_cli.specs.Commands.{Unasked};
-ghost use Rattle.solve_cli.specs.Steps.{PutsAnswer, HasNoProof};
+ghost use Rattle.solve_cli.specs.Steps.{Acts, PutsAnswer, ReadAtMost, HasNoProof};
 ghost use Rattle.solve_cli.specs.Happens.{Works, WorksFor};
 ghost use Rattle.solve_cli.specs.Run.{Run};
 
@@ -26,7 +28,7 @@ use std::alloc::{AllocError, Global};
 
 /// Writes the answer of an ending.
 fn answer<D: Desk>(desk: &mut D, ending: Ending) -> Outcome
-    ensures { PutsAnswer ending (seen (D.outside desk.old)) result (seen (D.outside desk.new)) }
+    ensures { (limit : ℕ) → Acts limit (D.outside desk.old) (D.outside desk.new) (λ w. PutsAnswer ending (seen w (D.outside desk.old)) result (seen w (D.outside desk.new))) }
 {
     match put_answer_text(desk, &ending) {
         Ok(()) => Outcome::Ended(ending),
@@ -38,7 +40,7 @@ fn answer<D: Desk>(desk: &mut D, ending: Ending) -> Outcome
 fn check<D: Desk>(alloc: Global, desk: &mut D, formula: Name, proof: Name, limit: u64) -> Outcome
     requires fresh { Unasked (D.outside desk.old).asked }
     requires limit { limit ≤ 4294967295 }
-    ensures { Works (plan.Check formula proof) limit (seen (D.outside desk.old)) result (seen (D.outside desk.new)) }
+    ensures { Acts limit (D.outside desk.old) (D.outside desk.new) (λ w. Works (plan.Check formula proof) limit (seen w (D.outside desk.old)) result (seen w (D.outside desk.new))) }
 {
     let formula = match prepare(alloc, desk, formula, proof, None, limit) {
         Ok(formula) => formula,
@@ -54,7 +56,7 @@ fn check<D: Desk>(alloc: Global, desk: &mut D, formula: Name, proof: Name, limit
 fn model<D: Desk>(alloc: Global, desk: &mut D, formula: Name, values: Name, limit: u64) -> Outcome
     requires fresh { Unasked (D.outside desk.old).asked }
     requires limit { limit ≤ 4294967295 }
-    ensures { Works (plan.Model formula values) limit (seen (D.outside desk.old)) result (seen (D.outside desk.new)) }
+    ensures { Acts limit (D.outside desk.old) (D.outside desk.new) (λ w. Works (plan.Model formula values) limit (seen w (D.outside desk.old)) result (seen w (D.outside desk.new))) }
 {
     let texts = match load(alloc, desk, formula, values, limit) {
         Ok(texts) => texts,
@@ -77,7 +79,7 @@ fn elab<D: Desk>(
 ) -> Outcome
     requires fresh { Unasked (D.outside desk.old).asked }
     requires limit { limit ≤ 4294967295 }
-    ensures { Works (plan.Elab formula log proof) limit (seen (D.outside desk.old)) result (seen (D.outside desk.new)) }
+    ensures { Acts limit (D.outside desk.old) (D.outside desk.new) (λ w. Works (plan.Elab formula log proof) limit (seen w (D.outside desk.old)) result (seen w (D.outside desk.new))) }
 {
     let formula = match prepare(alloc, desk, formula, log, Some(proof), limit) {
         Ok(formula) => formula,
@@ -100,7 +102,7 @@ fn trim<D: Desk>(
 ) -> Outcome
     requires fresh { Unasked (D.outside desk.old).asked }
     requires limit { limit ≤ 4294967295 }
-    ensures { Works (plan.Trim formula proof out) limit (seen (D.outside desk.old)) result (seen (D.outside desk.new)) }
+    ensures { Acts limit (D.outside desk.old) (D.outside desk.new) (λ w. Works (plan.Trim formula proof out) limit (seen w (D.outside desk.old)) result (seen w (D.outside desk.new))) }
 {
     let formula = match prepare(alloc, desk, formula, proof, Some(out), limit) {
         Ok(formula) => formula,
@@ -116,7 +118,7 @@ fn trim<D: Desk>(
 fn blast<D: Desk>(alloc: Global, desk: &mut D, formula: Name, out: Name, limit: u64) -> Outcome
     requires fresh { Unasked (D.outside desk.old).asked }
     requires limit { limit ≤ 4294967295 }
-    ensures { Works (plan.Blast formula out) limit (seen (D.outside desk.old)) result (seen (D.outside desk.new)) }
+    ensures { Acts limit (D.outside desk.old) (D.outside desk.new) (λ w. Works (plan.Blast formula out) limit (seen w (D.outside desk.old)) result (seen w (D.outside desk.new))) }
 {
     match blast_formula(alloc, desk, formula, out, limit) {
         Ok(ending) => answer(desk, ending),
@@ -128,7 +130,7 @@ fn blast<D: Desk>(alloc: Global, desk: &mut D, formula: Name, out: Name, limit: 
 fn affine<D: Desk>(alloc: Global, desk: &mut D, formula: Name, limit: u64) -> Outcome
     requires fresh { Unasked (D.outside desk.old).asked }
     requires limit { limit ≤ 4294967295 }
-    ensures { Works (plan.Affine formula) limit (seen (D.outside desk.old)) result (seen (D.outside desk.new)) }
+    ensures { Acts limit (D.outside desk.old) (D.outside desk.new) (λ w. Works (plan.Affine formula) limit (seen w (D.outside desk.old)) result (seen w (D.outside desk.new))) }
 {
     match solutions_of(alloc, desk, formula, limit) {
         Ok(ending) => answer(desk, ending),
@@ -147,9 +149,9 @@ fn solve<D: Desk>(
 ) -> Outcome
     requires fresh { Unasked (D.outside desk.old).asked }
     requires limit { limit ≤ 4294967295 }
-    requires empty { HasNoProof (seen (D.outside desk.old)) }
+    requires empty { HasNoProof (D.outside desk.old) }
     requires conflicts { (1 ≤ conflicts) × (conflicts ≤ 10 ^ 18) }
-    ensures { Works (plan.Solve formula log conflicts) limit (seen (D.outside desk.old)) result (seen (D.outside desk.new)) }
+    ensures { Acts limit (D.outside desk.old) (D.outside desk.new) (λ w. Works (plan.Solve formula log conflicts) limit (seen w (D.outside desk.old)) result (seen w (D.outside desk.new))) }
 {
     let formula = match begin_search(alloc, desk, formula, log, limit) {
         Ok(formula) => formula,
@@ -166,7 +168,7 @@ fn solve<D: Desk>(
 fn demo<D: Desk>(alloc: Global, desk: &mut D, kind: Kind, size: u32, seed: u64) -> Outcome
     requires low { 4 ≤ size }
     requires high { size ≤ 2000 }
-    ensures { (limit : ℕ) → Works (plan.Demo kind size seed) limit (seen (D.outside desk.old)) result (seen (D.outside desk.new)) }
+    ensures { (limit : ℕ) → Acts limit (D.outside desk.old) (D.outside desk.new) (λ w. Works (plan.Demo kind size seed) limit (seen w (D.outside desk.old)) result (seen w (D.outside desk.new))) }
 {
     let formula = match planted(alloc, kind, size, seed) {
         Ok(formula) => formula,
@@ -193,8 +195,8 @@ fn demo<D: Desk>(alloc: Global, desk: &mut D, kind: Kind, size: u32, seed: u64) 
 fn work<D: Desk>(alloc: Global, desk: &mut D, words: &[String], limit: u64) -> Outcome
     requires fresh { Unasked (D.outside desk.old).asked }
     requires limit { limit ≤ 4294967295 }
-    requires empty { HasNoProof (seen (D.outside desk.old)) }
-    ensures { WorksFor (texts words.now) limit (seen (D.outside desk.old)) result (seen (D.outside desk.new)) }
+    requires empty { HasNoProof (D.outside desk.old) }
+    ensures { Acts limit (D.outside desk.old) (D.outside desk.new) (λ w. WorksFor (texts words.now) limit (seen w (D.outside desk.old)) result (seen w (D.outside desk.new))) }
 {
     match plan(alloc, words) {
         Ok(Plan::Check { formula, proof }) => check(alloc, desk, formula, proof, limit),
@@ -231,12 +233,14 @@ fn work<D: Desk>(alloc: Global, desk: &mut D, words: &[String], limit: u64) -> O
 /// All that the program does, with no text longer than the limit.
 ///
 /// `words[0]` is the program's name. A fault of reading or writing ends the command at once. What a run is, sentence by
-/// sentence, stands in the record `Run` of specs/.
+/// sentence, is in the record `Run` of specs/, for all files that agree with what was read. Whatever the status, at most
+/// one byte past the limit is read of each text.
 pub fn run_within<D: Desk>(alloc: Global, words: Vec<String>, limit: u64, desk: &mut D) -> Status
     requires fresh { Unasked (D.outside desk.old).asked }
     requires limit { limit ≤ 4294967295 }
-    requires empty { HasNoProof (seen (D.outside desk.old)) }
-    ensures { Run (texts words.items) limit (seen (D.outside desk.old)) result (seen (D.outside desk.new)) }
+    requires empty { HasNoProof (D.outside desk.old) }
+    ensures run { (w : Option Files) → MayHave w (D.outside desk.new) → Run (texts words.items) limit (seen w (D.outside desk.old)) result (seen w (D.outside desk.new)) }
+    ensures few { ReadAtMost limit (D.outside desk.old) → ReadAtMost limit (D.outside desk.new) }
 {
     let outcome = work(alloc, desk, words.as_slice(), limit);
     let _told = put_message_text(desk, &outcome);
@@ -246,8 +250,9 @@ pub fn run_within<D: Desk>(alloc: Global, words: Vec<String>, limit: u64, desk: 
 /// All that the program does, with no text longer than 4,294,967,295 bytes.
 pub fn run<D: Desk>(alloc: Global, words: Vec<String>, desk: &mut D) -> Status
     requires fresh { Unasked (D.outside desk.old).asked }
-    requires empty { HasNoProof (seen (D.outside desk.old)) }
-    ensures { Run (texts words.items) 4294967295 (seen (D.outside desk.old)) result (seen (D.outside desk.new)) }
+    requires empty { HasNoProof (D.outside desk.old) }
+    ensures run { (w : Option Files) → MayHave w (D.outside desk.new) → Run (texts words.items) 4294967295 (seen w (D.outside desk.old)) result (seen w (D.outside desk.new)) }
+    ensures few { ReadAtMost 4294967295 (D.outside desk.old) → ReadAtMost 4294967295 (D.outside desk.new) }
 {
     run_within(alloc, words, 4_294_967_295, desk)
 }

@@ -25,12 +25,13 @@ impl<D: Desk> StepSource for ProofOnDesk<'_, '_, D> {
 
     ghost use Rattle.std.specs.Prelude.{◌≡◌, refl};
     ghost use Rattle.std.proofs.Common.{◌∙◌};
-    ghost use Rattle.cx_desk.specs.SlotBytes.{is_too_long};
     ghost use Rattle.cx_texts.specs.ProofText.{proof_steps};
     ghost use Rattle.cx_texts.proofs.Grammars.{proof_forms};
     ghost use Rattle.step_text.specs.Texts.{is_spent_by, stuck_by};
-    ghost use Rattle.step_text.specs.Slots.{SlotLeaves, SlotFrame};
-    ghost use Rattle.step_text.specs.SlotLeft.{slot_is_left, frame_itself, frame_on};
+    ghost use Rattle.step_text.specs.Slots.{IsPossible, is_too_long, SlotLeaves, SlotFrame};
+    ghost use Rattle.step_text.specs.SlotLeft.{some_text, slot_is_left, frame_itself, frame_on};
+
+    ghost may_read = { λ s. IsPossible s.reader.now.bytes (D.outside s.desk.now) };
 
     ghost leaves = { λ s. SlotLeaves proof_steps s.reader.now (D.outside s.desk.now) };
 
@@ -55,6 +56,8 @@ impl<D: Desk> StepSource for ProofOnDesk<'_, '_, D> {
     fn place(&self) -> u64 {
         self.reader.place()
     }
+
+    ghost has_text = { λ s. some_text s.reader.now.bytes (D.outside s.desk.now) };
 
     ghost leaves_some = { λ s. slot_is_left proof_steps proof_forms s.reader.now (D.outside s.desk.now) };
 

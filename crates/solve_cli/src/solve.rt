@@ -4,7 +4,7 @@ ghost use Rattle.cx_words.specs.declared.plans.Plan.TheVariants as plan;
 ghost use Rattle.solve_cli.specs.Seen.{seen};
 ghost use Rattle.solve_cli.specs.Commands.{Unasked};
 ghost use Rattle.solve_cli.specs.Solving.{BeginsSearch, ComesTo, SearchesOn, AnswersAs};
-ghost use Rattle.solve_cli.specs.Steps.{HasNoProof};
+ghost use Rattle.solve_cli.specs.Steps.{Acts, HasNoProof};
 
 use crate::failed::in_order;
 use crate::load::{create_proof, read_formula_of};
@@ -27,7 +27,7 @@ pub(crate) fn begin_search<D: Desk>(
 ) -> Result<Formula, Outcome>
     requires fresh { Unasked (D.outside desk.old).asked }
     requires limit { limit ≤ 4294967295 }
-    ensures begins { (conflicts : ℕ) → BeginsSearch (plan.Solve formula log conflicts) limit (seen (D.outside desk.old)) result (seen (D.outside desk.new)) }
+    ensures begins { (conflicts : ℕ) → Acts limit (D.outside desk.old) (D.outside desk.new) (λ w. BeginsSearch (plan.Solve formula log conflicts) limit (seen w (D.outside desk.old)) result (seen w (D.outside desk.new))) }
     ensures few { IfOk result (λ f. length f.constraints ≤ limit) }
 {
     let formula = match read_formula_of(alloc, desk, formula, limit) {
@@ -70,8 +70,8 @@ pub(crate) fn search_on<D: Desk>(
 ) -> Result<Ending, Outcome>
     requires conflicts { (1 ≤ conflicts) × (conflicts ≤ 10 ^ 18) }
     requires few { length formula.now.constraints ≤ 4294967295 }
-    requires empty { HasNoProof (seen (D.outside desk.old)) }
-    ensures { SearchesOn formula.now conflicts (seen (D.outside desk.old)) result (seen (D.outside desk.new)) }
+    requires empty { HasNoProof (D.outside desk.old) }
+    ensures { (limit : ℕ) → Acts limit (D.outside desk.old) (D.outside desk.new) (λ w. SearchesOn formula.now conflicts (seen w (D.outside desk.old)) result (seen w (D.outside desk.new))) }
 {
     let mut log = DeskLog::new(desk);
     let answer = solve_core::<Incremental, DeskLog<D>>(alloc, formula, conflicts, &mut log);

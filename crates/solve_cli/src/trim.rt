@@ -4,7 +4,6 @@ ghost use Rattle.std.specs.List.{AllByRecursion};
 ghost use Rattle.cx_base.specs.Problem.{Unmet};
 ghost use Rattle.cx_desk.specs.Calls.{PutsAll};
 ghost use Rattle.cx_desk.specs.Outside.{started_in};
-ghost use Rattle.cx_desk.specs.SlotBytes.{is_too_long};
 ghost use Rattle.cx_desk.specs.declared.desk.Port.TheVariants as port;
 ghost use Rattle.cx_desk.specs.declared.desk.Slot.TheVariants.{Second};
 ghost use Rattle.cx_texts.specs.Grammar.{spelling};
@@ -14,11 +13,11 @@ ghost use Rattle.proof_trim.specs.Laws.{IsRefutation};
 ghost use Rattle.proof_trim.specs.Outcomes.{AnswersAsJudged, IsTrimOf, WhereDone};
 ghost use Rattle.proof_trim.specs.Trimmed.{core_of};
 ghost use Rattle.step_text.specs.SlotAnswers.{PairLeaves};
-ghost use Rattle.step_text.specs.Slots.{SlotFrame};
+ghost use Rattle.step_text.specs.Slots.{IsPossible, is_too_long, SlotFrame};
 ghost use Rattle.step_text.specs.Texts.{is_spent_by};
 ghost use Rattle.xlrup_check.specs.Verdicts.{HasCause, ReadsStand};
 ghost use Rattle.solve_cli.specs.Seen.{seen};
-ghost use Rattle.solve_cli.specs.Steps.{Ready};
+ghost use Rattle.solve_cli.specs.Steps.{Acts, Ready};
 ghost use Rattle.solve_cli.specs.SlotTexts.{IsRightTrimming, ReadsTrimmed, TrimsProof, uncut_as};
 
 use crate::judge::drained;
@@ -42,11 +41,14 @@ fn trim_on<D: Desk>(
 ) -> Result<TrimOf, Fault>
     requires started { started_in reader.old.bytes.slot (D.outside desk.old).started ≡ true }
     requires fresh { is_spent_by reader.old.refused ≡ false }
-    ensures judged { IfOk result (AnswersAsJudged (PairLeaves proof_steps) formula.now (reader.old, D.outside desk.old)) }
-    ensures trimmed { WhereDone result (IsTrimOf (PairLeaves proof_steps) formula.now (reader.old, D.outside desk.old)) }
+    ensures judged { (text : List ℕ) → IsPossible reader.new.bytes (D.outside desk.new) text
+        → IfOk result (AnswersAsJudged (PairLeaves proof_steps text) formula.now (reader.old, D.outside desk.old)) }
+    ensures trimmed { (text : List ℕ) → IsPossible reader.new.bytes (D.outside desk.new) text
+        → WhereDone result (IsTrimOf (PairLeaves proof_steps text) formula.now (reader.old, D.outside desk.old)) }
     ensures accepted { WhereDone result (λ t. IsRefutation formula.now t.steps.steps) }
     ensures core { WhereDone result (λ t. Unmet (core_of formula.now t.clauses t.parities)) }
-    ensures cause { IfErr result (HasCause (is_too_long reader.old.bytes (D.outside desk.old)) (D.outside desk.old).faults.reads (D.outside desk.new).faults.reads) }
+    ensures cause { (text : List ℕ) → IsPossible reader.new.bytes (D.outside desk.new) text
+        → IfErr result (HasCause (is_too_long reader.old.bytes (D.outside desk.old) text) (D.outside desk.old).faults.reads (D.outside desk.new).faults.reads) }
     ensures reads { ReadsStand result (D.outside desk.old).faults.reads (D.outside desk.new).faults.reads }
     ensures frame { SlotFrame reader.old.bytes (D.outside desk.old) reader.new.bytes (D.outside desk.new) }
 {
@@ -76,7 +78,7 @@ fn read_trimmed<D: Desk>(
     requires started { started_in Second (D.outside desk.old).started ≡ true }
     requires limit { limit ≤ 4294967295 }
     ensures right { IfOk result (IsRightTrimming formula.now) }
-    ensures read { (name : List ℕ) → Ready Second name (D.outside desk.old) → ReadsTrimmed formula.now name limit (D.outside desk.old) result (D.outside desk.new) }
+    ensures read { (name : List ℕ) → Ready Second name (D.outside desk.old) → Acts limit (D.outside desk.old) (D.outside desk.new) (λ w. ReadsTrimmed formula.now name limit (seen w (D.outside desk.old)) result (seen w (D.outside desk.new))) }
 {
     let mut reader = SlotReader::new(alloc, Slot::Second, limit);
     let judged = trim_on(alloc, desk, formula, &mut reader);
@@ -141,7 +143,7 @@ pub(crate) fn trim_proof<D: Desk>(
 ) -> Result<Ending, Outcome>
     requires started { started_in Second (D.outside desk.old).started ≡ true }
     requires limit { limit ≤ 4294967295 }
-    ensures { (name : List ℕ) → Ready Second name (D.outside desk.old) → TrimsProof formula.now name limit (seen (D.outside desk.old)) result (seen (D.outside desk.new)) }
+    ensures { (name : List ℕ) → Ready Second name (D.outside desk.old) → Acts limit (D.outside desk.old) (D.outside desk.new) (λ w. TrimsProof formula.now name limit (seen w (D.outside desk.old)) result (seen w (D.outside desk.new))) }
 {
     let left = read_trimmed(alloc, desk, formula, limit)?;
     match left {

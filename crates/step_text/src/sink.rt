@@ -1,5 +1,5 @@
 //! Where the steps of a proof and the events of a log go, one after another.
-ghost use Rattle.std.specs.Prelude.{◌≡◌, ℕ, Bool, List, Option, OnOk, OnErr};
+ghost use Rattle.std.specs.Prelude.{◌≡◌, ℕ, Bool, false, List, Option, OnOk, OnErr};
 ghost use Rattle.step_text.specs.Sinks.{with_next, SinkFaultsAs, HasFailedAs, OnFailed};
 
 use cx_texts::Textual;
@@ -8,7 +8,7 @@ use thiserror::Error;
 /// Why a sink did not take what it was given.
 #[derive(Clone, Copy, Debug, Drop, Error)]
 pub enum SinkFault {
-    /// Want of memory: nothing was taken, and no fault was counted.
+    /// Want of memory for what it keeps: nothing was taken, and no fault was counted.
     #[error("out of memory")]
     Memory,
     /// A fault of writing, which the sink counted.
@@ -35,9 +35,10 @@ pub trait Sink {
     // what a call leaves as it was
     ghost keeps: { Self → Self → Type 0 };
 
-    /// Takes the next item, which a text can have.
+    /// Takes the next item, which a text can have. A sink that has failed is not asked again.
     fn put(&mut self, item: &Self::Item) -> Result<(), SinkFault>
         requires text { Self.Item.has_text item.now }
+        requires going { has_failed self.old ≡ false }
         ensures told { OnOk result (items self.new ≡ with_next item.now (items self.old)) }
         ensures same { OnErr result (items self.new ≡ items self.old) }
         ensures torn { OnFailed result (torn self.new item.now) }

@@ -69,10 +69,11 @@ where
 
     ghost use Rattle.std.specs.Prelude.{◌≡◌, refl};
     ghost use Rattle.std.proofs.Common.{◌∙◌};
-    ghost use Rattle.cx_desk.specs.SlotBytes.{is_too_long};
     ghost use Rattle.step_text.specs.Texts.{is_spent_by, stuck_by};
-    ghost use Rattle.step_text.specs.Slots.{SlotLeaves, SlotFrame};
-    ghost use Rattle.step_text.specs.SlotLeft.{slot_is_left, frame_itself, frame_on};
+    ghost use Rattle.step_text.specs.Slots.{IsPossible, SlotLeaves, SlotFrame, is_too_long};
+    ghost use Rattle.step_text.specs.SlotLeft.{some_text, slot_is_left, frame_itself, frame_on};
+
+    ghost may_read = { λ s. IsPossible s.reader.bytes (D.outside s.desk.now) };
 
     ghost leaves = { λ s. SlotLeaves G.steps s.reader (D.outside s.desk.now) };
 
@@ -97,6 +98,8 @@ where
     fn place(&self) -> u64 {
         self.reader.place()
     }
+
+    ghost has_text = { λ s. some_text s.reader.bytes (D.outside s.desk.now) };
 
     ghost leaves_some = { λ s. slot_is_left G.steps G.forms s.reader (D.outside s.desk.now) };
 

@@ -46,17 +46,20 @@ impl From<ReadErr> for TextRefusal {
 
 /// A source of steps.
 ///
-/// What it has left is a list of steps and an ending, where it tells them. After `BadToken`,
+/// Of each text that it may be reading, by what it read so far, it has some steps left and an ending. After `BadToken`,
 /// `Unterminated`, `TooBig` or `TooLong` the same answer comes again. It is not asked again after
 /// `Memory` or `Failed`. The place rises at each step, up to a bound below 2^62 that never changes.
 pub trait StepSource {
     type Step;
 
-    // it has these steps left and then this ending
-    ghost leaves: { Self → List Self.Step → Ending → Type 0 };
+    // its text may be this one, by what it read so far; a source that reads no text tells nothing by it
+    ghost may_read: { Self → List ℕ → Type 0 };
 
-    // whether its text passes its limit, where it tells that
-    ghost passes_limit: { Self → Option Bool };
+    // of this text it has these steps left and then this ending
+    ghost leaves: { Self → List ℕ → List Self.Step → Ending → Type 0 };
+
+    // whether this text passes its limit, where it tells that
+    ghost passes_limit: { Self → List ℕ → Option Bool };
 
     // it has answered `Memory` or `Failed`
     ghost is_spent: { Self → Bool };
@@ -77,12 +80,13 @@ pub trait StepSource {
     /// The next step, or none at the end of the text between two steps. Its lists may take the memory of the spare ones.
     fn next_step(&mut self, spare: &mut SpareLists) -> Result<Option<Self::Step>, TextRefusal>
         requires { is_spent self.old ≡ false }
-        ensures step { Gives leaves self.old result self.new }
+        ensures step { (text : List ℕ) → may_read self.new text → Gives (λ a. leaves a text) self.old result self.new }
+        ensures narrows { (text : List ℕ) → may_read self.new text → may_read self.old text }
         ensures spent { SpentAs result (is_spent self.new) }
         ensures stuck { StuckAs (stuck self.old) result (stuck self.new) }
         ensures faults { FaultsAs result (faults self.old) (faults self.new) }
-        ensures long { IsTooLongOnly (passes_limit self.old) result }
-        ensures limit { passes_limit self.new ≡ passes_limit self.old }
+        ensures long { (text : List ℕ) → may_read self.new text → IsTooLongOnly (passes_limit self.old text) result }
+        ensures limit { (text : List ℕ) → may_read self.new text → passes_limit self.new text ≡ passes_limit self.old text }
         ensures rises { PlaceRises result (place_of self.old) (place_of self.new) }
         ensures within { place_of self.new ≤ farthest self.new }
         ensures far { farthest self.new < 2 ^ 62 }
@@ -93,8 +97,11 @@ pub trait StepSource {
     fn place(&self) -> u64
         ensures { result ≡ place_of self.now };
 
-    // it always has some steps left and an ending
-    ghost leaves_some: { (a : Self) → (steps : List Self.Step) × (ending : Ending) × leaves a steps ending };
+    // there is always a text that it may be reading
+    ghost has_text: { (a : Self) → (text : List ℕ) × may_read a text };
+
+    // of which it has some steps left and an ending
+    ghost leaves_some: { (a : Self) (text : List ℕ) → may_read a text → (steps : List Self.Step) × (ending : Ending) × leaves a text steps ending };
 
     ghost keeps_itself: { (a : Self) → keeps a a };
 
@@ -104,6 +111,8 @@ pub trait StepSource {
 /// A lent source is a source.
 impl<S: StepSource> StepSource for &mut S {
     type Step = S::Step;
+
+    ghost may_read = { λ s. S.may_read s.now };
 
     ghost leaves = { λ s. S.leaves s.now };
 
@@ -128,6 +137,8 @@ impl<S: StepSource> StepSource for &mut S {
     fn place(&self) -> u64 {
         (**self).place()
     }
+
+    ghost has_text = { λ a. S.has_text a.now };
 
     ghost leaves_some = { λ a. S.leaves_some a.now };
 

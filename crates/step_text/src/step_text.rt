@@ -52,14 +52,16 @@ impl<'a, G: StepGrammar> StepText<'a, G> {
 impl<'a, G: StepGrammar> StepSource for StepText<'a, G> {
     type Step = G::Step;
 
-    ghost use Rattle.std.specs.Prelude.{refl, ◌≡◌, Some, false};
+    ghost use Rattle.std.specs.Prelude.{refl, ◌≡◌, Some, false, ⊤, []};
     ghost use Rattle.std.proofs.Common.{◌∙◌};
     ghost use Rattle.step_text.specs.Left.{text_is_left};
     ghost use Rattle.step_text.specs.Texts.{Leaves, is_spent_by, stuck_by};
 
-    ghost leaves = { Leaves G.steps };
+    ghost may_read = { λ _ _. ⊤ };
 
-    ghost passes_limit = { λ _. Some false };
+    ghost leaves = { λ t _. Leaves G.steps t };
+
+    ghost passes_limit = { λ _ _. Some false };
 
     ghost is_spent = { λ t. is_spent_by t.refused };
 
@@ -96,7 +98,9 @@ impl<'a, G: StepGrammar> StepSource for StepText<'a, G> {
         self.place as u64
     }
 
-    ghost leaves_some = { text_is_left G.steps G.forms };
+    ghost has_text = { λ _. ([], tt) };
+
+    ghost leaves_some = { λ t _ _. text_is_left G.steps G.forms t };
 
     ghost keeps_itself = { λ a. refl };
 

@@ -63,7 +63,7 @@ fn add_steps(
 
 /// A desk with so much room for a proof.
 fn new_desk(alloc: Global, proof: usize) -> Result<MemDesk, AllocError>
-    ensures { IfOk result (λ m. is_whole (outside_of m).told ≡ true) }
+    ensures { IfOk result (λ m. is_whole (outside_of m) ≡ true) }
 {
     let rooms = Rooms {
         answer: 0,
@@ -204,9 +204,10 @@ fn a_refusal_comes_again(rt: HostRuntime) {
     assert_eq!(rt; refused_twice(rt.alloc(), &mut source), Some((2, 2)));
 }
 
-/// Gives a step to any sink.
+/// Gives a step to any sink that has not failed.
 fn give<S: Sink<Item = ProofStep>>(sink: &mut S, step: &ProofStep) -> Result<(), SinkFault>
-    requires { HasProofText step.now }
+    requires text { HasProofText step.now }
+    requires going { S.has_failed sink.old ≡ false }
     ensures failed { OnOk result (S.has_failed sink.new ≡ S.has_failed sink.old) }
     ensures frame { S.keeps sink.old sink.new }
 {
@@ -215,7 +216,7 @@ fn give<S: Sink<Item = ProofStep>>(sink: &mut S, step: &ProofStep) -> Result<(),
 
 /// Prints a step through a sink over a lent desk.
 fn print_through<D: Desk>(desk: &mut D, step: &ProofStep) -> Result<(), SinkFault>
-    requires whole { is_whole (D.outside desk.old).told ≡ true }
+    requires whole { is_whole (D.outside desk.old) ≡ true }
     requires text { HasProofText step.now }
     ensures { OnOk result (Prints (D.outside desk.old) (D.outside desk.new)) }
 {
@@ -223,37 +224,37 @@ fn print_through<D: Desk>(desk: &mut D, step: &ProofStep) -> Result<(), SinkFaul
     give(&mut sink, step)
 }
 
-/// Gives the steps that a text has left, at most eight, to a sink; how many it refused.
+/// Gives the steps that a text has left, at most eight, to a sink, until it refuses one; how many it took.
 fn give_all<S: Sink<Item = ProofStep>>(alloc: Global, source: &mut ProofText, sink: &mut S) -> u64
-    requires { is_spent_by source.old.refused ≡ false }
+    requires fresh { is_spent_by source.old.refused ≡ false }
+    requires going { S.has_failed sink.old ≡ false }
 {
     let mut spare = SpareLists::new(alloc);
-    let mut refused = 0u64;
-    for _ in 0..8 {
+    for taken in 0..8 {
         match source.next_step(&mut spare) {
             Ok(Some(step)) => {
                 if give(sink, &step).is_err() {
-                    refused = refused.saturating_add(1);
+                    return taken;
                 }
                 spare.keep(step);
             }
-            _ => break,
+            _ => return taken,
         }
     }
-    refused
+    8
 }
 
 /// The text whose steps are given to sinks.
 const GIVEN: &[u8] = b"6 0 0 7 d 6 0 8 0 0";
 
-/// What a desk is given of the steps by a sink over it, how many the sink refused, and the desk's faults.
+/// What a desk is given of the steps by a sink over it, how many the sink took, and the desk's faults.
 fn torn(alloc: Global, desk: &mut MemDesk) -> Result<Vec<u8>, Fail>
-    requires { is_whole (outside_of desk.old).told ≡ true }
+    requires { is_whole (outside_of desk.old) ≡ true }
 {
     let mut source = ProofText::new(GIVEN);
-    let refused = give_all(alloc, &mut source, &mut DeskProof::new(desk));
+    let taken = give_all(alloc, &mut source, &mut DeskProof::new(desk));
     let mut told = desk.written(Port::Proof).to_vec(alloc)?;
-    told.extend_from_slice(format!(in alloc; "|{refused} {}", desk.write_faults())?.as_bytes())?;
+    told.extend_from_slice(format!(in alloc; "|{taken} {}", desk.write_faults())?.as_bytes())?;
     Ok(told)
 }
 
@@ -267,14 +268,14 @@ fn torn_on_new(alloc: Global) -> Result<Vec<u8>, Fail> {
 fn a_torn_step_is_the_last_one(rt: HostRuntime) -> Result<(), Fail> {
     assert_eq!(rt;
         torn_on_new(rt.alloc())?.as_slice(),
-        b"6 0 0\n7 |2 1".as_slice()
+        b"6 0 0\n7 |1 1".as_slice()
     );
     Ok(())
 }
 
 /// The first step of a kept proof as it is printed.
 fn first_on(alloc: Global, kept: &ListProof, desk: &mut MemDesk) -> Result<Vec<u8>, Fail>
-    requires { is_whole (outside_of desk.old).told ≡ true }
+    requires { is_whole (outside_of desk.old) ≡ true }
 {
     if let Some(first) = kept.steps().first() {
         print_through(desk, first)?;
@@ -288,13 +289,13 @@ fn first_of(alloc: Global, kept: &ListProof) -> Result<Vec<u8>, Fail> {
     first_on(alloc, kept, &mut desk)
 }
 
-/// The first of the steps that a sink keeps, how many it refused, and how many it has.
+/// The first of the steps that a sink keeps, how many it took, and how many it has.
 fn keep_all(alloc: Global, kept: &mut ListProof) -> Result<Vec<u8>, Fail> {
     let mut source = ProofText::new(GIVEN);
-    let refused = give_all(alloc, &mut source, kept);
+    let taken = give_all(alloc, &mut source, kept);
     let mut told = first_of(alloc, kept)?;
     let count = kept.steps().len();
-    told.extend_from_slice(format!(in alloc; "|{refused} {count}")?.as_bytes())?;
+    told.extend_from_slice(format!(in alloc; "|{taken} {count}")?.as_bytes())?;
     Ok(told)
 }
 
@@ -306,6 +307,6 @@ fn kept(alloc: Global) -> Result<Vec<u8>, Fail> {
 
 #[test]
 fn kept_steps_are_those_given(rt: HostRuntime) -> Result<(), Fail> {
-    assert_eq!(rt; kept(rt.alloc())?.as_slice(), b"6 0 0\n|0 3".as_slice());
+    assert_eq!(rt; kept(rt.alloc())?.as_slice(), b"6 0 0\n|3 3".as_slice());
     Ok(())
 }

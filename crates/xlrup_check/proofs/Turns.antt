@@ -1,6 +1,6 @@
 -- One step more of a proof that is judged.
-use Rattle.std.proofs.Common.{◌≡◌, refl, sym, ap, subst, ℕ, ◌+◌, Bool, true, false, length, List, [], ◌∷◌, ◌++◌, length-append, append-nil, append_assoc, inl, inr, arith, ◌⊎◌, IfOk, IfErr, Option, Some, None, Result, Ok, Err}
-use Rattle.cx_base.specs.Problem.{Problem, Unmet}
+use Rattle.std.proofs.Common.{◌≡◌, ◌<◌, ◌^◌, refl, sym, ap, subst, ℕ, ◌+◌, Bool, true, false, length, List, [], ◌∷◌, ◌++◌, length-append, append-nil, append_assoc, inl, inr, arith, IfOk, IfErr, OnOk, Option, Some, None, Result, Ok, Err}
+use Rattle.cx_base.specs.Problem.{Problem}
 use Rattle.cx_base.specs.Assumptions.{clashes}
 use Rattle.cx_base.specs.declared.steps.ProofStep.{ProofStep}
 use Rattle.cx_semantics.specs.declared.cause.Cause.{Cause}
@@ -14,131 +14,160 @@ use Rattle.cx_semantics.specs.Judging.{Runs, FirstFailure, AcceptedAt, end_cause
 use Rattle.cx_semantics.specs.ProofRules.{proof_calculus, proof_rules}
 use Rattle.cx_semantics.proofs.JudgingLaws.{runs_push}
 use Rattle.cx_semantics.proofs.Soundness.{accepted_steps_are_unmet}
-use Rattle.xlrup_check.specs.Verdicts.{Kept, EndedBy, Goes, IsJudgedBy, IsSound, TakesStep, WhereTook, WhereWent, text_refused, what_follows_of, ReadsStand, IsTooLongBy}
+use Rattle.xlrup_check.specs.Verdicts.{Kept, IsJudged, Goes, IsJudgedBy, IsSound, HasCause, RecordsAll, TakesStep, Tells, text_refused, what_follows_of, ReadsStand, IsTooLongBy}
 use Rattle.proof_rules.specs.declared.refusal.JudgeRefusal.{JudgeRefusal}
 use Rattle.proof_rules.specs.declared.refusal.JudgeRefusal.TheVariants as refusal
-use Rattle.xlrup_check.specs.declared.verdict.Taken.{Taken}
-use Rattle.xlrup_check.specs.declared.verdict.Taken.TheVariants as taken
 use Rattle.xlrup_check.specs.declared.verdict.Fault.{Fault}
-use Rattle.xlrup_check.specs.declared.verdict.Verdict.TheVariants.{Verified}
+use Rattle.xlrup_check.specs.declared.verdict.Fault.TheVariants.{Memory}
+use Rattle.xlrup_check.specs.declared.verdict.Verdict.{Verdict}
+use Rattle.xlrup_check.specs.declared.verdict.Verdict.TheVariants.{Verified, Refused}
 
-module _ {X : Type 0} (leaves : X → List ProofStep → Ending → Type 0) (formula : Problem) (first old new : X) (tables : Tables) (before : List ProofStep) (count : ℕ)
-    (kept : Kept leaves formula first old tables before count) where
+module _ {X R : Type 0} (may_read : X → List ℕ → Type 0) (leaves : X → List ℕ → List ProofStep → Ending → Type 0) (told : R → List ProofStep → Type 0) (formula : Problem)
+    (first : X) (start : R) (old new : X) (recorder after : R) (tables : Tables) (count : ℕ) (kept : Kept may_read leaves told formula first start old recorder tables count)
+    (narrows : (t : List ℕ) → may_read new t → may_read old t) where
   -- the text ends here
-  pub end_is_refused : (ending : Ending) (cause : Cause) → cause ≡ end_cause ending → leaves old [] ending → Goes leaves formula first new tables before count (taken.Refused (count + 1) cause)
-  end_is_refused ending cause e h = (
-    before,
-    ending,
-    subst (λ (ss : List ProofStep). leaves first ss ending) (append-nil before) (kept.left [] ending h),
-    (kept.no_clash, inr (record { tables = tables; runs = kept.runs; why = e; number = ap (λ n. n + 1) kept.number })),
-  )
+  pub end_is_refused : (ending : Ending) (cause : Cause) → cause ≡ end_cause ending → ((t : List ℕ) → may_read new t → leaves old t [] ending)
+      → IsJudged may_read leaves told formula first start new after (Refused (count + 1) cause)
+  end_is_refused ending cause e h = record {
+    judged = λ t may. (
+      kept.before,
+      ending,
+      subst (λ (ss : List ProofStep). leaves first t ss ending) (append-nil kept.before) (kept.left t (narrows t may) [] ending (h t may)),
+      (kept.no_clash, inr (record { tables = tables; runs = kept.runs; why = e; number = ap (λ n. n + 1) kept.number })),
+    );
+    sound = tt;
+    recorded = λ none. tt;
+  }
 
   -- no step comes
-  pub text_is_refused : (why : TextRefusal) → GivesNone leaves why old new → IfOk (text_refused why (count + 1)) (Goes leaves formula first new tables before count)
-  text_is_refused (text.BadToken place) h = end_is_refused (bad_token place) (causes.TextRefused place) refl h.0
-  text_is_refused (text.Unterminated place) h = end_is_refused (unterminated place) (causes.TextRefused place) refl h.0
-  text_is_refused (text.TooBig place) h = end_is_refused (too_big place) (causes.TextRefused place) refl h.0
-  text_is_refused text.TooLong h = tt
-  text_is_refused text.Memory h = tt
-  text_is_refused text.Failed h = tt
+  pub text_is_refused : (why : TextRefusal) → ((t : List ℕ) → may_read new t → GivesNone (λ a. leaves a t) why old new) → (later_tables : Tables)
+      → IfOk (text_refused why (count + 1)) (Goes may_read leaves told formula first start new after later_tables count)
+  text_is_refused (text.BadToken place) h later_tables = end_is_refused (bad_token place) (causes.TextRefused place) refl (λ t may. (h t may).0)
+  text_is_refused (text.Unterminated place) h later_tables = end_is_refused (unterminated place) (causes.TextRefused place) refl (λ t may. (h t may).0)
+  text_is_refused (text.TooBig place) h later_tables = end_is_refused (too_big place) (causes.TextRefused place) refl (λ t may. (h t may).0)
+  text_is_refused text.TooLong h later_tables = tt
+  text_is_refused text.Memory h later_tables = tt
+  text_is_refused text.Failed h later_tables = tt
 
-  module _ (step : ProofStep) (follows : (steps : List ProofStep) (ending : Ending) → leaves new steps ending → leaves old (step ∷ steps) ending) where
-    -- the step is wrong; the source has something left behind it
-    step_is_refused : (cause : Cause) → FirstFailure (proof_rules formula tables step) cause → (rest : (steps : List ProofStep) × (ending : Ending) × leaves new steps ending)
-        → (after : Tables) → Goes leaves formula first new after before count (taken.Refused (count + 1) cause)
-    step_is_refused cause f rest after = (
-      before ++ step ∷ rest.0,
-      rest.1,
-      kept.left (step ∷ rest.0) rest.1 (follows rest.0 rest.1 rest.2),
-      (kept.no_clash, inl (record { before = before; step = step; later = rest.0; tables = tables; split = refl; runs = kept.runs; wrong = f; number = ap (λ n. n + 1) kept.number })),
-    )
+  module _ (step : ProofStep) (follows : (t : List ℕ) → may_read new t → (steps : List ProofStep) (ending : Ending) → leaves new t steps ending → leaves old t (step ∷ steps) ending)
+      (rest : (t : List ℕ) → may_read new t → (steps : List ProofStep) × (ending : Ending) × leaves new t steps ending) where
+    -- what the source had left of a text: the steps before, this one and the rest
+    whole : (t : List ℕ) (may : may_read new t) → leaves first t (kept.before ++ step ∷ (rest t may).0) (rest t may).1
+    whole t may = let r = rest t may in kept.left t (narrows t may) (step ∷ r.0) r.1 (follows t may r.0 r.1 r.2)
 
-    accepted_here : (after : Tables) → TakesStep formula tables step (Ok true) after → (later : List ProofStep) → AcceptedAt (proof_calculus formula) (before ++ step ∷ later) (length before + 1)
-    accepted_here after t later = inr (
-      kept.no_clash,
-      record {
-        before = before;
-        step = step;
-        later = later;
-        tables = tables;
-        split = refl;
-        runs = kept.runs;
-        right = t.0;
-        ends = sym t.1.1;
-        number = refl;
-      },
-    )
-
-    -- the step is right and ends the proof
-    step_is_accepted : (after : Tables) → TakesStep formula tables step (Ok true) after → (rest : (steps : List ProofStep) × (ending : Ending) × leaves new steps ending)
-        → Goes leaves formula first new after before count (taken.Ended step)
-    step_is_accepted after t rest = (
-      record { accepted = accepted_here after t; later = rest.0; ending = rest.1; left = kept.left (step ∷ rest.0) rest.1 (follows rest.0 rest.1 rest.2) },
-      kept.number,
-    )
-
-    -- the step is right, and the proof goes on
-    step_is_kept : (after : Tables) → TakesStep formula tables step (Ok false) after → Goes leaves formula first new after before count (taken.Went step)
-    step_is_kept after t = record {
-      no_clash = kept.no_clash;
-      runs = subst (λ (u : Tables). Runs (proof_calculus formula) (first_tables formula) (before ++ step ∷ []) u) (sym t.1.0)
-          (runs_push (proof_calculus formula) (first_tables formula) before step tables kept.runs t.0 (sym t.1.1));
-      number = omega (arith, kept.number, length-append before (step ∷ []));
-      left = λ steps ending h. subst (λ (ss : List ProofStep). leaves first ss ending) (sym (append_assoc before (step ∷ []) steps)) (kept.left (step ∷ steps) ending (follows steps ending h));
+    -- the step is wrong
+    step_is_refused : (cause : Cause) → FirstFailure (proof_rules formula tables step) cause → IsJudged may_read leaves told formula first start new after (Refused (count + 1) cause)
+    step_is_refused cause f = record {
+      judged = λ t may. (
+        kept.before ++ step ∷ (rest t may).0,
+        (rest t may).1,
+        whole t may,
+        (
+          kept.no_clash,
+          inl (record { before = kept.before; step = step; later = (rest t may).0; tables = tables; split = refl; runs = kept.runs; wrong = f; number = ap (λ n. n + 1) kept.number }),
+        ),
+      );
+      sound = tt;
+      recorded = λ none. tt;
     }
 
+    module _ (later_tables : Tables) (tells : Tells told step recorder after) where
+      accepted_here : TakesStep formula tables step (Ok true) later_tables → (later : List ProofStep) → AcceptedAt (proof_calculus formula) (kept.before ++ step ∷ later) (length kept.before + 1)
+      accepted_here h later = inr (
+        kept.no_clash,
+        record {
+          before = kept.before;
+          step = step;
+          later = later;
+          tables = tables;
+          split = refl;
+          runs = kept.runs;
+          right = h.0;
+          ends = sym h.1.1;
+          number = refl;
+        },
+      )
+
+      -- the step is right and ends the proof
+      step_is_accepted : count + 1 < 2 ^ 62 → TakesStep formula tables step (Ok true) later_tables → IsJudged may_read leaves told formula first start new after (Verified (count + 1))
+      step_is_accepted few h = record {
+        judged = λ t may. (
+          kept.before ++ step ∷ (rest t may).0,
+          (rest t may).1,
+          whole t may,
+          subst (λ k. AcceptedAt (proof_calculus formula) (kept.before ++ step ∷ (rest t may).0) (k + 1)) (sym kept.number) (accepted_here h (rest t may).0),
+        );
+        sound = accepted_steps_are_unmet formula (kept.before ++ step ∷ []) (length kept.before + 1) (accepted_here h []);
+        recorded = λ none. (
+          kept.before ++ step ∷ [],
+          tells kept.before (kept.were_told none),
+          record {
+            accepted = subst (λ k. AcceptedAt (proof_calculus formula) (kept.before ++ step ∷ []) k) (sym (length-append kept.before (step ∷ []))) (accepted_here h []);
+            short = omega (arith, few, kept.number, length-append kept.before (step ∷ []));
+            left = λ t may. (
+              (rest t may).0,
+              (rest t may).1,
+              subst (λ (ss : List ProofStep). leaves first t ss (rest t may).1) (sym (append_assoc kept.before (step ∷ []) (rest t may).0)) (whole t may),
+            );
+          },
+        );
+      }
+
+      -- the step is right, and the proof goes on
+      step_is_kept : TakesStep formula tables step (Ok false) later_tables → Kept may_read leaves told formula first start new after later_tables (count + 1)
+      step_is_kept h = record {
+        before = kept.before ++ step ∷ [];
+        no_clash = kept.no_clash;
+        runs = subst (λ (u : Tables). Runs (proof_calculus formula) (first_tables formula) (kept.before ++ step ∷ []) u) (sym h.1.0)
+            (runs_push (proof_calculus formula) (first_tables formula) kept.before step tables kept.runs h.0 (sym h.1.1));
+        number = omega (arith, kept.number, length-append kept.before (step ∷ []));
+        were_told = λ none. tells kept.before (kept.were_told none);
+        narrows = λ t may. kept.narrows t (narrows t may);
+        left = λ t may steps ending l. subst (λ (ss : List ProofStep). leaves first t ss ending) (sym (append_assoc kept.before (step ∷ []) steps))
+            (kept.left t (narrows t may) (step ∷ steps) ending (follows t may steps ending l));
+      }
+
     -- what follows the step, as it was judged
-    pub step_goes : (after : Tables) (judged : Result Bool JudgeRefusal) → TakesStep formula tables step judged after → ((steps : List ProofStep) × (ending : Ending) × leaves new steps ending)
-        → IfOk (what_follows_of judged step (count + 1)) (Goes leaves formula first new after before count)
-    step_goes after (Ok true) t rest = step_is_accepted after t rest
-    step_goes after (Ok false) t rest = step_is_kept after t
-    step_goes after (Err (refusal.Wrong cause)) f rest = step_is_refused cause f rest after
-    step_goes after (Err refusal.Memory) f rest = tt
+    step_follows : count + 1 < 2 ^ 62 → (later_tables : Tables) (judged : Result Bool JudgeRefusal) → TakesStep formula tables step judged later_tables → OnOk judged (Tells told step recorder after)
+        → IfOk (what_follows_of judged (count + 1)) (Goes may_read leaves told formula first start new after later_tables count)
+    step_follows few later_tables (Ok true) h tells = step_is_accepted later_tables tells few h
+    step_follows few later_tables (Ok false) h tells = step_is_kept later_tables tells h
+    step_follows few later_tables (Err (refusal.Wrong cause)) f tells = step_is_refused cause f
+    step_follows few later_tables (Err refusal.Memory) f tells = tt
 
--- ---- the end of a proof
-
-module _ {X : Type 0} (leaves : X → List ProofStep → Ending → Type 0) (formula : Problem) (first : X) (before : List ProofStep) (step : ProofStep) (count : ℕ)
-    (ended : EndedBy leaves formula first before step × (count ≡ length before)) where
-  pub ended_is_judged : IsJudgedBy leaves formula first (Verified (count + 1))
-  ended_is_judged = (
-    before ++ step ∷ ended.0.later,
-    ended.0.ending,
-    ended.0.left,
-    subst (λ k. AcceptedAt (proof_calculus formula) (before ++ step ∷ ended.0.later) (k + 1)) (sym ended.1) (ended.0.accepted ended.0.later),
-  )
-
-  pub ended_is_unmet : Unmet formula
-  ended_is_unmet = accepted_steps_are_unmet formula (before ++ step ∷ []) (length before + 1) (ended.0.accepted [])
+    pub step_goes : count + 1 < 2 ^ 62 → (later_tables : Tables) (judged : Result Bool JudgeRefusal) → TakesStep formula tables step judged later_tables → (answer : Result (Option Verdict) Fault)
+        → IfOk answer (λ verdict. what_follows_of judged (count + 1) ≡ Ok verdict) → OnOk answer (OnOk judged (Tells told step recorder after))
+        → IfOk answer (Goes may_read leaves told formula first start new after later_tables count)
+    step_goes few later_tables judged h (Ok verdict) e tells =
+        subst (λ (r : Result (Option Verdict) Fault). IfOk r (Goes may_read leaves told formula first start new after later_tables count)) e (step_follows few later_tables judged h tells)
+    step_goes few later_tables judged h (Err fault) e tells = tt
 
 -- ---- assumptions that clash
 
--- whatever the source has left
-pub clash_is_accepted : {X : Type 0} (leaves : X → List ProofStep → Ending → Type 0) (formula : Problem) (source : X) → clashes formula.constraints ≡ true
-    → ((steps : List ProofStep) × (ending : Ending) × leaves source steps ending) → IsJudgedBy leaves formula source (Verified 0)
-clash_is_accepted leaves formula source clash left = (left.0, left.1, left.2, inl (clash, refl))
+module _ {X : Type 0} (leaves : X → List ℕ → List ProofStep → Ending → Type 0) (formula : Problem) (source : X) (clash : clashes formula.constraints ≡ true) where
+  -- whatever the source has left
+  pub clash_is_accepted : (t : List ℕ) → ((steps : List ProofStep) × (ending : Ending) × leaves source t steps ending) → IsJudgedBy (λ a. leaves a t) formula source (Verified 0)
+  clash_is_accepted t left = (left.0, left.1, left.2, inl (clash, refl))
 
-pub clash_is_sound : (formula : Problem) → clashes formula.constraints ≡ true → IsSound formula (Verified 0)
-clash_is_sound formula clash = accepted_steps_are_unmet formula [] 0 (inl (clash, refl))
+  pub clash_is_sound : IsSound formula (Verified 0)
+  clash_is_sound = accepted_steps_are_unmet formula [] 0 (inl (clash, refl))
+
+  pub clash_is_recorded : (may_read : List ℕ → Type 0) (told : List ProofStep → Type 0) → told [] → ((t : List ℕ) → may_read t → (steps : List ProofStep) × (ending : Ending) × leaves source t steps ending)
+      → RecordsAll may_read leaves told formula source (Verified 0)
+  clash_is_recorded may_read told none left = ([], none, record { accepted = inl (clash, refl); short = omega arith; left = left })
 
 -- ---- the source's faults
 
 abbrev unread : TextRefusal → Result (Unit {0}) TextRefusal
 unread why = Err why
 
-module _ (before now : ℕ) where
-  pub text_stands : (why : TextRefusal) (k : ℕ) → FaultsAs (unread why) before now → ReadsStand (text_refused why k) before now
-  text_stands (text.BadToken place) k e = e
-  text_stands (text.Unterminated place) k e = e
-  text_stands (text.TooBig place) k e = e
-  text_stands text.TooLong k e = e
-  text_stands text.Memory k e = e
-  text_stands text.Failed k e = tt
-
-  pub step_stands : (judged : Result Bool JudgeRefusal) (step : ProofStep) (k : ℕ) → now ≡ before → ReadsStand (what_follows_of judged step k) before now
-  step_stands (Ok true) step k e = e
-  step_stands (Ok false) step k e = e
-  step_stands (Err (refusal.Wrong cause)) step k e = e
-  step_stands (Err refusal.Memory) step k e = e
+pub text_stands : (before now : ℕ) (why : TextRefusal) (k : ℕ) → FaultsAs (unread why) before now → ReadsStand (text_refused why k) before now
+text_stands before now (text.BadToken place) k e = e
+text_stands before now (text.Unterminated place) k e = e
+text_stands before now (text.TooBig place) k e = e
+text_stands before now text.TooLong k e = e
+text_stands before now text.Memory k e = e
+text_stands before now text.Failed k e = tt
 
 -- a text that is too long is refused as such again
 pub text_stuck : (T : Type 0) (before now : Option TextRefusal) (why : TextRefusal) (k : ℕ) → StuckAs {T = T} before (Err why) now → IfErr (text_refused why k) (IsTooLongBy now)
@@ -150,48 +179,24 @@ text_stuck T (Some r) now text.TooLong k e = cc (e.0, e.1)
 text_stuck T before now text.Memory k e = tt
 text_stuck T before now text.Failed k e = tt
 
-pub step_stuck : (now : Option TextRefusal) (judged : Result Bool JudgeRefusal) (step : ProofStep) (k : ℕ) → IfErr (what_follows_of judged step k) (IsTooLongBy now)
-step_stuck now (Ok true) step k = tt
-step_stuck now (Ok false) step k = tt
-step_stuck now (Err (refusal.Wrong cause)) step k = tt
-step_stuck now (Err refusal.Memory) step k = tt
+-- ---- an answer that is an error only for want of memory
 
-abbrev pub taken_well : Taken → Result Taken Fault
-taken_well o = Ok o
+module _ {T : Type 0} where
+  pub stands_without_memory : (answer : Result T Fault) (before now : ℕ) → IfErr answer (λ e. e ≡ Memory) → now ≡ before → ReadsStand answer before now
+  stands_without_memory (Ok x) before now h e = e
+  stands_without_memory (Err fault) before now h e = subst (λ (f : Fault). ReadsStand (failed f) before now) (sym h) e
+    where
+      failed : Fault → Result T Fault
+      failed f = Err f
 
-pub went_by_text : (P : Type 0) → (why : TextRefusal) (k : ℕ) → WhereWent (text_refused why k) P
-went_by_text P (text.BadToken place) k = tt
-went_by_text P (text.Unterminated place) k = tt
-went_by_text P (text.TooBig place) k = tt
-went_by_text P text.TooLong k = tt
-went_by_text P text.Memory k = tt
-went_by_text P text.Failed k = tt
+  pub has_cause_without_memory : (answer : Result T Fault) (passes : Option Bool) (before now : ℕ) → IfErr answer (λ e. e ≡ Memory) → IfErr answer (HasCause passes before now)
+  has_cause_without_memory (Ok x) passes before now h = tt
+  has_cause_without_memory (Err fault) passes before now h = subst (HasCause passes before now) (sym h) tt
 
-pub went_by_step : (P : Type 0) → P → (judged : Result Bool JudgeRefusal) (step : ProofStep) (k : ℕ) → WhereWent (what_follows_of judged step k) P
-went_by_step P p (Ok true) step k = tt
-went_by_step P p (Ok false) step k = p
-went_by_step P p (Err (refusal.Wrong cause)) step k = tt
-went_by_step P p (Err refusal.Memory) step k = tt
+  pub long_without_memory : (answer : Result T Fault) (stuck : Option TextRefusal) → IfErr answer (λ e. e ≡ Memory) → IfErr answer (IsTooLongBy stuck)
+  long_without_memory (Ok x) stuck h = tt
+  long_without_memory (Err fault) stuck h = subst (IsTooLongBy stuck) (sym h) tt
 
--- what holds where the proof goes on
-pub when_went : (P : Type 0) (o : Taken) (step : ProofStep) → o ≡ taken.Went step → WhereWent (taken_well o) P → P
-when_went P o step e h = subst (λ (x : Taken). WhereWent (taken_well x) P) e h
-
-pub took_by_text : (P : Type 0) → (why : TextRefusal) (k : ℕ) → WhereTook (text_refused why k) P
-took_by_text P (text.BadToken place) k = tt
-took_by_text P (text.Unterminated place) k = tt
-took_by_text P (text.TooBig place) k = tt
-took_by_text P text.TooLong k = tt
-took_by_text P text.Memory k = tt
-took_by_text P text.Failed k = tt
-
-pub took_by_step : (P : Type 0) → P → (judged : Result Bool JudgeRefusal) (step : ProofStep) (k : ℕ) → WhereTook (what_follows_of judged step k) P
-took_by_step P p (Ok true) step k = p
-took_by_step P p (Ok false) step k = p
-took_by_step P p (Err (refusal.Wrong cause)) step k = tt
-took_by_step P p (Err refusal.Memory) step k = tt
-
--- what holds where a step was taken, and the proof goes on or ends
-pub when_took : (P : Type 0) (o : Taken) (step : ProofStep) → (o ≡ taken.Went step) ⊎ (o ≡ taken.Ended step) → WhereTook (taken_well o) P → P
-when_took P o step (inl e) h = subst (λ (x : Taken). WhereTook (taken_well x) P) e h
-when_took P o step (inr e) h = subst (λ (x : Taken). WhereTook (taken_well x) P) e h
+  pub on_any : (answer : Result T Fault) (P : T → Type 0) → ((x : T) → P x) → IfOk answer P
+  on_any (Ok x) P p = p x
+  on_any (Err fault) P p = tt

@@ -1,5 +1,5 @@
 -- What the checker answers.
-use Rattle.std.specs.Prelude.{◌≡◌, ℕ, ℤ, Bool, true, false, ◌&&◌, [], ◌∷◌, List, length, ◌++◌, ◌+◌, Option, Some, Result, Ok, Err, IsFalse, ⊤}
+use Rattle.std.specs.Prelude.{◌≡◌, ◌<◌, ◌^◌, ℕ, ℤ, Bool, true, false, ◌&&◌, [], ◌∷◌, List, length, ◌++◌, ◌+◌, Option, Some, None, Result, Ok, Err, IsFalse, ⊤}
 use Rattle.cx_base.specs.Problem.{Problem, Unmet}
 use Rattle.cx_base.specs.Assumptions.{is_ending, clashes}
 use Rattle.cx_base.specs.declared.steps.ProofStep.{ProofStep}
@@ -21,8 +21,6 @@ use Rattle.proof_rules.specs.Kinds.{chosen, put_constraint, is_clauses, hinted}
 use Rattle.proof_rules.specs.declared.live.Kind.{Kind}
 use Rattle.xlrup_check.specs.declared.verdict.Verdict.{Verdict}
 use Rattle.xlrup_check.specs.declared.verdict.Verdict.TheVariants.{Verified, Refused}
-use Rattle.xlrup_check.specs.declared.verdict.Taken.{Taken}
-use Rattle.xlrup_check.specs.declared.verdict.Taken.TheVariants as taken
 use Rattle.xlrup_check.specs.declared.verdict.Fault.{Fault}
 use Rattle.xlrup_check.specs.declared.verdict.Fault.TheVariants.{Memory, Read, TooLong}
 
@@ -61,54 +59,61 @@ ReadsStand (Err TooLong) before now = now ≡ before
 ReadsStand (Err Read) before now = ⊤
 
 -- what stands where no step comes: a text that does not fit is refused at this number, the rest is a fault
-abbrev pub text_refused : TextRefusal → ℕ → Result Taken Fault
-text_refused (text.BadToken place) k = Ok (taken.Refused k (causes.TextRefused place))
-text_refused (text.Unterminated place) k = Ok (taken.Refused k (causes.TextRefused place))
-text_refused (text.TooBig place) k = Ok (taken.Refused k (causes.TextRefused place))
+abbrev pub text_refused : TextRefusal → ℕ → Result (Option Verdict) Fault
+text_refused (text.BadToken place) k = Ok (Some (Refused k (causes.TextRefused place)))
+text_refused (text.Unterminated place) k = Ok (Some (Refused k (causes.TextRefused place)))
+text_refused (text.TooBig place) k = Ok (Some (Refused k (causes.TextRefused place)))
 text_refused text.TooLong k = Err TooLong
 text_refused text.Memory k = Err Memory
 text_refused text.Failed k = Err Read
 
 -- what follows a step that was judged: a right one ends the proof or does not, a wrong one is refused
-abbrev pub what_follows_of : Result Bool JudgeRefusal → ProofStep → ℕ → Result Taken Fault
-what_follows_of (Ok true) step k = Ok (taken.Ended step)
-what_follows_of (Ok false) step k = Ok (taken.Went step)
-what_follows_of (Err (refusal.Wrong cause)) step k = Ok (taken.Refused k cause)
-what_follows_of (Err refusal.Memory) step k = Err Memory
+abbrev pub what_follows_of : Result Bool JudgeRefusal → ℕ → Result (Option Verdict) Fault
+what_follows_of (Ok true) k = Ok (Some (Verified k))
+what_follows_of (Ok false) k = Ok None
+what_follows_of (Err (refusal.Wrong cause)) k = Ok (Some (Refused k cause))
+what_follows_of (Err refusal.Memory) k = Err Memory
 
--- a fact that holds where a right step was taken and the proof goes on
-abbrev pub WhereWent : Result Taken Fault → Type 0 → Type 0
-WhereWent (Ok (taken.Went step)) P = P
-WhereWent (Ok (taken.Ended step)) P = ⊤
-WhereWent (Ok (taken.Refused k cause)) P = ⊤
-WhereWent (Err fault) P = ⊤
+-- a recorder was told this step after those before
+abbrev pub Tells : {R : Type 0} → (R → List ProofStep → Type 0) → ProofStep → R → R → Type 0
+Tells told step old new = (before : List ProofStep) → told old before → told new (before ++ step ∷ [])
 
--- a fact that holds where a right step was taken
-abbrev pub WhereTook : Result Taken Fault → Type 0 → Type 0
-WhereTook (Ok (taken.Went step)) P = P
-WhereTook (Ok (taken.Ended step)) P = P
-WhereTook (Ok (taken.Refused k cause)) P = ⊤
-WhereTook (Err fault) P = ⊤
+-- These steps are accepted at their last one, or at once where there is none, and of each text that the source may have read they were left, and maybe
+-- others after them.
+pub record IsRefutationIn {X : Type 0} (may_read : List ℕ → Type 0) (leaves : X → List ℕ → List ProofStep → Ending → Type 0) (formula : Problem) (source : X) (steps : List ProofStep) : Type 0 where
+  pub accepted : AcceptedAt (proof_calculus formula) steps (length steps)
+  pub short : length steps < 2 ^ 62
+  pub left : (text : List ℕ) → may_read text → (later : List ProofStep) × (ending : Ending) × leaves source text (steps ++ later) ending
 
--- What is known before a step: the assumptions do not clash, these steps were taken, are right and did not end the proof, and what is left follows them.
-pub record Kept {X : Type 0} (leaves : X → List ProofStep → Ending → Type 0) (formula : Problem) (first now : X) (tables : Tables) (before : List ProofStep) (count : ℕ) : Type 0 where
-  pub no_clash : IsFalse (clashes formula.constraints)
-  pub runs : Runs (proof_calculus formula) (first_tables formula) before tables
-  pub number : count ≡ length before
-  pub left : (steps : List ProofStep) (ending : Ending) → leaves now steps ending → leaves first (before ++ steps) ending
+-- the steps that were told of a proof that is verified are a refutation, up to the step that ends it
+abbrev pub RecordsAll : {X : Type 0} → (List ℕ → Type 0) → (X → List ℕ → List ProofStep → Ending → Type 0) → (List ProofStep → Type 0) → Problem → X → Verdict → Type 0
+RecordsAll may_read leaves told formula source (Verified k) = (steps : List ProofStep) × told steps × IsRefutationIn may_read leaves formula source steps
+RecordsAll may_read leaves told formula source (Refused k cause) = ⊤
 
--- This step after those ends the proof, whatever comes after it.
-pub record EndedBy {X : Type 0} (leaves : X → List ProofStep → Ending → Type 0) (formula : Problem) (first : X) (before : List ProofStep) (step : ProofStep) : Type 0 where
-  pub accepted : (later : List ProofStep) → AcceptedAt (proof_calculus formula) (before ++ step ∷ later) (length before + 1)
-  pub later : List ProofStep
-  pub ending : Ending
-  pub left : leaves first (before ++ step ∷ later) ending
+-- A proof is judged from a first state of its source and of its recorder on.
+module _ {X R : Type 0} (may_read : X → List ℕ → Type 0) (leaves : X → List ℕ → List ProofStep → Ending → Type 0) (told : R → List ProofStep → Type 0) (formula : Problem)
+    (first : X) (start : R) where
+  -- What is known before a step: the assumptions do not clash, these steps were taken and told, are right and did not end the proof, and what is left of
+  -- each text that the source may have read follows them.
+  pub record Kept (now : X) (recorder : R) (tables : Tables) (count : ℕ) : Type 0 where
+    pub before : List ProofStep
+    pub no_clash : IsFalse (clashes formula.constraints)
+    pub runs : Runs (proof_calculus formula) (first_tables formula) before tables
+    pub number : count ≡ length before
+    pub were_told : told start [] → told recorder before
+    pub narrows : (text : List ℕ) → may_read now text → may_read first text
+    pub left : (text : List ℕ) → may_read now text → (steps : List ProofStep) (ending : Ending) → leaves now text steps ending → leaves first text (before ++ steps) ending
 
--- the proof goes on after one step more, ends with it, or is refused
-abbrev pub Goes : {X : Type 0} → (X → List ProofStep → Ending → Type 0) → Problem → X → X → Tables → List ProofStep → ℕ → Taken → Type 0
-Goes leaves formula first now tables before steps (taken.Went step) = Kept leaves formula first now tables (before ++ step ∷ []) (steps + 1)
-Goes leaves formula first now tables before steps (taken.Ended step) = EndedBy leaves formula first before step × (steps ≡ length before)
-Goes leaves formula first now tables before steps (taken.Refused k cause) = IsJudgedBy leaves formula first (Refused k cause)
+  -- this is the verdict on each text that the source may have read, and the steps of a verified proof were told
+  pub record IsJudged (now : X) (recorder : R) (verdict : Verdict) : Type 0 where
+    pub judged : (text : List ℕ) → may_read now text → IsJudgedBy (λ a. leaves a text) formula first verdict
+    pub sound : IsSound formula verdict
+    pub recorded : told start [] → RecordsAll (may_read now) leaves (told recorder) formula first verdict
+
+  -- the proof goes on after one step more, or is judged
+  abbrev pub Goes : X → R → Tables → ℕ → Option Verdict → Type 0
+  Goes now recorder tables steps None = Kept now recorder tables (steps + 1)
+  Goes now recorder tables steps (Some verdict) = IsJudged now recorder verdict
 
 -- all rules hold, these tables stand after and it is said whether the proof ends; or the first rule that fails is the cause
 abbrev pub Takes : List Rule → Tables → Bool → Result Bool JudgeRefusal → Tables → Type 0

@@ -1,10 +1,11 @@
 //! The judgement of a proof, step by step.
-ghost use Rattle.std.specs.Prelude.{◌≡◌, ◌<◌, ◌≤◌, ◌^◌, false, List, IfOk, IfErr};
-ghost use Rattle.cx_base.specs.declared.steps.ProofStep.{ProofStep};
-ghost use Rattle.xlrup_check.specs.Verdicts.{IsJudgedBy, IsSound, HasCause, IsTooLongBy, ReadsStand, Kept, Goes, WhereTook, WhereWent, text_refused, what_follows_of};
+ghost use Rattle.std.specs.Prelude.{◌≡◌, ◌<◌, ◌≤◌, ◌^◌, ℕ, false, None, [], List, Ok, IfOk, IfErr, OnOk};
+ghost use Rattle.xlrup_check.specs.Verdicts.{IsJudgedBy, IsSound, HasCause, IsTooLongBy, ReadsStand, RecordsAll, Tells, Kept, Goes, text_refused, what_follows_of};
+ghost use Rattle.xlrup_check.specs.declared.verdict.Fault.TheVariants.{Memory};
 
+use crate::recorder::{Recorder, Unrecorded};
 use crate::step::take_step;
-use crate::verdict::{Fault, Taken, Verdict};
+use crate::verdict::{Fault, Verdict};
 use cx_base::{Formula, ProofStep};
 use cx_semantics::Cause;
 use proof_rules::{JudgeMarks, JudgeRefusal, Live};
@@ -13,24 +14,18 @@ use step_text::{SpareLists, StepSource, TextRefusal};
 
 /// What is kept from one step to the next for its memory alone.
 #[derive(Drop)]
-pub struct CheckMemory {
+struct CheckMemory {
     marks: JudgeMarks,
     spare: SpareLists,
 }
 
 impl CheckMemory {
     /// No memory yet.
-    pub fn new(alloc: Global) -> CheckMemory {
+    fn new(alloc: Global) -> CheckMemory {
         CheckMemory {
             marks: JudgeMarks::new(alloc),
             spare: SpareLists::new(alloc),
         }
-    }
-
-    /// Keeps the memory of a step that is done with.
-    #[inline(always)]
-    pub fn keep(&mut self, step: ProofStep) {
-        self.spare.keep(step);
     }
 }
 
@@ -47,10 +42,33 @@ pub fn check<S: StepSource<Step = ProofStep>>(
     source: &mut S,
 ) -> Result<Verdict, Fault>
     requires { S.is_spent source.old ≡ false }
-    ensures judged { IfOk result (IsJudgedBy S.leaves formula.now source.old) }
+    ensures judged { (text : List ℕ) → S.may_read source.new text → IfOk result (IsJudgedBy (λ a. S.leaves a text) formula.now source.old) }
     ensures sound { IfOk result (IsSound formula.now) }
-    ensures cause { IfErr result (HasCause (S.passes_limit source.old) (S.faults source.old) (S.faults source.new)) }
+    ensures cause { (text : List ℕ) → S.may_read source.new text → IfErr result (HasCause (S.passes_limit source.old text) (S.faults source.old) (S.faults source.new)) }
     ensures long { IfErr result (IsTooLongBy (S.stuck source.new)) }
+    ensures narrows { (text : List ℕ) → S.may_read source.new text → S.may_read source.old text }
+    ensures reads { ReadsStand result (S.faults source.old) (S.faults source.new) }
+    ensures frame { S.keeps source.old source.new }
+{
+    check_and_record(alloc, formula, source, &mut Unrecorded)
+}
+
+/// Judges a proof as `check` does, and tells a recorder each right step, up to the one that ends the proof.
+///
+/// Where the assumptions clash, no step is told. `Fault::Memory` comes also where the recorder has none.
+pub fn check_and_record<S: StepSource<Step = ProofStep>, R: Recorder>(
+    alloc: Global,
+    formula: &Formula,
+    source: &mut S,
+    recorder: &mut R,
+) -> Result<Verdict, Fault>
+    requires { S.is_spent source.old ≡ false }
+    ensures judged { (text : List ℕ) → S.may_read source.new text → IfOk result (IsJudgedBy (λ a. S.leaves a text) formula.now source.old) }
+    ensures sound { IfOk result (IsSound formula.now) }
+    ensures recorded { R.told recorder.old [] → IfOk result (RecordsAll (S.may_read source.new) S.leaves (R.told recorder.new) formula.now source.old) }
+    ensures cause { (text : List ℕ) → S.may_read source.new text → IfErr result (HasCause (S.passes_limit source.old text) (S.faults source.old) (S.faults source.new)) }
+    ensures long { IfErr result (IsTooLongBy (S.stuck source.new)) }
+    ensures narrows { (text : List ℕ) → S.may_read source.new text → S.may_read source.old text }
     ensures reads { ReadsStand result (S.faults source.old) (S.faults source.new) }
     ensures frame { S.keeps source.old source.new }
 {
@@ -64,77 +82,88 @@ pub fn check<S: StepSource<Step = ProofStep>>(
     let mut memory = CheckMemory::new(alloc);
     let mut steps = 0;
     loop {
-        match take_next(&mut memory, formula, &mut live, source, steps) {
-            Ok(Taken::Went(step)) => {
-                memory.keep(step);
-                steps += 1;
-            }
-            Ok(Taken::Ended(_)) => return Ok(Verdict::Verified(steps + 1)),
-            Ok(Taken::Refused(number, cause)) => return Ok(Verdict::Refused(number, cause)),
+        match take_next(&mut memory, formula, &mut live, source, recorder, steps) {
+            Ok(None) => steps += 1,
+            Ok(Some(verdict)) => return Ok(verdict),
             Err(fault) => return Err(fault),
         }
     }
 }
 
-/// Takes and judges the next step of a proof, after so many right ones that leave these tables and did not end it.
-///
-/// `check` takes each step so, and whoever wants the steps too, as they are judged, asks here. It does not look for
-/// assumptions that clash: its caller does, before the first step. `memory` is for its memory alone.
-pub fn take_next<S: StepSource<Step = ProofStep>>(
+/// Takes and judges the next step of a proof, after so many right ones that leave these tables and did not end it. There is
+/// no verdict where the proof goes on. `memory` is for its memory alone.
+fn take_next<S: StepSource<Step = ProofStep>, R: Recorder>(
     memory: &mut CheckMemory,
     formula: &Formula,
     live: &mut Live,
     source: &mut S,
+    recorder: &mut R,
     steps: u64,
-) -> Result<Taken, Fault>
+) -> Result<Option<Verdict>, Fault>
     requires fresh { S.is_spent source.old ≡ false }
     requires count { steps < 2 ^ 63 }
-    ensures goes { (first : S) (before : List ProofStep) → Kept S.leaves formula.now first source.old live.old before steps
-        → IfOk result (Goes S.leaves formula.now first source.new live.new before steps) }
-    ensures fresh { WhereWent result (S.is_spent source.new ≡ false) }
+    requires few { steps ≤ S.place_of source.old }
+    ensures goes { (first : S) (start : R) → Kept S.may_read S.leaves R.told formula.now first start source.old recorder.old live.old steps
+        → IfOk result (Goes S.may_read S.leaves R.told formula.now first start source.new recorder.new live.new steps) }
+    ensures fresh { IfOk result (λ verdict. verdict ≡ None → S.is_spent source.new ≡ false) }
     ensures reads { ReadsStand result (S.faults source.old) (S.faults source.new) }
-    ensures rises { WhereTook result (S.place_of source.old < S.place_of source.new) }
+    ensures rises { IfOk result (λ verdict. verdict ≡ None → S.place_of source.old < S.place_of source.new) }
     ensures far { S.place_of source.new < 2 ^ 62 }
-    ensures limit { S.passes_limit source.new ≡ S.passes_limit source.old }
-    ensures cause { IfErr result (HasCause (S.passes_limit source.old) (S.faults source.old) (S.faults source.new)) }
+    ensures limit { (text : List ℕ) → S.may_read source.new text → S.passes_limit source.new text ≡ S.passes_limit source.old text }
+    ensures cause { (text : List ℕ) → S.may_read source.new text → IfErr result (HasCause (S.passes_limit source.old text) (S.faults source.old) (S.faults source.new)) }
     ensures long { IfErr result (IsTooLongBy (S.stuck source.new)) }
+    ensures narrows { (text : List ℕ) → S.may_read source.new text → S.may_read source.old text }
     ensures frame { S.keeps source.old source.new }
 {
     let step = match source.next_step(&mut memory.spare) {
         Ok(Some(step)) => step,
         Ok(None) => {
-            return Ok(Taken::Refused(steps + 1, Cause::NoEmptyClause));
+            return Ok(Some(Verdict::Refused(steps + 1, Cause::NoEmptyClause)));
         }
         Err(why) => return refused_text(why, steps + 1),
     };
-    let taken = take_step(&mut memory.marks, formula, live, &step);
-    what_follows(taken, step, steps + 1)
+    let judged = take_step(&mut memory.marks, formula, live, &step);
+    let next = what_follows(judged, recorder, &step, steps + 1);
+    memory.spare.keep(step);
+    next
 }
 
-/// What follows a step that was judged.
-fn what_follows(
-    taken: Result<bool, JudgeRefusal>,
-    step: ProofStep,
+/// What follows a step that was judged: no verdict where the proof goes on. A right step is told.
+fn what_follows<R: Recorder>(
+    judged: Result<bool, JudgeRefusal>,
+    recorder: &mut R,
+    step: &ProofStep,
     number: u64,
-) -> Result<Taken, Fault>
-    ensures { result ≡ what_follows_of taken step number }
+) -> Result<Option<Verdict>, Fault>
+    ensures follows { IfOk result (λ verdict. what_follows_of judged number ≡ Ok verdict) }
+    ensures told { OnOk result (OnOk judged (Tells R.told step.now recorder.old recorder.new)) }
+    ensures memory { IfErr result (λ e. e ≡ Memory) }
 {
-    match taken {
-        Ok(true) => Ok(Taken::Ended(step)),
-        Ok(false) => Ok(Taken::Went(step)),
-        Err(JudgeRefusal::Wrong(cause)) => Ok(Taken::Refused(number, cause)),
-        Err(JudgeRefusal::Memory) => Err(Fault::Memory),
+    let ends = match judged {
+        Ok(ends) => ends,
+        Err(JudgeRefusal::Wrong(cause)) => return Ok(Some(Verdict::Refused(number, cause))),
+        Err(JudgeRefusal::Memory) => return Err(Fault::Memory),
+    };
+    if recorder.tell(step).is_err() {
+        return Err(Fault::Memory);
+    }
+    if ends {
+        Ok(Some(Verdict::Verified(number)))
+    } else {
+        Ok(None)
     }
 }
 
 /// What stands where the source gives no step.
-fn refused_text(why: TextRefusal, number: u64) -> Result<Taken, Fault>
+fn refused_text(why: TextRefusal, number: u64) -> Result<Option<Verdict>, Fault>
     ensures { result ≡ text_refused why number }
 {
     match why {
         TextRefusal::BadToken(place)
         | TextRefusal::Unterminated(place)
-        | TextRefusal::TooBig(place) => { Ok(Taken::Refused(number, Cause::TextRefused(place))) }
+        | TextRefusal::TooBig(place) => {
+            Ok(Some(Verdict::Refused(number, Cause::TextRefused(place))))
+        }
         TextRefusal::TooLong => Err(Fault::TooLong),
         TextRefusal::Memory => Err(Fault::Memory),
         TextRefusal::Failed => Err(Fault::Read),

@@ -2,8 +2,10 @@
 #![tactic(auto)]
 
 mod checker;
+mod recorder;
 mod step;
 mod verdict;
 
-pub use checker::{CheckMemory, check, take_next};
-pub use verdict::{Fault, Taken, Verdict};
+pub use checker::{check, check_and_record};
+pub use recorder::Recorder;
+pub use verdict::{Fault, Verdict};

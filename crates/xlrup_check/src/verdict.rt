@@ -1,5 +1,4 @@
 //! What the checker answers.
-use cx_base::ProofStep;
 use cx_semantics::Cause;
 use thiserror::Error;
 
@@ -8,17 +7,6 @@ use thiserror::Error;
 pub enum Verdict {
     /// The proof is accepted at the step of this number, from 1, or at 0 where the formula's assumptions clash: no values meet the formula.
     Verified(u64),
-    /// The proof is refused at the step of this number, from 1, for its first cause.
-    Refused(u64, Cause),
-}
-
-/// What came of one more step of a proof.
-#[derive(Drop)]
-pub enum Taken {
-    /// This step is right, and the proof goes on.
-    Went(ProofStep),
-    /// This step is right and ends the proof.
-    Ended(ProofStep),
     /// The proof is refused at the step of this number, from 1, for its first cause.
     Refused(u64, Cause),
 }

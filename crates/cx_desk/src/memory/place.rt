@@ -1,16 +1,18 @@
 //! Where a slot of a desk in memory reads.
-ghost use Rattle.std.specs.Prelude.{◌≡◌, None, length, string_bytes, MatchOption, Some};
+ghost use Rattle.std.specs.Prelude.{◌≡◌, ◌≤◌, ◌<◌, None, false, length, option_map, string_bytes, MatchOption, Some};
 ghost use Rattle.cx_desk.specs.Outside.{file_named};
-ghost use Rattle.cx_desk.specs.Place.{named, bytes_at, rest_of, StartsAt, MovesOn};
+ghost use Rattle.cx_desk.specs.Place.{named, bytes_at, rest_of, IsPlaced, StartsAt, MovesOn};
 
 use super::NamedFile;
+use crate::Failed;
 
-/// The name that was asked for, and the file and the place in it once there is one.
+/// The name that was asked for; the file and the place in it once there is one; and whether a read gave the end.
 #[derive(Drop)]
 pub(super) struct Place {
     name: Option<String>,
     file: Option<usize>,
     at: usize,
+    ended: bool,
 }
 
 /// The index of the first file of this name.
@@ -29,25 +31,38 @@ pub(super) fn index_of(files: &[NamedFile], name: &str) -> Option<usize>
 
 impl Place {
     pub(super) fn nowhere() -> Self
-        ensures name { result.name ≡ None }
-        ensures file { result.file ≡ None }
+        ensures { result ≡ record { name = None; file = None; at = 0; ended = false } }
     {
         Place {
             name: None,
             file: None,
             at: 0,
+            ended: false,
         }
     }
 
-    /// Keeps the name, and goes to the start of the file where one was found.
-    pub(super) fn start(&mut self, name: String, found: Option<usize>)
-        ensures { StartsAt (string_bytes name) found self.old self.new }
+    /// Keeps the name, and goes to the start of the file of this name, unless that is to fail.
+    pub(super) fn start(
+        &mut self,
+        files: &[NamedFile],
+        name: String,
+        fails: bool,
+    ) -> Result<(), Failed>
+        ensures starts { StartsAt files.now (string_bytes name) fails self.old result self.new }
+        ensures placed { option_map string_bytes self.old.name ≡ None → IsPlaced files.now self.old → IsPlaced files.now self.new }
     {
+        let found = index_of(files, name.as_str());
         self.name = Some(name);
-        if found.is_some() {
-            self.file = found;
-            self.at = 0;
+        if fails {
+            return Err(Failed);
         }
+        let Some(file) = found else {
+            return Err(Failed);
+        };
+        self.file = Some(file);
+        self.at = 0;
+        self.ended = false;
+        Ok(())
     }
 
     /// What is left to be read: nothing where there is no file.
@@ -62,13 +77,18 @@ impl Place {
 
     /// Moves the next bytes, at most `most` of them.
     pub(super) fn read(&mut self, files: &[NamedFile], most: usize, into: &mut [u8]) -> usize
-        ensures { MovesOn files.now most (length into.old) self.old result self.new into.new }
+        requires most { 1 ≤ most }
+        requires room { 0 < length into.old }
+        ensures moves { MovesOn files.now most (length into.old) self.old result self.new into.new }
+        ensures placed { IsPlaced files.now self.old → IsPlaced files.now self.new }
     {
         let rest = self.rest(files);
         let count = rest.len().min(into.len()).min(most);
         into[..count].copy_from_slice(&rest[..count]);
-        // Where no byte is left, the place may be anywhere behind the end, so it stays.
-        if count > 0 {
+        // Where no byte is left, the place may be anywhere after the end, so it stays.
+        if count == 0 {
+            self.ended = true;
+        } else {
             self.at += count;
         }
         count

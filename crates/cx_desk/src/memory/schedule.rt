@@ -6,7 +6,7 @@ ghost use Rattle.std.specs.Prelude.{◌≡◌, ◌≤◌};
 pub(super) struct Schedule {
     calls: u64,
     failing: Vec<u64>,
-    /// All calls behind so many fail.
+    /// All calls after so many fail.
     passes: Option<u64>,
     pub(super) piece: usize,
     ghost moves_some: { 1 ≤ piece },

@@ -26,7 +26,7 @@ impl Sheet {
         })
     }
 
-    /// Appends a front of the piece: what there is room for, and at most `most` bytes.
+    /// Appends a prefix of the piece: what there is room for, and at most `most` bytes.
     pub(super) fn append(&mut self, most: usize, piece: &[u8]) -> usize
         ensures count { result
             ≡ min most (min (self.old.room - vec_len self.old.bytes) (length piece.now)) }

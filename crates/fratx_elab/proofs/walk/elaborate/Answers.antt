@@ -11,7 +11,7 @@ pub take_all-requires-clause-parity_room : goal.take_all-requires-clause-parity_
 take_all-requires-clause-parity_room g c = omega (arith, ap (λ (n : Naming). n.last) c.new-2.ensures, c.count_kinds-counts.ensures.kinds, c.count_kinds-counts.ensures.few)
 
 pub take_all-requires-clause-kept : goal.take_all-requires-clause-kept
-take_all-requires-clause-kept g c =
+take_all-requires-clause-kept g c = λ text may.
     let clauses = c.new.ensures ∙ ap first_naming c.count_kinds-counts.ensures.clauses in
     let parities = c.new-2.ensures ∙ ap first_naming c.count_kinds-counts.ensures.parities in
     kept_first _ _ _ c.args.formula.now c.args.ends.now _ (sym c.clash.ensures.some ∙ sym c.is_some.ensures ∙ c.if-is_some.false) c.make.ensures clauses parities
@@ -22,5 +22,5 @@ returns-in_err-originals-clause-cut_off g c =
     rw (p.1, p.2) (nothing_gained c.args.formula.now (g.E.ElabEnds.steps c.args.ends.now) (sym c.clash.ensures.some ∙ sym c.is_some.ensures ∙ c.if-is_some.false))
 
 pub returns-then-is_some-clause-judged : goal.returns-then-is_some-clause-judged
-returns-then-is_some-clause-judged g c =
-    clash_is_done g.E.ElabEnds.leaves g.E.ElabEnds.steps g.E.ElabEnds.torn c.args.formula.now c.args.ends.now (sym c.clash.ensures.some ∙ sym c.is_some.ensures ∙ c.if-is_some.true) (g.met.E.ElabEnds.leaves_some c.args.ends.now)
+returns-then-is_some-clause-judged g c = λ text may.
+    clash_is_done (λ a. g.E.ElabEnds.leaves a text) g.E.ElabEnds.steps g.E.ElabEnds.torn c.args.formula.now c.args.ends.now (sym c.clash.ensures.some ∙ sym c.is_some.ensures ∙ c.if-is_some.true) (g.met.E.ElabEnds.leaves_some c.args.ends.now text may)

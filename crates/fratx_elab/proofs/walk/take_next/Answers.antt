@@ -9,33 +9,33 @@ use Rattle.fratx_elab.proofs.Turns.{end_is_refused, text_is_refused, refusal_tur
 use Rattle.fratx_elab.proofs.walk.take_next.Goals as goal
 
 pub returns-in-Ok-None-clause-turns : goal.returns-in-Ok-None-clause-turns
-returns-in-Ok-None-clause-turns g c = λ first kept.
-    let h = subst (λ (o : Option LogStep). Gives g.E.ElabEnds.leaves c.args.ends.now (Ok o) c.next_step.new.self) c.in-Ok-None.field-0-is c.in-Ok-None.ensures.step in
+returns-in-Ok-None-clause-turns g c = λ text first may kept.
+    let h = subst (λ (o : Option LogStep). Gives (λ a. g.E.ElabEnds.leaves a text) c.args.ends.now (Ok o) c.next_step.new.self) c.in-Ok-None.field-0-is (c.in-Ok-None.ensures.step text may) in
     end_is_refused _ _ _ c.args.formula.now first c.args.ends.now c.next_step.new.self c.args.state.now _ kept finished _ refl h.0 c.in-Ok-None.ensures.steps_stay
 
 pub returns-in-Err-clause-turns : goal.returns-in-Err-clause-turns
-returns-in-Err-clause-turns g c = λ first kept.
+returns-in-Err-clause-turns g c = λ text first may kept.
     let old = c.args.state.now in
     let read : State = record { live = old.live; clauses = old.clauses; parities = old.parities; marks = old.marks; spare = c.next_step.new.spare } in
-    rw c.refused_text.ensures (text_is_refused _ _ _ c.args.formula.now first c.args.ends.now c.next_step.new.self old _ kept read c.in-Err.why c.in-Err.ensures.step c.in-Err.ensures.steps_stay)
+    rw c.refused_text.ensures (text_is_refused _ _ _ c.args.formula.now first c.args.ends.now c.next_step.new.self old _ kept read c.in-Err.why (c.in-Err.ensures.step text may) c.in-Err.ensures.steps_stay)
 
 pub returns-in-Err-take_step-clause-turns : goal.returns-in-Err-take_step-clause-turns
-returns-in-Err-take_step-clause-turns g c = λ first kept.
-    let h = subst (λ (o : Option LogStep). Gives g.E.ElabEnds.leaves c.args.ends.now (Ok o) c.next_step.new.self) c.in-Ok-Some.field-0-is c.in-Ok-Some.ensures.step in
+returns-in-Err-take_step-clause-turns g c = λ text first may kept.
+    let h = subst (λ (o : Option LogStep). Gives (λ a. g.E.ElabEnds.leaves a text) c.args.ends.now (Ok o) c.next_step.new.self) c.in-Ok-Some.field-0-is (c.in-Ok-Some.ensures.step text may) in
     rw c.refused_step.ensures
-    (refusal_turns _ _ _ c.args.formula.now first c.args.ends.now c.next_step.new.self c.args.state.now _ kept c.in-Ok-Some.step h (g.met.E.ElabEnds.leaves_some c.next_step.new.self)
+    (refusal_turns _ _ _ c.args.formula.now first c.args.ends.now c.next_step.new.self c.args.state.now _ kept c.in-Ok-Some.step h (g.met.E.ElabEnds.leaves_some c.next_step.new.self text may)
     c.take_step.new.state c.in-Err-take_step.why c.in-Err-take_step.ensures.taken c.in-Ok-Some.ensures.steps_stay)
 
 pub returns-clause-turns : goal.returns-clause-turns
-returns-clause-turns g c = λ first kept.
+returns-clause-turns g c = λ text first may kept.
     let old = c.args.ends.now in
     let new = c.write-wrote.new.ends in
-    let h = subst (λ (o : Option LogStep). Gives g.E.ElabEnds.leaves old (Ok o) c.next_step.new.self) c.in-Ok-Some.field-0-is c.in-Ok-Some.ensures.step in
+    let h = subst (λ (o : Option LogStep). Gives (λ a. g.E.ElabEnds.leaves a text) old (Ok o) c.next_step.new.self) c.in-Ok-Some.field-0-is (c.in-Ok-Some.ensures.step text (c.write-wrote.ensures.narrows text may)) in
     let told = subst (λ t. WritesDown t (g.E.ElabEnds.steps new) (g.E.ElabEnds.torn new) c.in-Ok.written c.write-wrote.result) c.in-Ok-Some.ensures.steps_stay c.write-wrote.ensures.told in
     let taken = c.take_step.new.state in
     let kept_memory : State = record { live = taken.live; clauses = taken.clauses; parities = taken.parities; marks = taken.marks; spare = c.keep_memory.new.spare } in
     rw c.what_follows.ensures
-    (write_turns _ _ _ c.args.formula.now first old new c.args.state.now _ kept c.in-Ok-Some.step (λ steps ending k. h steps ending ((c.write-wrote.ensures.rest steps ending).0 k)) (g.met.E.ElabEnds.leaves_some new)
+    (write_turns _ _ _ c.args.formula.now first old new c.args.state.now _ kept c.in-Ok-Some.step (λ steps ending k. h steps ending ((c.write-wrote.ensures.rest text steps ending).0 k)) (g.met.E.ElabEnds.leaves_some new text may)
     kept_memory c.in-Ok.written c.in-Ok.ensures.taken c.write-wrote.result told c.ends_log-is_last.result c.ends_log-is_last.ensures)
 
 pub returns-in-Err-clause-writes : goal.returns-in-Err-clause-writes

@@ -1,16 +1,18 @@
 use Rattle.std.proofs.Common.{ap, sym, subst, ◌∙◌, Result, Ok, Err, IfOk, IfErr}
 use Rattle.std.proofs.lemmas.Result.{err_from_is_err_and}
 use Rattle.cx_desk.specs.declared.desk.Slot.TheVariants.{Second}
-use Rattle.cx_desk.specs.SlotBytes.{is_too_long}
+use Rattle.cx_desk.specs.Outside.{Bytes}
 use Rattle.cx_texts.specs.ProofText.{proof_steps}
-use Rattle.step_text.specs.Slots.{SlotState, SlotFrame}
+use Rattle.step_text.specs.Slots.{SlotState, SlotFrame, IsPossible, is_too_long}
 use Rattle.step_text.specs.SlotAnswers.{PairLeaves}
 use Rattle.xlrup_check.specs.Verdicts.{IsJudgedBy, HasCause}
 use Rattle.solve_cli.specs.declared.ending.Ending.{Ending}
 use Rattle.solve_cli.specs.declared.ending.Outcome.{Outcome}
-use Rattle.solve_cli.specs.Steps.{ReadFails}
+use Rattle.solve_cli.specs.Seen.{seen}
+use Rattle.solve_cli.specs.Steps.{Acts}
 use Rattle.solve_cli.specs.SlotTexts.{JudgesProof, first_state}
-use Rattle.solve_cli.proofs.SlotTexts.{CheckedTo, check_failed, check_judged, rest_failed, rest_drained, still_started}
+use Rattle.solve_cli.proofs.Acting.{acts_then}
+use Rattle.solve_cli.proofs.SlotTexts.{Checks, RestRead, has_read, check_acts, rest_acts, fails_later, judged_within, still_started}
 use Rattle.solve_cli.proofs.judge.judge_proof.Goals as goal
 
 pub drain_from-rest-requires : goal.drain_from-rest-requires
@@ -31,10 +33,11 @@ returns-in_err-ending g c = λ name ready.
     let r = c.check_on-judged.result in
     let first = c.new-reader.ensures in
     let frame = subst (λ (x : SlotState). SlotFrame x.bytes o s m) first c.check_on-judged.ensures.frame in
-    let cause = subst (λ (x : SlotState). IfErr r (HasCause (is_too_long x.bytes o) o.faults.reads m.faults.reads)) first c.check_on-judged.ensures.cause in
-    let failed = subst (λ (x : Result Ending Outcome). IfErr x (λ e. ReadFails Second name limit o e m)) (sym c.in_err-ending.ensures) (check_failed f name limit o ready s m frame r cause c.check_on-judged.ensures.reads) in
+    let judged = subst (λ (x : SlotState). (text : Bytes) → IsPossible s m text → IfOk r (IsJudgedBy (PairLeaves proof_steps text) f (x, o))) first c.check_on-judged.ensures.judged in
+    let cause = subst (λ (x : SlotState). (text : Bytes) → IsPossible s m text → IfErr r (HasCause (is_too_long x.bytes o text) o.faults.reads m.faults.reads)) first c.check_on-judged.ensures.cause in
+    let checks = subst (λ (x : Result Ending Outcome). Acts limit o m (λ w. Checks f name limit (seen w o) x (seen w m))) (sym c.in_err-ending.ensures) (check_acts f name limit o ready s m frame r judged cause c.check_on-judged.ensures.reads) in
     let is = err_from_is_err_and c.from_residual.result c.from_residual.ensures.1 in
-    subst (λ x. JudgesProof f name limit o x m) (sym (is.1 ∙ ap Err is.2)) failed
+    subst (λ x. Acts limit o m (λ w. JudgesProof f name limit (seen w o) x (seen w m))) (sym (is.1 ∙ ap Err is.2)) checks
 
 pub returns-in_err-drained : goal.returns-in_err-drained
 returns-in_err-drained g c = λ name ready.
@@ -46,12 +49,16 @@ returns-in_err-drained g c = λ name ready.
     let s = c.check_on-judged.new.reader.bytes in
     let r = c.check_on-judged.result in
     let first = c.new-reader.ensures in
+    let e = c.in_err-drained.field-0.0 in
     let frame = subst (λ (x : SlotState). SlotFrame x.bytes o s m) first c.check_on-judged.ensures.frame in
-    let judged = subst (λ (x : SlotState). IfOk r (IsJudgedBy (PairLeaves proof_steps) f (x, o))) first c.check_on-judged.ensures.judged in
-    let to = subst (λ (x : Result Ending Outcome). IfOk x (CheckedTo f name o m)) (sym c.in_ok-ending.ensures) (check_judged f name limit o ready s m frame r judged c.check_on-judged.ensures.reads) in
-    let failed = subst (λ (x : Result (Unit {0}) Outcome). IfErr x (λ e. ReadFails Second name limit o e p)) (sym c.in_err-drained.ensures) (rest_failed f name limit o ready s m frame c.drain_from-rest.result p to.1 c.drain_from-rest.ensures) in
+    let judged = subst (λ (x : SlotState). (text : Bytes) → IsPossible s m text → IfOk r (IsJudgedBy (PairLeaves proof_steps text) f (x, o))) first c.check_on-judged.ensures.judged in
+    let cause = subst (λ (x : SlotState). (text : Bytes) → IsPossible s m text → IfErr r (HasCause (is_too_long x.bytes o text) o.faults.reads m.faults.reads)) first c.check_on-judged.ensures.cause in
+    let checks = subst (λ (x : Result Ending Outcome). Acts limit o m (λ w. Checks f name limit (seen w o) x (seen w m))) (sym c.in_ok-ending.ensures) (check_acts f name limit o ready s m frame r judged cause c.check_on-judged.ensures.reads) in
+    let rest = subst (λ (x : Result (Unit {0}) Outcome). Acts limit m p (λ w. RestRead name limit (seen w m) x (seen w p))) (sym c.in_err-drained.ensures)
+    (rest_acts name limit o ready s m (has_read name limit o s m ready frame) c.drain_from-rest.result p c.drain_from-rest.ensures) in
     let is = err_from_is_err_and c.from_residual-in_err-drained.result c.from_residual-in_err-drained.ensures.1 in
-    subst (λ x. JudgesProof f name limit o x p) (sym (is.1 ∙ ap Err is.2)) failed
+    subst (λ x. Acts limit o p (λ w. JudgesProof f name limit (seen w o) x (seen w p))) (sym (is.1 ∙ ap Err is.2))
+    (acts_then checks rest (λ w j h. fails_later name limit (seen w o) (seen w m) (seen w p) e j.1 h))
 
 pub returns : goal.returns
 returns g c = λ name ready.
@@ -65,6 +72,9 @@ returns g c = λ name ready.
     let first = c.new-reader.ensures in
     let e = c.in_ok-ending.ending in
     let frame = subst (λ (x : SlotState). SlotFrame x.bytes o s m) first c.check_on-judged.ensures.frame in
-    let judged = subst (λ (x : SlotState). IfOk r (IsJudgedBy (PairLeaves proof_steps) f (x, o))) first c.check_on-judged.ensures.judged in
-    let to = subst (λ (x : Result Ending Outcome). IfOk x (CheckedTo f name o m)) (sym c.in_ok-ending.ensures) (check_judged f name limit o ready s m frame r judged c.check_on-judged.ensures.reads) in
-    subst (λ (x : Result (Unit {0}) Outcome). IfOk x (λ _. JudgesProof f name limit o (Ok e) p)) (sym c.in_ok-drained.ensures) (rest_drained f name limit o ready s m frame c.drain_from-rest.result p e c.drain_from-rest.ensures to)
+    let judged = subst (λ (x : SlotState). (text : Bytes) → IsPossible s m text → IfOk r (IsJudgedBy (PairLeaves proof_steps text) f (x, o))) first c.check_on-judged.ensures.judged in
+    let cause = subst (λ (x : SlotState). (text : Bytes) → IsPossible s m text → IfErr r (HasCause (is_too_long x.bytes o text) o.faults.reads m.faults.reads)) first c.check_on-judged.ensures.cause in
+    let checks = subst (λ (x : Result Ending Outcome). Acts limit o m (λ w. Checks f name limit (seen w o) x (seen w m))) (sym c.in_ok-ending.ensures) (check_acts f name limit o ready s m frame r judged cause c.check_on-judged.ensures.reads) in
+    let rest = subst (λ (x : Result (Unit {0}) Outcome). Acts limit m p (λ w. RestRead name limit (seen w m) x (seen w p))) (sym c.in_ok-drained.ensures)
+    (rest_acts name limit o ready s m (has_read name limit o s m ready frame) c.drain_from-rest.result p c.drain_from-rest.ensures) in
+    acts_then checks rest (λ w j h. judged_within f name limit (seen w o) (seen w m) (seen w p) e j h)

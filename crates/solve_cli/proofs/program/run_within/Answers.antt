@@ -1,4 +1,4 @@
-use Rattle.solve_cli.proofs.Works.{tells_of}
+use Rattle.solve_cli.proofs.FormulaTexts.{put_message}
 use Rattle.solve_cli.proofs.Direct.{complete, refused_words, usage, read_fault, write_fault}
 use Rattle.solve_cli.proofs.Messages.{need_no_write}
 use Rattle.solve_cli.proofs.Demonstrated.{instance_is_shown}
@@ -13,20 +13,23 @@ use Rattle.solve_cli.specs.Happens.{Runs}
 use Rattle.solve_cli.specs.Endings.{message_text}
 use Rattle.solve_cli.proofs.program.run_within.Goals as goal
 
-pub returns : goal.returns
-returns g c =
+pub returns-clause-run : goal.returns-clause-run
+returns-clause-run g c = λ w may.
     let words = texts c.args.words.items in
     let limit = c.args.limit in
-    let old = seen (g.D.Desk.outside c.args.desk.now) in
-    let new = seen (g.D.Desk.outside c.put_message_text-told.new.desk) in
+    let o = g.D.Desk.outside c.args.desk.now in
+    let m = g.D.Desk.outside c.work-outcome.new.desk in
+    let n = g.D.Desk.outside c.put_message_text-told.new.desk in
+    let old = seen w o in
+    let new = seen w n in
+    let at = (put_message c.args.limit (message_text c.work-outcome.result) m c.put_message_text-told.result n c.put_message_text-told.ensures).did w may in
     let s = c.status.result in
     let runs : Runs words limit old s new = record {
       outcome = c.work-outcome.result;
       status_is = c.status.ensures;
-      done = seen (g.D.Desk.outside c.work-outcome.new.desk);
-      works = rw (← c.as_slice.ensures.value) c.work-outcome.ensures;
-      tells = tells_of (message_text c.work-outcome.result) (g.D.Desk.outside c.work-outcome.new.desk) c.put_message_text-told.result
-          (g.D.Desk.outside c.put_message_text-told.new.desk) c.put_message_text-told.ensures;
+      done = seen w m;
+      works = rw (← c.as_slice.ensures.value) (c.work-outcome.ensures.did w at.0).1;
+      tells = at.1;
     } in
     record {
       happens = runs;
@@ -56,3 +59,9 @@ returns g c =
       unsolvable = unsolvable words limit old s new runs;
       settled_with_recovered = settled_with_recovered words limit old s new runs;
     }
+
+pub returns-clause-few : goal.returns-clause-few
+returns-clause-few g c = λ few.
+    let m = g.D.Desk.outside c.work-outcome.new.desk in
+    let n = g.D.Desk.outside c.put_message_text-told.new.desk in
+    (put_message c.args.limit (message_text c.work-outcome.result) m c.put_message_text-told.result n c.put_message_text-told.ensures).few (c.work-outcome.ensures.few few)

@@ -1,4 +1,4 @@
-use Rattle.std.proofs.Common.{◌≡◌, Bool, false, sym, subst, rules}
+use Rattle.std.proofs.Common.{◌≡◌, ℕ, Bool, false, sym, subst, rules}
 use Rattle.cx_desk.specs.Outside.{Outside}
 use Rattle.proof_text.specs.Told.{fault_of}
 use Rattle.log_text.specs.Told.{events_told, Goes}
@@ -6,8 +6,10 @@ use Rattle.conflict_learn.specs.Faults.{CountsAs, fault_in}
 use Rattle.cdcl_core.specs.Results.{IsFresh}
 use Rattle.solve_cli.specs.Seen.{seen}
 use Rattle.solve_cli.specs.Solving.{SearchesOn}
+use Rattle.solve_cli.specs.Steps.{Acts}
+use Rattle.solve_cli.proofs.Acting.{acts_still}
 use Rattle.solve_cli.proofs.Gaining.{whole_port}
-use Rattle.solve_cli.proofs.Printing.{fresh_port, searched_on}
+use Rattle.solve_cli.proofs.Printing.{fresh_port, still_logged, searched_on}
 use Rattle.solve_cli.proofs.solve.search_on.Goals as goal
 
 pub new-log-requires : goal.new-log-requires
@@ -28,7 +30,7 @@ returns g c =
     let e = c.solve_core-answer.ensures in
     let goes = subst (λ (x : Outside). Goes false x last n) c.new-log.ensures.outside (subst (λ (b : Bool). Goes b (g.D.Desk.outside c.new-log.result.desk.now) last n) c.new-log.ensures.whole e.frame.1) in
     let counts = subst (λ (b : Bool). CountsAs (fault_in r) (fault_of b) (fault_of last)) c.new-log.ensures.whole e.faults in
-    let done : SearchesOn f budget (seen o) c.answered.result (seen n) =
-    searched_on f budget o n last c.requires.empty goes r c.answered.result c.answered.ensures counts e.answers e.settled_with_recovered e.unmarked e.ids e.gave_up in
+    let done : (limit : ℕ) → Acts limit o n (λ w. SearchesOn f budget (seen w o) c.answered.result (seen w n)) =
+    λ limit. acts_still limit o n (still_logged last o n goes) (λ w. searched_on f budget o n last c.requires.empty goes w r c.answered.result c.answered.ensures counts e.answers e.settled_with_recovered e.unmarked e.ids e.gave_up) in
     let same : ◌≡◌ {A = Outside} n (g.D.Desk.outside c.desk-1.given.0) = search rules in
-    subst (λ (x : Outside). SearchesOn f budget (seen o) c.answered.result (seen x)) same done
+    subst (λ (x : Outside). (limit : ℕ) → Acts limit o x (λ w. SearchesOn f budget (seen w o) c.answered.result (seen w x))) same done

@@ -11,7 +11,7 @@ returns-in_err-len-clause-reads g c =
     let old = g.D.Desk.outside c.args.desk.now in
     let new = g.D.Desk.outside c.read_rest.new.desk in
     let p = err_from_is_err_and c.from_residual.result c.from_residual.ensures.1 in
-    λ slot limit o s h last. rw (p.1, p.2) (last_stops slot limit o s old h c.args.self.now last c.in_err-len.field-0.0 new c.in_err-len.ensures.1)
+    λ slot limit o s h last. rw (p.1, p.2) (last_stops slot limit o s old h c.args.self.now last c.in_err-len.field-0.0 new c.in_err-len.ensures.0 c.in_err-len.ensures.1)
 
 pub returns-in_err-take_rest-clause-reads : goal.returns-in_err-take_rest-clause-reads
 returns-in_err-take_rest-clause-reads g c =

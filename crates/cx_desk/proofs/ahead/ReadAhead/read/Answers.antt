@@ -9,7 +9,7 @@ returns g c =
     let n = c.in_ok-count.count in
     let kept = r.filled - r.at in
     let buffer = c.grow.new.buffer in
-    let after = c.read_behind.new.buffer in
+    let after = c.read_after.new.buffer in
     let more = rw c.deref_mut.ensures.value at c.in_ok-count.ensures.more in
     let whole = written_over buffer.len after buffer.items buffer.ok.0 more.len in
     let fits : kept + n ≤ length after = more.fits in
@@ -18,7 +18,6 @@ returns g c =
       came = take n (drop kept after);
       count = (let e : length (take n (drop kept after)) ≡ n = omega (arith, length-take n (drop kept after), length-drop kept after) in e);
       few = c.in_ok-count.ensures.few;
-      behind = ap (λ m. take m after) (let e : (kept + n) - 0 ≡ kept + n = omega arith in e) ∙ take-add kept n after ∙ ap (λ bs. bs ++ take n (drop kept after)) front;
-      from = more.came;
-      none = more.none;
+      after_is = ap (λ m. take m after) (let e : (kept + n) - 0 ≡ kept + n = omega arith in e) ∙ take-add kept n after ∙ ap (λ bs. bs ++ take n (drop kept after)) front;
+      took = more.took;
     })

@@ -1,11 +1,10 @@
 use Rattle.std.proofs.Common.{refl}
-use Rattle.std.proofs.Math.Seq.{drop-nil}
 use Rattle.cx_desk.proofs.memory.MemDesk.with_schedule.Goals as goal
 
 pub returns-clause-fresh : goal.returns-clause-fresh
 returns-clause-fresh c =
     let empty = c.in_ok-answer.ensures in
-    rw (c.nowhere.ensures.name, c.nowhere.ensures.file, c.nowhere-2.ensures.name, c.nowhere-2.ensures.file, empty.answer.0, empty.proof.0, empty.message.0, drop-nil c.nowhere.result.at, drop-nil c.nowhere-2.result.at)
+    rw (c.nowhere.ensures, c.nowhere-2.ensures, empty.answer.0, empty.proof.0, empty.message.0)
 
 pub returns-clause-rooms : goal.returns-clause-rooms
 returns-clause-rooms c =

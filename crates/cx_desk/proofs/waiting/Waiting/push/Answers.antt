@@ -1,7 +1,7 @@
 use Rattle.std.proofs.Common.{◌≡◌, ◌∙◌, ap, ◌+◌, ◌-◌, ◌++◌, ◌≤◌, ◌<◌, ℕ, Bool, List, length, take, drop, arith, length-take}
 use borrow.Rule.Slice.PartMut.{put_mid, same_len_mid}
 use Rattle.cx_desk.proofs.Buffers.{written_over}
-use Rattle.cx_desk.proofs.Waits.{put_behind}
+use Rattle.cx_desk.proofs.Waits.{put_after}
 use Rattle.cx_desk.proofs.waiting.Waiting.push.Goals as goal
 
 pub returns : goal.returns
@@ -26,6 +26,6 @@ returns c =
     record {
       some = omega (arith, c.min-count.ensures, c.requires.some, free, inv.2);
       high = few;
-      bytes = ap (λ (b : List ℕ). take ((r.end + n) - r.at) (drop r.at b)) same ∙ put_behind r.at r.end n k whole_buffer more inv.0 high count
+      bytes = ap (λ (b : List ℕ). take ((r.end + n) - r.at) (drop r.at b)) same ∙ put_after r.at r.end n k whole_buffer more inv.0 high count
           ∙ (λ i. (ap (λ (b : List ℕ). take (r.end - r.at) (drop r.at b)) c.deref_mut.ensures.value ∙ is) i ++ after i);
     }

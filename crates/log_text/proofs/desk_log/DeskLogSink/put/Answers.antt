@@ -9,19 +9,19 @@ use Rattle.log_text.proofs.desk_log.DeskLogSink.put.Goals as goal
 
 pub invariant_of-self : goal.invariant_of-self
 invariant_of-self g c =
-    let whole = gained_whole (g.D.Desk.outside c.args.self.now.desk.now) c.args.event.now (c.args.self.now.whole c.if-self.false) c.requires.text in
-    record { whole = λ h. subst (λ (o : Outside). is_whole o.told ≡ true) (sym c.in-Ok.ensures) whole }
+    let whole = gained_whole (g.D.Desk.outside c.args.self.now.desk.now) c.args.event.now (c.args.self.now.whole c.requires.going) c.requires.text in
+    record { whole = λ h. subst (λ (o : Outside). is_whole o ≡ true) (sym c.in-Ok.ensures) whole }
 
 pub returns-in-Ok-clause-told : goal.returns-in-Ok-clause-told
 returns-in-Ok-clause-told g c =
-    rw c.in-Ok.ensures (gained_event (g.D.Desk.outside c.args.self.now.desk.now) c.args.event.now (c.args.self.now.whole c.if-self.false) c.requires.text)
+    rw c.in-Ok.ensures (gained_event (g.D.Desk.outside c.args.self.now.desk.now) c.args.event.now (c.args.self.now.whole c.requires.going) c.requires.text)
 
 pub returns-in-Ok-clause-frame : goal.returns-in-Ok-clause-frame
 returns-in-Ok-clause-frame g c =
     let old = g.D.Desk.outside c.args.self.now.desk.now in
     let new = g.D.Desk.outside c.put_event.new.desk in
     let moved = c.in-Ok.ensures ∙ ap (λ (x : Bytes). gained Proof x old) (sym (append-nil (event_line c.args.event.now))) in
-    (refl, subst (λ (b : Bool). Goes b old false new) (sym c.if-self.false) (record { events = c.args.event.now ∷ []; texts = (c.requires.text, tt); moved = moved }))
+    (refl, subst (λ (b : Bool). Goes b old false new) (sym c.requires.going) (record { events = c.args.event.now ∷ []; texts = (c.requires.text, tt); moved = moved }))
 
 pub returns-in-Err-clause-same : goal.returns-in-Err-clause-same
 returns-in-Err-clause-same g c = torn_told (g.D.Desk.outside c.args.self.now.desk.now) (g.D.Desk.outside c.put_event.new.desk) c.args.event.now c.requires.text c.in-Err.ensures
@@ -32,6 +32,6 @@ returns-in-Err-clause-frame g c =
     let new = g.D.Desk.outside c.put_event.new.desk in
     let torn = c.in-Err.ensures in (
       refl,
-      subst (λ (b : Bool). Goes b old true new) (sym c.if-self.false)
+      subst (λ (b : Bool). Goes b old true new) (sym c.requires.going)
           (record { events = []; texts = tt; part = c.args.event.now; text = c.requires.text; kept = torn.0; front = torn.1; moved = torn.2 }),
     )

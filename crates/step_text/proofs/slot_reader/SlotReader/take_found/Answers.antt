@@ -4,8 +4,8 @@ use Rattle.cx_texts.specs.declared.line_state.LineState.TheVariants.{Kept}
 use Rattle.step_text.specs.Slots.{SlotState}
 use Rattle.step_text.specs.SlotAnswers.{IsAnswer}
 use Rattle.step_text.specs.Found.{FoundStep, IsFound}
-use Rattle.step_text.specs.declared.slot_reader.Found.TheVariants.{Refused}
-use Rattle.step_text.proofs.AnswerLaws.{refusal_answer, step_answer}
+use Rattle.step_text.specs.declared.slot_reader.Found.TheVariants.{Refused, End}
+use Rattle.step_text.proofs.AnswerLaws.{refusal_answer, step_answer, end_answer}
 use Rattle.step_text.proofs.slot_reader.SlotReader.take_found.Goals as goal
 
 pub returns-in-Refused : goal.returns-in-Refused
@@ -22,6 +22,19 @@ returns-in-Refused g c =
     (subst (λ (n : ℕ). IsFound steps c.has_ended.result n c.bytes.result.now (Refused refusal)) c.place-place.ensures.place c.in-Refused.ensures)) in
     let within : taken_by s.bytes ≤ s.bytes.limit = c.self.invariant.3 (λ e. cc (fresh, e)) in
     record { answer = λ o. subst (λ (x : SlotState). IsAnswer steps x o (Err refusal) x o) is (refusal_answer steps s fresh line o refusal within found) }
+
+pub returns-in-End : goal.returns-in-End
+returns-in-End g c =
+    let i = c.self.inside in
+    let steps = g.G.StepGrammar.steps in
+    let s : SlotState = record { bytes = i.bytes; line = i.line; refused = i.refused } in
+    let is : s ≡ c.args.self.now = c.self.view_is in
+    let fresh : s.refused ≡ None = ap (λ (x : SlotState). x.refused) is ∙ c.requires.fresh in
+    let line : s.bytes.bytes ≢ [] → s.line ≡ Kept = subst (λ (x : SlotState). x.bytes.bytes ≢ [] → x.line ≡ Kept) (sym is) c.requires.line in
+    let found : IsFound steps s.bytes.ended s.bytes.place s.bytes.bytes End = subst (λ (e : Bool). IsFound steps e i.bytes.place i.bytes.bytes End) c.has_ended.ensures
+    (subst (λ (b : List ℕ). IsFound steps c.has_ended.result i.bytes.place b End) c.bytes.ensures
+    (subst (λ (n : ℕ). IsFound steps c.has_ended.result n c.bytes.result.now End) c.place-place.ensures.place c.in-End.ensures)) in
+    record { answer = λ o. subst (λ (x : SlotState). IsAnswer steps x o (Ok None) x o) is (end_answer steps s fresh line o (c.self.invariant.3 (λ e. cc (fresh, e))) found) }
 
 pub returns-in-Step : goal.returns-in-Step
 returns-in-Step g c =

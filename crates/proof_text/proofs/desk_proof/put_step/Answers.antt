@@ -4,22 +4,22 @@ use Rattle.cx_desk.specs.Outside.{Bytes, Outside}
 use Rattle.cx_desk.specs.Calls.{gained}
 use Rattle.proof_text.specs.Told.{is_whole, step_line, Goes}
 use Rattle.proof_text.proofs.ToldLaws.{gained_step, gained_whole, torn_told}
-use Rattle.proof_text.proofs.desk_proof.put_step_unless_failed.Goals as goal
+use Rattle.proof_text.proofs.desk_proof.put_step.Goals as goal
 
 pub returns-in-Ok-clause-told : goal.returns-in-Ok-clause-told
-returns-in-Ok-clause-told g c = rw c.in-Ok.ensures (gained_step (g.D.Desk.outside c.args.desk.now) c.args.step.now (c.requires.whole c.if-failed.false) c.requires.text)
+returns-in-Ok-clause-told g c = rw c.in-Ok.ensures (gained_step (g.D.Desk.outside c.args.desk.now) c.args.step.now c.requires.whole c.requires.text)
 
 pub returns-in-Ok-clause-goes : goal.returns-in-Ok-clause-goes
 returns-in-Ok-clause-goes g c =
     let old = g.D.Desk.outside c.args.desk.now in
     let new = g.D.Desk.outside c.put_proof_step.new.desk in
     let moved = c.in-Ok.ensures ∙ ap (λ (x : Bytes). gained Proof x old) (sym (append-nil (step_line c.args.step.now))) in
-    subst (λ (b : Bool). Goes b old b new) (sym c.if-failed.false) (record { steps = c.args.step.now ∷ []; texts = (c.requires.text, tt); moved = moved })
+    subst (λ (b : Bool). Goes b old b new) (sym c.requires.going) (record { steps = c.args.step.now ∷ []; texts = (c.requires.text, tt); moved = moved })
 
 pub returns-in-Ok-clause-whole : goal.returns-in-Ok-clause-whole
 returns-in-Ok-clause-whole g c = λ fine.
-    let whole = gained_whole (g.D.Desk.outside c.args.desk.now) c.args.step.now (c.requires.whole fine) c.requires.text in
-    subst (λ (o : Outside). is_whole o.told ≡ true) (sym c.in-Ok.ensures) whole
+    let whole = gained_whole (g.D.Desk.outside c.args.desk.now) c.args.step.now c.requires.whole c.requires.text in
+    subst (λ (o : Outside). is_whole o ≡ true) (sym c.in-Ok.ensures) whole
 
 pub returns-in-Err-clause-same : goal.returns-in-Err-clause-same
 returns-in-Err-clause-same g c = torn_told (g.D.Desk.outside c.args.desk.now) (g.D.Desk.outside c.put_proof_step.new.desk) c.args.step.now c.requires.text c.in-Err.ensures
@@ -29,5 +29,5 @@ returns-in-Err-clause-goes g c =
     let old = g.D.Desk.outside c.args.desk.now in
     let new = g.D.Desk.outside c.put_proof_step.new.desk in
     let torn = c.in-Err.ensures in
-    subst (λ (b : Bool). Goes b old true new) (sym c.if-failed.false)
+    subst (λ (b : Bool). Goes b old true new) (sym c.requires.going)
     (record { steps = []; texts = tt; part = c.args.step.now; text = c.requires.text; kept = torn.0; front = torn.1; moved = torn.2 })
