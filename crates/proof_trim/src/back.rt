@@ -97,12 +97,13 @@ fn back_over(wanted: &mut NameSet, step: &ProofStep, is_last: bool) -> Result<bo
     }
 }
 
-/// Goes back through a proof, whose last step is needed: which other steps are, and what they name of the formula.
-pub(crate) fn go_back(alloc: Global, proof: &[ProofStep]) -> Result<Found, AllocError>
+/// Goes back through a proof, whose last step is needed: which other steps are, and what they name of the formula. The
+/// formula and the proof have so many constraints and steps.
+pub(crate) fn go_back(alloc: Global, count: usize, proof: &[ProofStep]) -> Result<Found, AllocError>
     ensures marks { IfOk result (λ found. found.marks.items ≡ marks_of proof.now) }
     ensures wanted { IfOk result (λ found. Has found.wanted (wants proof.now)) }
 {
-    let mut wanted = NameSet::new(alloc);
+    let mut wanted = NameSet::beside(alloc, count);
     let mut marks = Vec::new(alloc);
     marks.resize(proof.len(), false)?;
     let mut left = proof.len();

@@ -25,7 +25,7 @@ fn insert_numbers(names: &mut NameSet, kind: Kind, count: usize) -> Result<(), A
 fn names_of(alloc: Global, formula: &Formula) -> Result<NameSet, AllocError>
     ensures { IfOk result (λ names. Has names (live_in (first_tables formula.now))) }
 {
-    let mut names = NameSet::new(alloc);
+    let mut names = NameSet::beside(alloc, formula.len());
     insert_numbers(&mut names, Kind::Clauses, formula.clause_count())?;
     insert_numbers(&mut names, Kind::Parities, formula.parity_count())?;
     Ok(names)

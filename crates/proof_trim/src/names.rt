@@ -24,13 +24,14 @@ pub(crate) struct NameSet {
 }
 
 impl NameSet {
-    /// No name.
-    pub(crate) fn new(alloc: Global) -> NameSet
+    /// No name. So many names stand elsewhere: ids up to four times as great have their bit from the start, and are not
+    /// looked for in an order.
+    pub(crate) fn beside(alloc: Global, count: usize) -> NameSet
         ensures { Has result (λ name. false) }
     {
         NameSet {
-            clauses: IdMap::new(alloc),
-            parities: IdMap::new(alloc),
+            clauses: IdMap::beside(alloc, count as u64),
+            parities: IdMap::beside(alloc, count as u64),
         }
     }
 

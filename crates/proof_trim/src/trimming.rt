@@ -46,7 +46,8 @@ fn trimmed_of(
     requires few { length proof.items < 2 ^ 62 }
     ensures { IfOk result (Trims formula.now proof.items) }
 {
-    let found = go_back(alloc, &proof)?;
+    let count = formula.len().saturating_add(proof.len());
+    let found = go_back(alloc, count, &proof)?;
     let clauses = numbers_in(alloc, &found.wanted, Kind::Clauses, formula.clause_count())?;
     let parities = numbers_in(alloc, &found.wanted, Kind::Parities, formula.parity_count())?;
     let steps = keep(alloc, formula, proof, &found.marks)?;
