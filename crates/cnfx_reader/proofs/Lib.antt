@@ -5,3 +5,4 @@ pub mod TextReading
 pub mod SlotFormulaLaws
 pub mod FormulaPrinting
 pub mod Puts
+pub mod Groups

@@ -1,9 +1,11 @@
 -- Pieces that are written one behind the other, and the text of a line.
-use Rattle.std.proofs.Common.{◌≡◌, refl, sym, ap, ◌∙◌, subst, ℕ, ◌<◌, ℤ, List, [], ◌∷◌, ◌++◌, map, flat_map, length, take, append_assoc, append-nil, Result, Ok, Err}
+use Rattle.std.proofs.Common.{◌≡◌, refl, sym, ap, ◌∙◌, subst, ℕ, zero, suc, ◌+◌, ◌-◌, ◌<◌, ◌≤◌, ℤ, true, false, List, [], ◌∷◌, ◌++◌, map, flat_map, length, take, drop, take-append-drop, decimal, arith, append_assoc, append-nil, Result, Ok, Err}
 use Rattle.std.specs.List.{join_with_byte}
 use Rattle.std.specs.Fmt.{digits}
+use Rattle.std.proofs.lemmas.Grind.{flat_map-append}
+use Rattle.std.proofs.Math.Seq.{take-add}
 use Rattle.cx_base.specs.Literals.{Literal}
-use Rattle.cx_base.specs.Integers.{integers_of}
+use Rattle.cx_base.specs.Integers.{signed, integers_of}
 use Rattle.cx_base.specs.declared.constraint.Constraint.TheVariants.{Clause, Parity, Assume}
 use Rattle.cx_desk.specs.declared.desk.Port.{Port}
 use Rattle.cx_desk.specs.Outside.{Bytes, Outside}
@@ -36,6 +38,39 @@ first_fails port a b l old new e h = subst (λ t. Fails port t old new) e (fails
 pub two_puts : {T E : Type 0} (port : Port) (a b l : Bytes) (old mid new : Outside) (r : Result T E) → a ++ b ≡ l → mid ≡ gained port a old → PutsAll port b mid r new → PutsAll port l old r new
 two_puts port a b l old mid new r e h k = subst (λ t. PutsAll port t old r new) e (puts_then port a b old mid new r h k)
 
+-- ---- a list in parts
+
+module _ {X : Type 0} (f : X → Bytes) (xs : List X) (done next : ℕ) (port : Port) (old mid new : Outside) (rises : done ≤ next) (before : mid ≡ gained port (flat_map f (take done xs)) old) where
+  part_text : flat_map f (take next xs) ≡ flat_map f (take done xs) ++ flat_map f (take (next - done) (drop done xs))
+  part_text =
+      let e : done + (next - done) ≡ next = omega arith in
+      ap (λ n. flat_map f (take n xs)) (sym e) ∙ ap (flat_map f) (take-add done (next - done) xs) ∙ flat_map-append f (take done xs) (take (next - done) (drop done xs))
+
+  pub part_put : new ≡ gained port (flat_map f (take (next - done) (drop done xs))) mid → new ≡ gained port (flat_map f (take next xs)) old
+  part_put now =
+      now ∙ ap (gained port _) before ∙ gained-twice port (flat_map f (take done xs)) (flat_map f (take (next - done) (drop done xs))) old
+      ∙ ap (λ (t : Bytes). gained port t old) (sym part_text)
+
+  pub part_fails : Fails port (flat_map f (take (next - done) (drop done xs))) mid new → Fails port (flat_map f xs) old new
+  part_fails h =
+      let all : flat_map f xs ≡ flat_map f (take next xs) ++ flat_map f (drop next xs) = ap (flat_map f) (sym (take-append-drop next xs)) ∙ flat_map-append f (take next xs) (drop next xs) in
+      let split : flat_map f xs ≡ flat_map f (take done xs) ++ (flat_map f (take (next - done) (drop done xs)) ++ flat_map f (drop next xs)) =
+      all ∙ ap (λ t. t ++ flat_map f (drop next xs)) part_text ∙ append_assoc (flat_map f (take done xs)) (flat_map f (take (next - done) (drop done xs))) (flat_map f (drop next xs)) in
+      subst (λ t. Fails port t old new) (sym split)
+      (fails-within port (flat_map f (take done xs)) (flat_map f (take (next - done) (drop done xs))) (flat_map f (drop next xs)) h.0 old mid new h.1 before h.2)
+
+-- ---- the text of a literal
+
+pub plain_text : (l : Literal) → l.negative ≡ false → literal_text l ≡ decimal l.variable ++ 32 ∷ []
+plain_text l h = ap (λ b. printed_integer (signed b l.variable) ++ 32 ∷ []) h
+
+minus_number : (n : ℕ) → 1 ≤ n → printed_integer (signed true n) ≡ 45 ∷ decimal n
+minus_number zero low = absurd (omega arith)
+minus_number (suc n) low = refl
+
+pub minus_text : (l : Literal) → 1 ≤ l.variable → l.negative ≡ true → literal_text l ≡ 45 ∷ (decimal l.variable ++ 32 ∷ [])
+minus_text l low h = ap (λ b. printed_integer (signed b l.variable) ++ 32 ∷ []) h ∙ ap (λ t. t ++ 32 ∷ []) (minus_number l.variable low)
+
 -- ---- the text of a line
 
 joined_text : (zs : List ℤ) → join_with_byte 32 (map printed_word (spelled_list zs)) ≡ flat_map (λ z. printed_integer z ++ 32 ∷ []) zs ++ 48 ∷ []
@@ -55,6 +90,14 @@ pub line_text : (lits : List Literal) → literals_text lits ≡ printed_line (s
 line_text lits =
     sym (append_assoc (flat_map literal_text lits) (48 ∷ []) (10 ∷ []))
     ∙ ap (λ t. (t ++ 48 ∷ []) ++ 10 ∷ []) (sym (each_text lits)) ∙ ap (λ t. t ++ 10 ∷ []) (sym (joined_text (integers_of lits)))
+
+-- the first literals, and then the rest with the end of the line
+pub end_text : (n : ℕ) (lits : List Literal) → flat_map literal_text (take n lits) ++ literals_text (drop n lits) ≡ literals_text lits
+end_text n lits =
+    let first = flat_map literal_text (take n lits) in
+    let rest = flat_map literal_text (drop n lits) in
+    let all : first ++ rest ≡ flat_map literal_text lits = sym (flat_map-append literal_text (take n lits) (drop n lits)) ∙ ap (flat_map literal_text) (take-append-drop n lits) in
+    sym (append_assoc first rest (48 ∷ 10 ∷ [])) ∙ ap (λ t. t ++ 48 ∷ 10 ∷ []) all
 
 with_letter : (c : ℕ) (zs : List ℤ) → c ∷ 32 ∷ printed_line (spelled_list zs) ≡ printed_line (letter c ∷ spelled_list zs)
 with_letter c [] = refl

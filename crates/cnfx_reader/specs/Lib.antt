@@ -9,3 +9,4 @@ pub mod PieceSteps
 pub mod FromSlot
 pub mod SlotFormula
 pub mod PrintedFormula
+pub mod Groups

@@ -8,6 +8,7 @@ mod from_refusal;
 mod header;
 mod header_token;
 mod laws;
+mod lay_out;
 mod leading_integer;
 mod pending;
 mod piece;

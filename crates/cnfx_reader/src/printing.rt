@@ -1,19 +1,24 @@
 //! Formulas as text.
-ghost use Rattle.std.specs.Prelude.{◌≡◌, ◌++◌, [], if◌then◌else◌, codes, flat_map};
+ghost use Rattle.std.specs.Prelude.{◌<◌, ◌≤◌, ◌++◌, length, flat_map, IfOk};
 ghost use Rattle.cx_desk.specs.Calls.{PutsAll};
 ghost use Rattle.cx_base.specs.Borrowed.{constraint_of};
 ghost use Rattle.cx_texts.specs.FormulaText.{Reads};
 ghost use Rattle.cnfx_reader.specs.PrintedFormula.{literal_text, literals_text, printed_constraint, printed_header, printed_formula};
+ghost use Rattle.cnfx_reader.specs.Groups.{PutsUpTo, PutsNext};
 
+use crate::lay_out::{LINE, lay_out_end, lay_out_group, lay_out_part};
 use cx_base::{ConstraintRef, Formula, Lit};
 use cx_desk::{Desk, Failed, Port, put_all, put_pieces};
 use itoa::Buffer;
 
-/// The most literals that are written in one piece.
+/// The most literals of one constraint that are written in one piece.
 const MANY: usize = 256;
 
-/// Room for as many, and for the zero and the line feed that end a line.
-const SHEET: usize = MANY * LONGEST + 2;
+/// The most short constraints that are written in one piece.
+const GROUP: usize = 32;
+
+/// Room for as many lines of short constraints, or as many literals of a long one.
+const SHEET: usize = GROUP * LINE;
 
 /// A sheet that lines are laid out on, one after another. What is on it plays no part: a line is laid out over the one before, so
 /// that no room is cleared for it.
@@ -22,62 +27,147 @@ struct LineSheet {
     bytes: [u8; SHEET],
 }
 
-/// Writes a literal and a space.
-fn put_literal<D: Desk>(desk: &mut D, port: Port, lit: Lit) -> Result<(), Failed>
-    ensures { PutsAll port (literal_text lit) (D.outside desk.old) result (D.outside desk.new) }
-{
-    let mut buffer = Buffer::new();
-    let number = buffer.format(lit.var().number());
-    put_pieces(
-        desk,
-        port,
-        &[sign_of(lit.is_negative()), number.as_bytes(), b" "],
-    )
+impl LineSheet {
+    /// A sheet for lines to come.
+    fn new() -> LineSheet {
+        LineSheet { bytes: [0; SHEET] }
+    }
 }
 
-/// Writes literals, each with a space behind it.
-fn put_each<D: Desk>(desk: &mut D, port: Port, lits: &[Lit]) -> Result<(), Failed>
+/// Writes a few literals, each with a space after it, in one piece.
+fn put_part<D: Desk>(
+    sheet: &mut LineSheet,
+    desk: &mut D,
+    port: Port,
+    lits: &[Lit],
+) -> Result<(), Failed>
+    requires few { length lits.now ≤ MANY }
     ensures { PutsAll port (flat_map literal_text lits.now) (D.outside desk.old) result (D.outside desk.new) }
 {
-    for lit in lits {
-        put_literal(desk, port, *lit)?;
+    let sheet = &mut sheet.bytes[..];
+    let begin = lay_out_part(lits, sheet);
+    put_all(desk, port, &sheet[begin..])
+}
+
+/// Writes a few literals, a zero and a line feed, in one piece.
+fn put_end<D: Desk>(
+    sheet: &mut LineSheet,
+    desk: &mut D,
+    port: Port,
+    lits: &[Lit],
+) -> Result<(), Failed>
+    requires few { length lits.now ≤ MANY }
+    ensures { PutsAll port (literals_text lits.now) (D.outside desk.old) result (D.outside desk.new) }
+{
+    let sheet = &mut sheet.bytes[..];
+    let begin = lay_out_end(lits, sheet);
+    put_all(desk, port, &sheet[begin..])
+}
+
+/// Writes literals, a zero and a line feed.
+fn put_literals<D: Desk>(
+    sheet: &mut LineSheet,
+    desk: &mut D,
+    port: Port,
+    lits: &[Lit],
+) -> Result<(), Failed>
+    ensures { PutsAll port (literals_text lits.now) (D.outside desk.old) result (D.outside desk.new) }
+{
+    let mut done = 0;
+    while lits.len() - done > MANY {
+        let next = done + MANY;
+        put_part(sheet, desk, port, &lits[done..next])?;
+        done = next;
+    }
+    put_end(sheet, desk, port, &lits[done..])
+}
+
+/// Writes what a line has before its integers, and the line.
+fn put_line<D: Desk>(
+    sheet: &mut LineSheet,
+    desk: &mut D,
+    port: Port,
+    front: &[u8],
+    lits: &[Lit],
+) -> Result<(), Failed>
+    ensures { PutsAll port (front.now ++ literals_text lits.now) (D.outside desk.old) result (D.outside desk.new) }
+{
+    put_all(desk, port, front)?;
+    put_literals(sheet, desk, port, lits)
+}
+
+/// Writes the line of a constraint.
+fn put_constraint<D: Desk>(
+    sheet: &mut LineSheet,
+    desk: &mut D,
+    port: Port,
+    item: ConstraintRef<'_>,
+) -> Result<(), Failed>
+    ensures { PutsAll port (printed_constraint (constraint_of item.entry)) (D.outside desk.old) result (D.outside desk.new) }
+{
+    match item {
+        ConstraintRef::Clause(lits) => put_line(sheet, desk, port, b"", lits),
+        ConstraintRef::Parity(lits) => put_line(sheet, desk, port, b"x", lits),
+        ConstraintRef::Assume(lits) => put_line(sheet, desk, port, b"a ", lits),
+    }
+}
+
+/// Writes the lines of the constraints from one place up to another, one by one.
+fn put_each<D: Desk>(
+    sheet: &mut LineSheet,
+    desk: &mut D,
+    port: Port,
+    formula: &Formula,
+    from: usize,
+    to: usize,
+) -> Result<(), Failed>
+    requires order { from ≤ to }
+    requires high { to ≤ length formula.now.constraints }
+    ensures { PutsUpTo port formula.now.constraints from to (D.outside desk.old) result (D.outside desk.new) }
+{
+    for place in from..to {
+        put_constraint(sheet, desk, port, formula.item(place))?;
     }
     Ok(())
 }
 
-/// Writes literals, a zero and a line feed.
-fn put_literals<D: Desk>(desk: &mut D, port: Port, lits: &[Lit]) -> Result<(), Failed>
-    ensures { PutsAll port (literals_text lits.now) (D.outside desk.old) result (D.outside desk.new) }
+/// Writes the lines of the next constraints, in one piece where they are short, and says which place comes next.
+fn put_next<D: Desk>(
+    sheet: &mut LineSheet,
+    desk: &mut D,
+    port: Port,
+    formula: &Formula,
+    from: usize,
+) -> Result<usize, Failed>
+    requires { from < length formula.now.constraints }
+    ensures next { IfOk result (λ next. (from < next) × (next ≤ length formula.now.constraints)) }
+    ensures puts { PutsNext port formula.now.constraints from (D.outside desk.old) result (D.outside desk.new) }
 {
-    put_each(desk, port, lits)?;
-    put_all(desk, port, b"0\n")
-}
-
-/// Writes what stands in front of a line's integers, and the line.
-fn put_line<D: Desk>(desk: &mut D, port: Port, front: &[u8], lits: &[Lit]) -> Result<(), Failed>
-    ensures { PutsAll port (front.now ++ literals_text lits.now) (D.outside desk.old) result (D.outside desk.new) }
-{
-    put_all(desk, port, front)?;
-    put_literals(desk, port, lits)
-}
-
-/// Writes the line of a constraint.
-fn put_constraint<D: Desk>(desk: &mut D, port: Port, item: ConstraintRef<'_>) -> Result<(), Failed>
-    ensures { PutsAll port (printed_constraint (constraint_of item.entry)) (D.outside desk.old) result (D.outside desk.new) }
-{
-    match item {
-        ConstraintRef::Clause(lits) => put_line(desk, port, b"", lits),
-        ConstraintRef::Parity(lits) => put_line(desk, port, b"x", lits),
-        ConstraintRef::Assume(lits) => put_line(desk, port, b"a ", lits),
+    let to = formula.len().min(from + GROUP);
+    match lay_out_group(formula, from, to, &mut sheet.bytes[..]) {
+        Ok(begin) => {
+            put_all(desk, port, &sheet.bytes[begin..])?;
+            Ok(to)
+        }
+        Err(long) => {
+            put_each(sheet, desk, port, formula, from, long + 1)?;
+            Ok(long + 1)
+        }
     }
 }
 
 /// Writes the lines of all constraints.
-fn put_constraints<D: Desk>(desk: &mut D, port: Port, formula: &Formula) -> Result<(), Failed>
+fn put_constraints<D: Desk>(
+    sheet: &mut LineSheet,
+    desk: &mut D,
+    port: Port,
+    formula: &Formula,
+) -> Result<(), Failed>
     ensures { PutsAll port (flat_map printed_constraint formula.now.constraints) (D.outside desk.old) result (D.outside desk.new) }
 {
-    for place in 0..formula.len() {
-        put_constraint(desk, port, formula.item(place))?;
+    let mut done = 0;
+    while done < formula.len() {
+        done = put_next(sheet, desk, port, formula, done)?;
     }
     Ok(())
 }
@@ -100,14 +190,14 @@ fn put_header<D: Desk>(desk: &mut D, port: Port, formula: &Formula) -> Result<()
 
 /// Writes a formula on a port: a text that is read as the formula.
 ///
-/// It fails only where the desk counted a fault of the port; then the port gained a front of the text. It takes no
-/// memory.
+/// It fails only where the desk counted a fault of the port; then the port gained a front of the text. It takes no memory.
 pub fn put_formula<D: Desk>(desk: &mut D, port: Port, formula: &Formula) -> Result<(), Failed>
     ensures put { PutsAll port (printed_formula formula.now) (D.outside desk.old) result (D.outside desk.new) }
     ensures reads { Reads (printed_formula formula.now) formula.now }
 {
     let _vars = formula.vars();
     let _len = formula.len();
+    let mut sheet = LineSheet::new();
     put_header(desk, port, formula)?;
-    put_constraints(desk, port, formula)
+    put_constraints(&mut sheet, desk, port, formula)
 }

@@ -1,17 +1,15 @@
-use Rattle.std.proofs.Common.{[], ap, subst, arith}
-use Rattle.std.proofs.lemmas.Result.{err_from_is_err_and}
-use Rattle.cx_base.specs.declared.constraint.Constraint.TheVariants.{Clause}
-use Rattle.cx_desk.specs.Outside.{Bytes}
-use Rattle.cx_desk.proofs.Moves.{pieces-fail}
+use Rattle.std.proofs.Common.{◌≡◌, ◌∙◌, ap, ℕ, List, length, take, flat_map, arith}
+use Rattle.std.proofs.Math.Seq.{take-length}
+use Rattle.cx_base.specs.declared.constraint.Constraint.{Constraint}
+use Rattle.cx_desk.specs.Calls.{gained}
 use Rattle.cnfx_reader.specs.PrintedFormula.{printed_constraint}
-use Rattle.cnfx_reader.proofs.Puts.{Fails}
 use Rattle.cnfx_reader.proofs.printing.put_constraints.Goals as goal
 
-pub returns-in_err-put_constraint : goal.returns-in_err-put_constraint
-returns-in_err-put_constraint g c =
-    let p = err_from_is_err_and c.from_residual.result c.from_residual.ensures.1 in
+pub returns : goal.returns
+returns g c =
+    let cs = c.args.formula.now.constraints in
     let old = g.D.Desk.outside c.args.desk.now in
-    let before = g.D.Desk.outside c.loop-place.desk in
-    let after = g.D.Desk.outside c.put_constraint.new.desk in
-    let fault = subst (λ (b : Bytes). Fails c.args.port b before after) (ap printed_constraint c.item.ensures.item) c.in_err-put_constraint.ensures in
-    rw p.1 (pieces-fail printed_constraint c.args.formula.now.constraints c.loop-place.place (Clause []) c.args.port old before after (omega (arith, c.loop-place-test.true, c.len-place-end.ensures.len)) c.loop-place.invariant fault)
+    let all : c.loop-done.done ≡ length cs = omega (arith, c.loop-done.invariant.within, c.loop-done-test.false, c.len.ensures.len) in
+    c.loop-done.invariant.put
+    ∙ ap (λ (n : ℕ). gained c.args.port (flat_map printed_constraint (take n cs)) old) all
+    ∙ ap (λ (xs : List Constraint). gained c.args.port (flat_map printed_constraint xs) old) (take-length cs)

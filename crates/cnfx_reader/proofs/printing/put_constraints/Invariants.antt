@@ -1,8 +1,13 @@
-use Rattle.std.proofs.Common.{◌≡◌, take}
-use Rattle.std.specs.List.{flat_map}
+use Rattle.std.proofs.Common.{◌≡◌, ◌≤◌, ◌-◌, length}
 use Rattle.cx_desk.specs.Calls.{gained}
-use Rattle.cnfx_reader.specs.PrintedFormula.{printed_constraint}
+use Rattle.cnfx_reader.specs.Groups.{lines_up_to}
 use Rattle.cnfx_reader.proofs.printing.put_constraints.Given as goal
 
-abbrev pub invariant-loop-place : goal.invariant-loop-place
-invariant-loop-place g l = g.D.Desk.outside l.desk ≡ gained l.port (flat_map printed_constraint (take l.place l.formula.constraints)) (g.D.Desk.outside l.initial.desk)
+abbrev pub invariant-loop-done : goal.invariant-loop-done
+invariant-loop-done g l = record {
+  within : l.done ≤ length l.formula.constraints;
+  put : g.D.Desk.outside l.desk ≡ gained l.port (lines_up_to l.formula.constraints l.done) (g.D.Desk.outside l.initial.desk);
+}
+
+abbrev pub decreases-loop-done : goal.decreases-loop-done
+decreases-loop-done g l = length l.formula.constraints - l.done

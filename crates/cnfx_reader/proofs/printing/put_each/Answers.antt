@@ -1,16 +1,25 @@
-use Rattle.std.proofs.Common.{subst}
-use Rattle.cx_base.specs.Literals.{Literal}
-use Rattle.cnfx_reader.proofs.Puts.{Fails}
+use Rattle.std.proofs.Common.{◌≡◌, [], ap, subst, arith}
 use Rattle.std.proofs.lemmas.Result.{err_from_is_err_and}
+use Rattle.cx_base.specs.declared.constraint.Constraint.TheVariants.{Clause}
+use Rattle.cx_desk.specs.Outside.{Bytes}
+use Rattle.cx_desk.specs.Calls.{gained}
 use Rattle.cx_desk.proofs.Moves.{pieces-fail}
-use Rattle.cnfx_reader.specs.PrintedFormula.{literal_text}
+use Rattle.cnfx_reader.specs.PrintedFormula.{printed_constraint}
+use Rattle.cnfx_reader.proofs.Groups.{line_put}
+use Rattle.cnfx_reader.proofs.Puts.{Fails}
 use Rattle.cnfx_reader.proofs.printing.put_each.Goals as goal
 
-pub returns-in_err-put_literal : goal.returns-in_err-put_literal
-returns-in_err-put_literal g c =
+pub loop-place-preserved : goal.loop-place-preserved
+loop-place-preserved g c = λ start h.
+    let before = g.D.Desk.outside c.loop-place.desk in
+    let after = g.D.Desk.outside c.put_constraint.new.desk in
+    let now = subst (λ (b : Bytes). after ≡ gained c.args.port b before) (ap printed_constraint c.item.ensures.item) c.in_ok-put_constraint.ensures in
+    line_put printed_constraint c.args.formula.now.constraints c.loop-place.place (Clause []) (omega arith) c.args.port start before after (c.loop-place.invariant start h) now
+
+pub returns-in_err-put_constraint : goal.returns-in_err-put_constraint
+returns-in_err-put_constraint g c =
     let p = err_from_is_err_and c.from_residual.result c.from_residual.ensures.1 in
-    let old = g.D.Desk.outside c.args.desk.now in
-    let before = g.D.Desk.outside c.loop-lit.desk in
-    let after = g.D.Desk.outside c.put_literal.new.desk in
-    let fault = subst (λ (l : Literal). Fails c.args.port (literal_text l) before after) c.lit-item.is c.in_err-put_literal.ensures in
-    rw p.1 (pieces-fail literal_text c.args.lits.now c.loop-lit.lit-index c.lit-item.result c.args.port old before after c.loop-lit-test.true c.loop-lit.invariant fault)
+    let before = g.D.Desk.outside c.loop-place.desk in
+    let after = g.D.Desk.outside c.put_constraint.new.desk in
+    let fault = subst (λ (b : Bytes). Fails c.args.port b before after) (ap printed_constraint c.item.ensures.item) c.in_err-put_constraint.ensures in
+    λ start h. rw p.1 (pieces-fail printed_constraint c.args.formula.now.constraints c.loop-place.place (Clause []) c.args.port start before after (omega arith) (c.loop-place.invariant start h) fault)
