@@ -1,1 +1,3 @@
 pub mod Saturating
+pub mod StandingLaws
+pub mod SettlingLaws

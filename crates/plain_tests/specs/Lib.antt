@@ -1,1 +1,3 @@
 pub mod Propagating
+pub mod Standing
+pub mod Settling

@@ -67,7 +67,7 @@ fn saturate(alloc: Global, live: &Live, lits: &[Lit]) -> Result<Option<LiteralSe
 }
 
 /// The literals but one.
-fn others_of(alloc: Global, lits: &[Lit], lit: Lit) -> Result<Vec<Lit>, AllocError>
+pub(crate) fn others_of(alloc: Global, lits: &[Lit], lit: Lit) -> Result<Vec<Lit>, AllocError>
     ensures { IfOk result (λ v. v.items ≡ others lits.now lit) }
 {
     let mut others = Vec::new(alloc);
