@@ -1,0 +1,5 @@
+use Rattle.std.proofs.Common.{◌≡◌, []}
+use Rattle.plain_runs.proofs.drawing.some_formula.Given as goal
+
+abbrev pub invariant-loop : goal.invariant-loop
+invariant-loop l = l.builder.unfinished ≡ []
