@@ -8,7 +8,7 @@ use Rattle.cdcl_search.specs.declared.state.SearchState.{SearchState}
 use Rattle.cdcl_search.specs.Ties.{SearchStands}
 use Rattle.cdcl_core.specs.Results.{Refutes}
 
--- the search stands at level 0, with no counted conflict
+-- the search is at level 0, with no counted conflict
 pub record IsAtStart (formula : Problem) (told : Option (List LogEvent)) (c : SearchState) (e : State) : Type 0 where
   pub stands : SearchStands formula c e [] told
   pub unbroken : e.mood ≢ Broken

@@ -21,15 +21,15 @@ pub record IsCompacted (moves : List Move) (old new : SearchState) : Type 0 wher
   pub watches : AreRenamed moves old.watches new.watches
   pub others : new ≡ record old { arena = new.arena; watches = new.watches; trail = record old.trail { entries = map (renamed moves) old.trail.entries } }
 
--- whatever search stood behind the code stands behind it still
+-- whatever search fitted the code fits it still
 abbrev pub StandsStill : SearchState → SearchState → Type 0
 StandsStill old new = (formula : Problem) (e : State) (rows : List (List Literal)) (told : Option (List LogEvent)) → SearchStands formula old e rows told → SearchStands formula new e rows told
 
--- each clause that stands as a reason on the trail, or is watched, is one of the arena
+-- each clause that is a reason on the trail, or is watched, is one of the arena
 abbrev pub NamesLiveClauses : SearchState → Type 0
 NamesLiveClauses c = ((i r : ℕ) → i < length c.trail.entries → (entry_at c.trail.entries i).reason ≡ Clause r → IsLive c.arena r)
     × ((r : ℕ) → IsAttached c.watches.attached r → IsLive c.arena r)
 
--- where a search stood behind the old, the new names no clause that is gone
+-- where a search fitted the old code, the new names no clause that is gone
 abbrev pub LeavesNoOldName : SearchState → SearchState → Type 0
 LeavesNoOldName old new = (formula : Problem) (e : State) (rows : List (List Literal)) (told : Option (List LogEvent)) → SearchStands formula old e rows told → NamesLiveClauses new

@@ -40,7 +40,7 @@ pub record IsConflictClause (c : SearchState) (rows : List (List Literal)) (clau
   pub sourced : IsSourced c rows clause
   pub all_false : (m : Literal) → IsTrue (has_literal clause m) → IsFalseIn c.trail.entries m
 
--- the search stands above level 0 at a conflict with this clause; of rows these clauses were told since the last mark
+-- the search is above level 0 at a conflict with this clause; of rows these clauses were told since the last mark
 pub record IsAtConflict {P L : Type 0} (p : engine.Ghosts P) (m : sink.Ghosts L LogEvent) (log : SearchLog L) (c : SearchState) (e : P) (rows : List (List Literal)) (clause : List Literal) : Type 0 where
   pub stands : Stands p m log c e rows
   pub conflict : IsConflictClause c rows clause
@@ -99,7 +99,7 @@ IsOfClause found.Quiet = ⊥
 IsOfClause (found.Clause r) = Unit {0}
 IsOfClause (found.Row row) = ⊥
 
--- Up to an answer the search stands at what the conflict comes to, or the literal that contradicts an assumed one; the log goes on.
+-- Up to an answer the search is at what the conflict comes to, or at the literal that contradicts an assumed one; the log goes on.
 pub record ConcludesOn {P L : Type 0} (p : engine.Ghosts P) (m : sink.Ghosts L LogEvent) (old new : SearchLog L) (c : SearchState) (e : P) (kept : Option Literal) (result : Result Conclusion CoreFault) : Type 0 where
   pub concludes : IfOk result (λ k. Concludes new.formula.now c (p.state e) (told_in m new) kept k)
   pub log : GoesOn m old (fault_in result) new
@@ -117,7 +117,7 @@ pub record IsContradicted (formula : Problem) (id marks : ℕ) (s : Search) : Ty
 abbrev pub IsRefutable : Problem → ℕ → ℕ → Option (List LogEvent) → Type 0
 IsRefutable formula id marks told = IsId id × ((s : Search) × AreTold told s.events × IsContradicted formula id marks s)
 
--- the search stands before a propagation, with fewer counted conflicts than the budget
+-- the search is before a propagation, with fewer counted conflicts than the budget
 pub record SearchGoesOn (formula : Problem) (budget : ℕ) (told : Option (List LogEvent)) (c : SearchState) (e : State) : Type 0 where
   pub stands : SearchStands formula c e [] told
   pub unbroken : e.mood ≢ Broken

@@ -21,7 +21,7 @@ pub record MayEnter (c : SearchState) (lits : List Literal) : Type 0 where
   pub watched : 2 ≤ length lits → CanBeWatched c.watches.variables c.trail lits
   pub put : CanBePut c.trail (literal_at lits 0)
 
--- the literal stands on the trail, at the current level
+-- the literal is on the trail, at the current level
 pub record IsPut (old new : SearchState) (l : Literal) (reason : Reason) : Type 0 where
   pub trail : new.trail ≡ pushed old.trail old.trail.level l reason
   pub sound : IsTrail new.trail
@@ -40,7 +40,7 @@ pub record EntersUnit (old new : SearchState) (l : Literal) (id : ℕ) : Type 0 
   pub watches : new.watches ≡ old.watches
   pub units : new.units.items ≡ old.units.items ++ id ∷ []
 
--- the clause stands in the arena, is attached, and is the literal's reason
+-- the clause is in the arena, is attached, and is the literal's reason
 pub record EntersClause (old new : SearchState) (lits : List Literal) (l : Literal) (id lbd : ℕ) : Type 0 where
   pub put : IsPut old new l (Clause (length old.arena.clauses))
   pub added : new.arena.clauses ≡ old.arena.clauses ++ Some (record { literals = lits; id = id; lbd = lbd; learned = true }) ∷ []

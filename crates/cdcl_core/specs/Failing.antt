@@ -31,7 +31,7 @@ pub record IsFailure (constraints : List Constraint) (c : SearchState) (clause :
   pub apart : RowsAreApart constraints c.trail below
   pub rests : RestsOnAssumptions constraints c.trail below
 
--- What is left of the clause: it follows from that and the clauses that the search holds, by resolved literals that stand on the trail.
+-- What is left of the clause: it follows from that and the clauses that the search holds, by resolved literals on the trail.
 pub record IsLeftOf (constraints : List Constraint) (c : SearchState) (clause : List Literal) (kept : Option Literal) (below : ℕ) (rows : List (List Literal)) (left : Final) : Type 0 where
   pub fails : IsFailure constraints c clause kept below rows
   pub final : IsFinal c.trail below kept clause (IsSourced c rows) left.resolved left.lits

@@ -39,7 +39,7 @@ pub record IsUnitClause (formula : Problem) (k : ℕ) (l : Literal) : Type 0 whe
   pub high : k ≤ length (clauses_of formula.constraints)
   pub same : IsTrue (same_literals (l ∷ []) (clause_number formula k))
 
--- The k-th clause stands in the arena, or has a literal with its negation, or is one of these units; or some clause has no literal.
+-- The k-th clause is in the arena, or has a literal with its negation, or is one of these units; or some clause has no literal.
 abbrev pub IsClauseTaken : Problem → SearchState → List Single → Option ℕ → ℕ → Type 0
 IsClauseTaken formula c units empty k =
     ((r : ℕ) × IsLive c.arena r × (id_at c.arena r ≡ k))
@@ -89,7 +89,7 @@ pub record IsNext (formula : Problem) (f : Filled) (lits : List Literal) : Type 
 abbrev pub TakesNext : Filled → List Literal → Filled → Type 0
 TakesNext f lits now = (formula : Problem) → IsNext formula f lits → IsFilledUpTo formula f.state.next now.state now.units.items now.empty
 
--- the clause stands in the arena under its number, and is attached; nothing else changes
+-- the clause is in the arena under its number, and is attached; nothing else changes
 pub record Attaches (old new : SearchState) (lits : List Literal) (number : ℕ) : Type 0 where
   pub added : new.arena.clauses ≡ old.arena.clauses ++ Some (record { literals = lits; id = number; lbd = 0; learned = false }) ∷ []
   pub attached : IsAttached new.watches.attached (length old.arena.clauses)

@@ -1,4 +1,4 @@
--- What the engine is given: the formula's parities, and behind them those that are recovered from its clauses.
+-- What the engine is given: the formula's parities, and after them those that are recovered from its clauses.
 use Rattle.std.specs.Prelude.{◌≡◌, ℕ, ◌<◌, ◌≤◌, false, List, [], length, None, Option}
 use Rattle.std.specs.List.{AllByRecursion}
 use Rattle.cx_base.specs.Literals.{Literal}
@@ -11,7 +11,7 @@ use Rattle.search_steps.specs.Laws.{HaveTheirs}
 use Rattle.search_steps.specs.Search.{Search, IsSearch, IsTidy}
 use Rattle.cdcl_core.specs.Originals.{AreListedFromOne}
 
--- The formula's clauses and these parities stand under their numbers, nothing else is told, and no literal is on the trail.
+-- The formula's clauses and these parities are under their numbers, nothing else is told, and no literal is on the trail.
 pub record IsGiven (formula : Problem) (parities : List (List Literal)) (s : Search) : Type 0 where
   pub search : IsSearch formula parities s
   pub clauses : AreListedFromOne s.moment.tables.clauses (clauses_of formula.constraints)
@@ -26,7 +26,7 @@ pub record IsGiven (formula : Problem) (parities : List (List Literal)) (s : Sea
   pub not_reducing : s.moment.reduces ≡ false
   pub tidy : IsTidy s
 
--- the log has the formula's constraints, and behind its parities the others of these
+-- the log has the formula's constraints, and after its parities the others of these
 abbrev pub HasGiven : Problem → List (List Literal) → Option (List LogEvent) → Type 0
 HasGiven formula parities told = (s : Search) × IsGiven formula parities s × AreTold told s.events
 

@@ -10,7 +10,7 @@ use Rattle.cdcl_search.specs.declared.state.SearchState.{SearchState}
 use Rattle.cdcl_search.specs.Ties.{Ties, IsWatched}
 use Rattle.cdcl_core.specs.Entering.{HasCounts}
 
--- Whatever search stood behind the code, what is left of it at that level stands behind it now. The trail is as it was at that level, and no row is broken.
+-- Whatever search fitted the code, what is left of it at that level fits it now. The trail is as it was at that level, and no row is broken.
 pub record IsBackAt (formula : Problem) (level : ℕ) (old : SearchState) (e_old : State) (new : SearchState) (e_new : State) : Type 0 where
   pub ties : (rows : List (List Literal)) (s : Search) → IsSearch formula e_old.parities s → Ties formula old e_old rows s → Ties formula new e_new rows (jumped s level)
   pub watched : IsWatched new.watches new.arena new.trail

@@ -30,7 +30,7 @@ pub record ArePlaced (trail : TrailState) (lits : List Literal) (back : ℕ) : T
   pub within : first < length trail.entries
   pub back_is : back ≡ second (levels_at trail (first ∷ rest))
 
--- The search stands before the mark. The clause has a right chain, is asserting by its first literal and is no ending clause, and there is an id for it and a number for its mark.
+-- The search is before the mark. The clause has a right chain, is asserting by its first literal and is no ending clause, and there is an id for it and a number for its mark.
 pub record IsTaught (formula : Problem) (c : SearchState) (e : State) (lits : List Literal) (back : ℕ) (s : Search) : Type 0 where
   pub search : IsSearch formula e.parities s
   pub rows : List (List Literal)
@@ -54,12 +54,12 @@ pub record Learns (formula : Problem) (c : SearchState) (e : State) (lits : List
   pub hints : List ℤ
   pub told_is : AreTold told (after_round search c.next (integers_of lits) hints back taught.first).events
 
--- The clause that a conflict teaches: resolved from that and the clauses that the search holds, on literals that stand on the trail, which are touched with its own.
+-- The clause that a conflict teaches: resolved from that and the clauses that the search holds, on literals of the trail, which are touched with its own.
 pub record IsLesson (c : SearchState) (rows : List (List Literal)) (conflict : List Literal) (learned : Learned) : Type 0 where
   pub teaches : Teaches c.trail conflict (IsSourced c rows) learned.resolved learned.lits learned.back_level learned.lbd
   pub stand : (l : Literal) → IsTrue (has_literal learned.resolved l) → IsTrueIn c.trail.entries l
   pub touched : AreTouched c.trail learned.resolved learned.lits learned.touched.items
 
--- where the sink was told what this clause was learned from, the search stands behind that
+-- where the sink was told what this clause was learned from, the search fits that
 abbrev pub StandsBehind : Problem → SearchState → State → Learned → SearchState → State → Type 0
 StandsBehind formula c e learned now e_now = (told : Option (List LogEvent)) → Learns formula c e learned.lits learned.back_level told → SearchStands formula now e_now [] told

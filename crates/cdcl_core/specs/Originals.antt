@@ -14,7 +14,7 @@ use Rattle.cdcl_search.specs.Logs.{told_in}
 use Rattle.cdcl_search.specs.Ties.{AreNumbered}
 use Rattle.cdcl_core.specs.declared.originals.Counts.{Counts}
 
--- the lists stand under their numbers, from 1
+-- the lists are under their numbers, from 1
 pub record AreListedFromOne (table : Table) (lists : List (List Literal)) : Type 0 where
   pub numbered : AreNumbered table lists
   pub none_before : get table 0 ≡ None

@@ -24,11 +24,11 @@ pub record WasWatched (w : WatchState) (a : ArenaState) (t : TrailState) : Type 
   pub part : IsPartOf a before
   pub watched : IsWatched w before t
 
--- a search stands at level 0 but for the watches: removed clauses are still attached, and this reduction is counted already
+-- a search at level 0 fits the code but for the watches: removed clauses are still attached, and this reduction is counted already
 abbrev pub SearchLoses : Problem → SearchState → State → Option (List LogEvent) → Type 0
 SearchLoses formula c e told = (s : Search) × IsSearch formula e.parities s × AreTold told s.events × Ties formula c e [] s × WasWatched c.watches c.arena c.trail × (s.moment.reductions < c.reductions)
 
--- so it is behind what the log was told; each literal of the trail has a unit clause, and the sink has not failed
+-- so it fits what the log was told; each literal of the trail has a unit clause, and the sink has not failed
 pub record IsReducing {P L : Type 0} (p : engine.Ghosts P) (m : sink.Ghosts L LogEvent) (log : SearchLog L) (c : SearchState) (e : P) : Type 0 where
   pub loses : SearchLoses log.formula.now c (p.state e) (m.items log.sink.now)
   pub units : length c.units.items ≡ length c.trail.entries

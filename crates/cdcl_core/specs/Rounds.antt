@@ -16,7 +16,7 @@ use Rattle.cdcl_core.specs.Concluding.{SearchGoesOn}
 use Rattle.cdcl_core.specs.Results.{IsRightOutcome, IsSettledBy}
 use Rattle.cdcl_core.specs.declared.solving.Outcome.{Outcome}
 
--- the search stands, with budget left and no variable marked, and the sink has not failed
+-- the search fits the code, with budget left and no variable marked, and the sink has not failed
 pub record IsSearching {P L : Type 0} (p : engine.Ghosts P) (m : sink.Ghosts L LogEvent) (log : SearchLog L) (c : SearchState) (e : P) (a : Assumptions) (budget : ℕ) (marks : List Bool) : Type 0 where
   pub stands : Stands p m log c e []
   pub keeps : KeepsAssumptions log.formula.now.constraints a c.trail

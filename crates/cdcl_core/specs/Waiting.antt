@@ -60,11 +60,11 @@ pub record TiesBut (formula : Problem) (engines : List (List Literal)) (c : Sear
   pub no_level : s.quiet_levels ≡ 0
   pub served : HasOnlyRowClauses s (first_row_id c.next) 0
 
--- some search of the calculus over these parities stands behind the code but for these unit clauses, and its events are the sink's where that tells them
+-- some search of the calculus over these parities fits the code but for these unit clauses, and its events are the sink's where that tells them
 abbrev pub SearchStandsBut : Problem → List (List Literal) → SearchState → List Single → Option (List LogEvent) → Type 0
 SearchStandsBut formula engines c waiting told = (s : Search) × IsSearch formula engines s × AreTold told s.events × TiesBut formula engines c waiting s
 
--- true: the search stands but for these unit clauses; false: the log is ended, with no mark
+-- true: the search fits the code but for these unit clauses; false: the log is ended, with no mark
 abbrev pub PutsUnits : Problem → List (List Literal) → SearchState → List Single → Option (List LogEvent) → Bool → Type 0
 PutsUnits formula engines c waiting told true = SearchStandsBut formula engines c waiting told
 PutsUnits formula engines c waiting told false = Refutes formula 1 told []

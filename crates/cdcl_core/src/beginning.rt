@@ -18,7 +18,7 @@ use cx_trail::{Reason, Truth};
 use parity_engine::ParityEngine;
 use step_text::Sink;
 
-/// Puts the literal of the unit clause at a place on the trail. False where its negation stands there: then the log is
+/// Puts the literal of the unit clause at a place on the trail. False where its negation is there: then the log is
 /// ended.
 fn put_unit<L: Sink<Item = LogEvent>>(
     log: &mut SearchLog<L>,

@@ -23,7 +23,7 @@ fn has(lits: &[Lit], lit: Lit) -> bool
     false
 }
 
-/// Whether some literal stands beside its negation, by pairs.
+/// Whether some literal occurs with its negation, by pairs.
 fn has_both_in_pairs(lits: &[Lit]) -> bool
     ensures { result ≡ is_tautology lits.now }
 {
@@ -49,7 +49,7 @@ fn are_rising(lits: &[Lit]) -> bool
     true
 }
 
-/// Whether some literal stands right behind its negation, among literals whose codes rise.
+/// Whether some literal comes right after its negation, among literals whose codes rise.
 fn has_both_in_neighbours(lits: &[Lit]) -> bool
     requires { RiseFrom 1 lits.now }
     ensures { result ≡ is_tautology lits.now }
@@ -64,7 +64,7 @@ fn has_both_in_neighbours(lits: &[Lit]) -> bool
     false
 }
 
-/// Whether some literal stands beside its negation.
+/// Whether some literal occurs with its negation.
 pub(crate) fn has_both(lits: &[Lit]) -> bool
     ensures { result ≡ is_tautology lits.now }
 {

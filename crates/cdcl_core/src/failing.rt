@@ -40,7 +40,7 @@ pub(crate) fn negated(alloc: Global, lits: &[Lit]) -> Result<LitList, AllocError
     Ok(LitList::from_vec(negated))
 }
 
-/// What is left of a failure's clause when its literals are traced to assumed ones. The clauses of rows that are told for it come behind these rows.
+/// What is left of a failure's clause when its literals are traced to assumed ones. The clauses of rows that are told for it come after these rows.
 fn trace<'x, P: ParityEngine, L: Sink<Item = LogEvent>>(
     log: &'x mut SearchLog<L>,
     state: &'x SearchState,

@@ -127,7 +127,7 @@ pub(crate) fn nothing_filled(alloc: Global, formula: &Formula) -> Result<Filled,
 
 /// Attaches the clauses of two or more different literals, and gives those of one; tautologies are left out.
 ///
-/// It fails for want of memory, or where the clauses are more than an arena holds.
+/// It fails where memory runs out, or where the clauses are more than an arena holds.
 pub(crate) fn fill(alloc: Global, formula: &Formula, filled: &mut Filled) -> Result<(), AllocError>
     requires few { length formula.now.constraints ≤ 4294967295 }
     requires none { IsFilledUpTo formula.now 0 filled.old.state filled.old.units.items filled.old.empty }

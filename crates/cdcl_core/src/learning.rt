@@ -37,7 +37,7 @@ use parity_engine::ParityEngine;
 use std::alloc::{AllocError, Global};
 use step_text::Sink;
 
-/// The steps behind the mark of a conflict: the learned clause with its hints, and the deletions of the clauses of rows.
+/// The steps after the mark of a conflict: the learned clause with its hints, and the deletions of the clauses of rows.
 fn steps_of_learned(
     alloc: Global,
     id: u64,
@@ -59,7 +59,7 @@ fn steps_of_learned(
 
 /// The hints of a learned clause: the ids of the clauses that implied the resolved literals, the last one's first, and then the conflict's.
 ///
-/// The clauses of rows were told in the order of these literals, and so many stand in the log.
+/// The clauses of rows were told in the order of these literals, and the log has this many.
 pub(crate) fn hints_of_lesson(
     alloc: Global,
     state: &SearchState,
@@ -122,7 +122,7 @@ fn tell_learned<P: ParityEngine, L: Sink<Item = LogEvent>>(
     tell_round(log, state.conflicts + 1, steps)
 }
 
-/// What a conflict above level 0 teaches. The clauses of rows that are told for it come behind these rows.
+/// What a conflict above level 0 teaches. The clauses of rows that are told for it come after these rows.
 fn lesson_of<'x, P: ParityEngine, L: Sink<Item = LogEvent>>(
     log: &'x mut SearchLog<L>,
     state: &'x SearchState,

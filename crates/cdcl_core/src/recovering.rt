@@ -1,4 +1,4 @@
-//! The engine's parities: the formula's, and those that stand in it as clauses.
+//! The engine's parities: the formula's, and those that it has as clauses.
 ghost use Rattle.std.specs.Prelude.{◌≡◌, ◌+◌, ◌<◌, ◌≤◌, ◌∷◌, [], ◌++◌, length, take, OnOk, IfOk, IsFalse};
 ghost use Rattle.cx_base.specs.Assumptions.{clashes};
 ghost use Rattle.std.specs.List.{AllByRecursion};
@@ -66,7 +66,7 @@ fn step_of(alloc: Global, id: u64, find: &Found) -> Result<LogStep, AllocError>
     Ok(recovered_parity(id, lits, clauses))
 }
 
-/// Tells a recovered parity under the next id, and puts it behind these.
+/// Tells a recovered parity under the next id, and puts it after these.
 fn tell_find<L: Sink<Item = LogEvent>>(
     log: &mut SearchLog<L>,
     find: &Found,
@@ -90,7 +90,7 @@ fn tell_find<L: Sink<Item = LogEvent>>(
     Ok(())
 }
 
-/// Tells the parities that are recovered from the formula's clauses, and gives them behind the formula's own.
+/// Tells the parities that are recovered from the formula's clauses, and gives them after the formula's own.
 pub(crate) fn all_parities<L: Sink<Item = LogEvent>>(
     log: &mut SearchLog<L>,
 ) -> Result<ParityList, CoreFault>

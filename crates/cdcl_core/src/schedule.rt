@@ -120,7 +120,7 @@ fn reduce_where_many<P: ParityEngine, L: Sink<Item = LogEvent>>(
     Ok(())
 }
 
-/// Behind a counted conflict and its jump: restarts where that is due, and deletes learned clauses then.
+/// After a counted conflict and its jump: restarts where that is due, and deletes learned clauses then.
 pub(crate) fn follow_schedule<P: ParityEngine, L: Sink<Item = LogEvent>>(
     log: &mut SearchLog<L>,
     state: &mut SearchState,

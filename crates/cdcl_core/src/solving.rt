@@ -279,7 +279,7 @@ fn search<P: ParityEngine, L: Sink<Item = LogEvent>>(
 }
 
 /// Fills the clauses of the formula into a search that has none yet, begins it over these parities, and searches up to the budget. Clauses of
-/// two or more different literals are attached, those of one stand on the trail at level 0, tautologies are left out.
+/// two or more different literals are attached, those of one are on the trail at level 0, tautologies are left out.
 fn fill_and_search<P: ParityEngine + Drop, L: Sink<Item = LogEvent>>(
     log: &mut SearchLog<L>,
     filled: &mut Filled,
@@ -315,7 +315,7 @@ fn both_of(alloc: Global, variable: Var) -> Result<LitList, AllocError>
     Ok(LitList::from_vec(lits))
 }
 
-/// Tells the originals and the recovered parities, and searches up to the budget. Where the formula's assumptions clash nothing is done behind the originals: the least variable
+/// Tells the originals and the recovered parities, and searches up to the budget. Where the formula's assumptions clash nothing is done after the originals: the least variable
 /// that is assumed with both signs fails.
 fn search_from_start<P: ParityEngine + Drop, L: Sink<Item = LogEvent>>(
     log: &mut SearchLog<L>,
@@ -348,7 +348,7 @@ fn search_from_start<P: ParityEngine + Drop, L: Sink<Item = LogEvent>>(
 /// parities, no conflict is counted and the answer is never unknown.
 ///
 /// The sink has not failed before, and has not after an answer: one that has failed is not asked again.
-/// It gives up for want of memory, or where the sink failed to write; the log is right as far as it goes, also with the
+/// It gives up where memory runs out, or where the sink failed to write; the log is right as far as it goes, also with the
 /// event that was torn then.
 pub fn solve_core<P: ParityEngine + Drop, L: Sink<Item = LogEvent>>(
     alloc: Global,

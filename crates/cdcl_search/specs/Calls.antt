@@ -21,7 +21,7 @@ use Rattle.cdcl_search.specs.Tells.{TellsAll, FaultsAs, HasFailedBy}
 use Rattle.cdcl_search.specs.Ties.{SearchStands}
 
 -- ---- tellings
--- The sink is told these events, or a front of them up to a fault, which is counted where it is one of writing. What the sink keeps is kept.
+-- The sink is told these events, or a prefix of them up to a fault, which is counted where it is one of writing. What the sink keeps is kept.
 pub record TellsIn {L T : Type 0} (m : sink.Ghosts L LogEvent) (events : List LogEvent) (old : L) (result : Result T CoreFault) (new : L) : Type 0 where
   pub told : TellsAll (m.torn new) events (m.items old) result (m.items new)
   pub faults : FaultsAs result (m.faults old) (m.faults new)
@@ -40,34 +40,34 @@ pub record IsReady {P L : Type 0} (p : engine.Ghosts P) (m : sink.Ghosts L LogEv
   pub unbroken : (p.state e).mood ≢ Broken
   pub going : HasNotFailed m log
 
--- Up to an answer the search stands again, with these clauses of rows; the log goes on.
+-- Up to an answer the search fits again, with these clauses of rows; the log goes on.
 pub record StandsOn {P L T : Type 0} (p : engine.Ghosts P) (m : sink.Ghosts L LogEvent) (old new : SearchLog L) (now : SearchState) (e : P) (rows : List (List Literal)) (result : Result T CoreFault) : Type 0 where
   pub stands : OnOk result (Stands p m new now e rows)
   pub log : GoesOn m old (fault_in result) new
 
--- Up to an answer the search stands before these clauses of rows are deleted; the log goes on.
+-- Up to an answer the search fits before these clauses of rows are deleted; the log goes on.
 pub record HasRowsToDelete {P L T : Type 0} (p : engine.Ghosts P) (m : sink.Ghosts L LogEvent) (old new : SearchLog L) (now : SearchState) (e : P) (rows : List (List Literal)) (result : Result T CoreFault) : Type 0 where
   pub stands : OnOk result (StandsBeforeDeletion p m new now e rows)
   pub log : GoesOn m old (fault_in result) new
 
--- Up to an answer the search stands again. No conflict is counted, and the log goes on.
+-- Up to an answer the search fits again. No conflict is counted, and the log goes on.
 pub record SearchesOn {P L T : Type 0} (p : engine.Ghosts P) (m : sink.Ghosts L LogEvent) (old : SearchLog L) (c : SearchState) (new : SearchLog L) (now : SearchState) (e : P) (result : Result T CoreFault) : Type 0 where
   pub stands : OnOk result (Stands p m new now e [])
   pub conflicts : now.conflicts ≡ c.conflicts
   pub log : GoesOn m old (fault_in result) new
 
 -- ---- calls that tell nothing
--- the search stands behind some log, and no row is broken
+-- the search fits the code and some log, and no row is broken
 pub record IsUnbroken (formula : Problem) (c : SearchState) (e : State) : Type 0 where
   pub stands : (told : Option (List LogEvent)) × SearchStands formula c e [] told
   pub unbroken : e.mood ≢ Broken
 
--- the search stands behind the log that it stood behind, and no row is broken
+-- the search fits the code and the log that it fitted, and no row is broken
 pub record StaysUnbroken (formula : Problem) (c : SearchState) (e : State) (now : SearchState) (e_now : State) : Type 0 where
   pub stands : (told : Option (List LogEvent)) → SearchStands formula c e [] told → SearchStands formula now e_now [] told
   pub unbroken : e_now.mood ≢ Broken
 
--- the search stands behind some log, both engines are quiet, no literal contradicts an assumed one, and the units of level 0 are told
+-- the search fits the code and some log, both engines are quiet, no literal contradicts an assumed one, and the units of level 0 are told
 pub record MayDecide (formula : Problem) (c : SearchState) (e : State) (a : Assumptions) : Type 0 where
   pub stands : (told : Option (List LogEvent)) × SearchStands formula c e [] told
   pub quiet : PropagationFinds c e found.Quiet

@@ -22,6 +22,6 @@ pub record Explains (parities : List (List Literal)) (t : TrailState) (r : Reaso
   pub follows : (values : List Bool) → IsTrue (parity_met values r.parity) → IsTrue (clause_met values r.clause)
   pub assigned : AreAssigned t form
 
--- the literal stands on the trail, and the row was named for it there
+-- the literal is on the trail, and the row was named for it there
 abbrev pub IsReasonOf : State → List Entry → Literal → ℕ → Type 0
 IsReasonOf e entries l row = (i : ℕ) × StandsAt entries l i × IsRowReasonAt e entries i row

@@ -14,7 +14,7 @@ use Rattle.cdcl_search.specs.declared.propagation.Found.TheVariants.{Quiet, Clau
 use Rattle.cdcl_search.specs.declared.propagation.RowFinding.{RowFinding}
 use Rattle.cdcl_search.specs.declared.propagation.RowFinding.TheVariants as finding
 
--- literals were put behind those of the trail; the level, the unit clauses, the count of conflicts and the next id stay
+-- literals were added to the trail; the level, the unit clauses, the count of conflicts and the next id stay
 abbrev pub HasSameCounts : SearchState → SearchState → Type 0
 HasSameCounts old new = (new.trail.level ≡ old.trail.level) × (new.units.items ≡ old.units.items) × (new.conflicts ≡ old.conflicts) × (new.next ≡ old.next) × IsLonger old.trail new.trail
 
@@ -32,7 +32,7 @@ PropagationFinds c e Quiet = Happens c.watches.attached c.arena c.trail event.Qu
 PropagationFinds c e (Clause r) = IsAttached c.watches.attached r × IsFalsified c.trail.entries (literals_at c.arena r) × (e.mood ≢ Broken)
 PropagationFinds c e (Row row) = HasAll c × IsClash e row
 
--- what the rows say: nothing more, or a literal that stands on the trail now, or a contradiction
+-- what the rows say: nothing more, or a literal that is on the trail now, or a contradiction
 abbrev pub RowsSay : SearchState → SearchState → State → RowFinding → Type 0
 RowsSay old new e finding.Quiet = (new ≡ old) × IsSilent e × (e.mood ≡ Calm)
 RowsSay old new e finding.Implied = (length new.trail.entries ≡ suc (length old.trail.entries)) × (e.mood ≢ Broken)

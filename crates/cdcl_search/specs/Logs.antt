@@ -33,7 +33,7 @@ told_in m log = m.items log.sink.now
 abbrev pub HasNotFailed : {L : Type 0} → sink.Ghosts L LogEvent → SearchLog L → Type 0
 HasNotFailed m log = m.has_failed log.sink.now ≡ false
 
--- these events may be told next: the log is right behind them
+-- these events may be told next: the log is right after them
 abbrev pub IsRightBehind : {L : Type 0} → sink.Ghosts L LogEvent → SearchLog L → List LogEvent → Type 0
 IsRightBehind m log more = IsLeft log.formula.now (with_events more (m.items log.sink.now))
 
@@ -41,7 +41,7 @@ IsRightBehind m log more = IsLeft log.formula.now (with_events more (m.items log
 abbrev pub AreToldNow : {L : Type 0} → sink.Ghosts L LogEvent → SearchLog L → List LogEvent → SearchLog L → Type 0
 AreToldNow m old more new = m.items new.sink.now ≡ with_events more (m.items old.sink.now)
 
--- the search stands behind what the code holds and what the log was told; of rows these clauses were told since the last mark
+-- the search fits what the code holds and what the log was told; of rows these clauses were told since the last mark
 abbrev pub Stands : {P L : Type 0} → engine.Ghosts P → sink.Ghosts L LogEvent → SearchLog L → SearchState → P → List (List Literal) → Type 0
 Stands p m log c e rows = SearchStands log.formula.now c (p.state e) rows (m.items log.sink.now)
 

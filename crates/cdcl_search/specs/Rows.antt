@@ -14,12 +14,12 @@ use Rattle.cdcl_search.specs.Ties.{first_row_id}
 use Rattle.cdcl_search.specs.declared.rows.RowIds.{RowIds}
 use Rattle.cdcl_search.specs.declared.rows.Prepared.{Prepared}
 
--- so few constraints, and ids so low, that the next row behind these has ids
+-- so few constraints, and ids so low, that the next row after these has ids
 pub record AreFew (constraints : List Constraint) (next : ℕ) (rows : List (List Literal)) : Type 0 where
   pub constraints_few : length constraints ≤ 4294967295
   pub room : AreIdsFrom (first_row_id next) (length rows)
 
--- the ids of the next row: there are so many constraints, and so many clauses of rows behind the next id of a clause that stays
+-- the ids of the next row: this many constraints, and this many clauses of rows after the next id of a clause that stays
 pub record AreNextIds (constraints next rows : ℕ) (ids : RowIds) : Type 0 where
   pub sum : ids.sum ≡ constraints + 1
   pub clause : ids.clause ≡ first_row_id next + rows

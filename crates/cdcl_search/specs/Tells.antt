@@ -22,11 +22,11 @@ use Rattle.search_steps.specs.Recovering.{SettledWithRecovered}
 abbrev pub as_events : List LogStep → List LogEvent
 as_events steps = map Step steps
 
--- the events and these behind them, where they are told
+-- the events and these after them, where they are told
 abbrev pub with_events : List LogEvent → Option (List LogEvent) → Option (List LogEvent)
 with_events more told = option_map (λ es. es ++ more) told
 
--- Ok: the sink was told these events. Err: a proper front of them; after a fault of writing the next one may be torn.
+-- Ok: the sink was told these events. Err: a proper prefix of them; after a fault of writing the next one may be torn.
 abbrev pub TellsAll : {T : Type 0} → (LogEvent → Type 0) → List LogEvent → Option (List LogEvent) → Result T CoreFault → Option (List LogEvent) → Type 0
 TellsAll torn events old (Ok done) new = new ≡ with_events events old
 TellsAll torn events old (Err fault) new =
@@ -37,7 +37,7 @@ abbrev pub fault_as : SinkFault → CoreFault
 fault_as sink.Memory = Memory
 fault_as sink.Failed = Write
 
--- the count of faults: it rose after a fault of writing, and else it stands
+-- the count of faults: it rose after a fault of writing, and else it stays
 abbrev pub FaultsAs : {T : Type 0} → Result T CoreFault → ℕ → ℕ → Type 0
 FaultsAs (Ok done) before now = now ≡ before
 FaultsAs (Err Memory) before now = now ≡ before
@@ -59,7 +59,7 @@ abbrev pub HasNoMark : Option (List LogEvent) → Type 0
 HasNoMark None = Unit {0}
 HasNoMark (Some events) = filter_map mark_of events ≡ []
 
--- The event may stand behind these: a text can have it, its id is low, and the log is right with it. It is no mark where the formula is settled with its recovered parities.
+-- The event may follow these: a text can have it, its id is low, and the log is right with it. It is no mark where the formula is settled with its recovered parities.
 pub record MayStandBehind (formula : Problem) (told : Option (List LogEvent)) (event : LogEvent) : Type 0 where
   pub text : HasText event
   pub id : HasLowId event
@@ -70,7 +70,7 @@ pub record MayStandBehind (formula : Problem) (told : Option (List LogEvent)) (e
 abbrev pub IsTorn : Problem → (LogEvent → Type 0) → Option (List LogEvent) → Type 0
 IsTorn formula torn told = (event : LogEvent) × torn event × MayStandBehind formula told event
 
--- the search gave up: its log is right as far as it goes, and after a fault of writing an event is torn that may stand there
+-- the search gave up: its log is right as far as it goes, and after a fault of writing an event is torn that may follow
 abbrev pub GivesUp : Problem → (LogEvent → Type 0) → Option (List LogEvent) → CoreFault → Type 0
 GivesUp formula torn told Memory = IsLeft formula told
 GivesUp formula torn told Write = IsLeft formula told × IsTorn formula torn told
@@ -79,7 +79,7 @@ GivesUp formula torn told Write = IsLeft formula told × IsTorn formula torn tol
 abbrev pub IsId : ℕ → Type 0
 IsId n = (1 ≤ n) × (n ≤ highest_id)
 
--- so are the ids from this one on, up to the one behind so many
+-- so are the ids from this one on, up to the one after this many
 abbrev pub AreIdsFrom : ℕ → ℕ → Type 0
 AreIdsFrom first count = (1 ≤ first) × (first + count ≤ highest_id)
 

@@ -1,4 +1,4 @@
--- What the code of a search holds, part by part, and how a search of the calculus stands behind it. Each part takes just what it speaks of, so that a step that leaves this as it was passes the part on.
+-- What the code of a search holds, part by part, and how a search of the calculus fits it. Each part takes just what it speaks of, so that a step that leaves this as it was passes the part on.
 use Rattle.std.specs.Prelude.{◌≡◌, ◌≢◌, ◌⊎◌, ℕ, zero, suc, ◌+◌, ◌-◌, ◌<◌, ◌≤◌, ◌^◌, Bool, false, List, [], ◌∷◌, ◌++◌, length, take, get_or, Option, Some, None, IsTrue, IsFalse, Contains, if◌then◌else◌, ⊤}
 use Rattle.std.specs.List.{AllByRecursion}
 use Rattle.std.specs.FinSet as set
@@ -28,7 +28,7 @@ use Rattle.cdcl_search.specs.declared.state.SearchState.{SearchState}
 use Rattle.cx_semantics.specs.Marked.{Moment}
 use Rattle.search_steps.specs.Laws.{HaveTheirs}
 
--- where the next clause that stays gets this id, the clauses of rows have the ids behind it
+-- where the next clause that stays gets this id, the clauses of rows have the ids after it
 abbrev pub first_row_id : ℕ → ℕ
 first_row_id next = next + 1
 
@@ -38,11 +38,11 @@ row_ids first zero = []
 row_ids first (suc n) = (first + n) ∷ row_ids first n
 
 -- ---- the log
--- the clauses of rows that were told since the last mark stand under their ids, from the first one on
+-- the clauses of rows that were told since the last mark are under their ids, from the first one on
 abbrev pub AreRows : Table → ℕ → List (List Literal) → Type 0
 AreRows table first rows = (i : ℕ) → i < length rows → get table (first + i) ≡ Some (get_or rows i [])
 
--- the engine's parities stand under their numbers
+-- the engine's parities are under their numbers
 abbrev pub AreNumbered : Table → List (List Literal) → Type 0
 AreNumbered table parities = (k : ℕ) → 1 ≤ k → k ≤ length parities → get table k ≡ Some (get_or parities (k - 1) [])
 
@@ -54,7 +54,7 @@ pub record HasOnlyRowClauses (s : Search) (first rows : ℕ) : Type 0 where
   pub old_sums : s.moment.old_sums ≡ []
   pub new_sums : s.moment.new_sums ≡ []
 
--- The engine's parities stand under their numbers, and the clauses of rows, of which there are few, under theirs; what else is told keeps to its ranges, and nothing temporary is left but these clauses.
+-- The engine's parities are under their numbers, and the clauses of rows, of which there are few, under theirs; what else is told keeps to its ranges, and nothing temporary is left but these clauses.
 pub record LogTies (formula : Problem) (parities : List (List Literal)) (next first : ℕ) (rows : List (List Literal)) (s : Search) : Type 0 where
   pub ranged : IsRanged formula first next (first + length rows) s.trail s.moment
   pub sums : HasFreeSums (length parities) s.moment
@@ -86,7 +86,7 @@ pub record IsKept (formula : Problem) (table : Table) (next : ℕ) (arena : Aren
   pub low : id_at arena r < next
   pub late : IsTrue (learned_at arena r) → length (clauses_of formula.constraints) < id_at arena r
 
--- a live clause stands in the arena under its id, or it has a literal with its negation, or one that level 0 makes true
+-- a live clause is in the arena under its id, or it has a literal with its negation, or one that level 0 makes true
 abbrev pub IsHeld : ArenaState → List Literal → ℕ → List Literal → Type 0
 IsHeld arena fixed n clause = ((r : ℕ) × IsLive arena r × (id_at arena r ≡ n)) ⊎ IsTrue (is_tautology clause) ⊎ HasTrue fixed clause
 
@@ -153,11 +153,11 @@ HasReasonOf arena entries e i reason.Decision = 0 < (entry_at entries i).level
 HasReasonOf arena entries e i (reason.Clause r) = IsClauseReasonOf arena entries i r
 HasReasonOf arena entries e i (reason.Row row) = IsRowReasonAt e entries i row
 
--- each literal behind the first so many has a reason
+-- each literal after this many has a reason
 abbrev pub ReasonTies : ArenaState → List TrailEntry → ℕ → State → Type 0
 ReasonTies arena entries units e = (i : ℕ) → units ≤ i → i < length entries → HasReasonOf arena entries e i (entry_at entries i).reason
 
--- so it is with the literals behind those that have unit clauses
+-- so it is with the literals after those that have unit clauses
 abbrev pub HaveReasons : SearchState → State → Type 0
 HaveReasons c e = ReasonTies c.arena c.trail.entries (length c.units.items) e
 
@@ -197,7 +197,7 @@ pub record CountTies (next conflicts learned reductions : ℕ) (s : Search) : Ty
   pub many : learned ≤ length s.moment.learned
   pub few : stretches s.moment ≤ reductions
 
--- Each id below the next one is that of a clause of the formula, of a learned clause or of a unit clause of level 0; and the sums of rows have the id behind the number of the constraints.
+-- Each id below the next one is that of a clause of the formula, of a learned clause or of a unit clause of level 0; and the sums of rows have the id after the number of the constraints.
 pub record HasFewIds (formula : Problem) (next conflicts units : ℕ) : Type 0 where
   pub taken : next ≤ length formula.constraints + conflicts + units + 1
   pub counted : conflicts ≤ 10 ^ 18
@@ -216,11 +216,11 @@ pub record TiesFrom (formula : Problem) (c : SearchState) (e : State) (first : �
   pub ids : HasFewIds formula c.next c.conflicts (length c.units.items)
   pub levels : s.quiet_levels ≡ level_of s.trail
 
--- so it is with the ids behind the next one
+-- so it is with the ids after the next one
 abbrev pub Ties : Problem → SearchState → State → List (List Literal) → Search → Type 0
 Ties formula c e rows s = TiesFrom formula c e (first_row_id c.next) rows s
 
--- some search of the calculus stands behind the code, and its events are the sink's where that tells them
+-- some search of the calculus fits the code, and its events are the sink's where that tells them
 abbrev pub SearchStandsFrom : Problem → SearchState → State → ℕ → List (List Literal) → Option (List LogEvent) → Type 0
 SearchStandsFrom formula c e first rows told = (s : Search) × IsSearch formula e.parities s × AreTold told s.events × TiesFrom formula c e first rows s × IsWatched c.watches c.arena c.trail
 

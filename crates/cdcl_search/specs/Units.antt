@@ -19,13 +19,13 @@ pub record HasOther (old new : SearchState) : Type 0 where
   pub learned : new.learned ≡ old.learned
   pub reductions : new.reductions ≡ old.reductions
 
--- the literal stands behind those that have unit clauses, and this clause of a source implied it
+-- the literal comes after those that have unit clauses, and this clause of a source implied it
 pub record IsNextUnit (c : SearchState) (rows : List (List Literal)) (l : Literal) (clause : List Literal) : Type 0 where
   pub next : StandsAt c.trail.entries l (length c.units.items)
   pub sourced : IsSourced c rows clause
   pub implied : IsAntecedent c.trail l clause
 
--- the hints are ids of unit clauses that the search holds, and behind them this id
+-- the hints are ids of unit clauses that the search holds, and after them this id
 pub record AreUnitsAnd (c : SearchState) (id : ℕ) (hints : List ℤ) : Type 0 where
   pub units : List ℕ
   pub held : AllByRecursion (Contains c.units.items) units

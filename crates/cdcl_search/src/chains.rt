@@ -21,7 +21,7 @@ use cx_trail::Truth;
 use std::alloc::{AllocError, Global};
 use step_text::Sink;
 
-/// Puts an id behind the hints of a step.
+/// Adds an id to the hints of a step.
 pub fn push_hint(hints: &mut Vec<i64>, id: u64) -> Result<(), AllocError>
     requires integers { AreStepIntegers hints.old.items }
     requires id { IsId id }

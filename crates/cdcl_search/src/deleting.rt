@@ -17,7 +17,7 @@ use parity_engine::ParityEngine;
 use std::alloc::{AllocError, Global};
 use step_text::Sink;
 
-/// Puts the deletions of so many clauses of rows, from this id on, behind these steps, the newest first.
+/// Adds to these steps the deletions of this many clauses of rows, from this id on, the newest first.
 pub fn put_deletions(
     alloc: Global,
     steps: &mut Vec<LogStep>,
@@ -46,7 +46,7 @@ fn deletions_of_rows(alloc: Global, first: u64, count: usize) -> Result<Vec<LogS
     Ok(steps)
 }
 
-/// Deletes the clauses of rows that were told for the last clause that stays: theirs are the ids behind its own.
+/// Deletes the clauses of rows that were told for the last clause that stays: their ids follow its own.
 pub(crate) fn delete_rows<P: ParityEngine, L: Sink<Item = LogEvent>>(
     log: &mut SearchLog<L>,
     state: &SearchState,

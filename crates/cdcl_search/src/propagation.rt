@@ -31,7 +31,7 @@ pub enum Found {
 #[derive(Clone, Copy, Drop)]
 pub(crate) enum RowFinding {
     Quiet,
-    /// A literal was implied, and stands on the trail now.
+    /// A literal was implied, and is on the trail now.
     Implied,
     Conflict(Row),
 }

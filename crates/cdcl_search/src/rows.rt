@@ -25,7 +25,7 @@ use xor_reason::ReasonOf;
 
 /// The first id of the clauses of rows that are told for a clause that stays, which gets this next id.
 ///
-/// They are deleted behind that clause, so their ids are free again then.
+/// They are deleted after that clause, so their ids are free again then.
 pub fn first_id_of_rows(next: u64) -> u64
     requires { IsId next }
     ensures { result ≡ first_row_id next }
@@ -40,7 +40,7 @@ pub struct RowIds {
     pub clause: u64,
 }
 
-/// The ids of the next row, behind these and the next id of a clause that stays.
+/// The ids of the next row, after these and the next id of a clause that stays.
 pub fn next_ids(formula: &Formula, next: u64, rows: &[LitList]) -> RowIds
     requires next { IsId next }
     requires few { AreFew formula.now.constraints next rows.now }
@@ -116,7 +116,7 @@ fn prepare(
     })
 }
 
-/// Tells the clause of a row, which does not end the log, and puts it behind those that were told.
+/// Tells the clause of a row, which does not end the log, and adds it to those that were told.
 ///
 /// `engine` is the engine that named the row.
 pub fn tell_reason<P: ParityEngine, L: Sink<Item = LogEvent>>(

@@ -76,7 +76,7 @@ fn tell_mark<L: Sink<Item = LogEvent>>(sink: &mut L, number: u64) -> Result<(), 
     tell(sink, LogEvent::Conflict(number))
 }
 
-/// Tells a mark and the steps behind it, up to a fault.
+/// Tells a mark and the steps after it, up to a fault.
 fn tell_marked<L: Sink<Item = LogEvent>>(
     sink: &mut L,
     number: u64,
@@ -118,7 +118,7 @@ pub fn tell_steps<L: Sink<Item = LogEvent>>(
     tell_all(log.sink, steps)
 }
 
-/// Tells the mark of a counted conflict and the steps behind it, which leave the log right. A settled formula needs no
+/// Tells the mark of a counted conflict and the steps after it, which leave the log right. A settled formula needs no
 /// such conflict.
 pub fn tell_round<L: Sink<Item = LogEvent>>(
     log: &mut SearchLog<L>,

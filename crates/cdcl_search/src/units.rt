@@ -48,7 +48,7 @@ fn tell_unit<P: ParityEngine, L: Sink<Item = LogEvent>>(
     Ok(())
 }
 
-/// Tells the unit clause of the first literal that has none, where it contradicts no assumed one. Where a row implied it, the row's clause is told before it and deleted behind it.
+/// Tells the unit clause of the first literal that has none, where it contradicts no assumed one. Where a row implied it, the row's clause is told before it and deleted after it.
 fn tell_next_unit<P: ParityEngine, L: Sink<Item = LogEvent>>(
     log: &mut SearchLog<L>,
     state: &mut SearchState,

@@ -4,7 +4,7 @@ use Rattle.cx_base.specs.Literals.{Literal}
 use Rattle.clause_arena.specs.Clauses.{ArenaState, IsLive, literals_at, id_at}
 use Rattle.clause_tidy.specs.Tautologies.{IsLeft}
 
--- the literal and the id stand at one place of the two lists
+-- the literal and the id are at one place of the two lists
 abbrev pub Lists : List Literal → List ℕ → Literal → ℕ → Type 0
 Lists units ids l n = (i : ℕ) × (i < length units) × (get_or units i l ≡ l) × (get_or ids i n ≡ n)
 

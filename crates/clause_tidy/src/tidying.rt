@@ -21,7 +21,7 @@ use cx_base::{Formula, IdList, LitList, LogEvent};
 use std::alloc::{AllocError, Global};
 use step_text::{Sink, SinkFault};
 
-/// Makes the clauses of an arena tidy, where units stand in it too, and tells the log each change. Where an ending clause is left, the log ends with it.
+/// Makes the clauses of an arena tidy, where it has units too, and tells the log each change. Where an ending clause is left, the log ends with it.
 fn tidy_clauses<L: Sink<Item = LogEvent>>(
     alloc: Global,
     formula: &Formula,

@@ -6,7 +6,7 @@ use Rattle.cx_trail.specs.declared.entry.Reason.TheVariants.{Decision}
 use Rattle.cx_trail.specs.Sequence.{TrailState, StandsAt, entry_at}
 use Rattle.conflict_learn.specs.Learning.{negated_at, level_at, IsFalling, Follows}
 
--- the literal stands on the trail below a place
+-- the literal is on the trail below a place
 abbrev pub StandsBelow : TrailState → ℕ → Literal → Type 0
 StandsBelow trail below l = (p : ℕ) × (p < below) × StandsAt trail.entries l p
 
@@ -19,7 +19,7 @@ abbrev pub kept_in : Option Literal → List Literal
 kept_in None = []
 kept_in (Some l) = l ∷ []
 
--- The kept literal, and behind it the negations of literals that were decided below the place, from the newest to the oldest. It follows from the clause and those that implied the resolved literals.
+-- The kept literal, and after it the negations of literals that were decided below the place, from the newest to the oldest. It follows from the clause and those that implied the resolved literals.
 pub record IsFinal (trail : TrailState) (below : ℕ) (kept : Option Literal) (clause : List Literal) (holds : List Literal → Type 0) (resolved lits : List Literal) : Type 0 where
   pub places : List ℕ
   pub are : lits ≡ kept_in kept ++ negated_at trail places

@@ -16,15 +16,15 @@ literal_at trail p = (entry_at trail.entries p).literal
 abbrev pub level_at : TrailState → ℕ → ℕ
 level_at trail p = (entry_at trail.entries p).level
 
--- wherever the literal's negation stands, it is of this level
+-- wherever the literal's negation is, it is of this level
 abbrev pub IsOfLevel : TrailState → Literal → ℕ → Type 0
 IsOfLevel trail l level = (p : ℕ) → p < length trail.entries → literal_at trail p ≡ negate l → level_at trail p ≡ level
 
--- the literal stands on the trail with this reason, which above level 0 is no decision
+-- the literal is on the trail with this reason, which above level 0 is no decision
 abbrev pub HasReason : TrailState → Literal → Reason → Type 0
 HasReason trail l reason = (p : ℕ) × (p < length trail.entries) × (literal_at trail p ≡ l) × ((entry_at trail.entries p).reason ≡ reason) × (0 < level_at trail p → reason ≢ Decision)
 
--- the negations of the literals that stand at the places
+-- the negations of the literals at the places
 abbrev pub negated_at : TrailState → List ℕ → List Literal
 negated_at trail places = map (λ p. negate (literal_at trail p)) places
 
@@ -37,7 +37,7 @@ pub record Implied (trail : TrailState) (place : ℕ) (clause : List Literal) : 
   pub has_it : IsTrue (has_literal clause (literal_at trail place))
   pub others_false : (m : Literal) → IsTrue (has_literal clause m) → IsFalse (same_literal (literal_at trail place) m) → IsFalseBefore trail.entries place m
 
--- the clause implied the literal, wherever that stands
+-- the clause implied the literal, wherever that is
 abbrev pub IsAntecedent : TrailState → Literal → List Literal → Type 0
 IsAntecedent trail l clause = (place : ℕ) → place < length trail.entries → literal_at trail place ≡ l → Implied trail place clause
 
@@ -52,7 +52,7 @@ AreAntecedents trail holds (l ∷ ls) (c ∷ cs) = holds c × IsAntecedent trail
 abbrev pub Serves : List Literal → List (List Literal) → Type 0
 Serves target clauses = (assumed : List Literal) → IsTrue (is_inside (negations target) assumed) → chain assumed clauses ≡ right
 
--- The clauses that implied the resolved literals, the last one's first, and the conflict behind them, are a right chain under every set that negates the literals.
+-- The clauses that implied the resolved literals, the last one's first, and then the conflict, are a right chain under every set that negates the literals.
 abbrev pub Follows : TrailState → List Literal → (List Literal → Type 0) → List Literal → List Literal → Type 0
 Follows trail conflict holds resolved lits = (clauses : List (List Literal)) × AreAntecedents trail holds (reverse resolved) clauses × Serves lits (clauses ++ conflict ∷ [])
 

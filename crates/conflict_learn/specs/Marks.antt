@@ -10,6 +10,6 @@ is_marked marks v = get_or marks v false
 abbrev pub AreClear : List Bool → Type 0
 AreClear marks = (v : ℕ) → IsFalse (is_marked marks v)
 
--- each marked variable stands on the trail, from the first place on and below the second
+-- each marked variable is on the trail, from the first place on and below the second
 abbrev pub StandBetween : TrailState → List Bool → ℕ → ℕ → Type 0
 StandBetween trail marks from below = (v : ℕ) → IsTrue (is_marked marks v) → (q : ℕ) × (from ≤ q) × (q < below) × ((literal_at trail q).variable ≡ v)

@@ -14,7 +14,7 @@ pub record Touched (skip : Option Literal) (old new : List Bool) (literals : Lis
   pub keeps : (v : ℕ) → IsTrue (is_marked old v) → IsTrue (is_marked new v)
   pub has : (m : Literal) → IsTrue (has_literal literals m) → IsFalse (skips skip m) → IsTrue (is_marked new m.variable)
 
--- the touched variables and, behind them, that of a literal above level 0
+-- the touched variables and, after them, that of a literal above level 0
 abbrev pub touched_with : Entry → List ℕ → List ℕ
 touched_with e touched = if nat_lt 0 e.level then touched ++ e.literal.variable ∷ [] else touched
 
@@ -41,7 +41,7 @@ IsCovered trail marks l clause = (m : Literal) → IsTrue (has_literal clause m)
 abbrev pub is_met : TrailState → List Literal → List Literal → ℕ → Bool
 is_met trail resolved lits q = has_literal lits (negate (literal_at trail q)) || has_literal resolved (literal_at trail q)
 
--- the variables of the learned clause and of the resolved literals that stand above level 0, each once, from the newest to the oldest
+-- the variables of the learned clause and of the resolved literals above level 0, each once, from the newest to the oldest
 pub record AreTouched (trail : TrailState) (resolved lits : List Literal) (touched : List ℕ) : Type 0 where
   pub places : List ℕ
   pub are : touched ≡ map (λ p. (literal_at trail p).variable) places

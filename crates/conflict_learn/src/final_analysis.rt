@@ -21,9 +21,9 @@ use std::alloc::Global;
 /// What is left of a clause when its literals are traced to decisions.
 #[derive(Drop)]
 pub struct Final {
-    /// The kept literal, where there is one, and behind it the negations of decided literals, from the newest to the oldest.
+    /// The kept literal, where there is one, and then the negations of decided literals, from the newest to the oldest.
     pub lits: LitList,
-    /// The literals whose clauses were resolved, in this order. These clauses, the last one first, and behind them the clause itself are a right chain.
+    /// The literals whose clauses were resolved, in this order. These clauses, the last one first, and then the clause itself are a right chain.
     pub resolved: LitList,
 }
 

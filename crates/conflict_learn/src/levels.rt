@@ -6,7 +6,7 @@ ghost use Rattle.conflict_learn.specs.Levels.{ArePlacesOf, levels_at, distinct, 
 use cx_base::Lit;
 use cx_trail::Trail;
 
-// Whether a level was not met before, where equal levels stand one behind the other.
+// Whether a level was not met before, where equal levels are next to one another.
 fn is_new(index: usize, level: u32, last: u32) -> bool
     ensures { result ≡ (index == 0 || not (level == last)) }
 {

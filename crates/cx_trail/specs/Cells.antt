@@ -52,7 +52,7 @@ pub record IsWhole (vars level len : ℕ) (cells : List Entry) (places : List �
   pub levels : AreLevels level len cells
   pub valued : AreTruths vars len cells truths
 
--- The cells begin with the assigned literals, whose places are known. What stands behind these says nothing: it is enough that some order of all variables begins so.
+-- The cells begin with the assigned literals, whose places are known. The others say nothing: it is enough that some order of all variables begins so.
 pub record IsKept (vars level len : ℕ) (cells : List Entry) (places : List ℕ) (truths : List Truth) : Type 0 where
   pub whole : List Entry
   pub spots : List ℕ

@@ -21,7 +21,7 @@ no_entry = record { literal = record { variable = 0; negative = false }; level =
 abbrev pub entry_at : List Entry → ℕ → Entry
 entry_at entries i = get_or entries i no_entry
 
--- the literal stands at place i
+-- the literal is at place i
 abbrev pub StandsAt : List Entry → Literal → ℕ → Type 0
 StandsAt entries l i = (i < length entries) × ((entry_at entries i).literal ≡ l)
 

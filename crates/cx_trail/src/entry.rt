@@ -6,7 +6,7 @@ use cx_base::{ClauseRef, Lit, Row};
 /// Why a literal is true.
 #[derive(Clone, Copy, Drop)]
 pub enum Reason {
-    /// It was decided. At level 0 it may also stand for 'no reason is given'.
+    /// It was decided. At level 0 it may also mean 'no reason is given'.
     Decision,
     /// The clause forced it.
     Clause(ClauseRef),

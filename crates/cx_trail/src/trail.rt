@@ -72,13 +72,13 @@ fn cut(cells: &[Entry], truths: &mut Vec<Truth>, count: usize, level: u32) -> us
 }
 
 impl Trail {
-    /// The empty trail over this number of variables. It fails only for want of memory.
+    /// The empty trail over this number of variables. It fails only where memory runs out.
     pub fn make(alloc: Global, vars: u32) -> Result<Trail, AllocError>
         requires { vars ≤ MAX_VARIABLE }
         ensures { IfOk result (λ t. t ≡ record { variables = vars; level = 0; entries = [] }) }
     {
         let variables = vars as usize;
-        // Stands in the cells that no assigned literal has.
+        // Fills the cells that no assigned literal has.
         let unused = Entry {
             literal: Lit::new(Var::new(1), false),
             level: 0,
@@ -273,7 +273,7 @@ impl Trail {
         rename_entries(&mut self.cells, self.count, moved);
     }
 
-    /// Forgets the reasons of the literals of level 0. There each of them stands for 'no reason is given' then.
+    /// Forgets the reasons of the literals of level 0. From then on each of them means 'no reason is given'.
     ///
     /// Its time is in the assigned literals. It takes no memory.
     pub fn forget_reasons(&mut self)

@@ -3,11 +3,11 @@ use Rattle.std.specs.Prelude.{List, [], ◌∷◌, fold, true, Some, codes}
 use Rattle.clap.specs.Words.{App, Rule, Text, new_app, new_rule, with_rule, with_subcommand}
 use Rattle.clap.specs.declared.builder.ArgAction.TheVariants.{Set}
 
--- a word that has to stand in its place
+-- a word with a fixed place
 abbrev pub needed : Text → Rule
 needed id = record (new_rule id) { required = true; action = Some Set }
 
--- an option, with the value that stands behind it
+-- an option, with the value that follows it
 abbrev pub optional : Text → Rule
 optional id = record (new_rule id) { long = Some id; action = Some Set }
 

@@ -7,7 +7,7 @@ ghost use Rattle.cx_words.specs.CommandLine as line;
 use clap::{Arg, ArgAction, Command};
 use std::alloc::{AllocError, Global};
 
-/// A word that has to stand in its place.
+/// A word with a fixed place.
 fn needed<'a>(alloc: Global, id: &'a str) -> Arg<'a>
     ensures rule { rule_of result ≡ line.needed id.entry.now }
     ensures local { result.global ≡ false }
@@ -15,7 +15,7 @@ fn needed<'a>(alloc: Global, id: &'a str) -> Arg<'a>
     Arg::new(alloc, id).required(true).action(ArgAction::Set)
 }
 
-/// An option, with the value that stands behind it.
+/// An option, with the value that follows it.
 fn optional<'a>(alloc: Global, id: &'a str) -> Arg<'a>
     ensures rule { rule_of result ≡ line.optional id.entry.now }
     ensures local { result.global ≡ false }
@@ -23,7 +23,7 @@ fn optional<'a>(alloc: Global, id: &'a str) -> Arg<'a>
     Arg::new(alloc, id).long(id).action(ArgAction::Set)
 }
 
-/// A command with words that have to stand in their places.
+/// A command with words that have fixed places.
 fn taking<'a>(alloc: Global, name: &'a str, ids: &[&'a str]) -> Result<Command<'a>, AllocError>
     ensures { IfOk result (λ c. (app_of c ≡ line.command name.entry.now (map (λ id. line.needed id.now) ids.entry.now)) × ((fields_of c).has_globals ≡ false)) }
 {
@@ -55,7 +55,7 @@ fn with<'a>(
     }
 }
 
-/// The commands whose words all have to stand in their places, and those words.
+/// The commands whose words all have fixed places, and those words.
 const PLAIN: [(&str, &[&str]); 7] = [
     ("check", &["formula", "proof"]),
     ("elab", &["formula", "log", "proof"]),

@@ -11,7 +11,7 @@ pub enum PlanRefusal {
     /// The words ask for nothing that the program does.
     #[error("usage")]
     Usage,
-    /// Want of memory, which says nothing of the words.
+    /// Out of memory, which says nothing of the words.
     #[error("out of memory")]
     Memory,
 }

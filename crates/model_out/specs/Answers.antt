@@ -9,7 +9,7 @@ use Rattle.model_out.specs.LineTokens.{LineToken, line_tokens, begins_line}
 use Rattle.model_out.specs.declared.refusal.AnswerRefusal.{AnswerRefusal}
 use Rattle.model_out.specs.declared.refusal.AnswerRefusal.TheVariants.{NoStatusLine, BadToken, Missing, Twice, Unmet, Memory}
 
--- the tokens behind the first line, where that has exactly the tokens `s` and `SATISFIABLE`
+-- the tokens after the first line, where that has exactly the tokens `s` and `SATISFIABLE`
 abbrev pub behind_status : List LineToken → Option (List LineToken)
 behind_status [] = None
 behind_status (s ∷ []) = None
@@ -19,9 +19,9 @@ behind_status (s ∷ t ∷ body) = if bytes_eq s.text (codes "s") && (bytes_eq t
 pub data Part : Type 0 where
   -- the `v` that begins a line
   mark : Part
-  -- an integer behind it
+  -- an integer follows it
   number : ℤ → Part
-  -- nothing that may stand there
+  -- nothing that may be there
   strange : Part
 
 abbrev pub number_or_strange : Option ℤ → Part
@@ -50,7 +50,7 @@ abbrev pub numbers : List LineToken → List ℤ
 numbers [] = []
 numbers (t ∷ ts) = onto_numbers (part_of t) (numbers ts)
 
--- behind the status line stand these integers in `v` lines, and a zero as the last token
+-- after the status line come these integers in `v` lines, and a zero as the last token
 pub record IsAnswer (text : List ℕ) (lits : List ℤ) : Type 0 where
   pub front : List LineToken
   pub last : LineToken
@@ -59,7 +59,7 @@ pub record IsAnswer (text : List ℕ) (lits : List ℤ) : Type 0 where
   pub ends : part_of last ≡ number (pos 0)
   pub literals : lits ≡ numbers front
 
--- the first token against this form: one that may not stand where it stands
+-- the first token against this form: one that may not be in its place
 pub record IsStrange (body : List LineToken) (place : ℕ) : Type 0 where
   pub front : List LineToken
   pub bad : LineToken
@@ -69,7 +69,7 @@ pub record IsStrange (body : List LineToken) (place : ℕ) : Type 0 where
   pub is_strange : part_of bad ≡ strange
   pub at : place ≡ bad.place
 
--- or the one behind a zero
+-- or the one after a zero
 pub record IsBehindZero (body : List LineToken) (place : ℕ) : Type 0 where
   pub front : List LineToken
   pub zero : LineToken
@@ -148,7 +148,7 @@ pub record BadAt (text : List ℕ) (place : ℕ) : Type 0 where
   pub status : behind_status (line_tokens text) ≡ Some body
   pub first_bad : FirstBad (length text) body place
 
--- the first cause for which the text is no answer; want of memory says nothing of it
+-- the first cause for which the text is no answer; a lack of memory says nothing of it
 abbrev pub AnswerRefusedFor : List ℕ → Problem → AnswerRefusal → Type 0
 AnswerRefusedFor text formula NoStatusLine = behind_status (line_tokens text) ≡ None
 AnswerRefusedFor text formula (BadToken place) = BadAt text place

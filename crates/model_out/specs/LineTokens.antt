@@ -9,7 +9,7 @@ pub record LineToken : Type 0 where
   pub begins : Bool
   pub text : List ℕ
 
--- behind these bytes stand at most blanks since the last line feed, or since the beginning
+-- after these bytes at most blanks came since the last line feed, or since the beginning
 abbrev pub step_in_line : Bool → ℕ → Bool
 step_in_line first b = b == 10 || is_blank b && first
 

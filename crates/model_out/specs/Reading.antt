@@ -19,7 +19,7 @@ abbrev pub scan_end : List ℤ → List LineToken → Scan
 scan_end lits [] = whole lits
 scan_end lits (t ∷ ts) = bad t.place
 
--- one token's part, and what follows behind the integers so far
+-- one token's part, and what follows the integers so far
 abbrev pub at_part : ℕ → List ℤ → List LineToken → (List ℤ → Scan) → Part → Scan
 at_part place lits ts next mark = next lits
 at_part place lits ts next (number (pos zero)) = scan_end lits ts
@@ -27,7 +27,7 @@ at_part place lits ts next (number (pos (suc n))) = next (lits ++ pos (suc n) �
 at_part place lits ts next (number (negsuc n)) = next (lits ++ negsuc n ∷ [])
 at_part place lits ts next strange = bad place
 
--- what is left, behind these integers; len is the text's length
+-- what is left, after these integers; len is the text's length
 abbrev pub scan : ℕ → List ℤ → List LineToken → Scan
 scan len lits [] = bad len
 scan len lits (t ∷ ts) = at_part t.place lits ts (λ more. scan len more ts) (part_of t)
@@ -35,7 +35,7 @@ scan len lits (t ∷ ts) = at_part t.place lits ts (λ more. scan len more ts) (
 abbrev pub seen : LineTokenAt → LineToken
 seen t = record { place = t.place; begins = t.begins; text = t.text.now }
 
--- a token that was taken already, and those that are left behind it
+-- a token that was taken already, and those that are left after it
 abbrev pub ahead : Option LineTokenAt → List LineToken → List LineToken
 ahead None rest = []
 ahead (Some t) rest = seen t ∷ rest
@@ -50,7 +50,7 @@ ScansTo len body (Err (Twice x)) table = ⊥
 ScansTo len body (Err (Unmet k)) table = ⊥
 ScansTo len body (Err Memory) table = ⊥
 
--- one token was taken: the scan goes on behind more integers that the table tells, or has ended with these, or is bad
+-- one token was taken: the scan goes on with more integers that the table tells, or has ended with these, or is bad
 abbrev pub TurnsTo : ℕ → List ℤ → LineToken → List LineToken → Result Turn AnswerRefusal → List Mention → Type 0
 TurnsTo len lits t rest (Ok GoesOn) table = (more : List ℤ) × (scan len lits (t ∷ rest) ≡ scan len more rest) × AreMentionsOf more table
 TurnsTo len lits t rest (Ok Ends) table = (scan len lits (t ∷ rest) ≡ scan_end lits rest) × AreMentionsOf lits table
@@ -61,12 +61,12 @@ TurnsTo len lits t rest (Err (Twice x)) table = ⊥
 TurnsTo len lits t rest (Err (Unmet k)) table = ⊥
 TurnsTo len lits t rest (Err Memory) table = ⊥
 
--- one integer was taken: it stands behind the others, or it is the zero
+-- one integer was taken: it follows the others, or it is the zero
 abbrev pub TakesTo : ℤ → List ℤ → Turn → List Mention → Type 0
 TakesTo z lits GoesOn table = (z ≢ pos 0) × AreMentionsOf (lits ++ z ∷ []) table
 TakesTo z lits Ends table = (z ≡ pos 0) × AreMentionsOf lits table
 
--- no token is left behind the zero
+-- no token is left after the zero
 abbrev pub EndsTo : {T : Type 0} → List ℤ → List LineToken → Result T AnswerRefusal → Type 0
 EndsTo lits ts (Ok done) = scan_end lits ts ≡ whole lits
 EndsTo lits ts (Err NoStatusLine) = ⊥

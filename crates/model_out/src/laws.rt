@@ -1,7 +1,7 @@
 //! Laws of answers. Each function's contract is the law, and its body is empty.
 ghost use Rattle.model_out.specs.Laws.{AnswersAreJudgedInOneWay, LineTokensAreOfLines, PrintedAnswersRead};
 
-/// A text gives one list of values, or is refused for one cause, want of memory aside.
+/// A text gives one list of values, or is refused for one cause, unless memory runs out.
 pub fn answers_are_judged_in_one_way()
     ensures { AnswersAreJudgedInOneWay }
 {}

@@ -14,7 +14,7 @@ pub(crate) struct LineTokenAt<'a> {
     pub text: &'a [u8],
 }
 
-/// Whether at most blanks stand since the last line feed, or since the beginning.
+/// Whether at most blanks came since the last line feed, or since the beginning.
 fn ends_at_line_begin(before: &[u8]) -> bool
     ensures { result ≡ at_line_begin before.now }
 {

@@ -13,7 +13,7 @@ use itoa::Buffer;
 /// How many bytes wait at most, so that the desk is not called for each literal.
 const ROOM: usize = 4096;
 
-/// Takes a piece behind the bytes that wait, and writes them all where there is no room for it.
+/// Adds a piece to the bytes that wait, and writes them all where there is no room for it.
 fn add<D: Desk>(desk: &mut D, waiting: &mut ArrayVec<u8, ROOM>, piece: &[u8]) -> Result<(), Failed>
     ensures { Adds piece.now (D.outside desk.old) waiting.old.items result (D.outside desk.new) waiting.new.items }
 {
@@ -27,7 +27,7 @@ fn add<D: Desk>(desk: &mut D, waiting: &mut ArrayVec<u8, ROOM>, piece: &[u8]) ->
     }
 }
 
-/// What stands before the literal at a place, from 0.
+/// What comes before the literal at a place, from 0.
 fn space_before(place: usize) -> &'static [u8]
     ensures { result.now ≡ break_before place ++ codes " " }
 {
@@ -78,7 +78,7 @@ fn add_values<D: Desk>(
 
 /// Writes the answer text of the values, from variable 1 on, on the answer port.
 ///
-/// It fails only where the desk counted a fault of the port; then the port gained a front of the text. It takes no
+/// It fails only where the desk counted a fault of the port; then the port gained a prefix of the text. It takes no
 /// memory.
 pub fn put_answer<D: Desk>(desk: &mut D, values: &[bool]) -> Result<(), Failed>
     ensures { PutsAll Answer (answer_text values.now) (D.outside desk.old) result (D.outside desk.new) }

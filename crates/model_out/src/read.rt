@@ -17,7 +17,7 @@ use cx_base::{Formula, Values};
 use cx_texts::{Integer, read_integer};
 use std::alloc::Global;
 
-/// Passes over the status line, and gives the token behind it, if there is one.
+/// Passes over the status line, and gives the token after it, if there is one.
 fn pass_status<'a>(tokens: &mut LineTokens<'a>) -> Result<Option<LineTokenAt<'a>>, AnswerRefusal>
     ensures { MatchResult result
         (λ next. behind_status tokens.old ≡ Some (ahead next tokens.new))
@@ -54,7 +54,7 @@ enum Turn {
     Ends,
 }
 
-/// Takes an integer behind a `v`.
+/// Takes an integer after a `v`.
 fn take_integer(mentions: &mut Mentions, integer: Integer) -> Turn
     requires { length mentions.old ≤ MAX_VARIABLE }
     ensures length { length mentions.new ≡ length mentions.old }
@@ -89,7 +89,7 @@ fn take_token(mentions: &mut Mentions, token: LineTokenAt) -> Result<Turn, Answe
     }
 }
 
-/// Ends the answer behind its zero, where no token follows.
+/// Ends the answer after its zero, where no token follows.
 fn pass_end(tokens: &mut LineTokens) -> Result<(), AnswerRefusal>
     ensures { (lits : List ℤ) → EndsTo lits tokens.old result }
 {

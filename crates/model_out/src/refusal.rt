@@ -24,7 +24,7 @@ pub enum AnswerRefusal {
     /// The values do not meet the constraint of this number, from 1.
     #[error("unmet constraint {0}")]
     Unmet(u64),
-    /// Want of memory, which says nothing of the text.
+    /// Out of memory, which says nothing of the text.
     #[error("out of memory")]
     Memory,
 }

@@ -40,7 +40,7 @@ Contradicts constraints t p = IsTrue (assumes constraints (negate (entry_at t.en
 abbrev pub AreApart : List Constraint → TrailState → ℕ → Type 0
 AreApart constraints t n = (p : ℕ) → p < n → IsFalse (assumes constraints (negate (entry_at t.entries p).literal))
 
--- literals were put behind those of the trail, at its level
+-- literals were added to the trail, at its level
 pub record IsLonger (old new : TrailState) : Type 0 where
   pub more : List Entry
   pub parts : new.entries ≡ old.entries ++ more

@@ -23,7 +23,7 @@ pub record AreShuffled (n : ℕ) (cells places : List ℕ) : Type 0 where
 abbrev pub parent : ℕ → ℕ
 parent i = (i - 1) / 2
 
--- of the first count cells each comes behind the one above it
+-- of the first count cells each comes after the one above it
 abbrev pub IsHeap : List ℕ → List ℕ → ℕ → Type 0
 IsHeap scores cells count = (i : ℕ) → 1 ≤ i → i < count → IsAhead scores (item_at cells (parent i)) (item_at cells i)
 

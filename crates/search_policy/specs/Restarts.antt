@@ -2,7 +2,7 @@
 use Rattle.std.specs.Prelude.{ℕ, ◌+◌, ◌-◌, ◌*◌, ◌/◌, ◌^◌, ◌≡◌, ◌<◌, ◌≤◌}
 
 -- v is the i-th of Luby's numbers 1 1 2 1 1 2 4 1 1 2 1 1 2 4 8 ..: each block ends with a power of two, at a place that is
--- twice the power less 1, and what stands before its end is what all began with
+-- twice the power less 1, and what is before its end is what all began with
 pub data IsLuby : ℕ → ℕ → Type 0 where
   ends : {i v : ℕ} (k : ℕ) → i + 1 ≡ 2 * 2 ^ k → v ≡ 2 ^ k → IsLuby i v
   repeats : {i v : ℕ} (k : ℕ) → 2 ^ k ≤ i → i + 1 < 2 * 2 ^ k → IsLuby (i - 2 ^ k + 1) v → IsLuby i v

@@ -1,10 +1,10 @@
--- An order as its callers see it: scores, the variables that stand in its heap, and the weight of bumps.
+-- An order as its callers see it: scores, the variables in its heap, and the weight of bumps.
 use Rattle.std.specs.Prelude.{ℕ, ◌+◌, ◌-◌, ◌/◌, ◌≡◌, ◌≤◌, Bool, true, false, List, length, get_or, replicate, min, zero, suc, if◌then◌else◌}
 use Rattle.cx_trail.specs.Sequence.{TrailState, IsOpenIn}
 use Rattle.search_policy.specs.declared.scores.TheConstants.{MAX_BUMPS}
 use Rattle.search_policy.specs.Scores.{reaches, raised}
 
--- for each variable its score, and whether it stands in the heap, the first being variable 1, and how many bumps a variable
+-- for each variable its score, and whether it is in the heap, the first being variable 1, and how many bumps a variable
 -- of the next conflict is given
 pub record OrderState : Type 0 where
   pub scores : List ℕ
@@ -35,7 +35,7 @@ grown weight = min (weight + weight / 32) MAX_BUMPS
 abbrev pub StandsInHeap : OrderState → ℕ → Type 0
 StandsInHeap o v = get_or o.standing (v - 1) false ≡ true
 
--- each unassigned variable of the trail stands in the heap
+-- each unassigned variable of the trail is in the heap
 pub record AllStand (o : OrderState) (t : TrailState) : Type 0 where
   pub variables : length o.scores ≡ t.variables
   pub stand : (v : ℕ) → 1 ≤ v → v ≤ t.variables → IsOpenIn t.entries v → StandsInHeap o v

@@ -55,7 +55,7 @@ fn first_open(trail: &Trail, lits: &[Lit], from: usize) -> usize
     place
 }
 
-/// Puts what the constraint at a place of the formula assumes behind these literals.
+/// Adds what the constraint at a place of the formula assumes to these literals.
 fn add_assumed(formula: &Formula, place: usize, lits: &mut Vec<Lit>) -> Result<(), AllocError>
     requires place { place < length formula.now.constraints }
     requires before { lits.old.items ≡ assumptions_of (take place formula.now.constraints) }

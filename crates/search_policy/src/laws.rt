@@ -8,7 +8,7 @@ ghost use Rattle.search_policy.specs.Scores.{Picks};
 ghost use Rattle.search_policy.specs.Restarts.{IsLuby};
 ghost use Rattle.search_policy.specs.Standing.{OrderState, AllStand, new_order};
 
-/// All variables stand in a new order.
+/// A new order has all variables.
 pub fn new_order_stands()
     ensures { (t : TrailState) → AllStand (new_order t.variables) t }
 {}

@@ -78,7 +78,7 @@ impl Order {
         scan(self.scores.as_slice(), trail)
     }
 
-    /// The same variable, from the heap. Assigned variables that come before it leave the heap.
+    /// The variable that `pick` gives, from the heap. Assigned variables that come before it leave the heap.
     pub fn pick_from_heap(&mut self, trail: &Trail) -> Option<Var>
         requires { AllStand self.old trail.now }
         ensures picks { Picks (length self.old.scores) self.old.scores trail.now.entries result }

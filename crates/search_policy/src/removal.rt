@@ -59,7 +59,7 @@ pub fn choose_removed(alloc: Global, cards: &[Card]) -> Result<RefList, AllocErr
     choose_removed_in_place(alloc, cards.to_vec(alloc)?)
 }
 
-/// As `choose_removed`, of cards that are not needed any more: they are sorted where they stand, and memory is taken
+/// As `choose_removed`, of cards that are not needed any more: they are sorted in place, and memory is taken
 /// for the references alone.
 pub fn choose_removed_in_place(alloc: Global, cards: Vec<Card>) -> Result<RefList, AllocError>
     ensures { IfOk result (λ removed. IsRemoval cards.items removed) }

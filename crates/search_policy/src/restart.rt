@@ -2,7 +2,7 @@
 ghost use Rattle.std.specs.Prelude.{◌≡◌, ◌<◌, ◌≤◌, ◌*◌, ◌^◌, ◌↔◌, ℕ, IsTrue};
 ghost use Rattle.search_policy.specs.Restarts.{IsLuby, IsDue};
 
-/// How many conflicts one unit of Luby's sequence stands for.
+/// How many conflicts one unit of Luby's sequence is.
 const UNIT: u64 = 100;
 
 // The greatest power of two that is not above the number.

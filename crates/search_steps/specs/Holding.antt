@@ -1,4 +1,4 @@
--- The calculus as a clause of the code: some search stands behind what the sink tells.
+-- The calculus as a clause of the code: some search fits what the sink tells.
 use Rattle.std.specs.Prelude.{◌≡◌, List, Option, Some, None, ⊤}
 use Rattle.cx_base.specs.declared.steps.LogEvent.{LogEvent}
 

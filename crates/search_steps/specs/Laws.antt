@@ -43,7 +43,7 @@ use Rattle.search_steps.specs.Trail.{Entry, by_clause, by_row, rests_on, all_hel
 abbrev pub OfSearch : (Problem → List (List Literal) → Search → Type 0) → Type 0
 OfSearch Law = (formula : Problem) (parities : List (List Literal)) (s : Search) → IsSearch formula parities s → Law formula parities s
 
--- a law of each search that holds, the code's trail behind it, and a literal that is open there and is put on it for a reason
+-- a law of each search that holds, tied to the code's trail, and a literal that is open there and is put on it for a reason
 abbrev pub OfTrail : (Problem → List (List Literal) → Search → TrailState → Literal → Reason → Type 0) → Type 0
 OfTrail Law = OfSearch (λ formula parities s. (t : TrailState) → Mirrors s.trail t → (l : Literal) (reason : Reason) → IsOpenIn t.entries l.variable → Law formula parities s t l reason)
 
@@ -76,7 +76,7 @@ OriginalParitiesAreTold =
 abbrev pub AssumptionsAreNotTold : Type 0
 AssumptionsAreNotTold = (formula : Problem) (taken : List Constraint) (s : Search) → IsBegun formula taken s → (lits : List Literal) → IsBegun formula (taken ++ constraint.Assume lits ∷ []) s
 
--- behind the last constraint the search holds, with the parities of the formula, where its assumptions don't clash
+-- after the last constraint the search holds, with the parities of the formula, where its assumptions don't clash
 abbrev pub BegunIsSearch : Type 0
 BegunIsSearch = (formula : Problem) (s : Search) → IsFalse (clashes formula.constraints) → IsBegun formula formula.constraints s → IsSearch formula (parities_of formula.constraints) s
 
@@ -185,12 +185,12 @@ RowReasonsServe =
     (formula : Problem) (parities : List (List Literal)) (s : Search) (k : ℕ) (rs : List ℤ) (ids : List ℕ) (n : ℕ) (zs : List ℤ) → IsRowReason formula parities s k rs ids n zs
     → IsServed s → s.moment.new_sums ≡ [] → IsServed (all_told s (row_events k rs ids n zs)) × ((all_told s (row_events k rs ids n zs)).moment.new_sums ≡ [])
 
--- behind a whole conflict the search is tidy
+-- after a whole conflict the search is tidy
 abbrev pub RoundsAreTidy : Type 0
 RoundsAreTidy = OfSearch (λ formula parities s.
     (n : ℕ) (zs hints : List ℤ) (back : ℕ) (l : Literal) → IsLearnedOf s.trail back (literals zs) l → IsServed s → s.moment.new_sums ≡ [] → IsTidy (after_round s n zs hints back l))
 
--- the literal that the learned clause forces is open on the code's trail after the jump, and is put behind it
+-- the literal that the learned clause forces is open on the code's trail after the jump, and is added to it
 abbrev pub RoundsStayTied : Type 0
 RoundsStayTied = OfSearch (λ formula parities s.
     (n : ℕ) (zs hints : List ℤ) (back : ℕ) (l : Literal) → IsLearnedOf s.trail back (literals zs) l → (t u : TrailState) → IsTied s.trail t.entries → TakesBack back t u → (reason : Reason)
@@ -275,7 +275,7 @@ FullIsMet = OfSearch (λ formula parities s.
     Quiet formula.variables parities s.moment.tables.clauses (all_held s.trail) → HaveTheirs formula parities → ((l : Literal) → IsTrue (assumes formula.constraints l) → IsTrue (has_literal (all_held s.trail) l)) → (values : List Bool) → AllByRecursion (λ c. AreWithin formula.variables (literals_of c)) formula.constraints
     → Decides formula.variables (all_held s.trail) → length values ≡ formula.variables → IsTrue (list_all (literal_true values) (all_held s.trail)) → Meets formula values)
 
--- the engine's parities say what the formula's do, where these stand first among them and the recovered ones behind
+-- the engine's parities say what the formula's do, where these come first among them and then the recovered ones
 abbrev pub TheirsAreHad : Type 0
 TheirsAreHad = (formula : Problem) (more : List (List Literal)) → HasRecovered formula more → HaveTheirs formula (parities_of formula.constraints ++ more)
 
@@ -290,7 +290,7 @@ abbrev pub WatchedIsQuiet : Type 0
 WatchedIsQuiet =
     (table : Table) (known : List Literal) → HasNoClash known → ((clause : List Literal) → IsLive table clause → IsWatchedWell known clause) → ClausesQuiet table known
 
--- no literal of the trail stands beside its negation
+-- the trail has no literal together with its negation
 abbrev pub TrailsHaveNoClash : Type 0
 TrailsHaveNoClash = OfSearch (λ formula parities s.
     HasNoClash (all_held s.trail))
@@ -365,7 +365,7 @@ NoValueIsOpen =
     (es : List Entry) (values : List (Option Held)) → HoldsValues es values → (entries : List TrailEntry) → IsTied es entries → (v : ℕ) → held_at values v ≡ None → IsOpenIn entries v
 
 -- ---- the ranges of ids
--- the ranges of ids stand at the start
+-- the ranges of ids hold at the start
 abbrev pub BegunIsRanged : Type 0
 BegunIsRanged =
     (formula : Problem) (bound : ℕ) (s : Search) → length (clauses_of formula.constraints) < bound → IsBegun formula formula.constraints s
@@ -428,7 +428,7 @@ abbrev pub RecoveredTakesOne : Type 0
 RecoveredTakesOne =
     (count : ℕ) (s : Search) (zs : List ℤ) (ids : List ℕ) → HasFreeSums count s.moment → HasFreeSums (count + 1) (told s (Step (ParityOfClauses (count + 1) zs ids))).moment
 
--- behind the reason of a row the id of its sum is free again
+-- after the reason of a row the id of its sum is free again
 abbrev pub SumsAreFreeAgain : Type 0
 SumsAreFreeAgain =
     (count : ℕ) (s : Search) (k : ℕ) (rs : List ℤ) (ids : List ℕ) (n : ℕ) (zs : List ℤ) → HasFreeSums count s.moment → HasFreeSums count (all_told s (row_events k rs ids n zs)).moment

@@ -35,7 +35,7 @@ pub record HasTwoOpen (known clause : List Literal) : Type 0 where
   pub open_l : IsFalse (has_literal known (negate l))
   pub open_m : IsFalse (has_literal known (negate m))
 
--- a literal of the clause is held, two different ones are not false, or one stands beside its negation
+-- a literal of the clause is held, two different ones are not false, or the clause has one with its negation
 abbrev pub IsWatchedWell : List Literal → List Literal → Type 0
 IsWatchedWell known clause = HasTrue known clause ⊎ (HasTwoOpen known clause ⊎ ((l : Literal) × IsTrue (has_literal clause l) × IsTrue (has_literal clause (negate l))))
 

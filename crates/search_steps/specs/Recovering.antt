@@ -1,4 +1,4 @@
--- The parities of a formula: those given, and those that stand in it as clauses.
+-- The parities of a formula: those given, and those that it has as clauses.
 use Rattle.std.specs.Prelude.{◌≡◌, List, Contains, ◌⊎◌}
 use Rattle.cx_base.specs.Literals.{Literal}
 use Rattle.cx_base.specs.Parity.{NormalForm, normal_form}

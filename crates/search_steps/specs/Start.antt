@@ -13,7 +13,7 @@ use Rattle.search_steps.specs.Search.{Search, IsTidy}
 abbrev pub start : Search
 start = record { events = []; moment = first_moment; trail = []; quiet_levels = 0; conflicts = 0 }
 
--- the lists stand under the first ids, and the ids above are free
+-- the lists are under the first ids, and the ids above are free
 pub record HasFirst (table : Table) (lists : List (List Literal)) : Type 0 where
   pub live : (lits : List Literal) → Contains lists lits → (n : ℕ) × (n ≤ length lists) × (get table n ≡ Some lits)
   pub free : (n : ℕ) → length lists < n → get table n ≡ None

@@ -8,7 +8,7 @@ use Rattle.cx_trail.specs.declared.entry.Entry.{Entry as TrailEntry}
 use Rattle.cx_trail.specs.Sequence.{TrailState, IsTrueIn, IsFalseIn, IsOpenIn, IsTrail as IsCodeTrail}
 use Rattle.search_steps.specs.Trail.{Entry}
 
--- The same literals with the same levels, the oldest first there and the newest first here. Reasons are not compared.
+-- Both have these literals with these levels, the oldest first there and the newest first here. Reasons are not compared.
 abbrev pub IsTied : List Entry → List TrailEntry → Type 0
 IsTied [] entries = entries ≡ []
 IsTied (e ∷ es) entries = (before : List TrailEntry) × (i : TrailEntry) × (entries ≡ before ++ i ∷ []) × (i.literal ≡ e.literal) × (i.level ≡ e.level) × IsTied es before
@@ -40,7 +40,7 @@ AreOthersFalseOn entries lits l = (m : Literal) → Contains lits m → m ≢ l 
 abbrev pub IsFalsifiedOn : List TrailEntry → List Literal → Type 0
 IsFalsifiedOn entries lits = (m : Literal) → Contains lits m → IsFalseIn entries m
 
--- The entries stand behind the others, at this level: each is open there and forced by a live clause whose id is below the bound.
+-- The entries follow the others, at this level: each is open there and forced by a live clause whose id is below the bound.
 abbrev pub AreForcedBehind : Table → ℕ → ℕ → List TrailEntry → List TrailEntry → Type 0
 AreForcedBehind table bound level before [] = ⊤
 AreForcedBehind table bound level before (e ∷ more) =

@@ -21,7 +21,7 @@ pub fn assumptions_are_not_told()
     ensures { AssumptionsAreNotTold }
 {}
 
-/// Behind the last constraint the search holds, with the parities of the formula, where its assumptions don't clash.
+/// After the last constraint the search holds, with the parities of the formula, where its assumptions don't clash.
 pub fn begun_is_search()
     ensures { BegunIsSearch }
 {}
@@ -41,12 +41,12 @@ pub fn propagations_keep()
     ensures { PropagationsKeep }
 {}
 
-/// So does a literal that a clause of the parities forces.
+/// A literal that a clause of the parities forces keeps the search.
 pub fn row_steps_keep()
     ensures { RowStepsKeep }
 {}
 
-/// So does a decision, where both engines are quiet.
+/// A decision keeps the search, where both engines are quiet.
 pub fn decisions_keep()
     ensures { DecisionsKeep }
 {}
@@ -116,12 +116,12 @@ pub fn row_reasons_serve()
     ensures { RowReasonsServe }
 {}
 
-/// Behind a whole conflict the search is tidy.
+/// After a whole conflict the search is tidy.
 pub fn rounds_are_tidy()
     ensures { RoundsAreTidy }
 {}
 
-/// The literal that the learned clause forces is open on the code's trail after the jump, and is put behind it.
+/// The literal that the learned clause forces is open on the code's trail after the jump, and is put after it.
 pub fn rounds_stay_tied()
     ensures { RoundsStayTied }
 {}
@@ -171,12 +171,12 @@ pub fn last_steps_end()
     ensures { LastStepsEnd }
 {}
 
-/// So does a clause by a right chain, and the marks are as before where no clause is owed.
+/// A clause by a right chain ends a log in this way, and the marks are as before where no clause is owed.
 pub fn chained_clauses_end()
     ensures { ChainedClausesEnd }
 {}
 
-/// So does the clause of a row, where its sum is live.
+/// The clause of a row ends a log in this way, where its sum is live.
 pub fn row_clauses_end()
     ensures { RowClausesEnd }
 {}
@@ -196,7 +196,7 @@ pub fn full_is_met()
     ensures { FullIsMet }
 {}
 
-/// The engine's parities say what the formula's do, where these stand first among them and the recovered ones behind.
+/// The engine's parities say what the formula's do, where these come first among them and then the recovered ones.
 pub fn theirs_are_had()
     ensures { TheirsAreHad }
 {}
@@ -211,7 +211,7 @@ pub fn watched_is_quiet()
     ensures { WatchedIsQuiet }
 {}
 
-/// No literal of the trail stands beside its negation.
+/// The trail has no literal together with its negation.
 pub fn trails_have_no_clash()
     ensures { TrailsHaveNoClash }
 {}
@@ -261,7 +261,7 @@ pub fn new_levels_hold()
     ensures { NewLevelsHold }
 {}
 
-/// So does an engine that answers an event.
+/// An engine that answers an event holds what it held.
 pub fn answers_hold()
     ensures { AnswersHold }
 {}
@@ -291,7 +291,7 @@ pub fn no_value_is_open()
     ensures { NoValueIsOpen }
 {}
 
-/// The ranges of ids stand at the start.
+/// The ranges of ids hold at the start.
 pub fn begun_is_ranged()
     ensures { BegunIsRanged }
 {}
@@ -306,7 +306,7 @@ pub fn told_steps_keep_ranges()
     ensures { ToldStepsKeepRanges }
 {}
 
-/// So does any trail whose reasons are below the bound.
+/// Any other trail whose reasons are below the bound keeps the ranges.
 pub fn other_trails_keep_ranges()
     ensures { OtherTrailsKeepRanges }
 {}
@@ -351,7 +351,7 @@ pub fn recovered_takes_one()
     ensures { RecoveredTakesOne }
 {}
 
-/// Behind the reason of a row the id of its sum is free again.
+/// After the reason of a row the id of its sum is free again.
 pub fn sums_are_free_again()
     ensures { SumsAreFreeAgain }
 {}

@@ -7,13 +7,13 @@ use crate::lists::NodeLists;
 use clause_arena::Arena;
 use cx_base::{ClauseRef, Lit, Var};
 
-/// From how many clauses on it pays to read ahead. Fewer stand in the nearer caches, and to read them twice is only work.
+/// From how many clauses on it pays to read ahead. Fewer fit into the nearer caches, and to read them twice is only work.
 const MANY: usize = 32_768;
 
 /// What was read ahead: the literal that a node watches, and the first one of its clause.
 ///
-/// A walk goes from node to node through links, and the node, its flag and its literals each stand in a line of the cache of their own. There is no
-/// instruction here that asks for a line, so they are read while the node before is visited, and kept so that the reads stand. Nothing
+/// A walk goes from node to node through links, and the node, its flag and its literals are each in a line of the cache of their own. There is no
+/// instruction here that asks for a line, so they are read while the node before is visited, and kept so that no read is optimised away. Nothing
 /// depends on them, and no proof speaks of them.
 #[derive(Clone, Copy, Drop)]
 pub(crate) struct Ahead {

@@ -50,7 +50,7 @@ fn find(lits: &[Lit], trail: &Trail, other: Lit) -> Option<usize>
     None
 }
 
-// The same, from a place to the end and then from the first literal to that place.
+// The place of a free literal, looked for from a place to the end and then from the first literal to that place.
 fn find_around(lits: &[Lit], trail: &Trail, other: Lit, start: usize) -> Option<usize>
     requires within { All (λ l. (1 ≤ l.variable) × (l.variable ≤ trail.now.variables)) lits.now }
     requires start { start ≤ length lits.now }
