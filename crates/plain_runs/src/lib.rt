@@ -1,7 +1,6 @@
 //! The search and the look for parities beside plain programs, as tests over drawn formulas.
 #![tactic(auto)]
 
-#[cfg(test)]
 mod drawing;
 #[cfg(test)]
 mod learning;
