@@ -190,7 +190,7 @@ fn put_header<D: Desk>(desk: &mut D, port: Port, formula: &Formula) -> Result<()
 
 /// Writes a formula on a port: a text that is read as the formula.
 ///
-/// It fails only where the desk counted a fault of the port; then the port gained a front of the text. It takes no memory.
+/// It fails only where the desk counted a fault of the port; then the port gained a prefix of the text. It takes no memory.
 pub fn put_formula<D: Desk>(desk: &mut D, port: Port, formula: &Formula) -> Result<(), Failed>
     ensures put { PutsAll port (printed_formula formula.now) (D.outside desk.old) result (D.outside desk.new) }
     ensures reads { Reads (printed_formula formula.now) formula.now }

@@ -141,7 +141,7 @@ fn judged(
     })
 }
 
-/// The same of a search over a formula.
+/// How many clauses a search over a formula learned and how many unit clauses it told besides, if each event fits.
 fn searched(alloc: Global, formula: &Formula) -> Result<Option<(u64, u64)>, AllocError> {
     if formula.len() > u32::MAX as usize {
         return Ok(None);

@@ -83,7 +83,7 @@ fn put_others(alloc: Global, others: &mut String, formula: &Formula) -> Result<u
     Ok(both)
 }
 
-/// The same of formulas from these seeds.
+/// Compares them for formulas from these seeds. How many parities both find.
 fn put_others_of(alloc: Global, others: &mut String, seeds: u64) -> Result<usize, AllocError> {
     let mut both = 0usize;
     for seed in 1..=seeds {
