@@ -21,7 +21,7 @@ module _ {X : Type 0} (f : X → Bytes) (xs : List X) (i : ℕ) (d : X) (low : i
       now ∙ ap (gained port (f (get_or xs i d))) before ∙ gained-twice port (flat_map f (take i xs)) (f (get_or xs i d)) start
       ∙ ap (λ (t : Bytes). gained port t start) (sym one_more)
 
-  -- the line of a place, and then those behind it
+  -- the line of a place, and then those after it
   pub group_more : (to : ℕ) → i < to → flat_map f (take (to - i) (drop i xs)) ≡ f (get_or xs i d) ++ flat_map f (take (to - (i + 1)) (drop (i + 1) xs))
   group_more to more =
       let n = to - (i + 1) in

@@ -1,4 +1,4 @@
--- Pieces that are written one behind the other, and the text of a line.
+-- Pieces that are written one after another, and the text of a line.
 use Rattle.std.proofs.Common.{◌≡◌, refl, sym, ap, ◌∙◌, subst, ℕ, zero, suc, ◌+◌, ◌-◌, ◌<◌, ◌≤◌, ℤ, true, false, List, [], ◌∷◌, ◌++◌, map, flat_map, length, take, drop, take-append-drop, decimal, arith, append_assoc, append-nil, Result, Ok, Err}
 use Rattle.std.specs.List.{join_with_byte}
 use Rattle.std.specs.Fmt.{digits}
@@ -16,7 +16,7 @@ use Rattle.cx_texts.specs.Grammar.{spelled_list}
 use Rattle.cx_texts.specs.Printed.{printed_integer, printed_word, printed_line}
 use Rattle.cnfx_reader.specs.PrintedFormula.{literal_text, literals_text, printed_constraint}
 
--- a front that is not all was written before a fault
+-- a proper prefix was written before a fault
 abbrev pub Fails : Port → Bytes → Outside → Outside → Type 0
 Fails port bytes old new = (k : ℕ) × (k < length bytes) × PutFaulted port (gained port (take k bytes) old) new
 

@@ -208,7 +208,7 @@ module _ (slot : Slot) (limit : ℕ) (o : Outside) where
       let w = whole_text s p h len q r in
       (w.0, w.1, text_reads w.0 v d.constraints (ap (λ n. answer_of_text n w.0) (sym w.2) ∙ w.3 len ∙ whole.1))
 
-  -- the same by the last bytes of the formula
+  -- the text was read to its end by its last bytes, and is this formula
   module _ (s : SlotFormula) (p : Outside) (h : HasRead slot limit o s p) (t : SlotFormula) (last : IsLast s t) where
     pub last_stops : (e : DrainErr) (q : Outside) → t.bytes.ended ≡ false → DrainFails t.bytes.slot (t.bytes.limit - taken_by t.bytes) p e q → FromFails slot limit o (from_drained e) q
     last_stops e q still k = rest_stops s p h e q (sym (passed_ended s.bytes t.bytes last.passed) ∙ still) (passed_stops s.bytes t.bytes last.passed p e q k)

@@ -22,7 +22,7 @@ unfolding formula_tokens
 formula_tokens_are text = refl
 
 module _ (text : List ℕ) where
-  -- what is read of some words where nothing stands before them
+  -- what is read of some words where nothing comes before them
   abbrev read_of : List Token → Outcome
   read_of body = outcome (length text) pending.Nothing (record { constraints = []; unfinished = [] }) (placed_formula_words body)
 

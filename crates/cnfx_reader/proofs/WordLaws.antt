@@ -23,7 +23,7 @@ joined_token (b ∷ []) len z x some l e = absurd (omega arith)
 joined_token (b ∷ c ∷ bs) zero z x some l e = absurd (omega arith)
 joined_token (b ∷ c ∷ bs) (suc len) z x some l e = ap (λ y. formula_words_of (y ∷ c ∷ take len bs)) x ∙ ap joined_words e
 
--- a byte that is no blank before a run
+-- a non-blank byte before a run
 pub run_more : (text : List ℕ) (len : ℕ) → 0 < length text → is_blank (get_or text 0 0) ≡ false → NoBlank (take len (drop 1 text)) → NoBlank (take (1 + len) text)
 run_more [] len l b h = absurd (omega arith)
 run_more (c ∷ text) len l b h = let e : 1 + len ≡ suc len = omega arith in subst (λ n. NoBlank (take n (c ∷ text))) (sym e) (b, h)

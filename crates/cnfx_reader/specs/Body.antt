@@ -82,7 +82,7 @@ IsPendingIn Clause d = ⊤
 IsPendingIn Parity d = ⊤
 IsPendingIn Assume d = ⊤
 
--- a refusal says the ending; want of memory says nothing of it
+-- a refusal says the ending; out of memory says nothing of it
 abbrev pub IsEndedBy : ReadRefusal → Ending → Type 0
 IsEndedBy (NoHeader place) ending = ⊥
 IsEndedBy (BadHeader place) ending = ⊥

@@ -1,4 +1,4 @@
--- What the reader of formulas answers that reads a slot.
+-- What the reader of formulas from a slot answers.
 use Rattle.std.specs.Prelude.{ℕ, Result, Ok, Err, MatchResult}
 use Rattle.cx_base.specs.Drafts.{Draft}
 use Rattle.cx_base.specs.Problem.{Problem, greatest_variable}
@@ -38,7 +38,7 @@ from_drained drained.TooLong = TooLong
 abbrev pub GivesOffence : Slot → ℕ → Outside → Offence → Outside → Type 0
 GivesOffence slot limit old o new = (text : Bytes) × Whole slot limit text old new × FirstOffence text o
 
--- the text's first offence, or want of memory, or a counted fault, or one byte past the limit
+-- the text's first offence, or out of memory, or a counted fault, or one byte past the limit
 abbrev pub FromFails : Slot → ℕ → Outside → FromRefusal → Outside → Type 0
 FromFails slot limit old (NoHeader place) new = GivesOffence slot limit old (offence.NoHeader place) new
 FromFails slot limit old (BadHeader place) new = GivesOffence slot limit old (offence.BadHeader place) new

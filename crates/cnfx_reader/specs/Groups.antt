@@ -6,7 +6,7 @@ use Rattle.cx_desk.specs.Outside.{Outside}
 use Rattle.cx_desk.specs.Calls.{gained, PutFaulted}
 use Rattle.cnfx_reader.specs.PrintedFormula.{printed_constraint}
 
--- on a sheet a text begins at one place, ends before another, and takes at most so much room; what comes after it is as it was
+-- on a sheet a text begins at one place, ends before another, and takes at most this much room; what comes after it is as it was
 pub record IsLaidOut (text : List ℕ) (most end : ℕ) (before : List ℕ) (begin : ℕ) (after : List ℕ) : Type 0 where
   pub low : end ≤ begin + most
   pub high : begin ≤ end

@@ -9,14 +9,14 @@ use Rattle.cnfx_reader.specs.declared.header_token.HeaderPart.TheVariants.{P, Cn
 use Rattle.cnfx_reader.specs.declared.header_token.HeaderStep.{HeaderStep}
 use Rattle.cnfx_reader.specs.declared.header_token.HeaderStep.TheVariants.{Lacks, Whole}
 
--- the header whose tokens from this one on are these: its number of variables and the tokens behind, or the first offence
+-- the header whose tokens from this one on are these: its number of variables and the tokens that follow, or the first offence
 abbrev pub header_from : HeaderPart → ℕ → List Token → Result (ℕ × List Token) Offence
 header_from P len tokens = header len tokens
 header_from Cnf len tokens = behind_p len tokens
 header_from Vars len tokens = behind_cnf len tokens
 header_from (Count v) len tokens = behind_count len v tokens
 
--- the same behind a token
+-- as above, after a token
 abbrev pub header_behind : Result HeaderStep Offence → ℕ → List Token → Result (ℕ × List Token) Offence
 header_behind (Ok (Lacks part)) len tokens = header_from part len tokens
 header_behind (Ok (Whole v)) len tokens = Ok (v, tokens)

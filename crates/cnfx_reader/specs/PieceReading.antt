@@ -17,7 +17,7 @@ pub record AllButLast (pending : Pending) (old : Draft) (tokens : List Token) (r
   pub fits : IsPendingIn read.pending new
   pub same : (len : ℕ) (more : List Token) → outcome len pending old (placed_formula_words (tokens ++ more)) ≡ outcome len read.pending new (placed_formula_words (last ∷ more))
 
--- the same, or there are no tokens
+-- the tokens but the last were taken, or there are none
 abbrev pub PieceTaken : Pending → Draft → List Token → Option PieceRead → Draft → Type 0
 PieceTaken pending old tokens None new = (tokens ≡ []) × (new ≡ old)
 PieceTaken pending old tokens (Some read) new = AllButLast pending old tokens read new

@@ -6,7 +6,7 @@ use Rattle.cx_texts.specs.declared.offence.Offence.TheVariants as offence
 use Rattle.cnfx_reader.specs.declared.refusal.ReadRefusal.{ReadRefusal}
 use Rattle.cnfx_reader.specs.declared.refusal.ReadRefusal.TheVariants.{NoHeader, BadHeader, BadToken, Unterminated, VarLimit, Memory}
 
--- the refusal is the first offence of the text; want of memory says nothing of it
+-- the refusal is the first offence of the text; out of memory says nothing of it
 abbrev pub IsRefusedAs : List ℕ → ReadRefusal → Type 0
 IsRefusedAs text (NoHeader place) = FirstOffence text (offence.NoHeader place)
 IsRefusedAs text (BadHeader place) = FirstOffence text (offence.BadHeader place)

@@ -1,4 +1,4 @@
--- A formula that is read from a slot: what is read of its text from where its reader stands.
+-- A formula that is read from a slot: what is read of its text from where its reader is.
 use Rattle.std.specs.Prelude.{◌≡◌, ◌≤◌, ◌+◌, ℕ, true, false, [], ◌++◌, length, drop, Result}
 use Rattle.cx_desk.specs.declared.desk.Slot.{Slot}
 use Rattle.cx_desk.specs.Gave.{Gave}

@@ -5,7 +5,7 @@ use Rattle.cx_texts.specs.Pieces.{tokens_in_by}
 use Rattle.cx_texts.specs.declared.line_state.EndLines.TheVariants as end_line
 use Rattle.cx_texts.specs.declared.line_state.LineState.{LineState}
 
--- the tokens of a part of a text that begins at a line, at this place; of one that begins within a kept line, or where its reader stands
+-- the tokens of a part of a text that begins at a line, at this place; of one that begins within a kept line, or where its reader is
 abbrev pub formula_tokens_from : ℕ → List ℕ → List Token
 formula_tokens_from place text = tokens_from_by end_line.End place text
 

@@ -51,7 +51,7 @@ pub(crate) fn read_token(token: &[u8]) -> BodyToken
     }
 }
 
-/// The token at the front, whatever it says.
+/// The first token, whatever it says.
 fn any_token(text: &[u8]) -> Front<BodyToken>
     requires some { 0 < length text.now }
     requires begins { is_blank (slice_index text.now 0) ≡ false }
@@ -65,9 +65,9 @@ fn any_token(text: &[u8]) -> Front<BodyToken>
     }
 }
 
-/// The token at the front, most likely an `x` joined to an integer.
+/// The first token, most likely an `x` joined to an integer.
 ///
-/// It stands apart from the path of plain integers, to keep that one short.
+/// It is kept apart from the path of plain integers, to keep that one short.
 #[inline(never)]
 fn marked_token(text: &[u8]) -> Front<BodyToken>
     requires some { 0 < length text.now }
@@ -86,7 +86,7 @@ fn marked_token(text: &[u8]) -> Front<BodyToken>
     any_token(text)
 }
 
-/// The token at the front. An integer up to the limit takes one pass over its bytes.
+/// The first token. An integer up to the limit takes one pass over its bytes.
 #[inline(always)]
 fn leading_token(text: &[u8]) -> Front<BodyToken>
     requires some { 0 < length text.now }

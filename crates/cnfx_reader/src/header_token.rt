@@ -12,11 +12,11 @@ pub(crate) enum HeaderPart {
     P,
     Cnf,
     Vars,
-    /// The number of constraints, behind this number of variables.
+    /// The number of constraints, after this number of variables.
     Count(u32),
 }
 
-/// What stands behind a token of a header.
+/// What comes after a token of a header.
 #[derive(Clone, Copy, Drop)]
 pub(crate) enum HeaderStep {
     Lacks(HeaderPart),

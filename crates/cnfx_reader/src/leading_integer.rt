@@ -1,4 +1,4 @@
-//! Integers at the front of a text.
+//! Integers at the start of a text.
 ghost use Rattle.std.specs.Prelude.{◌≡◌, ◌<◌, length, take, Some, true, slice_index, IfSome, ℤ};
 ghost use Rattle.cx_texts.specs.Tokens.{is_blank, NoBlank};
 ghost use Rattle.cx_texts.specs.Words.{integer};
@@ -8,14 +8,14 @@ use crate::digits::{SHORT, short_digits};
 use cx_base::MAX_VARIABLE;
 use cx_texts::{Integer, has_minus, is_blank_byte, small_integer};
 
-/// An integer at the front of some bytes, and how many of them are its token.
+/// An integer at the start of some bytes, and how many of them are its token.
 #[derive(Clone, Copy, Drop)]
 pub(crate) struct LeadingInteger {
     pub integer: Integer,
     pub len: usize,
 }
 
-/// The integer up to the limit at the front, where a blank follows it.
+/// The integer up to the limit at the start, where a blank follows it.
 ///
 /// `None` says nothing: near the end of the text, or at a long spelling, the whole token decides.
 #[inline(always)]

@@ -1,6 +1,6 @@
 //! What constraint of the body is pending.
 
-/// Whether a constraint is pending behind what was read, and of which kind.
+/// Whether a constraint is pending after what was read, and of which kind.
 #[derive(Clone, Copy, Drop)]
 pub(crate) enum Pending {
     /// The next token begins a constraint.

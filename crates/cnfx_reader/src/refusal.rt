@@ -25,7 +25,7 @@ pub enum ReadRefusal {
     /// A variable above the limit.
     #[error("variable limit at byte {0}")]
     VarLimit(u64),
-    /// Want of memory, which says nothing of the text.
+    /// Out of memory, which says nothing of the text.
     #[error("out of memory")]
     Memory,
 }

@@ -117,7 +117,7 @@ impl SlotFormula {
     }
 }
 
-/// Reads the rest of a refused text, since it may be too long, which goes before its offence.
+/// Reads the rest of a refused text, since it may be too long, which takes precedence over its offence.
 fn refused<D: Desk>(bytes: &SlotBytes, desk: &mut D, refusal: ReadRefusal) -> FromRefusal
     requires started { started_in bytes.now.slot (D.outside desk.old).started ≡ true }
     requires within { taken_by bytes.now ≤ bytes.now.limit }

@@ -1,7 +1,7 @@
--- Two fronts of one list.
+-- Two prefixes of one list.
 use Rattle.std.proofs.Common.{◌≡◌, refl, sym, ap, ◌∙◌, List, [], ◌∷◌, ◌++◌, ◌⊎◌, inl, inr}
 
--- one is a front of the other
+-- one is a prefix of the other
 abbrev pub Compared : {A : Type 0} → List A → List A → List A → List A → Type 0
 Compared {A} a b x y = ((m : List A) × (b ≡ a ++ m) × (x ≡ m ++ y)) ⊎ ((m : List A) × (a ≡ b ++ m) × (y ≡ m ++ x))
 

@@ -13,7 +13,7 @@ moved_tail m moves r ne = ap (λ b. cond b (Some m.new) (moved_to moves r)) (ne_
 rising_tail : (m : Move) (moves : List Move) → IsRising (m ∷ moves) → IsRising moves
 rising_tail m moves h = record { rises = λ i j less inside. h.rises (suc i) (suc j) (omega arith) (omega arith) }
 
--- an old reference stands at one place
+-- an old reference is at one place
 pub moved_at : (moves : List Move) (i : ℕ) → IsRising moves → i < length moves → moved_to moves (move_at moves i).old ≡ Some (move_at moves i).new
 moved_at [] i h inside = absurd (omega arith)
 moved_at (m ∷ moves) zero h inside = moved_head m moves m.old refl
@@ -25,7 +25,7 @@ pub moved_nowhere : (moves : List Move) (r : ℕ) → ((i : ℕ) → i < length 
 moved_nowhere [] r none = refl
 moved_nowhere (m ∷ moves) r none = moved_tail m moves r (none 0 (omega arith)) ∙ moved_nowhere moves r (λ i h. none (suc i) (omega arith))
 
--- what has moved stands somewhere
+-- what has moved is somewhere
 pub moved_from : (moves : List Move) (r s : ℕ) → moved_to moves r ≡ Some s → (i : ℕ) × (i < length moves) × ((move_at moves i).old ≡ r) × ((move_at moves i).new ≡ s)
 moved_from [] r s e = cc
 moved_from (m ∷ moves) r s e = ⊎_elim

@@ -1,4 +1,4 @@
--- Counts of 64 bits, which stand still at their last value.
+-- Counts of 64 bits, which stay at their last value.
 use Rattle.std.specs.Prelude.{◌+◌, ◌-◌, ◌^◌, ◌≤◌, ℕ, min}
 
 -- the count after one more

@@ -1,7 +1,7 @@
 -- Endings of texts.
 use Rattle.std.specs.Prelude.{ℕ}
 
--- how a text goes on behind its steps
+-- how a text goes on after its steps
 pub data Ending : Type 0 where
   finished : Ending
   bad_token : ℕ → Ending

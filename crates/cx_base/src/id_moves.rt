@@ -4,14 +4,14 @@ ghost use Rattle.std.specs.Prelude.{◌≡◌};
 use std::alloc::AllocError;
 use std::marker::Model;
 
-/// What stands under the first id comes under the second.
+/// What is under the first id comes under the second.
 #[derive(Clone, Copy, Debug, Drop)]
 pub struct IdMove {
     pub from: u64,
     pub to: u64,
 }
 
-/// Moves that are made at once: what stands under the old ids is taken out, and then each content is put under its new id.
+/// Moves that are made at once: what is under the old ids is taken out, and then each content is put under its new id.
 #[derive(Debug, Drop)]
 pub struct MoveList {
     moves: Vec<IdMove>,

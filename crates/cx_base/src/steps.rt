@@ -27,7 +27,7 @@ pub enum LogStep {
     OriginalParity(u64, IntList),
     /// A clause that a chain of live clauses shows.
     Clause(u64, IntList),
-    /// The same, where the text has hints.
+    /// A clause as above, with hints for its chain.
     ClauseWithHints(u64, IntList, IntList),
     /// A parity with its id, and the parities whose sum it is.
     Parity(u64, IntList, IdList),
@@ -42,7 +42,7 @@ pub enum LogStep {
     FinalParity(u64, IntList),
     /// Clauses come under other ids, all at once.
     MoveClauses(MoveList),
-    /// So do parities.
+    /// Parities come under other ids, all at once.
     MoveParities(MoveList),
 }
 

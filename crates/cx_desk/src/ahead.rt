@@ -87,7 +87,7 @@ fn grow(buffer: &mut Vec<u8>, kept: usize) -> Result<(), AllocError>
     buffer.resize(longer, 0)
 }
 
-/// Reads into the buffer after its first `filled` bytes, at most so many, and says how many came.
+/// Reads into the buffer after its first `filled` bytes, at most this many, and says how many came.
 fn read_after<D: Desk>(
     desk: &mut D,
     slot: Slot,
@@ -133,7 +133,7 @@ impl ReadAhead {
         self.at += count;
     }
 
-    /// Reads more from a started slot, at most so many bytes, and says how many came: 0 only at the end.
+    /// Reads more from a started slot, at most this many bytes, and says how many came: 0 only at the end.
     pub fn read<D: Desk>(
         &mut self,
         desk: &mut D,

@@ -29,7 +29,7 @@ impl From<Failed> for DrainErr {
 /// The most bytes that are asked for at once.
 const PIECE: usize = 65_536;
 
-/// Reads at most so many bytes into the start of a buffer. It says how many came.
+/// Reads at most this many bytes into the start of a buffer. It says how many came.
 fn read_front<D: Desk>(
     desk: &mut D,
     slot: Slot,
@@ -45,7 +45,7 @@ fn read_front<D: Desk>(
     desk.read(slot, &mut into[..room])
 }
 
-/// Reads at most so many bytes and does not keep them. It says how many came.
+/// Reads at most this many bytes and does not keep them. It says how many came.
 fn pass_over<D: Desk>(desk: &mut D, slot: Slot, most: u64) -> Result<u64, Failed>
     requires started { started_in slot (D.outside desk.old).started ≡ true }
     requires some { 0 < most }

@@ -49,7 +49,7 @@ impl<D: Desk> Spool<D> {
         Ok(())
     }
 
-    /// Has room for a byte more at the least: where it is full, all that waits is written first.
+    /// Has room for at least one byte more: where it is full, all that waits is written first.
     fn make_room(&mut self) -> Result<(), Failed>
         ensures { MakesRoom (D.outside self.old.desk) self.old.waiting.0 result (D.outside self.new.desk) self.new.waiting.0 self.new.waiting.1 }
     {
@@ -68,7 +68,7 @@ impl<D: Desk> Spool<D> {
         Ok(self.waiting.push(piece))
     }
 
-    /// A piece of the proof waits where the port has its file, or others wait already; else the desk below takes it at once.
+    /// A piece of the proof waits where the port has its file, or others wait already; otherwise the desk below takes it at once.
     fn put_proof(&mut self, piece: &[u8]) -> Result<usize, Failed>
         requires { 0 < length piece.now }
         ensures { Puts Proof piece.now (spooled D.outside self.old) result (spooled D.outside self.new) }

@@ -51,7 +51,7 @@ triple_at n few =
     let same : 0 + n ≡ n = omega arith in
     ap (λ t. get_or t n []) are_rows ∙ row_at 1000 0 n few ∙ ap entry same ∙ ap (λ k. k ∷ three_digits n) (count_is n few)
 
--- ---- three digits are laid out, behind a place that they change too
+-- ---- three digits are laid out, after a place that they change too
 pub three_put : (n end k : ℕ) (xs ys : List ℕ) → 4 ≤ end → end ≤ length xs → k ≡ end - (end - 4) → ys ≡ length (decimal n) ∷ three_digits n
     → drop (end - 3) (take (end - 4) xs ++ (ys ++ drop k (drop (end - 4) xs))) ≡ three_digits n ++ drop end xs
 three_put n end k xs ys room within four is =
@@ -76,7 +76,7 @@ last_three n low high =
 pub three_more : (n : ℕ) → 1000 ≤ n → n < 2 ^ 64 → length (decimal n) ≡ length (decimal (n / 1000)) + 3
 three_more n low high = ap length (last_three n low high) ∙ length-append (decimal (n / 1000)) (three_digits (n % 1000))
 
--- ---- three digits are a number's text behind the zeros in front of it
+-- ---- three digits are a number's text after the zeros in front of it
 
 module _ (n end : ℕ) (s rest : List ℕ) (room : 3 ≤ end) (laid : drop (end - 3) s ≡ three_digits n ++ rest) where
   behind : (k at : ℕ) → at ≡ end - 3 + k → drop at s ≡ drop k (three_digits n ++ rest)

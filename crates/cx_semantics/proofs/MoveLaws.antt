@@ -1,4 +1,4 @@
--- What stands under each id once ids were moved.
+-- What is under each id once ids were moved.
 use Rattle.std.proofs.Common.{◌≡◌, ◌≢◌, refl, sym, ap, ◌∙◌, subst, ℕ, Bool, true, false, cond, not, ◌||◌, eqb, eqb-true, eq-eqb, List, [], ◌∷◌, ◌++◌, map, fold, nat_eq, Option, Some, None, is_some, ◌⊎◌, inl, inr, true≢false}
 use Rattle.std.specs.List.{list_any}
 use Rattle.std.specs.Ordering.{nat_cmp, eq_by_cmp}
@@ -24,7 +24,7 @@ source [] k = None
 source (m ∷ moves) k = elim (source moves k) [ Some j ↦ Some j | None ↦ cond (nat_eq k m.to) (Some m.from) None ]
 
 module _ {V : Type 0} where
-  -- under some old id something stands
+  -- under some old id there is something
   abbrev pub AreThere : map_.FinMap nat_cmp V → List IdMove → Type 0
   AreThere contents [] = Unit {0}
   AreThere contents (m ∷ moves) = (is_some (map_.get contents m.from) ≡ true) × AreThere contents moves
@@ -62,7 +62,7 @@ module _ {V : Type 0} where
       at true false = refl
       at false b = refl
 
-  -- under each id stands what stood under its source, or what stood there, if that was not taken out
+  -- under each id is what was under its source, or what was there, if that was not taken out
   pub get-moved : (contents : map_.FinMap nat_cmp V) (moves : List IdMove) (k : ℕ) → AreThere contents moves
       → map_.get (moved contents moves) k ≡ from_source contents (cond (list_any (nat_eq k) (old_ids moves)) None (map_.get contents k)) (source moves k)
   get-moved contents moves k h = get-put_moved contents moves (without_ids contents (old_ids moves)) k h ∙ ap (λ o. from_source contents o (source moves k)) (get-without (old_ids moves) contents k)

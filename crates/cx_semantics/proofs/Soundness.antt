@@ -307,7 +307,7 @@ put_is_met v table n lits m =
     itself : (n : ℕ) → eq_by_cmp nat_cmp n n ≡ true
     itself n = Rattle.std.specs.Cmp.unsigned_tied n n ∙ Rattle.std.proofs.Common.eq-eqb n n refl
 
--- no values under which the assumptions are true meet what stands behind a step that ends
+-- no values under which the assumptions are true meet what is left after a step that ends
 no_ending : (v : List Bool) (cs : List Constraint) (table : Table) (n : ℕ) (lits : List Literal) → list_all (literal_true v) (assumptions_of cs) ≡ true → is_ending cs lits ≡ true → AllMet (clause_met v) (map_.insert table n lits) → ⊥
 no_ending v cs table n lits a e m = true≢false (sym (put_is_met v table n lits m) ∙ ending_is_missed v cs lits a e)
 

@@ -126,7 +126,7 @@ abbrev pub KeepsFormula : Problem → Table → Type 0
 KeepsFormula formula table = (clause : List Literal) → IsTrue (list_any (same_literals clause) (clauses_of formula.constraints))
     → ((inner : List Literal) × IsLive table inner × IsTrue (is_inside inner clause)) ⊎ IsTrue (is_tautology clause)
 
--- At a mark the last one's clause stands, the formula's clauses are kept, and no clause or sum of an earlier stretch is left.
+-- At a mark the last one's clause is there, the formula's clauses are kept, and no clause or sum of an earlier stretch is left.
 pub record MarkFits (formula : Problem) (m : Moment) : Type 0 where
   pub served : IsFalse m.awaits
   pub kept : KeepsFormula formula m.tables.clauses

@@ -23,7 +23,7 @@ moved_id [] n = n
 moved_id (m ∷ moves) n = elim (nat_eq n m.from) [ true ↦ m.to | false ↦ moved_id moves n ]
 
 module _ {V : Type 0} where
-  -- what stands under the ids is taken out
+  -- what is under the ids is taken out
   abbrev pub without_ids : map_.FinMap nat_cmp V → List ℕ → map_.FinMap nat_cmp V
   without_ids contents ids = fold map_.remove contents ids
 

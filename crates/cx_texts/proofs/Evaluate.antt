@@ -100,7 +100,7 @@ module _ {S : Type 0} (g : Grammar S) (all : Forms g) where
     stops = stops_by _ _ h;
   }
 
-  -- behind the first n words the next one is the first that does not fit, or whose magnitude alone does not
+  -- after the first n words the next one is the first that does not fit, or whose magnitude alone does not
   pub bad_here : (n : ℕ) (placed : List Placed) (b : Placed) (rest : List Placed) → placed ≡ take n placed ++ b ∷ rest
       → begins_test (words (take n placed)) ≡ true → step_test (words (take n placed)) ≡ false → within_test (take n placed) ≡ true
       → begins_test (words (take n placed) ++ b.word ∷ []) ≡ false → FirstBad g placed b.place

@@ -1,4 +1,4 @@
--- A few digits, integers and runs at the front of a text.
+-- A few digits, integers and runs at the start of a text.
 use Rattle.std.proofs.Common.{◌≡◌, sym, ap, ◌∙◌, subst, ℕ, suc, ◌+◌, ◌^◌, ◌<◌, ◌≤◌, pos, neg_ℤ, Bool, true, false, List, [], ◌∷◌, length, take, drop, get_or, Some, arith, true≢false, length-take, eqb-true}
 use Rattle.std.specs.List.{list_all}
 use Rattle.std.specs.Str.Parse.{digits_value}
@@ -12,7 +12,7 @@ use Rattle.cx_texts.specs.LiteralTokens.{begins_with_minus}
 use Rattle.cx_texts.proofs.DigitLaws.{digits_no_blank, all_digits_of, integer_digits, integer_minus}
 use mir.Val.{bool_byte}
 
--- so many digits make a number below this power of ten
+-- this many digits make a number below this power of ten
 pub few_digits : (text : List ℕ) (len value most : ℕ) → len ≤ most → len ≤ length text → list_all is_digit (take len text) ≡ true → value ≡ digits_value 10 (take len text) → value < 10 ^ most
 few_digits text len value most few l h v =
     let size : length (take len text) ≡ len = omega (arith, length-take len text) in
@@ -22,7 +22,7 @@ few_digits text len value most few l h v =
     let power : 10 ^ length (take len text) ≤ 10 ^ most = pow-le-pow_right {n = 10} least {i = length (take len text)} {j = most} fits in
     omega arith
 
--- ---- integers at the front of a text
+-- ---- integers at the start of a text
 
 front_length : (text : List ℕ) (len : ℕ) → len ≤ length text → length (take len text) ≡ len
 front_length text len h = omega (arith, length-take len text)
@@ -58,6 +58,6 @@ pub bool_byte_small : (b : Bool) → bool_byte b ≤ 1
 bool_byte_small true = omega arith
 bool_byte_small false = omega arith
 
--- a run ends where a blank stands
+-- a run ends where a blank is
 pub ends_at_blank : (text : List ℕ) (k : ℕ) → k < length text → is_blank (get_or text k 0) ≡ true → EndsRun (drop k text)
 ends_at_blank text k l b = subst EndsRun (sym (drop_more text k 0 l)) b

@@ -1,4 +1,4 @@
--- The tokens of a text at a later place are its tokens, each so much later.
+-- The tokens of a text at a later place are its tokens, each this much later.
 use Rattle.std.proofs.Common.{◌≡◌, refl, sym, ap, ◌∙◌, ℕ, ◌+◌, Bool, true, false, cond, List, [], ◌∷◌, ◌++◌, map, filter_map, arith, ◌==◌}
 use Rattle.std.specs.List.{slice_split, onto_first, enumerate_from}
 use Rattle.std.proofs.lemmas.List.{map-append}

@@ -45,12 +45,12 @@ first_word s placed (q ∷ front) more p rest h split e =
     let n : p ≡ q = cc (m) in
     subst IsFirst (sym (ap (λ x. x.word) n ∙ w)) o.2
 
--- ---- behind a whole step
+-- ---- after a whole step
 
 abbrev pub log_rows : List (List Kind)
 log_rows = rows_of log_steps log_forms.forms
 
--- behind an added clause hints may follow
+-- after an added clause hints may follow
 abbrev pub maybe_hinted : List (List Kind)
 maybe_hinted = [] ∷ (a_mark 108 ∷ some_integers ∷ []) ∷ []
 
@@ -61,7 +61,7 @@ behind_step _ = [] ∷ []
 abbrev IsOver : LogStep → Type 0
 IsOver s = remaining log_rows (spelling log_steps s) ≡ behind_step s
 
--- behind the letter of moves the pairs may follow, or the letter of parities
+-- after the letter of moves the pairs may follow, or the letter of parities
 moves_over : (ms : List IdMove) → AllByRecursion (λ m. (0 < m.from) × (0 < m.to)) ms → remaining ((some_pairs ∷ []) ∷ (a_mark 120 ∷ some_pairs ∷ []) ∷ []) (spelled_list (flat_map both_ids ms) ++ []) ≡ [] ∷ []
 moves_over [] h = refl
 moves_over (m ∷ ms) h = one_pair m.from m.to h.0.0 h.0.1

@@ -1,4 +1,4 @@
--- A text in pieces: byte by byte, cut behind a blank, and from the place of a token on.
+-- A text in pieces: byte by byte, cut after a blank, and from the place of a token on.
 use Rattle.std.proofs.Common.{◌≡◌, refl, sym, ap, ◌∙◌, subst, ℕ, zero, suc, ◌+◌, ◌<◌, Bool, true, false, cond, List, [], ◌∷◌, ◌++◌, length, take, drop, get_or, arith, true≢false, eqb-true, append_assoc, length-append, ◌==◌}
 use Rattle.std.specs.List.{onto_first}
 use Rattle.std.proofs.lemmas.List.{drop_more}
@@ -152,7 +152,7 @@ ends_any : (d : Bool) (bs : List ℕ) → last_is_blank d bs ≡ true → EndsBl
 ends_any d [] h = refl
 ends_any d (b ∷ bs) h = h
 
--- a front that ends behind a blank
+-- a prefix that ends after a blank
 pub ends_behind : (text : List ℕ) (n : ℕ) → n < length text → is_blank (get_or text n 0) ≡ true → EndsBlank (take (suc n) text)
 ends_behind text n l h = go text n l h true
   where
@@ -161,9 +161,9 @@ ends_behind text n l h = go text n l h true
     go (b ∷ bs) zero l h d = h
     go (b ∷ bs) (suc n) l h d = go bs n (omega arith) h (is_blank b)
 
--- ---- cut behind a blank, and from a token on
+-- ---- cut after a blank, and from a token on
 
--- the bytes of a token stand in a kept line
+-- the bytes of a token are in a kept line
 behind_run : (run rest : List ℕ) → NoBlank run → line_behind Kept (run ++ rest) ≡ line_behind Kept rest
 behind_run [] rest h = refl
 behind_run (b ∷ run) rest h = ap (λ x. line_behind (line_of (cond x (cond (b == 10) (in_line Start) (in_line Kept)) a_token)) (run ++ rest)) h.0 ∙ behind_run run rest h.1
@@ -182,13 +182,13 @@ drop_behind [] ys k = ap (λ n. drop n ys) (let e : 0 + k ≡ k = omega arith in
 drop_behind (x ∷ xs) ys k = ap (λ n. drop n ((x ∷ xs) ++ ys)) (let e : length (x ∷ xs) + k ≡ suc (length xs + k) = omega arith in e) ∙ drop_behind xs ys k
 
 module _ (rule : EndLines) where
-  -- the tokens of the front and then those of what follows
+  -- the tokens of the prefix and then those of what follows
   record Cut (s : LineState) (p : ℕ) (a b : List ℕ) : Type 0 where
     more : List Token
     cut : tokens_in_by rule s p (a ++ b) ≡ tokens_in_by rule s p a ++ more
     left : rule ≡ end_line.Kept → more ≡ tokens_in (line_behind s a) (p + length a) b
 
-  -- the same of the shorter texts
+  -- the shorter texts are cut so
   abbrev Cuts : ℕ → Type 0
   Cuts n = (s : LineState) (p : ℕ) (a b : List ℕ) → length a < n → EndsBlank a → Cut s p a b
 
@@ -251,7 +251,7 @@ module _ (rule : EndLines) where
   pub cut_behind_blank : (s : LineState) (p : ℕ) (a b : List ℕ) → EndsBlank a → (more : List Token) × (tokens_in_by rule s p (a ++ b) ≡ tokens_in_by rule s p a ++ more)
   cut_behind_blank s p a b e = let c = cut_at (suc (length a)) s p a b (omega arith) e in (c.more, c.cut)
 
-  -- the token stands so many bytes behind the place, and it and the others are what is left there
+  -- the token is this many bytes after the place, and it and the others are what is left there
   pub record StandsAt (p : ℕ) (text : List ℕ) (token : Token) (others : List Token) : Type 0 where
     pub behind : ℕ
     pub at : token.place ≡ p + behind
@@ -307,6 +307,6 @@ module _ (rule : EndLines) where
   pub left_from_token : (s : LineState) (p : ℕ) (text : List ℕ) (before : List Token) (token : Token) (others : List Token) → tokens_in_by rule s p text ≡ before ++ token ∷ others → StandsAt p text token others
   left_from_token s p text before token others e = stands (suc (length text)) s p text (omega arith) before token others e
 
--- where `%` lines are as any others, what follows the front is read from its end on
+-- where `%` lines are like any others, what follows the prefix is read from its end on
 pub left_behind_blank : (s : LineState) (p : ℕ) (a b : List ℕ) → EndsBlank a → tokens_in s p (a ++ b) ≡ tokens_in s p a ++ tokens_in (line_behind s a) (p + length a) b
 left_behind_blank s p a b e = let c = cut_at end_line.Kept (suc (length a)) s p a b (omega arith) e in c.cut ∙ ap (λ ts. tokens_in s p a ++ ts) (c.left refl)

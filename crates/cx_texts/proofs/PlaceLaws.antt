@@ -1,4 +1,4 @@
--- What stands at a place of a text, by its byte.
+-- What is at a place of a text, by its byte.
 use Rattle.std.proofs.Common.{◌≡◌, refl, sym, ap, ◌∙◌, ℕ, ◌+◌, ◌<◌, true, false, List, [], ◌∷◌, length, drop, get_or, ◌==◌}
 use Rattle.std.proofs.lemmas.List.{drop_more}
 use Rattle.cx_texts.specs.Tokens.{is_blank, tokens_from_by, tokens_within_by}

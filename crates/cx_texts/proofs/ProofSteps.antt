@@ -16,7 +16,7 @@ proof_rows = rows_of proof_steps proof_forms.forms
 abbrev IsOver : ProofStep → Type 0
 IsOver s = remaining proof_rows (spelling proof_steps s) ≡ [] ∷ []
 
--- behind a positive id the letter d may follow, or a list
+-- after a positive id the letter d may follow, or a list
 first_list : (lits : List ℤ) (ws : List Word) → AllByRecursion (λ z. z ≢ pos 0) lits
     → remaining ((some_integers ∷ some_integers ∷ []) ∷ (a_mark 100 ∷ some_ids ∷ []) ∷ []) (spelled_list lits ++ ws) ≡ remaining ((some_integers ∷ some_integers ∷ []) ∷ []) (spelled_list lits ++ ws)
 first_list [] ws h = refl

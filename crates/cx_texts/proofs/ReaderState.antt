@@ -9,7 +9,7 @@ use Rattle.cx_texts.proofs.Remaining.{remaining, remaining-push, after_word, beg
 use Rattle.cx_texts.proofs.Grammars.{proof_forms}
 use Rattle.cx_texts.proofs.ProofSteps.{proof_rows}
 
--- behind an id and a first literal both lists are still to come
+-- after an id and a first literal both lists are still to come
 pub in_literals : (n m : ℕ) (zs : List ℤ) → AllByRecursion (λ z. z ≢ pos 0) zs → remaining proof_rows (number (pos (suc n)) ∷ number (pos (suc m)) ∷ map number zs) ≡ (some_integers ∷ some_integers ∷ []) ∷ []
 unfolding proof_forms
 in_literals n m zs h = integers_stay zs (some_integers ∷ []) h

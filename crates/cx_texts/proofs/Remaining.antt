@@ -85,7 +85,7 @@ module _ {S : Type 0} (g : Grammar S) where
   pub begins_nowhere : (all : Forms g) (ws : List Word) → remaining (rows_of all.forms) ws ≡ [] → ¬ Begins g ws
   begins_nowhere all ws e = no_begin g all ws (sym (some_row all.forms ws) ∙ ap (λ r. not (is_none r)) e)
 
--- ---- behind fields
+-- ---- after fields
 
 -- a pair leaves its list open
 pair_passed : (a b : ℕ) (ks : List Kind) (ws : List Word) → 0 < a → 0 < b → remaining ((some_pairs ∷ ks) ∷ []) (number (pos a) ∷ number (pos b) ∷ ws) ≡ remaining ((some_pairs ∷ ks) ∷ []) ws
@@ -115,7 +115,7 @@ passed (integers (pos (suc n) ∷ zs)) ks ws h = passed (integers zs) ks ws h.1
 passed (integers (negsuc n ∷ zs)) ks ws h = passed (integers zs) ks ws h.1
 passed (pairs ms) ks ws h = pairs_passed ms ks ws h
 
--- behind the fields' spelling the kinds behind theirs may follow
+-- after the fields' spelling the kinds after theirs may follow
 pub all_passed : (fs : List Field) (ks : List Kind) → AllByRecursion IsProper fs → remaining ((map kind fs ++ ks) ∷ []) (flat_map spelled fs) ≡ ks ∷ []
 all_passed [] ks h = refl
 all_passed (f ∷ fs) ks h = passed f (map kind fs ++ ks) (flat_map spelled fs) h.0 ∙ all_passed fs ks h.1
@@ -132,7 +132,7 @@ integers_stay (pos zero ∷ zs) ks h = absurd (h.0 refl)
 integers_stay (pos (suc n) ∷ zs) ks h = integers_stay zs ks h.1
 integers_stay (negsuc n ∷ zs) ks h = integers_stay zs ks h.1
 
--- so do pairs
+-- pairs leave it open
 pub pairs_stay : (ms : List IdMove) (ks : List Kind) → AllByRecursion (λ m. (0 < m.from) × (0 < m.to)) ms → remaining ((some_pairs ∷ ks) ∷ []) (map number (flat_map both_ids ms)) ≡ (some_pairs ∷ ks) ∷ []
 pairs_stay [] ks h = refl
 pairs_stay (m ∷ ms) ks h = pair_passed m.from m.to ks (map number (flat_map both_ids ms)) h.0.0 h.0.1 ∙ pairs_stay ms ks h.1

@@ -108,7 +108,7 @@ push z (whole (f ∷ fs)) = whole (add z f ∷ fs)
 push z partial = partial
 push z bad = bad
 
--- the list of pairs behind an id with the pair of both in front
+-- the list of pairs after an id with the pair of both in front
 abbrev pub paired : ℕ → List Field → List Field
 paired n (id m ∷ pairs ms ∷ fs) = pairs (record { from = n; to = m } ∷ ms) ∷ fs
 paired n fs = fs
@@ -118,7 +118,7 @@ pair n (whole fs) = whole (paired n fs)
 pair n partial = partial
 pair n bad = bad
 
--- behind a word: where it ends its field the rest is parsed behind that, where it goes on with a list within it, and where it begins a pair behind one more id
+-- after a word: where it ends its field the rest is parsed after that, where it goes on with a list within it, and where it begins a pair after one more id
 abbrev pub onward : Parsed → Parsed → Parsed → Move → Parsed
 onward behind within second (closes f) = with_field f behind
 onward behind within second (stays z) = push z within
@@ -291,7 +291,7 @@ stayed k w ks ws z h partial ([], rest, c) = no_kinds k ks _ c
 stayed k w ks ws z h partial (f ∷ fs, rest, c) = (add z f ∷ fs, rest, stayed_whole k w ks (ws ++ rest) z h f fs c)
 stayed k w ks ws z h bad c = tt
 
--- behind the first of a pair
+-- after the first of a pair
 both_whole : (n : ℕ) (ks : List Kind) (ws : List Word) → 0 < n → (f g : Field) (fs : List Field) → kind f ≡ an_id → kind g ≡ some_pairs → Whole (an_id ∷ some_pairs ∷ ks) ws (f ∷ g ∷ fs) → Whole (some_pairs ∷ ks) (number (pos n) ∷ ws) (paired n (f ∷ g ∷ fs))
 both_whole n ks ws p (id m) (pairs ms) fs e h c =
     let are_ks : map kind fs ≡ ks = cc (c.kinds) in

@@ -5,7 +5,7 @@ use Rattle.std.proofs.lemmas.List.Elements.{recursion_from_All, All-from_get_or}
 use Rattle.std.specs.List.{AllByRecursion}
 use Rattle.cx_texts.specs.Tokens.{SkipsLine}
 
--- the part behind a place, as `&text[n..]` has it
+-- the part after a place, as `&text[n..]` has it
 pub part_behind : (text : List ℕ) (n : ℕ) → take (length text - n) (drop n text) ≡ drop n text
 part_behind text n = take_all (length text - n) (drop n text) (omega (arith, length-drop n text))
 

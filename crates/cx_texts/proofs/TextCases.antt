@@ -141,7 +141,7 @@ big_count = inl refl
 two_steps_text : List ℕ
 two_steps_text = codes "5 2 0 1 2 0\n6 0 5 3 4 0\nzzz\n"
 
--- two steps, and a token behind them that fits none
+-- two steps, and a token after them that fits none
 two_steps_read : ProofReads two_steps_text (proof.Clause 5 (pos 2 ∷ []) (pos 1 ∷ pos 2 ∷ []) ∷ proof.Clause 6 [] (pos 5 ∷ pos 3 ∷ pos 4 ∷ []) ∷ []) (bad_token 24)
 unfolding two_steps_text tokens proof_forms
 two_steps_read =

@@ -72,7 +72,7 @@ module _ (rule : EndLines) where
   blank_first n b [] h = blank_line n b [] [] h ∙ empty_line rule []
   blank_first n b (line ∷ lines) h = blank_line n b line lines h
 
-  -- within a line a blank is passed over, and behind a line feed the next line begins
+  -- within a line a blank is passed over, and after a line feed the next line begins
   pub within-blank : (n b : ℕ) (bs : List ℕ) → is_blank b ≡ true → (b == 10) ≡ false → tokens_within_by rule n (b ∷ bs) ≡ tokens_within_by rule (n + 1) bs
   within-blank n b bs h e = ap (with_first_by rule) (lines-byte n b bs e) ∙ go (lines_from (n + 1) bs)
     where
@@ -80,7 +80,7 @@ module _ (rule : EndLines) where
       go [] = ap (λ x. x ++ tokens_by rule []) (blank_tokens n b [] h) ∙ by-none rule
       go (line ∷ lines) = ap (λ x. x ++ tokens_by rule lines) (blank_tokens n b line h)
 
-  -- a line whose first byte that is no blank is not `c`, and does not end the text, is kept
+  -- a line whose first non-blank byte is not `c`, and does not end the text, is kept
   pub from-kept : (n b : ℕ) (bs : List ℕ) → is_blank b ≡ false → (b == 99) ≡ false → ((line : Line) → ends_text rule ((n, b) ∷ line) ≡ false) → tokens_from_by rule n (b ∷ bs) ≡ tokens_within_by rule n (b ∷ bs)
   from-kept n b bs h k goes = ap (tokens_by rule) line ∙ kept (lines_from (n + 1) bs) ∙ ap (with_first_by rule) (sym line)
     where
@@ -150,7 +150,7 @@ module _ (rule : EndLines) where
       go [] f = absurd (some_lines _ rest f)
       go (line ∷ ls) f = ap (λ ts. ts ++ tokens_by rule ls) (run_line n b run line h (rest_blank _ rest e line ls f))
 
-  -- behind a `c` at the beginning of a line the rest of the line is passed over
+  -- after a `c` at the beginning of a line the rest of the line is passed over
   pub from-skip : (n : ℕ) (text : List ℕ) (next : ℕ) (rest : List ℕ) → SkipsLine (n + 1) text next rest → tokens_from_by rule n (99 ∷ text) ≡ tokens_from_by rule next rest
   from-skip n text next rest (line, h, inl (e, f)) =
       ap (λ x. tokens_from_by rule n (99 ∷ x)) e ∙ ap (λ ls. tokens_by rule (onto_first (n, 99) ls)) (lines-last (n + 1) line h)
@@ -206,7 +206,7 @@ next_part rule text at len l begins high run ends =
     (subst (λ xs. NoBlank (take len xs)) behind run)
     (subst EndsRun (drop-drop len at text) ends_there)
 
--- ---- where `%` lines are as any others
+-- ---- where `%` lines are like any others
 
 pub tokens_within-blank : (n b : ℕ) (bs : List ℕ) → is_blank b ≡ true → (b == 10) ≡ false → tokens_within n (b ∷ bs) ≡ tokens_within (n + 1) bs
 tokens_within-blank = within-blank end_line.Kept

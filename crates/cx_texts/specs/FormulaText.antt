@@ -22,7 +22,7 @@ constraint_fields (Assume lits) = mark 97 ∷ integers (integers_of lits) ∷ []
 abbrev pub constraints : Grammar Constraint
 constraints = record { fields = constraint_fields; limit = MAX_VARIABLE }
 
--- The header is `p`, `cnf` and two runs of digits: the first number and the tokens behind, or the first offence.
+-- The header is `p`, `cnf` and two runs of digits: the first number and the tokens that follow, or the first offence.
 abbrev pub behind_count : ℕ → ℕ → List Token → Result (ℕ × List Token) Offence
 behind_count len v [] = Err (BadHeader len)
 behind_count len v (t ∷ body) = elim (natural t.text) [ Some c ↦ Ok (v, body) | None ↦ Err (BadHeader t.place) ]
@@ -39,7 +39,7 @@ abbrev pub header : ℕ → List Token → Result (ℕ × List Token) Offence
 header len [] = Err (NoHeader len)
 header len (t ∷ ts) = if bytes_eq t.text (codes "p") then behind_p len ts else Err (NoHeader t.place)
 
--- behind its header the text has these constraints and then this ending
+-- after its header the text has these constraints and then this ending
 pub record HasBody (text : List ℕ) (v : ℕ) (items : List Constraint) (ending : Ending) : Type 0 where
   pub body : List Token
   pub behind : header (length text) (formula_tokens text) ≡ Ok (v, body)

@@ -1,9 +1,9 @@
--- The token at the front of a text.
+-- The first token of a text.
 use Rattle.std.specs.Prelude.{◌≡◌, ℕ, ◌<◌, ◌≤◌, true, IsTrue, List, length, take, drop, slice_index}
 use Rattle.cx_texts.specs.Tokens.{is_blank, NoBlank, EndsRun}
 use Rattle.cx_texts.specs.declared.front.Front.{Front}
 
--- the run of bytes that are no blanks at the front, and what is said of it
+-- the run of non-blank bytes at the beginning, and what is said of it
 pub record IsFront {T : Type 0} (said : T → List ℕ → Type 0) (text : List ℕ) (t : Front T) : Type 0 where
   pub some : 0 < t.len
   pub high : t.len ≤ length text

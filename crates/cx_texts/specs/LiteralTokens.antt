@@ -10,7 +10,7 @@ IsInteger Zero z = z ≡ pos 0
 IsInteger (Literal l) z = (z ≡ integer_of l) × (1 ≤ l.variable) × (l.variable ≤ MAX_VARIABLE)
 IsInteger Above z = MAX_VARIABLE < nat_abs z
 
--- a minus stands first
+-- a minus comes first
 abbrev pub begins_with_minus : List ℕ → Bool
 begins_with_minus [] = false
 begins_with_minus (b ∷ bs) = b == 45

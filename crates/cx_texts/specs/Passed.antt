@@ -1,4 +1,4 @@
--- What stands at a place of a text, by a rule of `%` lines.
+-- What is at a place of a text, by a rule of `%` lines.
 use Rattle.std.specs.Prelude.{◌≡◌, ℕ, ◌<◌, ◌≤◌, false, List, [], length, drop, slice_index}
 use Rattle.cx_texts.specs.Tokens.{Token, is_blank, tokens_left_by, tokens_within_by}
 use Rattle.cx_texts.specs.declared.line_state.EndLines.{EndLines}
@@ -6,7 +6,7 @@ use Rattle.cx_texts.specs.declared.places.Place.{Place}
 use Rattle.cx_texts.specs.declared.places.Passed.{Passed}
 use Rattle.cx_texts.specs.declared.places.Passed.TheVariants.{To, Token as ABegin, End}
 
--- the tokens that are left behind a place
+-- the tokens that are left after a place
 abbrev pub left_at : EndLines → List ℕ → Place → List Token
 left_at rule text p = tokens_left_by rule p.in_line p.at (drop p.at text)
 

@@ -1,4 +1,4 @@
--- A text that is read in pieces: what its reader stands in between two bytes, and the tokens from there on.
+-- A text that is read in pieces: the kind of line that its reader is in between two bytes, and the tokens from there on.
 use Rattle.std.specs.Prelude.{◌≡◌, ℕ, Bool, true, List, [], ◌∷◌, if◌then◌else◌, ◌==◌}
 use Rattle.cx_texts.specs.Tokens.{Token, is_blank, lines_from, tokens_by, tokens_from_by, tokens_within_by}
 use Rattle.cx_texts.specs.declared.line_state.Behind.{Behind}
@@ -13,13 +13,13 @@ abbrev pub but_first_by : EndLines → List (List (ℕ × ℕ)) → List Token
 but_first_by rule [] = []
 but_first_by rule (line ∷ lines) = tokens_by rule lines
 
--- the tokens of what is left of a text at this place, where its reader stands in such a line
+-- the tokens of what is left of a text at this place, where its reader is in such a line
 abbrev pub tokens_in_by : EndLines → LineState → ℕ → List ℕ → List Token
 tokens_in_by rule Start place text = tokens_from_by rule place text
 tokens_in_by rule Kept place text = tokens_within_by rule place text
 tokens_in_by rule Comment place text = but_first_by rule (lines_from place text)
 
--- the same where `%` lines are as any others
+-- these tokens, where `%` lines are like any others
 abbrev pub tokens_in : LineState → ℕ → List ℕ → List Token
 tokens_in line place text = tokens_in_by end_line.Kept line place text
 
@@ -34,7 +34,7 @@ behind_byte rule Start b = if is_blank b then Line Start else if b == 99 then Li
 behind_byte rule Kept b = if is_blank b then if b == 10 then Line Start else Line Kept else AToken
 behind_byte rule Comment b = if b == 10 then Line Start else Line Comment
 
--- what the reader stands in behind a byte, and behind these bytes, where `%` lines are as any others: a token stands in a kept line
+-- the kind of line that the reader is in after a byte, and after these bytes, where `%` lines are like any others: a token is in a kept line
 abbrev pub line_of : Behind → LineState
 line_of (Line line) = line
 line_of AToken = Kept

@@ -32,7 +32,7 @@ pub fn small_integer(magnitude: u32, negative: bool) -> Integer
     }
 }
 
-/// Whether a minus stands first.
+/// Whether a minus comes first.
 #[inline(always)]
 pub fn has_minus(token: &[u8]) -> bool
     ensures { result ≡ begins_with_minus token.now }
@@ -40,7 +40,7 @@ pub fn has_minus(token: &[u8]) -> bool
     !token.is_empty() && token[0] == b'-'
 }
 
-/// The integer of a sign and the digits behind it.
+/// The integer of a sign and the digits that follow.
 fn signed_integer(digits: &[u8], negative: bool) -> Option<Integer>
     ensures { MatchOption result (natural digits.now ≡ None) (λ i. (n : ℕ) × IsInteger i (signed negative n) × (natural digits.now ≡ Some n)) }
 {

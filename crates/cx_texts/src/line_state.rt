@@ -1,10 +1,10 @@
-//! What a reader of lines stands in between two bytes.
+//! The kind of line that a reader is in between two bytes.
 ghost use Rattle.std.specs.Prelude.{◌≡◌};
 ghost use Rattle.cx_texts.specs.Pieces.{behind_byte, behind_percent};
 
 use crate::token_reader::is_blank_byte;
 
-/// What a text that is read in pieces stands in between two of its bytes.
+/// The kind of line that the reader of a text in pieces is in between two bytes.
 #[derive(Clone, Copy, Drop)]
 pub enum LineState {
     /// A line of which only blanks were read: it may become a comment.
@@ -15,10 +15,10 @@ pub enum LineState {
     Comment,
 }
 
-/// The rule of `%` lines, whose first byte that is no blank is `%`.
+/// The rule of `%` lines, whose first non-blank byte is `%`.
 #[derive(Clone, Copy, Drop)]
 pub enum EndLines {
-    /// They are kept as any others.
+    /// They are kept like any others.
     Kept,
     /// The first of them ends the text.
     End,
@@ -27,11 +27,11 @@ pub enum EndLines {
 /// What a byte does to a reader of lines.
 #[derive(Clone, Copy, Drop)]
 pub(crate) enum Behind {
-    /// It stands in such a line.
+    /// It is in such a line.
     Line(LineState),
     /// A token begins with the byte.
     Token,
-    /// The text ends: what is behind the byte has no meaning.
+    /// The text ends: what follows the byte has no meaning.
     End,
 }
 
@@ -45,7 +45,7 @@ fn behind_percent(end_lines: EndLines) -> Behind
     }
 }
 
-/// What stands behind a byte.
+/// Where the reader is after a byte.
 pub(crate) fn behind_byte(line: LineState, byte: u8, end_lines: EndLines) -> Behind
     ensures { result ≡ behind_byte end_lines line byte }
 {

@@ -8,7 +8,7 @@ ghost use Rattle.cx_texts.specs.declared.line_state.LineState.TheVariants.{Kept}
 use crate::line_state::{Behind, EndLines, LineState, behind_byte};
 use crate::token_reader::is_blank_byte;
 
-/// A place in a piece of a text, and what it stands in; whether the text ends there by a `%` line.
+/// A place in a piece of a text, and the kind of line there; whether the text ends there by a `%` line.
 #[derive(Clone, Copy, Drop)]
 pub struct PlaceIn {
     pub at: usize,
@@ -16,7 +16,7 @@ pub struct PlaceIn {
     pub is_end: bool,
 }
 
-/// Passes over the blanks and comments at the front of a piece, up to a token, a `%` line that ends the text, or the end of the piece.
+/// Passes over the blanks and comments at the beginning of a piece, up to a token, a `%` line that ends the text, or the end of the piece.
 ///
 /// Whatever follows the piece, no token is lost.
 pub fn pass_blanks(piece: &[u8], line: LineState, end_lines: EndLines) -> PlaceIn
@@ -57,7 +57,7 @@ pub fn pass_blanks(piece: &[u8], line: LineState, end_lines: EndLines) -> PlaceI
     }
 }
 
-/// What a reader of lines stands in behind these bytes, where `%` lines are kept.
+/// The kind of line that a reader is in after these bytes, where `%` lines are kept.
 pub fn line_behind(line: LineState, bytes: &[u8]) -> LineState
     ensures { result ≡ line_behind line bytes.now }
 {
@@ -71,7 +71,7 @@ pub fn line_behind(line: LineState, bytes: &[u8]) -> LineState
     line
 }
 
-/// The length of the longest front of a piece that ends with a blank, so that no token crosses its end.
+/// The length of the longest prefix of a piece that ends with a blank, so that no token crosses its end.
 pub fn whole_front(piece: &[u8]) -> usize
     ensures high { result ≤ length piece.now }
     ensures blank { EndsBlank (take result piece.now) }

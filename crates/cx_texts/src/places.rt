@@ -11,17 +11,17 @@ use memchr::memchr;
 
 /// A place in a text, and whether it lies within a kept line.
 ///
-/// Where it does not, only blanks stand between it and the beginning of its line.
+/// Where it does not, only blanks are between it and the beginning of its line.
 #[derive(Clone, Copy, Drop)]
 pub(crate) struct Place {
     pub at: usize,
     pub in_line: bool,
 }
 
-/// What stands at a place.
+/// What is at a place.
 #[derive(Clone, Copy, Drop)]
 pub(crate) enum Passed {
-    /// A blank or a comment line, and the place behind it.
+    /// A blank or a comment line, and the place after it.
     To(Place),
     /// A token begins.
     Token,
@@ -29,7 +29,7 @@ pub(crate) enum Passed {
     End,
 }
 
-/// The length of the run of bytes that are no blanks, at the front.
+/// The length of the run of non-blank bytes at the beginning.
 pub fn run_len(text: &[u8]) -> usize
     ensures high { result ≤ length text.now }
     ensures run { NoBlank (take result text.now) }
@@ -42,7 +42,7 @@ pub fn run_len(text: &[u8]) -> usize
     len
 }
 
-/// The place behind the line that goes on here.
+/// The place after the line that goes on here.
 // A long way off the path of tokens, which is to stay short.
 #[inline(never)]
 fn line_end(text: &[u8], at: usize) -> usize
@@ -57,7 +57,7 @@ fn line_end(text: &[u8], at: usize) -> usize
     }
 }
 
-/// Passes over a blank or a comment line, if one stands here.
+/// Passes over a blank or a comment line, if one is here.
 #[tactic(auto, using(crate::proofs::PlaceLaws::feed_passed, crate::proofs::PlaceLaws::blank_passed, crate::proofs::PlaceLaws::first_blank_passed, crate::proofs::PlaceLaws::token_first, crate::proofs::PlaceLaws::percent_kept, crate::proofs::PlaceLaws::percent_ends))]
 #[inline(always)]
 fn pass(text: &[u8], from: Place, end_lines: EndLines) -> Passed
@@ -106,7 +106,7 @@ pub(crate) fn next_begin(text: &[u8], from: Place, end_lines: EndLines) -> Optio
     None
 }
 
-/// The place where the next token begins behind a place within a kept line, or one where a line may begin; or the text's length.
+/// Where the next token begins after a place within a kept line, or where a line may begin; or the text's length.
 #[inline(always)]
 pub fn begin_of_next(text: &[u8], at: usize, in_line: bool) -> usize
     requires { at ≤ length text.now }
@@ -120,7 +120,7 @@ pub fn begin_of_next(text: &[u8], at: usize, in_line: bool) -> usize
     }
 }
 
-/// The same behind a token that ends here: mostly one space stands in front of the next one.
+/// Where the next token begins after one that ends here: mostly one space is in front of it.
 #[tactic(auto, using(crate::proofs::PlaceLaws::blank_passed))]
 #[inline(always)]
 pub fn begin_behind(text: &[u8], end: usize) -> usize
@@ -136,7 +136,7 @@ pub fn begin_behind(text: &[u8], end: usize) -> usize
     begin_of_next(text, end, true)
 }
 
-/// The place behind a token that ends here, or behind the blank that follows it, where one is known to.
+/// The place after a token that ends here, or after the blank that follows it, where one is known to.
 #[tactic(auto, using(crate::proofs::PlaceLaws::feed_passed, crate::proofs::PlaceLaws::blank_passed))]
 #[inline(always)]
 pub(crate) fn behind_token(text: &[u8], end: usize, blank_follows: bool) -> Place

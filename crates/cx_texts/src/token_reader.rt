@@ -7,7 +7,7 @@ use crate::line_state::EndLines;
 use crate::places::{Place, behind_token, next_begin, run_len};
 use std::marker::Model;
 
-/// A run of bytes that are no blanks, and the place of its first byte.
+/// A run of non-blank bytes, and the place of its first byte.
 #[derive(Clone, Copy, Drop)]
 pub struct TokenAt<'a> {
     pub place: usize,

@@ -62,7 +62,7 @@ put_paired vars cells places count v from w other entry k lv hv le ev ef eo ew =
           (λ (nf : i ≢ from). subst (λ x. x ≤ vars) (sym (c_o i ne nf)) (k.high i h)) (cases_eq i from)) (cases_eq i count);
     }
 
--- an open variable's place is behind the assigned ones
+-- an open variable's place is after the assigned ones
 pub open_place : (vars count v : ℕ) (cells : List Entry) (places : List ℕ) → ArePaired vars cells places → count ≤ vars → 1 ≤ v → v ≤ vars → IsOpenIn (take count cells) v → count ≤ get_or places v 0
 open_place vars count v cells places k few lv hv open_v =
     ⊎_elim (λ (h : get_or places v 0 < count).

@@ -68,7 +68,7 @@ module _ (vars level len : ℕ) (cells : List Entry) (places : List ℕ) (truths
   cells_high i h = omega (arith, ap (λ (x : Entry). x.literal.variable) (same_at len i k.whole cells k.begins h), k.is_whole.paired.high i (omega (arith, k.is_whole.short)), k.room)
 
   -- ---- places
-  -- a false literal's negation stands at its variable's place
+  -- a false literal's negation is at its variable's place
   pub false_place : (l : Literal) → IsFalseIn (take len cells) l → (get_or places l.variable 0 < len) × ((entry_at (take len cells) (get_or places l.variable 0)).literal ≡ negate l)
   false_place l w =
       let n = long in

@@ -17,7 +17,7 @@ pub record KeepsEntries (f : Entry → Entry) : Type 0 where
   pub decided : (e : Entry) → e.reason ≡ Decision → (f e).reason ≡ Decision
   pub undecided : (e : Entry) → 0 < e.level → (f e).reason ≡ Decision → e.reason ≡ Decision
 
--- the same literals and levels, and above level 0 the same decisions
+-- both have the same literals and levels, and above level 0 the same decisions
 record AreAlike (old new : List Entry) : Type 0 where
   size : length new ≡ length old
   literals : (i : ℕ) → (entry_at new i).literal ≡ (entry_at old i).literal

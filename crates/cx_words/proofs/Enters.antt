@@ -1,4 +1,4 @@
--- Behind a command's name all words are the command's.
+-- After a command's name all words are the command's.
 use Rattle.std.proofs.Common.{◌≡◌, ◌∙◌, ℕ, List, [], ◌∷◌, ◌++◌, refl, Some, false, true, fold, find, ap, sym, append-nil, append_assoc}
 use Rattle.clap.specs.Walk.{Held, Names, Rule, Walk, Waiting, walk, settled, walked, walk_from, idle, nothing_held, rows_after, stop_after, answers_to, finished}
 use Rattle.clap.specs.Simple.{App, Shape, names_of, label_of, entered}

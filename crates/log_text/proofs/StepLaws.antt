@@ -56,7 +56,7 @@ after_r : remaining log_rows (letter 114 ∷ []) ≡ (some_pairs ∷ []) ∷ (a_
 unfolding log_forms
 after_r = refl
 
--- behind an added clause's letter and id
+-- after an added clause's letter and id
 abbrev listed : List (List Kind)
 listed = (some_integers ∷ []) ∷ (some_integers ∷ a_mark 108 ∷ some_integers ∷ []) ∷ []
 
@@ -133,7 +133,7 @@ pub no_letter : (c size : ℕ) (a : List Placed) → None ≡ seen_head a → He
 no_letter c size [] e = (refl, refl)
 no_letter c size (p ∷ a) e = cc
 
--- ---- behind a whole step
+-- ---- after a whole step
 
 nothing_behind : (s : LogStep) (p : Placed) (rest : List Placed) → StandsAlone s (p ∷ rest) → flat_map (after_word p.word) (behind_step s) ≡ []
 nothing_behind (log.Clause n lits) p rest h = none_after p.word ((a_mark 108 ∷ some_integers ∷ []) ∷ []) (head_refuses 108 (p ∷ rest) h p rest refl, tt)

@@ -83,7 +83,7 @@ pub begun_log : (b : Bytes) (events : List LogEvent) → begun_line [] b ≡ [] 
 begun_log b [] e h = ap (begun_line []) (append-nil b) ∙ e
 begun_log b (s ∷ events) e h = ap (begun_line []) (sym (append_assoc b (event_line s) (printed_log events))) ∙ begun_log (b ++ event_line s) events (event_ends b s e h.0) h.1
 
--- a front of an event's line behind whole lines is the line that is begun
+-- a prefix of an event's line after whole lines is the line that is begun
 pub begun_front : (b : Bytes) (s : LogEvent) (k : ℕ) → begun_line [] b ≡ [] → HasText s → k < length (event_line s) → begun_line [] (b ++ take k (event_line s)) ≡ take k (event_line s)
 begun_front b s k e h low =
     let l : length (event_line s) ≡ length (words_text s) + 1 = length-append (words_text s) (10 ∷ []) in

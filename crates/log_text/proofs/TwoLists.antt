@@ -40,7 +40,7 @@ closed_fits : (w : Word) (row : List Kind) (more : List (List Kind)) (ws : List 
 closed_fits w row more [] h = cc
 closed_fits w row more (u ∷ ws) h = none_fits w row more ws h
 
--- the same where a word fits
+-- both go on with it where a word fits
 both_fit : (ks js : List Kind) (w : Word) (row : List Kind) (more : List (List Kind)) (ws : List Word) → flat_map (after_word w) (remaining one ws) ≡ row ∷ more → (remaining one ws ≡ one) × (remaining (two ks js) ws ≡ two ks js)
 both_fit ks js w row more [] h = (refl, refl)
 both_fit ks js w row more (number (pos zero) ∷ ws) h = absurd (closed_fits w row more ws h)

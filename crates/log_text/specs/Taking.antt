@@ -19,14 +19,14 @@ letter_of plain.Original = 111
 letter_of plain.Delete = 100
 letter_of plain.Final = 102
 
--- an id and literals, behind the letter x where they are of a parity
+-- an id and literals, after the letter x where they are of a parity
 abbrev pub listed_fields : Bool → ℕ → List ℤ → List Field
 listed_fields of_parity n lits = cond of_parity (mark 120 ∷ id n ∷ integers lits ∷ []) (id n ∷ integers lits ∷ [])
 
 abbrev pub listed_rows : List (List Kind)
 listed_rows = (an_id ∷ some_integers ∷ []) ∷ (a_mark 120 ∷ an_id ∷ some_integers ∷ []) ∷ []
 
--- behind a clause without hints no letter l follows
+-- after a clause without hints no letter l follows
 abbrev pub StandsAlone : LogStep → List Placed → Type 0
 StandsAlone (Clause n lits) rest = is_head_letter 108 rest ≡ false
 StandsAlone _ rest = ⊤

@@ -27,7 +27,7 @@ told_events text = flat_map events_read (whole_lines [] text)
 abbrev pub events_told : Outside → Option (List LogEvent)
 events_told o = Some (told_events o.written.proof)
 
--- behind whole lines stands a front of the event's line that is not all of it
+-- after whole lines comes a proper prefix of the event's line
 abbrev pub TornOn : LogEvent → Outside → Type 0
 TornOn event o = HasText event × ((before : Bytes) × (k : ℕ) × (begun_line [] before ≡ []) × (k < length (event_line event)) × (o.written.proof ≡ before ++ take k (event_line event)))
 
@@ -37,7 +37,7 @@ pub record Prints (old new : Outside) : Type 0 where
   pub texts : AllByRecursion HasText events
   pub moved : new ≡ gained Proof (printed_log events) old
 
--- and then a front of one more line that is not all of it, and a fault of writing
+-- and then a proper prefix of one more line, and a fault of writing
 pub record Tears (old new : Outside) : Type 0 where
   pub events : List LogEvent
   pub texts : AllByRecursion HasText events

@@ -14,7 +14,7 @@ use std::alloc::Global;
 use std::marker::Model;
 use step_text::{Sink, SinkFault};
 
-/// A sink that keeps the list of its events. It never fails but for want of memory.
+/// A sink that keeps the list of its events. It fails only where memory runs out.
 #[derive(Drop)]
 pub struct ListLog {
     events: Vec<LogEvent>,
@@ -62,7 +62,7 @@ impl ListLog {
         LogList::of(self.events)
     }
 
-    /// Puts an event behind the others.
+    /// Adds an event.
     fn push(&mut self, event: LogEvent) -> Result<(), SinkFault>
         requires { HasText event }
         ensures told { OnOk result (self.new ≡ self.old ++ event ∷ []) }

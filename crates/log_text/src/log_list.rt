@@ -33,7 +33,7 @@ impl Model for LogList {
     ghost invariant = { λ l. (into_iter_len l.events ≡ length (into_iter_items l.events)) × (l.given + length (steps_of (into_iter_items l.events)) < 2 ^ 62) };
 }
 
-/// The next step, behind the marks before it.
+/// The next step, after the marks before it.
 fn next_of(events: &mut IntoIter<LogEvent>) -> Option<LogStep>
     requires len { into_iter_len events.old ≡ length (into_iter_items events.old) }
     ensures len { into_iter_len events.new ≡ length (into_iter_items events.new) }

@@ -13,7 +13,7 @@ use cx_base::{IdMove, LogEvent, LogStep};
 use cx_desk::{Desk, Failed, Port, put_all};
 use step_text::pieces::{put_head, put_id, put_ids, put_integers, put_moves};
 
-/// An id and literals behind a text, as the end of a line.
+/// An id and literals after a text, as the end of a line.
 fn put_plain<D: Desk>(
     desk: &mut D,
     port: Port,
@@ -26,7 +26,7 @@ fn put_plain<D: Desk>(
     put_head(desk, port, before, name, literals, b"\n")
 }
 
-/// An id, literals and hints behind a text, as the end of a line.
+/// An id, literals and hints after a text, as the end of a line.
 fn put_with_hints<D: Desk>(
     desk: &mut D,
     port: Port,
@@ -41,7 +41,7 @@ fn put_with_hints<D: Desk>(
     put_integers(desk, port, hints, b"\n")
 }
 
-/// An id, a parity's literals and the ids of sources behind a text, as the end of a line.
+/// An id, a parity's literals and the ids of sources after a text, as the end of a line.
 fn put_with_sources<D: Desk>(
     desk: &mut D,
     port: Port,
@@ -56,7 +56,7 @@ fn put_with_sources<D: Desk>(
     put_ids(desk, port, sources)
 }
 
-/// An id, literals and the id of one source behind a text, as the end of a line.
+/// An id, literals and the id of one source after a text, as the end of a line.
 fn put_with_source<D: Desk>(
     desk: &mut D,
     port: Port,
@@ -71,7 +71,7 @@ fn put_with_source<D: Desk>(
     put_id(desk, port, b" ", source, b" 0\n")
 }
 
-/// Moves of ids behind a text, as the end of a line.
+/// Moves of ids after a text, as the end of a line.
 fn put_move_line<D: Desk>(
     desk: &mut D,
     port: Port,
@@ -100,7 +100,7 @@ fn put_parity_moves<D: Desk>(desk: &mut D, port: Port, moves: &[IdMove]) -> Resu
 
 /// Writes the line of a step: its words parted by one space, and a line feed. It takes no memory.
 ///
-/// It fails only where the desk counted a fault of the port; then the port gained a front of the line.
+/// It fails only where the desk counted a fault of the port; then the port gained a prefix of the line.
 pub fn put_log_step<D: Desk>(desk: &mut D, port: Port, step: &LogStep) -> Result<(), Failed>
     requires { HasText (Step step.now) }
     ensures { PutsAll port (printed_line (spelling log_steps step.now)) (D.outside desk.old) result (D.outside desk.new) }
@@ -166,7 +166,7 @@ pub(crate) fn put_event<D: Desk>(desk: &mut D, port: Port, event: &LogEvent) -> 
 /// line `c conflict K`. It takes no memory.
 ///
 /// What it writes is read as the log's events (`printed_logs_read` of cx_texts). It fails only
-/// where the desk counted a fault of the port; then the port gained a front of the lines.
+/// where the desk counted a fault of the port; then the port gained a prefix of the lines.
 pub fn put_log<D: Desk>(desk: &mut D, port: Port, log: &ListLog) -> Result<(), Failed>
     ensures { PutsAll port (printed_log log.now) (D.outside desk.old) result (D.outside desk.new) }
 {

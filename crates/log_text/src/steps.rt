@@ -58,7 +58,7 @@ fn take_sourced(
     })
 }
 
-/// An id, literals, the letter l and one id with the zero behind it.
+/// An id, literals, the letter l and one id with the zero after it.
 fn take_implied(
     spare: &mut SpareLists,
     tokens: &mut TokensAhead,
@@ -77,7 +77,7 @@ fn take_implied(
     })
 }
 
-/// An id and literals, of a parity where the letter x stands in front.
+/// An id and literals, of a parity where the letter x is in front.
 fn take_listed(
     spare: &mut SpareLists,
     tokens: &mut TokensAhead,
@@ -101,7 +101,7 @@ fn take_listed(
     }
 }
 
-/// A step that has literals alone, behind its letter.
+/// A step that has literals alone, after its letter.
 fn take_plain(
     spare: &mut SpareLists,
     tokens: &mut TokensAhead,
@@ -116,7 +116,7 @@ fn take_plain(
     Ok(plain_step(plain, listed))
 }
 
-/// An added clause or parity. The letter l behind the literals of a clause belongs to it.
+/// An added clause or parity. The letter l after the literals of a clause belongs to it.
 fn take_added(
     spare: &mut SpareLists,
     tokens: &mut TokensAhead,
@@ -238,7 +238,7 @@ impl StepGrammar for LogGrammar {
         take_step(spare, tokens, size)
     }
 
-    // behind a clause its hints may follow
+    // after a clause its hints may follow
     fn is_closed(step: &LogStep) -> bool {
         !matches!(step, LogStep::Clause(_, _))
     }

@@ -30,7 +30,7 @@ starts : (n : ℕ) (rest : List ℕ) → EndsRun rest → StartsBlank (enumerate
 starts n [] h = tt
 starts n (b ∷ rest) h = h
 
--- ---- a run, and a line, at the front
+-- ---- a run, and a line, at the start
 
 record RunOf (l : List ℕ) : Type 0 where
   run : List ℕ

@@ -22,7 +22,7 @@ use Rattle.model_out.proofs.Puts.{text_is}
 use Rattle.model_out.proofs.SettlingLaws.{answer_of_scan}
 use Rattle.model_out.proofs.TurnLaws.{scan_integer}
 
--- ---- pieces, each behind a line feed or a space
+-- ---- pieces, each after a line feed or a space
 
 abbrev Item : Type 0
 Item = Bool × List ℕ

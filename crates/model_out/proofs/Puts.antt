@@ -38,7 +38,7 @@ pub adds_more : {T E : Type 0} (a b : Bytes) (old mid new : Outside) (u v w : By
 adds_more a b old mid new u v w (Ok x) h k = takes_more a b old mid new u v w h k
 adds_more a b old mid new u v w (Err x) h k = takes_then_fails a b old mid new u v h k
 
--- what waited is written, and a piece behind it
+-- what waited is written, and a piece after it
 pub adds_written : {T E : Type 0} (piece : Bytes) (old mid new : Outside) (u : Bytes) (r : Result T E) → mid ≡ gained Answer u old → PutsAll Answer piece mid r new → Adds piece old u r new []
 adds_written piece old mid new u (Ok x) e h = (u ++ piece, h ∙ ap (gained Answer piece) e ∙ gained-twice Answer u piece old, append-nil (u ++ piece))
 adds_written piece old mid new u (Err x) e h = then_fails u piece old mid new e h

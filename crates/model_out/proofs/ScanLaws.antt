@@ -5,7 +5,7 @@ use Rattle.model_out.specs.LineTokens.{LineToken}
 use Rattle.model_out.specs.Answers.{Part, mark, number, strange, part_of, GoesOn, AllGoOn, onto_numbers, numbers, FirstBad, at_strange, behind_zero, at_end}
 use Rattle.model_out.specs.Reading.{whole, bad, scan_end, at_part, scan}
 
--- the body ends with the first zero, behind integers that come behind these
+-- the body ends with the first zero, after integers that come after these
 pub record Ended (body : List LineToken) (lits all : List ℤ) : Type 0 where
   pub front : List LineToken
   pub last : LineToken

@@ -72,7 +72,7 @@ impl Model for Mentions {
 }
 
 impl Mentions {
-    /// So many variables, of which no literal is seen so far.
+    /// This many variables, of which no literal is seen so far.
     pub(crate) fn none(alloc: Global, vars: u32) -> Result<Mentions, AllocError>
         requires { vars ≤ MAX_VARIABLE }
         ensures length { IfOk result (λ m. length m ≡ vars) }

@@ -106,7 +106,7 @@ pub begun_proof : (b : Bytes) (steps : List ProofStep) → begun_line [] b ≡ [
 begun_proof b [] e h = ap (begun_line []) (append-nil b) ∙ e
 begun_proof b (s ∷ steps) e h = ap (begun_line []) (sym (append_assoc b (step_line s) (printed_proof steps))) ∙ begun_proof (b ++ step_line s) steps (step_ends b s e h.0) h.1
 
--- a front of a step's line behind whole lines is the line that is begun
+-- a prefix of a step's line after whole lines is the line that is begun
 pub begun_front : (b : Bytes) (s : ProofStep) (k : ℕ) → begun_line [] b ≡ [] → HasProofText s → k < length (step_line s) → begun_line [] (b ++ take k (step_line s)) ≡ take k (step_line s)
 begun_front b s k e h low =
     let l : length (step_line s) ≡ length (words_text s) + 1 = length-append (words_text s) (10 ∷ []) in

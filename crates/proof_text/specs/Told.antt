@@ -13,7 +13,7 @@ use Rattle.cx_texts.specs.Printed.{printed_line, printed_proof, HasProofText}
 use Rattle.cx_texts.proofs.Grammars.{proof_forms}
 use Rattle.cx_texts.proofs.Readings.{one_reading}
 
--- the whole lines of a text, each with its line feed, where a line begins with these bytes; and what stands behind them
+-- the whole lines of a text, each with its line feed, where a line begins with these bytes; and what comes after them
 abbrev pub whole_lines : Bytes → Bytes → List Bytes
 whole_lines begun [] = []
 whole_lines begun (b ∷ text) = cond (b == 10) ((begun ++ b ∷ []) ∷ whole_lines [] text) (whole_lines (begun ++ b ∷ []) text)
@@ -44,7 +44,7 @@ is_whole o = is_none (begun_line [] o.written.proof)
 abbrev pub step_line : ProofStep → Bytes
 step_line step = printed_line (spelling proof_steps step)
 
--- behind whole lines stands a front of the step's line that is not all of it
+-- after whole lines comes a proper prefix of the step's line
 abbrev pub TornOn : ProofStep → Outside → Type 0
 TornOn step o = HasProofText step × ((before : Bytes) × (k : ℕ) × (begun_line [] before ≡ []) × (k < length (step_line step)) × (o.written.proof ≡ before ++ take k (step_line step)))
 
@@ -54,7 +54,7 @@ pub record Prints (old new : Outside) : Type 0 where
   pub texts : AllByRecursion HasProofText steps
   pub moved : new ≡ gained Proof (printed_proof steps) old
 
--- and then a front of one more line that is not all of it, and a fault of writing
+-- and then a proper prefix of one more line, and a fault of writing
 pub record Tears (old new : Outside) : Type 0 where
   pub steps : List ProofStep
   pub texts : AllByRecursion HasProofText steps

@@ -12,7 +12,7 @@ use std::alloc::Global;
 use std::marker::Model;
 use step_text::{Sink, SinkFault};
 
-/// A sink that keeps the list of its steps. It never fails but for want of memory.
+/// A sink that keeps the list of its steps. It fails only where memory runs out.
 #[derive(Drop)]
 pub struct ListProof {
     steps: Vec<ProofStep>,
@@ -60,7 +60,7 @@ impl ListProof {
         ProofList::of(self.steps)
     }
 
-    /// Puts a step behind the others.
+    /// Adds a step.
     fn push(&mut self, step: ProofStep) -> Result<(), SinkFault>
         requires { HasProofText step }
         ensures told { OnOk result (self.new ≡ self.old ++ step ∷ []) }

@@ -12,7 +12,7 @@ use Rattle.step_text.specs.declared.short_integer.ShortInteger.{ShortInteger}
 use Rattle.step_text.specs.Short.{IsShortFront, TakesNumber}
 use Rattle.step_text.specs.Heads.{is_letter, is_head_letter}
 
--- the same tokens stand at later places
+-- the tokens that are left, at later places
 pub left_from : (from : ℕ) (in_line : Bool) (text : List ℕ) (at next : ℕ) → tokens_left_by end_line.Kept in_line at (drop at text) ≡ tokens_within next (drop next text)
     → tokens_left_by end_line.Kept in_line (from + at) (drop at text) ≡ tokens_within (from + next) (drop next text)
 left_from from in_line text at next h =

@@ -62,7 +62,7 @@ frame_of s o r t p kept (g, counts, took) past = record {
 pub took_of : {T : Type 0} (s : BytesState) (o : Outside) (r : Result T TextRefusal) (t : BytesState) (p : Outside) → CountsTaken s r o t p → Took s.slot r o p
 took_of s o r t p (g, counts, took) = (g, took)
 
--- the same of states that show what the relation speaks of
+-- so it is with states that show what the relation speaks of
 pub gives_as : {X Y S : Type 0} (leaves : X → List S → Ending → Type 0) (shows : Y → X) (old new : Y) (r : Result (Option S) TextRefusal) → Gives leaves (shows old) r (shows new) → Gives (λ y. leaves (shows y)) old r new
 gives_as leaves shows old new (Ok (Some step)) h = h
 gives_as leaves shows old new (Ok None) h = h
@@ -74,7 +74,7 @@ gives_as leaves shows old new (Err Memory) h = tt
 gives_as leaves shows old new (Err Failed) h = tt
 
 module _ {S : Type 0} (g : Grammar S) where
-  -- ---- one call behind another
+  -- ---- one call after another
 
   moved : (a : SlotState) (o : Outside) (b : SlotState) (p : Outside) → ReadsOn a o b p → (text : List ℕ) (steps : List S) (ending : Ending) → SlotLeaves g b p text steps ending → SlotLeaves g a o text steps ending
   moved a o b p h text steps ending (more, come, left) =

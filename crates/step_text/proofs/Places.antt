@@ -38,7 +38,7 @@ abbrev RisesIn : ℕ → ℕ → Line → Type 0
 RisesIn from to [] = from ≤ to
 RisesIn from to (b ∷ line) = (from ≤ b.0) × RisesIn (b.0 + 1) to line
 
--- pieces one behind the other
+-- pieces one after another
 abbrev PiecesIn : ℕ → ℕ → List Line → Type 0
 PiecesIn from to [] = from ≤ to
 PiecesIn from to (piece ∷ pieces) = (mid : ℕ) × RisesIn from mid piece × PiecesIn mid to pieces
@@ -121,7 +121,7 @@ module _ {S : Type 0} (g : Grammar S) (all : Forms g) (size : ℕ) where
           let top = rises_le size (p.place + 1) (placed_words new) behind in
           head_rises size place new (omega arith) (lower size (p.place + 1) (place + 1) (placed_words new) (omega arith) behind)
 
-  -- the same of a source that has refused nothing
+  -- a step of a source that has refused nothing
   pub step_in_order : (place at : ℕ) (s : S) (old new : List Token) (refused : Option TextRefusal) → refused ≡ None → IsInOrder old size place refused
       → Spells g s (placed_words old) (placed_words new) → at ≡ head_place size new → (place < at) × (at ≤ size) × IsInOrder new size at refused
   step_in_order place at s old new refused none h sp e =

@@ -13,7 +13,7 @@ use Rattle.cx_texts.specs.Grammar.{both_ids, spelled_list}
 use Rattle.cx_texts.specs.Printed.{printed_word, printed_line}
 use Rattle.step_text.specs.Spaced.{spaced, spaced_integer, spaced_id, spaced_move}
 
--- a front that is not all was written before a fault
+-- a proper prefix was written before a fault
 abbrev pub Fails : Port → Bytes → Outside → Outside → Type 0
 Fails port bytes old new = (k : ℕ) × (k < length bytes) × PutFaulted port (gained port (take k bytes) old) new
 
@@ -100,7 +100,7 @@ head_text before n ls after = simp (append_assoc, append-nil)
 pub in_row : (a d l h t : Bytes) → (a ++ (d ++ (l ++ h))) ++ t ≡ a ++ (d ++ (l ++ (h ++ t)))
 in_row a d l h t = simp append_assoc
 
--- a line goes on behind its head
+-- a line goes on after its head
 pub line_on : (before : Bytes) (n : ℕ) (ls : List ℤ) (ws : List Word) (after tail : Bytes) → after ++ tail ≡ spaced ws ++ 10 ∷ []
     → (before ++ (decimal n ++ (spaced (spelled_list ls) ++ after))) ++ tail ≡ before ++ printed_line (number (pos n) ∷ (spelled_list ls ++ ws))
 line_on before n ls ws after tail e =

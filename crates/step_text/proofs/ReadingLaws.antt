@@ -55,7 +55,7 @@ module _ {S : Type 0} (g : Grammar S) (all : Forms g) (same : limit ≡ g.limit)
   begun ws [] e h = absurd h
   begun ws (row ∷ rows) e h = begins_where g all ws row rows e
 
-  -- behind a whole step nothing has to follow
+  -- after a whole step nothing has to follow
   abbrev pub IsWholeAlone : Type 0
   IsWholeAlone = (s : S) (ws : List Word) → IsStep g ws s → ¬ MayGoOn (remaining (rows_of g all.forms) ws)
 

@@ -1,4 +1,4 @@
--- Integers that were taken in one go, behind others.
+-- Integers that were taken in one go, after others.
 use Rattle.std.proofs.Common.{◌≡◌, sym, ap, ◌∙◌, subst, ◌≤◌, ℤ, Bool, true, false, List, [], ◌∷◌, ◌++◌, map, length, arith, length-append}
 use Rattle.std.proofs.lemmas.List.{length-map}
 use Rattle.cx_base.specs.Numbers.{AreStepIntegers}

@@ -18,7 +18,7 @@ use Rattle.step_text.specs.declared.source.TextRefusal.TheVariants.{BadToken, Un
 use Rattle.step_text.specs.Slots.{SlotState, IsToCome, TookBytes, Counts, CountsTaken, SlotKept, ReadsOn, DrainsRest}
 use Rattle.step_text.specs.SlotLeft.{counts_itself, counts_on}
 
--- ---- one call behind another
+-- ---- one call after another
 
 took_on : (slot other : Slot) (n m : Gave) (o p q : Outside) → other ≡ slot → p ≡ taken slot n o → q ≡ taken other m p → q ≡ taken slot (joined n m) o
 took_on slot other n m o p q same h k = k ∙ (λ i. taken (same i) m (h i)) ∙ taken-twice slot n m o

@@ -1,4 +1,4 @@
--- A step that stands in whole tokens of the bytes at hand is the next step of the text, whatever follows.
+-- A step in whole tokens of the bytes at hand is the next step of the text, whatever follows.
 use Rattle.std.proofs.Common.{◌≡◌, ◌≢◌, refl, sym, ap, ◌∙◌, subst, ℕ, zero, suc, ◌+◌, ◌<◌, ◌≤◌, Bool, true, false, List, [], ◌∷◌, ◌++◌, length, take, drop, arith, append_assoc, append-nil, length-append, length-take, take-append-drop}
 use Rattle.std.proofs.lemmas.List.{map-append, drop-append-le, drop_all}
 use Rattle.cx_texts.specs.Tokens.{Token, tokens_within}
@@ -61,7 +61,7 @@ module _ {S : Type 0} (g : Grammar S) where
 
 -- ---- tokens by their words
 
--- the token of a word, with those before it and behind it
+-- the token of a word, with those before it and after it
 record TokenOf (tokens : List Token) (front : List Placed) (word : Placed) (rest : List Placed) : Type 0 where
   before : List Token
   token : Token
@@ -116,7 +116,7 @@ module _ (ended : Bool) (place len : ℕ) (bytes : List ℕ) (tokens : List Toke
   abbrev More : List ℕ → Type 0
   More more = (behind : List Token) × (tokens_within place (bytes ++ more) ≡ tokens ++ behind)
 
-  -- what is left behind them
+  -- what is left after them
   abbrev left_then : List ℕ → List Token
   left_then more = tokens_in (line_behind Kept (take len bytes)) (place + len) (drop len bytes ++ more)
 
@@ -179,7 +179,7 @@ module _ (ended : Bool) (place len : ℕ) (bytes : List ℕ) (tokens : List Toke
         let front : h.front ≡ [] = sym t.words_before ∙ ap placed_words (none_before t.before t.token t.others (sym left ∙ sym look.are ∙ t.split)) in
         absurd (no_step_at_front s (placed_words tokens) (placed_words (next ∷ rest)) h front)
 
-    -- a step behind which a token stands
+    -- a step that a token follows
     step_before_token : (s : S) (next : Token) (rest : List Token) → Spells g s (placed_words tokens) (placed_words (next ∷ rest)) → FoundStep g ended place bytes s next.place Kept
     step_before_token s next rest h =
         let t = token_of_word tokens h.front (placed_of next) (placed_words rest) h.split in
@@ -206,7 +206,7 @@ module _ (ended : Bool) (place len : ℕ) (bytes : List ℕ) (tokens : List Toke
               subst (λ ps. Spells g s (placed_words (tokens_within place (bytes ++ more))) ps) (sym new) (subst (λ ps. Spells g s ps (placed_words (next ∷ rest) ++ placed_words f.0)) (sym old) spells);
         }
 
-    -- a step behind which no token is read yet: the text ends there, or no word can go on with the step
+    -- a step after which no token is read yet: the text ends there, or no word can go on with the step
     step_before_gap : (s : S) → (ended ≡ false → IsClosed g s) → Spells g s (placed_words tokens) [] → FoundStep g ended place bytes s (place + len) (line_behind Kept (take len bytes))
     step_before_gap s closed h = record {
       behind = len;
@@ -245,7 +245,7 @@ module _ (ended : Bool) (place len : ℕ) (bytes : List ℕ) (tokens : List Toke
     pub found_last : (s : S) (new : List Token) (line : LineState) → Spells g s (placed_words tokens) (placed_words new) → new ≡ [] → (ended ≡ false → IsClosed g s) → line ≡ line_behind Kept (take len bytes) → FoundStep g ended place bytes s (place + len) line
     found_last s new line h none closed is = subst (FoundStep g ended place bytes s (place + len)) (sym is) (step_before_gap s closed (subst (λ ts. Spells g s (placed_words tokens) (placed_words ts)) none h))
 
-  -- tokens stand in some bytes
+  -- tokens take some bytes
   pub some_bytes : tokens ≢ [] → 0 < length bytes
   some_bytes some = go bytes refl
     where

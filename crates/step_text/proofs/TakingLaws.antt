@@ -69,7 +69,7 @@ more_integers zs more all a b c e x y = subst (λ fs. Takes fs a c) (sym (ap (ma
 remaining-words : (rows : List (List Kind)) (a b : List Placed) (next : List (List Kind)) → remaining rows (words a) ≡ next → remaining rows (words (a ++ b)) ≡ remaining next (words b)
 remaining-words rows a b next e = ap (remaining rows) (words-append a b) ∙ remaining-more rows (words a) (words b) ∙ ap (λ r. remaining r (words b)) e
 
--- behind words that fit, what is refused there is refused
+-- after words that fit, what is refused there is refused
 pub refused_behind : (rows next : List (List Kind)) (size : ℕ) (r : TextRefusal) (front a b : List Placed) → a ≡ front ++ b → AreSmall front → remaining rows (words front) ≡ next
     → RefusedIn next size r b → RefusedIn rows size r a
 refused_behind rows next size (BadToken place) front a b e w k h =
@@ -235,6 +235,6 @@ second_refused ms n size r a b c t s h ks =
 
 -- ---- fields in a row
 
--- behind fields that were taken, what is refused there is refused
+-- after fields that were taken, what is refused there is refused
 pub refused_after : (fs : List Field) (ks : List Kind) (size : ℕ) (r : TextRefusal) (a b : List Placed) → Takes fs a b → RefusedIn (ks ∷ []) size r b → RefusedIn ((map kind fs ++ ks) ∷ []) size r a
 refused_after fs ks size r a b t h = refused_then fs ((map kind fs ++ ks) ∷ []) (ks ∷ []) size r a b t (all_passed fs ks t.proper) h

@@ -12,7 +12,7 @@ use Rattle.step_text.specs.declared.slot_reader.Found.TheVariants.{Step, End, Re
 -- A text begins at a place within a kept line with bytes that were read. Whatever may follow them, and nothing does
 -- where the end was seen, ...
 module _ {S : Type 0} (g : Grammar S) (ended : Bool) (place : ℕ) (bytes : List ℕ) where
-  -- ... the step comes first, and what is left behind it begins at the other place, in such a line
+  -- ... the step comes first, and what is left after it begins at the other place, in such a line
   pub record FoundStep (step : S) (next : ℕ) (line : LineState) : Type 0 where
     pub behind : ℕ
     pub at : next ≡ place + behind

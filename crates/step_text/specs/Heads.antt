@@ -1,4 +1,4 @@
--- What stands first in a text's words.
+-- What comes first in a text's words.
 use Rattle.std.specs.Prelude.{ℕ, Bool, false, ◌==◌, List, [], ◌∷◌, Option, Some, None}
 use Rattle.cx_texts.specs.Tokens.{Token}
 use Rattle.cx_texts.specs.Words.{Word, number, letter, conflict, other, Placed}

@@ -1,4 +1,4 @@
--- Fronts of a list of steps are given one behind another.
+-- Prefixes of a list of steps are given one after another.
 use Rattle.std.specs.Prelude.{refl, ◌+◌, [], ◌++◌, length}
 use Rattle.std.proofs.Common.{sym, ap, ◌∙◌, append_assoc, length-append}
 use Rattle.std.proofs.Math.Nat.{add_assoc, add-zero}

@@ -15,7 +15,7 @@ LeavesList left steps ending = (steps ≡ left.steps) × (ending ≡ finished)
 abbrev pub last_place : {S : Type 0} → StepsLeft S → ℕ
 last_place left = left.given + length left.steps
 
--- between the two a front of the list was given
+-- between the two a prefix of the list was given
 pub record GaveFront {S : Type 0} (old new : StepsLeft S) : Type 0 where
   pub front : List S
   pub split : old.steps ≡ front ++ new.steps

@@ -7,7 +7,7 @@ use Rattle.step_text.specs.declared.source.TextRefusal.{TextRefusal}
 use Rattle.step_text.specs.declared.source.TextRefusal.TheVariants.{BadToken, Unterminated, TooBig, TooLong, Memory, Failed}
 
 module _ {S : Type 0} (g : Grammar S) (size : ℕ) where
-  -- no step is read of the words, for this reason; want of memory says nothing of them
+  -- no step is read of the words, for this reason; out of memory says nothing of them
   abbrev pub IsRefusal : TextRefusal → List Placed → Type 0
   IsRefusal (BadToken place) placed = EndsAs g size (bad_token place) placed
   IsRefusal (Unterminated place) placed = EndsAs g size (unterminated place) placed

@@ -7,7 +7,7 @@ use Rattle.step_text.specs.Taking.{Takes}
 use Rattle.step_text.specs.Seen.{limit}
 use Rattle.step_text.specs.declared.short_integer.ShortInteger.{ShortInteger}
 
--- such an integer stands at the front of the text, and a blank behind it
+-- such an integer is at the start of the text, and a blank after it
 pub record IsShortFront (text : List ℕ) (s : ShortInteger) : Type 0 where
   pub some : 0 < s.len
   pub inside : s.len < length text
@@ -23,7 +23,7 @@ pub record TakesNumber (old : List Token) (z : ℤ) (new : List Token) : Type 0 
   pub word : word_of token.text ≡ number z
   pub small : nat_abs z ≤ limit
 
--- the words behind some numbers begin with the zero that ends them, or are left
+-- the words after some numbers begin with the zero that ends them, or are left
 abbrev pub Closes : Bool → List Placed → List Placed → Type 0
 Closes true behind new = Takes (end ∷ []) behind new
 Closes false behind new = new ≡ behind
@@ -34,7 +34,7 @@ pub record TakesShorts (old : List Placed) (more : List ℤ) (ended : Bool) (new
   pub numbers : Takes (map int more) old behind
   pub closes : Closes ended behind new
 
--- what was taken from the tokens that begin at a place of a text, wherever the text stands
+-- what was taken from the tokens that begin at a place of a text, wherever the text is
 abbrev pub TakesFrom : List ℕ → ℕ → List ℤ → Bool → ℕ → Type 0
 TakesFrom text at more ended next =
     (next ≤ length text) × (next < length text → is_blank (slice_index text next) ≡ false)

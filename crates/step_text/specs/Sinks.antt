@@ -4,11 +4,11 @@ use Rattle.step_text.specs.declared.sink.SinkFault.{SinkFault}
 use Rattle.step_text.specs.declared.sink.SinkFault.TheVariants.{Memory, Failed}
 use Rattle.cx_base.specs.Counts.{Rose}
 
--- what was told, and one more behind it
+-- what was told, and one more after it
 abbrev pub with_next : {S : Type 0} → S → Option (List S) → Option (List S)
 with_next next told = option_map (λ all. all ++ next ∷ []) told
 
--- the faults rose where the answer is a fault of writing, and else stand
+-- the faults rose where the answer is a fault of writing, and otherwise stay
 abbrev pub SinkFaultsAs : {T : Type 0} → Result T SinkFault → ℕ → ℕ → Type 0
 SinkFaultsAs (Ok answer) before now = now ≡ before
 SinkFaultsAs (Err Memory) before now = now ≡ before

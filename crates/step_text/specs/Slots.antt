@@ -17,7 +17,7 @@ use Rattle.step_text.specs.Texts.{LeftOf}
 use Rattle.step_text.specs.declared.source.TextRefusal.{TextRefusal}
 use Rattle.step_text.specs.declared.source.TextRefusal.TheVariants.{BadToken, Unterminated, TooBig, TooLong, Memory, Failed}
 
--- the bytes that were read and not passed, what the first of them stands in, and the refusal that was answered, if any
+-- the bytes that were read and not passed, the kind of line that the first of them is in, and the refusal that was answered, if any
 pub record SlotState : Type 0 where
   pub bytes : BytesState
   pub line : LineState

@@ -11,7 +11,7 @@ module _ {X S : Type 0} (leaves : X → List S → Ending → Type 0) where
   abbrev pub EndsAs : Ending → X → X → Type 0
   EndsAs ending old new = leaves old [] ending × leaves new [] ending
 
-  -- no step, since the text ends so; a text that is too long, want of memory and a fault say nothing of the text
+  -- no step, since the text ends so; a text that is too long, out of memory and a fault say nothing of the text
   abbrev pub GivesNone : TextRefusal → X → X → Type 0
   GivesNone (BadToken place) old new = EndsAs (bad_token place) old new
   GivesNone (Unterminated place) old new = EndsAs (unterminated place) old new
@@ -26,7 +26,7 @@ module _ {X S : Type 0} (leaves : X → List S → Ending → Type 0) where
   Gives old (Ok None) new = EndsAs finished old new
   Gives old (Err refusal) new = GivesNone refusal old new
 
--- the faults rose where the answer is a fault, and else stand
+-- the faults rose where the answer is a fault, and otherwise stay
 abbrev pub FaultsAs : {T : Type 0} → Result T TextRefusal → ℕ → ℕ → Type 0
 FaultsAs (Ok answer) before now = now ≡ before
 FaultsAs (Err Failed) before now = Rose before now
@@ -36,7 +36,7 @@ FaultsAs (Err (TooBig place)) before now = now ≡ before
 FaultsAs (Err TooLong) before now = now ≡ before
 FaultsAs (Err Memory) before now = now ≡ before
 
--- after want of memory and after a fault the source is not asked again
+-- once memory ran out, and after a fault, the source is not asked again
 abbrev pub SpentAs : {T : Type 0} → Result T TextRefusal → Bool → Type 0
 SpentAs (Ok answer) spent = spent ≡ false
 SpentAs (Err Failed) spent = spent ≡ true
@@ -46,7 +46,7 @@ SpentAs (Err (Unterminated place)) spent = spent ≡ false
 SpentAs (Err (TooBig place)) spent = spent ≡ false
 SpentAs (Err TooLong) spent = spent ≡ false
 
--- a refusal of the text lasts; want of memory and a fault of reading do not
+-- a refusal of the text lasts; out of memory and a fault of reading do not
 abbrev pub lasting : TextRefusal → Option TextRefusal
 lasting (BadToken place) = Some (BadToken place)
 lasting (Unterminated place) = Some (Unterminated place)
@@ -55,7 +55,7 @@ lasting TooLong = Some TooLong
 lasting Memory = None
 lasting Failed = None
 
--- the refusal that a source goes on giving behind an answer
+-- the refusal that a source goes on giving after an answer
 abbrev pub lasting_of : {T : Type 0} → Result T TextRefusal → Option TextRefusal
 lasting_of (Ok answer) = None
 lasting_of (Err refusal) = lasting refusal

@@ -1,10 +1,10 @@
--- Words that are printed behind others.
+-- Words that are printed after others.
 use Rattle.std.specs.Prelude.{ℕ, ℤ, List, [], ◌∷◌, ◌++◌, flat_map, decimal}
 use Rattle.cx_base.specs.declared.id_moves.IdMove.{IdMove}
 use Rattle.cx_texts.specs.Words.{Word}
 use Rattle.cx_texts.specs.Printed.{printed_integer, printed_word}
 
--- each word behind a space
+-- each word after a space
 abbrev pub spaced : List Word → List ℕ
 spaced ws = flat_map (λ w. 32 ∷ printed_word w) ws
 

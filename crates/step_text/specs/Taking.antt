@@ -66,7 +66,7 @@ module _ (rows : List (List Kind)) where
     pub fits : (row : List Kind) × (more : List (List Kind)) × (flat_map (after_word big.word) (remaining rows (words front)) ≡ row ∷ more)
     pub above : ¬ IsWithin limit big.word
 
-  -- the words refuse to go on so; want of memory says nothing of them
+  -- the words refuse to go on so; out of memory says nothing of them
   abbrev pub RefusedIn : ℕ → TextRefusal → List Placed → Type 0
   RefusedIn size (BadToken place) placed = BadIn placed place
   RefusedIn size (TooBig place) placed = BigIn placed place

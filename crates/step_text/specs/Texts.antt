@@ -32,7 +32,7 @@ LeftOf g tokens size (Some refusal) steps ending = (steps ≡ []) × IsEnding re
 abbrev pub Leaves : {S : Type 0} → Grammar S → TextState → List S → Ending → Type 0
 Leaves g s steps ending = LeftOf g s.tokens s.size s.refused steps ending
 
--- want of memory was answered
+-- out of memory was answered
 abbrev pub is_spent_by : Option TextRefusal → Bool
 is_spent_by (Some Memory) = true
 is_spent_by (Some Failed) = true
@@ -52,7 +52,7 @@ abbrev pub RisesTo : ℕ → ℕ → List Placed → Type 0
 RisesTo size place [] = place ≤ size
 RisesTo size place (p ∷ placed) = (place ≤ p.place) × RisesTo size (p.place + 1) placed
 
--- as long as nothing was refused, what is left stands behind the place; no text is too long
+-- as long as nothing was refused, what is left comes after the place; no text is too long
 abbrev pub IsInOrder : List Token → ℕ → ℕ → Option TextRefusal → Type 0
 IsInOrder tokens size place None = RisesTo size place (placed_words tokens)
 IsInOrder tokens size place (Some (BadToken at)) = ⊤

@@ -47,7 +47,7 @@ fn is_lone(token: &[u8], letter: u8) -> bool
     token.len() == 1 && token[0] == letter
 }
 
-/// The place where the next token begins behind one that ends here, or the text's length.
+/// Where the next token begins after one that ends here, or the text's length.
 #[inline(always)]
 fn behind(text: &[u8], end: usize) -> usize
     requires { end ≤ length text.now }

@@ -1,4 +1,4 @@
-//! Integers laid out behind one another, each behind a space.
+//! Integers laid out one after another, each after a space.
 ghost use Rattle.std.specs.Prelude.{◌≡◌, ◌≤◌, ◌+◌, ◌*◌, ◌∷◌, ◌++◌, [], decimal, flat_map, length, drop};
 ghost use Rattle.cx_texts.specs.Grammar.{spelled, integers};
 ghost use Rattle.cx_texts.specs.Printed.{printed_integer};
@@ -7,7 +7,7 @@ ghost use Rattle.step_text.specs.declared.lay_out.TheConstants.{FRAME, DELETION_
 
 use cx_digits::lay_out_number;
 
-/// The most bytes that an integer takes behind a space: a sign and 19 digits.
+/// The most bytes that an integer takes after a space: a sign and 19 digits.
 pub(crate) const LONGEST: usize = 21;
 
 /// Lays out an integer so that it ends there, and says where it begins.
@@ -25,7 +25,7 @@ fn lay_out_signed(integer: i64, sheet: &mut [u8], end: usize) -> usize
     if integer < 0 { digits - 1 } else { digits }
 }
 
-/// Lays out an integer behind a space so that it ends there, and says where it begins.
+/// Lays out an integer after a space so that it ends there, and says where it begins.
 #[inline(always)]
 fn lay_out_integer(integer: i64, sheet: &mut [u8], end: usize) -> usize
     requires room { LONGEST ≤ end }
@@ -56,7 +56,7 @@ pub(crate) fn lay_out_integers(members: &[i64], sheet: &mut [u8], end: usize) ->
     at
 }
 
-/// Lays out an id behind a space so that it ends there, and says where it begins.
+/// Lays out an id after a space so that it ends there, and says where it begins.
 #[inline(always)]
 fn lay_out_spaced_id(name: u64, sheet: &mut [u8], end: usize) -> usize
     requires room { LONGEST ≤ end }
@@ -112,7 +112,7 @@ fn lay_out_list(members: &[i64], sheet: &mut [u8], end: usize) -> usize
     lay_out_integers(members, sheet, begin)
 }
 
-/// What a line takes beside its integers: an id, two zeros behind spaces, and a line feed.
+/// What a line takes besides its integers: an id, two zeros after spaces, and a line feed.
 pub(crate) const FRAME: usize = LONGEST + 5;
 
 /// Lays out an id and two lists, each with the zero that ends it, and a line feed at the end of a sheet, and says where the id
@@ -155,7 +155,7 @@ fn lay_out_letter(sheet: &mut [u8], end: usize) -> usize
     end - 3
 }
 
-/// Room for a deletion of one clause: two ids, three bytes between them, and three behind them.
+/// Room for a deletion of one clause: two ids, three bytes between them, and three after them.
 pub(crate) const DELETION_ROOM: usize = 2 * LONGEST + 6;
 
 /// Lays out what a deletion ends with at the end of a sheet, the letter between spaces and one id, and says where it begins.

@@ -30,7 +30,7 @@ pub fn put_id<D: Desk>(
 /// The most integers or ids that are written in one piece.
 const AT_ONCE: usize = 16;
 
-/// A few integers, each behind a space, in one piece.
+/// A few integers, each after a space, in one piece.
 fn put_few_integers<D: Desk>(desk: &mut D, port: Port, members: &[i64]) -> Result<(), Failed>
     requires { length members.now ≤ AT_ONCE }
     ensures { PutsAll port (flat_map spaced_integer members.now) (D.outside desk.old) result (D.outside desk.new) }
@@ -40,7 +40,7 @@ fn put_few_integers<D: Desk>(desk: &mut D, port: Port, members: &[i64]) -> Resul
     put_all(desk, port, &sheet[begin..])
 }
 
-/// Integers, each behind a space.
+/// Integers, each after a space.
 fn put_each_integer<D: Desk>(desk: &mut D, port: Port, members: &[i64]) -> Result<(), Failed>
     ensures { PutsAll port (flat_map spaced_integer members.now) (D.outside desk.old) result (D.outside desk.new) }
 {
@@ -53,7 +53,7 @@ fn put_each_integer<D: Desk>(desk: &mut D, port: Port, members: &[i64]) -> Resul
     Ok(())
 }
 
-/// A few ids, each behind a space, in one piece.
+/// A few ids, each after a space, in one piece.
 fn put_few_ids<D: Desk>(desk: &mut D, port: Port, members: &[u64]) -> Result<(), Failed>
     requires { length members.now ≤ AT_ONCE }
     ensures { PutsAll port (flat_map spaced_id members.now) (D.outside desk.old) result (D.outside desk.new) }
@@ -63,7 +63,7 @@ fn put_few_ids<D: Desk>(desk: &mut D, port: Port, members: &[u64]) -> Result<(),
     put_all(desk, port, &sheet[begin..])
 }
 
-/// Ids, each behind a space.
+/// Ids, each after a space.
 fn put_each_id<D: Desk>(desk: &mut D, port: Port, members: &[u64]) -> Result<(), Failed>
     ensures { PutsAll port (flat_map spaced_id members.now) (D.outside desk.old) result (D.outside desk.new) }
 {
@@ -97,7 +97,7 @@ pub fn put_ids<D: Desk>(desk: &mut D, port: Port, members: &[u64]) -> Result<(),
     put_all(desk, port, b" 0\n")
 }
 
-/// The two ids of a move, each behind a space.
+/// The two ids of a move, each after a space.
 fn put_move<D: Desk>(desk: &mut D, port: Port, from: u64, to: u64) -> Result<(), Failed>
     ensures { PutsAll port (spaced_move (record { from = from; to = to })) (D.outside desk.old) result (D.outside desk.new) }
 {
@@ -105,7 +105,7 @@ fn put_move<D: Desk>(desk: &mut D, port: Port, from: u64, to: u64) -> Result<(),
     put_id(desk, port, b" ", to, b"")
 }
 
-/// The ids of moves, each behind a space.
+/// The ids of moves, each after a space.
 fn put_each_move<D: Desk>(desk: &mut D, port: Port, moves: &[IdMove]) -> Result<(), Failed>
     ensures { PutsAll port (flat_map spaced_move moves.now) (D.outside desk.old) result (D.outside desk.new) }
 {
@@ -146,7 +146,7 @@ pub fn put_parity_deletion<D: Desk>(desk: &mut D, port: Port, deleted: u64) -> R
     put_all(desk, port, &sheet[begin..])
 }
 
-/// An id behind a text, its literals, and a text: the head of a step's line.
+/// An id after a text, its literals, and a text: the head of a step's line.
 pub fn put_head<D: Desk>(
     desk: &mut D,
     port: Port,
@@ -167,7 +167,7 @@ const MANY: usize = 512;
 /// Room for a line that is laid out whole.
 const SHEET: usize = MANY * LONGEST + FRAME;
 
-/// A sheet that lines are laid out on, one after another. What stands on it plays no part: a line is laid out over the one
+/// A sheet that lines are laid out on, one after another. What is on it plays no part: a line is laid out over the one
 /// before, so that no room is cleared for it.
 #[derive(Drop)]
 pub struct LineSheet {
@@ -181,7 +181,7 @@ impl LineSheet {
     }
 }
 
-/// An id behind a text and two lists of few integers together, as a whole line, in one piece.
+/// An id after a text and two lists of few integers together, as a whole line, in one piece.
 fn put_whole_line<D: Desk>(
     sheet: &mut LineSheet,
     desk: &mut D,
@@ -200,7 +200,7 @@ fn put_whole_line<D: Desk>(
     put_all(desk, port, &sheet[begin..])
 }
 
-/// An id behind a text and two lists, each with the zero that ends it, as a whole line.
+/// An id after a text and two lists, each with the zero that ends it, as a whole line.
 pub fn put_line<D: Desk>(
     sheet: &mut LineSheet,
     desk: &mut D,

@@ -1,4 +1,4 @@
-//! Integers of a few digits at the front of some bytes.
+//! Integers of a few digits at the start of some bytes.
 ghost use Rattle.std.specs.Prelude.{◌≡◌, ◌≤◌, ◌<◌, ◌++◌, ℤ, List, length, take, true, false, slice_index, IfSome, IfOk};
 ghost use Rattle.std.specs.List.{list_all};
 ghost use Rattle.std.specs.Str.Parse.{digits_value};
@@ -13,21 +13,21 @@ use std::alloc::AllocError;
 /// How many digits are converted without a test of their number: the greatest such number fits 63 bits.
 const FEW: usize = 18;
 
-/// Digits at the front of some bytes: their number, and how many there are.
+/// Digits at the start of some bytes: their number, and how many there are.
 #[derive(Clone, Copy, Drop)]
 struct Digits {
     value: u64,
     len: usize,
 }
 
-/// An integer at the front of some bytes, and how many of them are its token.
+/// An integer at the start of some bytes, and how many of them are its token.
 #[derive(Clone, Copy, Drop)]
 pub(crate) struct ShortInteger {
     pub value: i64,
     pub len: usize,
 }
 
-/// The digits at the front, [`FEW`] at most.
+/// The digits at the start, [`FEW`] at most.
 #[inline(always)]
 fn few_digits(text: &[u8]) -> Digits
     requires { FEW ≤ length text.now }
@@ -58,7 +58,7 @@ fn signed_value(negative: bool, magnitude: u64) -> i64
     }
 }
 
-/// The integer of a few digits at the front, where a blank follows it.
+/// The integer of a few digits at the start, where a blank follows it.
 ///
 /// `None` says nothing: near the end of the text, or at a long spelling, the whole token decides.
 #[inline(always)]

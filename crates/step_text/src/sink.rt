@@ -8,7 +8,7 @@ use thiserror::Error;
 /// Why a sink did not take what it was given.
 #[derive(Clone, Copy, Debug, Drop, Error)]
 pub enum SinkFault {
-    /// Want of memory for what it keeps: nothing was taken, and no fault was counted.
+    /// Out of memory for what it keeps: nothing was taken, and no fault was counted.
     #[error("out of memory")]
     Memory,
     /// A fault of writing, which the sink counted.
@@ -29,7 +29,7 @@ pub trait Sink {
     // it has answered `Failed`
     ghost has_failed: { Self → Bool };
 
-    // a part of this item was written behind the others, after a fault
+    // a part of this item was written after the others, after a fault
     ghost torn: { Self → Self.Item → Type 0 };
 
     // what a call leaves as it was

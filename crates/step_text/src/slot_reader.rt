@@ -23,7 +23,7 @@ use std::marker::{Model, PhantomData};
 /// What the bytes of a text that were read so far say of the next step.
 #[derive(Drop)]
 enum Found<S> {
-    /// The step, and where the text goes on: the place of the token behind it, or one behind which no token was read.
+    /// The step, and where the text goes on: the place of the token after it, or one after which no token was read.
     Step(S, usize, LineState),
     /// The text ends between two steps.
     End,
@@ -57,10 +57,10 @@ fn counts(refusal: TextRefusal, ended: bool) -> bool
     }
 }
 
-/// Looks for a step at the front of the bytes that begin at this place within a kept line.
+/// Looks for a step at the start of the bytes that begin at this place within a kept line.
 ///
-/// Where the text may go on, only whole tokens count, and a step only where a token stands behind it or none can go on with it: so
-/// the blanks and comments behind such a step need not be kept.
+/// Where the text may go on, only whole tokens count, and a step only where a token follows it or none can go on with it: so
+/// the blanks and comments after such a step need not be kept.
 fn find_step<G: StepGrammar>(
     spare: &mut SpareLists,
     bytes: &[u8],
@@ -102,7 +102,7 @@ where
 
 /// The steps of a grammar that are read from a slot of a desk, which is lent at each call.
 ///
-/// The text is read piece by piece; only the bytes behind the last step are kept, and of those no blanks and comments, so it takes
+/// The text is read piece by piece; only the bytes after the last step are kept, and of those no blanks and comments, so it takes
 /// memory for one step and a constant. Its place is the place of the first byte that was not passed.
 #[derive(Drop)]
 pub struct SlotReader<G> {
@@ -231,7 +231,7 @@ where
 
     /// Reads the rest of the text without keeping it, and says whether the whole text was within the limit.
     ///
-    /// No step is asked for behind this.
+    /// No step is asked for after this.
     pub fn drain_from<D: Desk>(&self, desk: &mut D) -> Result<(), DrainErr>
         requires { started_in self.now.bytes.slot (D.outside desk.old).started ≡ true }
         ensures { DrainsRest self.now.bytes (D.outside desk.old) result (D.outside desk.new) }

@@ -13,10 +13,10 @@ use crate::spare::SpareLists;
 use cx_desk::{Desk, DrainErr, Slot};
 use std::alloc::Global;
 
-/// A source of the steps that stand in a slot of a lent desk, read piece by piece.
+/// A source of the steps in a slot of a lent desk, read piece by piece.
 ///
-/// It answers `TooLong` as soon as it has read a byte behind its limit, also where steps stand before it. Its place is
-/// that of the first byte that was not passed: that of the token behind the last step, as long as nothing else was asked.
+/// It answers `TooLong` as soon as it has read a byte past its limit, also where steps come before it. Its place is
+/// that of the first byte that was not passed: that of the token after the last step, as long as nothing else was asked.
 #[derive(Drop)]
 pub struct SlotText<'d, D: Desk, G> {
     desk: &'d mut D,

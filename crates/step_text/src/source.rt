@@ -24,7 +24,7 @@ pub enum TextRefusal {
     /// The text is longer than the source's limit.
     #[error("the text is too long")]
     TooLong,
-    /// Want of memory, which says nothing of the text.
+    /// Out of memory, which says nothing of the text.
     #[error("out of memory")]
     Memory,
     /// A fault of reading, which the source counted.

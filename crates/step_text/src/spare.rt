@@ -4,7 +4,7 @@ use std::alloc::Global;
 use std::mem;
 
 /// The memory of a step's lists, in which the next step's are made: so a reader asks for memory only where a list grows longer
-/// than all before it. It is for its memory alone, and no clause speaks of what stands there.
+/// than all before it. It is for its memory alone, and no clause speaks of what is there.
 #[derive(Drop)]
 pub struct SpareLists {
     alloc: Global,

@@ -12,7 +12,7 @@ use std::marker::{Model, PhantomData};
 /// The steps of a grammar that are read from a text, step by step, in one pass and with no copy of it.
 ///
 /// The text has at most 4,294,967,295 bytes. It never answers `TooLong` or `Failed`, and asks for memory for the steps' lists
-/// alone, where the spare ones have too little. Its place is the place of the token behind the last step, or the text's length at the end.
+/// alone, where the spare ones have too little. Its place is the place of the token after the last step, or the text's length at the end.
 #[derive(Drop)]
 pub struct StepText<'a, G> {
     tokens: TokensAhead<'a>,

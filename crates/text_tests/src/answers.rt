@@ -23,7 +23,7 @@ fn answers_to(alloc: Global, formula: &Formula, texts: &[&[u8]]) -> Result<Strin
     Ok(all)
 }
 
-/// The same, where the formula is the parity of 1 and 2 and the clause of 1.
+/// As `answers_to`, where the formula is the parity of 1 and 2 and the clause of 1.
 fn answers(alloc: Global, texts: &[&[u8]]) -> Result<String, AllocError> {
     let one = Lit::new(Var::new(1), false);
     let two = Lit::new(Var::new(2), false);
@@ -31,13 +31,13 @@ fn answers(alloc: Global, texts: &[&[u8]]) -> Result<String, AllocError> {
     answers_to(alloc, &formula, texts)
 }
 
-/// Puts so many true values. Whether all was written.
+/// Puts this many true values. Whether all was written.
 fn put(alloc: Global, desk: &mut MemDesk, count: usize) -> Result<bool, AllocError> {
     let values = vec![in alloc; true; count.min(4096)]?;
     Ok(put_answer(desk, &values).is_ok())
 }
 
-/// What is written of so many true values, with a `!` behind it where that was all.
+/// What is written of this many true values, with a `!` after it where that was all.
 fn printed_on(alloc: Global, desk: &mut MemDesk, count: usize) -> Result<Vec<u8>, AllocError> {
     let done = put(alloc, desk, count)?;
     let mut text = desk.written(Port::Answer).to_vec(alloc)?;
@@ -47,7 +47,7 @@ fn printed_on(alloc: Global, desk: &mut MemDesk, count: usize) -> Result<Vec<u8>
     Ok(text)
 }
 
-/// The same on an answer port with so much room.
+/// As `printed_on`, on an answer port with this much room.
 fn printed(alloc: Global, count: usize, answer: usize) -> Result<Vec<u8>, AllocError> {
     let rooms = Rooms {
         answer: answer.min(16_384),
@@ -58,7 +58,7 @@ fn printed(alloc: Global, count: usize, answer: usize) -> Result<Vec<u8>, AllocE
     printed_on(alloc, &mut desk, count)
 }
 
-/// The same for each count and room, one behind the other.
+/// As `printed`, for each count and room, one after another.
 fn all_printed(alloc: Global, cases: &[(usize, usize)]) -> Result<Vec<u8>, AllocError> {
     let mut all = Vec::new(alloc);
     for (count, answer) in cases {

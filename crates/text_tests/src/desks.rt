@@ -111,7 +111,7 @@ fn put_twice(alloc: Global, desk: &mut MemDesk, port: Port) -> Result<String, Al
     format!(in alloc; "{first:?} {second:?} {}", desk.written(port).len())
 }
 
-/// What opening a file answers that the desk has not.
+/// What opening a file that the desk lacks answers.
 fn start_another(alloc: Global, desk: &mut MemDesk) -> Result<String, AllocError>
     requires { (outside_of desk.old).asked.formula ≡ None }
 {
@@ -143,7 +143,7 @@ fn add_act(alloc: Global, desk: &mut MemDesk, act: Act, told: &mut String) -> Re
     writeln!(told, ", faults {reads} {writes} {messages}")
 }
 
-/// The same on a new desk.
+/// As `add_act`, on a new desk.
 fn add_case(alloc: Global, case: &Case, told: &mut String) -> Result<(), AllocError> {
     let mut desk = desk(alloc, TEXT, case.0, case.1.max(1), case.2)?;
     add_act(alloc, &mut desk, case.3, told)

@@ -4,7 +4,7 @@ use cx_base::{ConstraintRef, Formula, Lit};
 use std::alloc::Global;
 use std::test::Fail;
 
-/// Writes the literals, each behind a space.
+/// Writes the literals, each after a space.
 fn show_lits(out: &mut String, lits: &[Lit]) -> Result<(), Fail> {
     for lit in lits {
         let number = lit.var().number();
@@ -17,7 +17,7 @@ fn show_lits(out: &mut String, lits: &[Lit]) -> Result<(), Fail> {
     Ok(())
 }
 
-/// Writes a constraint behind a colon; a parity has an `x` in front, and an assumption constraint an `a`.
+/// Writes a constraint after a colon; a parity has an `x` in front, and an assumption constraint an `a`.
 fn show_item(out: &mut String, item: ConstraintRef) -> Result<(), Fail> {
     match item {
         ConstraintRef::Clause(lits) => {

@@ -36,7 +36,7 @@ fn keep_mark(log: &mut ListLog, k: u64) -> Result<(), SinkFault> {
     keep(log, &LogEvent::Conflict(k))
 }
 
-/// Prints a step, and keeps it with a mark behind it.
+/// Prints a step, and keeps it with a mark after it.
 fn put(desk: &mut MemDesk, log: &mut ListLog, step: LogStep, k: u64) -> Result<(), Fail>
     requires { HasText (Step step) }
 {
@@ -47,7 +47,7 @@ fn put(desk: &mut MemDesk, log: &mut ListLog, step: LogStep, k: u64) -> Result<(
     Ok(())
 }
 
-/// Puts at most sixteen steps, each with a mark behind it in the log. The refusal that they end with.
+/// Puts at most sixteen steps, each with a mark after it in the log. The refusal that they end with.
 fn put_all(
     alloc: Global,
     desk: &mut MemDesk,
@@ -83,7 +83,7 @@ fn print_with(
     Ok(ending)
 }
 
-/// The same with a log of its own.
+/// As `print_with`, with a log of its own.
 fn print(alloc: Global, text: &[u8], desk: &mut MemDesk) -> Result<Option<TextRefusal>, Fail> {
     let mut log = ListLog::make(alloc);
     print_with(alloc, text, desk, &mut log)
@@ -135,7 +135,7 @@ impl Reprint for Logs {
     }
 }
 
-/// The same on a new desk.
+/// What `add_twice` appends on a new desk.
 fn printed_twice(alloc: Global, text: &[u8]) -> Result<Vec<u8>, Fail> {
     let mut desk = new_desk(alloc)?;
     let mut told = Vec::new(alloc);

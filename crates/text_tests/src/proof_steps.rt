@@ -61,7 +61,7 @@ fn add_steps(
     Ok(ending)
 }
 
-/// A desk with so much room for a proof.
+/// A desk with this much room for a proof.
 fn new_desk(alloc: Global, proof: usize) -> Result<MemDesk, AllocError>
     ensures { IfOk result (λ m. is_whole (outside_of m) ≡ true) }
 {
@@ -102,7 +102,7 @@ const TEXTS: [&[u8]; 26] = [
         26 27 28 29 30 31 32 33 34 35 36 37 38 39 40 41 42 43 44 45 46 47 48 49 50 \
         51 52 53 54 55 56 57 58 59 60 61 62 63 64 65 66 67 68 69 70 71 72 73 74 75 \
         76 77 78 79 80 81 82 83 84 85 86 87 88 89 90 91 92 93 94 95 96 97 98 99 100 0\n",
-    // refused behind no step
+    // refused after no step
     b"5 a 0",
     b"5 2 0 1\n",
     b"9223372036854775808 0 1 0",
@@ -114,7 +114,7 @@ const TEXTS: [&[u8]; 26] = [
     b"0 1 0 1 0",
     b"x i 1",
     b"x5 0 1 0",
-    // the end behind no step, and behind some; a refusal behind one
+    // the end after no step, and after some; a refusal after one
     b"",
     b" \nc 1 a\n \t\n",
     b"x 4 0 1 2 3 0",
@@ -258,7 +258,7 @@ fn torn(alloc: Global, desk: &mut MemDesk) -> Result<Vec<u8>, Fail>
     Ok(told)
 }
 
-/// The same on a new desk with little room.
+/// As `torn`, on a new desk with little room.
 fn torn_on_new(alloc: Global) -> Result<Vec<u8>, Fail> {
     let mut desk = new_desk(alloc, 8)?;
     torn(alloc, &mut desk)
@@ -283,7 +283,7 @@ fn first_on(alloc: Global, kept: &ListProof, desk: &mut MemDesk) -> Result<Vec<u
     Ok(desk.written(Port::Proof).to_vec(alloc)?)
 }
 
-/// The same on a new desk with little room.
+/// As `first_on`, on a new desk with little room.
 fn first_of(alloc: Global, kept: &ListProof) -> Result<Vec<u8>, Fail> {
     let mut desk = new_desk(alloc, 8)?;
     first_on(alloc, kept, &mut desk)
@@ -299,7 +299,7 @@ fn keep_all(alloc: Global, kept: &mut ListProof) -> Result<Vec<u8>, Fail> {
     Ok(told)
 }
 
-/// The same of a new sink.
+/// As `keep_all`, with a new sink.
 fn kept(alloc: Global) -> Result<Vec<u8>, Fail> {
     let mut kept = ListProof::make(alloc);
     keep_all(alloc, &mut kept)

@@ -9,7 +9,7 @@ use std::alloc::{AllocError, Global};
 use std::test::Fail;
 use step_text::{SlotText, SpareLists, StepSource, TextRefusal};
 
-/// How many steps a source gave, the refusal that they end with, and the place behind them.
+/// How many steps a source gave, the refusal that they end with, and the place after them.
 fn ended(
     alloc: Global,
     steps: u64,
@@ -91,7 +91,7 @@ fn add_other(
     writeln!(others, "in pieces of {piece}: {}", told.as_str())
 }
 
-/// The same for pieces of each length.
+/// As `add_other`, for pieces of each length.
 fn add_others(
     alloc: Global,
     texts: &[&[u8]],
@@ -129,14 +129,14 @@ const WANTED: &str = "\
 1 None 14
 ";
 
-/// A text with a byte behind the limit.
+/// A text with a byte past the limit.
 const LONG: [&[u8]; 1] = [b"5 2 0 1 2 0\n6 0 5 3 4 0\nzzzz\n"];
 
 /// What is told otherwise than wanted.
 fn others(alloc: Global) -> Result<String, AllocError> {
     let mut others = String::new(alloc);
     add_others(alloc, &TEXTS, &[1, 2, 3, 4096], WANTED, &mut others)?;
-    // A byte behind the limit is told as soon as it is read.
+    // A byte past the limit is told as soon as it is read.
     add_others(alloc, &LONG, &[1], "2 Some(TooLong) 24\n", &mut others)?;
     add_others(alloc, &LONG, &[4096], "0 Some(TooLong) 0\n", &mut others)?;
     Ok(others)

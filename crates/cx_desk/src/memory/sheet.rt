@@ -35,7 +35,7 @@ impl Sheet {
     {
         let room_left = self.room - self.bytes.len();
         let count = piece.len().min(room_left).min(most);
-        // The room was taken when the sheet was made, so this wants no memory.
+        // The room was taken when the sheet was made, so this takes no memory.
         self.bytes.extend_from_slice(&piece[..count]).unwrap();
         count
     }

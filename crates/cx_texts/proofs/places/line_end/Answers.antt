@@ -4,11 +4,11 @@ use Rattle.memchr.specs.Find.{Nowhere, Passes, is_byte}
 use Rattle.cx_texts.proofs.Slices.{part_at, part_length, line_at_feed, line_at_end}
 use Rattle.cx_texts.proofs.places.line_end.Goals as goal
 
--- what stands behind a place
+-- what comes after a place
 abbrev behind : List ℕ → ℕ → List ℕ
 behind text at = take (length text - at) (drop at text)
 
--- no line feed among the first n bytes behind a place
+-- no line feed among the first n bytes after a place
 no_feed : (text : List ℕ) (at n : ℕ) → at ≤ length text → n ≤ length text - at → Nowhere (Passes (is_byte 10) (behind text at)) 0 n
     → (k : ℕ) → at ≤ k → k < at + n → (get_or text k 0 == 10) ≡ false
 no_feed text at n within few none k low high =
