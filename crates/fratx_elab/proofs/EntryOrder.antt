@@ -65,7 +65,7 @@ said_up x y h = first_not_less (said y x) (nat_cmp y.number x.number) (ap is_lt 
 neither : (o : Ordering) → is_lt o ≡ false → is_lt (ordering_reverse o) ≡ false → o ≡ Equal
 neither o h k = grind arith
 
--- what stands between two that say the same says it too
+-- what is between two that say the same says it too
 between : (x y z : Entry) → words x ≡ words z → is_lt (by_content y x) ≡ false → is_lt (by_content z y) ≡ false → y.content.items ≡ z.content.items
 between x y z e low high =
     let up : is_lt (said y z) ≡ false = subst (λ w. is_lt (slice_cmp nat_cmp (words y) w) ≡ false) e (said_up x y low) in
@@ -139,7 +139,7 @@ least_moved xs ys content number moved h = record {
 pub nowhere_moved : (xs ys : List Entry) (content : List ℕ) → IsPermutation xs ys → IsNowhere ys content → IsNowhere xs content
 nowhere_moved xs ys content moved h e has same = h e (Contains-permutation xs ys e moved has) same
 
--- where the entries stand in another order, their numbers are still within the bound, and each is still there once
+-- where the entries are in another order, their numbers are still within the bound, and each is still there once
 module _ (xs ys : List Entry) (numbered : AreNumbered xs) (moved : IsPermutation xs ys) where
   was : (i : ℕ) (d : Entry) → i < length ys → Contains xs (get_or ys i d)
   was i d lt = Contains-permutation ys xs (get_or ys i d) (IsPermutation-sym xs ys moved) (Contains-get_or ys i d lt)
@@ -238,7 +238,7 @@ module _ (entries : List Entry) (fronts : All HasFront entries) (sorted : IsSort
       | inr e ↦ nowhere_at place (parts e) it lt at other
     ]
 
-    -- no entry stands there
+    -- no entry is there
     pub nowhere_past : length entries ≤ place → IsNowhere entries sought.content.items
     nowhere_past past e has same = elim gives [
       | inl k ↦ (let lt : place < length entries = subst (λ o. IsSearchInRange o (length entries)) k range in omega (arith, lt, past))

@@ -14,12 +14,12 @@ use Rattle.cx_semantics.proofs.MoveLaws.{source, AreThere, from_source, get-move
 use Rattle.fratx_elab.specs.Names.{Naming, stands_for, move_names}
 use Rattle.fratx_elab.specs.Ties.{Tied}
 
--- where something stands under an id once others were taken out, it stood there and the id was not taken out
+-- where something is under an id once others were taken out, it was there and the id was not taken out
 not_out : {X : Type 0} (b : Bool) (o : Option X) (x : X) → cond b None o ≡ Some x → (b ≡ false) × (o ≡ Some x)
 not_out true o x h = cc
 not_out false o x h = (refl, h)
 
--- what stands under k stood under its source; or under k, which is no old id
+-- what is under k was under its source; or under k, which is no old id
 pub data Stood {X : Type 0} (contents : map_.FinMap nat_cmp X) (moves : List IdMove) (k : ℕ) (x : X) : Type 0 where
   came : (j : ℕ) → source moves k ≡ Some j → map_.get contents j ≡ Some x → Stood contents moves k x
   stayed : source moves k ≡ None → list_any (nat_eq k) (old_ids moves) ≡ false → map_.get contents k ≡ Some x → Stood contents moves k x

@@ -18,7 +18,7 @@ hints_themselves naming (n ∷ ids) h (here, named) =
     ap (λ zs. pos n ∷ zs) (hints_themselves naming ids h named)
     ∙ sym (ap (map pos) (itself (stands_for naming n) n (filter_map (stands_for naming) ids) here (h n)))
 
--- ids that a proof may have can stand in its text
+-- ids that a proof may have can be in its text
 pub ids_step : (ids : List ℕ) → AllByRecursion IsProofId ids → AreStepIntegers (map pos ids)
 ids_step [] h = tt
 ids_step (n ∷ ids) (here, h) = (((λ e. absurd (let z : n ≡ 0 = ap nat_abs e in let l = here.0 in omega (arith, z, l))), here.1), ids_step ids h)

@@ -54,7 +54,7 @@ module _ (formula : Problem) (old new : State) where
     ),
   )
 
-  -- the same of moves that were lent
+  -- moves that were lent
   pub takes_lent_clause_moves : (moves lent again : List IdMove) → lent ≡ moves → again ≡ moves → AllHold (moving old.live.clauses lent) → new.live ≡ move_clauses old.live lent → new.clauses ≡ move_names old.clauses again → new.parities ≡ old.parities
       → TakesLogStep formula old (log.MoveClauses moves) (Ok None) new
   takes_lent_clause_moves moves lent again a b right e f g =

@@ -19,7 +19,7 @@ get_put m k v q = map_.get-insert nat_cmp_total m k v q ∙ ap (λ b. cond b (So
 get_drop : {X : Type 0} (m : map_.FinMap nat_cmp X) (k : ℕ) (q : ℕ) → map_.get (map_.remove m k) q ≡ cond (nat_eq q k) None (map_.get m q)
 get_drop m k q = map_.get-remove nat_cmp_total m k q ∙ ap (λ b. cond b None (map_.get m q)) (unsigned_tied q k)
 
--- what stands at q after a put or a drop at k
+-- what is at q after a put or a drop at k
 pub data At {X : Type 0} (q k : ℕ) (here : Option X) (old new : Option X) : Type 0 where
   at_it : q ≡ k → new ≡ here → At q k here old new
   elsewhere : (q ≡ k → ⊥) → new ≡ old → At q k here old new

@@ -1,4 +1,4 @@
--- One turn of the elaborator: from what is known before a step to what is known behind it, or to the answer.
+-- One turn of the elaborator: from what is known before a step to what is known after it, or to the answer.
 use Rattle.std.proofs.Common.{◌≡◌, refl, sym, ap, ◌∙◌, subst, ℕ, ◌+◌, ◌-◌, Bool, true, false, List, [], ◌∷◌, ◌++◌, length, length-append, take, append-nil, append_assoc, Option, Some, None, IfErr, Result, Ok, Err, inl, inr, arith, true≢false}
 use Rattle.cx_base.specs.Problem.{Problem, clauses_of, parities_of}
 use Rattle.cx_base.specs.Assumptions.{clashes}

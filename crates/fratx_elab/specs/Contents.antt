@@ -34,7 +34,7 @@ pub record IsLeastOf (entries : List Entry) (content : List ℕ) (number : ℕ) 
 abbrev pub IsNowhere : List Entry → List ℕ → Type 0
 IsNowhere entries content = (e : Entry) → Contains entries e → ¬ (e.content.items ≡ content)
 
--- at the number of each of the first so many entries stands the least number of one that says the same
+-- at the number of each of the first so many entries is the least number of one that says the same
 abbrev pub LeastBefore : ℕ → List Entry → List ℕ → Type 0
 LeastBefore count entries firsts = (i : ℕ) (d : Entry) → i < count → IsLeastOf entries (get_or entries i d).content.items (get_or firsts ((get_or entries i d).number - 1) 0)
 

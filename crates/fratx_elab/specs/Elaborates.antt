@@ -71,13 +71,13 @@ Writes formula old (ClauseWithHints n lits hints) written new = WritesClause old
 -- a sum names the parities that stand for those of the log, in order and with repeats
 Writes formula old (Parity n lits sources) written new =
     (written ≡ proof.Parity (old.parities.last + 1) lits (hints_for old.parities sources) ∷ []) × (new ≡ record { clauses = old.clauses; parities = name_next old.parities n })
--- so do a clause of a parity and a parity of clauses
+-- a clause of a parity and a parity of clauses name those that stand for their sources
 Writes formula old (ClauseOfParity n lits source) written new =
     ((p : ℕ) × (stands_for old.parities source ≡ Some p) × (written ≡ proof.ClauseOfParity (old.clauses.last + 1) lits (pos p) ∷ []))
     × (new ≡ record { clauses = name_next old.clauses n; parities = old.parities })
 Writes formula old (ParityOfClauses n lits sources) written new =
     (written ≡ proof.ParityOfClauses (old.parities.last + 1) lits (hints_for old.clauses sources) ∷ []) × (new ≡ record { clauses = old.clauses; parities = name_next old.parities n })
--- what was added is deleted, behind the last clause id that was given
+-- what was added is deleted, after the last clause id that was given
 Writes formula old (Delete n lits) written new =
     (written ≡ clause_deletion old.clauses.last (deleted_id (number_of_clauses formula) (stands_for old.clauses n)))
     × (new ≡ record { clauses = drop_name old.clauses n; parities = old.parities })

@@ -1,4 +1,4 @@
--- What stands in a proof for the ids of a log.
+-- What stands for the ids of a log in its proof.
 use Rattle.std.specs.Prelude.{◌≡◌, ◌≤◌, ℕ, ◌+◌, ℤ, pos, List, length, map, filter_map, Option, Some, is_some, IsTrue, refl}
 use Rattle.std.specs.List.{AllByRecursion}
 use Rattle.std.specs.Coded.{Coded, code_by, coded×, coded_ℕ}

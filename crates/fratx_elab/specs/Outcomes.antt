@@ -31,7 +31,7 @@ abbrev pub judgement_of : Elab → Judgement
 judgement_of (Done k) = accepted k
 judgement_of (Refused k cause) = refused k cause
 
--- where the sink told its steps, it tells them now with some more behind them, of which this holds
+-- where the sink told its steps, it tells them now with some more after them, of which this holds
 abbrev pub Gained : Option (List ProofStep) → Option (List ProofStep) → (List ProofStep → Type 0) → Type 0
 Gained before now P = (first : List ProofStep) → before ≡ Some first → (gained : List ProofStep) × (now ≡ Some (first ++ gained)) × P gained
 
@@ -41,7 +41,7 @@ IsProofWritten formula steps (Done k) gained = IsProofOf formula (take k steps) 
 IsProofWritten formula steps (Refused k cause) gained = IsProofOf formula (take (k - 1) steps) gained × IsOpen (proof_calculus formula) gained
 
 module _ {X : Type 0} (told : X → Option (List ProofStep)) (torn : X → ProofStep → Type 0) where
-  -- What stands where the log was not judged to its end: right steps, none of which ends the proof; after a fault of writing a right one behind them is torn.
+  -- What is told where the log was not judged to its end: right steps, none of which ends the proof; after a fault of writing a right one that follows is torn.
   abbrev pub IsCutOff : Problem → X → X → ElabFault → Type 0
   IsCutOff formula old new Memory = Gained (told old) (told new) (IsOpen (proof_calculus formula))
   IsCutOff formula old new Read = Gained (told old) (told new) (IsOpen (proof_calculus formula))
@@ -70,7 +70,7 @@ module _ {X : Type 0} (leaves : X → List LogStep → Ending → Type 0) (told 
     pub left : (steps : List LogStep) (ending : Ending) → leaves now steps ending → leaves first (before ++ steps) ending
     pub told_all : (start : List ProofStep) → told first ≡ Some start → told now ≡ Some (start ++ written)
 
-  -- the log goes on behind one step more, or is judged
+  -- the log goes on after one step more, or is judged
   abbrev pub Goes : Problem → X → X → State → ℕ → Option Elab → Type 0
   Goes formula first now state count None = Kept formula first now state (count + 1)
   Goes formula first now state count (Some elab) = IsElaborated formula first now elab
@@ -94,7 +94,7 @@ IsTooLongBy stuck Read = ⊤
 IsTooLongBy stuck Write = ⊤
 IsTooLongBy stuck TooLong = stuck ≡ Some text.TooLong
 
--- what stands where no step comes: a text that does not fit is refused at this number, the rest is a fault
+-- what is answered where no step comes: a text that does not fit is refused at this number, the rest is a fault
 abbrev pub text_refused : TextRefusal → ℕ → Result (Option Elab) ElabFault
 text_refused (text.BadToken place) k = Ok (Some (Refused k (causes.TextRefused place)))
 text_refused (text.Unterminated place) k = Ok (Some (Refused k (causes.TextRefused place)))
@@ -103,7 +103,7 @@ text_refused text.TooLong k = Err TooLong
 text_refused text.Memory k = Err Memory
 text_refused text.Failed k = Err Read
 
--- what stands where a step is not right
+-- what is answered where a step is not right
 abbrev pub step_refused : JudgeRefusal → ℕ → Result (Option Elab) ElabFault
 step_refused (refusal.Wrong cause) k = Ok (Some (Refused k cause))
 step_refused refusal.Memory k = Err Memory
@@ -115,7 +115,7 @@ what_follows_of (Ok done) false k = Ok None
 what_follows_of (Err sink.Memory) ends k = Err Memory
 what_follows_of (Err sink.Failed) ends k = Err Write
 
--- the source's faults stand but where a fault of reading is answered
+-- the source's faults stay except where a fault of reading is answered
 abbrev pub ReadsStand : {T : Type 0} → Result T ElabFault → ℕ → ℕ → Type 0
 ReadsStand (Ok elab) before now = now ≡ before
 ReadsStand (Err Memory) before now = now ≡ before
@@ -123,7 +123,7 @@ ReadsStand (Err Write) before now = now ≡ before
 ReadsStand (Err TooLong) before now = now ≡ before
 ReadsStand (Err Read) before now = ⊤
 
--- the sink's faults stand but where a fault of writing is answered
+-- the sink's faults stay except where a fault of writing is answered
 abbrev pub WritesStand : {T : Type 0} → Result T ElabFault → ℕ → ℕ → Type 0
 WritesStand (Ok elab) before now = now ≡ before
 WritesStand (Err Memory) before now = now ≡ before

@@ -52,12 +52,12 @@ abbrev pub Admits : Problem → Table → ℕ → List ℤ → Result (List Lite
 Admits formula table n lits (Ok target) = AllHold (adding formula table n lits) × (target ≡ literals lits)
 Admits formula table n lits (Err why) = IsRefusedBy (adding formula table n lits) why
 
--- live hints that are a right chain; else there is no such list
+-- live hints that are a right chain; otherwise there is no such list
 abbrev pub GivesChain : Table → List Literal → Result (List ℕ) JudgeRefusal → Type 0
 GivesChain table target (Ok ids) = AreLive table ids × IsChain target (named table ids)
 GivesChain table target (Err why) = IsRefusedBy (chained table target) why
 
--- hints that name live clauses which are a right chain; else there is no such list
+-- hints that name live clauses which are a right chain; otherwise there is no such list
 abbrev pub SettlesHints : Table → Naming → List Literal → {T : Type 0} → Result T JudgeRefusal → List ℤ → Type 0
 SettlesHints table naming target (Ok done) hints = (ids : List ℕ) × AreLive table ids × IsChain target (named table ids) × (hints ≡ hints_for naming ids)
 SettlesHints table naming target (Err why) hints = IsRefusedBy (chained table target) why

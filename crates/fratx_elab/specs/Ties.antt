@@ -11,7 +11,7 @@ use Rattle.fratx_elab.specs.Elaborates.{number_of_clauses, number_of_parities}
 abbrev pub HaveSameForm : List Literal → List Literal → Type 0
 HaveSameForm a b = normal_form a ≡ normal_form b
 
--- For each live id of the log one of the proof stands whose content is alike. The formula's constraints, `count` of them, are live in the proof under their numbers; each other id stands for one of the log.
+-- Each live id of the log has one of the proof whose content is alike. The formula's constraints, `count` of them, are live in the proof under their numbers; each other id stands for one of the log.
 pub record Tied (Alike : List Literal → List Literal → Type 0) (first : Table) (count : ℕ) (log proof : Table) (naming : Naming) : Type 0 where
   pub keyed : (n : ℕ) → is_live log n ≡ is_some (stands_for naming n)
   pub alike : (n p : ℕ) (lits : List Literal) → get log n ≡ Some lits → stands_for naming n ≡ Some p → (other : List Literal) × (get proof p ≡ Some other) × Alike lits other

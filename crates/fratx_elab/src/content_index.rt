@@ -8,7 +8,7 @@ use crate::naming::ProofId;
 use smallvec::SmallVec;
 use std::alloc::{AllocError, Global};
 
-/// What a constraint says, as numbers. Up to six stand in the value itself, so that short constraints take no memory of their own.
+/// What a constraint says, as numbers. Up to six are in the value itself, so that short constraints take no memory of their own.
 pub(crate) type Content = SmallVec<u32, 6>;
 
 /// A constraint of the formula: what it says, and its number among those of its kind.
@@ -84,7 +84,7 @@ fn firsts_of(alloc: Global, entries: &[Entry]) -> Result<Vec<ProofId>, AllocErro
 }
 
 impl ContentIndex {
-    /// The index of these entries, which stand in the order of their numbers.
+    /// The index of these entries, which are in the order of their numbers.
     pub fn of(alloc: Global, mut entries: Vec<Entry>) -> Result<ContentIndex, AllocError>
         requires fronts { All HasFront entries.items }
         requires numbered { AreNumbered entries.items }
@@ -107,7 +107,7 @@ impl ContentIndex {
     pub fn find(&self, content: Content) -> Option<ProofId>
         ensures { (entries : List Entry) → All HasFront entries → AreNumbered entries → Orders entries self.now → MatchOption result (IsNowhere entries content.items) (IsLeastOf entries content.items) }
     {
-        // Nothing that says this stands before it.
+        // Nothing before it says this.
         let least = Entry::new(content, ProofId::new(1));
         let place = match self.entries.binary_search(&least) {
             Ok(place) => place,

@@ -45,7 +45,7 @@ pub trait ElabEnds {
     // its sink has answered `Failed`
     ghost has_failed: { Self → Bool };
 
-    // a part of this step was written behind the steps, after a fault
+    // a part of this step was written after the steps, after a fault
     ghost torn: { Self → ProofStep → Type 0 };
 
     // what a call leaves as it was

@@ -1,4 +1,4 @@
-//! Moves of ids: what stands under the old ids is taken out, and then each content is put under its new id.
+//! Moves of ids: what is under the old ids is taken out, and then each content is put under its new id.
 ghost use Rattle.std.specs.Prelude.{◌≡◌, IfOk, OnOk};
 ghost use Rattle.cx_base.specs.declared.steps.LogStep.TheVariants as step;
 ghost use Rattle.cx_base.specs.Problem.{Problem};

@@ -18,7 +18,7 @@ pub enum Elab {
 /// Why a log was not judged to its end.
 #[derive(Clone, Copy, Debug, PartialEq, Eq, Drop, Error)]
 pub enum ElabFault {
-    /// Want of memory, which says nothing of the log.
+    /// Out of memory, which says nothing of the log.
     #[error("out of memory")]
     Memory,
     /// A fault of reading, which the source counted.

@@ -1,4 +1,4 @@
-//! Ids that stand for themselves, but for one at the most.
+//! Ids that stand for themselves, but for one at most.
 ghost use Rattle.std.specs.Prelude.{◌≡◌, ℕ, true, false, IfOk, Some};
 ghost use Rattle.std.specs.FinMap as map;
 ghost use Rattle.fratx_elab.specs.Names.{IsProofId};
@@ -26,13 +26,13 @@ struct Other {
     number: ProofId,
 }
 
-/// Ids that stand for themselves, but for one at the most. A bit is kept for each.
+/// Ids that stand for themselves, but for one at most. A bit is kept for each.
 ///
-/// A solver may use one id over and over for what it soon deletes, and else count as a proof does.
+/// A solver may use one id over and over for what it soon deletes, and otherwise count as a proof does.
 #[derive(Drop)]
 pub(crate) struct OwnIds {
     ids: IdMap<Itself>,
-    /// Its number goes before what `ids` has for its id.
+    /// Its number takes precedence over what `ids` has for its id.
     other: Option<Other>,
 }
 
@@ -63,7 +63,7 @@ fn own_number(ids: &IdMap<Itself>, id: u64) -> Option<ProofId>
     }
 }
 
-/// The same ids, each as its own number. The proof has `count` ids by now, and as many may have a place.
+/// The ids, each as its own number. The proof has `count` ids by now, and as many may have a place.
 fn own_numbers(alloc: Global, count: u64, ids: &IdMap<Itself>) -> Result<IdMap<ProofId>, AllocError>
     requires { AreProofIds ids.now }
     ensures { IfOk result (λ numbers. numbers ≡ each_itself ids.now) }
@@ -132,7 +132,7 @@ impl OwnIds {
         self.ids.remove(id);
     }
 
-    /// The same numbers as a map. The proof has `count` ids by now, and as many may have a place.
+    /// The numbers as a map. The proof has `count` ids by now, and as many may have a place.
     pub(crate) fn numbers(&self, alloc: Global, count: u64) -> Result<IdMap<ProofId>, AllocError>
         ensures { IfOk result (λ numbers. numbers ≡ self.now) }
     {

@@ -1,4 +1,4 @@
-//! What stands between two steps.
+//! What is kept between two steps.
 use crate::naming::Names;
 use cx_base::ProofStep;
 use proof_rules::JudgeMarks;

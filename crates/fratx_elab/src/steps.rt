@@ -56,7 +56,7 @@ fn only(room: Vec<u64>, id: ProofId) -> Result<IdList, AllocError>
     Ok(IdList::from_vec(ids))
 }
 
-/// The deletion of one clause, behind the id `front`, in the memory of `room`.
+/// The deletion of one clause, after the id `front`, in the memory of `room`.
 pub fn clause_deletion(room: Vec<u64>, front: ProofId, id: ProofId) -> Result<ProofStep, AllocError>
     ensures step { IfOk result (λ made. made ≡ step.DeleteClauses front (id ∷ [])) }
     ensures text { IfOk result HasProofText }

@@ -132,7 +132,7 @@ fn rename(alloc: Global, names: &Names, hints: &mut IntList)
     *hints = IntList::from_vec(list);
 }
 
-/// Leaves the first so many of the hints.
+/// Leaves this many hints, the first ones.
 fn shorten(alloc: Global, hints: &mut IntList, count: usize)
     ensures { hints.new ≡ take count hints.old }
 {
@@ -165,8 +165,8 @@ fn chain_of(
     }
 }
 
-/// Makes the hints that the log gives for a clause those of the proof: they stay as they stand, up to the end of a right chain, where
-/// they are one; else those of another chain come in their place.
+/// Makes the hints that the log gives for a clause those of the proof: they stay as they are, up to the end of a right chain, where
+/// they are one; otherwise those of another chain come in their place.
 #[inline(always)]
 fn settle_hints(
     alloc: Global,

@@ -46,7 +46,7 @@ fn write<E: ElabEnds>(ends: &mut E, written: &Option<ProofStep>) -> Result<(), S
     }
 }
 
-/// What stands where the source gives no step.
+/// What is answered where the source gives no step.
 fn refused_text(why: TextRefusal, number: u64) -> Result<Option<Elab>, ElabFault>
     ensures { result ≡ text_refused why number }
 {
@@ -62,7 +62,7 @@ fn refused_text(why: TextRefusal, number: u64) -> Result<Option<Elab>, ElabFault
     }
 }
 
-/// What stands where a step is not right.
+/// What is answered where a step is not right.
 fn refused_step(why: JudgeRefusal, number: u64) -> Result<Option<Elab>, ElabFault>
     ensures { result ≡ step_refused why number }
 {
@@ -93,7 +93,7 @@ fn what_follows(
     }
 }
 
-/// Takes the next step, behind so many; none where the log goes on.
+/// Takes the next step, after this many; none where the log goes on.
 fn take_next<E: ElabEnds>(
     alloc: Global,
     formula: &Formula,
@@ -183,7 +183,7 @@ fn take_all<E: ElabEnds>(
 /// Turns a log into a proof of the formula: each step is judged, and what is right is written with hints.
 ///
 /// Steps are taken in order. The first right step that derives an ending clause, all of whose literals are negations
-/// of assumed ones, ends the log; what stands behind it is not judged. The first wrong step is refused for its first
+/// of assumed ones, ends the log; what follows is not judged. The first wrong step is refused for its first
 /// cause. Where the assumptions clash, nothing is judged and nothing is written.
 /// The proof's steps are handed to the sink one by one, each before the next step is read.
 /// `ElabFault::Read` and `ElabFault::Write` come only where the source or the sink counted a fault,

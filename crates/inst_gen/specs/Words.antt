@@ -13,7 +13,7 @@ unfoldable pub words : ℕ → Stream → List ℕ
 words zero s = []
 words (suc k) s = (next_u64 s).0 ∷ words k (next_u64 s).1
 
--- what is left behind them
+-- what is left after them
 unfoldable pub after_words : ℕ → Stream → Stream
 after_words zero s = s
 after_words (suc k) s = after_words k (next_u64 s).1

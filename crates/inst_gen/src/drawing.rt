@@ -85,7 +85,7 @@ pub(crate) fn draw_parities(
     Ok(parities)
 }
 
-/// The literal over so many variables that a word says.
+/// The literal over this many variables that a word says.
 fn literal(variables: u32, word: u64) -> Lit
     requires low { 1 ≤ variables }
     requires high { variables ≤ MAX_VARIABLE }

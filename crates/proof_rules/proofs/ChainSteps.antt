@@ -29,7 +29,7 @@ chain-no_hint assumed table z zs h = ap (λ o. chain assumed (cons_option o (hin
 pub chain-one : (assumed new clause : List Literal) (clauses : List (List Literal)) (l : Literal) → one l ≡ count_left (left assumed clause) → HaveSame new (l ∷ assumed) → chain new clauses ≡ chain assumed (clause ∷ clauses)
 chain-one assumed new clause clauses l e h = chain-same new (l ∷ assumed) clauses h ∙ ap (λ c. go_on c (λ m. chain (m ∷ assumed) clauses)) e
 
--- the chain behind a hint with one literal left ends as the one from it on
+-- the chain after a hint with one literal left ends as the one from it on
 pub ends_on : (table : Table) (assumed new clause : List Literal) (l : Literal) (z : ℤ) (zs : List ℤ) → names_live table z ≡ true → get table (nat_abs z) ≡ Some clause → one l ≡ count_left (left assumed clause) → HaveSame new (l ∷ assumed) → (end : Option End) → EndsAs table new zs end → EndsAs table assumed (z ∷ zs) end
 ends_on table assumed new clause l z zs named here is_one same None h = ap (λ b. b && all_named table zs) named ∙ h
 ends_on table assumed new clause l z zs named here is_one same (Some end) h =

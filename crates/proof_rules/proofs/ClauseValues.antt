@@ -54,7 +54,7 @@ always_met set lits same h v =
       | inr t ↦ met_by v lits (negate o.0) (sym (same (negate o.0)) ∙ o.2) (literal_true-negate v o.0 ∙ t)
     ]
 
--- without one, no literal stands there with its negation
+-- without one, no literal is there with its negation
 pub no_opposite : (set lits : List Literal) → has_opposites set lits ≡ false → (l : Literal) → has_literal lits l ≡ true → has_literal set (negate l) ≡ false
 no_opposite set [] h l k = absurd (true≢false (sym k))
 no_opposite set (m ∷ lits) h l k = go (has_literal set (negate m)) refl h (or_cases (same_literal l m) (has_literal lits l) k) (no_opposite set lits)

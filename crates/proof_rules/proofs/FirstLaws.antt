@@ -9,7 +9,7 @@ use Rattle.proof_rules.specs.FirstLists.{remaining}
 abbrev Lists : Type 0
 Lists = List (List Literal)
 
--- what stands in a place
+-- what is in a place
 pub left_at : (gone : List Bool) (lists : Lists) (k : ℕ) → length gone ≤ length lists → get_or (remaining gone lists) k None ≡ cond (get_or gone k true) None (Some (get_or lists k []))
 left_at [] [] k few = refl
 left_at [] (lits ∷ lists) k few = refl
@@ -26,7 +26,7 @@ some_where false lits = refl
 pub has_left : (gone : List Bool) (lists : Lists) (k : ℕ) → length gone ≤ length lists → is_some (get_or (remaining gone lists) k None) ≡ not (get_or gone k true)
 has_left gone lists k few = ap is_some (left_at gone lists k few) ∙ some_where (get_or gone k true) (get_or lists k [])
 
--- a list that is left stands under a number of the formula
+-- a list that is left is under a number of the formula
 pub list_left : (gone : List Bool) (lists : Lists) (k : ℕ) → length gone ≤ length lists + 1 → get_or gone 0 true ≡ true → is_some (get_or (remaining gone ([] ∷ lists)) k None) ≡ true
     → (1 ≤ k) × (k ≤ length lists) × (get_or (remaining gone ([] ∷ lists)) k None ≡ Some (get_or lists (k - 1) []))
 list_left gone lists zero few none some =

@@ -1,4 +1,4 @@
--- Lists of literals that stand in one.
+-- Lists of literals that are kept in one.
 use Rattle.std.proofs.Common.{◌≡◌, refl, sym, ap, ◌∙◌, subst, ℕ, ◌+◌, ◌-◌, ◌≤◌, Bool, true, false, cond, ◌||◌, List, [], ◌∷◌, ◌++◌, map, length, take, drop, Option, Some, None, MatchOption, Result, nat_cmp, is_eq, is_some, eqb-true, length-append, length-drop, take_all, drop_at, arith}
 use Rattle.std.specs.Cmp.{nat_cmp_total, unsigned_tied}
 use Rattle.std.specs.FinMap as map_
@@ -23,7 +23,7 @@ use Rattle.proof_rules.proofs.MovingLaws.{AllFit, moved_seen, judged_seen}
 abbrev pub Spans : Type 0
 Spans = map_.FinMap nat_cmp Span
 
--- the span of literals that are put behind others
+-- the span of literals that are put after others
 abbrev pub span_behind : List Literal → List Literal → Span
 span_behind lits more = record { start = length lits; len = length more }
 
@@ -44,7 +44,7 @@ get-kept_in lits spans q =
     ∙ find-mapped (literals_at lits) q (map_.entries spans)
     ∙ ap (option_map (literals_at lits)) (sym (map_.get-entries spans q))
 
--- ---- literals put behind others
+-- ---- literals put after others
 
 literals_at-append : (lits more : List Literal) (span : Span) → span.start + span.len ≤ length lits → literals_at (lits ++ more) span ≡ literals_at lits span
 literals_at-append lits more span h =
@@ -61,7 +61,7 @@ module _ (lits more : List Literal) (spans : Spans) (within : AreWithin lits spa
   pub AreWithin-append : AreWithin (lits ++ more) spans
   AreWithin-append n span g = omega (arith, length-append lits more, within n span g)
 
-  -- those that are left behind the others are none's
+  -- those that are left after the others belong to none
   pub kept_in-append : kept_in (lits ++ more) spans ≡ kept_in lits spans
   kept_in-append = same_by _ _ (λ q. get-kept_in (lits ++ more) spans q ∙ by q (map_.get spans q) refl ∙ sym (get-kept_in lits spans q))
     where

@@ -10,7 +10,7 @@ any_passed p xs i d h fails = ap (λ b. b || list_any p (drop (i + 1) xs)) (sym 
 pub any_ended : {X : Type 0} (p : X → Bool) (xs : List X) (i : ℕ) → length xs ≤ i → false ≡ list_any p (drop i xs)
 any_ended p xs i h = ap (list_any p) (sym (drop_all i xs h))
 
--- one more result behind those of the items so far
+-- one more result after those of the items so far
 pub map_more : {X Y : Type 0} (f : X → Y) (xs : List X) (i : ℕ) (d : X) → {ys : List Y} {y : Y} → ys ≡ map f (take i xs) → i < length xs → y ≡ f (get_or xs i d) → ys ++ y ∷ [] ≡ map f (take (i + 1) xs)
 map_more f xs i d {ys} so_far h here =
     ap (λ z. ys ++ z ∷ []) here
@@ -21,7 +21,7 @@ map_more f xs i d {ys} so_far h here =
 pub map_ended : {X Y : Type 0} (f : X → Y) (xs : List X) (i : ℕ) → {ys : List Y} → ys ≡ map f (take i xs) → length xs ≤ i → ys ≡ map f xs
 map_ended f xs i so_far h = so_far ∙ ap (map f) (take_all i xs h)
 
--- a default behind a list changes no place
+-- a default after a list changes no place
 pub get_or_padded : {X : Type 0} (xs : List X) (d : X) (p : ℕ) → get_or (xs ++ d ∷ []) p d ≡ get_or xs p d
 get_or_padded [] d zero = refl
 get_or_padded [] d (suc p) = refl

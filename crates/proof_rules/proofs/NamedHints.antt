@@ -60,7 +60,7 @@ module _ (table : Table) where
       both (is_negative z) (is_live table (nat_abs z)) _ (or_left _ (list_any is_negative zs) n) (or_left _ (list_any (λ y. not (is_live table (nat_abs y))) zs) l)
       (named_from zs (or_right (is_negative z) _ n) (or_right (not (is_live table (nat_abs z))) _ l))
 
-  -- the rules of hints hold, and so what the others answer stands
+  -- the rules of hints hold, and so what the others answer counts
   pub named_holds : (hints : List ℤ) (rules : List Rule) → all_named table hints ≡ true → AllHold rules → AllHold (hinting table hints ++ rules)
   named_holds hints rules h hold = (none_negative hints h, (none_gone hints h, hold))
 

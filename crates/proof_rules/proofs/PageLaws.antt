@@ -90,7 +90,7 @@ held_changed t u xs i b v h inside here others =
     let at : 0 + i ≡ i = omega arith in
     changed_from 0 t u 64 xs i b v (omega (arith, h)) inside (ap (bit_at u) at ∙ here) (λ j high apart. others j high (λ e. apart (e ∙ sym at)))
 
--- the same for the places of the page
+-- such a change, for the places of the page
 pub page_changed : {V : Type 0} (t u : ℕ) (xs : List V) (i b : ℕ) (v : V) → length xs ≡ 64 → i < length xs → bit_at u i ≡ b
     → ((j : ℕ) → j < 64 → j ≢ i → bit_at u j ≡ bit_at t j) → all_places (held_in u (set xs i v)) ≡ set (all_places (held_in t xs)) i (held b v)
 page_changed t u xs i b v full inside here others =
@@ -186,7 +186,7 @@ pub entries_from-page : {V : Type 0} (n : ℕ) (xs : List (Option V)) → HasAll
 entries_from-page n [] h = entries_from-none n 64
 entries_from-page n (x ∷ xs) h = ap (entries_from n) (all_places-full (x ∷ xs) (h (omega arith)))
 
--- the ids with a value in a page, behind those that a list had
+-- the ids with a value in a page, after those that a list had
 pub keys_pushed : {V : Type 0} (n i : ℕ) (xs : List (Option V)) (ids old : List ℕ) → HasAllOrNone xs → length xs ≤ i
     → ids ++ keys_of (entries_from (n + i) (drop i xs)) ≡ old ++ keys_of (entries_from n xs)
     → ids ≡ old ++ keys_of (entries_from n (all_places xs))

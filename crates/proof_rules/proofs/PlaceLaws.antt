@@ -1,4 +1,4 @@
--- Lists at their places, and entries behind them.
+-- Lists at their places, and entries after them.
 use Rattle.std.proofs.Common.{◌≡◌, ◌≢◌, refl, sym, ap, ◌∙◌, ℕ, zero, suc, ◌+◌, ◌<◌, ◌≤◌, cond, Bool, true, false, List, [], ◌∷◌, ◌++◌, length, get_or, set, drop, Option, Some, None, nat_cmp, is_eq, is_some, arith, ◌||◌, inl, inr, append_assoc, append-nil}
 use Rattle.std.specs.Cmp.{unsigned_tied}
 use Rattle.std.specs.Option.{option_or}
@@ -38,7 +38,7 @@ look-from (suc i) q n (None ∷ xs) es h = look-from i q (suc n) xs es (omega ar
 look-from (suc i) q n (Some v ∷ xs) es h =
     ap (λ b. cond b (Some v) (look q (entries_from (suc n) xs ++ es))) (is_eq-other q n (omega arith)) ∙ look-from i q (suc n) xs es (omega arith)
 
--- what stands in the place of an id, and else the entry behind the places
+-- what is in the place of an id, and otherwise the entry after the places
 pub look-places : {V : Type 0} (q : ℕ) (xs : List (Option V)) (es : List (ℕ × V)) → look q (entries_of xs ++ es) ≡ option_or (get_or xs q None) (look q es)
 look-places q xs es = look-from q q 0 xs es (omega arith)
 
@@ -73,7 +73,7 @@ other-answer k q o es fs h apart = h ∙ ap (λ b. cond b o (look q es)) (is_eq-
 same-answer : {V : Type 0} (k : ℕ) (o : Option V) (es fs : List (ℕ × V)) → look k fs ≡ cond (is_eq (nat_cmp k k)) o (look k es) → look k fs ≡ o
 same-answer k o es fs h = h ∙ ap (λ b. cond b o (look k es)) (is_eq-same k)
 
--- a list put behind the places, under an id that has none
+-- a list put after the places, under an id that has none
 pub look-put_behind : {V : Type 0} (k : ℕ) (v : V) (xs : List (Option V)) (es fs : List (ℕ × V)) → length xs ≤ k → ((q : ℕ) → look q fs ≡ cond (is_eq (nat_cmp k q)) (Some v) (look q es)) → (q : ℕ) → look q (entries_of xs ++ fs) ≡ cond (is_eq (nat_cmp k q)) (Some v) (look q (entries_of xs ++ es))
 look-put_behind k v xs es fs past h =
     look-changed k (Some v) xs xs es fs
@@ -81,7 +81,7 @@ look-put_behind k v xs es fs past h =
     (λ q apart. refl)
     (λ q apart. other-answer k q (Some v) es fs (h q) apart)
 
--- nothing is left of an id once it is out of its place and out of what stands behind
+-- nothing is left of an id once it is out of its place and out of what comes after
 pub emptied : {V : Type 0} (xs : List (Option V)) (k : ℕ) → get_or (set xs k None) k None ≡ None
 emptied [] k = refl
 emptied (x ∷ xs) zero = refl
@@ -128,6 +128,6 @@ keys-answer n es ids h xs =
     here : look n (entries_of xs) ≡ get_or xs n None
     here = ap (look n) (sym (append-nil (entries_of xs))) ∙ look-places n xs [] ∙ or_none (get_or xs n None)
 
--- what a table of places, and of entries behind them, answers
+-- what a table of places, and of entries after them, answers
 pub get-places : {V : Type 0} (q : ℕ) (xs : List (Option V)) (es : List (ℕ × V)) → map.get {R = nat_cmp} (map.from_entries (entries_of xs ++ es)) q ≡ option_or (get_or xs q None) (look q es)
 get-places q xs es = get-from_entries (entries_of xs ++ es) q ∙ look-places q xs es

@@ -1,4 +1,4 @@
--- Lists in their places, and a map of those behind them.
+-- Lists in their places, and a map of those after them.
 use Rattle.std.proofs.Common.{◌≡◌, refl, sym, ap, ◌∙◌, subst, ◌+◌, ◌<◌, take, ℕ, zero, suc, cond, Bool, true, false, Result, eqb-true, true≢false, List, [], ◌∷◌, ◌++◌, map, get_or, set, Option, Some, None, nat_cmp, is_some, append-nil, length, arith}
 use Rattle.std.specs.Cmp.{nat_cmp_total, unsigned_tied}
 use Rattle.std.specs.FinMap as fin
@@ -31,7 +31,7 @@ look-get m q = sym (get-from_entries (fin.entries m) q) ∙ fin.get-from_entries
 pub get-behind : (xs : Lists) (m : Table) (q : ℕ) → fin.get (behind xs m) q ≡ option_or (get_or xs q None) (fin.get m q)
 get-behind xs m q = get-places q xs (fin.entries m) ∙ ap (option_or (get_or xs q None)) (look-get m q)
 
--- a list put behind the places goes out of its own
+-- a list put after the places goes out of its own
 pub insert-behind : (xs : Lists) (m : Table) (k : ℕ) (lits : List Literal) → behind (set xs k None) (fin.insert m k lits) ≡ fin.insert (behind xs m) k lits
 insert-behind xs m k lits =
     let new = fin.insert m k lits in
@@ -41,7 +41,7 @@ insert-behind xs m k lits =
     (λ q apart. get_or-set_other xs k q None None apart)
     (λ q apart. look-get new q ∙ fin.get-insert nat_cmp_total m k lits q ∙ ap (λ b. cond b (Some lits) (fin.get m q)) (is_eq-other q k apart) ∙ sym (look-get m q)))
 
--- a list that stands in its place goes before what stands behind
+-- a list that is in its place takes precedence over what comes after
 pub restore-behind : (xs ys : Lists) (m : Table) (k : ℕ) (lits : List Literal) → StandsThere k lits xs ys → behind ys m ≡ fin.insert (behind xs m) k lits
 restore-behind xs ys m k lits h =
     from_entries-insert (entries_of xs ++ fin.entries m) (entries_of ys ++ fin.entries m) k lits
@@ -102,7 +102,7 @@ none_set [] k h = refl
 none_set (x ∷ xs) zero h = ap (λ y. y ∷ xs) (sym h)
 none_set (x ∷ xs) (suc k) h = ap (λ ys. x ∷ ys) (none_set xs k h)
 
--- a list that is put behind its place is still there
+-- a list that is put after its place is still there
 pub put_again : (xs : Lists) (m : Table) (k : ℕ) (lits : List Literal) → get_or xs k None ≡ Some lits → behind (set xs k None) (fin.insert m k lits) ≡ behind xs m
 put_again xs m k lits h =
     insert-behind xs m k lits

@@ -12,7 +12,7 @@ abbrev pub AreDistinct : List ℕ → Type 0
 AreDistinct [] = ⊤
 AreDistinct (x ∷ xs) = (list_any (λ y. nat_eq y x) xs ≡ false) × AreDistinct xs
 
--- each member of the set stands in the list once, and no variable is 0
+-- each member of the set is in the list once, and no variable is 0
 pub record Lists (variables : set.FinSet nat_cmp) (xs : List ℕ) : Type 0 where
   pub same : set.from_list xs ≡ variables
   pub once : AreDistinct xs

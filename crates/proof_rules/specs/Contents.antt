@@ -12,7 +12,7 @@ pub record RisesOver (members : set.FinSet nat_cmp) (xs : List ℕ) : Type 0 whe
   pub same : set.from_list xs ≡ members
   pub rising : IsStrictlySortedBy nat_cmp xs
 
--- ys: the numbers that stand in xs an odd number of times, rising
+-- ys: the numbers that occur in xs an odd number of times, rising
 pub record KeepsOdd (xs ys : List ℕ) : Type 0 where
   pub odd : (q : ℕ) → list_any (λ y. nat_eq y q) ys ≡ (count_by (λ x. nat_eq x q) xs % 2 == 1)
   pub rising : IsStrictlySortedBy nat_cmp ys

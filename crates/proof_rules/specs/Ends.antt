@@ -19,7 +19,7 @@ end_seen end.Right = right
 end_seen end.NotUnit = not_unit
 end_seen end.HintsEnd = hints_end
 
--- one more literal behind those counted
+-- one more literal after those counted
 abbrev pub and_one : Left → Literal → Left
 and_one none l = one l
 and_one (one m) l = if same_literal m l then one m else more

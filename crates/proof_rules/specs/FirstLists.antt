@@ -20,11 +20,11 @@ remaining (true ∷ gone) (lits ∷ lists) = None ∷ remaining gone lists
 remaining (false ∷ gone) (lits ∷ lists) = Some lits ∷ remaining gone lists
 remaining gone lists = []
 
--- under this number stands the list, and under each other what stood there
+-- the list is under this number, and under each other is what was there
 abbrev pub StandsThere : ℕ → List Literal → List (Option (List Literal)) → List (Option (List Literal)) → Type 0
 StandsThere n lits old new = (get_or new n None ≡ Some lits) × ((q : ℕ) → q ≢ n → get_or new q None ≡ get_or old q None)
 
--- no list stands under an id of the moves, old or new
+-- no list is under an id of the moves, old or new
 abbrev pub AreElsewhere : List (Option (List Literal)) → List IdMove → Type 0
 AreElsewhere lists [] = Unit {0}
 AreElsewhere lists (m ∷ moves) = ((get_or lists m.from None ≡ None) × (get_or lists m.to None ≡ None)) × AreElsewhere lists moves

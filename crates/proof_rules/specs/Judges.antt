@@ -4,7 +4,7 @@ use Rattle.cx_semantics.specs.Judging.{Rule, AllHold, FirstFailure}
 use Rattle.proof_rules.specs.declared.refusal.JudgeRefusal.{JudgeRefusal}
 use Rattle.proof_rules.specs.declared.refusal.JudgeRefusal.TheVariants.{Wrong, Memory}
 
--- the cause is that of the first rule that fails; want of memory says nothing of the rules
+-- the cause is that of the first rule that fails; out of memory says nothing of the rules
 abbrev pub IsRefusedBy : List Rule → JudgeRefusal → Type 0
 IsRefusedBy rules (Wrong cause) = FirstFailure rules cause
 IsRefusedBy rules Memory = ⊤

@@ -1,4 +1,4 @@
--- Lists of literals that stand in one.
+-- Lists of literals that are kept in one.
 use Rattle.std.specs.Prelude.{◌≡◌, ◌+◌, ◌≤◌, ℕ, List, map, length, slice_range, Some}
 use Rattle.std.specs.Ordering.{nat_cmp}
 use Rattle.std.specs.FinMap as map_

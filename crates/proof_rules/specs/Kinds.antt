@@ -41,6 +41,6 @@ names_live table z = not (is_negative z) && is_live table (nat_abs z)
 abbrev pub all_named : Table → List ℤ → Bool
 all_named table hints = list_all (names_live table) hints
 
--- an id is live exactly where it stands in the list
+-- an id is live exactly where it is in the list
 abbrev pub ListsLive : Table → List ℕ → Type 0
 ListsLive table ids = (n : ℕ) → list_any (eq_by_cmp nat_cmp n) ids ≡ is_live table n

@@ -5,13 +5,13 @@ use Rattle.std.specs.List.{list_any}
 use Rattle.std.specs.Ordering.{nat_cmp, eq_by_cmp}
 use Rattle.std.specs.FinMap as map
 
--- what stands in the places, each by its number, counted from n on; an empty place has no entry
+-- what is in the places, each by its number, counted from n on; an empty place has no entry
 abbrev pub entries_from : {V : Type 0} → ℕ → List (Option V) → List (ℕ × V)
 entries_from n [] = []
 entries_from n (None ∷ places) = entries_from (suc n) places
 entries_from n (Some v ∷ places) = (n, v) ∷ entries_from (suc n) places
 
--- the same with the places counted from 0 on, as those of a `Vec` are
+-- what is in the places, counted from 0 on, as those of a `Vec` are
 abbrev pub entries_of : {V : Type 0} → List (Option V) → List (ℕ × V)
 entries_of places = entries_from 0 places
 
@@ -34,7 +34,7 @@ abbrev pub held_from : {V : Type 0} → ℕ → ℕ → List V → List (Option 
 held_from n taken [] = []
 held_from n taken (v ∷ places) = held (bit_at taken n) v ∷ held_from (suc n) taken places
 
--- the same with the places counted from 0 on
+-- what places hold, counted from 0 on
 abbrev pub held_in : {V : Type 0} → ℕ → List V → List (Option V)
 held_in taken places = held_from 0 taken places
 
@@ -42,6 +42,6 @@ held_in taken places = held_from 0 taken places
 abbrev pub HasAllOrNone : {V : Type 0} → List V → Type 0
 HasAllOrNone places = 0 < length places → length places ≡ 64
 
--- an id stands in the list exactly where it has a value
+-- an id is in the list exactly where it has a value
 abbrev pub HasKeys : {V : Type 0} → map.FinMap nat_cmp V → List ℕ → Type 0
 HasKeys values ids = (n : ℕ) → list_any (eq_by_cmp nat_cmp n) ids ≡ map.contains_key values n

@@ -86,7 +86,7 @@ fn are_named(live: &Live, hints: &[i64]) -> bool
         .all(|hint| hinted_clause(live, *hint).is_some())
 }
 
-/// This end, where each of the hints behind it is not negative and names a live clause.
+/// This end, where each of the hints after it is not negative and names a live clause.
 fn end_before(live: &Live, rest: &[i64], end: End) -> Option<End>
     ensures { MatchOption result (all_named live.now.clauses rest.now ≡ false) (λ e. (all_named live.now.clauses rest.now ≡ true) × (e ≡ end)) }
 {
@@ -99,7 +99,7 @@ fn end_before(live: &Live, rest: &[i64], end: End) -> Option<End>
 
 /// How the chain of the hinted clauses ends; none where some hint is negative or names no live clause.
 ///
-/// Each hint is looked up once, and no clause is taken behind the one that ends the chain.
+/// Each hint is looked up once, and no clause is taken after the one that ends the chain.
 fn chain_end(
     assumed: &mut LiteralSet,
     live: &Live,

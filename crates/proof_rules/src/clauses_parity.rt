@@ -60,7 +60,7 @@ fn exclude(table: &mut [bool], variables: &[Var], clause: &LiteralSet, place: us
     }
 }
 
-/// Makes the table that of the assignments of so many variables, none of them marked.
+/// Makes the table that of the assignments of this many variables, none of them marked.
 fn clear_table(table: &mut Vec<bool>, variables: usize) -> Result<(), AllocError>
     requires { variables ≤ WIDEST }
     ensures { OnOk result (table.new.items ≡ replicate (2 ^ variables) false) }
@@ -90,7 +90,7 @@ fn exclude_all(
     Ok(())
 }
 
-/// Whether each assignment is excluded under which the sum of the variables is wrong.
+/// Whether each assignment under which the sum of the variables is wrong is excluded.
 fn all_excluded(table: &[bool], variables: &[Var], place: usize, step: usize, wrong: bool) -> bool
     requires place { place < step }
     requires fits { HasPlaces variables.now step (length table.now) }

@@ -40,7 +40,7 @@ fn fill_numbers(numbers: &mut Vec<u32>, lits: &[Lit]) -> Result<(), AllocError>
     Ok(())
 }
 
-/// Keeps each number that stands an odd number of times in a sorted list, once: two that are equal cancel.
+/// Keeps each number that occurs an odd number of times in a sorted list, once: two that are equal cancel.
 fn cancel_pairs(numbers: &mut Vec<u32>)
     requires { IsNonDecreasing numbers.old.items }
     ensures { KeepsOdd numbers.old.items numbers.new.items }

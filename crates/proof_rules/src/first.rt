@@ -1,4 +1,4 @@
-//! The constraints that a table has from a formula, where they stand.
+//! The constraints that a table has from a formula, in place.
 ghost use Rattle.std.specs.Prelude.{◌≡◌, ◌≢◌, ◌≤◌, ◌<◌, ◌-◌, ◌^◌, ◌++◌, ◌∷◌, [], ℕ, IfOk, OnOk, OnErr, MatchOption, None, Some, true, false, get_or, is_some, length, map, replicate, set, slice_get};
 ghost use Rattle.std.specs.Bool.{MatchBool};
 ghost use Rattle.std.specs.Map.{keys_of};
@@ -48,7 +48,7 @@ impl<'f> Numbered<'f> {
     }
 }
 
-/// None of so many lists went. There is none under 0.
+/// None of this many lists went. There is none under 0.
 fn all_left(alloc: Global, count: usize) -> Result<Vec<bool>, AllocError>
     requires { count < 2 ^ 60 }
     ensures { IfOk result (λ gone. gone.items ≡ true ∷ replicate count false) }
@@ -77,7 +77,7 @@ fn put_back(gone: &mut Vec<bool>, number: usize) -> Result<(), AllocError>
 #[derive(Drop)]
 pub(crate) struct FirstLists<'f> {
     lists: Numbered<'f>,
-    /// Whether the list of each number went, from 0, under which there is none. Those behind the end went too.
+    /// Whether the list of each number went, from 0, under which there is none. Those after the end went too.
     gone: Vec<bool>,
 }
 
@@ -153,7 +153,7 @@ impl<'f> FirstLists<'f> {
         Ok(true)
     }
 
-    /// Puts the ids of the lists behind these.
+    /// Adds the ids of the lists to these.
     pub(crate) fn push_ids(&self, ids: &mut Vec<u64>) -> Result<(), AllocError>
         ensures { OnOk result (ids.new.items ≡ ids.old.items ++ keys_of (entries_of self.now)) }
     {

@@ -10,7 +10,7 @@ use std::collections::BTreeMap;
 use std::marker::Model;
 
 /// From ids to values. Ids are nearly always small and close together, so most are places of a list of pages; all
-/// others stand in an ordered map. What stands in an id's place goes before what the ordered map has for it.
+/// others are in an ordered map. What is in an id's place takes precedence over what the ordered map has for it.
 #[derive(Drop)]
 pub struct IdMap<V> {
     /// The values of small ids, each in the place of its id. A page without values takes half a byte for each id.
@@ -21,7 +21,7 @@ pub struct IdMap<V> {
     /// more, so that no id that a proof names takes memory that the proof's length does not pay for.
     added: u64,
     /// The page that was emptied last. It keeps its places until another page is emptied, so that a value that comes
-    /// and goes takes no memory anew.
+    /// and goes takes no new memory.
     idle: usize,
 }
 
@@ -47,7 +47,7 @@ impl<V: Drop + Filler> IdMap<V> {
         IdMap::beside(alloc, 0)
     }
 
-    /// Nothing is in it, and so many values stand elsewhere, whose ids come before those of this map.
+    /// Nothing is in it, and this many values are elsewhere, whose ids come before those of this map.
     pub fn beside(alloc: Global, count: u64) -> IdMap<V>
         ensures { result ≡ map.empty }
     {
@@ -116,7 +116,7 @@ impl<V: Drop + Filler> IdMap<V> {
     }
 }
 
-/// Whether an id has a place, or may get one when so many values were put in.
+/// Whether an id has a place, or may get one once this many values were put in.
 fn is_near<V>(near: &[Page<V>], added: u64, id: u64) -> bool
     ensures { result ≡ false → length (places_of near.now) ≤ id }
 {

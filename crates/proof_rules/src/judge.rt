@@ -13,7 +13,7 @@ use cx_base::LitList;
 
 /// Judges a clause by a chain of hints: live clauses, each of which has one literal left or none.
 ///
-/// The target's negations are assumed, and then what each hint has left, in order; hints behind the one with nothing
+/// The target's negations are assumed, and then what each hint has left, in order; hints after the one with nothing
 /// left are not taken. The causes, in order: `RatHint`, `HintNotLive`, `HintNotUnit`, `HintsEnd`.
 /// It costs the literals of the target and of the hints that are taken. What `assumed` has before and after plays no
 /// part: only its memory is used again.

@@ -15,19 +15,19 @@ use std::alloc::{AllocError, Global};
 use std::marker::Model;
 use std::mem;
 
-/// How many literals stand behind one another at most, those of lists that went among them.
+/// How many literals there are at most, with those of lists that went.
 const MAX_LITERALS: usize = 4_294_967_295;
 
-/// Up to so many literals are written one by one, which costs less than a call that copies them at once.
+/// Up to this many literals are written one by one, which costs less than a call that copies them at once.
 const FEW: usize = 8;
 
 /// How many literals pay for the walk over a page of the map: as many as take the memory of a page without values.
 const LITERALS_PER_PAGE: usize = 8;
 
-/// Room for so many more comes with each gathering.
+/// Room for this many more comes with each gathering.
 const MORE_LITERALS: usize = 1024;
 
-/// Where the literals of a list stand among those of all.
+/// Where the literals of a list are among those of all.
 #[derive(Clone, Copy, Drop)]
 struct Span {
     start: u32,
@@ -42,14 +42,14 @@ impl Filler for Span {
 
 /// Lists of literals by their ids.
 ///
-/// The literals of all stand one behind the other in one vector, so that a list takes eight bytes and its literals, and
+/// The literals of all follow one another in one vector, so that a list takes eight bytes and its literals, and
 /// no memory of its own. Those of a list that goes stay where they are. Where the vector has no room and a third of its
-/// literals or more are those of lists that went, it is made anew, and else it grows.
+/// literals or more are those of lists that went, it is made anew, and otherwise it grows.
 #[derive(Drop)]
 pub(crate) struct KeptLists {
     spans: IdMap<Span>,
     lits: Vec<Lit>,
-    /// How many literals the lists have. A list that comes under the id of another counts beside it.
+    /// How many literals the lists have. A list that comes under the id of another counts too.
     live: usize,
 }
 
@@ -77,7 +77,7 @@ fn part(lits: &[Lit], span: Span) -> &[Lit]
     &lits[start..start + span.len as usize]
 }
 
-/// Makes room for so many more, where it is missing: the vector grows by half or more, so that a literal costs constant time.
+/// Makes room for this many more, where it is missing: the vector grows by half or more, so that a literal costs constant time.
 fn make_room(all: &mut Vec<Lit>, more: usize) -> Result<(), AllocError>
     ensures items { all.new.items ≡ all.old.items }
     ensures room { OnOk result (vec_len all.new + more ≤ vec_capacity all.new) }
@@ -88,7 +88,7 @@ fn make_room(all: &mut Vec<Lit>, more: usize) -> Result<(), AllocError>
     all.reserve_exact((all.len() / 2).max(more))
 }
 
-/// Puts literals behind the others one by one, where there is room for them.
+/// Adds literals one by one, where there is room for them.
 fn push_all(all: &mut Vec<Lit>, lits: &[Lit])
     requires { vec_len all.old + length lits.now ≤ vec_capacity all.old }
     ensures { all.new.items ≡ all.old.items ++ lits.now }
@@ -98,7 +98,7 @@ fn push_all(all: &mut Vec<Lit>, lits: &[Lit])
     }
 }
 
-/// Puts literals behind the others. Without memory nothing changes.
+/// Adds literals. Without memory nothing changes.
 fn append(all: &mut Vec<Lit>, lits: &[Lit]) -> Result<(), AllocError>
     ensures items { OnOk result (all.new.items ≡ all.old.items ++ lits.now) }
     ensures err { OnErr result (all.new.items ≡ all.old.items) }
@@ -111,7 +111,7 @@ fn append(all: &mut Vec<Lit>, lits: &[Lit]) -> Result<(), AllocError>
     Ok(())
 }
 
-/// Puts literals behind the others, and tells where they stand. Without memory nothing changes.
+/// Adds literals, and tells where they are. Without memory nothing changes.
 fn push_list(all: &mut Vec<Lit>, lits: &[Lit]) -> Result<Span, AllocError>
     ensures items { OnOk result (all.new.items ≡ all.old.items ++ lits.now) }
     ensures span { IfOk result (λ span. span ≡ record { start = length all.old.items; len = length lits.now }) }
@@ -137,7 +137,7 @@ fn len_of(spans: &IdMap<Span>, id: u64) -> usize {
 }
 
 impl KeptLists {
-    /// No list is in it, and so many stand elsewhere, whose ids come before those of this one.
+    /// No list is in it, and this many are elsewhere, whose ids come before those of this one.
     pub(crate) fn beside(alloc: Global, count: u64) -> KeptLists
         ensures { result ≡ map.empty }
     {
@@ -185,15 +185,15 @@ impl KeptLists {
         self.put(id, lits)
     }
 
-    /// Puts a copy of these literals behind those of all, and tells under this id where they stand. Without memory nothing changes.
-    // In one place for both who ask for it, so that its own calls stand in it.
+    /// Adds a copy of these literals to those of all, and notes under this id where they are. Without memory nothing changes.
+    // In one place for both who ask for it, so that its own calls are inlined.
     #[inline(never)]
     fn put(&mut self, id: u64, lits: &[Lit]) -> Result<(), AllocError>
         ensures ok { OnOk result (self.new ≡ map.insert self.old id lits.now) }
         ensures err { OnErr result (self.new ≡ self.old) }
     {
         let span = push_list(&mut self.lits, lits)?;
-        // Where the map has no memory for the span, the literals stay behind those of all spans, and are none's.
+        // Where the map has no memory for the span, the literals stay after those of all spans, and belong to none.
         self.spans.insert(id, span)?;
         self.live = self.live.saturating_add(lits.len());
         Ok(())
@@ -239,7 +239,7 @@ impl KeptLists {
         }
     }
 
-    /// The same lists, and no other literals.
+    /// These lists, and no other literals.
     fn gathered(&self) -> Result<KeptLists, AllocError>
         ensures { IfOk result (λ gathered. gathered ≡ self.now) }
     {

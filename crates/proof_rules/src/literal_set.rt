@@ -10,7 +10,7 @@ use std::marker::Model;
 
 /// A set of literals, which a contract sees as a list of them in some order.
 ///
-/// It has a mark for each code up to the greatest that stood in it so far: a look-up is one access, clearing it costs
+/// It has a mark for each code up to the greatest that was in it so far: a look-up is one access, clearing it costs
 /// the literals that it has, and what is put in again takes no memory.
 #[derive(Drop)]
 pub struct LiteralSet {

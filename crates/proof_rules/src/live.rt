@@ -89,7 +89,7 @@ impl<'f> Live<'f> {
         self.parities.get(id)
     }
 
-    /// Puts a constraint of this kind with these literals under this id: that of the formula where it is the same, and else a
+    /// Puts a constraint of this kind with these literals under this id: that of the formula where it is the same, and otherwise a
     /// copy. Without memory nothing changes.
     pub fn add_copy(&mut self, kind: Kind, id: u64, lits: &[Lit]) -> Result<(), AllocError>
         ensures ok { OnOk result (self.new ≡ put_constraint kind self.old id lits.now) }

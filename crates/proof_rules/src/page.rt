@@ -31,7 +31,7 @@ impl Filler for ClauseRef {
 /// Places for values. A page without values has no list of places, and so takes no memory but its own.
 #[derive(Drop)]
 pub(crate) struct Page<V> {
-    /// What stands in each place. Where none holds a value, any does.
+    /// What is in each place. Where none holds a value, any list will do.
     places: Vec<V>,
     /// Bit `k` says whether place `k` holds a value: a word takes less memory than an `Option` in each place.
     taken: u64,
@@ -120,7 +120,7 @@ impl<V: Drop + Filler> Page<V> {
         }
     }
 
-    /// Puts the numbers of the places that hold a value behind these, in order, where the first place has this number.
+    /// Adds to these the numbers of the places that hold a value, in order, where the first place has this number.
     pub(crate) fn push_taken(&self, first: u64, ids: &mut Vec<u64>) -> Result<(), AllocError>
         requires { first + 64 ≤ 2 ^ 64 }
         ensures { OnOk result (ids.new.items ≡ ids.old.items ++ keys_of (entries_from first (all_places self.now))) }

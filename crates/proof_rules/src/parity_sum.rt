@@ -138,7 +138,7 @@ fn any_left(marks: &[Mark], met: &[Var]) -> bool
     false
 }
 
-/// Puts the variables that are left behind those of a list.
+/// Adds the variables that are left to a list.
 fn list_left(marks: &[Mark], met: &[Var], list: &mut Vec<Var>) -> Result<(), AllocError>
     requires { AllByRecursion (λ x. 1 ≤ x) list.old.items }
     ensures left { OnOk result (list.new.items ≡ list.old.items ++ left_over marks.now met.now) }

@@ -9,7 +9,7 @@ use thiserror::Error;
 /// What a judge answers where it does not find the step right.
 #[derive(Clone, Copy, Debug, Drop, Error)]
 pub enum JudgeRefusal {
-    /// The first cause, in the order of the rules, that stands against the step.
+    /// The first cause, in the order of the rules, that refuses the step.
     #[error("the step is not right")]
     Wrong(Cause),
     /// Out of memory, which says nothing of the step.

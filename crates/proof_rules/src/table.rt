@@ -18,7 +18,7 @@ use std::marker::Model;
 /// From ids to literals.
 #[derive(Drop)]
 pub(crate) struct LiveTable<'f> {
-    /// What stands in a formula. It goes before what was put under the same id.
+    /// What a formula has. It takes precedence over what was put under the same id.
     first: FirstLists<'f>,
     lists: KeptLists,
 }
@@ -36,7 +36,7 @@ impl<'f> Model for LiveTable<'f> {
     ghost view = { λ a. map.from_entries (entries_of a.first ++ map.entries a.lists) };
 }
 
-/// A list of the formula under this id is copied, if there is one, and stands among the others.
+/// A list of the formula under this id is copied, if there is one, and joins the others.
 fn copy_first(first: &mut FirstLists, lists: &mut KeptLists, id: u64) -> Result<(), AllocError>
     ensures same { behind first.new lists.new ≡ behind first.old lists.old }
     ensures none { OnOk result (get_or first.new id None ≡ None) }
@@ -49,7 +49,7 @@ fn copy_first(first: &mut FirstLists, lists: &mut KeptLists, id: u64) -> Result<
     Ok(())
 }
 
-/// Lists of the formula under ids that are moved, old and new, are copied, and stand among the others. Each list is copied
+/// Lists of the formula under ids that are moved, old and new, are copied, and join the others. Each list is copied
 /// once, since it never comes back.
 fn copy_moved(
     first: &mut FirstLists,
@@ -115,7 +115,7 @@ impl<'f> LiveTable<'f> {
         Ok(IdList::from_vec(ids))
     }
 
-    /// Puts a list under this id: that of the formula where it is the same, and else a copy. Without memory nothing changes.
+    /// Puts a list under this id: that of the formula where it is the same, and otherwise a copy. Without memory nothing changes.
     pub(crate) fn insert_copy(&mut self, id: u64, lits: &[Lit]) -> Result<(), AllocError>
         ensures ok { OnOk result (self.new ≡ map.insert self.old id lits.now) }
         ensures err { OnErr result (self.new ≡ self.old) }

@@ -106,7 +106,7 @@ fn change(
     Ok(())
 }
 
-/// Changes one clause of so many, and searches a chain for one target.
+/// Changes one clause of this many, and searches a chain for one target.
 fn turn(
     alloc: Global,
     seed: &mut u64,
@@ -123,7 +123,7 @@ fn turn(
     Ok(())
 }
 
-/// So many turns that an engine is worn out more than once, over so many variables and ids. The one over recent clauses
+/// So many turns that an engine is worn out more than once, over this many variables and ids. The one over recent clauses
 /// is full at little more than a thousand of them, which takes some 1,600 turns: so it is made anew five times.
 fn turns(
     alloc: Global,

@@ -137,7 +137,7 @@ fn put_others(
     Ok(())
 }
 
-/// The same of cases over the rows, and of others when a row of this kind and id is gone.
+/// As `put_others`, of cases over the rows, and of others when a row of this kind and id is gone.
 fn put_others_of(
     alloc: Global,
     others: &mut String,
@@ -161,7 +161,7 @@ fn others(
     gone: (Kind, u64),
     cases_then: &[Case],
 ) -> Result<String, AllocError> {
-    // The four clauses stand in the formula, so that the table refers to these and has copies of the others.
+    // The formula has the four clauses, so that the table refers to these and has copies of the others.
     let formula = square(alloc)?;
     let mut court = Court {
         live: Live::beside(alloc, &formula),

@@ -41,7 +41,7 @@ const ORIGINALS: &str = "o 10 1 2 0\no 11 -1 2 0\no 12 1 -2 0\no 13 -1 -2 0\n";
 const STRAIGHT: &str =
     "[Clause(5, IntList { integers: [2] }, IntList { integers: [1, 2] }), Clause(6, IntList { integers: [] }, IntList { integers: [5, 3, 4] })]";
 
-/// The same with the hints of the first chain turned.
+/// This proof with the hints of the first chain turned.
 const TURNED: &str =
     "[Clause(5, IntList { integers: [2] }, IntList { integers: [2, 1] }), Clause(6, IntList { integers: [] }, IntList { integers: [5, 3, 4] })]";
 

@@ -63,7 +63,7 @@ fn agree_at_keys(map: &IdMap<u64>, ordered: &BTreeMap<u64, u64>) -> bool {
     true
 }
 
-/// The first turn behind which the maps disagree.
+/// The first turn after which the maps disagree.
 fn first_fault(
     map: &mut IdMap<u64>,
     ordered: &mut BTreeMap<u64, u64>,
@@ -87,7 +87,7 @@ fn agree_at_ids(
     Ok(agree_at_all(map, ordered, &ids))
 }
 
-/// The first turn behind which the maps disagree, and whether they agree at the ids of each then.
+/// The first turn after which the maps disagree, and whether they agree at the ids of each then.
 fn faults(
     alloc: Global,
     map: &mut IdMap<u64>,
@@ -98,7 +98,7 @@ fn faults(
     Ok((fault, at_ids, agree_at_keys(map, ordered)))
 }
 
-/// The same of maps that are empty at first.
+/// As `faults`, of maps that are empty at first.
 fn faults_from_empty(alloc: Global) -> Result<(Option<u64>, bool, bool), AllocError> {
     let mut map = IdMap::new(alloc);
     let mut ordered = BTreeMap::new(alloc);

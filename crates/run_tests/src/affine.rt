@@ -122,7 +122,7 @@ fn put_lines(alloc: Global, text: &mut String, vars: u32) -> Result<(), AllocErr
     Ok(())
 }
 
-/// What is told of so many variables without a parity.
+/// What is told of this many variables without a parity.
 fn told_of_free(alloc: Global, vars: u32) -> Result<String, AllocError> {
     let mut text = format!(in alloc; "s AFFINE {vars}\nt")?;
     put_point(alloc, &mut text, vars)?;

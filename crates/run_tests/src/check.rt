@@ -125,7 +125,7 @@ fn a_variable_may_have_a_great_number(rt: HostRuntime) -> Result<(), Fail> {
     Ok(())
 }
 
-/// Why `check` refuses a front of the proof of so many bytes.
+/// Why `check` refuses a prefix of the proof of this many bytes.
 fn cause_on_front(alloc: Global, len: usize) -> Result<String, AllocError> {
     match len {
         0 => format!(in alloc; "step 1 P11"),
@@ -135,7 +135,7 @@ fn cause_on_front(alloc: Global, len: usize) -> Result<String, AllocError> {
     }
 }
 
-/// Writes how the check of a front of the proof ends, if it is not refused where it ends.
+/// Writes how the check of a prefix of the proof ends, if it is not refused where it ends.
 fn put_other_front(
     alloc: Global,
     others: &mut String,

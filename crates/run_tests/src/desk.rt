@@ -32,17 +32,17 @@ pub(crate) struct Ended {
 }
 
 impl Ended {
-    /// What stands on the Answer port.
+    /// What is on the Answer port.
     pub fn answer(&self) -> &[u8] {
         self.desk.written(Port::Answer)
     }
 
-    /// What stands on the Proof port.
+    /// What is on the Proof port.
     pub fn proof(&self) -> &[u8] {
         self.desk.written(Port::Proof)
     }
 
-    /// What stands on the Message port.
+    /// What is on the Message port.
     pub fn message(&self) -> &[u8] {
         self.desk.written(Port::Message)
     }

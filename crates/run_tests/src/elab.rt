@@ -12,7 +12,7 @@ use std::test::Fail;
 pub(crate) const SQUARE_LOG: &str =
     "o 10 1 2 0\no 11 -1 2 0\no 12 1 -2 0\no 13 -1 -2 0\na 20 2 0\na 21 0\n";
 
-/// The same with a final step and a deletion of names that are not there.
+/// This log with a final step and a deletion of names that are not there.
 pub(crate) const SQUARE_LOG_WITH_IDLE_STEPS: &str =
     "o 10 1 2 0\no 11 -1 2 0\no 12 1 -2 0\no 13 -1 -2 0\nf 99 500 0\nd 77 0\na 20 2 0\na 21 0\n";
 
@@ -231,7 +231,7 @@ const REFUSED_MOVES: [Refused; 12] = [
     (CLAUSE, "o 1 1 2 0\no 2 2 1 0\nr 1 3 2 3 0\n", "step 3 E2"),
     // The old ids are looked at before the new ones.
     (CLAUSE, "o 1 1 2 0\no 2 2 1 0\nr 1 2 9 5 0\n", "step 3 E4"),
-    // Nothing stands under an old id any more, and something under the new one.
+    // Nothing is under an old id any more, and something under the new one.
     (
         CLAUSE,
         "o 1 1 2 0\nr 1 2 0\ni x 1 1 2 0 l 1 0\n",
@@ -260,7 +260,7 @@ const SOLVED: &str =
 const OF_SOLVED: &str =
     "i x 1 1 2 0 1 2 0\ni x 2 1 3 0 5 6 0\ni x 3 2 3 0 3 4 0\nx 4 0 1 2 3 0\ni 7 0 4 0\n";
 
-/// The same log with moves, as `bench/make/moves.py` draws them from seeds.
+/// This log with moves, as `bench/make/moves.py` draws them from seeds.
 const SOLVED_AND_MOVED: [&str; 3] = [
     "o 1 1 2 0\no 2 -1 -2 0\no 3 2 3 0\no 4 -2 -3 0\no 5 1 3 0\no 6 -1 -3 0\nr x 0\ni x 1 1 2 0 l 1 2 0\nr 5 5 0\ni x 2 1 3 0 l 5 6 0\nr x 2 2 1 5 0\ni x 3 2 3 0 l 3 4 0\na x 7 0 l 5 2 3 0\ni 8 0 l 7 0\n",
     "o 1 1 2 0\no 2 -1 -2 0\nr 1 2 2 5 0\no 3 2 3 0\no 4 -2 -3 0\nr 3 2 4 3 2 4 0\no 6 1 3 0\no 7 -1 -3 0\ni x 1 1 2 0 l 4 5 0\ni x 2 1 3 0 l 6 7 0\nr x 2 3 1 6 0\ni x 7 2 3 0 l 2 3 0\na x 8 0 l 6 3 7 0\ni 8 0 l 8 0\n",

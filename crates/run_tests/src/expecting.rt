@@ -4,7 +4,7 @@ ghost use Rattle.std.specs.Prelude.{◌≤◌};
 use crate::desk::{AMPLE, Bounds, Ended, Task, run};
 use std::alloc::{AllocError, Global};
 
-/// How a run is to end: its status, and what is to stand on the ports.
+/// How a run is to end: its status, and what is to be on the ports.
 #[derive(Clone, Copy, Drop)]
 pub(crate) struct End<'a> {
     pub status: u8,
@@ -42,7 +42,7 @@ pub(crate) const MODEL: Judging = Judging {
 /// How many bytes one call of a desk moves at most, where a task is run in pieces of any length.
 pub(crate) const PIECES: [usize; 4] = [1, 2, 3, 4096];
 
-/// The same bounds with pieces of this length, or of one byte for a length of none.
+/// These bounds with pieces of this length, or of one byte for a length of none.
 pub(crate) fn in_pieces(bounds: Bounds, piece: usize) -> Bounds
     ensures { 1 ≤ result.piece }
 {
@@ -143,7 +143,7 @@ pub(crate) fn put_other(
     put_unless(alloc, others, task, &ended, has_ended_so(&ended, end))
 }
 
-/// The same in pieces of any length.
+/// As `put_other`, in pieces of any length.
 pub(crate) fn put_other_in_pieces(
     alloc: Global,
     others: &mut String,
@@ -157,7 +157,7 @@ pub(crate) fn put_other_in_pieces(
     Ok(())
 }
 
-/// The same of a text that is to be refused for this cause, with no other line written anywhere, in pieces of this length.
+/// As `put_other`, of a text that is to be refused for this cause, with no other line written anywhere, in pieces of this length.
 pub(crate) fn put_other_refusal(
     alloc: Global,
     others: &mut String,
@@ -181,7 +181,7 @@ pub(crate) fn put_other_refusal(
     put_other(alloc, others, task, in_pieces(AMPLE, piece), end)
 }
 
-/// The same in pieces of any length.
+/// As `put_other_refusal`, in pieces of any length.
 fn put_other_refusal_in_pieces(
     alloc: Global,
     others: &mut String,
@@ -194,7 +194,7 @@ fn put_other_refusal_in_pieces(
     Ok(())
 }
 
-/// The same of each of these texts.
+/// As `put_other_refusal_in_pieces`, of each of these texts.
 pub(crate) fn put_other_refusals(
     alloc: Global,
     others: &mut String,
@@ -224,7 +224,7 @@ fn put_other_status(
     put_unless(alloc, others, task, &ended, ended.status == status)
 }
 
-/// The same of each of these lines.
+/// As `put_other_status`, of each of these lines.
 pub(crate) fn put_other_statuses(
     alloc: Global,
     others: &mut String,

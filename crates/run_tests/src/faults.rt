@@ -50,7 +50,7 @@ const TASKS: [(Task<'static>, u8); 5] = [
     ),
 ];
 
-/// What a run leaves is a front of what the whole run leaves.
+/// What a run leaves is a prefix of what the whole run leaves.
 fn is_front(part: &[u8], whole: &[u8]) -> bool {
     whole.starts_with(part)
 }
@@ -177,7 +177,7 @@ fn fail_in_turn(
     Ok(1000)
 }
 
-/// The same beside the whole run, which is to end with this status and to make some calls.
+/// As `fail_in_turn`, beside the whole run, which is to end with this status and to make some calls.
 fn put_faults_beside(
     alloc: Global,
     faults: &mut String,
@@ -195,7 +195,7 @@ fn put_faults_beside(
     faults.push_str(told.as_str())
 }
 
-/// The same for one task, whose whole run is made first.
+/// As `put_faults_beside`, for one task, whose whole run is made first.
 fn put_faults(
     alloc: Global,
     faults: &mut String,
@@ -211,7 +211,7 @@ fn put_faults(
     put_faults_beside(alloc, faults, (task, status), &whole)
 }
 
-/// The same for each of the tasks.
+/// As `put_faults`, for each of the tasks.
 pub(crate) fn put_faults_of_all(
     alloc: Global,
     faults: &mut String,

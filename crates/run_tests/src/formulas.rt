@@ -3,7 +3,7 @@
 /// Three parities that no values meet together.
 pub(crate) const TRIANGLE: &str = "p cnf 3 3\nx1 2 0\nx2 3 0\nx1 3 0\n";
 
-/// The same parities, each as the two clauses that exclude its wrong assignments.
+/// These parities, each as the two clauses that exclude its wrong assignments.
 pub(crate) const TRIANGLE_OF_CLAUSES: &str =
     "p cnf 3 6\n1 2 0\n-1 -2 0\n2 3 0\n-2 -3 0\n1 3 0\n-1 -3 0\n";
 

@@ -18,9 +18,9 @@ type Row = (&'static [&'static str], &'static str, &'static str, u32);
 /// What is told of a run.
 #[derive(Clone, Copy, Drop)]
 enum Shown {
-    /// Its status, and what stands on the ports of answers and messages.
+    /// Its status, and what is on the ports of answers and messages.
     End,
-    /// What stands on the port of proofs.
+    /// What is on the port of proofs.
     Proof,
 }
 

@@ -84,7 +84,7 @@ fn is_refuted_or_spent(alloc: Global, formula: &str, solved: &Ended) -> Result<b
     Ok(solved.status == 0 && ends_with_mark(solved.proof(), "c conflict 6000\n"))
 }
 
-/// Whether the search over so many holes ends so.
+/// Whether the search over this many holes ends so.
 fn refutes_or_spends(alloc: Global, holes: u8) -> Result<bool, AllocError> {
     let formula = pigeonholes(alloc, holes)?;
     let line = ["cxsat", "solve", "f", "--proof", "l", "--conflicts", "6000"];
@@ -98,7 +98,7 @@ fn eight_pigeons_are_refuted_or_the_budget_is_spent(rt: HostRuntime) -> Result<(
     Ok(())
 }
 
-/// The status of a search over so many holes, with a budget that is not spent.
+/// The status of a search over this many holes, with a budget that is not spent.
 fn status_over(alloc: Global, holes: u8) -> Result<u8, AllocError> {
     let formula = pigeonholes(alloc, holes)?;
     let line = ["cxsat", "solve", "f", "--conflicts", "100000"];

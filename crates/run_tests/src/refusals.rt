@@ -57,7 +57,7 @@ fn put_other_offence(
     put_other_in_pieces(alloc, others, task, AMPLE, end)
 }
 
-/// The same of a search and of a check.
+/// As `put_other_offence`, of a search and of a check.
 fn put_other_offence_of_each(
     alloc: Global,
     others: &mut String,
@@ -109,7 +109,7 @@ fn put_other_bounded(
     put_other_in_pieces(alloc, others, task, bounds, end)
 }
 
-/// The same under each limit, and where the answer has too little room.
+/// As `put_other_bounded`, under each limit, and where the answer has too little room.
 fn put_others_bounded(alloc: Global, others: &mut String) -> Result<(), AllocError> {
     let fits = (0, "s VERIFIED\n", "");
     put_other_bounded(alloc, others, EMPTY, Bounds { limit: 12, ..AMPLE }, fits)?;

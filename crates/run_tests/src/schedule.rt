@@ -1,11 +1,11 @@
-//! The search follows its schedule, as its log shows: clauses are deleted just behind the conflicts where a restart is due
+//! The search follows its schedule, as its log shows: clauses are deleted just after the conflicts where a restart is due
 //! and many are learned.
 use crate::desk::{Ended, run};
 use crate::pigeons::{WIDE, pigeonholes};
 use std::alloc::{AllocError, Global};
 use std::test::Fail;
 
-/// Counted conflicts, in hundreds up to 50, behind which a restart is due: the sums of the sequence of Luby, Sinclair and
+/// Counted conflicts, in hundreds up to 50, after which a restart is due: the sums of the sequence of Luby, Sinclair and
 /// Zuckerman, 1 1 2 1 1 2 4 1 1 2 1 1 2 4 8 and so on.
 const RESTARTS: [u64; 27] = [
     1, 2, 4, 5, 6, 8, 12, 13, 14, 16, 17, 18, 20, 24, 32, 33, 34, 36, 37, 38, 40, 44, 45, 46, 48,
@@ -33,7 +33,7 @@ impl Told {
             && self.live / 500 >= self.reductions.saturating_add(4)
     }
 
-    /// Whether clauses were deleted behind the last conflict exactly where that is due, and at most half of them.
+    /// Whether clauses were deleted after the last conflict exactly where that is due, and at most half of them.
     fn follows(&self) -> bool {
         if self.is_due() {
             self.deleted > 0 && self.deleted <= self.live / 2
@@ -101,7 +101,7 @@ fn told_of(log: &str) -> (bool, u64, bool) {
     (follows, told.conflicts, told.reductions >= 2)
 }
 
-/// The same of a search whose budget is spent.
+/// As `told_of`, of a search whose budget is spent.
 fn told_when_spent(alloc: Global, solved: &Ended) -> Result<(bool, u64, bool), AllocError> {
     if solved.status != 0 {
         return Ok((false, 0, false));
@@ -110,7 +110,7 @@ fn told_when_spent(alloc: Global, solved: &Ended) -> Result<(bool, u64, bool), A
     Ok(told_of(log.as_str()))
 }
 
-/// The same of a search over pigeonholes with a budget of 5,000 conflicts.
+/// As `told_when_spent`, of a search over pigeonholes with a budget of 5,000 conflicts.
 fn told_of_pigeons(alloc: Global, holes: u8) -> Result<(bool, u64, bool), AllocError> {
     let formula = pigeonholes(alloc, holes)?;
     let line = ["cxsat", "solve", "f", "--proof", "l", "--conflicts", "5000"];

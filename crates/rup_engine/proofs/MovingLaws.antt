@@ -48,7 +48,7 @@ module _ {V : Type 0} where
       at true e = ap (map.get contents) (same_nat k n e) ∙ free
       at false e = refl
 
-  -- under no new id something stands
+  -- nothing is under a new id
   abbrev AreFree : map.FinMap nat_cmp V → List IdMove → Type 0
   AreFree contents moves = (n : ℕ) → list_any (nat_eq n) (new_ids moves) ≡ true → map.get contents n ≡ None
 
@@ -88,7 +88,7 @@ module _ {V : Type 0} where
         get-put_moved contents moves (without_ids contents (old_ids moves)) k apart.1 free_without
         ∙ ap (λ o. from_source contents o (source moves k)) (get-without (old_ids moves) contents k)
 
-    -- what stood under an id stands under its new one
+    -- what was under an id is under its new one
     pub moved_at : (n : ℕ) (v : V) → map.get contents n ≡ Some v → map.get (moved contents moves) (moved_id moves n) ≡ Some v
     moved_at n v has = at (list_any (nat_eq n) (old_ids moves)) refl (list_any (nat_eq n) (new_ids moves)) refl
       where
@@ -99,7 +99,7 @@ module _ {V : Type 0} where
             ap (map.get (moved contents moves)) (moved_id-other moves n e) ∙ get-moved n
             ∙ (λ i. from_source contents (cond (e i) None (map.get contents n)) (no_source moves n f i)) ∙ has
 
-    -- and nothing else stands anywhere
+    -- and nothing else is anywhere
     pub moved_from : (k : ℕ) (v : V) → map.get (moved contents moves) k ≡ Some v → (n : ℕ) × (map.get contents n ≡ Some v) × (moved_id moves n ≡ k)
     moved_from k v has = at (source moves k) refl (list_any (nat_eq k) (old_ids moves)) refl (sym (get-moved k) ∙ has)
       where

@@ -7,13 +7,13 @@ use Rattle.cx_base.specs.declared.id_moves.IdMove.{IdMove}
 use Rattle.cx_semantics.specs.Moves.{old_ids, new_ids, names_twice, moved_id}
 use Rattle.clause_arena.specs.Clauses.{ArenaState, IsLive, id_at, literals_at}
 
--- No id is named twice, and under a new id nothing stands once the old ones are out. An old id may have nothing.
+-- No id is named twice, and nothing is under a new id once the old ones are out. An old id may have nothing.
 abbrev pub AreApart : {V : Type 0} → map.FinMap nat_cmp V → List IdMove → Type 0
 AreApart contents moves =
     (names_twice (old_ids moves) ≡ false) × (names_twice (new_ids moves) ≡ false)
     × ((n : ℕ) → list_any (nat_eq n) (new_ids moves) ≡ true → list_any (nat_eq n) (old_ids moves) ≡ false → map.get contents n ≡ None)
 
--- the same clauses, each under the new id of its own
+-- both have the same clauses, each under the new id of its own
 pub record HaveMovedIds (moves : List IdMove) (old new : ArenaState) : Type 0 where
   pub count : length new.clauses ≡ length old.clauses
   pub were_live : (r : ℕ) → IsLive new r → IsLive old r

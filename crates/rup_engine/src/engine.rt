@@ -14,8 +14,8 @@ use watch_lists::Watches;
 
 /// Live clauses by references, watched, and a trail whose level 1 holds what they give by themselves.
 ///
-/// Level 1 and level 2 begin with a variable that no clause has. What a target gives stands at level 2,
-/// and is taken back when a search ends. Level 1 stays until a clause goes on which it rests.
+/// Level 1 and level 2 begin with a variable that no clause has. What a target gives is at level 2,
+/// and is taken back when a search ends. Level 1 stays until a clause that it rests on goes.
 #[derive(Drop)]
 pub struct Engine {
     pub limit: u32,
@@ -24,7 +24,7 @@ pub struct Engine {
     pub trail: Trail,
     /// The reference of each id.
     pub refs: IdMap<ClauseRef>,
-    /// The clauses of at most one different literal. References of clauses that have gone may stand here too.
+    /// The clauses of at most one different literal. References of clauses that have gone may be here too.
     pub short: Vec<ClauseRef>,
     /// How many clauses have gone.
     pub gone: u64,

@@ -27,8 +27,8 @@ fn rename_all(arena: &mut Arena, refs: &IdMap<ClauseRef>, moves: &[IdMove])
 }
 
 impl Engine {
-    /// Clauses come under other ids, all at once. None is written anew, and what was propagated stays. After want of memory
-    /// nothing is known.
+    /// Clauses come under other ids, all at once. None is written anew, and what was propagated stays. Nothing is known
+    /// once memory ran out.
     pub fn move_ids(&mut self, alloc: Global, moves: &[IdMove]) -> Result<(), AllocError>
         requires rest { IsAtRest self.old }
         requires apart { (table : Table) × AreApart table moves.now × Holds table self.old }

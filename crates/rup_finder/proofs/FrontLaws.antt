@@ -1,4 +1,4 @@
--- One more hint at the front of a list.
+-- One more hint at the start of a list.
 use Rattle.std.proofs.Common.{◌≡◌, refl, sym, ap, ◌∙◌, ℕ, ◌+◌, ◌<◌, ℤ, nat_abs, List, [], ◌∷◌, ◌++◌, length, take, get_or, append_assoc, append-nil, is_some, Some, false, ◌||◌}
 use Rattle.std.proofs.lemmas.List.{take_more}
 use Rattle.std.proofs.lemmas.List.Folds.{list_any-append}

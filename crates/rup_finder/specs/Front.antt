@@ -1,4 +1,4 @@
--- The hints at the front of a list, as a chain.
+-- The hints at the start of a list, as a chain.
 use Rattle.std.specs.Prelude.{◌≡◌, ℕ, ℤ, nat_abs, false, List, ◌∷◌, ◌++◌, Some}
 use Rattle.std.specs.List.{list_any}
 use Rattle.cx_base.specs.Integers.{is_negative}

@@ -38,7 +38,7 @@ fn take_hint(assumed: &mut LiteralSet, live: &Live, hint: i64) -> Result<Taken, 
     }
 }
 
-/// How many of the hints are a right chain of live clauses for the target; none where no front of them is one without a
+/// How many of the hints are a right chain of live clauses for the target; none where no prefix of them is one without a
 /// negative hint.
 pub fn chain_length(
     assumed: &mut LiteralSet,

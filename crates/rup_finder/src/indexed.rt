@@ -27,7 +27,7 @@ use std::marker::Model;
 #[derive(Drop)]
 pub struct IndexedClauses<'f> {
     live: Live<'f>,
-    /// All live clauses. None before the first search, after want of memory, and where it is to be made anew.
+    /// All live clauses. None before the first search, once memory ran out, and where it is to be made anew.
     engine: Option<Engine>,
     /// Some of them, which are asked first.
     recent: Recent,
@@ -204,10 +204,10 @@ impl<'f> IndexedClauses<'f> {
         }
     }
 
-    /// How many of the hints are a right chain of live clauses for the clause; none where no front of them is one without a
+    /// How many of the hints are a right chain of live clauses for the clause; none where no prefix of them is one without a
     /// negative hint.
     ///
-    /// Each hint is looked up once, and none behind the chain's end.
+    /// Each hint is looked up once, and none after the chain's end.
     pub fn chain_length(
         &mut self,
         target: &[Lit],
@@ -236,7 +236,7 @@ impl<'f> IndexedClauses<'f> {
         }
     }
 
-    /// The same among all live clauses alone. The clauses of the chain are recent then.
+    /// Finds a chain among all live clauses alone. The clauses of the chain are recent then.
     fn find_among_all(
         &mut self,
         alloc: Global,

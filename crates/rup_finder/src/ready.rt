@@ -61,7 +61,7 @@ pub fn keep_if(stays: bool, engine: &mut Option<Engine>)
     }
 }
 
-/// The clause of this id comes in the place of what stood under it, unless it has too large a variable; tells whether it is in.
+/// The clause of this id comes in the place of what was under it, unless it has too large a variable; tells whether it is in.
 fn enter(engine: &mut Engine, id: u64, lits: &[Lit]) -> Result<bool, AllocError>
     requires { IsAtRest engine.old }
     ensures { IfOk result (λ entered. entered ≡ true → IsAtRest engine.new × ((table : Table) → Holds table engine.old → Holds (map.insert table id lits.now) engine.new)) }
@@ -74,7 +74,7 @@ fn enter(engine: &mut Engine, id: u64, lits: &[Lit]) -> Result<bool, AllocError>
     Ok(true)
 }
 
-/// The clause of this id comes into an engine, in the place of what stood under it. Where it has too large a variable, and
+/// The clause of this id comes into an engine, in the place of what was under it. Where it has too large a variable, and
 /// without memory, the engine goes.
 pub fn put_in(engine: &mut Option<Engine>, id: u64, lits: &[Lit]) -> Result<(), AllocError>
     requires { (table : Table) × IsReady table engine.old }
@@ -153,7 +153,7 @@ pub fn keep_within(engine: &mut Option<Engine>, target: &[Lit])
     keep_if(within, engine);
 }
 
-/// Makes an engine ready for the target: the one that stands, or a new one; none where variables are too large.
+/// Makes an engine ready for the target: the one at hand, or a new one; none where variables are too large.
 pub fn ready(
     engine: &mut Option<Engine>,
     alloc: Global,

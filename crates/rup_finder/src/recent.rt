@@ -22,7 +22,7 @@ const MAX_OPENING: usize = 4_000;
 /// The clauses among which nearly every chain is found: those of the chains before, and those that came lately.
 #[derive(Drop)]
 pub struct Recent {
-    /// None before the first chain, after want of memory, and where it is to be made anew.
+    /// None before the first chain, once memory ran out, and where it is to be made anew.
     pub engine: Option<Engine>,
     /// At how many clauses of its arena the engine is made anew.
     full: usize,
@@ -184,7 +184,7 @@ impl Recent {
         Ok(())
     }
 
-    /// Lets the clauses of a chain in that a search over all live clauses gave. An engine that is lacking is made of what
+    /// Lets in the clauses of a chain that a search over all live clauses gave. An engine that is lacking is made of what
     /// was used since the last one was. Without a limit of variables there is none from now on.
     pub fn learn(
         &mut self,

@@ -95,12 +95,12 @@ module _ (words : List Bytes) (limit : ℕ) (old : Seen) (s : Status) (new : See
   go p outcome.WriteFault asks is works no_read no_write = absurd (no_write (write_rose works.0 works.2))
   go p (outcome.Ended e) asks is works no_read no_write = inr (record { plan = works.0; asked = works.1; ending = e; own = works.2.1.own; status_is = is; due = works.2.1.due })
 
-  -- with no read or write fault in the call, words that ask for something end as is due, or memory is wanted
+  -- with no read or write fault in the call, words that ask for something end as is due, or memory runs out
   pub complete : (p : Plan) → Asks words p → (Rose old.faults.reads new.faults.reads → ⊥) → (Rose old.faults.writes new.faults.writes → ⊥)
       → (s ≡ status.OutOfMemory) ⊎ Comes words limit old s
   complete p asks no_read no_write = go p h.outcome asks h.status_is h.works no_read no_write
 
-  -- words that are refused get no other status, but for want of memory
+  -- words that are refused get no other status, except where memory runs out
   pub refused_words : Refuses words → (s ≡ status.OutOfMemory) ⊎ (s ≡ status.Usage)
   refused_words refuses = by h.outcome h.status_is h.works
     where

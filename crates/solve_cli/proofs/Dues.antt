@@ -46,7 +46,7 @@ judged_due p limit files e judges (inr d) = (d.formula, d.is_formula, by d.due)
     by (inl h) = absurd (both_ways (is_judgement e) (ap is_judgement h.1) judges)
     by (inr h) = h.1
 
--- the same of the formula that the file reads to
+-- those of the formula that the file reads to
 pub judged_of : (p : Plan) (n : Bytes) (limit : ℕ) (files : Files) (f : Problem) (e : Ending) → formula_of p ≡ Some n → is_judgement e ≡ true → Due p limit files e
     → Reads (text_named n files) f → Judged e p f (second_text p files)
 judged_of p n limit files f e named judges due reads =

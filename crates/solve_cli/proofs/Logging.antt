@@ -71,7 +71,7 @@ few_marks f budget events n texts ids low marked none = record {
 pub unmarked : (f : Problem) (budget : ℕ) (log : Bytes) → HasFewMarks f budget log → SettledWithRecovered f → HasNoMark log
 unmarked f budget log h s = (h.events, h.read, h.marked.marks ∙ ap (range_with_len 1) (h.settled s))
 
--- nothing is a front of a log
+-- the empty text is a prefix of a log
 pub nothing_logged : (f : Problem) → IsLogSoFar f []
 nothing_logged f = record {
   log = [];
@@ -82,6 +82,6 @@ nothing_logged f = record {
   front = refl;
 }
 
--- a front of a right log
+-- a prefix of a right log
 pub front_so_far : (f : Problem) (log : Bytes) (k : ℕ) → LogOpen f log ⊎ IsRefutation f log → HasOnlyLowIds log → (SettledWithRecovered f → HasNoMark log) → IsLogSoFar f (take k log)
 front_so_far f log k right ids settled = record { log = log; right = right; ids = ids; settled = settled; rest = drop k log; front = take-append-drop k log }

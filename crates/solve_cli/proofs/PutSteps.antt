@@ -13,7 +13,7 @@ use Rattle.cx_texts.specs.Printed.{printed_line, printed_proof}
 abbrev line_of : ProofStep → Bytes
 line_of step = printed_line (spelling proof_steps step)
 
--- so many of the steps are on the port, and these are still to come
+-- this many of the steps are on the port, and these are still to come
 abbrev pub ArePut : List ProofStep → List ProofStep → Outside → Outside → Type 0
 ArePut all left old now = (done : List ProofStep) × (all ≡ done ++ left) × (now ≡ gained port.Proof (printed_proof done) old)
 

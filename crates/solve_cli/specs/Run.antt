@@ -86,5 +86,5 @@ pub record Run (words : List Bytes) (limit : ℕ) (old : Seen) (s : Status) (new
   -- a formula that propagation settles is not left unknown; with parities that have no solution no values are printed either
   pub settled : IsSettled words old s
   pub unsolvable : IsUnsolvable words old s
-  -- nor is one that it settles with the parities that stand in the formula as clauses
+  -- nor is one that it settles with the parities that the formula has as clauses
   pub settled_with_recovered : IsSettledWithRecovered words old s

@@ -112,7 +112,7 @@ elaborated_as (Err cut.Read) = Err outcome.ReadFault
 elaborated_as (Err cut.Write) = Err outcome.WriteFault
 elaborated_as (Err cut.TooLong) = Err (outcome.Ended (ending.TooLong slot.Second))
 
--- the same where the slot was read to its end
+-- what an elaboration ends in where the slot was read to its end
 abbrev pub Elaborates : Problem → Bytes → ℕ → Seen → Result Ending Outcome → Seen → Type 0
 Elaborates f name limit old (Ok e) new = ((n q : Bytes) → IsLateOf (plan.Elab n name q) e)
     × ((proof : Bytes) × (new ≡ says port.Proof proof old)

@@ -46,7 +46,7 @@ abbrev pub IsRefuted : List Bytes → Seen → Seen → Type 0
 IsRefuted words old new = IfSome old.files (λ files. (failed : Option (List ℤ)) × HasSolved words old files new (λ budget. unsatisfiable_text failed)
     (λ f budget log. Unmet f × FailsAs f failed × IsClosedLog f budget log × NegatesLastStep f log failed))
 
--- `solve` said that the budget is spent, after an open log that is marked so many times
+-- `solve` said that the budget is spent, after an open log that is marked this many times
 abbrev pub IsSpent : List Bytes → Seen → Seen → Type 0
 IsSpent words old new = IfSome old.files (λ files. HasSolved words old files new
     (λ budget. joined (codes "c conflicts " ∷ decimal budget ∷ codes "\ns UNKNOWN\n" ∷ [])) (λ f budget log. IsSpentLog f budget log))

@@ -14,7 +14,7 @@ use Rattle.cx_texts.specs.Printed.{printed_proof}
 use Rattle.proof_text.specs.Told.{step_line, Goes}
 use Rattle.proof_text.specs.ToldSteps.{goes_itself, goes_on}
 
--- the slot gave this, and so many faults of reading are counted now
+-- the slot gave this, and this many faults of reading are counted now
 abbrev pub read_by : Slot → Gave → ℕ → Outside → Outside
 read_by s g reads o = record (taken s g o) { faults = record o.faults { reads = reads } }
 

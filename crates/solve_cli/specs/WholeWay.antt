@@ -16,7 +16,7 @@ pub record ToldRun (words : List Bytes) (limit : ℕ) (files : Files) (s : Statu
   pub told : old.files ≡ Some files
   pub left : new.written ≡ written
 
--- it ended with a fault, for want of memory, or since one of two texts is too long
+-- it ended with a fault, out of memory, or since one of two texts is too long
 abbrev pub IsCutShort : ℕ → Bytes → Bytes → Status → Type 0
 IsCutShort limit first second s =
     (s ≡ status.ReadFault) ⊎ ((s ≡ status.WriteFault) ⊎ ((s ≡ status.OutOfMemory) ⊎ ((s ≡ status.Limit) × ((limit < length first) ⊎ (limit < length second)))))

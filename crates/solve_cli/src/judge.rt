@@ -87,7 +87,7 @@ pub(crate) fn judge_proof<D: Desk>(
     Ok(ending)
 }
 
-/// The cause for which printed values are refused; none for want of memory.
+/// The cause for which printed values are refused; none where memory ran out.
 fn wrong_of(refusal: AnswerRefusal) -> Option<WrongAnswer>
     ensures { MatchOption result (refusal ≡ AnswerRefusal.Memory) (λ w. refusal ≡ refusal_of w) }
 {

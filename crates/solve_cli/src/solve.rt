@@ -60,7 +60,7 @@ fn answered(
     }
 }
 
-/// Searches for values that meet the formula, until so many conflicts are counted. Each step of the search is printed
+/// Searches for values that meet the formula, until this many conflicts are counted. Each step of the search is printed
 /// on the Proof port as it is made.
 pub(crate) fn search_on<D: Desk>(
     alloc: Global,
@@ -78,7 +78,7 @@ pub(crate) fn search_on<D: Desk>(
     answered(alloc, formula, answer)
 }
 
-/// The same, with the log kept as a list. It gives up only for want of memory.
+/// As `search_on`, with the log kept as a list. It gives up only where memory runs out.
 pub(crate) fn search(
     alloc: Global,
     formula: &Formula,
@@ -94,7 +94,7 @@ pub(crate) fn search(
     let _with_texts = log.events();
     match answered(alloc, formula, answer) {
         Ok(ending) => Ok(ending),
-        // A list fails only for want of memory.
+        // A list fails only where memory runs out.
         Err(_) => Err(AllocError),
     }
 }

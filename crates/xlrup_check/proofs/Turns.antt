@@ -179,7 +179,7 @@ text_stuck T (Some r) now text.TooLong k e = cc (e.0, e.1)
 text_stuck T before now text.Memory k e = tt
 text_stuck T before now text.Failed k e = tt
 
--- ---- an answer that is an error only for want of memory
+-- ---- an answer that is an error only where memory runs out
 
 module _ {T : Type 0} where
   pub stands_without_memory : (answer : Result T Fault) (before now : ℕ) → IfErr answer (λ e. e ≡ Memory) → now ≡ before → ReadsStand answer before now

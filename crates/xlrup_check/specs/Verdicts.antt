@@ -51,14 +51,14 @@ IsTooLongBy stuck Memory = ⊤
 IsTooLongBy stuck Read = ⊤
 IsTooLongBy stuck TooLong = stuck ≡ Some text.TooLong
 
--- the source's faults stand but where a fault of reading is answered
+-- the source's faults stay except where a fault of reading is answered
 abbrev pub ReadsStand : {T : Type 0} → Result T Fault → ℕ → ℕ → Type 0
 ReadsStand (Ok verdict) before now = now ≡ before
 ReadsStand (Err Memory) before now = now ≡ before
 ReadsStand (Err TooLong) before now = now ≡ before
 ReadsStand (Err Read) before now = ⊤
 
--- what stands where no step comes: a text that does not fit is refused at this number, the rest is a fault
+-- what is answered where no step comes: a text that does not fit is refused at this number, the rest is a fault
 abbrev pub text_refused : TextRefusal → ℕ → Result (Option Verdict) Fault
 text_refused (text.BadToken place) k = Ok (Some (Refused k (causes.TextRefused place)))
 text_refused (text.Unterminated place) k = Ok (Some (Refused k (causes.TextRefused place)))
@@ -115,7 +115,7 @@ module _ {X R : Type 0} (may_read : X → List ℕ → Type 0) (leaves : X → L
   Goes now recorder tables steps None = Kept now recorder tables (steps + 1)
   Goes now recorder tables steps (Some verdict) = IsJudged now recorder verdict
 
--- all rules hold, these tables stand after and it is said whether the proof ends; or the first rule that fails is the cause
+-- all rules hold, these are the tables after and it is said whether the proof ends; or the first rule that fails is the cause
 abbrev pub Takes : List Rule → Tables → Bool → Result Bool JudgeRefusal → Tables → Type 0
 Takes rules after ends (Ok said) new = AllHold rules × ((new ≡ after) × (said ≡ ends))
 Takes rules after ends (Err why) new = IsRefusedBy rules why
@@ -133,7 +133,7 @@ hint_rules tables (proof.ParityOfClauses n lits hints) target = hinting tables.c
 hint_rules tables (proof.DeleteClauses n ids) target = []
 hint_rules tables (proof.DeleteParities ids) target = []
 
--- the literals that a step adds stand in the table, or have this first cause against them
+-- the literals that a step adds are in the table, or have this first cause against them
 abbrev pub TakesAdded : Problem → Tables → Kind → ℕ → List ℤ → ProofStep → Result Bool JudgeRefusal → Tables → Type 0
 TakesAdded formula old kind n lits step result new =
     Takes (adding formula (chosen kind old) n lits ++ hint_rules old step (literals lits)) (put_constraint kind old n (literals lits)) (is_clauses kind && is_ending formula.constraints (literals lits)) result new

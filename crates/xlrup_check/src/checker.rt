@@ -32,7 +32,7 @@ impl CheckMemory {
 /// Judges a proof of the formula, from a source of steps.
 ///
 /// Steps are taken in order. The first right step that adds an ending clause, all of whose literals are
-/// negations of assumed ones, ends the proof; what stands behind it is not judged. The first wrong step is
+/// negations of assumed ones, ends the proof; what follows is not judged. The first wrong step is
 /// refused for its first cause. Where the assumptions clash, nothing is judged.
 /// `Fault::Read` comes only where the source counted a fault, `Fault::TooLong` only where it answered
 /// that its text is too long.
@@ -90,7 +90,7 @@ pub fn check_and_record<S: StepSource<Step = ProofStep>, R: Recorder>(
     }
 }
 
-/// Takes and judges the next step of a proof, after so many right ones that leave these tables and did not end it. There is
+/// Takes and judges the next step of a proof, after this many right ones that leave these tables and did not end it. There is
 /// no verdict where the proof goes on. `memory` is for its memory alone.
 fn take_next<S: StepSource<Step = ProofStep>, R: Recorder>(
     memory: &mut CheckMemory,
@@ -154,7 +154,7 @@ fn what_follows<R: Recorder>(
     }
 }
 
-/// What stands where the source gives no step.
+/// What is answered where the source gives no step.
 fn refused_text(why: TextRefusal, number: u64) -> Result<Option<Verdict>, Fault>
     ensures { result ≡ text_refused why number }
 {

@@ -14,7 +14,7 @@ pub enum Verdict {
 /// Why a proof was not judged.
 #[derive(Clone, Copy, Debug, Drop, Error)]
 pub enum Fault {
-    /// Want of memory, which says nothing of the proof.
+    /// Out of memory, which says nothing of the proof.
     #[error("out of memory")]
     Memory,
     /// A fault of reading, which the source counted.

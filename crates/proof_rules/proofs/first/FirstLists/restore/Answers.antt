@@ -10,7 +10,7 @@ not_other : (b : Bool) → not b ≡ false → b ≡ true
 not_other true h = refl
 not_other false h = absurd (true≢false h)
 
--- under 0 stands no list, so that the list of a number stands in its place
+-- no list is under 0, so that the list of a number is in its place
 in_place : (lists : List (List Literal)) (k : ℕ) → 0 < k → get_or ([] ∷ lists) k [] ≡ get_or lists (k - 1) []
 in_place lists zero lt = absurd (omega arith)
 in_place lists (suc k) lt = let back : k ≡ suc k - 1 = omega arith in ap (λ i. get_or lists i []) back
