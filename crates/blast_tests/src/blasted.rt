@@ -17,7 +17,7 @@ fn in_clauses(alloc: Global, text: &[u8]) -> Result<Vec<u8>, Fail> {
     }
 }
 
-/// The same of each text, one behind the other.
+/// As `in_clauses`, of each text, one after another.
 fn all_in_clauses(alloc: Global, texts: &[&[u8]]) -> Result<Vec<u8>, Fail> {
     let mut all = Vec::new(alloc);
     for text in texts {

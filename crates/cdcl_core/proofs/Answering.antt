@@ -39,7 +39,7 @@ search_is_open formula parities s n (Some es) ok served count a = subst (λ xs. 
 pub log_is_open : (formula : Problem) (c : SearchState) (e : State) (rows : List (List Literal)) (told : Option (List LogEvent)) → SearchStands formula c e rows told → IsOpenWith formula c.conflicts told
 log_is_open formula c e rows told (s, ok, a, t, f) = search_is_open formula e.parities s c.conflicts told ok t.log.served.served t.counts.marked a
 
--- behind a learned clause it is open, with one mark more
+-- after a learned clause it is open, with one mark more
 pub learned_log_is_open : (formula : Problem) (c : SearchState) (e : State) (lits : List Literal) (back : ℕ) (told : Option (List LogEvent)) → Learns formula c e lits back told → IsOpenWith formula (c.conflicts + 1) told
 learned_log_is_open formula c e lits back told l = search_is_open formula e.parities (after_round l.search c.next (integers_of lits) l.hints back l.taught.first) (c.conflicts + 1) told
     (round_is_search formula c e lits back l.search l.taught l.hints) (tidy formula c e lits back l.search l.taught l.hints).served (conflicts_then formula c e lits back l.search l.taught l.hints) l.told_is

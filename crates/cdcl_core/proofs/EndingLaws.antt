@@ -39,7 +39,7 @@ pub ended_is_left : (formula : Problem) (marks : ℕ) (failed : List Literal) (t
 ended_is_left formula marks failed None e = tt
 ended_is_left formula marks failed (Some events) e = inr e.0.ended
 
--- ---- a clause by a right chain is told that ends the log
+-- ---- a clause by a right chain that ends the log is told
 module _ (formula : Problem) (parities : List (List Literal)) (s : Search) (ok : IsSearch formula parities s) (served : s.moment.awaits ≡ false) (marks : ℕ) (count : s.conflicts ≡ marks) (n : ℕ) (lits : List Literal) (hints : List ℤ)
     (back : literals (integers_of lits) ≡ lits) (added : IsAddition formula s.moment.tables.clauses n (integers_of lits)) (chain : HasChain s.moment.tables.clauses lits) (ends : is_ending formula.constraints lits ≡ true) where
   abbrev last : LogStep

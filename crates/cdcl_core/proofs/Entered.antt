@@ -1,4 +1,4 @@
--- A learned clause is entered: the code's trail and what stands on it.
+-- A learned clause is entered: the code's trail and what is on it.
 use Rattle.std.proofs.Common.{◌≡◌, refl, sym, ap, ◌∙◌, subst, ℕ, zero, suc, ◌+◌, ◌<◌, ◌≤◌, ◌^◌, ℤ, true, false, cond, nat_le, nat_lt, is_some, List, [], ◌∷◌, ◌++◌, length, take, get_or, None, Option, ◌⊎◌, inl, inr, arith, length-append, Contains, true≢false}
 use Rattle.std.proofs.lemmas.Bool.{ltb-true, ltb-false}
 use Rattle.std.proofs.lemmas.List.{take-append-le}

@@ -1,4 +1,4 @@
--- A learned clause is entered: the ties of the search behind a whole conflict.
+-- A learned clause is entered: the ties of the search after a whole conflict.
 use Rattle.std.proofs.Common.{◌≡◌, ◌≢◌, refl, sym, ap, ◌∙◌, subst, ℕ, ◌+◌, ◌-◌, ◌<◌, ℤ, false, cond, nat_eq, eq-eqb, List, [], ◌∷◌, length, Some, ◌⊎◌, inl, inr, arith}
 use Rattle.std.proofs.lemmas.Bool.{eqb-false}
 use Rattle.cx_base.specs.Literals.{Literal}
@@ -86,7 +86,7 @@ module _ (formula : Problem) (c : SearchState) (e : State) (lits : List Literal)
   round_leaves : IsRanged formula (first_row_id c.next) (n + 1) (first_row_id c.next) after.trail after.moment
   round_leaves = round_ranged formula (first_row_id c.next) c.next (first_row_id c.next + length taught.rows) s taught.ties.log.ranged n zs hints back (omega arith) (omega arith) l taught.ties.log.served.old_clauses
 
-  -- no clause of a row is left, so their ids begin behind the next one
+  -- no clause of a row is left, so their ids begin after the next one
   pub ranged_then : IsRanged formula (first_row_id (n + 1)) (n + 1) (first_row_id (n + 1)) after.trail after.moment
   ranged_then = risen_ranged formula (first_row_id c.next) (n + 1) (first_row_id c.next) after round_leaves (first_row_id (n + 1)) (omega arith) tidy.no_new_clauses tidy.no_old_clauses
 

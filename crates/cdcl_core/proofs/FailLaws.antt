@@ -116,7 +116,7 @@ conflict_ends_at constraints a t k ok low checked below is = record {
   stands = tt;
 }
 
--- so does the literal that contradicts an assumed one, by what stands below it
+-- the literal that contradicts an assumed one ends it by what is below it
 pub failed_ends_at : (constraints : List Constraint) (a : Assumptions) (t : TrailState) → KeepsAssumptions constraints a t → IsTrail t → (p : ℕ) → p ≡ a.checked → p < length t.entries → Contradicts constraints t p
     → EndsAtPlace constraints t (Some (entry_at t.entries p).literal) p
 failed_ends_at constraints a t k ok p is less h = record {

@@ -1,4 +1,4 @@
--- One learned clause less: in the arena, in the log, and behind both.
+-- One learned clause less: in the arena, in the log, and in the search.
 use Rattle.std.proofs.Common.{◌≡◌, ◌≢◌, refl, sym, ap, ◌∙◌, subst, ℕ, zero, suc, ◌+◌, ◌-◌, ◌*◌, ◌<◌, ◌≤◌, Bool, true, false, true≢false, not, cond, nat_eq, eqb-true, List, [], ◌∷◌, length, get_or, Option, Some, None, Contains, inl, inr, arith}
 use Rattle.std.specs.Prelude.{IsSome, IsTrue, slice_set, if◌then◌else◌}
 use Rattle.std.proofs.lemmas.List.{get_or-set_other}
@@ -213,7 +213,7 @@ module _ (formula : Problem) (c : SearchState) (e : State) (s : Search) (ok : Is
   pub watched_less : WasWatched c.watches c.arena c.trail → WasWatched c.watches b c.trail
   watched_less f = record { before = f.before; part = λ q h. other_stays c.arena r q (is_other c.arena r q h) ∙ f.part q (was_live c.arena r q h); watched = f.watched }
 
--- one deletion of a learned clause: the search stands behind the arena without it and the log with the deletion
+-- one deletion of a learned clause: the search fits the arena without it and the log with the deletion
 pub one_deletion_keeps : (formula : Problem) (c : SearchState) (e : State) (told_ : Option (List LogEvent)) (st : SearchLoses formula c e told_) (r : ℕ) → IsLive c.arena r → IsTrue (learned_at c.arena r)
     → length c.units.items ≡ length c.trail.entries → 751 + 250 * c.reductions ≤ c.learned
     → SearchLoses formula (record c { arena = less c.arena r; learned = c.learned - 1 }) e (with_events (Step (Delete (id_at c.arena r) []) ∷ []) told_)

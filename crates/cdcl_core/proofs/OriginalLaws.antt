@@ -200,7 +200,7 @@ pub told_more : (events : List LogEvent) (step : LogStep) (o : Option (List LogE
 told_more events step None a = tt
 told_more events step (Some es) a = ap (λ xs. xs ++ Step step ∷ []) a
 
--- ---- what stands before the first
+-- ---- what holds before the first
 pub fresh_has_begun : (formula : Problem) (old : Option (List LogEvent)) → IsFresh old → HasBegun formula [] old
 unfolding clauses_of parities_of
 fresh_has_begun formula None fresh = (start, nothing_is_begun formula, nothing_listed, nothing_listed, tt)

@@ -8,7 +8,7 @@ use Rattle.cx_semantics.specs.Fresh.{is_tautology}
 use Rattle.cx_semantics.proofs.Members.{has_at_head, has_behind, has_split}
 use Rattle.cdcl_core.specs.Clauses.{RiseFrom}
 
--- whether a literal of these, or of this code, has its negation right behind it
+-- whether a literal of these, or of this code, has its negation right after it
 abbrev pub beside : ℕ → List Literal → Bool
 beside n [] = false
 beside n (l ∷ lits) = (l.negative && nat_eq (code_of l) (n + 1)) || beside (code_of l) lits
@@ -26,7 +26,7 @@ code_even l e = ap (λ b. 2 * l.variable + cond b 1 0) e
 code_odd : (l : Literal) → l.negative ≡ true → code_of l ≡ 2 * l.variable + 1
 code_odd l e = ap (λ b. 2 * l.variable + cond b 1 0) e
 
--- the literal behind is the negation
+-- the literal after is the negation
 is_negation : (x l : Literal) → l.negative ≡ true → code_of l ≡ code_of x + 1 → negate x ≡ l
 is_negation x l e c = elim (cases_Bool x.negative) [
   | inl odd ↦ absurd (let a = code_odd x odd in let b = code_odd l e in omega (arith, a, b, c))

@@ -1,4 +1,4 @@
--- Unit clauses of the formula come onto the trail, one after another, and what stands when none waits.
+-- Unit clauses of the formula come onto the trail, one after another, and what holds when none waits.
 use Rattle.std.proofs.Common.{◌≡◌, ◌≢◌, refl, sym, ap, ◌∙◌, subst, ℕ, zero, suc, ◌+◌, ◌<◌, ◌≤◌, nat_lt, true, cond, List, [], ◌∷◌, ◌++◌, length, drop, drop-cons, get_or, Option, Some, None, ◌⊎◌, inl, inr, Contains, arith, length-append, true≢false, append-nil}
 use Rattle.std.proofs.lemmas.Bool.{le-leb, ltb-true, ltb-false, and_parts}
 use Rattle.std.proofs.lemmas.List.{length-replicate, length_push}
@@ -423,7 +423,7 @@ module _ (formula : Problem) (few : length formula.constraints ≤ 4294967295) (
     ),
   )
 
--- ---- behind the last unit clause
+-- ---- after the last unit clause
 module _ (formula : Problem) (engines : List (List Literal)) (c : SearchState) (told : Option (List LogEvent)) (st : SearchStandsBut formula engines c [] told) where
   none_waits : (k : ℕ) → IsWaiting [] k → ⊥
   none_waits k (u, (i, less, is), number) = omega (arith, less)

@@ -43,7 +43,7 @@ pub record IsRefuted (constraints : List Constraint) (t : TrailState) (found : F
   pub level : t.level ≡ 0
   pub apart : RowsAreApart constraints t (length t.entries)
 
--- the place that an end begins at: no literal below it that a row implied contradicts an assumed one, and decisions there are assumed; the kept literal stands there, and its negation is assumed
+-- the place that an end begins at: no literal below it that a row implied contradicts an assumed one, and decisions there are assumed; the kept literal is there, and its negation is assumed
 pub record EndsAtPlace (constraints : List Constraint) (t : TrailState) (kept : Option Literal) (below : ℕ) : Type 0 where
   pub within : below ≤ length t.entries
   pub apart : RowsAreApart constraints t below

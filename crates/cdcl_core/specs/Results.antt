@@ -18,7 +18,7 @@ abbrev pub IsFresh : Option (List LogEvent) → Type 0
 IsFresh None = Unit {0}
 IsFresh (Some events) = events ≡ []
 
--- the log is open and has so many marks
+-- the log is open and has this many marks
 abbrev pub IsOpenWith : Problem → ℕ → Option (List LogEvent) → Type 0
 IsOpenWith formula n None = Unit {0}
 IsOpenWith formula n (Some events) = IsOpen (log_calculus formula) (steps_of events) × Marked formula events n

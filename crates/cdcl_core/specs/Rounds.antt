@@ -32,6 +32,6 @@ pub record LeavesRound {P L : Type 0} (p : engine.Ghosts P) (m : sink.Ghosts L L
   pub clear : OnOk result (AreClear marks)
   pub log : GoesOn m old (fault_in result) new
 
--- where no fault comes there is an answer, never unknown, with at most so many marks
+-- where no fault comes there is an answer, never unknown, with at most this many marks
 abbrev pub IsSettledIn : Problem → ℕ → Option (List LogEvent) → Result (Option Outcome) CoreFault → Type 0
 IsSettledIn formula marks told result = IfOk result (λ o. MatchOption o ⊥ (λ a. IsSettledBy formula (marks + 1) told a))

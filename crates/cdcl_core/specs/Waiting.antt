@@ -69,6 +69,6 @@ abbrev pub PutsUnits : Problem → List (List Literal) → SearchState → List 
 PutsUnits formula engines c waiting told true = SearchStandsBut formula engines c waiting told
 PutsUnits formula engines c waiting told false = Refutes formula 1 told []
 
--- so it is over whatever parities the search stood
+-- so it is, whatever parities the search was over
 abbrev pub Puts : {L : Type 0} → sink.Ghosts L LogEvent → SearchLog L → SearchState → List Single → SearchLog L → SearchState → List Single → Bool → Type 0
 Puts m log c waiting log_now now rest going = (engines : List (List Literal)) → SearchStandsBut log.formula.now engines c waiting (told_in m log) → PutsUnits log_now.formula.now engines now rest (told_in m log_now) going

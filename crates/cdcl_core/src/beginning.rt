@@ -81,7 +81,7 @@ pub(crate) fn start<P: ParityEngine, L: Sink<Item = LogEvent>>(
     ensures begins { IfOk result (λ e. SearchBegins P.state log.new.formula.now (told_in L.Sink log.new) filled.new.state e) }
     ensures log { GoesOn L.Sink log.old (fault_in result) log.new }
 {
-    // `vars` says to the proof that the literals of the formula are within its variables.
+    // `vars` tells the proof that the literals of the formula are within its variables.
     let vars = log.formula.vars();
     if let Some(number) = filled.empty {
         refute(log, &filled.state, &[], number)?;

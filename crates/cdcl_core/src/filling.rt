@@ -32,7 +32,7 @@ pub(crate) struct Filled {
     pub empty: Option<u64>,
 }
 
-/// A search over so many variables, before its first clause.
+/// A search over this many variables, before its first clause.
 fn empty_state(alloc: Global, vars: u32) -> Result<SearchState, AllocError>
     requires { vars ≤ MAX_VARIABLE }
     ensures { IfOk result (IsEmpty vars) }

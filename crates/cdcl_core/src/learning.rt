@@ -152,7 +152,7 @@ fn lesson_of<'x, P: ParityEngine, L: Sink<Item = LogEvent>>(
     analyse(alloc, &state.trail, conflict, marks, &mut source)
 }
 
-/// What a conflict above the levels of the assumed literals teaches: so its clause is no ending clause. Told are the mark, the learned clause with its hints, and the deletions of the clauses of rows.
+/// What a conflict above the levels of the assumed literals teaches: so its clause is no ending clause. The mark, the learned clause with its hints, and the deletions of the clauses of rows are told.
 pub(crate) fn learn<P: ParityEngine, L: Sink<Item = LogEvent>>(
     log: &mut SearchLog<L>,
     state: &SearchState,

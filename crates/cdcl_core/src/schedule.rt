@@ -18,7 +18,7 @@ use search_policy::{Assumptions, Card, choose_removed_in_place, restart_due};
 use std::alloc::{AllocError, Global};
 use step_text::Sink;
 
-/// So many restarts are more than any search makes.
+/// More restarts than any search makes.
 const LAST_RESTART: u64 = 1 << 62;
 
 /// What decides when the search restarts and what it deletes: no answer rests on it.
@@ -29,7 +29,7 @@ pub(crate) struct Schedule {
     restarts: u64,
 }
 
-/// What a reduction looks at of a clause, where it was learned. At level 0 no clause is held as a reason.
+/// What a reduction looks at in a clause, where it was learned. At level 0 no clause is held as a reason.
 fn card_of(arena: &Arena, reference: ClauseRef) -> Option<Card> {
     if !arena.is_live(reference) || !arena.learned(reference) {
         return None;
@@ -87,7 +87,7 @@ fn choose(alloc: Global, state: &SearchState) -> Result<RefList, AllocError> {
     choose_removed_in_place(alloc, cards)
 }
 
-/// Whether so many learned clauses are there that some go: 2000, and 500 more for each reduction before.
+/// Whether there are so many learned clauses that some go: 2000, and 500 more for each reduction before.
 fn are_many(state: &SearchState) -> bool {
     state.learned / 500 >= state.reductions.saturating_add(4)
 }

@@ -36,7 +36,7 @@ module _ (formula : Problem) (c : SearchState) (e : State) (s : Search) (ok : Is
   pub is_quiet : Quiet formula.variables e.parities s.moment.tables.clauses (all_held s.trail)
   is_quiet = found_quiet formula c e s ok t f finds.0 finds.1 finds.2
 
-  -- another order in which each unassigned variable stands
+  -- another order that has each unassigned variable
   pub reordered : (o : OrderState) → AllStand o c.trail → Ties formula (record c { order = o }) e [] s
   reordered o stand = record {
     log = t.log;
@@ -112,7 +112,7 @@ module _ (formula : Problem) (c : SearchState) (e : State) (s : Search) (ok : Is
       go true is h = none (record { variable = v; negative = false }) refl is
       go false is h = none (record { variable = v; negative = true }) refl h
 
--- ---- for the search behind the code
+-- ---- for the search that fits the code
 module _ (formula : Problem) (c : SearchState) (e : State) (told : Option (List LogEvent)) (finds : PropagationFinds c e found.Quiet) where
   pub reordered_stands : (o : OrderState) → AllStand o c.trail → SearchStands formula c e [] told → SearchStands formula (record c { order = o }) e [] told
   reordered_stands o stand (s, ok, told_is, t, f) = (s, ok, told_is, reordered formula c e s ok t f finds o stand, f)

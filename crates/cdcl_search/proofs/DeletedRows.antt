@@ -1,4 +1,4 @@
--- The clauses of rows are deleted: the ties of the search behind that.
+-- The clauses of rows are deleted: the ties of the search after that.
 use Rattle.std.proofs.Common.{Bool, true, false, not, cond, nat_eq, ◌||◌, ◌&&◌, ◌≡◌, refl, sym, ap, ◌∙◌, subst, ℕ, zero, suc, ◌+◌, ◌-◌, ◌<◌, ◌≤◌, true≢false, List, [], ◌∷◌, ◌++◌, length, take, fold, Option, arith, append_assoc}
 use Rattle.std.proofs.lemmas.List.{map_push}
 use Rattle.std.specs.List.{AllByRecursion}
@@ -149,7 +149,7 @@ module _ (formula : Problem) (c : SearchState) (e : State) (first : ℕ) (near :
   stands_then old a f = (after, deleted_keeps formula e.parities s ok ids temporary, told_then old a ids, ties_then, f)
 
 -- ---- what telling the deletions leaves
--- the deletions of all clauses of rows leave the search standing
+-- the deletions of all clauses of rows leave a search that fits
 pub rows_deleted : (formula : Problem) (c : SearchState) (e : State) (rows : List (List Literal)) (old : Option (List LogEvent)) → SearchStandsFrom formula c e c.next rows old → (events : List LogEvent) → events ≡ deletions (row_ids c.next (length rows))
     → SearchStands formula c e [] (with_events events old)
 rows_deleted formula c e rows old st events are =

@@ -48,7 +48,7 @@ stops_there torn steps i s first old new fault less read was (zero, small, is, t
 )
 stops_there torn steps i s first old new fault less read was (suc k, small, is, t) = absurd (omega (arith, small))
 
--- a mark and the steps behind it
+-- a mark and the steps after it
 pub mark_is_told : (torn : LogEvent → Type 0) (event : LogEvent) (events : List LogEvent) (old between new : Option (List LogEvent)) (r : Result (Unit {0}) CoreFault)
     → between ≡ with_events (event ∷ []) old → TellsAll torn events between r new → TellsAll torn (event ∷ events) old r new
 mark_is_told torn event events old between new (Ok u) first rest = rest ∙ ap (with_events events) first ∙ more_and_more (event ∷ []) events old

@@ -26,7 +26,7 @@ pub tied_length : (es : List Entry) (entries : List TrailEntry) → IsTied es en
 tied_length [] entries t = ap length t
 tied_length (e ∷ es) entries (before, i, same, lit, lev, t) = let r = tied_length es before t in let long = length_push before i in let n : length entries ≡ length (before ++ i ∷ []) = ap length same in omega (arith, r, long, n)
 
--- the newer entries of the search's trail begin with the one that stands behind the older ones on the code's
+-- the newer entries of the search's trail begin with the one that comes after the older ones on the code's
 record IsNext (newer older : List Entry) (entries : List TrailEntry) : Type 0 where
   pub later : List Entry
   pub first : Entry

@@ -1,4 +1,4 @@
--- A front of a longer trail of the same level is a trail.
+-- A prefix of a longer trail of the same level is a trail.
 use Rattle.std.proofs.Common.{◌≡◌, sym, ap, ◌∙◌, subst, ℕ, ◌-◌, ◌<◌, ◌≤◌, nat_le, length, take, arith}
 use Rattle.std.proofs.lemmas.Bool.{leb-true, leb-false}
 use Rattle.std.proofs.lemmas.List.{length-take-le}
@@ -10,7 +10,7 @@ abbrev pub front : TrailState → ℕ → TrailState
 front u n = record u { entries = take n u.entries }
 
 module _ (t u : TrailState) (ok_t : IsTrail t) (ok_u : IsTrail u) (level : u.level ≡ t.level) (same : (i : ℕ) → i < length t.entries → entry_at u.entries i ≡ entry_at t.entries i) where
-  -- what stands behind the shorter trail is of the current level
+  -- what comes after the shorter trail is of the current level
   pub late_level : (i : ℕ) → length t.entries ≤ i → i < length u.entries → (entry_at u.entries i).level ≡ u.level
   late_level i past less =
       let high = ok_u.levels i less in

@@ -1,4 +1,4 @@
--- A log that is right so far: each front of it is.
+-- A log that is right so far: each prefix of it is.
 use Rattle.std.proofs.Common.{◌≡◌, refl, sym, ap, ◌∙◌, subst, ℕ, zero, suc, ◌+◌, ◌<◌, List, [], ◌∷◌, ◌++◌, length, take, drop, get_or, filter_map, Option, Some, None, arith, inl, inr, ◌⊎◌, is_some, true≢false, length-append, append_assoc, append-nil}
 use Rattle.std.specs.Prelude.{Result, Ok, Err, OnOk}
 use Rattle.std.proofs.lemmas.List.{take-append-drop}
@@ -28,7 +28,7 @@ use Rattle.cdcl_search.specs.Logs.{GoesOn, IsRightBehind}
 use Rattle.cdcl_search.specs.Tells.{TellsAll, FaultsAs, HasFailedBy, IsLeft, IsTellable, HaveLowIds, HasNoMark, IsTorn, as_events, with_events}
 use Rattle.cdcl_search.proofs.Events.{more_and_more}
 
--- ---- fronts
+-- ---- prefixes
 runs_front : {S : Type 0} (c : Calculus S) (tables : Tables) (front more : List S) (last : Tables) → Runs c tables (front ++ more) last → (t : Tables) × Runs c tables front t
 runs_front c tables [] more last r = (tables, refl)
 runs_front c tables (s ∷ front) more last r =
@@ -157,7 +157,7 @@ pub tellable_have_texts : (steps : List LogStep) → AllByRecursion IsTellable s
 tellable_have_texts [] a = tt
 tellable_have_texts (s ∷ steps) a = (a.0.0, tellable_have_texts steps a.1)
 
--- a log goes on by a telling of events behind which it is right
+-- a log goes on by a telling of events after which it is right
 goes_on_by : {L T : Type 0} (m : sink.Ghosts L LogEvent) (old new : SearchLog L) (events : List LogEvent) (r : Result T CoreFault) → TellsAll (m.torn new.sink.now) events (m.items old.sink.now) r (m.items new.sink.now)
     → FaultsAs r (m.faults old.sink.now) (m.faults new.sink.now) → HasFailedBy (fault_in r) (m.has_failed old.sink.now) (m.has_failed new.sink.now) → m.keeps old.sink.now new.sink.now → IsRightBehind m old events → AllByRecursion HasText events → AllByRecursion HasLowId events → AreUnmarked old.formula.now events
     → new.formula.now ≡ old.formula.now → new.sink.ghost_name ≡ old.sink.ghost_name → GoesOn m old (fault_in r) new

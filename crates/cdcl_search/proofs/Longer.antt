@@ -1,4 +1,4 @@
--- Literals that are put behind those of a trail.
+-- Literals that are added to a trail.
 use Rattle.std.proofs.Common.{◌≡◌, refl, sym, ap, ◌∙◌, subst, [], ◌∷◌, ◌++◌, append_assoc, append-nil, length}
 use Rattle.cx_base.specs.Literals.{Literal}
 use Rattle.cx_trail.specs.declared.entry.Reason.{Reason}

@@ -31,7 +31,7 @@ pub units_are_ids : (table : Table) (next : ℕ) (t : TrailState) (es : List Ent
 units_are_ids table next t es ids none room u k d less = subst IsId (sym (index_is ids k d 0 less)) (named_is_id table _ (get_or ids k 0) none (let low = u.low k less in omega (arith, low, room)) (u.named k less))
 
 module _ (formula : Problem) (c : SearchState) (e : State) (first : ℕ) (rows : List (List Literal)) (s : Search) (t : TiesFrom formula c e first rows s) where
-  -- far below the highest id, so that rows have ids behind it
+  -- far below the highest id, so that rows have ids after it
   pub next_is_low : c.next ≤ 1000000005000000000
   next_is_low =
       let taken = t.ids.taken in
@@ -58,7 +58,7 @@ module _ (formula : Problem) (c : SearchState) (e : State) (first : ℕ) (rows :
   pub variables_are_few : formula.variables ≤ 268435455
   variables_are_few = let vars : c.trail.variables ≤ 268435455 = t.trail.follows.sound.few in let same = t.trail.variables in omega (arith, vars, same)
 
-  -- a step may have the ids of the rows that were told, and the one behind them
+  -- a step may have the ids of the rows that were told, and the one after them
   pub row_ids_are_ids : first ≤ first_row_id c.next → AreIdsFrom first (length rows)
   row_ids_are_ids near = let few = t.log.few_rows in let vars = variables_are_few in let next = next_is_low in let some = t.log.ranged.originals in let room = t.log.ranged.room in (omega (arith, some, room), omega (arith, near, few, vars, next))
 

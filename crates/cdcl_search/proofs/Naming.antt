@@ -79,7 +79,7 @@ implied_of_parities e l f wide i = record {
       (λ some. or_right (literal_true v l) (clause_met v (negations (known e))) (any_negated v (known e) some));
 }
 
--- ---- what the engine knows stands on the trail
+-- ---- what the engine knows is on the trail
 module _ (formula : Problem) (c : SearchState) (e : State) (rows : List (List Literal)) (s : Search) (t : Ties formula c e rows s) where
   pub known_stands : (l : Literal) → has_literal (known e) l ≡ true → IsTrueIn c.trail.entries l
   known_stands l h = known_is_true e t.engine.fed.older t.engine.fed.values t.engine.fed.newer c.trail.entries (subst (λ es. IsTied es c.trail.entries) t.engine.fed.parts t.trail.follows.tied) l h
@@ -205,7 +205,7 @@ module _ (formula : Problem) (c : SearchState) (e : State) (rows : List (List Li
                 (row_ranged formula (first_row_id c.next) c.next (first_row_id c.next + length rows) s t.log.ranged l (clause_of e l)) kept.1 sound is_reason,
           )
 
--- ---- the events, for the search behind the code
+-- ---- the events, for the search that fits the code
 module _ (formula : Problem) (c : SearchState) (e u : State) (rows : List (List Literal)) (told : Option (List LogEvent)) where
   pub quiet_stands : u ≡ record e { mood = Calm } → SearchStands formula c e rows told → SearchStands formula c u rows told
   quiet_stands is (s, ok, told_is, t, f) =

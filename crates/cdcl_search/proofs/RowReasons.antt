@@ -22,7 +22,7 @@ use Rattle.cdcl_search.specs.Explaining.{Explains, IsReasonOf}
 use Rattle.cdcl_search.proofs.OneSign.{one_sign}
 use Rattle.cdcl_search.proofs.RowSteps.{in_form, low_form}
 
--- the first entries of a trail stand on it
+-- the first entries of a trail are on it
 pub entry_taken : (entries : List Entry) (n i : ℕ) → i < length (take n entries) → entry_at (take n entries) i ≡ entry_at entries i
 entry_taken entries n i less = get_or-take n entries i no_entry (let few = length-take n entries in omega (arith, few, less))
 

@@ -1,4 +1,4 @@
--- What holds of the formula and of the events that a log tells, behind a telling.
+-- What holds of the formula and of the events that a log tells, after a telling.
 use Rattle.std.proofs.Common.{◌≡◌, sym, subst, List, Option, Result, Ok, Err}
 use Rattle.std.specs.Prelude.{OnOk}
 use Rattle.cx_base.specs.Problem.{Problem}

@@ -1,4 +1,4 @@
--- The unit clause of a literal of level 0 is told: the ties of the search behind that.
+-- The unit clause of a literal of level 0 is told: the ties of the search after that.
 use Rattle.std.proofs.Common.{◌≡◌, ◌≢◌, ◌≤◌, refl, sym, ap, ◌∙◌, subst, ℕ, suc, ◌+◌, ◌-◌, ◌<◌, ℤ, true, false, ◌&&◌, nat_eq, nat_lt, List, [], ◌∷◌, ◌++◌, length, take, get_or, Option, Some, ◌⊎◌, inl, inr, arith, length-append, append_assoc}
 use Rattle.std.proofs.lemmas.Bool.{eqb-false, ltb-true, ltb-false}
 use Rattle.std.proofs.lemmas.List.{take_all, take-append-le}

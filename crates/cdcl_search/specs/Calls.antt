@@ -34,7 +34,7 @@ pub record Tells {L T : Type 0} (m : sink.Ghosts L LogEvent) (old : SearchLog L)
   pub log : GoesOn m old (fault_in result) new
 
 -- ---- calls that tell the log
--- the search stands, no row is broken, and the sink of the log has not failed
+-- the search fits the code, no row is broken, and the sink of the log has not failed
 pub record IsReady {P L : Type 0} (p : engine.Ghosts P) (m : sink.Ghosts L LogEvent) (log : SearchLog L) (c : SearchState) (e : P) : Type 0 where
   pub stands : Stands p m log c e []
   pub unbroken : (p.state e).mood ≢ Broken

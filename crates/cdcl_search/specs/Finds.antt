@@ -26,7 +26,7 @@ HasAll c = c.given ≡ length c.trail.entries
 abbrev pub IsClash : State → ℕ → Type 0
 IsClash e row = (n : Named) × (named_at e row ≡ Some n) × (n.in_conflict ≡ true) × IsBroken e n.form
 
--- quiet: the clauses and the parities force nothing more; else a clause all of whose literals are false, or a row that is not met
+-- quiet: the clauses and the parities force nothing more; otherwise a clause all of whose literals are false, or a row that is not met
 abbrev pub PropagationFinds : SearchState → State → Found → Type 0
 PropagationFinds c e Quiet = Happens c.watches.attached c.arena c.trail event.Quiet × HasAll c × IsSilent e × (e.mood ≡ Calm)
 PropagationFinds c e (Clause r) = IsAttached c.watches.attached r × IsFalsified c.trail.entries (literals_at c.arena r) × (e.mood ≢ Broken)

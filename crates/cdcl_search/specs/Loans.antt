@@ -3,7 +3,7 @@ use Rattle.std.specs.Prelude.{◌≡◌, refl}
 use Rattle.std.proofs.Common.{◌∙◌}
 use Rattle.cdcl_search.specs.declared.source.Source.{Source}
 
--- the same values under the same references
+-- both have these values under these references
 pub record HasSameLoans {P L : Type 0} (a b : Source P L) : Type 0 where
   pub state : b.state.now ≡ a.state.now
   pub engine : b.engine.now ≡ a.engine.now

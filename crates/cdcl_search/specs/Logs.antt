@@ -13,7 +13,7 @@ use Rattle.cdcl_search.specs.Ties.{SearchStands, SearchStandsFrom}
 use Rattle.cdcl_search.specs.Tells.{IsLeft, HasFailedBy, HaveLowIds, HasNoMark, IsTorn, with_events}
 use Rattle.cdcl_search.specs.declared.logs.SearchLog.{SearchLog}
 
--- Calls up to an answer, or up to this fault. A log that was right so far is right so far, and ids stay low. Where the formula is settled with its recovered parities no mark is told. A write fault is counted and tears an event that may stand there, and the sink has failed then; else none is counted. The formula and the sink are the same, and what the sink keeps is kept.
+-- Calls up to an answer, or up to this fault. A log that was right so far is right so far, and ids stay low. Where the formula is settled with its recovered parities no mark is told. A write fault is counted and tears an event that may follow, and the sink has failed then; otherwise none is counted. The formula and the sink are the same, and what the sink keeps is kept.
 pub record GoesOn {L : Type 0} (m : sink.Ghosts L LogEvent) (old : SearchLog L) (why : Option CoreFault) (new : SearchLog L) : Type 0 where
   pub right : IsLeft old.formula.now (m.items old.sink.now) → IsLeft new.formula.now (m.items new.sink.now)
   pub ids : HaveLowIds (m.items old.sink.now) → HaveLowIds (m.items new.sink.now)

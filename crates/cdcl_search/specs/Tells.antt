@@ -37,7 +37,7 @@ abbrev pub fault_as : SinkFault → CoreFault
 fault_as sink.Memory = Memory
 fault_as sink.Failed = Write
 
--- the count of faults: it rose after a fault of writing, and else it stays
+-- the count of faults: it rose after a fault of writing, and otherwise it stays
 abbrev pub FaultsAs : {T : Type 0} → Result T CoreFault → ℕ → ℕ → Type 0
 FaultsAs (Ok done) before now = now ≡ before
 FaultsAs (Err Memory) before now = now ≡ before
@@ -70,7 +70,7 @@ pub record MayStandBehind (formula : Problem) (told : Option (List LogEvent)) (e
 abbrev pub IsTorn : Problem → (LogEvent → Type 0) → Option (List LogEvent) → Type 0
 IsTorn formula torn told = (event : LogEvent) × torn event × MayStandBehind formula told event
 
--- the search gave up: its log is right as far as it goes, and after a fault of writing an event is torn that may follow
+-- the search gave up: its log is right as far as it goes, and after a fault of writing an event that may follow is torn
 abbrev pub GivesUp : Problem → (LogEvent → Type 0) → Option (List LogEvent) → CoreFault → Type 0
 GivesUp formula torn told Memory = IsLeft formula told
 GivesUp formula torn told Write = IsLeft formula told × IsTorn formula torn told

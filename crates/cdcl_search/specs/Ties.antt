@@ -32,7 +32,7 @@ use Rattle.search_steps.specs.Laws.{HaveTheirs}
 abbrev pub first_row_id : ℕ → ℕ
 first_row_id next = next + 1
 
--- the ids of so many clauses of rows from the first one on, the newest first
+-- the ids of this many clauses of rows from the first one on, the newest first
 abbrev pub row_ids : ℕ → ℕ → List ℕ
 row_ids first zero = []
 row_ids first (suc n) = (first + n) ∷ row_ids first n

@@ -53,7 +53,7 @@ fn next_decision(
     ensures stand { AllStand state.new.order state.old.trail }
     ensures same { state.new ≡ record state.old { order = state.new.order } }
 {
-    // `len` says to the proof that the trail is sound.
+    // `len` tells the proof that the trail is sound.
     let _sound = state.trail.len();
     if let Some(literal) = assumptions.next_open(formula, &state.trail) {
         assumptions.level = state.trail.level() + 1;

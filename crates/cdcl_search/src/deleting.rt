@@ -36,7 +36,7 @@ pub fn put_deletions(
     Ok(())
 }
 
-/// The deletions of so many clauses of rows from this id on, the newest first.
+/// The deletions of this many clauses of rows from this id on, the newest first.
 fn deletions_of_rows(alloc: Global, first: u64, count: usize) -> Result<Vec<LogStep>, AllocError>
     requires { AreIdsFrom first count }
     ensures { IfOk result (λ s. AreStepsOf (deletions (row_ids first count)) s.items) }

@@ -46,7 +46,7 @@ fn follow_clauses(state: &mut SearchState) -> Event
     ensures same { HasSameCounts state.old state.new }
 {
     let event = state.watches.next_event(&state.arena, &mut state.trail);
-    // `len` says to the proof that the trail is sound.
+    // `len` tells the proof that the trail is sound.
     let _sound = state.trail.len();
     event
 }
@@ -129,7 +129,7 @@ pub(crate) fn propagate<P: ParityEngine>(
         feed(formula, state, engine);
         match follow_rows(formula, state, engine) {
             RowFinding::Quiet => return Found::Quiet,
-            // all that the rows imply goes on the trail before the clauses go on: else reasons become long
+            // all that the rows imply goes on the trail before the clauses go on: otherwise reasons become long
             RowFinding::Implied => match empty_rows(formula, state, engine) {
                 None => {}
                 Some(row) => return Found::Row(row),

@@ -64,7 +64,7 @@ fn settle<P: ParityEngine, L: Sink<Item = LogEvent>>(
     }
 }
 
-/// Propagates, and opens a level by a decision where nothing is in conflict and a variable is not assigned. Else it answers where the search is.
+/// Propagates, and opens a level by a decision where nothing is in conflict and a variable is not assigned. Otherwise it answers where the search is.
 fn turn<P: ParityEngine, L: Sink<Item = LogEvent>>(
     log: &mut SearchLog<L>,
     state: &mut SearchState,

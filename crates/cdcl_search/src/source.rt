@@ -1,4 +1,4 @@
-//! Where the clauses come from that implied the literals of the trail.
+//! Where the clauses that implied the literals of the trail come from.
 ghost use Rattle.std.specs.Prelude.{◌≡◌, ℕ, ◌+◌, ◌-◌, ◌<◌, ◌≤◌, [], ◌∷◌, ◌++◌, List, length, IfOk, IfSome, OnOk, OnErr, IsFalse};
 ghost use Rattle.cx_base.specs.Assumptions.{assumes};
 ghost use Rattle.cx_base.specs.Literals.{Literal, negate};

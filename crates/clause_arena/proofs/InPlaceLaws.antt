@@ -29,7 +29,7 @@ same_behind n m xs ys le e =
 next_of : {X : Type 0} (n : ℕ) (x y : X) (xs : List X) → get_or (x ∷ xs) (n + 1) y ≡ get_or xs n y
 next_of n x y xs = ap (λ k. get_or (x ∷ xs) k y) (add-one n)
 
--- the first n clauses are packed, and at place n stand head h and end e
+-- the first n clauses are packed, and at place n are head h and end e
 module _ (lits₀ : List Literal) (ends₀ : List ℕ) (heads₀ : List Head) (n start used : ℕ) (lits : List Literal) (ends : List ℕ) (heads : List Head) (moves : List Move)
     (e : ℕ) (h : Head) (at_end : e ≡ get_or ends n e) (at_head : h ≡ get_or heads n h) (each : length ends₀ ≡ length heads₀) (inside : n < length heads₀)
     (p : IsPackedUpTo lits₀ ends₀ heads₀ n start used lits ends heads moves) where
@@ -47,7 +47,7 @@ module _ (lits₀ : List Literal) (ends₀ : List ℕ) (heads₀ : List Head) (n
       let two : RiseTo start (get_or ends₀ n e ∷ drop (n + 1) ends₀) (length lits₀) = subst (λ (es : List ℕ). RiseTo start es (length lits₀)) (drop_more ends₀ n e end_inside) p.order in
       subst (λ (k : ℕ). (start ≤ k) × RiseTo k (drop (n + 1) ends₀) (length lits₀)) (sym same_end) two
 
-  -- the next clause's literals stand behind what is packed
+  -- the next clause's literals come after what is packed
   pub next_fits : (used ≤ start) × (start ≤ e) × (e ≤ length lits)
   next_fits =
       let last = rise_over e (length lits₀) (drop (n + 1) ends₀) next_order.1 in
@@ -86,7 +86,7 @@ module _ (lits₀ : List Literal) (ends₀ : List ℕ) (heads₀ : List Head) (n
         many_lits = p.many_lits;
       }
 
-  -- one more live clause stands behind the packed ones
+  -- one more live clause comes after the packed ones
   pub packed_with_moved : (used' : ℕ) (lits' : List Literal) (ends' : List ℕ) (heads' : List Head) (moves' : List Move) → length heads₀ ≤ 2 ^ 31 - 1 → h.live ≡ true
       → lits' ≡ paste lits used (drop start lits) (e - start)
       → ends' ≡ set ends (length moves) used'

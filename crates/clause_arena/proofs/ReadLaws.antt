@@ -23,7 +23,7 @@ module _ (a : ArenaState) (lits : List Literal) (ends : List ℕ) (heads : List 
   pub live_place : (r place : ℕ) → place ≡ r → IsLive a r → place < length heads
   live_place r place e l = omega (arith, e, count, live_within a r l)
 
-  -- what stands at a place, by the head there
+  -- what is at a place, by the head there
   clause_there : (r place : ℕ) (h : Head) → place ≡ r → place < length heads → clause_at a r ≡ stored (part_at lits ends place) (get_or heads place h)
   clause_there r place h e inside = ap (clause_at a) (sym e) ∙ sym (ap (λ (cs : List (Option Stored)). get_or cs place None) is) ∙ clause_is 0 lits ends heads place h k.each inside
 

@@ -8,7 +8,7 @@ pub record Stored : Type 0 where
   pub lbd : ℕ
   pub learned : Bool
 
--- the clause of reference r stands at place r: a reference that was removed is None, and is never handed out again
+-- the clause of reference r is at place r: a reference that was removed is None, and is never handed out again
 pub record ArenaState : Type 0 where
   pub clauses : List (Option Stored)
   pub clause_room : ℕ

@@ -1,4 +1,4 @@
--- The live ones of the first clauses, one behind the other.
+-- The live ones of the first clauses, one after another.
 use Rattle.std.specs.Prelude.{ℕ, ◌≡◌, ◌<◌, ◌≤◌, List, length, ◌∷◌, get_or, take, drop, Option, None, IsSome}
 use Rattle.cx_base.specs.Literals.{Literal}
 use Rattle.cx_base.specs.declared.moved.Move.{Move}
@@ -21,7 +21,7 @@ pub record IsPacked (old : List (Option Stored)) (n : ℕ) (new : List (Option S
   pub all : (r : ℕ) → r < n → IsSome (kept_at old r) → (i : ℕ) × (i < length moves) × ((move_at moves i).old ≡ r)
 
 -- the first n clauses of an arena, whose literals end at place start, are packed into the first heads and the first so many literals,
--- and what stands behind is as it was
+-- and what comes after is as it was
 pub record IsPackedUpTo (lits₀ : List Literal) (ends₀ : List ℕ) (heads₀ : List Head) (n start used : ℕ) (lits : List Literal) (ends : List ℕ) (heads : List Head) (moves : List Move) : Type 0 where
   pub packed : IsPacked (clauses_from 0 lits₀ ends₀ heads₀) n (clauses_from 0 (take used lits) (take (length moves) ends) (take (length moves) heads)) moves
   pub front : AreHeads (take used lits) (take (length moves) ends) (take (length moves) heads)

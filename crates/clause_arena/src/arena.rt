@@ -16,8 +16,8 @@ pub const MAX_CLAUSES: usize = 2_147_483_647;
 
 /// Clauses by references.
 ///
-/// All literals stand one behind the other in one vector. A clause that is removed keeps its place, and its reference is not handed out again.
-/// Propagation asks for literals alone, so where they end stands apart from what else is known of a clause.
+/// All literals follow one another in one vector. A clause that is removed keeps its place, and its reference is not handed out again.
+/// Propagation asks for literals alone, so where they end is kept apart from what else is known of a clause.
 #[derive(Drop)]
 pub struct Arena {
     /// Where the literals of each clause end. They begin where those of the clause before end.
@@ -71,7 +71,7 @@ fn append(into: &mut Vec<Lit>, lits: &[Lit])
     }
 }
 
-// Makes room for so many more, where it is missing: the vector grows by half or more, so that an element costs constant time.
+// Makes room for this many more, where it is missing: the vector grows by half or more, so that an element costs constant time.
 fn make_room<T>(items: &mut Vec<T>, more: usize) -> Result<(), AllocError>
     ensures items { items.new.items ≡ items.old.items }
     ensures room { OnOk result (vec_len items.new + more ≤ vec_capacity items.new) }
@@ -151,7 +151,7 @@ impl Arena {
         self.heads[reference.place() as usize].learned
     }
 
-    /// Makes room for so many clauses and literals more. Without memory the clauses stay as they are. Where more than
+    /// Makes room for this many more clauses and literals. Without memory the clauses stay as they are. Where more than
     /// [`MAX_CLAUSES`] references would have to be handed out, the answer is out of memory too.
     pub fn reserve(&mut self, clauses: usize, lits: usize) -> Result<(), AllocError>
         ensures same { self.new.clauses ≡ self.old.clauses }

@@ -1,4 +1,4 @@
--- Watches that fit a trail fit it behind a literal that was put on it.
+-- Watches that fit a trail fit it after a literal that was put on it.
 use Rattle.std.proofs.Common.{◌≡◌, ℕ, ◌+◌, ◌≤◌, Bool, true, false, MatchBool, sym, subst, arith}
 use Rattle.cx_base.specs.Literals.{Literal}
 use Rattle.cx_trail.specs.Sequence.{TrailState, pushed}

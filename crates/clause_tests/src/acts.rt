@@ -213,7 +213,7 @@ fn told_on(
     take_all(alloc, arena, &mut watches, trail, acts)
 }
 
-/// What is told of acts on these clauses and those of an arena, over so many variables, at most nine.
+/// What is told of acts on these clauses and those of an arena, over this many variables, at most nine.
 fn told_in(
     alloc: Global,
     arena: &mut Arena,
@@ -226,7 +226,7 @@ fn told_in(
     told_on(alloc, arena, &mut trail, acts)
 }
 
-/// What is told of acts on these clauses, over so many variables, at most nine.
+/// What is told of acts on these clauses, over this many variables, at most nine.
 pub(crate) fn told(
     alloc: Global,
     vars: u32,

@@ -91,7 +91,7 @@ fn clauses_of_the_formula_stay(rt: HostRuntime) -> Result<(), Fail> {
     Ok(())
 }
 
-/// The picks of a new order, behind four bumps of the third and three of the second, and behind one more; and the weight.
+/// The picks of a new order, after four bumps of the third and three of the second, and after one more; and the weight.
 fn bumped(order: &mut Order, trail: &Trail) -> ([Option<Var>; 3], u32)
     requires three { length order.old.scores ≡ 3 }
     requires same { trail.now.variables ≡ 3 }
@@ -134,7 +134,7 @@ fn bump_second(order: &mut Order)
     order.bump_by(Var::new(2), 2);
 }
 
-/// The weight before the scores are halved and behind that, and the picks where both are equal and behind one bump more.
+/// The weight before the scores are halved and after that, and the picks where both are equal and after one bump more.
 fn halved(order: &mut Order, trail: &Trail) -> ([u32; 2], [Option<Var>; 2])
     requires two { length order.old.scores ≡ 2 }
     requires same { trail.now.variables ≡ 2 }
@@ -158,7 +158,7 @@ fn bumps_go_on_after_all_scores_were_halved(rt: HostRuntime) -> Result<(), Fail>
     Ok(())
 }
 
-/// The weight behind one conflict, behind two and behind a thousand more.
+/// The weight after one conflict, after two and after a thousand more.
 fn weights(order: &mut Order) -> [u32; 3] {
     order.grow();
     let first = order.weight();

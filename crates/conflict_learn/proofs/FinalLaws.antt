@@ -139,7 +139,7 @@ module _ (trail : TrailState) (levels : IsTrail trail) (below : ℕ) (kept : Opt
         (λ q h. (below_from trail new p q h).0)
         (λ m h n. let f = (implied p within refl).others_false m h n in (f.0, below_has trail new p f.0 f.1 (ap (is_marked new) (ap (λ (y : Literal). y.variable) f.2) ∙ t.has m h n), f.2))
 
--- ---- the resolved literals stand below
+-- ---- the resolved literals are below
 pub stand_more : (trail : TrailState) (below : ℕ) (resolved : List Literal) (p : ℕ) → p < length trail.entries → p < below → ((m : Literal) → has_literal resolved m ≡ true → StandsBelow trail below m)
     → (m : Literal) → has_literal (resolved ++ literal_at trail p ∷ []) m ≡ true → StandsBelow trail below m
 stand_more trail below resolved p within less old m h = elim (has_pushed resolved (literal_at trail p) m h) [

@@ -46,7 +46,7 @@ module _ (trail : TrailState) (marks : List Bool) where
       ])
       (λ e. let r = below_from n q (ap (λ ks. has_place ks q) (sym (no_more n e)) ∙ h) in (let less = r.0 in omega (arith, less), r.1))
 
-  -- the last marked place stands behind the others
+  -- the last marked place comes after the others
   pub below_cut : (n p : ℕ) → p < n → is_marked marks (var_of trail p) ≡ true → ((q : ℕ) → p < q → q < n → is_marked marks (var_of trail q) ≡ false) → marked_below trail marks n ≡ marked_below trail marks p ++ p ∷ []
   below_cut zero p less m others = absurd (omega (arith, less))
   below_cut (suc n) p less m others = by_cases (nat_eq p n)
@@ -76,7 +76,7 @@ other_mark marks v w b apart = get_or-set_other marks v w b false apart
 
 -- a place that is not marked but below or above
 module _ (trail : TrailState) (levels : IsTrail trail) where
-  -- without the mark of the last marked place, marked variables stand below it
+  -- without the mark of the last marked place, marked variables are below it
   pub stand_cleared : (marks : List Bool) (lowest from p : ℕ) → from ≤ length trail.entries → var_of trail p < length marks → IsLastMarked trail marks from lowest p → StandBetween trail marks lowest from
       → StandBetween trail (set marks (var_of trail p) false) lowest p
   stand_cleared marks lowest from p bound wide last stand v h = by_cases (nat_eq v (var_of trail p))
@@ -114,7 +114,7 @@ lower_before trail levels marks lowest from p bound last q less m = by_cases (na
     (λ up. absurd (true≢false (sym m ∙ last.others q (ltb-true p q up) less)))
     (λ n. let below = last.below in levels.rising q p (ltb-false p q n) (omega (arith, below, bound)))
 
--- none is marked where each marked one would stand between
+-- none is marked where each marked one would be between
 pub all_clear : (trail : TrailState) (marks : List Bool) (lowest from : ℕ) → StandBetween trail marks lowest from → NoneIsMarked trail marks lowest from → (v : ℕ) → is_marked marks v ≡ false
 all_clear trail marks lowest from stand none v = by_cases (is_marked marks v)
     (λ m. let r = stand v m in absurd (true≢false (sym (ap (is_marked marks) r.3 ∙ m) ∙ none r.0 r.1 r.2)))
@@ -127,7 +127,7 @@ open_past old n v past = get_or-append_right old (replicate n false) (length old
     (λ e. get_or-replicate n (v - length old) false false (ltb-true (v - length old) n e))
     (λ e. get_or_past (replicate n false) (v - length old) false (omega (arith, length-replicate n false, ltb-false (v - length old) n e)))
 
--- with clear marks behind it, or not at all
+-- with clear marks after it, or not at all
 pub marks_grow : (grown : Bool) (old new : List Bool) (n count v : ℕ) → length old ≤ count → new ≡ (if grown then take count old ++ replicate n false else old) → is_marked new v ≡ is_marked old v
 marks_grow false old new n count v all is = ap (λ ms. is_marked ms v) is
 marks_grow true old new n count v all is = ap (λ ms. is_marked ms v) (is ∙ ap (λ ms. ms ++ replicate n false) (take_all count old all))

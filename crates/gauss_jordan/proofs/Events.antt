@@ -314,7 +314,7 @@ implied_by_sum s f numbers x within wide rise is unit =
     let made = implied s e wide (long-dense s.vars f) within sound x dense_unit in
     (record { variable = x + 1; negative = not (differ (total e (filled s)) e.right) }, refl, made.forced)
 
--- the same of an equation, with what it says
+-- an equation that is such a sum implies its literal
 pub implied_by_equation : (s : State) (e : Equation) (numbers : List ℕ) (x : ℕ) → AllByRecursion (AreWithin s.vars) s.parities → length s.values ≡ s.vars
     → length e.terms ≡ s.vars → AreRising 1 (length s.parities) numbers → form_of e ≡ sum_of_numbers s.parities numbers → IsOneOpen s (has_at (form_of e)) x
     → IsImplied s (record { variable = x + 1; negative = not (differ (total e (filled s)) e.right) }) (form_of e)

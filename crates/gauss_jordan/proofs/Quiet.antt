@@ -73,7 +73,7 @@ module _ (rows width : ℕ) (has : ℕ → ℕ → Bool) (total : ℕ → List B
   unfolding turn
   total-turn i x v in' long lt = linear i x v in' long lt
 
-  -- the values as they are where they meet row n, and else with its basic column turned over
+  -- the values as they are where they meet row n, and otherwise with its basic column turned over
   choose : (w : List Bool) (n : ℕ) → (total n w ≡ right n) ⊎ (total n w ≡ right n → ⊥) → List Bool
   choose w n (inl met) = w
   choose w n (inr unmet) = turn w (basic n)

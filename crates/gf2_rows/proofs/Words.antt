@@ -411,7 +411,7 @@ bits_turned old new k b same within e j =
           ]
     ]
 
--- ---- rows one behind the other
+-- ---- rows one after another
 bits_in_front : (xs ys : List ℕ) (k : ℕ) → k < 64 * length xs → bit_of (xs ++ ys) k ≡ bit_of xs k
 bits_in_front xs ys k lt = ap (λ w. word_bit w (k % 64)) (get_or-append xs ys 0 (k / 64) (omega arith))
 

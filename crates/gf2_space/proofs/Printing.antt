@@ -1,4 +1,4 @@
--- Pieces that are written one behind the other.
+-- Pieces that are written one after another.
 use Rattle.std.proofs.Common.{◌≡◌, sym, ap, ◌∙◌, subst, ℕ, ◌+◌, ◌<◌, ◌≤◌, append_assoc, List, [], ◌∷◌, ◌++◌, flat_map, length, take, drop, get_or, append-nil, arith, ◌-◌, Bool, false, codes, decimal, if◌then◌else◌}
 use Rattle.std.specs.List.{enumerate_from}
 use Rattle.std.proofs.lemmas.List.FromFn.{length-enumerate_from, get_or-enumerate_from}
@@ -36,7 +36,7 @@ pub all_taken : {X : Type 0} (f : X → Bytes) (xs : List X) (i : ℕ) (old mid 
     → Takes (flat_map f xs) old u mid v
 all_taken f xs i old mid u v past h = subst (λ t. Takes (flat_map f t) old u mid v) (take_all i xs past) h
 
--- a piece behind others fails
+-- a piece after others fails
 pub piece_fails : (a b rest text : Bytes) (old mid new : Outside) (u v : Bytes) → (a ++ b) ++ rest ≡ text → Takes a old u mid v → Fails (v ++ b) mid new → Fails (u ++ text) old new
 piece_fails a b rest text old mid new u v is h k =
     subst (λ t. Fails (u ++ t) old new) is (fails_before (a ++ b) rest old new u (takes_then_fails a b old mid new u v h k))

@@ -4,11 +4,11 @@ use Rattle.std.specs.List.{enumerate_from}
 use Rattle.parity_engine.specs.Equations.{numbers_from}
 use Rattle.gf2_space.specs.Spaces.{AffineSpace}
 
--- behind a space, k for a true variable k, and -k for a false one
+-- after a space, k for a true variable k, and -k for a false one
 abbrev pub point_literal : ℕ × Bool → List ℕ
 point_literal p = codes " " ++ (if p.1 then [] else codes "-") ++ decimal (p.0 + 1)
 
--- a variable behind a space
+-- a variable after a space
 abbrev pub listed_variable : ℕ → List ℕ
 listed_variable v = codes " " ++ decimal v
 

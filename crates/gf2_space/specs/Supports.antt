@@ -6,7 +6,7 @@ use Rattle.gf2_matrix.specs.Content.{Content, row_at, has}
 use Rattle.gf2_space.specs.Kept.{by_owner}
 use Rattle.gf2_space.specs.declared.supports.Support.{Support}
 
--- the row whose least variable stands at x has the variable v
+-- the row whose least variable is at x has the variable v
 abbrev pub is_support : Content → List ℕ → ℕ → ℕ → Bool
 is_support c owners v x = by_owner owners (λ r. has (row_at c.rows r) (v - 1)) x
 
@@ -22,7 +22,7 @@ pub record AreSupports (c : Content) (owners : List ℕ) (supports : List Suppor
   pub long : length supports ≡ length c.columns
   pub each : (k : ℕ) (d : Support) → k < length c.columns → (slice_index_or supports k d).vars.items ≡ support c owners (slice_index c.columns k) n
 
--- the variable comes behind those of the columns that the row has
+-- the variable comes after those of the columns that the row has
 pub record TakeRow (c : Content) (row var : ℕ) (old new : List Support) : Type 0 where
   pub long : length new ≡ length old
   pub each : (k : ℕ) (d : Support) → k < length c.columns

@@ -42,7 +42,7 @@ abbrev pub BackIsSilent : Type 0
 BackIsSilent = (s : State) (level : ℕ) → IsSettled s → level < s.level → IsSilent (back level s)
 
 -- what level p and those below it hold stays under assignments above p, new levels and backjumps to p or above; so a backjump to p leaves
--- the values that stood when the next level was pushed
+-- the values that held when the next level was pushed
 abbrev pub LowerLevelsStay : Type 0
 LowerLevelsStay =
     (s : State) (p : ℕ)

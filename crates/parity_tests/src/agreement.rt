@@ -38,7 +38,7 @@ fn any_acts(alloc: Global, numbers: &mut Numbers, vars: u32) -> Result<Vec<Act>,
     Ok(acts)
 }
 
-/// What an engine knows before each act and behind the last one.
+/// What an engine knows before each act and after the last one.
 fn trace<P: ParityEngine + Drop>(
     alloc: Global,
     vars: u32,
@@ -67,7 +67,7 @@ fn agree_on(
     Ok(first.as_str() == second.as_str())
 }
 
-/// The same over parities and acts that follow from the seed.
+/// As `agree_on`, over parities and acts that follow from the seed.
 fn agree(alloc: Global, seed: u64, vars: u32, count: u32) -> Result<bool, AllocError>
     requires some { 1 ≤ vars }
     requires few { vars ≤ MAX_VARIABLE }

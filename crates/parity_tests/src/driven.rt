@@ -224,7 +224,7 @@ fn take_turn<P: ParityEngine>(
     take_act(alloc, engine, held, level, quiet, act)
 }
 
-/// Notes what the engine knows before each act and behind the last one.
+/// Notes what the engine knows before each act and after the last one.
 fn take_turns<P: ParityEngine>(
     alloc: Global,
     engine: &mut P,
@@ -243,7 +243,7 @@ fn take_turns<P: ParityEngine>(
     note(trace, quiet, held)
 }
 
-/// What the engine knows before each act and behind the last one. What followed is told.
+/// What the engine knows before each act and after the last one. What followed is told.
 pub(crate) fn trace_of<P: ParityEngine + Drop>(
     alloc: Global,
     vars: u32,

@@ -64,7 +64,7 @@ fn follow_so(alloc: Global, told: &[Told], right: &[&[&str]]) -> Result<bool, Al
     Ok(told.len() == right.len())
 }
 
-/// Writes what an engine knows before each act and behind the last one, and then what followed, if that is not so.
+/// Writes what an engine knows before each act and after the last one, and then what followed, if that is not so.
 fn put_other<P: ParityEngine + Drop>(
     alloc: Global,
     others: &mut String,
@@ -114,7 +114,7 @@ struct Case<'a> {
     vars: u32,
     parities: &'a [&'a [u32]],
     steps: &'a [Step],
-    /// What is known before each step and behind the last one.
+    /// What is known before each step and after the last one.
     known: &'a str,
     /// For each literal that follows the lines that are right: more than one where either of two rows gives it.
     followed: &'a [&'a [&'a str]],
@@ -129,7 +129,7 @@ fn put_others(alloc: Global, others: &mut String, case: &Case) -> Result<(), All
     put_other::<Incremental>(alloc, others, vars, &parities, &acts, case)
 }
 
-/// The same of all cases.
+/// As `put_others`, of all cases.
 fn others(alloc: Global, cases: &[Case]) -> Result<String, AllocError> {
     let mut others = String::new(alloc);
     for case in cases {

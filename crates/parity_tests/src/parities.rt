@@ -16,7 +16,7 @@ pub(crate) fn yes(number: u32) -> Lit
     Lit::new(Var::new(number), false)
 }
 
-/// The variable of this number, or the nearest one of so many.
+/// The variable of this number, or the nearest one of this many.
 fn nearest(number: u32, vars: u32) -> u32
     requires { 1 ≤ vars }
     ensures low { 1 ≤ result }
@@ -25,7 +25,7 @@ fn nearest(number: u32, vars: u32) -> u32
     number.max(1).min(vars)
 }
 
-/// The parity of the positive literals of variables, each one of so many.
+/// The parity of the positive literals of variables, each one of this many.
 pub(crate) fn parity_of(alloc: Global, vars: u32, variables: &[u32]) -> Result<LitList, AllocError>
     requires low { 1 ≤ vars }
     requires high { vars ≤ MAX_VARIABLE }
@@ -38,7 +38,7 @@ pub(crate) fn parity_of(alloc: Global, vars: u32, variables: &[u32]) -> Result<L
     Ok(LitList::from_vec(lits))
 }
 
-/// The parities of the positive literals of variables, each one of so many.
+/// The parities of the positive literals of variables, each one of this many.
 pub(crate) fn parities_of(
     alloc: Global,
     vars: u32,
@@ -103,7 +103,7 @@ fn any_parity(alloc: Global, numbers: &mut Numbers, vars: u32) -> Result<LitList
     Ok(LitList::from_vec(lits))
 }
 
-/// So many parities of two to five literals.
+/// This many parities of two to five literals.
 pub(crate) fn any_parities(
     alloc: Global,
     numbers: &mut Numbers,

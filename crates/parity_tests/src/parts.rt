@@ -146,7 +146,7 @@ pub(crate) fn rows(alloc: Global, matrix: &Matrix) -> Result<String, AllocError>
     Ok(text)
 }
 
-/// What is shown of a matrix, one behind the other.
+/// What is shown of a matrix, one after another.
 #[derive(Clone, Copy, Drop)]
 enum Shown {
     /// How many columns it has.
@@ -179,7 +179,7 @@ fn show_all(alloc: Global, matrix: &mut Matrix, all: &[Shown]) -> Result<String,
     Ok(text)
 }
 
-/// What is shown of the matrix of parities over so many variables, at least one and at most a hundred.
+/// What is shown of the matrix of parities over this many variables, at least one and at most a hundred.
 fn told(
     alloc: Global,
     vars: u32,
@@ -212,7 +212,7 @@ fn others(alloc: Global, cases: &[Case]) -> Result<String, AllocError> {
     Ok(others)
 }
 
-/// Parts that share no variable stand apart.
+/// Parts that share no variable are apart.
 const APART: Case = Case {
     vars: 5,
     parities: &[&[1, 3], &[2, 4]],

@@ -46,7 +46,7 @@ fn told(alloc: Global, matrix: &mut Matrix) -> Result<String, AllocError> {
     format!(in alloc; "{lacks} {done}\n{rows}{} {is_parity}\n", matrix.rows())
 }
 
-/// The same of the matrix of two parities that share a variable.
+/// As `told`, of the matrix of two parities that share a variable.
 fn told_of_two(alloc: Global) -> Result<String, AllocError> {
     let parities = parities_of(alloc, 3, &[&[1, 2], &[2, 3]])?;
     let mut matrix = Matrix::make(alloc, 3, &parities)?;

@@ -47,7 +47,7 @@ fn add(builder: &mut FormulaBuilder, seed: &mut u64, vars: u64) -> Result<(), Al
     }
 }
 
-/// So many constraints over variables up to a number.
+/// This many constraints over variables up to a number.
 pub(crate) fn some_formula(
     alloc: Global,
     seed: u64,
@@ -62,7 +62,7 @@ pub(crate) fn some_formula(
     Ok(builder.finish(1))
 }
 
-/// Adds a clause of so many literals, or a parity of one more.
+/// Adds a clause of this many literals, or a parity of one more.
 fn add_short(
     builder: &mut FormulaBuilder,
     seed: &mut u64,
@@ -81,7 +81,7 @@ fn add_short(
     builder.end_parity()
 }
 
-/// So many constraints, among them clauses of one and of two literals, so that propagation goes far.
+/// This many constraints, among them clauses of one and of two literals, so that propagation goes far.
 pub(crate) fn tight_formula(
     alloc: Global,
     seed: u64,

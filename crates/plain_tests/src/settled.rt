@@ -81,7 +81,7 @@ fn with_value(alloc: Global, values: &[bool], value: bool) -> Result<Vec<bool>, 
     Ok(more)
 }
 
-/// Whether so many more values can follow these so that the literals are true and the parities are met.
+/// Whether this many more values can follow these so that the literals are true and the parities are met.
 fn some_solve(
     alloc: Global,
     parities: &[LitList],

@@ -20,7 +20,7 @@ pub by_cases : {A : Type 0} (b : Bool) → (b ≡ true → A) → (b ≡ false �
 by_cases true f g = f refl
 by_cases false f g = g refl
 
--- a literal that stands in a list is there whatever the default
+-- a literal that is in a list is there whatever the default
 pub at_default : (lits : List Literal) (i : ℕ) (d : Literal) → i < length lits → get_or lits i d ≡ literal_of lits i
 at_default [] i d less = absurd (omega (arith, less))
 at_default (l ∷ lits) zero d less = refl
@@ -60,7 +60,7 @@ none_contradicts constraints a t k none = record {
 }
 
 module _ (constraints : List Constraint) (a : Assumptions) (t : TrailState) (k : KeepsAssumptions constraints a t) (ok : IsTrail t) where
-  -- what propagation puts behind the trail
+  -- what propagation adds to the trail
   module _ (u : TrailState) (more : List Entry) (parts : u.entries ≡ t.entries ++ more) (same : u.level ≡ t.level) (vars : u.variables ≡ t.variables) (ok_u : IsTrail u) where
     there : (p : ℕ) → p < length t.entries → entry_at u.entries p ≡ entry_at t.entries p
     there p less = ap (λ es. entry_at es p) parts ∙ entry_left t.entries more p less
@@ -293,7 +293,7 @@ assumptions_are_within n (constraint.Clause lits ∷ cs) w = assumptions_are_wit
 assumptions_are_within n (constraint.Parity lits ∷ cs) w = assumptions_are_within n cs w.1
 assumptions_are_within n (constraint.Assume lits ∷ cs) w = all_append (λ l. (1 ≤ l.variable) × (l.variable ≤ n)) lits (assumptions_of cs) w.0 (assumptions_are_within n cs w.1)
 
--- a literal that contradicts an assumed one stands at the levels whose decisions are assumed
+-- a literal that contradicts an assumed one is at the levels whose decisions are assumed
 pub contradicts_low : (constraints : List Constraint) (a : Assumptions) (t : TrailState) → KeepsAssumptions constraints a t → IsTrail t → (p : ℕ) → p < length t.entries → assumes constraints (negate (entry_at t.entries p).literal) ≡ true → a.level ≡ t.level
 contradicts_low constraints a t k ok p less h = by_cases (nat_lt a.next (length a.lits.items))
     (λ e. k.rest (ltb-true a.next (length a.lits.items) e))

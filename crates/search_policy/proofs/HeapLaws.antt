@@ -153,7 +153,7 @@ sunk scores cells count at child b ahead r = λ i low high. ⊎_elim
     (ahead_then scores (item_at cells at) (item_at cells child) (item_at cells i) ahead (b.ahead i high (children i at low e))))
     (λ (ne : parent i ≢ at). r.others i low high ne) (cases_eq (parent i) at)
 
--- ---- the first cell taken off, a cell put behind the last
+-- ---- the first cell taken off, a cell put after the last
 pub popped_sinks : (scores old new : List ℕ) (left : ℕ) → IsHeap scores old (left + 1) → IsSwapped 0 left old new → IsSinking scores new left 0
 popped_sinks scores old new left h s = record {
   others = λ i low high np.
@@ -211,7 +211,7 @@ raised_rises scores cells places count v times k s few hv at h =
           (subst (λ x. IsAhead scores (item_at cells x) (item_at cells i)) p (h i low high)));
     }
 
--- a variable that does not stand in the heap
+-- a variable that is not in the heap
 pub raised_outside : (scores cells places : List ℕ) (count v times k : ℕ) → AreShuffled (length scores) cells places → count ≤ length scores → v < length scores → item_at places v ≡ k → count ≤ k → IsHeap scores cells count → IsHeap (set scores v (item_at scores v + times)) cells count
 raised_outside scores cells places count v times k s few hv at far h =
     let r = raised_rises scores cells places count v times k s few hv at h in

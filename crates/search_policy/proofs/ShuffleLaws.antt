@@ -78,7 +78,7 @@ same_test : (a b c : ℕ) → (a < c → b < c) → (b < c → a < c) → nat_lt
 same_test a b c f g = ⊎_elim (λ (h : a < c). lt-ltb a c h ∙ sym (lt-ltb b c (f h)))
     (λ (h : c ≤ a). ⊎_elim (λ (k : b < c). absurd (omega (arith, g k))) (λ (k : c ≤ b). le-ltb a c h ∙ sym (le-ltb b c k)) (cases_lt b c)) (cases_lt a c)
 
--- so the same variables stand
+-- so the same variables are in the heap
 pub same_standing : (n count : ℕ) (cells places new_cells new_places : List ℕ) → AreShuffled n cells places → AreShuffled n new_cells new_places → AreSameFrom count cells new_cells → map (λ p. nat_lt p count) new_places ≡ map (λ p. nat_lt p count) places
 same_standing n count cells places new_cells new_places s t same =
     let f : ℕ → Bool = λ p. nat_lt p count in

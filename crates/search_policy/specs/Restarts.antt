@@ -7,6 +7,6 @@ pub data IsLuby : ℕ → ℕ → Type 0 where
   ends : {i v : ℕ} (k : ℕ) → i + 1 ≡ 2 * 2 ^ k → v ≡ 2 ^ k → IsLuby i v
   repeats : {i v : ℕ} (k : ℕ) → 2 ^ k ≤ i → i + 1 < 2 * 2 ^ k → IsLuby (i - 2 ^ k + 1) v → IsLuby i v
 
--- so many conflicts are enough for the i-th restart: a hundred for each one of the i-th number
+-- this many conflicts are enough for the i-th restart: a hundred for each one of the i-th number
 abbrev pub IsDue : ℕ → ℕ → Type 0
 IsDue since i = (v : ℕ) × IsLuby i v × (v ≤ since / 100)

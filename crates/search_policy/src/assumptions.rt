@@ -87,7 +87,7 @@ impl Assumptions {
     pub fn of(alloc: Global, formula: &Formula) -> Result<Assumptions, AllocError>
         ensures { IfOk result (λ a. (t : TrailState) → t.variables ≡ formula.now.variables → t.level ≡ 0 → KeepsAssumptions formula.now.constraints a t) }
     {
-        // `vars` says to the proof that the literals of the formula are within its variables.
+        // `vars` tells the proof that the literals of the formula are within its variables.
         let _vars = formula.vars();
         Ok(Assumptions {
             lits: assumed_literals(alloc, formula)?,
@@ -128,7 +128,7 @@ impl Assumptions {
         ensures passed { MatchOption result (self.new.next ≡ length self.new.lits.items) (λ l. self.new.next < length self.new.lits.items) }
         ensures same { self.new ≡ record self.old { next = self.new.next } }
     {
-        // `len` says to the proof that the trail is sound.
+        // `len` tells the proof that the trail is sound.
         let _sound = trail.len();
         self.next = first_open(trail, &self.lits, self.next);
         if self.next < self.lits.len() {

@@ -123,7 +123,7 @@ impl Order {
         self.bump_by(variable, 1);
     }
 
-    /// Bumps a variable so many times, up to 250,000,000, as if one by one.
+    /// Bumps a variable this many times, up to 250,000,000, as if one by one.
     ///
     /// Its time is that of one bump.
     pub fn bump_by(&mut self, variable: Var, times: u32)

@@ -8,7 +8,7 @@ use cx_base::{ClauseRef, RefList};
 use std::alloc::{AllocError, Global};
 use std::cmp::Reverse;
 
-/// What a reduction looks at of a clause.
+/// What a reduction looks at in a clause.
 #[derive(Clone, Copy, Drop)]
 pub struct Card {
     pub reference: ClauseRef,
@@ -51,8 +51,8 @@ fn references(alloc: Global, cards: &[Card]) -> Result<Vec<ClauseRef>, AllocErro
     cards.iter().map(|card| card.reference).collect(alloc)
 }
 
-/// The clauses that a reduction removes: of the learned ones with more than two levels that are no reasons the half of
-/// the most levels, rounded down, and of those of as many levels the older first. The ids differ.
+/// The clauses that a reduction removes: half of the learned ones with more than two levels that are no reasons,
+/// rounded down, first those of the most levels, and of equal levels the older. The ids differ.
 pub fn choose_removed(alloc: Global, cards: &[Card]) -> Result<RefList, AllocError>
     ensures { IfOk result (λ removed. IsRemoval cards.now removed) }
 {

@@ -19,7 +19,7 @@ fn halve(scores: &mut Vec<u32>)
     }
 }
 
-// Bumps the score at a place so many times. Whether all scores were halved on the way.
+// Bumps the score at a place this many times. Whether all scores were halved on the way.
 pub(crate) fn raise(scores: &mut Vec<u32>, at: usize, times: u32) -> bool
     requires at { at < length scores.old.items }
     requires small { All (λ s. s < SCORE_LIMIT) scores.old.items }

@@ -64,7 +64,7 @@ no_rest : (xs ys : List TrailEntry) → xs ++ ys ≡ [] → ys ≡ []
 no_rest [] ys e = e
 no_rest (x ∷ xs) ys e = cc
 
--- a last entry stands in the second part, or that is empty
+-- a last entry is in the second part, or that is empty
 split_end : (xs ys before : List TrailEntry) (i : TrailEntry) → xs ++ ys ≡ before ++ i ∷ [] → (ys ≡ []) ⊎ ((d : List TrailEntry) × (ys ≡ d ++ i ∷ []) × (xs ++ d ≡ before))
 split_end [] ys before i e = inr (before, e, refl)
 split_end (x ∷ xs) ys [] i e = inl (no_rest xs ys (same_tail x i (xs ++ ys) [] e))

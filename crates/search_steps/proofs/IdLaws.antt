@@ -249,7 +249,7 @@ module _ (formula : Problem) (bound next row_next : ℕ) where
       let r : IsRanged formula bound next (n + 1) s.trail (told s1 (Step (ClauseOfParity n zs k))).moment = row_clause_ranged s1 (sum_ranged s i k rs ids) n zs k low next_low in
       record { originals = r.originals; room = r.room; reasons = r.reasons; learned = r.learned; new_rows = r.new_rows; old_rows = r.old_rows; free = r.free; rows_free = r.rows_free }
 
--- the sum's id is free again behind them
+-- the sum's id is free again after them
 pub row_reason_frees_sum : (count : ℕ) (s : Search) (k : ℕ) (rs : List ℤ) (ids : List ℕ) (n : ℕ) (zs : List ℤ) → HasFreeSums count s.moment → HasFreeSums count (all_told s (row_events k rs ids n zs)).moment
 row_reason_frees_sum count s k rs ids n zs f m h = get_gone (told s (Step (Parity k rs ids))).moment.tables.parities k m (λ apart. get_other s.moment.tables.parities k m _ apart (f m h))
 

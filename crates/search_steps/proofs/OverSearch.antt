@@ -39,7 +39,7 @@ same_form_is_met v a b is met =
     let n = roof a + roof b in
     met-from_Sums n v b (below_roof n b (omega arith)) (subst (Sums n v) is (Sums-from_met n v a (below_roof n a (omega arith)) met))
 
--- the engine's parities say what the formula's do, where these stand first among them and the recovered ones behind
+-- the engine's parities say what the formula's do, where these come first among them and then the recovered ones
 pub theirs_are_had : (formula : Problem) (more : List (List Literal)) → HasRecovered formula more → HaveTheirs formula (parities_of formula.constraints ++ more)
 theirs_are_had formula more recovered values h parity is =
     let both = and_parts _ _ (sym (list_all-append (parity_met values) (parities_of formula.constraints) more) ∙ h) in

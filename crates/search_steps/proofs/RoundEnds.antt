@@ -1,4 +1,4 @@
--- What stands behind a whole conflict: the search is tidy, and the code's trail is that of the calculus.
+-- What holds after a whole conflict: the search is tidy, and the code's trail is that of the calculus.
 use Rattle.std.proofs.Common.{◌≡◌, refl, sym, ap, ◌∙◌, subst, ℕ, ℤ, List, [], ◌++◌, arith}
 use Rattle.cx_base.specs.Literals.{Literal}
 use Rattle.cx_base.specs.Problem.{Problem}
@@ -38,7 +38,7 @@ module _ (formula : Problem) (parities : List (List Literal)) (s : Search) (ok :
     levels = sym (ap (λ es. level_of (back_to back es)) same_trail ∙ level_then);
   }
 
-  -- the literal that the clause forces is open after the jump, and is put behind it
+  -- the literal that the clause forces is open after the jump, and is added to it
   pub round_stays_tied : (t u : TrailState) → IsTied s.trail t.entries → TakesBack back t u → (reason : Reason)
       → IsOpenIn u.entries l.variable × IsTied (after_round s n zs hints back l).trail (pushed u back l reason).entries
   round_stays_tied t u tied takes reason =

@@ -53,7 +53,7 @@ one_left lits l m h k = are_one m l (sym_same l m (member_of_all (same_literal l
       | false ↦ λ e f. cc
     ] refl h
 
--- a literal that is not false stands against being falsified
+-- a clause with a literal that is not false is not falsified
 pub open_not_falsified : (u clause : List Literal) (l : Literal) → has_literal clause l ≡ true → has_literal u (negate l) ≡ false → is_falsified u clause ≡ false
 open_not_falsified u clause l h k = by_cases (is_falsified u clause)
     (λ e. not_both (has_literal u (negate l)) (member_of_all (λ m. has_literal u (negate m)) clause l e h) k)

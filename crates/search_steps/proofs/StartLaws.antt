@@ -1,4 +1,4 @@
--- The constraints of the formula, told one by one, and the search that begins behind them.
+-- The constraints of the formula, told one by one, and the search that begins after them.
 use Rattle.std.proofs.Common.{◌≡◌, refl, sym, ap, ◌∙◌, subst, ℕ, zero, suc, ◌+◌, ◌≤◌, ℤ, pos, neg_ℤ, nat_abs, nat_lt, Bool, true, false, cond, not, ◌||◌, nat_eq, eq-eqb, eqb-true, List, [], ◌∷◌, ◌++◌, length, Some, None, is_some, Contains, filter_map, ◌⊎◌, inl, inr, arith, length-append, append-nil}
 use Rattle.std.proofs.lemmas.Bool.{ltb-true, and_from, or_right}
 use Rattle.std.proofs.lemmas.List.Elements.{filter_map-append}
@@ -254,7 +254,7 @@ nothing_is_begun formula = record {
   tidy = record { served = refl; no_old_clauses = refl; no_new_clauses = refl; no_old_sums = refl; no_new_sums = refl; levels = refl };
 }
 
--- behind the last constraint the search holds
+-- after the last constraint the search holds
 pub begun_is_search : (formula : Problem) (s : Search) → clashes formula.constraints ≡ false → IsBegun formula formula.constraints s → IsSearch formula (parities_of formula.constraints) s
 begun_is_search formula s apart b = record {
   log = record { apart = apart; runs = b.runs; fits = b.fits; marks = b.marks ∙ ap (Rattle.std.specs.List.range_with_len 1) (sym b.no_conflict); originals = ([], b.originals ∙ sym (append-nil (original_events 1 1 formula.constraints))) };

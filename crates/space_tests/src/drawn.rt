@@ -19,7 +19,7 @@ fn add(builder: &mut FormulaBuilder, parity: &LitList) -> Result<(), AllocError>
     builder.end_parity()
 }
 
-/// The formula of parities over at least so many variables.
+/// The formula of parities over at least this many variables.
 fn formula(alloc: Global, parities: &[LitList], vars: u32) -> Result<Formula, AllocError> {
     let mut builder = FormulaBuilder::new(alloc);
     for parity in parities {
@@ -187,7 +187,7 @@ fn is_right(
     )
 }
 
-/// How many solutions so many parities over so many variables have, if the space is right.
+/// How many solutions this many parities over this many variables have, if the space is right.
 fn count_if_right(
     alloc: Global,
     seed: u64,

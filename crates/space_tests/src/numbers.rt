@@ -30,7 +30,7 @@ fn some_lits(alloc: Global, seed: &mut u64, vars: u32) -> Result<LitList, AllocE
     Ok(LitList::from_vec(list))
 }
 
-/// So many lists.
+/// This many lists.
 pub(crate) fn some_lists(
     alloc: Global,
     seed: &mut u64,

@@ -33,7 +33,7 @@ fn are_met(parities: &[LitList], values: u32) -> bool {
     true
 }
 
-/// The values over so many variables, at most eight, that meet the parities, rising.
+/// The values over this many variables, at most eight, that meet the parities, rising.
 pub(crate) fn solutions(
     alloc: Global,
     parities: &[LitList],

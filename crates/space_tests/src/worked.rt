@@ -4,7 +4,7 @@ use cnfx_reader::read_formula;
 use std::alloc::{AllocError, Global};
 use std::test::Fail;
 
-/// What is printed of the formula of each text, one behind the other.
+/// What is printed of the formula of each text, one after another.
 fn printed_of_all(alloc: Global, texts: &[&str], room: usize) -> Result<Vec<u8>, Fail> {
     let mut all = Vec::new(alloc);
     for text in texts {
@@ -55,7 +55,7 @@ b 2 0
     Ok(())
 }
 
-/// The lines of the point and of the vectors where all of so many variables but the first two are in no parity.
+/// The lines of the point and of the vectors where all of this many variables but the first two are in no parity.
 fn put_lines(vars: u32, point: &mut String, vectors: &mut String) -> Result<(), AllocError> {
     for var in 3..=vars {
         write!(point, " -{var}")?;
@@ -64,7 +64,7 @@ fn put_lines(vars: u32, point: &mut String, vectors: &mut String) -> Result<(), 
     Ok(())
 }
 
-/// What is to be printed of the one parity of variables 1 and 2 over so many variables, at least two.
+/// What is to be printed of the one parity of variables 1 and 2 over this many variables, at least two.
 fn wanted_of_one(alloc: Global, vars: u32) -> Result<String, AllocError> {
     let mut point = String::new(alloc);
     let mut vectors = String::new(alloc);

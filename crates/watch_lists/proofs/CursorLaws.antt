@@ -14,14 +14,14 @@ use Rattle.watch_lists.specs.Links.{nodes_from, nodes_of, HasNoRepeat, AreApart,
 use Rattle.watch_lists.proofs.MemberLaws.{in_cases, none_in}
 use Rattle.watch_lists.proofs.ChainLaws.{nodes_from-set, length-nodes_from, list_is, list_past, head_list, few_distinct}
 
--- the node behind one of a chain
+-- the node after one of a chain
 link_is : (next : List ℕ) (n k i : ℕ) → suc i < k → get_or (nodes_from next n k) (suc i) 0 ≡ get_or next (get_or (nodes_from next n k) i 0) 0
 link_is next n zero i h = absurd (omega arith)
 link_is next n (suc zero) i h = absurd (omega arith)
 link_is next n (suc (suc k)) zero h = refl
 link_is next n (suc (suc k)) (suc i) h = link_is next (get_or next n 0) (suc k) i (omega arith)
 
--- where the link of a node leads behind the next one, this one is gone from the chain
+-- where the link of a node leads past the next one, this one is gone from the chain
 cut_chain : (next : List ℕ) (n k p : ℕ) → p < k → HasNoRepeat (nodes_from next n (suc k)) → ((q : ℕ) → Contains (nodes_from next n (suc k)) q → q < length next)
     → nodes_from (set next (get_or (nodes_from next n (suc k)) p 0) (get_or next (get_or (nodes_from next n (suc k)) (suc p) 0) 0)) n k ≡ remove (nodes_from next n (suc k)) (suc p)
 cut_chain next n zero p h d b = absurd (omega arith)
@@ -75,7 +75,7 @@ previous_in lists c k some = subst (Contains (list_of lists c)) (k.previous some
 pub list_has : (lists : List (List ℕ)) (l n : ℕ) → Contains (list_at lists l) n → l < length lists
 list_has lists l n h = ⊎_elim (λ (b : l < length lists). b) (λ (b : length lists ≤ l). absurd (none_in (list_at lists l) n (get_or_past lists l [] b) h)) (cases_lt l (length lists))
 
--- a cursor stands in front of a node of its list
+-- a cursor is in front of a node of its list
 pub record CanPass (next : List ℕ) (heads : List ListHead) (c : Cursor) : Type 0 where
   pub chains : AreChains next heads
   pub cursor : IsCursor (map (nodes_of next) heads) c
@@ -96,7 +96,7 @@ head_in next heads c m = omega (arith, list_has (map (nodes_of next) heads) (cod
 pub list_is_chain : (next : List ℕ) (heads : List ListHead) (c : Cursor) (head : ListHead) → CanPass next heads c → head ≡ get_or heads (code_of c.literal) head → list_of (map (nodes_of next) heads) c ≡ nodes_from next head.first head.count
 list_is_chain next heads c head m e = head_list next heads (code_of c.literal) head head (head_in next heads c m) e
 
--- the node behind the next one
+-- the node after the next one
 behind_is : (next : List ℕ) (heads : List ListHead) (c : Cursor) (after : ℕ) → CanPass next heads c → after ≡ get_or next c.current 0 → 1 < c.left → get_or (list_of (map (nodes_of next) heads) c) (c.passed + 1) 0 ≡ after
 behind_is next heads c after m read more =
     let lists = map (nodes_of next) heads in
@@ -120,7 +120,7 @@ cursor_past next heads c after m read =
       previous = λ h. ap (λ i. get_or (list_of (map (nodes_of next) heads) c) i 0) one ∙ m.cursor.current m.some;
     }
 
--- the next node is the first one, and the list begins behind it
+-- the next node is the first one, and the list begins after it
 pub unlinked_front : (next : List ℕ) (heads : List ListHead) (c : Cursor) (head : ListHead) (after : ℕ) → CanPass next heads c → head ≡ get_or heads (code_of c.literal) head → after ≡ get_or next c.current after → c.passed ≡ 0
     → IsUnlinked c (map (nodes_of next) heads) (map (nodes_of next) (set heads (code_of c.literal) (record { first = after; count = head.count - 1 })))
 unlinked_front next heads c head after m e read z =
@@ -143,7 +143,7 @@ unlinked_front next heads c head after m e read z =
       count = omega (arith, length-map hs2 (nodes_of next), length-map heads (nodes_of next));
     }
 
--- the node before the next one leads behind it
+-- the node before the next one leads past it
 pub unlinked_behind : (next : List ℕ) (heads : List ListHead) (c : Cursor) (head : ListHead) (after : ℕ) → CanPass next heads c → head ≡ get_or heads (code_of c.literal) head → after ≡ get_or next c.current after → 0 < c.passed
     → IsUnlinked c (map (nodes_of next) heads) (map (nodes_of (set next c.previous after)) (set heads (code_of c.literal) (record { first = head.first; count = head.count - 1 })))
 unlinked_behind next heads c head after m e read some =
@@ -179,7 +179,7 @@ unlinked_behind next heads c head after m e read some =
       count = omega (arith, length-map hs2 (nodes_of next2), length-map heads (nodes_of next));
     }
 
--- what stands in a list now stood in it before
+-- what is in a list now was in it before
 pub unlinked_back : (c : Cursor) (old new : List (List ℕ)) → IsUnlinked c old new → (l n : ℕ) → Contains (list_at new l) n → Contains (list_at old l) n
 unlinked_back c old new u l n h = ⊎_elim
     (λ (e : l ≡ code_of c.literal). subst (λ x. Contains (list_at old x) n) (sym e) (in_removed (list_of old c) c.passed n (subst (λ (xs : List ℕ). Contains xs n) u.left (subst (λ x. Contains (list_at new x) n) e h))))
@@ -216,7 +216,7 @@ unlinked_cursor next heads c after new m read u =
 pub unlinked_flags : (c : Cursor) (old new : List (List ℕ)) (flags : List Bool) → IsUnlinked c old new → HaveFlags old flags → HaveFlags new flags
 unlinked_flags c old new flags u k l n h = k l n (unlinked_back c old new u l n h)
 
--- the flag of a node that stands nowhere may be cleared
+-- the flag of a node that is in no list may be cleared
 pub released_flags : (lists : List (List ℕ)) (flags : List Bool) (node : ℕ) → StandsNowhere lists node → HaveFlags lists flags → HaveFlags lists (set flags node false)
 released_flags lists flags node free k l n h = get_or-set_other flags node n false false (λ e. free l (subst (Contains (list_at lists l)) e h)) ∙ k l n h
 
@@ -237,7 +237,7 @@ cursor_front next heads l head inside e =
       previous = λ h. absurd (omega arith);
     }
 
--- the same, where the list's place is named otherwise
+-- `unlinked_front`, where the list's place is named otherwise
 pub unlinked_front_at : (next : List ℕ) (heads : List ListHead) (c : Cursor) (l : ℕ) (head : ListHead) (after : ℕ) → CanPass next heads c → l ≡ code_of c.literal → head ≡ get_or heads l head → after ≡ get_or next c.current after → c.passed ≡ 0
     → IsUnlinked c (map (nodes_of next) heads) (map (nodes_of next) (set heads l (record { first = after; count = head.count - 1 })))
 unlinked_front_at next heads c l head after m el e read z =

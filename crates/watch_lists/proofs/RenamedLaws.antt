@@ -29,7 +29,7 @@ renamed_none moves held attached = record {
   literals = λ n h. refl;
 }
 
--- one literal of a clause and another one of another clause stand at different nodes
+-- one literal of a clause and another one of another clause are at different nodes
 other_node : (r s a b : ℕ) → r ≢ s → a < 2 → b < 2 → 2 * r + a ≢ 2 * s + b
 other_node r s a b ne fa fb e = ne (omega arith)
 

@@ -4,10 +4,10 @@ ghost use Rattle.std.specs.Prelude.{◌≤◌};
 use cx_base::ClauseRef;
 use std::alloc::{AllocError, Global};
 
-/// A clause of so many literals is long.
+/// A clause of this many literals is long.
 const LONG: usize = 128;
 
-/// Whether a clause of so many literals is long.
+/// Whether a clause of this many literals is long.
 pub(crate) fn is_long(len: usize) -> bool {
     len >= LONG
 }
@@ -28,7 +28,7 @@ impl Starts {
         }
     }
 
-    /// Room for what is said of a clause of so many literals.
+    /// Room for what is said of a clause of this many literals.
     pub(crate) fn grow(&mut self, place: u32, len: usize) -> Result<(), AllocError> {
         let count = place as usize + 1;
         if !is_long(len) || count <= self.places.len() {
@@ -37,7 +37,7 @@ impl Starts {
         self.places.resize(count, 0)
     }
 
-    /// Where to begin in a long clause of so many literals.
+    /// Where to begin in a long clause of this many literals.
     pub(crate) fn start(&self, reference: ClauseRef, len: usize) -> usize
         ensures { result ≤ len }
     {

@@ -19,7 +19,7 @@ abbrev pub new_values : List Bool → List Bool
 new_values [] = []
 new_values (b ∷ bits) = new_values_from b bits
 
--- the variables behind n have these values
+-- the variables after n have these values
 abbrev pub agree : List Bool → ℕ → List Bool → Bool
 agree values n [] = true
 agree values n (b ∷ bits) = not (differ (value_of values (n + 1)) b) && agree values (n + 1) bits

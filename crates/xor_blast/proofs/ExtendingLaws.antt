@@ -93,7 +93,7 @@ added_alike n v w (Clause lits ∷ cs) same = added_alike n v w cs same
 added_alike n v w (Parity lits ∷ cs) same = (λ i. new_values (rising_alike n v w lits same i) ++ added_alike n v w cs same i)
 added_alike n v w (Assume lits ∷ cs) same = added_alike n v w cs same
 
--- ---- values behind others
+-- ---- values after others
 
 value_behind : (v u : List Bool) (b : Bool) → value_of (v ++ b ∷ u) (length v + 1) ≡ b
 value_behind v u b = let e : length v + 1 - 1 ≡ length v = omega arith in ap (λ i. Rattle.std.proofs.Common.get_or (v ++ b ∷ u) i false) e ∙ at_end v u b

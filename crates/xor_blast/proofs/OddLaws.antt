@@ -1,4 +1,4 @@
--- The numbers that stand in a list an odd number of times, one more number at a time.
+-- The numbers that occur in a list an odd number of times, one more number at a time.
 use Rattle.std.proofs.Common.{◌≡◌, ◌≢◌, refl, sym, ap, ◌∙◌, subst, ℕ, ◌+◌, ◌-◌, ◌<◌, ◌≤◌, Bool, true, false, cond, ◌||◌, nat_eq, eqb-true, is_eq, List, [], ◌∷◌, ◌++◌, length, get_or, take, drop, set, count_by, true≢false, arith, add_comm, eq-zero-or-pos, ◌⊎◌, inl, inr}
 use Rattle.std.specs.List.{list_any, AllByRecursion}
 use Rattle.std.specs.List.Sorted.{IsStrictlySortedBy, IsNonDecreasing}
@@ -114,7 +114,7 @@ all_below xs ys y x h low other =
 
 -- ---- in place
 
--- the first k numbers of m are what is kept of the first i of s, and what stands from i on is still to come
+-- the first k numbers of m are what is kept of the first i of s, and what there is from i on is still to come
 pub record KeptSoFar (s m : List ℕ) (i k : ℕ) : Type 0 where
   pub before : k ≤ i
   pub long : length m ≡ length s

@@ -37,7 +37,7 @@ occurs_as [] q = refl
 occurs_as (l ∷ lits) q =
     is_odd-count (λ x. nat_eq x q) l.variable (map (λ m. m.variable) lits) ∙ ap (differ (nat_eq l.variable q)) (occurs_as lits q) ∙ sym (is_odd-count (λ m. nat_eq m.variable q) l lits)
 
--- of the sorted numbers of the variables, those that stand there an odd number of times
+-- of the sorted numbers of the variables, those that occur there an odd number of times
 variables_of_sorted : (lits : List Literal) (sorted variables : List ℕ) → IsPermutation (map (λ l. l.variable) lits) sorted → KeepsOdd sorted variables → RisesOver (normal_form lits).variables variables
 variables_of_sorted lits sorted variables moved keeps = record {
   same = same_members _ _ (λ q.

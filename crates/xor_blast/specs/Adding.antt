@@ -10,11 +10,11 @@ use Rattle.xor_blast.specs.Blasted.{new_count, in_clauses, PassesLimit}
 use Rattle.xor_blast.specs.declared.refusal.BlastRefusal.{BlastRefusal}
 use Rattle.xor_blast.specs.declared.refusal.BlastRefusal.TheVariants.{Limit, Memory}
 
--- the builder has these constraints behind its own
+-- the builder has these constraints after its own
 abbrev pub with_more : Draft → List Constraint → Draft
 with_more before more = record { constraints = before.constraints ++ more; unfinished = [] }
 
--- the constraints are added, and the last variable is the count behind n
+-- the constraints are added, and the last variable is the count after n
 pub record AreAdded (before after : Draft) (more : List Constraint) (n count last : ℕ) : Type 0 where
   pub added : after ≡ with_more before more
   pub counted : last ≡ n + count
@@ -28,11 +28,11 @@ Adds before after more n count o = MatchOption o (MAX_VARIABLE < n + count) (Are
 abbrev pub AddsPieces : Draft → Draft → ℕ → List ℕ → Bool → Option ℕ → Type 0
 AddsPieces before after n xs right o = Adds before after (map Clause (clauses_of_pieces (pieces n xs right))) n (length (pieces n xs right) - 1) o
 
--- what stands for a constraint of a formula with vars variables
+-- what a constraint of a formula with vars variables becomes
 abbrev pub AddsConstraint : Draft → Draft → ℕ → ℕ → Constraint → Option ℕ → Type 0
 AddsConstraint before after vars n c o = Adds before after (in_clauses vars n c) n (new_count vars n c) o
 
--- the refusal names the first constraint that passes the limit, or is want of memory
+-- the refusal names the first constraint that passes the limit, or is for lack of memory
 abbrev pub IsRefusal : Problem → BlastRefusal → Type 0
 IsRefusal formula (Limit number) = PassesLimit formula number
 IsRefusal formula Memory = ⊤

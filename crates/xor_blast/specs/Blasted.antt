@@ -1,4 +1,4 @@
--- The formula in which the clauses of its pieces stand for each parity.
+-- The formula with the clauses of its pieces in place of each parity.
 use Rattle.std.specs.Prelude.{ℕ, ◌+◌, ◌-◌, ◌≤◌, ◌<◌, List, [], ◌∷◌, ◌++◌, length, map, take}
 use Rattle.cx_base.specs.Literals.{Literal}
 use Rattle.cx_base.specs.Parity.{normal_form}
@@ -8,7 +8,7 @@ use Rattle.cx_base.specs.declared.constraint.Constraint.{Constraint}
 use Rattle.cx_base.specs.declared.constraint.Constraint.TheVariants.{Clause, Parity, Assume}
 use Rattle.xor_blast.specs.Pieces.{Piece, rising_variables, pieces, clauses_of_pieces}
 
--- the pieces of a parity of a formula with vars variables, the new variables being those behind n
+-- the pieces of a parity of a formula with vars variables, the new variables being those after n
 abbrev pub pieces_of : ℕ → ℕ → List Literal → List Piece
 pieces_of vars n lits = pieces n (rising_variables vars lits) (normal_form lits).right_side
 
@@ -18,18 +18,18 @@ new_count vars n (Clause lits) = 0
 new_count vars n (Parity lits) = length (pieces_of vars n lits) - 1
 new_count vars n (Assume lits) = 0
 
--- what stands for a constraint: of a parity the clauses of its pieces, and otherwise the constraint itself
+-- what a constraint becomes: of a parity the clauses of its pieces, and otherwise the constraint itself
 abbrev pub in_clauses : ℕ → ℕ → Constraint → List Constraint
 in_clauses vars n (Clause lits) = Clause lits ∷ []
 in_clauses vars n (Parity lits) = map Clause (clauses_of_pieces (pieces_of vars n lits))
 in_clauses vars n (Assume lits) = Assume lits ∷ []
 
--- the same of all constraints, in order
+-- what all constraints become, in order
 abbrev pub all_in_clauses : ℕ → ℕ → List Constraint → List Constraint
 all_in_clauses vars n [] = []
 all_in_clauses vars n (c ∷ cs) = in_clauses vars n c ++ all_in_clauses vars (n + new_count vars n c) cs
 
--- the greatest variable behind the constraints
+-- the greatest variable after the constraints
 abbrev pub variables_behind : ℕ → ℕ → List Constraint → ℕ
 variables_behind vars n [] = n
 variables_behind vars n (c ∷ cs) = variables_behind vars (n + new_count vars n c) cs

@@ -15,7 +15,7 @@ abbrev pub rising_variables : ℕ → List Literal → List ℕ
 rising_variables n lits = filter (set.contains (normal_form lits).variables) (range_with_len 1 n)
 
 -- While more than four variables are left, the first three and the next new variable make a piece of right side 0, and the new one goes first.
--- The new variables are those behind n; x is the first that is left, and the list has the others.
+-- The new variables are those after n; x is the first that is left, and the list has the others.
 abbrev pub pieces_from : ℕ → ℕ → List ℕ → Bool → List Piece
 pieces_from n x [] right = record { variables = x ∷ []; right_side = right } ∷ []
 pieces_from n x (y ∷ []) right = record { variables = x ∷ y ∷ []; right_side = right } ∷ []

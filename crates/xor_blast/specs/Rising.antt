@@ -9,7 +9,7 @@ use Rattle.cx_base.specs.declared.literal.TheConstants.{MAX_VARIABLE}
 abbrev pub IsVariable : ℕ → Type 0
 IsVariable x = (1 ≤ x) × (x ≤ MAX_VARIABLE)
 
--- ys: the numbers that stand in xs an odd number of times, rising
+-- ys: the numbers that occur in xs an odd number of times, rising
 pub record KeepsOdd (xs ys : List ℕ) : Type 0 where
   pub odd : (q : ℕ) → list_any (λ y. nat_eq y q) ys ≡ (count_by (λ x. nat_eq x q) xs % 2 == 1)
   pub rising : IsStrictlySortedBy nat_cmp ys

@@ -22,7 +22,7 @@ fn push_literals(builder: &mut FormulaBuilder, lits: &[Lit]) -> Result<(), Alloc
     Ok(())
 }
 
-/// Adds what stands for a constraint: of a parity its clauses, and otherwise the constraint itself.
+/// Adds a constraint in clauses: of a parity its clauses, and otherwise the constraint itself.
 fn push_constraint(
     builder: &mut FormulaBuilder,
     variables: &mut Vec<u32>,
@@ -49,9 +49,9 @@ fn push_constraint(
     }
 }
 
-/// The formula in which clauses stand for each parity.
+/// The formula with clauses in place of each parity.
 ///
-/// A parity of more than four variables is cut into pieces by new variables, behind those of the formula. Values of the
+/// A parity of more than four variables is cut into pieces by new variables, numbered after those of the formula. Values of the
 /// formula's variables meet it just where one list of values that begins with them meets the clauses, and then it is the
 /// only one.
 pub fn blast(alloc: Global, formula: &Formula) -> Result<Formula, BlastRefusal>

@@ -12,7 +12,7 @@ use crate::piece::push_piece;
 use cx_base::{FormulaBuilder, Lit, MAX_VARIABLE};
 use std::alloc::AllocError;
 
-/// Adds the clauses of all pieces of these variables and this right side. The new variables are those behind `vars`.
+/// Adds the clauses of all pieces of these variables and this right side. The new variables are those after `vars`.
 ///
 /// It gives the greatest variable then, or `None` where that would pass the limit.
 fn push_pieces(

@@ -11,7 +11,7 @@ pub enum BlastRefusal {
     /// The first constraint, by its number from 1, whose new variables pass the limit of variables.
     #[error("variable limit at constraint {0}")]
     Limit(u64),
-    /// Want of memory, which says nothing of the formula.
+    /// Out of memory, which says nothing of the formula.
     #[error("out of memory")]
     Memory,
 }

@@ -28,7 +28,7 @@ place_of_any p (x ∷ xs) d h = pick (p x) refl (place_of_any p xs d) h
 
 -- ---- the values
 
--- the positive literal stands on the trail
+-- the positive literal is on the trail
 abbrev value_on : List Entry → ℕ → Bool
 value_on entries v = list_any (λ (e : Entry). same_literal (positive_of v) e.literal) entries
 
@@ -43,7 +43,7 @@ value_of-trail trail v low high =
 signed : (l : Literal) (b : Bool) → l.negative ≡ b → l ≡ record { variable = l.variable; negative = b }
 signed l b e = λ i. record { variable = l.variable; negative = e i }
 
--- a literal that stands on the trail gives its variable its sign
+-- a literal that is on the trail gives its variable its sign
 value_on-standing : (trail : TrailState) → IsTrail trail → (l : Literal) → IsTrueIn trail.entries l → value_on trail.entries l.variable ≡ not l.negative
 value_on-standing trail sound l stands = by_sign l.negative refl (value_on trail.entries l.variable) refl
   where

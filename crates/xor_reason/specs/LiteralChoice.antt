@@ -4,7 +4,7 @@ use Rattle.std.specs.List.{AllZip}
 use Rattle.cx_base.specs.Literals.{Literal}
 use Rattle.cx_trail.specs.Sequence.{TrailState, IsFalseIn}
 
--- the literal has the variable; it is the implied one at its variable, and else false
+-- the literal has the variable; it is the implied one at its variable, and otherwise false
 abbrev pub IsLiteralFor : TrailState → Option Literal → ℕ → Literal → Type 0
 IsLiteralFor trail None variable m = (m.variable ≡ variable) × IsFalseIn trail.entries m
 IsLiteralFor trail (Some l) variable m = (m.variable ≡ variable) × (variable ≡ l.variable → m ≡ l) × (variable ≢ l.variable → IsFalseIn trail.entries m)

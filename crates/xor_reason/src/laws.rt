@@ -1,4 +1,4 @@
-//! What an engine's events say of the trail that its values stand on.
+//! What an engine's events say of the trail that its values come from.
 ghost use Rattle.xor_reason.specs.Laws.{BrokenIsMissed, ImpliedIsMet};
 
 /// The row of an implied literal is a reason for it, once that is true on the trail.

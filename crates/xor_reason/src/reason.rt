@@ -26,7 +26,7 @@ pub struct ReasonOf {
 ///
 /// Each variable of the row is assigned. With an implied literal, which is true and of one of the variables, the
 /// trail's values meet the row; with none they miss it. Each other literal of the clause is false on the trail, and
-/// the parity implies the clause. It fails only for want of memory.
+/// the parity implies the clause. It fails only where memory runs out.
 pub fn reason_clause<P: ParityEngine>(
     alloc: Global,
     engine: &P,

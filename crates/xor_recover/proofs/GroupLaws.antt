@@ -1,4 +1,4 @@
--- The groups of rows in order: which stand, in which order, and that none is missed.
+-- The groups of rows in order: which there are, in which order, and that none is missed.
 use Rattle.std.proofs.Common.{◌≡◌, refl, sym, ap, ◌∙◌, subst, ℕ, zero, suc, ◌-◌, ◌<◌, ◌≤◌, Bool, true, false, cond, ◌&&◌, List, [], ◌∷◌, length, get_or, take, arith, true≢false, inl, inr, Option, Some, None}
 use Rattle.std.specs.Prelude.{filter, nat_le}
 use Rattle.std.specs.List.{AllByRecursion, Contains}

@@ -67,7 +67,7 @@ proper (d ∷ C) n within x c = elim (Contains-append_cases (rows_if (gathered [
 pub test_same : (a b : List Literal) → ((q : Literal) → has_literal a q ≡ has_literal b q) → same_literals a b ≡ true
 test_same a b h = and_from _ _ (inside_by a b (λ q g. sym (h q) ∙ g)) (inside_by b a (λ q g. h q ∙ g))
 
--- the literals stand at a clause: it has their row
+-- a clause has the literals: it has their row
 stands_here : (lits d : List Literal) (n : ℕ) → Rising 1 lits → 2 ≤ length lits → length lits ≤ 6 → AreWithin MAX_VARIABLE d → same_literals lits d ≡ true → Contains (rows_if (gathered [] d) n) (row lits n)
 stands_here lits d n rises two six within e = rows_if_has (gathered [] d) n lits (gathered_from lits d rises six within (HaveSame-by_test lits d e)) two
 

@@ -120,7 +120,7 @@ no_start C old new others k lits lt read none is h = subst (λ (ss : List Start)
 low_or : (n k : ℕ) → (n ≤ k) ⊎ (k < n)
 low_or n k = elim (cases_order n k) [ inl e ↦ inl (omega arith) | inr apart ↦ elim apart [ inl below ↦ inl (omega arith) | inr over ↦ inr over ] ]
 
--- the starts of so many clauses more
+-- the starts of this many more clauses
 pub more_starts : (C : List (List Literal)) (starts old new more : List Start) (k count : ℕ) → AllByRecursion (IsStart C) more → length more ≡ count → ((n : ℕ) → k < n → n ≤ k + count → (s : Start) × Contains more s × (s.number ≡ n)) → k + count ≤ length C
     → new ≡ old ++ more → AreUpTo C starts old k → AreUpTo C starts new (k + count)
 more_starts C starts old new more k count each long has high pushed h = subst (λ (ss : List Start). AreUpTo C starts ss (k + count)) (sym pushed) (record {

@@ -1,4 +1,4 @@
--- The starts of neighbouring clauses, and the rows of parities whose clauses stand one behind the other.
+-- The starts of neighbouring clauses, and the rows of parities whose clauses follow one another.
 use Rattle.std.proofs.Common.{◌≡◌, refl, sym, ap, ◌∙◌, subst, ℕ, zero, suc, ◌+◌, ◌-◌, ◌^◌, ◌<◌, ◌≤◌, false, cond, not, List, [], ◌∷◌, ◌++◌, length, get_or, map, arith, Some, inl, inr, append_assoc, fold, length-append}
 use Rattle.std.specs.List.{AllByRecursion, Contains, IsDistinct, range_with_len}
 use Rattle.std.proofs.lemmas.Bool.{cases_order, le-leb, false_from_ne_true}

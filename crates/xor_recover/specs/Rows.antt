@@ -9,7 +9,7 @@ use Rattle.cx_base.specs.Parity.{odd_sum}
 use Rattle.cx_base.specs.declared.literal.TheConstants.{MAX_VARIABLE}
 use Rattle.parity_engine.specs.Written.{AreRising}
 
--- the list with the literal at its place; none where its negation stands there
+-- the list with the literal at its place; none where its negation is there
 abbrev pub inserted : Literal → List Literal → Option (List Literal)
 inserted l [] = Some (l ∷ [])
 inserted l (m ∷ ms) =

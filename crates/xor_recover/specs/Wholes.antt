@@ -1,4 +1,4 @@
--- Parities whose clauses stand one behind the other.
+-- Parities whose clauses follow one another.
 use Rattle.std.specs.Prelude.{◌≡◌, ℕ, ◌+◌, ◌-◌, ◌*◌, ◌^◌, ◌<◌, ◌≤◌, Bool, List, [], map, fold, length, slice_index_or, if◌then◌else◌}
 use Rattle.std.specs.List.{AllByRecursion, IsDistinct, flat_map, range_with_len}
 use Rattle.std.specs.Cmp.Lexicographic.{pointwise}
@@ -24,13 +24,13 @@ signs_code signs = fold (λ n b. 2 * n + (if b then 1 else 0)) 0 signs
 abbrev pub clause_at : List (List Literal) → ℕ → List Literal
 clause_at clauses n = slice_index_or clauses (n - 1) []
 
--- so many clauses from a number on have the first one's variables in its order, its sum of signs, and signs of their own
+-- this many clauses from a number on have the first one's variables in its order, its sum of signs, and signs of their own
 pub record AreOnce (clauses : List (List Literal)) (n count : ℕ) : Type 0 where
   pub variables : (j : ℕ) → j < count → variables_of (clause_at clauses (n + j)) ≡ variables_of (clause_at clauses n)
   pub sums : (j : ℕ) → j < count → odd_sum (signs_of (clause_at clauses (n + j))) ≡ odd_sum (signs_of (clause_at clauses n))
   pub apart : (i j : ℕ) → i < j → j < count → signs_of (clause_at clauses (n + i)) ≡ signs_of (clause_at clauses (n + j)) → ⊥
 
--- the starts of so many neighbouring clauses that start alike
+-- the starts of this many neighbouring clauses that start alike
 abbrev pub starts_from : Start → ℕ → List Start
 starts_from s count = map (λ n. record s { number = n }) (range_with_len s.number count)
 

@@ -14,7 +14,7 @@ use crate::wholes::{Whole, whole_at};
 use cx_base::Formula;
 use std::alloc::{AllocError, Global};
 
-/// The parities whose clauses stand one behind the other, and the starts of the other clauses.
+/// The parities whose clauses follow one another, and the starts of the other clauses.
 #[derive(Drop)]
 pub(crate) struct Ordered {
     pub starts: Vec<Start>,

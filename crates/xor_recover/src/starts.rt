@@ -15,7 +15,7 @@ use cx_base::Lit;
 /// A clause's two least variables, and its number.
 #[derive(Clone, Copy, Drop)]
 pub(crate) struct Start {
-    // The second variable stands before the first, so that both are read at once as `pair`.
+    // The second variable is stored before the first, so that both are read at once as `pair`.
     pub second: u32,
     pub first: u32,
     pub number: u64,

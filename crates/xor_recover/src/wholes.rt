@@ -1,6 +1,6 @@
-//! Parities whose clauses stand one behind the other.
+//! Parities whose clauses follow one another.
 //!
-//! Whoever writes a parity as clauses mostly writes them so. Their variables stand in the same order then, so that the clauses are
+//! Whoever writes a parity as clauses mostly writes them so. Their variables are in the same order then, so that the clauses are
 //! compared as they stand, and only the first is put in order.
 ghost use Rattle.std.specs.Prelude.{◌≡◌, ◌<◌, ◌≤◌, ◌+◌, ℕ, [], length, slice_index_or, Some, IfOk, IfSome};
 ghost use Rattle.std.specs.Bool.{OnTrue};
@@ -18,7 +18,7 @@ use crate::starts::Start;
 use cx_base::{Formula, Lit};
 use std::alloc::AllocError;
 
-/// A parity whose clauses stand one behind the other: the first one's start, and the parity.
+/// A parity whose clauses follow one another: the first one's start, and the parity.
 #[derive(Drop)]
 pub(crate) struct Whole {
     pub start: Start,
@@ -77,7 +77,7 @@ impl Signs {
     }
 }
 
-/// Whether so many clauses from a number on have the first one's variables and sum of signs, and each has other signs.
+/// Whether this many clauses from a number on have the first one's variables and sum of signs, and each has other signs.
 fn are_once(formula: &Formula, number: usize, first: &[Lit], count: usize) -> bool
     requires low { 1 ≤ number }
     requires some { 1 ≤ count }
@@ -129,7 +129,7 @@ fn put_in_order(normal: &mut Vec<Lit>, lits: &[Lit]) -> Result<bool, AllocError>
     Ok(are_rising(normal))
 }
 
-/// The parity whose clauses stand one behind the other from a number on.
+/// The parity whose clauses follow one another from a number on.
 pub(crate) fn whole_at(
     formula: &Formula,
     number: usize,

@@ -14,7 +14,7 @@ with_next : (front : List LogStep) (s : LogStep) → as_events front ++ Step s �
 with_next [] s = refl
 with_next (x ∷ xs) s = ap (λ es. Step x ∷ es) (with_next xs s)
 
--- the next step is told behind those so far
+-- the next step is told after those so far
 next_is_told : (front : List LogStep) (s : LogStep) (first old new : Option (List LogEvent)) → old ≡ with_events (as_events front) first → new ≡ with_events (Step s ∷ []) old
     → new ≡ with_events (as_events (front ++ s ∷ [])) first
 next_is_told front s first old new so_far now = now ∙ ap (with_events (Step s ∷ [])) so_far ∙ more_and_more (as_events front) (Step s ∷ []) first ∙ ap (λ es. with_events es first) (with_next front s)

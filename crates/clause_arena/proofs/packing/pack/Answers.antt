@@ -9,7 +9,7 @@ use Rattle.clause_arena.proofs.packing.pack.Goals as goal
 inside : (c : After-index-head) → c.loop-place.place < length c.args.heads.now.items
 inside c = omega (arith, c.loop-place-test.true, c.len-place-end.ensures, c.args.heads.now.ok.0)
 
--- the next clause's literals stand behind what is packed
+-- the next clause's literals come after what is packed
 fits : (c : After-index-head) → (c.loop-place.used ≤ c.loop-place.start) × (c.loop-place.start ≤ c.index-end.result.now) × (c.index-end.result.now ≤ length c.loop-place.lits.items)
 fits c = next_fits c.args.lits.now.items c.args.ends.now.items c.args.heads.now.items c.loop-place.place c.loop-place.start c.loop-place.used c.loop-place.lits.items c.loop-place.ends.items c.loop-place.heads.items c.loop-place.moves.items c.index-end.result.now c.index-head.result.now c.index-end.ensures c.index-head.ensures c.requires.heads.each (inside c) c.loop-place.invariant.packed
 

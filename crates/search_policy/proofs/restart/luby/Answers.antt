@@ -2,7 +2,7 @@ use Rattle.std.proofs.Common.{◌≡◌, ◌<◌, ◌≤◌, ◌+◌, ◌-◌, �
 use Rattle.search_policy.specs.Restarts.{IsLuby, ends, repeats}
 use Rattle.search_policy.proofs.restart.luby.Goals as goal
 
--- what stands before the end of a block is what all began with
+-- what comes before the end of a block is what all began with
 inside : (i power k v : ℕ) → power ≡ 2 ^ k → power ≤ i → i + 1 < 2 * power → IsLuby (i - power + 1) v → IsLuby i v
 inside i power k v e within before h = repeats k (subst (λ p. p ≤ i) e within) (subst (λ p. i + 1 < 2 * p) e before) (subst (λ p. IsLuby (i - p + 1) v) e h)
 

@@ -71,7 +71,7 @@ returns-in-Some-clause-behind c =
     let g = goes_same _ _ c.args.nodes.now.attached.items _ _ _ _ i.attached c.in-Some.ensures.goes in
     behind_further c.ahead.looked.items c.args.nodes.now.attached.items c.args.arena.now c.ahead.trail _ g.propagates i.behind
 
--- what the loop keeps, at its head and behind it
+-- what the loop keeps, at its head and after it
 top_in : (c : At-ahead) → c.level-top.result < c.ahead.looked.len
 top_in c = omega (arith, c.ahead.looked.ok.0, c.ahead.invariant.top, c.requires.top, c.level-top.ensures.level)
 

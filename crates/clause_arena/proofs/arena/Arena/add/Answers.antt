@@ -18,7 +18,7 @@ ends_are c = c.push_reserved.ensures.items ∙ ap (λ (es : List ℕ). es ++ c.l
 heads_are : (c : goal.After-new) → c.push_reserved-2.new.self.items ≡ c.self.inside.heads.items ++ head_of c ∷ []
 heads_are c = c.push_reserved-2.ensures.items ∙ ap (λ (hs : List Head). hs ++ head_of c ∷ []) c.in_ok-make_room-2.ensures.items
 
--- the literals end behind those before them
+-- the literals end after those before them
 end_is : (c : goal.After-new) → c.len.result ≡ length c.self.inside.lits.items + length c.args.lits.now
 end_is c = omega (arith, c.len.ensures, c.append.new.into.ok.0, ap (λ (xs : List Literal). length xs) (lits_are c), length-append c.self.inside.lits.items c.args.lits.now)
 

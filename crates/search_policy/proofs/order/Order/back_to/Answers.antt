@@ -5,7 +5,7 @@ use Rattle.search_policy.proofs.StandLaws.{open_ones, stand_of, back_stand}
 use Rattle.search_policy.proofs.order.Order.back_to.Goals.{After-put_back-self-inside}
 use Rattle.search_policy.proofs.order.Order.back_to.Goals as goal
 
--- the variables that stood still stand
+-- the variables that were in the heap still are
 stays : (c : After-put_back-self-inside) → (v : ℕ) → v < length c.self.inside.scores.items → item_at c.self.inside.heap.places.items v < c.self.inside.count → item_at c.put_back-self-inside.new.heap.places.items v < c.put_back-self-inside.result
 stays c = subst (λ (xs : List ℕ). (v : ℕ) → v < length xs → item_at c.self.inside.heap.places.items v < c.self.inside.count → item_at c.put_back-self-inside.new.heap.places.items v < c.put_back-self-inside.result) c.as_slice.ensures.value c.put_back-self-inside.ensures.stays
 
