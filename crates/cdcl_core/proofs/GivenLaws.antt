@@ -21,7 +21,7 @@ use Rattle.cx_semantics.specs.Recovered.{Recovered}
 use Rattle.cx_semantics.specs.Tables.{Table, get, is_live, named, numbered_from}
 use Rattle.cx_semantics.proofs.Lookups.{lookup, Looks-numbered_from}
 use Rattle.conflict_learn.proofs.ChainOfResolutions.{by_cases}
-use Rattle.xor_recover.specs.declared.found.Found.{Found}
+use Rattle.xor_recover.specs.declared.found.FoundParity.{FoundParity}
 use Rattle.xor_recover.specs.Finds.{IsJudgedRight}
 use Rattle.search_steps.specs.Ids.{HasFreeSums}
 use Rattle.search_steps.specs.Search.{Search, IsSearch, told}
@@ -88,7 +88,7 @@ live_are_ids C (n ∷ ids) few h = go (λ rest. live_are_ids C ids few rest) (is
     go more true live rest = let is = number_of_live C n live in ((is.0, let high = is.1 in omega (arith, high, few)), more rest)
     go more false dead rest = absurd (true≢false rest)
 
-pub judged_are_ids : (formula : Problem) (find : Found) → length formula.constraints ≤ 4294967295 → IsJudgedRight formula find → AllByRecursion IsId find.clauses
+pub judged_are_ids : (formula : Problem) (find : FoundParity) → length formula.constraints ≤ 4294967295 → IsJudgedRight formula find → AllByRecursion IsId find.clauses
 judged_are_ids formula find few judged = live_are_ids (clauses_of formula.constraints) find.clauses (let c = few_clauses formula.constraints in omega (arith, c, few)) judged.0
 
 -- ---- the formula's own
@@ -117,7 +117,7 @@ given_is_left formula parities None g = tt
 given_is_left formula parities (Some es) g = subst (λ xs. IsLeft formula (Some xs)) (sym g.2) (Rattle.std.proofs.Common.inl (g.1.search.log.apart, (g.0.moment.tables, g.1.search.log.runs)))
 
 -- ---- one more
-module _ (formula : Problem) (parities : List (List Literal)) (s : Search) (g : IsGiven formula parities s) (find : Found) (w : AreWithin formula.variables find.parity) (judged : IsJudgedRight formula find) where
+module _ (formula : Problem) (parities : List (List Literal)) (s : Search) (g : IsGiven formula parities s) (find : FoundParity) (w : AreWithin formula.variables find.parity) (judged : IsJudgedRight formula find) where
   abbrev id : ℕ
   id = length parities + 1
 
@@ -161,7 +161,7 @@ module _ (formula : Problem) (parities : List (List Literal)) (s : Search) (g : 
     tidy = record { served = g.tidy.served; no_old_clauses = g.tidy.no_old_clauses; no_new_clauses = g.tidy.no_new_clauses; no_old_sums = g.tidy.no_old_sums; no_new_sums = g.tidy.no_new_sums; levels = g.tidy.levels };
   }
 
-pub find_has_given : (formula : Problem) (parities : List (List Literal)) (o : Option (List LogEvent)) → HasGiven formula parities o → (find : Found) → AreWithin formula.variables find.parity → IsJudgedRight formula find
+pub find_has_given : (formula : Problem) (parities : List (List Literal)) (o : Option (List LogEvent)) → HasGiven formula parities o → (find : FoundParity) → AreWithin formula.variables find.parity → IsJudgedRight formula find
     → HasGiven formula (parities ++ find.parity ∷ []) (with_events (Step (ParityOfClauses (length parities + 1) (integers_of find.parity) find.clauses) ∷ []) o)
 find_has_given formula parities o g find w judged = (
   after formula parities g.0 g.1 find w judged,
@@ -170,33 +170,33 @@ find_has_given formula parities o g find w judged = (
 )
 
 -- ---- all of them
-abbrev pub parities_found : List Found → List (List Literal)
+abbrev pub parities_found : List FoundParity → List (List Literal)
 parities_found finds = map (λ f. f.parity) finds
 
-found_within : (n : ℕ) (finds : List Found) → AllByRecursion (λ (f : Found). AreWithin n f.parity) finds → AllByRecursion (AreWithin n) (parities_found finds)
+found_within : (n : ℕ) (finds : List FoundParity) → AllByRecursion (λ (f : FoundParity). AreWithin n f.parity) finds → AllByRecursion (AreWithin n) (parities_found finds)
 found_within n [] h = tt
 found_within n (f ∷ finds) h = (h.0, found_within n finds h.1)
 
-found_is_there : (finds : List Found) (f : Found) → Contains finds f → Contains (parities_found finds) f.parity
+found_is_there : (finds : List FoundParity) (f : FoundParity) → Contains finds f → Contains (parities_found finds) f.parity
 found_is_there [] f c = absurd (let low = c.1 in omega (arith, low))
-found_is_there (x ∷ finds) f (zero, less, is) = subst (Contains (x.parity ∷ parities_found finds)) (ap (λ (g : Found). g.parity) is) (in_head x.parity (parities_found finds))
+found_is_there (x ∷ finds) f (zero, less, is) = subst (Contains (x.parity ∷ parities_found finds)) (ap (λ (g : FoundParity). g.parity) is) (in_head x.parity (parities_found finds))
 found_is_there (x ∷ finds) f (suc i, less, is) = in_tail x.parity (parities_found finds) f.parity (found_is_there finds f (i, omega (arith, less), is))
 
-pub engines_are : (formula : Problem) (finds : List Found) → IsWithinVariables formula.variables formula.constraints → AllByRecursion (λ (f : Found). AreWithin formula.variables f.parity) finds
+pub engines_are : (formula : Problem) (finds : List FoundParity) → IsWithinVariables formula.variables formula.constraints → AllByRecursion (λ (f : FoundParity). AreWithin formula.variables f.parity) finds
     → length finds ≤ length (clauses_of formula.constraints)
-    → ((form : NormalForm) → Recovered formula form → (find : Found) × Contains finds find × (normal_form find.parity ≡ form)) → AreEngines formula (parities_of formula.constraints ++ parities_found finds)
+    → ((form : NormalForm) → Recovered formula form → (find : FoundParity) × Contains finds find × (normal_form find.parity ≡ form)) → AreEngines formula (parities_of formula.constraints ++ parities_found finds)
 engines_are formula finds known within few complete = record {
   within = all_append (AreWithin formula.variables) (parities_of formula.constraints) (parities_found finds) (parities_are_within formula.variables formula.constraints known.1) (found_within formula.variables finds within);
-  few = let both = both_kinds formula.constraints in let long = length-append (parities_of formula.constraints) (parities_found finds) in let same = length-map finds (λ (f : Found). f.parity) in omega (arith, both, long, same, few);
+  few = let both = both_kinds formula.constraints in let long = length-append (parities_of formula.constraints) (parities_found finds) in let same = length-map finds (λ (f : FoundParity). f.parity) in omega (arith, both, long, same, few);
   theirs = theirs_are_had formula (parities_found finds) (λ form r. let f = complete form r in (f.0.parity, found_is_there finds f.0 f.1, f.2));
 }
 
 -- the parities of one find more
-pub one_find_more : (own : List (List Literal)) (finds : List Found) (place : ℕ) (d : Found) → place < length finds → (own ++ parities_found (take place finds)) ++ (get_or finds place d).parity ∷ [] ≡ own ++ parities_found (take (place + 1) finds)
+pub one_find_more : (own : List (List Literal)) (finds : List FoundParity) (place : ℕ) (d : FoundParity) → place < length finds → (own ++ parities_found (take place finds)) ++ (get_or finds place d).parity ∷ [] ≡ own ++ parities_found (take (place + 1) finds)
 one_find_more own finds place d less =
     append_assoc own (parities_found (take place finds)) ((get_or finds place d).parity ∷ [])
     ∙ ap (λ xs. own ++ xs) (sym (ap parities_found (take_more finds place d less) ∙ map_push (take place finds) (get_or finds place d)))
   where
-    map_push : (xs : List Found) (f : Found) → parities_found (xs ++ f ∷ []) ≡ parities_found xs ++ f.parity ∷ []
+    map_push : (xs : List FoundParity) (f : FoundParity) → parities_found (xs ++ f ∷ []) ≡ parities_found xs ++ f.parity ∷ []
     map_push [] f = refl
     map_push (x ∷ xs) f = ap (λ ys. x.parity ∷ ys) (map_push xs f)

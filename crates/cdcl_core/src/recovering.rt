@@ -21,7 +21,7 @@ use conflict_learn::CoreFault;
 use cx_base::{ConstraintRef, Formula, IdList, Lit, LitList, LogEvent, LogStep, ParityList};
 use std::alloc::{AllocError, Global};
 use step_text::Sink;
-use xor_recover::{Found, recover};
+use xor_recover::{FoundParity, recover};
 
 /// Puts the parity at a place of the formula, where there is one, behind those of the places before.
 fn add_parity(
@@ -56,7 +56,7 @@ fn parities(alloc: Global, formula: &Formula) -> Result<Vec<LitList>, AllocError
 }
 
 /// The step of a recovered parity.
-fn step_of(alloc: Global, id: u64, find: &Found) -> Result<LogStep, AllocError>
+fn step_of(alloc: Global, id: u64, find: &FoundParity) -> Result<LogStep, AllocError>
     requires id { IsId id }
     requires clauses { AllByRecursion IsId find.now.clauses }
     ensures { IfOk result (IsStep (step.ParityOfClauses id (integers_of find.now.parity) find.now.clauses)) }
@@ -69,7 +69,7 @@ fn step_of(alloc: Global, id: u64, find: &Found) -> Result<LogStep, AllocError>
 /// Tells a recovered parity under the next id, and puts it after these.
 fn tell_find<L: Sink<Item = LogEvent>>(
     log: &mut SearchLog<L>,
-    find: &Found,
+    find: &FoundParity,
     parities: &mut Vec<LitList>,
 ) -> Result<(), CoreFault>
     requires few { length log.old.formula.now.constraints ≤ 4294967295 }
@@ -102,7 +102,7 @@ pub(crate) fn all_parities<L: Sink<Item = LogEvent>>(
     ensures engines { IfOk result (AreEngines log.new.formula.now) }
     ensures log { GoesOn L.Sink log.old (fault_in result) log.new }
 {
-    // `vars` says to the proof that the literals of the formula are within its variables.
+    // `vars` tells the proof that the literals of the formula are within its variables.
     let _vars = log.formula.vars();
     let finds = recover(log.alloc, log.formula)?.into_vec();
     let mut parities = parities(log.alloc, log.formula)?;

@@ -1,11 +1,11 @@
 //! Planted instances. The literals come from SplitMix64 as its authors give it, computed apart from this repository.
 use crate::writing::show;
-use inst_gen::{Kind, planted};
+use inst_gen::{InstanceKind, planted};
 use std::test::Fail;
 
 #[test]
 fn the_smallest_odd_instance(rt: HostRuntime) -> Result<(), Fail> {
-    let formula = planted(rt.alloc(), Kind::Odd, 4, 0)?;
+    let formula = planted(rt.alloc(), InstanceKind::Odd, 4, 0)?;
     let told = show(rt.alloc(), &formula, &[0, 1, 2, 3, 4, 5, 6, 9])?;
     let wanted = "\
 5 10 8
@@ -24,7 +24,7 @@ fn the_smallest_odd_instance(rt: HostRuntime) -> Result<(), Fail> {
 
 #[test]
 fn an_odd_instance_of_sixty(rt: HostRuntime) -> Result<(), Fail> {
-    let formula = planted(rt.alloc(), Kind::Odd, 60, 7)?;
+    let formula = planted(rt.alloc(), InstanceKind::Odd, 60, 7)?;
     let told = show(rt.alloc(), &formula, &[0, 1, 2, 15, 16, 74, 76])?;
     let wanted = "\
 61 80 64
@@ -42,7 +42,7 @@ fn an_odd_instance_of_sixty(rt: HostRuntime) -> Result<(), Fail> {
 
 #[test]
 fn an_even_instance_of_sixty(rt: HostRuntime) -> Result<(), Fail> {
-    let formula = planted(rt.alloc(), Kind::Even, 60, 7)?;
+    let formula = planted(rt.alloc(), InstanceKind::Even, 60, 7)?;
     let told = show(rt.alloc(), &formula, &[2, 74])?;
     let wanted = "60 75 60\n2: x [-12, 8, 7]\n74: [-34, 19, -17]\n";
     assert_eq!(rt; told.as_str(), wanted);

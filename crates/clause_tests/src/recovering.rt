@@ -5,7 +5,7 @@ use crate::writing::{integers, lit};
 use cx_base::{Formula, FormulaBuilder};
 use std::alloc::{AllocError, Global};
 use std::test::Fail;
-use xor_recover::{Found, recover};
+use xor_recover::{FoundParity, recover};
 
 /// Adds a clause.
 fn add(builder: &mut FormulaBuilder, integers: &[i32]) -> Result<(), AllocError>
@@ -27,7 +27,7 @@ fn formula(alloc: Global, clauses: &[&[i32]]) -> Result<Formula, AllocError> {
 }
 
 /// A parity, and the numbers of the clauses that it comes from.
-fn show(alloc: Global, found: &Found) -> Result<String, AllocError> {
+fn show(alloc: Global, found: &FoundParity) -> Result<String, AllocError> {
     let parity = integers(alloc, found.parity.as_slice())?;
     format!(in alloc;
         "{:?} by {:?}\n",
@@ -36,7 +36,7 @@ fn show(alloc: Global, found: &Found) -> Result<String, AllocError> {
     )
 }
 
-fn show_all(alloc: Global, finds: &[Found]) -> Result<String, AllocError> {
+fn show_all(alloc: Global, finds: &[FoundParity]) -> Result<String, AllocError> {
     let mut text = String::new(alloc);
     for found in finds {
         text.push_str(show(alloc, found)?.as_str())?;

@@ -16,7 +16,7 @@ use Rattle.cnfx_reader.specs.declared.body.PieceRead.{PieceRead}
 use Rattle.cnfx_reader.specs.declared.pending.Pending.{Pending}
 use Rattle.cnfx_reader.specs.declared.piece.Phase.{Phase}
 use Rattle.cnfx_reader.specs.declared.piece.Phase.TheVariants.{Body}
-use Rattle.cnfx_reader.specs.declared.piece.Taken.{Taken}
+use Rattle.cnfx_reader.specs.declared.piece.PieceStep.{PieceStep}
 use Rattle.cnfx_reader.specs.declared.refusal.ReadRefusal.{ReadRefusal}
 
 -- ---- a piece in its text
@@ -65,7 +65,7 @@ module _ (place : ℕ) (bytes : List ℕ) (phase mid : Phase) (old d : Draft) (f
   same_there : (size : ℕ) (more : List ℕ) → answer_from phase size old (formula_tokens_within place (bytes ++ more)) ≡ answer_from mid size d (formula_tokens_within place (bytes ++ more))
   same_there size more = first.same size more ∙ ap (λ n. answer_from mid size d (formula_tokens_within n (bytes ++ more))) (let e : place + 0 ≡ place = omega arith in e)
 
-  pub then_result : (r : Result Taken ReadRefusal) (new : Draft) → MatchResult r (λ t. StepTaken mid d place bytes t new) (λ e. StepRefused mid d place bytes e) → MatchResult r (λ t. StepTaken phase old place bytes t new) (λ e. StepRefused phase old place bytes e)
+  pub then_result : (r : Result PieceStep ReadRefusal) (new : Draft) → MatchResult r (λ t. StepTaken mid d place bytes t new) (λ e. StepRefused mid d place bytes e) → MatchResult r (λ t. StepTaken phase old place bytes t new) (λ e. StepRefused phase old place bytes e)
   then_result (Ok t) new h = record { high = h.high; fits = h.fits; same = λ size more. same_there size more ∙ h.same size more }
   then_result (Err e) new h = λ size more. subst (IsRefusedBy e) (sym (same_there size more)) (h size more)
 

@@ -13,7 +13,7 @@ use Rattle.cnfx_reader.specs.TokensLeft.{formula_tokens_within}
 use Rattle.cnfx_reader.specs.declared.pending.Pending.TheVariants.{Nothing}
 use Rattle.cnfx_reader.specs.declared.piece.Phase.{Phase}
 use Rattle.cnfx_reader.specs.declared.piece.Phase.TheVariants.{Head, Body}
-use Rattle.cnfx_reader.specs.declared.piece.Taken.{Taken}
+use Rattle.cnfx_reader.specs.declared.piece.PieceStep.{PieceStep}
 use Rattle.cnfx_reader.specs.declared.refusal.ReadRefusal.{ReadRefusal}
 
 -- before the body no constraint is open; the number of variables is within the limit
@@ -21,7 +21,7 @@ abbrev pub IsPhaseIn : Phase → Draft → Type 0
 IsPhaseIn (Head part) d = IsPartWithin part × (d.unfinished ≡ [])
 IsPhaseIn (Body v pending) d = (v ≤ MAX_VARIABLE) × IsPendingIn pending d
 
--- behind a header: its number of variables, and what is read of the body
+-- after a header: its number of variables, and what is read of the body
 abbrev pub behind_header : ℕ → Draft → Result (ℕ × List Token) Offence → Result (ℕ × Outcome) Offence
 behind_header len d (Ok h) = Ok (h.0, outcome len Nothing d (placed_formula_words h.1))
 behind_header len d (Err offence) = Err offence
@@ -36,8 +36,8 @@ abbrev pub IsRefusedBy : ReadRefusal → Result (ℕ × Outcome) Offence → Typ
 IsRefusedBy e (Ok read) = IsEndedBy e read.1.ending
 IsRefusedBy e (Err offence) = e ≡ refusal_of offence
 
--- so many bytes were taken, whatever follows
-pub record StepTaken (phase : Phase) (old : Draft) (place : ℕ) (bytes : List ℕ) (t : Taken) (new : Draft) : Type 0 where
+-- this many bytes were taken, whatever follows
+pub record StepTaken (phase : Phase) (old : Draft) (place : ℕ) (bytes : List ℕ) (t : PieceStep) (new : Draft) : Type 0 where
   pub high : t.len ≤ length bytes
   pub fits : IsPhaseIn t.phase new
   pub same : (len : ℕ) (more : List ℕ) → answer_from phase len old (formula_tokens_within place (bytes ++ more)) ≡ answer_from t.phase len new (formula_tokens_within (place + t.len) (drop t.len bytes ++ more))

@@ -21,37 +21,37 @@ use cx_texts::{EndLines, SaidAt, TokenAt, TokenReader, run_len, whole_front};
 pub(crate) enum Phase {
     /// The header, of which this token comes next.
     Head(HeaderPart),
-    /// The body, behind a header with this number of variables.
+    /// The body, after a header with this number of variables.
     Body(u32, Pending),
 }
 
 /// What was taken of a piece: how far the reading has come, and how many bytes were taken.
 #[derive(Clone, Copy, Drop)]
-pub(crate) struct Taken {
+pub(crate) struct PieceStep {
     pub phase: Phase,
     pub len: usize,
 }
 
-/// Takes the whole tokens of the body at the front of the bytes but the last. The bytes begin at this place, within a kept line, and
+/// Takes the whole tokens of the body at the start of the bytes but the last. The bytes begin at this place, within a kept line, and
 /// more may follow.
 fn take_body_front(
     builder: &mut FormulaBuilder,
     bytes: &[u8],
     place: usize,
     phase: Phase,
-) -> Result<Taken, ReadRefusal>
+) -> Result<PieceStep, ReadRefusal>
     requires small { place + length bytes.now < 2 ^ 63 }
     requires fits { IsPhaseIn phase builder.old }
     ensures { MatchResult result (λ t. StepTaken phase builder.old place bytes.now t builder.new) (λ e. StepRefused phase builder.old place bytes.now e) }
 {
-    let none = Taken { phase, len: 0 };
+    let none = PieceStep { phase, len: 0 };
     match phase {
         Phase::Head(_) => Ok(none),
         Phase::Body(vars, pending) => {
             let len = whole_front(bytes);
             let mut tokens = TokenReader::within(&bytes[..len], place, EndLines::End);
             match read_but_last(&mut tokens, builder, pending) {
-                Ok(Some(read)) => Ok(Taken {
+                Ok(Some(read)) => Ok(PieceStep {
                     phase: Phase::Body(vars, read.pending),
                     len: read.last as usize - place,
                 }),
@@ -104,36 +104,36 @@ fn take_one(
     }
 }
 
-/// Takes the token at the front of the bytes, or nothing where no blank stands behind it: a run that all the bytes are may go on in the
+/// Takes the first token of the bytes, or nothing where no blank follows it: a run that all the bytes are may go on in the
 /// next piece.
 fn take_first(
     builder: &mut FormulaBuilder,
     bytes: &[u8],
     place: usize,
     phase: Phase,
-) -> Result<Taken, ReadRefusal>
+) -> Result<PieceStep, ReadRefusal>
     requires fits { IsPhaseIn phase builder.old }
     ensures { MatchResult result (λ t. StepTaken phase builder.old place bytes.now t builder.new) (λ e. StepRefused phase builder.old place bytes.now e) }
 {
     let len = run_len(bytes);
     if len == 0 || len == bytes.len() {
-        return Ok(Taken { phase, len: 0 });
+        return Ok(PieceStep { phase, len: 0 });
     }
     match take_one(builder, &bytes[..len], place, phase) {
-        Ok(next) => Ok(Taken { phase: next, len }),
+        Ok(next) => Ok(PieceStep { phase: next, len }),
         Err(refusal) => Err(refusal),
     }
 }
 
-/// Takes whole tokens at the front of the bytes. The bytes begin at this place, within a kept line, and more may follow.
+/// Takes whole tokens at the start of the bytes. The bytes begin at this place, within a kept line, and more may follow.
 ///
-/// The last whole token is taken alone: where the place behind it lies, only its bytes tell.
+/// The last whole token is taken alone: where the place after it is, only its bytes tell.
 pub(crate) fn take_some(
     builder: &mut FormulaBuilder,
     bytes: &[u8],
     place: usize,
     phase: Phase,
-) -> Result<Taken, ReadRefusal>
+) -> Result<PieceStep, ReadRefusal>
     requires small { place + length bytes.now < 2 ^ 63 }
     requires fits { IsPhaseIn phase builder.old }
     ensures { MatchResult result (λ t. StepTaken phase builder.old place bytes.now t builder.new) (λ e. StepRefused phase builder.old place bytes.now e) }

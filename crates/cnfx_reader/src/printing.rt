@@ -23,20 +23,20 @@ const SHEET: usize = GROUP * LINE;
 /// A sheet that lines are laid out on, one after another. What is on it plays no part: a line is laid out over the one before, so
 /// that no room is cleared for it.
 #[derive(Drop)]
-struct LineSheet {
+struct ConstraintSheet {
     bytes: [u8; SHEET],
 }
 
-impl LineSheet {
+impl ConstraintSheet {
     /// A sheet for lines to come.
-    fn new() -> LineSheet {
-        LineSheet { bytes: [0; SHEET] }
+    fn new() -> ConstraintSheet {
+        ConstraintSheet { bytes: [0; SHEET] }
     }
 }
 
 /// Writes a few literals, each with a space after it, in one piece.
 fn put_part<D: Desk>(
-    sheet: &mut LineSheet,
+    sheet: &mut ConstraintSheet,
     desk: &mut D,
     port: Port,
     lits: &[Lit],
@@ -51,7 +51,7 @@ fn put_part<D: Desk>(
 
 /// Writes a few literals, a zero and a line feed, in one piece.
 fn put_end<D: Desk>(
-    sheet: &mut LineSheet,
+    sheet: &mut ConstraintSheet,
     desk: &mut D,
     port: Port,
     lits: &[Lit],
@@ -66,7 +66,7 @@ fn put_end<D: Desk>(
 
 /// Writes literals, a zero and a line feed.
 fn put_literals<D: Desk>(
-    sheet: &mut LineSheet,
+    sheet: &mut ConstraintSheet,
     desk: &mut D,
     port: Port,
     lits: &[Lit],
@@ -84,7 +84,7 @@ fn put_literals<D: Desk>(
 
 /// Writes what a line has before its integers, and the line.
 fn put_line<D: Desk>(
-    sheet: &mut LineSheet,
+    sheet: &mut ConstraintSheet,
     desk: &mut D,
     port: Port,
     front: &[u8],
@@ -98,7 +98,7 @@ fn put_line<D: Desk>(
 
 /// Writes the line of a constraint.
 fn put_constraint<D: Desk>(
-    sheet: &mut LineSheet,
+    sheet: &mut ConstraintSheet,
     desk: &mut D,
     port: Port,
     item: ConstraintRef<'_>,
@@ -114,7 +114,7 @@ fn put_constraint<D: Desk>(
 
 /// Writes the lines of the constraints from one place up to another, one by one.
 fn put_each<D: Desk>(
-    sheet: &mut LineSheet,
+    sheet: &mut ConstraintSheet,
     desk: &mut D,
     port: Port,
     formula: &Formula,
@@ -133,7 +133,7 @@ fn put_each<D: Desk>(
 
 /// Writes the lines of the next constraints, in one piece where they are short, and says which place comes next.
 fn put_next<D: Desk>(
-    sheet: &mut LineSheet,
+    sheet: &mut ConstraintSheet,
     desk: &mut D,
     port: Port,
     formula: &Formula,
@@ -158,7 +158,7 @@ fn put_next<D: Desk>(
 
 /// Writes the lines of all constraints.
 fn put_constraints<D: Desk>(
-    sheet: &mut LineSheet,
+    sheet: &mut ConstraintSheet,
     desk: &mut D,
     port: Port,
     formula: &Formula,
@@ -197,7 +197,7 @@ pub fn put_formula<D: Desk>(desk: &mut D, port: Port, formula: &Formula) -> Resu
 {
     let _vars = formula.vars();
     let _len = formula.len();
-    let mut sheet = LineSheet::new();
+    let mut sheet = ConstraintSheet::new();
     put_header(desk, port, formula)?;
     put_constraints(&mut sheet, desk, port, formula)
 }

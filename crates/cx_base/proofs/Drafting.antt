@@ -11,25 +11,25 @@ use Rattle.cx_base.specs.Drafts.{Draft}
 use Rattle.cx_base.specs.Heads.{of_kind, stored, AreInside, IsDraft}
 use Rattle.cx_base.specs.declared.literal.TheConstants.{MAX_VARIABLE}
 use Rattle.cx_base.specs.declared.constraint.Constraint.{Constraint}
-use Rattle.cx_base.specs.declared.formula.Kind.{Kind}
-use Rattle.cx_base.specs.declared.formula.Kind.TheVariants as kind
-use Rattle.cx_base.specs.declared.formula.Head.{Head}
+use Rattle.cx_base.specs.declared.formula.ConstraintKind.{ConstraintKind}
+use Rattle.cx_base.specs.declared.formula.ConstraintKind.TheVariants as kind
+use Rattle.cx_base.specs.declared.formula.ConstraintHead.{ConstraintHead}
 
-abbrev EndsBy : ℕ → Head → Type 0
+abbrev EndsBy : ℕ → ConstraintHead → Type 0
 EndsBy closed h = h.start + h.len ≤ closed
 
 abbrev variables : List Literal → List ℕ
 variables lits = map (λ l. l.variable) lits
 
--- ---- literals behind the closed ones change no constraint
+-- ---- literals after the closed ones change no constraint
 
-stored_stays : (lits more : List Literal) (h : Head) → h.start + h.len ≤ length lits → stored (lits ++ more) h ≡ stored lits h
+stored_stays : (lits more : List Literal) (h : ConstraintHead) → h.start + h.len ≤ length lits → stored (lits ++ more) h ≡ stored lits h
 stored_stays lits more h k =
     let s : h.start ≤ length lits = omega arith in
     let t : h.len ≤ length (drop h.start lits) = omega (arith, length-drop h.start lits) in
     ap (of_kind h.kind) (ap (take h.len) (drop-append-le h.start lits more s) ∙ take-append-le h.len (drop h.start lits) more t)
 
-pub stored_stay : (closed : ℕ) (lits more : List Literal) (heads : List Head) → closed ≤ length lits → All (EndsBy closed) heads
+pub stored_stay : (closed : ℕ) (lits more : List Literal) (heads : List ConstraintHead) → closed ≤ length lits → All (EndsBy closed) heads
     → map (stored (lits ++ more)) heads ≡ map (stored lits) heads
 stored_stay closed lits more [] k a = refl
 stored_stay closed lits more (h ∷ heads) k a =
@@ -42,7 +42,7 @@ stored_stay closed lits more (h ∷ heads) k a =
 greatest_more : (lits : List Literal) (l : Literal) → fold max 0 (variables (lits ++ l ∷ [])) ≡ max (fold max 0 (variables lits)) l.variable
 greatest_more lits l = ap (fold max 0) (map-append (λ m. m.variable) lits (l ∷ [])) ∙ fold-append max 0 (variables lits) (l.variable ∷ [])
 
-pub pushed : (largest closed new : ℕ) (lits items : List Literal) (heads : List Head) (l : Literal)
+pub pushed : (largest closed new : ℕ) (lits items : List Literal) (heads : List ConstraintHead) (l : Literal)
     → IsDraft largest closed lits heads → 1 ≤ l.variable → l.variable ≤ MAX_VARIABLE → items ≡ lits ++ l ∷ [] → new ≡ max largest l.variable → IsDraft new closed items heads
 pushed largest closed new lits items heads l d low high e n =
     subst (λ (xs : List Literal). IsDraft new closed xs heads) (sym e)
@@ -57,7 +57,7 @@ pushed largest closed new lits items heads l d low high e n =
       positive = All-push (λ m. 1 ≤ m.variable) lits l d.positive low;
     })
 
-pub pushed_view : (largest closed : ℕ) (lits items : List Literal) (heads : List Head) (l : Literal)
+pub pushed_view : (largest closed : ℕ) (lits items : List Literal) (heads : List ConstraintHead) (l : Literal)
     → IsDraft largest closed lits heads → items ≡ lits ++ l ∷ []
     → ◌≡◌ {A = Draft} (record { constraints = map (stored items) heads; unfinished = drop closed items }) (record { constraints = map (stored lits) heads; unfinished = drop closed lits ++ l ∷ [] })
 pushed_view largest closed lits items heads l d e =
@@ -66,22 +66,22 @@ pushed_view largest closed lits items heads l d e =
 
 -- ---- a constraint more
 
-literals_of-of_kind : (k : Kind) (lits : List Literal) → literals_of (of_kind k lits) ≡ lits
+literals_of-of_kind : (k : ConstraintKind) (lits : List Literal) → literals_of (of_kind k lits) ≡ lits
 literals_of-of_kind kind.Clause lits = refl
 literals_of-of_kind kind.Parity lits = refl
 literals_of-of_kind kind.Assume lits = refl
 
-pub rest_is_stored : (closed len : ℕ) (lits : List Literal) (k : Kind) → closed ≤ length lits → len ≡ length lits - closed
+pub rest_is_stored : (closed len : ℕ) (lits : List Literal) (k : ConstraintKind) → closed ≤ length lits → len ≡ length lits - closed
     → stored lits (record { kind = k; start = closed; len = len }) ≡ of_kind k (drop closed lits)
 rest_is_stored closed len lits k h e = ap (of_kind k) (take_all len (drop closed lits) (omega (arith, length-drop closed lits)))
 
-pub ended : (largest closed len end : ℕ) (lits : List Literal) (heads grown : List Head) (k : Kind)
+pub ended : (largest closed len end : ℕ) (lits : List Literal) (heads grown : List ConstraintHead) (k : ConstraintKind)
     → IsDraft largest closed lits heads → len ≡ length lits - closed → end ≡ length lits → grown ≡ heads ++ record { kind = k; start = closed; len = len } ∷ [] → IsDraft largest end lits grown
 ended largest closed len end lits heads grown k d e f g =
-    let head : Head = record { kind = k; start = closed; len = len } in
+    let head : ConstraintHead = record { kind = k; start = closed; len = len } in
     let reach : closed ≤ length lits = d.reach in
     let here : closed + len ≤ end = omega arith in
-    subst (λ (hs : List Head). IsDraft largest end lits hs) (sym g)
+    subst (λ (hs : List ConstraintHead). IsDraft largest end lits hs) (sym g)
     (record {
       inside = All-push (EndsBy end) heads head (All-weaker (EndsBy closed) (EndsBy end) (λ h q. omega arith) heads d.inside) here;
       reach = omega arith;
@@ -97,7 +97,7 @@ ended largest closed len end lits heads grown k d e f g =
       positive = d.positive;
     })
 
-pub ended_view : (largest closed len end : ℕ) (lits : List Literal) (heads grown : List Head) (k : Kind)
+pub ended_view : (largest closed len end : ℕ) (lits : List Literal) (heads grown : List ConstraintHead) (k : ConstraintKind)
     → IsDraft largest closed lits heads → len ≡ length lits - closed → end ≡ length lits → grown ≡ heads ++ record { kind = k; start = closed; len = len } ∷ []
     → ◌≡◌ {A = Draft} (record { constraints = map (stored lits) grown; unfinished = drop end lits }) (record { constraints = map (stored lits) heads ++ of_kind k (drop closed lits) ∷ []; unfinished = [] })
 ended_view largest closed len end lits heads grown k d e f g =
@@ -109,8 +109,8 @@ ended_view largest closed len end lits heads grown k d e f g =
 
 -- ---- nothing yet
 
-pub nothing_drafted : (lits : List Literal) (heads : List Head) → lits ≡ [] → heads ≡ [] → IsDraft 0 0 lits heads
-nothing_drafted lits heads e f = subst (λ (xs : List Literal). IsDraft 0 0 xs heads) (sym e) (subst (λ (hs : List Head). IsDraft 0 0 [] hs) (sym f)
+pub nothing_drafted : (lits : List Literal) (heads : List ConstraintHead) → lits ≡ [] → heads ≡ [] → IsDraft 0 0 lits heads
+nothing_drafted lits heads e f = subst (λ (xs : List Literal). IsDraft 0 0 xs heads) (sym e) (subst (λ (hs : List ConstraintHead). IsDraft 0 0 [] hs) (sym f)
     (record { inside = All-nil (EndsBy 0); reach = omega arith; whole = refl; greatest = refl; few = omega arith; positive = All-nil (λ l. 1 ≤ l.variable) }))
 
 -- ---- the open literals have variables up to the greatest
@@ -134,7 +134,7 @@ within_behind n zero lits a = a
 within_behind n (suc k) [] a = tt
 within_behind n (suc k) (l ∷ lits) a = within_behind n k lits a.1
 
-pub open_within : (largest closed : ℕ) (lits : List Literal) (heads : List Head) → IsDraft largest closed lits heads → AreWithin largest (drop closed lits)
+pub open_within : (largest closed : ℕ) (lits : List Literal) (heads : List ConstraintHead) → IsDraft largest closed lits heads → AreWithin largest (drop closed lits)
 open_within largest closed lits heads d = within_behind largest closed lits (up_to_greatest lits d.positive largest (let g : largest ≡ fold max 0 (variables lits) = d.greatest in omega arith))
 
 -- a slice of them
@@ -151,7 +151,7 @@ each_within : (n : ℕ) (cs : List Constraint) → AllByRecursion (IsUpTo n) (fl
 each_within n [] a = tt
 each_within n (c ∷ cs) a = let r = split_front (IsUpTo n) (literals_of c) (flat_map literals_of cs) a in (r.0, each_within n cs r.1)
 
-pub finished : (largest closed at_least : ℕ) (lits : List Literal) (heads : List Head) → IsDraft largest closed lits heads → drop closed lits ≡ [] → at_least ≤ MAX_VARIABLE
+pub finished : (largest closed at_least : ℕ) (lits : List Literal) (heads : List ConstraintHead) → IsDraft largest closed lits heads → drop closed lits ≡ [] → at_least ≤ MAX_VARIABLE
     → IsWithinVariables (max at_least largest) (map (stored lits) heads) × AreInside lits heads
 finished largest closed at_least lits heads d e b =
     let few : largest ≤ MAX_VARIABLE = d.few in
@@ -166,7 +166,7 @@ finished largest closed at_least lits heads d e b =
       All-weaker (EndsBy closed) (EndsBy (length lits)) (λ h q. omega arith) heads d.inside,
     )
 
-pub finished_greatest : (largest closed at_least : ℕ) (lits : List Literal) (heads : List Head) → IsDraft largest closed lits heads → drop closed lits ≡ []
+pub finished_greatest : (largest closed at_least : ℕ) (lits : List Literal) (heads : List ConstraintHead) → IsDraft largest closed lits heads → drop closed lits ≡ []
     → max at_least largest ≡ greatest_variable at_least (map (stored lits) heads)
 finished_greatest largest closed at_least lits heads d e =
     let all : flat_map literals_of (map (stored lits) heads) ≡ lits = sym (append-nil (flat_map literals_of (map (stored lits) heads))) ∙ ap (λ xs. flat_map literals_of (map (stored lits) heads) ++ xs) (sym e) ∙ d.whole in

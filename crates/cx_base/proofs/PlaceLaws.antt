@@ -10,8 +10,8 @@ use Rattle.cx_base.specs.Heads.{of_kind}
 use Rattle.cx_base.specs.Places.{places_from, ArePlaces, clause_place, parity_place}
 use Rattle.cx_base.specs.declared.constraint.Constraint.{Constraint}
 use Rattle.cx_base.specs.declared.constraint.Constraint.TheVariants as constraint
-use Rattle.cx_base.specs.declared.formula.Kind.{Kind}
-use Rattle.cx_base.specs.declared.formula.Kind.TheVariants as kind
+use Rattle.cx_base.specs.declared.formula.ConstraintKind.{ConstraintKind}
+use Rattle.cx_base.specs.declared.formula.ConstraintKind.TheVariants as kind
 
 abbrev Pick : Type 0
 Pick = Constraint → Option (List Literal)
@@ -30,17 +30,17 @@ places_from-push pick n (d ∷ cs) c =
     ap (cons_option here) (places_from-push pick (n + 1) cs c ∙ ap (λ m. places_from pick (n + 1) cs ++ places_from pick m (c ∷ [])) e)
     ∙ put_behind here (places_from pick (n + 1) cs) (places_from pick (n + length (d ∷ cs)) (c ∷ []))
 
-one_clause : (k : Kind) (lits : List Literal) (n : ℕ) → places_from clause_in n (of_kind k lits ∷ []) ≡ clause_place k n
+one_clause : (k : ConstraintKind) (lits : List Literal) (n : ℕ) → places_from clause_in n (of_kind k lits ∷ []) ≡ clause_place k n
 one_clause kind.Clause lits n = refl
 one_clause kind.Parity lits n = refl
 one_clause kind.Assume lits n = refl
 
-one_parity : (k : Kind) (lits : List Literal) (n : ℕ) → places_from parity_in n (of_kind k lits ∷ []) ≡ parity_place k n
+one_parity : (k : ConstraintKind) (lits : List Literal) (n : ℕ) → places_from parity_in n (of_kind k lits ∷ []) ≡ parity_place k n
 one_parity kind.Clause lits n = refl
 one_parity kind.Parity lits n = refl
 one_parity kind.Assume lits n = refl
 
-pub places_pushed : (a b a' b' : List ℕ) (cs ds : List Constraint) (k : Kind) (lits : List Literal) (n : ℕ) → ArePlaces a b cs → ds ≡ cs ++ of_kind k lits ∷ [] → n ≡ length cs
+pub places_pushed : (a b a' b' : List ℕ) (cs ds : List Constraint) (k : ConstraintKind) (lits : List Literal) (n : ℕ) → ArePlaces a b cs → ds ≡ cs ++ of_kind k lits ∷ [] → n ≡ length cs
     → a' ≡ a ++ clause_place k n → b' ≡ b ++ parity_place k n → ArePlaces a' b' ds
 places_pushed a b a' b' cs ds k lits n p more at e f =
     let same : 0 + length cs ≡ n = omega (arith, at) in
@@ -56,7 +56,7 @@ places_pushed a b a' b' cs ds k lits n p more at e f =
 pub no_places : (a b : List ℕ) (cs : List Constraint) → a ≡ [] → b ≡ [] → cs ≡ [] → ArePlaces a b cs
 no_places a b cs e f g = record { of_clauses = e ∙ sym (ap (places_from clause_in 0) g); of_parities = f ∙ sym (ap (places_from parity_in 0) g) }
 
--- ---- how many there are, and what stands at each
+-- ---- how many there are, and what is at each
 
 longer_by : (o : Option (List Literal)) (n : ℕ) (xs : List ℕ) (ys : List (List Literal)) → length xs ≡ length ys → length (cons_option (option_map (λ lits. n) o) xs) ≡ length (cons_option o ys)
 longer_by None n xs ys e = e

@@ -5,8 +5,8 @@ use Rattle.cx_base.specs.Literals.{Literal, code_of, positive_of, negative_of}
 use Rattle.cx_base.specs.Assumptions.{assumes}
 use Rattle.cx_base.specs.declared.literal.TheConstants.{MAX_VARIABLE}
 use Rattle.cx_base.specs.declared.constraint.Constraint.{Constraint}
-use Rattle.cx_base.specs.declared.formula.Kind.{Kind}
-use Rattle.cx_base.specs.declared.formula.Kind.TheVariants as kind
+use Rattle.cx_base.specs.declared.formula.ConstraintKind.{ConstraintKind}
+use Rattle.cx_base.specs.declared.formula.ConstraintKind.TheVariants as kind
 
 abbrev pub word_bit : ℕ → ℕ → Bool
 word_bit word i = eqb (bit_at word i) 1
@@ -33,7 +33,7 @@ pub record AreAssumed (marks : List ℕ) (constraints : List Constraint) : Type 
   pub few : length marks ≤ MAX_VARIABLE / 32 + 1
 
 -- the words have a bit for each literal up to the greatest variable, if a constraint of the kind needs one
-abbrev pub HasRoom : Kind → ℕ → ℕ → Type 0
+abbrev pub HasRoom : ConstraintKind → ℕ → ℕ → Type 0
 HasRoom kind.Clause greatest words = ⊤
 HasRoom kind.Parity greatest words = ⊤
 HasRoom kind.Assume greatest words = greatest < 32 * words

@@ -6,24 +6,24 @@ use Rattle.std.specs.List.{All}
 use Rattle.cx_base.specs.Literals.{Literal}
 use Rattle.cx_base.specs.declared.constraint.Constraint.{Constraint}
 use Rattle.cx_base.specs.declared.constraint.Constraint.TheVariants as constraint
-use Rattle.cx_base.specs.declared.formula.Kind.{Kind}
-use Rattle.cx_base.specs.declared.formula.Kind.TheVariants as kind
-use Rattle.cx_base.specs.declared.formula.Head.{Head}
+use Rattle.cx_base.specs.declared.formula.ConstraintKind.{ConstraintKind}
+use Rattle.cx_base.specs.declared.formula.ConstraintKind.TheVariants as kind
+use Rattle.cx_base.specs.declared.formula.ConstraintHead.{ConstraintHead}
 
-abbrev pub of_kind : Kind → List Literal → Constraint
+abbrev pub of_kind : ConstraintKind → List Literal → Constraint
 of_kind kind.Clause lits = constraint.Clause lits
 of_kind kind.Parity lits = constraint.Parity lits
 of_kind kind.Assume lits = constraint.Assume lits
 
 -- the constraint of a head: its literals are len of the list from start on
-abbrev pub stored : List Literal → Head → Constraint
+abbrev pub stored : List Literal → ConstraintHead → Constraint
 stored lits h = of_kind h.kind (take h.len (drop h.start lits))
 
-abbrev pub AreInside : List Literal → List Head → Type 0
+abbrev pub AreInside : List Literal → List ConstraintHead → Type 0
 AreInside lits heads = All (λ h. h.start + h.len ≤ length lits) heads
 
 -- what a builder keeps: its heads cover the literals up to the closed ones, and the greatest variable is known
-pub record IsDraft (largest closed : ℕ) (lits : List Literal) (heads : List Head) : Type 0 where
+pub record IsDraft (largest closed : ℕ) (lits : List Literal) (heads : List ConstraintHead) : Type 0 where
   pub inside : All (λ h. h.start + h.len ≤ closed) heads
   pub reach : closed ≤ length lits
   pub whole : flat_map literals_of (map (stored lits) heads) ++ drop closed lits ≡ lits

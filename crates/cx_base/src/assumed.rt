@@ -9,7 +9,7 @@ ghost use Rattle.cx_base.specs.Heads.{of_kind};
 ghost use Rattle.cx_base.specs.Assumed.{is_marked, are_both_marked, has_pair, HasRoom, IsFirstBoth, IsNoneBoth};
 ghost use Rattle.cx_base.specs.declared.literal.TheConstants.{MAX_VARIABLE};
 
-use crate::formula::Kind;
+use crate::formula::ConstraintKind;
 use crate::literal::{Lit, Var};
 use std::alloc::{AllocError, Global};
 
@@ -65,7 +65,7 @@ impl Assumed {
     }
 
     /// Makes places for the marks of literals up to this variable, where the constraint to come has assumptions. No mark changes.
-    pub fn reserve(&mut self, kind: Kind, greatest: u32) -> Result<(), AllocError>
+    pub fn reserve(&mut self, kind: ConstraintKind, greatest: u32) -> Result<(), AllocError>
         requires few { greatest ≤ MAX_VARIABLE }
         requires before { length self.old.marks.items ≤ MAX_VARIABLE / 32 + 1 }
         ensures same { (p : ℕ) → get_or self.new.marks.items p 0 ≡ get_or self.old.marks.items p 0 }
@@ -73,22 +73,22 @@ impl Assumed {
         ensures room { OnOk result (HasRoom kind greatest (length self.new.marks.items)) }
     {
         let len = greatest as usize / 32 + 1;
-        if matches!(kind, Kind::Assume) && self.marks.len() < len {
+        if matches!(kind, ConstraintKind::Assume) && self.marks.len() < len {
             self.marks.resize(len, 0)?;
         }
         Ok(())
     }
 
     /// Marks what a constraint of this kind assumes.
-    pub fn mark(&mut self, kind: Kind, greatest: u32, lits: &[Lit])
+    pub fn mark(&mut self, kind: ConstraintKind, greatest: u32, lits: &[Lit])
         requires room { HasRoom kind greatest (length self.old.marks.items) }
         requires within { AreWithin greatest lits.now }
         ensures marked { (l : Literal) → is_marked self.new.marks.items l ≡ (is_marked self.old.marks.items l || list_any (same_literal l) (assumed_by (of_kind kind lits.now))) }
         ensures len { length self.new.marks.items ≡ length self.old.marks.items }
     {
         match kind {
-            Kind::Clause | Kind::Parity => {}
-            Kind::Assume => mark_all(&mut self.marks, greatest, lits),
+            ConstraintKind::Clause | ConstraintKind::Parity => {}
+            ConstraintKind::Assume => mark_all(&mut self.marks, greatest, lits),
         }
     }
 

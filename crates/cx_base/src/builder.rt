@@ -7,7 +7,7 @@ ghost use Rattle.cx_base.specs.declared.literal.TheConstants.{MAX_VARIABLE};
 ghost use Rattle.cx_base.specs.declared.constraint.Constraint.TheVariants as constraint;
 
 use crate::assumed::Assumed;
-use crate::formula::{Formula, Head, Kind};
+use crate::formula::{ConstraintHead, ConstraintKind, Formula};
 use crate::literal::Lit;
 use crate::places::Places;
 use std::alloc::{AllocError, Global};
@@ -19,7 +19,7 @@ pub struct FormulaBuilder {
     greatest: u32,
     closed: usize,
     lits: Vec<Lit>,
-    heads: Vec<Head>,
+    heads: Vec<ConstraintHead>,
     places: Places,
     assumed: Assumed,
 }
@@ -68,7 +68,7 @@ impl FormulaBuilder {
     }
 
     /// Ends the open constraint.
-    fn end(&mut self, kind: Kind) -> Result<(), AllocError>
+    fn end(&mut self, kind: ConstraintKind) -> Result<(), AllocError>
         ensures ok { OnOk result (self.new ≡ record { constraints = self.old.constraints ++ of_kind kind self.old.unfinished ∷ []; unfinished = [] }) }
         ensures err { OnErr result (self.new ≡ self.old) }
     {
@@ -79,7 +79,7 @@ impl FormulaBuilder {
         let len = self.lits.len() - self.closed;
         self.assumed
             .mark(kind, self.greatest, &self.lits[self.closed..]);
-        self.heads.push_reserved(Head {
+        self.heads.push_reserved(ConstraintHead {
             kind,
             start: self.closed,
             len,
@@ -93,7 +93,7 @@ impl FormulaBuilder {
         ensures ok { OnOk result (self.new ≡ record { constraints = self.old.constraints ++ constraint.Clause self.old.unfinished ∷ []; unfinished = [] }) }
         ensures err { OnErr result (self.new ≡ self.old) }
     {
-        self.end(Kind::Clause)
+        self.end(ConstraintKind::Clause)
     }
 
     /// Makes the open literals a parity. Without memory nothing changes.
@@ -101,7 +101,7 @@ impl FormulaBuilder {
         ensures ok { OnOk result (self.new ≡ record { constraints = self.old.constraints ++ constraint.Parity self.old.unfinished ∷ []; unfinished = [] }) }
         ensures err { OnErr result (self.new ≡ self.old) }
     {
-        self.end(Kind::Parity)
+        self.end(ConstraintKind::Parity)
     }
 
     /// Makes the open literals an assumption constraint. Without memory nothing changes.
@@ -109,7 +109,7 @@ impl FormulaBuilder {
         ensures ok { OnOk result (self.new ≡ record { constraints = self.old.constraints ++ constraint.Assume self.old.unfinished ∷ []; unfinished = [] }) }
         ensures err { OnErr result (self.new ≡ self.old) }
     {
-        self.end(Kind::Assume)
+        self.end(ConstraintKind::Assume)
     }
 
     /// The formula of the constraints. Its number of variables is the greatest of `at_least` and the variables written.

@@ -17,28 +17,28 @@ use std::mem::size_of_val;
 
 /// Whether a constraint is a clause, a parity or an assumption constraint.
 #[derive(Clone, Copy, Drop)]
-pub(crate) enum Kind {
+pub(crate) enum ConstraintKind {
     Clause,
     Parity,
     Assume,
 }
 
-/// A constraint's kind, and where its literals stand among the formula's.
+/// A constraint's kind, and where its literals are among the formula's.
 #[derive(Clone, Copy, Drop)]
-pub(crate) struct Head {
-    pub kind: Kind,
+pub(crate) struct ConstraintHead {
+    pub kind: ConstraintKind,
     pub start: usize,
     pub len: usize,
 }
 
 /// A number of variables, and a list of constraints over them.
 ///
-/// The literals of all constraints stand one behind the other in one vector.
+/// The literals of all constraints, one constraint after another in one vector.
 #[derive(Drop)]
 pub struct Formula {
     pub(crate) vars: u32,
     pub(crate) lits: Vec<Lit>,
-    pub(crate) heads: Vec<Head>,
+    pub(crate) heads: Vec<ConstraintHead>,
     pub(crate) places: Places,
     pub(crate) assumed: Assumed,
 }
@@ -110,9 +110,9 @@ impl Formula {
         let head = self.heads[place];
         let lits = &self.lits[head.start..head.start + head.len];
         match head.kind {
-            Kind::Clause => ConstraintRef::Clause(lits),
-            Kind::Parity => ConstraintRef::Parity(lits),
-            Kind::Assume => ConstraintRef::Assume(lits),
+            ConstraintKind::Clause => ConstraintRef::Clause(lits),
+            ConstraintKind::Parity => ConstraintRef::Parity(lits),
+            ConstraintKind::Assume => ConstraintRef::Assume(lits),
         }
     }
 
@@ -195,7 +195,7 @@ impl Formula {
         self.assumes(Lit::new(Var::new(size as u32), integer > 0))
     }
 
-    /// The same of the literals of integers, of whatever magnitude.
+    /// `is_ending` for the literals of integers, whatever their magnitude.
     pub fn is_ending_integers(&self, integers: &[i64]) -> bool
         ensures { result ≡ is_ending self.now.constraints (literals integers.now) }
     {

@@ -2,7 +2,7 @@
 ghost use Rattle.std.specs.Prelude.{◌≡◌, [], ◌++◌, OnOk, OnErr};
 ghost use Rattle.cx_base.specs.Places.{clause_place, parity_place};
 
-use crate::formula::Kind;
+use crate::formula::ConstraintKind;
 use std::alloc::{AllocError, Global};
 
 /// The places of the clauses among the constraints, from 0 and in order, and those of the parities.
@@ -25,16 +25,16 @@ impl Places {
     }
 
     /// One more place, for a constraint of this kind. Without memory the places stay.
-    pub fn push(&mut self, kind: Kind, place: usize) -> Result<(), AllocError>
+    pub fn push(&mut self, kind: ConstraintKind, place: usize) -> Result<(), AllocError>
         ensures clauses { OnOk result (self.new.clauses.items ≡ self.old.clauses.items ++ clause_place kind place) }
         ensures parities { OnOk result (self.new.parities.items ≡ self.old.parities.items ++ parity_place kind place) }
         ensures same_clauses { OnErr result (self.new.clauses.items ≡ self.old.clauses.items) }
         ensures same_parities { OnErr result (self.new.parities.items ≡ self.old.parities.items) }
     {
         match kind {
-            Kind::Clause => self.clauses.push(place)?,
-            Kind::Parity => self.parities.push(place)?,
-            Kind::Assume => {}
+            ConstraintKind::Clause => self.clauses.push(place)?,
+            ConstraintKind::Parity => self.parities.push(place)?,
+            ConstraintKind::Assume => {}
         }
         Ok(())
     }

@@ -1,7 +1,7 @@
 -- What a read from a stream and a write to one did, and what was noted of it.
 use Rattle.std.specs.Prelude.{◌≡◌, ◌<◌, ◌≤◌, ℕ, take, length, Some, true, option_map, string_bytes, Result, IfOk, MatchResult, Option, MatchOption}
 use Rattle.std.specs.Io.KnownBytes.{Keeps, Consumes, Appends, IsAtEnd}
-use Rattle.cx_system.specs.declared.source.Source.{Source}
+use Rattle.cx_system.specs.declared.source.RealSlot.{RealSlot}
 use Rattle.cx_desk.specs.Gave.{Gave, nothing, piece, joined}
 use Rattle.cx_desk.specs.Noted.{gave_of}
 use Rattle.cx_desk.specs.Outside.{Bytes}
@@ -17,7 +17,7 @@ WritesNoted bytes old faults result new after = MatchResult result
     (λ _. (new ≡ old) × Rose faults after)
 
 -- the name is kept; where the file was opened, nothing of it was given yet
-abbrev pub StartsReal : {T E : Type 0} → Bytes → Source → ℕ → Result T E → Source → ℕ → Type 0
+abbrev pub StartsReal : {T E : Type 0} → Bytes → RealSlot → ℕ → Result T E → RealSlot → ℕ → Type 0
 StartsReal name old faults result new after = MatchResult result
     (λ _. (option_map string_bytes new.name ≡ Some name) × (new.is_started ≡ true) × (gave_of new.gave ≡ nothing) × (after ≡ faults))
     (λ _. (option_map string_bytes new.name ≡ Some name) × (new.is_started ≡ old.is_started) × (gave_of new.gave ≡ gave_of old.gave) × Rose faults after)

@@ -2,7 +2,7 @@
 ghost use Rattle.std.specs.Prelude.{◌≡◌};
 ghost use Rattle.cx_system.specs.Real.{outside_of, IsUntouched};
 
-use crate::source::{Source, id_of, read_at, start_at};
+use crate::source::{RealSlot, id_of, read_at, start_at};
 use crate::streams::{count_fault, put_on};
 use cx_desk::{Desk, Failed, Port, Slot, Transcript};
 use std::fs::{File, OpenOptions};
@@ -14,8 +14,8 @@ use std::fs::{File, OpenOptions};
 #[derive(Drop)]
 pub struct RealDesk {
     rt: HostRuntime,
-    formula: Source,
-    second: Source,
+    formula: RealSlot,
+    second: RealSlot,
     proof_name: Option<String>,
     proof: Option<File>,
     answer: Transcript,
@@ -27,8 +27,8 @@ pub struct RealDesk {
 }
 
 /// Opens a file that is written from its start. One that a slot reads is left as it is, by whatever name it is meant:
-/// else a log would be lost where its proof is to stand in its place.
-fn create_at(rt: &HostRuntime, formula: &Source, second: &Source, name: &str) -> Option<File> {
+/// otherwise a log would be lost where its proof is to come in its place.
+fn create_at(rt: &HostRuntime, formula: &RealSlot, second: &RealSlot, name: &str) -> Option<File> {
     let file = match OpenOptions::new().write(true).create(true).open(rt, name) {
         Ok(file) => file,
         Err(_) => return None,
@@ -48,8 +48,8 @@ impl RealDesk {
     {
         RealDesk {
             rt,
-            formula: Source::none(),
-            second: Source::none(),
+            formula: RealSlot::none(),
+            second: RealSlot::none(),
             proof_name: None,
             proof: None,
             answer: Transcript::new(),

@@ -19,7 +19,7 @@ pub enum Stream {
 
 /// A slot: its name, where it reads from, and what that gave.
 #[derive(Drop)]
-pub struct Source {
+pub struct RealSlot {
     pub name: Option<String>,
     pub stream: Stream,
     pub is_started: bool,
@@ -44,12 +44,12 @@ pub fn id_of(file: &File) -> Option<FileId> {
     }
 }
 
-impl Source {
+impl RealSlot {
     /// A slot that was asked for nothing.
     pub fn none() -> Self
         ensures { (result.name ≡ None) × (result.is_started ≡ false) × (gave_of result.gave ≡ nothing) }
     {
-        Source {
+        RealSlot {
             name: None,
             stream: Stream::Closed,
             is_started: false,
@@ -69,7 +69,7 @@ impl Source {
 /// Opens a file, or the standard input where that is meant by a dash.
 pub fn start_at(
     rt: &HostRuntime,
-    source: &mut Source,
+    source: &mut RealSlot,
     faults: &mut u64,
     name: String,
     dash_is_input: bool,

@@ -19,7 +19,7 @@ use Rattle.gf2_matrix.specs.Views.{IsView, viewed_form}
 use Rattle.gf2_matrix.specs.Content.{Content, IsOfGiven, has, row_at, form}
 use Rattle.gf2_matrix.proofs.Columns.{place_found}
 use Rattle.gf2_matrix.proofs.Numbered.{numbers-append}
-use Rattle.gauss_jordan.specs.declared.slot.Slot.{Slot}
+use Rattle.gauss_jordan.specs.declared.slot.RowSlot.{RowSlot}
 use Rattle.parity_engine.specs.declared.state.Naming.{Naming}
 use Rattle.gauss_jordan.specs.Slots.{first_bits, row_of, value_or_false, IsSlotOf, AreTerms, AreSources, IsCopy, IsSlotSum}
 
@@ -64,7 +64,7 @@ swap_last false true false = refl
 swap_last false false true = refl
 swap_last false false false = refl
 
-pub sum_more : (slot : Slot) (held : List (Option Held)) (n : ℕ) (b : Bool) → IsSlotSum slot held n b
+pub sum_more : (slot : RowSlot) (held : List (Option Held)) (n : ℕ) (b : Bool) → IsSlotSum slot held n b
     → IsSlotSum slot held (n + 1) (differ b (bit_of slot.terms.items n && value_or_false (get_or held n None)))
 sum_more slot held n b before =
     let f : ℕ → Bool = λ x. bit_of slot.terms.items x && value_or_false (get_or held x None) in
@@ -74,7 +74,7 @@ sum_more slot held n b before =
     ∙ swap_last (odd_sum (map f (range_with_len 0 n))) (f n) slot.right ∙ ap (λ s. differ s (f n)) before
 
 -- ---- the copy
-pub copied : (c : Content) (row : ℕ) (naming : Naming) (old new : Slot) → IsOfGiven c → row < length c.rows → IsSlotOf c old → AreTerms c row old.terms.items new.terms.items c.vars
+pub copied : (c : Content) (row : ℕ) (naming : Naming) (old new : RowSlot) → IsOfGiven c → row < length c.rows → IsSlotOf c old → AreTerms c row old.terms.items new.terms.items c.vars
     → AreSources c row new.sources.items (length c.given) → length new.sources.items ≡ length old.sources.items → new.right ≡ (row_at c.rows row).right → new.naming ≡ Some naming
     → IsCopy c row naming new
 copied c row naming old new of_given lt fits terms sources long right naming_is =
@@ -100,7 +100,7 @@ place-all n x lt =
     ap (place (range_with_len 1 n)) (sym at)
     ∙ place_found 1 (range_with_len 1 n) x (columns_rise 1 n (range_with_len 1 n) (rise_range n 1 n (omega arith))) (omega (arith, length-range_with_len 1 n))
 
-pub slot_view : (c : Content) (slot : Slot) → c.vars ≤ MAX_VARIABLE → IsSlotOf c slot → IsView c.vars (range_with_len 1 c.vars) 0 slot.terms.items
+pub slot_view : (c : Content) (slot : RowSlot) → c.vars ≤ MAX_VARIABLE → IsSlotOf c slot → IsView c.vars (range_with_len 1 c.vars) 0 slot.terms.items
 slot_view c slot few fits = record {
   few = few;
   low = omega arith;
@@ -109,7 +109,7 @@ slot_view c slot few fits = record {
   padded = λ k ge. fits.padded k (omega (arith, length-range_with_len 1 c.vars));
 }
 
-pub slot_form : (c : Content) (slot : Slot) → viewed_form c.vars (range_with_len 1 c.vars) 0 slot.terms.items slot.right ≡ form (row_of c slot)
+pub slot_form : (c : Content) (slot : RowSlot) → viewed_form c.vars (range_with_len 1 c.vars) 0 slot.terms.items slot.right ≡ form (row_of c slot)
 slot_form c slot =
     ap (λ ts. let e : Equation = record { terms = ts; right = slot.right } in form_of e)
     (range_same (λ x. bit_of slot.terms.items (0 + place (range_with_len 1 c.vars) (x + 1))) (bit_of slot.terms.items) 0 c.vars

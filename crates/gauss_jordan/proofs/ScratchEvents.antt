@@ -18,7 +18,7 @@ use Rattle.gf2_matrix.specs.Content.{Content, SourcedRow, IsOfGiven, IsSameShape
 use Rattle.gf2_matrix.specs.Views.{words_for}
 use Rattle.gf2_matrix.proofs.Products.{total-over}
 use Rattle.cx_base.specs.Parity.{odd_sum}
-use Rattle.gauss_jordan.specs.declared.slot.Slot.{Slot}
+use Rattle.gauss_jordan.specs.declared.slot.RowSlot.{RowSlot}
 use Rattle.parity_engine.specs.declared.state.Naming.{Naming}
 use Rattle.parity_engine.specs.declared.state.Held.{Held}
 use Rattle.parity_engine.specs.declared.state.Mood.{Mood}
@@ -28,7 +28,7 @@ use Rattle.parity_engine.specs.Written.{AreRising}
 use Rattle.parity_engine.proofs.Known.{none_is}
 use Rattle.parity_engine.proofs.Rising.{numbers_rise}
 use Rattle.gauss_jordan.specs.System.{just_value, has_at, filled, IsOneOpen}
-use Rattle.gauss_jordan.specs.declared.found.Found.TheVariants as found
+use Rattle.gauss_jordan.specs.declared.found.FoundRow.TheVariants as found
 use Rattle.gauss_jordan.specs.Found.{IsMasked, Shows}
 use Rattle.gauss_jordan.specs.Right.{IsRightState, column_at}
 use Rattle.gauss_jordan.specs.Slots.{row_of, named_as, named_of, state_of, value_or_false, AreMasks, IsSlotOf, IsEmptySlot, IsCopy, IsNamedSlot, IsSlotSum, IsScratch}
@@ -50,7 +50,7 @@ pub value-is : (o : Option Held) → value_or_false o ≡ unwrap_or (just_value 
 value-is None = refl
 value-is (Some h) = refl
 
-refit : (c d : Content) (slot : Slot) → c.vars ≡ d.vars → c.given ≡ d.given → IsSlotOf c slot → IsSlotOf d slot
+refit : (c d : Content) (slot : RowSlot) → c.vars ≡ d.vars → c.given ≡ d.given → IsSlotOf c slot → IsSlotOf d slot
 refit c d slot ev eg f = record {
   terms = f.terms ∙ ap words_for ev;
   sources = f.sources ∙ ap (λ gs. words_for (length gs)) eg;
@@ -58,13 +58,13 @@ refit c d slot ev eg f = record {
 }
 
 -- what the copy of a row is named for
-pub copy_named : (c : Content) (row : ℕ) (m : Naming) (slot : Slot) → IsCopy c row m slot
+pub copy_named : (c : Content) (row : ℕ) (m : Naming) (slot : RowSlot) → IsCopy c row m slot
     → named_of c slot ≡ Some (record { level = m.level; in_conflict = m.in_conflict; form = form (row_at c.rows row); sources = source_numbers (row_at c.rows row) })
 copy_named c row m slot copy =
     ap (named_as c slot) copy.naming_is
     ∙ ap (λ (r : SourcedRow). let o : Option Named = Some (record { level = m.level; in_conflict = m.in_conflict; form = form r; sources = source_numbers r }) in o) copy.row_is
 
-module _ (c : Content) (level : ℕ) (held : List (Option Held)) (on ts : List ℕ) (slots : List Slot) (mood : Mood)
+module _ (c : Content) (level : ℕ) (held : List (Option Held)) (on ts : List ℕ) (slots : List RowSlot) (mood : Mood)
     (is : IsScratch c level held on ts slots mood) (whole : mood ≢ Broken) (filled_in : AreMasks c.columns held on ts (length c.columns)) where
   pub masked : IsMasked (state_of c level held slots mood) c on ts
   masked = record {
@@ -89,7 +89,7 @@ module _ (c : Content) (level : ℕ) (held : List (Option Held)) (on ts : List �
     fits = is.fits;
   }
 
-  set_fits : (k : ℕ) (slot : Slot) → IsSlotOf c slot → (j : ℕ) (d : Slot) → j < length (set slots k slot) → IsSlotOf c (get_or (set slots k slot) j d)
+  set_fits : (k : ℕ) (slot : RowSlot) → IsSlotOf c slot → (j : ℕ) (d : RowSlot) → j < length (set slots k slot) → IsSlotOf c (get_or (set slots k slot) j d)
   set_fits k slot fits j d lt =
       let inside : j < length slots = omega (arith, length-set slots k slot) in
       elim (cases_eq j k) [
@@ -98,7 +98,7 @@ module _ (c : Content) (level : ℕ) (held : List (Option Held)) (on ts : List �
       ]
 
   -- the state with a row named
-  pub state_named : (k : ℕ) (slot : Slot) (n : Named) (index : ℕ) (m : Mood) → named_of c slot ≡ Some n → index ≡ k
+  pub state_named : (k : ℕ) (slot : RowSlot) (n : Named) (index : ℕ) (m : Mood) → named_of c slot ≡ Some n → index ≡ k
       → state_of c level held (set slots k slot) m ≡ names (state_of c level held slots mood) index n m
   state_named k slot n index m named at =
       ap (λ (ns : List (Option Named)). let s : State = record { vars = c.vars; parities = c.given; level = level; values = held; named = ns; mood = m } in s)
@@ -113,7 +113,7 @@ module _ (c : Content) (level : ℕ) (held : List (Option Held)) (on ts : List �
     sums = is.of_given.sums row lt;
   }
 
-  pub contradiction : (row : ℕ) (slot : Slot) (index : ℕ) → row < length c.rows → index ≡ length c.columns
+  pub contradiction : (row : ℕ) (slot : RowSlot) (index : ℕ) → row < length c.rows → index ≡ length c.columns
       → IsCopy c row (record { level = level; in_conflict = true }) slot
       → IsBroken (state_of c level held slots mood) (form (row_at c.rows row))
       → IsScratch c level held on ts (set slots (length c.columns) slot) Broken
@@ -141,7 +141,7 @@ module _ (c : Content) (level : ℕ) (held : List (Option Held)) (on ts : List �
       cases (get_or (map (named_of c) slots) index None) refl
 
   -- what is known of a row that is named for the variable of column k
-  pub record IsFit (k : ℕ) (slot : Slot) (n : Named) : Type 0 where
+  pub record IsFit (k : ℕ) (slot : RowSlot) (n : Named) : Type 0 where
     pub named : named_of c slot ≡ Some n
     pub fits : IsSlotOf c slot
     pub same : (index : ℕ) → index ≡ k → IsSameNamed (named_at (state_of c level held slots mood) index) n
@@ -150,11 +150,11 @@ module _ (c : Content) (level : ℕ) (held : List (Option Held)) (on ts : List �
     pub others : (y : ℕ) → y ≢ column_at c.columns k → has_at n.form y ≡ true → is_unassigned (get_or held y None) ≡ false
     pub kept_is : n.form ≡ form (row_of c slot)
 
-  named-at : (k : ℕ) (d : Slot) → k < length slots → get_or (map (named_of c) slots) k None ≡ named_of c (get_or slots k d)
+  named-at : (k : ℕ) (d : RowSlot) → k < length slots → get_or (map (named_of c) slots) k None ≡ named_of c (get_or slots k d)
   named-at k d lt = get_or-map (named_of c) slots k d None lt
 
-  pub fit_copy : (k row : ℕ) (slot d : Slot) → k < length slots → row < length c.rows → IsCopy c row (record { level = level; in_conflict = false }) slot
-      → (let e : Slot = get_or slots k d in e.naming) ≡ None
+  pub fit_copy : (k row : ℕ) (slot d : RowSlot) → k < length slots → row < length c.rows → IsCopy c row (record { level = level; in_conflict = false }) slot
+      → (let e : RowSlot = get_or slots k d in e.naming) ≡ None
       → has_at (form (row_at c.rows row)) (column_at c.columns k) ≡ true
       → ((y : ℕ) → y ≢ column_at c.columns k → has_at (form (row_at c.rows row)) y ≡ true → is_unassigned (get_or held y None) ≡ false)
       → (n : Named) × IsFit k slot n
@@ -175,10 +175,10 @@ module _ (c : Content) (level : ℕ) (held : List (Option Held)) (on ts : List �
       )
 
   -- a slot that is still named for an unassigned variable
-  pub fit_old : (k : ℕ) (d : Slot) (m : Naming) → k < length c.columns → k < length slots → (let e : Slot = get_or slots k d in e.naming) ≡ Some m
+  pub fit_old : (k : ℕ) (d : RowSlot) (m : Naming) → k < length c.columns → k < length slots → (let e : RowSlot = get_or slots k d in e.naming) ≡ Some m
       → get_or held (column_at c.columns k) None ≡ None → (n : Named) × IsFit k (get_or slots k d) n
   fit_old k d m k_in in' naming free =
-      let slot : Slot = get_or slots k d in
+      let slot : RowSlot = get_or slots k d in
       let n : Named = record { level = m.level; in_conflict = m.in_conflict; form = form (row_of c slot); sources = source_numbers (row_of c slot) } in
       let made : named_of c slot ≡ Some n = ap (named_as c slot) naming in
       let at : get_or (map (named_of c) slots) k None ≡ Some n = named-at k d in' ∙ made in
@@ -202,7 +202,7 @@ module _ (c : Content) (level : ℕ) (held : List (Option Held)) (on ts : List �
       ]
 
   -- a slot that was named now or before
-  fit_named : (k row : ℕ) (old new d : Slot) → k < length c.columns → k < length slots → row < length c.rows → old ≡ get_or slots k d
+  fit_named : (k row : ℕ) (old new d : RowSlot) → k < length c.columns → k < length slots → row < length c.rows → old ≡ get_or slots k d
       → IsNamedSlot c row (record { level = level; in_conflict = false }) old new old.naming
       → get_or held (column_at c.columns k) None ≡ None
       → has_at (form (row_at c.rows row)) (column_at c.columns k) ≡ true
@@ -211,13 +211,13 @@ module _ (c : Content) (level : ℕ) (held : List (Option Held)) (on ts : List �
   fit_named k row old new d k_in in' lt read named free has_x others =
       let cases : (o : Option Naming) → old.naming ≡ o → IsNamedSlot c row (record { level = level; in_conflict = false }) old new o → (n : Named) × IsFit k new n =
       elim [
-        | None ↦ λ e copy. fit_copy k row new d in' lt copy (ap (λ (s : Slot). s.naming) (sym read) ∙ e) has_x others
-        | Some m ↦ λ e same. subst (λ (s : Slot). (n : Named) × IsFit k s n) (sym (same ∙ read)) (fit_old k d m k_in in' (ap (λ (s : Slot). s.naming) (sym read) ∙ e) free)
+        | None ↦ λ e copy. fit_copy k row new d in' lt copy (ap (λ (s : RowSlot). s.naming) (sym read) ∙ e) has_x others
+        | Some m ↦ λ e same. subst (λ (s : RowSlot). (n : Named) × IsFit k s n) (sym (same ∙ read)) (fit_old k d m k_in in' (ap (λ (s : RowSlot). s.naming) (sym read) ∙ e) free)
       ] in
       cases old.naming refl named
 
   -- what is known once the row of the literal that the rows say is named in slot k
-  pub record IsTold (k : ℕ) (slot : Slot) (n : Named) : Type 0 where
+  pub record IsTold (k : ℕ) (slot : RowSlot) (n : Named) : Type 0 where
     pub column_in : k < length c.columns
     pub slot_in : k < length slots
     pub fit : IsFit k slot n
@@ -225,7 +225,7 @@ module _ (c : Content) (level : ℕ) (held : List (Option Held)) (on ts : List �
     pub high : get_or c.columns k 0 ≤ c.vars
     pub free : get_or held (column_at c.columns k) None ≡ None
 
-  pub literal_told : (k row : ℕ) (b : Bool) (old new d : Slot) → Shows c on ts (found.Literal row k b) → old ≡ get_or slots k d
+  pub literal_told : (k row : ℕ) (b : Bool) (old new d : RowSlot) → Shows c on ts (found.Literal row k b) → old ≡ get_or slots k d
       → IsNamedSlot c row (record { level = level; in_conflict = false }) old new old.naming → (n : Named) × IsTold k new n
   literal_told k row b old new d says read named =
       let ri = is.right in
@@ -238,7 +238,7 @@ module _ (c : Content) (level : ℕ) (held : List (Option Held)) (on ts : List �
       (made.0, record { column_in = says.1; slot_in = in'; fit = made.1; low = implied.low; high = implied.high; free = free })
 
   -- what the named row implies, and the engine that keeps it
-  module _ (k : ℕ) (slot : Slot) (n : Named) (told : IsTold k slot n) where
+  module _ (k : ℕ) (slot : RowSlot) (n : Named) (told : IsTold k slot n) where
     pub fit_implied : (b : Bool) → IsSlotSum slot held (length held) b
         → IsImplied (state_of c level held slots mood) (record { variable = get_or c.columns k 0; negative = not b }) n.form
     fit_implied b sums =
@@ -290,11 +290,11 @@ module _ (c : Content) (level : ℕ) (held : List (Option Held)) (on ts : List �
 
 -- ---- the matrix reduced, the masks filled
 -- the state rests on no row of the matrix
-pub state_shape : (c d : Content) (level : ℕ) (held : List (Option Held)) (slots : List Slot) (mood : Mood) → IsSameShape c d
+pub state_shape : (c d : Content) (level : ℕ) (held : List (Option Held)) (slots : List RowSlot) (mood : Mood) → IsSameShape c d
     → state_of d level held slots mood ≡ state_of c level held slots mood
 state_shape c d level held slots mood shape = ap (λ (q : Content). state_of q level held slots mood) (same_shape c d shape)
 
-pub refreshed : (c d : Content) (level : ℕ) (held : List (Option Held)) (masks truths on ts : List ℕ) (slots : List Slot) (mood : Mood)
+pub refreshed : (c d : Content) (level : ℕ) (held : List (Option Held)) (masks truths on ts : List ℕ) (slots : List RowSlot) (mood : Mood)
     → IsScratch c level held masks truths slots mood → IsSameShape c d → IsOfGiven d → length on ≡ words_for (length c.columns) → length ts ≡ words_for (length c.columns)
     → IsScratch d level held on ts slots mood
 refreshed c d level held masks truths on ts slots mood is shape of_given on_long ts_long =
@@ -313,15 +313,15 @@ refreshed c d level held masks truths on ts slots mood is shape of_given on_long
     })
 
 -- ---- lists of sources
-named-sources : (c : Content) (slot : Slot) (o : Option Naming) (n : Named) → named_as c slot o ≡ Some n → source_numbers (row_of c slot) ≡ n.sources
+named-sources : (c : Content) (slot : RowSlot) (o : Option Naming) (n : Named) → named_as c slot o ≡ Some n → source_numbers (row_of c slot) ≡ n.sources
 named-sources c slot None n is = cc
 named-sources c slot (Some m) n is = ap (λ (p : Option Named). (unwrap_or p n).sources) is
 
-sources-are : (c : Content) (slot : Slot) (n : Named) → named_of c slot ≡ Some n → source_numbers (row_of c slot) ≡ n.sources
+sources-are : (c : Content) (slot : RowSlot) (n : Named) → named_of c slot ≡ Some n → source_numbers (row_of c slot) ≡ n.sources
 sources-are c slot n is = named-sources c slot slot.naming n is
 
-pub sources_listed : (c : Content) (level : ℕ) (held : List (Option Held)) (masks truths : List ℕ) (slots : List Slot) (mood : Mood)
-    → IsScratch c level held masks truths slots mood → (index : ℕ) (d : Slot) (numbers : List ℕ)
+pub sources_listed : (c : Content) (level : ℕ) (held : List (Option Held)) (masks truths : List ℕ) (slots : List RowSlot) (mood : Mood)
+    → IsScratch c level held masks truths slots mood → (index : ℕ) (d : RowSlot) (numbers : List ℕ)
     → numbers ≡ source_numbers (row_of c (get_or slots index d)) → (n : Named)
     → named_at (state_of c level held slots mood) index ≡ Some n
     → (numbers ≡ n.sources) × AreRising 1 (length c.given) numbers × (n.form ≡ sum_of_numbers c.given numbers)
@@ -339,12 +339,12 @@ sources_listed c level held masks truths slots mood is index d numbers listed n 
     (same, subst (AreRising 1 (length c.given)) (sym same) sum.0, sum.1 ∙ ap (sum_of_numbers c.given) (sym same))
 
 -- ---- a look at a named row
-named-form : (c : Content) (slot : Slot) (o : Option Naming) (n : Named) → named_as c slot o ≡ Some n → form (row_of c slot) ≡ n.form
+named-form : (c : Content) (slot : RowSlot) (o : Option Naming) (n : Named) → named_as c slot o ≡ Some n → form (row_of c slot) ≡ n.form
 named-form c slot None n is = cc
 named-form c slot (Some m) n is = ap (λ (p : Option Named). (unwrap_or p n).form) is
 
-pub slot_seen : (c : Content) (level : ℕ) (held : List (Option Held)) (masks truths : List ℕ) (slots : List Slot) (mood : Mood)
-    → IsScratch c level held masks truths slots mood → (index : ℕ) (d : Slot) (n : Named) → named_at (state_of c level held slots mood) index ≡ Some n
+pub slot_seen : (c : Content) (level : ℕ) (held : List (Option Held)) (masks truths : List ℕ) (slots : List RowSlot) (mood : Mood)
+    → IsScratch c level held masks truths slots mood → (index : ℕ) (d : RowSlot) (n : Named) → named_at (state_of c level held slots mood) index ≡ Some n
     → IsSlotOf c (get_or slots index d) × (form (row_of c (get_or slots index d)) ≡ n.form)
 slot_seen c level held masks truths slots mood is index d n named =
     let inside : index < length slots =
@@ -352,7 +352,7 @@ slot_seen c level held masks truths slots mood is index d n named =
       | inl lt ↦ lt
       | inr ge ↦ absurd (let clash : None ≡ Some n = sym (get_or-eq_default (map (named_of c) slots) None (omega (arith, length-map slots (named_of c)))) ∙ named in cc)
     ] in
-    (is.fits index d inside, named-form c (get_or slots index d) (let e : Slot = get_or slots index d in e.naming) n (sym (get_or-map (named_of c) slots index d None inside) ∙ named))
+    (is.fits index d inside, named-form c (get_or slots index d) (let e : RowSlot = get_or slots index d in e.naming) n (sym (get_or-map (named_of c) slots index d None inside) ∙ named))
 
 -- ---- an event after a contradiction
 pub set_same : {A : Type 0} (xs : List A) (k : ℕ) (a d : A) → k < length xs → get_or xs k d ≡ a → set xs k a ≡ xs
@@ -360,7 +360,7 @@ set_same [] k a d lt is = absurd (omega arith)
 set_same (x ∷ xs) zero a d lt is = ap (λ y. y ∷ xs) (sym is)
 set_same (x ∷ xs) (suc k) a d lt is = ap (λ ys. x ∷ ys) (set_same xs k a d (omega arith) is)
 
--- the same contradiction is answered again
+-- that contradiction is answered again
 pub broken_again : (columns : List ℕ) (s : State) (row : ℕ) → IsRightState columns s → s.mood ≡ Broken → row ≡ length columns
     → (n : Named) × (row < length s.named) × (s ≡ names s row n Broken) × IsSameNamed (named_at s row) n × IsNamedNow s n true × IsBroken s n.form
 broken_again columns s row right is at =
@@ -378,18 +378,18 @@ broken_again columns s row right is at =
     )
 
 -- ---- slots at the start
-pub record AreEmpty (vars count : ℕ) (slots : List Slot) (n : ℕ) : Type 0 where
+pub record AreEmpty (vars count : ℕ) (slots : List RowSlot) (n : ℕ) : Type 0 where
   pub long : length slots ≡ n
-  pub each : (k : ℕ) (d : Slot) → k < n → IsEmptySlot vars count (get_or slots k d)
+  pub each : (k : ℕ) (d : RowSlot) → k < n → IsEmptySlot vars count (get_or slots k d)
 
 pub empty_none : (vars count : ℕ) → AreEmpty vars count [] 0
 empty_none vars count = record { long = refl; each = λ k d lt. absurd (omega arith) }
 
-pub empty_more : (vars count : ℕ) (slots more : List Slot) (n : ℕ) (slot : Slot) → AreEmpty vars count slots n → more ≡ slots ++ slot ∷ [] → IsEmptySlot vars count slot
+pub empty_more : (vars count : ℕ) (slots more : List RowSlot) (n : ℕ) (slot : RowSlot) → AreEmpty vars count slots n → more ≡ slots ++ slot ∷ [] → IsEmptySlot vars count slot
     → AreEmpty vars count more (n + 1)
 empty_more vars count slots more n slot before is one =
     let long = before.long in
-    subst (λ (ss : List Slot). AreEmpty vars count ss (n + 1)) (sym is)
+    subst (λ (ss : List RowSlot). AreEmpty vars count ss (n + 1)) (sym is)
     (record {
       long = omega (arith, length-append slots (slot ∷ []));
       each = λ k d lt.
@@ -399,14 +399,14 @@ empty_more vars count slots more n slot before is one =
           ];
     })
 
-none_named : (c : Content) (vars count : ℕ) (slots : List Slot) → ((k : ℕ) (d : Slot) → k < length slots → IsEmptySlot vars count (get_or slots k d))
+none_named : (c : Content) (vars count : ℕ) (slots : List RowSlot) → ((k : ℕ) (d : RowSlot) → k < length slots → IsEmptySlot vars count (get_or slots k d))
     → map (named_of c) slots ≡ replicate (length slots) None
 none_named c vars count [] empty = refl
 none_named c vars count (slot ∷ slots) empty =
     (λ i. named_as c slot ((empty 0 slot (omega arith)).unnamed i) ∷ none_named c vars count slots (λ k d lt. empty (suc k) d (omega arith)) i)
 
 -- the engine as it is made
-pub state_fresh : (c : Content) (vars columns : ℕ) (parities : List (List Literal)) (held : List (Option Held)) (slots : List Slot) → c.vars ≡ vars → c.given ≡ parities
+pub state_fresh : (c : Content) (vars columns : ℕ) (parities : List (List Literal)) (held : List (Option Held)) (slots : List RowSlot) → c.vars ≡ vars → c.given ≡ parities
     → held ≡ replicate vars None → AreEmpty c.vars (length c.given) slots (columns + 1)
     → state_of c 0 held slots Busy ≡ fresh vars parities (columns + 1)
 state_fresh c vars columns parities held slots vars_is given_is held_is empty =
@@ -414,7 +414,7 @@ state_fresh c vars columns parities held slots vars_is given_is held_is empty =
     none_named c c.vars (length c.given) slots (λ k d lt. empty.each k d (let h = empty.long in omega arith)) ∙ ap (λ n. replicate n (let o : Option Named = None in o)) empty.long in
     λ i. record { vars = vars_is i; parities = given_is i; level = 0; values = held_is i; named = named i; mood = Busy }
 
-pub scratch_fresh : (c : Content) (vars : ℕ) (parities : List (List Literal)) (held : List (Option Held)) (on ts : List ℕ) (slots : List Slot) → IsOfGiven c → c.vars ≡ vars → c.given ≡ parities
+pub scratch_fresh : (c : Content) (vars : ℕ) (parities : List (List Literal)) (held : List (Option Held)) (on ts : List ℕ) (slots : List RowSlot) → IsOfGiven c → c.vars ≡ vars → c.given ≡ parities
     → c.vars ≤ MAX_VARIABLE → length c.given < 2 ^ 32 → held ≡ replicate vars None → AreEmpty c.vars (length c.given) slots (length c.columns + 1)
     → length on ≡ words_for (length c.columns) → length ts ≡ words_for (length c.columns) → IsScratch c 0 held on ts slots Busy
 scratch_fresh c vars parities held on ts slots of_given vars_is given_is few few_given held_is empty on_long ts_long = record {
@@ -432,8 +432,8 @@ scratch_fresh c vars parities held on ts slots of_given vars_is given_is few few
       record { terms = e.terms; sources = e.sources; padded = λ j ge. e.clear j };
 }
 
-pub made_empty : (n m k vars count columns : ℕ) (slots : List Slot) → n ≡ vars → m ≡ count → k ≡ columns → length slots ≡ k + 1
-    → ((j : ℕ) (d : Slot) → j < k + 1 → IsEmptySlot n m (get_or slots j d)) → AreEmpty vars count slots (columns + 1)
+pub made_empty : (n m k vars count columns : ℕ) (slots : List RowSlot) → n ≡ vars → m ≡ count → k ≡ columns → length slots ≡ k + 1
+    → ((j : ℕ) (d : RowSlot) → j < k + 1 → IsEmptySlot n m (get_or slots j d)) → AreEmpty vars count slots (columns + 1)
 made_empty n m k vars count columns slots e f g long each =
     subst (λ j. AreEmpty vars count slots (j + 1)) g
     (subst (λ v. AreEmpty v count slots (k + 1)) e (subst (λ j. AreEmpty n j slots (k + 1)) f (record { long = long; each = each })))

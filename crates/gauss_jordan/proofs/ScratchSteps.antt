@@ -5,7 +5,7 @@ use Rattle.std.proofs.lemmas.List.{length-map, ext_get_or, get_or-map}
 use Rattle.gf2_rows.specs.Bits.{bit_of}
 use Rattle.gf2_matrix.specs.Content.{Content, SourcedRow, form, source_numbers}
 use Rattle.gf2_matrix.proofs.Updates.{changed_more, left_more}
-use Rattle.gauss_jordan.specs.declared.slot.Slot.{Slot}
+use Rattle.gauss_jordan.specs.declared.slot.RowSlot.{RowSlot}
 use Rattle.parity_engine.specs.declared.state.Naming.{Naming}
 use Rattle.parity_engine.specs.declared.state.Held.{Held}
 use Rattle.parity_engine.specs.declared.state.Mood.{Mood}
@@ -41,10 +41,10 @@ held_all level old new n so_far all =
     ext_get_or None new (map (keep level) old) (so_far.long ∙ sym (length-map old (keep level)))
     (λ k lt. let small : k < length old = let h = so_far.long in omega arith in so_far.done k None (omega arith) ∙ sym (get_or-map (keep level) old k None None small))
 
-pub slots_none : (level : ℕ) (slots : List Slot) → AreKept level slots slots 0
+pub slots_none : (level : ℕ) (slots : List RowSlot) → AreKept level slots slots 0
 slots_none level slots = record { long = refl; done = λ k d lt. absurd (omega arith); left = λ k d ge. refl }
 
-pub slots_more : (level : ℕ) (old new : List Slot) (k : ℕ) (e v : Slot) → AreKept level old new k → k < length old → IsKeptSlot level (get_or new k e) v → AreKept level old (set new k v) (k + 1)
+pub slots_more : (level : ℕ) (old new : List RowSlot) (k : ℕ) (e v : RowSlot) → AreKept level old new k → k < length old → IsKeptSlot level (get_or new k e) v → AreKept level old (set new k v) (k + 1)
 slots_more level old new k e v before lt is =
     let within : k < length new = let h = before.long in omega arith in
     record {
@@ -55,46 +55,46 @@ slots_more level old new k e v before lt is =
 
 -- ---- the state
 -- the row of a slot rests on its words alone
-row-kept : (c : Content) (level : ℕ) (old new : Slot) → IsKeptSlot level old new → row_of c new ≡ row_of c old
+row-kept : (c : Content) (level : ℕ) (old new : RowSlot) → IsKeptSlot level old new → row_of c new ≡ row_of c old
 row-kept c level old new kept = λ i. record { terms = first_bits c.vars (kept.terms i); right = kept.right i; sources = first_bits (length c.given) (kept.sources i) }
 
-same_row : (c : Content) (level : ℕ) (old new : Slot) → IsKeptSlot level old new → (m : Option Naming) → named_as c new m ≡ named_as c old m
+same_row : (c : Content) (level : ℕ) (old new : RowSlot) → IsKeptSlot level old new → (m : Option Naming) → named_as c new m ≡ named_as c old m
 same_row c level old new kept None = refl
 same_row c level old new kept (Some m) =
     ap (λ (r : SourcedRow). let o : Option Named = Some (record { level = m.level; in_conflict = m.in_conflict; form = form r; sources = source_numbers r }) in o) (row-kept c level old new kept)
 
-naming-cases : (c : Content) (slot : Slot) (m : Naming) (b : Bool) → named_as c slot (cond b (Some m) None) ≡ cond b (named_as c slot (Some m)) None
+naming-cases : (c : Content) (slot : RowSlot) (m : Naming) (b : Bool) → named_as c slot (cond b (Some m) None) ≡ cond b (named_as c slot (Some m)) None
 naming-cases c slot m true = refl
 naming-cases c slot m false = refl
 
-naming-kept : (c : Content) (level : ℕ) (slot : Slot) (o : Option Naming) → named_as c slot (keep_naming level o) ≡ keep_named level (named_as c slot o)
+naming-kept : (c : Content) (level : ℕ) (slot : RowSlot) (o : Option Naming) → named_as c slot (keep_naming level o) ≡ keep_named level (named_as c slot o)
 naming-kept c level slot None = refl
 naming-kept c level slot (Some m) = naming-cases c slot m (not m.in_conflict && nat_le m.level level)
 
-first : (slots : List Slot) (k : ℕ) → k < length slots → Slot
+first : (slots : List RowSlot) (k : ℕ) → k < length slots → RowSlot
 first [] k lt = absurd (omega arith)
 first (s ∷ ss) k lt = s
 
-named-kept : (c : Content) (level : ℕ) (old new : Slot) → IsKeptSlot level old new → named_of c new ≡ keep_named level (named_of c old)
+named-kept : (c : Content) (level : ℕ) (old new : RowSlot) → IsKeptSlot level old new → named_of c new ≡ keep_named level (named_of c old)
 named-kept c level old new kept =
     ap (named_as c new) kept.naming
     ∙ same_row c level old new kept (keep_naming level old.naming)
     ∙ naming-kept c level old old.naming
 
-pub states_back : (c : Content) (level now : ℕ) (held : List (Option Held)) (old new : List Slot) (mood : Mood) → AreKept level old new (length old)
+pub states_back : (c : Content) (level now : ℕ) (held : List (Option Held)) (old new : List RowSlot) (mood : Mood) → AreKept level old new (length old)
     → map (named_of c) new ≡ map (keep_named level) (map (named_of c) old)
 states_back c level now held old new mood kept =
     ext_get_or None (map (named_of c) new) (map (keep_named level) (map (named_of c) old))
     (length-map new (named_of c) ∙ kept.long ∙ sym (length-map (map (named_of c) old) (keep_named level) ∙ length-map old (named_of c)))
     (λ k lt.
     let small : k < length old = let h = kept.long in omega (arith, length-map new (named_of c)) in
-    let d : Slot = get_or old k (first old k small) in
+    let d : RowSlot = get_or old k (first old k small) in
     get_or-map (named_of c) new k d None (let h = kept.long in omega arith)
     ∙ named-kept c level (get_or old k d) (get_or new k d) (kept.done k d small)
     ∙ ap (keep_named level) (sym (get_or-map (named_of c) old k d None small))
     ∙ sym (get_or-map (keep_named level) (map (named_of c) old) k None None (omega (arith, length-map old (named_of c)))))
 
-module _ (c : Content) (level : ℕ) (held : List (Option Held)) (masks truths : List ℕ) (slots : List Slot) (mood : Mood)
+module _ (c : Content) (level : ℕ) (held : List (Option Held)) (masks truths : List ℕ) (slots : List RowSlot) (mood : Mood)
     (is : IsScratch c level held masks truths slots mood) where
   pub scratch_pushed : mood ≡ Calm → IsScratch c (level + 1) held masks truths slots mood
   scratch_pushed calm = record {
@@ -119,7 +119,7 @@ module _ (c : Content) (level : ℕ) (held : List (Option Held)) (masks truths :
     fits = is.fits;
   }
 
-  pub scratch_back : (l : ℕ) (new : List Slot) → l < level → AreKept l slots new (length slots) → IsScratch c l (map (keep l) held) masks truths new Calm
+  pub scratch_back : (l : ℕ) (new : List RowSlot) → l < level → AreKept l slots new (length slots) → IsScratch c l (map (keep l) held) masks truths new Calm
   scratch_back l new lt kept = record {
     of_given = is.of_given;
     few = is.few;

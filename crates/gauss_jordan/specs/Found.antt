@@ -6,8 +6,8 @@ use Rattle.gf2_rows.specs.Bits.{bit_of}
 use Rattle.gf2_matrix.specs.Content.{Content, row_at, equation, form, has, IsOpenAt, HoldsValues}
 use Rattle.gauss_jordan.specs.declared.found.RowKind.{RowKind}
 use Rattle.gauss_jordan.specs.declared.found.RowKind.TheVariants.{Met, Unmet, Unit, Open}
-use Rattle.gauss_jordan.specs.declared.found.Found.{Found}
-use Rattle.gauss_jordan.specs.declared.found.Found.TheVariants.{Nothing, Literal, Contradiction}
+use Rattle.gauss_jordan.specs.declared.found.FoundRow.{FoundRow}
+use Rattle.gauss_jordan.specs.declared.found.FoundRow.TheVariants.{Nothing, Literal, Contradiction}
 use Rattle.parity_engine.specs.State.{State, is_unassigned, IsSilent, IsImplied, IsBroken}
 use Rattle.gauss_jordan.specs.System.{filled}
 
@@ -39,7 +39,7 @@ pub record IsMasked (s : State) (c : Content) (assigned truths : List ℕ) : Typ
   pub holds : HoldsValues c truths (filled s)
 
 -- what the rows say of each state with these masks
-abbrev pub Shows : Content → List ℕ → List ℕ → Found → Type 0
+abbrev pub Shows : Content → List ℕ → List ℕ → FoundRow → Type 0
 Shows c assigned truths Nothing = (s : State) → IsMasked s c assigned truths → IsSilent s
 Shows c assigned truths (Literal r k b) =
     (r < length c.rows) × (k < length c.columns)

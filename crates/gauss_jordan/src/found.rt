@@ -21,7 +21,7 @@ pub enum RowKind {
 
 /// The first row that says something.
 #[derive(Clone, Copy, Drop)]
-pub enum Found {
+pub enum FoundRow {
     Nothing,
     Literal(usize, usize, bool),
     Contradiction(usize),
@@ -55,7 +55,7 @@ fn kind_of(matrix: &Matrix, row: usize, assigned: &[u64], truths: &[u64]) -> Row
 }
 
 /// The first row that implies a literal or is contradicted.
-pub(crate) fn find(matrix: &Matrix, assigned: &[u64], truths: &[u64]) -> Found
+pub(crate) fn find(matrix: &Matrix, assigned: &[u64], truths: &[u64]) -> FoundRow
     requires long { length assigned.now ≡ words_for (length matrix.now.columns) }
     requires wide { length truths.now ≡ words_for (length matrix.now.columns) }
     requires reduced { (r : ℕ) → r < length matrix.now.rows → IsReducedRow matrix.now assigned.now r }
@@ -63,10 +63,10 @@ pub(crate) fn find(matrix: &Matrix, assigned: &[u64], truths: &[u64]) -> Found
 {
     for row in 0..matrix.rows() {
         match kind_of(matrix, row, assigned, truths) {
-            RowKind::Unmet => return Found::Contradiction(row),
-            RowKind::Unit(column, value) => return Found::Literal(row, column, value),
+            RowKind::Unmet => return FoundRow::Contradiction(row),
+            RowKind::Unit(column, value) => return FoundRow::Literal(row, column, value),
             RowKind::Met | RowKind::Open => {}
         }
     }
-    Found::Nothing
+    FoundRow::Nothing
 }

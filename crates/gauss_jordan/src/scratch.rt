@@ -7,9 +7,9 @@ ghost use Rattle.parity_engine.specs.State.{OfNamed, Reports, keep, named_at};
 ghost use Rattle.gauss_jordan.specs.Slots.{AreMasks, IsNamedSlot, IsScratch, IsSlotOf, state_of};
 ghost use Rattle.parity_engine.specs.declared.state.Mood.TheVariants.{Broken};
 
-use crate::found::{Found, find};
+use crate::found::{FoundRow, find};
 use crate::masks;
-use crate::slot::{Slot, copy_row, empty_slots, is_unmet, keep_slots, source_list};
+use crate::slot::{RowSlot, copy_row, empty_slots, is_unmet, keep_slots, source_list};
 use cx_base::{IdList, Lit, LitList, ParityList, Row, Var};
 use gf2_matrix::{Matrix, RowView, clear_words};
 use parity_engine::{Held, Mood, Naming, ParityEngine, ParityEvent, nothing_held};
@@ -28,7 +28,7 @@ pub struct Scratch {
     held: Vec<Option<Held>>,
     assigned: Vec<u64>,
     truths: Vec<u64>,
-    slots: Vec<Slot>,
+    slots: Vec<RowSlot>,
     mood: Mood,
 }
 
@@ -133,6 +133,11 @@ impl ParityEngine for Scratch {
         self.mood = Mood::Calm;
     }
 
+    fn mark_basic(&self, basic: &mut [bool]) {
+        // None: each event eliminates anew, and so may give a row another basic variable.
+        let _marks = basic.len();
+    }
+
     fn row_parity(&self, row: Row) -> Result<LitList, AllocError> {
         self.row_view(row).parity(self.alloc)
     }
@@ -181,7 +186,7 @@ fn answer(
     held: &[Option<Held>],
     assigned: &[u64],
     truths: &[u64],
-    slots: &mut [Slot],
+    slots: &mut [RowSlot],
     mood: Mood,
 ) -> (ParityEvent, Mood)
     requires scratch { IsScratch matrix.now level held.now assigned.now truths.now slots.old mood }
@@ -192,8 +197,8 @@ fn answer(
     ensures scratch { IsScratch matrix.now level held.now assigned.now truths.now slots.new result.1 }
 {
     match find(matrix, assigned, truths) {
-        Found::Nothing => (ParityEvent::Quiet, Mood::Calm),
-        Found::Contradiction(row) => {
+        FoundRow::Nothing => (ParityEvent::Quiet, Mood::Calm),
+        FoundRow::Contradiction(row) => {
             let last = matrix.columns();
             let naming = Naming {
                 level,
@@ -202,7 +207,7 @@ fn answer(
             copy_row(&mut slots[last], matrix, row, naming);
             (ParityEvent::Conflict(Row::new(last as u32)), Mood::Broken)
         }
-        Found::Literal(row, column, _) => {
+        FoundRow::Literal(row, column, _) => {
             let naming = Naming {
                 level,
                 in_conflict: false,
@@ -219,7 +224,7 @@ fn answer(
 }
 
 /// Names the row in the slot, unless the slot is kept from before.
-fn name(slot: &mut Slot, matrix: &Matrix, row: usize, naming: Naming)
+fn name(slot: &mut RowSlot, matrix: &Matrix, row: usize, naming: Naming)
     requires row_in { row < length matrix.now.rows }
     requires sized { IsSlotOf matrix.now slot.old }
     ensures { IsNamedSlot matrix.now row naming slot.old slot.new slot.old.naming }

@@ -13,7 +13,7 @@ use std::alloc::{AllocError, Global};
 
 /// A copy of a named row: a bit for each variable, the right side, and a bit for each given parity.
 #[derive(Drop)]
-pub(crate) struct Slot {
+pub(crate) struct RowSlot {
     pub(crate) terms: Vec<u64>,
     pub(crate) right: bool,
     pub(crate) sources: Vec<u64>,
@@ -35,11 +35,11 @@ pub(crate) fn empty_slots(
     count: usize,
     vars: usize,
     parities: usize,
-) -> Result<Vec<Slot>, AllocError>
+) -> Result<Vec<RowSlot>, AllocError>
     requires few_variables { vars < 4294967296 }
     requires few_parities { parities < 4294967296 }
     ensures count { IfOk result (λ slots. length slots.items ≡ count) }
-    ensures empty { IfOk result (λ slots. (k : ℕ) (d : Slot) → k < count → IsEmptySlot vars parities (slice_index_or slots.items k d)) }
+    ensures empty { IfOk result (λ slots. (k : ℕ) (d : RowSlot) → k < count → IsEmptySlot vars parities (slice_index_or slots.items k d)) }
 {
     let mut slots = Vec::new(alloc);
     for _ in 0..count {
@@ -49,12 +49,12 @@ pub(crate) fn empty_slots(
 }
 
 /// An unnamed slot with room for a row.
-fn empty_slot(alloc: Global, vars: usize, parities: usize) -> Result<Slot, AllocError>
+fn empty_slot(alloc: Global, vars: usize, parities: usize) -> Result<RowSlot, AllocError>
     requires few_variables { vars < 4294967296 }
     requires few_parities { parities < 4294967296 }
     ensures { IfOk result (IsEmptySlot vars parities) }
 {
-    Ok(Slot {
+    Ok(RowSlot {
         terms: clear_words(alloc, vars)?,
         right: false,
         sources: clear_words(alloc, parities)?,
@@ -63,7 +63,7 @@ fn empty_slot(alloc: Global, vars: usize, parities: usize) -> Result<Slot, Alloc
 }
 
 /// Forgets the rows that were named for a contradiction or above the level.
-pub(crate) fn keep_slots(slots: &mut [Slot], level: u32)
+pub(crate) fn keep_slots(slots: &mut [RowSlot], level: u32)
     ensures { AreKept level slots.old slots.new (length slots.old) }
 {
     for k in 0..slots.len() {
@@ -95,7 +95,7 @@ fn copy_sources(sources: &mut [u64], matrix: &Matrix, row: usize)
 }
 
 /// Copies a row of the matrix, under a name.
-pub(crate) fn copy_row(slot: &mut Slot, matrix: &Matrix, row: usize, naming: Naming)
+pub(crate) fn copy_row(slot: &mut RowSlot, matrix: &Matrix, row: usize, naming: Naming)
     requires row_in { row < length matrix.now.rows }
     requires sized { IsSlotOf matrix.now slot.old }
     ensures { IsCopy matrix.now row naming slot.new }
@@ -108,7 +108,7 @@ pub(crate) fn copy_row(slot: &mut Slot, matrix: &Matrix, row: usize, naming: Nam
 }
 
 /// Whether the assigned values alone do not meet the row.
-pub(crate) fn is_unmet(slot: &Slot, held: &[Option<Held>]) -> bool
+pub(crate) fn is_unmet(slot: &RowSlot, held: &[Option<Held>]) -> bool
     requires { length held.now ≤ 64 * length slot.now.terms.items }
     ensures { IsSlotSum slot.now held.now (length held.now) result }
 {

@@ -8,7 +8,7 @@ use Rattle.cx_base.specs.Literals.{Literal, negate, differ, literal_true, value_
 use Rattle.cx_base.specs.Problem.{Meets, Unmet, clause_met, parity_met, constraint_met}
 use Rattle.cx_base.specs.declared.constraint.Constraint.TheVariants.{Clause, Parity}
 use Rattle.cx_base.proofs.Odd.{parity_met-cons, is_odd, is_odd-suc}
-use Rattle.inst_gen.specs.declared.kind.Kind.TheVariants.{Even, Odd}
+use Rattle.inst_gen.specs.declared.kind.InstanceKind.TheVariants.{Even, Odd}
 use Rattle.inst_gen.specs.Words.{words, stream}
 use Rattle.inst_gen.specs.Planting.{values_of, planted_parity, parities_of, literal_of, planted_clause, clauses_of, met_part, unmet_part, made_of, planted_formula, planted_values, words_of, value_words, parity_words, clause_words}
 use Rattle.inst_gen.proofs.WordLaws.{take-words, length-words}

@@ -5,8 +5,8 @@ use Rattle.cx_base.specs.Literals.{Literal, negate}
 use Rattle.cx_base.specs.Problem.{literals_of, greatest_variable, clause_met}
 use Rattle.cx_base.specs.declared.constraint.Constraint.{Constraint}
 use Rattle.cx_base.specs.declared.constraint.Constraint.TheVariants.{Clause, Parity}
-use Rattle.inst_gen.specs.declared.kind.Kind.{Kind}
-use Rattle.inst_gen.specs.declared.kind.Kind.TheVariants.{Even, Odd}
+use Rattle.inst_gen.specs.declared.kind.InstanceKind.{InstanceKind}
+use Rattle.inst_gen.specs.declared.kind.InstanceKind.TheVariants.{Even, Odd}
 use Rattle.inst_gen.specs.Planting.{planted_parity, parities_of, literal_of, planted_clause, clauses_of, met_part, unmet_part, instance_of}
 
 -- no variable of the literals is above n
@@ -108,7 +108,7 @@ constraints_more : (n : ℕ) (cs : List Constraint) → AllByRecursion (λ c. Ar
 constraints_more n [] h = tt
 constraints_more n (c ∷ cs) h = (up_to_more n (literals_of c) h.0, constraints_more n cs h.1)
 
-pub instance_greatest : (kind : Kind) (n : ℕ) (ps cs : List (List Literal)) → 4 ≤ n → AllUpTo n ps → AllUpTo n cs
+pub instance_greatest : (kind : InstanceKind) (n : ℕ) (ps cs : List (List Literal)) → 4 ≤ n → AllUpTo n ps → AllUpTo n cs
     → greatest_variable (instance_of kind n ps cs).variables (instance_of kind n ps cs).constraints ≡ (instance_of kind n ps cs).variables
 instance_greatest Even n ps cs low h g = greatest_is n (met_part ps cs) (met_up_to n ps cs h g)
 instance_greatest Odd n ps cs low h g =

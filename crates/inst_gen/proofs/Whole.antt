@@ -4,7 +4,7 @@ use Rattle.std.proofs.lemmas.List.{length-map}
 use Rattle.rand_core.specs.Stream.{Stream}
 use Rattle.cx_base.specs.Literals.{Literal}
 use Rattle.cx_base.specs.Problem.{Problem, greatest_variable}
-use Rattle.inst_gen.specs.declared.kind.Kind.{Kind}
+use Rattle.inst_gen.specs.declared.kind.InstanceKind.{InstanceKind}
 use Rattle.inst_gen.specs.Words.{stream, words, after_words}
 use Rattle.inst_gen.specs.Planting.{values_of, parities_of, clauses_of, instance_of, made_of, planted_formula, planted_values, words_of, value_words, parity_words, clause_words}
 use Rattle.inst_gen.proofs.WordLaws.{take-words, drop-words, length-words}
@@ -26,7 +26,7 @@ clause_words_are n seed = ap (drop (2 * (n / 4))) (drop-words n (2 * (n / 4) + 3
 pub length_drawn : (n : ℕ) (values : List Bool) (s : Stream) → values ≡ values_of (words n s) → length values ≡ n
 length_drawn n values s e = ap length e ∙ length-values_of (words n s) ∙ length-words n s
 
-pub whole_is : (kind : Kind) (n seed : ℕ) (values : List Bool) (ps cs : List (List Literal)) (start after_values after_parities : Stream) → 4 ≤ n → start ≡ stream seed
+pub whole_is : (kind : InstanceKind) (n seed : ℕ) (values : List Bool) (ps cs : List (List Literal)) (start after_values after_parities : Stream) → 4 ≤ n → start ≡ stream seed
     → values ≡ values_of (words n start) → after_values ≡ after_words n start
     → ps ≡ parities_of values (length values / 4) (words (2 * (length values / 4)) after_values) → after_parities ≡ after_words (2 * (length values / 4)) after_values
     → cs ≡ clauses_of values (length values) (length values) (words (3 * length values) after_parities)

@@ -1,7 +1,7 @@
 -- What planted instances are: met by their values, or by none.
 use Rattle.std.specs.Prelude.{ℕ, ◌≤◌}
 use Rattle.cx_base.specs.Problem.{Meets, Unmet}
-use Rattle.inst_gen.specs.declared.kind.Kind.TheVariants.{Even, Odd}
+use Rattle.inst_gen.specs.declared.kind.InstanceKind.TheVariants.{Even, Odd}
 use Rattle.inst_gen.specs.Planting.{planted_formula, planted_values}
 
 -- the planted values meet each instance of this kind

@@ -5,8 +5,8 @@ use Rattle.cx_base.specs.Literals.{Literal, negate, positive_of, negative_of}
 use Rattle.cx_base.specs.Problem.{Problem, clause_met, parity_met}
 use Rattle.cx_base.specs.declared.constraint.Constraint.{Constraint}
 use Rattle.cx_base.specs.declared.constraint.Constraint.TheVariants.{Clause, Parity}
-use Rattle.inst_gen.specs.declared.kind.Kind.{Kind}
-use Rattle.inst_gen.specs.declared.kind.Kind.TheVariants.{Even, Odd}
+use Rattle.inst_gen.specs.declared.kind.InstanceKind.{InstanceKind}
+use Rattle.inst_gen.specs.declared.kind.InstanceKind.TheVariants.{Even, Odd}
 use Rattle.inst_gen.specs.Words.{words, stream}
 
 -- A value for each word: true where the word is odd.
@@ -57,7 +57,7 @@ unmet_part further parities =
     ∷ Clause (negative_of further ∷ negative_of 1 ∷ negative_of 2 ∷ [])
     ∷ []
 
-abbrev pub instance_of : Kind → ℕ → List (List Literal) → List (List Literal) → Problem
+abbrev pub instance_of : InstanceKind → ℕ → List (List Literal) → List (List Literal) → Problem
 instance_of Even n parities clauses = record { variables = n; constraints = met_part parities clauses }
 instance_of Odd n parities clauses = record { variables = n + 1; constraints = met_part parities clauses ++ unmet_part (n + 1) parities }
 
@@ -76,7 +76,7 @@ abbrev pub clause_words : ℕ → List ℕ → List ℕ
 clause_words n ws = drop (2 * (n / 4)) (drop n ws)
 
 -- The instance that a list of words makes.
-unfoldable pub made_of : Kind → ℕ → List ℕ → Problem
+unfoldable pub made_of : InstanceKind → ℕ → List ℕ → Problem
 made_of kind n ws =
     let values = values_of (value_words n ws) in
     instance_of kind n (parities_of values (n / 4) (parity_words n ws)) (clauses_of values n n (clause_words n ws))
@@ -88,5 +88,5 @@ words_of size seed = words (word_count size) (stream seed)
 abbrev pub planted_values : ℕ → ℕ → List Bool
 planted_values size seed = values_of (value_words size (words_of size seed))
 
-abbrev pub planted_formula : Kind → ℕ → ℕ → Problem
+abbrev pub planted_formula : InstanceKind → ℕ → ℕ → Problem
 planted_formula kind size seed = made_of kind size (words_of size seed)

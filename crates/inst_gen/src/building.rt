@@ -8,7 +8,7 @@ ghost use Rattle.inst_gen.specs.Planting.{planted_formula, instance_of, met_part
 ghost use Rattle.inst_gen.specs.Triples.{literals_in};
 
 use crate::drawing::{draw_clauses, draw_parities, draw_values};
-use crate::kind::Kind;
+use crate::kind::InstanceKind;
 use crate::triple::Triple;
 use cx_base::{Formula, FormulaBuilder, Lit, Var};
 use rand_core::SeedableRng;
@@ -74,7 +74,7 @@ fn push_exclusion(
     builder.end_clause()
 }
 
-/// Adds what no values meet beside the parities.
+/// Adds what no values meet together with the parities.
 fn push_contradiction(
     builder: &mut FormulaBuilder,
     further: Var,
@@ -93,7 +93,7 @@ fn push_contradiction(
 /// The formula of a kind's parities and clauses.
 fn instance(
     alloc: Global,
-    kind: Kind,
+    kind: InstanceKind,
     size: u32,
     parities: &[Triple],
     clauses: &[Triple],
@@ -105,8 +105,8 @@ fn instance(
     push_parities(&mut builder, parities)?;
     push_clauses(&mut builder, clauses)?;
     match kind {
-        Kind::Even => Ok(builder.finish(size)),
-        Kind::Odd => {
+        InstanceKind::Even => Ok(builder.finish(size)),
+        InstanceKind::Odd => {
             push_contradiction(&mut builder, Var::new(size + 1), parities)?;
             Ok(builder.finish(size + 1))
         }
@@ -118,8 +118,13 @@ fn instance(
 /// Values for `size` variables are drawn, then a parity of three literals for each fourth variable and `size`
 /// clauses of three literals, all of which the values meet. `Even` is the formula of these. `Odd` has a further
 /// variable, which a parity over all the parities makes true, and four clauses that no values meet where it is.
-/// An `Err` is want of memory.
-pub fn planted(alloc: Global, kind: Kind, size: u32, seed: u64) -> Result<Formula, AllocError>
+/// An `Err` means that memory ran out.
+pub fn planted(
+    alloc: Global,
+    kind: InstanceKind,
+    size: u32,
+    seed: u64,
+) -> Result<Formula, AllocError>
     requires low { 4 ≤ size }
     requires high { size ≤ 2000 }
     ensures { IfOk result (λ f. f ≡ planted_formula kind size seed) }

@@ -2,7 +2,7 @@
 
 /// Whether a planted instance is met by its planted values or by none.
 #[derive(Clone, Copy, Drop)]
-pub enum Kind {
+pub enum InstanceKind {
     /// Met by the planted values.
     Even,
     /// Met by no values.

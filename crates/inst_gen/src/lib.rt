@@ -8,5 +8,5 @@ mod laws;
 mod triple;
 
 pub use building::planted;
-pub use kind::Kind;
+pub use kind::InstanceKind;
 pub use laws::{even_is_met, odd_is_unmet};

@@ -7,8 +7,8 @@ use Rattle.model_out.specs.Mentions.{AreMentionsOf}
 use Rattle.model_out.specs.Reading.{scan, at_part, seen, ahead, TakesTo, TurnsTo, EndsTo, ScansTo}
 use Rattle.model_out.specs.declared.line_tokens.LineTokenAt.{LineTokenAt}
 use Rattle.model_out.specs.declared.mentions.Mention.{Mention}
-use Rattle.model_out.specs.declared.read.Turn.{Turn}
-use Rattle.model_out.specs.declared.read.Turn.TheVariants.{GoesOn, Ends}
+use Rattle.model_out.specs.declared.read.TokenEffect.{TokenEffect}
+use Rattle.model_out.specs.declared.read.TokenEffect.TheVariants.{GoesOn, Ends}
 use Rattle.model_out.specs.declared.refusal.AnswerRefusal.{AnswerRefusal}
 use Rattle.model_out.specs.declared.refusal.AnswerRefusal.TheVariants.{NoStatusLine, BadToken, Missing, Twice, Unmet, Memory}
 
@@ -42,7 +42,7 @@ module _ (len : ℕ) (lits : List ℤ) (t : LineToken) (rest : List LineToken) w
   pub scan_integer : (z : ℤ) → t.begins ≡ false → integer t.text ≡ Some z → z ≢ pos 0 → scan len lits (t ∷ rest) ≡ scan len (lits ++ z ∷ []) rest
   scan_integer z b e n = by_part (number z) (part_inside t (Some z) b e) ∙ after_number z n
 
-  pub turn_integer : (z : ℤ) (r : Turn) (table : List Mention) → t.begins ≡ false → integer t.text ≡ Some z → TakesTo z lits r table → TurnsTo len lits t rest (Ok r) table
+  pub turn_integer : (z : ℤ) (r : TokenEffect) (table : List Mention) → t.begins ≡ false → integer t.text ≡ Some z → TakesTo z lits r table → TurnsTo len lits t rest (Ok r) table
   turn_integer z GoesOn table b e h = (lits ++ z ∷ [], scan_integer z b e h.0, h.1)
   turn_integer z Ends table b e h = (by_part (number (pos 0)) (part_inside t (Some z) b e ∙ ap number h.0), h.1)
 
@@ -61,11 +61,11 @@ module _ (len : ℕ) (body : List LineToken) (lits : List ℤ) (t : LineToken) (
   turn_refused (Unmet k) h = absurd h
   turn_refused Memory h = absurd h
 
-  pub turn_goes_on : (r : Turn) → r ≡ GoesOn → TurnsTo len lits t rest (Ok r) table → (more : List ℤ) × (scan len [] body ≡ scan len more rest) × AreMentionsOf more table
+  pub turn_goes_on : (r : TokenEffect) → r ≡ GoesOn → TurnsTo len lits t rest (Ok r) table → (more : List ℤ) × (scan len [] body ≡ scan len more rest) × AreMentionsOf more table
   turn_goes_on GoesOn e h = (h.0, so_far ∙ h.1, h.2)
   turn_goes_on Ends e h = cc
 
-  pub turn_ends : {T : Type 0} (r : Turn) (end : Result T AnswerRefusal) → r ≡ Ends → TurnsTo len lits t rest (Ok r) table → EndsTo lits rest end → ScansTo len body end table
+  pub turn_ends : {T : Type 0} (r : TokenEffect) (end : Result T AnswerRefusal) → r ≡ Ends → TurnsTo len lits t rest (Ok r) table → EndsTo lits rest end → ScansTo len body end table
   turn_ends GoesOn end e h k = cc
   turn_ends Ends (Ok done) e h k = (lits, so_far ∙ h.0 ∙ k, h.1)
   turn_ends Ends (Err NoStatusLine) e h k = absurd k

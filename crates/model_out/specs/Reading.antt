@@ -4,8 +4,8 @@ use Rattle.model_out.specs.LineTokens.{LineToken}
 use Rattle.model_out.specs.Answers.{Part, mark, number, strange, part_of}
 use Rattle.model_out.specs.Mentions.{AreMentionsOf}
 use Rattle.model_out.specs.declared.mentions.Mention.{Mention}
-use Rattle.model_out.specs.declared.read.Turn.{Turn}
-use Rattle.model_out.specs.declared.read.Turn.TheVariants.{GoesOn, Ends}
+use Rattle.model_out.specs.declared.read.TokenEffect.{TokenEffect}
+use Rattle.model_out.specs.declared.read.TokenEffect.TheVariants.{GoesOn, Ends}
 use Rattle.model_out.specs.declared.refusal.AnswerRefusal.{AnswerRefusal}
 use Rattle.model_out.specs.declared.refusal.AnswerRefusal.TheVariants.{NoStatusLine, BadToken, Missing, Twice, Unmet, Memory}
 use Rattle.model_out.specs.declared.line_tokens.LineTokenAt.{LineTokenAt}
@@ -14,7 +14,7 @@ pub data Scan : Type 0 where
   whole : List ℤ → Scan
   bad : ℕ → Scan
 
--- behind the zero
+-- after the zero
 abbrev pub scan_end : List ℤ → List LineToken → Scan
 scan_end lits [] = whole lits
 scan_end lits (t ∷ ts) = bad t.place
@@ -51,7 +51,7 @@ ScansTo len body (Err (Unmet k)) table = ⊥
 ScansTo len body (Err Memory) table = ⊥
 
 -- one token was taken: the scan goes on with more integers that the table tells, or has ended with these, or is bad
-abbrev pub TurnsTo : ℕ → List ℤ → LineToken → List LineToken → Result Turn AnswerRefusal → List Mention → Type 0
+abbrev pub TurnsTo : ℕ → List ℤ → LineToken → List LineToken → Result TokenEffect AnswerRefusal → List Mention → Type 0
 TurnsTo len lits t rest (Ok GoesOn) table = (more : List ℤ) × (scan len lits (t ∷ rest) ≡ scan len more rest) × AreMentionsOf more table
 TurnsTo len lits t rest (Ok Ends) table = (scan len lits (t ∷ rest) ≡ scan_end lits rest) × AreMentionsOf lits table
 TurnsTo len lits t rest (Err NoStatusLine) table = ⊥
@@ -62,7 +62,7 @@ TurnsTo len lits t rest (Err (Unmet k)) table = ⊥
 TurnsTo len lits t rest (Err Memory) table = ⊥
 
 -- one integer was taken: it follows the others, or it is the zero
-abbrev pub TakesTo : ℤ → List ℤ → Turn → List Mention → Type 0
+abbrev pub TakesTo : ℤ → List ℤ → TokenEffect → List Mention → Type 0
 TakesTo z lits GoesOn table = (z ≢ pos 0) × AreMentionsOf (lits ++ z ∷ []) table
 TakesTo z lits Ends table = (z ≡ pos 0) × AreMentionsOf lits table
 

@@ -47,7 +47,7 @@ fn pass_status<'a>(tokens: &mut LineTokens<'a>) -> Result<Option<LineTokenAt<'a>
 
 /// What a token of the `v` lines does.
 #[derive(Clone, Copy, Drop)]
-enum Turn {
+enum TokenEffect {
     /// The answer goes on.
     GoesOn,
     /// The zero: the answer ends.
@@ -55,30 +55,30 @@ enum Turn {
 }
 
 /// Takes an integer after a `v`.
-fn take_integer(mentions: &mut Mentions, integer: Integer) -> Turn
+fn take_integer(mentions: &mut Mentions, integer: Integer) -> TokenEffect
     requires { length mentions.old ≤ MAX_VARIABLE }
     ensures length { length mentions.new ≡ length mentions.old }
     ensures turn { (z : ℤ) (lits : List ℤ) → IsInteger integer z → AreMentionsOf lits mentions.old → TakesTo z lits result mentions.new }
 {
     match integer {
-        Integer::Zero => Turn::Ends,
+        Integer::Zero => TokenEffect::Ends,
         Integer::Literal(lit) => {
             mentions.note(lit);
-            Turn::GoesOn
+            TokenEffect::GoesOn
         }
-        Integer::Above => Turn::GoesOn,
+        Integer::Above => TokenEffect::GoesOn,
     }
 }
 
 /// Takes a token of the `v` lines.
-fn take_token(mentions: &mut Mentions, token: LineTokenAt) -> Result<Turn, AnswerRefusal>
+fn take_token(mentions: &mut Mentions, token: LineTokenAt) -> Result<TokenEffect, AnswerRefusal>
     requires { length mentions.old ≤ MAX_VARIABLE }
     ensures length { length mentions.new ≡ length mentions.old }
     ensures turn { (len : ℕ) (lits : List ℤ) (rest : List LineToken) → AreMentionsOf lits mentions.old → TurnsTo len lits (seen token.entry) rest result mentions.new }
 {
     if token.begins {
         return if token.text == b"v".as_slice() {
-            Ok(Turn::GoesOn)
+            Ok(TokenEffect::GoesOn)
         } else {
             Err(AnswerRefusal::BadToken(token.place))
         };
@@ -114,8 +114,8 @@ fn read_literals<'a>(
     let mut next = first;
     while let Some(token) = next {
         match take_token(mentions, token)? {
-            Turn::GoesOn => next = tokens.next_token(),
-            Turn::Ends => return pass_end(tokens),
+            TokenEffect::GoesOn => next = tokens.next_token(),
+            TokenEffect::Ends => return pass_end(tokens),
         }
     }
     Err(AnswerRefusal::BadToken(len))

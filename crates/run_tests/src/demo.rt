@@ -7,7 +7,7 @@ use crate::pigeons::WIDE;
 use cdcl_core::{Outcome, solve_core};
 use cx_base::Formula;
 use gauss_incremental::Incremental;
-use inst_gen::{Kind, planted};
+use inst_gen::{InstanceKind, planted};
 use log_text::NoLog;
 use std::alloc::{AllocError, Global};
 use std::test::Fail;
@@ -105,13 +105,13 @@ fn no_line_stands_before_the_whole_log(rt: HostRuntime) -> Result<(), Fail> {
     Ok(())
 }
 
-/// Whether a demonstration whose lines have little room ends with a write fault behind this log.
+/// Whether a demonstration whose lines have little room ends with a write fault after this log.
 fn cuts_lines_off(alloc: Global, kind: &str, log: &[u8]) -> Result<bool, AllocError> {
     let cut_off = demonstrated(alloc, kind, "4", Bounds { answer: 3, ..AMPLE })?;
     Ok(cut_off.status == 5 && cut_off.answer() == b"c d".as_slice() && cut_off.proof() == log)
 }
 
-/// The same behind the whole log.
+/// As `cuts_lines_off`, after the whole log.
 fn cuts_lines_off_behind_log(alloc: Global, kind: &str) -> Result<bool, AllocError> {
     let whole = demonstrated(alloc, kind, "4", AMPLE)?;
     cuts_lines_off(alloc, kind, whole.proof())
@@ -140,7 +140,7 @@ fn kinds_and_sizes_are_within_their_bounds(rt: HostRuntime) -> Result<(), Fail> 
     Ok(())
 }
 
-/// Whether the search finds values that meet the formula within so many conflicts.
+/// Whether the search finds values that meet the formula within this many conflicts.
 fn finds_values(alloc: Global, formula: &Formula, conflicts: u64) -> bool
     requires { (1 ≤ conflicts) × (conflicts ≤ 10 ^ 18) }
 {
@@ -156,7 +156,7 @@ fn finds_values(alloc: Global, formula: &Formula, conflicts: u64) -> bool
 
 #[test]
 fn planted_values_are_found_within_twenty_thousand_conflicts(rt: HostRuntime) -> Result<(), Fail> {
-    let formula = planted(rt.alloc(), Kind::Even, 200, 7)?;
+    let formula = planted(rt.alloc(), InstanceKind::Even, 200, 7)?;
     assert!(rt; finds_values(rt.alloc(), &formula, 20_000));
     Ok(())
 }

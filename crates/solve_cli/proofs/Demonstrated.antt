@@ -1,7 +1,7 @@
 -- What a run of `demo` says by its status.
 use Rattle.std.proofs.Common.{◌≡◌, ℕ, List, [], IfSome, refl, ap, sym, subst, ◌∙◌}
 use Rattle.cx_base.specs.Problem.{Problem}
-use Rattle.inst_gen.specs.declared.kind.Kind.{Kind}
+use Rattle.inst_gen.specs.declared.kind.InstanceKind.{InstanceKind}
 use Rattle.cx_desk.specs.declared.desk.Port.TheVariants as port
 use Rattle.cx_desk.specs.Outside.{Bytes}
 use Rattle.cx_words.specs.declared.plans.Plan.TheVariants as plan
@@ -31,7 +31,7 @@ unfolding message_text
 demo_message i x = refl
 
 module _ (words : List Bytes) (limit : ℕ) (old : Seen) (s : Status) (new : Seen) (h : Runs words limit old s new) where
-  shown_of : (kind : Kind) (size seed : ℕ) (e : Ending) → Done e → h.outcome ≡ outcome.Ended e → Works (plan.Demo kind size seed) limit old (outcome.Ended e) h.done
+  shown_of : (kind : InstanceKind) (size seed : ℕ) (e : Ending) → Done e → h.outcome ≡ outcome.Ended e → Works (plan.Demo kind size seed) limit old (outcome.Ended e) h.done
       → IfSome old.files (λ _. HasDemonstrated kind size seed old new)
   shown_of kind size seed _ (demonstrated i x) is w =
       let told = quiet (message_text h.outcome) h.done new (ap message_text is ∙ demo_message i x) h.tells in

@@ -25,7 +25,7 @@ use Rattle.xlrup_check.specs.Verdicts.{HasCause}
 use Rattle.xlrup_check.specs.declared.verdict.Fault.{Fault}
 use Rattle.xlrup_check.specs.declared.verdict.Fault.TheVariants as checked
 use Rattle.step_text.specs.Lists.{StepsLeft, LeavesList}
-use Rattle.inst_gen.specs.declared.kind.Kind.{Kind}
+use Rattle.inst_gen.specs.declared.kind.InstanceKind.{InstanceKind}
 use Rattle.inst_gen.specs.Planting.{planted_formula}
 use Rattle.cx_desk.specs.declared.desk.Port.TheVariants as port
 use Rattle.cx_desk.specs.Outside.{Bytes, Files, Outside}
@@ -98,7 +98,7 @@ verified_log f text log proof reads printed h = (
 
 -- ---- the writes
 
-module _ (kind : Kind) (size seed limit : ℕ) (events : List LogEvent) (e : Ending) (w : Option Files) (mid : Outside) (finds : ComesTo (planted_formula kind size seed) demo_budget events e) where
+module _ (kind : InstanceKind) (size seed limit : ℕ) (events : List LogEvent) (e : Ending) (w : Option Files) (mid : Outside) (finds : ComesTo (planted_formula kind size seed) demo_budget events e) where
   abbrev F : Problem
   F = planted_formula kind size seed
 
@@ -117,19 +117,19 @@ module _ (kind : Kind) (size seed limit : ℕ) (events : List LogEvent) (e : End
   front : (k : ℕ) → IsLogSoFar F (take k (printed_log events))
   front k = let have = found F demo_budget events e finds in front_so_far F (printed_log events) k (is_right F demo_budget (printed_log events) e have) (has_low_ids F demo_budget (printed_log events) e have) (has_no_mark F demo_budget (printed_log events) e have)
 
-  -- a front of the log was written
+  -- a prefix of the log was written
   pub demo_cut : (new : Outside) → (k : ℕ) × (k < length (printed_log events)) × WriteFaulted (gained port.Proof (take k (printed_log events)) mid) new → Works Demo limit (seen w mid) outcome.WriteFault (seen w new)
   unfolding stops
   demo_cut new h = inr (inr (record { writes = refl; may_write = tt; at = says port.Proof (take h.0 (printed_log events)) (seen w mid); stops = stops (take h.0 (printed_log events)) (front h.0); created = refl; fault = write_fault w (take h.0 (printed_log events)) mid new h.2 }))
 
-  -- the log was written, and memory was wanted behind it
+  -- the log was written, and memory ran out after it
   pub demo_wanted : (at : Outside) → at ≡ gained port.Proof (printed_log events) mid → Works Demo limit (seen w mid) outcome.Memory (seen w at)
   demo_wanted at moved =
       let have = found F demo_budget events e finds in
       let whole : IsLogSoFar F (printed_log events) = record { log = printed_log events; right = is_right F demo_budget (printed_log events) e have; ids = has_low_ids F demo_budget (printed_log events) e have; settled = has_no_mark F demo_budget (printed_log events) e have; rest = []; front = append-nil (printed_log events) } in
       subst (λ (s : Seen). Stops Demo limit (seen w mid) s) (sym (ap (seen w) moved)) (stops (printed_log events) whole)
 
-  -- the log was written, and the lines or a front of them
+  -- the log was written, and the lines or a prefix of them
   pub demo_answered : (x : Shown) (at : Outside) (o : Outcome) (new : Seen) → Stands F (printed_log events) x → at ≡ gained port.Proof (printed_log events) mid
       → PutsAnswer (ending.Demonstrated (instance_of kind size seed) x) (seen w at) o new → Works Demo limit (seen w mid) o new
   demo_answered x at o new stands moved answers =
@@ -155,7 +155,7 @@ pub not_read_from : (e : ElabFault) (passes : Option Bool) (before now : ℕ) �
 not_read_from e passes before now is h = let rose : Rose 0 0 = subst (λ (x : ElabFault). IsCausedBy passes 0 0 before now x) is h in absurd (omega (arith, rose))
 
 -- nothing was done
-pub demo_none : (kind : Kind) (size seed limit : ℕ) (old : Seen) → Works (plan.Demo kind size seed) limit old outcome.Memory old
+pub demo_none : (kind : InstanceKind) (size seed limit : ℕ) (old : Seen) → Works (plan.Demo kind size seed) limit old outcome.Memory old
 demo_none kind size seed limit old = stopped formula_started (plan.Demo kind size seed) limit old old tt refl
 
 -- what a command does by its plan is what the words ask for

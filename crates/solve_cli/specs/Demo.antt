@@ -6,8 +6,8 @@ use Rattle.cx_base.specs.declared.steps.ProofStep.{ProofStep}
 use Rattle.search_steps.specs.Recovering.{SettledWithRecovered}
 use Rattle.fratx_elab.specs.Outcomes.{IsProofWritten}
 use Rattle.fratx_elab.specs.declared.outcome.Elab.TheVariants as elab
-use Rattle.inst_gen.specs.declared.kind.Kind.{Kind}
-use Rattle.inst_gen.specs.declared.kind.Kind.TheVariants.{Even, Odd}
+use Rattle.inst_gen.specs.declared.kind.InstanceKind.{InstanceKind}
+use Rattle.inst_gen.specs.declared.kind.InstanceKind.TheVariants.{Even, Odd}
 use Rattle.inst_gen.specs.Planting.{planted_formula}
 use Rattle.cx_desk.specs.declared.desk.Port.TheVariants as port
 use Rattle.cx_desk.specs.Outside.{Bytes}
@@ -26,7 +26,7 @@ abbrev pub demo_budget : ℕ
 demo_budget = 10 ^ 18
 
 -- what is printed of the instance of a kind, a size and a seed
-abbrev pub instance_of : Kind → ℕ → ℕ → Instance
+abbrev pub instance_of : InstanceKind → ℕ → ℕ → Instance
 instance_of kind size seed = record {
   kind = kind;
   size = size;
@@ -37,7 +37,7 @@ instance_of kind size seed = record {
 }
 
 -- what may be shown of a kind
-abbrev pub MayShow : Kind → Shown → Type 0
+abbrev pub MayShow : InstanceKind → Shown → Type 0
 MayShow Even shown.Meet = ⊤
 MayShow Even shown.Verified = ⊥
 MayShow Even shown.Unknown = ⊤
@@ -62,7 +62,7 @@ StandsBehind formula log shown.Verified = IsClosedLog formula demo_budget log ×
 StandsBehind formula log shown.Unknown = IsSpentLog formula demo_budget log
 
 -- The Proof port gained the log of a search of the instance, then the Answer port what that shows. No file was asked for.
-pub record HasDemonstrated (kind : Kind) (size seed : ℕ) (old new : Seen) : Type 0 where
+pub record HasDemonstrated (kind : InstanceKind) (size seed : ℕ) (old new : Seen) : Type 0 where
   pub what : Shown
   pub fits : MayShow kind what
   pub shows : Shows (planted_formula kind size seed) what
@@ -72,7 +72,7 @@ pub record HasDemonstrated (kind : Kind) (size seed : ℕ) (old new : Seen) : Ty
 
 -- what `demo` printed is so
 abbrev pub IsDemonstrated : List Bytes → Seen → Seen → Type 0
-IsDemonstrated words old new = (kind : Kind) (size seed : ℕ) → Asks words (plan.Demo kind size seed) → IfSome old.files (λ _. HasDemonstrated kind size seed old new)
+IsDemonstrated words old new = (kind : InstanceKind) (size seed : ℕ) → Asks words (plan.Demo kind size seed) → IfSome old.files (λ _. HasDemonstrated kind size seed old new)
 
 -- ---- on the way there
 

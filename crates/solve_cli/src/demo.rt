@@ -15,7 +15,7 @@ ghost use Rattle.solve_cli.specs.Solving.{ComesTo};
 
 use crate::{Ending, Instance, Shown};
 use cx_base::Formula;
-use cx_words::Kind;
+use cx_words::InstanceKind;
 use fratx_elab::{Elab, ElabFault, Joined, elaborate};
 use log_text::ListLog;
 use proof_text::ListProof;
@@ -26,7 +26,7 @@ use xlrup_check::{Fault, Verdict, check};
 pub(crate) const BUDGET: u64 = 1_000_000_000_000_000_000;
 
 /// What is printed of an instance.
-pub(crate) fn instance_of(formula: &Formula, kind: Kind, size: u32, seed: u64) -> Instance
+pub(crate) fn instance_of(formula: &Formula, kind: InstanceKind, size: u32, seed: u64) -> Instance
     requires { formula.now ≡ planted_formula kind size seed }
     ensures { result ≡ instance_of kind size seed }
 {
@@ -40,7 +40,7 @@ pub(crate) fn instance_of(formula: &Formula, kind: Kind, size: u32, seed: u64) -
     }
 }
 
-/// The proof that a log gives which refutes the formula.
+/// The proof from a log that refutes the formula.
 fn prove(alloc: Global, formula: &Formula, log: ListLog) -> Result<ListProof, AllocError>
     requires { IsRefutation formula.now (printed_log log) }
     ensures proof { IfOk result (IsProofOfLog formula.now (steps_of log)) }

@@ -1,5 +1,5 @@
 //! Command lines, and what they ask for.
-use cx_words::{Kind, Name, Plan, PlanRefusal, plan};
+use cx_words::{InstanceKind, Name, Plan, PlanRefusal, plan};
 use std::alloc::{AllocError, Global};
 use std::test::Fail;
 
@@ -167,10 +167,10 @@ fn words_of(alloc: Global, line: &str) -> Result<Vec<String>, AllocError> {
     Ok(words)
 }
 
-fn kind_name(kind: Kind) -> &'static str {
+fn kind_name(kind: InstanceKind) -> &'static str {
     match kind {
-        Kind::Even => "even",
-        Kind::Odd => "odd",
+        InstanceKind::Even => "even",
+        InstanceKind::Odd => "odd",
     }
 }
 
@@ -254,7 +254,7 @@ fn asks_for(alloc: Global, line: &str, wanted: &str) -> Result<bool, AllocError>
     Ok(answer_to(alloc, &words)?.as_str() == wanted)
 }
 
-/// Appends a line behind a bar, where it asks for something else than what is wanted.
+/// Appends a line after a bar, where it asks for something other than what is wanted.
 fn add_other(
     alloc: Global,
     line: &str,
@@ -268,7 +268,7 @@ fn add_other(
     others.push_str(line)
 }
 
-/// Appends the lines that ask for something else than what is wanted.
+/// Appends the lines that ask for something other than what is wanted.
 fn add_others(
     alloc: Global,
     lines: &[(&str, &str)],

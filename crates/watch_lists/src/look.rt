@@ -14,7 +14,7 @@ use cx_trail::{Trail, Truth};
 
 /// What a look at a clause finds.
 #[derive(Clone, Copy, Drop)]
-pub(crate) enum Finding {
+pub(crate) enum ClauseFinding {
     Free(Lit),
     Unit,
     Falsified,
@@ -109,7 +109,7 @@ pub(crate) fn look(
     trail: &Trail,
     other: Lit,
     starts: &mut Starts,
-) -> Finding
+) -> ClauseFinding
     requires live { IsLive arena.now reference }
     requires within { All (λ l. (1 ≤ l.variable) × (l.variable ≤ trail.now.variables)) (literals_at arena.now reference) }
     requires inside { Contains (literals_at arena.now reference) other }
@@ -120,11 +120,11 @@ pub(crate) fn look(
     // the trail is sound, which this call tells the proof
     let _count = trail.len();
     match free_literal(arena.lits(reference), trail, other, reference, starts) {
-        Some(lit) => Finding::Free(lit),
+        Some(lit) => ClauseFinding::Free(lit),
         None => match trail.truth(other) {
-            Truth::True => Finding::Unit,
-            Truth::Open => Finding::Unit,
-            Truth::False => Finding::Falsified,
+            Truth::True => ClauseFinding::Unit,
+            Truth::Open => ClauseFinding::Unit,
+            Truth::False => ClauseFinding::Falsified,
         },
     }
 }

@@ -6,7 +6,7 @@ ghost use Rattle.watch_lists.specs.Visits.{Visited};
 
 use crate::ahead::Ahead;
 use crate::lists::NodeLists;
-use crate::look::{Finding, look};
+use crate::look::{ClauseFinding, look};
 use crate::starts::Starts;
 use clause_arena::Arena;
 use cx_base::{ClauseRef, Lit};
@@ -65,11 +65,11 @@ pub(crate) fn visit_node(
     let other = partner_literal(lists, node);
     let reference = ClauseRef::new(node / 2);
     match look(arena, reference, trail, other, &mut nodes.starts) {
-        Finding::Free(lit) => Visit::Move(lit),
-        Finding::Unit => {
+        ClauseFinding::Free(lit) => Visit::Move(lit),
+        ClauseFinding::Unit => {
             trail.imply(other, Reason::Clause(reference));
             Visit::Keep
         }
-        Finding::Falsified => Visit::Conflict,
+        ClauseFinding::Falsified => Visit::Conflict,
     }
 }

@@ -10,7 +10,7 @@ use Rattle.cx_base.specs.declared.constraint.Constraint.TheVariants.{Clause, Par
 use Rattle.cx_semantics.specs.Chain.{has_literal}
 use Rattle.cx_semantics.proofs.Members.{has_at_head, has_behind, has_split}
 use Rattle.parity_engine.specs.Written.{literals_with}
-use Rattle.xor_recover.specs.declared.found.Found.{Found}
+use Rattle.xor_recover.specs.declared.found.FoundParity.{FoundParity}
 use Rattle.xor_recover.specs.Rows.{Row, rows_if, rows_of, gathered, row}
 use Rattle.xor_recover.specs.Groups.{SaysGroup, group_of, groups_of, and_more}
 use Rattle.xor_recover.proofs.Normal.{gathered_is_normal}
@@ -39,13 +39,13 @@ unfolding groups_of
 few_groups [] = omega arith
 few_groups (x ∷ xs) = let h = few_groups xs in let more = few_more (group_of (x ∷ xs)) (groups_of xs) in omega (arith, h, more)
 
-zip_long : (gs : List (List Row)) (finds : List Found) → AllZip SaysGroup gs finds → length finds ≡ length gs
+zip_long : (gs : List (List Row)) (finds : List FoundParity) → AllZip SaysGroup gs finds → length finds ≡ length gs
 zip_long [] [] h = Rattle.std.proofs.Common.refl
 zip_long [] (f ∷ finds) h = absurd h
 zip_long (g ∷ gs) [] h = absurd h
 zip_long (g ∷ gs) (f ∷ finds) h = ap suc (zip_long gs finds h.1)
 
-pub few_finds : (rows : List Row) (finds : List Found) → AllZip SaysGroup (groups_of rows) finds → length finds ≤ length rows
+pub few_finds : (rows : List Row) (finds : List FoundParity) → AllZip SaysGroup (groups_of rows) finds → length finds ≤ length rows
 few_finds rows finds h = let long = zip_long (groups_of rows) finds h in let few = few_groups rows in omega (arith, long, few)
 
 pub one_row : (o : Option (List Literal)) (n : ℕ) → length (rows_if o n) ≤ 1
@@ -107,8 +107,8 @@ clauses_within n (Clause lits ∷ cs) h = (h.0, clauses_within n cs h.1)
 clauses_within n (Parity lits ∷ cs) h = clauses_within n cs h.1
 clauses_within n (Assume lits ∷ cs) h = clauses_within n cs h.1
 
-pub all_within : (formula : Problem) (finds : List Found) → IsWithinVariables formula.variables formula.constraints → FoundAll formula finds → All (λ (f : Found). AreWithin formula.variables f.parity) finds
-all_within formula finds within h = each_find h.kept (λ (f : Found). AreWithin formula.variables f.parity) (groups_of h.kept) finds (λ g f s.
+pub all_within : (formula : Problem) (finds : List FoundParity) → IsWithinVariables formula.variables formula.constraints → FoundAll formula finds → All (λ (f : FoundParity). AreWithin formula.variables f.parity) finds
+all_within formula finds within h = each_find h.kept (λ (f : FoundParity). AreWithin formula.variables f.parity) (groups_of h.kept) finds (λ g f s.
     let x = s.group.head in
     let here : Contains h.kept x = (subst (AllByRecursion (Contains h.kept)) s.group.is s.group.from).0 in
     subst (AreWithin formula.variables) (sym s.parity)

@@ -1,4 +1,4 @@
--- Each parity that stands in the formula is found.
+-- Each parity that the formula has as clauses is found.
 use Rattle.std.proofs.Common.{◌≡◌, refl, sym, ap, ◌∙◌, subst, ℕ, zero, suc, ◌-◌, ◌≤◌, Bool, true, false, cond, not, ◌||◌, nat_eq, List, [], ◌∷◌, length, map, arith, true≢false, inl, inr, eqb-true, ◌⊎◌}
 use Rattle.std.specs.Prelude.{filter}
 use Rattle.std.specs.List.{AllZip, Contains, list_any}
@@ -21,7 +21,7 @@ use Rattle.cx_semantics.proofs.Widths.{variables, length-variables}
 use Rattle.parity_engine.specs.Written.{literals_with, AreRising}
 use Rattle.parity_engine.proofs.Rising.{columns_rise}
 use Rattle.gf2_matrix.proofs.Written.{variables_written}
-use Rattle.xor_recover.specs.declared.found.Found.{Found}
+use Rattle.xor_recover.specs.declared.found.FoundParity.{FoundParity}
 use Rattle.xor_recover.specs.Rows.{Row, row, rows_of}
 use Rattle.xor_recover.specs.Groups.{groups_of, same_key}
 use Rattle.xor_recover.proofs.Kept.{AreKept}
@@ -210,7 +210,7 @@ row_of_signs formula form kept within firsts r o p long odd =
 
 -- ---- the find
 
-zip_at : (kept : List Row) (gs : List (List Row)) (finds : List Found) (g : List Row) → AllZip (Says kept) gs finds → Contains gs g → (f : Found) × Contains finds f × Says kept g f
+zip_at : (kept : List Row) (gs : List (List Row)) (finds : List FoundParity) (g : List Row) → AllZip (Says kept) gs finds → Contains gs g → (f : FoundParity) × Contains finds f × Says kept g f
 zip_at kept [] [] g z c = absurd (let lt = c.1 in omega arith)
 zip_at kept [] (f ∷ finds) g z c = absurd z
 zip_at kept (h ∷ gs) [] g z c = absurd z
@@ -223,7 +223,7 @@ zip_at kept (h ∷ gs) (f ∷ finds) g z c = elim (cases h gs g c) [
     cases k xs x (zero, lt, e) = inl e
     cases k xs x (suc i, lt, e) = inr (i, omega arith, e)
 
-pub all_complete : (formula : Problem) (finds : List Found) → FoundAll formula finds → (form : NormalForm) → Recovered formula form → (f : Found) × Contains finds f × (normal_form f.parity ≡ form)
+pub all_complete : (formula : Problem) (finds : List FoundParity) → FoundAll formula finds → (form : NormalForm) → Recovered formula form → (f : FoundParity) × Contains finds f × (normal_form f.parity ≡ form)
 all_complete formula finds h form r =
     let o = ordered formula form h.within r in
     let x : Row = record { variables = o.vs; right = form.right_side; signs = []; number = 0 } in

@@ -184,12 +184,12 @@ distinct_from_len (x ∷ xs) e =
       | inr h ↦ (h, distinct_from_len xs (let n = len_more x xs ∙ ap (λ b. cond b (set.len (set_of xs)) (set.len (set_of xs) + 1)) h in omega arith))
     ]
 
-record OneOfEach (vs : List ℕ) (lits : List Literal) : Type 0 where
-  members : (y : ℕ) → list_any (λ z. nat_eq z y) (variables lits) ≡ list_any (λ z. nat_eq z y) vs
-  distinct : Distinct (variables lits)
-  within : AreWithin MAX_VARIABLE lits
+pub record OneOfEach (vs : List ℕ) (lits : List Literal) : Type 0 where
+  pub members : (y : ℕ) → list_any (λ z. nat_eq z y) (variables lits) ≡ list_any (λ z. nat_eq z y) vs
+  pub distinct : Distinct (variables lits)
+  pub within : AreWithin MAX_VARIABLE lits
 
-one_of_each : (vs : List ℕ) (lits : List Literal) → AreRising 1 MAX_VARIABLE vs → HasOneOfEach (set_of vs) lits → OneOfEach vs lits
+pub one_of_each : (vs : List ℕ) (lits : List Literal) → AreRising 1 MAX_VARIABLE vs → HasOneOfEach (set_of vs) lits → OneOfEach vs lits
 one_of_each vs lits rise each =
     let members : (y : ℕ) → list_any (λ z. nat_eq z y) (variables lits) ≡ list_any (λ z. nat_eq z y) vs =
     (λ y. sym (set.contains-from_list_nat (variables lits) y) ∙ ap (λ (s : set.FinSet nat_cmp). set.contains s y) each.same ∙ set.contains-from_list_nat vs y) in
@@ -221,7 +221,7 @@ other false true n = refl
 other false false n = absurd (n refl)
 
 -- the literals in order have these variables
-ordered_variables : (vs : List ℕ) (lits r : List Literal) → AreRising 1 MAX_VARIABLE vs → OneOfEach vs lits → InOrder lits r → variables r ≡ vs
+pub ordered_variables : (vs : List ℕ) (lits r : List Literal) → AreRising 1 MAX_VARIABLE vs → OneOfEach vs lits → InOrder lits r → variables r ≡ vs
 ordered_variables vs lits r rise one order = same_rising (variables r) vs order.rises rise (λ y. both _ _
     (λ h. sym (one.members y) ∙ same_variables r lits order.same y h)
     (λ h. same_variables lits r (λ q. sym (order.same q)) y (one.members y ∙ h)))

@@ -1,10 +1,10 @@
--- The group that stands at a place.
+-- The group at a place.
 use Rattle.std.proofs.Common.{◌≡◌, refl, sym, ap, ◌∙◌, subst, ℕ, zero, suc, ◌+◌, ◌-◌, ◌*◌, ◌%◌, ◌^◌, ◌<◌, ◌≤◌, Bool, false, cond, ◌&&◌, List, [], ◌∷◌, length, get_or, take, drop, map, arith, Some, None, length-drop, lit≤}
 use Rattle.std.specs.Prelude.{nat_le}
 use Rattle.std.proofs.lemmas.List.{drop-map, take-map, length-map}
 use Rattle.std.proofs.Math.Seq.{drop-cons}
 use Rattle.std.proofs.lemmas.Bool.{le-leb, lt-leb, and_left}
-use Rattle.xor_recover.specs.declared.entry.Entry.{Entry}
+use Rattle.xor_recover.specs.declared.entry.ClauseEntry.{ClauseEntry}
 use Rattle.xor_recover.specs.Entries.{row_of}
 use Rattle.xor_recover.specs.Groups.{group_of, needed, same_key}
 
@@ -33,7 +33,7 @@ at_any [] k d e lt = absurd (omega arith)
 at_any (x ∷ xs) zero d e lt = refl
 at_any (x ∷ xs) (suc k) d e lt = at_any xs k d e (omega arith)
 
-at_map : (xs : List Entry) (k : ℕ) (e : Entry) → get_or (map row_of xs) k (row_of e) ≡ row_of (get_or xs k e)
+at_map : (xs : List ClauseEntry) (k : ℕ) (e : ClauseEntry) → get_or (map row_of xs) k (row_of e) ≡ row_of (get_or xs k e)
 at_map [] k e = refl
 at_map (x ∷ xs) zero e = refl
 at_map (x ∷ xs) (suc k) e = at_map xs k e
@@ -43,7 +43,7 @@ at_drop xs zero k d = let e : k ≡ 0 + k = omega arith in ap (λ n. get_or xs n
 at_drop [] (suc i) k d = refl
 at_drop (x ∷ xs) (suc i) k d = at_drop xs i k d ∙ (let e : suc (i + k) ≡ suc i + k = omega arith in ap (λ n. get_or (x ∷ xs) n d) e)
 
-group_from : (xs : List Entry) (start : ℕ) (e : Entry) (enough : Bool) → start < length xs → e ≡ get_or xs start e
+group_from : (xs : List ClauseEntry) (start : ℕ) (e : ClauseEntry) (enough : Bool) → start < length xs → e ≡ get_or xs start e
     → enough ≡ (nat_le (needed (row_of e)) (length (drop start xs)) && same_key (row_of (get_or xs (start + (needed (row_of e) - 1)) e)) (row_of e))
     → group_of (drop start (map row_of xs)) ≡ cond enough (Some (map row_of (take (needed (row_of e)) (drop start xs)))) None
 unfolding group_of
@@ -56,7 +56,7 @@ group_from xs start e enough lt is test =
     ∙ ap (λ x. cond (nat_le n (length (drop start xs)) && same_key (row_of x) (row_of e)) (Some (map row_of (take n (drop start xs)))) None) (at_drop xs start (n - 1) e)
     ∙ ap (λ b. cond b (Some (map row_of (take n (drop start xs)))) None) (sym test)
 
-pub group_found : (xs : List Entry) (start k stop : ℕ) (e last : Entry) (same : Bool) → start < length xs → e ≡ get_or xs start e → k ≡ length e.key.vars.items → 1 ≤ k → k ≤ 6
+pub group_found : (xs : List ClauseEntry) (start k stop : ℕ) (e last : ClauseEntry) (same : Bool) → start < length xs → e ≡ get_or xs start e → k ≡ length e.key.vars.items → 1 ≤ k → k ≤ 6
     → stop ≡ start + 1 * 2 ^ (k - 1) % 18446744073709551616 → stop ≤ length xs → last ≡ get_or xs (stop - 1) last → same ≡ same_key (row_of last) (row_of e)
     → group_of (drop start (map row_of xs)) ≡ cond same (Some (map row_of (take (stop - start) (drop start xs)))) None
 group_found xs start k stop e last same lt is wide low high ends within at test =
@@ -72,7 +72,7 @@ group_found xs start k stop e last same lt is wide low high ends within at test 
     group_from xs start e same lt is (test ∙ (λ i. sym (le-leb n (length (drop start xs)) room) i && same_key (row_of (last_is i)) (row_of e)))
     ∙ ap (λ m. cond same (Some (map row_of (take m (drop start xs)))) None) size
 
-pub group_missing : (xs : List Entry) (start k stop : ℕ) (e : Entry) → start < length xs → e ≡ get_or xs start e → k ≡ length e.key.vars.items → 1 ≤ k → k ≤ 6
+pub group_missing : (xs : List ClauseEntry) (start k stop : ℕ) (e : ClauseEntry) → start < length xs → e ≡ get_or xs start e → k ≡ length e.key.vars.items → 1 ≤ k → k ≤ 6
     → stop ≡ start + 1 * 2 ^ (k - 1) % 18446744073709551616 → length xs < stop → group_of (drop start (map row_of xs)) ≡ None
 group_missing xs start k stop e lt is wide low high ends beyond =
     let n = needed (row_of e) in

@@ -18,7 +18,7 @@ use Rattle.cx_semantics.proofs.SameSets.{HaveSame-by_test}
 use Rattle.cx_semantics.proofs.Members.{has_at_head, has_behind}
 use Rattle.cx_semantics.proofs.Widths.{variables, variable_in}
 use Rattle.cx_semantics.proofs.RecoveredLaws.{recovered_is_implied}
-use Rattle.xor_recover.specs.declared.found.Found.{Found}
+use Rattle.xor_recover.specs.declared.found.FoundParity.{FoundParity}
 use Rattle.xor_recover.specs.Finds.{first_with, IsExcluding, HasLeastNumbers, IsJudgedRight}
 
 -- the clause of a number
@@ -47,8 +47,8 @@ clause_at lits n m (d ∷ C) e = go (same_literals lits d) refl (λ f. clause_at
 
 -- ---- the clauses that are named
 
--- a clause that a literal set of the find stands at
-record IsFrom (find : Found) (c : List Literal) : Type 0 where
+-- a clause that a literal set of the find is the same as
+record IsFrom (find : FoundParity) (c : List Literal) : Type 0 where
   lits : List Literal
   excluding : IsExcluding find lits
   same : same_literals lits c ≡ true
@@ -84,13 +84,13 @@ unfolding outside
 none_outside form [] h = refl
 none_outside form (l ∷ c) h = or_from _ _ (ap not (h l (has_at_head l c))) (none_outside form c (λ m g. h m (has_behind l c m g)))
 
-inside : (find : Found) (c : List Literal) → IsFrom find c → outside (normal_form find.parity) c ≡ false
+inside : (find : FoundParity) (c : List Literal) → IsFrom find c → outside (normal_form find.parity) c ≡ false
 inside find c from = none_outside (normal_form find.parity) c (λ l h.
     ap (λ (s : set.FinSet nat_cmp). set.contains s l.variable) (sym from.excluding.each.same)
     ∙ set.contains-from_list_nat (variables from.lits) l.variable
     ∙ variable_in from.lits l (HaveSame-by_test from.lits c from.same l ∙ h))
 
-all_inside : (find : Found) (cs : List (List Literal)) → AllByRecursion (IsFrom find) cs → list_any (outside (normal_form find.parity)) cs ≡ false
+all_inside : (find : FoundParity) (cs : List (List Literal)) → AllByRecursion (IsFrom find) cs → list_any (outside (normal_form find.parity)) cs ≡ false
 all_inside find [] h = refl
 all_inside find (c ∷ cs) h = or_from _ _ (inside find c h.0) (all_inside find cs h.1)
 
@@ -99,7 +99,7 @@ unfolding clauses_of
 as_clauses [] = refl
 as_clauses (c ∷ cs) = ap (λ x. c ∷ x) (as_clauses cs)
 
-pub judged : (formula : Problem) (find : Found) → HasLeastNumbers formula find → Recovered formula (normal_form find.parity) → IsJudgedRight formula find
+pub judged : (formula : Problem) (find : FoundParity) → HasLeastNumbers formula find → Recovered formula (normal_form find.parity) → IsJudgedRight formula find
 unfolding outside
 judged formula find least r =
     let C = clauses_of formula.constraints in
@@ -130,5 +130,5 @@ judged formula find least r =
       ),
     )
 
-pub all_judged : (formula : Problem) (finds : List Found) → All (λ (f : Found). Recovered formula (normal_form f.parity)) finds → All (HasLeastNumbers formula) finds → All (IsJudgedRight formula) finds
+pub all_judged : (formula : Problem) (finds : List FoundParity) → All (λ (f : FoundParity). Recovered formula (normal_form f.parity)) finds → All (HasLeastNumbers formula) finds → All (IsJudgedRight formula) finds
 all_judged formula finds r l = λ k d lt. judged formula (Rattle.std.proofs.Common.get_or finds k d) (l k d lt) (r k d lt)

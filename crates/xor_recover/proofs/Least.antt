@@ -18,7 +18,7 @@ use Rattle.cx_base.proofs.Elements.{in_head, in_tail}
 use Rattle.cx_semantics.specs.Chain.{has_literal, same_literals}
 use Rattle.cx_semantics.proofs.SameSets.{HaveSame-by_test}
 use Rattle.gf2_matrix.proofs.Written.{variables_written}
-use Rattle.xor_recover.specs.declared.found.Found.{Found}
+use Rattle.xor_recover.specs.declared.found.FoundParity.{FoundParity}
 use Rattle.xor_recover.specs.Finds.{first_with, IsExcluding, HasLeastNumbers, find_cmp}
 use Rattle.xor_recover.specs.Rows.{Row, row, rows_of, IsProper, key_cmp, shape_cmp}
 use Rattle.xor_recover.specs.Groups.{groups_of}
@@ -34,7 +34,7 @@ use Rattle.xor_recover.proofs.Sound.{Says, FoundAll, each_find}
 
 -- ---- finds rise as their groups' rows do
 
-says_cmp : (kept g h : List Row) (a b : Found) (s : Says kept g a) (t : Says kept h b) → find_cmp a b ≡ key_cmp s.group.head t.group.head
+says_cmp : (kept g h : List Row) (a b : FoundParity) (s : Says kept g a) (t : Says kept h b) → find_cmp a b ≡ key_cmp s.group.head t.group.head
 says_cmp kept g h a b s t =
     let x = s.group.head in
     let y = t.group.head in
@@ -45,20 +45,20 @@ says_cmp kept g h a b s t =
     (bool_cmp ((ap (λ (p : List Literal). (normal_form p).right_side) s.parity ∙ right_is x.right x.variables (let two = (variables_long x px).0 in omega arith)) i)
     ((ap (λ (p : List Literal). (normal_form p).right_side) t.parity ∙ right_is y.right y.variables (let two = (variables_long y py).0 in omega arith)) i)))
 
-ahead_finds : (kept g : List Row) (a : Found) (s : Says kept g a) (gs : List (List Row)) (finds : List Found) → Ahead s.group.head gs → AllZip (Says kept) gs finds → AllByRecursion (λ b. find_cmp a b ≡ Less) finds
+ahead_finds : (kept g : List Row) (a : FoundParity) (s : Says kept g a) (gs : List (List Row)) (finds : List FoundParity) → Ahead s.group.head gs → AllZip (Says kept) gs finds → AllByRecursion (λ b. find_cmp a b ≡ Less) finds
 ahead_finds kept g a s [] [] h z = tt
 ahead_finds kept g a s [] (b ∷ finds) h z = absurd z
 ahead_finds kept g a s (x ∷ gs) [] h z = absurd z
 ahead_finds kept g a s (x ∷ gs) (b ∷ finds) h z = (says_cmp kept g x a b s z.0 ∙ h.0 z.0.group.head z.0.group.rest z.0.group.is, ahead_finds kept g a s gs finds h.1 z.1)
 
-finds_rise : (kept : List Row) (gs : List (List Row)) (finds : List Found) → GroupsRise gs → AllZip (Says kept) gs finds → IsStrictlySortedBy find_cmp finds
+finds_rise : (kept : List Row) (gs : List (List Row)) (finds : List FoundParity) → GroupsRise gs → AllZip (Says kept) gs finds → IsStrictlySortedBy find_cmp finds
 unfolding IsStrictlySortedBy
 finds_rise kept [] [] h z = tt
 finds_rise kept [] (b ∷ finds) h z = absurd z
 finds_rise kept (g ∷ gs) [] h z = absurd z
 finds_rise kept (g ∷ gs) (a ∷ finds) h z = (ahead_finds kept g a z.0 gs finds (h.0 z.0.group.head z.0.group.rest z.0.group.is) z.1, finds_rise kept gs finds h.1 z.1)
 
-pub all_in_order : (formula : Problem) (finds : List Found) → FoundAll formula finds → IsStrictlySortedBy find_cmp finds
+pub all_in_order : (formula : Problem) (finds : List FoundParity) → FoundAll formula finds → IsStrictlySortedBy find_cmp finds
 all_in_order formula finds h = finds_rise h.kept (groups_of h.kept) finds (groups_rise h.kept h.firsts.sorted (kept_proper (clauses_of formula.constraints) h.kept h.within h.firsts)) h.says
 
 -- ---- one number, one set of literals
@@ -123,7 +123,7 @@ all_numbers : (P : ℕ → Type 0) (g : List Row) → ((z : Row) → Contains g 
 all_numbers P [] h = tt
 all_numbers P (x ∷ g) h = (h x (in_head x g), all_numbers P g (λ z c. h z (in_tail x g z c)))
 
-pub least : (formula : Problem) (kept g : List Row) (find : Found) → AllWithin (clauses_of formula.constraints) → AreKept (rows_of 1 (clauses_of formula.constraints)) kept → Says kept g find → HasLeastNumbers formula find
+pub least : (formula : Problem) (kept g : List Row) (find : FoundParity) → AllWithin (clauses_of formula.constraints) → AreKept (rows_of 1 (clauses_of formula.constraints)) kept → Says kept g find → HasLeastNumbers formula find
 least formula kept g find within firsts s =
     let C = clauses_of formula.constraints in
     let all = kept_proper C kept within firsts in
@@ -148,5 +148,5 @@ least formula kept g find within firsts s =
           ))));
     }
 
-pub all_least : (formula : Problem) (finds : List Found) → FoundAll formula finds → All (HasLeastNumbers formula) finds
+pub all_least : (formula : Problem) (finds : List FoundParity) → FoundAll formula finds → All (HasLeastNumbers formula) finds
 all_least formula finds h = each_find h.kept (HasLeastNumbers formula) (groups_of h.kept) finds (λ g f s. least formula h.kept g f h.within h.firsts s) h.says

@@ -1,4 +1,4 @@
--- Runs of clauses that start alike, one behind the other: their rows, their groups and what is found.
+-- Runs of clauses that start alike, one after another: their rows, their groups and what is found.
 use Rattle.std.proofs.Common.{◌≡◌, refl, sym, ap, ◌∙◌, subst, ℕ, zero, suc, ◌+◌, ◌-◌, ◌^◌, ◌<◌, ◌≤◌, Bool, true, false, cond, ◌&&◌, List, [], ◌∷◌, ◌++◌, length, get_or, take, drop, arith, true≢false, ◌⊎◌, inl, inr, Option, Some, None, length-append, append_assoc}
 use Rattle.std.specs.Prelude.{nat_le}
 use Rattle.std.specs.List.{AllByRecursion, AllZip, Contains}
@@ -13,7 +13,7 @@ use Rattle.std.proofs.lemmas.List.{append-nil, take-append-le}
 use Rattle.std.proofs.lemmas.List.Elements.{Contains-append_cases, Contains-append_left, Contains-append_right}
 use Rattle.cx_base.specs.Literals.{Literal}
 use Rattle.cx_base.specs.Problem.{Problem, IsWithinVariables, clauses_of}
-use Rattle.xor_recover.specs.declared.found.Found.{Found}
+use Rattle.xor_recover.specs.declared.found.FoundParity.{FoundParity}
 use Rattle.xor_recover.specs.declared.starts.Start.{Start}
 use Rattle.xor_recover.specs.Rows.{Row, rows_of, key_cmp, shape_cmp, IsProper}
 use Rattle.xor_recover.specs.Groups.{AreFirsts, SaysGroup, AddsFound, needed, same_key, group_of, groups_of, and_more}
@@ -94,7 +94,7 @@ unfolding groups_of
 groups_append [] ys one apart = refl
 groups_append (x ∷ xs) ys one apart = (λ i. and_more (group_append x xs ys one.0 apart.0 i) (groups_append xs ys one.1 apart.1 i)) ∙ and_more-append (group_of (x ∷ xs)) (groups_of xs) (groups_of ys)
 
-pub zip_append : (gs hs : List (List Row)) (fs es : List Found) → AllZip SaysGroup gs fs → AllZip SaysGroup hs es → AllZip SaysGroup (gs ++ hs) (fs ++ es)
+pub zip_append : (gs hs : List (List Row)) (fs es : List FoundParity) → AllZip SaysGroup gs fs → AllZip SaysGroup hs es → AllZip SaysGroup (gs ++ hs) (fs ++ es)
 zip_append [] hs [] es h k = k
 zip_append [] hs (f ∷ fs) es h k = absurd h
 zip_append (g ∷ gs) hs [] es h k = absurd h
@@ -216,18 +216,18 @@ before_by x s t begins ahead = elim ahead [
 
 -- ---- a run by itself
 
-pub record RunProgress (rows : List Row) (start : ℕ) (old finds : List Found) : Type 0 where
-  pub more : List Found
+pub record RunProgress (rows : List Row) (start : ℕ) (old finds : List FoundParity) : Type 0 where
+  pub more : List FoundParity
   pub progress : Progress rows start more
   pub added : finds ≡ old ++ more
 
-pub run_begins : (rows : List Row) (old : List Found) → RunProgress rows 0 old old
+pub run_begins : (rows : List Row) (old : List FoundParity) → RunProgress rows 0 old old
 run_begins rows old = record { more = []; progress = begins rows; added = sym (append-nil old) }
 
-pub run_stays : (rows : List Row) (k : ℕ) (old finds new : List Found) → k < length rows → group_of (drop k rows) ≡ None → new ≡ finds → RunProgress rows k old finds → RunProgress rows (k + 1) old new
+pub run_stays : (rows : List Row) (k : ℕ) (old finds new : List FoundParity) → k < length rows → group_of (drop k rows) ≡ None → new ≡ finds → RunProgress rows k old finds → RunProgress rows (k + 1) old new
 run_stays rows k old finds new lt none is h = record { more = h.more; progress = stays rows k h.more lt none h.progress; added = is ∙ h.added }
 
-pub run_grows : (rows : List Row) (k : ℕ) (old finds new : List Found) (g : List Row) (find : Found) → k < length rows → group_of (drop k rows) ≡ Some g → SaysGroup g find → new ≡ finds ++ find ∷ []
+pub run_grows : (rows : List Row) (k : ℕ) (old finds new : List FoundParity) (g : List Row) (find : FoundParity) → k < length rows → group_of (drop k rows) ≡ Some g → SaysGroup g find → new ≡ finds ++ find ∷ []
     → RunProgress rows k old finds → RunProgress rows (k + 1) old new
 run_grows rows k old finds new g find lt some says pushed h = record {
   more = h.more ++ find ∷ [];
@@ -235,7 +235,7 @@ run_grows rows k old finds new g find lt some says pushed h = record {
   added = pushed ∙ ap (λ fs. fs ++ find ∷ []) h.added ∙ append_assoc old h.more (find ∷ []);
 }
 
-pub run_ends : (C : List (List Literal)) (run : List Start) (rows : List Row) (k : ℕ) (old finds : List Found) → AreFirsts (rows_at C run) rows → length rows ≤ k → length rows ≤ length run → RunProgress rows k old finds → AddsFound C run old finds
+pub run_ends : (C : List (List Literal)) (run : List Start) (rows : List Row) (k : ℕ) (old finds : List FoundParity) → AreFirsts (rows_at C run) rows → length rows ≤ k → length rows ≤ length run → RunProgress rows k old finds → AddsFound C run old finds
 run_ends C run rows k old finds firsts le few h =
     let says = ends rows k h.more le h.progress in
     let least = few_finds rows h.more says in
@@ -245,7 +245,7 @@ pub rows_proper : (C : List (List Literal)) (ss : List Start) → AllWithin C �
 rows_proper C ss within each x c = (proper C 1 within x (of_starts C ss x each c).3).0
 
 -- one clause alone
-pub run_alone : (C : List (List Literal)) (run : List Start) (old : List Found) → AllWithin C → AllByRecursion (IsStart C) run → length run < 2 → AddsFound C run old old
+pub run_alone : (C : List (List Literal)) (run : List Start) (old : List FoundParity) → AllWithin C → AllByRecursion (IsStart C) run → length run < 2 → AddsFound C run old old
 run_alone C run old within each alone =
     let rows = rows_at C run in
     let few = few_at C run in
@@ -259,10 +259,10 @@ run_alone C run old within each alone =
       few = omega arith;
     }
 
--- ---- one run behind the others
+-- ---- one run after the others
 
 -- what is found of some of the starts, where the rest start later
-pub record RunsDone (C : List (List Literal)) (all rest : List Start) (finds : List Found) : Type 0 where
+pub record RunsDone (C : List (List Literal)) (all rest : List Start) (finds : List FoundParity) : Type 0 where
   pub done : List Start
   pub kept : List Row
   pub among : (s : Start) → Contains done s → Contains all s
@@ -300,10 +300,10 @@ all_starts_by P (s ∷ ss) h = (h s (in_head s ss), all_starts_by P ss (λ t c. 
 pub run_each : (C : List (List Literal)) (all run : List Start) → AllByRecursion (IsStart C) all → ((s : Start) → Contains run s → Contains all s) → AllByRecursion (IsStart C) run
 run_each C all run each inside = all_starts_by (IsStart C) run (λ s c. start_is C all s each (inside s c))
 
-done_each : (C : List (List Literal)) (all rest : List Start) (finds : List Found) → AllByRecursion (IsStart C) all → (h : RunsDone C all rest finds) → AllByRecursion (IsStart C) h.done
+done_each : (C : List (List Literal)) (all rest : List Start) (finds : List FoundParity) → AllByRecursion (IsStart C) all → (h : RunsDone C all rest finds) → AllByRecursion (IsStart C) h.done
 done_each C all rest finds each h = run_each C all h.done each h.among
 
-pub next_run : (C : List (List Literal)) (all rest run later : List Start) (old new : List Found) → AllWithin C → AllByRecursion (IsStart C) all → AllByRecursion (IsStart C) run → ((s : Start) → Contains run s → Contains all s) → IsRun rest run later
+pub next_run : (C : List (List Literal)) (all rest run later : List Start) (old new : List FoundParity) → AllWithin C → AllByRecursion (IsStart C) all → AllByRecursion (IsStart C) run → ((s : Start) → Contains run s → Contains all s) → IsRun rest run later
     → AddsFound C run old new → RunsDone C all rest old → RunsDone C all later new
 next_run C all rest run later old new within each each_run inside is adds done =
     let proper_old : (x : Row) → Contains done.kept x → IsProper x = (λ x c. rows_proper C done.done within (done_each C all rest old each done) x (done.firsts.from x c)) in
@@ -331,7 +331,7 @@ next_run C all rest run later old new within each each_run inside is adds done =
 
 -- ---- all runs
 
-pub found_runs : (formula : Problem) (all rest : List Start) (finds result : List Found) → IsWithinVariables formula.variables formula.constraints → AreStarts (clauses_of formula.constraints) all → length rest ≡ 0
+pub found_runs : (formula : Problem) (all rest : List Start) (finds result : List FoundParity) → IsWithinVariables formula.variables formula.constraints → AreStarts (clauses_of formula.constraints) all → length rest ≡ 0
     → RunsDone (clauses_of formula.constraints) all rest finds → result ≡ finds → FoundAll formula result
 found_runs formula all rest finds result within are none done is =
     let C = clauses_of formula.constraints in

@@ -1,4 +1,4 @@
--- Walking two lists in order side by side: what stands up to a pair of variables, and what stands behind it.
+-- Walking two lists in order side by side: what comes up to a pair of variables, and what comes after it.
 use Rattle.std.proofs.Common.{◌≡◌, refl, sym, ap, ◌∙◌, subst, ℕ, zero, suc, ◌+◌, ◌-◌, ◌<◌, ◌≤◌, List, [], ◌∷◌, ◌++◌, length, get_or, take, drop, arith, ◌⊎◌, inl, inr, length-append, length-drop}
 use Rattle.std.specs.List.{AllByRecursion, Contains}
 use Rattle.std.specs.List.Sorted.{IsNonDecreasingBy, IsPermutation}
@@ -15,7 +15,7 @@ use Rattle.std.proofs.lemmas.List.Sorted.{IsPermutation-sym, Contains-permutatio
 use Rattle.std.proofs.Math.ListN.{drop_of_length-le}
 use Rattle.std.proofs.lemmas.Bool.{cases_order}
 use Rattle.cx_base.specs.Problem.{Problem, IsWithinVariables, clauses_of}
-use Rattle.xor_recover.specs.declared.found.Found.{Found}
+use Rattle.xor_recover.specs.declared.found.FoundParity.{FoundParity}
 use Rattle.xor_recover.specs.Groups.{AddsFound}
 use Rattle.xor_recover.proofs.Numbers.{AllWithin}
 use Rattle.xor_recover.proofs.Sound.{FoundAll}
@@ -183,7 +183,7 @@ a_run S W a a' b b' p rise rise' fits ends ends' =
     subst (λ (ss : List Start). IsRun ss (run_of S W a a' b b') (rest_of S W a' b')) (λ i. split i ++ split' i)
     (parts (λ s t cs ct. ahead_by s t (whole s (here s cs)) (whole t (there t ct)) (let le = from s cs in let lt = behind t ct in omega (arith, le, lt)))))
 
--- what stands in the run stands among all
+-- what is in the run is among all
 pub run_among : (S : List Start) (W : List Whole) (a a' b b' : ℕ) → (s : Start) → Contains (run_of S W a a' b b') s → Contains (S ++ starts_of_all W) s
 run_among S W a a' b b' s c = elim (Contains-append_cases (take (a' - a) (drop a S)) (starts_of_all (take (b' - b) (drop b W))) s c) [
   | inl x ↦ (let k = in_part S a (a' - a) s x in Contains-append_left S (starts_of_all W) s (k.0, k.3, k.4))
@@ -248,7 +248,7 @@ stays_inside n xs ys at end p is ends =
     let high = ends.inside in
     omega (arith, long, up, high)
 
-pub walk_step : (C : List (List Literal)) (S s : List Start) (W w : List Whole) (a e b f p : ℕ) (old new : List Found) → s ≡ S → w ≡ W → AllWithin C → AreStarts C (S ++ starts_of_all W) → IsNonDecreasingBy pair_of S → IsNonDecreasingBy (λ (w : Whole). pair_of w.start) W
+pub walk_step : (C : List (List Literal)) (S s : List Start) (W w : List Whole) (a e b f p : ℕ) (old new : List FoundParity) → s ≡ S → w ≡ W → AllWithin C → AreStarts C (S ++ starts_of_all W) → IsNonDecreasingBy pair_of S → IsNonDecreasingBy (λ (w : Whole). pair_of w.start) W
     → EndsAt pair_of S a e p → EndsAt (λ (w : Whole). pair_of w.start) W b f p → AddsFound C (take (e - a) (drop a s) ++ starts_of_all (take (f - b) (drop b w))) old new → RunsDone C (S ++ starts_of_all W) (rest_of S W a b) old
     → RunsDone C (S ++ starts_of_all W) (rest_of S W (a + length (take (e - a) (drop a s))) (b + length (take (f - b) (drop b w)))) new
 walk_step C S s W w a e b f p old new is is' within are rise rise' ends ends' adds done =
@@ -261,7 +261,7 @@ walk_step C S s W w a e b f p old new is is' within are rise rise' ends ends' ad
     subst (λ (ss : List Start). RunsDone C (S ++ starts_of_all W) ss new) (λ i. rest_of S W (at i) (at' i))
     (next_run C (S ++ starts_of_all W) (rest_of S W a b) (run_of S W a e b f) (rest_of S W e f) old new within are.each (run_each C (S ++ starts_of_all W) (run_of S W a e b f) are.each inside) inside run adds' done)
 
-pub walk_ends : (formula : Problem) (S : List Start) (W : List Whole) (a b : ℕ) (finds result : List Found) → IsWithinVariables formula.variables formula.constraints → AreStarts (clauses_of formula.constraints) (S ++ starts_of_all W)
+pub walk_ends : (formula : Problem) (S : List Start) (W : List Whole) (a b : ℕ) (finds result : List FoundParity) → IsWithinVariables formula.variables formula.constraints → AreStarts (clauses_of formula.constraints) (S ++ starts_of_all W)
     → length S ≤ a → length W ≤ b → RunsDone (clauses_of formula.constraints) (S ++ starts_of_all W) (rest_of S W a b) finds → result ≡ finds → FoundAll formula result
 walk_ends formula S W a b finds result within are le le' done is =
     found_runs formula (S ++ starts_of_all W) (rest_of S W a b) finds result within are (ap length (λ i. drop_of_length-le S le i ++ starts_of_all (drop_of_length-le W le' i))) done is

@@ -1,4 +1,4 @@
--- The rows of a parity whose clauses stand one behind the other are one group.
+-- The rows of a parity whose clauses follow one another are one group.
 use Rattle.std.proofs.Common.{◌≡◌, refl, sym, ap, ◌∙◌, subst, ℕ, ◌-◌, ◌^◌, ◌<◌, ◌≤◌, Bool, true, false, cond, ◌&&◌, nat_eq, List, [], ◌∷◌, ◌++◌, length, get_or, take, map, arith, true≢false, Some, None}
 use Rattle.std.specs.Prelude.{nat_le}
 use Rattle.std.specs.List.{AllByRecursion, AllZip, IsDistinct, range_with_len}
@@ -16,7 +16,7 @@ use Rattle.std.proofs.lemmas.List.Elements.{recursion_from_All, All-from_recursi
 use Rattle.std.proofs.lemmas.List.Sorted.{IsPermutation-refl, IsPermutation-sym, IsPermutation-trans, IsPermutation-cons, IsPermutation-middle, IsPermutation-map, All-permutation, Contains-permutation, length_permutation}
 use Rattle.cx_base.specs.Literals.{Literal}
 use Rattle.parity_engine.specs.Written.{literals_with}
-use Rattle.xor_recover.specs.declared.found.Found.{Found}
+use Rattle.xor_recover.specs.declared.found.FoundParity.{FoundParity}
 use Rattle.xor_recover.specs.declared.wholes.Whole.{Whole}
 use Rattle.xor_recover.specs.Rows.{Row, shape_cmp}
 use Rattle.xor_recover.specs.Groups.{AddsFound, SaysGroup, needed, same_key, same_shape, group_of, groups_of, and_more}
@@ -117,12 +117,12 @@ range_rises a n i j d le lt =
     let y = get_or-range_with_len a n j d (omega (arith, lt, long)) in
     omega (arith, x, y, le)
 
-says_whole : (vs : List ℕ) (right : Bool) (zs : List Row) (find : Found) → AllByRecursion (OfKey vs right) zs → 1 ≤ length zs → find.parity ≡ literals_with right vs → IsPermutation (map (λ (x : Row). x.number) zs) find.clauses → IsNonDecreasing find.clauses → SaysGroup zs find
+says_whole : (vs : List ℕ) (right : Bool) (zs : List Row) (find : FoundParity) → AllByRecursion (OfKey vs right) zs → 1 ≤ length zs → find.parity ≡ literals_with right vs → IsPermutation (map (λ (x : Row). x.number) zs) find.clauses → IsNonDecreasing find.clauses → SaysGroup zs find
 says_whole vs right [] find h some parity numbers rising = absurd (omega arith)
 says_whole vs right (x ∷ xs) find h some parity numbers rising =
     record { first = x; rest = xs; is = refl; parity = parity ∙ (λ i. literals_with (sym h.0.1 i) (sym h.0.0 i)); numbers = numbers; rising = rising }
 
-pub whole_adds : (C : List (List Literal)) (w : Whole) (old : List Found) (find : Found) → IsWhole C w → find.parity ≡ literals_with w.key.right w.key.vars.items → find.clauses ≡ range_with_len w.start.number (count_of w)
+pub whole_adds : (C : List (List Literal)) (w : Whole) (old : List FoundParity) (find : FoundParity) → IsWhole C w → find.parity ≡ literals_with w.key.right w.key.vars.items → find.clauses ≡ range_with_len w.start.number (count_of w)
     → 1 ≤ count_of w → AddsFound C (starts_of w) old (old ++ find ∷ [])
 whole_adds C w old find h parity clauses some =
     let rows = rows_at C (starts_of w) in
@@ -156,12 +156,12 @@ one_whole (v ∷ []) w e is = ap (λ u. u ∷ []) (sym is)
 one_whole (v ∷ u ∷ ws) w e is = absurd (omega arith)
 
 -- a whole parity that starts like no other clause
-pub whole_alone : (C : List (List Literal)) (run : List Start) (ws : List Whole) (w : Whole) (old new : List Found) (find : Found) → length run ≡ 0 → length ws ≡ 1 → w ≡ get_or ws 0 w → IsWhole C w → find.parity ≡ literals_with w.key.right w.key.vars.items
+pub whole_alone : (C : List (List Literal)) (run : List Start) (ws : List Whole) (w : Whole) (old new : List FoundParity) (find : FoundParity) → length run ≡ 0 → length ws ≡ 1 → w ≡ get_or ws 0 w → IsWhole C w → find.parity ≡ literals_with w.key.right w.key.vars.items
     → find.clauses ≡ range_with_len w.start.number (count_of w) → new ≡ old ++ find ∷ [] → AddsFound C (run ++ starts_of_all ws) old new
 whole_alone C run ws w old new find none one is h parity clauses pushed =
     let e : run ++ starts_of_all ws ≡ starts_of w = (λ i. no_run run none i ++ starts_of_all (one_whole ws w one is i)) ∙ append-nil (starts_of w) in
     subst (λ (ss : List Start). AddsFound C ss old new) (sym e) (subst (AddsFound C (starts_of w) old) (sym pushed) (whole_adds C w old find h parity clauses (count_low w h.two h.six)))
 
-pub clause_alone : (C : List (List Literal)) (run : List Start) (ws : List Whole) (old : List Found) → AllWithin C → AllByRecursion (IsStart C) run → length ws ≡ 0 → length run < 2 → AddsFound C (run ++ starts_of_all ws) old old
+pub clause_alone : (C : List (List Literal)) (run : List Start) (ws : List Whole) (old : List FoundParity) → AllWithin C → AllByRecursion (IsStart C) run → length ws ≡ 0 → length run < 2 → AddsFound C (run ++ starts_of_all ws) old old
 clause_alone C run [] old within each none few = subst (λ (ss : List Start). AddsFound C ss old old) (sym (append-nil run)) (run_alone C run old within each few)
 clause_alone C run (w ∷ ws) old within each none few = absurd (omega arith)

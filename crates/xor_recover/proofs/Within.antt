@@ -11,7 +11,7 @@ use Rattle.xor_recover.specs.Rows.{Row, rows_of, IsProper}
 use Rattle.std.proofs.Math.Seq.{drop-cons}
 use Rattle.std.proofs.lemmas.List.{drop-map}
 use Rattle.std.proofs.lemmas.List.Elements.{All-from_recursion}
-use Rattle.xor_recover.specs.declared.entry.Entry.{Entry}
+use Rattle.xor_recover.specs.declared.entry.ClauseEntry.{ClauseEntry}
 use Rattle.xor_recover.specs.Entries.{row_of}
 use Rattle.xor_recover.specs.Groups.{group_of, needed}
 use Rattle.xor_recover.proofs.Kept.{AreKept}
@@ -39,19 +39,19 @@ all_by_contains P (x ∷ xs) h = (h x (in_head x xs), all_by_contains P xs (λ y
 pub kept_proper : (C : List (List Literal)) (kept : List Row) → AllWithin C → AreKept (rows_of 1 C) kept → AllByRecursion IsProper kept
 kept_proper C kept within firsts = all_by_contains IsProper kept (λ x c. (proper C 1 within x (firsts.from x c)).0)
 
-pub all_entries : (es : List Entry) → AllByRecursion IsProper (map row_of es) → All (λ (e : Entry). IsProper (row_of e)) es
-all_entries es h = All-from_recursion (λ (e : Entry). IsProper (row_of e)) es (go es h)
+pub all_entries : (es : List ClauseEntry) → AllByRecursion IsProper (map row_of es) → All (λ (e : ClauseEntry). IsProper (row_of e)) es
+all_entries es h = All-from_recursion (λ (e : ClauseEntry). IsProper (row_of e)) es (go es h)
   where
-    go : (es : List Entry) → AllByRecursion IsProper (map row_of es) → AllByRecursion (λ (e : Entry). IsProper (row_of e)) es
+    go : (es : List ClauseEntry) → AllByRecursion IsProper (map row_of es) → AllByRecursion (λ (e : ClauseEntry). IsProper (row_of e)) es
     go [] h = tt
     go (e ∷ es) h = (h.0, go es h.1)
 
-pub numbers_of : (es : List Entry) → map (λ (e : Entry). e.number) es ≡ map (λ (x : Row). x.number) (map row_of es)
+pub numbers_of : (es : List ClauseEntry) → map (λ (e : ClauseEntry). e.number) es ≡ map (λ (x : Row). x.number) (map row_of es)
 numbers_of [] = refl
 numbers_of (e ∷ es) = ap (λ ns. e.number ∷ ns) (numbers_of es)
 
 -- the group at a place begins with its row
-pub group_begins : (es : List Entry) (start : ℕ) (d : Entry) (g : List Row) → start < length es → IsProper (row_of (get_or es start d)) → group_of (drop start (map row_of es)) ≡ Some g
+pub group_begins : (es : List ClauseEntry) (start : ℕ) (d : ClauseEntry) (g : List Row) → start < length es → IsProper (row_of (get_or es start d)) → group_of (drop start (map row_of es)) ≡ Some g
     → g ≡ row_of (get_or es start d) ∷ take (needed (row_of (get_or es start d)) - 1) (map row_of (drop (suc start) es))
 group_begins es start d g lt p h =
     group_first (row_of (get_or es start d)) (map row_of (drop (suc start) es)) g p (sym (ap group_of (drop-map row_of start es ∙ ap (map row_of) (drop-cons es start d lt))) ∙ h)

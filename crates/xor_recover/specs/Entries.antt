@@ -1,12 +1,12 @@
 -- Entries as rows, and places of literals.
 use Rattle.std.specs.Prelude.{◌≡◌, ◌≤◌, List, ◌∷◌, ◌++◌, length, take, drop, Some, None}
 use Rattle.cx_base.specs.Literals.{Literal}
-use Rattle.xor_recover.specs.declared.entry.Entry.{Entry}
+use Rattle.xor_recover.specs.declared.entry.ClauseEntry.{ClauseEntry}
 use Rattle.xor_recover.specs.declared.gathering.Position.{Position}
 use Rattle.xor_recover.specs.declared.gathering.Position.TheVariants as position
 use Rattle.xor_recover.specs.Rows.{Row, inserted}
 
-abbrev pub row_of : Entry → Row
+abbrev pub row_of : ClauseEntry → Row
 row_of e = record { variables = e.key.vars.items; right = e.key.right; signs = e.signs.items; number = e.number }
 
 -- where the literal belongs among literals of rising variables

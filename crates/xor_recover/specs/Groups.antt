@@ -6,7 +6,7 @@ use Rattle.std.specs.Cmp.Lexicographic.{pointwise}
 use mathlib.Core.Bool.{beq}
 use Rattle.std.specs.declared.cmp.Ordering.TheVariants.{Equal}
 use Rattle.parity_engine.specs.Written.{literals_with}
-use Rattle.xor_recover.specs.declared.found.Found.{Found}
+use Rattle.xor_recover.specs.declared.found.FoundParity.{FoundParity}
 use Rattle.cx_base.specs.Literals.{Literal}
 use Rattle.xor_recover.specs.declared.starts.Start.{Start}
 use Rattle.xor_recover.specs.Rows.{Row, shape_cmp}
@@ -43,7 +43,7 @@ groups_of [] = []
 groups_of (x ∷ xs) = and_more (group_of (x ∷ xs)) (groups_of xs)
 
 -- a find says a group's parity and numbers
-pub record SaysGroup (group : List Row) (find : Found) : Type 0 where
+pub record SaysGroup (group : List Row) (find : FoundParity) : Type 0 where
   pub first : Row
   pub rest : List Row
   pub is : group ≡ first ∷ rest
@@ -52,14 +52,14 @@ pub record SaysGroup (group : List Row) (find : Found) : Type 0 where
   pub rising : IsNonDecreasing find.clauses
 
 -- what is found where a list of rows begins
-abbrev pub IsFoundAt : List Row → Option Found → Type 0
+abbrev pub IsFoundAt : List Row → Option FoundParity → Type 0
 IsFoundAt rows None = group_of rows ≡ None
 IsFoundAt rows (Some find) = (g : List Row) × (group_of rows ≡ Some g) × SaysGroup g find
 
--- the finds of the clauses that start so, behind those from before
-pub record AddsFound (clauses : List (List Literal)) (run : List Start) (old new : List Found) : Type 0 where
+-- the finds of the clauses that start so, after those from before
+pub record AddsFound (clauses : List (List Literal)) (run : List Start) (old new : List FoundParity) : Type 0 where
   pub kept : List Row
-  pub more : List Found
+  pub more : List FoundParity
   pub firsts : AreFirsts (rows_at clauses run) kept
   pub says : AllZip SaysGroup (groups_of kept) more
   pub added : new ≡ old ++ more

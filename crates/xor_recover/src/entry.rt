@@ -1,4 +1,4 @@
-//! Clauses in the order in which those of one parity stand side by side.
+//! Clauses in the order in which those of one parity are side by side.
 ghost use Rattle.std.specs.Prelude.{◌≡◌, ◌≤◌, length, map, not};
 ghost use Rattle.cx_base.specs.Parity.{odd_sum};
 ghost use Rattle.xor_recover.specs.Rows.{row};
@@ -19,7 +19,7 @@ pub(crate) struct Key {
 
 /// A clause: the parity, the signs of its literals by rising variables, and its number.
 #[derive(PartialEq, Eq, PartialOrd, Ord, Drop)]
-pub(crate) struct Entry {
+pub(crate) struct ClauseEntry {
     pub key: Key,
     pub signs: ArrayVec<bool, 6>,
     pub number: u64,
@@ -42,9 +42,9 @@ impl Key {
     }
 }
 
-impl Entry {
+impl ClauseEntry {
     /// The entry of literals by rising variables.
-    pub fn new(lits: &[Lit], number: u64) -> Entry
+    pub fn new(lits: &[Lit], number: u64) -> ClauseEntry
         requires { length lits.now ≤ 6 }
         ensures { row_of result ≡ row lits.now number }
     {
@@ -56,7 +56,7 @@ impl Entry {
             signs.push(lit.is_negative());
             right = right != lit.is_negative();
         }
-        Entry {
+        ClauseEntry {
             key: Key { vars, right },
             signs,
             number,

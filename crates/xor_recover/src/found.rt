@@ -8,7 +8,7 @@ use std::marker::Model;
 ///
 /// Its variables rise. Its literals are positive, but for the first one where the right side is 0.
 #[derive(Drop)]
-pub struct Found {
+pub struct FoundParity {
     /// The parity's literals.
     pub parity: LitList,
     /// The numbers of clauses, from 1 among the formula's clauses.
@@ -18,35 +18,35 @@ pub struct Found {
 /// A list of recovered parities.
 #[derive(Drop)]
 pub struct FoundList {
-    finds: Vec<Found>,
+    finds: Vec<FoundParity>,
 }
 
 impl Model for FoundList {
     ghost use Rattle.std.specs.Prelude.{List};
-    ghost use Rattle.xor_recover.specs.declared.found.Found.{Found};
+    ghost use Rattle.xor_recover.specs.declared.found.FoundParity.{FoundParity};
 
-    ghost Value = { List Found };
+    ghost Value = { List FoundParity };
 
     ghost view = { λ a. a.finds.items };
 }
 
 impl FoundList {
     /// The list of a vector's elements.
-    pub fn from_vec(finds: Vec<Found>) -> FoundList
+    pub fn from_vec(finds: Vec<FoundParity>) -> FoundList
         ensures { result ≡ finds.items }
     {
         FoundList { finds }
     }
 
     /// The elements in order.
-    pub fn as_slice(&self) -> &[Found]
+    pub fn as_slice(&self) -> &[FoundParity]
         ensures { result.now ≡ self.now }
     {
         &self.finds
     }
 
     /// The vector of the elements.
-    pub fn into_vec(self) -> Vec<Found>
+    pub fn into_vec(self) -> Vec<FoundParity>
         ensures { result.items ≡ self }
     {
         self.finds

@@ -9,7 +9,7 @@ ghost use Rattle.xor_recover.specs.Starts.{rows_at, IsStart};
 ghost use Rattle.xor_recover.specs.Wholes.{IsWhole, starts_of, starts_of_all};
 ghost use Rattle.xor_recover.specs.Groups.{AreFirsts};
 
-use crate::entry::{Entry, WIDEST};
+use crate::entry::{ClauseEntry, WIDEST};
 use crate::starts::Start;
 use crate::wholes::Whole;
 use cx_base::{Formula, Lit};
@@ -20,9 +20,9 @@ use std::alloc::{AllocError, Global};
 enum Position {
     /// Its variable is not there, and belongs before this place.
     New(usize),
-    /// It stands there.
+    /// It is there.
     Same,
-    /// Its negation stands there.
+    /// Its negation is there.
     Negated,
 }
 
@@ -64,7 +64,7 @@ fn place(normal: &mut Vec<Lit>, lit: Lit) -> Result<bool, AllocError>
     }
 }
 
-/// Makes a clause's literals those of rising variables, each once, if there are at most six and none beside its negation.
+/// Makes a clause's literals those of rising variables, each once, if there are at most six and none with its negation.
 fn gather(normal: &mut Vec<Lit>, lits: &[Lit]) -> Result<bool, AllocError>
     ensures gathered { IfOk result (λ taken. MatchBool taken (gathered [] lits.now ≡ Some normal.new.items) (gathered [] lits.now ≡ None)) }
     ensures short { IfOk result (λ taken. OnTrue taken (length normal.new.items ≤ 6)) }
@@ -82,7 +82,7 @@ fn gather(normal: &mut Vec<Lit>, lits: &[Lit]) -> Result<bool, AllocError>
 #[derive(Drop)]
 pub(crate) struct Room {
     normal: Vec<Lit>,
-    pub entries: Vec<Entry>,
+    pub entries: Vec<ClauseEntry>,
 }
 
 impl Room {
@@ -98,7 +98,7 @@ impl Room {
         ensures { OnOk result (map row_of self.new.entries.items ≡ map row_of self.old.entries.items ++ rows_if (gathered [] lits.now) number) }
     {
         if gather(&mut self.normal, lits)? && self.normal.len() >= 2 {
-            self.entries.push(Entry::new(&self.normal, number))?;
+            self.entries.push(ClauseEntry::new(&self.normal, number))?;
         }
         Ok(())
     }

@@ -1,7 +1,7 @@
 //! Parities from the clauses of a formula.
 ghost use Rattle.std.specs.Prelude.{◌≡◌, ◌<◌, ◌≤◌, ◌+◌, ◌++◌, map, drop, length, Some, None, MatchOption, IfOk, OnOk};
 ghost use Rattle.std.specs.List.{All, AllByRecursion, Contains, range_with_len};
-ghost use Rattle.xor_recover.specs.declared.found.Found.{Found};
+ghost use Rattle.xor_recover.specs.declared.found.FoundParity.{FoundParity};
 ghost use Rattle.std.specs.List.Sorted.{IsPermutation, IsNonDecreasing, IsStrictlySortedBy};
 ghost use Rattle.xor_recover.specs.Finds.{HasLeastNumbers, IsJudgedRight, find_cmp};
 ghost use Rattle.cx_base.specs.declared.literal.TheConstants.{MAX_VARIABLE};
@@ -15,8 +15,8 @@ ghost use Rattle.xor_recover.specs.Starts.{IsStart};
 ghost use Rattle.xor_recover.specs.Groups.{AddsFound, group_of, IsFoundAt};
 ghost use Rattle.xor_recover.specs.Wholes.{IsWhole, count_of, starts_of_all};
 
-use crate::entry::{Entry, Key};
-use crate::found::{Found, FoundList};
+use crate::entry::{ClauseEntry, Key};
+use crate::found::{FoundList, FoundParity};
 use crate::gathering::Room;
 use crate::ordered::{Ordered, in_order, next_pair};
 use crate::starts::{Start, starts_end};
@@ -38,7 +38,7 @@ fn written(alloc: Global, key: &Key) -> Result<LitList, AllocError>
 }
 
 /// The numbers of the entries, rising.
-fn numbers(alloc: Global, group: &[Entry]) -> Result<IdList, AllocError>
+fn numbers(alloc: Global, group: &[ClauseEntry]) -> Result<IdList, AllocError>
     ensures same { IfOk result (λ ns. IsPermutation (map (λ e. e.number) group.now) ns) }
     ensures rising { IfOk result IsNonDecreasing }
 {
@@ -50,8 +50,8 @@ fn numbers(alloc: Global, group: &[Entry]) -> Result<IdList, AllocError>
     Ok(IdList::from_vec(numbers))
 }
 
-/// The clauses from the first entry on that exclude each wrong assignment of its variables, if they stand there.
-fn group_at(entries: &[Entry], start: usize) -> Option<&[Entry]>
+/// The clauses from the first entry on that exclude each wrong assignment of its variables, if all are there.
+fn group_at(entries: &[ClauseEntry], start: usize) -> Option<&[ClauseEntry]>
     requires here { start < length entries.now }
     requires wide { All (λ e. 1 ≤ length e.key.vars.items) entries.now }
     ensures { MatchOption result (group_of (drop start (map row_of entries.now)) ≡ None) (λ g. group_of (drop start (map row_of entries.now)) ≡ Some (map row_of g.now)) }
@@ -65,8 +65,12 @@ fn group_at(entries: &[Entry], start: usize) -> Option<&[Entry]>
     }
 }
 
-/// The parity whose clauses begin at an entry, if they stand there.
-fn found_at(alloc: Global, entries: &[Entry], start: usize) -> Result<Option<Found>, AllocError>
+/// The parity whose clauses begin at an entry, if all are there.
+fn found_at(
+    alloc: Global,
+    entries: &[ClauseEntry],
+    start: usize,
+) -> Result<Option<FoundParity>, AllocError>
     requires here { start < length entries.now }
     requires proper { All (λ e. IsProper (row_of e)) entries.now }
     ensures { IfOk result (λ o. IsFoundAt (drop start (map row_of entries.now)) o) }
@@ -75,7 +79,7 @@ fn found_at(alloc: Global, entries: &[Entry], start: usize) -> Result<Option<Fou
         Some(group) => {
             let parity = written(alloc, &entries[start].key)?;
             let clauses = numbers(alloc, group)?;
-            Ok(Some(Found { parity, clauses }))
+            Ok(Some(FoundParity { parity, clauses }))
         }
         None => Ok(None),
     }
@@ -93,8 +97,8 @@ fn neighbours(alloc: Global, first: u64, count: usize) -> Result<IdList, AllocEr
     Ok(IdList::from_vec(numbers))
 }
 
-/// The parity whose clauses stand one behind the other.
-fn found_whole(alloc: Global, whole: &Whole) -> Result<Found, AllocError>
+/// The parity whose clauses follow one another.
+fn found_whole(alloc: Global, whole: &Whole) -> Result<FoundParity, AllocError>
     requires rising { AreRising 1 MAX_VARIABLE whole.now.key.vars.items }
     requires some { 1 ≤ length whole.now.key.vars.items }
     requires fits { whole.now.start.number + count_of whole.now ≤ u64.MAX + 1 }
@@ -103,7 +107,7 @@ fn found_whole(alloc: Global, whole: &Whole) -> Result<Found, AllocError>
 {
     let parity = written(alloc, &whole.key)?;
     let clauses = neighbours(alloc, whole.start.number, whole.count())?;
-    Ok(Found { parity, clauses })
+    Ok(FoundParity { parity, clauses })
 }
 
 /// Adds the parities of clauses, put in order.
@@ -113,7 +117,7 @@ fn find_in_order(
     run: &[Start],
     wholes: &[Whole],
     room: &mut Room,
-    finds: &mut Vec<Found>,
+    finds: &mut Vec<FoundParity>,
 ) -> Result<(), AllocError>
     requires starts { AllByRecursion (IsStart (clauses_of formula.now.constraints)) run.now }
     requires wholes { AllByRecursion (IsWhole (clauses_of formula.now.constraints)) wholes.now }
@@ -138,7 +142,7 @@ fn find_among(
     run: &[Start],
     wholes: &[Whole],
     room: &mut Room,
-    finds: &mut Vec<Found>,
+    finds: &mut Vec<FoundParity>,
 ) -> Result<(), AllocError>
     requires starts { AllByRecursion (IsStart (clauses_of formula.now.constraints)) run.now }
     requires wholes { AllByRecursion (IsWhole (clauses_of formula.now.constraints)) wholes.now }
@@ -157,13 +161,13 @@ fn find_among(
     find_in_order(alloc, formula, run, wholes, room, finds)
 }
 
-/// The parities of 2 to 6 variables that stand in the formula as clauses, in order of their variables, with right
+/// The parities of 2 to 6 variables that the formula has as clauses, in order of their variables, with right
 /// side 0 before 1.
 pub fn recover(alloc: Global, formula: &Formula) -> Result<FoundList, AllocError>
     ensures sound { IfOk result (λ finds. All (λ find. Recovered formula.now (normal_form find.parity)) finds) }
     ensures written { IfOk result (λ finds. All (λ find. IsWritten (normal_form find.parity) find.parity) finds) }
     ensures in_order { IfOk result (λ finds. IsStrictlySortedBy find_cmp finds) }
-    ensures complete { IfOk result (λ finds. (form : NormalForm) → Recovered formula.now form → (find : Found) × Contains finds find × (normal_form find.parity ≡ form)) }
+    ensures complete { IfOk result (λ finds. (form : NormalForm) → Recovered formula.now form → (find : FoundParity) × Contains finds find × (normal_form find.parity ≡ form)) }
     ensures least { IfOk result (λ finds. All (HasLeastNumbers formula.now) finds) }
     ensures judged { IfOk result (λ finds. All (IsJudgedRight formula.now) finds) }
     ensures within { IfOk result (λ finds. All (λ find. AreWithin formula.now.variables find.parity) finds) }

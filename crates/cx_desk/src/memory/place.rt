@@ -8,7 +8,7 @@ use crate::Failed;
 
 /// The name that was asked for; the file and the place in it once there is one; and whether a read gave the end.
 #[derive(Drop)]
-pub(super) struct Place {
+pub(super) struct FilePlace {
     name: Option<String>,
     file: Option<usize>,
     at: usize,
@@ -29,11 +29,11 @@ pub(super) fn index_of(files: &[NamedFile], name: &str) -> Option<usize>
     None
 }
 
-impl Place {
+impl FilePlace {
     pub(super) fn nowhere() -> Self
         ensures { result ≡ record { name = None; file = None; at = 0; ended = false } }
     {
-        Place {
+        FilePlace {
             name: None,
             file: None,
             at: 0,

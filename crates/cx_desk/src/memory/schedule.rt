@@ -3,16 +3,16 @@ ghost use Rattle.std.specs.Prelude.{◌≡◌, ◌≤◌};
 
 /// Counts the calls, and holds the numbers of those that fail.
 #[derive(Drop)]
-pub(super) struct Schedule {
+pub(super) struct FaultSchedule {
     calls: u64,
     failing: Vec<u64>,
-    /// All calls after so many fail.
+    /// All calls after this many fail.
     passes: Option<u64>,
     pub(super) piece: usize,
     ghost moves_some: { 1 ≤ piece },
 }
 
-impl Schedule {
+impl FaultSchedule {
     ghost use Rattle.cx_base.specs.Counts.{count_after};
     ghost use Rattle.std.specs.Prelude.{◌||◌};
     ghost use Rattle.cx_desk.specs.Schedule.{is_failing, is_past};
@@ -24,7 +24,7 @@ impl Schedule {
         ensures passes { result.passes ≡ passes }
         ensures piece { result.piece ≡ piece }
     {
-        Schedule {
+        FaultSchedule {
             calls: 0,
             failing,
             passes,

@@ -2,7 +2,7 @@ use Rattle.std.proofs.Common.{◌≡◌, sym, ap, ◌∙◌, ℕ, ◌<◌, ◌�
 use Rattle.std.proofs.lemmas.List.{take_all, length-map, get_or_read}
 use Rattle.std.proofs.lemmas.List.Elements.{recursion_from_All}
 use Rattle.cx_base.specs.Problem.{Problem, AreWithin, parities_of}
-use Rattle.xor_recover.specs.declared.found.Found.{Found}
+use Rattle.xor_recover.specs.declared.found.FoundParity.{FoundParity}
 use Rattle.std.specs.List.{All}
 use Rattle.std.proofs.lemmas.Result.{err_from_is_err_and}
 use Rattle.xor_recover.specs.Finds.{IsJudgedRight}
@@ -34,7 +34,7 @@ tell_find-requires-clause-fewer g c =
     let same = ap (λ (f : Problem). length f.constraints) c.loop-place.invariant.log.formula in
     let are = ap length c.loop-place.invariant.are in
     let both = length-append (parities_of formula.constraints) (parities_found (take place finds)) in
-    let mapped = length-map (take place finds) (λ (f : Found). f.parity) in
+    let mapped = length-map (take place finds) (λ (f : FoundParity). f.parity) in
     let taken = length-take place finds in
     let less = c.loop-place-test.true in
     let end = c.len-place-end.ensures in
@@ -51,7 +51,7 @@ pub tell_find-requires-clause-few : goal.tell_find-requires-clause-few
 tell_find-requires-clause-few g c = subst (λ (f : Problem). length f.constraints ≤ 4294967295) (sym c.loop-place.invariant.log.formula) c.requires.few
 
 -- what holds of each find holds of the one at this place
-of_find : (P : Found → Type 0) (found finds : List Found) (place : ℕ) (find : Found) → finds ≡ found → place < length finds → find ≡ get_or finds place find → All P found → P find
+of_find : (P : FoundParity → Type 0) (found finds : List FoundParity) (place : ℕ) (find : FoundParity) → finds ≡ found → place < length finds → find ≡ get_or finds place find → All P found → P find
 of_find P found finds place find is less read all = subst P (sym read) (subst (All P) (sym is) all place find less)
 
 pub tell_find-requires-clause-within : goal.tell_find-requires-clause-within
@@ -106,7 +106,7 @@ loop-place-preserved g c =
     record {
       given = subst (λ f. HasGiven f c.tell_find.new.parities.items (g.L.Sink.items c.tell_find.new.log.sink.now)) (c.in_ok-tell_find.ensures.log.formula ∙ c.loop-place.invariant.log.formula) c.in_ok-tell_find.ensures.given;
       are = c.in_ok-tell_find.ensures.one_more ∙ ap (λ xs. xs ++ find.parity ∷ []) c.loop-place.invariant.are
-          ∙ ap (λ (f : Found). (own ++ parities_found (take place finds)) ++ f.parity ∷ []) read ∙ one_find_more own finds place find less;
+          ∙ ap (λ (f : FoundParity). (own ++ parities_found (take place finds)) ++ f.parity ∷ []) read ∙ one_find_more own finds place find less;
       log = log_then g.L.Sink g.met.L.Sink.keeps_on _ _ _ _ c.loop-place.invariant.log c.in_ok-tell_find.ensures.log;
     }
 
@@ -127,7 +127,7 @@ returns-clause-engines g c =
     let ok = c.into_vec-finds.result.ok.0 in
     let all = take_all c.loop-place.place finds (omega (arith, far, end, ok)) in
     let is = c.from_vec.ensures ∙ c.loop-place.invariant.are ∙ ap (λ fs. own ++ parities_found fs) (all ∙ c.into_vec-finds.ensures) in
-    let ours = engines_are formula found c.vars-vars.ensures.within (recursion_from_All (λ (f : Found). AreWithin formula.variables f.parity) found c.in_ok-recover.ensures.within) c.in_ok-recover.ensures.few c.in_ok-recover.ensures.complete in
+    let ours = engines_are formula found c.vars-vars.ensures.within (recursion_from_All (λ (f : FoundParity). AreWithin formula.variables f.parity) found c.in_ok-recover.ensures.within) c.in_ok-recover.ensures.few c.in_ok-recover.ensures.complete in
     subst (λ f. AreEngines f c.from_vec.result) (sym c.loop-place.invariant.log.formula) (subst (AreEngines formula) (sym is) ours)
 
 pub returns-clause-log : goal.returns-clause-log

@@ -4,13 +4,13 @@ use Rattle.gf2_matrix.specs.Content.{Content, row_at, form, source_numbers}
 use Rattle.parity_engine.specs.declared.state.Naming.{Naming}
 use Rattle.parity_engine.specs.declared.state.Mood.TheVariants.{Busy, Broken}
 use Rattle.parity_engine.specs.State.{Named}
-use Rattle.gauss_jordan.specs.declared.slot.Slot.{Slot}
+use Rattle.gauss_jordan.specs.declared.slot.RowSlot.{RowSlot}
 use Rattle.gauss_jordan.specs.Slots.{named_of, IsNamedSlot, IsSlotOf, IsSlotSum}
 use Rattle.gauss_jordan.proofs.ScratchEvents.{copy_named, masked, quiet, contradiction, state_named, not_named, named_now, literal_told, fit_implied, fit_kept}
 use Rattle.gauss_jordan.proofs.scratch.answer.Goals as goal
 
 -- a slot that is named has room for a row
-named_fits : (m : Content) (row : ℕ) (naming : Naming) (old new : Slot) (o : Option Naming) → IsSlotOf m old → IsNamedSlot m row naming old new o → IsSlotOf m new
+named_fits : (m : Content) (row : ℕ) (naming : Naming) (old new : RowSlot) (o : Option Naming) → IsSlotOf m old → IsNamedSlot m row naming old new o → IsSlotOf m new
 named_fits m row naming old new None fits copy = copy.fits
 named_fits m row naming old new (Some n) fits same = subst (IsSlotOf m) (sym same) fits
 
@@ -85,7 +85,7 @@ returns-in-Literal-clause-answers c =
     let in' : k < length c.args.slots.now = t.slot_in in
     let made = fit_implied m c.args.level c.args.held.now c.args.assigned.now c.args.truths.now c.args.slots.now c.args.mood r c.requires.whole c.requires.masks
     k slot told.0 t c.is_unmet-negative.result
-    (subst (λ (s : Slot). IsSlotSum s c.args.held.now (length c.args.held.now) c.is_unmet-negative.result) (get_or-set_same c.args.slots.now k slot c.index-slots-column-in-Literal.result in') c.is_unmet-negative.ensures) in (
+    (subst (λ (s : RowSlot). IsSlotSum s c.args.held.now (length c.args.held.now) c.is_unmet-negative.result) (get_or-set_same c.args.slots.now k slot c.index-slots-column-in-Literal.result in') c.is_unmet-negative.ensures) in (
       told.0,
       omega (arith, length-map c.args.slots.now (named_of m)),
       state_named m c.args.level c.args.held.now c.args.assigned.now c.args.truths.now c.args.slots.now c.args.mood r c.requires.whole c.requires.masks
@@ -152,7 +152,7 @@ is_unmet-negative-requires c =
     let values = r.right.wide in
     let column = c.in-Literal.ensures.1 in
     let inside : k < length slots = omega (arith, length-map slots (named_of m)) in
-    let old : Slot = get_or slots k c.index-slots-column.result in
+    let old : RowSlot = get_or slots k c.index-slots-column.result in
     let fits = named_fits m c.in-Literal.row (record { level = c.args.level; in_conflict = false }) old c.name.new.slot old.naming (r.fits k c.index-slots-column.result inside) c.name.ensures in
     rw (get_or-set_same slots k c.name.new.slot c.index-slots-column-in-Literal.result inside) (let wide = fits.terms in omega arith)
 

@@ -1,7 +1,7 @@
 use Rattle.std.proofs.Common.{◌≡◌, ◌∙◌, sym, ap, subst, ℕ, Bool, List, [], length, is_some, inr, rules}
 use Rattle.proof_rules.specs.Kinds.{ListsLive}
 use Rattle.rup_finder.specs.Saturation.{HasPassed, Passes}
-use Rattle.rup_finder.specs.declared.search.Reached.{Reached}
+use Rattle.rup_finder.specs.declared.search.PartialChain.{PartialChain}
 use Rattle.rup_finder.proofs.Propagation.{come_first, saturated_by, seen_on, has_no_chain}
 use Rattle.rup_finder.proofs.search.find.Goals as goal
 
@@ -19,8 +19,8 @@ returns-then-len c =
     let table = c.args.live.now.clauses in
     let ids : List ℕ = c.loop-later.waiting.items in
     let later : List ℕ = c.pass.new.later.items in
-    let old : Reached = c.loop-later.reached in
-    let new : Reached = c.pass.new.reached in
+    let old : PartialChain = c.loop-later.reached in
+    let new : PartialChain = c.pass.new.reached in
     let P : Bool → Type 0 = λ t. Passes table c.deref.result.now old new later t in
     let passed = subst (λ (ks : List ℕ). HasPassed table ks [] (length ks) old new later) c.deref.ensures.value (subst P c.if-branch.false c.in_ok-pass.ensures) in
     let all : length later ≡ length ids = search rules in
@@ -31,8 +31,8 @@ loop-later-preserved c =
     let table = c.args.live.now.clauses in
     let ids : List ℕ = c.loop-later.waiting.items in
     let later : List ℕ = c.pass.new.later.items in
-    let old : Reached = c.loop-later.reached in
-    let new : Reached = c.pass.new.reached in
+    let old : PartialChain = c.loop-later.reached in
+    let new : PartialChain = c.pass.new.reached in
     let P : Bool → Type 0 = λ t. Passes table c.deref.result.now old new later t in
     let passed = subst (λ (ks : List ℕ). HasPassed table ks [] (length ks) old new later) c.deref.ensures.value (subst P c.if-branch.false c.in_ok-pass.ensures) in
     record {

@@ -1,7 +1,7 @@
 use Rattle.std.proofs.Common.{◌≡◌, subst, ℕ, ◌+◌, Bool, List, ◌∷◌, drop, get_or}
 use Rattle.std.proofs.lemmas.List.{drop_more}
 use Rattle.rup_finder.specs.Saturation.{HasPassed, Turns}
-use Rattle.rup_finder.specs.declared.search.Reached.{Reached}
+use Rattle.rup_finder.specs.declared.search.PartialChain.{PartialChain}
 use Rattle.rup_finder.proofs.Propagation.{pass_next}
 use Rattle.rup_finder.proofs.search.pass.Goals as goal
 
@@ -20,9 +20,9 @@ loop-id-preserved c =
     let here : ℕ = get_or ids count 0 in
     let rest : List ℕ = drop (count + 1) ids in
     let next : drop count ids ≡ here ∷ rest = drop_more ids count 0 c.loop-id-test.true in
-    let old : Reached = c.args.reached.now in
-    let mid : Reached = c.loop-id.reached in
-    let new : Reached = c.turn.new.reached in
+    let old : PartialChain = c.args.reached.now in
+    let mid : PartialChain = c.loop-id.reached in
+    let new : PartialChain = c.turn.new.reached in
     let later : List ℕ = c.loop-id.later.items in
     let new_later : List ℕ = c.turn.new.later.items in
     let P : Bool → Type 0 = λ t. Turns table here mid new later new_later t in

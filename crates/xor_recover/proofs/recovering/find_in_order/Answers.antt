@@ -2,7 +2,7 @@ use Rattle.std.proofs.Common.{◌≡◌, ◌<◌, ◌≤◌, sym, ap, ◌∙◌,
 use Rattle.std.proofs.lemmas.List.{length-map}
 use Rattle.std.specs.List.{All}
 use Rattle.cx_base.specs.Problem.{clauses_of}
-use Rattle.xor_recover.specs.declared.entry.Entry.{Entry}
+use Rattle.xor_recover.specs.declared.entry.ClauseEntry.{ClauseEntry}
 use Rattle.xor_recover.specs.Entries.{row_of}
 use Rattle.xor_recover.specs.Rows.{Row, IsProper}
 use Rattle.xor_recover.specs.Groups.{IsFoundAt}
@@ -21,7 +21,7 @@ found_at-requires-clause-proper c =
     let items = c.fill.new.self.entries.items in
     let rows = map row_of items in
     let each = all_append (IsStart (clauses_of cs)) c.args.run.now (starts_of_all c.args.wholes.now) c.requires.starts (wholes_each (clauses_of cs) c.args.wholes.now c.requires.wholes) in
-    subst (λ (es : List Entry). All (λ (e : Entry). IsProper (row_of e)) es) (sym c.deref.ensures.value)
+    subst (λ (es : List ClauseEntry). All (λ (e : ClauseEntry). IsProper (row_of e)) es) (sym c.deref.ensures.value)
     (all_entries items (all_by_contains IsProper rows (λ x cx. rows_proper (clauses_of cs) (c.args.run.now ++ starts_of_all c.args.wholes.now) (formula_within _ cs c.vars-vars.ensures.within) each x (c.in_ok-fill.ensures.firsts.from x cx))))
 
 pub loop-start-preserved : goal.loop-start-preserved

@@ -7,7 +7,7 @@ use Rattle.cx_base.specs.Problem.{AreWithin}
 use Rattle.cx_base.specs.Assumptions.{assumed_by}
 use Rattle.cx_base.specs.Assumed.{is_marked}
 use Rattle.cx_base.specs.Heads.{of_kind, stored}
-use Rattle.cx_base.specs.declared.formula.Head.{Head}
+use Rattle.cx_base.specs.declared.formula.ConstraintHead.{ConstraintHead}
 use Rattle.cx_base.proofs.Drafting.{ended, ended_view, open_within, open_slice}
 use Rattle.cx_base.proofs.AssumedLaws.{assumed_pushed}
 use Rattle.cx_base.proofs.PlaceLaws.{places_pushed}
@@ -17,7 +17,7 @@ pub invariant_of-self-2 : goal.invariant_of-self-2
 invariant_of-self-2 c =
     let lits = c.self.inside.lits.items in
     let heads = c.self.inside.heads.items in
-    let head : Head = record { kind = c.args.kind; start = c.self.inside.closed; len = c.len.result - c.self.inside.closed } in
+    let head : ConstraintHead = record { kind = c.args.kind; start = c.self.inside.closed; len = c.len.result - c.self.inside.closed } in
     let long : c.len.result ≡ length lits = omega arith in
     let after : c.len-self-inside.result ≡ length lits = omega arith in
     let open_len : c.len.result - c.self.inside.closed ≡ length lits - c.self.inside.closed = omega arith in

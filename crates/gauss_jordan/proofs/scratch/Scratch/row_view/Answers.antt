@@ -1,6 +1,6 @@
 use Rattle.std.proofs.Common.{◌≡◌, ◌∙◌, Some, sym, ap, subst, get_or}
 use Rattle.gf2_matrix.specs.Views.{viewed_form}
-use Rattle.gauss_jordan.specs.declared.slot.Slot.{Slot}
+use Rattle.gauss_jordan.specs.declared.slot.RowSlot.{RowSlot}
 use Rattle.gf2_matrix.specs.Content.{form}
 use Rattle.gauss_jordan.specs.Slots.{IsSlotOf, row_of}
 use Rattle.parity_engine.specs.State.{State, named_at}
@@ -17,20 +17,20 @@ pub new-requires : goal.new-requires
 new-requires c =
     let m = c.self.inside in
     let s = (goal.at.new-requires c).After-deref-2 in
-    let slot : Slot = c.index-slot.result.now in
+    let slot : RowSlot = c.index-slot.result.now in
     let some = named_row c.args.self.now c.args.row c.requires in
     let seen = slot_seen m.matrix m.level m.held.items m.assigned.items m.truths.items m.slots.items m.mood c.self.invariant.is c.args.row slot some.0
     (subst (λ (t : State). named_at t c.args.row ≡ Some some.0) (sym c.self.view_is) some.1) in
     rw (c.vars.ensures.is, c.deref.ensures.value, c.self.invariant.variables_are, c.deref-2.ensures.value)
-    (slot_view m.matrix slot (let i = c.self.invariant.is in i.few) (subst (λ (e : Slot). IsSlotOf m.matrix e) (at s) seen.0))
+    (slot_view m.matrix slot (let i = c.self.invariant.is in i.few) (subst (λ (e : RowSlot). IsSlotOf m.matrix e) (at s) seen.0))
 
 pub returns : goal.returns
 returns c n named =
     let m = c.self.inside in
     let s = (goal.at.returns c).After-deref-2 in
-    let slot : Slot = c.index-slot.result.now in
+    let slot : RowSlot = c.index-slot.result.now in
     let seen = slot_seen m.matrix m.level m.held.items m.assigned.items m.truths.items m.slots.items m.mood c.self.invariant.is c.args.row slot n
     (subst (λ (t : State). named_at t c.args.row ≡ Some n) (sym c.self.view_is) named) in
     c.new.ensures
     ∙ (λ i. viewed_form (c.vars.ensures.is i) ((c.deref.ensures.value ∙ c.self.invariant.variables_are) i) 0 (c.deref-2.ensures.value i) slot.right)
-    ∙ slot_form m.matrix slot ∙ ap (λ (e : Slot). form (row_of m.matrix e)) (sym (at s)) ∙ seen.1
+    ∙ slot_form m.matrix slot ∙ ap (λ (e : RowSlot). form (row_of m.matrix e)) (sym (at s)) ∙ seen.1

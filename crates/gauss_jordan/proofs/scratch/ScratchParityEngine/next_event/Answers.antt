@@ -1,7 +1,7 @@
 use Rattle.std.proofs.Common.{◌≡◌, ◌<◌, ◌∙◌, ℕ, sym, ap, subst, length, List, true}
 use Rattle.std.proofs.lemmas.List.{with_items_is}
 use Rattle.gf2_matrix.specs.Content.{IsReducedRow}
-use Rattle.gauss_jordan.specs.declared.slot.Slot.{Slot}
+use Rattle.gauss_jordan.specs.declared.slot.RowSlot.{RowSlot}
 use Rattle.parity_engine.specs.State.{State, Named, Reports, IsBroken, IsNamedNow, IsSameNamed, named_at, names}
 use Rattle.gauss_jordan.specs.Slots.{AreMasks, state_of}
 use Rattle.gauss_jordan.proofs.ScratchEvents.{refreshed, state_shape, broken_again}
@@ -45,7 +45,7 @@ returns c =
     let slots_is = with_items_is m.slots c.answer-event.new.slots (c.answer-event.auto.slots ∙ ap length c.deref_mut-3.ensures.value ∙ sym m.slots.ok.0) in
     let before : state_of d m.level c.deref-3.result.now c.deref_mut-3.result.now m.mood ≡ c.args.self.now =
     ap (λ hs. state_of d m.level hs c.deref_mut-3.result.now m.mood) c.deref-3.ensures.value
-    ∙ ap (λ (ss : List Slot). state_of d m.level m.held.items ss m.mood) c.deref_mut-3.ensures.value
+    ∙ ap (λ (ss : List RowSlot). state_of d m.level m.held.items ss m.mood) c.deref_mut-3.ensures.value
     ∙ state_shape m.matrix d m.level m.held.items m.slots.items m.mood c.reduce_outside.ensures.shape ∙ c.self.view_is in
     rw slots_is
     (subst (λ (s : State). Reports s c.answer-event.result.0 (state_of d m.level m.held.items c.answer-event.new.slots c.answer-event.result.1)) before

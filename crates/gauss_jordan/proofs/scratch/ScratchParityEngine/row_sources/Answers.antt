@@ -1,7 +1,7 @@
 use Rattle.std.proofs.Common.{◌≡◌, ◌∙◌, ℕ, List, ap, subst, length, get_or}
 use Rattle.std.proofs.lemmas.Result.{IfOk-weaker}
 use Rattle.parity_engine.specs.Equations.{numbers_from, sum_of_numbers}
-use Rattle.gauss_jordan.specs.declared.slot.Slot.{Slot}
+use Rattle.gauss_jordan.specs.declared.slot.RowSlot.{RowSlot}
 use Rattle.gauss_jordan.specs.Slots.{first_bits}
 use Rattle.parity_engine.specs.State.{State, Named, OfNamed}
 use Rattle.parity_engine.specs.Written.{AreRising}
@@ -17,5 +17,5 @@ returns c =
     subst (λ (t : State). P t s) c.self.view_is
     (sources_listed m.matrix m.level m.held.items m.assigned.items m.truths.items m.slots.items m.mood c.self.invariant.is c.args.row c.index-slot.result.now s
     (is ∙ ap (λ k. numbers_from 1 (first_bits k c.deref.result.now)) c.given.ensures.count
-    ∙ ap (λ ws. numbers_from 1 (first_bits (length m.matrix.given) ws)) (c.deref.ensures.value ∙ ap (λ (e : Slot). e.sources.items) (c.index-slot.ensures ∙ ap (λ i. get_or m.slots.items i c.index-slot.result.now) c.place.ensures)))))
+    ∙ ap (λ ws. numbers_from 1 (first_bits (length m.matrix.given) ws)) (c.deref.ensures.value ∙ ap (λ (e : RowSlot). e.sources.items) (c.index-slot.ensures ∙ ap (λ i. get_or m.slots.items i c.index-slot.result.now) c.place.ensures)))))
     c.source_list.ensures

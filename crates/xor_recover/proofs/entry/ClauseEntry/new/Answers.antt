@@ -3,7 +3,7 @@ use Rattle.std.proofs.lemmas.List.{take_all}
 use Rattle.cx_base.specs.Literals.{Literal}
 use Rattle.cx_base.specs.Parity.{odd_sum}
 use Rattle.xor_recover.proofs.Reading.{right_more, take_map_more}
-use Rattle.xor_recover.proofs.entry.Entry.new.Goals as goal
+use Rattle.xor_recover.proofs.entry.ClauseEntry.new.Goals as goal
 
 pub loop-lit-preserved : goal.loop-lit-preserved
 loop-lit-preserved c =

@@ -3,7 +3,7 @@ use Rattle.std.proofs.Math.Seq.{take-add, take-append_seam}
 use Rattle.cx_desk.specs.Gave.{is_none}
 use Rattle.cx_desk.specs.Place.{bytes_at}
 use Rattle.cx_desk.proofs.Moves.{none-at, not-none, or-none}
-use Rattle.cx_desk.proofs.memory.place.Place.read.Goals as goal
+use Rattle.cx_desk.proofs.memory.place.FilePlace.read.Goals as goal
 
 pub returns-else-count-eq0-clause-moves : goal.returns-else-count-eq0-clause-moves
 returns-else-count-eq0-clause-moves c =

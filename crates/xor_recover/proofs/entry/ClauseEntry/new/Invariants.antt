@@ -1,7 +1,7 @@
 use Rattle.std.proofs.Common.{◌≡◌, take, map, not}
 use Rattle.cx_base.specs.Literals.{Literal}
 use Rattle.cx_base.specs.Parity.{odd_sum}
-use Rattle.xor_recover.proofs.entry.Entry.new.Given as goal
+use Rattle.xor_recover.proofs.entry.ClauseEntry.new.Given as goal
 
 abbrev pub invariant-loop-lit : goal.invariant-loop-lit
 invariant-loop-lit l = record {
