@@ -1,8 +1,8 @@
 -- Plain words of the commands without options are taken.
 use Rattle.std.proofs.Common.{◌≡◌, ℕ, List, [], ◌∷◌, Some, refl, sym, subst, codes}
 use Rattle.cx_desk.specs.Outside.{Bytes}
-use Rattle.inst_gen.specs.declared.kind.Kind.{Kind}
-use Rattle.inst_gen.specs.declared.kind.Kind.TheVariants.{Even, Odd}
+use Rattle.inst_gen.specs.declared.kind.InstanceKind.{InstanceKind}
+use Rattle.inst_gen.specs.declared.kind.InstanceKind.TheVariants.{Even, Odd}
 use Rattle.cx_words.specs.declared.plans.Plan.TheVariants as plan
 use Rattle.cx_words.specs.Given.{kind_of}
 use Rattle.cx_words.specs.Words.{Asks}
@@ -53,15 +53,15 @@ demo_finds k n s a b c =
     let two = finds_placed demo_leaf (k ∷ []) 2 (row (codes "kind") k ∷ []) (codes "size") n one refl refl refl refl b in
     finds_placed demo_leaf (k ∷ n ∷ []) 3 (row (codes "kind") k ∷ row (codes "size") n ∷ []) (codes "seed") s two refl refl refl refl c
 
-kind_plain : (k : Kind) → NoFlag (kind_word k)
+kind_plain : (k : InstanceKind) → NoFlag (kind_word k)
 kind_plain Even = record { long = refl; short = refl; dashes = refl }
 kind_plain Odd = record { long = refl; short = refl; dashes = refl }
 
-kind_read : (k : Kind) → kind_of (Some (kind_word k)) ≡ Some k
+kind_read : (k : InstanceKind) → kind_of (Some (kind_word k)) ≡ Some k
 kind_read Even = refl
 kind_read Odd = refl
 
-pub demo_asked : (words : List Bytes) (k : Kind) (size seed : ℕ) → PlainDemo k size seed words → Asks words (plan.Demo k size seed)
+pub demo_asked : (words : List Bytes) (k : InstanceKind) (size seed : ℕ) → PlainDemo k size seed words → Asks words (plan.Demo k size seed)
 demo_asked words k size seed h = subst (λ (w : List Bytes). Asks w (plan.Demo k size seed)) (sym h.spelt)
     (asks h.program (codes "demo") demo_leaf (kind_word k ∷ h.size_text ∷ h.seed_text ∷ []) 4 _ (plan.Demo k size seed) enters_demo refl
     (no_defaults demo_leaf (refl, (refl, (refl, (refl, tt)))))

@@ -1,6 +1,6 @@
 -- Words ask for at most one plan, and plain words for what they say.
-use Rattle.std.proofs.Common.{◌≡◌, List, [], Option, Some, Result, Ok, Err, IfOk, inl, inr, sym, ◌∙◌}
-use Rattle.clap.specs.Words.{fault_of}
+use Rattle.std.proofs.Common.{◌≡◌, ◌⊎◌, List, [], ◌∷◌, Option, Some, None, Result, Ok, Err, IfOk, inl, inr, refl, sym, ◌∙◌}
+use Rattle.clap.specs.Words.{Kinds, fault_of}
 use Rattle.cx_desk.specs.Outside.{Bytes}
 use Rattle.cx_words.specs.declared.plans.Plan.{Plan}
 use Rattle.cx_words.specs.declared.plans.Plan.TheVariants as plan
@@ -19,6 +19,14 @@ one_plan words a b h k = let e : Some a ≡ Some b = sym h.asked ∙ k.asked in 
 pub not_refused : (words : List Bytes) (p : Plan) → Asks words p → ¬ Refuses words
 not_refused words p h (inl fault) = fault h.taken
 not_refused words p h (inr none) = let e = sym none ∙ h.asked in cc
+
+pub refused_or_asked : (words : List Bytes) → Refuses words ⊎ ((p : Plan) × Asks words p)
+refused_or_asked words = by (fault_of cxsat words) refl (plan_of words) refl
+  where
+    by : (faults : Kinds) → fault_of cxsat words ≡ faults → (wanted : Option Plan) → plan_of words ≡ wanted → Refuses words ⊎ ((p : Plan) × Asks words p)
+    by (k ∷ ks) has wanted is = inl (inl (λ none. let e : (k ∷ ks) ≡ [] = sym has ∙ none in cc))
+    by [] taken None is = inl (inr is)
+    by [] taken (Some p) is = inr (p, record { taken = taken; asked = is })
 
 pub plain_asked : (words : List Bytes) (p : Plan) → IsPlain words p → Asks words p
 plain_asked words (plan.Solve name to budget) h = solve_asked words name to budget h

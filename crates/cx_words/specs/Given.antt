@@ -7,8 +7,8 @@ use Rattle.std.specs.Char.{is_ascii_digit}
 use Rattle.std.specs.Str.Parse.{digits_value}
 use Rattle.clap.specs.Words.{Row, first_of}
 use Rattle.cx_desk.specs.Outside.{Bytes}
-use Rattle.inst_gen.specs.declared.kind.Kind.{Kind}
-use Rattle.inst_gen.specs.declared.kind.Kind.TheVariants.{Even, Odd}
+use Rattle.inst_gen.specs.declared.kind.InstanceKind.{InstanceKind}
+use Rattle.inst_gen.specs.declared.kind.InstanceKind.TheVariants.{Even, Odd}
 use Rattle.cx_words.specs.declared.plans.Plan.{Plan}
 use Rattle.cx_words.specs.declared.plans.Plan.TheVariants as plan
 use Rattle.cx_words.specs.declared.refusal.PlanRefusal.{PlanRefusal}
@@ -52,10 +52,10 @@ size_of = option_and_then (number_in 4 2000)
 abbrev pub seed_of : Option Bytes → Option ℕ
 seed_of = option_and_then (number_in 0 18446744073709551615)
 
-abbrev pub kind_named : Bytes → Option Kind
+abbrev pub kind_named : Bytes → Option InstanceKind
 kind_named text = if bytes_eq text (codes "even") then Some Even else (if bytes_eq text (codes "odd") then Some Odd else None)
 
-abbrev pub kind_of : Option Bytes → Option Kind
+abbrev pub kind_of : Option Bytes → Option InstanceKind
 kind_of = option_and_then kind_named
 
 -- the formula and the log, which differ where a log is given

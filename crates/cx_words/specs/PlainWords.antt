@@ -5,8 +5,8 @@ use Rattle.std.specs.List.{list_all}
 use Rattle.std.specs.Char.{is_ascii_digit}
 use Rattle.std.specs.Str.Parse.{digits_value}
 use Rattle.cx_desk.specs.Outside.{Bytes}
-use Rattle.inst_gen.specs.declared.kind.Kind.{Kind}
-use Rattle.inst_gen.specs.declared.kind.Kind.TheVariants.{Even, Odd}
+use Rattle.inst_gen.specs.declared.kind.InstanceKind.{InstanceKind}
+use Rattle.inst_gen.specs.declared.kind.InstanceKind.TheVariants.{Even, Odd}
 use Rattle.cx_words.specs.declared.plans.Plan.{Plan}
 use Rattle.cx_words.specs.declared.plans.Plan.TheVariants as plan
 
@@ -36,7 +36,7 @@ pub record SpellsWithin (least most : ℕ) (text : Bytes) (number : ℕ) : Type 
   pub most_met : number ≤ most
 
 -- the word for a kind of instance
-abbrev pub kind_word : Kind → Bytes
+abbrev pub kind_word : InstanceKind → Bytes
 kind_word Even = codes "even"
 kind_word Odd = codes "odd"
 
@@ -114,7 +114,7 @@ pub record PlainModel (formula answer : Bytes) (words : List Bytes) : Type 0 whe
   pub answer_name : IsName answer
   pub differ : formula ≢ answer
 
-pub record PlainDemo (kind : Kind) (size seed : ℕ) (words : List Bytes) : Type 0 where
+pub record PlainDemo (kind : InstanceKind) (size seed : ℕ) (words : List Bytes) : Type 0 where
   pub program : Bytes
   pub size_text : Bytes
   pub seed_text : Bytes

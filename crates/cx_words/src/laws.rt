@@ -1,5 +1,5 @@
 //! Laws of what words ask for.
-ghost use Rattle.std.specs.Prelude.{◌≡◌, List};
+ghost use Rattle.std.specs.Prelude.{◌≡◌, ◌⊎◌, List};
 ghost use Rattle.cx_desk.specs.Outside.{Bytes};
 ghost use Rattle.cx_words.specs.PlainWords.{IsPlain};
 ghost use Rattle.cx_words.specs.Words.{Asks, IsFit, Refuses};
@@ -11,10 +11,11 @@ pub fn plain_words_are_taken()
     ensures taken { (words : List Bytes) (plan : Plan) → IsPlain words plan → ¬ Refuses words }
 {}
 
-/// Words ask for at most one plan, whose numbers are in range and whose names differ; and words that
-/// ask for one are not refused.
+/// Words are refused or ask for a plan, and never both. It is one plan, whose numbers are in range
+/// and whose names differ.
 pub fn words_ask_for_one_plan()
     ensures one { (words : List Bytes) (a b : Plan) → Asks words a → Asks words b → a ≡ b }
     ensures fit { (words : List Bytes) (plan : Plan) → Asks words plan → IsFit plan }
     ensures either { (words : List Bytes) (plan : Plan) → Asks words plan → ¬ Refuses words }
+    ensures some { (words : List Bytes) → Refuses words ⊎ ((plan : Plan) × Asks words plan) }
 {}

@@ -13,7 +13,7 @@ mod refusal;
 mod values;
 mod words;
 
-pub use inst_gen::Kind;
+pub use inst_gen::InstanceKind;
 pub use laws::{plain_words_are_taken, words_ask_for_one_plan};
 pub use name::Name;
 pub use plans::Plan;

@@ -4,9 +4,9 @@ ghost use Rattle.std.specs.List.{list_all};
 ghost use Rattle.std.specs.Char.{is_ascii_digit};
 ghost use Rattle.cx_words.specs.Given.{lent, number_in, conflicts_of, size_of, seed_of, kind_of, kind_named};
 
-use crate::Kind;
+use crate::InstanceKind;
 
-/// The conflicts at which a search stops that is given no number of them.
+/// The conflicts at which a search that is given no number of them stops.
 const DEFAULT_CONFLICTS: u64 = 1_000_000;
 /// The greatest number of conflicts that may be given.
 const MOST_CONFLICTS: u64 = 1_000_000_000_000_000_000;
@@ -91,20 +91,20 @@ pub(crate) fn seed(text: Option<&str>) -> Option<u64>
     }
 }
 
-fn named(text: &str) -> Option<Kind>
+fn named(text: &str) -> Option<InstanceKind>
     ensures { result ≡ kind_named text.now }
 {
     if text == "even" {
-        return Some(Kind::Even);
+        return Some(InstanceKind::Even);
     }
     if text == "odd" {
-        return Some(Kind::Odd);
+        return Some(InstanceKind::Odd);
     }
     None
 }
 
 /// The kind of an instance: `even` or `odd`.
-pub(crate) fn kind(text: Option<&str>) -> Option<Kind>
+pub(crate) fn kind(text: Option<&str>) -> Option<InstanceKind>
     ensures { result ≡ kind_of (lent text.entry) }
 {
     match text {

@@ -1,6 +1,6 @@
 //! What a command is to do.
 use crate::Name;
-use inst_gen::Kind;
+use inst_gen::InstanceKind;
 
 /// What a command is to do, with its names and numbers.
 #[derive(Drop)]
@@ -40,7 +40,7 @@ pub enum Plan {
     /// Make an instance, solve it, and check the log.
     Demo {
         /// Which instance.
-        kind: Kind,
+        kind: InstanceKind,
         /// The number of its planted variables: 4 to 2000.
         size: u32,
         /// The seed of its random words.
