@@ -7,7 +7,6 @@ mod Taking
 mod Texts
 mod Turns
 mod EntryOrder
-mod MovingLaws
 mod MovedTies
 mod TakingMoves
 pub mod ContentIndex

@@ -1,6 +1,5 @@
-//! What stands in the proof for the ids of a log.
+//! What stands for the ids of a log in its proof.
 ghost use Rattle.std.specs.Prelude.{◌≡◌, ◌≢◌, ◌≤◌, ◌<◌, ◌+◌, ℕ, ℤ, pos, nat_abs, true, IfOk, OnOk};
-ghost use Rattle.fratx_elab.specs.Moving.{numbers_for, drop_all, name_if, name_all};
 ghost use Rattle.fratx_elab.specs.Names.{Naming, stands_for, first_naming, name_original, name_next, drop_name, move_names, StandForThemselves, StandForProofIds};
 
 use crate::own_ids::OwnIds;
@@ -76,7 +75,7 @@ impl ProofId {
 /// What stands for the live ids of a log.
 #[derive(Drop)]
 enum Standing {
-    /// All but one at the most stand for themselves, as in the logs of a solver that counts as a proof does.
+    /// All but one at most stand for themselves, as in the logs of a solver that counts as a proof does.
     Themselves(OwnIds),
     /// The number that stands for each.
     Numbered(IdMap<ProofId>),
@@ -195,53 +194,18 @@ impl Names {
         found
     }
 
-    /// What stands for the old ids, in order.
-    fn numbers_of_moved(&self, moves: &[IdMove]) -> Result<Vec<Option<ProofId>>, AllocError>
-        ensures { IfOk result (λ numbers. numbers.items ≡ numbers_for self.now moves.now) }
-    {
-        let mut numbers = Vec::new(self.alloc);
-        for place in 0..moves.len() {
-            numbers.push(self.get(moves[place].from))?;
-        }
-        Ok(numbers)
-    }
-
-    /// Nothing stands for the old ids any more.
-    fn drop_moved(&mut self, moves: &[IdMove])
-        ensures { self.new ≡ drop_all self.old moves.now }
-    {
-        for place in 0..moves.len() {
-            let _ = self.take(moves[place].from);
-        }
-    }
-
-    /// This number, if there is one, stands for this id from now on.
-    fn put_if(&mut self, id: u64, number: Option<ProofId>) -> Result<(), AllocError>
-        ensures { OnOk result (self.new ≡ name_if self.old id number) }
-    {
-        match number {
-            Some(number) => self.put(id, number),
-            None => Ok(()),
-        }
-    }
-
-    /// The numbers stand for the new ids from now on.
-    fn put_moved(&mut self, moves: &[IdMove], numbers: &[Option<ProofId>]) -> Result<(), AllocError>
-        requires { (first : Naming) × (numbers.now ≡ numbers_for first moves.now) }
-        ensures { OnOk result ((first : Naming) → numbers.now ≡ numbers_for first moves.now → self.new ≡ name_all first self.old moves.now) }
-    {
-        for place in 0..moves.len() {
-            self.put_if(moves[place].to, numbers[place])?;
-        }
-        Ok(())
-    }
-
-    /// What stood for each old id stands for the new one from now on.
+    /// What stood for each old id stands for the new one from now on. After that ids are taken to stand for others.
     pub fn move_all(&mut self, moves: &[IdMove]) -> Result<(), AllocError>
         ensures { OnOk result (self.new ≡ move_names self.old moves.now) }
     {
-        let numbers = self.numbers_of_moved(moves)?;
-        self.drop_moved(moves);
-        self.put_moved(moves, &numbers)
+        match &mut self.ids {
+            Standing::Themselves(ids) => {
+                let mut numbers = ids.numbers(self.alloc, self.last)?;
+                numbers.move_ids(self.alloc, moves)?;
+                self.ids = Standing::Numbered(numbers);
+            }
+            Standing::Numbered(numbers) => numbers.move_ids(self.alloc, moves)?,
+        }
+        Ok(())
     }
 }

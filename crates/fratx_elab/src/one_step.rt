@@ -21,6 +21,7 @@ use proof_rules::JudgeRefusal;
 use std::alloc::Global;
 
 /// Whether a right step ends the log: one that derives an ending clause.
+#[inline(always)]
 pub fn ends_log(formula: &Formula, step: &LogStep) -> bool
     ensures { result ≡ derives_ending_clause formula.now step.now }
 {

@@ -9,16 +9,21 @@ use Rattle.cx_semantics.specs.Judging.{Rule, refused_where}
 use Rattle.cx_semantics.specs.Moves.{old_ids, new_ids, names_twice, without_ids, put_if}
 
 module _ {V : Type 0} where
-  -- what stands under the old ids, in order
+  -- what is under the old ids, in order
   abbrev pub values_for : map_.FinMap nat_cmp V → List IdMove → List (Option V)
   values_for contents moves = map (λ m. map_.get contents m.from) moves
 
-  -- under some old id nothing stands when its turn comes
+  -- what is under each old id when its turn comes
+  abbrev pub taken_in_turn : map_.FinMap nat_cmp V → List IdMove → List (Option V)
+  taken_in_turn contents [] = []
+  taken_in_turn contents (m ∷ moves) = map_.get contents m.from ∷ taken_in_turn (map_.remove contents m.from) moves
+
+  -- nothing is under some old id when its turn comes
   abbrev pub meets_none : map_.FinMap nat_cmp V → List IdMove → Bool
   meets_none contents [] = false
   meets_none contents (m ∷ moves) = not (map_.contains_key contents m.from) || meets_none (map_.remove contents m.from) moves
 
-  -- under some new id something stands when its turn comes
+  -- something is under some new id when its turn comes
   abbrev pub meets_some : map_.FinMap nat_cmp V → map_.FinMap nat_cmp V → List IdMove → Bool
   meets_some first contents [] = false
   meets_some first contents (m ∷ moves) = map_.contains_key contents m.to || meets_some first (put_if contents m.to (map_.get first m.from)) moves

@@ -1,5 +1,5 @@
-//! Ids that are moved at once: what stands under the old ones is taken out, and then each value comes under its new id.
-ghost use Rattle.std.specs.Prelude.{◌≡◌, not, true, IfOk, OnOk};
+//! Ids that are moved at once: what is under the old ones is taken out, and then each value comes under its new id.
+ghost use Rattle.std.specs.Prelude.{◌≡◌, not, true, [], IfOk, OnOk};
 ghost use Rattle.std.specs.FinMap as map;
 ghost use Rattle.std.specs.Ordering.{nat_cmp};
 ghost use Rattle.cx_semantics.specs.Moves.{old_ids, without_ids, put_if, put_moved, moved};
@@ -13,7 +13,7 @@ use cx_base::IdMove;
 use cx_semantics::Cause;
 use std::alloc::{AllocError, Global};
 
-/// A copy of what stands under this id.
+/// A copy of what is under this id.
 fn value_of<V: Copy + Drop + Filler>(values: &IdMap<V>, id: u64) -> Option<V>
     ensures { result ≡ map.get values.now id }
 {
@@ -23,7 +23,7 @@ fn value_of<V: Copy + Drop + Filler>(values: &IdMap<V>, id: u64) -> Option<V>
     }
 }
 
-/// What stands under the old ids, in order.
+/// What is under the old ids, in order.
 fn values_of<V: Copy + Drop + Filler>(
     alloc: Global,
     values: &IdMap<V>,
@@ -38,7 +38,7 @@ fn values_of<V: Copy + Drop + Filler>(
     Ok(found)
 }
 
-/// Takes what stands under the old ids out.
+/// Takes out what is under the old ids.
 fn take_out<V: Copy + Drop + Filler>(values: &mut IdMap<V>, moves: &[IdMove])
     ensures { values.new ≡ without_ids values.old (old_ids moves.now) }
 {
@@ -47,19 +47,27 @@ fn take_out<V: Copy + Drop + Filler>(values: &mut IdMap<V>, moves: &[IdMove])
     }
 }
 
-/// Takes what stands under the old ids out; false where nothing stands under one of them when its turn comes.
-fn take_all_out<V: Copy + Drop + Filler>(values: &mut IdMap<V>, moves: &[IdMove]) -> bool
-    ensures judged { result ≡ not (meets_none values.old moves.now) }
-    ensures out { result ≡ true → values.new ≡ without_ids values.old (old_ids moves.now) }
+/// Takes out what is under the old ids and lists it in order; false where nothing is under one of them when its turn comes.
+fn take_all_out<V: Copy + Drop + Filler>(
+    values: &mut IdMap<V>,
+    moves: &[IdMove],
+    found: &mut Vec<Option<V>>,
+) -> Result<bool, AllocError>
+    requires { found.old.items ≡ [] }
+    ensures judged { IfOk result (λ done. done ≡ not (meets_none values.old moves.now)) }
+    ensures out { IfOk result (λ done. done ≡ true → values.new ≡ without_ids values.old (old_ids moves.now)) }
+    ensures found { IfOk result (λ done. done ≡ true → found.new.items ≡ values_for values.old moves.now) }
 {
+    found.reserve(moves.len())?;
     for place in 0..moves.len() {
         let id = moves[place].from;
-        if values.get(id).is_none() {
-            return false;
+        let value = values.take(id);
+        if value.is_none() {
+            return Ok(false);
         }
-        values.remove(id);
+        found.push(value)?;
     }
-    true
+    Ok(true)
 }
 
 /// Puts a value under this id, if there is one.
@@ -91,7 +99,7 @@ fn put_in<V: Copy + Drop + Filler>(
     Ok(())
 }
 
-/// Puts values under the new ids; false where something stands under one of them when its turn comes.
+/// Puts values under the new ids; false where something is under one of them when its turn comes.
 fn put_all_in<V: Copy + Drop + Filler>(
     values: &mut IdMap<V>,
     moves: &[IdMove],
@@ -112,7 +120,18 @@ fn put_all_in<V: Copy + Drop + Filler>(
 }
 
 impl<V: Copy + Drop + Filler> IdMap<V> {
-    /// Moves values under other ids, all at once. Where nothing stands under an old id, nothing comes under the new one.
+    /// Takes out what is under this id and gives it, if there is something.
+    #[inline(always)]
+    fn take(&mut self, id: u64) -> Option<V>
+        ensures taken { result ≡ map.get self.old id }
+        ensures gone { self.new ≡ map.remove self.old id }
+    {
+        let value = value_of(self, id);
+        self.remove(id);
+        value
+    }
+
+    /// Moves values under other ids, all at once. Where nothing is under an old id, nothing comes under the new one.
     pub fn move_ids(&mut self, alloc: Global, moves: &[IdMove]) -> Result<(), AllocError>
         ensures { OnOk result (self.new ≡ moved self.old moves.now) }
     {
@@ -130,8 +149,8 @@ impl<V: Copy + Drop + Filler> IdMap<V> {
         ensures judged { JudgesBy (moving_in self.old moves.now) result }
         ensures moved { OnOk result (self.new ≡ moved self.old moves.now) }
     {
-        let found = values_of(alloc, self, moves)?;
-        if !take_all_out(self, moves) {
+        let mut found = Vec::new(alloc);
+        if !take_all_out(self, moves, &mut found)? {
             return Err(JudgeRefusal::Wrong(Cause::NotLive));
         }
         if !put_all_in(self, moves, &found)? {

@@ -12,6 +12,7 @@ use proof_rules::{
 };
 
 /// Judges what a step adds by its hints.
+#[inline(always)]
 fn judge_added(
     marks: &mut JudgeMarks,
     live: &Live,
@@ -81,6 +82,8 @@ fn delete(live: &mut Live, kind: Kind, ids: &IdList)
 }
 
 /// Judges a step, and where it is right does it and says whether it ends the proof. `marks` are for their memory alone.
+// The loop over steps is made anew for each recorder, and would call it there.
+#[inline(always)]
 pub(crate) fn take_step(
     marks: &mut JudgeMarks,
     formula: &Formula,
