@@ -1,3 +1,4 @@
+pub mod Borrowed
 pub mod ProofTaking
 pub mod Told
 pub mod ToldSteps

@@ -4,12 +4,14 @@ ghost use Rattle.cx_desk.specs.Calls.{PutsAll};
 ghost use Rattle.cx_texts.specs.Grammar.{spelling, spelled, mark, id, ids, integer, integers, end};
 ghost use Rattle.cx_texts.specs.ProofText.{proof_steps};
 ghost use Rattle.cx_texts.specs.Printed.{printed_line, HasProofText};
+ghost use Rattle.proof_text.specs.Borrowed.{step_of};
 
+use crate::step_ref::StepRef;
 use cx_base::ProofStep;
 use cx_desk::{Desk, Failed, Port, put_all};
 use step_text::pieces::{self, LineSheet, put_deletion, put_id, put_ids, put_line};
 
-/// An id, literals and hints behind a text, as the end of a line.
+/// An id, literals and hints after a text, as the end of a line.
 fn put_hinted<D: Desk>(
     sheet: &mut LineSheet,
     desk: &mut D,
@@ -53,7 +55,36 @@ fn put_parity_deletion<D: Desk>(desk: &mut D, port: Port, names: &[u64]) -> Resu
 
 /// Writes the line of a step: its words parted by one space, and a line feed. The sheet is for its memory alone.
 ///
-/// It fails only where the desk counted a fault of the port; then the port gained a front of the line.
+/// It fails only where the desk counted a fault of the port; then the port gained a prefix of the line.
+#[inline(always)]
+pub fn put_step_ref<D: Desk>(
+    sheet: &mut LineSheet,
+    desk: &mut D,
+    port: Port,
+    step: StepRef<'_>,
+) -> Result<(), Failed>
+    requires { HasProofText (step_of step) }
+    ensures { PutsAll port (printed_line (spelling proof_steps (step_of step.entry))) (D.outside desk.old) result (D.outside desk.new) }
+{
+    match step {
+        StepRef::Clause(id, literals, hints) => {
+            put_hinted(sheet, desk, port, b"", id, literals, hints)
+        }
+        StepRef::DeleteClauses(id, names) => put_clause_deletion(desk, port, id, names),
+        StepRef::Parity(id, literals, hints) => {
+            put_hinted(sheet, desk, port, b"x ", id, literals, hints)
+        }
+        StepRef::DeleteParities(names) => put_parity_deletion(desk, port, names),
+        StepRef::ClauseOfParity(id, literals, hint) => {
+            put_hinted(sheet, desk, port, b"i ", id, literals, &[hint])
+        }
+        StepRef::ParityOfClauses(id, literals, hints) => {
+            put_hinted(sheet, desk, port, b"i x ", id, literals, hints)
+        }
+    }
+}
+
+/// Writes the line of a step that is not borrowed.
 #[inline(always)]
 pub fn put_proof_step<D: Desk>(
     sheet: &mut LineSheet,
@@ -64,46 +95,5 @@ pub fn put_proof_step<D: Desk>(
     requires { HasProofText step.now }
     ensures { PutsAll port (printed_line (spelling proof_steps step.now)) (D.outside desk.old) result (D.outside desk.new) }
 {
-    match step {
-        ProofStep::Clause(id, literals, hints) => {
-            put_hinted(
-                sheet,
-                desk,
-                port,
-                b"",
-                *id,
-                literals.as_slice(),
-                hints.as_slice(),
-            )
-        }
-        ProofStep::DeleteClauses(id, names) => {
-            put_clause_deletion(desk, port, *id, names.as_slice())
-        }
-        ProofStep::Parity(id, literals, hints) => {
-            put_hinted(
-                sheet,
-                desk,
-                port,
-                b"x ",
-                *id,
-                literals.as_slice(),
-                hints.as_slice(),
-            )
-        }
-        ProofStep::DeleteParities(names) => put_parity_deletion(desk, port, names.as_slice()),
-        ProofStep::ClauseOfParity(id, literals, hint) => {
-            put_hinted(sheet, desk, port, b"i ", *id, literals.as_slice(), &[*hint])
-        }
-        ProofStep::ParityOfClauses(id, literals, hints) => {
-            put_hinted(
-                sheet,
-                desk,
-                port,
-                b"i x ",
-                *id,
-                literals.as_slice(),
-                hints.as_slice(),
-            )
-        }
-    }
+    put_step_ref(sheet, desk, port, StepRef::of(step))
 }

@@ -21,7 +21,7 @@ pub type ProofText<'a> = StepText<'a, ProofGrammar>;
 
 /// A constraint's id and literals, and the hints that show it.
 #[derive(Drop)]
-struct Hinted {
+struct HintedConstraint {
     id: u64,
     literals: IntList,
     hints: IntList,
@@ -29,7 +29,7 @@ struct Hinted {
 
 /// A constraint's id and literals, and the one hint that implies it.
 #[derive(Drop)]
-struct Implied {
+struct ImpliedConstraint {
     id: u64,
     literals: IntList,
     hint: i64,
@@ -40,30 +40,30 @@ fn take_hinted(
     spare: &mut SpareLists,
     tokens: &mut TokensAhead,
     size: usize,
-) -> Result<Hinted, TextRefusal>
+) -> Result<HintedConstraint, TextRefusal>
     ensures { TakesAll (λ h. id h.id ∷ integers h.literals ∷ integers h.hints ∷ []) (an_id ∷ some_integers ∷ some_integers ∷ []) size (placed_words tokens.old) result (placed_words tokens.new) }
 {
     let named = take_named(spare.literals(), tokens, size)?;
     let hints = take_integers(spare.hints(), tokens, size)?;
-    Ok(Hinted {
+    Ok(HintedConstraint {
         id: named.id,
         literals: named.literals,
         hints,
     })
 }
 
-/// An id, literals and one hint with the zero behind it.
+/// An id, literals and one hint with the zero after it.
 fn take_implied(
     spare: &mut SpareLists,
     tokens: &mut TokensAhead,
     size: usize,
-) -> Result<Implied, TextRefusal>
+) -> Result<ImpliedConstraint, TextRefusal>
     ensures { TakesAll (λ h. id h.id ∷ integers h.literals ∷ integer h.hint ∷ end ∷ []) (an_id ∷ some_integers ∷ an_integer ∷ an_end ∷ []) size (placed_words tokens.old) result (placed_words tokens.new) }
 {
     let named = take_named(spare.literals(), tokens, size)?;
     let hint = take_integer(tokens, size)?;
     take_end(tokens, size)?;
-    Ok(Implied {
+    Ok(ImpliedConstraint {
         id: named.id,
         literals: named.literals,
         hint,

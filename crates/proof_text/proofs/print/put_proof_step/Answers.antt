@@ -1,5 +1,15 @@
-use Rattle.std.proofs.Common.{rules}
+use Rattle.std.proofs.Common.{sym, subst}
+use Rattle.cx_base.specs.declared.steps.ProofStep.{ProofStep}
+use Rattle.cx_desk.specs.Calls.{PutsAll}
+use Rattle.cx_texts.specs.Grammar.{spelling}
+use Rattle.cx_texts.specs.ProofText.{proof_steps}
+use Rattle.cx_texts.specs.Printed.{printed_line, HasProofText}
 use Rattle.proof_text.proofs.print.put_proof_step.Goals as goal
 
-pub returns-in-Parity : goal.returns-in-Parity
-returns-in-Parity g c = search rules
+pub put_step_ref-requires : goal.put_step_ref-requires
+put_step_ref-requires g c = subst (λ (s : ProofStep). HasProofText s) (sym c.of.ensures) c.requires
+
+pub returns : goal.returns
+returns g c =
+    subst (λ (s : ProofStep). PutsAll c.args.port (printed_line (spelling proof_steps s)) (g.D.Desk.outside c.args.desk.now) c.put_step_ref.result (g.D.Desk.outside c.put_step_ref.new.desk)) c.of.ensures
+    c.put_step_ref.ensures
