@@ -4,8 +4,8 @@ ghost use Rattle.std.specs.Prelude.{◌≡◌, false};
 use cnfx_reader::read_formula;
 use cx_base::ProofStep;
 use cx_semantics::Cause;
-use proof_text::ProofText;
-use proof_trim::{TrimOf, trim};
+use proof_text::{ProofText, StepRef};
+use proof_trim::{KeptSteps, TrimOf, trim};
 use std::alloc::Global;
 use std::test::Fail;
 use step_text::{SpareLists, StepSource};
@@ -22,31 +22,41 @@ enum Wanted {
 /// A formula, a proof, and what comes of it.
 type Row = (&'static str, &'static str, Wanted);
 
+/// Puts a step after others.
+fn push_step(alloc: Global, text: &mut String, step: StepRef<'_>) -> Result<(), Fail> {
+    text.push_str(format!(in alloc; "{step:?} ")?.as_str())?;
+    Ok(())
+}
+
 /// The next steps, at most sixteen.
-fn steps_of<S: StepSource<Step = ProofStep>>(
-    alloc: Global,
-    source: &mut S,
-) -> Result<Vec<ProofStep>, Fail>
+fn steps_of<S: StepSource<Step = ProofStep>>(alloc: Global, source: &mut S) -> Result<String, Fail>
     requires { S.is_spent source.old ≡ false }
 {
     let mut spare = SpareLists::new(alloc);
-    let mut steps = Vec::new(alloc);
+    let mut text = String::new(alloc);
     for _ in 0..16 {
         match source.next_step(&mut spare)? {
-            Some(step) => steps.push(step)?,
-            None => return Ok(steps),
+            Some(step) => push_step(alloc, &mut text, StepRef::of(&step))?,
+            None => return Ok(text),
         }
     }
-    Ok(steps)
+    Ok(text)
 }
 
-fn left(
-    alloc: Global,
-    steps: &[ProofStep],
-    clauses: &[u64],
-    parities: &[u64],
-) -> Result<String, Fail> {
-    Ok(format!(in alloc; "{steps:?}, clauses {clauses:?}, parities {parities:?}")?)
+/// The steps that are left, at most sixteen.
+fn steps_left(alloc: Global, steps: &mut KeptSteps) -> Result<String, Fail> {
+    let mut text = String::new(alloc);
+    for _ in 0..16 {
+        if !steps.advance() {
+            return Ok(text);
+        }
+        push_step(alloc, &mut text, steps.step())?;
+    }
+    Ok(text)
+}
+
+fn left(alloc: Global, steps: &str, clauses: &[u64], parities: &[u64]) -> Result<String, Fail> {
+    Ok(format!(in alloc; "{steps}, clauses {clauses:?}, parities {parities:?}")?)
 }
 
 fn refused(alloc: Global, step: u64, cause: Cause) -> Result<String, Fail> {
@@ -56,10 +66,10 @@ fn refused(alloc: Global, step: u64, cause: Cause) -> Result<String, Fail> {
 fn told_of(alloc: Global, answer: TrimOf) -> Result<String, Fail> {
     match answer {
         TrimOf::Done(mut trimmed) => {
-            let steps = steps_of(alloc, &mut trimmed.steps)?;
+            let steps = steps_left(alloc, &mut trimmed.steps)?;
             left(
                 alloc,
-                &steps,
+                steps.as_str(),
                 trimmed.clauses.as_slice(),
                 trimmed.parities.as_slice(),
             )
@@ -87,7 +97,7 @@ fn wanted_of(alloc: Global, wanted: &Wanted) -> Result<String, Fail> {
             }
             left(
                 alloc,
-                &steps_of(alloc, &mut ProofText::new(steps))?,
+                steps_of(alloc, &mut ProofText::new(steps))?.as_str(),
                 clauses,
                 parities,
             )
@@ -122,7 +132,7 @@ fn put_others(alloc: Global, others: &mut String, row: &Row) -> Result<(), Fail>
     Ok(())
 }
 
-/// The proofs of which comes something else than wanted.
+/// The proofs that give something other than wanted.
 fn others(alloc: Global, rows: &[Row]) -> Result<String, Fail> {
     let mut others = String::new(alloc);
     for row in rows {

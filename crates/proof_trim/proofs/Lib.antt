@@ -4,6 +4,11 @@ pub mod TrimLaws
 pub mod MarkLaws
 pub mod NameLaws
 pub mod SetLaws
-pub mod WantLaws
+pub mod RemoveLaws
 pub mod PassLaws
 pub mod Recorded
+pub mod PartLaws
+pub mod StoreLaws
+pub mod KeptLaws
+pub mod BackLaws
+pub mod PutLaws

@@ -1,11 +1,11 @@
 -- What sets of names have.
-use Rattle.std.proofs.Common.{◌≡◌, refl, sym, ap, ◌∙◌, ℕ, ℤ, nat_abs, nat_eq, Bool, true, false, cond, not, ◌&&◌, ◌||◌, List, ◌∷◌, Option, Some, None, is_some}
+use Rattle.std.proofs.Common.{◌≡◌, refl, sym, ap, ◌∙◌, ℕ, ℤ, nat_abs, nat_eq, eqb-true, true≢false, Bool, true, false, cond, not, ◌&&◌, ◌||◌, List, ◌∷◌, Option, Some, None, is_some}
 use Rattle.std.specs.Ordering.{nat_cmp}
 use Rattle.std.specs.Cmp.{nat_cmp_total, unsigned_tied}
 use Rattle.std.specs.FinMap as map_
 use Rattle.proof_rules.specs.declared.live.Kind.{Kind}
 use Rattle.proof_rules.specs.declared.live.Kind.TheVariants.{Clauses, Parities}
-use Rattle.proof_trim.specs.Names.{Name, same_name}
+use Rattle.proof_trim.specs.Names.{Name, clause, parity, same_name}
 use Rattle.proof_trim.specs.NameSets.{name_of, hinted_as}
 
 some_cond : {V : Type 0} (b : Bool) (v : V) (o : Option V) → is_some (cond b (Some v) o) ≡ b || is_some o
@@ -48,3 +48,17 @@ pub both_ways : (a b : Bool) → (a ≡ true → b ≡ true) → (b ≡ true →
 both_ways true b f g = sym (f refl)
 both_ways false true f g = g refl
 both_ways false false f g = refl
+
+same_is : (a b : Name) → same_name a b ≡ true → a ≡ b
+same_is (clause n) (clause m) e = ap clause (eqb-true n m e)
+same_is (clause n) (parity m) e = absurd (true≢false (sym e))
+same_is (parity n) (clause m) e = absurd (true≢false (sym e))
+same_is (parity n) (parity m) e = ap parity (eqb-true n m e)
+
+out_by : (test : Name → Bool) (n name : Name) (b : Bool) → same_name name n ≡ b → test n ≡ false → test name ≡ (not b && test name)
+out_by test n name true is gone = ap test (same_is name n is) ∙ gone
+out_by test n name false is gone = refl
+
+-- a name that is not in a set is taken out by doing nothing
+pub out_already : (test : Name → Bool) (n name : Name) → test n ≡ false → test name ≡ (not (same_name name n) && test name)
+out_already test n name gone = out_by test n name (same_name name n) refl gone

@@ -1,5 +1,5 @@
 -- The passes over a proof, step by step.
-use Rattle.std.proofs.Common.{◌≡◌, refl, sym, ap, ◌∙◌, subst, ℕ, suc, ◌+◌, ◌<◌, ◌≤◌, Bool, true, false, cond, not, ◌&&◌, ◌||◌, nat_eq, nat_lt, nat_le, List, [], ◌∷◌, ◌++◌, length, get_or, Some, None, is_some, add-one, append_assoc, arith, ◌⊎◌, inl, inr}
+use Rattle.std.proofs.Common.{◌≡◌, refl, sym, ap, ◌∙◌, subst, ℕ, suc, ◌+◌, ◌<◌, ◌≤◌, Bool, true, false, cond, not, ◌&&◌, ◌||◌, nat_eq, nat_lt, nat_le, List, [], ◌∷◌, ◌++◌, length, drop, get_or, Some, None, is_some, add-one, append_assoc, arith, ◌⊎◌, inl, inr}
 use Rattle.std.specs.List.{list_any}
 use Rattle.std.proofs.lemmas.Bool.{eqb-false, eq-eqb, ne_eqb, cases_eq, ltb-true, leb-true, lt-ltb, le-leb, and_parts, and_from, or_left, or_right, or_from}
 use Rattle.cx_base.specs.Literals.{Literal}
@@ -13,6 +13,7 @@ use Rattle.proof_rules.specs.declared.live.Kind.{Kind}
 use Rattle.proof_rules.specs.declared.live.Kind.TheVariants.{Clauses, Parities}
 use Rattle.proof_trim.specs.Names.{Name, clause, parity, look, puts, takes_out}
 use Rattle.proof_trim.specs.Trimmed.{stays, staying}
+use Rattle.proof_trim.specs.Kept.{chosen}
 use Rattle.proof_trim.specs.Marking.{wants, marks_of, marked}
 use Rattle.proof_trim.specs.declared.names.NameSet.{NameSet}
 use Rattle.proof_trim.specs.NameSets.{Has, KeepsOne, has_name, name_of, is_number, live_after, stays_with, live_in}
@@ -112,14 +113,28 @@ keep_by marks place t s rest before after whole old new false e h is kept live =
           ∙ is,
     )
 
-pub keep_more : (marks : List Bool) (place : ℕ) (t : Tables) (s : ProofStep) (all rest before after whole : List ProofStep) (old new : NameSet) → all ≡ s ∷ rest → Has old (live_in t)
-    → before ++ staying (marked marks) (place + 1) t all ≡ whole → KeepsOne (get_or marks place false) s old new before after
-    → (u : Tables) × Has new (live_in u) × (after ++ staying (marked marks) ((place + 1) + 1) u rest ≡ whole)
-keep_more marks place t s all rest before after whole old new split h is one =
-    let same : stays (marked marks) (place + 1) t s ≡ stays_with (get_or marks place false) (has_name old) s =
+-- one step more, which stays or not
+pub chosen_more : (bs : List Bool) (all : List ProofStep) (b : Bool) (s : ProofStep) (rest : List ProofStep) → drop (length bs) all ≡ s ∷ rest
+    → chosen (bs ++ b ∷ []) all ≡ cond b (chosen bs all ++ s ∷ []) (chosen bs all)
+chosen_more [] all true s rest e = ap (chosen (true ∷ [])) e
+chosen_more [] all false s rest e = ap (chosen (false ∷ [])) e
+chosen_more (c ∷ bs) [] b s rest e = absurd (omega (arith, ap length e))
+chosen_more (true ∷ bs) (x ∷ all) true s rest e = ap (λ (y : List ProofStep). x ∷ y) (chosen_more bs all true s rest e)
+chosen_more (true ∷ bs) (x ∷ all) false s rest e = ap (λ (y : List ProofStep). x ∷ y) (chosen_more bs all false s rest e)
+chosen_more (false ∷ bs) (x ∷ all) b s rest e = chosen_more bs all b s rest e
+
+pub keep_more : (marks : List Bool) (place : ℕ) (t : Tables) (s : ProofStep) (proof rest : List ProofStep) (bs : List Bool) (said : Bool) (whole : List ProofStep) (old new : NameSet)
+    → length bs ≡ place → drop place proof ≡ s ∷ rest → Has old (live_in t) → chosen bs proof ++ staying (marked marks) (place + 1) t (drop place proof) ≡ whole
+    → KeepsOne (get_or marks place false) s old new said
+    → (u : Tables) × Has new (live_in u) × (chosen (bs ++ said ∷ []) proof ++ staying (marked marks) ((place + 1) + 1) u rest ≡ whole)
+keep_more marks place t s proof rest bs said whole old new long split h is one =
+    let stayed = stays_with (get_or marks place false) (has_name old) s in
+    let same : stays (marked marks) (place + 1) t s ≡ stayed =
     sym (stays_same (marked marks) (place + 1) t s (has_name old) h) ∙ ap (λ b. stays_with b (has_name old) s) (ap (marked marks) (add-one place)) in
-    keep_by marks place t s rest before after whole old new (stays_with (get_or marks place false) (has_name old) s) same h
-    (ap (λ (x : List ProofStep). before ++ staying (marked marks) (place + 1) t x) (sym split) ∙ is) one.0 one.1
+    let kept : chosen (bs ++ said ∷ []) proof ≡ cond stayed (chosen bs proof ++ s ∷ []) (chosen bs proof) =
+    chosen_more bs proof said s rest (ap (λ n. drop n proof) long ∙ split) ∙ ap (λ b. cond b (chosen bs proof ++ s ∷ []) (chosen bs proof)) one.0 in
+    keep_by marks place t s rest (chosen bs proof) (chosen (bs ++ said ∷ []) proof) whole old new stayed same h
+    (ap (λ (x : List ProofStep). chosen bs proof ++ staying (marked marks) (place + 1) t x) (sym split) ∙ is) kept one.1
 
 -- ---- numbers
 

@@ -5,3 +5,7 @@ pub mod Marking
 pub mod NameSets
 pub mod Outcomes
 pub mod Laws
+pub mod Integers
+pub mod Stored
+pub mod Kept
+pub mod Puts

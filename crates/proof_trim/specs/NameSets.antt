@@ -1,5 +1,5 @@
 -- Sets of names, and what steps do to them.
-use Rattle.std.specs.Prelude.{◌≡◌, ℕ, ℤ, Bool, false, not, ◌&&◌, ◌||◌, nat_lt, nat_le, List, [], ◌∷◌, ◌++◌, if◌then◌else◌}
+use Rattle.std.specs.Prelude.{◌≡◌, ℕ, ℤ, Bool, false, not, ◌&&◌, ◌||◌, nat_lt, nat_le, List, if◌then◌else◌}
 use Rattle.std.specs.List.{list_any}
 use Rattle.std.specs.FinMap as map
 use Rattle.std.specs.Option.{is_some}
@@ -62,8 +62,8 @@ live_in tables name = is_some (look tables name)
 abbrev pub went_back : Bool → (Name → Bool) → (Name → Bool) → (Name → Bool) → Name → Bool
 went_back needed hint put wanted name = (needed && hint name) || (not (put name) && wanted name)
 
--- a step that stays is put after those that stayed, and done
-abbrev pub KeepsOne : Bool → ProofStep → NameSet → NameSet → List ProofStep → List ProofStep → Type 0
-KeepsOne needed step old new before after =
+-- a step that stays is done to the set
+abbrev pub KeepsOne : Bool → ProofStep → NameSet → NameSet → Bool → Type 0
+KeepsOne needed step old new said =
     let stays = stays_with needed (has_name old) step in
-    (after ≡ (if stays then before ++ step ∷ [] else before)) × Has new (λ name. if stays then live_after step (has_name old) name else has_name old name)
+    (said ≡ stays) × Has new (λ name. if stays then live_after step (has_name old) name else has_name old name)

@@ -1,12 +1,13 @@
 //! Back through a proof: which of its steps are needed, and what they name of the formula.
-ghost use Rattle.std.specs.Prelude.{◌≡◌, ◌||◌, nat_abs, IfOk, OnOk};
+ghost use Rattle.std.specs.Prelude.{◌≡◌, ◌<◌, ◌||◌, length, IfOk};
 ghost use Rattle.proof_trim.specs.Marking.{wanted_before, puts_wanted, wants, marks_of};
-ghost use Rattle.proof_trim.specs.Names.{same_name};
-ghost use Rattle.proof_trim.specs.NameSets.{Has, has_name, hinted_as, name_of, went_back};
+ghost use Rattle.proof_trim.specs.Names.{has_hint, same_name};
+ghost use Rattle.proof_trim.specs.NameSets.{Has, has_name, name_of, went_back};
+ghost use Rattle.proof_trim.specs.Puts.{step_at};
 
 use crate::names::NameSet;
-use cx_base::ProofStep;
-use proof_rules::Kind;
+use crate::put::Put;
+use crate::store::StepStore;
 use std::alloc::{AllocError, Global};
 
 /// What going back through a proof finds.
@@ -18,88 +19,46 @@ pub(crate) struct Found {
     pub(crate) wanted: NameSet,
 }
 
-/// Wants what a hint names.
-fn want(wanted: &mut NameSet, kind: Kind, hint: i64) -> Result<(), AllocError>
-    ensures { OnOk result (Has wanted.new (λ name. same_name name (name_of kind (nat_abs hint)) || has_name wanted.old name)) }
-{
-    wanted.insert(kind, hint.unsigned_abs())
-}
-
-/// Wants all that hints name.
-fn want_all(wanted: &mut NameSet, kind: Kind, hints: &[i64]) -> Result<(), AllocError>
-    ensures { OnOk result (Has wanted.new (λ name. hinted_as kind hints.now name || has_name wanted.old name)) }
-{
-    for hint in hints {
-        want(wanted, kind, *hint)?;
-    }
-    Ok(())
-}
-
-/// Goes back over a step that puts something under this id: whether it is needed.
+/// Goes back over the step at a place, which puts this: whether it is needed.
 fn back_over_put(
     wanted: &mut NameSet,
-    kind: Kind,
-    id: u64,
-    hint_kind: Kind,
-    hints: &[i64],
+    proof: &StepStore,
+    place: usize,
+    put: Put,
     is_last: bool,
 ) -> Result<bool, AllocError>
-    ensures needed { IfOk result (λ needed. needed ≡ (is_last || has_name wanted.old (name_of kind id))) }
-    ensures wanted { IfOk result (λ needed. Has wanted.new (went_back needed (hinted_as hint_kind hints.now) (λ name. same_name name (name_of kind id)) (has_name wanted.old))) }
+    requires { place < length proof.now }
+    ensures needed { IfOk result (λ needed. needed ≡ (is_last || has_name wanted.old (name_of put.kind put.id))) }
+    ensures wanted { IfOk result (λ needed. Has wanted.new (went_back needed (has_hint (step_at proof.now place)) (λ name. same_name name (name_of put.kind put.id)) (has_name wanted.old))) }
 {
-    let needed = is_last || wanted.has(kind, id);
-    wanted.remove(kind, id);
+    let was = wanted.take(put.kind, put.id);
+    let needed = is_last || was;
     if needed {
-        want_all(wanted, hint_kind, hints)?;
+        proof.want_hints(place, wanted)?;
     }
     Ok(needed)
 }
 
-/// Goes back over a step: whether it is needed.
-fn back_over(wanted: &mut NameSet, step: &ProofStep, is_last: bool) -> Result<bool, AllocError>
-    ensures needed { IfOk result (λ needed. needed ≡ (is_last || puts_wanted (has_name wanted.old) step.now)) }
-    ensures wanted { IfOk result (λ needed. Has wanted.new (wanted_before needed step.now (has_name wanted.old))) }
+/// Goes back over the step at a place: whether it is needed.
+fn back_over(
+    wanted: &mut NameSet,
+    proof: &StepStore,
+    place: usize,
+    is_last: bool,
+) -> Result<bool, AllocError>
+    requires { place < length proof.now }
+    ensures needed { IfOk result (λ needed. needed ≡ (is_last || puts_wanted (has_name wanted.old) (step_at proof.now place))) }
+    ensures wanted { IfOk result (λ needed. Has wanted.new (wanted_before needed (step_at proof.now place) (has_name wanted.old))) }
 {
-    match step {
-        ProofStep::Clause(id, _, hints) => back_over_put(
-            wanted,
-            Kind::Clauses,
-            *id,
-            Kind::Clauses,
-            hints.as_slice(),
-            is_last,
-        ),
-        ProofStep::Parity(id, _, hints) => back_over_put(
-            wanted,
-            Kind::Parities,
-            *id,
-            Kind::Parities,
-            hints.as_slice(),
-            is_last,
-        ),
-        ProofStep::ClauseOfParity(id, _, hint) => back_over_put(
-            wanted,
-            Kind::Clauses,
-            *id,
-            Kind::Parities,
-            &[*hint],
-            is_last,
-        ),
-        ProofStep::ParityOfClauses(id, _, hints) => back_over_put(
-            wanted,
-            Kind::Parities,
-            *id,
-            Kind::Clauses,
-            hints.as_slice(),
-            is_last,
-        ),
-        ProofStep::DeleteClauses(_, _) | ProofStep::DeleteParities(_) => Ok(is_last),
+    match proof.put_at(place) {
+        Some(put) => back_over_put(wanted, proof, place, put, is_last),
+        None => Ok(is_last),
     }
 }
 
 /// Goes back through a proof, whose last step is needed: which other steps are, and what they name of the formula. The
 /// formula and the proof have so many constraints and steps.
-pub(crate) fn go_back(alloc: Global, count: usize, proof: &[ProofStep]) -> Result<Found, AllocError>
+pub(crate) fn go_back(alloc: Global, count: usize, proof: &StepStore) -> Result<Found, AllocError>
     ensures marks { IfOk result (λ found. found.marks.items ≡ marks_of proof.now) }
     ensures wanted { IfOk result (λ found. Has found.wanted (wants proof.now)) }
 {
@@ -109,7 +68,7 @@ pub(crate) fn go_back(alloc: Global, count: usize, proof: &[ProofStep]) -> Resul
     let mut left = proof.len();
     while 0 < left {
         left -= 1;
-        marks[left] = back_over(&mut wanted, &proof[left], left + 1 == proof.len())?;
+        marks[left] = back_over(&mut wanted, proof, left, left + 1 == proof.len())?;
     }
     Ok(Found { marks, wanted })
 }

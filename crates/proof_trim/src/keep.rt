@@ -1,14 +1,23 @@
 //! Forward through a proof: the steps that stay.
-ghost use Rattle.std.specs.Prelude.{◌≡◌, not, ◌&&◌, ◌||◌, IfOk, OnOk, length};
-ghost use Rattle.std.specs.List.{list_any};
+ghost use Rattle.std.specs.Prelude.{◌≡◌, ◌<◌, not, ◌&&◌, ◌||◌, IfOk, OnOk, length};
+ghost use Rattle.std.specs.List.{AllByRecursion, list_any};
 ghost use Rattle.cx_semantics.specs.Tables.{first_tables};
+ghost use Rattle.proof_text.specs.Borrowed.{step_of};
+ghost use Rattle.proof_trim.specs.Kept.{chosen};
 ghost use Rattle.proof_trim.specs.Marking.{marked};
+ghost use Rattle.proof_trim.specs.Names.{same_name};
 ghost use Rattle.proof_trim.specs.NameSets.{Has, KeepsOne, has_name, is_number, live_after, live_in, name_of, named_as, stays_with};
+ghost use Rattle.proof_trim.specs.Puts.{step_at};
+ghost use Rattle.proof_trim.specs.Stored.{FitsIn};
 ghost use Rattle.proof_trim.specs.Trimmed.{trimmed};
 
 use crate::names::NameSet;
-use cx_base::{Formula, ProofStep};
+use crate::opened::OpenedStep;
+use crate::put::Put;
+use crate::store::StepStore;
+use cx_base::Formula;
 use proof_rules::Kind;
+use proof_text::StepRef;
 use std::alloc::{AllocError, Global};
 
 /// Puts the numbers up to this count in, from 1.
@@ -39,16 +48,16 @@ fn has_some(names: &NameSet, kind: Kind, ids: &[u64]) -> bool
 }
 
 /// Whether a step stays.
-fn stays(live: &NameSet, step: &ProofStep, is_needed: bool) -> bool
-    ensures { result ≡ stays_with is_needed (has_name live.now) step.now }
+fn stays(live: &NameSet, step: StepRef<'_>, is_needed: bool) -> bool
+    ensures { result ≡ stays_with is_needed (has_name live.now) (step_of step.entry) }
 {
     match step {
-        ProofStep::DeleteClauses(_, ids) => has_some(live, Kind::Clauses, ids.as_slice()),
-        ProofStep::DeleteParities(ids) => has_some(live, Kind::Parities, ids.as_slice()),
-        ProofStep::Clause(_, _, _)
-        | ProofStep::Parity(_, _, _)
-        | ProofStep::ClauseOfParity(_, _, _)
-        | ProofStep::ParityOfClauses(_, _, _) => is_needed,
+        StepRef::DeleteClauses(_, ids) => has_some(live, Kind::Clauses, ids),
+        StepRef::DeleteParities(ids) => has_some(live, Kind::Parities, ids),
+        StepRef::Clause(_, _, _)
+        | StepRef::Parity(_, _, _)
+        | StepRef::ClauseOfParity(_, _, _)
+        | StepRef::ParityOfClauses(_, _, _) => is_needed,
     }
 }
 
@@ -62,60 +71,91 @@ fn remove_all(live: &mut NameSet, kind: Kind, ids: &[u64])
 }
 
 /// What a step puts is live after it, and what it takes out is not.
-fn take(live: &mut NameSet, step: &ProofStep) -> Result<(), AllocError>
-    ensures { OnOk result (Has live.new (live_after step.now (has_name live.old))) }
+fn take(live: &mut NameSet, step: StepRef<'_>) -> Result<(), AllocError>
+    ensures { OnOk result (Has live.new (live_after (step_of step.entry) (has_name live.old))) }
 {
     match step {
-        ProofStep::Clause(id, _, _) | ProofStep::ClauseOfParity(id, _, _) => {
-            live.insert(Kind::Clauses, *id)
+        StepRef::Clause(id, _, _) | StepRef::ClauseOfParity(id, _, _) => {
+            live.insert(Kind::Clauses, id)
         }
-        ProofStep::Parity(id, _, _) | ProofStep::ParityOfClauses(id, _, _) => {
-            live.insert(Kind::Parities, *id)
+        StepRef::Parity(id, _, _) | StepRef::ParityOfClauses(id, _, _) => {
+            live.insert(Kind::Parities, id)
         }
-        ProofStep::DeleteClauses(_, ids) => {
-            remove_all(live, Kind::Clauses, ids.as_slice());
+        StepRef::DeleteClauses(_, ids) => {
+            remove_all(live, Kind::Clauses, ids);
             Ok(())
         }
-        ProofStep::DeleteParities(ids) => {
-            remove_all(live, Kind::Parities, ids.as_slice());
+        StepRef::DeleteParities(ids) => {
+            remove_all(live, Kind::Parities, ids);
             Ok(())
         }
     }
 }
 
-/// A step that stays is put after those before it, and done to the set of what is live.
-fn keep_one(
-    live: &mut NameSet,
-    kept: &mut Vec<ProofStep>,
-    step: ProofStep,
-    is_needed: bool,
-) -> Result<(), AllocError>
-    ensures { OnOk result (KeepsOne is_needed step live.old live.new kept.old.items kept.new.items) }
+/// Whether a step stays. Where it does, it is done to the set of what is live.
+fn keep_one(live: &mut NameSet, step: StepRef<'_>, is_needed: bool) -> Result<bool, AllocError>
+    ensures { IfOk result (KeepsOne is_needed (step_of step.entry) live.old live.new) }
 {
-    if stays(live, &step, is_needed) {
-        take(live, &step)?;
-        kept.push(step)?;
+    if stays(live, step, is_needed) {
+        take(live, step)?;
+        return Ok(true);
     }
-    Ok(())
+    Ok(false)
 }
 
-/// The steps that stay, in order: the needed ones, and the deletions of what is live among those that stayed.
+/// Whether a step that puts this stays: where it is needed. Then that is live.
+fn keep_put(live: &mut NameSet, put: Put, is_needed: bool) -> Result<bool, AllocError>
+    ensures stays { IfOk result (λ stays. stays ≡ is_needed) }
+    ensures live { OnOk result (Has live.new (λ name. (is_needed && same_name name (name_of put.kind put.id)) || has_name live.old name)) }
+{
+    if is_needed {
+        live.insert(put.kind, put.id)?;
+    }
+    Ok(is_needed)
+}
+
+/// Whether the step at a place stays. Where it does, it is done to the set of what is live. Only a deletion is opened.
+fn keep_at(
+    live: &mut NameSet,
+    proof: &StepStore,
+    place: usize,
+    is_needed: bool,
+    here: &mut OpenedStep,
+) -> Result<bool, AllocError>
+    requires place { place < length proof.now }
+    requires room { AllByRecursion (FitsIn here.old.room) proof.now }
+    ensures kept { IfOk result (KeepsOne is_needed (step_at proof.now place) live.old live.new) }
+    ensures room { OnOk result (here.new.room ≡ here.old.room) }
+{
+    match proof.put_at(place) {
+        Some(put) => keep_put(live, put, is_needed),
+        None => {
+            proof.open_at(place, here);
+            keep_one(live, here.step(), is_needed)
+        }
+    }
+}
+
+/// Which steps stay: the needed ones, and the deletions of what is live among those that stayed. Each step is opened in
+/// the same place.
 pub(crate) fn keep(
     alloc: Global,
     formula: &Formula,
-    proof: Vec<ProofStep>,
+    proof: &StepStore,
     marks: &[bool],
-) -> Result<Vec<ProofStep>, AllocError>
-    requires { length marks.now ≡ length proof.items }
-    ensures { IfOk result (λ kept. kept.items ≡ trimmed formula.now (marked marks.now) proof.items) }
+    here: &mut OpenedStep,
+) -> Result<Vec<bool>, AllocError>
+    requires long { length marks.now ≡ length proof.now }
+    requires room { AllByRecursion (FitsIn here.old.room) proof.now }
+    ensures long { IfOk result (λ kept. length kept.items ≡ length proof.now) }
+    ensures kept { IfOk result (λ kept. chosen kept.items proof.now ≡ trimmed formula.now (marked marks.now) proof.now) }
+    ensures room { OnOk result (here.new.room ≡ here.old.room) }
 {
     let mut live = names_of(alloc, formula)?;
     let mut kept = Vec::new(alloc);
-    let mut place = 0;
-    let mut rest = proof.into_iter();
-    while let Some(step) = rest.next() {
-        keep_one(&mut live, &mut kept, step, marks[place])?;
-        place += 1;
+    for place in 0..proof.len() {
+        let stays = keep_at(&mut live, proof, place, marks[place], here)?;
+        kept.push(stays)?;
     }
     Ok(kept)
 }

@@ -2,13 +2,18 @@
 #![tactic(auto)]
 
 mod back;
+mod integers;
 mod keep;
+mod kept;
 mod laws;
 mod names;
+mod opened;
 mod outcome;
-mod recording;
+mod put;
+mod store;
 mod trimming;
 
+pub use kept::KeptSteps;
 pub use laws::{
     core_is_unmet, marks_are_needed, trimmed_is_a_part, trimmed_is_accepted, wanted_is_named,
 };

@@ -1,8 +1,10 @@
 //! Sets of names of constraints.
-ghost use Rattle.std.specs.Prelude.{◌≡◌, false, not, ◌&&◌, ◌||◌, OnOk};
+ghost use Rattle.std.specs.Prelude.{◌≡◌, ◌≤◌, false, length, not, ◌&&◌, ◌||◌, nat_abs, OnOk};
+ghost use Rattle.proof_trim.specs.Integers.{part};
 ghost use Rattle.proof_trim.specs.Names.{Name, same_name};
-ghost use Rattle.proof_trim.specs.NameSets.{Has, has_name, name_of};
+ghost use Rattle.proof_trim.specs.NameSets.{Has, has_name, hinted_as, name_of};
 
+use crate::integers::Integers;
 use proof_rules::{Filler, IdMap, Kind};
 use std::alloc::{AllocError, Global};
 
@@ -55,6 +57,32 @@ impl NameSet {
         }
     }
 
+    /// Puts in what a hint names.
+    #[inline(always)]
+    fn insert_hint(&mut self, kind: Kind, hint: i64) -> Result<(), AllocError>
+        ensures { OnOk result (Has self.new (λ name. same_name name (name_of kind (nat_abs hint)) || has_name self.old name)) }
+    {
+        self.insert(kind, hint.unsigned_abs())
+    }
+
+    /// Puts in what the hints from start up to end among packed integers name.
+    pub(crate) fn insert_hints(
+        &mut self,
+        kind: Kind,
+        packed: &Integers,
+        start: usize,
+        end: usize,
+    ) -> Result<(), AllocError>
+        requires low { start ≤ end }
+        requires high { end ≤ length packed.now }
+        ensures { OnOk result (Has self.new (λ name. hinted_as kind (part packed.now start end) name || has_name self.old name)) }
+    {
+        for place in start..end {
+            self.insert_hint(kind, packed.at(place))?;
+        }
+        Ok(())
+    }
+
     /// Takes a name out, if it is in it.
     pub(crate) fn remove(&mut self, kind: Kind, id: u64)
         ensures { Has self.new (λ name. not (same_name name (name_of kind id)) && has_name self.old name) }
@@ -63,5 +91,17 @@ impl NameSet {
             Kind::Clauses => self.clauses.remove(id),
             Kind::Parities => self.parities.remove(id),
         }
+    }
+
+    /// Takes a name out: whether it was in it.
+    pub(crate) fn take(&mut self, kind: Kind, id: u64) -> bool
+        ensures had { result ≡ has_name self.old (name_of kind id) }
+        ensures out { Has self.new (λ name. not (same_name name (name_of kind id)) && has_name self.old name) }
+    {
+        let had = self.has(kind, id);
+        if had {
+            self.remove(kind, id);
+        }
+        had
     }
 }

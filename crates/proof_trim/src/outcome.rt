@@ -1,13 +1,13 @@
 //! What trimming gives.
+use crate::kept::KeptSteps;
 use cx_base::IdList;
 use cx_semantics::Cause;
-use proof_text::ProofList;
 
 /// What is left of an accepted proof.
 #[derive(Drop)]
 pub struct Trimmed {
     /// The needed steps, and the deletions of what is live among them, in order and unchanged.
-    pub steps: ProofList,
+    pub steps: KeptSteps,
     /// The numbers of the formula's clauses that needed steps name, rising.
     pub clauses: IdList,
     /// The numbers of the formula's parities that needed steps name, rising.

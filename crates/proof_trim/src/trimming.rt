@@ -1,5 +1,5 @@
 //! The trimming of a proof.
-ghost use Rattle.std.specs.Prelude.{◌≡◌, ◌<◌, ◌^◌, ℕ, List, false, length, IfOk, IfErr};
+ghost use Rattle.std.specs.Prelude.{◌≡◌, ℕ, List, false, IfOk, IfErr};
 ghost use Rattle.cx_base.specs.Problem.{Unmet};
 ghost use Rattle.xlrup_check.specs.Verdicts.{HasCause, ReadsStand};
 ghost use Rattle.proof_trim.specs.Laws.{IsRefutation};
@@ -8,12 +8,12 @@ ghost use Rattle.proof_trim.specs.Trimmed.{core_of};
 
 use crate::back::{Found, go_back};
 use crate::keep::keep;
+use crate::kept::KeptSteps;
 use crate::names::NameSet;
 use crate::outcome::{TrimOf, Trimmed};
-use crate::recording::StepStore;
+use crate::store::StepStore;
 use cx_base::{Formula, IdList, ProofStep};
 use proof_rules::Kind;
-use proof_text::ProofList;
 use std::alloc::{AllocError, Global};
 use step_text::StepSource;
 use xlrup_check::{Fault, Verdict, check_and_record};
@@ -38,21 +38,17 @@ fn numbers_in(
 }
 
 /// What is left of an accepted proof.
-fn trimmed_of(
-    alloc: Global,
-    formula: &Formula,
-    proof: Vec<ProofStep>,
-) -> Result<Trimmed, AllocError>
-    requires few { length proof.items < 2 ^ 62 }
-    ensures { IfOk result (Trims formula.now proof.items) }
+fn trimmed_of(alloc: Global, formula: &Formula, proof: StepStore) -> Result<Trimmed, AllocError>
+    ensures { IfOk result (Trims formula.now proof) }
 {
     let count = formula.len().saturating_add(proof.len());
     let found = go_back(alloc, count, &proof)?;
     let clauses = numbers_in(alloc, &found.wanted, Kind::Clauses, formula.clause_count())?;
     let parities = numbers_in(alloc, &found.wanted, Kind::Parities, formula.parity_count())?;
-    let steps = keep(alloc, formula, proof, &found.marks)?;
+    let mut here = proof.opened(alloc)?;
+    let stays = keep(alloc, formula, &proof, &found.marks, &mut here)?;
     Ok(Trimmed {
-        steps: ProofList::of(steps),
+        steps: KeptSteps::of(proof, stays, here),
         clauses,
         parities,
     })
@@ -81,7 +77,7 @@ pub fn trim<S: StepSource<Step = ProofStep>>(
     let mut store = StepStore::new(alloc);
     match check_and_record(alloc, formula, source, &mut store)? {
         Verdict::Refused(number, cause) => Ok(TrimOf::Refused(number, cause)),
-        Verdict::Verified(_) => match trimmed_of(alloc, formula, store.into_steps()) {
+        Verdict::Verified(_) => match trimmed_of(alloc, formula, store) {
             Ok(trimmed) => Ok(TrimOf::Done(trimmed)),
             Err(_) => Err(Fault::Memory),
         },

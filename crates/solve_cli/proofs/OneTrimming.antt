@@ -145,7 +145,7 @@ accepted_text f text proof h =
     record { steps = proof ++ h.later; ending = h.ending; reads = h.left; judged = accepted_more f proof h.later h.accepted }
 
 -- the text of an accepted proof says which steps it is
-one_proof : (f : Problem) (text : Bytes) (p q : List ProofStep) → HasRefutation ProofReads f text p → HasRefutation ProofReads f text q → p ≡ q
+pub one_proof : (f : Problem) (text : Bytes) (p q : List ProofStep) → HasRefutation ProofReads f text p → HasRefutation ProofReads f text q → p ≡ q
 one_proof f text p q h k =
     let both : ◌≡◌ {A = Judgement} (accepted (length p)) (accepted (length q)) = same_of_one {P = ProofJudgedAs f text} (one_proof_judgement f text) _ _ (accepted_text f text p h) (accepted_text f text q k) in
     let long : length p ≡ length q = cc in
@@ -153,7 +153,7 @@ one_proof f text p q h k =
     let all : p ++ h.later ≡ q ++ k.later = ap (λ (x : List ProofStep × Ending). x.0) read in
     sym (take-append_seam p h.later) ∙ (ap (λ (n : ℕ). take n (p ++ h.later)) long ∙ (ap (take (length q)) all ∙ take-append_seam q k.later))
 
-same_trims : (f : Problem) (p q : List ProofStep) (t : Trimmed) → p ≡ q → Trims f p t → Trims f q t
+pub same_trims : (f : Problem) (p q : List ProofStep) (t : Trimmed) → p ≡ q → Trims f p t → Trims f q t
 same_trims f p q t e h = subst (λ (x : List ProofStep). Trims f x t) e h
 
 pub one_trimming : (f : Problem) (text : Bytes) (steps also : List ProofStep) (c d : Core) → TrimsTo f text steps c → TrimsTo f text also d → c ≡ d

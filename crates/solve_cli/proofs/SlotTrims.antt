@@ -1,9 +1,9 @@
 -- A proof that is trimmed, from its slot to what the command does.
-use Rattle.std.proofs.Common.{◌≡◌, refl, ap, sym, subst, ◌∙◌, ℕ, ◌<◌, ◌≤◌, false, List, [], ◌∷◌, ◌++◌, length, take, drop, take-append-drop, Option, None, Some, MatchOption, IfSome, IfOk, IfErr, MatchResult, Result, Ok, Err, inl, inr, append-nil}
+use Rattle.std.proofs.Common.{◌≡◌, refl, ap, sym, subst, ◌∙◌, ℕ, ◌<◌, ◌≤◌, List, [], ◌++◌, length, take, drop, take-append-drop, Option, IfSome, IfOk, IfErr, MatchResult, Result, Ok, Err, inl, inr, append-nil}
 use Rattle.std.proofs.lemmas.Option.{IfSome_then}
 use Rattle.std.specs.List.{AllByRecursion}
 use Rattle.cx_base.specs.Problem.{Problem, Unmet}
-use Rattle.cx_base.specs.Endings.{Ending as End, finished, bad_token, unterminated, too_big}
+use Rattle.cx_base.specs.Endings.{Ending as End, finished}
 use Rattle.cx_base.specs.declared.steps.ProofStep.{ProofStep}
 use Rattle.cx_semantics.specs.declared.cause.Cause.{Cause}
 use Rattle.cx_desk.specs.declared.desk.Slot.TheVariants as slot
@@ -16,10 +16,6 @@ use Rattle.cx_texts.specs.ProofText.{ProofReads, proof_steps}
 use Rattle.cx_texts.proofs.PrintedProofs.{printed_proof_reads}
 use Rattle.cx_judgements.specs.ProofTexts.{Accepted, RefusedAt}
 use Rattle.cx_words.specs.declared.plans.Plan.TheVariants as plan
-use Rattle.step_text.specs.Lists.{StepsLeft, LeavesList}
-use Rattle.step_text.specs.Sources.{Gives, SpentAs, IsTooLongOnly}
-use Rattle.step_text.specs.declared.source.TextRefusal.{TextRefusal}
-use Rattle.step_text.specs.declared.source.TextRefusal.TheVariants as text
 use Rattle.step_text.specs.Slots.{IsPossible, is_too_long, SlotFrame}
 use Rattle.step_text.specs.SlotAnswers.{PairLeaves}
 use Rattle.xlrup_check.specs.Verdicts.{HasCause, ReadsStand}
@@ -129,23 +125,6 @@ pub trimmed_within : (f : Problem) (name : Bytes) (limit : ℕ) (old at new : Se
     → ReadsTrimmed f name limit old (Ok t) new
 trimmed_within f name limit old at new t to rest =
     (rest.0 ∙ to.0, if_some_both old.files to.1 (subst (λ (x : Seen). IfSome x.files (λ files. length (text_named name files) ≤ limit)) to.0 rest.1) (λ files j short. (short, j)))
-
--- ---- the list of the steps that stay
-
--- a list has no other end than the last of its steps
-pub never_refuses : (old new : StepsLeft ProofStep) (why : TextRefusal) → Gives LeavesList old (Err why) new → SpentAs {T = Option ProofStep} (Err why) false
-    → IsTooLongOnly {S = ProofStep} (Some false) (Err why) → ⊥
-never_refuses old new (text.BadToken place) gives spent long = let e : bad_token place ≡ finished = gives.0.1 in cc
-never_refuses old new (text.Unterminated place) gives spent long = let e : unterminated place ≡ finished = gives.0.1 in cc
-never_refuses old new (text.TooBig place) gives spent long = let e : too_big place ≡ finished = gives.0.1 in cc
-never_refuses old new text.TooLong gives spent long = long refl
-never_refuses old new text.Memory gives spent long = cc
-never_refuses old new text.Failed gives spent long = cc
-
--- what it gives is the first of its steps
-pub next_of_list : (old new : StepsLeft ProofStep) (r : Option ProofStep) → Gives LeavesList old (Ok r) new → MatchOption r (old.steps ≡ []) (λ step. old.steps ≡ step ∷ new.steps)
-next_of_list old new None h = sym h.0.0
-next_of_list old new (Some step) h = sym (h new.steps finished (refl, refl)).0
 
 -- ---- the command, as its desk tells it
 

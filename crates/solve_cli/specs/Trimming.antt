@@ -2,6 +2,7 @@
 use Rattle.std.specs.Prelude.{◌≡◌, ℕ, List, [], ◌∷◌, ◌++◌, length, codes}
 use Rattle.cx_base.specs.Problem.{Problem, Unmet}
 use Rattle.cx_base.specs.declared.steps.ProofStep.{ProofStep}
+use Rattle.cx_base.specs.declared.steps.ProofStep.TheVariants.{DeleteParities}
 use Rattle.cx_texts.specs.Grammar.{spelled, ids}
 use Rattle.cx_texts.specs.ProofText.{ProofReads}
 use Rattle.cx_texts.specs.Printed.{printed_proof}
@@ -15,7 +16,7 @@ use Rattle.solve_cli.specs.declared.ending.Core.{Core}
 -- The text's proof is accepted. Of it these steps stay: those that its last one needs, and the deletions of what is live among them. The
 -- core is what needed steps name of the formula.
 abbrev pub TrimsTo : Problem → Bytes → List ProofStep → Core → Type 0
-TrimsTo f text steps core = IsTrimOf ProofReads f text (record { steps = record { steps = steps; given = 0 }; clauses = core.clauses; parities = core.parities })
+TrimsTo f text steps core = IsTrimOf ProofReads f text (record { steps = record { steps = steps; here = DeleteParities [] }; clauses = core.clauses; parities = core.parities })
 
 -- The bytes are the printed steps that stay of the proof, and they are accepted at their last one. No values meet the core.
 pub record IsTrimmedProof (f : Problem) (text : Bytes) (core : Core) (bytes : Bytes) : Type 0 where

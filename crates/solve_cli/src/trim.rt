@@ -1,5 +1,5 @@
 //! What a proof's last step needs, written on the Proof port.
-ghost use Rattle.std.specs.Prelude.{◌≡◌, ◌≤◌, [], ◌∷◌, List, ℕ, true, false, IfOk, IfErr, MatchOption};
+ghost use Rattle.std.specs.Prelude.{◌≡◌, ◌≤◌, List, ℕ, true, false, IfOk, IfErr};
 ghost use Rattle.std.specs.List.{AllByRecursion};
 ghost use Rattle.cx_base.specs.Problem.{Unmet};
 ghost use Rattle.cx_desk.specs.Calls.{PutsAll};
@@ -23,13 +23,13 @@ ghost use Rattle.solve_cli.specs.SlotTexts.{IsRightTrimming, ReadsTrimmed, Trims
 use crate::judge::drained;
 use crate::proof_on_desk::ProofOnDesk;
 use crate::{Core, Ending, Outcome};
-use cx_base::{Formula, ProofStep};
+use cx_base::Formula;
 use cx_desk::{Desk, Failed, Port, Slot};
-use proof_text::{ProofGrammar, ProofList, put_proof_step};
-use proof_trim::{TrimOf, Trimmed, trim};
+use proof_text::{ProofGrammar, put_step_ref};
+use proof_trim::{KeptSteps, TrimOf, Trimmed, trim};
 use std::alloc::Global;
+use step_text::SlotReader;
 use step_text::pieces::LineSheet;
-use step_text::{SlotReader, SpareLists, StepSource};
 use xlrup_check::Fault;
 
 /// Trims the proof that a reader takes from a desk.
@@ -88,45 +88,34 @@ fn read_trimmed<D: Desk>(
     Ok(trimmed)
 }
 
-/// The next of the steps that stay. Their list never refuses.
-fn next_kept(steps: &mut ProofList, spare: &mut SpareLists) -> Option<ProofStep>
-    ensures { MatchOption result (steps.old.steps ≡ []) (λ step. steps.old.steps ≡ step ∷ steps.new.steps) }
+/// Writes the step that was taken last on the Proof port.
+fn put_kept<D: Desk>(sheet: &mut LineSheet, desk: &mut D, steps: &KeptSteps) -> Result<(), Failed>
+    requires { HasProofText steps.now.here }
+    ensures { PutsAll port.Proof (printed_line (spelling proof_steps steps.now.here)) (D.outside desk.old) result (D.outside desk.new) }
 {
-    match steps.next_step(spare) {
-        Ok(step) => step,
-        Err(_) => unreachable!(),
-    }
-}
-
-/// Writes a step that stays on the Proof port, and lets it go.
-fn put_kept<D: Desk>(sheet: &mut LineSheet, desk: &mut D, step: ProofStep) -> Result<(), Failed>
-    requires { HasProofText step }
-    ensures { PutsAll port.Proof (printed_line (spelling proof_steps step)) (D.outside desk.old) result (D.outside desk.new) }
-{
-    put_proof_step(sheet, desk, Port::Proof, &step)
+    put_step_ref(sheet, desk, Port::Proof, steps.step())
 }
 
 /// Writes the steps that stay on the Proof port, one after another.
-fn put_steps<D: Desk>(alloc: Global, desk: &mut D, steps: ProofList) -> Result<(), Failed>
+fn put_steps<D: Desk>(desk: &mut D, steps: KeptSteps) -> Result<(), Failed>
     requires { AllByRecursion HasProofText steps.steps }
     ensures { PutsAll port.Proof (printed_proof steps.steps) (D.outside desk.old) result (D.outside desk.new) }
 {
     let mut steps = steps;
-    let mut spare = SpareLists::new(alloc);
     let mut sheet = LineSheet::new();
-    while let Some(step) = next_kept(&mut steps, &mut spare) {
-        put_kept(&mut sheet, desk, step)?;
+    'each: while steps.advance() {
+        put_kept(&mut sheet, desk, &steps)?;
     }
     Ok(())
 }
 
 /// Writes the steps that stay, and gives the core.
-fn put_trimmed<D: Desk>(alloc: Global, desk: &mut D, trimmed: Trimmed) -> Result<Core, Failed>
+fn put_trimmed<D: Desk>(desk: &mut D, trimmed: Trimmed) -> Result<Core, Failed>
     requires { AllByRecursion HasProofText trimmed.steps.steps }
     ensures puts { PutsAll port.Proof (printed_proof trimmed.steps.steps) (D.outside desk.old) result (D.outside desk.new) }
     ensures core { IfOk result (λ core. core ≡ record { clauses = trimmed.clauses; parities = trimmed.parities }) }
 {
-    put_steps(alloc, desk, trimmed.steps)?;
+    put_steps(desk, trimmed.steps)?;
     Ok(Core {
         clauses: trimmed.clauses,
         parities: trimmed.parities,
@@ -148,7 +137,7 @@ pub(crate) fn trim_proof<D: Desk>(
     let left = read_trimmed(alloc, desk, formula, limit)?;
     match left {
         TrimOf::Refused(step, cause) => Ok(Ending::NotTrimmed(step, cause)),
-        TrimOf::Done(trimmed) => match put_trimmed(alloc, desk, trimmed) {
+        TrimOf::Done(trimmed) => match put_trimmed(desk, trimmed) {
             Ok(core) => Ok(Ending::Trimmed(core)),
             Err(Failed) => Err(Outcome::WriteFault),
         },

@@ -1,6 +1,6 @@
 use Rattle.std.proofs.Common.{refl}
 use Rattle.proof_trim.specs.NameSets.{has_name}
-use Rattle.proof_trim.proofs.WantLaws.{remove_more, remove_done}
+use Rattle.proof_trim.proofs.RemoveLaws.{remove_more, remove_done}
 use Rattle.proof_trim.proofs.keep.remove_all.Goals as goal
 
 pub loop-id-init : goal.loop-id-init

@@ -1,0 +1,163 @@
+//! Integers, packed: each takes 32 bits, up to the first that needs more.
+ghost use Rattle.std.specs.Prelude.{◌≡◌, ◌<◌, ◌≤◌, ◌-◌, ◌++◌, ◌∷◌, [], length, map, pos, take, get_or, OnOk};
+ghost use Rattle.proof_trim.specs.Integers.{part, signed, unsigned};
+
+use std::alloc::{AllocError, Global};
+use std::marker::Model;
+
+/// Integers, nearly always small.
+#[derive(Drop)]
+pub(crate) struct Integers {
+    /// Those before the first that 32 bits do not hold.
+    narrow: Vec<i32>,
+    /// That one and those after it.
+    wide: Vec<i64>,
+}
+
+impl Model for Integers {
+    ghost use Rattle.std.specs.Prelude.{List, ℤ, ◌++◌};
+
+    ghost Value = { List ℤ };
+
+    ghost view = { λ a. a.narrow.items ++ a.wide.items };
+}
+
+/// An id as an integer.
+#[inline(always)]
+fn signed(id: u64) -> i64
+    ensures { result ≡ signed id }
+{
+    if id < 1 << 63 {
+        id as i64
+    } else {
+        -((id - (1 << 63)) as i64) - 1
+    }
+}
+
+/// The id of an integer.
+#[inline(always)]
+fn unsigned(integer: i64) -> u64
+    ensures { result ≡ unsigned integer }
+{
+    if integer < 0 {
+        ((-(integer + 1)) as u64) + (1 << 63)
+    } else {
+        integer as u64
+    }
+}
+
+impl Integers {
+    /// No integer yet.
+    pub(crate) fn new(alloc: Global) -> Integers
+        ensures { result ≡ [] }
+    {
+        Integers {
+            narrow: Vec::new(alloc),
+            wide: Vec::new(alloc),
+        }
+    }
+
+    /// How many there are.
+    pub(crate) fn len(&self) -> usize
+        ensures { result ≡ length self.now }
+    {
+        self.narrow.len() + self.wide.len()
+    }
+
+    /// Puts an integer after the others.
+    #[inline(always)]
+    pub(crate) fn push(&mut self, integer: i64) -> Result<(), AllocError>
+        ensures { OnOk result (self.new ≡ self.old ++ integer ∷ []) }
+    {
+        if self.wide.is_empty() && -2147483648 <= integer && integer < 2147483648 {
+            self.narrow.push(integer as i32)?;
+        } else {
+            self.wide.push(integer)?;
+        }
+        Ok(())
+    }
+
+    /// Puts an id after the others.
+    #[inline(always)]
+    pub(crate) fn push_id(&mut self, id: u64) -> Result<(), AllocError>
+        ensures { OnOk result (self.new ≡ self.old ++ signed id ∷ []) }
+    {
+        self.push(signed(id))
+    }
+
+    /// Puts integers after the others.
+    pub(crate) fn extend(&mut self, more: &[i64]) -> Result<(), AllocError>
+        ensures { OnOk result (self.new ≡ self.old ++ more.now) }
+    {
+        for integer in more {
+            self.push(*integer)?;
+        }
+        Ok(())
+    }
+
+    /// Puts ids after the others.
+    pub(crate) fn extend_ids(&mut self, ids: &[u64]) -> Result<(), AllocError>
+        ensures { OnOk result (self.new ≡ self.old ++ map signed ids.now) }
+    {
+        for id in ids {
+            self.push_id(*id)?;
+        }
+        Ok(())
+    }
+
+    /// The integer at a place, from 0.
+    #[inline(always)]
+    pub(crate) fn at(&self, place: usize) -> i64
+        requires { place < length self.now }
+        ensures { result ≡ get_or self.now place (pos 0) }
+    {
+        if place < self.narrow.len() {
+            i64::from(self.narrow[place])
+        } else {
+            self.wide[place - self.narrow.len()]
+        }
+    }
+
+    /// The id at a place, from 0.
+    #[inline(always)]
+    pub(crate) fn id_at(&self, place: usize) -> u64
+        requires { place < length self.now }
+        ensures { result ≡ unsigned (get_or self.now place (pos 0)) }
+    {
+        unsigned(self.at(place))
+    }
+
+    /// Takes all out.
+    pub(crate) fn clear(&mut self)
+        ensures { self.new ≡ [] }
+    {
+        self.narrow.clear();
+        self.wide.clear();
+    }
+
+    /// Copies the integers from start up to end to the first places of a list.
+    pub(crate) fn copy(&self, start: usize, end: usize, into: &mut Vec<i64>)
+        requires low { start ≤ end }
+        requires high { end ≤ length self.now }
+        requires room { end - start ≤ length into.old.items }
+        ensures copied { take (end - start) into.new.items ≡ part self.now start end }
+        ensures room { length into.new.items ≡ length into.old.items }
+    {
+        for place in start..end {
+            into[place - start] = self.at(place);
+        }
+    }
+
+    /// Copies the ids from start up to end to the first places of a list.
+    pub(crate) fn copy_ids(&self, start: usize, end: usize, into: &mut Vec<u64>)
+        requires low { start ≤ end }
+        requires high { end ≤ length self.now }
+        requires room { end - start ≤ length into.old.items }
+        ensures copied { take (end - start) into.new.items ≡ map unsigned (part self.now start end) }
+        ensures room { length into.new.items ≡ length into.old.items }
+    {
+        for place in start..end {
+            into[place - start] = self.id_at(place);
+        }
+    }
+}
