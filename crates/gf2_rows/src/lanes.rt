@@ -21,7 +21,7 @@ pub fn add_into(row: &mut [u64], other: &[u64])
     plain::add_into(rest, other_rest);
 }
 
-/// The same for whole blocks.
+/// Adds whole blocks of eight words.
 fn add_blocks(row: &mut [u64], other: &[u64])
     requires same { length row.old ≡ length other.now }
     requires whole { length row.old % 8 ≡ 0 }
@@ -45,7 +45,7 @@ pub fn parity_and(a: &[u64], b: &[u64]) -> bool
     parity_of_blocks(a_blocks, b_blocks) ^ plain::parity_and(a_rest, b_rest)
 }
 
-/// The same for whole blocks.
+/// The parity of the common bits of whole blocks.
 fn parity_of_blocks(a: &[u64], b: &[u64]) -> bool
     requires same { length a.now ≡ length b.now }
     requires whole { length a.now % 8 ≡ 0 }
@@ -97,7 +97,23 @@ pub fn first_outside(row: &[u64], mask: &[u64], skip: Option<u64>) -> Option<u64
 
 /// A position that is set in `row`, not set in `mask` and not `skip`, in at most 4,294,967,295 words: sought from the
 /// block of the word `near` on, and then among the blocks before.
+#[inline(always)]
 pub fn outside_near(row: &[u64], mask: &[u64], skip: Option<u64>, near: usize) -> Option<u64>
+    requires same { length row.now ≡ length mask.now }
+    requires few { length row.now < 2 ^ 32 }
+    ensures { MatchOption result
+        (HoldsNowhere (is_outside row.now mask.now skip) 0 (64 * length row.now))
+        (λ k. (k < 64 * length row.now) × (is_outside row.now mask.now skip k ≡ true)) }
+{
+    // Where there is no whole block, the plain loop does it all, and is short enough to be part of its caller.
+    if row.len() < 8 {
+        return plain::first_outside(row, mask, skip);
+    }
+    near_in_blocks(row, mask, skip, near)
+}
+
+/// Such a position in a row of any length.
+fn near_in_blocks(row: &[u64], mask: &[u64], skip: Option<u64>, near: usize) -> Option<u64>
     requires same { length row.now ≡ length mask.now }
     requires few { length row.now < 2 ^ 32 }
     ensures { MatchOption result

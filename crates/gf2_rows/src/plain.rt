@@ -41,6 +41,7 @@ pub fn ones(row: &[u64]) -> u64
 }
 
 /// The least position that is set in `row`, not set in `mask` and not `skip`, in at most 4,294,967,295 words.
+#[inline(always)]
 pub fn first_outside(row: &[u64], mask: &[u64], skip: Option<u64>) -> Option<u64>
     requires same { length row.now ≡ length mask.now }
     requires few { length row.now < 2 ^ 32 }

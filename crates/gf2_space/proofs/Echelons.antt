@@ -1,4 +1,4 @@
--- A matrix in echelon form gives a basis.
+-- Rows in echelon form give a basis.
 use Rattle.std.proofs.Common.{◌≡◌, ◌≢◌, ℕ, ◌+◌, ◌-◌, ◌<◌, ◌≤◌, zero, suc, Bool, true, false, cond, ◌&&◌, List, [], ◌∷◌, map, length, get_or, refl, sym, ap, ◌∙◌, subst, arith, inl, inr, ◌⊎◌, true≢false}
 use Rattle.std.specs.List.{range_with_len}
 use Rattle.std.proofs.lemmas.List.{get_or_past}
@@ -6,7 +6,8 @@ use Rattle.std.proofs.lemmas.List.FromFn.{get_or-map-range_with_len, length-map-
 use Rattle.std.proofs.lemmas.Bool.{cases_lt, cases_eq, eq-eqb, ne_eqb}
 use Rattle.cx_base.specs.Literals.{differ}
 use Rattle.parity_engine.proofs.Rising.{column-low, column-high}
-use Rattle.gf2_matrix.specs.Content.{Content, row_at, has, IsOfGiven, IsLeastOf}
+use Rattle.gf2_matrix.specs.Content.{Content, row_at, has, IsLeastOf}
+use Rattle.gf2_lists.specs.Echelon.{SayGiven}
 use Rattle.gf2_matrix.proofs.Rows.{rising_apart}
 use Rattle.gf2_space.specs.Solutions.{Solves, IsFree}
 use Rattle.gf2_space.specs.Spaces.{plus, IsSpaceOf}
@@ -57,7 +58,7 @@ module _ (c : Content) (owners free : List ℕ) (kept : IsKept c owners free) wh
 
   inside : (r x : ℕ) → r < length c.rows → has (row_at c.rows r) x ≡ true → x < c.vars
   inside r x lt on =
-      let long = (kept.of_given.long r lt).0 in
+      let long = kept.say.long r lt in
       elim (cases_lt x c.vars) [
         | inl small ↦ small
         | inr large ↦ absurd (true≢false (sym on ∙ get_or_past (row_at c.rows r).terms x false (omega arith)))
@@ -124,7 +125,7 @@ module _ (c : Content) (owners free : List ℕ) (kept : IsKept c owners free) wh
       let long : length (map (point_value c owners) (range_with_len 0 c.vars)) ≡ c.vars = length-map-range_with_len (point_value c owners) 0 c.vars in
       record {
         one_each = long;
-        all_met = kept.of_given.complete (map (point_value c owners) (range_with_len 0 c.vars)) long point_row;
+        all_met = kept.say.complete (map (point_value c owners) (range_with_len 0 c.vars)) long point_row;
       }
 
   -- ---- the vectors
@@ -182,11 +183,11 @@ module _ (c : Content) (owners free : List ℕ) (kept : IsKept c owners free) wh
         record {
           one_each = long;
           all_met =
-              kept.of_given.complete (plus (vector_of c owners v) w) long
+              kept.say.complete (plus (vector_of c owners v) w) long
               (λ r lt.
               products_plus (row_at c.rows r).terms (vector_of c owners v) w same
               ∙ ap (λ b. differ b (products (row_at c.rows r).terms w)) (vector_row r lt)
-              ∙ kept.of_given.sound w sw.one_each sw.all_met r lt);
+              ∙ kept.say.sound w sw.one_each sw.all_met r lt);
         }
 
   -- ---- the free variables
@@ -223,11 +224,11 @@ module _ (c : Content) (owners free : List ℕ) (kept : IsKept c owners free) wh
             | inr some ↦
                 let r : ℕ = some.0 in
                 let of_r = kept.owners_are.owned (x - 1) r high some.1 in
-                let long = (kept.of_given.long r of_r.0).0 in
+                let long = kept.say.long r of_r.0 in
                 absurd (f.differ_here
                 (same_least (row_at c.rows r).terms f.one f.other (x - 1) (long ∙ sym f.one_solves.one_each) (long ∙ sym f.other_solves.one_each) of_r.1.0 of_r.1.1
                 (λ y above. subst (λ z. get_or f.one z false ≡ get_or f.other z false) (let back : suc y - 1 ≡ y = omega arith in back) (f.agree_above (suc y) (let l = low in omega arith)))
-                (kept.of_given.sound f.one f.one_solves.one_each f.one_solves.all_met r of_r.0 ∙ sym (kept.of_given.sound f.other f.other_solves.one_each f.other_solves.all_met r of_r.0))))
+                (kept.say.sound f.one f.one_solves.one_each f.one_solves.all_met r of_r.0 ∙ sym (kept.say.sound f.other f.other_solves.one_each f.other_solves.all_met r of_r.0))))
           ]
 
   all_free : (x : ℕ) → IsFree c.vars c.given x → (i : ℕ) × (i < length free) × (get_or free i 0 ≡ x)
@@ -289,10 +290,10 @@ pub space_of_kept : (c : Content) (owners free : List ℕ) → IsKept c owners f
 space_of_kept c owners free kept = space_of_basis c.vars c.given (space_of c owners free) (basis_of_kept c owners free kept)
 
 -- a row that says that 0 is 1 has no solution
-pub clash_unmet : (c : Content) → IsOfGiven c → HasClash c → (v : List Bool) → Solves c.vars c.given v → ⊥
-clash_unmet c of_given clash v sv =
+pub clash_unmet : (c : Content) → SayGiven c → HasClash c → (v : List Bool) → Solves c.vars c.given v → ⊥
+clash_unmet c say clash v sv =
     true≢false
-    (sym clash.3 ∙ sym (of_given.sound v sv.one_each sv.all_met clash.0 clash.1)
+    (sym clash.3 ∙ sym (say.sound v sv.one_each sv.all_met clash.0 clash.1)
     ∙ products_none (row_at c.rows clash.0).terms v (λ x. ap (λ b. b && get_or v x false) (clash.2 x)))
 
 pub owner_in : (c : Content) (owners : List ℕ) (x : ℕ) → AreOwners c owners → x < c.vars → get_or owners x 0 ≢ 0 → get_or owners x 0 - 1 < length c.rows

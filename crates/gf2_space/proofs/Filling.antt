@@ -5,7 +5,8 @@ use Rattle.std.proofs.lemmas.Bool.{cases_lt, cases_eq}
 use Rattle.parity_engine.specs.Written.{AreRising}
 use Rattle.gf2_matrix.specs.Content.{Content, row_at, has, IsLeastOf, IsEchelonRow}
 use Rattle.cx_base.specs.Literals.{Literal}
-use Rattle.gf2_space.specs.Kept.{AreOwners, AreUnowned, HasNoClash, IsEchelonOf, IsKept}
+use Rattle.gf2_lists.specs.Echelon.{IsEchelonOf}
+use Rattle.gf2_space.specs.Kept.{AreOwners, AreUnowned, HasNoClash, IsKept}
 use Rattle.gf2_space.proofs.Echelons.{least_unique}
 
 -- ---- owners
@@ -133,7 +134,7 @@ unowned_more owners free n far none =
 pub kept_from : (vars : ℕ) (parities : List (List Literal)) (c : Content) (owners slice free : List ℕ) → IsEchelonOf vars parities c → HasNoClash c → AreOwners c owners → slice ≡ owners
     → AreUnowned slice free (length slice) → IsKept c owners free
 kept_from vars parities c owners slice free echelon no_clash are same unowned = record {
-  of_given = echelon.of_given;
+  say = echelon.say;
   echelon = echelon.echelon;
   no_clash = no_clash;
   owners_are = are;

@@ -1,8 +1,9 @@
 -- A row has a variable where it has its column.
-use Rattle.std.proofs.Common.{◌≡◌, ℕ, ◌+◌, ◌-◌, ◌<◌, ◌≤◌, zero, suc, Bool, true, false, List, [], ◌∷◌, length, get_or, ltb, refl, ◌∙◌, arith, inl, inr}
-use Rattle.std.proofs.lemmas.Bool.{cases_eq, eq-eqb, ne_eqb, le-ltb}
+use Rattle.std.proofs.Common.{◌≡◌, ℕ, ◌+◌, ◌-◌, ◌<◌, ◌≤◌, zero, suc, Bool, true, false, List, [], ◌∷◌, length, get_or, refl, ◌∙◌, arith, inl, inr}
+use Rattle.std.proofs.lemmas.Bool.{cases_eq, eq-eqb, ne_eqb}
 use Rattle.gf2_matrix.specs.Columns.{place}
-use Rattle.gf2_matrix.specs.Content.{Content, row_at, has, IsOfGiven}
+use Rattle.gf2_matrix.specs.Content.{Content, row_at, has}
+use Rattle.gf2_lists.specs.Echelon.{SayGiven}
 
 pub place_in : (columns : List ℕ) (v k : ℕ) → k < length columns → get_or columns k 0 ≡ v → place columns v < length columns
 place_in [] v k lt is = absurd (omega arith)
@@ -17,15 +18,12 @@ place_in (c ∷ cs) v (suc k) lt is =
     ]
 
 -- a variable without a column is in no row
-pub none_without_place : (c : Content) (r v : ℕ) → IsOfGiven c → r < length c.rows → 1 ≤ v → length c.columns ≤ place c.columns v → has (row_at c.rows r) (v - 1) ≡ false
-none_without_place c r v of_given lt low past = go (has (row_at c.rows r) (v - 1)) refl
+pub none_without_place : (c : Content) (r v : ℕ) → SayGiven c → r < length c.rows → 1 ≤ v → length c.columns ≤ place c.columns v → has (row_at c.rows r) (v - 1) ≡ false
+none_without_place c r v say lt low past = go (has (row_at c.rows r) (v - 1)) refl
   where
     go : (b : Bool) → has (row_at c.rows r) (v - 1) ≡ b → b ≡ false
     go false e = refl
     go true e =
-        let col = of_given.in_columns r lt (v - 1) e in
+        let col = say.in_columns r lt (v - 1) e in
         let back : v - 1 + 1 ≡ v = omega arith in
         absurd (let h = place_in c.columns v col.0 col.1 (col.2 ∙ back) in omega arith)
-
-pub is_past : (m n : ℕ) → n ≤ m → ltb m n ≡ false
-is_past m n le = le-ltb m n le

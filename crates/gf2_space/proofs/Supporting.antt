@@ -4,7 +4,8 @@ use Rattle.std.specs.List.{range_with_len}
 use Rattle.std.proofs.lemmas.List.{get_or-set_same, get_or-set_other, get_or_push, get_or_past}
 use Rattle.std.proofs.lemmas.Bool.{cases_lt, cases_eq, eq-eqb, ne_eqb}
 use Rattle.parity_engine.specs.Equations.{numbers_from}
-use Rattle.gf2_matrix.specs.Content.{Content, row_at, has, IsOfGiven}
+use Rattle.gf2_matrix.specs.Content.{Content, row_at, has}
+use Rattle.gf2_lists.specs.Echelon.{SayGiven}
 use Rattle.gf2_matrix.specs.Columns.{place}
 use Rattle.gf2_space.proofs.Places.{none_without_place}
 use Rattle.gf2_space.specs.declared.supports.Support.{Support}
@@ -65,7 +66,7 @@ empty_more supports n s far none =
     }
 
 -- ---- the columns of a row
--- the variable was put behind those of the columns from `first` up to n that the row has
+-- the variable was added to those of the columns from `first` up to n that the row has
 pub record RowSoFar (c : Content) (row var first n : ℕ) (old new : List Support) : Type 0 where
   pub long : length new ≡ length old
   pub done : (k : ℕ) (d : Support) → first ≤ k → k < n → (get_or new k d).vars.items ≡ (get_or old k d).vars.items ++ cond (has (row_at c.rows row) (get_or c.columns k 0 - 1)) (var ∷ []) []
@@ -212,7 +213,7 @@ numbers_same f g (suc m) same =
     ∙ (λ i. numbers_same f g m (λ x lt. same x (omega arith)) i ++ cond (same m (omega arith) i) ((m + 1) ∷ []) [])
     ∙ sym (numbers_next g m) ∙ ap (λ k. numbers_from 1 (map g (range_with_len 0 k))) (sym e)
 
--- the greatest of the set bits stands last
+-- the greatest of the set bits comes last
 pub numbers_last : (f g : ℕ → Bool) (m n : ℕ) → m < n → f m ≡ true → g m ≡ false → ((x : ℕ) → x < m → f x ≡ g x) → ((x : ℕ) → m < x → f x ≡ false) → ((x : ℕ) → m < x → g x ≡ false)
     → numbers_from 1 (map f (range_with_len 0 n)) ≡ numbers_from 1 (map g (range_with_len 0 n)) ++ (m + 1) ∷ []
 numbers_last f g m n lt on off same f_past g_past =
@@ -251,14 +252,14 @@ vector_line c owners v are low high none =
         ]
 
 -- no row has a variable without a column
-pub support_none : (c : Content) (owners : List ℕ) (v n : ℕ) → IsOfGiven c → AreOwners c owners → 1 ≤ v → length c.columns ≤ place c.columns v → support c owners v n ≡ []
-support_none c owners v n of_given are low missing = no_numbers (is_support c owners v) n (λ x. off x (zero_or (get_or owners x 0)))
+pub support_none : (c : Content) (owners : List ℕ) (v n : ℕ) → SayGiven c → AreOwners c owners → 1 ≤ v → length c.columns ≤ place c.columns v → support c owners v n ≡ []
+support_none c owners v n say are low missing = no_numbers (is_support c owners v) n (λ x. off x (zero_or (get_or owners x 0)))
   where
     off : (x : ℕ) → (get_or owners x 0 ≡ 0) ⊎ ((r : ℕ) × (get_or owners x 0 ≡ r + 1)) → is_support c owners v x ≡ false
     off x (inl e) = by_owner-none owners (λ r. has (row_at c.rows r) (v - 1)) x e
     off x (inr s) =
         by_owner-row owners (λ r. has (row_at c.rows r) (v - 1)) x s.0 s.1
         ∙ elim (cases_lt x c.vars) [
-          | inl small ↦ none_without_place c s.0 v of_given (are.owned x s.0 small s.1).0 low missing
+          | inl small ↦ none_without_place c s.0 v say (are.owned x s.0 small s.1).0 low missing
           | inr large ↦ absurd (let long = are.long in let e = s.1 in let z = get_or_past owners x 0 (omega arith) in omega arith)
         ]

@@ -1,9 +1,9 @@
--- How a space is kept: a matrix in echelon form, for each variable the row whose least it is, and the free variables.
-use Rattle.std.specs.Prelude.{◌≡◌, ℕ, ◌+◌, ◌-◌, ◌<◌, ◌^◌, Bool, true, false, cond, eqb, List, map, length, slice_index}
+-- How a space is kept: rows in echelon form, for each variable the row whose least it is, and the free variables.
+use Rattle.std.specs.Prelude.{◌≡◌, ℕ, ◌+◌, ◌-◌, ◌<◌, Bool, true, false, cond, eqb, List, map, length, slice_index}
 use Rattle.std.specs.List.{range_with_len}
-use Rattle.cx_base.specs.Literals.{Literal}
 use Rattle.parity_engine.specs.Written.{AreRising}
-use Rattle.gf2_matrix.specs.Content.{Content, row_at, has, IsOfGiven, IsLeastOf, IsEchelonRow}
+use Rattle.gf2_matrix.specs.Content.{Content, row_at, has, IsLeastOf, IsEchelonRow}
+use Rattle.gf2_lists.specs.Echelon.{SayGiven}
 use Rattle.gf2_space.specs.Spaces.{AffineSpace}
 
 -- for each variable the number, from 1, of the row whose least it is, or 0
@@ -26,16 +26,8 @@ HasNoClash c = (r : ℕ) → r < length c.rows → ((x : ℕ) → has (row_at c.
 abbrev pub HasClash : Content → Type 0
 HasClash c = (r : ℕ) × (r < length c.rows) × ((x : ℕ) → has (row_at c.rows r) x ≡ false) × ((row_at c.rows r).right ≡ true)
 
--- fewer than 2^32 rows over the parities, each with its least variable to itself
-pub record IsEchelonOf (vars : ℕ) (parities : List (List Literal)) (c : Content) : Type 0 where
-  pub vars_are : c.vars ≡ vars
-  pub given_are : c.given ≡ parities
-  pub few : length c.rows < 2 ^ 32
-  pub of_given : IsOfGiven c
-  pub echelon : (r : ℕ) → r < length c.rows → IsEchelonRow c r
-
 pub record IsKept (c : Content) (owners free : List ℕ) : Type 0 where
-  pub of_given : IsOfGiven c
+  pub say : SayGiven c
   pub echelon : (r : ℕ) → r < length c.rows → IsEchelonRow c r
   pub no_clash : HasNoClash c
   pub owners_are : AreOwners c owners

@@ -1,4 +1,4 @@
-//! A point and vectors, kept as a matrix.
+//! A point and vectors, kept as rows.
 ghost use Rattle.std.specs.Prelude.{◌≡◌, ◌-◌, ◌≤◌, length, slice_index, slice_index_or, [], ◌∷◌, ◌++◌, IsTrue, ◌↔◌};
 ghost use Rattle.cx_base.specs.declared.literal.TheConstants.{MAX_VARIABLE};
 ghost use Rattle.parity_engine.specs.Equations.{numbers_from};
@@ -10,8 +10,8 @@ ghost use Rattle.gf2_space.specs.Spaces.{IsSpaceOf, vector_value};
 
 use crate::reading::{point_value, vector_has};
 use crate::supports::Support;
-use cx_base::{ConstraintRef, ParityList, Var};
-use gf2_matrix::Matrix;
+use cx_base::{ConstraintRef, Var};
+use gf2_lists::ListedRows;
 use std::marker::Model;
 
 /// The solutions of parities: those that arise from a point by adding some of its vectors, each from one set of them.
@@ -19,8 +19,7 @@ use std::marker::Model;
 /// There is a vector for each free variable. Variables that no parity has are free, and have neither row nor column.
 #[derive(Drop)]
 pub struct Space {
-    parities: ParityList,
-    matrix: Matrix,
+    rows: ListedRows,
     owners: Vec<u32>,
     free: Vec<u32>,
     supports: Vec<Support>,
@@ -28,34 +27,30 @@ pub struct Space {
 
 impl Model for Space {
     ghost use Rattle.gf2_space.specs.Spaces.{AffineSpace};
-    ghost use Rattle.std.specs.Prelude.{◌≡◌};
     ghost use Rattle.gf2_space.specs.Kept.{IsKept, space_of};
     ghost use Rattle.gf2_space.specs.Supports.{AreSupports};
 
     ghost Value = { AffineSpace };
 
-    ghost view = { λ s. space_of s.matrix s.owners.items s.free.items };
+    ghost view = { λ s. space_of s.rows s.owners.items s.free.items };
 
-    ghost invariant = { λ s. (s.parities ≡ s.matrix.given) × IsKept s.matrix s.owners.items s.free.items × AreSupports s.matrix s.owners.items s.supports.items s.matrix.vars };
+    ghost invariant = { λ s. IsKept s.rows s.owners.items s.free.items × AreSupports s.rows s.owners.items s.supports.items s.rows.vars };
 }
 
 impl Space {
-    /// The space of a matrix in echelon form.
+    /// The space of rows in echelon form.
     pub(crate) fn new(
-        parities: ParityList,
-        matrix: Matrix,
+        rows: ListedRows,
         owners: Vec<u32>,
         free: Vec<u32>,
         supports: Vec<Support>,
     ) -> Space
-        requires given { parities ≡ matrix.given }
-        requires kept { IsKept matrix owners.items free.items }
-        requires supports { AreSupports matrix owners.items supports.items matrix.vars }
-        ensures { result ≡ space_of matrix owners.items free.items }
+        requires kept { IsKept rows owners.items free.items }
+        requires supports { AreSupports rows owners.items supports.items rows.vars }
+        ensures { result ≡ space_of rows owners.items free.items }
     {
         Space {
-            parities,
-            matrix,
+            rows,
             owners,
             free,
             supports,
@@ -67,7 +62,7 @@ impl Space {
         ensures is { result ≡ self.now.vars }
         ensures small { result ≤ MAX_VARIABLE }
     {
-        self.matrix.vars()
+        self.rows.vars()
     }
 
     /// How many vectors it has: as many as there are free variables.
@@ -83,9 +78,9 @@ impl Space {
         requires { var ≤ self.now.vars }
         ensures { result ≡ value_of self.now.point var }
     {
-        // `index` says to the proof that there is a variable 1.
+        // `index` tells the proof that there is a variable 1.
         let _index = var.index();
-        point_value(&self.matrix, &self.owners, var)
+        point_value(&self.rows, &self.owners, var)
     }
 
     /// The free variable with this number, from 1, in rising order.
@@ -94,8 +89,8 @@ impl Space {
         requires high { number ≤ length self.now.free }
         ensures { result ≡ slice_index self.now.free (number - 1) }
     {
-        // `vars` says to the proof that the variables are few.
-        let _vars = self.matrix.vars();
+        // `vars` tells the proof that the variables are few.
+        let _vars = self.rows.vars();
         Var::new(self.free[number as usize - 1])
     }
 
@@ -106,9 +101,9 @@ impl Space {
         requires within { var ≤ self.now.vars }
         ensures { result ≡ vector_value self.now.vectors (number - 1) var }
     {
-        // `index` says to the proof that there is a variable 1.
+        // `index` tells the proof that there is a variable 1.
         let _index = var.index();
-        vector_has(&self.matrix, &self.owners, self.free(number), var)
+        vector_has(&self.rows, &self.owners, self.free(number), var)
     }
 
     /// The variables of the vector with this number, from 1, but for the free one, which is above them.
@@ -117,8 +112,8 @@ impl Space {
         requires high { number ≤ length self.now.free }
         ensures { numbers_from 1 (slice_index_or self.now.vectors (number - 1) []) ≡ result.now ++ slice_index self.now.free (number - 1) ∷ [] }
     {
-        let column = self.matrix.place_of(self.free(number));
-        if column < self.matrix.columns() {
+        let column = self.rows.place_of(self.free(number));
+        if column < self.rows.columns() {
             &self.supports[column].vars
         } else {
             &[]
@@ -130,7 +125,7 @@ impl Space {
         requires { length values.now ≡ self.now.vars }
         ensures { IsTrue result ↔ Solves self.now.vars self.now.parities values.now }
     {
-        for parity in self.parities.as_slice() {
+        for parity in self.rows.given() {
             if !ConstraintRef::Parity(parity.as_slice()).is_met(values) {
                 return false;
             }

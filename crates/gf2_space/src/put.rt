@@ -1,5 +1,5 @@
 //! A space as text.
-ghost use Rattle.std.specs.Prelude.{◌≡◌, ◌+◌, ◌<◌, ◌≤◌, ◌++◌, ◌∷◌, [], codes, decimal, flat_map, length, if◌then◌else◌, slice_index_or};
+ghost use Rattle.std.specs.Prelude.{◌≡◌, ◌+◌, ◌<◌, ◌++◌, [], codes, decimal, flat_map, length, if◌then◌else◌, slice_index_or};
 ghost use Rattle.std.specs.List.{enumerate_from};
 ghost use Rattle.cx_desk.specs.Calls.{PutsAll};
 ghost use Rattle.cx_desk.specs.declared.desk.Port.TheVariants.{Answer};
@@ -15,7 +15,7 @@ use itoa::Buffer;
 /// How many bytes wait at most, so that the desk is not called for each literal.
 const ROOM: usize = 4096;
 
-/// Takes a piece behind the bytes that wait, and writes them all where there is no room for it.
+/// Adds a piece to the bytes that wait, and writes them all where there is no room for it.
 fn add<D: Desk>(desk: &mut D, waiting: &mut ArrayVec<u8, ROOM>, piece: &[u8]) -> Result<(), Failed>
     ensures { Adds piece.now (D.outside desk.old) waiting.old.items result (D.outside desk.new) waiting.new.items }
 {
@@ -29,7 +29,7 @@ fn add<D: Desk>(desk: &mut D, waiting: &mut ArrayVec<u8, ROOM>, piece: &[u8]) ->
     }
 }
 
-/// Adds a number behind a text.
+/// Adds a number to a text.
 fn add_number<D: Desk>(
     desk: &mut D,
     waiting: &mut ArrayVec<u8, ROOM>,
@@ -44,7 +44,7 @@ fn add_number<D: Desk>(
     add(desk, waiting, text.as_bytes())
 }
 
-/// What stands before the number of a variable that has the value.
+/// What comes before the number of a variable that has the value.
 fn sign_of(value: bool) -> &'static [u8]
     ensures { result.now ≡ codes " " ++ (if value then [] else codes "-") }
 {
@@ -59,7 +59,7 @@ fn add_point<D: Desk>(
 ) -> Result<(), Failed>
     ensures { Adds (flat_map point_literal (enumerate_from 0 space.now.point)) (D.outside desk.old) waiting.old.items result (D.outside desk.new) waiting.new.items }
 {
-    // `dimension` says to the proof that the point has a value for each variable.
+    // `dimension` tells the proof that the point has a value for each variable.
     let _dimension = space.dimension();
     for x in 0..space.vars() {
         let value = space.point(Var::new(x + 1));
@@ -68,7 +68,7 @@ fn add_point<D: Desk>(
     Ok(())
 }
 
-/// Adds variables, each behind a space.
+/// Adds variables, each after a space.
 fn add_variables<D: Desk>(
     desk: &mut D,
     waiting: &mut ArrayVec<u8, ROOM>,
@@ -92,7 +92,7 @@ fn add_vector<D: Desk>(
     requires { place < length space.now.free }
     ensures { Adds (vector_text (slice_index_or space.now.vectors place [])) (D.outside desk.old) waiting.old.items result (D.outside desk.new) waiting.new.items }
 {
-    // `dimension` says to the proof that the place has a next one.
+    // `dimension` tells the proof that the place has a next one.
     let _dimension = space.dimension();
     add(desk, waiting, b"b")?;
     add_variables(desk, waiting, space.below(place + 1))?;
@@ -137,7 +137,7 @@ fn add_space<D: Desk>(
 /// Appends the text of a space to the answer port: an `s` line with the dimension, a `t` line with the point, and a
 /// `b` line for each vector.
 ///
-/// It fails only where the desk counted a fault of the port; then the port gained a front of the text. It takes no
+/// It fails only where the desk counted a fault of the port; then the port gained a prefix of the text. It takes no
 /// memory.
 pub fn put_space<D: Desk>(desk: &mut D, space: &Space) -> Result<(), Failed>
     ensures { PutsAll Answer (affine_text space.now) (D.outside desk.old) result (D.outside desk.new) }

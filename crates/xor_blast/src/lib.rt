@@ -10,4 +10,5 @@ mod refusal;
 
 pub use blasting::blast;
 pub use laws::blasted_extend_in_one_way;
+pub use normal::{fill_rising, right_side};
 pub use refusal::BlastRefusal;

@@ -20,7 +20,7 @@ fn fill_numbers(numbers: &mut Vec<u32>, lits: &[Lit]) -> Result<(), AllocError>
     Ok(())
 }
 
-/// Keeps each number that stands an odd number of times in a sorted list, once: two that are equal cancel.
+/// Keeps each number that occurs an odd number of times in a sorted list, once: two that are equal cancel.
 fn cancel_pairs(numbers: &mut Vec<u32>)
     requires { IsNonDecreasing numbers.old.items }
     ensures { KeepsOdd numbers.old.items numbers.new.items }
@@ -39,14 +39,14 @@ fn cancel_pairs(numbers: &mut Vec<u32>)
 }
 
 /// The right side of a parity's normal form: 1 plus the number of its negative literals, modulo two.
-pub(crate) fn right_side(lits: &[Lit]) -> bool
+pub fn right_side(lits: &[Lit]) -> bool
     ensures { result ≡ (normal_form lits.now).right_side }
 {
     lits.iter().filter(|lit| lit.is_negative()).count() % 2 == 0
 }
 
 /// Makes the list the variables of a parity's normal form, rising.
-pub(crate) fn fill_rising(numbers: &mut Vec<u32>, lits: &[Lit]) -> Result<(), AllocError>
+pub fn fill_rising(numbers: &mut Vec<u32>, lits: &[Lit]) -> Result<(), AllocError>
     ensures { OnOk result ((n : ℕ) → AreWithin n lits.now → numbers.new.items ≡ rising_variables n lits.now) }
 {
     fill_numbers(numbers, lits)?;

@@ -43,7 +43,7 @@ pub(crate) fn literals_for(
     ensures sound { IsTrail trail.now }
 {
     let _vars = trail.vars();
-    let mut clause = Vec::new(alloc);
+    let mut clause = Vec::with_capacity(alloc, lits.len())?;
     for lit in lits {
         clause.push(literal_for(trail, implied, lit.var()))?;
     }

@@ -23,25 +23,22 @@ read : (c : After-free) → c.free.result ≡ get_or c.self.inside.free.items (c
 read c = c.free.ensures ∙ sym (ap (λ (s : AffineSpace). get_or s.free (c.args.number - 1) 0) c.self.view_is)
 
 low : (c : After-free) → 1 ≤ get_or c.self.inside.free.items (c.args.number - 1) 0
-low c = column-low 1 c.self.inside.matrix.vars c.self.inside.free.items (c.args.number - 1) c.self.invariant.1.free_are.rising (here c)
+low c = column-low 1 c.self.inside.rows.vars c.self.inside.free.items (c.args.number - 1) c.self.invariant.0.free_are.rising (here c)
 
-high : (c : After-free) → get_or c.self.inside.free.items (c.args.number - 1) 0 ≤ c.self.inside.matrix.vars
-high c = column-high 1 c.self.inside.matrix.vars c.self.inside.free.items (c.args.number - 1) c.self.invariant.1.free_are.rising (here c)
+high : (c : After-free) → get_or c.self.inside.free.items (c.args.number - 1) 0 ≤ c.self.inside.rows.vars
+high c = column-high 1 c.self.inside.rows.vars c.self.inside.free.items (c.args.number - 1) c.self.invariant.0.free_are.rising (here c)
 
 -- the line in terms of what is kept
 line : (c : After-free) → numbers_from 1 (get_or c.args.self.now.vectors (c.args.number - 1) [])
-    ≡ support c.self.inside.matrix c.self.inside.owners.items (get_or c.self.inside.free.items (c.args.number - 1) 0) c.self.inside.matrix.vars ++ get_or c.args.self.now.free (c.args.number - 1) 0 ∷ []
+    ≡ support c.self.inside.rows c.self.inside.owners.items (get_or c.self.inside.free.items (c.args.number - 1) 0) c.self.inside.rows.vars ++ get_or c.args.self.now.free (c.args.number - 1) 0 ∷ []
 line c =
     let m = c.self.inside in
     let i : ℕ = c.args.number - 1 in
     let v : ℕ = get_or m.free.items i 0 in
     ap (λ (s : AffineSpace). numbers_from 1 (get_or s.vectors i [])) (sym c.self.view_is)
-    ∙ ap (numbers_from 1) (read-map (vector_of m.matrix m.owners.items) 0 [] m.free.items i (here c))
-    ∙ vector_line m.matrix m.owners.items v c.self.invariant.1.owners_are (low c) (high c) (c.self.invariant.1.free_are.unowned i (here c))
-    ∙ ap (λ (s : AffineSpace). support m.matrix m.owners.items v m.matrix.vars ++ get_or s.free i 0 ∷ []) c.self.view_is
-
-pub place_of-column-requires : goal.place_of-column-requires
-place_of-column-requires c = let e = read c in let h = high c in omega arith
+    ∙ ap (numbers_from 1) (read-map (vector_of m.rows m.owners.items) 0 [] m.free.items i (here c))
+    ∙ vector_line m.rows m.owners.items v c.self.invariant.0.owners_are (low c) (high c) (c.self.invariant.0.free_are.unowned i (here c))
+    ∙ ap (λ (s : AffineSpace). support m.rows m.owners.items v m.rows.vars ++ get_or s.free i 0 ∷ []) c.self.view_is
 
 pub returns-then-column-columns : goal.returns-then-column-columns
 returns-then-column-columns c =
@@ -51,13 +48,13 @@ returns-then-column-columns c =
     let lt = c.if-column-columns.true in
     let count = c.columns.ensures.count in
     let k : ℕ = c.place_of-column.result in
-    let k_in : k < length m.matrix.columns = omega arith in
-    let at : get_or m.matrix.columns k 0 ≡ get_or m.free.items i 0 =
-    ap (λ j. get_or m.matrix.columns j 0) c.place_of-column.ensures
-    ∙ place-holds m.matrix.columns c.free.result (subst (λ j. j < length m.matrix.columns) c.place_of-column.ensures k_in) ∙ read s in
-    let list : c.deref.result.now ≡ support m.matrix m.owners.items (get_or m.free.items i 0) m.matrix.vars =
-    c.deref.ensures.value ∙ ap (λ (t : Support). t.vars.items) c.index.ensures ∙ c.self.invariant.2.each k c.index.result.now k_in
-    ∙ ap (λ v. support m.matrix m.owners.items v m.matrix.vars) at in
+    let k_in : k < length m.rows.columns = omega arith in
+    let at : get_or m.rows.columns k 0 ≡ get_or m.free.items i 0 =
+    ap (λ j. get_or m.rows.columns j 0) c.place_of-column.ensures
+    ∙ place-holds m.rows.columns c.free.result (subst (λ j. j < length m.rows.columns) c.place_of-column.ensures k_in) ∙ read s in
+    let list : c.deref.result.now ≡ support m.rows m.owners.items (get_or m.free.items i 0) m.rows.vars =
+    c.deref.ensures.value ∙ ap (λ (t : Support). t.vars.items) c.index.ensures ∙ c.self.invariant.1.each k c.index.result.now k_in
+    ∙ ap (λ v. support m.rows m.owners.items v m.rows.vars) at in
     line s ∙ ap (λ l. l ++ get_or c.args.self.now.free i 0 ∷ []) (sym list)
 
 pub returns-else-column-columns : goal.returns-else-column-columns
@@ -67,8 +64,8 @@ returns-else-column-columns c =
     let i : ℕ = c.args.number - 1 in
     let ge = c.if-column-columns.false in
     let count = c.columns.ensures.count in
-    let e : place m.matrix.columns c.free.result ≡ place m.matrix.columns (get_or m.free.items i 0) = ap (place m.matrix.columns) (read s) in
+    let e : place m.rows.columns c.free.result ≡ place m.rows.columns (get_or m.free.items i 0) = ap (place m.rows.columns) (read s) in
     let p = c.place_of-column.ensures in
     line s
     ∙ ap (λ l. l ++ get_or c.args.self.now.free i 0 ∷ [])
-    (support_none m.matrix m.owners.items (get_or m.free.items i 0) m.matrix.vars c.self.invariant.1.of_given c.self.invariant.1.owners_are (low s) (omega arith))
+    (support_none m.rows m.owners.items (get_or m.free.items i 0) m.rows.vars c.self.invariant.0.say c.self.invariant.0.owners_are (low s) (omega arith))

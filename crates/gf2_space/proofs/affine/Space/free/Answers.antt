@@ -19,14 +19,14 @@ pub new-requires-clause-low : goal.new-requires-clause-low
 new-requires-clause-low c =
     let m = c.self.inside in
     let e = read c in
-    let low = column-low 1 m.matrix.vars m.free.items (c.args.number - 1) c.self.invariant.1.free_are.rising (here c) in
+    let low = column-low 1 m.rows.vars m.free.items (c.args.number - 1) c.self.invariant.0.free_are.rising (here c) in
     omega arith
 
 pub new-requires-clause-high : goal.new-requires-clause-high
 new-requires-clause-high c =
     let m = c.self.inside in
     let e = read c in
-    let high = column-high 1 m.matrix.vars m.free.items (c.args.number - 1) c.self.invariant.1.free_are.rising (here c) in
+    let high = column-high 1 m.rows.vars m.free.items (c.args.number - 1) c.self.invariant.0.free_are.rising (here c) in
     let few = c.vars-vars.ensures.small in
     let is = c.vars-vars.ensures.is in
     omega arith

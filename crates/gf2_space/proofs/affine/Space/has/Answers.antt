@@ -20,7 +20,7 @@ pub vector_has-requires-clause-free_within : goal.vector_has-requires-clause-fre
 vector_has-requires-clause-free_within c =
     let m = c.self.inside in
     let e = read c in
-    let high = column-high 1 m.matrix.vars m.free.items (c.args.number - 1) c.self.invariant.1.free_are.rising (here c) in
+    let high = column-high 1 m.rows.vars m.free.items (c.args.number - 1) c.self.invariant.0.free_are.rising (here c) in
     omega arith
 
 pub returns : goal.returns
@@ -31,9 +31,9 @@ returns c =
     let x = c.args.var - 1 in
     let index = c.index-index.ensures.index in
     let within = c.requires.within in
-    let vars : m.matrix.vars ≡ c.args.self.now.vars = ap (λ (t : AffineSpace). t.vars) c.self.view_is in
+    let vars : m.rows.vars ≡ c.args.self.now.vars = ap (λ (t : AffineSpace). t.vars) c.self.view_is in
     c.vector_has.ensures
-    ∙ ap (λ (o : List ℕ). vector_bit m.matrix o c.free.result x) c.deref.ensures.value
-    ∙ ap (λ v. vector_bit m.matrix m.owners.items v x) (read s)
-    ∙ sym (vector_read m.matrix m.owners.items m.free.items c.self.invariant.1 i x (here s) (omega arith))
+    ∙ ap (λ (o : List ℕ). vector_bit m.rows o c.free.result x) c.deref.ensures.value
+    ∙ ap (λ v. vector_bit m.rows m.owners.items v x) (read s)
+    ∙ sym (vector_read m.rows m.owners.items m.free.items c.self.invariant.0 i x (here s) (omega arith))
     ∙ ap (λ (t : AffineSpace). vector_value t.vectors i c.args.var) c.self.view_is

@@ -11,8 +11,8 @@ returns c =
     let x = c.args.var - 1 in
     let index = c.index-index.ensures.index in
     let within = c.requires in
-    let vars : m.matrix.vars ≡ c.args.self.now.vars = ap (λ (t : AffineSpace). t.vars) c.self.view_is in
+    let vars : m.rows.vars ≡ c.args.self.now.vars = ap (λ (t : AffineSpace). t.vars) c.self.view_is in
     c.point_value.ensures
-    ∙ ap (λ (o : List ℕ). point_value m.matrix o x) c.deref.ensures.value
-    ∙ sym (point_read m.matrix m.owners.items m.free.items c.self.invariant.1 x (omega arith))
+    ∙ ap (λ (o : List ℕ). point_value m.rows o x) c.deref.ensures.value
+    ∙ sym (point_read m.rows m.owners.items m.free.items c.self.invariant.0 x (omega arith))
     ∙ ap (λ (t : AffineSpace). value_of t.point c.args.var) c.self.view_is

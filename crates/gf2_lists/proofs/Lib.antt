@@ -1,0 +1,11 @@
+pub mod Rises
+pub mod Merging
+pub mod RowLaws
+pub mod ReduceLaws
+pub mod Entering
+pub mod Clearing
+pub mod Marking
+pub mod TermLaws
+pub mod Listing
+pub mod MadeLaws
+pub mod Reading
