@@ -1,21 +1,22 @@
 -- The rows that have a column, read off its set.
-use Rattle.std.proofs.Common.{◌≡◌, ℕ, ◌+◌, ◌-◌, ◌*◌, ◌<◌, ◌≤◌, zero, suc, Bool, true, false, cond, List, [], ◌∷◌, length, map, get_or, Some, None, refl, sym, ap, ◌∙◌, subst, arith, inl, inr, true≢false}
+use Rattle.std.proofs.Common.{◌≡◌, ℕ, ◌+◌, ◌-◌, ◌*◌, ◌<◌, ◌≤◌, zero, suc, Bool, true, false, cond, List, [], ◌∷◌, length, map, get_or, refl, sym, ap, ◌∙◌, subst, arith, inl, inr}
 use Rattle.std.specs.List.{count_by, range_with_len}
 use Rattle.std.proofs.lemmas.List.{get_or-map, length-map, ext_get_or}
 use Rattle.std.proofs.lemmas.List.FromFn.{get_or-map-range_with_len, length-map-range_with_len}
 use Rattle.std.proofs.lemmas.List.Sums.{sum_by-cons, sum_by-append}
-use Rattle.std.proofs.lemmas.Bool.{cases_eq, cases_lt}
+use Rattle.std.proofs.lemmas.Bool.{cases_eq}
 use Rattle.cx_base.specs.Literals.{Literal}
 use Rattle.gf2_rows.specs.Bits.{bit_of, bits_of}
 use Rattle.gf2_rows.proofs.Words.{range_same, range_split, count_of_map}
 use Rattle.parity_engine.specs.Written.{AreRising}
-use Rattle.parity_engine.proofs.Rising.{columns_rise, column-low, column-high, rises-least, rises_along}
+use Rattle.parity_engine.proofs.Rising.{columns_rise, column-low, column-high, rises-least}
 use Rattle.gf2_matrix.specs.declared.packed.PackedRow.{PackedRow}
 use Rattle.gf2_matrix.specs.declared.by_column.RowSet.{RowSet}
 use Rattle.gf2_matrix.specs.declared.by_column.ByColumn.{ByColumn}
-use Rattle.gf2_matrix.specs.Content.{SourcedRow, IsNextWith, has, no_row, row_at, rows_with}
+use Rattle.gf2_matrix.specs.Content.{SourcedRow, IsColumnSet, has, no_row, row_at, rows_with}
 use Rattle.gf2_matrix.specs.Packed.{Window, window_at, start, IsMatrix, content, unpacked}
 use Rattle.gf2_matrix.specs.ByColumn.{IsByColumn, set_size}
+use Rattle.gf2_matrix.proofs.Made.{few_columns}
 use Rattle.gf2_matrix.proofs.Choosing.{rise_to}
 use Rattle.gf2_matrix.proofs.Rows.{column_bit, pivot_at}
 use Rattle.gf2_matrix.proofs.PivotSets.{element, column_found}
@@ -176,58 +177,20 @@ module _ (vars : ℕ) (given : List (List Literal)) (columns places : List ℕ) 
       ∙ ap (λ n. count_by g (range_with_len 0 n)) (sym long)
       ∙ sym (count_by_place (λ (row : SourcedRow). has row x) all no_row)
 
-  -- ---- the next row of the set, from the place of the first number above `from`
-  module _ (from place : ℕ) (low : (m : ℕ) → m < place → get_or w.numbers m 0 ≤ from) (high : (m : ℕ) → place ≤ m → m < length w.numbers → from < get_or w.numbers m 0) where
-    -- a row from there on that has the column has its bit there
-    found_at : (k : ℕ) → from ≤ k → k < length rows → has_x k ≡ true → (m : ℕ) × (place ≤ m) × (m < length w.numbers) × (get_or w.numbers m 0 ≡ k + 1) × (bit_of words m ≡ true)
-    found_at k ge lt has_k =
-        let l = listed k lt has_k in
-        let at = l.2 in (
-          l.0,
-          elim (cases_lt l.0 place) [
-            | inl small ↦ absurd (let h = low l.0 small in omega arith)
-            | inr le ↦ le
-          ],
-          l.1,
-          l.2,
-          set_bit l.0 k l.1 l.2 ∙ has_k,
-        )
-
-    pub next_none : ((m : ℕ) → place ≤ m → m < length w.numbers → bit_of (get_or c.sets.items i s).words.items m ≡ false)
-        → IsNextWith (content vars given columns windows rows).rows (get_or w.columns i 0 - 1) from None
-    unfolding all x words has_x
-    next_none none k ge lt = go (has_x k) refl
-      where
-        go : (b : Bool) → has_x k ≡ b → b ≡ false
-        go false is = refl
-        go true is =
-            let f = found_at k ge (let l = long in omega arith) is in
-            absurd (true≢false (sym f.4 ∙ none f.0 f.1 f.2))
-
-    pub next_some : (m next : ℕ) → place ≤ m → m < length w.numbers → get_or w.numbers m 0 ≡ next + 1 → bit_of (get_or c.sets.items i s).words.items m ≡ true
-        → ((q : ℕ) → place ≤ q → q < m → bit_of (get_or c.sets.items i s).words.items q ≡ false)
-        → IsNextWith (content vars given columns windows rows).rows (get_or w.columns i 0 - 1) from (Some next)
-    unfolding all x words has_x
-    next_some m next ge m_in at set_m before =
-        let above = high m ge m_in in
-        let top = column-high 1 (length rows) w.numbers m rise m_in in
-        let l = long in (
-          omega arith,
-          omega arith,
-          sym (set_bit m next m_in at) ∙ set_m,
-          λ k k_ge k_lt. go k k_ge k_lt (has_x k) refl,
-        )
-      where
-        go : (k : ℕ) → from ≤ k → k < next → (b : Bool) → has_x k ≡ b → b ≡ false
-        go k k_ge k_lt false is = refl
-        go k k_ge k_lt true is =
-            let top = column-high 1 (length rows) w.numbers m rise m_in in
-            let f = found_at k k_ge (omega arith) is in
-            let f_at = f.3 in
-            elim (cases_lt f.0 m) [
-              | inl small ↦ absurd (true≢false (sym f.4 ∙ before f.0 f.1 small))
-              | inr le ↦ absurd (let h = rises_along 1 w.numbers m f.0 (columns_rise 1 (length rows) w.numbers rise) le f.2 in omega arith)
-            ]
+  -- the part's numbers and the set's words are those of the column
+  pub column_set : IsColumnSet (content vars given columns windows rows).rows (get_or w.columns i 0 - 1) w.numbers (get_or c.sets.items i s).words.items
+  unfolding all x words has_x
+  column_set =
+      let size = by.sized i s (let count = by.count in omega arith) in
+      let few = few_columns (length rows) w.numbers rise in
+      record {
+        rise = columns_rise 1 (length rows) w.numbers rise;
+        high = λ m m_in. let top = column-high 1 (length rows) w.numbers m rise m_in in let l = long in omega arith;
+        few = let count = matrix.count in let small = matrix.few_given in omega arith;
+        room = room;
+        bits = λ m m_in. let low = column-low 1 (length rows) w.numbers m rise m_in in set_bit m (get_or w.numbers m 0 - 1) m_in (omega arith);
+        all = λ k k_in on_k. listed k (let l = long in omega arith) on_k;
+      }
 
 -- ---- the row's columns
 module _ (vars : ℕ) (given : List (List Literal)) (columns places : List ℕ) (windows : List Window) (rows spares : List PackedRow) (no_columns : List ℕ)

@@ -8,6 +8,7 @@ ghost use Rattle.gf2_matrix.specs.ByColumn.{AreTurned, AreSized, AreClear, IsCol
 
 use crate::make::clear_words;
 use crate::packed::{PackedRow, Part};
+use crate::span::{add_span, span_of};
 use std::alloc::{AllocError, Global};
 
 /// The rows of a part that have a column: a bit for each, in the order of the part's numbers.
@@ -87,13 +88,14 @@ fn turn_sets(sets: &mut [RowSet], chosen: &[u64], bits: &[u64], start: u64)
     requires sized { AreSized (length chosen.now) sets.old }
     ensures { AreTurned chosen.now bits.now start sets.old sets.new (length sets.old) }
 {
+    let span = span_of(chosen);
     let mut from = start;
     while let Some(bit) = gf2_rows::next_one(bits, from) {
         let column = (bit - start) as usize;
         if column >= sets.len() {
             return;
         }
-        gf2_rows::add_into(&mut sets[column].words, chosen);
+        add_span(&mut sets[column].words, chosen, span);
         from = bit + 1;
     }
 }

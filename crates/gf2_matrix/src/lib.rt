@@ -8,6 +8,7 @@
 #![tactic(auto)]
 
 mod by_column;
+mod column_set;
 mod crowded;
 mod flat;
 mod independent;
@@ -15,10 +16,13 @@ mod labels;
 mod make;
 mod matrix;
 mod packed;
+mod picked;
 mod renamed;
 mod sources;
+mod span;
 mod view;
 
+pub use column_set::next_in_set;
 pub use make::clear_words;
 pub use matrix::Matrix;
 pub use view::{RowView, place_of};

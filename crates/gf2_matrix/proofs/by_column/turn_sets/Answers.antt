@@ -2,7 +2,6 @@ use Rattle.std.proofs.Common.{◌∙◌, ◌-◌, ◌*◌, ◌<◌, sym, ap, len
 use Rattle.std.proofs.lemmas.List.{with_items_is}
 use Rattle.cx_base.specs.Literals.{differ}
 use Rattle.gf2_rows.specs.Bits.{bit_of}
-use Rattle.gf2_rows.proofs.Words.{bit_of_sum}
 use Rattle.gf2_matrix.proofs.ByColumns.{turned_past, turned_all, turned_next}
 use Rattle.gf2_matrix.proofs.by_column.turn_sets.Goals as goal
 
@@ -21,14 +20,14 @@ loop-bit-preserved c =
     let at = c.in-Some.ensures.1.low in
     let low = c.loop-bit.invariant.0 in
     let within = c.in-Some.ensures.0 in
-    let long = c.add_into.auto.row ∙ ap length c.deref_mut.ensures.value in
-    let is = with_items_is words c.add_into.new.row (long ∙ sym words.ok.0) in
+    let long = c.add_span.auto.row ∙ ap length c.deref_mut.ensures.value in
+    let is = with_items_is words c.add_span.new.row (long ∙ sym words.ok.0) in
     let alike = ap length c.deref_mut.ensures.value ∙ turned.sized n d in' in (
       omega arith,
       omega arith,
       turned_next c.args.chosen.now c.args.bits.now c.args.start c.args.sets.now c.loop-bit.sets c.loop-bit.from (64 * length c.args.bits.now) c.in-Some.bit _ d turned low
-          c.in-Some.ensures.1 within in' (ap length is ∙ c.add_into.auto.row ∙ alike)
-          (λ m. ap (λ ws. bit_of ws m) is ∙ bit_of_sum c.add_into.new.row c.deref_mut.result.now c.args.chosen.now c.add_into.auto.row alike c.add_into.ensures m
+          c.in-Some.ensures.1 within in' (ap length is ∙ c.add_span.auto.row ∙ alike)
+          (λ m. ap (λ ws. bit_of ws m) is ∙ c.add_span.ensures m
           ∙ ap (λ ws. differ (bit_of ws m) (bit_of c.args.chosen.now m)) c.deref_mut.ensures.value),
     )
 
