@@ -1,26 +1,48 @@
-use Rattle.std.proofs.Common.{◌<◌, ◌∙◌, sym, subst, arith}
-use Rattle.gf2_matrix.proofs.Steps.{nearer, up_to}
+use Rattle.std.proofs.Common.{◌+◌, ◌<◌, ◌∙◌, sym, subst, arith}
+use Rattle.gf2_matrix.proofs.ColumnSets.{first_place}
+use Rattle.gf2_matrix.proofs.Steps.{up_to}
 use Rattle.gauss_incremental.proofs.Queueing.{awake_all, awake_next, awake_none}
 use Rattle.gauss_incremental.proofs.basics.wake_rows_with.Goals as goal
 
 pub loop-other-init : goal.loop-other-init
-loop-other-init c = (omega arith, awake_none c.args.matrix.now c.args.column c.args.line.now)
+loop-other-init c =
+    (omega arith, (0, omega arith, first_place c.column_set.result.0.now c.column_set.ensures.set.rise, awake_none c.args.matrix.now c.args.column c.args.line.now))
 
-pub next_with-requires-clause-from_in : goal.next_with-requires-clause-from_in
-next_with-requires-clause-from_in c = c.loop-other.invariant.0
+pub next_in_set-requires-clause-rise : goal.next_in_set-requires-clause-rise
+next_in_set-requires-clause-rise c = c.column_set.ensures.set.rise
+
+pub next_in_set-requires-clause-few : goal.next_in_set-requires-clause-few
+next_in_set-requires-clause-few c = c.column_set.ensures.set.few
+
+pub next_in_set-requires-clause-room : goal.next_in_set-requires-clause-room
+next_in_set-requires-clause-room c = c.column_set.ensures.set.room
+
+pub next_in_set-requires-clause-within : goal.next_in_set-requires-clause-within
+next_in_set-requires-clause-within c = c.loop-other.invariant.0
 
 pub push-requires : goal.push-requires
-push-requires c = subst (λ n. c.in-Some.other < n) (sym (c.loop-other.invariant.1.long ∙ c.requires.same)) c.in-Some.ensures.1
+push-requires c =
+    let so = c.loop-other.invariant.1 in
+    let next = (c.in-Some.ensures.some c.args.matrix.now.rows _ so.0 c.column_set.ensures.set so.2).0 in
+    subst (λ n. c.in-Some.other < n) (sym (so.3.long ∙ c.requires.same)) next.1
 
 pub loop-other-preserved : goal.loop-other-preserved
-loop-other-preserved c = (
-  up_to c.in-Some.ensures.1,
-  awake_next c.args.matrix.now c.args.column c.args.line.now c.loop-other.line c.push.new.self c.loop-other.from c.in-Some.other c.loop-other.invariant.1 c.in-Some.ensures c.push.ensures,
-)
+loop-other-preserved c =
+    let so = c.loop-other.invariant.1 in
+    let next = c.in-Some.ensures.some c.args.matrix.now.rows _ so.0 c.column_set.ensures.set so.2 in (
+      c.in-Some.ensures.near.1,
+      (
+        c.in-Some.other + 1,
+        up_to next.0.1,
+        next.1,
+        awake_next c.args.matrix.now c.args.column c.args.line.now c.loop-other.line c.push.new.self so.0 c.in-Some.other so.3 next.0 c.push.ensures,
+      ),
+    )
 
 pub loop-other-smaller : goal.loop-other-smaller
-loop-other-smaller c = nearer c.in-Some.ensures.0 c.in-Some.ensures.1
+loop-other-smaller c = let low = c.in-Some.ensures.near.0 in let high = c.in-Some.ensures.near.1 in omega arith
 
 pub returns : goal.returns
 returns c =
-    awake_all c.args.matrix.now c.args.column c.args.line.now c.loop-other.line c.loop-other.from c.loop-other.invariant.1 c.loop-other.invariant.0 c.in_default.ensures c.requires.same
+    let so = c.loop-other.invariant.1 in
+    awake_all c.args.matrix.now c.args.column c.args.line.now c.loop-other.line so.0 so.3 so.1 (c.in_default.ensures.none c.args.matrix.now.rows _ so.0 c.column_set.ensures.set so.2) c.requires.same
