@@ -22,3 +22,8 @@ pub mod CompactedTies
 pub mod RisingCodes
 pub mod SortedLiterals
 pub mod AddedClauses
+pub mod NarrowValues
+pub mod NarrowLogs
+pub mod RecoveredWithin
+pub mod NarrowSettled
+pub mod NarrowAnswers

@@ -1,4 +1,5 @@
 pub mod Results
+pub mod Narrowing
 pub mod Learning
 pub mod Entering
 pub mod Failing

@@ -10,6 +10,7 @@ mod failing;
 mod filling;
 mod jumping;
 mod learning;
+mod narrowing;
 mod originals;
 mod recovering;
 mod reducing;
@@ -19,4 +20,5 @@ mod schedule;
 mod solving;
 
 pub use conflict_learn::CoreFault;
-pub use solving::{Outcome, solve_core};
+pub use narrowing::solve_core;
+pub use solving::Outcome;

@@ -1,9 +1,6 @@
 //! The search as a whole.
-ghost use Rattle.std.specs.Prelude.{◌≡◌, ◌≢◌, ℕ, false, ◌<◌, ◌≤◌, ◌^◌, [], ◌∷◌, length, IfOk, IfErr, OnOk, None};
-ghost use Rattle.cx_semantics.specs.Settled.{Settled};
-ghost use Rattle.cx_base.specs.Counts.{Rose};
-ghost use Rattle.conflict_learn.specs.declared.fault.CoreFault.TheVariants.{Write};
-ghost use Rattle.conflict_learn.specs.Faults.{CountsAs, fault_in};
+ghost use Rattle.std.specs.Prelude.{◌≡◌, ◌≢◌, ◌⊎◌, false, ◌<◌, ◌≤◌, ◌^◌, [], ◌∷◌, length, IfOk, OnOk, None, Some};
+ghost use Rattle.conflict_learn.specs.Faults.{fault_in};
 ghost use Rattle.conflict_learn.specs.Marks.{AreClear};
 ghost use Rattle.parity_engine.specs.declared.state.Mood.TheVariants.{Broken};
 ghost use Rattle.search_steps.specs.Recovering.{SettledWithRecovered};
@@ -14,12 +11,12 @@ ghost use Rattle.cdcl_search.specs.declared.propagation.Found.TheVariants.{Quiet
 ghost use Rattle.cdcl_search.specs.declared.searching.Reached.TheVariants as reached;
 ghost use Rattle.search_policy.specs.Assuming.{Contradicts, KeepsAssumptions};
 ghost use Rattle.cx_base.specs.Literals.{positive_of, negative_of};
-ghost use Rattle.cdcl_search.specs.Tells.{GivesUp, HasFailedBy, HaveLowIds, HasNoMark};
 ghost use Rattle.cdcl_core.specs.Beginning.{IsAtStart};
 ghost use Rattle.cdcl_core.specs.Concluding.{Concludes, IsAtConflict, IsTold, TellsEnd, IsByClause, IsOfClause};
 ghost use Rattle.cdcl_core.specs.Failing.{EndsAtPlace, IsRefuted};
 ghost use Rattle.cdcl_core.specs.Filling.{IsFilledUpTo};
 ghost use Rattle.cdcl_core.specs.Given.{AreEngines, HasGiven};
+ghost use Rattle.cdcl_core.specs.Narrowing.{Searched};
 ghost use Rattle.cdcl_core.specs.Results.{IsRightOutcome, IsFresh, IsSettledBy};
 ghost use Rattle.cdcl_core.specs.Rounds.{IsSearching, LeavesRound, IsSettledIn};
 ghost use Rattle.cdcl_core.specs.declared.solving.Outcome.TheVariants as outcome;
@@ -340,17 +337,8 @@ fn search_from_start<P: ParityEngine + Drop, L: Sink<Item = LogEvent>>(
     fill_and_search::<P, L>(log, &mut filled, parities, budget)
 }
 
-/// Searches for values that meet the formula, up to a budget of counted conflicts, 1 to 10^18.
-///
-/// Counted are the conflicts above level 0, where a decision was made. The sink is told the log: the
-/// originals, the parities that are recovered from clauses, a mark and a learned clause for each counted conflict, and
-/// the unit clauses of level 0. Where the formula is settled by propagation alone, the recovered parities taken as
-/// parities, no conflict is counted and the answer is never unknown.
-///
-/// The sink has not failed before, and has not after an answer: one that has failed is not asked again.
-/// It gives up where memory runs out, or where the sink failed to write; the log is right as far as it goes, also with the
-/// event that was torn then.
-pub fn solve_core<P: ParityEngine + Drop, L: Sink<Item = LogEvent>>(
+/// Searches the formula over all variables of its header, up to the budget.
+pub(crate) fn search_formula<P: ParityEngine + Drop, L: Sink<Item = LogEvent>>(
     alloc: Global,
     formula: &Formula,
     budget: u64,
@@ -360,16 +348,7 @@ pub fn solve_core<P: ParityEngine + Drop, L: Sink<Item = LogEvent>>(
     requires few { length formula.now.constraints ≤ 4294967295 }
     requires fresh { IsFresh (L.items sink.old) }
     requires going { L.has_failed sink.old ≡ false }
-    ensures answers { IfOk result (λ a. IsRightOutcome formula.now budget (L.items sink.new) a) }
-    ensures settled { Settled formula.now → IfOk result (λ a. (conflicts : ℕ) → a ≢ outcome.Unknown conflicts) }
-    ensures settled_with_recovered { SettledWithRecovered formula.now → IfOk result (λ a. (conflicts : ℕ) → a ≢ outcome.Unknown conflicts) }
-    ensures unmarked { SettledWithRecovered formula.now → HasNoMark (L.items sink.new) }
-    ensures ids { HaveLowIds (L.items sink.new) }
-    ensures gave_up { IfErr result (λ e. GivesUp formula.now (L.torn sink.new) (L.items sink.new) e) }
-    ensures write { IfErr result (λ e. e ≡ Write → Rose (L.faults sink.old) (L.faults sink.new)) }
-    ensures faults { CountsAs (fault_in result) (L.faults sink.old) (L.faults sink.new) }
-    ensures failed { HasFailedBy (fault_in result) (L.has_failed sink.old) (L.has_failed sink.new) }
-    ensures frame { L.keeps sink.old sink.new }
+    ensures { Searched L.Sink formula.now budget sink.old sink.new result }
 {
     let mut log = SearchLog {
         alloc,

@@ -34,3 +34,5 @@ mod schedule;
 mod solve;
 #[cfg(test)]
 mod trim;
+#[cfg(test)]
+mod unused;

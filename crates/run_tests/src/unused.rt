@@ -1,0 +1,64 @@
+//! Values of formulas that use few of the variables that their headers count.
+ghost use Rattle.std.specs.Prelude.{◌≤◌};
+ghost use Rattle.cx_base.specs.declared.literal.TheConstants.{MAX_VARIABLE};
+
+use cdcl_core::{Outcome, solve_core};
+use cx_base::{Formula, FormulaBuilder, Lit, Var};
+use gauss_incremental::Incremental;
+use log_text::NoLog;
+use std::alloc::{AllocError, Global};
+use std::test::Fail;
+
+/// A clause that makes variable 2 true, and a parity that makes variable 1 true with it.
+fn two_and_one(alloc: Global, vars: u32) -> Result<Formula, AllocError>
+    requires { vars ≤ MAX_VARIABLE }
+{
+    let two = Lit::new(Var::new(2), false);
+    let mut builder = FormulaBuilder::new(alloc);
+    builder.push(two)?;
+    builder.end_clause()?;
+    builder.push(Lit::new(Var::new(1), true))?;
+    builder.push(two)?;
+    builder.end_parity()?;
+    Ok(builder.finish(vars))
+}
+
+/// How many values there are, and which variables are true.
+fn written(alloc: Global, values: &[bool]) -> Result<String, AllocError> {
+    let mut text = format!(in alloc; "{} values, true:", values.len())?;
+    for index in 0..values.len() {
+        if values[index] {
+            text.push_str(format!(in alloc; " {}", index as u64 + 1)?.as_str())?;
+        }
+    }
+    Ok(text)
+}
+
+/// What the search finds within a conflict.
+fn found(alloc: Global, formula: &Formula) -> Result<String, AllocError> {
+    if formula.len() > u32::MAX as usize {
+        return Ok(String::new(alloc));
+    }
+    let mut log = NoLog;
+    match solve_core::<Incremental, NoLog>(alloc, formula, 1, &mut log) {
+        Ok(Outcome::Sat(values)) => written(alloc, values.as_slice()),
+        _ => Ok(String::new(alloc)),
+    }
+}
+
+/// What it finds where the header counts this many variables.
+fn found_among(alloc: Global, vars: u32) -> Result<String, AllocError>
+    requires { vars ≤ MAX_VARIABLE }
+{
+    let formula = two_and_one(alloc, vars)?;
+    found(alloc, &formula)
+}
+
+#[test]
+fn unused_variables_are_false(rt: HostRuntime) -> Result<(), Fail> {
+    let none_unused = found_among(rt.alloc(), 2)?;
+    let many_unused = found_among(rt.alloc(), 2_000_000)?;
+    assert_eq!(rt; none_unused.as_str(), "2 values, true: 1 2");
+    assert_eq!(rt; many_unused.as_str(), "2000000 values, true: 1 2");
+    Ok(())
+}
